@@ -1,0 +1,3 @@
+pub mod IdFacts
+pub mod TableFacts
+pub mod IdEquality
