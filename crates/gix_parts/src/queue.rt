@@ -138,3 +138,6 @@ impl<'a, K, T> Iterator for IterUnordered<'a, K, T> {
         Some(&item.value)
     }
 }
+
+#[cfg(test)]
+mod tests;
