@@ -1,3 +1,7 @@
+ghost use Rattle.std.specs.Prelude.{◌≡◌, drop};
+ghost use Rattle.gix_parts.specs.TreeItems.{tree_items};
+ghost use Rattle.gix_parts.specs.TreeRefIter.{bytes_left, id_kind, items_left, IsEndOf};
+
 use super::*;
 use crate::object::decode::Error;
 use std::process::Abort;
