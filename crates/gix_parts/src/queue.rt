@@ -21,6 +21,9 @@ struct Item<K, T> {
 }
 
 /// Values, each with the key that it was put in under. Several values may have equal keys.
+///
+/// A clause reads a queue as the list of its pairs of key and value. The first of them is the one that comes next, and
+/// the order of the others is open.
 #[derive(Drop)]
 pub struct PriorityQueue<K: Ord, T> {
     heap: BinaryHeap<Item<K, T>>,
@@ -66,6 +69,7 @@ impl<K: Ord, T> PriorityQueue<K, T> {
     pub fn peek(&self) -> Option<(&K, &T)>
         ensures first { option_map (λ p. (p.0.now, p.1.now)) result ≡ slice_get self.now 0 }
         ensures greatest { IfSome result (λ p. IsUpperBound K.cmp p.0.now (keys self.now)) }
+        ensures empty { IfNone result (self.now ≡ []) }
     {
         let item = self.heap.peek()?;
         Some((&item.key, &item.value))
@@ -76,7 +80,7 @@ impl<K: Ord, T> PriorityQueue<K, T> {
         ensures first { result ≡ slice_get self.old 0 }
         ensures greatest { IfSome result (λ p. IsUpperBound K.cmp p.0 (keys self.old)) }
         ensures rest { IfSome result (λ p. IsPermutation self.old (p ∷ self.new)) }
-        ensures empty { IfNone result (self.new ≡ []) }
+        ensures empty { IfNone result ((self.old ≡ []) × (self.new ≡ [])) }
     {
         let Item { key, value } = self.heap.pop()?;
         Some((key, value))
@@ -93,8 +97,8 @@ impl<K: Ord, T> PriorityQueue<K, T> {
 }
 
 impl<K: Ord + Drop, T: Drop> PriorityQueue<K, T> {
-    /// Puts in a value under a key, beside those of equal keys. An error says that memory was refused: the queue is then as it was, and
-    /// the key and the value are dropped.
+    /// Puts in a value under a key, beside those of equal keys. An error says that memory was refused: the queue is then
+    /// as it was, and the key and the value are dropped.
     pub fn insert(&mut self, key: K, value: T) -> Result<(), AllocError>
         ensures ok { OnOk result (IsPermutation ((key, value) ∷ self.old) self.new) }
         ensures err { OnErr result (self.new ≡ self.old) }

@@ -13,6 +13,7 @@ use bstr::BStr;
 /// The mode of an entry of a tree, as Git writes it in octal digits: the kind of file and its permissions.
 #[derive(Clone, Copy, PartialEq, Eq, Debug)]
 pub struct EntryMode {
+    /// The number that the digits say.
     pub value: u32,
 }
 
@@ -31,10 +32,12 @@ pub struct EntryRef<'a> {
     pub mode: EntryMode,
     /// The name, which holds no NUL. Nothing else is asked of it: it may be empty or hold a `/`.
     pub filename: BStr<'a>,
+    /// The id of what the name stands for: a blob, a tree, or the commit of a submodule.
     pub oid: ObjectId,
 }
 
-/// Reads the entries of a tree object from its bytes, in their order.
+/// Reads the entries of a tree object from its bytes, in their order, and takes no memory. The items of any bytes are
+/// entries and at most one fault, which is the last.
 #[derive(Clone, Copy, Debug)]
 pub struct TreeRefIter<'a> {
     rest: &'a [u8],
@@ -44,6 +47,7 @@ pub struct TreeRefIter<'a> {
 impl<'a> TreeRefIter<'a> {
     /// An iterator over the entries of a tree with these bytes, whose ids are of this kind.
     pub fn from_bytes(bytes: &'a [u8], kind: Kind) -> TreeRefIter<'a>
+        ensures items { items_left result ≡ tree_items kind bytes.now }
         ensures bytes { bytes_left result ≡ bytes.now }
         ensures kind { id_kind result ≡ kind }
     {
