@@ -4,3 +4,4 @@ pub mod IdEquality
 pub mod LineLemmas
 pub mod ItemLemmas
 pub mod CommitTextLemmas
+pub mod CommitRefIterLemmas

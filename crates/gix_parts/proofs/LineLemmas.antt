@@ -1,10 +1,12 @@
 -- What stands at the front of bytes: a word, a line of text, an id in hex.
-use Rattle.std.specs.Prelude.{ℕ, ◌≡◌, ◌≢◌, ◌*◌, ◌==◌, List, [], ◌∷◌, ◌++◌, Bool, true, false, length, take, drop, Option, Some, None}
+use Rattle.std.specs.Prelude.{ℕ, ◌≡◌, ◌≢◌, ◌<◌, ◌+◌, ◌*◌, ◌==◌, List, [], ◌∷◌, ◌++◌, Bool, true, false, length, take, drop, Option, Some, None}
 use Rattle.std.specs.List.{AllByRecursion}
-use Rattle.std.proofs.Common.{cond, refl, sym, ap, subst, ◌∙◌}
+use Rattle.std.specs.Option.{MatchOption, option_copied}
+use Rattle.std.proofs.Common.{Bor, cond, refl, sym, ap, subst, ◌∙◌, arith, get_or, length-append}
 use Rattle.std.proofs.lemmas.Bool.{eqb-true, eqb-false, eq-eqb, ne_eqb, cond-true, cond-false}
 use Rattle.std.proofs.lemmas.Option.{some_pair_parts}
-use Rattle.std.proofs.lemmas.List.{take_at, drop_at, take-append-drop}
+use Rattle.std.proofs.lemmas.List.{take_at, drop_at, take-append-drop, get_or_at, get_or-take, drop_more, length-take-le}
+use Rattle.std.proofs.lemmas.List.Elements.{recursion_from_All, All-from_get_or}
 use Rattle.gix_parts.specs.declared.hash.Kind.{Kind}
 use Rattle.gix_parts.specs.declared.hash.ObjectId.{ObjectId}
 use Rattle.gix_parts.specs.Id.{id_len, id_of_hex, id_of_decoded}
@@ -75,3 +77,32 @@ id_line_at-append k digits rest i e =
     let front : take (2 * id_len k) (digits ++ 10 ∷ rest) ≡ digits = take_at digits (10 ∷ rest) (2 * id_len k) n in
     let back : drop (2 * id_len k) (digits ++ 10 ∷ rest) ≡ 10 ∷ rest = drop_at digits (10 ∷ rest) (2 * id_len k) n in
     ap (λ d. id_before_newline (id_of_hex k d) (drop (2 * id_len k) (digits ++ 10 ∷ rest))) front ∙ ap (id_before_newline (id_of_hex k digits)) back ∙ ap (λ o. id_before_newline o (10 ∷ rest)) e
+
+pub after_word_none : (word bytes : List ℕ) → ((rest : List ℕ) → bytes ≢ word ++ rest) → after_word word bytes ≡ None
+after_word_none word bytes never = go (after_word word bytes) (after_word_found word bytes)
+  where
+    go : (o : Option (List ℕ)) → ((rest : List ℕ) → o ≡ Some rest → bytes ≡ word ++ rest) → o ≡ None
+    go None found = refl
+    go (Some rest) found = absurd (never rest (found rest refl))
+
+-- what `strip_prefix` says
+pub after_word_stripped : (word bytes : List ℕ) (r : Option (Bor (List ℕ))) → MatchOption r ((rest : List ℕ) → bytes ≢ word ++ rest) (λ x. bytes ≡ word ++ x.now) → option_copied r ≡ after_word word bytes
+after_word_stripped word bytes None never = sym (after_word_none word bytes never)
+after_word_stripped word bytes (Some x) e = sym (ap (after_word word) e ∙ after_word-append word x.now)
+
+pub line_at_none : (bytes : List ℕ) → ((i : ℕ) → i < length bytes → get_or bytes i 0 ≡ 10 → ⊥) → line_at bytes ≡ None
+line_at_none bytes never = go (line_at bytes) (line_at_found bytes)
+  where
+    go : (o : Option (List ℕ × List ℕ)) → ((r : List ℕ × List ℕ) → o ≡ Some r → AllByRecursion (λ b. b ≢ 10) r.0 × (bytes ≡ r.0 ++ 10 ∷ r.1)) → o ≡ None
+    go None found = refl
+    go (Some r) found =
+        let whole : bytes ≡ r.0 ++ 10 ∷ r.1 = (found r refl).1 in
+        let at : get_or bytes (length r.0) 0 ≡ 10 = ap (λ x. get_or x (length r.0) 0) whole ∙ get_or_at r.0 10 r.1 0 (length r.0) refl in
+        absurd (never (length r.0) (omega (arith, ap length whole, length-append r.0 (10 ∷ r.1))) at)
+
+pub line_at_first : (bytes : List ℕ) (n : ℕ) → n < length bytes → get_or bytes n 0 ≡ 10 → ((i : ℕ) → i < n → get_or bytes i 0 ≡ 10 → ⊥) → line_at bytes ≡ Some (take n bytes, drop (n + 1) bytes)
+line_at_first bytes n l at before =
+    let whole : bytes ≡ take n bytes ++ 10 ∷ drop (n + 1) bytes = sym (take-append-drop n bytes) ∙ ap (λ x. take n bytes ++ x) (drop_more bytes n 0 l ∙ ap (λ x. x ∷ drop (n + 1) bytes) at) in
+    let fits : length (take n bytes) ≡ n = length-take-le n bytes (omega arith) in
+    let all : AllByRecursion (λ b. b ≢ 10) (take n bytes) = recursion_from_All (λ b. b ≢ 10) (take n bytes) (All-from_get_or (λ b. b ≢ 10) (take n bytes) 0 (λ i h e. before i (omega arith) (sym (get_or-take n bytes i 0 (omega arith)) ∙ e))) in
+    ap line_at whole ∙ line_at-append (take n bytes) (drop (n + 1) bytes) all
