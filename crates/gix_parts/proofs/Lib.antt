@@ -1,6 +1,10 @@
 pub mod IdFacts
 pub mod TableFacts
 pub mod IdEquality
-pub mod Ends
-pub mod Entries
-pub mod Pairs
+pub mod LineLemmas
+pub mod ItemLemmas
+pub mod CommitTextLemmas
+pub mod CommitRefIterLemmas
+pub mod EndLemmas
+pub mod TreeLemmas
+pub mod QueueLemmas
