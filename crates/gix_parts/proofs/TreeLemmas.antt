@@ -1,5 +1,5 @@
 -- How an entry of a tree stands in the tree's bytes, and how the items of a tree follow one another.
-use Rattle.std.proofs.Common.{◌≡◌, ℕ, zero, suc, ◌+◌, ◌<◌, ◌≤◌, List, [], ◌∷◌, length, take, drop, Bool, true, false, cond, Option, Some, None, Result, Ok, Err, nat_eq, refl, sym, ap, ◌∙◌, arith}
+use Rattle.std.proofs.Common.{◌≡◌, ℕ, zero, suc, ◌+◌, ◌<◌, ◌≤◌, List, [], ◌∷◌, length, take, drop, Bool, true, false, cond, Option, Some, None, Ok, nat_eq, refl, sym, ap, ◌∙◌, arith}
 use Rattle.std.specs.List.{position}
 use Rattle.std.proofs.lemmas.List.{length-drop, drop-drop}
 use Rattle.std.specs.Prelude.{nat_lt}
@@ -38,6 +38,7 @@ behind_mode bytes r e = go (parted 32 bytes) refl e
     done p (Some mode) h k =
         let b = behind_parted 32 bytes p h in
         record { count = b.count; some = b.some; same = (let s = b.same in cc) }
+
     go : (o : Option (List ℕ × List ℕ)) → parted 32 bytes ≡ o → mode_parted o ≡ Some r → IsBehind bytes r.1
     go None h k = cc
     go (Some p) h k = done p (mode_of p.0) h k
@@ -56,11 +57,13 @@ behind_entry k bytes e rest h = go (mode_at bytes) refl h
     with_id : (name : List ℕ × List ℕ) (mode : ℕ) (o : Option (ObjectId × List ℕ)) → IsBehind bytes name.1 → id_at k name.1 ≡ o → named_front mode name.0 o ≡ Found e rest → IsBehind bytes rest
     with_id name mode None b h f = cc
     with_id name mode (Some r) b h f = behind_more (id_len k) bytes name.1 rest b (let s = rest_of_id k name.1 r h in cc)
+
     with_name : (r : ℕ × List ℕ) (o : Option (List ℕ × List ℕ)) → IsBehind bytes r.1 → name_at r.1 ≡ o → moded_front k r.0 o ≡ Found e rest → IsBehind bytes rest
     with_name r None b h f = cc
     with_name r (Some p) b h f =
         let n = behind_parted 0 r.1 p h in
         with_id p r.0 (id_at k p.1) (behind_more n.count bytes r.1 p.1 b n.same) refl f
+
     go : (o : Option (ℕ × List ℕ)) → mode_at bytes ≡ o → entry_front k o ≡ Found e rest → IsBehind bytes rest
     go None h f = cc
     go (Some r) h f = with_name r (name_at r.1) (behind_mode bytes r h) refl f

@@ -1,5 +1,5 @@
 -- Worked examples of the items of trees.
-use Rattle.std.specs.Prelude.{◌≡◌, ℕ, List, [], ◌∷◌, ◌++◌, replicate, codes, Result, Ok, Err, Bool, true, false, refl}
+use Rattle.std.specs.Prelude.{◌≡◌, ℕ, List, [], ◌∷◌, ◌++◌, replicate, codes, Ok, Err, true, false, refl}
 use Rattle.gix_parts.specs.declared.hash.Kind.TheVariants as kind
 use Rattle.gix_parts.specs.declared.hash.ObjectId.TheVariants as id
 use Rattle.gix_parts.specs.declared.object.decode.Error.TheVariants as fault

@@ -114,7 +114,14 @@ fn read_entry<'a>(bytes: &'a [u8], kind: Kind) -> Result<(EntryRef<'a>, &'a [u8]
     };
     let mode = EntryMode { value: mode };
     let filename = BStr::new(name);
-    Ok((EntryRef { mode, filename, oid }, rest))
+    Ok((
+        EntryRef {
+            mode,
+            filename,
+            oid,
+        },
+        rest,
+    ))
 }
 
 // The mode at the front, and the bytes behind its space.

@@ -50,8 +50,14 @@ fn equal_keys(rt: HostRuntime) -> Result<(), Fail> {
     }
     names.sort()?;
     assert_eq!(rt; names.as_slice(), ['a', 'b', 'c', 'd', 'e'].as_slice());
-    assert_eq!(rt; popped(&rt, &mut queue, 5, 2)?.as_slice(), ['b', 'd'].as_slice());
-    assert_eq!(rt; popped(&rt, &mut queue, 2, 2)?.as_slice(), ['a', 'c'].as_slice());
+    assert_eq!(rt;
+        popped(&rt, &mut queue, 5, 2)?.as_slice(),
+        ['b', 'd'].as_slice()
+    );
+    assert_eq!(rt;
+        popped(&rt, &mut queue, 2, 2)?.as_slice(),
+        ['a', 'c'].as_slice()
+    );
     assert_eq!(rt; popped(&rt, &mut queue, 1, 1)?.as_slice(), ['e'].as_slice());
     assert!(rt; queue.is_empty());
     assert!(rt; queue.peek().is_none());

@@ -4,6 +4,7 @@ ghost use Rattle.gix_parts.specs.TreeRefIter.{bytes_left, id_kind, items_left, I
 
 use super::*;
 use crate::object::decode::Error;
+use std::alloc::Global;
 use std::process::Abort;
 use std::test::Fail;
 
@@ -90,19 +91,19 @@ fn offsets(rt: HostRuntime) {
     assert!(rt; items.next().is_none());
 }
 
-/* Both trees were written by git 2.39 in an empty folder, the second with `git init --object-format=sha256` and 64 ones:
-    git init
-    printf 'one\n' > a.txt
-    printf '#!/bin/sh\n' > run.sh
-    chmod +x run.sh
-    ln -s a.txt link
-    mkdir 'sub dir'
-    printf 'two\n' > 'sub dir/b'
-    printf 'three\n' > sub.txt
-    git add .
-    git update-index --add --cacheinfo 160000,1111111111111111111111111111111111111111,module
-    git cat-file tree $(git write-tree)
-   The rows that are expected of them are those of `git ls-tree $(git write-tree)`. */
+// Both trees were written by git 2.39 in an empty folder, the second with `git init --object-format=sha256` and 64 ones:
+//     git init
+//     printf 'one\n' > a.txt
+//     printf '#!/bin/sh\n' > run.sh
+//     chmod +x run.sh
+//     ln -s a.txt link
+//     mkdir 'sub dir'
+//     printf 'two\n' > 'sub dir/b'
+//     printf 'three\n' > sub.txt
+//     git add .
+//     git update-index --add --cacheinfo 160000,1111111111111111111111111111111111111111,module
+//     git cat-file tree $(git write-tree)
+// Each text is what `git ls-tree $(git write-tree)` printed.
 const SHORT_IDS: &[u8; 202] = b"\
     100644 a.txt\0\x56\x26\xab\xf0\xf7\x2e\x58\xd7\xa1\x53\x36\x8b\xa5\x7d\xb4\xc6\x73\xc0\xe1\x71\
     120000 link\0\x8d\x14\xcb\xf9\x83\xb3\xfa\xd6\x83\x17\x1c\x94\x18\x99\x8d\x9f\x68\x34\x08\x23\
@@ -111,6 +112,15 @@ const SHORT_IDS: &[u8; 202] = b"\
     40000 sub dir\0\x7f\x69\x51\x52\x98\xcb\xc4\xe3\x60\x2e\x46\x28\xaa\x09\x91\x6e\x53\x7c\xbb\x2d\
     100644 sub.txt\0\x2b\xdf\x67\xab\xb1\x63\xa4\xff\xb2\xd7\xf3\xf0\x88\x0c\x9f\xe5\x06\x8c\xe7\x82\
     ";
+
+const SHORT_IDS_LISTED: &str = "\
+100644 blob 5626abf0f72e58d7a153368ba57db4c673c0e171\ta.txt
+120000 blob 8d14cbf983b3fad683171c9418998d9f68340823\tlink
+160000 commit 1111111111111111111111111111111111111111\tmodule
+100755 blob 1a2485251c33a70432394c93fb89330ef214bfc9\trun.sh
+040000 tree 7f69515298cbc4e3602e4628aa09916e537cbb2d\tsub dir
+100644 blob 2bdf67abb163a4ffb2d7f3f0880c9fe5068ce782\tsub.txt
+";
 
 const LONG_IDS: &[u8; 274] = b"\
     100644 a.txt\0\xa4\xed\x1f\x35\x5a\xfb\x02\xd8\x8c\xd2\x91\xd0\xe4\x46\x39\x10\xc5\x06\x1e\xce\x48\xa4\x9a\xa2\xb1\x53\x9b\x9a\xf9\x73\xb2\x86\
@@ -121,43 +131,46 @@ const LONG_IDS: &[u8; 274] = b"\
     100644 sub.txt\0\xb8\x36\x43\xf4\x39\x0b\x33\x9c\x1b\x3f\xf2\xf5\x13\x2c\x99\xbd\x4a\x77\x68\x7d\xd3\x21\xd3\xf3\x86\xc2\x59\x53\xaa\x6f\x1c\xe4\
     ";
 
-// A row of `git ls-tree`: mode, whether it says `tree`, name, id.
-type Row = (u32, bool, &'static str, &'static str);
+const LONG_IDS_LISTED: &str = "\
+100644 blob a4ed1f355afb02d88cd291d0e4463910c5061ece48a49aa2b1539b9af973b286\ta.txt
+120000 blob 0efe919905516cae9a49c9b6d2728c6788da5c9133469312b2b5c053e78d1a6b\tlink
+160000 commit 1111111111111111111111111111111111111111111111111111111111111111\tmodule
+100755 blob 1249034e3cf9007362d695b09b1fbdb4c578903bf10b665749b94743f8177ce1\trun.sh
+040000 tree 2240732d1dc7684fdf65818bf5ebefa0f3af4c7b95aca8d1db8479e3ebd70ccc\tsub dir
+100644 blob b83643f4390b339c1b3ff2f5132c99bd4a77687dd321d3f386c25953aa6f1ce4\tsub.txt
+";
 
-fn check_rows(rt: &impl Abort, tree: &[u8], kind: Kind, rows: &[Row]) {
-    let mut items = TreeRefIter::from_bytes(tree, kind);
-    for (mode, is_tree, name, id) in rows {
-        let found = next_entry(rt, &mut items);
-        assert_eq!(rt; found.mode.value, *mode, "the mode of {name}");
-        assert_eq!(rt; found.mode.is_tree(), *is_tree, "the kind of {name}");
-        assert_eq!(rt; found.filename.as_bytes(), name.as_bytes());
-        assert_eq!(rt; ObjectId::from_hex(id.as_bytes()), Ok(found.oid), "the id of {name}");
+// The entries as `git ls-tree` prints them.
+fn listed(alloc: Global, tree: &[u8], kind: Kind) -> Result<String, Fail> {
+    let mut text = String::new(alloc);
+    for item in TreeRefIter::from_bytes(tree, kind) {
+        let EntryRef {
+            mode,
+            filename,
+            oid,
+        } = item?;
+        let number = mode.value;
+        let object = if mode.is_tree() {
+            "tree"
+        } else if number & 0o170000 == 0o160000 {
+            "commit"
+        } else {
+            "blob"
+        };
+        writeln!(text, "{number:06o} {object} {oid}\t{filename}")?;
     }
-    assert!(rt; items.next().is_none());
+    Ok(text)
 }
 
 #[test]
-fn tree_of_git(rt: HostRuntime) {
-    let rows = [
-        (0o100644, false, "a.txt", "5626abf0f72e58d7a153368ba57db4c673c0e171"),
-        (0o120000, false, "link", "8d14cbf983b3fad683171c9418998d9f68340823"),
-        (0o160000, false, "module", "1111111111111111111111111111111111111111"),
-        (0o100755, false, "run.sh", "1a2485251c33a70432394c93fb89330ef214bfc9"),
-        (0o040000, true, "sub dir", "7f69515298cbc4e3602e4628aa09916e537cbb2d"),
-        (0o100644, false, "sub.txt", "2bdf67abb163a4ffb2d7f3f0880c9fe5068ce782"),
-    ];
-    check_rows(&rt, SHORT_IDS, Kind::Sha1, &rows);
-}
-
-#[test]
-fn tree_of_git_with_long_ids(rt: HostRuntime) {
-    let rows = [
-        (0o100644, false, "a.txt", "a4ed1f355afb02d88cd291d0e4463910c5061ece48a49aa2b1539b9af973b286"),
-        (0o120000, false, "link", "0efe919905516cae9a49c9b6d2728c6788da5c9133469312b2b5c053e78d1a6b"),
-        (0o160000, false, "module", "1111111111111111111111111111111111111111111111111111111111111111"),
-        (0o100755, false, "run.sh", "1249034e3cf9007362d695b09b1fbdb4c578903bf10b665749b94743f8177ce1"),
-        (0o040000, true, "sub dir", "2240732d1dc7684fdf65818bf5ebefa0f3af4c7b95aca8d1db8479e3ebd70ccc"),
-        (0o100644, false, "sub.txt", "b83643f4390b339c1b3ff2f5132c99bd4a77687dd321d3f386c25953aa6f1ce4"),
-    ];
-    check_rows(&rt, LONG_IDS, Kind::Sha256, &rows);
+fn trees_of_git(rt: HostRuntime) -> Result<(), Fail> {
+    assert_eq!(rt;
+        listed(rt.alloc(), SHORT_IDS, Kind::Sha1)?.as_str(),
+        SHORT_IDS_LISTED
+    );
+    assert_eq!(rt;
+        listed(rt.alloc(), LONG_IDS, Kind::Sha256)?.as_str(),
+        LONG_IDS_LISTED
+    );
+    Ok(())
 }
