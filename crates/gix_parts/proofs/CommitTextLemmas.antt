@@ -91,8 +91,7 @@ text_read (suc n) k bytes c e = go (stands k AtTree bytes) e
     go faulty e = cc
     go (tree {i = i} {rest = rest} found) e =
         let h : ReadsParents k i [] rest c = reads_parents n k i [] rest c e in
-        let end : ReadsCommitter i h.left h.behind c = h.rest in
-        (
+        let end : ReadsCommitter i h.left h.behind c = h.rest in (
           end.signature,
           record {
             tree_line = codes "tree " ++ found.digits ++ 10 ∷ [];
@@ -146,11 +145,11 @@ read_text k bytes c signature text time =
     let tail : List ℕ = text.parent_lines ++ (codes "author " ++ (text.author ++ 10 ∷ (codes "committer " ++ (signature ++ 10 ∷ text.rest)))) in
     let all : List ℕ = codes "tree " ++ (digits ++ 10 ∷ tail) in
     let whole : bytes ≡ all =
-      text.whole
-      ∙ ap (λ x. x ++ text.parent_lines ++ text.author_line ++ text.committer_line ++ text.rest) text.is_tree_line.2
-      ∙ ap (λ x. (codes "tree " ++ digits ++ 10 ∷ []) ++ text.parent_lines ++ x ++ text.committer_line ++ text.rest) text.is_author_line.1
-      ∙ ap (λ x. (codes "tree " ++ digits ++ 10 ∷ []) ++ text.parent_lines ++ (codes "author " ++ text.author ++ 10 ∷ []) ++ x ++ text.rest) text.is_committer_line.1
-      ∙ five (codes "tree ") digits text.parent_lines (codes "author ") text.author (codes "committer ") signature text.rest in
+    text.whole
+    ∙ ap (λ x. x ++ text.parent_lines ++ text.author_line ++ text.committer_line ++ text.rest) text.is_tree_line.2
+    ∙ ap (λ x. (codes "tree " ++ digits ++ 10 ∷ []) ++ text.parent_lines ++ x ++ text.committer_line ++ text.rest) text.is_author_line.1
+    ∙ ap (λ x. (codes "tree " ++ digits ++ 10 ∷ []) ++ text.parent_lines ++ (codes "author " ++ text.author ++ 10 ∷ []) ++ x ++ text.rest) text.is_committer_line.1
+    ∙ five (codes "tree ") digits text.parent_lines (codes "author ") text.author (codes "committer ") signature text.rest in
     let one : AllByRecursion (λ b. b ≢ 10) text.author = recursion_from_All (λ b. b ≢ 10) text.author text.is_author_line.0 in
     let line : AllByRecursion (λ b. b ≢ 10) signature = recursion_from_All (λ b. b ≢ 10) signature text.is_committer_line.0 in
     ap (λ x. commit_of_items (items_from k AtTree x)) whole

@@ -61,6 +61,7 @@ stands k AtParents (b ∷ bs) = go _ _ (found_id k (codes "parent ") (b ∷ bs))
     lines : (o : Option (List ℕ × List ℕ)) → ((r : List ℕ × List ℕ) → o ≡ Some r → FoundLine (codes "author ") (b ∷ bs) r.0 r.1) → Stands k (b ∷ bs) AtParents (author_front o)
     lines None found = faulty
     lines (Some r) found = author (found r refl)
+
     go : (word : Option (List ℕ)) (o : Option (ObjectId × List ℕ)) → ((r : ObjectId × List ℕ) → o ≡ Some r → FoundId k (codes "parent ") (b ∷ bs) r.0 r.1) → Stands k (b ∷ bs) AtParents (author_front (text_line_at (after_word (codes "author ") (b ∷ bs)))) → Stands k (b ∷ bs) AtParents (parent_front k (b ∷ bs) word o)
     go None o found line = line
     go (Some word) None found line = faulty

@@ -6,5 +6,4 @@ ghost use Rattle.gix_parts.specs.CommitText.{ReadsTexts};
 /// a line for each parent in order, an author line, a committer line with those seconds, and any rest; and no others.
 pub fn reads_texts()
     ensures { ReadsTexts }
-{
-}
+{}
