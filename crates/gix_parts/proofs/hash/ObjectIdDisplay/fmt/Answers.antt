@@ -1,4 +1,4 @@
-use Rattle.std.proofs.Common.{subst, sym, refl, arith, ◌≡◌, ◌<◌, List, [], ◌∷◌, ℕ, true, nat_lt, ◌&&◌}
+use Rattle.std.proofs.Common.{subst, sym, refl, arith, ◌≡◌, ◌<◌, List, [], ◌∷◌, ℕ, true, nat_lt}
 use Rattle.std.specs.List.{list_all}
 use Rattle.std.specs.Str.{IsAscii, IsUtf8}
 use Rattle.std.proofs.lemmas.Bool.Decides.{nat_tests}
