@@ -1,16 +1,14 @@
 -- Reading gives exactly the texts of commits.
-use Rattle.std.specs.Prelude.{ℕ, ℤ, suc, zero, ◌≡◌, ◌≢◌, ◌++◌, List, [], ◌∷◌, length, codes, All, Option, Some, None, Result, Ok, Err}
+use Rattle.std.specs.Prelude.{ℕ, suc, zero, ◌≡◌, ◌≢◌, ◌++◌, List, [], ◌∷◌, length, codes, Some}
 use Rattle.std.specs.List.{AllByRecursion}
 use Rattle.std.proofs.Common.{refl, sym, ap, subst, ◌∙◌, append_assoc, append-nil}
 use Rattle.std.proofs.lemmas.List.Elements.{All-from_recursion, recursion_from_All}
 use Rattle.gix_parts.specs.declared.hash.Kind.{Kind}
 use Rattle.gix_parts.specs.declared.hash.ObjectId.{ObjectId}
-use Rattle.gix_parts.specs.declared.object.decode.Error.{Error}
-use Rattle.gix_parts.specs.Id.{id_of_hex}
-use Rattle.gix_parts.specs.CommitItems.{Item, Tree, Parent, Author, Committer, Place, AtTree, AtParents, AtCommitter, Front, Found, tree_front, author_front, committer_front, parent_front, front, unfolded, items_within, items_from, commit_items}
-use Rattle.gix_parts.specs.CommitText.{IsLine, IsIdLine, AreParentLines, IsCommitText, seconds_of, Commit, commit_of, commit_of_items, read_commit, ReadsTexts}
+use Rattle.gix_parts.specs.CommitItems.{AtTree, AtParents, AtCommitter, Front, tree_front, author_front, committer_front, parent_front, unfolded, items_within, items_from}
+use Rattle.gix_parts.specs.CommitText.{AreParentLines, IsCommitText, seconds_of, Commit, commit_of, commit_of_items, read_commit, ReadsTexts}
 use Rattle.gix_parts.proofs.LineLemmas.{line_at-append, id_line_at-append}
-use Rattle.gix_parts.proofs.ItemLemmas.{FoundId, FoundLine, Stands, ended, faulty, tree, parent, author, committer, stands, items_from-step}
+use Rattle.gix_parts.proofs.ItemLemmas.{Stands, ended, faulty, tree, parent, author, committer, stands, items_from-step}
 
 -- a line in front
 one_more : (word content lines tail : List ℕ) → (word ++ content ++ 10 ∷ []) ++ lines ++ tail ≡ word ++ (content ++ 10 ∷ (lines ++ tail))

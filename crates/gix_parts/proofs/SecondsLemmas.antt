@@ -1,7 +1,7 @@
 -- The seconds of a signature: what stands behind the last `>`, and the number that digits say.
 use Rattle.std.specs.Prelude.{ℕ, zero, suc, ◌==◌, Option, Some, ◌≡◌, ◌≤◌, ◌<◌, ◌+◌, ◌-◌, ◌*◌, Bool, true, false, List, [], ◌∷◌, length, drop, min}
-use Rattle.std.proofs.Common.{cond, refl, sym, ap, inl, inr, ◌∙◌, arith, get_or}
-use Rattle.std.proofs.lemmas.Bool.{cases_lt, cond-true, cond-false, cond_both, ne_eqb, eq-eqb}
+use Rattle.std.proofs.Common.{cond, refl, ap, inl, inr, ◌∙◌, arith, get_or}
+use Rattle.std.proofs.lemmas.Bool.{cases_lt, cond-true, cond-false, ne_eqb, eq-eqb}
 use Rattle.std.proofs.lemmas.List.{at_drop_more, at_drop_all}
 use Rattle.std.specs.Char.{is_ascii_digit}
 use Rattle.gix_parts.specs.CommitText.{behind_last, digits_from}
@@ -37,12 +37,12 @@ digits_end n bytes i l = at_drop_all (digits_from n) bytes i l
 pub behind_last_none : (found : Option (List ℕ)) (bytes : List ℕ) → ((i : ℕ) → i < length bytes → get_or bytes i 0 ≡ 62 → ⊥) → behind_last found bytes ≡ found
 behind_last_none found [] never = refl
 behind_last_none found (b ∷ bytes) never =
-    cond-false (b == 62) _ _ (ne_eqb b 62 (never 0 (omega arith))) ∙ behind_last_none found bytes (λ i l e. never (suc i) (omega arith) e)
+    ap (λ o. behind_last o bytes) (cond-false (b == 62) (Some bytes) found (ne_eqb b 62 (never 0 (omega arith)))) ∙ behind_last_none found bytes (λ i l e. never (suc i) (omega arith) e)
 
 pub behind_last_at : (found : Option (List ℕ)) (bytes : List ℕ) (n : ℕ) → n < length bytes → get_or bytes n 0 ≡ 62 → ((i : ℕ) → n < i → i < length bytes → get_or bytes i 0 ≡ 62 → ⊥) → behind_last found bytes ≡ Some (drop (n + 1) bytes)
 behind_last_at found [] n l at after = absurd (omega arith)
-behind_last_at found (b ∷ bytes) zero l at after = cond-true (b == 62) _ _ (eq-eqb b 62 at) ∙ behind_last_none (Some bytes) bytes (λ i h e. after (suc i) (omega arith) (omega arith) e)
+behind_last_at found (b ∷ bytes) zero l at after =
+    ap (λ o. behind_last o bytes) (cond-true (b == 62) (Some bytes) found (eq-eqb b 62 at)) ∙ behind_last_none (Some bytes) bytes (λ i h e. after (suc i) (omega arith) (omega arith) e)
 behind_last_at found (b ∷ bytes) (suc n) l at after =
-    let rest : (o : Option (List ℕ)) → behind_last o bytes ≡ Some (drop (n + 1) bytes) = λ o. behind_last_at o bytes n (omega arith) at (λ i l h e. after (suc i) (omega arith) (omega arith) e) in
-    cond_both (b == 62) (behind_last (Some bytes) bytes) (behind_last found bytes) (λ o. o ≡ Some (drop (n + 1) bytes)) (λ _. rest (Some bytes)) (λ _. rest found)
+    behind_last_at (cond (b == 62) (Some bytes) found) bytes n (omega arith) at (λ i l h e. after (suc i) (omega arith) (omega arith) e)
     ∙ ap (λ k. Some (drop k (b ∷ bytes))) (let k : suc (n + 1) ≡ suc n + 1 = omega arith in k)

@@ -251,3 +251,6 @@ impl<'a> Iterator for CommitRefIter<'a> {
         }
     }
 }
+
+#[cfg(test)]
+mod tests;
