@@ -10,10 +10,11 @@ use crate::hash::{Kind, ObjectId};
 use crate::object::decode::Error;
 use memchr::{memchr, memrchr};
 
-/// Who made a change and when, as it stands between the header's name and the newline: a name, an address in angle brackets,
-/// seconds and an offset.
+/// Who made a change and when.
 #[derive(Clone, Copy, PartialEq, Eq, Debug)]
 pub struct Signature<'a> {
+    /// What stands between the header's name and the newline, as a name, an address in angle brackets, seconds and an offset.
+    /// It may be any bytes.
     pub bytes: &'a [u8],
 }
 
@@ -99,7 +100,9 @@ enum Place {
     End,
 }
 
-/// The items of a commit's bytes, read one at a time and never further than asked. A fault is given once, and then nothing.
+/// The items of a commit's bytes, read one at a time and no further than asked: the tree, the parents, the author, the committer
+/// and the rest, in this order. Bytes that end where an item may begin have no further item. A fault is given once, and then
+/// nothing. No call takes memory.
 #[derive(Clone, Copy, Debug)]
 pub struct CommitRefIter<'a> {
     bytes: &'a [u8],
@@ -171,8 +174,8 @@ fn committer_at(bytes: &[u8]) -> Step<'_>
 }
 
 impl<'a> CommitRefIter<'a> {
+    /// The items of the bytes of a commit, whose ids are of this kind. Any bytes will do: nothing is read yet.
     #[tactic(auto, unfolding(crate::specs::CommitRefIter::commit_items_left))]
-    /// The items of the bytes of a commit, whose ids are of this kind.
     pub fn from_bytes(bytes: &'a [u8], kind: Kind) -> Self
         ensures { commit_items_left result ≡ commit_items kind bytes.now }
     {
