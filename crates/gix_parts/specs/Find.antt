@@ -8,6 +8,11 @@ use Rattle.gix_parts.specs.declared.object.find.Error.{Error}
 use Rattle.gix_parts.specs.declared.object.find.Error.TheVariants as fault
 use Rattle.gix_parts.specs.declared.object.find.existing_iter.Error.{Error as ExistingError}
 use Rattle.gix_parts.specs.declared.object.find.existing_iter.Error.TheVariants as existing
+use Rattle.gix_parts.specs.declared.object.Kind.TheVariants as kind
+use Rattle.gix_parts.specs.declared.object.commit.CommitRefIter.{CommitRefIter}
+use Rattle.gix_parts.specs.CommitItems.{commit_items}
+use Rattle.gix_parts.specs.CommitRefIter.{commit_items_left}
+use Rattle.gix_parts.specs.Id.{kind_of}
 use Rattle.gix_parts.specs.Object.{Object, Objects}
 
 -- what a look-up answers and puts into the buffer, where this object or none is there
@@ -36,3 +41,8 @@ IsExistingFault objects faulty i expected existing.Memory = ⊥
 abbrev pub FindsKindInto : Objects → (ObjectId → Type 0) → ObjectId → Kind → Result (Unit {0}) ExistingError → List ℕ → Type 0
 FindsKindInto objects faulty i expected (Ok done) held = get objects i ≡ Some (record { kind = expected; bytes = held })
 FindsKindInto objects faulty i expected (Err e) held = e ≢ existing.Memory → IsExistingFault objects faulty i expected e
+
+-- what a look-up of a commit answers: the items of its bytes, or why not
+abbrev pub FindsCommit : Objects → (ObjectId → Type 0) → ObjectId → Result CommitRefIter ExistingError → Type 0
+FindsCommit objects faulty i (Ok it) = (bytes : List ℕ) × (get objects i ≡ Some (record { kind = kind.Commit; bytes = bytes })) × (commit_items_left it ≡ commit_items (kind_of i) bytes)
+FindsCommit objects faulty i (Err e) = e ≢ existing.Memory → IsExistingFault objects faulty i kind.Commit e
