@@ -5,3 +5,4 @@ pub mod LineLemmas
 pub mod ItemLemmas
 pub mod CommitTextLemmas
 pub mod CommitRefIterLemmas
+pub mod SecondsLemmas
