@@ -1,9 +1,9 @@
 -- How the items that an iterator has left follow from what stands at the front.
-use Rattle.std.specs.Prelude.{ℕ, ◌≡◌, List, [], ◌∷◌, Result, Ok, Err}
+use Rattle.std.specs.Prelude.{◌≡◌, [], ◌∷◌, Ok, Err}
 use Rattle.std.proofs.Common.{sym, ap, ◌∙◌}
 use Rattle.gix_parts.specs.declared.object.decode.Error.{Error}
 use Rattle.gix_parts.specs.declared.object.commit.CommitRefIter.{CommitRefIter}
-use Rattle.gix_parts.specs.CommitItems.{Item, AtEnd, Place, Front, Found, Faulty, Ended, front, unfolded, items_from}
+use Rattle.gix_parts.specs.CommitItems.{Item, AtEnd, Found, Faulty, Ended, front, unfolded, items_from}
 use Rattle.gix_parts.specs.CommitRefIter.{place_of, commit_items_left}
 use Rattle.gix_parts.proofs.ItemLemmas.{items_from-step}
 

@@ -1,16 +1,14 @@
 -- Reading gives exactly the texts of commits.
-use Rattle.std.specs.Prelude.{ℕ, ℤ, suc, zero, ◌≡◌, ◌≢◌, ◌++◌, List, [], ◌∷◌, length, codes, All, Option, Some, None, Result, Ok, Err}
+use Rattle.std.specs.Prelude.{ℕ, suc, zero, ◌≡◌, ◌≢◌, ◌++◌, List, [], ◌∷◌, length, codes, Some}
 use Rattle.std.specs.List.{AllByRecursion}
 use Rattle.std.proofs.Common.{refl, sym, ap, subst, ◌∙◌, append_assoc, append-nil}
 use Rattle.std.proofs.lemmas.List.Elements.{All-from_recursion, recursion_from_All}
 use Rattle.gix_parts.specs.declared.hash.Kind.{Kind}
 use Rattle.gix_parts.specs.declared.hash.ObjectId.{ObjectId}
-use Rattle.gix_parts.specs.declared.object.decode.Error.{Error}
-use Rattle.gix_parts.specs.Id.{id_of_hex}
-use Rattle.gix_parts.specs.CommitItems.{Item, Tree, Parent, Author, Committer, Place, AtTree, AtParents, AtCommitter, Front, Found, tree_front, author_front, committer_front, parent_front, front, unfolded, items_within, items_from, commit_items}
-use Rattle.gix_parts.specs.CommitText.{IsLine, IsIdLine, AreParentLines, IsCommitText, seconds_of, Commit, commit_of, commit_of_items, read_commit, ReadsTexts}
+use Rattle.gix_parts.specs.CommitItems.{AtTree, AtParents, AtCommitter, Front, tree_front, author_front, committer_front, parent_front, unfolded, items_within, items_from}
+use Rattle.gix_parts.specs.CommitText.{AreParentLines, IsCommitText, seconds_of, Commit, commit_of, commit_of_items, read_commit, ReadsTexts}
 use Rattle.gix_parts.proofs.LineLemmas.{line_at-append, id_line_at-append}
-use Rattle.gix_parts.proofs.ItemLemmas.{FoundId, FoundLine, Stands, ended, faulty, tree, parent, author, committer, stands, items_from-step}
+use Rattle.gix_parts.proofs.ItemLemmas.{Stands, ended, faulty, tree, parent, author, committer, stands, items_from-step}
 
 -- a line in front
 one_more : (word content lines tail : List ℕ) → (word ++ content ++ 10 ∷ []) ++ lines ++ tail ≡ word ++ (content ++ 10 ∷ (lines ++ tail))
@@ -91,8 +89,7 @@ text_read (suc n) k bytes c e = go (stands k AtTree bytes) e
     go faulty e = cc
     go (tree {i = i} {rest = rest} found) e =
         let h : ReadsParents k i [] rest c = reads_parents n k i [] rest c e in
-        let end : ReadsCommitter i h.left h.behind c = h.rest in
-        (
+        let end : ReadsCommitter i h.left h.behind c = h.rest in (
           end.signature,
           record {
             tree_line = codes "tree " ++ found.digits ++ 10 ∷ [];
@@ -146,11 +143,11 @@ read_text k bytes c signature text time =
     let tail : List ℕ = text.parent_lines ++ (codes "author " ++ (text.author ++ 10 ∷ (codes "committer " ++ (signature ++ 10 ∷ text.rest)))) in
     let all : List ℕ = codes "tree " ++ (digits ++ 10 ∷ tail) in
     let whole : bytes ≡ all =
-      text.whole
-      ∙ ap (λ x. x ++ text.parent_lines ++ text.author_line ++ text.committer_line ++ text.rest) text.is_tree_line.2
-      ∙ ap (λ x. (codes "tree " ++ digits ++ 10 ∷ []) ++ text.parent_lines ++ x ++ text.committer_line ++ text.rest) text.is_author_line.1
-      ∙ ap (λ x. (codes "tree " ++ digits ++ 10 ∷ []) ++ text.parent_lines ++ (codes "author " ++ text.author ++ 10 ∷ []) ++ x ++ text.rest) text.is_committer_line.1
-      ∙ five (codes "tree ") digits text.parent_lines (codes "author ") text.author (codes "committer ") signature text.rest in
+    text.whole
+    ∙ ap (λ x. x ++ text.parent_lines ++ text.author_line ++ text.committer_line ++ text.rest) text.is_tree_line.2
+    ∙ ap (λ x. (codes "tree " ++ digits ++ 10 ∷ []) ++ text.parent_lines ++ x ++ text.committer_line ++ text.rest) text.is_author_line.1
+    ∙ ap (λ x. (codes "tree " ++ digits ++ 10 ∷ []) ++ text.parent_lines ++ (codes "author " ++ text.author ++ 10 ∷ []) ++ x ++ text.rest) text.is_committer_line.1
+    ∙ five (codes "tree ") digits text.parent_lines (codes "author ") text.author (codes "committer ") signature text.rest in
     let one : AllByRecursion (λ b. b ≢ 10) text.author = recursion_from_All (λ b. b ≢ 10) text.author text.is_author_line.0 in
     let line : AllByRecursion (λ b. b ≢ 10) signature = recursion_from_All (λ b. b ≢ 10) signature text.is_committer_line.0 in
     ap (λ x. commit_of_items (items_from k AtTree x)) whole

@@ -1,13 +1,13 @@
 -- The items from a place on: the front of what is left, and then the items behind it.
-use Rattle.std.specs.Prelude.{ℕ, suc, zero, ◌+◌, ◌<◌, ◌≤◌, ◌≡◌, ◌≢◌, ◌++◌, List, [], ◌∷◌, length, codes, Option, Some, None, Result, Ok, Err}
+use Rattle.std.specs.Prelude.{ℕ, suc, zero, ◌<◌, ◌≤◌, ◌≡◌, ◌≢◌, ◌++◌, List, [], ◌∷◌, length, codes, Option, Some, None, Result, Ok, Err}
 use Rattle.std.specs.List.{AllByRecursion}
 use Rattle.std.proofs.Common.{refl, sym, ap, ◌∙◌, arith, length-append}
 use Rattle.gix_parts.specs.declared.hash.Kind.{Kind}
 use Rattle.gix_parts.specs.declared.hash.ObjectId.{ObjectId}
 use Rattle.gix_parts.specs.declared.object.decode.Error.{Error}
 use Rattle.gix_parts.specs.Id.{id_of_hex}
-use Rattle.gix_parts.specs.CommitItems.{Item, Tree, Parent, Author, Committer, Rest, Place, AtTree, AtParents, AtCommitter, AtRest, AtEnd, Front, Found, Faulty, Ended, after_word, line_at, id_line_at, text_line_at, tree_front, author_front, committer_front, parent_front, front, unfolded, items_within, items_from}
-use Rattle.gix_parts.proofs.LineLemmas.{after_word_found, line_at_found, line_at-append, id_line_at_found, id_line_at-append}
+use Rattle.gix_parts.specs.CommitItems.{Item, Tree, Parent, Author, Committer, Rest, Place, AtTree, AtParents, AtCommitter, AtRest, AtEnd, Front, Found, Faulty, Ended, after_word, id_line_at, text_line_at, tree_front, author_front, committer_front, parent_front, front, unfolded, items_within, items_from, FaultsEnd}
+use Rattle.gix_parts.proofs.LineLemmas.{after_word_found, line_at_found, id_line_at_found}
 
 -- the line with an id that was found behind a word
 pub record FoundId (k : Kind) (word bytes : List ℕ) (i : ObjectId) (rest : List ℕ) : Type 0 where
@@ -61,6 +61,7 @@ stands k AtParents (b ∷ bs) = go _ _ (found_id k (codes "parent ") (b ∷ bs))
     lines : (o : Option (List ℕ × List ℕ)) → ((r : List ℕ × List ℕ) → o ≡ Some r → FoundLine (codes "author ") (b ∷ bs) r.0 r.1) → Stands k (b ∷ bs) AtParents (author_front o)
     lines None found = faulty
     lines (Some r) found = author (found r refl)
+
     go : (word : Option (List ℕ)) (o : Option (ObjectId × List ℕ)) → ((r : ObjectId × List ℕ) → o ≡ Some r → FoundId k (codes "parent ") (b ∷ bs) r.0 r.1) → Stands k (b ∷ bs) AtParents (author_front (text_line_at (after_word (codes "author ") (b ∷ bs)))) → Stands k (b ∷ bs) AtParents (parent_front k (b ∷ bs) word o)
     go None o found line = line
     go (Some word) None found line = faulty
@@ -117,3 +118,21 @@ pub items_from-step : (k : Kind) (place : Place) (bytes : List ℕ) → items_fr
 items_from-step k place bytes =
     items_within_enough (length bytes) (suc (length bytes)) k place bytes (omega arith) (omega arith)
     ∙ unfolded_same k bytes place (front k place bytes) (items_within (length bytes) k) (items_from k) (stands k place bytes) (λ next rest less. items_within_enough (length bytes) (length rest) k next rest (omega arith) (omega arith))
+
+no_cell : {A : Type 0} (xs ys : List A) (y : A) → [] ≡ xs ++ y ∷ ys → ⊥
+no_cell [] ys y e = cc
+no_cell (x ∷ xs) ys y e = cc
+
+fault_ends : (n : ℕ) (k : Kind) (place : Place) (bytes : List ℕ) (before behind : List (Result Item Error)) (e : Error) → items_within n k place bytes ≡ before ++ Err e ∷ behind → behind ≡ []
+fault_ends zero k place bytes before behind e h = absurd (no_cell before behind (Err e) h)
+fault_ends (suc n) k place bytes before behind e h = go (front k place bytes) before (λ next rest. fault_ends n k next rest) h
+  where
+    go : (f : Front) (before : List (Result Item Error)) → ((next : Place) (rest : List ℕ) (before behind : List (Result Item Error)) (e : Error) → items_within n k next rest ≡ before ++ Err e ∷ behind → behind ≡ []) → unfolded f (items_within n k) ≡ before ++ Err e ∷ behind → behind ≡ []
+    go Ended before more h = absurd (no_cell before behind (Err e) h)
+    go (Faulty d) [] more h = cc
+    go (Faulty d) (x ∷ before) more h = let end : [] ≡ before ++ Err e ∷ behind = cc in absurd (no_cell before behind (Err e) end)
+    go (Found item next rest) [] more h = cc
+    go (Found item next rest) (x ∷ before) more h = let tail : items_within n k next rest ≡ before ++ Err e ∷ behind = cc in more next rest before behind e tail
+
+pub faults_end : FaultsEnd
+faults_end k bytes before behind e = fault_ends (length bytes) k AtTree bytes before behind e

@@ -5,6 +5,7 @@ pub mod LineLemmas
 pub mod ItemLemmas
 pub mod CommitTextLemmas
 pub mod CommitRefIterLemmas
+pub mod SecondsLemmas
 pub mod EndLemmas
 pub mod TreeLemmas
 pub mod QueueLemmas

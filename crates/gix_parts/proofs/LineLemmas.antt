@@ -59,6 +59,7 @@ id_line_at_found k bytes r e = go (id_of_hex k digits) refl (drop (2 * id_len k)
   where
     digits : List ℕ
     digits = take (2 * id_len k) bytes
+
     go : (o : Option ObjectId) → id_of_hex k digits ≡ o → (rest : List ℕ) → drop (2 * id_len k) bytes ≡ rest → id_before_newline o rest ≡ Some r → (digits : List ℕ) × (id_of_hex k digits ≡ Some r.0) × (bytes ≡ digits ++ 10 ∷ r.1)
     go None h rest l e = cc
     go (Some i) h [] l e = cc

@@ -1,20 +1,78 @@
 //! The items of a commit: its tree, its parents, its author and committer, and the rest of its bytes.
-ghost use Rattle.std.specs.Prelude.{◌≡◌, codes};
+ghost use Rattle.std.specs.Prelude.{◌≡◌, codes, drop, min, None};
 ghost use Rattle.std.specs.Option.{option_map, option_copied};
 ghost use Rattle.std.specs.Iterator.{YieldsFirstBy, item_count};
 ghost use Rattle.gix_parts.specs.CommitItems.{AtTree, after_word, line_at, id_line_at, text_line_at, tree_front, author_front, committer_front, parent_front, front, commit_items};
-ghost use Rattle.gix_parts.specs.CommitText.{seconds_of};
+ghost use Rattle.gix_parts.specs.CommitText.{behind_last, without_spaces, digits_from, signed_seconds, seconds_of};
 ghost use Rattle.gix_parts.specs.CommitRefIter.{place_of, commit_items_left, front_of, next_front, item_shown, first_tree, first_committer, signature_shown};
 
 use crate::hash::{Kind, ObjectId};
 use crate::object::decode::Error;
 use memchr::{memchr, memrchr};
 
-/// Who made a change and when, as it stands between the header's name and the newline: a name, an address in angle brackets,
-/// seconds and an offset.
+/// Who made a change and when.
 #[derive(Clone, Copy, PartialEq, Eq, Debug)]
 pub struct Signature<'a> {
+    /// What stands between the header's name and the newline, as a name, an address in angle brackets, seconds and an offset.
+    /// It may be any bytes.
     pub bytes: &'a [u8],
+}
+
+impl Signature<'_> {
+    /// The seconds since 1970: behind the last `>` spaces, an optional `-` and decimal digits.
+    /// 0 where there is no `>`, no digit behind it, or a number out of the range of 64 bits.
+    pub fn seconds(&self) -> i64
+        ensures { result ≡ seconds_of self.now.bytes.now }
+    {
+        match behind_last(self.bytes) {
+            Some(rest) => signed_seconds(without_spaces(rest)),
+            None => 0,
+        }
+    }
+}
+
+// What stands behind the last `>`.
+fn behind_last(bytes: &[u8]) -> Option<&[u8]>
+    ensures { option_copied result ≡ behind_last None bytes.now }
+{
+    let end = memrchr(b'>', bytes)?;
+    Some(&bytes[end + 1..])
+}
+
+// Without the spaces at the front.
+fn without_spaces(mut bytes: &[u8]) -> &[u8]
+    ensures { result.now ≡ without_spaces bytes.entry.now }
+{
+    while let [b' ', rest @ ..] = bytes {
+        bytes = rest;
+    }
+    bytes
+}
+
+// The number that the digits at the front say, capped at the greatest of 64 bits.
+fn number_at(bytes: &[u8]) -> u64
+    ensures { result ≡ min (digits_from 0 bytes.now) u64.MAX }
+{
+    let mut number = 0u64;
+    for b in bytes {
+        if !b.is_ascii_digit() {
+            return number;
+        }
+        number = number
+            .saturating_mul(10)
+            .saturating_add(u64::from(b - b'0'));
+    }
+    number
+}
+
+// An optional `-` and digits, and 0 where they say a number out of the range of 64 bits.
+fn signed_seconds(bytes: &[u8]) -> i64
+    ensures { result ≡ signed_seconds bytes.now }
+{
+    match bytes {
+        [b'-', digits @ ..] => 0i64.checked_sub_unsigned(number_at(digits)).unwrap_or(0),
+        digits => i64::try_from(number_at(digits)).unwrap_or(0),
+    }
 }
 
 /// One item of a commit. The slices are of the commit's bytes.
@@ -42,7 +100,9 @@ enum Place {
     End,
 }
 
-/// The items of a commit's bytes, read one at a time and never further than asked. A fault is given once, and then nothing.
+/// The items of a commit's bytes, read one at a time and no further than asked: the tree, the parents, the author, the committer
+/// and the rest, in this order. Bytes that end where an item may begin have no further item. A fault is given once, and then
+/// nothing. No call takes memory.
 #[derive(Clone, Copy, Debug)]
 pub struct CommitRefIter<'a> {
     bytes: &'a [u8],
@@ -114,8 +174,8 @@ fn committer_at(bytes: &[u8]) -> Step<'_>
 }
 
 impl<'a> CommitRefIter<'a> {
+    /// The items of the bytes of a commit, whose ids are of this kind. Any bytes will do: nothing is read yet.
     #[tactic(auto, unfolding(crate::specs::CommitRefIter::commit_items_left))]
-    /// The items of the bytes of a commit, whose ids are of this kind.
     pub fn from_bytes(bytes: &'a [u8], kind: Kind) -> Self
         ensures { commit_items_left result ≡ commit_items kind bytes.now }
     {
@@ -124,6 +184,36 @@ impl<'a> CommitRefIter<'a> {
             kind,
             place: Place::Tree,
         }
+    }
+
+    /// Takes the next item: the id where it is the tree, and its fault where it is one.
+    ///
+    /// # Errors
+    /// `Missing` where there is no item left, or another than the tree. The item is taken then too.
+    pub fn tree_id(&mut self) -> Result<ObjectId, Error>
+        ensures value { result ≡ first_tree (commit_items_left self.old) }
+        ensures taken { commit_items_left self.new ≡ drop 1 (commit_items_left self.old) }
+    {
+        match self.next() {
+            Some(Ok(Token::Tree { id })) => Ok(id),
+            Some(Err(fault)) => Err(fault),
+            _ => Err(Error::Missing),
+        }
+    }
+
+    /// The first committer among the items left.
+    ///
+    /// # Errors
+    /// The first fault, where it comes before a committer, and `Missing` where the items end before both.
+    pub fn committer(self) -> Result<Signature<'a>, Error>
+        ensures { signature_shown result ≡ first_committer (commit_items_left self.entry) }
+    {
+        for token in self {
+            if let Token::Committer { signature } = token? {
+                return Ok(signature);
+            }
+        }
+        Err(Error::Missing)
     }
 
     // What stands at the front of the bytes left.
@@ -164,3 +254,6 @@ impl<'a> Iterator for CommitRefIter<'a> {
         }
     }
 }
+
+#[cfg(test)]
+mod tests;

@@ -1,6 +1,5 @@
-use Rattle.std.proofs.Common.{rules, ◌≡◌, refl, sym, ap, ◌∙◌, ◌∷◌, Ok, Err, length}
-use Rattle.std.specs.Iterator.{YieldsFirstBy}
-use Rattle.gix_parts.specs.CommitRefIter.{commit_items_left, item_of, item_shown, front_of}
+use Rattle.std.proofs.Common.{rules, refl, sym, ap, ◌∙◌, length}
+use Rattle.gix_parts.specs.CommitRefIter.{item_of, front_of}
 use Rattle.gix_parts.proofs.CommitRefIterLemmas.{left_none, left_fault, left_found}
 use Rattle.gix_parts.proofs.object.commit.CommitRefIterIterator.next.Goals as goal
 
