@@ -6,3 +6,6 @@ pub mod ItemLemmas
 pub mod CommitTextLemmas
 pub mod CommitRefIterLemmas
 pub mod SecondsLemmas
+pub mod EndLemmas
+pub mod TreeLemmas
+pub mod QueueLemmas
