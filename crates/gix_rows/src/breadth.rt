@@ -64,7 +64,10 @@ fn parents_may_repeat(rt: HostRuntime) -> Result<(), Fail> {
     let mut walk = Simple::new(rt.alloc(), [id(9)], &store)?;
     let first = walk.next().ok_or("nothing")??;
     assert_eq!(rt; first.id, id(9));
-    assert_eq!(rt; first.parent_ids.as_slice(), [id(6), id(7), id(6)].as_slice());
+    assert_eq!(rt;
+        first.parent_ids.as_slice(),
+        [id(6), id(7), id(6)].as_slice()
+    );
     assert_eq!(rt; first.generation, None);
     assert_eq!(rt; first.commit_time, None);
     let given = digits(rt.alloc(), &mut walk)?;
@@ -91,7 +94,10 @@ fn ids_of_both_kinds_in_one_walk(rt: HostRuntime) -> Result<(), Fail> {
     for info in &mut walk {
         given.push(info?.id)?;
     }
-    assert_eq!(rt; given.as_slice(), [long_id(3), id(3), long_id(2), id(1)].as_slice());
+    assert_eq!(rt;
+        given.as_slice(),
+        [long_id(3), id(3), long_id(2), id(1)].as_slice()
+    );
     Ok(())
 }
 
@@ -114,5 +120,21 @@ fn an_empty_store_has_no_tip(rt: HostRuntime) -> Result<(), Fail> {
     let mut walk = Simple::new(rt.alloc(), [id(8)], &store)?;
     assert!(rt; walk.next().ok_or("nothing")?.is_err());
     assert!(rt; walk.next().is_none());
+    Ok(())
+}
+
+#[test]
+fn the_text_of_the_commit_last_given(rt: HostRuntime) -> Result<(), Fail> {
+    let store = store(rt.alloc(), &[(2, &[1]), (1, &[])])?;
+    let mut walk = Simple::new(rt.alloc(), [id(2)], &store)?;
+    assert!(rt; walk.commit_data().is_empty());
+    assert_eq!(rt; walk.next().ok_or("nothing")??.id, id(2));
+    assert_eq!(rt; walk.commit_data().len(), 144);
+    assert_eq!(rt; walk.commit_iter().committer()?.seconds(), 2);
+    assert_eq!(rt; walk.next().ok_or("nothing")??.id, id(1));
+    assert_eq!(rt; walk.commit_data().len(), 96);
+    assert!(rt; walk.next().is_none());
+    assert_eq!(rt; walk.commit_data().len(), 96);
+    assert_eq!(rt; walk.commit_iter().committer()?.seconds(), 1);
     Ok(())
 }

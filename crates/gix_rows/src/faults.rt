@@ -1,12 +1,11 @@
 //! Breadth-first walks that meet faults.
-use crate::history::{SAMPLE, digits, id, insert, store, text, TREE};
+use crate::history::{SAMPLE, TREE, digits, id, insert, store, text};
 use gix_parts::hash::ObjectId;
-use gix_parts::object::decode;
 use gix_parts::object::find::{self, Find, existing_iter};
-use gix_parts::object::Kind;
 use gix_parts::object::memory::MemoryStore;
-use gix_traverse::commit::simple::Error;
+use gix_parts::object::{Kind, decode};
 use gix_traverse::commit::Simple;
+use gix_traverse::commit::simple::Error;
 use std::test::Fail;
 
 /// A store that fails at one id.
@@ -40,8 +39,15 @@ fn a_broken_parent_line(rt: HostRuntime) -> Result<(), Fail> {
     store.insert(id(9), Kind::Commit, bytes.as_str().as_bytes())?;
     let mut walk = Simple::new(rt.alloc(), [id(9)], &store)?;
     let first = walk.next().ok_or("nothing")?;
-    assert_eq!(rt; first.err(), Some(Error::ObjectDecode(decode::Error::Parent)));
-    assert_eq!(rt; digits(rt.alloc(), &mut walk)?.as_slice(), [6, 5, 3, 1].as_slice());
+    assert_eq!(rt;
+        first.err(),
+        Some(Error::ObjectDecode(decode::Error::Parent))
+    );
+    assert!(rt; walk.commit_data().is_empty());
+    assert_eq!(rt;
+        digits(rt.alloc(), &mut walk)?.as_slice(),
+        [6, 5, 3, 1].as_slice()
+    );
     Ok(())
 }
 
@@ -51,8 +57,14 @@ fn a_missing_parent(rt: HostRuntime) -> Result<(), Fail> {
     let mut walk = Simple::new(rt.alloc(), [id(8)], &store)?;
     assert_eq!(rt; walk.next().ok_or("nothing")??.id, id(8));
     let missing = existing_iter::Error::NotFound { oid: id(6) };
-    assert_eq!(rt; walk.next().ok_or("nothing")?.err(), Some(Error::Find(missing)));
-    assert_eq!(rt; digits(rt.alloc(), &mut walk)?.as_slice(), [7, 4].as_slice());
+    assert_eq!(rt;
+        walk.next().ok_or("nothing")?.err(),
+        Some(Error::Find(missing))
+    );
+    assert_eq!(rt;
+        digits(rt.alloc(), &mut walk)?.as_slice(),
+        [7, 4].as_slice()
+    );
     assert!(rt; walk.next().is_none());
     Ok(())
 }
@@ -69,7 +81,10 @@ fn a_parent_of_another_kind(rt: HostRuntime) -> Result<(), Fail> {
         actual: Kind::Tag,
     };
     assert_eq!(rt; walk.next().ok_or("nothing")?.err(), Some(Error::Find(tag)));
-    assert_eq!(rt; digits(rt.alloc(), &mut walk)?.as_slice(), [7, 4, 2, 1].as_slice());
+    assert_eq!(rt;
+        digits(rt.alloc(), &mut walk)?.as_slice(),
+        [7, 4, 2, 1].as_slice()
+    );
     Ok(())
 }
 
@@ -84,7 +99,10 @@ fn a_store_that_fails_at_6(rt: HostRuntime) -> Result<(), Fail> {
     assert_eq!(rt; walk.next().ok_or("nothing")??.id, id(8));
     let refused = walk.next().ok_or("nothing")?.err();
     assert_eq!(rt; refused, Some(Error::Find(existing_iter::Error::Store)));
-    assert_eq!(rt; digits(rt.alloc(), &mut walk)?.as_slice(), [7, 4, 2, 1].as_slice());
+    assert_eq!(rt;
+        digits(rt.alloc(), &mut walk)?.as_slice(),
+        [7, 4, 2, 1].as_slice()
+    );
     Ok(())
 }
 
@@ -100,7 +118,10 @@ fn a_store_that_fails_at_7(rt: HostRuntime) -> Result<(), Fail> {
     assert_eq!(rt; walk.next().ok_or("nothing")??.id, id(6));
     let refused = walk.next().ok_or("nothing")?.err();
     assert_eq!(rt; refused, Some(Error::Find(existing_iter::Error::Store)));
-    assert_eq!(rt; digits(rt.alloc(), &mut walk)?.as_slice(), [5, 3, 1].as_slice());
+    assert_eq!(rt;
+        digits(rt.alloc(), &mut walk)?.as_slice(),
+        [5, 3, 1].as_slice()
+    );
     Ok(())
 }
 
@@ -130,7 +151,11 @@ fn a_text_cut_at_each_length(rt: HostRuntime) -> Result<(), Fail> {
             _ => (None, 1),
         };
         let answer = cut(&rt, length)?;
-        assert_eq!(rt; answer.0, fault.map(Error::ObjectDecode), "after {length} bytes");
+        assert_eq!(rt;
+            answer.0,
+            fault.map(Error::ObjectDecode),
+            "after {length} bytes"
+        );
         assert_eq!(rt; answer.1, behind, "after {length} bytes");
     }
     Ok(())

@@ -52,7 +52,10 @@ pub fn text<N: fmt::Display>(
     for parent in parents {
         writeln!(text, "parent {parent}")?;
     }
-    write!(text, "author A <a@b> {time} +0000\ncommitter A <a@b> {time} +0000\n\n")?;
+    write!(
+        text,
+        "author A <a@b> {time} +0000\ncommitter A <a@b> {time} +0000\n\n"
+    )?;
     Ok(text)
 }
 
@@ -105,9 +108,7 @@ pub fn digits<F: Find + Drop, P: Predicate + Drop>(
 {
     let mut digits = Vec::new(alloc);
     for answer in walk {
-        digits
-            .push(digit(&answer?.id))
-            .map_err(AllocError::from)?;
+        digits.push(digit(&answer?.id)).map_err(AllocError::from)?;
     }
     Ok(digits)
 }
