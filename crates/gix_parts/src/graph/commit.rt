@@ -15,7 +15,7 @@ pub struct Commit<'a> {
 }
 
 impl<'a> Commit<'a> {
-    ghost use Rattle.gix_parts.specs.Commit.{rows_of_commit, row_of_commit};
+    ghost use Rattle.gix_parts.specs.GraphCommit.{rows_of_commit, row_of_commit};
 
     /// The commit of a row.
     pub(super) fn new(graph: &'a Graph, position: Position) -> Commit<'a>

@@ -1,0 +1,5 @@
+use Rattle.gix_parts.proofs.ItemLemmas.{faults_end}
+use Rattle.gix_parts.proofs.laws.faults_end.Goals as goal
+
+pub returns : goal.returns
+returns c = faults_end

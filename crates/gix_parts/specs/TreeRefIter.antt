@@ -1,0 +1,32 @@
+-- What a clause reads of a tree's entries as they are lent, and of the iterator over them, without where they lie in memory.
+use Rattle.std.specs.Prelude.{◌≡◌, ℕ, ◌-◌, List, length, drop, Result, Ok, Err}
+use Rattle.bstr.specs.BStr.{bstr_bytes}
+use Rattle.gix_parts.specs.declared.hash.Kind.{Kind}
+use Rattle.gix_parts.specs.declared.object.decode.Error.{Error}
+use Rattle.gix_parts.specs.declared.object.tree.EntryRef.{EntryRef}
+use Rattle.gix_parts.specs.declared.object.tree.TreeRefIter.{TreeRefIter}
+use Rattle.gix_parts.specs.TreeItems.{TreeEntry, tree_items}
+
+-- an entry that is lent
+abbrev pub entry_of : EntryRef → TreeEntry
+entry_of e = record { mode = e.mode.value; name = bstr_bytes e.filename; id = e.oid }
+
+abbrev pub item_of : Result EntryRef Error → Result TreeEntry Error
+item_of (Ok e) = Ok (entry_of e)
+item_of (Err why) = Err why
+
+-- the bytes that are not read yet
+abbrev pub bytes_left : TreeRefIter → List ℕ
+bytes_left it = it.rest.now
+
+-- the kind of the ids in the tree
+abbrev pub id_kind : TreeRefIter → Kind
+id_kind it = it.kind
+
+-- what the iterator still gives
+abbrev pub items_left : TreeRefIter → List (Result TreeEntry Error)
+items_left it = tree_items (id_kind it) (bytes_left it)
+
+-- the last bytes of buf are these
+abbrev pub IsEndOf : List ℕ → List ℕ → Type 0
+IsEndOf bytes buf = drop (length buf - length bytes) buf ≡ bytes

@@ -1,0 +1,259 @@
+//! The items of a commit: its tree, its parents, its author and committer, and the rest of its bytes.
+ghost use Rattle.std.specs.Prelude.{◌≡◌, codes, drop, min, None};
+ghost use Rattle.std.specs.Option.{option_map, option_copied};
+ghost use Rattle.std.specs.Iterator.{YieldsFirstBy, item_count};
+ghost use Rattle.gix_parts.specs.CommitItems.{AtTree, after_word, line_at, id_line_at, text_line_at, tree_front, author_front, committer_front, parent_front, front, commit_items};
+ghost use Rattle.gix_parts.specs.CommitText.{behind_last, without_spaces, digits_from, signed_seconds, seconds_of};
+ghost use Rattle.gix_parts.specs.CommitRefIter.{place_of, commit_items_left, front_of, next_front, item_shown, first_tree, first_committer, signature_shown};
+
+use crate::hash::{Kind, ObjectId};
+use crate::object::decode::Error;
+use memchr::{memchr, memrchr};
+
+/// Who made a change and when.
+#[derive(Clone, Copy, PartialEq, Eq, Debug)]
+pub struct Signature<'a> {
+    /// What stands between the header's name and the newline, as a name, an address in angle brackets, seconds and an offset.
+    /// It may be any bytes.
+    pub bytes: &'a [u8],
+}
+
+impl Signature<'_> {
+    /// The seconds since 1970: behind the last `>` spaces, an optional `-` and decimal digits.
+    /// 0 where there is no `>`, no digit behind it, or a number out of the range of 64 bits.
+    pub fn seconds(&self) -> i64
+        ensures { result ≡ seconds_of self.now.bytes.now }
+    {
+        match behind_last(self.bytes) {
+            Some(rest) => signed_seconds(without_spaces(rest)),
+            None => 0,
+        }
+    }
+}
+
+// What stands behind the last `>`.
+fn behind_last(bytes: &[u8]) -> Option<&[u8]>
+    ensures { option_copied result ≡ behind_last None bytes.now }
+{
+    let end = memrchr(b'>', bytes)?;
+    Some(&bytes[end + 1..])
+}
+
+// Without the spaces at the front.
+fn without_spaces(mut bytes: &[u8]) -> &[u8]
+    ensures { result.now ≡ without_spaces bytes.entry.now }
+{
+    while let [b' ', rest @ ..] = bytes {
+        bytes = rest;
+    }
+    bytes
+}
+
+// The number that the digits at the front say, capped at the greatest of 64 bits.
+fn number_at(bytes: &[u8]) -> u64
+    ensures { result ≡ min (digits_from 0 bytes.now) u64.MAX }
+{
+    let mut number = 0u64;
+    for b in bytes {
+        if !b.is_ascii_digit() {
+            return number;
+        }
+        number = number
+            .saturating_mul(10)
+            .saturating_add(u64::from(b - b'0'));
+    }
+    number
+}
+
+// An optional `-` and digits, and 0 where they say a number out of the range of 64 bits.
+fn signed_seconds(bytes: &[u8]) -> i64
+    ensures { result ≡ signed_seconds bytes.now }
+{
+    match bytes {
+        [b'-', digits @ ..] => 0i64.checked_sub_unsigned(number_at(digits)).unwrap_or(0),
+        digits => i64::try_from(number_at(digits)).unwrap_or(0),
+    }
+}
+
+/// One item of a commit. The slices are of the commit's bytes.
+#[derive(Clone, Copy, PartialEq, Eq, Debug)]
+pub enum Token<'a> {
+    /// The id of the commit's tree.
+    Tree { id: ObjectId },
+    /// The id of a parent. There is one token for each parent line, in their order.
+    Parent { id: ObjectId },
+    /// The author, without the header's name and the newline.
+    Author { line: &'a [u8] },
+    /// The committer, without the header's name and the newline.
+    Committer { signature: Signature<'a> },
+    /// All that follows the committer's line: further headers, an empty line, the message.
+    Rest { bytes: &'a [u8] },
+}
+
+// Which item may come next.
+#[derive(Clone, Copy, PartialEq, Eq, Debug)]
+enum Place {
+    Tree,
+    Parents,
+    Committer,
+    Rest,
+    End,
+}
+
+/// The items of a commit's bytes, read one at a time and no further than asked: the tree, the parents, the author, the committer
+/// and the rest, in this order. Bytes that end where an item may begin have no further item. A fault is given once, and then
+/// nothing. No call takes memory.
+#[derive(Clone, Copy, Debug)]
+pub struct CommitRefIter<'a> {
+    bytes: &'a [u8],
+    kind: Kind,
+    place: Place,
+}
+
+// A token, and the place and the bytes behind it.
+type Step<'a> = Result<(Token<'a>, Place, &'a [u8]), Error>;
+
+// What follows a word at the front of the bytes.
+fn after_word<'a>(bytes: &'a [u8], word: &[u8]) -> Option<&'a [u8]>
+    ensures { option_copied result ≡ after_word word.now bytes.now }
+{
+    bytes.strip_prefix(word)
+}
+
+// What stands before the first newline, and behind it.
+fn line_at(bytes: &[u8]) -> Option<(&[u8], &[u8])>
+    ensures { option_map (λ r. (r.0.now, r.1.now)) result ≡ line_at bytes.now }
+{
+    let end = memchr(b'\n', bytes)?;
+    Some((&bytes[..end], &bytes[end + 1..]))
+}
+
+// An id in hex digits and a newline: the id, and what stands behind it.
+fn id_line_at(bytes: &[u8], kind: Kind) -> Option<(ObjectId, &[u8])>
+    ensures { option_map (λ r. (r.0, r.1.now)) result ≡ id_line_at kind (Some bytes.now) }
+{
+    let (digits, rest) = bytes.split_at_checked(kind.len_in_hex())?;
+    let id = ObjectId::from_hex(digits).ok()?;
+    let rest = rest.strip_prefix(b"\n")?;
+    Some((id, rest))
+}
+
+// The token at the tree's place.
+fn tree_at(bytes: &[u8], kind: Kind) -> Step<'_>
+    ensures { front_of result ≡ tree_front (id_line_at kind (after_word (codes "tree ") bytes.now)) }
+{
+    let (id, rest) = after_word(bytes, b"tree ")
+        .and_then(|digits| id_line_at(digits, kind))
+        .ok_or(Error::Tree)?;
+    Ok((Token::Tree { id }, Place::Parents, rest))
+}
+
+// The token behind a tree or a parent.
+fn parent_or_author_at(bytes: &[u8], kind: Kind) -> Step<'_>
+    ensures { front_of result ≡ parent_front kind bytes.now (after_word (codes "parent ") bytes.now) (id_line_at kind (after_word (codes "parent ") bytes.now)) }
+{
+    if let Some(digits) = after_word(bytes, b"parent ") {
+        let (id, rest) = id_line_at(digits, kind).ok_or(Error::Parent)?;
+        return Ok((Token::Parent { id }, Place::Parents, rest));
+    }
+    let (line, rest) = after_word(bytes, b"author ")
+        .and_then(line_at)
+        .ok_or(Error::Author)?;
+    Ok((Token::Author { line }, Place::Committer, rest))
+}
+
+// The token behind an author.
+fn committer_at(bytes: &[u8]) -> Step<'_>
+    ensures { front_of result ≡ committer_front (text_line_at (after_word (codes "committer ") bytes.now)) }
+{
+    let (line, rest) = after_word(bytes, b"committer ")
+        .and_then(line_at)
+        .ok_or(Error::Committer)?;
+    let signature = Signature { bytes: line };
+    Ok((Token::Committer { signature }, Place::Rest, rest))
+}
+
+impl<'a> CommitRefIter<'a> {
+    /// The items of the bytes of a commit, whose ids are of this kind. Any bytes will do: nothing is read yet.
+    #[tactic(auto, unfolding(crate::specs::CommitRefIter::commit_items_left))]
+    pub fn from_bytes(bytes: &'a [u8], kind: Kind) -> Self
+        ensures { commit_items_left result ≡ commit_items kind bytes.now }
+    {
+        CommitRefIter {
+            bytes,
+            kind,
+            place: Place::Tree,
+        }
+    }
+
+    /// Takes the next item: the id where it is the tree, and its fault where it is one.
+    ///
+    /// # Errors
+    /// `Missing` where there is no item left, or another than the tree. The item is taken then too.
+    pub fn tree_id(&mut self) -> Result<ObjectId, Error>
+        ensures value { result ≡ first_tree (commit_items_left self.old) }
+        ensures taken { commit_items_left self.new ≡ drop 1 (commit_items_left self.old) }
+    {
+        match self.next() {
+            Some(Ok(Token::Tree { id })) => Ok(id),
+            Some(Err(fault)) => Err(fault),
+            _ => Err(Error::Missing),
+        }
+    }
+
+    /// The first committer among the items left.
+    ///
+    /// # Errors
+    /// The first fault, where it comes before a committer, and `Missing` where the items end before both.
+    pub fn committer(self) -> Result<Signature<'a>, Error>
+        ensures { signature_shown result ≡ first_committer (commit_items_left self.entry) }
+    {
+        for token in self {
+            if let Token::Committer { signature } = token? {
+                return Ok(signature);
+            }
+        }
+        Err(Error::Missing)
+    }
+
+    // What stands at the front of the bytes left.
+    fn front(&self) -> Option<Step<'a>>
+        ensures { next_front result ≡ front self.now.kind (place_of self.now.place) self.now.bytes.now }
+    {
+        if self.bytes.is_empty() {
+            return None;
+        }
+        match self.place {
+            Place::Tree => Some(tree_at(self.bytes, self.kind)),
+            Place::Parents => Some(parent_or_author_at(self.bytes, self.kind)),
+            Place::Committer => Some(committer_at(self.bytes)),
+            Place::Rest => Some(Ok((Token::Rest { bytes: self.bytes }, Place::End, &[]))),
+            Place::End => None,
+        }
+    }
+}
+
+impl<'a> Iterator for CommitRefIter<'a> {
+    type Item = Result<Token<'a>, Error>;
+
+    ghost next_gives = { YieldsFirstBy item_shown commit_items_left };
+
+    ghost remaining = { item_count commit_items_left };
+
+    fn next(&mut self) -> Option<Result<Token<'a>, Error>> {
+        match self.front()? {
+            Ok((token, place, rest)) => {
+                self.place = place;
+                self.bytes = rest;
+                Some(Ok(token))
+            }
+            Err(fault) => {
+                self.place = Place::End;
+                Some(Err(fault))
+            }
+        }
+    }
+}
+
+#[cfg(test)]
+mod tests;

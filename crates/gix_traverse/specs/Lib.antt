@@ -1,0 +1,9 @@
+pub mod History
+pub mod Reach
+pub mod BreadthOrder
+pub mod TimeOrder
+pub mod Agreeing
+pub mod SimpleWalk
+pub mod SimpleLaws
+pub mod Examples
+pub mod SimpleErrors

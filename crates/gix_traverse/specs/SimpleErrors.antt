@@ -1,0 +1,20 @@
+-- Which fault of a walk a fault of a look-up is.
+use Rattle.gix_parts.specs.declared.object.find.existing_iter.Error.{Error as ExistingError}
+use Rattle.gix_parts.specs.declared.object.find.existing_iter.Error.TheVariants as existing
+use Rattle.gix_traverse.specs.declared.commit.simple.Error.{Error}
+use Rattle.gix_traverse.specs.declared.commit.simple.Error.TheVariants as error
+use Rattle.gix_traverse.specs.declared.commit.simple.Hidden.{Hidden}
+use Rattle.gix_traverse.specs.declared.commit.simple.Hidden.TheVariants as hidden_by
+
+abbrev pub error_of_find : ExistingError → Error
+error_of_find existing.Memory = error.Memory
+error_of_find existing.Store = error.Find existing.Store
+error_of_find (existing.NotFound oid) = error.Find (existing.NotFound oid)
+error_of_find (existing.ObjectKind oid expected actual) = error.Find (existing.ObjectKind oid expected actual)
+
+abbrev pub error_of_hidden : Hidden → Error
+error_of_hidden (hidden_by.Find existing.Memory) = error.Memory
+error_of_hidden (hidden_by.Find existing.Store) = error.HiddenGraph (hidden_by.Find existing.Store)
+error_of_hidden (hidden_by.Find (existing.NotFound oid)) = error.HiddenGraph (hidden_by.Find (existing.NotFound oid))
+error_of_hidden (hidden_by.Find (existing.ObjectKind oid expected actual)) = error.HiddenGraph (hidden_by.Find (existing.ObjectKind oid expected actual))
+error_of_hidden (hidden_by.ObjectDecode e) = error.HiddenGraph (hidden_by.ObjectDecode e)

@@ -1,0 +1,111 @@
+//! Walks of commits.
+ghost use Rattle.std.specs.Prelude.{◌≡◌, Bool, true, IfOk};
+ghost use Rattle.std.specs.Fn.{CalledAt};
+ghost use Rattle.gix_parts.specs.declared.hash.ObjectId.{ObjectId};
+
+pub mod simple;
+
+use gix_parts::hash::ObjectId;
+pub use simple::Simple;
+use smallvec::SmallVec;
+use std::alloc::AllocError;
+
+/// Which parents of a commit are walked.
+#[derive(Clone, Copy, Debug, Default, PartialEq, Eq)]
+pub enum Parents {
+    /// All of them, in their order.
+    #[default]
+    All,
+    /// The first alone.
+    First,
+}
+
+/// The ids of a commit's parents, in their order. A list of at most one takes no memory.
+pub type ParentIds = SmallVec<ObjectId, 1>;
+
+/// A commit, as a walk gives it.
+#[derive(Debug, Drop, PartialEq, Eq, PartialOrd, Ord, Hash)]
+pub struct Info {
+    pub id: ObjectId,
+    /// The parents as the commit names them, repeats kept.
+    pub parent_ids: ParentIds,
+    /// The generation that a commit-graph told, and None where the commit was read from the store.
+    pub generation: Option<u32>,
+    /// The committer's seconds since 1970, in an order by time.
+    pub commit_time: Option<i64>,
+}
+
+impl Info {
+    /// An equal value. More than one parent take memory.
+    pub fn clone(&self) -> Result<Info, AllocError>
+        ensures id { IfOk result (λ info. info.id ≡ self.now.id) }
+        ensures parent_ids { IfOk result (λ info. info.parent_ids.items ≡ self.now.parent_ids.items) }
+        ensures generation { IfOk result (λ info. info.generation ≡ self.now.generation) }
+        ensures commit_time { IfOk result (λ info. info.commit_time ≡ self.now.commit_time) }
+    {
+        let parent_ids = ParentIds::from_slice(
+            *self.parent_ids.allocator(),
+            self.parent_ids.as_slice(),
+        )?;
+        Ok(Info {
+            id: self.id,
+            parent_ids,
+            generation: self.generation,
+            commit_time: self.commit_time,
+        })
+    }
+}
+
+/// Which commits are walked. A commit that is refused is not given, and bars the way to its parents.
+pub trait Predicate {
+    /// Holds of a predicate that may be asked.
+    ghost can_accept: { Self → Type 0 } = { λ _. Unit {0} };
+
+    /// From the first state, it may give this answer on the id and go on to the second.
+    ghost answers: { Self → ObjectId → Bool → Self → Type 0 };
+
+    /// Whether the commit of this id is walked. A walk asks about no id twice.
+    fn accepts(&mut self, id: &ObjectId) -> bool
+        requires { can_accept self.old }
+        ensures answer { answers self.old id.now result self.new }
+        ensures again { can_accept self.new };
+}
+
+/// The predicate of a walk that walks every commit.
+#[derive(Clone, Copy, Debug, Default, PartialEq, Eq)]
+pub struct Unfiltered;
+
+impl Predicate for Unfiltered {
+    ghost answers = { λ old i answer new. (answer ≡ true) × (new ≡ old) };
+
+    fn accepts(&mut self, _id: &ObjectId) -> bool {
+        true
+    }
+}
+
+/// A predicate that asks a closure.
+#[derive(Drop)]
+pub struct Filter<G> {
+    accepts: G,
+}
+
+impl<G: FnMut(&ObjectId) -> bool> Filter<G> {
+    /// A predicate that answers what the closure answers, which may be called on every id.
+    pub fn new(accepts: G) -> Filter<G>
+        requires { G.IsAlwaysCallable accepts }
+        ensures same { result.accepts ≡ accepts }
+        ensures may { G.IsAlwaysCallable result.accepts }
+    {
+        Filter { accepts }
+    }
+}
+
+impl<G: FnMut(&ObjectId) -> bool> Predicate for Filter<G> {
+    ghost can_accept = { λ f. G.IsAlwaysCallable f.accepts };
+
+    ghost answers = { λ old i answer new. CalledAt G.FnMut old.accepts i answer new.accepts };
+
+    fn accepts(&mut self, id: &ObjectId) -> bool {
+        (self.accepts)(id)
+    }
+}

@@ -1,0 +1,75 @@
+//! What the walks keep, as laws over their definitions: functions that do nothing, and whose contracts are proved.
+
+ghost use Rattle.std.specs.Prelude.{◌≡◌, ◌≤◌, ◌≤ℤ◌, ◌↔◌, ℕ, suc, List, [], Bool, true, Some, None, Result, Contains, length, slice_get, filter};
+ghost use Rattle.std.specs.FinSet as set;
+ghost use Rattle.std.specs.List.{AllZip};
+ghost use Rattle.gix_parts.specs.declared.hash.ObjectId.{ObjectId};
+ghost use Rattle.gix_parts.specs.Object.{Objects};
+ghost use Rattle.gix_traverse.specs.declared.commit.Info.{Info};
+ghost use Rattle.gix_traverse.specs.declared.commit.simple.CommitTimeOrder.{CommitTimeOrder};
+ghost use Rattle.gix_traverse.specs.declared.commit.simple.CommitTimeOrder.TheVariants.{NewestFirst};
+ghost use Rattle.gix_traverse.specs.declared.commit.simple.Error.{Error};
+ghost use Rattle.gix_traverse.specs.BreadthOrder.{IsBreadthOrder};
+ghost use Rattle.gix_traverse.specs.TimeOrder.{IsTimeOrder};
+ghost use Rattle.gix_traverse.specs.Reach.{Reaches, Tells};
+ghost use Rattle.gix_traverse.specs.History.{parents_of, time_of};
+ghost use Rattle.gix_traverse.specs.SimpleWalk.{SimpleWalk, May, IsMade, ids_of, time_order, cutoff};
+ghost use Rattle.gix_traverse.specs.SimpleLaws.{IsWholeRun, IsPlainRun, IsPlain, IsGiven, GivesInOrder, AreDistinct, AnswersBy, IsNewWalk, accepted_parents, recent_parents, next_of, starts_of, answers_left, given_ids};
+
+use crate::commit::Predicate;
+use gix_parts::object::find::Find;
+
+/// A walk that was just made: the accepted tips are pending, each at its first place, and nothing else is.
+pub fn simple_is_made<F: Find, P: Predicate>()
+    ensures { (store : F) (predicate : P) (accepts : ObjectId → Bool) (tips : List ObjectId) (walk : SimpleWalk F P) → AnswersBy P.answers predicate accepts → IsMade F.objects F.faulty P.answers store predicate tips walk → IsNewWalk F.objects P.answers store accepts tips walk }
+{}
+
+/// A walk without hidden tips and rows, and with no order by time: each commit is the first new one of those named before.
+pub fn simple_breadth_order<F: Find, P: Predicate>()
+    ensures { (walk : SimpleWalk F P) (accepts : ObjectId → Bool) (list : List (Result Info Error)) → let next = accepted_parents (F.objects walk.store) walk.parents accepts in time_order walk.parents walk.sorting ≡ None → IsPlainRun F.objects F.faulty P.answers walk accepts next list → (ids : List ObjectId) × AllZip (IsPlain (F.objects walk.store) walk.parents None) list ids × IsBreadthOrder next (ids_of walk.pending) ids }
+{}
+
+/// The same in an order by time: each commit is a pending one of best time.
+pub fn simple_time_order<F: Find, P: Predicate>()
+    ensures { (walk : SimpleWalk F P) (accepts : ObjectId → Bool) (order : CommitTimeOrder) (list : List (Result Info Error)) → let next = recent_parents (F.objects walk.store) walk.parents accepts (cutoff walk.parents walk.sorting) in time_order walk.parents walk.sorting ≡ Some order → IsPlainRun F.objects F.faulty P.answers walk accepts next list → (ids : List ObjectId) × AllZip (IsPlain (F.objects walk.store) walk.parents (Some order)) list ids × IsTimeOrder order (time_of (F.objects walk.store)) next (ids_of walk.pending) ids }
+{}
+
+/// Any walk that is drawn to its end, with hidden tips and with rows that agree, gives what it names in the order in force.
+pub fn simple_in_order<F: Find, P: Predicate>()
+    ensures { (walk : SimpleWalk F P) (accepts hidden : ObjectId → Bool) (list : List (Result Info Error)) → IsWholeRun F.objects F.faulty P.answers walk accepts hidden list → GivesInOrder F.objects walk accepts hidden list }
+{}
+
+/// It gives no id twice, and exactly those that are reached.
+pub fn simple_each_once<F: Find, P: Predicate>()
+    ensures { (walk : SimpleWalk F P) (accepts hidden : ObjectId → Bool) (list : List (Result Info Error)) (gives : GivesInOrder F.objects walk accepts hidden list) → AreDistinct gives.ids × ((i : ObjectId) → Contains gives.ids i ↔ Reaches (next_of F.objects walk accepts hidden) (starts_of walk hidden) i) }
+{}
+
+/// With hidden tips it gives the commits of the walk without them that they don't reach.
+pub fn simple_hides<F: Find, P: Predicate>()
+    ensures { (walk : SimpleWalk F P) (accepts hidden shown : ObjectId → Bool) (list longer : List (Result Info Error)) → IsWholeRun F.objects F.faulty P.answers walk accepts hidden list → IsWholeRun F.objects F.faulty P.answers (record walk { hidden_tips = [] }) accepts shown longer → (ids more : List ObjectId) × AllZip (IsGiven (F.objects walk.store) walk.rows walk.parents (time_order walk.parents walk.sorting)) list ids × AllZip (IsGiven (F.objects walk.store) walk.rows walk.parents (time_order walk.parents walk.sorting)) longer more × ((i : ObjectId) → Contains ids i ↔ (Contains more i × (Reaches (parents_of (F.objects walk.store)) walk.hidden_tips i → ⊥))) }
+{}
+
+/// Rows that agree, corrupt ones among them, leave the ids as they are: their list where no order by time is in force, else their set.
+pub fn simple_rows_agree<F: Find, P: Predicate>()
+    ensures { (walk : SimpleWalk F P) (accepts hidden : ObjectId → Bool) (list other : List (Result Info Error)) → IsWholeRun F.objects F.faulty P.answers walk accepts hidden list → IsWholeRun F.objects F.faulty P.answers (record walk { rows = [] }) accepts hidden other → (ids those : List ObjectId) × AllZip (IsGiven (F.objects walk.store) walk.rows walk.parents (time_order walk.parents walk.sorting)) list ids × AllZip (IsGiven (F.objects walk.store) [] walk.parents (time_order walk.parents walk.sorting)) other those × ((i : ObjectId) → Contains ids i ↔ Contains those i) × (time_order walk.parents walk.sorting ≡ None → ids ≡ those) }
+{}
+
+/// Newest first, if no parent is newer than its child, the times never rise.
+pub fn simple_times_fall<F: Find, P: Predicate>()
+    ensures { (walk : SimpleWalk F P) (accepts hidden : ObjectId → Bool) (list : List (Result Info Error)) → time_order walk.parents walk.sorting ≡ Some NewestFirst → ((c i : ObjectId) → Contains (parents_of (F.objects walk.store) c) i → time_of (F.objects walk.store) i ≤ℤ time_of (F.objects walk.store) c) → (gives : GivesInOrder F.objects walk accepts hidden list) (k : ℕ) (a b : ObjectId) → slice_get gives.ids k ≡ Some a → slice_get gives.ids (suc k) ≡ Some b → time_of (F.objects walk.store) b ≤ℤ time_of (F.objects walk.store) a }
+{}
+
+/// No id is given twice, whatever faults come.
+pub fn simple_never_twice<F: Find, P: Predicate>()
+    ensures { (walk : SimpleWalk F P) (list : List (Result Info Error)) → AreDistinct (ids_of walk.pending) → ((i : ObjectId) → Contains (ids_of walk.pending) i → set.contains walk.seen i ≡ true) → May F.objects F.faulty P.answers walk list → AreDistinct (given_ids list) }
+{}
+
+/// Every walk ends: it gives at most an answer for each pending commit, and for each id not seen that rows or stored texts name.
+pub fn simple_ends<F: Find, P: Predicate>()
+    ensures { (walk : SimpleWalk F P) (list : List (Result Info Error)) → May F.objects F.faulty P.answers walk list → length list ≤ answers_left F.objects walk }
+{}
+
+/// There is a test of what ids reach.
+pub fn reach_is_decided()
+    ensures { (objects : Objects) (ids : List ObjectId) → (test : ObjectId → Bool) × Tells test (Reaches (parents_of objects) ids) }
+{}

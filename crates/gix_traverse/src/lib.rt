@@ -1,0 +1,5 @@
+//! Walks of Git's commit history.
+#![tactic(auto)]
+
+pub mod commit;
+pub mod laws;
