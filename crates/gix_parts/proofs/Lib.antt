@@ -19,3 +19,4 @@ pub mod PackedRowTakes
 pub mod PackedRead
 pub mod PackedAt
 pub mod RowSearch
+pub mod HandedRows

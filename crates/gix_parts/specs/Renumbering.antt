@@ -1,0 +1,70 @@
+-- The graph of a list of rows that is handed in: which lists are refused, and that the graph has the same rows by new numbers.
+use Rattle.std.specs.Prelude.{◌≡◌, ℕ, ◌<◌, ◌≤◌, List, length, map, slice_index, slice_get}
+use Rattle.std.specs.Option.{option_map}
+use Rattle.std.specs.List.{AllByRecursion, IsDistinct}
+use Rattle.gix_parts.specs.declared.hash.Kind.{Kind}
+use Rattle.gix_parts.specs.declared.hash.ObjectId.{ObjectId}
+use Rattle.gix_parts.specs.declared.graph.ParentPlace.{ParentPlace}
+use Rattle.gix_parts.specs.declared.graph.ParentPlace.TheVariants.{At, Fault}
+use Rattle.gix_parts.specs.declared.graph.Row.{Row}
+use Rattle.gix_parts.specs.declared.graph.GraphError.{GraphError}
+use Rattle.gix_parts.specs.declared.graph.GraphError.TheVariants as error
+use Rattle.gix_parts.specs.Id.{kind_of, is_same}
+use Rattle.gix_parts.specs.Rows.{GraphRow, row_at}
+use Rattle.gix_parts.specs.Packed.{most, overflow_words, kind_of_rows, ids_of_rows, IsIdOf, IsPlaceAmong}
+
+-- a row without where it lies in memory
+abbrev pub row_seen : Row → GraphRow
+row_seen row = record { id = row.id; tree = row.tree; parents = row.parents.items; generation = row.generation; time = row.time }
+
+abbrev pub rows_seen : List Row → List GraphRow
+rows_seen rows = map row_seen rows
+
+abbrev pub AreFew : List GraphRow → Type 0
+AreFew rows = (length rows ≤ most) × (length (overflow_words rows) ≤ most)
+
+-- all ids and trees are of this kind
+abbrev pub AreOfKind : Kind → List GraphRow → Type 0
+AreOfKind k rows = AllByRecursion (λ row. (kind_of row.id ≡ k) × (kind_of row.tree ≡ k)) rows
+
+abbrev pub AreOfOneKind : List GraphRow → Type 0
+AreOfOneKind rows = AreOfKind (kind_of_rows rows) rows
+
+abbrev pub HaveDistinctIds : List GraphRow → Type 0
+HaveDistinctIds rows = IsDistinct is_same (ids_of_rows rows)
+
+-- each place is the place of a row in the list
+abbrev pub HavePlacesWithin : List GraphRow → Type 0
+HavePlacesWithin rows = AllByRecursion (λ row. AllByRecursion (IsPlaceAmong (length rows)) row.parents) rows
+
+-- what an error says of the rows: the first test in this order that fails, or that memory ran out
+abbrev pub Refuses : List GraphRow → GraphError → Type 0
+Refuses rows error.TooMany = ¬ AreFew rows
+Refuses rows error.MixedKinds = AreFew rows × ¬ AreOfOneKind rows
+Refuses rows error.DuplicateId = AreFew rows × AreOfOneKind rows × ¬ HaveDistinctIds rows
+Refuses rows error.PositionOutOfRange = AreFew rows × AreOfOneKind rows × HaveDistinctIds rows × ¬ HavePlacesWithin rows
+Refuses rows (error.Packed place) = ⊥
+Refuses rows error.Memory = Unit {0}
+
+-- a place, by the new number of the row that it names
+abbrev pub moved : (ℕ → ℕ) → ParentPlace → ParentPlace
+moved number (At place) = At (number place)
+moved number Fault = Fault
+
+abbrev pub renumbered : (ℕ → ℕ) → GraphRow → GraphRow
+renumbered number row = record row { parents = map (moved number) row.parents }
+
+-- the row at each place of the list is the graph's row of that place's number, and all names of rows are by these numbers
+pub record HasSameRows (rows graph : List GraphRow) : Type 0 where
+  pub number : ℕ → ℕ
+  pub count : length graph ≡ length rows
+  pub same : (place : ℕ) → place < length rows → slice_get graph (number place) ≡ option_map (renumbered number) (slice_get rows place)
+
+-- what is so of a row of this kind, whose numbers are of their types' ranges
+pub record IsRowOf (k : Kind) (row : GraphRow) : Type 0 where
+  pub id : IsIdOf k row.id
+  pub tree : IsIdOf k row.tree
+
+-- the rows in another order, by these numbers
+abbrev pub arranged : List GraphRow → List (ObjectId × ℕ) → List ℕ → List GraphRow
+arranged rows order numbers = map (λ entry. renumbered (slice_index numbers) (row_at rows entry.1)) order
