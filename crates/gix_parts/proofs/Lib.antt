@@ -20,3 +20,4 @@ pub mod PackedRead
 pub mod PackedAt
 pub mod RowSearch
 pub mod HandedRows
+pub mod EntryOrder

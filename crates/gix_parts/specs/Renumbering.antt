@@ -1,5 +1,6 @@
 -- The graph of a list of rows that is handed in: which lists are refused, and that the graph has the same rows by new numbers.
-use Rattle.std.specs.Prelude.{◌≡◌, ℕ, ◌<◌, ◌≤◌, List, length, map, slice_index, slice_get}
+use Rattle.std.specs.Prelude.{◌≡◌, ◌≢◌, ℕ, suc, ◌+◌, ◌<◌, ◌≤◌, true, false, List, [], ◌∷◌, length, map, slice_index, slice_index_or, slice_get}
+use Rattle.std.specs.Ordering.{is_lt}
 use Rattle.std.specs.Option.{option_map}
 use Rattle.std.specs.List.{AllByRecursion, IsDistinct}
 use Rattle.gix_parts.specs.declared.hash.Kind.{Kind}
@@ -9,7 +10,7 @@ use Rattle.gix_parts.specs.declared.graph.ParentPlace.TheVariants.{At, Fault}
 use Rattle.gix_parts.specs.declared.graph.Row.{Row}
 use Rattle.gix_parts.specs.declared.graph.GraphError.{GraphError}
 use Rattle.gix_parts.specs.declared.graph.GraphError.TheVariants as error
-use Rattle.gix_parts.specs.Id.{kind_of, is_same}
+use Rattle.gix_parts.specs.Id.{kind_of, id_cmp, is_same}
 use Rattle.gix_parts.specs.Rows.{GraphRow, row_at}
 use Rattle.gix_parts.specs.Packed.{most, overflow_words, kind_of_rows, ids_of_rows, IsIdOf, IsPlaceAmong}
 
@@ -65,6 +66,37 @@ pub record IsRowOf (k : Kind) (row : GraphRow) : Type 0 where
   pub id : IsIdOf k row.id
   pub tree : IsIdOf k row.tree
 
+-- an id and the place of its row
+abbrev pub Entry : Type 0
+Entry = ObjectId × ℕ
+
+-- the entries of rows whose places begin with n
+abbrev pub entries_from : ℕ → List GraphRow → List Entry
+entries_from n [] = []
+entries_from n (row ∷ rows) = (row.id, n) ∷ entries_from (suc n) rows
+
+-- no id is below the one before it
+abbrev pub NeverFall : List Entry → Type 0
+NeverFall order = (k : ℕ) (d : Entry) → k + 1 < length order → is_lt (id_cmp (slice_index_or order (k + 1) d).0 (slice_index_or order k d).0) ≡ false
+
+-- each id is above the one before it
+abbrev pub AlwaysRise : List Entry → Type 0
+AlwaysRise order = (k : ℕ) (d : Entry) → k + 1 < length order → is_lt (id_cmp (slice_index_or order k d).0 (slice_index_or order (k + 1) d).0) ≡ true
+
+-- an id is not above the one before it
+abbrev pub StopsRising : List Entry → Type 0
+StopsRising order = (k : ℕ) × (k + 1 < length order) × ((d : Entry) → is_lt (id_cmp (slice_index_or order k d).0 (slice_index_or order (k + 1) d).0) ≡ false)
+
+-- all places are below a bound, and no two are one
+pub record HasPlaces (bound : ℕ) (order : List Entry) : Type 0 where
+  pub below : (k : ℕ) (d : Entry) → k < length order → (slice_index_or order k d).1 < bound
+  pub apart : (j k : ℕ) (d : Entry) → j < k → k < length order → (slice_index_or order j d).1 ≢ (slice_index_or order k d).1
+
+-- the numbers of the entries, by the entries' places
+pub record AreNumbers (order : List Entry) (numbers : List ℕ) : Type 0 where
+  pub len : length numbers ≡ length order
+  pub number : (k : ℕ) (d : Entry) → k < length order → slice_index numbers (slice_index_or order k d).1 ≡ k
+
 -- the rows in another order, by these numbers
-abbrev pub arranged : List GraphRow → List (ObjectId × ℕ) → List ℕ → List GraphRow
+abbrev pub arranged : List GraphRow → List Entry → List ℕ → List GraphRow
 arranged rows order numbers = map (λ entry. renumbered (slice_index numbers) (row_at rows entry.1)) order
