@@ -2,10 +2,12 @@
 use Rattle.std.proofs.Common.{◌≡◌, ◌≢◌, ℕ, zero, suc, ◌+◌, ◌-◌, ◌*◌, ◌<◌, ◌≤◌, Bool, true, false, List, [], ◌∷◌, ◌++◌, length, map, get_or, set, take, drop, refl, sym, ap, subst, ◌∙◌, arith, inl, inr}
 use Rattle.std.specs.Ordering.{is_lt}
 use Rattle.std.proofs.lemmas.Bool.{cases_lt}
-use Rattle.std.proofs.lemmas.List.{take_more, map_push, get_or_default, get_or-set_same, get_or-set_other, length-set, length-take, length-map}
+use Rattle.std.proofs.lemmas.List.{take_more, map_push, get_or_default, get_or-set_same, get_or-set_other, length-set, length-take, length-map, get_or_past}
+use Rattle.std.proofs.lemmas.Bool.Decides.{eqb_tells}
 use Rattle.gix_parts.specs.declared.graph.Row.{Row}
 use Rattle.gix_parts.specs.Id.{id_cmp}
 use Rattle.gix_parts.specs.Rows.{GraphRow}
+use Rattle.gix_parts.specs.Packed.{most}
 use Rattle.gix_parts.specs.Renumbering.{row_seen, rows_seen, Entry, entries_from, StopsRising, HasPlaces}
 
 entries_from-push : (n : ℕ) (rows : List GraphRow) (row : GraphRow) → entries_from n (rows ++ row ∷ []) ≡ entries_from n rows ++ (row.id, n + length rows) ∷ []
@@ -41,4 +43,14 @@ number_more order numbers j e places lt len told k d below =
         let place : (get_or order k d).1 ≡ (get_or order j e).1 = ap (λ (n : ℕ). (get_or order n d).1) here ∙ ap (λ (x : Entry). x.1) (get_or_default order j d e lt) in
         let within : (get_or order j e).1 < length numbers = omega (arith, places.below j e lt) in
         ap (λ (p : ℕ). get_or (set numbers (get_or order j e).1 j) p 0) place ∙ get_or-set_same numbers (get_or order j e).1 j 0 within ∙ sym here)
+    ]
+
+pub number_small : (numbers : List ℕ) (p n : ℕ) → n ≤ most → ((place : ℕ) → get_or numbers place 0 ≤ most) → (place : ℕ) → get_or (set numbers p n) place 0 ≤ most
+number_small numbers p n few small place =
+    elim (eqb_tells place p) [
+      | inl same ↦ elim (cases_lt p (length numbers)) [
+        | inl lt ↦ rw same.1 (rw (get_or-set_same numbers p n 0 lt) few)
+        | inr le ↦ rw (get_or_past (set numbers p n) place 0 (omega (arith, same.1, length-set numbers p n))) (omega arith)
+      ]
+      | inr other ↦ rw (get_or-set_other numbers p place n 0 other.1) (small place)
     ]

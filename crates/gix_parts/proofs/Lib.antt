@@ -21,3 +21,5 @@ pub mod PackedAt
 pub mod RowSearch
 pub mod HandedRows
 pub mod EntryOrder
+pub mod PackedWriting
+pub mod PackedArranged

@@ -117,7 +117,7 @@ begins_with_row bytes layout rows r kept lt =
     let tail = flat_map (to_be_bytes w32) (overflow_words rows) in
     let body = spelling-has_body rows sound in
     let here : drop (12 + row_len layout.kind * r) bytes ≡ drop (row_len k * r) (rows_bytes 0 rows ++ tail) =
-        ap (λ (x : Kind). drop (12 + row_len x * r) bytes) kept.kind ∙ ap (drop (12 + row_len k * r)) kept.spelled
+        ap (λ (x : Kind). drop (12 + row_len x * r) bytes) kept.head.kind ∙ ap (drop (12 + row_len k * r)) kept.spelled
             ∙ sym (drop-drop (row_len k * r) 12 (spelling rows)) ∙ ap (drop (row_len k * r)) body.body_is in
     let found = rows_found k (length rows) (length (overflow_words rows)) 0 rows r tail sound.few sound.few_words sound.each (omega arith) lt in
     let at_from : found.from - 0 ≡ found.from = omega arith in
@@ -143,7 +143,7 @@ row_within bytes layout rows r kept lt =
     let body = spelling-has_body rows kept.sound in
     let rows_len = length-rows_bytes k (length rows) 0 rows kept.sound.each in
     let within : row_len k * r + row_len k ≤ row_len k * length rows = times_within (row_len k) r (length rows) lt in
-    rw kept.kind (omega (arith, within, ap length kept.spelled, body.len, rows_len))
+    rw kept.head.kind (omega (arith, within, ap length kept.spelled, body.len, rows_len))
 
 pub words_kept : (bytes : List ℕ) (layout : Layout) (rows : List GraphRow) → IsPackedAs bytes layout rows
     → (12 + row_len layout.kind * layout.rows ≤ length bytes) × (words_of (drop (12 + row_len layout.kind * layout.rows) bytes) ≡ overflow_words rows)
@@ -151,7 +151,7 @@ words_kept bytes layout rows kept =
     let k = kind_of_rows rows in
     let body = spelling-has_body rows kept.sound in
     let rows_len = length-rows_bytes k (length rows) 0 rows kept.sound.each in
-    let at : 12 + row_len layout.kind * layout.rows ≡ 12 + length (rows_bytes 0 rows) = (λ i. 12 + row_len (kept.kind i) * kept.count i) ∙ ap (λ (x : ℕ). 12 + x) (sym rows_len) in
+    let at : 12 + row_len layout.kind * layout.rows ≡ 12 + length (rows_bytes 0 rows) = (λ i. 12 + row_len (kept.head.kind i) * kept.head.count i) ∙ ap (λ (x : ℕ). 12 + x) (sym rows_len) in
     let here : drop (12 + row_len layout.kind * layout.rows) bytes ≡ flat_map (to_be_bytes w32) (overflow_words rows) = (λ i. drop (at i) (kept.spelled i)) ∙ body.words_is in
     (omega (arith, at, ap length kept.spelled, body.len), ap words_of here ∙ words_of-bytes (overflow_words rows) (AreWords-overflow_words k (length rows) rows kept.sound.few kept.sound.each))
 

@@ -171,9 +171,7 @@ laid_out_takes bytes layout rows fits laid e =
         few_words = omega (arith, laid.few_words);
       };
       spelled = sym (four name_is n_bytes m_bytes (sym body_is) ∙ head_bytes bytes);
-      kind = sym kind_is;
-      count = sym t.count;
-      words = sym m_is;
+      head = record { kind = sym kind_is; count = sym t.count; words = sym m_is };
     }
   where
     four : {a a' b b' c c' d d' : List ℕ} → a ≡ a' → b ≡ b' → c ≡ c' → d ≡ d' → a ++ (b ++ (c ++ d)) ≡ a' ++ (b' ++ (c' ++ d'))

@@ -28,13 +28,17 @@ abbrev pub faults : {A : Type 0} → Result A Place → Option Place
 faults (Ok x) = None
 faults (Err p) = Some p
 
+-- what the head of the spelling of rows says
+pub record IsHeadOf (layout : Layout) (rows : List GraphRow) : Type 0 where
+  pub kind : layout.kind ≡ kind_of_rows rows
+  pub count : layout.rows ≡ length rows
+  pub words : layout.words ≡ length (overflow_words rows)
+
 -- what a graph keeps: the spelling of its rows, and what the head of it says
 pub record IsPackedAs (bytes : List ℕ) (layout : Layout) (rows : List GraphRow) : Type 0 where
   pub sound : AreGraphRows rows
   pub spelled : bytes ≡ spelling rows
-  pub kind : layout.kind ≡ kind_of_rows rows
-  pub count : layout.rows ≡ length rows
-  pub words : layout.words ≡ length (overflow_words rows)
+  pub head : IsHeadOf layout rows
 
 -- a step of reading that found its fault, or after which reading finds the same
 abbrev pub StepsOver : {A : Type 0} → Result (List GraphRow) Place → (A → Result (List GraphRow) Place) → Result A Place → Type 0

@@ -1,5 +1,6 @@
 -- The graph of a list of rows that is handed in: which lists are refused, and that the graph has the same rows by new numbers.
-use Rattle.std.specs.Prelude.{◌≡◌, ◌≢◌, ℕ, suc, ◌+◌, ◌<◌, ◌≤◌, true, false, List, [], ◌∷◌, length, map, slice_index, slice_index_or, slice_get}
+use Rattle.std.specs.Prelude.{◌≡◌, ◌≢◌, ℕ, suc, ◌+◌, ◌^◌, ◌<◌, ◌≤◌, true, false, List, [], ◌∷◌, length, map, slice_index, slice_index_or, slice_get, FitsSigned}
+use Rattle.std.specs.Int.{w64}
 use Rattle.std.specs.Ordering.{is_lt}
 use Rattle.std.specs.Option.{option_map}
 use Rattle.std.specs.List.{AllByRecursion, IsDistinct}
@@ -96,7 +97,20 @@ pub record HasPlaces (bound : ℕ) (order : List Entry) : Type 0 where
 pub record AreNumbers (order : List Entry) (numbers : List ℕ) : Type 0 where
   pub len : length numbers ≡ length order
   pub number : (k : ℕ) (d : Entry) → k < length order → slice_index numbers (slice_index_or order k d).1 ≡ k
+  pub small : (place : ℕ) → slice_index numbers place ≤ most
 
 -- the rows in another order, by these numbers
 abbrev pub arranged : List GraphRow → List Entry → List ℕ → List GraphRow
 arranged rows order numbers = map (λ entry. renumbered (slice_index numbers) (row_at rows entry.1)) order
+
+-- rows that can be packed in an order, with these numbers
+pub record CanArrange (rows : List GraphRow) (order : List Entry) (numbers : List ℕ) : Type 0 where
+  pub within : HavePlacesWithin rows
+  pub places : HasPlaces (length rows) order
+  pub len : length numbers ≡ length rows
+  pub small : (place : ℕ) → slice_index numbers place ≤ most
+  pub few_words : length (overflow_words (arranged rows order numbers)) ≤ most
+
+-- the numbers of a row's fields are in their types' ranges
+abbrev pub IsInRange : GraphRow → Type 0
+IsInRange row = (row.generation < 2 ^ 32) × FitsSigned w64 row.time

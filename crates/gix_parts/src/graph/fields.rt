@@ -4,6 +4,7 @@ ghost use Rattle.std.specs.Int.{w64, from_be_bytes};
 ghost use Rattle.gix_parts.specs.Id.{id_len};
 ghost use Rattle.gix_parts.specs.PackedReading.{word_at, row_len, id_field, tree_field, first_field, second_field, generation_field, time_field};
 
+use super::check::Layout;
 use crate::hash::{Kind, ObjectId};
 
 /// The number of bytes of a packed row.
@@ -14,6 +15,13 @@ pub(super) fn row_len(kind: Kind) -> usize
         Kind::Sha1 => 60,
         Kind::Sha256 => 84,
     }
+}
+
+/// The number of bytes that a layout asks for, or a few less where that is no `usize`.
+pub(super) fn packed_len(layout: Layout) -> usize {
+    let rows = row_len(layout.kind).saturating_mul(layout.rows as usize);
+    rows.saturating_add(4 * layout.words as usize)
+        .saturating_add(12)
 }
 
 /// What begins with the packed row of a number.
