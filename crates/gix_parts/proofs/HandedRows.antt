@@ -12,8 +12,8 @@ use Rattle.gix_parts.specs.declared.graph.ParentPlace.{ParentPlace}
 use Rattle.gix_parts.specs.declared.graph.Row.{Row}
 use Rattle.gix_parts.specs.Id.{id_len, kind_of, bytes_of}
 use Rattle.gix_parts.specs.Rows.{GraphRow, row_at, no_row}
-use Rattle.gix_parts.specs.Packed.{list_words, overflow_of, overflow_words, AreBytes, IsIdOf, IsPlaceAmong}
-use Rattle.gix_parts.specs.Renumbering.{row_seen, rows_seen, IsRowOf, AreOfKind, HavePlacesWithin}
+use Rattle.gix_parts.specs.Packed.{list_words, overflow_of, overflow_words, kind_of_rows, AreBytes, IsIdOf, IsPlaceAmong}
+use Rattle.gix_parts.specs.Renumbering.{row_seen, rows_seen, IsRowOf, AreOfKind, AreOfOneKind, HavePlacesWithin}
 
 length-list_words : (p : ParentPlace) (ps : List ParentPlace) → length (list_words p ps) ≡ suc (length ps)
 length-list_words p [] = refl
@@ -52,7 +52,7 @@ module _ (P : GraphRow → Type 0) where
   seen_at (row ∷ rows) zero d all lt = all.0
   seen_at (row ∷ rows) (suc k) d all lt = seen_at rows k d all.1 (omega arith)
 
-pub kinds_of_rows : (k : Kind) (rows : List GraphRow) → AllByRecursion (IsRowOf k) rows → AreOfKind k rows
+kinds_of_rows : (k : Kind) (rows : List GraphRow) → AllByRecursion (IsRowOf k) rows → AreOfKind k rows
 kinds_of_rows k [] all = tt
 kinds_of_rows k (row ∷ rows) all = ((all.0.id.kind, all.0.tree.kind), kinds_of_rows k rows all.1)
 
@@ -81,3 +81,6 @@ places_within rows each = all_seen (λ row. AllByRecursion (IsPlaceAmong (length
 
 pub read_places : (rows : List Row) (k : ℕ) (row : Row) → HavePlacesWithin (rows_seen rows) → k < length rows → row ≡ get_or rows k row → AllByRecursion (IsPlaceAmong (length rows)) row.parents.items
 read_places rows k row all lt is = subst (λ (n : ℕ). AllByRecursion (IsPlaceAmong n) row.parents.items) (length-map rows row_seen) (read_row (λ x. AllByRecursion (IsPlaceAmong (length (rows_seen rows))) x.parents) rows k row all lt is)
+
+pub are_of_one_kind : (k : Kind) (rows : List GraphRow) → k ≡ kind_of_rows rows → AllByRecursion (IsRowOf k) rows → AreOfOneKind rows
+are_of_one_kind k rows is all = subst (λ (x : Kind). AreOfKind x rows) is (kinds_of_rows k rows all)

@@ -23,3 +23,4 @@ pub mod HandedRows
 pub mod EntryOrder
 pub mod PackedWriting
 pub mod PackedArranged
+pub mod Arrangement

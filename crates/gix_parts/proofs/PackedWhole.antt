@@ -11,9 +11,11 @@ use Rattle.gix_parts.specs.declared.hash.Kind.TheVariants as kind
 use Rattle.gix_parts.specs.declared.graph.ParentPlace.{ParentPlace}
 use Rattle.gix_parts.specs.declared.graph.Place.{Place}
 use Rattle.gix_parts.specs.declared.graph.Place.TheVariants as place
+use Rattle.gix_parts.specs.declared.graph.check.Layout.{Layout}
 use Rattle.gix_parts.specs.Rows.{GraphRow}
 use Rattle.gix_parts.specs.Packed.{most, flag, list_words, overflow_of, row_bytes, rows_bytes, overflow_words, layout_name, kind_of_rows, spelling, IsPlaceAmong, IsRowAmong, AreGraphRows}
-use Rattle.gix_parts.specs.PackedReading.{word_at, words_of, row_len, kind_named, may_have, is_sized, body_of, rows_at, read_packed}
+use Rattle.gix_parts.specs.PackedReading.{word_at, words_of, row_len, kind_named, may_have, is_sized, body_of, rows_at, read_packed, rows_in}
+use Rattle.gix_parts.specs.PackedLayout.{IsPackedAs}
 use Rattle.gix_parts.proofs.PackedFields.{after_part, part_at, place_word-below, length-row_bytes}
 use Rattle.gix_parts.proofs.PackedAgain.{rows_again, begins_none}
 
@@ -139,3 +141,7 @@ packed_again rows sound =
     read-body k n m (rows_bytes 0 rows) (flat_map (to_be_bytes w32) words) (spelling rows) body sized rows_len
         ∙ ap (rows_at k n m n 0 None (rows_bytes 0 rows ++ flat_map (to_be_bytes w32) words)) (words_of-bytes words (AreWords-overflow_words k n rows sound.few sound.each))
         ∙ rows_again k n m 0 0 None rows (flat_map (to_be_bytes w32) words) sound.few sound.few_words sound.each sound.rising (begins_none rows) (omega arith)
+
+-- what bytes that are kept are read as
+pub kept_rows : (bytes : List ℕ) (layout : Layout) (rows : List GraphRow) → IsPackedAs bytes layout rows → rows_in (read_packed bytes) ≡ rows
+kept_rows bytes layout rows kept = ap (λ (x : List ℕ). rows_in (read_packed x)) kept.spelled ∙ ap rows_in (packed_again rows kept.sound)

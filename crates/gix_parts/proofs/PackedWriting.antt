@@ -32,3 +32,6 @@ module _ (number : ℕ → ℕ) where
   no_list (p ∷ []) h = refl
   no_list (p ∷ q ∷ []) h = refl
   no_list (p ∷ q ∷ r ∷ ps) h = absurd (omega arith)
+
+pub whole_appended : (p q r s name n m rows words : List ℕ) → p ≡ [] → q ≡ p ++ (name ++ (n ++ m)) → r ≡ q ++ rows → s ≡ r ++ words → s ≡ name ++ (n ++ (m ++ (rows ++ words)))
+whole_appended p q r s name n m rows words p_is q_is r_is s_is = rw (s_is, r_is, q_is, p_is) (simp append_assoc)

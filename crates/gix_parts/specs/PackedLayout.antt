@@ -5,6 +5,7 @@ use Rattle.gix_parts.specs.declared.hash.ObjectId.{ObjectId}
 use Rattle.gix_parts.specs.declared.graph.Place.{Place}
 use Rattle.gix_parts.specs.declared.graph.check.Layout.{Layout}
 use Rattle.gix_parts.specs.Rows.{GraphRow, row_at}
+use Rattle.gix_parts.specs.Renumbering.{AreFew, HasSameRows, IsRowOf}
 use Rattle.gix_parts.specs.Parents.{answers_of, answers_of_words}
 use Rattle.gix_parts.specs.Packed.{most, AreGraphRows, IsPlaceAmong, spelling, kind_of_rows, overflow_words}
 use Rattle.gix_parts.specs.PackedReading.{word_at, words_of, row_len, id_field, tree_field, first_field, second_field, generation_field, time_field, kind_named, may_have, rows_at, read_packed}
@@ -34,11 +35,23 @@ pub record IsHeadOf (layout : Layout) (rows : List GraphRow) : Type 0 where
   pub count : layout.rows ≡ length rows
   pub words : layout.words ≡ length (overflow_words rows)
 
+-- rows that are not too many and of one kind, and what the head of their packed bytes says
+pub record HasLayout (rows : List GraphRow) (layout : Layout) : Type 0 where
+  pub few : AreFew rows
+  pub kinds : AllByRecursion (IsRowOf layout.kind) rows
+  pub head : IsHeadOf layout rows
+
 -- what a graph keeps: the spelling of its rows, and what the head of it says
 pub record IsPackedAs (bytes : List ℕ) (layout : Layout) (rows : List GraphRow) : Type 0 where
   pub sound : AreGraphRows rows
   pub spelled : bytes ≡ spelling rows
   pub head : IsHeadOf layout rows
+
+-- the bytes are those of a graph that has the same rows
+pub record PacksSame (rows : List GraphRow) (layout : Layout) (bytes : List ℕ) : Type 0 where
+  pub graph : List GraphRow
+  pub kept : IsPackedAs bytes layout graph
+  pub same : HasSameRows rows graph
 
 -- a step of reading that found its fault, or after which reading finds the same
 abbrev pub StepsOver : {A : Type 0} → Result (List GraphRow) Place → (A → Result (List GraphRow) Place) → Result A Place → Type 0

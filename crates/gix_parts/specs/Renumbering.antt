@@ -39,6 +39,10 @@ HaveDistinctIds rows = IsDistinct is_same (ids_of_rows rows)
 abbrev pub HavePlacesWithin : List GraphRow → Type 0
 HavePlacesWithin rows = AllByRecursion (λ row. AllByRecursion (IsPlaceAmong (length rows)) row.parents) rows
 
+-- rows of which a graph is made
+abbrev pub IsAccepted : List GraphRow → Type 0
+IsAccepted rows = AreFew rows × AreOfOneKind rows × HaveDistinctIds rows × HavePlacesWithin rows
+
 -- what an error says of the rows: the first test in this order that fails, or that memory ran out
 abbrev pub Refuses : List GraphRow → GraphError → Type 0
 Refuses rows error.TooMany = ¬ AreFew rows

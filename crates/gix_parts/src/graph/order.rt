@@ -1,11 +1,14 @@
 //! The order of rows by their ids.
-ghost use Rattle.std.specs.Prelude.{◌≡◌, ◌≤◌, length, MatchBool, IfOk, IsPermutation};
+ghost use Rattle.std.specs.Prelude.{◌≡◌, ◌≤◌, length, MatchBool, MatchResult, IfOk, IsPermutation};
 ghost use Rattle.std.specs.Ordering.{is_lt};
 ghost use Rattle.gix_parts.specs.Id.{id_cmp};
 ghost use Rattle.gix_parts.specs.Packed.{most};
-ghost use Rattle.gix_parts.specs.Renumbering.{rows_seen, entries_from, NeverFall, AlwaysRise, StopsRising, HasPlaces, AreNumbers};
+ghost use Rattle.gix_parts.specs.PackedLayout.{HasLayout};
+ghost use Rattle.gix_parts.specs.Renumbering.{rows_seen, entries_from, IsAccepted, Refuses, NeverFall, AlwaysRise, StopsRising, HasPlaces, AreNumbers};
 
-use super::Row;
+use super::check::Layout;
+use super::rows::have_places_within;
+use super::{GraphError, Row};
 use crate::hash::ObjectId;
 use std::alloc::{AllocError, Global};
 
@@ -39,7 +42,7 @@ fn is_less(a: &ObjectId, b: &ObjectId) -> bool
 }
 
 /// Whether each id is above the one before it.
-pub(super) fn always_rise(order: &[(ObjectId, u32)]) -> bool
+fn always_rise(order: &[(ObjectId, u32)]) -> bool
     ensures { MatchBool result (AlwaysRise order.now) (StopsRising order.now) }
 {
     for i in 1..order.len() {
@@ -61,4 +64,24 @@ pub(super) fn numbers(alloc: Global, order: &[(ObjectId, u32)]) -> Result<Vec<u3
         numbers[entry.1 as usize] = number as u32;
     }
     Ok(numbers)
+}
+
+/// Tests that no id comes twice, and then that all places are in range.
+pub(super) fn test(
+    layout: Layout,
+    rows: &[Row],
+    order: &[(ObjectId, u32)],
+) -> Result<(), GraphError>
+    requires layout { HasLayout (rows_seen rows.now) layout }
+    requires same { IsPermutation (entries_from 0 (rows_seen rows.now)) order.now }
+    requires sorted { NeverFall order.now }
+    ensures { MatchResult result (λ _. AlwaysRise order.now × IsAccepted (rows_seen rows.now)) (Refuses (rows_seen rows.now)) }
+{
+    if !always_rise(order) {
+        return Err(GraphError::DuplicateId);
+    }
+    if !have_places_within(rows) {
+        return Err(GraphError::PositionOutOfRange);
+    }
+    Ok(())
 }

@@ -1,12 +1,13 @@
 //! Rows written as packed bytes.
-ghost use Rattle.std.specs.Prelude.{◌≡◌, ℕ, ◌+◌, ◌≤◌, ◌++◌, length, map, slice_index, OnOk, IfOk};
+ghost use Rattle.std.specs.Prelude.{◌≡◌, ℕ, ◌+◌, ◌≤◌, ◌++◌, length, map, slice_index, OnOk, IfOk, IsPermutation};
 ghost use Rattle.std.specs.Int.{w32, to_be_bytes};
 ghost use Rattle.std.specs.List.{AllByRecursion, flat_map};
 ghost use Rattle.gix_parts.specs.Packed.{most, place_word, first_word, second_word, overflow_of, row_bytes, rows_bytes, overflow_words, layout_name, kind_of_rows, spelling, IsPlaceAmong};
-ghost use Rattle.gix_parts.specs.PackedLayout.{IsHeadOf};
-ghost use Rattle.gix_parts.specs.Renumbering.{row_seen, rows_seen, moved, renumbered, arranged, CanArrange, IsInRange};
+ghost use Rattle.gix_parts.specs.PackedLayout.{IsHeadOf, HasLayout, PacksSame};
+ghost use Rattle.gix_parts.specs.Renumbering.{row_seen, rows_seen, moved, renumbered, arranged, CanArrange, IsInRange, IsAccepted, AlwaysRise, entries_from};
 
 use super::check::{FAULT, FLAG, Layout, NO_PARENT};
+use super::order::numbers;
 use super::rows::overflow_len;
 use super::{ParentPlace, Row, fields};
 use crate::hash::{Kind, ObjectId};
@@ -141,7 +142,7 @@ fn push_head(out: &mut Vec<u8>, kind: Kind, rows: u32, words: u32) -> Result<(),
 }
 
 /// The packed bytes of the rows in this order.
-pub(super) fn pack(
+fn pack(
     alloc: Global,
     layout: Layout,
     rows: &[Row],
@@ -158,4 +159,22 @@ pub(super) fn pack(
     push_rows(&mut out, rows, order, numbers)?;
     push_lists(&mut out, rows, order, numbers)?;
     Ok(out)
+}
+
+/// The packed bytes of rows in the rising order of their ids.
+pub(super) fn pack_rows(
+    alloc: Global,
+    layout: Layout,
+    rows: &[Row],
+    order: &[(ObjectId, u32)],
+) -> Result<Vec<u8>, AllocError>
+    requires layout { HasLayout (rows_seen rows.now) layout }
+    requires accepted { IsAccepted (rows_seen rows.now) }
+    requires same { IsPermutation (entries_from 0 (rows_seen rows.now)) order.now }
+    requires rising { AlwaysRise order.now }
+    ensures { IfOk result (λ bytes. PacksSame (rows_seen rows.now) layout bytes.items) }
+{
+    let numbers = numbers(alloc, order)?;
+    let packed = pack(alloc, layout, rows, order, numbers.as_slice())?;
+    Ok(packed)
 }

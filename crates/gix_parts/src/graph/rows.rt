@@ -1,12 +1,13 @@
 //! The tests of rows that are handed in.
-ghost use Rattle.std.specs.Prelude.{◌≡◌, ◌==◌, ◌+◌, ◌<◌, ◌≤◌, length, map, IsTrue, MatchBool, MatchOption};
+ghost use Rattle.std.specs.Prelude.{◌≡◌, ◌==◌, ◌+◌, ◌<◌, ◌≤◌, length, map, IsTrue, ◌≢◌, MatchBool, MatchOption, MatchResult};
 ghost use Rattle.std.specs.List.{AllByRecursion};
-ghost use Rattle.gix_parts.specs.Packed.{most, overflow_of, overflow_words, AreBytes, IsIdOf, IsPlaceAmong};
+ghost use Rattle.gix_parts.specs.Packed.{most, kind_of_rows, overflow_of, overflow_words, AreBytes, IsIdOf, IsPlaceAmong};
 ghost use Rattle.gix_parts.specs.Id.{id_len, kind_of};
-ghost use Rattle.gix_parts.specs.Renumbering.{row_seen, rows_seen, AreOfKind, IsRowOf, HavePlacesWithin};
+ghost use Rattle.gix_parts.specs.PackedLayout.{HasLayout};
+ghost use Rattle.gix_parts.specs.Renumbering.{Refuses, row_seen, rows_seen, AreOfKind, IsRowOf, HavePlacesWithin};
 
-use super::check::MOST;
-use super::{ParentPlace, Row};
+use super::check::{Layout, MOST};
+use super::{GraphError, ParentPlace, Row};
 use crate::hash::{Kind, ObjectId};
 
 /// How many overflow words a row of these parents has.
@@ -100,4 +101,35 @@ pub(super) fn have_places_within(rows: &[Row]) -> bool
         }
     }
     true
+}
+
+/// The kind of the first row's id.
+fn kind_of_rows(rows: &[Row]) -> Kind
+    ensures { result ≡ kind_of_rows (rows_seen rows.now) }
+{
+    match rows {
+        [] => Kind::Sha1,
+        [row, ..] => row.id.kind(),
+    }
+}
+
+/// What the head of the rows' packed bytes will say, where they are not too many and of one kind.
+pub(super) fn layout_of(rows: &[Row]) -> Result<Layout, GraphError>
+    ensures { MatchResult result (HasLayout (rows_seen rows.now)) (λ error. Refuses (rows_seen rows.now) error × (error ≢ GraphError.Memory)) }
+{
+    if rows.len() > MOST as usize {
+        return Err(GraphError::TooMany);
+    }
+    let Some(words) = count_words(rows) else {
+        return Err(GraphError::TooMany);
+    };
+    let kind = kind_of_rows(rows);
+    if !are_of_kind(rows, kind) {
+        return Err(GraphError::MixedKinds);
+    }
+    Ok(Layout {
+        kind,
+        rows: rows.len() as u32,
+        words,
+    })
 }
