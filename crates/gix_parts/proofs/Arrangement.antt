@@ -61,13 +61,13 @@ entries_name rows k d lt =
 rows_of-entries : (rows : List GraphRow) (number : ℕ → ℕ) → map (λ (entry : Entry). renumbered number (row_at rows entry.1)) (entries_from 0 rows) ≡ map (renumbered number) rows
 rows_of-entries rows number =
     same_lists _ _ (length-map (entries_from 0 rows) (λ (entry : Entry). renumbered number (row_at rows entry.1)) ∙ length-entries_from 0 rows ∙ sym (length-map rows (renumbered number)))
-        (λ k d lt.
-            let within : k < length rows = omega (arith, length-map (entries_from 0 rows) (λ (entry : Entry). renumbered number (row_at rows entry.1)), length-entries_from 0 rows) in
-            let same : 0 + k ≡ k = omega arith in
-            get_or-map (λ (entry : Entry). renumbered number (row_at rows entry.1)) (entries_from 0 rows) k no_entry d (omega (arith, length-entries_from 0 rows))
-                ∙ ap (λ (e : Entry). renumbered number (row_at rows e.1)) (entry_at 0 rows k no_entry within)
-                ∙ ap (λ (n : ℕ). renumbered number (row_at rows n)) same
-                ∙ sym (get_or-map (renumbered number) rows k no_row d within))
+    (λ k d lt.
+    let within : k < length rows = omega (arith, length-map (entries_from 0 rows) (λ (entry : Entry). renumbered number (row_at rows entry.1)), length-entries_from 0 rows) in
+    let same : 0 + k ≡ k = omega arith in
+    get_or-map (λ (entry : Entry). renumbered number (row_at rows entry.1)) (entries_from 0 rows) k no_entry d (omega (arith, length-entries_from 0 rows))
+    ∙ ap (λ (e : Entry). renumbered number (row_at rows e.1)) (entry_at 0 rows k no_entry within)
+    ∙ ap (λ (n : ℕ). renumbered number (row_at rows n)) same
+    ∙ sym (get_or-map (renumbered number) rows k no_row d within))
 
 -- ---- entries in rising order
 
@@ -110,26 +110,26 @@ module _ (rows : List GraphRow) (order : List Entry) (perm : IsPermutation (entr
     pub sorted_order : IsStrictlySortedBy id_cmp (ids_of order)
     sorted_order =
         sorted_from_all_adjacent id_total (ids_of order) no_row.id (λ k lt.
-            let within : k + 1 < length order = omega (arith, length-map order (λ (entry : Entry). entry.0)) in
-            (λ i. id_cmp (get_or-map (λ (entry : Entry). entry.0) order k no_entry no_row.id (omega arith) i) (get_or-map (λ (entry : Entry). entry.0) order (k + 1) no_entry no_row.id within i)) ∙ is_Less _ (rise k no_entry within))
+        let within : k + 1 < length order = omega (arith, length-map order (λ (entry : Entry). entry.0)) in
+        (λ i. id_cmp (get_or-map (λ (entry : Entry). entry.0) order k no_entry no_row.id (omega arith) i) (get_or-map (λ (entry : Entry). entry.0) order (k + 1) no_entry no_row.id within i)) ∙ is_Less _ (rise k no_entry within))
 
     pub distinct_rows : HaveDistinctIds rows
     distinct_rows =
         subst (IsDistinct is_same) (ids_of-entries 0 rows)
-            (IsDistinct-IsPermutation is_same same_back (ids_of order) (ids_of (entries_from 0 rows)) (IsPermutation-sym (ids_of (entries_from 0 rows)) (ids_of order) (IsPermutation-map (λ (entry : Entry). entry.0) (entries_from 0 rows) order perm)) (IsDistinct-from_sorted id_cmp (ids_of order) sorted_order))
+        (IsDistinct-IsPermutation is_same same_back (ids_of order) (ids_of (entries_from 0 rows)) (IsPermutation-sym (ids_of (entries_from 0 rows)) (ids_of order) (IsPermutation-map (λ (entry : Entry). entry.0) (entries_from 0 rows) order perm)) (IsDistinct-from_sorted id_cmp (ids_of order) sorted_order))
 
     pub has_places : HasPlaces (length rows) order
     has_places = record {
       below = λ k d lt. (order_names k d lt).0;
       apart = λ j k d lt within same.
-        let one = (order_names j d (omega arith)).1 ∙ ap (λ (n : ℕ). (row_at rows n).id) same ∙ sym (order_names k d within).1 in
-        let len = length-map order (λ (entry : Entry). entry.0) in
-        let less : id_cmp (get_or (ids_of order) j d.0) (get_or (ids_of order) k d.0) ≡ Less = Less-from_sorted id_cmp (ids_of order) j k d.0 sorted_order lt (omega (arith, len)) in
-        let at_j = get_or-map (λ (entry : Entry). entry.0) order j d d.0 (omega arith) in
-        let at_k = get_or-map (λ (entry : Entry). entry.0) order k d d.0 within in
-        let same_less : id_cmp (get_or order k d).0 (get_or order k d).0 ≡ Less = (λ i. id_cmp ((sym one ∙ sym at_j) i) (sym at_k i)) ∙ less in
-        let tied = tied_itself id_total (get_or order k d).0 in
-        absurd cc;
+          let one = (order_names j d (omega arith)).1 ∙ ap (λ (n : ℕ). (row_at rows n).id) same ∙ sym (order_names k d within).1 in
+          let len = length-map order (λ (entry : Entry). entry.0) in
+          let less : id_cmp (get_or (ids_of order) j d.0) (get_or (ids_of order) k d.0) ≡ Less = Less-from_sorted id_cmp (ids_of order) j k d.0 sorted_order lt (omega (arith, len)) in
+          let at_j = get_or-map (λ (entry : Entry). entry.0) order j d d.0 (omega arith) in
+          let at_k = get_or-map (λ (entry : Entry). entry.0) order k d d.0 within in
+          let same_less : id_cmp (get_or order k d).0 (get_or order k d).0 ≡ Less = (λ i. id_cmp ((sym one ∙ sym at_j) i) (sym at_k i)) ∙ less in
+          let tied = tied_itself id_total (get_or order k d).0 in
+          absurd cc;
     }
 
 -- ---- what new numbers keep
@@ -183,7 +183,7 @@ module _ (rows : List GraphRow) (order : List Entry) (numbers : List ℕ) (perm 
   pub words_of_graph : length (overflow_words graph) ≡ length (overflow_words rows)
   words_of_graph =
       words_as_sum graph ∙ sum_by-IsPermutation (λ (row : GraphRow). length (overflow_of row.parents)) (map (renumbered number) rows) graph graph_permutes
-          ∙ sym (words_as_sum (map (renumbered number) rows)) ∙ words_renumbered number rows
+      ∙ sym (words_as_sum (map (renumbered number) rows)) ∙ words_renumbered number rows
 
   -- the entry of each place
   entry_of : (place : ℕ) → place < length rows → (k : ℕ) × (k < length order) × ((get_or order k no_entry).1 ≡ place)
@@ -209,10 +209,10 @@ module _ (rows : List GraphRow) (order : List Entry) (numbers : List ℕ) (perm 
     number = number;
     count = length-graph;
     same = λ place lt.
-      let e = entry_of place lt in
-      let len = length-map order (arranged_row rows numbers) in
-      let within : e.0 < length graph = omega (arith, e.1, len) in
-      ap (slice_get graph) (number_of place lt) ∙ slice_get-get_or graph e.0 no_row within
+        let e = entry_of place lt in
+        let len = length-map order (arranged_row rows numbers) in
+        let within : e.0 < length graph = omega (arith, e.1, len) in
+        ap (slice_get graph) (number_of place lt) ∙ slice_get-get_or graph e.0 no_row within
         ∙ ap Some (get_or-map (arranged_row rows numbers) order e.0 no_entry no_row e.1 ∙ ap (λ (n : ℕ). renumbered number (row_at rows n)) e.2)
         ∙ sym (ap (option_map (renumbered number)) (slice_get-get_or rows place no_row lt));
   }
@@ -239,20 +239,20 @@ module _ (rows : List GraphRow) (order : List Entry) (numbers : List ℕ) (perm 
         by_names : (entries : List Entry) → All (IsEntryOf rows) entries → ids_of entries ≡ ids_of_rows (arranged rows entries numbers)
         by_names entries names =
             same_lists _ _ (length-map entries (λ (entry : Entry). entry.0) ∙ sym (length-map (arranged rows entries numbers) (λ (row : GraphRow). row.id) ∙ length-map entries (arranged_row rows numbers)))
-                (λ j d lt.
-                    let within : j < length entries = omega (arith, length-map entries (λ (entry : Entry). entry.0)) in
-                    get_or-map (λ (entry : Entry). entry.0) entries j no_entry d within ∙ (names j no_entry within).1
-                        ∙ sym (get_or-map (λ (row : GraphRow). row.id) (arranged rows entries numbers) j no_row d (omega (arith, length-map entries (arranged_row rows numbers))) ∙ ap (λ (row : GraphRow). row.id) (get_or-map (arranged_row rows numbers) entries j no_entry no_row within)))
+            (λ j d lt.
+            let within : j < length entries = omega (arith, length-map entries (λ (entry : Entry). entry.0)) in
+            get_or-map (λ (entry : Entry). entry.0) entries j no_entry d within ∙ (names j no_entry within).1
+            ∙ sym (get_or-map (λ (row : GraphRow). row.id) (arranged rows entries numbers) j no_row d (omega (arith, length-map entries (arranged_row rows numbers))) ∙ ap (λ (row : GraphRow). row.id) (get_or-map (arranged_row rows numbers) entries j no_entry no_row within)))
 
     pub are_graph_rows : AlwaysRise order → HavePlacesWithin rows → length rows ≤ most → length (overflow_words rows) ≤ most → AllByRecursion IsInRange graph → AreGraphRows graph
     are_graph_rows rise within few few_words range =
         let n = length rows in
         let places : AllByRecursion (λ row. AllByRecursion (IsPlaceAmong n) row.parents) graph =
-            all_graph (λ row. AllByRecursion (IsPlaceAmong n) row.parents) (all_weaker (λ row. AllByRecursion (IsPlaceAmong n) row.parents) (λ row. AllByRecursion (IsPlaceAmong n) (map (moved number) row.parents)) rows (λ row all. places_moved n number number_below row.parents all) within) in
+        all_graph (λ row. AllByRecursion (IsPlaceAmong n) row.parents) (all_weaker (λ row. AllByRecursion (IsPlaceAmong n) row.parents) (λ row. AllByRecursion (IsPlaceAmong n) (map (moved number) row.parents)) rows (λ row all. places_moved n number number_below row.parents all) within) in
         let sound : AllByRecursion (IsRowAmong k n) graph =
-            all_both (IsRowOf k) (λ row. AllByRecursion (IsPlaceAmong n) row.parents × IsInRange row) (IsRowAmong k n) graph
-                (λ row kinds others. record { id = kinds.id; tree = kinds.tree; parents = others.0; generation = others.1.0; time = others.1.1 }) kinds_of_graph
-                (all_both (λ row. AllByRecursion (IsPlaceAmong n) row.parents) IsInRange (λ row. AllByRecursion (IsPlaceAmong n) row.parents × IsInRange row) graph (λ row a b. (a, b)) places range) in
+        all_both (IsRowOf k) (λ row. AllByRecursion (IsPlaceAmong n) row.parents × IsInRange row) (IsRowAmong k n) graph
+        (λ row kinds others. record { id = kinds.id; tree = kinds.tree; parents = others.0; generation = others.1.0; time = others.1.1 }) kinds_of_graph
+        (all_both (λ row. AllByRecursion (IsPlaceAmong n) row.parents) IsInRange (λ row. AllByRecursion (IsPlaceAmong n) row.parents × IsInRange row) graph (λ row a b. (a, b)) places range) in
         record {
           each = subst (λ (x : Kind). AllByRecursion (IsRowAmong x (length graph)) graph) (sym kind_of_graph) (subst (λ (x : ℕ). AllByRecursion (IsRowAmong k x) graph) (sym length-graph) sound);
           rising = subst (IsStrictlySortedBy id_cmp) ids_of_graph (sorted_order rows order perm rise);

@@ -38,7 +38,7 @@ words_of_more rows i d lt =
 pub words_of_part : (rows : List Row) (i : ℕ) → length (overflow_words (rows_seen (take i rows))) ≤ length (overflow_words (rows_seen rows))
 words_of_part rows i =
     let whole : overflow_words (rows_seen rows) ≡ overflow_words (rows_seen (take i rows)) ++ overflow_words (rows_seen (drop i rows)) =
-        ap (λ (x : List Row). overflow_words (rows_seen x)) (sym (take-append-drop i rows)) ∙ ap overflow_words (map-append row_seen (take i rows) (drop i rows)) ∙ flat_map-append (λ (x : GraphRow). overflow_of x.parents) (rows_seen (take i rows)) (rows_seen (drop i rows)) in
+    ap (λ (x : List Row). overflow_words (rows_seen x)) (sym (take-append-drop i rows)) ∙ ap overflow_words (map-append row_seen (take i rows) (drop i rows)) ∙ flat_map-append (λ (x : GraphRow). overflow_of x.parents) (rows_seen (take i rows)) (rows_seen (drop i rows)) in
     omega (arith, ap length whole, length-append (overflow_words (rows_seen (take i rows))) (overflow_words (rows_seen (drop i rows))))
 
 -- what holds of each row, by places and by the list

@@ -96,10 +96,10 @@ rows_again k n m w r before (row ∷ rows) more few few_words each rising first 
     let bytes = row_bytes w row ++ rest in
     let above : is_above before (id_field k bytes) ≡ true = ap (is_above before) has.id ∙ first in
     let parents : parents_at n (m - length (overflow_of row.parents ++ words)) (first_field k bytes) (second_field k bytes) (overflow_of row.parents ++ words) ≡ Some (row.parents, words) =
-        parents_read n (overflow_of row.parents ++ words) from has.first has.second (parents_again n w row.parents words few each.0.parents) in
+    parents_read n (overflow_of row.parents ++ words) from has.first has.second (parents_again n w row.parents words few each.0.parents) in
     let fields : row_of_fields k bytes row.parents ≡ row = row_made row has.id has.tree has.generation has.time in
     let others = rows_again k n m next (r + 1) (Some row.id) rows more few few_words each.1 (sorted_tail id_cmp row.id (ids_of_rows rows) rising) (begins row.id rows (sorted_head id_cmp row.id (ids_of_rows rows) rising)) (omega arith) in
     let others_here : rows_at k n m (length rows) (r + 1) (Some (id_field k bytes)) (drop (row_len k) bytes) words ≡ Ok rows =
-        ap (λ (i : ObjectId). rows_at k n m (length rows) (r + 1) (Some i) (drop (row_len k) bytes) words) has.id ∙ ap (λ (b : List ℕ). rows_at k n m (length rows) (r + 1) (Some row.id) b words) has.behind ∙ others in
+    ap (λ (i : ObjectId). rows_at k n m (length rows) (r + 1) (Some i) (drop (row_len k) bytes) words) has.id ∙ ap (λ (b : List ℕ). rows_at k n m (length rows) (r + 1) (Some row.id) b words) has.behind ∙ others in
     ap (λ (b : List ℕ). rows_at k n m (suc (length rows)) r before b (overflow_of row.parents ++ words)) regrouped
-        ∙ row_read k n m (length rows) r before bytes (overflow_of row.parents ++ words) row words rows above parents fields others_here
+    ∙ row_read k n m (length rows) r before bytes (overflow_of row.parents ++ words) row words rows above parents fields others_here

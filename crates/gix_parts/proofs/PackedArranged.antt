@@ -23,7 +23,7 @@ rows_bytes-push w (r ∷ rows) row =
     let next = w + length (overflow_of r.parents) in
     let same : next + length (overflow_words rows) ≡ w + length (overflow_of r.parents ++ overflow_words rows) = omega (arith, length-append (overflow_of r.parents) (overflow_words rows)) in
     ap (λ (x : List ℕ). row_bytes w r ++ x) (rows_bytes-push next rows row ∙ ap (λ (n : ℕ). rows_bytes next rows ++ row_bytes n row) same)
-        ∙ sym (append_assoc (row_bytes w r) (rows_bytes next rows) (row_bytes (w + length (overflow_of r.parents ++ overflow_words rows)) row))
+    ∙ sym (append_assoc (row_bytes w r) (rows_bytes next rows) (row_bytes (w + length (overflow_of r.parents ++ overflow_words rows)) row))
 
 pub overflow_words-push : (rows : List GraphRow) (row : GraphRow) → overflow_words (rows ++ row ∷ []) ≡ overflow_words rows ++ overflow_of row.parents
 overflow_words-push rows row = flat_map-append (λ (x : GraphRow). overflow_of x.parents) rows (row ∷ []) ∙ ap (λ (x : List ℕ). overflow_words rows ++ x) (append-nil (overflow_of row.parents))
@@ -40,7 +40,7 @@ module _ (rows : List Row) (order : List Entry) (numbers : List ℕ) (i : ℕ) (
   pub arranged_more : arranged (rows_seen rows) (take (i + 1) order) numbers ≡ arranged (rows_seen rows) (take i order) numbers ++ renumbered (slice_index numbers) (row_seen row) ∷ []
   arranged_more =
       ap (λ (x : List Entry). arranged (rows_seen rows) x numbers) (take_more order i e lt) ∙ map_push (arranged_row (rows_seen rows) numbers) (take i order) (get_or order i e)
-          ∙ ap (λ (x : GraphRow). arranged (rows_seen rows) (take i order) numbers ++ renumbered (slice_index numbers) x ∷ []) (sym (read_seen rows (get_or order i e).1 row within is))
+      ∙ ap (λ (x : GraphRow). arranged (rows_seen rows) (take i order) numbers ++ renumbered (slice_index numbers) x ∷ []) (sym (read_seen rows (get_or order i e).1 row within is))
 
 length-list_words : (p : ParentPlace) (ps : List ParentPlace) (number : ℕ → ℕ) → length (list_words (moved number p) (map (moved number) ps)) ≡ length (list_words p ps)
 length-list_words p [] number = refl
@@ -59,7 +59,7 @@ words_of_first rows order numbers i =
     let first = arranged rows (take i order) numbers in
     let others = arranged rows (drop i order) numbers in
     let whole : overflow_words (arranged rows order numbers) ≡ overflow_words first ++ overflow_words others =
-        ap (λ (x : List Entry). overflow_words (arranged rows x numbers)) (sym (take-append-drop i order)) ∙ ap overflow_words (map-append (arranged_row rows numbers) (take i order) (drop i order)) ∙ flat_map-append (λ (x : GraphRow). overflow_of x.parents) first others in
+    ap (λ (x : List Entry). overflow_words (arranged rows x numbers)) (sym (take-append-drop i order)) ∙ ap overflow_words (map-append (arranged_row rows numbers) (take i order) (drop i order)) ∙ flat_map-append (λ (x : GraphRow). overflow_of x.parents) first others in
     omega (arith, ap length whole, length-append (overflow_words first) (overflow_words others))
 
 -- what is known of the row of an entry, as it was read
@@ -79,8 +79,8 @@ reads_entry rows order numbers i e row can lt is =
     let first = arranged (rows_seen rows) (take i order) numbers in
     let moved_parents = map (moved (slice_index numbers)) row.parents.items in
     let words : length (overflow_words (arranged (rows_seen rows) (take (i + 1) order) numbers)) ≡ length (overflow_words first) + length (overflow_of row.parents.items) =
-        ap (λ (x : List GraphRow). length (overflow_words x)) more ∙ ap length (overflow_words-push first (renumbered (slice_index numbers) (row_seen row))) ∙ length-append (overflow_words first) (overflow_of moved_parents)
-            ∙ ap (λ (n : ℕ). length (overflow_words first) + n) (length-overflow_of-moved row.parents.items (slice_index numbers)) in
+    ap (λ (x : List GraphRow). length (overflow_words x)) more ∙ ap length (overflow_words-push first (renumbered (slice_index numbers) (row_seen row))) ∙ length-append (overflow_words first) (overflow_of moved_parents)
+    ∙ ap (λ (n : ℕ). length (overflow_words first) + n) (length-overflow_of-moved row.parents.items (slice_index numbers)) in
     record {
       among = subst (λ (n : ℕ). AllByRecursion (IsPlaceAmong n) row.parents.items) len (read_places rows (get_or order i e).1 row can.within within is);
       more = more;

@@ -86,17 +86,17 @@ rows_found k n m w (row ∷ rows) (suc r) tail few few_words each fits lt =
     let words_len = length-append (overflow_of row.parents) (overflow_words rows) in
     let step : row_len k * suc r ≡ row_len k + row_len k * r = grind arith in
     let here : drop (row_len k * suc r) ((row_bytes w row ++ rows_bytes next rows) ++ tail) ≡ drop (row_len k * r) rest =
-        ap (drop (row_len k * suc r)) (append_assoc (row_bytes w row) (rows_bytes next rows) tail)
-            ∙ ap (λ (x : ℕ). drop x (row_bytes w row ++ rest)) step
-            ∙ sym (drop-drop (row_len k * r) (row_len k) (row_bytes w row ++ rest))
-            ∙ ap (drop (row_len k * r)) (drop_at (row_bytes w row) rest (row_len k) (length-row_bytes k n w row each.0)) in
+    ap (drop (row_len k * suc r)) (append_assoc (row_bytes w row) (rows_bytes next rows) tail)
+    ∙ ap (λ (x : ℕ). drop x (row_bytes w row ++ rest)) step
+    ∙ sym (drop-drop (row_len k * r) (row_len k) (row_bytes w row ++ rest))
+    ∙ ap (drop (row_len k * r)) (drop_at (row_bytes w row) rest (row_len k) (length-row_bytes k n w row each.0)) in
     let found = rows_found k n m next rows r tail few few_words each.1 (omega arith) (omega arith) in
     let behind : w ≤ found.from = omega (arith, found.behind) in
     let over : found.from - w ≡ length (overflow_of row.parents) + (found.from - next) = omega (arith, found.behind) in
     let skipped : drop (found.from - w) (overflow_of row.parents ++ overflow_words rows) ≡ drop (found.from - next) (overflow_words rows) =
-        ap (λ (x : ℕ). drop x (overflow_of row.parents ++ overflow_words rows)) over
-            ∙ sym (drop-drop (found.from - next) (length (overflow_of row.parents)) (overflow_of row.parents ++ overflow_words rows))
-            ∙ ap (drop (found.from - next)) (drop_at (overflow_of row.parents) (overflow_words rows) (length (overflow_of row.parents)) refl) in
+    ap (λ (x : ℕ). drop x (overflow_of row.parents ++ overflow_words rows)) over
+    ∙ sym (drop-drop (found.from - next) (length (overflow_of row.parents)) (overflow_of row.parents ++ overflow_words rows))
+    ∙ ap (drop (found.from - next)) (drop_at (overflow_of row.parents) (overflow_words rows) (length (overflow_of row.parents)) refl) in
     rw here (record {
       from = found.from;
       rest = found.rest;
@@ -117,8 +117,8 @@ begins_with_row bytes layout rows r kept lt =
     let tail = flat_map (to_be_bytes w32) (overflow_words rows) in
     let body = spelling-has_body rows sound in
     let here : drop (12 + row_len layout.kind * r) bytes ≡ drop (row_len k * r) (rows_bytes 0 rows ++ tail) =
-        ap (λ (x : Kind). drop (12 + row_len x * r) bytes) kept.head.kind ∙ ap (drop (12 + row_len k * r)) kept.spelled
-            ∙ sym (drop-drop (row_len k * r) 12 (spelling rows)) ∙ ap (drop (row_len k * r)) body.body_is in
+    ap (λ (x : Kind). drop (12 + row_len x * r) bytes) kept.head.kind ∙ ap (drop (12 + row_len k * r)) kept.spelled
+    ∙ sym (drop-drop (row_len k * r) 12 (spelling rows)) ∙ ap (drop (row_len k * r)) body.body_is in
     let found = rows_found k (length rows) (length (overflow_words rows)) 0 rows r tail sound.few sound.few_words sound.each (omega arith) lt in
     let at_from : found.from - 0 ≡ found.from = omega arith in
     let list : drop found.from (overflow_words rows) ≡ overflow_of (row_at rows r).parents ++ found.more = ap (λ (x : ℕ). drop x (overflow_words rows)) (sym at_from) ∙ found.list in

@@ -95,24 +95,24 @@ rows_take k n m w (suc left) r before bytes words rows few long fits from e =
     elim (chosen (is_above before (id_field k bytes)) _ _ (Ok rows) e) [
       | inr h ↦ absurd cc
       | inl h ↦ (
-        let t = row_then_takes k r bytes (parents_at n (m - length words) (first_field k bytes) (second_field k bytes) words) _ rows h.1 in
-        let at_w : m - length words ≡ w = omega arith in
-        let parents_is : parents_at n w (first_field k bytes) (second_field k bytes) words ≡ Some t.read = ap (λ (x : ℕ). parents_at n x (first_field k bytes) (second_field k bytes) words) (sym at_w) ∙ t.parents_is in
-        let parents = parents_take n w (first_field k bytes) (second_field k bytes) words t.read few parents_is in
-        let row = row_of_fields k bytes t.read.0 in
-        let step : row_len k * suc left ≡ row_len k + row_len k * left = grind arith in
-        let here : row_bytes w row ++ drop (row_len k) bytes ≡ bytes = row_takes k n w bytes t.read.0 (omega arith) fits parents.first_is parents.second_is in
-        let words_len : length words ≡ length (overflow_of row.parents) + length t.read.1 = ap length parents.words_is ∙ length-append (overflow_of row.parents) t.read.1 in
-        let others = rows_take k n m (w + length (overflow_of row.parents)) left (r + 1) (Some (id_field k bytes)) (drop (row_len k) bytes) t.read.1 t.others few (omega (arith, length-drop (row_len k) bytes)) (AreBytes-drop (row_len k) bytes fits) (omega arith) t.others_is in
-        subst (TakesRows k n w (suc left) before bytes words) (sym t.rows_is) (record {
-          rest = others.rest;
-          bytes_is = sym here ∙ ap (λ (x : List ℕ). row_bytes w row ++ x) others.bytes_is ∙ sym (append_assoc (row_bytes w row) (rows_bytes (w + length (overflow_of row.parents)) t.others) others.rest);
-          words_is = parents.words_is ∙ ap (λ (x : List ℕ). overflow_of row.parents ++ x) others.words_is;
-          count = ap suc others.count;
-          each = (row_among k n bytes t.read.0 (omega arith) fits parents.among, others.each);
-          first = h.0;
-          rising = rises row t.others others.first others.rising;
-        }))
+          let t = row_then_takes k r bytes (parents_at n (m - length words) (first_field k bytes) (second_field k bytes) words) _ rows h.1 in
+          let at_w : m - length words ≡ w = omega arith in
+          let parents_is : parents_at n w (first_field k bytes) (second_field k bytes) words ≡ Some t.read = ap (λ (x : ℕ). parents_at n x (first_field k bytes) (second_field k bytes) words) (sym at_w) ∙ t.parents_is in
+          let parents = parents_take n w (first_field k bytes) (second_field k bytes) words t.read few parents_is in
+          let row = row_of_fields k bytes t.read.0 in
+          let step : row_len k * suc left ≡ row_len k + row_len k * left = grind arith in
+          let here : row_bytes w row ++ drop (row_len k) bytes ≡ bytes = row_takes k n w bytes t.read.0 (omega arith) fits parents.first_is parents.second_is in
+          let words_len : length words ≡ length (overflow_of row.parents) + length t.read.1 = ap length parents.words_is ∙ length-append (overflow_of row.parents) t.read.1 in
+          let others = rows_take k n m (w + length (overflow_of row.parents)) left (r + 1) (Some (id_field k bytes)) (drop (row_len k) bytes) t.read.1 t.others few (omega (arith, length-drop (row_len k) bytes)) (AreBytes-drop (row_len k) bytes fits) (omega arith) t.others_is in
+          subst (TakesRows k n w (suc left) before bytes words) (sym t.rows_is) (record {
+            rest = others.rest;
+            bytes_is = sym here ∙ ap (λ (x : List ℕ). row_bytes w row ++ x) others.bytes_is ∙ sym (append_assoc (row_bytes w row) (rows_bytes (w + length (overflow_of row.parents)) t.others) others.rest);
+            words_is = parents.words_is ∙ ap (λ (x : List ℕ). overflow_of row.parents ++ x) others.words_is;
+            count = ap suc others.count;
+            each = (row_among k n bytes t.read.0 (omega arith) fits parents.among, others.each);
+            first = h.0;
+            rising = rises row t.others others.first others.rising;
+          }))
     ]
 
 -- ---- the head
@@ -138,8 +138,8 @@ kind_takes k n (row ∷ rows) len may each = each.0.id.kind
 head_bytes : (bytes : List ℕ) → take 4 bytes ++ (take 4 (drop 4 bytes) ++ (take 4 (drop 8 bytes) ++ drop 12 bytes)) ≡ bytes
 head_bytes bytes =
     ap (λ (x : List ℕ). take 4 bytes ++ (take 4 (drop 4 bytes) ++ (take 4 (drop 8 bytes) ++ x))) (sym (drop-drop 4 8 bytes))
-        ∙ ap (λ (x : List ℕ). take 4 bytes ++ (take 4 (drop 4 bytes) ++ x)) (take-append-drop 4 (drop 8 bytes) ∙ sym (drop-drop 4 4 bytes))
-        ∙ ap (λ (x : List ℕ). take 4 bytes ++ x) (take-append-drop 4 (drop 4 bytes)) ∙ take-append-drop 4 bytes
+    ∙ ap (λ (x : List ℕ). take 4 bytes ++ (take 4 (drop 4 bytes) ++ x)) (take-append-drop 4 (drop 8 bytes) ∙ sym (drop-drop 4 4 bytes))
+    ∙ ap (λ (x : List ℕ). take 4 bytes ++ x) (take-append-drop 4 (drop 4 bytes)) ∙ take-append-drop 4 bytes
 
 -- bytes that are laid out and read are kept as what they were read as
 pub laid_out_takes : (bytes : List ℕ) (layout : Layout) (rows : List GraphRow) → AreBytes bytes → IsLaidOut bytes layout → read_packed bytes ≡ Ok rows → IsPackedAs bytes layout rows

@@ -34,7 +34,7 @@ pub six_parts : (len : ℕ) (whole : List ℕ)
     → (take len whole ++ (take len (drop len whole) ++ (take 4 (drop (2 * len) whole) ++ (take 4 (drop (2 * len + 4) whole) ++ (take 4 (drop (2 * len + 8) whole) ++ take 8 (drop (2 * len + 12) whole)))))) ++ drop (2 * len + 20) whole ≡ whole
 six_parts len whole =
     regroup (take len whole) (take len (drop len whole)) (take 4 (drop (2 * len) whole)) (take 4 (drop (2 * len + 4) whole)) (take 4 (drop (2 * len + 8) whole)) (take 8 (drop (2 * len + 12) whole)) (drop (2 * len + 20) whole)
-        ∙ rw (part (2 * len + 12) 8 (2 * len + 20) whole (omega arith), part (2 * len + 8) 4 (2 * len + 12) whole (omega arith), part (2 * len + 4) 4 (2 * len + 8) whole (omega arith), part (2 * len) 4 (2 * len + 4) whole (omega arith), part len len (2 * len) whole (omega arith)) (take-append-drop len whole)
+    ∙ rw (part (2 * len + 12) 8 (2 * len + 20) whole (omega arith), part (2 * len + 8) 4 (2 * len + 12) whole (omega arith), part (2 * len + 4) 4 (2 * len + 8) whole (omega arith), part (2 * len) 4 (2 * len + 4) whole (omega arith), part len len (2 * len) whole (omega arith)) (take-append-drop len whole)
   where
     regroup : (a b c d e f rest : List ℕ) → (a ++ (b ++ (c ++ (d ++ (e ++ f))))) ++ rest ≡ a ++ (b ++ (c ++ (d ++ (e ++ (f ++ rest)))))
     regroup a b c d e f rest = simp append_assoc
@@ -84,10 +84,10 @@ row_takes k n w bytes parents long fits first second =
     let len = id_len k in
     let wide : row_len k ≡ 2 * len + 20 = row_len-is k in
     let parts = six (bytes_of-id_of k (take len bytes)) (bytes_of-id_of k (take len (drop len bytes)))
-        (ap (to_be_bytes w32) (sym first) ∙ word_back (2 * len) bytes (omega arith) fits)
-        (ap (to_be_bytes w32) (sym second) ∙ word_back (2 * len + 4) bytes (omega arith) fits)
-        (word_back (2 * len + 8) bytes (omega arith) fits)
-        (long_back (2 * len + 12) bytes (omega arith) fits) in
+    (ap (to_be_bytes w32) (sym first) ∙ word_back (2 * len) bytes (omega arith) fits)
+    (ap (to_be_bytes w32) (sym second) ∙ word_back (2 * len + 4) bytes (omega arith) fits)
+    (word_back (2 * len + 8) bytes (omega arith) fits)
+    (long_back (2 * len + 12) bytes (omega arith) fits) in
     (λ i. parts i ++ drop (wide i) bytes) ∙ six_parts len bytes
 
 pub row_among : (k : Kind) (n : ℕ) (bytes : List ℕ) (parents : List ParentPlace) → row_len k ≤ length bytes → AreBytes bytes

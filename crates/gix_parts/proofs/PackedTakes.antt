@@ -48,31 +48,31 @@ list_takes n [] read e = absurd cc
 list_takes n (word ∷ words) read e =
     elim (chosen (ltb word flag) (with_place (place_of n word) (list_at n words)) (with_place (place_of n (word - flag)) (Some ([], words))) (Some read) e) [
       | inl h ↦ (
-        let t = with_place_takes (place_of n word) (list_at n words) read h.1 in
-        let here = place_takes n word t.place t.here_is in
-        let l = list_takes n words t.others t.more_is in
-        record {
-          first = t.place;
-          others = l.first ∷ l.others;
-          read_is = ap (λ (x : Places). x.0) t.read_is ∙ ap (λ (ps : List ParentPlace). t.place ∷ ps) l.read_is;
-          words_is = ap (λ (ws : List ℕ). word ∷ ws) l.words_is ∙ ap (λ (w : ℕ). w ∷ (list_words l.first l.others ++ t.others.1)) (sym here.0) ∙ ap (λ (x : Places). place_word t.place ∷ (list_words l.first l.others ++ x.1)) (sym t.read_is);
-          first_among = here.1;
-          others_among = (l.first_among, l.others_among);
-        })
+          let t = with_place_takes (place_of n word) (list_at n words) read h.1 in
+          let here = place_takes n word t.place t.here_is in
+          let l = list_takes n words t.others t.more_is in
+          record {
+            first = t.place;
+            others = l.first ∷ l.others;
+            read_is = ap (λ (x : Places). x.0) t.read_is ∙ ap (λ (ps : List ParentPlace). t.place ∷ ps) l.read_is;
+            words_is = ap (λ (ws : List ℕ). word ∷ ws) l.words_is ∙ ap (λ (w : ℕ). w ∷ (list_words l.first l.others ++ t.others.1)) (sym here.0) ∙ ap (λ (x : Places). place_word t.place ∷ (list_words l.first l.others ++ x.1)) (sym t.read_is);
+            first_among = here.1;
+            others_among = (l.first_among, l.others_among);
+          })
       | inr h ↦ (
-        let t = with_place_takes (place_of n (word - flag)) (Some ([], words)) read h.1 in
-        let here = place_takes n (word - flag) t.place t.here_is in
-        let ge : flag ≤ word = ltb-false word flag h.0 in
-        let word_is : word ≡ flag + place_word t.place = omega (arith, here.0) in
-        let none : t.others ≡ ([], words) = cc t.more_is in
-        record {
-          first = t.place;
-          others = [];
-          read_is = ap (λ (x : Places). x.0) t.read_is ∙ ap (λ (x : Places). t.place ∷ x.0) none;
-          words_is = ap (λ (w : ℕ). w ∷ words) word_is ∙ ap (λ (x : Places). (flag + place_word t.place) ∷ x.1) (sym none) ∙ ap (λ (x : Places). (flag + place_word t.place) ∷ x.1) (sym t.read_is);
-          first_among = here.1;
-          others_among = tt;
-        })
+          let t = with_place_takes (place_of n (word - flag)) (Some ([], words)) read h.1 in
+          let here = place_takes n (word - flag) t.place t.here_is in
+          let ge : flag ≤ word = ltb-false word flag h.0 in
+          let word_is : word ≡ flag + place_word t.place = omega (arith, here.0) in
+          let none : t.others ≡ ([], words) = cc t.more_is in
+          record {
+            first = t.place;
+            others = [];
+            read_is = ap (λ (x : Places). x.0) t.read_is ∙ ap (λ (x : Places). t.place ∷ x.0) none;
+            words_is = ap (λ (w : ℕ). w ∷ words) word_is ∙ ap (λ (x : Places). (flag + place_word t.place) ∷ x.1) (sym none) ∙ ap (λ (x : Places). (flag + place_word t.place) ∷ x.1) (sym t.read_is);
+            first_among = here.1;
+            others_among = tt;
+          })
     ]
 
 -- what is left of the places behind the first
@@ -97,6 +97,7 @@ long_list_takes n k (word ∷ words) first read few e =
           words_is = words_is ∙ ap (λ (x : List ParentPlace). overflow_of (first ∷ x) ++ read.1) (sym e);
           among = subst (AllByRecursion (IsPlaceAmong n)) (sym e) (here, all);
         }
+
     by_list : TakesList n (word ∷ words) read → word < flag → TakesSecond n k (flag + k) (word ∷ words) first read
     by_list l lt = go l.first l.others word words read l.read_is l.words_is lt l.first_among l.others_among
 
@@ -104,15 +105,15 @@ second_takes : (n k second : ℕ) (words : List ℕ) (first : ParentPlace) (read
 second_takes n k second words first read few e =
     elim (chosen (eqb second no_parent) (Some ([], words)) (cond (ltb second flag) (with_place (place_of n second) (Some ([], words))) (cond (eqb second (flag + k)) (long_list_at n words) None)) (Some read) e) [
       | inl h ↦ (
-        let same : ([], words) ≡ read = cc h.1 in
-        subst (TakesSecond n k second words first) same (record { second_is = eqb-true second no_parent h.0; words_is = refl; among = tt }))
+          let same : ([], words) ≡ read = cc h.1 in
+          subst (TakesSecond n k second words first) same (record { second_is = eqb-true second no_parent h.0; words_is = refl; among = tt }))
       | inr h ↦ elim (chosen (ltb second flag) (with_place (place_of n second) (Some ([], words))) (cond (eqb second (flag + k)) (long_list_at n words) None) (Some read) h.1) [
         | inl s ↦ (
-          let t = with_place_takes (place_of n second) (Some ([], words)) read s.1 in
-          let here = place_takes n second t.place t.here_is in
-          let none : t.others ≡ ([], words) = cc t.more_is in
-          let same : (t.place ∷ [], words) ≡ read = ap (λ (x : Places). (t.place ∷ x.0, x.1)) (sym none) ∙ sym t.read_is in
-          subst (TakesSecond n k second words first) same (record { second_is = sym here.0; words_is = refl; among = (here.1, tt) }))
+            let t = with_place_takes (place_of n second) (Some ([], words)) read s.1 in
+            let here = place_takes n second t.place t.here_is in
+            let none : t.others ≡ ([], words) = cc t.more_is in
+            let same : (t.place ∷ [], words) ≡ read = ap (λ (x : Places). (t.place ∷ x.0, x.1)) (sym none) ∙ sym t.read_is in
+            subst (TakesSecond n k second words first) same (record { second_is = sym here.0; words_is = refl; among = (here.1, tt) }))
         | inr s ↦ elim (chosen (eqb second (flag + k)) (long_list_at n words) None (Some read) s.1) [
           | inl l ↦ subst (λ (x : ℕ). TakesSecond n k x words first read) (sym (eqb-true second (flag + k) l.0)) (long_list_takes n k words first read few l.1)
           | inr l ↦ absurd cc
@@ -132,13 +133,13 @@ parents_take n k first second words read few e =
     elim (chosen (eqb first no_parent) (cond (eqb second no_parent) (Some ([], words)) None) (with_place (place_of n first) (second_at n k second words)) (Some read) e) [
       | inl h ↦ elim (chosen (eqb second no_parent) (Some ([], words)) None (Some read) h.1) [
         | inl s ↦ (
-          let same : ([], words) ≡ read = cc s.1 in
-          subst (TakesParents n k first second words) same (record { first_is = eqb-true first no_parent h.0; second_is = eqb-true second no_parent s.0; words_is = refl; among = tt }))
+            let same : ([], words) ≡ read = cc s.1 in
+            subst (TakesParents n k first second words) same (record { first_is = eqb-true first no_parent h.0; second_is = eqb-true second no_parent s.0; words_is = refl; among = tt }))
         | inr s ↦ absurd cc
       ]
       | inr h ↦ (
-        let t = with_place_takes (place_of n first) (second_at n k second words) read h.1 in
-        let here = place_takes n first t.place t.here_is in
-        let s = second_takes n k second words t.place t.others few t.more_is in
-        subst (TakesParents n k first second words) (sym t.read_is) (record { first_is = sym here.0; second_is = s.second_is; words_is = s.words_is; among = (here.1, s.among) }))
+          let t = with_place_takes (place_of n first) (second_at n k second words) read h.1 in
+          let here = place_takes n first t.place t.here_is in
+          let s = second_takes n k second words t.place t.others few t.more_is in
+          subst (TakesParents n k first second words) (sym t.read_is) (record { first_is = sym here.0; second_is = s.second_is; words_is = s.words_is; among = (here.1, s.among) }))
     ]

@@ -139,9 +139,13 @@ packed_again rows sound =
     let words_len = length-word_bytes words in
     let sized : is_sized k n m (length (spelling rows)) ≡ true = rw (le-leb n most sound.few, le-leb m most sound.few_words, eq-eqb (length (spelling rows)) (12 + row_len k * n + 4 * m) (omega (arith, body.len)), may_have_rows rows) refl in
     read-body k n m (rows_bytes 0 rows) (flat_map (to_be_bytes w32) words) (spelling rows) body sized rows_len
-        ∙ ap (rows_at k n m n 0 None (rows_bytes 0 rows ++ flat_map (to_be_bytes w32) words)) (words_of-bytes words (AreWords-overflow_words k n rows sound.few sound.each))
-        ∙ rows_again k n m 0 0 None rows (flat_map (to_be_bytes w32) words) sound.few sound.few_words sound.each sound.rising (begins_none rows) (omega arith)
+    ∙ ap (rows_at k n m n 0 None (rows_bytes 0 rows ++ flat_map (to_be_bytes w32) words)) (words_of-bytes words (AreWords-overflow_words k n rows sound.few sound.each))
+    ∙ rows_again k n m 0 0 None rows (flat_map (to_be_bytes w32) words) sound.few sound.few_words sound.each sound.rising (begins_none rows) (omega arith)
 
 -- what bytes that are kept are read as
 pub kept_rows : (bytes : List ℕ) (layout : Layout) (rows : List GraphRow) → IsPackedAs bytes layout rows → rows_in (read_packed bytes) ≡ rows
 kept_rows bytes layout rows kept = ap (λ (x : List ℕ). rows_in (read_packed x)) kept.spelled ∙ ap rows_in (packed_again rows kept.sound)
+
+-- one list of rows for each spelling
+pub packed_once : (rows others : List GraphRow) → AreGraphRows rows → AreGraphRows others → spelling rows ≡ spelling others → rows ≡ others
+packed_once rows others sound others_sound same = ap rows_in (sym (packed_again rows sound) ∙ ap read_packed same ∙ packed_again others others_sound)

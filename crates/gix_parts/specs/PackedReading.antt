@@ -110,8 +110,8 @@ unfoldable pub rows_at : Kind → ℕ → ℕ → ℕ → ℕ → Option ObjectI
 rows_at k n m zero r before bytes words = if length words == 0 then Ok [] else Err place.Overflow
 rows_at k n m (suc left) r before bytes words =
     if is_above before (id_field k bytes) then
-        row_then k r bytes (parents_at n (m - length words) (first_field k bytes) (second_field k bytes) words)
-            (rows_at k n m left (r + 1) (Some (id_field k bytes)) (drop (row_len k) bytes))
+    row_then k r bytes (parents_at n (m - length words) (first_field k bytes) (second_field k bytes) words)
+    (rows_at k n m left (r + 1) (Some (id_field k bytes)) (drop (row_len k) bytes))
     else Err (place.Order r)
 
 -- the layout's kind of ids

@@ -32,7 +32,11 @@ fn after_list(rows: u32, words: &[u8]) -> Option<&[u8]>
     while let [a, b, c, d, rest @ ..] = left {
         let word = u32::from_be_bytes([*a, *b, *c, *d]);
         if word >= FLAG {
-            return if is_place(rows, word - FLAG) { Some(rest) } else { None };
+            return if is_place(rows, word - FLAG) {
+                Some(rest)
+            } else {
+                None
+            };
         }
         if !is_place(rows, word) {
             return None;
@@ -58,7 +62,11 @@ fn after_parents(rows: u32, next: u32, first: u32, second: u32, words: &[u8]) ->
     ensures { option_map (λ rest. words_of rest.now) result ≡ option_map (λ p. p.1) (parents_at rows next first second (words_of words.now)) }
 {
     if first == NO_PARENT {
-        return if second == NO_PARENT { Some(words) } else { None };
+        return if second == NO_PARENT {
+            Some(words)
+        } else {
+            None
+        };
     }
     if !is_place(rows, first) {
         return None;
@@ -66,7 +74,11 @@ fn after_parents(rows: u32, next: u32, first: u32, second: u32, words: &[u8]) ->
     if second == NO_PARENT {
         Some(words)
     } else if second < FLAG {
-        if is_place(rows, second) { Some(words) } else { None }
+        if is_place(rows, second) {
+            Some(words)
+        } else {
+            None
+        }
     } else if second == FLAG + next {
         after_long_list(rows, words)
     } else {
@@ -179,7 +191,9 @@ pub(super) fn check(bytes: &[u8]) -> Result<Layout, Place>
 {
     let layout = layout_of(bytes)?;
     let rows = bytes.split_at(12).1;
-    let words = rows.split_at(fields::row_len(layout.kind) * layout.rows as usize).1;
+    let words = rows
+        .split_at(fields::row_len(layout.kind) * layout.rows as usize)
+        .1;
     check_rows(layout, rows, words)?;
     Ok(layout)
 }

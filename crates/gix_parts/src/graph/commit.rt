@@ -3,7 +3,8 @@ ghost use Rattle.std.specs.Prelude.{◌≡◌, ◌<◌, length, All, IfOk};
 ghost use Rattle.gix_parts.specs.Parents.{answers_of};
 ghost use Rattle.gix_parts.specs.Rows.{row_at};
 
-use super::{Graph, Position, parents::Parents};
+use super::parents::Parents;
+use super::{Graph, Position};
 use crate::hash::ObjectId;
 
 /// A row of a commit-graph.

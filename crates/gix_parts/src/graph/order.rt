@@ -25,7 +25,10 @@ fn entries(alloc: Global, rows: &[Row]) -> Result<Vec<(ObjectId, u32)>, AllocErr
 }
 
 /// The ids of the rows, each with the row's place, in the order of the ids.
-pub(super) fn sorted_entries(alloc: Global, rows: &[Row]) -> Result<Vec<(ObjectId, u32)>, AllocError>
+pub(super) fn sorted_entries(
+    alloc: Global,
+    rows: &[Row],
+) -> Result<Vec<(ObjectId, u32)>, AllocError>
     requires { length rows.now ≤ most }
     ensures same { IfOk result (λ order. IsPermutation (entries_from 0 (rows_seen rows.now)) order.items) }
     ensures sorted { IfOk result (λ order. NeverFall order.items) }

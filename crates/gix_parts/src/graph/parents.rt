@@ -62,8 +62,16 @@ impl<'a> Parents<'a> {
             words_from(words, second - FLAG)
         };
         Parents {
-            first: if first == NO_PARENT { None } else { Some(first) },
-            second: if second < NO_PARENT { Some(second) } else { None },
+            first: if first == NO_PARENT {
+                None
+            } else {
+                Some(first)
+            },
+            second: if second < NO_PARENT {
+                Some(second)
+            } else {
+                None
+            },
             list,
         }
     }

@@ -15,6 +15,6 @@ returns-in-Ok-clause-only c = λ rows sound spelled. ap Ok (ap rows_in (ap read_
 pub returns-in-Err-clause-only : goal.returns-in-Err-clause-only
 returns-in-Err-clause-only c =
     λ rows sound spelled.
-        let read : read_packed c.args.packed.items ≡ Ok rows = ap read_packed spelled ∙ packed_again rows sound in
-        let refused : read_packed c.args.packed.items ≡ Err c.in-Err.place = rw (← c.as_slice.ensures.value) c.in-Err.ensures in
-        absurd cc
+    let read : read_packed c.args.packed.items ≡ Ok rows = ap read_packed spelled ∙ packed_again rows sound in
+    let refused : read_packed c.args.packed.items ≡ Err c.in-Err.place = rw (← c.as_slice.ensures.value) c.in-Err.ensures in
+    absurd cc

@@ -1,5 +1,6 @@
 use Rattle.std.proofs.Common.{List, subst, sym}
 use Rattle.gix_parts.specs.Rows.{GraphRow}
+use Rattle.gix_parts.specs.Packed.{AreGraphRows}
 use Rattle.gix_parts.specs.PackedLayout.{IsPackedAs}
 use Rattle.gix_parts.specs.Renumbering.{rows_seen, HasSameRows}
 use Rattle.gix_parts.proofs.PackedWhole.{kept_rows}
@@ -13,4 +14,4 @@ invariant_of-result c =
 pub returns-clause-rows : goal.returns-clause-rows
 returns-clause-rows c =
     let p = c.in_ok-packed.ensures in
-    subst (HasSameRows (rows_seen c.args.rows.items)) (sym (kept_rows c.in_ok-packed.packed.items c.in_ok-layout.layout p.graph p.kept)) (rw (← c.as_slice-5.ensures.value) p.same)
+    subst (λ (graph : List GraphRow). AreGraphRows graph × HasSameRows (rows_seen c.args.rows.items) graph) (sym (kept_rows c.in_ok-packed.packed.items c.in_ok-layout.layout p.graph p.kept)) (p.kept.sound, rw (← c.as_slice-5.ensures.value) p.same)

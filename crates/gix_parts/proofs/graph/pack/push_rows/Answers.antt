@@ -47,8 +47,8 @@ loop-place-preserved c =
     record {
       next_is = omega (arith, read.words, c.loop-place.invariant.next_is, c.overflow_len.ensures, len);
       written = c.in_ok-push_row.ensures.bytes ∙ ap (λ (x : List ℕ). x ++ row_bytes c.loop-place.next row) c.loop-place.invariant.written
-        ∙ append_assoc c.args.out.now.items (rows_bytes 0 first) (row_bytes c.loop-place.next row)
-        ∙ ap (λ (n : ℕ). c.args.out.now.items ++ (rows_bytes 0 first ++ row_bytes n row)) (sym next_is)
-        ∙ ap (λ (x : List ℕ). c.args.out.now.items ++ x) (sym (rows_bytes-push 0 first row) ∙ ap (rows_bytes 0) (sym read.more));
+          ∙ append_assoc c.args.out.now.items (rows_bytes 0 first) (row_bytes c.loop-place.next row)
+          ∙ ap (λ (n : ℕ). c.args.out.now.items ++ (rows_bytes 0 first ++ row_bytes n row)) (sym next_is)
+          ∙ ap (λ (x : List ℕ). c.args.out.now.items ++ x) (sym (rows_bytes-push 0 first row) ∙ ap (rows_bytes 0) (sym read.more));
       range = subst (AllByRecursion IsInRange) (sym read.more) (All-push IsInRange first row c.loop-place.invariant.range c.in_ok-push_row.ensures.range);
     }
