@@ -10,9 +10,12 @@ use Rattle.gix_parts.specs.declared.object.find.existing_iter.Error.{Error as Ex
 use Rattle.gix_parts.specs.declared.object.find.existing_iter.Error.TheVariants as existing
 use Rattle.gix_parts.specs.declared.object.Kind.TheVariants as kind
 use Rattle.gix_parts.specs.declared.object.commit.CommitRefIter.{CommitRefIter}
+use Rattle.gix_parts.specs.declared.object.tree.TreeRefIter.{TreeRefIter}
 use Rattle.gix_parts.specs.CommitItems.{commit_items}
 use Rattle.gix_parts.specs.CommitRefIter.{commit_items_left}
 use Rattle.gix_parts.specs.Id.{kind_of}
+use Rattle.gix_parts.specs.TreeItems.{tree_items}
+use Rattle.gix_parts.specs.TreeRefIter.{bytes_left, id_kind, items_left}
 use Rattle.gix_parts.specs.Object.{Object, Objects}
 
 -- what a look-up answers and puts into the buffer, where this object or none is there
@@ -46,3 +49,8 @@ FindsKindInto objects faulty i expected (Err e) held = e ≢ existing.Memory →
 abbrev pub FindsCommit : Objects → (ObjectId → Type 0) → ObjectId → Result CommitRefIter ExistingError → Type 0
 FindsCommit objects faulty i (Ok it) = (bytes : List ℕ) × (get objects i ≡ Some (record { kind = kind.Commit; bytes = bytes })) × (commit_items_left it ≡ commit_items (kind_of i) bytes)
 FindsCommit objects faulty i (Err e) = e ≢ existing.Memory → IsExistingFault objects faulty i kind.Commit e
+
+-- what a look-up of a tree answers: its bytes, whose entries are still to come, or why not
+abbrev pub FindsTree : Objects → (ObjectId → Type 0) → ObjectId → Result TreeRefIter ExistingError → Type 0
+FindsTree objects faulty i (Ok it) = (get objects i ≡ Some (record { kind = kind.Tree; bytes = bytes_left it })) × (id_kind it ≡ kind_of i) × (items_left it ≡ tree_items (kind_of i) (bytes_left it))
+FindsTree objects faulty i (Err e) = e ≢ existing.Memory → IsExistingFault objects faulty i kind.Tree e

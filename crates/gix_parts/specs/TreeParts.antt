@@ -1,6 +1,6 @@
 -- What the readers of a tree's parts return, without where it lies in memory.
 use Rattle.std.specs.Prelude.{◌≡◌, ℕ, List, Result, Ok, Err}
-use denote.Ref.{Bor}
+use Rattle.std.specs.Borrow.{Bor}
 use Rattle.gix_parts.specs.declared.hash.Kind.{Kind}
 use Rattle.gix_parts.specs.declared.object.decode.Error.{Error}
 use Rattle.gix_parts.specs.declared.object.tree.EntryRef.{EntryRef}

@@ -1,5 +1,6 @@
 -- What a clause reads of a tree's entries as they are lent, and of the iterator over them, without where they lie in memory.
-use Rattle.std.specs.Prelude.{◌≡◌, ℕ, ◌-◌, List, length, drop, Result, Ok, Err}
+use Rattle.std.specs.Prelude.{◌≡◌, ℕ, ◌-◌, List, [], length, drop, Option, Result, Ok, Err, IfSome, OnErr}
+use Rattle.std.specs.Iterator.{YieldsFirstBy}
 use Rattle.bstr.specs.BStr.{bstr_bytes}
 use Rattle.gix_parts.specs.declared.hash.Kind.{Kind}
 use Rattle.gix_parts.specs.declared.object.decode.Error.{Error}
@@ -30,3 +31,11 @@ items_left it = tree_items (id_kind it) (bytes_left it)
 -- the last bytes of buf are these
 abbrev pub IsEndOf : List ℕ → List ℕ → Type 0
 IsEndOf bytes buf = drop (length buf - length bytes) buf ≡ bytes
+
+-- A call of `next` gave the first of the items that were left, or `None` where none was. What it left are the last bytes
+-- of those before, and none behind a fault, with ids of the same kind.
+pub record ReadsNext (old : TreeRefIter) (result : Option (Result EntryRef Error)) (new : TreeRefIter) : Type 0 where
+  pub item : YieldsFirstBy item_of items_left old result new
+  pub end : IsEndOf (bytes_left new) (bytes_left old)
+  pub kind : id_kind new ≡ id_kind old
+  pub faulty : IfSome result (λ item. OnErr item (bytes_left new ≡ []))

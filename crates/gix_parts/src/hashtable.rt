@@ -1,5 +1,5 @@
 //! Sets and maps of ids. Which container holds them is this module's alone to know.
-ghost use Rattle.std.specs.Prelude.{◌≡◌, ◌↔◌, IsTrue, not, IfOk, OnOk, OnErr, Some};
+ghost use Rattle.std.specs.Prelude.{◌≡◌, ◌↔◌, IsTrue, not, IfOk, OnOk, OnErr, OnSome, IfNone};
 ghost use Rattle.std.specs.Option.{option_copied};
 ghost use Rattle.std.specs.FinSet as set;
 ghost use Rattle.std.specs.FinMap as map;
@@ -8,6 +8,7 @@ use crate::hash::ObjectId;
 use std::alloc::{AllocError, Global};
 use std::collections::{HashMap, HashSet};
 use std::marker::Model;
+use std::mem;
 
 /// A set of ids.
 #[derive(Drop)]
@@ -127,6 +128,21 @@ impl<T> IdMap<T> {
         Ok(self.values.insert(id, value)?)
     }
 
+    /// Gives an id that has a value another, and returns the one that it had. Where the id has none, None, and the map stays.
+    /// No memory is wanted, so counting goes by this.
+    pub fn replace(&mut self, id: &ObjectId, value: T) -> Option<T>
+    where
+        T: Drop,
+        ensures old { result ≡ map.get self.old id.now }
+        ensures some { OnSome result (self.new ≡ map.insert self.old id.now value) }
+        ensures none { IfNone result (self.new ≡ self.old) }
+    {
+        let Some(place) = self.values.get_mut(id) else {
+            return None;
+        };
+        Some(mem::replace(place, value))
+    }
+
     /// Takes the value of an id out.
     pub fn remove(&mut self, id: &ObjectId) -> Option<T>
         ensures value { result ≡ map.get self.old id.now }
@@ -156,5 +172,51 @@ impl<T> IdMap<T> {
         ensures { self.new ≡ map.empty }
     {
         self.values.clear();
+    }
+}
+
+#[cfg(test)]
+mod tests {
+    use super::*;
+    use std::test::Fail;
+
+    const ONE: ObjectId = ObjectId::Sha1([0x11; 20]);
+
+    const LONG: ObjectId = ObjectId::Sha256([0x11; 32]);
+
+    #[test]
+    fn a_set(rt: HostRuntime) -> Result<(), Fail> {
+        let mut ids = IdSet::new(rt.alloc());
+        assert!(rt; ids.is_empty());
+        assert!(rt; ids.insert(ONE)?);
+        assert!(rt; !ids.insert(ONE)?);
+        assert!(rt; ids.insert(LONG)?);
+        assert_eq!(rt; ids.len(), 2);
+        assert!(rt; ids.contains(&LONG));
+        assert!(rt; ids.remove(&LONG));
+        assert!(rt; !ids.remove(&LONG));
+        assert!(rt; !ids.contains(&LONG));
+        ids.clear();
+        assert!(rt; !ids.contains(&ONE));
+        Ok(())
+    }
+
+    #[test]
+    fn a_map(rt: HostRuntime) -> Result<(), Fail> {
+        let mut counts = IdMap::new(rt.alloc());
+        assert!(rt; counts.is_empty());
+        assert_eq!(rt; counts.insert(ONE, 1u32)?, None);
+        assert_eq!(rt; counts.insert(ONE, 2)?, Some(1));
+        assert_eq!(rt; counts.insert(LONG, 7)?, None);
+        assert_eq!(rt; counts.get(&ONE).copied(), Some(2));
+        assert_eq!(rt; counts.replace(&ONE, 3), Some(2));
+        assert_eq!(rt; counts.get(&ONE).copied(), Some(3));
+        assert_eq!(rt; counts.len(), 2);
+        assert_eq!(rt; counts.remove(&ONE), Some(3));
+        assert_eq!(rt; counts.replace(&ONE, 3), None);
+        assert_eq!(rt; counts.get(&ONE).copied(), None);
+        counts.clear();
+        assert_eq!(rt; counts.len(), 0);
+        Ok(())
     }
 }

@@ -16,3 +16,4 @@ pub mod TextFacts
 pub mod TakeFacts
 pub mod NextFacts
 pub mod MadeFacts
+pub mod MadeRunFacts

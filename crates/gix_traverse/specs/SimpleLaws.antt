@@ -1,5 +1,5 @@
 -- What a simple walk gives, over the definitions alone: the words of its laws.
-use Rattle.std.specs.Prelude.{◌≡◌, ◌≢◌, ◌⊎◌, ℕ, ℤ, List, [], ◌∷◌, ◌++◌, filter, Bool, true, false, not, ◌&&◌, ◌||◌, if◌then◌else◌, ◌+◌, map, length, Option, Some, None, Result, Ok, Err, Contains, All}
+use Rattle.std.specs.Prelude.{◌≡◌, ◌≢◌, ◌⊎◌, ◌↔◌, ℕ, ℤ, List, [], ◌∷◌, ◌++◌, filter, Bool, true, false, not, ◌&&◌, ◌||◌, if◌then◌else◌, ◌+◌, map, length, Option, Some, None, Result, Ok, Err, Contains, All}
 use Rattle.std.specs.List.{AllZip, flat_map}
 use Rattle.std.specs.FinMap as map_of
 use Rattle.std.specs.FinSet as set
@@ -155,6 +155,14 @@ pub record IsPlainRun {F P : Type 0} (objects : F → Objects) (faulty : F → O
   pub whole : (i : ObjectId) → Reaches next (ids_of walk.pending) i → ReadsWhole (objects walk.store) (faulty walk.store) i
   pub unrefused : All IsNoRefusal list
   pub drawn : May objects faulty answers walk list
+
+-- the answers are commits read from the store, in breadth order, each once, and exactly those that the starts reach
+pub record GivesBreadthFirst (objects : Objects) (next : ObjectId → List ObjectId) (starts : List ObjectId) (answers : List (Result Info Error)) : Type 0 where
+  pub ids : List ObjectId
+  pub given : AllZip (IsPlain objects mode.All None) answers ids
+  pub in_order : IsBreadthOrder next starts ids
+  pub once : AreDistinct ids
+  pub reached : (i : ObjectId) → Contains ids i ↔ Reaches next starts i
 
 -- the ids of the commits among the answers
 abbrev pub given_ids : List (Result Info Error) → List ObjectId

@@ -1,6 +1,6 @@
 //! What the walks keep, as laws over their definitions: functions that do nothing, and whose contracts are proved.
 
-ghost use Rattle.std.specs.Prelude.{◌≡◌, ◌≤◌, ◌≤ℤ◌, ◌↔◌, ℕ, suc, List, [], Bool, true, Some, None, Result, Contains, length, slice_get, filter};
+ghost use Rattle.std.specs.Prelude.{◌≡◌, ◌≤◌, ◌≤ℤ◌, ◌↔◌, ℕ, suc, List, [], Bool, false, true, Some, None, Result, All, Contains, length, slice_get, filter};
 ghost use Rattle.std.specs.FinSet as set;
 ghost use Rattle.std.specs.List.{AllZip};
 ghost use Rattle.gix_parts.specs.declared.hash.ObjectId.{ObjectId};
@@ -12,16 +12,23 @@ ghost use Rattle.gix_traverse.specs.declared.commit.simple.Error.{Error};
 ghost use Rattle.gix_traverse.specs.BreadthOrder.{IsBreadthOrder};
 ghost use Rattle.gix_traverse.specs.TimeOrder.{IsTimeOrder};
 ghost use Rattle.gix_traverse.specs.Reach.{Reaches, Tells};
-ghost use Rattle.gix_traverse.specs.History.{parents_of, time_of};
+ghost use Rattle.gix_traverse.specs.History.{ReadsWhole, parents_of, time_of};
 ghost use Rattle.gix_traverse.specs.SimpleWalk.{SimpleWalk, May, IsMade, ids_of, time_order, cutoff};
-ghost use Rattle.gix_traverse.specs.SimpleLaws.{IsWholeRun, IsPlainRun, IsPlain, IsGiven, GivesInOrder, AreDistinct, AnswersBy, IsNewWalk, accepted_parents, recent_parents, next_of, starts_of, answers_left, given_ids};
+ghost use Rattle.gix_traverse.specs.SimpleLaws.{IsWholeRun, IsPlainRun, IsPlain, IsGiven, GivesInOrder, AreDistinct, AnswersBy, IsNewWalk, IsNoRefusal, GivesBreadthFirst, new_ids, accepted_parents, recent_parents, next_of, starts_of, answers_left, given_ids};
 
-use crate::commit::Predicate;
+use crate::commit::{Parents, Predicate};
 use gix_parts::object::find::Find;
 
 /// A walk that was just made: the accepted tips are pending, each at its first place, and nothing else is.
 pub fn simple_is_made<F: Find, P: Predicate>()
     ensures { (store : F) (predicate : P) (accepts : ObjectId → Bool) (tips : List ObjectId) (walk : SimpleWalk F P) → AnswersBy P.answers predicate accepts → IsMade F.objects F.faulty P.answers store predicate tips walk → IsNewWalk F.objects P.answers store accepts tips walk }
+{}
+
+/// A walk made of some tips and drawn to its end, where memory and the store don't fail, all that is met reads whole and the
+/// predicate's answer depends on the id alone: it gives exactly the commits that the accepted tips reach through accepted
+/// parents, each once, breadth first.
+pub fn simple_gives_breadth_first<F: Find, P: Predicate>()
+    ensures { (store : F) (predicate : P) (accepts : ObjectId → Bool) (tips : List ObjectId) (walk : SimpleWalk F P) (list : List (Result Info Error)) → let next = accepted_parents (F.objects store) Parents.All accepts in let starts = new_ids (λ i. false) (filter accepts tips) in AnswersBy P.answers predicate accepts → IsMade F.objects F.faulty P.answers store predicate tips walk → ((i : ObjectId) → Reaches next starts i → ReadsWhole (F.objects store) (F.faulty store) i) → All IsNoRefusal list → May F.objects F.faulty P.answers walk list → GivesBreadthFirst (F.objects store) next starts list }
 {}
 
 /// A walk without hidden tips and rows, and with no order by time: each commit is the first new one of those named before.

@@ -1,9 +1,9 @@
 //! The entries of tree objects.
-ghost use Rattle.std.specs.Prelude.{◌≡◌, ◌+◌, ◌<◌, ◌==◌, [], length, drop, position, IfSome, OnErr, ⊤};
+ghost use Rattle.std.specs.Prelude.{◌≡◌, ◌+◌, ◌<◌, ◌==◌, length, drop, position, IfSome};
 ghost use Rattle.std.specs.Option.{option_map};
-ghost use Rattle.std.specs.Iterator.{YieldsFirstBy, MakesProgress, item_count};
+ghost use Rattle.std.specs.Iterator.{item_count};
 ghost use Rattle.gix_parts.specs.TreeItems.{is_tree, parted, mode_of, mode_at, id_at, tree_items};
-ghost use Rattle.gix_parts.specs.TreeRefIter.{bytes_left, id_kind, items_left, item_of, IsEndOf};
+ghost use Rattle.gix_parts.specs.TreeRefIter.{bytes_left, id_kind, items_left, IsEndOf, ReadsNext};
 ghost use Rattle.gix_parts.specs.TreeParts.{IsFront};
 
 use crate::hash::{Kind, ObjectId};
@@ -69,20 +69,14 @@ impl<'a> TreeRefIter<'a> {
 impl<'a> Iterator for TreeRefIter<'a> {
     type Item = Result<EntryRef<'a>, decode::Error>;
 
-    ghost next_gives = { YieldsFirstBy item_of items_left };
+    ghost next_gives = { ReadsNext };
 
     ghost remaining = { item_count items_left };
 
     /// The next entry. At bytes that are no entry the fault of the first part that is missing: `EntryMode` for 1 to 6
     /// octal digits and a space, `EntryName` for a name and a NUL, `EntryId` for the bytes of an id. After a fault
     /// nothing is left.
-    fn next(&mut self) -> Option<Result<EntryRef<'a>, decode::Error>>
-        ensures steps { YieldsFirstBy item_of items_left self.old result self.new }
-        ensures goes { MakesProgress (λ _. ⊤) (item_count items_left) self.old result self.new }
-        ensures end { IsEndOf (bytes_left self.new) (bytes_left self.old) }
-        ensures kind { id_kind self.new ≡ id_kind self.old }
-        ensures faulty { IfSome result (λ item. OnErr item (bytes_left self.new ≡ [])) }
-    {
+    fn next(&mut self) -> Option<Result<EntryRef<'a>, decode::Error>> {
         if self.rest.is_empty() {
             return None;
         }

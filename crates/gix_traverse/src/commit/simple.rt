@@ -2,6 +2,7 @@
 ghost use Rattle.std.specs.Prelude.{◌≡◌, ◌≤◌, false, List, IfOk, IsOk, length};
 ghost use Rattle.std.specs.Iterator.{at_most, IsFinite, Drains};
 ghost use Rattle.gix_parts.specs.declared.hash.ObjectId.{ObjectId};
+ghost use Rattle.gix_parts.specs.CommitItems.{commit_items};
 ghost use Rattle.gix_parts.specs.CommitRefIter.{commit_items_left};
 ghost use Rattle.gix_traverse.specs.SimpleWalk.{scanned, how_ended, failed, IsMade, Treats, TreatsAll, Takes, Next};
 ghost use Rattle.gix_traverse.specs.SimpleLaws.{answers_left};
@@ -226,6 +227,20 @@ impl<F: Find + Drop, P: Predicate + Drop> Simple<F, P> {
             walk.treat(tip)?;
         }
         Ok(walk)
+    }
+
+    /// The text of the commit last given. It is empty before the first commit and after a fault, and stays after the end.
+    pub fn commit_data(&self) -> &[u8]
+        ensures { result.now ≡ self.now.text }
+    {
+        &self.text
+    }
+
+    /// The items of that text.
+    pub fn commit_iter(&self) -> CommitRefIter<'_>
+        ensures { commit_items_left result ≡ commit_items self.now.text_kind self.now.text }
+    {
+        CommitRefIter::from_bytes(self.commit_data(), self.text_kind)
     }
 
     // An id that a tip or a parent list names: where it is new, the predicate is asked, and where that accepts, it is pending.
