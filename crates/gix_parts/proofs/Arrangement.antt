@@ -1,5 +1,5 @@
 -- Rows in the order of their ids, with the numbers that follow from it.
-use Rattle.std.proofs.Common.{◌≡◌, ◌≢◌, ℕ, zero, suc, ◌+◌, ◌-◌, ◌*◌, ◌<◌, ◌≤◌, Bool, true, false, List, [], ◌∷◌, ◌++◌, length, map, get_or, take, drop, Option, Some, None, refl, sym, ap, subst, ◌∙◌, arith, inl, inr, All}
+use Rattle.std.proofs.Common.{◌≡◌, ℕ, zero, suc, ◌+◌, ◌<◌, ◌≤◌, true, false, List, [], ◌∷◌, length, map, get_or, Some, refl, sym, ap, subst, ◌∙◌, arith, All}
 use Rattle.std.specs.Prelude.{slice_index, slice_get, IsPermutation, Contains}
 use Rattle.std.specs.Option.{option_map}
 use Rattle.std.specs.List.{flat_map, AllByRecursion, IsDistinct, sum_by}
@@ -19,7 +19,7 @@ use Rattle.gix_parts.specs.declared.hash.Kind.{Kind}
 use Rattle.gix_parts.specs.declared.hash.ObjectId.{ObjectId}
 use Rattle.gix_parts.specs.declared.graph.ParentPlace.{ParentPlace}
 use Rattle.gix_parts.specs.declared.graph.ParentPlace.TheVariants.{At, Fault}
-use Rattle.gix_parts.specs.Id.{kind_of, id_cmp, is_same}
+use Rattle.gix_parts.specs.Id.{id_cmp, is_same}
 use Rattle.gix_parts.specs.Rows.{GraphRow, no_row, row_at}
 use Rattle.gix_parts.specs.Packed.{most, overflow_of, overflow_words, kind_of_rows, ids_of_rows, IsPlaceAmong, IsRowAmong, AreGraphRows}
 use Rattle.gix_parts.specs.Renumbering.{Entry, entries_from, moved, renumbered, arranged, NeverFall, AlwaysRise, StopsRising, HasPlaces, AreNumbers, CanArrange, HasSameRows, HaveDistinctIds, HavePlacesWithin, IsRowOf, IsInRange}

@@ -1,25 +1,21 @@
 -- What is spelled is read again.
-use Rattle.std.proofs.Common.{◌≡◌, ◌≢◌, ℕ, zero, suc, ◌+◌, ◌-◌, ◌*◌, ◌^◌, ◌<◌, ◌≤◌, Bool, true, false, cond, ltb, leb, eqb, List, [], ◌∷◌, ◌++◌, length, map, take, drop, Option, Some, None, Result, Ok, Err, refl, sym, ap, ◌∙◌, append_assoc, arith, ℤ}
-use Rattle.std.specs.Int.{w32, to_be_bytes, from_be_bytes}
-use Rattle.std.specs.List.{flat_map, AllByRecursion}
+use Rattle.std.proofs.Common.{◌≡◌, ℕ, suc, ◌+◌, ◌-◌, ◌<◌, ◌≤◌, true, List, [], ◌∷◌, ◌++◌, length, drop, Option, Some, None, Ok, refl, ap, ◌∙◌, append_assoc, arith, ℤ}
+use Rattle.std.specs.List.{AllByRecursion}
 use Rattle.std.specs.List.Sorted.{IsStrictlySortedBy}
 use Rattle.std.specs.Ordering.{is_lt}
 use Rattle.std.specs.declared.cmp.Ordering.TheVariants.{Less}
-use Rattle.std.proofs.lemmas.Bool.{lt-ltb, le-ltb, le-leb, eq-eqb, ne_eqb}
-use Rattle.std.proofs.lemmas.List.{take_at, drop_at, length-append, append-nil}
+use Rattle.std.proofs.lemmas.Bool.{lt-ltb, le-ltb, eq-eqb, ne_eqb}
+use Rattle.std.proofs.lemmas.List.{length-append}
 use Rattle.std.proofs.lemmas.Map.Keys.{sorted_head, sorted_tail}
-use Rattle.std.proofs.lemmas.Nat.{from_be_bytes-to_be_bytes_4}
 use Rattle.gix_parts.specs.declared.hash.Kind.{Kind}
-use Rattle.gix_parts.specs.declared.hash.Kind.TheVariants as kind
 use Rattle.gix_parts.specs.declared.hash.ObjectId.{ObjectId}
 use Rattle.gix_parts.specs.declared.graph.ParentPlace.{ParentPlace}
 use Rattle.gix_parts.specs.declared.graph.ParentPlace.TheVariants.{At, Fault}
-use Rattle.gix_parts.specs.declared.graph.Place.{Place}
 use Rattle.gix_parts.specs.Id.{id_cmp}
 use Rattle.gix_parts.specs.Rows.{GraphRow}
-use Rattle.gix_parts.specs.Packed.{most, fault_word, no_parent, flag, place_word, list_words, overflow_of, first_word, second_word, row_bytes, rows_bytes, overflow_words, layout_name, kind_of_rows, spelling, IsPlaceAmong, IsRowAmong, ids_of_rows, AreGraphRows}
-use Rattle.gix_parts.specs.PackedReading.{words_of, row_len, id_field, first_field, second_field, row_of_fields, place_of, Places, with_place, list_at, long_list_at, second_at, parents_at, is_above, rows_at, read_packed}
-use Rattle.gix_parts.proofs.PackedFields.{place_word-below, HasRow, has_row, length-row_bytes}
+use Rattle.gix_parts.specs.Packed.{most, fault_word, no_parent, flag, place_word, list_words, overflow_of, first_word, second_word, row_bytes, rows_bytes, overflow_words, IsPlaceAmong, IsRowAmong, ids_of_rows}
+use Rattle.gix_parts.specs.PackedReading.{row_len, id_field, first_field, second_field, row_of_fields, place_of, Places, list_at, parents_at, is_above, rows_at}
+use Rattle.gix_parts.proofs.PackedFields.{place_word-below, has_row}
 
 place_again : (n : ℕ) (p : ParentPlace) → n ≤ most → IsPlaceAmong n p → place_of n (place_word p) ≡ Some p
 place_again n (At i) few lt = rw (lt-ltb i n lt) refl

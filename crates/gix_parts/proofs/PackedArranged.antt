@@ -1,15 +1,14 @@
 -- Rows in another order, taken one after the other.
-use Rattle.std.proofs.Common.{◌≡◌, ℕ, zero, suc, ◌+◌, ◌-◌, ◌*◌, ◌<◌, ◌≤◌, List, [], ◌∷◌, ◌++◌, length, map, get_or, take, drop, refl, sym, ap, subst, ◌∙◌, append_assoc, arith, inl, inr}
+use Rattle.std.proofs.Common.{◌≡◌, ℕ, suc, ◌+◌, ◌<◌, ◌≤◌, List, [], ◌∷◌, ◌++◌, length, map, get_or, take, drop, refl, sym, ap, subst, ◌∙◌, append_assoc, arith}
 use Rattle.std.specs.Prelude.{slice_index}
-use Rattle.std.specs.Int.{w32, to_be_bytes}
-use Rattle.std.specs.List.{flat_map, AllByRecursion}
+use Rattle.std.specs.List.{AllByRecursion}
 use Rattle.std.proofs.lemmas.List.{append-nil, length-append, length-map, take_more, map_push, map-append, take-append-drop, get_or-map}
 use Rattle.std.proofs.lemmas.List.Concat.{flat_map-append}
 use Rattle.gix_parts.specs.declared.graph.ParentPlace.{ParentPlace}
 use Rattle.gix_parts.specs.declared.graph.Row.{Row}
 use Rattle.gix_parts.specs.Rows.{GraphRow, no_row, row_at}
 use Rattle.gix_parts.specs.Packed.{most, list_words, overflow_of, row_bytes, rows_bytes, overflow_words, IsPlaceAmong}
-use Rattle.gix_parts.specs.Renumbering.{row_seen, rows_seen, Entry, moved, renumbered, arranged, HasPlaces, CanArrange, HavePlacesWithin, IsInRange}
+use Rattle.gix_parts.specs.Renumbering.{row_seen, rows_seen, Entry, moved, renumbered, arranged, CanArrange}
 use Rattle.gix_parts.proofs.HandedRows.{read_places}
 
 -- the row of an entry, by its new number's words

@@ -1,5 +1,5 @@
 -- The row of a number in packed bytes.
-use Rattle.std.proofs.Common.{◌≡◌, ℕ, zero, suc, ◌+◌, ◌-◌, ◌*◌, ◌<◌, ◌≤◌, Bool, true, false, cond, ltb, eqb, List, [], ◌∷◌, ◌++◌, length, map, get_or, take, drop, refl, sym, ap, ◌∙◌, append_assoc, arith, All}
+use Rattle.std.proofs.Common.{◌≡◌, ℕ, zero, suc, ◌+◌, ◌-◌, ◌*◌, ◌<◌, ◌≤◌, List, [], ◌∷◌, ◌++◌, length, drop, refl, sym, ap, ◌∙◌, append_assoc, arith, All}
 use Rattle.std.specs.Prelude.{IfOk}
 use Rattle.std.proofs.lemmas.List.Elements.{All-from_recursion}
 use Rattle.std.specs.Int.{w32, to_be_bytes}
@@ -11,12 +11,12 @@ use Rattle.gix_parts.specs.declared.graph.check.Layout.{Layout}
 use Rattle.gix_parts.specs.declared.graph.ParentPlace.{ParentPlace}
 use Rattle.gix_parts.specs.declared.graph.ParentPlace.TheVariants.{At, Fault}
 use Rattle.gix_parts.specs.Rows.{GraphRow, row_at}
-use Rattle.gix_parts.specs.Packed.{most, fault_word, no_parent, flag, place_word, list_words, overflow_of, first_word, second_word, row_bytes, rows_bytes, overflow_words, kind_of_rows, spelling, IsPlaceAmong, IsRowAmong, AreGraphRows}
+use Rattle.gix_parts.specs.Packed.{most, fault_word, no_parent, flag, place_word, list_words, overflow_of, first_word, second_word, row_bytes, rows_bytes, overflow_words, kind_of_rows, spelling, IsPlaceAmong, IsRowAmong}
 use Rattle.gix_parts.specs.PackedReading.{words_of, row_len, first_field, second_field}
 use Rattle.gix_parts.specs.PackedLayout.{IsPackedAs, BeginsWithRow}
 use Rattle.gix_parts.specs.Parents.{answer_of, answers_of, answer_of_word, answers_of_list, answers_of_words}
 use Rattle.gix_parts.proofs.PackedFields.{place_word-below, HasRow, has_row, length-row_bytes}
-use Rattle.gix_parts.proofs.PackedWhole.{HasBody, spelling-has_body, length-rows_bytes, words_of-bytes, AreWords-overflow_words}
+use Rattle.gix_parts.proofs.PackedWhole.{spelling-has_body, length-rows_bytes, words_of-bytes, AreWords-overflow_words}
 
 -- ---- the answers of a row's words
 

@@ -13,7 +13,7 @@ use Rattle.gix_parts.specs.declared.graph.ParentPlace.{ParentPlace}
 use Rattle.gix_parts.specs.declared.graph.ParentPlace.TheVariants.{At, Fault}
 use Rattle.gix_parts.specs.Id.{id_len, id_of, kind_of, bytes_of}
 use Rattle.gix_parts.specs.Rows.{GraphRow}
-use Rattle.gix_parts.specs.Packed.{most, no_parent, flag, place_word, first_word, second_word, row_bytes, IsPlaceAmong, IsRowAmong}
+use Rattle.gix_parts.specs.Packed.{most, no_parent, place_word, first_word, second_word, row_bytes, IsPlaceAmong, IsRowAmong}
 use Rattle.gix_parts.specs.PackedReading.{row_len, id_field, tree_field, first_field, second_field, generation_field, time_field}
 
 pub after_part : (at next : ℕ) (whole part rest : List ℕ) → drop at whole ≡ part ++ rest → next ≡ at + length part → drop next whole ≡ rest

@@ -1,33 +1,30 @@
 -- What is read is spelled so.
-use Rattle.std.proofs.Common.{◌≡◌, ℕ, zero, suc, ◌+◌, ◌-◌, ◌*◌, ◌^◌, ◌<◌, ◌≤◌, Bool, true, false, cond, ltb, leb, eqb, List, [], ◌∷◌, ◌++◌, length, get_or, take, drop, Option, Some, None, Result, Ok, Err, refl, sym, ap, subst, ◌∙◌, append_assoc, arith, inl, inr}
-use Rattle.std.specs.Prelude.{nat_eq, codes, ◌&&◌}
-use Rattle.std.specs.Int.{w32, to_be_bytes, from_be_bytes}
+use Rattle.std.proofs.Common.{◌≡◌, ℕ, zero, suc, ◌+◌, ◌-◌, ◌*◌, ◌<◌, ◌≤◌, true, cond, eqb, List, [], ◌∷◌, ◌++◌, length, take, drop, Option, Some, None, Result, Ok, Err, refl, sym, ap, subst, ◌∙◌, append_assoc, arith, inl, inr}
+use Rattle.std.specs.Prelude.{nat_eq, codes}
+use Rattle.std.specs.Int.{w32, to_be_bytes}
 use Rattle.std.specs.List.{flat_map, AllByRecursion, starts_with}
 use Rattle.std.specs.List.Sorted.{IsStrictlySortedBy}
 use Rattle.std.specs.Ordering.{is_lt}
 use Rattle.std.specs.declared.cmp.Ordering.{Ordering}
 use Rattle.std.specs.declared.cmp.Ordering.TheVariants.{Less, Equal, Greater}
 use Rattle.std.specs.Cmp.Lexicographic.{same_text}
-use Rattle.std.proofs.lemmas.Bool.{ltb-true, ltb-false, leb-true, eqb-true, and_parts}
-use Rattle.std.proofs.lemmas.List.{drop-drop, drop_at, take-append-drop, length-append, length-drop, nil_from_length}
-use Rattle.std.proofs.lemmas.Nat.{be_bytes_4}
+use Rattle.std.proofs.lemmas.Bool.{ltb-true, eqb-true}
+use Rattle.std.proofs.lemmas.List.{drop-drop, drop_at, take-append-drop, length-append, length-drop}
 use Rattle.gix_parts.specs.declared.hash.Kind.{Kind}
 use Rattle.gix_parts.specs.declared.hash.Kind.TheVariants as kind
 use Rattle.gix_parts.specs.declared.hash.ObjectId.{ObjectId}
-use Rattle.gix_parts.specs.declared.graph.ParentPlace.{ParentPlace}
 use Rattle.gix_parts.specs.declared.graph.Place.{Place}
 use Rattle.gix_parts.specs.declared.graph.Place.TheVariants as place
 use Rattle.gix_parts.specs.declared.graph.check.Layout.{Layout}
-use Rattle.gix_parts.specs.Id.{id_cmp, kind_of}
+use Rattle.gix_parts.specs.Id.{id_cmp}
 use Rattle.gix_parts.specs.Rows.{GraphRow}
-use Rattle.gix_parts.specs.Packed.{most, overflow_of, row_bytes, rows_bytes, overflow_words, layout_name, kind_of_rows, spelling, AreBytes, IsRowAmong, ids_of_rows, AreGraphRows}
-use Rattle.gix_parts.specs.PackedReading.{word_at, words_of, row_len, id_field, first_field, second_field, row_of_fields, Places, parents_at, is_above, with_row, row_then, rows_at, kind_named, may_have, is_sized, body_of, read_packed}
+use Rattle.gix_parts.specs.Packed.{most, overflow_of, row_bytes, rows_bytes, overflow_words, layout_name, kind_of_rows, spelling, AreBytes, IsRowAmong, ids_of_rows}
+use Rattle.gix_parts.specs.PackedReading.{words_of, row_len, id_field, first_field, second_field, row_of_fields, Places, parents_at, is_above, with_row, row_then, rows_at, kind_named, may_have, read_packed}
 use Rattle.gix_parts.specs.PackedLayout.{IsLaidOut, IsPackedAs}
 use Rattle.gix_parts.proofs.IdFacts.{id_total}
-use Rattle.gix_parts.proofs.PackedFields.{row_len-is}
 use Rattle.gix_parts.proofs.PackedAgain.{Begins}
-use Rattle.gix_parts.proofs.PackedTakes.{chosen, TakesParents, parents_take}
-use Rattle.gix_parts.proofs.PackedRowTakes.{AreBytes-drop, AreBytes-take, row_takes, row_among, bytes-words_of, word_back}
+use Rattle.gix_parts.proofs.PackedTakes.{chosen, parents_take}
+use Rattle.gix_parts.proofs.PackedRowTakes.{AreBytes-drop, row_takes, row_among, bytes-words_of, word_back}
 use Rattle.gix_parts.proofs.PackedWhole.{length-rows_bytes}
 use Rattle.gix_parts.proofs.PackedSteps.{length-words_of}
 

@@ -1,5 +1,5 @@
 -- A row that is read is spelled as it was read.
-use Rattle.std.proofs.Common.{◌≡◌, ℕ, zero, suc, ◌+◌, ◌-◌, ◌*◌, ◌^◌, ◌<◌, ◌≤◌, List, [], ◌∷◌, ◌++◌, length, get_or, take, drop, refl, sym, ap, subst, ◌∙◌, append_assoc, arith, inl, inr, ℤ, FitsSigned}
+use Rattle.std.proofs.Common.{◌≡◌, ℕ, suc, ◌+◌, ◌*◌, ◌^◌, ◌<◌, ◌≤◌, List, [], ◌∷◌, ◌++◌, length, take, drop, refl, sym, ap, subst, ◌∙◌, append_assoc, arith, inl, inr}
 use Rattle.std.specs.Int.{w32, w64, to_be_bytes, from_be_bytes, cast_signed, cast_unsigned}
 use Rattle.std.specs.List.{flat_map, AllByRecursion}
 use Rattle.std.proofs.lemmas.Bool.{cases_lt}
@@ -11,9 +11,8 @@ use Rattle.gix_parts.specs.declared.hash.Kind.{Kind}
 use Rattle.gix_parts.specs.declared.hash.Kind.TheVariants as kind
 use Rattle.gix_parts.specs.declared.graph.ParentPlace.{ParentPlace}
 use Rattle.gix_parts.specs.Id.{id_len, id_of, kind_of, bytes_of}
-use Rattle.gix_parts.specs.Rows.{GraphRow}
 use Rattle.gix_parts.specs.Packed.{first_word, second_word, row_bytes, AreBytes, IsIdOf, IsPlaceAmong, IsRowAmong}
-use Rattle.gix_parts.specs.PackedReading.{words_of, row_len, id_field, tree_field, first_field, second_field, generation_field, time_field, row_of_fields}
+use Rattle.gix_parts.specs.PackedReading.{words_of, row_len, first_field, second_field, row_of_fields}
 use Rattle.gix_parts.proofs.PackedFields.{row_len-is}
 
 pub AreBytes-drop : (n : ℕ) (bytes : List ℕ) → AreBytes bytes → AreBytes (drop n bytes)

@@ -1,10 +1,9 @@
 -- The parts of whole packed bytes, and that the spelling of rows is read as these rows.
-use Rattle.std.proofs.Common.{◌≡◌, ℕ, zero, suc, ◌+◌, ◌-◌, ◌*◌, ◌^◌, ◌<◌, ◌≤◌, Bool, true, false, cond, ltb, leb, eqb, List, [], ◌∷◌, ◌++◌, length, take, drop, Option, Some, None, Result, Ok, Err, refl, sym, ap, ◌∙◌, append_assoc, arith}
-use Rattle.std.specs.Prelude.{◌&&◌}
+use Rattle.std.proofs.Common.{◌≡◌, ℕ, suc, ◌+◌, ◌*◌, ◌^◌, ◌<◌, ◌≤◌, true, false, cond, ltb, List, [], ◌∷◌, ◌++◌, length, drop, Some, None, Result, Ok, Err, refl, sym, ap, ◌∙◌, arith}
 use Rattle.std.specs.Int.{w32, to_be_bytes, from_be_bytes}
 use Rattle.std.specs.List.{flat_map, AllByRecursion}
 use Rattle.std.proofs.lemmas.Bool.{lt-ltb, le-ltb, le-leb, eq-eqb}
-use Rattle.std.proofs.lemmas.List.{take_at, drop_at, length-append, append-nil}
+use Rattle.std.proofs.lemmas.List.{drop_at, length-append}
 use Rattle.std.proofs.lemmas.Nat.{from_be_bytes-to_be_bytes_4}
 use Rattle.gix_parts.specs.declared.hash.Kind.{Kind}
 use Rattle.gix_parts.specs.declared.hash.Kind.TheVariants as kind
@@ -13,7 +12,7 @@ use Rattle.gix_parts.specs.declared.graph.Place.{Place}
 use Rattle.gix_parts.specs.declared.graph.Place.TheVariants as place
 use Rattle.gix_parts.specs.declared.graph.check.Layout.{Layout}
 use Rattle.gix_parts.specs.Rows.{GraphRow}
-use Rattle.gix_parts.specs.Packed.{most, flag, list_words, overflow_of, row_bytes, rows_bytes, overflow_words, layout_name, kind_of_rows, spelling, IsPlaceAmong, IsRowAmong, AreGraphRows}
+use Rattle.gix_parts.specs.Packed.{most, list_words, overflow_of, row_bytes, rows_bytes, overflow_words, layout_name, kind_of_rows, spelling, IsPlaceAmong, IsRowAmong, AreGraphRows}
 use Rattle.gix_parts.specs.PackedReading.{word_at, words_of, row_len, kind_named, may_have, is_sized, body_of, rows_at, read_packed, rows_in}
 use Rattle.gix_parts.specs.PackedLayout.{IsPackedAs}
 use Rattle.gix_parts.proofs.PackedFields.{after_part, part_at, place_word-below, length-row_bytes}

@@ -1,14 +1,8 @@
 -- Rows written one after the other.
-use Rattle.std.proofs.Common.{◌≡◌, ℕ, zero, suc, ◌+◌, ◌-◌, ◌*◌, ◌<◌, ◌≤◌, Bool, true, false, cond, eqb, List, [], ◌∷◌, ◌++◌, length, map, get_or, take, drop, refl, sym, ap, subst, ◌∙◌, append_assoc, arith, inl, inr}
-use Rattle.std.specs.Prelude.{slice_index}
-use Rattle.std.specs.Int.{w32, to_be_bytes}
-use Rattle.std.specs.List.{flat_map, AllByRecursion}
-use Rattle.std.proofs.lemmas.List.{append-nil, length-append, length-map, take_more, map_push, map_more, take-append-drop, take_all, take_rest}
-use Rattle.std.proofs.lemmas.List.Concat.{flat_map-append}
+use Rattle.std.proofs.Common.{◌≡◌, ℕ, ◌<◌, ◌≤◌, List, [], ◌∷◌, ◌++◌, length, map, drop, refl, append_assoc, arith}
 use Rattle.gix_parts.specs.declared.graph.ParentPlace.{ParentPlace}
-use Rattle.gix_parts.specs.Rows.{GraphRow, row_at}
-use Rattle.gix_parts.specs.Packed.{most, flag, place_word, list_words, overflow_of, row_bytes, rows_bytes, overflow_words, IsPlaceAmong}
-use Rattle.gix_parts.specs.Renumbering.{Entry, moved, renumbered, arranged}
+use Rattle.gix_parts.specs.Packed.{list_words, overflow_of}
+use Rattle.gix_parts.specs.Renumbering.{moved}
 
 pub six_appended : (o a b c d e f p q r s t u : List ℕ) → p ≡ o ++ a → q ≡ p ++ b → r ≡ q ++ c → s ≡ r ++ d → t ≡ s ++ e → u ≡ t ++ f → u ≡ o ++ (a ++ (b ++ (c ++ (d ++ (e ++ f)))))
 six_appended o a b c d e f p q r s t u p_is q_is r_is s_is t_is u_is = rw (u_is, t_is, s_is, r_is, q_is, p_is) (simp append_assoc)

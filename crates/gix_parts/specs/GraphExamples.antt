@@ -1,6 +1,5 @@
 -- Worked rows of a commit-graph, and their packed bytes.
-use Rattle.std.specs.Prelude.{◌≡◌, ℕ, pos, negsuc, List, [], ◌∷◌, ◌++◌, replicate, codes, Option, Some, None, Result, Ok, Err, refl}
-use Rattle.gix_parts.specs.declared.hash.ObjectId.{ObjectId}
+use Rattle.std.specs.Prelude.{◌≡◌, ℕ, pos, List, [], ◌∷◌, ◌++◌, replicate, codes, Some, Ok, Err, refl}
 use Rattle.gix_parts.specs.declared.hash.ObjectId.TheVariants as id
 use Rattle.gix_parts.specs.declared.graph.ParentPlace.TheVariants.{At, Fault}
 use Rattle.gix_parts.specs.declared.graph.Place.TheVariants as place

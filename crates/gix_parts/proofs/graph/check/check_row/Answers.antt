@@ -1,5 +1,4 @@
-use Rattle.std.proofs.Common.{◌≡◌, ℕ, ◌-◌, length, List, Option, Some, sym, ap, ◌∙◌, arith}
-use Rattle.std.specs.Option.{option_map}
+use Rattle.std.proofs.Common.{◌≡◌, ℕ, ◌-◌, length, sym, ap, ◌∙◌}
 use Rattle.gix_parts.specs.PackedReading.{words_of}
 use Rattle.gix_parts.proofs.PackedSteps.{order_fault, parents_fault, reads_on, length-words_of, behind-read, option_map_at}
 use Rattle.gix_parts.proofs.graph.check.check_row.Goals as goal

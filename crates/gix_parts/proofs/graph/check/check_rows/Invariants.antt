@@ -1,4 +1,4 @@
-use Rattle.std.proofs.Common.{◌≡◌, ℕ, ◌-◌, ◌*◌, ◌≤◌, length, List, Option, None}
+use Rattle.std.proofs.Common.{◌≡◌, ◌-◌, ◌*◌, ◌≤◌, length, None}
 use Rattle.gix_parts.specs.PackedReading.{words_of, row_len}
 use Rattle.gix_parts.specs.PackedLayout.{rows_left, faults}
 use Rattle.gix_parts.proofs.graph.check.check_rows.Given as goal

@@ -1,4 +1,4 @@
-use Rattle.std.proofs.Common.{◌≡◌, ℕ, ◌++◌, List, map, ℤ, FitsSigned, ◌∙◌, ap, rules}
+use Rattle.std.proofs.Common.{◌++◌, List, map, ℤ, FitsSigned, ◌∙◌, ap, rules}
 use Rattle.std.specs.Prelude.{slice_index}
 use Rattle.std.specs.Int.{w32, w64, to_be_bytes, cast_unsigned}
 use Rattle.std.proofs.lemmas.Int.{to_z-of_z}

@@ -3,7 +3,6 @@ use Rattle.std.proofs.lemmas.List.{append-nil}
 use Rattle.std.specs.List.{AllByRecursion}
 use Rattle.std.specs.Prelude.{slice_index}
 use Rattle.gix_parts.specs.declared.graph.ParentPlace.{ParentPlace}
-use Rattle.gix_parts.specs.Rows.{GraphRow}
 use Rattle.gix_parts.specs.Packed.{overflow_of, overflow_words, row_bytes, rows_bytes}
 use Rattle.gix_parts.specs.Renumbering.{row_seen, rows_seen, renumbered, arranged, IsInRange}
 use Rattle.gix_parts.proofs.PackedArranged.{reads_entry, rows_bytes-push, All-push}

@@ -1,4 +1,4 @@
-use Rattle.std.proofs.Common.{◌≡◌, ℕ, length, List, subst, sym, arith}
+use Rattle.std.proofs.Common.{length, List, subst, sym, arith}
 use Rattle.std.specs.List.{AllByRecursion}
 use Rattle.gix_parts.specs.declared.graph.ParentPlace.{ParentPlace}
 use Rattle.gix_parts.specs.Packed.{IsPlaceAmong}

@@ -1,4 +1,3 @@
-use Rattle.std.proofs.Common.{ℕ, List, length, eqb, ap, ◌∙◌}
 use Rattle.gix_parts.proofs.HandedRows.{is_of_kind_cases}
 use Rattle.gix_parts.proofs.graph.rows.is_of_kind.Goals as goal
 
