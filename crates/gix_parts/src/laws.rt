@@ -2,6 +2,7 @@
 
 ghost use Rattle.gix_parts.specs.CommitItems.{FaultsEnd};
 ghost use Rattle.gix_parts.specs.CommitText.{ReadsTexts};
+ghost use Rattle.gix_parts.specs.PackedLaws.{SpellingsAreRead, SpellingsDiffer};
 
 /// Reading a commit gives exactly the texts of commits: bytes are read as a tree, parents and seconds where they are a tree line,
 /// a line for each parent in order, an author line, a committer line with those seconds, and any rest; and no others.
@@ -12,4 +13,14 @@ pub fn reads_texts()
 /// A fault is the last item of a commit's bytes.
 pub fn faults_end()
     ensures { FaultsEnd }
+{}
+
+/// Rows of a commit-graph that are packed are read again: what `Graph::new` packs `Graph::from_packed` takes, and it means the same rows.
+pub fn spellings_are_read()
+    ensures { SpellingsAreRead }
+{}
+
+/// A commit-graph has one spelling, and no other has it.
+pub fn spellings_differ()
+    ensures { SpellingsDiffer }
 {}
