@@ -6,3 +6,4 @@ pub mod RecordFront
 pub mod Walked
 pub mod Run
 pub mod Output
+pub mod Input

@@ -1,18 +1,14 @@
 -- What a run of the program may answer and write.
-use Rattle.std.specs.Prelude.{◌≡◌, ℕ, List, [], Option, Some, None, Result, Ok, Err, ⊤}
+use Rattle.std.specs.Prelude.{◌≡◌, ℕ, List, [], Option, Result, Ok, Err}
 use Rattle.std.specs.Io.KnownBytes.{Appends}
 use Rattle.gix_parts.specs.declared.hash.ObjectId.{ObjectId}
 use Rattle.gix_traverse.specs.declared.commit.Info.{Info}
 use Rattle.gix_walk.specs.declared.fault.Fault.{Fault}
 use Rattle.gix_walk.specs.declared.fault.Fault.TheVariants as fault
+use Rattle.gix_walk.specs.Input.{Tells}
 use Rattle.gix_walk.specs.Words.{tips_of}
 use Rattle.gix_walk.specs.Records.{Record, AreRecords, IsBadRecord, stored}
 use Rattle.gix_walk.specs.Walked.{Walk, StartsFrom, Ends, lines_of}
-
--- the bytes that a reader has are these, where it tells
-abbrev pub Tells : Option (List ℕ) → List ℕ → Type 0
-Tells None input = ⊤
-Tells (Some bytes) input = input ≡ bytes
 
 -- Over these words, a reader that has these bytes and a writer that held these bytes, a run may give this answer and leave the writer
 -- with those bytes.

@@ -1,5 +1,5 @@
 -- The words of a command: `breadth`, and one id at least.
-use Rattle.std.specs.Prelude.{◌≡◌, ◌≢◌, ℕ, ◌+◌, ◌==◌, List, [], ◌∷◌, Bool, true, false, ◌||◌, not, ◌&&◌, if◌then◌else◌, Result, Ok, Err, codes}
+use Rattle.std.specs.Prelude.{◌≡◌, ◌≢◌, ℕ, ◌+◌, ◌==◌, List, [], ◌∷◌, Bool, true, false, not, ◌&&◌, if◌then◌else◌, Result, Ok, Err, codes}
 use Rattle.std.specs.List.{list_any}
 use Rattle.std.specs.Str.{bytes_eq}
 use Rattle.gix_parts.specs.declared.hash.ObjectId.{ObjectId}
@@ -33,7 +33,11 @@ abbrev pub is_empty : List (List ℕ) → Bool
 is_empty [] = true
 is_empty (word ∷ words) = false
 
+-- the command, with one id at least and none of a commit that is to be hidden
+abbrev pub is_breadth : List ℕ → List (List ℕ) → Bool
+is_breadth name ids = bytes_eq name (codes "breadth") && not (is_empty ids) && not (list_any begins_with_caret ids)
+
 -- the ids of a command, or why the words are none: all words are judged as a command before any is judged as an id
 abbrev pub tips_of : List (List ℕ) → Result (List ObjectId) Fault
 tips_of [] = Err fault.Usage
-tips_of (name ∷ ids) = if not (bytes_eq name (codes "breadth")) || is_empty ids || list_any begins_with_caret ids then Err fault.Usage else ids_from 2 ids
+tips_of (name ∷ ids) = if is_breadth name ids then ids_from 2 ids else Err fault.Usage

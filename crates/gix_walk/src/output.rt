@@ -26,7 +26,7 @@ pub fn write_commits<W: Write>(
     ensures { result ≢ Err Fault.Write → WritesAll walk (W.contents writer.old) result (W.contents writer.new) }
 {
     let mut lines = Vec::new(alloc);
-    let drawn = add_commits(walk, &mut lines, writer);
+    let drawn = add_commits(alloc, walk, &mut lines, writer);
     write_lines(&mut lines, writer)?;
     writer.flush().map_err(|_| Fault::Write)?;
     drawn
@@ -34,6 +34,7 @@ pub fn write_commits<W: Write>(
 
 // Adds a line for each commit to those that wait, up to the walk's first fault.
 fn add_commits<W: Write>(
+    alloc: Global,
     walk: Simple<MemoryStore, Unfiltered>,
     lines: &mut Vec<u8>,
     writer: &mut W,
@@ -42,20 +43,36 @@ fn add_commits<W: Write>(
 {
     for answer in walk {
         let info = answer?;
-        add_line(lines, writer, info.id)?;
+        add_line(alloc, lines, writer, info.id)?;
     }
     Ok(())
 }
 
-// Adds a line to those that wait, and writes these where they are many.
-fn add_line<W: Write>(lines: &mut Vec<u8>, writer: &mut W, id: ObjectId) -> Result<(), Fault>
+// Adds a line to those that wait.
+fn add_line<W: Write>(
+    alloc: Global,
+    lines: &mut Vec<u8>,
+    writer: &mut W,
+    id: ObjectId,
+) -> Result<(), Fault>
     ensures ok { OnOk result (Grows (W.contents writer.old) lines.old.items (W.contents writer.new) lines.new.items (line_of id)) }
     ensures err { IfErr result (λ e. (e ≡ Fault.Write) ⊎ ((e ≡ Fault.Memory) × Grows (W.contents writer.old) lines.old.items (W.contents writer.new) lines.new.items [])) }
 {
-    if lines.len() >= MANY {
-        write_lines(lines, writer)?;
+    make_room(lines, writer)?;
+    let line = format!(in alloc; "{id}\n")?;
+    lines.extend_from_slice(line.as_bytes())?;
+    Ok(())
+}
+
+// Writes the lines that wait, where they are many.
+fn make_room<W: Write>(lines: &mut Vec<u8>, writer: &mut W) -> Result<(), Fault>
+    ensures ok { OnOk result (Grows (W.contents writer.old) lines.old.items (W.contents writer.new) lines.new.items []) }
+    ensures fault { IfErr result (λ e. e ≡ Fault.Write) }
+{
+    if lines.len() < MANY {
+        return Ok(());
     }
-    lines.writeln(id).map_err(|_| Fault::Memory)
+    write_lines(lines, writer)
 }
 
 // Writes the lines that wait. Behind a failure nothing waits.

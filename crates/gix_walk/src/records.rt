@@ -44,6 +44,7 @@ pub fn read_records(alloc: Global, mut input: &[u8]) -> Result<MemoryStore, Faul
 
 // The record at the front: a kind, a space, an id in hex digits, a space, the length in decimal digits, a newline, as many
 // bytes, a newline.
+#[tactic(auto, unfolding(crate::specs::RecordFront::record_at))]
 fn record_at(text: &[u8]) -> Option<Front<'_>>
     ensures { option_map front_shown result ≡ record_at text.now }
 {

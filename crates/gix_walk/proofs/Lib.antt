@@ -1,0 +1,7 @@
+mod RecordFacts
+mod SplitFacts
+mod HexFacts
+mod DecimalFacts
+mod WordFacts
+mod InputFacts
+mod OutputFacts
