@@ -3,5 +3,6 @@ mod SplitFacts
 mod HexFacts
 mod DecimalFacts
 mod WordFacts
-mod InputFacts
 mod OutputFacts
+mod InternalFacts
+mod RunFacts

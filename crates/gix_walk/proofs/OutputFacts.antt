@@ -13,7 +13,7 @@ use Rattle.gix_walk.specs.declared.fault.Fault.{Fault}
 use Rattle.gix_walk.specs.declared.fault.Fault.TheVariants as fault
 use Rattle.gix_walk.specs.Faults.{fault_of_walk}
 use Rattle.gix_walk.specs.Output.{Grows, Adds, WritesAll}
-use Rattle.gix_walk.specs.Walked.{Walk, Answers, given, objects_of, never_faulty, accepts_all, Ends, finished, failed, no_memory, line_of, lines_of}
+use Rattle.gix_walk.specs.Walked.{Walk, Answers, given, objects_of, never_faulty, accepts_all, Ends, finished, failed, cut_short, line_of, lines_of}
 
 pub appends_none : (old : Option (List ℕ)) → Appends old old []
 appends_none None = tt
@@ -83,7 +83,7 @@ pub adds_cut : (walk at : Walk) (infos : List Info) (e : Fault) (result : Result
 adds_cut walk at infos e result a b c x y z h grows same other (inl w) = absurd (other (same ∙ ap (λ f. Err f) w))
 adds_cut walk at infos e result a b c x y z h grows same other (inr (m, more)) = record {
   infos = infos;
-  ends = subst (Ends walk infos) (sym (same ∙ ap (λ f. Err f) m)) (no_memory at h);
+  ends = subst (Ends walk infos) (sym (same ∙ ap (λ f. Err f) m)) (cut_short at h);
   grows = subst (Grows a x c z) (append-nil (lines_of infos)) (grows_more a b c x y z (lines_of infos) [] grows more);
 }
 

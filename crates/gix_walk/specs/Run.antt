@@ -14,7 +14,7 @@ use Rattle.gix_walk.specs.Walked.{Walk, StartsFrom, Ends, lines_of}
 -- with those bytes.
 pub data Runs (words : List (List ℕ)) (has old : Option (List ℕ)) : Result (Unit {0}) Fault → Option (List ℕ) → Type 0 where
   -- memory was wanting before the walk
-  no_memory : Runs words has old (Err fault.Memory) old
+  without_memory : Runs words has old (Err fault.Memory) old
   no_command : {e : Fault} → tips_of words ≡ Err e → Runs words has old (Err e) old
   not_read : (tips : List ObjectId) → tips_of words ≡ Ok tips → Runs words has old (Err fault.Read) old
   bad_record : (tips : List ObjectId) (input : List ℕ) (n : ℕ) → tips_of words ≡ Ok tips → Tells has input → IsBadRecord n input → Runs words has old (Err (fault.Record n)) old

@@ -41,7 +41,7 @@ given infos = map Ok infos
 pub data Ends (walk : Walk) (infos : List Info) : Result (Unit {0}) Fault → Type 0 where
   finished : May objects_of never_faulty accepts_all walk (given infos) → Ends walk infos (Ok tt)
   failed : (e : Error) (new : Walk) → YieldsThen Answers walk (given infos) (Some (Err e)) new → Ends walk infos (Err (fault_of_walk e))
-  no_memory : (new : Walk) → Yields Answers walk (given infos) new → Ends walk infos (Err fault.Memory)
+  cut_short : (new : Walk) → Yields Answers walk (given infos) new → Ends walk infos (Err fault.Memory)
 
 -- an id and a newline
 abbrev pub line_of : ObjectId → List ℕ
