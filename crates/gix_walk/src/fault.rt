@@ -82,3 +82,33 @@ impl From<simple::Error> for Fault {
         }
     }
 }
+
+#[cfg(test)]
+mod tests {
+    use super::*;
+    use std::test::Fail;
+
+    #[test]
+    fn prints_its_text(rt: HostRuntime) -> Result<(), Fail> {
+        let id = ObjectId::Sha1([0x11; 20]);
+        let digits = "1111111111111111111111111111111111111111";
+        let missing = format!(in rt.alloc(); "missing {digits}")?;
+        let wrong_kind = format!(in rt.alloc(); "wrong kind {digits}")?;
+        for (fault, text) in [
+            (Fault::Usage, "usage"),
+            (Fault::Id(2), "bad id in word 2"),
+            (Fault::Record(1), "bad record 1"),
+            (Fault::Missing(id), missing.as_str()),
+            (Fault::WrongKind(id), wrong_kind.as_str()),
+            (Fault::Broken, "broken object"),
+            (Fault::Memory, "out of memory"),
+            (Fault::Read, "read failed"),
+            (Fault::Write, "write failed"),
+            (Fault::Internal, "internal fault"),
+        ] {
+            let printed = fault.to_string(rt.alloc())?;
+            assert_eq!(rt; printed.as_str(), text);
+        }
+        Ok(())
+    }
+}

@@ -56,3 +56,6 @@ fn read_some<R: Read>(reader: &mut R, chunk: &mut [u8], input: &mut Vec<u8>) -> 
         }
     }
 }
+
+#[cfg(test)]
+mod tests;

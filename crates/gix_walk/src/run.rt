@@ -30,3 +30,6 @@ pub fn run<R: Read, W: Write>(
     drop(input);
     write_commits(alloc, Simple::new(alloc, tips, store)?, writer)
 }
+
+#[cfg(test)]
+mod tests;
