@@ -166,3 +166,30 @@ stored_bad text rest number objects h more none = record {
   more = more;
   none = unspelled rest none;
 }
+
+-- records are spelled in one way
+same_front : (r q : Record) (text a b : List ℕ) → IsRecord r text a → IsRecord q text b → (r ≡ q) × (a ≡ b)
+same_front r q text a b h k = some_pair_parts r q a b (sym (record_read r text a h) ∙ record_read q text b k)
+
+not_empty : (r : Record) (text behind : List ℕ) → IsRecord r text behind → text ≢ []
+not_empty r text behind h e = let less : length behind < length text = record_takes r text behind h in omega (arith, ap length e)
+
+pub only_reading : (records others : List Record) (text : List ℕ) → AreRecords records text → AreRecords others text → records ≡ others
+only_reading [] [] text h k = refl
+only_reading [] (q ∷ others) text h k = absurd (not_empty q text k.0 k.1 h)
+only_reading (r ∷ records) [] text h k = absurd (not_empty r text h.0 h.1 k)
+only_reading (r ∷ records) (q ∷ others) text h k =
+    let same : (r ≡ q) × (h.0 ≡ k.0) = same_front r q text h.0 k.0 h.1 k.1 in
+    ap (λ x. x ∷ records) same.0 ∙ ap (λ x. q ∷ x) (only_reading records others k.0 (subst (λ b. BeginsWith records b []) same.1 h.2) k.2)
+
+bad_among : (before records : List Record) (text rest : List ℕ) → BeginsWith before text rest → rest ≢ [] → ((r : Record) (behind : List ℕ) → IsRecord r rest behind → ⊥) → AreRecords records text → ⊥
+bad_among [] [] text rest h more none k = more (sym h ∙ k)
+bad_among [] (r ∷ records) text rest h more none k = none r k.0 (subst (λ x. IsRecord r x k.0) h k.1)
+bad_among (q ∷ before) [] text rest h more none k = not_empty q text h.0 h.1 k
+bad_among (q ∷ before) (r ∷ records) text rest h more none k =
+    let same : (q ≡ r) × (h.0 ≡ k.0) = same_front q r text h.0 k.0 h.1 k.1 in
+    bad_among before records k.0 rest (subst (λ b. BeginsWith before b rest) same.1 h.2) more none k.2
+
+-- a text of records has no bad one
+pub no_bad_record : (n : ℕ) (records : List Record) (text : List ℕ) → IsBadRecord n text → AreRecords records text → ⊥
+no_bad_record n records text bad k = bad_among bad.before records text bad.rest bad.begins bad.more bad.none k

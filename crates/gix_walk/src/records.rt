@@ -1,5 +1,5 @@
 //! Records of objects.
-ghost use Rattle.std.specs.Prelude.{◌≡◌, ℕ, List, IfOk, IfErr};
+ghost use Rattle.std.specs.Prelude.{◌≡◌, ℕ, List, IfOk, IfErr, MatchResult};
 ghost use Rattle.std.specs.Option.{option_map};
 ghost use Rattle.gix_walk.specs.Records.{Record, AreRecords, IsRecordFault, stored};
 ghost use Rattle.gix_walk.specs.Decimal.{decimal};
@@ -28,6 +28,8 @@ struct Front<'a> {
 pub fn read_records(alloc: Global, mut input: &[u8]) -> Result<MemoryStore, Fault>
     ensures read { IfOk result (λ store. (records : List Record) × AreRecords records input.entry.now × (store ≡ stored records)) }
     ensures fault { IfErr result (λ e. IsRecordFault input.entry.now e) }
+    // What is so spelled is read, unless memory runs out.
+    ensures only { (records : List Record) → AreRecords records input.entry.now → MatchResult result (λ store. store ≡ stored records) (λ e. e ≡ Fault.Memory) }
 {
     let mut store = MemoryStore::new(alloc);
     let mut number = 1;

@@ -85,23 +85,36 @@ fn a_missing_parent_comes_behind_the_child(rt: HostRuntime) -> Result<(), Fail> 
 #[test]
 fn judges_the_words_first(rt: HostRuntime) -> Result<(), Fail> {
     let alloc = rt.alloc();
-    let hidden = format!(in alloc; "^{ONE}")?;
+    let (answer, output) = outcome(alloc, &[], "no record")?;
+    assert_eq!(rt; answer, Err(Fault::Usage));
+    assert!(rt; output.is_empty());
+    let (answer, output) = outcome(alloc, &["breadth"], "no record")?;
+    assert_eq!(rt; answer, Err(Fault::Usage));
+    assert!(rt; output.is_empty());
     let longer = format!(in alloc; "{ONE}1")?;
-    for (words, fault) in [
-        ([].as_slice(), Fault::Usage),
-        (["breadth"].as_slice(), Fault::Usage),
-        (["walk", ONE].as_slice(), Fault::Usage),
-        ([ONE].as_slice(), Fault::Usage),
-        (["breadth", ONE, hidden.as_str()].as_slice(), Fault::Usage),
-        (["breadth", "zz", "^"].as_slice(), Fault::Usage),
-        (["breadth", "zz"].as_slice(), Fault::Id(2)),
-        (["breadth", ""].as_slice(), Fault::Id(2)),
-        (["breadth", ONE, longer.as_str(), "zz"].as_slice(), Fault::Id(3)),
+    for (command, id, fault) in [
+        ("walk", ONE, Fault::Usage),
+        ("", ONE, Fault::Usage),
+        ("breadths", ONE, Fault::Usage),
+        ("breadth", "^1111111111111111111111111111111111111111", Fault::Usage),
+        ("breadth", "^", Fault::Usage),
+        ("breadth", "", Fault::Id(3)),
+        ("breadth", "zz", Fault::Id(3)),
+        ("breadth", "111111111111111111111111111111111111111z", Fault::Id(3)),
+        ("breadth", longer.as_str(), Fault::Id(3)),
     ] {
-        let (answer, output) = outcome(alloc, words, "no record")?;
+        let (answer, output) = outcome(alloc, &[command, ONE, id, "zz"], "no record")?;
         assert_eq!(rt; answer, Err(fault));
         assert!(rt; output.is_empty());
     }
+    Ok(())
+}
+
+#[test]
+fn a_bad_id_is_told_by_its_number(rt: HostRuntime) -> Result<(), Fail> {
+    let (answer, output) = outcome(rt.alloc(), &["breadth", "zz"], "")?;
+    assert_eq!(rt; answer, Err(Fault::Id(2)));
+    assert!(rt; output.is_empty());
     Ok(())
 }
 
