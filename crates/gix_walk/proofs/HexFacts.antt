@@ -15,9 +15,9 @@ use Rattle.gix_parts.specs.Id.{id_from_hex, id_of_hex, id_of_decoded, id_len, or
 -- the digits of an id have no space among them
 pair_spaceless : (high low i : ℕ) (byte : ℕ) → pair_value high low i ≡ Ok byte → (high ≢ 32) × (low ≢ 32)
 pair_spaceless high low i byte e = (
-      (λ at. let bad : pair_value 32 low i ≡ Ok byte = subst (λ b. pair_value b low i ≡ Ok byte) at e in cc),
-      (λ at. let bad : pair_value high 32 i ≡ Ok byte = subst (λ b. pair_value high b i ≡ Ok byte) at e in second (value_at high i) bad),
-    )
+  (λ at. let bad : pair_value 32 low i ≡ Ok byte = subst (λ b. pair_value b low i ≡ Ok byte) at e in cc),
+  (λ at. let bad : pair_value high 32 i ≡ Ok byte = subst (λ b. pair_value high b i ≡ Ok byte) at e in second (value_at high i) bad),
+)
   where
     second : (h : Result ℕ FromHexError) → (h >>= (λ x. value_at 32 (i + 1) >>= (λ y. Ok (x * 16 + y)))) ≡ Ok byte → ⊥
     second (Ok x) e = cc

@@ -36,9 +36,11 @@ pub grows_waiting : (old : Option (List ℕ)) (waiting waits bytes : List ℕ) �
 grows_waiting old waiting waits bytes e = ([], appends_none old, sym e)
 
 pub grows_more : (a b c : Option (List ℕ)) (x y z p q : List ℕ) → Grows a x b y p → Grows b y c z q → Grows a x c z (p ++ q)
-grows_more a b c x y z p q h k =
-    (h.0 ++ k.0, appends_more a b c h.0 k.0 h.1 k.1,
-     sym (append_assoc x p q) ∙ ap (λ w. w ++ q) h.2 ∙ append_assoc h.0 y q ∙ ap (λ w. h.0 ++ w) k.2 ∙ sym (append_assoc h.0 k.0 z))
+grows_more a b c x y z p q h k = (
+  h.0 ++ k.0,
+  appends_more a b c h.0 k.0 h.1 k.1,
+  sym (append_assoc x p q) ∙ ap (λ w. w ++ q) h.2 ∙ append_assoc h.0 y q ∙ ap (λ w. h.0 ++ w) k.2 ∙ sym (append_assoc h.0 k.0 z),
+)
 
 -- all that waits is written
 pub grows_end : (old mid new : Option (List ℕ)) (waits bytes : List ℕ) → Grows old [] mid waits bytes → Appends mid new waits → Appends old new bytes

@@ -60,9 +60,10 @@ body_found n text body e = go (drop n text) refl e
         ends true at e =
             let same : (take n text ≡ body.0) × (rest ≡ body.1) = some_pair_parts (take n text) body.0 rest body.1 e in
             let newline : b ≡ 10 = eqb-true b 10 at in
-            let fits : n ≤ length text = omega (arith, length-drop n text, ap length l) in
-            (sym (take-append-drop n text) ∙ ap (λ x. take n text ++ x) (l ∙ ap (λ x. x ∷ rest) newline ∙ ap (λ x. 10 ∷ x) same.1) ∙ ap (λ x. x ++ 10 ∷ body.1) same.0,
-             ap length (sym same.0) ∙ length-take-le n text fits)
+            let fits : n ≤ length text = omega (arith, length-drop n text, ap length l) in (
+              sym (take-append-drop n text) ∙ ap (λ x. take n text ++ x) (l ∙ ap (λ x. x ∷ rest) newline ∙ ap (λ x. 10 ∷ x) same.1) ∙ ap (λ x. x ++ 10 ∷ body.1) same.0,
+              ap length (sym same.0) ∙ length-take-le n text fits,
+            )
         ends false at e = cc
 
 -- what is found at the front is so spelled

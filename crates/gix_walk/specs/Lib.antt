@@ -7,3 +7,4 @@ pub mod Walked
 pub mod Run
 pub mod Output
 pub mod Input
+pub mod Examples

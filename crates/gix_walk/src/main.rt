@@ -9,9 +9,8 @@ mod run;
 mod words;
 
 use fault::Fault;
-use std::env;
-use std::io;
 use std::process::ExitCode;
+use std::{env, io};
 
 fn main(rt: HostRuntime) -> ExitCode {
     match answer(&rt) {

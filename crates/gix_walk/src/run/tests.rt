@@ -5,7 +5,9 @@ use std::io;
 use std::test::Fail;
 
 const ONE: &str = "1111111111111111111111111111111111111111";
+
 const TWO: &str = "2222222222222222222222222222222222222222";
+
 const EMPTY_TREE: &str = "4b825dc642cb6eb9a060e54bf8d69288fbee4904";
 
 // The text of a commit with these parents, whose times are a number.
@@ -15,7 +17,9 @@ fn commit(alloc: Global, time: &str, parents: &[&str]) -> Result<String, AllocEr
         let line = format!(in alloc; "parent {parent}\n")?;
         text.push_str(line.as_str())?;
     }
-    let people = format!(in alloc; "author A <a@b> {time} +0000\ncommitter A <a@b> {time} +0000\n\n")?;
+    let people = format!(in alloc;
+        "author A <a@b> {time} +0000\ncommitter A <a@b> {time} +0000\n\n"
+    )?;
     text.push_str(people.as_str())?;
     Ok(text)
 }
@@ -96,11 +100,19 @@ fn judges_the_words_first(rt: HostRuntime) -> Result<(), Fail> {
         ("walk", ONE, Fault::Usage),
         ("", ONE, Fault::Usage),
         ("breadths", ONE, Fault::Usage),
-        ("breadth", "^1111111111111111111111111111111111111111", Fault::Usage),
+        (
+            "breadth",
+            "^1111111111111111111111111111111111111111",
+            Fault::Usage,
+        ),
         ("breadth", "^", Fault::Usage),
         ("breadth", "", Fault::Id(3)),
         ("breadth", "zz", Fault::Id(3)),
-        ("breadth", "111111111111111111111111111111111111111z", Fault::Id(3)),
+        (
+            "breadth",
+            "111111111111111111111111111111111111111z",
+            Fault::Id(3),
+        ),
         ("breadth", longer.as_str(), Fault::Id(3)),
     ] {
         let (answer, output) = outcome(alloc, &[command, ONE, id, "zz"], "no record")?;
@@ -328,7 +340,11 @@ fn a_failing_writer_is_told(rt: HostRuntime) -> Result<(), Fail> {
         };
         let answer = run(alloc, &words, &mut reader, &mut writer);
         // 82 bytes, and a flush behind them.
-        let expected = if fails_at < 84 { Err(Fault::Write) } else { Ok(()) };
+        let expected = if fails_at < 84 {
+            Err(Fault::Write)
+        } else {
+            Ok(())
+        };
         assert_eq!(rt; answer, expected);
         assert!(rt; lines.as_bytes().starts_with(writer.bytes.as_slice()));
     }
