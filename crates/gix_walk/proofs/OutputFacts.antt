@@ -1,0 +1,106 @@
+-- The lines that wait, and those that were written.
+use Rattle.std.specs.Prelude.{◌≡◌, ℕ, List, [], ◌∷◌, ◌++◌, map, Option, Some, None, Result, Ok, Err, ⊤, ◌⊎◌}
+use Rattle.std.specs.Io.KnownBytes.{Appends, Keeps}
+use Rattle.std.specs.Iterator.{Yields, YieldsThen}
+use Rattle.std.specs.List.{flat_map}
+use Rattle.std.proofs.Common.{refl, sym, ap, subst, ◌∙◌, append_assoc, inl, inr}
+use Rattle.std.proofs.lemmas.List.{append-nil, map-append}
+use Rattle.std.proofs.lemmas.Grind.{flat_map-append}
+use Rattle.gix_traverse.specs.declared.commit.Info.{Info}
+use Rattle.gix_traverse.specs.declared.commit.simple.Error.{Error}
+use Rattle.gix_traverse.specs.SimpleWalk.{May}
+use Rattle.gix_walk.specs.declared.fault.Fault.{Fault}
+use Rattle.gix_walk.specs.declared.fault.Fault.TheVariants as fault
+use Rattle.gix_walk.specs.Faults.{fault_of_walk}
+use Rattle.gix_walk.specs.Output.{Grows, Adds, WritesAll}
+use Rattle.gix_walk.specs.Walked.{Walk, Answers, given, objects_of, never_faulty, accepts_all, Ends, finished, failed, cut_short, line_of, lines_of}
+
+pub appends_none : (old : Option (List ℕ)) → Appends old old []
+appends_none None = tt
+appends_none (Some xs) = sym (append-nil xs)
+
+pub appends_more : (old mid new : Option (List ℕ)) (a b : List ℕ) → Appends old mid a → Appends mid new b → Appends old new (a ++ b)
+appends_more None mid new a b h k = tt
+appends_more (Some xs) None new a b h k = absurd h
+appends_more (Some xs) (Some ys) None a b h k = k
+appends_more (Some xs) (Some ys) (Some zs) a b h k = k ∙ ap (λ y. y ++ b) h ∙ append_assoc xs a b
+
+pub appends_kept : (old mid new : Option (List ℕ)) (a : List ℕ) → Appends old mid a → Keeps mid new → Appends old new a
+appends_kept None mid new a h k = tt
+appends_kept (Some xs) None new a h k = absurd h
+appends_kept (Some xs) (Some ys) None a h k = k
+appends_kept (Some xs) (Some ys) (Some zs) a h k = k ∙ h
+
+-- nothing was written
+pub grows_waiting : (old : Option (List ℕ)) (waiting waits bytes : List ℕ) → waits ≡ waiting ++ bytes → Grows old waiting old waits bytes
+grows_waiting old waiting waits bytes e = ([], appends_none old, sym e)
+
+pub grows_more : (a b c : Option (List ℕ)) (x y z p q : List ℕ) → Grows a x b y p → Grows b y c z q → Grows a x c z (p ++ q)
+grows_more a b c x y z p q h k = (
+  h.0 ++ k.0,
+  appends_more a b c h.0 k.0 h.1 k.1,
+  sym (append_assoc x p q) ∙ ap (λ w. w ++ q) h.2 ∙ append_assoc h.0 y q ∙ ap (λ w. h.0 ++ w) k.2 ∙ sym (append_assoc h.0 k.0 z),
+)
+
+-- all that waits is written
+pub grows_end : (old mid new : Option (List ℕ)) (waits bytes : List ℕ) → Grows old [] mid waits bytes → Appends mid new waits → Appends old new bytes
+grows_end old mid new waits bytes h k = subst (Appends old new) (sym h.2) (appends_more old mid new h.0 waits h.1 k)
+
+pub lines_last : (infos : List Info) (info : Info) → lines_of (infos ++ info ∷ []) ≡ lines_of infos ++ line_of info.id
+lines_last infos info = flat_map-append (λ (i : Info). line_of i.id) infos (info ∷ []) ∙ ap (λ x. lines_of infos ++ x) (append-nil (line_of info.id))
+
+pub given_last : (infos : List Info) (info : Info) → given (infos ++ info ∷ []) ≡ given infos ++ Ok info ∷ []
+given_last infos info = map-append (λ (i : Info). Ok i) infos (info ∷ [])
+
+-- what was drawn to the end may be drawn
+pub drawn_may : (walk : Walk) (list : List (Result Info Error)) (new : Walk) → YieldsThen Answers walk list None new → May objects_of never_faulty accepts_all walk list
+drawn_may walk [] new h = (new, subst (λ w. Answers w None new) (sym h.1) h.2)
+drawn_may walk (answer ∷ list) new h = (h.1.0, h.1.1, drawn_may h.1.0 list new (h.0, h.1.2, h.2))
+
+yields_last : (walk at new : Walk) (list : List (Result Info Error)) (answer : Result Info Error) → Yields Answers walk list at → Answers at (Some answer) new → Yields Answers walk (list ++ answer ∷ []) new
+yields_last walk at new [] answer h step = (new, subst (λ (w : Walk). Answers w (Some answer) new) (sym h) step, refl)
+yields_last walk at new (first ∷ list) answer h step = (h.0, h.1, yields_last h.0 at new list answer h.2 step)
+
+-- one more commit was drawn
+pub drawn_one : (walk at new : Walk) (infos : List Info) (answer : Result Info Error) (info : Info) → Yields Answers walk (given infos) at → Answers at (Some answer) new → answer ≡ Ok info → Yields Answers walk (given (infos ++ info ∷ [])) new
+drawn_one walk at new infos answer info h step is =
+    subst (λ (list : List (Result Info Error)). Yields Answers walk list new) (sym (given_last infos info))
+    (yields_last walk at new (given infos) (Ok info) h (subst (λ (a : Result Info Error). Answers at (Some a) new) is step))
+
+pub grows_one : (a b c : Option (List ℕ)) (x y z : List ℕ) (infos : List Info) (info : Info) → Grows a x b y (lines_of infos) → Grows b y c z (line_of info.id) → Grows a x c z (lines_of (infos ++ info ∷ []))
+grows_one a b c x y z infos info h k = subst (Grows a x c z) (sym (lines_last infos info)) (grows_more a b c x y z (lines_of infos) (line_of info.id) h k)
+
+-- the walk's answer was a fault
+pub adds_failed : (walk at drawn : Walk) (infos : List Info) (answer : Result Info Error) (e : Error) (result : Result (Unit {0}) Fault) (old new : Option (List ℕ)) (waiting waits : List ℕ)
+    → Yields Answers walk (given infos) at → Answers at (Some answer) drawn → answer ≡ Err e → result ≡ Err (fault_of_walk e) → Grows old waiting new waits (lines_of infos) → Adds walk old waiting result new waits
+adds_failed walk at drawn infos answer e result old new waiting waits h step is same grows = record {
+  infos = infos;
+  ends = subst (Ends walk infos) (sym same) (failed e drawn (at, h, subst (λ (a : Result Info Error). Answers at (Some a) drawn) is step));
+  grows = grows;
+}
+
+-- a line couldn't be added
+pub adds_cut : (walk at : Walk) (infos : List Info) (e : Fault) (result : Result (Unit {0}) Fault) (a b c : Option (List ℕ)) (x y z : List ℕ)
+    → Yields Answers walk (given infos) at → Grows a x b y (lines_of infos) → result ≡ Err e → (result ≡ Err fault.Write → ⊥) → (e ≡ fault.Write) ⊎ ((e ≡ fault.Memory) × Grows b y c z []) → Adds walk a x result c z
+adds_cut walk at infos e result a b c x y z h grows same other (inl w) = absurd (other (same ∙ ap (λ f. Err f) w))
+adds_cut walk at infos e result a b c x y z h grows same other (inr (m, more)) = record {
+  infos = infos;
+  ends = subst (Ends walk infos) (sym (same ∙ ap (λ f. Err f) m)) (cut_short at h);
+  grows = subst (Grows a x c z) (append-nil (lines_of infos)) (grows_more a b c x y z (lines_of infos) [] grows more);
+}
+
+-- the walk ended
+pub adds_all : (walk at drawn : Walk) (infos : List Info) (old new : Option (List ℕ)) (waiting waits : List ℕ) → Yields Answers walk (given infos) at → Answers at None drawn → Grows old waiting new waits (lines_of infos) → Adds walk old waiting (Ok tt) new waits
+adds_all walk at drawn infos old new waiting waits h step grows = record {
+  infos = infos;
+  ends = finished (drawn_may walk (given infos) drawn (at, h, step));
+  grows = grows;
+}
+
+-- what waits was written, and the writer flushed
+pub all_written : (walk : Walk) (old mid sent new : Option (List ℕ)) (waiting waits : List ℕ) (answer : Result (Unit {0}) Fault) → Adds walk old waiting answer mid waits → waiting ≡ [] → Appends mid sent waits → Keeps sent new → WritesAll walk old answer new
+all_written walk old mid sent new waiting waits answer h none k kept = record {
+  infos = h.infos;
+  ends = h.ends;
+  appends = appends_kept old sent new (lines_of h.infos) (grows_end old mid sent waits (lines_of h.infos) (subst (λ (w : List ℕ). Grows old w mid waits (lines_of h.infos)) none h.grows) k) kept;
+}

@@ -1,0 +1,22 @@
+-- Which fault of a run a fault of a walk is.
+use Rattle.gix_parts.specs.declared.object.find.existing_iter.Error.{Error as ExistingError}
+use Rattle.gix_parts.specs.declared.object.find.existing_iter.Error.TheVariants as existing
+use Rattle.gix_traverse.specs.declared.commit.simple.Error.{Error}
+use Rattle.gix_traverse.specs.declared.commit.simple.Error.TheVariants as error
+use Rattle.gix_traverse.specs.declared.commit.simple.Hidden.TheVariants as hidden_by
+use Rattle.gix_walk.specs.declared.fault.Fault.{Fault}
+use Rattle.gix_walk.specs.declared.fault.Fault.TheVariants as fault
+
+abbrev pub fault_of_find : ExistingError → Fault
+fault_of_find existing.Store = fault.Internal
+fault_of_find (existing.NotFound oid) = fault.Missing oid
+fault_of_find (existing.ObjectKind oid expected actual) = fault.WrongKind oid
+fault_of_find existing.Memory = fault.Memory
+
+-- a fault in what hidden commits reach is named by what it holds
+abbrev pub fault_of_walk : Error → Fault
+fault_of_walk (error.Find e) = fault_of_find e
+fault_of_walk (error.ObjectDecode e) = fault.Broken
+fault_of_walk (error.HiddenGraph (hidden_by.Find e)) = fault_of_find e
+fault_of_walk (error.HiddenGraph (hidden_by.ObjectDecode e)) = fault.Broken
+fault_of_walk error.Memory = fault.Memory

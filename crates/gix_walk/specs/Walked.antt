@@ -1,0 +1,52 @@
+-- A walk over records, and the lines that it writes.
+use Rattle.std.specs.Prelude.{◌≡◌, ℕ, List, [], ◌∷◌, ◌++◌, map, Bool, true, Option, Some, Result, Ok, Err, ⊤}
+use Rattle.std.specs.List.{flat_map}
+use Rattle.std.specs.Iterator.{Yields, YieldsThen}
+use Rattle.gix_parts.specs.declared.hash.ObjectId.{ObjectId}
+use Rattle.gix_parts.specs.Id.{hex_of}
+use Rattle.gix_parts.specs.Object.{Objects}
+use Rattle.gix_traverse.specs.declared.commit.Info.{Info}
+use Rattle.gix_traverse.specs.declared.commit.Unfiltered.{Unfiltered}
+use Rattle.gix_traverse.specs.declared.commit.simple.Error.{Error}
+use Rattle.gix_traverse.specs.SimpleWalk.{SimpleWalk, IsMade, Next, May}
+use Rattle.gix_walk.specs.declared.fault.Fault.{Fault}
+use Rattle.gix_walk.specs.declared.fault.Fault.TheVariants as fault
+use Rattle.gix_walk.specs.Faults.{fault_of_walk}
+
+-- a walk over stored objects, whose look-ups don't fail, through all commits
+abbrev pub Walk : Type 0
+Walk = SimpleWalk Objects Unfiltered
+
+abbrev pub objects_of : Objects → Objects
+objects_of objects = objects
+
+abbrev pub never_faulty : Objects → ObjectId → Type 0
+never_faulty objects i = ⊥
+
+abbrev pub accepts_all : Unfiltered → ObjectId → Bool → Unfiltered → Type 0
+accepts_all old i answer new = (answer ≡ true) × (new ≡ old)
+
+-- one answer of a walk
+abbrev pub Answers : Walk → Option (Result Info Error) → Walk → Type 0
+Answers = Next objects_of never_faulty accepts_all
+
+-- a walk that was made of these tips
+abbrev pub StartsFrom : Objects → List ObjectId → Walk → Type 0
+StartsFrom objects tips walk = IsMade objects_of never_faulty accepts_all objects (record {}) tips walk
+
+abbrev pub given : List Info → List (Result Info Error)
+given infos = map Ok infos
+
+-- how a walk that gave these commits ended: behind them it has no more, its next answer is a fault, or memory was wanting
+pub data Ends (walk : Walk) (infos : List Info) : Result (Unit {0}) Fault → Type 0 where
+  finished : May objects_of never_faulty accepts_all walk (given infos) → Ends walk infos (Ok tt)
+  failed : (e : Error) (new : Walk) → YieldsThen Answers walk (given infos) (Some (Err e)) new → Ends walk infos (Err (fault_of_walk e))
+  cut_short : (new : Walk) → Yields Answers walk (given infos) new → Ends walk infos (Err fault.Memory)
+
+-- an id and a newline
+abbrev pub line_of : ObjectId → List ℕ
+line_of i = hex_of i ++ 10 ∷ []
+
+-- the ids of commits, one a line
+abbrev pub lines_of : List Info → List ℕ
+lines_of infos = flat_map (λ info. line_of info.id) infos

@@ -1,0 +1,114 @@
+//! Why a run failed.
+ghost use Rattle.std.specs.Prelude.{◌≡◌};
+
+use gix_parts::hash::ObjectId;
+use gix_parts::object::find::existing_iter;
+use gix_traverse::commit::simple;
+use std::alloc::AllocError;
+use thiserror::Error;
+
+/// Why a run failed. What it prints stands behind the program's name in the line that the program writes.
+#[derive(Clone, Copy, PartialEq, Eq, Debug, Error)]
+pub enum Fault {
+    /// The words are no command.
+    #[error("usage")]
+    Usage,
+    /// The word of this number is no id. The command is word 1.
+    #[error("bad id in word {0}")]
+    Id(usize),
+    /// The record of this number isn't one, or is cut. The first record is record 1.
+    #[error("bad record {0}")]
+    Record(usize),
+    /// The input has no object of this id.
+    #[error("missing {0}")]
+    Missing(ObjectId),
+    /// The object of this id is of another kind than the one that is wanted.
+    #[error("wrong kind {0}")]
+    WrongKind(ObjectId),
+    /// An object's bytes are broken.
+    #[error("broken object")]
+    Broken,
+    /// Memory was wanting.
+    #[error("out of memory")]
+    Memory,
+    /// The input could not be read to its end.
+    #[error("read failed")]
+    Read,
+    /// The output could not be written.
+    #[error("write failed")]
+    Write,
+    /// A store that is held in memory failed, which doesn't happen.
+    #[error("internal fault")]
+    Internal,
+}
+
+impl From<AllocError> for Fault {
+    ghost use Rattle.gix_walk.specs.declared.fault.Fault.TheVariants as fault;
+
+    ghost from_gives = { λ _ r. r ≡ fault.Memory };
+
+    fn from(_error: AllocError) -> Fault {
+        Fault::Memory
+    }
+}
+
+impl From<existing_iter::Error> for Fault {
+    ghost use Rattle.gix_walk.specs.Faults.{fault_of_find};
+
+    ghost from_gives = { λ e r. r ≡ fault_of_find e };
+
+    fn from(error: existing_iter::Error) -> Fault {
+        match error {
+            existing_iter::Error::Store => Fault::Internal,
+            existing_iter::Error::NotFound { oid } => Fault::Missing(oid),
+            existing_iter::Error::ObjectKind { oid, .. } => Fault::WrongKind(oid),
+            existing_iter::Error::Memory => Fault::Memory,
+        }
+    }
+}
+
+impl From<simple::Error> for Fault {
+    ghost use Rattle.gix_walk.specs.Faults.{fault_of_walk};
+
+    ghost from_gives = { λ e r. r ≡ fault_of_walk e };
+
+    fn from(error: simple::Error) -> Fault {
+        match error {
+            simple::Error::Find(fault) => Fault::from(fault),
+            simple::Error::ObjectDecode(_) => Fault::Broken,
+            simple::Error::HiddenGraph(simple::Hidden::Find(fault)) => Fault::from(fault),
+            simple::Error::HiddenGraph(simple::Hidden::ObjectDecode(_)) => Fault::Broken,
+            simple::Error::Memory => Fault::Memory,
+        }
+    }
+}
+
+#[cfg(test)]
+mod tests {
+    use super::*;
+    use std::test::Fail;
+
+    #[test]
+    fn prints_its_text(rt: HostRuntime) -> Result<(), Fail> {
+        let id = ObjectId::Sha1([0x11; 20]);
+        let digits = "1111111111111111111111111111111111111111";
+        let missing = format!(in rt.alloc(); "missing {digits}")?;
+        let wrong_kind = format!(in rt.alloc(); "wrong kind {digits}")?;
+        for (fault, text) in [
+            (Fault::Usage, "usage"),
+            (Fault::Id(2), "bad id in word 2"),
+            (Fault::Record(1), "bad record 1"),
+            (Fault::Missing(id), missing.as_str()),
+            (Fault::WrongKind(id), wrong_kind.as_str()),
+            (Fault::Broken, "broken object"),
+            (Fault::Memory, "out of memory"),
+            (Fault::Read, "read failed"),
+            (Fault::Write, "write failed"),
+            (Fault::Internal, "internal fault"),
+        ] {
+            let printed = fault.to_string(rt.alloc())?;
+            assert_eq!(rt; printed.as_str(), text);
+        }
+        Ok(())
+    }
+}

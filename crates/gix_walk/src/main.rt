@@ -1,0 +1,39 @@
+//! Lists the commits that some commits reach, from a stream of a repository's objects.
+#![tactic(auto)]
+
+mod fault;
+mod input;
+mod output;
+mod records;
+mod run;
+mod words;
+
+use fault::Fault;
+use std::process::ExitCode;
+use std::{env, io};
+
+fn main(rt: HostRuntime) -> ExitCode {
+    match answer(&rt) {
+        Ok(()) => ExitCode::SUCCESS,
+        Err(fault) => {
+            let _ = eprintln!(rt; "gix_walk: {fault}");
+            ExitCode::FAILURE
+        }
+    }
+}
+
+// Runs the command that the arguments name, from standard input to standard output.
+fn answer(rt: &HostRuntime) -> Result<(), Fault> {
+    let mut arguments = env::args(rt).map_err(fault_of_arguments)?;
+    let _name = arguments.next();
+    let words: Vec<String> = arguments.collect(rt.alloc())?;
+    run::run(rt.alloc(), &words, &mut rt.stdin(), &mut rt.stdout())
+}
+
+// Arguments that aren't UTF-8 are no command.
+fn fault_of_arguments(error: io::Error) -> Fault {
+    match error.kind() {
+        io::ErrorKind::OutOfMemory => Fault::Memory,
+        _ => Fault::Usage,
+    }
+}

@@ -1,0 +1,87 @@
+//! The lines of a walk.
+ghost use Rattle.std.specs.Prelude.{◌≡◌, ◌≢◌, ◌⊎◌, [], Err, OnOk, OnErr, IfErr};
+ghost use Rattle.std.specs.Io.KnownBytes.{Appends};
+ghost use Rattle.gix_walk.specs.Output.{Grows, Adds, WritesAll};
+ghost use Rattle.gix_walk.specs.Walked.{line_of};
+
+use crate::fault::Fault;
+use gix_parts::hash::ObjectId;
+use gix_parts::object::memory::MemoryStore;
+use gix_traverse::commit::{Simple, Unfiltered};
+use std::alloc::Global;
+use std::io::Write;
+
+// How many bytes wait before they are written.
+const MANY: usize = 1 << 16;
+
+/// Draws a walk to its end or to its first fault, and writes the id of each commit that it gives, one a line.
+///
+/// # Errors
+/// The fault of the walk; the lines of the commits before it are written. `Write` where the writer failed. `Memory`.
+pub fn write_commits<W: Write>(
+    alloc: Global,
+    walk: Simple<MemoryStore, Unfiltered>,
+    writer: &mut W,
+) -> Result<(), Fault>
+    ensures { result ≢ Err Fault.Write → WritesAll walk (W.contents writer.old) result (W.contents writer.new) }
+{
+    let mut lines = Vec::new(alloc);
+    let drawn = add_commits(alloc, walk, &mut lines, writer);
+    write_lines(&mut lines, writer)?;
+    writer.flush().map_err(|_| Fault::Write)?;
+    drawn
+}
+
+// Adds a line for each commit to those that wait, up to the walk's first fault.
+fn add_commits<W: Write>(
+    alloc: Global,
+    walk: Simple<MemoryStore, Unfiltered>,
+    lines: &mut Vec<u8>,
+    writer: &mut W,
+) -> Result<(), Fault>
+    ensures { result ≢ Err Fault.Write → Adds walk (W.contents writer.old) lines.old.items result (W.contents writer.new) lines.new.items }
+{
+    for answer in walk {
+        let info = answer?;
+        add_line(alloc, lines, writer, info.id)?;
+    }
+    Ok(())
+}
+
+// Adds a line to those that wait.
+fn add_line<W: Write>(
+    alloc: Global,
+    lines: &mut Vec<u8>,
+    writer: &mut W,
+    id: ObjectId,
+) -> Result<(), Fault>
+    ensures ok { OnOk result (Grows (W.contents writer.old) lines.old.items (W.contents writer.new) lines.new.items (line_of id)) }
+    ensures err { IfErr result (λ e. (e ≡ Fault.Write) ⊎ ((e ≡ Fault.Memory) × Grows (W.contents writer.old) lines.old.items (W.contents writer.new) lines.new.items [])) }
+{
+    make_room(lines, writer)?;
+    let line = format!(in alloc; "{id}\n")?;
+    lines.extend_from_slice(line.as_bytes())?;
+    Ok(())
+}
+
+// Writes the lines that wait, where they are many.
+fn make_room<W: Write>(lines: &mut Vec<u8>, writer: &mut W) -> Result<(), Fault>
+    ensures ok { OnOk result (Grows (W.contents writer.old) lines.old.items (W.contents writer.new) lines.new.items []) }
+    ensures fault { IfErr result (λ e. e ≡ Fault.Write) }
+{
+    if lines.len() < MANY {
+        return Ok(());
+    }
+    write_lines(lines, writer)
+}
+
+// Writes the lines that wait. Behind a failure nothing waits.
+fn write_lines<W: Write>(lines: &mut Vec<u8>, writer: &mut W) -> Result<(), Fault>
+    ensures ok { OnOk result (Appends (W.contents writer.old) (W.contents writer.new) lines.old.items) }
+    ensures fault { IfErr result (λ e. e ≡ Fault.Write) }
+    ensures empty { lines.new.items ≡ [] }
+{
+    let written = writer.write_all(lines.as_slice());
+    lines.clear();
+    written.map_err(|_| Fault::Write)
+}

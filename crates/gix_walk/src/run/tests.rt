@@ -1,0 +1,377 @@
+use super::*;
+use gix_parts::hash::ObjectId;
+use std::alloc::AllocError;
+use std::io;
+use std::test::Fail;
+
+const ONE: &str = "1111111111111111111111111111111111111111";
+
+const TWO: &str = "2222222222222222222222222222222222222222";
+
+const EMPTY_TREE: &str = "4b825dc642cb6eb9a060e54bf8d69288fbee4904";
+
+// The text of a commit with these parents, whose times are a number.
+fn commit(alloc: Global, time: &str, parents: &[&str]) -> Result<String, AllocError> {
+    let mut text = format!(in alloc; "tree {EMPTY_TREE}\n")?;
+    for parent in parents {
+        let line = format!(in alloc; "parent {parent}\n")?;
+        text.push_str(line.as_str())?;
+    }
+    let people = format!(in alloc;
+        "author A <a@b> {time} +0000\ncommitter A <a@b> {time} +0000\n\n"
+    )?;
+    text.push_str(people.as_str())?;
+    Ok(text)
+}
+
+fn record(alloc: Global, kind: &str, id: &str, text: &str) -> Result<String, AllocError> {
+    let len = text.len();
+    format!(in alloc; "{kind} {id} {len}\n{text}\n")
+}
+
+// Commit 1, and commit 2 with commit 1 as its parent.
+fn two_commits(alloc: Global) -> Result<String, AllocError> {
+    let first = commit(alloc, "1", &[])?;
+    let second = commit(alloc, "2", &[ONE])?;
+    let mut records = record(alloc, "commit", ONE, first.as_str())?;
+    records.push_str(record(alloc, "commit", TWO, second.as_str())?.as_str())?;
+    Ok(records)
+}
+
+fn strings(alloc: Global, words: &[&str]) -> Result<Vec<String>, AllocError> {
+    let mut strings = Vec::new(alloc);
+    for word in words {
+        strings.push(String::from_str(alloc, word)?)?;
+    }
+    Ok(strings)
+}
+
+// What a run answers and writes.
+fn outcome(
+    alloc: Global,
+    words: &[&str],
+    input: &str,
+) -> Result<(Result<(), Fault>, Vec<u8>), AllocError> {
+    let words = strings(alloc, words)?;
+    let mut reader = input.as_bytes();
+    let mut output = Vec::new(alloc);
+    let answer = run(alloc, &words, &mut reader, &mut output);
+    Ok((answer, output))
+}
+
+fn id(digits: &str) -> Result<ObjectId, Fail> {
+    Ok(ObjectId::from_hex(digits.as_bytes())?)
+}
+
+#[test]
+fn prints_the_child_first(rt: HostRuntime) -> Result<(), Fail> {
+    let alloc = rt.alloc();
+    let input = two_commits(alloc)?;
+    let (answer, output) = outcome(alloc, &["breadth", TWO], input.as_str())?;
+    assert_eq!(rt; answer, Ok(()));
+    let lines = format!(in alloc; "{TWO}\n{ONE}\n")?;
+    assert_eq!(rt; output.as_slice(), lines.as_bytes());
+    Ok(())
+}
+
+#[test]
+fn a_missing_parent_comes_behind_the_child(rt: HostRuntime) -> Result<(), Fail> {
+    let alloc = rt.alloc();
+    let second = commit(alloc, "2", &[ONE])?;
+    let input = record(alloc, "commit", TWO, second.as_str())?;
+    let (answer, output) = outcome(alloc, &["breadth", TWO], input.as_str())?;
+    assert_eq!(rt; answer, Err(Fault::Missing(id(ONE)?)));
+    let lines = format!(in alloc; "{TWO}\n")?;
+    assert_eq!(rt; output.as_slice(), lines.as_bytes());
+    Ok(())
+}
+
+#[test]
+fn judges_the_words_first(rt: HostRuntime) -> Result<(), Fail> {
+    let alloc = rt.alloc();
+    let (answer, output) = outcome(alloc, &[], "no record")?;
+    assert_eq!(rt; answer, Err(Fault::Usage));
+    assert!(rt; output.is_empty());
+    let (answer, output) = outcome(alloc, &["breadth"], "no record")?;
+    assert_eq!(rt; answer, Err(Fault::Usage));
+    assert!(rt; output.is_empty());
+    let longer = format!(in alloc; "{ONE}1")?;
+    for (command, id, fault) in [
+        ("walk", ONE, Fault::Usage),
+        ("", ONE, Fault::Usage),
+        ("breadths", ONE, Fault::Usage),
+        (
+            "breadth",
+            "^1111111111111111111111111111111111111111",
+            Fault::Usage,
+        ),
+        ("breadth", "^", Fault::Usage),
+        ("breadth", "", Fault::Id(3)),
+        ("breadth", "zz", Fault::Id(3)),
+        (
+            "breadth",
+            "111111111111111111111111111111111111111z",
+            Fault::Id(3),
+        ),
+        ("breadth", longer.as_str(), Fault::Id(3)),
+    ] {
+        let (answer, output) = outcome(alloc, &[command, ONE, id, "zz"], "no record")?;
+        assert_eq!(rt; answer, Err(fault));
+        assert!(rt; output.is_empty());
+    }
+    Ok(())
+}
+
+#[test]
+fn a_bad_id_is_told_by_its_number(rt: HostRuntime) -> Result<(), Fail> {
+    let (answer, output) = outcome(rt.alloc(), &["breadth", "zz"], "")?;
+    assert_eq!(rt; answer, Err(Fault::Id(2)));
+    assert!(rt; output.is_empty());
+    Ok(())
+}
+
+#[test]
+fn empty_input_is_no_records(rt: HostRuntime) -> Result<(), Fail> {
+    let alloc = rt.alloc();
+    let (answer, output) = outcome(alloc, &["breadth", ONE], "")?;
+    assert_eq!(rt; answer, Err(Fault::Missing(id(ONE)?)));
+    assert!(rt; output.is_empty());
+    Ok(())
+}
+
+#[test]
+fn a_later_record_replaces_an_earlier(rt: HostRuntime) -> Result<(), Fail> {
+    let alloc = rt.alloc();
+    let old = commit(alloc, "1", &[TWO])?;
+    let new = commit(alloc, "1", &[])?;
+    let mut input = record(alloc, "commit", ONE, old.as_str())?;
+    input.push_str(record(alloc, "commit", ONE, new.as_str())?.as_str())?;
+    let (answer, output) = outcome(alloc, &["breadth", ONE], input.as_str())?;
+    assert_eq!(rt; answer, Ok(()));
+    let lines = format!(in alloc; "{ONE}\n")?;
+    assert_eq!(rt; output.as_slice(), lines.as_bytes());
+    Ok(())
+}
+
+#[test]
+fn tells_what_an_object_is_not(rt: HostRuntime) -> Result<(), Fail> {
+    let alloc = rt.alloc();
+    let whole = commit(alloc, "1", &[])?;
+    for kind in ["tree", "blob", "tag"] {
+        let input = record(alloc, kind, ONE, whole.as_str())?;
+        let (answer, _output) = outcome(alloc, &["breadth", ONE], input.as_str())?;
+        assert_eq!(rt; answer, Err(Fault::WrongKind(id(ONE)?)));
+    }
+    let input = record(alloc, "commit", ONE, "tree")?;
+    let (answer, _output) = outcome(alloc, &["breadth", ONE], input.as_str())?;
+    assert_eq!(rt; answer, Err(Fault::Broken));
+    Ok(())
+}
+
+#[test]
+fn takes_other_spellings(rt: HostRuntime) -> Result<(), Fail> {
+    let alloc = rt.alloc();
+    let lower = "aaaaaaaaaaaaaaaaaaaaaaaaaaaaaaaaaaaaaaaa";
+    let upper = "AAAAAAAAAAAAAAAAAAAAAAAAAAAAAAAAAAAAAAAA";
+    let text = commit(alloc, "1", &[])?;
+    let input = format!(in alloc; "tag {upper} 000\n\ncommit {upper} 0000000096\n{text}\n")?;
+    for tip in [lower, upper] {
+        let (answer, output) = outcome(alloc, &["breadth", tip, lower], input.as_str())?;
+        assert_eq!(rt; answer, Ok(()));
+        let lines = format!(in alloc; "{lower}\n")?;
+        assert_eq!(rt; output.as_slice(), lines.as_bytes());
+    }
+    let long = format!(in alloc; "{ONE}111111111111111111111111")?;
+    let (answer, _output) = outcome(alloc, &["breadth", long.as_str()], "")?;
+    assert_eq!(rt; answer, Err(Fault::Missing(id(long.as_str())?)));
+    Ok(())
+}
+
+#[test]
+fn refuses_what_is_no_record(rt: HostRuntime) -> Result<(), Fail> {
+    let alloc = rt.alloc();
+    let short = "111111111111111111111111111111111111111";
+    for (front, behind) in [
+        ("c", ""),
+        ("commit", ""),
+        ("", " 0\n\n"),
+        (" ", " 0\n\n"),
+        ("commits ", " 0\n\n"),
+        ("Commit ", " 0\n\n"),
+        ("commit  ", " 0\n\n"),
+        ("commit\n", " 0\n\n"),
+        ("commit x", " 0\n\n"),
+        ("commit 1", " 0\n\n"),
+        ("commit ", ""),
+        ("commit ", "\n"),
+        ("commit ", " "),
+        ("commit ", " \n\n"),
+        ("commit ", " 0"),
+        ("commit ", " 0\n"),
+        ("commit ", " 0\nx"),
+        ("commit ", " 0 \n\n"),
+        ("commit ", "  0\n\n"),
+        ("commit ", " -1\n\n"),
+        ("commit ", " +0\n\n"),
+        ("commit ", " 0x0\n\n"),
+        ("commit ", " 00000000000\n\n"),
+        ("commit ", " 9999999999\n\n"),
+        ("commit ", " 96\n0123456789"),
+        ("commit ", " 3\n12\n"),
+        ("commit ", " 1\n12\n"),
+    ] {
+        let input = format!(in alloc; "{front}{ONE}{behind}")?;
+        let (answer, output) = outcome(alloc, &["breadth", ONE], input.as_str())?;
+        assert_eq!(rt; answer, Err(Fault::Record(1)), "{front:?} and {behind:?}");
+        assert!(rt; output.is_empty());
+        let behind_two = format!(in alloc; "blob {TWO} 0\n\nblob {ONE} 1\nx\n{input}")?;
+        let (answer, _output) = outcome(alloc, &["breadth", ONE], behind_two.as_str())?;
+        assert_eq!(rt; answer, Err(Fault::Record(3)), "{front:?} and {behind:?}");
+    }
+    let input = format!(in alloc; "commit {short} 0\n\n")?;
+    let (answer, _output) = outcome(alloc, &["breadth", ONE], input.as_str())?;
+    assert_eq!(rt; answer, Err(Fault::Record(1)));
+    Ok(())
+}
+
+// Gives one byte at each read. The read of a number fails, and each other read is interrupted first.
+#[derive(Drop)]
+struct Drip<'a> {
+    bytes: &'a [u8],
+    reads: usize,
+    fails_at: usize,
+}
+
+impl Read for Drip<'_> {
+    fn read(&mut self, buf: &mut [u8]) -> io::Result<usize> {
+        self.reads = self.reads.saturating_add(1);
+        if self.reads == self.fails_at {
+            return Err(io::Error::from(io::ErrorKind::Other));
+        }
+        if self.reads % 2 == 1 {
+            return Err(io::Error::from(io::ErrorKind::Interrupted));
+        }
+        match (self.bytes.split_first(), buf.first_mut()) {
+            (Some((first, rest)), Some(byte)) => {
+                *byte = *first;
+                self.bytes = rest;
+                Ok(1)
+            }
+            _ => Ok(0),
+        }
+    }
+}
+
+#[test]
+fn a_failing_reader_is_told(rt: HostRuntime) -> Result<(), Fail> {
+    let alloc = rt.alloc();
+    let words = strings(alloc, &["breadth", TWO])?;
+    let input = two_commits(alloc)?;
+    let lines = format!(in alloc; "{TWO}\n{ONE}\n")?;
+    let reads = input.len().saturating_mul(2).saturating_add(2);
+    for fails_at in 1..reads.saturating_add(1) {
+        let mut reader = Drip {
+            bytes: input.as_bytes(),
+            reads: 0,
+            fails_at,
+        };
+        let mut output: Vec<u8> = Vec::new(alloc);
+        let answer = run(alloc, &words, &mut reader, &mut output);
+        assert_eq!(rt; answer, Err(Fault::Read));
+        assert!(rt; output.is_empty());
+    }
+    let mut reader = Drip {
+        bytes: input.as_bytes(),
+        reads: 0,
+        fails_at: 0,
+    };
+    let mut output: Vec<u8> = Vec::new(alloc);
+    let answer = run(alloc, &words, &mut reader, &mut output);
+    assert_eq!(rt; answer, Ok(()));
+    assert_eq!(rt; reader.reads, reads);
+    assert_eq!(rt; output.as_slice(), lines.as_bytes());
+    Ok(())
+}
+
+// Takes one byte at each write. The write of a number fails, and so does a flush behind it.
+#[derive(Drop)]
+struct Trickle {
+    bytes: Vec<u8>,
+    writes: usize,
+    fails_at: usize,
+}
+
+impl Write for Trickle {
+    fn write(&mut self, buf: &[u8]) -> io::Result<usize> {
+        self.writes = self.writes.saturating_add(1);
+        if self.writes == self.fails_at {
+            return Err(io::Error::from(io::ErrorKind::Other));
+        }
+        match buf.first() {
+            Some(byte) => {
+                self.bytes.push(*byte)?;
+                Ok(1)
+            }
+            None => Ok(0),
+        }
+    }
+
+    fn flush(&mut self) -> io::Result<()> {
+        self.writes = self.writes.saturating_add(1);
+        if self.writes == self.fails_at {
+            return Err(io::Error::from(io::ErrorKind::Other));
+        }
+        Ok(())
+    }
+}
+
+#[test]
+fn a_failing_writer_is_told(rt: HostRuntime) -> Result<(), Fail> {
+    let alloc = rt.alloc();
+    let words = strings(alloc, &["breadth", TWO])?;
+    let input = two_commits(alloc)?;
+    let lines = format!(in alloc; "{TWO}\n{ONE}\n")?;
+    for fails_at in 1..85 {
+        let mut reader = input.as_bytes();
+        let mut writer = Trickle {
+            bytes: Vec::new(alloc),
+            writes: 0,
+            fails_at,
+        };
+        let answer = run(alloc, &words, &mut reader, &mut writer);
+        // 82 bytes, and a flush behind them.
+        let expected = if fails_at < 84 {
+            Err(Fault::Write)
+        } else {
+            Ok(())
+        };
+        assert_eq!(rt; answer, expected);
+        assert!(rt; lines.as_bytes().starts_with(writer.bytes.as_slice()));
+    }
+    Ok(())
+}
+
+#[test]
+fn writes_many_lines(rt: HostRuntime) -> Result<(), Fail> {
+    let alloc = rt.alloc();
+    let mut input = String::new(alloc);
+    let mut lines = String::new(alloc);
+    for n in 0..2000u32 {
+        let id = format!(in alloc; "{n:040x}")?;
+        let parent = format!(in alloc; "{:040x}", n.saturating_add(1))?;
+        let text = if n < 1999 {
+            commit(alloc, "1", &[parent.as_str()])?
+        } else {
+            commit(alloc, "1", &[])?
+        };
+        input.push_str(record(alloc, "commit", id.as_str(), text.as_str())?.as_str())?;
+        lines.push_str(id.as_str())?;
+        lines.push_str("\n")?;
+    }
+    let zero = "0000000000000000000000000000000000000000";
+    let (answer, output) = outcome(alloc, &["breadth", zero], input.as_str())?;
+    assert_eq!(rt; answer, Ok(()));
+    assert_eq!(rt; output.len(), 82_000);
+    assert_eq!(rt; output.as_slice(), lines.as_bytes());
+    Ok(())
+}
