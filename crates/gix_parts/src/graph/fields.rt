@@ -17,11 +17,15 @@ pub(super) fn row_len(kind: Kind) -> usize
     }
 }
 
-/// The number of bytes that a layout asks for, or a few less where that is no `usize`.
-pub(super) fn packed_len(layout: Layout) -> usize {
-    let rows = row_len(layout.kind).saturating_mul(layout.rows as usize);
-    rows.saturating_add(4 * layout.words as usize)
-        .saturating_add(12)
+/// The number of bytes of packed rows.
+pub(super) fn packed_len(layout: Layout) -> usize
+    ensures { result ≡ 12 + row_len layout.kind * layout.rows + 4 * layout.words }
+{
+    let words_len = 4 * layout.words as usize;
+    match layout.kind {
+        Kind::Sha1 => 12 + 60 * layout.rows as usize + words_len,
+        Kind::Sha256 => 12 + 84 * layout.rows as usize + words_len,
+    }
 }
 
 /// What begins with the packed row of a number.
