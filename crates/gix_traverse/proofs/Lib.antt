@@ -16,3 +16,16 @@ pub mod TextFacts
 pub mod TakeFacts
 pub mod NextFacts
 pub mod MadeFacts
+pub mod LevelLemmas
+pub mod DepthLemmas
+pub mod RecorderLemmas
+pub mod BothLemmas
+pub mod MeasureLemmas
+pub mod SoundLemmas
+pub mod BreakLemmas
+pub mod TreeLawLemmas
+pub mod MetLemmas
+pub mod WaitLemmas
+pub mod LevelSoFar
+pub mod DepthSoFar
+pub mod ShowLemmas

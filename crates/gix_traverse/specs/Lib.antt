@@ -7,3 +7,17 @@ pub mod SimpleWalk
 pub mod SimpleLaws
 pub mod Examples
 pub mod SimpleErrors
+pub mod Delegate
+pub mod Visits
+pub mod Paths
+pub mod LevelOrder
+pub mod Preorder
+pub mod Script
+pub mod LevelQueue
+pub mod ShowsEntry
+pub mod Trees
+pub mod TreeErrors
+pub mod TreeMeasure
+pub mod Recorder
+pub mod TreeLaws
+pub mod TreeExamples

@@ -1,0 +1,2 @@
+//! A walk that shows a tree right behind its entry.
+pub use crate::tree::breadthfirst::Error;
