@@ -27,5 +27,8 @@ pub mod TreeLawLemmas
 pub mod MetLemmas
 pub mod WaitLemmas
 pub mod LevelSoFar
+pub mod StackLemmas
+pub mod DescendLemmas
 pub mod DepthSoFar
+pub mod DepthTurns
 pub mod ShowLemmas

@@ -1,6 +1,7 @@
 -- The trees that a walk by levels has met, each with the known ids down to it.
 use Rattle.std.proofs.Common.{◌≡◌, ℕ, zero, suc, ◌+◌, ◌-◌, ◌<◌, ◌≤◌, List, [], ◌∷◌, ◌++◌, length, drop, get_or, ◌||◌, Some, refl, sym, ap, ◌∙◌, subst, arith, length-append, zero-add}
 use Rattle.std.specs.Prelude.{slice_get}
+use Rattle.std.proofs.lemmas.List.{drop_all}
 use Rattle.std.proofs.lemmas.Option.{slice_get_read}
 use Rattle.gix_parts.specs.declared.hash.ObjectId.{ObjectId}
 use Rattle.gix_parts.specs.Id.{is_same, is_among}
@@ -20,12 +21,6 @@ drop_at : {X : Type 0} (xs : List X) (k : ℕ) (x : X) → slice_get xs k ≡ So
 drop_at [] k x e = cc
 drop_at (y ∷ xs) zero x e = let same : y ≡ x = cc in ap (λ z. z ∷ xs) same
 drop_at (y ∷ xs) (suc k) x e = drop_at xs k x e
-
-drop_past : {X : Type 0} (xs : List X) (k : ℕ) → length xs ≤ k → drop k xs ≡ []
-drop_past [] zero h = refl
-drop_past [] (suc k) h = refl
-drop_past (x ∷ xs) zero h = absurd (omega arith)
-drop_past (x ∷ xs) (suc k) h = drop_past xs k (omega arith)
 
 drop_more : {X : Type 0} (xs ys : List X) (k : ℕ) → k ≤ length xs → drop k (xs ++ ys) ≡ drop k xs ++ ys
 drop_more xs ys zero h = refl
@@ -123,4 +118,4 @@ queue_turns trees turn t a w h =
     (drop_at met turn _ (met_first trees turn t a e) ∙ ap (λ ids. (t.oid, ids) ∷ drop (suc turn) met) (sym (known_up trees turn t a e)))
 
 pub queue_ends : (trees : List Tree) (turn : ℕ) → length trees ≤ turn → (level_queue turn trees).waiting ≡ []
-queue_ends trees turn h = drop_past (met_behind [] trees) turn (omega (arith, met_length [] trees, h))
+queue_ends trees turn h = drop_all turn (met_behind [] trees) (omega (arith, met_length [] trees, h))

@@ -14,7 +14,7 @@ use Rattle.gix_traverse.specs.ShowsEntry as shows
 use Rattle.gix_traverse.specs.ShowsEntry.{ShowsEntry, Queues, visit_below}
 
 -- what the exit of a `?` returns
-pub failed_so : {E : Type 0} (why : E) (r : Result (Unit {0}) E) → IsErrAnd r (λ e. e ≡ why) → r ≡ Err why
+pub failed_so : {T E : Type 0} (why : E) (r : Result T E) → IsErrAnd r (λ e. e ≡ why) → r ≡ Err why
 failed_so why (Ok done) h = absurd h
 failed_so why (Err e) h = ap Err h
 

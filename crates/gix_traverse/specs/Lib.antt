@@ -16,6 +16,8 @@ pub mod Script
 pub mod LevelQueue
 pub mod ShowsEntry
 pub mod Trees
+pub mod TreeStack
+pub mod ShowsBelow
 pub mod TreeErrors
 pub mod TreeMeasure
 pub mod Recorder
