@@ -1,5 +1,7 @@
-//! Walks of Git's commit history.
+//! Walks of Git's commit history and of its trees.
 #![tactic(auto)]
 
 pub mod commit;
 pub mod laws;
+pub mod laws_tree;
+pub mod tree;

@@ -1,0 +1,14 @@
+use Rattle.std.proofs.Common.{◌≡◌, ◌≤◌, [], length}
+use Rattle.gix_parts.specs.Id.{is_among}
+use Rattle.gix_traverse.specs.LevelQueue.{known_at, met_behind}
+use Rattle.gix_traverse.proofs.tree.breadthfirst.Queue.knows.Given as goal
+
+-- the ids that are left tell whether the id is known
+abbrev pub invariant-loop-turn : goal.invariant-loop-turn
+invariant-loop-turn l = record {
+  within : l.turn ≤ length l.self-inside.trees.items;
+  same : is_among l.oid (known_at (met_behind [] l.self-inside.trees.items) l.turn) ≡ is_among l.oid l.self.known;
+}
+
+abbrev pub decreases-loop-turn : goal.decreases-loop-turn
+decreases-loop-turn l = l.turn

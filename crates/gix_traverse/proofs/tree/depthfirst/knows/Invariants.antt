@@ -1,0 +1,7 @@
+use Rattle.std.proofs.Common.{◌≡◌, drop}
+use Rattle.gix_traverse.proofs.StackLemmas.{is_of}
+use Rattle.gix_traverse.proofs.tree.depthfirst.knows.Given as goal
+
+-- the trees that are left tell whether the id is that of one
+abbrev pub invariant-loop-upper : goal.invariant-loop-upper
+invariant-loop-upper l = is_of l.oid (drop l.upper-index l.above) ≡ is_of l.oid l.above

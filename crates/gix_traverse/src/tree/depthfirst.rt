@@ -1,0 +1,225 @@
+//! A walk that shows a tree right behind its entry.
+ghost use Rattle.std.specs.Prelude.{◌≡◌, ◌≤◌, ◌-◌, ◌∷◌, ◌++◌, [], OnOk, OnErr, take, reverse, length};
+ghost use Rattle.gix_parts.specs.Id.{is_among};
+ghost use Rattle.gix_parts.specs.TreeRefIter.{entry_of};
+ghost use Rattle.gix_traverse.specs.ShowsBelow.{Descends, ShowsBelow, ShowsUpTo};
+ghost use Rattle.gix_traverse.specs.TreeStack.{FoundTree, IsWithin, ids_down, items_at};
+ghost use Rattle.gix_traverse.specs.Trees.{DepthFirst};
+
+pub use crate::tree::breadthfirst::Error;
+use crate::tree::visit::{Visit, see};
+use bstr::BStr;
+use gix_parts::hash::ObjectId;
+use gix_parts::object::Kind;
+use gix_parts::object::find::{Find, existing_iter};
+use gix_parts::object::tree::{EntryRef, TreeRefIter};
+use std::alloc::{AllocError, Global};
+use std::mem;
+use std::ops::ControlFlow;
+
+/// The buffers for the bytes of trees. They are used again by each walk that they are handed to, and change no answer.
+#[derive(Drop)]
+pub struct State {
+    free: Vec<Vec<u8>>,
+    alloc: Global,
+}
+
+impl State {
+    /// It takes no memory until a walk does.
+    pub fn new(alloc: Global) -> State
+        ensures { result.free.items ≡ [] }
+    {
+        State {
+            free: Vec::new(alloc),
+            alloc,
+        }
+    }
+
+    /// An empty buffer: the one that was put back last, or else a new one that takes no memory yet.
+    pub fn pop_buf(&mut self) -> Vec<u8>
+        ensures empty { result.items ≡ [] }
+        ensures rest { self.new.free.items ≡ take (length self.old.free.items - 1) self.old.free.items }
+    {
+        match self.free.pop() {
+            Some(mut buf) => {
+                buf.clear();
+                buf
+            }
+            None => Vec::new(self.alloc),
+        }
+    }
+
+    /// Puts a buffer back. Where memory is wanting, the buffer is dropped and nothing changes.
+    pub fn push_buf(&mut self, buf: Vec<u8>) -> Result<(), AllocError>
+        ensures ok { OnOk result (self.new.free.items ≡ self.old.free.items ++ buf ∷ []) }
+        ensures err { OnErr result (self.new.free.items ≡ self.old.free.items) }
+    {
+        self.free.push(buf)?;
+        Ok(())
+    }
+}
+
+// A tree that is gone through: its id, its bytes, and where in them the next entry begins.
+#[derive(Drop)]
+struct Tree {
+    oid: ObjectId,
+    bytes: Vec<u8>,
+    next: usize,
+}
+
+// Where a walk leaves a tree.
+#[derive(Clone, Copy, PartialEq, Eq, Debug)]
+enum Stop {
+    // At its end.
+    End,
+    // Behind an entry that was answered `Break`.
+    Broken,
+    // Behind an entry whose tree, of this id, is to be gone into.
+    Into(ObjectId),
+}
+
+fn look_up<F: Find>(
+    objects: &F,
+    oid: ObjectId,
+    state: &mut State,
+) -> Result<Tree, existing_iter::Error>
+    ensures { FoundTree (F.objects objects.now) (F.faulty objects.now) oid result }
+{
+    let mut bytes = state.pop_buf();
+    objects.find_kind_into(&oid, Kind::Tree, &mut bytes)?;
+    Ok(Tree {
+        oid,
+        bytes,
+        next: 0,
+    })
+}
+
+// Whether the id is that of the tree or of one above it.
+fn knows(tree: &ObjectId, above: &[Tree], oid: &ObjectId) -> bool
+    ensures { result ≡ is_among oid.now (tree.now ∷ ids_down (reverse above.now)) }
+{
+    for upper in above {
+        if *oid == upper.oid {
+            return true;
+        }
+    }
+    *oid == *tree
+}
+
+// Makes ready to go into the entry's tree.
+fn descend<V: Visit>(
+    tree: &ObjectId,
+    above: &mut Vec<Tree>,
+    delegate: &mut V,
+    entry: &EntryRef<'_>,
+) -> Result<(), Error>
+    ensures descends { Descends V.steps (tree.now ∷ ids_down (reverse above.old.items)) (entry_of entry.now) delegate.old delegate.new result }
+    ensures same { above.new.items ≡ above.old.items }
+{
+    if knows(tree, above, &entry.oid) {
+        return Err(Error::Cycle { oid: entry.oid });
+    }
+    above.reserve(1)?;
+    delegate.push_back_tracked_path_component(&BStr::new(b""))?;
+    delegate.push_back_tracked_path_component(&entry.filename)?;
+    Ok(())
+}
+
+// Shows an entry of the tree. None says that the walk goes on behind the entry.
+fn show<V: Visit>(
+    tree: &ObjectId,
+    above: &mut Vec<Tree>,
+    delegate: &mut V,
+    entry: &EntryRef<'_>,
+) -> Result<Option<Stop>, Error>
+    ensures shows { ShowsBelow V.steps (tree.now ∷ ids_down (reverse above.old.items)) (entry_of entry.now) delegate.old delegate.new result }
+    ensures same { above.new.items ≡ above.old.items }
+{
+    delegate.push_path_component(&entry.filename)?;
+    let answer = see(delegate, entry)?;
+    let is_tree = entry.mode.is_tree();
+    let ControlFlow::Continue(into) = answer else {
+        if is_tree {
+            delegate.pop_path_component();
+        }
+        return Ok(Some(Stop::Broken));
+    };
+    delegate.pop_path_component();
+    if !into || !is_tree {
+        return Ok(None);
+    }
+    descend(tree, above, delegate, entry)?;
+    Ok(Some(Stop::Into(entry.oid)))
+}
+
+// Shows the entries of the tree from the next one on, up to where the walk leaves the tree.
+fn show_on<V: Visit>(
+    tree: &mut Tree,
+    above: &mut Vec<Tree>,
+    delegate: &mut V,
+) -> Result<Stop, Error>
+    requires { IsWithin tree.old }
+    ensures shows { ShowsUpTo V.steps (tree.old.oid ∷ ids_down (reverse above.old.items)) (items_at tree.old) delegate.old delegate.new result (items_at tree.new) }
+    ensures same { above.new.items ≡ above.old.items }
+    ensures oid { tree.new.oid ≡ tree.old.oid }
+    ensures within { IsWithin tree.new }
+{
+    let oid = tree.oid;
+    let mut entries = TreeRefIter::from_bytes(&tree.bytes[tree.next..], oid.kind());
+    while let Some(entry) = entries.next() {
+        let stop = show(&oid, above, delegate, &entry?)?;
+        if let Some(stop) = stop {
+            tree.next = entries.offset_to_next_entry(&tree.bytes);
+            return Ok(stop);
+        }
+    }
+    Ok(Stop::End)
+}
+
+// The tree is the nearest of those above.
+fn keep(above: &mut Vec<Tree>, tree: Tree) -> Result<(), AllocError>
+    ensures { OnOk result (above.new.items ≡ above.old.items ++ tree ∷ []) }
+{
+    above.push(tree)?;
+    Ok(())
+}
+
+/// Looks a tree up by its id and shows each of its entries. Behind an entry of a tree that the delegate answered
+/// `Continue(true)` of, that tree is shown in the same way.
+///
+/// Around each visit the delegate is told the entry's name by `push_path_component` and `pop_path_component`. Where its tree
+/// is to be gone into, `push_back_tracked_path_component` tells an empty name, to come back by, and then the entry's name.
+/// Before the first entry of a tree, and where the walk comes back to one, `pop_back_tracked_path_and_set_current` says so.
+/// A visit that is answered `Break` ends the walk well. An error ends it with no further call.
+pub fn depthfirst<F: Find + Drop, V: Visit>(
+    alloc: Global,
+    root: ObjectId,
+    state: &mut State,
+    objects: F,
+    delegate: &mut V,
+) -> Result<(), Error>
+    ensures { DepthFirst (F.objects objects) (F.faulty objects) V.steps root delegate.old delegate.new result }
+{
+    let mut above: Vec<Tree> = Vec::new(alloc);
+    let mut tree = look_up(&objects, root, state)?;
+    delegate.pop_back_tracked_path_and_set_current();
+    'walk: loop {
+        match show_on(&mut tree, &mut above, delegate)? {
+            Stop::Broken => break 'walk,
+            Stop::Into(oid) => {
+                let below = look_up(&objects, oid, state)?;
+                keep(&mut above, mem::replace(&mut tree, below))?;
+            }
+            Stop::End => {
+                let Some(upper) = above.pop() else {
+                    break 'walk;
+                };
+                let shown = mem::replace(&mut tree, upper);
+                let _ = state.push_buf(shown.bytes);
+            }
+        }
+        delegate.pop_back_tracked_path_and_set_current();
+    }
+    let _ = state.push_buf(tree.bytes);
+    Ok(())
+}
