@@ -1,5 +1,5 @@
 -- A store that is held in memory doesn't fail.
-use Rattle.std.specs.Prelude.{◌≡◌, ◌≢◌, ℕ, ℤ, List, Bool, Option, Some, None, Result, Ok, Err}
+use Rattle.std.specs.Prelude.{◌≢◌, ℕ, ℤ, List, Bool, Option, Some, None, Result, Ok, Err}
 use Rattle.gix_parts.specs.declared.hash.ObjectId.{ObjectId}
 use Rattle.gix_parts.specs.declared.object.Kind.{Kind}
 use Rattle.gix_parts.specs.declared.object.Kind.TheVariants as object
@@ -14,8 +14,7 @@ use Rattle.gix_traverse.specs.declared.commit.simple.Error.TheVariants as error
 use Rattle.gix_traverse.specs.declared.commit.simple.Hidden.{Hidden}
 use Rattle.gix_traverse.specs.declared.commit.simple.Hidden.TheVariants as hidden_by
 use Rattle.gix_traverse.specs.declared.commit.simple.Pending.{Pending}
-use Rattle.gix_traverse.specs.SimpleWalk.{Treated, GoesOn, StoreFails, NoMemory, ReadsTime, unasked, from_row, from_store, store_fails, Treats, hidden, known, refused, accepted, no_memory, no_memory_after, TreatsAll, none, more, stops, Concludes, given, broken, Takes, by_row, by_store, not_found, Steps, ended, took, Next, unhidden, paints, faulty_history, IsHiddenFault}
-use Rattle.gix_walk.specs.declared.fault.Fault.{Fault}
+use Rattle.gix_traverse.specs.SimpleWalk.{Treated, GoesOn, StoreFails, NoMemory, ReadsTime, unasked, from_row, from_store, store_fails, Treats, hidden, known, refused, accepted, no_memory, no_memory_after, TreatsAll, none, more, stops, Concludes, given, broken, Takes, by_row, by_store, not_found, Steps, ended, took, unhidden, paints, faulty_history, IsHiddenFault}
 use Rattle.gix_walk.specs.declared.fault.Fault.TheVariants as fault
 use Rattle.gix_walk.specs.Faults.{fault_of_find, fault_of_walk}
 use Rattle.gix_walk.specs.Walked.{Walk, Answers, objects_of, never_faulty, accepts_all}

@@ -1,5 +1,5 @@
 -- Records read from the left, and the grammar of records.
-use Rattle.std.specs.Prelude.{ℕ, zero, suc, ◌≡◌, ◌≢◌, ◌≤◌, ◌<◌, ◌+◌, ◌*◌, ◌==◌, ◌%◌, ◌/◌, List, [], ◌∷◌, ◌++◌, Bool, true, false, length, take, drop, Option, Some, None, Result, Ok, Err, codes}
+use Rattle.std.specs.Prelude.{ℕ, suc, ◌≡◌, ◌≢◌, ◌≤◌, ◌<◌, ◌+◌, ◌==◌, List, [], ◌∷◌, ◌++◌, Bool, true, false, length, take, drop, Option, Some, None, Result, Ok, Err, codes}
 use Rattle.std.specs.List.{AllByRecursion}
 use Rattle.std.specs.Result.{result_ok}
 use Rattle.std.specs.Str.{bytes_eq}

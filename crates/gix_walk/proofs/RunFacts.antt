@@ -1,9 +1,9 @@
 -- What a run may answer.
-use Rattle.std.specs.Prelude.{◌≡◌, ◌≢◌, ◌⊎◌, ℕ, ◌+◌, List, [], ◌∷◌, map, length, Bool, true, false, Option, Some, Result, Ok, Err}
+use Rattle.std.specs.Prelude.{◌≡◌, ◌≢◌, ◌⊎◌, ℕ, ◌+◌, List, [], ◌∷◌, length, Bool, true, false, Option, Some, Result, Ok, Err}
 use Rattle.std.specs.Iterator.{Drains}
 use Rattle.std.specs.declared.vec.IntoIter.{IntoIter}
 use Rattle.std.specs.Vec.Iter.{into_iter_items, into_iter_len, into_iter_steps}
-use Rattle.std.proofs.Common.{cond, sym, subst, ap, ◌∙◌, inl, inr, refl}
+use Rattle.std.proofs.Common.{cond, sym, subst, ap, ◌∙◌, inl, inr}
 use Rattle.std.proofs.lemmas.Iterator.{items_from_drains}
 use Rattle.std.proofs.lemmas.Iterator.Adapters.{YieldsList-from_vec}
 use Rattle.std.proofs.lemmas.List.{map-id}
@@ -22,7 +22,7 @@ use Rattle.gix_walk.specs.declared.fault.Fault.TheVariants as fault
 use Rattle.gix_walk.specs.Faults.{fault_of_find, fault_of_walk}
 use Rattle.gix_walk.specs.Input.{Tells}
 use Rattle.gix_walk.specs.Output.{WritesAll}
-use Rattle.gix_walk.specs.Records.{Record, AreRecords, IsBadRecord, IsRecordFault, bad, no_memory, stored}
+use Rattle.gix_walk.specs.Records.{Record, AreRecords, IsRecordFault, bad, no_memory, stored}
 use Rattle.gix_walk.specs.Run.{Runs, without_memory, no_command, not_read, bad_record, walked, not_written}
 use Rattle.gix_walk.specs.Walked.{Walk, StartsFrom, Ends, finished, failed, cut_short}
 use Rattle.gix_walk.specs.Words.{with_id, ids_from, is_breadth, tips_of}

@@ -1,13 +1,9 @@
 -- The ids that words spell, from the left.
-use Rattle.std.specs.Prelude.{ℕ, ◌≡◌, ◌<◌, ◌+◌, List, [], ◌∷◌, ◌++◌, length, map, drop, Result, Ok, Err}
-use Rattle.std.proofs.Common.{refl, sym, ap, ◌∙◌, arith, get_or, append_assoc}
-use Rattle.std.proofs.lemmas.List.{append-nil}
+use Rattle.std.specs.Prelude.{ℕ, ◌≡◌, List, [], ◌∷◌, ◌++◌, Result, Ok, Err}
+use Rattle.std.proofs.Common.{refl, sym, ap, append_assoc}
 use Rattle.gix_parts.specs.declared.hash.ObjectId.{ObjectId}
-use Rattle.gix_parts.specs.declared.hash.HexError.{HexError}
-use Rattle.gix_parts.specs.Id.{id_from_hex}
 use Rattle.gix_walk.specs.declared.fault.Fault.{Fault}
-use Rattle.gix_walk.specs.declared.fault.Fault.TheVariants as fault
-use Rattle.gix_walk.specs.Words.{with_id, ids_from}
+use Rattle.gix_walk.specs.Words.{with_id}
 
 -- ids behind others
 abbrev pub behind : List ObjectId → Result (List ObjectId) Fault → Result (List ObjectId) Fault

@@ -1,9 +1,8 @@
 -- The lines that wait to be written.
-use Rattle.std.specs.Prelude.{◌≡◌, ◌≢◌, ℕ, List, ◌++◌, Option, Result, Ok, Err, ⊤}
+use Rattle.std.specs.Prelude.{◌≡◌, ℕ, List, ◌++◌, Option, Result}
 use Rattle.std.specs.Io.KnownBytes.{Appends}
 use Rattle.gix_traverse.specs.declared.commit.Info.{Info}
 use Rattle.gix_walk.specs.declared.fault.Fault.{Fault}
-use Rattle.gix_walk.specs.declared.fault.Fault.TheVariants as fault
 use Rattle.gix_walk.specs.Walked.{Walk, Ends, lines_of}
 
 -- the writer's bytes, and behind them what waits, grew by these bytes

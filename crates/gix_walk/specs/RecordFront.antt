@@ -1,11 +1,9 @@
 -- The record at the front of a text, read from the left.
-use Rattle.std.specs.Prelude.{ℕ, ◌==◌, List, [], ◌∷◌, take, drop, Option, Some, None, Result, if◌then◌else◌, codes}
-use Rattle.std.specs.Option.{option_and_then, option_map}
+use Rattle.std.specs.Prelude.{ℕ, ◌==◌, List, [], ◌∷◌, take, drop, Option, Some, None, if◌then◌else◌, codes}
 use Rattle.std.specs.Result.{result_ok}
 use Rattle.std.specs.Str.{bytes_eq}
 use Rattle.gix_parts.specs.declared.object.Kind.{Kind}
 use Rattle.gix_parts.specs.declared.object.Kind.TheVariants as kind
-use Rattle.gix_parts.specs.declared.hash.ObjectId.{ObjectId}
 use Rattle.gix_parts.specs.Id.{id_from_hex}
 use Rattle.gix_walk.specs.Decimal.{decimal}
 use Rattle.gix_walk.specs.Records.{Record}

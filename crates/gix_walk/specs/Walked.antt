@@ -1,5 +1,5 @@
 -- A walk over records, and the lines that it writes.
-use Rattle.std.specs.Prelude.{◌≡◌, ℕ, List, [], ◌∷◌, ◌++◌, map, Bool, true, Option, Some, Result, Ok, Err, ⊤}
+use Rattle.std.specs.Prelude.{◌≡◌, ℕ, List, [], ◌∷◌, ◌++◌, map, Bool, true, Option, Some, Result, Ok, Err}
 use Rattle.std.specs.List.{flat_map}
 use Rattle.std.specs.Iterator.{Yields, YieldsThen}
 use Rattle.gix_parts.specs.declared.hash.ObjectId.{ObjectId}

@@ -1,4 +1,4 @@
-use Rattle.std.proofs.Common.{◌≡◌, ◌≤◌, ◌+◌, length}
+use Rattle.std.proofs.Common.{◌≤◌, ◌+◌, length}
 use Rattle.gix_walk.proofs.RecordFacts.{HasStored}
 use Rattle.gix_walk.proofs.records.read_records.Given as goal
 
