@@ -28,6 +28,7 @@ pub mod TreeLawLemmas
 pub mod MetLemmas
 pub mod WaitLemmas
 pub mod LevelSoFar
+pub mod TrackLemmas
 pub mod StackLemmas
 pub mod DescendLemmas
 pub mod DepthSoFar

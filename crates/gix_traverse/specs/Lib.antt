@@ -21,5 +21,6 @@ pub mod ShowsBelow
 pub mod TreeErrors
 pub mod TreeMeasure
 pub mod Recorder
+pub mod Tracked
 pub mod TreeLaws
 pub mod TreeExamples

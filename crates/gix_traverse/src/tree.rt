@@ -4,4 +4,5 @@ pub mod depthfirst;
 pub mod recorder;
 pub mod visit;
 
+pub use recorder::Recorder;
 pub use visit::Visit;
