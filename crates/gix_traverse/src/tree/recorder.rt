@@ -202,10 +202,7 @@ impl Visit for Recorder {
         }
     }
 
-    fn push_back_tracked_path_component(
-        &mut self,
-        component: &BStr<'_>,
-    ) -> Result<(), AllocError> {
+    fn push_back_tracked_path_component(&mut self, component: &BStr<'_>) -> Result<(), AllocError> {
         match self.location {
             Some(Location::Path) => self.queue_with(component.as_bytes()),
             Some(Location::FileName) | None => Ok(()),
