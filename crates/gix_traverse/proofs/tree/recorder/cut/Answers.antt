@@ -1,4 +1,4 @@
-use Rattle.std.proofs.Common.{◌≡◌, ◌≢◌, take, subst, ap, ◌∙◌, arith}
+use Rattle.std.proofs.Common.{◌≡◌, take, subst, ap, ◌∙◌, arith}
 use Rattle.gix_traverse.specs.Recorder.{without_name}
 use Rattle.gix_traverse.proofs.TrackLemmas.{without_plain, without_slash}
 use Rattle.gix_traverse.proofs.tree.recorder.cut.Goals as goal
@@ -13,11 +13,11 @@ loop-len-preserved c = record {
 pub returns : goal.returns
 returns c = elim c.loop-len-test.branch [
   | else-loop-len-test w ↦
-    let none : c.loop-len.len ≡ 0 = omega (arith, w.loop-len-test.false) in
-    let same : without_name (take 0 c.args.path.now.items) ≡ without_name c.args.path.now.items = subst (λ n. without_name (take n c.args.path.now.items) ≡ without_name c.args.path.now.items) none c.loop-len.invariant.same in
-    c.truncate.ensures.items ∙ ap (λ n. take n c.args.path.now.items) (w.len-is ∙ none) ∙ same
+      let none : c.loop-len.len ≡ 0 = omega (arith, w.loop-len-test.false) in
+      let same : without_name (take 0 c.args.path.now.items) ≡ without_name c.args.path.now.items = subst (λ n. without_name (take n c.args.path.now.items) ≡ without_name c.args.path.now.items) none c.loop-len.invariant.same in
+      c.truncate.ensures.items ∙ ap (λ n. take n c.args.path.now.items) (w.len-is ∙ none) ∙ same
   | then-loop-len-test+then-index-eq47 w ↦
-    c.truncate.ensures.items ∙ ap (λ n. take n c.args.path.now.items) w.len-is
-    ∙ without_slash c.args.path.now.items c.loop-len.len w.index.result.now w.loop-len-test.true c.loop-len.invariant.within w.index.ensures w.if-index-eq47.true
-    ∙ c.loop-len.invariant.same
+      c.truncate.ensures.items ∙ ap (λ n. take n c.args.path.now.items) w.len-is
+      ∙ without_slash c.args.path.now.items c.loop-len.len w.index.result.now w.loop-len-test.true c.loop-len.invariant.within w.index.ensures w.if-index-eq47.true
+      ∙ c.loop-len.invariant.same
 ]
