@@ -1,12 +1,12 @@
 -- A recorder and what it tracks.
-use Rattle.std.specs.Prelude.{◌≡◌, ℕ, List, [], ◌∷◌, ◌++◌, map, Option, Some}
+use Rattle.std.specs.Prelude.{◌≡◌, ℕ, List, [], ◌∷◌, ◌++◌, Option, Some}
 use Rattle.bstr.specs.Owned.{bstring_bytes}
 use Rattle.gix_parts.specs.TreeItems.{TreeEntry}
 use Rattle.gix_traverse.specs.declared.tree.recorder.Entry.{Entry}
 use Rattle.gix_traverse.specs.declared.tree.recorder.Location.{Location}
 use Rattle.gix_traverse.specs.declared.tree.recorder.Location.TheVariants.{Path}
 use Rattle.gix_traverse.specs.Delegate.{Call}
-use Rattle.gix_traverse.specs.Recorder.{Record, Recorded, Records, with_name, with_record}
+use Rattle.gix_traverse.specs.Recorder.{Record, Recorded, Records, fresh, with_name, with_record}
 
 -- an entry, as it was recorded
 abbrev pub record_of_entry : Entry → Record
@@ -26,6 +26,10 @@ queued_with name r = let path = with_name r.held.path name in tracked r.location
 -- the entry is recorded
 abbrev pub recorded_with : TreeEntry → Tracked → Tracked
 recorded_with e r = record r { held = with_record r.held e }
+
+-- a recorder that was just made
+abbrev pub fresh_recorder : Tracked
+fresh_recorder = record { location = Some Path; held = fresh }
 
 -- one call on a recorder
 abbrev pub Tracks : Tracked → Call → Tracked → Type 0

@@ -1,11 +1,10 @@
 //! A delegate that writes down what it sees.
-ghost use Rattle.std.specs.Prelude.{◌≡◌, Some, IfOk, OnOk, OnErr};
+ghost use Rattle.std.specs.Prelude.{◌≡◌, IfOk, OnOk, OnErr};
 ghost use Rattle.bstr.specs.BStr.{bstr_bytes};
 ghost use Rattle.bstr.specs.Owned.{bstring_bytes};
-ghost use Rattle.gix_traverse.specs.declared.tree.recorder.Location.TheVariants.{Path};
-ghost use Rattle.gix_traverse.specs.Recorder.{fresh, with_name, without_name};
+ghost use Rattle.gix_traverse.specs.Recorder.{with_name, without_name};
 ghost use Rattle.gix_parts.specs.TreeRefIter.{entry_of};
-ghost use Rattle.gix_traverse.specs.Tracked.{queued_with, record_of_entry, recorded_with};
+ghost use Rattle.gix_traverse.specs.Tracked.{fresh_recorder, queued_with, record_of_entry, recorded_with};
 
 use crate::tree::visit::{Action, Visit};
 use bstr::{BStr, BString};
@@ -112,7 +111,7 @@ impl Model for Recorder {
 impl Recorder {
     /// A recorder without records, whose path and queue are empty. It tracks paths, and takes no memory until a walk does.
     pub fn new(alloc: Global) -> Recorder
-        ensures { result ≡ record { location = Some Path; held = fresh } }
+        ensures { result ≡ fresh_recorder }
     {
         Recorder {
             path: Vec::new(alloc),

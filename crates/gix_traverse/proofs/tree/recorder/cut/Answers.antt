@@ -1,4 +1,4 @@
-use Rattle.std.proofs.Common.{◌≡◌, ◌≢◌, take, subst, ap, ◌∙◌, arith}
+use Rattle.std.proofs.Common.{◌≡◌, take, subst, ap, ◌∙◌, arith}
 use Rattle.gix_traverse.specs.Recorder.{without_name}
 use Rattle.gix_traverse.proofs.TrackLemmas.{without_plain, without_slash}
 use Rattle.gix_traverse.proofs.tree.recorder.cut.Goals as goal
