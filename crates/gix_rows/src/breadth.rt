@@ -122,19 +122,3 @@ fn an_empty_store_has_no_tip(rt: HostRuntime) -> Result<(), Fail> {
     assert!(rt; walk.next().is_none());
     Ok(())
 }
-
-#[test]
-fn the_text_of_the_commit_last_given(rt: HostRuntime) -> Result<(), Fail> {
-    let store = store(rt.alloc(), &[(2, &[1]), (1, &[])])?;
-    let mut walk = Simple::new(rt.alloc(), [id(2)], &store)?;
-    assert!(rt; walk.commit_data().is_empty());
-    assert_eq!(rt; walk.next().ok_or("nothing")??.id, id(2));
-    assert_eq!(rt; walk.commit_data().len(), 144);
-    assert_eq!(rt; walk.commit_iter().committer()?.seconds(), 2);
-    assert_eq!(rt; walk.next().ok_or("nothing")??.id, id(1));
-    assert_eq!(rt; walk.commit_data().len(), 96);
-    assert!(rt; walk.next().is_none());
-    assert_eq!(rt; walk.commit_data().len(), 96);
-    assert_eq!(rt; walk.commit_iter().committer()?.seconds(), 1);
-    Ok(())
-}

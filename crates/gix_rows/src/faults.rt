@@ -43,7 +43,6 @@ fn a_broken_parent_line(rt: HostRuntime) -> Result<(), Fail> {
         first.err(),
         Some(Error::ObjectDecode(decode::Error::Parent))
     );
-    assert!(rt; walk.commit_data().is_empty());
     assert_eq!(rt;
         digits(rt.alloc(), &mut walk)?.as_slice(),
         [6, 5, 3, 1].as_slice()
