@@ -2,6 +2,7 @@ pub mod FreshFacts
 pub mod OrderFacts
 pub mod ReadFacts
 pub mod CommitterFacts
+pub mod CommitterTime
 pub mod TreatFacts
 pub mod StepFacts
 pub mod QueueFacts
@@ -11,10 +12,12 @@ pub mod EndFacts
 pub mod LawFacts
 pub mod ClosureFacts
 pub mod OnceFacts
-pub mod PlainWalk
+pub mod RowFacts
+pub mod TimeKeys
+pub mod SortFacts
+pub mod TreatSteps
 pub mod TextFacts
-pub mod TakeFacts
-pub mod NextFacts
+pub mod TakeSteps
 pub mod MadeFacts
 pub mod MadeRunFacts
 pub mod LevelLemmas

@@ -17,7 +17,7 @@ use Rattle.gix_traverse.specs.declared.commit.simple.Hidden.TheVariants as hidde
 use Rattle.gix_traverse.specs.Reach.{Reaches, start, step, Tells}
 use Rattle.gix_traverse.specs.Agreeing.{IsAgreeing}
 use Rattle.gix_traverse.specs.History.{time_of, parents_of, commit_of_object, walked_parents, ReadsWhole}
-use Rattle.gix_traverse.specs.declared.commit.simple.Pending.{Pending}
+use Rattle.gix_traverse.specs.declared.commit.simple.pending.Pending.{Pending}
 use Rattle.gix_traverse.specs.SimpleWalk.{SimpleWalk, ids_of, time_order, cutoff, IsAtBoundary, IsHiddenFault, Steps, Paints, painted, Next, unhidden, paints, faulty_history, no_memory, May}
 use Rattle.gix_traverse.specs.SimpleLaws.{itself, AnswersBy, AreDistinct, IsFresh, IsNoRefusal, IsInOrder, MeetsWhole, GivesInOrder, starts_of, next_of, is_kept}
 use Rattle.gix_parts.specs.Id.{kind_of}

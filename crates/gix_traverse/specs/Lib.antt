@@ -7,6 +7,9 @@ pub mod SimpleWalk
 pub mod SimpleLaws
 pub mod Examples
 pub mod SimpleErrors
+pub mod PendingQueue
+pub mod SimpleSteps
+pub mod SimpleBuilding
 pub mod Delegate
 pub mod Visits
 pub mod Paths

@@ -23,7 +23,9 @@ use Rattle.gix_traverse.specs.declared.commit.Info.{Info}
 use Rattle.gix_traverse.specs.declared.commit.simple.CommitTimeOrder.{CommitTimeOrder}
 use Rattle.gix_traverse.specs.declared.commit.simple.Sorting.{Sorting}
 use Rattle.gix_traverse.specs.declared.commit.simple.Sorting.TheVariants as sorting
-use Rattle.gix_traverse.specs.declared.commit.simple.Pending.{Pending}
+use Rattle.gix_traverse.specs.declared.commit.simple.pending.Pending.{Pending}
+use Rattle.gix_traverse.specs.declared.commit.simple.step.Stop.{Stop}
+use Rattle.gix_traverse.specs.declared.commit.simple.step.Stop.TheVariants as stop
 use Rattle.gix_traverse.specs.declared.commit.simple.Error.{Error}
 use Rattle.gix_traverse.specs.declared.commit.simple.Error.TheVariants as error
 use Rattle.gix_traverse.specs.declared.commit.simple.Hidden.{Hidden}
@@ -51,14 +53,9 @@ pub record SimpleWalk (F P : Type 0) : Type 0 where
   pub text : List ℕ
   pub text_kind : Kind
 
--- a walk over all parents, breadth first, without rows and hidden tips
-abbrev pub plain : {F P : Type 0} → F → P → List Pending → set.FinSet id_cmp → List ℕ → Kind → SimpleWalk F P
-plain store predicate pending seen text text_kind =
-    record { store = store; predicate = predicate; rows = []; parents = mode.All; sorting = sorting.BreadthFirst; pending = pending; seen = seen; remembered = set.empty; hidden_tips = []; hidden = set.empty; text = text; text_kind = text_kind }
-
--- a walk before its tips
+-- a walk before its tips: over all parents, breadth first, without rows and hidden tips
 abbrev pub bare : {F P : Type 0} → F → P → SimpleWalk F P
-bare store predicate = plain store predicate [] set.empty [] id_kind.Sha1
+bare store predicate = record { store = store; predicate = predicate; rows = []; parents = mode.All; sorting = sorting.BreadthFirst; pending = []; seen = set.empty; remembered = set.empty; hidden_tips = []; hidden = set.empty; text = []; text_kind = id_kind.Sha1 }
 
 -- the order by time that is in force, and its cutoff
 abbrev pub time_order : Parents → Sorting → Option CommitTimeOrder
@@ -114,16 +111,17 @@ pub data Treated : Type 0 where
   StoreFails : Treated
   NoMemory : Treated
 
-abbrev pub how_ended : {E : Type 0} → Result (Unit {0}) E → Treated
+abbrev pub how_ended : Result (Unit {0}) Stop → Treated
 how_ended (Ok done) = GoesOn
-how_ended (Err e) = NoMemory
+how_ended (Err stop.Store) = StoreFails
+how_ended (Err stop.Memory) = NoMemory
 
--- what is left of a walk after a fault: no text, and for want of memory no pending commit
-abbrev pub failed : {F P : Type 0} → Error → SimpleWalk F P → SimpleWalk F P
-failed error.Memory walk = record walk { text = []; pending = [] }
-failed (error.Find e) walk = record walk { text = [] }
-failed (error.ObjectDecode e) walk = record walk { text = [] }
-failed (error.HiddenGraph e) walk = record walk { text = [] }
+-- what is left of a walk after a fault in the place of a commit: no text, and for want of memory no pending commit
+abbrev pub failed : {F P : Type 0} → ObjectId → Error → SimpleWalk F P → SimpleWalk F P
+failed id error.Memory walk = record walk { text = []; text_kind = kind_of id; pending = [] }
+failed id (error.Find e) walk = record walk { text = []; text_kind = kind_of id }
+failed id (error.ObjectDecode e) walk = record walk { text = []; text_kind = kind_of id }
+failed id (error.HiddenGraph e) walk = record walk { text = []; text_kind = kind_of id }
 
 -- the pending commits are these: in this order, or in any where one by time is in force
 abbrev pub Holds : Option CommitTimeOrder → List Pending → List Pending → Type 0
@@ -222,7 +220,7 @@ module _ {F P : Type 0} (objects : F → Objects) (faulty : F → ObjectId → T
     accepted : {predicate : P} {time : ℤ} {pending : List Pending} → IsNew old i → Asks old i true predicate → ReadsTime old by_row i (Ok time) → Enqueues (time_order old.parents old.sorting) (cutoff old.parents old.sorting) old.pending i time pending → Treats old by_row i GoesOn (asked old i predicate pending)
     store_fails : {predicate : P} → IsNew old i → Asks old i true predicate → ReadsTime old by_row i (Err StoreFails) → Treats old by_row i StoreFails (asked old i predicate old.pending)
     no_memory : Treats old by_row i NoMemory old
-    no_memory_after : {answer : Bool} {predicate : P} → IsNew old i → Asks old i answer predicate → Treats old by_row i NoMemory (asked old i predicate old.pending)
+    no_memory_after : {answer : Bool} {predicate : P} {pending : List Pending} → IsNew old i → Asks old i answer predicate → (pending ≡ old.pending) ⊎ (pending ≡ []) → Treats old by_row i NoMemory (asked old i predicate pending)
 
   -- the parents of a commit are treated in order, up to the first that fails
   pub data TreatsAll (by_row : Bool) : SimpleWalk F P → List ObjectId → Treated → SimpleWalk F P → Type 0 where
@@ -246,7 +244,7 @@ module _ {F P : Type 0} (objects : F → Objects) (faulty : F → ObjectId → T
     by_row : {row : GraphRow} {ids : List ObjectId} {how : Treated} {answer : Result Info Error} {walk new : SimpleWalk F P} → row_of old.rows taken.id ≡ Some row → ids_at old.rows row.parents ≡ Some ids → TreatsAll true old (by_mode old.parents ids) how walk → Concludes taken.id (by_mode old.parents ids) (Some row.generation) (given_time old taken) [] None walk how answer new → Takes old taken answer new
     by_store : {bytes : List ℕ} {how : Treated} {answer : Result Info Error} {walk new : SimpleWalk F P} → IsUnrowed old.rows taken.id → map_of.get (objects old.store) taken.id ≡ Some (record { kind = object.Commit; bytes = bytes }) → TreatsAll false (unrowed old taken.id) (scanned old.parents (commit_items (kind_of taken.id) bytes)).0 how walk → Concludes taken.id (scanned old.parents (commit_items (kind_of taken.id) bytes)).0 None (given_time old taken) bytes (scanned old.parents (commit_items (kind_of taken.id) bytes)).1 walk how answer new → Takes old taken answer new
     not_found : {e : ExistingError} → IsUnrowed old.rows taken.id → IsExistingFault (objects old.store) (faulty old.store) taken.id object.Commit e → Takes old taken (Err (error.Find e)) (record (unrowed old taken.id) { text = []; text_kind = kind_of taken.id })
-    no_memory : Takes old taken (Err error.Memory) (record (unrowed old taken.id) { text = []; text_kind = kind_of taken.id; pending = [] })
+    no_memory : {rows : List GraphRow} → (rows ≡ old.rows) ⊎ (rows ≡ kept_rows old.rows (row_of old.rows taken.id)) → Takes old taken (Err error.Memory) (record old { rows = rows; text = []; text_kind = kind_of taken.id; pending = [] })
 
   -- the pending commit whose turn it is, and the others
   pub data Chooses (old : SimpleWalk F P) (taken : Pending) (others : List Pending) : Type 0 where
@@ -256,6 +254,7 @@ module _ {F P : Type 0} (objects : F → Objects) (faulty : F → ObjectId → T
   -- one step of a walk whose hidden tips are painted
   pub data Steps (old : SimpleWalk F P) : Option (Result Info Error) → SimpleWalk F P → Type 0 where
     ended : old.pending ≡ [] → Steps old None old
+    no_memory : old.pending ≢ [] → Steps old (Some (Err error.Memory)) (record old { text = []; pending = [] })
     took : {taken : Pending} {others : List Pending} {answer : Result Info Error} {new : SimpleWalk F P} → Chooses old taken others → Takes (record old { pending = others }) taken answer new → Steps old (Some answer) new
 
   -- which ids a painting marks, and which rows it leaves
