@@ -3,6 +3,7 @@ pub mod Reach
 pub mod BreadthOrder
 pub mod TimeOrder
 pub mod Agreeing
+pub mod Painting
 pub mod SimpleWalk
 pub mod SimpleLaws
 pub mod Examples

@@ -1,5 +1,5 @@
 -- What a simple walk holds, and what one step of it may do.
-use Rattle.std.specs.Prelude.{◌≡◌, ◌≢◌, ◌⊎◌, ℕ, ℤ, pos, int_lt, List, [], ◌∷◌, ◌++◌, map, filter, Bool, true, false, not, Option, Some, None, Result, Ok, Err, Contains, IsSome, IsPermutation, slice_get}
+use Rattle.std.specs.Prelude.{◌≡◌, ◌≢◌, ◌⊎◌, ℕ, ℤ, pos, int_lt, List, [], ◌∷◌, ◌++◌, map, filter, Bool, true, false, not, Option, Some, None, Result, Ok, Err, Contains, IsPermutation, slice_get}
 use Rattle.std.specs.FinMap as map_of
 use Rattle.std.specs.FinSet as set
 use Rattle.gix_parts.specs.declared.hash.Kind.{Kind}
@@ -7,7 +7,6 @@ use Rattle.gix_parts.specs.declared.hash.Kind.TheVariants as id_kind
 use Rattle.gix_parts.specs.declared.hash.ObjectId.{ObjectId}
 use Rattle.gix_parts.specs.declared.object.Kind.TheVariants as object
 use Rattle.gix_parts.specs.declared.object.decode.Error.{Error as DecodeError}
-use Rattle.gix_parts.specs.declared.object.decode.Error.TheVariants as fault
 use Rattle.gix_parts.specs.declared.object.find.existing_iter.Error.{Error as ExistingError}
 use Rattle.gix_parts.specs.declared.object.find.existing_iter.Error.TheVariants as existing
 use Rattle.gix_parts.specs.declared.graph.ParentPlace.{ParentPlace}
@@ -29,10 +28,8 @@ use Rattle.gix_traverse.specs.declared.commit.simple.step.Stop.TheVariants as st
 use Rattle.gix_traverse.specs.declared.commit.simple.Error.{Error}
 use Rattle.gix_traverse.specs.declared.commit.simple.Error.TheVariants as error
 use Rattle.gix_traverse.specs.declared.commit.simple.Hidden.{Hidden}
-use Rattle.gix_traverse.specs.declared.commit.simple.Hidden.TheVariants as hidden_by
-use Rattle.gix_traverse.specs.Agreeing.{IsAgreeing}
-use Rattle.gix_traverse.specs.Reach.{Reaches}
-use Rattle.gix_traverse.specs.History.{by_mode, time_of, parents_of, commit_at}
+use Rattle.gix_traverse.specs.History.{by_mode, time_of}
+use Rattle.gix_traverse.specs.Painting.{Paints, IsHiddenFault}
 use Rattle.gix_traverse.specs.TimeOrder.{IsNoWorse}
 
 -- what a simple walk holds
@@ -152,26 +149,6 @@ abbrev pub kept_rows : List GraphRow → Option GraphRow → List GraphRow
 kept_rows rows None = rows
 kept_rows rows (Some row) = rows_if rows (ids_at rows row.parents)
 
--- the fault that keeps a committer from being read: the first among the items, or that none is there
-abbrev pub committer_fault : List (Result Item DecodeError) → Option DecodeError
-committer_fault [] = Some fault.Missing
-committer_fault (Err e ∷ items) = Some e
-committer_fault (Ok (Tree i) ∷ items) = committer_fault items
-committer_fault (Ok (Parent i) ∷ items) = committer_fault items
-committer_fault (Ok (Author line) ∷ items) = committer_fault items
-committer_fault (Ok (Committer signature) ∷ items) = None
-committer_fault (Ok (Rest bytes) ∷ items) = committer_fault items
-
--- a fault in the history of some ids
-abbrev pub IsHiddenFault : Objects → (ObjectId → Type 0) → List ObjectId → Hidden → Type 0
-IsHiddenFault objects faulty ids (hidden_by.Find e) = (i : ObjectId) × Reaches (parents_of objects) ids i × IsExistingFault objects faulty i object.Commit e
-IsHiddenFault objects faulty ids (hidden_by.ObjectDecode e) = (i : ObjectId) × Reaches (parents_of objects) ids i × (bytes : List ℕ) × (map_of.get objects i ≡ Some (record { kind = object.Commit; bytes = bytes })) × (committer_fault (commit_items (kind_of i) bytes) ≡ Some e)
-
--- a pending tip, or a parent of a commit that these reach outside what is hidden
-abbrev pub IsAtBoundary : (ObjectId → List ObjectId) → List ObjectId → List ObjectId → ObjectId → Type 0
-IsAtBoundary parents tips hidden_tips i =
-    Contains tips i ⊎ ((c : ObjectId) × Reaches parents tips c × (Reaches parents hidden_tips c → ⊥) × Contains (parents c) i)
-
 abbrev pub unrowed : {F P : Type 0} → SimpleWalk F P → ObjectId → SimpleWalk F P
 unrowed walk i = record walk { rows = kept_rows walk.rows (row_of walk.rows i) }
 
@@ -257,16 +234,6 @@ module _ {F P : Type 0} (objects : F → Objects) (faulty : F → ObjectId → T
     no_memory : old.pending ≢ [] → Steps old (Some (Err error.Memory)) (record old { text = []; pending = [] })
     took : {taken : Pending} {others : List Pending} {answer : Result Info Error} {new : SimpleWalk F P} → Chooses old taken others → Takes (record old { pending = others }) taken answer new → Steps old (Some answer) new
 
-  -- which ids a painting marks, and which rows it leaves
-  pub record Paints (old : SimpleWalk F P) (marks : set.FinSet id_cmp) (rows : List GraphRow) : Type 0 where
-    pub rows_left : (rows ≡ old.rows) ⊎ (rows ≡ [])
-    -- only what hidden tips reach
-    pub sound : IsAgreeing (objects old.store) (faulty old.store) old.rows → (i : ObjectId) → set.contains marks i ≡ true → Reaches (parents_of (objects old.store)) old.hidden_tips i
-    -- each pending tip, and each parent of a commit that these reach outside what is hidden
-    pub whole : IsAgreeing (objects old.store) (faulty old.store) old.rows → (i : ObjectId) → IsAtBoundary (parents_of (objects old.store)) (ids_of old.pending) old.hidden_tips i → Reaches (parents_of (objects old.store)) old.hidden_tips i → set.contains marks i ≡ true
-    -- without rows all of it was read
-    pub read : old.rows ≡ [] → (i : ObjectId) → Reaches (parents_of (objects old.store)) (ids_of old.pending ++ old.hidden_tips) i → IsSome (commit_at (objects old.store) i)
-
   -- what painting leaves of a walk
   abbrev pub painted : SimpleWalk F P → set.FinSet id_cmp → List GraphRow → SimpleWalk F P
   painted old marks rows = record old { rows = rows; hidden_tips = []; hidden = marks; pending = filter (λ p. not (set.contains marks p.id)) old.pending }
@@ -274,8 +241,8 @@ module _ {F P : Type 0} (objects : F → Objects) (faulty : F → ObjectId → T
   -- one call of `next`
   pub data Next (old : SimpleWalk F P) : Option (Result Info Error) → SimpleWalk F P → Type 0 where
     unhidden : {answer : Option (Result Info Error)} {new : SimpleWalk F P} → (old.pending ≡ []) ⊎ (old.hidden_tips ≡ []) → Steps (record old { hidden_tips = [] }) answer new → Next old answer new
-    paints : {marks : set.FinSet id_cmp} {rows : List GraphRow} {answer : Option (Result Info Error)} {new : SimpleWalk F P} → old.pending ≢ [] → old.hidden_tips ≢ [] → Paints old marks rows → Steps (painted old marks rows) answer new → Next old answer new
-    faulty_history : {why : Hidden} {rows : List GraphRow} → old.pending ≢ [] → old.hidden_tips ≢ [] → (rows ≡ old.rows) ⊎ (rows ≡ []) → IsHiddenFault (objects old.store) (faulty old.store) (ids_of old.pending ++ old.hidden_tips) why → Next old (Some (Err (error.HiddenGraph why))) (record old { rows = rows; hidden_tips = []; pending = []; text = [] })
+    paints : {marks : set.FinSet id_cmp} {rows : List GraphRow} {answer : Option (Result Info Error)} {new : SimpleWalk F P} → old.pending ≢ [] → old.hidden_tips ≢ [] → Paints (objects old.store) (faulty old.store) old.rows (ids_of old.pending) old.hidden_tips marks rows → Steps (painted old marks rows) answer new → Next old answer new
+    faulty_history : {why : Hidden} {rows : List GraphRow} → old.pending ≢ [] → old.hidden_tips ≢ [] → (rows ≡ old.rows) ⊎ (rows ≡ []) → IsHiddenFault (objects old.store) (faulty old.store) old.rows (ids_of old.pending ++ old.hidden_tips) why → Next old (Some (Err (error.HiddenGraph why))) (record old { rows = rows; hidden_tips = []; pending = []; text = [] })
     no_memory : {rows : List GraphRow} → old.pending ≢ [] → old.hidden_tips ≢ [] → (rows ≡ old.rows) ⊎ (rows ≡ []) → Next old (Some (Err error.Memory)) (record old { rows = rows; hidden_tips = []; pending = []; text = [] })
 
   -- these answers, and no more, may be drawn from a walk
