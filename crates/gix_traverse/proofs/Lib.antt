@@ -15,6 +15,7 @@ pub mod OnceFacts
 pub mod RowFacts
 pub mod TimeKeys
 pub mod SortFacts
+pub mod BuiltFacts
 pub mod TreatSteps
 pub mod TextFacts
 pub mod TakeSteps

@@ -1,6 +1,6 @@
 -- No id is given twice, whatever the store, the rows and the predicate do.
 use Rattle.std.specs.Prelude.{◌≡◌, ◌+◌, ◌≤◌, ℕ, ℤ, List, [], ◌∷◌, ◌++◌, filter, Bool, true, false, not, ◌||◌, cond, Option, Some, Result, Ok, Err, Contains}
-use Rattle.std.proofs.Common.{refl, sym, ap, subst, ◌∙◌, arith, append_assoc, append-nil, le_refl}
+use Rattle.std.proofs.Common.{refl, sym, ap, subst, ⊎_elim, ◌∙◌, arith, append_assoc, append-nil, le_refl}
 use Rattle.std.proofs.lemmas.Bool.{false≢true, false_from_ne_true}
 use Rattle.std.specs.FinSet as set
 use Rattle.gix_parts.specs.declared.hash.ObjectId.{ObjectId}
@@ -39,7 +39,7 @@ once_times (x ∷ xs) d i = go (is_same i x) refl (once_times xs d.1 i)
     go true t r = let k : times i xs ≡ 0 = times_none i xs (false_from_ne_true _ (λ e. d.0 (subst (λ y. Contains xs y) (same_is i x t) (among_is i xs e)))) in omega arith
     go false t r = omega arith
 
-times-filter : (p : Pending → Bool) (ps : List Pending) (i : ObjectId) → times i (ids_of (filter p ps)) ≤ times i (ids_of ps)
+pub times-filter : (p : Pending → Bool) (ps : List Pending) (i : ObjectId) → times i (ids_of (filter p ps)) ≤ times i (ids_of ps)
 times-filter p [] i = le_refl _
 times-filter p (x ∷ ps) i = go (p x) (times-filter p ps i)
   where

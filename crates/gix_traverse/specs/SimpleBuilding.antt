@@ -1,23 +1,22 @@
 -- What the calls make of a walk that choose its order.
 use Rattle.std.specs.Prelude.{◌≡◌, ℕ, ℤ, List, [], ◌∷◌, ◌++◌, map, filter, Bool, true, false, not, ◌&&◌, ◌||◌, Option, Some, None, Result, Ok, Err, All, IsSome}
-use Rattle.std.specs.FinMap as map_of
 use Rattle.std.specs.FinSet as set
 use Rattle.gix_parts.specs.declared.hash.ObjectId.{ObjectId}
-use Rattle.gix_parts.specs.declared.object.Kind.TheVariants as object
-use Rattle.gix_parts.specs.CommitItems.{commit_items}
-use Rattle.gix_parts.specs.CommitRefIter.{first_committer}
 use Rattle.gix_parts.specs.CommitText.{Commit}
-use Rattle.gix_parts.specs.Find.{IsExistingFault}
-use Rattle.gix_parts.specs.Id.{is_among, kind_of}
+use Rattle.gix_parts.specs.Id.{is_among}
 use Rattle.gix_parts.specs.Object.{Objects}
+use Rattle.gix_parts.specs.Rows.{GraphRow}
+use Rattle.gix_traverse.specs.declared.commit.Parents.{Parents}
 use Rattle.gix_traverse.specs.declared.commit.Parents.TheVariants as mode
 use Rattle.gix_traverse.specs.declared.commit.simple.pending.Pending.{Pending}
 use Rattle.gix_traverse.specs.declared.commit.simple.Error.{Error}
 use Rattle.gix_traverse.specs.declared.commit.simple.Error.TheVariants as error
 use Rattle.gix_traverse.specs.declared.commit.simple.Sorting.{Sorting}
 use Rattle.gix_traverse.specs.declared.commit.simple.Sorting.TheVariants as sorting
+use Rattle.gix_traverse.specs.declared.commit.simple.Hidden.TheVariants as hidden_by
 use Rattle.gix_traverse.specs.History.{commit_at, time_of}
-use Rattle.gix_traverse.specs.SimpleWalk.{SimpleWalk, cutoff, is_older, ids_of}
+use Rattle.gix_traverse.specs.Painting.{IsFaultAt}
+use Rattle.gix_traverse.specs.SimpleWalk.{SimpleWalk, cutoff, is_older, ids_of, IsMade}
 
 -- the pending commits, each with its own time
 abbrev pub timed : Objects → List Pending → List Pending
@@ -46,8 +45,8 @@ pub record IsTipRead (objects : Objects) (i : ObjectId) (time : ℤ) : Type 0 wh
 
 -- the fault of the first pending commit whose time can't be read
 abbrev pub IsTipFault : Objects → (ObjectId → Type 0) → ObjectId → Error → Type 0
-IsTipFault objects faulty i (error.Find e) = IsExistingFault objects faulty i object.Commit e
-IsTipFault objects faulty i (error.ObjectDecode e) = (bytes : List ℕ) × (map_of.get objects i ≡ Some (record { kind = object.Commit; bytes = bytes })) × (first_committer (commit_items (kind_of i) bytes) ≡ Err e)
+IsTipFault objects faulty i (error.Find e) = IsFaultAt objects faulty i (hidden_by.Find e)
+IsTipFault objects faulty i (error.ObjectDecode e) = IsFaultAt objects faulty i (hidden_by.ObjectDecode e)
 IsTipFault objects faulty i (error.HiddenGraph e) = ⊥
 IsTipFault objects faulty i error.Memory = Unit {0}
 
@@ -72,3 +71,12 @@ SortsIn objects faulty limit old i (Err e) new = IsTipFault (objects old.store) 
 pub data SortsAll {F P : Type 0} (objects : F → Objects) (faulty : F → ObjectId → Type 0) (limit : Option ℤ) : SimpleWalk F P → List Pending → SimpleWalk F P → Type 0 where
   none : {old : SimpleWalk F P} → SortsAll objects faulty limit old [] old
   more : {old mid new : SimpleWalk F P} {tip : Pending} {tips : List Pending} → SortsIn objects faulty limit old tip.id (Ok tt) mid → SortsAll objects faulty limit mid tips new → SortsAll objects faulty limit old (tip ∷ tips) new
+
+-- a walk that was made of some tips, after any calls that choose its order, and before its first step
+pub data IsBuilt {F P : Type 0} (objects : F → Objects) (faulty : F → ObjectId → Type 0) (answers : P → ObjectId → Bool → P → Type 0) (store : F) (predicate : P) (tips : List ObjectId) : SimpleWalk F P → Type 0 where
+  made : {walk : SimpleWalk F P} → IsMade objects faulty answers store predicate tips walk → IsBuilt objects faulty answers store predicate tips walk
+  breadth_first : {walk : SimpleWalk F P} → IsBuilt objects faulty answers store predicate tips walk → IsBuilt objects faulty answers store predicate tips (record walk { sorting = sorting.BreadthFirst })
+  by_time : {walk new : SimpleWalk F P} {by : Sorting} → IsBuilt objects faulty answers store predicate tips walk → IsSortedByTime objects walk by new → IsBuilt objects faulty answers store predicate tips new
+  hides : {walk : SimpleWalk F P} {ids : List ObjectId} → IsBuilt objects faulty answers store predicate tips walk → IsBuilt objects faulty answers store predicate tips (record walk { hidden_tips = ids })
+  walks : {walk : SimpleWalk F P} {parents : Parents} → IsBuilt objects faulty answers store predicate tips walk → IsBuilt objects faulty answers store predicate tips (record walk { parents = parents })
+  reads : {walk : SimpleWalk F P} {rows : List GraphRow} → IsBuilt objects faulty answers store predicate tips walk → IsBuilt objects faulty answers store predicate tips (record walk { rows = rows })

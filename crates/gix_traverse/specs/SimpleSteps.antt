@@ -1,5 +1,5 @@
 -- What the parts of one step of a simple walk do.
-use Rattle.std.specs.Prelude.{◌≡◌, ◌⊎◌, ℕ, ℤ, List, [], Bool, true, false, Option, Some, None, Result, Ok, Err}
+use Rattle.std.specs.Prelude.{◌≡◌, ◌≢◌, ◌⊎◌, ◌++◌, ℕ, ℤ, List, [], Bool, true, false, Option, Some, None, Result, Ok, Err}
 use Rattle.std.specs.FinSet as set
 use Rattle.gix_parts.specs.declared.hash.ObjectId.{ObjectId}
 use Rattle.gix_parts.specs.Object.{Objects}
@@ -7,8 +7,13 @@ use Rattle.gix_parts.specs.Rows.{GraphRow, row_of}
 use Rattle.gix_traverse.specs.declared.commit.simple.step.RowParents.{RowParents}
 use Rattle.gix_traverse.specs.declared.commit.simple.step.Stop.{Stop}
 use Rattle.gix_traverse.specs.declared.commit.simple.step.Stop.TheVariants as stop
+use Rattle.gix_traverse.specs.declared.commit.simple.Error.{Error}
+use Rattle.gix_traverse.specs.declared.commit.simple.Error.TheVariants as error
+use Rattle.gix_traverse.specs.declared.commit.simple.Hidden.{Hidden}
+use Rattle.gix_parts.specs.Id.{id_cmp}
 use Rattle.gix_traverse.specs.History.{by_mode}
-use Rattle.gix_traverse.specs.SimpleWalk.{SimpleWalk, StoreFails, IsNew, IsUnrowed, ReadsTime, ids_at, unrowed}
+use Rattle.gix_traverse.specs.Painting.{Paints, IsHiddenFault}
+use Rattle.gix_traverse.specs.SimpleWalk.{SimpleWalk, StoreFails, IsNew, IsUnrowed, ReadsTime, ids_at, ids_of, unrowed, painted}
 
 -- the rows of a graph, where there is one
 abbrev pub rows_of : Option (List GraphRow) → List GraphRow
@@ -42,3 +47,14 @@ abbrev pub ReadsRow : {F P E : Type 0} → SimpleWalk F P → ObjectId → Resul
 ReadsRow old i (Ok (Some says)) new = RowSays old i says × (new ≡ old)
 ReadsRow old i (Ok None) new = IsUnrowed old.rows i × (new ≡ unrowed old i) × (row_of new.rows i ≡ None)
 ReadsRow old i (Err e) new = new ≡ old
+
+-- what is left where painting failed
+abbrev pub unpainted : {F P : Type 0} → SimpleWalk F P → SimpleWalk F P
+unpainted walk = record walk { hidden_tips = []; pending = []; text = [] }
+
+-- the first step hides what hidden tips reach
+pub data Hides {F P : Type 0} (objects : F → Objects) (faulty : F → ObjectId → Type 0) (answers : P → ObjectId → Bool → P → Type 0) (old : SimpleWalk F P) : Result (Unit {0}) Error → SimpleWalk F P → Type 0 where
+  nothing : (old.pending ≡ []) ⊎ (old.hidden_tips ≡ []) → Hides objects faulty answers old (Ok tt) (record old { hidden_tips = [] })
+  paints : {marks : set.FinSet id_cmp} {rows : List GraphRow} → old.pending ≢ [] → old.hidden_tips ≢ [] → Paints (objects old.store) (faulty old.store) old.rows (ids_of old.pending) old.hidden_tips marks rows → Hides objects faulty answers old (Ok tt) (painted objects faulty answers old marks rows)
+  faulty_history : {why : Hidden} → old.pending ≢ [] → old.hidden_tips ≢ [] → IsHiddenFault (objects old.store) (faulty old.store) old.rows (ids_of old.pending ++ old.hidden_tips) why → Hides objects faulty answers old (Err (error.HiddenGraph why)) (unpainted old)
+  no_memory : old.pending ≢ [] → old.hidden_tips ≢ [] → Hides objects faulty answers old (Err error.Memory) (unpainted old)

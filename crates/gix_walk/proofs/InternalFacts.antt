@@ -14,7 +14,7 @@ use Rattle.gix_traverse.specs.declared.commit.simple.Error.{Error}
 use Rattle.gix_traverse.specs.declared.commit.simple.Error.TheVariants as error
 use Rattle.gix_traverse.specs.declared.commit.simple.Hidden.{Hidden}
 use Rattle.gix_traverse.specs.declared.commit.simple.Hidden.TheVariants as hidden_by
-use Rattle.gix_traverse.specs.declared.commit.simple.Pending.{Pending}
+use Rattle.gix_traverse.specs.declared.commit.simple.pending.Pending.{Pending}
 use Rattle.gix_traverse.specs.SimpleWalk.{Treated, GoesOn, StoreFails, NoMemory, ReadsTime, unasked, from_row, from_store, store_fails, Treats, hidden, known, refused, accepted, no_memory, no_memory_after, TreatsAll, none, more, stops, Concludes, given, broken, Takes, by_row, by_store, not_found, Steps, ended, took, unhidden, paints, faulty_history}
 use Rattle.gix_traverse.specs.Painting.{IsHiddenFault}
 use Rattle.gix_walk.specs.declared.fault.Fault.TheVariants as fault

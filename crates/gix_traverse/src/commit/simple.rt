@@ -11,6 +11,8 @@ ghost use Rattle.gix_traverse.specs.SimpleBuilding.{IsSortedByTime, FailsAtTip};
 ghost use Rattle.gix_traverse.specs.SimpleSteps.{rows_of};
 ghost use Rattle.gix_traverse.specs.SimpleLaws.{answers_left};
 
+mod hide;
+mod paint;
 mod pending;
 mod step;
 mod tips;
@@ -22,6 +24,7 @@ use gix_parts::hashtable::IdSet;
 use gix_parts::object::commit::CommitRefIter;
 use gix_parts::object::decode;
 use gix_parts::object::find::{Find, existing_iter};
+use paint::HiddenIds;
 use pending::PendingQueue;
 use step::cutoff_of;
 use std::alloc::{AllocError, Global};
@@ -142,7 +145,7 @@ pub struct Simple<F, P> {
     remembered: IdSet,
     // To be hidden, with all that they reach, by the first step.
     hidden_tips: Vec<ObjectId>,
-    hidden: IdSet,
+    hidden: HiddenIds,
     // The text of the commit last given.
     text: Vec<u8>,
     text_kind: Kind,
@@ -206,7 +209,7 @@ impl<F: Find + Drop, P: Predicate + Drop> Simple<F, P> {
             seen: IdSet::new(alloc),
             remembered: IdSet::new(alloc),
             hidden_tips: Vec::new(alloc),
-            hidden: IdSet::new(alloc),
+            hidden: HiddenIds::new(alloc),
             text: Vec::new(alloc),
             text_kind: Kind::Sha1,
             buf: Vec::new(alloc),
@@ -236,6 +239,25 @@ impl<F: Find + Drop, P: Predicate + Drop> Simple<F, P> {
         }
         let tips = self.pending.take_list()?;
         self.sort_tips(tips, cutoff_of(Parents::All, sorting))?;
+        Ok(self)
+    }
+
+    /// Hides all that these tips reach, by any parent and whatever the predicate says, in place of tips given earlier. The first
+    /// step reads it; where it can't, that step gives `HiddenGraph`, and then nothing. `Memory` is the one error of this call.
+    pub fn hide<T: IntoIterator<Item = ObjectId>>(mut self, tips: T) -> Result<Self, Error>
+    where
+        T::IntoIter: Drop,
+        requires { (it : T.IntoIter) → T.into_iter_gives tips it → T.IntoIter.can_next it × IsFinite (T.IntoIter.remaining it) }
+        ensures ok { IfOk result (λ walk. (it : T.IntoIter) × (ids : List ObjectId) × T.into_iter_gives tips it × Drains T.IntoIter.next_gives it ids × (walk ≡ record self { hidden_tips = ids })) }
+        ensures err { IfErr result (λ e. e ≡ error.Memory) }
+    {
+        let mut hidden_tips = Vec::new(self.alloc);
+        for tip in tips {
+            let Ok(()) = hidden_tips.push(tip) else {
+                return Err(Error::Memory);
+            };
+        }
+        self.hidden_tips = hidden_tips;
         Ok(self)
     }
 
@@ -281,6 +303,9 @@ impl<F: Find + Drop, P: Predicate + Drop> Iterator for Simple<F, P> {
     ghost remaining = { λ walk. at_most (answers_left F.objects walk) };
 
     fn next(&mut self) -> Option<Result<Info, Error>> {
+        if let Err(error) = self.hide_painted() {
+            return Some(Err(error));
+        }
         self.step()
     }
 }

@@ -45,9 +45,9 @@ impl From<Stop> for Error {
 
 // The parents that a commit's items name, up to the first item behind them, and the fault that ended the reading.
 #[derive(Drop)]
-struct Scanned {
-    parent_ids: ParentIds,
-    fault: Option<decode::Error>,
+pub(super) struct Scanned {
+    pub(super) parent_ids: ParentIds,
+    pub(super) fault: Option<decode::Error>,
 }
 
 // What a sound row says of its commit.
@@ -97,7 +97,7 @@ fn walked(parents: Parents, mut parent_ids: ParentIds) -> ParentIds
 }
 
 // Lists of at most one parent take no memory.
-fn scan(
+pub(super) fn scan(
     alloc: Global,
     parents: Parents,
     mut items: CommitRefIter<'_>,
