@@ -34,3 +34,12 @@ pub mod DescendLemmas
 pub mod DepthSoFar
 pub mod DepthTurns
 pub mod ShowLemmas
+pub mod SearchFacts
+pub mod PaintReads
+pub mod PaintFacts
+pub mod PaintMeets
+pub mod PaintKeys
+pub mod PaintSteps
+pub mod PaintTurns
+pub mod PaintEnds
+pub mod PaintRoom

@@ -7,6 +7,8 @@ ghost use Rattle.gix_parts.specs.CommitRefIter.{commit_items_left};
 ghost use Rattle.gix_traverse.specs.SimpleWalk.{scanned, how_ended, failed, IsMade, Treats, TreatsAll, Takes, Next};
 ghost use Rattle.gix_traverse.specs.SimpleLaws.{answers_left};
 
+mod paint;
+
 use crate::commit::{Info, ParentIds, Parents, Predicate, Unfiltered};
 use gix_parts::hash::{Kind, ObjectId};
 use gix_parts::hashtable::IdSet;
