@@ -16,6 +16,7 @@ pub mod RowFacts
 pub mod TimeKeys
 pub mod SortFacts
 pub mod BuiltFacts
+pub mod HideSteps
 pub mod TreatSteps
 pub mod TextFacts
 pub mod TakeSteps
@@ -38,3 +39,12 @@ pub mod DescendLemmas
 pub mod DepthSoFar
 pub mod DepthTurns
 pub mod ShowLemmas
+pub mod SearchFacts
+pub mod PaintReads
+pub mod PaintFacts
+pub mod PaintMeets
+pub mod PaintKeys
+pub mod PaintSteps
+pub mod PaintTurns
+pub mod PaintEnds
+pub mod PaintRoom

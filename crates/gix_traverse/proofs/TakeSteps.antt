@@ -100,14 +100,17 @@ module _ {F P : Type 0} (objects : F → Objects) (faulty : F → ObjectId → T
 module _ {F P : Type 0} (old : SimpleWalk F P) (i : ObjectId) (inside : SimpleWalk F P) (is : inside ≡ old) where
   -- what a sound row says
   pub says_row : (rows : List GraphRow) → inside.rows ≡ rows → (row : GraphRow) → Some row ≡ row_of rows i → (ids : List ObjectId) → Some ids ≡ ids_at rows row.parents → (says : RowParents) → says.parent_ids.items ≡ by_mode inside.parents ids → says.generation ≡ row.generation → RowSays old i says × (old ≡ old)
-  says_row rows r row there ids sound says p g = (subst (λ w. RowSays w i says) is (record {
-    row = row;
-    ids = ids;
-    there = ap (λ rows. row_of rows i) r ∙ sym there;
-    sound = ap (λ rows. ids_at rows row.parents) r ∙ sym sound;
-    parents = p;
-    generation = g;
-  }), refl)
+  says_row rows r row there ids sound says p g = (
+    subst (λ w. RowSays w i says) is (record {
+      row = row;
+      ids = ids;
+      there = ap (λ rows. row_of rows i) r ∙ sym there;
+      sound = ap (λ rows. ids_at rows row.parents) r ∙ sym sound;
+      parents = p;
+      generation = g;
+    }),
+    refl,
+  )
 
 module _ {F P : Type 0} (objects : F → Objects) (faulty : F → ObjectId → Type 0) (answers : P → ObjectId → Bool → P → Type 0) (old : SimpleWalk F P) (taken : Pending) where
   -- where the rows were dropped, or don't tell of the commit, it is taken as from the walk before

@@ -6,6 +6,7 @@ pub mod Agreeing
 pub mod Painting
 pub mod SimpleWalk
 pub mod SimpleLaws
+pub mod Painter
 pub mod Examples
 pub mod SimpleErrors
 pub mod PendingQueue

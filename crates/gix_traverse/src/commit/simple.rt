@@ -26,9 +26,9 @@ use gix_parts::object::decode;
 use gix_parts::object::find::{Find, existing_iter};
 use paint::HiddenIds;
 use pending::PendingQueue;
-use step::cutoff_of;
 use std::alloc::{AllocError, Global};
 use std::marker::Model;
+use step::cutoff_of;
 use thiserror::Error;
 
 /// Which of two times comes first.

@@ -13,8 +13,8 @@ ghost use Rattle.gix_traverse.specs.PendingQueue.{TakesOut};
 
 use super::pending::Pending;
 use super::{CommitTimeOrder, Error, Simple, Sorting};
-use crate::commit::{Info, ParentIds, Parents, Predicate};
 use crate::commit::row::row_parents;
+use crate::commit::{Info, ParentIds, Parents, Predicate};
 use gix_parts::hash::ObjectId;
 use gix_parts::object;
 use gix_parts::object::commit::{CommitRefIter, Token};
