@@ -4,18 +4,17 @@ use Rattle.std.proofs.Common.{refl, sym, ap, subst, ◌∙◌}
 use Rattle.std.specs.FinMap.{get}
 use Rattle.gix_parts.specs.declared.hash.Kind.{Kind}
 use Rattle.gix_parts.specs.declared.hash.ObjectId.{ObjectId}
-use Rattle.gix_parts.specs.declared.object.Kind.{Kind as ObjectKind}
 use Rattle.gix_parts.specs.declared.object.Kind.TheVariants as object
 use Rattle.gix_parts.specs.declared.object.decode.Error.{Error as DecodeError}
 use Rattle.gix_parts.specs.Id.{kind_of}
-use Rattle.gix_parts.specs.Object.{Object, Objects}
+use Rattle.gix_parts.specs.Object.{Objects}
 use Rattle.gix_parts.specs.CommitItems.{AtTree, AtParents, AtCommitter, Front, tree_front, committer_front, unfolded, items_within, commit_items}
 use Rattle.gix_parts.specs.declared.object.commit.CommitRefIter.{CommitRefIter}
 use Rattle.gix_parts.specs.declared.object.commit.Signature.{Signature}
 use Rattle.gix_parts.specs.CommitRefIter.{commit_items_left, first_committer, signature_shown}
 use Rattle.gix_parts.specs.Find.{FindsCommit}
 use Rattle.gix_parts.specs.CommitText.{Commit, commit_of, commit_of_items, read_commit, seconds_of}
-use Rattle.gix_traverse.specs.History.{commit_at, commit_of_object, commit_of_kind, time_in, time_of}
+use Rattle.gix_traverse.specs.History.{commit_at, commit_of_object, time_in, time_of}
 use Rattle.gix_traverse.specs.SimpleBuilding.{IsTipRead}
 use Rattle.gix_traverse.proofs.ReadFacts.{IsParentsFront, ended, faulty, parent, author, parents_front}
 

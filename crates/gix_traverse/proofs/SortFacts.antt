@@ -1,20 +1,19 @@
 -- How the pending tips are read and sorted out in turn.
-use Rattle.std.specs.Prelude.{◌≡◌, ◌≢◌, ℤ, List, [], ◌∷◌, ◌++◌, map, filter, Bool, true, false, not, ◌&&◌, ◌||◌, cond, Option, Some, None, Result, Ok, Err, All, IsSome}
+use Rattle.std.specs.Prelude.{◌≡◌, ℤ, List, [], ◌∷◌, ◌++◌, filter, Bool, true, false, not, ◌&&◌, ◌||◌, cond, Option, Some, Ok, All, IsSome}
 use Rattle.std.proofs.Common.{refl, sym, ap, subst, ◌∙◌, append_assoc, append-nil}
 use Rattle.std.proofs.lemmas.List.Elements.{All-cons, All-nil}
 use Rattle.std.specs.FinSet as set
 use Rattle.gix_parts.specs.declared.hash.ObjectId.{ObjectId}
-use Rattle.gix_parts.specs.Id.{id_cmp, is_same, is_among}
+use Rattle.gix_parts.specs.Id.{is_same, is_among}
 use Rattle.gix_parts.specs.Object.{Objects}
 use Rattle.gix_parts.proofs.IdFacts.{id_total}
 use Rattle.gix_traverse.specs.declared.commit.Parents.TheVariants as mode
 use Rattle.gix_traverse.specs.declared.commit.simple.pending.Pending.{Pending}
 use Rattle.gix_traverse.specs.declared.commit.simple.Error.{Error}
-use Rattle.gix_traverse.specs.declared.commit.simple.Error.TheVariants as error
 use Rattle.gix_traverse.specs.declared.commit.simple.Sorting.{Sorting}
 use Rattle.gix_traverse.specs.History.{commit_at, time_of, time_in}
 use Rattle.gix_traverse.specs.SimpleWalk.{SimpleWalk, cutoff, is_older, ids_of}
-use Rattle.gix_traverse.specs.SimpleBuilding.{IsTipRead, IsTipFault, FailsAtTip, IsSortedIn, SortsIn, SortsAll, none, more, IsSortedByTime, timed, recent, outdated}
+use Rattle.gix_traverse.specs.SimpleBuilding.{IsTipFault, FailsAtTip, IsSortedIn, SortsIn, SortsAll, none, more, IsSortedByTime, timed, recent, outdated}
 
 module _ {F P : Type 0} (objects : F → Objects) (bad : F → ObjectId → Type 0) (limit : Option ℤ) where
   pub sorts_first : (old mid new : SimpleWalk F P) (tip : Pending) (rest tips : List Pending) → tips ≡ tip ∷ rest → SortsIn objects bad limit old tip.id (Ok tt) mid → SortsAll objects bad limit mid rest new → SortsAll objects bad limit old tips new

@@ -1,7 +1,6 @@
 -- How a walk takes a commit.
 use Rattle.std.specs.Prelude.{◌≡◌, ◌≢◌, ℕ, ℤ, List, [], Bool, true, false, Option, Some, None, Result, Ok, Err}
 use Rattle.std.proofs.Common.{refl, sym, ap, subst, inl, inr, ◌∙◌}
-use Rattle.std.specs.FinMap as map_of
 use Rattle.gix_parts.specs.declared.hash.Kind.{Kind}
 use Rattle.gix_parts.specs.declared.hash.ObjectId.{ObjectId}
 use Rattle.gix_parts.specs.declared.object.Kind.TheVariants as object
@@ -25,7 +24,7 @@ use Rattle.gix_traverse.specs.History.{by_mode}
 use Rattle.gix_traverse.specs.SimpleErrors.{error_of_find, error_of_stop}
 use Rattle.gix_traverse.specs.PendingQueue.{IsChosen, TakesOut}
 use Rattle.gix_traverse.specs.SimpleSteps.{RowSays}
-use Rattle.gix_traverse.specs.SimpleWalk.{SimpleWalk, scanned, failed, given_time, time_if, time_order, how_ended, GoesOn, StoreFails, NoMemory, IsInfo, kept_rows, rows_if, unrowed, Treated, TreatsAll, IsUnrowed, Concludes, given, broken, store_fails, no_memory, Takes, by_row, by_store, not_found, Chooses, first, best, Steps, ended, took, ids_at}
+use Rattle.gix_traverse.specs.SimpleWalk.{SimpleWalk, scanned, failed, given_time, time_if, time_order, how_ended, GoesOn, StoreFails, NoMemory, IsInfo, kept_rows, unrowed, Treated, TreatsAll, IsUnrowed, Concludes, given, broken, store_fails, no_memory, Takes, by_row, by_store, not_found, Chooses, first, best, Steps, ended, took, ids_at}
 use Rattle.gix_traverse.proofs.TextFacts.{with_text, treats_all_with, SameText, treats_all_same}
 
 module _ {F P : Type 0} (objects : F → Objects) (faulty : F → ObjectId → Type 0) (answers : P → ObjectId → Bool → P → Type 0) (old : SimpleWalk F P) (taken : Pending) where

@@ -1,5 +1,5 @@
 -- The keys under which pending commits stand by time.
-use Rattle.std.specs.Prelude.{◌≡◌, ◌<ℤ◌, ℤ, List, [], ◌∷◌, ◌++◌, map, true, false, Bool, Contains, Option, Some, None, IsPermutation, length}
+use Rattle.std.specs.Prelude.{◌≡◌, ◌<ℤ◌, ℤ, List, [], ◌∷◌, ◌++◌, false, Contains, Option, Some, None, IsPermutation, length}
 use Rattle.std.proofs.Common.{refl, sym, ap, subst, ⊎_elim, ◌∙◌, arith, append-nil, append_assoc}
 use Rattle.std.proofs.lemmas.Int.{ints}
 use Rattle.std.proofs.lemmas.Cmp.{int_ranked}

@@ -4,6 +4,7 @@ pub mod BreadthOrder
 pub mod TimeOrder
 pub mod Agreeing
 pub mod Painting
+pub mod Either
 pub mod SimpleWalk
 pub mod SimpleLaws
 pub mod Painter

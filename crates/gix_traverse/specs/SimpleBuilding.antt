@@ -1,5 +1,5 @@
 -- What the calls make of a walk that choose its order.
-use Rattle.std.specs.Prelude.{◌≡◌, ℕ, ℤ, List, [], ◌∷◌, ◌++◌, map, filter, Bool, true, false, not, ◌&&◌, ◌||◌, Option, Some, None, Result, Ok, Err, All, IsSome}
+use Rattle.std.specs.Prelude.{◌≡◌, ℤ, List, [], ◌∷◌, ◌++◌, map, filter, Bool, true, false, not, ◌&&◌, ◌||◌, Option, Some, Result, Ok, Err, All, IsSome}
 use Rattle.std.specs.FinSet as set
 use Rattle.gix_parts.specs.declared.hash.ObjectId.{ObjectId}
 use Rattle.gix_parts.specs.CommitText.{Commit}

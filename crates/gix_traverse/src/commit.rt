@@ -2,11 +2,17 @@
 ghost use Rattle.std.specs.Prelude.{◌≡◌, Bool, true, IfOk};
 ghost use Rattle.std.specs.Fn.{CalledAt};
 ghost use Rattle.gix_parts.specs.declared.hash.ObjectId.{ObjectId};
+ghost use Rattle.gix_traverse.specs.Either.{FindsEither};
+ghost use Rattle.gix_traverse.specs.Painter.{rows_in};
 
 mod row;
 pub mod simple;
 
+use gix_parts::graph::{Commit, Graph};
 use gix_parts::hash::ObjectId;
+use gix_parts::object::commit::CommitRefIter;
+use gix_parts::object::decode;
+use gix_parts::object::find::{Find, existing_iter};
 pub use simple::Simple;
 use smallvec::SmallVec;
 use std::alloc::AllocError;
@@ -54,6 +60,64 @@ impl Info {
             generation: self.generation,
             commit_time: self.commit_time,
         })
+    }
+}
+
+/// A commit, as the store or a commit-graph has it.
+#[derive(Clone, Copy, Debug)]
+pub enum Either<'buf, 'cache> {
+    /// The items of its bytes.
+    CommitRefIter(CommitRefIter<'buf>),
+    /// Its row.
+    CachedCommit(Commit<'cache>),
+}
+
+impl<'buf, 'cache> Either<'buf, 'cache> {
+    ghost use Rattle.gix_traverse.specs.Either.{either_tree, either_time};
+
+    /// The id of its tree: that of its row, or else of the first item. Where that is no tree the error names its fault, or
+    /// `Missing`.
+    pub fn tree_id(self) -> Result<ObjectId, decode::Error>
+        ensures { result ≡ either_tree self.entry }
+    {
+        match self {
+            Either::CommitRefIter(mut items) => items.tree_id(),
+            Either::CachedCommit(commit) => Ok(commit.root_tree_id()),
+        }
+    }
+
+    /// The committer's seconds since 1970: those of its row, or else of the first committer among the items. The error names a
+    /// fault before it, or `Missing`.
+    pub fn commit_time(self) -> Result<i64, decode::Error>
+        ensures { result ≡ either_time self.entry }
+    {
+        match self {
+            Either::CommitRefIter(items) => match items.committer() {
+                Ok(signature) => Ok(signature.seconds()),
+                Err(fault) => Err(fault),
+            },
+            Either::CachedCommit(commit) => Ok(commit.committer_timestamp()),
+        }
+    }
+}
+
+/// Looks a commit up: its row where there is one, and no memory is wanted then, else its items in the store, lent from `buf`.
+pub fn find<'cache, 'buf, F: Find + Drop>(
+    cache: Option<&'cache Graph>,
+    objects: F,
+    id: &ObjectId,
+    buf: &'buf mut Vec<u8>,
+) -> Result<Either<'buf, 'cache>, existing_iter::Error>
+    ensures { FindsEither (rows_in cache.entry) (F.objects objects) (F.faulty objects) id.now result }
+{
+    if let Some(graph) = cache {
+        if let Some(commit) = graph.commit_by_id(id) {
+            return Ok(Either::CachedCommit(commit));
+        }
+    }
+    match objects.find_commit_iter(id, buf) {
+        Ok(items) => Ok(Either::CommitRefIter(items)),
+        Err(fault) => Err(fault),
     }
 }
 

@@ -1,5 +1,4 @@
 use Rattle.std.proofs.Common.{◌≡◌, ◌<◌, All, IfOk, length}
-use Rattle.gix_parts.specs.Rows.{row_at}
 use Rattle.gix_parts.specs.GraphCommit.{row_of_commit}
 use Rattle.gix_traverse.specs.SimpleWalk.{ids_at}
 use Rattle.gix_traverse.proofs.RowFacts.{answered_ids, behind}

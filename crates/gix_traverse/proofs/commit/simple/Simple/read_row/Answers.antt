@@ -1,4 +1,4 @@
-use Rattle.std.proofs.Common.{◌≡◌, sym, ap, ◌∙◌}
+use Rattle.std.proofs.Common.{sym, ap, ◌∙◌}
 use Rattle.std.specs.Option.{option_map}
 use Rattle.gix_traverse.specs.SimpleSteps.{rows_of}
 use Rattle.gix_traverse.proofs.TakeSteps.{says_row}

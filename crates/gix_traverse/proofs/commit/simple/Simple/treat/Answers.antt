@@ -1,9 +1,6 @@
-use Rattle.std.proofs.Common.{◌≡◌, Err, subst, SFits, rules, w64}
+use Rattle.std.proofs.Common.{subst, SFits, rules, w64}
 use Rattle.std.proofs.lemmas.Int.{to_z-of_z}
-use Rattle.gix_traverse.specs.declared.commit.simple.step.Stop.{Stop}
-use Rattle.gix_traverse.specs.declared.commit.simple.step.Stop.TheVariants as stop
-use Rattle.gix_traverse.specs.SimpleWalk.{Asks, Treats, how_ended}
-use Rattle.gix_traverse.specs.SimpleSteps.{TimeIs}
+use Rattle.gix_traverse.specs.SimpleWalk.{Asks}
 use Rattle.gix_traverse.proofs.TreatSteps.{met_new, treats_met, treats_unmet, treats_refused, treats_time_fails, treats_accepted, treats_stopped}
 use Rattle.gix_traverse.proofs.commit.simple.Simple.treat.Goals as goal
 

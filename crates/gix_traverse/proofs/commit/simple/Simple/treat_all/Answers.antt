@@ -1,4 +1,3 @@
-use Rattle.std.proofs.Common.{refl}
 use Rattle.gix_traverse.specs.SimpleWalk.{GoesOn}
 use Rattle.gix_traverse.proofs.TreatSteps.{stopped_first, treats_first, treats_none}
 use Rattle.gix_traverse.proofs.commit.simple.Simple.treat_all.Goals as goal

@@ -1,4 +1,4 @@
-use Rattle.std.proofs.Common.{sym, subst, IsPermutation}
+use Rattle.std.proofs.Common.{subst, IsPermutation}
 use Rattle.gix_parts.specs.PriorityQueue.{values}
 use Rattle.gix_traverse.proofs.TimeKeys.{takes_best}
 use Rattle.gix_traverse.proofs.commit.simple.pending.PendingQueue.pop.Goals as goal
