@@ -10,9 +10,9 @@ use std::test::Fail;
 
 /// A store that fails at one id.
 #[derive(Clone, Copy)]
-struct Failing<'a> {
-    store: &'a MemoryStore,
-    at: ObjectId,
+pub struct Failing<'a> {
+    pub store: &'a MemoryStore,
+    pub at: ObjectId,
 }
 
 impl Find for Failing<'_> {

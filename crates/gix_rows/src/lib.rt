@@ -1,4 +1,5 @@
-//! Tests of the walks: worked histories, a store that fails, a predicate that writes down what it is asked.
+//! Tests of the walks: worked histories and trees, a store that fails, a predicate and a delegate that write down what they
+//! are asked.
 #![tactic(auto)]
 
 #[cfg(test)]
@@ -7,3 +8,9 @@ mod breadth;
 mod faults;
 #[cfg(test)]
 mod history;
+#[cfg(test)]
+mod recorded;
+#[cfg(test)]
+mod script;
+#[cfg(test)]
+mod trees;

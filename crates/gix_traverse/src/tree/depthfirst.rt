@@ -14,6 +14,7 @@ use gix_parts::object::Kind;
 use gix_parts::object::find::{Find, existing_iter};
 use gix_parts::object::tree::{EntryRef, TreeRefIter};
 use std::alloc::{AllocError, Global};
+use std::marker::Model;
 use std::mem;
 use std::ops::ControlFlow;
 
@@ -24,10 +25,18 @@ pub struct State {
     alloc: Global,
 }
 
+impl Model for State {
+    ghost use Rattle.std.specs.Prelude.{ℕ, List, map};
+
+    ghost Value = { List (List ℕ) };
+
+    ghost view = { λ s. map (λ buf. buf.items) s.free.items };
+}
+
 impl State {
-    /// It takes no memory until a walk does.
+    /// No buffers. It takes no memory until a walk does.
     pub fn new(alloc: Global) -> State
-        ensures { result.free.items ≡ [] }
+        ensures { result ≡ [] }
     {
         State {
             free: Vec::new(alloc),
@@ -38,7 +47,7 @@ impl State {
     /// An empty buffer: the one that was put back last, or else a new one that takes no memory yet.
     pub fn pop_buf(&mut self) -> Vec<u8>
         ensures empty { result.items ≡ [] }
-        ensures rest { self.new.free.items ≡ take (length self.old.free.items - 1) self.old.free.items }
+        ensures rest { self.new ≡ take (length self.old - 1) self.old }
     {
         match self.free.pop() {
             Some(mut buf) => {
@@ -51,8 +60,8 @@ impl State {
 
     /// Puts a buffer back. Where memory is wanting, the buffer is dropped and nothing changes.
     pub fn push_buf(&mut self, buf: Vec<u8>) -> Result<(), AllocError>
-        ensures ok { OnOk result (self.new.free.items ≡ self.old.free.items ++ buf ∷ []) }
-        ensures err { OnErr result (self.new.free.items ≡ self.old.free.items) }
+        ensures ok { OnOk result (self.new ≡ self.old ++ buf.items ∷ []) }
+        ensures err { OnErr result (self.new ≡ self.old) }
     {
         self.free.push(buf)?;
         Ok(())

@@ -1,5 +1,5 @@
 //! A delegate that writes down what it sees.
-ghost use Rattle.std.specs.Prelude.{◌≡◌, IfOk, OnOk, OnErr};
+ghost use Rattle.std.specs.Prelude.{◌≡◌, ◌↔◌, IsTrue, IfOk, OnOk, OnErr};
 ghost use Rattle.bstr.specs.BStr.{bstr_bytes};
 ghost use Rattle.bstr.specs.Owned.{bstring_bytes};
 ghost use Rattle.gix_traverse.specs.Recorder.{with_name, without_name};
@@ -47,6 +47,32 @@ impl Entry {
             oid: self.oid,
         })
     }
+}
+
+impl PartialEq for Entry {
+    ghost use Rattle.std.specs.Cmp.{partial_equiv_from_equiv, on_per};
+    ghost use Rattle.gix_traverse.specs.Recorder.{is_same_record, is_same_record-equivalence};
+
+    ghost eq = { λ a b. is_same_record (record_of_entry a) (record_of_entry b) };
+
+    ghost laws = { on_per record_of_entry (partial_equiv_from_equiv is_same_record-equivalence) };
+
+    /// Whether the modes, the bytes of the paths and the ids are the same.
+    fn eq(&self, other: &Entry) -> bool
+        ensures eq { result ≡ is_same_record (record_of_entry self.now) (record_of_entry other.now) }
+        ensures same { IsTrue result ↔ (record_of_entry self.now ≡ record_of_entry other.now) }
+    {
+        self.mode == other.mode
+            && self.filepath.as_bytes() == other.filepath.as_bytes()
+            && self.oid == other.oid
+    }
+}
+
+impl Eq for Entry {
+    ghost use Rattle.std.specs.Cmp.{on_equiv};
+    ghost use Rattle.gix_traverse.specs.Recorder.{is_same_record-equivalence};
+
+    ghost laws = { on_equiv record_of_entry is_same_record-equivalence };
 }
 
 // The name stands behind the path, with a `/` between them where the path isn't empty. An empty name adds nothing. Where memory

@@ -1,0 +1,152 @@
+//! Trees to walk, and a delegate that writes its calls down.
+use crate::history::id;
+use bstr::BStr;
+use gix_parts::hash::ObjectId;
+use gix_parts::object::Kind;
+use gix_parts::object::find::Find;
+use gix_parts::object::memory::MemoryStore;
+use gix_parts::object::tree::EntryRef;
+use gix_traverse::tree::breadthfirst::{self, Error, breadthfirst};
+use gix_traverse::tree::depthfirst::{self, depthfirst};
+use gix_traverse::tree::visit::{Action, Visit};
+use std::alloc::{AllocError, Global};
+use std::ops::ControlFlow;
+use std::test::Fail;
+
+/// The entries of the sample's root: a file `a`, a tree `d`, and a file `e`.
+pub const ROOT: [(&str, u8); 3] = [("100644 a", 1), ("40000 d", 13), ("100644 e", 3)];
+
+/// Stores a tree of these entries. Each is told by what stands before the NUL, and by the digit of its id.
+pub fn insert_tree(
+    alloc: Global,
+    store: &mut MemoryStore,
+    digit: u8,
+    entries: &[(&str, u8)],
+) -> Result<(), AllocError> {
+    let mut bytes = Vec::new(alloc);
+    for (entry, digit) in entries {
+        bytes.extend_from_slice(entry.as_bytes())?;
+        bytes.push(0)?;
+        bytes.extend_from_slice(id(*digit).as_bytes())?;
+    }
+    store.insert(id(digit), Kind::Tree, &bytes)
+}
+
+/// The sample: its root has the id of digit 10, and the tree `d` in it holds a file `x`.
+pub fn sample(alloc: Global) -> Result<MemoryStore, AllocError> {
+    let mut store = MemoryStore::new(alloc);
+    insert_tree(alloc, &mut store, 10, &ROOT)?;
+    insert_tree(alloc, &mut store, 13, &[("100644 x", 2)])?;
+    Ok(store)
+}
+
+/// A delegate that writes its calls down, each as a word, with the name that it is told in brackets. A line begins where a name
+/// is put behind the path, and where a tree is turned to. It answers `Continue(true)`, but at the entry of one name.
+#[derive(Drop)]
+pub struct Scripted<'a> {
+    calls: Vec<u8>,
+    at: &'a [u8],
+    answer: Action,
+}
+
+impl<'a> Scripted<'a> {
+    /// It answers this at the entry of this name. The memory for its words is taken here.
+    pub fn new(alloc: Global, at: &'a str, answer: Action) -> Result<Scripted<'a>, AllocError> {
+        Ok(Scripted {
+            calls: Vec::with_capacity(alloc, 512)?,
+            at: at.as_bytes(),
+            answer,
+        })
+    }
+
+    /// The calls so far.
+    pub fn calls(&self) -> &[u8] {
+        &self.calls
+    }
+
+    fn write(&mut self, word: &str) -> Result<(), AllocError> {
+        Ok(self.calls.extend_from_slice(word.as_bytes())?)
+    }
+
+    fn write_with(&mut self, word: &str, name: &BStr<'_>) -> Result<(), AllocError> {
+        self.write(word)?;
+        self.calls.push(b'(')?;
+        self.calls.extend_from_slice(name.as_bytes())?;
+        Ok(self.calls.push(b')')?)
+    }
+
+    fn answer(&self, entry: &EntryRef<'_>) -> Action {
+        if entry.filename.as_bytes() == self.at {
+            self.answer
+        } else {
+            ControlFlow::Continue(true)
+        }
+    }
+}
+
+impl Visit for Scripted<'_> {
+    // Nothing is promised of it.
+    ghost steps = { λ _ _ _. Unit {0} };
+
+    fn pop_back_tracked_path_and_set_current(&mut self) {
+        let _ = self.write("\npop_back");
+    }
+
+    fn pop_front_tracked_path_and_set_current(&mut self) {
+        let _ = self.write("\npop_front");
+    }
+
+    fn pop_path_component(&mut self) {
+        let _ = self.write(" pop_path");
+    }
+
+    fn push_back_tracked_path_component(&mut self, component: &BStr<'_>) -> Result<(), AllocError> {
+        self.write_with(" push_back", component)
+    }
+
+    fn push_path_component(&mut self, component: &BStr<'_>) -> Result<(), AllocError> {
+        self.write_with("\npush_path", component)
+    }
+
+    fn visit_tree(&mut self, entry: &EntryRef<'_>) -> Result<Action, AllocError> {
+        self.write_with(" tree", &entry.filename)?;
+        Ok(self.answer(entry))
+    }
+
+    fn visit_nontree(&mut self, entry: &EntryRef<'_>) -> Result<Action, AllocError> {
+        self.write_with(" nontree", &entry.filename)?;
+        Ok(self.answer(entry))
+    }
+}
+
+/// Walks a tree breadth first. Some is why the walk ended before all was shown, but for want of memory.
+pub fn levels<F: Find, V: Visit>(
+    alloc: Global,
+    store: &F,
+    root: ObjectId,
+    delegate: &mut V,
+) -> Result<Option<Error>, Fail> {
+    let mut bytes = Vec::new(alloc);
+    let entries = store.find_tree_iter(&root, &mut bytes)?;
+    let mut state = breadthfirst::State::new(alloc);
+    fault(breadthfirst(alloc, entries, &mut state, store, delegate))
+}
+
+/// Walks a tree in depth, with the same answers.
+pub fn depth<F: Find, V: Visit>(
+    alloc: Global,
+    store: &F,
+    root: ObjectId,
+    delegate: &mut V,
+) -> Result<Option<Error>, Fail> {
+    let mut state = depthfirst::State::new(alloc);
+    fault(depthfirst(alloc, root, &mut state, store, delegate))
+}
+
+fn fault(answer: Result<(), Error>) -> Result<Option<Error>, Fail> {
+    match answer {
+        Ok(()) => Ok(None),
+        Err(Error::Memory) => Err(Fail::from(AllocError)),
+        Err(error) => Ok(Some(error)),
+    }
+}
