@@ -128,8 +128,8 @@ module _ {F : Type 0} (objects : F → Objects) (store : F) (rows : List GraphRo
           (b.1.0, b.1.1)
         where
           row_for : Knows (objects store) rows w.0.1.id (record { key = w.0.0; parent_ids = w.0.1.parent_ids }) → is_told w.0.0.generation ≡ true → (row : GraphRow) × (row_of rows w.0.1.id ≡ Some row)
-          row_for (painter.by_row {row = row} e k n) t = (row, e)
-          row_for (painter.by_store e k m d) t = let bad : true ≡ false = sym t ∙ ap is_told k in cc
+          row_for (painter.by_row {row = row} e k s n) t = (row, e)
+          row_for (painter.by_store e k s m d) t = let bad : true ≡ false = sym t ∙ ap is_told k in cc
 
       -- a met id that hidden tips reach is hidden
       all_hidden : (i : ObjectId) → state_of p i ≢ Unmet → Reaches There hidden_tips i → state_of p i ≡ Hides
@@ -184,8 +184,8 @@ module _ {F : Type 0} (objects : F → Objects) (store : F) (rows : List GraphRo
           nothing_waits q there = ⊎_elim (λ none. no_member q (subst (λ qs. Contains qs q) none there)) (λ s. unrowed (subst (λ rs. IsQueued (objects store) rs q) e (safe.queued (rowless objects store rows tips hidden_tips safe e) q there)) (s.2 q there)) settled
             where
               unrowed : Knows (objects store) [] q.1.id (record { key = q.0; parent_ids = q.1.parent_ids }) → is_told q.0.generation ≡ true → ⊥
-              unrowed (painter.by_row f k n) t = cc
-              unrowed (painter.by_store f k n d) t = let bad : true ≡ false = sym t ∙ ap is_told k in cc
+              unrowed (painter.by_row f k s n) t = cc
+              unrowed (painter.by_store f k s n d) t = let bad : true ≡ false = sym t ∙ ap is_told k in cc
 
           go : (s : State) → state_of p c ≡ s → state_of p c ≢ Unmet → state_of p i ≢ Unmet
           go Unmet f met = absurd (met f)

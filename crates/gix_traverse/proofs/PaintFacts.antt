@@ -38,8 +38,8 @@ hidden-empty marks e = set.same_set id_total id_apart _ _ (λ i. contains-hidden
 
 -- the parents that an entry brings are its commit's
 pub brought_read : {objects : Objects} {rows : List GraphRow} {i : ObjectId} {known : Known} → Knows objects rows i known → (ids : List ObjectId) → option_map (λ ids. ids.items) known.parent_ids ≡ Some ids → Reads objects i ids
-brought_read (by_row r k n) ids e = let none : None ≡ Some ids = sym (ap (option_map (λ ids. ids.items)) n) ∙ e in cc
-brought_read (by_store {ids = those} r k m s) ids e = let same : ids ≡ those = cc in (s.0, s.1, same ∙ s.2)
+brought_read (by_row r k t n) ids e = let none : None ≡ Some ids = sym (ap (option_map (λ ids. ids.items)) n) ∙ e in cc
+brought_read (by_store {ids = those} r k t m s) ids e = let same : ids ≡ those = cc in (s.0, s.1, same ∙ s.2)
 
 pub reads_parents : (objects : Objects) (i : ObjectId) (ids : List ObjectId) → Reads objects i ids → ids ≡ parents_of objects i
 reads_parents objects i ids r = r.2 ∙ sym (ap parents_in r.1)
@@ -168,8 +168,8 @@ module _ {F : Type 0} (objects : F → Objects) (store : F) (rows : List GraphRo
         whole e i w = reads_of (subst (λ rs. IsQueued (objects store) rs w.0) e ((safe_meets safe).queued (rowless (safe_meets safe) e) w.0 w.1))
           where
             reads_of : Knows (objects store) [] w.0.1.id (record { key = w.0.0; parent_ids = w.0.1.parent_ids }) → (ids : List ObjectId) × Reads (objects store) i ids
-            reads_of (by_row r k n) = cc
-            reads_of (by_store {ids = those} r k n d) = (those, subst (λ j. Reads (objects store) j those) w.3 d)
+            reads_of (by_row r k t n) = cc
+            reads_of (by_store {ids = those} r k t n d) = (those, subst (λ j. Reads (objects store) j those) w.3 d)
 
         was_read : rows ≡ [] → (i : ObjectId) {a b : State} → Becomes s (Contains ids i) (IsWaiting new s i) a b → b ≢ Unmet → a ≡ state_of p i → (ids : List ObjectId) × Reads (objects store) i ids
         was_read e i (stays f) n o = h.read e i (λ u. n (o ∙ u))

@@ -1,5 +1,5 @@
 -- A commit is read from the store whole, or there is a fault at its id.
-use Rattle.std.specs.Prelude.{◌≡◌, ◌≢◌, ℕ, List, [], ◌∷◌, Option, Some, None, Result, Ok, Err, IfErr, slice_get}
+use Rattle.std.specs.Prelude.{◌≡◌, ◌≢◌, ℕ, List, [], ◌∷◌, ◌++◌, Option, Some, None, Result, Ok, Err, IfErr, slice_get}
 use Rattle.std.specs.Result.{IsErrAnd}
 use Rattle.std.proofs.Common.{refl, sym, ap, subst, ◌∙◌}
 use Rattle.std.specs.FinMap as map_of
@@ -8,9 +8,9 @@ use Rattle.gix_parts.specs.declared.object.Kind.TheVariants as object
 use Rattle.gix_parts.specs.declared.object.decode.Error.{Error as DecodeError}
 use Rattle.gix_parts.specs.declared.object.find.existing_iter.Error.{Error as ExistingError}
 use Rattle.gix_parts.specs.declared.object.find.existing_iter.Error.TheVariants as existing
-use Rattle.gix_parts.specs.CommitItems.{Item, commit_items}
+use Rattle.gix_parts.specs.CommitItems.{Item, Tree, Parent, Author, Committer, Rest, commit_items}
 use Rattle.gix_parts.specs.CommitRefIter.{first_committer}
-use Rattle.gix_parts.specs.CommitText.{Commit, read_commit}
+use Rattle.gix_parts.specs.CommitText.{Commit, commit_of, commit_of_items, read_commit, seconds_of}
 use Rattle.gix_parts.specs.Find.{IsExistingFault}
 use Rattle.gix_parts.specs.Id.{kind_of}
 use Rattle.gix_parts.specs.Object.{Objects}
@@ -22,7 +22,7 @@ use Rattle.gix_parts.proofs.IdFacts.{Contains-here}
 use Rattle.gix_traverse.specs.declared.commit.Parents.TheVariants as mode
 use Rattle.gix_traverse.specs.declared.commit.simple.Hidden.{Hidden}
 use Rattle.gix_traverse.specs.declared.commit.simple.Hidden.TheVariants as hidden_by
-use Rattle.gix_traverse.specs.History.{commit_of_object}
+use Rattle.gix_traverse.specs.History.{commit_of_object, time_in, time_of}
 use Rattle.gix_traverse.specs.Painting.{IsFaultAt}
 use Rattle.gix_traverse.specs.Painter.{FailsAmong, Reads}
 use Rattle.gix_traverse.specs.SimpleWalk.{scanned, ids_at, with_id}
@@ -44,6 +44,34 @@ read_whole objects i bytes signature items ids fault stored same committer scan 
     go (Some commit) e =
         let all : (ids, fault) ≡ (commit.parents, None) = scan ∙ ap (scanned mode.All) same ∙ scan_is (kind_of i) bytes commit e mode.All in
         (commit, ap (commit_of_object i) stored ∙ e, ap (λ p. p.0) all)
+
+-- a committer that was read is that of the commit
+committer_time : (tree : ObjectId) (ps : List ObjectId) (items : List (Result Item DecodeError)) (commit : Commit) (signature : List ℕ) → commit_of tree ps items ≡ Some commit → first_committer items ≡ Ok signature → commit.time ≡ seconds_of signature
+committer_time tree ps [] commit signature e f = cc
+committer_time tree ps (Err d ∷ items) commit signature e f = cc
+committer_time tree ps (Ok (Tree i) ∷ items) commit signature e f = cc
+committer_time tree ps (Ok (Parent i) ∷ items) commit signature e f = committer_time tree (ps ++ i ∷ []) items commit signature e f
+committer_time tree ps (Ok (Author line) ∷ items) commit signature e f = committer_time tree ps items commit signature e f
+committer_time tree ps (Ok (Committer read) ∷ items) commit signature e f = let same : read ≡ signature = cc in sym (ap time_in e) ∙ ap seconds_of same
+committer_time tree ps (Ok (Rest bytes) ∷ items) commit signature e f = cc
+
+items_time : (items : List (Result Item DecodeError)) (commit : Commit) (signature : List ℕ) → commit_of_items items ≡ Some commit → first_committer items ≡ Ok signature → commit.time ≡ seconds_of signature
+items_time [] commit signature e f = cc
+items_time (Err d ∷ items) commit signature e f = cc
+items_time (Ok (Tree i) ∷ items) commit signature e f = committer_time i [] items commit signature e f
+items_time (Ok (Parent i) ∷ items) commit signature e f = cc
+items_time (Ok (Author line) ∷ items) commit signature e f = cc
+items_time (Ok (Committer read) ∷ items) commit signature e f = cc
+items_time (Ok (Rest bytes) ∷ items) commit signature e f = cc
+
+pub time_read : (objects : Objects) (i : ObjectId) (bytes signature : List ℕ) (items : List (Result Item DecodeError)) (ids : List ObjectId)
+    → map_of.get objects i ≡ Some (record { kind = object.Commit; bytes = bytes })
+    → items ≡ commit_items (kind_of i) bytes
+    → Ok signature ≡ first_committer items
+    → Reads objects i ids
+    → seconds_of signature ≡ time_of objects i
+time_read objects i bytes signature items ids stored same committer r =
+    sym (ap time_in r.1 ∙ items_time (commit_items (kind_of i) bytes) r.0 signature (sym (ap (commit_of_object i) stored) ∙ r.1) (sym (committer ∙ ap first_committer same)))
 
 module _ (objects : Objects) (faulty : ObjectId → Type 0) (i : ObjectId) where
   pub find_fails : {T : Type 0} (r : Result T Hidden) (e : ExistingError) → IsErrAnd r (λ why. why ≡ hidden_by.Find e) → (e ≢ existing.Memory → IsExistingFault objects faulty i object.Commit e) → IfErr r (FailsAmong objects faulty (i ∷ []))

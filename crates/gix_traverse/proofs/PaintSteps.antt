@@ -131,15 +131,15 @@ module _ {F : Type 0} (objects : F → Objects) (store : F) (rows : List GraphRo
       key_of r q c row e = go (safe.queued r q c)
         where
           go : IsQueued (objects store) rows q → q.0.generation ≡ Told row.generation
-          go (painter.by_row {row = other} f k n) = let same : other ≡ row = (let s : Some other ≡ Some row = sym f ∙ e in cc) in k ∙ ap (λ x. Told x.generation) same
-          go (painter.by_store f k m d) = let bad : None ≡ Some row = sym f ∙ e in cc
+          go (painter.by_row {row = other} f k t n) = let same : other ≡ row = (let s : Some other ≡ Some row = sym f ∙ e in cc) in k ∙ ap (λ x. Told x.generation) same
+          go (painter.by_store f k t m d) = let bad : None ≡ Some row = sym f ∙ e in cc
 
       row_told : RowsStand objects store rows tips hidden_tips w → (q : Key × Entry) → Contains w.queue q → (n : ℕ) → q.0.generation ≡ Told n → HasGeneration q.1.id n
       row_told r q c n e = go (safe.queued r q c)
         where
           go : IsQueued (objects store) rows q → HasGeneration q.1.id n
-          go (painter.by_row {row = row} f k m) = (row, f, (let s : Told row.generation ≡ Told n = sym k ∙ e in cc))
-          go (painter.by_store f k m d) = let bad : Infinite ≡ Told n = sym k ∙ e in cc
+          go (painter.by_row {row = row} f k t m) = (row, f, (let s : Told row.generation ≡ Told n = sym k ∙ e in cc))
+          go (painter.by_store f k t m d) = let bad : Infinite ≡ Told n = sym k ∙ e in cc
 
       -- what waits below a key that a row told has a row of its own
       waits_below : RowsStand objects store rows tips hidden_tips w → (top : Key × Entry) → IsUpperBound cmp-value.it top.0 (keys w.queue) → (n : ℕ) → top.0.generation ≡ Told n → (s : Side) (i : ObjectId) → IsWaiting w s i → (m : ℕ) × HasGeneration i m × (m ≤ n)

@@ -25,7 +25,7 @@ use Rattle.gix_traverse.specs.declared.commit.simple.paint.Key.{Key}
 use Rattle.gix_traverse.specs.declared.commit.simple.paint.Known.{Known}
 use Rattle.gix_traverse.specs.declared.commit.simple.paint.Entry.{Entry}
 use Rattle.gix_traverse.specs.declared.commit.simple.paint.Painter.{Painter}
-use Rattle.gix_traverse.specs.History.{commit_at}
+use Rattle.gix_traverse.specs.History.{commit_at, time_of}
 use Rattle.gix_traverse.specs.Painting.{IsFaultAt}
 use Rattle.gix_traverse.specs.SimpleLaws.{new_ids}
 use Rattle.gix_traverse.specs.SimpleWalk.{ids_at}
@@ -83,10 +83,10 @@ pub data ReadsParents (objects : Objects) (old : Option (Bor (List GraphRow))) (
   by_store : row_of (rows_in old) i ≡ None → Reads objects i ids → ReadsParents objects old i ids old
   drops : {row : GraphRow} → row_of (rows_in old) i ≡ Some row → ids_at (rows_in old) row.parents ≡ None → Reads objects i ids → ReadsParents objects old i ids None
 
--- an id with a row is queued by the row's generation, one without by no generation and with the parents that the store says
+-- an id with a row is queued by the row's generation and time, one without by the store's time alone, and with the parents that the store says
 pub data Knows (objects : Objects) (rows : List GraphRow) (i : ObjectId) : Known → Type 0 where
-  by_row : {row : GraphRow} {known : Known} → row_of rows i ≡ Some row → known.key.generation ≡ Told row.generation → known.parent_ids ≡ None → Knows objects rows i known
-  by_store : {known : Known} {ids : List ObjectId} → row_of rows i ≡ None → known.key.generation ≡ Infinite → option_map (λ ids. ids.items) known.parent_ids ≡ Some ids → Reads objects i ids → Knows objects rows i known
+  by_row : {row : GraphRow} {known : Known} → row_of rows i ≡ Some row → known.key.generation ≡ Told row.generation → known.key.time ≡ row.time → known.parent_ids ≡ None → Knows objects rows i known
+  by_store : {known : Known} {ids : List ObjectId} → row_of rows i ≡ None → known.key.generation ≡ Infinite → known.key.time ≡ time_of objects i → option_map (λ ids. ids.items) known.parent_ids ≡ Some ids → Reads objects i ids → Knows objects rows i known
 
 -- an entry of the queue is as the id was known when it was put there
 abbrev pub IsQueued : Objects → List GraphRow → Key × Entry → Type 0

@@ -3,6 +3,7 @@ ghost use Rattle.std.specs.Prelude.{◌≡◌, ◌≢◌, ◌↔◌, ◌++◌, �
 ghost use Rattle.std.specs.FinSet as set;
 ghost use Rattle.gix_parts.specs.declared.object.find.existing_iter.Error.TheVariants as existing;
 ghost use Rattle.gix_traverse.specs.declared.commit.simple.paint.Key.{Key};
+ghost use Rattle.gix_traverse.specs.History.{time_of};
 ghost use Rattle.gix_traverse.specs.Painting.{IsFaultAt, IsHiddenFault, Paints};
 ghost use Rattle.gix_traverse.specs.SimpleWalk.{ids_of};
 ghost use Rattle.gix_traverse.specs.Painter as painter;
@@ -195,6 +196,7 @@ impl<'a, F: Find> Source<'a, F> {
         ensures objects { self.new.objects ≡ self.old.objects }
         ensures graph { self.new.graph ≡ self.old.graph }
         ensures read { IfOk result (λ stored. Reads (F.objects self.old.objects.now) id.now stored.parent_ids.items) }
+        ensures time { IfOk result (λ stored. stored.time ≡ time_of (F.objects self.old.objects.now) id.now) }
         ensures fault { IfErr result (FailsAmong (F.objects self.old.objects.now) (F.faulty self.old.objects.now) (id.now ∷ [])) }
     {
         let items = self.objects.find_commit_iter(id, &mut self.text)?;
