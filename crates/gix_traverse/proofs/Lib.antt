@@ -17,6 +17,12 @@ pub mod TakeFacts
 pub mod NextFacts
 pub mod MadeFacts
 pub mod MadeRunFacts
+pub mod ReadyFacts
+pub mod TurnFacts
+pub mod TopoRunFacts
+pub mod TopoEndFacts
+pub mod TopoLawFacts
+pub mod TopoTellFacts
 pub mod LevelLemmas
 pub mod DepthLemmas
 pub mod RecorderLemmas

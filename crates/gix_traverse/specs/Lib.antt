@@ -7,6 +7,12 @@ pub mod SimpleWalk
 pub mod SimpleLaws
 pub mod Examples
 pub mod SimpleErrors
+pub mod WalkSet
+pub mod DateOrder
+pub mod TopoOrder
+pub mod TopoErrors
+pub mod TopoWalk
+pub mod TopoLaws
 pub mod Delegate
 pub mod Visits
 pub mod Paths

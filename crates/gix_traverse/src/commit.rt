@@ -4,6 +4,7 @@ ghost use Rattle.std.specs.Fn.{CalledAt};
 ghost use Rattle.gix_parts.specs.declared.hash.ObjectId.{ObjectId};
 
 pub mod simple;
+pub mod topo;
 
 use gix_parts::hash::ObjectId;
 pub use simple::Simple;
