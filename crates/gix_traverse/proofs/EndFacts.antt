@@ -91,7 +91,7 @@ found_entry (x ∷ es) i o e = go (found_entry es i o) (is_same i x.0) refl e
     go r true t e = let same : i ≡ x.0 = same_is i x.0 t in let object : x.1 ≡ o = cc in subst (λ y. Contains (x ∷ es) y) (λ k. (sym same k, object k)) (Contains-here x es)
     go r false t e = Contains-there (i, o) x es (r e)
 
-ids_in_rows : (rows : List GraphRow) (places : List ParentPlace) (ids : List ObjectId) → ids_at rows places ≡ Some ids → (i : ObjectId) → Contains ids i → is_among i (map (λ row. row.id) rows) ≡ true
+pub ids_in_rows : (rows : List GraphRow) (places : List ParentPlace) (ids : List ObjectId) → ids_at rows places ≡ Some ids → (i : ObjectId) → Contains ids i → is_among i (map (λ row. row.id) rows) ≡ true
 ids_in_rows rows [] ids e i h = absurd (no_member i (subst (λ xs. Contains xs i) (let s : ids ≡ [] = cc in s) h))
 ids_in_rows rows (Fault ∷ places) ids e i h = cc
 ids_in_rows rows (At n ∷ places) ids e i h = go (slice_get rows n) refl (ids_at rows places) refl (λ those f. ids_in_rows rows places those f i) e

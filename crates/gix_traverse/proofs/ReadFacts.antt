@@ -1,5 +1,5 @@
 -- A commit that reads whole is read alike from its items and from its row.
-use Rattle.std.specs.Prelude.{ℕ, zero, suc, ◌≡◌, List, [], ◌∷◌, ◌++◌, Bool, true, false, cond, length, slice_get, Contains, Option, Some, None, Result, Ok}
+use Rattle.std.specs.Prelude.{ℕ, zero, suc, ◌≡◌, ◌<◌, List, [], ◌∷◌, ◌++◌, Bool, true, false, cond, length, slice_get, Contains, Option, Some, None, Result, Ok}
 use Rattle.std.proofs.Common.{refl, sym, ap, subst, ◌∙◌, arith, append_assoc, append-nil}
 use Rattle.gix_parts.specs.declared.hash.Kind.{Kind}
 use Rattle.gix_parts.specs.declared.hash.ObjectId.{ObjectId}
@@ -156,3 +156,17 @@ module _ (objects : Objects) (faulty : ObjectId → Type 0) (rows : List GraphRo
       let k : (k : ℕ) × (slice_get a.whole.commit.parents k ≡ Some i) = place_of _ i m in
       let q : (place : ParentPlace) × (slice_get row.parents k.0 ≡ Some place) = same_long row.parents a.whole.commit.parents k.0 i a.places k.1 in
       place_has_row rows row.generation i q.0 (a.parents k.0 i q.0 k.1 q.1)
+
+  -- a parent's row is of a lesser generation
+  pub parent_lower : (c : ObjectId) (row : GraphRow) (i : ObjectId) → row_of rows c ≡ Some row → Contains (parents_of objects c) i → (r : GraphRow) × (row_of rows i ≡ Some r) × (r.generation < row.generation)
+  parent_lower c row i e n =
+      let h : Contains rows row × (c ≡ row.id) = row_stands rows c row e in
+      let a : RowAgrees objects faulty rows row = agrees row h.0 in
+      let m : Contains a.whole.commit.parents i = subst (λ ps. Contains ps i) (ap parents_in (ap (commit_at objects) h.1 ∙ a.whole.stored)) n in
+      let k : (k : ℕ) × (slice_get a.whole.commit.parents k ≡ Some i) = place_of _ i m in
+      let q : (place : ParentPlace) × (slice_get row.parents k.0 ≡ Some place) = same_long row.parents a.whole.commit.parents k.0 i a.places k.1 in
+      go q.0 (a.parents k.0 i q.0 k.1 q.1)
+    where
+      go : (place : ParentPlace) → PlaceAgrees rows row.generation i place → (r : GraphRow) × (row_of rows i ≡ Some r) × (r.generation < row.generation)
+      go (At n) p = (p.0, p.3, p.4)
+      go Fault p = (p.0, p.1, p.2)

@@ -30,3 +30,10 @@ pub mod Recorder
 pub mod Tracked
 pub mod TreeLaws
 pub mod TreeExamples
+pub mod Counting
+pub mod Frontier
+pub mod ReadsCommit
+pub mod Exploring
+pub mod Searched
+pub mod ReadySet
+pub mod Releasing

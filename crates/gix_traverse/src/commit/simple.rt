@@ -125,13 +125,13 @@ struct Pending {
 
 // The parents that a commit's items name, up to the first item behind them, and the fault that ended the reading.
 #[derive(Drop)]
-struct Scanned {
-    parent_ids: ParentIds,
-    fault: Option<decode::Error>,
+pub(super) struct Scanned {
+    pub(super) parent_ids: ParentIds,
+    pub(super) fault: Option<decode::Error>,
 }
 
 // Lists of at most one parent take no memory.
-fn scan(alloc: Global, mut items: CommitRefIter<'_>) -> Result<Scanned, AllocError>
+pub(super) fn scan(alloc: Global, mut items: CommitRefIter<'_>) -> Result<Scanned, AllocError>
     ensures ok { IfOk result (λ s. (s.parent_ids.items, s.fault) ≡ scanned Parents.All (commit_items_left items.entry)) }
     ensures succeeds { length (scanned Parents.All (commit_items_left items.entry)).0 ≤ 1 → IsOk result }
 {

@@ -1,4 +1,10 @@
 //! Walks in which no commit comes before its children.
+mod counting;
+mod frontier;
+mod iter;
+mod reader;
+mod ready;
+
 use gix_parts::object::decode;
 use gix_parts::object::find::existing_iter;
 use std::alloc::AllocError;
