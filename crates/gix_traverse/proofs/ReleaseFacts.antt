@@ -10,7 +10,15 @@ use Rattle.gix_traverse.specs.declared.commit.Info.{Info}
 use Rattle.gix_traverse.specs.declared.commit.topo.Error.{Error}
 use Rattle.gix_traverse.specs.declared.commit.topo.iter.Walk.{Walk}
 use Rattle.gix_traverse.specs.ReadsCommit.{rows_of, Reads, by_row, by_text, IsReadFault}
-use Rattle.gix_traverse.specs.Releasing.{IsPushFault, parent}
+use Rattle.std.specs.FinSet as set
+use Rattle.gix_parts.specs.Id.{id_cmp}
+use Rattle.gix_traverse.specs.declared.commit.topo.counting.Counting.{Counting}
+use Rattle.gix_traverse.specs.Counting.{least}
+use Rattle.gix_traverse.specs.Exploring.{Explores, IsRested, IsExploringFault}
+use Rattle.gix_traverse.specs.History.{by_mode}
+use Rattle.gix_traverse.specs.TopoOrder.{last_places}
+use Rattle.gix_traverse.specs.TopoWalk.{Ready}
+use Rattle.gix_traverse.specs.Releasing.{IsPushFault, parent, lowered, with_taken, TakesOne, IsTakingFault, exploring, releasing, ReleasesAll, IsFaultAmong}
 
 -- what is read has the id that was asked for, and a time
 pub record IsTimedInfo (i : ObjectId) (info : Info) (time : ℤ) : Type 0 where
@@ -47,3 +55,29 @@ at_index {X} xs ys k d e l = subst (λ zs. Contains zs (get_or ys k d)) e (at ys
 pub time_told : (o : Option ℤ) (d r : ℤ) → o ≡ Some (or_zero o) → r ≡ unwrap_or o d → Some (or_zero o) ≡ Some r
 time_told None d r e u = cc
 time_told (Some t) d r e u = ap Some (sym u)
+
+-- a commit is taken, put together from what the parts did
+module _ {F : Type 0} (objects : F → Objects) (faulty : F → ObjectId → Type 0) (old : Walk F) (r : Ready) (low : Counting F) (named ids : List ObjectId) (by : named ≡ by_mode old.counting.parents r.parents) (lows : low ≡ record old.counting { depth = least (rows_of old.counting.reader.graph) old.counting.depth named }) (at : ids ≡ last_places named) where
+  low_is : low ≡ lowered objects faulty old r
+  low_is = lows ∙ ap (λ those. record old.counting { depth = least (rows_of old.counting.reader.graph) old.counting.depth those }) by
+
+  ids_are : ids ≡ last_places (by_mode old.counting.parents r.parents)
+  ids_are = at ∙ ap last_places by
+
+  pub explores_low : (explored : Counting F) → Explores objects faulty low explored → Explores objects faulty (lowered objects faulty old r) explored
+  explores_low explored e = subst (λ c. Explores objects faulty c explored) low_is e
+
+  pub fault_low : (e : Error) → IsExploringFault objects faulty low e → IsTakingFault objects faulty old r e
+  fault_low e f = exploring (subst (λ c. IsExploringFault objects faulty c e) low_is f)
+
+  module _ (explored : Counting F) (taken : set.FinSet id_cmp) (is : taken ≡ set.insert old.taken r.id) (e : Explores objects faulty low explored) (rests : IsRested explored.reader.standing explored.depth explored.frontier.queue) where
+    pub takes_one : (added : List Ready) (new : Walk F) → ReleasesAll objects faulty (record old { counting = explored; taken = taken }) ids added new → TakesOne objects faulty old r added new
+    takes_one added new all = record {
+      explored = explored;
+      explores = explores_low explored e;
+      rested = rests;
+      releases = subst (λ those. ReleasesAll objects faulty (with_taken objects faulty old explored r) those added new) ids_are (subst (λ t. ReleasesAll objects faulty (record old { counting = explored; taken = t }) ids added new) is all);
+    }
+
+    pub fault_among : (fault : Error) → IsFaultAmong objects faulty (record old { counting = explored; taken = taken }) ids fault → IsTakingFault objects faulty old r fault
+    fault_among fault f = releasing (explores_low explored e) rests (subst (λ those. IsFaultAmong objects faulty (with_taken objects faulty old explored r) those fault) ids_are (subst (λ t. IsFaultAmong objects faulty (record old { counting = explored; taken = t }) ids fault) is f))

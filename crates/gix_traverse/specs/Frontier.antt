@@ -1,5 +1,5 @@
 -- Two searches over one queue.
-use Rattle.std.specs.Prelude.{◌≡◌, ℕ, ◌+◌, List, [], ◌∷◌, Bool, true, false, not, ◌&&◌, cond, Option, Some, None, Contains, IsPermutation}
+use Rattle.std.specs.Prelude.{◌≡◌, ℕ, ◌+◌, ◌==◌, List, [], ◌∷◌, Bool, true, false, not, ◌&&◌, cond, Option, Some, None, Contains, IsPermutation}
 use Rattle.std.specs.FinMap as map
 use Rattle.gix_parts.specs.declared.hash.ObjectId.{ObjectId}
 use Rattle.gix_parts.specs.Id.{id_cmp, is_same}
@@ -99,3 +99,7 @@ pub record IsSearch (next : ObjectId → List ObjectId) (starts : List ObjectId)
   pub within : (i : ObjectId) → is_seen (progress i) ≡ true → Reaches next starts i
   pub queued : (i : ObjectId) → waits i ≡ cond (is_queued (progress i)) 1 0
   pub closed : (c i : ObjectId) → is_done (progress c) ≡ true → Contains (next c) i → is_seen (progress i) ≡ true
+
+-- a commit of which this is known becomes ready when so many of its children are left
+abbrev pub is_due : ℕ → Known → Bool
+is_due left known = (left == 0 && not known.made) && not (is_seen known.ends)

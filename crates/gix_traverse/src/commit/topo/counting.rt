@@ -5,6 +5,7 @@ ghost use Rattle.gix_traverse.specs.declared.commit.topo.frontier.Side.{Side};
 ghost use Rattle.gix_traverse.specs.Agreeing.{IsAgreeing};
 ghost use Rattle.gix_traverse.specs.Searched.{IsCounted, IsBegun, IsExplored};
 ghost use Rattle.gix_traverse.specs.Frontier.{is_done};
+ghost use Rattle.gix_traverse.specs.Counting.{least};
 ghost use Rattle.gix_traverse.specs.History.{by_mode};
 ghost use Rattle.gix_traverse.specs.TopoOrder.{last_places};
 ghost use Rattle.gix_traverse.specs.ReadsCommit.{rows_of, IsReadFault};
@@ -149,6 +150,16 @@ impl<F: Find + Drop> Counting<F> {
         match self.frontier.queue.peek() {
             Some((generation, _)) => !self.reader.standing || self.depth <= *generation,
             None => false,
+        }
+    }
+
+    /// Lowers the depth to the least generation of some ids, where that is lower.
+    pub(super) fn lower(&mut self, mut ids: &[ObjectId])
+        ensures { self.new ≡ record self.old { depth = least (rows_of self.old.reader.graph) self.old.depth ids.entry.now } }
+    {
+        while let Some((id, rest)) = ids.split_first() {
+            self.depth = self.depth.min(self.reader.generation(id));
+            ids = rest;
         }
     }
 
