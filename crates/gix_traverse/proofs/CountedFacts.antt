@@ -59,6 +59,15 @@ module _ {F : Type 0} (objects : F → Objects) (faulty : F → ObjectId → Typ
   explores_still itself t j h = h
   explores_still (further {mid = mid} {new = new} e p s) t j h = steps_still mid new s t j (explores_still e t j h)
 
+  -- what is done stays so
+  pub explores_done : {old new : Counting F} → Explores objects faulty old new → (t : Side) (j : ObjectId) → is_done (reached old.frontier.known t j) ≡ true → is_done (reached new.frontier.known t j) ≡ true
+  explores_done itself t j h = h
+  explores_done (further {mid = mid} {new = new} e p s) t j h = ap is_done (ap (λ those. reached those t j) s.finishes.known ∙ moved s.followed.known s.entry.1.id s.entry.1.side t Done j) ∙ go (explores_done e t j h) (is_same j s.entry.1.id && is_side t s.entry.1.side)
+    where
+      go : is_done (reached mid.frontier.known t j) ≡ true → (b : Bool) → is_done (cond b Done (reached s.followed.known t j)) ≡ true
+      go k true = refl
+      go k false = (follows_named s.follows).done t j ∙ k
+
   -- counted over the store and the rows of a state
   abbrev pub Counted : Counting F → List ObjectId → List ObjectId → (ObjectId → Bool) → Frontier → Type 0
   Counted c tips ends taken f = IsCounted (objects c.reader.find) (rows_of c.reader.graph) c.parents tips ends taken f

@@ -38,6 +38,9 @@ pub mod RestFacts
 pub mod ExactFacts
 pub mod ReadySetFacts
 pub mod ReleaseFacts
+pub mod ReleasedFacts
+pub mod BecameFacts
+pub mod AddsFacts
 pub mod LevelLemmas
 pub mod DepthLemmas
 pub mod RecorderLemmas

@@ -6,7 +6,7 @@ use Rattle.std.specs.FinMap as map
 use Rattle.gix_parts.specs.declared.hash.ObjectId.{ObjectId}
 use Rattle.gix_parts.specs.Id.{id_cmp, is_same, is_among}
 use Rattle.gix_parts.specs.Rows.{GraphRow}
-use Rattle.gix_parts.proofs.IdFacts.{same_is, same_itself, same_back, among_from, among_is, Contains-cons_cases, no_member}
+use Rattle.gix_parts.proofs.IdFacts.{same_is, same_itself, same_back, among_from, among_is, Contains-here, Contains-there, Contains-cons_cases, no_member}
 use Rattle.gix_traverse.specs.declared.commit.topo.frontier.Side.{Side}
 use Rattle.gix_traverse.specs.declared.commit.topo.frontier.Side.TheVariants.{Tips, Ends}
 use Rattle.gix_traverse.specs.declared.commit.topo.frontier.Progress.{Progress}
@@ -241,3 +241,40 @@ module _ (walked : ObjectId → List ObjectId) where
           let z : ◌≡◌ {A = ℕ} (cond (is_same j c) 1 0) 0 = ap (λ b. cond b 1 0) s in
           let r : times j (without c h.open_to) ≡ times j h.open_to = omega arith in
           r ∙ h.each j ∙ ap (λ b. cond (done j && not b) 1 0) (sym (a j ∙ ap (λ b. b || taken j) s))
+
+  pub record IsOneNaming (p : ObjectId) (ds : List ObjectId) : Type 0 where
+    pub id : ObjectId
+    pub among : Contains ds id
+    pub names : is_among p (walked id) ≡ true
+
+  naming_from : (p : ObjectId) (ds : List ObjectId) → 1 ≤ naming walked p ds → IsOneNaming p ds
+  naming_from p [] h = absurd (omega arith)
+  naming_from p (d ∷ ds) h = go (naming_from p ds) (is_among p (walked d)) refl h
+    where
+      go : (1 ≤ naming walked p ds → IsOneNaming p ds) → (b : Bool) → is_among p (walked d) ≡ b → 1 ≤ cond b 1 0 + naming walked p ds → IsOneNaming p (d ∷ ds)
+      go r true e l = record { id = d; among = Contains-here d ds; names = e }
+      go r false e l = let k : IsOneNaming p ds = r (omega arith) in record { id = k.id; among = Contains-there k.id d ds k.among; names = k.names }
+
+  -- one that names an id, is done and isn't taken
+  pub record IsOpenChild (done taken : ObjectId → Bool) (p : ObjectId) : Type 0 where
+    pub id : ObjectId
+    pub done_now : done id ≡ true
+    pub untaken : taken id ≡ false
+    pub names : Contains (walked id) p
+
+  pub tally_child : (done taken : ObjectId → Bool) (children : ObjectId → ℕ) → IsTally walked done taken children → (p : ObjectId) → 1 ≤ children p → IsOpenChild done taken p
+  tally_child done taken children h p l =
+      let k : IsOneNaming p h.open_to = naming_from p h.open_to (subst (λ n. 1 ≤ n) (h.counts p) l) in
+      let t : 1 ≤ times k.id h.open_to = among_times k.id h.open_to (among_from k.id h.open_to k.among) in
+      go k (done k.id) (taken k.id) refl refl (subst (λ n. 1 ≤ n) (h.each k.id) t)
+    where
+      go : (k : IsOneNaming p h.open_to) (a b : Bool) → done k.id ≡ a → taken k.id ≡ b → 1 ≤ cond (done k.id && not (taken k.id)) 1 0 → IsOpenChild done taken p
+      go k true false x y l = record { id = k.id; done_now = x; untaken = y; names = among_is p (walked k.id) k.names }
+      go k true true x y l = absurd (none_of (ap (λ c. done k.id && not c) y ∙ ap (λ c. c && false) x) l)
+        where
+          none_of : (done k.id && not (taken k.id)) ≡ false → 1 ≤ cond (done k.id && not (taken k.id)) 1 0 → ⊥
+          none_of e m = let z : ◌≡◌ {A = ℕ} (cond (done k.id && not (taken k.id)) 1 0) 0 = ap (λ c. cond c 1 0) e in omega arith
+      go k false b x y l = absurd (none_of (ap (λ c. c && not (taken k.id)) x) l)
+        where
+          none_of : (done k.id && not (taken k.id)) ≡ false → 1 ≤ cond (done k.id && not (taken k.id)) 1 0 → ⊥
+          none_of e m = let z : ◌≡◌ {A = ℕ} (cond (done k.id && not (taken k.id)) 1 0) 0 = ap (λ c. cond c 1 0) e in omega arith

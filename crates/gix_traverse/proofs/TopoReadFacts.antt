@@ -10,7 +10,9 @@ use Rattle.gix_parts.specs.Id.{kind_of, is_among, id_cmp}
 use Rattle.gix_parts.specs.Object.{Object, Objects}
 use Rattle.gix_parts.specs.CommitItems.{commit_items}
 use Rattle.gix_parts.specs.Rows.{GraphRow, row_of}
-use Rattle.gix_parts.proofs.IdFacts.{among-append, among_from}
+use Rattle.gix_parts.specs.CommitText.{Commit}
+use Rattle.gix_traverse.specs.History.{parents_in}
+use Rattle.gix_parts.proofs.IdFacts.{among-append, among_from, no_member}
 use Rattle.gix_traverse.specs.declared.commit.Info.{Info}
 use Rattle.gix_traverse.specs.declared.commit.Parents.TheVariants as mode
 use Rattle.gix_traverse.specs.Agreeing.{IsAgreeing, RowAgrees, PlaceAgrees}
@@ -34,7 +36,7 @@ module _ (objects : Objects) (faulty : ObjectId → Type 0) (rows : List GraphRo
       (among_flat (λ entry. text_parents entry.0 entry.1) (map_of.entries objects) _ j entry (among_from j _ (subst (λ ids. Contains ids j) t.2.0.same_parents m)))
 
   -- where the rows agree they are those that the text names
-  text_whole : (i : ObjectId) → ReadsWhole objects faulty i → parents_of objects i ≡ text_next objects i
+  pub text_whole : (i : ObjectId) → ReadsWhole objects faulty i → parents_of objects i ≡ text_next objects i
   text_whole i w = go (map_of.get objects i) refl
     where
       go : (o : Option Object) → map_of.get objects i ≡ o → parents_of objects i ≡ text_next objects i
@@ -84,3 +86,11 @@ module _ (objects : Objects) (faulty : ObjectId → Type 0) (rows : List GraphRo
                 let k : known_generation rows i ≡ l.0.generation = ap generation_in l.1 in
                 let b : l.0.generation < row.generation = l.2 in
                 omega arith
+
+-- the parents of a commit are among those that its text names
+pub text_has : (objects : Objects) (i j : ObjectId) → Contains (parents_of objects i) j → Contains (text_next objects i) j
+text_has objects i j m = go (commit_at objects i) refl m
+  where
+    go : (o : Option Commit) → commit_at objects i ≡ o → Contains (parents_in o) j → Contains (text_next objects i) j
+    go None e n = absurd (no_member j n)
+    go (Some commit) e n = subst (λ ids. Contains ids j) (text_whole objects (λ k. ⊥) [] i (record { commit = commit; stored = e; sound = λ f. f })) m

@@ -37,3 +37,4 @@ pub mod Exploring
 pub mod Searched
 pub mod ReadySet
 pub mod Releasing
+pub mod TopoSteady

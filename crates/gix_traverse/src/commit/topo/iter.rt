@@ -31,7 +31,8 @@ fn is_due(left: usize, known: Known) -> bool
 }
 
 impl<F: Find + Drop> Walk<F> {
-    ghost use Rattle.gix_traverse.specs.Releasing.{plan_of, Pushes, IsPushFault, Releases, IsReleaseFault, ReleasesAll, IsFaultAmong, TakesOne, IsTakingFault};
+    ghost use Rattle.gix_traverse.specs.Releasing.{plan_of, Pushes, IsPushFault, Releases, IsReleaseFault, ReleasesAll, IsFaultAmong, IsTakingFault};
+    ghost use Rattle.gix_traverse.specs.TopoSteady.{AddsReady};
     ghost use Rattle.gix_traverse.specs.TopoWalk.{Ready};
 
     /// A commit whose children were all taken is read, and becomes ready. Its parents are looked up.
@@ -111,7 +112,7 @@ impl<F: Find + Drop> Walk<F> {
     /// A commit whose turn it is: counting goes on to the depth of its parents, and they have a child less.
     fn take(&mut self, found: &Found) -> Result<(), Error>
         requires { AreTimed self.old.ready }
-        ensures takes { OnOk result ((added : List Ready) × TakesOne F.objects F.faulty self.old (as_ready found.now) added self.new) }
+        ensures takes { OnOk result ((added : List Ready) × AddsReady F.objects F.faulty self.old (as_ready found.now) added self.new) }
         ensures fault { IfErr result (IsTakingFault F.objects F.faulty self.old (as_ready found.now)) }
         ensures same { plan_of self.new ≡ plan_of self.old }
         ensures timed { AreTimed self.new.ready }
