@@ -13,6 +13,12 @@ pub mod SimpleErrors
 pub mod PendingQueue
 pub mod SimpleSteps
 pub mod SimpleBuilding
+pub mod WalkSet
+pub mod DateOrder
+pub mod TopoOrder
+pub mod TopoErrors
+pub mod TopoWalk
+pub mod TopoLaws
 pub mod Delegate
 pub mod Visits
 pub mod Paths
@@ -30,3 +36,11 @@ pub mod Recorder
 pub mod Tracked
 pub mod TreeLaws
 pub mod TreeExamples
+pub mod Counting
+pub mod Frontier
+pub mod ReadsCommit
+pub mod Exploring
+pub mod Searched
+pub mod ReadySet
+pub mod Releasing
+pub mod TopoSteady

@@ -5,8 +5,9 @@ ghost use Rattle.gix_parts.specs.declared.hash.ObjectId.{ObjectId};
 ghost use Rattle.gix_traverse.specs.Either.{FindsEither};
 ghost use Rattle.gix_traverse.specs.Painter.{rows_in};
 
-mod row;
+mod read;
 pub mod simple;
+pub mod topo;
 
 use gix_parts::graph::{Commit, Graph};
 use gix_parts::hash::ObjectId;

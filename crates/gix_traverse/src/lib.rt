@@ -3,5 +3,6 @@
 
 pub mod commit;
 pub mod laws;
+pub mod laws_topo;
 pub mod laws_tree;
 pub mod tree;

@@ -11,8 +11,7 @@ ghost use Rattle.gix_traverse.specs.Painter.{rows_in, FailsAmong, Reads, ReadsPa
 
 use super::Hidden;
 use super::pending::Pending;
-use super::step::scan;
-use crate::commit::row::row_parents;
+use crate::commit::read::{row_parents, scan};
 use crate::commit::{ParentIds, Parents};
 use bitflags::{Flag, Flags, bitflag_items};
 use gix_parts::graph::Graph;

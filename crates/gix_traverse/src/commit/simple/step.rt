@@ -13,11 +13,11 @@ ghost use Rattle.gix_traverse.specs.PendingQueue.{TakesOut};
 
 use super::pending::Pending;
 use super::{CommitTimeOrder, Error, Simple, Sorting};
-use crate::commit::row::row_parents;
+use crate::commit::read::{Scanned, row_parents, scan};
 use crate::commit::{Info, ParentIds, Parents, Predicate};
 use gix_parts::hash::ObjectId;
 use gix_parts::object;
-use gix_parts::object::commit::{CommitRefIter, Token};
+use gix_parts::object::commit::CommitRefIter;
 use gix_parts::object::decode;
 use gix_parts::object::find::{Find, existing_iter};
 use std::alloc::{AllocError, Global};
@@ -41,13 +41,6 @@ impl From<Stop> for Error {
             Stop::Memory => Error::Memory,
         }
     }
-}
-
-// The parents that a commit's items name, up to the first item behind them, and the fault that ended the reading.
-#[derive(Drop)]
-pub(super) struct Scanned {
-    pub(super) parent_ids: ParentIds,
-    pub(super) fault: Option<decode::Error>,
 }
 
 // What a sound row says of its commit.
@@ -94,40 +87,6 @@ fn walked(parents: Parents, mut parent_ids: ParentIds) -> ParentIds
         parent_ids.truncate(1);
     }
     parent_ids
-}
-
-// Lists of at most one parent take no memory.
-pub(super) fn scan(
-    alloc: Global,
-    parents: Parents,
-    mut items: CommitRefIter<'_>,
-) -> Result<Scanned, AllocError>
-    ensures ok { IfOk result (λ s. (s.parent_ids.items, s.fault) ≡ scanned parents (commit_items_left items.entry)) }
-    ensures succeeds { length (scanned parents (commit_items_left items.entry)).0 ≤ 1 → IsOk result }
-{
-    let mut parent_ids = ParentIds::new(alloc);
-    while let Some(item) = items.next() {
-        match item {
-            Ok(Token::Tree { .. }) => {}
-            Ok(Token::Parent { id }) => {
-                parent_ids.push(id)?;
-                if parents == Parents::First {
-                    break;
-                }
-            }
-            Ok(Token::Author { .. } | Token::Committer { .. } | Token::Rest { .. }) => break,
-            Err(fault) => {
-                return Ok(Scanned {
-                    parent_ids,
-                    fault: Some(fault),
-                });
-            }
-        }
-    }
-    Ok(Scanned {
-        parent_ids,
-        fault: None,
-    })
 }
 
 impl<F: Find + Drop, P: Predicate + Drop> Simple<F, P> {

@@ -2,7 +2,7 @@ use Rattle.std.proofs.Common.{◌≡◌, ◌<◌, All, IfOk, length}
 use Rattle.gix_parts.specs.GraphCommit.{row_of_commit}
 use Rattle.gix_traverse.specs.SimpleWalk.{ids_at}
 use Rattle.gix_traverse.proofs.RowFacts.{answered_ids, behind}
-use Rattle.gix_traverse.proofs.commit.row.row_parents.Given as goal
+use Rattle.gix_traverse.proofs.commit.read.row_parents.Given as goal
 
 -- the ids that were read and those that are left are all
 abbrev pub invariant-loop-place : goal.invariant-loop-place

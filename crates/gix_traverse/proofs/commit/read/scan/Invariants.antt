@@ -3,7 +3,7 @@ use Rattle.gix_parts.specs.declared.hash.ObjectId.{ObjectId}
 use Rattle.gix_parts.specs.declared.object.decode.Error.{Error}
 use Rattle.gix_parts.specs.CommitRefIter.{commit_items_left}
 use Rattle.gix_traverse.specs.SimpleWalk.{scanned}
-use Rattle.gix_traverse.proofs.commit.simple.step.scan.Given as goal
+use Rattle.gix_traverse.proofs.commit.read.scan.Given as goal
 
 -- what items show behind parents that were read before
 abbrev pub behind : List ObjectId → List ObjectId × Option Error → List ObjectId × Option Error

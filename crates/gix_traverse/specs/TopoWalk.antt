@@ -1,0 +1,226 @@
+-- What a topological walk holds, as its callers see it, and what one call of it may do.
+use Rattle.std.specs.Prelude.{◌≡◌, ◌⊎◌, ◌≤ℤ◌, ℕ, ℤ, List, [], ◌∷◌, ◌++◌, map, drop, Bool, true, false, ◌||◌, Option, Some, None, Result, Ok, Err, Contains, IsPermutation}
+use Rattle.std.specs.List.{flat_map}
+use Rattle.std.specs.FinMap as map_of
+use Rattle.std.specs.FinSet as set
+use Rattle.gix_parts.specs.declared.hash.ObjectId.{ObjectId}
+use Rattle.gix_parts.specs.declared.object.Kind.TheVariants as object
+use Rattle.gix_parts.specs.declared.object.decode.Error.{Error as DecodeError}
+use Rattle.gix_parts.specs.declared.object.find.existing_iter.Error.TheVariants as existing
+use Rattle.gix_parts.specs.Id.{id_cmp, kind_of, is_among}
+use Rattle.gix_parts.specs.Object.{Object, Objects}
+use Rattle.gix_parts.specs.CommitItems.{commit_items}
+use Rattle.gix_parts.specs.Find.{IsExistingFault}
+use Rattle.gix_parts.specs.Rows.{GraphRow, row_of}
+use Rattle.gix_traverse.specs.declared.commit.Parents.{Parents}
+use Rattle.gix_traverse.specs.declared.commit.Parents.TheVariants as mode
+use Rattle.gix_traverse.specs.declared.commit.Info.{Info}
+use Rattle.gix_traverse.specs.declared.commit.topo.Sorting.{Sorting}
+use Rattle.gix_traverse.specs.declared.commit.topo.Sorting.TheVariants as order
+use Rattle.gix_traverse.specs.declared.commit.topo.Error.{Error}
+use Rattle.gix_traverse.specs.declared.commit.topo.Error.TheVariants as error
+use Rattle.gix_traverse.specs.Agreeing.{IsAgreeing, IsCorrupt}
+use Rattle.gix_traverse.specs.Reach.{Reaches}
+use Rattle.gix_traverse.specs.History.{ReadsWhole, walked_parents, parents_of, time_of}
+use Rattle.gix_traverse.specs.WalkSet.{IsInWalk, IsReady, IsChildless}
+use Rattle.gix_traverse.specs.TopoOrder.{Keeps, first_places, last_places, by_time}
+use Rattle.gix_traverse.specs.SimpleWalk.{IsInfo, scanned}
+use Rattle.gix_traverse.specs.SimpleLaws.{AreDistinct, IsRowGeneration}
+
+-- what a walk goes over; none of it changes
+pub record TopoPlan (F : Type 0) : Type 0 where
+  pub store : F
+  -- those handed in
+  pub rows : List GraphRow
+  pub parents : Parents
+  pub sorting : Sorting
+  pub tips : List ObjectId
+  pub ends : List ObjectId
+
+-- a ready commit, as it is to be given: with all its parents
+pub record Ready : Type 0 where
+  pub id : ObjectId
+  pub parents : List ObjectId
+  pub time : ℤ
+  pub generation : Option ℕ
+
+-- what a built walk holds
+pub record TopoWalk (F P : Type 0) : Type 0 where
+  pub plan : TopoPlan F
+  pub predicate : P
+  -- whether the rows stand: they do until one proves corrupt
+  pub standing : Bool
+  -- in the order in which they became it, under `DateOrder` in any; none after a fault
+  pub ready : List Ready
+  pub taken : set.FinSet id_cmp
+
+-- what a builder holds
+pub record TopoBuilder (F P : Type 0) : Type 0 where
+  pub plan : TopoPlan F
+  pub predicate : P
+
+abbrev pub ready_ids : List Ready → List ObjectId
+ready_ids ready = map (λ r. r.id) ready
+
+-- the generation that a row says, if there is one
+abbrev pub row_generation : Option GraphRow → Option ℕ
+row_generation None = None
+row_generation (Some row) = Some row.generation
+
+abbrev pub IsTaken : set.FinSet id_cmp → ObjectId → Type 0
+IsTaken taken i = set.contains taken i ≡ true
+
+-- taken, or ready
+abbrev pub is_made : {F P : Type 0} → TopoWalk F P → ObjectId → Bool
+is_made walk i = set.contains walk.taken i || is_among i (ready_ids walk.ready)
+
+-- the ready ones are these
+abbrev pub HoldsReady : Sorting → List Ready → List Ready → Type 0
+HoldsReady order.TopoOrder these ready = ready ≡ these
+HoldsReady order.DateOrder these ready = IsPermutation these ready
+
+-- the ready commit whose turn it is, and the others: the last one, or one of greatest time
+abbrev pub Chooses : Sorting → List Ready → Ready → List Ready → Type 0
+Chooses order.TopoOrder ready c others = ready ≡ others ++ c ∷ []
+Chooses order.DateOrder ready c others = IsPermutation ready (c ∷ others) × ((other : Ready) → Contains others other → other.time ≤ℤ c.time)
+
+-- the parents that a text names, also where it breaks off behind them
+abbrev pub text_parents : ObjectId → Object → List ObjectId
+text_parents i object = (scanned mode.All (commit_items (kind_of i) object.bytes)).0
+
+-- the ids that rows and stored texts name
+abbrev pub named_ids : Objects → List GraphRow → List ObjectId
+named_ids objects rows = map (λ row. row.id) rows ++ flat_map (λ entry. text_parents entry.0 entry.1) (map_of.entries objects)
+
+-- the commit is stored, and its items have no fault
+pub record IsCommitRead (objects : Objects) (i : ObjectId) : Type 0 where
+  pub bytes : List ℕ
+  pub stored : map_of.get objects i ≡ Some (record { kind = object.Commit; bytes = bytes })
+  pub faultless : (e : DecodeError) → Contains (commit_items (kind_of i) bytes) (Err e) → ⊥
+
+-- the commit is stored, and its items end in this fault
+abbrev pub IsTextFault : Objects → ObjectId → DecodeError → Type 0
+IsTextFault objects i e =
+    (bytes : List ℕ) × (map_of.get objects i ≡ Some (record { kind = object.Commit; bytes = bytes })) × Contains (commit_items (kind_of i) bytes) (Err e)
+
+module _ {F : Type 0} (objects : F → Objects) (plan : TopoPlan F) where
+  -- the parents that are walked
+  abbrev pub walked_of : ObjectId → List ObjectId
+  walked_of = walked_parents (objects plan.store) plan.parents
+
+  -- what the walk gives
+  abbrev pub IsMember : ObjectId → Type 0
+  IsMember = IsInWalk walked_of (parents_of (objects plan.store)) plan.tips plan.ends
+
+  -- a ready commit is as the store and the rows say
+  pub record IsStored (standing : Bool) (r : Ready) : Type 0 where
+    pub parents : r.parents ≡ parents_of (objects plan.store) r.id
+    pub time : r.time ≡ time_of (objects plan.store) r.id
+    -- none, or the row's; and the row's as long as the rows stand
+    pub by_row : IsRowGeneration plan.rows r.id r.generation
+    pub told : standing ≡ true → r.generation ≡ row_generation (row_of plan.rows r.id)
+
+  -- a row with a fault, of a commit that tips or ends reach: for it the rows may be dropped
+  pub record IsBrokenRow : Type 0 where
+    pub id : ObjectId
+    pub row : GraphRow
+    pub reached : Reaches walked_of plan.tips id ⊎ Reaches (parents_of (objects plan.store)) plan.ends id
+    pub by_row : row_of plan.rows id ≡ Some row
+    pub corrupt : IsCorrupt row
+
+  -- a parent that isn't the first, where only first parents are walked
+  pub record IsOtherParent (i : ObjectId) : Type 0 where
+    pub unwalked : plan.parents ≡ mode.First
+    pub child : ObjectId
+    pub text : Object
+    pub stored : map_of.get (objects plan.store) child ≡ Some text
+    pub named : Contains (drop 1 (text_parents child text)) i
+
+  -- `build` has read all that is walked: without rows, a fault found later is that of another parent
+  abbrev pub IsLate : Error → Type 0
+  IsLate error.MissingIndegreeUnexpected = Unit {0}
+  IsLate error.MissingStateUnexpected = Unit {0}
+  IsLate (error.Find existing.Store) = Unit {0}
+  IsLate (error.Find (existing.NotFound oid)) = plan.rows ≡ [] → IsOtherParent oid
+  IsLate (error.Find (existing.ObjectKind oid expected actual)) = plan.rows ≡ [] → IsOtherParent oid
+  IsLate (error.Find existing.Memory) = ⊥
+  IsLate (error.ObjectDecode e) = plan.rows ≡ [] → (i : ObjectId) × IsOtherParent i × IsTextFault (objects plan.store) i e
+  IsLate error.Memory = Unit {0}
+
+module _ {F : Type 0} (objects : F → Objects) (faulty : F → ObjectId → Type 0) (plan : TopoPlan F) where
+  -- the rows agree, and all that the walk may look up reads whole: what tips reach, their parents, and what ends reach
+  pub record IsSound : Type 0 where
+    pub agreeing : IsAgreeing (objects plan.store) (faulty plan.store) plan.rows
+    pub tips_whole : (i : ObjectId) → Reaches (walked_of objects plan) plan.tips i → ReadsWhole (objects plan.store) (faulty plan.store) i
+    pub parents_whole : (c i : ObjectId) → Reaches (walked_of objects plan) plan.tips c → Contains (parents_of (objects plan.store) c) i → ReadsWhole (objects plan.store) (faulty plan.store) i
+    pub ends_whole : (i : ObjectId) → Reaches (parents_of (objects plan.store)) plan.ends i → ReadsWhole (objects plan.store) (faulty plan.store) i
+
+  -- when each fault comes
+  abbrev pub IsFault : Error → Type 0
+  IsFault error.MissingIndegreeUnexpected = IsAgreeing (objects plan.store) (faulty plan.store) plan.rows → ⊥
+  IsFault error.MissingStateUnexpected = IsAgreeing (objects plan.store) (faulty plan.store) plan.rows → ⊥
+  IsFault (error.Find e) = (i : ObjectId) × IsExistingFault (objects plan.store) (faulty plan.store) i object.Commit e × (IsSound → ⊥)
+  IsFault (error.ObjectDecode e) = (i : ObjectId) × IsTextFault (objects plan.store) i e × (IsSound → ⊥)
+  IsFault error.Memory = Unit {0}
+
+module _ {F P : Type 0} (objects : F → Objects) (faulty : F → ObjectId → Type 0) (answers : P → ObjectId → Bool → P → Type 0) where
+  -- the ready tips of a sound walk: those without children, by rising time
+  pub record StartsWith (plan : TopoPlan F) (ready : List Ready) : Type 0 where
+    pub childless : List ObjectId
+    pub starts : List Ready
+    pub kept : Keeps (IsChildless (walked_of objects plan) (IsMember objects plan)) (first_places plan.tips) childless
+    pub sorted : ready_ids starts ≡ by_time (time_of (objects plan.store)) childless
+    pub holds : HoldsReady plan.sorting starts ready
+
+  -- a walk that was built, before its first call
+  pub record IsStarted (walk : TopoWalk F P) : Type 0 where
+    pub untaken : walk.taken ≡ set.empty
+    pub distinct : AreDistinct (ready_ids walk.ready)
+    pub tips : (i : ObjectId) → Contains (ready_ids walk.ready) i → Contains walk.plan.tips i
+    pub starts : IsSound objects faulty walk.plan → StartsWith walk.plan walk.ready
+    pub stored : IsSound objects faulty walk.plan → (r : Ready) → Contains walk.ready r → IsStored objects walk.plan walk.standing r
+    pub dropped : IsSound objects faulty walk.plan → walk.standing ≡ false → IsBrokenRow objects walk.plan
+    -- without rows, all that is walked, and all that ends reach, was read
+    pub read : walk.plan.rows ≡ [] → (i : ObjectId) → Reaches (walked_of objects walk.plan) walk.plan.tips i ⊎ Reaches (parents_of (objects walk.plan.store)) walk.plan.ends i → IsCommitRead (objects walk.plan.store) i
+
+  -- what `build` answers
+  abbrev pub Built : TopoBuilder F P → Result (TopoWalk F P) Error → Type 0
+  Built builder (Ok walk) = (walk.plan ≡ builder.plan) × (walk.predicate ≡ builder.predicate) × IsStarted walk
+  Built builder (Err e) = IsFault objects faulty builder.plan e
+
+  -- the commits that a taken one makes ready
+  pub record Adds (old : TopoWalk F P) (c : Ready) (standing : Bool) (added : List Ready) : Type 0 where
+    -- each is new
+    pub distinct : AreDistinct (ready_ids added)
+    pub unmade : (i : ObjectId) → Contains (ready_ids added) i → is_made old i ≡ false
+    pub named : (i : ObjectId) → Contains (ready_ids added) i → is_among i (named_ids (objects old.plan.store) old.plan.rows) ≡ true
+    -- of a sound walk: the walked parents that became ready, each at its last place
+    pub became : IsSound objects faulty old.plan → Keeps (IsReady (walked_of objects old.plan) (IsMember objects old.plan) (IsTaken (set.insert old.taken c.id))) (last_places (walked_of objects old.plan c.id)) (ready_ids added)
+    pub stored : IsSound objects faulty old.plan → (r : Ready) → Contains added r → IsStored objects old.plan standing r
+    -- dropped rows don't come back
+    pub stands : standing ≡ true → old.standing ≡ true
+    pub dropped : IsSound objects faulty old.plan → old.standing ≡ true → standing ≡ false → IsBrokenRow objects old.plan
+
+  -- a ready commit is taken
+  pub record Takes (old : TopoWalk F P) (c : Ready) (standing : Bool) (ready : List Ready) : Type 0 where
+    pub others : List Ready
+    pub added : List Ready
+    pub chosen : Chooses old.plan.sorting old.ready c others
+    pub adds : Adds old c standing added
+    pub holds : HoldsReady old.plan.sorting (others ++ added) ready
+
+  -- the walk after that, and after the predicate was asked about it
+  abbrev pub after : TopoWalk F P → Ready → Bool → List Ready → P → TopoWalk F P
+  after old c standing ready predicate = record old { predicate = predicate; standing = standing; ready = ready; taken = set.insert old.taken c.id }
+
+  -- one call of `next`: refused commits are taken too, and the call goes on
+  pub data Next : TopoWalk F P → Option (Result Info Error) → TopoWalk F P → Type 0 where
+    ended : {old : TopoWalk F P} → old.ready ≡ [] → Next old None old
+    given : {old : TopoWalk F P} {c : Ready} {standing : Bool} {ready : List Ready} {predicate : P} {info : Info} → Takes old c standing ready → answers old.predicate c.id true predicate → IsInfo info c.id c.parents c.generation (Some c.time) → Next old (Some (Ok info)) (after old c standing ready predicate)
+    refused : {old new : TopoWalk F P} {c : Ready} {standing : Bool} {ready : List Ready} {predicate : P} {answer : Option (Result Info Error)} → Takes old c standing ready → answers old.predicate c.id false predicate → Next (after old c standing ready predicate) answer new → Next old answer new
+    failed : {old : TopoWalk F P} (c : Ready) (others : List Ready) {standing : Bool} {taken : set.FinSet id_cmp} {e : Error} → Chooses old.plan.sorting old.ready c others → IsFault objects faulty old.plan e → IsLate objects old.plan e → Next old (Some (Err e)) (record old { standing = standing; ready = []; taken = taken })
+
+  -- these answers, and no more, may be drawn from a walk
+  abbrev pub May : TopoWalk F P → List (Result Info Error) → Type 0
+  May walk [] = (new : TopoWalk F P) × Next walk None new
+  May walk (answer ∷ rest) = (new : TopoWalk F P) × Next walk (Some answer) new × May new rest

@@ -1,0 +1,184 @@
+//! Counts, of what tips reach, the children of each commit, as far down as is needed.
+ghost use Rattle.std.specs.Prelude.{◌≡◌, IfOk, IfErr, OnOk, OnErr, ℕ, ◌∷◌, ◌<◌, List, Bool, false, true, cond, ◌+◌, ◌||◌};
+ghost use Rattle.gix_parts.specs.declared.hash.ObjectId.{ObjectId};
+ghost use Rattle.gix_traverse.specs.declared.commit.topo.frontier.Side.{Side};
+ghost use Rattle.gix_traverse.specs.Agreeing.{IsAgreeing};
+ghost use Rattle.gix_traverse.specs.Searched.{IsCounted, IsBegun, IsExplored};
+ghost use Rattle.gix_traverse.specs.Frontier.{is_done};
+ghost use Rattle.gix_traverse.specs.Counting.{least};
+ghost use Rattle.gix_traverse.specs.History.{by_mode};
+ghost use Rattle.gix_traverse.specs.TopoOrder.{last_places};
+ghost use Rattle.gix_traverse.specs.ReadsCommit.{rows_of, IsReadFault};
+ghost use Rattle.gix_traverse.specs.Exploring.{is_pending, Follows, ReadsParents, Steps, IsStepFault, IsSamePlan, Explores, IsExploringFault, IsRested};
+
+use super::Error;
+use super::frontier::{Frontier, Known, Progress, Side, Waiting};
+use super::reader::Reader;
+use crate::commit::Parents;
+use gix_parts::hash::ObjectId;
+use gix_parts::hashtable::IdSet;
+use gix_parts::object::find::Find;
+use std::alloc::{AllocError, Global};
+use std::collections::VecDeque;
+
+/// The searches of both sides, and how far down they have come.
+#[derive(Drop)]
+pub(super) struct Counting<F> {
+    pub(super) reader: Reader<F>,
+    pub(super) parents: Parents,
+    pub(super) frontier: Frontier,
+    /// As long as the rows stand, no id of a lesser generation is read.
+    pub(super) depth: u32,
+    /// The number of different ids whose parents were read.
+    pub(super) expanded: usize,
+}
+
+/// Of a commit's parents, those that are walked.
+pub(super) fn walked(parents: Parents, ids: &[ObjectId]) -> &[ObjectId]
+    ensures { result.now ≡ by_mode parents ids.now }
+{
+    match (parents, ids) {
+        (Parents::First, [_, _, ..]) => &ids[..1],
+        _ => ids,
+    }
+}
+
+/// Each id of a list at its last place.
+pub(super) fn places(alloc: Global, mut ids: &[ObjectId]) -> Result<VecDeque<ObjectId>, AllocError>
+where
+    ensures { IfOk result (λ places. places.items ≡ last_places ids.entry.now) }
+{
+    let mut places = VecDeque::new(alloc);
+    let mut later = IdSet::new(alloc);
+    while let Some((id, rest)) = ids.split_last() {
+        ids = rest;
+        if later.contains(id) {
+            continue;
+        }
+        places.push_front(*id)?;
+        if !rest.is_empty() {
+            later.insert(*id)?;
+        }
+    }
+    Ok(places)
+}
+
+/// The number of ids whose parents were read, with one of which this is known. A number that memory could not hold is want of
+/// memory.
+fn one_more(expanded: usize, known: Known) -> Result<usize, AllocError>
+    ensures { IfOk result (λ n. n ≡ expanded + cond (is_done known.tips || is_done known.ends) 0 1) }
+{
+    match (known.tips, known.ends) {
+        (Progress::Done, _) | (_, Progress::Done) => Ok(expanded),
+        _ => match expanded.checked_add(1) {
+            Some(expanded) => Ok(expanded),
+            None => Err(AllocError),
+        },
+    }
+}
+
+impl<F: Find + Drop> Counting<F> {
+    /// The parents of a commit that a side reads are named.
+    fn follow(&mut self, mut ids: VecDeque<ObjectId>, side: Side) -> Result<(), AllocError>
+        ensures reader { self.new.reader ≡ self.old.reader }
+        ensures parents { self.new.parents ≡ self.old.parents }
+        ensures depth { self.new.depth ≡ self.old.depth }
+        ensures expanded { self.new.expanded ≡ self.old.expanded }
+        ensures follows { OnOk result (Follows (rows_of self.old.reader.graph) side self.old.frontier ids.items self.new.frontier) }
+    {
+        while let Some(id) = ids.pop_front() {
+            let generation = self.reader.generation(&id);
+            self.frontier.name(generation, id, side)?;
+        }
+        Ok(())
+    }
+
+    /// The parents of a commit that a side goes to, each at its last place.
+    fn read(&mut self, id: &ObjectId, side: Side) -> Result<VecDeque<ObjectId>, Error>
+        ensures same { IsSamePlan F.objects F.faulty self.old self.new }
+        ensures frontier { self.new.frontier ≡ self.old.frontier }
+        ensures expanded { self.new.expanded ≡ self.old.expanded }
+        ensures reads { IfOk result (λ ids. ReadsParents F.objects F.faulty self.old id.now side ids.items self.new.reader.standing) }
+        ensures fault { IfErr result (IsReadFault (F.objects self.old.reader.find) (F.faulty self.old.reader.find) id.now) }
+    {
+        let info = match self.reader.read(id) {
+            Ok(info) => info,
+            Err(fault) => return Err(fault),
+        };
+        let mode = match side {
+            Side::Tips => self.parents,
+            Side::Ends => Parents::All,
+        };
+        match places(self.reader.alloc, walked(mode, info.parent_ids.as_slice())) {
+            Ok(ids) => Ok(ids),
+            Err(_) => Err(Error::Memory),
+        }
+    }
+
+    /// Reads the parents of a queued id of greatest generation.
+    fn step(&mut self) -> Result<(), Error>
+        requires { is_pending self.old.reader.standing self.old.depth self.old.frontier.queue ≡ true }
+        ensures same { IsSamePlan F.objects F.faulty self.old self.new }
+        ensures steps { OnOk result (Steps F.objects F.faulty self.old self.new) }
+        ensures fault { IfErr result (IsStepFault F.objects F.faulty self.old) }
+    {
+        let Some((_, Waiting { id, side })) = self.frontier.queue.pop() else {
+            return Ok(());
+        };
+        let ids = match self.read(&id, side) {
+            Ok(ids) => ids,
+            Err(fault) => return Err(fault),
+        };
+        let Ok(expanded) = one_more(self.expanded, self.frontier.known(&id)) else {
+            return Err(Error::Memory);
+        };
+        self.expanded = expanded;
+        let Ok(()) = self.follow(ids, side) else {
+            return Err(Error::Memory);
+        };
+        let Ok(()) = self.frontier.finish(id, side) else {
+            return Err(Error::Memory);
+        };
+        Ok(())
+    }
+
+    /// Whether exploring must go on.
+    fn is_pending(&self) -> bool
+        ensures pending { result ≡ is_pending self.now.reader.standing self.now.depth self.now.frontier.queue }
+        ensures rested { result ≡ false → IsRested self.now.reader.standing self.now.depth self.now.frontier.queue }
+    {
+        match self.frontier.queue.peek() {
+            Some((generation, _)) => !self.reader.standing || self.depth <= *generation,
+            None => false,
+        }
+    }
+
+    /// Lowers the depth to the least generation of some ids, where that is lower.
+    pub(super) fn lower(&mut self, mut ids: &[ObjectId])
+        ensures { self.new ≡ record self.old { depth = least (rows_of self.old.reader.graph) self.old.depth ids.entry.now } }
+    {
+        while let Some((id, rest)) = ids.split_first() {
+            self.depth = self.depth.min(self.reader.generation(id));
+            ids = rest;
+        }
+    }
+
+    /// Reads parents, as long as the rows don't stand or one that waits isn't below the depth.
+    pub(super) fn explore(&mut self) -> Result<(), Error>
+        ensures same { IsSamePlan F.objects F.faulty self.old self.new }
+        ensures explores { OnOk result (Explores F.objects F.faulty self.old self.new) }
+        ensures rested { OnOk result (IsRested self.new.reader.standing self.new.depth self.new.frontier.queue) }
+        ensures fault { IfErr result (IsExploringFault F.objects F.faulty self.old) }
+        // Beside rows that agree, searches and counts stay as they are to be,
+        ensures counted { (tips ends : List ObjectId) (taken : ObjectId → Bool) → IsAgreeing (F.objects self.old.reader.find) (F.faulty self.old.reader.find) (rows_of self.old.reader.graph) → IsCounted (F.objects self.old.reader.find) (rows_of self.old.reader.graph) self.old.parents tips ends taken self.old.frontier → OnOk result (IsCounted (F.objects self.old.reader.find) (rows_of self.old.reader.graph) self.old.parents tips ends taken self.new.frontier) }
+        // and all that a side reaches is done, down to the depth.
+        ensures explored { (tips ends : List ObjectId) (taken : ObjectId → Bool) (side : Side) → IsAgreeing (F.objects self.old.reader.find) (F.faulty self.old.reader.find) (rows_of self.old.reader.graph) → IsCounted (F.objects self.old.reader.find) (rows_of self.old.reader.graph) self.old.parents tips ends taken self.old.frontier → IsBegun tips ends side self.old.frontier → OnOk result (IsExplored (F.objects self.old.reader.find) (rows_of self.old.reader.graph) self.old.parents tips ends self.old.depth side self.new.frontier) }
+    {
+        while self.is_pending() {
+            if let Err(fault) = self.step() {
+                return Err(fault);
+            }
+        }
+        Ok(())
+    }
+}

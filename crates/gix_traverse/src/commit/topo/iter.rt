@@ -1,0 +1,133 @@
+//! A topological walk.
+ghost use Rattle.std.specs.Prelude.{◌≡◌, List, OnOk, IfErr};
+ghost use Rattle.gix_traverse.specs.Frontier.{is_due};
+ghost use Rattle.gix_traverse.specs.ReadySet.{as_ready, AreTimed};
+
+use super::Error;
+use super::counting::{Counting, places, walked};
+use super::frontier::{Known, Progress};
+use super::ready::{Found, ReadySet};
+use crate::commit::{Info, Predicate};
+use gix_parts::hash::ObjectId;
+use gix_parts::hashtable::IdSet;
+use gix_parts::object::find::Find;
+use std::collections::VecDeque;
+
+/// What a walk holds beside its predicate.
+#[derive(Drop)]
+pub(super) struct Walk<F> {
+    pub(super) counting: Counting<F>,
+    pub(super) tips: Vec<ObjectId>,
+    pub(super) ends: Vec<ObjectId>,
+    pub(super) ready: ReadySet,
+    pub(super) taken: IdSet,
+}
+
+/// Whether a commit of which this is known becomes ready when so many of its children are left.
+fn is_due(left: usize, known: Known) -> bool
+    ensures { result ≡ is_due left known }
+{
+    left == 0 && !known.made && matches!(known.ends, Progress::Unseen)
+}
+
+impl<F: Find + Drop> Walk<F> {
+    ghost use Rattle.gix_traverse.specs.Releasing.{plan_of, Pushes, IsPushFault, Releases, IsReleaseFault, ReleasesAll, IsFaultAmong, IsTakingFault};
+    ghost use Rattle.gix_traverse.specs.TopoSteady.{AddsReady};
+    ghost use Rattle.gix_traverse.specs.TopoWalk.{Ready};
+
+    /// A commit whose children were all taken is read, and becomes ready. Its parents are looked up.
+    fn push(&mut self, id: &ObjectId) -> Result<(), Error>
+        requires { AreTimed self.old.ready }
+        ensures pushes { OnOk result ((r : Ready) × Pushes F.objects F.faulty self.old id.now r self.new) }
+        ensures fault { IfErr result (IsPushFault F.objects F.faulty self.old id.now) }
+        ensures same { plan_of self.new ≡ plan_of self.old }
+        ensures timed { AreTimed self.new.ready }
+    {
+        let info = match self.counting.reader.read(id) {
+            Ok(info) => info,
+            Err(fault) => return Err(fault),
+        };
+        for parent in info.parent_ids.as_slice() {
+            if let Err(fault) = self.counting.reader.know(parent) {
+                return Err(fault);
+            }
+        }
+        let time = info.commit_time.unwrap_or(0);
+        let Info {
+            id,
+            parent_ids,
+            generation,
+            ..
+        } = info;
+        let found = Found {
+            id,
+            parent_ids,
+            generation,
+            time,
+        };
+        let Ok(()) = self.counting.frontier.make(id) else {
+            return Err(Error::Memory);
+        };
+        let Ok(()) = self.ready.push(time, found) else {
+            return Err(Error::Memory);
+        };
+        Ok(())
+    }
+
+    /// A parent of a taken commit, at its last place: it has a child less, and becomes ready where that was the last one.
+    fn release(&mut self, id: &ObjectId) -> Result<(), Error>
+        requires { AreTimed self.old.ready }
+        ensures releases { OnOk result ((added : List Ready) × Releases F.objects F.faulty self.old id.now added self.new) }
+        ensures fault { IfErr result (IsReleaseFault F.objects F.faulty self.old id.now) }
+        ensures same { plan_of self.new ≡ plan_of self.old }
+        ensures timed { AreTimed self.new.ready }
+    {
+        let left = match self.counting.frontier.uncount(*id) {
+            Ok(Some(left)) => left,
+            Ok(None) => return Err(Error::MissingIndegreeUnexpected),
+            Err(_) => return Err(Error::Memory),
+        };
+        if !is_due(left, self.counting.frontier.known(id)) {
+            return Ok(());
+        }
+        self.push(id)
+    }
+
+    /// The parents of a taken commit, each at its last place.
+    fn release_all(&mut self, mut ids: VecDeque<ObjectId>) -> Result<(), Error>
+        requires { AreTimed self.old.ready }
+        ensures releases { OnOk result ((added : List Ready) × ReleasesAll F.objects F.faulty self.old ids.items added self.new) }
+        ensures fault { IfErr result (IsFaultAmong F.objects F.faulty self.old ids.items) }
+        ensures same { plan_of self.new ≡ plan_of self.old }
+        ensures timed { AreTimed self.new.ready }
+    {
+        while let Some(id) = ids.pop_front() {
+            if let Err(fault) = self.release(&id) {
+                return Err(fault);
+            }
+        }
+        Ok(())
+    }
+
+    /// A commit whose turn it is: counting goes on to the depth of its parents, and they have a child less.
+    fn take(&mut self, found: &Found) -> Result<(), Error>
+        requires { AreTimed self.old.ready }
+        ensures takes { OnOk result ((added : List Ready) × AddsReady F.objects F.faulty self.old (as_ready found.now) added self.new) }
+        ensures fault { IfErr result (IsTakingFault F.objects F.faulty self.old (as_ready found.now)) }
+        ensures same { plan_of self.new ≡ plan_of self.old }
+        ensures timed { AreTimed self.new.ready }
+    {
+        let named = walked(self.counting.parents, found.parent_ids.as_slice());
+        self.counting.lower(named);
+        let Ok(ids) = places(self.counting.reader.alloc, named) else {
+            return Err(Error::Memory);
+        };
+        if let Err(fault) = self.counting.explore() {
+            return Err(fault);
+        }
+        let Ok(_) = self.taken.insert(found.id) else {
+            return Err(Error::Memory);
+        };
+        self.release_all(ids)
+    }
+}
