@@ -29,7 +29,6 @@ pub mod TopoEndFacts
 pub mod TopoLawFacts
 pub mod TopoTellFacts
 pub mod TopoSearchFacts
-pub mod TopoRowFacts
 pub mod PlaceFacts
 pub mod FollowFacts
 pub mod StepsFacts

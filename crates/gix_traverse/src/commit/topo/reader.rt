@@ -1,9 +1,7 @@
 //! Reads commits by their rows, or else from the store.
-ghost use Rattle.std.specs.Prelude.{◌≡◌, IfOk, IfErr, option_map, true};
-ghost use Rattle.gix_parts.specs.GraphCommit.{rows_of_commit, row_of_commit};
+ghost use Rattle.std.specs.Prelude.{◌≡◌, IfOk, IfErr, true};
 ghost use Rattle.gix_traverse.specs.Counting.{known_generation};
 ghost use Rattle.gix_traverse.specs.ReadsCommit.{rows_of, Reads, ReadsRow, ReadsText, IsReadFault};
-ghost use Rattle.gix_traverse.specs.SimpleWalk.{ids_at};
 
 use super::Error;
 use crate::commit::read::{row_parents, scan};
