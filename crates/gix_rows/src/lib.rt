@@ -6,4 +6,10 @@ mod breadth;
 #[cfg(test)]
 mod faults;
 #[cfg(test)]
+mod graphs;
+#[cfg(test)]
+mod hiding;
+#[cfg(test)]
 mod history;
+#[cfg(test)]
+mod times;
