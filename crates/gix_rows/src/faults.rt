@@ -1,34 +1,10 @@
 //! Breadth-first walks that meet faults.
-use crate::history::{SAMPLE, TREE, digits, id, insert, store, text};
-use gix_parts::hash::ObjectId;
-use gix_parts::object::find::{self, Find, existing_iter};
-use gix_parts::object::memory::MemoryStore;
+use crate::history::{Failing, SAMPLE, TREE, digits, id, store, text};
+use gix_parts::object::find::existing_iter;
 use gix_parts::object::{Kind, decode};
 use gix_traverse::commit::Simple;
 use gix_traverse::commit::simple::Error;
 use std::test::Fail;
-
-/// A store that fails at one id.
-#[derive(Clone, Copy)]
-pub struct Failing<'a> {
-    pub store: &'a MemoryStore,
-    pub at: ObjectId,
-}
-
-impl Find for Failing<'_> {
-    ghost use Rattle.std.specs.Prelude.{◌≡◌};
-
-    ghost objects = { λ s. s.store.now };
-
-    ghost faulty = { λ s i. i ≡ s.at };
-
-    fn find_into(&self, id: &ObjectId, buf: &mut Vec<u8>) -> Result<Option<Kind>, find::Error> {
-        if *id == self.at {
-            return Err(find::Error::Store);
-        }
-        self.store.find_into(id, buf)
-    }
-}
 
 #[test]
 fn a_broken_parent_line(rt: HostRuntime) -> Result<(), Fail> {

@@ -1,12 +1,14 @@
-//! Histories to walk. Commit n has the id of forty digits n, and time n.
+//! Histories to walk. Commit n has the id of forty digits n, and mostly time n.
+use gix_parts::graph::{Graph, ParentPlace, Row};
 use gix_parts::hash::ObjectId;
 use gix_parts::object::Kind;
-use gix_parts::object::find::Find;
+use gix_parts::object::find::{self, Find};
 use gix_parts::object::memory::MemoryStore;
 use gix_traverse::commit::simple::Error;
 use gix_traverse::commit::{Predicate, Simple};
 use std::alloc::{AllocError, Global};
 use std::fmt;
+use std::test::Fail;
 
 /// The empty tree, as Git names it.
 pub const TREE: &str = "4b825dc642cb6eb9a060e54bf8d69288fbee4904";
@@ -45,7 +47,7 @@ pub fn digit(id: &ObjectId) -> u8 {
 pub fn text<N: fmt::Display>(
     alloc: Global,
     tree: &str,
-    time: u8,
+    time: i64,
     parents: &[N],
 ) -> Result<String, AllocError> {
     let mut text = format!(in alloc; "tree {tree}\n")?;
@@ -59,6 +61,27 @@ pub fn text<N: fmt::Display>(
     Ok(text)
 }
 
+/// The ids of these digits.
+pub fn ids(alloc: Global, digits: &[u8]) -> Result<Vec<ObjectId>, AllocError> {
+    let mut ids = Vec::new(alloc);
+    for digit in digits {
+        ids.push(id(*digit))?;
+    }
+    Ok(ids)
+}
+
+/// Stores commit n of this time with these parents.
+pub fn insert_at(
+    alloc: Global,
+    store: &mut MemoryStore,
+    n: u8,
+    time: i64,
+    parents: &[u8],
+) -> Result<(), AllocError> {
+    let text = text(alloc, TREE, time, &ids(alloc, parents)?)?;
+    store.insert(id(n), Kind::Commit, text.as_str().as_bytes())
+}
+
 /// Stores commit n with these parents.
 pub fn insert(
     alloc: Global,
@@ -66,11 +89,16 @@ pub fn insert(
     n: u8,
     parents: &[u8],
 ) -> Result<(), AllocError> {
-    let mut ids = Vec::new(alloc);
-    for parent in parents {
-        ids.push(id(*parent))?;
-    }
-    let text = text(alloc, TREE, n, &ids)?;
+    insert_at(alloc, store, n, i64::from(n), parents)
+}
+
+/// Stores commit n, whose text ends behind its author line.
+pub fn insert_without_committer(
+    alloc: Global,
+    store: &mut MemoryStore,
+    n: u8,
+) -> Result<(), AllocError> {
+    let text = format!(in alloc; "tree {TREE}\nauthor A <a@b> {n} +0000\n")?;
     store.insert(id(n), Kind::Commit, text.as_str().as_bytes())
 }
 
@@ -81,6 +109,105 @@ pub fn store(alloc: Global, commits: &[(u8, &[u8])]) -> Result<MemoryStore, Allo
         insert(alloc, &mut store, *n, parents)?;
     }
     Ok(store)
+}
+
+/// The sample with times that are this many times the digits.
+pub fn scaled_store(alloc: Global, scale: i64) -> Result<MemoryStore, AllocError> {
+    let mut store = MemoryStore::new(alloc);
+    for (n, parents) in &SAMPLE {
+        insert_at(
+            alloc,
+            &mut store,
+            *n,
+            i64::from(*n).wrapping_mul(scale),
+            parents,
+        )?;
+    }
+    Ok(store)
+}
+
+/// A store that fails at one id.
+#[derive(Clone, Copy)]
+pub struct Failing<'a> {
+    pub store: &'a MemoryStore,
+    pub at: ObjectId,
+}
+
+impl Find for Failing<'_> {
+    ghost use Rattle.std.specs.Prelude.{◌≡◌};
+
+    ghost objects = { λ s. s.store.now };
+
+    ghost faulty = { λ s i. i ≡ s.at };
+
+    fn find_into(&self, id: &ObjectId, buf: &mut Vec<u8>) -> Result<Option<Kind>, find::Error> {
+        if *id == self.at {
+            return Err(find::Error::Store);
+        }
+        self.store.find_into(id, buf)
+    }
+}
+
+/// What a commit-graph is to say: commits with their parents and their generations, and whether the place of a parent in a
+/// commit's row is corrupt.
+#[derive(Clone, Copy)]
+pub struct Rows<'a> {
+    pub commits: &'a [(u8, &'a [u8])],
+    pub generations: &'a [u32],
+    pub fault: Option<(u8, u8)>,
+}
+
+/// The rows of the whole sample.
+pub const FULL: Rows<'static> = Rows {
+    commits: &SAMPLE,
+    generations: &[5, 4, 4, 3, 3, 2, 2, 1],
+    fault: None,
+};
+
+impl Rows<'_> {
+    /// Where the row of a commit stands, if there is one.
+    fn place(&self, n: u8) -> ParentPlace {
+        for (place, commit) in self.commits.iter().enumerate() {
+            if commit.0 == n {
+                return ParentPlace::At(place as u32);
+            }
+        }
+        ParentPlace::Fault
+    }
+
+    fn places(&self, alloc: Global, n: u8, parents: &[u8]) -> Result<Vec<ParentPlace>, AllocError> {
+        let mut places = Vec::new(alloc);
+        for parent in parents {
+            if self.fault == Some((n, *parent)) {
+                places.push(ParentPlace::Fault)?;
+            } else {
+                places.push(self.place(*parent))?;
+            }
+        }
+        Ok(places)
+    }
+
+    /// The graph of these rows.
+    pub fn graph(&self, alloc: Global) -> Result<Graph, Fail> {
+        let mut rows = Vec::new(alloc);
+        for (place, (n, parents)) in self.commits.iter().enumerate() {
+            rows.push(Row {
+                id: id(*n),
+                tree: ObjectId::from_hex(TREE.as_bytes())?,
+                parents: self.places(alloc, *n, parents)?,
+                generation: *self.generations.get(place).ok_or("no generation")?,
+                time: i64::from(*n),
+            })?;
+        }
+        Ok(Graph::new(alloc, rows)?)
+    }
+
+    /// A graph that was read from the bytes of another.
+    pub fn packed(&self, alloc: Global) -> Result<Graph, Fail> {
+        let graph = self.graph(alloc)?;
+        let bytes = Vec::from_slice(alloc, graph.packed())?;
+        Ok(Graph::from_packed(bytes)?)
+    }
 }
 
 /// Stores the commit of a 32-byte id.
@@ -95,8 +222,25 @@ pub fn insert_long(
         ids.push(long_id(*parent))?;
     }
     let tree = format!(in alloc; "{}", long_id(14))?;
-    let text = text(alloc, tree.as_str(), n, &ids)?;
+    let text = text(alloc, tree.as_str(), i64::from(n), &ids)?;
     store.insert(long_id(n), Kind::Commit, text.as_str().as_bytes())
+}
+
+/// The digit of each commit that a walk still gives with the generation that a row told, or its first fault.
+pub fn generations<F: Find + Drop, P: Predicate + Drop>(
+    alloc: Global,
+    walk: &mut Simple<F, P>,
+) -> Result<Vec<(u8, Option<u32>)>, Error>
+    requires { P.can_accept walk.old.predicate }
+{
+    let mut given = Vec::new(alloc);
+    for answer in walk {
+        let info = answer?;
+        given
+            .push((digit(&info.id), info.generation))
+            .map_err(AllocError::from)?;
+    }
+    Ok(given)
 }
 
 /// The digits of all that a walk still gives, or its first fault.

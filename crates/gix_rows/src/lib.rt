@@ -7,10 +7,16 @@ mod breadth;
 #[cfg(test)]
 mod faults;
 #[cfg(test)]
+mod graphs;
+#[cfg(test)]
+mod hiding;
+#[cfg(test)]
 mod history;
 #[cfg(test)]
 mod recorded;
 #[cfg(test)]
 mod script;
+#[cfg(test)]
+mod times;
 #[cfg(test)]
 mod trees;
