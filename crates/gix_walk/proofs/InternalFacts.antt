@@ -34,7 +34,7 @@ Goes GoesOn = Unit {0}
 Goes StoreFails = ⊥
 Goes NoMemory = Unit {0}
 
-find_sound : (objects : Objects) (i : ObjectId) (k : Kind) (e : ExistingError) → IsExistingFault objects (never_faulty objects) i k e → fault_of_find e ≢ fault.Internal
+pub find_sound : (objects : Objects) (i : ObjectId) (k : Kind) (e : ExistingError) → IsExistingFault objects (never_faulty objects) i k e → fault_of_find e ≢ fault.Internal
 find_sound objects i k existing.Store h = absurd h
 find_sound objects i k (existing.NotFound oid) h = λ e. cc
 find_sound objects i k (existing.ObjectKind oid wanted actual) h = λ e. cc
