@@ -18,7 +18,7 @@ use Rattle.gix_parts.specs.Rows.{GraphRow, row_of}
 use Rattle.gix_traverse.specs.declared.commit.Info.{Info}
 use Rattle.gix_traverse.specs.declared.commit.simple.CommitTimeOrder.{CommitTimeOrder}
 use Rattle.gix_traverse.specs.declared.commit.simple.Error.{Error}
-use Rattle.gix_traverse.specs.declared.commit.simple.Pending.{Pending}
+use Rattle.gix_traverse.specs.declared.commit.simple.pending.Pending.{Pending}
 use Rattle.gix_traverse.specs.SimpleWalk.{SimpleWalk, Treated, Holds, ids_at, with_id, time_order, cutoff, unrowed, kept_rows, rows_if, scanned, asked, Enqueues, dropped, enqueued, IsNew, Treats, hidden, known, refused, accepted, store_fails, no_memory, no_memory_after, TreatsAll, none, more, stops, Concludes, given, broken, Takes, by_row, by_store, not_found, Chooses, first, best, Steps, took, painted, Next, unhidden, paints, faulty_history, May}
 use Rattle.gix_traverse.specs.SimpleLaws.{named_in, answers_left}
 use Rattle.gix_parts.proofs.IdFacts.{id_total, same_is, same_from, same_back, among-append, among_from, Contains-here, Contains-there, Contains-cons_cases, no_member}
@@ -91,7 +91,7 @@ found_entry (x ∷ es) i o e = go (found_entry es i o) (is_same i x.0) refl e
     go r true t e = let same : i ≡ x.0 = same_is i x.0 t in let object : x.1 ≡ o = cc in subst (λ y. Contains (x ∷ es) y) (λ k. (sym same k, object k)) (Contains-here x es)
     go r false t e = Contains-there (i, o) x es (r e)
 
-ids_in_rows : (rows : List GraphRow) (places : List ParentPlace) (ids : List ObjectId) → ids_at rows places ≡ Some ids → (i : ObjectId) → Contains ids i → is_among i (map (λ row. row.id) rows) ≡ true
+pub ids_in_rows : (rows : List GraphRow) (places : List ParentPlace) (ids : List ObjectId) → ids_at rows places ≡ Some ids → (i : ObjectId) → Contains ids i → is_among i (map (λ row. row.id) rows) ≡ true
 ids_in_rows rows [] ids e i h = absurd (no_member i (subst (λ xs. Contains xs i) (let s : ids ≡ [] = cc in s) h))
 ids_in_rows rows (Fault ∷ places) ids e i h = cc
 ids_in_rows rows (At n ∷ places) ids e i h = go (slice_get rows n) refl (ids_at rows places) refl (λ those f. ids_in_rows rows places those f i) e
@@ -171,7 +171,13 @@ module _ {F P : Type 0} (objects : F → Objects) (faulty : F → ObjectId → T
           omega arith
   spends ids w row i n (store_fails {predicate = q} is_new a reads) = spends_one ids w i q w.pending n is_new (omega arith)
   spends ids w row i n no_memory = spends_none ids w
-  spends ids w row i n (no_memory_after {predicate = q} is_new a) = spends_one ids w i q w.pending n is_new (omega arith)
+  spends ids w row i n (no_memory_after {predicate = q} {pending = ps} is_new a left) = spends_one ids w i q ps n is_new (⊎_elim (λ e. shorter (ap length e)) (λ e. shorter_none (ap length e)) left)
+    where
+      shorter : length ps ≡ length w.pending → length ps ≤ suc (length w.pending)
+      shorter e = omega arith
+
+      shorter_none : length ps ≡ 0 → length ps ≤ suc (length w.pending)
+      shorter_none e = omega arith
 
   spends_then : (ids : List ObjectId) (w mid v : SimpleWalk F P) → Spends ids w mid → Spends ids mid v → Spends ids w v
   spends_then ids w mid v a b = record { store = b.store ∙ a.store; parents = b.parents ∙ a.parents; rows = b.rows ∙ a.rows; less = (let x : left_of ids mid ≤ left_of ids w = a.less in let y : left_of ids v ≤ left_of ids mid = b.less in omega arith) }
@@ -218,13 +224,16 @@ module _ {F P : Type 0} (objects : F → Objects) (faulty : F → ObjectId → T
       let b : Spends named (unrowed w p.id) new = spends_then named (unrowed w p.id) walk new a (concluded_left named p.id _ _ _ _ _ walk concludes) in
       rows_go w new rows b.store b.parents b.rows (kept_either w.rows (row_of w.rows p.id)) b.less
   takes_left w p (not_found u fault) = rows_go w (record (unrowed w p.id) { text = []; text_kind = kind_of p.id }) (kept_rows w.rows (row_of w.rows p.id)) refl refl refl (kept_either w.rows (row_of w.rows p.id)) (Rattle.std.proofs.Common.le_refl _)
-  takes_left w p no_memory = rows_go w (record (unrowed w p.id) { text = []; text_kind = kind_of p.id; pending = [] }) (kept_rows w.rows (row_of w.rows p.id)) refl refl refl (kept_either w.rows (row_of w.rows p.id)) (omega arith)
+  takes_left w p (no_memory {rows = rows} left) = rows_go w (record w { rows = rows; text = []; text_kind = kind_of p.id; pending = [] }) rows refl refl refl (⊎_elim inl (λ e. ⊎_elim (λ k. inl (e ∙ k)) (λ k. inr (e ∙ k)) (kept_either w.rows (row_of w.rows p.id))) left) (omega arith)
 
   chosen_left : (w : SimpleWalk F P) (p : Pending) (others : List Pending) → Chooses objects faulty answers w p others → length w.pending ≡ suc (length others)
   chosen_left w p others (first t e) = ap length e
   chosen_left w p others (best t perm no_worse) = sym (length_permutation w.pending (p ∷ others) perm)
 
   steps_left : (w : SimpleWalk F P) {answer : Result Info Error} {new : SimpleWalk F P} → Steps objects faulty answers w (Some answer) new → suc (answers_left objects new) ≤ answers_left objects w
+  steps_left w (no_memory some) =
+      let n : 1 ≤ length w.pending = some_pending w.pending some in
+      omega arith
   steps_left w (took {taken = p} {others = others} {new = new} chooses takes) =
       let a : answers_left objects new ≤ answers_left objects (record w { pending = others }) = takes_left (record w { pending = others }) p takes in
       let b : length w.pending ≡ suc (length others) = chosen_left w p others chooses in

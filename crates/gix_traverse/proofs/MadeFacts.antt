@@ -82,7 +82,7 @@ module _ {F P : Type 0} (objects : F → Objects) (faulty : F → ObjectId → T
       alone true = refl
       alone false = refl
 
-  pending_is : (i : ObjectId) → Contains (ids_of walk.pending) i → (accepts i ≡ true) × (is_among i tips ≡ true)
+  pub pending_is : (i : ObjectId) → Contains (ids_of walk.pending) i → (accepts i ≡ true) × (is_among i tips ≡ true)
   pending_is i h = and_parts (accepts i) (is_among i tips) (sym (among-filter i accepts tips) ∙ fresh_among i (λ j. false) (filter accepts tips) (subst (λ ids. Contains ids i) pending h))
 
   is_fresh : IsFresh objects walk accepts

@@ -1,6 +1,6 @@
 -- No id is given twice, whatever the store, the rows and the predicate do.
 use Rattle.std.specs.Prelude.{◌≡◌, ◌+◌, ◌≤◌, ℕ, ℤ, List, [], ◌∷◌, ◌++◌, filter, Bool, true, false, not, ◌||◌, cond, Option, Some, Result, Ok, Err, Contains}
-use Rattle.std.proofs.Common.{refl, sym, ap, subst, ◌∙◌, arith, append_assoc, append-nil, le_refl}
+use Rattle.std.proofs.Common.{refl, sym, ap, subst, ⊎_elim, ◌∙◌, arith, append_assoc, append-nil, le_refl}
 use Rattle.std.proofs.lemmas.Bool.{false≢true, false_from_ne_true}
 use Rattle.std.specs.FinSet as set
 use Rattle.gix_parts.specs.declared.hash.ObjectId.{ObjectId}
@@ -9,7 +9,7 @@ use Rattle.gix_parts.specs.Id.{is_same, is_among}
 use Rattle.gix_parts.specs.Object.{Objects}
 use Rattle.gix_traverse.specs.declared.commit.Info.{Info}
 use Rattle.gix_traverse.specs.declared.commit.simple.Error.{Error}
-use Rattle.gix_traverse.specs.declared.commit.simple.Pending.{Pending}
+use Rattle.gix_traverse.specs.declared.commit.simple.pending.Pending.{Pending}
 use Rattle.gix_traverse.specs.SimpleWalk.{SimpleWalk, Treated, Holds, ids_of, time_order, cutoff, asked, Enqueues, dropped, enqueued, IsNew, Treats, hidden, known, refused, accepted, store_fails, no_memory, no_memory_after, TreatsAll, none, more, stops, Concludes, given, broken, Takes, by_row, by_store, not_found, Chooses, first, best, Steps, took, Next, unhidden, paints, faulty_history, May}
 use Rattle.gix_traverse.specs.SimpleLaws.{AreDistinct, given_ids}
 use Rattle.gix_parts.proofs.IdFacts.{id_total, same_is, same_itself, among_from, among_is}
@@ -39,7 +39,7 @@ once_times (x ∷ xs) d i = go (is_same i x) refl (once_times xs d.1 i)
     go true t r = let k : times i xs ≡ 0 = times_none i xs (false_from_ne_true _ (λ e. d.0 (subst (λ y. Contains xs y) (same_is i x t) (among_is i xs e)))) in omega arith
     go false t r = omega arith
 
-times-filter : (p : Pending → Bool) (ps : List Pending) (i : ObjectId) → times i (ids_of (filter p ps)) ≤ times i (ids_of ps)
+pub times-filter : (p : Pending → Bool) (ps : List Pending) (i : ObjectId) → times i (ids_of (filter p ps)) ≤ times i (ids_of ps)
 times-filter p [] i = le_refl _
 times-filter p (x ∷ ps) i = go (p x) (times-filter p ps i)
   where
@@ -76,7 +76,13 @@ module _ {F P : Type 0} (objects : F → Objects) (faulty : F → ObjectId → T
           omega arith
   sole_one gone w row i h (store_fails {predicate = q} is_new a reads) = sole_asked gone w i q w.pending h is_new (λ j. omega arith)
   sole_one gone w row i h no_memory = h
-  sole_one gone w row i h (no_memory_after {predicate = q} is_new a) = sole_asked gone w i q w.pending h is_new (λ j. omega arith)
+  sole_one gone w row i h (no_memory_after {predicate = q} {pending = ps} is_new a left) = sole_asked gone w i q ps h is_new (λ j. ⊎_elim (λ e. as_often j (ap (λ ps. times j (ids_of ps)) e)) (λ e. never j (ap (λ ps. times j (ids_of ps)) e)) left)
+    where
+      as_often : (j : ObjectId) → times j (ids_of ps) ≡ times j (ids_of w.pending) → times j (ids_of ps) ≤ times j (ids_of w.pending) + cond (is_same j i) 1 0
+      as_often j e = omega arith
+
+      never : (j : ObjectId) → times j (ids_of ps) ≡ 0 → times j (ids_of ps) ≤ times j (ids_of w.pending) + cond (is_same j i) 1 0
+      never j e = omega arith
 
   sole_all : (gone : List ObjectId) (row : Bool) {w v : SimpleWalk F P} {ids : List ObjectId} {how : Treated} → TreatsAll objects faulty answers row w ids how v → IsSole gone w → IsSole gone v
   sole_all gone row none h = h
@@ -101,13 +107,14 @@ module _ {F P : Type 0} (objects : F → Objects) (faulty : F → ObjectId → T
   takes_sole done w p (by_row {walk = walk} r e treats concludes) h = concluded_sole done p.id _ _ _ _ _ walk concludes (sole_all (done ++ p.id ∷ []) true treats h)
   takes_sole done w p (by_store {walk = walk} u e treats concludes) h = concluded_sole done p.id _ _ _ _ _ walk concludes (sole_all (done ++ p.id ∷ []) false treats h)
   takes_sole done w p (not_found u fault) h = fewer_given done p.id w (λ j. times j (ids_of w.pending)) (λ j. le_refl _) h
-  takes_sole done w p no_memory h = fewer_given done p.id w (λ j. 0) (λ j. Prim.Native.Nat.zero-le) h
+  takes_sole done w p (no_memory left) h = fewer_given done p.id w (λ j. 0) (λ j. Prim.Native.Nat.zero-le) h
 
   chosen_times : (w : SimpleWalk F P) (p : Pending) (others : List Pending) → Chooses objects faulty answers w p others → (j : ObjectId) → times j (ids_of w.pending) ≡ cond (is_same j p.id) 1 0 + times j (ids_of others)
   chosen_times w p others (first t e) j = ap (λ ps. times j (ids_of ps)) e
   chosen_times w p others (best t perm no_worse) j = sym (times-permutation j w.pending (p ∷ others) perm)
 
   steps_sole : (done : List ObjectId) (w : SimpleWalk F P) {answer : Result Info Error} {new : SimpleWalk F P} → Steps objects faulty answers w (Some answer) new → IsSole done w → IsSole (with_answer done answer) new
+  steps_sole done w (no_memory some) h = λ j. let k : times j (ids_of w.pending) + times j done ≤ cond (set.contains w.seen j) 1 0 = h j in let b : times j (done ++ []) ≡ times j done = ap (times j) (append-nil done) in omega arith
   steps_sole done w (took {taken = p} {others = others} chooses takes) h = takes_sole done (record w { pending = others }) p takes (λ j.
       let k : times j (ids_of w.pending) + times j done ≤ cond (set.contains w.seen j) 1 0 = h j in
       let a : times j (done ++ p.id ∷ []) ≡ times j done + (cond (is_same j p.id) 1 0 + 0) = times-append j done (p.id ∷ []) in

@@ -10,7 +10,7 @@ use Rattle.gix_traverse.specs.declared.commit.simple.CommitTimeOrder.{CommitTime
 use Rattle.gix_traverse.specs.declared.commit.simple.CommitTimeOrder.TheVariants.{NewestFirst, OldestFirst}
 use Rattle.gix_traverse.specs.BreadthOrder.{named_by, first_new}
 use Rattle.gix_traverse.specs.TimeOrder.{IsNoWorse, IsPending, IsBest}
-use Rattle.gix_traverse.specs.declared.commit.simple.Pending.{Pending}
+use Rattle.gix_traverse.specs.declared.commit.simple.pending.Pending.{Pending}
 use Rattle.gix_traverse.specs.SimpleWalk.{ids_of}
 use Rattle.gix_parts.proofs.IdFacts.{same_is, same_itself, same_from, among-append, among-one, among_from, among_is, Contains-here, Contains-there, Contains-cons_cases, no_member}
 use Rattle.gix_traverse.proofs.FreshFacts.{fresh, fresh_agree, fresh-append, fresh_head, fresh_none, IsHead, times, times-append, times-fresh, times_among}

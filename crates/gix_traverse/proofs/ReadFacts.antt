@@ -1,5 +1,5 @@
 -- A commit that reads whole is read alike from its items and from its row.
-use Rattle.std.specs.Prelude.{ℕ, zero, suc, ◌≡◌, List, [], ◌∷◌, ◌++◌, Bool, true, false, cond, length, slice_get, Contains, Option, Some, None, Result, Ok}
+use Rattle.std.specs.Prelude.{ℕ, zero, suc, ◌≡◌, ◌<◌, List, [], ◌∷◌, ◌++◌, Bool, true, false, cond, length, slice_get, Contains, Option, Some, None, Result, Ok}
 use Rattle.std.proofs.Common.{refl, sym, ap, subst, ◌∙◌, arith, append_assoc, append-nil}
 use Rattle.gix_parts.specs.declared.hash.Kind.{Kind}
 use Rattle.gix_parts.specs.declared.hash.ObjectId.{ObjectId}
@@ -119,18 +119,18 @@ ids_agree rows generation (At n ∷ places) (p ∷ ps) ids l all e =
         let tail : those ≡ ps = rest those b in
         cc
 
-place_has_row : (rows : List GraphRow) (generation : ℕ) (i : ObjectId) (place : ParentPlace) → PlaceAgrees rows generation i place → (row : GraphRow) × (row_of rows i ≡ Some row)
-place_has_row rows generation i (At n) h = (h.0, h.3)
-place_has_row rows generation i Fault h = (h.0, h.1)
+place_has_row : (rows : List GraphRow) (generation : ℕ) (i : ObjectId) (place : ParentPlace) → PlaceAgrees rows generation i place → (row : GraphRow) × (row_of rows i ≡ Some row) × (row.generation < generation)
+place_has_row rows generation i (At n) h = (h.0, h.3, h.4)
+place_has_row rows generation i Fault h = (h.0, h.1, h.2)
 
-same_long : {X Y : Type 0} (xs : List X) (ys : List Y) (k : ℕ) (y : Y) → length xs ≡ length ys → slice_get ys k ≡ Some y → (x : X) × (slice_get xs k ≡ Some x)
+pub same_long : {X Y : Type 0} (xs : List X) (ys : List Y) (k : ℕ) (y : Y) → length xs ≡ length ys → slice_get ys k ≡ Some y → (x : X) × (slice_get xs k ≡ Some x)
 same_long [] [] k y l e = cc
 same_long [] (z ∷ ys) k y l e = absurd (omega arith)
 same_long (x ∷ xs) [] k y l e = cc
 same_long (x ∷ xs) (z ∷ ys) zero y l e = (x, refl)
 same_long (x ∷ xs) (z ∷ ys) (suc k) y l e = same_long xs ys k y (omega arith) e
 
-place_of : {X : Type 0} (xs : List X) (x : X) → Contains xs x → (k : ℕ) × (slice_get xs k ≡ Some x)
+pub place_of : {X : Type 0} (xs : List X) (x : X) → Contains xs x → (k : ℕ) × (slice_get xs k ≡ Some x)
 place_of xs x h = (h.0, Rattle.std.proofs.lemmas.Option.slice_get-get_or xs h.0 x h.1 ∙ ap Some h.2)
 
 module _ (objects : Objects) (faulty : ObjectId → Type 0) (rows : List GraphRow) (agrees : IsAgreeing objects faulty rows) where
@@ -148,11 +148,14 @@ module _ (objects : Objects) (faulty : ObjectId → Type 0) (rows : List GraphRo
       let a : RowAgrees objects faulty rows row = agrees row h.0 in
       sym (ap time_in (ap (commit_at objects) h.1 ∙ a.whole.stored) ∙ a.time)
 
-  pub parent_has_row : (c : ObjectId) (row : GraphRow) (i : ObjectId) → row_of rows c ≡ Some row → Contains (parents_of objects c) i → (r : GraphRow) × (row_of rows i ≡ Some r)
-  parent_has_row c row i e n =
+  pub parent_below : (c : ObjectId) (row : GraphRow) (i : ObjectId) → row_of rows c ≡ Some row → Contains (parents_of objects c) i → (r : GraphRow) × (row_of rows i ≡ Some r) × (r.generation < row.generation)
+  parent_below c row i e n =
       let h : Contains rows row × (c ≡ row.id) = row_stands rows c row e in
       let a : RowAgrees objects faulty rows row = agrees row h.0 in
       let m : Contains a.whole.commit.parents i = subst (λ ps. Contains ps i) (ap parents_in (ap (commit_at objects) h.1 ∙ a.whole.stored)) n in
       let k : (k : ℕ) × (slice_get a.whole.commit.parents k ≡ Some i) = place_of _ i m in
       let q : (place : ParentPlace) × (slice_get row.parents k.0 ≡ Some place) = same_long row.parents a.whole.commit.parents k.0 i a.places k.1 in
       place_has_row rows row.generation i q.0 (a.parents k.0 i q.0 k.1 q.1)
+
+  pub parent_has_row : (c : ObjectId) (row : GraphRow) (i : ObjectId) → row_of rows c ≡ Some row → Contains (parents_of objects c) i → (r : GraphRow) × (row_of rows i ≡ Some r)
+  parent_has_row c row i e n = let p : (r : GraphRow) × (row_of rows i ≡ Some r) × (r.generation < row.generation) = parent_below c row i e n in (p.0, p.1)

@@ -14,11 +14,12 @@ use Rattle.gix_traverse.specs.declared.commit.simple.Error.{Error}
 use Rattle.gix_traverse.specs.declared.commit.simple.Error.TheVariants as error
 use Rattle.gix_traverse.specs.declared.commit.simple.Hidden.{Hidden}
 use Rattle.gix_traverse.specs.declared.commit.simple.Hidden.TheVariants as hidden_by
+use Rattle.gix_traverse.specs.Painting.{IsAtBoundary, IsHiddenFault, Paints}
 use Rattle.gix_traverse.specs.Reach.{Reaches, start, step, Tells}
 use Rattle.gix_traverse.specs.Agreeing.{IsAgreeing}
 use Rattle.gix_traverse.specs.History.{time_of, parents_of, commit_of_object, walked_parents, ReadsWhole}
-use Rattle.gix_traverse.specs.declared.commit.simple.Pending.{Pending}
-use Rattle.gix_traverse.specs.SimpleWalk.{SimpleWalk, ids_of, time_order, cutoff, IsAtBoundary, IsHiddenFault, Steps, Paints, painted, Next, unhidden, paints, faulty_history, no_memory, May}
+use Rattle.gix_traverse.specs.declared.commit.simple.pending.Pending.{Pending}
+use Rattle.gix_traverse.specs.SimpleWalk.{SimpleWalk, ids_of, time_order, cutoff, Steps, painted, Next, unhidden, paints, faulty_history, no_memory, May}
 use Rattle.gix_traverse.specs.SimpleLaws.{itself, AnswersBy, AreDistinct, IsFresh, IsNoRefusal, IsInOrder, MeetsWhole, GivesInOrder, starts_of, next_of, is_kept}
 use Rattle.gix_parts.specs.Id.{kind_of}
 use Rattle.gix_parts.specs.CommitItems.{commit_items}
@@ -152,7 +153,7 @@ module _ {F P : Type 0} (objects : F → Objects) (faulty : F → ObjectId → T
       shown e i = false_from_ne_true _ (λ h. nothing_reached (parents_of (objects w.store)) w.hidden_tips (λ j m. no_member j (subst (λ xs. Contains xs j) e m)) i ((tells i).0 h))
 
   -- the hidden tips are painted
-  painting : (marks : set.FinSet id_cmp) (rows : List GraphRow) → Paints objects faulty answers w marks rows → {o : Option (Result Info Error)} {new : SimpleWalk F P} → Steps objects faulty answers (painted objects faulty answers w marks rows) o new → Begins o new
+  painting : (marks : set.FinSet id_cmp) (rows : List GraphRow) → Paints (objects w.store) (faulty w.store) w.rows (ids_of w.pending) w.hidden_tips marks rows → {o : Option (Result Info Error)} {new : SimpleWalk F P} → Steps objects faulty answers (painted objects faulty answers w marks rows) o new → Begins o new
   painting marks rows paint steps = record {
     marks = marks;
     mid = painted objects faulty answers w marks rows;
@@ -181,13 +182,13 @@ module _ {F P : Type 0} (objects : F → Objects) (faulty : F → ObjectId → T
           go false e true f = paint.whole agreeing i at ((tells i).0 f) ∙ sym f
           go false e false f = e ∙ sym f
 
-  no_hidden_fault : w.pending ≢ [] → w.hidden_tips ≢ [] → (why : Hidden) → IsNoRefusal (Err (error.HiddenGraph why)) → IsHiddenFault (objects w.store) (faulty w.store) (ids_of w.pending ++ w.hidden_tips) why → ⊥
+  no_hidden_fault : w.pending ≢ [] → w.hidden_tips ≢ [] → (why : Hidden) → IsNoRefusal (Err (error.HiddenGraph why)) → IsHiddenFault (objects w.store) (faulty w.store) w.rows (ids_of w.pending ++ w.hidden_tips) why → ⊥
   no_hidden_fault some hidden (hidden_by.Find e) ok fault =
-      let whole : ReadsWhole (objects w.store) (faulty w.store) fault.0 = meets.painted some hidden fault.0 fault.1 in
+      let whole : ReadsWhole (objects w.store) (faulty w.store) fault.0 = meets.painted some hidden fault.0 (fault.1 agreeing) in
       no_fault (objects w.store) (faulty w.store) fault.0 whole.commit e whole.stored fault.2 (λ k. ok.2 (ap (λ x. Err (error.HiddenGraph (hidden_by.Find x))) k))
   no_hidden_fault some hidden (hidden_by.ObjectDecode e) ok fault =
-      let whole : ReadsWhole (objects w.store) (faulty w.store) fault.0 = meets.painted some hidden fault.0 fault.1 in
-      let n : None ≡ Some whole.commit = sym (ap (commit_of_object fault.0) fault.3 ∙ fault_unread (commit_items (kind_of fault.0) fault.2) e fault.4) ∙ whole.stored in cc
+      let whole : ReadsWhole (objects w.store) (faulty w.store) fault.0 = meets.painted some hidden fault.0 (fault.1 agreeing) in
+      let n : None ≡ Some whole.commit = sym (ap (commit_of_object fault.0) fault.2.1 ∙ fault_unread (commit_items (kind_of fault.0) fault.2.0) e fault.2.2) ∙ whole.stored in cc
 
   begins : {o : Option (Result Info Error)} {new : SimpleWalk F P} → ((answer : Result Info Error) → o ≡ Some answer → IsNoRefusal answer) → Next objects faulty answers w o new → Begins o new
   begins ok (unhidden none steps) = plain none steps

@@ -21,7 +21,7 @@ use Rattle.gix_traverse.specs.declared.commit.simple.CommitTimeOrder.{CommitTime
 use Rattle.gix_traverse.specs.declared.commit.simple.Error.{Error}
 use Rattle.gix_traverse.specs.declared.commit.simple.Error.TheVariants as error
 use Rattle.gix_traverse.specs.History.{by_mode, time_of, parents_of, parents_in, commit_at, commit_of_object, commit_of_kind, walked_parents, ReadsWhole}
-use Rattle.gix_traverse.specs.declared.commit.simple.Pending.{Pending}
+use Rattle.gix_traverse.specs.declared.commit.simple.pending.Pending.{Pending}
 use Rattle.gix_parts.specs.Find.{IsExistingFault}
 use Rattle.gix_traverse.specs.SimpleWalk.{SimpleWalk, Treated, GoesOn, ids_of, ids_at, time_order, time_if, given_time, kept_rows, rows_if, unrowed, scanned, Concludes, given, broken, store_fails, no_memory, Takes, by_row, by_store, not_found}
 use Rattle.gix_traverse.specs.SimpleLaws.{kept_parents, IsRowGeneration, IsGiven, IsNoRefusal}
@@ -122,4 +122,4 @@ module _ {F P : Type 0} (objects : F → Objects) (faulty : F → ObjectId → T
       concludes ok in
       record { given_as = t.given_as; rest = t.rest; seen = t.seen; pending = t.pending }
   took_well s w h p whole marked timed (not_found {e = e} u fault) ok = absurd (no_fault (objects w.store) (faulty w.store) p.id whole.commit e (ap (λ f. commit_at (objects f) p.id) h.store ∙ whole.stored) fault (λ k. ok.1 (ap (λ x. Err (error.Find x)) k)))
-  took_well s w h p whole marked timed no_memory ok = absurd (ok.0 refl)
+  took_well s w h p whole marked timed (no_memory left) ok = absurd (ok.0 refl)

@@ -1,4 +1,4 @@
--- Treating parents neither reads nor changes the text that a walk lends.
+-- Treating parents neither reads nor changes the text that a walk lends, nor changes its order.
 use Rattle.std.specs.Prelude.{◌≡◌, ℕ, List, Bool}
 use Rattle.std.proofs.Common.{refl, ◌∙◌}
 use Rattle.gix_parts.specs.declared.hash.Kind.{Kind}
@@ -31,7 +31,7 @@ module _ {F P : Type 0} (objects : F → Objects) (faulty : F → ObjectId → T
   treats_with (accepted n a t q) = accepted (new_with n) (asks_with a) (time_with t) q
   treats_with (store_fails n a t) = store_fails (new_with n) (asks_with a) (time_with t)
   treats_with no_memory = no_memory
-  treats_with (no_memory_after n a) = no_memory_after (new_with n) (asks_with a)
+  treats_with (no_memory_after n a left) = no_memory_after (new_with n) (asks_with a) left
 
   pub treats_all_with : {by_row : Bool} {how : Treated} {new : SimpleWalk F P} {old : SimpleWalk F P} {ids : List ObjectId} → TreatsAll objects faulty answers by_row old ids how new → TreatsAll objects faulty answers by_row (with_text old text kind) ids how (with_text new text kind)
   treats_all_with none = none
@@ -39,21 +39,23 @@ module _ {F P : Type 0} (objects : F → Objects) (faulty : F → ObjectId → T
   treats_all_with (stops h t) = stops h (treats_with t)
 
 module _ {F P : Type 0} (objects : F → Objects) (faulty : F → ObjectId → Type 0) (answers : P → ObjectId → Bool → P → Type 0) where
-  -- what a walk lends
+  -- what a walk lends, and its order
   pub record SameText (old new : SimpleWalk F P) : Type 0 where
     pub text : new.text ≡ old.text
     pub kind : new.text_kind ≡ old.text_kind
+    pub parents : new.parents ≡ old.parents
+    pub sorting : new.sorting ≡ old.sorting
 
   treats_same : {by_row : Bool} {i : ObjectId} {how : Treated} {old new : SimpleWalk F P} → Treats objects faulty answers old by_row i how new → SameText old new
-  treats_same (hidden e) = record { text = refl; kind = refl }
-  treats_same (known e) = record { text = refl; kind = refl }
-  treats_same (refused n a) = record { text = refl; kind = refl }
-  treats_same (accepted n a t q) = record { text = refl; kind = refl }
-  treats_same (store_fails n a t) = record { text = refl; kind = refl }
-  treats_same no_memory = record { text = refl; kind = refl }
-  treats_same (no_memory_after n a) = record { text = refl; kind = refl }
+  treats_same (hidden e) = record { text = refl; kind = refl; parents = refl; sorting = refl }
+  treats_same (known e) = record { text = refl; kind = refl; parents = refl; sorting = refl }
+  treats_same (refused n a) = record { text = refl; kind = refl; parents = refl; sorting = refl }
+  treats_same (accepted n a t q) = record { text = refl; kind = refl; parents = refl; sorting = refl }
+  treats_same (store_fails n a t) = record { text = refl; kind = refl; parents = refl; sorting = refl }
+  treats_same no_memory = record { text = refl; kind = refl; parents = refl; sorting = refl }
+  treats_same (no_memory_after n a left) = record { text = refl; kind = refl; parents = refl; sorting = refl }
 
   pub treats_all_same : {by_row : Bool} {how : Treated} {new : SimpleWalk F P} {old : SimpleWalk F P} {ids : List ObjectId} → TreatsAll objects faulty answers by_row old ids how new → SameText old new
-  treats_all_same none = record { text = refl; kind = refl }
-  treats_all_same (more t rest) = let first = treats_same t in let later = treats_all_same rest in record { text = later.text ∙ first.text; kind = later.kind ∙ first.kind }
+  treats_all_same none = record { text = refl; kind = refl; parents = refl; sorting = refl }
+  treats_all_same (more t rest) = let first = treats_same t in let later = treats_all_same rest in record { text = later.text ∙ first.text; kind = later.kind ∙ first.kind; parents = later.parents ∙ first.parents; sorting = later.sorting ∙ first.sorting }
   treats_all_same (stops h t) = treats_same t

@@ -19,7 +19,7 @@ use Rattle.gix_traverse.specs.declared.commit.simple.Sorting.{Sorting}
 use Rattle.gix_traverse.specs.declared.commit.simple.Sorting.TheVariants as sorting
 use Rattle.gix_traverse.specs.Agreeing.{IsAgreeing}
 use Rattle.gix_traverse.specs.History.{time_of}
-use Rattle.gix_traverse.specs.declared.commit.simple.Pending.{Pending}
+use Rattle.gix_traverse.specs.declared.commit.simple.pending.Pending.{Pending}
 use Rattle.gix_traverse.specs.SimpleWalk.{SimpleWalk, Treated, GoesOn, Holds, ids_of, time_order, cutoff, is_older, row_time, Asks, remembers, asks, asked as asked_walk, ReadsTime, unasked, from_row, from_store, Enqueues, dropped, enqueued, Treats, hidden, known, refused, accepted, TreatsAll, none, more, stops}
 use Rattle.gix_traverse.specs.SimpleLaws.{Becomes, further, AnswersBy, is_kept}
 use Rattle.gix_parts.proofs.IdFacts.{id_total, same_is, among-one, Contains-here, Contains-there, Contains-cons_cases, no_member}

@@ -16,7 +16,7 @@ use Rattle.gix_traverse.specs.declared.commit.simple.Error.TheVariants as error
 use Rattle.gix_traverse.specs.BreadthOrder.{named_by}
 use Rattle.gix_traverse.specs.Reach.{Reaches}
 use Rattle.gix_traverse.specs.History.{time_of, parents_of, walked_parents, ReadsWhole}
-use Rattle.gix_traverse.specs.declared.commit.simple.Pending.{Pending}
+use Rattle.gix_traverse.specs.declared.commit.simple.pending.Pending.{Pending}
 use Rattle.gix_traverse.specs.SimpleWalk.{SimpleWalk, ids_of, time_order, Chooses, first, best, Steps, ended, took, Next, unhidden, paints, faulty_history, no_memory, May}
 use Rattle.gix_traverse.specs.SimpleLaws.{IsNoRefusal, IsGiven}
 use Rattle.gix_parts.proofs.IdFacts.{same_is, among-append, among-one, among_is, Contains-here, Contains-there}
@@ -71,6 +71,7 @@ module _ {F P : Type 0} (objects : F → Objects) (faulty : F → ObjectId → T
     runs : Runs s new (taken ++ i ∷ [])
 
   stepped : (s : Setting objects faulty answers) → Known s → (w : SimpleWalk F P) (taken : List ObjectId) → Runs s w taken → {answer : Result Info Error} {new : SimpleWalk F P} → Steps objects faulty answers w (Some answer) new → IsNoRefusal answer → Stepped s taken answer new
+  stepped s known w done h (no_memory some) ok = absurd (ok.0 refl)
   stepped s known w done h (took {taken = p} {others = others} {answer = answer} {new = new} chooses takes) ok =
       let stands : Stands objects faulty answers s w = h.rest in
       let same : time_order w.parents w.sorting ≡ order_of objects faulty answers s = (λ k. time_order (stands.parents k) (stands.sorting k)) in

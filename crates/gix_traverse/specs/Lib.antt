@@ -3,10 +3,15 @@ pub mod Reach
 pub mod BreadthOrder
 pub mod TimeOrder
 pub mod Agreeing
+pub mod Painting
 pub mod SimpleWalk
 pub mod SimpleLaws
+pub mod Painter
 pub mod Examples
 pub mod SimpleErrors
+pub mod PendingQueue
+pub mod SimpleSteps
+pub mod SimpleBuilding
 pub mod Delegate
 pub mod Visits
 pub mod Paths

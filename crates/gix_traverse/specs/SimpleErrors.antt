@@ -3,6 +3,8 @@ use Rattle.gix_parts.specs.declared.object.find.existing_iter.Error.{Error as Ex
 use Rattle.gix_parts.specs.declared.object.find.existing_iter.Error.TheVariants as existing
 use Rattle.gix_traverse.specs.declared.commit.simple.Error.{Error}
 use Rattle.gix_traverse.specs.declared.commit.simple.Error.TheVariants as error
+use Rattle.gix_traverse.specs.declared.commit.simple.step.Stop.{Stop}
+use Rattle.gix_traverse.specs.declared.commit.simple.step.Stop.TheVariants as stop
 use Rattle.gix_traverse.specs.declared.commit.simple.Hidden.{Hidden}
 use Rattle.gix_traverse.specs.declared.commit.simple.Hidden.TheVariants as hidden_by
 
@@ -11,6 +13,10 @@ error_of_find existing.Memory = error.Memory
 error_of_find existing.Store = error.Find existing.Store
 error_of_find (existing.NotFound oid) = error.Find (existing.NotFound oid)
 error_of_find (existing.ObjectKind oid expected actual) = error.Find (existing.ObjectKind oid expected actual)
+
+abbrev pub error_of_stop : Stop → Error
+error_of_stop stop.Store = error.Find existing.Store
+error_of_stop stop.Memory = error.Memory
 
 abbrev pub error_of_hidden : Hidden → Error
 error_of_hidden (hidden_by.Find existing.Memory) = error.Memory

@@ -22,7 +22,7 @@ use Rattle.gix_traverse.specs.BreadthOrder.{IsBreadthOrder}
 use Rattle.gix_traverse.specs.TimeOrder.{IsTimeOrder}
 use Rattle.gix_traverse.specs.Reach.{Reaches, Tells}
 use Rattle.gix_traverse.specs.History.{ReadsWhole, walked_parents, parents_of, time_of}
-use Rattle.gix_traverse.specs.declared.commit.simple.Pending.{Pending}
+use Rattle.gix_traverse.specs.declared.commit.simple.pending.Pending.{Pending}
 use Rattle.gix_traverse.specs.SimpleWalk.{SimpleWalk, IsInfo, ids_of, time_order, cutoff, is_older, time_if, scanned, May}
 
 -- what a predicate becomes by being asked

@@ -1,5 +1,5 @@
 -- What a simple walk holds, and what one step of it may do.
-use Rattle.std.specs.Prelude.{◌≡◌, ◌≢◌, ◌⊎◌, ℕ, ℤ, pos, int_lt, List, [], ◌∷◌, ◌++◌, map, filter, Bool, true, false, not, Option, Some, None, Result, Ok, Err, Contains, IsSome, IsPermutation, slice_get}
+use Rattle.std.specs.Prelude.{◌≡◌, ◌≢◌, ◌⊎◌, ℕ, ℤ, pos, int_lt, List, [], ◌∷◌, ◌++◌, map, filter, Bool, true, false, not, Option, Some, None, Result, Ok, Err, Contains, IsPermutation, slice_get}
 use Rattle.std.specs.FinMap as map_of
 use Rattle.std.specs.FinSet as set
 use Rattle.gix_parts.specs.declared.hash.Kind.{Kind}
@@ -7,7 +7,6 @@ use Rattle.gix_parts.specs.declared.hash.Kind.TheVariants as id_kind
 use Rattle.gix_parts.specs.declared.hash.ObjectId.{ObjectId}
 use Rattle.gix_parts.specs.declared.object.Kind.TheVariants as object
 use Rattle.gix_parts.specs.declared.object.decode.Error.{Error as DecodeError}
-use Rattle.gix_parts.specs.declared.object.decode.Error.TheVariants as fault
 use Rattle.gix_parts.specs.declared.object.find.existing_iter.Error.{Error as ExistingError}
 use Rattle.gix_parts.specs.declared.object.find.existing_iter.Error.TheVariants as existing
 use Rattle.gix_parts.specs.declared.graph.ParentPlace.{ParentPlace}
@@ -23,14 +22,14 @@ use Rattle.gix_traverse.specs.declared.commit.Info.{Info}
 use Rattle.gix_traverse.specs.declared.commit.simple.CommitTimeOrder.{CommitTimeOrder}
 use Rattle.gix_traverse.specs.declared.commit.simple.Sorting.{Sorting}
 use Rattle.gix_traverse.specs.declared.commit.simple.Sorting.TheVariants as sorting
-use Rattle.gix_traverse.specs.declared.commit.simple.Pending.{Pending}
+use Rattle.gix_traverse.specs.declared.commit.simple.pending.Pending.{Pending}
+use Rattle.gix_traverse.specs.declared.commit.simple.step.Stop.{Stop}
+use Rattle.gix_traverse.specs.declared.commit.simple.step.Stop.TheVariants as stop
 use Rattle.gix_traverse.specs.declared.commit.simple.Error.{Error}
 use Rattle.gix_traverse.specs.declared.commit.simple.Error.TheVariants as error
 use Rattle.gix_traverse.specs.declared.commit.simple.Hidden.{Hidden}
-use Rattle.gix_traverse.specs.declared.commit.simple.Hidden.TheVariants as hidden_by
-use Rattle.gix_traverse.specs.Agreeing.{IsAgreeing}
-use Rattle.gix_traverse.specs.Reach.{Reaches}
-use Rattle.gix_traverse.specs.History.{by_mode, time_of, parents_of, commit_at}
+use Rattle.gix_traverse.specs.History.{by_mode, time_of}
+use Rattle.gix_traverse.specs.Painting.{Paints, IsHiddenFault}
 use Rattle.gix_traverse.specs.TimeOrder.{IsNoWorse}
 
 -- what a simple walk holds
@@ -51,14 +50,9 @@ pub record SimpleWalk (F P : Type 0) : Type 0 where
   pub text : List ℕ
   pub text_kind : Kind
 
--- a walk over all parents, breadth first, without rows and hidden tips
-abbrev pub plain : {F P : Type 0} → F → P → List Pending → set.FinSet id_cmp → List ℕ → Kind → SimpleWalk F P
-plain store predicate pending seen text text_kind =
-    record { store = store; predicate = predicate; rows = []; parents = mode.All; sorting = sorting.BreadthFirst; pending = pending; seen = seen; remembered = set.empty; hidden_tips = []; hidden = set.empty; text = text; text_kind = text_kind }
-
--- a walk before its tips
+-- a walk before its tips: over all parents, breadth first, without rows and hidden tips
 abbrev pub bare : {F P : Type 0} → F → P → SimpleWalk F P
-bare store predicate = plain store predicate [] set.empty [] id_kind.Sha1
+bare store predicate = record { store = store; predicate = predicate; rows = []; parents = mode.All; sorting = sorting.BreadthFirst; pending = []; seen = set.empty; remembered = set.empty; hidden_tips = []; hidden = set.empty; text = []; text_kind = id_kind.Sha1 }
 
 -- the order by time that is in force, and its cutoff
 abbrev pub time_order : Parents → Sorting → Option CommitTimeOrder
@@ -114,16 +108,17 @@ pub data Treated : Type 0 where
   StoreFails : Treated
   NoMemory : Treated
 
-abbrev pub how_ended : {E : Type 0} → Result (Unit {0}) E → Treated
+abbrev pub how_ended : Result (Unit {0}) Stop → Treated
 how_ended (Ok done) = GoesOn
-how_ended (Err e) = NoMemory
+how_ended (Err stop.Store) = StoreFails
+how_ended (Err stop.Memory) = NoMemory
 
--- what is left of a walk after a fault: no text, and for want of memory no pending commit
-abbrev pub failed : {F P : Type 0} → Error → SimpleWalk F P → SimpleWalk F P
-failed error.Memory walk = record walk { text = []; pending = [] }
-failed (error.Find e) walk = record walk { text = [] }
-failed (error.ObjectDecode e) walk = record walk { text = [] }
-failed (error.HiddenGraph e) walk = record walk { text = [] }
+-- what is left of a walk after a fault in the place of a commit: no text, and for want of memory no pending commit
+abbrev pub failed : {F P : Type 0} → ObjectId → Error → SimpleWalk F P → SimpleWalk F P
+failed id error.Memory walk = record walk { text = []; text_kind = kind_of id; pending = [] }
+failed id (error.Find e) walk = record walk { text = []; text_kind = kind_of id }
+failed id (error.ObjectDecode e) walk = record walk { text = []; text_kind = kind_of id }
+failed id (error.HiddenGraph e) walk = record walk { text = []; text_kind = kind_of id }
 
 -- the pending commits are these: in this order, or in any where one by time is in force
 abbrev pub Holds : Option CommitTimeOrder → List Pending → List Pending → Type 0
@@ -153,26 +148,6 @@ rows_if rows (Some ids) = rows
 abbrev pub kept_rows : List GraphRow → Option GraphRow → List GraphRow
 kept_rows rows None = rows
 kept_rows rows (Some row) = rows_if rows (ids_at rows row.parents)
-
--- the fault that keeps a committer from being read: the first among the items, or that none is there
-abbrev pub committer_fault : List (Result Item DecodeError) → Option DecodeError
-committer_fault [] = Some fault.Missing
-committer_fault (Err e ∷ items) = Some e
-committer_fault (Ok (Tree i) ∷ items) = committer_fault items
-committer_fault (Ok (Parent i) ∷ items) = committer_fault items
-committer_fault (Ok (Author line) ∷ items) = committer_fault items
-committer_fault (Ok (Committer signature) ∷ items) = None
-committer_fault (Ok (Rest bytes) ∷ items) = committer_fault items
-
--- a fault in the history of some ids
-abbrev pub IsHiddenFault : Objects → (ObjectId → Type 0) → List ObjectId → Hidden → Type 0
-IsHiddenFault objects faulty ids (hidden_by.Find e) = (i : ObjectId) × Reaches (parents_of objects) ids i × IsExistingFault objects faulty i object.Commit e
-IsHiddenFault objects faulty ids (hidden_by.ObjectDecode e) = (i : ObjectId) × Reaches (parents_of objects) ids i × (bytes : List ℕ) × (map_of.get objects i ≡ Some (record { kind = object.Commit; bytes = bytes })) × (committer_fault (commit_items (kind_of i) bytes) ≡ Some e)
-
--- a pending tip, or a parent of a commit that these reach outside what is hidden
-abbrev pub IsAtBoundary : (ObjectId → List ObjectId) → List ObjectId → List ObjectId → ObjectId → Type 0
-IsAtBoundary parents tips hidden_tips i =
-    Contains tips i ⊎ ((c : ObjectId) × Reaches parents tips c × (Reaches parents hidden_tips c → ⊥) × Contains (parents c) i)
 
 abbrev pub unrowed : {F P : Type 0} → SimpleWalk F P → ObjectId → SimpleWalk F P
 unrowed walk i = record walk { rows = kept_rows walk.rows (row_of walk.rows i) }
@@ -222,7 +197,7 @@ module _ {F P : Type 0} (objects : F → Objects) (faulty : F → ObjectId → T
     accepted : {predicate : P} {time : ℤ} {pending : List Pending} → IsNew old i → Asks old i true predicate → ReadsTime old by_row i (Ok time) → Enqueues (time_order old.parents old.sorting) (cutoff old.parents old.sorting) old.pending i time pending → Treats old by_row i GoesOn (asked old i predicate pending)
     store_fails : {predicate : P} → IsNew old i → Asks old i true predicate → ReadsTime old by_row i (Err StoreFails) → Treats old by_row i StoreFails (asked old i predicate old.pending)
     no_memory : Treats old by_row i NoMemory old
-    no_memory_after : {answer : Bool} {predicate : P} → IsNew old i → Asks old i answer predicate → Treats old by_row i NoMemory (asked old i predicate old.pending)
+    no_memory_after : {answer : Bool} {predicate : P} {pending : List Pending} → IsNew old i → Asks old i answer predicate → (pending ≡ old.pending) ⊎ (pending ≡ []) → Treats old by_row i NoMemory (asked old i predicate pending)
 
   -- the parents of a commit are treated in order, up to the first that fails
   pub data TreatsAll (by_row : Bool) : SimpleWalk F P → List ObjectId → Treated → SimpleWalk F P → Type 0 where
@@ -246,7 +221,7 @@ module _ {F P : Type 0} (objects : F → Objects) (faulty : F → ObjectId → T
     by_row : {row : GraphRow} {ids : List ObjectId} {how : Treated} {answer : Result Info Error} {walk new : SimpleWalk F P} → row_of old.rows taken.id ≡ Some row → ids_at old.rows row.parents ≡ Some ids → TreatsAll true old (by_mode old.parents ids) how walk → Concludes taken.id (by_mode old.parents ids) (Some row.generation) (given_time old taken) [] None walk how answer new → Takes old taken answer new
     by_store : {bytes : List ℕ} {how : Treated} {answer : Result Info Error} {walk new : SimpleWalk F P} → IsUnrowed old.rows taken.id → map_of.get (objects old.store) taken.id ≡ Some (record { kind = object.Commit; bytes = bytes }) → TreatsAll false (unrowed old taken.id) (scanned old.parents (commit_items (kind_of taken.id) bytes)).0 how walk → Concludes taken.id (scanned old.parents (commit_items (kind_of taken.id) bytes)).0 None (given_time old taken) bytes (scanned old.parents (commit_items (kind_of taken.id) bytes)).1 walk how answer new → Takes old taken answer new
     not_found : {e : ExistingError} → IsUnrowed old.rows taken.id → IsExistingFault (objects old.store) (faulty old.store) taken.id object.Commit e → Takes old taken (Err (error.Find e)) (record (unrowed old taken.id) { text = []; text_kind = kind_of taken.id })
-    no_memory : Takes old taken (Err error.Memory) (record (unrowed old taken.id) { text = []; text_kind = kind_of taken.id; pending = [] })
+    no_memory : {rows : List GraphRow} → (rows ≡ old.rows) ⊎ (rows ≡ kept_rows old.rows (row_of old.rows taken.id)) → Takes old taken (Err error.Memory) (record old { rows = rows; text = []; text_kind = kind_of taken.id; pending = [] })
 
   -- the pending commit whose turn it is, and the others
   pub data Chooses (old : SimpleWalk F P) (taken : Pending) (others : List Pending) : Type 0 where
@@ -256,17 +231,8 @@ module _ {F P : Type 0} (objects : F → Objects) (faulty : F → ObjectId → T
   -- one step of a walk whose hidden tips are painted
   pub data Steps (old : SimpleWalk F P) : Option (Result Info Error) → SimpleWalk F P → Type 0 where
     ended : old.pending ≡ [] → Steps old None old
+    no_memory : old.pending ≢ [] → Steps old (Some (Err error.Memory)) (record old { text = []; pending = [] })
     took : {taken : Pending} {others : List Pending} {answer : Result Info Error} {new : SimpleWalk F P} → Chooses old taken others → Takes (record old { pending = others }) taken answer new → Steps old (Some answer) new
-
-  -- which ids a painting marks, and which rows it leaves
-  pub record Paints (old : SimpleWalk F P) (marks : set.FinSet id_cmp) (rows : List GraphRow) : Type 0 where
-    pub rows_left : (rows ≡ old.rows) ⊎ (rows ≡ [])
-    -- only what hidden tips reach
-    pub sound : IsAgreeing (objects old.store) (faulty old.store) old.rows → (i : ObjectId) → set.contains marks i ≡ true → Reaches (parents_of (objects old.store)) old.hidden_tips i
-    -- each pending tip, and each parent of a commit that these reach outside what is hidden
-    pub whole : IsAgreeing (objects old.store) (faulty old.store) old.rows → (i : ObjectId) → IsAtBoundary (parents_of (objects old.store)) (ids_of old.pending) old.hidden_tips i → Reaches (parents_of (objects old.store)) old.hidden_tips i → set.contains marks i ≡ true
-    -- without rows all of it was read
-    pub read : old.rows ≡ [] → (i : ObjectId) → Reaches (parents_of (objects old.store)) (ids_of old.pending ++ old.hidden_tips) i → IsSome (commit_at (objects old.store) i)
 
   -- what painting leaves of a walk
   abbrev pub painted : SimpleWalk F P → set.FinSet id_cmp → List GraphRow → SimpleWalk F P
@@ -275,8 +241,8 @@ module _ {F P : Type 0} (objects : F → Objects) (faulty : F → ObjectId → T
   -- one call of `next`
   pub data Next (old : SimpleWalk F P) : Option (Result Info Error) → SimpleWalk F P → Type 0 where
     unhidden : {answer : Option (Result Info Error)} {new : SimpleWalk F P} → (old.pending ≡ []) ⊎ (old.hidden_tips ≡ []) → Steps (record old { hidden_tips = [] }) answer new → Next old answer new
-    paints : {marks : set.FinSet id_cmp} {rows : List GraphRow} {answer : Option (Result Info Error)} {new : SimpleWalk F P} → old.pending ≢ [] → old.hidden_tips ≢ [] → Paints old marks rows → Steps (painted old marks rows) answer new → Next old answer new
-    faulty_history : {why : Hidden} {rows : List GraphRow} → old.pending ≢ [] → old.hidden_tips ≢ [] → (rows ≡ old.rows) ⊎ (rows ≡ []) → IsHiddenFault (objects old.store) (faulty old.store) (ids_of old.pending ++ old.hidden_tips) why → Next old (Some (Err (error.HiddenGraph why))) (record old { rows = rows; hidden_tips = []; pending = []; text = [] })
+    paints : {marks : set.FinSet id_cmp} {rows : List GraphRow} {answer : Option (Result Info Error)} {new : SimpleWalk F P} → old.pending ≢ [] → old.hidden_tips ≢ [] → Paints (objects old.store) (faulty old.store) old.rows (ids_of old.pending) old.hidden_tips marks rows → Steps (painted old marks rows) answer new → Next old answer new
+    faulty_history : {why : Hidden} {rows : List GraphRow} → old.pending ≢ [] → old.hidden_tips ≢ [] → (rows ≡ old.rows) ⊎ (rows ≡ []) → IsHiddenFault (objects old.store) (faulty old.store) old.rows (ids_of old.pending ++ old.hidden_tips) why → Next old (Some (Err (error.HiddenGraph why))) (record old { rows = rows; hidden_tips = []; pending = []; text = [] })
     no_memory : {rows : List GraphRow} → old.pending ≢ [] → old.hidden_tips ≢ [] → (rows ≡ old.rows) ⊎ (rows ≡ []) → Next old (Some (Err error.Memory)) (record old { rows = rows; hidden_tips = []; pending = []; text = [] })
 
   -- these answers, and no more, may be drawn from a walk

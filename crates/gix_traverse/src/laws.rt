@@ -14,7 +14,8 @@ ghost use Rattle.gix_traverse.specs.TimeOrder.{IsTimeOrder};
 ghost use Rattle.gix_traverse.specs.Reach.{Reaches, Tells};
 ghost use Rattle.gix_traverse.specs.History.{ReadsWhole, parents_of, time_of};
 ghost use Rattle.gix_traverse.specs.SimpleWalk.{SimpleWalk, May, IsMade, ids_of, time_order, cutoff};
-ghost use Rattle.gix_traverse.specs.SimpleLaws.{IsWholeRun, IsPlainRun, IsPlain, IsGiven, GivesInOrder, AreDistinct, AnswersBy, IsNewWalk, IsNoRefusal, GivesBreadthFirst, new_ids, accepted_parents, recent_parents, next_of, starts_of, answers_left, given_ids};
+ghost use Rattle.gix_traverse.specs.SimpleBuilding.{IsBuilt};
+ghost use Rattle.gix_traverse.specs.SimpleLaws.{IsFresh, IsWholeRun, IsPlainRun, IsPlain, IsGiven, GivesInOrder, AreDistinct, AnswersBy, IsNewWalk, IsNoRefusal, GivesBreadthFirst, new_ids, accepted_parents, recent_parents, next_of, starts_of, answers_left, given_ids};
 
 use crate::commit::{Parents, Predicate};
 use gix_parts::object::find::Find;
@@ -22,6 +23,12 @@ use gix_parts::object::find::Find;
 /// A walk that was just made: the accepted tips are pending, each at its first place, and nothing else is.
 pub fn simple_is_made<F: Find, P: Predicate>()
     ensures { (store : F) (predicate : P) (accepts : ObjectId → Bool) (tips : List ObjectId) (walk : SimpleWalk F P) → AnswersBy P.answers predicate accepts → IsMade F.objects F.faulty P.answers store predicate tips walk → IsNewWalk F.objects P.answers store accepts tips walk }
+{}
+
+/// Whatever calls choose its order, as often and in whatever turn, before its first step a walk is fresh: each pending commit is
+/// pending once, was accepted, and has its own time where an order by time is in force.
+pub fn simple_is_built<F: Find, P: Predicate>()
+    ensures { (store : F) (predicate : P) (accepts : ObjectId → Bool) (tips : List ObjectId) (walk : SimpleWalk F P) → AnswersBy P.answers predicate accepts → IsBuilt F.objects F.faulty P.answers store predicate tips walk → IsFresh F.objects walk accepts × AnswersBy P.answers walk.predicate accepts × (walk.store ≡ store) }
 {}
 
 /// A walk made of some tips and drawn to its end, where memory and the store don't fail, all that is met reads whole and the

@@ -8,13 +8,15 @@ use Rattle.gix_parts.specs.declared.object.find.existing_iter.Error.{Error as Ex
 use Rattle.gix_parts.specs.declared.object.find.existing_iter.Error.TheVariants as existing
 use Rattle.gix_parts.specs.Find.{IsExistingFault}
 use Rattle.gix_parts.specs.Object.{Objects}
+use Rattle.gix_parts.specs.Rows.{GraphRow}
 use Rattle.gix_traverse.specs.declared.commit.Info.{Info}
 use Rattle.gix_traverse.specs.declared.commit.simple.Error.{Error}
 use Rattle.gix_traverse.specs.declared.commit.simple.Error.TheVariants as error
 use Rattle.gix_traverse.specs.declared.commit.simple.Hidden.{Hidden}
 use Rattle.gix_traverse.specs.declared.commit.simple.Hidden.TheVariants as hidden_by
-use Rattle.gix_traverse.specs.declared.commit.simple.Pending.{Pending}
-use Rattle.gix_traverse.specs.SimpleWalk.{Treated, GoesOn, StoreFails, NoMemory, ReadsTime, unasked, from_row, from_store, store_fails, Treats, hidden, known, refused, accepted, no_memory, no_memory_after, TreatsAll, none, more, stops, Concludes, given, broken, Takes, by_row, by_store, not_found, Steps, ended, took, unhidden, paints, faulty_history, IsHiddenFault}
+use Rattle.gix_traverse.specs.declared.commit.simple.pending.Pending.{Pending}
+use Rattle.gix_traverse.specs.SimpleWalk.{Treated, GoesOn, StoreFails, NoMemory, ReadsTime, unasked, from_row, from_store, store_fails, Treats, hidden, known, refused, accepted, no_memory, no_memory_after, TreatsAll, none, more, stops, Concludes, given, broken, Takes, by_row, by_store, not_found, Steps, ended, took, unhidden, paints, faulty_history}
+use Rattle.gix_traverse.specs.Painting.{IsHiddenFault}
 use Rattle.gix_walk.specs.declared.fault.Fault.TheVariants as fault
 use Rattle.gix_walk.specs.Faults.{fault_of_find, fault_of_walk}
 use Rattle.gix_walk.specs.Walked.{Walk, Answers, objects_of, never_faulty, accepts_all}
@@ -77,13 +79,13 @@ steps_sound : {old : Walk} {answer : Option (Result Info Error)} {new : Walk} �
 steps_sound (ended e) = tt
 steps_sound (took c t) = takes_sound t
 
-history_sound : (objects : Objects) (ids : List ObjectId) (why : Hidden) → IsHiddenFault objects (never_faulty objects) ids why → fault_of_walk (error.HiddenGraph why) ≢ fault.Internal
-history_sound objects ids (hidden_by.Find e) h = find_sound objects h.0 object.Commit e h.2
-history_sound objects ids (hidden_by.ObjectDecode e) h = λ e. cc
+history_sound : (objects : Objects) (rows : List GraphRow) (ids : List ObjectId) (why : Hidden) → IsHiddenFault objects (never_faulty objects) rows ids why → fault_of_walk (error.HiddenGraph why) ≢ fault.Internal
+history_sound objects rows ids (hidden_by.Find e) h = find_sound objects h.0 object.Commit e h.2
+history_sound objects rows ids (hidden_by.ObjectDecode e) h = λ e. cc
 
 -- no answer of a walk tells of a failing store
 pub next_sound : {old : Walk} {answer : Option (Result Info Error)} {new : Walk} → Answers old answer new → IsSound answer
 next_sound (unhidden h s) = steps_sound s
 next_sound (paints p t m s) = steps_sound s
-next_sound {old} (faulty_history {why = why} p t r f) = history_sound old.store _ why f
+next_sound {old} (faulty_history {why = why} p t r f) = history_sound old.store old.rows _ why f
 next_sound (no_memory p t r) = λ e. cc

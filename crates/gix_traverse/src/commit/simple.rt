@@ -1,22 +1,34 @@
 //! Walks in the order of parent links.
-ghost use Rattle.std.specs.Prelude.{◌≡◌, ◌≤◌, false, List, IfOk, IsOk, length};
+ghost use Rattle.std.specs.Prelude.{◌≡◌, ◌≢◌, List, Ok, IfOk, IfErr};
 ghost use Rattle.std.specs.Iterator.{at_most, IsFinite, Drains};
 ghost use Rattle.gix_parts.specs.declared.hash.ObjectId.{ObjectId};
 ghost use Rattle.gix_parts.specs.CommitItems.{commit_items};
 ghost use Rattle.gix_parts.specs.CommitRefIter.{commit_items_left};
-ghost use Rattle.gix_traverse.specs.SimpleWalk.{scanned, how_ended, failed, IsMade, Treats, TreatsAll, Takes, Next};
+ghost use Rattle.gix_traverse.specs.declared.commit.simple.Sorting.TheVariants as by;
+ghost use Rattle.gix_traverse.specs.declared.commit.simple.Error.TheVariants as error;
+ghost use Rattle.gix_traverse.specs.SimpleWalk.{IsMade, Next};
+ghost use Rattle.gix_traverse.specs.SimpleBuilding.{IsSortedByTime, FailsAtTip};
+ghost use Rattle.gix_traverse.specs.SimpleSteps.{rows_of};
 ghost use Rattle.gix_traverse.specs.SimpleLaws.{answers_left};
 
-use crate::commit::{Info, ParentIds, Parents, Predicate, Unfiltered};
+mod hide;
+mod paint;
+mod pending;
+mod step;
+mod tips;
+
+use crate::commit::{Info, Parents, Predicate, Unfiltered};
+use gix_parts::graph::Graph;
 use gix_parts::hash::{Kind, ObjectId};
 use gix_parts::hashtable::IdSet;
-use gix_parts::object;
-use gix_parts::object::commit::{CommitRefIter, Token};
+use gix_parts::object::commit::CommitRefIter;
 use gix_parts::object::decode;
 use gix_parts::object::find::{Find, existing_iter};
+use paint::HiddenIds;
+use pending::PendingQueue;
 use std::alloc::{AllocError, Global};
-use std::collections::VecDeque;
 use std::marker::Model;
+use step::cutoff_of;
 use thiserror::Error;
 
 /// Which of two times comes first.
@@ -116,45 +128,6 @@ impl From<AllocError> for Error {
     }
 }
 
-// A pending commit, with the time by which it is taken (0 where none was read).
-#[derive(Clone, Copy, PartialEq, Eq, Debug)]
-struct Pending {
-    id: ObjectId,
-    time: i64,
-}
-
-// The parents that a commit's items name, up to the first item behind them, and the fault that ended the reading.
-#[derive(Drop)]
-struct Scanned {
-    parent_ids: ParentIds,
-    fault: Option<decode::Error>,
-}
-
-// Lists of at most one parent take no memory.
-fn scan(alloc: Global, mut items: CommitRefIter<'_>) -> Result<Scanned, AllocError>
-    ensures ok { IfOk result (λ s. (s.parent_ids.items, s.fault) ≡ scanned Parents.All (commit_items_left items.entry)) }
-    ensures succeeds { length (scanned Parents.All (commit_items_left items.entry)).0 ≤ 1 → IsOk result }
-{
-    let mut parent_ids = ParentIds::new(alloc);
-    while let Some(item) = items.next() {
-        match item {
-            Ok(Token::Tree { .. }) => {}
-            Ok(Token::Parent { id }) => parent_ids.push(id)?,
-            Ok(Token::Author { .. } | Token::Committer { .. } | Token::Rest { .. }) => break,
-            Err(fault) => {
-                return Ok(Scanned {
-                    parent_ids,
-                    fault: Some(fault),
-                });
-            }
-        }
-    }
-    Ok(Scanned {
-        parent_ids,
-        fault: None,
-    })
-}
-
 /// A walk over the commits that some tips reach.
 ///
 /// It is an iterator of commits, each once. The commit that was met first comes first. A commit that can't be looked up or
@@ -163,23 +136,35 @@ fn scan(alloc: Global, mut items: CommitRefIter<'_>) -> Result<Scanned, AllocErr
 pub struct Simple<F, P> {
     find: F,
     predicate: P,
-    pending: VecDeque<Pending>,
+    graph: Option<Graph>,
+    parents: Parents,
+    sorting: Sorting,
+    pending: PendingQueue,
     seen: IdSet,
+    // Accepted tips that a cutoff took out and no parent list has named since.
+    remembered: IdSet,
+    // To be hidden, with all that they reach, by the first step.
+    hidden_tips: Vec<ObjectId>,
+    hidden: HiddenIds,
+    // The text of the commit last given.
     text: Vec<u8>,
     text_kind: Kind,
+    // Where a parent is read for its time.
+    buf: Vec<u8>,
     alloc: Global,
 }
 
 impl<F, P> Model for Simple<F, P> {
     ghost use Rattle.std.specs.Coded.{codes};
     ghost use Rattle.gix_parts.specs.Id.{id_set_code};
-    ghost use Rattle.gix_traverse.specs.SimpleWalk.{SimpleWalk, plain};
+    ghost use Rattle.gix_traverse.specs.SimpleWalk.{SimpleWalk};
+    ghost use Rattle.gix_traverse.specs.SimpleSteps.{rows_of};
 
     ghost Value = { SimpleWalk F P };
 
     ghost coded = { Prim.hlevel (codes, id_set_code) };
 
-    ghost view = { λ w. plain w.find w.predicate w.pending.items w.seen w.text.items w.text_kind };
+    ghost view = { λ w. record { store = w.find; predicate = w.predicate; rows = rows_of w.graph; parents = w.parents; sorting = w.sorting; pending = w.pending; seen = w.seen; remembered = w.remembered; hidden_tips = w.hidden_tips.items; hidden = w.hidden; text = w.text.items; text_kind = w.text_kind } };
 }
 
 impl<F: Find + Drop> Simple<F, Unfiltered> {
@@ -217,16 +202,80 @@ impl<F: Find + Drop, P: Predicate + Drop> Simple<F, P> {
         let mut walk = Simple {
             find,
             predicate,
-            pending: VecDeque::new(alloc),
+            graph: None,
+            parents: Parents::All,
+            sorting: Sorting::BreadthFirst,
+            pending: PendingQueue::new(alloc),
             seen: IdSet::new(alloc),
+            remembered: IdSet::new(alloc),
+            hidden_tips: Vec::new(alloc),
+            hidden: HiddenIds::new(alloc),
             text: Vec::new(alloc),
             text_kind: Kind::Sha1,
+            buf: Vec::new(alloc),
             alloc,
         };
         for tip in tips {
-            walk.treat(tip)?;
+            // Breadth first no time is read, so memory alone can be wanting.
+            let Ok(()) = walk.treat(false, tip) else {
+                return Err(AllocError);
+            };
         }
         Ok(walk)
+    }
+
+    /// The order of the walk, in place of an earlier one. By time, each pending tip is read from the store for its time, and a
+    /// cutoff takes out those that are older: only if a parent list names such a tip again it may come back.
+    ///
+    /// `Find` and `ObjectDecode` name the first tip, in the order given, that can't be read.
+    pub fn sorting(mut self, sorting: Sorting) -> Result<Self, Error>
+        ensures breadth_first { sorting ≡ by.BreadthFirst → result ≡ Ok (record self { sorting = sorting }) }
+        ensures ok { sorting ≢ by.BreadthFirst → IfOk result (IsSortedByTime F.objects self sorting) }
+        ensures err { IfErr result (λ e. e ≢ error.Memory → FailsAtTip (F.objects self.store) (F.faulty self.store) self.pending e) }
+    {
+        self.sorting = sorting;
+        if sorting == Sorting::BreadthFirst {
+            return Ok(self);
+        }
+        let tips = self.pending.take_list()?;
+        self.sort_tips(tips, cutoff_of(Parents::All, sorting))?;
+        Ok(self)
+    }
+
+    /// Hides all that these tips reach, by any parent and whatever the predicate says, in place of tips given earlier. The first
+    /// step reads it; where it can't, that step gives `HiddenGraph`, and then nothing. `Memory` is the one error of this call.
+    pub fn hide<T: IntoIterator<Item = ObjectId>>(mut self, tips: T) -> Result<Self, Error>
+    where
+        T::IntoIter: Drop,
+        requires { (it : T.IntoIter) → T.into_iter_gives tips it → T.IntoIter.can_next it × IsFinite (T.IntoIter.remaining it) }
+        ensures ok { IfOk result (λ walk. (it : T.IntoIter) × (ids : List ObjectId) × T.into_iter_gives tips it × Drains T.IntoIter.next_gives it ids × (walk ≡ record self { hidden_tips = ids })) }
+        ensures err { IfErr result (λ e. e ≡ error.Memory) }
+    {
+        let mut hidden_tips = Vec::new(self.alloc);
+        for tip in tips {
+            let Ok(()) = hidden_tips.push(tip) else {
+                return Err(Error::Memory);
+            };
+        }
+        self.hidden_tips = hidden_tips;
+        Ok(self)
+    }
+
+    /// Which parents are walked, in place of an earlier choice. Under `First` the walk is breadth first whatever its sorting.
+    pub fn parents(mut self, parents: Parents) -> Self
+        ensures { result ≡ record self { parents = parents } }
+    {
+        self.parents = parents;
+        self
+    }
+
+    /// A commit-graph to read commits from, in place of an earlier one. A commit without a row is read from the store. The first
+    /// corrupt row drops the graph.
+    pub fn commit_graph(mut self, graph: Option<Graph>) -> Self
+        ensures { result ≡ record self { rows = rows_of graph } }
+    {
+        self.graph = graph;
+        self
     }
 
     /// The text of the commit last given. It is empty before the first commit and after a fault, and stays after the end.
@@ -242,77 +291,6 @@ impl<F: Find + Drop, P: Predicate + Drop> Simple<F, P> {
     {
         CommitRefIter::from_bytes(self.commit_data(), self.text_kind)
     }
-
-    // An id that a tip or a parent list names: where it is new, the predicate is asked, and where that accepts, it is pending.
-    fn treat(&mut self, id: ObjectId) -> Result<(), AllocError>
-        requires { P.can_accept self.old.predicate }
-        ensures treats { Treats F.objects F.faulty P.answers self.old false id (how_ended result) self.new }
-        ensures asks { P.can_accept self.new.predicate }
-    {
-        if !self.seen.insert(id)? {
-            return Ok(());
-        }
-        if self.predicate.accepts(&id) {
-            self.pending.push_back(Pending { id, time: 0 })?;
-        }
-        Ok(())
-    }
-
-    fn treat_all(&mut self, mut ids: &[ObjectId]) -> Result<(), AllocError>
-        requires { P.can_accept self.old.predicate }
-        ensures treats { TreatsAll F.objects F.faulty P.answers false self.old ids.entry.now (how_ended result) self.new }
-        ensures asks { P.can_accept self.new.predicate }
-    {
-        while let Some((id, rest)) = ids.split_first() {
-            self.treat(*id)?;
-            ids = rest;
-        }
-        Ok(())
-    }
-
-    // What is left of the walk after a fault: no text, and for want of memory no pending commit.
-    fn fail(&mut self, error: Error) -> Error
-        ensures same { result ≡ error }
-        ensures left { self.new ≡ failed error self.old }
-    {
-        self.text.clear();
-        if matches!(error, Error::Memory) {
-            self.pending.clear();
-        }
-        error
-    }
-
-    // Reads the commit, and gives it.
-    fn take(&mut self, taken: Pending) -> Result<Info, Error>
-        requires { P.can_accept self.old.predicate }
-        ensures takes { Takes F.objects F.faulty P.answers self.old taken result self.new }
-        ensures asks { P.can_accept self.new.predicate }
-    {
-        let id = taken.id;
-        self.text_kind = id.kind();
-        if let Err(fault) = self
-            .find
-            .find_kind_into(&id, object::Kind::Commit, &mut self.text)
-        {
-            return Err(self.fail(Error::from(fault)));
-        }
-        let items = CommitRefIter::from_bytes(&self.text, self.text_kind);
-        let Ok(scanned) = scan(self.alloc, items) else {
-            return Err(self.fail(Error::Memory));
-        };
-        let Ok(()) = self.treat_all(scanned.parent_ids.as_slice()) else {
-            return Err(self.fail(Error::Memory));
-        };
-        if let Some(fault) = scanned.fault {
-            return Err(self.fail(Error::ObjectDecode(fault)));
-        }
-        Ok(Info {
-            id,
-            parent_ids: scanned.parent_ids,
-            generation: None,
-            commit_time: None,
-        })
-    }
 }
 
 impl<F: Find + Drop, P: Predicate + Drop> Iterator for Simple<F, P> {
@@ -325,9 +303,9 @@ impl<F: Find + Drop, P: Predicate + Drop> Iterator for Simple<F, P> {
     ghost remaining = { λ walk. at_most (answers_left F.objects walk) };
 
     fn next(&mut self) -> Option<Result<Info, Error>> {
-        let Some(taken) = self.pending.pop_front() else {
-            return None;
-        };
-        Some(self.take(taken))
+        if let Err(error) = self.hide_painted() {
+            return Some(Err(error));
+        }
+        self.step()
     }
 }

@@ -1,33 +1,39 @@
-use Rattle.std.proofs.Common.{refl, ◌≡◌, Bool, true, false, not}
-use Rattle.gix_traverse.proofs.PlainWalk.{ended_badly, plain_known, plain_refused, plain_accepted, plain_stopped, plain_unmoved}
+use Rattle.std.proofs.Common.{◌≡◌, Err, subst, SFits, rules, w64}
+use Rattle.std.proofs.lemmas.Int.{to_z-of_z}
+use Rattle.gix_traverse.specs.declared.commit.simple.step.Stop.{Stop}
+use Rattle.gix_traverse.specs.declared.commit.simple.step.Stop.TheVariants as stop
+use Rattle.gix_traverse.specs.SimpleWalk.{Asks, Treats, how_ended}
+use Rattle.gix_traverse.specs.SimpleSteps.{TimeIs}
+use Rattle.gix_traverse.proofs.TreatSteps.{met_new, treats_met, treats_unmet, treats_refused, treats_time_fails, treats_accepted, treats_stopped}
 use Rattle.gix_traverse.proofs.commit.simple.Simple.treat.Goals as goal
 
-was_there : (added there : Bool) → added ≡ not there → added ≡ false → there ≡ true
-was_there added true e f = refl
-was_there added false e f = cc
+pub returns-in-Err-clause-treats : goal.returns-in-Err-clause-treats
+returns-in-Err-clause-treats g c = treats_unmet g.F.Find.objects g.F.Find.faulty g.P.Predicate.answers c.args.by_row c.args.id _ _ c.in-Err.ensures
 
-was_new : (added there : Bool) → added ≡ not there → added ≡ true → there ≡ false
-was_new added true e f = cc
-was_new added false e f = refl
+pub returns-then-not-is_new-clause-treats : goal.returns-then-not-is_new-clause-treats
+returns-then-not-is_new-clause-treats g c = treats_met g.F.Find.objects g.F.Find.faulty g.P.Predicate.answers c.args.by_row c.args.id _ _ (Rattle.std.specs.contracts.alloc.AllocError.the_row).Denot c.in-Ok.is_new c.in-Ok.ensures c.if-not-is_new.true
 
-pub returns-in_err-insert-clause-treats : goal.returns-in_err-insert-clause-treats
-returns-in_err-insert-clause-treats g c =
-    rw (ended_badly c.from_residual.result c.from_residual.ensures.0)
-    (plain_unmoved g.F.Find.objects g.F.Find.faulty g.P.Predicate.answers _ _ _ _ _ _ _ c.self.view_is _ _ c.in_err-insert.ensures.err)
+pub returns-then-not-ask-clause-treats : goal.returns-then-not-ask-clause-treats
+returns-then-not-ask-clause-treats g c =
+    let n = met_new g.F.Find.objects g.F.Find.faulty g.P.Predicate.answers c.args.by_row c.args.id c.args.self.now c.meet.new.self (Rattle.std.specs.contracts.alloc.AllocError.the_row).Denot c.in-Ok.is_new c.in-Ok.ensures c.if-not-is_new.false in
+    treats_refused g.F.Find.objects g.F.Find.faulty g.P.Predicate.answers c.args.by_row c.args.id _ _ n.1 n.0 _ _ c.ask.ensures.rest (subst (λ b. Asks g.F.Find.objects g.F.Find.faulty g.P.Predicate.answers c.meet.new.self c.args.id b c.ask.new.self.predicate) c.if-not-ask.true c.ask.ensures.asks)
 
-pub returns-then-not-branch-clause-treats : goal.returns-then-not-branch-clause-treats
-returns-then-not-branch-clause-treats g c =
-    plain_known g.F.Find.objects g.F.Find.faulty g.P.Predicate.answers _ _ _ _ _ _ _ c.self.view_is _ _ (was_there _ _ c.in_ok-insert.ensures.added c.if-not-branch.true) c.in_ok-insert.ensures.ok
+pub returns-in-Err-parent_time-clause-treats : goal.returns-in-Err-parent_time-clause-treats
+returns-in-Err-parent_time-clause-treats g c =
+    let n = met_new g.F.Find.objects g.F.Find.faulty g.P.Predicate.answers c.args.by_row c.args.id c.args.self.now c.meet.new.self (Rattle.std.specs.contracts.alloc.AllocError.the_row).Denot c.in-Ok.is_new c.in-Ok.ensures c.if-not-is_new.false in
+    let yes = subst (λ b. Asks g.F.Find.objects g.F.Find.faulty g.P.Predicate.answers c.meet.new.self c.args.id b c.ask.new.self.predicate) c.if-not-ask.false c.ask.ensures.asks in
+    treats_time_fails g.F.Find.objects g.F.Find.faulty g.P.Predicate.answers c.args.by_row c.args.id _ _ n.1 n.0 _ _ c.ask.ensures.rest _ c.in-Err-parent_time.ensures.kept yes c.in-Err-parent_time.stop c.in-Err-parent_time.ensures.time
 
-pub returns-in_err-push_back-clause-treats : goal.returns-in_err-push_back-clause-treats
-returns-in_err-push_back-clause-treats g c =
-    rw (ended_badly c.from_residual-in_err-push_back.result c.from_residual-in_err-push_back.ensures.0)
-    (plain_stopped g.F.Find.objects g.F.Find.faulty g.P.Predicate.answers _ _ _ _ _ _ _ c.self.view_is _ _ _ _ _ (was_new _ _ c.in_ok-insert.ensures.added c.if-not-branch.false) c.accepts.ensures.answer c.in_err-push_back.ensures.items c.in_ok-insert.ensures.ok)
+pub returns-in-Ok-enqueue-clause-treats : goal.returns-in-Ok-enqueue-clause-treats
+returns-in-Ok-enqueue-clause-treats g c =
+    let n = met_new g.F.Find.objects g.F.Find.faulty g.P.Predicate.answers c.args.by_row c.args.id c.args.self.now c.meet.new.self (Rattle.std.specs.contracts.alloc.AllocError.the_row).Denot c.in-Ok.is_new c.in-Ok.ensures c.if-not-is_new.false in
+    let yes = subst (λ b. Asks g.F.Find.objects g.F.Find.faulty g.P.Predicate.answers c.meet.new.self c.args.id b c.ask.new.self.predicate) c.if-not-ask.false c.ask.ensures.asks in
+    let fits : SFits w64 c.in-Ok-parent_time.time = search rules in
+    let queued = simp to_z-of_z at c.in-Ok-enqueue.ensures.ok in
+    treats_accepted g.F.Find.objects g.F.Find.faulty g.P.Predicate.answers c.args.by_row c.args.id _ _ n.1 n.0 _ _ c.ask.ensures.rest _ c.in-Ok-parent_time.ensures.kept yes _ _ c.in-Ok-enqueue.ensures.rest c.in-Ok-parent_time.time c.in-Ok-parent_time.ensures.time queued
 
-pub returns-in_ok-push_back-clause-treats : goal.returns-in_ok-push_back-clause-treats
-returns-in_ok-push_back-clause-treats g c =
-    plain_accepted g.F.Find.objects g.F.Find.faulty g.P.Predicate.answers _ _ _ _ _ _ _ c.self.view_is _ _ _ _ (was_new _ _ c.in_ok-insert.ensures.added c.if-not-branch.false) c.if-accepts.ensures.answer c.in_ok-push_back.ensures.items c.in_ok-insert.ensures.ok
-
-pub returns-else-accepts-clause-treats : goal.returns-else-accepts-clause-treats
-returns-else-accepts-clause-treats g c =
-    plain_refused g.F.Find.objects g.F.Find.faulty g.P.Predicate.answers _ _ _ _ _ _ _ c.self.view_is _ _ _ (was_new _ _ c.in_ok-insert.ensures.added c.if-not-branch.false) c.if-accepts.ensures.answer c.in_ok-insert.ensures.ok
+pub returns-in-Err-enqueue-clause-treats : goal.returns-in-Err-enqueue-clause-treats
+returns-in-Err-enqueue-clause-treats g c =
+    let n = met_new g.F.Find.objects g.F.Find.faulty g.P.Predicate.answers c.args.by_row c.args.id c.args.self.now c.meet.new.self (Rattle.std.specs.contracts.alloc.AllocError.the_row).Denot c.in-Ok.is_new c.in-Ok.ensures c.if-not-is_new.false in
+    let yes = subst (λ b. Asks g.F.Find.objects g.F.Find.faulty g.P.Predicate.answers c.meet.new.self c.args.id b c.ask.new.self.predicate) c.if-not-ask.false c.ask.ensures.asks in
+    treats_stopped g.F.Find.objects g.F.Find.faulty g.P.Predicate.answers c.args.by_row c.args.id _ _ n.1 n.0 _ _ c.ask.ensures.rest _ c.in-Ok-parent_time.ensures.kept yes _ _ c.in-Err-enqueue.ensures.rest c.in-Err-enqueue.ensures.err

@@ -1,12 +1,12 @@
-use Rattle.std.proofs.Common.{length, false}
+use Rattle.std.proofs.Common.{length}
 use Rattle.gix_traverse.specs.SimpleWalk.{SimpleWalk, Treated, TreatsAll}
 use Rattle.gix_traverse.proofs.commit.simple.Simple.treat_all.Given as goal
 
 -- to treat the ids that are left is to treat them all
 abbrev pub invariant-loop-id : goal.invariant-loop-id
 invariant-loop-id g l = record {
-  treats : (how : Treated) (new : SimpleWalk g.row.F.Denot g.row.P.Denot) → TreatsAll g.F.Find.objects g.F.Find.faulty g.P.Predicate.answers false l.self l.ids how new
-      → TreatsAll g.F.Find.objects g.F.Find.faulty g.P.Predicate.answers false l.fn.self l.fn.ids how new;
+  treats : (how : Treated) (new : SimpleWalk g.row.F.Denot g.row.P.Denot) → TreatsAll g.F.Find.objects g.F.Find.faulty g.P.Predicate.answers l.by_row l.self l.ids how new
+      → TreatsAll g.F.Find.objects g.F.Find.faulty g.P.Predicate.answers l.by_row l.fn.self l.fn.ids how new;
   asks : g.P.Predicate.can_accept l.self.predicate;
 }
 

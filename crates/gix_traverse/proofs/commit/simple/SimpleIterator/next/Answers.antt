@@ -1,18 +1,15 @@
-use Rattle.std.proofs.Common.{arith}
-use Rattle.gix_traverse.proofs.EndFacts.{next_left}
-use Rattle.gix_traverse.proofs.NextFacts.{gives_none, gives_first}
+use Rattle.std.proofs.Common.{sym, subst}
+use Rattle.gix_traverse.proofs.HideSteps.{next_of_hidden, next_of_fault, progresses}
 use Rattle.gix_traverse.proofs.commit.simple.SimpleIterator.next.Goals as goal
 
-pub returns-in_default-clause-steps : goal.returns-in_default-clause-steps
-returns-in_default-clause-steps g c =
-    gives_none g.F.Find.objects g.F.Find.faulty g.P.Predicate.answers _ _ _ _ _ _ _ c.self.view_is c.pop_front.new.self.items
-    (omega (arith, c.in_default.ensures.cases)) (omega (arith, c.in_default.ensures.cases))
+pub returns-in-Err-clause-steps : goal.returns-in-Err-clause-steps
+returns-in-Err-clause-steps g c = next_of_fault g.F.Find.objects g.F.Find.faulty g.P.Predicate.answers c.args.self.now c.in-Err.error _ c.in-Err.ensures.hides
+
+pub returns-in-Err-clause-goes : goal.returns-in-Err-clause-goes
+returns-in-Err-clause-goes g c = progresses g.F.Find.objects g.F.Find.faulty g.P.Predicate.answers c.args.self.now (λ walk. g.P.Predicate.can_accept walk.predicate) _ _ (returns-in-Err-clause-steps g c) (subst g.P.Predicate.can_accept (sym c.in-Err.ensures.asks) c.requires)
 
 pub returns-clause-steps : goal.returns-clause-steps
-returns-clause-steps g c =
-    gives_first g.F.Find.objects g.F.Find.faulty g.P.Predicate.answers _ _ _ _ _ _ _ c.self.view_is c.pop_front.new.self.items c.in-Some.taken c.in-Some.ensures.items c.take.ensures.takes
+returns-clause-steps g c = next_of_hidden g.F.Find.objects g.F.Find.faulty g.P.Predicate.answers c.args.self.now c.in_default.field-0 _ c.in_default.ensures.hides _ _ c.step.ensures.steps
 
 pub returns-clause-goes : goal.returns-clause-goes
-returns-clause-goes g c =
-    let less = next_left g.F.Find.objects g.F.Find.faulty g.P.Predicate.answers c.args.self.now (returns-clause-steps g c) in
-    record { on = λ _. (c.take.ensures.asks, tt, less); keeps = c.take.ensures.asks; rests = λ _. tt }
+returns-clause-goes g c = progresses g.F.Find.objects g.F.Find.faulty g.P.Predicate.answers c.args.self.now (λ walk. g.P.Predicate.can_accept walk.predicate) _ _ (returns-clause-steps g c) c.step.ensures.asks

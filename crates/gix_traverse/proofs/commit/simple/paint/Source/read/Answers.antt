@@ -1,0 +1,16 @@
+use Rattle.gix_traverse.proofs.PaintReads.{read_whole, find_fails, decode_fails}
+use Rattle.gix_traverse.proofs.commit.simple.paint.Source.read.Goals as goal
+
+pub returns-in_err-items-clause-fault : goal.returns-in_err-items-clause-fault
+returns-in_err-items-clause-fault g c =
+    find_fails (g.F.Find.objects c.args.self.now.objects.now) (g.F.Find.faulty c.args.self.now.objects.now) c.args.id.now c.from_residual.result c.in_err-items.field-0.0 c.from_residual.ensures.1 c.in_err-items.ensures
+
+pub returns-in_err-committer-clause-fault : goal.returns-in_err-committer-clause-fault
+returns-in_err-committer-clause-fault g c =
+    decode_fails (g.F.Find.objects c.args.self.now.objects.now) (g.F.Find.faulty c.args.self.now.objects.now) c.args.id.now c.from_residual-in_err-committer.result c.in_err-committer.field-0.0 c.in_ok-items.ensures.0 _ c.from_residual-in_err-committer.ensures.1
+    c.in_ok-items.ensures.1 c.in_ok-items.ensures.2 c.in_err-committer.ensures
+
+pub returns-clause-read : goal.returns-clause-read
+returns-clause-read g c =
+    read_whole (g.F.Find.objects c.args.self.now.objects.now) c.args.id.now c.in_ok-items.ensures.0 _ _ c.in_ok-parent_ids.field-0.parent_ids.items c.in_ok-parent_ids.field-0.fault
+    c.in_ok-items.ensures.1 c.in_ok-items.ensures.2 c.in_ok-committer.ensures c.in_ok-parent_ids.ensures.ok

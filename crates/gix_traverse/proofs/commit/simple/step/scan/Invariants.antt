@@ -1,0 +1,21 @@
+use Rattle.std.proofs.Common.{◌≡◌, ◌≤◌, ◌++◌, List, Option, length}
+use Rattle.gix_parts.specs.declared.hash.ObjectId.{ObjectId}
+use Rattle.gix_parts.specs.declared.object.decode.Error.{Error}
+use Rattle.gix_parts.specs.CommitRefIter.{commit_items_left}
+use Rattle.gix_traverse.specs.declared.commit.Parents.TheVariants as mode
+use Rattle.gix_traverse.specs.SimpleWalk.{scanned}
+use Rattle.gix_traverse.proofs.commit.simple.step.scan.Given as goal
+
+-- what items show behind parents that were read before
+abbrev pub behind : List ObjectId → List ObjectId × Option Error → List ObjectId × Option Error
+behind ids r = (ids ++ r.0, r.1)
+
+-- what was read so far and what is left show the whole
+abbrev pub invariant-loop-item : goal.invariant-loop-item
+invariant-loop-item l = record {
+  shown : behind l.parent_ids.items (scanned l.parents (commit_items_left l.items)) ≡ scanned l.parents (commit_items_left l.fn.items);
+  inline : 1 ≤ l.parent_ids.capacity;
+}
+
+abbrev pub decreases-loop-item : goal.decreases-loop-item
+decreases-loop-item l = length (commit_items_left l.items)

@@ -1,0 +1,438 @@
+//! What hidden tips reach, as far as a walk can meet it.
+ghost use Rattle.std.specs.Prelude.{◌≡◌, ◌≢◌, ◌↔◌, ◌++◌, ◌∷◌, [], IsTrue, IfOk, IfErr, IfSome, IfNone, if◌then◌else◌};
+ghost use Rattle.std.specs.FinSet as set;
+ghost use Rattle.gix_parts.specs.declared.object.find.existing_iter.Error.TheVariants as existing;
+ghost use Rattle.gix_traverse.specs.declared.commit.simple.paint.Key.{Key};
+ghost use Rattle.gix_traverse.specs.Painting.{IsFaultAt, IsHiddenFault, Paints};
+ghost use Rattle.gix_traverse.specs.SimpleWalk.{ids_of};
+ghost use Rattle.gix_traverse.specs.Painter as painter;
+ghost use Rattle.gix_traverse.specs.Painter.{rows_in, FailsAmong, Reads, ReadsParents, GivesParents, Knows, Queues, Meets, is_turn, Takes, TreatsEntry, TreatFails, IsSettled, Pops};
+
+use super::Hidden;
+use super::pending::Pending;
+use super::step::scan;
+use crate::commit::row::row_parents;
+use crate::commit::{ParentIds, Parents};
+use bitflags::{Flag, Flags, bitflag_items};
+use gix_parts::graph::Graph;
+use gix_parts::hash::ObjectId;
+use gix_parts::hashtable::{IdMap, IdSet};
+use gix_parts::object::decode;
+use gix_parts::object::find::{Find, existing_iter};
+use gix_parts::queue::PriorityQueue;
+use std::alloc::{AllocError, Global};
+use std::collections::VecDeque;
+use std::marker::Model;
+
+impl From<decode::Error> for Hidden {
+    ghost use Rattle.gix_traverse.specs.declared.commit.simple.Hidden.TheVariants as hidden_by;
+
+    ghost from_gives = { λ e r. r ≡ hidden_by.ObjectDecode e };
+
+    fn from(e: decode::Error) -> Hidden {
+        Hidden::ObjectDecode(e)
+    }
+}
+
+impl From<existing_iter::Error> for Hidden {
+    ghost use Rattle.gix_traverse.specs.declared.commit.simple.Hidden.TheVariants as hidden_by;
+
+    ghost from_gives = { λ e r. r ≡ hidden_by.Find e };
+
+    fn from(e: existing_iter::Error) -> Hidden {
+        Hidden::Find(e)
+    }
+}
+
+impl From<AllocError> for Hidden {
+    ghost use Rattle.gix_parts.specs.declared.object.find.existing_iter.Error.TheVariants as existing;
+    ghost use Rattle.gix_traverse.specs.declared.commit.simple.Hidden.TheVariants as hidden_by;
+
+    ghost from_gives = { λ _ r. r ≡ hidden_by.Find existing.Memory };
+
+    fn from(_e: AllocError) -> Hidden {
+        Hidden::Find(existing_iter::Error::Memory)
+    }
+}
+
+// What is known of an id: that a hidden tip reaches it, or else that a visible one does.
+#[derive(Clone, Copy, PartialEq, Eq, Debug)]
+struct Marks(u8);
+
+bitflag_items! {
+    impl Marks: u8 {
+        const VISIBLE = 1;
+        const HIDDEN = 2;
+    }
+}
+
+impl Flags for Marks {
+    ghost use Rattle.std.specs.Prelude.{⊤, codes};
+
+    type Bits = u8;
+
+    ghost exact = { ⊤ };
+
+    ghost table = { (codes "VISIBLE", 1) ∷ (codes "HIDDEN", 2) ∷ [] };
+
+    ghost set_of = { λ m. m.0 };
+
+    fn flags<'a>() -> &'a [Flag<Marks>] {
+        Marks::FLAGS
+    }
+
+    fn bits(&self) -> u8 {
+        self.0
+    }
+
+    fn from_bits_retain(bits: u8) -> Marks {
+        Marks(bits)
+    }
+}
+
+/// The ids that a painting found hidden.
+#[derive(Drop)]
+pub(super) struct HiddenIds {
+    marks: IdMap<Marks>,
+}
+
+impl Model for HiddenIds {
+    ghost use Rattle.std.specs.FinSet.{FinSet, code};
+    ghost use Rattle.gix_parts.specs.Id.{id_cmp, id_code};
+    ghost use Rattle.gix_traverse.specs.Painter.{hidden_of};
+
+    ghost Value = { FinSet id_cmp };
+
+    ghost coded = { code id_code };
+
+    ghost view = { λ h. hidden_of h.marks };
+}
+
+impl HiddenIds {
+    /// No id.
+    pub(super) fn new(alloc: Global) -> HiddenIds
+        ensures { result ≡ set.empty }
+    {
+        HiddenIds {
+            marks: IdMap::new(alloc),
+        }
+    }
+
+    /// Whether the id is hidden.
+    pub(super) fn contains(&self, id: &ObjectId) -> bool
+        ensures { result ≡ set.contains self.now id.now }
+    {
+        is_hidden(&self.marks, id)
+    }
+}
+
+// Whether a hidden tip is known to reach the id.
+fn is_hidden(marks: &IdMap<Marks>, id: &ObjectId) -> bool
+    ensures { result ≡ painter.is_hidden marks.now id.now }
+{
+    match marks.get(id) {
+        Some(marks) => marks.contains(Marks::HIDDEN),
+        None => false,
+    }
+}
+
+// For which tips a commit is read: those of the walk, or the hidden ones.
+#[derive(Clone, Copy, PartialEq, Eq, Debug)]
+enum Side {
+    Visible,
+    Hidden,
+}
+
+// The generation that a commit's row tells. Without a row it counts as greater than all that rows tell.
+#[derive(Clone, Copy, PartialEq, Eq, PartialOrd, Ord, Debug)]
+enum Generation {
+    Told(u32),
+    Infinite,
+}
+
+// The greatest key is taken first. Parents have lesser generations, so what is taken is reached by nothing that still waits.
+// Among equal generations, as without rows, a greater time lets both sides meet early.
+#[derive(Clone, Copy, PartialEq, Eq, PartialOrd, Ord, Debug)]
+struct Key {
+    generation: Generation,
+    time: i64,
+}
+
+// What is known of a commit before it is queued: its key, and where the store was asked for it, its parents.
+#[derive(Drop)]
+struct Known {
+    key: Key,
+    parent_ids: Option<ParentIds>,
+}
+
+// A commit that waits to be read.
+#[derive(Drop)]
+struct Entry {
+    id: ObjectId,
+    side: Side,
+    parent_ids: Option<ParentIds>,
+}
+
+// What the store says of a commit.
+#[derive(Drop)]
+struct Stored {
+    parent_ids: ParentIds,
+    time: i64,
+}
+
+// Where commits are read: by their rows while these stand, and else from the store.
+#[derive(Drop)]
+struct Source<'a, F> {
+    objects: &'a F,
+    graph: Option<&'a Graph>,
+    text: Vec<u8>,
+    alloc: Global,
+}
+
+impl<'a, F: Find> Source<'a, F> {
+    // Reads a commit from the store, its committer too.
+    fn read(&mut self, id: &ObjectId) -> Result<Stored, Hidden>
+        ensures objects { self.new.objects ≡ self.old.objects }
+        ensures graph { self.new.graph ≡ self.old.graph }
+        ensures read { IfOk result (λ stored. Reads (F.objects self.old.objects.now) id.now stored.parent_ids.items) }
+        ensures fault { IfErr result (FailsAmong (F.objects self.old.objects.now) (F.faulty self.old.objects.now) (id.now ∷ [])) }
+    {
+        let items = self.objects.find_commit_iter(id, &mut self.text)?;
+        let time = items.committer()?.seconds();
+        let parent_ids = scan(self.alloc, Parents::All, items)?.parent_ids;
+        Ok(Stored { parent_ids, time })
+    }
+
+    // What is known of a commit by its row, whose places are left alone, or else by the store.
+    fn look_up(&mut self, id: &ObjectId) -> Result<Known, Hidden>
+        ensures objects { self.new.objects ≡ self.old.objects }
+        ensures graph { self.new.graph ≡ self.old.graph }
+        ensures known { IfOk result (Knows (F.objects self.old.objects.now) (rows_in self.old.graph) id.now) }
+        ensures fault { IfErr result (FailsAmong (F.objects self.old.objects.now) (F.faulty self.old.objects.now) (id.now ∷ [])) }
+    {
+        if let Some(graph) = self.graph
+            && let Some(commit) = graph.commit_by_id(id)
+        {
+            let key = Key {
+                generation: Generation::Told(commit.generation()),
+                time: commit.committer_timestamp(),
+            };
+            return Ok(Known {
+                key,
+                parent_ids: None,
+            });
+        }
+        let Stored { parent_ids, time } = self.read(id)?;
+        let key = Key {
+            generation: Generation::Infinite,
+            time,
+        };
+        Ok(Known {
+            key,
+            parent_ids: Some(parent_ids),
+        })
+    }
+
+    // The parents by the row, or else from the store. A corrupt row drops all rows for good.
+    fn parents_of(&mut self, id: &ObjectId) -> Result<ParentIds, Hidden>
+        ensures objects { self.new.objects ≡ self.old.objects }
+        ensures parents { IfOk result (λ ids. ReadsParents (F.objects self.old.objects.now) self.old.graph id.now ids.items self.new.graph) }
+        ensures fault { IfErr result (FailsAmong (F.objects self.old.objects.now) (F.faulty self.old.objects.now) (id.now ∷ [])) }
+    {
+        if let Some(graph) = self.graph
+            && let Some(commit) = graph.commit_by_id(id)
+        {
+            if let Some(parent_ids) = row_parents(self.alloc, graph, commit)? {
+                return Ok(parent_ids);
+            }
+            self.graph = None;
+        }
+        Ok(self.read(id)?.parent_ids)
+    }
+
+    // The parents of an entry's commit: those that it brings, or else those that are read now.
+    fn parents(&mut self, entry: Entry) -> Result<ParentIds, Hidden>
+        ensures objects { self.new.objects ≡ self.old.objects }
+        ensures parents { IfOk result (λ ids. GivesParents (F.objects self.old.objects.now) self.old.graph entry ids.items self.new.graph) }
+        ensures fault { IfErr result (FailsAmong (F.objects self.old.objects.now) (F.faulty self.old.objects.now) (entry.id ∷ [])) }
+    {
+        let Entry { id, parent_ids, .. } = entry;
+        match parent_ids {
+            Some(parent_ids) => Ok(parent_ids),
+            None => self.parents_of(&id),
+        }
+    }
+}
+
+// What is marked so far, and what waits to be read.
+#[derive(Drop)]
+struct Painter<'a, F> {
+    source: Source<'a, F>,
+    marks: IdMap<Marks>,
+    // The queued ids that no hidden tip reached so far.
+    frontier: IdSet,
+    queue: PriorityQueue<Key, Entry>,
+}
+
+impl<'a, F: Find> Painter<'a, F> {
+    // Puts a commit into the queue.
+    fn enqueue(&mut self, id: ObjectId, side: Side) -> Result<(), Hidden>
+        ensures ok { IfOk result (λ _. Queues F.objects self.old id side self.new) }
+        ensures fault { IfErr result (FailsAmong (F.objects self.old.source.objects.now) (F.faulty self.old.source.objects.now) (id ∷ [])) }
+    {
+        let Known { key, parent_ids } = self.source.look_up(&id)?;
+        self.queue.insert(
+            key,
+            Entry {
+                id,
+                side,
+                parent_ids,
+            },
+        )?;
+        Ok(())
+    }
+
+    // An id that visible tips reach is queued once. One that is hidden already is left to the hidden side.
+    fn show(&mut self, id: ObjectId) -> Result<(), Hidden>
+        ensures ok { IfOk result (λ _. Meets F.objects Side.Visible (id ∷ []) self.old self.new) }
+        ensures fault { IfErr result (FailsAmong (F.objects self.old.source.objects.now) (F.faulty self.old.source.objects.now) (id ∷ [])) }
+    {
+        if self.marks.get(&id).is_some() {
+            return Ok(());
+        }
+        self.marks.insert(id, Marks::VISIBLE)?;
+        self.frontier.insert(id)?;
+        self.enqueue(id, Side::Visible)
+    }
+
+    // An id that hidden tips reach is queued once for them, whatever visible tips did.
+    fn hide(&mut self, id: ObjectId) -> Result<(), Hidden>
+        ensures ok { IfOk result (λ _. Meets F.objects Side.Hidden (id ∷ []) self.old self.new) }
+        ensures fault { IfErr result (FailsAmong (F.objects self.old.source.objects.now) (F.faulty self.old.source.objects.now) (id ∷ [])) }
+    {
+        if is_hidden(&self.marks, &id) {
+            return Ok(());
+        }
+        self.marks.insert(id, Marks::HIDDEN)?;
+        self.frontier.remove(&id);
+        self.enqueue(id, Side::Hidden)
+    }
+
+    // Ids that are reached on a side, in order.
+    fn meet_all(&mut self, mut ids: &[ObjectId], side: Side) -> Result<(), Hidden>
+        ensures ok { IfOk result (λ _. Meets F.objects side ids.entry.now self.old self.new) }
+        ensures fault { IfErr result (FailsAmong (F.objects self.old.source.objects.now) (F.faulty self.old.source.objects.now) ids.entry.now) }
+    {
+        while let Some((id, rest)) = ids.split_first() {
+            match side {
+                Side::Visible => self.show(*id)?,
+                Side::Hidden => self.hide(*id)?,
+            }
+            ids = rest;
+        }
+        Ok(())
+    }
+
+    fn show_all(&mut self, tips: &VecDeque<Pending>) -> Result<(), Hidden>
+        ensures ok { IfOk result (λ _. Meets F.objects Side.Visible (ids_of tips.now.items) self.old self.new) }
+        ensures fault { IfErr result (FailsAmong (F.objects self.old.source.objects.now) (F.faulty self.old.source.objects.now) (ids_of tips.now.items)) }
+    {
+        for tip in tips.iter() {
+            self.show(tip.id)?;
+        }
+        Ok(())
+    }
+
+    // Whether an entry that was taken is to be read. Where a hidden tip reached a visible id meanwhile, the hidden side reads it.
+    fn begins(&mut self, entry: &Entry) -> bool
+        ensures turn { result ≡ is_turn entry.now self.old.frontier }
+        ensures takes { Takes self.old entry.now self.new }
+        ensures graph { self.new.source.graph ≡ self.old.source.graph }
+    {
+        match entry.side {
+            Side::Visible => self.frontier.remove(&entry.id),
+            Side::Hidden => true,
+        }
+    }
+
+    // The commit of an entry is read, and its parents are met on its side.
+    fn treat(&mut self, entry: Entry) -> Result<(), Hidden>
+        ensures ok { IfOk result (λ _. TreatsEntry F.objects self.old entry self.new) }
+        ensures fault { IfErr result (TreatFails (F.objects self.old.source.objects.now) (F.faulty self.old.source.objects.now) self.old.source.graph entry) }
+    {
+        if !self.begins(&entry) {
+            return Ok(());
+        }
+        let side = entry.side;
+        let parent_ids = self.source.parents(entry)?;
+        self.meet_all(parent_ids.as_slice(), side)
+    }
+
+    // Whether the marks are whole: nothing is queued, or while the rows stand, all that is queued is hidden and has a row.
+    fn is_settled(&self) -> bool
+        ensures { IsTrue result ↔ IsSettled self.now }
+    {
+        let Some((key, _)) = self.queue.peek() else {
+            return true;
+        };
+        self.source.graph.is_some()
+            && self.frontier.is_empty()
+            && matches!(key.generation, Generation::Told(_))
+    }
+
+    // The entry whose turn it is, and None where the painting is settled.
+    fn next_entry(&mut self) -> Option<Entry>
+        ensures none { IfNone result (IsSettled self.old × (self.new ≡ self.old)) }
+        ensures some { IfSome result (λ entry. ¬ (IsSettled self.old) × ((key : Key) × Pops ⟦<Key as Ord>⟧.cmp self.old (key, entry) self.new)) }
+    {
+        if self.is_settled() {
+            return None;
+        }
+        let (_, entry) = self.queue.pop()?;
+        Some(entry)
+    }
+}
+
+/// What a painting gives.
+#[derive(Drop)]
+pub(super) struct Painting {
+    /// The ids found hidden.
+    pub(super) hidden: HiddenIds,
+    /// Whether there is a graph, none of whose rows was found corrupt.
+    pub(super) rows_stand: bool,
+}
+
+/// Marks what the hidden tips reach: the tips themselves, and each parent of a commit that they reach and hidden tips don't.
+/// It stops as soon as the rows say that these marks are whole. Memory that is wanting is a fault of `Find`.
+pub(super) fn paint<'a, F: Find>(
+    alloc: Global,
+    objects: &'a F,
+    graph: Option<&'a Graph>,
+    tips: &VecDeque<Pending>,
+    hidden_tips: &[ObjectId],
+) -> Result<Painting, Hidden>
+    ensures ok { IfOk result (λ p. Paints (F.objects objects.now) (F.faulty objects.now) (rows_in graph.entry) (ids_of tips.now.items) hidden_tips.now p.hidden (if p.rows_stand then rows_in graph.entry else [])) }
+    ensures fault { IfErr result (λ why. why ≢ Hidden.Find existing.Memory → IsHiddenFault (F.objects objects.now) (F.faulty objects.now) (rows_in graph.entry) (ids_of tips.now.items ++ hidden_tips.now) why) }
+{
+    let mut painter = Painter {
+        source: Source {
+            objects,
+            graph,
+            text: Vec::new(alloc),
+            alloc,
+        },
+        marks: IdMap::new(alloc),
+        frontier: IdSet::new(alloc),
+        queue: PriorityQueue::new(alloc),
+    };
+    painter.meet_all(hidden_tips, Side::Hidden)?;
+    painter.show_all(tips)?;
+    while let Some(entry) = painter.next_entry() {
+        painter.treat(entry)?;
+    }
+    let Painter { source, marks, .. } = painter;
+    Ok(Painting {
+        hidden: HiddenIds { marks },
+        rows_stand: source.graph.is_some(),
+    })
+}
