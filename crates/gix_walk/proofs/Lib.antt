@@ -8,4 +8,5 @@ mod OutputFacts
 mod InternalFacts
 mod TreeFacts
 mod FileFacts
+mod StartFacts
 mod RunFacts

@@ -1,29 +1,24 @@
 -- What a run may answer.
-use Rattle.std.specs.Prelude.{◌≡◌, ◌≢◌, ◌⊎◌, ℕ, List, length, Option, Some, Result, Ok, Err}
-use Rattle.std.specs.Iterator.{Drains}
-use Rattle.std.specs.declared.vec.IntoIter.{IntoIter}
-use Rattle.std.specs.Vec.Iter.{into_iter_items, into_iter_len, into_iter_steps}
+use Rattle.std.specs.Prelude.{◌≡◌, ◌≢◌, ◌⊎◌, ℕ, List, Option, Some, Result, Ok, Err}
 use Rattle.std.proofs.Common.{sym, subst, ap, ◌∙◌, inl, inr}
-use Rattle.std.proofs.lemmas.Iterator.{items_from_drains}
-use Rattle.std.proofs.lemmas.Iterator.Adapters.{YieldsList-from_vec}
-use Rattle.std.proofs.lemmas.List.{map-id}
 use Rattle.gix_parts.specs.declared.hash.ObjectId.{ObjectId}
 use Rattle.gix_parts.specs.Object.{Objects}
 use Rattle.gix_traverse.specs.declared.commit.Info.{Info}
 use Rattle.gix_traverse.specs.declared.commit.simple.Error.{Error}
 use Rattle.gix_traverse.specs.declared.commit.simple.Error.TheVariants as error
 use Rattle.gix_traverse.specs.declared.commit.simple.Hidden.TheVariants as hidden_by
+use Rattle.gix_traverse.specs.declared.commit.simple.Sorting.{Sorting}
 use Rattle.gix_walk.specs.declared.fault.Fault.{Fault}
 use Rattle.gix_walk.specs.declared.fault.Fault.TheVariants as fault
 use Rattle.gix_walk.specs.Faults.{fault_of_walk}
 use Rattle.gix_walk.specs.Input.{Tells}
 use Rattle.gix_walk.specs.Output.{WritesAll}
 use Rattle.gix_walk.specs.Records.{Record, AreRecords, IsRecordFault, bad, no_memory, stored}
-use Rattle.gix_walk.specs.Run.{Serves, walked, listed, not_listed, unserved, not_written, Runs, without_memory, no_command, not_read, bad_record, served}
-use Rattle.gix_walk.specs.Walked.{Walk, StartsFrom, Ends, finished, failed, cut_short}
-use Rattle.gix_walk.specs.Words.{Request, Breadth, request_of}
+use Rattle.gix_walk.specs.Run.{Serves, walked, not_walked, listed, not_listed, unserved, not_written, Runs, without_memory, no_command, not_read, bad_record, served}
+use Rattle.gix_walk.specs.Walked.{Walk, StartsFrom, FailsAtStart, IsStartFault, Ends, finished, failed, cut_short}
+use Rattle.gix_walk.specs.Words.{Request, Commits, request_of}
 use Rattle.gix_walk.proofs.RecordFacts.{no_bad_record}
-use Rattle.gix_walk.proofs.InternalFacts.{IsSound, next_sound}
+use Rattle.gix_walk.proofs.InternalFacts.{IsSound, next_sound, start_sound}
 use Rattle.gix_walk.proofs.TreeFacts.{find_unnumbered, tree_sound, tree_unnumbered}
 use Rattle.gix_walk.proofs.WordFaults.{OfWords, request_words}
 
@@ -38,6 +33,7 @@ ends_sound (cut_short new h) = λ e. cc
 
 serves_sound : {objects : Objects} {old new : Option (List ℕ)} {request : Request} {answer : Result (Unit {0}) Fault} → Serves objects old request answer new → answer ≢ Err fault.Internal
 serves_sound (walked walk infos s ends a) = ends_sound ends
+serves_sound (not_walked why f) = λ same. start_sound f (err_same same)
 serves_sound (listed recorder r a) = λ e. cc
 serves_sound {objects} (not_listed recorder why r) = λ same. tree_sound objects r (err_same same)
 serves_sound unserved = λ e. cc
@@ -64,6 +60,7 @@ ends_unnumbered n (cut_short new h) = λ e. cc
 
 serves_unnumbered : {objects : Objects} {old new : Option (List ℕ)} {request : Request} {answer : Result (Unit {0}) Fault} (n : ℕ) → Serves objects old request answer new → answer ≢ Err (fault.Record n)
 serves_unnumbered n (walked walk infos s ends a) = ends_unnumbered n ends
+serves_unnumbered n (not_walked why f) = λ same. walk_unnumbered n why (err_same same)
 serves_unnumbered n (listed recorder r a) = λ e. cc
 serves_unnumbered n (not_listed recorder why r) = λ same. tree_unnumbered n why (err_same same)
 serves_unnumbered n unserved = λ e. cc
@@ -117,25 +114,42 @@ module _ (words : List (List ℕ)) (has old : Option (List ℕ)) where
     pub runs_served : (result : Result (Unit {0}) Fault) → Serves objects old request result new → Runs words has old result new
     runs_served result s = served request input read.0 t h read.1 (subst (λ (o : Objects). Serves o old request result new) read.2 s)
 
-module _ (objects : Objects) (old new : Option (List ℕ)) (tips : List ObjectId) (walk : Walk) (starts : StartsFrom objects tips walk) where
-  drawn : {result : Result (Unit {0}) Fault} → WritesAll walk old result new → Serves objects old (Breadth tips) result new
-  drawn w = walked walk w.infos starts w.ends w.appends
-
+module _ (objects : Objects) (old : Option (List ℕ)) (by : Sorting) (tips hidden : List ObjectId) where
   -- the walk was drawn
-  pub serves_walk : (result : Result (Unit {0}) Fault) → (result ≢ Err fault.Write → WritesAll walk old result new) → Serves objects old (Breadth tips) result new
-  serves_walk (Err fault.Write) w = not_written
-  serves_walk (Ok done) w = drawn (w (λ e. cc))
-  serves_walk (Err fault.Memory) w = drawn (w (λ e. cc))
-  serves_walk (Err fault.Usage) w = drawn (w (λ e. cc))
-  serves_walk (Err (fault.Id n)) w = drawn (w (λ e. cc))
-  serves_walk (Err (fault.Record n)) w = drawn (w (λ e. cc))
-  serves_walk (Err (fault.Missing i)) w = drawn (w (λ e. cc))
-  serves_walk (Err (fault.WrongKind i)) w = drawn (w (λ e. cc))
-  serves_walk (Err fault.Broken) w = drawn (w (λ e. cc))
-  serves_walk (Err (fault.Cycle i)) w = drawn (w (λ e. cc))
-  serves_walk (Err fault.Read) w = drawn (w (λ e. cc))
-  serves_walk (Err fault.Internal) w = drawn (w (λ e. cc))
+  module _ (new : Option (List ℕ)) (walk : Walk) (starts : StartsFrom objects by tips hidden walk) where
+    drawn : {result : Result (Unit {0}) Fault} → WritesAll walk old result new → Serves objects old (Commits by tips hidden) result new
+    drawn w = walked walk w.infos starts w.ends w.appends
 
--- the ids that came of a vector are those that it held
-pub drained : {Z : Type 0} (tips ids : List ObjectId) (it : IntoIter ObjectId Z) → into_iter_items it ≡ tips → into_iter_len it ≡ length tips → Drains into_iter_steps it ids → ids ≡ tips
-drained tips ids it items len d = sym (map-id ids) ∙ items_from_drains ids (d.1.0, d.1.1, λ _. (d.0, d.1.2)) (YieldsList-from_vec tips items len)
+    pub serves_walk : (result : Result (Unit {0}) Fault) → (result ≢ Err fault.Write → WritesAll walk old result new) → Serves objects old (Commits by tips hidden) result new
+    serves_walk (Err fault.Write) w = not_written
+    serves_walk (Ok done) w = drawn (w (λ e. cc))
+    serves_walk (Err fault.Memory) w = drawn (w (λ e. cc))
+    serves_walk (Err fault.Usage) w = drawn (w (λ e. cc))
+    serves_walk (Err (fault.Id n)) w = drawn (w (λ e. cc))
+    serves_walk (Err (fault.Record n)) w = drawn (w (λ e. cc))
+    serves_walk (Err (fault.Missing i)) w = drawn (w (λ e. cc))
+    serves_walk (Err (fault.WrongKind i)) w = drawn (w (λ e. cc))
+    serves_walk (Err fault.Broken) w = drawn (w (λ e. cc))
+    serves_walk (Err (fault.Cycle i)) w = drawn (w (λ e. cc))
+    serves_walk (Err fault.Read) w = drawn (w (λ e. cc))
+    serves_walk (Err fault.Internal) w = drawn (w (λ e. cc))
+
+  not_started : (e : Fault) → (why : Error) × FailsAtStart objects tips why × (e ≡ fault_of_walk why) → Serves objects old (Commits by tips hidden) (Err e) old
+  not_started e h = subst (λ (f : Fault). Serves objects old (Commits by tips hidden) (Err f) old) (sym h.2) (not_walked h.0 h.1)
+
+  failed_start : (e : Fault) → IsStartFault objects tips e → Serves objects old (Commits by tips hidden) (Err e) old
+  failed_start fault.Memory h = unserved
+  failed_start fault.Usage h = not_started _ (h (λ e. cc))
+  failed_start (fault.Id n) h = not_started _ (h (λ e. cc))
+  failed_start (fault.Record n) h = not_started _ (h (λ e. cc))
+  failed_start (fault.Missing i) h = not_started _ (h (λ e. cc))
+  failed_start (fault.WrongKind i) h = not_started _ (h (λ e. cc))
+  failed_start fault.Broken h = not_started _ (h (λ e. cc))
+  failed_start (fault.Cycle i) h = not_started _ (h (λ e. cc))
+  failed_start fault.Read h = not_started _ (h (λ e. cc))
+  failed_start fault.Write h = not_started _ (h (λ e. cc))
+  failed_start fault.Internal h = not_started _ (h (λ e. cc))
+
+  -- the walk couldn't start
+  pub serves_no_walk : (result : Result (Unit {0}) Fault) (e : Fault) → result ≡ Err e → IsStartFault objects tips e → Serves objects old (Commits by tips hidden) result old
+  serves_no_walk result e same h = subst (λ (r : Result (Unit {0}) Fault). Serves objects old (Commits by tips hidden) r old) (sym same) (failed_start e h)

@@ -15,8 +15,11 @@ no_id = refl
 pub bad_id : request_of (codes "breadth" ∷ codes "zz" ∷ []) ≡ Err (fault.Id 2)
 bad_id = refl
 
-pub caret_behind_bad_id : request_of (codes "breadth" ∷ codes "zz" ∷ codes "^" ∷ []) ≡ Err fault.Usage
-caret_behind_bad_id = refl
+pub bad_id_before_others : request_of (codes "newest" ∷ codes "zz" ∷ codes "^" ∷ []) ≡ Err (fault.Id 2)
+bad_id_before_others = refl
+
+pub no_tip : request_of (codes "oldest" ∷ codes "^zz" ∷ codes "^" ∷ []) ≡ Err fault.Usage
+no_tip = refl
 
 pub no_tree : request_of (codes "files" ∷ []) ≡ Err fault.Usage
 no_tree = refl

@@ -4,6 +4,7 @@ ghost use Rattle.gix_walk.specs.Records.{Record, AreRecords};
 ghost use Rattle.gix_walk.specs.Run.{Runs, Serves};
 ghost use Rattle.gix_walk.specs.Words.{request_of_command};
 
+use crate::commits::walk_from;
 use crate::fault::Fault;
 use crate::files::write_files;
 use crate::input::read_to_end;
@@ -11,16 +12,16 @@ use crate::output::write_commits;
 use crate::records::read_records;
 use crate::words::{Command, read_command};
 use gix_parts::object::memory::MemoryStore;
-use gix_traverse::commit::Simple;
 use std::alloc::Global;
 use std::io::{Read, Write};
 
 /// How often a run asks its reader at most.
 pub const READS: u32 = 1 << 24;
 
-/// Runs the command that the words are over the records that the reader gives. `breadth` writes the id of each commit that the tips
-/// reach, one a line, in the order in which they are met; `files` writes the mode, the id and the path of each entry that stands in
-/// the tree or in a tree in it, one a line. The words are tested first, then the input is read whole.
+/// Runs the command that the words are over the records that the reader gives. `breadth`, `newest` and `oldest` write the id of each
+/// commit that the tips reach and the hidden ones don't, one a line, in the order in which they are met or in one by time; `files`
+/// writes the mode, the id and the path of each entry that stands in the tree or in a tree in it, one a line. The words are tested
+/// first, then the input is read whole.
 ///
 /// # Errors
 /// `Usage` and `Id` where the words are no command, `Read` where the reader fails or gives no end at its last turn, `Record` where the
@@ -55,7 +56,14 @@ fn serve<W: Write>(
     ensures { Serves store (W.contents writer.old) (request_of_command command) result (W.contents writer.new) }
 {
     match command {
-        Command::Breadth(tips) => write_commits(alloc, Simple::new(alloc, tips, store)?, writer),
+        Command::Commits {
+            sorting,
+            tips,
+            hidden,
+        } => {
+            let walk = walk_from(alloc, sorting, tips, hidden, store)?;
+            write_commits(alloc, walk, writer)
+        }
         Command::Files(tree) => write_files(alloc, tree, store, writer),
     }
 }

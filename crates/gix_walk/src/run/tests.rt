@@ -111,9 +111,14 @@ fn judges_the_words_first(rt: HostRuntime) -> Result<(), Fail> {
         (
             "breadth",
             "^1111111111111111111111111111111111111111",
-            Fault::Usage,
+            Fault::Id(4),
         ),
-        ("breadth", "^", Fault::Usage),
+        ("newest", "^", Fault::Id(3)),
+        (
+            "oldest",
+            "^^1111111111111111111111111111111111111111",
+            Fault::Id(3),
+        ),
         ("breadth", "", Fault::Id(3)),
         ("breadth", "zz", Fault::Id(3)),
         (
@@ -573,5 +578,109 @@ fn a_writer_that_fails_at_files_is_told(rt: HostRuntime) -> Result<(), Fail> {
         assert_eq!(rt; answer, expected);
         assert!(rt; line.as_bytes().starts_with(writer.bytes.as_slice()));
     }
+    Ok(())
+}
+
+const FOUR: &str = "4444444444444444444444444444444444444444";
+
+const FIVE: &str = "5555555555555555555555555555555555555555";
+
+const SIX: &str = "6666666666666666666666666666666666666666";
+
+const SEVEN: &str = "7777777777777777777777777777777777777777";
+
+const EIGHT: &str = "8888888888888888888888888888888888888888";
+
+// Adds the record of a commit whose time is its number.
+fn add_commit(
+    alloc: Global,
+    records: &mut String,
+    id: &str,
+    time: &str,
+    parents: &[&str],
+) -> Result<(), AllocError> {
+    let text = commit(alloc, time, parents)?;
+    records.push_str(record(alloc, "commit", id, text.as_str())?.as_str())?;
+    Ok(())
+}
+
+// The records of a history: two lines from commit 1 that commit 8 merges.
+fn sample(alloc: Global) -> Result<String, AllocError> {
+    let mut records = String::new(alloc);
+    add_commit(alloc, &mut records, ONE, "1", &[])?;
+    add_commit(alloc, &mut records, TWO, "2", &[ONE])?;
+    add_commit(alloc, &mut records, THREE, "3", &[ONE])?;
+    add_commit(alloc, &mut records, FOUR, "4", &[TWO])?;
+    add_commit(alloc, &mut records, FIVE, "5", &[THREE])?;
+    add_commit(alloc, &mut records, SIX, "6", &[FIVE])?;
+    add_commit(alloc, &mut records, SEVEN, "7", &[FOUR])?;
+    add_commit(alloc, &mut records, EIGHT, "8", &[SIX, SEVEN])?;
+    Ok(records)
+}
+
+// These ids, one a line.
+fn lines_of(alloc: Global, ids: &[&str]) -> Result<String, AllocError> {
+    let mut lines = String::new(alloc);
+    for id in ids {
+        lines.push_str(id)?;
+        lines.push_str("\n")?;
+    }
+    Ok(lines)
+}
+
+#[test]
+fn lists_in_an_order_by_time(rt: HostRuntime) -> Result<(), Fail> {
+    let alloc = rt.alloc();
+    let input = sample(alloc)?;
+    let (answer, output) = outcome(alloc, &["newest", EIGHT], input.as_str())?;
+    assert_eq!(rt; answer, Ok(()));
+    let lines = lines_of(alloc, &[EIGHT, SEVEN, SIX, FIVE, FOUR, THREE, TWO, ONE])?;
+    assert_eq!(rt; output.as_slice(), lines.as_bytes());
+    let (answer, output) = outcome(alloc, &["oldest", EIGHT], input.as_str())?;
+    assert_eq!(rt; answer, Ok(()));
+    let lines = lines_of(alloc, &[EIGHT, SIX, FIVE, THREE, ONE, SEVEN, FOUR, TWO])?;
+    assert_eq!(rt; output.as_slice(), lines.as_bytes());
+    Ok(())
+}
+
+#[test]
+fn hides_what_hidden_commits_reach(rt: HostRuntime) -> Result<(), Fail> {
+    let alloc = rt.alloc();
+    let input = sample(alloc)?;
+    let seven = format!(in alloc; "^{SEVEN}")?;
+    let lines = lines_of(alloc, &[EIGHT, SIX, FIVE, THREE])?;
+    for command in ["breadth", "newest", "oldest"] {
+        let (answer, output) = outcome(alloc, &[command, EIGHT, seven.as_str()], input.as_str())?;
+        assert_eq!(rt; answer, Ok(()));
+        assert_eq!(rt; output.as_slice(), lines.as_bytes());
+        let (answer, output) = outcome(alloc, &[command, seven.as_str(), EIGHT], input.as_str())?;
+        assert_eq!(rt; answer, Ok(()));
+        assert_eq!(rt; output.as_slice(), lines.as_bytes());
+        let (answer, output) = outcome(alloc, &[command, seven.as_str()], input.as_str())?;
+        assert_eq!(rt; answer, Err(Fault::Usage));
+        assert!(rt; output.is_empty());
+    }
+    let missing = format!(in alloc; "^{ROOT}")?;
+    let (answer, output) = outcome(alloc, &["breadth", EIGHT, missing.as_str()], input.as_str())?;
+    assert_eq!(rt; answer, Err(Fault::Missing(id(ROOT)?)));
+    assert!(rt; output.is_empty());
+    let (answer, output) = outcome(alloc, &["breadth", "zz", seven.as_str()], "")?;
+    assert_eq!(rt; answer, Err(Fault::Id(2)));
+    assert!(rt; output.is_empty());
+    Ok(())
+}
+
+#[test]
+fn a_tip_without_a_time_is_told_first(rt: HostRuntime) -> Result<(), Fail> {
+    let alloc = rt.alloc();
+    let (answer, output) = outcome(alloc, &["newest", ONE], "")?;
+    assert_eq!(rt; answer, Err(Fault::Missing(id(ONE)?)));
+    assert!(rt; output.is_empty());
+    let text = format!(in alloc; "tree {EMPTY_TREE}\nauthor A <a@b> 1 +0000\n")?;
+    let mut input = sample(alloc)?;
+    input.push_str(record(alloc, "commit", ROOT, text.as_str())?.as_str())?;
+    let (answer, output) = outcome(alloc, &["oldest", EIGHT, ROOT], input.as_str())?;
+    assert_eq!(rt; answer, Err(Fault::Broken));
+    assert!(rt; output.is_empty());
     Ok(())
 }
