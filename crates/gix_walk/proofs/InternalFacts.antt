@@ -17,9 +17,10 @@ use Rattle.gix_traverse.specs.declared.commit.simple.Hidden.TheVariants as hidde
 use Rattle.gix_traverse.specs.declared.commit.simple.pending.Pending.{Pending}
 use Rattle.gix_traverse.specs.SimpleWalk.{Treated, GoesOn, StoreFails, NoMemory, ReadsTime, unasked, from_row, from_store, store_fails, Treats, hidden, known, refused, accepted, no_memory, no_memory_after, TreatsAll, none, more, stops, Concludes, given, broken, Takes, by_row, by_store, not_found, Steps, ended, took, unhidden, paints, faulty_history}
 use Rattle.gix_traverse.specs.Painting.{IsHiddenFault}
+use Rattle.gix_traverse.specs.SimpleBuilding.{IsTipFault}
 use Rattle.gix_walk.specs.declared.fault.Fault.TheVariants as fault
 use Rattle.gix_walk.specs.Faults.{fault_of_find, fault_of_walk}
-use Rattle.gix_walk.specs.Walked.{Walk, Answers, objects_of, never_faulty, accepts_all}
+use Rattle.gix_walk.specs.Walked.{Walk, FailsAtStart, Answers, objects_of, never_faulty, accepts_all}
 
 -- an answer that tells of no failing store
 abbrev pub IsSound : Option (Result Info Error) → Type 0
@@ -36,7 +37,7 @@ Goes GoesOn = Unit {0}
 Goes StoreFails = ⊥
 Goes NoMemory = Unit {0}
 
-find_sound : (objects : Objects) (i : ObjectId) (k : Kind) (e : ExistingError) → IsExistingFault objects (never_faulty objects) i k e → fault_of_find e ≢ fault.Internal
+pub find_sound : (objects : Objects) (i : ObjectId) (k : Kind) (e : ExistingError) → IsExistingFault objects (never_faulty objects) i k e → fault_of_find e ≢ fault.Internal
 find_sound objects i k existing.Store h = absurd h
 find_sound objects i k (existing.NotFound oid) h = λ e. cc
 find_sound objects i k (existing.ObjectKind oid wanted actual) h = λ e. cc
@@ -55,7 +56,7 @@ treats_sound (refused n a) = tt
 treats_sound (accepted n a r q) = tt
 treats_sound (store_fails n a r) = read_sound r
 treats_sound no_memory = tt
-treats_sound (no_memory_after n a) = tt
+treats_sound (no_memory_after n a p) = tt
 
 all_sound : {told : Bool} {old : Walk} {ids : List ObjectId} {how : Treated} {new : Walk} → TreatsAll objects_of never_faulty accepts_all told old ids how new → Goes how
 all_sound none = tt
@@ -73,10 +74,11 @@ takes_sound : {old : Walk} {taken : Pending} {answer : Result Info Error} {new :
 takes_sound (by_row r i t c) = concludes_sound c (all_sound t)
 takes_sound (by_store u g t c) = concludes_sound c (all_sound t)
 takes_sound {old} {taken} (not_found {e = e} u f) = find_sound old.store taken.id object.Commit e f
-takes_sound no_memory = λ e. cc
+takes_sound (no_memory r) = λ e. cc
 
 steps_sound : {old : Walk} {answer : Option (Result Info Error)} {new : Walk} → Steps objects_of never_faulty accepts_all old answer new → IsSound answer
 steps_sound (ended e) = tt
+steps_sound (no_memory p) = λ e. cc
 steps_sound (took c t) = takes_sound t
 
 history_sound : (objects : Objects) (rows : List GraphRow) (ids : List ObjectId) (why : Hidden) → IsHiddenFault objects (never_faulty objects) rows ids why → fault_of_walk (error.HiddenGraph why) ≢ fault.Internal
@@ -89,3 +91,13 @@ next_sound (unhidden h s) = steps_sound s
 next_sound (paints p t m s) = steps_sound s
 next_sound {old} (faulty_history {why = why} p t r f) = history_sound old.store old.rows _ why f
 next_sound (no_memory p t r) = λ e. cc
+
+tip_sound : (objects : Objects) (i : ObjectId) (e : Error) → IsTipFault objects (never_faulty objects) i e → fault_of_walk e ≢ fault.Internal
+tip_sound objects i (error.Find e) h = find_sound objects i object.Commit e h
+tip_sound objects i (error.ObjectDecode e) h = λ e. cc
+tip_sound objects i (error.HiddenGraph e) h = absurd h
+tip_sound objects i error.Memory h = λ e. cc
+
+-- nor does the start of one
+pub start_sound : {objects : Objects} {tips : List ObjectId} {e : Error} → FailsAtStart objects tips e → fault_of_walk e ≢ fault.Internal
+start_sound {e = e} f = tip_sound f.made.store f.fails.tip.id e f.fails.fault

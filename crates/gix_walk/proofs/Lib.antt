@@ -3,6 +3,10 @@ mod SplitFacts
 mod HexFacts
 mod DecimalFacts
 mod WordFacts
+mod WordFaults
 mod OutputFacts
 mod InternalFacts
+mod TreeFacts
+mod FileFacts
+mod StartFacts
 mod RunFacts

@@ -96,10 +96,10 @@ adds_all walk at drawn infos old new waiting waits h step grows = record {
   grows = grows;
 }
 
--- what waits was written, and the writer flushed
-pub all_written : (walk : Walk) (old mid sent new : Option (List ℕ)) (waiting waits : List ℕ) (answer : Result (Unit {0}) Fault) → Adds walk old waiting answer mid waits → waiting ≡ [] → Appends mid sent waits → Keeps sent new → WritesAll walk old answer new
-all_written walk old mid sent new waiting waits answer h none k kept = record {
+-- what waits was written
+pub all_written : (walk : Walk) (old mid new : Option (List ℕ)) (waiting waits : List ℕ) (answer : Result (Unit {0}) Fault) → Adds walk old waiting answer mid waits → waiting ≡ [] → Appends mid new waits → WritesAll walk old answer new
+all_written walk old mid new waiting waits answer h none k = record {
   infos = h.infos;
   ends = h.ends;
-  appends = appends_kept old sent new (lines_of h.infos) (grows_end old mid sent waits (lines_of h.infos) (subst (λ (w : List ℕ). Grows old w mid waits (lines_of h.infos)) none h.grows) k) kept;
+  appends = grows_end old mid new waits (lines_of h.infos) (subst (λ (w : List ℕ). Grows old w mid waits (lines_of h.infos)) none h.grows) k;
 }

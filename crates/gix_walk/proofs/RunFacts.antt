@@ -1,33 +1,26 @@
 -- What a run may answer.
-use Rattle.std.specs.Prelude.{◌≡◌, ◌≢◌, ◌⊎◌, ℕ, ◌+◌, List, [], ◌∷◌, length, Bool, true, false, Option, Some, Result, Ok, Err}
-use Rattle.std.specs.Iterator.{Drains}
-use Rattle.std.specs.declared.vec.IntoIter.{IntoIter}
-use Rattle.std.specs.Vec.Iter.{into_iter_items, into_iter_len, into_iter_steps}
-use Rattle.std.proofs.Common.{cond, sym, subst, ap, ◌∙◌, inl, inr}
-use Rattle.std.proofs.lemmas.Iterator.{items_from_drains}
-use Rattle.std.proofs.lemmas.Iterator.Adapters.{YieldsList-from_vec}
-use Rattle.std.proofs.lemmas.List.{map-id}
+use Rattle.std.specs.Prelude.{◌≡◌, ◌≢◌, ◌⊎◌, ℕ, List, Option, Some, Result, Ok, Err}
+use Rattle.std.proofs.Common.{sym, subst, ap, ◌∙◌, inl, inr}
 use Rattle.gix_parts.specs.declared.hash.ObjectId.{ObjectId}
-use Rattle.gix_parts.specs.declared.hash.HexError.{HexError}
-use Rattle.gix_parts.specs.Id.{id_from_hex}
 use Rattle.gix_parts.specs.Object.{Objects}
 use Rattle.gix_traverse.specs.declared.commit.Info.{Info}
-use Rattle.gix_parts.specs.declared.object.find.existing_iter.Error.{Error as ExistingError}
-use Rattle.gix_parts.specs.declared.object.find.existing_iter.Error.TheVariants as existing
 use Rattle.gix_traverse.specs.declared.commit.simple.Error.{Error}
 use Rattle.gix_traverse.specs.declared.commit.simple.Error.TheVariants as error
 use Rattle.gix_traverse.specs.declared.commit.simple.Hidden.TheVariants as hidden_by
+use Rattle.gix_traverse.specs.declared.commit.simple.Sorting.{Sorting}
 use Rattle.gix_walk.specs.declared.fault.Fault.{Fault}
 use Rattle.gix_walk.specs.declared.fault.Fault.TheVariants as fault
-use Rattle.gix_walk.specs.Faults.{fault_of_find, fault_of_walk}
+use Rattle.gix_walk.specs.Faults.{fault_of_walk}
 use Rattle.gix_walk.specs.Input.{Tells}
 use Rattle.gix_walk.specs.Output.{WritesAll}
 use Rattle.gix_walk.specs.Records.{Record, AreRecords, IsRecordFault, bad, no_memory, stored}
-use Rattle.gix_walk.specs.Run.{Runs, without_memory, no_command, not_read, bad_record, walked, not_written}
-use Rattle.gix_walk.specs.Walked.{Walk, StartsFrom, Ends, finished, failed, cut_short}
-use Rattle.gix_walk.specs.Words.{with_id, ids_from, is_breadth, tips_of}
+use Rattle.gix_walk.specs.Run.{Serves, walked, not_walked, listed, not_listed, unserved, not_written, Runs, without_memory, no_command, not_read, bad_record, served}
+use Rattle.gix_walk.specs.Walked.{Walk, StartsFrom, FailsAtStart, IsStartFault, Ends, finished, failed, cut_short}
+use Rattle.gix_walk.specs.Words.{Request, Commits, request_of}
 use Rattle.gix_walk.proofs.RecordFacts.{no_bad_record}
-use Rattle.gix_walk.proofs.InternalFacts.{IsSound, next_sound}
+use Rattle.gix_walk.proofs.InternalFacts.{IsSound, next_sound, start_sound}
+use Rattle.gix_walk.proofs.TreeFacts.{find_unnumbered, tree_sound, tree_unnumbered}
+use Rattle.gix_walk.proofs.WordFaults.{OfWords, request_words}
 
 err_same : {e f : Fault} → ◌≡◌ {A = Result (Unit {0}) Fault} (Err e) (Err f) → e ≡ f
 err_same same = cc
@@ -38,50 +31,20 @@ ends_sound (finished m) = λ e. cc
 ends_sound (failed e new h) = λ same. let sound : IsSound (Some (Err e)) = next_sound h.2 in sound (err_same same)
 ends_sound (cut_short new h) = λ e. cc
 
--- the faults of words
-abbrev OfWords : Result (List ObjectId) Fault → Type 0
-OfWords (Ok ids) = Unit {0}
-OfWords (Err fault.Usage) = Unit {0}
-OfWords (Err (fault.Id n)) = Unit {0}
-OfWords (Err (fault.Record n)) = ⊥
-OfWords (Err (fault.Missing i)) = ⊥
-OfWords (Err (fault.WrongKind i)) = ⊥
-OfWords (Err fault.Broken) = ⊥
-OfWords (Err fault.Memory) = ⊥
-OfWords (Err fault.Read) = ⊥
-OfWords (Err fault.Write) = ⊥
-OfWords (Err fault.Internal) = ⊥
-
-with_words : (n : ℕ) (r : Result ObjectId HexError) (rest : Result (List ObjectId) Fault) → OfWords rest → OfWords (with_id n r rest)
-with_words n (Err e) rest h = tt
-with_words n (Ok i) (Err f) h = h
-with_words n (Ok i) (Ok ids) h = tt
-
-ids_words : (n : ℕ) (words : List (List ℕ)) → OfWords (ids_from n words)
-ids_words n [] = tt
-ids_words n (word ∷ words) = with_words n (id_from_hex word) (ids_from (n + 1) words) (ids_words (n + 1) words)
-
-tips_words : (words : List (List ℕ)) → OfWords (tips_of words)
-tips_words [] = tt
-tips_words (name ∷ ids) = go (is_breadth name ids)
-  where
-    go : (t : Bool) → OfWords (cond t (ids_from 2 ids) (Err fault.Usage))
-    go true = ids_words 2 ids
-    go false = tt
+serves_sound : {objects : Objects} {old new : Option (List ℕ)} {request : Request} {answer : Result (Unit {0}) Fault} → Serves objects old request answer new → answer ≢ Err fault.Internal
+serves_sound (walked walk infos s ends a) = ends_sound ends
+serves_sound (not_walked why f) = λ same. start_sound f (err_same same)
+serves_sound (listed recorder r a) = λ e. cc
+serves_sound {objects} (not_listed recorder why r) = λ same. tree_sound objects r (err_same same)
+serves_sound unserved = λ e. cc
+serves_sound not_written = λ e. cc
 
 pub runs_sound : {words : List (List ℕ)} {has old : Option (List ℕ)} {answer : Result (Unit {0}) Fault} {new : Option (List ℕ)} → Runs words has old answer new → answer ≢ Err fault.Internal
 runs_sound without_memory = λ e. cc
-runs_sound {words} (no_command t) = λ same. subst OfWords (t ∙ ap (λ x. Err x) (err_same same)) (tips_words words)
-runs_sound (not_read tips t) = λ e. cc
-runs_sound (bad_record tips input n t i b) = λ e. cc
-runs_sound (walked tips input records walk infos t i r s ends a) = ends_sound ends
-runs_sound (not_written tips input records t i r) = λ e. cc
-
-find_unnumbered : (n : ℕ) (e : ExistingError) → fault_of_find e ≢ fault.Record n
-find_unnumbered n existing.Store = λ e. cc
-find_unnumbered n (existing.NotFound oid) = λ e. cc
-find_unnumbered n (existing.ObjectKind oid wanted actual) = λ e. cc
-find_unnumbered n existing.Memory = λ e. cc
+runs_sound {words} (no_command t) = λ same. subst OfWords (t ∙ ap (λ x. Err x) (err_same same)) (request_words words)
+runs_sound (not_read request t) = λ e. cc
+runs_sound (bad_record request input n t i b) = λ e. cc
+runs_sound (served request input records t i r s) = serves_sound s
 
 walk_unnumbered : (n : ℕ) (e : Error) → fault_of_walk e ≢ fault.Record n
 walk_unnumbered n (error.Find e) = find_unnumbered n e
@@ -95,6 +58,14 @@ ends_unnumbered n (finished m) = λ e. cc
 ends_unnumbered n (failed e new h) = λ same. walk_unnumbered n e (err_same same)
 ends_unnumbered n (cut_short new h) = λ e. cc
 
+serves_unnumbered : {objects : Objects} {old new : Option (List ℕ)} {request : Request} {answer : Result (Unit {0}) Fault} (n : ℕ) → Serves objects old request answer new → answer ≢ Err (fault.Record n)
+serves_unnumbered n (walked walk infos s ends a) = ends_unnumbered n ends
+serves_unnumbered n (not_walked why f) = λ same. walk_unnumbered n why (err_same same)
+serves_unnumbered n (listed recorder r a) = λ e. cc
+serves_unnumbered n (not_listed recorder why r) = λ same. tree_unnumbered n why (err_same same)
+serves_unnumbered n unserved = λ e. cc
+serves_unnumbered n not_written = λ e. cc
+
 told_same : (bytes input : List ℕ) (has : Option (List ℕ)) → has ≡ Some bytes → Tells has input → input ≡ bytes
 told_same bytes input has is h = subst (λ (o : Option (List ℕ)). Tells o input) is h
 
@@ -102,14 +73,13 @@ told_same bytes input has is h = subst (λ (o : Option (List ℕ)). Tells o inpu
 pub runs_spelled : {words : List (List ℕ)} {has old : Option (List ℕ)} {answer : Result (Unit {0}) Fault} {new : Option (List ℕ)} → Runs words has old answer new
     → (bytes : List ℕ) (records : List Record) (n : ℕ) → has ≡ Some bytes → AreRecords records bytes → answer ≢ Err (fault.Record n)
 runs_spelled without_memory bytes records n is are = λ e. cc
-runs_spelled {words} (no_command t) bytes records n is are = λ same. subst OfWords (t ∙ ap (λ x. Err x) (err_same same)) (tips_words words)
-runs_spelled (not_read tips t) bytes records n is are = λ e. cc
-runs_spelled {words} {has} (bad_record tips input m t h b) bytes records n is are = λ _. no_bad_record m records input b (subst (AreRecords records) (sym (told_same bytes input has is h)) are)
-runs_spelled (walked tips input read walk infos t h r s ends a) bytes records n is are = ends_unnumbered n ends
-runs_spelled (not_written tips input read t h r) bytes records n is are = λ e. cc
+runs_spelled {words} (no_command t) bytes records n is are = λ same. subst OfWords (t ∙ ap (λ x. Err x) (err_same same)) (request_words words)
+runs_spelled (not_read request t) bytes records n is are = λ e. cc
+runs_spelled {words} {has} (bad_record request input m t h b) bytes records n is are = λ _. no_bad_record m records input b (subst (AreRecords records) (sym (told_same bytes input has is h)) are)
+runs_spelled (served request input read t h r s) bytes records n is are = serves_unnumbered n s
 
 module _ (words : List (List ℕ)) (has old : Option (List ℕ)) where
-  of_words : (e : Fault) → (e ≢ fault.Memory → tips_of words ≡ Err e) → Runs words has old (Err e) old
+  of_words : (e : Fault) → (e ≢ fault.Memory → request_of words ≡ Err e) → Runs words has old (Err e) old
   of_words fault.Memory h = without_memory
   of_words fault.Usage h = no_command (h (λ e. cc))
   of_words (fault.Id n) h = no_command (h (λ e. cc))
@@ -117,48 +87,69 @@ module _ (words : List (List ℕ)) (has old : Option (List ℕ)) where
   of_words (fault.Missing i) h = no_command (h (λ e. cc))
   of_words (fault.WrongKind i) h = no_command (h (λ e. cc))
   of_words fault.Broken h = no_command (h (λ e. cc))
+  of_words (fault.Cycle i) h = no_command (h (λ e. cc))
   of_words fault.Read h = no_command (h (λ e. cc))
   of_words fault.Write h = no_command (h (λ e. cc))
   of_words fault.Internal h = no_command (h (λ e. cc))
 
   -- the words were no command
-  pub runs_words : (result : Result (Unit {0}) Fault) (e : Fault) → result ≡ Err e → (e ≢ fault.Memory → tips_of words ≡ Err e) → Runs words has old result old
+  pub runs_words : (result : Result (Unit {0}) Fault) (e : Fault) → result ≡ Err e → (e ≢ fault.Memory → request_of words ≡ Err e) → Runs words has old result old
   runs_words result e same h = subst (λ (r : Result (Unit {0}) Fault). Runs words has old r old) (sym same) (of_words e h)
 
   -- the input wasn't read
-  pub runs_input : (tips : List ObjectId) (result : Result (Unit {0}) Fault) (e : Fault) → tips_of words ≡ Ok tips → result ≡ Err e → (e ≡ fault.Read) ⊎ (e ≡ fault.Memory) → Runs words has old result old
-  runs_input tips result e t same (inl h) = subst (λ (r : Result (Unit {0}) Fault). Runs words has old r old) (sym (same ∙ ap (λ x. Err x) h)) (not_read tips t)
-  runs_input tips result e t same (inr h) = subst (λ (r : Result (Unit {0}) Fault). Runs words has old r old) (sym (same ∙ ap (λ x. Err x) h)) without_memory
+  pub runs_input : (request : Request) (result : Result (Unit {0}) Fault) (e : Fault) → request_of words ≡ Ok request → result ≡ Err e → (e ≡ fault.Read) ⊎ (e ≡ fault.Memory) → Runs words has old result old
+  runs_input request result e t same (inl h) = subst (λ (r : Result (Unit {0}) Fault). Runs words has old r old) (sym (same ∙ ap (λ x. Err x) h)) (not_read request t)
+  runs_input request result e t same (inr h) = subst (λ (r : Result (Unit {0}) Fault). Runs words has old r old) (sym (same ∙ ap (λ x. Err x) h)) without_memory
 
-  of_record : (tips : List ObjectId) (input : List ℕ) (e : Fault) → tips_of words ≡ Ok tips → Tells has input → IsRecordFault input e → Runs words has old (Err e) old
-  of_record tips input e t h (bad {n = n} b) = bad_record tips input n t h b
-  of_record tips input e t h no_memory = without_memory
+  of_record : (request : Request) (input : List ℕ) (e : Fault) → request_of words ≡ Ok request → Tells has input → IsRecordFault input e → Runs words has old (Err e) old
+  of_record request input e t h (bad {n = n} b) = bad_record request input n t h b
+  of_record request input e t h no_memory = without_memory
 
   -- the input was no records
-  pub runs_records : (tips : List ObjectId) (input : List ℕ) (result : Result (Unit {0}) Fault) (e : Fault) → tips_of words ≡ Ok tips → Tells has input → result ≡ Err e → IsRecordFault input e → Runs words has old result old
-  runs_records tips input result e t h same f = subst (λ (r : Result (Unit {0}) Fault). Runs words has old r old) (sym same) (of_record tips input e t h f)
+  pub runs_records : (request : Request) (input : List ℕ) (result : Result (Unit {0}) Fault) (e : Fault) → request_of words ≡ Ok request → Tells has input → result ≡ Err e → IsRecordFault input e → Runs words has old result old
+  runs_records request input result e t h same f = subst (λ (r : Result (Unit {0}) Fault). Runs words has old r old) (sym same) (of_record request input e t h f)
 
-  pub runs_memory : (result : Result (Unit {0}) Fault) → result ≡ Err fault.Memory → Runs words has old result old
-  runs_memory result same = subst (λ (r : Result (Unit {0}) Fault). Runs words has old r old) (sym same) without_memory
+  module _ (request : Request) (input : List ℕ) (t : request_of words ≡ Ok request) (h : Tells has input) (objects : Objects) (read : (records : List Record) × AreRecords records input × (objects ≡ stored records)) (new : Option (List ℕ)) where
+    -- what was asked for was served
+    pub runs_served : (result : Result (Unit {0}) Fault) → Serves objects old request result new → Runs words has old result new
+    runs_served result s = served request input read.0 t h read.1 (subst (λ (o : Objects). Serves o old request result new) read.2 s)
 
-  module _ (tips : List ObjectId) (input : List ℕ) (t : tips_of words ≡ Ok tips) (h : Tells has input) (objects : Objects) (read : (records : List Record) × AreRecords records input × (objects ≡ stored records)) (walk : Walk) (starts : StartsFrom objects tips walk) (new : Option (List ℕ)) where
-    written : {result : Result (Unit {0}) Fault} → WritesAll walk old result new → Runs words has old result new
-    written w = walked tips input read.0 walk w.infos t h read.1 (subst (λ (o : Objects). StartsFrom o tips walk) read.2 starts) w.ends w.appends
+module _ (objects : Objects) (old : Option (List ℕ)) (by : Sorting) (tips hidden : List ObjectId) where
+  -- the walk was drawn
+  module _ (new : Option (List ℕ)) (walk : Walk) (starts : StartsFrom objects by tips hidden walk) where
+    drawn : {result : Result (Unit {0}) Fault} → WritesAll walk old result new → Serves objects old (Commits by tips hidden) result new
+    drawn w = walked walk w.infos starts w.ends w.appends
 
-    -- the walk was drawn
-    pub runs_walk : (result : Result (Unit {0}) Fault) → (result ≢ Err fault.Write → WritesAll walk old result new) → Runs words has old result new
-    runs_walk (Err fault.Write) w = not_written tips input read.0 t h read.1
-    runs_walk (Ok done) w = written (w (λ e. cc))
-    runs_walk (Err fault.Memory) w = written (w (λ e. cc))
-    runs_walk (Err fault.Usage) w = written (w (λ e. cc))
-    runs_walk (Err (fault.Id n)) w = written (w (λ e. cc))
-    runs_walk (Err (fault.Record n)) w = written (w (λ e. cc))
-    runs_walk (Err (fault.Missing i)) w = written (w (λ e. cc))
-    runs_walk (Err (fault.WrongKind i)) w = written (w (λ e. cc))
-    runs_walk (Err fault.Broken) w = written (w (λ e. cc))
-    runs_walk (Err fault.Read) w = written (w (λ e. cc))
-    runs_walk (Err fault.Internal) w = written (w (λ e. cc))
+    pub serves_walk : (result : Result (Unit {0}) Fault) → (result ≢ Err fault.Write → WritesAll walk old result new) → Serves objects old (Commits by tips hidden) result new
+    serves_walk (Err fault.Write) w = not_written
+    serves_walk (Ok done) w = drawn (w (λ e. cc))
+    serves_walk (Err fault.Memory) w = drawn (w (λ e. cc))
+    serves_walk (Err fault.Usage) w = drawn (w (λ e. cc))
+    serves_walk (Err (fault.Id n)) w = drawn (w (λ e. cc))
+    serves_walk (Err (fault.Record n)) w = drawn (w (λ e. cc))
+    serves_walk (Err (fault.Missing i)) w = drawn (w (λ e. cc))
+    serves_walk (Err (fault.WrongKind i)) w = drawn (w (λ e. cc))
+    serves_walk (Err fault.Broken) w = drawn (w (λ e. cc))
+    serves_walk (Err (fault.Cycle i)) w = drawn (w (λ e. cc))
+    serves_walk (Err fault.Read) w = drawn (w (λ e. cc))
+    serves_walk (Err fault.Internal) w = drawn (w (λ e. cc))
 
--- the ids that came of a vector are those that it held
-pub drained : {Z : Type 0} (tips ids : List ObjectId) (it : IntoIter ObjectId Z) → into_iter_items it ≡ tips → into_iter_len it ≡ length tips → Drains into_iter_steps it ids → ids ≡ tips
-drained tips ids it items len d = sym (map-id ids) ∙ items_from_drains ids (d.1.0, d.1.1, λ _. (d.0, d.1.2)) (YieldsList-from_vec tips items len)
+  not_started : (e : Fault) → (why : Error) × FailsAtStart objects tips why × (e ≡ fault_of_walk why) → Serves objects old (Commits by tips hidden) (Err e) old
+  not_started e h = subst (λ (f : Fault). Serves objects old (Commits by tips hidden) (Err f) old) (sym h.2) (not_walked h.0 h.1)
+
+  failed_start : (e : Fault) → IsStartFault objects tips e → Serves objects old (Commits by tips hidden) (Err e) old
+  failed_start fault.Memory h = unserved
+  failed_start fault.Usage h = not_started _ (h (λ e. cc))
+  failed_start (fault.Id n) h = not_started _ (h (λ e. cc))
+  failed_start (fault.Record n) h = not_started _ (h (λ e. cc))
+  failed_start (fault.Missing i) h = not_started _ (h (λ e. cc))
+  failed_start (fault.WrongKind i) h = not_started _ (h (λ e. cc))
+  failed_start fault.Broken h = not_started _ (h (λ e. cc))
+  failed_start (fault.Cycle i) h = not_started _ (h (λ e. cc))
+  failed_start fault.Read h = not_started _ (h (λ e. cc))
+  failed_start fault.Write h = not_started _ (h (λ e. cc))
+  failed_start fault.Internal h = not_started _ (h (λ e. cc))
+
+  -- the walk couldn't start
+  pub serves_no_walk : (result : Result (Unit {0}) Fault) (e : Fault) → result ≡ Err e → IsStartFault objects tips e → Serves objects old (Commits by tips hidden) result old
+  serves_no_walk result e same h = subst (λ (r : Result (Unit {0}) Fault). Serves objects old (Commits by tips hidden) r old) (sym same) (failed_start e h)

@@ -4,6 +4,8 @@ use Rattle.gix_parts.specs.declared.object.find.existing_iter.Error.TheVariants 
 use Rattle.gix_traverse.specs.declared.commit.simple.Error.{Error}
 use Rattle.gix_traverse.specs.declared.commit.simple.Error.TheVariants as error
 use Rattle.gix_traverse.specs.declared.commit.simple.Hidden.TheVariants as hidden_by
+use Rattle.gix_traverse.specs.declared.tree.breadthfirst.Error.{Error as TreeError}
+use Rattle.gix_traverse.specs.declared.tree.breadthfirst.Error.TheVariants as tree_error
 use Rattle.gix_walk.specs.declared.fault.Fault.{Fault}
 use Rattle.gix_walk.specs.declared.fault.Fault.TheVariants as fault
 
@@ -20,3 +22,10 @@ fault_of_walk (error.ObjectDecode e) = fault.Broken
 fault_of_walk (error.HiddenGraph (hidden_by.Find e)) = fault_of_find e
 fault_of_walk (error.HiddenGraph (hidden_by.ObjectDecode e)) = fault.Broken
 fault_of_walk error.Memory = fault.Memory
+
+abbrev pub fault_of_tree_walk : TreeError → Fault
+fault_of_tree_walk (tree_error.Find e) = fault_of_find e
+fault_of_tree_walk tree_error.Cancelled = fault.Internal
+fault_of_tree_walk (tree_error.ObjectDecode e) = fault.Broken
+fault_of_tree_walk (tree_error.Cycle oid) = fault.Cycle oid
+fault_of_tree_walk tree_error.Memory = fault.Memory

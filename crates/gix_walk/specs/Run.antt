@@ -2,24 +2,44 @@
 use Rattle.std.specs.Prelude.{◌≡◌, ℕ, List, Option, Result, Ok, Err}
 use Rattle.std.specs.Io.KnownBytes.{Appends}
 use Rattle.gix_parts.specs.declared.hash.ObjectId.{ObjectId}
+use Rattle.gix_parts.specs.Object.{Objects}
 use Rattle.gix_traverse.specs.declared.commit.Info.{Info}
+use Rattle.gix_traverse.specs.declared.commit.simple.Error.{Error}
+use Rattle.gix_traverse.specs.declared.commit.simple.Sorting.{Sorting}
+use Rattle.gix_traverse.specs.declared.tree.breadthfirst.Error.{Error as TreeError}
+use Rattle.gix_traverse.specs.Tracked.{Tracked}
 use Rattle.gix_walk.specs.declared.fault.Fault.{Fault}
 use Rattle.gix_walk.specs.declared.fault.Fault.TheVariants as fault
+use Rattle.gix_walk.specs.Faults.{fault_of_walk, fault_of_tree_walk}
+use Rattle.gix_walk.specs.Files.{RecordsTree, file_lines}
 use Rattle.gix_walk.specs.Input.{Tells}
-use Rattle.gix_walk.specs.Words.{tips_of}
 use Rattle.gix_walk.specs.Records.{Record, AreRecords, IsBadRecord, stored}
-use Rattle.gix_walk.specs.Walked.{Walk, StartsFrom, Ends, lines_of}
+use Rattle.gix_walk.specs.Walked.{Walk, StartsFrom, FailsAtStart, Ends, lines_of}
+use Rattle.gix_walk.specs.Words.{Request, Commits, Files, request_of}
+
+-- Over stored objects and a writer that held these bytes, what was asked for may have this answer and leave the writer with those
+-- bytes.
+pub data Serves (objects : Objects) (old : Option (List ℕ)) : Request → Result (Unit {0}) Fault → Option (List ℕ) → Type 0 where
+  -- the lines of the commits before a fault are written
+  walked : {by : Sorting} {tips hidden : List ObjectId} (walk : Walk) (infos : List Info) {answer : Result (Unit {0}) Fault} {new : Option (List ℕ)}
+      → StartsFrom objects by tips hidden walk → Ends walk infos answer → Appends old new (lines_of infos) → Serves objects old (Commits by tips hidden) answer new
+  not_walked : {by : Sorting} {tips hidden : List ObjectId} (e : Error) → FailsAtStart objects tips e → Serves objects old (Commits by tips hidden) (Err (fault_of_walk e)) old
+  listed : {tree : ObjectId} (recorder : Tracked) {new : Option (List ℕ)}
+      → RecordsTree objects tree recorder (Ok tt) → Appends old new (file_lines recorder.held.records) → Serves objects old (Files tree) (Ok tt) new
+  -- of a tree whose walk failed no line is written
+  not_listed : {tree : ObjectId} (recorder : Tracked) (e : TreeError) → RecordsTree objects tree recorder (Err e) → Serves objects old (Files tree) (Err (fault_of_tree_walk e)) old
+  -- memory was wanting before anything was written
+  unserved : {request : Request} → Serves objects old request (Err fault.Memory) old
+  -- of what was written nothing is said
+  not_written : {request : Request} {new : Option (List ℕ)} → Serves objects old request (Err fault.Write) new
 
 -- Over these words, a reader that has these bytes and a writer that held these bytes, a run may give this answer and leave the writer
 -- with those bytes.
 pub data Runs (words : List (List ℕ)) (has old : Option (List ℕ)) : Result (Unit {0}) Fault → Option (List ℕ) → Type 0 where
-  -- memory was wanting before the walk
+  -- memory was wanting for the words or the input
   without_memory : Runs words has old (Err fault.Memory) old
-  no_command : {e : Fault} → tips_of words ≡ Err e → Runs words has old (Err e) old
-  not_read : (tips : List ObjectId) → tips_of words ≡ Ok tips → Runs words has old (Err fault.Read) old
-  bad_record : (tips : List ObjectId) (input : List ℕ) (n : ℕ) → tips_of words ≡ Ok tips → Tells has input → IsBadRecord n input → Runs words has old (Err (fault.Record n)) old
-  walked : (tips : List ObjectId) (input : List ℕ) (records : List Record) (walk : Walk) (infos : List Info) {answer : Result (Unit {0}) Fault} {new : Option (List ℕ)}
-      → tips_of words ≡ Ok tips → Tells has input → AreRecords records input → StartsFrom (stored records) tips walk → Ends walk infos answer → Appends old new (lines_of infos)
-      → Runs words has old answer new
-  -- of what was written nothing is said
-  not_written : (tips : List ObjectId) (input : List ℕ) (records : List Record) {new : Option (List ℕ)} → tips_of words ≡ Ok tips → Tells has input → AreRecords records input → Runs words has old (Err fault.Write) new
+  no_command : {e : Fault} → request_of words ≡ Err e → Runs words has old (Err e) old
+  not_read : (request : Request) → request_of words ≡ Ok request → Runs words has old (Err fault.Read) old
+  bad_record : (request : Request) (input : List ℕ) (n : ℕ) → request_of words ≡ Ok request → Tells has input → IsBadRecord n input → Runs words has old (Err (fault.Record n)) old
+  served : (request : Request) (input : List ℕ) (records : List Record) {answer : Result (Unit {0}) Fault} {new : Option (List ℕ)}
+      → request_of words ≡ Ok request → Tells has input → AreRecords records input → Serves (stored records) old request answer new → Runs words has old answer new

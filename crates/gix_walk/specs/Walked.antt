@@ -1,5 +1,5 @@
 -- A walk over records, and the lines that it writes.
-use Rattle.std.specs.Prelude.{◌≡◌, ℕ, List, [], ◌∷◌, ◌++◌, map, Bool, true, Option, Some, Result, Ok, Err}
+use Rattle.std.specs.Prelude.{◌≡◌, ◌≢◌, ℕ, List, [], ◌∷◌, ◌++◌, map, Bool, true, Option, Some, Result, Ok, Err}
 use Rattle.std.specs.List.{flat_map}
 use Rattle.std.specs.Iterator.{Yields, YieldsThen}
 use Rattle.gix_parts.specs.declared.hash.ObjectId.{ObjectId}
@@ -8,6 +8,9 @@ use Rattle.gix_parts.specs.Object.{Objects}
 use Rattle.gix_traverse.specs.declared.commit.Info.{Info}
 use Rattle.gix_traverse.specs.declared.commit.Unfiltered.{Unfiltered}
 use Rattle.gix_traverse.specs.declared.commit.simple.Error.{Error}
+use Rattle.gix_traverse.specs.declared.commit.simple.Sorting.{Sorting}
+use Rattle.gix_traverse.specs.declared.commit.simple.Sorting.TheVariants as sorting
+use Rattle.gix_traverse.specs.SimpleBuilding.{IsSortedByTime, FailsAtTip}
 use Rattle.gix_traverse.specs.SimpleWalk.{SimpleWalk, IsMade, Next, May}
 use Rattle.gix_walk.specs.declared.fault.Fault.{Fault}
 use Rattle.gix_walk.specs.declared.fault.Fault.TheVariants as fault
@@ -31,8 +34,32 @@ abbrev pub Answers : Walk → Option (Result Info Error) → Walk → Type 0
 Answers = Next objects_of never_faulty accepts_all
 
 -- a walk that was made of these tips
-abbrev pub StartsFrom : Objects → List ObjectId → Walk → Type 0
-StartsFrom objects tips walk = IsMade objects_of never_faulty accepts_all objects (record {}) tips walk
+abbrev pub IsMadeOf : Objects → List ObjectId → Walk → Type 0
+IsMadeOf objects tips walk = IsMade objects_of never_faulty accepts_all objects (record {}) tips walk
+
+-- the same walk in an order
+abbrev pub IsSorted : Walk → Sorting → Walk → Type 0
+IsSorted made sorting.BreadthFirst walk = walk ≡ record made { sorting = sorting.BreadthFirst }
+IsSorted made (sorting.ByCommitTime order) walk = IsSortedByTime objects_of made (sorting.ByCommitTime order) walk
+IsSorted made (sorting.ByCommitTimeCutoff order seconds) walk = IsSortedByTime objects_of made (sorting.ByCommitTimeCutoff order seconds) walk
+
+-- a walk in an order from tips, which is to hide what other tips reach, before its first step
+pub record StartsFrom (objects : Objects) (by : Sorting) (tips hidden : List ObjectId) (walk : Walk) : Type 0 where
+  pub made : Walk
+  pub sorted : Walk
+  pub makes : IsMadeOf objects tips made
+  pub sorts : IsSorted made by sorted
+  pub hides : walk ≡ record sorted { hidden_tips = hidden }
+
+-- the time of a tip can't be read
+pub record FailsAtStart (objects : Objects) (tips : List ObjectId) (e : Error) : Type 0 where
+  pub made : Walk
+  pub makes : IsMadeOf objects tips made
+  pub fails : FailsAtTip made.store (never_faulty made.store) made.pending e
+
+-- a walk may fail so before its first step, unless memory ran out
+abbrev pub IsStartFault : Objects → List ObjectId → Fault → Type 0
+IsStartFault objects tips e = e ≢ fault.Memory → (why : Error) × FailsAtStart objects tips why × (e ≡ fault_of_walk why)
 
 abbrev pub given : List Info → List (Result Info Error)
 given infos = map Ok infos

@@ -1,12 +1,27 @@
--- The words of a command: `breadth`, and one id at least.
-use Rattle.std.specs.Prelude.{◌≡◌, ◌≢◌, ℕ, ◌+◌, ◌==◌, List, [], ◌∷◌, Bool, true, false, not, ◌&&◌, if◌then◌else◌, Result, Ok, Err, codes}
-use Rattle.std.specs.List.{list_any}
+-- What the words of a command ask for.
+use Rattle.std.specs.Prelude.{◌≡◌, ◌≢◌, ℕ, ◌+◌, ◌==◌, List, [], ◌∷◌, ◌++◌, Bool, true, false, if◌then◌else◌, Option, Some, None, Result, Ok, Err, codes}
+use Rattle.std.specs.List.{list_all}
 use Rattle.std.specs.Str.{bytes_eq}
 use Rattle.gix_parts.specs.declared.hash.ObjectId.{ObjectId}
 use Rattle.gix_parts.specs.declared.hash.HexError.{HexError}
 use Rattle.gix_parts.specs.Id.{id_from_hex}
+use Rattle.gix_traverse.specs.declared.commit.simple.CommitTimeOrder.TheVariants as order
+use Rattle.gix_traverse.specs.declared.commit.simple.Sorting.{Sorting}
+use Rattle.gix_traverse.specs.declared.commit.simple.Sorting.TheVariants as sorting
 use Rattle.gix_walk.specs.declared.fault.Fault.{Fault}
 use Rattle.gix_walk.specs.declared.fault.Fault.TheVariants as fault
+use Rattle.gix_walk.specs.declared.words.Command.{Command}
+use Rattle.gix_walk.specs.declared.words.Command.TheVariants as command
+
+pub data Request : Type 0 where
+  -- the commits that the tips reach and the hidden ones don't, in an order
+  Commits : (sorting : Sorting) (tips hidden : List ObjectId) → Request
+  -- what stands in the tree of this id
+  Files : (tree : ObjectId) → Request
+
+abbrev pub request_of_command : Command → Request
+request_of_command (command.Commits sorting tips hidden) = Commits sorting tips.items hidden.items
+request_of_command (command.Files tree) = Files tree
 
 -- what a function returned, seen by view, is what it was to be, unless memory ran out
 abbrev pub Gives : {X Y : Type 0} → (X → Y) → Result X Fault → Result Y Fault → Type 0
@@ -18,26 +33,66 @@ abbrev pub begins_with_caret : List ℕ → Bool
 begins_with_caret [] = false
 begins_with_caret (b ∷ bs) = b == 94
 
--- an id before others, or the number of the word that is none
-abbrev pub with_id : ℕ → Result ObjectId HexError → Result (List ObjectId) Fault → Result (List ObjectId) Fault
-with_id n (Err e) others = Err (fault.Id n)
-with_id n (Ok i) (Err e) = Err e
-with_id n (Ok i) (Ok ids) = Ok (i ∷ ids)
+abbrev pub without_caret : List ℕ → List ℕ
+without_caret [] = []
+without_caret (b ∷ bs) = if b == 94 then bs else b ∷ bs
+
+-- ids of tips, and of commits to be hidden
+abbrev pub Ids : Type 0
+Ids = List ObjectId × List ObjectId
+
+abbrev pub with_id : Bool → ObjectId → Ids → Ids
+with_id true i ids = (ids.0, i ∷ ids.1)
+with_id false i ids = (i ∷ ids.0, ids.1)
+
+-- the id of a word before those of others, or the number of the word, which spells none
+abbrev pub with_word : Bool → ℕ → Result ObjectId HexError → Result Ids Fault → Result Ids Fault
+with_word hidden n (Err e) others = Err (fault.Id n)
+with_word hidden n (Ok i) (Err e) = Err e
+with_word hidden n (Ok i) (Ok ids) = Ok (with_id hidden i ids)
 
 -- the ids that words spell, the first of them word n
-abbrev pub ids_from : ℕ → List (List ℕ) → Result (List ObjectId) Fault
-ids_from n [] = Ok []
-ids_from n (word ∷ words) = with_id n (id_from_hex word) (ids_from (n + 1) words)
+abbrev pub ids_from : ℕ → List (List ℕ) → Result Ids Fault
+ids_from n [] = Ok ([], [])
+ids_from n (word ∷ words) = with_word (begins_with_caret word) n (id_from_hex (without_caret word)) (ids_from (n + 1) words)
 
-abbrev pub is_empty : List (List ℕ) → Bool
-is_empty [] = true
-is_empty (word ∷ words) = false
+-- the id that the digits of word n spell was put behind others, unless memory ran out
+abbrev pub AddsId : List ℕ → ℕ → List ObjectId → Result (Unit {0}) Fault → List ObjectId → Type 0
+AddsId digits n old (Ok done) new = (i : ObjectId) × (id_from_hex digits ≡ Ok i) × (new ≡ old ++ i ∷ [])
+AddsId digits n old (Err e) new = e ≢ fault.Memory → (why : HexError) × (id_from_hex digits ≡ Err why) × (e ≡ fault.Id n)
 
--- the command, with one id at least and none of a commit that is to be hidden
-abbrev pub is_breadth : List ℕ → List (List ℕ) → Bool
-is_breadth name ids = bytes_eq name (codes "breadth") && not (is_empty ids) && not (list_any begins_with_caret ids)
+-- the order of the walk over commits that a command names
+abbrev pub sorting_named : List ℕ → Option Sorting
+sorting_named name =
+    if bytes_eq name (codes "breadth") then Some sorting.BreadthFirst
+    else if bytes_eq name (codes "newest") then Some (sorting.ByCommitTime order.NewestFirst)
+    else if bytes_eq name (codes "oldest") then Some (sorting.ByCommitTime order.OldestFirst)
+    else None
 
--- the ids of a command, or why the words are none: all words are judged as a command before any is judged as an id
-abbrev pub tips_of : List (List ℕ) → Result (List ObjectId) Fault
-tips_of [] = Err fault.Usage
-tips_of (name ∷ ids) = if is_breadth name ids then ids_from 2 ids else Err fault.Usage
+abbrev pub commits_from : Sorting → Result Ids Fault → Result Request Fault
+commits_from by (Ok ids) = Ok (Commits by ids.0 ids.1)
+commits_from by (Err e) = Err e
+
+abbrev pub files_from : Result ObjectId HexError → Result Request Fault
+files_from (Ok tree) = Ok (Files tree)
+files_from (Err e) = Err (fault.Id 2)
+
+-- one tip at least: this is judged of all words before any is judged as an id
+abbrev pub commits_of : Sorting → List (List ℕ) → Result Request Fault
+commits_of by ids = if list_all begins_with_caret ids then Err fault.Usage else commits_from by (ids_from 2 ids)
+
+-- one id
+abbrev pub files_of : List (List ℕ) → Result Request Fault
+files_of [] = Err fault.Usage
+files_of (id ∷ []) = if begins_with_caret id then Err fault.Usage else files_from (id_from_hex id)
+files_of (id ∷ next ∷ ids) = Err fault.Usage
+
+-- what words ask for by this name, which may be that of an order
+abbrev pub request_named : List ℕ → Option Sorting → List (List ℕ) → Result Request Fault
+request_named name (Some by) ids = commits_of by ids
+request_named name None ids = if bytes_eq name (codes "files") then files_of ids else Err fault.Usage
+
+-- what words ask for, or why they are no command
+abbrev pub request_of : List (List ℕ) → Result Request Fault
+request_of [] = Err fault.Usage
+request_of (name ∷ ids) = request_named name (sorting_named name) ids

@@ -4,6 +4,7 @@ ghost use Rattle.std.specs.Prelude.{◌≡◌};
 use gix_parts::hash::ObjectId;
 use gix_parts::object::find::existing_iter;
 use gix_traverse::commit::simple;
+use gix_traverse::tree::depthfirst;
 use std::alloc::AllocError;
 use thiserror::Error;
 
@@ -28,6 +29,9 @@ pub enum Fault {
     /// An object's bytes are broken.
     #[error("broken object")]
     Broken,
+    /// The tree of this id stands under itself.
+    #[error("cycle {0}")]
+    Cycle(ObjectId),
     /// Memory was wanting.
     #[error("out of memory")]
     Memory,
@@ -37,7 +41,7 @@ pub enum Fault {
     /// The output could not be written.
     #[error("write failed")]
     Write,
-    /// A store that is held in memory failed, which doesn't happen.
+    /// A store that is held in memory failed, or a recorder broke a walk off, which doesn't happen.
     #[error("internal fault")]
     Internal,
 }
@@ -83,6 +87,22 @@ impl From<simple::Error> for Fault {
     }
 }
 
+impl From<depthfirst::Error> for Fault {
+    ghost use Rattle.gix_walk.specs.Faults.{fault_of_tree_walk};
+
+    ghost from_gives = { λ e r. r ≡ fault_of_tree_walk e };
+
+    fn from(error: depthfirst::Error) -> Fault {
+        match error {
+            depthfirst::Error::Find(fault) => Fault::from(fault),
+            depthfirst::Error::Cancelled => Fault::Internal,
+            depthfirst::Error::ObjectDecode(_) => Fault::Broken,
+            depthfirst::Error::Cycle { oid } => Fault::Cycle(oid),
+            depthfirst::Error::Memory => Fault::Memory,
+        }
+    }
+}
+
 #[cfg(test)]
 mod tests {
     use super::*;
@@ -94,6 +114,7 @@ mod tests {
         let digits = "1111111111111111111111111111111111111111";
         let missing = format!(in rt.alloc(); "missing {digits}")?;
         let wrong_kind = format!(in rt.alloc(); "wrong kind {digits}")?;
+        let cycle = format!(in rt.alloc(); "cycle {digits}")?;
         for (fault, text) in [
             (Fault::Usage, "usage"),
             (Fault::Id(2), "bad id in word 2"),
@@ -101,6 +122,7 @@ mod tests {
             (Fault::Missing(id), missing.as_str()),
             (Fault::WrongKind(id), wrong_kind.as_str()),
             (Fault::Broken, "broken object"),
+            (Fault::Cycle(id), cycle.as_str()),
             (Fault::Memory, "out of memory"),
             (Fault::Read, "read failed"),
             (Fault::Write, "write failed"),

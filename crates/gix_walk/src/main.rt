@@ -1,7 +1,9 @@
-//! Lists the commits that some commits reach, from a stream of a repository's objects.
+//! Lists the commits that some commits reach, or the files of a tree, from a stream of a repository's objects.
 #![tactic(auto)]
 
+mod commits;
 mod fault;
+mod files;
 mod input;
 mod output;
 mod records;

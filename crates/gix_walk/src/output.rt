@@ -1,4 +1,4 @@
-//! The lines of a walk.
+//! The lines of a walk over commits.
 ghost use Rattle.std.specs.Prelude.{◌≡◌, ◌≢◌, ◌⊎◌, [], Err, OnOk, OnErr, IfErr};
 ghost use Rattle.std.specs.Io.KnownBytes.{Appends};
 ghost use Rattle.gix_walk.specs.Output.{Grows, Adds, WritesAll};
@@ -27,9 +27,20 @@ pub fn write_commits<W: Write>(
 {
     let mut lines = Vec::new(alloc);
     let drawn = add_commits(alloc, walk, &mut lines, writer);
-    write_lines(&mut lines, writer)?;
-    writer.flush().map_err(|_| Fault::Write)?;
+    write_out(&mut lines, writer)?;
     drawn
+}
+
+/// Writes the lines that wait, and flushes the writer.
+///
+/// # Errors
+/// `Write` where the writer failed.
+pub fn write_out<W: Write>(lines: &mut Vec<u8>, writer: &mut W) -> Result<(), Fault>
+    ensures ok { OnOk result (Appends (W.contents writer.old) (W.contents writer.new) lines.old.items) }
+    ensures fault { IfErr result (λ e. e ≡ Fault.Write) }
+{
+    write_lines(lines, writer)?;
+    writer.flush().map_err(|_| Fault::Write)
 }
 
 // Adds a line for each commit to those that wait, up to the walk's first fault.

@@ -1,27 +1,33 @@
 //! A run of the program.
 ghost use Rattle.std.specs.Prelude.{◌≡◌, ◌≢◌, ℕ, List, map, Some, Err, string_bytes};
 ghost use Rattle.gix_walk.specs.Records.{Record, AreRecords};
-ghost use Rattle.gix_walk.specs.Run.{Runs};
+ghost use Rattle.gix_walk.specs.Run.{Runs, Serves};
+ghost use Rattle.gix_walk.specs.Words.{request_of_command};
 
+use crate::commits::walk_from;
 use crate::fault::Fault;
+use crate::files::write_files;
 use crate::input::read_to_end;
 use crate::output::write_commits;
 use crate::records::read_records;
-use crate::words::tips;
-use gix_traverse::commit::Simple;
+use crate::words::{Command, read_command};
+use gix_parts::object::memory::MemoryStore;
 use std::alloc::Global;
 use std::io::{Read, Write};
 
 /// How often a run asks its reader at most.
 pub const READS: u32 = 1 << 24;
 
-/// Runs the command that the words are over the records that the reader gives: the id of each commit that the tips reach, one a
-/// line, in the order in which they are met. The words are tested first, then the input is read whole.
+/// Runs the command that the words are over the records that the reader gives. `breadth`, `newest` and `oldest` write the id of each
+/// commit that the tips reach and the hidden ones don't, one a line, in the order in which they are met or in one by time; `files`
+/// writes the mode, the id and the path of each entry that stands in the tree or in a tree in it, one a line. The words are tested
+/// first, then the input is read whole.
 ///
 /// # Errors
 /// `Usage` and `Id` where the words are no command, `Read` where the reader fails or gives no end at its last turn, `Record` where the
-/// input isn't records: in these cases nothing is written. `Missing`, `WrongKind` and `Broken` where the walk meets such a commit: the
-/// lines of the commits before it are written. `Write` where the writer fails; what it holds then is left open. `Memory`.
+/// input isn't records: in these cases nothing is written. `Missing`, `WrongKind` and `Broken` where the walk meets such an object,
+/// `Cycle` where it meets a tree that stands under itself: the lines of the commits before are written, and none of `files`. `Write`
+/// where the writer fails; what it holds then is left open. `Memory`.
 pub fn run<R: Read, W: Write>(
     alloc: Global,
     words: &[String],
@@ -33,11 +39,33 @@ pub fn run<R: Read, W: Write>(
     ensures spelled { (input : List ℕ) (records : List Record) (n : ℕ) → R.remaining reader.old ≡ Some input → AreRecords records input → result ≢ Err (Fault.Record n) }
     ensures sound { result ≢ Err Fault.Internal }
 {
-    let tips = tips(alloc, words)?;
+    let command = read_command(alloc, words)?;
     let input = read_to_end(alloc, reader, READS)?;
     let store = read_records(alloc, &input)?;
     drop(input);
-    write_commits(alloc, Simple::new(alloc, tips, store)?, writer)
+    serve(alloc, command, store, writer)
+}
+
+// Writes what a command asks for.
+fn serve<W: Write>(
+    alloc: Global,
+    command: Command,
+    store: MemoryStore,
+    writer: &mut W,
+) -> Result<(), Fault>
+    ensures { Serves store (W.contents writer.old) (request_of_command command) result (W.contents writer.new) }
+{
+    match command {
+        Command::Commits {
+            sorting,
+            tips,
+            hidden,
+        } => {
+            let walk = walk_from(alloc, sorting, tips, hidden, store)?;
+            write_commits(alloc, walk, writer)
+        }
+        Command::Files(tree) => write_files(alloc, tree, store, writer),
+    }
 }
 
 #[cfg(test)]

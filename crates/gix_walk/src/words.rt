@@ -1,44 +1,103 @@
 //! The words of a command.
 ghost use Rattle.std.specs.Prelude.{◌≡◌, map, string_bytes};
-ghost use Rattle.gix_walk.specs.Words.{Gives, begins_with_caret, is_breadth, ids_from, tips_of};
-ghost use Rattle.std.specs.List.{list_any};
+ghost use Rattle.std.specs.List.{list_all};
+ghost use Rattle.gix_walk.specs.Words.{Gives, AddsId, begins_with_caret, request_of_command, request_of, sorting_named, ids_from, commits_of, files_of};
 
 use crate::fault::Fault;
 use gix_parts::hash::ObjectId;
+use gix_traverse::commit::simple::{CommitTimeOrder, Sorting};
 use std::alloc::{AllocError, Global};
 
-/// The commits that a walk starts from: `breadth`, and one id at least in 40 or 64 hex digits.
+/// What the words ask for.
+#[derive(Drop)]
+pub enum Command {
+    /// The commits that the tips reach and the hidden ones don't, in an order.
+    Commits {
+        sorting: Sorting,
+        tips: Vec<ObjectId>,
+        hidden: Vec<ObjectId>,
+    },
+    /// What stands in the tree of this id.
+    Files(ObjectId),
+}
+
+/// The command that the words are: `breadth`, `newest` or `oldest`, ids of tips, one at least, and behind a `^` ids of commits to be
+/// hidden; or `files` and one id. An id is 40 or 64 hex digits.
 ///
 /// # Errors
 /// `Usage` where the words are no command, `Id` at the first word that has to be an id and is none, `Memory`.
-pub fn tips(alloc: Global, words: &[String]) -> Result<Vec<ObjectId>, Fault>
-    ensures { Gives (λ ids. ids.items) result (tips_of (map string_bytes words.now)) }
+pub fn read_command(alloc: Global, words: &[String]) -> Result<Command, Fault>
+    ensures { Gives request_of_command result (request_of (map string_bytes words.now)) }
 {
     let Some((name, ids)) = words.split_first() else {
         return Err(Fault::Usage);
     };
-    if !is_breadth(name, ids) {
+    if let Some(sorting) = sorting_named(name) {
+        return commits(alloc, sorting, ids);
+    }
+    if name.as_str() == "files" {
+        return files(ids);
+    }
+    Err(Fault::Usage)
+}
+
+// The order of the walk over commits that this is the name of.
+fn sorting_named(name: &String) -> Option<Sorting>
+    ensures { result ≡ sorting_named (string_bytes name.now) }
+{
+    if name.as_str() == "breadth" {
+        return Some(Sorting::BreadthFirst);
+    }
+    if name.as_str() == "newest" {
+        return Some(Sorting::ByCommitTime(CommitTimeOrder::NewestFirst));
+    }
+    if name.as_str() == "oldest" {
+        return Some(Sorting::ByCommitTime(CommitTimeOrder::OldestFirst));
+    }
+    None
+}
+
+// The walk over commits from these ids, of which one at least must be a tip.
+fn commits(alloc: Global, sorting: Sorting, ids: &[String]) -> Result<Command, Fault>
+    ensures { Gives request_of_command result (commits_of sorting (map string_bytes ids.now)) }
+{
+    if are_hidden(ids) {
         return Err(Fault::Usage);
     }
-    ids_behind(alloc, ids)
+    let (tips, hidden) = read_ids(alloc, ids)?;
+    Ok(Command::Commits {
+        sorting,
+        tips,
+        hidden,
+    })
 }
 
-// Whether the words are the command, with one id at least and none of a commit that is to be hidden.
-fn is_breadth(name: &String, ids: &[String]) -> bool
-    ensures { result ≡ is_breadth (string_bytes name.now) (map string_bytes ids.now) }
+// The tree of this id, which must be alone.
+fn files(ids: &[String]) -> Result<Command, Fault>
+    ensures { Gives request_of_command result (files_of (map string_bytes ids.now)) }
 {
-    name.as_str() == "breadth" && !ids.is_empty() && !any_hidden(ids)
+    let [tree] = ids else {
+        return Err(Fault::Usage);
+    };
+    if begins_with_caret(tree) {
+        return Err(Fault::Usage);
+    }
+    match ObjectId::from_hex(tree.as_bytes()) {
+        Ok(tree) => Ok(Command::Files(tree)),
+        Err(_) => Err(Fault::Id(2)),
+    }
 }
 
-fn any_hidden(ids: &[String]) -> bool
-    ensures { result ≡ list_any begins_with_caret (map string_bytes ids.now) }
+// Whether each of them is to be hidden.
+fn are_hidden(ids: &[String]) -> bool
+    ensures { result ≡ list_all begins_with_caret (map string_bytes ids.now) }
 {
     for id in ids {
-        if begins_with_caret(id) {
-            return true;
+        if !begins_with_caret(id) {
+            return false;
         }
     }
-    false
+    true
 }
 
 // Whether it names a commit that is to be hidden.
@@ -48,16 +107,28 @@ fn begins_with_caret(word: &String) -> bool
     matches!(word.as_bytes(), [b'^', ..])
 }
 
-// The ids that the words behind the command spell. The first of them is word 2.
-fn ids_behind(alloc: Global, words: &[String]) -> Result<Vec<ObjectId>, Fault>
-    ensures { Gives (λ ids. ids.items) result (ids_from 2 (map string_bytes words.now)) }
+// The ids of tips that the words behind the command spell, and those of commits to be hidden. The first of the words is word 2.
+fn read_ids(alloc: Global, words: &[String]) -> Result<(Vec<ObjectId>, Vec<ObjectId>), Fault>
+    ensures { Gives (λ ids. (ids.0.items, ids.1.items)) result (ids_from 2 (map string_bytes words.now)) }
 {
-    let mut ids = Vec::new(alloc);
+    let mut tips = Vec::new(alloc);
+    let mut hidden = Vec::new(alloc);
     for (i, word) in words.iter().enumerate() {
-        match ObjectId::from_hex(word.as_bytes()) {
-            Ok(id) => ids.push(id).map_err(AllocError::from)?,
-            Err(_) => return Err(Fault::Id(i + 2)),
+        match word.as_bytes() {
+            [b'^', digits @ ..] => add_id(&mut hidden, digits, i + 2)?,
+            digits => add_id(&mut tips, digits, i + 2)?,
         }
     }
-    Ok(ids)
+    Ok((tips, hidden))
+}
+
+// Adds the id that the digits of the word of this number spell.
+fn add_id(ids: &mut Vec<ObjectId>, digits: &[u8], number: usize) -> Result<(), Fault>
+    ensures { AddsId digits.now number ids.old.items result ids.new.items }
+{
+    let Ok(id) = ObjectId::from_hex(digits) else {
+        return Err(Fault::Id(number));
+    };
+    ids.push(id).map_err(AllocError::from)?;
+    Ok(())
 }

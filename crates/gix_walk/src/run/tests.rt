@@ -52,8 +52,16 @@ fn outcome(
     words: &[&str],
     input: &str,
 ) -> Result<(Result<(), Fault>, Vec<u8>), AllocError> {
+    outcome_of_bytes(alloc, words, input.as_bytes())
+}
+
+fn outcome_of_bytes(
+    alloc: Global,
+    words: &[&str],
+    input: &[u8],
+) -> Result<(Result<(), Fault>, Vec<u8>), AllocError> {
     let words = strings(alloc, words)?;
-    let mut reader = input.as_bytes();
+    let mut reader = input;
     let mut output = Vec::new(alloc);
     let answer = run(alloc, &words, &mut reader, &mut output);
     Ok((answer, output))
@@ -103,9 +111,14 @@ fn judges_the_words_first(rt: HostRuntime) -> Result<(), Fail> {
         (
             "breadth",
             "^1111111111111111111111111111111111111111",
-            Fault::Usage,
+            Fault::Id(4),
         ),
-        ("breadth", "^", Fault::Usage),
+        ("newest", "^", Fault::Id(3)),
+        (
+            "oldest",
+            "^^1111111111111111111111111111111111111111",
+            Fault::Id(3),
+        ),
         ("breadth", "", Fault::Id(3)),
         ("breadth", "zz", Fault::Id(3)),
         (
@@ -373,5 +386,301 @@ fn writes_many_lines(rt: HostRuntime) -> Result<(), Fail> {
     assert_eq!(rt; answer, Ok(()));
     assert_eq!(rt; output.len(), 82_000);
     assert_eq!(rt; output.as_slice(), lines.as_bytes());
+    Ok(())
+}
+
+const THREE: &str = "3333333333333333333333333333333333333333";
+
+const ROOT: &str = "aaaaaaaaaaaaaaaaaaaaaaaaaaaaaaaaaaaaaaaa";
+
+const INNER: &str = "dddddddddddddddddddddddddddddddddddddddd";
+
+// The bytes of a tree with these modes and names, and ids.
+fn tree(alloc: Global, entries: &[(&[u8], &str)]) -> Result<Vec<u8>, Fail> {
+    let mut bytes = Vec::new(alloc);
+    for (name, digits) in entries {
+        bytes.extend_from_slice(name)?;
+        bytes.push(0)?;
+        bytes.extend_from_slice(id(digits)?.as_bytes())?;
+    }
+    Ok(bytes)
+}
+
+fn add_record(
+    alloc: Global,
+    input: &mut Vec<u8>,
+    kind: &str,
+    id: &str,
+    bytes: &[u8],
+) -> Result<(), AllocError> {
+    let len = bytes.len();
+    let front = format!(in alloc; "{kind} {id} {len}\n")?;
+    input.extend_from_slice(front.as_bytes())?;
+    input.extend_from_slice(bytes)?;
+    input.push(b'\n')?;
+    Ok(())
+}
+
+// The record of a tree with a file, a tree of the inner id, and another file.
+fn root(alloc: Global) -> Result<Vec<u8>, Fail> {
+    let bytes = tree(
+        alloc,
+        &[
+            (b"100644 a", ONE),
+            (b"40000 d", INNER),
+            (b"100644 e", THREE),
+        ],
+    )?;
+    let mut input = Vec::new(alloc);
+    add_record(alloc, &mut input, "tree", ROOT, bytes.as_slice())?;
+    Ok(input)
+}
+
+#[test]
+fn lists_the_files_of_a_tree(rt: HostRuntime) -> Result<(), Fail> {
+    let alloc = rt.alloc();
+    let mut input = root(alloc)?;
+    assert!(rt; input.starts_with(b"tree aaaaaaaaaaaaaaaaaaaaaaaaaaaaaaaaaaaaaaaa 86\n"));
+    let inner = tree(alloc, &[(b"100644 x", TWO)])?;
+    assert_eq!(rt; inner.len(), 29);
+    add_record(alloc, &mut input, "tree", INNER, inner.as_slice())?;
+    let (answer, output) = outcome_of_bytes(alloc, &["files", ROOT], input.as_slice())?;
+    assert_eq!(rt; answer, Ok(()));
+    let lines = format!(in alloc;
+        "100644 {ONE} a\n040000 {INNER} d\n100644 {TWO} d/x\n100644 {THREE} e\n"
+    )?;
+    assert_eq!(rt; output.as_slice(), lines.as_bytes());
+    Ok(())
+}
+
+#[test]
+fn an_empty_tree_has_no_files(rt: HostRuntime) -> Result<(), Fail> {
+    let alloc = rt.alloc();
+    let input = format!(in alloc; "tree {EMPTY_TREE} 0\n\n")?;
+    let (answer, output) = outcome(alloc, &["files", EMPTY_TREE], input.as_str())?;
+    assert_eq!(rt; answer, Ok(()));
+    assert!(rt; output.is_empty());
+    Ok(())
+}
+
+#[test]
+fn writes_modes_and_paths_as_they_are(rt: HostRuntime) -> Result<(), Fail> {
+    let alloc = rt.alloc();
+    let mut input = Vec::new(alloc);
+    let bytes = tree(
+        alloc,
+        &[
+            (b"0 a b", ONE),
+            (b"777777 \"", ONE),
+            (b"040000 \xff", INNER),
+            (b"160000 \xff\n", TWO),
+            (b"120000 ", THREE),
+        ],
+    )?;
+    add_record(alloc, &mut input, "tree", ROOT, bytes.as_slice())?;
+    let inner = tree(alloc, &[(b"100755 /", TWO)])?;
+    add_record(alloc, &mut input, "tree", INNER, inner.as_slice())?;
+    let (answer, output) = outcome_of_bytes(alloc, &["files", ROOT], input.as_slice())?;
+    assert_eq!(rt; answer, Ok(()));
+    let mut lines = Vec::new(alloc);
+    for (mode, id, path) in [
+        ("000000", ONE, b"a b".as_slice()),
+        ("777777", ONE, b"\"".as_slice()),
+        ("040000", INNER, b"\xff".as_slice()),
+        ("100755", TWO, b"\xff//".as_slice()),
+        ("160000", TWO, b"\xff\n".as_slice()),
+        ("120000", THREE, b"".as_slice()),
+    ] {
+        let front = format!(in alloc; "{mode} {id} ")?;
+        lines.extend_from_slice(front.as_bytes())?;
+        lines.extend_from_slice(path)?;
+        lines.push(b'\n')?;
+    }
+    assert_eq!(rt; output.as_slice(), lines.as_slice());
+    Ok(())
+}
+
+#[test]
+fn a_tree_that_fails_has_no_lines(rt: HostRuntime) -> Result<(), Fail> {
+    let alloc = rt.alloc();
+    let itself = tree(alloc, &[(b"40000 d", ROOT)])?;
+    let mut cycle = Vec::new(alloc);
+    add_record(alloc, &mut cycle, "tree", ROOT, itself.as_slice())?;
+    let missing = root(alloc)?;
+    let mut broken = root(alloc)?;
+    add_record(alloc, &mut broken, "tree", INNER, b"100644 x")?;
+    let mut other = root(alloc)?;
+    add_record(alloc, &mut other, "blob", INNER, b"")?;
+    let mut no_tree = Vec::new(alloc);
+    add_record(alloc, &mut no_tree, "commit", ROOT, b"")?;
+    for (input, fault) in [
+        (cycle.as_slice(), Fault::Cycle(id(ROOT)?)),
+        (missing.as_slice(), Fault::Missing(id(INNER)?)),
+        (broken.as_slice(), Fault::Broken),
+        (other.as_slice(), Fault::WrongKind(id(INNER)?)),
+        (no_tree.as_slice(), Fault::WrongKind(id(ROOT)?)),
+        (b"".as_slice(), Fault::Missing(id(ROOT)?)),
+        (b"tree".as_slice(), Fault::Record(1)),
+    ] {
+        let (answer, output) = outcome_of_bytes(alloc, &["files", ROOT], input)?;
+        assert_eq!(rt; answer, Err(fault));
+        assert!(rt; output.is_empty());
+    }
+    Ok(())
+}
+
+#[test]
+fn files_takes_one_id(rt: HostRuntime) -> Result<(), Fail> {
+    let alloc = rt.alloc();
+    let (answer, _output) = outcome(alloc, &["files"], "no record")?;
+    assert_eq!(rt; answer, Err(Fault::Usage));
+    for second in [ROOT, "zz"] {
+        let (answer, output) = outcome(alloc, &["files", "zz", second], "no record")?;
+        assert_eq!(rt; answer, Err(Fault::Usage));
+        assert!(rt; output.is_empty());
+    }
+    let hidden = format!(in alloc; "^{ROOT}")?;
+    for (id, fault) in [
+        (hidden.as_str(), Fault::Usage),
+        ("^", Fault::Usage),
+        ("", Fault::Id(2)),
+        ("zz", Fault::Id(2)),
+    ] {
+        let (answer, output) = outcome(alloc, &["files", id], "no record")?;
+        assert_eq!(rt; answer, Err(fault));
+        assert!(rt; output.is_empty());
+    }
+    Ok(())
+}
+
+#[test]
+fn a_writer_that_fails_at_files_is_told(rt: HostRuntime) -> Result<(), Fail> {
+    let alloc = rt.alloc();
+    let words = strings(alloc, &["files", INNER])?;
+    let inner = tree(alloc, &[(b"100644 x", TWO)])?;
+    let mut input = Vec::new(alloc);
+    add_record(alloc, &mut input, "tree", INNER, inner.as_slice())?;
+    let line = format!(in alloc; "100644 {TWO} x\n")?;
+    for fails_at in 1..53 {
+        let mut reader = input.as_slice();
+        let mut writer = Trickle {
+            bytes: Vec::new(alloc),
+            writes: 0,
+            fails_at,
+        };
+        let answer = run(alloc, &words, &mut reader, &mut writer);
+        // 50 bytes, and a flush behind them.
+        let expected = if fails_at < 52 {
+            Err(Fault::Write)
+        } else {
+            Ok(())
+        };
+        assert_eq!(rt; answer, expected);
+        assert!(rt; line.as_bytes().starts_with(writer.bytes.as_slice()));
+    }
+    Ok(())
+}
+
+const FOUR: &str = "4444444444444444444444444444444444444444";
+
+const FIVE: &str = "5555555555555555555555555555555555555555";
+
+const SIX: &str = "6666666666666666666666666666666666666666";
+
+const SEVEN: &str = "7777777777777777777777777777777777777777";
+
+const EIGHT: &str = "8888888888888888888888888888888888888888";
+
+// Adds the record of a commit whose time is its number.
+fn add_commit(
+    alloc: Global,
+    records: &mut String,
+    id: &str,
+    time: &str,
+    parents: &[&str],
+) -> Result<(), AllocError> {
+    let text = commit(alloc, time, parents)?;
+    records.push_str(record(alloc, "commit", id, text.as_str())?.as_str())?;
+    Ok(())
+}
+
+// The records of a history: two lines from commit 1 that commit 8 merges.
+fn sample(alloc: Global) -> Result<String, AllocError> {
+    let mut records = String::new(alloc);
+    add_commit(alloc, &mut records, ONE, "1", &[])?;
+    add_commit(alloc, &mut records, TWO, "2", &[ONE])?;
+    add_commit(alloc, &mut records, THREE, "3", &[ONE])?;
+    add_commit(alloc, &mut records, FOUR, "4", &[TWO])?;
+    add_commit(alloc, &mut records, FIVE, "5", &[THREE])?;
+    add_commit(alloc, &mut records, SIX, "6", &[FIVE])?;
+    add_commit(alloc, &mut records, SEVEN, "7", &[FOUR])?;
+    add_commit(alloc, &mut records, EIGHT, "8", &[SIX, SEVEN])?;
+    Ok(records)
+}
+
+// These ids, one a line.
+fn lines_of(alloc: Global, ids: &[&str]) -> Result<String, AllocError> {
+    let mut lines = String::new(alloc);
+    for id in ids {
+        lines.push_str(id)?;
+        lines.push_str("\n")?;
+    }
+    Ok(lines)
+}
+
+#[test]
+fn lists_in_an_order_by_time(rt: HostRuntime) -> Result<(), Fail> {
+    let alloc = rt.alloc();
+    let input = sample(alloc)?;
+    let (answer, output) = outcome(alloc, &["newest", EIGHT], input.as_str())?;
+    assert_eq!(rt; answer, Ok(()));
+    let lines = lines_of(alloc, &[EIGHT, SEVEN, SIX, FIVE, FOUR, THREE, TWO, ONE])?;
+    assert_eq!(rt; output.as_slice(), lines.as_bytes());
+    let (answer, output) = outcome(alloc, &["oldest", EIGHT], input.as_str())?;
+    assert_eq!(rt; answer, Ok(()));
+    let lines = lines_of(alloc, &[EIGHT, SIX, FIVE, THREE, ONE, SEVEN, FOUR, TWO])?;
+    assert_eq!(rt; output.as_slice(), lines.as_bytes());
+    Ok(())
+}
+
+#[test]
+fn hides_what_hidden_commits_reach(rt: HostRuntime) -> Result<(), Fail> {
+    let alloc = rt.alloc();
+    let input = sample(alloc)?;
+    let seven = format!(in alloc; "^{SEVEN}")?;
+    let lines = lines_of(alloc, &[EIGHT, SIX, FIVE, THREE])?;
+    for command in ["breadth", "newest", "oldest"] {
+        let (answer, output) = outcome(alloc, &[command, EIGHT, seven.as_str()], input.as_str())?;
+        assert_eq!(rt; answer, Ok(()));
+        assert_eq!(rt; output.as_slice(), lines.as_bytes());
+        let (answer, output) = outcome(alloc, &[command, seven.as_str(), EIGHT], input.as_str())?;
+        assert_eq!(rt; answer, Ok(()));
+        assert_eq!(rt; output.as_slice(), lines.as_bytes());
+        let (answer, output) = outcome(alloc, &[command, seven.as_str()], input.as_str())?;
+        assert_eq!(rt; answer, Err(Fault::Usage));
+        assert!(rt; output.is_empty());
+    }
+    let missing = format!(in alloc; "^{ROOT}")?;
+    let (answer, output) = outcome(alloc, &["breadth", EIGHT, missing.as_str()], input.as_str())?;
+    assert_eq!(rt; answer, Err(Fault::Missing(id(ROOT)?)));
+    assert!(rt; output.is_empty());
+    let (answer, output) = outcome(alloc, &["breadth", "zz", seven.as_str()], "")?;
+    assert_eq!(rt; answer, Err(Fault::Id(2)));
+    assert!(rt; output.is_empty());
+    Ok(())
+}
+
+#[test]
+fn a_tip_without_a_time_is_told_first(rt: HostRuntime) -> Result<(), Fail> {
+    let alloc = rt.alloc();
+    let (answer, output) = outcome(alloc, &["newest", ONE], "")?;
+    assert_eq!(rt; answer, Err(Fault::Missing(id(ONE)?)));
+    assert!(rt; output.is_empty());
+    let text = format!(in alloc; "tree {EMPTY_TREE}\nauthor A <a@b> 1 +0000\n")?;
+    let mut input = sample(alloc)?;
+    input.push_str(record(alloc, "commit", ROOT, text.as_str())?.as_str())?;
+    let (answer, output) = outcome(alloc, &["oldest", EIGHT, ROOT], input.as_str())?;
+    assert_eq!(rt; answer, Err(Fault::Broken));
+    assert!(rt; output.is_empty());
     Ok(())
 }

@@ -1,0 +1,38 @@
+-- How walks over stored commits start.
+use Rattle.std.specs.Prelude.{◌≡◌, ◌≢◌, List, length, Result, Ok, Err, IfErr}
+use Rattle.std.specs.Iterator.{Drains}
+use Rattle.std.specs.declared.vec.IntoIter.{IntoIter}
+use Rattle.std.specs.Vec.Iter.{into_iter_items, into_iter_len, into_iter_steps}
+use Rattle.std.proofs.Common.{refl, sym, ap, subst, ◌∙◌}
+use Rattle.std.proofs.lemmas.Iterator.{items_from_drains}
+use Rattle.std.proofs.lemmas.Iterator.Adapters.{YieldsList-from_vec}
+use Rattle.std.proofs.lemmas.List.{map-id}
+use Rattle.gix_parts.specs.declared.hash.ObjectId.{ObjectId}
+use Rattle.gix_parts.specs.Object.{Objects}
+use Rattle.gix_traverse.specs.declared.commit.simple.Error.{Error}
+use Rattle.gix_traverse.specs.declared.commit.simple.Error.TheVariants as error
+use Rattle.gix_traverse.specs.declared.commit.simple.Sorting.{Sorting}
+use Rattle.gix_traverse.specs.declared.commit.simple.Sorting.TheVariants as sorting
+use Rattle.gix_traverse.specs.SimpleBuilding.{IsSortedByTime, FailsAtTip}
+use Rattle.gix_walk.specs.declared.fault.Fault.{Fault}
+use Rattle.gix_walk.specs.Faults.{fault_of_walk}
+use Rattle.gix_walk.specs.Walked.{Walk, objects_of, never_faulty, IsMadeOf, IsSorted, IsStartFault}
+
+-- the ids that came of a vector are those that it held
+pub drained : {Z : Type 0} (tips ids : List ObjectId) (it : IntoIter ObjectId Z) → into_iter_items it ≡ tips → into_iter_len it ≡ length tips → Drains into_iter_steps it ids → ids ≡ tips
+drained tips ids it items len d = sym (map-id ids) ∙ items_from_drains ids (d.1.0, d.1.1, λ _. (d.0, d.1.2)) (YieldsList-from_vec tips items len)
+
+ok_same : {a b : Walk} → ◌≡◌ {A = Result Walk Error} (Ok a) (Ok b) → a ≡ b
+ok_same same = cc
+
+-- what sorting says of a walk that it gave
+pub is_sorted : (made sorted : Walk) (by : Sorting) → (by ≡ sorting.BreadthFirst → ◌≡◌ {A = Result Walk Error} (Ok sorted) (Ok (record made { sorting = by }))) → (by ≢ sorting.BreadthFirst → IsSortedByTime objects_of made by sorted) → IsSorted made by sorted
+is_sorted made sorted sorting.BreadthFirst plain timed = ok_same (plain refl)
+is_sorted made sorted (sorting.ByCommitTime order) plain timed = timed (λ e. cc)
+is_sorted made sorted (sorting.ByCommitTimeCutoff order seconds) plain timed = timed (λ e. cc)
+
+-- the time of a tip couldn't be read, or memory was wanting
+pub start_failed : (objects : Objects) (tips : List ObjectId) (made : Walk) → IsMadeOf objects tips made → (why : Error) (result : Result Walk Fault) (e : Fault) → result ≡ Err e → e ≡ fault_of_walk why → (why ≢ error.Memory → FailsAtTip made.store (never_faulty made.store) made.pending why) → IfErr result (IsStartFault objects tips)
+start_failed objects tips made makes why result e same is h =
+    subst (λ (r : Result Walk Fault). IfErr r (IsStartFault objects tips)) (sym same)
+    (λ other. (why, record { made = made; makes = makes; fails = h (λ m. other (is ∙ ap fault_of_walk m)) }, is))
