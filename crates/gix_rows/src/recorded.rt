@@ -1,6 +1,5 @@
 //! What a recorder holds behind a walk of trees.
-use crate::history::Failing;
-use crate::history::{id, long_id};
+use crate::history::{Failing, id, long_id};
 use crate::trees::{ROOT, depth, insert_tree, levels, sample};
 use bstr::BString;
 use gix_parts::hash::ObjectId;
