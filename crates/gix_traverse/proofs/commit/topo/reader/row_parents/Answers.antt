@@ -1,5 +1,4 @@
-use Rattle.std.proofs.Common.{◌≡◌, [], ◌∷◌, ◌++◌, ◌<◌, All, Ok, Err, IfOk, sym, ap, subst, ◌∙◌, length}
-use Rattle.gix_parts.specs.Parents.{answers_of}
+use Rattle.std.proofs.Common.{◌≡◌, [], ◌∷◌, ◌++◌, ◌<◌, All, Ok, IfOk, sym, ap, subst, ◌∙◌, length}
 use Rattle.gix_traverse.proofs.TopoRowFacts.{before, at_first, fault_first, none_left, All-rest, one_more, IsAtFirst}
 use Rattle.gix_traverse.specs.SimpleWalk.{ids_at}
 use Rattle.gix_traverse.proofs.commit.topo.reader.row_parents.Goals as goal
