@@ -7,3 +7,5 @@ mod breadth;
 mod faults;
 #[cfg(test)]
 mod history;
+#[cfg(test)]
+mod topo;
