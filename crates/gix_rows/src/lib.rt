@@ -19,4 +19,6 @@ mod script;
 #[cfg(test)]
 mod times;
 #[cfg(test)]
+mod topo;
+#[cfg(test)]
 mod trees;

@@ -1,10 +1,10 @@
 -- A commit taken from a steady walk adds exactly the parents that became ready.
-use Rattle.std.specs.Prelude.{◌≡◌, ◌≤◌, ◌⊎◌, ℕ, ◌+◌, List, [], ◌∷◌, Bool, true, false, ◌||◌, cond, Contains}
-use Rattle.std.proofs.Common.{refl, sym, ap, subst, ⊎_elim, ◌∙◌, arith}
-use Rattle.std.proofs.lemmas.Bool.{true≢false, false≢true, or_cases, or_left, or_right}
+use Rattle.std.specs.Prelude.{◌≡◌, ◌≤◌, ◌+◌, List, [], ◌∷◌, Bool, true, false, ◌||◌, cond, Contains}
+use Rattle.std.proofs.Common.{refl, sym, ap, subst, ⊎_elim, ◌∙◌}
+use Rattle.std.proofs.lemmas.Bool.{true≢false, or_cases, or_left, or_right}
 use Rattle.std.specs.FinSet as set
 use Rattle.gix_parts.specs.declared.hash.ObjectId.{ObjectId}
-use Rattle.gix_parts.specs.Id.{id_cmp, is_same, is_among}
+use Rattle.gix_parts.specs.Id.{is_same, is_among}
 use Rattle.gix_parts.specs.Object.{Objects}
 use Rattle.gix_parts.proofs.IdFacts.{id_total, same_is, among_from, Contains-here, Contains-there, Contains-cons_cases, no_member}
 use Rattle.gix_traverse.specs.declared.commit.topo.frontier.Side.{Side}
@@ -12,18 +12,18 @@ use Rattle.gix_traverse.specs.declared.commit.topo.frontier.Side.TheVariants.{Ti
 use Rattle.gix_traverse.specs.declared.commit.topo.counting.Counting.{Counting}
 use Rattle.gix_traverse.specs.declared.commit.topo.iter.Walk.{Walk}
 use Rattle.gix_traverse.specs.declared.commit.topo.ready.ReadySet.{ReadySet}
-use Rattle.gix_traverse.specs.Counting.{known_generation, least}
-use Rattle.gix_traverse.specs.Exploring.{IsRested, IsSamePlan}
+use Rattle.gix_traverse.specs.Counting.{known_generation}
+use Rattle.gix_traverse.specs.Exploring.{IsRested}
 use Rattle.gix_traverse.specs.Frontier.{is_seen, is_done, reached}
-use Rattle.gix_traverse.specs.History.{by_mode, parents_of}
-use Rattle.gix_traverse.specs.ReadySet.{ready_in, sorting_of}
+use Rattle.gix_traverse.specs.History.{by_mode}
+use Rattle.gix_traverse.specs.ReadySet.{ready_in}
 use Rattle.gix_traverse.specs.Releasing.{plan_of, lowered, with_taken, TakesOne}
-use Rattle.gix_traverse.specs.Searched.{IsCounted, IsExplored, IsTally, next_by, starts_by, text_next}
+use Rattle.gix_traverse.specs.Searched.{IsCounted, IsExplored, IsTally, next_by}
 use Rattle.gix_traverse.specs.TopoOrder.{Keeps, last_places}
 use Rattle.gix_traverse.specs.TopoSteady.{IsSteady, AddsReady}
 use Rattle.gix_traverse.specs.TopoWalk.{Ready, ready_ids, walked_of, IsMember, IsSound, IsTaken}
-use Rattle.gix_traverse.specs.WalkSet.{IsInWalk, IsChild, IsReady}
-use Rattle.gix_traverse.specs.Reach.{Reaches, step}
+use Rattle.gix_traverse.specs.WalkSet.{IsChild, IsReady}
+use Rattle.gix_traverse.specs.Reach.{step}
 use Rattle.gix_traverse.proofs.BecameFacts.{none_left, outside, unseen, all_taken}
 use Rattle.gix_traverse.proofs.CountedFacts.{explores_keep, explores_same, explores_made, explores_done}
 use Rattle.gix_traverse.proofs.ExactFacts.{exact_there}

@@ -1,15 +1,12 @@
 -- The parents of a taken commit that are added are those that became ready.
-use Rattle.std.specs.Prelude.{◌≡◌, ◌≤◌, ◌⊎◌, ℕ, zero, suc, ◌+◌, List, [], ◌∷◌, Bool, true, false, not, ◌&&◌, ◌||◌, cond, Contains}
-use Rattle.std.proofs.Common.{refl, sym, ap, subst, inl, inr, ⊎_elim, ◌∙◌, arith}
-use Rattle.std.proofs.lemmas.Bool.{true≢false, false≢true}
-use Rattle.std.specs.FinSet as set
+use Rattle.std.specs.Prelude.{◌≡◌, ◌≤◌, ℕ, zero, suc, List, Bool, true, false, Contains}
+use Rattle.std.proofs.Common.{refl, sym, subst, ◌∙◌, arith}
+use Rattle.std.proofs.lemmas.Bool.{true≢false}
 use Rattle.gix_parts.specs.declared.hash.ObjectId.{ObjectId}
-use Rattle.gix_parts.specs.Id.{id_cmp, is_same, is_among}
 use Rattle.gix_parts.specs.Object.{Objects}
 use Rattle.gix_parts.specs.Rows.{GraphRow}
-use Rattle.gix_parts.proofs.IdFacts.{same_is, same_itself, among_from, among_is}
+use Rattle.gix_parts.proofs.IdFacts.{among_from}
 use Rattle.gix_traverse.specs.declared.commit.Parents.{Parents}
-use Rattle.gix_traverse.specs.declared.commit.Parents.TheVariants as mode
 use Rattle.gix_traverse.specs.declared.commit.topo.frontier.Side.{Side}
 use Rattle.gix_traverse.specs.declared.commit.topo.frontier.Side.TheVariants.{Tips, Ends}
 use Rattle.gix_traverse.specs.declared.commit.topo.frontier.Progress.{Progress}
@@ -20,8 +17,8 @@ use Rattle.gix_traverse.specs.Counting.{known_generation}
 use Rattle.gix_traverse.specs.Frontier.{is_seen, is_done, reached}
 use Rattle.gix_traverse.specs.History.{ReadsWhole, by_mode, parents_of, walked_parents}
 use Rattle.gix_traverse.specs.Reach.{Reaches, start, step}
-use Rattle.gix_traverse.specs.Searched.{IsCounted, IsExplored, IsTally, text_next, next_by, starts_by}
-use Rattle.gix_traverse.specs.WalkSet.{IsInWalk, IsChild, IsReady}
+use Rattle.gix_traverse.specs.Searched.{IsExplored, IsTally, text_next, next_by, starts_by}
+use Rattle.gix_traverse.specs.WalkSet.{IsInWalk, IsChild}
 use Rattle.gix_traverse.proofs.StepFacts.{walked_within}
 use Rattle.gix_traverse.proofs.TallyFacts.{tally_counts, tally_child, IsOpenChild}
 use Rattle.gix_traverse.proofs.TopoReadFacts.{text_whole, text_has, parents_lower}

@@ -1,11 +1,9 @@
 -- Exploring keeps searches and counts as they are to be, beside rows that agree.
-use Rattle.std.specs.Prelude.{◌≡◌, ◌≤◌, ◌<◌, ◌⊎◌, ℕ, suc, ◌+◌, List, [], ◌∷◌, Bool, true, false, not, ◌&&◌, ◌||◌, cond, Contains}
-use Rattle.std.proofs.Common.{refl, sym, ap, subst, ⊎_elim, ◌∙◌, arith, zero-add}
+use Rattle.std.specs.Prelude.{◌≡◌, ℕ, ◌+◌, List, ◌∷◌, Bool, true, false, ◌&&◌, ◌||◌, cond, Contains}
+use Rattle.std.proofs.Common.{refl, sym, ap, subst, ◌∙◌}
 use Rattle.gix_parts.specs.declared.hash.ObjectId.{ObjectId}
 use Rattle.gix_parts.specs.Id.{is_same, is_among}
 use Rattle.gix_parts.specs.Object.{Objects}
-use Rattle.gix_parts.specs.Rows.{GraphRow}
-use Rattle.gix_parts.proofs.IdFacts.{same_is}
 use Rattle.gix_traverse.specs.declared.commit.topo.frontier.Side.{Side}
 use Rattle.gix_traverse.specs.declared.commit.topo.frontier.Side.TheVariants.{Tips, Ends}
 use Rattle.gix_traverse.specs.declared.commit.topo.frontier.Progress.{Progress}
@@ -15,7 +13,7 @@ use Rattle.gix_traverse.specs.declared.commit.topo.frontier.Frontier.{Frontier}
 use Rattle.gix_traverse.specs.declared.commit.topo.counting.Counting.{Counting}
 use Rattle.gix_traverse.specs.Agreeing.{IsAgreeing}
 use Rattle.gix_traverse.specs.Exploring.{Follows, Steps, Explores, itself, further, IsSamePlan, side_mode}
-use Rattle.gix_traverse.specs.Frontier.{is_side, is_seen, is_queued, is_done, reached, Finishes}
+use Rattle.gix_traverse.specs.Frontier.{is_side, is_seen, is_queued, is_done, reached}
 use Rattle.gix_traverse.specs.History.{by_mode}
 use Rattle.gix_traverse.specs.Reach.{Reaches, step}
 use Rattle.gix_traverse.specs.ReadsCommit.{rows_of}
@@ -25,7 +23,7 @@ use Rattle.gix_traverse.proofs.ExploreFacts.{same_on}
 use Rattle.gix_traverse.proofs.FrontierFacts.{moved, has_seen}
 use Rattle.gix_traverse.proofs.ReadyFacts.{last_in, last_from}
 use Rattle.gix_traverse.proofs.SearchedFacts.{searched_permuted, in_hand, follows_keep, follows_seen, follows_still, seen_still, finishes_keep}
-use Rattle.gix_traverse.proofs.TallyFacts.{children_of, made_of, IsNamed, follows_named, follows_counts, follows_uncounted, finishes_children, finishes_made, times-last, tally_done, tally_same}
+use Rattle.gix_traverse.proofs.TallyFacts.{children_of, made_of, follows_named, follows_counts, follows_uncounted, finishes_children, finishes_made, times-last, tally_done, tally_same}
 use Rattle.gix_traverse.proofs.TopoReadFacts.{reads_text_next}
 
 queued_seen : (p : Progress) → is_queued p ≡ true → is_seen p ≡ true

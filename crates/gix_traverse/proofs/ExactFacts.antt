@@ -1,5 +1,5 @@
 -- What exploring has found when it rests: all that is reached, down to the depth.
-use Rattle.std.specs.Prelude.{◌≡◌, ◌≤◌, ◌<◌, ◌⊎◌, ℕ, suc, ◌+◌, List, [], ◌∷◌, Bool, true, false, ◌&&◌, cond, Contains}
+use Rattle.std.specs.Prelude.{◌≡◌, ◌≤◌, ◌<◌, ℕ, ◌+◌, List, [], ◌∷◌, Bool, true, false, ◌&&◌, cond, Contains}
 use Rattle.std.proofs.Common.{refl, sym, ap, subst, ⊎_elim, ◌∙◌, arith}
 use Rattle.gix_parts.specs.declared.hash.ObjectId.{ObjectId}
 use Rattle.gix_parts.specs.Id.{is_same}
@@ -13,7 +13,7 @@ use Rattle.gix_traverse.specs.declared.commit.topo.frontier.Frontier.{Frontier}
 use Rattle.gix_traverse.specs.Agreeing.{IsAgreeing}
 use Rattle.gix_traverse.specs.Counting.{known_generation}
 use Rattle.gix_traverse.specs.Exploring.{IsRested, side_mode}
-use Rattle.gix_traverse.specs.Frontier.{is_side, is_seen, is_queued, is_done, reached, waits_for, waiting, IsSearch}
+use Rattle.gix_traverse.specs.Frontier.{is_side, is_seen, is_queued, is_done, reached, waiting}
 use Rattle.gix_traverse.specs.Reach.{Reaches}
 use Rattle.gix_traverse.specs.Searched.{IsSearched, text_next, next_by, starts_by}
 use Rattle.gix_traverse.specs.declared.commit.topo.counting.Counting.{Counting}

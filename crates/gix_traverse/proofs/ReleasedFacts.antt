@@ -1,14 +1,13 @@
 -- What releasing the parents of a taken commit does, told of all of them.
-use Rattle.std.specs.Prelude.{◌≡◌, ◌≤◌, ◌⊎◌, ℕ, zero, suc, ◌+◌, ◌==◌, List, [], ◌∷◌, ◌++◌, map, Bool, true, false, not, ◌&&◌, ◌||◌, cond, Option, Some, None, Ok, Contains, IsPermutation}
+use Rattle.std.specs.Prelude.{◌≡◌, ◌≤◌, ◌⊎◌, ℕ, ◌+◌, ◌==◌, List, [], ◌∷◌, ◌++◌, Bool, true, false, not, ◌&&◌, ◌||◌, cond, Ok, Contains, IsPermutation}
 use Rattle.std.proofs.Common.{refl, sym, ap, subst, inl, inr, ⊎_elim, ◌∙◌, arith, append_assoc, append-nil, zero-add}
 use Rattle.std.proofs.lemmas.Bool.{true≢false, false≢true, eqb-true}
 use Rattle.std.proofs.lemmas.List.Sorted.{IsPermutation-append_left, IsPermutation-trans, IsPermutation-refl}
-use Rattle.std.specs.FinMap as map_of
 use Rattle.gix_parts.specs.declared.hash.ObjectId.{ObjectId}
-use Rattle.gix_parts.specs.Id.{id_cmp, is_same, is_among}
+use Rattle.gix_parts.specs.Id.{is_same, is_among}
 use Rattle.gix_parts.specs.Object.{Objects}
 use Rattle.gix_parts.specs.Rows.{GraphRow, row_of}
-use Rattle.gix_parts.proofs.IdFacts.{same_is, same_itself, same_from, among-append, among-one, among_from, among_is, Contains-here, Contains-there, Contains-cons_cases, no_member}
+use Rattle.gix_parts.proofs.IdFacts.{same_is, same_itself, among-append, among-one, among_from, among_is, Contains-here, Contains-there, Contains-cons_cases, no_member}
 use Rattle.gix_traverse.specs.declared.commit.Info.{Info}
 use Rattle.gix_traverse.specs.declared.commit.topo.Sorting.{Sorting}
 use Rattle.gix_traverse.specs.declared.commit.topo.Sorting.TheVariants as order
@@ -20,7 +19,7 @@ use Rattle.gix_traverse.specs.declared.commit.topo.iter.Walk.{Walk}
 use Rattle.gix_traverse.specs.Frontier.{is_seen, known_of, progress_of, reached, is_due, Uncounts, Makes}
 use Rattle.gix_traverse.specs.ReadsCommit.{Reads, by_row, by_text, is_whole_row}
 use Rattle.gix_traverse.specs.ReadySet.{ready_in, sorting_of}
-use Rattle.gix_traverse.specs.Releasing.{plan_of, IsOfInfo, with_frontier, Pushes, Releases, waits, frees, ReleasesAll, none, more}
+use Rattle.gix_traverse.specs.Releasing.{plan_of, IsOfInfo, with_frontier, Releases, waits, frees, ReleasesAll, none, more}
 use Rattle.gix_traverse.specs.Searched.{times}
 use Rattle.gix_traverse.specs.TopoOrder.{Keeps, none as keeps_none, kept, passed}
 use Rattle.gix_traverse.specs.TopoWalk.{TopoPlan, Ready, ready_ids, HoldsReady}

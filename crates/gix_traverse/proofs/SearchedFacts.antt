@@ -1,11 +1,11 @@
 -- Steps keep the searches as they are to be.
-use Rattle.std.specs.Prelude.{◌≡◌, ◌≤◌, ◌⊎◌, ℕ, suc, ◌+◌, List, [], ◌∷◌, Bool, true, false, not, ◌&&◌, ◌||◌, cond, Contains, IsPermutation, sum_by}
+use Rattle.std.specs.Prelude.{◌≡◌, ℕ, ◌+◌, List, ◌∷◌, Bool, true, false, ◌&&◌, cond, Contains, IsPermutation, sum_by}
 use Rattle.std.proofs.Common.{refl, sym, ap, subst, ⊎_elim, ◌∙◌, arith, zero-add}
 use Rattle.std.specs.FinMap as map
 use Rattle.std.proofs.lemmas.List.Recursion.{is_sum_by}
 use Rattle.std.proofs.lemmas.List.Sorted.{sum_by-IsPermutation, Contains-permutation, IsPermutation-sym}
 use Rattle.gix_parts.specs.declared.hash.ObjectId.{ObjectId}
-use Rattle.gix_parts.specs.Id.{id_cmp, is_same, is_among}
+use Rattle.gix_parts.specs.Id.{id_cmp, is_same}
 use Rattle.gix_parts.specs.Object.{Objects}
 use Rattle.gix_parts.specs.Rows.{GraphRow}
 use Rattle.gix_parts.proofs.IdFacts.{same_is, same_itself, Contains-here, Contains-there, Contains-cons_cases}
@@ -13,13 +13,13 @@ use Rattle.gix_traverse.specs.declared.commit.Parents.{Parents}
 use Rattle.gix_traverse.specs.declared.commit.topo.frontier.Side.{Side}
 use Rattle.gix_traverse.specs.declared.commit.topo.frontier.Side.TheVariants.{Tips, Ends}
 use Rattle.gix_traverse.specs.declared.commit.topo.frontier.Progress.{Progress}
-use Rattle.gix_traverse.specs.declared.commit.topo.frontier.Progress.TheVariants.{Unseen, Queued, Done}
+use Rattle.gix_traverse.specs.declared.commit.topo.frontier.Progress.TheVariants.{Queued, Done}
 use Rattle.gix_traverse.specs.declared.commit.topo.frontier.Known.{Known}
 use Rattle.gix_traverse.specs.declared.commit.topo.frontier.Waiting.{Waiting}
 use Rattle.gix_traverse.specs.declared.commit.topo.frontier.Frontier.{Frontier}
 use Rattle.gix_traverse.specs.Counting.{known_generation}
 use Rattle.gix_traverse.specs.Exploring.{Follows, none, more}
-use Rattle.gix_traverse.specs.Frontier.{is_side, is_seen, is_queued, is_done, reached, waits_for, waiting, IsSearch, Meets, seen, unseen, Counts, Names, Finishes}
+use Rattle.gix_traverse.specs.Frontier.{is_side, is_seen, is_queued, reached, waits_for, waiting, IsSearch, Meets, seen, unseen, Counts, Names, Finishes}
 use Rattle.gix_traverse.specs.Reach.{Reaches}
 use Rattle.gix_traverse.specs.Searched.{IsSearched, next_by, starts_by}
 use Rattle.gix_traverse.proofs.FrontierFacts.{moved, unmoved, has_seen}

@@ -1,10 +1,9 @@
 -- A step of the searches, put together from what its parts did.
 use Rattle.std.specs.Prelude.{◌≡◌, ◌+◌, ◌||◌, ◌<◌, ℕ, suc, List, [], ◌∷◌, Some, cond, Contains, IsPermutation, slice_get, length}
-use Rattle.std.proofs.Common.{refl, sym, ap, subst, ◌∙◌, arith}
+use Rattle.std.proofs.Common.{sym, ap, subst, ◌∙◌}
 use Rattle.gix_parts.specs.declared.hash.ObjectId.{ObjectId}
 use Rattle.gix_parts.specs.Object.{Objects}
 use Rattle.gix_parts.proofs.IdFacts.{Contains-here}
-use Rattle.gix_traverse.specs.declared.commit.topo.frontier.Side.{Side}
 use Rattle.gix_traverse.specs.declared.commit.topo.frontier.Side.TheVariants.{Tips, Ends}
 use Rattle.gix_traverse.specs.declared.commit.topo.frontier.Waiting.{Waiting}
 use Rattle.gix_traverse.specs.declared.commit.topo.frontier.Frontier.{Frontier}

@@ -1,25 +1,22 @@
 -- What reading a commit tells of the ids that rows and texts name, and, beside rows that agree, of its parents.
-use Rattle.std.specs.Prelude.{◌≡◌, ◌≤◌, ◌<◌, ◌^◌, ◌-◌, ℕ, List, [], ◌∷◌, ◌++◌, map, Bool, true, false, ◌||◌, Option, Some, None, Ok, Contains}
+use Rattle.std.specs.Prelude.{◌≡◌, ◌≤◌, ◌<◌, ◌^◌, ◌-◌, List, [], map, Bool, true, Option, Some, None, Ok, Contains}
 use Rattle.std.proofs.Common.{refl, sym, ap, subst, ◌∙◌, arith}
 use Rattle.std.proofs.lemmas.Bool.{or_left, or_right}
-use Rattle.std.specs.List.{flat_map}
 use Rattle.std.specs.FinMap as map_of
 use Rattle.gix_parts.specs.declared.hash.ObjectId.{ObjectId}
 use Rattle.gix_parts.specs.declared.object.Kind.TheVariants as object
-use Rattle.gix_parts.specs.Id.{kind_of, is_among, id_cmp}
+use Rattle.gix_parts.specs.Id.{kind_of, is_among}
 use Rattle.gix_parts.specs.Object.{Object, Objects}
-use Rattle.gix_parts.specs.CommitItems.{commit_items}
 use Rattle.gix_parts.specs.Rows.{GraphRow, row_of}
 use Rattle.gix_parts.specs.CommitText.{Commit}
 use Rattle.gix_traverse.specs.History.{parents_in}
 use Rattle.gix_parts.proofs.IdFacts.{among-append, among_from, no_member}
 use Rattle.gix_traverse.specs.declared.commit.Info.{Info}
 use Rattle.gix_traverse.specs.declared.commit.Parents.TheVariants as mode
-use Rattle.gix_traverse.specs.Agreeing.{IsAgreeing, RowAgrees, PlaceAgrees}
+use Rattle.gix_traverse.specs.Agreeing.{IsAgreeing}
 use Rattle.gix_traverse.specs.Counting.{known_generation, generation_in, infinity}
 use Rattle.gix_traverse.specs.History.{ReadsWhole, parents_of, commit_at, commit_of_kind, commit_of_object}
-use Rattle.gix_traverse.specs.ReadsCommit.{IsOfRow, Reads, by_row, by_text}
-use Rattle.gix_traverse.specs.SimpleWalk.{scanned, ids_at}
+use Rattle.gix_traverse.specs.ReadsCommit.{Reads, by_row, by_text}
 use Rattle.gix_traverse.specs.TopoWalk.{text_parents, named_ids}
 use Rattle.gix_traverse.specs.Searched.{text_next, next_in}
 use Rattle.gix_traverse.proofs.EndFacts.{ids_in_rows, among_flat, found_entry}

@@ -1,6 +1,5 @@
 -- How two searches go on: a step reads the parents of a queued id of greatest generation.
 use Rattle.std.specs.Prelude.{◌≡◌, ◌⊎◌, ◌<◌, ◌+◌, ℕ, nat_le, List, [], ◌∷◌, Bool, true, false, not, ◌||◌, cond, Some, Ok, Contains, IsPermutation, slice_get}
-use Rattle.std.specs.FinMap as map
 use Rattle.gix_parts.specs.declared.hash.ObjectId.{ObjectId}
 use Rattle.gix_parts.specs.Object.{Objects}
 use Rattle.gix_parts.specs.Rows.{GraphRow}

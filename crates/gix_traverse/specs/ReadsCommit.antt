@@ -1,5 +1,5 @@
 -- How a topological walk reads a commit: by its row, or else from the store.
-use Rattle.std.specs.Prelude.{◌≡◌, ◌⊎◌, ℕ, ℤ, pos, nat_lt, List, [], ◌++◌, Bool, true, false, ◌&&◌, if◌then◌else◌, Option, Some, None, Result, Ok, Err}
+use Rattle.std.specs.Prelude.{◌≡◌, ℕ, ℤ, pos, nat_lt, List, [], Bool, true, ◌&&◌, if◌then◌else◌, Option, Some, None, Result, Ok, Err}
 use Rattle.std.specs.FinMap as map_of
 use Rattle.gix_parts.specs.declared.hash.ObjectId.{ObjectId}
 use Rattle.gix_parts.specs.declared.object.Kind.TheVariants as object
@@ -18,7 +18,6 @@ use Rattle.gix_traverse.specs.declared.commit.topo.Error.{Error}
 use Rattle.gix_traverse.specs.declared.commit.topo.Error.TheVariants as error
 use Rattle.gix_traverse.specs.SimpleWalk.{IsInfo, scanned, ids_at}
 use Rattle.gix_traverse.specs.Counting.{infinity}
-use Rattle.gix_traverse.specs.TopoWalk.{IsTextFault}
 
 -- the rows of a graph, or none
 abbrev pub rows_of : Option (List GraphRow) → List GraphRow

@@ -1,8 +1,7 @@
-use Rattle.std.proofs.Common.{◌≡◌, ◌<◌, ◌+◌, [], ◌∷◌, ◌++◌, ℕ, Bool, true, false, List, refl, sym, ap, ◌∙◌, arith, append_assoc, append-nil, length}
+use Rattle.std.proofs.Common.{◌≡◌, ◌<◌, [], ◌∷◌, ◌++◌, true, false, List, sym, ap, ◌∙◌, arith, append_assoc, append-nil, length}
 use Rattle.std.specs.FinSet as set
 use Rattle.gix_parts.specs.declared.hash.ObjectId.{ObjectId}
 use Rattle.gix_parts.specs.Id.{id_cmp, is_among}
-use Rattle.gix_traverse.specs.TopoOrder.{last_places}
 use Rattle.gix_traverse.proofs.PlaceFacts.{kept_place, new_place, later_with, later_same}
 use Rattle.gix_traverse.proofs.commit.topo.counting.places.Goals as goal
 

@@ -1,4 +1,4 @@
-use Rattle.std.proofs.Common.{◌≡◌, ap, sym, ◌∙◌}
+use Rattle.std.proofs.Common.{ap, sym, ◌∙◌}
 use Rattle.std.proofs.Common.{min}
 use Rattle.gix_traverse.specs.Counting.{least, known_generation}
 use Rattle.gix_traverse.specs.ReadsCommit.{rows_of}

@@ -1,4 +1,4 @@
-use Rattle.std.proofs.Common.{◌≡◌, [], ◌++◌, sym, subst, ◌∙◌, arith}
+use Rattle.std.proofs.Common.{[], ◌++◌, sym, subst, ◌∙◌, arith}
 use Rattle.gix_traverse.specs.Releasing.{ReleasesAll, IsFaultAmong, none, more, here, later}
 use Rattle.gix_traverse.proofs.FollowFacts.{no_items}
 use Rattle.gix_traverse.proofs.commit.topo.iter.Walk.release_all.Goals as goal

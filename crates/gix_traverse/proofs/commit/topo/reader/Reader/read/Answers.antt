@@ -1,5 +1,4 @@
-use Rattle.std.proofs.Common.{◌≡◌, Bool, Ok, None, Result, sym, subst}
-use Rattle.gix_parts.specs.declared.hash.ObjectId.{ObjectId}
+use Rattle.std.proofs.Common.{Ok, sym, subst}
 use Rattle.gix_traverse.specs.ReadsCommit.{rows_of, Reads, ReadsText, by_row, by_text, no_memory}
 use Rattle.gix_traverse.proofs.commit.topo.reader.Reader.read.Goals as goal
 
