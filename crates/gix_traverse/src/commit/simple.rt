@@ -130,8 +130,9 @@ impl From<AllocError> for Error {
 
 /// A walk over the commits that some tips reach.
 ///
-/// It is an iterator of commits, each once. The commit that was met first comes first. A commit that can't be looked up or
-/// read gives an error in its place, and the walk goes on with the others; after want of memory nothing is left.
+/// It is an iterator of commits, each once. The commit that was met first comes first, or, where an order by time is chosen, one of
+/// best time among those met. A commit that can't be looked up or read gives an error in its place, and the walk goes on with the
+/// others; after want of memory, and where what hidden tips reach can't be read, nothing is left.
 #[derive(Drop)]
 pub struct Simple<F, P> {
     find: F,
