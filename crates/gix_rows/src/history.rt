@@ -169,7 +169,10 @@ impl Rows<'_> {
     fn place(&self, n: u8) -> ParentPlace {
         for (place, commit) in self.commits.iter().enumerate() {
             if commit.0 == n {
-                return ParentPlace::At(place as u32);
+                return match u32::try_from(place) {
+                    Ok(place) => ParentPlace::At(place),
+                    Err(_) => ParentPlace::Fault,
+                };
             }
         }
         ParentPlace::Fault
