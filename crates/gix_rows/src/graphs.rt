@@ -172,7 +172,7 @@ fn a_fault_in_a_place_that_is_not_walked(rt: HostRuntime) -> Result<(), Fail> {
 }
 
 /// Each place of the sample.
-const PLACES: [(u8, u8); 8] = [
+pub const PLACES: [(u8, u8); 8] = [
     (8, 6),
     (8, 7),
     (7, 4),
@@ -323,7 +323,7 @@ fn a_hidden_tip_that_is_not_stored(rt: HostRuntime) -> Result<(), Fail> {
 }
 
 /// Rows that don't agree with the store.
-const WRONG: [Rows<'static>; 4] = [
+pub const WRONG: [Rows<'static>; 4] = [
     Rows {
         generations: &[0; 8],
         ..FULL

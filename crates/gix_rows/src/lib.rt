@@ -5,6 +5,8 @@
 #[cfg(test)]
 mod breadth;
 #[cfg(test)]
+mod counts;
+#[cfg(test)]
 mod faults;
 #[cfg(test)]
 mod graphs;
@@ -12,6 +14,8 @@ mod graphs;
 mod hiding;
 #[cfg(test)]
 mod history;
+#[cfg(test)]
+mod orders;
 #[cfg(test)]
 mod recorded;
 #[cfg(test)]

@@ -23,7 +23,7 @@ use Rattle.gix_traverse.proofs.StepFacts.{walked_within}
 use Rattle.gix_traverse.proofs.TallyFacts.{tally_counts, tally_child, IsOpenChild}
 use Rattle.gix_traverse.proofs.TopoReadFacts.{text_whole, text_has, parents_lower}
 
-done_seen : (p : Progress) → is_done p ≡ true → is_seen p ≡ true
+pub done_seen : (p : Progress) → is_done p ≡ true → is_seen p ≡ true
 done_seen Unseen e = cc
 done_seen Queued e = refl
 done_seen Done e = refl
@@ -37,19 +37,19 @@ module _ (objects : Objects) (faulty : ObjectId → Type 0) (rows : List GraphRo
 
   module _ (agrees : IsAgreeing objects faulty rows) (tips_whole : (i : ObjectId) → Reaches walked tips i → ReadsWhole objects faulty i) (ends_whole : (i : ObjectId) → Reaches (parents_of objects) ends i → ReadsWhole objects faulty i) where
     -- over a sound history, what texts name is what is reached
-    tips_text : (i : ObjectId) → Reaches walked tips i → Reaches (next_by objects parents Tips) tips i
+    pub tips_text : (i : ObjectId) → Reaches walked tips i → Reaches (next_by objects parents Tips) tips i
     tips_text i (start m) = start m
     tips_text i (step {c = c} r m) = step (tips_text c r) (subst (λ ids. Contains (by_mode parents ids) i) (text_whole objects faulty rows c (tips_whole c r)) m)
 
-    text_tips : (i : ObjectId) → Reaches (next_by objects parents Tips) tips i → Reaches walked tips i
+    pub text_tips : (i : ObjectId) → Reaches (next_by objects parents Tips) tips i → Reaches walked tips i
     text_tips i (start m) = start m
     text_tips i (step {c = c} r m) = let h : Reaches walked tips c = text_tips c r in step h (subst (λ ids. Contains (by_mode parents ids) i) (sym (text_whole objects faulty rows c (tips_whole c h))) m)
 
-    ends_text : (i : ObjectId) → Reaches (parents_of objects) ends i → Reaches (next_by objects parents Ends) ends i
+    pub ends_text : (i : ObjectId) → Reaches (parents_of objects) ends i → Reaches (next_by objects parents Ends) ends i
     ends_text i (start m) = start m
     ends_text i (step {c = c} r m) = step (ends_text c r) (text_has objects c i m)
 
-    text_ends : (i : ObjectId) → Reaches (next_by objects parents Ends) ends i → Reaches (parents_of objects) ends i
+    pub text_ends : (i : ObjectId) → Reaches (next_by objects parents Ends) ends i → Reaches (parents_of objects) ends i
     text_ends i (start m) = start m
     text_ends i (step {c = c} r m) = let h : Reaches (parents_of objects) ends c = text_ends c r in step h (subst (λ ids. Contains ids i) (sym (text_whole objects faulty rows c (ends_whole c h))) m)
 

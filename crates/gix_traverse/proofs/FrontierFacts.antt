@@ -12,7 +12,7 @@ use Rattle.gix_traverse.specs.declared.commit.topo.frontier.Side.{Side}
 use Rattle.gix_traverse.specs.declared.commit.topo.frontier.Side.TheVariants.{Tips, Ends}
 use Rattle.gix_traverse.specs.declared.commit.topo.frontier.Progress.{Progress}
 use Rattle.gix_traverse.specs.declared.commit.topo.frontier.Progress.TheVariants.{Queued, Done}
-use Rattle.gix_traverse.specs.declared.commit.topo.frontier.Known.{Known}
+use Rattle.gix_traverse.specs.Known.{Known}
 use Rattle.gix_traverse.specs.declared.commit.topo.frontier.Frontier.{Frontier}
 use Rattle.gix_traverse.specs.Frontier.{is_side, is_seen, known_or, known_of, progress_of, with_progress, reached, Meets, seen, unseen, Counts, Names, Finishes}
 use Rattle.gix_traverse.specs.Exploring.{Follows, none, more}

@@ -113,7 +113,7 @@ module _ {F : Type 0} (objects : F → Objects) (store : F) (rows : List GraphRo
     pub below : (q : ObjectId) (n : ℕ) → HasGeneration q n → (i : ObjectId) → Reaches There (q ∷ []) i → (m : ℕ) × HasGeneration i m × ((q ≡ i) ⊎ (m < n))
     below = told_below There HasGeneration one_generation falls
 
-    corrupt_row : (row : GraphRow) → Contains rows row → ids_at rows row.parents ≡ None → IsCorrupt row
+    pub corrupt_row : (row : GraphRow) → Contains rows row → ids_at rows row.parents ≡ None → IsCorrupt row
     corrupt_row row c e =
         let a : RowAgrees (objects store) faulty rows row = agrees row c in
         fault_among rows row.parents (λ n m. placed a n m) e

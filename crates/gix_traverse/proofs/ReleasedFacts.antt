@@ -13,15 +13,16 @@ use Rattle.gix_traverse.specs.declared.commit.topo.Sorting.{Sorting}
 use Rattle.gix_traverse.specs.declared.commit.topo.Sorting.TheVariants as order
 use Rattle.gix_traverse.specs.declared.commit.topo.frontier.Side.{Side}
 use Rattle.gix_traverse.specs.declared.commit.topo.frontier.Side.TheVariants.{Tips, Ends}
-use Rattle.gix_traverse.specs.declared.commit.topo.frontier.Known.{Known}
+use Rattle.gix_traverse.specs.Known.{Known}
 use Rattle.gix_traverse.specs.declared.commit.topo.frontier.Frontier.{Frontier}
 use Rattle.gix_traverse.specs.declared.commit.topo.iter.Walk.{Walk}
 use Rattle.gix_traverse.specs.Frontier.{is_seen, known_of, progress_of, reached, is_due, Uncounts, Makes}
 use Rattle.gix_traverse.specs.ReadsCommit.{Reads, by_row, by_text, is_whole_row}
 use Rattle.gix_traverse.specs.ReadySet.{ready_in, sorting_of}
-use Rattle.gix_traverse.specs.Releasing.{plan_of, IsOfInfo, with_frontier, Releases, waits, frees, ReleasesAll, none, more}
+use Rattle.gix_traverse.specs.Releasing.{plan_of, with_frontier, Releases, waits, frees, ReleasesAll, none, more}
 use Rattle.gix_traverse.specs.Searched.{times}
 use Rattle.gix_traverse.specs.TopoOrder.{Keeps, none as keeps_none, kept, passed}
+use Rattle.gix_traverse.specs.TopoSteady.{IsFound}
 use Rattle.gix_traverse.specs.TopoWalk.{TopoPlan, Ready, ready_ids, HoldsReady}
 use Rattle.gix_traverse.proofs.FrontierFacts.{known-insert, unmoved, reached-insert, has_seen}
 use Rattle.gix_traverse.proofs.ReadyFacts.{among_times}
@@ -59,15 +60,6 @@ holds_none order.TopoOrder old = sym (append-nil old)
 holds_none order.DateOrder old = subst (λ xs. IsPermutation xs old) (sym (append-nil old)) (IsPermutation-refl old)
 
 module _ {F : Type 0} (objects : F → Objects) (faulty : F → ObjectId → Type 0) where
-  -- how a commit was read that became ready, as long as the rows stand now
-  pub record IsFoundBy (plan : TopoPlan F) (standing : Bool) (r : Ready) : Type 0 where
-    pub info : Info
-    pub before : Bool
-    pub after : Bool
-    pub reads : Reads (objects plan.store) (faulty plan.store) plan.rows before r.id (Ok info) after
-    pub is : IsOfInfo r info
-    pub later : standing ≡ true → after ≡ true
-
   -- becoming ready, told at the end
   pub record IsDue (old new : Walk F) (p : ObjectId) : Type 0 where
     pub none_left : children_of new.counting.frontier p ≡ 0
@@ -86,11 +78,12 @@ module _ {F : Type 0} (objects : F → Objects) (faulty : F → ObjectId → Typ
     pub holds : HoldsReady (sorting_of old.ready) (ready_in old.ready ++ added) (ready_in new.ready)
     pub stands : new.counting.reader.standing ≡ true → old.counting.reader.standing ≡ true
     pub among : (r : Ready) → Contains added r → Contains ids r.id
-    pub each : (r : Ready) → Contains added r → IsFoundBy (plan_of old) new.counting.reader.standing r
+    pub each : (r : Ready) → Contains added r → IsFound objects faulty (plan_of old) new.counting.reader.standing r
     pub dropped : old.counting.reader.standing ≡ true → new.counting.reader.standing ≡ false → (i : ObjectId) × Contains ids i × (is_whole_row (plan_of old).rows (row_of (plan_of old).rows i) ≡ false)
     pub due : ((j : ObjectId) → times j ids ≤ 1) → Keeps (IsDue old new) ids (ready_ids added)
 
-  reads_stands : {os : Objects} {fs : ObjectId → Type 0} {rows : List GraphRow} {standing : Bool} {i : ObjectId} {info : Info} {new : Bool} → Reads os fs rows standing i (Ok info) new → new ≡ true → standing ≡ true
+  -- rows that stand after reading stood before
+  pub reads_stands : {os : Objects} {fs : ObjectId → Type 0} {rows : List GraphRow} {standing : Bool} {i : ObjectId} {info : Info} {new : Bool} → Reads os fs rows standing i (Ok info) new → new ≡ true → standing ≡ true
   reads_stands (by_row s r) e = s
   reads_stands {rows = rows} {standing = standing} {i = i} (by_text n t) e = go standing (sym n.1 ∙ e)
     where
@@ -98,7 +91,8 @@ module _ {F : Type 0} (objects : F → Objects) (faulty : F → ObjectId → Typ
       go true f = refl
       go false f = f
 
-  reads_drops : {os : Objects} {fs : ObjectId → Type 0} {rows : List GraphRow} {standing : Bool} {i : ObjectId} {info : Info} {new : Bool} → Reads os fs rows standing i (Ok info) new → standing ≡ true → new ≡ false → is_whole_row rows (row_of rows i) ≡ false
+  -- rows that fall by reading fall by a row with a fault
+  pub reads_drops : {os : Objects} {fs : ObjectId → Type 0} {rows : List GraphRow} {standing : Bool} {i : ObjectId} {info : Info} {new : Bool} → Reads os fs rows standing i (Ok info) new → standing ≡ true → new ≡ false → is_whole_row rows (row_of rows i) ≡ false
   reads_drops (by_row s r) a b = absurd (true≢false b)
   reads_drops {rows = rows} {i = i} (by_text n t) a b = ap (λ x. x && is_whole_row rows (row_of rows i)) (sym a) ∙ sym n.1 ∙ b
 
@@ -120,7 +114,8 @@ module _ {F : Type 0} (objects : F → Objects) (faulty : F → ObjectId → Typ
   uncounted_moved : (f g : Frontier) (i : ObjectId) (n : ℕ) → (known_of f.known i).children ≡ n + 1 → Uncounts f i g → (s : Side) (p : ObjectId) → reached g.known s p ≡ reached f.known s p
   uncounted_moved f g i n c u s p = ap (λ k. reached k s p) (u.known n c) ∙ unmoved f.known i n s p
 
-  makes_known : (f g : Frontier) (i : ObjectId) → Makes f i g → (p : ObjectId) → (children_of g p ≡ children_of f p) × (made_of g p ≡ (is_same p i || made_of f p))
+  -- what making an id ready changes
+  pub makes_known : (f g : Frontier) (i : ObjectId) → Makes f i g → (p : ObjectId) → (children_of g p ≡ children_of f p) × (made_of g p ≡ (is_same p i || made_of f p))
   makes_known f g i m p = (ap (λ k. (known_of k p).children) m.known ∙ ap (λ k. k.children) (known-insert f.known i (record (known_of f.known i) { made = true }) p) ∙ one (is_same p i) refl, ap (λ k. (known_of k p).made) m.known ∙ ap (λ k. k.made) (known-insert f.known i (record (known_of f.known i) { made = true }) p) ∙ two (is_same p i) refl)
     where
       one : (b : Bool) → is_same p i ≡ b → (cond b (record (known_of f.known i) { made = true }) (known_of f.known p)).children ≡ children_of f p
@@ -131,7 +126,8 @@ module _ {F : Type 0} (objects : F → Objects) (faulty : F → ObjectId → Typ
       two true s = refl
       two false s = refl
 
-  makes_moved : (f g : Frontier) (i : ObjectId) → Makes f i g → (s : Side) (p : ObjectId) → reached g.known s p ≡ reached f.known s p
+  -- and that it moves no search
+  pub makes_moved : (f g : Frontier) (i : ObjectId) → Makes f i g → (s : Side) (p : ObjectId) → reached g.known s p ≡ reached f.known s p
   makes_moved f g i m s p = ap (λ k. reached k s p) m.known ∙ reached-insert f.known i (record (known_of f.known i) { made = true }) s p ∙ go s (is_same p i) refl
     where
       go : (s : Side) (b : Bool) → is_same p i ≡ b → cond b (progress_of s (record (known_of f.known i) { made = true })) (reached f.known s p) ≡ reached f.known s p
@@ -139,7 +135,8 @@ module _ {F : Type 0} (objects : F → Objects) (faulty : F → ObjectId → Typ
       go Ends true e = ap (λ j. reached f.known Ends j) (sym (same_is p i e))
       go s false e = refl
 
-  due_parts : (n : ℕ) (k : Known) → is_due n k ≡ true → (n ≡ 0) × (is_seen k.ends ≡ false) × (k.made ≡ false)
+  -- what being due says
+  pub due_parts : (n : ℕ) (k : Known) → is_due n k ≡ true → (n ≡ 0) × (is_seen k.ends ≡ false) × (k.made ≡ false)
   due_parts n k e = go (n == 0) (k.made) (is_seen k.ends) refl refl refl e
     where
       zero_is : (n : ℕ) → (n == 0) ≡ true → n ≡ 0
@@ -151,11 +148,13 @@ module _ {F : Type 0} (objects : F → Objects) (faulty : F → ObjectId → Typ
       go true true c p q r e = absurd (false≢true e)
       go false b c p q r e = absurd (false≢true e)
 
-  due_from : (n : ℕ) (k : Known) → n ≡ 0 → is_seen k.ends ≡ false → k.made ≡ false → is_due n k ≡ true
+  -- and when it is so
+  pub due_from : (n : ℕ) (k : Known) → n ≡ 0 → is_seen k.ends ≡ false → k.made ≡ false → is_due n k ≡ true
   due_from n k a b c = ap (λ m. ((m == 0) && not k.made) && not (is_seen k.ends)) a ∙ ap (λ x. (true && not x) && not (is_seen k.ends)) c ∙ ap (λ x. true && not x) b
 
-  with_plan : (plan other : TopoPlan F) (standing : Bool) (r : Ready) → other ≡ plan → IsFoundBy other standing r → IsFoundBy plan standing r
-  with_plan plan other standing r e h = subst (λ p. IsFoundBy p standing r) e h
+  -- found alike over an equal plan
+  pub with_plan : (plan other : TopoPlan F) (standing : Bool) (r : Ready) → other ≡ plan → IsFound objects faulty other standing r → IsFound objects faulty plan standing r
+  with_plan plan other standing r e h = subst (λ p. IsFound objects faulty p standing r) e h
 
   released_one : {old : Walk F} {i : ObjectId} {first : List Ready} {new : Walk F} → Releases objects faulty old i first new → IsReleased old (i ∷ []) first new
   released_one {old} {i} (waits {f = f} n c u d) = record {
@@ -191,7 +190,7 @@ module _ {F : Type 0} (objects : F → Objects) (faulty : F → ObjectId → Typ
     holds = p.holds;
     stands = λ e. reads_stands p.reads e;
     among = λ x m. ⊎_elim (λ s. subst (λ j. Contains (i ∷ []) j) (sym p.id ∙ ap (λ y. y.id) s) (Contains-here i [])) (λ t. absurd (no_member x t)) (Contains-cons_cases x r [] m);
-    each = λ x m. ⊎_elim (λ s. subst (IsFoundBy (plan_of old) new.counting.reader.standing) s (record { info = p.info; before = old.counting.reader.standing; after = new.counting.reader.standing; reads = subst (λ j. Reads (objects old.counting.reader.find) (faulty old.counting.reader.find) (plan_of old).rows old.counting.reader.standing j (Ok p.info) new.counting.reader.standing) (sym p.id) p.reads; is = p.is; later = λ e. e })) (λ t. absurd (no_member x t)) (Contains-cons_cases x r [] m);
+    each = λ x m. ⊎_elim (λ s. subst (IsFound objects faulty (plan_of old) new.counting.reader.standing) s (record { info = p.info; before = old.counting.reader.standing; after = new.counting.reader.standing; reads = subst (λ j. Reads (objects old.counting.reader.find) (faulty old.counting.reader.find) (plan_of old).rows old.counting.reader.standing j (Ok p.info) new.counting.reader.standing) (sym p.id) p.reads; is = p.is; later = λ e. e })) (λ t. absurd (no_member x t)) (Contains-cons_cases x r [] m);
     dropped = λ a b. (i, Contains-here i [], reads_drops p.reads a b);
     due = λ h. subst (λ j. Keeps (IsDue old new) (i ∷ []) (j ∷ [])) (sym p.id) (kept is_due_now keeps_none);
   }
@@ -219,7 +218,7 @@ module _ {F : Type 0} (objects : F → Objects) (faulty : F → ObjectId → Typ
     holds = holds_on (sorting_of old.ready) (ready_in old.ready) first (ready_in mid.ready) others (ready_in new.ready) a.holds (subst (λ s. HoldsReady s (ready_in mid.ready ++ others) (ready_in new.ready)) (ap (λ p. p.sorting) a.plan) b.holds);
     stands = λ e. a.stands (b.stands e);
     among = λ r m. ⊎_elim (λ l. ⊎_elim (λ s. subst (λ j. Contains (i ∷ ids) j) s (Contains-here i ids)) (λ t. absurd (no_member r.id t)) (Contains-cons_cases r.id i [] (a.among r l))) (λ t. Contains-there r.id i ids (b.among r t)) (Contains-append_cases r first others m);
-    each = λ r m. ⊎_elim (λ l. let h : IsFoundBy (plan_of old) mid.counting.reader.standing r = a.each r l in record { info = h.info; before = h.before; after = h.after; reads = h.reads; is = h.is; later = λ e. h.later (b.stands e) }) (λ t. with_plan (plan_of old) (plan_of mid) new.counting.reader.standing r a.plan (b.each r t)) (Contains-append_cases r first others m);
+    each = λ r m. ⊎_elim (λ l. let h : IsFound objects faulty (plan_of old) mid.counting.reader.standing r = a.each r l in record { info = h.info; before = h.before; after = h.after; reads = h.reads; is = h.is; later = λ e. h.later (b.stands e) }) (λ t. with_plan (plan_of old) (plan_of mid) new.counting.reader.standing r a.plan (b.each r t)) (Contains-append_cases r first others m);
     dropped = λ e d. go mid.counting.reader.standing refl e d;
     due = λ h. due h;
   }

@@ -1,8 +1,9 @@
 -- Steps keep the searches as they are to be.
-use Rattle.std.specs.Prelude.{◌≡◌, ℕ, ◌+◌, List, ◌∷◌, Bool, true, false, ◌&&◌, cond, Contains, IsPermutation, sum_by}
+use Rattle.std.specs.Prelude.{◌≡◌, ℕ, ◌+◌, List, [], ◌∷◌, ◌++◌, Bool, true, false, ◌&&◌, cond, Contains, IsPermutation, sum_by}
 use Rattle.std.proofs.Common.{refl, sym, ap, subst, ⊎_elim, ◌∙◌, arith, zero-add}
 use Rattle.std.specs.FinMap as map
 use Rattle.std.proofs.lemmas.List.Recursion.{is_sum_by}
+use Rattle.std.proofs.lemmas.List.Elements.{Contains-append_left, Contains-append_right, Contains-append_cases}
 use Rattle.std.proofs.lemmas.List.Sorted.{sum_by-IsPermutation, Contains-permutation, IsPermutation-sym}
 use Rattle.gix_parts.specs.declared.hash.ObjectId.{ObjectId}
 use Rattle.gix_parts.specs.Id.{id_cmp, is_same}
@@ -14,7 +15,7 @@ use Rattle.gix_traverse.specs.declared.commit.topo.frontier.Side.{Side}
 use Rattle.gix_traverse.specs.declared.commit.topo.frontier.Side.TheVariants.{Tips, Ends}
 use Rattle.gix_traverse.specs.declared.commit.topo.frontier.Progress.{Progress}
 use Rattle.gix_traverse.specs.declared.commit.topo.frontier.Progress.TheVariants.{Queued, Done}
-use Rattle.gix_traverse.specs.declared.commit.topo.frontier.Known.{Known}
+use Rattle.gix_traverse.specs.Known.{Known}
 use Rattle.gix_traverse.specs.declared.commit.topo.frontier.Waiting.{Waiting}
 use Rattle.gix_traverse.specs.declared.commit.topo.frontier.Frontier.{Frontier}
 use Rattle.gix_traverse.specs.Counting.{known_generation}
@@ -30,6 +31,10 @@ waiting-permutation side i old new p = sums new ∙ sum_by-IsPermutation (waits_
   where
     sums : (queue : List (ℕ × Waiting)) → waiting queue side i ≡ sum_by (waits_for side i) queue
     sums queue = is_sum_by (λ queue. waiting queue side i) (waits_for side i) refl (λ entry queue. refl) queue
+
+waiting-append : (side : Side) (i : ObjectId) (front queue : List (ℕ × Waiting)) → waiting (front ++ queue) side i ≡ waiting front side i + waiting queue side i
+waiting-append side i [] queue = sym (zero-add _)
+waiting-append side i (entry ∷ front) queue = let r : waiting (front ++ queue) side i ≡ waiting front side i + waiting queue side i = waiting-append side i front queue in omega arith
 
 side_is : (a b : Side) → is_side a b ≡ true → a ≡ b
 side_is Tips Tips e = refl
@@ -53,7 +58,7 @@ pub meets_still : {old : Frontier} {g : ℕ} {i : ObjectId} {side : Side} {new :
 meets_still (seen e same) s j h = ap (λ f. has_seen f s j) same ∙ h
 meets_still {old = old} {i = i} {side = side} {new = new} (unseen u p k) s j h = seen_still old new i side Queued refl (λ s j. ap (λ those. reached those s j) k ∙ moved old.known i side s Queued j) s j h
 
-meets_seen : {old : Frontier} {g : ℕ} {i : ObjectId} {side : Side} {new : Frontier} → Meets old g i side new → has_seen new side i ≡ true
+pub meets_seen : {old : Frontier} {g : ℕ} {i : ObjectId} {side : Side} {new : Frontier} → Meets old g i side new → has_seen new side i ≡ true
 meets_seen {i = i} {side = side} (seen e same) = ap (λ f. has_seen f side i) same ∙ e
 meets_seen {old = old} {i = i} {side = side} {new = new} (unseen u p k) = ap is_seen (ap (λ those. reached those side i) k ∙ moved old.known i side side Queued i ∙ ap (λ b. cond (b && is_side side side) Queued (reached old.known side i)) (same_itself i) ∙ ap (λ b. cond b Queued (reached old.known side i)) (side_itself side))
 
@@ -101,42 +106,47 @@ module _ (objects : Objects) (rows : List GraphRow) (parents : Parents) (tips en
       go true e = refl
       go false e = let o : waits_for entry.1.side entry.1.id entry ≡ 1 = one in absurd (omega arith)
 
+  -- also where these wait before the queue
+  pub meets_keep : (front : List (ℕ × Waiting)) {old : Frontier} {i : ObjectId} {side : Side} {new : Frontier} → Reaches (next_by objects parents side) (starts_by tips ends side) i → Meets old (known_generation rows i) i side new → S (front ++ old.queue) old.known → S (front ++ new.queue) new.known
+  meets_keep front r (seen q same) h = subst (λ f. S (front ++ f.queue) f.known) (sym same) h
+  meets_keep front {old} {i} {side} {new} r (unseen u p k) h = record { search = λ s. search s (is_side s side) refl; keyed = keyed }
+    where
+      to : (s : Side) (j : ObjectId) → reached new.known s j ≡ cond (is_same j i && is_side s side) Queued (reached old.known s j)
+      to s j = ap (λ those. reached those s j) k ∙ moved old.known i side s Queued j
+
+      more_wait : (s : Side) (j : ObjectId) → waiting (front ++ new.queue) s j ≡ cond (is_same j i && is_side s side) 1 0 + waiting (front ++ old.queue) s j
+      more_wait s j =
+          let q : waiting new.queue s j ≡ cond (is_same j i && is_side s side) 1 0 + waiting old.queue s j = waiting-permutation s j ((known_generation rows i, record { id = i; side = side }) ∷ old.queue) new.queue p in
+          let a : waiting (front ++ new.queue) s j ≡ waiting front s j + waiting new.queue s j = waiting-append s j front new.queue in
+          let b : waiting (front ++ old.queue) s j ≡ waiting front s j + waiting old.queue s j = waiting-append s j front old.queue in
+          omega arith
+
+      search : (s : Side) (b : Bool) → is_side s side ≡ b → IsSearch (next_by objects parents s) (starts_by tips ends s) (reached new.known s) (waiting (front ++ new.queue) s)
+      search s true q =
+          let same : s ≡ side = side_is s side q in
+          search_meets (next_by objects parents s) (starts_by tips ends s) (reached old.known s) (reached new.known s) (waiting (front ++ old.queue) s) (waiting (front ++ new.queue) s) i (ap (λ x. is_seen (reached old.known x i)) same ∙ u) (subst (λ x. Reaches (next_by objects parents x) (starts_by tips ends x) i) (sym same) r)
+          (λ j. to s j ∙ ap (λ b. cond b Queued (reached old.known s j)) (both (is_same j i) (is_side s side) q)) (λ j. more_wait s j ∙ ap (λ b. cond b 1 0 + waiting (front ++ old.queue) s j) (both (is_same j i) (is_side s side) q)) (h.search s)
+        where
+          both : (a b : Bool) → b ≡ true → (a && b) ≡ a
+          both true b f = f
+          both false b f = refl
+      search s false q =
+          search_same (next_by objects parents s) (starts_by tips ends s) (reached old.known s) (reached new.known s) (waiting (front ++ old.queue) s) (waiting (front ++ new.queue) s) (λ j. to s j ∙ ap (λ b. cond b Queued (reached old.known s j)) (neither (is_same j i) (is_side s side) q)) (λ j. more_wait s j ∙ ap (λ b. cond b 1 0 + waiting (front ++ old.queue) s j) (neither (is_same j i) (is_side s side) q) ∙ zero-add _) (h.search s)
+        where
+          neither : (a b : Bool) → b ≡ false → (a && b) ≡ false
+          neither true b f = f
+          neither false b f = refl
+
+      keyed : (entry : ℕ × Waiting) → Contains (front ++ new.queue) entry → entry.0 ≡ known_generation rows entry.1.id
+      keyed entry m =
+          ⊎_elim (λ a. h.keyed entry (Contains-append_left front old.queue entry a))
+          (λ t. ⊎_elim (λ b. subst (λ x. x.0 ≡ known_generation rows x.1.id) b refl) (λ l. h.keyed entry (Contains-append_right front old.queue entry l)) (Contains-cons_cases entry (known_generation rows i, record { id = i; side = side }) old.queue (Contains-permutation new.queue ((known_generation rows i, record { id = i; side = side }) ∷ old.queue) entry (IsPermutation-sym ((known_generation rows i, record { id = i; side = side }) ∷ old.queue) new.queue p) t)))
+          (Contains-append_cases front new.queue entry m)
+
   module _ (e : ℕ × Waiting) where
-    pub meets_keep : {old : Frontier} {i : ObjectId} {side : Side} {new : Frontier} → Reaches (next_by objects parents side) (starts_by tips ends side) i → Meets old (known_generation rows i) i side new → S (e ∷ old.queue) old.known → S (e ∷ new.queue) new.known
-    meets_keep r (seen q same) h = subst (λ f. S (e ∷ f.queue) f.known) (sym same) h
-    meets_keep {old} {i} {side} {new} r (unseen u p k) h = record { search = λ s. search s (is_side s side) refl; keyed = keyed }
-      where
-        to : (s : Side) (j : ObjectId) → reached new.known s j ≡ cond (is_same j i && is_side s side) Queued (reached old.known s j)
-        to s j = ap (λ those. reached those s j) k ∙ moved old.known i side s Queued j
-
-        more_wait : (s : Side) (j : ObjectId) → waiting (e ∷ new.queue) s j ≡ cond (is_same j i && is_side s side) 1 0 + waiting (e ∷ old.queue) s j
-        more_wait s j = let q : waiting new.queue s j ≡ cond (is_same j i && is_side s side) 1 0 + waiting old.queue s j = waiting-permutation s j ((known_generation rows i, record { id = i; side = side }) ∷ old.queue) new.queue p in omega arith
-
-        search : (s : Side) (b : Bool) → is_side s side ≡ b → IsSearch (next_by objects parents s) (starts_by tips ends s) (reached new.known s) (waiting (e ∷ new.queue) s)
-        search s true q =
-            let same : s ≡ side = side_is s side q in
-            search_meets (next_by objects parents s) (starts_by tips ends s) (reached old.known s) (reached new.known s) (waiting (e ∷ old.queue) s) (waiting (e ∷ new.queue) s) i (ap (λ x. is_seen (reached old.known x i)) same ∙ u) (subst (λ x. Reaches (next_by objects parents x) (starts_by tips ends x) i) (sym same) r)
-            (λ j. to s j ∙ ap (λ b. cond b Queued (reached old.known s j)) (both (is_same j i) (is_side s side) q)) (λ j. more_wait s j ∙ ap (λ b. cond b 1 0 + waiting (e ∷ old.queue) s j) (both (is_same j i) (is_side s side) q)) (h.search s)
-          where
-            both : (a b : Bool) → b ≡ true → (a && b) ≡ a
-            both true b f = f
-            both false b f = refl
-        search s false q =
-            search_same (next_by objects parents s) (starts_by tips ends s) (reached old.known s) (reached new.known s) (waiting (e ∷ old.queue) s) (waiting (e ∷ new.queue) s) (λ j. to s j ∙ ap (λ b. cond b Queued (reached old.known s j)) (neither (is_same j i) (is_side s side) q)) (λ j. more_wait s j ∙ ap (λ b. cond b 1 0 + waiting (e ∷ old.queue) s j) (neither (is_same j i) (is_side s side) q) ∙ zero-add _) (h.search s)
-          where
-            neither : (a b : Bool) → b ≡ false → (a && b) ≡ false
-            neither true b f = f
-            neither false b f = refl
-
-        keyed : (entry : ℕ × Waiting) → Contains (e ∷ new.queue) entry → entry.0 ≡ known_generation rows entry.1.id
-        keyed entry m =
-            ⊎_elim (λ a. h.keyed entry (subst (λ x. Contains (e ∷ old.queue) x) a (Contains-here e old.queue)))
-            (λ t. ⊎_elim (λ b. subst (λ x. x.0 ≡ known_generation rows x.1.id) b refl) (λ l. h.keyed entry (Contains-there entry e old.queue l)) (Contains-cons_cases entry (known_generation rows i, record { id = i; side = side }) old.queue (Contains-permutation new.queue ((known_generation rows i, record { id = i; side = side }) ∷ old.queue) entry (IsPermutation-sym ((known_generation rows i, record { id = i; side = side }) ∷ old.queue) new.queue p) t)))
-            (Contains-cons_cases entry e new.queue m)
-
     names_keep : (old : Frontier) (i : ObjectId) (new : Frontier) (side : Side) → Reaches (next_by objects parents side) (starts_by tips ends side) i → Names side old (known_generation rows i) i new → S (e ∷ old.queue) old.known → S (e ∷ new.queue) new.known
-    names_keep old i new Tips r n h = meets_keep r n.2 (searched_same (e ∷ n.0.queue) old.known n.0.known (counts_still n.1) (subst (λ q. S (e ∷ q) old.known) (sym n.1.queue) h))
-    names_keep old i new Ends r n h = meets_keep r n h
+    names_keep old i new Tips r n h = meets_keep (e ∷ []) r n.2 (searched_same (e ∷ n.0.queue) old.known n.0.known (counts_still n.1) (subst (λ q. S (e ∷ q) old.known) (sym n.1.queue) h))
+    names_keep old i new Ends r n h = meets_keep (e ∷ []) r n h
 
     pub follows_keep : {side : Side} {old : Frontier} {ids : List ObjectId} {new : Frontier} → ((i : ObjectId) → Contains ids i → Reaches (next_by objects parents side) (starts_by tips ends side) i) → Follows rows side old ids new → S (e ∷ old.queue) old.known → S (e ∷ new.queue) new.known
     follows_keep r none h = h

@@ -11,7 +11,7 @@ use Rattle.gix_traverse.specs.declared.commit.topo.frontier.Side.{Side}
 use Rattle.gix_traverse.specs.declared.commit.topo.frontier.Side.TheVariants.{Tips, Ends}
 use Rattle.gix_traverse.specs.declared.commit.topo.frontier.Progress.{Progress}
 use Rattle.gix_traverse.specs.declared.commit.topo.frontier.Progress.TheVariants.{Unseen, Queued, Done}
-use Rattle.gix_traverse.specs.declared.commit.topo.frontier.Known.{Known}
+use Rattle.gix_traverse.specs.Known.{Known}
 use Rattle.gix_traverse.specs.declared.commit.topo.frontier.Frontier.{Frontier}
 use Rattle.gix_traverse.specs.Exploring.{Follows, none, more}
 use Rattle.gix_traverse.specs.Frontier.{is_side, is_seen, is_done, known_of, with_progress, reached, Meets, seen, unseen, Counts, Names, Finishes}
@@ -62,7 +62,7 @@ unseen_undone Unseen e = refl
 unseen_undone Queued e = refl
 unseen_undone Done e = cc
 
-meets_named : {old : Frontier} {g : ℕ} {i : ObjectId} {side : Side} {new : Frontier} → Meets old g i side new → IsNamed old new
+pub meets_named : {old : Frontier} {g : ℕ} {i : ObjectId} {side : Side} {new : Frontier} → Meets old g i side new → IsNamed old new
 meets_named {old} (seen e same) = subst (λ f. IsNamed old f) (sym same) (record { done = λ s j. refl; made = λ j. refl })
 meets_named {old} {g} {i} {side} {new} (unseen u p k) = record {
   done = λ s j. ap is_done (ap (λ those. reached those s j) k ∙ moved old.known i side s Queued j) ∙ go s j (is_same j i) (is_side s side) refl refl;
@@ -80,7 +80,7 @@ meets_named {old} {g} {i} {side} {new} (unseen u p k) = record {
     go s j true false p q = refl
     go s j false b p q = refl
 
-meets_children : {old : Frontier} {g : ℕ} {i : ObjectId} {side : Side} {new : Frontier} → Meets old g i side new → (j : ObjectId) → children_of new j ≡ children_of old j
+pub meets_children : {old : Frontier} {g : ℕ} {i : ObjectId} {side : Side} {new : Frontier} → Meets old g i side new → (j : ObjectId) → children_of new j ≡ children_of old j
 meets_children (seen e same) j = ap (λ f. children_of f j) same
 meets_children {old = old} {i = i} {side = side} {new = new} (unseen u p k) j = moved_children old new i side Queued k j
 

@@ -12,7 +12,7 @@ use Rattle.gix_traverse.specs.declared.commit.topo.Sorting.{Sorting}
 use Rattle.gix_traverse.specs.declared.commit.topo.Sorting.TheVariants as order
 use Rattle.gix_traverse.specs.declared.commit.topo.Error.{Error}
 use Rattle.gix_traverse.specs.SimpleLaws.{AreDistinct}
-use Rattle.gix_traverse.specs.TopoWalk.{TopoWalk, Ready, ready_ids, is_made, named_ids, HoldsReady, Chooses, IsFault, IsLate, IsStarted, Takes, after, Next, ended, given, refused, failed, May}
+use Rattle.gix_traverse.specs.TopoWalk.{TopoWalk, Ready, Counted, ready_ids, is_made, named_ids, HoldsReady, Chooses, IsFault, IsLate, IsStarted, Takes, after, Next, ended, given, refused, failed, May}
 use Rattle.gix_traverse.specs.TopoLaws.{left_beside, answers_left, AreApart, AsksAll, none, more, Drawn}
 use Rattle.gix_parts.proofs.IdFacts.{id_total, same_is, same_itself, among_from, among_is, Contains-here, Contains-there, Contains-cons_cases, no_member}
 use Rattle.gix_traverse.proofs.FreshFacts.{fresh, fresh_agree, times, times_none}
@@ -67,8 +67,8 @@ left_all n [] m e = absurd (omega arith)
 left_all n (r ∷ ready) m e = refl
 
 module _ {F P : Type 0} (objects : F → Objects) (faulty : F → ObjectId → Type 0) (answers : P → ObjectId → Bool → P → Type 0) where
-  made_then : (w : TopoWalk F P) (c : Ready) (standing : Bool) (ready : List Ready) (predicate : P) (t : Takes objects faulty answers w c standing ready) (j : ObjectId) → is_made (after objects faulty answers w c standing ready predicate) j ≡ (is_among j (ready_ids t.added) || is_made w j)
-  made_then w c standing ready predicate t j = both_ways _ _ to from
+  made_then : (w : TopoWalk F P) (c : Ready) (counted : Counted) (ready : List Ready) (predicate : P) (t : Takes objects faulty answers w c counted ready) (j : ObjectId) → is_made (after objects faulty answers w c counted ready predicate) j ≡ (is_among j (ready_ids t.added) || is_made w j)
+  made_then w c counted ready predicate t j = both_ways _ _ to from
     where
       counts : times j (ready_ids ready) ≡ times j (ready_ids t.others) + times j (ready_ids t.added)
       counts = holds_times w.plan.sorting (t.others ++ t.added) ready t.holds j ∙ joined_times j t.others t.added
@@ -109,25 +109,25 @@ module _ {F P : Type 0} (objects : F → Objects) (faulty : F → ObjectId → T
   abbrev new_in : TopoWalk F P → ℕ
   new_in w = length (fresh (is_made w) (named_ids (objects w.plan.store) w.plan.rows))
 
-  pub takes_left : (w : TopoWalk F P) (c : Ready) (standing : Bool) (ready : List Ready) (predicate : P) → Takes objects faulty answers w c standing ready → suc (answers_left objects (after objects faulty answers w c standing ready predicate)) ≤ answers_left objects w
-  takes_left w c standing ready predicate t =
+  pub takes_left : (w : TopoWalk F P) (c : Ready) (counted : Counted) (ready : List Ready) (predicate : P) → Takes objects faulty answers w c counted ready → suc (answers_left objects (after objects faulty answers w c counted ready predicate)) ≤ answers_left objects w
+  takes_left w c counted ready predicate t =
       let named : List ObjectId = named_ids (objects w.plan.store) w.plan.rows in
       let a : length (fresh (λ j. is_among j (ready_ids t.added) || is_made w j) named) + length (ready_ids t.added) ≡ new_in w = all_new (is_made w) named (ready_ids t.added) t.adds.distinct t.adds.named t.adds.unmade in
-      let b : new_in (after objects faulty answers w c standing ready predicate) ≡ length (fresh (λ j. is_among j (ready_ids t.added) || is_made w j) named) = ap length (fresh_agree _ _ named (λ j h. made_then w c standing ready predicate t j)) in
+      let b : new_in (after objects faulty answers w c counted ready predicate) ≡ length (fresh (λ j. is_among j (ready_ids t.added) || is_made w j) named) = ap length (fresh_agree _ _ named (λ j h. made_then w c counted ready predicate t j)) in
       let l : length (ready_ids t.added) ≡ length t.added = length-ids t.added in
       let h : length ready ≡ length (t.others ++ t.added) = held_length w.plan.sorting (t.others ++ t.added) ready t.holds in
       let j : length (t.others ++ t.added) ≡ length t.others + length t.added = length-append t.others t.added in
       let s : length w.ready ≡ suc (length t.others) = chosen_length w.plan.sorting w.ready c t.others t.chosen in
       let x : answers_left objects w ≡ new_in w + length w.ready = left_all (new_in w) w.ready (length t.others) s in
-      let y : answers_left objects (after objects faulty answers w c standing ready predicate) ≤ new_in (after objects faulty answers w c standing ready predicate) + length ready = left_most _ ready in
+      let y : answers_left objects (after objects faulty answers w c counted ready predicate) ≤ new_in (after objects faulty answers w c counted ready predicate) + length ready = left_most _ ready in
       omega arith
 
-  next_left : {w new : TopoWalk F P} {o : Option (Result Info Error)} → Next objects faulty answers w o new → (answer : Result Info Error) → o ≡ Some answer → suc (answers_left objects new) ≤ answers_left objects w
+  pub next_left : {w new : TopoWalk F P} {o : Option (Result Info Error)} → Next objects faulty answers w o new → (answer : Result Info Error) → o ≡ Some answer → suc (answers_left objects new) ≤ answers_left objects w
   next_left (ended e) answer s = cc
-  next_left (given {old = w} {c = c} {standing = standing} {ready = ready} {predicate = q} t a is) answer s = takes_left w c standing ready q t
-  next_left (refused {old = w} {new = new} {c = c} {standing = standing} {ready = ready} {predicate = q} t a next) answer s =
-      let l : suc (answers_left objects (after objects faulty answers w c standing ready q)) ≤ answers_left objects w = takes_left w c standing ready q t in
-      let r : suc (answers_left objects new) ≤ answers_left objects (after objects faulty answers w c standing ready q) = next_left next answer s in
+  next_left (given {old = w} {c = c} {counted = counted} {ready = ready} {predicate = q} t a is) answer s = takes_left w c counted ready q t
+  next_left (refused {old = w} {new = new} {c = c} {counted = counted} {ready = ready} {predicate = q} t a next) answer s =
+      let l : suc (answers_left objects (after objects faulty answers w c counted ready q)) ≤ answers_left objects w = takes_left w c counted ready q t in
+      let r : suc (answers_left objects new) ≤ answers_left objects (after objects faulty answers w c counted ready q) = next_left next answer s in
       omega arith
   next_left (failed {old = w} c others ch f l) answer s =
       let n : length w.ready ≡ suc (length others) = chosen_length w.plan.sorting w.ready c others ch in
@@ -158,8 +158,8 @@ module _ {F P : Type 0} (objects : F → Objects) (faulty : F → ObjectId → T
       (subst (IsFault objects faulty w.plan) same f, subst (IsLate objects w.plan) same l, λ answer later next. nothing_more next refl)
 
   -- what the predicate was asked
-  apart_on : (w : TopoWalk F P) (c : Ready) (standing : Bool) (ready : List Ready) (predicate : P) → Takes objects faulty answers w c standing ready → AreApart w → AreApart (after objects faulty answers w c standing ready predicate)
-  apart_on w c standing ready predicate t h = record { distinct = distinct_from_times (ready_ids ready) once; untaken = λ i m. false_from_ne_true _ (λ e. untaken i (among_from i (ready_ids ready) m) e) }
+  apart_on : (w : TopoWalk F P) (c : Ready) (counted : Counted) (ready : List Ready) (predicate : P) → Takes objects faulty answers w c counted ready → AreApart w → AreApart (after objects faulty answers w c counted ready predicate)
+  apart_on w c counted ready predicate t h = record { distinct = distinct_from_times (ready_ids ready) once; untaken = λ i m. false_from_ne_true _ (λ e. untaken i (among_from i (ready_ids ready) m) e) }
     where
       counts : (i : ObjectId) → times i (ready_ids ready) ≡ times i (ready_ids t.others) + times i (ready_ids t.added)
       counts i = holds_times w.plan.sorting (t.others ++ t.added) ready t.holds i ∙ joined_times i t.others t.added
@@ -223,8 +223,8 @@ module _ {F P : Type 0} (objects : F → Objects) (faulty : F → ObjectId → T
     untaken : (i : ObjectId) → Contains ids i → set.contains w.taken i ≡ false
     silent : w.ready ≡ [] → ids ≡ []
 
-  asks_more : (w : TopoWalk F P) (c : Ready) (standing : Bool) (ready : List Ready) (b : Bool) (predicate last : P) → Takes objects faulty answers w c standing ready → answers w.predicate c.id b predicate → AreApart w → Asks (after objects faulty answers w c standing ready predicate) last → Asks w last
-  asks_more w c standing ready b predicate last t a h r =
+  asks_more : (w : TopoWalk F P) (c : Ready) (counted : Counted) (ready : List Ready) (b : Bool) (predicate last : P) → Takes objects faulty answers w c counted ready → answers w.predicate c.id b predicate → AreApart w → Asks (after objects faulty answers w c counted ready predicate) last → Asks w last
+  asks_more w c counted ready b predicate last t a h r =
       record {
         ids = c.id ∷ r.ids;
         run = more a r.run;
@@ -242,10 +242,10 @@ module _ {F P : Type 0} (objects : F → Objects) (faulty : F → ObjectId → T
 
   asks_next : {w new : TopoWalk F P} {o : Option (Result Info Error)} → Next objects faulty answers w o new → (last : P) → AreApart w → (AreApart new → Asks new last) → Asks w last
   asks_next (ended e) last h rest = rest h
-  asks_next (given {old = w} {c = c} {standing = standing} {ready = ready} {predicate = q} t a is) last h rest = asks_more w c standing ready true q last t a h (rest (apart_on w c standing ready q t h))
-  asks_next (refused {old = w} {c = c} {standing = standing} {ready = ready} {predicate = q} t a next) last h rest = asks_more w c standing ready false q last t a h (asks_next next last (apart_on w c standing ready q t h) rest)
-  asks_next (failed {old = w} c others {standing = standing} {taken = taken} ch f l) last h rest =
-      let r : Asks (record w { standing = standing; ready = []; taken = taken }) last = rest (record { distinct = tt; untaken = λ i m. absurd (no_member i m) }) in
+  asks_next (given {old = w} {c = c} {counted = counted} {ready = ready} {predicate = q} t a is) last h rest = asks_more w c counted ready true q last t a h (rest (apart_on w c counted ready q t h))
+  asks_next (refused {old = w} {c = c} {counted = counted} {ready = ready} {predicate = q} t a next) last h rest = asks_more w c counted ready false q last t a h (asks_next next last (apart_on w c counted ready q t h) rest)
+  asks_next (failed {old = w} c others {counted = counted} {taken = taken} ch f l) last h rest =
+      let r : Asks (record w { counted = counted; ready = []; taken = taken }) last = rest (record { distinct = tt; untaken = λ i m. absurd (no_member i m) }) in
       let e : r.ids ≡ [] = r.silent refl in
       record { ids = r.ids; run = r.run; distinct = r.distinct; untaken = λ i m. absurd (no_member i (subst (λ xs. Contains xs i) e m)); silent = λ n. e }
 

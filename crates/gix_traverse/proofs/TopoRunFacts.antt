@@ -24,7 +24,7 @@ use Rattle.gix_traverse.specs.WalkSet.{IsReady}
 use Rattle.gix_traverse.specs.TopoOrder.{Keeps, last_places, IsMadeReady}
 use Rattle.gix_traverse.specs.SimpleWalk.{IsInfo}
 use Rattle.gix_traverse.specs.SimpleLaws.{Becomes, itself, further, AnswersBy}
-use Rattle.gix_traverse.specs.TopoWalk.{TopoPlan, TopoWalk, Ready, ready_ids, IsTaken, HoldsReady, Chooses, walked_of, IsMember, IsStored, IsSound, IsFault, StartsWith, IsStarted, Takes, after, Next, ended, given, refused, failed, May}
+use Rattle.gix_traverse.specs.TopoWalk.{TopoPlan, TopoWalk, Ready, Counted, ready_ids, IsTaken, HoldsReady, Chooses, walked_of, IsMember, IsStored, IsSound, IsFault, StartsWith, IsStarted, Takes, after, Next, ended, given, refused, failed, May}
 use Rattle.gix_traverse.specs.TopoLaws.{IsSorted, IsGiven, GivesInOrder, IsWholeRun}
 use Rattle.gix_parts.proofs.IdFacts.{id_total, same_is, same_from, among-append, among-one, among_from, among_is, Contains-here, Contains-there, Contains-cons_cases, no_member}
 use Rattle.gix_traverse.proofs.FreshFacts.{times, times-append}
@@ -119,8 +119,8 @@ module _ {F P : Type 0} (objects : F → Objects) (faulty : F → ObjectId → T
   -- the commits that are taken while these answers are drawn
   data Draws : TopoWalk F P → List ObjectId → List (Result Info Error) → Type 0 where
     stops : {w : TopoWalk F P} → w.ready ≡ [] → Draws w [] []
-    shows : {w : TopoWalk F P} {c : Ready} {standing : Bool} {ready : List Ready} {predicate : P} {info : Info} {ids : List ObjectId} {list : List (Result Info Error)} → Takes objects faulty answers w c standing ready → accepts c.id ≡ true → IsInfo info c.id c.parents c.generation (Some c.time) → Draws (after objects faulty answers w c standing ready predicate) ids list → Draws w (c.id ∷ ids) (Ok info ∷ list)
-    hides : {w : TopoWalk F P} {c : Ready} {standing : Bool} {ready : List Ready} {predicate : P} {ids : List ObjectId} {list : List (Result Info Error)} → Takes objects faulty answers w c standing ready → accepts c.id ≡ false → Draws (after objects faulty answers w c standing ready predicate) ids list → Draws w (c.id ∷ ids) list
+    shows : {w : TopoWalk F P} {c : Ready} {counted : Counted} {ready : List Ready} {predicate : P} {info : Info} {ids : List ObjectId} {list : List (Result Info Error)} → Takes objects faulty answers w c counted ready → accepts c.id ≡ true → IsInfo info c.id c.parents c.generation (Some c.time) → Draws (after objects faulty answers w c counted ready predicate) ids list → Draws w (c.id ∷ ids) (Ok info ∷ list)
+    hides : {w : TopoWalk F P} {c : Ready} {counted : Counted} {ready : List Ready} {predicate : P} {ids : List ObjectId} {list : List (Result Info Error)} → Takes objects faulty answers w c counted ready → accepts c.id ≡ false → Draws (after objects faulty answers w c counted ready predicate) ids list → Draws w (c.id ∷ ids) list
 
   sound_fault : (plan : TopoPlan F) (e : Error) → IsSound objects faulty plan → IsFault objects faulty plan e → e ≡ error.Memory
   sound_fault plan error.MissingIndegreeUnexpected s f = absurd (f s.agreeing)
@@ -164,9 +164,9 @@ module _ {F P : Type 0} (objects : F → Objects) (faulty : F → ObjectId → T
   pub record Stands (w : TopoWalk F P) (done : List ObjectId) : Type 0 where
     pub taken : (i : ObjectId) → set.contains w.taken i ≡ is_among i done
     pub ready : AreReady (walked_of objects w.plan) (IsMember objects w.plan) (Contains done) (ready_ids w.ready)
-    pub stored : (r : Ready) → Contains w.ready r → IsStored objects w.plan w.standing r
+    pub stored : (r : Ready) → Contains w.ready r → IsStored objects w.plan w.counted.standing r
 
-  module _ (w : TopoWalk F P) (done : List ObjectId) (sound : IsSound objects faulty w.plan) (c : Ready) (standing : Bool) (ready : List Ready) (t : Takes objects faulty answers w c standing ready) (h : Stands w done) where
+  module _ (w : TopoWalk F P) (done : List ObjectId) (sound : IsSound objects faulty w.plan) (c : Ready) (counted : Counted) (ready : List Ready) (t : Takes objects faulty answers w c counted ready) (h : Stands w done) where
     taken_now : (i : ObjectId) → set.contains (set.insert w.taken c.id) i ≡ is_among i (done ++ c.id ∷ [])
     taken_now i = set.contains-insert id_total w.taken c.id i ∙ turned (is_same i c.id) (set.contains w.taken i) ∙ ap (λ b. b || is_same i c.id) (h.taken i) ∙ sym (among-append i done (c.id ∷ []) ∙ ap (λ b. is_among i done || b) (among-one i c.id))
       where
@@ -184,28 +184,28 @@ module _ {F P : Type 0} (objects : F → Objects) (faulty : F → ObjectId → T
         (ready_alike (walked_of objects w.plan) (IsMember objects w.plan) (IsTaken (set.insert w.taken c.id)) (Contains (done ++ c.id ∷ [])) f g)
         (ready_alike (walked_of objects w.plan) (IsMember objects w.plan) (Contains (done ++ c.id ∷ [])) (IsTaken (set.insert w.taken c.id)) g f) (t.adds.became sound)
 
-    pub stands_on : (predicate : P) → Stands (after objects faulty answers w c standing ready predicate) (done ++ c.id ∷ [])
+    pub stands_on : (predicate : P) → Stands (after objects faulty answers w c counted ready predicate) (done ++ c.id ∷ [])
     stands_on predicate = record {
       taken = taken_now;
       ready = takes_ready (walked_of objects w.plan) (IsMember objects w.plan) (Contains done) (Contains (done ++ c.id ∷ [])) c.id (ready_ids w.ready) (ready_ids t.others) (ready_ids t.added) (ready_ids ready)
           (record { before = λ i m. Contains-append_left done (c.id ∷ []) i m; now = Contains-push done c.id; either = λ i m. Contains-push_cases done c.id i m })
           h.ready (chosen_times w.plan.sorting w.ready c t.others t.chosen) became
           (λ i. holds_times w.plan.sorting (t.others ++ t.added) ready t.holds i ∙ joined_times i t.others t.added);
-      stored = λ r m. ⊎_elim (λ o. stored_still w.plan w.standing standing r t.adds.stands (h.stored r (others_in w.plan.sorting w.ready c t.others t.chosen r o))) (λ a. t.adds.stored sound r a)
+      stored = λ r m. ⊎_elim (λ o. stored_still w.plan w.counted.standing counted.standing r t.adds.stands (h.stored r (others_in w.plan.sorting w.ready c t.others t.chosen r o))) (λ a. t.adds.stored sound r a)
           (Contains-append_cases t.others t.added r (holds_in w.plan.sorting (t.others ++ t.added) ready t.holds r m));
     }
 
   -- what is given
   draws_given : {w : TopoWalk F P} {ids : List ObjectId} {list : List (Result Info Error)} → Draws w ids list → (done : List ObjectId) → IsSound objects faulty w.plan → Stands w done → AllZip (IsGiven objects w.plan) list (filter accepts ids)
   draws_given (stops e) done s h = tt
-  draws_given (shows {w = w} {c = c} {standing = standing} {ready = ready} {predicate = q} {info = info} {ids = ids} {list = list} t a is d) done s h =
-      let r : IsStored objects w.plan w.standing c = h.stored c (chosen_in w.plan.sorting w.ready c t.others t.chosen) in
+  draws_given (shows {w = w} {c = c} {counted = counted} {ready = ready} {predicate = q} {info = info} {ids = ids} {list = list} t a is d) done s h =
+      let r : IsStored objects w.plan w.counted.standing c = h.stored c (chosen_in w.plan.sorting w.ready c t.others t.chosen) in
       subst (λ b. AllZip (IsGiven objects w.plan) (Ok info ∷ list) (cond b (c.id ∷ filter accepts ids) (filter accepts ids))) (sym a) (
         record { generation = c.generation; by_row = r.by_row; info_is = record { same_id = is.same_id; same_parents = is.same_parents ∙ r.parents; same_generation = is.same_generation; same_time = is.same_time ∙ ap Some r.time } },
-        draws_given d (done ++ c.id ∷ []) s (stands_on w done s c standing ready t h q),
+        draws_given d (done ++ c.id ∷ []) s (stands_on w done s c counted ready t h q),
       )
-  draws_given (hides {w = w} {c = c} {standing = standing} {ready = ready} {predicate = q} {ids = ids} {list = list} t a d) done s h =
-      subst (λ b. AllZip (IsGiven objects w.plan) list (cond b (c.id ∷ filter accepts ids) (filter accepts ids))) (sym a) (draws_given d (done ++ c.id ∷ []) s (stands_on w done s c standing ready t h q))
+  draws_given (hides {w = w} {c = c} {counted = counted} {ready = ready} {predicate = q} {ids = ids} {list = list} t a d) done s h =
+      subst (λ b. AllZip (IsGiven objects w.plan) list (cond b (c.id ∷ filter accepts ids) (filter accepts ids))) (sym a) (draws_given d (done ++ c.id ∷ []) s (stands_on w done s c counted ready t h q))
 
   -- a ready one of greatest time
   abbrev IsBestNext : TopoPlan F → List ObjectId → Option ObjectId → Type 0
@@ -230,10 +230,10 @@ module _ {F P : Type 0} (objects : F → Objects) (faulty : F → ObjectId → T
 
   draws_date : {w : TopoWalk F P} {ids : List ObjectId} {list : List (Result Info Error)} → Draws w ids list → (done : List ObjectId) → IsSound objects faulty w.plan → Stands w done → w.plan.sorting ≡ order.DateOrder → TurnsFrom (IsBestNext w.plan) done ids
   draws_date (stops {w = w} e) done s h o = turn_none (IsBestNext w.plan) done (none_best w done h e)
-  draws_date (shows {w = w} {c = c} {standing = standing} {ready = ready} {predicate = q} {ids = ids} t a is d) done s h o =
-      turn_more (IsBestNext w.plan) done ids c.id (best_next w done h c t.others (subst (λ x. Chooses x w.ready c t.others) o t.chosen)) (draws_date d (done ++ c.id ∷ []) s (stands_on w done s c standing ready t h q) o)
-  draws_date (hides {w = w} {c = c} {standing = standing} {ready = ready} {predicate = q} {ids = ids} t a d) done s h o =
-      turn_more (IsBestNext w.plan) done ids c.id (best_next w done h c t.others (subst (λ x. Chooses x w.ready c t.others) o t.chosen)) (draws_date d (done ++ c.id ∷ []) s (stands_on w done s c standing ready t h q) o)
+  draws_date (shows {w = w} {c = c} {counted = counted} {ready = ready} {predicate = q} {ids = ids} t a is d) done s h o =
+      turn_more (IsBestNext w.plan) done ids c.id (best_next w done h c t.others (subst (λ x. Chooses x w.ready c t.others) o t.chosen)) (draws_date d (done ++ c.id ∷ []) s (stands_on w done s c counted ready t h q) o)
+  draws_date (hides {w = w} {c = c} {counted = counted} {ready = ready} {predicate = q} {ids = ids} t a d) done s h o =
+      turn_more (IsBestNext w.plan) done ids c.id (best_next w done h c t.others (subst (λ x. Chooses x w.ready c t.others) o t.chosen)) (draws_date d (done ++ c.id ∷ []) s (stands_on w done s c counted ready t h q) o)
 
   -- the ready ones are those made ready and not taken, in their order
   abbrev made_of : TopoPlan F → List ObjectId → List ObjectId → Type 0
@@ -257,8 +257,8 @@ module _ {F P : Type 0} (objects : F → Objects) (faulty : F → ObjectId → T
     last_next : IsLastNext w.plan done (Some c.id)
     last_next = (h.made, h.is_made, sym (found_first (λ i. not (is_among i done)) (reverse h.made) c.id (reverse (ready_ids others)) (filter-reverse _ h.made ∙ ap reverse stack_is ∙ reverse-append (ready_ids others) (c.id ∷ []))))
 
-  stacks_on : (w : TopoWalk F P) (done : List ObjectId) (sound : IsSound objects faulty w.plan) (c : Ready) (standing : Bool) (ready : List Ready) (t : Takes objects faulty answers w c standing ready) → Stands w done → Stacks w done → w.plan.sorting ≡ order.TopoOrder → (predicate : P) → Stacks (after objects faulty answers w c standing ready predicate) (done ++ c.id ∷ [])
-  stacks_on w done sound c standing ready t st h o predicate =
+  stacks_on : (w : TopoWalk F P) (done : List ObjectId) (sound : IsSound objects faulty w.plan) (c : Ready) (counted : Counted) (ready : List Ready) (t : Takes objects faulty answers w c counted ready) → Stands w done → Stacks w done → w.plan.sorting ≡ order.TopoOrder → (predicate : P) → Stacks (after objects faulty answers w c counted ready predicate) (done ++ c.id ∷ [])
+  stacks_on w done sound c counted ready t st h o predicate =
       record {
         made = h.made ++ ready_ids t.added;
         is_made = subst (λ r. made_of w.plan r (h.made ++ ready_ids t.added)) (sym (reverse-append done (c.id ∷ []))) (h.made, ready_ids t.added, h.is_made, keeps, refl);
@@ -272,7 +272,7 @@ module _ {F P : Type 0} (objects : F → Objects) (faulty : F → ObjectId → T
       held = subst (λ x. HoldsReady x (t.others ++ t.added) ready) o t.holds
 
       became_now : Keeps (IsReady (walked_of objects w.plan) (IsMember objects w.plan) (Contains (done ++ c.id ∷ []))) (last_places (walked_of objects w.plan c.id)) (ready_ids t.added)
-      became_now = became w done sound c standing ready t st
+      became_now = became w done sound c counted ready t st
 
       to : (i : ObjectId) → Contains (done ++ c.id ∷ []) i → Contains (c.id ∷ reverse done) i
       to i m = ⊎_elim (λ n. Contains-there i c.id (reverse done) (in_reverse i done n)) (λ e. subst (λ y. Contains (c.id ∷ reverse done) y) e (Contains-here c.id (reverse done))) (Contains-push_cases done c.id i m)
@@ -313,10 +313,10 @@ module _ {F P : Type 0} (objects : F → Objects) (faulty : F → ObjectId → T
 
   draws_topo : {w : TopoWalk F P} {ids : List ObjectId} {list : List (Result Info Error)} → Draws w ids list → (done : List ObjectId) → IsSound objects faulty w.plan → Stands w done → Stacks w done → w.plan.sorting ≡ order.TopoOrder → TurnsFrom (IsLastNext w.plan) done ids
   draws_topo (stops {w = w} e) done s h k o = turn_none (IsLastNext w.plan) done (none_last w done k e)
-  draws_topo (shows {w = w} {c = c} {standing = standing} {ready = ready} {predicate = q} {ids = ids} t a is d) done s h k o =
-      turn_more (IsLastNext w.plan) done ids c.id (last_next w done c t.others k (subst (λ x. Chooses x w.ready c t.others) o t.chosen)) (draws_topo d (done ++ c.id ∷ []) s (stands_on w done s c standing ready t h q) (stacks_on w done s c standing ready t h k o q) o)
-  draws_topo (hides {w = w} {c = c} {standing = standing} {ready = ready} {predicate = q} {ids = ids} t a d) done s h k o =
-      turn_more (IsLastNext w.plan) done ids c.id (last_next w done c t.others k (subst (λ x. Chooses x w.ready c t.others) o t.chosen)) (draws_topo d (done ++ c.id ∷ []) s (stands_on w done s c standing ready t h q) (stacks_on w done s c standing ready t h k o q) o)
+  draws_topo (shows {w = w} {c = c} {counted = counted} {ready = ready} {predicate = q} {ids = ids} t a is d) done s h k o =
+      turn_more (IsLastNext w.plan) done ids c.id (last_next w done c t.others k (subst (λ x. Chooses x w.ready c t.others) o t.chosen)) (draws_topo d (done ++ c.id ∷ []) s (stands_on w done s c counted ready t h q) (stacks_on w done s c counted ready t h k o q) o)
+  draws_topo (hides {w = w} {c = c} {counted = counted} {ready = ready} {predicate = q} {ids = ids} t a d) done s h k o =
+      turn_more (IsLastNext w.plan) done ids c.id (last_next w done c t.others k (subst (λ x. Chooses x w.ready c t.others) o t.chosen)) (draws_topo d (done ++ c.id ∷ []) s (stands_on w done s c counted ready t h q) (stacks_on w done s c counted ready t h k o q) o)
 
   -- a walk that was built
   pub starts_stands : (w : TopoWalk F P) → IsSound objects faulty w.plan → IsStarted objects faulty answers w → Stands w []

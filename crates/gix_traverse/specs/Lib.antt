@@ -37,6 +37,7 @@ pub mod Tracked
 pub mod TreeLaws
 pub mod TreeExamples
 pub mod Counting
+pub mod Known
 pub mod Frontier
 pub mod ReadsCommit
 pub mod Exploring
@@ -44,3 +45,4 @@ pub mod Searched
 pub mod ReadySet
 pub mod Releasing
 pub mod TopoSteady
+pub mod Starting

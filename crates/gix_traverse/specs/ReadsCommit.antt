@@ -1,5 +1,5 @@
 -- How a topological walk reads a commit: by its row, or else from the store.
-use Rattle.std.specs.Prelude.{◌≡◌, ℕ, ℤ, pos, nat_lt, List, [], Bool, true, ◌&&◌, if◌then◌else◌, Option, Some, None, Result, Ok, Err}
+use Rattle.std.specs.Prelude.{◌≡◌, ℕ, ℤ, pos, nat_lt, List, Bool, true, ◌&&◌, if◌then◌else◌, Option, Some, None, Result, Ok, Err}
 use Rattle.std.specs.FinMap as map_of
 use Rattle.gix_parts.specs.declared.hash.ObjectId.{ObjectId}
 use Rattle.gix_parts.specs.declared.object.Kind.TheVariants as object
@@ -17,12 +17,8 @@ use Rattle.gix_traverse.specs.declared.commit.Info.{Info}
 use Rattle.gix_traverse.specs.declared.commit.topo.Error.{Error}
 use Rattle.gix_traverse.specs.declared.commit.topo.Error.TheVariants as error
 use Rattle.gix_traverse.specs.SimpleWalk.{IsInfo, scanned, ids_at}
+pub use Rattle.gix_traverse.specs.Agreeing.{rows_of}
 use Rattle.gix_traverse.specs.Counting.{infinity}
-
--- the rows of a graph, or none
-abbrev pub rows_of : Option (List GraphRow) → List GraphRow
-rows_of None = []
-rows_of (Some rows) = rows
 
 -- a row's generation, but for infinity
 abbrev pub told_generation : ℕ → Option ℕ

@@ -17,10 +17,22 @@ use Rattle.gix_traverse.specs.Frontier.{known_of, is_due, Makes, Uncounts}
 use Rattle.gix_traverse.specs.ReadySet.{ready_in, sorting_of}
 use Rattle.gix_traverse.specs.ReadsCommit.{rows_of, Reads, IsReadFault}
 use Rattle.gix_traverse.specs.SimpleWalk.{IsInfo}
-use Rattle.gix_traverse.specs.TopoWalk.{TopoPlan, Ready, HoldsReady}
+use Rattle.gix_traverse.specs.declared.commit.topo.Sorting.{Sorting}
+use Rattle.gix_traverse.specs.TopoWalk.{TopoPlan, TopoWalk, Counted, Ready, HoldsReady}
+
+-- what searches go over
+abbrev pub plan_by : {F : Type 0} → Counting F → Sorting → List ObjectId → List ObjectId → TopoPlan F
+plan_by c sorting tips ends = record { store = c.reader.find; rows = rows_of c.reader.graph; parents = c.parents; sorting = sorting; tips = tips; ends = ends }
 
 abbrev pub plan_of : {F : Type 0} → Walk F → TopoPlan F
-plan_of w = record { store = w.counting.reader.find; rows = rows_of w.counting.reader.graph; parents = w.counting.parents; sorting = sorting_of w.ready; tips = w.tips.items; ends = w.ends.items }
+plan_of w = plan_by w.counting (sorting_of w.ready) w.tips.items w.ends.items
+
+abbrev pub counted_by : {F : Type 0} → Counting F → Counted
+counted_by c = record { standing = c.reader.standing; depth = c.depth; expanded = c.expanded }
+
+-- what a walk holds, with a predicate
+abbrev pub walk_of : {F P : Type 0} → Walk F → P → TopoWalk F P
+walk_of w predicate = record { plan = plan_of w; predicate = predicate; counted = counted_by w.counting; ready = ready_in w.ready; taken = w.taken }
 
 -- a read commit, with all its parents
 abbrev pub IsOfInfo : Ready → Info → Type 0

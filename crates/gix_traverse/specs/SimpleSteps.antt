@@ -4,6 +4,7 @@ use Rattle.std.specs.FinSet as set
 use Rattle.gix_parts.specs.declared.hash.ObjectId.{ObjectId}
 use Rattle.gix_parts.specs.Object.{Objects}
 use Rattle.gix_parts.specs.Rows.{GraphRow, row_of}
+pub use Rattle.gix_traverse.specs.Agreeing.{rows_of}
 use Rattle.gix_traverse.specs.declared.commit.simple.step.RowParents.{RowParents}
 use Rattle.gix_traverse.specs.declared.commit.simple.step.Stop.{Stop}
 use Rattle.gix_traverse.specs.declared.commit.simple.step.Stop.TheVariants as stop
@@ -14,11 +15,6 @@ use Rattle.gix_parts.specs.Id.{id_cmp}
 use Rattle.gix_traverse.specs.History.{by_mode}
 use Rattle.gix_traverse.specs.Painting.{Paints, IsHiddenFault}
 use Rattle.gix_traverse.specs.SimpleWalk.{SimpleWalk, StoreFails, IsNew, IsUnrowed, ReadsTime, ids_at, ids_of, unrowed, painted}
-
--- the rows of a graph, where there is one
-abbrev pub rows_of : Option (List GraphRow) → List GraphRow
-rows_of None = []
-rows_of (Some rows) = rows
 
 module _ {F P : Type 0} (objects : F → Objects) (faulty : F → ObjectId → Type 0) (answers : P → ObjectId → Bool → P → Type 0) where
   -- an id is named: a new one is seen from now on

@@ -1,7 +1,8 @@
 -- What a topological walk holds, as its callers see it, and what one call of it may do.
-use Rattle.std.specs.Prelude.{◌≡◌, ◌⊎◌, ◌≤ℤ◌, ℕ, ℤ, List, [], ◌∷◌, ◌++◌, map, drop, Bool, true, false, ◌||◌, Option, Some, None, Result, Ok, Err, Contains, IsPermutation}
+use Rattle.std.specs.Prelude.{◌≡◌, ◌⊎◌, ◌≤◌, ◌≤ℤ◌, ℕ, ℤ, List, [], ◌∷◌, ◌++◌, map, drop, length, Bool, true, false, ◌||◌, Option, Some, None, Result, Ok, Err, Contains, IsPermutation}
 use Rattle.std.specs.List.{flat_map}
 use Rattle.std.specs.FinMap as map_of
+use Rattle.std.specs.Iterator.{Drains}
 use Rattle.std.specs.FinSet as set
 use Rattle.gix_parts.specs.declared.hash.ObjectId.{ObjectId}
 use Rattle.gix_parts.specs.declared.object.Kind.TheVariants as object
@@ -20,8 +21,9 @@ use Rattle.gix_traverse.specs.declared.commit.topo.Sorting.TheVariants as order
 use Rattle.gix_traverse.specs.declared.commit.topo.Error.{Error}
 use Rattle.gix_traverse.specs.declared.commit.topo.Error.TheVariants as error
 use Rattle.gix_traverse.specs.Agreeing.{IsAgreeing, IsCorrupt}
+use Rattle.gix_traverse.specs.Counting.{infinity, known_generation, least}
 use Rattle.gix_traverse.specs.Reach.{Reaches}
-use Rattle.gix_traverse.specs.History.{ReadsWhole, walked_parents, parents_of, time_of}
+use Rattle.gix_traverse.specs.History.{ReadsWhole, by_mode, walked_parents, parents_of, time_of}
 use Rattle.gix_traverse.specs.WalkSet.{IsInWalk, IsReady, IsChildless}
 use Rattle.gix_traverse.specs.TopoOrder.{Keeps, first_places, last_places, by_time}
 use Rattle.gix_traverse.specs.SimpleWalk.{IsInfo, scanned}
@@ -44,12 +46,20 @@ pub record Ready : Type 0 where
   pub time : ℤ
   pub generation : Option ℕ
 
+-- how far a walk has counted
+pub record Counted : Type 0 where
+  -- whether the rows stand: they do until one proves corrupt
+  pub standing : Bool
+  -- as long as they stand, no commit of a lesser generation is read
+  pub depth : ℕ
+  -- the number of different commits whose parents were read
+  pub expanded : ℕ
+
 -- what a built walk holds
 pub record TopoWalk (F P : Type 0) : Type 0 where
   pub plan : TopoPlan F
   pub predicate : P
-  -- whether the rows stand: they do until one proves corrupt
-  pub standing : Bool
+  pub counted : Counted
   -- in the order in which they became it, under `DateOrder` in any; none after a fault
   pub ready : List Ready
   pub taken : set.FinSet id_cmp
@@ -88,6 +98,18 @@ Chooses order.DateOrder ready c others = IsPermutation ready (c ∷ others) × (
 abbrev pub text_parents : ObjectId → Object → List ObjectId
 text_parents i object = (scanned mode.All (commit_items (kind_of i) object.bytes)).0
 
+-- so many ids have Q
+pub record IsNumberOf (Q : ObjectId → Type 0) (n : ℕ) : Type 0 where
+  pub ids : List ObjectId
+  pub distinct : AreDistinct ids
+  pub each : (i : ObjectId) → Contains ids i → Q i
+  pub all : (i : ObjectId) → Q i → Contains ids i
+  pub number : length ids ≡ n
+
+-- the least generation of tips and ends
+abbrev pub first_depth : {F : Type 0} → TopoPlan F → ℕ
+first_depth plan = least plan.rows infinity (plan.tips ++ plan.ends)
+
 -- the ids that rows and stored texts name
 abbrev pub named_ids : Objects → List GraphRow → List ObjectId
 named_ids objects rows = map (λ row. row.id) rows ++ flat_map (λ entry. text_parents entry.0 entry.1) (map_of.entries objects)
@@ -120,13 +142,24 @@ module _ {F : Type 0} (objects : F → Objects) (plan : TopoPlan F) where
     pub by_row : IsRowGeneration plan.rows r.id r.generation
     pub told : standing ≡ true → r.generation ≡ row_generation (row_of plan.rows r.id)
 
-  -- a row with a fault, of a commit that tips or ends reach: for it the rows may be dropped
-  pub record IsBrokenRow : Type 0 where
+  -- reached by the tips through the parents that are walked, or by the ends through any, and not below the depth
+  pub record IsInDepth (depth : ℕ) (i : ObjectId) : Type 0 where
+    pub reached : Reaches walked_of plan.tips i ⊎ Reaches (parents_of (objects plan.store)) plan.ends i
+    pub high : depth ≤ known_generation plan.rows i
+
+  -- a row with a fault, of a commit that is counted: for it the rows may be dropped
+  pub record IsBrokenRow (depth : ℕ) : Type 0 where
     pub id : ObjectId
     pub row : GraphRow
-    pub reached : Reaches walked_of plan.tips id ⊎ Reaches (parents_of (objects plan.store)) plan.ends id
+    pub in_depth : IsInDepth depth id
     pub by_row : row_of plan.rows id ≡ Some row
     pub corrupt : IsCorrupt row
+
+  -- The number of commits whose parents were read is exact as long as the rows stand, and they are dropped only for a row with a
+  -- fault.
+  pub record IsCounting (counted : Counted) : Type 0 where
+    pub exact : counted.standing ≡ true → IsNumberOf (IsInDepth counted.depth) counted.expanded
+    pub dropped : counted.standing ≡ false → IsBrokenRow counted.depth
 
   -- a parent that isn't the first, where only first parents are walked
   pub record IsOtherParent (i : ObjectId) : Type 0 where
@@ -178,49 +211,67 @@ module _ {F P : Type 0} (objects : F → Objects) (faulty : F → ObjectId → T
     pub distinct : AreDistinct (ready_ids walk.ready)
     pub tips : (i : ObjectId) → Contains (ready_ids walk.ready) i → Contains walk.plan.tips i
     pub starts : IsSound objects faulty walk.plan → StartsWith walk.plan walk.ready
-    pub stored : IsSound objects faulty walk.plan → (r : Ready) → Contains walk.ready r → IsStored objects walk.plan walk.standing r
-    pub dropped : IsSound objects faulty walk.plan → walk.standing ≡ false → IsBrokenRow objects walk.plan
+    pub stored : IsSound objects faulty walk.plan → (r : Ready) → Contains walk.ready r → IsStored objects walk.plan walk.counted.standing r
+    pub depth : walk.counted.depth ≡ first_depth walk.plan
+    pub counting : IsSound objects faulty walk.plan → IsCounting objects walk.plan walk.counted
     -- without rows, all that is walked, and all that ends reach, was read
     pub read : walk.plan.rows ≡ [] → (i : ObjectId) → Reaches (walked_of objects walk.plan) walk.plan.tips i ⊎ Reaches (parents_of (objects walk.plan.store)) walk.plan.ends i → IsCommitRead (objects walk.plan.store) i
 
+  -- the walk is this builder's
+  pub record IsOf (builder : TopoBuilder F P) (walk : TopoWalk F P) : Type 0 where
+    pub plan : walk.plan ≡ builder.plan
+    pub predicate : walk.predicate ≡ builder.predicate
+
   -- what `build` answers
   abbrev pub Built : TopoBuilder F P → Result (TopoWalk F P) Error → Type 0
-  Built builder (Ok walk) = (walk.plan ≡ builder.plan) × (walk.predicate ≡ builder.predicate) × IsStarted walk
+  Built builder (Ok walk) = IsOf builder walk × IsStarted walk
   Built builder (Err e) = IsFault objects faulty builder.plan e
 
   -- the commits that a taken one makes ready
-  pub record Adds (old : TopoWalk F P) (c : Ready) (standing : Bool) (added : List Ready) : Type 0 where
+  pub record Adds (old : TopoWalk F P) (c : Ready) (counted : Counted) (added : List Ready) : Type 0 where
     -- each is new
     pub distinct : AreDistinct (ready_ids added)
     pub unmade : (i : ObjectId) → Contains (ready_ids added) i → is_made old i ≡ false
     pub named : (i : ObjectId) → Contains (ready_ids added) i → is_among i (named_ids (objects old.plan.store) old.plan.rows) ≡ true
     -- of a sound walk: the walked parents that became ready, each at its last place
     pub became : IsSound objects faulty old.plan → Keeps (IsReady (walked_of objects old.plan) (IsMember objects old.plan) (IsTaken (set.insert old.taken c.id))) (last_places (walked_of objects old.plan c.id)) (ready_ids added)
-    pub stored : IsSound objects faulty old.plan → (r : Ready) → Contains added r → IsStored objects old.plan standing r
+    pub stored : IsSound objects faulty old.plan → (r : Ready) → Contains added r → IsStored objects old.plan counted.standing r
     -- dropped rows don't come back
-    pub stands : standing ≡ true → old.standing ≡ true
-    pub dropped : IsSound objects faulty old.plan → old.standing ≡ true → standing ≡ false → IsBrokenRow objects old.plan
+    pub stands : counted.standing ≡ true → old.counted.standing ≡ true
+    -- lowered to the least generation of the walked parents
+    pub depth : counted.depth ≡ least old.plan.rows old.counted.depth (by_mode old.plan.parents c.parents)
+    pub counting : IsSound objects faulty old.plan → IsCounting objects old.plan counted
 
   -- a ready commit is taken
-  pub record Takes (old : TopoWalk F P) (c : Ready) (standing : Bool) (ready : List Ready) : Type 0 where
+  pub record Takes (old : TopoWalk F P) (c : Ready) (counted : Counted) (ready : List Ready) : Type 0 where
     pub others : List Ready
     pub added : List Ready
     pub chosen : Chooses old.plan.sorting old.ready c others
-    pub adds : Adds old c standing added
+    pub adds : Adds old c counted added
     pub holds : HoldsReady old.plan.sorting (others ++ added) ready
 
   -- the walk after that, and after the predicate was asked about it
-  abbrev pub after : TopoWalk F P → Ready → Bool → List Ready → P → TopoWalk F P
-  after old c standing ready predicate = record old { predicate = predicate; standing = standing; ready = ready; taken = set.insert old.taken c.id }
+  abbrev pub after : TopoWalk F P → Ready → Counted → List Ready → P → TopoWalk F P
+  after old c counted ready predicate = record old { predicate = predicate; counted = counted; ready = ready; taken = set.insert old.taken c.id }
 
   -- one call of `next`: refused commits are taken too, and the call goes on
   pub data Next : TopoWalk F P → Option (Result Info Error) → TopoWalk F P → Type 0 where
     ended : {old : TopoWalk F P} → old.ready ≡ [] → Next old None old
-    given : {old : TopoWalk F P} {c : Ready} {standing : Bool} {ready : List Ready} {predicate : P} {info : Info} → Takes old c standing ready → answers old.predicate c.id true predicate → IsInfo info c.id c.parents c.generation (Some c.time) → Next old (Some (Ok info)) (after old c standing ready predicate)
-    refused : {old new : TopoWalk F P} {c : Ready} {standing : Bool} {ready : List Ready} {predicate : P} {answer : Option (Result Info Error)} → Takes old c standing ready → answers old.predicate c.id false predicate → Next (after old c standing ready predicate) answer new → Next old answer new
-    failed : {old : TopoWalk F P} (c : Ready) (others : List Ready) {standing : Bool} {taken : set.FinSet id_cmp} {e : Error} → Chooses old.plan.sorting old.ready c others → IsFault objects faulty old.plan e → IsLate objects old.plan e → Next old (Some (Err e)) (record old { standing = standing; ready = []; taken = taken })
+    given : {old : TopoWalk F P} {c : Ready} {counted : Counted} {ready : List Ready} {predicate : P} {info : Info} → Takes old c counted ready → answers old.predicate c.id true predicate → IsInfo info c.id c.parents c.generation (Some c.time) → Next old (Some (Ok info)) (after old c counted ready predicate)
+    refused : {old new : TopoWalk F P} {c : Ready} {counted : Counted} {ready : List Ready} {predicate : P} {answer : Option (Result Info Error)} → Takes old c counted ready → answers old.predicate c.id false predicate → Next (after old c counted ready predicate) answer new → Next old answer new
+    failed : {old : TopoWalk F P} (c : Ready) (others : List Ready) {counted : Counted} {taken : set.FinSet id_cmp} {e : Error} → Chooses old.plan.sorting old.ready c others → IsFault objects faulty old.plan e → IsLate objects old.plan e → Next old (Some (Err e)) (record old { counted = counted; ready = []; taken = taken })
 
   -- these answers, and no more, may be drawn from a walk
   abbrev pub May : TopoWalk F P → List (Result Info Error) → Type 0
   May walk [] = (new : TopoWalk F P) × Next walk None new
   May walk (answer ∷ rest) = (new : TopoWalk F P) × Next walk (Some answer) new × May new rest
+
+-- a fresh builder over a store, with these tips
+abbrev pub fresh_builder : {F P : Type 0} → F → P → List ObjectId → TopoBuilder F P
+fresh_builder store predicate tips = record { plan = record { store = store; rows = []; parents = mode.All; sorting = order.DateOrder; tips = tips; ends = [] }; predicate = predicate }
+
+-- and with those that an iterator gives as ends, if there is one
+abbrev pub IsFromEnds : {F P E I : Type 0} → (E → I → Type 0) → (I → Option ObjectId → I → Type 0) → F → P → List ObjectId → Option E → TopoBuilder F P → Type 0
+IsFromEnds gives next store predicate tips None builder = builder ≡ fresh_builder store predicate tips
+IsFromEnds {I = I} gives next store predicate tips (Some ends) builder =
+    (it : I) × (ids : List ObjectId) × gives ends it × Drains next it ids × (builder ≡ (let b = fresh_builder store predicate tips in record b { plan = record b.plan { ends = ids } }))

@@ -1,6 +1,6 @@
 //! What topological walks keep, as laws over their definitions: functions that do nothing, and whose contracts are proved.
 
-ghost use Rattle.std.specs.Prelude.{◌≡◌, ◌≤◌, ℕ, List, Bool, false, true, Option, Some, None, Result, Ok, Err, Contains, filter, length, slice_get, take};
+ghost use Rattle.std.specs.Prelude.{◌≡◌, ◌≤◌, ℕ, List, Bool, true, Option, Some, None, Result, Ok, Err, Contains, filter, length, slice_get, take};
 ghost use Rattle.std.specs.List.{AllZip};
 ghost use Rattle.gix_parts.specs.declared.hash.ObjectId.{ObjectId};
 ghost use Rattle.gix_parts.specs.Rows.{GraphRow, row_of};
@@ -9,7 +9,7 @@ ghost use Rattle.gix_traverse.specs.declared.commit.topo.Sorting.TheVariants.{To
 ghost use Rattle.gix_traverse.specs.declared.commit.topo.Error.{Error};
 ghost use Rattle.gix_traverse.specs.Reach.{IsAcyclic};
 ghost use Rattle.gix_traverse.specs.SimpleLaws.{AreDistinct};
-ghost use Rattle.gix_traverse.specs.TopoWalk.{TopoPlan, TopoWalk, walked_of, row_generation, IsMember, IsStarted, IsSound, IsFault, IsLate, IsBrokenRow, Next, May};
+ghost use Rattle.gix_traverse.specs.TopoWalk.{TopoPlan, TopoWalk, walked_of, row_generation, IsMember, IsStarted, IsSound, IsFault, IsLate, IsCounting, Next, May};
 ghost use Rattle.gix_traverse.specs.TopoLaws.{IsTakenInOrder, IsWholeRun, IsGiven, GivesInOrder, AsksAll, Drawn, answers_left};
 
 use crate::commit::Predicate;
@@ -54,10 +54,11 @@ pub fn topo_fails_once<F: Find, P: Predicate>()
 
 /// As long as the rows stand, a commit is given the generation of its row, and none where it has no row.
 pub fn topo_tells<F: Find, P: Predicate>()
-    ensures { (walk mid new : TopoWalk F P) (list : List (Result Info Error)) (info : Info) → IsStarted F.objects F.faulty P.answers walk → IsSound F.objects F.faulty walk.plan → Drawn F.objects F.faulty P.answers walk list mid → Next F.objects F.faulty P.answers mid (Some (Ok info)) new → new.standing ≡ true → info.generation ≡ row_generation (row_of walk.plan.rows info.id) }
+    ensures { (walk mid new : TopoWalk F P) (list : List (Result Info Error)) (info : Info) → IsStarted F.objects F.faulty P.answers walk → IsSound F.objects F.faulty walk.plan → Drawn F.objects F.faulty P.answers walk list mid → Next F.objects F.faulty P.answers mid (Some (Ok info)) new → new.counted.standing ≡ true → info.generation ≡ row_generation (row_of walk.plan.rows info.id) }
 {}
 
-/// The rows are dropped only for a row with a fault, of a commit that tips or ends reach.
-pub fn topo_drops<F: Find, P: Predicate>()
-    ensures { (walk new : TopoWalk F P) (list : List (Result Info Error)) → IsStarted F.objects F.faulty P.answers walk → IsSound F.objects F.faulty walk.plan → Drawn F.objects F.faulty P.answers walk list new → ((e : Error) → Contains list (Err e) → ⊥) → new.standing ≡ false → IsBrokenRow F.objects walk.plan }
+/// As long as the rows stand, counting has read the parents of exactly the commits that tips or ends reach and that aren't below its
+/// depth. The rows are dropped only for a row with a fault, of such a commit.
+pub fn topo_counts<F: Find, P: Predicate>()
+    ensures { (walk new : TopoWalk F P) (list : List (Result Info Error)) → IsStarted F.objects F.faulty P.answers walk → IsSound F.objects F.faulty walk.plan → Drawn F.objects F.faulty P.answers walk list new → ((e : Error) → Contains list (Err e) → ⊥) → IsCounting F.objects walk.plan new.counted }
 {}

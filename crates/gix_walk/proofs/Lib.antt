@@ -7,6 +7,7 @@ mod WordFaults
 mod OutputFacts
 mod InternalFacts
 mod TreeFacts
+mod TopoInternalFacts
 mod FileFacts
 mod StartFacts
 mod RunFacts

@@ -1,5 +1,5 @@
 -- What a run may answer.
-use Rattle.std.specs.Prelude.{◌≡◌, ◌≢◌, ◌⊎◌, ℕ, List, Option, Some, Result, Ok, Err}
+use Rattle.std.specs.Prelude.{◌≡◌, ◌≢◌, ◌⊎◌, ℕ, List, [], Option, Some, Result, Ok, Err}
 use Rattle.std.proofs.Common.{sym, subst, ap, ◌∙◌, inl, inr}
 use Rattle.gix_parts.specs.declared.hash.ObjectId.{ObjectId}
 use Rattle.gix_parts.specs.Object.{Objects}
@@ -8,17 +8,23 @@ use Rattle.gix_traverse.specs.declared.commit.simple.Error.{Error}
 use Rattle.gix_traverse.specs.declared.commit.simple.Error.TheVariants as error
 use Rattle.gix_traverse.specs.declared.commit.simple.Hidden.TheVariants as hidden_by
 use Rattle.gix_traverse.specs.declared.commit.simple.Sorting.{Sorting}
+use Rattle.gix_traverse.specs.declared.commit.topo.Error.{Error as TopoError}
+use Rattle.gix_traverse.specs.declared.commit.topo.Sorting.{Sorting as TopoSorting}
 use Rattle.gix_walk.specs.declared.fault.Fault.{Fault}
 use Rattle.gix_walk.specs.declared.fault.Fault.TheVariants as fault
-use Rattle.gix_walk.specs.Faults.{fault_of_walk}
+use Rattle.gix_walk.specs.declared.words.Order.{Order}
+use Rattle.gix_walk.specs.declared.words.Order.TheVariants.{Simple, Topo}
+use Rattle.gix_walk.specs.Faults.{fault_of_walk, fault_of_topo_walk}
 use Rattle.gix_walk.specs.Input.{Tells}
 use Rattle.gix_walk.specs.Output.{WritesAll}
 use Rattle.gix_walk.specs.Records.{Record, AreRecords, IsRecordFault, bad, no_memory, stored}
-use Rattle.gix_walk.specs.Run.{Serves, walked, not_walked, listed, not_listed, unserved, not_written, Runs, without_memory, no_command, not_read, bad_record, served}
-use Rattle.gix_walk.specs.Walked.{Walk, StartsFrom, FailsAtStart, IsStartFault, Ends, finished, failed, cut_short}
+use Rattle.gix_walk.specs.Run.{Serves, walked, not_walked, walked_down, not_built, listed, not_listed, unserved, not_written, Runs, without_memory, no_command, not_read, bad_record, served}
+use Rattle.gix_walk.specs.TopoWalked as topo
+use Rattle.gix_walk.specs.Walked.{Walk, Answers, IsWalkFault, StartsFrom, FailsAtStart, IsStartFault, Ends, finished, failed, cut_short}
 use Rattle.gix_walk.specs.Words.{Request, Commits, request_of}
 use Rattle.gix_walk.proofs.RecordFacts.{no_bad_record}
 use Rattle.gix_walk.proofs.InternalFacts.{IsSound, next_sound, start_sound}
+use Rattle.gix_walk.proofs.TopoInternalFacts.{drawn_sound, built_rowless, build_sound, topo_unnumbered}
 use Rattle.gix_walk.proofs.TreeFacts.{find_unnumbered, tree_sound, tree_unnumbered}
 use Rattle.gix_walk.proofs.WordFaults.{OfWords, request_words}
 
@@ -26,14 +32,21 @@ err_same : {e f : Fault} → ◌≡◌ {A = Result (Unit {0}) Fault} (Err e) (Er
 err_same same = cc
 
 -- no walk over records ends by an internal fault
-ends_sound : {walk : Walk} {infos : List Info} {answer : Result (Unit {0}) Fault} → Ends walk infos answer → answer ≢ Err fault.Internal
-ends_sound (finished m) = λ e. cc
-ends_sound (failed e new h) = λ same. let sound : IsSound (Some (Err e)) = next_sound h.2 in sound (err_same same)
+ends_sound : {walk : Walk} {infos : List Info} {answer : Result (Unit {0}) Fault} → Ends Answers IsWalkFault walk infos answer → answer ≢ Err fault.Internal
+ends_sound (finished new h) = λ e. cc
+ends_sound (failed e f new h is) = λ same. let sound : IsSound (Some (Err e)) = next_sound h.2 in sound (sym is ∙ err_same same)
 ends_sound (cut_short new h) = λ e. cc
+
+topo_ends_sound : {walk : topo.Walk} {infos : List Info} {answer : Result (Unit {0}) Fault} → walk.plan.rows ≡ [] → Ends topo.Answers topo.IsWalkFault walk infos answer → answer ≢ Err fault.Internal
+topo_ends_sound none (finished new h) = λ e. cc
+topo_ends_sound {walk} none (failed e f new h is) = λ same. drawn_sound walk new _ e none h (sym is ∙ err_same same)
+topo_ends_sound none (cut_short new h) = λ e. cc
 
 serves_sound : {objects : Objects} {old new : Option (List ℕ)} {request : Request} {answer : Result (Unit {0}) Fault} → Serves objects old request answer new → answer ≢ Err fault.Internal
 serves_sound (walked walk infos s ends a) = ends_sound ends
 serves_sound (not_walked why f) = λ same. start_sound f (err_same same)
+serves_sound (walked_down walk infos built ends a) = topo_ends_sound (built_rowless built) ends
+serves_sound {objects} (not_built {by = by} {tips = tips} {ends = ends} why h) = λ same. build_sound objects by tips ends why h (err_same same)
 serves_sound (listed recorder r a) = λ e. cc
 serves_sound {objects} (not_listed recorder why r) = λ same. tree_sound objects r (err_same same)
 serves_sound unserved = λ e. cc
@@ -53,14 +66,21 @@ walk_unnumbered n (error.HiddenGraph (hidden_by.Find e)) = find_unnumbered n e
 walk_unnumbered n (error.HiddenGraph (hidden_by.ObjectDecode e)) = λ e. cc
 walk_unnumbered n error.Memory = λ e. cc
 
-ends_unnumbered : {walk : Walk} {infos : List Info} {answer : Result (Unit {0}) Fault} (n : ℕ) → Ends walk infos answer → answer ≢ Err (fault.Record n)
-ends_unnumbered n (finished m) = λ e. cc
-ends_unnumbered n (failed e new h) = λ same. walk_unnumbered n e (err_same same)
+ends_unnumbered : {walk : Walk} {infos : List Info} {answer : Result (Unit {0}) Fault} (n : ℕ) → Ends Answers IsWalkFault walk infos answer → answer ≢ Err (fault.Record n)
+ends_unnumbered n (finished new h) = λ e. cc
+ends_unnumbered n (failed e f new h is) = λ same. walk_unnumbered n e (sym is ∙ err_same same)
 ends_unnumbered n (cut_short new h) = λ e. cc
+
+topo_ends_unnumbered : {walk : topo.Walk} {infos : List Info} {answer : Result (Unit {0}) Fault} (n : ℕ) → Ends topo.Answers topo.IsWalkFault walk infos answer → answer ≢ Err (fault.Record n)
+topo_ends_unnumbered n (finished new h) = λ e. cc
+topo_ends_unnumbered n (failed e f new h is) = λ same. topo_unnumbered n e (sym is ∙ err_same same)
+topo_ends_unnumbered n (cut_short new h) = λ e. cc
 
 serves_unnumbered : {objects : Objects} {old new : Option (List ℕ)} {request : Request} {answer : Result (Unit {0}) Fault} (n : ℕ) → Serves objects old request answer new → answer ≢ Err (fault.Record n)
 serves_unnumbered n (walked walk infos s ends a) = ends_unnumbered n ends
 serves_unnumbered n (not_walked why f) = λ same. walk_unnumbered n why (err_same same)
+serves_unnumbered n (walked_down walk infos built ends a) = topo_ends_unnumbered n ends
+serves_unnumbered n (not_built why h) = λ same. topo_unnumbered n why (err_same same)
 serves_unnumbered n (listed recorder r a) = λ e. cc
 serves_unnumbered n (not_listed recorder why r) = λ same. tree_unnumbered n why (err_same same)
 serves_unnumbered n unserved = λ e. cc
@@ -114,42 +134,57 @@ module _ (words : List (List ℕ)) (has old : Option (List ℕ)) where
     pub runs_served : (result : Result (Unit {0}) Fault) → Serves objects old request result new → Runs words has old result new
     runs_served result s = served request input read.0 t h read.1 (subst (λ (o : Objects). Serves o old request result new) read.2 s)
 
-module _ (objects : Objects) (old : Option (List ℕ)) (by : Sorting) (tips hidden : List ObjectId) where
+module _ (objects : Objects) (old : Option (List ℕ)) (order : Order) (tips hidden : List ObjectId) where
   -- the walk was drawn
-  module _ (new : Option (List ℕ)) (walk : Walk) (starts : StartsFrom objects by tips hidden walk) where
-    drawn : {result : Result (Unit {0}) Fault} → WritesAll walk old result new → Serves objects old (Commits by tips hidden) result new
-    drawn w = walked walk w.infos starts w.ends w.appends
+  module _ {W E : Type 0} (Steps : W → Option (Result Info E) → W → Type 0) (Tells : E → Fault → Type 0) (new : Option (List ℕ)) (walk : W) (serves : (result : Result (Unit {0}) Fault) → WritesAll Steps Tells walk old result new → Serves objects old (Commits order tips hidden) result new) where
+    serves_drawn : (result : Result (Unit {0}) Fault) → (result ≢ Err fault.Write → WritesAll Steps Tells walk old result new) → Serves objects old (Commits order tips hidden) result new
+    serves_drawn (Err fault.Write) w = not_written
+    serves_drawn (Ok done) w = serves _ (w (λ e. cc))
+    serves_drawn (Err fault.Memory) w = serves _ (w (λ e. cc))
+    serves_drawn (Err fault.Usage) w = serves _ (w (λ e. cc))
+    serves_drawn (Err (fault.Id n)) w = serves _ (w (λ e. cc))
+    serves_drawn (Err (fault.Record n)) w = serves _ (w (λ e. cc))
+    serves_drawn (Err (fault.Missing i)) w = serves _ (w (λ e. cc))
+    serves_drawn (Err (fault.WrongKind i)) w = serves _ (w (λ e. cc))
+    serves_drawn (Err fault.Broken) w = serves _ (w (λ e. cc))
+    serves_drawn (Err (fault.Cycle i)) w = serves _ (w (λ e. cc))
+    serves_drawn (Err fault.Read) w = serves _ (w (λ e. cc))
+    serves_drawn (Err fault.Internal) w = serves _ (w (λ e. cc))
 
-    pub serves_walk : (result : Result (Unit {0}) Fault) → (result ≢ Err fault.Write → WritesAll walk old result new) → Serves objects old (Commits by tips hidden) result new
-    serves_walk (Err fault.Write) w = not_written
-    serves_walk (Ok done) w = drawn (w (λ e. cc))
-    serves_walk (Err fault.Memory) w = drawn (w (λ e. cc))
-    serves_walk (Err fault.Usage) w = drawn (w (λ e. cc))
-    serves_walk (Err (fault.Id n)) w = drawn (w (λ e. cc))
-    serves_walk (Err (fault.Record n)) w = drawn (w (λ e. cc))
-    serves_walk (Err (fault.Missing i)) w = drawn (w (λ e. cc))
-    serves_walk (Err (fault.WrongKind i)) w = drawn (w (λ e. cc))
-    serves_walk (Err fault.Broken) w = drawn (w (λ e. cc))
-    serves_walk (Err (fault.Cycle i)) w = drawn (w (λ e. cc))
-    serves_walk (Err fault.Read) w = drawn (w (λ e. cc))
-    serves_walk (Err fault.Internal) w = drawn (w (λ e. cc))
-
-  not_started : (e : Fault) → (why : Error) × FailsAtStart objects tips why × (e ≡ fault_of_walk why) → Serves objects old (Commits by tips hidden) (Err e) old
-  not_started e h = subst (λ (f : Fault). Serves objects old (Commits by tips hidden) (Err f) old) (sym h.2) (not_walked h.0 h.1)
-
-  failed_start : (e : Fault) → IsStartFault objects tips e → Serves objects old (Commits by tips hidden) (Err e) old
+  failed_start : (e : Fault) → (e ≢ fault.Memory → Serves objects old (Commits order tips hidden) (Err e) old) → Serves objects old (Commits order tips hidden) (Err e) old
   failed_start fault.Memory h = unserved
-  failed_start fault.Usage h = not_started _ (h (λ e. cc))
-  failed_start (fault.Id n) h = not_started _ (h (λ e. cc))
-  failed_start (fault.Record n) h = not_started _ (h (λ e. cc))
-  failed_start (fault.Missing i) h = not_started _ (h (λ e. cc))
-  failed_start (fault.WrongKind i) h = not_started _ (h (λ e. cc))
-  failed_start fault.Broken h = not_started _ (h (λ e. cc))
-  failed_start (fault.Cycle i) h = not_started _ (h (λ e. cc))
-  failed_start fault.Read h = not_started _ (h (λ e. cc))
-  failed_start fault.Write h = not_started _ (h (λ e. cc))
-  failed_start fault.Internal h = not_started _ (h (λ e. cc))
+  failed_start fault.Usage h = h (λ e. cc)
+  failed_start (fault.Id n) h = h (λ e. cc)
+  failed_start (fault.Record n) h = h (λ e. cc)
+  failed_start (fault.Missing i) h = h (λ e. cc)
+  failed_start (fault.WrongKind i) h = h (λ e. cc)
+  failed_start fault.Broken h = h (λ e. cc)
+  failed_start (fault.Cycle i) h = h (λ e. cc)
+  failed_start fault.Read h = h (λ e. cc)
+  failed_start fault.Write h = h (λ e. cc)
+  failed_start fault.Internal h = h (λ e. cc)
+
+  serves_failed : (result : Result (Unit {0}) Fault) (e : Fault) → result ≡ Err e → (e ≢ fault.Memory → Serves objects old (Commits order tips hidden) (Err e) old) → Serves objects old (Commits order tips hidden) result old
+  serves_failed result e same h = subst (λ (r : Result (Unit {0}) Fault). Serves objects old (Commits order tips hidden) r old) (sym same) (failed_start e h)
+
+module _ (objects : Objects) (old : Option (List ℕ)) (by : Sorting) (tips hidden : List ObjectId) where
+  pub serves_walk : (new : Option (List ℕ)) (walk : Walk) → StartsFrom objects by tips hidden walk → (result : Result (Unit {0}) Fault) → (result ≢ Err fault.Write → WritesAll Answers IsWalkFault walk old result new) → Serves objects old (Commits (Simple by) tips hidden) result new
+  serves_walk new walk starts = serves_drawn objects old (Simple by) tips hidden Answers IsWalkFault new walk (λ _ w. walked walk w.infos starts w.ends w.appends)
+
+  not_started : (e : Fault) → (why : Error) × FailsAtStart objects tips why × (e ≡ fault_of_walk why) → Serves objects old (Commits (Simple by) tips hidden) (Err e) old
+  not_started e h = subst (λ (f : Fault). Serves objects old (Commits (Simple by) tips hidden) (Err f) old) (sym h.2) (not_walked h.0 h.1)
 
   -- the walk couldn't start
-  pub serves_no_walk : (result : Result (Unit {0}) Fault) (e : Fault) → result ≡ Err e → IsStartFault objects tips e → Serves objects old (Commits by tips hidden) result old
-  serves_no_walk result e same h = subst (λ (r : Result (Unit {0}) Fault). Serves objects old (Commits by tips hidden) r old) (sym same) (failed_start e h)
+  pub serves_no_walk : (result : Result (Unit {0}) Fault) (e : Fault) → result ≡ Err e → IsStartFault objects tips e → Serves objects old (Commits (Simple by) tips hidden) result old
+  serves_no_walk result e same h = serves_failed objects old (Simple by) tips hidden result e same (λ other. not_started e (h other))
+
+module _ (objects : Objects) (old : Option (List ℕ)) (by : TopoSorting) (tips ends : List ObjectId) where
+  pub serves_topo : (new : Option (List ℕ)) (walk : topo.Walk) → topo.IsBuiltFrom objects by tips ends (Ok walk) → (result : Result (Unit {0}) Fault) → (result ≢ Err fault.Write → WritesAll topo.Answers topo.IsWalkFault walk old result new) → Serves objects old (Commits (Topo by) tips ends) result new
+  serves_topo new walk built = serves_drawn objects old (Topo by) tips ends topo.Answers topo.IsWalkFault new walk (λ _ w. walked_down walk w.infos built w.ends w.appends)
+
+  topo_not_built : (e : Fault) → (why : TopoError) × topo.IsBuiltFrom objects by tips ends (Err why) × (e ≡ fault_of_topo_walk why) → Serves objects old (Commits (Topo by) tips ends) (Err e) old
+  topo_not_built e h = subst (λ (f : Fault). Serves objects old (Commits (Topo by) tips ends) (Err f) old) (sym h.2) (not_built h.0 h.1)
+
+  -- the walk couldn't be built
+  pub serves_no_topo : (result : Result (Unit {0}) Fault) (e : Fault) → result ≡ Err e → topo.IsStartFault objects by tips ends e → Serves objects old (Commits (Topo by) tips ends) result old
+  serves_no_topo result e same h = serves_failed objects old (Topo by) tips ends result e same (λ other. topo_not_built e (h other))

@@ -1,5 +1,5 @@
 -- How walks over stored commits start.
-use Rattle.std.specs.Prelude.{◌≡◌, ◌≢◌, List, length, Result, Ok, Err, IfErr}
+use Rattle.std.specs.Prelude.{◌≡◌, ◌≢◌, List, [], ◌++◌, length, Result, Ok, Err, IfErr}
 use Rattle.std.specs.Iterator.{Drains}
 use Rattle.std.specs.declared.vec.IntoIter.{IntoIter}
 use Rattle.std.specs.Vec.Iter.{into_iter_items, into_iter_len, into_iter_steps}
@@ -13,10 +13,15 @@ use Rattle.gix_traverse.specs.declared.commit.simple.Error.{Error}
 use Rattle.gix_traverse.specs.declared.commit.simple.Error.TheVariants as error
 use Rattle.gix_traverse.specs.declared.commit.simple.Sorting.{Sorting}
 use Rattle.gix_traverse.specs.declared.commit.simple.Sorting.TheVariants as sorting
+use Rattle.gix_traverse.specs.declared.commit.Unfiltered.{Unfiltered}
+use Rattle.gix_traverse.specs.declared.commit.topo.Error.{Error as TopoError}
+use Rattle.gix_traverse.specs.declared.commit.topo.Sorting.{Sorting as TopoSorting}
+use Rattle.gix_traverse.specs.TopoWalk.{TopoBuilder, Built, fresh_builder}
 use Rattle.gix_traverse.specs.SimpleBuilding.{IsSortedByTime, FailsAtTip}
 use Rattle.gix_walk.specs.declared.fault.Fault.{Fault}
-use Rattle.gix_walk.specs.Faults.{fault_of_walk}
-use Rattle.gix_walk.specs.Walked.{Walk, objects_of, never_faulty, IsMadeOf, IsSorted, IsStartFault}
+use Rattle.gix_walk.specs.Faults.{fault_of_walk, fault_of_topo_walk}
+use Rattle.gix_walk.specs.TopoWalked as topo
+use Rattle.gix_walk.specs.Walked.{Walk, objects_of, never_faulty, accepts_all, IsMadeOf, IsSorted, IsStartFault}
 
 -- the ids that came of a vector are those that it held
 pub drained : {Z : Type 0} (tips ids : List ObjectId) (it : IntoIter ObjectId Z) → into_iter_items it ≡ tips → into_iter_len it ≡ length tips → Drains into_iter_steps it ids → ids ≡ tips
@@ -36,3 +41,33 @@ pub start_failed : (objects : Objects) (tips : List ObjectId) (made : Walk) → 
 start_failed objects tips made makes why result e same is h =
     subst (λ (r : Result Walk Fault). IfErr r (IsStartFault objects tips)) (sym same)
     (λ other. (why, record { made = made; makes = makes; fails = h (λ m. other (is ∙ ap fault_of_walk m)) }, is))
+
+abbrev Builder : Type 0
+Builder = TopoBuilder Objects Unfiltered
+
+abbrev beside_tips : Builder → List ObjectId → Builder
+beside_tips b ids = record b { plan = record b.plan { tips = b.plan.tips ++ ids } }
+
+abbrev beside_ends : Builder → List ObjectId → Builder
+beside_ends b ids = record b { plan = record b.plan { ends = b.plan.ends ++ ids } }
+
+abbrev in_order : TopoSorting → Builder → Builder
+in_order by b = record b { plan = record b.plan { sorting = by } }
+
+abbrev pub builder_from : Objects → TopoSorting → List ObjectId → List ObjectId → Builder
+builder_from objects by tips ends = record { plan = topo.plan_from objects by tips ends; predicate = record {} }
+
+-- the calls that choose make this builder
+pub chosen : (objects : Objects) (by : TopoSorting) (tips ends those others : List ObjectId) (fresh from_tips builder sorted : Builder)
+    → fresh ≡ fresh_builder objects (record {}) [] → from_tips ≡ record fresh { plan = record fresh.plan { tips = fresh.plan.tips ++ those } } → those ≡ tips
+    → builder ≡ record from_tips { plan = record from_tips.plan { ends = from_tips.plan.ends ++ others } } → others ≡ ends → sorted ≡ record builder { plan = record builder.plan { sorting = by } } → sorted ≡ builder_from objects by tips ends
+chosen objects by tips ends those others fresh from_tips builder sorted f t those_are e others_are s =
+    s ∙ ap (in_order by) (e ∙ ap (beside_ends from_tips) others_are ∙ ap (λ b. beside_ends b ends) (t ∙ ap (beside_tips fresh) those_are ∙ ap (λ b. beside_tips b tips) f))
+
+module _ (objects : Objects) (by : TopoSorting) (tips ends : List ObjectId) (builder : Builder) (same : builder ≡ builder_from objects by tips ends) where
+  pub built_from : (answer : Result topo.Walk TopoError) → Built objects_of never_faulty accepts_all builder answer → topo.IsBuiltFrom objects by tips ends answer
+  built_from answer h = subst (λ (b : Builder). Built objects_of never_faulty accepts_all b answer) same h
+
+  -- the walk couldn't be built
+  pub build_failed : (why : TopoError) (result : Result topo.Walk Fault) (e : Fault) → result ≡ Err e → e ≡ fault_of_topo_walk why → Built objects_of never_faulty accepts_all builder (Err why) → IfErr result (topo.IsStartFault objects by tips ends)
+  build_failed why result e is fault h = subst (λ (r : Result topo.Walk Fault). IfErr r (topo.IsStartFault objects by tips ends)) (sym is) (λ other. (why, built_from (Err why) h, fault))

@@ -6,10 +6,10 @@ use Rattle.std.proofs.Common.{cond}
 use Rattle.gix_parts.specs.declared.hash.ObjectId.{ObjectId}
 use Rattle.gix_parts.specs.declared.hash.HexError.{HexError}
 use Rattle.gix_parts.specs.Id.{id_from_hex}
-use Rattle.gix_traverse.specs.declared.commit.simple.Sorting.{Sorting}
 use Rattle.gix_walk.specs.declared.fault.Fault.{Fault}
 use Rattle.gix_walk.specs.declared.fault.Fault.TheVariants as fault
-use Rattle.gix_walk.specs.Words.{Request, Ids, begins_with_caret, without_caret, with_word, ids_from, sorting_named, commits_from, files_from, files_of, request_named, request_of}
+use Rattle.gix_walk.specs.declared.words.Order.{Order}
+use Rattle.gix_walk.specs.Words.{Request, Ids, begins_with_caret, without_caret, with_word, ids_from, order_named, commits_from, files_from, files_of, request_named, request_of}
 
 abbrev pub IsOfWords : Fault → Type 0
 IsOfWords fault.Usage = Unit {0}
@@ -37,7 +37,7 @@ ids_words : (n : ℕ) (words : List (List ℕ)) → OfWords (ids_from n words)
 ids_words n [] = tt
 ids_words n (word ∷ words) = with_words (begins_with_caret word) n (id_from_hex (without_caret word)) (ids_from (n + 1) words) (ids_words (n + 1) words)
 
-commits_words : (by : Sorting) (r : Result Ids Fault) → OfWords r → OfWords (commits_from by r)
+commits_words : (by : Order) (r : Result Ids Fault) → OfWords r → OfWords (commits_from by r)
 commits_words by (Ok ids) h = tt
 commits_words by (Err e) h = h
 
@@ -55,7 +55,7 @@ files_words [] = tt
 files_words (id ∷ []) = usage_words (begins_with_caret id) (files_from (id_from_hex id)) (tree_words (id_from_hex id))
 files_words (id ∷ next ∷ ids) = tt
 
-named_words : (name : List ℕ) (by : Option Sorting) (ids : List (List ℕ)) → OfWords (request_named name by ids)
+named_words : (name : List ℕ) (by : Option Order) (ids : List (List ℕ)) → OfWords (request_named name by ids)
 named_words name (Some by) ids = usage_words (list_all begins_with_caret ids) (commits_from by (ids_from 2 ids)) (commits_words by (ids_from 2 ids) (ids_words 2 ids))
 named_words name None ids = go (bytes_eq name (codes "files"))
   where
@@ -65,4 +65,4 @@ named_words name None ids = go (bytes_eq name (codes "files"))
 
 pub request_words : (words : List (List ℕ)) → OfWords (request_of words)
 request_words [] = tt
-request_words (name ∷ ids) = named_words name (sorting_named name) ids
+request_words (name ∷ ids) = named_words name (order_named name) ids

@@ -21,6 +21,12 @@ bad_id_before_others = refl
 pub no_tip : request_of (codes "oldest" ∷ codes "^zz" ∷ codes "^" ∷ []) ≡ Err fault.Usage
 no_tip = refl
 
+pub no_tip_below_ends : request_of (codes "topo" ∷ codes "^zz" ∷ []) ≡ Err fault.Usage
+no_tip_below_ends = refl
+
+pub bad_end : request_of (codes "date" ∷ codes "^" ∷ codes "zz" ∷ []) ≡ Err (fault.Id 2)
+bad_end = refl
+
 pub no_tree : request_of (codes "files" ∷ []) ≡ Err fault.Usage
 no_tree = refl
 

@@ -4,6 +4,8 @@ use Rattle.gix_parts.specs.declared.object.find.existing_iter.Error.TheVariants 
 use Rattle.gix_traverse.specs.declared.commit.simple.Error.{Error}
 use Rattle.gix_traverse.specs.declared.commit.simple.Error.TheVariants as error
 use Rattle.gix_traverse.specs.declared.commit.simple.Hidden.TheVariants as hidden_by
+use Rattle.gix_traverse.specs.declared.commit.topo.Error.{Error as TopoError}
+use Rattle.gix_traverse.specs.declared.commit.topo.Error.TheVariants as topo_error
 use Rattle.gix_traverse.specs.declared.tree.breadthfirst.Error.{Error as TreeError}
 use Rattle.gix_traverse.specs.declared.tree.breadthfirst.Error.TheVariants as tree_error
 use Rattle.gix_walk.specs.declared.fault.Fault.{Fault}
@@ -22,6 +24,14 @@ fault_of_walk (error.ObjectDecode e) = fault.Broken
 fault_of_walk (error.HiddenGraph (hidden_by.Find e)) = fault_of_find e
 fault_of_walk (error.HiddenGraph (hidden_by.ObjectDecode e)) = fault.Broken
 fault_of_walk error.Memory = fault.Memory
+
+-- without rows none is missing
+abbrev pub fault_of_topo_walk : TopoError → Fault
+fault_of_topo_walk topo_error.MissingIndegreeUnexpected = fault.Internal
+fault_of_topo_walk topo_error.MissingStateUnexpected = fault.Internal
+fault_of_topo_walk (topo_error.ObjectDecode e) = fault.Broken
+fault_of_topo_walk (topo_error.Find e) = fault_of_find e
+fault_of_topo_walk topo_error.Memory = fault.Memory
 
 abbrev pub fault_of_tree_walk : TreeError → Fault
 fault_of_tree_walk (tree_error.Find e) = fault_of_find e

@@ -4,6 +4,7 @@ pub mod Decimal
 pub mod Records
 pub mod RecordFront
 pub mod Walked
+pub mod TopoWalked
 pub mod Files
 pub mod Run
 pub mod Output

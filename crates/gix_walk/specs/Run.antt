@@ -6,15 +6,19 @@ use Rattle.gix_parts.specs.Object.{Objects}
 use Rattle.gix_traverse.specs.declared.commit.Info.{Info}
 use Rattle.gix_traverse.specs.declared.commit.simple.Error.{Error}
 use Rattle.gix_traverse.specs.declared.commit.simple.Sorting.{Sorting}
+use Rattle.gix_traverse.specs.declared.commit.topo.Error.{Error as TopoError}
+use Rattle.gix_traverse.specs.declared.commit.topo.Sorting.{Sorting as TopoSorting}
 use Rattle.gix_traverse.specs.declared.tree.breadthfirst.Error.{Error as TreeError}
 use Rattle.gix_traverse.specs.Tracked.{Tracked}
 use Rattle.gix_walk.specs.declared.fault.Fault.{Fault}
 use Rattle.gix_walk.specs.declared.fault.Fault.TheVariants as fault
-use Rattle.gix_walk.specs.Faults.{fault_of_walk, fault_of_tree_walk}
+use Rattle.gix_walk.specs.declared.words.Order.TheVariants.{Simple, Topo}
+use Rattle.gix_walk.specs.Faults.{fault_of_walk, fault_of_topo_walk, fault_of_tree_walk}
 use Rattle.gix_walk.specs.Files.{RecordsTree, file_lines}
 use Rattle.gix_walk.specs.Input.{Tells}
 use Rattle.gix_walk.specs.Records.{Record, AreRecords, IsBadRecord, stored}
-use Rattle.gix_walk.specs.Walked.{Walk, StartsFrom, FailsAtStart, Ends, lines_of}
+use Rattle.gix_walk.specs.TopoWalked as topo
+use Rattle.gix_walk.specs.Walked.{Walk, Answers, IsWalkFault, StartsFrom, FailsAtStart, Ends, lines_of}
 use Rattle.gix_walk.specs.Words.{Request, Commits, Files, request_of}
 
 -- Over stored objects and a writer that held these bytes, what was asked for may have this answer and leave the writer with those
@@ -22,8 +26,11 @@ use Rattle.gix_walk.specs.Words.{Request, Commits, Files, request_of}
 pub data Serves (objects : Objects) (old : Option (List ℕ)) : Request → Result (Unit {0}) Fault → Option (List ℕ) → Type 0 where
   -- the lines of the commits before a fault are written
   walked : {by : Sorting} {tips hidden : List ObjectId} (walk : Walk) (infos : List Info) {answer : Result (Unit {0}) Fault} {new : Option (List ℕ)}
-      → StartsFrom objects by tips hidden walk → Ends walk infos answer → Appends old new (lines_of infos) → Serves objects old (Commits by tips hidden) answer new
-  not_walked : {by : Sorting} {tips hidden : List ObjectId} (e : Error) → FailsAtStart objects tips e → Serves objects old (Commits by tips hidden) (Err (fault_of_walk e)) old
+      → StartsFrom objects by tips hidden walk → Ends Answers IsWalkFault walk infos answer → Appends old new (lines_of infos) → Serves objects old (Commits (Simple by) tips hidden) answer new
+  not_walked : {by : Sorting} {tips hidden : List ObjectId} (e : Error) → FailsAtStart objects tips e → Serves objects old (Commits (Simple by) tips hidden) (Err (fault_of_walk e)) old
+  walked_down : {by : TopoSorting} {tips ends : List ObjectId} (walk : topo.Walk) (infos : List Info) {answer : Result (Unit {0}) Fault} {new : Option (List ℕ)}
+      → topo.IsBuiltFrom objects by tips ends (Ok walk) → Ends topo.Answers topo.IsWalkFault walk infos answer → Appends old new (lines_of infos) → Serves objects old (Commits (Topo by) tips ends) answer new
+  not_built : {by : TopoSorting} {tips ends : List ObjectId} (e : TopoError) → topo.IsBuiltFrom objects by tips ends (Err e) → Serves objects old (Commits (Topo by) tips ends) (Err (fault_of_topo_walk e)) old
   listed : {tree : ObjectId} (recorder : Tracked) {new : Option (List ℕ)}
       → RecordsTree objects tree recorder (Ok tt) → Appends old new (file_lines recorder.held.records) → Serves objects old (Files tree) (Ok tt) new
   -- of a tree whose walk failed no line is written

@@ -1,5 +1,5 @@
 -- A walk over records, and the lines that it writes.
-use Rattle.std.specs.Prelude.{◌≡◌, ◌≢◌, ℕ, List, [], ◌∷◌, ◌++◌, map, Bool, true, Option, Some, Result, Ok, Err}
+use Rattle.std.specs.Prelude.{◌≡◌, ◌≢◌, ℕ, List, [], ◌∷◌, ◌++◌, map, Bool, true, Option, Some, None, Result, Ok, Err}
 use Rattle.std.specs.List.{flat_map}
 use Rattle.std.specs.Iterator.{Yields, YieldsThen}
 use Rattle.gix_parts.specs.declared.hash.ObjectId.{ObjectId}
@@ -11,7 +11,7 @@ use Rattle.gix_traverse.specs.declared.commit.simple.Error.{Error}
 use Rattle.gix_traverse.specs.declared.commit.simple.Sorting.{Sorting}
 use Rattle.gix_traverse.specs.declared.commit.simple.Sorting.TheVariants as sorting
 use Rattle.gix_traverse.specs.SimpleBuilding.{IsSortedByTime, FailsAtTip}
-use Rattle.gix_traverse.specs.SimpleWalk.{SimpleWalk, IsMade, Next, May}
+use Rattle.gix_traverse.specs.SimpleWalk.{SimpleWalk, IsMade, Next}
 use Rattle.gix_walk.specs.declared.fault.Fault.{Fault}
 use Rattle.gix_walk.specs.declared.fault.Fault.TheVariants as fault
 use Rattle.gix_walk.specs.Faults.{fault_of_walk}
@@ -57,18 +57,23 @@ pub record FailsAtStart (objects : Objects) (tips : List ObjectId) (e : Error) :
   pub makes : IsMadeOf objects tips made
   pub fails : FailsAtTip made.store (never_faulty made.store) made.pending e
 
+-- which fault of a run its fault is
+abbrev pub IsWalkFault : Error → Fault → Type 0
+IsWalkFault e f = f ≡ fault_of_walk e
+
 -- a walk may fail so before its first step, unless memory ran out
 abbrev pub IsStartFault : Objects → List ObjectId → Fault → Type 0
 IsStartFault objects tips e = e ≢ fault.Memory → (why : Error) × FailsAtStart objects tips why × (e ≡ fault_of_walk why)
 
-abbrev pub given : List Info → List (Result Info Error)
+abbrev pub given : {E : Type 0} → List Info → List (Result Info E)
 given infos = map Ok infos
 
--- how a walk that gave these commits ended: behind them it has no more, its next answer is a fault, or memory was wanting
-pub data Ends (walk : Walk) (infos : List Info) : Result (Unit {0}) Fault → Type 0 where
-  finished : May objects_of never_faulty accepts_all walk (given infos) → Ends walk infos (Ok tt)
-  failed : (e : Error) (new : Walk) → YieldsThen Answers walk (given infos) (Some (Err e)) new → Ends walk infos (Err (fault_of_walk e))
-  cut_short : (new : Walk) → Yields Answers walk (given infos) new → Ends walk infos (Err fault.Memory)
+-- How a walk that gave these commits ended, whose steps and the meaning of whose faults are these: behind them it has no more, its next
+-- answer is a fault, or memory was wanting.
+pub data Ends {W E : Type 0} (Steps : W → Option (Result Info E) → W → Type 0) (Tells : E → Fault → Type 0) (walk : W) (infos : List Info) : Result (Unit {0}) Fault → Type 0 where
+  finished : (new : W) → YieldsThen Steps walk (given infos) None new → Ends Steps Tells walk infos (Ok tt)
+  failed : (e : E) (f : Fault) (new : W) → YieldsThen Steps walk (given infos) (Some (Err e)) new → Tells e f → Ends Steps Tells walk infos (Err f)
+  cut_short : (new : W) → Yields Steps walk (given infos) new → Ends Steps Tells walk infos (Err fault.Memory)
 
 -- an id and a newline
 abbrev pub line_of : ObjectId → List ℕ

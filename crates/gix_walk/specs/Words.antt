@@ -6,21 +6,23 @@ use Rattle.gix_parts.specs.declared.hash.ObjectId.{ObjectId}
 use Rattle.gix_parts.specs.declared.hash.HexError.{HexError}
 use Rattle.gix_parts.specs.Id.{id_from_hex}
 use Rattle.gix_traverse.specs.declared.commit.simple.CommitTimeOrder.TheVariants as order
-use Rattle.gix_traverse.specs.declared.commit.simple.Sorting.{Sorting}
 use Rattle.gix_traverse.specs.declared.commit.simple.Sorting.TheVariants as sorting
+use Rattle.gix_traverse.specs.declared.commit.topo.Sorting.TheVariants as topo
 use Rattle.gix_walk.specs.declared.fault.Fault.{Fault}
 use Rattle.gix_walk.specs.declared.fault.Fault.TheVariants as fault
 use Rattle.gix_walk.specs.declared.words.Command.{Command}
 use Rattle.gix_walk.specs.declared.words.Command.TheVariants as command
+use Rattle.gix_walk.specs.declared.words.Order.{Order}
+use Rattle.gix_walk.specs.declared.words.Order.TheVariants.{Simple, Topo}
 
 pub data Request : Type 0 where
   -- the commits that the tips reach and the hidden ones don't, in an order
-  Commits : (sorting : Sorting) (tips hidden : List ObjectId) → Request
+  Commits : (order : Order) (tips hidden : List ObjectId) → Request
   -- what stands in the tree of this id
   Files : (tree : ObjectId) → Request
 
 abbrev pub request_of_command : Command → Request
-request_of_command (command.Commits sorting tips hidden) = Commits sorting tips.items hidden.items
+request_of_command (command.Commits order tips hidden) = Commits order tips.items hidden.items
 request_of_command (command.Files tree) = Files tree
 
 -- what a function returned, seen by view, is what it was to be, unless memory ran out
@@ -62,14 +64,16 @@ AddsId digits n old (Ok done) new = (i : ObjectId) × (id_from_hex digits ≡ Ok
 AddsId digits n old (Err e) new = e ≢ fault.Memory → (why : HexError) × (id_from_hex digits ≡ Err why) × (e ≡ fault.Id n)
 
 -- the order of the walk over commits that a command names
-abbrev pub sorting_named : List ℕ → Option Sorting
-sorting_named name =
-    if bytes_eq name (codes "breadth") then Some sorting.BreadthFirst
-    else if bytes_eq name (codes "newest") then Some (sorting.ByCommitTime order.NewestFirst)
-    else if bytes_eq name (codes "oldest") then Some (sorting.ByCommitTime order.OldestFirst)
+abbrev pub order_named : List ℕ → Option Order
+order_named name =
+    if bytes_eq name (codes "breadth") then Some (Simple sorting.BreadthFirst)
+    else if bytes_eq name (codes "newest") then Some (Simple (sorting.ByCommitTime order.NewestFirst))
+    else if bytes_eq name (codes "oldest") then Some (Simple (sorting.ByCommitTime order.OldestFirst))
+    else if bytes_eq name (codes "topo") then Some (Topo topo.TopoOrder)
+    else if bytes_eq name (codes "date") then Some (Topo topo.DateOrder)
     else None
 
-abbrev pub commits_from : Sorting → Result Ids Fault → Result Request Fault
+abbrev pub commits_from : Order → Result Ids Fault → Result Request Fault
 commits_from by (Ok ids) = Ok (Commits by ids.0 ids.1)
 commits_from by (Err e) = Err e
 
@@ -78,7 +82,7 @@ files_from (Ok tree) = Ok (Files tree)
 files_from (Err e) = Err (fault.Id 2)
 
 -- one tip at least: this is judged of all words before any is judged as an id
-abbrev pub commits_of : Sorting → List (List ℕ) → Result Request Fault
+abbrev pub commits_of : Order → List (List ℕ) → Result Request Fault
 commits_of by ids = if list_all begins_with_caret ids then Err fault.Usage else commits_from by (ids_from 2 ids)
 
 -- one id
@@ -88,11 +92,11 @@ files_of (id ∷ []) = if begins_with_caret id then Err fault.Usage else files_f
 files_of (id ∷ next ∷ ids) = Err fault.Usage
 
 -- what words ask for by this name, which may be that of an order
-abbrev pub request_named : List ℕ → Option Sorting → List (List ℕ) → Result Request Fault
+abbrev pub request_named : List ℕ → Option Order → List (List ℕ) → Result Request Fault
 request_named name (Some by) ids = commits_of by ids
 request_named name None ids = if bytes_eq name (codes "files") then files_of ids else Err fault.Usage
 
 -- what words ask for, or why they are no command
 abbrev pub request_of : List (List ℕ) → Result Request Fault
 request_of [] = Err fault.Usage
-request_of (name ∷ ids) = request_named name (sorting_named name) ids
+request_of (name ∷ ids) = request_named name (order_named name) ids

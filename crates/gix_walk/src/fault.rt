@@ -3,7 +3,7 @@ ghost use Rattle.std.specs.Prelude.{◌≡◌};
 
 use gix_parts::hash::ObjectId;
 use gix_parts::object::find::existing_iter;
-use gix_traverse::commit::simple;
+use gix_traverse::commit::{simple, topo};
 use gix_traverse::tree::depthfirst;
 use std::alloc::AllocError;
 use thiserror::Error;
@@ -41,7 +41,8 @@ pub enum Fault {
     /// The output could not be written.
     #[error("write failed")]
     Write,
-    /// A store that is held in memory failed, or a recorder broke a walk off, which doesn't happen.
+    /// A store that is held in memory failed, a recorder broke a walk off, or a walk without a commit-graph missed what it counted,
+    /// which doesn't happen.
     #[error("internal fault")]
     Internal,
 }
@@ -83,6 +84,23 @@ impl From<simple::Error> for Fault {
             simple::Error::HiddenGraph(simple::Hidden::Find(fault)) => Fault::from(fault),
             simple::Error::HiddenGraph(simple::Hidden::ObjectDecode(_)) => Fault::Broken,
             simple::Error::Memory => Fault::Memory,
+        }
+    }
+}
+
+impl From<topo::Error> for Fault {
+    ghost use Rattle.gix_walk.specs.Faults.{fault_of_topo_walk};
+
+    ghost from_gives = { λ e r. r ≡ fault_of_topo_walk e };
+
+    fn from(error: topo::Error) -> Fault {
+        match error {
+            topo::Error::MissingIndegreeUnexpected | topo::Error::MissingStateUnexpected => {
+                Fault::Internal
+            }
+            topo::Error::ObjectDecode(_) => Fault::Broken,
+            topo::Error::Find(fault) => Fault::from(fault),
+            topo::Error::Memory => Fault::Memory,
         }
     }
 }

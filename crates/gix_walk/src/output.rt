@@ -1,13 +1,13 @@
 //! The lines of a walk over commits.
 ghost use Rattle.std.specs.Prelude.{◌≡◌, ◌≢◌, ◌⊎◌, [], Err, OnOk, OnErr, IfErr};
 ghost use Rattle.std.specs.Io.KnownBytes.{Appends};
+ghost use Rattle.std.specs.Iterator.{IsFinite};
 ghost use Rattle.gix_walk.specs.Output.{Grows, Adds, WritesAll};
 ghost use Rattle.gix_walk.specs.Walked.{line_of};
 
 use crate::fault::Fault;
 use gix_parts::hash::ObjectId;
-use gix_parts::object::memory::MemoryStore;
-use gix_traverse::commit::{Simple, Unfiltered};
+use gix_traverse::commit::Info;
 use std::alloc::Global;
 use std::io::Write;
 
@@ -18,12 +18,14 @@ const MANY: usize = 1 << 16;
 ///
 /// # Errors
 /// The fault of the walk; the lines of the commits before it are written. `Write` where the writer failed. `Memory`.
-pub fn write_commits<W: Write>(
-    alloc: Global,
-    walk: Simple<MemoryStore, Unfiltered>,
-    writer: &mut W,
-) -> Result<(), Fault>
-    ensures { result ≢ Err Fault.Write → WritesAll walk (W.contents writer.old) result (W.contents writer.new) }
+pub fn write_commits<I, E, W>(alloc: Global, walk: I, writer: &mut W) -> Result<(), Fault>
+where
+    I: Iterator<Item = Result<Info, E>> + Drop,
+    E: Into<Fault> + Drop,
+    W: Write,
+    requires can { I.can_next walk }
+    requires finite { IsFinite (I.remaining walk) }
+    ensures { result ≢ Err Fault.Write → WritesAll I.next_gives E.converts walk (W.contents writer.old) result (W.contents writer.new) }
 {
     let mut lines = Vec::new(alloc);
     let drawn = add_commits(alloc, walk, &mut lines, writer);
@@ -44,16 +46,25 @@ pub fn write_out<W: Write>(lines: &mut Vec<u8>, writer: &mut W) -> Result<(), Fa
 }
 
 // Adds a line for each commit to those that wait, up to the walk's first fault.
-fn add_commits<W: Write>(
+fn add_commits<I, E, W>(
     alloc: Global,
-    walk: Simple<MemoryStore, Unfiltered>,
+    walk: I,
     lines: &mut Vec<u8>,
     writer: &mut W,
 ) -> Result<(), Fault>
-    ensures { result ≢ Err Fault.Write → Adds walk (W.contents writer.old) lines.old.items result (W.contents writer.new) lines.new.items }
+where
+    I: Iterator<Item = Result<Info, E>> + Drop,
+    E: Into<Fault> + Drop,
+    W: Write,
+    requires can { I.can_next walk }
+    requires finite { IsFinite (I.remaining walk) }
+    ensures { result ≢ Err Fault.Write → Adds I.next_gives E.converts walk (W.contents writer.old) lines.old.items result (W.contents writer.new) lines.new.items }
 {
     for answer in walk {
-        let info = answer?;
+        let info = match answer {
+            Ok(info) => info,
+            Err(fault) => return Err(fault.into()),
+        };
         add_line(alloc, lines, writer, info.id)?;
     }
     Ok(())

@@ -2,15 +2,16 @@
 ghost use Rattle.std.specs.Prelude.{◌≡◌, ◌≢◌, ℕ, List, map, Some, Err, string_bytes};
 ghost use Rattle.gix_walk.specs.Records.{Record, AreRecords};
 ghost use Rattle.gix_walk.specs.Run.{Runs, Serves};
-ghost use Rattle.gix_walk.specs.Words.{request_of_command};
+ghost use Rattle.gix_walk.specs.Words.{Commits, request_of_command};
 
-use crate::commits::walk_from;
+use crate::commits::{topo_walk_from, walk_from};
 use crate::fault::Fault;
 use crate::files::write_files;
 use crate::input::read_to_end;
 use crate::output::write_commits;
 use crate::records::read_records;
-use crate::words::{Command, read_command};
+use crate::words::{Command, Order, read_command};
+use gix_parts::hash::ObjectId;
 use gix_parts::object::memory::MemoryStore;
 use std::alloc::Global;
 use std::io::{Read, Write};
@@ -19,9 +20,9 @@ use std::io::{Read, Write};
 pub const READS: u32 = 1 << 24;
 
 /// Runs the command that the words are over the records that the reader gives. `breadth`, `newest` and `oldest` write the id of each
-/// commit that the tips reach and the hidden ones don't, one a line, in the order in which they are met or in one by time; `files`
-/// writes the mode, the id and the path of each entry that stands in the tree or in a tree in it, one a line. The words are tested
-/// first, then the input is read whole.
+/// commit that the tips reach and the hidden ones don't, one a line, in the order in which they are met or in one by time, `topo` and
+/// `date` in one in which no commit comes before its children; `files` writes the mode, the id and the path of each entry that stands
+/// in the tree or in a tree in it, one a line. The words are tested first, then the input is read whole.
 ///
 /// # Errors
 /// `Usage` and `Id` where the words are no command, `Read` where the reader fails or gives no end at its last turn, `Record` where the
@@ -57,14 +58,34 @@ fn serve<W: Write>(
 {
     match command {
         Command::Commits {
-            sorting,
+            order,
             tips,
             hidden,
-        } => {
+        } => serve_commits(alloc, order, tips, hidden, store, writer),
+        Command::Files(tree) => write_files(alloc, tree, store, writer),
+    }
+}
+
+// Writes the commits that the tips reach and the hidden ones don't.
+fn serve_commits<W: Write>(
+    alloc: Global,
+    order: Order,
+    tips: Vec<ObjectId>,
+    hidden: Vec<ObjectId>,
+    store: MemoryStore,
+    writer: &mut W,
+) -> Result<(), Fault>
+    ensures { Serves store (W.contents writer.old) (Commits order tips.items hidden.items) result (W.contents writer.new) }
+{
+    match order {
+        Order::Simple(sorting) => {
             let walk = walk_from(alloc, sorting, tips, hidden, store)?;
             write_commits(alloc, walk, writer)
         }
-        Command::Files(tree) => write_files(alloc, tree, store, writer),
+        Order::Topo(sorting) => {
+            let walk = topo_walk_from(alloc, sorting, tips, hidden, store)?;
+            write_commits(alloc, walk, writer)
+        }
     }
 }
 

@@ -1,19 +1,29 @@
 //! The words of a command.
 ghost use Rattle.std.specs.Prelude.{◌≡◌, map, string_bytes};
 ghost use Rattle.std.specs.List.{list_all};
-ghost use Rattle.gix_walk.specs.Words.{Gives, AddsId, begins_with_caret, request_of_command, request_of, sorting_named, ids_from, commits_of, files_of};
+ghost use Rattle.gix_walk.specs.Words.{Gives, AddsId, begins_with_caret, request_of_command, request_of, order_named, ids_from, commits_of, files_of};
 
 use crate::fault::Fault;
 use gix_parts::hash::ObjectId;
 use gix_traverse::commit::simple::{CommitTimeOrder, Sorting};
+use gix_traverse::commit::topo;
 use std::alloc::{AllocError, Global};
+
+/// The order of a walk over commits.
+#[derive(Clone, Copy)]
+pub enum Order {
+    /// In the order in which commits are met, or in one by time.
+    Simple(Sorting),
+    /// No commit before its children.
+    Topo(topo::Sorting),
+}
 
 /// What the words ask for.
 #[derive(Drop)]
 pub enum Command {
     /// The commits that the tips reach and the hidden ones don't, in an order.
     Commits {
-        sorting: Sorting,
+        order: Order,
         tips: Vec<ObjectId>,
         hidden: Vec<ObjectId>,
     },
@@ -21,8 +31,8 @@ pub enum Command {
     Files(ObjectId),
 }
 
-/// The command that the words are: `breadth`, `newest` or `oldest`, ids of tips, one at least, and behind a `^` ids of commits to be
-/// hidden; or `files` and one id. An id is 40 or 64 hex digits.
+/// The command that the words are: `breadth`, `newest`, `oldest`, `topo` or `date`, ids of tips, one at least, and behind a `^` ids of
+/// commits to be hidden; or `files` and one id. An id is 40 or 64 hex digits.
 ///
 /// # Errors
 /// `Usage` where the words are no command, `Id` at the first word that has to be an id and is none, `Memory`.
@@ -32,8 +42,8 @@ pub fn read_command(alloc: Global, words: &[String]) -> Result<Command, Fault>
     let Some((name, ids)) = words.split_first() else {
         return Err(Fault::Usage);
     };
-    if let Some(sorting) = sorting_named(name) {
-        return commits(alloc, sorting, ids);
+    if let Some(order) = order_named(name) {
+        return commits(alloc, order, ids);
     }
     if name.as_str() == "files" {
         return files(ids);
@@ -42,31 +52,39 @@ pub fn read_command(alloc: Global, words: &[String]) -> Result<Command, Fault>
 }
 
 // The order of the walk over commits that this is the name of.
-fn sorting_named(name: &String) -> Option<Sorting>
-    ensures { result ≡ sorting_named (string_bytes name.now) }
+fn order_named(name: &String) -> Option<Order>
+    ensures { result ≡ order_named (string_bytes name.now) }
 {
     if name.as_str() == "breadth" {
-        return Some(Sorting::BreadthFirst);
+        return Some(Order::Simple(Sorting::BreadthFirst));
     }
     if name.as_str() == "newest" {
-        return Some(Sorting::ByCommitTime(CommitTimeOrder::NewestFirst));
+        let newest = Sorting::ByCommitTime(CommitTimeOrder::NewestFirst);
+        return Some(Order::Simple(newest));
     }
     if name.as_str() == "oldest" {
-        return Some(Sorting::ByCommitTime(CommitTimeOrder::OldestFirst));
+        let oldest = Sorting::ByCommitTime(CommitTimeOrder::OldestFirst);
+        return Some(Order::Simple(oldest));
+    }
+    if name.as_str() == "topo" {
+        return Some(Order::Topo(topo::Sorting::TopoOrder));
+    }
+    if name.as_str() == "date" {
+        return Some(Order::Topo(topo::Sorting::DateOrder));
     }
     None
 }
 
 // The walk over commits from these ids, of which one at least must be a tip.
-fn commits(alloc: Global, sorting: Sorting, ids: &[String]) -> Result<Command, Fault>
-    ensures { Gives request_of_command result (commits_of sorting (map string_bytes ids.now)) }
+fn commits(alloc: Global, order: Order, ids: &[String]) -> Result<Command, Fault>
+    ensures { Gives request_of_command result (commits_of order (map string_bytes ids.now)) }
 {
     if are_hidden(ids) {
         return Err(Fault::Usage);
     }
     let (tips, hidden) = read_ids(alloc, ids)?;
     Ok(Command::Commits {
-        sorting,
+        order,
         tips,
         hidden,
     })

@@ -1,13 +1,19 @@
 //! Walks in which no commit comes before its children.
+mod begin;
 mod counting;
 mod frontier;
+mod init;
 mod iter;
 mod reader;
 mod ready;
 
+use super::{Info, Predicate};
 use gix_parts::object::decode;
-use gix_parts::object::find::existing_iter;
+use gix_parts::object::find::{Find, existing_iter};
+pub use init::Builder;
+use iter::Walk;
 use std::alloc::AllocError;
+use std::marker::Model;
 use thiserror::Error;
 
 /// The order of a topological walk. In both no parent comes before all of its children.
@@ -73,5 +79,67 @@ impl From<AllocError> for Error {
 
     fn from(_e: AllocError) -> Error {
         Error::Memory
+    }
+}
+
+/// A walk of what tips reach and no end reaches, no commit before its children, from [`Builder::build`].
+#[derive(Drop)]
+pub struct Topo<F: Find, P> {
+    walk: Walk<F>,
+    predicate: P,
+}
+
+impl<F: Find, P> Model for Topo<F, P> {
+    ghost use Rattle.std.specs.Coded.{codes};
+    ghost use Rattle.gix_parts.specs.Id.{id_set_code};
+    ghost use Rattle.gix_traverse.specs.ReadySet.{AreTimed};
+    ghost use Rattle.gix_traverse.specs.Releasing.{walk_of};
+    ghost use Rattle.gix_traverse.specs.TopoSteady.{IsOpen};
+    ghost use Rattle.gix_traverse.specs.TopoWalk.{TopoWalk};
+
+    ghost Value = { TopoWalk F P };
+
+    ghost coded = { Prim.hlevel (codes, id_set_code) };
+
+    ghost view = { λ t. walk_of t.walk t.predicate };
+
+    ghost invariant = { λ t. AreTimed t.walk.ready × IsOpen F.objects F.faulty t.walk };
+}
+
+impl<F: Find + Drop, P: Predicate + Drop> Topo<F, P> {
+    ghost use Rattle.std.specs.Prelude.{◌≡◌};
+
+    /// The number of different commits whose parents were read to count children, from their rows or from the store. Without a
+    /// commit-graph these are all that tips or ends reach; with one, those that aren't below the least generation needed so far.
+    pub fn expanded(&self) -> usize
+        ensures { result ≡ self.now.counted.expanded }
+    {
+        self.walk.counting.expanded
+    }
+}
+
+impl<F: Find + Drop, P: Predicate + Drop> Iterator for Topo<F, P> {
+    ghost use Rattle.std.specs.Iterator.{at_most};
+    ghost use Rattle.gix_traverse.specs.TopoLaws.{answers_left};
+    ghost use Rattle.gix_traverse.specs.TopoWalk.{Next};
+
+    type Item = Result<Info, Error>;
+
+    ghost can_next = { λ walk. P.can_accept walk.predicate };
+
+    ghost next_gives = { Next F.objects F.faulty P.answers };
+
+    ghost remaining = { λ walk. at_most (answers_left F.objects walk) };
+
+    fn next(&mut self) -> Option<Result<Info, Error>> {
+        loop {
+            let info = match self.walk.turn()? {
+                Ok(info) => info,
+                Err(fault) => return Some(Err(fault)),
+            };
+            if self.predicate.accepts(&info.id) {
+                return Some(Ok(info));
+            }
+        }
     }
 }

@@ -12,9 +12,10 @@ ghost use Rattle.gix_traverse.specs.ReadsCommit.{rows_of, IsReadFault};
 ghost use Rattle.gix_traverse.specs.Exploring.{is_pending, Follows, ReadsParents, Steps, IsStepFault, IsSamePlan, Explores, IsExploringFault, IsRested};
 
 use super::Error;
-use super::frontier::{Frontier, Known, Progress, Side, Waiting};
+use super::frontier::{Frontier, Known, Side, Waiting};
 use super::reader::Reader;
 use crate::commit::Parents;
+use gix_parts::graph::GENERATION_NUMBER_INFINITY;
 use gix_parts::hash::ObjectId;
 use gix_parts::hashtable::IdSet;
 use gix_parts::object::find::Find;
@@ -65,19 +66,73 @@ where
 
 /// The number of ids whose parents were read, with one of which this is known. A number that memory could not hold is want of
 /// memory.
-fn one_more(expanded: usize, known: Known) -> Result<usize, AllocError>
-    ensures { IfOk result (λ n. n ≡ expanded + cond (is_done known.tips || is_done known.ends) 0 1) }
+fn one_more(expanded: usize, known: &Known) -> Result<usize, AllocError>
+    ensures { IfOk result (λ n. n ≡ expanded + cond (is_done known.now.tips || is_done known.now.ends) 0 1) }
 {
-    match (known.tips, known.ends) {
-        (Progress::Done, _) | (_, Progress::Done) => Ok(expanded),
-        _ => match expanded.checked_add(1) {
-            Some(expanded) => Ok(expanded),
-            None => Err(AllocError),
-        },
+    if known.is_done() {
+        return Ok(expanded);
+    }
+    match expanded.checked_add(1) {
+        Some(expanded) => Ok(expanded),
+        None => Err(AllocError),
     }
 }
 
 impl<F: Find + Drop> Counting<F> {
+    ghost use Rattle.std.specs.Prelude.{IfErr};
+    ghost use Rattle.gix_traverse.specs.declared.commit.topo.Sorting.{Sorting};
+    ghost use Rattle.gix_traverse.specs.Starting.{HasBegun, MeetsAll};
+    ghost use Rattle.gix_traverse.specs.TopoWalk.{IsFault};
+
+    /// A side starts from these.
+    fn meet_all(&mut self, mut ids: &[ObjectId], side: Side) -> Result<(), AllocError>
+        ensures reader { self.new.reader ≡ self.old.reader }
+        ensures parents { self.new.parents ≡ self.old.parents }
+        ensures depth { self.new.depth ≡ self.old.depth }
+        ensures expanded { self.new.expanded ≡ self.old.expanded }
+        ensures meets { OnOk result (MeetsAll (rows_of self.old.reader.graph) side self.old.frontier ids.entry.now self.new.frontier) }
+    {
+        while let Some((id, rest)) = ids.split_first() {
+            let generation = self.reader.generation(id);
+            self.frontier.meet(generation, *id, side)?;
+            ids = rest;
+        }
+        Ok(())
+    }
+
+    /// The searches from tips and ends, as far down as the least generation of these.
+    pub(super) fn begin(
+        reader: Reader<F>,
+        parents: Parents,
+        tips: &[ObjectId],
+        ends: &[ObjectId],
+    ) -> Result<Counting<F>, Error>
+    where
+        requires { reader.standing ≡ true }
+        ensures begun { (sorting : Sorting) → IfOk result (HasBegun F.objects F.faulty (record { store = reader.find; rows = rows_of reader.graph; parents = parents; sorting = sorting; tips = tips.now; ends = ends.now })) }
+        ensures fault { (sorting : Sorting) → IfErr result (IsFault F.objects F.faulty (record { store = reader.find; rows = rows_of reader.graph; parents = parents; sorting = sorting; tips = tips.now; ends = ends.now })) }
+    {
+        let mut counting = Counting {
+            frontier: Frontier::new(reader.alloc),
+            reader,
+            parents,
+            depth: GENERATION_NUMBER_INFINITY,
+            expanded: 0,
+        };
+        let Ok(()) = counting.meet_all(tips, Side::Tips) else {
+            return Err(Error::Memory);
+        };
+        let Ok(()) = counting.meet_all(ends, Side::Ends) else {
+            return Err(Error::Memory);
+        };
+        counting.lower(ends);
+        counting.lower(tips);
+        if let Err(fault) = counting.explore() {
+            return Err(fault);
+        }
+        Ok(counting)
+    }
+
     /// The parents of a commit that a side reads are named.
     fn follow(&mut self, mut ids: VecDeque<ObjectId>, side: Side) -> Result<(), AllocError>
         ensures reader { self.new.reader ≡ self.old.reader }
@@ -115,6 +170,23 @@ impl<F: Find + Drop> Counting<F> {
         }
     }
 
+    /// Whether a parent can be read. As long as the rows stand, one that a search has read can be.
+    pub(super) fn know(&mut self, id: &ObjectId) -> Result<(), Error>
+        ensures store { self.new.reader.find ≡ self.old.reader.find }
+        ensures graph { self.new.reader.graph ≡ self.old.reader.graph }
+        ensures standing { self.new.reader.standing ≡ self.old.reader.standing }
+        ensures parents { self.new.parents ≡ self.old.parents }
+        ensures frontier { self.new.frontier ≡ self.old.frontier }
+        ensures depth { self.new.depth ≡ self.old.depth }
+        ensures expanded { self.new.expanded ≡ self.old.expanded }
+        ensures fault { IfErr result (IsReadFault (F.objects self.old.reader.find) (F.faulty self.old.reader.find) id.now) }
+    {
+        if self.reader.standing && self.frontier.known(id).is_done() {
+            return Ok(());
+        }
+        self.reader.know(id)
+    }
+
     /// Reads the parents of a queued id of greatest generation.
     fn step(&mut self) -> Result<(), Error>
         requires { is_pending self.old.reader.standing self.old.depth self.old.frontier.queue ≡ true }
@@ -129,7 +201,7 @@ impl<F: Find + Drop> Counting<F> {
             Ok(ids) => ids,
             Err(fault) => return Err(fault),
         };
-        let Ok(expanded) = one_more(self.expanded, self.frontier.known(&id)) else {
+        let Ok(expanded) = one_more(self.expanded, &self.frontier.known(&id)) else {
             return Err(Error::Memory);
         };
         self.expanded = expanded;

@@ -3,10 +3,12 @@ ghost use Rattle.std.specs.Prelude.{◌≡◌, ◌+◌, OnOk, IfOk, IfSome, IfNo
 ghost use Rattle.std.specs.FinMap as map;
 ghost use Rattle.gix_traverse.specs.Frontier.{known_of, Meets, Counts, Uncounts, Makes, Names, Finishes};
 
+use bitflags::{Flag, Flags, bitflag_items};
 use gix_parts::hash::ObjectId;
 use gix_parts::hashtable::IdMap;
 use gix_parts::queue::PriorityQueue;
 use std::alloc::{AllocError, Global};
+use std::marker::Model;
 
 /// Which search met an id.
 #[derive(Clone, Copy, Debug, PartialEq, Eq)]
@@ -16,9 +18,8 @@ pub(super) enum Side {
 }
 
 /// How far a search has come with an id.
-#[derive(Clone, Copy, Debug, Default, PartialEq, Eq)]
+#[derive(Clone, Copy, Debug, PartialEq, Eq)]
 pub(super) enum Progress {
-    #[default]
     Unseen,
     /// It waits in the queue.
     Queued,
@@ -26,56 +27,158 @@ pub(super) enum Progress {
     Done,
 }
 
+/// What was done with an id. One that a side met waits in the queue until the side has done it.
+#[derive(Clone, Copy, PartialEq, Eq, Debug)]
+struct Marks(u8);
+
+bitflag_items! {
+    impl Marks: u8 {
+        const TIPS_MET = 1;
+        const TIPS_DONE = 2;
+        const ENDS_MET = 4;
+        const ENDS_DONE = 8;
+        const MADE = 16;
+    }
+}
+
+impl Flags for Marks {
+    ghost use Rattle.std.specs.Prelude.{⊤, codes, ◌∷◌, []};
+
+    type Bits = u8;
+
+    ghost exact = { ⊤ };
+
+    ghost table = { (codes "TIPS_MET", 1) ∷ (codes "TIPS_DONE", 2) ∷ (codes "ENDS_MET", 4) ∷ (codes "ENDS_DONE", 8) ∷ (codes "MADE", 16) ∷ [] };
+
+    ghost set_of = { λ m. m.0 };
+
+    fn flags<'a>() -> &'a [Flag<Marks>] {
+        Marks::FLAGS
+    }
+
+    fn bits(&self) -> u8 {
+        self.0
+    }
+
+    fn from_bits_retain(bits: u8) -> Marks {
+        Marks(bits)
+    }
+}
+
+impl Marks {
+    ghost use Rattle.gix_traverse.specs.Known.{met_mark, done_mark};
+
+    fn met(side: Side) -> Marks
+        ensures { result.0 ≡ met_mark side }
+    {
+        match side {
+            Side::Tips => Marks::TIPS_MET,
+            Side::Ends => Marks::ENDS_MET,
+        }
+    }
+
+    fn done(side: Side) -> Marks
+        ensures { result.0 ≡ done_mark side }
+    {
+        match side {
+            Side::Tips => Marks::TIPS_DONE,
+            Side::Ends => Marks::ENDS_DONE,
+        }
+    }
+}
+
 /// What is known of an id.
-#[derive(Clone, Copy, Debug, Default)]
+#[derive(Drop)]
 pub(super) struct Known {
-    pub(super) tips: Progress,
-    pub(super) ends: Progress,
+    marks: Marks,
     /// How many commits that the tips' search has done, and that weren't taken, name it as a parent that is walked.
     pub(super) children: usize,
-    /// Whether it was ready once.
-    pub(super) made: bool,
+}
+
+impl Model for Known {
+    ghost use Rattle.gix_traverse.specs.Known as known;
+
+    ghost Value = { known.Known };
+
+    ghost view = { λ k. known.known_by k.marks.0 k.children };
 }
 
 impl Known {
-    ghost use Rattle.gix_traverse.specs.Frontier.{progress_of, with_progress};
+    ghost use Rattle.std.specs.Prelude.{true, false, ◌||◌};
+    ghost use Rattle.gix_traverse.specs.declared.commit.topo.frontier.Progress.TheVariants as progress;
+    ghost use Rattle.gix_traverse.specs.Frontier.{is_seen, is_done, progress_of, with_progress};
+
+    // A copy by hand, since `Copy` needs marks that can be told from what contracts see.
+    fn copy(&self) -> Known
+        ensures { result ≡ self.now }
+    {
+        Known {
+            marks: self.marks,
+            children: self.children,
+        }
+    }
 
     pub(super) fn progress(&self, side: Side) -> Progress
         ensures { result ≡ progress_of side self.now }
     {
-        match side {
-            Side::Tips => self.tips,
-            Side::Ends => self.ends,
+        if self.marks.contains(Marks::done(side)) {
+            Progress::Done
+        } else if self.marks.contains(Marks::met(side)) {
+            Progress::Queued
+        } else {
+            Progress::Unseen
         }
     }
 
-    pub(super) fn with_progress(self, side: Side, progress: Progress) -> Known
-        ensures { result ≡ with_progress side progress self }
+    /// Whether a search has read its parents.
+    pub(super) fn is_done(&self) -> bool
+        ensures { result ≡ (is_done self.now.tips || is_done self.now.ends) }
     {
-        match side {
-            Side::Tips => Known {
-                tips: progress,
-                ends: self.ends,
-                children: self.children,
-                made: self.made,
-            },
-            Side::Ends => Known {
-                tips: self.tips,
-                ends: progress,
-                children: self.children,
-                made: self.made,
-            },
+        matches!(self.progress(Side::Tips), Progress::Done)
+            || matches!(self.progress(Side::Ends), Progress::Done)
+    }
+
+    /// Whether it was ready once.
+    pub(super) fn is_made(&self) -> bool
+        ensures { result ≡ self.now.made }
+    {
+        self.marks.contains(Marks::MADE)
+    }
+
+    fn with_met(self, side: Side) -> Known
+        requires { is_seen (progress_of side self) ≡ false }
+        ensures { result ≡ with_progress side progress.Queued self }
+    {
+        Known {
+            marks: self.marks.union(Marks::met(side)),
+            children: self.children,
         }
     }
 
-    pub(super) fn with_children(self, children: usize) -> Known
+    fn with_done(self, side: Side) -> Known
+        ensures { result ≡ with_progress side progress.Done self }
+    {
+        Known {
+            marks: self.marks.union(Marks::done(side)),
+            children: self.children,
+        }
+    }
+
+    fn with_made(self) -> Known
+        ensures { result ≡ record self { made = true } }
+    {
+        Known {
+            marks: self.marks.union(Marks::MADE),
+            children: self.children,
+        }
+    }
+
+    fn with_children(self, children: usize) -> Known
         ensures { result ≡ record self { children = children } }
     {
         Known {
-            tips: self.tips,
-            ends: self.ends,
+            marks: self.marks,
             children,
-            made: self.made,
         }
     }
 }
@@ -109,12 +212,10 @@ impl Frontier {
         ensures { result ≡ known_of self.now.known id.now }
     {
         match self.known.get(id) {
-            Some(known) => *known,
+            Some(known) => known.copy(),
             None => Known {
-                tips: Progress::Unseen,
-                ends: Progress::Unseen,
+                marks: Marks::empty(),
                 children: 0,
-                made: false,
             },
         }
     }
@@ -133,8 +234,7 @@ impl Frontier {
         if !matches!(known.progress(side), Progress::Unseen) {
             return Ok(());
         }
-        self.known
-            .insert(id, known.with_progress(side, Progress::Queued))?;
+        self.known.insert(id, known.with_met(side))?;
         self.queue.insert(generation, Waiting { id, side })?;
         Ok(())
     }
@@ -189,15 +289,7 @@ impl Frontier {
         ensures { OnOk result (Makes self.old id self.new) }
     {
         let known = self.known(&id);
-        self.known.insert(
-            id,
-            Known {
-                tips: known.tips,
-                ends: known.ends,
-                children: known.children,
-                made: true,
-            },
-        )?;
+        self.known.insert(id, known.with_made())?;
         Ok(())
     }
 
@@ -206,8 +298,7 @@ impl Frontier {
         ensures { OnOk result (Finishes self.old id side self.new) }
     {
         let known = self.known(&id);
-        self.known
-            .insert(id, known.with_progress(side, Progress::Done))?;
+        self.known.insert(id, known.with_done(side))?;
         Ok(())
     }
 }

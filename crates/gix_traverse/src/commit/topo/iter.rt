@@ -5,7 +5,7 @@ ghost use Rattle.gix_traverse.specs.ReadySet.{as_ready, AreTimed};
 
 use super::Error;
 use super::counting::{Counting, places, walked};
-use super::frontier::{Known, Progress};
+use super::frontier::{Known, Progress, Side};
 use super::ready::{Found, ReadySet};
 use crate::commit::{Info, Predicate};
 use gix_parts::hash::ObjectId;
@@ -24,19 +24,19 @@ pub(super) struct Walk<F> {
 }
 
 /// Whether a commit of which this is known becomes ready when so many of its children are left.
-fn is_due(left: usize, known: Known) -> bool
-    ensures { result ≡ is_due left known }
+pub(super) fn is_due(left: usize, known: &Known) -> bool
+    ensures { result ≡ is_due left known.now }
 {
-    left == 0 && !known.made && matches!(known.ends, Progress::Unseen)
+    left == 0 && !known.is_made() && matches!(known.progress(Side::Ends), Progress::Unseen)
 }
 
 impl<F: Find + Drop> Walk<F> {
-    ghost use Rattle.gix_traverse.specs.Releasing.{plan_of, Pushes, IsPushFault, Releases, IsReleaseFault, ReleasesAll, IsFaultAmong, IsTakingFault};
-    ghost use Rattle.gix_traverse.specs.TopoSteady.{AddsReady};
+    ghost use Rattle.gix_traverse.specs.Releasing.{plan_of, Pushes, IsPushFault, Releases, IsReleaseFault, ReleasesAll, IsFaultAmong, TakesOne, IsTakingFault};
+    ghost use Rattle.gix_traverse.specs.TopoSteady.{IsOpen, Turns};
     ghost use Rattle.gix_traverse.specs.TopoWalk.{Ready};
 
     /// A commit whose children were all taken is read, and becomes ready. Its parents are looked up.
-    fn push(&mut self, id: &ObjectId) -> Result<(), Error>
+    pub(super) fn push(&mut self, id: &ObjectId) -> Result<(), Error>
         requires { AreTimed self.old.ready }
         ensures pushes { OnOk result ((r : Ready) × Pushes F.objects F.faulty self.old id.now r self.new) }
         ensures fault { IfErr result (IsPushFault F.objects F.faulty self.old id.now) }
@@ -48,7 +48,7 @@ impl<F: Find + Drop> Walk<F> {
             Err(fault) => return Err(fault),
         };
         for parent in info.parent_ids.as_slice() {
-            if let Err(fault) = self.counting.reader.know(parent) {
+            if let Err(fault) = self.counting.know(parent) {
                 return Err(fault);
             }
         }
@@ -87,7 +87,7 @@ impl<F: Find + Drop> Walk<F> {
             Ok(None) => return Err(Error::MissingIndegreeUnexpected),
             Err(_) => return Err(Error::Memory),
         };
-        if !is_due(left, self.counting.frontier.known(id)) {
+        if !is_due(left, &self.counting.frontier.known(id)) {
             return Ok(());
         }
         self.push(id)
@@ -112,7 +112,7 @@ impl<F: Find + Drop> Walk<F> {
     /// A commit whose turn it is: counting goes on to the depth of its parents, and they have a child less.
     fn take(&mut self, found: &Found) -> Result<(), Error>
         requires { AreTimed self.old.ready }
-        ensures takes { OnOk result ((added : List Ready) × AddsReady F.objects F.faulty self.old (as_ready found.now) added self.new) }
+        ensures takes { OnOk result ((added : List Ready) × TakesOne F.objects F.faulty self.old (as_ready found.now) added self.new) }
         ensures fault { IfErr result (IsTakingFault F.objects F.faulty self.old (as_ready found.now)) }
         ensures same { plan_of self.new ≡ plan_of self.old }
         ensures timed { AreTimed self.new.ready }
@@ -129,5 +129,21 @@ impl<F: Find + Drop> Walk<F> {
             return Err(Error::Memory);
         };
         self.release_all(ids)
+    }
+
+    /// Takes the ready commit whose turn it is. After a fault none is ready.
+    pub(super) fn turn(&mut self) -> Option<Result<Info, Error>>
+        requires timed { AreTimed self.old.ready }
+        requires open { IsOpen F.objects F.faulty self.old }
+        ensures turns { Turns F.objects F.faulty self.old result self.new }
+        ensures timed { AreTimed self.new.ready }
+        ensures open { IsOpen F.objects F.faulty self.new }
+    {
+        let found = self.ready.pop()?;
+        if let Err(fault) = self.take(&found) {
+            self.ready.clear();
+            return Some(Err(fault));
+        }
+        Some(Ok(found.into_info()))
     }
 }

@@ -26,6 +26,20 @@ pub(super) struct Reader<F> {
 }
 
 impl<F: Find + Drop> Reader<F> {
+    pub(super) fn new(alloc: Global, find: F, graph: Option<Graph>) -> Reader<F>
+        ensures find { result.find ≡ find }
+        ensures graph { result.graph ≡ graph }
+        ensures standing { result.standing ≡ true }
+    {
+        Reader {
+            find,
+            graph,
+            standing: true,
+            text: Vec::new(alloc),
+            alloc,
+        }
+    }
+
     /// The generation that a row says, and infinity where there is none.
     pub(super) fn generation(&self, id: &ObjectId) -> u32
         ensures { result ≡ known_generation (rows_of self.now.graph) id.now }

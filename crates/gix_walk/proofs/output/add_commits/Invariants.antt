@@ -2,15 +2,13 @@ use Rattle.std.proofs.Common.{List}
 use Rattle.std.specs.Iterator.{Yields}
 use Rattle.gix_traverse.specs.declared.commit.Info.{Info}
 use Rattle.gix_walk.specs.Output.{Grows}
-use Rattle.gix_walk.specs.Walked.{Answers, given, lines_of}
+use Rattle.gix_walk.specs.Walked.{given, lines_of}
 use Rattle.gix_walk.proofs.output.add_commits.Given as goal
 
 -- the walk gave commits so far, and their lines were added
 abbrev pub invariant-loop-answer : goal.invariant-loop-answer
 invariant-loop-answer g l = record {
-  can : (goal.iterator-loop-answer g).can_next l.answer-iterator;
-  finite : (goal.iterator-loop-answer g).is_finite l.answer-iterator;
   infos : List Info;
-  drawn : Yields Answers l.fn.walk (given infos) l.answer-iterator;
+  drawn : Yields g.I.Iterator.next_gives l.fn.walk (given infos) l.answer-iterator;
   grows : Grows (g.W.Write.contents l.fn.writer) l.fn.lines.items (g.W.Write.contents l.writer) l.lines.items (lines_of infos);
 }

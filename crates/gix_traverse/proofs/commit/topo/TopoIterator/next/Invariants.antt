@@ -1,0 +1,21 @@
+use Rattle.std.specs.Prelude.{Option, Result}
+use Rattle.gix_traverse.specs.declared.commit.Info.{Info}
+use Rattle.gix_traverse.specs.declared.commit.topo.Error.{Error}
+use Rattle.gix_traverse.specs.ReadySet.{AreTimed}
+use Rattle.gix_traverse.specs.Releasing.{walk_of}
+use Rattle.gix_traverse.specs.TopoLaws.{answers_left}
+use Rattle.gix_traverse.specs.TopoSteady.{IsOpen}
+use Rattle.gix_traverse.specs.TopoWalk.{TopoWalk, Next}
+use Rattle.gix_traverse.proofs.commit.topo.TopoIterator.next.Given as goal
+
+-- what comes of the walk now comes of it as it was
+abbrev pub invariant-loop-info : goal.invariant-loop-info
+invariant-loop-info g l = record {
+  steps : (answer : Option (Result Info Error)) (new : TopoWalk g.row.F.Denot g.row.P.Denot) → Next g.F.Find.objects g.F.Find.faulty g.P.Predicate.answers (walk_of l.self-inside.walk l.self-inside.predicate) answer new → Next g.F.Find.objects g.F.Find.faulty g.P.Predicate.answers l.fn.self answer new;
+  asks : g.P.Predicate.can_accept l.self-inside.predicate;
+  timed : AreTimed l.self-inside.walk.ready;
+  may : IsOpen g.F.Find.objects g.F.Find.faulty l.self-inside.walk;
+}
+
+abbrev pub decreases-loop-info : goal.decreases-loop-info
+decreases-loop-info g l = answers_left g.F.Find.objects (walk_of l.self-inside.walk l.self-inside.predicate)

@@ -1,0 +1,193 @@
+//! What a topological walk is built from.
+ghost use Rattle.std.specs.Prelude.{◌≡◌, [], ◌++◌, List, Some, IfOk};
+ghost use Rattle.std.specs.Iterator.{IsFinite, Drains};
+ghost use Rattle.gix_parts.specs.declared.hash.ObjectId.{ObjectId};
+ghost use Rattle.gix_traverse.specs.ReadsCommit.{rows_of};
+ghost use Rattle.gix_traverse.specs.TopoWalk.{fresh_builder, IsFromEnds, Built};
+
+use super::iter::Walk;
+use super::reader::Reader;
+use super::{Error, Sorting, Topo};
+use crate::commit::{Parents, Predicate, Unfiltered};
+use gix_parts::graph::Graph;
+use gix_parts::hash::ObjectId;
+use gix_parts::object::find::Find;
+use std::alloc::{AllocError, Global};
+use std::marker::Model;
+
+/// What a topological walk is built from: a store, tips and ends, and how it goes.
+///
+/// A fresh one has no tips, no ends and no commit-graph, walks all parents in date order, and shows all commits.
+#[derive(Drop)]
+pub struct Builder<F, P> {
+    find: F,
+    predicate: P,
+    graph: Option<Graph>,
+    parents: Parents,
+    sorting: Sorting,
+    tips: Vec<ObjectId>,
+    ends: Vec<ObjectId>,
+    alloc: Global,
+}
+
+impl<F, P> Model for Builder<F, P> {
+    ghost use Rattle.gix_traverse.specs.ReadsCommit.{rows_of};
+    ghost use Rattle.gix_traverse.specs.TopoWalk.{TopoBuilder};
+
+    ghost Value = { TopoBuilder F P };
+
+    ghost view = { λ b. record { plan = record { store = b.find; rows = rows_of b.graph; parents = b.parents; sorting = b.sorting; tips = b.tips.items; ends = b.ends.items }; predicate = b.predicate } };
+}
+
+impl<F: Find + Drop> Builder<F, Unfiltered> {
+    /// A fresh builder of walks over the commits of a store.
+    pub fn new(alloc: Global, find: F) -> Self
+        ensures { result ≡ fresh_builder find (record {}) [] }
+    {
+        Builder {
+            find,
+            predicate: Unfiltered,
+            graph: None,
+            parents: Parents::All,
+            sorting: Sorting::DateOrder,
+            tips: Vec::new(alloc),
+            ends: Vec::new(alloc),
+            alloc,
+        }
+    }
+
+    /// A fresh builder with these tips and ends.
+    pub fn from_iters<T: IntoIterator<Item = ObjectId>, E: IntoIterator<Item = ObjectId>>(
+        alloc: Global,
+        find: F,
+        tips: T,
+        ends: Option<E>,
+    ) -> Result<Self, AllocError>
+    where
+        T::IntoIter: Drop,
+        E::IntoIter: Drop,
+        E: Drop,
+        requires tips { (it : T.IntoIter) → T.into_iter_gives tips it → T.IntoIter.can_next it × IsFinite (T.IntoIter.remaining it) }
+        requires ends { (those : E) → ends ≡ Some those → (it : E.IntoIter) → E.into_iter_gives those it → E.IntoIter.can_next it × IsFinite (E.IntoIter.remaining it) }
+        ensures { IfOk result (λ builder. (it : T.IntoIter) × (ids : List ObjectId) × T.into_iter_gives tips it × Drains T.IntoIter.next_gives it ids × IsFromEnds E.into_iter_gives E.IntoIter.next_gives find (record {}) ids ends builder) }
+    {
+        let builder = Builder::new(alloc, find).with_tips(tips)?;
+        match ends {
+            Some(ends) => builder.with_ends(ends),
+            None => Ok(builder),
+        }
+    }
+
+    /// The same walks, of which only the commits are shown that a predicate accepts. Commits that it refuses are walked too.
+    pub fn with_predicate<P: Predicate>(self, predicate: P) -> Builder<F, P>
+        ensures { result ≡ record { plan = self.plan; predicate = predicate } }
+    {
+        let Builder {
+            find,
+            graph,
+            parents,
+            sorting,
+            tips,
+            ends,
+            alloc,
+            ..
+        } = self;
+        Builder {
+            find,
+            predicate,
+            graph,
+            parents,
+            sorting,
+            tips,
+            ends,
+            alloc,
+        }
+    }
+}
+
+impl<F: Find + Drop, P: Predicate + Drop> Builder<F, P> {
+    /// Tips beside those given before. Repeated tips count once, at their first place.
+    pub fn with_tips<T: IntoIterator<Item = ObjectId>>(
+        mut self,
+        tips: T,
+    ) -> Result<Self, AllocError>
+    where
+        T::IntoIter: Drop,
+        requires { (it : T.IntoIter) → T.into_iter_gives tips it → T.IntoIter.can_next it × IsFinite (T.IntoIter.remaining it) }
+        ensures { IfOk result (λ builder. (it : T.IntoIter) × (ids : List ObjectId) × T.into_iter_gives tips it × Drains T.IntoIter.next_gives it ids × (builder ≡ record self { plan = record self.plan { tips = self.plan.tips ++ ids } })) }
+    {
+        for tip in tips {
+            let Ok(()) = self.tips.push(tip) else {
+                return Err(AllocError);
+            };
+        }
+        Ok(self)
+    }
+
+    /// Ends beside those given before. An end and all that it reaches, by any parent, is not walked.
+    pub fn with_ends<E: IntoIterator<Item = ObjectId>>(
+        mut self,
+        ends: E,
+    ) -> Result<Self, AllocError>
+    where
+        E::IntoIter: Drop,
+        requires { (it : E.IntoIter) → E.into_iter_gives ends it → E.IntoIter.can_next it × IsFinite (E.IntoIter.remaining it) }
+        ensures { IfOk result (λ builder. (it : E.IntoIter) × (ids : List ObjectId) × E.into_iter_gives ends it × Drains E.IntoIter.next_gives it ids × (builder ≡ record self { plan = record self.plan { ends = self.plan.ends ++ ids } })) }
+    {
+        for end in ends {
+            let Ok(()) = self.ends.push(end) else {
+                return Err(AllocError);
+            };
+        }
+        Ok(self)
+    }
+
+    /// The order, in place of an earlier one.
+    pub fn sorting(mut self, sorting: Sorting) -> Self
+        ensures { result ≡ record self { plan = record self.plan { sorting = sorting } } }
+    {
+        self.sorting = sorting;
+        self
+    }
+
+    /// Which parents of the commits that tips reach are walked, in place of an earlier choice.
+    pub fn parents(mut self, parents: Parents) -> Self
+        ensures { result ≡ record self { plan = record self.plan { parents = parents } } }
+    {
+        self.parents = parents;
+        self
+    }
+
+    /// A commit-graph to read commits from, in place of an earlier one. A commit without a row is read from the store. The first
+    /// corrupt row drops the graph.
+    pub fn with_commit_graph(mut self, graph: Option<Graph>) -> Self
+        ensures { result ≡ record self { plan = record self.plan { rows = rows_of graph } } }
+    {
+        self.graph = graph;
+        self
+    }
+
+    /// Reads all that tips and ends reach, as far down as the least generation of these, and makes the tips ready that have no child
+    /// in the walk.
+    ///
+    /// `Find` and `ObjectDecode` name an object that can't be read of those that tips or ends reach, or of the parents of a tip.
+    pub fn build(self) -> Result<Topo<F, P>, Error>
+        ensures { Built F.objects F.faulty P.answers self result }
+    {
+        let Builder {
+            find,
+            predicate,
+            graph,
+            parents,
+            sorting,
+            tips,
+            ends,
+            alloc,
+        } = self;
+        let reader = Reader::new(alloc, find, graph);
+        match Walk::begin(reader, sorting, parents, tips, ends) {
+            Ok(walk) => Ok(Topo { walk, predicate }),
+            Err(fault) => Err(fault),
+        }
+    }
+}
