@@ -111,6 +111,11 @@ pub fn store(alloc: Global, commits: &[(u8, &[u8])]) -> Result<MemoryStore, Allo
     Ok(store)
 }
 
+/// A store of the sample.
+pub fn sample(alloc: Global) -> Result<MemoryStore, AllocError> {
+    store(alloc, &SAMPLE)
+}
+
 /// The sample with times that are this many times the digits.
 pub fn scaled_store(alloc: Global, scale: i64) -> Result<MemoryStore, AllocError> {
     let mut store = MemoryStore::new(alloc);

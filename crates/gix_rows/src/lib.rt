@@ -26,3 +26,5 @@ mod times;
 mod topo;
 #[cfg(test)]
 mod trees;
+#[cfg(test)]
+mod words;
