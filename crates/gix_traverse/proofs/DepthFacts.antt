@@ -20,14 +20,12 @@ use Rattle.gix_traverse.specs.Agreeing.{IsAgreeing}
 use Rattle.gix_traverse.specs.Counting.{known_generation}
 use Rattle.gix_traverse.specs.Exploring.{is_pending, IsRested, Steps, Explores, itself, further, IsSamePlan}
 use Rattle.gix_traverse.specs.Frontier.{is_side, is_done, reached}
-use Rattle.gix_traverse.specs.History.{parents_of}
-use Rattle.gix_traverse.specs.Reach.{Reaches}
 use Rattle.gix_traverse.specs.ReadsCommit.{rows_of, is_whole_row}
 use Rattle.gix_traverse.specs.Releasing.{plan_by, counted_by}
 use Rattle.gix_traverse.specs.Searched.{IsCounted, IsSearched, IsBegun, IsExplored}
 use Rattle.gix_traverse.specs.SimpleWalk.{ids_at}
 use Rattle.gix_traverse.specs.TopoSteady.{IsDone, HasCounted}
-use Rattle.gix_traverse.specs.TopoWalk.{TopoPlan, IsNumberOf, walked_of, IsInDepth, IsBrokenRow, IsCounting, IsSound}
+use Rattle.gix_traverse.specs.TopoWalk.{TopoPlan, IsNumberOf, IsMet, IsInDepth, IsBrokenRow, IsCounting, IsSound}
 use Rattle.gix_traverse.proofs.BecameFacts.{done_seen, tips_text, text_tips, ends_text, text_ends}
 use Rattle.gix_traverse.proofs.CountedFacts.{steps_keep, explores_keep, explores_same}
 use Rattle.gix_traverse.proofs.ExactFacts.{exact_there}
@@ -62,13 +60,9 @@ no_ids : (o : Option (List ObjectId)) → is_some o ≡ false → o ≡ None
 no_ids None e = refl
 no_ids (Some ids) e = absurd (true≢false e)
 
--- reached by the tips through the parents that are walked, or by the ends through any
-abbrev pub IsWalked : {F : Type 0} → (F → Objects) → TopoPlan F → ObjectId → Type 0
-IsWalked objects plan i = Reaches (walked_of objects plan) plan.tips i ⊎ Reaches (parents_of (objects plan.store)) plan.ends i
-
 module _ {F : Type 0} (objects : F → Objects) (faulty : F → ObjectId → Type 0) where
   -- a row that isn't whole has a fault, where the rows agree
-  pub broken : (plan : TopoPlan F) → IsAgreeing (objects plan.store) (faulty plan.store) plan.rows → (depth : ℕ) (i : ObjectId) → IsWalked objects plan i → depth ≤ known_generation plan.rows i → is_whole_row plan.rows (row_of plan.rows i) ≡ false → IsBrokenRow objects plan depth
+  pub broken : (plan : TopoPlan F) → IsAgreeing (objects plan.store) (faulty plan.store) plan.rows → (depth : ℕ) (i : ObjectId) → IsMet objects plan i → depth ≤ known_generation plan.rows i → is_whole_row plan.rows (row_of plan.rows i) ≡ false → IsBrokenRow objects plan depth
   broken plan agrees depth i r high e = go (row_of plan.rows i) refl e
     where
       go : (o : Option GraphRow) → row_of plan.rows i ≡ o → is_whole_row plan.rows o ≡ false → IsBrokenRow objects plan depth
@@ -82,7 +76,7 @@ module _ {F : Type 0} (objects : F → Objects) (faulty : F → ObjectId → Typ
       }
 
   -- what is done is reached
-  pub done_reached : (plan : TopoPlan F) → IsSound objects faulty plan → (f : Frontier) → IsSearched (objects plan.store) plan.rows plan.parents plan.tips plan.ends f.queue f.known → (i : ObjectId) → IsDone f i → IsWalked objects plan i
+  pub done_reached : (plan : TopoPlan F) → IsSound objects faulty plan → (f : Frontier) → IsSearched (objects plan.store) plan.rows plan.parents plan.tips plan.ends f.queue f.known → (i : ObjectId) → IsDone f i → IsMet objects plan i
   done_reached plan sound f h i d =
       ⊎_elim (λ a. inl (text_tips (objects plan.store) (faulty plan.store) plan.rows plan.parents plan.tips plan.ends sound.agreeing sound.tips_whole sound.ends_whole i ((h.search Tips).within i (done_seen (reached f.known Tips i) a))))
       (λ b. inr (text_ends (objects plan.store) (faulty plan.store) plan.rows plan.parents plan.tips plan.ends sound.agreeing sound.tips_whole sound.ends_whole i ((h.search Ends).within i (done_seen (reached f.known Ends i) b)))) d
@@ -160,7 +154,7 @@ module _ {F : Type 0} (objects : F → Objects) (faulty : F → ObjectId → Typ
         high : old.reader.standing ≡ true → old.depth ≤ known_generation (Plan old).rows s.entry.1.id
         high e = subst (λ n. old.depth ≤ n) (counted.searched.keyed s.entry queued) (top_high old.reader.standing old.depth old.frontier.queue s.entry s.first pending e)
 
-        is_reached : IsWalked objects (Plan old) s.entry.1.id
+        is_reached : IsMet objects (Plan old) s.entry.1.id
         is_reached = done_reached (Plan old) sound new.frontier (steps_keep objects faulty tips ends taken old new sound.agreeing s counted).searched s.entry.1.id (steps_here old new s)
 
         drops : (b : Bool) → old.reader.standing ≡ b → new.reader.standing ≡ false → IsBrokenRow objects (Plan old) old.depth

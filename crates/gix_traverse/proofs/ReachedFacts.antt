@@ -1,5 +1,5 @@
 -- What commits reach, their texts reach.
-use Rattle.std.specs.Prelude.{◌≡◌, ◌⊎◌, [], Option, Some, None, Contains}
+use Rattle.std.specs.Prelude.{◌≡◌, [], Option, Some, None, Contains}
 use Rattle.std.proofs.Common.{refl, subst, ⊎_elim}
 use Rattle.gix_parts.specs.declared.hash.ObjectId.{ObjectId}
 use Rattle.gix_parts.specs.CommitText.{Commit}
@@ -11,7 +11,7 @@ use Rattle.gix_traverse.specs.History.{by_mode, parents_in, parents_of, walked_p
 use Rattle.gix_traverse.specs.Reach.{Reaches, start, step}
 use Rattle.gix_traverse.specs.Searched.{text_next, next_by}
 use Rattle.gix_traverse.specs.TopoSteady.{IsReached}
-use Rattle.gix_traverse.specs.TopoWalk.{TopoPlan, walked_of}
+use Rattle.gix_traverse.specs.TopoWalk.{TopoPlan, walked_of, IsMet}
 use Rattle.gix_traverse.proofs.StepFacts.{walked_within}
 use Rattle.gix_traverse.proofs.TopoReadFacts.{text_whole, text_has}
 
@@ -32,5 +32,5 @@ module _ {F : Type 0} (objects : F → Objects) (plan : TopoPlan F) where
   ends_reached i (step {c = c} r m) = step (ends_reached c r) (text_has (objects plan.store) c i m)
 
   -- tips and ends reach by texts what they reach by commits
-  pub text_reached : (i : ObjectId) → Reaches (walked_of objects plan) plan.tips i ⊎ Reaches (parents_of (objects plan.store)) plan.ends i → IsReached objects plan i
+  pub text_reached : (i : ObjectId) → IsMet objects plan i → IsReached objects plan i
   text_reached i r = ⊎_elim (λ t. (Tips, tips_reached i t)) (λ e. (Ends, ends_reached i e)) r

@@ -68,7 +68,7 @@ module _ {F : Type 0} (objects : F → Objects) (faulty : F → ObjectId → Typ
   -- what was read is read again
   late : (plan : TopoPlan F) (p : ObjectId) (e : Error) → (plan.rows ≡ [] → IsCommitRead (objects plan.store) p ⊎ IsOtherParent objects plan p) → IsReadFault (objects plan.store) (faulty plan.store) p e → IsLate objects plan e
   late plan p error.MissingIndegreeUnexpected c f = tt
-  late plan p error.MissingStateUnexpected c f = tt
+  late plan p error.MissingStateUnexpected c f = absurd f
   late plan p (error.Find existing.Store) c f = tt
   late plan p (error.Find (existing.NotFound oid)) c f =
       λ n. ⊎_elim (λ k. let bad : None ≡ Some (record { kind = object.Commit; bytes = k.bytes }) = sym f.1 ∙ k.stored in cc) (λ o. subst (IsOtherParent objects plan) (sym f.0) o) (c n)

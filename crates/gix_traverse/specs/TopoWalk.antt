@@ -142,9 +142,13 @@ module _ {F : Type 0} (objects : F → Objects) (plan : TopoPlan F) where
     pub by_row : IsRowGeneration plan.rows r.id r.generation
     pub told : standing ≡ true → r.generation ≡ row_generation (row_of plan.rows r.id)
 
-  -- reached by the tips through the parents that are walked, or by the ends through any, and not below the depth
+  -- reached by the tips through the parents that are walked, or by the ends through any
+  abbrev pub IsMet : ObjectId → Type 0
+  IsMet i = Reaches walked_of plan.tips i ⊎ Reaches (parents_of (objects plan.store)) plan.ends i
+
+  -- met, and not below the depth
   pub record IsInDepth (depth : ℕ) (i : ObjectId) : Type 0 where
-    pub reached : Reaches walked_of plan.tips i ⊎ Reaches (parents_of (objects plan.store)) plan.ends i
+    pub reached : IsMet i
     pub high : depth ≤ known_generation plan.rows i
 
   -- a row with a fault, of a commit that is counted: for it the rows may be dropped
@@ -172,7 +176,7 @@ module _ {F : Type 0} (objects : F → Objects) (plan : TopoPlan F) where
   -- `build` has read all that is walked: without rows, a fault found later is that of another parent
   abbrev pub IsLate : Error → Type 0
   IsLate error.MissingIndegreeUnexpected = Unit {0}
-  IsLate error.MissingStateUnexpected = Unit {0}
+  IsLate error.MissingStateUnexpected = ⊥
   IsLate (error.Find existing.Store) = Unit {0}
   IsLate (error.Find (existing.NotFound oid)) = plan.rows ≡ [] → IsOtherParent oid
   IsLate (error.Find (existing.ObjectKind oid expected actual)) = plan.rows ≡ [] → IsOtherParent oid
@@ -191,7 +195,7 @@ module _ {F : Type 0} (objects : F → Objects) (faulty : F → ObjectId → Typ
   -- when each fault comes
   abbrev pub IsFault : Error → Type 0
   IsFault error.MissingIndegreeUnexpected = IsAgreeing (objects plan.store) (faulty plan.store) plan.rows → ⊥
-  IsFault error.MissingStateUnexpected = IsAgreeing (objects plan.store) (faulty plan.store) plan.rows → ⊥
+  IsFault error.MissingStateUnexpected = ⊥
   IsFault (error.Find e) = (i : ObjectId) × IsExistingFault (objects plan.store) (faulty plan.store) i object.Commit e × (IsSound → ⊥)
   IsFault (error.ObjectDecode e) = (i : ObjectId) × IsTextFault (objects plan.store) i e × (IsSound → ⊥)
   IsFault error.Memory = Unit {0}
@@ -214,8 +218,8 @@ module _ {F P : Type 0} (objects : F → Objects) (faulty : F → ObjectId → T
     pub stored : IsSound objects faulty walk.plan → (r : Ready) → Contains walk.ready r → IsStored objects walk.plan walk.counted.standing r
     pub depth : walk.counted.depth ≡ first_depth walk.plan
     pub counting : IsSound objects faulty walk.plan → IsCounting objects walk.plan walk.counted
-    -- without rows, all that is walked, and all that ends reach, was read
-    pub read : walk.plan.rows ≡ [] → (i : ObjectId) → Reaches (walked_of objects walk.plan) walk.plan.tips i ⊎ Reaches (parents_of (objects walk.plan.store)) walk.plan.ends i → IsCommitRead (objects walk.plan.store) i
+    -- without rows, all that is met was read
+    pub read : walk.plan.rows ≡ [] → (i : ObjectId) → IsMet objects walk.plan i → IsCommitRead (objects walk.plan.store) i
 
   -- the walk is this builder's
   pub record IsOf (builder : TopoBuilder F P) (walk : TopoWalk F P) : Type 0 where

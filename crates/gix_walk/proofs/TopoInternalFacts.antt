@@ -32,7 +32,7 @@ none_agree plan e row m = absurd (no_member row (subst (λ rows. Contains rows r
 
 fault_sound : (plan : TopoPlan Objects) (e : Error) → plan.rows ≡ [] → IsFault objects_of never_faulty plan e → fault_of_topo_walk e ≢ fault.Internal
 fault_sound plan error.MissingIndegreeUnexpected none h = absurd (h (none_agree plan none))
-fault_sound plan error.MissingStateUnexpected none h = absurd (h (none_agree plan none))
+fault_sound plan error.MissingStateUnexpected none h = absurd h
 fault_sound plan (error.ObjectDecode e) none h = λ e. cc
 fault_sound plan (error.Find e) none h = find_sound plan.store h.0 object.Commit e h.1
 fault_sound plan error.Memory none h = λ e. cc

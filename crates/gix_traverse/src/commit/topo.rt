@@ -32,7 +32,7 @@ pub enum Error {
     /// The rows of the commit-graph disagree with each other: a commit had more children than were counted.
     #[error("Indegree information is missing")]
     MissingIndegreeUnexpected,
-    /// The rows of the commit-graph disagree with each other: a commit was met that wasn't explored.
+    /// Never given: a commit that wasn't explored has no children counted, which is `MissingIndegreeUnexpected`.
     #[error("Internal state (bitflags) not found")]
     MissingStateUnexpected,
     /// The commit's bytes are broken before its committer.
