@@ -11,12 +11,11 @@ use Rattle.gix_traverse.specs.declared.commit.topo.Error.{Error}
 use Rattle.gix_traverse.specs.declared.commit.topo.Error.TheVariants as error
 use Rattle.gix_traverse.specs.declared.commit.topo.Sorting.{Sorting}
 use Rattle.gix_traverse.specs.Agreeing.{IsAgreeing}
-use Rattle.gix_traverse.specs.TopoWalk.{TopoPlan, IsFault, Next, ended, given, refused, failed}
-use Rattle.gix_walk.specs.declared.fault.Fault.{Fault}
+use Rattle.gix_traverse.specs.TopoWalk.{TopoPlan, IsFault, ended, given, refused, failed}
 use Rattle.gix_walk.specs.declared.fault.Fault.TheVariants as fault
 use Rattle.gix_walk.specs.Faults.{fault_of_topo_walk}
 use Rattle.gix_walk.specs.TopoWalked.{Walk, Answers, plan_from, IsBuiltFrom}
-use Rattle.gix_walk.specs.Walked.{objects_of, never_faulty, accepts_all}
+use Rattle.gix_walk.specs.Walked.{objects_of, never_faulty}
 use Rattle.gix_walk.proofs.InternalFacts.{find_sound}
 use Rattle.gix_walk.proofs.TreeFacts.{find_unnumbered}
 

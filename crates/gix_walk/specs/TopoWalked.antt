@@ -1,5 +1,5 @@
 -- A topological walk over records.
-use Rattle.std.specs.Prelude.{◌≡◌, ◌≢◌, List, [], Option, Result, Ok, Err}
+use Rattle.std.specs.Prelude.{◌≡◌, ◌≢◌, List, [], Option, Result, Err}
 use Rattle.gix_parts.specs.declared.hash.ObjectId.{ObjectId}
 use Rattle.gix_parts.specs.Object.{Objects}
 use Rattle.gix_traverse.specs.declared.commit.Info.{Info}

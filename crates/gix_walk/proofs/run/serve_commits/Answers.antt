@@ -1,7 +1,7 @@
 use Rattle.std.proofs.Common.{Err, sym, ◌∙◌, ap, subst}
 use Rattle.std.proofs.lemmas.Result.{err_from_is_err_and}
 use Rattle.gix_walk.specs.Run.{Serves}
-use Rattle.gix_walk.specs.Words.{Request, Commits}
+use Rattle.gix_walk.specs.Words.{Commits}
 use Rattle.gix_walk.specs.declared.words.Order.{Order}
 use Rattle.gix_walk.proofs.RunFacts.{serves_walk, serves_no_walk, serves_topo, serves_no_topo}
 use Rattle.gix_walk.proofs.run.serve_commits.Goals as goal
