@@ -1,12 +1,15 @@
 -- The ids of a list that are new, each at its first place: what is pending of all that was named.
-use Rattle.std.specs.Prelude.{ℕ, suc, ◌≡◌, ◌+◌, List, [], ◌∷◌, ◌++◌, Bool, true, false, not, cond, ◌&&◌, ◌||◌, filter, find, Some, None}
+use Rattle.std.specs.Prelude.{ℕ, suc, ◌≡◌, ◌+◌, List, [], ◌∷◌, ◌++◌, Bool, true, false, not, cond, ◌&&◌, ◌||◌, filter, find, Some, None, IsPermutation}
 use Rattle.std.proofs.Common.{refl, sym, ap, subst, ◌∙◌, arith, append_assoc, append-nil}
 use Rattle.std.proofs.lemmas.Bool.{false≢true, true≢false, or_right, or_left}
-use Rattle.std.specs.List.{flat_map}
+use Rattle.std.specs.List.{flat_map, sum_by}
 use Rattle.std.proofs.lemmas.List.Concat.{flat_map-append}
+use Rattle.std.proofs.lemmas.List.Sums.{sum_by-cons}
+use Rattle.std.proofs.lemmas.List.Sorted.{sum_by-IsPermutation}
 use Rattle.gix_parts.specs.declared.hash.ObjectId.{ObjectId}
 use Rattle.gix_parts.specs.Id.{is_same, is_among}
 use Rattle.gix_traverse.specs.BreadthOrder.{named_by}
+pub use Rattle.gix_traverse.specs.Searched.{times}
 pub use Rattle.gix_traverse.specs.SimpleLaws.{new_ids as fresh}
 use Rattle.gix_parts.proofs.IdFacts.{same_is, same_itself, same_from}
 
@@ -81,14 +84,17 @@ fresh_none s (x ∷ xs) e = go (fresh_none s xs) (s x) refl e
     go r true o e = ap (λ b. cond (not b) (Some x) (find (λ j. not (s j)) xs)) o ∙ r e
     go r false o e = cc
 
--- how often an id stands in a list
-abbrev pub times : ObjectId → List ObjectId → ℕ
-times i [] = 0
-times i (x ∷ xs) = cond (is_same i x) 1 0 + times i xs
-
 pub times-append : (i : ObjectId) (xs ys : List ObjectId) → times i (xs ++ ys) ≡ times i xs + times i ys
 times-append i [] ys = let e : times i ys ≡ 0 + times i ys = omega arith in e
 times-append i (x ∷ xs) ys = let e : times i (xs ++ ys) ≡ times i xs + times i ys = times-append i xs ys in omega arith
+
+times_sum : (i : ObjectId) (xs : List ObjectId) → times i xs ≡ sum_by (λ x. cond (is_same i x) 1 0) xs
+times_sum i [] = refl
+times_sum i (x ∷ xs) = ap (λ n. cond (is_same i x) 1 0 + n) (times_sum i xs) ∙ sym (sum_by-cons (λ y. cond (is_same i y) 1 0) x xs)
+
+-- in another order each id stands as often
+pub times_moved : (i : ObjectId) (xs ys : List ObjectId) → IsPermutation xs ys → times i ys ≡ times i xs
+times_moved i xs ys h = times_sum i ys ∙ sum_by-IsPermutation (λ x. cond (is_same i x) 1 0) xs ys h ∙ sym (times_sum i xs)
 
 pub times_among : (i : ObjectId) (xs : List ObjectId) (n : ℕ) → times i xs ≡ suc n → is_among i xs ≡ true
 times_among i [] n e = absurd (omega arith)

@@ -55,7 +55,7 @@ pub mod FaultlessFacts
 pub mod BeginFacts
 pub mod StartingFacts
 pub mod StartsFacts
-pub mod RisingFacts
+pub mod ByTimeFacts
 pub mod StartedFacts
 pub mod FaultFacts
 pub mod TakingFacts

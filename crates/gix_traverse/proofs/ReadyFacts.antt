@@ -1,15 +1,16 @@
 -- Which commits are ready: how taking one changes them. Over any walked parents and any set.
-use Rattle.std.specs.Prelude.{◌≡◌, ◌⊎◌, ◌+◌, ◌≤◌, ℕ, ℤ, int_le, List, [], ◌∷◌, Bool, true, false, ◌||◌, cond, filter, Contains}
+use Rattle.std.specs.Prelude.{◌≡◌, ◌⊎◌, ◌+◌, ◌≤◌, ℕ, ℤ, List, [], ◌∷◌, Bool, true, false, ◌||◌, cond, filter, Contains}
 use Rattle.std.proofs.Common.{refl, sym, ap, subst, inl, inr, ⊎_elim, ◌∙◌, arith}
 use Rattle.std.proofs.lemmas.Bool.{false≢true, true≢false, or_right, false_from_ne_true, true_from_ne_false}
 use Rattle.gix_parts.specs.declared.hash.ObjectId.{ObjectId}
 use Rattle.gix_parts.specs.Id.{is_same, is_among}
 use Rattle.gix_traverse.specs.Reach.{Reaches, start, step}
 use Rattle.gix_traverse.specs.WalkSet.{IsInWalk, IsChild, IsChildless, IsReady}
-use Rattle.gix_traverse.specs.TopoOrder.{Keeps, none, kept, passed, distinct_after, first_places, last_places, insert_by_time, by_time}
+use Rattle.gix_traverse.specs.TopoOrder.{Keeps, none, kept, passed, distinct_after, first_places, last_places, by_time}
 use Rattle.gix_traverse.specs.SimpleLaws.{AreDistinct}
 use Rattle.gix_parts.proofs.IdFacts.{same_is, same_itself, same_from, among_from, among_is, Contains-here, Contains-there, Contains-cons_cases, no_member}
-use Rattle.gix_traverse.proofs.FreshFacts.{times, times_none}
+use Rattle.gix_traverse.proofs.FreshFacts.{times, times_none, times_moved}
+use Rattle.gix_traverse.proofs.ByTimeFacts.{by_time_moves}
 
 -- counting ids
 pub among_times : (i : ObjectId) (xs : List ObjectId) → is_among i xs ≡ true → 1 ≤ times i xs
@@ -129,17 +130,8 @@ first_once seen (x ∷ xs) i = go (is_among x seen) refl (is_same i x) refl (fir
         omega arith
 
 -- sorting by time leaves each id as often
-times-insert : (time : ObjectId → ℤ) (i j : ObjectId) (xs : List ObjectId) → times i (insert_by_time time j xs) ≡ times i (j ∷ xs)
-times-insert time i j [] = refl
-times-insert time i j (x ∷ xs) = go (int_le (time j) (time x)) (times-insert time i j xs)
-  where
-    go : (b : Bool) → times i (insert_by_time time j xs) ≡ times i (j ∷ xs) → times i (cond b (j ∷ x ∷ xs) (x ∷ insert_by_time time j xs)) ≡ times i (j ∷ x ∷ xs)
-    go true r = refl
-    go false r = omega arith
-
 pub times-by_time : (time : ObjectId → ℤ) (i : ObjectId) (xs : List ObjectId) → times i (by_time time xs) ≡ times i xs
-times-by_time time i [] = refl
-times-by_time time i (x ∷ xs) = let e : times i (insert_by_time time x (by_time time xs)) ≡ times i (x ∷ by_time time xs) = times-insert time i x (by_time time xs) in let r : times i (by_time time xs) ≡ times i xs = times-by_time time i xs in omega arith
+times-by_time time i xs = times_moved i xs (by_time time xs) (by_time_moves time xs)
 
 module _ (walked : ObjectId → List ObjectId) (In : ObjectId → Type 0) where
   -- these are exactly the ready ones, each once

@@ -51,11 +51,11 @@ from_ids [] p m = absurd (no_member p m)
 from_ids (x ∷ rs) p m =
     ⊎_elim (λ s. (x, Contains-here x rs, s)) (λ t. let h : (r : Ready) × Contains rs r × (r.id ≡ p) = from_ids rs p t in (h.0, Contains-there h.0 x rs h.1, h.2)) (Contains-cons_cases p x.id (ready_ids rs) m)
 
-holds_on : (s : Sorting) (old first mid others new : List Ready) → HoldsReady s (old ++ first) mid → HoldsReady s (mid ++ others) new → HoldsReady s (old ++ (first ++ others)) new
+pub holds_on : (s : Sorting) (old first mid others new : List Ready) → HoldsReady s (old ++ first) mid → HoldsReady s (mid ++ others) new → HoldsReady s (old ++ (first ++ others)) new
 holds_on order.TopoOrder old first mid others new a b = b ∙ ap (λ xs. xs ++ others) a ∙ append_assoc old first others
 holds_on order.DateOrder old first mid others new a b = subst (λ xs. IsPermutation xs new) (append_assoc old first others) (IsPermutation-trans _ _ _ (IsPermutation-append_left others (old ++ first) mid a) b)
 
-holds_none : (s : Sorting) (old : List Ready) → HoldsReady s (old ++ []) old
+pub holds_none : (s : Sorting) (old : List Ready) → HoldsReady s (old ++ []) old
 holds_none order.TopoOrder old = sym (append-nil old)
 holds_none order.DateOrder old = subst (λ xs. IsPermutation xs old) (sym (append-nil old)) (IsPermutation-refl old)
 

@@ -36,12 +36,12 @@ use Rattle.gix_traverse.proofs.ReadyFacts.{keeps_from, keeps_times, first_once, 
 use Rattle.gix_traverse.proofs.ReachedFacts.{text_reached}
 use Rattle.gix_traverse.proofs.ReleasedFacts.{keeps_on}
 use Rattle.gix_traverse.proofs.RestFacts.{least_within}
-use Rattle.gix_traverse.proofs.RisingFacts.{rising_from, rising_times, rising_ids}
+use Rattle.gix_traverse.proofs.ByTimeFacts.{by_time_moves, in_by_time, by_time_map}
 use Rattle.gix_traverse.proofs.SearchedFacts.{searched_same}
 use Rattle.gix_traverse.proofs.StartsFacts.{IsTipDue, AreStarted, started, first_from}
 use Rattle.gix_traverse.proofs.StoredFacts.{found_stored}
 use Rattle.gix_traverse.proofs.TallyFacts.{children_of, made_of, tally_same}
-use Rattle.gix_traverse.proofs.TopoRunFacts.{holds_in, holds_times}
+use Rattle.gix_traverse.proofs.TopoRunFacts.{holds_in, holds_times, times-permutation}
 
 among_alike : (i : ObjectId) (xs ys : List ObjectId) → times i xs ≡ times i ys → is_among i xs ≡ is_among i ys
 among_alike i xs ys e = go (is_among i xs) (is_among i ys) refl refl
@@ -114,10 +114,10 @@ module _ {F : Type 0} (objects : F → Objects) (faulty : F → ObjectId → Typ
 
   -- the ready commits
   in_starts : (r : Ready) → Contains (ready_in w.ready) r → Contains h.starts r
-  in_starts r m = rising_from h.starts r (holds_in p.sorting (by_rising_time h.starts) (ready_in w.ready) sorted r m)
+  in_starts r m = in_by_time (λ s. s.time) h.starts r (holds_in p.sorting (by_rising_time h.starts) (ready_in w.ready) sorted r m)
 
   ready_times : (i : ObjectId) → times i (ready_ids (ready_in w.ready)) ≡ times i (ready_ids h.starts)
-  ready_times i = holds_times p.sorting (by_rising_time h.starts) (ready_in w.ready) sorted i ∙ rising_times i h.starts
+  ready_times i = holds_times p.sorting (by_rising_time h.starts) (ready_in w.ready) sorted i ∙ times-permutation i h.starts (by_rising_time h.starts) (by_time_moves (λ r. r.time) h.starts)
 
   ready_among : (i : ObjectId) → is_among i (ready_ids h.starts) ≡ is_among i (ready_ids (ready_in w.ready))
   ready_among i = among_alike i (ready_ids h.starts) (ready_ids (ready_in w.ready)) (sym (ready_times i))
@@ -199,7 +199,7 @@ module _ {F : Type 0} (objects : F → Objects) (faulty : F → ObjectId → Typ
       childless = ready_ids h.starts;
       starts = by_rising_time h.starts;
       kept = kept_childless;
-      sorted = rising_ids (time_of (objects p.store)) h.starts start_time;
+      sorted = by_time_map (λ r. r.id) (λ r. r.time) (time_of (objects p.store)) h.starts start_time;
       holds = sorted;
     }
 

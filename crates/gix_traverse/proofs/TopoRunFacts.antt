@@ -1,12 +1,11 @@
 -- A whole topological walk takes what the definitions say, in their order.
 use Rattle.std.specs.Prelude.{◌≡◌, ◌≢◌, ◌+◌, ◌≤◌, ◌≤ℤ◌, ℕ, List, [], ◌∷◌, ◌++◌, Bool, true, false, not, ◌&&◌, ◌||◌, cond, filter, find, reverse, Option, Some, None, Result, Ok, Err, Contains, MatchOption, IsPermutation, All}
 use Rattle.std.proofs.Common.{refl, sym, ap, subst, ⊎_elim, ◌∙◌, arith, append-nil}
-use Rattle.std.specs.List.{AllZip, sum_by}
+use Rattle.std.specs.List.{AllZip}
 use Rattle.std.proofs.lemmas.Int.{ints}
 use Rattle.std.proofs.lemmas.Bool.{false≢true, or_cases, false_from_ne_true, not_from_false}
 use Rattle.std.proofs.lemmas.List.{map-append, reverse-append}
-use Rattle.std.proofs.lemmas.List.Sums.{sum_by-cons}
-use Rattle.std.proofs.lemmas.List.Sorted.{sum_by-IsPermutation, IsPermutation-map, IsPermutation-sym, Contains-permutation}
+use Rattle.std.proofs.lemmas.List.Sorted.{IsPermutation-map, IsPermutation-sym, Contains-permutation}
 use Rattle.std.proofs.lemmas.List.Elements.{Contains-append_left, Contains-append_cases, Contains-push, Contains-push_cases, All-head, All-tail, filter-append, filter_agree}
 use Rattle.std.specs.FinSet as set
 use Rattle.gix_parts.specs.declared.hash.ObjectId.{ObjectId}
@@ -27,18 +26,14 @@ use Rattle.gix_traverse.specs.SimpleLaws.{Becomes, itself, further, AnswersBy}
 use Rattle.gix_traverse.specs.TopoWalk.{TopoPlan, TopoWalk, Ready, Counted, ready_ids, IsTaken, HoldsReady, Chooses, walked_of, IsMember, IsStored, IsSound, IsFault, StartsWith, IsStarted, Takes, after, Next, ended, given, refused, failed, May}
 use Rattle.gix_traverse.specs.TopoLaws.{IsSorted, IsGiven, GivesInOrder, IsWholeRun}
 use Rattle.gix_parts.proofs.IdFacts.{id_total, same_is, same_from, among-append, among-one, among_from, among_is, Contains-here, Contains-there, Contains-cons_cases, no_member}
-use Rattle.gix_traverse.proofs.FreshFacts.{times, times-append}
+use Rattle.gix_traverse.proofs.FreshFacts.{times, times-append, times_moved}
 use Rattle.gix_traverse.proofs.StepFacts.{walked_within}
 use Rattle.gix_traverse.proofs.ReadyFacts.{times_is_among, times-by_time, keeps_from, keeps_alike, AreReady, ready_alike, IsOneMore, takes_ready, starts_ready, in_walk_top}
 use Rattle.gix_traverse.proofs.TurnFacts.{TurnsFrom, turn_none, turn_more, IsLastMade, reverse_in, in_reverse}
 
 -- what is chosen, and what is held, by ids
-times_sum : (i : ObjectId) (xs : List ObjectId) → times i xs ≡ sum_by (λ x. cond (is_same i x) 1 0) xs
-times_sum i [] = refl
-times_sum i (x ∷ xs) = ap (λ n. cond (is_same i x) 1 0 + n) (times_sum i xs) ∙ sym (sum_by-cons (λ y. cond (is_same i y) 1 0) x xs)
-
-times-permutation : (i : ObjectId) (xs ys : List Ready) → IsPermutation xs ys → times i (ready_ids ys) ≡ times i (ready_ids xs)
-times-permutation i xs ys h = times_sum i (ready_ids ys) ∙ sum_by-IsPermutation (λ x. cond (is_same i x) 1 0) (ready_ids xs) (ready_ids ys) (IsPermutation-map (λ r. r.id) xs ys h) ∙ sym (times_sum i (ready_ids xs))
+pub times-permutation : (i : ObjectId) (xs ys : List Ready) → IsPermutation xs ys → times i (ready_ids ys) ≡ times i (ready_ids xs)
+times-permutation i xs ys h = times_moved i (ready_ids xs) (ready_ids ys) (IsPermutation-map (λ r. r.id) xs ys h)
 
 pub holds_times : (s : Sorting) (these ready : List Ready) → HoldsReady s these ready → (i : ObjectId) → times i (ready_ids ready) ≡ times i (ready_ids these)
 holds_times order.TopoOrder these ready h i = ap (λ rs. times i (ready_ids rs)) h

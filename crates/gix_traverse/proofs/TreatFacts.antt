@@ -1,10 +1,8 @@
 -- The parents of a commit, treated in order: what becomes pending and seen.
 use Rattle.std.specs.Prelude.{◌≡◌, ◌⊎◌, ◌+◌, ℤ, pos, List, [], ◌∷◌, ◌++◌, filter, Bool, true, false, not, ◌&&◌, ◌||◌, cond, Option, Some, None, Ok, Contains, IsPermutation}
 use Rattle.std.proofs.Common.{refl, sym, ap, subst, ⊎_elim, ◌∙◌, append_assoc, append-nil}
-use Rattle.std.specs.List.{sum_by}
 use Rattle.std.proofs.lemmas.List.{map-append}
-use Rattle.std.proofs.lemmas.List.Sums.{sum_by-cons}
-use Rattle.std.proofs.lemmas.List.Sorted.{sum_by-IsPermutation, Contains-permutation, IsPermutation-sym}
+use Rattle.std.proofs.lemmas.List.Sorted.{IsPermutation-map, Contains-permutation, IsPermutation-sym}
 use Rattle.std.proofs.lemmas.List.Elements.{filter-append, Contains-append_cases}
 use Rattle.std.proofs.lemmas.Bool.{false≢true, false_from_ne_true, and_left, and_right, and_parts, not_from_true}
 use Rattle.std.specs.FinSet as set
@@ -23,7 +21,7 @@ use Rattle.gix_traverse.specs.declared.commit.simple.pending.Pending.{Pending}
 use Rattle.gix_traverse.specs.SimpleWalk.{SimpleWalk, Treated, GoesOn, Holds, ids_of, time_order, cutoff, is_older, row_time, Asks, remembers, asks, asked as asked_walk, ReadsTime, unasked, from_row, from_store, Enqueues, dropped, enqueued, Treats, hidden, known, refused, accepted, TreatsAll, none, more, stops}
 use Rattle.gix_traverse.specs.SimpleLaws.{Becomes, further, AnswersBy, is_kept}
 use Rattle.gix_parts.proofs.IdFacts.{id_total, same_is, among-one, Contains-here, Contains-there, Contains-cons_cases, no_member}
-use Rattle.gix_traverse.proofs.FreshFacts.{fresh, fresh_agree, fresh-append, times, times-append, among-filter}
+use Rattle.gix_traverse.proofs.FreshFacts.{fresh, fresh_agree, fresh-append, times, times-append, times_moved, among-filter}
 use Rattle.gix_traverse.proofs.ReadFacts.{row_says_time}
 
 -- the lists are one; or they have each id as often, where an order by time is in force
@@ -44,12 +42,8 @@ Joins-append None xs ys zs p = ap (λ ws. ws ++ zs) p
 Joins-append (Some order) xs ys zs p = λ i. times-append i xs zs ∙ ap (λ n. n + times i zs) (p i) ∙ sym (times-append i ys zs)
 
 -- pending commits in another order
-times_of_pending : (i : ObjectId) (ps : List Pending) → times i (ids_of ps) ≡ sum_by (λ p. cond (is_same i p.id) 1 0) ps
-times_of_pending i [] = refl
-times_of_pending i (p ∷ ps) = ap (λ n. cond (is_same i p.id) 1 0 + n) (times_of_pending i ps) ∙ sym (sum_by-cons (λ q. cond (is_same i q.id) 1 0) p ps)
-
 pub times-permutation : (i : ObjectId) (ps qs : List Pending) → IsPermutation ps qs → times i (ids_of qs) ≡ times i (ids_of ps)
-times-permutation i ps qs h = times_of_pending i qs ∙ sum_by-IsPermutation (λ p. cond (is_same i p.id) 1 0) ps qs h ∙ sym (times_of_pending i ps)
+times-permutation i ps qs h = times_moved i (ids_of ps) (ids_of qs) (IsPermutation-map (λ p. p.id) ps qs h)
 
 Joins-holds : (o : Option CommitTimeOrder) (old new : List Pending) (p : Pending) → Holds o (old ++ p ∷ []) new → Joins o (ids_of new) (ids_of old ++ p.id ∷ [])
 Joins-holds None old new p e = ap ids_of e ∙ map-append (λ q. q.id) old (p ∷ [])

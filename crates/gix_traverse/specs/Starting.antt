@@ -1,5 +1,5 @@
 -- How a topological walk starts.
-use Rattle.std.specs.Prelude.{◌≡◌, ◌++◌, int_le, List, [], ◌∷◌, Bool, true, false, if◌then◌else◌}
+use Rattle.std.specs.Prelude.{◌≡◌, ◌++◌, List, [], ◌∷◌, Bool, true, false}
 use Rattle.std.specs.FinSet as set
 use Rattle.gix_parts.specs.declared.hash.ObjectId.{ObjectId}
 use Rattle.gix_parts.specs.Object.{Objects}
@@ -17,17 +17,12 @@ use Rattle.gix_traverse.specs.ReadySet.{ready_in}
 use Rattle.gix_traverse.specs.Releasing.{plan_by, plan_of, counted_by, Pushes, IsPushFault}
 use Rattle.gix_traverse.specs.Searched.{IsCounted, IsBegun, IsExplored}
 use Rattle.gix_traverse.specs.TopoSteady.{IsReached, HasCounted}
+use Rattle.gix_traverse.specs.TopoOrder.{by_time}
 use Rattle.gix_traverse.specs.TopoWalk.{TopoPlan, Ready, HoldsReady, first_depth, IsCommitRead, IsCounting, IsSound}
-
--- before the first of a time that isn't less
-abbrev pub insert_ready : Ready → List Ready → List Ready
-insert_ready r [] = r ∷ []
-insert_ready r (s ∷ ready) = if int_le r.time s.time then r ∷ s ∷ ready else s ∷ insert_ready r ready
 
 -- by rising time, and at one time in the order given
 abbrev pub by_rising_time : List Ready → List Ready
-by_rising_time [] = []
-by_rising_time (r ∷ ready) = insert_ready r (by_rising_time ready)
+by_rising_time ready = by_time (λ r. r.time) ready
 
 -- a side meets these ids, in order
 pub data MeetsAll (rows : List GraphRow) (side : Side) : Frontier → List ObjectId → Frontier → Type 0 where
