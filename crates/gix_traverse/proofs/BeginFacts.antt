@@ -34,6 +34,7 @@ use Rattle.gix_traverse.proofs.FaultlessFacts.{faultless}
 use Rattle.gix_traverse.proofs.FrontierFacts.{moved}
 use Rattle.gix_traverse.proofs.MeetFacts.{IsFresh, fresh_empty, fresh_on, fresh_counted, all_still, all_seen}
 use Rattle.gix_traverse.proofs.TallyFacts.{follows_named}
+use Rattle.gix_traverse.proofs.RowFacts.{none_agree}
 
 -- the least of two lists, one after the other
 pub least-append : (rows : List GraphRow) (depth : ℕ) (ids others : List ObjectId) → least rows (least rows depth others) ids ≡ least rows depth (ids ++ others)
@@ -47,9 +48,6 @@ least_first rows depth (i ∷ ids) = let l : least rows depth ids ≤ depth = le
 -- without rows nothing is known of generations
 unknown_generation : (rows : List GraphRow) (i : ObjectId) → rows ≡ [] → known_generation rows i ≡ infinity
 unknown_generation rows i e = ap (λ those. known_generation those i) e
-
-agreeing_none : (objects : Objects) (faulty : ObjectId → Type 0) (rows : List GraphRow) → rows ≡ [] → IsAgreeing objects faulty rows
-agreeing_none objects faulty rows e row m = absurd (no_member row (subst (λ those. Contains those row) e m))
 
 -- without rows a commit that is read has no fault
 read_faultless : (objects : Objects) (faulty : ObjectId → Type 0) (rows : List GraphRow) (standing : Bool) (i : ObjectId) (info : Info) (new : Bool) → rows ≡ [] → Reads objects faulty rows standing i (Ok info) new → IsCommitRead objects i
@@ -154,7 +152,7 @@ module _ {F : Type 0} (objects : F → Objects) (faulty : F → ObjectId → Typ
     idle none = ⊎_elim (λ q. q) (λ r. go r.1 explored.frontier.queue refl) rested
       where
         keyed : (entry : ℕ × Waiting) → Contains explored.frontier.queue entry → entry.0 ≡ known_generation Rows entry.1.id
-        keyed = (explores_keep objects faulty tips ends (λ i. false) (agreeing_none (objects low.reader.find) (faulty low.reader.find) Rows none) explores (counted_low (λ i. false) (λ i. refl))).searched.keyed
+        keyed = (explores_keep objects faulty tips ends (λ i. false) (none_agree (objects low.reader.find) (faulty low.reader.find) Rows none) explores (counted_low (λ i. false) (λ i. refl))).searched.keyed
 
         go : ((entry : ℕ × Waiting) → Contains explored.frontier.queue entry → entry.0 < explored.depth) → (queue : List (ℕ × Waiting)) → explored.frontier.queue ≡ queue → queue ≡ []
         go below [] e = refl
@@ -169,7 +167,7 @@ module _ {F : Type 0} (objects : F → Objects) (faulty : F → ObjectId → Typ
     read : Rows ≡ [] → (i : ObjectId) → IsReached objects (plan_by low sorting tips ends) i → IsCommitRead (objects low.reader.find) i
     read none i r =
         let high : low.depth ≤ known_generation Rows i = subst (λ g. low.depth ≤ g) (sym (unknown_generation Rows i none)) (low_depth none) in
-        done_read none start.fresh.undone explores r.0 i (there (agreeing_none (objects low.reader.find) (faulty low.reader.find) Rows none) r.0 i r.1 high)
+        done_read none start.fresh.undone explores r.0 i (there (none_agree (objects low.reader.find) (faulty low.reader.find) Rows none) r.0 i r.1 high)
 
     -- the searches have begun
     pub begun_on : HasBegun objects faulty (plan_by low sorting tips ends) explored

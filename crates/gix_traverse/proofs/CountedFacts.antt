@@ -1,6 +1,7 @@
 -- Exploring keeps searches and counts as they are to be, beside rows that agree.
-use Rattle.std.specs.Prelude.{◌≡◌, ℕ, ◌+◌, List, ◌∷◌, Bool, true, false, ◌&&◌, ◌||◌, cond, Contains}
+use Rattle.std.specs.Prelude.{◌≡◌, ℕ, ◌+◌, List, [], ◌∷◌, Bool, true, false, ◌&&◌, ◌||◌, cond, Contains}
 use Rattle.std.proofs.Common.{refl, sym, ap, subst, ◌∙◌}
+use Rattle.std.proofs.lemmas.Bool.{false≢true}
 use Rattle.gix_parts.specs.declared.hash.ObjectId.{ObjectId}
 use Rattle.gix_parts.specs.Id.{is_same, is_among}
 use Rattle.gix_parts.specs.Object.{Objects}
@@ -12,7 +13,7 @@ use Rattle.gix_traverse.specs.declared.commit.topo.frontier.Waiting.{Waiting}
 use Rattle.gix_traverse.specs.declared.commit.topo.frontier.Frontier.{Frontier}
 use Rattle.gix_traverse.specs.declared.commit.topo.counting.Counting.{Counting}
 use Rattle.gix_traverse.specs.Agreeing.{IsAgreeing}
-use Rattle.gix_traverse.specs.Exploring.{Follows, Steps, Explores, itself, further, IsSamePlan, side_mode}
+use Rattle.gix_traverse.specs.Exploring.{Follows, Steps, Explores, itself, further, IsSamePlan, side_mode, is_pending}
 use Rattle.gix_traverse.specs.Frontier.{is_side, is_seen, is_queued, is_done, reached}
 use Rattle.gix_traverse.specs.History.{by_mode}
 use Rattle.gix_traverse.specs.Reach.{Reaches, step}
@@ -48,6 +49,11 @@ module _ {F : Type 0} (objects : F → Objects) (faulty : F → ObjectId → Typ
   pub explores_same : {old new : Counting F} → Explores objects faulty old new → IsSamePlan objects faulty old new
   explores_same itself = record { find = refl; graph = refl; parents = refl; depth = refl }
   explores_same {old = old} {new = last} (further {mid = mid} {new = new} e p s) = same_on objects faulty old mid new (explores_same e) s.same
+
+  -- where nothing waits, exploring does nothing
+  pub explores_idle : {old new : Counting F} → Explores objects faulty old new → old.frontier.queue ≡ [] → new.frontier.queue ≡ []
+  explores_idle itself e = e
+  explores_idle (further {mid = mid} x p s) e = absurd (false≢true (sym (ap (is_pending mid.reader.standing mid.depth) (explores_idle x e)) ∙ p))
 
   -- what is seen stays so
   pub steps_still : (old new : Counting F) → Steps objects faulty old new → (t : Side) (j : ObjectId) → has_seen old.frontier t j ≡ true → has_seen new.frontier t j ≡ true

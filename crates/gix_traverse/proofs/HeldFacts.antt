@@ -1,7 +1,7 @@
 -- What a walk holds still holds after a commit was taken.
-use Rattle.std.specs.Prelude.{◌≡◌, ◌≤◌, ℕ, ◌+◌, List, [], ◌∷◌, ◌++◌, Bool, true, false, ◌||◌, cond, Contains}
+use Rattle.std.specs.Prelude.{◌≡◌, ◌≤◌, ℕ, ◌+◌, List, ◌∷◌, ◌++◌, Bool, true, false, ◌||◌, cond, Contains}
 use Rattle.std.proofs.Common.{refl, sym, ap, subst, ⊎_elim, ◌∙◌, arith}
-use Rattle.std.proofs.lemmas.Bool.{true≢false, false≢true, or_cases, or_left, or_right}
+use Rattle.std.proofs.lemmas.Bool.{true≢false, or_cases, or_left, or_right}
 use Rattle.std.specs.FinSet as set
 use Rattle.gix_parts.specs.declared.hash.ObjectId.{ObjectId}
 use Rattle.gix_parts.specs.Id.{is_same, is_among}
@@ -13,7 +13,7 @@ use Rattle.gix_traverse.specs.declared.commit.topo.counting.Counting.{Counting}
 use Rattle.gix_traverse.specs.declared.commit.topo.iter.Walk.{Walk}
 use Rattle.gix_traverse.specs.declared.commit.topo.ready.ReadySet.{ReadySet}
 use Rattle.gix_traverse.specs.Agreeing.{IsAgreeing}
-use Rattle.gix_traverse.specs.Exploring.{Explores, itself, further, IsRested, IsSamePlan, is_pending}
+use Rattle.gix_traverse.specs.Exploring.{IsRested, IsSamePlan}
 use Rattle.gix_traverse.specs.Frontier.{is_seen, is_queued, is_done, reached, waiting, IsSearch}
 use Rattle.gix_traverse.specs.History.{by_mode}
 use Rattle.gix_traverse.specs.ReadsCommit.{rows_of}
@@ -24,7 +24,7 @@ use Rattle.gix_traverse.specs.TopoOrder.{last_places}
 use Rattle.gix_traverse.specs.TopoSteady.{IsReached, IsTallied, IsSteady, HasCounted, IsFound, IsHeld, unasked, unasked_of, TakesReady}
 use Rattle.gix_traverse.specs.TopoWalk.{Ready, ready_ids, walked_of, IsMember, IsSound, IsTaken, IsCommitRead, HoldsReady, Chooses, Adds}
 use Rattle.gix_traverse.specs.WalkSet.{IsChild, IsReady}
-use Rattle.gix_traverse.proofs.CountedFacts.{explores_keep, explores_made, explores_same, explores_still, explores_done}
+use Rattle.gix_traverse.proofs.CountedFacts.{explores_keep, explores_made, explores_same, explores_still, explores_done, explores_idle}
 use Rattle.gix_traverse.proofs.ExactFacts.{exact_there}
 use Rattle.gix_traverse.proofs.FreshFacts.{times, times_none}
 use Rattle.gix_traverse.proofs.OnceFacts.{times_once}
@@ -60,11 +60,6 @@ turned false true false o = refl
 turned false false true o = refl
 turned false false false true = refl
 turned false false false false = refl
-
--- where nothing waits, exploring does nothing
-pub explores_idle : {F : Type 0} (objects : F → Objects) (faulty : F → ObjectId → Type 0) {old new : Counting F} → Explores objects faulty old new → old.frontier.queue ≡ [] → new.frontier.queue ≡ []
-explores_idle objects faulty itself e = e
-explores_idle objects faulty (further {mid = mid} x p s) e = absurd (false≢true (sym (ap (is_pending mid.reader.standing mid.depth) (explores_idle objects faulty x e)) ∙ p))
 
 module _ {F : Type 0} (objects : F → Objects) (faulty : F → ObjectId → Type 0) (w : Walk F) (rest : ReadySet) (same : sorting_of rest ≡ sorting_of w.ready) (r : Ready) (chosen : Chooses (sorting_of w.ready) (ready_in w.ready) r (ready_in rest)) (added : List Ready) (new : Walk F) (t : TakesOne objects faulty (record w { ready = rest }) r added new) where
   abbrev those : Objects

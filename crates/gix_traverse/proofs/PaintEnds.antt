@@ -29,6 +29,7 @@ use Rattle.gix_traverse.proofs.PaintMeets.{hides_then}
 use Rattle.gix_traverse.proofs.PaintSteps.{hidden_from, below, popped_there, reaches_either}
 use Rattle.gix_traverse.proofs.PaintTurns.{given_parents}
 use Rattle.gix_parts.proofs.IdFacts.{no_member}
+use Rattle.gix_traverse.proofs.RowFacts.{none_agree}
 
 hidden_state : (o : Option Marks) (waiting : Bool) → state_by o waiting ≡ Hides → hides o ≡ true
 hidden_state None waiting e = cc
@@ -202,17 +203,14 @@ module _ {F : Type 0} (objects : F → Objects) (store : F) (rows : List GraphRo
       sound = λ agrees. let k = holds agrees in sound agrees k.0 k.1;
       whole = λ agrees. let k = holds agrees in whole agrees k.0 k.1;
       read = λ e i r.
-          let k = holds (none_agrees e) in
-          ap is_some (k.0.read e i (all_read (none_agrees e) k.0 k.1 e i r)).1.1;
+          let k = holds (none_agree (objects store) faulty rows e) in
+          ap is_some (k.0.read e i (all_read (none_agree (objects store) faulty rows e) k.0 k.1 e i r)).1.1;
       drops = λ agrees gone. let k = holds agrees in k.0.dropped (λ stands. gone (still (p.source.graph) refl stands));
     }
       where
         either_rows : (b : Bool) → ((if b then rows else []) ≡ rows) ⊎ ((if b then rows else []) ≡ [])
         either_rows true = inl refl
         either_rows false = inr refl
-
-        none_agrees : rows ≡ [] → IsAgreeing (objects store) faulty rows
-        none_agrees e row c = absurd (no_member row (subst (λ rs. Contains rs row) e c))
 
         still : (o : Option (Bor (List GraphRow))) → p.source.graph ≡ o → RowsStand objects store rows tips hidden_tips p → (if is_some p.source.graph then rows else []) ≡ rows
         still None e stands = ap (λ g. if is_some g then rows else []) e ∙ sym (ap rows_in e) ∙ stands

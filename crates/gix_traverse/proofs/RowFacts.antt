@@ -1,5 +1,5 @@
--- The ids that a row's places name, read one after the other.
-use Rattle.std.specs.Prelude.{◌≡◌, ◌<◌, List, [], ◌∷◌, ◌++◌, ℕ, Option, Some, None, Ok, Err, IfOk, All, slice_get}
+-- Rows: the ids that a row's places name, read one after the other.
+use Rattle.std.specs.Prelude.{◌≡◌, ◌<◌, List, [], ◌∷◌, ◌++◌, ℕ, Option, Some, None, Ok, Err, IfOk, All, Contains, slice_get}
 use Rattle.std.proofs.Common.{refl, sym, ap, subst, ◌∙◌, append_assoc}
 use Rattle.std.proofs.lemmas.List.Elements.{recursion_from_All, All-from_recursion}
 use Rattle.gix_parts.specs.declared.hash.ObjectId.{ObjectId}
@@ -7,8 +7,15 @@ use Rattle.gix_parts.specs.declared.graph.Position.{Position}
 use Rattle.gix_parts.specs.declared.graph.ParentPlace.{ParentPlace}
 use Rattle.gix_parts.specs.declared.graph.ParentPlace.TheVariants.{At, Fault}
 use Rattle.gix_parts.specs.Parents.{Answer, answers_of}
+use Rattle.gix_parts.specs.Object.{Objects}
 use Rattle.gix_parts.specs.Rows.{GraphRow}
+use Rattle.gix_parts.proofs.IdFacts.{no_member}
+use Rattle.gix_traverse.specs.Agreeing.{IsAgreeing}
 use Rattle.gix_traverse.specs.SimpleWalk.{ids_at, with_id}
+
+-- no rows agree with any store
+pub none_agree : (objects : Objects) (faulty : ObjectId → Type 0) (rows : List GraphRow) → rows ≡ [] → IsAgreeing objects faulty rows
+none_agree objects faulty rows e row m = absurd (no_member row (subst (λ those. Contains those row) e m))
 
 -- the ids that answers of a row's iterator name
 abbrev pub answered_ids : List GraphRow → List Answer → Option (List ObjectId)

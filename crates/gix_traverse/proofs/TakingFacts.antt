@@ -1,7 +1,6 @@
 -- When a topological walk can't take a ready commit.
 use Rattle.std.specs.Prelude.{◌≡◌, ◌⊎◌, ◌≤◌, ℕ, ◌+◌, List, [], ◌∷◌, ◌++◌, drop, Bool, true, false, cond, Option, Some, None, Err, Contains}
 use Rattle.std.proofs.Common.{refl, sym, ap, subst, inl, inr, ⊎_elim, ◌∙◌, arith}
-use Rattle.std.proofs.lemmas.Bool.{false≢true}
 use Rattle.std.specs.FinMap as map_of
 use Rattle.std.specs.FinSet as set
 use Rattle.gix_parts.specs.declared.hash.ObjectId.{ObjectId}
@@ -20,7 +19,7 @@ use Rattle.gix_traverse.specs.declared.commit.topo.frontier.Side.TheVariants.{Ti
 use Rattle.gix_traverse.specs.declared.commit.topo.iter.Walk.{Walk}
 use Rattle.gix_traverse.specs.declared.commit.topo.ready.ReadySet.{ReadySet}
 use Rattle.gix_traverse.specs.Agreeing.{IsAgreeing}
-use Rattle.gix_traverse.specs.Exploring.{is_pending, IsSamePlan, Explores, itself, further}
+use Rattle.gix_traverse.specs.Exploring.{IsSamePlan, Explores}
 use Rattle.gix_traverse.specs.Frontier.{is_done, reached}
 use Rattle.gix_traverse.specs.History.{by_mode}
 use Rattle.gix_traverse.specs.Reach.{Reaches, step}
@@ -32,13 +31,14 @@ use Rattle.gix_traverse.specs.TopoOrder.{last_places}
 use Rattle.gix_traverse.specs.TopoSteady.{IsReached, IsTallied, IsFound, IsHeld}
 use Rattle.gix_traverse.specs.TopoWalk.{TopoPlan, Ready, ready_ids, Chooses, text_parents, IsCommitRead, IsOtherParent, IsLate, IsFault}
 use Rattle.gix_traverse.proofs.BecameFacts.{done_seen}
-use Rattle.gix_traverse.proofs.CountedFacts.{explores_keep, explores_same, explores_done}
+use Rattle.gix_traverse.proofs.CountedFacts.{explores_keep, explores_same, explores_done, explores_idle}
 use Rattle.gix_traverse.proofs.FaultFacts.{fault_item, exploring_fault, push_fault}
 use Rattle.gix_traverse.proofs.ReadyFacts.{last_from, times_is_among}
 use Rattle.gix_traverse.proofs.ReleasedFacts.{IsReleased, released}
 use Rattle.gix_traverse.proofs.TallyFacts.{children_of, times-last, tally_counts}
 use Rattle.gix_traverse.proofs.TopoReadFacts.{reads_text_next}
 use Rattle.gix_traverse.proofs.TopoRunFacts.{chosen_in, chosen_times}
+use Rattle.gix_traverse.proofs.RowFacts.{none_agree}
 
 -- a text that names parents is stored
 record IsNaming (objects : Objects) (i : ObjectId) (ids : List ObjectId) : Type 0 where
@@ -54,9 +54,6 @@ naming objects i x xs None e s = cc
 naming objects i x xs (Some text) e s = record { text = text; stored = e; names = s }
 
 module _ {F : Type 0} (objects : F → Objects) (faulty : F → ObjectId → Type 0) where
-  none_agree : (plan : TopoPlan F) → plan.rows ≡ [] → IsAgreeing (objects plan.store) (faulty plan.store) plan.rows
-  none_agree plan e row m = absurd (no_member row (subst (λ rows. Contains rows row) e m))
-
   -- a commit that tips reach, where without rows all that is reached was read
   record IsUpcoming (plan : TopoPlan F) (i : ObjectId) : Type 0 where
     reach : IsAgreeing (objects plan.store) (faulty plan.store) plan.rows → Reaches (next_by (objects plan.store) plan.parents Tips) plan.tips i
@@ -86,7 +83,7 @@ module _ {F : Type 0} (objects : F → Objects) (faulty : F → ObjectId → Typ
   parent_read plan i p up n m = by plan.parents refl
     where
       walked : Contains (by_mode plan.parents (text_next (objects plan.store) i)) p → IsCommitRead (objects plan.store) p ⊎ IsOtherParent objects plan p
-      walked k = inl (up.read n p (Tips, step (up.reach (none_agree plan n)) k))
+      walked k = inl (up.read n p (Tips, step (up.reach (none_agree (objects plan.store) (faulty plan.store) plan.rows n)) k))
 
       first : plan.parents ≡ mode.First → (ids : List ObjectId) → text_next (objects plan.store) i ≡ ids → Contains ids p → IsCommitRead (objects plan.store) p ⊎ IsOtherParent objects plan p
       first e [] s m = absurd (no_member p m)
@@ -103,8 +100,8 @@ module _ {F : Type 0} (objects : F → Objects) (faulty : F → ObjectId → Typ
   push_fails old i e up f = (push_fault objects faulty old i e up.reach f, fails f)
     where
       fails : IsPushFault objects faulty old i e → IsLate objects (plan_of old) e
-      fails (pushed f) = late (plan_of old) i e (λ n. inl (up.read n i (Tips, up.reach (none_agree (plan_of old) n)))) f
-      fails (parent {p = p} reads m f) = late (plan_of old) p e (λ n. parent_read (plan_of old) i p up n (subst (λ ids. Contains ids p) (reads_text_next (objects (plan_of old).store) (faulty (plan_of old).store) (plan_of old).rows (none_agree (plan_of old) n) reads) m)) f
+      fails (pushed f) = late (plan_of old) i e (λ n. inl (up.read n i (Tips, up.reach (none_agree (objects (plan_of old).store) (faulty (plan_of old).store) (plan_of old).rows n)))) f
+      fails (parent {p = p} reads m f) = late (plan_of old) p e (λ n. parent_read (plan_of old) i p up n (subst (λ ids. Contains ids p) (reads_text_next (objects (plan_of old).store) (faulty (plan_of old).store) (plan_of old).rows (none_agree (objects (plan_of old).store) (faulty (plan_of old).store) (plan_of old).rows n) reads) m)) f
 
   release_fails : {old : Walk F} {i : ObjectId} {e : Error} → IsUpcoming (plan_of old) i → (IsAgreeing (objects (plan_of old).store) (faulty (plan_of old).store) (plan_of old).rows → 1 ≤ children_of old.counting.frontier i) → IsReleaseFault objects faulty old i e → Fails (plan_of old) e
   release_fails up c (uncounted z) = (λ a. let l : 1 ≤ _ = c a in absurd (omega arith), tt)
@@ -121,10 +118,6 @@ module _ {F : Type 0} (objects : F → Objects) (faulty : F → ObjectId → Typ
   among_fails plan {old} same up c (later {mid = mid} {i = i} {ids = ids} {first = first} r f) =
       let rel : IsReleased objects faulty old (i ∷ []) (first ++ []) mid = released objects faulty (more r none) in
       among_fails plan {old = mid} (rel.plan ∙ same) (λ j m. up j (Contains-there j i ids m)) (λ a p. let l : times p (i ∷ ids) ≤ children_of old.counting.frontier p = c a p in let k : (cond (is_same p i) 1 0 + 0) + children_of mid.counting.frontier p ≡ children_of old.counting.frontier p = rel.children p in omega arith) f
-
-  idle_on : {old new : Counting F} → Explores objects faulty old new → old.frontier.queue ≡ [] → new.frontier.queue ≡ []
-  idle_on itself e = e
-  idle_on (further {mid = mid} x p s) e = absurd (false≢true (sym (ap (is_pending mid.reader.standing mid.depth) (idle_on x e)) ∙ p))
 
   module _ (w : Walk F) (held : IsHeld objects faulty w) (rest : ReadySet) (same : sorting_of rest ≡ sorting_of w.ready) (r : Ready) (chosen : Chooses (sorting_of w.ready) (ready_in w.ready) r (ready_in rest)) where
     abbrev Agrees : Type 0
@@ -178,7 +171,7 @@ module _ {F : Type 0} (objects : F → Objects) (faulty : F → ObjectId → Typ
     pub taking_fault : (e : Error) → IsTakingFault objects faulty (record w { ready = rest }) r e → IsFault objects faulty (plan_of w) e × IsLate objects (plan_of w) e
     taking_fault e (exploring f) = (
       exploring_fault objects faulty (sorting_of w.ready) w.tips.items w.ends.items (set.contains w.taken) low (λ a. (held.tallied a).counted) e f,
-      late (plan_of w) f.fault.entry.1.id e (λ n. absurd (no_member f.fault.entry (subst (λ queue. Contains queue f.fault.entry) (idle_on f.explored (held.idle n)) f.fault.queued))) (subst (λ x. IsReadFault (objects x) (faulty x) f.fault.entry.1.id e) (explores_same objects faulty f.explored).find f.fault.fault),
+      late (plan_of w) f.fault.entry.1.id e (λ n. absurd (no_member f.fault.entry (subst (λ queue. Contains queue f.fault.entry) (explores_idle objects faulty f.explored (held.idle n)) f.fault.queued))) (subst (λ x. IsReadFault (objects x) (faulty x) f.fault.entry.1.id e) (explores_same objects faulty f.explored).find f.fault.fault),
     )
     taking_fault e (releasing {explored = explored} x rests f) = among_fails (plan_of w) (plan_is (explores_same objects faulty x)) upcoming (children_left explored x) f
       where

@@ -1,8 +1,7 @@
 -- A topological walk over records ends by no internal fault: its store doesn't fail, and without rows nothing that it counted is missing.
-use Rattle.std.specs.Prelude.{◌≡◌, ◌≢◌, ℕ, List, Contains, [], ◌∷◌, Option, Some, None, Result, Ok, Err}
+use Rattle.std.specs.Prelude.{◌≡◌, ◌≢◌, ℕ, List, [], ◌∷◌, Option, Some, None, Result, Ok, Err}
 use Rattle.std.specs.Iterator.{Yields, YieldsThen}
 use Rattle.std.proofs.Common.{refl, ap, subst}
-use Rattle.gix_parts.proofs.IdFacts.{no_member}
 use Rattle.gix_parts.specs.declared.hash.ObjectId.{ObjectId}
 use Rattle.gix_parts.specs.declared.object.Kind.TheVariants as object
 use Rattle.gix_parts.specs.Object.{Objects}
@@ -10,7 +9,7 @@ use Rattle.gix_traverse.specs.declared.commit.Info.{Info}
 use Rattle.gix_traverse.specs.declared.commit.topo.Error.{Error}
 use Rattle.gix_traverse.specs.declared.commit.topo.Error.TheVariants as error
 use Rattle.gix_traverse.specs.declared.commit.topo.Sorting.{Sorting}
-use Rattle.gix_traverse.specs.Agreeing.{IsAgreeing}
+use Rattle.gix_traverse.proofs.RowFacts.{none_agree}
 use Rattle.gix_traverse.specs.TopoWalk.{TopoPlan, IsFault, ended, given, refused, failed}
 use Rattle.gix_walk.specs.declared.fault.Fault.TheVariants as fault
 use Rattle.gix_walk.specs.Faults.{fault_of_topo_walk}
@@ -25,12 +24,8 @@ IsSound None = Unit {0}
 IsSound (Some (Ok info)) = Unit {0}
 IsSound (Some (Err e)) = fault_of_topo_walk e ≢ fault.Internal
 
--- no rows agree with every store
-none_agree : (plan : TopoPlan Objects) → plan.rows ≡ [] → IsAgreeing plan.store (never_faulty plan.store) plan.rows
-none_agree plan e row m = absurd (no_member row (subst (λ rows. Contains rows row) e m))
-
 fault_sound : (plan : TopoPlan Objects) (e : Error) → plan.rows ≡ [] → IsFault objects_of never_faulty plan e → fault_of_topo_walk e ≢ fault.Internal
-fault_sound plan error.MissingIndegreeUnexpected none h = absurd (h (none_agree plan none))
+fault_sound plan error.MissingIndegreeUnexpected none h = absurd (h (none_agree plan.store (never_faulty plan.store) plan.rows none))
 fault_sound plan error.MissingStateUnexpected none h = absurd h
 fault_sound plan (error.ObjectDecode e) none h = λ e. cc
 fault_sound plan (error.Find e) none h = find_sound plan.store h.0 object.Commit e h.1
