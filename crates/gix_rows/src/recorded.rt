@@ -1,142 +1,144 @@
 //! What a recorder holds behind a walk of trees.
 use crate::history::{Failing, id, long_id};
-use crate::trees::{ROOT, depth, insert_tree, levels, sample};
+use crate::trees::{Order, ROOT, end, insert_tree, sample, walk};
 use bstr::BString;
 use gix_parts::hash::ObjectId;
-use gix_parts::object::find::{Find, existing_iter};
+use gix_parts::object::Kind;
+use gix_parts::object::find::Find;
 use gix_parts::object::memory::MemoryStore;
 use gix_parts::object::tree::EntryMode;
-use gix_parts::object::{Kind, decode};
 use gix_traverse::tree::Recorder;
-use gix_traverse::tree::breadthfirst::Error;
 use gix_traverse::tree::depthfirst::{State, depthfirst};
 use gix_traverse::tree::recorder::{Entry, Location};
 use std::alloc::{AllocError, Global};
 use std::test::Fail;
 
 /// The paths of the records, each behind a space.
-fn paths(alloc: Global, recorder: &Recorder) -> Result<Vec<u8>, AllocError> {
-    let mut paths = Vec::new(alloc);
+fn paths(alloc: Global, recorder: &Recorder) -> Result<String, AllocError> {
+    let mut paths = String::new(alloc);
     for entry in recorder.records.iter() {
-        paths.push(b' ')?;
-        paths.extend_from_slice(entry.filepath.as_bytes())?;
+        write!(paths, " {}", entry.filepath)?;
     }
     Ok(paths)
 }
 
-/// What a fresh recorder holds behind a walk in depth, and why the walk ended.
-fn recorded_in_depth<F: Find>(
+/// The paths that a recorder holds behind a walk, and a last word that says how the walk ended.
+fn told<F: Find>(
     alloc: Global,
+    order: Order,
     store: &F,
     root: ObjectId,
-) -> Result<(Vec<u8>, Option<Error>), Fail> {
-    let mut recorder = Recorder::new(alloc);
-    let end = depth(alloc, store, root, &mut recorder)?;
-    Ok((paths(alloc, &recorder)?, end))
+    mut recorder: Recorder,
+) -> Result<String, AllocError> {
+    let end = walk(alloc, order, store, root, &mut recorder)?;
+    let paths = paths(alloc, &recorder)?;
+    format!(in alloc; "{paths} {end}")
 }
 
-/// The same of a walk by levels.
-fn recorded_by_levels<F: Find>(
-    alloc: Global,
-    store: &F,
-    root: ObjectId,
-) -> Result<(Vec<u8>, Option<Error>), Fail> {
-    let mut recorder = Recorder::new(alloc);
-    let end = levels(alloc, store, root, &mut recorder)?;
-    Ok((paths(alloc, &recorder)?, end))
+/// The same of a fresh recorder behind a walk of the tree of digit 10.
+fn recorded<F: Find>(alloc: Global, order: Order, store: &F) -> Result<String, AllocError> {
+    told(alloc, order, store, id(10), Recorder::new(alloc))
+}
+
+/// Walks the sample with each of these roots in its place, and compares what is told.
+fn check(alloc: Global, order: Order, cases: &[(&[(&str, u8)], &str)]) -> Result<(), Fail> {
+    let mut store = sample(alloc)?;
+    insert_tree(alloc, &mut store, 11, &[("40000 e", 10)])?;
+    for (entries, expected) in cases {
+        insert_tree(alloc, &mut store, 10, entries)?;
+        let told = recorded(alloc, order, &store)?;
+        if told.as_str() != *expected {
+            return Err(Fail::new(
+                format_args!("recorded was {told}, but {expected} was expected"),
+            ));
+        }
+    }
+    Ok(())
 }
 
 #[test]
 fn paths_in_depth(rt: HostRuntime) -> Result<(), Fail> {
-    let mut store = sample(rt.alloc())?;
-    insert_tree(rt.alloc(), &mut store, 11, &[("40000 e", 10)])?;
-    for (entries, paths, end) in [
-        (ROOT.as_slice(), " a d d/x e", None),
-        (&[("40000 d", 13), ("40000 e", 13)], " d d/x e e/x", None),
-        (&[("100644 a/b", 1), ("100644 c", 2)], " a/b a/c", None),
-        (&[("40000 d", 10)], " d", Some(Error::Cycle { oid: id(10) })),
-        (
-            &[("40000 d", 11)],
-            " d d/e",
-            Some(Error::Cycle { oid: id(10) }),
-        ),
-    ] {
-        insert_tree(rt.alloc(), &mut store, 10, entries)?;
-        let found = recorded_in_depth(rt.alloc(), &store, id(10))?;
-        assert_eq!(rt; found.0.as_slice(), paths.as_bytes());
-        assert_eq!(rt; found.1, end);
-    }
-    Ok(())
+    check(
+        rt.alloc(),
+        Order::Depth,
+        &[
+            (&ROOT, " a d d/x e done"),
+            (&[("40000 d", 13), ("40000 e", 13)], " d d/x e e/x done"),
+            (&[("100644 a/b", 1), ("100644 c", 2)], " a/b a/c done"),
+            (&[("40000 d", 10)], " d cycle-10"),
+            (&[("40000 d", 11)], " d d/e cycle-10"),
+        ],
+    )
 }
 
 #[test]
 fn paths_by_levels(rt: HostRuntime) -> Result<(), Fail> {
-    let mut store = sample(rt.alloc())?;
-    insert_tree(rt.alloc(), &mut store, 11, &[("40000 e", 10)])?;
-    for (entries, paths, end) in [
-        (ROOT.as_slice(), " a d e d/x", None),
-        (&[("40000 d", 13), ("40000 e", 13)], " d e d/x e/x", None),
-        (
-            &[("40000 d", 10)],
-            " d d/d",
-            Some(Error::Cycle { oid: id(10) }),
-        ),
-        (
-            &[("40000 d", 11)],
-            " d d/e d/e/d",
-            Some(Error::Cycle { oid: id(11) }),
-        ),
-    ] {
-        insert_tree(rt.alloc(), &mut store, 10, entries)?;
-        let found = recorded_by_levels(rt.alloc(), &store, id(10))?;
-        assert_eq!(rt; found.0.as_slice(), paths.as_bytes());
-        assert_eq!(rt; found.1, end);
-    }
-    Ok(())
+    check(
+        rt.alloc(),
+        Order::Levels,
+        &[
+            (&ROOT, " a d e d/x done"),
+            (&[("40000 d", 13), ("40000 e", 13)], " d e d/x e/x done"),
+            (&[("40000 d", 10)], " d d/d cycle-10"),
+            (&[("40000 d", 11)], " d d/e d/e/d cycle-11"),
+        ],
+    )
 }
 
-#[test]
-fn a_store_that_fails_at_a_tree(rt: HostRuntime) -> Result<(), Fail> {
-    let sample = sample(rt.alloc())?;
+/// What is told where the store fails at the tree `d` of the sample.
+fn recorded_of_failing(alloc: Global, order: Order) -> Result<String, AllocError> {
+    let sample = sample(alloc)?;
     let failing = Failing {
         store: &sample,
         at: id(13),
     };
-    let fault = Some(Error::Find(existing_iter::Error::Store));
-    let found = recorded_in_depth(rt.alloc(), &failing, id(10))?;
-    assert_eq!(rt; found.0.as_slice(), b" a d".as_slice());
-    assert_eq!(rt; found.1, fault);
-    let found = recorded_by_levels(rt.alloc(), &failing, id(10))?;
-    assert_eq!(rt; found.0.as_slice(), b" a d e".as_slice());
-    assert_eq!(rt; found.1, fault);
+    recorded(alloc, order, &failing)
+}
+
+#[test]
+fn a_store_that_fails_at_a_tree(rt: HostRuntime) -> Result<(), Fail> {
+    let told = recorded_of_failing(rt.alloc(), Order::Depth)?;
+    assert_eq!(rt; told.as_str(), " a d store");
+    let told = recorded_of_failing(rt.alloc(), Order::Levels)?;
+    assert_eq!(rt; told.as_str(), " a d e store");
     Ok(())
+}
+
+/// What is told where the root of the sample is cut inside the id of its last entry.
+fn recorded_of_cut(alloc: Global, order: Order) -> Result<String, Fail> {
+    let mut store = sample(alloc)?;
+    let mut bytes = Vec::new(alloc);
+    store.find_kind_into(&id(10), Kind::Tree, &mut bytes)?;
+    bytes.truncate(85);
+    store.insert(id(10), Kind::Tree, &bytes)?;
+    Ok(recorded(alloc, order, &store)?)
 }
 
 #[test]
 fn an_entry_cut_inside_its_id(rt: HostRuntime) -> Result<(), Fail> {
-    let mut store = sample(rt.alloc())?;
-    let mut bytes = Vec::new(rt.alloc());
-    store.find_kind_into(&id(10), Kind::Tree, &mut bytes)?;
-    bytes.truncate(85);
-    store.insert(id(10), Kind::Tree, &bytes)?;
-    let fault = Some(Error::ObjectDecode(decode::Error::EntryId));
-    let found = recorded_in_depth(rt.alloc(), &store, id(10))?;
-    assert_eq!(rt; found.0.as_slice(), b" a d d/x".as_slice());
-    assert_eq!(rt; found.1, fault);
-    let found = recorded_by_levels(rt.alloc(), &store, id(10))?;
-    assert_eq!(rt; found.0.as_slice(), b" a d".as_slice());
-    assert_eq!(rt; found.1, fault);
+    let told = recorded_of_cut(rt.alloc(), Order::Depth)?;
+    assert_eq!(rt; told.as_str(), " a d d/x broken-EntryId");
+    let told = recorded_of_cut(rt.alloc(), Order::Levels)?;
+    assert_eq!(rt; told.as_str(), " a d broken-EntryId");
     Ok(())
+}
+
+/// A recorder that tracks this, behind a walk of the sample in depth.
+fn behind_the_sample(alloc: Global, location: Option<Location>) -> Result<Recorder, Fail> {
+    let store = sample(alloc)?;
+    let mut recorder = Recorder::new(alloc).track_location(location);
+    let end = walk(alloc, Order::Depth, &store, id(10), &mut recorder)?;
+    if end.as_str() != "done" {
+        return Err(Fail::new(format_args!("the walk ended with {end}")));
+    }
+    Ok(recorder)
 }
 
 #[test]
 fn names_alone(rt: HostRuntime) -> Result<(), Fail> {
-    let store = sample(rt.alloc())?;
-    let mut recorder = Recorder::new(rt.alloc()).track_location(Some(Location::FileName));
-    let end = depth(rt.alloc(), &store, id(10), &mut recorder)?;
-    assert_eq!(rt; end, None);
-    let found = paths(rt.alloc(), &recorder)?;
-    assert_eq!(rt; found.as_slice(), b" a d x e".as_slice());
+    let recorder = behind_the_sample(rt.alloc(), Some(Location::FileName))?;
+    let paths = paths(rt.alloc(), &recorder)?;
+    assert_eq!(rt; paths.as_str(), " a d x e");
     assert_eq!(rt; recorder.path().as_bytes(), b"e".as_slice());
     let path = recorder.path_clone()?;
     assert_eq!(rt; path.as_bytes(), b"e".as_slice());
@@ -145,60 +147,74 @@ fn names_alone(rt: HostRuntime) -> Result<(), Fail> {
 
 #[test]
 fn nothing_tracked(rt: HostRuntime) -> Result<(), Fail> {
-    let store = sample(rt.alloc())?;
-    let mut recorder = Recorder::new(rt.alloc()).track_location(None);
-    let end = depth(rt.alloc(), &store, id(10), &mut recorder)?;
-    assert_eq!(rt; end, None);
-    let found = paths(rt.alloc(), &recorder)?;
-    assert_eq!(rt; found.as_slice(), b"    ".as_slice());
+    let recorder = behind_the_sample(rt.alloc(), None)?;
+    let paths = paths(rt.alloc(), &recorder)?;
+    assert_eq!(rt; paths.as_str(), "    ");
     Ok(())
+}
+
+/// What is told where a recorder has been through the sample before.
+fn recorded_again(alloc: Global, order: Order) -> Result<String, AllocError> {
+    let store = sample(alloc)?;
+    let mut recorder = Recorder::new(alloc);
+    walk(alloc, order, &store, id(10), &mut recorder)?;
+    told(alloc, order, &store, id(10), recorder)
 }
 
 #[test]
 fn a_recorder_used_again(rt: HostRuntime) -> Result<(), Fail> {
-    let store = sample(rt.alloc())?;
-    let mut recorder = Recorder::new(rt.alloc());
-    let end = levels(rt.alloc(), &store, id(10), &mut recorder)?;
-    assert_eq!(rt; end, None);
-    let end = levels(rt.alloc(), &store, id(10), &mut recorder)?;
-    assert_eq!(rt; end, None);
-    let found = paths(rt.alloc(), &recorder)?;
-    assert_eq!(rt;
-        found.as_slice(),
-        b" a d e d/x d/a d/d d/e d/d/x".as_slice()
-    );
+    let told = recorded_again(rt.alloc(), Order::Levels)?;
+    assert_eq!(rt; told.as_str(), " a d e d/x d/a d/d d/e d/d/x done");
     Ok(())
+}
+
+/// The sample, and the tree of a 32-byte id that holds a file `x`, cut to this many bytes.
+fn both_kinds(alloc: Global, len: usize) -> Result<MemoryStore, AllocError> {
+    let mut store = sample(alloc)?;
+    let mut bytes = Vec::new(alloc);
+    bytes.extend_from_slice(b"100644 x\0")?;
+    bytes.extend_from_slice(long_id(2).as_bytes())?;
+    bytes.truncate(len);
+    store.insert(long_id(12), Kind::Tree, &bytes)?;
+    Ok(store)
+}
+
+/// A recorder behind walks of these trees in depth, all with one state.
+fn behind_all<F: Find>(
+    alloc: Global,
+    store: &F,
+    roots: &[ObjectId],
+) -> Result<Recorder, Fail> {
+    let mut state = State::new(alloc);
+    let mut recorder = Recorder::new(alloc);
+    for root in roots {
+        depthfirst(alloc, *root, &mut state, store, &mut recorder)?;
+    }
+    Ok(recorder)
 }
 
 #[test]
 fn ids_of_both_kinds(rt: HostRuntime) -> Result<(), Fail> {
-    let mut store = sample(rt.alloc())?;
-    let mut bytes = Vec::new(rt.alloc());
-    bytes.extend_from_slice(b"100644 x\0")?;
-    bytes.extend_from_slice(long_id(2).as_bytes())?;
-    store.insert(long_id(12), Kind::Tree, &bytes)?;
-    let mut state = State::new(rt.alloc());
-    let mut recorder = Recorder::new(rt.alloc());
-    depthfirst(rt.alloc(), id(10), &mut state, &store, &mut recorder)?;
-    depthfirst(rt.alloc(), long_id(12), &mut state, &store, &mut recorder)?;
-    let found = paths(rt.alloc(), &recorder)?;
-    assert_eq!(rt; found.as_slice(), b" a d d/x e x".as_slice());
+    let store = both_kinds(rt.alloc(), 41)?;
+    let mut recorder = behind_all(rt.alloc(), &store, &[id(10), long_id(12)])?;
+    let paths = paths(rt.alloc(), &recorder)?;
+    assert_eq!(rt; paths.as_str(), " a d d/x e x");
     let last = recorder.records.pop().ok_or("nothing")?;
     assert_eq!(rt; last.oid, long_id(2));
+    Ok(())
+}
 
-    bytes.truncate(40);
-    store.insert(long_id(12), Kind::Tree, &bytes)?;
-    let end = depth(rt.alloc(), &store, long_id(12), &mut recorder)?;
-    assert_eq!(rt; end, Some(Error::ObjectDecode(decode::Error::EntryId)));
+#[test]
+fn a_long_id_cut(rt: HostRuntime) -> Result<(), Fail> {
+    let store = both_kinds(rt.alloc(), 40)?;
+    let told = told(rt.alloc(), Order::Depth, &store, long_id(12), Recorder::new(rt.alloc()))?;
+    assert_eq!(rt; told.as_str(), " broken-EntryId");
     Ok(())
 }
 
 #[test]
 fn entries_are_cloned(rt: HostRuntime) -> Result<(), Fail> {
-    let store = sample(rt.alloc())?;
-    let mut recorder = Recorder::new(rt.alloc());
-    let end = depth(rt.alloc(), &store, id(10), &mut recorder)?;
-    assert_eq!(rt; end, None);
+    let recorder = behind_the_sample(rt.alloc(), Some(Location::Path))?;
     let third = recorder.records.get(2).ok_or("nothing")?;
     let expected = Entry {
         mode: EntryMode { value: 0o100644 },
