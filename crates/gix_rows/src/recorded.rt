@@ -1,6 +1,6 @@
 //! What a recorder holds behind a walk of trees.
 use crate::history::{Failing, id, long_id};
-use crate::trees::{Order, ROOT, end, insert_tree, sample, walk};
+use crate::trees::{Order, ROOT, expect, insert_tree, sample, walk};
 use bstr::BString;
 use gix_parts::hash::ObjectId;
 use gix_parts::object::Kind;
@@ -28,30 +28,27 @@ fn told<F: Find>(
     order: Order,
     store: &F,
     root: ObjectId,
-    mut recorder: Recorder,
+    recorder: &mut Recorder,
 ) -> Result<String, AllocError> {
-    let end = walk(alloc, order, store, root, &mut recorder)?;
-    let paths = paths(alloc, &recorder)?;
+    let end = walk(alloc, order, store, root, recorder)?;
+    let paths = paths(alloc, recorder)?;
     format!(in alloc; "{paths} {end}")
 }
 
 /// The same of a fresh recorder behind a walk of the tree of digit 10.
 fn recorded<F: Find>(alloc: Global, order: Order, store: &F) -> Result<String, AllocError> {
-    told(alloc, order, store, id(10), Recorder::new(alloc))
+    let mut recorder = Recorder::new(alloc);
+    told(alloc, order, store, id(10), &mut recorder)
 }
 
 /// Walks the sample with each of these roots in its place, and compares what is told.
 fn check(alloc: Global, order: Order, cases: &[(&[(&str, u8)], &str)]) -> Result<(), Fail> {
     let mut store = sample(alloc)?;
     insert_tree(alloc, &mut store, 11, &[("40000 e", 10)])?;
-    for (entries, expected) in cases {
+    for (place, (entries, expected)) in cases.iter().enumerate() {
         insert_tree(alloc, &mut store, 10, entries)?;
         let told = recorded(alloc, order, &store)?;
-        if told.as_str() != *expected {
-            return Err(Fail::new(
-                format_args!("recorded was {told}, but {expected} was expected"),
-            ));
-        }
+        expect(place, told.as_str(), expected)?;
     }
     Ok(())
 }
@@ -123,48 +120,45 @@ fn an_entry_cut_inside_its_id(rt: HostRuntime) -> Result<(), Fail> {
     Ok(())
 }
 
-/// A recorder that tracks this, behind a walk of the sample in depth.
-fn behind_the_sample(alloc: Global, location: Option<Location>) -> Result<Recorder, Fail> {
+/// What is told of the sample in depth by a recorder that tracks this, and then its current path and a copy of that.
+fn tracked(alloc: Global, location: Option<Location>) -> Result<(String, String), AllocError> {
     let store = sample(alloc)?;
     let mut recorder = Recorder::new(alloc).track_location(location);
-    let end = walk(alloc, Order::Depth, &store, id(10), &mut recorder)?;
-    if end.as_str() != "done" {
-        return Err(Fail::new(format_args!("the walk ended with {end}")));
-    }
-    Ok(recorder)
+    let told = told(alloc, Order::Depth, &store, id(10), &mut recorder)?;
+    let path = recorder.path_clone()?;
+    let path = format!(in alloc; "{} {path}", recorder.path())?;
+    Ok((told, path))
 }
 
 #[test]
 fn names_alone(rt: HostRuntime) -> Result<(), Fail> {
-    let recorder = behind_the_sample(rt.alloc(), Some(Location::FileName))?;
-    let paths = paths(rt.alloc(), &recorder)?;
-    assert_eq!(rt; paths.as_str(), " a d x e");
-    assert_eq!(rt; recorder.path().as_bytes(), b"e".as_slice());
-    let path = recorder.path_clone()?;
-    assert_eq!(rt; path.as_bytes(), b"e".as_slice());
+    let (told, path) = tracked(rt.alloc(), Some(Location::FileName))?;
+    assert_eq!(rt; told.as_str(), " a d x e done");
+    assert_eq!(rt; path.as_str(), "e e");
     Ok(())
 }
 
 #[test]
 fn nothing_tracked(rt: HostRuntime) -> Result<(), Fail> {
-    let recorder = behind_the_sample(rt.alloc(), None)?;
-    let paths = paths(rt.alloc(), &recorder)?;
-    assert_eq!(rt; paths.as_str(), "    ");
+    let (told, _) = tracked(rt.alloc(), None)?;
+    assert_eq!(rt; told.as_str(), "     done");
     Ok(())
 }
 
-/// What is told where a recorder has been through the sample before.
-fn recorded_again(alloc: Global, order: Order) -> Result<String, AllocError> {
+/// What is told by a recorder that goes through the sample by levels, and through it again.
+fn recorded_twice(alloc: Global) -> Result<(String, String), AllocError> {
     let store = sample(alloc)?;
     let mut recorder = Recorder::new(alloc);
-    walk(alloc, order, &store, id(10), &mut recorder)?;
-    told(alloc, order, &store, id(10), recorder)
+    let first = told(alloc, Order::Levels, &store, id(10), &mut recorder)?;
+    let second = told(alloc, Order::Levels, &store, id(10), &mut recorder)?;
+    Ok((first, second))
 }
 
 #[test]
 fn a_recorder_used_again(rt: HostRuntime) -> Result<(), Fail> {
-    let told = recorded_again(rt.alloc(), Order::Levels)?;
-    assert_eq!(rt; told.as_str(), " a d e d/x d/a d/d d/e d/d/x done");
+    let (first, second) = recorded_twice(rt.alloc())?;
+    assert_eq!(rt; first.as_str(), " a d e d/x done");
+    assert_eq!(rt; second.as_str(), " a d e d/x d/a d/d d/e d/d/x done");
     Ok(())
 }
 
@@ -179,52 +173,62 @@ fn both_kinds(alloc: Global, len: usize) -> Result<MemoryStore, AllocError> {
     Ok(store)
 }
 
-/// A recorder behind walks of these trees in depth, all with one state.
-fn behind_all<F: Find>(
-    alloc: Global,
-    store: &F,
-    roots: &[ObjectId],
-) -> Result<Recorder, Fail> {
+/// The paths that are recorded in depth of the sample and then of the tree of a long id, with one state, and the last entry's
+/// id.
+fn recorded_of_both<F: Find>(alloc: Global, store: &F) -> Result<(String, ObjectId), Fail> {
     let mut state = State::new(alloc);
     let mut recorder = Recorder::new(alloc);
-    for root in roots {
-        depthfirst(alloc, *root, &mut state, store, &mut recorder)?;
-    }
-    Ok(recorder)
+    depthfirst(alloc, id(10), &mut state, store, &mut recorder)?;
+    depthfirst(alloc, long_id(12), &mut state, store, &mut recorder)?;
+    let paths = paths(alloc, &recorder)?;
+    let last = recorder.records.pop().ok_or("nothing")?;
+    Ok((paths, last.oid))
 }
 
 #[test]
 fn ids_of_both_kinds(rt: HostRuntime) -> Result<(), Fail> {
     let store = both_kinds(rt.alloc(), 41)?;
-    let mut recorder = behind_all(rt.alloc(), &store, &[id(10), long_id(12)])?;
-    let paths = paths(rt.alloc(), &recorder)?;
+    let (paths, last) = recorded_of_both(rt.alloc(), &store)?;
     assert_eq!(rt; paths.as_str(), " a d d/x e x");
-    let last = recorder.records.pop().ok_or("nothing")?;
-    assert_eq!(rt; last.oid, long_id(2));
+    assert_eq!(rt; last, long_id(2));
     Ok(())
 }
 
 #[test]
 fn a_long_id_cut(rt: HostRuntime) -> Result<(), Fail> {
     let store = both_kinds(rt.alloc(), 40)?;
-    let told = told(rt.alloc(), Order::Depth, &store, long_id(12), Recorder::new(rt.alloc()))?;
+    let mut recorder = Recorder::new(rt.alloc());
+    let told = told(rt.alloc(), Order::Depth, &store, long_id(12), &mut recorder)?;
     assert_eq!(rt; told.as_str(), " broken-EntryId");
     Ok(())
 }
 
+/// The entries that are recorded of the sample in depth.
+fn entries(alloc: Global) -> Result<Vec<Entry>, AllocError> {
+    let store = sample(alloc)?;
+    let mut recorder = Recorder::new(alloc);
+    told(alloc, Order::Depth, &store, id(10), &mut recorder)?;
+    Ok(recorder.records)
+}
+
+/// The third of them.
+fn third(alloc: Global) -> Result<Entry, AllocError> {
+    Ok(Entry {
+        mode: EntryMode { value: 0o100644 },
+        filepath: BString::from_slice(alloc, b"d/x".as_slice())?,
+        oid: id(2),
+    })
+}
+
 #[test]
 fn entries_are_cloned(rt: HostRuntime) -> Result<(), Fail> {
-    let recorder = behind_the_sample(rt.alloc(), Some(Location::Path))?;
-    let third = recorder.records.get(2).ok_or("nothing")?;
-    let expected = Entry {
-        mode: EntryMode { value: 0o100644 },
-        filepath: BString::from_slice(rt.alloc(), b"d/x".as_slice())?,
-        oid: id(2),
-    };
-    assert_eq!(rt; *third, expected);
-    let same = third.clone()?;
-    assert_eq!(rt; same, expected);
-    let first = recorder.records.get(0).ok_or("nothing")?;
+    let expected = third(rt.alloc())?;
+    let entries = entries(rt.alloc())?;
+    let found = entries.get(2).ok_or("nothing")?;
+    assert!(rt; *found == expected);
+    let same = found.clone()?;
+    assert!(rt; same == expected);
+    let first = entries.get(0).ok_or("nothing")?;
     assert!(rt; *first != expected);
     Ok(())
 }

@@ -1,6 +1,6 @@
 //! The calls of the walks of trees on a delegate.
 use crate::history::id;
-use crate::trees::{Order, ROOT, Scripted, insert_tree, sample, walk};
+use crate::trees::{Order, ROOT, Scripted, expect, insert_tree, sample, walk};
 use gix_parts::object::Kind;
 use gix_parts::object::find::Find;
 use gix_parts::object::memory::MemoryStore;
@@ -28,18 +28,29 @@ fn told<F: Find>(
     format!(in alloc; "{}\n{end}", delegate.calls())
 }
 
-/// Walks the sample for each case, and compares what is told.
-fn check(alloc: Global, order: Order, cases: &[(&str, Action, &str)]) -> Result<(), Fail> {
-    let store = sample(alloc)?;
-    for (at, answer, expected) in cases {
-        let told = told(alloc, order, &store, at, *answer)?;
-        if told.as_str() != *expected {
-            return Err(Fail::new(
-                format_args!("{answer:?} at {at:?} tells {told}, but {expected} was expected"),
-            ));
-        }
+/// A walk: its order, the answer that is given and the name at whose entry, and what is told.
+type Case<'a> = (Order, &'a str, Action, &'a str);
+
+/// Walks this store for each case, and compares what is told.
+fn check<F: Find>(alloc: Global, store: &F, cases: &[Case<'_>]) -> Result<(), Fail> {
+    for (place, (order, at, answer, expected)) in cases.iter().enumerate() {
+        let told = told(alloc, *order, store, at, *answer)?;
+        expect(place, told.as_str(), expected)?;
     }
     Ok(())
+}
+
+/// The same of the sample.
+fn check_sample(alloc: Global, cases: &[Case<'_>]) -> Result<(), Fail> {
+    let store = sample(alloc)?;
+    check(alloc, &store, cases)
+}
+
+/// The same of a store that holds one tree.
+fn check_alone(alloc: Global, entries: &[(&str, u8)], cases: &[Case<'_>]) -> Result<(), Fail> {
+    let mut store = MemoryStore::new(alloc);
+    insert_tree(alloc, &mut store, 10, entries)?;
+    check(alloc, &store, cases)
 }
 
 const LEVELS: &str = "
@@ -67,15 +78,14 @@ cancelled";
 
 #[test]
 fn levels_of_the_sample(rt: HostRuntime) -> Result<(), Fail> {
-    check(
+    check_sample(
         rt.alloc(),
-        Order::Levels,
         &[
-            ("", INTO, LEVELS),
-            ("d", PAST, LEVELS_WITHOUT_D),
-            ("a", PAST, LEVELS),
-            ("d", BREAK, LEVELS_UP_TO_D),
-            ("a", BREAK, LEVELS_UP_TO_A),
+            (Order::Levels, "", INTO, LEVELS),
+            (Order::Levels, "d", PAST, LEVELS_WITHOUT_D),
+            (Order::Levels, "a", PAST, LEVELS),
+            (Order::Levels, "d", BREAK, LEVELS_UP_TO_D),
+            (Order::Levels, "a", BREAK, LEVELS_UP_TO_A),
         ],
     )
 }
@@ -111,91 +121,101 @@ done";
 
 #[test]
 fn depth_of_the_sample(rt: HostRuntime) -> Result<(), Fail> {
-    check(
+    check_sample(
         rt.alloc(),
-        Order::Depth,
         &[
-            ("", INTO, DEPTH),
-            ("d", PAST, DEPTH_WITHOUT_D),
-            ("a", PAST, DEPTH),
-            ("d", BREAK, DEPTH_UP_TO_D),
-            ("a", BREAK, DEPTH_UP_TO_A),
+            (Order::Depth, "", INTO, DEPTH),
+            (Order::Depth, "d", PAST, DEPTH_WITHOUT_D),
+            (Order::Depth, "a", PAST, DEPTH),
+            (Order::Depth, "d", BREAK, DEPTH_UP_TO_D),
+            (Order::Depth, "a", BREAK, DEPTH_UP_TO_A),
         ],
     )
 }
 
-/// What is told of a store that holds one tree.
-fn told_of(
-    alloc: Global,
-    order: Order,
-    entries: &[(&str, u8)],
-    at: &str,
-    answer: Action,
-) -> Result<String, AllocError> {
-    let mut store = MemoryStore::new(alloc);
-    insert_tree(alloc, &mut store, 10, entries)?;
-    told(alloc, order, &store, at, answer)
-}
-
-#[test]
-fn a_missing_tree(rt: HostRuntime) -> Result<(), Fail> {
-    let told = told_of(rt.alloc(), Order::Levels, &ROOT, "", INTO)?;
-    let calls = "
+const LEVELS_MISSING_D: &str = "
 push_path(a) nontree(a) pop_path
 push_path(d) tree(d) pop_path push_back(d) pop_path
 push_path(e) nontree(e) pop_path
 pop_front
 missing-13";
-    assert_eq!(rt; told.as_str(), calls);
 
-    let told = told_of(rt.alloc(), Order::Depth, &ROOT, "", INTO)?;
-    let calls = "
+const DEPTH_MISSING_D: &str = "
 pop_back
 push_path(a) nontree(a) pop_path
 push_path(d) tree(d) pop_path push_back() push_back(d)
 missing-13";
-    assert_eq!(rt; told.as_str(), calls);
-    Ok(())
+
+#[test]
+fn a_missing_tree(rt: HostRuntime) -> Result<(), Fail> {
+    check_alone(
+        rt.alloc(),
+        &ROOT,
+        &[
+            (Order::Levels, "", INTO, LEVELS_MISSING_D),
+            (Order::Depth, "", INTO, DEPTH_MISSING_D),
+        ],
+    )
+}
+
+/// A store whose root is no tree.
+fn blob(alloc: Global) -> Result<MemoryStore, AllocError> {
+    let mut store = MemoryStore::new(alloc);
+    store.insert(id(10), Kind::Blob, b"100644 a")?;
+    Ok(store)
 }
 
 #[test]
 fn a_root_that_is_no_tree(rt: HostRuntime) -> Result<(), Fail> {
-    let mut store = MemoryStore::new(rt.alloc());
-    store.insert(id(10), Kind::Blob, b"100644 a")?;
-    let told = told(rt.alloc(), Order::Depth, &store, "", INTO)?;
-    assert_eq!(rt; told.as_str(), "\nBlob-10-for-Tree");
-    Ok(())
+    let store = blob(rt.alloc())?;
+    check(
+        rt.alloc(),
+        &store,
+        &[(Order::Depth, "", INTO, "\nBlob-10-for-Tree")],
+    )
 }
 
-/// The tree that stands under itself.
+/// The one entry of a tree that stands under itself.
 const CYCLE: [(&str, u8); 1] = [("40000 d", 10)];
 
-#[test]
-fn a_tree_under_itself(rt: HostRuntime) -> Result<(), Fail> {
-    let told = told_of(rt.alloc(), Order::Levels, &CYCLE, "", INTO)?;
-    let calls = "
+const LEVELS_OF_CYCLE: &str = "
 push_path(d) tree(d) pop_path push_back(d) pop_path
 pop_front
 push_path(d) tree(d)
 cycle-10";
-    assert_eq!(rt; told.as_str(), calls);
 
-    let told = told_of(rt.alloc(), Order::Depth, &CYCLE, "", INTO)?;
-    let calls = "
+const DEPTH_OF_CYCLE: &str = "
 pop_back
 push_path(d) tree(d) pop_path
 cycle-10";
-    assert_eq!(rt; told.as_str(), calls);
-    Ok(())
+
+#[test]
+fn a_tree_under_itself(rt: HostRuntime) -> Result<(), Fail> {
+    check_alone(
+        rt.alloc(),
+        &CYCLE,
+        &[
+            (Order::Levels, "", INTO, LEVELS_OF_CYCLE),
+            (Order::Depth, "", INTO, DEPTH_OF_CYCLE),
+        ],
+    )
 }
+
+const DEPTH_BEFORE_CYCLE: &str = "
+pop_back
+push_path(d) tree(d) pop_path
+done";
 
 #[test]
 fn a_break_goes_before_a_cycle(rt: HostRuntime) -> Result<(), Fail> {
-    for answer in [BREAK, PAST] {
-        let told = told_of(rt.alloc(), Order::Depth, &CYCLE, "d", answer)?;
-        assert!(rt; told.as_str().ends_with("\ndone"));
-    }
-    Ok(())
+    check_alone(
+        rt.alloc(),
+        &CYCLE,
+        &[
+            (Order::Depth, "d", BREAK, DEPTH_BEFORE_CYCLE),
+            (Order::Depth, "d", PAST, DEPTH_BEFORE_CYCLE),
+        ],
+    )
 }
 
 #[test]

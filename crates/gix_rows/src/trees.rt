@@ -12,6 +12,7 @@ use gix_traverse::tree::depthfirst::{self, depthfirst};
 use gix_traverse::tree::visit::{Action, Visit};
 use std::alloc::{AllocError, Global};
 use std::ops::ControlFlow;
+use std::test::Fail;
 
 /// The entries of the sample's root: a file `a`, a tree `d`, and a file `e`.
 pub const ROOT: [(&str, u8); 3] = [("100644 a", 1), ("40000 d", 13), ("100644 e", 3)];
@@ -150,8 +151,8 @@ fn levels<F: Find, V: Visit>(
     breadthfirst(alloc, entries, &mut state, store, delegate)
 }
 
-/// The word for what a walk answered. Want of memory stays want of memory.
-pub fn end(alloc: Global, answer: Result<(), Error>) -> Result<String, AllocError> {
+// The word for what a walk answered. Want of memory stays want of memory.
+fn end(alloc: Global, answer: Result<(), Error>) -> Result<String, AllocError> {
     match answer {
         Ok(()) => String::from_str(alloc, "done"),
         Err(Error::Find(error)) => not_found(alloc, &error),
@@ -160,4 +161,14 @@ pub fn end(alloc: Global, answer: Result<(), Error>) -> Result<String, AllocErro
         Err(Error::Cycle { oid }) => format!(in alloc; "cycle-{}", digit(&oid)),
         Err(Error::Memory) => Err(AllocError),
     }
+}
+
+/// Fails unless a case, which is named by its place, tells what was expected.
+pub fn expect(case: usize, told: &str, expected: &str) -> Result<(), Fail> {
+    if told != expected {
+        return Err(Fail::new(
+            format_args!("case {case} told {told}, but was expected to tell {expected}"),
+        ));
+    }
+    Ok(())
 }
