@@ -1,6 +1,6 @@
 //! What a recorder holds behind a walk of trees.
 use crate::history::{Failing, id, long_id};
-use crate::trees::{Order, ROOT, expect, insert_tree, sample, walk};
+use crate::trees::{Order, ROOT, expect, insert_tree, sample, walk, walk_with};
 use bstr::BString;
 use gix_parts::hash::ObjectId;
 use gix_parts::object::Kind;
@@ -8,7 +8,7 @@ use gix_parts::object::find::Find;
 use gix_parts::object::memory::MemoryStore;
 use gix_parts::object::tree::EntryMode;
 use gix_traverse::tree::Recorder;
-use gix_traverse::tree::depthfirst::{State, depthfirst};
+use gix_traverse::tree::depthfirst::State;
 use gix_traverse::tree::recorder::{Entry, Location};
 use std::alloc::{AllocError, Global};
 use std::test::Fail;
@@ -173,23 +173,22 @@ fn both_kinds(alloc: Global, len: usize) -> Result<MemoryStore, AllocError> {
     Ok(store)
 }
 
-/// The paths that are recorded in depth of the sample and then of the tree of a long id, with one state, and the last entry's
-/// id.
+/// What is told of the sample and then of the tree of a long id, in depth with one state, and the id of the last entry.
 fn recorded_of_both<F: Find>(alloc: Global, store: &F) -> Result<(String, ObjectId), Fail> {
     let mut state = State::new(alloc);
     let mut recorder = Recorder::new(alloc);
-    depthfirst(alloc, id(10), &mut state, store, &mut recorder)?;
-    depthfirst(alloc, long_id(12), &mut state, store, &mut recorder)?;
+    let first = walk_with(alloc, &mut state, store, id(10), &mut recorder)?;
+    let second = walk_with(alloc, &mut state, store, long_id(12), &mut recorder)?;
     let paths = paths(alloc, &recorder)?;
-    let last = recorder.records.pop().ok_or("nothing")?;
-    Ok((paths, last.oid))
+    let last = recorder.records.last().ok_or("nothing")?;
+    Ok((format!(in alloc; "{paths} {first} {second}")?, last.oid))
 }
 
 #[test]
 fn ids_of_both_kinds(rt: HostRuntime) -> Result<(), Fail> {
     let store = both_kinds(rt.alloc(), 41)?;
-    let (paths, last) = recorded_of_both(rt.alloc(), &store)?;
-    assert_eq!(rt; paths.as_str(), " a d d/x e x");
+    let (told, last) = recorded_of_both(rt.alloc(), &store)?;
+    assert_eq!(rt; told.as_str(), " a d d/x e x done done");
     assert_eq!(rt; last, long_id(2));
     Ok(())
 }

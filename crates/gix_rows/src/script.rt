@@ -12,7 +12,9 @@ use std::test::Fail;
 
 // What the delegate answers at one entry.
 const INTO: Action = ControlFlow::Continue(true);
+
 const PAST: Action = ControlFlow::Continue(false);
+
 const BREAK: Action = ControlFlow::Break(());
 
 /// The calls on a delegate that answers this at this name, and a last line that says how the walk ended.

@@ -8,7 +8,7 @@ use gix_parts::object::find::Find;
 use gix_parts::object::memory::MemoryStore;
 use gix_parts::object::tree::EntryRef;
 use gix_traverse::tree::breadthfirst::{self, Error, breadthfirst};
-use gix_traverse::tree::depthfirst::{self, depthfirst};
+use gix_traverse::tree::depthfirst::{State, depthfirst};
 use gix_traverse::tree::visit::{Action, Visit};
 use std::alloc::{AllocError, Global};
 use std::ops::ControlFlow;
@@ -128,14 +128,24 @@ pub fn walk<F: Find, V: Visit>(
     root: ObjectId,
     delegate: &mut V,
 ) -> Result<String, AllocError> {
-    let answer = match order {
-        Order::Levels => levels(alloc, store, root, delegate),
+    match order {
+        Order::Levels => end(alloc, levels(alloc, store, root, delegate)),
         Order::Depth => {
-            let mut state = depthfirst::State::new(alloc);
-            depthfirst(alloc, root, &mut state, store, delegate)
+            let mut state = State::new(alloc);
+            walk_with(alloc, &mut state, store, root, delegate)
         }
-    };
-    end(alloc, answer)
+    }
+}
+
+/// Walks in depth with a state that other walks may have had.
+pub fn walk_with<F: Find, V: Visit>(
+    alloc: Global,
+    state: &mut State,
+    store: &F,
+    root: ObjectId,
+    delegate: &mut V,
+) -> Result<String, AllocError> {
+    end(alloc, depthfirst(alloc, root, state, store, delegate))
 }
 
 // The root is looked up here, since a walk by levels is given its entries.
@@ -166,9 +176,9 @@ fn end(alloc: Global, answer: Result<(), Error>) -> Result<String, AllocError> {
 /// Fails unless a case, which is named by its place, tells what was expected.
 pub fn expect(case: usize, told: &str, expected: &str) -> Result<(), Fail> {
     if told != expected {
-        return Err(Fail::new(
-            format_args!("case {case} told {told}, but was expected to tell {expected}"),
-        ));
+        return Err(Fail::new(format_args!(
+            "case {case} told {told}, but was expected to tell {expected}"
+        )));
     }
     Ok(())
 }
