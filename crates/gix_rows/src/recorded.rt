@@ -120,14 +120,18 @@ fn an_entry_cut_inside_its_id(rt: HostRuntime) -> Result<(), Fail> {
     Ok(())
 }
 
-/// What is told of the sample in depth by a recorder that tracks this, and then its current path and a copy of that.
+/// The current path, and a copy of it.
+fn path(alloc: Global, recorder: &Recorder) -> Result<String, AllocError> {
+    let copy = recorder.path_clone()?;
+    format!(in alloc; "{} {copy}", recorder.path())
+}
+
+/// What is told of the sample in depth by a recorder that tracks this, and then its current path.
 fn tracked(alloc: Global, location: Option<Location>) -> Result<(String, String), AllocError> {
     let store = sample(alloc)?;
     let mut recorder = Recorder::new(alloc).track_location(location);
     let told = told(alloc, Order::Depth, &store, id(10), &mut recorder)?;
-    let path = recorder.path_clone()?;
-    let path = format!(in alloc; "{} {path}", recorder.path())?;
-    Ok((told, path))
+    Ok((told, path(alloc, &recorder)?))
 }
 
 #[test]
@@ -173,15 +177,25 @@ fn both_kinds(alloc: Global, len: usize) -> Result<MemoryStore, AllocError> {
     Ok(store)
 }
 
-/// What is told of the sample and then of the tree of a long id, in depth with one state, and the id of the last entry.
-fn recorded_of_both<F: Find>(alloc: Global, store: &F) -> Result<(String, ObjectId), Fail> {
+/// What is told of the sample and then of the tree of a long id, in depth with one state.
+fn told_of_both<F: Find>(
+    alloc: Global,
+    store: &F,
+    recorder: &mut Recorder,
+) -> Result<String, AllocError> {
     let mut state = State::new(alloc);
+    let first = walk_with(alloc, &mut state, store, id(10), recorder)?;
+    let second = walk_with(alloc, &mut state, store, long_id(12), recorder)?;
+    let paths = paths(alloc, recorder)?;
+    format!(in alloc; "{paths} {first} {second}")
+}
+
+/// The same with a fresh recorder, and the id of its last entry.
+fn recorded_of_both<F: Find>(alloc: Global, store: &F) -> Result<(String, ObjectId), Fail> {
     let mut recorder = Recorder::new(alloc);
-    let first = walk_with(alloc, &mut state, store, id(10), &mut recorder)?;
-    let second = walk_with(alloc, &mut state, store, long_id(12), &mut recorder)?;
-    let paths = paths(alloc, &recorder)?;
+    let told = told_of_both(alloc, store, &mut recorder)?;
     let last = recorder.records.last().ok_or("nothing")?;
-    Ok((format!(in alloc; "{paths} {first} {second}")?, last.oid))
+    Ok((told, last.oid))
 }
 
 #[test]
