@@ -1,5 +1,6 @@
-//! Trees to walk, and a delegate that writes its calls down.
-use crate::history::id;
+//! Trees to walk, their walks, and a delegate that writes its calls down.
+use crate::history::{digit, id};
+use crate::words::{broken, not_found};
 use bstr::BStr;
 use gix_parts::hash::ObjectId;
 use gix_parts::object::Kind;
@@ -7,7 +8,7 @@ use gix_parts::object::find::Find;
 use gix_parts::object::memory::MemoryStore;
 use gix_parts::object::tree::EntryRef;
 use gix_traverse::tree::breadthfirst::{self, Error, breadthfirst};
-use gix_traverse::tree::depthfirst::{self, depthfirst};
+use gix_traverse::tree::depthfirst::{State, depthfirst};
 use gix_traverse::tree::visit::{Action, Visit};
 use std::alloc::{AllocError, Global};
 use std::ops::ControlFlow;
@@ -44,8 +45,8 @@ pub fn sample(alloc: Global) -> Result<MemoryStore, AllocError> {
 /// is put behind the path, and where a tree is turned to. It answers `Continue(true)`, but at the entry of one name.
 #[derive(Drop)]
 pub struct Scripted<'a> {
-    calls: Vec<u8>,
-    at: &'a [u8],
+    calls: String,
+    at: &'a str,
     answer: Action,
 }
 
@@ -53,30 +54,23 @@ impl<'a> Scripted<'a> {
     /// It answers this at the entry of this name. The memory for its words is taken here.
     pub fn new(alloc: Global, at: &'a str, answer: Action) -> Result<Scripted<'a>, AllocError> {
         Ok(Scripted {
-            calls: Vec::with_capacity(alloc, 512)?,
-            at: at.as_bytes(),
+            calls: String::with_capacity(alloc, 512)?,
+            at,
             answer,
         })
     }
 
     /// The calls so far.
-    pub fn calls(&self) -> &[u8] {
-        &self.calls
-    }
-
-    fn write(&mut self, word: &str) -> Result<(), AllocError> {
-        Ok(self.calls.extend_from_slice(word.as_bytes())?)
+    pub fn calls(&self) -> &str {
+        self.calls.as_str()
     }
 
     fn write_with(&mut self, word: &str, name: &BStr<'_>) -> Result<(), AllocError> {
-        self.write(word)?;
-        self.calls.push(b'(')?;
-        self.calls.extend_from_slice(name.as_bytes())?;
-        Ok(self.calls.push(b')')?)
+        write!(self.calls, "{word}({name})")
     }
 
     fn answer(&self, entry: &EntryRef<'_>) -> Action {
-        if entry.filename.as_bytes() == self.at {
+        if entry.filename.as_bytes() == self.at.as_bytes() {
             self.answer
         } else {
             ControlFlow::Continue(true)
@@ -89,15 +83,15 @@ impl Visit for Scripted<'_> {
     ghost steps = { λ _ _ _. Unit {0} };
 
     fn pop_back_tracked_path_and_set_current(&mut self) {
-        let _ = self.write("\npop_back");
+        let _ = self.calls.push_str("\npop_back");
     }
 
     fn pop_front_tracked_path_and_set_current(&mut self) {
-        let _ = self.write("\npop_front");
+        let _ = self.calls.push_str("\npop_front");
     }
 
     fn pop_path_component(&mut self) {
-        let _ = self.write(" pop_path");
+        let _ = self.calls.push_str(" pop_path");
     }
 
     fn push_back_tracked_path_component(&mut self, component: &BStr<'_>) -> Result<(), AllocError> {
@@ -119,34 +113,72 @@ impl Visit for Scripted<'_> {
     }
 }
 
-/// Walks a tree breadth first. Some is why the walk ended before all was shown, but for want of memory.
-pub fn levels<F: Find, V: Visit>(
+/// The order of a walk: all entries of a tree before those of the trees in it, or each tree right behind its entry.
+#[derive(Clone, Copy)]
+pub enum Order {
+    Levels,
+    Depth,
+}
+
+/// Walks the tree of this id, and says in a word how the walk ended: `done`, or why not all was shown.
+pub fn walk<F: Find, V: Visit>(
+    alloc: Global,
+    order: Order,
+    store: &F,
+    root: ObjectId,
+    delegate: &mut V,
+) -> Result<String, AllocError> {
+    match order {
+        Order::Levels => end(alloc, levels(alloc, store, root, delegate)),
+        Order::Depth => {
+            let mut state = State::new(alloc);
+            walk_with(alloc, &mut state, store, root, delegate)
+        }
+    }
+}
+
+/// Walks in depth with a state that other walks may have had.
+pub fn walk_with<F: Find, V: Visit>(
+    alloc: Global,
+    state: &mut State,
+    store: &F,
+    root: ObjectId,
+    delegate: &mut V,
+) -> Result<String, AllocError> {
+    end(alloc, depthfirst(alloc, root, state, store, delegate))
+}
+
+// The root is looked up here, since a walk by levels is given its entries.
+fn levels<F: Find, V: Visit>(
     alloc: Global,
     store: &F,
     root: ObjectId,
     delegate: &mut V,
-) -> Result<Option<Error>, Fail> {
+) -> Result<(), Error> {
     let mut bytes = Vec::new(alloc);
     let entries = store.find_tree_iter(&root, &mut bytes)?;
     let mut state = breadthfirst::State::new(alloc);
-    fault(breadthfirst(alloc, entries, &mut state, store, delegate))
+    breadthfirst(alloc, entries, &mut state, store, delegate)
 }
 
-/// Walks a tree in depth, with the same answers.
-pub fn depth<F: Find, V: Visit>(
-    alloc: Global,
-    store: &F,
-    root: ObjectId,
-    delegate: &mut V,
-) -> Result<Option<Error>, Fail> {
-    let mut state = depthfirst::State::new(alloc);
-    fault(depthfirst(alloc, root, &mut state, store, delegate))
-}
-
-fn fault(answer: Result<(), Error>) -> Result<Option<Error>, Fail> {
+// The word for what a walk answered. Want of memory stays want of memory.
+fn end(alloc: Global, answer: Result<(), Error>) -> Result<String, AllocError> {
     match answer {
-        Ok(()) => Ok(None),
-        Err(Error::Memory) => Err(Fail::from(AllocError)),
-        Err(error) => Ok(Some(error)),
+        Ok(()) => String::from_str(alloc, "done"),
+        Err(Error::Find(error)) => not_found(alloc, &error),
+        Err(Error::Cancelled) => String::from_str(alloc, "cancelled"),
+        Err(Error::ObjectDecode(error)) => broken(alloc, &error),
+        Err(Error::Cycle { oid }) => format!(in alloc; "cycle-{}", digit(&oid)),
+        Err(Error::Memory) => Err(AllocError),
     }
+}
+
+/// Fails unless a case, which is named by its place, tells what was expected.
+pub fn expect(case: usize, told: &str, expected: &str) -> Result<(), Fail> {
+    if told != expected {
+        return Err(Fail::new(format_args!(
+            "case {case} told {told}, but was expected to tell {expected}"
+        )));
+    }
+    Ok(())
 }
