@@ -8,6 +8,7 @@ use gix_parts::object::find::{Find, existing_iter};
 use gix_traverse::commit::topo::{Builder, Error, Sorting, Topo};
 use gix_traverse::commit::{Info, Parents, Predicate};
 use std::alloc::{AllocError, Global};
+use std::fmt::Display;
 use std::test::Fail;
 
 /// What is told of each commit that a walk gives.
@@ -194,23 +195,29 @@ fn word(alloc: Global, fault: &Error) -> Result<String, AllocError> {
     match fault {
         Error::Find(error) => not_found(alloc, error),
         Error::ObjectDecode(error) => broken(alloc, error),
+        Error::MissingIndegreeUnexpected => format!(in alloc; "no-indegree"),
+        Error::MissingStateUnexpected => format!(in alloc; "no-state"),
         Error::Memory => Err(AllocError),
-        _ => format!(in alloc; "{fault:?}"),
     }
+}
+
+/// A fault as it prints itself.
+fn printed<D: Display>(alloc: Global, fault: &D) -> Result<String, AllocError> {
+    format!(in alloc; "{fault}")
 }
 
 #[test]
 fn a_fault_says_what_it_holds(rt: HostRuntime) -> Result<(), Fail> {
-    let printed = format!(in rt.alloc(); "{}", Error::MissingIndegreeUnexpected)?;
-    assert_eq!(rt; printed.as_str(), "Indegree information is missing");
-    let printed = format!(in rt.alloc(); "{}", Error::MissingStateUnexpected)?;
-    assert_eq!(rt; printed.as_str(), "Internal state (bitflags) not found");
-    let held = format!(in rt.alloc(); "{}", existing_iter::Error::Store)?;
-    let printed = format!(in rt.alloc(); "{}", Error::from(existing_iter::Error::Store))?;
-    assert_eq!(rt; printed.as_str(), held.as_str());
-    let held = format!(in rt.alloc(); "{}", decode::Error::Parent)?;
-    let printed = format!(in rt.alloc(); "{}", Error::from(decode::Error::Parent))?;
-    assert_eq!(rt; printed.as_str(), held.as_str());
+    let told = printed(rt.alloc(), &Error::MissingIndegreeUnexpected)?;
+    assert_eq!(rt; told.as_str(), "Indegree information is missing");
+    let told = printed(rt.alloc(), &Error::MissingStateUnexpected)?;
+    assert_eq!(rt; told.as_str(), "Internal state (bitflags) not found");
+    let held = printed(rt.alloc(), &existing_iter::Error::Store)?;
+    let told = printed(rt.alloc(), &Error::from(existing_iter::Error::Store))?;
+    assert_eq!(rt; told.as_str(), held.as_str());
+    let held = printed(rt.alloc(), &decode::Error::Parent)?;
+    let told = printed(rt.alloc(), &Error::from(decode::Error::Parent))?;
+    assert_eq!(rt; told.as_str(), held.as_str());
     Ok(())
 }
 
