@@ -113,9 +113,7 @@ impl Way<'_> {
 /// Compares what a walk from these tips to these ends told.
 fn same(tips: &[u8], ends: &[u8], told: &str, want: &str) -> Result<(), Fail> {
     if told != want {
-        return Err(Fail::new(
-            format_args!("{tips:?} without {ends:?}: {told}, not {want}"),
-        ));
+        return Err(Fail::new(format_args!("{tips:?} without {ends:?}: {told}, not {want}")));
     }
     Ok(())
 }
