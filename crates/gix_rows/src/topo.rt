@@ -193,28 +193,28 @@ fn word(alloc: Global, fault: &Error) -> Result<String, AllocError> {
     match fault {
         Error::Find(error) => not_found(alloc, error),
         Error::ObjectDecode(error) => broken(alloc, error),
-        Error::MissingIndegreeUnexpected => format!(in alloc; "no-indegree"),
-        Error::MissingStateUnexpected => format!(in alloc; "no-state"),
+        Error::MissingIndegreeUnexpected => String::from_str(alloc, "no-indegree"),
+        Error::MissingStateUnexpected => String::from_str(alloc, "no-state"),
         Error::Memory => Err(AllocError),
     }
 }
 
 /// A fault as it prints itself.
-fn printed<D: Display>(alloc: Global, fault: &D) -> Result<String, AllocError> {
+fn printed<D: Display + Drop>(alloc: Global, fault: D) -> Result<String, AllocError> {
     format!(in alloc; "{fault}")
 }
 
 #[test]
 fn a_fault_says_what_it_holds(rt: HostRuntime) -> Result<(), Fail> {
-    let told = printed(rt.alloc(), &Error::MissingIndegreeUnexpected)?;
+    let told = printed(rt.alloc(), Error::MissingIndegreeUnexpected)?;
     assert_eq!(rt; told.as_str(), "Indegree information is missing");
-    let told = printed(rt.alloc(), &Error::MissingStateUnexpected)?;
+    let told = printed(rt.alloc(), Error::MissingStateUnexpected)?;
     assert_eq!(rt; told.as_str(), "Internal state (bitflags) not found");
-    let held = printed(rt.alloc(), &existing_iter::Error::Store)?;
-    let told = printed(rt.alloc(), &Error::from(existing_iter::Error::Store))?;
+    let held = printed(rt.alloc(), existing_iter::Error::Store)?;
+    let told = printed(rt.alloc(), Error::from(existing_iter::Error::Store))?;
     assert_eq!(rt; told.as_str(), held.as_str());
-    let held = printed(rt.alloc(), &decode::Error::Parent)?;
-    let told = printed(rt.alloc(), &Error::from(decode::Error::Parent))?;
+    let held = printed(rt.alloc(), decode::Error::Parent)?;
+    let told = printed(rt.alloc(), Error::from(decode::Error::Parent))?;
     assert_eq!(rt; told.as_str(), held.as_str());
     Ok(())
 }
