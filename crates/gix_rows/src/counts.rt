@@ -12,14 +12,18 @@ const LOW: Rows<'static> = Rows {
     fault: None,
 };
 
-/// Compares what walks over the sample count by these rows.
-fn counts(alloc: Global, rows: &Rows<'_>, way: Way<'_>, cases: &[Case<'_>]) -> Result<(), Fail> {
-    let way = Way {
+/// The same way by these rows, of which the counts are told.
+fn counting<'a>(rows: &'a Rows<'a>, way: Way<'a>) -> Way<'a> {
+    Way {
         rows: Some(rows),
         telling: Telling::Counts,
         ..way
-    };
-    way.check(alloc, &sample(alloc)?, cases)
+    }
+}
+
+/// Compares what walks over the sample count by these rows.
+fn counts(alloc: Global, rows: &Rows<'_>, way: Way<'_>, cases: &[Case<'_>]) -> Result<(), Fail> {
+    counting(rows, way).check(alloc, &sample(alloc)?, cases)
 }
 
 /// Compares what walks over the sample count by all its rows.
@@ -130,12 +134,7 @@ const OLDEST: Rows<'static> = Rows {
 
 /// Compares what a walk counts over the history that these rows tell.
 fn skewed(alloc: Global, rows: &Rows<'_>, way: Way<'_>, case: Case<'_>) -> Result<(), Fail> {
-    let way = Way {
-        rows: Some(rows),
-        telling: Telling::Counts,
-        ..way
-    };
-    way.check(alloc, &store(alloc, rows.commits)?, &[case])
+    counting(rows, way).check(alloc, &store(alloc, rows.commits)?, &[case])
 }
 
 #[test]
@@ -265,12 +264,7 @@ fn a_store_that_fails_at_the_faulty_row_of_2(rt: HostRuntime) -> Result<(), Fail
         fault: Some((2, 1)),
         ..FULL
     };
-    let way = Way {
-        rows: Some(&rows),
-        telling: Telling::Counts,
-        ..LINES
-    };
-    way.check(rt.alloc(), &failing, &[(&[8], &[], "1 8:3 7:5 store")])
+    counting(&rows, LINES).check(rt.alloc(), &failing, &[(&[8], &[], "1 8:3 7:5 store")])
 }
 
 /// Whether walks over the sample by these rows end behind an answer for each commit and a fault.

@@ -49,7 +49,8 @@ fn without_7<F: Find + Drop>(
     find: F,
     ends: &[u8],
 ) -> Result<(String, String), Error> {
-    let mut asked = Vec::new(alloc);
+    // a commit whose digit finds no room would be refused
+    let mut asked = Vec::with_capacity(alloc, 8)?;
     let asking = Filter::new(|i: &_| asked.push(digit(i)).is_ok() && digit(i) != 7);
     let walk = Builder::new(alloc, find)
         .sorting(Sorting::TopoOrder)
