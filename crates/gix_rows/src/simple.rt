@@ -1,0 +1,248 @@
+//! Walks by parent links, told as text: a word for each answer.
+use crate::history::{TREE, digit, id, ids, long_id, text};
+use crate::words::{broken, not_found};
+use gix_parts::graph::Graph;
+use gix_parts::hash::ObjectId;
+use gix_parts::object::commit::Token;
+use gix_parts::object::find::Find;
+use gix_traverse::commit::simple::{CommitTimeOrder, Error, Hidden, Sorting};
+use gix_traverse::commit::{Filter, Info, Parents, Predicate, Simple, Unfiltered};
+use std::alloc::{AllocError, Global};
+use std::test::Fail;
+
+pub const BREADTH: Sorting = Sorting::BreadthFirst;
+
+pub const NEWEST: Sorting = Sorting::ByCommitTime(CommitTimeOrder::NewestFirst);
+
+pub const OLDEST: Sorting = Sorting::ByCommitTime(CommitTimeOrder::OldestFirst);
+
+/// Newest first without what is older than 4.
+pub const SINCE_4: Sorting = Sorting::ByCommitTimeCutoff {
+    order: CommitTimeOrder::NewestFirst,
+    seconds: 4,
+};
+
+/// What is told of a commit.
+#[derive(Clone, Copy, PartialEq, Eq)]
+pub enum Detail {
+    /// Its digit.
+    Digit,
+    /// Its digit, and behind `:` the generation that a row told.
+    Generation,
+    /// The same, behind `@` its time where the walk told one, and its parents.
+    All,
+}
+
+/// What a walk is to be.
+#[derive(Clone, Copy)]
+pub struct Wish<'a> {
+    /// Tips of 32-byte ids, before the others.
+    pub long: &'a [u8],
+    pub tips: &'a [u8],
+    /// The order that is chosen, and the order that is chosen in its place.
+    pub sortings: [Sorting; 2],
+    pub parents: Parents,
+    pub hidden: &'a [u8],
+    pub detail: Detail,
+}
+
+/// The digits of all that 8 reaches, breadth first.
+pub const ALL: Wish<'static> = Wish {
+    long: &[],
+    tips: &[8],
+    sortings: [BREADTH, BREADTH],
+    parents: Parents::All,
+    hidden: &[],
+    detail: Detail::Digit,
+};
+
+/// A fault as a word. One in what hidden tips reach begins with `hidden`. Want of memory stays want of memory.
+fn fault(alloc: Global, error: &Error) -> Result<String, AllocError> {
+    match error {
+        Error::Find(error) => not_found(alloc, error),
+        Error::ObjectDecode(error) => broken(alloc, error),
+        Error::HiddenGraph(Hidden::Find(error)) => {
+            format!(in alloc; "hidden-{}", not_found(alloc, error)?)
+        }
+        Error::HiddenGraph(Hidden::ObjectDecode(error)) => {
+            format!(in alloc; "hidden-{}", broken(alloc, error)?)
+        }
+        Error::Memory => Err(AllocError),
+    }
+}
+
+/// Writes a commit as a word. A commit of a 32-byte id has an `L` behind its digit.
+fn write_commit(told: &mut String, info: &Info, detail: Detail) -> Result<(), AllocError> {
+    let n = digit(&info.id);
+    write!(told, "{n}")?;
+    if info.id != id(n) {
+        told.push('L')?;
+    }
+    if detail == Detail::Digit {
+        return Ok(());
+    }
+    if let Some(generation) = info.generation {
+        write!(told, ":{generation}")?;
+    }
+    if detail == Detail::Generation {
+        return Ok(());
+    }
+    if let Some(time) = info.commit_time {
+        write!(told, "@{time}")?;
+    }
+    told.push('(')?;
+    for parent in info.parent_ids.as_slice() {
+        write!(told, "{},", digit(parent))?;
+    }
+    told.push(')')
+}
+
+/// Writes an answer as a word behind those before.
+fn write_answer(
+    alloc: Global,
+    told: &mut String,
+    answer: &Result<Info, Error>,
+    detail: Detail,
+) -> Result<(), AllocError> {
+    if !told.is_empty() {
+        told.push(' ')?;
+    }
+    match answer {
+        Ok(info) => write_commit(told, info, detail),
+        Err(error) => told.push_str(fault(alloc, error)?.as_str()),
+    }
+}
+
+/// Draws a walk to its end and tells each answer. Nothing may come behind the end.
+pub fn told<F: Find + Drop, P: Predicate + Drop>(
+    alloc: Global,
+    mut walk: Simple<F, P>,
+    detail: Detail,
+) -> Result<String, Fail>
+    requires { P.can_accept walk.predicate }
+{
+    let mut told = String::new(alloc);
+    for answer in &mut walk {
+        write_answer(alloc, &mut told, &answer, detail)?;
+    }
+    if walk.next().is_some() || walk.next().is_some() {
+        return Err("an answer behind the end".into());
+    }
+    Ok(told)
+}
+
+/// What a new walk gives from these tips.
+pub fn tell<F: Find + Drop>(alloc: Global, tips: &[u8], find: F) -> Result<String, Fail> {
+    told(
+        alloc,
+        Simple::new(alloc, ids(alloc, tips)?, find)?,
+        Detail::Digit,
+    )
+}
+
+impl Wish<'_> {
+    fn tips(&self, alloc: Global) -> Result<Vec<ObjectId>, AllocError> {
+        let mut tips = Vec::new(alloc);
+        for digit in self.long {
+            tips.push(long_id(*digit))?;
+        }
+        for digit in self.tips {
+            tips.push(id(*digit))?;
+        }
+        Ok(tips)
+    }
+
+    /// The tips' walk by the other wishes.
+    fn made<F: Find + Drop, P: Predicate + Drop>(
+        &self,
+        alloc: Global,
+        walk: Simple<F, P>,
+        graph: Option<Graph>,
+    ) -> Result<Simple<F, P>, Error> {
+        Ok(walk
+            .sorting(self.sortings[0])?
+            .parents(self.parents)
+            .sorting(self.sortings[1])?
+            .hide(ids(alloc, self.hidden)?)?
+            .commit_graph(graph))
+    }
+
+    /// What the walk gives, by the rows of a graph where there is one. `unsorted` and a fault stand for a walk whose tips can't
+    /// be sorted.
+    pub fn tell<F: Find + Drop>(
+        &self,
+        alloc: Global,
+        find: F,
+        graph: Option<Graph>,
+    ) -> Result<String, Fail> {
+        let walk = Simple::new(alloc, self.tips(alloc)?, find)?;
+        match self.made(alloc, walk, graph) {
+            Ok(walk) => told(alloc, walk, self.detail),
+            Err(error) => Ok(format!(in alloc; "unsorted {}", fault(alloc, &error)?)?),
+        }
+    }
+
+    /// The same with a predicate that refuses one commit, and behind it the commits that the predicate was asked about.
+    pub fn tell_asking<F: Find + Drop>(
+        &self,
+        alloc: Global,
+        find: F,
+        refused: u8,
+    ) -> Result<String, Fail> {
+        let mut asked = String::new(alloc);
+        let mut noted = Ok(());
+        let asking = Filter::new(|i: &_| {
+            if noted.is_ok() {
+                noted = write!(asked, " {}", digit(i));
+            }
+            digit(i) != refused
+        });
+        let walk = Simple::filtered(alloc, self.tips(alloc)?, find, asking)?
+            .sorting(self.sortings[0])?
+            .sorting(self.sortings[1])?
+            .hide(ids(alloc, self.hidden)?)?;
+        let told = told(alloc, walk, self.detail)?;
+        noted?;
+        Ok(format!(in alloc; "{told}, asked{asked}")?)
+    }
+}
+
+/// Which text a walk lends: `none`, the `own` text of the commit last given with the items of that text, or some `other`.
+fn lent<F: Find + Drop>(walk: &Simple<F, Unfiltered>, own: &str) -> Result<&'static str, Fail> {
+    let text = walk.commit_data();
+    let first = walk.commit_iter().next();
+    if text.is_empty() && first.is_none() {
+        return Ok("none");
+    }
+    let tree = ObjectId::from_hex(TREE.as_bytes())?;
+    if text == own.as_bytes() && first == Some(Ok(Token::Tree { id: tree })) {
+        return Ok("own");
+    }
+    Ok("other")
+}
+
+/// The text of a commit that is given.
+fn own_text(alloc: Global, answer: &Result<Info, Error>) -> Result<String, AllocError> {
+    match answer {
+        Ok(info) => text(alloc, TREE, i64::from(digit(&info.id)), info.parent_ids.as_slice()),
+        Err(_) => Ok(String::new(alloc)),
+    }
+}
+
+/// Which text a walk from 8 lends before it begins, behind each answer, and at its end.
+pub fn tell_texts<F: Find + Drop>(
+    alloc: Global,
+    find: F,
+    graph: Option<Graph>,
+) -> Result<String, Fail> {
+    let mut walk = Simple::new(alloc, [id(8)], find)?.commit_graph(graph);
+    let mut own = String::new(alloc);
+    let mut told = String::from_str(alloc, lent(&walk, own.as_str())?)?;
+    while let Some(answer) = walk.next() {
+        write_answer(alloc, &mut told, &answer, Detail::Digit)?;
+        own = own_text(alloc, &answer)?;
+        write!(told, " {}", lent(&walk, own.as_str())?)?;
+    }
+    write!(told, ", {} at the end", lent(&walk, own.as_str())?)?;
+    Ok(told)
+}
