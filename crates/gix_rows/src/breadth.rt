@@ -86,20 +86,20 @@ fn ids_of_both_kinds_in_one_walk(rt: HostRuntime) -> Result<(), Fail> {
     Ok(())
 }
 
-/// The first two commits below 8.
-fn first_two<F: Find + Drop>(alloc: Global, find: F) -> Result<[Info; 2], Fail> {
-    let mut walk = Simple::new(alloc, [id(8)], find)?;
-    let first = walk.next().ok_or("nothing")??;
-    let second = walk.next().ok_or("nothing")??;
-    Ok([first, second])
+/// The first commit of a walk from this tip.
+fn first<F: Find + Drop>(alloc: Global, find: F, tip: u8) -> Result<Info, Fail> {
+    let mut walk = Simple::new(alloc, [id(tip)], find)?;
+    Ok(walk.next().ok_or("nothing")??)
 }
 
 #[test]
 fn commits_are_cloned(rt: HostRuntime) -> Result<(), Fail> {
-    let [info, other] = first_two(rt.alloc(), &sample(rt.alloc())?)?;
+    let sample = sample(rt.alloc())?;
+    let info = first(rt.alloc(), &sample, 8)?;
     let same = info.clone()?;
     assert_eq!(rt; same, info);
     assert_eq!(rt; same.parent_ids.as_slice(), [id(6), id(7)].as_slice());
+    let other = first(rt.alloc(), &sample, 6)?;
     assert!(rt; other < info);
     Ok(())
 }

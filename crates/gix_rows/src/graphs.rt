@@ -1,6 +1,6 @@
 //! Walks by the rows of a commit-graph, made of rows and read from their bytes.
 use crate::history::{FULL, Rows, id, insert, insert_long, sample, store};
-use crate::simple::{ALL, BREADTH, Detail, NEWEST, Wish, tell_texts, told};
+use crate::simple::{ALL, BREADTH, Detail, NEWEST, Wish, tell_sample_texts, told};
 use gix_parts::graph::Graph;
 use gix_parts::object::find::Find;
 use gix_parts::object::memory::MemoryStore;
@@ -286,16 +286,15 @@ fn walks_by_wrong_rows_end(rt: HostRuntime) -> Result<(), Fail> {
 
 #[test]
 fn rows_lend_no_text(rt: HostRuntime) -> Result<(), Fail> {
-    let sample = sample(rt.alloc())?;
-    let told = tell_texts(rt.alloc(), &sample, Some(FULL.graph(rt.alloc())?))?;
+    let told = tell_sample_texts(rt.alloc(), Some(FULL.graph(rt.alloc())?))?;
     assert_eq!(rt;
         told.as_str(),
-        "none 8 none 6 none 7 none 5 none 4 none 3 none 2 none 1 none, none at the end"
+        "=none 8=none 6=none 7=none 5=none 4=none 3=none 2=none 1=none =none"
     );
-    let told = tell_texts(rt.alloc(), &sample, Some(ODD.graph(rt.alloc())?))?;
+    let told = tell_sample_texts(rt.alloc(), Some(ODD.graph(rt.alloc())?))?;
     assert_eq!(rt;
         told.as_str(),
-        "none 8 own 6 own 7 own 5 none 4 own 3 none 2 own 1 none, none at the end"
+        "=none 8=8 6=6 7=7 5=none 4=4 3=none 2=2 1=none =none"
     );
     Ok(())
 }

@@ -1,8 +1,9 @@
 //! Walks by parent links, told as text: a word for each answer.
-use crate::history::{TREE, digit, id, ids, long_id, text};
+use crate::history::{SAMPLE, TREE, digit, id, ids, long_id, store, text};
 use crate::words::{broken, not_found};
 use gix_parts::graph::Graph;
 use gix_parts::hash::ObjectId;
+use gix_parts::object::decode;
 use gix_parts::object::commit::Token;
 use gix_parts::object::find::Find;
 use gix_traverse::commit::simple::{CommitTimeOrder, Error, Hidden, Sorting};
@@ -113,21 +114,39 @@ fn write_answer(
     }
 }
 
-/// Draws a walk to its end and tells each answer. Nothing may come behind the end.
-pub fn told<F: Find + Drop, P: Predicate + Drop>(
+/// Tells each answer that a walk still gives.
+fn draw<F: Find + Drop, P: Predicate + Drop>(
     alloc: Global,
-    mut walk: Simple<F, P>,
+    walk: &mut Simple<F, P>,
     detail: Detail,
-) -> Result<String, Fail>
-    requires { P.can_accept walk.predicate }
+) -> Result<String, AllocError>
+    requires { P.can_accept walk.old.predicate }
 {
     let mut told = String::new(alloc);
-    for answer in &mut walk {
+    for answer in walk {
         write_answer(alloc, &mut told, &answer, detail)?;
     }
+    Ok(told)
+}
+
+/// Behind its end a walk gives nothing, however often it is asked.
+fn check_end<F: Find + Drop, P: Predicate + Drop>(mut walk: Simple<F, P>) -> Result<(), Fail>
+    requires { P.can_accept walk.predicate }
+{
     if walk.next().is_some() || walk.next().is_some() {
         return Err("an answer behind the end".into());
     }
+    Ok(())
+}
+
+/// Draws a walk to its end and tells each answer.
+pub fn told<F: Find + Drop>(
+    alloc: Global,
+    mut walk: Simple<F, Unfiltered>,
+    detail: Detail,
+) -> Result<String, Fail> {
+    let told = draw(alloc, &mut walk, detail)?;
+    check_end(walk)?;
     Ok(told)
 }
 
@@ -153,12 +172,12 @@ impl Wish<'_> {
     }
 
     /// The tips' walk by the other wishes.
-    fn made<F: Find + Drop, P: Predicate + Drop>(
+    fn made<F: Find + Drop>(
         &self,
         alloc: Global,
-        walk: Simple<F, P>,
+        walk: Simple<F, Unfiltered>,
         graph: Option<Graph>,
-    ) -> Result<Simple<F, P>, Error> {
+    ) -> Result<Simple<F, Unfiltered>, Error> {
         Ok(walk
             .sorting(self.sortings[0])?
             .parents(self.parents)
@@ -197,52 +216,79 @@ impl Wish<'_> {
             }
             digit(i) != refused
         });
-        let walk = Simple::filtered(alloc, self.tips(alloc)?, find, asking)?
+        let mut walk = Simple::filtered(alloc, self.tips(alloc)?, find, asking)?
             .sorting(self.sortings[0])?
             .sorting(self.sortings[1])?
             .hide(ids(alloc, self.hidden)?)?;
-        let told = told(alloc, walk, self.detail)?;
+        let told = draw(alloc, &mut walk, self.detail)?;
+        check_end(walk)?;
         noted?;
         Ok(format!(in alloc; "{told}, asked{asked}")?)
     }
 }
 
-/// Which text a walk lends: `none`, the `own` text of the commit last given with the items of that text, or some `other`.
-fn lent<F: Find + Drop>(walk: &Simple<F, Unfiltered>, own: &str) -> Result<&'static str, Fail> {
-    let text = walk.commit_data();
-    let first = walk.commit_iter().next();
-    if text.is_empty() && first.is_none() {
-        return Ok("none");
+/// Whose text this is among these commits: a digit, `none` of an empty text, or `other`. The first of its items is its tree.
+fn owner(
+    alloc: Global,
+    commits: &[(u8, &[u8])],
+    lent: &[u8],
+    first: Option<Result<Token<'_>, decode::Error>>,
+) -> Result<String, Fail> {
+    if lent.is_empty() && first.is_none() {
+        return Ok(format!(in alloc; "none")?);
     }
     let tree = ObjectId::from_hex(TREE.as_bytes())?;
-    if text == own.as_bytes() && first == Some(Ok(Token::Tree { id: tree })) {
-        return Ok("own");
+    if first == Some(Ok(Token::Tree { id: tree })) {
+        for (n, parents) in commits {
+            let text = text(alloc, TREE, i64::from(*n), &ids(alloc, parents)?)?;
+            if lent == text.as_str().as_bytes() {
+                return Ok(format!(in alloc; "{n}")?);
+            }
+        }
     }
-    Ok("other")
+    Ok(format!(in alloc; "other")?)
 }
 
-/// The text of a commit that is given.
-fn own_text(alloc: Global, answer: &Result<Info, Error>) -> Result<String, AllocError> {
-    match answer {
-        Ok(info) => text(alloc, TREE, i64::from(digit(&info.id)), info.parent_ids.as_slice()),
-        Err(_) => Ok(String::new(alloc)),
-    }
-}
-
-/// Which text a walk from 8 lends before it begins, behind each answer, and at its end.
-pub fn tell_texts<F: Find + Drop>(
+/// Writes whose text a walk over these commits lends.
+fn write_owner<F: Find + Drop>(
     alloc: Global,
+    told: &mut String,
+    commits: &[(u8, &[u8])],
+    walk: &Simple<F, Unfiltered>,
+) -> Result<(), Fail> {
+    let owner = owner(alloc, commits, walk.commit_data(), walk.commit_iter().next())?;
+    Ok(write!(told, "={owner}")?)
+}
+
+/// What a walk from 8 gives. Behind `=` stands whose text it lends: before it begins, behind each answer, and at its end.
+fn tell_owners<F: Find + Drop>(
+    alloc: Global,
+    commits: &[(u8, &[u8])],
     find: F,
     graph: Option<Graph>,
 ) -> Result<String, Fail> {
     let mut walk = Simple::new(alloc, [id(8)], find)?.commit_graph(graph);
-    let mut own = String::new(alloc);
-    let mut told = String::from_str(alloc, lent(&walk, own.as_str())?)?;
+    let mut told = String::new(alloc);
+    write_owner(alloc, &mut told, commits, &walk)?;
     while let Some(answer) = walk.next() {
         write_answer(alloc, &mut told, &answer, Detail::Digit)?;
-        own = own_text(alloc, &answer)?;
-        write!(told, " {}", lent(&walk, own.as_str())?)?;
+        write_owner(alloc, &mut told, commits, &walk)?;
     }
-    write!(told, ", {} at the end", lent(&walk, own.as_str())?)?;
+    told.push(' ')?;
+    write_owner(alloc, &mut told, commits, &walk)?;
     Ok(told)
+}
+
+/// The same over a store of these commits.
+pub fn tell_texts(
+    alloc: Global,
+    commits: &[(u8, &[u8])],
+    graph: Option<Graph>,
+) -> Result<String, Fail> {
+    tell_owners(alloc, commits, &store(alloc, commits)?, graph)
+}
+
+/// The same over the sample.
+pub fn tell_sample_texts(alloc: Global, graph: Option<Graph>) -> Result<String, Fail> {
+    tell_texts(alloc, &SAMPLE, graph)
 }

@@ -3,7 +3,7 @@ use crate::history::{
     Failing, id, insert_with_broken_parent, insert_without_committer, sample, scaled_store, store,
 };
 use crate::simple::{
-    ALL, BREADTH, Detail, NEWEST, OLDEST, SINCE_4, Wish, tell_texts,
+    ALL, BREADTH, Detail, NEWEST, OLDEST, SINCE_4, Wish, tell_sample_texts, tell_texts,
 };
 use gix_traverse::commit::Parents;
 use gix_traverse::commit::simple::{CommitTimeOrder, Sorting};
@@ -190,18 +190,17 @@ fn a_broken_second_parent(rt: HostRuntime) -> Result<(), Fail> {
 
 #[test]
 fn the_text_last_given(rt: HostRuntime) -> Result<(), Fail> {
-    let told = tell_texts(rt.alloc(), &sample(rt.alloc())?, None)?;
+    let told = tell_sample_texts(rt.alloc(), None)?;
     assert_eq!(rt;
         told.as_str(),
-        "none 8 own 6 own 7 own 5 own 4 own 3 own 2 own 1 own, own at the end"
+        "=none 8=8 6=6 7=7 5=5 4=4 3=3 2=2 1=1 =1"
     );
     Ok(())
 }
 
 #[test]
 fn no_text_behind_a_fault(rt: HostRuntime) -> Result<(), Fail> {
-    let store = store(rt.alloc(), &[(8, &[6])])?;
-    let told = tell_texts(rt.alloc(), &store, None)?;
-    assert_eq!(rt; told.as_str(), "none 8 own missing-6 none, none at the end");
+    let told = tell_texts(rt.alloc(), &[(8, &[6])], None)?;
+    assert_eq!(rt; told.as_str(), "=none 8=8 missing-6=none =none");
     Ok(())
 }
