@@ -1,10 +1,9 @@
 //! Breadth-first walks over sound histories.
-use crate::history::{id, insert, insert_long, sample, store};
+use crate::history::{id, ids, insert, insert_long, sample, store};
 use crate::simple::{ALL, Detail, Wish, tell};
-use gix_parts::object::find::Find;
 use gix_parts::object::memory::MemoryStore;
-use gix_traverse::commit::{Info, Simple};
-use std::alloc::Global;
+use gix_traverse::commit::{Info, ParentIds};
+use std::alloc::{AllocError, Global};
 use std::test::Fail;
 
 #[test]
@@ -13,21 +12,21 @@ fn the_sample(rt: HostRuntime) -> Result<(), Fail> {
         tips: &[8, 8],
         ..ALL
     };
-    let told = wish.tell_asking(rt.alloc(), &sample(rt.alloc())?, 0)?;
+    let told = wish.tell_asking(rt.alloc(), 0)?;
     assert_eq!(rt; told.as_str(), "8 6 7 5 4 3 2 1, asked 8 6 7 5 4 3 2 1");
     Ok(())
 }
 
 #[test]
 fn a_refused_commit_bars_the_way(rt: HostRuntime) -> Result<(), Fail> {
-    let told = ALL.tell_asking(rt.alloc(), &sample(rt.alloc())?, 7)?;
+    let told = ALL.tell_asking(rt.alloc(), 7)?;
     assert_eq!(rt; told.as_str(), "8 6 5 3 1, asked 8 6 7 5 3 1");
     Ok(())
 }
 
 #[test]
 fn a_refused_tip_gives_nothing(rt: HostRuntime) -> Result<(), Fail> {
-    let told = ALL.tell_asking(rt.alloc(), &sample(rt.alloc())?, 8)?;
+    let told = ALL.tell_asking(rt.alloc(), 8)?;
     assert_eq!(rt; told.as_str(), ", asked 8");
     Ok(())
 }
@@ -86,21 +85,33 @@ fn ids_of_both_kinds_in_one_walk(rt: HostRuntime) -> Result<(), Fail> {
     Ok(())
 }
 
-/// The first commit of a walk from this tip.
-fn first<F: Find + Drop>(alloc: Global, find: F, tip: u8) -> Result<Info, Fail> {
-    let mut walk = Simple::new(alloc, [id(tip)], find)?;
-    Ok(walk.next().ok_or("nothing")??)
+#[test]
+fn commits_are_cloned(rt: HostRuntime) -> Result<(), Fail> {
+    let wish = Wish {
+        detail: Detail::All,
+        ..ALL
+    };
+    let told = wish.tell_sample(rt.alloc())?;
+    assert_eq!(rt;
+        told.as_str(),
+        "8(6,7,) 6(5,) 7(4,) 5(3,) 4(2,) 3(1,) 2(1,) 1()"
+    );
+    Ok(())
+}
+
+/// Commit n with these parents, as it is given.
+fn info(alloc: Global, n: u8, parents: &[u8]) -> Result<Info, AllocError> {
+    Ok(Info {
+        id: id(n),
+        parent_ids: ParentIds::from_slice(alloc, ids(alloc, parents)?.as_slice())?,
+        generation: None,
+        commit_time: None,
+    })
 }
 
 #[test]
-fn commits_are_cloned(rt: HostRuntime) -> Result<(), Fail> {
-    let sample = sample(rt.alloc())?;
-    let info = first(rt.alloc(), &sample, 8)?;
-    let same = info.clone()?;
-    assert_eq!(rt; same, info);
-    assert_eq!(rt; same.parent_ids.as_slice(), [id(6), id(7)].as_slice());
-    let other = first(rt.alloc(), &sample, 6)?;
-    assert!(rt; other < info);
+fn commits_are_ordered_by_their_ids(rt: HostRuntime) -> Result<(), Fail> {
+    assert!(rt; info(rt.alloc(), 6, &[5])? < info(rt.alloc(), 8, &[6, 7])?);
     Ok(())
 }
 

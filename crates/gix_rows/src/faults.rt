@@ -1,6 +1,6 @@
 //! Breadth-first walks that meet faults.
 use crate::history::{Failing, TREE, id, insert_with_broken_parent, sample, store, text};
-use crate::simple::tell;
+use crate::simple::{tell, tell_from};
 use gix_parts::object::find::existing_iter;
 use gix_parts::object::{Kind, decode};
 use gix_traverse::commit::simple::Error;
@@ -40,7 +40,7 @@ fn failing_at(alloc: Global, n: u8) -> Result<String, Fail> {
         store: &sample,
         at: id(n),
     };
-    tell(alloc, &[8], &failing)
+    tell_from(alloc, &[8], &failing)
 }
 
 #[test]

@@ -107,21 +107,13 @@ pub const PLACES: [(u8, u8); 8] = [
     (2, 1),
 ];
 
-/// A walk gives these digits with a fault in each place, breadth first and newest first.
-fn check_places(alloc: Global, hidden: &[u8], breadth: &str, newest: &str) -> Result<(), Fail> {
+/// With a fault in each place of the sample a walk gives this.
+fn check_places(alloc: Global, wish: &Wish<'_>, want: &str) -> Result<(), Fail> {
     let sample = sample(alloc)?;
-    for place in PLACES {
-        for (sorting, want) in [(BREADTH, breadth), (NEWEST, newest)] {
-            let wish = Wish {
-                sortings: [BREADTH, sorting],
-                hidden,
-                ..ALL
-            };
-            let given = given(alloc, &sample, &faulty(place), &wish)?;
-            if given.as_str() != want {
-                let said = format!(in alloc; "{sorting:?} with a fault in {place:?}: {given}")?;
-                return Err(said.into());
-            }
+    for place in &PLACES {
+        let given = given(alloc, &sample, &faulty(*place), wish)?;
+        if given.as_str() != want {
+            return Err(format!(in alloc; "{given} with a fault in {place:?}")?.into());
         }
     }
     Ok(())
@@ -129,12 +121,26 @@ fn check_places(alloc: Global, hidden: &[u8], breadth: &str, newest: &str) -> Re
 
 #[test]
 fn a_fault_in_each_place(rt: HostRuntime) -> Result<(), Fail> {
-    check_places(rt.alloc(), &[], "8 6 7 5 4 3 2 1", "8 7 6 5 4 3 2 1")
+    let newest = Wish {
+        sortings: [BREADTH, NEWEST],
+        ..ALL
+    };
+    check_places(rt.alloc(), &ALL, "8 6 7 5 4 3 2 1")?;
+    check_places(rt.alloc(), &newest, "8 7 6 5 4 3 2 1")
 }
 
 #[test]
 fn a_fault_in_each_place_of_what_is_painted(rt: HostRuntime) -> Result<(), Fail> {
-    check_places(rt.alloc(), &[7], "8 6 5 3", "8 6 5 3")
+    let hiding = Wish {
+        hidden: &[7],
+        ..ALL
+    };
+    let newest = Wish {
+        sortings: [BREADTH, NEWEST],
+        ..hiding
+    };
+    check_places(rt.alloc(), &hiding, "8 6 5 3")?;
+    check_places(rt.alloc(), &newest, "8 6 5 3")
 }
 
 #[test]
@@ -255,23 +261,26 @@ pub const WRONG: [Rows<'static>; 4] = [
     },
 ];
 
-/// By these rows each walk from 8 ends behind at most eight commits, and meets no fault.
-fn check_end(alloc: Global, rows: &Rows<'_>) -> Result<(), Fail> {
-    let sample = sample(alloc)?;
-    for hidden in [[].as_slice(), &[7], &[8]] {
-        for sorting in [BREADTH, NEWEST] {
-            let wish = Wish {
-                sortings: [BREADTH, sorting],
-                hidden,
-                ..ALL
-            };
-            let given = given(alloc, &sample, rows, &wish)?;
-            // Eight digits, and what parts them.
-            let is_word = |b: &u8| *b == b' ' || b.is_ascii_digit();
-            if given.len() > 15 || !given.as_str().as_bytes().iter().all(is_word) {
-                return Err(format!(in alloc; "without {hidden:?}, {sorting:?}: {given}")?.into());
-            }
-        }
+/// Whether these are at most eight commits, each of one digit, and no fault.
+fn are_at_most_eight(told: &str) -> bool {
+    told.len() <= 15
+        && told
+            .as_bytes()
+            .iter()
+            .all(|b: &u8| *b == b' ' || b.is_ascii_digit())
+}
+
+/// By these rows walks from 8 beside hidden tips end behind at most eight commits, and meet no fault.
+fn check_end(alloc: Global, rows: &Rows<'_>, hidden: &[u8]) -> Result<(), Fail> {
+    let wish = Wish { hidden, ..ALL };
+    let newest = Wish {
+        sortings: [BREADTH, NEWEST],
+        ..wish
+    };
+    let told = given_sample(alloc, rows, &wish)?;
+    let by_time = given_sample(alloc, rows, &newest)?;
+    if !are_at_most_eight(told.as_str()) || !are_at_most_eight(by_time.as_str()) {
+        return Err(format!(in alloc; "without {hidden:?}: {told}, {by_time}")?.into());
     }
     Ok(())
 }
@@ -279,7 +288,9 @@ fn check_end(alloc: Global, rows: &Rows<'_>) -> Result<(), Fail> {
 #[test]
 fn walks_by_wrong_rows_end(rt: HostRuntime) -> Result<(), Fail> {
     for rows in &WRONG {
-        check_end(rt.alloc(), rows)?;
+        check_end(rt.alloc(), rows, &[])?;
+        check_end(rt.alloc(), rows, &[7])?;
+        check_end(rt.alloc(), rows, &[8])?;
     }
     Ok(())
 }

@@ -1,7 +1,5 @@
 //! Walks with hidden tips.
-use crate::history::{
-    FULL, Failing, Rows, id, insert_without_committer, sample, scaled_store, store,
-};
+use crate::history::{FULL, Rows, id, insert_without_committer, sample, scaled_store, store};
 use crate::simple::{ALL, BREADTH, Detail, NEWEST, Wish, told};
 use gix_parts::object::decode;
 use gix_parts::object::find::{Find, existing_iter};
@@ -25,21 +23,20 @@ const SKEWED: Rows<'static> = Rows {
     fault: None,
 };
 
-/// Walks from a tip beside hidden tips give this, without a graph, by these rows, and by their bytes.
-fn check(
+/// Walks from these tips beside hidden tips give this, without a graph, by these rows, and by their bytes.
+fn check<'a>(
     alloc: Global,
     store: &MemoryStore,
     rows: &Rows<'_>,
-    tip: u8,
-    cases: &[(&[u8], &str)],
+    cases: &[(&'a [u8], &'a [u8], &str)],
 ) -> Result<(), Fail> {
-    for (hidden, want) in cases {
+    for (tips, hidden, want) in cases {
+        let wish = Wish {
+            tips,
+            hidden,
+            ..ALL
+        };
         for graph in [None, Some(rows.graph(alloc)?), Some(rows.packed(alloc)?)] {
-            let wish = Wish {
-                tips: &[tip],
-                hidden,
-                ..ALL
-            };
             let told = wish.tell(alloc, store, graph)?;
             if told.as_str() != *want {
                 return Err(format!(in alloc; "without {hidden:?}: {told}, not {want}")?.into());
@@ -55,14 +52,13 @@ fn hidden_tips(rt: HostRuntime) -> Result<(), Fail> {
         rt.alloc(),
         &sample(rt.alloc())?,
         &FULL,
-        8,
         &[
-            (&[], "8 6 7 5 4 3 2 1"),
-            (&[7], "8 6 5 3"),
-            (&[5], "8 6 7 4 2"),
-            (&[5, 4], "8 6 7"),
-            (&[1], "8 6 7 5 4 3 2"),
-            (&[8], ""),
+            (&[8], &[], "8 6 7 5 4 3 2 1"),
+            (&[8], &[7], "8 6 5 3"),
+            (&[8], &[5], "8 6 7 4 2"),
+            (&[8], &[5, 4], "8 6 7"),
+            (&[8], &[1], "8 6 7 5 4 3 2"),
+            (&[8], &[8], ""),
         ],
     )
 }
@@ -70,7 +66,7 @@ fn hidden_tips(rt: HostRuntime) -> Result<(), Fail> {
 #[test]
 fn a_skewed_history(rt: HostRuntime) -> Result<(), Fail> {
     let store = store(rt.alloc(), SKEWED.commits)?;
-    check(rt.alloc(), &store, &SKEWED, 9, &[(&[2], "9")])
+    check(rt.alloc(), &store, &SKEWED, &[(&[9], &[2], "9")])
 }
 
 /// All that 8 reaches and 7 doesn't.
@@ -105,7 +101,7 @@ fn the_last_hidden_tips_count(rt: HostRuntime) -> Result<(), Fail> {
 
 #[test]
 fn hidden_commits_are_not_asked_about(rt: HostRuntime) -> Result<(), Fail> {
-    let told = WITHOUT_7.tell_asking(rt.alloc(), &sample(rt.alloc())?, 0)?;
+    let told = WITHOUT_7.tell_asking(rt.alloc(), 0)?;
     assert_eq!(rt; told.as_str(), "8 6 5 3, asked 8 6 5 3");
     Ok(())
 }
@@ -118,7 +114,7 @@ fn hidden_by_any_parent(rt: HostRuntime) -> Result<(), Fail> {
         hidden: &[8],
         ..ALL
     };
-    let told = wish.tell(rt.alloc(), &sample(rt.alloc())?, None)?;
+    let told = wish.tell_sample(rt.alloc())?;
     assert_eq!(rt; told.as_str(), "");
     Ok(())
 }
@@ -130,7 +126,7 @@ fn newest_first(rt: HostRuntime) -> Result<(), Fail> {
         hidden: &[5],
         ..ALL
     };
-    let told = wish.tell(rt.alloc(), &sample(rt.alloc())?, None)?;
+    let told = wish.tell_sample(rt.alloc())?;
     assert_eq!(rt; told.as_str(), "8 7 6 4 2");
     Ok(())
 }
@@ -160,11 +156,7 @@ fn a_hidden_history_that_is_broken(rt: HostRuntime) -> Result<(), Fail> {
         let told = wish.tell(rt.alloc(), &store, None)?;
         assert_eq!(rt; told.as_str(), want);
     }
-    let failing = Failing {
-        store: &store,
-        at: id(2),
-    };
-    let told = WITHOUT_7.tell(rt.alloc(), &failing, None)?;
+    let told = WITHOUT_7.tell_failing(rt.alloc(), &store, 2)?;
     assert_eq!(rt; told.as_str(), "hidden-store");
     Ok(())
 }
@@ -175,7 +167,7 @@ fn without_tips_nothing_is_painted(rt: HostRuntime) -> Result<(), Fail> {
         hidden: &[10],
         ..ALL
     };
-    let told = wish.tell_asking(rt.alloc(), &sample(rt.alloc())?, 8)?;
+    let told = wish.tell_asking(rt.alloc(), 8)?;
     assert_eq!(rt; told.as_str(), ", asked 8");
     Ok(())
 }

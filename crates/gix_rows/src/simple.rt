@@ -1,11 +1,12 @@
 //! Walks by parent links, told as text: a word for each answer.
-use crate::history::{SAMPLE, TREE, digit, id, ids, long_id, store, text};
+use crate::history::{Failing, SAMPLE, TREE, digit, id, ids, long_id, sample, store, text};
 use crate::words::{broken, not_found};
 use gix_parts::graph::Graph;
 use gix_parts::hash::ObjectId;
-use gix_parts::object::decode;
 use gix_parts::object::commit::Token;
+use gix_parts::object::decode;
 use gix_parts::object::find::Find;
+use gix_parts::object::memory::MemoryStore;
 use gix_traverse::commit::simple::{CommitTimeOrder, Error, Hidden, Sorting};
 use gix_traverse::commit::{Filter, Info, Parents, Predicate, Simple, Unfiltered};
 use std::alloc::{AllocError, Global};
@@ -30,7 +31,7 @@ pub enum Detail {
     Digit,
     /// Its digit, and behind `:` the generation that a row told.
     Generation,
-    /// The same, behind `@` its time where the walk told one, and its parents.
+    /// The same, behind `@` its time where the walk told one, and its parents: all as a clone holds it.
     All,
 }
 
@@ -88,11 +89,15 @@ fn write_commit(told: &mut String, info: &Info, detail: Detail) -> Result<(), Al
     if detail == Detail::Generation {
         return Ok(());
     }
-    if let Some(time) = info.commit_time {
+    let same = info.clone()?;
+    if same != *info {
+        return told.push_str(" unlike its clone");
+    }
+    if let Some(time) = same.commit_time {
         write!(told, "@{time}")?;
     }
     told.push('(')?;
-    for parent in info.parent_ids.as_slice() {
+    for parent in same.parent_ids.as_slice() {
         write!(told, "{},", digit(parent))?;
     }
     told.push(')')
@@ -151,12 +156,17 @@ pub fn told<F: Find + Drop>(
 }
 
 /// What a new walk gives from these tips.
-pub fn tell<F: Find + Drop>(alloc: Global, tips: &[u8], find: F) -> Result<String, Fail> {
+pub fn tell_from<F: Find + Drop>(alloc: Global, tips: &[u8], find: F) -> Result<String, Fail> {
     told(
         alloc,
         Simple::new(alloc, ids(alloc, tips)?, find)?,
         Detail::Digit,
     )
+}
+
+/// What a new walk gives from these tips over a store.
+pub fn tell(alloc: Global, tips: &[u8], store: &MemoryStore) -> Result<String, Fail> {
+    tell_from(alloc, tips, store)
 }
 
 impl Wish<'_> {
@@ -178,17 +188,18 @@ impl Wish<'_> {
         walk: Simple<F, Unfiltered>,
         graph: Option<Graph>,
     ) -> Result<Simple<F, Unfiltered>, Error> {
-        Ok(walk
-            .sorting(self.sortings[0])?
-            .parents(self.parents)
-            .sorting(self.sortings[1])?
-            .hide(ids(alloc, self.hidden)?)?
-            .commit_graph(graph))
+        Ok(
+            walk.sorting(self.sortings[0])?
+                .parents(self.parents)
+                .sorting(self.sortings[1])?
+                .hide(ids(alloc, self.hidden)?)?
+                .commit_graph(graph),
+        )
     }
 
     /// What the walk gives, by the rows of a graph where there is one. `unsorted` and a fault stand for a walk whose tips can't
     /// be sorted.
-    pub fn tell<F: Find + Drop>(
+    fn tell_from<F: Find + Drop>(
         &self,
         alloc: Global,
         find: F,
@@ -201,8 +212,35 @@ impl Wish<'_> {
         }
     }
 
-    /// The same with a predicate that refuses one commit, and behind it the commits that the predicate was asked about.
-    pub fn tell_asking<F: Find + Drop>(
+    /// What the walk gives over a store.
+    pub fn tell(
+        &self,
+        alloc: Global,
+        store: &MemoryStore,
+        graph: Option<Graph>,
+    ) -> Result<String, Fail> {
+        self.tell_from(alloc, store, graph)
+    }
+
+    /// The same over a store that fails at this commit.
+    pub fn tell_failing(&self, alloc: Global, store: &MemoryStore, n: u8) -> Result<String, Fail> {
+        let failing = Failing { store, at: id(n) };
+        self.tell_from(alloc, &failing, None)
+    }
+
+    /// The same over the sample.
+    pub fn tell_sample(&self, alloc: Global) -> Result<String, Fail> {
+        self.tell(alloc, &sample(alloc)?, None)
+    }
+
+    /// What the walk gives over the sample with a predicate that refuses one commit, and behind it the commits that the predicate
+    /// was asked about.
+    pub fn tell_asking(&self, alloc: Global, refused: u8) -> Result<String, Fail> {
+        self.asking_from(alloc, &sample(alloc)?, refused)
+    }
+
+    /// The same from any source of commits.
+    fn asking_from<F: Find + Drop>(
         &self,
         alloc: Global,
         find: F,
@@ -256,7 +294,12 @@ fn write_owner<F: Find + Drop>(
     commits: &[(u8, &[u8])],
     walk: &Simple<F, Unfiltered>,
 ) -> Result<(), Fail> {
-    let owner = owner(alloc, commits, walk.commit_data(), walk.commit_iter().next())?;
+    let owner = owner(
+        alloc,
+        commits,
+        walk.commit_data(),
+        walk.commit_iter().next(),
+    )?;
     Ok(write!(told, "={owner}")?)
 }
 

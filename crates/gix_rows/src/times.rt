@@ -1,6 +1,6 @@
 //! Walks by commit time, cutoffs, first parents, and the text of the commit last given.
 use crate::history::{
-    Failing, id, insert_with_broken_parent, insert_without_committer, sample, scaled_store, store,
+    insert_with_broken_parent, insert_without_committer, sample, scaled_store, store,
 };
 use crate::simple::{
     ALL, BREADTH, Detail, NEWEST, OLDEST, SINCE_4, Wish, tell_sample_texts, tell_texts,
@@ -86,7 +86,7 @@ fn first_parents_are_told_alone(rt: HostRuntime) -> Result<(), Fail> {
         detail: Detail::All,
         ..BY_TIME
     };
-    let told = wish.tell(rt.alloc(), &sample(rt.alloc())?, None)?;
+    let told = wish.tell_sample(rt.alloc())?;
     assert_eq!(rt; told.as_str(), "8(6,) 6(5,) 5(3,) 3(1,) 1()");
     Ok(())
 }
@@ -112,7 +112,7 @@ fn nothing_is_asked_twice(rt: HostRuntime) -> Result<(), Fail> {
         sortings: [SINCE_4, BREADTH],
         ..ALL
     };
-    let told = wish.tell_asking(rt.alloc(), &sample(rt.alloc())?, 0)?;
+    let told = wish.tell_asking(rt.alloc(), 0)?;
     assert_eq!(rt; told.as_str(), "8 6 7 5 4 3 2 1, asked 8 3 6 7 5 4 2 1");
     Ok(())
 }
@@ -121,10 +121,6 @@ fn nothing_is_asked_twice(rt: HostRuntime) -> Result<(), Fail> {
 fn a_tip_without_a_time(rt: HostRuntime) -> Result<(), Fail> {
     let mut store = sample(rt.alloc())?;
     insert_without_committer(rt.alloc(), &mut store, 9)?;
-    let failing = Failing {
-        store: &store,
-        at: id(6),
-    };
     for (tip, want) in [
         (10, "unsorted missing-10"),
         (9, "unsorted broken-Missing"),
@@ -134,7 +130,7 @@ fn a_tip_without_a_time(rt: HostRuntime) -> Result<(), Fail> {
             tips: &[8, tip],
             ..BY_TIME
         };
-        let told = wish.tell(rt.alloc(), &failing, None)?;
+        let told = wish.tell_failing(rt.alloc(), &store, 6)?;
         assert_eq!(rt; told.as_str(), want);
     }
     Ok(())
@@ -155,21 +151,12 @@ fn parents_that_are_not_stored(rt: HostRuntime) -> Result<(), Fail> {
     Ok(())
 }
 
-/// What a walk from 8, newest first, gives over a store that fails at this commit.
-fn failing_at(alloc: Global, n: u8) -> Result<String, Fail> {
-    let sample = sample(alloc)?;
-    let failing = Failing {
-        store: &sample,
-        at: id(n),
-    };
-    BY_TIME.tell(alloc, &failing, None)
-}
-
 #[test]
 fn a_store_that_fails_at_a_parent(rt: HostRuntime) -> Result<(), Fail> {
-    let told = failing_at(rt.alloc(), 6)?;
+    let sample = sample(rt.alloc())?;
+    let told = BY_TIME.tell_failing(rt.alloc(), &sample, 6)?;
     assert_eq!(rt; told.as_str(), "store");
-    let told = failing_at(rt.alloc(), 7)?;
+    let told = BY_TIME.tell_failing(rt.alloc(), &sample, 7)?;
     assert_eq!(rt; told.as_str(), "store 6 5 3 1");
     Ok(())
 }
@@ -191,10 +178,7 @@ fn a_broken_second_parent(rt: HostRuntime) -> Result<(), Fail> {
 #[test]
 fn the_text_last_given(rt: HostRuntime) -> Result<(), Fail> {
     let told = tell_sample_texts(rt.alloc(), None)?;
-    assert_eq!(rt;
-        told.as_str(),
-        "=none 8=8 6=6 7=7 5=5 4=4 3=3 2=2 1=1 =1"
-    );
+    assert_eq!(rt; told.as_str(), "=none 8=8 6=6 7=7 5=5 4=4 3=3 2=2 1=1 =1");
     Ok(())
 }
 
