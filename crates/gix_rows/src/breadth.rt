@@ -70,17 +70,22 @@ fn commits_may_reach_themselves(rt: HostRuntime) -> Result<(), Fail> {
     Ok(())
 }
 
+/// The sample, and two commits of 32-byte ids.
+fn both_kinds(alloc: Global) -> Result<MemoryStore, AllocError> {
+    let mut store = sample(alloc)?;
+    insert_long(alloc, &mut store, 3, &[2])?;
+    insert_long(alloc, &mut store, 2, &[])?;
+    Ok(store)
+}
+
 #[test]
 fn ids_of_both_kinds_in_one_walk(rt: HostRuntime) -> Result<(), Fail> {
-    let mut store = sample(rt.alloc())?;
-    insert_long(rt.alloc(), &mut store, 3, &[2])?;
-    insert_long(rt.alloc(), &mut store, 2, &[])?;
     let wish = Wish {
         long: &[3],
         tips: &[3],
         ..ALL
     };
-    let told = wish.tell(rt.alloc(), &store, None)?;
+    let told = wish.tell(rt.alloc(), &both_kinds(rt.alloc())?, None)?;
     assert_eq!(rt; told.as_str(), "3L 3 2L 1");
     Ok(())
 }

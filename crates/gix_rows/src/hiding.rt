@@ -144,20 +144,28 @@ fn a_hidden_commit_that_reaches_itself(rt: HostRuntime) -> Result<(), Fail> {
     Ok(())
 }
 
+/// What a walk from 8 gives beside this hidden tip, where 9 has no committer and the store fails at this commit.
+fn broken(alloc: Global, hidden: u8, fails: u8) -> Result<String, Fail> {
+    let mut store = sample(alloc)?;
+    insert_without_committer(alloc, &mut store, 9)?;
+    let wish = Wish {
+        hidden: &[hidden],
+        ..ALL
+    };
+    wish.tell_failing(alloc, &store, fails)
+}
+
 #[test]
 fn a_hidden_history_that_is_broken(rt: HostRuntime) -> Result<(), Fail> {
-    let mut store = sample(rt.alloc())?;
-    insert_without_committer(rt.alloc(), &mut store, 9)?;
-    for (tip, want) in [(10, "hidden-missing-10"), (9, "hidden-broken-Missing")] {
-        let wish = Wish {
-            hidden: &[tip],
-            ..ALL
-        };
-        let told = wish.tell(rt.alloc(), &store, None)?;
+    // A store that fails at 15 fails at none of these commits.
+    for (hidden, fails, want) in [
+        (10, 15, "hidden-missing-10"),
+        (9, 15, "hidden-broken-Missing"),
+        (7, 2, "hidden-store"),
+    ] {
+        let told = broken(rt.alloc(), hidden, fails)?;
         assert_eq!(rt; told.as_str(), want);
     }
-    let told = WITHOUT_7.tell_failing(rt.alloc(), &store, 2)?;
-    assert_eq!(rt; told.as_str(), "hidden-store");
     Ok(())
 }
 

@@ -117,20 +117,25 @@ fn nothing_is_asked_twice(rt: HostRuntime) -> Result<(), Fail> {
     Ok(())
 }
 
+/// What a walk gives from 8 and this tip, newest first, where 9 has no committer and the store fails at 6.
+fn beside_8(alloc: Global, tip: u8) -> Result<String, Fail> {
+    let mut store = sample(alloc)?;
+    insert_without_committer(alloc, &mut store, 9)?;
+    let wish = Wish {
+        tips: &[8, tip],
+        ..BY_TIME
+    };
+    wish.tell_failing(alloc, &store, 6)
+}
+
 #[test]
 fn a_tip_without_a_time(rt: HostRuntime) -> Result<(), Fail> {
-    let mut store = sample(rt.alloc())?;
-    insert_without_committer(rt.alloc(), &mut store, 9)?;
     for (tip, want) in [
         (10, "unsorted missing-10"),
         (9, "unsorted broken-Missing"),
         (6, "unsorted store"),
     ] {
-        let wish = Wish {
-            tips: &[8, tip],
-            ..BY_TIME
-        };
-        let told = wish.tell_failing(rt.alloc(), &store, 6)?;
+        let told = beside_8(rt.alloc(), tip)?;
         assert_eq!(rt; told.as_str(), want);
     }
     Ok(())
@@ -151,13 +156,17 @@ fn parents_that_are_not_stored(rt: HostRuntime) -> Result<(), Fail> {
     Ok(())
 }
 
+/// What a walk from 8 gives, newest first, over a store that fails at this commit.
+fn failing_at(alloc: Global, n: u8) -> Result<String, Fail> {
+    BY_TIME.tell_failing(alloc, &sample(alloc)?, n)
+}
+
 #[test]
 fn a_store_that_fails_at_a_parent(rt: HostRuntime) -> Result<(), Fail> {
-    let sample = sample(rt.alloc())?;
-    let told = BY_TIME.tell_failing(rt.alloc(), &sample, 6)?;
-    assert_eq!(rt; told.as_str(), "store");
-    let told = BY_TIME.tell_failing(rt.alloc(), &sample, 7)?;
-    assert_eq!(rt; told.as_str(), "store 6 5 3 1");
+    for (n, want) in [(6, "store"), (7, "store 6 5 3 1")] {
+        let told = failing_at(rt.alloc(), n)?;
+        assert_eq!(rt; told.as_str(), want);
+    }
     Ok(())
 }
 
