@@ -1,124 +1,128 @@
 //! Breadth-first walks over sound histories.
-use crate::history::{SAMPLE, digit, digits, id, insert, insert_long, long_id, store};
+use crate::history::{id, ids, insert, insert_long, sample, store};
+use crate::simple::{ALL, Detail, Wish, tell};
 use gix_parts::object::memory::MemoryStore;
-use gix_traverse::commit::{Filter, Simple};
+use gix_traverse::commit::{Info, ParentIds};
+use std::alloc::{AllocError, Global};
 use std::test::Fail;
 
 #[test]
 fn the_sample(rt: HostRuntime) -> Result<(), Fail> {
-    let store = store(rt.alloc(), &SAMPLE)?;
-    let mut asked = Vec::new(rt.alloc());
-    let asking = Filter::new(|i: &_| asked.push(digit(i)).is_ok());
-    let mut walk = Simple::filtered(rt.alloc(), [id(8), id(8)], &store, asking)?;
-    let given = digits(rt.alloc(), &mut walk)?;
-    assert_eq!(rt; given.as_slice(), [8, 6, 7, 5, 4, 3, 2, 1].as_slice());
-    assert!(rt; walk.next().is_none());
-    assert!(rt; walk.next().is_none());
-    drop(walk);
-    assert_eq!(rt; asked.as_slice(), [8, 6, 7, 5, 4, 3, 2, 1].as_slice());
+    let wish = Wish {
+        tips: &[8, 8],
+        ..ALL
+    };
+    let told = wish.tell_asking(rt.alloc(), 0)?;
+    assert_eq!(rt; told.as_str(), "8 6 7 5 4 3 2 1, asked 8 6 7 5 4 3 2 1");
     Ok(())
 }
 
 #[test]
 fn a_refused_commit_bars_the_way(rt: HostRuntime) -> Result<(), Fail> {
-    let store = store(rt.alloc(), &SAMPLE)?;
-    let mut asked = Vec::new(rt.alloc());
-    let asking = Filter::new(|i: &_| asked.push(digit(i)).is_ok() && digit(i) != 7);
-    let mut walk = Simple::filtered(rt.alloc(), [id(8)], &store, asking)?;
-    let given = digits(rt.alloc(), &mut walk)?;
-    assert_eq!(rt; given.as_slice(), [8, 6, 5, 3, 1].as_slice());
-    drop(walk);
-    assert_eq!(rt; asked.as_slice(), [8, 6, 7, 5, 3, 1].as_slice());
+    let told = ALL.tell_asking(rt.alloc(), 7)?;
+    assert_eq!(rt; told.as_str(), "8 6 5 3 1, asked 8 6 7 5 3 1");
     Ok(())
 }
 
 #[test]
 fn a_refused_tip_gives_nothing(rt: HostRuntime) -> Result<(), Fail> {
-    let store = store(rt.alloc(), &SAMPLE)?;
-    let mut walk = Simple::filtered(rt.alloc(), [id(8)], &store, Filter::new(|_: &_| false))?;
-    assert!(rt; walk.next().is_none());
+    let told = ALL.tell_asking(rt.alloc(), 8)?;
+    assert_eq!(rt; told.as_str(), ", asked 8");
     Ok(())
 }
 
 #[test]
 fn no_tips_give_nothing(rt: HostRuntime) -> Result<(), Fail> {
-    let store = store(rt.alloc(), &SAMPLE)?;
-    let mut walk = Simple::new(rt.alloc(), [], &store)?;
-    assert!(rt; walk.next().is_none());
+    let told = tell(rt.alloc(), &[], &sample(rt.alloc())?)?;
+    assert_eq!(rt; told.as_str(), "");
     Ok(())
 }
 
 #[test]
 fn tips_keep_their_order(rt: HostRuntime) -> Result<(), Fail> {
-    let store = store(rt.alloc(), &SAMPLE)?;
-    let mut walk = Simple::new(rt.alloc(), [id(4), id(6), id(4), id(5)], &store)?;
-    let given = digits(rt.alloc(), &mut walk)?;
-    assert_eq!(rt; given.as_slice(), [4, 6, 5, 2, 3, 1].as_slice());
+    let told = tell(rt.alloc(), &[4, 6, 4, 5], &sample(rt.alloc())?)?;
+    assert_eq!(rt; told.as_str(), "4 6 5 2 3 1");
     Ok(())
 }
 
 #[test]
 fn parents_may_repeat(rt: HostRuntime) -> Result<(), Fail> {
-    let mut store = store(rt.alloc(), &SAMPLE)?;
+    let mut store = sample(rt.alloc())?;
     insert(rt.alloc(), &mut store, 9, &[6, 7, 6])?;
-    let mut walk = Simple::new(rt.alloc(), [id(9)], &store)?;
-    let first = walk.next().ok_or("nothing")??;
-    assert_eq!(rt; first.id, id(9));
+    let wish = Wish {
+        tips: &[9],
+        detail: Detail::All,
+        ..ALL
+    };
+    let told = wish.tell(rt.alloc(), &store, None)?;
     assert_eq!(rt;
-        first.parent_ids.as_slice(),
-        [id(6), id(7), id(6)].as_slice()
+        told.as_str(),
+        "9(6,7,6,) 6(5,) 7(4,) 5(3,) 4(2,) 3(1,) 2(1,) 1()"
     );
-    assert_eq!(rt; first.generation, None);
-    assert_eq!(rt; first.commit_time, None);
-    let given = digits(rt.alloc(), &mut walk)?;
-    assert_eq!(rt; given.as_slice(), [6, 7, 5, 4, 3, 2, 1].as_slice());
     Ok(())
 }
 
 #[test]
 fn commits_may_reach_themselves(rt: HostRuntime) -> Result<(), Fail> {
     let store = store(rt.alloc(), &[(10, &[11]), (11, &[10])])?;
-    let mut walk = Simple::new(rt.alloc(), [id(10)], &store)?;
-    let given = digits(rt.alloc(), &mut walk)?;
-    assert_eq!(rt; given.as_slice(), [10, 11].as_slice());
+    let told = tell(rt.alloc(), &[10], &store)?;
+    assert_eq!(rt; told.as_str(), "10 11");
     Ok(())
+}
+
+/// The sample, and two commits of 32-byte ids.
+fn both_kinds(alloc: Global) -> Result<MemoryStore, AllocError> {
+    let mut store = sample(alloc)?;
+    insert_long(alloc, &mut store, 3, &[2])?;
+    insert_long(alloc, &mut store, 2, &[])?;
+    Ok(store)
 }
 
 #[test]
 fn ids_of_both_kinds_in_one_walk(rt: HostRuntime) -> Result<(), Fail> {
-    let mut store = store(rt.alloc(), &SAMPLE)?;
-    insert_long(rt.alloc(), &mut store, 3, &[2])?;
-    insert_long(rt.alloc(), &mut store, 2, &[])?;
-    let mut walk = Simple::new(rt.alloc(), [long_id(3), id(3)], &store)?;
-    let mut given = Vec::new(rt.alloc());
-    for info in &mut walk {
-        given.push(info?.id)?;
-    }
-    assert_eq!(rt;
-        given.as_slice(),
-        [long_id(3), id(3), long_id(2), id(1)].as_slice()
-    );
+    let wish = Wish {
+        long: &[3],
+        tips: &[3],
+        ..ALL
+    };
+    let told = wish.tell(rt.alloc(), &both_kinds(rt.alloc())?, None)?;
+    assert_eq!(rt; told.as_str(), "3L 3 2L 1");
     Ok(())
 }
 
 #[test]
 fn commits_are_cloned(rt: HostRuntime) -> Result<(), Fail> {
-    let store = store(rt.alloc(), &SAMPLE)?;
-    let mut walk = Simple::new(rt.alloc(), [id(8)], &store)?;
-    let info = walk.next().ok_or("nothing")??;
-    let same = info.clone()?;
-    assert_eq!(rt; same, info);
-    assert_eq!(rt; same.parent_ids.as_slice(), [id(6), id(7)].as_slice());
-    let other = walk.next().ok_or("nothing")??;
-    assert!(rt; other < info);
+    let wish = Wish {
+        detail: Detail::All,
+        ..ALL
+    };
+    let told = wish.tell_sample(rt.alloc())?;
+    assert_eq!(rt;
+        told.as_str(),
+        "8(6,7,) 6(5,) 7(4,) 5(3,) 4(2,) 3(1,) 2(1,) 1()"
+    );
+    Ok(())
+}
+
+/// Commit n with these parents, as it is given.
+fn info(alloc: Global, n: u8, parents: &[u8]) -> Result<Info, AllocError> {
+    Ok(Info {
+        id: id(n),
+        parent_ids: ParentIds::from_slice(alloc, ids(alloc, parents)?.as_slice())?,
+        generation: None,
+        commit_time: None,
+    })
+}
+
+#[test]
+fn commits_are_ordered_by_their_ids(rt: HostRuntime) -> Result<(), Fail> {
+    assert!(rt; info(rt.alloc(), 6, &[5])? < info(rt.alloc(), 8, &[6, 7])?);
     Ok(())
 }
 
 #[test]
 fn an_empty_store_has_no_tip(rt: HostRuntime) -> Result<(), Fail> {
-    let store = MemoryStore::new(rt.alloc());
-    let mut walk = Simple::new(rt.alloc(), [id(8)], &store)?;
-    assert!(rt; walk.next().ok_or("nothing")?.is_err());
-    assert!(rt; walk.next().is_none());
+    let told = tell(rt.alloc(), &[8], &MemoryStore::new(rt.alloc()))?;
+    assert_eq!(rt; told.as_str(), "missing-8");
     Ok(())
 }

@@ -1,14 +1,11 @@
 //! Walks with hidden tips.
-use crate::history::{
-    FULL, Failing, Rows, SAMPLE, digit, digits, id, ids, insert_without_committer, scaled_store,
-    store,
-};
-use crate::times::NEWEST;
-use gix_parts::graph::Graph;
+use crate::history::{FULL, Rows, id, insert_without_committer, sample, scaled_store, store};
+use crate::simple::{ALL, BREADTH, Detail, NEWEST, Wish, told};
 use gix_parts::object::decode;
 use gix_parts::object::find::{Find, existing_iter};
+use gix_parts::object::memory::MemoryStore;
 use gix_traverse::commit::simple::{Error, Hidden};
-use gix_traverse::commit::{Filter, Parents, Simple};
+use gix_traverse::commit::{Parents, Simple};
 use std::alloc::Global;
 use std::test::Fail;
 
@@ -26,154 +23,160 @@ const SKEWED: Rows<'static> = Rows {
     fault: None,
 };
 
-/// What a walk gives from a tip beside hidden tips, breadth first.
-fn shown<F: Find + Drop>(
+/// Walks from these tips beside hidden tips give this, without a graph, by these rows, and by their bytes.
+fn check<'a>(
     alloc: Global,
-    find: F,
-    graph: Option<Graph>,
-    tip: u8,
-    hidden: &[u8],
-) -> Result<Vec<u8>, Error> {
-    let mut walk = Simple::new(alloc, [id(tip)], find)?
-        .hide(ids(alloc, hidden)?)?
-        .commit_graph(graph);
-    digits(alloc, &mut walk)
-}
-
-/// What hidden tips leave of the sample below 8.
-const LEFT: [(&[u8], &[u8]); 6] = [
-    (&[], &[8, 6, 7, 5, 4, 3, 2, 1]),
-    (&[7], &[8, 6, 5, 3]),
-    (&[5], &[8, 6, 7, 4, 2]),
-    (&[5, 4], &[8, 6, 7]),
-    (&[1], &[8, 6, 7, 5, 4, 3, 2]),
-    (&[8], &[]),
-];
-
-/// No graph, a graph of these rows, and the same read from its bytes.
-fn graphs(alloc: Global, rows: Rows<'_>) -> Result<[Option<Graph>; 3], Fail> {
-    Ok([None, Some(rows.graph(alloc)?), Some(rows.packed(alloc)?)])
-}
-
-#[test]
-fn hidden_tips(rt: HostRuntime) -> Result<(), Fail> {
-    let store = store(rt.alloc(), &SAMPLE)?;
-    for (hidden, want) in LEFT {
-        for graph in graphs(rt.alloc(), FULL)? {
-            let given = shown(rt.alloc(), &store, graph, 8, hidden)?;
-            assert_eq!(rt; given.as_slice(), want, "without {hidden:?}");
+    store: &MemoryStore,
+    rows: &Rows<'_>,
+    cases: &[(&'a [u8], &'a [u8], &str)],
+) -> Result<(), Fail> {
+    for (tips, hidden, want) in cases {
+        let wish = Wish {
+            tips,
+            hidden,
+            ..ALL
+        };
+        for graph in [None, Some(rows.graph(alloc)?), Some(rows.packed(alloc)?)] {
+            let told = wish.tell(alloc, store, graph)?;
+            if told.as_str() != *want {
+                return Err(format!(in alloc; "without {hidden:?}: {told}, not {want}")?.into());
+            }
         }
     }
     Ok(())
 }
 
 #[test]
-fn times_do_not_matter(rt: HostRuntime) -> Result<(), Fail> {
-    for scale in [0, -1, 1] {
-        let store = scaled_store(rt.alloc(), scale)?;
-        let given = shown(rt.alloc(), &store, None, 8, &[7])?;
-        assert_eq!(rt; given.as_slice(), [8, 6, 5, 3].as_slice());
-    }
-    Ok(())
+fn hidden_tips(rt: HostRuntime) -> Result<(), Fail> {
+    check(
+        rt.alloc(),
+        &sample(rt.alloc())?,
+        &FULL,
+        &[
+            (&[8], &[], "8 6 7 5 4 3 2 1"),
+            (&[8], &[7], "8 6 5 3"),
+            (&[8], &[5], "8 6 7 4 2"),
+            (&[8], &[5, 4], "8 6 7"),
+            (&[8], &[1], "8 6 7 5 4 3 2"),
+            (&[8], &[8], ""),
+        ],
+    )
 }
 
 #[test]
 fn a_skewed_history(rt: HostRuntime) -> Result<(), Fail> {
     let store = store(rt.alloc(), SKEWED.commits)?;
-    for graph in graphs(rt.alloc(), SKEWED)? {
-        let given = shown(rt.alloc(), &store, graph, 9, &[2])?;
-        assert_eq!(rt; given.as_slice(), [9].as_slice());
+    check(rt.alloc(), &store, &SKEWED, &[(&[9], &[2], "9")])
+}
+
+/// All that 8 reaches and 7 doesn't.
+const WITHOUT_7: Wish<'static> = Wish {
+    hidden: &[7],
+    ..ALL
+};
+
+#[test]
+fn times_do_not_matter(rt: HostRuntime) -> Result<(), Fail> {
+    for scale in [0, -1, 1] {
+        let told = WITHOUT_7.tell(rt.alloc(), &scaled_store(rt.alloc(), scale)?, None)?;
+        assert_eq!(rt; told.as_str(), "8 6 5 3");
     }
     Ok(())
 }
 
-#[test]
-fn the_last_hidden_tips_count(rt: HostRuntime) -> Result<(), Fail> {
-    let store = store(rt.alloc(), &SAMPLE)?;
-    let mut walk = Simple::new(rt.alloc(), [id(8)], &store)?
+/// What a walk from 8 gives that is to hide 7, and then 5 in its place.
+fn hidden_twice<F: Find + Drop>(alloc: Global, find: F) -> Result<String, Fail> {
+    let walk = Simple::new(alloc, [id(8)], find)?
         .hide([id(7)])?
         .hide([id(5)])?;
-    let given = digits(rt.alloc(), &mut walk)?;
-    assert_eq!(rt; given.as_slice(), [8, 6, 7, 4, 2].as_slice());
+    told(alloc, walk, Detail::Digit)
+}
+
+#[test]
+fn the_last_hidden_tips_count(rt: HostRuntime) -> Result<(), Fail> {
+    let told = hidden_twice(rt.alloc(), &sample(rt.alloc())?)?;
+    assert_eq!(rt; told.as_str(), "8 6 7 4 2");
     Ok(())
 }
 
 #[test]
 fn hidden_commits_are_not_asked_about(rt: HostRuntime) -> Result<(), Fail> {
-    let store = store(rt.alloc(), &SAMPLE)?;
-    let mut asked = Vec::new(rt.alloc());
-    let asking = Filter::new(|i: &_| asked.push(digit(i)).is_ok());
-    let mut walk = Simple::filtered(rt.alloc(), [id(8)], &store, asking)?.hide([id(7)])?;
-    let given = digits(rt.alloc(), &mut walk)?;
-    assert_eq!(rt; given.as_slice(), [8, 6, 5, 3].as_slice());
-    drop(walk);
-    assert_eq!(rt; asked.as_slice(), [8, 6, 5, 3].as_slice());
+    let told = WITHOUT_7.tell_asking(rt.alloc(), 0)?;
+    assert_eq!(rt; told.as_str(), "8 6 5 3, asked 8 6 5 3");
     Ok(())
 }
 
 #[test]
 fn hidden_by_any_parent(rt: HostRuntime) -> Result<(), Fail> {
-    let store = store(rt.alloc(), &SAMPLE)?;
-    let mut walk = Simple::new(rt.alloc(), [id(7), id(6)], &store)?
-        .parents(Parents::First)
-        .hide([id(8)])?;
-    assert!(rt; walk.next().is_none());
+    let wish = Wish {
+        tips: &[7, 6],
+        parents: Parents::First,
+        hidden: &[8],
+        ..ALL
+    };
+    let told = wish.tell_sample(rt.alloc())?;
+    assert_eq!(rt; told.as_str(), "");
     Ok(())
 }
 
 #[test]
 fn newest_first(rt: HostRuntime) -> Result<(), Fail> {
-    let store = store(rt.alloc(), &SAMPLE)?;
-    let mut walk = Simple::new(rt.alloc(), [id(8)], &store)?
-        .hide([id(5)])?
-        .sorting(NEWEST)?;
-    let given = digits(rt.alloc(), &mut walk)?;
-    assert_eq!(rt; given.as_slice(), [8, 7, 6, 4, 2].as_slice());
+    let wish = Wish {
+        sortings: [BREADTH, NEWEST],
+        hidden: &[5],
+        ..ALL
+    };
+    let told = wish.tell_sample(rt.alloc())?;
+    assert_eq!(rt; told.as_str(), "8 7 6 4 2");
     Ok(())
 }
 
 #[test]
 fn a_hidden_commit_that_reaches_itself(rt: HostRuntime) -> Result<(), Fail> {
     let store = store(rt.alloc(), &[(10, &[11]), (11, &[10])])?;
-    let given = shown(rt.alloc(), &store, None, 10, &[11])?;
-    assert!(rt; given.is_empty());
+    let wish = Wish {
+        tips: &[10],
+        hidden: &[11],
+        ..ALL
+    };
+    let told = wish.tell(rt.alloc(), &store, None)?;
+    assert_eq!(rt; told.as_str(), "");
     Ok(())
+}
+
+/// What a walk from 8 gives beside this hidden tip, where 9 has no committer and the store fails at this commit.
+fn broken(alloc: Global, hidden: u8, fails: u8) -> Result<String, Fail> {
+    let mut store = sample(alloc)?;
+    insert_without_committer(alloc, &mut store, 9)?;
+    let wish = Wish {
+        hidden: &[hidden],
+        ..ALL
+    };
+    wish.tell_failing(alloc, &store, fails)
 }
 
 #[test]
 fn a_hidden_history_that_is_broken(rt: HostRuntime) -> Result<(), Fail> {
-    let mut store = store(rt.alloc(), &SAMPLE)?;
-    insert_without_committer(rt.alloc(), &mut store, 9)?;
-    let failing = Failing {
-        store: &store,
-        at: id(2),
-    };
-    for (tip, want) in [
-        (
-            10,
-            Hidden::Find(existing_iter::Error::NotFound { oid: id(10) }),
-        ),
-        (9, Hidden::ObjectDecode(decode::Error::Missing)),
+    // A store that fails at 15 fails at none of these commits.
+    for (hidden, fails, want) in [
+        (10, 15, "hidden-missing-10"),
+        (9, 15, "hidden-broken-Missing"),
+        (7, 2, "hidden-store"),
     ] {
-        let mut walk = Simple::new(rt.alloc(), [id(8)], &store)?.hide([id(tip)])?;
-        let first = walk.next().ok_or("nothing")?.err();
-        assert_eq!(rt; first, Some(Error::HiddenGraph(want)));
-        assert!(rt; walk.next().is_none());
+        let told = broken(rt.alloc(), hidden, fails)?;
+        assert_eq!(rt; told.as_str(), want);
     }
-    let mut walk = Simple::new(rt.alloc(), [id(8)], &failing)?.hide([id(7)])?;
-    let first = walk.next().ok_or("nothing")?.err();
-    let want = Hidden::Find(existing_iter::Error::Store);
-    assert_eq!(rt; first, Some(Error::HiddenGraph(want)));
-    assert!(rt; walk.next().is_none());
     Ok(())
 }
 
 #[test]
 fn without_tips_nothing_is_painted(rt: HostRuntime) -> Result<(), Fail> {
-    let store = store(rt.alloc(), &SAMPLE)?;
-    let refusing = Filter::new(|_: &_| false);
-    let mut walk = Simple::filtered(rt.alloc(), [id(8)], &store, refusing)?.hide([id(10)])?;
-    assert!(rt; walk.next().is_none());
+    let wish = Wish {
+        hidden: &[10],
+        ..ALL
+    };
+    let told = wish.tell_asking(rt.alloc(), 8)?;
+    assert_eq!(rt; told.as_str(), ", asked 8");
     Ok(())
 }
 

@@ -4,8 +4,6 @@ use gix_parts::hash::ObjectId;
 use gix_parts::object::Kind;
 use gix_parts::object::find::{self, Find};
 use gix_parts::object::memory::MemoryStore;
-use gix_traverse::commit::simple::Error;
-use gix_traverse::commit::{Predicate, Simple};
 use std::alloc::{AllocError, Global};
 use std::fmt;
 use std::test::Fail;
@@ -99,6 +97,18 @@ pub fn insert_without_committer(
     n: u8,
 ) -> Result<(), AllocError> {
     let text = format!(in alloc; "tree {TREE}\nauthor A <a@b> {n} +0000\n")?;
+    store.insert(id(n), Kind::Commit, text.as_str().as_bytes())
+}
+
+/// Stores commit n, whose first parent is 6, and whose second parent is named by a digit less.
+pub fn insert_with_broken_parent(
+    alloc: Global,
+    store: &mut MemoryStore,
+    n: u8,
+) -> Result<(), AllocError> {
+    let six = format!(in alloc; "{}", id(6))?;
+    let short = String::from_str(alloc, "777777777777777777777777777777777777777")?;
+    let text = text(alloc, TREE, i64::from(n), &[six, short])?;
     store.insert(id(n), Kind::Commit, text.as_str().as_bytes())
 }
 
@@ -232,35 +242,4 @@ pub fn insert_long(
     let tree = format!(in alloc; "{}", long_id(14))?;
     let text = text(alloc, tree.as_str(), i64::from(n), &ids)?;
     store.insert(long_id(n), Kind::Commit, text.as_str().as_bytes())
-}
-
-/// The digit of each commit that a walk still gives with the generation that a row told, or its first fault.
-pub fn generations<F: Find + Drop, P: Predicate + Drop>(
-    alloc: Global,
-    walk: &mut Simple<F, P>,
-) -> Result<Vec<(u8, Option<u32>)>, Error>
-    requires { P.can_accept walk.old.predicate }
-{
-    let mut given = Vec::new(alloc);
-    for answer in walk {
-        let info = answer?;
-        given
-            .push((digit(&info.id), info.generation))
-            .map_err(AllocError::from)?;
-    }
-    Ok(given)
-}
-
-/// The digits of all that a walk still gives, or its first fault.
-pub fn digits<F: Find + Drop, P: Predicate + Drop>(
-    alloc: Global,
-    walk: &mut Simple<F, P>,
-) -> Result<Vec<u8>, Error>
-    requires { P.can_accept walk.old.predicate }
-{
-    let mut digits = Vec::new(alloc);
-    for answer in walk {
-        digits.push(digit(&answer?.id)).map_err(AllocError::from)?;
-    }
-    Ok(digits)
 }

@@ -21,6 +21,8 @@ mod recorded;
 #[cfg(test)]
 mod script;
 #[cfg(test)]
+mod simple;
+#[cfg(test)]
 mod times;
 #[cfg(test)]
 mod topo;

@@ -1,147 +1,142 @@
 //! Walks by commit time, cutoffs, first parents, and the text of the commit last given.
 use crate::history::{
-    Failing, SAMPLE, TREE, digit, digits, id, ids, insert_without_committer, scaled_store, store,
-    text,
+    insert_with_broken_parent, insert_without_committer, sample, scaled_store, store,
 };
-use gix_parts::hash::ObjectId;
-use gix_parts::object::commit::Token;
-use gix_parts::object::find::existing_iter;
-use gix_parts::object::{Kind, decode};
-use gix_traverse::commit::simple::{CommitTimeOrder, Error, Sorting};
-use gix_traverse::commit::{Filter, Info, Parents, Simple};
+use crate::simple::{
+    ALL, BREADTH, Detail, NEWEST, OLDEST, SINCE_4, Wish, tell_sample_texts, tell_texts,
+};
+use gix_traverse::commit::Parents;
+use gix_traverse::commit::simple::{CommitTimeOrder, Sorting};
 use std::alloc::Global;
 use std::test::Fail;
 
-pub const NEWEST: Sorting = Sorting::ByCommitTime(CommitTimeOrder::NewestFirst);
-
-const OLDEST: Sorting = Sorting::ByCommitTime(CommitTimeOrder::OldestFirst);
-
-/// Newest first without what is older than 4.
-const SINCE_4: Sorting = Sorting::ByCommitTimeCutoff {
-    order: CommitTimeOrder::NewestFirst,
+const OLDEST_SINCE_4: Sorting = Sorting::ByCommitTimeCutoff {
+    order: CommitTimeOrder::OldestFirst,
     seconds: 4,
 };
 
-/// What a walk over the sample gives from these tips after both calls.
-fn sorted(
+/// Walks over the sample, each from these tips in these orders, give this.
+fn check(
     alloc: Global,
-    tips: &[u8],
-    sortings: [Sorting; 2],
     parents: Parents,
-) -> Result<Vec<u8>, Error> {
-    let store = store(alloc, &SAMPLE)?;
-    let mut walk = Simple::new(alloc, ids(alloc, tips)?, &store)?
-        .sorting(sortings[0])?
-        .parents(parents)
-        .sorting(sortings[1])?;
-    digits(alloc, &mut walk)
+    cases: &[(&[u8], [Sorting; 2], &str)],
+) -> Result<(), Fail> {
+    let sample = sample(alloc)?;
+    for (tips, sortings, want) in cases {
+        let wish = Wish {
+            tips,
+            sortings: *sortings,
+            parents,
+            ..ALL
+        };
+        let told = wish.tell(alloc, &sample, None)?;
+        if told.as_str() != *want {
+            return Err(format!(in alloc; "{tips:?} {sortings:?} give {told}, not {want}")?.into());
+        }
+    }
+    Ok(())
 }
 
 #[test]
 fn all_parents(rt: HostRuntime) -> Result<(), Fail> {
-    let breadth = Sorting::BreadthFirst;
-    let oldest_since_4 = Sorting::ByCommitTimeCutoff {
-        order: CommitTimeOrder::OldestFirst,
-        seconds: 4,
-    };
-    let cases: [(&[u8], [Sorting; 2], &[u8]); 11] = [
-        (&[8], [breadth, OLDEST], &[8, 6, 5, 3, 1, 7, 4, 2]),
-        (&[8], [breadth, NEWEST], &[8, 7, 6, 5, 4, 3, 2, 1]),
-        (&[8], [OLDEST, NEWEST], &[8, 7, 6, 5, 4, 3, 2, 1]),
-        (&[8], [NEWEST, OLDEST], &[8, 6, 5, 3, 1, 7, 4, 2]),
-        (&[8], [NEWEST, breadth], &[8, 6, 7, 5, 4, 3, 2, 1]),
-        (&[8], [breadth, SINCE_4], &[8, 7, 6, 5, 4]),
-        (&[8], [SINCE_4, NEWEST], &[8, 7, 6, 5, 4, 3, 2, 1]),
-        (&[8], [breadth, oldest_since_4], &[8, 6, 5, 7, 4]),
-        (&[3], [breadth, SINCE_4], &[]),
-        (&[3], [SINCE_4, breadth], &[]),
-        (&[3, 4], [breadth, SINCE_4], &[4]),
-    ];
-    for (tips, sortings, want) in cases {
-        let given = sorted(rt.alloc(), tips, sortings, Parents::All)?;
-        assert_eq!(rt; given.as_slice(), want, "{sortings:?}");
-    }
-    Ok(())
+    check(
+        rt.alloc(),
+        Parents::All,
+        &[
+            (&[8], [BREADTH, OLDEST], "8 6 5 3 1 7 4 2"),
+            (&[8], [BREADTH, NEWEST], "8 7 6 5 4 3 2 1"),
+            (&[8], [OLDEST, NEWEST], "8 7 6 5 4 3 2 1"),
+            (&[8], [NEWEST, OLDEST], "8 6 5 3 1 7 4 2"),
+            (&[8], [NEWEST, BREADTH], "8 6 7 5 4 3 2 1"),
+            (&[8], [BREADTH, SINCE_4], "8 7 6 5 4"),
+            (&[8], [SINCE_4, NEWEST], "8 7 6 5 4 3 2 1"),
+            (&[8], [BREADTH, OLDEST_SINCE_4], "8 6 5 7 4"),
+            (&[3], [BREADTH, SINCE_4], ""),
+            (&[3], [SINCE_4, BREADTH], ""),
+            (&[3, 4], [BREADTH, SINCE_4], "4"),
+        ],
+    )
 }
 
 #[test]
 fn first_parents(rt: HostRuntime) -> Result<(), Fail> {
-    let breadth = Sorting::BreadthFirst;
-    let cases: [(&[u8], [Sorting; 2]); 5] = [
-        (&[8], [breadth, breadth]),
-        (&[8], [breadth, NEWEST]),
-        (&[8], [NEWEST, breadth]),
-        (&[8], [OLDEST, NEWEST]),
-        (&[8, 3], [breadth, SINCE_4]),
-    ];
-    for (tips, sortings) in cases {
-        let given = sorted(rt.alloc(), tips, sortings, Parents::First)?;
-        assert_eq!(rt;
-            given.as_slice(),
-            [8, 6, 5, 3, 1].as_slice(),
-            "{sortings:?}"
-        );
-    }
-    Ok(())
+    check(
+        rt.alloc(),
+        Parents::First,
+        &[
+            (&[8], [BREADTH, BREADTH], "8 6 5 3 1"),
+            (&[8], [BREADTH, NEWEST], "8 6 5 3 1"),
+            (&[8], [NEWEST, BREADTH], "8 6 5 3 1"),
+            (&[8], [OLDEST, NEWEST], "8 6 5 3 1"),
+            (&[8, 3], [BREADTH, SINCE_4], "8 6 5 3 1"),
+        ],
+    )
 }
+
+/// What 8 reaches, newest first.
+const BY_TIME: Wish<'static> = Wish {
+    sortings: [BREADTH, NEWEST],
+    ..ALL
+};
 
 #[test]
 fn first_parents_are_told_alone(rt: HostRuntime) -> Result<(), Fail> {
-    let store = store(rt.alloc(), &SAMPLE)?;
-    let mut walk = Simple::new(rt.alloc(), [id(8)], &store)?
-        .sorting(NEWEST)?
-        .parents(Parents::First);
-    let first = walk.next().ok_or("nothing")??;
-    assert_eq!(rt; first.parent_ids.as_slice(), [id(6)].as_slice());
-    assert_eq!(rt; first.commit_time, None);
+    let wish = Wish {
+        parents: Parents::First,
+        detail: Detail::All,
+        ..BY_TIME
+    };
+    let told = wish.tell_sample(rt.alloc())?;
+    assert_eq!(rt; told.as_str(), "8(6,) 6(5,) 5(3,) 3(1,) 1()");
     Ok(())
 }
 
 #[test]
 fn times_are_told(rt: HostRuntime) -> Result<(), Fail> {
-    let store = scaled_store(rt.alloc(), -1)?;
-    let mut walk = Simple::new(rt.alloc(), [id(8)], &store)?.sorting(NEWEST)?;
-    for n in [8, 6, 5, 3, 1, 7, 4, 2i64] {
-        let info = walk.next().ok_or("nothing")??;
-        assert_eq!(rt; i64::from(digit(&info.id)), n);
-        assert_eq!(rt; info.commit_time, Some(-n));
-        assert_eq!(rt; info.generation, None);
-    }
-    assert!(rt; walk.next().is_none());
+    let wish = Wish {
+        detail: Detail::All,
+        ..BY_TIME
+    };
+    let told = wish.tell(rt.alloc(), &scaled_store(rt.alloc(), -1)?, None)?;
+    assert_eq!(rt;
+        told.as_str(),
+        "8@-8(6,7,) 6@-6(5,) 5@-5(3,) 3@-3(1,) 1@-1() 7@-7(4,) 4@-4(2,) 2@-2(1,)"
+    );
     Ok(())
 }
 
 #[test]
 fn nothing_is_asked_twice(rt: HostRuntime) -> Result<(), Fail> {
-    let store = store(rt.alloc(), &SAMPLE)?;
-    let mut asked = Vec::new(rt.alloc());
-    let asking = Filter::new(|i: &_| asked.push(digit(i)).is_ok());
-    let mut walk = Simple::filtered(rt.alloc(), [id(8), id(3)], &store, asking)?
-        .sorting(SINCE_4)?
-        .sorting(Sorting::BreadthFirst)?;
-    let given = digits(rt.alloc(), &mut walk)?;
-    assert_eq!(rt; given.as_slice(), [8, 6, 7, 5, 4, 3, 2, 1].as_slice());
-    drop(walk);
-    assert_eq!(rt; asked.as_slice(), [8, 3, 6, 7, 5, 4, 2, 1].as_slice());
+    let wish = Wish {
+        tips: &[8, 3],
+        sortings: [SINCE_4, BREADTH],
+        ..ALL
+    };
+    let told = wish.tell_asking(rt.alloc(), 0)?;
+    assert_eq!(rt; told.as_str(), "8 6 7 5 4 3 2 1, asked 8 3 6 7 5 4 2 1");
     Ok(())
+}
+
+/// What a walk gives from 8 and this tip, newest first, where 9 has no committer and the store fails at 6.
+fn beside_8(alloc: Global, tip: u8) -> Result<String, Fail> {
+    let mut store = sample(alloc)?;
+    insert_without_committer(alloc, &mut store, 9)?;
+    let wish = Wish {
+        tips: &[8, tip],
+        ..BY_TIME
+    };
+    wish.tell_failing(alloc, &store, 6)
 }
 
 #[test]
 fn a_tip_without_a_time(rt: HostRuntime) -> Result<(), Fail> {
-    let mut store = store(rt.alloc(), &SAMPLE)?;
-    insert_without_committer(rt.alloc(), &mut store, 9)?;
-    let failing = Failing {
-        store: &store,
-        at: id(6),
-    };
-    let missing = existing_iter::Error::NotFound { oid: id(10) };
     for (tip, want) in [
-        (10, Error::Find(missing)),
-        (9, Error::ObjectDecode(decode::Error::Missing)),
-        (6, Error::Find(existing_iter::Error::Store)),
+        (10, "unsorted missing-10"),
+        (9, "unsorted broken-Missing"),
+        (6, "unsorted store"),
     ] {
-        let walk = Simple::new(rt.alloc(), [id(8), id(tip)], &failing)?;
-        assert_eq!(rt; walk.sorting(NEWEST).err(), Some(want));
+        let told = beside_8(rt.alloc(), tip)?;
+        assert_eq!(rt; told.as_str(), want);
     }
     Ok(())
 }
@@ -149,91 +144,56 @@ fn a_tip_without_a_time(rt: HostRuntime) -> Result<(), Fail> {
 #[test]
 fn parents_that_are_not_stored(rt: HostRuntime) -> Result<(), Fail> {
     let store = store(rt.alloc(), &[(8, &[6, 7])])?;
-    let mut walk = Simple::new(rt.alloc(), [id(8)], &store)?.sorting(NEWEST)?;
-    assert_eq!(rt; walk.next().ok_or("nothing")??.id, id(8));
-    let one = walk.next().ok_or("nothing")?.err();
-    let other = walk.next().ok_or("nothing")?.err();
-    let six = Some(Error::Find(existing_iter::Error::NotFound { oid: id(6) }));
-    let seven = Some(Error::Find(existing_iter::Error::NotFound { oid: id(7) }));
-    assert!(rt; one == six && other == seven || one == seven && other == six);
-    assert!(rt; walk.next().is_none());
-    let mut walk = Simple::new(rt.alloc(), [id(8)], &store)?.sorting(SINCE_4)?;
-    let given = digits(rt.alloc(), &mut walk)?;
-    assert_eq!(rt; given.as_slice(), [8].as_slice());
+    let told = BY_TIME.tell(rt.alloc(), &store, None)?;
+    let told = told.as_str();
+    assert!(rt; told == "8 missing-6 missing-7" || told == "8 missing-7 missing-6");
+    let wish = Wish {
+        sortings: [BREADTH, SINCE_4],
+        ..ALL
+    };
+    let told = wish.tell(rt.alloc(), &store, None)?;
+    assert_eq!(rt; told.as_str(), "8");
     Ok(())
 }
 
-/// The first fault of a walk from 8, newest first, over a store that fails at this commit, and what comes behind.
-fn failing_at(alloc: Global, n: u8) -> Result<(Option<Error>, Vec<u8>), Fail> {
-    let sample = store(alloc, &SAMPLE)?;
-    let failing = Failing {
-        store: &sample,
-        at: id(n),
-    };
-    let mut walk = Simple::new(alloc, [id(8)], &failing)?.sorting(NEWEST)?;
-    let first = walk.next().ok_or("nothing")?.err();
-    Ok((first, digits(alloc, &mut walk)?))
+/// What a walk from 8 gives, newest first, over a store that fails at this commit.
+fn failing_at(alloc: Global, n: u8) -> Result<String, Fail> {
+    BY_TIME.tell_failing(alloc, &sample(alloc)?, n)
 }
 
 #[test]
 fn a_store_that_fails_at_a_parent(rt: HostRuntime) -> Result<(), Fail> {
-    let want = Some(Error::Find(existing_iter::Error::Store));
-    let (fault, behind) = failing_at(rt.alloc(), 6)?;
-    assert_eq!(rt; fault, want);
-    assert!(rt; behind.is_empty());
-    let (fault, behind) = failing_at(rt.alloc(), 7)?;
-    assert_eq!(rt; fault, want);
-    assert_eq!(rt; behind.as_slice(), [6, 5, 3, 1].as_slice());
+    for (n, want) in [(6, "store"), (7, "store 6 5 3 1")] {
+        let told = failing_at(rt.alloc(), n)?;
+        assert_eq!(rt; told.as_str(), want);
+    }
     Ok(())
 }
 
 #[test]
 fn a_broken_second_parent(rt: HostRuntime) -> Result<(), Fail> {
-    let mut store = store(rt.alloc(), &SAMPLE)?;
-    let six = format!(in rt.alloc(); "{}", id(6))?;
-    let short = String::from_str(rt.alloc(), "777777777777777777777777777777777777777")?;
-    let bytes = text(rt.alloc(), TREE, 9, &[six, short])?;
-    store.insert(id(9), Kind::Commit, bytes.as_str().as_bytes())?;
-    let mut walk = Simple::new(rt.alloc(), [id(9)], &store)?.parents(Parents::First);
-    let given = digits(rt.alloc(), &mut walk)?;
-    assert_eq!(rt; given.as_slice(), [9, 6, 5, 3, 1].as_slice());
+    let mut store = sample(rt.alloc())?;
+    insert_with_broken_parent(rt.alloc(), &mut store, 9)?;
+    let wish = Wish {
+        tips: &[9],
+        parents: Parents::First,
+        ..ALL
+    };
+    let told = wish.tell(rt.alloc(), &store, None)?;
+    assert_eq!(rt; told.as_str(), "9 6 5 3 1");
     Ok(())
 }
 
 #[test]
 fn the_text_last_given(rt: HostRuntime) -> Result<(), Fail> {
-    let sample = store(rt.alloc(), &SAMPLE)?;
-    let mut walk = Simple::new(rt.alloc(), [id(8)], &sample)?;
-    assert!(rt; walk.commit_data().is_empty());
-    assert!(rt; walk.commit_iter().next().is_none());
-    while let Some(info) = walk.next() {
-        let Info { id, parent_ids, .. } = info?;
-        let text = text(
-            rt.alloc(),
-            TREE,
-            i64::from(digit(&id)),
-            parent_ids.as_slice(),
-        )?;
-        assert_eq!(rt; walk.commit_data(), text.as_str().as_bytes());
-    }
-    let last = text(rt.alloc(), TREE, 1, &[] as &[ObjectId])?;
-    assert_eq!(rt; walk.commit_data(), last.as_str().as_bytes());
-    let tree = ObjectId::from_hex(TREE.as_bytes())?;
-    assert_eq!(rt;
-        walk.commit_iter().next(),
-        Some(Ok(Token::Tree { id: tree }))
-    );
+    let told = tell_sample_texts(rt.alloc(), None)?;
+    assert_eq!(rt; told.as_str(), "=none 8=8 6=6 7=7 5=5 4=4 3=3 2=2 1=1 =1");
     Ok(())
 }
 
 #[test]
 fn no_text_behind_a_fault(rt: HostRuntime) -> Result<(), Fail> {
-    let store = store(rt.alloc(), &[(8, &[6])])?;
-    let mut walk = Simple::new(rt.alloc(), [id(8)], &store)?;
-    assert!(rt; walk.next().ok_or("nothing")?.is_ok());
-    assert!(rt; !walk.commit_data().is_empty());
-    assert!(rt; walk.next().ok_or("nothing")?.is_err());
-    assert!(rt; walk.commit_data().is_empty());
-    assert!(rt; walk.next().is_none());
+    let told = tell_texts(rt.alloc(), &[(8, &[6])], None)?;
+    assert_eq!(rt; told.as_str(), "=none 8=8 missing-6=none =none");
     Ok(())
 }
