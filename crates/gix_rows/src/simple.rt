@@ -134,14 +134,14 @@ fn draw<F: Find + Drop, P: Predicate + Drop>(
     Ok(told)
 }
 
-/// Behind its end a walk gives nothing, however often it is asked.
-fn check_end<F: Find + Drop, P: Predicate + Drop>(mut walk: Simple<F, P>) -> Result<(), Fail>
-    requires { P.can_accept walk.predicate }
+/// Behind its end a walk gives nothing.
+fn check_end<F: Find + Drop, P: Predicate + Drop>(walk: &mut Simple<F, P>) -> Result<(), Fail>
+    requires { P.can_accept walk.old.predicate }
 {
-    if walk.next().is_some() || walk.next().is_some() {
-        return Err("an answer behind the end".into());
+    match walk.next() {
+        None => Ok(()),
+        Some(_) => Err("an answer behind the end".into()),
     }
-    Ok(())
 }
 
 /// Draws a walk to its end and tells each answer.
@@ -151,7 +151,8 @@ pub fn told<F: Find + Drop>(
     detail: Detail,
 ) -> Result<String, Fail> {
     let told = draw(alloc, &mut walk, detail)?;
-    check_end(walk)?;
+    check_end(&mut walk)?;
+    check_end(&mut walk)?;
     Ok(told)
 }
 
@@ -259,7 +260,8 @@ impl Wish<'_> {
             .sorting(self.sortings[1])?
             .hide(ids(alloc, self.hidden)?)?;
         let told = draw(alloc, &mut walk, self.detail)?;
-        check_end(walk)?;
+        check_end(&mut walk)?;
+        check_end(&mut walk)?;
         noted?;
         Ok(format!(in alloc; "{told}, asked{asked}")?)
     }
@@ -303,7 +305,24 @@ fn write_owner<F: Find + Drop>(
     Ok(write!(told, "={owner}")?)
 }
 
-/// What a walk from 8 gives. Behind `=` stands whose text it lends: before it begins, behind each answer, and at its end.
+/// Tells each answer that a walk over these commits still gives. Behind `=` stands whose text it lends: before the first answer,
+/// behind each, and at its end.
+fn draw_owners<F: Find + Drop>(
+    alloc: Global,
+    commits: &[(u8, &[u8])],
+    walk: &mut Simple<F, Unfiltered>,
+    told: &mut String,
+) -> Result<(), Fail> {
+    write_owner(alloc, told, commits, walk)?;
+    while let Some(answer) = walk.next() {
+        write_answer(alloc, told, &answer, Detail::Digit)?;
+        write_owner(alloc, told, commits, walk)?;
+    }
+    told.push(' ')?;
+    write_owner(alloc, told, commits, walk)
+}
+
+/// What a walk from 8 gives, with the owners of the texts that it lends.
 fn tell_owners<F: Find + Drop>(
     alloc: Global,
     commits: &[(u8, &[u8])],
@@ -312,13 +331,7 @@ fn tell_owners<F: Find + Drop>(
 ) -> Result<String, Fail> {
     let mut walk = Simple::new(alloc, [id(8)], find)?.commit_graph(graph);
     let mut told = String::new(alloc);
-    write_owner(alloc, &mut told, commits, &walk)?;
-    while let Some(answer) = walk.next() {
-        write_answer(alloc, &mut told, &answer, Detail::Digit)?;
-        write_owner(alloc, &mut told, commits, &walk)?;
-    }
-    told.push(' ')?;
-    write_owner(alloc, &mut told, commits, &walk)?;
+    draw_owners(alloc, commits, &mut walk, &mut told)?;
     Ok(told)
 }
 
