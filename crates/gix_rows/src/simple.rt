@@ -262,6 +262,7 @@ impl Wish<'_> {
         let told = draw(alloc, &mut walk, self.detail)?;
         check_end(&mut walk)?;
         check_end(&mut walk)?;
+        drop(walk);
         noted?;
         Ok(format!(in alloc; "{told}, asked{asked}")?)
     }
