@@ -1,60 +1,48 @@
 -- A commit taken from a steady walk adds exactly the parents that became ready.
-use Rattle.std.specs.Prelude.{◌≡◌, ◌≤◌, ◌+◌, List, [], ◌∷◌, Bool, true, false, ◌||◌, cond, Option, Contains}
+use Rattle.std.specs.Prelude.{◌≡◌, ◌≤◌, List, Bool, true, false, ◌||◌, Contains}
 use Rattle.std.proofs.Common.{refl, sym, ap, subst, ⊎_elim, ◌∙◌, arith}
 use Rattle.std.proofs.lemmas.Bool.{true≢false, or_cases, or_left, or_right}
 use Rattle.std.specs.FinSet as set
 use Rattle.gix_parts.specs.declared.hash.ObjectId.{ObjectId}
 use Rattle.gix_parts.specs.Id.{is_same, is_among}
 use Rattle.gix_parts.specs.Object.{Objects}
-use Rattle.gix_parts.specs.Rows.{GraphRow}
-use Rattle.gix_parts.proofs.IdFacts.{id_total, same_is, among_from, Contains-here, Contains-there, Contains-cons_cases, no_member}
+use Rattle.gix_parts.proofs.IdFacts.{id_total, same_is, among_from}
 use Rattle.gix_traverse.specs.declared.commit.topo.frontier.Side.{Side}
 use Rattle.gix_traverse.specs.declared.commit.topo.frontier.Side.TheVariants.{Tips, Ends}
 use Rattle.gix_traverse.specs.declared.commit.topo.counting.Counting.{Counting}
 use Rattle.gix_traverse.specs.declared.commit.topo.iter.Walk.{Walk}
 use Rattle.gix_traverse.specs.declared.commit.topo.ready.ReadySet.{ReadySet}
-use Rattle.gix_traverse.specs.declared.commit.topo.Sorting.{Sorting}
-use Rattle.gix_traverse.specs.declared.commit.Parents.{Parents}
 use Rattle.gix_traverse.specs.Counting.{known_generation}
-use Rattle.gix_traverse.specs.Exploring.{IsRested, IsSamePlan, Explores, itself, further}
+use Rattle.gix_traverse.specs.Exploring.{IsSamePlan, Explores, itself, further}
 use Rattle.gix_traverse.specs.Frontier.{is_seen, is_done, reached}
 use Rattle.gix_traverse.specs.History.{by_mode}
-use Rattle.gix_traverse.specs.ReadsCommit.{rows_of}
 use Rattle.gix_traverse.specs.ReadySet.{ready_in, sorting_of}
 use Rattle.gix_traverse.specs.Releasing.{plan_of, counted_by, lowered, with_taken, TakesOne}
 use Rattle.gix_traverse.specs.Searched.{IsCounted, IsExplored, IsTally, next_by}
 use Rattle.gix_traverse.specs.TopoOrder.{Keeps, last_places}
-use Rattle.gix_traverse.specs.TopoSteady.{IsTallied, IsSteady, IsFound, IsHeld, unasked, unasked_of}
-use Rattle.gix_traverse.specs.TopoWalk.{TopoPlan, Ready, ready_ids, walked_of, Chooses, IsMember, IsStored, IsCounting, IsSound, IsTaken, Adds}
+use Rattle.gix_traverse.specs.TopoSteady.{IsSteady, IsFound, IsHeld, unasked, unasked_of}
+use Rattle.gix_traverse.specs.TopoWalk.{Ready, ready_ids, walked_of, Chooses, IsMember, IsStored, IsCounting, IsSound, IsTaken, Adds}
 use Rattle.gix_traverse.specs.WalkSet.{IsChild, IsReady}
 use Rattle.gix_traverse.specs.Reach.{Reaches, step}
 use Rattle.gix_traverse.proofs.BecameFacts.{none_left, outside, unseen, all_taken}
-use Rattle.gix_traverse.proofs.CountedFacts.{explores_keep, explores_same, explores_made, explores_done}
-use Rattle.gix_traverse.proofs.ExactFacts.{exact_there}
+use Rattle.gix_traverse.proofs.CountedFacts.{explores_same, explores_made}
 use Rattle.gix_traverse.proofs.FrontierFacts.{has_seen}
 use Rattle.gix_traverse.proofs.FreshFacts.{times}
 use Rattle.gix_traverse.proofs.ReadyFacts.{keeps_from, keeps_times, last_from, last_once}
 use Rattle.gix_traverse.proofs.ReleasedFacts.{keeps_on, IsDue, IsReleased, reads_stands, released}
 use Rattle.gix_traverse.proofs.RestFacts.{least_within}
-use Rattle.gix_traverse.proofs.TallyFacts.{children_of, made_of, times-last, tally_takes}
+use Rattle.gix_traverse.proofs.TallyFacts.{children_of, made_of}
 use Rattle.gix_traverse.proofs.StepFacts.{walked_within}
-use Rattle.gix_traverse.proofs.StoredFacts.{found_text, found_named, found_stored}
+use Rattle.gix_traverse.proofs.StoredFacts.{found_named, found_stored}
 use Rattle.gix_traverse.proofs.TopoEndFacts.{distinct_from_times}
 use Rattle.gix_traverse.proofs.TopoReadFacts.{text_whole}
-use Rattle.gix_traverse.proofs.TopoRunFacts.{chosen_in}
-
-in_ids : (rs : List Ready) (r : Ready) → Contains rs r → Contains (ready_ids rs) r.id
-in_ids [] r m = absurd (no_member r m)
-in_ids (x ∷ rs) r m = ⊎_elim (λ s. subst (λ j. Contains (x.id ∷ ready_ids rs) j) (ap (λ y. y.id) s) (Contains-here x.id (ready_ids rs))) (λ t. Contains-there r.id x.id (ready_ids rs) (in_ids rs r t)) (Contains-cons_cases r x rs m)
+use Rattle.gix_traverse.proofs.TakenFacts.{in_ids, was_ready, plan_taken, was_untaken, named_text, counted_on, explored_on, tally_on}
 
 module _ {F : Type 0} (objects : F → Objects) (faulty : F → ObjectId → Type 0) where
   -- rows that stand after exploring stood before
   pub explores_stands : {old new : Counting F} → Explores objects faulty old new → new.reader.standing ≡ true → old.reader.standing ≡ true
   explores_stands itself e = e
   explores_stands (further x p s) e = explores_stands x (reads_stands objects faulty s.reads.reads e)
-
-abbrev plan_at : {F : Type 0} → F → Option (List GraphRow) → Parents → Sorting → List ObjectId → List ObjectId → TopoPlan F
-plan_at store graph parents sorting tips ends = record { store = store; rows = rows_of graph; parents = parents; sorting = sorting; tips = tips; ends = ends }
 
 module _ {F : Type 0} (objects : F → Objects) (faulty : F → ObjectId → Type 0) (w : Walk F) (rest : ReadySet) (same : sorting_of rest ≡ sorting_of w.ready) (r : Ready) (chosen : Chooses (sorting_of w.ready) (ready_in w.ready) r (ready_in rest)) (added : List Ready) (new : Walk F) (t : TakesOne objects faulty (record w { ready = rest }) r added new) where
   abbrev those : Objects
@@ -81,22 +69,14 @@ module _ {F : Type 0} (objects : F → Objects) (faulty : F → ObjectId → Typ
   abbrev now_taken : ObjectId → Bool
   now_taken i = set.contains (set.insert w.taken r.id) i
 
-  ready : Contains (ready_in w.ready) r
-  ready = chosen_in (sorting_of w.ready) (ready_in w.ready) r (ready_in rest) chosen
-
   rel : IsReleased objects faulty between (last_places named) added new
   rel = released objects faulty t.releases
 
   kept_plan : IsSamePlan objects faulty low t.explored
   kept_plan = explores_same objects faulty t.explores
 
-  -- exploring leaves what the walk goes over
-  pub plan_between : plan_of between ≡ plan_of w
-  plan_between =
-      ap (λ x. plan_at x t.explored.reader.graph t.explored.parents (sorting_of rest) w.tips.items w.ends.items) kept_plan.find
-      ∙ ap (λ x. plan_at w.counting.reader.find x t.explored.parents (sorting_of rest) w.tips.items w.ends.items) kept_plan.graph
-      ∙ ap (λ x. plan_at w.counting.reader.find w.counting.reader.graph x (sorting_of rest) w.tips.items w.ends.items) kept_plan.parents
-      ∙ ap (λ x. plan_at w.counting.reader.find w.counting.reader.graph w.counting.parents x w.tips.items w.ends.items) same
+  plan_between : plan_of between ≡ plan_of w
+  plan_between = plan_taken objects faulty w rest r chosen same t.explored kept_plan
 
   -- an added commit was read over the same store and rows
   pub found_added : (a : Ready) → Contains added a → IsFound objects faulty (plan_of w) new.counting.reader.standing a
@@ -115,13 +95,10 @@ module _ {F : Type 0} (objects : F → Objects) (faulty : F → ObjectId → Typ
 
   module _ (held : IsHeld objects faulty w) where
     found : IsFound objects faulty (plan_of w) w.counting.reader.standing r
-    found = held.found r ready
+    found = held.found r (was_ready objects faulty w rest r chosen)
 
     among_ready : is_among r.id (ready_ids (ready_in w.ready)) ≡ true
-    among_ready = among_from r.id (ready_ids (ready_in w.ready)) (in_ids (ready_in w.ready) r ready)
-
-    untaken : set.contains w.taken r.id ≡ false
-    untaken = held.untaken r.id (in_ids (ready_in w.ready) r ready)
+    among_ready = among_from r.id (ready_ids (ready_in w.ready)) (in_ids (ready_in w.ready) r (was_ready objects faulty w rest r chosen))
 
     made_before : (p : ObjectId) → made_of t.explored.frontier p ≡ (set.contains w.taken p || is_among p (ready_ids (ready_in w.ready)))
     made_before p = explores_made objects faulty t.explores p ∙ held.made p
@@ -130,29 +107,20 @@ module _ {F : Type 0} (objects : F → Objects) (faulty : F → ObjectId → Typ
       steady : IsSteady objects w
       steady = held.steady sound
 
-      tallied : IsTallied objects w
-      tallied = held.tallied sound.agreeing
-
       counted : IsCounted those (plan_of w).rows w.counting.parents (plan_of w).tips (plan_of w).ends (set.contains w.taken) t.explored.frontier
-      counted = explores_keep objects faulty (plan_of w).tips (plan_of w).ends (set.contains w.taken) sound.agreeing t.explores tallied.counted
+      counted = counted_on objects faulty w rest r chosen held sound.agreeing t.explored t.explores
 
       explored : (side : Side) → IsExplored those (plan_of w).rows w.counting.parents (plan_of w).tips (plan_of w).ends low.depth side t.explored.frontier
-      explored side = exact_there objects faulty (plan_of w).tips (plan_of w).ends (set.contains w.taken) sound.agreeing t.explores tallied.counted side (tallied.begun side) (subst (λ d. IsRested t.explored.reader.standing d t.explored.frontier.queue) kept_plan.depth t.rested)
+      explored = explored_on objects faulty w rest r chosen held sound.agreeing t.explored t.explores t.rested
 
       is_member : Member r.id
       is_member = steady.member r.id (held.made r.id ∙ or_right (set.contains w.taken r.id) _ among_ready)
 
-      next_is : named ≡ next Tips r.id
-      next_is = ap (by_mode w.counting.parents) (found_text objects faulty (plan_of w) sound.agreeing found)
-
       walked_is : named ≡ walked r.id
-      walked_is = next_is ∙ ap (by_mode w.counting.parents) (sym (text_whole those (faulty w.counting.reader.find) (plan_of w).rows r.id (sound.tips_whole r.id is_member.reached)))
+      walked_is = named_text objects faulty w rest r chosen held sound.agreeing ∙ ap (by_mode w.counting.parents) (sym (text_whole those (faulty w.counting.reader.find) (plan_of w).rows r.id (sound.tips_whole r.id is_member.reached)))
 
       tally : IsTally (next Tips) (λ i. is_done (reached t.explored.frontier.known Tips i)) now_taken (children_of new.counting.frontier)
-      tally =
-          tally_takes (next Tips) (λ i. is_done (reached t.explored.frontier.known Tips i)) (set.contains w.taken) now_taken (children_of t.explored.frontier) (children_of new.counting.frontier) r.id
-          (explores_done objects faulty t.explores Tips r.id (tallied.done r ready)) untaken (λ j. set.contains-insert id_total w.taken r.id j)
-          (λ p. ap (λ n. n + children_of new.counting.frontier p) (sym (times-last p named ∙ ap (λ ids. cond (is_among p ids) 1 0) next_is)) ∙ rel.children p) counted.tally
+      tally = tally_on objects faulty w rest r chosen held sound.agreeing t.explored t.explores (children_of new.counting.frontier) rel.children
 
       seen_there : (p : ObjectId) → has_seen new.counting.frontier Ends p ≡ has_seen t.explored.frontier Ends p
       seen_there p = ap is_seen (rel.moved Ends p)
@@ -190,7 +158,7 @@ module _ {F : Type 0} (objects : F → Objects) (faulty : F → ObjectId → Typ
           child = record { child = is_member; parent = q.member; named = subst (λ ids. Contains ids p) walked_is (last_from named p m) }
 
           go : (b : Bool) → made_of t.explored.frontier p ≡ b → b ≡ false
-          go true e = absurd (true≢false (sym (steady.children p r.id (sym (explores_made objects faulty t.explores p) ∙ e) child) ∙ untaken))
+          go true e = absurd (true≢false (sym (steady.children p r.id (sym (explores_made objects faulty t.explores p) ∙ e) child) ∙ was_untaken objects faulty w rest r chosen held))
           go false e = refl
 
       -- the parents that are added are those that became ready, each at its last place

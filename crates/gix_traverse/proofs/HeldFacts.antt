@@ -1,22 +1,20 @@
 -- What a walk holds still holds after a commit was taken.
 use Rattle.std.specs.Prelude.{◌≡◌, ◌≤◌, ℕ, ◌+◌, List, ◌∷◌, ◌++◌, Bool, true, false, ◌||◌, cond, Contains}
 use Rattle.std.proofs.Common.{refl, sym, ap, subst, ⊎_elim, ◌∙◌, arith}
-use Rattle.std.proofs.lemmas.Bool.{true≢false, or_cases, or_left, or_right}
+use Rattle.std.proofs.lemmas.Bool.{true≢false, or_cases, or_right}
 use Rattle.std.specs.FinSet as set
 use Rattle.gix_parts.specs.declared.hash.ObjectId.{ObjectId}
 use Rattle.gix_parts.specs.Id.{is_same, is_among}
 use Rattle.gix_parts.specs.Object.{Objects}
-use Rattle.gix_parts.proofs.IdFacts.{id_total, same_itself, among-append, among_from, among_is}
+use Rattle.gix_parts.proofs.IdFacts.{id_total, among-append, among_from, among_is}
 use Rattle.gix_traverse.specs.declared.commit.topo.frontier.Side.{Side}
 use Rattle.gix_traverse.specs.declared.commit.topo.frontier.Side.TheVariants.{Tips}
 use Rattle.gix_traverse.specs.declared.commit.topo.counting.Counting.{Counting}
 use Rattle.gix_traverse.specs.declared.commit.topo.iter.Walk.{Walk}
 use Rattle.gix_traverse.specs.declared.commit.topo.ready.ReadySet.{ReadySet}
 use Rattle.gix_traverse.specs.Agreeing.{IsAgreeing}
-use Rattle.gix_traverse.specs.Exploring.{IsRested, IsSamePlan}
 use Rattle.gix_traverse.specs.Frontier.{is_seen, is_queued, is_done, reached, waiting, IsSearch}
 use Rattle.gix_traverse.specs.History.{by_mode}
-use Rattle.gix_traverse.specs.ReadsCommit.{rows_of}
 use Rattle.gix_traverse.specs.ReadySet.{ready_in, sorting_of}
 use Rattle.gix_traverse.specs.Releasing.{plan_of, counted_by, lowered, with_taken, TakesOne}
 use Rattle.gix_traverse.specs.Searched.{IsCounted, IsExplored, IsTally, next_by, starts_by, IsBegun}
@@ -24,16 +22,15 @@ use Rattle.gix_traverse.specs.TopoOrder.{last_places}
 use Rattle.gix_traverse.specs.TopoSteady.{IsReached, IsTallied, IsSteady, HasCounted, IsFound, IsHeld, unasked, unasked_of, TakesReady}
 use Rattle.gix_traverse.specs.TopoWalk.{Ready, ready_ids, walked_of, IsMember, IsSound, IsTaken, IsCommitRead, HoldsReady, Chooses, Adds}
 use Rattle.gix_traverse.specs.WalkSet.{IsChild, IsReady}
-use Rattle.gix_traverse.proofs.CountedFacts.{explores_keep, explores_made, explores_same, explores_still, explores_done, explores_idle}
-use Rattle.gix_traverse.proofs.ExactFacts.{exact_there}
+use Rattle.gix_traverse.proofs.CountedFacts.{explores_made, explores_same, explores_still, explores_done, explores_idle}
 use Rattle.gix_traverse.proofs.FreshFacts.{times, times_none}
 use Rattle.gix_traverse.proofs.OnceFacts.{times_once}
 use Rattle.gix_traverse.proofs.ReadyFacts.{among_times, distinct_times, keeps_from, last_from}
 use Rattle.gix_traverse.proofs.ReleasedFacts.{ids-append, Contains-append_cases, IsReleased, released}
 use Rattle.gix_traverse.proofs.RestFacts.{least_within}
-use Rattle.gix_traverse.proofs.TallyFacts.{children_of, made_of, times-last, tally_same, tally_takes}
-use Rattle.gix_traverse.proofs.TopoReadFacts.{reads_text_next}
-use Rattle.gix_traverse.proofs.TopoRunFacts.{chosen_in, chosen_times, others_in, holds_in, holds_times, joined_times}
+use Rattle.gix_traverse.proofs.TallyFacts.{children_of, made_of, tally_same}
+use Rattle.gix_traverse.proofs.TopoRunFacts.{chosen_times, others_in, holds_in, holds_times, joined_times}
+use Rattle.gix_traverse.proofs.TakenFacts.{was_ready, plan_taken, named_text, counted_on, explored_on, tally_on}
 
 -- lists in which an id is as often
 among_by : (i : ObjectId) (xs ys : List ObjectId) → times i xs ≡ times i ys → is_among i xs ≡ is_among i ys
@@ -86,19 +83,11 @@ module _ {F : Type 0} (objects : F → Objects) (faulty : F → ObjectId → Typ
   rel : IsReleased objects faulty (with_taken objects faulty (record w { ready = rest }) t.explored r) (last_places named) added new
   rel = released objects faulty t.releases
 
-  explored_plan : plan_of (with_taken objects faulty (record w { ready = rest }) t.explored r) ≡ plan_of w
-  explored_plan =
-      let s : IsSamePlan objects faulty low t.explored = explores_same objects faulty t.explores in
-      (λ k. record { store = s.find k; rows = rows_of (s.graph k); parents = s.parents k; sorting = same k; tips = w.tips.items; ends = w.ends.items })
-
   plan_is : plan_of new ≡ plan_of w
-  plan_is = rel.plan ∙ explored_plan
+  plan_is = rel.plan ∙ plan_taken objects faulty w rest r chosen same t.explored (explores_same objects faulty t.explores)
 
-  is_ready : Contains (ready_in w.ready) r
-  is_ready = chosen_in (sorting_of w.ready) (ready_in w.ready) r (ready_in rest) chosen
-
-  was_ready : (q : Ready) → Contains (ready_in rest) q → Contains (ready_in w.ready) q
-  was_ready q m = others_in (sorting_of w.ready) (ready_in w.ready) r (ready_in rest) chosen q m
+  others_ready : (q : Ready) → Contains (ready_in rest) q → Contains (ready_in w.ready) q
+  others_ready q m = others_in (sorting_of w.ready) (ready_in w.ready) r (ready_in rest) chosen q m
 
   taken_now : (j : ObjectId) → set.contains new.taken j ≡ (is_same j r.id || set.contains w.taken j)
   taken_now j = ap (λ s. set.contains s j) rel.taken ∙ set.contains-insert id_total w.taken r.id j
@@ -131,24 +120,13 @@ module _ {F : Type 0} (objects : F → Objects) (faulty : F → ObjectId → Typ
       before = held.tallied agrees
 
       counted : IsCounted those (plan_of w).rows w.counting.parents (plan_of w).tips (plan_of w).ends (set.contains w.taken) t.explored.frontier
-      counted = explores_keep objects faulty (plan_of w).tips (plan_of w).ends (set.contains w.taken) agrees t.explores before.counted
+      counted = counted_on objects faulty w rest r chosen held agrees t.explored t.explores
 
       explored : (side : Side) → IsExplored those (plan_of w).rows w.counting.parents (plan_of w).tips (plan_of w).ends low.depth side t.explored.frontier
-      explored side = exact_there objects faulty (plan_of w).tips (plan_of w).ends (set.contains w.taken) agrees t.explores before.counted side (before.begun side) (subst (λ d. IsRested t.explored.reader.standing d t.explored.frontier.queue) (explores_same objects faulty t.explores).depth t.rested)
-
-      next_is : named ≡ next Tips r.id
-      next_is =
-          let h : IsFound objects faulty (plan_of w) w.counting.reader.standing r = held.found r is_ready in
-          ap (by_mode w.counting.parents) (sym h.is.same_parents ∙ reads_text_next those (faulty w.counting.reader.find) (plan_of w).rows agrees h.reads)
-
-      untaken : set.contains w.taken r.id ≡ false
-      untaken = held.untaken r.id (among_is r.id (ready_ids (ready_in w.ready)) (was_among r.id ∙ or_left _ _ (same_itself r.id)))
+      explored = explored_on objects faulty w rest r chosen held agrees t.explored t.explores t.rested
 
       tally : IsTally (next Tips) (λ i. is_done (reached t.explored.frontier.known Tips i)) now_taken (children_of new.counting.frontier)
-      tally =
-          tally_takes (next Tips) (λ i. is_done (reached t.explored.frontier.known Tips i)) (set.contains w.taken) now_taken (children_of t.explored.frontier) (children_of new.counting.frontier) r.id
-          (explores_done objects faulty t.explores Tips r.id (before.done r is_ready)) untaken (λ j. set.contains-insert id_total w.taken r.id j)
-          (λ p. ap (λ n. n + children_of new.counting.frontier p) (sym (times-last p named ∙ ap (λ ids. cond (is_among p ids) 1 0) next_is)) ∙ rel.children p) counted.tally
+      tally = tally_on objects faulty w rest r chosen held agrees t.explored t.explores (children_of new.counting.frontier) rel.children
 
       search : (side : Side) → IsSearch (next side) (starts_by (plan_of w).tips (plan_of w).ends side) (reached new.counting.frontier.known side) (waiting new.counting.frontier.queue side)
       search side =
@@ -169,13 +147,13 @@ module _ {F : Type 0} (objects : F → Objects) (faulty : F → ObjectId → Typ
       parent_done : (p : ObjectId) → Contains named p → is_done (reached t.explored.frontier.known Tips p) ≡ true
       parent_done p m =
           explored Tips p
-          ((before.counted.searched.search Tips).within p ((before.counted.searched.search Tips).closed r.id p (before.done r is_ready) (subst (λ ids. Contains ids p) next_is m)))
+          ((before.counted.searched.search Tips).within p ((before.counted.searched.search Tips).closed r.id p (before.done r (was_ready objects faulty w rest r chosen)) (subst (λ ids. Contains ids p) (named_text objects faulty w rest r chosen held agrees) m)))
           (least_within (plan_of w).rows w.counting.depth named p m)
 
       done_now : (q : Ready) → Contains (ready_in new.ready) q → is_done (reached new.counting.frontier.known Tips q.id) ≡ true
       done_now q m =
           ap is_done (rel.moved Tips q.id) ∙
-          ready_cases (is_done (reached t.explored.frontier.known Tips q.id) ≡ true) q (λ o. explores_done objects faulty t.explores Tips q.id (before.done q (was_ready q o))) (λ a. parent_done q.id (last_from named q.id (rel.among q a))) m
+          ready_cases (is_done (reached t.explored.frontier.known Tips q.id) ≡ true) q (λ o. explores_done objects faulty t.explores Tips q.id (before.done q (others_ready q o))) (λ a. parent_done q.id (last_from named q.id (rel.among q a))) m
 
       tallied_now : IsTallied objects new
       tallied_now = record {
@@ -229,7 +207,7 @@ module _ {F : Type 0} (objects : F → Objects) (faulty : F → ObjectId → Typ
         where
           of_rest : Contains (ready_in rest) q → IsFound objects faulty (plan_of new) new.counting.reader.standing q
           of_rest o =
-              let h : IsFound objects faulty (plan_of w) w.counting.reader.standing q = held.found q (was_ready q o) in
+              let h : IsFound objects faulty (plan_of w) w.counting.reader.standing q = held.found q (others_ready q o) in
               subst (λ p. IsFound objects faulty p new.counting.reader.standing q) (sym plan_is) (record { info = h.info; before = h.before; after = h.after; reads = h.reads; is = h.is; later = λ e. h.later (adds.stands e) })
 
       -- beside a sound history

@@ -45,6 +45,7 @@ pub mod ReadySetFacts
 pub mod ReleaseFacts
 pub mod ReleasedFacts
 pub mod BecameFacts
+pub mod TakenFacts
 pub mod AddsFacts
 pub mod StoredFacts
 pub mod HeldFacts

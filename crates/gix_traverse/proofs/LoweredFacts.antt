@@ -10,24 +10,22 @@ use Rattle.gix_traverse.specs.declared.commit.topo.counting.Counting.{Counting}
 use Rattle.gix_traverse.specs.declared.commit.topo.iter.Walk.{Walk}
 use Rattle.gix_traverse.specs.declared.commit.topo.ready.ReadySet.{ReadySet}
 use Rattle.gix_traverse.specs.Counting.{known_generation, least}
-use Rattle.gix_traverse.specs.Frontier.{is_done, reached}
+use Rattle.gix_traverse.specs.Frontier.{is_done}
 use Rattle.gix_traverse.specs.History.{by_mode}
-use Rattle.gix_traverse.specs.Reach.{Reaches, step}
+use Rattle.gix_traverse.specs.Reach.{Reaches}
 use Rattle.gix_traverse.specs.ReadsCommit.{rows_of, is_whole_row}
 use Rattle.gix_traverse.specs.ReadySet.{ready_in, sorting_of}
 use Rattle.gix_traverse.specs.Releasing.{plan_of, counted_by, lowered, with_taken, TakesOne}
-use Rattle.gix_traverse.specs.Searched.{text_next}
 use Rattle.gix_traverse.specs.TopoOrder.{last_places}
-use Rattle.gix_traverse.specs.TopoSteady.{IsDone, IsTallied, HasCounted, IsFound, IsHeld}
+use Rattle.gix_traverse.specs.TopoSteady.{IsDone, IsTallied, HasCounted, IsHeld}
 use Rattle.gix_traverse.specs.TopoWalk.{TopoPlan, Ready, walked_of, Chooses, IsInDepth, IsBrokenRow, IsNumberOf, IsCounting, IsSound}
-use Rattle.gix_traverse.proofs.BecameFacts.{done_seen, text_tips}
+use Rattle.gix_traverse.proofs.BecameFacts.{text_tips}
 use Rattle.gix_traverse.proofs.CountedFacts.{explores_same}
 use Rattle.gix_traverse.proofs.DepthFacts.{number_same, broken, counts_on}
 use Rattle.gix_traverse.proofs.ReadyFacts.{last_from}
 use Rattle.gix_traverse.proofs.ReleasedFacts.{IsReleased, released}
 use Rattle.gix_traverse.proofs.RestFacts.{least_within}
-use Rattle.gix_traverse.proofs.TopoReadFacts.{reads_text_next}
-use Rattle.gix_traverse.proofs.TopoRunFacts.{chosen_in}
+use Rattle.gix_traverse.proofs.TakenFacts.{parents_reached}
 
 -- a lowered depth is no greater
 least_below : (rows : List GraphRow) (depth : ℕ) (ids : List ObjectId) → least rows depth ids ≤ depth
@@ -62,9 +60,6 @@ module _ {F : Type 0} (objects : F → Objects) (faulty : F → ObjectId → Typ
     rel : IsReleased objects faulty (with_taken objects faulty (record w { ready = rest }) t.explored r) (last_places named) added new
     rel = released objects faulty t.releases
 
-    is_ready : Contains (ready_in w.ready) r
-    is_ready = chosen_in (sorting_of w.ready) (ready_in w.ready) r (ready_in rest) chosen
-
     tallied : IsTallied objects w
     tallied = held.tallied sound.agreeing
 
@@ -74,15 +69,9 @@ module _ {F : Type 0} (objects : F → Objects) (faulty : F → ObjectId → Typ
     explored_counts : HasCounted objects (plan_of w) t.explored × IsCounting objects (plan_of w) (counted_by t.explored)
     explored_counts = counts_on objects faulty (sorting_of w.ready) w.tips.items w.ends.items (set.contains w.taken) low t.explored sound tallied.counted tallied.begun low_counts t.explores t.rested
 
-    parents_text : r.parents ≡ text_next (objects w.counting.reader.find) r.id
-    parents_text =
-        let f : IsFound objects faulty (plan_of w) w.counting.reader.standing r = held.found r is_ready in
-        sym f.is.same_parents ∙ reads_text_next (objects w.counting.reader.find) (faulty w.counting.reader.find) (plan_of w).rows sound.agreeing f.reads
-
     named_reached : (i : ObjectId) → Contains named i → Reaches (walked_of objects (plan_of w)) (plan_of w).tips i
     named_reached i m =
-        text_tips (objects w.counting.reader.find) (faulty w.counting.reader.find) (plan_of w).rows w.counting.parents (plan_of w).tips (plan_of w).ends sound.agreeing sound.tips_whole sound.ends_whole i
-        (step ((tallied.counted.searched.search Tips).within r.id (done_seen (reached w.counting.frontier.known Tips r.id) (tallied.done r is_ready))) (subst (λ ids. Contains (by_mode w.counting.parents ids) i) parents_text m))
+        text_tips (objects w.counting.reader.find) (faulty w.counting.reader.find) (plan_of w).rows w.counting.parents (plan_of w).tips (plan_of w).ends sound.agreeing sound.tips_whole sound.ends_whole i (parents_reached objects faulty w rest r chosen held sound.agreeing i m)
 
     done_on : (i : ObjectId) → IsDone t.explored.frontier i → IsDone new.counting.frontier i
     done_on i d = ⊎_elim (λ a. inl (ap is_done (rel.moved Tips i) ∙ a)) (λ b. inr (ap is_done (rel.moved Ends i) ∙ b)) d

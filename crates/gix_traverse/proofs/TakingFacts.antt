@@ -9,7 +9,7 @@ use Rattle.gix_parts.specs.declared.object.find.existing_iter.Error.TheVariants 
 use Rattle.gix_parts.specs.Id.{kind_of, is_same, is_among}
 use Rattle.gix_parts.specs.Object.{Object, Objects}
 use Rattle.gix_parts.specs.CommitItems.{commit_items}
-use Rattle.gix_parts.proofs.IdFacts.{same_itself, among_is, Contains-here, Contains-there, Contains-cons_cases, no_member}
+use Rattle.gix_parts.proofs.IdFacts.{same_itself, Contains-here, Contains-there, Contains-cons_cases, no_member}
 use Rattle.gix_traverse.specs.declared.commit.Parents.{Parents}
 use Rattle.gix_traverse.specs.declared.commit.Parents.TheVariants as mode
 use Rattle.gix_traverse.specs.declared.commit.topo.Error.{Error}
@@ -19,26 +19,25 @@ use Rattle.gix_traverse.specs.declared.commit.topo.frontier.Side.TheVariants.{Ti
 use Rattle.gix_traverse.specs.declared.commit.topo.iter.Walk.{Walk}
 use Rattle.gix_traverse.specs.declared.commit.topo.ready.ReadySet.{ReadySet}
 use Rattle.gix_traverse.specs.Agreeing.{IsAgreeing}
-use Rattle.gix_traverse.specs.Exploring.{IsSamePlan, Explores}
+use Rattle.gix_traverse.specs.Exploring.{Explores}
 use Rattle.gix_traverse.specs.Frontier.{is_done, reached}
 use Rattle.gix_traverse.specs.History.{by_mode}
 use Rattle.gix_traverse.specs.Reach.{Reaches, step}
-use Rattle.gix_traverse.specs.ReadsCommit.{rows_of, IsReadFault}
+use Rattle.gix_traverse.specs.ReadsCommit.{IsReadFault}
 use Rattle.gix_traverse.specs.ReadySet.{ready_in, sorting_of}
-use Rattle.gix_traverse.specs.Releasing.{plan_of, IsPushFault, itself as pushed, parent, with_frontier, IsReleaseFault, uncounted, unread, no_memory, none, more, IsFaultAmong, here, later, lowered, with_taken, IsTakingFault, exploring, releasing, short}
-use Rattle.gix_traverse.specs.Searched.{IsCounted, text_next, next_in, next_by, times}
+use Rattle.gix_traverse.specs.Releasing.{plan_of, IsPushFault, itself as pushed, parent, with_frontier, IsReleaseFault, uncounted, unread, no_memory, none, more, IsFaultAmong, here, later, lowered, IsTakingFault, exploring, releasing, short}
+use Rattle.gix_traverse.specs.Searched.{text_next, next_in, next_by, times}
 use Rattle.gix_traverse.specs.TopoOrder.{last_places}
-use Rattle.gix_traverse.specs.TopoSteady.{IsReached, IsTallied, IsFound, IsHeld}
-use Rattle.gix_traverse.specs.TopoWalk.{TopoPlan, Ready, ready_ids, Chooses, text_parents, IsCommitRead, IsOtherParent, IsLate, IsFault}
-use Rattle.gix_traverse.proofs.BecameFacts.{done_seen}
-use Rattle.gix_traverse.proofs.CountedFacts.{explores_keep, explores_same, explores_done, explores_idle}
+use Rattle.gix_traverse.specs.TopoSteady.{IsReached, IsTallied, IsHeld}
+use Rattle.gix_traverse.specs.TopoWalk.{TopoPlan, Ready, Chooses, text_parents, IsCommitRead, IsOtherParent, IsLate, IsFault}
+use Rattle.gix_traverse.proofs.CountedFacts.{explores_same, explores_done, explores_idle}
 use Rattle.gix_traverse.proofs.FaultFacts.{fault_item, exploring_fault, push_fault}
-use Rattle.gix_traverse.proofs.ReadyFacts.{last_from, times_is_among}
+use Rattle.gix_traverse.proofs.ReadyFacts.{last_from}
 use Rattle.gix_traverse.proofs.ReleasedFacts.{IsReleased, released}
 use Rattle.gix_traverse.proofs.TallyFacts.{children_of, times-last, tally_counts}
 use Rattle.gix_traverse.proofs.TopoReadFacts.{reads_text_next}
-use Rattle.gix_traverse.proofs.TopoRunFacts.{chosen_in, chosen_times}
 use Rattle.gix_traverse.proofs.RowFacts.{none_agree}
+use Rattle.gix_traverse.proofs.TakenFacts.{was_ready, plan_taken, was_untaken, named_text, parents_reached, counted_on}
 
 -- a text that names parents is stored
 record IsNaming (objects : Objects) (i : ObjectId) (ids : List ObjectId) : Type 0 where
@@ -132,22 +131,9 @@ module _ {F : Type 0} (objects : F → Objects) (faulty : F → ObjectId → Typ
     abbrev named : List ObjectId
     named = by_mode w.counting.parents r.parents
 
-    in_ready : Contains (ready_in w.ready) r
-    in_ready = chosen_in (sorting_of w.ready) (ready_in w.ready) r (ready_in rest) chosen
-
-    among_ready : Contains (ready_ids (ready_in w.ready)) r.id
-    among_ready =
-        let e : times r.id (ready_ids (ready_in w.ready)) ≡ cond (is_same r.id r.id) 1 0 + times r.id (ready_ids (ready_in rest)) = chosen_times (sorting_of w.ready) (ready_in w.ready) r (ready_in rest) chosen r.id in
-        let o : ◌≡◌ {A = ℕ} (cond (is_same r.id r.id) 1 0) 1 = ap (λ b. cond b 1 0) (same_itself r.id) in
-        let l : 1 ≤ times r.id (ready_ids (ready_in w.ready)) = omega arith in
-        among_is r.id (ready_ids (ready_in w.ready)) (times_is_among r.id (ready_ids (ready_in w.ready)) l)
-
-    named_is : Agrees → named ≡ next r.id
-    named_is a = let h : IsFound objects faulty (plan_of w) w.counting.reader.standing r = held.found r in_ready in ap (by_mode w.counting.parents) (sym h.is.same_parents ∙ reads_text_next (objects (plan_of w).store) (faulty (plan_of w).store) (plan_of w).rows a h.reads)
-
     upcoming : (i : ObjectId) → Contains (last_places named) i → IsUpcoming (plan_of w) i
     upcoming i m = record {
-      reach = λ a. let t : IsTallied objects w = held.tallied a in step ((t.counted.searched.search Tips).within r.id (done_seen (reached w.counting.frontier.known Tips r.id) (t.done r in_ready))) (subst (λ ids. Contains ids i) (named_is a) (last_from named i m));
+      reach = λ a. parents_reached objects faulty w rest r chosen held a i (last_from named i m);
       read = held.read;
     }
 
@@ -157,13 +143,10 @@ module _ {F : Type 0} (objects : F → Objects) (faulty : F → ObjectId → Typ
         t : IsTallied objects w
         t = held.tallied a
 
-        counted : IsCounted (objects low.reader.find) (rows_of low.reader.graph) low.parents w.tips.items w.ends.items (set.contains w.taken) explored.frontier
-        counted = explores_keep objects faulty w.tips.items w.ends.items (set.contains w.taken) a x t.counted
-
         go : (b : Bool) → is_among p named ≡ b → times p (last_places named) ≡ cond (is_among p named) 1 0 → times p (last_places named) ≤ children_of explored.frontier p
         go true e l =
             let o : ◌≡◌ {A = ℕ} (cond (is_among p named) 1 0) 1 = ap (λ b. cond b 1 0) e in
-            let n : 1 ≤ children_of explored.frontier p = tally_counts next (λ i. is_done (reached explored.frontier.known Tips i)) (set.contains w.taken) (children_of explored.frontier) counted.tally p r.id (explores_done objects faulty x Tips r.id (t.done r in_ready)) (held.untaken r.id among_ready) (ap (is_among p) (sym (named_is a)) ∙ e) in
+            let n : 1 ≤ children_of explored.frontier p = tally_counts next (λ i. is_done (reached explored.frontier.known Tips i)) (set.contains w.taken) (children_of explored.frontier) (counted_on objects faulty w rest r chosen held a explored x).tally p r.id (explores_done objects faulty x Tips r.id (t.done r (was_ready objects faulty w rest r chosen))) (was_untaken objects faulty w rest r chosen held) (ap (is_among p) (sym (named_text objects faulty w rest r chosen held a)) ∙ e) in
             omega arith
         go false e l = let o : ◌≡◌ {A = ℕ} (cond (is_among p named) 1 0) 0 = ap (λ b. cond b 1 0) e in omega arith
 
@@ -173,8 +156,5 @@ module _ {F : Type 0} (objects : F → Objects) (faulty : F → ObjectId → Typ
       exploring_fault objects faulty (sorting_of w.ready) w.tips.items w.ends.items (set.contains w.taken) low (λ a. (held.tallied a).counted) e f,
       late (plan_of w) f.fault.entry.1.id e (λ n. absurd (no_member f.fault.entry (subst (λ queue. Contains queue f.fault.entry) (explores_idle objects faulty f.explored (held.idle n)) f.fault.queued))) (subst (λ x. IsReadFault (objects x) (faulty x) f.fault.entry.1.id e) (explores_same objects faulty f.explored).find f.fault.fault),
     )
-    taking_fault e (releasing {explored = explored} x rests f) = among_fails (plan_of w) (plan_is (explores_same objects faulty x)) upcoming (children_left explored x) f
-      where
-        plan_is : IsSamePlan objects faulty low explored → plan_of (with_taken objects faulty (record w { ready = rest }) explored r) ≡ plan_of w
-        plan_is s = λ k. record { store = s.find k; rows = rows_of (s.graph k); parents = s.parents k; sorting = same k; tips = w.tips.items; ends = w.ends.items }
+    taking_fault e (releasing {explored = explored} x rests f) = among_fails (plan_of w) (plan_taken objects faulty w rest r chosen same explored (explores_same objects faulty x)) upcoming (children_left explored x) f
     taking_fault e (short q) = subst (Fails (plan_of w)) (sym q) (tt, tt)
