@@ -28,15 +28,15 @@ use Rattle.gix_traverse.proofs.BecameFacts.{none_left, outside, unseen, all_take
 use Rattle.gix_traverse.proofs.CountedFacts.{explores_same, explores_made}
 use Rattle.gix_traverse.proofs.FrontierFacts.{has_seen}
 use Rattle.gix_traverse.proofs.FreshFacts.{times}
-use Rattle.gix_traverse.proofs.ReadyFacts.{keeps_from, keeps_times, last_from, last_once}
+use Rattle.gix_traverse.proofs.ReadyFacts.{keeps_from, keeps_times, last_from, last_once, times_once}
 use Rattle.gix_traverse.proofs.ReleasedFacts.{keeps_on, IsDue, IsReleased, reads_stands, released}
 use Rattle.gix_traverse.proofs.RestFacts.{least_within}
 use Rattle.gix_traverse.proofs.TallyFacts.{children_of, made_of}
 use Rattle.gix_traverse.proofs.StepFacts.{walked_within}
 use Rattle.gix_traverse.proofs.StoredFacts.{found_named, found_stored}
-use Rattle.gix_traverse.proofs.TopoEndFacts.{distinct_from_times}
 use Rattle.gix_traverse.proofs.TopoReadFacts.{text_whole}
-use Rattle.gix_traverse.proofs.TakenFacts.{in_ids, was_ready, plan_taken, was_untaken, named_text, counted_on, explored_on, tally_on}
+use Rattle.gix_traverse.proofs.TakenFacts.{was_ready, plan_taken, was_untaken, named_text, counted_on, explored_on, tally_on}
+use Rattle.gix_traverse.proofs.TopoRunFacts.{in_ids}
 
 module _ {F : Type 0} (objects : F → Objects) (faulty : F → ObjectId → Type 0) where
   -- rows that stand after exploring stood before
@@ -171,7 +171,7 @@ module _ {F : Type 0} (objects : F → Objects) (faulty : F → ObjectId → Typ
     -- what is added to a walk that may go on
     pub adds_on : (IsSound objects faulty (plan_of w) → IsCounting objects (plan_of w) (counted_by new.counting)) → Adds objects faulty (unasked objects faulty) (unasked_of objects faulty w) r (counted_by new.counting) added
     adds_on counting = record {
-      distinct = distinct_from_times (ready_ids added) (λ i. let a : times i (ready_ids added) ≤ times i (last_places named) = keeps_times (IsDue objects faulty between new) due i in let b : times i (last_places named) ≤ 1 = last_once named i in omega arith);
+      distinct = times_once (ready_ids added) (λ i. let a : times i (ready_ids added) ≤ times i (last_places named) = keeps_times (IsDue objects faulty between new) due i in let b : times i (last_places named) ≤ 1 = last_once named i in omega arith);
       unmade = λ i m. sym (made_before i) ∙ (keeps_from (IsDue objects faulty between new) due i m).1.unmade;
       named = λ i m. found_named objects faulty (plan_of w) found i (walked_within w.counting.parents r.parents i (added_named i m));
       became = λ sound. became sound;

@@ -35,15 +35,12 @@ use Rattle.gix_traverse.proofs.FrontierFacts.{moved}
 use Rattle.gix_traverse.proofs.MeetFacts.{IsFresh, fresh_empty, fresh_on, fresh_counted, all_still, all_seen}
 use Rattle.gix_traverse.proofs.TallyFacts.{follows_named}
 use Rattle.gix_traverse.proofs.RowFacts.{none_agree}
+use Rattle.gix_traverse.proofs.RestFacts.{least_below}
 
 -- the least of two lists, one after the other
-pub least-append : (rows : List GraphRow) (depth : ℕ) (ids others : List ObjectId) → least rows (least rows depth others) ids ≡ least rows depth (ids ++ others)
+least-append : (rows : List GraphRow) (depth : ℕ) (ids others : List ObjectId) → least rows (least rows depth others) ids ≡ least rows depth (ids ++ others)
 least-append rows depth [] others = refl
 least-append rows depth (i ∷ ids) others = ap (min (known_generation rows i)) (least-append rows depth ids others)
-
-least_first : (rows : List GraphRow) (depth : ℕ) (ids : List ObjectId) → least rows depth ids ≤ depth
-least_first rows depth [] = omega arith
-least_first rows depth (i ∷ ids) = let l : least rows depth ids ≤ depth = least_first rows depth ids in omega arith
 
 -- without rows nothing is known of generations
 unknown_generation : (rows : List GraphRow) (i : ObjectId) → rows ≡ [] → known_generation rows i ≡ infinity
@@ -146,7 +143,7 @@ module _ {F : Type 0} (objects : F → Objects) (faulty : F → ObjectId → Typ
     counts sound = counts_on objects faulty sorting tips ends (λ i. false) low explored sound (counted_low (λ i. false) (λ i. refl)) start.begun counts_low explores rested
 
     low_depth : Rows ≡ [] → low.depth ≤ infinity
-    low_depth none = subst (λ d. d ≤ infinity) (sym start.depth) (least_first Rows infinity (tips ++ ends))
+    low_depth none = subst (λ d. d ≤ infinity) (sym start.depth) (least_below Rows infinity (tips ++ ends))
 
     idle : Rows ≡ [] → explored.frontier.queue ≡ []
     idle none = ⊎_elim (λ q. q) (λ r. go r.1 explored.frontier.queue refl) rested

@@ -18,8 +18,9 @@ use Rattle.gix_traverse.specs.SimpleWalk.{SimpleWalk, ids_of, time_order, cutoff
 use Rattle.gix_traverse.specs.SimpleLaws.{AnswersBy, IsFresh}
 use Rattle.gix_traverse.specs.SimpleBuilding.{IsSortedByTime, timed, recent, outdated, IsBuilt, made, breadth_first, by_time, hides, walks, reads}
 use Rattle.gix_traverse.proofs.FreshFacts.{times, among-filter}
-use Rattle.gix_traverse.proofs.OnceFacts.{times_once, once_times, times-filter}
+use Rattle.gix_traverse.proofs.OnceFacts.{once_times, times-filter}
 use Rattle.gix_traverse.proofs.MadeFacts.{is_new_walk, pending_is}
+use Rattle.gix_traverse.proofs.ReadyFacts.{times_once}
 
 in_force : (m : Parents) (by : Sorting) (order : CommitTimeOrder) → time_order m by ≡ Some order → time_order mode.All by ≡ Some order
 in_force mode.First by order e = cc

@@ -42,6 +42,10 @@ module _ {F : Type 0} (objects : F → Objects) (faulty : F → ObjectId → Typ
   pub steps_made : (old new : Counting F) → Steps objects faulty old new → (j : ObjectId) → made_of new.frontier j ≡ made_of old.frontier j
   steps_made old new s j = finishes_made s.finishes j ∙ (follows_named s.follows).made j
 
+  -- a step is done with one id
+  pub done_now : (old new : Counting F) (s : Steps objects faulty old new) (t : Side) (j : ObjectId) → is_done (reached new.frontier.known t j) ≡ is_done (cond (is_same j s.entry.1.id && is_side t s.entry.1.side) Done (reached s.followed.known t j))
+  done_now old new s t j = ap is_done (ap (λ those. reached those t j) s.finishes.known ∙ moved s.followed.known s.entry.1.id s.entry.1.side t Done j)
+
   pub explores_made : {old new : Counting F} → Explores objects faulty old new → (j : ObjectId) → made_of new.frontier j ≡ made_of old.frontier j
   explores_made itself j = refl
   explores_made (further {mid = mid} {new = new} e p s) j = steps_made mid new s j ∙ explores_made e j
@@ -108,14 +112,11 @@ module _ {F : Type 0} (objects : F → Objects) (faulty : F → ObjectId → Typ
       ended : S new.frontier.queue new.frontier
       ended = finishes_keep (objects old.reader.find) (rows_of old.reader.graph) old.parents tips ends s.entry (follows_still s.follows s.entry.1.side s.entry.1.id found) all_seen s.finishes followed
 
-      done_now : (t : Side) (j : ObjectId) → is_done (reached new.frontier.known t j) ≡ is_done (cond (is_same j s.entry.1.id && is_side t s.entry.1.side) Done (reached s.followed.known t j))
-      done_now t j = ap is_done (ap (λ those. reached those t j) s.finishes.known ∙ moved s.followed.known s.entry.1.id s.entry.1.side t Done j)
-
       tally : (side : Side) → s.entry.1.side ≡ side → IsTally (next Tips) (λ i. is_done (reached new.frontier.known Tips i)) taken (children_of new.frontier)
       tally Tips e =
           tally_done (next Tips) (λ i. is_done (reached old.frontier.known Tips i)) (λ i. is_done (reached new.frontier.known Tips i)) taken (children_of old.frontier) (children_of new.frontier) s.entry.1.id
           (queued_undone _ (subst (λ t. is_queued (reached old.frontier.known t s.entry.1.id) ≡ true) e is_in_hand))
-          (λ j. done_now Tips j ∙ ap (λ b. is_done (cond (is_same j s.entry.1.id && b) Done (reached s.followed.known Tips j))) (ap (is_side Tips) e) ∙ one (is_same j s.entry.1.id) j)
+          (λ j. done_now old new s Tips j ∙ ap (λ b. is_done (cond (is_same j s.entry.1.id && b) Done (reached s.followed.known Tips j))) (ap (is_side Tips) e) ∙ one (is_same j s.entry.1.id) j)
           (λ p. finishes_children s.finishes p ∙ follows_counts (subst (λ t. Follows (rows_of old.reader.graph) t (record old.frontier { queue = s.left }) s.ids s.followed) e s.follows) p ∙ ap (λ n. n + children_of old.frontier p) (ap (times p) named ∙ times-last p (next s.entry.1.side s.entry.1.id) ∙ ap (λ t. cond (is_among p (next t s.entry.1.id)) 1 0) e))
           h.tally
         where
@@ -124,7 +125,7 @@ module _ {F : Type 0} (objects : F → Objects) (faulty : F → ObjectId → Typ
           one false j = (follows_named s.follows).done Tips j
       tally Ends e =
           tally_same (next Tips) (λ i. is_done (reached old.frontier.known Tips i)) (λ i. is_done (reached new.frontier.known Tips i)) taken (children_of old.frontier) (children_of new.frontier)
-          (λ j. done_now Tips j ∙ ap (λ b. is_done (cond (is_same j s.entry.1.id && b) Done (reached s.followed.known Tips j))) (ap (is_side Tips) e) ∙ none (is_same j s.entry.1.id) j)
+          (λ j. done_now old new s Tips j ∙ ap (λ b. is_done (cond (is_same j s.entry.1.id && b) Done (reached s.followed.known Tips j))) (ap (is_side Tips) e) ∙ none (is_same j s.entry.1.id) j)
           (λ p. finishes_children s.finishes p ∙ follows_uncounted (subst (λ t. Follows (rows_of old.reader.graph) t (record old.frontier { queue = s.left }) s.ids s.followed) e s.follows) p)
           h.tally
         where

@@ -27,9 +27,8 @@ use Rattle.gix_traverse.specs.SimpleWalk.{ids_at}
 use Rattle.gix_traverse.specs.TopoSteady.{IsDone, HasCounted}
 use Rattle.gix_traverse.specs.TopoWalk.{TopoPlan, IsNumberOf, IsMet, IsInDepth, IsBrokenRow, IsCounting, IsSound}
 use Rattle.gix_traverse.proofs.BecameFacts.{done_seen, tips_text, text_tips, ends_text, text_ends}
-use Rattle.gix_traverse.proofs.CountedFacts.{steps_keep, explores_keep, explores_same}
+use Rattle.gix_traverse.proofs.CountedFacts.{steps_keep, explores_keep, explores_same, done_now}
 use Rattle.gix_traverse.proofs.ExactFacts.{exact_there}
-use Rattle.gix_traverse.proofs.FrontierFacts.{moved}
 use Rattle.gix_traverse.proofs.PaintSteps.{corrupt_row}
 use Rattle.gix_traverse.proofs.ReadFacts.{row_stands}
 use Rattle.gix_traverse.proofs.ReleasedFacts.{reads_stands, reads_drops}
@@ -83,21 +82,18 @@ module _ {F : Type 0} (objects : F → Objects) (faulty : F → ObjectId → Typ
 
   -- a step is done with one id
   module _ (old new : Counting F) (s : Steps objects faulty old new) where
-    done_now : (t : Side) (j : ObjectId) → is_done (reached new.frontier.known t j) ≡ is_done (cond (is_same j s.entry.1.id && is_side t s.entry.1.side) Done (reached s.followed.known t j))
-    done_now t j = ap is_done (ap (λ those. reached those t j) s.finishes.known ∙ moved s.followed.known s.entry.1.id s.entry.1.side t Done j)
-
     done_before : (t : Side) (j : ObjectId) → is_done (reached s.followed.known t j) ≡ is_done (reached old.frontier.known t j)
     done_before t j = (follows_named s.follows).done t j
 
     still_done : (t : Side) (j : ObjectId) → is_done (reached old.frontier.known t j) ≡ true → is_done (reached new.frontier.known t j) ≡ true
-    still_done t j e = done_now t j ∙ go (is_same j s.entry.1.id && is_side t s.entry.1.side)
+    still_done t j e = done_now objects faulty old new s t j ∙ go (is_same j s.entry.1.id && is_side t s.entry.1.side)
       where
         go : (b : Bool) → is_done (cond b Done (reached s.followed.known t j)) ≡ true
         go true = refl
         go false = done_before t j ∙ e
 
     was_done : (t : Side) (j : ObjectId) → is_done (reached new.frontier.known t j) ≡ true → (s.entry.1.id ≡ j) ⊎ (is_done (reached old.frontier.known t j) ≡ true)
-    was_done t j e = go (is_same j s.entry.1.id) (is_side t s.entry.1.side) refl (sym (done_now t j) ∙ e)
+    was_done t j e = go (is_same j s.entry.1.id) (is_side t s.entry.1.side) refl (sym (done_now objects faulty old new s t j) ∙ e)
       where
         go : (a b : Bool) → is_same j s.entry.1.id ≡ a → is_done (cond (a && b) Done (reached s.followed.known t j)) ≡ true → (s.entry.1.id ≡ j) ⊎ (is_done (reached old.frontier.known t j) ≡ true)
         go true true q f = inl (sym (same_is j s.entry.1.id q))
@@ -111,7 +107,7 @@ module _ {F : Type 0} (objects : F → Objects) (faulty : F → ObjectId → Typ
     steps_to j d = ⊎_elim (λ a. ⊎_elim (λ q. inl q) (λ x. inr (inl x)) (was_done Tips j a)) (λ b. ⊎_elim (λ q. inl q) (λ x. inr (inr x)) (was_done Ends j b)) d
 
     steps_here : IsDone new.frontier s.entry.1.id
-    steps_here = side s.entry.1.side (done_now s.entry.1.side s.entry.1.id ∙ ap (λ b. is_done (cond (b && is_side s.entry.1.side s.entry.1.side) Done (reached s.followed.known s.entry.1.side s.entry.1.id))) (same_itself s.entry.1.id) ∙ itself_done s.entry.1.side)
+    steps_here = side s.entry.1.side (done_now objects faulty old new s s.entry.1.side s.entry.1.id ∙ ap (λ b. is_done (cond (b && is_side s.entry.1.side s.entry.1.side) Done (reached s.followed.known s.entry.1.side s.entry.1.id))) (same_itself s.entry.1.id) ∙ itself_done s.entry.1.side)
       where
         itself_done : (t : Side) → is_done (cond (is_side t t) Done (reached s.followed.known t s.entry.1.id)) ≡ true
         itself_done Tips = refl

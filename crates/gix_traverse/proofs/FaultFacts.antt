@@ -38,6 +38,7 @@ use Rattle.gix_traverse.proofs.CommitterFacts.{fault_unread}
 use Rattle.gix_traverse.proofs.CountedFacts.{explores_keep, explores_same}
 use Rattle.gix_traverse.proofs.StepFacts.{no_fault}
 use Rattle.gix_traverse.proofs.TopoReadFacts.{text_whole, reads_text_next}
+use Rattle.gix_traverse.proofs.SearchedFacts.{side_itself}
 
 -- a fault found in place of a committer is an item
 pub fault_item : (items : List (Result Item DecodeError)) (e : DecodeError) → first_committer items ≡ Err e → (e ≡ fault.Missing → ⊥) → Contains items (Err e)
@@ -55,10 +56,6 @@ queue_waits [] entry m = absurd (no_member entry m)
 queue_waits (x ∷ queue) entry m =
     ⊎_elim (λ s. let one : ◌≡◌ {A = ℕ} (cond (is_same entry.1.id x.1.id && is_side entry.1.side x.1.side) 1 0) 1 = ap (λ y. cond (is_same entry.1.id y.1.id && is_side entry.1.side y.1.side) 1 0) s ∙ ap (λ b. cond (b && is_side entry.1.side entry.1.side) 1 0) (same_itself entry.1.id) ∙ ap (λ b. cond b 1 0) (side_itself entry.1.side) in omega arith)
     (λ t. let l : 1 ≤ waiting queue entry.1.side entry.1.id = queue_waits queue entry t in omega arith) (Contains-cons_cases entry x queue m)
-  where
-    side_itself : (a : Side) → is_side a a ≡ true
-    side_itself Tips = refl
-    side_itself Ends = refl
 
 waits_seen : (p : Progress) (n : ℕ) → n ≡ cond (is_queued p) 1 0 → 1 ≤ n → is_seen p ≡ true
 waits_seen Unseen n e l = absurd (omega arith)

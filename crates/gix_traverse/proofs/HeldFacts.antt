@@ -1,7 +1,7 @@
 -- What a walk holds still holds after a commit was taken.
 use Rattle.std.specs.Prelude.{◌≡◌, ◌≤◌, ℕ, ◌+◌, List, ◌∷◌, ◌++◌, Bool, true, false, ◌||◌, cond, Contains}
 use Rattle.std.proofs.Common.{refl, sym, ap, subst, ⊎_elim, ◌∙◌, arith}
-use Rattle.std.proofs.lemmas.Bool.{true≢false, or_cases, or_right}
+use Rattle.std.proofs.lemmas.Bool.{or_cases, or_right, or_parts}
 use Rattle.std.specs.FinSet as set
 use Rattle.gix_parts.specs.declared.hash.ObjectId.{ObjectId}
 use Rattle.gix_parts.specs.Id.{is_same, is_among}
@@ -24,27 +24,12 @@ use Rattle.gix_traverse.specs.TopoWalk.{Ready, ready_ids, walked_of, IsMember, I
 use Rattle.gix_traverse.specs.WalkSet.{IsChild, IsReady}
 use Rattle.gix_traverse.proofs.CountedFacts.{explores_made, explores_same, explores_still, explores_done, explores_idle}
 use Rattle.gix_traverse.proofs.FreshFacts.{times, times_none}
-use Rattle.gix_traverse.proofs.OnceFacts.{times_once}
-use Rattle.gix_traverse.proofs.ReadyFacts.{among_times, distinct_times, keeps_from, last_from}
+use Rattle.gix_traverse.proofs.ReadyFacts.{among_times, distinct_times, keeps_from, last_from, times_once, among_by}
 use Rattle.gix_traverse.proofs.ReleasedFacts.{ids-append, Contains-append_cases, IsReleased, released}
 use Rattle.gix_traverse.proofs.RestFacts.{least_within}
 use Rattle.gix_traverse.proofs.TallyFacts.{children_of, made_of, tally_same}
 use Rattle.gix_traverse.proofs.TopoRunFacts.{chosen_times, others_in, holds_in, holds_times, joined_times}
 use Rattle.gix_traverse.proofs.TakenFacts.{was_ready, plan_taken, named_text, counted_on, explored_on, tally_on}
-
--- lists in which an id is as often
-among_by : (i : ObjectId) (xs ys : List ObjectId) → times i xs ≡ times i ys → is_among i xs ≡ is_among i ys
-among_by i xs ys e = go (is_among i xs) (is_among i ys) refl refl
-  where
-    go : (a b : Bool) → is_among i xs ≡ a → is_among i ys ≡ b → a ≡ b
-    go true true x y = refl
-    go false false x y = refl
-    go true false x y = let l : 1 ≤ times i xs = among_times i xs x in let z : times i ys ≡ 0 = times_none i ys y in absurd (omega arith)
-    go false true x y = let l : 1 ≤ times i ys = among_times i ys y in let z : times i xs ≡ 0 = times_none i xs x in absurd (omega arith)
-
-neither : (a b : Bool) → (a || b) ≡ false → (a ≡ false) × (b ≡ false)
-neither true b e = absurd (true≢false e)
-neither false b e = (refl, e)
 
 turned : (a t s o : Bool) → (a || (t || (s || o))) ≡ ((s || t) || (o || a))
 turned true true true o = refl
@@ -164,7 +149,7 @@ module _ {F : Type 0} (objects : F → Objects) (faulty : F → ObjectId → Typ
 
     module _ (has : IsSound objects faulty (plan_of w) → HasCounted objects (plan_of w) new.counting) (adds : Adds objects faulty (unasked objects faulty) (unasked_of objects faulty w) r (counted_by new.counting) added) where
       fresh : (i : ObjectId) → is_among i (ready_ids added) ≡ true → (set.contains w.taken i ≡ false) × (is_among i (ready_ids (ready_in w.ready)) ≡ false)
-      fresh i e = neither (set.contains w.taken i) (is_among i (ready_ids (ready_in w.ready))) (adds.unmade i (among_is i (ready_ids added) e))
+      fresh i e = or_parts (set.contains w.taken i) (is_among i (ready_ids (ready_in w.ready))) (adds.unmade i (among_is i (ready_ids added) e))
 
       once : (i : ObjectId) → times i (ready_ids (ready_in new.ready)) ≤ 1
       once i =
@@ -188,7 +173,7 @@ module _ {F : Type 0} (objects : F → Objects) (faulty : F → ObjectId → Typ
       untaken_now i m = taken_now i ∙ ⊎_elim of_rest of_added (or_cases (is_among i (ready_ids (ready_in rest))) (is_among i (ready_ids added)) (sym (is_now i) ∙ m))
         where
           of_added : is_among i (ready_ids added) ≡ true → (is_same i r.id || set.contains w.taken i) ≡ false
-          of_added e = ap (λ b. b || set.contains w.taken i) (neither (is_same i r.id) (is_among i (ready_ids (ready_in rest))) (sym (was_among i) ∙ (fresh i e).1)).0 ∙ (fresh i e).0
+          of_added e = ap (λ b. b || set.contains w.taken i) (or_parts (is_same i r.id) (is_among i (ready_ids (ready_in rest))) (sym (was_among i) ∙ (fresh i e).1)).0 ∙ (fresh i e).0
 
           other : (b : Bool) → is_same i r.id ≡ b → is_among i (ready_ids (ready_in rest)) ≡ true → b ≡ false
           other false s e = refl

@@ -1,15 +1,15 @@
 -- Counting stays exact as a commit is taken: down to the depth lowered to its parents.
-use Rattle.std.specs.Prelude.{◌≡◌, ◌≤◌, ℕ, List, [], ◌∷◌, Bool, true, false, Contains}
+use Rattle.std.specs.Prelude.{◌≡◌, ◌≤◌, ℕ, List, Bool, true, false, Contains}
 use Rattle.std.proofs.Common.{refl, sym, ap, subst, inl, inr, ⊎_elim, ◌∙◌, arith}
 use Rattle.std.specs.FinSet as set
 use Rattle.gix_parts.specs.declared.hash.ObjectId.{ObjectId}
 use Rattle.gix_parts.specs.Object.{Objects}
-use Rattle.gix_parts.specs.Rows.{GraphRow, row_of}
+use Rattle.gix_parts.specs.Rows.{row_of}
 use Rattle.gix_traverse.specs.declared.commit.topo.frontier.Side.TheVariants.{Tips, Ends}
 use Rattle.gix_traverse.specs.declared.commit.topo.counting.Counting.{Counting}
 use Rattle.gix_traverse.specs.declared.commit.topo.iter.Walk.{Walk}
 use Rattle.gix_traverse.specs.declared.commit.topo.ready.ReadySet.{ReadySet}
-use Rattle.gix_traverse.specs.Counting.{known_generation, least}
+use Rattle.gix_traverse.specs.Counting.{known_generation}
 use Rattle.gix_traverse.specs.Frontier.{is_done}
 use Rattle.gix_traverse.specs.History.{by_mode}
 use Rattle.gix_traverse.specs.Reach.{Reaches}
@@ -24,13 +24,8 @@ use Rattle.gix_traverse.proofs.CountedFacts.{explores_same}
 use Rattle.gix_traverse.proofs.DepthFacts.{number_same, broken, counts_on}
 use Rattle.gix_traverse.proofs.ReadyFacts.{last_from}
 use Rattle.gix_traverse.proofs.ReleasedFacts.{IsReleased, released}
-use Rattle.gix_traverse.proofs.RestFacts.{least_within}
+use Rattle.gix_traverse.proofs.RestFacts.{least_within, least_below}
 use Rattle.gix_traverse.proofs.TakenFacts.{parents_reached}
-
--- a lowered depth is no greater
-least_below : (rows : List GraphRow) (depth : ℕ) (ids : List ObjectId) → least rows depth ids ≤ depth
-least_below rows depth [] = omega arith
-least_below rows depth (i ∷ ids) = let l : least rows depth ids ≤ depth = least_below rows depth ids in omega arith
 
 broken_lower : {F : Type 0} (objects : F → Objects) (plan : TopoPlan F) (low depth : ℕ) → low ≤ depth → IsBrokenRow objects plan depth → IsBrokenRow objects plan low
 broken_lower objects plan low depth l b = record {

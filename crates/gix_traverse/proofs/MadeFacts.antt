@@ -1,27 +1,19 @@
 -- What a walk holds that was just made of some tips.
-use Rattle.std.specs.Prelude.{◌≡◌, ◌⊎◌, ◌+◌, ◌≤◌, List, [], ◌∷◌, filter, Bool, true, false, not, ◌&&◌, ◌||◌, cond, Contains}
+use Rattle.std.specs.Prelude.{◌≡◌, ◌⊎◌, ◌≤◌, List, [], filter, Bool, true, false, not, ◌&&◌, ◌||◌, cond, Contains}
 use Rattle.std.proofs.Common.{refl, sym, ap, subst, inl, inr, ⊎_elim, arith, ◌∙◌}
 use Rattle.std.proofs.lemmas.Bool.{false≢true, and_parts}
 use Rattle.std.specs.FinSet as set
 use Rattle.gix_parts.specs.declared.hash.ObjectId.{ObjectId}
-use Rattle.gix_parts.specs.Id.{id_cmp, is_same, is_among}
+use Rattle.gix_parts.specs.Id.{id_cmp, is_among}
 use Rattle.gix_parts.specs.Object.{Objects}
 use Rattle.gix_parts.proofs.IdFacts.{among_from, among_is, no_member}
 use Rattle.gix_traverse.specs.declared.commit.Parents.TheVariants as mode
 use Rattle.gix_traverse.specs.declared.commit.simple.Sorting.TheVariants as sorting
 use Rattle.gix_traverse.specs.SimpleWalk.{SimpleWalk, bare, ids_of, time_order, IsMade}
 use Rattle.gix_traverse.specs.SimpleLaws.{Becomes, itself, further, AnswersBy, IsFresh, IsNewWalk, AreDistinct, new_ids}
-use Rattle.gix_traverse.proofs.FreshFacts.{fresh, times, times_among, times-fresh, among-filter}
-use Rattle.gix_traverse.proofs.OnceFacts.{times_once}
+use Rattle.gix_traverse.proofs.FreshFacts.{fresh, times_among, times-fresh, among-filter}
 use Rattle.gix_traverse.proofs.TreatFacts.{Setting, Stands, Did, keep, all_treated}
-
-among_times : (i : ObjectId) (xs : List ObjectId) → is_among i xs ≡ true → 1 ≤ times i xs
-among_times i [] h = absurd (false≢true h)
-among_times i (x ∷ xs) h = go (among_times i xs) (is_same i x) h
-  where
-    go : (is_among i xs ≡ true → 1 ≤ times i xs) → (b : Bool) → (b || is_among i xs) ≡ true → 1 ≤ cond b 1 0 + times i xs
-    go rest true h = omega arith
-    go rest false h = let r = rest h in omega arith
+use Rattle.gix_traverse.proofs.ReadyFacts.{times_once, among_times}
 
 once_or_never : (b : Bool) → cond b 1 0 ≤ 1
 once_or_never true = omega arith

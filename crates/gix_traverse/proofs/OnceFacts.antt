@@ -1,7 +1,7 @@
 -- No id is given twice, whatever the store, the rows and the predicate do.
 use Rattle.std.specs.Prelude.{◌≡◌, ◌+◌, ◌≤◌, ℕ, ℤ, List, [], ◌∷◌, ◌++◌, filter, Bool, true, false, not, ◌||◌, cond, Option, Some, Result, Ok, Err, Contains}
 use Rattle.std.proofs.Common.{refl, sym, ap, subst, ⊎_elim, ◌∙◌, arith, append_assoc, append-nil, le_refl}
-use Rattle.std.proofs.lemmas.Bool.{false≢true, false_from_ne_true}
+use Rattle.std.proofs.lemmas.Bool.{false_from_ne_true}
 use Rattle.std.specs.FinSet as set
 use Rattle.gix_parts.specs.declared.hash.ObjectId.{ObjectId}
 use Rattle.gix_parts.specs.declared.object.decode.Error.{Error as DecodeError}
@@ -12,24 +12,10 @@ use Rattle.gix_traverse.specs.declared.commit.simple.Error.{Error}
 use Rattle.gix_traverse.specs.declared.commit.simple.pending.Pending.{Pending}
 use Rattle.gix_traverse.specs.SimpleWalk.{SimpleWalk, Treated, Holds, ids_of, time_order, cutoff, asked, Enqueues, dropped, enqueued, IsNew, Treats, hidden, known, refused, accepted, store_fails, no_memory, no_memory_after, TreatsAll, none, more, stops, Concludes, given, broken, Takes, by_row, by_store, not_found, Chooses, first, best, Steps, took, Next, unhidden, paints, faulty_history, May}
 use Rattle.gix_traverse.specs.SimpleLaws.{AreDistinct, given_ids}
-use Rattle.gix_parts.proofs.IdFacts.{id_total, same_is, same_itself, among_from, among_is}
+use Rattle.gix_parts.proofs.IdFacts.{id_total, same_is, among_is}
 use Rattle.gix_traverse.proofs.FreshFacts.{times, times-append, times_none}
 use Rattle.gix_traverse.proofs.TreatFacts.{times-permutation, times_holds}
-
-pub times_once : (xs : List ObjectId) → ((i : ObjectId) → times i xs ≤ 1) → AreDistinct xs
-times_once [] h = tt
-times_once (x ∷ xs) h =
-    let own : cond (is_same x x) 1 0 + times x xs ≤ 1 = h x in
-    let one : 1 + times x xs ≤ 1 = subst (λ b. cond b 1 0 + times x xs ≤ 1) (same_itself x) own in
-    ((λ c. let n : 1 ≤ times x xs = member x xs (among_from x xs c) in omega arith), times_once xs (λ i. let k : cond (is_same i x) 1 0 + times i xs ≤ 1 = h i in omega arith))
-  where
-    member : (x : ObjectId) (xs : List ObjectId) → is_among x xs ≡ true → 1 ≤ times x xs
-    member x [] e = absurd (false≢true e)
-    member x (y ∷ xs) e = go (is_same x y) e (member x xs)
-      where
-        go : (b : Bool) → (b || is_among x xs) ≡ true → (is_among x xs ≡ true → 1 ≤ times x xs) → 1 ≤ cond b 1 0 + times x xs
-        go true e r = omega arith
-        go false e r = let k : 1 ≤ times x xs = r e in omega arith
+use Rattle.gix_traverse.proofs.ReadyFacts.{times_once}
 
 pub once_times : (xs : List ObjectId) → AreDistinct xs → (i : ObjectId) → times i xs ≤ cond (is_among i xs) 1 0
 once_times [] d i = omega arith

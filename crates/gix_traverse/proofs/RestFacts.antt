@@ -37,6 +37,11 @@ least_lower rows depth i (j ∷ ids) =
     swap : (a b c : ℕ) → min a (min b c) ≡ min b (min a c)
     swap a b c = omega arith
 
+-- a lowered depth is no greater
+pub least_below : (rows : List GraphRow) (depth : ℕ) (ids : List ObjectId) → least rows depth ids ≤ depth
+least_below rows depth [] = omega arith
+least_below rows depth (i ∷ ids) = let l : least rows depth ids ≤ depth = least_below rows depth ids in omega arith
+
 -- the least is no greater than any
 pub least_within : (rows : List GraphRow) (depth : ℕ) (ids : List ObjectId) (i : ObjectId) → Contains ids i → least rows depth ids ≤ known_generation rows i
 least_within rows depth [] i m = absurd (no_member i m)

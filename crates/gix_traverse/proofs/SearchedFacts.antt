@@ -42,7 +42,7 @@ side_is Tips Ends e = cc
 side_is Ends Tips e = cc
 side_is Ends Ends e = refl
 
-side_itself : (a : Side) → is_side a a ≡ true
+pub side_itself : (a : Side) → is_side a a ≡ true
 side_itself Tips = refl
 side_itself Ends = refl
 

@@ -1,5 +1,5 @@
 -- What holds of a topological walk that has begun.
-use Rattle.std.specs.Prelude.{◌≡◌, ◌≤◌, List, [], ◌++◌, Bool, true, false, ◌||◌, Contains}
+use Rattle.std.specs.Prelude.{◌≡◌, ◌≤◌, [], ◌++◌, Bool, true, false, ◌||◌, Contains}
 use Rattle.std.proofs.Common.{refl, sym, ap, subst, inl, inr, ⊎_elim, ◌∙◌, arith}
 use Rattle.std.proofs.lemmas.Bool.{true≢false, false≢true}
 use Rattle.std.proofs.lemmas.List.Elements.{Contains-append_left}
@@ -30,9 +30,8 @@ use Rattle.gix_traverse.specs.TopoWalk.{TopoPlan, Ready, ready_ids, first_depth,
 use Rattle.gix_traverse.specs.WalkSet.{IsChildless}
 use Rattle.gix_traverse.proofs.BecameFacts.{none_left, outside, unseen, all_taken}
 use Rattle.gix_traverse.proofs.DepthFacts.{number_same, broken}
-use Rattle.gix_traverse.proofs.FreshFacts.{times, times_none}
-use Rattle.gix_traverse.proofs.OnceFacts.{times_once}
-use Rattle.gix_traverse.proofs.ReadyFacts.{keeps_from, keeps_times, first_once, among_times}
+use Rattle.gix_traverse.proofs.FreshFacts.{times}
+use Rattle.gix_traverse.proofs.ReadyFacts.{keeps_from, keeps_times, first_once, times_once, among_by}
 use Rattle.gix_traverse.proofs.ReachedFacts.{text_reached}
 use Rattle.gix_traverse.proofs.ReleasedFacts.{keeps_on}
 use Rattle.gix_traverse.proofs.RestFacts.{least_within}
@@ -42,15 +41,6 @@ use Rattle.gix_traverse.proofs.StartsFacts.{IsTipDue, AreStarted, started, first
 use Rattle.gix_traverse.proofs.StoredFacts.{found_stored}
 use Rattle.gix_traverse.proofs.TallyFacts.{children_of, made_of, tally_same}
 use Rattle.gix_traverse.proofs.TopoRunFacts.{holds_in, holds_times, times-permutation}
-
-among_alike : (i : ObjectId) (xs ys : List ObjectId) → times i xs ≡ times i ys → is_among i xs ≡ is_among i ys
-among_alike i xs ys e = go (is_among i xs) (is_among i ys) refl refl
-  where
-    go : (a b : Bool) → is_among i xs ≡ a → is_among i ys ≡ b → a ≡ b
-    go true true p q = refl
-    go false false p q = refl
-    go true false p q = let l : 1 ≤ times i xs = among_times i xs p in let z : times i ys ≡ 0 = times_none i ys q in absurd (omega arith)
-    go false true p q = let l : 1 ≤ times i ys = among_times i ys q in let z : times i xs ≡ 0 = times_none i xs p in absurd (omega arith)
 
 or_false : (b : Bool) → (b || false) ≡ b
 or_false true = refl
@@ -120,7 +110,7 @@ module _ {F : Type 0} (objects : F → Objects) (faulty : F → ObjectId → Typ
   ready_times i = holds_times p.sorting (by_rising_time h.starts) (ready_in w.ready) sorted i ∙ times-permutation i h.starts (by_rising_time h.starts) (by_time_moves (λ r. r.time) h.starts)
 
   ready_among : (i : ObjectId) → is_among i (ready_ids h.starts) ≡ is_among i (ready_ids (ready_in w.ready))
-  ready_among i = among_alike i (ready_ids h.starts) (ready_ids (ready_in w.ready)) (sym (ready_times i))
+  ready_among i = among_by i (ready_ids h.starts) (ready_ids (ready_in w.ready)) (sym (ready_times i))
 
   start_of : (i : ObjectId) → Contains (ready_ids (ready_in w.ready)) i → Contains (ready_ids h.starts) i
   start_of i m = among_is i (ready_ids h.starts) (ready_among i ∙ among_from i _ m)

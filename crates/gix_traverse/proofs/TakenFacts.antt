@@ -1,11 +1,11 @@
 -- A ready commit is chosen to be taken, and counting goes on for it: what all facts about that stand on.
-use Rattle.std.specs.Prelude.{◌≡◌, ◌+◌, ℕ, List, [], ◌∷◌, Bool, false, cond, Contains}
-use Rattle.std.proofs.Common.{sym, ap, subst, ⊎_elim, ◌∙◌}
+use Rattle.std.specs.Prelude.{◌≡◌, ◌+◌, ℕ, List, Bool, false, cond, Contains}
+use Rattle.std.proofs.Common.{sym, ap, subst, ◌∙◌}
 use Rattle.std.specs.FinSet as set
 use Rattle.gix_parts.specs.declared.hash.ObjectId.{ObjectId}
 use Rattle.gix_parts.specs.Id.{is_among}
 use Rattle.gix_parts.specs.Object.{Objects}
-use Rattle.gix_parts.proofs.IdFacts.{id_total, Contains-here, Contains-there, Contains-cons_cases, no_member}
+use Rattle.gix_parts.proofs.IdFacts.{id_total}
 use Rattle.gix_traverse.specs.declared.commit.topo.frontier.Side.{Side}
 use Rattle.gix_traverse.specs.declared.commit.topo.frontier.Side.TheVariants.{Tips}
 use Rattle.gix_traverse.specs.declared.commit.topo.counting.Counting.{Counting}
@@ -22,17 +22,13 @@ use Rattle.gix_traverse.specs.Releasing.{plan_of, lowered, with_taken}
 use Rattle.gix_traverse.specs.Searched.{IsCounted, IsExplored, IsTally, next_by, times}
 use Rattle.gix_traverse.specs.TopoOrder.{last_places}
 use Rattle.gix_traverse.specs.TopoSteady.{IsTallied, IsHeld}
-use Rattle.gix_traverse.specs.TopoWalk.{Ready, ready_ids, Chooses}
+use Rattle.gix_traverse.specs.TopoWalk.{Ready, Chooses}
 use Rattle.gix_traverse.proofs.BecameFacts.{done_seen}
 use Rattle.gix_traverse.proofs.CountedFacts.{explores_keep, explores_same, explores_done}
 use Rattle.gix_traverse.proofs.ExactFacts.{exact_there}
 use Rattle.gix_traverse.proofs.StoredFacts.{found_text}
 use Rattle.gix_traverse.proofs.TallyFacts.{children_of, times-last, tally_takes}
-use Rattle.gix_traverse.proofs.TopoRunFacts.{chosen_in}
-
-pub in_ids : (rs : List Ready) (r : Ready) → Contains rs r → Contains (ready_ids rs) r.id
-in_ids [] r m = absurd (no_member r m)
-in_ids (x ∷ rs) r m = ⊎_elim (λ s. subst (λ j. Contains (x.id ∷ ready_ids rs) j) (ap (λ y. y.id) s) (Contains-here x.id (ready_ids rs))) (λ t. Contains-there r.id x.id (ready_ids rs) (in_ids rs r t)) (Contains-cons_cases r x rs m)
+use Rattle.gix_traverse.proofs.TopoRunFacts.{chosen_in, in_ids}
 
 module _ {F : Type 0} (objects : F → Objects) (faulty : F → ObjectId → Type 0) (w : Walk F) (rest : ReadySet) (r : Ready) (chosen : Chooses (sorting_of w.ready) (ready_in w.ready) r (ready_in rest)) where
   abbrev those : Objects

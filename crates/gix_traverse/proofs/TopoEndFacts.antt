@@ -17,8 +17,8 @@ use Rattle.gix_traverse.specs.TopoLaws.{left_beside, answers_left, AreApart, Ask
 use Rattle.gix_parts.proofs.IdFacts.{id_total, same_is, same_itself, among_from, among_is, Contains-here, Contains-there, Contains-cons_cases, no_member}
 use Rattle.gix_traverse.proofs.FreshFacts.{fresh, fresh_agree, times, times_none}
 use Rattle.gix_traverse.proofs.EndFacts.{new_less}
-use Rattle.gix_traverse.proofs.ReadyFacts.{among_times, times_is_among, distinct_times}
-use Rattle.gix_traverse.proofs.TopoRunFacts.{holds_times, joined_times, chosen_times, chosen_in}
+use Rattle.gix_traverse.proofs.ReadyFacts.{among_times, times_is_among, distinct_times, times_once}
+use Rattle.gix_traverse.proofs.TopoRunFacts.{holds_times, joined_times, chosen_times, chosen_in, in_ids}
 
 -- distinct ids that are new no more
 all_new : (s : ObjectId → Bool) (xs ids : List ObjectId) → AreDistinct ids → ((i : ObjectId) → Contains ids i → is_among i xs ≡ true) → ((i : ObjectId) → Contains ids i → s i ≡ false) → length (fresh (λ j. is_among j ids || s j) xs) + length ids ≡ length (fresh s xs)
@@ -33,13 +33,6 @@ all_new s xs (i ∷ ids) d a n =
     turned : (a b c : Bool) → ((a || b) || c) ≡ (a || (b || c))
     turned true b c = refl
     turned false b c = refl
-
-pub distinct_from_times : (xs : List ObjectId) → ((i : ObjectId) → times i xs ≤ 1) → AreDistinct xs
-distinct_from_times [] n = tt
-distinct_from_times (x ∷ xs) n = (
-  (λ m. let a : cond (is_same x x) 1 0 + times x xs ≤ 1 = n x in let s : ◌≡◌ {A = ℕ} (cond (is_same x x) 1 0) 1 = ap (λ b. cond b 1 0) (same_itself x) in let o : 1 ≤ times x xs = among_times x xs (among_from x xs m) in absurd (omega arith)),
-  distinct_from_times xs (λ i. let a : cond (is_same i x) 1 0 + times i xs ≤ 1 = n i in omega arith),
-)
 
 pub both_ways : (a b : Bool) → (a ≡ true → b ≡ true) → (b ≡ true → a ≡ true) → a ≡ b
 both_ways true b f g = sym (f refl)
@@ -159,7 +152,7 @@ module _ {F P : Type 0} (objects : F → Objects) (faulty : F → ObjectId → T
 
   -- what the predicate was asked
   apart_on : (w : TopoWalk F P) (c : Ready) (counted : Counted) (ready : List Ready) (predicate : P) → Takes objects faulty answers w c counted ready → AreApart w → AreApart (after objects faulty answers w c counted ready predicate)
-  apart_on w c counted ready predicate t h = record { distinct = distinct_from_times (ready_ids ready) once; untaken = λ i m. false_from_ne_true _ (λ e. untaken i (among_from i (ready_ids ready) m) e) }
+  apart_on w c counted ready predicate t h = record { distinct = times_once (ready_ids ready) once; untaken = λ i m. false_from_ne_true _ (λ e. untaken i (among_from i (ready_ids ready) m) e) }
     where
       counts : (i : ObjectId) → times i (ready_ids ready) ≡ times i (ready_ids t.others) + times i (ready_ids t.added)
       counts i = holds_times w.plan.sorting (t.others ++ t.added) ready t.holds i ∙ joined_times i t.others t.added
@@ -197,12 +190,8 @@ module _ {F P : Type 0} (objects : F → Objects) (faulty : F → ObjectId → T
       added_out : (i : ObjectId) → is_among i (ready_ids t.added) ≡ true → set.contains (set.insert w.taken c.id) i ≡ true → ⊥
       added_out i a m =
           let f : is_made w i ≡ false = t.adds.unmade i (among_is i _ a) in
-          ⊎_elim (λ y. true≢false (sym (or_right (set.contains w.taken i) _ (among_from i (ready_ids w.ready) (subst (λ z. Contains (ready_ids w.ready) z) (sym (same_is i c.id y)) (id_in c w.ready (chosen_in w.plan.sorting w.ready c t.others t.chosen))))) ∙ f))
+          ⊎_elim (λ y. true≢false (sym (or_right (set.contains w.taken i) _ (among_from i (ready_ids w.ready) (subst (λ z. Contains (ready_ids w.ready) z) (sym (same_is i c.id y)) (in_ids w.ready c (chosen_in w.plan.sorting w.ready c t.others t.chosen))))) ∙ f))
           (λ y. true≢false (sym (or_left _ _ y) ∙ f)) (or_cases (is_same i c.id) (set.contains w.taken i) (sym (set.contains-insert id_total w.taken c.id i) ∙ m))
-        where
-          id_in : (r : Ready) (rs : List Ready) → Contains rs r → Contains (ready_ids rs) r.id
-          id_in r [] n = absurd (no_member r n)
-          id_in r (q ∷ rs) n = ⊎_elim (λ y. subst (λ z. Contains (q.id ∷ ready_ids rs) z) (ap (λ x. x.id) y) (Contains-here q.id (ready_ids rs))) (λ y. Contains-there r.id q.id (ready_ids rs) (id_in r rs y)) (Contains-cons_cases r q rs n)
 
       untaken : (i : ObjectId) → is_among i (ready_ids ready) ≡ true → set.contains (set.insert w.taken c.id) i ≡ true → ⊥
       untaken i m e = go (is_among i (ready_ids t.added)) refl
@@ -233,12 +222,8 @@ module _ {F P : Type 0} (objects : F → Objects) (faulty : F → ObjectId → T
         silent = λ e. absurd (no_member c (subst (λ rs. Contains rs c) e (chosen_in w.plan.sorting w.ready c t.others t.chosen)));
       }
     where
-      id_in : (q : Ready) (rs : List Ready) → Contains rs q → Contains (ready_ids rs) q.id
-      id_in q [] n = absurd (no_member q n)
-      id_in q (p ∷ rs) n = ⊎_elim (λ y. subst (λ z. Contains (p.id ∷ ready_ids rs) z) (ap (λ x. x.id) y) (Contains-here p.id (ready_ids rs))) (λ y. Contains-there q.id p.id (ready_ids rs) (id_in q rs y)) (Contains-cons_cases q p rs n)
-
       free : set.contains w.taken c.id ≡ false
-      free = h.untaken c.id (id_in c w.ready (chosen_in w.plan.sorting w.ready c t.others t.chosen))
+      free = h.untaken c.id (in_ids w.ready c (chosen_in w.plan.sorting w.ready c t.others t.chosen))
 
   asks_next : {w new : TopoWalk F P} {o : Option (Result Info Error)} → Next objects faulty answers w o new → (last : P) → AreApart w → (AreApart new → Asks new last) → Asks w last
   asks_next (ended e) last h rest = rest h

@@ -43,6 +43,10 @@ pub holds_in : (s : Sorting) (these ready : List Ready) → HoldsReady s these r
 holds_in order.TopoOrder these ready h r c = subst (λ rs. Contains rs r) h c
 holds_in order.DateOrder these ready h r c = Contains-permutation ready these r (IsPermutation-sym these ready h) c
 
+pub in_ids : (rs : List Ready) (r : Ready) → Contains rs r → Contains (ready_ids rs) r.id
+in_ids [] r m = absurd (no_member r m)
+in_ids (x ∷ rs) r m = ⊎_elim (λ s. subst (λ j. Contains (x.id ∷ ready_ids rs) j) (ap (λ y. y.id) s) (Contains-here x.id (ready_ids rs))) (λ t. Contains-there r.id x.id (ready_ids rs) (in_ids rs r t)) (Contains-cons_cases r x rs m)
+
 pub joined_times : (i : ObjectId) (xs ys : List Ready) → times i (ready_ids (xs ++ ys)) ≡ times i (ready_ids xs) + times i (ready_ids ys)
 joined_times i xs ys = ap (times i) (map-append (λ r. r.id) xs ys) ∙ times-append i (ready_ids xs) (ready_ids ys)
 
