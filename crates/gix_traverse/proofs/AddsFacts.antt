@@ -20,8 +20,8 @@ use Rattle.gix_traverse.specs.ReadySet.{ready_in, sorting_of}
 use Rattle.gix_traverse.specs.Releasing.{plan_of, counted_by, lowered, with_taken, TakesOne}
 use Rattle.gix_traverse.specs.Searched.{IsCounted, IsExplored, IsTally, next_by}
 use Rattle.gix_traverse.specs.TopoOrder.{Keeps, last_places}
-use Rattle.gix_traverse.specs.TopoSteady.{IsSteady, IsFound, IsHeld, unasked, unasked_of}
-use Rattle.gix_traverse.specs.TopoWalk.{Ready, ready_ids, walked_of, Chooses, IsMember, IsStored, IsCounting, IsSound, IsTaken, Adds}
+use Rattle.gix_traverse.specs.TopoSteady.{IsSteady, IsHeld, unasked, unasked_of}
+use Rattle.gix_traverse.specs.TopoWalk.{Ready, ready_ids, walked_of, Chooses, IsMember, IsStored, IsCounting, IsSound, IsTaken, Adds, IsFound}
 use Rattle.gix_traverse.specs.WalkSet.{IsChild, IsReady}
 use Rattle.gix_traverse.specs.Reach.{Reaches, step}
 use Rattle.gix_traverse.proofs.BecameFacts.{none_left, outside, unseen, all_taken}
@@ -175,6 +175,7 @@ module _ {F : Type 0} (objects : F → Objects) (faulty : F → ObjectId → Typ
       unmade = λ i m. sym (made_before i) ∙ (keeps_from (IsDue objects faulty between new) due i m).1.unmade;
       named = λ i m. found_named objects faulty (plan_of w) found i (walked_within w.counting.parents r.parents i (added_named i m));
       became = λ sound. became sound;
+      found = found_added;
       stored = λ sound a m. stored sound a m;
       stands = stands_before;
       depth = rel.depth ∙ kept_plan.depth;

@@ -22,10 +22,11 @@ use Rattle.gix_traverse.specs.Exploring.{Explores, itself, further, IsSamePlan, 
 use Rattle.gix_traverse.specs.Frontier.{is_side, is_done, reached}
 use Rattle.gix_traverse.specs.ReadsCommit.{rows_of, Reads, by_row, by_text}
 use Rattle.gix_traverse.specs.Releasing.{plan_by, counted_by}
-use Rattle.gix_traverse.specs.Searched.{IsCounted, IsBegun, IsExplored}
+use Rattle.gix_traverse.specs.Searched.{IsCounted, IsBegun, IsExplored, next_by, starts_by}
+use Rattle.gix_traverse.specs.Reach.{Reaches}
 use Rattle.gix_traverse.specs.Starting.{HasBegun, MeetsAll}
-use Rattle.gix_traverse.specs.TopoSteady.{IsDone, IsReached, HasCounted}
-use Rattle.gix_traverse.specs.TopoWalk.{IsFault, IsCommitRead, IsCounting, IsSound}
+use Rattle.gix_traverse.specs.TopoSteady.{IsDone, HasCounted}
+use Rattle.gix_traverse.specs.TopoWalk.{IsFault, IsCommitRead, IsCounting, IsSound, IsReached}
 use Rattle.gix_traverse.proofs.CountedFacts.{explores_keep, explores_made, explores_same, explores_still}
 use Rattle.gix_traverse.proofs.DepthFacts.{counts_on}
 use Rattle.gix_traverse.proofs.ExactFacts.{exact_there}
@@ -164,7 +165,9 @@ module _ {F : Type 0} (objects : F → Objects) (faulty : F → ObjectId → Typ
     read : Rows ≡ [] → (i : ObjectId) → IsReached objects (plan_by low sorting tips ends) i → IsCommitRead (objects low.reader.find) i
     read none i r =
         let high : low.depth ≤ known_generation Rows i = subst (λ g. low.depth ≤ g) (sym (unknown_generation Rows i none)) (low_depth none) in
-        done_read none start.fresh.undone explores r.0 i (there (none_agree (objects low.reader.find) (faulty low.reader.find) Rows none) r.0 i r.1 high)
+        let by : (side : Side) → Reaches (next_by (objects low.reader.find) low.parents side) (starts_by tips ends side) i → IsCommitRead (objects low.reader.find) i =
+        λ side t. done_read none start.fresh.undone explores side i (there (none_agree (objects low.reader.find) (faulty low.reader.find) Rows none) side i t high) in
+        ⊎_elim (by Tips) (by Ends) r
 
     -- the searches have begun
     pub begun_on : HasBegun objects faulty (plan_by low sorting tips ends) explored

@@ -1,6 +1,6 @@
 -- When a topological walk fails.
 use Rattle.std.specs.Prelude.{◌≡◌, ◌≤◌, ℕ, List, [], ◌∷◌, Bool, true, ◌&&◌, cond, Some, None, Result, Ok, Err, Contains}
-use Rattle.std.proofs.Common.{refl, sym, ap, subst, ⊎_elim, ◌∙◌, arith}
+use Rattle.std.proofs.Common.{refl, sym, ap, subst, ⊎_elim, ◌∙◌, arith, inl, inr}
 use Rattle.gix_parts.specs.declared.hash.ObjectId.{ObjectId}
 use Rattle.gix_parts.specs.declared.object.Kind.TheVariants as object
 use Rattle.gix_parts.specs.declared.object.decode.Error.{Error as DecodeError}
@@ -32,7 +32,7 @@ use Rattle.gix_traverse.specs.ReadsCommit.{rows_of, IsReadFault}
 use Rattle.gix_traverse.specs.Releasing.{plan_by, plan_of, IsPushFault, itself, parent}
 use Rattle.gix_traverse.specs.Searched.{IsCounted, next_by, starts_by}
 use Rattle.gix_traverse.specs.Starting.{Starts, waits, frees, IsStartFault, here, later, short}
-use Rattle.gix_traverse.specs.TopoWalk.{TopoPlan, walked_of, IsSound, IsFault}
+use Rattle.gix_traverse.specs.TopoWalk.{TopoPlan, walked_of, IsSound, IsFault, IsReached, IsLookedUp}
 use Rattle.gix_traverse.proofs.BecameFacts.{text_tips, text_ends}
 use Rattle.gix_traverse.proofs.CommitterFacts.{fault_unread}
 use Rattle.gix_traverse.proofs.CountedFacts.{explores_keep, explores_same}
@@ -74,32 +74,37 @@ module _ {F : Type 0} (objects : F → Objects) (faulty : F → ObjectId → Typ
   unfound i (existing.ObjectKind oid wanted actual) f w = no_fault (objects plan.store) (faulty plan.store) i w.commit (existing.ObjectKind oid wanted actual) w.stored f (λ e. cc)
   unfound i existing.Memory f w = f
 
-  -- a commit that reads whole in a sound history can't be read
-  pub read_fault : (i : ObjectId) (e : Error) → (IsSound objects faulty plan → ReadsWhole (objects plan.store) (faulty plan.store) i) → IsReadFault (objects plan.store) (faulty plan.store) i e → IsFault objects faulty plan e
-  read_fault i error.MissingIndegreeUnexpected w f = absurd f
-  read_fault i error.MissingStateUnexpected w f = absurd f
-  read_fault i (error.Find e) w f = (i, f, λ s. unfound i e f (w s))
-  read_fault i (error.ObjectDecode e) w f = (i, (f.0, f.1, fault_item (commit_items (kind_of i) f.0) e f.2 f.3), λ s. unread (w s))
+  -- what a side reaches by texts
+  reached_by : (side : Side) (i : ObjectId) → Reaches (next_by (objects plan.store) plan.parents side) (starts_by plan.tips plan.ends side) i → IsReached objects plan i
+  reached_by Tips i r = inl r
+  reached_by Ends i r = inr r
+
+  -- a commit that is looked up beside rows that agree, and reads whole in a sound history, can't be read
+  pub read_fault : (i : ObjectId) (e : Error) → (IsAgreeing (objects plan.store) (faulty plan.store) plan.rows → IsLookedUp objects plan i) → (IsSound objects faulty plan → ReadsWhole (objects plan.store) (faulty plan.store) i) → IsReadFault (objects plan.store) (faulty plan.store) i e → IsFault objects faulty plan e
+  read_fault i error.MissingIndegreeUnexpected a w f = absurd f
+  read_fault i error.MissingStateUnexpected a w f = absurd f
+  read_fault i (error.Find e) a w f = (i, f, (a, λ s. unfound i e f (w s)))
+  read_fault i (error.ObjectDecode e) a w f = (i, (f.0, f.1, fault_item (commit_items (kind_of i) f.0) e f.2 f.3), (a, λ s. unread (w s)))
     where
       unread : ReadsWhole (objects plan.store) (faulty plan.store) i → ⊥
       unread w = let n : None ≡ Some w.commit = sym (fault_unread (commit_items (kind_of i) f.0) e f.2) ∙ sym (ap (commit_of_object i) f.1) ∙ w.stored in cc
-  read_fault i error.Memory w f = tt
+  read_fault i error.Memory a w f = tt
 
 -- exploring fails
 module _ {F : Type 0} (objects : F → Objects) (faulty : F → ObjectId → Type 0) (sorting : Sorting) (tips ends : List ObjectId) (taken : ObjectId → Bool) (low : Counting F) (counted : IsAgreeing (objects low.reader.find) (faulty low.reader.find) (rows_of low.reader.graph) → IsCounted (objects low.reader.find) (rows_of low.reader.graph) low.parents tips ends taken low.frontier) where
   pub exploring_fault : (e : Error) → IsExploringFault objects faulty low e → IsFault objects faulty (plan_by low sorting tips ends) e
-  exploring_fault e f = read_fault objects faulty (plan_by low sorting tips ends) f.fault.entry.1.id e (λ s. reached_whole objects faulty (plan_by low sorting tips ends) s f.fault.entry.1.side f.fault.entry.1.id (within s)) (subst (λ x. IsReadFault (objects x) (faulty x) f.fault.entry.1.id e) (explores_same objects faulty f.explored).find f.fault.fault)
+  exploring_fault e f = read_fault objects faulty (plan_by low sorting tips ends) f.fault.entry.1.id e (λ a. inl (reached_by objects faulty (plan_by low sorting tips ends) f.fault.entry.1.side f.fault.entry.1.id (within a))) (λ s. reached_whole objects faulty (plan_by low sorting tips ends) s f.fault.entry.1.side f.fault.entry.1.id (within s.agreeing)) (subst (λ x. IsReadFault (objects x) (faulty x) f.fault.entry.1.id e) (explores_same objects faulty f.explored).find f.fault.fault)
     where
-      within : IsSound objects faulty (plan_by low sorting tips ends) → Reaches (next_by (objects low.reader.find) low.parents f.fault.entry.1.side) (starts_by tips ends f.fault.entry.1.side) f.fault.entry.1.id
-      within s =
-          let c : IsCounted (objects low.reader.find) (rows_of low.reader.graph) low.parents tips ends taken f.so_far.frontier = explores_keep objects faulty tips ends taken s.agreeing f.explored (counted s.agreeing) in
+      within : IsAgreeing (objects low.reader.find) (faulty low.reader.find) (rows_of low.reader.graph) → Reaches (next_by (objects low.reader.find) low.parents f.fault.entry.1.side) (starts_by tips ends f.fault.entry.1.side) f.fault.entry.1.id
+      within a =
+          let c : IsCounted (objects low.reader.find) (rows_of low.reader.graph) low.parents tips ends taken f.so_far.frontier = explores_keep objects faulty tips ends taken a f.explored (counted a) in
           (c.searched.search f.fault.entry.1.side).within f.fault.entry.1.id (waits_seen (reached f.so_far.frontier.known f.fault.entry.1.side f.fault.entry.1.id) (waiting f.so_far.frontier.queue f.fault.entry.1.side f.fault.entry.1.id) ((c.searched.search f.fault.entry.1.side).queued f.fault.entry.1.id) (queue_waits f.so_far.frontier.queue f.fault.entry f.fault.queued))
 
 module _ {F : Type 0} (objects : F → Objects) (faulty : F → ObjectId → Type 0) where
   -- a commit that tips reach, or a parent of it, can't be read
   pub push_fault : (old : Walk F) (i : ObjectId) (e : Error) → (IsAgreeing (objects (plan_of old).store) (faulty (plan_of old).store) (plan_of old).rows → Reaches (next_by (objects (plan_of old).store) (plan_of old).parents Tips) (plan_of old).tips i) → IsPushFault objects faulty old i e → IsFault objects faulty (plan_of old) e
-  push_fault old i e r (itself f) = read_fault objects faulty (plan_of old) i e (λ s. reached_whole objects faulty (plan_of old) s Tips i (r s.agreeing)) f
-  push_fault old i e r (parent {info = info} {p = p} reads m f) = read_fault objects faulty (plan_of old) p e parent_whole f
+  push_fault old i e r (itself f) = read_fault objects faulty (plan_of old) i e (λ a. inl (inl (r a))) (λ s. reached_whole objects faulty (plan_of old) s Tips i (r s.agreeing)) f
+  push_fault old i e r (parent {info = info} {p = p} reads m f) = read_fault objects faulty (plan_of old) p e (λ a. inr (i, r a, subst (λ ids. Contains ids p) (reads_text_next (objects (plan_of old).store) (faulty (plan_of old).store) (plan_of old).rows a reads) m)) parent_whole f
     where
       parent_whole : IsSound objects faulty (plan_of old) → ReadsWhole (objects (plan_of old).store) (faulty (plan_of old).store) p
       parent_whole s =

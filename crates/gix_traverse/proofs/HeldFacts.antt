@@ -19,8 +19,8 @@ use Rattle.gix_traverse.specs.ReadySet.{ready_in, sorting_of}
 use Rattle.gix_traverse.specs.Releasing.{plan_of, counted_by, lowered, with_taken, TakesOne}
 use Rattle.gix_traverse.specs.Searched.{IsCounted, IsExplored, IsTally, next_by, starts_by, IsBegun}
 use Rattle.gix_traverse.specs.TopoOrder.{last_places}
-use Rattle.gix_traverse.specs.TopoSteady.{IsReached, IsTallied, IsSteady, HasCounted, IsFound, IsHeld, unasked, unasked_of, TakesReady}
-use Rattle.gix_traverse.specs.TopoWalk.{Ready, ready_ids, walked_of, IsMember, IsSound, IsTaken, IsCommitRead, HoldsReady, Chooses, Adds}
+use Rattle.gix_traverse.specs.TopoSteady.{IsTallied, IsSteady, HasCounted, IsHeld, unasked, unasked_of, TakesReady}
+use Rattle.gix_traverse.specs.TopoWalk.{Ready, ready_ids, walked_of, IsMember, IsSound, IsTaken, IsCommitRead, HoldsReady, Chooses, Adds, IsReached, IsFound}
 use Rattle.gix_traverse.specs.WalkSet.{IsChild, IsReady}
 use Rattle.gix_traverse.proofs.CountedFacts.{explores_made, explores_same, explores_still, explores_done, explores_idle}
 use Rattle.gix_traverse.proofs.FreshFacts.{times, times_none}

@@ -60,7 +60,6 @@ pub mod ByTimeFacts
 pub mod StartedFacts
 pub mod FaultFacts
 pub mod TakingFacts
-pub mod ReachedFacts
 pub mod TopoTurns
 pub mod LevelLemmas
 pub mod DepthLemmas

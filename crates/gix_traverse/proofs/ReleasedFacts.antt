@@ -22,8 +22,7 @@ use Rattle.gix_traverse.specs.ReadySet.{ready_in, sorting_of}
 use Rattle.gix_traverse.specs.Releasing.{plan_of, with_frontier, Releases, waits, frees, ReleasesAll, none, more}
 use Rattle.gix_traverse.specs.Searched.{times}
 use Rattle.gix_traverse.specs.TopoOrder.{Keeps, none as keeps_none, kept, passed}
-use Rattle.gix_traverse.specs.TopoSteady.{IsFound}
-use Rattle.gix_traverse.specs.TopoWalk.{TopoPlan, Ready, ready_ids, HoldsReady}
+use Rattle.gix_traverse.specs.TopoWalk.{TopoPlan, Ready, ready_ids, HoldsReady, IsFound}
 use Rattle.gix_traverse.proofs.FrontierFacts.{known-insert, unmoved, reached-insert, has_seen}
 use Rattle.gix_traverse.proofs.ReadyFacts.{among_times}
 use Rattle.gix_traverse.proofs.TallyFacts.{children_of, made_of}

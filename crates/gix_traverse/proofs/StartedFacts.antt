@@ -25,14 +25,13 @@ use Rattle.gix_traverse.specs.Searched.{IsCounted, IsSearched, next_by}
 use Rattle.gix_traverse.specs.SimpleLaws.{AreDistinct}
 use Rattle.gix_traverse.specs.Starting.{HasBegun, IsBegunWalk, by_rising_time}
 use Rattle.gix_traverse.specs.TopoOrder.{Keeps, first_places}
-use Rattle.gix_traverse.specs.TopoSteady.{IsDone, IsTallied, IsSteady, HasCounted, IsFound, IsHeld, unasked, unasked_of}
-use Rattle.gix_traverse.specs.TopoWalk.{TopoPlan, Ready, ready_ids, first_depth, HoldsReady, IsNumberOf, IsInDepth, IsBrokenRow, IsCounting, IsSound, IsStored, IsMember, IsStarted, StartsWith, walked_of}
+use Rattle.gix_traverse.specs.TopoSteady.{IsDone, IsTallied, IsSteady, HasCounted, IsHeld, unasked, unasked_of}
+use Rattle.gix_traverse.specs.TopoWalk.{TopoPlan, Ready, ready_ids, first_depth, HoldsReady, IsNumberOf, IsInDepth, IsBrokenRow, IsCounting, IsSound, IsStored, IsMember, IsStarted, StartsWith, walked_of, IsFound}
 use Rattle.gix_traverse.specs.WalkSet.{IsChildless}
 use Rattle.gix_traverse.proofs.BecameFacts.{none_left, outside, unseen, all_taken}
 use Rattle.gix_traverse.proofs.DepthFacts.{number_same, broken}
 use Rattle.gix_traverse.proofs.FreshFacts.{times}
 use Rattle.gix_traverse.proofs.ReadyFacts.{keeps_from, keeps_times, first_once, times_once, among_by}
-use Rattle.gix_traverse.proofs.ReachedFacts.{text_reached}
 use Rattle.gix_traverse.proofs.ReleasedFacts.{keeps_on}
 use Rattle.gix_traverse.proofs.RestFacts.{least_within}
 use Rattle.gix_traverse.proofs.ByTimeFacts.{by_time_moves, in_by_time, by_time_map}
@@ -232,7 +231,8 @@ module _ {F : Type 0} (objects : F → Objects) (faulty : F → ObjectId → Typ
     stored = stored;
     depth = depth_is;
     counting = counting;
-    read = λ e i r. begun.read e i (text_reached objects (plan_of w) i r);
+    read = begun.read;
+    found = found;
   }
 
   -- and may go on
@@ -256,6 +256,7 @@ started_as objects faulty answers w p h = record {
   distinct = h.distinct;
   tips = h.tips;
   starts = λ sound. let s : StartsWith objects faulty (unasked objects faulty) (plan_of w) (ready_in w.ready) = h.starts sound in record { childless = s.childless; starts = s.starts; kept = s.kept; sorted = s.sorted; holds = s.holds };
+  found = h.found;
   stored = h.stored;
   depth = h.depth;
   counting = h.counting;

@@ -16,8 +16,7 @@ use Rattle.gix_traverse.specs.ReadsCommit.{Reads, is_whole_row}
 use Rattle.gix_traverse.specs.Releasing.{plan_of}
 use Rattle.gix_traverse.specs.Starting.{Starts, waits, frees, StartsAll, none, more}
 use Rattle.gix_traverse.specs.TopoOrder.{Keeps, none as keeps_none, kept, passed, distinct_after}
-use Rattle.gix_traverse.specs.TopoSteady.{IsFound}
-use Rattle.gix_traverse.specs.TopoWalk.{Ready, ready_ids}
+use Rattle.gix_traverse.specs.TopoWalk.{Ready, ready_ids, IsFound}
 use Rattle.gix_traverse.proofs.FreshFacts.{times}
 use Rattle.gix_traverse.proofs.FrontierFacts.{has_seen}
 use Rattle.gix_traverse.proofs.ReadyFacts.{among_times, keeps_in, first_once}

@@ -17,8 +17,7 @@ use Rattle.gix_traverse.specs.History.{ReadsWhole, time_of, time_in, commit_of_o
 use Rattle.gix_traverse.specs.ReadsCommit.{Reads, by_row, by_text, row_ids, is_whole_row, told_generation, time_of_committer}
 use Rattle.gix_traverse.specs.Searched.{text_next}
 use Rattle.gix_traverse.specs.SimpleLaws.{IsRowGeneration}
-use Rattle.gix_traverse.specs.TopoSteady.{IsFound}
-use Rattle.gix_traverse.specs.TopoWalk.{TopoPlan, Ready, IsSound, IsStored, named_ids, row_generation}
+use Rattle.gix_traverse.specs.TopoWalk.{TopoPlan, Ready, IsSound, IsStored, named_ids, row_generation, IsFound}
 use Rattle.gix_traverse.proofs.CommitterTime.{TellsTime, tells}
 use Rattle.gix_traverse.proofs.ReadFacts.{row_stands, row_says_time}
 use Rattle.gix_traverse.proofs.TopoReadFacts.{reads_named, reads_text_next, text_whole}

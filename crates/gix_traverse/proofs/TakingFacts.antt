@@ -28,8 +28,8 @@ use Rattle.gix_traverse.specs.ReadySet.{ready_in, sorting_of}
 use Rattle.gix_traverse.specs.Releasing.{plan_of, IsPushFault, itself as pushed, parent, with_frontier, IsReleaseFault, uncounted, unread, no_memory, none, more, IsFaultAmong, here, later, lowered, IsTakingFault, exploring, releasing, short}
 use Rattle.gix_traverse.specs.Searched.{text_next, next_in, next_by, times}
 use Rattle.gix_traverse.specs.TopoOrder.{last_places}
-use Rattle.gix_traverse.specs.TopoSteady.{IsReached, IsTallied, IsHeld}
-use Rattle.gix_traverse.specs.TopoWalk.{TopoPlan, Ready, Chooses, text_parents, IsCommitRead, IsOtherParent, IsLate, IsFault}
+use Rattle.gix_traverse.specs.TopoSteady.{IsTallied, IsHeld}
+use Rattle.gix_traverse.specs.TopoWalk.{TopoPlan, Ready, Chooses, text_parents, IsCommitRead, IsOtherParent, IsLate, IsFault, IsReached}
 use Rattle.gix_traverse.proofs.CountedFacts.{explores_same, explores_done, explores_idle}
 use Rattle.gix_traverse.proofs.FaultFacts.{fault_item, exploring_fault, push_fault}
 use Rattle.gix_traverse.proofs.ReadyFacts.{last_from}
@@ -82,13 +82,13 @@ module _ {F : Type 0} (objects : F → Objects) (faulty : F → ObjectId → Typ
   parent_read plan i p up n m = by plan.parents refl
     where
       walked : Contains (by_mode plan.parents (text_next (objects plan.store) i)) p → IsCommitRead (objects plan.store) p ⊎ IsOtherParent objects plan p
-      walked k = inl (up.read n p (Tips, step (up.reach (none_agree (objects plan.store) (faulty plan.store) plan.rows n)) k))
+      walked k = inl (up.read n p (inl (step (up.reach (none_agree (objects plan.store) (faulty plan.store) plan.rows n)) k)))
 
       first : plan.parents ≡ mode.First → (ids : List ObjectId) → text_next (objects plan.store) i ≡ ids → Contains ids p → IsCommitRead (objects plan.store) p ⊎ IsOtherParent objects plan p
       first e [] s m = absurd (no_member p m)
       first e (x ∷ xs) s m =
           ⊎_elim (λ q. walked (subst (λ k. Contains (by_mode k (text_next (objects plan.store) i)) p) (sym e) (subst (λ ids. Contains (by_mode mode.First ids) p) (sym s) (subst (λ y. Contains (x ∷ []) y) q (Contains-here x [])))))
-          (λ t. let k : IsNaming (objects plan.store) i (x ∷ xs) = naming (objects plan.store) i x xs _ refl s in inr (record { unwalked = e; child = i; text = k.text; stored = k.stored; named = subst (λ ids. Contains (drop 1 ids) p) (sym k.names) t }))
+          (λ t. let k : IsNaming (objects plan.store) i (x ∷ xs) = naming (objects plan.store) i x xs _ refl s in inr (record { unwalked = e; child = i; reached = up.reach (none_agree (objects plan.store) (faulty plan.store) plan.rows n); text = k.text; stored = k.stored; named = subst (λ ids. Contains (drop 1 ids) p) (sym k.names) t }))
           (Contains-cons_cases p x xs m)
 
       by : (k : Parents) → plan.parents ≡ k → IsCommitRead (objects plan.store) p ⊎ IsOtherParent objects plan p
@@ -99,7 +99,7 @@ module _ {F : Type 0} (objects : F → Objects) (faulty : F → ObjectId → Typ
   push_fails old i e up f = (push_fault objects faulty old i e up.reach f, fails f)
     where
       fails : IsPushFault objects faulty old i e → IsLate objects (plan_of old) e
-      fails (pushed f) = late (plan_of old) i e (λ n. inl (up.read n i (Tips, up.reach (none_agree (objects (plan_of old).store) (faulty (plan_of old).store) (plan_of old).rows n)))) f
+      fails (pushed f) = late (plan_of old) i e (λ n. inl (up.read n i (inl (up.reach (none_agree (objects (plan_of old).store) (faulty (plan_of old).store) (plan_of old).rows n))))) f
       fails (parent {p = p} reads m f) = late (plan_of old) p e (λ n. parent_read (plan_of old) i p up n (subst (λ ids. Contains ids p) (reads_text_next (objects (plan_of old).store) (faulty (plan_of old).store) (plan_of old).rows (none_agree (objects (plan_of old).store) (faulty (plan_of old).store) (plan_of old).rows n) reads) m)) f
 
   release_fails : {old : Walk F} {i : ObjectId} {e : Error} → IsUpcoming (plan_of old) i → (IsAgreeing (objects (plan_of old).store) (faulty (plan_of old).store) (plan_of old).rows → 1 ≤ children_of old.counting.frontier i) → IsReleaseFault objects faulty old i e → Fails (plan_of old) e

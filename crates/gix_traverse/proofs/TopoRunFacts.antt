@@ -124,8 +124,8 @@ module _ {F P : Type 0} (objects : F → Objects) (faulty : F → ObjectId → T
   sound_fault : (plan : TopoPlan F) (e : Error) → IsSound objects faulty plan → IsFault objects faulty plan e → e ≡ error.Memory
   sound_fault plan error.MissingIndegreeUnexpected s f = absurd (f s.agreeing)
   sound_fault plan error.MissingStateUnexpected s f = absurd f
-  sound_fault plan (error.Find e) s f = absurd (f.2 s)
-  sound_fault plan (error.ObjectDecode e) s f = absurd (f.2 s)
+  sound_fault plan (error.Find e) s f = absurd (f.2.1 s)
+  sound_fault plan (error.ObjectDecode e) s f = absurd (f.2.1 s)
   sound_fault plan error.Memory s f = refl
 
   no_answer : {w new : TopoWalk F P} {o : Option (Result Info Error)} → Next objects faulty answers w o new → o ≡ None → AnswersBy answers w.predicate accepts → (ids : List ObjectId) × Draws w ids []

@@ -48,7 +48,7 @@ module _ {F P : Type 0} (objects : F → Objects) (faulty : F → ObjectId → T
     others = t.others;
     added = t.added;
     chosen = t.chosen;
-    adds = record { distinct = t.adds.distinct; unmade = t.adds.unmade; named = t.adds.named; became = t.adds.became; stored = t.adds.stored; stands = t.adds.stands; depth = t.adds.depth; counting = t.adds.counting };
+    adds = record { distinct = t.adds.distinct; unmade = t.adds.unmade; named = t.adds.named; found = t.adds.found; became = t.adds.became; stored = t.adds.stored; stands = t.adds.stands; depth = t.adds.depth; counting = t.adds.counting };
     holds = t.holds;
   }
 

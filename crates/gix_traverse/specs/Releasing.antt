@@ -1,5 +1,5 @@
 -- How the parents of a taken commit become ready.
-use Rattle.std.specs.Prelude.{◌≡◌, ◌+◌, ℕ, List, [], ◌∷◌, ◌++◌, Bool, true, false, Some, Ok, Contains}
+use Rattle.std.specs.Prelude.{◌≡◌, ◌+◌, ℕ, List, [], ◌∷◌, ◌++◌, Bool, true, false, Ok, Contains}
 use Rattle.std.specs.FinSet as set
 use Rattle.gix_parts.specs.declared.hash.ObjectId.{ObjectId}
 use Rattle.gix_parts.specs.Object.{Objects}
@@ -16,9 +16,8 @@ use Rattle.gix_traverse.specs.TopoOrder.{last_places}
 use Rattle.gix_traverse.specs.Frontier.{known_of, is_due, Makes, Uncounts}
 use Rattle.gix_traverse.specs.ReadySet.{ready_in, sorting_of}
 use Rattle.gix_traverse.specs.ReadsCommit.{rows_of, Reads, IsReadFault}
-use Rattle.gix_traverse.specs.SimpleWalk.{IsInfo}
 use Rattle.gix_traverse.specs.declared.commit.topo.Sorting.{Sorting}
-use Rattle.gix_traverse.specs.TopoWalk.{TopoPlan, TopoWalk, Counted, Ready, HoldsReady}
+use Rattle.gix_traverse.specs.TopoWalk.{TopoPlan, TopoWalk, Counted, Ready, IsOfInfo, HoldsReady}
 
 -- what searches go over
 abbrev pub plan_by : {F : Type 0} → Counting F → Sorting → List ObjectId → List ObjectId → TopoPlan F
@@ -33,10 +32,6 @@ counted_by c = record { standing = c.reader.standing; depth = c.depth; expanded 
 -- what a walk holds, with a predicate
 abbrev pub walk_of : {F P : Type 0} → Walk F → P → TopoWalk F P
 walk_of w predicate = record { plan = plan_of w; predicate = predicate; counted = counted_by w.counting; ready = ready_in w.ready; taken = w.taken }
-
--- a read commit, with all its parents
-abbrev pub IsOfInfo : Ready → Info → Type 0
-IsOfInfo r info = IsInfo info r.id r.parents r.generation (Some r.time)
 
 -- what becoming ready leaves as it is
 pub record IsSameWalk {F : Type 0} (old new : Walk F) : Type 0 where

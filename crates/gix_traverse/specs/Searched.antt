@@ -1,9 +1,9 @@
 -- What two searches over the texts have seen and done.
-use Rattle.std.specs.Prelude.{◌≡◌, ◌≤◌, ◌+◌, ℕ, List, [], ◌∷◌, Bool, true, not, ◌&&◌, cond, Option, Some, None, Contains}
+use Rattle.std.specs.Prelude.{◌≡◌, ◌≤◌, ◌+◌, ℕ, List, [], ◌∷◌, Bool, true, not, ◌&&◌, cond, Contains}
 use Rattle.std.specs.FinMap as map_of
 use Rattle.gix_parts.specs.declared.hash.ObjectId.{ObjectId}
 use Rattle.gix_parts.specs.Id.{id_cmp, is_same, is_among}
-use Rattle.gix_parts.specs.Object.{Object, Objects}
+use Rattle.gix_parts.specs.Object.{Objects}
 use Rattle.gix_parts.specs.Rows.{GraphRow}
 use Rattle.gix_traverse.specs.declared.commit.Parents.{Parents}
 use Rattle.gix_traverse.specs.declared.commit.topo.frontier.Side.{Side}
@@ -16,15 +16,7 @@ use Rattle.gix_traverse.specs.Exploring.{side_mode}
 use Rattle.gix_traverse.specs.Frontier.{is_seen, is_done, known_of, reached, waiting, IsSearch}
 use Rattle.gix_traverse.specs.History.{by_mode}
 use Rattle.gix_traverse.specs.Reach.{Reaches}
-use Rattle.gix_traverse.specs.TopoWalk.{text_parents}
-
-abbrev pub next_in : ObjectId → Option Object → List ObjectId
-next_in i None = []
-next_in i (Some object) = text_parents i object
-
--- the parents that a stored text names, also where it breaks off behind them
-abbrev pub text_next : Objects → ObjectId → List ObjectId
-text_next objects i = next_in i (map_of.get objects i)
+pub use Rattle.gix_traverse.specs.TopoWalk.{text_next, next_in}
 
 -- the parents of a commit that a side goes to
 abbrev pub next_by : Objects → Parents → Side → ObjectId → List ObjectId

@@ -16,9 +16,9 @@ use Rattle.gix_traverse.specs.Frontier.{is_due, known_of, Meets}
 use Rattle.gix_traverse.specs.ReadySet.{ready_in}
 use Rattle.gix_traverse.specs.Releasing.{plan_by, plan_of, counted_by, Pushes, IsPushFault}
 use Rattle.gix_traverse.specs.Searched.{IsCounted, IsBegun, IsExplored}
-use Rattle.gix_traverse.specs.TopoSteady.{IsReached, HasCounted}
+use Rattle.gix_traverse.specs.TopoSteady.{HasCounted}
 use Rattle.gix_traverse.specs.TopoOrder.{by_time}
-use Rattle.gix_traverse.specs.TopoWalk.{TopoPlan, Ready, HoldsReady, first_depth, IsCommitRead, IsCounting, IsSound}
+use Rattle.gix_traverse.specs.TopoWalk.{TopoPlan, Ready, HoldsReady, IsReached, first_depth, IsCommitRead, IsCounting, IsSound}
 
 -- by rising time, and at one time in the order given
 abbrev pub by_rising_time : List Ready → List Ready

@@ -14,14 +14,12 @@ use Rattle.gix_traverse.specs.declared.commit.topo.iter.Walk.{Walk}
 use Rattle.gix_traverse.specs.Agreeing.{IsAgreeing}
 use Rattle.gix_traverse.specs.Counting.{known_generation}
 use Rattle.gix_traverse.specs.Frontier.{is_done, known_of, reached}
-use Rattle.gix_traverse.specs.Reach.{Reaches}
-use Rattle.gix_traverse.specs.ReadsCommit.{Reads}
 use Rattle.gix_traverse.specs.ReadySet.{ready_in, sorting_of}
-use Rattle.gix_traverse.specs.Releasing.{plan_of, counted_by, walk_of, IsOfInfo}
-use Rattle.gix_traverse.specs.Searched.{IsCounted, IsBegun, next_by, starts_by}
+use Rattle.gix_traverse.specs.Releasing.{plan_of, counted_by, walk_of}
+use Rattle.gix_traverse.specs.Searched.{IsCounted, IsBegun}
 use Rattle.gix_traverse.specs.SimpleLaws.{AreDistinct}
 use Rattle.gix_traverse.specs.SimpleWalk.{IsInfo}
-use Rattle.gix_traverse.specs.TopoWalk.{TopoPlan, TopoWalk, Ready, ready_ids, walked_of, Chooses, IsMember, IsNumberOf, IsBrokenRow, IsCommitRead, IsSound, IsFault, IsLate, Takes}
+use Rattle.gix_traverse.specs.TopoWalk.{TopoPlan, TopoWalk, Ready, ready_ids, walked_of, Chooses, IsReached, IsFound, IsMember, IsNumberOf, IsBrokenRow, IsCommitRead, IsSound, IsFault, IsLate, Takes}
 use Rattle.gix_traverse.specs.WalkSet.{IsChild}
 
 -- one of the searches has read the parents of the id
@@ -29,10 +27,6 @@ abbrev pub IsDone : Frontier → ObjectId → Type 0
 IsDone f i = (is_done (reached f.known Tips i) ≡ true) ⊎ (is_done (reached f.known Ends i) ≡ true)
 
 module _ {F : Type 0} (objects : F → Objects) where
-  -- what tips reach through the parents that texts name and that are walked, and ends through any that texts name
-  abbrev pub IsReached : TopoPlan F → ObjectId → Type 0
-  IsReached plan i = (side : Side) × Reaches (next_by (objects plan.store) plan.parents side) (starts_by plan.tips plan.ends side) i
-
   -- both searches and the counts are as they are to be; ready commits are done
   pub record IsTallied (w : Walk F) : Type 0 where
     pub counted : IsCounted (objects (plan_of w).store) (plan_of w).rows (plan_of w).parents (plan_of w).tips (plan_of w).ends (set.contains w.taken) w.counting.frontier
@@ -51,22 +45,13 @@ module _ {F : Type 0} (objects : F → Objects) where
     pub dropped : c.reader.standing ≡ false → IsBrokenRow objects plan c.depth
 
 module _ {F : Type 0} (objects : F → Objects) (faulty : F → ObjectId → Type 0) where
-  -- how a ready commit was read: by its row, as long as the rows stand
-  pub record IsFound (plan : TopoPlan F) (standing : Bool) (r : Ready) : Type 0 where
-    pub info : Info
-    pub before : Bool
-    pub after : Bool
-    pub reads : Reads (objects plan.store) (faulty plan.store) plan.rows before r.id (Ok info) after
-    pub is : IsOfInfo r info
-    pub later : standing ≡ true → after ≡ true
-
   -- What holds of a walk that may go on, whatever its store and rows. The commits that were ready once are the taken and the ready
   -- ones.
   pub record IsHeld (w : Walk F) : Type 0 where
     pub made : (i : ObjectId) → (known_of w.counting.frontier.known i).made ≡ (set.contains w.taken i || is_among i (ready_ids (ready_in w.ready)))
     pub distinct : AreDistinct (ready_ids (ready_in w.ready))
     pub untaken : (i : ObjectId) → Contains (ready_ids (ready_in w.ready)) i → set.contains w.taken i ≡ false
-    pub found : (r : Ready) → Contains (ready_in w.ready) r → IsFound (plan_of w) w.counting.reader.standing r
+    pub found : (r : Ready) → Contains (ready_in w.ready) r → IsFound objects faulty (plan_of w) w.counting.reader.standing r
     -- beside rows that agree, and beside a sound history
     pub tallied : IsAgreeing (objects (plan_of w).store) (faulty (plan_of w).store) (plan_of w).rows → IsTallied objects w
     pub steady : IsSound objects faulty (plan_of w) → IsSteady objects w

@@ -23,6 +23,7 @@ use Rattle.gix_traverse.specs.declared.commit.topo.Error.TheVariants as error
 use Rattle.gix_traverse.specs.Agreeing.{IsAgreeing, IsCorrupt}
 use Rattle.gix_traverse.specs.Counting.{infinity, known_generation, least}
 use Rattle.gix_traverse.specs.Reach.{Reaches}
+use Rattle.gix_traverse.specs.ReadsCommit.{Reads}
 use Rattle.gix_traverse.specs.History.{ReadsWhole, by_mode, walked_parents, parents_of, time_of}
 use Rattle.gix_traverse.specs.WalkSet.{IsInWalk, IsReady, IsChildless}
 use Rattle.gix_traverse.specs.TopoOrder.{Keeps, first_places, last_places, by_time}
@@ -98,6 +99,18 @@ Chooses order.DateOrder ready c others = IsPermutation ready (c ∷ others) × (
 abbrev pub text_parents : ObjectId → Object → List ObjectId
 text_parents i object = (scanned mode.All (commit_items (kind_of i) object.bytes)).0
 
+abbrev pub next_in : ObjectId → Option Object → List ObjectId
+next_in i None = []
+next_in i (Some object) = text_parents i object
+
+-- the parents that a stored text names, also where it breaks off behind them
+abbrev pub text_next : Objects → ObjectId → List ObjectId
+text_next objects i = next_in i (map_of.get objects i)
+
+-- a read commit, with all its parents
+abbrev pub IsOfInfo : Ready → Info → Type 0
+IsOfInfo r info = IsInfo info r.id r.parents r.generation (Some r.time)
+
 -- so many ids have Q
 pub record IsNumberOf (Q : ObjectId → Type 0) (n : ℕ) : Type 0 where
   pub ids : List ObjectId
@@ -129,6 +142,18 @@ module _ {F : Type 0} (objects : F → Objects) (plan : TopoPlan F) where
   -- the parents that are walked
   abbrev pub walked_of : ObjectId → List ObjectId
   walked_of = walked_parents (objects plan.store) plan.parents
+
+  -- the same by texts, also where they break off behind the parents
+  abbrev pub text_walked : ObjectId → List ObjectId
+  text_walked i = by_mode plan.parents (text_next (objects plan.store) i)
+
+  -- tips reach it through the parents that texts name and that are walked, or ends through any that texts name
+  abbrev pub IsReached : ObjectId → Type 0
+  IsReached i = Reaches text_walked plan.tips i ⊎ Reaches (text_next (objects plan.store)) plan.ends i
+
+  -- or it is a parent, walked or not, of one that tips reach so
+  abbrev pub IsLookedUp : ObjectId → Type 0
+  IsLookedUp i = IsReached i ⊎ ((c : ObjectId) × Reaches text_walked plan.tips c × Contains (text_next (objects plan.store) c) i)
 
   -- what the walk gives
   abbrev pub IsMember : ObjectId → Type 0
@@ -169,11 +194,12 @@ module _ {F : Type 0} (objects : F → Objects) (plan : TopoPlan F) where
   pub record IsOtherParent (i : ObjectId) : Type 0 where
     pub unwalked : plan.parents ≡ mode.First
     pub child : ObjectId
+    pub reached : Reaches text_walked plan.tips child
     pub text : Object
     pub stored : map_of.get (objects plan.store) child ≡ Some text
     pub named : Contains (drop 1 (text_parents child text)) i
 
-  -- `build` has read all that is walked: without rows, a fault found later is that of another parent
+  -- `build` has read all that is walked: without rows, a fault found later is that of another parent, or the store fails
   abbrev pub IsLate : Error → Type 0
   IsLate error.MissingIndegreeUnexpected = Unit {0}
   IsLate error.MissingStateUnexpected = ⊥
@@ -185,6 +211,15 @@ module _ {F : Type 0} (objects : F → Objects) (plan : TopoPlan F) where
   IsLate error.Memory = Unit {0}
 
 module _ {F : Type 0} (objects : F → Objects) (faulty : F → ObjectId → Type 0) (plan : TopoPlan F) where
+  -- how a ready commit was read: by its row, as long as the rows stand
+  pub record IsFound (standing : Bool) (r : Ready) : Type 0 where
+    pub info : Info
+    pub before : Bool
+    pub after : Bool
+    pub reads : Reads (objects plan.store) (faulty plan.store) plan.rows before r.id (Ok info) after
+    pub is : IsOfInfo r info
+    pub later : standing ≡ true → after ≡ true
+
   -- the rows agree, and all that the walk may look up reads whole: what tips reach, their parents, and what ends reach
   pub record IsSound : Type 0 where
     pub agreeing : IsAgreeing (objects plan.store) (faulty plan.store) plan.rows
@@ -192,12 +227,16 @@ module _ {F : Type 0} (objects : F → Objects) (faulty : F → ObjectId → Typ
     pub parents_whole : (c i : ObjectId) → Reaches (walked_of objects plan) plan.tips c → Contains (parents_of (objects plan.store) c) i → ReadsWhole (objects plan.store) (faulty plan.store) i
     pub ends_whole : (i : ObjectId) → Reaches (parents_of (objects plan.store)) plan.ends i → ReadsWhole (objects plan.store) (faulty plan.store) i
 
+  -- beside rows that agree it is looked up, and the history isn't sound
+  abbrev pub IsMetFault : ObjectId → Type 0
+  IsMetFault i = (IsAgreeing (objects plan.store) (faulty plan.store) plan.rows → IsLookedUp objects plan i) × (IsSound → ⊥)
+
   -- when each fault comes
   abbrev pub IsFault : Error → Type 0
   IsFault error.MissingIndegreeUnexpected = IsAgreeing (objects plan.store) (faulty plan.store) plan.rows → ⊥
   IsFault error.MissingStateUnexpected = ⊥
-  IsFault (error.Find e) = (i : ObjectId) × IsExistingFault (objects plan.store) (faulty plan.store) i object.Commit e × (IsSound → ⊥)
-  IsFault (error.ObjectDecode e) = (i : ObjectId) × IsTextFault (objects plan.store) i e × (IsSound → ⊥)
+  IsFault (error.Find e) = (i : ObjectId) × IsExistingFault (objects plan.store) (faulty plan.store) i object.Commit e × IsMetFault i
+  IsFault (error.ObjectDecode e) = (i : ObjectId) × IsTextFault (objects plan.store) i e × IsMetFault i
   IsFault error.Memory = Unit {0}
 
 module _ {F P : Type 0} (objects : F → Objects) (faulty : F → ObjectId → Type 0) (answers : P → ObjectId → Bool → P → Type 0) where
@@ -215,11 +254,13 @@ module _ {F P : Type 0} (objects : F → Objects) (faulty : F → ObjectId → T
     pub distinct : AreDistinct (ready_ids walk.ready)
     pub tips : (i : ObjectId) → Contains (ready_ids walk.ready) i → Contains walk.plan.tips i
     pub starts : IsSound objects faulty walk.plan → StartsWith walk.plan walk.ready
+    -- each was read, whatever the store and the rows
+    pub found : (r : Ready) → Contains walk.ready r → IsFound objects faulty walk.plan walk.counted.standing r
     pub stored : IsSound objects faulty walk.plan → (r : Ready) → Contains walk.ready r → IsStored objects walk.plan walk.counted.standing r
     pub depth : walk.counted.depth ≡ first_depth walk.plan
     pub counting : IsSound objects faulty walk.plan → IsCounting objects walk.plan walk.counted
-    -- without rows, all that is met was read
-    pub read : walk.plan.rows ≡ [] → (i : ObjectId) → IsMet objects walk.plan i → IsCommitRead (objects walk.plan.store) i
+    -- without rows, all that is reached was read
+    pub read : walk.plan.rows ≡ [] → (i : ObjectId) → IsReached objects walk.plan i → IsCommitRead (objects walk.plan.store) i
 
   -- the walk is this builder's
   pub record IsOf (builder : TopoBuilder F P) (walk : TopoWalk F P) : Type 0 where
@@ -237,6 +278,8 @@ module _ {F P : Type 0} (objects : F → Objects) (faulty : F → ObjectId → T
     pub distinct : AreDistinct (ready_ids added)
     pub unmade : (i : ObjectId) → Contains (ready_ids added) i → is_made old i ≡ false
     pub named : (i : ObjectId) → Contains (ready_ids added) i → is_among i (named_ids (objects old.plan.store) old.plan.rows) ≡ true
+    -- and was read, whatever the store and the rows
+    pub found : (r : Ready) → Contains added r → IsFound objects faulty old.plan counted.standing r
     -- of a sound walk: the walked parents that became ready, each at its last place
     pub became : IsSound objects faulty old.plan → Keeps (IsReady (walked_of objects old.plan) (IsMember objects old.plan) (IsTaken (set.insert old.taken c.id))) (last_places (walked_of objects old.plan c.id)) (ready_ids added)
     pub stored : IsSound objects faulty old.plan → (r : Ready) → Contains added r → IsStored objects old.plan counted.standing r
