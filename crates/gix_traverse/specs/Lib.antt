@@ -1,48 +1,10 @@
+-- What a store and a commit-graph say of commits, and what can be reached.
 pub mod History
-pub mod Reach
-pub mod BreadthOrder
-pub mod TimeOrder
-pub mod Agreeing
-pub mod Painting
-pub mod Either
-pub mod SimpleWalk
-pub mod SimpleLaws
-pub mod Painter
-pub mod Examples
-pub mod SimpleErrors
-pub mod PendingQueue
-pub mod SimpleSteps
-pub mod SimpleBuilding
-pub mod WalkSet
-pub mod DateOrder
-pub mod TopoOrder
-pub mod TopoErrors
-pub mod TopoWalk
-pub mod TopoLaws
-pub mod Delegate
-pub mod Visits
-pub mod Paths
-pub mod LevelOrder
-pub mod Preorder
-pub mod Script
-pub mod LevelQueue
-pub mod ShowsEntry
+-- The orders of all walks, with worked examples.
+pub mod Orders
+-- The walk `commit::Simple`: what it holds, one step, painting, and the words of its laws.
+pub mod Simple
+-- The walk `commit::Topo`: what it holds, one step, counting, and the words of its laws.
+pub mod Topo
+-- The walks of trees: visits, calls on the delegate, the recorder, and the words of their laws.
 pub mod Trees
-pub mod TreeStack
-pub mod ShowsBelow
-pub mod TreeErrors
-pub mod TreeMeasure
-pub mod Recorder
-pub mod Tracked
-pub mod TreeLaws
-pub mod TreeExamples
-pub mod Counting
-pub mod Known
-pub mod Frontier
-pub mod ReadsCommit
-pub mod Exploring
-pub mod Searched
-pub mod ReadySet
-pub mod Releasing
-pub mod TopoSteady
-pub mod Starting

@@ -2,8 +2,8 @@
 ghost use Rattle.std.specs.Prelude.{◌≡◌, Bool, true, IfOk};
 ghost use Rattle.std.specs.Fn.{CalledAt};
 ghost use Rattle.gix_parts.specs.declared.hash.ObjectId.{ObjectId};
-ghost use Rattle.gix_traverse.specs.Either.{FindsEither};
-ghost use Rattle.gix_traverse.specs.Painter.{rows_in};
+ghost use Rattle.gix_traverse.specs.History.Either.{FindsEither};
+ghost use Rattle.gix_traverse.specs.Simple.Inside.Painter.{rows_in};
 
 mod read;
 pub mod simple;
@@ -17,6 +17,7 @@ use gix_parts::object::find::{Find, existing_iter};
 pub use simple::Simple;
 use smallvec::SmallVec;
 use std::alloc::AllocError;
+pub use topo::Topo;
 
 /// Which parents of a commit are walked.
 #[derive(Clone, Copy, Debug, Default, PartialEq, Eq)]
@@ -74,7 +75,7 @@ pub enum Either<'buf, 'cache> {
 }
 
 impl<'buf, 'cache> Either<'buf, 'cache> {
-    ghost use Rattle.gix_traverse.specs.Either.{either_tree, either_time};
+    ghost use Rattle.gix_traverse.specs.History.Either.{either_tree, either_time};
 
     /// The id of its tree: that of its row, or else of the first item. Where that is no tree the error names its fault, or
     /// `Missing`.

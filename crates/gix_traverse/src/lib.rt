@@ -3,6 +3,4 @@
 
 pub mod commit;
 pub mod laws;
-pub mod laws_topo;
-pub mod laws_tree;
 pub mod tree;

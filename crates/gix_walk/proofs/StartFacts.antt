@@ -16,8 +16,8 @@ use Rattle.gix_traverse.specs.declared.commit.simple.Sorting.TheVariants as sort
 use Rattle.gix_traverse.specs.declared.commit.Unfiltered.{Unfiltered}
 use Rattle.gix_traverse.specs.declared.commit.topo.Error.{Error as TopoError}
 use Rattle.gix_traverse.specs.declared.commit.topo.Sorting.{Sorting as TopoSorting}
-use Rattle.gix_traverse.specs.TopoWalk.{TopoBuilder, Built, fresh_builder}
-use Rattle.gix_traverse.specs.SimpleBuilding.{IsSortedByTime, FailsAtTip}
+use Rattle.gix_traverse.specs.Topo.Walk.{TopoBuilder, Built, fresh_builder}
+use Rattle.gix_traverse.specs.Simple.Building.{IsSortedByTime, FailsAtTip}
 use Rattle.gix_walk.specs.declared.fault.Fault.{Fault}
 use Rattle.gix_walk.specs.Faults.{fault_of_walk, fault_of_topo_walk}
 use Rattle.gix_walk.specs.TopoWalked as topo

@@ -9,8 +9,8 @@ use Rattle.gix_traverse.specs.declared.commit.Info.{Info}
 use Rattle.gix_traverse.specs.declared.commit.topo.Error.{Error}
 use Rattle.gix_traverse.specs.declared.commit.topo.Error.TheVariants as error
 use Rattle.gix_traverse.specs.declared.commit.topo.Sorting.{Sorting}
-use Rattle.gix_traverse.proofs.RowFacts.{none_agree}
-use Rattle.gix_traverse.specs.TopoWalk.{TopoPlan, IsFault, ended, given, refused, failed}
+use Rattle.gix_traverse.proofs.Shared.Rows.{none_agree}
+use Rattle.gix_traverse.specs.Topo.Walk.{TopoPlan, IsFault, ended, given, refused, failed}
 use Rattle.gix_walk.specs.declared.fault.Fault.TheVariants as fault
 use Rattle.gix_walk.specs.Faults.{fault_of_topo_walk}
 use Rattle.gix_walk.specs.TopoWalked.{Walk, Answers, plan_from, IsBuiltFrom}

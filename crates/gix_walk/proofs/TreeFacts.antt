@@ -8,11 +8,11 @@ use Rattle.gix_parts.specs.declared.object.find.existing_iter.Error.TheVariants 
 use Rattle.gix_parts.specs.Object.{Objects}
 use Rattle.gix_traverse.specs.declared.tree.breadthfirst.Error.{Error}
 use Rattle.gix_traverse.specs.declared.tree.breadthfirst.Error.TheVariants as error
-use Rattle.gix_traverse.specs.Delegate.{Call}
-use Rattle.gix_traverse.specs.Script.{DepthScript, IsDepthScript, whole, leaves, enters, ends_inside, not_found, breaks, cycles, fault, no_memory_at_look_up, no_memory_for_descent, refused, found, no_memory}
-use Rattle.gix_traverse.specs.Tracked.{Tracked}
-use Rattle.gix_traverse.specs.Trees.{LookUpFails, depth_answer, trees_of}
-use Rattle.gix_traverse.specs.Visits.{Items, Place, Visit, Ending, Whole, Broken, Failed}
+use Rattle.gix_traverse.specs.Trees.Delegate.{Call}
+use Rattle.gix_traverse.specs.Trees.Script.{DepthScript, IsDepthScript, whole, leaves, enters, ends_inside, not_found, breaks, cycles, fault, no_memory_at_look_up, no_memory_for_descent, refused, found, no_memory}
+use Rattle.gix_traverse.specs.Trees.Tracked.{Tracked}
+use Rattle.gix_traverse.specs.Trees.Walk.{LookUpFails, depth_answer, trees_of}
+use Rattle.gix_traverse.specs.Trees.Visits.{Items, Place, Visit, Ending, Whole, Broken, Failed}
 use Rattle.gix_walk.specs.declared.fault.Fault.TheVariants as run_fault
 use Rattle.gix_walk.specs.Faults.{fault_of_find, fault_of_tree_walk}
 use Rattle.gix_walk.specs.Files.{RecordsTree}

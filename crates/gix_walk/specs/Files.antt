@@ -6,9 +6,9 @@ use Rattle.gix_parts.specs.declared.hash.ObjectId.{ObjectId}
 use Rattle.gix_parts.specs.Id.{hex_of}
 use Rattle.gix_parts.specs.Object.{Objects}
 use Rattle.gix_traverse.specs.declared.tree.breadthfirst.Error.{Error}
-use Rattle.gix_traverse.specs.Recorder.{Record}
-use Rattle.gix_traverse.specs.Tracked.{Tracked, Tracks, fresh_recorder}
-use Rattle.gix_traverse.specs.Trees.{DepthFirst}
+use Rattle.gix_traverse.specs.Trees.Recorder.{Record}
+use Rattle.gix_traverse.specs.Trees.Tracked.{Tracked, Tracks, fresh_recorder}
+use Rattle.gix_traverse.specs.Trees.Walk.{DepthFirst}
 use Rattle.gix_walk.specs.declared.fault.Fault.{Fault}
 use Rattle.gix_walk.specs.declared.fault.Fault.TheVariants as fault
 use Rattle.gix_walk.specs.Faults.{fault_of_tree_walk}

@@ -9,7 +9,7 @@ use Rattle.gix_traverse.specs.declared.commit.simple.Sorting.{Sorting}
 use Rattle.gix_traverse.specs.declared.commit.topo.Error.{Error as TopoError}
 use Rattle.gix_traverse.specs.declared.commit.topo.Sorting.{Sorting as TopoSorting}
 use Rattle.gix_traverse.specs.declared.tree.breadthfirst.Error.{Error as TreeError}
-use Rattle.gix_traverse.specs.Tracked.{Tracked}
+use Rattle.gix_traverse.specs.Trees.Tracked.{Tracked}
 use Rattle.gix_walk.specs.declared.fault.Fault.{Fault}
 use Rattle.gix_walk.specs.declared.fault.Fault.TheVariants as fault
 use Rattle.gix_walk.specs.declared.words.Order.TheVariants.{Simple, Topo}

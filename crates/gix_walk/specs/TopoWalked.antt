@@ -7,7 +7,7 @@ use Rattle.gix_traverse.specs.declared.commit.Parents.TheVariants as mode
 use Rattle.gix_traverse.specs.declared.commit.Unfiltered.{Unfiltered}
 use Rattle.gix_traverse.specs.declared.commit.topo.Error.{Error}
 use Rattle.gix_traverse.specs.declared.commit.topo.Sorting.{Sorting}
-use Rattle.gix_traverse.specs.TopoWalk.{TopoPlan, TopoWalk, Next, Built}
+use Rattle.gix_traverse.specs.Topo.Walk.{TopoPlan, TopoWalk, Next, Built}
 use Rattle.gix_walk.specs.declared.fault.Fault.{Fault}
 use Rattle.gix_walk.specs.declared.fault.Fault.TheVariants as fault
 use Rattle.gix_walk.specs.Faults.{fault_of_topo_walk}

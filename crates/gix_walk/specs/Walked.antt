@@ -10,8 +10,8 @@ use Rattle.gix_traverse.specs.declared.commit.Unfiltered.{Unfiltered}
 use Rattle.gix_traverse.specs.declared.commit.simple.Error.{Error}
 use Rattle.gix_traverse.specs.declared.commit.simple.Sorting.{Sorting}
 use Rattle.gix_traverse.specs.declared.commit.simple.Sorting.TheVariants as sorting
-use Rattle.gix_traverse.specs.SimpleBuilding.{IsSortedByTime, FailsAtTip}
-use Rattle.gix_traverse.specs.SimpleWalk.{SimpleWalk, IsMade, Next}
+use Rattle.gix_traverse.specs.Simple.Building.{IsSortedByTime, FailsAtTip}
+use Rattle.gix_traverse.specs.Simple.Walk.{SimpleWalk, IsMade, Next}
 use Rattle.gix_walk.specs.declared.fault.Fault.{Fault}
 use Rattle.gix_walk.specs.declared.fault.Fault.TheVariants as fault
 use Rattle.gix_walk.specs.Faults.{fault_of_walk}

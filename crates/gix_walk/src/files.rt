@@ -1,6 +1,6 @@
 //! The lines of what stands in a tree.
 ghost use Rattle.std.specs.Prelude.{◌≡◌, ◌++◌, map, IfErr, IfOk, OnOk};
-ghost use Rattle.gix_traverse.specs.Tracked.{record_of_entry};
+ghost use Rattle.gix_traverse.specs.Trees.Tracked.{record_of_entry};
 ghost use Rattle.gix_walk.specs.Files.{AreLinesOf, IsTreeFault, file_line, file_lines};
 ghost use Rattle.gix_walk.specs.Run.{Serves};
 ghost use Rattle.gix_walk.specs.Words.{Files};

@@ -3,7 +3,7 @@ ghost use Rattle.std.specs.Prelude.{◌≡◌, ◌≤◌, IfOk, IsOk, length};
 ghost use Rattle.std.specs.Option.{option_map};
 ghost use Rattle.gix_parts.specs.CommitRefIter.{commit_items_left};
 ghost use Rattle.gix_parts.specs.GraphCommit.{rows_of_commit, row_of_commit};
-ghost use Rattle.gix_traverse.specs.SimpleWalk.{ids_at, scanned};
+ghost use Rattle.gix_traverse.specs.Simple.Walk.{ids_at, scanned};
 
 use super::{ParentIds, Parents};
 use gix_parts::graph::{Commit, Graph};

@@ -6,10 +6,10 @@ ghost use Rattle.gix_parts.specs.CommitItems.{commit_items};
 ghost use Rattle.gix_parts.specs.CommitRefIter.{commit_items_left};
 ghost use Rattle.gix_traverse.specs.declared.commit.simple.Sorting.TheVariants as by;
 ghost use Rattle.gix_traverse.specs.declared.commit.simple.Error.TheVariants as error;
-ghost use Rattle.gix_traverse.specs.SimpleWalk.{IsMade, Next};
-ghost use Rattle.gix_traverse.specs.SimpleBuilding.{IsSortedByTime, FailsAtTip};
-ghost use Rattle.gix_traverse.specs.SimpleSteps.{rows_of};
-ghost use Rattle.gix_traverse.specs.SimpleLaws.{answers_left};
+ghost use Rattle.gix_traverse.specs.Simple.Walk.{IsMade, Next};
+ghost use Rattle.gix_traverse.specs.Simple.Building.{IsSortedByTime, FailsAtTip};
+ghost use Rattle.gix_traverse.specs.Simple.Inside.Steps.{rows_of};
+ghost use Rattle.gix_traverse.specs.Simple.Laws.{answers_left};
 
 mod hide;
 mod paint;
@@ -93,7 +93,7 @@ impl From<decode::Error> for Error {
 }
 
 impl From<existing_iter::Error> for Error {
-    ghost use Rattle.gix_traverse.specs.SimpleErrors.{error_of_find};
+    ghost use Rattle.gix_traverse.specs.Simple.Errors.{error_of_find};
 
     ghost from_gives = { λ e r. r ≡ error_of_find e };
 
@@ -106,7 +106,7 @@ impl From<existing_iter::Error> for Error {
 }
 
 impl From<Hidden> for Error {
-    ghost use Rattle.gix_traverse.specs.SimpleErrors.{error_of_hidden};
+    ghost use Rattle.gix_traverse.specs.Simple.Errors.{error_of_hidden};
 
     ghost from_gives = { λ e r. r ≡ error_of_hidden e };
 
@@ -158,8 +158,8 @@ pub struct Simple<F, P> {
 impl<F, P> Model for Simple<F, P> {
     ghost use Rattle.std.specs.Coded.{codes};
     ghost use Rattle.gix_parts.specs.Id.{id_set_code};
-    ghost use Rattle.gix_traverse.specs.SimpleWalk.{SimpleWalk};
-    ghost use Rattle.gix_traverse.specs.SimpleSteps.{rows_of};
+    ghost use Rattle.gix_traverse.specs.Simple.Walk.{SimpleWalk};
+    ghost use Rattle.gix_traverse.specs.Simple.Inside.Steps.{rows_of};
 
     ghost Value = { SimpleWalk F P };
 

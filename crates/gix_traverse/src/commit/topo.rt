@@ -59,7 +59,7 @@ impl From<decode::Error> for Error {
 
 impl From<existing_iter::Error> for Error {
     ghost use Rattle.std.specs.Prelude.{◌≡◌};
-    ghost use Rattle.gix_traverse.specs.TopoErrors.{error_of_find};
+    ghost use Rattle.gix_traverse.specs.Topo.Errors.{error_of_find};
 
     ghost from_gives = { λ e r. r ≡ error_of_find e };
 
@@ -92,10 +92,10 @@ pub struct Topo<F: Find, P> {
 impl<F: Find, P> Model for Topo<F, P> {
     ghost use Rattle.std.specs.Coded.{codes};
     ghost use Rattle.gix_parts.specs.Id.{id_set_code};
-    ghost use Rattle.gix_traverse.specs.ReadySet.{AreTimed};
-    ghost use Rattle.gix_traverse.specs.Releasing.{walk_of};
-    ghost use Rattle.gix_traverse.specs.TopoSteady.{IsOpen};
-    ghost use Rattle.gix_traverse.specs.TopoWalk.{TopoWalk};
+    ghost use Rattle.gix_traverse.specs.Topo.Inside.ReadySet.{AreTimed};
+    ghost use Rattle.gix_traverse.specs.Topo.Inside.Releasing.{walk_of};
+    ghost use Rattle.gix_traverse.specs.Topo.Inside.Steady.{IsOpen};
+    ghost use Rattle.gix_traverse.specs.Topo.Walk.{TopoWalk};
 
     ghost Value = { TopoWalk F P };
 
@@ -120,8 +120,8 @@ impl<F: Find + Drop, P: Predicate + Drop> Topo<F, P> {
 
 impl<F: Find + Drop, P: Predicate + Drop> Iterator for Topo<F, P> {
     ghost use Rattle.std.specs.Iterator.{at_most};
-    ghost use Rattle.gix_traverse.specs.TopoLaws.{answers_left};
-    ghost use Rattle.gix_traverse.specs.TopoWalk.{Next};
+    ghost use Rattle.gix_traverse.specs.Topo.Laws.{answers_left};
+    ghost use Rattle.gix_traverse.specs.Topo.Walk.{Next};
 
     type Item = Result<Info, Error>;
 

@@ -2,9 +2,9 @@
 ghost use Rattle.std.specs.Prelude.{◌≡◌, ◌≤◌, ◌∷◌, ◌++◌, [], IfOk, IfSome, IsNone, OnOk, OnErr, MatchOption};
 ghost use Rattle.gix_parts.specs.Id.{is_among};
 ghost use Rattle.gix_parts.specs.TreeRefIter.{entry_of, items_left};
-ghost use Rattle.gix_traverse.specs.LevelQueue.{LevelQueue, empty_queue, queued};
-ghost use Rattle.gix_traverse.specs.ShowsEntry.{Queues, ShowsEntry, ShowsTree};
-ghost use Rattle.gix_traverse.specs.Trees.{BreadthFirst};
+ghost use Rattle.gix_traverse.specs.Trees.Inside.LevelQueue.{LevelQueue, empty_queue, queued};
+ghost use Rattle.gix_traverse.specs.Trees.Inside.ShowsEntry.{Queues, ShowsEntry, ShowsTree};
+ghost use Rattle.gix_traverse.specs.Trees.Walk.{BreadthFirst};
 
 use crate::tree::visit::{Visit, see};
 use gix_parts::hash::ObjectId;
@@ -47,7 +47,7 @@ impl From<decode::Error> for Error {
 }
 
 impl From<existing_iter::Error> for Error {
-    ghost use Rattle.gix_traverse.specs.TreeErrors.{error_of_find};
+    ghost use Rattle.gix_traverse.specs.Trees.Errors.{error_of_find};
 
     ghost from_gives = { λ e r. r ≡ error_of_find e };
 
@@ -87,7 +87,7 @@ struct Queue {
 
 impl Model for Queue {
     ghost use Rattle.std.specs.Prelude.{◌≤◌, length};
-    ghost use Rattle.gix_traverse.specs.LevelQueue.{LevelQueue, level_queue, AreAbove};
+    ghost use Rattle.gix_traverse.specs.Trees.Inside.LevelQueue.{LevelQueue, level_queue, AreAbove};
 
     ghost Value = { LevelQueue };
 

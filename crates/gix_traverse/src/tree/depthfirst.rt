@@ -2,9 +2,9 @@
 ghost use Rattle.std.specs.Prelude.{◌≡◌, ◌≤◌, ◌-◌, ◌∷◌, ◌++◌, [], OnOk, OnErr, take, reverse, length};
 ghost use Rattle.gix_parts.specs.Id.{is_among};
 ghost use Rattle.gix_parts.specs.TreeRefIter.{entry_of};
-ghost use Rattle.gix_traverse.specs.ShowsBelow.{Descends, ShowsBelow, ShowsUpTo};
-ghost use Rattle.gix_traverse.specs.TreeStack.{FoundTree, IsWithin, ids_down, items_at};
-ghost use Rattle.gix_traverse.specs.Trees.{DepthFirst};
+ghost use Rattle.gix_traverse.specs.Trees.Inside.ShowsBelow.{Descends, ShowsBelow, ShowsUpTo};
+ghost use Rattle.gix_traverse.specs.Trees.Inside.Stack.{FoundTree, IsWithin, ids_down, items_at};
+ghost use Rattle.gix_traverse.specs.Trees.Walk.{DepthFirst};
 
 pub use crate::tree::breadthfirst::Error;
 use crate::tree::visit::{Visit, see};

@@ -2,9 +2,9 @@
 ghost use Rattle.std.specs.Prelude.{◌≡◌, ◌↔◌, IsTrue, IfOk, OnOk, OnErr};
 ghost use Rattle.bstr.specs.BStr.{bstr_bytes};
 ghost use Rattle.bstr.specs.Owned.{bstring_bytes};
-ghost use Rattle.gix_traverse.specs.Recorder.{with_name, without_name};
+ghost use Rattle.gix_traverse.specs.Trees.Recorder.{with_name, without_name};
 ghost use Rattle.gix_parts.specs.TreeRefIter.{entry_of};
-ghost use Rattle.gix_traverse.specs.Tracked.{fresh_recorder, queued_with, record_of_entry, recorded_with};
+ghost use Rattle.gix_traverse.specs.Trees.Tracked.{fresh_recorder, queued_with, record_of_entry, recorded_with};
 
 use crate::tree::visit::{Action, Visit};
 use bstr::{BStr, BString};
@@ -51,7 +51,7 @@ impl Entry {
 
 impl PartialEq for Entry {
     ghost use Rattle.std.specs.Cmp.{partial_equiv_from_equiv, on_per};
-    ghost use Rattle.gix_traverse.specs.Recorder.{is_same_record, is_same_record-equivalence};
+    ghost use Rattle.gix_traverse.specs.Trees.Recorder.{is_same_record, is_same_record-equivalence};
 
     ghost eq = { λ a b. is_same_record (record_of_entry a) (record_of_entry b) };
 
@@ -70,7 +70,7 @@ impl PartialEq for Entry {
 
 impl Eq for Entry {
     ghost use Rattle.std.specs.Cmp.{on_equiv};
-    ghost use Rattle.gix_traverse.specs.Recorder.{is_same_record-equivalence};
+    ghost use Rattle.gix_traverse.specs.Trees.Recorder.{is_same_record-equivalence};
 
     ghost laws = { on_equiv record_of_entry is_same_record-equivalence };
 }
@@ -127,7 +127,7 @@ pub struct Recorder {
 
 impl Model for Recorder {
     ghost use Rattle.std.specs.Prelude.{map};
-    ghost use Rattle.gix_traverse.specs.Tracked.{Tracked, record_of_entry, tracked};
+    ghost use Rattle.gix_traverse.specs.Trees.Tracked.{Tracked, record_of_entry, tracked};
 
     ghost Value = { Tracked };
 
@@ -199,7 +199,7 @@ impl Recorder {
 }
 
 impl Visit for Recorder {
-    ghost use Rattle.gix_traverse.specs.Tracked.{Tracks};
+    ghost use Rattle.gix_traverse.specs.Trees.Tracked.{Tracks};
 
     ghost steps = { Tracks };
 

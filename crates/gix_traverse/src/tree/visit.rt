@@ -3,8 +3,8 @@ ghost use Rattle.std.specs.Prelude.{MatchResult};
 ghost use Rattle.bstr.specs.BStr.{bstr_bytes};
 ghost use Rattle.gix_parts.specs.TreeItems.{is_tree};
 ghost use Rattle.gix_parts.specs.TreeRefIter.{entry_of};
-ghost use Rattle.gix_traverse.specs.Delegate.{Call, PushPath, PopPath, PushBack, PopBack, PopFront, VisitTree, VisitNontree, Refused};
-ghost use Rattle.gix_traverse.specs.Visits.{visit_call_of};
+ghost use Rattle.gix_traverse.specs.Trees.Delegate.{Call, PushPath, PopPath, PushBack, PopBack, PopFront, VisitTree, VisitNontree, Refused};
+ghost use Rattle.gix_traverse.specs.Trees.Visits.{visit_call_of};
 
 use bstr::BStr;
 use gix_parts::object::tree::EntryRef;

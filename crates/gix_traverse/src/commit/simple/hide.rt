@@ -3,9 +3,9 @@ ghost use Rattle.std.specs.Prelude.{◌≡◌, ◌≢◌, ◌++◌, ◌==◌, �
 ghost use Rattle.std.specs.FinSet as set;
 ghost use Rattle.gix_parts.specs.declared.object.find.existing_iter.Error.TheVariants as existing;
 ghost use Rattle.gix_traverse.specs.declared.commit.simple.Hidden.TheVariants as hidden_by;
-ghost use Rattle.gix_traverse.specs.Painting.{Paints, IsHiddenFault};
-ghost use Rattle.gix_traverse.specs.SimpleSteps.{Hides, unpainted};
-ghost use Rattle.gix_traverse.specs.SimpleWalk.{ids_of};
+ghost use Rattle.gix_traverse.specs.Simple.Painting.{Paints, IsHiddenFault};
+ghost use Rattle.gix_traverse.specs.Simple.Inside.Steps.{Hides, unpainted};
+ghost use Rattle.gix_traverse.specs.Simple.Walk.{ids_of};
 
 use super::paint::{HiddenIds, Painting, paint};
 use super::pending::Pending;

@@ -3,11 +3,11 @@ ghost use Rattle.std.specs.Prelude.{◌≡◌, ◌≢◌, ◌↔◌, ◌++◌, �
 ghost use Rattle.std.specs.FinSet as set;
 ghost use Rattle.gix_parts.specs.declared.object.find.existing_iter.Error.TheVariants as existing;
 ghost use Rattle.gix_traverse.specs.declared.commit.simple.paint.Key.{Key};
-ghost use Rattle.gix_traverse.specs.History.{time_of};
-ghost use Rattle.gix_traverse.specs.Painting.{IsFaultAt, IsHiddenFault, Paints};
-ghost use Rattle.gix_traverse.specs.SimpleWalk.{ids_of};
-ghost use Rattle.gix_traverse.specs.Painter as painter;
-ghost use Rattle.gix_traverse.specs.Painter.{rows_in, FailsAmong, Reads, ReadsParents, GivesParents, Knows, Queues, Meets, is_turn, Takes, TreatsEntry, TreatFails, IsSettled, Pops};
+ghost use Rattle.gix_traverse.specs.History.Commits.{time_of};
+ghost use Rattle.gix_traverse.specs.Simple.Painting.{IsFaultAt, IsHiddenFault, Paints};
+ghost use Rattle.gix_traverse.specs.Simple.Walk.{ids_of};
+ghost use Rattle.gix_traverse.specs.Simple.Inside.Painter as painter;
+ghost use Rattle.gix_traverse.specs.Simple.Inside.Painter.{rows_in, FailsAmong, Reads, ReadsParents, GivesParents, Knows, Queues, Meets, is_turn, Takes, TreatsEntry, TreatFails, IsSettled, Pops};
 
 use super::Hidden;
 use super::pending::Pending;
@@ -99,7 +99,7 @@ pub(super) struct HiddenIds {
 impl Model for HiddenIds {
     ghost use Rattle.std.specs.FinSet.{FinSet, code};
     ghost use Rattle.gix_parts.specs.Id.{id_cmp, id_code};
-    ghost use Rattle.gix_traverse.specs.Painter.{hidden_of};
+    ghost use Rattle.gix_traverse.specs.Simple.Inside.Painter.{hidden_of};
 
     ghost Value = { FinSet id_cmp };
 

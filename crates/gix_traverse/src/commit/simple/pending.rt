@@ -1,8 +1,8 @@
 //! The pending commits of a walk, held so that the next one is at hand.
 ghost use Rattle.std.specs.Prelude.{◌≡◌, ◌≢◌, ◌++◌, ◌∷◌, [], length, ◌==◌, IfOk, OnOk, OnErr, IfErr, Some, IsPermutation};
 ghost use Rattle.gix_parts.specs.PriorityQueue.{values};
-ghost use Rattle.gix_traverse.specs.PendingQueue.{held_items, time_key, AreKeyed, IsKeyed, TakesOut};
-ghost use Rattle.gix_traverse.specs.SimpleWalk.{Holds};
+ghost use Rattle.gix_traverse.specs.Simple.Inside.PendingQueue.{held_items, time_key, AreKeyed, IsKeyed, TakesOut};
+ghost use Rattle.gix_traverse.specs.Simple.Walk.{Holds};
 
 use super::CommitTimeOrder;
 use gix_parts::hash::ObjectId;
@@ -36,7 +36,7 @@ pub(super) struct PendingQueue {
 impl Model for PendingQueue {
     ghost use Rattle.std.specs.Prelude.{List};
     ghost use Rattle.gix_traverse.specs.declared.commit.simple.pending.Pending.{Pending};
-    ghost use Rattle.gix_traverse.specs.PendingQueue.{held_items, IsKeyed};
+    ghost use Rattle.gix_traverse.specs.Simple.Inside.PendingQueue.{held_items, IsKeyed};
 
     ghost Value = { List Pending };
 

@@ -5,11 +5,11 @@ ghost use Rattle.gix_parts.specs.Rows.{row_of};
 ghost use Rattle.gix_parts.specs.CommitItems.{commit_items};
 ghost use Rattle.gix_parts.specs.CommitRefIter.{commit_items_left};
 ghost use Rattle.gix_parts.specs.declared.hash.ObjectId.{ObjectId};
-ghost use Rattle.gix_traverse.specs.History.{by_mode, time_of};
+ghost use Rattle.gix_traverse.specs.History.Commits.{by_mode, time_of};
 ghost use Rattle.gix_traverse.specs.declared.commit.simple.step.Stop.TheVariants as stop;
-ghost use Rattle.gix_traverse.specs.SimpleSteps.{Meets, TimeIs, ReadsRow, RowSays};
-ghost use Rattle.gix_traverse.specs.SimpleWalk.{scanned, how_ended, failed, time_order, cutoff, is_older, given_time, row_time, Asks, Enqueues, Treats, TreatsAll, Concludes, Takes, Steps};
-ghost use Rattle.gix_traverse.specs.PendingQueue.{TakesOut};
+ghost use Rattle.gix_traverse.specs.Simple.Inside.Steps.{Meets, TimeIs, ReadsRow, RowSays};
+ghost use Rattle.gix_traverse.specs.Simple.Walk.{scanned, how_ended, failed, time_order, cutoff, is_older, given_time, row_time, Asks, Enqueues, Treats, TreatsAll, Concludes, Takes, Steps};
+ghost use Rattle.gix_traverse.specs.Simple.Inside.PendingQueue.{TakesOut};
 
 use super::pending::Pending;
 use super::{CommitTimeOrder, Error, Simple, Sorting};
@@ -31,7 +31,7 @@ pub(super) enum Stop {
 }
 
 impl From<Stop> for Error {
-    ghost use Rattle.gix_traverse.specs.SimpleErrors.{error_of_stop};
+    ghost use Rattle.gix_traverse.specs.Simple.Errors.{error_of_stop};
 
     ghost from_gives = { λ e r. r ≡ error_of_stop e };
 

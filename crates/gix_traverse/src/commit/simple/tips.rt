@@ -1,7 +1,7 @@
 //! How the pending tips are read for their times.
 ghost use Rattle.std.specs.Prelude.{◌≡◌, ◌≢◌, IfOk, IfErr, OnOk};
 ghost use Rattle.gix_traverse.specs.declared.commit.simple.Error.TheVariants as error;
-ghost use Rattle.gix_traverse.specs.SimpleBuilding.{IsTipRead, IsTipFault, FailsAtTip, SortsIn, SortsAll};
+ghost use Rattle.gix_traverse.specs.Simple.Building.{IsTipRead, IsTipFault, FailsAtTip, SortsIn, SortsAll};
 
 use super::pending::Pending;
 use super::step::is_older_than;

@@ -1,8 +1,8 @@
 //! How a topological walk begins.
 ghost use Rattle.std.specs.Prelude.{◌≡◌, ◌∷◌, List, true, IfOk, OnOk, IfErr};
 ghost use Rattle.gix_parts.specs.declared.hash.ObjectId.{ObjectId};
-ghost use Rattle.gix_traverse.specs.ReadsCommit.{rows_of};
-ghost use Rattle.gix_traverse.specs.ReadySet.{AreTimed};
+ghost use Rattle.gix_traverse.specs.History.Reading.{rows_of};
+ghost use Rattle.gix_traverse.specs.Topo.Inside.ReadySet.{AreTimed};
 
 use super::counting::Counting;
 use super::iter::{Walk, is_due};
@@ -15,9 +15,9 @@ use gix_parts::hashtable::IdSet;
 use gix_parts::object::find::Find;
 
 impl<F: Find + Drop> Walk<F> {
-    ghost use Rattle.gix_traverse.specs.Releasing.{plan_of};
-    ghost use Rattle.gix_traverse.specs.Starting.{Starts, StartsAll, IsStartFault, IsBegunWalk};
-    ghost use Rattle.gix_traverse.specs.TopoWalk.{Ready, IsFault};
+    ghost use Rattle.gix_traverse.specs.Topo.Inside.Releasing.{plan_of};
+    ghost use Rattle.gix_traverse.specs.Topo.Inside.Starting.{Starts, StartsAll, IsStartFault, IsBegunWalk};
+    ghost use Rattle.gix_traverse.specs.Topo.Walk.{Ready, IsFault};
 
     /// A tip becomes ready where it has no child and no end reaches it.
     fn start(&mut self, id: &ObjectId) -> Result<(), Error>

@@ -2,14 +2,14 @@
 ghost use Rattle.std.specs.Prelude.{◌≡◌, IfOk, IfErr, OnOk, OnErr, ℕ, ◌∷◌, ◌<◌, List, Bool, false, true, cond, ◌+◌, ◌||◌};
 ghost use Rattle.gix_parts.specs.declared.hash.ObjectId.{ObjectId};
 ghost use Rattle.gix_traverse.specs.declared.commit.topo.frontier.Side.{Side};
-ghost use Rattle.gix_traverse.specs.Agreeing.{IsAgreeing};
-ghost use Rattle.gix_traverse.specs.Searched.{IsCounted, IsBegun, IsExplored};
-ghost use Rattle.gix_traverse.specs.Frontier.{is_done};
-ghost use Rattle.gix_traverse.specs.Counting.{least};
-ghost use Rattle.gix_traverse.specs.History.{by_mode};
-ghost use Rattle.gix_traverse.specs.TopoOrder.{last_places};
-ghost use Rattle.gix_traverse.specs.ReadsCommit.{rows_of, IsReadFault};
-ghost use Rattle.gix_traverse.specs.Exploring.{is_pending, Follows, ReadsParents, Steps, IsStepFault, IsSamePlan, Explores, IsExploringFault, IsRested};
+ghost use Rattle.gix_traverse.specs.History.Agreeing.{IsAgreeing};
+ghost use Rattle.gix_traverse.specs.Topo.Inside.Searched.{IsCounted, IsBegun, IsExplored};
+ghost use Rattle.gix_traverse.specs.Topo.Inside.Frontier.{is_done};
+ghost use Rattle.gix_traverse.specs.Topo.Depth.{least};
+ghost use Rattle.gix_traverse.specs.History.Commits.{by_mode};
+ghost use Rattle.gix_traverse.specs.Orders.TopoOrder.{last_places};
+ghost use Rattle.gix_traverse.specs.History.Reading.{rows_of, IsReadFault};
+ghost use Rattle.gix_traverse.specs.Topo.Inside.Exploring.{is_pending, Follows, ReadsParents, Steps, IsStepFault, IsSamePlan, Explores, IsExploringFault, IsRested};
 
 use super::Error;
 use super::frontier::{Frontier, Known, Side, Waiting};
@@ -81,8 +81,8 @@ fn one_more(expanded: usize, known: &Known) -> Result<usize, AllocError>
 impl<F: Find + Drop> Counting<F> {
     ghost use Rattle.std.specs.Prelude.{IfErr};
     ghost use Rattle.gix_traverse.specs.declared.commit.topo.Sorting.{Sorting};
-    ghost use Rattle.gix_traverse.specs.Starting.{HasBegun, MeetsAll};
-    ghost use Rattle.gix_traverse.specs.TopoWalk.{IsFault};
+    ghost use Rattle.gix_traverse.specs.Topo.Inside.Starting.{HasBegun, MeetsAll};
+    ghost use Rattle.gix_traverse.specs.Topo.Walk.{IsFault};
 
     /// A side starts from these.
     fn meet_all(&mut self, mut ids: &[ObjectId], side: Side) -> Result<(), AllocError>

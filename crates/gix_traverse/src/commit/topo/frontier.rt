@@ -1,7 +1,7 @@
 //! Two searches over one queue: what tips reach by the parents that are walked, and what ends reach by any.
 ghost use Rattle.std.specs.Prelude.{◌≡◌, ◌+◌, OnOk, IfOk, IfSome, IfNone, [], List};
 ghost use Rattle.std.specs.FinMap as map;
-ghost use Rattle.gix_traverse.specs.Frontier.{known_of, Meets, Counts, Uncounts, Makes, Names, Finishes};
+ghost use Rattle.gix_traverse.specs.Topo.Inside.Frontier.{known_of, Meets, Counts, Uncounts, Makes, Names, Finishes};
 
 use bitflags::{Flag, Flags, bitflag_items};
 use gix_parts::hash::ObjectId;
@@ -66,7 +66,7 @@ impl Flags for Marks {
 }
 
 impl Marks {
-    ghost use Rattle.gix_traverse.specs.Known.{met_mark, done_mark};
+    ghost use Rattle.gix_traverse.specs.Topo.Inside.Known.{met_mark, done_mark};
 
     fn met(side: Side) -> Marks
         ensures { result.0 ≡ met_mark side }
@@ -96,7 +96,7 @@ pub(super) struct Known {
 }
 
 impl Model for Known {
-    ghost use Rattle.gix_traverse.specs.Known as known;
+    ghost use Rattle.gix_traverse.specs.Topo.Inside.Known as known;
 
     ghost Value = { known.Known };
 
@@ -106,7 +106,7 @@ impl Model for Known {
 impl Known {
     ghost use Rattle.std.specs.Prelude.{true, false, ◌||◌};
     ghost use Rattle.gix_traverse.specs.declared.commit.topo.frontier.Progress.TheVariants as progress;
-    ghost use Rattle.gix_traverse.specs.Frontier.{is_seen, is_done, progress_of, with_progress};
+    ghost use Rattle.gix_traverse.specs.Topo.Inside.Frontier.{is_seen, is_done, progress_of, with_progress};
 
     // A copy by hand, since `Copy` needs marks that can be told from what contracts see.
     fn copy(&self) -> Known

@@ -2,8 +2,8 @@
 ghost use Rattle.std.specs.Prelude.{◌≡◌, [], ◌++◌, List, Some, IfOk};
 ghost use Rattle.std.specs.Iterator.{IsFinite, Drains};
 ghost use Rattle.gix_parts.specs.declared.hash.ObjectId.{ObjectId};
-ghost use Rattle.gix_traverse.specs.ReadsCommit.{rows_of};
-ghost use Rattle.gix_traverse.specs.TopoWalk.{fresh_builder, IsFromEnds, Built};
+ghost use Rattle.gix_traverse.specs.History.Reading.{rows_of};
+ghost use Rattle.gix_traverse.specs.Topo.Walk.{fresh_builder, IsFromEnds, Built};
 
 use super::iter::Walk;
 use super::reader::Reader;
@@ -31,8 +31,8 @@ pub struct Builder<F, P> {
 }
 
 impl<F, P> Model for Builder<F, P> {
-    ghost use Rattle.gix_traverse.specs.ReadsCommit.{rows_of};
-    ghost use Rattle.gix_traverse.specs.TopoWalk.{TopoBuilder};
+    ghost use Rattle.gix_traverse.specs.History.Reading.{rows_of};
+    ghost use Rattle.gix_traverse.specs.Topo.Walk.{TopoBuilder};
 
     ghost Value = { TopoBuilder F P };
 

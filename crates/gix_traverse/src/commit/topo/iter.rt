@@ -1,7 +1,7 @@
 //! A topological walk.
 ghost use Rattle.std.specs.Prelude.{◌≡◌, List, OnOk, IfErr};
-ghost use Rattle.gix_traverse.specs.Frontier.{is_due};
-ghost use Rattle.gix_traverse.specs.ReadySet.{as_ready, AreTimed};
+ghost use Rattle.gix_traverse.specs.Topo.Inside.Frontier.{is_due};
+ghost use Rattle.gix_traverse.specs.Topo.Inside.ReadySet.{as_ready, AreTimed};
 
 use super::Error;
 use super::counting::{Counting, places, walked};
@@ -31,9 +31,9 @@ pub(super) fn is_due(left: usize, known: &Known) -> bool
 }
 
 impl<F: Find + Drop> Walk<F> {
-    ghost use Rattle.gix_traverse.specs.Releasing.{plan_of, Pushes, IsPushFault, Releases, IsReleaseFault, ReleasesAll, IsFaultAmong, TakesOne, IsTakingFault};
-    ghost use Rattle.gix_traverse.specs.TopoSteady.{IsOpen, Turns};
-    ghost use Rattle.gix_traverse.specs.TopoWalk.{Ready};
+    ghost use Rattle.gix_traverse.specs.Topo.Inside.Releasing.{plan_of, Pushes, IsPushFault, Releases, IsReleaseFault, ReleasesAll, IsFaultAmong, TakesOne, IsTakingFault};
+    ghost use Rattle.gix_traverse.specs.Topo.Inside.Steady.{IsOpen, Turns};
+    ghost use Rattle.gix_traverse.specs.Topo.Walk.{Ready};
 
     /// A commit whose children were all taken is read, and becomes ready. Its parents are looked up.
     pub(super) fn push(&mut self, id: &ObjectId) -> Result<(), Error>

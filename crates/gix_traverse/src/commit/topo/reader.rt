@@ -1,7 +1,7 @@
 //! Reads commits by their rows, or else from the store.
 ghost use Rattle.std.specs.Prelude.{◌≡◌, IfOk, IfErr, true};
-ghost use Rattle.gix_traverse.specs.Counting.{known_generation};
-ghost use Rattle.gix_traverse.specs.ReadsCommit.{rows_of, Reads, ReadsRow, ReadsText, IsReadFault};
+ghost use Rattle.gix_traverse.specs.Topo.Depth.{known_generation};
+ghost use Rattle.gix_traverse.specs.History.Reading.{rows_of, Reads, ReadsRow, ReadsText, IsReadFault};
 
 use super::Error;
 use crate::commit::read::{row_parents, scan};

@@ -1,7 +1,7 @@
 use Rattle.std.proofs.Common.{ap, ◌∙◌, ◌++◌, ◌-◌, ◌^◌, [], false, string_bytes}
 use Rattle.std.specs.Fmt.{styled_digits_output, padded_integral, format_spec}
 use Rattle.std.specs.Option.{option_map}
-use Rattle.gix_traverse.specs.Tracked.{record_of_entry}
+use Rattle.gix_traverse.specs.Trees.Tracked.{record_of_entry}
 use Rattle.gix_walk.proofs.FileFacts.{front_text, line_added}
 use Rattle.gix_walk.proofs.files.add_line.Goals as goal
 

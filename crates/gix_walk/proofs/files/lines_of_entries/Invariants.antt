@@ -1,5 +1,5 @@
 use Rattle.std.proofs.Common.{◌≡◌, ◌++◌, map, drop}
-use Rattle.gix_traverse.specs.Tracked.{record_of_entry}
+use Rattle.gix_traverse.specs.Trees.Tracked.{record_of_entry}
 use Rattle.gix_walk.specs.Files.{file_lines}
 use Rattle.gix_walk.proofs.files.lines_of_entries.Given as goal
 

@@ -1,6 +1,6 @@
 use Rattle.std.proofs.Common.{◌<◌, ap, subst, ◌∙◌, All, IfOk, length}
 use Rattle.gix_parts.specs.GraphCommit.{row_of_commit}
-use Rattle.gix_traverse.proofs.RowFacts.{answered_ids, answered_at, behind, behind_none, read_on, rest_within}
+use Rattle.gix_traverse.proofs.Shared.Rows.{answered_ids, answered_at, behind, behind_none, read_on, rest_within}
 use Rattle.gix_traverse.proofs.commit.read.row_parents.Goals as goal
 
 pub loop-place-init : goal.loop-place-init

@@ -1,7 +1,7 @@
 use Rattle.std.proofs.Common.{◌≡◌, ◌<◌, All, IfOk, length}
 use Rattle.gix_parts.specs.GraphCommit.{row_of_commit}
-use Rattle.gix_traverse.specs.SimpleWalk.{ids_at}
-use Rattle.gix_traverse.proofs.RowFacts.{answered_ids, behind}
+use Rattle.gix_traverse.specs.Simple.Walk.{ids_at}
+use Rattle.gix_traverse.proofs.Shared.Rows.{answered_ids, behind}
 use Rattle.gix_traverse.proofs.commit.read.row_parents.Given as goal
 
 -- the ids that were read and those that are left are all

@@ -2,7 +2,7 @@ use Rattle.std.proofs.Common.{◌≡◌, ◌≤◌, ◌++◌, List, Option, leng
 use Rattle.gix_parts.specs.declared.hash.ObjectId.{ObjectId}
 use Rattle.gix_parts.specs.declared.object.decode.Error.{Error}
 use Rattle.gix_parts.specs.CommitRefIter.{commit_items_left}
-use Rattle.gix_traverse.specs.SimpleWalk.{scanned}
+use Rattle.gix_traverse.specs.Simple.Walk.{scanned}
 use Rattle.gix_traverse.proofs.commit.read.scan.Given as goal
 
 -- what items show behind parents that were read before

@@ -2,11 +2,11 @@ use Rattle.std.proofs.Common.{◌≡◌, ap, ◌∙◌}
 use Rattle.gix_parts.specs.Id.{kind_of}
 use Rattle.gix_parts.specs.TreeItems.{tree_items}
 use Rattle.gix_parts.specs.TreeRefIter.{items_left}
-use Rattle.gix_traverse.specs.TreeErrors.{error_of_find}
-use Rattle.gix_traverse.specs.Trees.{items_of_object}
-use Rattle.gix_traverse.proofs.LevelSoFar.{so_far_start, so_far_shown, so_far_found, so_far_look_up_fails, so_far_whole}
-use Rattle.gix_traverse.proofs.ShowLemmas.{failed_so}
-use Rattle.gix_traverse.proofs.WaitLemmas.{turn_lessens}
+use Rattle.gix_traverse.specs.Trees.Errors.{error_of_find}
+use Rattle.gix_traverse.specs.Trees.Walk.{items_of_object}
+use Rattle.gix_traverse.proofs.Trees.Levels.Loop.{so_far_start, so_far_shown, so_far_found, so_far_look_up_fails, so_far_whole}
+use Rattle.gix_traverse.proofs.Trees.Shown.{failed_so}
+use Rattle.gix_traverse.proofs.Trees.Work.Loops.{turn_lessens}
 use Rattle.gix_traverse.proofs.tree.breadthfirst.breadthfirst.Goals as goal
 
 pub returns-in_err-show_all : goal.returns-in_err-show_all

@@ -1,7 +1,7 @@
 use Rattle.std.proofs.Common.{[]}
 use Rattle.gix_parts.specs.TreeRefIter.{items_left}
-use Rattle.gix_traverse.proofs.LevelSoFar.{LevelSoFar}
-use Rattle.gix_traverse.proofs.WaitLemmas.{waiting_work}
+use Rattle.gix_traverse.proofs.Trees.Levels.Loop.{LevelSoFar}
+use Rattle.gix_traverse.proofs.Trees.Work.Loops.{waiting_work}
 use Rattle.gix_traverse.proofs.tree.breadthfirst.breadthfirst.Given as goal
 
 -- the entries of the tree whose turn it is were shown, and the walk goes on with the trees that wait

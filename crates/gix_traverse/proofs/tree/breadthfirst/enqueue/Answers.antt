@@ -1,7 +1,7 @@
 use Rattle.std.proofs.Common.{sym, ◌∙◌}
 use Rattle.gix_traverse.specs.declared.tree.breadthfirst.Error.TheVariants as error
-use Rattle.gix_traverse.specs.ShowsEntry as shows
-use Rattle.gix_traverse.proofs.ShowLemmas.{failed_so}
+use Rattle.gix_traverse.specs.Trees.Inside.ShowsEntry as shows
+use Rattle.gix_traverse.proofs.Trees.Shown.{failed_so}
 use Rattle.gix_traverse.proofs.tree.breadthfirst.enqueue.Goals as goal
 
 pub returns-then-knows : goal.returns-then-knows

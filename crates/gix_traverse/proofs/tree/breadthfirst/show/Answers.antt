@@ -2,7 +2,7 @@ use Rattle.std.proofs.Common.{◌≡◌, Bool, true, false, sym, ◌∙◌}
 use Rattle.gix_parts.specs.TreeItems.{is_tree}
 use Rattle.gix_parts.specs.TreeRefIter.{entry_of}
 use Rattle.gix_traverse.specs.declared.tree.breadthfirst.Error.TheVariants as error
-use Rattle.gix_traverse.proofs.ShowLemmas.{failed_so, push_refused, visit_refused, visit_breaks, visit_leaves, queue_ends, queue_goes_on}
+use Rattle.gix_traverse.proofs.Trees.Shown.{failed_so, push_refused, visit_refused, visit_breaks, visit_leaves, queue_ends, queue_goes_on}
 use Rattle.gix_traverse.proofs.tree.breadthfirst.show.Goals as goal
 use Rattle.gix_traverse.proofs.tree.breadthfirst.show.Goals.{then-into+then-is_tree+in_ok-enqueue-in-Continue, else-into, else-into-via-then-into+else-is_tree, else-into-via-else-into}
 

@@ -1,8 +1,8 @@
 use Rattle.std.proofs.Common.{◌≡◌, ◌∷◌, Ok, Err}
 use Rattle.gix_parts.specs.TreeRefIter.{entry_of, items_left}
 use Rattle.gix_traverse.specs.declared.tree.breadthfirst.Error.TheVariants as error
-use Rattle.gix_traverse.specs.ShowsEntry as shows
-use Rattle.gix_traverse.proofs.ShowLemmas.{failed_so}
+use Rattle.gix_traverse.specs.Trees.Inside.ShowsEntry as shows
+use Rattle.gix_traverse.proofs.Trees.Shown.{failed_so}
 use Rattle.gix_traverse.proofs.tree.breadthfirst.show_all.Goals as goal
 
 pub returns-in_err-entry : goal.returns-in_err-entry

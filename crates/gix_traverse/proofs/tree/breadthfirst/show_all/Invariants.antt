@@ -1,8 +1,8 @@
 use Rattle.std.proofs.Common.{Result, length}
 use Rattle.gix_parts.specs.TreeRefIter.{items_left}
 use Rattle.gix_traverse.specs.declared.tree.breadthfirst.Error.{Error}
-use Rattle.gix_traverse.specs.LevelQueue.{LevelQueue}
-use Rattle.gix_traverse.specs.ShowsEntry.{ShowsTree}
+use Rattle.gix_traverse.specs.Trees.Inside.LevelQueue.{LevelQueue}
+use Rattle.gix_traverse.specs.Trees.Inside.ShowsEntry.{ShowsTree}
 use Rattle.gix_traverse.proofs.tree.breadthfirst.show_all.Given as goal
 
 -- to show the entries that are left is to show them all

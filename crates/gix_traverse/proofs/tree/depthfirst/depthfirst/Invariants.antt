@@ -1,7 +1,7 @@
 use Rattle.std.proofs.Common.{◌∷◌, reverse}
-use Rattle.gix_traverse.specs.TreeStack.{AreWithin, ids_down, items_at, left_above}
-use Rattle.gix_traverse.proofs.DepthSoFar.{DepthSoFar}
-use Rattle.gix_traverse.proofs.WaitLemmas.{stack_work}
+use Rattle.gix_traverse.specs.Trees.Inside.Stack.{AreWithin, ids_down, items_at, left_above}
+use Rattle.gix_traverse.proofs.Trees.Depth.Loop.{DepthSoFar}
+use Rattle.gix_traverse.proofs.Trees.Work.Loops.{stack_work}
 use Rattle.gix_traverse.proofs.tree.depthfirst.depthfirst.Given as goal
 
 -- the walk goes on with what is left of the tree, and then of those above it

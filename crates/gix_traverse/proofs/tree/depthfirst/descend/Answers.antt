@@ -1,9 +1,9 @@
 use Rattle.std.proofs.Common.{◌≡◌, ◌∷◌, true, false, reverse, sym, ◌∙◌}
 use Rattle.gix_parts.specs.Id.{is_among}
-use Rattle.gix_traverse.specs.TreeStack.{ids_down}
+use Rattle.gix_traverse.specs.Trees.Inside.Stack.{ids_down}
 use Rattle.gix_traverse.specs.declared.tree.breadthfirst.Error.TheVariants as error
-use Rattle.gix_traverse.specs.ShowsBelow as shows
-use Rattle.gix_traverse.proofs.ShowLemmas.{failed_so}
+use Rattle.gix_traverse.specs.Trees.Inside.ShowsBelow as shows
+use Rattle.gix_traverse.proofs.Trees.Shown.{failed_so}
 use Rattle.gix_traverse.proofs.tree.depthfirst.descend.Goals as goal
 
 pub returns-then-knows-clause-descends : goal.returns-then-knows-clause-descends

@@ -1,5 +1,5 @@
 use Rattle.std.proofs.Common.{sym, ◌∙◌}
-use Rattle.gix_traverse.proofs.StackLemmas.{told_same, found_of, others_of, known_found, known_last}
+use Rattle.gix_traverse.proofs.Trees.Depth.Stack.{told_same, found_of, others_of, known_found, known_last}
 use Rattle.gix_traverse.proofs.tree.depthfirst.knows.Goals as goal
 
 pub returns-then-eq : goal.returns-then-eq

@@ -1,5 +1,5 @@
 use Rattle.std.proofs.Common.{◌≡◌, drop}
-use Rattle.gix_traverse.proofs.StackLemmas.{is_of}
+use Rattle.gix_traverse.proofs.Trees.Depth.Stack.{is_of}
 use Rattle.gix_traverse.proofs.tree.depthfirst.knows.Given as goal
 
 -- the trees that are left tell whether the id is that of one

@@ -1,9 +1,9 @@
 use Rattle.std.proofs.Common.{◌≡◌, ◌∷◌, Bool, true, false, reverse, ◌⊎◌, inl, inr, sym, ◌∙◌}
 use Rattle.gix_parts.specs.TreeRefIter.{entry_of}
-use Rattle.gix_traverse.specs.TreeStack.{ids_down}
+use Rattle.gix_traverse.specs.Trees.Inside.Stack.{ids_down}
 use Rattle.gix_traverse.specs.declared.tree.breadthfirst.Error.TheVariants as error
-use Rattle.gix_traverse.proofs.ShowLemmas.{failed_so}
-use Rattle.gix_traverse.proofs.DescendLemmas.{push_refused, visit_refused, tree_breaks, plain_breaks, visit_leaves, descent_ends, descent_goes_on}
+use Rattle.gix_traverse.proofs.Trees.Shown.{failed_so}
+use Rattle.gix_traverse.proofs.Trees.Depth.Descent.{push_refused, visit_refused, tree_breaks, plain_breaks, visit_leaves, descent_ends, descent_goes_on}
 use Rattle.gix_traverse.proofs.tree.depthfirst.show.Goals as goal
 
 pub returns-in_err-push_path_component-clause-shows : goal.returns-in_err-push_path_component-clause-shows

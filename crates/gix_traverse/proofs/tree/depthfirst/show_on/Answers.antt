@@ -2,10 +2,10 @@ use Rattle.std.proofs.Common.{◌≡◌, ◌∷◌, drop, Ok, Err, sym, ◌∙�
 use Rattle.gix_parts.specs.TreeItems.{tree_items}
 use Rattle.gix_parts.specs.TreeRefIter.{entry_of, items_left, bytes_left}
 use Rattle.gix_traverse.specs.declared.tree.breadthfirst.Error.TheVariants as error
-use Rattle.gix_traverse.specs.ShowsBelow as shows
-use Rattle.gix_traverse.proofs.DescendLemmas.{stops_at}
-use Rattle.gix_traverse.proofs.ShowLemmas.{failed_so}
-use Rattle.gix_traverse.proofs.StackLemmas.{end_of_end}
+use Rattle.gix_traverse.specs.Trees.Inside.ShowsBelow as shows
+use Rattle.gix_traverse.proofs.Trees.Depth.Descent.{stops_at}
+use Rattle.gix_traverse.proofs.Trees.Shown.{failed_so}
+use Rattle.gix_traverse.proofs.Trees.Depth.Stack.{end_of_end}
 use Rattle.gix_traverse.proofs.tree.depthfirst.show_on.Goals as goal
 
 pub returns-in_err-entry-clause-shows : goal.returns-in_err-entry-clause-shows

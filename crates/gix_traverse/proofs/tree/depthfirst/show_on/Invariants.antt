@@ -3,9 +3,9 @@ use Rattle.gix_parts.specs.Id.{kind_of}
 use Rattle.gix_parts.specs.TreeRefIter.{bytes_left, id_kind, items_left, IsEndOf}
 use Rattle.gix_traverse.specs.declared.tree.breadthfirst.Error.{Error}
 use Rattle.gix_traverse.specs.declared.tree.depthfirst.Stop.{Stop}
-use Rattle.gix_traverse.specs.ShowsBelow.{ShowsUpTo}
-use Rattle.gix_traverse.specs.TreeStack.{ids_down, items_at}
-use Rattle.gix_traverse.specs.Visits.{Items}
+use Rattle.gix_traverse.specs.Trees.Inside.ShowsBelow.{ShowsUpTo}
+use Rattle.gix_traverse.specs.Trees.Inside.Stack.{ids_down, items_at}
+use Rattle.gix_traverse.specs.Trees.Visits.{Items}
 use Rattle.gix_traverse.proofs.tree.depthfirst.show_on.Given as goal
 
 -- to show the entries that are left is to show all from the next one on

@@ -1,6 +1,6 @@
 use Rattle.std.proofs.Common.{◌≡◌, take, subst, ap, ◌∙◌, arith}
-use Rattle.gix_traverse.specs.Recorder.{without_name}
-use Rattle.gix_traverse.proofs.TrackLemmas.{without_plain, without_slash}
+use Rattle.gix_traverse.specs.Trees.Recorder.{without_name}
+use Rattle.gix_traverse.proofs.Trees.Recorder.Calls.{without_plain, without_slash}
 use Rattle.gix_traverse.proofs.tree.recorder.cut.Goals as goal
 use Rattle.gix_traverse.proofs.tree.recorder.cut.Goals.{else-loop-len-test, then-loop-len-test+then-index-eq47}
 

@@ -1,5 +1,5 @@
 use Rattle.std.proofs.Common.{◌≡◌, ◌≤◌, length, take}
-use Rattle.gix_traverse.specs.Recorder.{without_name}
+use Rattle.gix_traverse.specs.Trees.Recorder.{without_name}
 use Rattle.gix_traverse.proofs.tree.recorder.cut.Given as goal
 
 -- no `/` stands behind the first bytes that are left

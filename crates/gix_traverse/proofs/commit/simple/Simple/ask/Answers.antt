@@ -1,4 +1,4 @@
-use Rattle.gix_traverse.proofs.TreatSteps.{yes_before, asked_now}
+use Rattle.gix_traverse.proofs.Simple.TreatsId.{yes_before, asked_now}
 use Rattle.gix_traverse.proofs.commit.simple.Simple.ask.Goals as goal
 
 pub returns-then-remove-clause-asks : goal.returns-then-remove-clause-asks

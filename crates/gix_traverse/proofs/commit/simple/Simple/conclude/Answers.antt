@@ -1,5 +1,5 @@
 use Rattle.std.proofs.Common.{refl}
-use Rattle.gix_traverse.proofs.TakeSteps.{concludes_stopped, concludes_broken, concludes_given}
+use Rattle.gix_traverse.proofs.Simple.TakesCommit.{concludes_stopped, concludes_broken, concludes_given}
 use Rattle.gix_traverse.proofs.commit.simple.Simple.conclude.Goals as goal
 
 pub returns-in-Err-clause-concludes : goal.returns-in-Err-clause-concludes

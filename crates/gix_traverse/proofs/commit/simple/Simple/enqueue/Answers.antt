@@ -1,7 +1,7 @@
 use Rattle.std.proofs.Common.{◌≡◌, sym, true, ◌∙◌}
 use Rattle.std.proofs.lemmas.Int.{to_z-of_z}
-use Rattle.gix_traverse.specs.SimpleWalk.{cutoff, is_older, dropped}
-use Rattle.gix_traverse.proofs.TreatSteps.{enqueued_so}
+use Rattle.gix_traverse.specs.Simple.Walk.{cutoff, is_older, dropped}
+use Rattle.gix_traverse.proofs.Simple.TreatsId.{enqueued_so}
 use Rattle.gix_traverse.proofs.commit.simple.Simple.enqueue.Goals as goal
 
 pub returns-then-is_older-clause-ok : goal.returns-then-is_older-clause-ok

@@ -1,5 +1,5 @@
 use Rattle.std.proofs.Common.{false}
-use Rattle.gix_traverse.proofs.TreatSteps.{made_of_none, treats_last}
+use Rattle.gix_traverse.proofs.Simple.TreatsId.{made_of_none, treats_last}
 use Rattle.gix_traverse.proofs.commit.simple.Simple.filtered.Goals as goal
 
 pub loop-tip-init : goal.loop-tip-init

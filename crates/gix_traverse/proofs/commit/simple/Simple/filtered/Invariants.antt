@@ -1,4 +1,4 @@
-use Rattle.gix_traverse.specs.SimpleWalk.{IsMade}
+use Rattle.gix_traverse.specs.Simple.Walk.{IsMade}
 use Rattle.gix_traverse.proofs.commit.simple.Simple.filtered.Given as goal
 
 -- the tips that came so far are treated

@@ -1,5 +1,5 @@
 use Rattle.std.proofs.Common.{sym, ◌∙◌, [], if◌then◌else◌}
-use Rattle.gix_traverse.proofs.HideSteps.{hides_nothing, hides_no_memory, hides_fault, hides_painted}
+use Rattle.gix_traverse.proofs.Simple.FirstStep.{hides_nothing, hides_no_memory, hides_fault, hides_painted}
 use Rattle.gix_traverse.proofs.commit.simple.Simple.hide_painted.Goals as goal
 
 pub returns-then-has_nothing_to_hide-clause-hides : goal.returns-then-has_nothing_to_hide-clause-hides

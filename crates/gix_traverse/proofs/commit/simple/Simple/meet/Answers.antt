@@ -1,5 +1,5 @@
 use Rattle.std.proofs.Common.{sym, ◌∙◌}
-use Rattle.gix_traverse.proofs.TreatSteps.{meets_shown}
+use Rattle.gix_traverse.proofs.Simple.TreatsId.{meets_shown}
 use Rattle.gix_traverse.proofs.commit.simple.Simple.meet.Goals as goal
 
 pub returns : goal.returns

@@ -1,10 +1,10 @@
 use Rattle.std.proofs.Common.{subst, IfOk, IfErr, ◌≢◌, ◌++◌, [], if◌then◌else◌}
 use Rattle.gix_parts.specs.declared.object.find.existing_iter.Error.TheVariants as existing
 use Rattle.gix_traverse.specs.declared.commit.simple.Hidden.TheVariants as hidden_by
-use Rattle.gix_traverse.specs.Painting.{Paints, IsHiddenFault}
-use Rattle.gix_traverse.specs.SimpleSteps.{rows_of}
-use Rattle.gix_traverse.specs.SimpleWalk.{ids_of}
-use Rattle.gix_traverse.proofs.HideSteps.{rows_lent}
+use Rattle.gix_traverse.specs.Simple.Painting.{Paints, IsHiddenFault}
+use Rattle.gix_traverse.specs.Simple.Inside.Steps.{rows_of}
+use Rattle.gix_traverse.specs.Simple.Walk.{ids_of}
+use Rattle.gix_traverse.proofs.Simple.FirstStep.{rows_lent}
 use Rattle.gix_traverse.proofs.commit.simple.Simple.painted.Goals as goal
 
 pub returns-clause-ok : goal.returns-clause-ok

@@ -1,7 +1,7 @@
 use Rattle.std.proofs.Common.{sym, subst, ◌∙◌, Ok, SFits, rules, w64}
 use Rattle.std.proofs.lemmas.Int.{to_z-of_z}
-use Rattle.gix_traverse.specs.SimpleWalk.{ReadsTime, unasked, from_row}
-use Rattle.gix_traverse.proofs.TreatSteps.{stored_time}
+use Rattle.gix_traverse.specs.Simple.Walk.{ReadsTime, unasked, from_row}
+use Rattle.gix_traverse.proofs.Simple.TreatsId.{stored_time}
 use Rattle.gix_traverse.proofs.commit.simple.Simple.parent_time.Goals as goal
 
 pub returns-in-None-clause-time : goal.returns-in-None-clause-time

@@ -1,7 +1,7 @@
 use Rattle.std.proofs.Common.{sym, ap, ◌∙◌}
 use Rattle.std.specs.Option.{option_map}
-use Rattle.gix_traverse.specs.SimpleSteps.{rows_of}
-use Rattle.gix_traverse.proofs.TakeSteps.{says_row}
+use Rattle.gix_traverse.specs.Simple.Inside.Steps.{rows_of}
+use Rattle.gix_traverse.proofs.Simple.TakesCommit.{says_row}
 use Rattle.gix_traverse.proofs.commit.simple.Simple.read_row.Goals as goal
 
 pub returns : goal.returns

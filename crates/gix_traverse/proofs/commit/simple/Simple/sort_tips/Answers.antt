@@ -1,7 +1,7 @@
 use Rattle.std.proofs.Common.{subst, ◌∙◌, arith}
-use Rattle.gix_traverse.specs.SimpleBuilding.{IsTipFault}
-use Rattle.gix_traverse.proofs.SortFacts.{sorts_first, sorts_none, fails_first, fails_later, kept_store, read_some}
-use Rattle.gix_traverse.proofs.TimeKeys.{none_of}
+use Rattle.gix_traverse.specs.Simple.Building.{IsTipFault}
+use Rattle.gix_traverse.proofs.Simple.TipsByTime.{sorts_first, sorts_none, fails_first, fails_later, kept_store, read_some}
+use Rattle.gix_traverse.proofs.Simple.TimeKeys.{none_of}
 use Rattle.gix_traverse.proofs.commit.simple.Simple.sort_tips.Goals as goal
 
 pub loop-tip-preserved : goal.loop-tip-preserved

@@ -1,7 +1,7 @@
 use Rattle.std.proofs.Common.{◌≡◌, length}
 use Rattle.gix_traverse.specs.declared.commit.simple.Error.{Error}
-use Rattle.gix_traverse.specs.SimpleWalk.{SimpleWalk}
-use Rattle.gix_traverse.specs.SimpleBuilding.{FailsAtTip, SortsAll}
+use Rattle.gix_traverse.specs.Simple.Walk.{SimpleWalk}
+use Rattle.gix_traverse.specs.Simple.Building.{FailsAtTip, SortsAll}
 use Rattle.gix_traverse.proofs.commit.simple.Simple.sort_tips.Given as goal
 
 -- to sort the tips that are left is to sort them all, and a fault among them is one of all

@@ -1,5 +1,5 @@
 use Rattle.std.proofs.Common.{◌∙◌, ap}
-use Rattle.gix_traverse.proofs.SortFacts.{sorted_so}
+use Rattle.gix_traverse.proofs.Simple.TipsByTime.{sorted_so}
 use Rattle.gix_traverse.proofs.commit.simple.Simple.sorting.Goals as goal
 
 pub returns-clause-ok : goal.returns-clause-ok

@@ -1,8 +1,8 @@
 use Rattle.std.proofs.Common.{Some, Err, sym, subst}
 use Rattle.gix_traverse.specs.declared.commit.simple.Error.TheVariants as error
-use Rattle.gix_traverse.specs.PendingQueue.{TakesOut}
-use Rattle.gix_traverse.specs.SimpleWalk.{Steps, no_memory, time_order}
-use Rattle.gix_traverse.proofs.TakeSteps.{steps_taken, steps_ended}
+use Rattle.gix_traverse.specs.Simple.Inside.PendingQueue.{TakesOut}
+use Rattle.gix_traverse.specs.Simple.Walk.{Steps, no_memory, time_order}
+use Rattle.gix_traverse.proofs.Simple.TakesCommit.{steps_taken, steps_ended}
 use Rattle.gix_traverse.proofs.commit.simple.Simple.step.Goals as goal
 
 pub returns-in-Err-clause-steps : goal.returns-in-Err-clause-steps

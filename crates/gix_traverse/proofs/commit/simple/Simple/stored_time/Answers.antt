@@ -1,7 +1,7 @@
 use Rattle.std.proofs.Common.{sym, ap, ◌∙◌, SFits, rules, w64}
 use Rattle.std.proofs.lemmas.Int.{to_z-of_z}
-use Rattle.gix_traverse.specs.History.{time_of}
-use Rattle.gix_traverse.proofs.CommitterTime.{found_read, found_unread, time_read}
+use Rattle.gix_traverse.specs.History.Commits.{time_of}
+use Rattle.gix_traverse.proofs.Shared.CommitterTime.{found_read, found_unread, time_read}
 use Rattle.gix_traverse.proofs.commit.simple.Simple.stored_time.Goals as goal
 
 pub returns-in-Err-clause-ok : goal.returns-in-Err-clause-ok

@@ -1,6 +1,6 @@
 use Rattle.std.proofs.Common.{Ok, subst}
-use Rattle.gix_traverse.specs.SimpleSteps.{ReadsRow}
-use Rattle.gix_traverse.proofs.TakeSteps.{takes_no_memory, takes_unrowed}
+use Rattle.gix_traverse.specs.Simple.Inside.Steps.{ReadsRow}
+use Rattle.gix_traverse.proofs.Simple.TakesCommit.{takes_no_memory, takes_unrowed}
 use Rattle.gix_traverse.proofs.commit.simple.Simple.take.Goals as goal
 
 pub returns-in-Err-clause-takes : goal.returns-in-Err-clause-takes

@@ -1,4 +1,4 @@
-use Rattle.gix_traverse.proofs.TakeSteps.{takes_by_row}
+use Rattle.gix_traverse.proofs.Simple.TakesCommit.{takes_by_row}
 use Rattle.gix_traverse.proofs.commit.simple.Simple.take_by_row.Goals as goal
 
 pub returns-clause-takes : goal.returns-clause-takes

@@ -4,8 +4,8 @@ use Rattle.gix_parts.specs.Id.{kind_of}
 use Rattle.gix_parts.specs.CommitItems.{commit_items}
 use Rattle.gix_parts.specs.CommitRefIter.{commit_items_left}
 use Rattle.gix_parts.specs.declared.object.Kind.TheVariants as object
-use Rattle.gix_traverse.specs.SimpleWalk.{scanned}
-use Rattle.gix_traverse.proofs.TakeSteps.{takes_no_memory, takes_missing, takes_by_store}
+use Rattle.gix_traverse.specs.Simple.Walk.{scanned}
+use Rattle.gix_traverse.proofs.Simple.TakesCommit.{takes_no_memory, takes_missing, takes_by_store}
 use Rattle.gix_traverse.proofs.commit.simple.Simple.take_by_store.Goals as goal
 
 pub returns-in-Err-clause-takes : goal.returns-in-Err-clause-takes

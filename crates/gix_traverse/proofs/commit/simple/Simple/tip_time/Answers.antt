@@ -1,7 +1,7 @@
 use Rattle.std.proofs.Common.{subst, SFits, rules, w64}
 use Rattle.std.proofs.lemmas.Int.{to_z-of_z}
-use Rattle.gix_traverse.specs.SimpleBuilding.{IsTipRead}
-use Rattle.gix_traverse.proofs.CommitterTime.{found_read}
+use Rattle.gix_traverse.specs.Simple.Building.{IsTipRead}
+use Rattle.gix_traverse.proofs.Shared.CommitterTime.{found_read}
 use Rattle.gix_traverse.proofs.commit.simple.Simple.tip_time.Goals as goal
 
 pub returns-clause-ok : goal.returns-clause-ok

@@ -1,7 +1,7 @@
 use Rattle.std.proofs.Common.{subst, SFits, rules, w64}
 use Rattle.std.proofs.lemmas.Int.{to_z-of_z}
-use Rattle.gix_traverse.specs.SimpleWalk.{Asks}
-use Rattle.gix_traverse.proofs.TreatSteps.{met_new, treats_met, treats_unmet, treats_refused, treats_time_fails, treats_accepted, treats_stopped}
+use Rattle.gix_traverse.specs.Simple.Walk.{Asks}
+use Rattle.gix_traverse.proofs.Simple.TreatsId.{met_new, treats_met, treats_unmet, treats_refused, treats_time_fails, treats_accepted, treats_stopped}
 use Rattle.gix_traverse.proofs.commit.simple.Simple.treat.Goals as goal
 
 pub returns-in-Err-clause-treats : goal.returns-in-Err-clause-treats

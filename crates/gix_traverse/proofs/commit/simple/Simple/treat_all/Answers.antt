@@ -1,5 +1,5 @@
-use Rattle.gix_traverse.specs.SimpleWalk.{GoesOn}
-use Rattle.gix_traverse.proofs.TreatSteps.{stopped_first, treats_first, treats_none}
+use Rattle.gix_traverse.specs.Simple.Walk.{GoesOn}
+use Rattle.gix_traverse.proofs.Simple.TreatsId.{stopped_first, treats_first, treats_none}
 use Rattle.gix_traverse.proofs.commit.simple.Simple.treat_all.Goals as goal
 
 pub returns-in-Err-clause-treats : goal.returns-in-Err-clause-treats

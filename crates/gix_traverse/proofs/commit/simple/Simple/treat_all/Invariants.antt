@@ -1,5 +1,5 @@
 use Rattle.std.proofs.Common.{length}
-use Rattle.gix_traverse.specs.SimpleWalk.{SimpleWalk, Treated, TreatsAll}
+use Rattle.gix_traverse.specs.Simple.Walk.{SimpleWalk, Treated, TreatsAll}
 use Rattle.gix_traverse.proofs.commit.simple.Simple.treat_all.Given as goal
 
 -- to treat the ids that are left is to treat them all

@@ -1,5 +1,5 @@
 use Rattle.std.proofs.Common.{sym, subst}
-use Rattle.gix_traverse.proofs.HideSteps.{next_of_hidden, next_of_fault, progresses}
+use Rattle.gix_traverse.proofs.Simple.FirstStep.{next_of_hidden, next_of_fault, progresses}
 use Rattle.gix_traverse.proofs.commit.simple.SimpleIterator.next.Goals as goal
 
 pub returns-in-Err-clause-steps : goal.returns-in-Err-clause-steps

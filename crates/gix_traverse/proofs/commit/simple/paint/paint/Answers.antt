@@ -1,12 +1,12 @@
 use Rattle.std.proofs.Common.{[], refl, sym, ap, subst, ◌∙◌}
 use Rattle.std.proofs.lemmas.List.Elements.{Contains-append_left, Contains-append_right}
 use Rattle.std.specs.Prelude.{if◌then◌else◌}
-use Rattle.gix_traverse.specs.Painting.{Paints}
-use Rattle.gix_traverse.specs.Painter.{rows_in, hidden_of}
-use Rattle.gix_traverse.specs.SimpleWalk.{ids_of}
-use Rattle.gix_traverse.proofs.PaintEnds.{IsBlank, safe_start, stands_start, started_start, paints, start_fails, turn_fails}
-use Rattle.gix_traverse.proofs.PaintRoom.{turn_less}
-use Rattle.gix_traverse.proofs.PaintTurns.{safe_turn, stands_turn}
+use Rattle.gix_traverse.specs.Simple.Painting.{Paints}
+use Rattle.gix_traverse.specs.Simple.Inside.Painter.{rows_in, hidden_of}
+use Rattle.gix_traverse.specs.Simple.Walk.{ids_of}
+use Rattle.gix_traverse.proofs.Painting.MarksAreWhole.{IsBlank, safe_start, stands_start, started_start, paints, start_fails, turn_fails}
+use Rattle.gix_traverse.proofs.Painting.Ends.{turn_less}
+use Rattle.gix_traverse.proofs.Painting.Turn.{safe_turn, stands_turn}
 use Rattle.gix_traverse.proofs.commit.simple.paint.paint.Goals as goal
 
 pub loop-entry-init : goal.loop-entry-init

@@ -1,8 +1,8 @@
-use Rattle.gix_traverse.specs.Agreeing.{IsAgreeing}
-use Rattle.gix_traverse.specs.Painter.{rows_in, room}
-use Rattle.gix_traverse.specs.SimpleWalk.{ids_of}
-use Rattle.gix_traverse.proofs.PaintFacts.{nobody, IsSafe, Stands, IsStarted}
-use Rattle.gix_traverse.proofs.PaintRoom.{names}
+use Rattle.gix_traverse.specs.History.Agreeing.{IsAgreeing}
+use Rattle.gix_traverse.specs.Simple.Inside.Painter.{rows_in, room}
+use Rattle.gix_traverse.specs.Simple.Walk.{ids_of}
+use Rattle.gix_traverse.proofs.Painting.Invariant.{nobody, IsSafe, Stands, IsStarted}
+use Rattle.gix_traverse.proofs.Painting.Ends.{names}
 use Rattle.gix_traverse.proofs.commit.simple.paint.paint.Given as goal
 
 abbrev pub invariant-loop-entry : goal.invariant-loop-entry

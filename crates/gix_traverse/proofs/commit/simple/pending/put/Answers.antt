@@ -1,6 +1,6 @@
 use Rattle.std.proofs.Common.{SFits, rules, w64}
 use Rattle.std.proofs.lemmas.Int.{to_z-of_z}
-use Rattle.gix_traverse.proofs.TimeKeys.{keyed_more, values_more}
+use Rattle.gix_traverse.proofs.Simple.TimeKeys.{keyed_more, values_more}
 use Rattle.gix_traverse.proofs.commit.simple.pending.put.Goals as goal
 
 pub returns-clause-items : goal.returns-clause-items

@@ -1,4 +1,4 @@
-use Rattle.gix_traverse.proofs.TimeKeys.{goes_over}
+use Rattle.gix_traverse.proofs.Simple.TimeKeys.{goes_over}
 use Rattle.gix_traverse.proofs.commit.simple.pending.queue_of.Goals as goal
 
 pub loop-pending-preserved : goal.loop-pending-preserved

@@ -1,6 +1,6 @@
 use Rattle.std.proofs.Common.{◌++◌, IsPermutation, length}
 use Rattle.gix_parts.specs.PriorityQueue.{values}
-use Rattle.gix_traverse.specs.PendingQueue.{AreKeyed}
+use Rattle.gix_traverse.specs.Simple.Inside.PendingQueue.{AreKeyed}
 use Rattle.gix_traverse.proofs.commit.simple.pending.queue_of.Given as goal
 
 -- the commits that were put in and those that are left are all

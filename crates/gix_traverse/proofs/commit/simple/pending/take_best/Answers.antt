@@ -1,4 +1,4 @@
-use Rattle.gix_traverse.proofs.TimeKeys.{keyed_less, best_chosen}
+use Rattle.gix_traverse.proofs.Simple.TimeKeys.{keyed_less, best_chosen}
 use Rattle.gix_traverse.proofs.commit.simple.pending.take_best.Goals as goal
 
 pub returns-clause-taken : goal.returns-clause-taken

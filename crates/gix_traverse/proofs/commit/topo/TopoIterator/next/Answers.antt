@@ -1,7 +1,7 @@
 use Rattle.std.proofs.Common.{ap, subst, ◌∙◌}
 use Rattle.std.specs.Prelude.{Some, None, Ok, Err}
-use Rattle.gix_traverse.specs.Releasing.{walk_of}
-use Rattle.gix_traverse.proofs.TopoTurns.{turn_ended, turn_failed, turn_given, turn_refused, turn_less, progresses}
+use Rattle.gix_traverse.specs.Topo.Inside.Releasing.{walk_of}
+use Rattle.gix_traverse.proofs.Topo.Taking.Turn.{turn_ended, turn_failed, turn_given, turn_refused, turn_less, progresses}
 use Rattle.gix_traverse.proofs.commit.topo.TopoIterator.next.Goals as goal
 
 pub returns-in_err-info-clause-steps : goal.returns-in_err-info-clause-steps

@@ -1,11 +1,11 @@
 use Rattle.std.specs.Prelude.{Option, Result}
 use Rattle.gix_traverse.specs.declared.commit.Info.{Info}
 use Rattle.gix_traverse.specs.declared.commit.topo.Error.{Error}
-use Rattle.gix_traverse.specs.ReadySet.{AreTimed}
-use Rattle.gix_traverse.specs.Releasing.{walk_of}
-use Rattle.gix_traverse.specs.TopoLaws.{answers_left}
-use Rattle.gix_traverse.specs.TopoSteady.{IsOpen}
-use Rattle.gix_traverse.specs.TopoWalk.{TopoWalk, Next}
+use Rattle.gix_traverse.specs.Topo.Inside.ReadySet.{AreTimed}
+use Rattle.gix_traverse.specs.Topo.Inside.Releasing.{walk_of}
+use Rattle.gix_traverse.specs.Topo.Laws.{answers_left}
+use Rattle.gix_traverse.specs.Topo.Inside.Steady.{IsOpen}
+use Rattle.gix_traverse.specs.Topo.Walk.{TopoWalk, Next}
 use Rattle.gix_traverse.proofs.commit.topo.TopoIterator.next.Given as goal
 
 -- what comes of the walk now comes of it as it was

@@ -2,8 +2,8 @@ use Rattle.std.proofs.Common.{◌≡◌, [], ◌<◌, ◌-◌, ◌||◌, true, l
 use Rattle.gix_parts.specs.Id.{is_same, is_among}
 use Rattle.gix_parts.proofs.IdEquality.{eq_is_same}
 use Rattle.gix_parts.specs.contracts.hash.ObjectIdPartialEq.TheImpl.{eq-value}
-use Rattle.gix_traverse.specs.LevelQueue.{known_at, met_behind}
-use Rattle.gix_traverse.proofs.MetLemmas.{known_among, turns_back}
+use Rattle.gix_traverse.specs.Trees.Inside.LevelQueue.{known_at, met_behind}
+use Rattle.gix_traverse.proofs.Trees.Levels.Met.{known_among, turns_back}
 use Rattle.gix_traverse.proofs.tree.breadthfirst.Queue.knows.Goals as goal
 
 pub returns-then-eq : goal.returns-then-eq

@@ -1,6 +1,6 @@
 use Rattle.std.proofs.Common.{◌≡◌, ◌≤◌, [], length}
 use Rattle.gix_parts.specs.Id.{is_among}
-use Rattle.gix_traverse.specs.LevelQueue.{known_at, met_behind}
+use Rattle.gix_traverse.specs.Trees.Inside.LevelQueue.{known_at, met_behind}
 use Rattle.gix_traverse.proofs.tree.breadthfirst.Queue.knows.Given as goal
 
 -- the ids that are left tell whether the id is known

@@ -1,5 +1,5 @@
 use Rattle.std.proofs.Common.{◌≡◌, ◌<◌, ◌≤◌, [], length, get_or, refl, sym, ap, ◌∙◌}
-use Rattle.gix_traverse.proofs.MetLemmas.{queue_turns, queue_ends}
+use Rattle.gix_traverse.proofs.Trees.Levels.Met.{queue_turns, queue_ends}
 use Rattle.gix_traverse.proofs.tree.breadthfirst.Queue.pop.Goals as goal
 
 pub returns-in_err-tree : goal.returns-in_err-tree

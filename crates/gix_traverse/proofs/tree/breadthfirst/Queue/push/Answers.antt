@@ -1,6 +1,6 @@
 use Rattle.std.proofs.Common.{◌∷◌, [], length-append, arith, ◌∙◌, ap}
-use Rattle.gix_traverse.specs.LevelQueue.{level_queue, queued}
-use Rattle.gix_traverse.proofs.MetLemmas.{above_more, queue_more}
+use Rattle.gix_traverse.specs.Trees.Inside.LevelQueue.{level_queue, queued}
+use Rattle.gix_traverse.proofs.Trees.Levels.Met.{above_more, queue_more}
 use Rattle.gix_traverse.proofs.tree.breadthfirst.Queue.push.Goals as goal
 
 pub invariant_of-self-2 : goal.invariant_of-self-2

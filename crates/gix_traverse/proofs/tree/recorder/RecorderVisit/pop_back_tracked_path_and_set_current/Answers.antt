@@ -1,7 +1,7 @@
 use Rattle.std.proofs.Common.{◌≡◌, [], ◌∷◌, ◌++◌, map, Some, rules, ap, ◌∙◌}
 use Rattle.std.proofs.lemmas.List.{map-append}
 use Rattle.gix_traverse.specs.declared.tree.recorder.Location.TheVariants.{Path}
-use Rattle.gix_traverse.proofs.TrackLemmas.{pops_last}
+use Rattle.gix_traverse.proofs.Trees.Recorder.Calls.{pops_last}
 use Rattle.gix_traverse.proofs.tree.recorder.RecorderVisit.pop_back_tracked_path_and_set_current.Goals as goal
 
 pub returns-in-Some : goal.returns-in-Some

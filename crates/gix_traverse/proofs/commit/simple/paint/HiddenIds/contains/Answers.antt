@@ -1,6 +1,6 @@
 use Rattle.std.proofs.Common.{sym, ap, ◌∙◌}
 use Rattle.std.specs.FinSet.{contains}
-use Rattle.gix_traverse.proofs.PaintFacts.{contains-hidden}
+use Rattle.gix_traverse.proofs.Painting.Invariant.{contains-hidden}
 use Rattle.gix_traverse.proofs.commit.simple.paint.HiddenIds.contains.Goals as goal
 
 pub returns : goal.returns

@@ -1,4 +1,4 @@
-use Rattle.gix_traverse.proofs.PaintFacts.{hidden-empty}
+use Rattle.gix_traverse.proofs.Painting.Invariant.{hidden-empty}
 use Rattle.gix_traverse.proofs.commit.simple.paint.HiddenIds.new.Goals as goal
 
 pub returns : goal.returns

@@ -2,8 +2,8 @@ use Rattle.std.proofs.Common.{◌≡◌, ◌≢◌, refl, sym, ◌∙◌}
 use Rattle.std.specs.FinMap.{get}
 use Rattle.std.specs.FinSet.{contains}
 use Rattle.gix_traverse.specs.declared.commit.simple.paint.Side.TheVariants as side
-use Rattle.gix_traverse.specs.Painter.{State, Unmet, Hides}
-use Rattle.gix_traverse.proofs.PaintMeets.{if_ok, hides_then, meets_known, meets_hidden}
+use Rattle.gix_traverse.specs.Simple.Inside.Painter.{State, Unmet, Hides}
+use Rattle.gix_traverse.proofs.Painting.Meets.{if_ok, hides_then, meets_known, meets_hidden}
 use Rattle.gix_traverse.proofs.commit.simple.paint.Painter.hide.Goals as goal
 
 hidden_met : (s : State) → s ≡ Hides → s ≢ Unmet

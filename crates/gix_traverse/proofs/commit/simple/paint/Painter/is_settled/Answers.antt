@@ -1,6 +1,6 @@
 use Rattle.std.proofs.Common.{◌≡◌, false, true, refl, sym, ◌∙◌}
-use Rattle.gix_traverse.specs.Painter.{IsSettled}
-use Rattle.gix_traverse.proofs.PaintKeys.{settled_by_top, unsettled_by_top}
+use Rattle.gix_traverse.specs.Simple.Inside.Painter.{IsSettled}
+use Rattle.gix_traverse.proofs.Painting.Keys.{settled_by_top, unsettled_by_top}
 use Rattle.gix_traverse.proofs.commit.simple.paint.Painter.is_settled.Goals as goal
 use Rattle.gix_traverse.proofs.commit.simple.paint.Painter.is_settled.Goals.{then-is_some, else-is_some}
 

@@ -2,7 +2,7 @@ use Rattle.std.proofs.Common.{◌≡◌, length}
 use Rattle.std.specs.List.{Contains}
 use Rattle.gix_parts.specs.declared.hash.ObjectId.{ObjectId}
 use Rattle.gix_traverse.specs.declared.commit.simple.paint.Painter.{Painter}
-use Rattle.gix_traverse.specs.Painter.{Meets}
+use Rattle.gix_traverse.specs.Simple.Inside.Painter.{Meets}
 use Rattle.gix_traverse.proofs.commit.simple.paint.Painter.meet_all.Given as goal
 
 -- to meet the ids that are left is to meet them all

@@ -5,7 +5,7 @@ use Rattle.std.specs.Option.{option_copied}
 use Rattle.std.specs.Borrow.{Bor}
 use Rattle.gix_traverse.specs.declared.commit.simple.paint.Marks.{Marks}
 use Rattle.gix_traverse.specs.declared.commit.simple.paint.Side.TheVariants as side
-use Rattle.gix_traverse.proofs.PaintMeets.{if_ok, met_then, meets_known, meets_shown}
+use Rattle.gix_traverse.proofs.Painting.Meets.{if_ok, met_then, meets_known, meets_shown}
 use Rattle.gix_traverse.proofs.commit.simple.paint.Painter.show.Goals as goal
 
 copied : (o : Option (Bor Marks)) → is_some (option_copied o) ≡ is_some o

@@ -3,9 +3,9 @@ use Rattle.std.specs.List.{Contains}
 use Rattle.std.specs.VecDeque.Iter.{deque_iter_rest}
 use Rattle.gix_parts.proofs.IdFacts.{Contains-here, Contains-there}
 use Rattle.gix_traverse.specs.declared.commit.simple.paint.Side.TheVariants as side
-use Rattle.gix_traverse.specs.Painter.{Meets}
-use Rattle.gix_traverse.specs.SimpleWalk.{ids_of}
-use Rattle.gix_traverse.proofs.PaintMeets.{meets_none, meets_first, fails_within, no_ids}
+use Rattle.gix_traverse.specs.Simple.Inside.Painter.{Meets}
+use Rattle.gix_traverse.specs.Simple.Walk.{ids_of}
+use Rattle.gix_traverse.proofs.Painting.Meets.{meets_none, meets_first, fails_within, no_ids}
 use Rattle.gix_traverse.proofs.commit.simple.paint.Painter.show_all.Goals as goal
 
 pub loop-tip-init : goal.loop-tip-init

@@ -4,8 +4,8 @@ use Rattle.std.specs.VecDeque.Iter.{deque_iter_rest}
 use Rattle.gix_parts.specs.declared.hash.ObjectId.{ObjectId}
 use Rattle.gix_traverse.specs.declared.commit.simple.paint.Side.TheVariants as side
 use Rattle.gix_traverse.specs.declared.commit.simple.paint.Painter.{Painter}
-use Rattle.gix_traverse.specs.Painter.{Meets}
-use Rattle.gix_traverse.specs.SimpleWalk.{ids_of}
+use Rattle.gix_traverse.specs.Simple.Inside.Painter.{Meets}
+use Rattle.gix_traverse.specs.Simple.Walk.{ids_of}
 use Rattle.gix_traverse.proofs.commit.simple.paint.Painter.show_all.Given as goal
 
 -- to meet the tips that are left is to meet them all

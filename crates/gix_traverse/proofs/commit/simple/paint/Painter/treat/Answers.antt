@@ -1,6 +1,6 @@
 use Rattle.std.proofs.Common.{refl, sym, ◌∙◌}
-use Rattle.gix_traverse.specs.Painter.{skips}
-use Rattle.gix_traverse.proofs.PaintMeets.{if_ok, treats}
+use Rattle.gix_traverse.specs.Simple.Inside.Painter.{skips}
+use Rattle.gix_traverse.proofs.Painting.Meets.{if_ok, treats}
 use Rattle.gix_traverse.proofs.commit.simple.paint.Painter.treat.Goals as goal
 
 pub returns-then-not-begins-clause-ok : goal.returns-then-not-begins-clause-ok

@@ -4,7 +4,7 @@ use Rattle.std.specs.Option.{option_map}
 use Rattle.gix_parts.specs.GraphCommit.{row_of_commit}
 use Rattle.gix_parts.specs.Rows.{row_of}
 use Rattle.gix_traverse.specs.declared.commit.simple.paint.Generation.TheVariants.{Told}
-use Rattle.gix_traverse.specs.Painter.{rows_in, by_row, by_store}
+use Rattle.gix_traverse.specs.Simple.Inside.Painter.{rows_in, by_row, by_store}
 use Rattle.gix_traverse.proofs.commit.simple.paint.Source.look_up.Goals as goal
 use Rattle.gix_traverse.proofs.commit.simple.paint.Source.look_up.Goals.{in_default-via-in-None-1, in_default-via-in-Some+in-None-1}
 

@@ -1,7 +1,7 @@
 use Rattle.std.proofs.Common.{ap}
 use Rattle.std.specs.Option.{option_map}
-use Rattle.gix_traverse.specs.Painter.{brought, looked_up}
-use Rattle.gix_traverse.proofs.PaintMeets.{if_ok}
+use Rattle.gix_traverse.specs.Simple.Inside.Painter.{brought, looked_up}
+use Rattle.gix_traverse.proofs.Painting.Meets.{if_ok}
 use Rattle.gix_traverse.proofs.commit.simple.paint.Source.parents.Goals as goal
 
 pub returns-in-Some-clause-parents : goal.returns-in-Some-clause-parents

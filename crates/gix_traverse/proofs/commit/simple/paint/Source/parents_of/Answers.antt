@@ -2,8 +2,8 @@ use Rattle.std.proofs.Common.{◌≡◌, None, sym, ap, subst, ◌∙◌, rules}
 use Rattle.std.specs.Option.{option_map}
 use Rattle.gix_parts.specs.GraphCommit.{row_of_commit}
 use Rattle.gix_parts.specs.Rows.{row_of}
-use Rattle.gix_traverse.specs.Painter.{rows_in, Reads, ReadsParents, by_row, by_store, drops}
-use Rattle.gix_traverse.specs.SimpleWalk.{ids_at}
+use Rattle.gix_traverse.specs.Simple.Inside.Painter.{rows_in, Reads, ReadsParents, by_row, by_store, drops}
+use Rattle.gix_traverse.specs.Simple.Walk.{ids_at}
 use Rattle.gix_traverse.proofs.commit.simple.paint.Source.parents_of.Goals as goal
 use Rattle.gix_traverse.proofs.commit.simple.paint.Source.parents_of.Goals.{in-Some+in-Some-commit_by_id+in_ok-parent_ids+in_default, in_default, in_default-via-in-None-1, in_default-via-in-Some+in-None-1}
 

@@ -1,6 +1,6 @@
 use Rattle.std.proofs.Common.{◌∙◌, SFits, rules, w64}
 use Rattle.std.proofs.lemmas.Int.{to_z-of_z}
-use Rattle.gix_traverse.proofs.PaintReads.{read_whole, time_read, find_fails, decode_fails}
+use Rattle.gix_traverse.proofs.Painting.Reads.{read_whole, time_read, find_fails, decode_fails}
 use Rattle.gix_traverse.proofs.commit.simple.paint.Source.read.Goals as goal
 
 pub returns-in_err-items-clause-fault : goal.returns-in_err-items-clause-fault

@@ -1,6 +1,6 @@
 use Rattle.std.proofs.Common.{subst, IsPermutation}
 use Rattle.gix_parts.specs.PriorityQueue.{values}
-use Rattle.gix_traverse.proofs.TimeKeys.{takes_best}
+use Rattle.gix_traverse.proofs.Simple.TimeKeys.{takes_best}
 use Rattle.gix_traverse.proofs.commit.simple.pending.PendingQueue.pop.Goals as goal
 
 pub returns-in_ok-queue-in-Some-clause-ok : goal.returns-in_ok-queue-in-Some-clause-ok

@@ -1,6 +1,6 @@
 use Rattle.std.proofs.Common.{subst, IsPermutation}
 use Rattle.gix_parts.specs.PriorityQueue.{values}
-use Rattle.gix_traverse.proofs.TimeKeys.{holds_more}
+use Rattle.gix_traverse.proofs.Simple.TimeKeys.{holds_more}
 use Rattle.gix_traverse.proofs.commit.simple.pending.PendingQueue.push.Goals as goal
 
 pub returns-in_ok-put-in-Some-clause-ok : goal.returns-in_ok-put-in-Some-clause-ok

@@ -1,6 +1,6 @@
 use Rattle.std.proofs.Common.{refl}
-use Rattle.gix_traverse.specs.Counting.{infinity}
-use Rattle.gix_traverse.proofs.BeginFacts.{begun_from, fault_from}
+use Rattle.gix_traverse.specs.Topo.Depth.{infinity}
+use Rattle.gix_traverse.proofs.Topo.Counting.Begin.{begun_from, fault_from}
 use Rattle.gix_traverse.proofs.commit.topo.counting.Counting.begin.Goals as goal
 
 pub returns-clause-begun : goal.returns-clause-begun

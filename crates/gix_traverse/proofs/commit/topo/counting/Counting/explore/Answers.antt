@@ -1,8 +1,8 @@
 use Rattle.std.proofs.Common.{refl, sym, subst, ◌∙◌}
-use Rattle.gix_traverse.specs.Exploring.{IsRested, itself, further}
-use Rattle.gix_traverse.proofs.CountedFacts.{explores_keep}
-use Rattle.gix_traverse.proofs.ExactFacts.{exact_there}
-use Rattle.gix_traverse.proofs.ExploreFacts.{steps_smaller, same_on}
+use Rattle.gix_traverse.specs.Topo.Inside.Exploring.{IsRested, itself, further}
+use Rattle.gix_traverse.proofs.Topo.Counting.ExploreKeeps.{explores_keep}
+use Rattle.gix_traverse.proofs.Topo.Counting.AllDownToDepth.{exact_there}
+use Rattle.gix_traverse.proofs.Topo.Counting.ExploreEnds.{steps_smaller, same_on}
 use Rattle.gix_traverse.proofs.commit.topo.counting.Counting.explore.Goals as goal
 
 pub loop-self-init : goal.loop-self-init

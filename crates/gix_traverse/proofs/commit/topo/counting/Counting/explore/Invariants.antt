@@ -1,6 +1,6 @@
-use Rattle.gix_traverse.specs.Exploring.{IsSamePlan, Explores}
-use Rattle.gix_traverse.proofs.ExploreFacts.{names_of}
-use Rattle.gix_traverse.proofs.FrontierFacts.{to_do}
+use Rattle.gix_traverse.specs.Topo.Inside.Exploring.{IsSamePlan, Explores}
+use Rattle.gix_traverse.proofs.Topo.Counting.ExploreEnds.{names_of}
+use Rattle.gix_traverse.proofs.Topo.Counting.Frontier.{to_do}
 use Rattle.gix_traverse.proofs.commit.topo.counting.Counting.explore.Given as goal
 
 -- what was explored so far

@@ -1,7 +1,7 @@
 use Rattle.std.proofs.Common.{◌∙◌, ap, arith}
-use Rattle.gix_traverse.specs.Counting.{known_generation}
-use Rattle.gix_traverse.specs.ReadsCommit.{rows_of}
-use Rattle.gix_traverse.proofs.FollowFacts.{follows_none, follows_more}
+use Rattle.gix_traverse.specs.Topo.Depth.{known_generation}
+use Rattle.gix_traverse.specs.History.Reading.{rows_of}
+use Rattle.gix_traverse.proofs.Topo.Counting.NamesParents.{follows_none, follows_more}
 use Rattle.gix_traverse.proofs.commit.topo.counting.Counting.follow.Goals as goal
 
 pub loop-id-preserved : goal.loop-id-preserved

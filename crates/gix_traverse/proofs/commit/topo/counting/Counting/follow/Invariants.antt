@@ -1,7 +1,7 @@
 use Rattle.std.proofs.Common.{◌≡◌, length}
 use Rattle.gix_traverse.specs.declared.commit.topo.frontier.Frontier.{Frontier}
-use Rattle.gix_traverse.specs.ReadsCommit.{rows_of}
-use Rattle.gix_traverse.specs.Exploring.{Follows}
+use Rattle.gix_traverse.specs.History.Reading.{rows_of}
+use Rattle.gix_traverse.specs.Topo.Inside.Exploring.{Follows}
 use Rattle.gix_traverse.proofs.commit.topo.counting.Counting.follow.Given as goal
 
 -- to follow the parents that are left is to follow them all

@@ -1,5 +1,5 @@
 use Rattle.std.proofs.Common.{inr}
-use Rattle.gix_traverse.proofs.RestFacts.{all_below}
+use Rattle.gix_traverse.proofs.Topo.Counting.Rest.{all_below}
 use Rattle.gix_traverse.proofs.commit.topo.counting.Counting.is_pending.Goals as goal
 
 pub returns-else-not-self-clause-rested : goal.returns-else-not-self-clause-rested

@@ -1,8 +1,8 @@
 use Rattle.std.proofs.Common.{ap, sym, ◌∙◌}
 use Rattle.std.proofs.Common.{min}
-use Rattle.gix_traverse.specs.Counting.{least, known_generation}
-use Rattle.gix_traverse.specs.ReadsCommit.{rows_of}
-use Rattle.gix_traverse.proofs.RestFacts.{least_lower}
+use Rattle.gix_traverse.specs.Topo.Depth.{least, known_generation}
+use Rattle.gix_traverse.specs.History.Reading.{rows_of}
+use Rattle.gix_traverse.proofs.Topo.Counting.Rest.{least_lower}
 use Rattle.gix_traverse.proofs.commit.topo.counting.Counting.lower.Goals as goal
 
 pub loop-id-preserved : goal.loop-id-preserved

@@ -1,6 +1,6 @@
 use Rattle.std.proofs.Common.{◌≡◌, length}
-use Rattle.gix_traverse.specs.Counting.{least}
-use Rattle.gix_traverse.specs.ReadsCommit.{rows_of}
+use Rattle.gix_traverse.specs.Topo.Depth.{least}
+use Rattle.gix_traverse.specs.History.Reading.{rows_of}
 use Rattle.gix_traverse.proofs.commit.topo.counting.Counting.lower.Given as goal
 
 -- to lower by the ids that are left is to lower by all

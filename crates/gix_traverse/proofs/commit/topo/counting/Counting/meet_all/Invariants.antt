@@ -1,7 +1,7 @@
 use Rattle.std.proofs.Common.{◌≡◌, length}
 use Rattle.gix_traverse.specs.declared.commit.topo.frontier.Frontier.{Frontier}
-use Rattle.gix_traverse.specs.ReadsCommit.{rows_of}
-use Rattle.gix_traverse.specs.Starting.{MeetsAll}
+use Rattle.gix_traverse.specs.History.Reading.{rows_of}
+use Rattle.gix_traverse.specs.Topo.Inside.Starting.{MeetsAll}
 use Rattle.gix_traverse.proofs.commit.topo.counting.Counting.meet_all.Given as goal
 
 -- to meet the ids that are left is to meet them all

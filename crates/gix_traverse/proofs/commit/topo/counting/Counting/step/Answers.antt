@@ -1,6 +1,6 @@
 use Rattle.std.proofs.Common.{◌∙◌, ◌+◌, ◌||◌, ap, cond}
-use Rattle.gix_traverse.specs.Frontier.{is_done}
-use Rattle.gix_traverse.proofs.StepsFacts.{first_in, steps_made}
+use Rattle.gix_traverse.specs.Topo.Inside.Frontier.{is_done}
+use Rattle.gix_traverse.proofs.Topo.Counting.Step.{first_in, steps_made}
 use Rattle.gix_traverse.proofs.commit.topo.counting.Counting.step.Goals as goal
 
 pub returns-in_default-follow-clause-fault : goal.returns-in_default-follow-clause-fault

@@ -1,4 +1,4 @@
-use Rattle.gix_traverse.proofs.FollowFacts.{on_ok}
+use Rattle.gix_traverse.proofs.Topo.Counting.NamesParents.{on_ok}
 use Rattle.gix_traverse.proofs.commit.topo.frontier.Frontier.name.Goals as goal
 
 pub returns-in_ok-count-in-Tips : goal.returns-in_ok-count-in-Tips

@@ -1,6 +1,6 @@
 use Rattle.std.proofs.Common.{true, ap, ◌∙◌}
-use Rattle.gix_traverse.specs.Known.{Known, known_by}
-use Rattle.gix_traverse.proofs.MarkFacts.{marked_made}
+use Rattle.gix_traverse.specs.Topo.Inside.Known.{Known, known_by}
+use Rattle.gix_traverse.proofs.Topo.Counting.Marks.{marked_made}
 use Rattle.gix_traverse.proofs.commit.topo.frontier.Known.with_made.Goals as goal
 
 pub returns : goal.returns

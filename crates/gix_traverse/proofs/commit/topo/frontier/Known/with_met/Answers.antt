@@ -1,8 +1,8 @@
 use Rattle.std.proofs.Common.{ap, ◌∙◌, bit_or}
-use Rattle.gix_traverse.specs.Known.{known_by}
-use Rattle.gix_traverse.specs.Frontier.{is_seen, progress_of, with_progress}
+use Rattle.gix_traverse.specs.Topo.Inside.Known.{known_by}
+use Rattle.gix_traverse.specs.Topo.Inside.Frontier.{is_seen, progress_of, with_progress}
 use Rattle.gix_traverse.specs.declared.commit.topo.frontier.Progress.TheVariants as progress
-use Rattle.gix_traverse.proofs.MarkFacts.{marked_met}
+use Rattle.gix_traverse.proofs.Topo.Counting.Marks.{marked_met}
 use Rattle.gix_traverse.proofs.commit.topo.frontier.Known.with_met.Goals as goal
 
 pub returns : goal.returns

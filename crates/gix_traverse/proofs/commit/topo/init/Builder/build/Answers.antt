@@ -1,7 +1,7 @@
 use Rattle.std.proofs.Common.{inr, ap, subst, ◌∙◌}
-use Rattle.gix_traverse.specs.ReadsCommit.{rows_of}
-use Rattle.gix_traverse.specs.TopoWalk.{IsFault}
-use Rattle.gix_traverse.proofs.StartedFacts.{started_on, started_as, begun_held}
+use Rattle.gix_traverse.specs.History.Reading.{rows_of}
+use Rattle.gix_traverse.specs.Topo.Walk.{IsFault}
+use Rattle.gix_traverse.proofs.Topo.Starting.Started.{started_on, started_as, begun_held}
 use Rattle.gix_traverse.proofs.commit.topo.init.Builder.build.Goals as goal
 
 pub invariant_of-result : goal.invariant_of-result

@@ -1,7 +1,7 @@
 use Rattle.std.proofs.Common.{refl}
-use Rattle.gix_traverse.specs.ReadsCommit.{rows_of}
-use Rattle.gix_traverse.proofs.FaultFacts.{start_fault}
-use Rattle.gix_traverse.proofs.StartingFacts.{fault_by, plan_before, begun_walk}
+use Rattle.gix_traverse.specs.History.Reading.{rows_of}
+use Rattle.gix_traverse.proofs.Topo.Taking.ReadFaults.{start_fault}
+use Rattle.gix_traverse.proofs.Topo.Starting.OneTip.{fault_by, plan_before, begun_walk}
 use Rattle.gix_traverse.proofs.commit.topo.iter.Walk.begin.Goals as goal
 
 pub returns-in-Err-clause-fault : goal.returns-in-Err-clause-fault

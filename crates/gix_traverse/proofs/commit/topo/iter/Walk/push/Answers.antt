@@ -2,11 +2,11 @@ use Rattle.std.proofs.Common.{◌≡◌, [], ◌∷◌, ◌++◌, refl, sym, ap,
 use Rattle.std.proofs.Common.{w64, to_z, of_z, Some, rules}
 use mir.Val.{SFits}
 use Rattle.std.proofs.lemmas.Int.{to_z-of_z}
-use Rattle.gix_traverse.specs.ReadsCommit.{rows_of, Reads}
-use Rattle.gix_traverse.specs.ReadySet.{sorting_of, ready_in}
-use Rattle.gix_traverse.specs.TopoWalk.{HoldsReady}
-use Rattle.gix_traverse.specs.Frontier.{Makes}
-use Rattle.gix_traverse.proofs.ReleaseFacts.{fault_of_parent, reads_timed, at_index, time_told}
+use Rattle.gix_traverse.specs.History.Reading.{rows_of, Reads}
+use Rattle.gix_traverse.specs.Topo.Inside.ReadySet.{sorting_of, ready_in}
+use Rattle.gix_traverse.specs.Topo.Walk.{HoldsReady}
+use Rattle.gix_traverse.specs.Topo.Inside.Frontier.{Makes}
+use Rattle.gix_traverse.proofs.Topo.Taking.OneRelease.{fault_of_parent, reads_timed, at_index, time_told}
 use Rattle.gix_traverse.proofs.commit.topo.iter.Walk.push.Goals as goal
 
 pub returns-in-Err-know-clause-fault : goal.returns-in-Err-know-clause-fault

@@ -1,6 +1,6 @@
 use Rattle.std.proofs.Common.{[], ◌++◌, sym, subst, ◌∙◌, arith}
-use Rattle.gix_traverse.specs.Releasing.{ReleasesAll, IsFaultAmong, none, more, here, later}
-use Rattle.gix_traverse.proofs.FollowFacts.{no_items}
+use Rattle.gix_traverse.specs.Topo.Inside.Releasing.{ReleasesAll, IsFaultAmong, none, more, here, later}
+use Rattle.gix_traverse.proofs.Topo.Counting.NamesParents.{no_items}
 use Rattle.gix_traverse.proofs.commit.topo.iter.Walk.release_all.Goals as goal
 
 pub returns-in-Err-clause-fault : goal.returns-in-Err-clause-fault

@@ -1,9 +1,9 @@
 use Rattle.std.proofs.Common.{◌≡◌, List, length}
 use Rattle.gix_traverse.specs.declared.commit.topo.Error.{Error}
 use Rattle.gix_traverse.specs.declared.commit.topo.iter.Walk.{Walk}
-use Rattle.gix_traverse.specs.ReadySet.{AreTimed}
-use Rattle.gix_traverse.specs.Releasing.{plan_of, ReleasesAll, IsFaultAmong}
-use Rattle.gix_traverse.specs.TopoWalk.{Ready}
+use Rattle.gix_traverse.specs.Topo.Inside.ReadySet.{AreTimed}
+use Rattle.gix_traverse.specs.Topo.Inside.Releasing.{plan_of, ReleasesAll, IsFaultAmong}
+use Rattle.gix_traverse.specs.Topo.Walk.{Ready}
 use Rattle.gix_traverse.proofs.commit.topo.iter.Walk.release_all.Given as goal
 
 -- to release the parents that are left is to release them all

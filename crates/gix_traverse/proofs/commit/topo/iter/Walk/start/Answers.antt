@@ -1,8 +1,8 @@
 use Rattle.std.proofs.Common.{◌≡◌, ℕ, [], ◌∷◌, sym, ap, ◌∙◌}
-use Rattle.gix_traverse.specs.Known.{Known}
-use Rattle.gix_traverse.specs.Frontier.{is_due}
-use Rattle.gix_traverse.specs.Starting.{waits, frees, here}
-use Rattle.gix_traverse.proofs.FollowFacts.{on_ok, if_err}
+use Rattle.gix_traverse.specs.Topo.Inside.Known.{Known}
+use Rattle.gix_traverse.specs.Topo.Inside.Frontier.{is_due}
+use Rattle.gix_traverse.specs.Topo.Inside.Starting.{waits, frees, here}
+use Rattle.gix_traverse.proofs.Topo.Counting.NamesParents.{on_ok, if_err}
 use Rattle.gix_traverse.proofs.commit.topo.iter.Walk.start.Goals as goal
 
 same_due : (known : Known) {found : Known} {children : ℕ} → found ≡ known → children ≡ found.children → is_due known.children known ≡ is_due children found

@@ -1,6 +1,6 @@
 use Rattle.std.proofs.Common.{◌≡◌, ◌+◌, [], ◌∷◌, ◌++◌, drop, refl, sym, ap, subst, ◌∙◌, arith}
-use Rattle.gix_traverse.specs.Starting.{StartsAll, IsStartFault, none, more, later}
-use Rattle.gix_traverse.proofs.StartingFacts.{drop_at, drop_none}
+use Rattle.gix_traverse.specs.Topo.Inside.Starting.{StartsAll, IsStartFault, none, more, later}
+use Rattle.gix_traverse.proofs.Topo.Starting.OneTip.{drop_at, drop_none}
 use Rattle.gix_traverse.proofs.commit.topo.iter.Walk.start_all.Goals as goal
 
 pub loop-index-init : goal.loop-index-init

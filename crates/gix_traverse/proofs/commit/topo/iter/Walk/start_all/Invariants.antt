@@ -1,10 +1,10 @@
 use Rattle.std.proofs.Common.{◌≡◌, List, drop}
 use Rattle.gix_traverse.specs.declared.commit.topo.Error.{Error}
 use Rattle.gix_traverse.specs.declared.commit.topo.iter.Walk.{Walk}
-use Rattle.gix_traverse.specs.ReadySet.{AreTimed}
-use Rattle.gix_traverse.specs.Releasing.{plan_of}
-use Rattle.gix_traverse.specs.Starting.{StartsAll, IsStartFault}
-use Rattle.gix_traverse.specs.TopoWalk.{Ready}
+use Rattle.gix_traverse.specs.Topo.Inside.ReadySet.{AreTimed}
+use Rattle.gix_traverse.specs.Topo.Inside.Releasing.{plan_of}
+use Rattle.gix_traverse.specs.Topo.Inside.Starting.{StartsAll, IsStartFault}
+use Rattle.gix_traverse.specs.Topo.Walk.{Ready}
 use Rattle.gix_traverse.proofs.commit.topo.iter.Walk.start_all.Given as goal
 
 -- to start the tips that are left is to start them all

@@ -1,7 +1,7 @@
 use Rattle.std.proofs.Common.{ap, ◌∙◌}
-use Rattle.gix_traverse.specs.History.{by_mode}
-use Rattle.gix_traverse.proofs.FollowFacts.{on_ok, if_err}
-use Rattle.gix_traverse.proofs.ReleaseFacts.{takes_one, fault_among}
+use Rattle.gix_traverse.specs.History.Commits.{by_mode}
+use Rattle.gix_traverse.proofs.Topo.Counting.NamesParents.{on_ok, if_err}
+use Rattle.gix_traverse.proofs.Topo.Taking.OneRelease.{takes_one, fault_among}
 use Rattle.gix_traverse.proofs.commit.topo.iter.Walk.take.Goals as goal
 
 pub returns-clause-takes : goal.returns-clause-takes

@@ -1,9 +1,9 @@
 use Rattle.std.proofs.Common.{sym, ◌∙◌, inr}
-use Rattle.gix_traverse.specs.ReadySet.{as_ready, ready_in}
-use Rattle.gix_traverse.specs.Releasing.{plan_of, counted_by}
-use Rattle.gix_traverse.specs.TopoSteady.{TakesReady, IsHeld, ended, given, failed}
-use Rattle.gix_traverse.specs.TopoWalk.{IsFault, IsLate}
-use Rattle.gix_traverse.proofs.TopoTurns.{popped, turned, turn_faults}
+use Rattle.gix_traverse.specs.Topo.Inside.ReadySet.{as_ready, ready_in}
+use Rattle.gix_traverse.specs.Topo.Inside.Releasing.{plan_of, counted_by}
+use Rattle.gix_traverse.specs.Topo.Inside.Steady.{TakesReady, IsHeld, ended, given, failed}
+use Rattle.gix_traverse.specs.Topo.Walk.{IsFault, IsLate}
+use Rattle.gix_traverse.proofs.Topo.Taking.Turn.{popped, turned, turn_faults}
 use Rattle.gix_traverse.proofs.commit.topo.iter.Walk.turn.Goals as goal
 
 pub returns-in_err-found-clause-turns : goal.returns-in_err-found-clause-turns

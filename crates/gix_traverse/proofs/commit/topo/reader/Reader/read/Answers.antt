@@ -1,5 +1,5 @@
 use Rattle.std.proofs.Common.{Ok, sym, subst}
-use Rattle.gix_traverse.specs.ReadsCommit.{rows_of, Reads, ReadsText, by_row, by_text, no_memory}
+use Rattle.gix_traverse.specs.History.Reading.{rows_of, Reads, ReadsText, by_row, by_text, no_memory}
 use Rattle.gix_traverse.proofs.commit.topo.reader.Reader.read.Goals as goal
 
 pub returns-in_default-clause-reads : goal.returns-in_default-clause-reads

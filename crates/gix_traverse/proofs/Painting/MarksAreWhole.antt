@@ -1,0 +1,246 @@
+-- Where painting begins and ends: the marks are whole.
+use Rattle.std.specs.Borrow.{Bor}
+use Rattle.std.specs.Prelude.{◌≡◌, ◌≢◌, ◌⊎◌, List, [], ◌∷◌, ◌++◌, Bool, true, false, cond, Option, Some, None, Result, Ok, Err, Contains, IsSome, IfErr, is_some, if◌then◌else◌}
+use Rattle.std.specs.Result.{IsErrAnd}
+use Rattle.std.proofs.Common.{refl, sym, ap, subst, inl, inr, ⊎_elim, ◌∙◌}
+use Rattle.std.proofs.lemmas.List.Elements.{Contains-append_cases}
+use Rattle.std.specs.FinMap as map_of
+use Rattle.std.specs.FinSet as set
+use Rattle.gix_parts.specs.declared.hash.ObjectId.{ObjectId}
+use Rattle.gix_parts.specs.declared.object.find.existing_iter.Error.TheVariants as existing
+use Rattle.gix_parts.specs.Id.{id_cmp}
+use Rattle.gix_parts.specs.Object.{Objects}
+use Rattle.gix_parts.specs.Rows.{GraphRow, row_of}
+use Rattle.gix_traverse.specs.declared.commit.simple.Hidden.{Hidden}
+use Rattle.gix_traverse.specs.declared.commit.simple.Hidden.TheVariants as hidden_by
+use Rattle.gix_traverse.specs.contracts.commit.simple.paint.KeyOrd.TheImpl.{cmp-value}
+use Rattle.gix_traverse.specs.declared.commit.simple.paint.Marks.{Marks}
+use Rattle.gix_traverse.specs.declared.commit.simple.paint.Side.TheVariants as side
+use Rattle.gix_traverse.specs.declared.commit.simple.paint.Key.{Key}
+use Rattle.gix_traverse.specs.declared.commit.simple.paint.Entry.{Entry}
+use Rattle.gix_traverse.specs.declared.commit.simple.paint.Painter.{Painter}
+use Rattle.gix_traverse.specs.History.Agreeing.{IsAgreeing}
+use Rattle.gix_traverse.specs.Simple.Painting.{IsAtBoundary, IsFaultAt, IsHiddenFault, Paints}
+use Rattle.gix_traverse.specs.Simple.Inside.Painter.{FailsAmong, hides, is_hidden, hidden_of, State, Unmet, Open, Read, Hides, state_by, state_of, rows_in, Reads, Knows, IsQueued, IsWaiting, IsSettled, is_told, Meets, GivesParents, TreatFails, Pops}
+use Rattle.gix_traverse.specs.Simple.Inside.Painter as painter
+use Rattle.gix_traverse.specs.History.Reach.{Reaches, start, step}
+use Rattle.gix_traverse.proofs.Painting.Invariant.{contains-hidden, hidden_now, met_now, nobody, next, RowsStand, IsSafe, Fact, Stands, IsStarted, rowless, stands_meets, safe_meets, hidden_stays}
+use Rattle.gix_traverse.proofs.Painting.Meets.{hides_then}
+use Rattle.gix_traverse.proofs.Painting.KeptByTurn.{hidden_from, below, popped_there, reaches_either}
+use Rattle.gix_traverse.proofs.Painting.Turn.{given_parents}
+use Rattle.gix_parts.proofs.IdFacts.{no_member}
+use Rattle.gix_traverse.proofs.Shared.Rows.{none_agree}
+
+hidden_state : (o : Option Marks) (waiting : Bool) → state_by o waiting ≡ Hides → hides o ≡ true
+hidden_state None waiting e = cc
+hidden_state (Some m) waiting e = go (hides (Some m)) waiting e
+  where
+    go : (b w : Bool) → cond b Hides (cond w Open Read) ≡ Hides → b ≡ true
+    go true w e = refl
+    go false true e = cc
+    go false false e = cc
+
+open_waits : (o : Option Marks) (waiting : Bool) → state_by o waiting ≡ Open → waiting ≡ true
+open_waits None waiting e = cc
+open_waits (Some m) waiting e = go (hides (Some m)) waiting e
+  where
+    go : (b w : Bool) → cond b Hides (cond w Open Read) ≡ Open → w ≡ true
+    go true w e = cc
+    go false true e = refl
+    go false false e = cc
+
+module _ {F : Type 0} (objects : F → Objects) (store : F) (rows : List GraphRow) (tips hidden_tips : List ObjectId) where
+  abbrev There : ObjectId → List ObjectId
+  There = next objects store rows tips hidden_tips
+
+  abbrev Holds : Painter F → Type 0
+  Holds p = Stands objects store rows tips hidden_tips nobody p
+
+  abbrev Started : Painter F → Type 0
+  Started p = IsStarted objects store rows tips hidden_tips p
+
+  -- a painter that has marked nothing
+  pub record IsBlank (p : Painter F) : Type 0 where
+    pub same_store : p.source.objects.now ≡ store
+    pub graph : rows_in p.source.graph ≡ rows
+    pub marks : p.marks ≡ map_of.empty
+    pub frontier : p.frontier ≡ set.empty
+    pub queue : p.queue ≡ []
+
+  module _ {p : Painter F} (blank : IsBlank p) where
+    pub safe_blank : IsSafe objects store rows tips hidden_tips p
+    safe_blank = record {
+      same_store = blank.same_store;
+      either = inl blank.graph;
+      queued = λ r q c. absurd (no_member q (subst (λ qs. Contains qs q) blank.queue c));
+      brings = λ q c. absurd (no_member q (subst (λ qs. Contains qs q) blank.queue c));
+    }
+
+    unmet : (i : ObjectId) → state_of p i ≡ Unmet
+    unmet i = ap (λ o. state_by o (set.contains p.frontier i)) (ap (λ m. map_of.get m i) blank.marks ∙ map_of.get-empty id_cmp i)
+
+    pub stands_blank : Holds p
+    stands_blank = record {
+      facts = λ i. subst (Fact objects store rows tips hidden_tips nobody p i) (sym (unmet i)) tt;
+      tidy = λ i c. let none : true ≡ false = sym c ∙ ap (λ f. set.contains f i) blank.frontier ∙ set.contains-empty id_cmp i in cc;
+      reached = λ q c. absurd (no_member q (subst (λ qs. Contains qs q) blank.queue c));
+      waits = λ q c. absurd (no_member q (subst (λ qs. Contains qs q) blank.queue c));
+      dropped = λ n. absurd (n blank.graph);
+      read = λ e i n. absurd (n (unmet i));
+    }
+
+    -- the hidden tips are met first, and then the visible ones
+    module _ {mid new : Painter F} (covers : Meets objects side.Hidden hidden_tips p mid) (shows : Meets objects side.Visible tips mid new) where
+      pub safe_start : IsSafe objects store rows tips hidden_tips new
+      safe_start = safe_meets objects store rows tips hidden_tips shows (safe_meets objects store rows tips hidden_tips covers safe_blank)
+
+      pub stands_start : Holds new
+      stands_start =
+          stands_meets objects store rows tips hidden_tips shows nobody (safe_meets objects store rows tips hidden_tips covers safe_blank)
+          (stands_meets objects store rows tips hidden_tips covers nobody safe_blank stands_blank (λ i c. start c) (λ e. cc) (λ t i b. absurd b))
+          (λ i c. start c) (λ e r i c. inl c) (λ t i b. absurd b)
+
+      pub started_start : Started new
+      started_start = record {
+        shown = λ i c. met_now (shows.states i) c;
+        hidden = λ i c. hidden_stays (shows.states i) (hidden_now (covers.states i) refl c);
+      }
+
+  module _ (faulty : ObjectId → Type 0) (p : Painter F) (safe : IsSafe objects store rows tips hidden_tips p) (settled : IsSettled p) where
+    -- no visible id waits any more
+    none_open : Holds p → (i : ObjectId) → state_of p i ≢ Open
+    none_open h i open_now =
+        ⊎_elim (λ none. let f : Fact objects store rows tips hidden_tips nobody p i Open = subst (Fact objects store rows tips hidden_tips nobody p i) open_now (h.facts i) in
+        no_member f.1.0 (subst (λ qs. Contains qs f.1.0) none f.1.1))
+        (λ s. let waits : set.contains p.frontier i ≡ true = open_waits (map_of.get p.marks i) (set.contains p.frontier i) open_now in
+        let none : true ≡ false = sym waits ∙ ap (λ f. set.contains f i) (set.empty_of_len p.frontier s.1) ∙ set.contains-empty id_cmp i in cc)
+        settled
+
+    -- the rows stand where the queue isn't empty
+    standing : IsSome p.source.graph → RowsStand objects store rows tips hidden_tips p
+    standing some = ⊎_elim (λ r. r) (λ n. let none : true ≡ false = sym some ∙ ap is_some n in cc) safe.either
+
+    module _ (agrees : IsAgreeing (objects store) faulty rows) (h : Holds p) (started : Started p) where
+      -- what waits has a row, and what it reaches has one
+      rowed : IsSome p.source.graph → ((q : Key × Entry) → Contains p.queue q → is_told q.0.generation ≡ true) → (q i : ObjectId) → IsWaiting p side.Hidden q → Reaches There (q ∷ []) i → (row : GraphRow) × (row_of rows i ≡ Some row)
+      rowed some told q i w path =
+          let k : (row : GraphRow) × (row_of rows q ≡ Some row) = subst (λ j. (row : GraphRow) × (row_of rows j ≡ Some row)) w.3 (row_for (safe.queued (standing some) w.0 w.1) (told w.0 w.1)) in
+          let b = below objects store rows tips hidden_tips faulty agrees q k.0.generation (k.0, k.1, refl) i path in
+          (b.1.0, b.1.1)
+        where
+          row_for : Knows (objects store) rows w.0.1.id (record { key = w.0.0; parent_ids = w.0.1.parent_ids }) → is_told w.0.0.generation ≡ true → (row : GraphRow) × (row_of rows w.0.1.id ≡ Some row)
+          row_for (painter.by_row {row = row} e k s n) t = (row, e)
+          row_for (painter.by_store e k s m d) t = let bad : true ≡ false = sym t ∙ ap is_told k in cc
+
+      -- a met id that hidden tips reach is hidden
+      all_hidden : (i : ObjectId) → state_of p i ≢ Unmet → Reaches There hidden_tips i → state_of p i ≡ Hides
+      all_hidden i met hidden = go (state_of p i) refl
+        where
+          read_so : state_of p i ≡ Read → ⊥
+          read_so e =
+              let f : Fact objects store rows tips hidden_tips nobody p i Read = subst (Fact objects store rows tips hidden_tips nobody p i) e (h.facts i) in
+              ⊎_elim (λ d. let bad : Read ≡ Hides = sym e ∙ d.0 in cc)
+              (λ q. ⊎_elim (λ none. no_member q.1.0 (subst (λ qs. Contains qs q.1.0) none q.1.1)) (λ s. let row : (row : GraphRow) × (row_of rows i ≡ Some row) = rowed s.0 s.2 q.0 i q.1 q.2 in f.2 (standing s.0) row.0 row.1 hidden) settled)
+              (hidden_from objects store rows tips hidden_tips p h started i hidden)
+
+          go : (s : State) → state_of p i ≡ s → state_of p i ≡ Hides
+          go Unmet e = absurd (met e)
+          go Open e = absurd (none_open h i e)
+          go Read e = absurd (read_so e)
+          go Hides e = e
+
+      -- what tips reach outside what is hidden is met, and so are its parents
+      all_met : (c : ObjectId) → Reaches There tips c → (Reaches There hidden_tips c → ⊥) → (state_of p c ≢ Unmet) × ((i : ObjectId) → Contains (There c) i → state_of p i ≢ Unmet)
+      all_met c r out = (met c r out, λ i m. onward c (met c r out) out i m)
+        where
+          onward : (c : ObjectId) → state_of p c ≢ Unmet → (Reaches There hidden_tips c → ⊥) → (i : ObjectId) → Contains (There c) i → state_of p i ≢ Unmet
+          onward c met out i m = go (state_of p c) refl
+            where
+              go : (s : State) → state_of p c ≡ s → state_of p i ≢ Unmet
+              go Unmet e = absurd (met e)
+              go Open e = absurd (none_open h c e)
+              go Read e = let f : Fact objects store rows tips hidden_tips nobody p c Read = subst (Fact objects store rows tips hidden_tips nobody p c) e (h.facts c) in ⊎_elim (λ b. absurd b) (λ all. all i m) f.1
+              go Hides e = let f : Fact objects store rows tips hidden_tips nobody p c Hides = subst (Fact objects store rows tips hidden_tips nobody p c) e (h.facts c) in absurd (out f.0)
+
+          met : (c : ObjectId) → Reaches There tips c → (Reaches There hidden_tips c → ⊥) → state_of p c ≢ Unmet
+          met c (start m) out = started.shown c m
+          met c (step {c = d} r m) out = onward d (met d r (λ hidden. out (step hidden m))) (λ hidden. out (step hidden m)) c m
+
+      whole : (i : ObjectId) → IsAtBoundary There tips hidden_tips i → Reaches There hidden_tips i → set.contains (hidden_of p.marks) i ≡ true
+      whole i at hidden =
+          contains-hidden p.marks i ∙ hidden_state (map_of.get p.marks i) (set.contains p.frontier i) (all_hidden i (⊎_elim (λ t. started.shown i t) (λ b. (all_met b.0 b.1 b.2).1 i b.3) at) hidden)
+
+      sound : (i : ObjectId) → set.contains (hidden_of p.marks) i ≡ true → Reaches There hidden_tips i
+      sound i c =
+          let e : state_of p i ≡ Hides = hides_then (map_of.get p.marks i) (set.contains p.frontier i) (sym (contains-hidden p.marks i) ∙ c) in
+          let f : Fact objects store rows tips hidden_tips nobody p i Hides = subst (Fact objects store rows tips hidden_tips nobody p i) e (h.facts i) in
+          f.0
+
+      -- without rows the queue is empty, and all is met
+      all_read : rows ≡ [] → (i : ObjectId) → Reaches There (tips ++ hidden_tips) i → state_of p i ≢ Unmet
+      all_read e i (start m) = ⊎_elim (λ t. started.shown i t) (λ t. subst (λ s. s ≢ Unmet) (sym (started.hidden i t)) (λ k. cc)) (Contains-append_cases tips hidden_tips i m)
+      all_read e i (step {c = c} r m) = go (state_of p c) refl (all_read e c r)
+        where
+          nothing_waits : (q : Key × Entry) → Contains p.queue q → ⊥
+          nothing_waits q there = ⊎_elim (λ none. no_member q (subst (λ qs. Contains qs q) none there)) (λ s. unrowed (subst (λ rs. IsQueued (objects store) rs q) e (safe.queued (rowless objects store rows tips hidden_tips safe e) q there)) (s.2 q there)) settled
+            where
+              unrowed : Knows (objects store) [] q.1.id (record { key = q.0; parent_ids = q.1.parent_ids }) → is_told q.0.generation ≡ true → ⊥
+              unrowed (painter.by_row f k s n) t = cc
+              unrowed (painter.by_store f k s n d) t = let bad : true ≡ false = sym t ∙ ap is_told k in cc
+
+          go : (s : State) → state_of p c ≡ s → state_of p c ≢ Unmet → state_of p i ≢ Unmet
+          go Unmet f met = absurd (met f)
+          go Open f met = absurd (none_open h c f)
+          go Read f met = let k : Fact objects store rows tips hidden_tips nobody p c Read = subst (Fact objects store rows tips hidden_tips nobody p c) f (h.facts c) in ⊎_elim (λ b. absurd b) (λ all. all i m) k.1
+          go Hides f met =
+              let k : Fact objects store rows tips hidden_tips nobody p c Hides = subst (Fact objects store rows tips hidden_tips nobody p c) f (h.facts c) in
+              ⊎_elim (λ b. absurd b) (λ o. ⊎_elim (λ w. absurd (nothing_waits w.0 w.1)) (λ all. subst (λ s. s ≢ Unmet) (sym (all i m)) (λ k. cc)) o) k.1
+
+    -- what painting gives
+    pub paints : (IsAgreeing (objects store) faulty rows → Holds p × Started p) → Paints (objects store) faulty rows tips hidden_tips (hidden_of p.marks) (if is_some p.source.graph then rows else [])
+    paints holds = record {
+      rows_left = either_rows (is_some p.source.graph);
+      sound = λ agrees. let k = holds agrees in sound agrees k.0 k.1;
+      whole = λ agrees. let k = holds agrees in whole agrees k.0 k.1;
+      read = λ e i r.
+          let k = holds (none_agree (objects store) faulty rows e) in
+          ap is_some (k.0.read e i (all_read (none_agree (objects store) faulty rows e) k.0 k.1 e i r)).1.1;
+      drops = λ agrees gone. let k = holds agrees in k.0.dropped (λ stands. gone (still (p.source.graph) refl stands));
+    }
+      where
+        either_rows : (b : Bool) → ((if b then rows else []) ≡ rows) ⊎ ((if b then rows else []) ≡ [])
+        either_rows true = inl refl
+        either_rows false = inr refl
+
+        still : (o : Option (Bor (List GraphRow))) → p.source.graph ≡ o → RowsStand objects store rows tips hidden_tips p → (if is_some p.source.graph then rows else []) ≡ rows
+        still None e stands = ap (λ g. if is_some g then rows else []) e ∙ sym (ap rows_in e) ∙ stands
+        still (Some graph) e stands = ap (λ g. if is_some g then rows else []) e
+
+-- why painting fails
+module _ {F : Type 0} (objects : F → Objects) (faulty : F → ObjectId → Type 0) (store : F) (rows : List GraphRow) (tips hidden_tips : List ObjectId) where
+  abbrev IsFault : Hidden → Type 0
+  IsFault why = why ≢ hidden_by.Find existing.Memory → IsHiddenFault (objects store) (faulty store) rows (tips ++ hidden_tips) why
+
+  pub start_fails : {T : Type 0} (r : Result T Hidden) (why : Hidden) (ids : List ObjectId) (now : F) → now ≡ store → IsErrAnd r (λ e. e ≡ why) → ((i : ObjectId) → Contains ids i → Contains (tips ++ hidden_tips) i)
+      → FailsAmong (objects now) (faulty now) ids why → IfErr r IsFault
+  start_fails (Ok done) why ids now same h within f = absurd h
+  start_fails (Err e) why ids now same h within f = λ n.
+      let k : (i : ObjectId) × Contains ids i × IsFaultAt (objects now) (faulty now) i why = f (λ m. n (h ∙ m)) in
+      (k.0, λ agrees. start (within k.0 k.1), subst (λ s. IsFaultAt (objects s) (faulty s) k.0 e) same (subst (λ w. IsFaultAt (objects now) (faulty now) k.0 w) (sym h) k.2))
+
+  pub turn_fails : {T : Type 0} (r : Result T Hidden) (why : Hidden) {w v : Painter F} (top : Key × Entry) → Pops cmp-value.it w top v → IsSafe objects store rows tips hidden_tips w
+      → (IsAgreeing (objects store) (faulty store) rows → Stands objects store rows tips hidden_tips nobody w × IsStarted objects store rows tips hidden_tips w)
+      → IsErrAnd r (λ e. e ≡ why) → TreatFails (objects v.source.objects.now) (faulty v.source.objects.now) v.source.graph top.1 why → IfErr r IsFault
+  turn_fails (Ok done) why top pops safe holds h f = absurd h
+  turn_fails (Err e) why {w} {v} top pops safe holds h f = λ n.
+      let same : v.source.objects.now ≡ store = ap (λ s. s.objects.now) pops.source ∙ safe.same_store in
+      let k = f (λ m. n (h ∙ m)) in
+      (k.0, λ agrees. reaches k.0 agrees k.1, subst (λ s. IsFaultAt (objects s) (faulty s) k.0 e) same (subst (λ w. IsFaultAt (objects v.source.objects.now) (faulty v.source.objects.now) k.0 w) (sym h) k.2))
+    where
+      reaches : (i : ObjectId) → IsAgreeing (objects store) (faulty store) rows
+          → (i ≡ top.1.id) ⊎ ((ids : List ObjectId) × (after : Option (Bor (List GraphRow))) × GivesParents (objects v.source.objects.now) v.source.graph top.1 ids after × Contains ids i)
+          → Reaches (next objects store rows tips hidden_tips) (tips ++ hidden_tips) i
+      reaches i agrees (inl e) = subst (Reaches (next objects store rows tips hidden_tips) (tips ++ hidden_tips)) (sym e) (reaches_either objects store rows tips hidden_tips top.1.side top.1.id ((holds agrees).0.reached top (popped_there pops)))
+      reaches i agrees (inr g) =
+          step (reaches_either objects store rows tips hidden_tips top.1.side top.1.id ((holds agrees).0.reached top (popped_there pops)))
+          (subst (λ xs. Contains xs i) (given_parents objects store rows tips hidden_tips top pops safe (faulty store) agrees g.2) g.3)

@@ -1,0 +1,12 @@
+-- The new ids of a list, each at its first place, and how many times an id is in a list.
+pub mod NewIds
+-- The ids that a row's places name, and what a row with a fault is.
+pub mod Rows
+-- What a list in order has: no id twice, and exactly what is reached.
+pub mod Orders
+-- A commit that reads whole gives the same parents by its items and by its row.
+pub mod ReadsWhole
+-- A fault of a committer is found exactly where no commit is read.
+pub mod Committer
+-- A committer is read exactly where a commit is read, with the commit's time.
+pub mod CommitterTime

@@ -1,0 +1,161 @@
+-- A commit that reads whole is read alike from its items and from its row.
+use Rattle.std.specs.Prelude.{ℕ, zero, suc, ◌≡◌, ◌<◌, List, [], ◌∷◌, ◌++◌, Bool, true, false, cond, length, slice_get, Contains, Option, Some, None, Result, Ok}
+use Rattle.std.proofs.Common.{refl, sym, ap, subst, ◌∙◌, arith, append_assoc, append-nil}
+use Rattle.gix_parts.specs.declared.hash.Kind.{Kind}
+use Rattle.gix_parts.specs.declared.hash.ObjectId.{ObjectId}
+use Rattle.gix_parts.specs.declared.object.decode.Error.{Error as DecodeError}
+use Rattle.gix_parts.specs.declared.graph.ParentPlace.{ParentPlace}
+use Rattle.gix_parts.specs.declared.graph.ParentPlace.TheVariants.{At, Fault}
+use Rattle.gix_parts.specs.Id.{is_same}
+use Rattle.gix_parts.specs.Object.{Objects}
+use Rattle.gix_parts.specs.CommitItems.{Item, Parent, Author, AtTree, AtParents, AtCommitter, Front, Found, Faulty, Ended, tree_front, author_front, committer_front, parent_front, front, unfolded, items_within, commit_items}
+use Rattle.gix_parts.specs.CommitText.{Commit, commit_of, commit_of_items, read_commit}
+use Rattle.gix_parts.specs.Rows.{GraphRow, row_of}
+use Rattle.gix_traverse.specs.declared.commit.Parents.{Parents}
+use Rattle.gix_traverse.specs.declared.commit.Parents.TheVariants as mode
+use Rattle.gix_traverse.specs.History.Commits.{by_mode, parents_of, parents_in, time_of, time_in, commit_at}
+use Rattle.gix_traverse.specs.History.Agreeing.{PlaceAgrees, RowAgrees, IsAgreeing}
+use Rattle.gix_traverse.specs.Simple.Walk.{scanned, with_parent, ids_at, with_id}
+use Rattle.gix_parts.proofs.IdFacts.{same_is, Contains-here, Contains-there}
+
+-- what may stand at the front behind a tree or a parent
+pub data IsParentsFront : Front → Type 0 where
+  ended : IsParentsFront Ended
+  faulty : {e : DecodeError} → IsParentsFront (Faulty e)
+  parent : {i : ObjectId} {rest : List ℕ} → IsParentsFront (Found (Parent i) AtParents rest)
+  author : {line rest : List ℕ} → IsParentsFront (Found (Author line) AtCommitter rest)
+
+author_is : (o : Option (List ℕ × List ℕ)) → IsParentsFront (author_front o)
+author_is None = faulty
+author_is (Some r) = author
+
+parents_is : (k : Kind) (bytes : List ℕ) (word : Option (List ℕ)) (line : Option (ObjectId × List ℕ)) → IsParentsFront (parent_front k bytes word line)
+parents_is k bytes None line = author_is _
+parents_is k bytes (Some rest) None = faulty
+parents_is k bytes (Some rest) (Some r) = parent
+
+pub parents_front : (k : Kind) (bytes : List ℕ) → IsParentsFront (front k AtParents bytes)
+parents_front k [] = ended
+parents_front k (b ∷ bs) = parents_is k (b ∷ bs) _ _
+
+committer_ends : (n : ℕ) (k : Kind) (tree : ObjectId) (ps : List ObjectId) (bytes : List ℕ) (c : Commit) → commit_of tree ps (items_within n k AtCommitter bytes) ≡ Some c → c.parents ≡ ps
+committer_ends zero k tree ps bytes c e = cc
+committer_ends (suc n) k tree ps [] c e = cc
+committer_ends (suc n) k tree ps (b ∷ bs) c e = go _ e
+  where
+    go : (o : Option (List ℕ × List ℕ)) → commit_of tree ps (unfolded (committer_front o) (items_within n k)) ≡ Some c → c.parents ≡ ps
+    go None e = cc
+    go (Some r) e = ap (λ o. parents_in o) (sym e)
+
+-- the parents still to be read, up to the author
+record ScansTo (items : List (Result Item DecodeError)) (ps : List ObjectId) (c : Commit) : Type 0 where
+  left : List ObjectId
+  parents : c.parents ≡ ps ++ left
+  scan : (m : Parents) → scanned m items ≡ (by_mode m left, None)
+
+no_parents : (m : Parents) → by_mode m [] ≡ []
+no_parents mode.All = refl
+no_parents mode.First = refl
+
+scan_author : (m : Parents) (line : List ℕ) (items : List (Result Item DecodeError)) → scanned m (Ok (Author line) ∷ items) ≡ (by_mode m [], None)
+scan_author mode.All line items = refl
+scan_author mode.First line items = refl
+
+scan_parent : (i : ObjectId) (left : List ObjectId) (items : List (Result Item DecodeError)) → ((m : Parents) → scanned m items ≡ (by_mode m left, None)) → (m : Parents) → scanned m (Ok (Parent i) ∷ items) ≡ (by_mode m (i ∷ left), None)
+scan_parent i left items h mode.All = ap (with_parent i) (h mode.All)
+scan_parent i left items h mode.First = refl
+
+parents_scan : (n : ℕ) (k : Kind) (tree : ObjectId) (ps : List ObjectId) (bytes : List ℕ) (c : Commit) → commit_of tree ps (items_within n k AtParents bytes) ≡ Some c → ScansTo (items_within n k AtParents bytes) ps c
+parents_scan zero k tree ps bytes c e = cc
+parents_scan (suc n) k tree ps bytes c e = go (λ qs rest. parents_scan n k tree qs rest c) (parents_front k bytes) e
+  where
+    go : {f : Front} → ((qs : List ObjectId) (rest : List ℕ) → commit_of tree qs (items_within n k AtParents rest) ≡ Some c → ScansTo (items_within n k AtParents rest) qs c) → IsParentsFront f → commit_of tree ps (unfolded f (items_within n k)) ≡ Some c → ScansTo (unfolded f (items_within n k)) ps c
+    go r ended e = cc
+    go r faulty e = cc
+    go r (parent {i = i} {rest = rest}) e =
+        let h : ScansTo (items_within n k AtParents rest) (ps ++ i ∷ []) c = r (ps ++ i ∷ []) rest e in
+        record { left = i ∷ h.left; parents = h.parents ∙ append_assoc ps (i ∷ []) h.left; scan = scan_parent i h.left (items_within n k AtParents rest) h.scan }
+    go r (author {line = line} {rest = rest}) e =
+        record { left = []; parents = committer_ends n k tree ps rest c e ∙ sym (append-nil ps); scan = λ m. scan_author m line (items_within n k AtCommitter rest) }
+
+tree_scan : (n : ℕ) (k : Kind) (bytes : List ℕ) (c : Commit) → commit_of_items (items_within n k AtTree bytes) ≡ Some c → (m : Parents) → scanned m (items_within n k AtTree bytes) ≡ (by_mode m c.parents, None)
+tree_scan zero k bytes c e m = cc
+tree_scan (suc n) k [] c e m = cc
+tree_scan (suc n) k (b ∷ bs) c e m = go _ e
+  where
+    go : (o : Option (ObjectId × List ℕ)) → commit_of_items (unfolded (tree_front o) (items_within n k)) ≡ Some c → scanned m (unfolded (tree_front o) (items_within n k)) ≡ (by_mode m c.parents, None)
+    go None e = cc
+    go (Some r) e =
+        let h : ScansTo (items_within n k AtParents r.1) [] c = parents_scan n k r.0 [] r.1 c e in
+        h.scan m ∙ ap (λ ps. (by_mode m ps, None)) (sym h.parents)
+
+pub scan_is : (k : Kind) (bytes : List ℕ) (c : Commit) → read_commit k bytes ≡ Some c → (m : Parents) → scanned m (commit_items k bytes) ≡ (by_mode m c.parents, None)
+scan_is k bytes c e m = tree_scan (length bytes) k bytes c e m
+
+-- rows
+pub row_stands : (rows : List GraphRow) (i : ObjectId) (row : GraphRow) → row_of rows i ≡ Some row → Contains rows row × (i ≡ row.id)
+row_stands [] i row e = cc
+row_stands (r ∷ rows) i row e = go (row_stands rows i row) (is_same i r.id) refl e
+  where
+    go : (row_of rows i ≡ Some row → Contains rows row × (i ≡ row.id)) → (b : Bool) → is_same i r.id ≡ b → cond b (Some r) (row_of rows i) ≡ Some row → Contains (r ∷ rows) row × (i ≡ row.id)
+    go rest true o e = let same : r ≡ row = cc in (subst (λ x. Contains (x ∷ rows) row) (sym same) (Contains-here row rows), same_is i r.id o ∙ ap (λ x. x.id) same)
+    go rest false o e = let h : Contains rows row × (i ≡ row.id) = rest e in (Contains-there row r rows h.0, h.1)
+
+ids_agree : (rows : List GraphRow) (generation : ℕ) (places : List ParentPlace) (ps ids : List ObjectId) → length places ≡ length ps → ((k : ℕ) (i : ObjectId) (place : ParentPlace) → slice_get ps k ≡ Some i → slice_get places k ≡ Some place → PlaceAgrees rows generation i place) → ids_at rows places ≡ Some ids → ids ≡ ps
+ids_agree rows generation [] [] ids l all e = cc
+ids_agree rows generation [] (p ∷ ps) ids l all e = absurd (omega arith)
+ids_agree rows generation (Fault ∷ places) ps ids l all e = cc
+ids_agree rows generation (At n ∷ places) [] ids l all e = absurd (omega arith)
+ids_agree rows generation (At n ∷ places) (p ∷ ps) ids l all e =
+    go (slice_get rows n) refl (ids_at rows places) refl (λ those. ids_agree rows generation places ps those (omega arith) (λ k. all (suc k))) e
+  where
+    go : (o : Option GraphRow) → slice_get rows n ≡ o → (r : Option (List ObjectId)) → ids_at rows places ≡ r → ((those : List ObjectId) → ids_at rows places ≡ Some those → those ≡ ps) → with_id o r ≡ Some ids → ids ≡ p ∷ ps
+    go None a r b rest e = cc
+    go (Some row) a None b rest e = cc
+    go (Some row) a (Some those) b rest e =
+        let h : PlaceAgrees rows generation p (At n) = all zero p (At n) refl refl in
+        let same : row ≡ h.0 = let s : Some row ≡ Some h.0 = sym a ∙ h.1 in cc in
+        let head : row.id ≡ p = ap (λ x. x.id) same ∙ h.2 in
+        let tail : those ≡ ps = rest those b in
+        cc
+
+place_has_row : (rows : List GraphRow) (generation : ℕ) (i : ObjectId) (place : ParentPlace) → PlaceAgrees rows generation i place → (row : GraphRow) × (row_of rows i ≡ Some row) × (row.generation < generation)
+place_has_row rows generation i (At n) h = (h.0, h.3, h.4)
+place_has_row rows generation i Fault h = (h.0, h.1, h.2)
+
+pub same_long : {X Y : Type 0} (xs : List X) (ys : List Y) (k : ℕ) (y : Y) → length xs ≡ length ys → slice_get ys k ≡ Some y → (x : X) × (slice_get xs k ≡ Some x)
+same_long [] [] k y l e = cc
+same_long [] (z ∷ ys) k y l e = absurd (omega arith)
+same_long (x ∷ xs) [] k y l e = cc
+same_long (x ∷ xs) (z ∷ ys) zero y l e = (x, refl)
+same_long (x ∷ xs) (z ∷ ys) (suc k) y l e = same_long xs ys k y (omega arith) e
+
+pub place_of : {X : Type 0} (xs : List X) (x : X) → Contains xs x → (k : ℕ) × (slice_get xs k ≡ Some x)
+place_of xs x h = (h.0, Rattle.std.proofs.lemmas.Option.slice_get-get_or xs h.0 x h.1 ∙ ap Some h.2)
+
+module _ (objects : Objects) (faulty : ObjectId → Type 0) (rows : List GraphRow) (agrees : IsAgreeing objects faulty rows) where
+  -- a row says the parents and the time
+  pub row_parents : (i : ObjectId) (row : GraphRow) (ids : List ObjectId) → row_of rows i ≡ Some row → ids_at rows row.parents ≡ Some ids → ids ≡ parents_of objects i
+  row_parents i row ids e f =
+      let h : Contains rows row × (i ≡ row.id) = row_stands rows i row e in
+      let a : RowAgrees objects faulty rows row = agrees row h.0 in
+      let p : ids ≡ a.whole.commit.parents = ids_agree rows row.generation row.parents a.whole.commit.parents ids a.places a.parents f in
+      p ∙ sym (ap parents_in (ap (commit_at objects) h.1 ∙ a.whole.stored))
+
+  pub row_says_time : (i : ObjectId) (row : GraphRow) → row_of rows i ≡ Some row → row.time ≡ time_of objects i
+  row_says_time i row e =
+      let h : Contains rows row × (i ≡ row.id) = row_stands rows i row e in
+      let a : RowAgrees objects faulty rows row = agrees row h.0 in
+      sym (ap time_in (ap (commit_at objects) h.1 ∙ a.whole.stored) ∙ a.time)
+
+  pub parent_below : (c : ObjectId) (row : GraphRow) (i : ObjectId) → row_of rows c ≡ Some row → Contains (parents_of objects c) i → (r : GraphRow) × (row_of rows i ≡ Some r) × (r.generation < row.generation)
+  parent_below c row i e n =
+      let h : Contains rows row × (c ≡ row.id) = row_stands rows c row e in
+      let a : RowAgrees objects faulty rows row = agrees row h.0 in
+      let m : Contains a.whole.commit.parents i = subst (λ ps. Contains ps i) (ap parents_in (ap (commit_at objects) h.1 ∙ a.whole.stored)) n in
+      let k : (k : ℕ) × (slice_get a.whole.commit.parents k ≡ Some i) = place_of _ i m in
+      let q : (place : ParentPlace) × (slice_get row.parents k.0 ≡ Some place) = same_long row.parents a.whole.commit.parents k.0 i a.places k.1 in
+      place_has_row rows row.generation i q.0 (a.parents k.0 i q.0 k.1 q.1)
+
+  pub parent_has_row : (c : ObjectId) (row : GraphRow) (i : ObjectId) → row_of rows c ≡ Some row → Contains (parents_of objects c) i → (r : GraphRow) × (row_of rows i ≡ Some r)
+  parent_has_row c row i e n = let p : (r : GraphRow) × (row_of rows i ≡ Some r) × (r.generation < row.generation) = parent_below c row i e n in (p.0, p.1)

@@ -1,0 +1,30 @@
+-- One more mark on an id.
+pub mod Marks
+-- What naming and finishing an id changes in the table.
+pub mod Frontier
+-- Naming the parents of a commit one by one.
+pub mod NamesParents
+-- Each id of a list at its last place.
+pub mod LastPlaces
+-- A step of the searches, put together from its parts.
+pub mod Step
+-- What one search has found when little is left in its queue.
+pub mod OneSearch
+-- Each step keeps the invariants of both searches.
+pub mod BothSearches
+-- What naming, finishing and taking do to the indegrees, and what an indegree of 0 means.
+pub mod Children
+-- Exploring keeps the searches and the indegrees.
+pub mod ExploreKeeps
+-- Exploring ends: each step leaves less to do.
+pub mod ExploreEnds
+-- Where the greatest generation in the queue is below the depth, all of them are.
+pub mod Rest
+-- What exploring has found when it rests: all that is reached, down to the depth.
+pub mod AllDownToDepth
+-- Both searches meet their starts before anything is read.
+pub mod MeetsStarts
+-- What holds when counting has begun.
+pub mod Begin
+-- The number of expanded commits is exact down to the depth.
+pub mod Expanded

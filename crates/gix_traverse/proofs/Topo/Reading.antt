@@ -1,0 +1,6 @@
+-- What reading a commit says of the ids that rows and texts name, and of its parents.
+pub mod ReadsCommit
+-- What is known of a ready commit is what the store has.
+pub mod FoundIsStored
+-- A text without a fault up to its committer has none before it.
+pub mod Faultless

@@ -1,0 +1,70 @@
+-- A ready commit as it was read, beside rows that agree.
+use Rattle.std.specs.Prelude.{◌≡◌, ℕ, Bool, true, false, ◌&&◌, cond, Option, Some, None, Result, Ok, Err, List, Contains}
+use Rattle.std.proofs.Common.{refl, sym, ap, subst, ◌∙◌}
+use Rattle.std.proofs.lemmas.Bool.{false≢true, lt-ltb}
+use Rattle.gix_parts.specs.declared.hash.ObjectId.{ObjectId}
+use Rattle.gix_parts.specs.declared.object.decode.Error.{Error as DecodeError}
+use Rattle.gix_parts.specs.Id.{kind_of, is_among}
+use Rattle.gix_parts.specs.Object.{Objects}
+use Rattle.gix_parts.specs.CommitText.{Commit, read_commit}
+use Rattle.gix_parts.specs.CommitItems.{commit_items}
+use Rattle.gix_parts.specs.CommitRefIter.{first_committer}
+use Rattle.gix_parts.specs.Rows.{GraphRow, row_of}
+use Rattle.gix_traverse.specs.declared.commit.Info.{Info}
+use Rattle.gix_traverse.specs.History.Agreeing.{IsAgreeing}
+use Rattle.gix_traverse.specs.Topo.Depth.{infinity}
+use Rattle.gix_traverse.specs.History.Commits.{ReadsWhole, time_of, time_in, commit_of_object}
+use Rattle.gix_traverse.specs.History.Reading.{Reads, by_row, by_text, row_ids, is_whole_row, told_generation, time_of_committer}
+use Rattle.gix_traverse.specs.Topo.Inside.Searched.{text_next}
+use Rattle.gix_traverse.specs.Simple.Laws.{IsRowGeneration}
+use Rattle.gix_traverse.specs.Topo.Walk.{TopoPlan, Ready, IsSound, IsStored, named_ids, row_generation, IsFound}
+use Rattle.gix_traverse.proofs.Shared.CommitterTime.{TellsTime, tells}
+use Rattle.gix_traverse.proofs.Shared.ReadsWhole.{row_stands, row_says_time}
+use Rattle.gix_traverse.proofs.Topo.Reading.ReadsCommit.{reads_named, reads_text_next, text_whole}
+
+committer_time : (o : Option Commit) (q : Result (List ℕ) DecodeError) → TellsTime o q → time_of_committer q ≡ time_in o
+committer_time (Some c) (Ok signature) h = sym h
+committer_time (Some c) (Err e) h = absurd h
+committer_time None (Ok signature) h = absurd h
+committer_time None (Err e) h = refl
+
+-- where rows stand still, a row that was passed over is none
+passed_over : (rows : List GraphRow) (o : Option GraphRow) (before : Bool) → (before ≡ true → row_ids rows o ≡ None) → (before && is_whole_row rows o) ≡ true → None ≡ row_generation o
+passed_over rows None before n e = refl
+passed_over rows (Some row) false n e = absurd (false≢true e)
+passed_over rows (Some row) true n e = absurd (false≢true (sym (ap Rattle.std.specs.Option.is_some (n refl)) ∙ e))
+
+module _ (objects : Objects) (faulty : ObjectId → Type 0) (rows : List GraphRow) (agrees : IsAgreeing objects faulty rows) where
+  finite_told : (i : ObjectId) (row : GraphRow) → row_of rows i ≡ Some row → told_generation row.generation ≡ Some row.generation
+  finite_told i row e = ap (λ b. cond b (Some row.generation) None) (lt-ltb row.generation infinity (agrees row (row_stands rows i row e).0).finite)
+
+  reads_time : {standing : Bool} {i : ObjectId} {info : Info} {new : Bool} → Reads objects faulty rows standing i (Ok info) new → info.commit_time ≡ Some (time_of objects i)
+  reads_time {i = i} (by_row s r) = r.info_is.same_time ∙ ap Some (row_says_time objects faulty rows agrees i r.row r.there)
+  reads_time {i = i} (by_text n t) =
+      t.2.0.same_time ∙ ap Some (committer_time (read_commit (kind_of i) t.0) (first_committer (commit_items (kind_of i) t.0)) (tells (kind_of i) t.0) ∙ sym (ap (λ o. time_in (commit_of_object i o)) t.1))
+
+  reads_row : {standing : Bool} {i : ObjectId} {info : Info} {new : Bool} → Reads objects faulty rows standing i (Ok info) new → IsRowGeneration rows i info.generation
+  reads_row {i = i} (by_row s r) = subst (IsRowGeneration rows i) (sym (r.info_is.same_generation ∙ finite_told i r.row r.there)) (r.row, r.there, refl)
+  reads_row {i = i} (by_text n t) = subst (IsRowGeneration rows i) (sym t.2.0.same_generation) tt
+
+  reads_told : {standing : Bool} {i : ObjectId} {info : Info} {new : Bool} → Reads objects faulty rows standing i (Ok info) new → new ≡ true → info.generation ≡ row_generation (row_of rows i)
+  reads_told {i = i} (by_row s r) e = r.info_is.same_generation ∙ finite_told i r.row r.there ∙ sym (ap row_generation r.there)
+  reads_told {standing = standing} {i = i} (by_text n t) e = t.2.0.same_generation ∙ passed_over rows (row_of rows i) standing n.0 (sym n.1 ∙ e)
+
+module _ {F : Type 0} (objects : F → Objects) (faulty : F → ObjectId → Type 0) (plan : TopoPlan F) where
+  -- beside rows that agree, its parents are those that its text names
+  pub found_text : {standing : Bool} {r : Ready} → IsAgreeing (objects plan.store) (faulty plan.store) plan.rows → IsFound objects faulty plan standing r → r.parents ≡ text_next (objects plan.store) r.id
+  found_text agrees f = sym f.is.same_parents ∙ reads_text_next (objects plan.store) (faulty plan.store) plan.rows agrees f.reads
+
+  -- rows or texts name its parents
+  pub found_named : {standing : Bool} {r : Ready} → IsFound objects faulty plan standing r → (p : ObjectId) → Contains r.parents p → is_among p (named_ids (objects plan.store) plan.rows) ≡ true
+  found_named f p m = reads_named (objects plan.store) (faulty plan.store) plan.rows f.reads p (subst (λ ids. Contains ids p) (sym f.is.same_parents) m)
+
+  -- of a sound walk, it is as the store and the rows say
+  pub found_stored : {standing : Bool} {r : Ready} → IsSound objects faulty plan → IsFound objects faulty plan standing r → ReadsWhole (objects plan.store) (faulty plan.store) r.id → IsStored objects plan standing r
+  found_stored {r = r} sound f whole = record {
+    parents = found_text sound.agreeing f ∙ sym (text_whole (objects plan.store) (faulty plan.store) plan.rows r.id whole);
+    time = let same : Some r.time ≡ Some (time_of (objects plan.store) r.id) = sym f.is.same_time ∙ reads_time (objects plan.store) (faulty plan.store) plan.rows sound.agreeing f.reads in cc;
+    by_row = subst (IsRowGeneration plan.rows r.id) f.is.same_generation (reads_row (objects plan.store) (faulty plan.store) plan.rows sound.agreeing f.reads);
+    told = λ e. sym f.is.same_generation ∙ reads_told (objects plan.store) (faulty plan.store) plan.rows sound.agreeing f.reads (f.later e);
+  }

@@ -1,0 +1,93 @@
+-- What reading a commit tells of the ids that rows and texts name, and, beside rows that agree, of its parents.
+use Rattle.std.specs.Prelude.{◌≡◌, ◌≤◌, ◌<◌, ◌^◌, ◌-◌, List, [], map, Bool, true, Option, Some, None, Ok, Contains}
+use Rattle.std.proofs.Common.{refl, sym, ap, subst, ◌∙◌, arith}
+use Rattle.std.proofs.lemmas.Bool.{or_left, or_right}
+use Rattle.std.specs.FinMap as map_of
+use Rattle.gix_parts.specs.declared.hash.ObjectId.{ObjectId}
+use Rattle.gix_parts.specs.declared.object.Kind.TheVariants as object
+use Rattle.gix_parts.specs.Id.{kind_of, is_among}
+use Rattle.gix_parts.specs.Object.{Object, Objects}
+use Rattle.gix_parts.specs.Rows.{GraphRow, row_of}
+use Rattle.gix_parts.specs.CommitText.{Commit}
+use Rattle.gix_traverse.specs.History.Commits.{parents_in}
+use Rattle.gix_parts.proofs.IdFacts.{among-append, among_from, no_member}
+use Rattle.gix_traverse.specs.declared.commit.Info.{Info}
+use Rattle.gix_traverse.specs.declared.commit.Parents.TheVariants as mode
+use Rattle.gix_traverse.specs.History.Agreeing.{IsAgreeing}
+use Rattle.gix_traverse.specs.Topo.Depth.{known_generation, generation_in, infinity}
+use Rattle.gix_traverse.specs.History.Commits.{ReadsWhole, parents_of, commit_at, commit_of_kind, commit_of_object}
+use Rattle.gix_traverse.specs.History.Reading.{Reads, by_row, by_text}
+use Rattle.gix_traverse.specs.Topo.Walk.{text_parents, named_ids}
+use Rattle.gix_traverse.specs.Topo.Inside.Searched.{text_next, next_in}
+use Rattle.gix_traverse.proofs.Simple.Ends.{ids_in_rows, among_flat, found_entry}
+use Rattle.gix_traverse.proofs.Shared.ReadsWhole.{scan_is, row_stands, row_parents, parent_below}
+
+module _ (objects : Objects) (faulty : ObjectId → Type 0) (rows : List GraphRow) where
+  -- the parents that are read are among the ids that rows and texts name
+  pub reads_named : {standing : Bool} {i : ObjectId} {info : Info} {new : Bool} → Reads objects faulty rows standing i (Ok info) new → (j : ObjectId) → Contains info.parent_ids.items j → is_among j (named_ids objects rows) ≡ true
+  reads_named (by_row s r) j m =
+      among-append j (map (λ row. row.id) rows) _ ∙ or_left _ _ (ids_in_rows rows r.row.parents r.ids r.whole j (subst (λ ids. Contains ids j) r.info_is.same_parents m))
+  reads_named {i = i} (by_text n t) j m =
+      let entry : Contains (map_of.entries objects) (i, record { kind = object.Commit; bytes = t.0 }) = found_entry (map_of.entries objects) i _ (sym (map_of.get-entries objects i) ∙ t.1) in
+      among-append j (map (λ row. row.id) rows) _ ∙ or_right (is_among j (map (λ row. row.id) rows)) _
+      (among_flat (λ entry. text_parents entry.0 entry.1) (map_of.entries objects) _ j entry (among_from j _ (subst (λ ids. Contains ids j) t.2.0.same_parents m)))
+
+  -- where the rows agree they are those that the text names
+  pub text_whole : (i : ObjectId) → ReadsWhole objects faulty i → parents_of objects i ≡ text_next objects i
+  text_whole i w = go (map_of.get objects i) refl
+    where
+      go : (o : Option Object) → map_of.get objects i ≡ o → parents_of objects i ≡ text_next objects i
+      go None e = let bad : None ≡ Some w.commit = sym (ap (commit_of_object i) e) ∙ w.stored in cc
+      go (Some thing) e = kinds thing.kind refl
+        where
+          kinds : (k : Rattle.gix_parts.specs.declared.object.Kind.Kind) → thing.kind ≡ k → parents_of objects i ≡ text_next objects i
+          kinds object.Commit q =
+              let r : Rattle.gix_parts.specs.CommitText.read_commit (kind_of i) thing.bytes ≡ Some w.commit = sym (ap (λ k. commit_of_kind i k thing.bytes) q) ∙ sym (ap (commit_of_object i) e) ∙ w.stored in
+              ap Rattle.gix_traverse.specs.History.Commits.parents_in w.stored ∙ sym (ap (next_in i) e ∙ ap (λ r. r.0) (scan_is (kind_of i) thing.bytes w.commit r mode.All))
+          kinds object.Tree q = let bad : None ≡ Some w.commit = sym (ap (λ k. commit_of_kind i k thing.bytes) q) ∙ sym (ap (commit_of_object i) e) ∙ w.stored in cc
+          kinds object.Blob q = let bad : None ≡ Some w.commit = sym (ap (λ k. commit_of_kind i k thing.bytes) q) ∙ sym (ap (commit_of_object i) e) ∙ w.stored in cc
+          kinds object.Tag q = let bad : None ≡ Some w.commit = sym (ap (λ k. commit_of_kind i k thing.bytes) q) ∙ sym (ap (commit_of_object i) e) ∙ w.stored in cc
+
+  module _ (agrees : IsAgreeing objects faulty rows) where
+    pub reads_text_next : {standing : Bool} {i : ObjectId} {info : Info} {new : Bool} → Reads objects faulty rows standing i (Ok info) new → info.parent_ids.items ≡ text_next objects i
+    reads_text_next {i = i} (by_row s r) =
+        let h : Contains rows r.row × (i ≡ r.row.id) = row_stands rows i r.row r.there in
+        let w : ReadsWhole objects faulty i = subst (ReadsWhole objects faulty) (sym h.1) (agrees r.row h.0).whole in
+        r.info_is.same_parents ∙ row_parents objects faulty rows agrees i r.row r.ids r.there r.whole ∙ text_whole i w
+    reads_text_next {i = i} (by_text n t) = t.2.0.same_parents ∙ sym (ap (next_in i) t.1)
+
+    finite : (i : ObjectId) (row : GraphRow) → row_of rows i ≡ Some row → row.generation ≤ infinity
+    finite i row e = let f : row.generation < 2 ^ 32 - 1 = (agrees row (row_stands rows i row e).0).finite in omega arith
+
+    highest : (i : ObjectId) → known_generation rows i ≤ infinity
+    highest i = go (row_of rows i) refl
+      where
+        go : (o : Option GraphRow) → row_of rows i ≡ o → generation_in o ≤ infinity
+        go None e = omega arith
+        go (Some row) e = finite i row e
+
+    -- no parent's known generation is greater
+    pub parents_lower : (c i : ObjectId) → Contains (text_next objects c) i → known_generation rows i ≤ known_generation rows c
+    parents_lower c i m = go (row_of rows c) refl
+      where
+        go : (o : Option GraphRow) → row_of rows c ≡ o → known_generation rows i ≤ generation_in o
+        go None e = highest i
+        go (Some row) e =
+            let h : Contains rows row × (c ≡ row.id) = row_stands rows c row e in
+            let w : ReadsWhole objects faulty c = subst (ReadsWhole objects faulty) (sym h.1) (agrees row h.0).whole in
+            lower c row i e (subst (λ ids. Contains ids i) (sym (text_whole c w)) m)
+          where
+            lower : (c : ObjectId) (row : GraphRow) (i : ObjectId) → row_of rows c ≡ Some row → Contains (parents_of objects c) i → known_generation rows i ≤ row.generation
+            lower c row i e n =
+                let l : (r : GraphRow) × (row_of rows i ≡ Some r) × (r.generation < row.generation) = parent_below objects faulty rows agrees c row i e n in
+                let k : known_generation rows i ≡ l.0.generation = ap generation_in l.1 in
+                let b : l.0.generation < row.generation = l.2 in
+                omega arith
+
+-- the parents of a commit are among those that its text names
+pub text_has : (objects : Objects) (i j : ObjectId) → Contains (parents_of objects i) j → Contains (text_next objects i) j
+text_has objects i j m = go (commit_at objects i) refl m
+  where
+    go : (o : Option Commit) → commit_at objects i ≡ o → Contains (parents_in o) j → Contains (text_next objects i) j
+    go None e n = absurd (no_member j n)
+    go (Some commit) e n = subst (λ ids. Contains ids j) (text_whole objects (λ k. ⊥) [] i (record { commit = commit; stored = e; sound = λ f. f })) m

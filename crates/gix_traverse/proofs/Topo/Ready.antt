@@ -1,0 +1,6 @@
+-- The ready commits as a queue by time or as a stack.
+pub mod ReadySet
+-- Lists by rising time.
+pub mod RisingTime
+-- How taking a commit changes which commits are ready.
+pub mod IsReady

@@ -1,0 +1,10 @@
+-- A list in which each commit is ready at its place: no id twice, children first, all of the set.
+pub mod ReadyInTurn
+-- A whole walk takes what the definitions say, in their order.
+pub mod Theorem
+-- Every walk ends, asks about each commit once, and gives nothing after a fault.
+pub mod Ends
+-- Laws that follow from the order alone.
+pub mod Corollaries
+-- With agreeing rows each commit is given with its row's generation.
+pub mod Generations

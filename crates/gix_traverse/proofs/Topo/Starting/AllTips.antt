@@ -1,0 +1,206 @@
+-- What the tips that become ready at first do, told of all of them.
+use Rattle.std.specs.Prelude.{◌≡◌, ◌≤◌, ℕ, List, [], ◌∷◌, ◌++◌, Bool, true, false, ◌||◌, cond, Ok, Contains}
+use Rattle.std.proofs.Common.{refl, sym, ap, subst, ⊎_elim, ◌∙◌, arith}
+use Rattle.std.proofs.lemmas.Bool.{true≢false, or_right, or_left, or_cases}
+use Rattle.gix_parts.specs.declared.hash.ObjectId.{ObjectId}
+use Rattle.gix_parts.specs.Id.{is_same, is_among}
+use Rattle.gix_parts.specs.Object.{Objects}
+use Rattle.gix_parts.specs.Rows.{row_of}
+use Rattle.gix_parts.proofs.IdFacts.{same_is, among-append, among-one, among_from, among_is, Contains-here, Contains-there, Contains-cons_cases, no_member}
+use Rattle.gix_traverse.specs.declared.commit.topo.frontier.Side.{Side}
+use Rattle.gix_traverse.specs.declared.commit.topo.frontier.Side.TheVariants.{Ends}
+use Rattle.gix_traverse.specs.declared.commit.topo.frontier.Frontier.{Frontier}
+use Rattle.gix_traverse.specs.declared.commit.topo.iter.Walk.{Walk}
+use Rattle.gix_traverse.specs.Topo.Inside.Frontier.{is_seen, known_of, reached}
+use Rattle.gix_traverse.specs.History.Reading.{Reads, is_whole_row}
+use Rattle.gix_traverse.specs.Topo.Inside.Releasing.{plan_of}
+use Rattle.gix_traverse.specs.Topo.Inside.Starting.{Starts, waits, frees, StartsAll, none, more}
+use Rattle.gix_traverse.specs.Orders.TopoOrder.{Keeps, none as keeps_none, kept, passed, distinct_after}
+use Rattle.gix_traverse.specs.Topo.Walk.{Ready, ready_ids, IsFound}
+use Rattle.gix_traverse.proofs.Shared.NewIds.{times}
+use Rattle.gix_traverse.proofs.Topo.Counting.Frontier.{has_seen}
+use Rattle.gix_traverse.proofs.Topo.Ready.IsReady.{among_times, keeps_in, first_once}
+use Rattle.gix_traverse.proofs.Topo.Taking.AllReleases.{keeps_on, ids-append, Contains-append_cases, from_ids, reads_stands, reads_drops, makes_known, makes_moved, due_parts, due_from, with_plan}
+use Rattle.gix_traverse.proofs.Topo.Counting.Children.{children_of, made_of}
+
+-- what is left of a list behind some ids is none of them
+first_apart : (seen xs : List ObjectId) (i : ObjectId) → Contains (distinct_after seen xs) i → is_among i seen ≡ false
+first_apart seen xs i m = go (is_among i seen) refl
+  where
+    go : (b : Bool) → is_among i seen ≡ b → b ≡ false
+    go false e = refl
+    go true e =
+        let o : 1 ≤ times i (distinct_after seen xs) = among_times i (distinct_after seen xs) (among_from i _ m) in
+        let l : times i (distinct_after seen xs) ≤ cond (is_among i seen) 0 1 = first_once seen xs i in
+        let z : ◌≡◌ {A = ℕ} (cond (is_among i seen) 0 1) 0 = ap (λ b. cond b 0 1) e in
+        absurd (omega arith)
+
+-- and is one of the list
+pub first_from : (seen xs : List ObjectId) (i : ObjectId) → Contains (distinct_after seen xs) i → Contains xs i
+first_from seen [] i m = m
+first_from seen (x ∷ xs) i m = go (is_among x seen) (first_from seen xs i) (first_from (x ∷ seen) xs i) m
+  where
+    go : (b : Bool) → (Contains (distinct_after seen xs) i → Contains xs i) → (Contains (distinct_after (x ∷ seen) xs) i → Contains xs i) → Contains (cond b (distinct_after seen xs) (x ∷ distinct_after (x ∷ seen) xs)) i → Contains (x ∷ xs) i
+    go true f g m = Contains-there i x xs (f m)
+    go false f g m = ⊎_elim (λ e. subst (λ y. Contains (x ∷ xs) y) e (Contains-here x xs)) (λ t. Contains-there i x xs (g t)) (Contains-cons_cases i x (distinct_after (x ∷ seen) xs) m)
+
+keeps_append : {P : ObjectId → Type 0} {xs ys first others : List ObjectId} → Keeps P xs first → Keeps P ys others → Keeps P (xs ++ ys) (first ++ others)
+keeps_append keeps_none k = k
+keeps_append (kept p h) k = kept p (keeps_append h k)
+keeps_append (passed n h) k = passed n (keeps_append h k)
+
+-- an id without children, that no end has seen, and that wasn't ready yet
+pub record IsTipDue (f : Frontier) (p : ObjectId) : Type 0 where
+  pub none_left : children_of f p ≡ 0
+  pub outside : has_seen f Ends p ≡ false
+  pub unmade : made_of f p ≡ false
+
+module _ {F : Type 0} (objects : F → Objects) (faulty : F → ObjectId → Type 0) where
+  -- what these ids in turn do to a walk
+  pub record AreStarted (old : Walk F) (ids : List ObjectId) (added : List Ready) (new : Walk F) : Type 0 where
+    pub plan : plan_of new ≡ plan_of old
+    pub depth : new.counting.depth ≡ old.counting.depth
+    pub expanded : new.counting.expanded ≡ old.counting.expanded
+    pub queue : new.counting.frontier.queue ≡ old.counting.frontier.queue
+    pub taken : new.taken ≡ old.taken
+    pub moved : (s : Side) (j : ObjectId) → reached new.counting.frontier.known s j ≡ reached old.counting.frontier.known s j
+    pub children : (p : ObjectId) → children_of new.counting.frontier p ≡ children_of old.counting.frontier p
+    pub made : (j : ObjectId) → made_of new.counting.frontier j ≡ (is_among j (ready_ids added) || made_of old.counting.frontier j)
+    pub stands : new.counting.reader.standing ≡ true → old.counting.reader.standing ≡ true
+    pub among : (r : Ready) → Contains added r → Contains ids r.id
+    pub each : (r : Ready) → Contains added r → IsFound objects faulty (plan_of old) new.counting.reader.standing r
+    pub dropped : old.counting.reader.standing ≡ true → new.counting.reader.standing ≡ false → (i : ObjectId) × Contains ids i × (is_whole_row (plan_of old).rows (row_of (plan_of old).rows i) ≡ false)
+    -- each at its first place, but for those behind ids that aren't due
+    pub due : (seen : List ObjectId) → ((j : ObjectId) → is_among j seen ≡ true → IsTipDue old.counting.frontier j → ⊥) → Keeps (IsTipDue old.counting.frontier) (distinct_after seen ids) (ready_ids added)
+
+  started_none : (old : Walk F) (ids : List ObjectId) → ((seen : List ObjectId) → ((j : ObjectId) → is_among j seen ≡ true → IsTipDue old.counting.frontier j → ⊥) → Keeps (IsTipDue old.counting.frontier) (distinct_after seen ids) []) → AreStarted old ids [] old
+  started_none old ids h = record {
+    plan = refl;
+    depth = refl;
+    expanded = refl;
+    queue = refl;
+    taken = refl;
+    moved = λ s j. refl;
+    children = λ p. refl;
+    made = λ j. refl;
+    stands = λ e. e;
+    among = λ r m. absurd (no_member r m);
+    each = λ r m. absurd (no_member r m);
+    dropped = λ a b. absurd (true≢false (sym a ∙ b));
+    due = h;
+  }
+
+  started_one : {old : Walk F} {i : ObjectId} {first : List Ready} {new : Walk F} → Starts objects faulty old i first new → AreStarted old (i ∷ []) first new
+  started_one {old} {i} (waits d) = started_none old (i ∷ []) (λ seen h. go seen (is_among i seen))
+    where
+      not_due : IsTipDue old.counting.frontier i → ⊥
+      not_due q = true≢false (sym (due_from objects faulty (children_of old.counting.frontier i) (known_of old.counting.frontier.known i) q.none_left q.outside q.unmade) ∙ d)
+
+      go : (seen : List ObjectId) (b : Bool) → Keeps (IsTipDue old.counting.frontier) (cond b [] (i ∷ [])) []
+      go seen true = keeps_none
+      go seen false = passed not_due keeps_none
+  started_one {old} {i} {new = new} (frees {r = r} d p) = record {
+    plan = p.same.plan;
+    depth = p.same.depth;
+    expanded = p.same.expanded;
+    queue = p.same.queue;
+    taken = p.same.taken;
+    moved = makes_moved objects faulty old.counting.frontier new.counting.frontier i p.made;
+    children = λ j. (makes_known objects faulty old.counting.frontier new.counting.frontier i p.made j).0;
+    made = λ j. (makes_known objects faulty old.counting.frontier new.counting.frontier i p.made j).1 ∙ ap (λ b. b || made_of old.counting.frontier j) (ap (is_same j) (sym p.id) ∙ sym (among-one j r.id));
+    stands = λ e. reads_stands objects faulty p.reads e;
+    among = λ x m. ⊎_elim (λ s. subst (λ j. Contains (i ∷ []) j) (sym p.id ∙ ap (λ y. y.id) s) (Contains-here i [])) (λ t. absurd (no_member x t)) (Contains-cons_cases x r [] m);
+    each = λ x m. ⊎_elim (λ s. subst (IsFound objects faulty (plan_of old) new.counting.reader.standing) s (record { info = p.info; before = old.counting.reader.standing; after = new.counting.reader.standing; reads = subst (λ j. Reads (objects old.counting.reader.find) (faulty old.counting.reader.find) (plan_of old).rows old.counting.reader.standing j (Ok p.info) new.counting.reader.standing) (sym p.id) p.reads; is = p.is; later = λ e. e })) (λ t. absurd (no_member x t)) (Contains-cons_cases x r [] m);
+    dropped = λ a b. (i, Contains-here i [], reads_drops objects faulty p.reads a b);
+    due = λ seen h. go seen (is_among i seen) refl h;
+  }
+    where
+      is_due_now : IsTipDue old.counting.frontier i
+      is_due_now = let parts : (children_of old.counting.frontier i ≡ 0) × (has_seen old.counting.frontier Ends i ≡ false) × (made_of old.counting.frontier i ≡ false) = due_parts objects faulty (children_of old.counting.frontier i) (known_of old.counting.frontier.known i) d in record { none_left = parts.0; outside = parts.1; unmade = parts.2 }
+
+      go : (seen : List ObjectId) (b : Bool) → is_among i seen ≡ b → ((j : ObjectId) → is_among j seen ≡ true → IsTipDue old.counting.frontier j → ⊥) → Keeps (IsTipDue old.counting.frontier) (cond b [] (i ∷ [])) (r.id ∷ [])
+      go seen true e h = absurd (h i e is_due_now)
+      go seen false e h = subst (λ j. Keeps (IsTipDue old.counting.frontier) (i ∷ []) (j ∷ [])) (sym p.id) (kept is_due_now keeps_none)
+
+  started_more : (old mid new : Walk F) (i : ObjectId) (ids : List ObjectId) (first others : List Ready) → AreStarted old (i ∷ []) first mid → AreStarted mid ids others new → AreStarted old (i ∷ ids) (first ++ others) new
+  started_more old mid new i ids first others a b = record {
+    plan = b.plan ∙ a.plan;
+    depth = b.depth ∙ a.depth;
+    expanded = b.expanded ∙ a.expanded;
+    queue = b.queue ∙ a.queue;
+    taken = b.taken ∙ a.taken;
+    moved = λ s j. b.moved s j ∙ a.moved s j;
+    children = λ p. b.children p ∙ a.children p;
+    made = λ j. b.made j ∙ ap (λ x. is_among j (ready_ids others) || x) (a.made j) ∙ joined (is_among j (ready_ids others)) (is_among j (ready_ids first)) (made_of old.counting.frontier j) ∙ ap (λ x. x || made_of old.counting.frontier j) (sym (ap (is_among j) (ids-append first others) ∙ among-append j (ready_ids first) (ready_ids others)));
+    stands = λ e. a.stands (b.stands e);
+    among = λ r m. ⊎_elim (λ l. here r.id (a.among r l)) (λ t. Contains-there r.id i ids (b.among r t)) (Contains-append_cases r first others m);
+    each = λ r m. ⊎_elim (λ l. let h : IsFound objects faulty (plan_of old) mid.counting.reader.standing r = a.each r l in record { info = h.info; before = h.before; after = h.after; reads = h.reads; is = h.is; later = λ e. h.later (b.stands e) }) (λ t. with_plan objects faulty (plan_of old) (plan_of mid) new.counting.reader.standing r a.plan (b.each r t)) (Contains-append_cases r first others m);
+    dropped = λ e d. drops mid.counting.reader.standing refl e d;
+    due = λ seen h. due seen h;
+  }
+    where
+      joined : (x y z : Bool) → (x || (y || z)) ≡ ((y || x) || z)
+      joined true true z = refl
+      joined true false z = refl
+      joined false true z = refl
+      joined false false z = refl
+
+      here : (j : ObjectId) → Contains (i ∷ []) j → Contains (i ∷ ids) j
+      here j m = ⊎_elim (λ s. subst (λ x. Contains (i ∷ ids) x) s (Contains-here i ids)) (λ t. absurd (no_member j t)) (Contains-cons_cases j i [] m)
+
+      drops : (m : Bool) → mid.counting.reader.standing ≡ m → old.counting.reader.standing ≡ true → new.counting.reader.standing ≡ false → (j : ObjectId) × Contains (i ∷ ids) j × (is_whole_row (plan_of old).rows (row_of (plan_of old).rows j) ≡ false)
+      drops true m e d =
+          let h : (j : ObjectId) × Contains ids j × (is_whole_row (plan_of mid).rows (row_of (plan_of mid).rows j) ≡ false) = b.dropped m d in
+          (h.0, Contains-there h.0 i ids h.1, subst (λ p. is_whole_row p.rows (row_of p.rows h.0) ≡ false) a.plan h.2)
+      drops false m e d =
+          let h : (j : ObjectId) × Contains (i ∷ []) j × (is_whole_row (plan_of old).rows (row_of (plan_of old).rows j) ≡ false) = a.dropped e m in
+          (h.0, here h.0 h.1, h.2)
+
+      -- what is due later was due before
+      earlier : (p : ObjectId) → IsTipDue mid.counting.frontier p → IsTipDue old.counting.frontier p
+      earlier p d = record { none_left = sym (a.children p) ∙ d.none_left; outside = sym (ap is_seen (a.moved Ends p)) ∙ d.outside; unmade = go (made_of old.counting.frontier p) refl }
+        where
+          go : (x : Bool) → made_of old.counting.frontier p ≡ x → x ≡ false
+          go false e = refl
+          go true e = absurd (true≢false (sym (a.made p ∙ or_right (is_among p (ready_ids first)) (made_of old.counting.frontier p) e) ∙ d.unmade))
+
+      -- and the other way about, but for the one that became ready
+      later : (p : ObjectId) → is_among p (i ∷ []) ≡ false → IsTipDue old.counting.frontier p → IsTipDue mid.counting.frontier p
+      later p n d = record { none_left = a.children p ∙ d.none_left; outside = ap is_seen (a.moved Ends p) ∙ d.outside; unmade = a.made p ∙ ap (λ x. is_among p (ready_ids first) || x) d.unmade ∙ go (is_among p (ready_ids first)) refl }
+        where
+          go : (x : Bool) → is_among p (ready_ids first) ≡ x → (x || false) ≡ false
+          go false e = refl
+          go true e =
+              let r : (r : Ready) × Contains first r × (r.id ≡ p) = from_ids first p (among_is p (ready_ids first) e) in
+              absurd (true≢false (sym (among_from p (i ∷ []) (subst (λ j. Contains (i ∷ []) j) r.2 (a.among r.0 r.1))) ∙ n))
+
+      due : (seen : List ObjectId) → ((j : ObjectId) → is_among j seen ≡ true → IsTipDue old.counting.frontier j → ⊥) → Keeps (IsTipDue old.counting.frontier) (distinct_after seen (i ∷ ids)) (ready_ids (first ++ others))
+      due seen h = subst (Keeps (IsTipDue old.counting.frontier) (distinct_after seen (i ∷ ids))) (sym (ids-append first others)) (go (is_among i seen) refl)
+        where
+          one_is : (j : ObjectId) → is_among j (i ∷ []) ≡ true → j ≡ i
+          one_is j k = same_is j i (sym (among-one j i) ∙ k)
+
+          rest : (those : List ObjectId) → ((j : ObjectId) → is_among j those ≡ true → IsTipDue mid.counting.frontier j → ⊥) → ((j : ObjectId) → is_among j (i ∷ []) ≡ true → IsTipDue old.counting.frontier j → is_among j those ≡ true) → Keeps (IsTipDue old.counting.frontier) (distinct_after those ids) (ready_ids others)
+          rest those n k =
+              keeps_on (λ j m d. earlier j d)
+              (λ j m d. later j (apart j m d (is_among j (i ∷ [])) refl) d)
+              (b.due those n)
+            where
+              apart : (j : ObjectId) → Contains (distinct_after those ids) j → IsTipDue old.counting.frontier j → (x : Bool) → is_among j (i ∷ []) ≡ x → x ≡ false
+              apart j m d false e = refl
+              apart j m d true e = absurd (true≢false (sym (k j e d) ∙ first_apart those ids j m))
+
+          go : (x : Bool) → is_among i seen ≡ x → Keeps (IsTipDue old.counting.frontier) (cond x (distinct_after seen ids) (i ∷ distinct_after (i ∷ seen) ids)) (ready_ids first ++ ready_ids others)
+          go true e = keeps_append (subst (λ x. Keeps (IsTipDue old.counting.frontier) (cond x [] (i ∷ [])) (ready_ids first)) e (a.due seen h)) (rest seen (λ j k d. h j k (earlier j d)) (λ j k d. subst (λ y. is_among y seen ≡ true) (sym (one_is j k)) e))
+          go false e = keeps_append head (rest (i ∷ seen) (λ j k d. ⊎_elim (λ q. made_now (subst (IsTipDue mid.counting.frontier) (same_is j i q) d)) (λ q. h j q (earlier j d)) (or_cases (is_same j i) (is_among j seen) k)) (λ j k d. or_left (is_same j i) (is_among j seen) (sym (among-one j i) ∙ k)))
+            where
+              head : Keeps (IsTipDue old.counting.frontier) (i ∷ []) (ready_ids first)
+              head = subst (λ x. Keeps (IsTipDue old.counting.frontier) (cond x [] (i ∷ [])) (ready_ids first)) e (a.due seen h)
+
+              made_now : IsTipDue mid.counting.frontier i → ⊥
+              made_now d = true≢false (sym (a.made i ∙ or_left (is_among i (ready_ids first)) _ (among_from i _ (keeps_in (IsTipDue old.counting.frontier) head i (Contains-here i []) (earlier i d)))) ∙ d.unmade)
+
+  -- all of them
+  pub started : {old : Walk F} {ids : List ObjectId} {added : List Ready} {new : Walk F} → StartsAll objects faulty old ids added new → AreStarted old ids added new
+  started {old} none = started_none old [] (λ seen h. keeps_none)
+  started {old} {new = new} (more {mid = mid} {i = i} {ids = ids} {first = first} {others = others} s rest) = started_more old mid new i ids first others (started_one s) (started rest)

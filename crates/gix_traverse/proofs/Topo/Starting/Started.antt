@@ -1,0 +1,264 @@
+-- What holds of a topological walk that has begun.
+use Rattle.std.specs.Prelude.{◌≡◌, ◌≤◌, [], ◌++◌, Bool, true, false, ◌||◌, Contains}
+use Rattle.std.proofs.Common.{refl, sym, ap, subst, inl, inr, ⊎_elim, ◌∙◌, arith}
+use Rattle.std.proofs.lemmas.Bool.{true≢false, false≢true}
+use Rattle.std.proofs.lemmas.List.Elements.{Contains-append_left}
+use Rattle.std.specs.FinSet as set
+use Rattle.gix_parts.specs.declared.hash.ObjectId.{ObjectId}
+use Rattle.gix_parts.specs.Id.{id_cmp, is_among}
+use Rattle.gix_parts.specs.Object.{Objects}
+use Rattle.gix_parts.specs.Rows.{row_of}
+use Rattle.gix_parts.proofs.IdFacts.{among_from, among_is}
+use Rattle.gix_traverse.specs.declared.commit.topo.frontier.Side.{Side}
+use Rattle.gix_traverse.specs.declared.commit.topo.frontier.Side.TheVariants.{Tips, Ends}
+use Rattle.gix_traverse.specs.declared.commit.topo.counting.Counting.{Counting}
+use Rattle.gix_traverse.specs.declared.commit.topo.iter.Walk.{Walk}
+use Rattle.gix_traverse.specs.History.Agreeing.{IsAgreeing}
+use Rattle.gix_traverse.specs.Topo.Depth.{infinity, known_generation}
+use Rattle.gix_traverse.specs.Topo.Inside.Frontier.{is_seen, is_done, reached}
+use Rattle.gix_traverse.specs.History.Commits.{time_of}
+use Rattle.gix_traverse.specs.History.Reach.{start}
+use Rattle.gix_traverse.specs.History.Reading.{is_whole_row}
+use Rattle.gix_traverse.specs.Topo.Inside.ReadySet.{ready_in}
+use Rattle.gix_traverse.specs.Topo.Inside.Releasing.{plan_of, counted_by, walk_of}
+use Rattle.gix_traverse.specs.Topo.Inside.Searched.{IsCounted, IsSearched, next_by}
+use Rattle.gix_traverse.specs.Simple.Laws.{AreDistinct}
+use Rattle.gix_traverse.specs.Topo.Inside.Starting.{HasBegun, IsBegunWalk, by_rising_time}
+use Rattle.gix_traverse.specs.Orders.TopoOrder.{Keeps, first_places}
+use Rattle.gix_traverse.specs.Topo.Inside.Steady.{IsDone, IsTallied, IsSteady, HasCounted, IsHeld, unasked, unasked_of}
+use Rattle.gix_traverse.specs.Topo.Walk.{TopoPlan, Ready, ready_ids, first_depth, HoldsReady, IsNumberOf, IsInDepth, IsBrokenRow, IsCounting, IsSound, IsStored, IsMember, IsStarted, StartsWith, walked_of, IsFound}
+use Rattle.gix_traverse.specs.Orders.WalkSet.{IsChildless}
+use Rattle.gix_traverse.proofs.Topo.Taking.BecomeReady.{none_left, outside, unseen, all_taken}
+use Rattle.gix_traverse.proofs.Topo.Counting.Expanded.{number_same, broken}
+use Rattle.gix_traverse.proofs.Shared.NewIds.{times}
+use Rattle.gix_traverse.proofs.Topo.Ready.IsReady.{keeps_from, keeps_times, first_once, times_once, among_by}
+use Rattle.gix_traverse.proofs.Topo.Taking.AllReleases.{keeps_on}
+use Rattle.gix_traverse.proofs.Topo.Counting.Rest.{least_within}
+use Rattle.gix_traverse.proofs.Topo.Ready.RisingTime.{by_time_moves, in_by_time, by_time_map}
+use Rattle.gix_traverse.proofs.Topo.Counting.BothSearches.{searched_same}
+use Rattle.gix_traverse.proofs.Topo.Starting.AllTips.{IsTipDue, AreStarted, started, first_from}
+use Rattle.gix_traverse.proofs.Topo.Reading.FoundIsStored.{found_stored}
+use Rattle.gix_traverse.proofs.Topo.Counting.Children.{children_of, made_of, tally_same}
+use Rattle.gix_traverse.proofs.Topo.Run.Theorem.{holds_in, holds_times, times-permutation}
+
+or_false : (b : Bool) → (b || false) ≡ b
+or_false true = refl
+or_false false = refl
+
+module _ {F : Type 0} (objects : F → Objects) (faulty : F → ObjectId → Type 0) (plan : TopoPlan F) (w : Walk F) (h : IsBegunWalk objects faulty plan w) where
+  abbrev p : TopoPlan F
+  p = plan_of w
+
+  abbrev old : Counting F
+  old = h.first.counting
+
+  abbrev new : Counting F
+  new = w.counting
+
+  abbrev Member : ObjectId → Type 0
+  Member = IsMember objects (plan_of w)
+
+  begun : HasBegun objects faulty p old
+  begun = subst (λ q. HasBegun objects faulty q old) (sym h.same) h.begun
+
+  all : AreStarted objects faulty h.first p.tips h.starts h.mid
+  all = subst (λ q. AreStarted objects faulty h.first q.tips h.starts h.mid) (sym h.same) (started objects faulty h.all)
+
+  first_plan : plan_of h.first ≡ p
+  first_plan = h.before ∙ sym h.same
+
+  sorted : HoldsReady p.sorting (by_rising_time h.starts) (ready_in w.ready)
+  sorted = subst (λ q. HoldsReady q.sorting (by_rising_time h.starts) (ready_in w.ready)) (sym h.same) h.sorted
+
+  -- what stays as it was before
+  moved : (s : Side) (j : ObjectId) → reached new.frontier.known s j ≡ reached old.frontier.known s j
+  moved s j = ap (λ c. reached c.frontier.known s j) h.counting ∙ all.moved s j
+
+  same_children : (j : ObjectId) → children_of new.frontier j ≡ children_of old.frontier j
+  same_children j = ap (λ c. children_of c.frontier j) h.counting ∙ all.children j
+
+  same_queue : new.frontier.queue ≡ old.frontier.queue
+  same_queue = ap (λ c. c.frontier.queue) h.counting ∙ all.queue
+
+  same_depth : new.depth ≡ old.depth
+  same_depth = ap (λ c. c.depth) h.counting ∙ all.depth
+
+  same_expanded : new.expanded ≡ old.expanded
+  same_expanded = ap (λ c. c.expanded) h.counting ∙ all.expanded
+
+  stands : new.reader.standing ≡ true → old.reader.standing ≡ true
+  stands e = all.stands (sym (ap (λ c. c.reader.standing) h.counting) ∙ e)
+
+  none_taken : w.taken ≡ set.empty
+  none_taken = h.taken ∙ all.taken ∙ h.untaken
+
+  untaken : (i : ObjectId) → set.contains w.taken i ≡ false
+  untaken i = ap (λ s. set.contains s i) none_taken ∙ set.contains-empty id_cmp i
+
+  to_done : (i : ObjectId) → IsDone new.frontier i → IsDone old.frontier i
+  to_done i d = ⊎_elim (λ e. inl (sym (ap is_done (moved Tips i)) ∙ e)) (λ e. inr (sym (ap is_done (moved Ends i)) ∙ e)) d
+
+  from_done : (i : ObjectId) → IsDone old.frontier i → IsDone new.frontier i
+  from_done i d = ⊎_elim (λ e. inl (ap is_done (moved Tips i) ∙ e)) (λ e. inr (ap is_done (moved Ends i) ∙ e)) d
+
+  -- the ready commits
+  in_starts : (r : Ready) → Contains (ready_in w.ready) r → Contains h.starts r
+  in_starts r m = in_by_time (λ s. s.time) h.starts r (holds_in p.sorting (by_rising_time h.starts) (ready_in w.ready) sorted r m)
+
+  ready_times : (i : ObjectId) → times i (ready_ids (ready_in w.ready)) ≡ times i (ready_ids h.starts)
+  ready_times i = holds_times p.sorting (by_rising_time h.starts) (ready_in w.ready) sorted i ∙ times-permutation i h.starts (by_rising_time h.starts) (by_time_moves (λ r. r.time) h.starts)
+
+  ready_among : (i : ObjectId) → is_among i (ready_ids h.starts) ≡ is_among i (ready_ids (ready_in w.ready))
+  ready_among i = among_by i (ready_ids h.starts) (ready_ids (ready_in w.ready)) (sym (ready_times i))
+
+  start_of : (i : ObjectId) → Contains (ready_ids (ready_in w.ready)) i → Contains (ready_ids h.starts) i
+  start_of i m = among_is i (ready_ids h.starts) (ready_among i ∙ among_from i _ m)
+
+  kept : Keeps (IsTipDue old.frontier) (first_places p.tips) (ready_ids h.starts)
+  kept = all.due [] (λ j e. absurd (false≢true e))
+
+  distinct : AreDistinct (ready_ids (ready_in w.ready))
+  distinct = times_once (ready_ids (ready_in w.ready)) (λ i.
+      let a : times i (ready_ids (ready_in w.ready)) ≡ times i (ready_ids h.starts) = ready_times i in
+      let b : times i (ready_ids h.starts) ≤ times i (first_places p.tips) = keeps_times (IsTipDue old.frontier) kept i in
+      let c : times i (first_places p.tips) ≤ 1 = first_once [] p.tips i in
+      omega arith)
+
+  is_tip : (i : ObjectId) → Contains (ready_ids (ready_in w.ready)) i → Contains p.tips i
+  is_tip i m = first_from [] p.tips i (keeps_from (IsTipDue old.frontier) kept i (start_of i m)).0
+
+  found : (r : Ready) → Contains (ready_in w.ready) r → IsFound objects faulty p new.reader.standing r
+  found r m = subst (λ c. IsFound objects faulty p c.reader.standing r) (sym h.counting) (subst (λ q. IsFound objects faulty q h.mid.counting.reader.standing r) first_plan (all.each r (in_starts r m)))
+
+  made_is : (i : ObjectId) → made_of new.frontier i ≡ is_among i (ready_ids h.starts)
+  made_is i = ap (λ c. made_of c.frontier i) h.counting ∙ all.made i ∙ ap (λ b. is_among i (ready_ids h.starts) || b) (begun.unmade i) ∙ or_false (is_among i (ready_ids h.starts))
+
+  depth_is : new.depth ≡ first_depth p
+  depth_is = same_depth ∙ begun.depth
+
+  -- no tip is below the depth
+  tip_high : (i : ObjectId) → Contains p.tips i → old.depth ≤ known_generation p.rows i
+  tip_high i m = subst (λ d. d ≤ known_generation p.rows i) (sym begun.depth) (least_within p.rows infinity (p.tips ++ p.ends) i (Contains-append_left p.tips p.ends i m))
+
+  module _ (agrees : IsAgreeing (objects p.store) (faulty p.store) p.rows) where
+    before : IsCounted (objects p.store) p.rows p.parents p.tips p.ends (set.contains w.taken) old.frontier
+    before = begun.counted (set.contains w.taken) untaken agrees
+
+    tallied : IsTallied objects w
+    tallied = record {
+      counted = record {
+        searched = searched_same (objects p.store) p.rows p.parents p.tips p.ends new.frontier.queue old.frontier.known new.frontier.known moved (subst (λ q. IsSearched (objects p.store) p.rows p.parents p.tips p.ends q old.frontier.known) (sym same_queue) before.searched);
+        tally = tally_same (next_by (objects p.store) p.parents Tips) (λ i. is_done (reached old.frontier.known Tips i)) (λ i. is_done (reached new.frontier.known Tips i)) (set.contains w.taken) (children_of old.frontier) (children_of new.frontier) (λ j. ap is_done (moved Tips j)) same_children before.tally;
+      };
+      begun = λ side i m. ap is_seen (moved side i) ∙ begun.begun side i m;
+      done = λ r m. let tip : Contains p.tips r.id = all.among r (in_starts r m) in ap is_done (moved Tips r.id) ∙ begun.explored agrees Tips r.id (start tip) (tip_high r.id tip);
+    }
+
+  module _ (sound : IsSound objects faulty p) where
+    counted : IsCounted (objects p.store) p.rows p.parents p.tips p.ends (set.contains w.taken) old.frontier
+    counted = before sound.agreeing
+
+    due_childless : (i : ObjectId) → Contains p.tips i → IsTipDue old.frontier i → IsChildless (walked_of objects p) Member i
+    due_childless i m d = record {
+      member = record {
+        reached = start m;
+        outside = outside (objects p.store) (faulty p.store) p.rows p.parents p.tips p.ends sound.agreeing sound.tips_whole sound.ends_whole old.frontier old.depth (begun.explored sound.agreeing) (λ side. (counted.searched.search side).within) (set.contains w.taken) (children_of old.frontier) counted.tally i d.outside (tip_high i m);
+      };
+      alone = λ c k. true≢false (sym (none_left (objects p.store) (faulty p.store) p.rows p.parents p.tips p.ends sound.agreeing sound.tips_whole sound.ends_whole old.frontier old.depth (begun.explored sound.agreeing) (λ side. (counted.searched.search side).within) (set.contains w.taken) (children_of old.frontier) counted.tally i d.none_left (tip_high i m) c k) ∙ untaken c);
+    }
+
+    childless_due : (i : ObjectId) → IsChildless (walked_of objects p) Member i → IsTipDue old.frontier i
+    childless_due i q = record {
+      none_left = all_taken (objects p.store) (faulty p.store) p.rows p.parents p.tips p.ends sound.agreeing sound.tips_whole sound.ends_whole old.frontier old.depth (begun.explored sound.agreeing) (λ side. (counted.searched.search side).within) (set.contains w.taken) (children_of old.frontier) counted.tally i q.member (λ c k. absurd (q.alone c k));
+      outside = unseen (objects p.store) (faulty p.store) p.rows p.parents p.tips p.ends sound.agreeing sound.tips_whole sound.ends_whole old.frontier old.depth (begun.explored sound.agreeing) (λ side. (counted.searched.search side).within) (set.contains w.taken) (children_of old.frontier) counted.tally i q.member;
+      unmade = begun.unmade i;
+    }
+
+    kept_childless : Keeps (IsChildless (walked_of objects p) Member) (first_places p.tips) (ready_ids h.starts)
+    kept_childless = keeps_on (λ i m d. due_childless i (first_from [] p.tips i m) d) (λ i m q. childless_due i q) kept
+
+    stored : (r : Ready) → Contains (ready_in w.ready) r → IsStored objects p new.reader.standing r
+    stored r m = found_stored objects faulty p sound (found r m) (sound.tips_whole r.id (start (all.among r (in_starts r m))))
+
+    start_time : (r : Ready) → Contains h.starts r → r.time ≡ time_of (objects p.store) r.id
+    start_time r m = (found_stored objects faulty p sound (subst (λ q. IsFound objects faulty q h.mid.counting.reader.standing r) first_plan (all.each r m)) (sound.tips_whole r.id (start (all.among r m)))).time
+
+    starts : StartsWith objects faulty (unasked objects faulty) p (ready_in w.ready)
+    starts = record {
+      childless = ready_ids h.starts;
+      starts = by_rising_time h.starts;
+      kept = kept_childless;
+      sorted = by_time_map (λ r. r.id) (λ r. r.time) (time_of (objects p.store)) h.starts start_time;
+      holds = sorted;
+    }
+
+    -- a tip's row with a fault may have dropped the rows
+    broken_row : (new.reader.standing ≡ false) → (old.reader.standing ≡ false → IsBrokenRow objects p old.depth) → IsBrokenRow objects p new.depth
+    broken_row e before = subst (IsBrokenRow objects p) (sym same_depth) (go old.reader.standing refl)
+      where
+        go : (b : Bool) → old.reader.standing ≡ b → IsBrokenRow objects p old.depth
+        go false d = before d
+        go true d =
+            let k : (i : ObjectId) × Contains p.tips i × (is_whole_row (plan_of h.first).rows (row_of (plan_of h.first).rows i) ≡ false) = all.dropped d (sym (ap (λ c. c.reader.standing) h.counting) ∙ e) in
+            broken objects faulty p sound.agreeing old.depth k.0 (inl (start k.1)) (tip_high k.0 k.1) (subst (λ q. is_whole_row q.rows (row_of q.rows k.0) ≡ false) first_plan k.2)
+
+    counts : HasCounted objects p new
+    counts = let c : HasCounted objects p old = begun.counts sound in record {
+      number = number_same (IsDone old.frontier) (IsDone new.frontier) old.expanded new.expanded (sym same_expanded) from_done to_done c.number;
+      high = λ e i d. subst (λ n. n ≤ known_generation p.rows i) (sym same_depth) (c.high (stands e) i (to_done i d));
+      dropped = λ e. broken_row e c.dropped;
+    }
+
+    counting : IsCounting objects p (counted_by new)
+    counting = let c : IsCounting objects p (counted_by old) = begun.counting sound in record {
+      exact = λ e. subst (λ d. IsNumberOf (IsInDepth objects p d) new.expanded) (sym same_depth) (subst (λ n. IsNumberOf (IsInDepth objects p old.depth) n) (sym same_expanded) (c.exact (stands e)));
+      dropped = λ e. broken_row e c.dropped;
+    }
+
+    made_childless : (i : ObjectId) → made_of new.frontier i ≡ true → IsChildless (walked_of objects p) Member i
+    made_childless i e = (keeps_from (IsChildless (walked_of objects p) Member) kept_childless i (among_is i (ready_ids h.starts) (sym (made_is i) ∙ e))).1
+
+    steady : IsSteady objects w
+    steady = record { member = λ i e. (made_childless i e).member; children = λ i d e k. absurd ((made_childless i e).alone d k) }
+
+  -- a walk that has begun is as a built one is to be
+  pub started_on : IsStarted objects faulty (unasked objects faulty) (unasked_of objects faulty w)
+  started_on = record {
+    untaken = none_taken;
+    distinct = distinct;
+    tips = is_tip;
+    starts = starts;
+    stored = stored;
+    depth = depth_is;
+    counting = counting;
+    read = begun.read;
+    found = found;
+  }
+
+  -- and may go on
+  pub begun_held : IsHeld objects faulty w
+  begun_held = record {
+    made = λ i. made_is i ∙ ready_among i ∙ ap (λ b. b || is_among i (ready_ids (ready_in w.ready))) (sym (untaken i));
+    distinct = distinct;
+    untaken = λ i m. untaken i;
+    found = found;
+    tallied = tallied;
+    steady = steady;
+    counts = counts;
+    idle = λ e. same_queue ∙ begun.idle e;
+    read = begun.read;
+  }
+
+-- a walk starts as it does, whatever predicate it has
+pub started_as : {F P : Type 0} (objects : F → Objects) (faulty : F → ObjectId → Type 0) (answers : P → ObjectId → Bool → P → Type 0) (w : Walk F) (p : P) → IsStarted objects faulty (unasked objects faulty) (unasked_of objects faulty w) → IsStarted objects faulty answers (walk_of w p)
+started_as objects faulty answers w p h = record {
+  untaken = h.untaken;
+  distinct = h.distinct;
+  tips = h.tips;
+  starts = λ sound. let s : StartsWith objects faulty (unasked objects faulty) (plan_of w) (ready_in w.ready) = h.starts sound in record { childless = s.childless; starts = s.starts; kept = s.kept; sorted = s.sorted; holds = s.holds };
+  found = h.found;
+  stored = h.stored;
+  depth = h.depth;
+  counting = h.counting;
+  read = h.read;
+}

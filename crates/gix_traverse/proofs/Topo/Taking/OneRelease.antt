@@ -1,0 +1,83 @@
+-- How a commit becomes ready.
+use Rattle.std.specs.Prelude.{◌≡◌, ◌<◌, ℕ, zero, suc, ℤ, pos, List, [], ◌∷◌, Bool, Option, Some, None, Ok, Contains, length}
+use Rattle.std.proofs.Common.{sym, ap, subst, ◌∙◌, arith, get_or}
+use Rattle.std.specs.Option.{unwrap_or}
+use Rattle.gix_parts.proofs.IdFacts.{Contains-here, Contains-there}
+use Rattle.gix_parts.specs.declared.hash.ObjectId.{ObjectId}
+use Rattle.gix_parts.specs.Object.{Objects}
+use Rattle.gix_parts.specs.Rows.{GraphRow}
+use Rattle.gix_traverse.specs.declared.commit.Info.{Info}
+use Rattle.gix_traverse.specs.declared.commit.topo.Error.{Error}
+use Rattle.gix_traverse.specs.declared.commit.topo.iter.Walk.{Walk}
+use Rattle.gix_traverse.specs.History.Reading.{rows_of, Reads, by_row, by_text, IsReadFault}
+use Rattle.std.specs.FinSet as set
+use Rattle.gix_parts.specs.Id.{id_cmp}
+use Rattle.gix_traverse.specs.declared.commit.topo.counting.Counting.{Counting}
+use Rattle.gix_traverse.specs.Topo.Depth.{least}
+use Rattle.gix_traverse.specs.Topo.Inside.Exploring.{Explores, IsRested, IsExploringFault}
+use Rattle.gix_traverse.specs.History.Commits.{by_mode}
+use Rattle.gix_traverse.specs.Orders.TopoOrder.{last_places}
+use Rattle.gix_traverse.specs.Topo.Walk.{Ready}
+use Rattle.gix_traverse.specs.Topo.Inside.Releasing.{IsPushFault, parent, lowered, with_taken, TakesOne, IsTakingFault, exploring, releasing, ReleasesAll, IsFaultAmong}
+
+-- what is read has the id that was asked for, and a time
+pub record IsTimedInfo (i : ObjectId) (info : Info) (time : ℤ) : Type 0 where
+  pub id : info.id ≡ i
+  pub same_time : info.commit_time ≡ Some time
+
+abbrev pub or_zero : Option ℤ → ℤ
+or_zero None = pos 0
+or_zero (Some t) = t
+
+pub reads_timed : {objects : Objects} {faulty : ObjectId → Type 0} {rows : List GraphRow} {standing : Bool} {i : ObjectId} {info : Info} {new : Bool} → Reads objects faulty rows standing i (Ok info) new → IsTimedInfo i info (or_zero info.commit_time)
+reads_timed (by_row s r) = record { id = r.info_is.same_id; same_time = timed _ r.info_is.same_time }
+  where
+    timed : {o : Option ℤ} (t : ℤ) → o ≡ Some t → o ≡ Some (or_zero o)
+    timed t e = e ∙ ap (λ x. Some (or_zero x)) (sym e)
+reads_timed (by_text n t) = record { id = t.2.0.same_id; same_time = timed _ t.2.0.same_time }
+  where
+    timed : {o : Option ℤ} (t : ℤ) → o ≡ Some t → o ≡ Some (or_zero o)
+    timed t e = e ∙ ap (λ x. Some (or_zero x)) (sym e)
+
+module _ {F : Type 0} (objects : F → Objects) (faulty : F → ObjectId → Type 0) where
+  pub fault_of_parent : (old : Walk F) (i : ObjectId) (e : Error) (info : Info) (standing : Bool) (find : F) (p : ObjectId) → find ≡ old.counting.reader.find → Reads (objects old.counting.reader.find) (faulty old.counting.reader.find) (rows_of old.counting.reader.graph) old.counting.reader.standing i (Ok info) standing → Contains info.parent_ids.items p → IsReadFault (objects find) (faulty find) p e → IsPushFault objects faulty old i e
+  fault_of_parent old i e info standing find p same r m f = parent r m (subst (λ x. IsReadFault (objects x) (faulty x) p e) same f)
+
+-- an item at an index is in the list
+pub at_index : {X : Type 0} (xs ys : List X) (k : ℕ) (d : X) → ys ≡ xs → k < length ys → Contains xs (get_or ys k d)
+at_index {X} xs ys k d e l = subst (λ zs. Contains zs (get_or ys k d)) e (at ys k l)
+  where
+    at : (zs : List X) (k : ℕ) → k < length zs → Contains zs (get_or zs k d)
+    at [] k l = absurd (omega arith)
+    at (z ∷ zs) zero l = Contains-here z zs
+    at (z ∷ zs) (suc k) l = Contains-there (get_or zs k d) z zs (at zs k (omega arith))
+
+pub time_told : (o : Option ℤ) (d r : ℤ) → o ≡ Some (or_zero o) → r ≡ unwrap_or o d → Some (or_zero o) ≡ Some r
+time_told None d r e u = cc
+time_told (Some t) d r e u = ap Some (sym u)
+
+-- a commit is taken, put together from what the parts did
+module _ {F : Type 0} (objects : F → Objects) (faulty : F → ObjectId → Type 0) (old : Walk F) (r : Ready) (low : Counting F) (named ids : List ObjectId) (by : named ≡ by_mode old.counting.parents r.parents) (lows : low ≡ record old.counting { depth = least (rows_of old.counting.reader.graph) old.counting.depth named }) (at : ids ≡ last_places named) where
+  low_is : low ≡ lowered objects faulty old r
+  low_is = lows ∙ ap (λ those. record old.counting { depth = least (rows_of old.counting.reader.graph) old.counting.depth those }) by
+
+  ids_are : ids ≡ last_places (by_mode old.counting.parents r.parents)
+  ids_are = at ∙ ap last_places by
+
+  pub explores_low : (explored : Counting F) → Explores objects faulty low explored → Explores objects faulty (lowered objects faulty old r) explored
+  explores_low explored e = subst (λ c. Explores objects faulty c explored) low_is e
+
+  pub fault_low : (e : Error) → IsExploringFault objects faulty low e → IsTakingFault objects faulty old r e
+  fault_low e f = exploring (subst (λ c. IsExploringFault objects faulty c e) low_is f)
+
+  module _ (explored : Counting F) (taken : set.FinSet id_cmp) (is : taken ≡ set.insert old.taken r.id) (e : Explores objects faulty low explored) (rests : IsRested explored.reader.standing explored.depth explored.frontier.queue) where
+    pub takes_one : (added : List Ready) (new : Walk F) → ReleasesAll objects faulty (record old { counting = explored; taken = taken }) ids added new → TakesOne objects faulty old r added new
+    takes_one added new all = record {
+      explored = explored;
+      explores = explores_low explored e;
+      rested = rests;
+      releases = subst (λ those. ReleasesAll objects faulty (with_taken objects faulty old explored r) those added new) ids_are (subst (λ t. ReleasesAll objects faulty (record old { counting = explored; taken = t }) ids added new) is all);
+    }
+
+    pub fault_among : (fault : Error) → IsFaultAmong objects faulty (record old { counting = explored; taken = taken }) ids fault → IsTakingFault objects faulty old r fault
+    fault_among fault f = releasing (explores_low explored e) rests (subst (λ those. IsFaultAmong objects faulty (with_taken objects faulty old explored r) those fault) ids_are (subst (λ t. IsFaultAmong objects faulty (record old { counting = explored; taken = t }) ids fault) is f))

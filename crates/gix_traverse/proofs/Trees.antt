@@ -1,0 +1,12 @@
+-- An entry that a walk shows its delegate, by the calls that were made.
+pub mod Shown
+-- The walk breadth first.
+pub mod Levels
+-- The walk depth first.
+pub mod Depth
+-- The recorder as a delegate.
+pub mod Recorder
+-- Why the walks end.
+pub mod Work
+-- The laws of both walks.
+pub mod Theorems

@@ -1,5 +1,0 @@
-use Rattle.gix_traverse.proofs.TopoEndFacts.{asks_once}
-use Rattle.gix_traverse.proofs.laws_topo.topo_asks_once.Goals as goal
-
-pub returns : goal.returns
-returns g c = λ walk new list h d. asks_once g.F.Find.objects g.F.Find.faulty g.P.Predicate.answers list walk new h d

@@ -1,5 +1,0 @@
-use Rattle.gix_traverse.proofs.TopoEndFacts.{may_left}
-use Rattle.gix_traverse.proofs.laws_topo.topo_ends.Goals as goal
-
-pub returns : goal.returns
-returns g c = λ walk list may. may_left g.F.Find.objects g.F.Find.faulty g.P.Predicate.answers list walk may

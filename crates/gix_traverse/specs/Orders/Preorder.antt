@@ -1,0 +1,16 @@
+-- The order of a walk that shows a tree right behind its entry.
+use Rattle.std.specs.Prelude.{◌≡◌, List, [], ◌∷◌, ◌++◌, Bool, true, false}
+use Rattle.gix_parts.specs.declared.hash.ObjectId.{ObjectId}
+use Rattle.gix_parts.specs.TreeItems.{TreeEntry}
+use Rattle.gix_traverse.specs.Trees.Delegate.{Action}
+use Rattle.gix_traverse.specs.Trees.Visits.{Place, Visit, visit, inside, Leaves, Enters, Breaks, outcome}
+
+module _ (entries : ObjectId → List TreeEntry) where
+  -- The visits of entries that stand in one tree, and whether the last was answered `Break`: an entry, where the walk goes
+  -- into it what its tree shows, and then the entries behind it.
+  pub data IsPreorder : Place → List TreeEntry → List Visit → Bool → Type 0 where
+    none : {p : Place} → IsPreorder p [] [] false
+    leaves : {p : Place} {e : TreeEntry} {a : Action} {es : List TreeEntry} {vs : List Visit} {broken : Bool} → outcome (visit p e a) ≡ Leaves → IsPreorder p es vs broken → IsPreorder p (e ∷ es) (visit p e a ∷ vs) broken
+    enters : {p : Place} {e : TreeEntry} {a : Action} {es : List TreeEntry} {ws vs : List Visit} {broken : Bool} → outcome (visit p e a) ≡ Enters → IsPreorder (inside p e) (entries e.id) ws false → IsPreorder p es vs broken → IsPreorder p (e ∷ es) (visit p e a ∷ (ws ++ vs)) broken
+    broken_inside : {p : Place} {e : TreeEntry} {a : Action} {es : List TreeEntry} {ws : List Visit} → outcome (visit p e a) ≡ Enters → IsPreorder (inside p e) (entries e.id) ws true → IsPreorder p (e ∷ es) (visit p e a ∷ ws) true
+    breaks : {p : Place} {e : TreeEntry} {a : Action} {es : List TreeEntry} → outcome (visit p e a) ≡ Breaks → IsPreorder p (e ∷ es) (visit p e a ∷ []) true

@@ -1,0 +1,12 @@
+-- What the walk holds, and one step of it.
+pub mod Walk
+-- What the builder calls change.
+pub mod Building
+-- What painting marks, which rows it leaves, and when it fails.
+pub mod Painting
+-- Which fault of the walk a fault of a look-up is.
+pub mod Errors
+-- The words of the laws over whole runs.
+pub mod Laws
+-- The code's own steps. Nobody but a maintainer needs them.
+pub mod Inside

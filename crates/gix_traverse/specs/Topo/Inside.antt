@@ -1,0 +1,16 @@
+-- What is known of an id, by marks.
+pub mod Known
+-- The queue and the table of both searches.
+pub mod Frontier
+-- How both searches go on.
+pub mod Exploring
+-- What both searches have seen and done.
+pub mod Searched
+-- How ready commits are held.
+pub mod ReadySet
+-- How the parents of a taken commit become ready.
+pub mod Releasing
+-- How a walk starts.
+pub mod Starting
+-- The invariant between two calls.
+pub mod Steady

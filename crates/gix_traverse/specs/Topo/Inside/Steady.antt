@@ -1,0 +1,84 @@
+-- What holds of a topological walk between two calls.
+use Rattle.std.specs.Prelude.{◌≡◌, ◌⊎◌, ◌≤◌, List, [], Bool, true, false, ◌||◌, Option, Some, None, Result, Ok, Err, Contains}
+use Rattle.std.specs.FinSet as set
+use Rattle.gix_parts.specs.declared.hash.ObjectId.{ObjectId}
+use Rattle.gix_parts.specs.Id.{is_among}
+use Rattle.gix_parts.specs.Object.{Objects}
+use Rattle.gix_traverse.specs.declared.commit.Info.{Info}
+use Rattle.gix_traverse.specs.declared.commit.topo.Error.{Error}
+use Rattle.gix_traverse.specs.declared.commit.topo.counting.Counting.{Counting}
+use Rattle.gix_traverse.specs.declared.commit.topo.frontier.Frontier.{Frontier}
+use Rattle.gix_traverse.specs.declared.commit.topo.frontier.Side.{Side}
+use Rattle.gix_traverse.specs.declared.commit.topo.frontier.Side.TheVariants.{Tips, Ends}
+use Rattle.gix_traverse.specs.declared.commit.topo.iter.Walk.{Walk}
+use Rattle.gix_traverse.specs.History.Agreeing.{IsAgreeing}
+use Rattle.gix_traverse.specs.Topo.Depth.{known_generation}
+use Rattle.gix_traverse.specs.Topo.Inside.Frontier.{is_done, known_of, reached}
+use Rattle.gix_traverse.specs.Topo.Inside.ReadySet.{ready_in, sorting_of}
+use Rattle.gix_traverse.specs.Topo.Inside.Releasing.{plan_of, counted_by, walk_of}
+use Rattle.gix_traverse.specs.Topo.Inside.Searched.{IsCounted, IsBegun}
+use Rattle.gix_traverse.specs.Simple.Laws.{AreDistinct}
+use Rattle.gix_traverse.specs.Simple.Walk.{IsInfo}
+use Rattle.gix_traverse.specs.Topo.Walk.{TopoPlan, TopoWalk, Ready, ready_ids, walked_of, Chooses, IsReached, IsFound, IsMember, IsNumberOf, IsBrokenRow, IsCommitRead, IsSound, IsFault, IsLate, Takes}
+use Rattle.gix_traverse.specs.Orders.WalkSet.{IsChild}
+
+-- one of the searches has read the parents of the id
+abbrev pub IsDone : Frontier → ObjectId → Type 0
+IsDone f i = (is_done (reached f.known Tips i) ≡ true) ⊎ (is_done (reached f.known Ends i) ≡ true)
+
+module _ {F : Type 0} (objects : F → Objects) where
+  -- both searches and the counts are as they are to be; ready commits are done
+  pub record IsTallied (w : Walk F) : Type 0 where
+    pub counted : IsCounted (objects (plan_of w).store) (plan_of w).rows (plan_of w).parents (plan_of w).tips (plan_of w).ends (set.contains w.taken) w.counting.frontier
+    pub begun : (side : Side) → IsBegun (plan_of w).tips (plan_of w).ends side w.counting.frontier
+    pub done : (r : Ready) → Contains (ready_in w.ready) r → is_done (reached w.counting.frontier.known Tips r.id) ≡ true
+
+  -- each commit that was ready once is a member, and all its children were taken
+  pub record IsSteady (w : Walk F) : Type 0 where
+    pub member : (i : ObjectId) → (known_of w.counting.frontier.known i).made ≡ true → IsMember objects (plan_of w) i
+    pub children : (i d : ObjectId) → (known_of w.counting.frontier.known i).made ≡ true → IsChild (walked_of objects (plan_of w)) (IsMember objects (plan_of w)) d i → set.contains w.taken d ≡ true
+
+  -- the commits that are done are told, and none of them is below the depth as long as the rows stand
+  pub record HasCounted (plan : TopoPlan F) (c : Counting F) : Type 0 where
+    pub number : IsNumberOf (IsDone c.frontier) c.expanded
+    pub high : c.reader.standing ≡ true → (i : ObjectId) → IsDone c.frontier i → c.depth ≤ known_generation plan.rows i
+    pub dropped : c.reader.standing ≡ false → IsBrokenRow objects plan c.depth
+
+module _ {F : Type 0} (objects : F → Objects) (faulty : F → ObjectId → Type 0) where
+  -- What holds of a walk that may go on, whatever its store and rows. The commits that were ready once are the taken and the ready
+  -- ones.
+  pub record IsHeld (w : Walk F) : Type 0 where
+    pub made : (i : ObjectId) → (known_of w.counting.frontier.known i).made ≡ (set.contains w.taken i || is_among i (ready_ids (ready_in w.ready)))
+    pub distinct : AreDistinct (ready_ids (ready_in w.ready))
+    pub untaken : (i : ObjectId) → Contains (ready_ids (ready_in w.ready)) i → set.contains w.taken i ≡ false
+    pub found : (r : Ready) → Contains (ready_in w.ready) r → IsFound objects faulty (plan_of w) w.counting.reader.standing r
+    -- beside rows that agree, and beside a sound history
+    pub tallied : IsAgreeing (objects (plan_of w).store) (faulty (plan_of w).store) (plan_of w).rows → IsTallied objects w
+    pub steady : IsSound objects faulty (plan_of w) → IsSteady objects w
+    pub counts : IsSound objects faulty (plan_of w) → HasCounted objects (plan_of w) w.counting
+    -- without rows, all that is walked was read
+    pub idle : (plan_of w).rows ≡ [] → w.counting.frontier.queue ≡ []
+    pub read : (plan_of w).rows ≡ [] → (i : ObjectId) → IsReached objects (plan_of w) i → IsCommitRead (objects (plan_of w).store) i
+
+  -- nothing is ready, or the walk may go on
+  abbrev pub IsOpen : Walk F → Type 0
+  IsOpen w = (ready_in w.ready ≡ []) ⊎ IsHeld w
+
+  -- no predicate is asked
+  abbrev pub unasked : Unit {0} → ObjectId → Bool → Unit {0} → Type 0
+  unasked old i answer new = Unit {0}
+
+  abbrev pub unasked_of : Walk F → TopoWalk F (Unit {0})
+  unasked_of w = walk_of w tt
+
+  -- a ready commit is taken
+  pub record TakesReady (old : Walk F) (r : Ready) (new : Walk F) : Type 0 where
+    pub takes : Takes objects faulty unasked (unasked_of old) r (counted_by new.counting) (ready_in new.ready)
+    pub plan : plan_of new ≡ plan_of old
+    pub taken : new.taken ≡ set.insert old.taken r.id
+
+  -- what the next ready commit gives
+  pub data Turns (old : Walk F) : Option (Result Info Error) → Walk F → Type 0 where
+    ended : {new : Walk F} → ready_in old.ready ≡ [] → unasked_of new ≡ unasked_of old → Turns old None new
+    given : {r : Ready} {new : Walk F} {info : Info} → TakesReady old r new → IsInfo info r.id r.parents r.generation (Some r.time) → Turns old (Some (Ok info)) new
+    failed : {new : Walk F} (r : Ready) (others : List Ready) {e : Error} → Chooses (sorting_of old.ready) (ready_in old.ready) r others → IsFault objects faulty (plan_of old) e → IsLate objects (plan_of old) e → plan_of new ≡ plan_of old → ready_in new.ready ≡ [] → Turns old (Some (Err e)) new

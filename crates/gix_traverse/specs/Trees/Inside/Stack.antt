@@ -1,0 +1,44 @@
+-- The trees that a walk in depth is in, as it holds them.
+use Rattle.std.specs.Prelude.{◌≡◌, ◌≢◌, ◌≤◌, length, List, [], ◌∷◌, drop, Some, Result, Ok, Err}
+use Rattle.std.specs.FinMap.{get}
+use Rattle.gix_parts.specs.declared.hash.ObjectId.{ObjectId}
+use Rattle.gix_parts.specs.declared.object.Kind.TheVariants as kind
+use Rattle.gix_parts.specs.declared.object.find.existing_iter.Error.{Error as ExistingError}
+use Rattle.gix_parts.specs.declared.object.find.existing_iter.Error.TheVariants as existing
+use Rattle.gix_parts.specs.Id.{kind_of}
+use Rattle.gix_parts.specs.Object.{Objects}
+use Rattle.gix_parts.specs.TreeItems.{tree_items}
+use Rattle.gix_traverse.specs.declared.tree.depthfirst.Tree.{Tree}
+use Rattle.gix_traverse.specs.Trees.Walk.{LookUpFails}
+use Rattle.gix_traverse.specs.Trees.Visits.{Items}
+
+-- the next entry begins in the tree's bytes or behind them all
+abbrev pub IsWithin : Tree → Type 0
+IsWithin t = t.next ≤ length t.bytes.items
+
+abbrev pub AreWithin : List Tree → Type 0
+AreWithin [] = Unit {0}
+AreWithin (t ∷ trees) = IsWithin t × AreWithin trees
+
+-- what is still to be read of a tree
+abbrev pub items_at : Tree → Items
+items_at t = tree_items (kind_of t.oid) (drop t.next t.bytes.items)
+
+-- the ids of trees, the nearest first
+abbrev pub ids_down : List Tree → List ObjectId
+ids_down [] = []
+ids_down (t ∷ trees) = t.oid ∷ ids_down trees
+
+-- what is left of a tree above: the known ids down to it, and its items behind the entry that was gone into
+abbrev pub Above : Type 0
+Above = List ObjectId × Items
+
+-- what is left of trees, the nearest first
+abbrev pub left_above : List Tree → List Above
+left_above [] = []
+left_above (t ∷ trees) = (ids_down (t ∷ trees), items_at t) ∷ left_above trees
+
+-- a look-up gave the tree, from its first entry on, or failed
+abbrev pub FoundTree : Objects → (ObjectId → Type 0) → ObjectId → Result Tree ExistingError → Type 0
+FoundTree objects faulty i (Ok t) = (t.oid ≡ i) × (t.next ≡ 0) × (get objects i ≡ Some (record { kind = kind.Tree; bytes = t.bytes.items }))
+FoundTree objects faulty i (Err why) = why ≢ existing.Memory → LookUpFails objects faulty i why

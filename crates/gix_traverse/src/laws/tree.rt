@@ -1,0 +1,51 @@
+//! Laws of the walks of trees.
+ghost use Rattle.gix_traverse.specs.Trees.Measure.{WorkLessens};
+ghost use Rattle.gix_traverse.specs.Trees.Laws.{LevelsAreRecorded, DepthIsRecorded, BothRecordTheSame, LevelsAreInOrder, DepthIsInOrder, SoundLevelsSucceed, SoundDepthSucceeds, OkWithoutBreak};
+
+use crate::tree::Visit;
+use gix_parts::object::find::Find;
+
+/// The visits of `breadthfirst` stand in level order.
+pub fn levels_in_order<F: Find, V: Visit>(store: &F, _delegate: &V)
+    ensures { LevelsAreInOrder (F.objects store.now) (F.faulty store.now) V.steps }
+{}
+
+/// The visits of `depthfirst` stand in preorder.
+pub fn depth_in_order<F: Find, V: Visit>(store: &F, _delegate: &V)
+    ensures { DepthIsInOrder (F.objects store.now) (F.faulty store.now) V.steps }
+{}
+
+/// A fresh recorder holds the visits of `breadthfirst`, with their paths.
+pub fn levels_recorded<F: Find>(store: &F)
+    ensures { LevelsAreRecorded (F.objects store.now) (F.faulty store.now) }
+{}
+
+/// A fresh recorder holds the visits of `depthfirst`, with their paths.
+pub fn depth_recorded<F: Find>(store: &F)
+    ensures { DepthIsRecorded (F.objects store.now) (F.faulty store.now) }
+{}
+
+/// Both walks record the same entries with the same paths, as often.
+pub fn both_record_the_same<F: Find>(store: &F)
+    ensures { BothRecordTheSame (F.objects store.now) (F.faulty store.now) }
+{}
+
+/// Over whole trees, none under itself, `breadthfirst` fails for want of memory alone.
+pub fn sound_levels_succeed<F: Find, V: Visit>(store: &F, _delegate: &V)
+    ensures { SoundLevelsSucceed (F.objects store.now) (F.faulty store.now) V.steps }
+{}
+
+/// Over whole trees, none under itself, `depthfirst` fails for want of memory alone.
+pub fn sound_depth_succeeds<F: Find, V: Visit>(store: &F, _delegate: &V)
+    ensures { SoundDepthSucceeds (F.objects store.now) (F.faulty store.now) V.steps }
+{}
+
+/// Each visit of a tree leaves less to be done than there was, so a walk ends.
+pub fn work_lessens<F: Find>(store: &F)
+    ensures { WorkLessens (F.objects store.now) }
+{}
+
+/// `breadthfirst` answers `Ok` where no visit was answered `Break`, and else `Cancelled`, where it doesn't fail.
+pub fn ok_without_break<F: Find, V: Visit>(store: &F, _delegate: &V)
+    ensures { OkWithoutBreak (F.objects store.now) (F.faulty store.now) V.steps }
+{}
