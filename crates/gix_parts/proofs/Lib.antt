@@ -1,26 +1,10 @@
-pub mod IdFacts
-pub mod TableFacts
-pub mod IdEquality
-pub mod LineLemmas
-pub mod ItemLemmas
-pub mod CommitTextLemmas
-pub mod CommitRefIterLemmas
-pub mod SecondsLemmas
-pub mod EndLemmas
-pub mod TreeLemmas
-pub mod QueueLemmas
-pub mod PackedParents
-pub mod PackedSteps
-pub mod PackedFields
-pub mod PackedAgain
-pub mod PackedWhole
-pub mod PackedTakes
-pub mod PackedRowTakes
-pub mod PackedRead
-pub mod PackedAt
-pub mod RowSearch
-pub mod HandedRows
-pub mod EntryOrder
-pub mod PackedWriting
-pub mod PackedArranged
-pub mod Arrangement
+-- Ids: when two are the same, whether one is in a list, and sets and maps of them.
+pub mod Ids
+-- The pairs that the items of a priority queue's heap are.
+pub mod QueueItems
+-- The items of a commit, and its text.
+pub mod Commits
+-- The entries of a tree.
+pub mod TreeText
+-- The packed rows of a commit-graph.
+pub mod Packed

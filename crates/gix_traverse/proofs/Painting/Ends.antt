@@ -21,7 +21,7 @@ use Rattle.gix_traverse.specs.Simple.Walk.{ids_at}
 use Rattle.gix_traverse.proofs.Simple.Ends.{among_flat, found_entry, ids_in_rows}
 use Rattle.gix_traverse.proofs.Painting.Invariant.{reads_parents, IsSafe}
 use Rattle.gix_traverse.proofs.Painting.KeptByTurn.{popped_there}
-use Rattle.gix_parts.proofs.IdFacts.{among-append, among_from}
+use Rattle.gix_parts.proofs.Ids.Membership.{among-append, among_from}
 
 -- the ids that rows and stored commits name
 abbrev pub names : Objects → List GraphRow → List ObjectId

@@ -19,7 +19,7 @@ use Rattle.gix_traverse.specs.History.Commits.{parents_of, parents_in}
 use Rattle.gix_traverse.specs.Simple.Painting.{DropsBy}
 use Rattle.gix_traverse.specs.Simple.Inside.Painter.{AllMarks, hides, is_hidden, hidden_of, State, Unmet, Open, Read, Hides, state_of, Becomes, stays, opens, covers, rows_in, Reads, Knows, by_row, by_store, IsQueued, IsWaiting, IsTidy, Meets}
 use Rattle.gix_traverse.specs.History.Reach.{Reaches}
-use Rattle.gix_parts.proofs.IdFacts.{id_total, id_apart}
+use Rattle.gix_parts.proofs.Ids.Membership.{id_total, id_apart}
 
 -- the ids that are marked hidden, as a set
 pub contains-hidden : (marks : AllMarks) (i : ObjectId) → set.contains (hidden_of marks) i ≡ is_hidden marks i

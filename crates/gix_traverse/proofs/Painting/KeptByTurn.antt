@@ -33,7 +33,7 @@ use Rattle.gix_traverse.proofs.Painting.Invariant.{nobody, next, starts_of, Rows
 use Rattle.gix_traverse.proofs.Painting.Keys.{told_below_top}
 use Rattle.gix_traverse.proofs.Shared.ReadsWhole.{row_stands, parent_below, same_long, place_of}
 use Rattle.gix_traverse.proofs.Painting.Search.{done_or_waits, told_below}
-use Rattle.gix_parts.proofs.IdFacts.{id_total, id_apart, same_itself, Contains-here, Contains-there}
+use Rattle.gix_parts.proofs.Ids.Membership.{id_total, id_apart, same_itself, Contains-here, Contains-there}
 
 -- a set that isn't empty has a member
 pub member_of : (s : set.FinSet id_cmp) → (set.len s ≡ 0 → ⊥) → (i : ObjectId) × (set.contains s i ≡ true)

@@ -16,7 +16,7 @@ use Rattle.gix_traverse.specs.declared.commit.simple.paint.Entry.{Entry}
 use Rattle.gix_traverse.specs.declared.commit.simple.paint.Painter.{Painter}
 use Rattle.gix_traverse.specs.Simple.Inside.Painter.{IsSettled, is_told}
 use Rattle.gix_parts.specs.PriorityQueue.{keys}
-use Rattle.gix_parts.proofs.IdFacts.{Contains-here, Contains-cons_cases, no_member}
+use Rattle.gix_parts.proofs.Ids.Membership.{Contains-here, Contains-cons_cases, no_member}
 
 not_above : (n m : ℕ) (o : Ordering) → is_lt (ordering_then (nat_cmp n m) o) ≡ false → m ≤ n
 not_above n m o h = le_from_is_le m n (go (nat_cmp m n) (nat_cmp_total.antisymm n m))

@@ -28,7 +28,7 @@ use Rattle.gix_traverse.proofs.Painting.Invariant.{contains-hidden, hidden_now, 
 use Rattle.gix_traverse.proofs.Painting.Meets.{hides_then}
 use Rattle.gix_traverse.proofs.Painting.KeptByTurn.{hidden_from, below, popped_there, reaches_either}
 use Rattle.gix_traverse.proofs.Painting.Turn.{given_parents}
-use Rattle.gix_parts.proofs.IdFacts.{no_member}
+use Rattle.gix_parts.proofs.Ids.Membership.{no_member}
 use Rattle.gix_traverse.proofs.Shared.Rows.{none_agree}
 
 hidden_state : (o : Option Marks) (waiting : Bool) → state_by o waiting ≡ Hides → hides o ≡ true

@@ -24,7 +24,7 @@ use Rattle.gix_traverse.specs.Simple.Inside.Painter.{FailsAmong, hides, is_hidde
 use Rattle.gix_traverse.proofs.Simple.Ends.{new_less}
 use Rattle.gix_traverse.proofs.Shared.NewIds.{fresh, fresh_agree}
 use Rattle.gix_traverse.proofs.Painting.Search.{only_member}
-use Rattle.gix_parts.proofs.IdFacts.{id_total, same_is, same_itself, Contains-here, Contains-there, Contains-cons_cases}
+use Rattle.gix_parts.proofs.Ids.Membership.{id_total, same_is, same_itself, Contains-here, Contains-there, Contains-cons_cases}
 
 becomes_both : {on : Side} {met1 met2 met3 queued1 queued2 : Type 0} {a b c : State} → (met3 → met1 ⊎ met2) → (met1 → met3) → (met2 → met3) → (queued1 → queued2) → Becomes on met1 queued1 a b → Becomes on met2 queued2 b c → Becomes on met3 queued2 a c
 becomes_both part one two later (stays f) (stays g) = stays (λ m. ⊎_elim f g (part m))

@@ -18,7 +18,7 @@ use Rattle.gix_parts.specs.Parents.{Answer, answers_of}
 use Rattle.gix_parts.specs.Rows.{GraphRow}
 use Rattle.gix_parts.specs.declared.graph.ParentPlace.{ParentPlace}
 use Rattle.gix_parts.specs.declared.graph.ParentPlace.TheVariants.{At, Fault}
-use Rattle.gix_parts.proofs.IdFacts.{Contains-here}
+use Rattle.gix_parts.proofs.Ids.Membership.{Contains-here}
 use Rattle.gix_traverse.specs.declared.commit.Parents.TheVariants as mode
 use Rattle.gix_traverse.specs.declared.commit.simple.Hidden.{Hidden}
 use Rattle.gix_traverse.specs.declared.commit.simple.Hidden.TheVariants as hidden_by

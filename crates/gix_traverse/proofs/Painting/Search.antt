@@ -3,7 +3,7 @@ use Rattle.std.specs.Prelude.{◌≡◌, ◌⊎◌, ◌<◌, ℕ, List, [], ◌�
 use Rattle.std.proofs.Common.{subst, inl, inr, ⊎_elim, arith}
 use Rattle.gix_parts.specs.declared.hash.ObjectId.{ObjectId}
 use Rattle.gix_traverse.specs.History.Reach.{Reaches, start, step}
-use Rattle.gix_parts.proofs.IdFacts.{Contains-here, Contains-cons_cases, no_member}
+use Rattle.gix_parts.proofs.Ids.Membership.{Contains-here, Contains-cons_cases, no_member}
 
 pub only_member : {X : Type 0} (x y : X) → Contains (x ∷ []) y → x ≡ y
 only_member x y h = ⊎_elim (λ e. e) (λ t. absurd (no_member y t)) (Contains-cons_cases y x [] h)

@@ -23,7 +23,7 @@ use Rattle.gix_traverse.specs.Simple.Walk.{ids_at}
 use Rattle.gix_traverse.proofs.Painting.Invariant.{reads_parents, nobody, next, starts_of, RowsStand, IsSafe, IsOutside, Fact, Stands, IsStarted, stands_meets, safe_meets, started_meets}
 use Rattle.gix_traverse.proofs.Painting.KeptByTurn.{popped_there, open_read, shut, taken_outside, drop_reason}
 use Rattle.gix_traverse.proofs.Shared.ReadsWhole.{row_parents}
-use Rattle.gix_parts.proofs.IdFacts.{id_total, same_is, same_itself, Contains-there, Contains-cons_cases}
+use Rattle.gix_parts.proofs.Ids.Membership.{id_total, same_is, same_itself, Contains-there, Contains-cons_cases}
 
 -- what an entry's turn makes of an id: a visible one that was open is read
 abbrev IsTurned : Bool → Side → Type 0 → State → State → Type 0

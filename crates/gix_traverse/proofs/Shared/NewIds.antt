@@ -11,7 +11,7 @@ use Rattle.gix_parts.specs.Id.{is_same, is_among}
 use Rattle.gix_traverse.specs.Orders.BreadthOrder.{named_by}
 pub use Rattle.gix_traverse.specs.Topo.Inside.Searched.{times}
 pub use Rattle.gix_traverse.specs.Simple.Laws.{new_ids as fresh}
-use Rattle.gix_parts.proofs.IdFacts.{same_is, same_itself, same_from}
+use Rattle.gix_parts.proofs.Ids.Membership.{same_is, same_itself, same_from}
 
 -- tests that agree on the list
 pub fresh_agree : (s t : ObjectId → Bool) (xs : List ObjectId) → ((i : ObjectId) → is_among i xs ≡ true → s i ≡ t i) → fresh s xs ≡ fresh t xs

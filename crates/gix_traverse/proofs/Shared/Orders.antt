@@ -10,7 +10,7 @@ use Rattle.gix_traverse.specs.declared.commit.simple.CommitTimeOrder.{CommitTime
 use Rattle.gix_traverse.specs.Orders.BreadthOrder.{first_new, named_by, IsBreadthOrder}
 use Rattle.gix_traverse.specs.Orders.TimeOrder.{IsTimeOrder, IsPending, IsBest}
 use Rattle.gix_traverse.specs.History.Reach.{Reaches, start, step}
-use Rattle.gix_parts.proofs.IdFacts.{among_from, among_is, Contains-here, Contains-there, Contains-cons_cases, no_member}
+use Rattle.gix_parts.proofs.Ids.Membership.{among_from, among_is, Contains-here, Contains-there, Contains-cons_cases, no_member}
 
 -- Each id is a pending one. The list ends where none is.
 abbrev pub IsWorkOrder : (ObjectId → List ObjectId) → List ObjectId → List ObjectId → Type 0

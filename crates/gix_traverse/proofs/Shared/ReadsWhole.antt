@@ -16,7 +16,7 @@ use Rattle.gix_traverse.specs.declared.commit.Parents.TheVariants as mode
 use Rattle.gix_traverse.specs.History.Commits.{by_mode, parents_of, parents_in, time_of, time_in, commit_at}
 use Rattle.gix_traverse.specs.History.Agreeing.{PlaceAgrees, RowAgrees, IsAgreeing}
 use Rattle.gix_traverse.specs.Simple.Walk.{scanned, with_parent, ids_at, with_id}
-use Rattle.gix_parts.proofs.IdFacts.{same_is, Contains-here, Contains-there}
+use Rattle.gix_parts.proofs.Ids.Membership.{same_is, Contains-here, Contains-there}
 
 -- what may stand at the front behind a tree or a parent
 pub data IsParentsFront : Front → Type 0 where

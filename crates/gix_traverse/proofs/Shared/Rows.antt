@@ -9,7 +9,7 @@ use Rattle.gix_parts.specs.declared.graph.ParentPlace.TheVariants.{At, Fault}
 use Rattle.gix_parts.specs.Parents.{Answer, answers_of}
 use Rattle.gix_parts.specs.Object.{Objects}
 use Rattle.gix_parts.specs.Rows.{GraphRow}
-use Rattle.gix_parts.proofs.IdFacts.{no_member}
+use Rattle.gix_parts.proofs.Ids.Membership.{no_member}
 use Rattle.gix_traverse.specs.History.Agreeing.{IsAgreeing}
 use Rattle.gix_traverse.specs.Simple.Walk.{ids_at, with_id}
 

@@ -20,7 +20,7 @@ use Rattle.gix_traverse.specs.History.Agreeing.{IsAgreeing}
 use Rattle.gix_traverse.specs.History.Commits.{time_of, parents_of, walked_parents}
 use Rattle.gix_traverse.specs.Simple.Walk.{SimpleWalk, IsInfo, ids_of, time_order, cutoff, is_older, May}
 use Rattle.gix_traverse.specs.Simple.Laws.{AreDistinct, IsGiven, IsRowGeneration, IsInOrder, GivesInOrder, IsWholeRun, starts_of, next_of, is_kept, kept_parents, accepted_parents, recent_parents, IsPlain, IsPlainRun}
-use Rattle.gix_parts.proofs.IdFacts.{among_from, among_is, Contains-here, Contains-cons_cases, no_member}
+use Rattle.gix_parts.proofs.Ids.Membership.{among_from, among_is, Contains-here, Contains-cons_cases, no_member}
 use Rattle.gix_traverse.proofs.Shared.NewIds.{among-filter, named-push}
 use Rattle.gix_traverse.proofs.Shared.Orders.{IsWorkOrder, IsDistinctFrom, work_from_breadth, work_from_time, reached_is_given, given_is_reached, given_once}
 use Rattle.gix_traverse.proofs.Simple.OneStep.{walked_within}

@@ -21,7 +21,7 @@ use Rattle.gix_traverse.specs.declared.commit.simple.Error.{Error}
 use Rattle.gix_traverse.specs.declared.commit.simple.pending.Pending.{Pending}
 use Rattle.gix_traverse.specs.Simple.Walk.{SimpleWalk, Treated, Holds, ids_at, with_id, time_order, cutoff, unrowed, kept_rows, rows_if, scanned, asked, Enqueues, dropped, enqueued, IsNew, Treats, hidden, known, refused, accepted, store_fails, no_memory, no_memory_after, TreatsAll, none, more, stops, Concludes, given, broken, Takes, by_row, by_store, not_found, Chooses, first, best, Steps, took, painted, Next, unhidden, paints, faulty_history, May}
 use Rattle.gix_traverse.specs.Simple.Laws.{named_in, answers_left}
-use Rattle.gix_parts.proofs.IdFacts.{id_total, same_is, same_from, same_back, among-append, among_from, Contains-here, Contains-there, Contains-cons_cases, no_member}
+use Rattle.gix_parts.proofs.Ids.Membership.{id_total, same_is, same_from, same_back, among-append, among_from, Contains-here, Contains-there, Contains-cons_cases, no_member}
 use Rattle.gix_traverse.proofs.Shared.NewIds.{fresh, fresh_agree}
 use Rattle.gix_traverse.proofs.Simple.OneStep.{walked_within}
 

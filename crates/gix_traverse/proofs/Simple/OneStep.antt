@@ -25,7 +25,7 @@ use Rattle.gix_traverse.specs.declared.commit.simple.pending.Pending.{Pending}
 use Rattle.gix_parts.specs.Find.{IsExistingFault}
 use Rattle.gix_traverse.specs.Simple.Walk.{SimpleWalk, Treated, GoesOn, ids_of, ids_at, time_order, time_if, given_time, kept_rows, rows_if, unrowed, scanned, Concludes, given, broken, store_fails, no_memory, Takes, by_row, by_store, not_found}
 use Rattle.gix_traverse.specs.Simple.Laws.{kept_parents, IsRowGeneration, IsGiven, IsNoRefusal}
-use Rattle.gix_parts.proofs.IdFacts.{Contains-here, Contains-cons_cases, no_member}
+use Rattle.gix_parts.proofs.Ids.Membership.{Contains-here, Contains-cons_cases, no_member}
 use Rattle.gix_traverse.proofs.Shared.NewIds.{fresh}
 use Rattle.gix_traverse.proofs.Shared.ReadsWhole.{scan_is, row_parents, parent_has_row}
 use Rattle.gix_traverse.proofs.Simple.Treated.{Joins, Joins-refl, Joins-trans, Setting, order_of, limit_of, keep, Stands, Did, all_treated, rows_agree}

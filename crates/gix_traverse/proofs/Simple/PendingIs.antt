@@ -12,7 +12,7 @@ use Rattle.gix_traverse.specs.Orders.BreadthOrder.{named_by, first_new}
 use Rattle.gix_traverse.specs.Orders.TimeOrder.{IsNoWorse, IsPending, IsBest}
 use Rattle.gix_traverse.specs.declared.commit.simple.pending.Pending.{Pending}
 use Rattle.gix_traverse.specs.Simple.Walk.{ids_of}
-use Rattle.gix_parts.proofs.IdFacts.{same_is, same_itself, same_from, among-append, among-one, among_from, among_is, Contains-here, Contains-there, Contains-cons_cases, no_member}
+use Rattle.gix_parts.proofs.Ids.Membership.{same_is, same_itself, same_from, among-append, among-one, among_from, among_is, Contains-here, Contains-there, Contains-cons_cases, no_member}
 use Rattle.gix_traverse.proofs.Shared.NewIds.{fresh, fresh_agree, fresh-append, fresh_head, fresh_none, IsHead, times, times-append, times-fresh, times_among}
 use Rattle.gix_traverse.proofs.Simple.Treated.{Joins, times-permutation}
 

@@ -11,7 +11,7 @@ use Rattle.gix_parts.specs.Object.{Object, Objects}
 use Rattle.gix_traverse.specs.Orders.BreadthOrder.{named_by, first_new, IsBreadthOrder}
 use Rattle.gix_traverse.specs.History.Reach.{Reaches, Tells}
 use Rattle.gix_traverse.specs.History.Commits.{parents_of, parents_in, commit_of_object}
-use Rattle.gix_parts.proofs.IdFacts.{among-append, among-one, among_from, among_is, no_member}
+use Rattle.gix_parts.proofs.Ids.Membership.{among-append, among-one, among_from, among_is, no_member}
 use Rattle.gix_traverse.proofs.Shared.NewIds.{fresh, fresh_agree}
 use Rattle.gix_traverse.proofs.Shared.Orders.{found_passes}
 use Rattle.gix_traverse.proofs.Simple.Ends.{new_less, among_flat, found_entry}

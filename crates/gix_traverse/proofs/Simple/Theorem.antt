@@ -24,7 +24,7 @@ use Rattle.gix_traverse.specs.Simple.Laws.{itself, AnswersBy, AreDistinct, IsFre
 use Rattle.gix_parts.specs.Id.{kind_of}
 use Rattle.gix_parts.specs.CommitItems.{commit_items}
 use Rattle.gix_traverse.proofs.Shared.Committer.{fault_unread}
-use Rattle.gix_parts.proofs.IdFacts.{same_is, among_from, among_is, Contains-here, Contains-there, no_member}
+use Rattle.gix_parts.proofs.Ids.Membership.{same_is, among_from, among_is, Contains-here, Contains-there, no_member}
 use Rattle.gix_traverse.proofs.Shared.NewIds.{fresh, times, times-fresh, among-filter}
 use Rattle.gix_traverse.proofs.Simple.Treated.{Setting, Stands}
 use Rattle.gix_traverse.proofs.Simple.OneStep.{next, walked_within, no_fault}

@@ -12,7 +12,7 @@ use Rattle.std.specs.Ordering.{int_cmp, is_lt, MatchOrdering}
 use Rattle.std.specs.declared.cmp.Ordering.{Ordering}
 use Rattle.std.specs.declared.cmp.Ordering.TheVariants.{Less, Equal, Greater}
 use Rattle.gix_parts.specs.PriorityQueue.{keys, values}
-use Rattle.gix_parts.proofs.IdFacts.{Contains-cons_cases, no_member}
+use Rattle.gix_parts.proofs.Ids.Membership.{Contains-cons_cases, no_member}
 use Rattle.gix_traverse.specs.declared.commit.simple.CommitTimeOrder.{CommitTimeOrder}
 use Rattle.gix_traverse.specs.declared.commit.simple.CommitTimeOrder.TheVariants.{NewestFirst, OldestFirst}
 use Rattle.gix_traverse.specs.declared.commit.simple.pending.Pending.{Pending}

@@ -6,7 +6,7 @@ use Rattle.std.specs.FinSet as set
 use Rattle.gix_parts.specs.declared.hash.ObjectId.{ObjectId}
 use Rattle.gix_parts.specs.Id.{is_same, is_among}
 use Rattle.gix_parts.specs.Object.{Objects}
-use Rattle.gix_parts.proofs.IdFacts.{id_total}
+use Rattle.gix_parts.proofs.Ids.Membership.{id_total}
 use Rattle.gix_traverse.specs.declared.commit.Parents.TheVariants as mode
 use Rattle.gix_traverse.specs.declared.commit.simple.pending.Pending.{Pending}
 use Rattle.gix_traverse.specs.declared.commit.simple.Error.{Error}

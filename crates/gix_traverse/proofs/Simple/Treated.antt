@@ -20,7 +20,7 @@ use Rattle.gix_traverse.specs.History.Commits.{time_of}
 use Rattle.gix_traverse.specs.declared.commit.simple.pending.Pending.{Pending}
 use Rattle.gix_traverse.specs.Simple.Walk.{SimpleWalk, Treated, GoesOn, Holds, ids_of, time_order, cutoff, is_older, row_time, Asks, remembers, asks, asked as asked_walk, ReadsTime, unasked, from_row, from_store, Enqueues, dropped, enqueued, Treats, hidden, known, refused, accepted, TreatsAll, none, more, stops}
 use Rattle.gix_traverse.specs.Simple.Laws.{Becomes, further, AnswersBy, is_kept}
-use Rattle.gix_parts.proofs.IdFacts.{id_total, same_is, among-one, Contains-here, Contains-there, Contains-cons_cases, no_member}
+use Rattle.gix_parts.proofs.Ids.Membership.{id_total, same_is, among-one, Contains-here, Contains-there, Contains-cons_cases, no_member}
 use Rattle.gix_traverse.proofs.Shared.NewIds.{fresh, fresh_agree, fresh-append, times, times-append, times_moved, among-filter}
 use Rattle.gix_traverse.proofs.Shared.ReadsWhole.{row_says_time}
 

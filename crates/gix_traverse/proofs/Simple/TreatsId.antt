@@ -6,7 +6,7 @@ use Rattle.std.specs.FinSet as set
 use Rattle.gix_parts.specs.declared.hash.ObjectId.{ObjectId}
 use Rattle.gix_parts.specs.Id.{id_cmp, is_same}
 use Rattle.gix_parts.specs.Object.{Objects}
-use Rattle.gix_parts.proofs.IdFacts.{id_total, id_apart, same_is}
+use Rattle.gix_parts.proofs.Ids.Membership.{id_total, id_apart, same_is}
 use Rattle.gix_traverse.specs.declared.commit.simple.CommitTimeOrder.{CommitTimeOrder}
 use Rattle.gix_traverse.specs.declared.commit.simple.pending.Pending.{Pending}
 use Rattle.gix_traverse.specs.declared.commit.simple.step.Stop.{Stop}

@@ -19,7 +19,7 @@ use Rattle.gix_traverse.specs.History.Commits.{time_of, parents_of, walked_paren
 use Rattle.gix_traverse.specs.declared.commit.simple.pending.Pending.{Pending}
 use Rattle.gix_traverse.specs.Simple.Walk.{SimpleWalk, ids_of, time_order, Chooses, first, best, Steps, ended, took, Next, unhidden, paints, faulty_history, no_memory, May}
 use Rattle.gix_traverse.specs.Simple.Laws.{IsNoRefusal, IsGiven}
-use Rattle.gix_parts.proofs.IdFacts.{same_is, among-append, among-one, among_is, Contains-here, Contains-there}
+use Rattle.gix_parts.proofs.Ids.Membership.{same_is, among-append, among-one, among_is, Contains-here, Contains-there}
 use Rattle.gix_traverse.proofs.Shared.NewIds.{among-filter, named-push}
 use Rattle.gix_traverse.proofs.Shared.Orders.{reached_by_named, Contains-push}
 use Rattle.gix_traverse.proofs.Simple.Treated.{Setting, order_of, keep, Stands}

@@ -1,4 +1,4 @@
-use Rattle.gix_parts.proofs.ItemLemmas.{faults_end}
+use Rattle.gix_parts.proofs.Commits.Items.{faults_end}
 use Rattle.gix_parts.proofs.laws.faults_end.Goals as goal
 
 pub returns : goal.returns

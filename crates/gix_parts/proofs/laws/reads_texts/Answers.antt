@@ -1,4 +1,4 @@
-use Rattle.gix_parts.proofs.CommitTextLemmas.{reads_texts}
+use Rattle.gix_parts.proofs.Commits.Texts.{reads_texts}
 use Rattle.gix_parts.proofs.laws.reads_texts.Goals as goal
 
 pub returns : goal.returns

@@ -1,4 +1,4 @@
-use Rattle.gix_parts.proofs.PackedWhole.{packed_once}
+use Rattle.gix_parts.proofs.Packed.Whole.{packed_once}
 use Rattle.gix_parts.proofs.laws.spellings_differ.Goals as goal
 
 pub returns : goal.returns

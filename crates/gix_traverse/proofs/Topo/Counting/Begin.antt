@@ -7,7 +7,7 @@ use Rattle.gix_parts.specs.declared.hash.ObjectId.{ObjectId}
 use Rattle.gix_parts.specs.Id.{is_same, kind_of}
 use Rattle.gix_parts.specs.Object.{Objects}
 use Rattle.gix_parts.specs.Rows.{GraphRow, row_of}
-use Rattle.gix_parts.proofs.IdFacts.{same_is, no_member, Contains-here}
+use Rattle.gix_parts.proofs.Ids.Membership.{same_is, no_member, Contains-here}
 use Rattle.gix_traverse.specs.declared.commit.Info.{Info}
 use Rattle.gix_traverse.specs.declared.commit.topo.Error.{Error}
 use Rattle.gix_traverse.specs.declared.commit.topo.Sorting.{Sorting}

@@ -9,7 +9,7 @@ use Rattle.gix_parts.specs.declared.hash.ObjectId.{ObjectId}
 use Rattle.gix_parts.specs.Id.{id_cmp, is_same}
 use Rattle.gix_parts.specs.Object.{Objects}
 use Rattle.gix_parts.specs.Rows.{GraphRow}
-use Rattle.gix_parts.proofs.IdFacts.{same_is, same_itself, Contains-here, Contains-there, Contains-cons_cases}
+use Rattle.gix_parts.proofs.Ids.Membership.{same_is, same_itself, Contains-here, Contains-there, Contains-cons_cases}
 use Rattle.gix_traverse.specs.declared.commit.Parents.{Parents}
 use Rattle.gix_traverse.specs.declared.commit.topo.frontier.Side.{Side}
 use Rattle.gix_traverse.specs.declared.commit.topo.frontier.Side.TheVariants.{Tips, Ends}
@@ -78,7 +78,7 @@ follows_still none s j h = h
 follows_still {side = side} {old = old} (more {mid = mid} {i = i} n f) s j h = follows_still f s j (names_still old _ i mid side n s j h)
 
 pub follows_seen : {rows : List GraphRow} {side : Side} {old : Frontier} {ids : List ObjectId} {new : Frontier} → Follows rows side old ids new → (j : ObjectId) → Contains ids j → has_seen new side j ≡ true
-follows_seen none j m = absurd (Rattle.gix_parts.proofs.IdFacts.no_member j m)
+follows_seen none j m = absurd (Rattle.gix_parts.proofs.Ids.Membership.no_member j m)
 follows_seen {side = side} {old = old} {new = new} (more {mid = mid} {i = i} {ids = ids} n f) j m =
     ⊎_elim (λ e. subst (λ k. has_seen new side k ≡ true) e (follows_still f side i (names_seen old _ i mid side n))) (λ t. follows_seen f j t) (Contains-cons_cases j i ids m)
 

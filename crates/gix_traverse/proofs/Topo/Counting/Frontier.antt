@@ -7,7 +7,7 @@ use Rattle.std.proofs.lemmas.Bool.{or_cases, or_right, or_left}
 use Rattle.gix_parts.specs.declared.hash.ObjectId.{ObjectId}
 use Rattle.gix_parts.specs.Id.{id_cmp, is_same, is_among}
 use Rattle.gix_parts.specs.Rows.{GraphRow}
-use Rattle.gix_parts.proofs.IdFacts.{id_total, same_is, same_itself}
+use Rattle.gix_parts.proofs.Ids.Membership.{id_total, same_is, same_itself}
 use Rattle.gix_traverse.specs.declared.commit.topo.frontier.Side.{Side}
 use Rattle.gix_traverse.specs.declared.commit.topo.frontier.Side.TheVariants.{Tips, Ends}
 use Rattle.gix_traverse.specs.declared.commit.topo.frontier.Progress.{Progress}
@@ -138,8 +138,8 @@ module _ (names : List ObjectId) where
   pub follows_left : {rows : List GraphRow} {side : Side} {old : Frontier} {ids : List ObjectId} {new : Frontier} → ((i : ObjectId) → Rattle.std.specs.Prelude.Contains ids i → is_among i names ≡ true) → Follows rows side old ids new → to_do names new ≤ to_do names old
   follows_left h none = omega arith
   follows_left {side = side} {old = old} {new = new} h (more {mid = mid} {i = i} {ids = ids} n f) =
-      let x : to_do names mid ≤ to_do names old = names_left old _ i mid side (h i (Rattle.gix_parts.proofs.IdFacts.Contains-here i ids)) n in
-      let y : to_do names new ≤ to_do names mid = follows_left (λ j m. h j (Rattle.gix_parts.proofs.IdFacts.Contains-there j i ids m)) f in
+      let x : to_do names mid ≤ to_do names old = names_left old _ i mid side (h i (Rattle.gix_parts.proofs.Ids.Membership.Contains-here i ids)) n in
+      let y : to_do names new ≤ to_do names mid = follows_left (λ j m. h j (Rattle.gix_parts.proofs.Ids.Membership.Contains-there j i ids m)) f in
       omega arith
 
   pub finishes_left : {old : Frontier} {i : ObjectId} {side : Side} {new : Frontier} → Finishes old i side new → to_do names new ≤ to_do names old

@@ -4,7 +4,7 @@ use Rattle.std.proofs.Common.{refl, ap, ◌∙◌}
 use Rattle.std.specs.FinSet as set
 use Rattle.gix_parts.specs.declared.hash.ObjectId.{ObjectId}
 use Rattle.gix_parts.specs.Id.{id_cmp, is_among, is_same}
-use Rattle.gix_parts.proofs.IdFacts.{id_total, same_is}
+use Rattle.gix_parts.proofs.Ids.Membership.{id_total, same_is}
 use Rattle.gix_traverse.specs.Orders.TopoOrder.{last_places}
 
 -- an id that comes again keeps the later place

@@ -7,7 +7,7 @@ use Rattle.gix_parts.specs.declared.hash.ObjectId.{ObjectId}
 use Rattle.gix_parts.specs.Id.{id_cmp}
 use Rattle.gix_parts.specs.Object.{Objects}
 use Rattle.gix_parts.specs.Rows.{GraphRow}
-use Rattle.gix_parts.proofs.IdFacts.{Contains-here, Contains-there, Contains-cons_cases, no_member}
+use Rattle.gix_parts.proofs.Ids.Membership.{Contains-here, Contains-there, Contains-cons_cases, no_member}
 use Rattle.gix_traverse.specs.declared.commit.Parents.{Parents}
 use Rattle.gix_traverse.specs.declared.commit.topo.frontier.Side.{Side}
 use Rattle.gix_traverse.specs.declared.commit.topo.frontier.Side.TheVariants.{Tips, Ends}

@@ -4,7 +4,7 @@ use Rattle.std.proofs.Common.{refl, sym, ap, subst, inl, inr, ⊎_elim, ◌∙�
 use Rattle.std.proofs.lemmas.Bool.{false≢true}
 use Rattle.gix_parts.specs.declared.hash.ObjectId.{ObjectId}
 use Rattle.gix_parts.specs.Id.{is_same}
-use Rattle.gix_parts.proofs.IdFacts.{same_is, same_itself, Contains-here}
+use Rattle.gix_parts.proofs.Ids.Membership.{same_is, same_itself, Contains-here}
 use Rattle.gix_traverse.specs.declared.commit.topo.frontier.Progress.{Progress}
 use Rattle.gix_traverse.specs.declared.commit.topo.frontier.Progress.TheVariants.{Unseen, Queued, Done}
 use Rattle.gix_traverse.specs.History.Reach.{Reaches, start, step}
@@ -132,7 +132,7 @@ module _ (next : ObjectId → List ObjectId) (starts : List ObjectId) where
 
   -- along a path a measure that no step raises doesn't rise
   pub no_higher : (g : ObjectId → ℕ) → ((c i : ObjectId) → Contains (next c) i → g i ≤ g c) → (q x : ObjectId) → Reaches next (q ∷ []) x → g x ≤ g q
-  no_higher g low q x (start m) = ⊎_elim (λ e. subst (λ y. g y ≤ g q) e (let r : g q ≤ g q = omega arith in r)) (λ t. absurd (Rattle.gix_parts.proofs.IdFacts.no_member x t)) (Rattle.gix_parts.proofs.IdFacts.Contains-cons_cases x q [] m)
+  no_higher g low q x (start m) = ⊎_elim (λ e. subst (λ y. g y ≤ g q) e (let r : g q ≤ g q = omega arith in r)) (λ t. absurd (Rattle.gix_parts.proofs.Ids.Membership.no_member x t)) (Rattle.gix_parts.proofs.Ids.Membership.Contains-cons_cases x q [] m)
   no_higher g low q x (step {c = c} r m) = let a : g c ≤ g q = no_higher g low q c r in let b : g x ≤ g c = low c x m in omega arith
 
   -- what is reached, and not below a depth that no queued id reaches, is done

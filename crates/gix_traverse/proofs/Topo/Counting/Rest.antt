@@ -12,7 +12,7 @@ use Rattle.std.proofs.Common.{min}
 use Rattle.gix_parts.specs.declared.hash.ObjectId.{ObjectId}
 use Rattle.gix_parts.specs.Rows.{GraphRow}
 use Rattle.gix_traverse.specs.Topo.Depth.{least, known_generation}
-use Rattle.gix_parts.proofs.IdFacts.{Contains-cons_cases, no_member}
+use Rattle.gix_parts.proofs.Ids.Membership.{Contains-cons_cases, no_member}
 
 no_greater : (k y : ℕ) → lt_by_cmp nat_cmp k y ≡ false → y ≤ k
 no_greater k y e = go (leb y k) refl

@@ -3,7 +3,7 @@ use Rattle.std.specs.Prelude.{◌≡◌, ◌+◌, ◌||◌, ◌<◌, ℕ, suc, L
 use Rattle.std.proofs.Common.{sym, ap, subst, ◌∙◌}
 use Rattle.gix_parts.specs.declared.hash.ObjectId.{ObjectId}
 use Rattle.gix_parts.specs.Object.{Objects}
-use Rattle.gix_parts.proofs.IdFacts.{Contains-here}
+use Rattle.gix_parts.proofs.Ids.Membership.{Contains-here}
 use Rattle.gix_traverse.specs.declared.commit.topo.frontier.Side.TheVariants.{Tips, Ends}
 use Rattle.gix_traverse.specs.declared.commit.topo.frontier.Waiting.{Waiting}
 use Rattle.gix_traverse.specs.declared.commit.topo.frontier.Frontier.{Frontier}

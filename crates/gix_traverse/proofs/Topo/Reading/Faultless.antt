@@ -7,7 +7,7 @@ use Rattle.gix_parts.specs.declared.object.decode.Error.{Error as DecodeError}
 use Rattle.gix_parts.specs.declared.object.decode.Error.TheVariants as fault
 use Rattle.gix_parts.specs.CommitItems.{Item, Tree, Parent, Author, Committer, Rest, AtTree, AtParents, AtCommitter, AtRest, AtEnd, tree_front, author_front, parent_front, committer_front, unfolded, items_within, commit_items, after_word}
 use Rattle.gix_parts.specs.CommitRefIter.{first_committer}
-use Rattle.gix_parts.proofs.IdFacts.{Contains-cons_cases, no_member}
+use Rattle.gix_parts.proofs.Ids.Membership.{Contains-cons_cases, no_member}
 
 -- a fault among the items is the first committer's, and says that something is wrong
 abbrev IsTold : List (Result Item DecodeError) → Type 0

@@ -10,7 +10,7 @@ use Rattle.gix_parts.specs.Object.{Object, Objects}
 use Rattle.gix_parts.specs.Rows.{GraphRow, row_of}
 use Rattle.gix_parts.specs.CommitText.{Commit}
 use Rattle.gix_traverse.specs.History.Commits.{parents_in}
-use Rattle.gix_parts.proofs.IdFacts.{among-append, among_from, no_member}
+use Rattle.gix_parts.proofs.Ids.Membership.{among-append, among_from, no_member}
 use Rattle.gix_traverse.specs.declared.commit.Info.{Info}
 use Rattle.gix_traverse.specs.declared.commit.Parents.TheVariants as mode
 use Rattle.gix_traverse.specs.History.Agreeing.{IsAgreeing}

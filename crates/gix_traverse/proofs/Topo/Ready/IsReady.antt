@@ -8,7 +8,7 @@ use Rattle.gix_traverse.specs.History.Reach.{Reaches, start, step}
 use Rattle.gix_traverse.specs.Orders.WalkSet.{IsInWalk, IsChild, IsChildless, IsReady}
 use Rattle.gix_traverse.specs.Orders.TopoOrder.{Keeps, none, kept, passed, distinct_after, first_places, last_places, by_time}
 use Rattle.gix_traverse.specs.Simple.Laws.{AreDistinct}
-use Rattle.gix_parts.proofs.IdFacts.{same_is, same_itself, same_from, among_from, among_is, Contains-here, Contains-there, Contains-cons_cases, no_member}
+use Rattle.gix_parts.proofs.Ids.Membership.{same_is, same_itself, same_from, among_from, among_is, Contains-here, Contains-there, Contains-cons_cases, no_member}
 use Rattle.gix_traverse.proofs.Shared.NewIds.{times, times_none, times_moved}
 use Rattle.gix_traverse.proofs.Topo.Ready.RisingTime.{by_time_moves}
 

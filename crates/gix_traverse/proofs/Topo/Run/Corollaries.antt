@@ -21,7 +21,7 @@ use Rattle.gix_traverse.specs.Orders.TopoOrder.{IsTopoOrder}
 use Rattle.gix_traverse.specs.Simple.Laws.{AreDistinct}
 use Rattle.gix_traverse.specs.Topo.Walk.{TopoPlan, TopoWalk, walked_of, IsMember}
 use Rattle.gix_traverse.specs.Topo.Laws.{IsSorted, IsTakenInOrder, IsGiven, GivesInOrder, IsWholeRun}
-use Rattle.gix_parts.proofs.IdFacts.{among-append, among_from, Contains-cons_cases, no_member}
+use Rattle.gix_parts.proofs.Ids.Membership.{among-append, among_from, Contains-cons_cases, no_member}
 use Rattle.gix_traverse.proofs.Simple.OneStep.{walked_within}
 use Rattle.gix_traverse.proofs.Simple.Ends.{found_entry}
 use Rattle.gix_traverse.proofs.Topo.Ready.IsReady.{in_walk_top}

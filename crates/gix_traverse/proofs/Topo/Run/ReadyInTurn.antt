@@ -15,7 +15,7 @@ use Rattle.gix_traverse.specs.Orders.WalkSet.{IsChild, IsChildless, IsReady}
 use Rattle.gix_traverse.specs.Orders.DateOrder.{IsDateOrder}
 use Rattle.gix_traverse.specs.Orders.TopoOrder.{by_time, IsMadeReady, IsTopoOrder}
 use Rattle.gix_traverse.specs.Simple.Laws.{AreDistinct}
-use Rattle.gix_parts.proofs.IdFacts.{same_is, among_from, among_is, Contains-here, Contains-there, Contains-cons_cases, no_member}
+use Rattle.gix_parts.proofs.Ids.Membership.{same_is, among_from, among_is, Contains-here, Contains-there, Contains-cons_cases, no_member}
 use Rattle.gix_traverse.proofs.Shared.NewIds.{fresh, times, times-append, times_none, among-filter}
 use Rattle.gix_traverse.proofs.Simple.Ends.{new_less}
 use Rattle.gix_traverse.proofs.Shared.Orders.{found_passes, none_passes}

@@ -2,7 +2,7 @@
 use Rattle.std.specs.Prelude.{◌≡◌, ◌<◌, ℕ, zero, suc, ℤ, pos, List, [], ◌∷◌, Bool, Option, Some, None, Ok, Contains, length}
 use Rattle.std.proofs.Common.{sym, ap, subst, ◌∙◌, arith, get_or}
 use Rattle.std.specs.Option.{unwrap_or}
-use Rattle.gix_parts.proofs.IdFacts.{Contains-here, Contains-there}
+use Rattle.gix_parts.proofs.Ids.Membership.{Contains-here, Contains-there}
 use Rattle.gix_parts.specs.declared.hash.ObjectId.{ObjectId}
 use Rattle.gix_parts.specs.Object.{Objects}
 use Rattle.gix_parts.specs.Rows.{GraphRow}

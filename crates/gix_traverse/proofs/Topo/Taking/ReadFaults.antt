@@ -12,7 +12,7 @@ use Rattle.gix_parts.specs.Object.{Objects}
 use Rattle.gix_parts.specs.CommitItems.{Item, Tree, Parent, Author, Committer, Rest, commit_items}
 use Rattle.gix_parts.specs.CommitRefIter.{first_committer}
 use Rattle.gix_parts.specs.Find.{IsExistingFault}
-use Rattle.gix_parts.proofs.IdFacts.{same_itself, Contains-here, Contains-there, Contains-cons_cases, no_member}
+use Rattle.gix_parts.proofs.Ids.Membership.{same_itself, Contains-here, Contains-there, Contains-cons_cases, no_member}
 use Rattle.gix_traverse.specs.declared.commit.topo.Sorting.{Sorting}
 use Rattle.gix_traverse.specs.declared.commit.topo.Error.{Error}
 use Rattle.gix_traverse.specs.declared.commit.topo.Error.TheVariants as error

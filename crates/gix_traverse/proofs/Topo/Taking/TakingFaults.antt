@@ -9,7 +9,7 @@ use Rattle.gix_parts.specs.declared.object.find.existing_iter.Error.TheVariants 
 use Rattle.gix_parts.specs.Id.{kind_of, is_same, is_among}
 use Rattle.gix_parts.specs.Object.{Object, Objects}
 use Rattle.gix_parts.specs.CommitItems.{commit_items}
-use Rattle.gix_parts.proofs.IdFacts.{same_itself, Contains-here, Contains-there, Contains-cons_cases, no_member}
+use Rattle.gix_parts.proofs.Ids.Membership.{same_itself, Contains-here, Contains-there, Contains-cons_cases, no_member}
 use Rattle.gix_traverse.specs.declared.commit.Parents.{Parents}
 use Rattle.gix_traverse.specs.declared.commit.Parents.TheVariants as mode
 use Rattle.gix_traverse.specs.declared.commit.topo.Error.{Error}

@@ -14,7 +14,7 @@ use Rattle.gix_traverse.specs.Topo.Laws.{answers_left}
 use Rattle.gix_traverse.specs.Topo.Inside.Steady.{IsHeld, IsOpen, unasked, unasked_of, TakesReady, Turns, ended, given, failed}
 use Rattle.gix_traverse.specs.Topo.Walk.{TopoWalk, Ready, Counted, Chooses, Adds, IsFault, IsLate, Takes, after, Next}
 use Rattle.gix_traverse.specs.Topo.Walk as machine
-use Rattle.gix_parts.proofs.IdFacts.{no_member}
+use Rattle.gix_parts.proofs.Ids.Membership.{no_member}
 use Rattle.gix_traverse.proofs.Topo.Taking.Added.{adds_on}
 use Rattle.gix_traverse.proofs.Topo.Taking.InvariantKept.{held_on, takes_on}
 use Rattle.gix_traverse.proofs.Topo.Taking.DepthLowered.{counts_taken}

@@ -7,8 +7,8 @@ use Rattle.gix_parts.specs.contracts.hash.ObjectIdPartialEq.TheImpl.{eq-value}
 use Rattle.gix_parts.specs.declared.hash.ObjectId.{ObjectId}
 use Rattle.gix_parts.specs.Id.{is_same, is_among}
 use Rattle.gix_parts.specs.TreeRefIter.{IsEndOf}
-use Rattle.gix_parts.proofs.EndLemmas.{drop_end}
-use Rattle.gix_parts.proofs.IdEquality.{eq_is_same}
+use Rattle.gix_parts.proofs.TreeText.Ends.{drop_end}
+use Rattle.gix_parts.proofs.Ids.Equality.{eq_is_same}
 use Rattle.gix_traverse.specs.declared.tree.depthfirst.Tree.{Tree}
 use Rattle.gix_traverse.specs.Trees.Inside.Stack.{ids_down}
 

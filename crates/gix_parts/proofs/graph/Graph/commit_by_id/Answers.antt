@@ -4,7 +4,7 @@ use Rattle.std.proofs.lemmas.Bool.{cases_lt}
 use Rattle.std.proofs.lemmas.Option.{slice_get-get_or}
 use Rattle.gix_parts.specs.Id.{id_cmp}
 use Rattle.gix_parts.specs.Rows.{row_at, no_row}
-use Rattle.gix_parts.proofs.RowSearch.{lower_more, higher_more, row_of-found, row_of-none, other_from_less, other_from_greater}
+use Rattle.gix_parts.proofs.Packed.RowSearch.{lower_more, higher_more, row_of-found, row_of-none, other_from_less, other_from_greater}
 use Rattle.gix_parts.proofs.graph.Graph.commit_by_id.Goals as goal
 
 pub loop-low-preserved-in-Less : goal.loop-low-preserved-in-Less

@@ -1,6 +1,6 @@
 use Rattle.std.proofs.Common.{◌≡◌, Ok, Err, ap, ◌∙◌}
 use Rattle.gix_parts.specs.PackedReading.{read_packed, rows_in}
-use Rattle.gix_parts.proofs.PackedWhole.{packed_again}
+use Rattle.gix_parts.proofs.Packed.Whole.{packed_again}
 use Rattle.gix_parts.proofs.graph.Graph.from_packed.Goals as goal
 
 pub invariant_of-result : goal.invariant_of-result

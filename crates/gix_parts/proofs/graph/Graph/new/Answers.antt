@@ -3,7 +3,7 @@ use Rattle.gix_parts.specs.Rows.{GraphRow}
 use Rattle.gix_parts.specs.Packed.{AreGraphRows}
 use Rattle.gix_parts.specs.PackedLayout.{IsPackedAs}
 use Rattle.gix_parts.specs.Renumbering.{rows_seen, HasSameRows}
-use Rattle.gix_parts.proofs.PackedWhole.{kept_rows}
+use Rattle.gix_parts.proofs.Packed.Whole.{kept_rows}
 use Rattle.gix_parts.proofs.graph.Graph.new.Goals as goal
 
 pub invariant_of-result : goal.invariant_of-result

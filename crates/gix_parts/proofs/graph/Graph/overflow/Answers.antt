@@ -1,5 +1,5 @@
 use Rattle.gix_parts.specs.PackedReading.{read_packed, rows_in}
-use Rattle.gix_parts.proofs.PackedAt.{words_kept}
+use Rattle.gix_parts.proofs.Packed.RowAt.{words_kept}
 use Rattle.gix_parts.proofs.graph.Graph.overflow.Goals as goal
 
 pub split_at-requires : goal.split_at-requires

@@ -3,7 +3,7 @@ use Rattle.std.specs.Prelude.{IfOk}
 use Rattle.gix_parts.specs.PackedReading.{words_of}
 use Rattle.gix_parts.specs.Parents.{Answer}
 use Rattle.gix_parts.specs.Rows.{row_at}
-use Rattle.gix_parts.proofs.PackedAt.{answers-within, begun_answers}
+use Rattle.gix_parts.proofs.Packed.RowAt.{answers-within, begun_answers}
 use Rattle.gix_parts.proofs.graph.Graph.parents_at.Goals as goal
 
 pub returns-clause-within : goal.returns-clause-within

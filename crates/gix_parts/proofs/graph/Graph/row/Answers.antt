@@ -1,6 +1,6 @@
 use Rattle.std.proofs.Common.{◌<◌, length}
 use Rattle.gix_parts.specs.PackedReading.{read_packed, rows_in}
-use Rattle.gix_parts.proofs.PackedAt.{row_within, begins_with_row}
+use Rattle.gix_parts.proofs.Packed.RowAt.{row_within, begins_with_row}
 use Rattle.gix_parts.proofs.graph.Graph.row.Goals as goal
 
 pub row-requires : goal.row-requires

@@ -1,5 +1,5 @@
 use Rattle.std.proofs.Common.{sym, ◌∙◌}
-use Rattle.gix_parts.proofs.PackedParents.{list_goes_on}
+use Rattle.gix_parts.proofs.Packed.Parents.{list_goes_on}
 use Rattle.gix_parts.proofs.graph.check.after_list.Goals as goal
 
 pub loop-left-preserved : goal.loop-left-preserved

@@ -1,6 +1,6 @@
 use Rattle.std.proofs.Common.{◌≡◌, length}
 use Rattle.gix_parts.specs.PackedReading.{words_of, list_at}
-use Rattle.gix_parts.proofs.PackedParents.{behind}
+use Rattle.gix_parts.proofs.Packed.Parents.{behind}
 use Rattle.gix_parts.proofs.graph.check.after_list.Given as goal
 
 -- the list goes on in what is left

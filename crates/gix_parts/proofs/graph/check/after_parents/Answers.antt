@@ -1,5 +1,5 @@
 use Rattle.std.proofs.Common.{sym, ◌∙◌}
-use Rattle.gix_parts.proofs.PackedParents.{behind-second_list}
+use Rattle.gix_parts.proofs.Packed.Parents.{behind-second_list}
 use Rattle.gix_parts.specs.PackedReading.{words_of}
 use Rattle.gix_parts.proofs.graph.check.after_parents.Goals as goal
 

@@ -2,8 +2,8 @@ use Rattle.std.proofs.Common.{◌≡◌, None, Some, arith}
 use Rattle.std.proofs.lemmas.Result.{err_from_is_err_and}
 use Rattle.gix_parts.specs.PackedReading.{read_packed, rows_in}
 use Rattle.gix_parts.specs.PackedLayout.{faults}
-use Rattle.gix_parts.proofs.PackedSteps.{no_fault, one_fault, faults-laid_out, ok_rows}
-use Rattle.gix_parts.proofs.PackedRead.{laid_out_takes}
+use Rattle.gix_parts.proofs.Packed.Steps.{no_fault, one_fault, faults-laid_out, ok_rows}
+use Rattle.gix_parts.proofs.Packed.Read.{laid_out_takes}
 use Rattle.gix_parts.proofs.graph.check.check.Goals as goal
 
 pub returns-in_err-check_rows : goal.returns-in_err-check_rows

@@ -1,6 +1,6 @@
 use Rattle.std.proofs.Common.{◌≡◌, ℕ, ◌-◌, length, sym, ap, ◌∙◌}
 use Rattle.gix_parts.specs.PackedReading.{words_of}
-use Rattle.gix_parts.proofs.PackedSteps.{order_fault, parents_fault, reads_on, length-words_of, behind-read, option_map_at}
+use Rattle.gix_parts.proofs.Packed.Steps.{order_fault, parents_fault, reads_on, length-words_of, behind-read, option_map_at}
 use Rattle.gix_parts.proofs.graph.check.check_row.Goals as goal
 
 pub returns-then-not-is_above : goal.returns-then-not-is_above

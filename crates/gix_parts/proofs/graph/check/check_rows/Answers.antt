@@ -2,7 +2,7 @@ use Rattle.std.proofs.Common.{◌≡◌, ◌+◌, ◌-◌, length, Some, sym, �
 use Rattle.std.proofs.lemmas.Result.{err_from_is_err_and}
 use Rattle.gix_parts.specs.PackedReading.{words_of}
 use Rattle.gix_parts.specs.PackedLayout.{rows_left, faults}
-use Rattle.gix_parts.proofs.PackedSteps.{ends_well, ends_late, length-words_of}
+use Rattle.gix_parts.proofs.Packed.Steps.{ends_well, ends_late, length-words_of}
 use Rattle.gix_parts.proofs.graph.check.check_rows.Goals as goal
 
 pub returns-in_err-id : goal.returns-in_err-id

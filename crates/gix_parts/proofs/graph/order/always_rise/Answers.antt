@@ -1,5 +1,5 @@
 use Rattle.std.proofs.Common.{sym, ◌∙◌, arith}
-use Rattle.gix_parts.proofs.EntryOrder.{stops}
+use Rattle.gix_parts.proofs.Packed.EntryOrder.{stops}
 use Rattle.gix_parts.proofs.graph.order.always_rise.Goals as goal
 
 pub returns-then-not-is_less : goal.returns-then-not-is_less

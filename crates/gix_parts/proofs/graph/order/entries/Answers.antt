@@ -1,6 +1,6 @@
 use Rattle.std.proofs.Common.{◌++◌, ◌∷◌, [], List, sym, ap, ◌∙◌}
 use Rattle.gix_parts.specs.Renumbering.{Entry}
-use Rattle.gix_parts.proofs.EntryOrder.{entries_more}
+use Rattle.gix_parts.proofs.Packed.EntryOrder.{entries_more}
 use Rattle.gix_parts.proofs.graph.order.entries.Goals as goal
 
 pub loop-place-preserved : goal.loop-place-preserved

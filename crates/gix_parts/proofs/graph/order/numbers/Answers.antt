@@ -1,6 +1,6 @@
 use Rattle.std.proofs.Common.{◌∙◌, arith}
 use Rattle.std.proofs.lemmas.List.{length-set}
-use Rattle.gix_parts.proofs.EntryOrder.{number_more, number_small}
+use Rattle.gix_parts.proofs.Packed.EntryOrder.{number_more, number_small}
 use Rattle.gix_parts.proofs.graph.order.numbers.Goals as goal
 
 pub loop-number-preserved : goal.loop-number-preserved

@@ -1,6 +1,6 @@
 use Rattle.gix_parts.specs.Renumbering.{rows_seen}
-use Rattle.gix_parts.proofs.Arrangement.{not_distinct, distinct_rows}
-use Rattle.gix_parts.proofs.HandedRows.{are_of_one_kind}
+use Rattle.gix_parts.proofs.Packed.Arrangement.{not_distinct, distinct_rows}
+use Rattle.gix_parts.proofs.Packed.HandedRows.{are_of_one_kind}
 use Rattle.gix_parts.proofs.graph.order.test.Goals as goal
 
 pub returns-then-not-always_rise : goal.returns-then-not-always_rise

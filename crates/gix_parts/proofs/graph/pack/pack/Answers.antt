@@ -3,7 +3,7 @@ use Rattle.std.specs.Int.{w32, to_be_bytes}
 use Rattle.std.specs.List.{flat_map}
 use Rattle.gix_parts.specs.Packed.{rows_bytes, overflow_words, layout_name, spelling}
 use Rattle.gix_parts.specs.Renumbering.{rows_seen, arranged}
-use Rattle.gix_parts.proofs.PackedWriting.{whole_appended}
+use Rattle.gix_parts.proofs.Packed.Writing.{whole_appended}
 use Rattle.gix_parts.proofs.graph.pack.pack.Goals as goal
 
 pub returns-clause-bytes : goal.returns-clause-bytes

@@ -1,7 +1,7 @@
 use Rattle.std.proofs.Common.{ℕ, subst, sym, ◌∙◌, arith}
 use Rattle.gix_parts.specs.Renumbering.{rows_seen, arranged, HasPlaces, AreNumbers}
 use Rattle.gix_parts.specs.PackedLayout.{IsHeadOf}
-use Rattle.gix_parts.proofs.Arrangement.{length-order, has_places, can_arrange, kind_of_graph, length-graph, words_of_graph, are_graph_rows, has_same_rows}
+use Rattle.gix_parts.proofs.Packed.Arrangement.{length-order, has_places, can_arrange, kind_of_graph, length-graph, words_of_graph, are_graph_rows, has_same_rows}
 use Rattle.gix_parts.proofs.graph.pack.pack_rows.Goals as goal
 use Rattle.gix_parts.proofs.graph.pack.pack_rows.Goals.{After-as_slice}
 

@@ -4,7 +4,7 @@ use Rattle.std.specs.Int.{w32, to_be_bytes}
 use Rattle.std.specs.List.{flat_map, AllByRecursion}
 use Rattle.gix_parts.specs.Packed.{overflow_of, IsPlaceAmong}
 use Rattle.gix_parts.specs.Renumbering.{moved}
-use Rattle.gix_parts.proofs.PackedWriting.{rest_words}
+use Rattle.gix_parts.proofs.Packed.Writing.{rest_words}
 use Rattle.gix_parts.proofs.graph.pack.push_list.Given as goal
 
 -- what is written, with the words of what is left, is the whole

@@ -2,7 +2,7 @@ use Rattle.std.proofs.Common.{length, List, subst, sym}
 use Rattle.std.specs.List.{AllByRecursion}
 use Rattle.gix_parts.specs.declared.graph.ParentPlace.{ParentPlace}
 use Rattle.gix_parts.specs.Packed.{IsPlaceAmong}
-use Rattle.gix_parts.proofs.PackedArranged.{reads_entry}
+use Rattle.gix_parts.proofs.Packed.RowsArranged.{reads_entry}
 use Rattle.gix_parts.proofs.graph.pack.push_lists.Goals as goal
 
 pub push_list-requires-clause-places : goal.push_list-requires-clause-places

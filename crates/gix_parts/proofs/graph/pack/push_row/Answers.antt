@@ -5,7 +5,7 @@ use Rattle.std.proofs.lemmas.Int.{to_z-of_z}
 use Rattle.gix_parts.specs.declared.graph.ParentPlace.{ParentPlace}
 use Rattle.gix_parts.specs.Packed.{first_word, second_word, row_bytes}
 use Rattle.gix_parts.specs.Renumbering.{moved}
-use Rattle.gix_parts.proofs.PackedWriting.{six_appended}
+use Rattle.gix_parts.proofs.Packed.Writing.{six_appended}
 use Rattle.gix_parts.proofs.graph.pack.push_row.Goals as goal
 
 pub returns-clause-bytes : goal.returns-clause-bytes

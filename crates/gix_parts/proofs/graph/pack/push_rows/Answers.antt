@@ -5,7 +5,7 @@ use Rattle.std.specs.Prelude.{slice_index}
 use Rattle.gix_parts.specs.declared.graph.ParentPlace.{ParentPlace}
 use Rattle.gix_parts.specs.Packed.{overflow_of, overflow_words, row_bytes, rows_bytes}
 use Rattle.gix_parts.specs.Renumbering.{row_seen, rows_seen, renumbered, arranged, IsInRange}
-use Rattle.gix_parts.proofs.PackedArranged.{reads_entry, rows_bytes-push, All-push}
+use Rattle.gix_parts.proofs.Packed.RowsArranged.{reads_entry, rows_bytes-push, All-push}
 use Rattle.gix_parts.proofs.graph.pack.push_rows.Goals as goal
 
 pub loop-place-init : goal.loop-place-init

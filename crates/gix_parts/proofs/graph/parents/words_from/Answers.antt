@@ -1,7 +1,7 @@
 use Rattle.std.proofs.Common.{◌*◌, sym, ap, ◌∙◌, arith}
 use Rattle.std.proofs.lemmas.List.{drop_all}
 use Rattle.gix_parts.specs.PackedReading.{words_of}
-use Rattle.gix_parts.proofs.PackedParents.{words_of-drop}
+use Rattle.gix_parts.proofs.Packed.Parents.{words_of-drop}
 use Rattle.gix_parts.proofs.graph.parents.words_from.Goals as goal
 
 pub returns-then-at-words : goal.returns-then-at-words

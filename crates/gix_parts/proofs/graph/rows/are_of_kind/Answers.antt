@@ -1,7 +1,7 @@
 use Rattle.std.proofs.Common.{◌≡◌, arith}
 use Rattle.gix_parts.specs.Id.{kind_of}
 use Rattle.gix_parts.specs.Renumbering.{IsRowOf}
-use Rattle.gix_parts.proofs.HandedRows.{all_seen, read_row}
+use Rattle.gix_parts.proofs.Packed.HandedRows.{all_seen, read_row}
 use Rattle.gix_parts.proofs.graph.rows.are_of_kind.Goals as goal
 
 pub returns-then-not-is_row_of_kind : goal.returns-then-not-is_row_of_kind

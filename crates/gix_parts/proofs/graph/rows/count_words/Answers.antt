@@ -2,7 +2,7 @@ use Rattle.std.proofs.Common.{◌≡◌, ◌+◌, length, List, ap, sym, ◌∙�
 use Rattle.gix_parts.specs.declared.graph.Row.{Row}
 use Rattle.gix_parts.specs.declared.graph.ParentPlace.{ParentPlace}
 use Rattle.gix_parts.specs.Packed.{overflow_of}
-use Rattle.gix_parts.proofs.HandedRows.{words_of_more, words_of_part}
+use Rattle.gix_parts.proofs.Packed.HandedRows.{words_of_more, words_of_part}
 use Rattle.gix_parts.proofs.graph.rows.count_words.Goals as goal
 
 pub returns-then-len-words : goal.returns-then-len-words

@@ -2,7 +2,7 @@ use Rattle.std.proofs.Common.{length, List, subst, sym, arith}
 use Rattle.std.specs.List.{AllByRecursion}
 use Rattle.gix_parts.specs.declared.graph.ParentPlace.{ParentPlace}
 use Rattle.gix_parts.specs.Packed.{IsPlaceAmong}
-use Rattle.gix_parts.proofs.HandedRows.{places_within, read_places}
+use Rattle.gix_parts.proofs.Packed.HandedRows.{places_within, read_places}
 use Rattle.gix_parts.proofs.graph.rows.have_places_within.Goals as goal
 
 pub returns-then-not-are_among : goal.returns-then-not-are_among

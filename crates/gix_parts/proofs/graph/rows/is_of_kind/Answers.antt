@@ -1,4 +1,4 @@
-use Rattle.gix_parts.proofs.HandedRows.{is_of_kind_cases}
+use Rattle.gix_parts.proofs.Packed.HandedRows.{is_of_kind_cases}
 use Rattle.gix_parts.proofs.graph.rows.is_of_kind.Goals as goal
 
 pub returns : goal.returns

@@ -1,5 +1,5 @@
 use Rattle.std.proofs.Common.{sym, arith}
-use Rattle.gix_parts.proofs.HandedRows.{length-overflow_of}
+use Rattle.gix_parts.proofs.Packed.HandedRows.{length-overflow_of}
 use Rattle.gix_parts.proofs.graph.rows.overflow_len.Goals as goal
 
 pub returns-in_default : goal.returns-in_default

@@ -1,7 +1,7 @@
 use Rattle.std.proofs.Common.{ap, sym, ◌∙◌}
 use Rattle.std.specs.FinMap as map
-use Rattle.gix_parts.proofs.TableFacts.{counted_entries}
-use Rattle.gix_parts.proofs.IdEquality.{eq_is_same}
+use Rattle.gix_parts.proofs.Ids.Tables.{counted_entries}
+use Rattle.gix_parts.proofs.Ids.Equality.{eq_is_same}
 use Rattle.gix_parts.proofs.hashtable.IdMap.len.Goals as goal
 
 pub returns : goal.returns

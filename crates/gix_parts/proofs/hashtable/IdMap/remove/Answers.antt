@@ -1,7 +1,7 @@
 use Rattle.std.proofs.Common.{ap, ◌∙◌}
 use Rattle.std.specs.FinMap as map
-use Rattle.gix_parts.proofs.TableFacts.{holds, taken}
-use Rattle.gix_parts.proofs.IdEquality.{eq_is_same}
+use Rattle.gix_parts.proofs.Ids.Tables.{holds, taken}
+use Rattle.gix_parts.proofs.Ids.Equality.{eq_is_same}
 use Rattle.gix_parts.proofs.hashtable.IdMap.remove.Goals as goal
 
 pub returns-clause-value : goal.returns-clause-value

@@ -1,7 +1,7 @@
 use Rattle.std.proofs.Common.{◌≡◌, Option, Some, IsSome, is_some, ap, sym, ◌∙◌}
 use Rattle.std.specs.FinMap as map
-use Rattle.gix_parts.proofs.TableFacts.{holds, updated}
-use Rattle.gix_parts.proofs.IdEquality.{eq_is_same}
+use Rattle.gix_parts.proofs.Ids.Tables.{holds, updated}
+use Rattle.gix_parts.proofs.Ids.Equality.{eq_is_same}
 use Rattle.gix_parts.proofs.hashtable.IdMap.replace.Goals as goal
 
 is_there : {X : Type 0} (x : X) (o : Option X) → Some x ≡ o → IsSome o

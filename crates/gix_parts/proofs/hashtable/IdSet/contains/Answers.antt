@@ -1,7 +1,7 @@
 use Rattle.std.proofs.Common.{ap, ◌∙◌}
 use Rattle.std.specs.FinSet as set
-use Rattle.gix_parts.proofs.TableFacts.{has}
-use Rattle.gix_parts.proofs.IdEquality.{eq_is_same}
+use Rattle.gix_parts.proofs.Ids.Tables.{has}
+use Rattle.gix_parts.proofs.Ids.Equality.{eq_is_same}
 use Rattle.gix_parts.proofs.hashtable.IdSet.contains.Goals as goal
 
 pub returns : goal.returns

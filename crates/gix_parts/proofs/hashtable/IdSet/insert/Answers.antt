@@ -1,7 +1,7 @@
 use Rattle.std.proofs.Common.{ap, not, ◌∙◌}
 use Rattle.std.specs.FinSet as set
-use Rattle.gix_parts.proofs.TableFacts.{has, inserted}
-use Rattle.gix_parts.proofs.IdEquality.{eq_is_same}
+use Rattle.gix_parts.proofs.Ids.Tables.{has, inserted}
+use Rattle.gix_parts.proofs.Ids.Equality.{eq_is_same}
 use Rattle.gix_parts.proofs.hashtable.IdSet.insert.Goals as goal
 
 pub returns-clause-added : goal.returns-clause-added

@@ -1,7 +1,7 @@
 use Rattle.std.proofs.Common.{ap, sym, ◌∙◌}
 use Rattle.std.specs.FinSet as set
-use Rattle.gix_parts.proofs.TableFacts.{counted}
-use Rattle.gix_parts.proofs.IdEquality.{eq_is_same}
+use Rattle.gix_parts.proofs.Ids.Tables.{counted}
+use Rattle.gix_parts.proofs.Ids.Equality.{eq_is_same}
 use Rattle.gix_parts.proofs.hashtable.IdSet.len.Goals as goal
 
 pub returns : goal.returns

@@ -1,6 +1,6 @@
 use Rattle.std.proofs.lemmas.Bool.Decides.{Decides-eqb}
 use Rattle.std.proofs.lemmas.Slice.Eq.{strip_prefix_is}
-use Rattle.gix_parts.proofs.LineLemmas.{after_word_stripped}
+use Rattle.gix_parts.proofs.Commits.Lines.{after_word_stripped}
 use Rattle.gix_parts.proofs.object.commit.after_word.Goals as goal
 
 pub returns : goal.returns

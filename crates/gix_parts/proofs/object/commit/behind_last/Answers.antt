@@ -2,7 +2,7 @@ use Rattle.std.proofs.Common.{ℕ, ◌+◌, List, get_or, Some, None, sym, ap, �
 use Rattle.std.specs.Option.{option_copied}
 use Rattle.std.proofs.lemmas.Bool.{eqb-true, eq-eqb}
 use Rattle.std.proofs.lemmas.List.{take_rest}
-use Rattle.gix_parts.proofs.SecondsLemmas.{behind_last_none, behind_last_at}
+use Rattle.gix_parts.proofs.Commits.Seconds.{behind_last_none, behind_last_at}
 use Rattle.gix_parts.proofs.object.commit.behind_last.Goals as goal
 
 pub returns-in_err-end : goal.returns-in_err-end

@@ -2,7 +2,7 @@ use Rattle.std.proofs.Common.{ℕ, ◌+◌, get_or, take, Some, List, sym, ap, �
 use Rattle.std.specs.Option.{option_map}
 use Rattle.std.proofs.lemmas.Bool.{eqb-true, eq-eqb}
 use Rattle.std.proofs.lemmas.List.{take_rest}
-use Rattle.gix_parts.proofs.LineLemmas.{line_at_none, line_at_first}
+use Rattle.gix_parts.proofs.Commits.Lines.{line_at_none, line_at_first}
 use Rattle.gix_parts.proofs.object.commit.line_at.Goals as goal
 
 pub returns-in_err-end : goal.returns-in_err-end

@@ -1,6 +1,6 @@
 use Rattle.std.proofs.Common.{ℕ, ◌≡◌, ◌-◌, ◌^◌, ◌+◌, ◌*◌, get_or, drop, min, sym, ap, ◌∙◌, arith}
 use Rattle.gix_parts.specs.CommitText.{digits_from}
-use Rattle.gix_parts.proofs.SecondsLemmas.{digits_more, digits_stop, digits_end, digits_from-min}
+use Rattle.gix_parts.proofs.Commits.Seconds.{digits_more, digits_stop, digits_end, digits_from-min}
 use Rattle.gix_parts.proofs.object.commit.number_at.Goals as goal
 
 pub loop-b-preserved : goal.loop-b-preserved

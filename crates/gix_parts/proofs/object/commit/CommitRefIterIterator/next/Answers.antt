@@ -1,6 +1,6 @@
 use Rattle.std.proofs.Common.{rules, refl, sym, ap, ◌∙◌, length}
 use Rattle.gix_parts.specs.CommitRefIter.{item_of, front_of}
-use Rattle.gix_parts.proofs.CommitRefIterLemmas.{left_none, left_fault, left_found}
+use Rattle.gix_parts.proofs.Commits.ItemsLeft.{left_none, left_fault, left_found}
 use Rattle.gix_parts.proofs.object.commit.CommitRefIterIterator.next.Goals as goal
 
 pub returns-in_err-token-clause-steps : goal.returns-in_err-token-clause-steps

@@ -1,6 +1,6 @@
 use Rattle.std.proofs.Common.{rules, ◌<◌, length, refl, ap, arith}
 use Rattle.gix_parts.specs.TreeRefIter.{entry_of}
-use Rattle.gix_parts.proofs.TreeLemmas.{first_entry, entry_end}
+use Rattle.gix_parts.proofs.TreeText.Entries.{first_entry, entry_end}
 use Rattle.gix_parts.proofs.object.tree.TreeRefIterIterator.next.Goals as goal
 
 pub returns-in-Ok-clause-steps : goal.returns-in-Ok-clause-steps

@@ -1,6 +1,6 @@
 use Rattle.std.proofs.Common.{◌≡◌, [], ◌<◌, ◌-◌, ◌||◌, true, length, arith, sym, ap, ◌∙◌}
 use Rattle.gix_parts.specs.Id.{is_same, is_among}
-use Rattle.gix_parts.proofs.IdEquality.{eq_is_same}
+use Rattle.gix_parts.proofs.Ids.Equality.{eq_is_same}
 use Rattle.gix_parts.specs.contracts.hash.ObjectIdPartialEq.TheImpl.{eq-value}
 use Rattle.gix_traverse.specs.Trees.Inside.LevelQueue.{known_at, met_behind}
 use Rattle.gix_traverse.proofs.Trees.Levels.Met.{known_among, turns_back}

@@ -1,7 +1,7 @@
 use Rattle.std.proofs.Common.{◌≡◌, ◌==◌, ◌&&◌, bytes_eq, Bool, true, refl, sym, ap, ◌∙◌}
 use Rattle.bstr.specs.Owned.{bstring_bytes}
 use Rattle.gix_parts.specs.Id.{is_same}
-use Rattle.gix_parts.proofs.IdEquality.{eq_is_same}
+use Rattle.gix_parts.proofs.Ids.Equality.{eq_is_same}
 use Rattle.gix_traverse.proofs.tree.recorder.EntryPartialEq.eq.Goals as goal
 use Rattle.gix_traverse.proofs.tree.recorder.EntryPartialEq.eq.Goals.{then-eq, else-eq}
 

@@ -1,6 +1,6 @@
 use Rattle.std.proofs.Common.{[], ◌∷◌, subst, sym, ◌∙◌}
 use Rattle.std.specs.List.{Contains}
-use Rattle.gix_parts.proofs.IdFacts.{Contains-here, Contains-there}
+use Rattle.gix_parts.proofs.Ids.Membership.{Contains-here, Contains-there}
 use Rattle.gix_traverse.specs.Simple.Inside.Painter.{Meets}
 use Rattle.gix_traverse.proofs.Painting.Meets.{meets_none, meets_first, fails_within}
 use Rattle.gix_traverse.proofs.commit.simple.paint.Painter.meet_all.Goals as goal

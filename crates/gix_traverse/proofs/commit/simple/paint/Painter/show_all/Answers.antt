@@ -1,7 +1,7 @@
 use Rattle.std.proofs.Common.{◌≡◌, refl, sym, ap, subst, ◌∙◌}
 use Rattle.std.specs.List.{Contains}
 use Rattle.std.specs.VecDeque.Iter.{deque_iter_rest}
-use Rattle.gix_parts.proofs.IdFacts.{Contains-here, Contains-there}
+use Rattle.gix_parts.proofs.Ids.Membership.{Contains-here, Contains-there}
 use Rattle.gix_traverse.specs.declared.commit.simple.paint.Side.TheVariants as side
 use Rattle.gix_traverse.specs.Simple.Inside.Painter.{Meets}
 use Rattle.gix_traverse.specs.Simple.Walk.{ids_of}

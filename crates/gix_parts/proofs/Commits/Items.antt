@@ -7,7 +7,7 @@ use Rattle.gix_parts.specs.declared.hash.ObjectId.{ObjectId}
 use Rattle.gix_parts.specs.declared.object.decode.Error.{Error}
 use Rattle.gix_parts.specs.Id.{id_of_hex}
 use Rattle.gix_parts.specs.CommitItems.{Item, Tree, Parent, Author, Committer, Rest, Place, AtTree, AtParents, AtCommitter, AtRest, AtEnd, Front, Found, Faulty, Ended, after_word, id_line_at, text_line_at, tree_front, author_front, committer_front, parent_front, front, unfolded, items_within, items_from, FaultsEnd}
-use Rattle.gix_parts.proofs.LineLemmas.{after_word_found, line_at_found, id_line_at_found}
+use Rattle.gix_parts.proofs.Commits.Lines.{after_word_found, line_at_found, id_line_at_found}
 
 -- the line with an id that was found behind a word
 pub record FoundId (k : Kind) (word bytes : List ℕ) (i : ObjectId) (rest : List ℕ) : Type 0 where

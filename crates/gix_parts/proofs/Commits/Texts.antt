@@ -7,8 +7,8 @@ use Rattle.gix_parts.specs.declared.hash.Kind.{Kind}
 use Rattle.gix_parts.specs.declared.hash.ObjectId.{ObjectId}
 use Rattle.gix_parts.specs.CommitItems.{AtTree, AtParents, AtCommitter, Front, tree_front, author_front, committer_front, parent_front, unfolded, items_within, items_from}
 use Rattle.gix_parts.specs.CommitText.{AreParentLines, IsCommitText, seconds_of, Commit, commit_of, commit_of_items, read_commit, ReadsTexts}
-use Rattle.gix_parts.proofs.LineLemmas.{line_at-append, id_line_at-append}
-use Rattle.gix_parts.proofs.ItemLemmas.{Stands, ended, faulty, tree, parent, author, committer, stands, items_from-step}
+use Rattle.gix_parts.proofs.Commits.Lines.{line_at-append, id_line_at-append}
+use Rattle.gix_parts.proofs.Commits.Items.{Stands, ended, faulty, tree, parent, author, committer, stands, items_from-step}
 
 -- a line in front
 one_more : (word content lines tail : List ℕ) → (word ++ content ++ 10 ∷ []) ++ lines ++ tail ≡ word ++ (content ++ 10 ∷ (lines ++ tail))

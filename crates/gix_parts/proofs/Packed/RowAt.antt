@@ -15,8 +15,8 @@ use Rattle.gix_parts.specs.Packed.{most, fault_word, no_parent, flag, place_word
 use Rattle.gix_parts.specs.PackedReading.{words_of, row_len, first_field, second_field}
 use Rattle.gix_parts.specs.PackedLayout.{IsPackedAs, BeginsWithRow}
 use Rattle.gix_parts.specs.Parents.{answer_of, answers_of, answer_of_word, answers_of_list, answers_of_words}
-use Rattle.gix_parts.proofs.PackedFields.{place_word-below, HasRow, has_row, length-row_bytes}
-use Rattle.gix_parts.proofs.PackedWhole.{spelling-has_body, length-rows_bytes, words_of-bytes, AreWords-overflow_words}
+use Rattle.gix_parts.proofs.Packed.Fields.{place_word-below, HasRow, has_row, length-row_bytes}
+use Rattle.gix_parts.proofs.Packed.Whole.{spelling-has_body, length-rows_bytes, words_of-bytes, AreWords-overflow_words}
 
 -- ---- the answers of a row's words
 

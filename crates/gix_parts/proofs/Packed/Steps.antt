@@ -12,7 +12,7 @@ use Rattle.gix_parts.specs.declared.graph.check.Layout.{Layout}
 use Rattle.gix_parts.specs.Rows.{GraphRow}
 use Rattle.gix_parts.specs.PackedReading.{Places, words_of, read_packed, rows_in, row_len, id_field, first_field, second_field, parents_at, is_above, with_row, row_then, rows_at}
 use Rattle.gix_parts.specs.PackedLayout.{faults, IsLaidOut, rows_left}
-use Rattle.gix_parts.proofs.PackedParents.{behind}
+use Rattle.gix_parts.proofs.Packed.Parents.{behind}
 
 faults-with_row : (row : GraphRow) (read : Result (List GraphRow) Place) → faults (with_row row read) ≡ faults read
 faults-with_row row (Ok rows) = refl

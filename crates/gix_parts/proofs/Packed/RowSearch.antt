@@ -12,7 +12,7 @@ use Rattle.gix_parts.specs.declared.hash.ObjectId.{ObjectId}
 use Rattle.gix_parts.specs.Id.{id_cmp, is_same}
 use Rattle.gix_parts.specs.Rows.{GraphRow, no_row, row_at, row_of}
 use Rattle.gix_parts.specs.Packed.{ids_of_rows}
-use Rattle.gix_parts.proofs.IdFacts.{id_total}
+use Rattle.gix_parts.proofs.Ids.Membership.{id_total}
 
 id_at : (rows : List GraphRow) (r : ℕ) → r < length rows → get_or (ids_of_rows rows) r no_row.id ≡ (row_at rows r).id
 id_at rows r lt = get_or-map (λ row. row.id) rows r no_row no_row.id lt

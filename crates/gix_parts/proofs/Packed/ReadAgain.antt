@@ -15,7 +15,7 @@ use Rattle.gix_parts.specs.Id.{id_cmp}
 use Rattle.gix_parts.specs.Rows.{GraphRow}
 use Rattle.gix_parts.specs.Packed.{most, fault_word, no_parent, flag, place_word, list_words, overflow_of, first_word, second_word, row_bytes, rows_bytes, overflow_words, IsPlaceAmong, IsRowAmong, ids_of_rows}
 use Rattle.gix_parts.specs.PackedReading.{row_len, id_field, first_field, second_field, row_of_fields, place_of, Places, list_at, parents_at, is_above, rows_at}
-use Rattle.gix_parts.proofs.PackedFields.{place_word-below, has_row}
+use Rattle.gix_parts.proofs.Packed.Fields.{place_word-below, has_row}
 
 place_again : (n : ℕ) (p : ParentPlace) → n ≤ most → IsPlaceAmong n p → place_of n (place_word p) ≡ Some p
 place_again n (At i) few lt = rw (lt-ltb i n lt) refl

@@ -5,7 +5,7 @@ use Rattle.gix_parts.specs.declared.object.decode.Error.{Error}
 use Rattle.gix_parts.specs.declared.object.commit.CommitRefIter.{CommitRefIter}
 use Rattle.gix_parts.specs.CommitItems.{Item, AtEnd, Found, Faulty, Ended, front, unfolded, items_from}
 use Rattle.gix_parts.specs.CommitRefIter.{place_of, commit_items_left}
-use Rattle.gix_parts.proofs.ItemLemmas.{items_from-step}
+use Rattle.gix_parts.proofs.Commits.Items.{items_from-step}
 
 pub left_none : (it : CommitRefIter) → Ended ≡ front it.kind (place_of it.place) it.bytes.now → commit_items_left it ≡ []
 unfolding commit_items_left

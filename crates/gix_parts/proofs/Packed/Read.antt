@@ -21,12 +21,12 @@ use Rattle.gix_parts.specs.Rows.{GraphRow}
 use Rattle.gix_parts.specs.Packed.{most, overflow_of, row_bytes, rows_bytes, overflow_words, layout_name, kind_of_rows, spelling, AreBytes, IsRowAmong, ids_of_rows}
 use Rattle.gix_parts.specs.PackedReading.{words_of, row_len, id_field, first_field, second_field, row_of_fields, Places, parents_at, is_above, with_row, row_then, rows_at, kind_named, may_have, read_packed}
 use Rattle.gix_parts.specs.PackedLayout.{IsLaidOut, IsPackedAs}
-use Rattle.gix_parts.proofs.IdFacts.{id_total}
-use Rattle.gix_parts.proofs.PackedAgain.{Begins}
-use Rattle.gix_parts.proofs.PackedTakes.{chosen, parents_take}
-use Rattle.gix_parts.proofs.PackedRowTakes.{AreBytes-drop, row_takes, row_among, bytes-words_of, word_back}
-use Rattle.gix_parts.proofs.PackedWhole.{length-rows_bytes}
-use Rattle.gix_parts.proofs.PackedSteps.{length-words_of}
+use Rattle.gix_parts.proofs.Ids.Membership.{id_total}
+use Rattle.gix_parts.proofs.Packed.ReadAgain.{Begins}
+use Rattle.gix_parts.proofs.Packed.Takes.{chosen, parents_take}
+use Rattle.gix_parts.proofs.Packed.RowTakes.{AreBytes-drop, row_takes, row_among, bytes-words_of, word_back}
+use Rattle.gix_parts.proofs.Packed.Whole.{length-rows_bytes}
+use Rattle.gix_parts.proofs.Packed.Steps.{length-words_of}
 
 -- ---- ids in order
 

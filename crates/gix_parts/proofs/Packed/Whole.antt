@@ -15,8 +15,8 @@ use Rattle.gix_parts.specs.Rows.{GraphRow}
 use Rattle.gix_parts.specs.Packed.{most, list_words, overflow_of, row_bytes, rows_bytes, overflow_words, layout_name, kind_of_rows, spelling, IsPlaceAmong, IsRowAmong, AreGraphRows}
 use Rattle.gix_parts.specs.PackedReading.{word_at, words_of, row_len, kind_named, may_have, is_sized, body_of, rows_at, read_packed, rows_in}
 use Rattle.gix_parts.specs.PackedLayout.{IsPackedAs}
-use Rattle.gix_parts.proofs.PackedFields.{after_part, part_at, place_word-below, length-row_bytes}
-use Rattle.gix_parts.proofs.PackedAgain.{rows_again, begins_none}
+use Rattle.gix_parts.proofs.Packed.Fields.{after_part, part_at, place_word-below, length-row_bytes}
+use Rattle.gix_parts.proofs.Packed.ReadAgain.{rows_again, begins_none}
 
 -- ---- the overflow words
 

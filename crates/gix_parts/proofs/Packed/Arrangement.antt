@@ -23,8 +23,8 @@ use Rattle.gix_parts.specs.Id.{id_cmp, is_same}
 use Rattle.gix_parts.specs.Rows.{GraphRow, no_row, row_at}
 use Rattle.gix_parts.specs.Packed.{most, overflow_of, overflow_words, kind_of_rows, ids_of_rows, IsPlaceAmong, IsRowAmong, AreGraphRows}
 use Rattle.gix_parts.specs.Renumbering.{Entry, entries_from, moved, renumbered, arranged, NeverFall, AlwaysRise, StopsRising, HasPlaces, AreNumbers, CanArrange, HasSameRows, HaveDistinctIds, HavePlacesWithin, IsRowOf, IsInRange}
-use Rattle.gix_parts.proofs.IdFacts.{id_total, same_back}
-use Rattle.gix_parts.proofs.PackedArranged.{arranged_row, length-overflow_of-moved}
+use Rattle.gix_parts.proofs.Ids.Membership.{id_total, same_back}
+use Rattle.gix_parts.proofs.Packed.RowsArranged.{arranged_row, length-overflow_of-moved}
 
 abbrev no_entry : Entry
 no_entry = (no_row.id, 0)

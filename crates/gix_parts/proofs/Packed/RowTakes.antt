@@ -13,7 +13,7 @@ use Rattle.gix_parts.specs.declared.graph.ParentPlace.{ParentPlace}
 use Rattle.gix_parts.specs.Id.{id_len, id_of, kind_of, bytes_of}
 use Rattle.gix_parts.specs.Packed.{first_word, second_word, row_bytes, AreBytes, IsIdOf, IsPlaceAmong, IsRowAmong}
 use Rattle.gix_parts.specs.PackedReading.{words_of, row_len, first_field, second_field, row_of_fields}
-use Rattle.gix_parts.proofs.PackedFields.{row_len-is}
+use Rattle.gix_parts.proofs.Packed.Fields.{row_len-is}
 
 pub AreBytes-drop : (n : ℕ) (bytes : List ℕ) → AreBytes bytes → AreBytes (drop n bytes)
 AreBytes-drop n bytes h i = rw get_or-drop (h (n + i))

@@ -8,7 +8,7 @@ use Rattle.std.specs.FinMap as map
 use Rattle.std.specs.Map.{lookup, keys_of}
 use Rattle.gix_parts.specs.declared.hash.ObjectId.{ObjectId}
 use Rattle.gix_parts.specs.Id.{id_cmp, is_same}
-use Rattle.gix_parts.proofs.IdFacts.{id_total, id_apart, same_back}
+use Rattle.gix_parts.proofs.Ids.Membership.{id_total, id_apart, same_back}
 
 cond-true : (b c : Bool) → cond b true c ≡ (b || c)
 cond-true true c = refl

@@ -8,7 +8,7 @@ use Rattle.gix_parts.specs.declared.hash.ObjectId.{ObjectId}
 use Rattle.gix_parts.specs.Id.{id_len, id_of}
 use Rattle.gix_parts.specs.TreeItems.{TreeEntry, TreeFront, Found, Faulty, Ended, parted_at, parted, mode_of, mode_before, mode_parted, mode_at, name_at, id_at, named_front, moded_front, entry_front, tree_front, unfolded, entries_within, tree_items}
 use Rattle.gix_parts.specs.TreeRefIter.{IsEndOf}
-use Rattle.gix_parts.proofs.EndLemmas.{drop_end}
+use Rattle.gix_parts.proofs.TreeText.Ends.{drop_end}
 
 -- what is left once some of the bytes were taken from the front
 pub record IsBehind (bytes rest : List ℕ) : Type 0 where

@@ -9,7 +9,7 @@ use Rattle.gix_parts.specs.declared.graph.Row.{Row}
 use Rattle.gix_parts.specs.Rows.{GraphRow, no_row, row_at}
 use Rattle.gix_parts.specs.Packed.{most, list_words, overflow_of, row_bytes, rows_bytes, overflow_words, IsPlaceAmong}
 use Rattle.gix_parts.specs.Renumbering.{row_seen, rows_seen, Entry, moved, renumbered, arranged, CanArrange}
-use Rattle.gix_parts.proofs.HandedRows.{read_places}
+use Rattle.gix_parts.proofs.Packed.HandedRows.{read_places}
 
 -- the row of an entry, by its new number's words
 abbrev pub arranged_row : List GraphRow → List ℕ → Entry → GraphRow
