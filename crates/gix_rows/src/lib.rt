@@ -1,29 +1,11 @@
-//! Tests of the walks: worked histories and trees, a store that fails, a predicate and a delegate that write down what they
-//! are asked.
+//! Tests of the walks, over worked histories and trees (the rows of the crate's name): a store that fails, a predicate and a
+//! delegate that write down what they are asked. Rows of a commit-graph are in `simple::graphs` and `topo::counts`.
 #![tactic(auto)]
 
 #[cfg(test)]
-mod breadth;
-#[cfg(test)]
-mod counts;
-#[cfg(test)]
-mod faults;
-#[cfg(test)]
-mod graphs;
-#[cfg(test)]
-mod hiding;
-#[cfg(test)]
 mod history;
 #[cfg(test)]
-mod orders;
-#[cfg(test)]
-mod recorded;
-#[cfg(test)]
-mod script;
-#[cfg(test)]
 mod simple;
-#[cfg(test)]
-mod times;
 #[cfg(test)]
 mod topo;
 #[cfg(test)]

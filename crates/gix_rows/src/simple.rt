@@ -1,4 +1,10 @@
 //! Walks by parent links, told as text: a word for each answer.
+mod breadth;
+mod faults;
+pub mod graphs;
+mod hiding;
+mod times;
+
 use crate::history::{Failing, SAMPLE, TREE, digit, id, ids, long_id, sample, store, text};
 use crate::words::{broken, not_found};
 use gix_parts::graph::Graph;

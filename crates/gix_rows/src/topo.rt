@@ -1,4 +1,7 @@
 //! Topological walks, told in words; and their faults.
+mod counts;
+mod orders;
+
 use crate::history::{Rows, digit, id, ids};
 use crate::words::{broken, not_found};
 use gix_parts::graph::Graph;

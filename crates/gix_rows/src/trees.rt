@@ -1,4 +1,7 @@
 //! Trees to walk, their walks, and a delegate that writes its calls down.
+mod calls;
+mod recorded;
+
 use crate::history::{digit, id};
 use crate::words::{broken, not_found};
 use bstr::BStr;

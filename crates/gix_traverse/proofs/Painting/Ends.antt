@@ -10,8 +10,8 @@ use Rattle.gix_parts.specs.declared.hash.ObjectId.{ObjectId}
 use Rattle.gix_parts.specs.Id.{is_among}
 use Rattle.gix_parts.specs.Object.{Object, Objects}
 use Rattle.gix_parts.specs.Rows.{GraphRow, row_of}
-use Rattle.gix_traverse.specs.contracts.commit.simple.paint.KeyOrd.TheImpl.{cmp-value}
-use Rattle.gix_traverse.specs.declared.commit.simple.paint.Key.{Key}
+use Rattle.gix_traverse.specs.contracts.commit.simple.paint.source.KeyOrd.TheImpl.{cmp-value}
+use Rattle.gix_traverse.specs.declared.commit.simple.paint.source.Key.{Key}
 use Rattle.gix_traverse.specs.declared.commit.simple.paint.Entry.{Entry}
 use Rattle.gix_traverse.specs.declared.commit.simple.paint.Painter.{Painter}
 use Rattle.gix_traverse.specs.History.Commits.{parents_of, commit_of_object}

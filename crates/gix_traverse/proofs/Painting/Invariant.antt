@@ -11,8 +11,8 @@ use Rattle.gix_parts.specs.Rows.{GraphRow, row_of}
 use Rattle.gix_traverse.specs.declared.commit.simple.paint.Marks.{Marks}
 use Rattle.gix_traverse.specs.declared.commit.simple.paint.Side.{Side}
 use Rattle.gix_traverse.specs.declared.commit.simple.paint.Side.TheVariants as side
-use Rattle.gix_traverse.specs.declared.commit.simple.paint.Key.{Key}
-use Rattle.gix_traverse.specs.declared.commit.simple.paint.Known.{Known}
+use Rattle.gix_traverse.specs.declared.commit.simple.paint.source.Key.{Key}
+use Rattle.gix_traverse.specs.declared.commit.simple.paint.source.Known.{Known}
 use Rattle.gix_traverse.specs.declared.commit.simple.paint.Entry.{Entry}
 use Rattle.gix_traverse.specs.declared.commit.simple.paint.Painter.{Painter}
 use Rattle.gix_traverse.specs.History.Commits.{parents_of, parents_in}

@@ -8,10 +8,10 @@ use Rattle.std.specs.Cmp.{nat_cmp_total}
 use Rattle.std.proofs.lemmas.Map.Keys.{le_from_is_le}
 use Rattle.std.specs.declared.cmp.Ordering.{Ordering}
 use Rattle.std.specs.declared.cmp.Ordering.TheVariants.{Less, Equal, Greater}
-use Rattle.gix_traverse.specs.contracts.commit.simple.paint.KeyOrd.TheImpl.{cmp-value}
-use Rattle.gix_traverse.specs.declared.commit.simple.paint.Generation.{Generation}
-use Rattle.gix_traverse.specs.declared.commit.simple.paint.Generation.TheVariants.{Told, Infinite}
-use Rattle.gix_traverse.specs.declared.commit.simple.paint.Key.{Key}
+use Rattle.gix_traverse.specs.contracts.commit.simple.paint.source.KeyOrd.TheImpl.{cmp-value}
+use Rattle.gix_traverse.specs.declared.commit.simple.paint.source.Generation.{Generation}
+use Rattle.gix_traverse.specs.declared.commit.simple.paint.source.Generation.TheVariants.{Told, Infinite}
+use Rattle.gix_traverse.specs.declared.commit.simple.paint.source.Key.{Key}
 use Rattle.gix_traverse.specs.declared.commit.simple.paint.Entry.{Entry}
 use Rattle.gix_traverse.specs.declared.commit.simple.paint.Painter.{Painter}
 use Rattle.gix_traverse.specs.Simple.Inside.Painter.{IsSettled, is_told}

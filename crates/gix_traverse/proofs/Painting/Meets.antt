@@ -13,7 +13,7 @@ use Rattle.gix_parts.specs.Object.{Objects}
 use Rattle.gix_traverse.specs.declared.commit.simple.paint.Marks.{Marks}
 use Rattle.gix_traverse.specs.declared.commit.simple.paint.Side.{Side}
 use Rattle.gix_traverse.specs.declared.commit.simple.paint.Side.TheVariants as side
-use Rattle.gix_traverse.specs.declared.commit.simple.paint.Key.{Key}
+use Rattle.gix_traverse.specs.declared.commit.simple.paint.source.Key.{Key}
 use Rattle.gix_traverse.specs.declared.commit.simple.paint.Entry.{Entry}
 use Rattle.gix_traverse.specs.declared.commit.simple.paint.Painter.{Painter}
 use Rattle.gix_traverse.specs.declared.commit.simple.pending.Pending.{Pending}

@@ -1,20 +1,19 @@
 //! Walks in which no commit comes before its children.
-mod begin;
 mod counting;
 mod frontier;
 mod init;
-mod iter;
 mod reader;
 mod ready;
+mod walk;
 
 use super::{Info, Predicate};
 use gix_parts::object::decode;
 use gix_parts::object::find::{Find, existing_iter};
 pub use init::Builder;
-use iter::Walk;
 use std::alloc::AllocError;
 use std::marker::Model;
 use thiserror::Error;
+use walk::Walk;
 
 /// The order of a topological walk. In both no parent comes before all of its children.
 #[derive(Clone, Copy, Debug, Default, PartialEq, Eq)]

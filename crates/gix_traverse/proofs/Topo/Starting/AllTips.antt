@@ -10,7 +10,7 @@ use Rattle.gix_parts.proofs.Ids.Membership.{same_is, among-append, among-one, am
 use Rattle.gix_traverse.specs.declared.commit.topo.frontier.Side.{Side}
 use Rattle.gix_traverse.specs.declared.commit.topo.frontier.Side.TheVariants.{Ends}
 use Rattle.gix_traverse.specs.declared.commit.topo.frontier.Frontier.{Frontier}
-use Rattle.gix_traverse.specs.declared.commit.topo.iter.Walk.{Walk}
+use Rattle.gix_traverse.specs.declared.commit.topo.walk.Walk.{Walk}
 use Rattle.gix_traverse.specs.Topo.Inside.Frontier.{is_seen, known_of, reached}
 use Rattle.gix_traverse.specs.History.Reading.{Reads, is_whole_row}
 use Rattle.gix_traverse.specs.Topo.Inside.Releasing.{plan_of}

@@ -12,7 +12,7 @@ use Rattle.gix_parts.proofs.Ids.Membership.{among_from, among_is}
 use Rattle.gix_traverse.specs.declared.commit.topo.frontier.Side.{Side}
 use Rattle.gix_traverse.specs.declared.commit.topo.frontier.Side.TheVariants.{Tips, Ends}
 use Rattle.gix_traverse.specs.declared.commit.topo.counting.Counting.{Counting}
-use Rattle.gix_traverse.specs.declared.commit.topo.iter.Walk.{Walk}
+use Rattle.gix_traverse.specs.declared.commit.topo.walk.Walk.{Walk}
 use Rattle.gix_traverse.specs.History.Agreeing.{IsAgreeing}
 use Rattle.gix_traverse.specs.Topo.Depth.{infinity, known_generation}
 use Rattle.gix_traverse.specs.Topo.Inside.Frontier.{is_seen, is_done, reached}

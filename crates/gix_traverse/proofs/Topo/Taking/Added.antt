@@ -10,7 +10,7 @@ use Rattle.gix_parts.proofs.Ids.Membership.{id_total, same_is, among_from}
 use Rattle.gix_traverse.specs.declared.commit.topo.frontier.Side.{Side}
 use Rattle.gix_traverse.specs.declared.commit.topo.frontier.Side.TheVariants.{Tips, Ends}
 use Rattle.gix_traverse.specs.declared.commit.topo.counting.Counting.{Counting}
-use Rattle.gix_traverse.specs.declared.commit.topo.iter.Walk.{Walk}
+use Rattle.gix_traverse.specs.declared.commit.topo.walk.Walk.{Walk}
 use Rattle.gix_traverse.specs.declared.commit.topo.ready.ReadySet.{ReadySet}
 use Rattle.gix_traverse.specs.Topo.Depth.{known_generation}
 use Rattle.gix_traverse.specs.Topo.Inside.Exploring.{IsSamePlan, Explores, itself, further}

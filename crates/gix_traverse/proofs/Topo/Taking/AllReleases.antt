@@ -15,7 +15,7 @@ use Rattle.gix_traverse.specs.declared.commit.topo.frontier.Side.{Side}
 use Rattle.gix_traverse.specs.declared.commit.topo.frontier.Side.TheVariants.{Tips, Ends}
 use Rattle.gix_traverse.specs.Topo.Inside.Known.{Known}
 use Rattle.gix_traverse.specs.declared.commit.topo.frontier.Frontier.{Frontier}
-use Rattle.gix_traverse.specs.declared.commit.topo.iter.Walk.{Walk}
+use Rattle.gix_traverse.specs.declared.commit.topo.walk.Walk.{Walk}
 use Rattle.gix_traverse.specs.Topo.Inside.Frontier.{is_seen, known_of, progress_of, reached, is_due, Uncounts, Makes}
 use Rattle.gix_traverse.specs.History.Reading.{Reads, by_row, by_text, is_whole_row}
 use Rattle.gix_traverse.specs.Topo.Inside.ReadySet.{ready_in, sorting_of}

@@ -22,7 +22,7 @@ use Rattle.gix_traverse.specs.declared.commit.topo.frontier.Side.TheVariants.{Ti
 use Rattle.gix_traverse.specs.declared.commit.topo.frontier.Progress.{Progress}
 use Rattle.gix_traverse.specs.declared.commit.topo.frontier.Progress.TheVariants.{Unseen, Queued, Done}
 use Rattle.gix_traverse.specs.declared.commit.topo.frontier.Waiting.{Waiting}
-use Rattle.gix_traverse.specs.declared.commit.topo.iter.Walk.{Walk}
+use Rattle.gix_traverse.specs.declared.commit.topo.walk.Walk.{Walk}
 use Rattle.gix_traverse.specs.History.Agreeing.{IsAgreeing}
 use Rattle.gix_traverse.specs.Topo.Inside.Exploring.{IsExploringFault}
 use Rattle.gix_traverse.specs.Topo.Inside.Frontier.{is_side, is_seen, is_queued, reached, waiting}

@@ -19,10 +19,10 @@ use Rattle.gix_traverse.specs.declared.commit.simple.Hidden.TheVariants as hidde
 use Rattle.gix_traverse.specs.declared.commit.simple.paint.Marks.{Marks}
 use Rattle.gix_traverse.specs.declared.commit.simple.paint.Side.{Side}
 use Rattle.gix_traverse.specs.declared.commit.simple.paint.Side.TheVariants as side
-use Rattle.gix_traverse.specs.declared.commit.simple.paint.Generation.{Generation}
-use Rattle.gix_traverse.specs.declared.commit.simple.paint.Generation.TheVariants.{Told, Infinite}
-use Rattle.gix_traverse.specs.declared.commit.simple.paint.Key.{Key}
-use Rattle.gix_traverse.specs.declared.commit.simple.paint.Known.{Known}
+use Rattle.gix_traverse.specs.declared.commit.simple.paint.source.Generation.{Generation}
+use Rattle.gix_traverse.specs.declared.commit.simple.paint.source.Generation.TheVariants.{Told, Infinite}
+use Rattle.gix_traverse.specs.declared.commit.simple.paint.source.Key.{Key}
+use Rattle.gix_traverse.specs.declared.commit.simple.paint.source.Known.{Known}
 use Rattle.gix_traverse.specs.declared.commit.simple.paint.Entry.{Entry}
 use Rattle.gix_traverse.specs.declared.commit.simple.paint.Painter.{Painter}
 use Rattle.gix_traverse.specs.History.Commits.{commit_at, time_of}

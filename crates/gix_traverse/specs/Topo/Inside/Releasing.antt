@@ -8,7 +8,7 @@ use Rattle.gix_traverse.specs.declared.commit.topo.Error.{Error}
 use Rattle.gix_traverse.specs.declared.commit.topo.Error.TheVariants as error
 use Rattle.gix_traverse.specs.declared.commit.topo.frontier.Frontier.{Frontier}
 use Rattle.gix_traverse.specs.declared.commit.topo.counting.Counting.{Counting}
-use Rattle.gix_traverse.specs.declared.commit.topo.iter.Walk.{Walk}
+use Rattle.gix_traverse.specs.declared.commit.topo.walk.Walk.{Walk}
 use Rattle.gix_traverse.specs.Topo.Depth.{least}
 use Rattle.gix_traverse.specs.Topo.Inside.Exploring.{Explores, IsRested, IsExploringFault}
 use Rattle.gix_traverse.specs.History.Commits.{by_mode}

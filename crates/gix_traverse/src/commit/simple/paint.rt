@@ -2,17 +2,17 @@
 ghost use Rattle.std.specs.Prelude.{◌≡◌, ◌≢◌, ◌↔◌, ◌++◌, ◌∷◌, [], IsTrue, IfOk, IfErr, IfSome, IfNone, if◌then◌else◌};
 ghost use Rattle.std.specs.FinSet as set;
 ghost use Rattle.gix_parts.specs.declared.object.find.existing_iter.Error.TheVariants as existing;
-ghost use Rattle.gix_traverse.specs.declared.commit.simple.paint.Key.{Key};
-ghost use Rattle.gix_traverse.specs.History.Commits.{time_of};
-ghost use Rattle.gix_traverse.specs.Simple.Painting.{IsFaultAt, IsHiddenFault, Paints};
+ghost use Rattle.gix_traverse.specs.declared.commit.simple.paint.source.Key.{Key};
+ghost use Rattle.gix_traverse.specs.Simple.Painting.{IsHiddenFault, Paints};
 ghost use Rattle.gix_traverse.specs.Simple.Walk.{ids_of};
 ghost use Rattle.gix_traverse.specs.Simple.Inside.Painter as painter;
-ghost use Rattle.gix_traverse.specs.Simple.Inside.Painter.{rows_in, FailsAmong, Reads, ReadsParents, GivesParents, Knows, Queues, Meets, is_turn, Takes, TreatsEntry, TreatFails, IsSettled, Pops};
+ghost use Rattle.gix_traverse.specs.Simple.Inside.Painter.{rows_in, FailsAmong, Queues, Meets, is_turn, Takes, TreatsEntry, TreatFails, IsSettled, Pops};
+
+mod source;
 
 use super::Hidden;
 use super::pending::Pending;
-use crate::commit::read::{row_parents, scan};
-use crate::commit::{ParentIds, Parents};
+use crate::commit::ParentIds;
 use bitflags::{Flag, Flags, bitflag_items};
 use gix_parts::graph::Graph;
 use gix_parts::hash::ObjectId;
@@ -20,6 +20,7 @@ use gix_parts::hashtable::{IdMap, IdSet};
 use gix_parts::object::decode;
 use gix_parts::object::find::{Find, existing_iter};
 use gix_parts::queue::PriorityQueue;
+use source::{Generation, Key, Known, Source};
 use std::alloc::{AllocError, Global};
 use std::collections::VecDeque;
 use std::marker::Model;
@@ -143,126 +144,12 @@ enum Side {
     Hidden,
 }
 
-// The generation that a commit's row tells. Without a row it counts as greater than all that rows tell.
-#[derive(Clone, Copy, PartialEq, Eq, PartialOrd, Ord, Debug)]
-enum Generation {
-    Told(u32),
-    Infinite,
-}
-
-// The greatest key is taken first. Parents have lesser generations, so what is taken is reached by nothing that still waits.
-// Among equal generations, as without rows, a greater time lets both sides meet early.
-#[derive(Clone, Copy, PartialEq, Eq, PartialOrd, Ord, Debug)]
-struct Key {
-    generation: Generation,
-    time: i64,
-}
-
-// What is known of a commit before it is queued: its key, and where the store was asked for it, its parents.
-#[derive(Drop)]
-struct Known {
-    key: Key,
-    parent_ids: Option<ParentIds>,
-}
-
 // A commit that waits to be read.
 #[derive(Drop)]
 struct Entry {
     id: ObjectId,
     side: Side,
     parent_ids: Option<ParentIds>,
-}
-
-// What the store says of a commit.
-#[derive(Drop)]
-struct Stored {
-    parent_ids: ParentIds,
-    time: i64,
-}
-
-// Where commits are read: by their rows while these stand, and else from the store.
-#[derive(Drop)]
-struct Source<'a, F> {
-    objects: &'a F,
-    graph: Option<&'a Graph>,
-    text: Vec<u8>,
-    alloc: Global,
-}
-
-impl<'a, F: Find> Source<'a, F> {
-    // Reads a commit from the store, its committer too.
-    fn read(&mut self, id: &ObjectId) -> Result<Stored, Hidden>
-        ensures objects { self.new.objects ≡ self.old.objects }
-        ensures graph { self.new.graph ≡ self.old.graph }
-        ensures read { IfOk result (λ stored. Reads (F.objects self.old.objects.now) id.now stored.parent_ids.items) }
-        ensures time { IfOk result (λ stored. stored.time ≡ time_of (F.objects self.old.objects.now) id.now) }
-        ensures fault { IfErr result (FailsAmong (F.objects self.old.objects.now) (F.faulty self.old.objects.now) (id.now ∷ [])) }
-    {
-        let items = self.objects.find_commit_iter(id, &mut self.text)?;
-        let time = items.committer()?.seconds();
-        let parent_ids = scan(self.alloc, Parents::All, items)?.parent_ids;
-        Ok(Stored { parent_ids, time })
-    }
-
-    // What is known of a commit by its row, whose places are left alone, or else by the store.
-    fn look_up(&mut self, id: &ObjectId) -> Result<Known, Hidden>
-        ensures objects { self.new.objects ≡ self.old.objects }
-        ensures graph { self.new.graph ≡ self.old.graph }
-        ensures known { IfOk result (Knows (F.objects self.old.objects.now) (rows_in self.old.graph) id.now) }
-        ensures fault { IfErr result (FailsAmong (F.objects self.old.objects.now) (F.faulty self.old.objects.now) (id.now ∷ [])) }
-    {
-        if let Some(graph) = self.graph
-            && let Some(commit) = graph.commit_by_id(id)
-        {
-            let key = Key {
-                generation: Generation::Told(commit.generation()),
-                time: commit.committer_timestamp(),
-            };
-            return Ok(Known {
-                key,
-                parent_ids: None,
-            });
-        }
-        let Stored { parent_ids, time } = self.read(id)?;
-        let key = Key {
-            generation: Generation::Infinite,
-            time,
-        };
-        Ok(Known {
-            key,
-            parent_ids: Some(parent_ids),
-        })
-    }
-
-    // The parents by the row, or else from the store. A corrupt row drops all rows for good.
-    fn parents_of(&mut self, id: &ObjectId) -> Result<ParentIds, Hidden>
-        ensures objects { self.new.objects ≡ self.old.objects }
-        ensures parents { IfOk result (λ ids. ReadsParents (F.objects self.old.objects.now) self.old.graph id.now ids.items self.new.graph) }
-        ensures fault { IfErr result (FailsAmong (F.objects self.old.objects.now) (F.faulty self.old.objects.now) (id.now ∷ [])) }
-    {
-        if let Some(graph) = self.graph
-            && let Some(commit) = graph.commit_by_id(id)
-        {
-            if let Some(parent_ids) = row_parents(self.alloc, graph, commit)? {
-                return Ok(parent_ids);
-            }
-            self.graph = None;
-        }
-        Ok(self.read(id)?.parent_ids)
-    }
-
-    // The parents of an entry's commit: those that it brings, or else those that are read now.
-    fn parents(&mut self, entry: Entry) -> Result<ParentIds, Hidden>
-        ensures objects { self.new.objects ≡ self.old.objects }
-        ensures parents { IfOk result (λ ids. GivesParents (F.objects self.old.objects.now) self.old.graph entry ids.items self.new.graph) }
-        ensures fault { IfErr result (FailsAmong (F.objects self.old.objects.now) (F.faulty self.old.objects.now) (entry.id ∷ [])) }
-    {
-        let Entry { id, parent_ids, .. } = entry;
-        match parent_ids {
-            Some(parent_ids) => Ok(parent_ids),
-            None => self.parents_of(&id),
-        }
-    }
 }
 
 // What is marked so far, and what waits to be read.

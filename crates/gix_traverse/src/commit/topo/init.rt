@@ -5,8 +5,8 @@ ghost use Rattle.gix_parts.specs.declared.hash.ObjectId.{ObjectId};
 ghost use Rattle.gix_traverse.specs.History.Reading.{rows_of};
 ghost use Rattle.gix_traverse.specs.Topo.Walk.{fresh_builder, IsFromEnds, Built};
 
-use super::iter::Walk;
 use super::reader::Reader;
+use super::walk::Walk;
 use super::{Error, Sorting, Topo};
 use crate::commit::{Parents, Predicate, Unfiltered};
 use gix_parts::graph::Graph;

@@ -1,0 +1,18 @@
+use Rattle.std.proofs.Common.{◌≡◌}
+use Rattle.gix_traverse.proofs.commit.topo.walk.Walk.push.Given as goal
+
+-- looking parents up changes nothing but the text that was read
+abbrev pub invariant-loop-parent : goal.invariant-loop-parent
+invariant-loop-parent g l = record {
+  find : l.self.counting.reader.find ≡ l.initial.self.counting.reader.find;
+  graph : l.self.counting.reader.graph ≡ l.initial.self.counting.reader.graph;
+  standing : l.self.counting.reader.standing ≡ l.initial.self.counting.reader.standing;
+  parents : l.self.counting.parents ≡ l.initial.self.counting.parents;
+  frontier : l.self.counting.frontier ≡ l.initial.self.counting.frontier;
+  depth : l.self.counting.depth ≡ l.initial.self.counting.depth;
+  expanded : l.self.counting.expanded ≡ l.initial.self.counting.expanded;
+  tips : l.self.tips ≡ l.initial.self.tips;
+  ends : l.self.ends ≡ l.initial.self.ends;
+  ready : l.self.ready ≡ l.initial.self.ready;
+  taken : l.self.taken ≡ l.initial.self.taken;
+}

@@ -1,0 +1,127 @@
+//! Where painting reads commits: by their rows as long as these are held, and else from the store.
+ghost use Rattle.std.specs.Prelude.{◌≡◌, ◌∷◌, [], IfOk, IfErr};
+ghost use Rattle.gix_traverse.specs.History.Commits.{time_of};
+ghost use Rattle.gix_traverse.specs.Simple.Inside.Painter.{rows_in, FailsAmong, Reads, ReadsParents, GivesParents, Knows};
+
+use super::Entry;
+use crate::commit::read::{row_parents, scan};
+use crate::commit::simple::Hidden;
+use crate::commit::{ParentIds, Parents};
+use gix_parts::graph::Graph;
+use gix_parts::hash::ObjectId;
+use gix_parts::object::find::Find;
+use std::alloc::Global;
+
+// The generation that a commit's row tells. Without a row it counts as greater than all that rows tell.
+#[derive(Clone, Copy, PartialEq, Eq, PartialOrd, Ord, Debug)]
+pub(super) enum Generation {
+    Told(u32),
+    Infinite,
+}
+
+// The greatest key is taken first. Parents have lesser generations, so what is taken is reached by nothing that still waits.
+// Among equal generations, as without rows, a greater time lets both sides meet early.
+#[derive(Clone, Copy, PartialEq, Eq, PartialOrd, Ord, Debug)]
+pub(super) struct Key {
+    pub(super) generation: Generation,
+    pub(super) time: i64,
+}
+
+// What is known of a commit before it is queued: its key, and where the store was asked for it, its parents.
+#[derive(Drop)]
+pub(super) struct Known {
+    pub(super) key: Key,
+    pub(super) parent_ids: Option<ParentIds>,
+}
+
+// What the store says of a commit.
+#[derive(Drop)]
+struct Stored {
+    parent_ids: ParentIds,
+    time: i64,
+}
+
+// Where commits are read: by their rows while these stand, and else from the store.
+#[derive(Drop)]
+pub(super) struct Source<'a, F> {
+    pub(super) objects: &'a F,
+    pub(super) graph: Option<&'a Graph>,
+    pub(super) text: Vec<u8>,
+    pub(super) alloc: Global,
+}
+
+impl<'a, F: Find> Source<'a, F> {
+    // Reads a commit from the store, its committer too.
+    fn read(&mut self, id: &ObjectId) -> Result<Stored, Hidden>
+        ensures objects { self.new.objects ≡ self.old.objects }
+        ensures graph { self.new.graph ≡ self.old.graph }
+        ensures read { IfOk result (λ stored. Reads (F.objects self.old.objects.now) id.now stored.parent_ids.items) }
+        ensures time { IfOk result (λ stored. stored.time ≡ time_of (F.objects self.old.objects.now) id.now) }
+        ensures fault { IfErr result (FailsAmong (F.objects self.old.objects.now) (F.faulty self.old.objects.now) (id.now ∷ [])) }
+    {
+        let items = self.objects.find_commit_iter(id, &mut self.text)?;
+        let time = items.committer()?.seconds();
+        let parent_ids = scan(self.alloc, Parents::All, items)?.parent_ids;
+        Ok(Stored { parent_ids, time })
+    }
+
+    // What is known of a commit by its row, whose places are left alone, or else by the store.
+    pub(super) fn look_up(&mut self, id: &ObjectId) -> Result<Known, Hidden>
+        ensures objects { self.new.objects ≡ self.old.objects }
+        ensures graph { self.new.graph ≡ self.old.graph }
+        ensures known { IfOk result (Knows (F.objects self.old.objects.now) (rows_in self.old.graph) id.now) }
+        ensures fault { IfErr result (FailsAmong (F.objects self.old.objects.now) (F.faulty self.old.objects.now) (id.now ∷ [])) }
+    {
+        if let Some(graph) = self.graph
+            && let Some(commit) = graph.commit_by_id(id)
+        {
+            let key = Key {
+                generation: Generation::Told(commit.generation()),
+                time: commit.committer_timestamp(),
+            };
+            return Ok(Known {
+                key,
+                parent_ids: None,
+            });
+        }
+        let Stored { parent_ids, time } = self.read(id)?;
+        let key = Key {
+            generation: Generation::Infinite,
+            time,
+        };
+        Ok(Known {
+            key,
+            parent_ids: Some(parent_ids),
+        })
+    }
+
+    // The parents by the row, or else from the store. A corrupt row drops all rows for good.
+    fn parents_of(&mut self, id: &ObjectId) -> Result<ParentIds, Hidden>
+        ensures objects { self.new.objects ≡ self.old.objects }
+        ensures parents { IfOk result (λ ids. ReadsParents (F.objects self.old.objects.now) self.old.graph id.now ids.items self.new.graph) }
+        ensures fault { IfErr result (FailsAmong (F.objects self.old.objects.now) (F.faulty self.old.objects.now) (id.now ∷ [])) }
+    {
+        if let Some(graph) = self.graph
+            && let Some(commit) = graph.commit_by_id(id)
+        {
+            if let Some(parent_ids) = row_parents(self.alloc, graph, commit)? {
+                return Ok(parent_ids);
+            }
+            self.graph = None;
+        }
+        Ok(self.read(id)?.parent_ids)
+    }
+
+    // The parents of an entry's commit: those that it brings, or else those that are read now.
+    pub(super) fn parents(&mut self, entry: Entry) -> Result<ParentIds, Hidden>
+        ensures objects { self.new.objects ≡ self.old.objects }
+        ensures parents { IfOk result (λ ids. GivesParents (F.objects self.old.objects.now) self.old.graph entry ids.items self.new.graph) }
+        ensures fault { IfErr result (FailsAmong (F.objects self.old.objects.now) (F.faulty self.old.objects.now) (entry.id ∷ [])) }
+    {
+        let Entry { id, parent_ids, .. } = entry;
+        match parent_ids {
+            Some(parent_ids) => Ok(parent_ids),
+            None => self.parents_of(&id),
+        }
+    }
+}
