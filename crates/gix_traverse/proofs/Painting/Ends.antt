@@ -18,10 +18,11 @@ use Rattle.gix_traverse.specs.History.Commits.{parents_of, commit_of_object}
 use Rattle.gix_traverse.specs.Simple.Inside.Painter.{is_hidden, rows_in, Reads, by_row, by_store, drops, GivesParents, brought, looked_up, Takes, TreatsEntry, skips, reads, Pops, room}
 use Rattle.gix_traverse.specs.Simple.Laws.{new_ids}
 use Rattle.gix_traverse.specs.Simple.Walk.{ids_at}
-use Rattle.gix_traverse.proofs.Simple.Ends.{among_flat, found_entry, ids_in_rows}
 use Rattle.gix_traverse.proofs.Painting.Invariant.{reads_parents, IsSafe}
 use Rattle.gix_traverse.proofs.Painting.KeptByTurn.{popped_there}
 use Rattle.gix_parts.proofs.Ids.Membership.{among-append, among_from}
+use Rattle.gix_traverse.proofs.Shared.NewIds.{among_flat}
+use Rattle.gix_traverse.proofs.Shared.Rows.{found_entry, ids_in_rows}
 
 -- the ids that rows and stored commits name
 abbrev pub names : Objects → List GraphRow → List ObjectId

@@ -1,5 +1,5 @@
 -- What an entry's turn keeps of what holds while hidden tips are painted.
-use Rattle.std.specs.Prelude.{◌≡◌, ◌≢◌, ◌⊎◌, ◌<◌, ◌≤◌, ℕ, List, [], ◌∷◌, ◌++◌, Bool, true, false, cond, Option, Some, None, Contains, IsSome, slice_get}
+use Rattle.std.specs.Prelude.{◌≡◌, ◌≢◌, ◌⊎◌, ◌<◌, ◌≤◌, ℕ, List, [], ◌∷◌, ◌++◌, Bool, true, false, cond, Option, Some, None, Contains, IsSome}
 use Rattle.std.specs.List.{list_any}
 use Rattle.std.specs.Ordering.{eq_by_cmp}
 use Rattle.std.proofs.Common.{refl, sym, ap, subst, inl, inr, ⊎_elim, ◌∙◌, arith}
@@ -8,8 +8,6 @@ use Rattle.std.proofs.lemmas.List.Elements.{Contains-append_left, Contains-appen
 use Rattle.std.proofs.lemmas.List.Sorted.{Contains-permutation, IsPermutation-sym}
 use Rattle.std.specs.BinaryHeap.{IsUpperBound}
 use Rattle.std.specs.FinSet as set
-use Rattle.gix_parts.specs.declared.graph.ParentPlace.{ParentPlace}
-use Rattle.gix_parts.specs.declared.graph.ParentPlace.TheVariants.{At, Fault}
 use Rattle.gix_parts.specs.declared.hash.ObjectId.{ObjectId}
 use Rattle.gix_parts.specs.Id.{id_cmp}
 use Rattle.gix_parts.specs.Object.{Objects}
@@ -23,17 +21,17 @@ use Rattle.gix_traverse.specs.declared.commit.simple.paint.source.Generation.The
 use Rattle.gix_traverse.specs.declared.commit.simple.paint.source.Key.{Key}
 use Rattle.gix_traverse.specs.declared.commit.simple.paint.Entry.{Entry}
 use Rattle.gix_traverse.specs.declared.commit.simple.paint.Painter.{Painter}
-use Rattle.gix_traverse.specs.History.Agreeing.{IsAgreeing, RowAgrees, PlaceAgrees, IsCorrupt}
+use Rattle.gix_traverse.specs.History.Agreeing.{IsAgreeing}
 use Rattle.gix_traverse.specs.Simple.Painting.{DropsBy, generation_in}
 use Rattle.gix_traverse.specs.Simple.Inside.Painter.{hides, State, Unmet, Open, Read, Hides, state_by, state_of, rows_in, Reads, ReadsParents, by_row, by_store, drops, Knows, IsQueued, IsWaiting, IsTidy, IsSettled, is_told, Meets, GivesParents, brought, looked_up, Takes, is_turn, is_turn_on, frontier_without, TreatsEntry, skips, reads, Pops}
 use Rattle.gix_traverse.specs.Simple.Inside.Painter as painter
 use Rattle.gix_traverse.specs.History.Reach.{Reaches, start, step}
-use Rattle.gix_traverse.specs.Simple.Walk.{ids_at, with_id}
+use Rattle.gix_traverse.specs.Simple.Walk.{ids_at}
 use Rattle.gix_traverse.proofs.Painting.Invariant.{nobody, next, starts_of, RowsStand, IsSafe, IsOutside, Fact, Stands, IsStarted}
 use Rattle.gix_traverse.proofs.Painting.Keys.{told_below_top}
-use Rattle.gix_traverse.proofs.Shared.ReadsWhole.{row_stands, parent_below, same_long, place_of}
+use Rattle.gix_traverse.proofs.Shared.ReadsWhole.{row_stands, parent_below, corrupt_row}
 use Rattle.gix_traverse.proofs.Painting.Search.{done_or_waits, told_below}
-use Rattle.gix_parts.proofs.Ids.Membership.{id_total, id_apart, same_itself, Contains-here, Contains-there}
+use Rattle.gix_parts.proofs.Ids.Membership.{id_total, id_apart, same_itself, Contains-here}
 
 -- a set that isn't empty has a member
 pub member_of : (s : set.FinSet id_cmp) → (set.len s ≡ 0 → ⊥) → (i : ObjectId) × (set.contains s i ≡ true)
@@ -46,17 +44,6 @@ member_of s some = go (set.items s) refl
     go (x ∷ items) e = (x, set.contains-items s x ∙ ap (list_any (eq_by_cmp id_cmp x)) e ∙ or_left _ _ (same_itself x))
 
 -- places that name no ids have a fault among them, if each number is that of a row
-pub fault_among : (rows : List GraphRow) (places : List ParentPlace) → ((n : ℕ) → Contains places (At n) → (row : GraphRow) × (slice_get rows n ≡ Some row)) → ids_at rows places ≡ None → Contains places Fault
-fault_among rows [] all e = cc
-fault_among rows (Fault ∷ places) all e = Contains-here Fault places
-fault_among rows (At n ∷ places) all e =
-    go (slice_get rows n) refl (ids_at rows places) refl (λ f. fault_among rows places (λ m c. all m (Contains-there (At m) (At n) places c)) f) e
-  where
-    go : (o : Option GraphRow) → slice_get rows n ≡ o → (ids : Option (List ObjectId)) → ids_at rows places ≡ ids → (ids_at rows places ≡ None → Contains places Fault) → with_id o ids ≡ None → Contains (At n ∷ places) Fault
-    go None a ids b rest e = let h : (row : GraphRow) × (slice_get rows n ≡ Some row) = all n (Contains-here (At n) places) in let bad : None ≡ Some h.0 = sym a ∙ h.1 in cc
-    go (Some row) a None b rest e = Contains-there Fault (At n) places (rest b)
-    go (Some row) a (Some ids) b rest e = cc
-
 pub open_read : (o : Option Marks) → state_by o true ≡ Open → state_by o false ≡ Read
 open_read None e = cc
 open_read (Some m) e = go (hides (Some m)) e
@@ -113,18 +100,6 @@ module _ {F : Type 0} (objects : F → Objects) (store : F) (rows : List GraphRo
     pub below : (q : ObjectId) (n : ℕ) → HasGeneration q n → (i : ObjectId) → Reaches There (q ∷ []) i → (m : ℕ) × HasGeneration i m × ((q ≡ i) ⊎ (m < n))
     below = told_below There HasGeneration one_generation falls
 
-    pub corrupt_row : (row : GraphRow) → Contains rows row → ids_at rows row.parents ≡ None → IsCorrupt row
-    corrupt_row row c e =
-        let a : RowAgrees (objects store) faulty rows row = agrees row c in
-        fault_among rows row.parents (λ n m. placed a n m) e
-      where
-        placed : (a : RowAgrees (objects store) faulty rows row) (n : ℕ) → Contains row.parents (At n) → (r : GraphRow) × (slice_get rows n ≡ Some r)
-        placed a n m =
-            let k : (k : ℕ) × (slice_get row.parents k ≡ Some (At n)) = place_of row.parents (At n) m in
-            let q : (i : ObjectId) × (slice_get a.whole.commit.parents k.0 ≡ Some i) = same_long a.whole.commit.parents row.parents k.0 (At n) (sym a.places) k.1 in
-            let h : PlaceAgrees rows row.generation q.0 (At n) = a.parents k.0 q.0 (At n) q.1 k.1 in
-            (h.0, h.1)
-
     -- before an entry's turn
     module _ (w : Painter F) (safe : IsSafe objects store rows tips hidden_tips w) (h : Stands objects store rows tips hidden_tips nobody w) (started : IsStarted objects store rows tips hidden_tips w) where
       key_of : RowsStand objects store rows tips hidden_tips w → (q : Key × Entry) → Contains w.queue q → (row : GraphRow) → row_of rows q.1.id ≡ Some row → q.0.generation ≡ Told row.generation
@@ -172,7 +147,7 @@ module _ {F : Type 0} (objects : F → Objects) (store : F) (rows : List GraphRo
           record {
             row = row;
             present = stands.0;
-            corrupt = corrupt_row row stands.0 corrupt;
+            corrupt = corrupt_row (objects store) faulty rows agrees row stands.0 corrupt;
             reached = subst (Reaches There (tips ++ hidden_tips)) stands.1 (reaches_either top.1.side top.1.id (h.reached top there));
             bound = x.0;
             at_boundary = ⊎_elim (λ t. inl t) (λ b. inr (b.0, b.1, outside told x.0 waits b.0 b.2 b.3, b.3)) (fact.2 r);

@@ -21,8 +21,7 @@ use Rattle.gix_traverse.specs.Simple.Walk.{ids_of}
 use Rattle.gix_traverse.specs.declared.commit.simple.Hidden.{Hidden}
 use Rattle.gix_traverse.specs.Simple.Painting.{IsFaultAt}
 use Rattle.gix_traverse.specs.Simple.Inside.Painter.{FailsAmong, hides, is_hidden, State, Unmet, Open, Read, Hides, state_by, state_of, IsTidy, Becomes, stays, opens, covers, rows_in, IsQueued, IsWaiting, Queues, Meets, is_turn, Takes, GivesParents, TreatsEntry, reads, room}
-use Rattle.gix_traverse.proofs.Simple.Ends.{new_less}
-use Rattle.gix_traverse.proofs.Shared.NewIds.{fresh, fresh_agree}
+use Rattle.gix_traverse.proofs.Shared.NewIds.{fresh, fresh_agree, new_less}
 use Rattle.gix_traverse.proofs.Painting.Search.{only_member}
 use Rattle.gix_parts.proofs.Ids.Membership.{id_total, same_is, same_itself, Contains-here, Contains-there, Contains-cons_cases}
 

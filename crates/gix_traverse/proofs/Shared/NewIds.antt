@@ -1,7 +1,7 @@
 -- The ids of a list that are new, each at its first place: what is pending of all that was named.
-use Rattle.std.specs.Prelude.{ℕ, suc, ◌≡◌, ◌+◌, List, [], ◌∷◌, ◌++◌, Bool, true, false, not, cond, ◌&&◌, ◌||◌, filter, find, Some, None, IsPermutation}
-use Rattle.std.proofs.Common.{refl, sym, ap, subst, ◌∙◌, arith, append_assoc, append-nil}
-use Rattle.std.proofs.lemmas.Bool.{false≢true, true≢false, or_right, or_left}
+use Rattle.std.specs.Prelude.{ℕ, suc, ◌≡◌, ◌+◌, List, [], ◌∷◌, ◌++◌, Bool, true, false, not, cond, ◌&&◌, ◌||◌, filter, find, Some, None, IsPermutation, length, Contains, ◌≤◌}
+use Rattle.std.proofs.Common.{refl, sym, ap, subst, ◌∙◌, arith, append_assoc, append-nil, ⊎_elim}
+use Rattle.std.proofs.lemmas.Bool.{false≢true, true≢false, or_right, or_left, or_from, true_from_ne_false}
 use Rattle.std.specs.List.{flat_map, sum_by}
 use Rattle.std.proofs.lemmas.List.Concat.{flat_map-append}
 use Rattle.std.proofs.lemmas.List.Sums.{sum_by-cons}
@@ -11,7 +11,8 @@ use Rattle.gix_parts.specs.Id.{is_same, is_among}
 use Rattle.gix_traverse.specs.Orders.BreadthOrder.{named_by}
 pub use Rattle.gix_traverse.specs.Topo.Inside.Searched.{times}
 pub use Rattle.gix_traverse.specs.Simple.Laws.{new_ids as fresh}
-use Rattle.gix_parts.proofs.Ids.Membership.{same_is, same_itself, same_from}
+use Rattle.gix_parts.proofs.Ids.Membership.{same_is, same_itself, same_from, same_back, no_member, among-append, Contains-cons_cases, among_from}
+use Rattle.gix_traverse.specs.Simple.Laws.{AreDistinct}
 
 -- tests that agree on the list
 pub fresh_agree : (s t : ObjectId → Bool) (xs : List ObjectId) → ((i : ObjectId) → is_among i xs ≡ true → s i ≡ t i) → fresh s xs ≡ fresh t xs
@@ -150,3 +151,60 @@ among-filter i p (x ∷ xs) = go (among-filter i p xs) (p x) refl (is_same i x) 
 -- one more commit names its own
 pub named-push : (next : ObjectId → List ObjectId) (starts taken : List ObjectId) (i : ObjectId) → named_by next starts (taken ++ i ∷ []) ≡ named_by next starts taken ++ next i
 named-push next starts taken i = ap (λ xs. starts ++ xs) (flat_map-append next taken (i ∷ []) ∙ ap (λ xs. flat_map next taken ++ xs) (append-nil (next i))) ∙ sym (append_assoc starts (flat_map next taken) (next i))
+
+-- one id is new no more
+pub new_less : (s : ObjectId → Bool) (xs : List ObjectId) (i : ObjectId) → is_among i xs ≡ true → s i ≡ false → suc (length (fresh (λ j. is_same j i || s j) xs)) ≡ length (fresh s xs)
+new_less s [] i e f = absurd (false≢true e)
+new_less s (x ∷ xs) i e f = go (new_less s xs i) (new_less (λ j. is_same j x || s j) xs i) (is_same i x) refl (s x) refl e
+  where
+    here : is_same i x ≡ true → suc (length (fresh (λ j. is_same j i || s j) (x ∷ xs))) ≡ length (fresh s (x ∷ xs))
+    here t =
+        let same : i ≡ x = same_is i x t in
+        let old : (is_same x i || s x) ≡ true = or_left _ _ (same_from x i (sym same)) in
+        let new : s x ≡ false = ap s (sym same) ∙ f in
+        ap (λ b. suc (length (cond b (fresh (λ j. is_same j i || s j) xs) (x ∷ fresh (λ j. is_same j x || (is_same j i || s j)) xs)))) old
+        ∙ ap (λ y. suc (length (fresh (λ j. is_same j y || s j) xs))) same
+        ∙ ap (λ b. length (cond b (fresh s xs) (x ∷ fresh (λ j. is_same j x || s j) xs))) (sym new)
+
+    swapped : (a b c : Bool) → (a || (b || c)) ≡ (b || (a || c))
+    swapped true true c = refl
+    swapped true false c = refl
+    swapped false b c = refl
+
+    go : (is_among i xs ≡ true → s i ≡ false → suc (length (fresh (λ j. is_same j i || s j) xs)) ≡ length (fresh s xs)) →
+        (is_among i xs ≡ true → (is_same i x || s i) ≡ false → suc (length (fresh (λ j. is_same j i || (is_same j x || s j)) xs)) ≡ length (fresh (λ j. is_same j x || s j) xs)) →
+        (a : Bool) → is_same i x ≡ a → (b : Bool) → s x ≡ b → (a || is_among i xs) ≡ true → suc (length (fresh (λ j. is_same j i || s j) (x ∷ xs))) ≡ length (fresh s (x ∷ xs))
+    go r q true t b o e = here t
+    go r q false t true o e =
+        ap (λ b. suc (length (cond b (fresh (λ j. is_same j i || s j) xs) (x ∷ fresh (λ j. is_same j x || (is_same j i || s j)) xs)))) (or_right (is_same x i) (s x) o)
+        ∙ r e f
+        ∙ ap (λ b. length (cond b (fresh s xs) (x ∷ fresh (λ j. is_same j x || s j) xs))) (sym o)
+    go r q false t false o e =
+        ap (λ b. suc (length (cond b (fresh (λ j. is_same j i || s j) xs) (x ∷ fresh (λ j. is_same j x || (is_same j i || s j)) xs)))) (or_from (is_same x i) (s x) (sym (same_back i x) ∙ t) o)
+        ∙ ap (λ ys. suc (suc (length ys))) (fresh_agree _ _ xs (λ j h. swapped (is_same j x) (is_same j i) (s j)))
+        ∙ ap suc (q e (or_from (is_same i x) (s i) t f))
+        ∙ ap (λ b. length (cond b (fresh s xs) (x ∷ fresh (λ j. is_same j x || s j) xs))) (sym o)
+
+pub among_flat : {X : Type 0} (f : X → List ObjectId) (es : List X) (e : X) (i : ObjectId) → Contains es e → is_among i (f e) ≡ true → is_among i (flat_map f es) ≡ true
+among_flat f [] e i h n = absurd (no_member e h)
+among_flat f (x ∷ es) e i h n = among-append i (f x) (flat_map f es) ∙ ⊎_elim (λ s. or_left _ _ (subst (λ y. is_among i (f y) ≡ true) (sym s) n)) (λ t. or_right (is_among i (f x)) _ (among_flat f es e i t n)) (Contains-cons_cases e x es h)
+
+-- counting ids
+pub among_times : (i : ObjectId) (xs : List ObjectId) → is_among i xs ≡ true → 1 ≤ times i xs
+among_times i [] e = absurd (false≢true e)
+among_times i (x ∷ xs) e = go (is_same i x) (among_times i xs) e
+  where
+    go : (b : Bool) → (is_among i xs ≡ true → 1 ≤ times i xs) → (b || is_among i xs) ≡ true → 1 ≤ cond b 1 0 + times i xs
+    go true r e = omega arith
+    go false r e = let k : 1 ≤ times i xs = r e in omega arith
+
+pub times_is_among : (i : ObjectId) (xs : List ObjectId) → 1 ≤ times i xs → is_among i xs ≡ true
+times_is_among i xs h = true_from_ne_false _ (λ f. let z : times i xs ≡ 0 = times_none i xs f in omega arith)
+
+-- distinct ids stand once each
+pub times_once : (xs : List ObjectId) → ((i : ObjectId) → times i xs ≤ 1) → AreDistinct xs
+times_once [] n = tt
+times_once (x ∷ xs) n = (
+  (λ m. let a : cond (is_same x x) 1 0 + times x xs ≤ 1 = n x in let s : ◌≡◌ {A = ℕ} (cond (is_same x x) 1 0) 1 = ap (λ b. cond b 1 0) (same_itself x) in let o : 1 ≤ times x xs = among_times x xs (among_from x xs m) in absurd (omega arith)),
+  times_once xs (λ i. let a : cond (is_same i x) 1 0 + times i xs ≤ 1 = n i in omega arith),
+)

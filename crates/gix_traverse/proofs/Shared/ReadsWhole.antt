@@ -1,8 +1,10 @@
 -- A commit that reads whole is read alike from its items and from its row.
-use Rattle.std.specs.Prelude.{ℕ, zero, suc, ◌≡◌, ◌<◌, List, [], ◌∷◌, ◌++◌, Bool, true, false, cond, length, slice_get, Contains, Option, Some, None, Result, Ok}
-use Rattle.std.proofs.Common.{refl, sym, ap, subst, ◌∙◌, arith, append_assoc, append-nil}
+use Rattle.std.specs.Prelude.{ℕ, zero, suc, ◌≡◌, ◌<◌, List, [], ◌∷◌, ◌++◌, Bool, true, false, cond, length, slice_get, Contains, Option, Some, None, Result, Ok, ◌≢◌}
+use Rattle.std.proofs.Common.{refl, sym, ap, subst, ◌∙◌, arith, append_assoc, append-nil, ⊎_elim}
 use Rattle.gix_parts.specs.declared.hash.Kind.{Kind}
 use Rattle.gix_parts.specs.declared.hash.ObjectId.{ObjectId}
+use Rattle.gix_parts.specs.declared.object.Kind.TheVariants as object
+use Rattle.gix_parts.specs.declared.object.find.existing_iter.Error.TheVariants as existing
 use Rattle.gix_parts.specs.declared.object.decode.Error.{Error as DecodeError}
 use Rattle.gix_parts.specs.declared.graph.ParentPlace.{ParentPlace}
 use Rattle.gix_parts.specs.declared.graph.ParentPlace.TheVariants.{At, Fault}
@@ -13,10 +15,13 @@ use Rattle.gix_parts.specs.CommitText.{Commit, commit_of, commit_of_items, read_
 use Rattle.gix_parts.specs.Rows.{GraphRow, row_of}
 use Rattle.gix_traverse.specs.declared.commit.Parents.{Parents}
 use Rattle.gix_traverse.specs.declared.commit.Parents.TheVariants as mode
-use Rattle.gix_traverse.specs.History.Commits.{by_mode, parents_of, parents_in, time_of, time_in, commit_at}
-use Rattle.gix_traverse.specs.History.Agreeing.{PlaceAgrees, RowAgrees, IsAgreeing}
+use Rattle.gix_traverse.specs.History.Commits.{by_mode, parents_of, parents_in, time_of, time_in, commit_at, commit_of_kind, commit_of_object}
+use Rattle.gix_traverse.specs.History.Agreeing.{PlaceAgrees, RowAgrees, IsAgreeing, IsCorrupt}
 use Rattle.gix_traverse.specs.Simple.Walk.{scanned, with_parent, ids_at, with_id}
-use Rattle.gix_parts.proofs.Ids.Membership.{same_is, Contains-here, Contains-there}
+use Rattle.gix_parts.proofs.Ids.Membership.{same_is, Contains-here, Contains-there, Contains-cons_cases, no_member}
+use Rattle.gix_parts.specs.declared.object.Kind.{Kind as ObjectKind}
+use Rattle.gix_parts.specs.declared.object.find.existing_iter.Error.{Error as ExistingError}
+use Rattle.gix_parts.specs.Find.{IsExistingFault}
 
 -- what may stand at the front behind a tree or a parent
 pub data IsParentsFront : Front → Type 0 where
@@ -159,3 +164,45 @@ module _ (objects : Objects) (faulty : ObjectId → Type 0) (rows : List GraphRo
 
   pub parent_has_row : (c : ObjectId) (row : GraphRow) (i : ObjectId) → row_of rows c ≡ Some row → Contains (parents_of objects c) i → (r : GraphRow) × (row_of rows i ≡ Some r)
   parent_has_row c row i e n = let p : (r : GraphRow) × (row_of rows i ≡ Some r) × (r.generation < row.generation) = parent_below c row i e n in (p.0, p.1)
+
+pub walked_within : (m : Parents) (ids : List ObjectId) (i : ObjectId) → Contains (by_mode m ids) i → Contains ids i
+walked_within mode.All ids i h = h
+walked_within mode.First [] i h = h
+walked_within mode.First (j ∷ ids) i h = ⊎_elim (λ e. subst (λ x. Contains (x ∷ ids) i) (sym e) (Contains-here i ids)) (λ n. absurd (no_member i n)) (Contains-cons_cases i j [] h)
+
+no_commit : (i : ObjectId) (kind : ObjectKind) (bytes : List ℕ) (c : Commit) → kind ≢ object.Commit → commit_of_kind i kind bytes ≡ Some c → ⊥
+no_commit i object.Commit bytes c ne e = ne refl
+no_commit i object.Tree bytes c ne e = cc
+no_commit i object.Blob bytes c ne e = cc
+no_commit i object.Tag bytes c ne e = cc
+
+-- the look-up of a commit that is stored fails by the store alone
+pub no_fault : (those : Objects) (fails : ObjectId → Type 0) (i : ObjectId) (c : Commit) (e : ExistingError) → commit_at those i ≡ Some c → IsExistingFault those fails i object.Commit e → (e ≡ existing.Store → ⊥) → ⊥
+no_fault those fails i c existing.Store stored f ne = ne refl
+no_fault those fails i c (existing.NotFound oid) stored f ne = let n : None ≡ Some c = sym (ap (commit_of_object i) f.1) ∙ stored in cc
+no_fault those fails i c (existing.ObjectKind oid wanted actual) stored f ne = no_commit i actual f.3 c f.2 (sym (ap (commit_of_object i) f.4) ∙ stored)
+no_fault those fails i c existing.Memory stored f ne = f
+
+pub fault_among : (rows : List GraphRow) (places : List ParentPlace) → ((n : ℕ) → Contains places (At n) → (row : GraphRow) × (slice_get rows n ≡ Some row)) → ids_at rows places ≡ None → Contains places Fault
+fault_among rows [] all e = cc
+fault_among rows (Fault ∷ places) all e = Contains-here Fault places
+fault_among rows (At n ∷ places) all e =
+    go (slice_get rows n) refl (ids_at rows places) refl (λ f. fault_among rows places (λ m c. all m (Contains-there (At m) (At n) places c)) f) e
+  where
+    go : (o : Option GraphRow) → slice_get rows n ≡ o → (ids : Option (List ObjectId)) → ids_at rows places ≡ ids → (ids_at rows places ≡ None → Contains places Fault) → with_id o ids ≡ None → Contains (At n ∷ places) Fault
+    go None a ids b rest e = let h : (row : GraphRow) × (slice_get rows n ≡ Some row) = all n (Contains-here (At n) places) in let bad : None ≡ Some h.0 = sym a ∙ h.1 in cc
+    go (Some row) a None b rest e = Contains-there Fault (At n) places (rest b)
+    go (Some row) a (Some ids) b rest e = cc
+
+-- where the rows agree, a row that can't be read has a fault among its places
+pub corrupt_row : (those : Objects) (fails : ObjectId → Type 0) (rows : List GraphRow) → IsAgreeing those fails rows → (row : GraphRow) → Contains rows row → ids_at rows row.parents ≡ None → IsCorrupt row
+corrupt_row those fails rows agrees row c e =
+    let a : RowAgrees those fails rows row = agrees row c in
+    fault_among rows row.parents (λ n m. placed a n m) e
+  where
+    placed : (a : RowAgrees those fails rows row) (n : ℕ) → Contains row.parents (At n) → (r : GraphRow) × (slice_get rows n ≡ Some r)
+    placed a n m =
+        let k : (k : ℕ) × (slice_get row.parents k ≡ Some (At n)) = place_of row.parents (At n) m in
+        let q : (i : ObjectId) × (slice_get a.whole.commit.parents k.0 ≡ Some i) = same_long a.whole.commit.parents row.parents k.0 (At n) (sym a.places) k.1 in
+        let h : PlaceAgrees rows row.generation q.0 (At n) = a.parents k.0 q.0 (At n) q.1 k.1 in
+        (h.0, h.1)

@@ -17,10 +17,9 @@ use Rattle.gix_traverse.specs.History.Commits.{time_of}
 use Rattle.gix_traverse.specs.Simple.Walk.{SimpleWalk, ids_of, time_order, cutoff, is_older, IsMade}
 use Rattle.gix_traverse.specs.Simple.Laws.{AnswersBy, IsFresh}
 use Rattle.gix_traverse.specs.Simple.Building.{IsSortedByTime, timed, recent, outdated, IsBuilt, made, breadth_first, by_time, hides, walks, reads}
-use Rattle.gix_traverse.proofs.Shared.NewIds.{times, among-filter}
+use Rattle.gix_traverse.proofs.Shared.NewIds.{times, among-filter, times_once}
 use Rattle.gix_traverse.proofs.Simple.NeverTwice.{once_times, times-filter}
 use Rattle.gix_traverse.proofs.Simple.Tips.{is_new_walk, pending_is}
-use Rattle.gix_traverse.proofs.Topo.Ready.IsReady.{times_once}
 
 in_force : (m : Parents) (by : Sorting) (order : CommitTimeOrder) → time_order m by ≡ Some order → time_order mode.All by ≡ Some order
 in_force mode.First by order e = cc

@@ -23,10 +23,10 @@ use Rattle.gix_traverse.specs.Simple.Laws.{AreDistinct, IsGiven, IsRowGeneration
 use Rattle.gix_parts.proofs.Ids.Membership.{among_from, among_is, Contains-here, Contains-cons_cases, no_member}
 use Rattle.gix_traverse.proofs.Shared.NewIds.{among-filter, named-push}
 use Rattle.gix_traverse.proofs.Shared.Orders.{IsWorkOrder, IsDistinctFrom, work_from_breadth, work_from_time, reached_is_given, given_is_reached, given_once}
-use Rattle.gix_traverse.proofs.Simple.OneStep.{walked_within}
 use Rattle.std.proofs.Math.Path.{transport}
 use Rattle.gix_traverse.proofs.Simple.Treated.{no_cutoff}
 use Rattle.gix_traverse.proofs.Simple.Theorem.{gives_in_order}
+use Rattle.gix_traverse.proofs.Shared.ReadsWhole.{walked_within}
 
 -- one and all
 distinct_is : (taken ids : List ObjectId) → IsDistinctFrom taken ids → AreDistinct ids × ((i : ObjectId) → Contains taken i → Contains ids i → ⊥)

@@ -1,62 +1,27 @@
 -- Every walk ends: each answer lowers how many answers are left.
-use Rattle.std.specs.Prelude.{◌≡◌, ◌≢◌, ◌⊎◌, ◌+◌, ◌≤◌, ℕ, zero, suc, ℤ, List, [], ◌∷◌, ◌++◌, map, filter, length, slice_get, Bool, true, false, not, ◌||◌, cond, Option, Some, None, Result, Contains}
+use Rattle.std.specs.Prelude.{◌≡◌, ◌≢◌, ◌⊎◌, ◌+◌, ◌≤◌, ℕ, suc, ℤ, List, [], ◌∷◌, ◌++◌, map, filter, length, Bool, true, false, not, ◌||◌, cond, Option, Some, None, Result, Contains}
 use Rattle.std.proofs.Common.{refl, sym, ap, subst, inl, inr, ⊎_elim, ◌∙◌, arith, append_assoc, append-nil, length-append}
-use Rattle.std.specs.List.{flat_map}
 use Rattle.std.proofs.lemmas.List.Sorted.{length_permutation}
-use Rattle.std.proofs.lemmas.Bool.{false≢true, true≢false, or_right, or_left, or_from}
+use Rattle.std.proofs.lemmas.Bool.{true≢false, or_right, or_left}
 use Rattle.std.specs.FinMap as map_of
 use Rattle.std.specs.FinSet as set
 use Rattle.gix_parts.specs.declared.hash.ObjectId.{ObjectId}
 use Rattle.gix_parts.specs.declared.object.Kind.TheVariants as object
 use Rattle.gix_parts.specs.declared.object.decode.Error.{Error as DecodeError}
-use Rattle.gix_parts.specs.declared.graph.ParentPlace.{ParentPlace}
-use Rattle.gix_parts.specs.declared.graph.ParentPlace.TheVariants.{At, Fault}
-use Rattle.gix_parts.specs.Id.{id_cmp, is_same, is_among, kind_of}
-use Rattle.gix_parts.specs.Object.{Object, Objects}
+use Rattle.gix_parts.specs.Id.{is_same, is_among, kind_of}
+use Rattle.gix_parts.specs.Object.{Objects}
 use Rattle.gix_parts.specs.CommitItems.{commit_items}
 use Rattle.gix_parts.specs.Rows.{GraphRow, row_of}
 use Rattle.gix_traverse.specs.declared.commit.Info.{Info}
 use Rattle.gix_traverse.specs.declared.commit.simple.CommitTimeOrder.{CommitTimeOrder}
 use Rattle.gix_traverse.specs.declared.commit.simple.Error.{Error}
 use Rattle.gix_traverse.specs.declared.commit.simple.pending.Pending.{Pending}
-use Rattle.gix_traverse.specs.Simple.Walk.{SimpleWalk, Treated, Holds, ids_at, with_id, time_order, cutoff, unrowed, kept_rows, rows_if, scanned, asked, Enqueues, dropped, enqueued, IsNew, Treats, hidden, known, refused, accepted, store_fails, no_memory, no_memory_after, TreatsAll, none, more, stops, Concludes, given, broken, Takes, by_row, by_store, not_found, Chooses, first, best, Steps, took, painted, Next, unhidden, paints, faulty_history, May}
+use Rattle.gix_traverse.specs.Simple.Walk.{SimpleWalk, Treated, Holds, time_order, cutoff, unrowed, kept_rows, scanned, asked, Enqueues, dropped, enqueued, IsNew, Treats, hidden, known, refused, accepted, store_fails, no_memory, no_memory_after, TreatsAll, none, more, stops, Concludes, given, broken, Takes, by_row, by_store, not_found, Chooses, first, best, Steps, took, painted, Next, unhidden, paints, faulty_history, May}
 use Rattle.gix_traverse.specs.Simple.Laws.{named_in, answers_left}
-use Rattle.gix_parts.proofs.Ids.Membership.{id_total, same_is, same_from, same_back, among-append, among_from, Contains-here, Contains-there, Contains-cons_cases, no_member}
-use Rattle.gix_traverse.proofs.Shared.NewIds.{fresh, fresh_agree}
-use Rattle.gix_traverse.proofs.Simple.OneStep.{walked_within}
-
--- one id is new no more
-pub new_less : (s : ObjectId → Bool) (xs : List ObjectId) (i : ObjectId) → is_among i xs ≡ true → s i ≡ false → suc (length (fresh (λ j. is_same j i || s j) xs)) ≡ length (fresh s xs)
-new_less s [] i e f = absurd (false≢true e)
-new_less s (x ∷ xs) i e f = go (new_less s xs i) (new_less (λ j. is_same j x || s j) xs i) (is_same i x) refl (s x) refl e
-  where
-    here : is_same i x ≡ true → suc (length (fresh (λ j. is_same j i || s j) (x ∷ xs))) ≡ length (fresh s (x ∷ xs))
-    here t =
-        let same : i ≡ x = same_is i x t in
-        let old : (is_same x i || s x) ≡ true = or_left _ _ (same_from x i (sym same)) in
-        let new : s x ≡ false = ap s (sym same) ∙ f in
-        ap (λ b. suc (length (cond b (fresh (λ j. is_same j i || s j) xs) (x ∷ fresh (λ j. is_same j x || (is_same j i || s j)) xs)))) old
-        ∙ ap (λ y. suc (length (fresh (λ j. is_same j y || s j) xs))) same
-        ∙ ap (λ b. length (cond b (fresh s xs) (x ∷ fresh (λ j. is_same j x || s j) xs))) (sym new)
-
-    swapped : (a b c : Bool) → (a || (b || c)) ≡ (b || (a || c))
-    swapped true true c = refl
-    swapped true false c = refl
-    swapped false b c = refl
-
-    go : (is_among i xs ≡ true → s i ≡ false → suc (length (fresh (λ j. is_same j i || s j) xs)) ≡ length (fresh s xs)) →
-        (is_among i xs ≡ true → (is_same i x || s i) ≡ false → suc (length (fresh (λ j. is_same j i || (is_same j x || s j)) xs)) ≡ length (fresh (λ j. is_same j x || s j) xs)) →
-        (a : Bool) → is_same i x ≡ a → (b : Bool) → s x ≡ b → (a || is_among i xs) ≡ true → suc (length (fresh (λ j. is_same j i || s j) (x ∷ xs))) ≡ length (fresh s (x ∷ xs))
-    go r q true t b o e = here t
-    go r q false t true o e =
-        ap (λ b. suc (length (cond b (fresh (λ j. is_same j i || s j) xs) (x ∷ fresh (λ j. is_same j x || (is_same j i || s j)) xs)))) (or_right (is_same x i) (s x) o)
-        ∙ r e f
-        ∙ ap (λ b. length (cond b (fresh s xs) (x ∷ fresh (λ j. is_same j x || s j) xs))) (sym o)
-    go r q false t false o e =
-        ap (λ b. suc (length (cond b (fresh (λ j. is_same j i || s j) xs) (x ∷ fresh (λ j. is_same j x || (is_same j i || s j)) xs)))) (or_from (is_same x i) (s x) (sym (same_back i x) ∙ t) o)
-        ∙ ap (λ ys. suc (suc (length ys))) (fresh_agree _ _ xs (λ j h. swapped (is_same j x) (is_same j i) (s j)))
-        ∙ ap suc (q e (or_from (is_same i x) (s i) t f))
-        ∙ ap (λ b. length (cond b (fresh s xs) (x ∷ fresh (λ j. is_same j x || s j) xs))) (sym o)
+use Rattle.gix_parts.proofs.Ids.Membership.{id_total, same_is, among-append, among_from, Contains-here, Contains-there}
+use Rattle.gix_traverse.proofs.Shared.NewIds.{fresh, fresh_agree, new_less, among_flat}
+use Rattle.gix_traverse.proofs.Shared.ReadsWhole.{walked_within}
+use Rattle.gix_traverse.proofs.Shared.Rows.{kept_either, ids_in_rows, found_entry}
 
 -- an id more among the old
 one_less : (s : ObjectId → Bool) (xs : List ObjectId) (i : ObjectId) → s i ≡ false → length (fresh s xs) ≤ suc (length (fresh (λ j. is_same j i || s j) xs))
@@ -79,35 +44,6 @@ fewer s (x ∷ xs) ys = go (fewer s xs ys) (fewer (λ j. is_same j x || s j) xs 
     go r q true e = r
     go r q false e = let k : length (fresh s ys) ≤ suc (length (fresh (λ j. is_same j x || s j) ys)) = one_less s ys x e in omega arith
 
-pub among_flat : {X : Type 0} (f : X → List ObjectId) (es : List X) (e : X) (i : ObjectId) → Contains es e → is_among i (f e) ≡ true → is_among i (flat_map f es) ≡ true
-among_flat f [] e i h n = absurd (no_member e h)
-among_flat f (x ∷ es) e i h n = among-append i (f x) (flat_map f es) ∙ ⊎_elim (λ s. or_left _ _ (subst (λ y. is_among i (f y) ≡ true) (sym s) n)) (λ t. or_right (is_among i (f x)) _ (among_flat f es e i t n)) (Contains-cons_cases e x es h)
-
-pub found_entry : (es : List (ObjectId × Object)) (i : ObjectId) (o : Object) → map_of.find id_cmp i es ≡ Some o → Contains es (i, o)
-found_entry [] i o e = cc
-found_entry (x ∷ es) i o e = go (found_entry es i o) (is_same i x.0) refl e
-  where
-    go : (map_of.find id_cmp i es ≡ Some o → Contains es (i, o)) → (b : Bool) → is_same i x.0 ≡ b → cond b (Some x.1) (map_of.find id_cmp i es) ≡ Some o → Contains (x ∷ es) (i, o)
-    go r true t e = let same : i ≡ x.0 = same_is i x.0 t in let object : x.1 ≡ o = cc in subst (λ y. Contains (x ∷ es) y) (λ k. (sym same k, object k)) (Contains-here x es)
-    go r false t e = Contains-there (i, o) x es (r e)
-
-pub ids_in_rows : (rows : List GraphRow) (places : List ParentPlace) (ids : List ObjectId) → ids_at rows places ≡ Some ids → (i : ObjectId) → Contains ids i → is_among i (map (λ row. row.id) rows) ≡ true
-ids_in_rows rows [] ids e i h = absurd (no_member i (subst (λ xs. Contains xs i) (let s : ids ≡ [] = cc in s) h))
-ids_in_rows rows (Fault ∷ places) ids e i h = cc
-ids_in_rows rows (At n ∷ places) ids e i h = go (slice_get rows n) refl (ids_at rows places) refl (λ those f. ids_in_rows rows places those f i) e
-  where
-    row_id : (rows : List GraphRow) (n : ℕ) (row : GraphRow) → slice_get rows n ≡ Some row → is_among row.id (map (λ r. r.id) rows) ≡ true
-    row_id [] n row e = cc
-    row_id (r ∷ rows) zero row e = or_left _ _ (same_from row.id r.id (let s : row ≡ r = cc in ap (λ x. x.id) s))
-    row_id (r ∷ rows) (suc n) row e = or_right (is_same row.id r.id) _ (row_id rows n row e)
-
-    go : (o : Option GraphRow) → slice_get rows n ≡ o → (r : Option (List ObjectId)) → ids_at rows places ≡ r → ((those : List ObjectId) → ids_at rows places ≡ Some those → Contains those i → is_among i (map (λ row. row.id) rows) ≡ true) → with_id o r ≡ Some ids → is_among i (map (λ row. row.id) rows) ≡ true
-    go None a r b rest e = cc
-    go (Some row) a None b rest e = cc
-    go (Some row) a (Some those) b rest e =
-        let is : row.id ∷ those ≡ ids = cc in
-        ⊎_elim (λ s. subst (λ y. is_among y (map (λ row. row.id) rows) ≡ true) s (row_id rows n row a)) (λ t. rest those b t) (Contains-cons_cases i row.id those (subst (λ xs. Contains xs i) (sym is) h))
-
 length-map : {A B : Type 0} (f : A → B) (xs : List A) → length (map f xs) ≡ length xs
 length-map f [] = refl
 length-map f (x ∷ xs) = ap suc (length-map f xs)
@@ -115,14 +51,6 @@ length-map f (x ∷ xs) = ap suc (length-map f xs)
 holds_length : (o : Option CommitTimeOrder) (old new : List Pending) → Holds o old new → length new ≡ length old
 holds_length None old new e = ap length e
 holds_length (Some order) old new h = length_permutation old new h
-
-pub kept_either : (rows : List GraphRow) (o : Option GraphRow) → (kept_rows rows o ≡ rows) ⊎ (kept_rows rows o ≡ [])
-kept_either rows None = inl refl
-kept_either rows (Some row) = go (ids_at rows row.parents)
-  where
-    go : (o : Option (List ObjectId)) → (rows_if rows o ≡ rows) ⊎ (rows_if rows o ≡ [])
-    go None = inr refl
-    go (Some ids) = inl refl
 
 filter_shorter : {X : Type 0} (p : X → Bool) (xs : List X) → length (filter p xs) ≤ length xs
 filter_shorter p [] = Rattle.std.proofs.Common.le_refl _

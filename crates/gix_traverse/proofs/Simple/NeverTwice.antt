@@ -13,9 +13,8 @@ use Rattle.gix_traverse.specs.declared.commit.simple.pending.Pending.{Pending}
 use Rattle.gix_traverse.specs.Simple.Walk.{SimpleWalk, Treated, Holds, ids_of, time_order, cutoff, asked, Enqueues, dropped, enqueued, IsNew, Treats, hidden, known, refused, accepted, store_fails, no_memory, no_memory_after, TreatsAll, none, more, stops, Concludes, given, broken, Takes, by_row, by_store, not_found, Chooses, first, best, Steps, took, Next, unhidden, paints, faulty_history, May}
 use Rattle.gix_traverse.specs.Simple.Laws.{AreDistinct, given_ids}
 use Rattle.gix_parts.proofs.Ids.Membership.{id_total, same_is, among_is}
-use Rattle.gix_traverse.proofs.Shared.NewIds.{times, times-append, times_none}
+use Rattle.gix_traverse.proofs.Shared.NewIds.{times, times-append, times_none, times_once}
 use Rattle.gix_traverse.proofs.Simple.Treated.{times-permutation, times_holds}
-use Rattle.gix_traverse.proofs.Topo.Ready.IsReady.{times_once}
 
 pub once_times : (xs : List ObjectId) → AreDistinct xs → (i : ObjectId) → times i xs ≤ cond (is_among i xs) 1 0
 once_times [] d i = omega arith

@@ -1,60 +1,27 @@
 -- One step of a walk whose hidden tips are painted.
-use Rattle.std.specs.Prelude.{◌≡◌, ◌≢◌, ◌⊎◌, ℕ, ℤ, List, [], ◌∷◌, ◌++◌, filter, Bool, true, false, ◌||◌, Option, Some, None, Result, Err, Contains}
+use Rattle.std.specs.Prelude.{◌≡◌, ℕ, ℤ, List, [], ◌++◌, filter, Bool, true, false, ◌||◌, Option, Some, None, Result, Err, Contains}
 use Rattle.std.proofs.Common.{refl, sym, ap, subst, inl, inr, ⊎_elim, ◌∙◌}
 use Rattle.std.proofs.lemmas.Bool.{false≢true}
 use Rattle.std.specs.FinSet as set
 use Rattle.gix_parts.specs.declared.hash.ObjectId.{ObjectId}
-use Rattle.gix_parts.specs.declared.object.Kind.{Kind as ObjectKind}
-use Rattle.gix_parts.specs.declared.object.Kind.TheVariants as object
 use Rattle.gix_parts.specs.declared.object.decode.Error.{Error as DecodeError}
-use Rattle.gix_parts.specs.declared.object.find.existing_iter.Error.{Error as ExistingError}
-use Rattle.gix_parts.specs.declared.object.find.existing_iter.Error.TheVariants as existing
 use Rattle.gix_parts.specs.Id.{is_among, kind_of}
 use Rattle.gix_parts.specs.Object.{Objects}
 use Rattle.gix_parts.specs.CommitItems.{commit_items}
-use Rattle.gix_parts.specs.CommitText.{Commit, read_commit}
+use Rattle.gix_parts.specs.CommitText.{read_commit}
 use Rattle.gix_parts.specs.Rows.{GraphRow, row_of}
-use Rattle.gix_traverse.specs.declared.commit.Parents.{Parents}
-use Rattle.gix_traverse.specs.declared.commit.Parents.TheVariants as mode
 use Rattle.gix_traverse.specs.declared.commit.Info.{Info}
 use Rattle.gix_traverse.specs.declared.commit.simple.CommitTimeOrder.{CommitTimeOrder}
 use Rattle.gix_traverse.specs.declared.commit.simple.Error.{Error}
 use Rattle.gix_traverse.specs.declared.commit.simple.Error.TheVariants as error
-use Rattle.gix_traverse.specs.History.Commits.{by_mode, time_of, parents_of, parents_in, commit_at, commit_of_object, commit_of_kind, walked_parents, ReadsWhole}
+use Rattle.gix_traverse.specs.History.Commits.{by_mode, time_of, parents_of, parents_in, commit_at, commit_of_object, walked_parents, ReadsWhole}
 use Rattle.gix_traverse.specs.declared.commit.simple.pending.Pending.{Pending}
-use Rattle.gix_parts.specs.Find.{IsExistingFault}
-use Rattle.gix_traverse.specs.Simple.Walk.{SimpleWalk, Treated, GoesOn, ids_of, ids_at, time_order, time_if, given_time, kept_rows, rows_if, unrowed, scanned, Concludes, given, broken, store_fails, no_memory, Takes, by_row, by_store, not_found}
+use Rattle.gix_traverse.specs.Simple.Walk.{SimpleWalk, Treated, GoesOn, ids_of, time_order, time_if, given_time, unrowed, scanned, Concludes, given, broken, store_fails, no_memory, Takes, by_row, by_store, not_found}
 use Rattle.gix_traverse.specs.Simple.Laws.{kept_parents, IsRowGeneration, IsGiven, IsNoRefusal}
-use Rattle.gix_parts.proofs.Ids.Membership.{Contains-here, Contains-cons_cases, no_member}
 use Rattle.gix_traverse.proofs.Shared.NewIds.{fresh}
-use Rattle.gix_traverse.proofs.Shared.ReadsWhole.{scan_is, row_parents, parent_has_row}
+use Rattle.gix_traverse.proofs.Shared.ReadsWhole.{scan_is, row_parents, parent_has_row, walked_within, no_fault}
 use Rattle.gix_traverse.proofs.Simple.Treated.{Joins, Joins-refl, Joins-trans, Setting, order_of, limit_of, keep, Stands, Did, all_treated, rows_agree}
-
-pub walked_within : (m : Parents) (ids : List ObjectId) (i : ObjectId) → Contains (by_mode m ids) i → Contains ids i
-walked_within mode.All ids i h = h
-walked_within mode.First [] i h = h
-walked_within mode.First (j ∷ ids) i h = ⊎_elim (λ e. subst (λ x. Contains (x ∷ ids) i) (sym e) (Contains-here i ids)) (λ n. absurd (no_member i n)) (Contains-cons_cases i j [] h)
-
-kept_either : (rows : List GraphRow) (o : Option GraphRow) → (kept_rows rows o ≡ rows) ⊎ (kept_rows rows o ≡ [])
-kept_either rows None = inl refl
-kept_either rows (Some row) = go (ids_at rows row.parents)
-  where
-    go : (o : Option (List ObjectId)) → (rows_if rows o ≡ rows) ⊎ (rows_if rows o ≡ [])
-    go None = inr refl
-    go (Some ids) = inl refl
-
-no_commit : (i : ObjectId) (kind : ObjectKind) (bytes : List ℕ) (c : Commit) → kind ≢ object.Commit → commit_of_kind i kind bytes ≡ Some c → ⊥
-no_commit i object.Commit bytes c ne e = ne refl
-no_commit i object.Tree bytes c ne e = cc
-no_commit i object.Blob bytes c ne e = cc
-no_commit i object.Tag bytes c ne e = cc
-
--- the look-up of a commit that is stored fails by the store alone
-pub no_fault : (those : Objects) (faulty : ObjectId → Type 0) (i : ObjectId) (c : Commit) (e : ExistingError) → commit_at those i ≡ Some c → IsExistingFault those faulty i object.Commit e → (e ≡ existing.Store → ⊥) → ⊥
-no_fault those faulty i c existing.Store stored f ne = ne refl
-no_fault those faulty i c (existing.NotFound oid) stored f ne = let n : None ≡ Some c = sym (ap (commit_of_object i) f.1) ∙ stored in cc
-no_fault those faulty i c (existing.ObjectKind oid wanted actual) stored f ne = no_commit i actual f.3 c f.2 (sym (ap (commit_of_object i) f.4) ∙ stored)
-no_fault those faulty i c existing.Memory stored f ne = f
+use Rattle.gix_traverse.proofs.Shared.Rows.{kept_either}
 
 module _ {F P : Type 0} (objects : F → Objects) (faulty : F → ObjectId → Type 0) (answers : P → ObjectId → Bool → P → Type 0) where
   abbrev pub next : Setting objects faulty answers → ObjectId → List ObjectId

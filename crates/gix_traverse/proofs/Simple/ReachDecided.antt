@@ -12,10 +12,10 @@ use Rattle.gix_traverse.specs.Orders.BreadthOrder.{named_by, first_new, IsBreadt
 use Rattle.gix_traverse.specs.History.Reach.{Reaches, Tells}
 use Rattle.gix_traverse.specs.History.Commits.{parents_of, parents_in, commit_of_object}
 use Rattle.gix_parts.proofs.Ids.Membership.{among-append, among-one, among_from, among_is, no_member}
-use Rattle.gix_traverse.proofs.Shared.NewIds.{fresh, fresh_agree}
+use Rattle.gix_traverse.proofs.Shared.NewIds.{fresh, fresh_agree, new_less, among_flat}
 use Rattle.gix_traverse.proofs.Shared.Orders.{found_passes}
-use Rattle.gix_traverse.proofs.Simple.Ends.{new_less, among_flat, found_entry}
 use Rattle.gix_traverse.proofs.Simple.Corollaries.{each_once, BreadthFrom}
+use Rattle.gix_traverse.proofs.Shared.Rows.{found_entry}
 
 module _ (next : ObjectId → List ObjectId) (starts : List ObjectId) (all : List ObjectId) (starts_in : (i : ObjectId) → Contains starts i → is_among i all ≡ true) (next_in : (c i : ObjectId) → Contains (next c) i → is_among i all ≡ true) where
   flat_in : (taken : List ObjectId) (i : ObjectId) → Contains (flat_map next taken) i → is_among i all ≡ true

@@ -27,9 +27,10 @@ use Rattle.gix_traverse.proofs.Shared.Committer.{fault_unread}
 use Rattle.gix_parts.proofs.Ids.Membership.{same_is, among_from, among_is, Contains-here, Contains-there, no_member}
 use Rattle.gix_traverse.proofs.Shared.NewIds.{fresh, times, times-fresh, among-filter}
 use Rattle.gix_traverse.proofs.Simple.Treated.{Setting, Stands}
-use Rattle.gix_traverse.proofs.Simple.OneStep.{next, walked_within, no_fault}
+use Rattle.gix_traverse.proofs.Simple.OneStep.{next}
 use Rattle.gix_traverse.proofs.Simple.PendingIs.{IsQueue, IsNextOne}
 use Rattle.gix_traverse.proofs.Simple.WholeWalk.{Known, Runs, RunOf, run}
+use Rattle.gix_traverse.proofs.Shared.ReadsWhole.{walked_within, no_fault}
 
 Contains-filter : (p : ObjectId → Bool) (xs : List ObjectId) (i : ObjectId) → Contains (filter p xs) i → Contains xs i × (p i ≡ true)
 Contains-filter p xs i h =

@@ -11,9 +11,8 @@ use Rattle.gix_traverse.specs.declared.commit.Parents.TheVariants as mode
 use Rattle.gix_traverse.specs.declared.commit.simple.Sorting.TheVariants as sorting
 use Rattle.gix_traverse.specs.Simple.Walk.{SimpleWalk, bare, ids_of, time_order, IsMade}
 use Rattle.gix_traverse.specs.Simple.Laws.{Becomes, itself, further, AnswersBy, IsFresh, IsNewWalk, AreDistinct, new_ids}
-use Rattle.gix_traverse.proofs.Shared.NewIds.{fresh, times_among, times-fresh, among-filter}
+use Rattle.gix_traverse.proofs.Shared.NewIds.{fresh, times_among, times-fresh, among-filter, times_once, among_times}
 use Rattle.gix_traverse.proofs.Simple.Treated.{Setting, Stands, Did, keep, all_treated}
-use Rattle.gix_traverse.proofs.Topo.Ready.IsReady.{times_once, among_times}
 
 once_or_never : (b : Bool) → cond b 1 0 ≤ 1
 once_or_never true = omega arith

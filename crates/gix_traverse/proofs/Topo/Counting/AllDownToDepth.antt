@@ -21,9 +21,9 @@ use Rattle.gix_traverse.specs.Topo.Inside.Exploring.{Explores}
 use Rattle.gix_traverse.specs.History.Reading.{rows_of}
 use Rattle.gix_traverse.specs.Topo.Inside.Searched.{IsCounted, IsBegun, IsExplored}
 use Rattle.gix_traverse.proofs.Topo.Counting.ExploreKeeps.{explores_keep, explores_still}
-use Rattle.gix_traverse.proofs.Simple.OneStep.{walked_within}
 use Rattle.gix_traverse.proofs.Topo.Reading.ReadsCommit.{parents_lower}
 use Rattle.gix_traverse.proofs.Topo.Counting.OneSearch.{explored}
+use Rattle.gix_traverse.proofs.Shared.ReadsWhole.{walked_within}
 
 pub record IsWaitingOf (queue : List (ℕ × Waiting)) (i : ObjectId) : Type 0 where
   pub entry : ℕ × Waiting

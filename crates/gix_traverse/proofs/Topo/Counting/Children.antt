@@ -18,7 +18,8 @@ use Rattle.gix_traverse.specs.Topo.Inside.Frontier.{is_side, is_seen, is_done, k
 use Rattle.gix_traverse.specs.Topo.Inside.Searched.{IsTally, times, naming}
 use Rattle.gix_traverse.specs.Orders.TopoOrder.{last_places}
 use Rattle.gix_traverse.proofs.Topo.Counting.Frontier.{known-insert, moved, unmoved}
-use Rattle.gix_traverse.proofs.Topo.Ready.IsReady.{last_in, last_from, last_once, among_times, times_is_among}
+use Rattle.gix_traverse.proofs.Topo.Ready.IsReady.{last_in, last_from, last_once}
+use Rattle.gix_traverse.proofs.Shared.NewIds.{among_times, times_is_among}
 
 abbrev pub children_of : Frontier → ObjectId → ℕ
 children_of f p = (known_of f.known p).children

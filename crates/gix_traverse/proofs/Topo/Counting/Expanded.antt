@@ -29,8 +29,7 @@ use Rattle.gix_traverse.specs.Topo.Walk.{TopoPlan, IsNumberOf, IsMet, IsInDepth,
 use Rattle.gix_traverse.proofs.Topo.Taking.BecomeReady.{done_seen, tips_text, text_tips, ends_text, text_ends}
 use Rattle.gix_traverse.proofs.Topo.Counting.ExploreKeeps.{steps_keep, explores_keep, explores_same, done_now}
 use Rattle.gix_traverse.proofs.Topo.Counting.AllDownToDepth.{exact_there}
-use Rattle.gix_traverse.proofs.Painting.KeptByTurn.{corrupt_row}
-use Rattle.gix_traverse.proofs.Shared.ReadsWhole.{row_stands}
+use Rattle.gix_traverse.proofs.Shared.ReadsWhole.{row_stands, corrupt_row}
 use Rattle.gix_traverse.proofs.Topo.Taking.AllReleases.{reads_stands, reads_drops}
 use Rattle.gix_traverse.proofs.Topo.Counting.Children.{follows_named}
 
@@ -71,7 +70,7 @@ module _ {F : Type 0} (objects : F → Objects) (faulty : F → ObjectId → Typ
         row = row;
         in_depth = record { reached = r; high = high };
         by_row = q;
-        corrupt = corrupt_row objects plan.store plan.rows [] [] (faulty plan.store) agrees row (row_stands plan.rows i row q).0 (no_ids (ids_at plan.rows row.parents) f);
+        corrupt = corrupt_row (objects plan.store) (faulty plan.store) plan.rows agrees row (row_stands plan.rows i row q).0 (no_ids (ids_at plan.rows row.parents) f);
       }
 
   -- what is done is reached

@@ -11,8 +11,8 @@ use Rattle.gix_traverse.specs.History.Reading.{rows_of}
 use Rattle.gix_traverse.specs.Topo.Walk.{named_ids}
 use Rattle.gix_traverse.proofs.Topo.Counting.Frontier.{to_do, follows_left, finishes_left}
 use Rattle.gix_traverse.proofs.Topo.Ready.IsReady.{last_from}
-use Rattle.gix_traverse.proofs.Simple.OneStep.{walked_within}
 use Rattle.gix_traverse.proofs.Topo.Reading.ReadsCommit.{reads_named}
+use Rattle.gix_traverse.proofs.Shared.ReadsWhole.{walked_within}
 
 module _ {F : Type 0} (objects : F → Objects) (faulty : F → ObjectId → Type 0) where
   -- the ids that rows and texts name

@@ -16,8 +16,7 @@ use Rattle.gix_traverse.specs.Topo.Inside.Known.{Known}
 use Rattle.gix_traverse.specs.declared.commit.topo.frontier.Frontier.{Frontier}
 use Rattle.gix_traverse.specs.Topo.Inside.Frontier.{is_side, is_seen, known_or, known_of, progress_of, with_progress, reached, Meets, seen, unseen, Counts, Names, Finishes}
 use Rattle.gix_traverse.specs.Topo.Inside.Exploring.{Follows, none, more}
-use Rattle.gix_traverse.proofs.Shared.NewIds.{fresh, fresh_agree}
-use Rattle.gix_traverse.proofs.Simple.Ends.{new_less}
+use Rattle.gix_traverse.proofs.Shared.NewIds.{fresh, fresh_agree, new_less}
 
 pub known-insert : (those : map.FinMap id_cmp Known) (i : ObjectId) (known : Known) (j : ObjectId) → known_of (map.insert those i known) j ≡ cond (is_same j i) known (known_of those j)
 known-insert those i known j = ap known_or (map.get-insert id_total those i known j) ∙ go (is_same j i)

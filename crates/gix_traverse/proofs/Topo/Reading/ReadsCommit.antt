@@ -19,8 +19,9 @@ use Rattle.gix_traverse.specs.History.Commits.{ReadsWhole, parents_of, commit_at
 use Rattle.gix_traverse.specs.History.Reading.{Reads, by_row, by_text}
 use Rattle.gix_traverse.specs.Topo.Walk.{text_parents, named_ids}
 use Rattle.gix_traverse.specs.Topo.Inside.Searched.{text_next, next_in}
-use Rattle.gix_traverse.proofs.Simple.Ends.{ids_in_rows, among_flat, found_entry}
 use Rattle.gix_traverse.proofs.Shared.ReadsWhole.{scan_is, row_stands, row_parents, parent_below}
+use Rattle.gix_traverse.proofs.Shared.Rows.{ids_in_rows, found_entry}
+use Rattle.gix_traverse.proofs.Shared.NewIds.{among_flat}
 
 module _ (objects : Objects) (faulty : ObjectId → Type 0) (rows : List GraphRow) where
   -- the parents that are read are among the ids that rows and texts name

@@ -9,20 +9,8 @@ use Rattle.gix_traverse.specs.Orders.WalkSet.{IsInWalk, IsChild, IsChildless, Is
 use Rattle.gix_traverse.specs.Orders.TopoOrder.{Keeps, none, kept, passed, distinct_after, first_places, last_places, by_time}
 use Rattle.gix_traverse.specs.Simple.Laws.{AreDistinct}
 use Rattle.gix_parts.proofs.Ids.Membership.{same_is, same_itself, same_from, among_from, among_is, Contains-here, Contains-there, Contains-cons_cases, no_member}
-use Rattle.gix_traverse.proofs.Shared.NewIds.{times, times_none, times_moved}
+use Rattle.gix_traverse.proofs.Shared.NewIds.{times, times_none, times_moved, among_times, times_is_among}
 use Rattle.gix_traverse.proofs.Topo.Ready.RisingTime.{by_time_moves}
-
--- counting ids
-pub among_times : (i : ObjectId) (xs : List ObjectId) → is_among i xs ≡ true → 1 ≤ times i xs
-among_times i [] e = absurd (false≢true e)
-among_times i (x ∷ xs) e = go (is_same i x) (among_times i xs) e
-  where
-    go : (b : Bool) → (is_among i xs ≡ true → 1 ≤ times i xs) → (b || is_among i xs) ≡ true → 1 ≤ cond b 1 0 + times i xs
-    go true r e = omega arith
-    go false r e = let k : 1 ≤ times i xs = r e in omega arith
-
-pub times_is_among : (i : ObjectId) (xs : List ObjectId) → 1 ≤ times i xs → is_among i xs ≡ true
-times_is_among i xs h = true_from_ne_false _ (λ f. let z : times i xs ≡ 0 = times_none i xs f in omega arith)
 
 -- lists in which an id is as often
 pub among_by : (i : ObjectId) (xs ys : List ObjectId) → times i xs ≡ times i ys → is_among i xs ≡ is_among i ys
@@ -33,14 +21,6 @@ among_by i xs ys e = go (is_among i xs) (is_among i ys) refl refl
     go false false x y = refl
     go true false x y = let l : 1 ≤ times i xs = among_times i xs x in let z : times i ys ≡ 0 = times_none i ys y in absurd (omega arith)
     go false true x y = let l : 1 ≤ times i ys = among_times i ys y in let z : times i xs ≡ 0 = times_none i xs x in absurd (omega arith)
-
--- distinct ids stand once each
-pub times_once : (xs : List ObjectId) → ((i : ObjectId) → times i xs ≤ 1) → AreDistinct xs
-times_once [] n = tt
-times_once (x ∷ xs) n = (
-  (λ m. let a : cond (is_same x x) 1 0 + times x xs ≤ 1 = n x in let s : ◌≡◌ {A = ℕ} (cond (is_same x x) 1 0) 1 = ap (λ b. cond b 1 0) (same_itself x) in let o : 1 ≤ times x xs = among_times x xs (among_from x xs m) in absurd (omega arith)),
-  times_once xs (λ i. let a : cond (is_same i x) 1 0 + times i xs ≤ 1 = n i in omega arith),
-)
 
 pub distinct_times : (xs : List ObjectId) → AreDistinct xs → (i : ObjectId) → times i xs ≤ 1
 distinct_times [] d i = omega arith

@@ -22,11 +22,11 @@ use Rattle.gix_traverse.specs.Simple.Laws.{AreDistinct}
 use Rattle.gix_traverse.specs.Topo.Walk.{TopoPlan, TopoWalk, walked_of, IsMember}
 use Rattle.gix_traverse.specs.Topo.Laws.{IsSorted, IsTakenInOrder, IsGiven, GivesInOrder, IsWholeRun}
 use Rattle.gix_parts.proofs.Ids.Membership.{among-append, among_from, Contains-cons_cases, no_member}
-use Rattle.gix_traverse.proofs.Simple.OneStep.{walked_within}
-use Rattle.gix_traverse.proofs.Simple.Ends.{found_entry}
 use Rattle.gix_traverse.proofs.Topo.Ready.IsReady.{in_walk_top}
 use Rattle.gix_traverse.proofs.Topo.Run.ReadyInTurn.{TurnsFrom, IsReadyNext, date_turns, topo_turns, same_topo, each_once, each_member, children_first, all_given}
 use Rattle.gix_traverse.proofs.Topo.Run.Theorem.{gives}
+use Rattle.gix_traverse.proofs.Shared.ReadsWhole.{walked_within}
+use Rattle.gix_traverse.proofs.Shared.Rows.{found_entry}
 
 -- what the stored commits name is finite
 pub in_all : {X : Type 0} (f : X → List ObjectId) (es : List X) (e : X) (i : ObjectId) → Contains es e → Contains (f e) i → Contains (flat_map f es) i

@@ -15,9 +15,8 @@ use Rattle.gix_traverse.specs.Simple.Laws.{AreDistinct}
 use Rattle.gix_traverse.specs.Topo.Walk.{TopoWalk, Ready, Counted, ready_ids, is_made, named_ids, HoldsReady, Chooses, IsFault, IsLate, IsStarted, Takes, after, Next, ended, given, refused, failed, May}
 use Rattle.gix_traverse.specs.Topo.Laws.{left_beside, answers_left, AreApart, AsksAll, none, more, Drawn}
 use Rattle.gix_parts.proofs.Ids.Membership.{id_total, same_is, same_itself, among_from, among_is, Contains-here, Contains-there, Contains-cons_cases, no_member}
-use Rattle.gix_traverse.proofs.Shared.NewIds.{fresh, fresh_agree, times, times_none}
-use Rattle.gix_traverse.proofs.Simple.Ends.{new_less}
-use Rattle.gix_traverse.proofs.Topo.Ready.IsReady.{among_times, times_is_among, distinct_times, times_once}
+use Rattle.gix_traverse.proofs.Shared.NewIds.{fresh, fresh_agree, times, times_none, new_less, among_times, times_is_among, times_once}
+use Rattle.gix_traverse.proofs.Topo.Ready.IsReady.{distinct_times}
 use Rattle.gix_traverse.proofs.Topo.Run.Theorem.{holds_times, joined_times, chosen_times, chosen_in, in_ids}
 
 -- distinct ids that are new no more

@@ -16,10 +16,9 @@ use Rattle.gix_traverse.specs.Orders.DateOrder.{IsDateOrder}
 use Rattle.gix_traverse.specs.Orders.TopoOrder.{by_time, IsMadeReady, IsTopoOrder}
 use Rattle.gix_traverse.specs.Simple.Laws.{AreDistinct}
 use Rattle.gix_parts.proofs.Ids.Membership.{same_is, among_from, among_is, Contains-here, Contains-there, Contains-cons_cases, no_member}
-use Rattle.gix_traverse.proofs.Shared.NewIds.{fresh, times, times-append, times_none, among-filter}
-use Rattle.gix_traverse.proofs.Simple.Ends.{new_less}
+use Rattle.gix_traverse.proofs.Shared.NewIds.{fresh, times, times-append, times_none, among-filter, new_less, among_times}
 use Rattle.gix_traverse.proofs.Shared.Orders.{found_passes, none_passes}
-use Rattle.gix_traverse.proofs.Topo.Ready.IsReady.{among_times, times-filter, times-by_time, keeps_from, keeps_one, AreReady, are_ready_alike, takes_ready, starts_ready}
+use Rattle.gix_traverse.proofs.Topo.Ready.IsReady.{times-filter, times-by_time, keeps_from, keeps_one, AreReady, are_ready_alike, takes_ready, starts_ready}
 
 -- an order that is told by beginnings
 module _ (Q : List ObjectId → Option ObjectId → Type 0) where

@@ -26,10 +26,10 @@ use Rattle.gix_traverse.specs.Simple.Laws.{Becomes, itself, further, AnswersBy}
 use Rattle.gix_traverse.specs.Topo.Walk.{TopoPlan, TopoWalk, Ready, Counted, ready_ids, IsTaken, HoldsReady, Chooses, walked_of, IsMember, IsStored, IsSound, IsFault, StartsWith, IsStarted, Takes, after, Next, ended, given, refused, failed, May}
 use Rattle.gix_traverse.specs.Topo.Laws.{IsSorted, IsGiven, GivesInOrder, IsWholeRun}
 use Rattle.gix_parts.proofs.Ids.Membership.{id_total, same_is, same_from, among-append, among-one, among_from, among_is, Contains-here, Contains-there, Contains-cons_cases, no_member}
-use Rattle.gix_traverse.proofs.Shared.NewIds.{times, times-append, times_moved}
-use Rattle.gix_traverse.proofs.Simple.OneStep.{walked_within}
-use Rattle.gix_traverse.proofs.Topo.Ready.IsReady.{times_is_among, times-by_time, keeps_from, keeps_alike, AreReady, ready_alike, IsOneMore, takes_ready, starts_ready, in_walk_top}
+use Rattle.gix_traverse.proofs.Shared.NewIds.{times, times-append, times_moved, times_is_among, among_times}
+use Rattle.gix_traverse.proofs.Topo.Ready.IsReady.{times-by_time, keeps_from, keeps_alike, AreReady, ready_alike, takes_ready, starts_ready, in_walk_top}
 use Rattle.gix_traverse.proofs.Topo.Run.ReadyInTurn.{TurnsFrom, turn_none, turn_more, IsLastMade, reverse_in, in_reverse}
+use Rattle.gix_traverse.proofs.Shared.ReadsWhole.{walked_within}
 
 -- what is chosen, and what is held, by ids
 pub times-permutation : (i : ObjectId) (xs ys : List Ready) → IsPermutation xs ys → times i (ready_ids ys) ≡ times i (ready_ids xs)
@@ -292,7 +292,7 @@ module _ {F P : Type 0} (objects : F → Objects) (faulty : F → ObjectId → T
       once i m = false_from_ne_true _ (λ e.
           let s : times i (ready_ids w.ready) ≡ cond (is_same i c.id) 1 0 + times i (ready_ids t.others) = chosen_times w.plan.sorting w.ready c t.others t.chosen i in
           let k : ◌≡◌ {A = ℕ} (cond (is_same i c.id) 1 0) 1 = ap (λ b. cond b 1 0) e in
-          let n : 1 ≤ times i (ready_ids t.others) = Rattle.gix_traverse.proofs.Topo.Ready.IsReady.among_times i (ready_ids t.others) (among_from i _ m) in
+          let n : 1 ≤ times i (ready_ids t.others) = among_times i (ready_ids t.others) (among_from i _ m) in
           let l : times i (ready_ids w.ready) ≤ 1 = st.ready.once i in
           absurd (omega arith))
 

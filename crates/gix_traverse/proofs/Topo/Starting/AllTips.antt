@@ -17,9 +17,9 @@ use Rattle.gix_traverse.specs.Topo.Inside.Releasing.{plan_of}
 use Rattle.gix_traverse.specs.Topo.Inside.Starting.{Starts, waits, frees, StartsAll, none, more}
 use Rattle.gix_traverse.specs.Orders.TopoOrder.{Keeps, none as keeps_none, kept, passed, distinct_after}
 use Rattle.gix_traverse.specs.Topo.Walk.{Ready, ready_ids, IsFound}
-use Rattle.gix_traverse.proofs.Shared.NewIds.{times}
+use Rattle.gix_traverse.proofs.Shared.NewIds.{times, among_times}
 use Rattle.gix_traverse.proofs.Topo.Counting.Frontier.{has_seen}
-use Rattle.gix_traverse.proofs.Topo.Ready.IsReady.{among_times, keeps_in, first_once}
+use Rattle.gix_traverse.proofs.Topo.Ready.IsReady.{keeps_in, first_once}
 use Rattle.gix_traverse.proofs.Topo.Taking.AllReleases.{keeps_on, ids-append, Contains-append_cases, from_ids, reads_stands, reads_drops, makes_known, makes_moved, due_parts, due_from, with_plan}
 use Rattle.gix_traverse.proofs.Topo.Counting.Children.{children_of, made_of}
 

@@ -30,8 +30,8 @@ use Rattle.gix_traverse.specs.Topo.Walk.{TopoPlan, Ready, ready_ids, first_depth
 use Rattle.gix_traverse.specs.Orders.WalkSet.{IsChildless}
 use Rattle.gix_traverse.proofs.Topo.Taking.BecomeReady.{none_left, outside, unseen, all_taken}
 use Rattle.gix_traverse.proofs.Topo.Counting.Expanded.{number_same, broken}
-use Rattle.gix_traverse.proofs.Shared.NewIds.{times}
-use Rattle.gix_traverse.proofs.Topo.Ready.IsReady.{keeps_from, keeps_times, first_once, times_once, among_by}
+use Rattle.gix_traverse.proofs.Shared.NewIds.{times, times_once}
+use Rattle.gix_traverse.proofs.Topo.Ready.IsReady.{keeps_from, keeps_times, first_once, among_by}
 use Rattle.gix_traverse.proofs.Topo.Taking.AllReleases.{keeps_on}
 use Rattle.gix_traverse.proofs.Topo.Counting.Rest.{least_within}
 use Rattle.gix_traverse.proofs.Topo.Ready.RisingTime.{by_time_moves, in_by_time, by_time_map}

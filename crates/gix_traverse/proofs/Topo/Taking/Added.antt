@@ -27,16 +27,16 @@ use Rattle.gix_traverse.specs.History.Reach.{Reaches, step}
 use Rattle.gix_traverse.proofs.Topo.Taking.BecomeReady.{none_left, outside, unseen, all_taken}
 use Rattle.gix_traverse.proofs.Topo.Counting.ExploreKeeps.{explores_same, explores_made}
 use Rattle.gix_traverse.proofs.Topo.Counting.Frontier.{has_seen}
-use Rattle.gix_traverse.proofs.Shared.NewIds.{times}
-use Rattle.gix_traverse.proofs.Topo.Ready.IsReady.{keeps_from, keeps_times, last_from, last_once, times_once}
+use Rattle.gix_traverse.proofs.Shared.NewIds.{times, times_once}
+use Rattle.gix_traverse.proofs.Topo.Ready.IsReady.{keeps_from, keeps_times, last_from, last_once}
 use Rattle.gix_traverse.proofs.Topo.Taking.AllReleases.{keeps_on, IsDue, IsReleased, reads_stands, released}
 use Rattle.gix_traverse.proofs.Topo.Counting.Rest.{least_within}
 use Rattle.gix_traverse.proofs.Topo.Counting.Children.{children_of, made_of}
-use Rattle.gix_traverse.proofs.Simple.OneStep.{walked_within}
 use Rattle.gix_traverse.proofs.Topo.Reading.FoundIsStored.{found_named, found_stored}
 use Rattle.gix_traverse.proofs.Topo.Reading.ReadsCommit.{text_whole}
 use Rattle.gix_traverse.proofs.Topo.Taking.Setting.{was_ready, plan_taken, was_untaken, named_text, counted_on, explored_on, tally_on}
 use Rattle.gix_traverse.proofs.Topo.Run.Theorem.{in_ids}
+use Rattle.gix_traverse.proofs.Shared.ReadsWhole.{walked_within}
 
 module _ {F : Type 0} (objects : F → Objects) (faulty : F → ObjectId → Type 0) where
   -- rows that stand after exploring stood before

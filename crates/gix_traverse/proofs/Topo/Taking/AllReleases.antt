@@ -24,8 +24,8 @@ use Rattle.gix_traverse.specs.Topo.Inside.Searched.{times}
 use Rattle.gix_traverse.specs.Orders.TopoOrder.{Keeps, none as keeps_none, kept, passed}
 use Rattle.gix_traverse.specs.Topo.Walk.{TopoPlan, Ready, ready_ids, HoldsReady, IsFound}
 use Rattle.gix_traverse.proofs.Topo.Counting.Frontier.{known-insert, unmoved, reached-insert, has_seen}
-use Rattle.gix_traverse.proofs.Topo.Ready.IsReady.{among_times}
 use Rattle.gix_traverse.proofs.Topo.Counting.Children.{children_of, made_of}
+use Rattle.gix_traverse.proofs.Shared.NewIds.{among_times}
 
 -- a test of P told otherwise, for the ids of a list
 pub keeps_on : {P Q : ObjectId → Type 0} {xs ys : List ObjectId} → ((i : ObjectId) → Contains xs i → P i → Q i) → ((i : ObjectId) → Contains xs i → Q i → P i) → Keeps P xs ys → Keeps Q xs ys

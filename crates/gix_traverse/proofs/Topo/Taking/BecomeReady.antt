@@ -19,9 +19,9 @@ use Rattle.gix_traverse.specs.History.Commits.{ReadsWhole, by_mode, parents_of, 
 use Rattle.gix_traverse.specs.History.Reach.{Reaches, start, step}
 use Rattle.gix_traverse.specs.Topo.Inside.Searched.{IsExplored, IsTally, text_next, next_by, starts_by}
 use Rattle.gix_traverse.specs.Orders.WalkSet.{IsInWalk, IsChild}
-use Rattle.gix_traverse.proofs.Simple.OneStep.{walked_within}
 use Rattle.gix_traverse.proofs.Topo.Counting.Children.{tally_counts, tally_child, IsOpenChild}
 use Rattle.gix_traverse.proofs.Topo.Reading.ReadsCommit.{text_whole, text_has, parents_lower}
+use Rattle.gix_traverse.proofs.Shared.ReadsWhole.{walked_within}
 
 pub done_seen : (p : Progress) → is_done p ≡ true → is_seen p ≡ true
 done_seen Unseen e = cc

@@ -23,8 +23,8 @@ use Rattle.gix_traverse.specs.Topo.Inside.Steady.{IsTallied, IsSteady, HasCounte
 use Rattle.gix_traverse.specs.Topo.Walk.{Ready, ready_ids, walked_of, IsMember, IsSound, IsTaken, IsCommitRead, HoldsReady, Chooses, Adds, IsReached, IsFound}
 use Rattle.gix_traverse.specs.Orders.WalkSet.{IsChild, IsReady}
 use Rattle.gix_traverse.proofs.Topo.Counting.ExploreKeeps.{explores_made, explores_same, explores_still, explores_done, explores_idle}
-use Rattle.gix_traverse.proofs.Shared.NewIds.{times, times_none}
-use Rattle.gix_traverse.proofs.Topo.Ready.IsReady.{among_times, distinct_times, keeps_from, last_from, times_once, among_by}
+use Rattle.gix_traverse.proofs.Shared.NewIds.{times, times_none, among_times, times_once}
+use Rattle.gix_traverse.proofs.Topo.Ready.IsReady.{distinct_times, keeps_from, last_from, among_by}
 use Rattle.gix_traverse.proofs.Topo.Taking.AllReleases.{ids-append, Contains-append_cases, IsReleased, released}
 use Rattle.gix_traverse.proofs.Topo.Counting.Rest.{least_within}
 use Rattle.gix_traverse.proofs.Topo.Counting.Children.{children_of, made_of, tally_same}

@@ -36,9 +36,9 @@ use Rattle.gix_traverse.specs.Topo.Walk.{TopoPlan, walked_of, IsSound, IsFault, 
 use Rattle.gix_traverse.proofs.Topo.Taking.BecomeReady.{text_tips, text_ends}
 use Rattle.gix_traverse.proofs.Shared.Committer.{fault_unread}
 use Rattle.gix_traverse.proofs.Topo.Counting.ExploreKeeps.{explores_keep, explores_same}
-use Rattle.gix_traverse.proofs.Simple.OneStep.{no_fault}
 use Rattle.gix_traverse.proofs.Topo.Reading.ReadsCommit.{text_whole, reads_text_next}
 use Rattle.gix_traverse.proofs.Topo.Counting.BothSearches.{side_itself}
+use Rattle.gix_traverse.proofs.Shared.ReadsWhole.{no_fault}
 
 -- a fault found in place of a committer is an item
 pub fault_item : (items : List (Result Item DecodeError)) (e : DecodeError) → first_committer items ≡ Err e → (e ≡ fault.Missing → ⊥) → Contains items (Err e)
