@@ -142,6 +142,3 @@ impl<'a, K, T> Iterator for IterUnordered<'a, K, T> {
         Some(&item.value)
     }
 }
-
-#[cfg(test)]
-mod tests;

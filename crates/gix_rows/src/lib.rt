@@ -5,6 +5,8 @@
 #[cfg(test)]
 mod history;
 #[cfg(test)]
+mod parts;
+#[cfg(test)]
 mod simple;
 #[cfg(test)]
 mod topo;

@@ -8,3 +8,5 @@ pub mod Painting
 pub mod Topo
 -- The walks of trees, the recorder, and their laws.
 pub mod Trees
+-- Worked examples that take a proof.
+pub mod Examples

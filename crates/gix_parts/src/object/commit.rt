@@ -254,6 +254,3 @@ impl<'a> Iterator for CommitRefIter<'a> {
         }
     }
 }
-
-#[cfg(test)]
-mod tests;

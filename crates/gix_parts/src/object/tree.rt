@@ -168,6 +168,3 @@ fn index_of(bytes: &[u8], byte: u8) -> Option<usize>
 {
     bytes.iter().position(|b| *b == byte)
 }
-
-#[cfg(test)]
-mod tests;

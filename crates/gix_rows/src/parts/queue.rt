@@ -1,4 +1,6 @@
-use super::*;
+//! The priority queue.
+use gix_parts::queue::PriorityQueue;
+use std::alloc::AllocError;
 use std::process::Abort;
 use std::test::Fail;
 

@@ -1,9 +1,11 @@
+//! The entries of trees.
 ghost use Rattle.std.specs.Prelude.{◌≡◌, drop};
 ghost use Rattle.gix_parts.specs.TreeItems.{tree_items};
 ghost use Rattle.gix_parts.specs.TreeRefIter.{bytes_left, id_kind, items_left, IsEndOf};
 
-use super::*;
-use crate::object::decode::Error;
+use gix_parts::hash::{Kind, ObjectId};
+use gix_parts::object::decode::Error;
+use gix_parts::object::tree::{EntryMode, EntryRef, TreeRefIter};
 use std::alloc::Global;
 use std::process::Abort;
 use std::test::Fail;

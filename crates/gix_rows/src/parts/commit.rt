@@ -1,4 +1,7 @@
-use super::*;
+//! The items of commits.
+use gix_parts::hash::{Kind, ObjectId};
+use gix_parts::object::commit::{CommitRefIter, Signature, Token};
+use gix_parts::object::decode::Error;
 use std::alloc::{AllocError, Global};
 use std::test::Fail;
 

@@ -1,5 +1,8 @@
-use super::*;
+//! Rows of a commit-graph: made of rows, and read from bytes.
 use ParentPlace::{At, Fault};
+use gix_parts::graph::{Graph, GraphError, ParentFault, ParentPlace, Place, Position, Row};
+use gix_parts::hash::ObjectId;
+use std::alloc::Global;
 use std::process::Abort;
 use std::test::Fail;
 
