@@ -1,6 +1,6 @@
 -- Worked examples: over a finite history, lists in the orders of topological walks are found by computing.
 use Rattle.std.specs.Prelude.{◌≡◌, ◌≤◌, ℕ, ℤ, pos, List, [], ◌∷◌, ◌++◌, Bool, true, false, not, ◌&&◌, ◌||◌, cond, filter, reverse, take, Option, Some, None, Contains, MatchOption}
-use Rattle.std.proofs.Common.{refl, sym, ap, subst, ⊎_elim, ◌∙◌, arith}
+use Rattle.std.proofs.Common.{refl, sym, ap, subst, inr, ⊎_elim, ◌∙◌, arith}
 use Rattle.std.proofs.Math.Dec.{leb}
 use Rattle.std.proofs.lemmas.Int.{ints}
 use Rattle.std.proofs.lemmas.Bool.{false≢true, true≢false, and_parts, and_from, leb-true, not-true, not_from_false, false_from_ne_true}
@@ -14,6 +14,7 @@ use Rattle.gix_traverse.specs.History.Reach.{Reaches, start, step}
 use Rattle.gix_traverse.specs.Orders.WalkSet.{IsInWalk, IsChildless, IsReady}
 use Rattle.gix_traverse.specs.Orders.TopoOrder.{Keeps, first_places, last_places, by_time, IsMadeReady, IsTopoOrder}
 use Rattle.gix_traverse.specs.Orders.Examples.{n, ids, history, sample_in}
+use Rattle.gix_traverse.specs.Simple.Painting.{IsAtBoundary}
 use Rattle.gix_parts.proofs.Ids.Membership.{same_is, among_from, among_is, Contains-cons_cases, no_member}
 use Rattle.gix_traverse.proofs.Shared.Orders.{reached_by_named}
 use Rattle.gix_traverse.proofs.Topo.Ready.IsReady.{keeps_alike, ready_alike}
@@ -240,3 +241,16 @@ first_place_refused h =
     let e : ids (9 ∷ 7 ∷ 4 ∷ 2 ∷ 6 ∷ 5 ∷ 3 ∷ 1 ∷ []) ≡ ids (9 ∷ 6 ∷ 5 ∷ 3 ∷ 7 ∷ 4 ∷ 2 ∷ 1 ∷ []) =
     same_topo (λ i. pos (sample_seconds repeated i)) (sample_in repeated) (SampleSet repeated (9 ∷ []) []) (ids (9 ∷ [])) _ _ h parent_repeated in
     false≢true (ap (λ xs. is_among (n 7) (take 2 xs)) (sym e))
+
+-- 6 is in the walk from 8 with the end 5; 3 is reached by the end
+pub above_an_end : SampleSet history (8 ∷ []) (5 ∷ []) (n 6) × (SampleSet history (8 ∷ []) (5 ∷ []) (n 3) → ⊥)
+above_an_end = (
+  member_is (sample_in history) (ids (8 ∷ [])) (ids (5 ∷ [])) (keys_of history) (ids all_eight) (ids (5 ∷ 3 ∷ 1 ∷ [])) (sample_finite history) refl (n 6) refl,
+  λ m. true≢false (sym (is_member_by (sample_in history) (ids (8 ∷ [])) (ids (5 ∷ [])) (keys_of history) (ids all_eight) (ids (5 ∷ 3 ∷ 1 ∷ [])) (sample_finite history) refl (n 3) m)),
+)
+
+-- With the tip 8 and the hidden tip 7, commit 1 is at the boundary, as a parent of 3. Hidden tips reach it, so painting has to mark it.
+pub at_boundary : IsAtBoundary (sample_in history) (ids (8 ∷ [])) (ids (7 ∷ [])) (n 1)
+at_boundary =
+    let three : SampleSet history (8 ∷ []) (7 ∷ []) (n 3) = member_is (sample_in history) (ids (8 ∷ [])) (ids (7 ∷ [])) (keys_of history) (ids all_eight) (ids (7 ∷ 4 ∷ 2 ∷ 1 ∷ [])) (sample_finite history) refl (n 3) refl in
+    inr (n 3, three.reached, three.outside, among_is (n 1) (sample_in history (n 3)) refl)
