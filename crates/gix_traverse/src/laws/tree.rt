@@ -1,6 +1,6 @@
 //! Laws of the walks of trees.
 ghost use Rattle.gix_traverse.specs.Trees.Measure.{WorkLessens};
-ghost use Rattle.gix_traverse.specs.Trees.Laws.{LevelsAreRecorded, DepthIsRecorded, BothRecordTheSame, LevelsAreInOrder, DepthIsInOrder, SoundLevelsSucceed, SoundDepthSucceeds, OkWithoutBreak};
+ghost use Rattle.gix_traverse.specs.Trees.Laws.{LevelsAreRecorded, DepthIsRecorded, BothRecordTheSame, LevelsAreInOrder, DepthIsInOrder, MetLevelsSucceed, MetDepthSucceeds, SoundLevelsSucceed, SoundDepthSucceeds, LevelsEndAtBreak, DepthEndsAtBreak, OkWithoutBreak};
 
 use crate::tree::Visit;
 use gix_parts::object::find::Find;
@@ -30,14 +30,38 @@ pub fn both_record_the_same<F: Find>(store: &F)
     ensures { BothRecordTheSame (F.objects store.now) (F.faulty store.now) }
 {}
 
-/// Over whole trees, none under itself, `breadthfirst` fails for want of memory alone.
+/// `breadthfirst` fails only for memory, where what is read of the root is whole, and each tree that its visits go into is
+/// stored, reads whole and doesn't hold itself. Of a walk that a `Break` ends nothing is asked.
+pub fn met_levels_succeed<F: Find, V: Visit>(store: &F, _delegate: &V)
+    ensures { MetLevelsSucceed (F.objects store.now) (F.faulty store.now) V.steps }
+{}
+
+/// `depthfirst` fails only for memory, where the root and each tree that its visits go into are stored, read whole and don't
+/// hold themselves. Of a walk that a `Break` ends nothing is asked.
+pub fn met_depth_succeeds<F: Find, V: Visit>(store: &F, _delegate: &V)
+    ensures { MetDepthSucceeds (F.objects store.now) (F.faulty store.now) V.steps }
+{}
+
+/// `breadthfirst` fails only for memory, where all trees that the delegate may go into are stored, read whole and don't hold
+/// themselves. Those that it leaves out may be missing or broken.
 pub fn sound_levels_succeed<F: Find, V: Visit>(store: &F, _delegate: &V)
     ensures { SoundLevelsSucceed (F.objects store.now) (F.faulty store.now) V.steps }
 {}
 
-/// Over whole trees, none under itself, `depthfirst` fails for want of memory alone.
+/// `depthfirst` fails only for memory, where all trees that the delegate may go into are stored, read whole and don't hold
+/// themselves. Those that it leaves out may be missing or broken.
 pub fn sound_depth_succeeds<F: Find, V: Visit>(store: &F, _delegate: &V)
     ensures { SoundDepthSucceeds (F.objects store.now) (F.faulty store.now) V.steps }
+{}
+
+/// `breadthfirst` ends at the first visit that is answered `Break`, with the calls up to it, and answers `Cancelled`.
+pub fn levels_end_at_break<F: Find, V: Visit>(store: &F, _delegate: &V)
+    ensures { LevelsEndAtBreak (F.objects store.now) (F.faulty store.now) V.steps }
+{}
+
+/// `depthfirst` ends at the first visit that is answered `Break`, with the calls up to it, and answers `Ok`.
+pub fn depth_ends_at_break<F: Find, V: Visit>(store: &F, _delegate: &V)
+    ensures { DepthEndsAtBreak (F.objects store.now) (F.faulty store.now) V.steps }
 {}
 
 /// Each visit of a tree leaves less to be done than there was, so a walk ends.
