@@ -5,27 +5,27 @@ ghost use Rattle.gix_traverse.specs.Trees.Laws.{LevelsAreRecorded, DepthIsRecord
 use crate::tree::Visit;
 use gix_parts::object::find::Find;
 
-/// The visits of `breadthfirst` stand in level order.
+/// A walk of `breadthfirst` that doesn't fail makes its visits in level order.
 pub fn levels_in_order<F: Find, V: Visit>(store: &F, _delegate: &V)
     ensures { LevelsAreInOrder (F.objects store.now) (F.faulty store.now) V.steps }
 {}
 
-/// The visits of `depthfirst` stand in preorder.
+/// A walk of `depthfirst` that doesn't fail makes its visits in preorder.
 pub fn depth_in_order<F: Find, V: Visit>(store: &F, _delegate: &V)
     ensures { DepthIsInOrder (F.objects store.now) (F.faulty store.now) V.steps }
 {}
 
-/// A fresh recorder holds the visits of `breadthfirst`, with their paths.
+/// A fresh recorder that followed `breadthfirst` holds one record for each visit, with its path.
 pub fn levels_recorded<F: Find>(store: &F)
     ensures { LevelsAreRecorded (F.objects store.now) (F.faulty store.now) }
 {}
 
-/// A fresh recorder holds the visits of `depthfirst`, with their paths.
+/// A fresh recorder that followed `depthfirst` holds one record for each visit, with its path.
 pub fn depth_recorded<F: Find>(store: &F)
     ensures { DepthIsRecorded (F.objects store.now) (F.faulty store.now) }
 {}
 
-/// Both walks record the same entries with the same paths, as often.
+/// Both walks of one tree, where they answer `Ok`, record the same entries with the same paths, as often.
 pub fn both_record_the_same<F: Find>(store: &F)
     ensures { BothRecordTheSame (F.objects store.now) (F.faulty store.now) }
 {}
@@ -64,12 +64,12 @@ pub fn depth_ends_at_break<F: Find, V: Visit>(store: &F, _delegate: &V)
     ensures { DepthEndsAtBreak (F.objects store.now) (F.faulty store.now) V.steps }
 {}
 
-/// Each visit of a tree leaves less to be done than there was, so a walk ends.
+/// Each visit leaves less work than there was before it, so a walk ends.
 pub fn work_lessens<F: Find>(store: &F)
     ensures { WorkLessens (F.objects store.now) }
 {}
 
-/// `breadthfirst` answers `Ok` where no visit was answered `Break`, and else `Cancelled`, where it doesn't fail.
+/// A `breadthfirst` that doesn't fail answers `Ok` where no visit was answered `Break`, and otherwise `Cancelled`.
 pub fn ok_without_break<F: Find, V: Visit>(store: &F, _delegate: &V)
     ensures { OkWithoutBreak (F.objects store.now) (F.faulty store.now) V.steps }
 {}
