@@ -20,18 +20,6 @@ use Rattle.gix_traverse.specs.Trees.Recorder.{record_of}
 use Rattle.gix_traverse.specs.Trees.Tracked.{Tracked, Tracks, fresh_recorder}
 use Rattle.gix_traverse.specs.Trees.Walk.{trees_of, LookUpFails, BreadthFirst, DepthFirst}
 
--- an entry and the names of the trees above it, as they are shown
-pub record Shown : Type 0 where
-  pub names : List (List ℕ)
-  pub entry : TreeEntry
-
-abbrev pub shown_by : Visit → Shown
-shown_by v = record { names = v.place.names; entry = v.entry }
-
--- every visit was answered to go on, and into a tree
-abbrev pub GoOn : List Visit → Type 0
-GoOn visits = AllByRecursion (λ v. v.answer ≡ Continue true) visits
-
 -- no visit was answered `Break`
 abbrev pub NoneBreaks : List Visit → Type 0
 NoneBreaks visits = AllByRecursion (λ v. (b : Unit {0}) → v.answer ≢ Break b) visits

@@ -52,14 +52,6 @@ entries_in (Err why ∷ items) = []
 abbrev pub one_step_more : List Step → Step → List Step
 one_step_more done step = done ++ step ∷ []
 
-abbrev pub first_task : List Task → Option Task
-first_task [] = None
-first_task (task ∷ tasks) = Some task
-
-abbrev pub other_tasks : List Task → List Task
-other_tasks [] = []
-other_tasks (task ∷ tasks) = tasks
-
 -- `trees` says what is read of the tree that is stored at an id
 module _ (trees : ObjectId → Option Items) where
   abbrev pub tasks_behind : Place → TreeEntry → Outcome → List Task
@@ -77,10 +69,6 @@ module _ (trees : ObjectId → Option Items) where
   -- first that has no step yet
   abbrev pub next_of_steps : List Task → List Step → Option Task
   next_of_steps root done = slice_get (root ++ flat_map tasks_of done) (length done)
-
-  -- what is to be done, as a queue: each step takes its task away at the front and adds others at the back
-  abbrev pub tasks_after : List Task → Step → List Task
-  tasks_after tasks step = other_tasks tasks ++ tasks_of step
 
   -- the entries of the tree at an id; none where there is no tree
   abbrev pub entries_at : ObjectId → List TreeEntry
@@ -108,10 +96,6 @@ module _ (trees : ObjectId → Option Items) (fails : ObjectId → ExistingError
   abbrev pub IsLevelScript : Place → Items → List Call → List Visit → Ending → Type 0
   IsLevelScript p root calls visits end = LevelScript (next_of_steps trees (shows p root)) one_step_more [] calls visits end
 
-  -- the same walk, from a queue on
-  abbrev pub LevelFrom : List Task → List Call → List Visit → Ending → Type 0
-  LevelFrom tasks calls visits end = LevelScript first_task (tasks_after trees) tasks calls visits end
-
   -- The calls, the visits and the ending of a walk in depth, over what is read of one tree from some entry on.
   pub data DepthScript : Place → Items → List Call → List Visit → Ending → Type 0 where
     whole : {p : Place} → DepthScript p [] [] [] Whole
@@ -135,9 +119,3 @@ module _ (trees : ObjectId → Option Items) (fails : ObjectId → ExistingError
     found : {items : Items} {calls : List Call} {visits : List Visit} {end : Ending} → trees root ≡ Some items → DepthScript (known_root root) items calls visits end → IsDepthScript root (PopBack ∷ calls) visits end
     not_found : {why : ExistingError} → fails root why → IsDepthScript root [] [] (Failed (error.Find why))
     no_memory : IsDepthScript root [] [] (Failed error.Memory)
-
-  -- the same walk, from a place in a tree on, with what is left of the trees above it, the nearest first
-  pub data DepthFrom : Place → Items → List (Place × Items) → List Call → List Visit → Ending → Type 0 where
-    outermost : {p : Place} {items : Items} {calls : List Call} {visits : List Visit} {end : Ending} → DepthScript p items calls visits end → DepthFrom p items [] calls visits end
-    resumes : {p q : Place} {items rest : Items} {above : List (Place × Items)} {calls more : List Call} {visits others : List Visit} {end : Ending} → DepthScript p items calls visits Whole → DepthFrom q rest above more others end → DepthFrom p items ((q, rest) ∷ above) (calls ++ PopBack ∷ more) (visits ++ others) end
-    ends : {p q : Place} {items rest : Items} {above : List (Place × Items)} {calls : List Call} {visits : List Visit} {end : Ending} → DepthScript p items calls visits end → end ≢ Whole → DepthFrom p items ((q, rest) ∷ above) calls visits end

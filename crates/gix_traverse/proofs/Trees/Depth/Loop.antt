@@ -13,7 +13,7 @@ use Rattle.gix_traverse.specs.Trees.Delegate.{Action, Call, PushPath, PopPath, P
 use Rattle.gix_traverse.specs.Trees.Visits.{Items, Place, Visit, visit, inside, Outcome, Leaves, Enters, Cycles, Breaks, outcome_of, outcome, visit_call, Ending, Whole, Broken, Failed}
 use Rattle.gix_traverse.specs.Trees.Paths.{known_root}
 use Rattle.gix_traverse.specs.Trees.Script as script
-use Rattle.gix_traverse.specs.Trees.Script.{depth_calls, DepthScript, IsDepthScript, DepthFrom, outermost}
+use Rattle.gix_traverse.specs.Trees.Script.{depth_calls, DepthScript, IsDepthScript}
 use Rattle.gix_traverse.specs.Trees.Inside.ShowsEntry.{visit_below}
 use Rattle.gix_traverse.specs.declared.tree.depthfirst.Stop.{Stop}
 use Rattle.gix_traverse.specs.declared.tree.depthfirst.Stop.TheVariants as stop
@@ -21,9 +21,10 @@ use Rattle.gix_traverse.specs.declared.tree.depthfirst.Tree.{Tree}
 use Rattle.gix_traverse.specs.Trees.Inside.ShowsBelow as below
 use Rattle.gix_traverse.specs.Trees.Inside.ShowsBelow.{ShowsUpTo}
 use Rattle.gix_traverse.specs.Trees.Errors.{error_of_find}
-use Rattle.gix_traverse.specs.Trees.Inside.Stack.{Above, FoundTree, items_at}
+use Rattle.gix_traverse.specs.Trees.Inside.Stack.{FoundTree, items_at}
 use Rattle.gix_traverse.specs.Trees.Walk.{items_of_object, trees_of, LookUpFails, depth_answer, DepthFirst}
-use Rattle.gix_traverse.proofs.Trees.Depth.Script.{depth_leaves, depth_enters, depth_resumes, depth_ends}
+use Rattle.gix_traverse.proofs.Trees.Depth.Stack.{Above}
+use Rattle.gix_traverse.proofs.Trees.Depth.Script.{DepthFrom, outermost, depth_leaves, depth_enters, depth_resumes, depth_ends}
 use Rattle.gix_traverse.proofs.Trees.Levels.Loop.{run_more}
 
 abbrev above_of : Place × Items → Above

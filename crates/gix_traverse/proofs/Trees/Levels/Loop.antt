@@ -16,12 +16,13 @@ use Rattle.gix_traverse.specs.Trees.Delegate.{Action, Call, PushPath, PopFront, 
 use Rattle.gix_traverse.specs.Trees.Visits.{Items, Place, Visit, visit, inside, Outcome, Leaves, Enters, Cycles, Breaks, outcome_of, outcome, visit_call, Ending, Whole, Broken, Failed, Task, Turn, shows}
 use Rattle.gix_traverse.specs.Trees.Paths.{unknown_root}
 use Rattle.gix_traverse.specs.Trees.Script as script
-use Rattle.gix_traverse.specs.Trees.Script.{items_or_none, level_calls, tasks_of, Visited, LevelFrom, IsLevelScript}
+use Rattle.gix_traverse.specs.Trees.Script.{items_or_none, level_calls, tasks_of, Visited, IsLevelScript}
 use Rattle.gix_traverse.specs.Trees.Inside.LevelQueue.{LevelQueue, Waiting}
 use Rattle.gix_traverse.specs.Trees.Inside.ShowsEntry as round
 use Rattle.gix_traverse.specs.Trees.Inside.ShowsEntry.{ShowsEntry, ShowsTree, visit_below}
 use Rattle.gix_traverse.specs.Trees.Errors.{error_of_find}
 use Rattle.gix_traverse.specs.Trees.Walk.{items_of_object, trees_of, LookUpFails, level_answer, BreadthFirst}
+use Rattle.gix_traverse.proofs.Trees.Levels.Queue.{LevelFrom}
 use Rattle.gix_traverse.proofs.Trees.Levels.Script.{level_script}
 
 pub run_more : {V : Type 0} (steps : V → Call → V → Type 0) (a b c : V) (calls more : List Call) → Run steps a calls b → Run steps b more c → Run steps a (calls ++ more) c

@@ -10,7 +10,8 @@ use Rattle.gix_parts.specs.TreeItems.{TreeEntry}
 use Rattle.gix_traverse.specs.Trees.Delegate.{Action, Call}
 use Rattle.gix_traverse.specs.Trees.Visits.{Items, Place, Visit, visit, inside, Outcome, Leaves, Enters, Cycles, Breaks, outcome, Ending, IsUnfailed, Task, Turn, Show, Fault, shows}
 use Rattle.gix_traverse.specs.Orders.LevelOrder.{entries_behind, entries_of, entries_by, FollowsInLevels, IsLevelOrder}
-use Rattle.gix_traverse.specs.Trees.Script.{items_or_none, entries_in, entries_at, tasks_behind, Step, Visited, one_step_more, first_task, other_tasks, tasks_of, next_of_steps, tasks_after, LevelScript, LevelFrom, IsLevelScript, whole, leaves, enters, breaks, cycles, turn, not_found, fault, no_memory_in_turn, no_memory_for_descent, refused}
+use Rattle.gix_traverse.specs.Trees.Script.{items_or_none, entries_in, entries_at, tasks_behind, Step, Visited, one_step_more, tasks_of, next_of_steps, LevelScript, IsLevelScript, whole, leaves, enters, breaks, cycles, turn, not_found, fault, no_memory_in_turn, no_memory_for_descent, refused}
+use Rattle.gix_traverse.proofs.Trees.Levels.Queue.{first_task, other_tasks, tasks_after, LevelFrom, split_front, no_front}
 
 pub first_behind : (passed tasks : List Task) → slice_get (passed ++ tasks) (length passed) ≡ first_task tasks
 first_behind [] [] = refl
@@ -111,14 +112,6 @@ get_behind (x ∷ passed) left = get_behind passed left
 past_end : {X : Type 0} (xs : List X) → slice_get xs (length xs) ≡ None
 past_end [] = refl
 past_end (x ∷ xs) = past_end xs
-
-split_front : (tasks : List Task) (t : Task) → first_task tasks ≡ Some t → tasks ≡ t ∷ other_tasks tasks
-split_front [] t e = cc
-split_front (u ∷ tasks) t e = cc
-
-no_front : (tasks : List Task) → first_task tasks ≡ None → tasks ≡ []
-no_front [] e = refl
-no_front (u ∷ tasks) e = cc
 
 module _ (trees : ObjectId → Option Items) where
   shown_of_visit : (p : Place) (e : TreeEntry) (o : Outcome) → shown_in (tasks_behind trees p e o) ≡ entries_behind (entries_at trees) p e o

@@ -12,7 +12,8 @@ use Rattle.gix_traverse.specs.Trees.Delegate.{Action, Call, PushPath, PopPath, P
 use Rattle.gix_traverse.specs.Trees.Visits.{Items, Place, Visit, visit, inside, Outcome, Leaves, Enters, Cycles, Breaks, outcome, visit_call_of, Ending, Whole, Failed, Task, Turn, Show, Fault, shows}
 use Rattle.gix_traverse.specs.Trees.Paths.{IsName, HaveNames, joined, unknown_root}
 use Rattle.gix_traverse.specs.Trees.Script as script
-use Rattle.gix_traverse.specs.Trees.Script.{Step, Entered, Visited, first_task, other_tasks, tasks_of, tasks_behind, tasks_after, items_or_none, level_calls, depth_calls, LevelScript, LevelFrom, IsLevelScript, DepthScript, IsDepthScript}
+use Rattle.gix_traverse.specs.Trees.Script.{Step, Entered, Visited, tasks_of, tasks_behind, items_or_none, level_calls, depth_calls, LevelScript, IsLevelScript, DepthScript, IsDepthScript}
+use Rattle.gix_traverse.proofs.Trees.Levels.Queue.{first_task, other_tasks, tasks_after, LevelFrom, split_front}
 use Rattle.gix_traverse.proofs.Trees.Levels.Script.{level_queue}
 use Rattle.gix_traverse.specs.Trees.Recorder.{Record, Recorded, with_name, front_from, before_slash, path_or_empty, without_name, last_path, without_last, first_path, without_first, fresh, recorded, recorded_all, record_of}
 
@@ -131,10 +132,6 @@ fits_more path (Show q e ∷ tasks) queue front p i items h at = (h.0, fits_more
 fits_more path (Fault why ∷ tasks) queue front p i items h at = fits_more path tasks queue front p i items h at
 fits_more path (Turn q j ∷ tasks) [] front p i items h at = absurd h
 fits_more path (Turn q j ∷ tasks) (next ∷ queue) front p i items h at = (h.0, fits_more next tasks queue front p i items h.1 at)
-
-pub split_front : (tasks : List Task) (t : Task) → first_task tasks ≡ Some t → tasks ≡ t ∷ other_tasks tasks
-split_front [] t e = cc
-split_front (u ∷ tasks) t e = cc
 
 fits_front : (path : List ℕ) (tasks : List Task) (queue : List (List ℕ)) (t : Task) → first_task tasks ≡ Some t → Fits path tasks queue → Fits path (t ∷ other_tasks tasks) queue
 fits_front path tasks queue t e h = subst (λ l. Fits path l queue) (split_front tasks t e) h

@@ -22,7 +22,7 @@ use Rattle.gix_traverse.specs.Orders.Preorder.{IsPreorder}
 use Rattle.gix_traverse.specs.Trees.Tracked.{Tracked, Tracks, fresh_recorder}
 use Rattle.gix_traverse.specs.Trees.Recorder.{Record, Recorded, fresh, recorded_all, record_of, IsRecorderAnswer, Records}
 use Rattle.gix_traverse.specs.Trees.Walk.{trees_of, LookUpFails, level_answer, depth_answer, BreadthFirst, DepthFirst}
-use Rattle.gix_traverse.specs.Trees.Laws.{Shown, shown_by, GoOn, LevelsAreRecorded, DepthIsRecorded, BothRecordTheSame, LevelsAreInOrder, DepthIsInOrder, MetLevelsSucceed, MetDepthSucceeds, SoundLevelsSucceed, SoundDepthSucceeds, LevelsEndAtBreak, DepthEndsAtBreak, OkWithoutBreak}
+use Rattle.gix_traverse.specs.Trees.Laws.{LevelsAreRecorded, DepthIsRecorded, BothRecordTheSame, LevelsAreInOrder, DepthIsInOrder, MetLevelsSucceed, MetDepthSucceeds, SoundLevelsSucceed, SoundDepthSucceeds, LevelsEndAtBreak, DepthEndsAtBreak, OkWithoutBreak}
 use Rattle.gix_traverse.proofs.Trees.Levels.Script.{level_order}
 use Rattle.gix_traverse.proofs.Trees.Depth.Script.{preorder}
 use Rattle.gix_traverse.proofs.Trees.Recorder.Records.{fresh_level, fresh_depth}
@@ -30,7 +30,7 @@ use Rattle.gix_traverse.proofs.Trees.Theorems.Called.{level_called, depth_called
 use Rattle.gix_traverse.proofs.Trees.Theorems.Met.{met_level_script, met_depth_script}
 use Rattle.gix_traverse.proofs.Trees.Theorems.Sound.{run_only, sound_level_visits, sound_depth_visits}
 use Rattle.gix_traverse.proofs.Trees.Theorems.Breaks.{none_breaks, root_none_breaks, levels_end_broken, depth_end_broken, ok_without_break}
-use Rattle.gix_traverse.proofs.Trees.Theorems.SameRecords.{both_show, unbroken}
+use Rattle.gix_traverse.proofs.Trees.Theorems.SameRecords.{Shown, shown_by, GoOn, both_show, unbroken}
 
 -- a run of a recorder is its function, and each visit was answered to go on
 run_records : (location : Option Location) (old : Recorded) (calls : List Call) (new : Recorded) → Run (Records location) old calls new → new ≡ recorded_all location old calls

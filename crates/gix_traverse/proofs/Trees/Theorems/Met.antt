@@ -10,10 +10,10 @@ use Rattle.gix_traverse.specs.Trees.Delegate.{Action, Call}
 use Rattle.gix_traverse.specs.Trees.Visits.{Items, Place, Visit, visit, inside, Enters, Cycles, outcome_of, outcome, Ending, Failed, IsUnfailed, Task, Turn, Show, Fault, shows}
 use Rattle.gix_traverse.specs.Trees.Paths.{unknown_root}
 use Rattle.gix_traverse.specs.Trees.Script as script
-use Rattle.gix_traverse.specs.Trees.Script.{first_task, other_tasks, items_or_none, LevelFrom, IsLevelScript, DepthScript, IsDepthScript}
+use Rattle.gix_traverse.specs.Trees.Script.{items_or_none, IsLevelScript, DepthScript, IsDepthScript}
 use Rattle.gix_traverse.specs.Trees.Laws.{IsWhole, GoesIn, IsWholeTree, EntersWhole, AllEnterWhole}
+use Rattle.gix_traverse.proofs.Trees.Levels.Queue.{first_task, other_tasks, LevelFrom, split_front}
 use Rattle.gix_traverse.proofs.Trees.Levels.Script.{level_queue}
-use Rattle.gix_traverse.proofs.Trees.Recorder.Records.{split_front}
 use Rattle.gix_traverse.proofs.Trees.Theorems.Called.{all_right}
 
 -- whose tree is entered, or is one of those that hold the entry

@@ -14,10 +14,10 @@ use Rattle.gix_traverse.specs.Trees.Delegate.{Action, Call, VisitTree, Run}
 use Rattle.gix_traverse.specs.Trees.Visits.{Items, Place, Visit, visit, inside, Enters, outcome, visit_call, visit_call_of, Ending, Task, Turn, Show, Fault, shows}
 use Rattle.gix_traverse.specs.Trees.Paths.{unknown_root, known_root}
 use Rattle.gix_traverse.specs.Trees.Script as script
-use Rattle.gix_traverse.specs.Trees.Script.{first_task, other_tasks, items_or_none, entries_in, entries_at, LevelFrom, IsLevelScript, DepthScript, IsDepthScript}
+use Rattle.gix_traverse.specs.Trees.Script.{items_or_none, entries_in, entries_at, IsLevelScript, DepthScript, IsDepthScript}
 use Rattle.gix_traverse.specs.Trees.Laws.{GoesIn, subtrees, subtrees_of, EntersWhole, AllEnterWhole, AreSound, GoesOnlyInto}
+use Rattle.gix_traverse.proofs.Trees.Levels.Queue.{first_task, other_tasks, LevelFrom, split_front}
 use Rattle.gix_traverse.proofs.Trees.Levels.Script.{level_queue}
-use Rattle.gix_traverse.proofs.Trees.Recorder.Records.{split_front}
 use Rattle.gix_traverse.proofs.Trees.Work.Measure.{same_id}
 use Rattle.gix_traverse.proofs.Trees.Theorems.Called.{all_both, all_left, all_right, level_called, root_called}
 use Rattle.gix_traverse.proofs.Trees.Theorems.Met.{enters_tree}
