@@ -12,7 +12,7 @@ use Rattle.gix_traverse.specs.Trees.Script as script
 use Rattle.gix_traverse.specs.Trees.Script.{Step, level_calls, depth_calls, LevelScript, DepthScript, IsDepthScript}
 use Rattle.gix_traverse.specs.Trees.Walk.{level_answer}
 use Rattle.gix_traverse.specs.Trees.Laws.{NoneBreaks, EndsAtBreak}
-use Rattle.gix_traverse.proofs.Trees.Theorems.Called.{all_both}
+use Rattle.gix_traverse.proofs.Trees.All.{all_both}
 
 breaks_by : (t known : Bool) (a : Action) → outcome_of t a known ≡ Breaks → (b : Unit {0}) × (a ≡ Break b)
 breaks_by t known (Break b) o = (b, refl)

@@ -8,18 +8,7 @@ use Rattle.gix_traverse.specs.Trees.Delegate.{Call}
 use Rattle.gix_traverse.specs.Trees.Visits.{Items, Place, Visit, visit, outcome, visit_call, Ending, Task}
 use Rattle.gix_traverse.specs.Trees.Script as script
 use Rattle.gix_traverse.specs.Trees.Script.{Step, level_calls_behind, depth_calls_behind, LevelScript, DepthScript, IsDepthScript}
-
-pub all_both : {X : Type 0} (P : X → Type 0) (xs ys : List X) → AllByRecursion P xs → AllByRecursion P ys → AllByRecursion P (xs ++ ys)
-all_both P [] ys h g = g
-all_both P (x ∷ xs) ys h g = (h.0, all_both P xs ys h.1 g)
-
-pub all_left : {X : Type 0} (P : X → Type 0) (xs ys : List X) → AllByRecursion P (xs ++ ys) → AllByRecursion P xs
-all_left P [] ys h = tt
-all_left P (x ∷ xs) ys h = (h.0, all_left P xs ys h.1)
-
-pub all_right : {X : Type 0} (P : X → Type 0) (xs ys : List X) → AllByRecursion P (xs ++ ys) → AllByRecursion P ys
-all_right P [] ys h = h
-all_right P (x ∷ xs) ys h = all_right P xs ys h.1
+use Rattle.gix_traverse.proofs.Trees.All.{all_both, all_left, all_right}
 
 module _ (trees : ObjectId → Option Items) (fails : ObjectId → ExistingError → Type 0) (P : Call → Type 0) where
   -- what is so of each call is so of the visits' calls

@@ -14,7 +14,7 @@ use Rattle.gix_traverse.specs.Trees.Script.{items_or_none, IsLevelScript, DepthS
 use Rattle.gix_traverse.specs.Trees.Laws.{IsWhole, GoesIn, IsWholeTree, EntersWhole, AllEnterWhole}
 use Rattle.gix_traverse.proofs.Trees.Levels.Queue.{first_task, other_tasks, LevelFrom, split_front}
 use Rattle.gix_traverse.proofs.Trees.Levels.Script.{level_queue}
-use Rattle.gix_traverse.proofs.Trees.Theorems.Called.{all_right}
+use Rattle.gix_traverse.proofs.Trees.All.{all_right}
 
 -- whose tree is entered, or is one of those that hold the entry
 pub enters_tree : (t known : Bool) (a : Action) → outcome_of t a known ≡ Enters → (t ≡ true) × (a ≡ Continue true)

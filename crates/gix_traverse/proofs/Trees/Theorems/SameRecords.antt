@@ -18,7 +18,7 @@ use Rattle.gix_traverse.specs.Orders.Preorder.{IsPreorder}
 use Rattle.gix_traverse.proofs.Trees.Levels.Queue.{first_task, other_tasks, tasks_after, LevelFrom, split_front, no_front}
 use Rattle.gix_traverse.proofs.Trees.Levels.Script.{level_queue}
 use Rattle.gix_traverse.proofs.Trees.Depth.Script.{preorder}
-use Rattle.gix_traverse.proofs.Trees.Theorems.Called.{all_left, all_right}
+use Rattle.gix_traverse.proofs.Trees.All.{all_left, all_right}
 use Rattle.gix_traverse.proofs.Trees.Theorems.Met.{enters_tree}
 
 -- an entry and the names of the trees above it, as they are shown

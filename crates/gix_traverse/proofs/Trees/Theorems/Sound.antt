@@ -19,7 +19,8 @@ use Rattle.gix_traverse.specs.Trees.Laws.{GoesIn, subtrees, subtrees_of, EntersW
 use Rattle.gix_traverse.proofs.Trees.Levels.Queue.{first_task, other_tasks, LevelFrom, split_front}
 use Rattle.gix_traverse.proofs.Trees.Levels.Script.{level_queue}
 use Rattle.gix_traverse.proofs.Trees.Work.Measure.{same_id}
-use Rattle.gix_traverse.proofs.Trees.Theorems.Called.{all_both, all_left, all_right, level_called, root_called}
+use Rattle.gix_traverse.proofs.Trees.All.{all_both, all_left, all_right}
+use Rattle.gix_traverse.proofs.Trees.Theorems.Called.{level_called, root_called}
 use Rattle.gix_traverse.proofs.Trees.Theorems.Met.{enters_tree}
 
 holds_first : (i : ObjectId) (ids : List ObjectId) → Contains (i ∷ ids) i
