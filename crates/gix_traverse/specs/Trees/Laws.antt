@@ -1,5 +1,5 @@
 -- What holds of both walks of trees.
-use Rattle.std.specs.Prelude.{◌≡◌, ◌≢◌, ◌↔◌, ℕ, List, [], ◌∷◌, ◌++◌, map, Bool, true, false, ◌&&◌, Option, Some, Result, Ok, Err, IsPermutation, if◌then◌else◌}
+use Rattle.std.specs.Prelude.{◌≡◌, ◌≢◌, ◌↔◌, List, [], ◌∷◌, ◌++◌, map, Bool, true, false, ◌&&◌, Option, Some, Result, Ok, Err, IsPermutation, if◌then◌else◌}
 use Rattle.std.specs.declared.ops.ControlFlow.TheVariants.{Continue, Break}
 use Rattle.std.specs.List.{AllByRecursion}
 use Rattle.gix_parts.specs.declared.hash.ObjectId.{ObjectId}
@@ -24,7 +24,7 @@ use Rattle.gix_traverse.specs.Trees.Walk.{trees_of, LookUpFails, BreadthFirst, D
 abbrev pub NoneBreaks : List Visit → Type 0
 NoneBreaks visits = AllByRecursion (λ v. (b : Unit {0}) → v.answer ≢ Break b) visits
 
--- no fault stands behind the entries
+-- no fault is behind the entries
 abbrev pub IsWhole : Items → Type 0
 IsWhole [] = Unit {0}
 IsWhole (Ok e ∷ items) = IsWhole items
@@ -102,13 +102,13 @@ module _ (objects : Objects) (faulty : ObjectId → Type 0) where
       trees_of objects root ≡ Some items → HaveNames levels.visits → IsPermutation first.held.records second.held.records
 
 module _ {V : Type 0} (objects : Objects) (faulty : ObjectId → Type 0) (steps : V → Call → V → Type 0) where
-  -- The visits of a walk by levels that ends with `Ok` or `Cancelled` stand in level order.
+  -- The visits of a walk by levels that ends with `Ok` or `Cancelled` are in level order.
   abbrev pub LevelsAreInOrder : Type 0
   LevelsAreInOrder =
       (root : Items) (old new : V) (answer : Result (Unit {0}) Error) (walk : BreadthFirst objects faulty steps root old new answer) →
       IsUnfailed walk.end → IsLevelOrder (entries_at (trees_of objects)) unknown_root (entries_in root) walk.visits
 
-  -- The visits of a walk in depth that ends with `Ok` stand in preorder.
+  -- The visits of a walk in depth that ends with `Ok` are in preorder.
   abbrev pub DepthIsInOrder : Type 0
   DepthIsInOrder =
       (root : ObjectId) (old new : V) (answer : Result (Unit {0}) Error) (walk : DepthFirst objects faulty steps root old new answer) →
@@ -127,7 +127,7 @@ module _ {V : Type 0} (objects : Objects) (faulty : ObjectId → Type 0) (steps 
       (root : ObjectId) (old new : V) (answer : Result (Unit {0}) Error) (walk : DepthFirst objects faulty steps root old new answer) →
       (NoneBreaks walk.visits → IsWholeTree (trees_of objects) (LookUpFails objects faulty) root) → (NoneBreaks walk.visits → AllEnterWhole (trees_of objects) (LookUpFails objects faulty) walk.visits) → answer ≢ Err error.Memory → IsUnfailed walk.end
 
-  -- The same, told by the delegate alone: a walk by levels fails only for memory, where the trees that the delegate may go into
+  -- The same by premises on the delegate and the store alone: a walk by levels fails only for memory, where the trees that the delegate may go into
   -- are stored, read whole and don't hold themselves. What it leaves out may be missing or broken, or hold itself.
   abbrev pub SoundLevelsSucceed : Type 0
   SoundLevelsSucceed =

@@ -65,8 +65,8 @@ module _ (trees : ObjectId → Option Items) where
   tasks_of Entered = []
   tasks_of (Visited v) = tasks_behind v.place v.entry (outcome v)
 
-  -- what is to be done after these steps, told by them: of the root's tasks and then of those that each step added, the
-  -- first that has no step yet
+  -- What is to be done after these steps, by the steps alone: the first that has no step yet, of the root's tasks followed by
+  -- the tasks that each step added.
   abbrev pub next_of_steps : List Task → List Step → Option Task
   next_of_steps root done = slice_get (root ++ flat_map tasks_of done) (length done)
 
@@ -89,7 +89,7 @@ module _ (trees : ObjectId → Option Items) (fails : ObjectId → ExistingError
     -- a growth of the walk's own was refused, at a look-up or for a descent
     no_memory_in_turn : {s : S} {p : Place} {i : ObjectId} → next s ≡ Some (Turn p i) → LevelScript next after s (PopFront ∷ []) [] (Failed error.Memory)
     no_memory_for_descent : {s : S} {p : Place} {e : TreeEntry} (a : Action) → next s ≡ Some (Show p e) → outcome (visit p e a) ≡ Enters → LevelScript next after s (PushPath e.name ∷ visit_call (visit p e a) ∷ []) [] (Failed error.Memory)
-    -- a call of the delegate was refused; the visit around which it stands isn't counted
+    -- a call on the delegate was refused; the visit that it belongs to isn't counted
     refused : {s : S} {p : Place} {e : TreeEntry} {made : List Call} (a : Action) → next s ≡ Some (Show p e) → RefusedIn (level_calls (visit p e a)) made → LevelScript next after s made [] (Failed error.Memory)
 
   -- the walk by levels over what is read of a root
@@ -100,7 +100,7 @@ module _ (trees : ObjectId → Option Items) (fails : ObjectId → ExistingError
   pub data DepthScript : Place → Items → List Call → List Visit → Ending → Type 0 where
     whole : {p : Place} → DepthScript p [] [] [] Whole
     leaves : {p : Place} {e : TreeEntry} {a : Action} {items : Items} {calls : List Call} {visits : List Visit} {end : Ending} → outcome (visit p e a) ≡ Leaves → DepthScript p items calls visits end → DepthScript p (Ok e ∷ items) (depth_calls (visit p e a) ++ calls) (visit p e a ∷ visits) end
-    -- the entry's tree is shown whole, and then what stands behind the entry
+    -- the entry's tree is shown whole, and then what follows the entry
     enters : {p : Place} {e : TreeEntry} {a : Action} {sub items : Items} {calls more : List Call} {visits others : List Visit} {end : Ending} → outcome (visit p e a) ≡ Enters → trees e.id ≡ Some sub → DepthScript (inside p e) sub calls visits Whole → DepthScript p items more others end → DepthScript p (Ok e ∷ items) (depth_calls (visit p e a) ++ (PopBack ∷ calls ++ PopBack ∷ more)) (visit p e a ∷ (visits ++ others)) end
     -- the walk ends in the entry's tree
     ends_inside : {p : Place} {e : TreeEntry} {a : Action} {sub items : Items} {calls : List Call} {visits : List Visit} {end : Ending} → outcome (visit p e a) ≡ Enters → trees e.id ≡ Some sub → DepthScript (inside p e) sub calls visits end → end ≢ Whole → DepthScript p (Ok e ∷ items) (depth_calls (visit p e a) ++ PopBack ∷ calls) (visit p e a ∷ visits) end
@@ -111,7 +111,7 @@ module _ (trees : ObjectId → Option Items) (fails : ObjectId → ExistingError
     -- a growth of the walk's own was refused, at a look-up or for a descent
     no_memory_at_look_up : {p : Place} {e : TreeEntry} {a : Action} {items : Items} → outcome (visit p e a) ≡ Enters → DepthScript p (Ok e ∷ items) (depth_calls (visit p e a)) (visit p e a ∷ []) (Failed error.Memory)
     no_memory_for_descent : {p : Place} {e : TreeEntry} {items : Items} (a : Action) → outcome (visit p e a) ≡ Enters → DepthScript p (Ok e ∷ items) (PushPath e.name ∷ visit_call (visit p e a) ∷ PopPath ∷ []) [] (Failed error.Memory)
-    -- a call of the delegate was refused; the visit around which it stands isn't counted
+    -- a call on the delegate was refused; the visit that it belongs to isn't counted
     refused : {p : Place} {e : TreeEntry} {items : Items} {made : List Call} (a : Action) → RefusedIn (depth_calls (visit p e a)) made → DepthScript p (Ok e ∷ items) made [] (Failed error.Memory)
 
   -- the walk in depth from the id of its root, which is looked up first

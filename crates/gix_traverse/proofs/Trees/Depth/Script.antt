@@ -51,7 +51,7 @@ module _ (trees : ObjectId → Option Items) (fails : ObjectId → ExistingError
   broken_end Broken w ne = refl
   broken_end (Failed why) w ne = absurd w
 
-  -- the visits of a walk in depth stand in preorder
+  -- the visits of a walk in depth are in preorder
   pub preorder : {p : Place} {items : Items} {calls : List Call} {visits : List Visit} {end : Ending} → DepthScript trees fails p items calls visits end → IsUnfailed end → IsPreorder (entries_at trees) p (entries_in items) visits (is_broken end)
   preorder whole w = order.none
   preorder (leaves o rest) w = order.leaves o (preorder rest w)

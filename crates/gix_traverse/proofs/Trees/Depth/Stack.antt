@@ -78,7 +78,7 @@ known_found i root trees h = sym (ap (λ b. is_same i root || b) (among_back i t
     or_true true = refl
     or_true false = refl
 
--- it is that of none, and so the last tells
+-- no tree above has the id, and so the comparison with the last decides
 pub known_last : (i root : ObjectId) (trees : List Tree) (k : ℕ) (r : Bool) → length trees ≤ k → is_of i (drop k trees) ≡ is_of i trees → r ≡ eq-value.it i root → r ≡ is_among i (root ∷ ids_down (reverse trees))
 known_last i root trees k r past same e =
     let none : is_of i trees ≡ false = sym same ∙ ap (λ l. is_of i l) (drop_all k trees past) in

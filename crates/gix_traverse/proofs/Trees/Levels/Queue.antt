@@ -31,4 +31,3 @@ module _ (trees : ObjectId → Option Items) (fails : ObjectId → ExistingError
   -- the walk by levels, from a queue on
   abbrev pub LevelFrom : List Task → List Call → List Visit → Ending → Type 0
   LevelFrom tasks calls visits end = LevelScript trees fails first_task (tasks_after trees) tasks calls visits end
-

@@ -1,4 +1,4 @@
--- The walk by levels: from a queue, and told by its steps.
+-- The walk by levels from a queue on is the walk by its steps.
 use Rattle.std.proofs.Common.{◌≡◌, ℕ, List, [], ◌∷◌, ◌++◌, length, map, Option, Some, None, Ok, Err, refl, sym, ap, ◌∙◌, subst, arith, append_assoc, length-append}
 use Rattle.std.proofs.lemmas.List.{append-nil}
 use Rattle.std.specs.Prelude.{slice_get}
@@ -121,7 +121,7 @@ module _ (trees : ObjectId → Option Items) where
   shown_of_visit p e Cycles = refl
   shown_of_visit p e Breaks = refl
 
-  -- of the entries named by the visits so far, as many as were visited are passed by, and the others stand in the queue
+  -- of the entries named by the visits so far, as many as were visited are passed by, and the others are in the queue
   record Seen (p : Place) (root : List TreeEntry) (done : List Visit) (tasks : List Task) : Type 0 where
     passed : List (Place × TreeEntry)
     many : length passed ≡ length done
@@ -169,6 +169,6 @@ module _ (trees : ObjectId → Option Items) (fails : ObjectId → ExistingError
   level_follows p root done (no_memory_for_descent a e o) w h = absurd w
   level_follows p root done (refused a e m) w h = absurd w
 
-  -- the visits of a walk by levels stand in level order
+  -- the visits of a walk by levels are in level order
   pub level_order : (p : Place) (root : Items) {calls : List Call} {visits : List Visit} {end : Ending} → IsLevelScript trees fails p root calls visits end → IsUnfailed end → IsLevelOrder (entries_at trees) p (entries_in root) visits
   level_order p root walk w = level_follows p (entries_in root) [] (level_queue trees fails p root walk) w (record { passed = []; many = refl; is = append-nil _ ∙ sym (shown_in-shows p root) })

@@ -14,7 +14,7 @@ use Rattle.gix_traverse.specs.Trees.Paths.{IsName, HaveNames, joined, unknown_ro
 use Rattle.gix_traverse.specs.Trees.Script as script
 use Rattle.gix_traverse.specs.Trees.Script.{Step, Entered, Visited, tasks_of, tasks_behind, items_or_none, level_calls, depth_calls, LevelScript, IsLevelScript, DepthScript, IsDepthScript}
 use Rattle.gix_traverse.proofs.Trees.All.{all_left, all_right}
-use Rattle.gix_traverse.proofs.Trees.Levels.Queue.{first_task, other_tasks, tasks_after, LevelFrom, split_front}
+use Rattle.gix_traverse.proofs.Trees.Levels.Queue.{first_task, other_tasks, LevelFrom, split_front}
 use Rattle.gix_traverse.proofs.Trees.Levels.Script.{level_queue}
 use Rattle.gix_traverse.specs.Trees.Recorder.{Record, Recorded, with_name, front_from, before_slash, path_or_empty, without_name, last_path, without_last, first_path, without_first, fresh, recorded, recorded_all, record_of}
 

@@ -1,5 +1,5 @@
 -- The call of each visit is one of the calls that were made.
-use Rattle.std.proofs.Common.{List, [], ◌∷◌, ◌++◌, Option}
+use Rattle.std.proofs.Common.{List, Option}
 use Rattle.std.specs.List.{AllByRecursion}
 use Rattle.gix_parts.specs.declared.hash.ObjectId.{ObjectId}
 use Rattle.gix_parts.specs.declared.object.find.existing_iter.Error.{Error as ExistingError}

@@ -1,5 +1,5 @@
 -- Both walks of trees show the same.
-use Rattle.std.proofs.Common.{◌≡◌, ℕ, Bool, true, false, List, [], ◌∷◌, ◌++◌, map, Option, Some, None, Ok, Err, refl, sym, ap, ◌∙◌, subst, append_assoc}
+use Rattle.std.proofs.Common.{◌≡◌, ℕ, Bool, true, false, List, [], ◌∷◌, ◌++◌, map, Option, Some, Ok, Err, refl, sym, ap, ◌∙◌, subst, append_assoc}
 use Rattle.std.proofs.lemmas.List.{append-nil, map-append}
 use Rattle.std.proofs.lemmas.List.Sorted.{IsPermutation-refl, IsPermutation-cons, IsPermutation-trans, IsPermutation-sym, IsPermutation-append_comm}
 use Rattle.std.specs.List.Sorted.{IsPermutation}
@@ -15,7 +15,7 @@ use Rattle.gix_traverse.specs.Trees.Script as script
 use Rattle.gix_traverse.specs.Trees.Script.{Step, Entered, Visited, tasks_of, tasks_behind, items_or_none, entries_in, entries_at, LevelScript, IsLevelScript, DepthScript, IsDepthScript}
 use Rattle.gix_traverse.specs.Orders.Preorder as order
 use Rattle.gix_traverse.specs.Orders.Preorder.{IsPreorder}
-use Rattle.gix_traverse.proofs.Trees.Levels.Queue.{first_task, other_tasks, tasks_after, LevelFrom, split_front, no_front}
+use Rattle.gix_traverse.proofs.Trees.Levels.Queue.{first_task, other_tasks, LevelFrom, split_front, no_front}
 use Rattle.gix_traverse.proofs.Trees.Levels.Script.{level_queue}
 use Rattle.gix_traverse.proofs.Trees.Depth.Script.{preorder}
 use Rattle.gix_traverse.proofs.Trees.All.{all_left, all_right}

@@ -6,6 +6,7 @@ use Rattle.std.specs.List.{AllByRecursion}
 use Rattle.std.specs.declared.ops.ControlFlow.TheVariants.{Continue}
 use Rattle.gix_parts.specs.declared.hash.ObjectId.{ObjectId}
 use Rattle.gix_parts.specs.declared.object.find.existing_iter.Error.{Error as ExistingError}
+use Rattle.gix_parts.proofs.Ids.Membership.{same_is}
 use Rattle.gix_parts.specs.Id.{is_same, is_among}
 use Rattle.gix_parts.specs.TreeItems.{TreeEntry, is_tree}
 use Rattle.gix_traverse.specs.History.Reach as reach
@@ -18,7 +19,6 @@ use Rattle.gix_traverse.specs.Trees.Script.{items_or_none, entries_in, entries_a
 use Rattle.gix_traverse.specs.Trees.Laws.{GoesIn, subtrees, subtrees_of, EntersWhole, AllEnterWhole, AreSound, GoesOnlyInto}
 use Rattle.gix_traverse.proofs.Trees.Levels.Queue.{first_task, other_tasks, LevelFrom, split_front}
 use Rattle.gix_traverse.proofs.Trees.Levels.Script.{level_queue}
-use Rattle.gix_traverse.proofs.Trees.Work.Measure.{same_id}
 use Rattle.gix_traverse.proofs.Trees.All.{all_both, all_left, all_right}
 use Rattle.gix_traverse.proofs.Trees.Theorems.Called.{level_called, root_called}
 use Rattle.gix_traverse.proofs.Trees.Theorems.Met.{enters_tree}
@@ -97,7 +97,7 @@ module _ (trees : ObjectId → Option Items) (fails : ObjectId → ExistingError
   }
     where
       go : (j : ObjectId) (b : Bool) → is_same j root ≡ b → is_among j (root ∷ []) ≡ true → into x && is_tree x.mode ≡ true → Reaches Next (Next j) x.id
-      go j true same among u = subst (λ i. Reaches Next (Next i) x.id) (sym (same_id j root same)) (reach.start (held.held u))
+      go j true same among u = subst (λ i. Reaches Next (Next i) x.id) (sym (same_is j root same)) (reach.start (held.held u))
       go j false same among u =
           let later : is_among j [] ≡ true = subst (λ b. b || is_among j [] ≡ true) same among in
           cc
@@ -117,7 +117,7 @@ module _ (trees : ObjectId → Option Items) (fails : ObjectId → ExistingError
     }
       where
         go : (j : ObjectId) (b : Bool) → is_same j e.id ≡ b → is_among j (e.id ∷ p.ids) ≡ true → into x && is_tree x.mode ≡ true → Reaches Next (Next j) x.id
-        go j true same among u = subst (λ i. Reaches Next (Next i) x.id) (sym (same_id j e.id same)) (reach.start (held.held u))
+        go j true same among u = subst (λ i. Reaches Next (Next i) x.id) (sym (same_is j e.id same)) (reach.start (held.held u))
         go j false same among u =
             let later : is_among j p.ids ≡ true = subst (λ b. b || is_among j p.ids ≡ true) same among in
             reach.step (h.below j later t) (held.held u)
