@@ -1,3 +1,7 @@
+-- What holds of all of a list holds of its parts.
+pub mod All
+-- Trees with their places, seen by their ids alone.
+pub mod Places
 -- An entry that a walk shows its delegate, by the calls that were made.
 pub mod Shown
 -- The walk breadth first.

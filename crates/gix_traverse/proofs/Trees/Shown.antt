@@ -1,4 +1,4 @@
--- An entry shown by a walk by levels, told by the calls that were made.
+-- An entry shown by a walk by levels, by the calls that were made.
 use Rattle.std.proofs.Common.{◌≡◌, Bool, true, false, [], ◌∷◌, Ok, Err, Result, refl, sym, subst, ap}
 use Rattle.std.specs.Result.{IsErrAnd}
 use Rattle.std.specs.declared.ops.ControlFlow.TheVariants.{Continue, Break}
@@ -6,7 +6,7 @@ use Rattle.gix_parts.specs.Id.{is_among}
 use Rattle.gix_parts.specs.TreeItems.{TreeEntry, is_tree}
 use Rattle.gix_traverse.specs.declared.tree.breadthfirst.Error.{Error}
 use Rattle.gix_traverse.specs.declared.tree.breadthfirst.Error.TheVariants as error
-use Rattle.gix_traverse.specs.Trees.Delegate.{Action, Call, PushPath, PopPath, Refused, RefusedIn, here, later, wants_memory}
+use Rattle.gix_traverse.specs.Trees.Delegate.{Action, Call, PushPath, PopPath, Refused, RefusedIn, here, later, takes_memory}
 use Rattle.gix_traverse.specs.Trees.Inside.LevelQueue.{LevelQueue}
 use Rattle.gix_traverse.specs.Trees.Visits.{Outcome, Leaves, Enters, Cycles, outcome, outcome_of, visit_call, visit_call_of}
 use Rattle.gix_traverse.specs.Trees.Script.{level_calls}
@@ -18,9 +18,9 @@ pub failed_so : {T E : Type 0} (why : E) (r : Result T E) → IsErrAnd r (λ e. 
 failed_so why (Ok done) h = absurd h
 failed_so why (Err e) h = ap Err h
 
-pub visit_wants : (t : Bool) (e : TreeEntry) (a : Action) → wants_memory (visit_call_of t e a) ≡ true
-visit_wants true e a = refl
-visit_wants false e a = refl
+pub visit_takes : (t : Bool) (e : TreeEntry) (a : Action) → takes_memory (visit_call_of t e a) ≡ true
+visit_takes true e a = refl
+visit_takes false e a = refl
 
 pub plain_leaves : (t into known : Bool) → (into ≡ true → t ≡ false) → outcome_of t (Continue into) known ≡ Leaves
 plain_leaves false true known h = refl
@@ -36,7 +36,7 @@ module _ {V : Type 0} (steps : V → Call → V → Type 0) (e : TreeEntry) (que
   push_refused new left s = shows.refused (Continue false) (here refl) (new, s, refl)
 
   pub visit_refused : (mid new : V) (left : LevelQueue) → steps old (PushPath e.name) mid → steps mid Refused new → ShowsEntry steps e old queue new left (Err error.Memory)
-  visit_refused mid new left p s = shows.refused (Continue false) (later (here (visit_wants (is_tree e.mode) e (Continue false)))) (mid, p, (new, s, refl))
+  visit_refused mid new left p s = shows.refused (Continue false) (later (here (visit_takes (is_tree e.mode) e (Continue false)))) (mid, p, (new, s, refl))
 
   pub visit_breaks : (b : Unit {0}) (mid new : V) → steps old (PushPath e.name) mid → steps mid (visit_call_of (is_tree e.mode) e (Break b)) new → ShowsEntry steps e old queue new queue (Err error.Cancelled)
   visit_breaks b mid new p s = shows.broke (Break b) refl (mid, p, (new, s, refl))

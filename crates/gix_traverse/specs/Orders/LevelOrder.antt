@@ -1,4 +1,4 @@
--- The order of a walk that shows tree after tree, told by the beginnings of the list of visits.
+-- The order of a walk that shows tree after tree: what each beginning of the list of visits says of the next visit.
 use Rattle.std.specs.Prelude.{◌≡◌, List, [], ◌∷◌, ◌++◌, map, length, Some, None, slice_get}
 use Rattle.std.specs.List.{flat_map}
 use Rattle.gix_parts.specs.declared.hash.ObjectId.{ObjectId}
@@ -23,7 +23,7 @@ module _ (entries : ObjectId → List TreeEntry) where
   abbrev pub entries_of : Visit → List (Place × TreeEntry)
   entries_of v = entries_behind v.place v.entry (outcome v)
 
-  -- the entries of the root, and then those of each tree that these visits go into
+  -- the entries of the root, and then the entries of each tree that these visits go into
   abbrev pub entries_by : Place → List TreeEntry → List Visit → List (Place × TreeEntry)
   entries_by p root visits = map (λ x. (p, x)) root ++ flat_map entries_of visits
 

@@ -6,8 +6,8 @@ use Rattle.gix_traverse.specs.Trees.Delegate.{Action}
 use Rattle.gix_traverse.specs.Trees.Visits.{Place, Visit, visit, inside, Leaves, Enters, Breaks, outcome}
 
 module _ (entries : ObjectId → List TreeEntry) where
-  -- The visits of entries that stand in one tree, and whether the last was answered `Break`: an entry, where the walk goes
-  -- into it what its tree shows, and then the entries behind it.
+  -- The visits of the entries of one tree, and whether the last was answered `Break`: an entry; where the walk goes into the
+  -- entry's tree, the visits of that tree; and then the entries behind it.
   pub data IsPreorder : Place → List TreeEntry → List Visit → Bool → Type 0 where
     none : {p : Place} → IsPreorder p [] [] false
     leaves : {p : Place} {e : TreeEntry} {a : Action} {es : List TreeEntry} {vs : List Visit} {broken : Bool} → outcome (visit p e a) ≡ Leaves → IsPreorder p es vs broken → IsPreorder p (e ∷ es) (visit p e a ∷ vs) broken

@@ -166,6 +166,6 @@ pub twin_levels : IsLevelScript sample NotFound unknown_root twins
     (at_root (tree (codes "d") 13) ∷ at_root (tree (codes "e") 13) ∷ below_root (tree (codes "d") 13) (file (codes "x") 2) ∷ below_root (tree (codes "e") 13) (file (codes "x") 2) ∷ []) Whole
 twin_levels = script.enters refl refl (script.enters refl refl (script.turn refl refl (script.leaves refl refl (script.turn refl refl (script.leaves refl refl (script.whole refl))))))
 
--- the visits of the root's walk stand in level order
+-- the visits of the root's walk are in level order
 pub levels_are_in_order : IsLevelOrder (entries_at sample) unknown_root (entries_in root) (at_root (file (codes "a") 1) ∷ at_root (tree (codes "d") 13) ∷ at_root (file (codes "e") 3) ∷ below_root (tree (codes "d") 13) (file (codes "x") 2) ∷ [])
 levels_are_in_order = (refl, (refl, (refl, (refl, refl))))

@@ -10,7 +10,7 @@ use Rattle.gix_traverse.specs.Trees.Visits.{Items, Place, visit, Task, Turn, Sho
 use Rattle.gix_traverse.specs.Trees.Script.{items_or_none, tasks_of, Visited}
 use Rattle.gix_traverse.specs.Trees.Walk.{trees_of}
 
--- how many of the stored ids aren't among those of the trees above
+-- how many stored ids no tree above has
 abbrev pub room : List ObjectId → List ObjectId → ℕ
 room [] ids = 0
 room (i ∷ stored) ids = (if is_among i ids then 0 else 1) + room stored ids

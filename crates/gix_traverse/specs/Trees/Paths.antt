@@ -1,4 +1,4 @@
--- Where a visit stands in the unfolded tree.
+-- The place of a visit in the unfolded tree.
 use Rattle.std.specs.Prelude.{◌≢◌, ℕ, List, [], ◌∷◌, ◌++◌}
 use Rattle.std.specs.List.{AllByRecursion}
 use Rattle.gix_parts.specs.declared.hash.ObjectId.{ObjectId}

@@ -51,7 +51,7 @@ abbrev pub front_from : ℕ → Option (List ℕ) → Option (List ℕ)
 front_from b (Some front) = Some (b ∷ front)
 front_from b None = if b == 47 then Some [] else None
 
--- what stands before the last `/`
+-- what is before the last `/`
 abbrev pub before_slash : List ℕ → Option (List ℕ)
 before_slash [] = None
 before_slash (b ∷ bytes) = front_from b (before_slash bytes)

@@ -52,14 +52,6 @@ entries_in (Err why ∷ items) = []
 abbrev pub one_step_more : List Step → Step → List Step
 one_step_more done step = done ++ step ∷ []
 
-abbrev pub first_task : List Task → Option Task
-first_task [] = None
-first_task (task ∷ tasks) = Some task
-
-abbrev pub other_tasks : List Task → List Task
-other_tasks [] = []
-other_tasks (task ∷ tasks) = tasks
-
 -- `trees` says what is read of the tree that is stored at an id
 module _ (trees : ObjectId → Option Items) where
   abbrev pub tasks_behind : Place → TreeEntry → Outcome → List Task
@@ -73,14 +65,10 @@ module _ (trees : ObjectId → Option Items) where
   tasks_of Entered = []
   tasks_of (Visited v) = tasks_behind v.place v.entry (outcome v)
 
-  -- what is to be done after these steps, told by them: of the root's tasks and then of those that each step added, the
-  -- first that has no step yet
+  -- What is to be done after these steps, by the steps alone: the first that has no step yet, of the root's tasks followed by
+  -- the tasks that each step added.
   abbrev pub next_of_steps : List Task → List Step → Option Task
   next_of_steps root done = slice_get (root ++ flat_map tasks_of done) (length done)
-
-  -- what is to be done, as a queue: each step takes its task away at the front and adds others at the back
-  abbrev pub tasks_after : List Task → Step → List Task
-  tasks_after tasks step = other_tasks tasks ++ tasks_of step
 
   -- the entries of the tree at an id; none where there is no tree
   abbrev pub entries_at : ObjectId → List TreeEntry
@@ -101,22 +89,18 @@ module _ (trees : ObjectId → Option Items) (fails : ObjectId → ExistingError
     -- a growth of the walk's own was refused, at a look-up or for a descent
     no_memory_in_turn : {s : S} {p : Place} {i : ObjectId} → next s ≡ Some (Turn p i) → LevelScript next after s (PopFront ∷ []) [] (Failed error.Memory)
     no_memory_for_descent : {s : S} {p : Place} {e : TreeEntry} (a : Action) → next s ≡ Some (Show p e) → outcome (visit p e a) ≡ Enters → LevelScript next after s (PushPath e.name ∷ visit_call (visit p e a) ∷ []) [] (Failed error.Memory)
-    -- a call of the delegate was refused; the visit around which it stands isn't counted
+    -- a call on the delegate was refused; the visit that it belongs to isn't counted
     refused : {s : S} {p : Place} {e : TreeEntry} {made : List Call} (a : Action) → next s ≡ Some (Show p e) → RefusedIn (level_calls (visit p e a)) made → LevelScript next after s made [] (Failed error.Memory)
 
   -- the walk by levels over what is read of a root
   abbrev pub IsLevelScript : Place → Items → List Call → List Visit → Ending → Type 0
   IsLevelScript p root calls visits end = LevelScript (next_of_steps trees (shows p root)) one_step_more [] calls visits end
 
-  -- the same walk, from a queue on
-  abbrev pub LevelFrom : List Task → List Call → List Visit → Ending → Type 0
-  LevelFrom tasks calls visits end = LevelScript first_task (tasks_after trees) tasks calls visits end
-
   -- The calls, the visits and the ending of a walk in depth, over what is read of one tree from some entry on.
   pub data DepthScript : Place → Items → List Call → List Visit → Ending → Type 0 where
     whole : {p : Place} → DepthScript p [] [] [] Whole
     leaves : {p : Place} {e : TreeEntry} {a : Action} {items : Items} {calls : List Call} {visits : List Visit} {end : Ending} → outcome (visit p e a) ≡ Leaves → DepthScript p items calls visits end → DepthScript p (Ok e ∷ items) (depth_calls (visit p e a) ++ calls) (visit p e a ∷ visits) end
-    -- the entry's tree is shown whole, and then what stands behind the entry
+    -- the entry's tree is shown whole, and then what follows the entry
     enters : {p : Place} {e : TreeEntry} {a : Action} {sub items : Items} {calls more : List Call} {visits others : List Visit} {end : Ending} → outcome (visit p e a) ≡ Enters → trees e.id ≡ Some sub → DepthScript (inside p e) sub calls visits Whole → DepthScript p items more others end → DepthScript p (Ok e ∷ items) (depth_calls (visit p e a) ++ (PopBack ∷ calls ++ PopBack ∷ more)) (visit p e a ∷ (visits ++ others)) end
     -- the walk ends in the entry's tree
     ends_inside : {p : Place} {e : TreeEntry} {a : Action} {sub items : Items} {calls : List Call} {visits : List Visit} {end : Ending} → outcome (visit p e a) ≡ Enters → trees e.id ≡ Some sub → DepthScript (inside p e) sub calls visits end → end ≢ Whole → DepthScript p (Ok e ∷ items) (depth_calls (visit p e a) ++ PopBack ∷ calls) (visit p e a ∷ visits) end
@@ -127,7 +111,7 @@ module _ (trees : ObjectId → Option Items) (fails : ObjectId → ExistingError
     -- a growth of the walk's own was refused, at a look-up or for a descent
     no_memory_at_look_up : {p : Place} {e : TreeEntry} {a : Action} {items : Items} → outcome (visit p e a) ≡ Enters → DepthScript p (Ok e ∷ items) (depth_calls (visit p e a)) (visit p e a ∷ []) (Failed error.Memory)
     no_memory_for_descent : {p : Place} {e : TreeEntry} {items : Items} (a : Action) → outcome (visit p e a) ≡ Enters → DepthScript p (Ok e ∷ items) (PushPath e.name ∷ visit_call (visit p e a) ∷ PopPath ∷ []) [] (Failed error.Memory)
-    -- a call of the delegate was refused; the visit around which it stands isn't counted
+    -- a call on the delegate was refused; the visit that it belongs to isn't counted
     refused : {p : Place} {e : TreeEntry} {items : Items} {made : List Call} (a : Action) → RefusedIn (depth_calls (visit p e a)) made → DepthScript p (Ok e ∷ items) made [] (Failed error.Memory)
 
   -- the walk in depth from the id of its root, which is looked up first
@@ -135,9 +119,3 @@ module _ (trees : ObjectId → Option Items) (fails : ObjectId → ExistingError
     found : {items : Items} {calls : List Call} {visits : List Visit} {end : Ending} → trees root ≡ Some items → DepthScript (known_root root) items calls visits end → IsDepthScript root (PopBack ∷ calls) visits end
     not_found : {why : ExistingError} → fails root why → IsDepthScript root [] [] (Failed (error.Find why))
     no_memory : IsDepthScript root [] [] (Failed error.Memory)
-
-  -- the same walk, from a place in a tree on, with what is left of the trees above it, the nearest first
-  pub data DepthFrom : Place → Items → List (Place × Items) → List Call → List Visit → Ending → Type 0 where
-    outermost : {p : Place} {items : Items} {calls : List Call} {visits : List Visit} {end : Ending} → DepthScript p items calls visits end → DepthFrom p items [] calls visits end
-    resumes : {p q : Place} {items rest : Items} {above : List (Place × Items)} {calls more : List Call} {visits others : List Visit} {end : Ending} → DepthScript p items calls visits Whole → DepthFrom q rest above more others end → DepthFrom p items ((q, rest) ∷ above) (calls ++ PopBack ∷ more) (visits ++ others) end
-    ends : {p q : Place} {items rest : Items} {above : List (Place × Items)} {calls : List Call} {visits : List Visit} {end : Ending} → DepthScript p items calls visits end → end ≢ Whole → DepthFrom p items ((q, rest) ∷ above) calls visits end

@@ -1,4 +1,4 @@
--- A visit of an entry: where the entry stands, what was answered, and what follows from that.
+-- A visit of an entry: its place, the answer, and what follows from both.
 use Rattle.std.specs.Prelude.{ℕ, List, [], ◌∷◌, ◌++◌, Bool, true, false, Result, Ok, Err}
 use Rattle.std.specs.declared.ops.ControlFlow.TheVariants.{Continue, Break}
 use Rattle.gix_parts.specs.declared.hash.ObjectId.{ObjectId}
@@ -28,7 +28,7 @@ pub record Visit : Type 0 where
 abbrev pub visit : Place → TreeEntry → Action → Visit
 visit p e a = record { place = p; entry = e; answer = a }
 
--- the tree that an entry of a tree stands for
+-- an entry's own tree, as a place
 abbrev pub inside : Place → TreeEntry → Place
 inside p e = record { names = p.names ++ e.name ∷ []; ids = e.id ∷ p.ids }
 
@@ -38,7 +38,7 @@ pub data Outcome : Type 0 where
   Leaves : Outcome
   -- into the entry's tree
   Enters : Outcome
-  -- out of the walk, since the entry's tree stands above the entry
+  -- out of the walk, since a tree above the entry has the id of the entry's tree
   Cycles : Outcome
   -- out of the walk, since the delegate said so
   Breaks : Outcome

@@ -1,51 +1,75 @@
 //! Laws of the walks of trees.
 ghost use Rattle.gix_traverse.specs.Trees.Measure.{WorkLessens};
-ghost use Rattle.gix_traverse.specs.Trees.Laws.{LevelsAreRecorded, DepthIsRecorded, BothRecordTheSame, LevelsAreInOrder, DepthIsInOrder, SoundLevelsSucceed, SoundDepthSucceeds, OkWithoutBreak};
+ghost use Rattle.gix_traverse.specs.Trees.Laws.{LevelsAreRecorded, DepthIsRecorded, BothRecordTheSame, LevelsAreInOrder, DepthIsInOrder, MetLevelsSucceed, MetDepthSucceeds, SoundLevelsSucceed, SoundDepthSucceeds, LevelsEndAtBreak, DepthEndsAtBreak, OkWithoutBreak};
 
 use crate::tree::Visit;
 use gix_parts::object::find::Find;
 
-/// The visits of `breadthfirst` stand in level order.
+/// A walk of `breadthfirst` that doesn't fail makes its visits in level order.
 pub fn levels_in_order<F: Find, V: Visit>(store: &F, _delegate: &V)
     ensures { LevelsAreInOrder (F.objects store.now) (F.faulty store.now) V.steps }
 {}
 
-/// The visits of `depthfirst` stand in preorder.
+/// A walk of `depthfirst` that doesn't fail makes its visits in preorder.
 pub fn depth_in_order<F: Find, V: Visit>(store: &F, _delegate: &V)
     ensures { DepthIsInOrder (F.objects store.now) (F.faulty store.now) V.steps }
 {}
 
-/// A fresh recorder holds the visits of `breadthfirst`, with their paths.
+/// A fresh recorder that followed `breadthfirst` holds one record for each visit, with its path.
 pub fn levels_recorded<F: Find>(store: &F)
     ensures { LevelsAreRecorded (F.objects store.now) (F.faulty store.now) }
 {}
 
-/// A fresh recorder holds the visits of `depthfirst`, with their paths.
+/// A fresh recorder that followed `depthfirst` holds one record for each visit, with its path.
 pub fn depth_recorded<F: Find>(store: &F)
     ensures { DepthIsRecorded (F.objects store.now) (F.faulty store.now) }
 {}
 
-/// Both walks record the same entries with the same paths, as often.
+/// Both walks of one tree, where they answer `Ok`, record the same entries with the same paths, as often.
 pub fn both_record_the_same<F: Find>(store: &F)
     ensures { BothRecordTheSame (F.objects store.now) (F.faulty store.now) }
 {}
 
-/// Over whole trees, none under itself, `breadthfirst` fails for want of memory alone.
+/// `breadthfirst` fails only for memory, where what is read of the root is whole, and each tree that its visits go into is
+/// stored, reads whole and doesn't hold itself. Of a walk that a `Break` ends nothing is asked.
+pub fn met_levels_succeed<F: Find, V: Visit>(store: &F, _delegate: &V)
+    ensures { MetLevelsSucceed (F.objects store.now) (F.faulty store.now) V.steps }
+{}
+
+/// `depthfirst` fails only for memory, where the root and each tree that its visits go into are stored, read whole and don't
+/// hold themselves. Of a walk that a `Break` ends nothing is asked.
+pub fn met_depth_succeeds<F: Find, V: Visit>(store: &F, _delegate: &V)
+    ensures { MetDepthSucceeds (F.objects store.now) (F.faulty store.now) V.steps }
+{}
+
+/// `breadthfirst` fails only for memory, where all trees that the delegate may go into are stored, read whole and don't hold
+/// themselves. Those that it leaves out may be missing or broken.
 pub fn sound_levels_succeed<F: Find, V: Visit>(store: &F, _delegate: &V)
     ensures { SoundLevelsSucceed (F.objects store.now) (F.faulty store.now) V.steps }
 {}
 
-/// Over whole trees, none under itself, `depthfirst` fails for want of memory alone.
+/// `depthfirst` fails only for memory, where all trees that the delegate may go into are stored, read whole and don't hold
+/// themselves. Those that it leaves out may be missing or broken.
 pub fn sound_depth_succeeds<F: Find, V: Visit>(store: &F, _delegate: &V)
     ensures { SoundDepthSucceeds (F.objects store.now) (F.faulty store.now) V.steps }
 {}
 
-/// Each visit of a tree leaves less to be done than there was, so a walk ends.
+/// `breadthfirst` ends at the first visit that is answered `Break`, with the calls up to it, and answers `Cancelled`.
+pub fn levels_end_at_break<F: Find, V: Visit>(store: &F, _delegate: &V)
+    ensures { LevelsEndAtBreak (F.objects store.now) (F.faulty store.now) V.steps }
+{}
+
+/// `depthfirst` ends at the first visit that is answered `Break`, with the calls up to it, and answers `Ok`.
+pub fn depth_ends_at_break<F: Find, V: Visit>(store: &F, _delegate: &V)
+    ensures { DepthEndsAtBreak (F.objects store.now) (F.faulty store.now) V.steps }
+{}
+
+/// Each visit leaves less work than there was before it, so a walk ends.
 pub fn work_lessens<F: Find>(store: &F)
     ensures { WorkLessens (F.objects store.now) }
 {}
 
-/// `breadthfirst` answers `Ok` where no visit was answered `Break`, and else `Cancelled`, where it doesn't fail.
+/// A `breadthfirst` that doesn't fail answers `Ok` where no visit was answered `Break`, and otherwise `Cancelled`.
 pub fn ok_without_break<F: Find, V: Visit>(store: &F, _delegate: &V)
     ensures { OkWithoutBreak (F.objects store.now) (F.faulty store.now) V.steps }
 {}

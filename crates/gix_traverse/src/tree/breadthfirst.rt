@@ -1,4 +1,4 @@
-//! A walk that shows tree after tree.
+//! A walk of trees by levels: all entries of a tree come before the entries of the trees in it.
 ghost use Rattle.std.specs.Prelude.{◌≡◌, ◌≤◌, ◌∷◌, ◌++◌, [], IfOk, IfSome, IsNone, OnOk, OnErr, MatchOption};
 ghost use Rattle.gix_parts.specs.Id.{is_among};
 ghost use Rattle.gix_parts.specs.TreeRefIter.{entry_of, items_left};
@@ -16,22 +16,22 @@ use std::marker::Model;
 use std::ops::ControlFlow;
 use thiserror::Error;
 
-/// Why a walk of trees ended before all was shown.
+/// Why a walk of trees ended before it had shown all. Both walks answer it.
 #[derive(Clone, Copy, Debug, PartialEq, Eq, Error)]
 pub enum Error {
-    /// A tree could not be looked up.
+    /// A tree can't be looked up: the store failed, has no object of this id, or has one of another kind.
     #[error(transparent)]
     Find(existing_iter::Error),
-    /// A visit was answered `Break`.
+    /// The delegate answered `Break`. Only `breadthfirst` gives this error; `depthfirst` answers `Ok` there.
     #[error("The delegate cancelled the operation")]
     Cancelled,
-    /// A tree's bytes are no entry behind those that were shown.
+    /// Behind the entries that were shown, a tree's bytes are no entry.
     #[error(transparent)]
     ObjectDecode(decode::Error),
-    /// A visit was answered `Continue(true)` of a tree that the entry stands in itself.
+    /// The delegate answered `Continue(true)` at a tree that holds itself: one of the trees above this entry has its id.
     #[error("the tree {oid} stands under itself")]
     Cycle { oid: ObjectId },
-    /// Memory was wanting.
+    /// Memory ran out, in the walk, in a look-up or in the delegate.
     #[error("out of memory")]
     Memory,
 }
@@ -69,8 +69,8 @@ impl From<AllocError> for Error {
     }
 }
 
-// A tree that was met: its id, and how many trees had had their turn by then. The last of these holds it, and if there is
-// none, the root does.
+// A tree that was met: its id, and how many trees had had their turn by then. The last of these holds it, or the root does
+// where there is none.
 #[derive(Clone, Copy, PartialEq, Eq, Debug)]
 struct Tree {
     oid: ObjectId,
@@ -113,7 +113,7 @@ impl Queue {
         self.turn = 0;
     }
 
-    // Whether the id is known among those of the trees down to the one whose turn it is.
+    // Whether a tree on the way down to the one whose turn it is has this id.
     fn knows(&self, oid: &ObjectId) -> bool
         ensures { result ≡ is_among oid.now self.now.known }
     {
@@ -128,7 +128,7 @@ impl Queue {
         false
     }
 
-    // A tree that stands in the one whose turn it is waits for its own.
+    // A tree in the one whose turn it is waits for its own turn.
     fn push(&mut self, oid: ObjectId) -> Result<(), AllocError>
         ensures ok { OnOk result (self.new ≡ queued self.old oid) }
         ensures err { OnErr result (self.new ≡ self.old) }
@@ -148,7 +148,7 @@ impl Queue {
     }
 }
 
-/// The memory that a walk works in. It is used again by each walk that it is handed to, and changes no answer.
+/// The memory that a walk works in. A later walk can use it again, whatever the walk before answered. It changes no answer.
 #[derive(Drop)]
 pub struct State {
     queue: Queue,
@@ -156,7 +156,7 @@ pub struct State {
 }
 
 impl State {
-    /// It takes no memory until a walk does.
+    /// Takes no memory until a walk does.
     pub fn new(alloc: Global) -> State {
         State {
             queue: Queue::new(alloc),
@@ -209,13 +209,46 @@ fn show_all<V: Visit>(
     Ok(())
 }
 
-/// Shows each entry of a tree, and then those of the trees that the delegate answered `Continue(true)` of, tree after tree
-/// in the order of these answers. Each of those trees is looked up in its turn.
+/// Shows each entry of a tree, and then the entries of each tree at which the delegate answered `Continue(true)`, tree after
+/// tree, in the order of these answers. A tree is looked up when its turn comes.
 ///
-/// Around each visit the delegate is told the entry's name by `push_path_component` and `pop_path_component`; where its tree
-/// is to be gone into, `push_back_tracked_path_component` tells the name once more, in place of the first, and before the
-/// tree is looked up `pop_front_tracked_path_and_set_current` says that its turn has come. An error ends the walk with no
-/// further call.
+/// Calls on the delegate:
+/// - at each entry: `push_path_component` with its name, the visit, and, unless the walk ends there, `pop_path_component`;
+/// - then, for a tree to go into: `push_back_tracked_path_component` with the name, and `pop_path_component`;
+/// - when the turn of that tree comes, before it is looked up: `pop_front_tracked_path_and_set_current`.
+///
+/// `root` is what was read of the root. Its id isn't known here, so a tree that has the root's id is entered like any other,
+/// and `Cycle` comes only where it holds itself again. The walk takes memory by the allocator of `state`; the first argument
+/// isn't used, and is there so that both walks are called alike.
+///
+/// # Errors
+/// - `Find`: a tree whose turn came can't be looked up.
+/// - `Cancelled`: the delegate answered `Break`.
+/// - `ObjectDecode`: behind the entries that were shown, the bytes of the root, or of a tree whose turn came, are no entry.
+/// - `Cycle`: the delegate answered `Continue(true)` at a tree whose id a tree above the entry has.
+/// - `Memory`: memory ran out, in the walk, in a look-up or in the delegate.
+///
+/// After an error the delegate is as the calls up to there left it, and gets no further call. `state` can be used again.
+///
+/// # Examples
+///
+/// ```rust
+/// use gix_parts::hash::ObjectId;
+/// use gix_parts::object::find::Find;
+/// use gix_traverse::tree::breadthfirst::{Error, State, breadthfirst};
+/// use gix_traverse::tree::recorder::{Entry, Recorder};
+/// use std::alloc::Global;
+///
+/// /// The entries of a tree and of the trees in it, by levels, with their paths.
+/// fn listed<F: Find>(alloc: Global, store: &F, root: &ObjectId) -> Result<Vec<Entry>, Error> {
+///     let mut bytes = Vec::new(alloc);
+///     let entries = store.find_tree_iter(root, &mut bytes)?;
+///     let mut state = State::new(alloc);
+///     let mut recorder = Recorder::new(alloc);
+///     breadthfirst(alloc, entries, &mut state, store, &mut recorder)?;
+///     Ok(recorder.records)
+/// }
+/// ```
 pub fn breadthfirst<F: Find + Drop, V: Visit>(
     _alloc: Global,
     root: TreeRefIter<'_>,

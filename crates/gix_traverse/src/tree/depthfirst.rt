@@ -1,4 +1,4 @@
-//! A walk that shows a tree right behind its entry.
+//! A walk of trees in depth: the entries of a tree come right behind the tree's own entry.
 ghost use Rattle.std.specs.Prelude.{◌≡◌, ◌≤◌, ◌-◌, ◌∷◌, ◌++◌, [], OnOk, OnErr, take, reverse, length};
 ghost use Rattle.gix_parts.specs.Id.{is_among};
 ghost use Rattle.gix_parts.specs.TreeRefIter.{entry_of};
@@ -18,7 +18,8 @@ use std::marker::Model;
 use std::mem;
 use std::ops::ControlFlow;
 
-/// The buffers for the bytes of trees. They are used again by each walk that they are handed to, and change no answer.
+/// The buffers for the bytes of trees. A later walk can use them again, whatever the walk before answered. They change no
+/// answer.
 #[derive(Drop)]
 pub struct State {
     free: Vec<Vec<u8>>,
@@ -34,7 +35,7 @@ impl Model for State {
 }
 
 impl State {
-    /// No buffers. It takes no memory until a walk does.
+    /// No buffers. Takes no memory until a walk does.
     pub fn new(alloc: Global) -> State
         ensures { result ≡ [] }
     {
@@ -44,7 +45,7 @@ impl State {
         }
     }
 
-    /// An empty buffer: the one that was put back last, or else a new one that takes no memory yet.
+    /// An empty buffer: the one that was put back last, or a new one where there is none. Takes no memory.
     pub fn pop_buf(&mut self) -> Vec<u8>
         ensures empty { result.items ≡ [] }
         ensures rest { self.new ≡ take (length self.old - 1) self.old }
@@ -58,7 +59,10 @@ impl State {
         }
     }
 
-    /// Puts a buffer back. Where memory is wanting, the buffer is dropped and nothing changes.
+    /// Puts a buffer back.
+    ///
+    /// # Errors
+    /// `AllocError` where memory runs out. The buffer is then dropped, and the state is as before.
     pub fn push_buf(&mut self, buf: Vec<u8>) -> Result<(), AllocError>
         ensures ok { OnOk result (self.new ≡ self.old ++ buf.items ∷ []) }
         ensures err { OnErr result (self.new ≡ self.old) }
@@ -68,7 +72,7 @@ impl State {
     }
 }
 
-// A tree that is gone through: its id, its bytes, and where in them the next entry begins.
+// A tree that the walk is in: its id, its bytes, and where in them the next entry begins.
 #[derive(Drop)]
 struct Tree {
     oid: ObjectId,
@@ -83,7 +87,7 @@ enum Stop {
     End,
     // Behind an entry that was answered `Break`.
     Broken,
-    // Behind an entry whose tree, of this id, is to be gone into.
+    // Behind an entry whose tree, of this id, the walk enters next.
     Into(ObjectId),
 }
 
@@ -115,7 +119,7 @@ fn knows(tree: &ObjectId, above: &[Tree], oid: &ObjectId) -> bool
     *oid == *tree
 }
 
-// Makes ready to go into the entry's tree.
+// Makes ready to enter the entry's tree.
 fn descend<V: Visit>(
     tree: &ObjectId,
     above: &mut Vec<Tree>,
@@ -128,6 +132,8 @@ fn descend<V: Visit>(
     if knows(tree, above, &entry.oid) {
         return Err(Error::Cycle { oid: entry.oid });
     }
+    // Room for the tree that is left behind. It is taken before the two calls below: where it is refused, the walk ends before
+    // them. So `keep`, which comes behind them and the look-up, finds the room and can't fail.
     above.reserve(1)?;
     delegate.push_back_tracked_path_component(&BStr::new(b""))?;
     delegate.push_back_tracked_path_component(&entry.filename)?;
@@ -185,7 +191,7 @@ fn show_on<V: Visit>(
     Ok(Stop::End)
 }
 
-// The tree is the nearest of those above.
+// The tree becomes the nearest of the trees above. `descend` has taken the room for it.
 fn keep(above: &mut Vec<Tree>, tree: Tree) -> Result<(), AllocError>
     ensures { OnOk result (above.new.items ≡ above.old.items ++ tree ∷ []) }
 {
@@ -193,13 +199,43 @@ fn keep(above: &mut Vec<Tree>, tree: Tree) -> Result<(), AllocError>
     Ok(())
 }
 
-/// Looks a tree up by its id and shows each of its entries. Behind an entry of a tree that the delegate answered
-/// `Continue(true)` of, that tree is shown in the same way.
+/// Looks a tree up by its id and shows each of its entries. Behind an entry at which the delegate answered `Continue(true)`,
+/// the entry's tree is looked up and shown in the same way. A `Break` ends the walk, and the answer is `Ok`.
 ///
-/// Around each visit the delegate is told the entry's name by `push_path_component` and `pop_path_component`. Where its tree
-/// is to be gone into, `push_back_tracked_path_component` tells an empty name, to come back by, and then the entry's name.
-/// Before the first entry of a tree, and where the walk comes back to one, `pop_back_tracked_path_and_set_current` says so.
-/// A visit that is answered `Break` ends the walk well. An error ends it with no further call.
+/// Calls on the delegate:
+/// - before the first entry of a tree, and again where the walk comes back to a tree: `pop_back_tracked_path_and_set_current`;
+/// - at each entry: `push_path_component` with its name, the visit, and `pop_path_component`, which is left out where an entry
+///   that is no tree was answered `Break`;
+/// - then, for a tree to go into: `push_back_tracked_path_component` with an empty name, to come back by, and once more with
+///   the entry's name.
+///
+/// # Errors
+/// - `Find`: the root, or a tree at which the delegate answered `Continue(true)`, can't be looked up. The delegate got no call
+///   where it is the root.
+/// - `ObjectDecode`: behind the entries that were shown, a tree's bytes are no entry.
+/// - `Cycle`: the delegate answered `Continue(true)` at a tree whose id a tree above the entry has, the root included.
+/// - `Memory`: memory ran out, in the walk, in a look-up or in the delegate.
+///
+/// `Cancelled` never comes. After an error the delegate is as the calls up to there left it, and gets no further call. `state`
+/// can be used again.
+///
+/// # Examples
+///
+/// ```rust
+/// use gix_parts::hash::ObjectId;
+/// use gix_parts::object::find::Find;
+/// use gix_traverse::tree::depthfirst::{Error, State, depthfirst};
+/// use gix_traverse::tree::recorder::{Entry, Recorder};
+/// use std::alloc::Global;
+///
+/// /// The entries of a tree and of the trees in it, each tree right behind its entry, with their paths.
+/// fn listed<F: Find>(alloc: Global, store: &F, root: ObjectId) -> Result<Vec<Entry>, Error> {
+///     let mut state = State::new(alloc);
+///     let mut recorder = Recorder::new(alloc);
+///     depthfirst(alloc, root, &mut state, store, &mut recorder)?;
+///     Ok(recorder.records)
+/// }
+/// ```
 pub fn depthfirst<F: Find + Drop, V: Visit>(
     alloc: Global,
     root: ObjectId,

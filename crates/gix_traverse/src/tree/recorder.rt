@@ -1,4 +1,4 @@
-//! A delegate that writes down what it sees.
+//! A delegate that records each entry that a walk shows.
 ghost use Rattle.std.specs.Prelude.{◌≡◌, ◌↔◌, IsTrue, IfOk, OnOk, OnErr};
 ghost use Rattle.bstr.specs.BStr.{bstr_bytes};
 ghost use Rattle.bstr.specs.Owned.{bstring_bytes};
@@ -15,7 +15,7 @@ use std::collections::VecDeque;
 use std::marker::Model;
 use std::ops::ControlFlow;
 
-/// What a recorder tracks of where an entry stands.
+/// What a recorder tracks of an entry's place.
 #[derive(Clone, Copy, Debug, PartialEq, Eq)]
 pub enum Location {
     /// The names from the root down to the entry, joined by `/`.
@@ -28,14 +28,17 @@ pub enum Location {
 #[derive(Debug, Drop)]
 pub struct Entry {
     pub mode: EntryMode,
-    /// Where the entry stands, as far as the recorder tracked it.
+    /// The entry's path from the root, its name alone, or nothing, as the recorder tracked it.
     pub filepath: BString,
-    /// The id of the blob, tree or commit that the entry stands for.
+    /// The id of the entry's blob, tree or commit.
     pub oid: ObjectId,
 }
 
 impl Entry {
     /// An equal value.
+    ///
+    /// # Errors
+    /// `AllocError` where memory runs out.
     pub fn clone(&self) -> Result<Entry, AllocError>
         ensures { IfOk result (λ e. record_of_entry e ≡ record_of_entry self.now) }
     {
@@ -75,8 +78,8 @@ impl Eq for Entry {
     ghost laws = { on_equiv record_of_entry is_same_record-equivalence };
 }
 
-// The name stands behind the path, with a `/` between them where the path isn't empty. An empty name adds nothing. Where memory
-// is wanting, the path stays.
+// Puts the name behind the path, with a `/` between them where the path isn't empty. An empty name adds nothing. Where memory
+// runs out, the path is as before.
 fn add(path: &mut Vec<u8>, name: &[u8]) -> Result<(), AllocError>
     ensures ok { OnOk result (path.new.items ≡ with_name path.old.items name.now) }
     ensures err { OnErr result (path.new.items ≡ path.old.items) }
@@ -97,7 +100,7 @@ fn add(path: &mut Vec<u8>, name: &[u8]) -> Result<(), AllocError>
     }
 }
 
-// The path ends before its last `/`, or is empty where it has none.
+// Cuts the path before its last `/`, or leaves it empty where it has none.
 fn cut(path: &mut Vec<u8>)
     ensures { path.new.items ≡ without_name path.old.items }
 {
@@ -111,16 +114,38 @@ fn cut(path: &mut Vec<u8>)
     path.truncate(len);
 }
 
-/// Records each entry that a walk shows, with its path.
+/// Records each entry that a walk shows, with its path, and goes into each tree.
 ///
-/// It keeps the current path, and a queue of the paths of trees whose turn is to come. Where a call is refused for want of
-/// memory, the path, the queue and the records are as they were before it.
+/// It keeps the current path, and a queue of the paths of trees whose turn is to come. A recorder that has followed a walk can
+/// follow another, and then keeps the earlier records; `depthfirst` begins with an empty path where the queue is empty, and
+/// `breadthfirst` goes on below the last path.
+///
+/// # Errors
+/// A call that takes memory answers `AllocError` where memory runs out, and the walk then ends with `Memory`. The path, the
+/// queue and the records are as they were before that call.
+///
+/// # Examples
+///
+/// ```rust
+/// use gix_parts::hash::ObjectId;
+/// use gix_parts::object::find::Find;
+/// use gix_traverse::tree::depthfirst::{Error, State, depthfirst};
+/// use gix_traverse::tree::recorder::{Entry, Location, Recorder};
+/// use std::alloc::Global;
+///
+/// /// The names alone of the entries of a tree and of the trees in it.
+/// fn names<F: Find>(alloc: Global, store: &F, root: ObjectId) -> Result<Vec<Entry>, Error> {
+///     let mut recorder = Recorder::new(alloc).track_location(Some(Location::FileName));
+///     depthfirst(alloc, root, &mut State::new(alloc), store, &mut recorder)?;
+///     Ok(recorder.records)
+/// }
+/// ```
 #[derive(Debug, Drop)]
 pub struct Recorder {
     path: Vec<u8>,
     queue: VecDeque<Vec<u8>>,
     location: Option<Location>,
-    /// The entries that were shown, in the order of the visits.
+    /// The entries that were shown, in the order in which they were shown.
     pub records: Vec<Entry>,
     alloc: Global,
 }
@@ -135,7 +160,7 @@ impl Model for Recorder {
 }
 
 impl Recorder {
-    /// A recorder without records, whose path and queue are empty. It tracks paths, and takes no memory until a walk does.
+    /// A recorder without records that tracks paths. Its path and its queue are empty. Takes no memory until a walk does.
     pub fn new(alloc: Global) -> Recorder
         ensures { result ≡ fresh_recorder }
     {
@@ -148,7 +173,7 @@ impl Recorder {
         }
     }
 
-    /// Tracks this from now on, or nothing. The path, the queue and the records stay.
+    /// Tracks paths from now on, or names alone, or nothing. The path, the queue and the records stay. Takes no memory.
     pub fn track_location(mut self, location: Option<Location>) -> Recorder
         ensures { result ≡ record self { location = location } }
     {
@@ -157,20 +182,23 @@ impl Recorder {
     }
 
     /// A copy of the current path.
+    ///
+    /// # Errors
+    /// `AllocError` where memory runs out.
     pub fn path_clone(&self) -> Result<BString, AllocError>
         ensures { IfOk result (λ path. bstring_bytes path ≡ self.now.held.path) }
     {
         Ok(BString::new(self.path.to_vec(self.alloc)?))
     }
 
-    /// The current path.
+    /// The current path. Takes no memory.
     pub fn path(&self) -> BStr<'_>
         ensures { bstr_bytes result ≡ self.now.held.path }
     {
         BStr::new(&self.path)
     }
 
-    // The path with the name behind it is the current one, and is queued.
+    // Puts the name behind the path, and queues the path.
     fn queue_with(&mut self, name: &[u8]) -> Result<(), AllocError>
         ensures ok { OnOk result (self.new ≡ queued_with name.now self.old) }
         ensures err { OnErr result (self.new ≡ self.old) }
@@ -183,7 +211,7 @@ impl Recorder {
         Ok(())
     }
 
-    // The entry is recorded with the current path.
+    // Records the entry with the current path.
     fn record(&mut self, entry: &EntryRef<'_>) -> Result<(), AllocError>
         ensures ok { OnOk result (self.new ≡ recorded_with (entry_of entry.now) self.old) }
         ensures err { OnErr result (self.new ≡ self.old) }

@@ -11,13 +11,16 @@ use gix_parts::object::tree::EntryRef;
 use std::alloc::AllocError;
 use std::ops::ControlFlow;
 
-/// What a delegate answers to a visit: `Break` ends the walk, `Continue(true)` goes into the tree that the entry stands for,
-/// and `Continue(false)` goes on behind the entry. Where the entry is no tree, both go on behind it.
+/// What a delegate answers to a visit: `Break` ends the walk, `Continue(true)` goes into the entry's tree, and
+/// `Continue(false)` goes on behind the entry. Where the entry is no tree, the walk goes on behind it at either.
 pub type Action = ControlFlow<(), bool>;
 
-/// Watches a walk of trees. A walk tells it each entry, and which names lead there, by the calls below.
+/// Watches a walk of trees. By the calls below a walk shows it each entry, and the names that lead there.
 ///
 /// A delegate that follows the names keeps a path, and a queue of the paths of trees whose turn is to come.
+///
+/// # Errors
+/// A call that answers `AllocError` ends the walk with `Memory`. The delegate gets no further call.
 pub trait Visit {
     /// What a call may leave of the delegate.
     ghost steps: { Self → Call → Self → Type 0 };
@@ -34,19 +37,19 @@ pub trait Visit {
     fn pop_path_component(&mut self)
         ensures { steps self.old PopPath self.new };
 
-    /// Puts a name behind the path, and queues the path. An error ends the walk.
+    /// Puts a name behind the path, and queues the path.
     fn push_back_tracked_path_component(&mut self, component: &BStr<'_>) -> Result<(), AllocError>
         ensures { MatchResult result (λ _. steps self.old (PushBack (bstr_bytes component.now)) self.new) (λ _. steps self.old Refused self.new) };
 
-    /// Puts a name behind the path. An error ends the walk.
+    /// Puts a name behind the path.
     fn push_path_component(&mut self, component: &BStr<'_>) -> Result<(), AllocError>
         ensures { MatchResult result (λ _. steps self.old (PushPath (bstr_bytes component.now)) self.new) (λ _. steps self.old Refused self.new) };
 
-    /// Sees an entry that stands for a tree, whose path is the current one. An error ends the walk.
+    /// Sees the entry of a tree. The current path is the entry's.
     fn visit_tree(&mut self, entry: &EntryRef<'_>) -> Result<Action, AllocError>
         ensures { MatchResult result (λ a. steps self.old (VisitTree (entry_of entry.now) a) self.new) (λ _. steps self.old Refused self.new) };
 
-    /// Sees any other entry, whose path is the current one. An error ends the walk.
+    /// Sees any other entry. The current path is the entry's.
     fn visit_nontree(&mut self, entry: &EntryRef<'_>) -> Result<Action, AllocError>
         ensures { MatchResult result (λ a. steps self.old (VisitNontree (entry_of entry.now) a) self.new) (λ _. steps self.old Refused self.new) };
 }

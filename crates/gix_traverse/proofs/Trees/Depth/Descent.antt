@@ -1,4 +1,4 @@
--- An entry shown by a walk in depth, told by the calls that were made.
+-- An entry shown by a walk in depth, by the calls that were made.
 use Rattle.std.proofs.Common.{◌≡◌, Bool, true, false, List, [], ◌∷◌, Some, None, Ok, Err, refl, sym, subst}
 use Rattle.std.specs.declared.ops.ControlFlow.TheVariants.{Continue, Break}
 use Rattle.gix_parts.specs.declared.hash.ObjectId.{ObjectId}
@@ -14,7 +14,7 @@ use Rattle.gix_traverse.specs.Trees.Script.{depth_calls}
 use Rattle.gix_traverse.specs.Trees.Inside.ShowsEntry.{visit_below}
 use Rattle.gix_traverse.specs.Trees.Inside.ShowsBelow as shows
 use Rattle.gix_traverse.specs.Trees.Inside.ShowsBelow.{ShowsBelow, ShowsUpTo, Descends}
-use Rattle.gix_traverse.proofs.Trees.Shown.{visit_wants, plain_leaves}
+use Rattle.gix_traverse.proofs.Trees.Shown.{visit_takes, plain_leaves}
 
 module _ {V : Type 0} (steps : V → Call → V → Type 0) (ids : List ObjectId) (e : TreeEntry) (old : V) where
   leads : (known : Bool) (o : Outcome) → is_tree e.mode ≡ true → is_among e.id ids ≡ known → outcome_of true (Continue true) known ≡ o → outcome (visit_below ids e (Continue true)) ≡ o
@@ -24,7 +24,7 @@ module _ {V : Type 0} (steps : V → Call → V → Type 0) (ids : List ObjectId
   push_refused new s = shows.refused (Continue false) (here refl) (new, s, refl)
 
   pub visit_refused : (mid new : V) → steps old (PushPath e.name) mid → steps mid Refused new → ShowsBelow steps ids e old new (Err error.Memory)
-  visit_refused mid new p s = shows.refused (Continue false) (later (here (visit_wants (is_tree e.mode) e (Continue false)))) (mid, p, (new, s, refl))
+  visit_refused mid new p s = shows.refused (Continue false) (later (here (visit_takes (is_tree e.mode) e (Continue false)))) (mid, p, (new, s, refl))
 
   pub tree_breaks : (b : Unit {0}) (mid low new : V) → is_tree e.mode ≡ true → steps old (PushPath e.name) mid → steps mid (visit_call_of (is_tree e.mode) e (Break b)) low → steps low PopPath new → ShowsBelow steps ids e old new (Ok (Some stop.Broken))
   tree_breaks b mid low new t p s q = shows.broke (Break b) refl (rw t (mid, p, (low, rw t at s, (new, q, refl))))

@@ -13,7 +13,7 @@ use Rattle.gix_traverse.specs.Trees.Delegate.{Action, Call, PushPath, PopPath, P
 use Rattle.gix_traverse.specs.Trees.Visits.{Items, Place, Visit, visit, inside, Outcome, Leaves, Enters, Cycles, Breaks, outcome_of, outcome, visit_call, Ending, Whole, Broken, Failed}
 use Rattle.gix_traverse.specs.Trees.Paths.{known_root}
 use Rattle.gix_traverse.specs.Trees.Script as script
-use Rattle.gix_traverse.specs.Trees.Script.{depth_calls, DepthScript, IsDepthScript, DepthFrom, outermost}
+use Rattle.gix_traverse.specs.Trees.Script.{depth_calls, DepthScript, IsDepthScript}
 use Rattle.gix_traverse.specs.Trees.Inside.ShowsEntry.{visit_below}
 use Rattle.gix_traverse.specs.declared.tree.depthfirst.Stop.{Stop}
 use Rattle.gix_traverse.specs.declared.tree.depthfirst.Stop.TheVariants as stop
@@ -21,31 +21,18 @@ use Rattle.gix_traverse.specs.declared.tree.depthfirst.Tree.{Tree}
 use Rattle.gix_traverse.specs.Trees.Inside.ShowsBelow as below
 use Rattle.gix_traverse.specs.Trees.Inside.ShowsBelow.{ShowsUpTo}
 use Rattle.gix_traverse.specs.Trees.Errors.{error_of_find}
-use Rattle.gix_traverse.specs.Trees.Inside.Stack.{Above, FoundTree, items_at}
+use Rattle.gix_traverse.specs.Trees.Inside.Stack.{FoundTree, items_at}
 use Rattle.gix_traverse.specs.Trees.Walk.{items_of_object, trees_of, LookUpFails, depth_answer, DepthFirst}
-use Rattle.gix_traverse.proofs.Trees.Depth.Script.{depth_leaves, depth_enters, depth_resumes, depth_ends}
+use Rattle.gix_traverse.proofs.Trees.Places.{First, first_seen, none_seen}
+use Rattle.gix_traverse.proofs.Trees.Depth.Stack.{Above}
+use Rattle.gix_traverse.proofs.Trees.Depth.Script.{DepthFrom, outermost, depth_leaves, depth_enters, depth_resumes, depth_ends}
 use Rattle.gix_traverse.proofs.Trees.Levels.Loop.{run_more}
 
 abbrev above_of : Place × Items → Above
 above_of f = (f.0.ids, f.1)
 
-record FirstResumes (frames : List (Place × Items)) (ids : List ObjectId) (items : Items) (above : List Above) : Type 0 where
-  place : Place
-  others : List (Place × Items)
-  is : frames ≡ (place, items) ∷ others
-  known : place.ids ≡ ids
-  same : map above_of others ≡ above
-
-first_resumes : (frames : List (Place × Items)) (ids : List ObjectId) (items : Items) (above : List Above) → map above_of frames ≡ (ids, items) ∷ above → FirstResumes frames ids items above
-first_resumes [] ids items above e = cc
-first_resumes (f ∷ fs) ids items above e =
-    let pair : above_of f ≡ (ids, items) = cc in
-    let rest : map above_of fs ≡ above = cc in
-    record { place = f.0; others = fs; is = λ j. (f.0, (pair j).1) ∷ fs; known = λ j. (pair j).0; same = rest }
-
-no_frames : (frames : List (Place × Items)) → map above_of frames ≡ [] → frames ≡ []
-no_frames [] e = refl
-no_frames (f ∷ fs) e = cc
+first_resumes : (frames : List (Place × Items)) (ids : List ObjectId) (items : Items) (above : List Above) → map above_of frames ≡ (ids, items) ∷ above → First above_of (λ y. y.0) (λ y. y.1) frames (ids, items) above
+first_resumes frames ids items above e = first_seen above_of (λ y. y.0) (λ y. y.1) (λ t. refl) (λ t. refl) frames (ids, items) above e
 
 broken_not_whole : Broken ≢ Whole
 broken_not_whole e = cc
@@ -171,7 +158,7 @@ module _ {V : Type 0} (objects : Objects) (faulty : ObjectId → Type 0) (steps 
   root_no_memory = record { calls = []; visits = []; end = Failed error.Memory; script = script.no_memory; run = refl; answered = refl }
 
   pub so_far_whole : (now : V) {ids : List ObjectId} → DepthSoFar now ids [] [] → DepthFirst objects faulty steps root old now (Ok tt)
-  so_far_whole now h = ended h [] [] Whole (subst (λ l. From h.place [] l [] [] Whole) (sym (no_frames h.frames h.same)) (outermost script.whole)) refl
+  so_far_whole now h = ended h [] [] Whole (subst (λ l. From h.place [] l [] [] Whole) (sym (none_seen above_of h.frames h.same)) (outermost script.whole)) refl
 
   pub so_far_breaks : (mid now : V) {ids : List ObjectId} {items : Items} {above : List Above} (e : TreeEntry) (a : Action) → DepthSoFar mid ids (Ok e ∷ items) above → outcome (visit_below ids e a) ≡ Breaks → Run steps mid (depth_calls (visit_below ids e a)) now → DepthFirst objects faulty steps root old now (Ok tt)
   so_far_breaks mid now e a h o run = ended h (depth_calls (visit h.place e a)) (visit h.place e a ∷ []) Broken (depth_ends (trees_of objects) (LookUpFails objects faulty) broken_not_whole (script.breaks (outcome_here h e a Breaks o))) (subst (λ l. Run steps mid l now) (sym (calls_here h e a)) run)

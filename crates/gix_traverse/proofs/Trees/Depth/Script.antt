@@ -7,29 +7,35 @@ use Rattle.gix_traverse.specs.Trees.Delegate.{Action, Call, PopBack}
 use Rattle.gix_traverse.specs.Trees.Visits.{Items, Place, Visit, visit, inside, Leaves, Enters, outcome, Ending, Whole, Broken, Failed, IsUnfailed, is_broken}
 use Rattle.gix_traverse.specs.Orders.Preorder as order
 use Rattle.gix_traverse.specs.Orders.Preorder.{IsPreorder}
-use Rattle.gix_traverse.specs.Trees.Script.{depth_calls, DepthScript, whole, leaves, enters, ends_inside, not_found, breaks, cycles, fault, no_memory_at_look_up, no_memory_for_descent, refused, items_or_none, entries_in, entries_at, DepthFrom, outermost, resumes, ends}
+use Rattle.gix_traverse.specs.Trees.Script.{depth_calls, DepthScript, whole, leaves, enters, ends_inside, not_found, breaks, cycles, fault, no_memory_at_look_up, no_memory_for_descent, refused, items_or_none, entries_in, entries_at}
 
 module _ (trees : ObjectId → Option Items) (fails : ObjectId → ExistingError → Type 0) where
-  retold : {p : Place} {items : Items} {above : List (Place × Items)} {calls calls2 : List Call} {visits visits2 : List Visit} {end : Ending} → calls ≡ calls2 → visits ≡ visits2 → DepthFrom trees fails p items above calls visits end → DepthFrom trees fails p items above calls2 visits2 end
-  retold {p} {items} {above} {calls} {calls2} {visits} {visits2} {end} ec ev walk = subst (λ l. DepthFrom trees fails p items above l visits2 end) ec (subst (λ l. DepthFrom trees fails p items above calls l end) ev walk)
+  -- the walk in depth, from a place in a tree on, with what is left of the trees above it, the nearest first
+  pub data DepthFrom : Place → Items → List (Place × Items) → List Call → List Visit → Ending → Type 0 where
+    outermost : {p : Place} {items : Items} {calls : List Call} {visits : List Visit} {end : Ending} → DepthScript trees fails p items calls visits end → DepthFrom p items [] calls visits end
+    resumes : {p q : Place} {items rest : Items} {above : List (Place × Items)} {calls more : List Call} {visits others : List Visit} {end : Ending} → DepthScript trees fails p items calls visits Whole → DepthFrom q rest above more others end → DepthFrom p items ((q, rest) ∷ above) (calls ++ PopBack ∷ more) (visits ++ others) end
+    ends : {p q : Place} {items rest : Items} {above : List (Place × Items)} {calls : List Call} {visits : List Visit} {end : Ending} → DepthScript trees fails p items calls visits end → end ≢ Whole → DepthFrom p items ((q, rest) ∷ above) calls visits end
+
+  retold : {p : Place} {items : Items} {above : List (Place × Items)} {calls calls2 : List Call} {visits visits2 : List Visit} {end : Ending} → calls ≡ calls2 → visits ≡ visits2 → DepthFrom p items above calls visits end → DepthFrom p items above calls2 visits2 end
+  retold {p} {items} {above} {calls} {calls2} {visits} {visits2} {end} ec ev walk = subst (λ l. DepthFrom p items above l visits2 end) ec (subst (λ l. DepthFrom p items above calls l end) ev walk)
 
   -- an entry that the walk doesn't go into
-  pub depth_leaves : {p : Place} {e : TreeEntry} {a : Action} {items : Items} {above : List (Place × Items)} {calls : List Call} {visits : List Visit} {end : Ending} → outcome (visit p e a) ≡ Leaves → DepthFrom trees fails p items above calls visits end → DepthFrom trees fails p (Ok e ∷ items) above (depth_calls (visit p e a) ++ calls) (visit p e a ∷ visits) end
+  pub depth_leaves : {p : Place} {e : TreeEntry} {a : Action} {items : Items} {above : List (Place × Items)} {calls : List Call} {visits : List Visit} {end : Ending} → outcome (visit p e a) ≡ Leaves → DepthFrom p items above calls visits end → DepthFrom p (Ok e ∷ items) above (depth_calls (visit p e a) ++ calls) (visit p e a ∷ visits) end
   depth_leaves o (outermost script) = outermost (leaves o script)
   depth_leaves {p} {e} {a} o (resumes {calls = calls} {more = more} script rest) = retold (append_assoc (depth_calls (visit p e a)) calls (PopBack ∷ more)) refl (resumes (leaves o script) rest)
   depth_leaves o (ends script broken) = ends (leaves o script) broken
 
   -- a tree's end, where another tree is gone on with
-  pub depth_resumes : {p q : Place} {rest : Items} {above : List (Place × Items)} {calls : List Call} {visits : List Visit} {end : Ending} → DepthFrom trees fails q rest above calls visits end → DepthFrom trees fails p [] ((q, rest) ∷ above) (PopBack ∷ calls) visits end
+  pub depth_resumes : {p q : Place} {rest : Items} {above : List (Place × Items)} {calls : List Call} {visits : List Visit} {end : Ending} → DepthFrom q rest above calls visits end → DepthFrom p [] ((q, rest) ∷ above) (PopBack ∷ calls) visits end
   depth_resumes rest = resumes whole rest
 
   -- a walk that ended in some tree has ended
-  pub depth_ends : {p : Place} {items : Items} {above : List (Place × Items)} {calls : List Call} {visits : List Visit} {end : Ending} → end ≢ Whole → DepthScript trees fails p items calls visits end → DepthFrom trees fails p items above calls visits end
+  pub depth_ends : {p : Place} {items : Items} {above : List (Place × Items)} {calls : List Call} {visits : List Visit} {end : Ending} → end ≢ Whole → DepthScript trees fails p items calls visits end → DepthFrom p items above calls visits end
   depth_ends {above = []} broken script = outermost script
   depth_ends {above = frame ∷ above} broken script = ends script broken
 
   -- an entry that the walk goes into
-  pub depth_enters : {p : Place} {e : TreeEntry} {a : Action} {sub items : Items} {above : List (Place × Items)} {calls : List Call} {visits : List Visit} {end : Ending} → outcome (visit p e a) ≡ Enters → trees e.id ≡ Some sub → DepthFrom trees fails (inside p e) sub ((p, items) ∷ above) calls visits end → DepthFrom trees fails p (Ok e ∷ items) above (depth_calls (visit p e a) ++ PopBack ∷ calls) (visit p e a ∷ visits) end
+  pub depth_enters : {p : Place} {e : TreeEntry} {a : Action} {sub items : Items} {above : List (Place × Items)} {calls : List Call} {visits : List Visit} {end : Ending} → outcome (visit p e a) ≡ Enters → trees e.id ≡ Some sub → DepthFrom (inside p e) sub ((p, items) ∷ above) calls visits end → DepthFrom p (Ok e ∷ items) above (depth_calls (visit p e a) ++ PopBack ∷ calls) (visit p e a ∷ visits) end
   depth_enters o is (ends script broken) = depth_ends broken (ends_inside o is script broken)
   depth_enters o is (resumes script (outermost rest)) = outermost (enters o is script rest)
   depth_enters o is (resumes script (ends rest broken)) = ends (enters o is script rest) broken
@@ -45,7 +51,7 @@ module _ (trees : ObjectId → Option Items) (fails : ObjectId → ExistingError
   broken_end Broken w ne = refl
   broken_end (Failed why) w ne = absurd w
 
-  -- the visits of a walk in depth stand in preorder
+  -- the visits of a walk in depth are in preorder
   pub preorder : {p : Place} {items : Items} {calls : List Call} {visits : List Visit} {end : Ending} → DepthScript trees fails p items calls visits end → IsUnfailed end → IsPreorder (entries_at trees) p (entries_in items) visits (is_broken end)
   preorder whole w = order.none
   preorder (leaves o rest) w = order.leaves o (preorder rest w)

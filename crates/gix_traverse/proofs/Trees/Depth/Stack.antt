@@ -10,7 +10,22 @@ use Rattle.gix_parts.specs.TreeRefIter.{IsEndOf}
 use Rattle.gix_parts.proofs.TreeText.Ends.{drop_end}
 use Rattle.gix_parts.proofs.Ids.Equality.{eq_is_same}
 use Rattle.gix_traverse.specs.declared.tree.depthfirst.Tree.{Tree}
-use Rattle.gix_traverse.specs.Trees.Inside.Stack.{ids_down}
+use Rattle.gix_traverse.specs.Trees.Visits.{Items}
+use Rattle.gix_traverse.specs.Trees.Inside.Stack.{IsWithin, ids_down, items_at}
+
+-- the next entry of each tree begins in its bytes or behind them all
+abbrev pub AreWithin : List Tree → Type 0
+AreWithin [] = Unit {0}
+AreWithin (t ∷ trees) = IsWithin t × AreWithin trees
+
+-- what is left of a tree above: the known ids down to it, and its items behind the entry that was gone into
+abbrev pub Above : Type 0
+Above = List ObjectId × Items
+
+-- what is left of trees, the nearest first
+abbrev pub left_above : List Tree → List Above
+left_above [] = []
+left_above (t ∷ trees) = (ids_down (t ∷ trees), items_at t) ∷ left_above trees
 
 pub last_first : {X : Type 0} (xs : List X) (x : X) → reverse (xs ++ x ∷ []) ≡ x ∷ reverse xs
 last_first xs x = reverse-append xs (x ∷ [])
@@ -63,7 +78,7 @@ known_found i root trees h = sym (ap (λ b. is_same i root || b) (among_back i t
     or_true true = refl
     or_true false = refl
 
--- it is that of none, and so the last tells
+-- no tree above has the id, and so the comparison with the last decides
 pub known_last : (i root : ObjectId) (trees : List Tree) (k : ℕ) (r : Bool) → length trees ≤ k → is_of i (drop k trees) ≡ is_of i trees → r ≡ eq-value.it i root → r ≡ is_among i (root ∷ ids_down (reverse trees))
 known_last i root trees k r past same e =
     let none : is_of i trees ≡ false = sym same ∙ ap (λ l. is_of i l) (drop_all k trees past) in

@@ -6,9 +6,9 @@ use Rattle.gix_traverse.specs.declared.tree.depthfirst.Stop.TheVariants as stop
 use Rattle.gix_traverse.specs.declared.tree.depthfirst.Tree.{Tree}
 use Rattle.gix_traverse.specs.Trees.Delegate.{Call, PopBack}
 use Rattle.gix_traverse.specs.Trees.Inside.ShowsBelow.{ShowsUpTo}
-use Rattle.gix_traverse.specs.Trees.Inside.Stack.{AreWithin, FoundTree, ids_down, items_at, left_above}
+use Rattle.gix_traverse.specs.Trees.Inside.Stack.{FoundTree, ids_down, items_at}
 use Rattle.gix_traverse.proofs.Trees.Depth.Loop.{DepthSoFar, so_far_start, so_far_shown, so_far_into, so_far_resumes, found_tree}
-use Rattle.gix_traverse.proofs.Trees.Depth.Stack.{last_first}
+use Rattle.gix_traverse.proofs.Trees.Depth.Stack.{AreWithin, left_above, last_first}
 use Rattle.gix_traverse.proofs.Trees.Work.Loops.{stack_work, descent_lessens, end_lessens}
 
 -- one more tree, the nearest

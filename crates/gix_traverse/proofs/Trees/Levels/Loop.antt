@@ -16,12 +16,14 @@ use Rattle.gix_traverse.specs.Trees.Delegate.{Action, Call, PushPath, PopFront, 
 use Rattle.gix_traverse.specs.Trees.Visits.{Items, Place, Visit, visit, inside, Outcome, Leaves, Enters, Cycles, Breaks, outcome_of, outcome, visit_call, Ending, Whole, Broken, Failed, Task, Turn, shows}
 use Rattle.gix_traverse.specs.Trees.Paths.{unknown_root}
 use Rattle.gix_traverse.specs.Trees.Script as script
-use Rattle.gix_traverse.specs.Trees.Script.{items_or_none, level_calls, tasks_of, Visited, LevelFrom, IsLevelScript}
+use Rattle.gix_traverse.specs.Trees.Script.{items_or_none, level_calls, tasks_of, Visited, IsLevelScript}
 use Rattle.gix_traverse.specs.Trees.Inside.LevelQueue.{LevelQueue, Waiting}
 use Rattle.gix_traverse.specs.Trees.Inside.ShowsEntry as round
 use Rattle.gix_traverse.specs.Trees.Inside.ShowsEntry.{ShowsEntry, ShowsTree, visit_below}
 use Rattle.gix_traverse.specs.Trees.Errors.{error_of_find}
 use Rattle.gix_traverse.specs.Trees.Walk.{items_of_object, trees_of, LookUpFails, level_answer, BreadthFirst}
+use Rattle.gix_traverse.proofs.Trees.Places.{First, first_seen, none_seen}
+use Rattle.gix_traverse.proofs.Trees.Levels.Queue.{LevelFrom}
 use Rattle.gix_traverse.proofs.Trees.Levels.Script.{level_script}
 
 pub run_more : {V : Type 0} (steps : V → Call → V → Type 0) (a b c : V) (calls more : List Call) → Run steps a calls b → Run steps b more c → Run steps a (calls ++ more) c
@@ -31,23 +33,8 @@ run_more steps a b c (call ∷ calls) more h g = (h.0, h.1, run_more steps h.0 b
 abbrev waiting_of : Place × ObjectId → Waiting
 waiting_of w = (w.1, w.0.ids)
 
-record FirstWaits (places : List (Place × ObjectId)) (i : ObjectId) (ids : List ObjectId) (waiting : List Waiting) : Type 0 where
-  place : Place
-  others : List (Place × ObjectId)
-  is : places ≡ (place, i) ∷ others
-  known : place.ids ≡ ids
-  same : map waiting_of others ≡ waiting
-
-first_waits : (places : List (Place × ObjectId)) (i : ObjectId) (ids : List ObjectId) (waiting : List Waiting) → map waiting_of places ≡ (i, ids) ∷ waiting → FirstWaits places i ids waiting
-first_waits [] i ids waiting e = cc
-first_waits (w ∷ ws) i ids waiting e =
-    let pair : waiting_of w ≡ (i, ids) = cc in
-    let rest : map waiting_of ws ≡ waiting = cc in
-    record { place = w.0; others = ws; is = λ j. (w.0, (pair j).0) ∷ ws; known = λ j. (pair j).1; same = rest }
-
-none_waits : (places : List (Place × ObjectId)) → map waiting_of places ≡ [] → places ≡ []
-none_waits [] e = refl
-none_waits (w ∷ ws) e = cc
+first_waits : (places : List (Place × ObjectId)) (i : ObjectId) (ids : List ObjectId) (waiting : List Waiting) → map waiting_of places ≡ (i, ids) ∷ waiting → First waiting_of (λ y. y.1) (λ y. y.0) places (i, ids) waiting
+first_waits places i ids waiting e = first_seen waiting_of (λ y. y.1) (λ y. y.0) (λ t. refl) (λ t. refl) places (i, ids) waiting e
 
 module _ {V : Type 0} (objects : Objects) (faulty : ObjectId → Type 0) (steps : V → Call → V → Type 0) (root : Items) (old : V) where
   waiting_tasks : List (Place × ObjectId) → List Task
@@ -173,7 +160,7 @@ module _ {V : Type 0} (objects : Objects) (faulty : ObjectId → Type 0) (steps 
 
   pub so_far_whole : (now : V) {ids : List ObjectId} → LevelSoFar now ids [] [] → BreadthFirst objects faulty steps root old now (Ok tt)
   unfolding waiting_tasks
-  so_far_whole now h = ended h [] [] Whole (subst (λ l. Walk (waiting_tasks l) [] [] Whole) (sym (none_waits h.places h.same)) (script.whole refl)) refl
+  so_far_whole now h = ended h [] [] Whole (subst (λ l. Walk (waiting_tasks l) [] [] Whole) (sym (none_seen waiting_of h.places h.same)) (script.whole refl)) refl
 
   pub so_far_breaks : (mid now : V) {ids : List ObjectId} {items : Items} {waiting : List Waiting} (e : TreeEntry) (a : Action) → LevelSoFar mid ids (Ok e ∷ items) waiting → outcome (visit_below ids e a) ≡ Breaks → Run steps mid (level_calls (visit_below ids e a)) now → BreadthFirst objects faulty steps root old now (Err error.Cancelled)
   so_far_breaks mid now e a h o run = ended h (level_calls (visit h.place e a)) (visit h.place e a ∷ []) Broken (script.breaks refl (outcome_here h e a Breaks o)) (subst (λ l. Run steps mid l now) (sym (calls_here h e a)) run)

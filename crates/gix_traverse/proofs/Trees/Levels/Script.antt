@@ -1,4 +1,4 @@
--- The walk by levels: from a queue, and told by its steps.
+-- The walk by levels from a queue on is the walk by its steps.
 use Rattle.std.proofs.Common.{◌≡◌, ℕ, List, [], ◌∷◌, ◌++◌, length, map, Option, Some, None, Ok, Err, refl, sym, ap, ◌∙◌, subst, arith, append_assoc, length-append}
 use Rattle.std.proofs.lemmas.List.{append-nil}
 use Rattle.std.specs.Prelude.{slice_get}
@@ -10,7 +10,8 @@ use Rattle.gix_parts.specs.TreeItems.{TreeEntry}
 use Rattle.gix_traverse.specs.Trees.Delegate.{Action, Call}
 use Rattle.gix_traverse.specs.Trees.Visits.{Items, Place, Visit, visit, inside, Outcome, Leaves, Enters, Cycles, Breaks, outcome, Ending, IsUnfailed, Task, Turn, Show, Fault, shows}
 use Rattle.gix_traverse.specs.Orders.LevelOrder.{entries_behind, entries_of, entries_by, FollowsInLevels, IsLevelOrder}
-use Rattle.gix_traverse.specs.Trees.Script.{items_or_none, entries_in, entries_at, tasks_behind, Step, Visited, one_step_more, first_task, other_tasks, tasks_of, next_of_steps, tasks_after, LevelScript, LevelFrom, IsLevelScript, whole, leaves, enters, breaks, cycles, turn, not_found, fault, no_memory_in_turn, no_memory_for_descent, refused}
+use Rattle.gix_traverse.specs.Trees.Script.{items_or_none, entries_in, entries_at, tasks_behind, Step, Visited, one_step_more, tasks_of, next_of_steps, LevelScript, IsLevelScript, whole, leaves, enters, breaks, cycles, turn, not_found, fault, no_memory_in_turn, no_memory_for_descent, refused}
+use Rattle.gix_traverse.proofs.Trees.Levels.Queue.{first_task, other_tasks, tasks_after, LevelFrom, split_front, no_front}
 
 pub first_behind : (passed tasks : List Task) → slice_get (passed ++ tasks) (length passed) ≡ first_task tasks
 first_behind [] [] = refl
@@ -112,14 +113,6 @@ past_end : {X : Type 0} (xs : List X) → slice_get xs (length xs) ≡ None
 past_end [] = refl
 past_end (x ∷ xs) = past_end xs
 
-split_front : (tasks : List Task) (t : Task) → first_task tasks ≡ Some t → tasks ≡ t ∷ other_tasks tasks
-split_front [] t e = cc
-split_front (u ∷ tasks) t e = cc
-
-no_front : (tasks : List Task) → first_task tasks ≡ None → tasks ≡ []
-no_front [] e = refl
-no_front (u ∷ tasks) e = cc
-
 module _ (trees : ObjectId → Option Items) where
   shown_of_visit : (p : Place) (e : TreeEntry) (o : Outcome) → shown_in (tasks_behind trees p e o) ≡ entries_behind (entries_at trees) p e o
   unfolding shown_in
@@ -128,7 +121,7 @@ module _ (trees : ObjectId → Option Items) where
   shown_of_visit p e Cycles = refl
   shown_of_visit p e Breaks = refl
 
-  -- of the entries named by the visits so far, as many as were visited are passed by, and the others stand in the queue
+  -- of the entries named by the visits so far, as many as were visited are passed by, and the others are in the queue
   record Seen (p : Place) (root : List TreeEntry) (done : List Visit) (tasks : List Task) : Type 0 where
     passed : List (Place × TreeEntry)
     many : length passed ≡ length done
@@ -176,6 +169,6 @@ module _ (trees : ObjectId → Option Items) (fails : ObjectId → ExistingError
   level_follows p root done (no_memory_for_descent a e o) w h = absurd w
   level_follows p root done (refused a e m) w h = absurd w
 
-  -- the visits of a walk by levels stand in level order
+  -- the visits of a walk by levels are in level order
   pub level_order : (p : Place) (root : Items) {calls : List Call} {visits : List Visit} {end : Ending} → IsLevelScript trees fails p root calls visits end → IsUnfailed end → IsLevelOrder (entries_at trees) p (entries_in root) visits
   level_order p root walk w = level_follows p (entries_in root) [] (level_queue trees fails p root walk) w (record { passed = []; many = refl; is = append-nil _ ∙ sym (shown_in-shows p root) })

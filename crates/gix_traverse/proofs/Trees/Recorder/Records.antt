@@ -9,10 +9,12 @@ use Rattle.gix_parts.specs.TreeItems.{TreeEntry, is_tree}
 use Rattle.gix_traverse.specs.declared.tree.recorder.Location.TheVariants.{Path}
 use Rattle.gix_traverse.specs.declared.tree.breadthfirst.Error.TheVariants as error
 use Rattle.gix_traverse.specs.Trees.Delegate.{Action, Call, PushPath, PopPath, PushBack, PopBack}
-use Rattle.gix_traverse.specs.Trees.Visits.{Items, Place, Visit, visit, inside, Outcome, Leaves, Enters, Cycles, Breaks, outcome, visit_call_of, Ending, Whole, Failed, Task, Turn, Show, Fault, shows}
+use Rattle.gix_traverse.specs.Trees.Visits.{Items, Place, Visit, visit, inside, Outcome, Leaves, Enters, Cycles, Breaks, outcome, visit_call, visit_call_of, Ending, Whole, Failed, Task, Turn, Show, Fault, shows}
 use Rattle.gix_traverse.specs.Trees.Paths.{IsName, HaveNames, joined, unknown_root}
 use Rattle.gix_traverse.specs.Trees.Script as script
-use Rattle.gix_traverse.specs.Trees.Script.{Step, Entered, Visited, first_task, other_tasks, tasks_of, tasks_behind, tasks_after, items_or_none, level_calls, depth_calls, LevelScript, LevelFrom, IsLevelScript, DepthScript, IsDepthScript}
+use Rattle.gix_traverse.specs.Trees.Script.{Step, Entered, Visited, tasks_of, tasks_behind, items_or_none, level_calls, depth_calls, LevelScript, IsLevelScript, DepthScript, IsDepthScript}
+use Rattle.gix_traverse.proofs.Trees.All.{all_left, all_right}
+use Rattle.gix_traverse.proofs.Trees.Levels.Queue.{first_task, other_tasks, LevelFrom, split_front}
 use Rattle.gix_traverse.proofs.Trees.Levels.Script.{level_queue}
 use Rattle.gix_traverse.specs.Trees.Recorder.{Record, Recorded, with_name, front_from, before_slash, path_or_empty, without_name, last_path, without_last, first_path, without_first, fresh, recorded, recorded_all, record_of}
 
@@ -81,14 +83,28 @@ inside_at {path} {p} e at h = record {
 }
 
 -- around a visit that leads on
+around : {path : List ℕ} {p : Place} (queue : List (List ℕ)) (records : List Record) (e : TreeEntry) (a : Action) (calls : List Call) → StandsAt path p → IsName e.name
+    → recorded_all (Some Path) (holding path queue records) (PushPath e.name ∷ visit_call (visit p e a) ∷ PopPath ∷ calls)
+    ≡ recorded_all (Some Path) (holding path queue (records ++ record_of (visit p e a) ∷ [])) calls
+around {path} {p} queue records e a calls at h =
+    let q : without_name (with_name path e.name) ≡ path = without_with path e.name h in
+    let w : with_name path e.name ≡ joined (p.names ++ e.name ∷ []) = (inside_at e at h).is in
+    ap (λ r. recorded_all (Some Path) (recorded (Some Path) r PopPath) calls) (push_visit path queue records e a (is_tree e.mode))
+    ∙ (λ i. recorded_all (Some Path) (holding (q i) queue (records ++ record { mode = e.mode; path = w i; id = e.id } ∷ [])) calls)
+
+-- around the last visit, where the calls behind it record nothing
+around_last : {path : List ℕ} {p : Place} (queue : List (List ℕ)) (records : List Record) (e : TreeEntry) (a : Action) (behind : List Call) → StandsAt path p → IsName e.name
+    → ((r : Recorded) → (recorded_all (Some Path) r behind).records ≡ r.records)
+    → (recorded_all (Some Path) (holding path queue records) (PushPath e.name ∷ visit_call (visit p e a) ∷ behind)).records ≡ records ++ record_of (visit p e a) ∷ []
+around_last {path} {p} queue records e a behind at h same =
+    let w : with_name path e.name ≡ joined (p.names ++ e.name ∷ []) = (inside_at e at h).is in
+    same _ ∙ ap (λ r. r.records) (push_visit path queue records e a (is_tree e.mode))
+    ∙ (λ i. records ++ record { mode = e.mode; path = w i; id = e.id } ∷ [])
+
 level_leaves : {path : List ℕ} {p : Place} (queue : List (List ℕ)) (records : List Record) (e : TreeEntry) (a : Action) (calls : List Call) → StandsAt path p → IsName e.name → outcome (visit p e a) ≡ Leaves
     → recorded_all (Some Path) (holding path queue records) (level_calls (visit p e a) ++ calls)
     ≡ recorded_all (Some Path) (holding path queue (records ++ record_of (visit p e a) ∷ [])) calls
-level_leaves {path} {p} queue records e a calls at h o =
-    let q : without_name (with_name path e.name) ≡ path = without_with path e.name h in
-    let w : with_name path e.name ≡ joined (p.names ++ e.name ∷ []) = (inside_at e at h).is in
-    rw o (ap (λ r. recorded_all (Some Path) (recorded (Some Path) r PopPath) calls) (push_visit path queue records e a (is_tree e.mode))
-    ∙ (λ i. recorded_all (Some Path) (holding (q i) queue (records ++ record { mode = e.mode; path = w i; id = e.id } ∷ [])) calls))
+level_leaves queue records e a calls at h o = rw o (around queue records e a calls at h)
 
 level_enters : {path : List ℕ} {p : Place} (queue : List (List ℕ)) (records : List Record) (e : TreeEntry) (a : Action) (calls : List Call) → StandsAt path p → IsName e.name → outcome (visit p e a) ≡ Enters
     → recorded_all (Some Path) (holding path queue records) (level_calls (visit p e a) ++ calls)
@@ -103,10 +119,7 @@ level_enters {path} {p} queue records e a calls at h o =
 
 level_last : {path : List ℕ} {p : Place} (queue : List (List ℕ)) (records : List Record) (e : TreeEntry) (a : Action) (o : Outcome) → StandsAt path p → IsName e.name → outcome (visit p e a) ≡ o → script.level_calls_behind e.name o ≡ []
     → (recorded_all (Some Path) (holding path queue records) (level_calls (visit p e a))).records ≡ records ++ record_of (visit p e a) ∷ []
-level_last {path} {p} queue records e a o at h is none =
-    let w : with_name path e.name ≡ joined (p.names ++ e.name ∷ []) = (inside_at e at h).is in
-    rw (is, none) (ap (λ r. r.records) (push_visit path queue records e a (is_tree e.mode))
-    ∙ (λ i. records ++ record { mode = e.mode; path = w i; id = e.id } ∷ []))
+level_last queue records e a o at h is none = rw (is, none) (around_last queue records e a [] at h (λ r. refl))
 
 -- what a queue of tasks says of the path and of the queue of paths
 abbrev Fits : List ℕ → List Task → List (List ℕ) → Type 0
@@ -131,10 +144,6 @@ fits_more path (Show q e ∷ tasks) queue front p i items h at = (h.0, fits_more
 fits_more path (Fault why ∷ tasks) queue front p i items h at = fits_more path tasks queue front p i items h at
 fits_more path (Turn q j ∷ tasks) [] front p i items h at = absurd h
 fits_more path (Turn q j ∷ tasks) (next ∷ queue) front p i items h at = (h.0, fits_more next tasks queue front p i items h.1 at)
-
-pub split_front : (tasks : List Task) (t : Task) → first_task tasks ≡ Some t → tasks ≡ t ∷ other_tasks tasks
-split_front [] t e = cc
-split_front (u ∷ tasks) t e = cc
 
 fits_front : (path : List ℕ) (tasks : List Task) (queue : List (List ℕ)) (t : Task) → first_task tasks ≡ Some t → Fits path tasks queue → Fits path (t ∷ other_tasks tasks) queue
 fits_front path tasks queue t e h = subst (λ l. Fits path l queue) (split_front tasks t e) h
@@ -181,14 +190,10 @@ module _ (trees : ObjectId → Option Items) (fails : ObjectId → ExistingError
 
 -- around a visit of a walk in depth
 
-around_leaves : {path : List ℕ} {p : Place} (queue : List (List ℕ)) (records : List Record) (e : TreeEntry) (a : Action) (calls : List Call) → StandsAt path p → IsName e.name → outcome (visit p e a) ≡ Leaves
+depth_leaves : {path : List ℕ} {p : Place} (queue : List (List ℕ)) (records : List Record) (e : TreeEntry) (a : Action) (calls : List Call) → StandsAt path p → IsName e.name → outcome (visit p e a) ≡ Leaves
     → recorded_all (Some Path) (holding path queue records) (depth_calls (visit p e a) ++ calls)
     ≡ recorded_all (Some Path) (holding path queue (records ++ record_of (visit p e a) ∷ [])) calls
-around_leaves {path} {p} queue records e a calls at h o =
-    let q : without_name (with_name path e.name) ≡ path = without_with path e.name h in
-    let w : with_name path e.name ≡ joined (p.names ++ e.name ∷ []) = (inside_at e at h).is in
-    rw o (ap (λ r. recorded_all (Some Path) (recorded (Some Path) r PopPath) calls) (push_visit path queue records e a (is_tree e.mode))
-    ∙ (λ i. recorded_all (Some Path) (holding (q i) queue (records ++ record { mode = e.mode; path = w i; id = e.id } ∷ [])) calls))
+depth_leaves queue records e a calls at h o = rw o (around queue records e a calls at h)
 
 pub last_more : (queue : List (List ℕ)) (path : List ℕ) → last_path (queue ++ path ∷ []) ≡ path
 last_more [] path = refl
@@ -200,10 +205,10 @@ without_more [] path = refl
 without_more (a ∷ []) path = refl
 without_more (a ∷ b ∷ queue) path = ap (λ l. a ∷ l) (without_more (b ∷ queue) path)
 
-around_enters : {path : List ℕ} {p : Place} (queue : List (List ℕ)) (records : List Record) (e : TreeEntry) (a : Action) (calls : List Call) → StandsAt path p → IsName e.name → outcome (visit p e a) ≡ Enters
+depth_enters : {path : List ℕ} {p : Place} (queue : List (List ℕ)) (records : List Record) (e : TreeEntry) (a : Action) (calls : List Call) → StandsAt path p → IsName e.name → outcome (visit p e a) ≡ Enters
     → recorded_all (Some Path) (holding path queue records) (depth_calls (visit p e a) ++ PopBack ∷ calls)
     ≡ recorded_all (Some Path) (holding (joined (p.names ++ e.name ∷ [])) (queue ++ path ∷ []) (records ++ record_of (visit p e a) ∷ [])) calls
-around_enters {path} {p} queue records e a calls at h o =
+depth_enters {path} {p} queue records e a calls at h o =
     let n = e.name in
     let name = with_name path n in
     let some = records ++ record { mode = e.mode; path = name; id = e.id } ∷ [] in
@@ -214,7 +219,7 @@ around_enters {path} {p} queue records e a calls at h o =
     ∙ (λ i. recorded_all (Some Path) (holding (last_more (queue ++ path ∷ []) name i) (without_more (queue ++ path ∷ []) name i) some) calls)
     ∙ (λ i. recorded_all (Some Path) (holding (w i) (queue ++ path ∷ []) (records ++ record { mode = e.mode; path = w i; id = e.id } ∷ [])) calls))
 
--- what stands behind a visit records nothing
+-- the calls behind a visit record nothing
 tail_records : (name : List ℕ) (t : Bool) (o : Outcome) (r : Recorded) → (recorded_all (Some Path) r (script.depth_calls_behind name t o)).records ≡ r.records
 tail_records name t Leaves r = refl
 tail_records name t Enters r = refl
@@ -222,13 +227,9 @@ tail_records name t Cycles r = refl
 tail_records name true Breaks r = refl
 tail_records name false Breaks r = refl
 
-around_last : {path : List ℕ} {p : Place} (queue : List (List ℕ)) (records : List Record) (e : TreeEntry) (a : Action) → StandsAt path p → IsName e.name
+depth_last : {path : List ℕ} {p : Place} (queue : List (List ℕ)) (records : List Record) (e : TreeEntry) (a : Action) → StandsAt path p → IsName e.name
     → (recorded_all (Some Path) (holding path queue records) (depth_calls (visit p e a))).records ≡ records ++ record_of (visit p e a) ∷ []
-around_last {path} {p} queue records e a at h =
-    let w : with_name path e.name ≡ joined (p.names ++ e.name ∷ []) = (inside_at e at h).is in
-    tail_records e.name (is_tree e.mode) (outcome (visit p e a)) _
-    ∙ ap (λ r. r.records) (push_visit path queue records e a (is_tree e.mode))
-    ∙ (λ i. records ++ record { mode = e.mode; path = w i; id = e.id } ∷ [])
+depth_last {p = p} queue records e a at h = around_last queue records e a (script.depth_calls_behind e.name (is_tree e.mode) (outcome (visit p e a))) at h (tail_records e.name (is_tree e.mode) (outcome (visit p e a)))
 
 regroup : (a b c d : List Call) → (a ++ PopBack ∷ (b ++ PopBack ∷ c)) ++ d ≡ a ++ PopBack ∷ (b ++ PopBack ∷ (c ++ d))
 regroup a b c d = append_assoc a (PopBack ∷ (b ++ PopBack ∷ c)) d ∙ ap (λ l. a ++ PopBack ∷ l) (append_assoc b (PopBack ∷ c) d)
@@ -237,14 +238,6 @@ of_three : (records : List Record) (v : Visit) (ws vs : List Visit) → ((record
 of_three records v ws vs = append_assoc (records ++ record_of v ∷ []) (map record_of ws) (map record_of vs) ∙ append_assoc records (record_of v ∷ []) (map record_of ws ++ map record_of vs)
     ∙ ap (λ l. records ++ record_of v ∷ l) (sym (map-append record_of ws vs))
 
-names_left : (ws vs : List Visit) → HaveNames (ws ++ vs) → HaveNames ws
-names_left [] vs h = tt
-names_left (w ∷ ws) vs h = (h.0, names_left ws vs h.1)
-
-names_right : (ws vs : List Visit) → HaveNames (ws ++ vs) → HaveNames vs
-names_right [] vs h = h
-names_right (w ∷ ws) vs h = names_right ws vs h.1
-
 module _ (trees : ObjectId → Option Items) (fails : ObjectId → ExistingError → Type 0) where
   -- a tree that is shown whole leaves the path and the queue as they were
   depth_whole : {p : Place} {items : Items} {calls : List Call} {visits : List Visit} {end : Ending} (path : List ℕ) (queue : List (List ℕ)) (records : List Record) (more : List Call) → DepthScript trees fails p items calls visits end → end ≡ Whole → StandsAt path p → HaveNames visits
@@ -252,7 +245,7 @@ module _ (trees : ObjectId → Option Items) (fails : ObjectId → ExistingError
   depth_whole path queue records more script.whole w at h = ap (λ l. recorded_all (Some Path) (holding path queue l) more) (sym (append-nil records))
   depth_whole path queue records more (script.leaves {p = p} {e = e} {a = a} {calls = calls} {visits = visits} o rest) w at h =
       ap (λ l. recorded_all (Some Path) (holding path queue records) l) (append_assoc (depth_calls (visit p e a)) calls more)
-      ∙ around_leaves queue records e a (calls ++ more) at h.0 o
+      ∙ depth_leaves queue records e a (calls ++ more) at h.0 o
       ∙ depth_whole path queue (records ++ record_of (visit p e a) ∷ []) more rest w at h.1
       ∙ ap (λ l. recorded_all (Some Path) (holding path queue l) more) (append_assoc records (record_of (visit p e a) ∷ []) (map record_of visits))
   depth_whole path queue records more (script.enters {p = p} {e = e} {a = a} {calls = calls} {more = behind} {visits = visits} {others = others} o is sub rest) w at h =
@@ -260,10 +253,10 @@ module _ (trees : ObjectId → Option Items) (fails : ObjectId → ExistingError
       let path2 = joined (p.names ++ e.name ∷ []) in
       let at2 : StandsAt path2 (inside p e) = record { is = refl; named = names_more p.names e.name at.named h.0 } in
       ap (λ l. recorded_all (Some Path) (holding path queue records) l) (regroup (depth_calls (visit p e a)) calls behind more)
-      ∙ around_enters queue records e a (calls ++ PopBack ∷ (behind ++ more)) at h.0 o
-      ∙ depth_whole path2 (queue ++ path ∷ []) here (PopBack ∷ (behind ++ more)) sub refl at2 (names_left visits others h.1)
+      ∙ depth_enters queue records e a (calls ++ PopBack ∷ (behind ++ more)) at h.0 o
+      ∙ depth_whole path2 (queue ++ path ∷ []) here (PopBack ∷ (behind ++ more)) sub refl at2 (all_left (λ v. IsName v.entry.name) visits others h.1)
       ∙ (λ i. recorded_all (Some Path) (holding (last_more queue path i) (without_more queue path i) (here ++ map record_of visits)) (behind ++ more))
-      ∙ depth_whole path queue (here ++ map record_of visits) more rest w at (names_right visits others h.1)
+      ∙ depth_whole path queue (here ++ map record_of visits) more rest w at (all_right (λ v. IsName v.entry.name) visits others h.1)
       ∙ ap (λ l. recorded_all (Some Path) (holding path queue l) more) (of_three records (visit p e a) visits others)
   depth_whole path queue records more (script.ends_inside o is sub broken) w at h = absurd (broken w)
   depth_whole path queue records more (script.not_found o why) w at h = cc
@@ -278,28 +271,28 @@ module _ (trees : ObjectId → Option Items) (fails : ObjectId → ExistingError
       → (recorded_all (Some Path) (holding path queue records) calls).records ≡ records ++ map record_of visits
   depth_records path queue records script.whole w at h = sym (append-nil records)
   depth_records path queue records (script.leaves {p = p} {e = e} {a = a} {calls = calls} {visits = visits} o rest) w at h =
-      ap (λ r. r.records) (around_leaves queue records e a calls at h.0 o)
+      ap (λ r. r.records) (depth_leaves queue records e a calls at h.0 o)
       ∙ depth_records path queue (records ++ record_of (visit p e a) ∷ []) rest w at h.1
       ∙ append_assoc records (record_of (visit p e a) ∷ []) (map record_of visits)
   depth_records path queue records (script.enters {p = p} {e = e} {a = a} {calls = calls} {more = behind} {visits = visits} {others = others} o is sub rest) w at h =
       let here = records ++ record_of (visit p e a) ∷ [] in
       let path2 = joined (p.names ++ e.name ∷ []) in
       let at2 : StandsAt path2 (inside p e) = record { is = refl; named = names_more p.names e.name at.named h.0 } in
-      ap (λ r. r.records) (around_enters queue records e a (calls ++ PopBack ∷ behind) at h.0 o
-      ∙ depth_whole path2 (queue ++ path ∷ []) here (PopBack ∷ behind) sub refl at2 (names_left visits others h.1)
+      ap (λ r. r.records) (depth_enters queue records e a (calls ++ PopBack ∷ behind) at h.0 o
+      ∙ depth_whole path2 (queue ++ path ∷ []) here (PopBack ∷ behind) sub refl at2 (all_left (λ v. IsName v.entry.name) visits others h.1)
       ∙ (λ i. recorded_all (Some Path) (holding (last_more queue path i) (without_more queue path i) (here ++ map record_of visits)) behind))
-      ∙ depth_records path queue (here ++ map record_of visits) rest w at (names_right visits others h.1)
+      ∙ depth_records path queue (here ++ map record_of visits) rest w at (all_right (λ v. IsName v.entry.name) visits others h.1)
       ∙ of_three records (visit p e a) visits others
   depth_records path queue records (script.ends_inside {p = p} {e = e} {a = a} {calls = calls} {visits = visits} o is sub broken) w at h =
       let here = records ++ record_of (visit p e a) ∷ [] in
       let path2 = joined (p.names ++ e.name ∷ []) in
       let at2 : StandsAt path2 (inside p e) = record { is = refl; named = names_more p.names e.name at.named h.0 } in
-      ap (λ r. r.records) (around_enters queue records e a calls at h.0 o)
+      ap (λ r. r.records) (depth_enters queue records e a calls at h.0 o)
       ∙ depth_records path2 (queue ++ path ∷ []) here sub w at2 h.1
       ∙ append_assoc records (record_of (visit p e a) ∷ []) (map record_of visits)
-  depth_records path queue records (script.not_found {p = p} {e = e} {a = a} o why) w at h = around_last queue records e a at h.0
-  depth_records path queue records (script.breaks {p = p} {e = e} {a = a} o) w at h = around_last queue records e a at h.0
-  depth_records path queue records (script.cycles {p = p} {e = e} {a = a} o) w at h = around_last queue records e a at h.0
+  depth_records path queue records (script.not_found {p = p} {e = e} {a = a} o why) w at h = depth_last queue records e a at h.0
+  depth_records path queue records (script.breaks {p = p} {e = e} {a = a} o) w at h = depth_last queue records e a at h.0
+  depth_records path queue records (script.cycles {p = p} {e = e} {a = a} o) w at h = depth_last queue records e a at h.0
   depth_records path queue records script.fault w at h = sym (append-nil records)
   depth_records path queue records (script.no_memory_at_look_up o) w at h = absurd (w refl)
   depth_records path queue records (script.no_memory_for_descent a o) w at h = absurd (w refl)

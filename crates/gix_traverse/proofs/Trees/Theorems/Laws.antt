@@ -1,34 +1,36 @@
 -- The laws of the walks of trees, over what their contracts say.
-use Rattle.std.proofs.Common.{◌≡◌, ◌≢◌, Bool, true, false, List, [], ◌∷◌, ◌++◌, map, Option, Some, Result, Ok, Err, refl, sym, ap, ◌∙◌, subst}
+use Rattle.std.proofs.Common.{◌≡◌, ◌≢◌, Bool, true, false, List, [], ◌∷◌, ◌++◌, map, Option, Some, Result, Ok, Err, refl, sym, ap, ◌∙◌, subst, arith}
 use Rattle.std.proofs.lemmas.List.Sorted.{IsPermutation-map, All-permutation}
 use Rattle.std.proofs.lemmas.List.Elements.{recursion_from_All, All-from_recursion}
 use Rattle.std.specs.List.Sorted.{IsPermutation}
 use Rattle.std.specs.List.{AllByRecursion}
 use Rattle.std.specs.declared.ops.ControlFlow.TheVariants.{Continue}
 use Rattle.gix_parts.specs.declared.hash.ObjectId.{ObjectId}
-use Rattle.gix_parts.specs.declared.object.find.existing_iter.Error.{Error as ExistingError}
 use Rattle.gix_parts.specs.Object.{Objects}
 use Rattle.gix_parts.specs.TreeItems.{TreeEntry, is_tree}
 use Rattle.gix_traverse.specs.declared.tree.breadthfirst.Error.{Error}
 use Rattle.gix_traverse.specs.declared.tree.breadthfirst.Error.TheVariants as error
 use Rattle.gix_traverse.specs.declared.tree.recorder.Location.{Location}
 use Rattle.gix_traverse.specs.declared.tree.recorder.Location.TheVariants.{Path}
+use Rattle.gix_traverse.specs.History.Reach as reach
 use Rattle.gix_traverse.specs.Trees.Delegate.{Action, Call, Run}
-use Rattle.gix_traverse.specs.Trees.Visits.{Items, Place, Visit, visit, outcome, visit_call_of, Ending, Whole, Broken, Failed, IsUnfailed, is_broken, Task}
+use Rattle.gix_traverse.specs.Trees.Visits.{Items, Visit, visit_call_of, visit_call, Ending, Whole, Broken, Failed, IsUnfailed, is_broken}
 use Rattle.gix_traverse.specs.Trees.Paths.{IsName, HaveNames, joined, unknown_root, known_root}
 use Rattle.gix_traverse.specs.Trees.Script as script
-use Rattle.gix_traverse.specs.Trees.Script.{Step, items_or_none, entries_in, entries_at, level_calls_behind, depth_calls_behind, level_calls, depth_calls, LevelScript, IsLevelScript, DepthScript, IsDepthScript}
+use Rattle.gix_traverse.specs.Trees.Script.{items_or_none, entries_in, entries_at, IsLevelScript, DepthScript, IsDepthScript}
 use Rattle.gix_traverse.specs.Orders.Preorder.{IsPreorder}
 use Rattle.gix_traverse.specs.Trees.Tracked.{Tracked, Tracks, fresh_recorder}
 use Rattle.gix_traverse.specs.Trees.Recorder.{Record, Recorded, fresh, recorded_all, record_of, IsRecorderAnswer, Records}
 use Rattle.gix_traverse.specs.Trees.Walk.{trees_of, LookUpFails, level_answer, depth_answer, BreadthFirst, DepthFirst}
-use Rattle.gix_traverse.specs.Trees.Laws.{Shown, shown_by, GoOn, LevelsAreRecorded, DepthIsRecorded, BothRecordTheSame, LevelsAreInOrder, DepthIsInOrder, SoundLevelsSucceed, SoundDepthSucceeds, OkWithoutBreak}
+use Rattle.gix_traverse.specs.Trees.Laws.{LevelsAreRecorded, DepthIsRecorded, BothRecordTheSame, LevelsAreInOrder, DepthIsInOrder, MetLevelsSucceed, MetDepthSucceeds, SoundLevelsSucceed, SoundDepthSucceeds, LevelsEndAtBreak, DepthEndsAtBreak, OkWithoutBreak}
 use Rattle.gix_traverse.proofs.Trees.Levels.Script.{level_order}
 use Rattle.gix_traverse.proofs.Trees.Depth.Script.{preorder}
 use Rattle.gix_traverse.proofs.Trees.Recorder.Records.{fresh_level, fresh_depth}
-use Rattle.gix_traverse.proofs.Trees.Theorems.Sound.{sound_level_script, sound_depth_script}
-use Rattle.gix_traverse.proofs.Trees.Theorems.Breaks.{ok_without_break}
-use Rattle.gix_traverse.proofs.Trees.Theorems.SameRecords.{both_show, unbroken}
+use Rattle.gix_traverse.proofs.Trees.Theorems.Called.{level_called, depth_called}
+use Rattle.gix_traverse.proofs.Trees.Theorems.Met.{met_level_script, met_depth_script}
+use Rattle.gix_traverse.proofs.Trees.Theorems.Sound.{run_only, sound_level_visits, sound_depth_visits}
+use Rattle.gix_traverse.proofs.Trees.Theorems.Breaks.{none_breaks, root_none_breaks, levels_end_broken, depth_end_broken, ok_without_break}
+use Rattle.gix_traverse.proofs.Trees.Theorems.SameRecords.{Shown, shown_by, GoOn, both_show, unbroken}
 
 -- a run of a recorder is its function, and each visit was answered to go on
 run_records : (location : Option Location) (old : Recorded) (calls : List Call) (new : Recorded) → Run (Records location) old calls new → new ≡ recorded_all location old calls
@@ -39,52 +41,13 @@ run_answers : (location : Option Location) (old : Recorded) (calls : List Call) 
 run_answers location old [] new h = tt
 run_answers location old (call ∷ calls) new h = (h.1.0, run_answers location h.0 calls new h.2)
 
-answers_right : (a b : List Call) → AllByRecursion IsRecorderAnswer (a ++ b) → AllByRecursion IsRecorderAnswer b
-answers_right [] b h = h
-answers_right (c ∷ a) b h = answers_right a b h.1
-
-answers_left : (a b : List Call) → AllByRecursion IsRecorderAnswer (a ++ b) → AllByRecursion IsRecorderAnswer a
-answers_left [] b h = tt
-answers_left (c ∷ a) b h = (h.0, answers_left a b h.1)
-
 of_answer : (t : Bool) (e : TreeEntry) (a : Action) → IsRecorderAnswer (visit_call_of t e a) → a ≡ Continue true
 of_answer true e a h = h
 of_answer false e a h = h
 
-go_on_more : (ws vs : List Visit) → GoOn ws → GoOn vs → GoOn (ws ++ vs)
-go_on_more [] vs g h = h
-go_on_more (w ∷ ws) vs g h = (g.0, go_on_more ws vs g.1 h)
-
-module _ (trees : ObjectId → Option Items) (fails : ObjectId → ExistingError → Type 0) where
-  level_goes_on : {S : Type 0} {next : S → Option Task} {after : S → Step → S} {s : S} {calls : List Call} {visits : List Visit} {end : Ending} → LevelScript trees fails next after s calls visits end → AllByRecursion IsRecorderAnswer calls → GoOn visits
-  level_goes_on (script.whole e) h = tt
-  level_goes_on (script.leaves {p = p} {e = e} {a = a} is o rest) h = (of_answer (is_tree e.mode) e a h.1.0, level_goes_on rest (answers_right (level_calls_behind e.name (outcome (visit p e a))) _ h.1.1))
-  level_goes_on (script.enters {p = p} {e = e} {a = a} is o rest) h = (of_answer (is_tree e.mode) e a h.1.0, level_goes_on rest (answers_right (level_calls_behind e.name (outcome (visit p e a))) _ h.1.1))
-  level_goes_on (script.breaks {e = e} {a = a} is o) h = (of_answer (is_tree e.mode) e a h.1.0, tt)
-  level_goes_on (script.cycles {e = e} {a = a} is o) h = (of_answer (is_tree e.mode) e a h.1.0, tt)
-  level_goes_on (script.turn is found rest) h = level_goes_on rest h.1
-  level_goes_on (script.not_found is why) h = tt
-  level_goes_on (script.fault is) h = tt
-  level_goes_on (script.no_memory_in_turn is) h = tt
-  level_goes_on (script.no_memory_for_descent a is o) h = tt
-  level_goes_on (script.refused a is made) h = tt
-
-  depth_goes_on : {p : Place} {items : Items} {calls : List Call} {visits : List Visit} {end : Ending} → DepthScript trees fails p items calls visits end → AllByRecursion IsRecorderAnswer calls → GoOn visits
-  depth_goes_on script.whole h = tt
-  depth_goes_on (script.leaves {p = p} {e = e} {a = a} o rest) h = (of_answer (is_tree e.mode) e a h.1.0, depth_goes_on rest (answers_right (depth_calls_behind e.name (is_tree e.mode) (outcome (visit p e a))) _ h.1.1))
-  depth_goes_on (script.enters {p = p} {e = e} {a = a} {calls = calls} {visits = visits} {others = others} o is sub rest) h =
-      let g = answers_right (depth_calls_behind e.name (is_tree e.mode) (outcome (visit p e a))) _ h.1.1 in
-      (of_answer (is_tree e.mode) e a h.1.0, go_on_more visits others (depth_goes_on sub (answers_left calls _ g.1)) (depth_goes_on rest (answers_right calls _ g.1).1))
-  depth_goes_on (script.ends_inside {p = p} {e = e} {a = a} o is sub broken) h =
-      let g = answers_right (depth_calls_behind e.name (is_tree e.mode) (outcome (visit p e a))) _ h.1.1 in
-      (of_answer (is_tree e.mode) e a h.1.0, depth_goes_on sub g.1)
-  depth_goes_on (script.not_found {e = e} {a = a} o why) h = (of_answer (is_tree e.mode) e a h.1.0, tt)
-  depth_goes_on (script.breaks {e = e} {a = a} o) h = (of_answer (is_tree e.mode) e a h.1.0, tt)
-  depth_goes_on (script.cycles {e = e} {a = a} o) h = (of_answer (is_tree e.mode) e a h.1.0, tt)
-  depth_goes_on script.fault h = tt
-  depth_goes_on (script.no_memory_at_look_up {e = e} {a = a} o) h = (of_answer (is_tree e.mode) e a h.1.0, tt)
-  depth_goes_on (script.no_memory_for_descent a o) h = tt
-  depth_goes_on (script.refused a made) h = tt
+go_on : (visits : List Visit) → AllByRecursion (λ v. IsRecorderAnswer (visit_call v)) visits → GoOn visits
+go_on [] h = tt
+go_on (v ∷ visits) h = (of_answer (is_tree v.entry.mode) v.entry v.answer h.0, go_on visits h.1)
 
 level_memory : (answer : Result (Unit {0}) Error) (end : Ending) → answer ≡ level_answer end → answer ≢ Err error.Memory → end ≢ Failed error.Memory
 level_memory answer end is ne e = ne (is ∙ ap level_answer e)
@@ -142,7 +105,7 @@ module _ (objects : Objects) (faulty : ObjectId → Type 0) where
 
   deep : (root : ObjectId) (items : Items) {calls : List Call} {visits : List Visit} (end : Ending) → trees_of objects root ≡ Some items → IsUnfailed end → IsDepthScript (trees_of objects) (LookUpFails objects faulty) root calls visits end → AllByRecursion IsRecorderAnswer calls → Deep root items visits
   deep root items end is w (script.found {items = found} {calls = calls} {visits = visits} there walk) h =
-      let g = depth_goes_on (trees_of objects) (LookUpFails objects faulty) walk h.1 in
+      let g = go_on visits (depth_called (trees_of objects) (LookUpFails objects faulty) IsRecorderAnswer walk h.1) in
       let b = unbroken (entries_at (trees_of objects)) (preorder (trees_of objects) (LookUpFails objects faulty) walk w) g in
       let same : found ≡ items = cc in
       record {
@@ -160,7 +123,7 @@ module _ (objects : Objects) (faulty : ObjectId → Type 0) where
       let N = LookUpFails objects faulty in
       let whole : levels.end ≡ Whole = level_ok levels.end levels.answered in
       let level : IsLevelScript T N unknown_root items levels.calls levels.visits Whole = subst (λ l. IsLevelScript T N unknown_root items levels.calls levels.visits l) whole levels.script in
-      let g = level_goes_on T N levels.script (run_answers (Some Path) fresh levels.calls first levels.run) in
+      let g = go_on levels.visits (level_called T N IsRecorderAnswer levels.script (run_answers (Some Path) fresh levels.calls first levels.run)) in
       let d = deep root items depth.end is (depth_ok depth.end depth.answered) depth.script (run_answers (Some Path) fresh depth.calls second depth.run) in
       let same : IsPermutation (map shown_by levels.visits) (map shown_by depth.visits) = both_show T N root items is level d.walked g d.goes_on in
       let named : HaveNames depth.visits = named_shown depth.visits (recursion_from_All (λ x. IsName x.entry.name) (map shown_by depth.visits)
@@ -203,11 +166,45 @@ module _ {V : Type 0} (objects : Objects) (faulty : ObjectId → Type 0) (steps 
   pub depth_is_in_order : DepthIsInOrder objects faulty steps
   depth_is_in_order root old new answer walk w = depth_order root walk.script w
 
+  pub met_levels_succeed : MetLevelsSucceed objects faulty steps
+  met_levels_succeed root old new answer walk whole enter ne = go walk.end refl
+    where
+      go : (end : Ending) → walk.end ≡ end → IsUnfailed walk.end
+      go Broken is = subst (λ l. IsUnfailed l) (sym is) tt
+      go Whole is = subst (λ l. IsUnfailed l) (sym is) tt
+      go (Failed why) is =
+          let none = none_breaks (trees_of objects) (LookUpFails objects faulty) walk.script (λ e. cc) in
+          met_level_script (trees_of objects) (LookUpFails objects faulty) root walk.script (whole none) (enter none) (level_memory answer walk.end walk.answered ne)
+
+  pub met_depth_succeeds : MetDepthSucceeds objects faulty steps
+  met_depth_succeeds root old new answer walk whole enter ne = go walk.end refl
+    where
+      go : (end : Ending) → walk.end ≡ end → IsUnfailed walk.end
+      go Broken is = subst (λ l. IsUnfailed l) (sym is) tt
+      go Whole is = subst (λ l. IsUnfailed l) (sym is) tt
+      go (Failed why) is =
+          let none = root_none_breaks (trees_of objects) (LookUpFails objects faulty) walk.script (λ e. cc) in
+          met_depth_script (trees_of objects) (LookUpFails objects faulty) root walk.script (whole none) (enter none) (depth_memory answer walk.end walk.answered ne)
+
   pub sound_levels_succeed : SoundLevelsSucceed objects faulty steps
-  sound_levels_succeed root old new answer walk w sound ne = sound_level_script (trees_of objects) (LookUpFails objects faulty) root sound w walk.script (level_memory answer walk.end walk.answered ne)
+  sound_levels_succeed root old new answer walk into goes w sound ne =
+      met_levels_succeed root old new answer walk (λ none. w)
+      (λ none. sound_level_visits (trees_of objects) (LookUpFails objects faulty) into root sound walk.script (run_only steps into old walk.calls new goes walk.run)) ne
 
   pub sound_depth_succeeds : SoundDepthSucceeds objects faulty steps
-  sound_depth_succeeds root old new answer walk sound ne = sound_depth_script (trees_of objects) (LookUpFails objects faulty) root sound walk.script (depth_memory answer walk.end walk.answered ne)
+  sound_depth_succeeds root old new answer walk into goes sound ne =
+      met_depth_succeeds root old new answer walk (λ none. sound.whole root (reach.start (0, omega arith, refl)))
+      (λ none. sound_depth_visits (trees_of objects) (LookUpFails objects faulty) into root sound walk.script (run_only steps into old walk.calls new goes walk.run)) ne
+
+  pub levels_end_at_break : LevelsEndAtBreak objects faulty steps
+  levels_end_at_break root old new answer walk h =
+      let ends = levels_end_broken (trees_of objects) (LookUpFails objects faulty) walk.script h in
+      (ends.0, walk.answered ∙ ap level_answer ends.0, ends.1)
+
+  pub depth_ends_at_break : DepthEndsAtBreak objects faulty steps
+  depth_ends_at_break root old new answer walk h =
+      let ends = depth_end_broken (trees_of objects) (LookUpFails objects faulty) walk.script h in
+      (ends.0, walk.answered ∙ ap depth_answer ends.0, ends.1)
 
   pub levels_ok_without_break : OkWithoutBreak objects faulty steps
   levels_ok_without_break root old new answer walk w = ok_without_break (trees_of objects) (LookUpFails objects faulty) answer walk.script walk.answered w

@@ -1,9 +1,10 @@
 -- Both walks of trees show the same.
-use Rattle.std.proofs.Common.{◌≡◌, ℕ, Bool, true, false, List, [], ◌∷◌, ◌++◌, map, Option, Some, None, Ok, Err, refl, sym, ap, ◌∙◌, subst, append_assoc}
+use Rattle.std.proofs.Common.{◌≡◌, ℕ, Bool, true, false, List, [], ◌∷◌, ◌++◌, map, Option, Some, Ok, Err, refl, sym, ap, ◌∙◌, subst, append_assoc}
 use Rattle.std.proofs.lemmas.List.{append-nil, map-append}
 use Rattle.std.proofs.lemmas.List.Sorted.{IsPermutation-refl, IsPermutation-cons, IsPermutation-trans, IsPermutation-sym, IsPermutation-append_comm}
 use Rattle.std.specs.List.Sorted.{IsPermutation}
 use Rattle.std.specs.declared.ops.ControlFlow.TheVariants.{Continue, Break}
+use Rattle.std.specs.List.{AllByRecursion}
 use Rattle.gix_parts.specs.declared.hash.ObjectId.{ObjectId}
 use Rattle.gix_parts.specs.declared.object.find.existing_iter.Error.{Error as ExistingError}
 use Rattle.gix_parts.specs.TreeItems.{TreeEntry, is_tree}
@@ -11,13 +12,26 @@ use Rattle.gix_traverse.specs.Trees.Delegate.{Action, Call}
 use Rattle.gix_traverse.specs.Trees.Visits.{Items, Place, Visit, visit, inside, Leaves, Enters, Breaks, outcome_of, outcome, Ending, Whole, Task, Turn, Show, Fault, shows}
 use Rattle.gix_traverse.specs.Trees.Paths.{unknown_root, known_root}
 use Rattle.gix_traverse.specs.Trees.Script as script
-use Rattle.gix_traverse.specs.Trees.Script.{Step, Entered, Visited, first_task, other_tasks, tasks_of, tasks_behind, tasks_after, items_or_none, entries_in, entries_at, LevelScript, LevelFrom, IsLevelScript, DepthScript, IsDepthScript}
+use Rattle.gix_traverse.specs.Trees.Script.{Step, Entered, Visited, tasks_of, tasks_behind, items_or_none, entries_in, entries_at, LevelScript, IsLevelScript, DepthScript, IsDepthScript}
 use Rattle.gix_traverse.specs.Orders.Preorder as order
 use Rattle.gix_traverse.specs.Orders.Preorder.{IsPreorder}
-use Rattle.gix_traverse.specs.Trees.Laws.{Shown, shown_by, GoOn}
+use Rattle.gix_traverse.proofs.Trees.Levels.Queue.{first_task, other_tasks, LevelFrom, split_front, no_front}
 use Rattle.gix_traverse.proofs.Trees.Levels.Script.{level_queue}
-use Rattle.gix_traverse.proofs.Trees.Recorder.Records.{split_front}
 use Rattle.gix_traverse.proofs.Trees.Depth.Script.{preorder}
+use Rattle.gix_traverse.proofs.Trees.All.{all_left, all_right}
+use Rattle.gix_traverse.proofs.Trees.Theorems.Met.{enters_tree}
+
+-- an entry and the names of the trees above it, as they are shown
+pub record Shown : Type 0 where
+  pub names : List (List ℕ)
+  pub entry : TreeEntry
+
+abbrev pub shown_by : Visit → Shown
+shown_by v = record { names = v.place.names; entry = v.entry }
+
+-- every visit was answered to go on, and into a tree
+abbrev pub GoOn : List Visit → Type 0
+GoOn visits = AllByRecursion (λ v. v.answer ≡ Continue true) visits
 
 abbrev at_names : List (List ℕ) → TreeEntry → Shown
 at_names names e = record { names = names; entry = e }
@@ -40,12 +54,6 @@ leaves_plain true true (Continue true) e o = cc
 leaves_plain true false (Continue true) e o = cc
 leaves_plain t known (Continue false) e o = cc
 leaves_plain t known (Break b) e o = cc
-
-enters_tree : (t known : Bool) (a : Action) → outcome_of t a known ≡ Enters → t ≡ true
-enters_tree true known a o = refl
-enters_tree false known (Continue true) o = cc
-enters_tree false known (Continue false) o = cc
-enters_tree false known (Break b) o = cc
 
 no_break : (t known : Bool) (a : Action) → a ≡ Continue true → outcome_of t a known ≡ Breaks → ⊥
 no_break true true (Continue true) e o = cc
@@ -78,21 +86,13 @@ module _ (entries : ObjectId → List TreeEntry) where
       let r = parts xs ys h in
       record { front = x ∷ (ws ++ r.front); back = r.back; is = ap (λ l. x ∷ (ws ++ l)) r.is ∙ ap (λ l. x ∷ l) (sym (append_assoc ws r.front r.back)); of_front = tree f w r.of_front; of_back = r.of_back }
 
-  go_left : (ws vs : List Visit) → GoOn (ws ++ vs) → GoOn ws
-  go_left [] vs h = tt
-  go_left (w ∷ ws) vs h = (h.0, go_left ws vs h.1)
-
-  go_right : (ws vs : List Visit) → GoOn (ws ++ vs) → GoOn vs
-  go_right [] vs h = h
-  go_right (w ∷ ws) vs h = go_right ws vs h.1
-
   -- a preorder unfolds the tree
   preorder_unfolds : {p : Place} {es : List TreeEntry} {vs : List Visit} {broken : Bool} → IsPreorder entries p es vs broken → broken ≡ false → GoOn vs → Unfolds entries (map (at_names p.names) es) (map shown_by vs)
   preorder_unfolds order.none b h = none
   preorder_unfolds (order.leaves {e = e} o rest) b h = plain (leaves_plain (is_tree e.mode) _ _ h.0 o) (preorder_unfolds rest b h.1)
   preorder_unfolds (order.enters {p = p} {e = e} {es = es} {ws = ws} {vs = vs} o sub rest) b h =
       subst (λ l. Unfolds entries (map (at_names p.names) (e ∷ es)) (at_names p.names e ∷ l)) (sym (map-append shown_by ws vs))
-      (tree (enters_tree (is_tree e.mode) _ _ o) (preorder_unfolds sub refl (go_left ws vs h.1)) (preorder_unfolds rest b (go_right ws vs h.1)))
+      (tree (enters_tree (is_tree e.mode) _ _ o).0 (preorder_unfolds sub refl (all_left (λ v. v.answer ≡ Continue true) ws vs h.1)) (preorder_unfolds rest b (all_right (λ v. v.answer ≡ Continue true) ws vs h.1)))
   preorder_unfolds (order.broken_inside o sub) b h = cc
   preorder_unfolds (order.breaks o) b h = cc
 
@@ -100,7 +100,7 @@ module _ (entries : ObjectId → List TreeEntry) where
   pub unbroken : {p : Place} {es : List TreeEntry} {vs : List Visit} {broken : Bool} → IsPreorder entries p es vs broken → GoOn vs → broken ≡ false
   unbroken order.none h = refl
   unbroken (order.leaves o rest) h = unbroken rest h.1
-  unbroken (order.enters {ws = ws} {vs = vs} o sub rest) h = unbroken rest (go_right ws vs h.1)
+  unbroken (order.enters {ws = ws} {vs = vs} o sub rest) h = unbroken rest (all_right (λ v. v.answer ≡ Continue true) ws vs h.1)
   unbroken (order.broken_inside o sub) h = unbroken sub h.1
   unbroken (order.breaks {p = p} {e = e} {a = a} o) h = absurd (no_break (is_tree e.mode) _ a h.0 o)
 
@@ -123,10 +123,6 @@ unfolding names_in
 names_in-shows p [] = refl
 names_in-shows p (Ok e ∷ items) = ap (λ l. at_names p.names e ∷ l) (names_in-shows p items)
 names_in-shows p (Err why ∷ items) = refl
-
-no_front : (tasks : List Task) → first_task tasks ≡ None → tasks ≡ []
-no_front [] e = refl
-no_front (u ∷ tasks) e = cc
 
 module _ (trees : ObjectId → Option Items) (fails : ObjectId → ExistingError → Type 0) where
   -- what the tasks unfold to, in some order
@@ -158,7 +154,7 @@ module _ (trees : ObjectId → Option Items) (fails : ObjectId → ExistingError
       let r = parts (entries_at trees) (names_in tasks) (under x (entries_at trees e.id)) u in
       record {
         all = x ∷ (r.back ++ r.front);
-        unfolds = tree (enters_tree (is_tree e.mode) _ a o) r.of_back r.of_front;
+        unfolds = tree (enters_tree (is_tree e.mode) _ a o).0 r.of_back r.of_front;
         moved = IsPermutation-cons x (r.back ++ r.front) (map shown_by vs)
             (IsPermutation-trans (r.back ++ r.front) (r.front ++ r.back) (map shown_by vs) (IsPermutation-append_comm r.back r.front) (subst (λ l. IsPermutation l (map shown_by vs)) {y = r.front ++ r.back} r.is g.moved));
       }

@@ -14,10 +14,10 @@ use Rattle.gix_traverse.specs.Trees.Inside.ShowsEntry.{ShowsEntry, ShowsTree}
 use Rattle.gix_traverse.specs.declared.tree.depthfirst.Stop.TheVariants as stop
 use Rattle.gix_traverse.specs.Trees.Inside.ShowsBelow as below
 use Rattle.gix_traverse.specs.Trees.Inside.ShowsBelow.{ShowsUpTo}
-use Rattle.gix_traverse.specs.Trees.Inside.Stack.{Above}
 use Rattle.gix_traverse.specs.Trees.Measure.{room, widest, steps_of}
 use Rattle.gix_traverse.specs.Trees.Walk.{trees_of}
 use Rattle.gix_traverse.specs.Trees.Visits.{Items}
+use Rattle.gix_traverse.proofs.Trees.Depth.Stack.{Above}
 use Rattle.gix_traverse.proofs.Trees.Work.Measure.{some_steps, less_room, room_less, wide_enough, stored_tree, enters_new}
 
 module _ (objects : Objects) where

@@ -1,15 +1,11 @@
 -- Why the walks of trees end.
-use Rattle.std.proofs.Common.{◌≡◌, ℕ, zero, suc, ◌+◌, ◌*◌, ◌<◌, ◌≤◌, max, Bool, true, false, ◌||◌, List, [], ◌∷◌, length, Option, Some, None, Ok, Err, refl, sym, ap, ◌∙◌, subst, arith}
+use Rattle.std.proofs.Common.{◌≡◌, ℕ, zero, suc, ◌+◌, ◌*◌, ◌<◌, ◌≤◌, max, Bool, true, false, ◌||◌, List, [], ◌∷◌, length, Option, Some, None, Ok, Err, refl, sym, ◌∙◌, subst, arith}
 use Rattle.std.proofs.Math.Nat.{mul-le-mul_left, mul-le-mul_right}
 use Rattle.std.specs.Prelude.{if◌then◌else◌, is_some}
-use Rattle.std.specs.Ordering.{is_eq, nat_cmp}
-use Rattle.std.specs.Cmp.Lexicographic.{slice_cmp}
-use Rattle.std.specs.declared.cmp.Ordering.{Ordering}
-use Rattle.std.specs.declared.cmp.Ordering.TheVariants.{Less, Equal, Greater}
-use Rattle.std.specs.FinMap.{get, keys, contains_key-keys, slice_cmp-IsAntisymmetric, nat_cmp-IsAntisymmetric}
+use Rattle.std.specs.FinMap.{get, keys, contains_key-keys}
 use Rattle.std.specs.declared.ops.ControlFlow.TheVariants.{Continue, Break}
 use Rattle.gix_parts.specs.declared.hash.ObjectId.{ObjectId}
-use Rattle.gix_parts.specs.declared.hash.ObjectId.TheVariants as id
+use Rattle.gix_parts.proofs.Ids.Membership.{same_is}
 use Rattle.gix_parts.specs.Id.{is_same, is_among}
 use Rattle.gix_parts.specs.Object.{Object, Objects}
 use Rattle.gix_parts.specs.TreeItems.{TreeEntry, is_tree}
@@ -19,20 +15,8 @@ use Rattle.gix_traverse.specs.Trees.Script.{items_or_none, tasks_behind}
 use Rattle.gix_traverse.specs.Trees.Walk.{items_of_object, trees_of}
 use Rattle.gix_traverse.specs.Trees.Measure.{room, widest, steps_of, entry_work, work, WorkLessens}
 
-equal_of : (o : Ordering) → is_eq o ≡ true → o ≡ Equal
-equal_of Less e = cc
-equal_of Equal e = refl
-equal_of Greater e = cc
-
--- ids that compare as one are one
-pub same_id : (a b : ObjectId) → is_same a b ≡ true → a ≡ b
-same_id (id.Sha1 x) (id.Sha1 y) e = ap id.Sha1 (slice_cmp-IsAntisymmetric nat_cmp-IsAntisymmetric x y (equal_of (slice_cmp nat_cmp x y) e))
-same_id (id.Sha1 x) (id.Sha256 y) e = cc
-same_id (id.Sha256 x) (id.Sha1 y) e = cc
-same_id (id.Sha256 x) (id.Sha256 y) e = ap id.Sha256 (slice_cmp-IsAntisymmetric nat_cmp-IsAntisymmetric x y (equal_of (slice_cmp nat_cmp x y) e))
-
 turned : (a b : ObjectId) → is_same a b ≡ true → is_same b a ≡ true
-turned a b h = let e = same_id a b h in subst (λ x. is_same b x ≡ true) (sym e) (subst (λ x. is_same x b ≡ true) e h)
+turned a b h = let e = same_is a b h in subst (λ x. is_same b x ≡ true) (sym e) (subst (λ x. is_same x b ≡ true) e h)
 
 one_less : (b c : Bool) → (if b || c then 0 else 1) ≤ (if c then 0 else 1)
 one_less true true = omega arith
@@ -58,7 +42,7 @@ room_less i [] ids h g = cc
 room_less i (k ∷ stored) ids h g = go (is_same i k) refl (λ e. room_less i stored ids e g)
   where
     go : (b : Bool) → is_same i k ≡ b → (is_among i stored ≡ true → room stored (i ∷ ids) < room stored ids) → room (k ∷ stored) (i ∷ ids) < room (k ∷ stored) ids
-    go true e ih = none_or_one (is_same k i) (is_among k ids) _ _ (turned i k e) (subst (λ x. is_among x ids ≡ false) (same_id i k e) g) (room_no_more i stored ids)
+    go true e ih = none_or_one (is_same k i) (is_among k ids) _ _ (turned i k e) (subst (λ x. is_among x ids ≡ false) (same_is i k e) g) (room_no_more i stored ids)
     go false e ih =
         let later : is_among i stored ≡ true = subst (λ b. b || is_among i stored ≡ true) e h in
         omega (arith, one_less (is_same k i) (is_among k ids), ih later)
@@ -94,7 +78,7 @@ wide_enough trees [] i h = cc
 wide_enough trees (k ∷ stored) i h = go (is_same i k) refl (λ e. wide_enough trees stored i e)
   where
     go : (b : Bool) → is_same i k ≡ b → (is_among i stored ≡ true → length (items_or_none (trees i)) ≤ widest trees stored) → length (items_or_none (trees i)) ≤ widest trees (k ∷ stored)
-    go true e ih = subst (λ x. length (items_or_none (trees i)) ≤ max (length (items_or_none (trees x))) (widest trees stored)) (same_id i k e) (omega arith)
+    go true e ih = subst (λ x. length (items_or_none (trees i)) ≤ max (length (items_or_none (trees x))) (widest trees stored)) (same_is i k e) (omega arith)
     go false e ih =
         let later : is_among i stored ≡ true = subst (λ b. b || is_among i stored ≡ true) e h in
         omega (arith, ih later)

@@ -15,7 +15,7 @@ use Rattle.gix_traverse.specs.Trees.Inside.ShowsEntry.{visit_below}
 
 -- below trees of these ids
 module _ {V : Type 0} (steps : V → Call → V → Type 0) (ids : List ObjectId) where
-  -- the paths to come back by and to go into the entry's tree are told, where its id isn't known above the entry
+  -- the delegate queues the path to come back by and the path of the entry's tree, where no tree above the entry has its id
   pub data Descends (e : TreeEntry) (old : V) : V → Result (Unit {0}) Error → Type 0 where
     cycled : is_among e.id ids ≡ true → Descends e old old (Err (error.Cycle e.id))
     no_memory : is_among e.id ids ≡ false → Descends e old old (Err error.Memory)
@@ -28,7 +28,7 @@ module _ {V : Type 0} (steps : V → Call → V → Type 0) (ids : List ObjectId
     entered : {new : V} (a : Action) → outcome (visit_below ids e a) ≡ Enters → Run steps old (depth_calls (visit_below ids e a)) new → ShowsBelow e old new (Ok (Some (stop.Into e.id)))
     broke : {new : V} (a : Action) → outcome (visit_below ids e a) ≡ Breaks → Run steps old (depth_calls (visit_below ids e a)) new → ShowsBelow e old new (Ok (Some stop.Broken))
     cycled : {new : V} (a : Action) → outcome (visit_below ids e a) ≡ Cycles → Run steps old (depth_calls (visit_below ids e a)) new → ShowsBelow e old new (Err (error.Cycle e.id))
-    -- memory is wanting for the descent
+    -- memory ran out for the descent
     no_memory : {new : V} (a : Action) → outcome (visit_below ids e a) ≡ Enters → Run steps old (PushPath e.name ∷ visit_call (visit_below ids e a) ∷ PopPath ∷ []) new → ShowsBelow e old new (Err error.Memory)
     -- the delegate refused a call
     refused : {new : V} {made : List Call} (a : Action) → RefusedIn (depth_calls (visit_below ids e a)) made → Run steps old made new → ShowsBelow e old new (Err error.Memory)

@@ -29,7 +29,7 @@ module _ {V : Type 0} (steps : V → Call → V → Type 0) where
     entered : {new : V} (a : Action) → outcome (visit_below queue.known e a) ≡ Enters → Run steps old (level_calls (visit_below queue.known e a)) new → ShowsEntry e old queue new (queued queue e.id) (Ok tt)
     broke : {new : V} (a : Action) → outcome (visit_below queue.known e a) ≡ Breaks → Run steps old (level_calls (visit_below queue.known e a)) new → ShowsEntry e old queue new queue (Err error.Cancelled)
     cycled : {new : V} (a : Action) → outcome (visit_below queue.known e a) ≡ Cycles → Run steps old (level_calls (visit_below queue.known e a)) new → ShowsEntry e old queue new queue (Err (error.Cycle e.id))
-    -- memory is wanting for the queue
+    -- memory ran out for the queue
     no_memory : {new : V} {left : LevelQueue} (a : Action) → outcome (visit_below queue.known e a) ≡ Enters → Run steps old (PushPath e.name ∷ visit_call (visit_below queue.known e a) ∷ []) new → ShowsEntry e old queue new left (Err error.Memory)
     -- the delegate refused a call
     refused : {new : V} {made : List Call} {left : LevelQueue} (a : Action) → RefusedIn (level_calls (visit_below queue.known e a)) made → Run steps old made new → ShowsEntry e old queue new left (Err error.Memory)

@@ -16,10 +16,6 @@ use Rattle.gix_traverse.specs.Trees.Visits.{Items}
 abbrev pub IsWithin : Tree → Type 0
 IsWithin t = t.next ≤ length t.bytes.items
 
-abbrev pub AreWithin : List Tree → Type 0
-AreWithin [] = Unit {0}
-AreWithin (t ∷ trees) = IsWithin t × AreWithin trees
-
 -- what is still to be read of a tree
 abbrev pub items_at : Tree → Items
 items_at t = tree_items (kind_of t.oid) (drop t.next t.bytes.items)
@@ -28,15 +24,6 @@ items_at t = tree_items (kind_of t.oid) (drop t.next t.bytes.items)
 abbrev pub ids_down : List Tree → List ObjectId
 ids_down [] = []
 ids_down (t ∷ trees) = t.oid ∷ ids_down trees
-
--- what is left of a tree above: the known ids down to it, and its items behind the entry that was gone into
-abbrev pub Above : Type 0
-Above = List ObjectId × Items
-
--- what is left of trees, the nearest first
-abbrev pub left_above : List Tree → List Above
-left_above [] = []
-left_above (t ∷ trees) = (ids_down (t ∷ trees), items_at t) ∷ left_above trees
 
 -- a look-up gave the tree, from its first entry on, or failed
 abbrev pub FoundTree : Objects → (ObjectId → Type 0) → ObjectId → Result Tree ExistingError → Type 0

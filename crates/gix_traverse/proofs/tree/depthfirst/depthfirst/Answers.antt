@@ -3,7 +3,8 @@ use Rattle.gix_traverse.specs.declared.tree.breadthfirst.Error.TheVariants as er
 use Rattle.gix_traverse.specs.declared.tree.depthfirst.Stop.TheVariants as stop
 use Rattle.gix_traverse.specs.Trees.Inside.ShowsBelow.{ShowsUpTo}
 use Rattle.gix_traverse.specs.Trees.Errors.{error_of_find}
-use Rattle.gix_traverse.specs.Trees.Inside.Stack.{AreWithin, ids_down, items_at}
+use Rattle.gix_traverse.specs.Trees.Inside.Stack.{ids_down, items_at}
+use Rattle.gix_traverse.proofs.Trees.Depth.Stack.{AreWithin}
 use Rattle.gix_traverse.proofs.Trees.Depth.Loop.{so_far_shown, so_far_into_fails, so_far_into_no_memory, so_far_whole, root_fails}
 use Rattle.gix_traverse.proofs.Trees.Depth.Turns.{stack_more, within_again, walk_again, walk_starts, walk_descends, walk_resumes, work_again, walk_descends_less, walk_resumes_less}
 use Rattle.gix_traverse.proofs.Trees.Shown.{failed_so}

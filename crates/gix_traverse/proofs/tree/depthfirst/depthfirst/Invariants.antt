@@ -1,5 +1,6 @@
 use Rattle.std.proofs.Common.{◌∷◌, reverse}
-use Rattle.gix_traverse.specs.Trees.Inside.Stack.{AreWithin, ids_down, items_at, left_above}
+use Rattle.gix_traverse.specs.Trees.Inside.Stack.{ids_down, items_at}
+use Rattle.gix_traverse.proofs.Trees.Depth.Stack.{AreWithin, left_above}
 use Rattle.gix_traverse.proofs.Trees.Depth.Loop.{DepthSoFar}
 use Rattle.gix_traverse.proofs.Trees.Work.Loops.{stack_work}
 use Rattle.gix_traverse.proofs.tree.depthfirst.depthfirst.Given as goal

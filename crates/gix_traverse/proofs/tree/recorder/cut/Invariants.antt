@@ -2,7 +2,7 @@ use Rattle.std.proofs.Common.{◌≡◌, ◌≤◌, length, take}
 use Rattle.gix_traverse.specs.Trees.Recorder.{without_name}
 use Rattle.gix_traverse.proofs.tree.recorder.cut.Given as goal
 
--- no `/` stands behind the first bytes that are left
+-- no `/` is behind the first bytes that are left
 abbrev pub invariant-loop-len : goal.invariant-loop-len
 invariant-loop-len l = record {
   within : l.len ≤ length l.path.items;
