@@ -13,8 +13,8 @@ use Rattle.gix_traverse.specs.declared.tree.breadthfirst.Error.TheVariants as er
 use Rattle.gix_traverse.specs.Trees.Delegate.{Call, VisitTree, Run}
 use Rattle.gix_traverse.specs.Trees.Visits.{Items, Visit, Broken, IsUnfailed, is_broken}
 use Rattle.gix_traverse.specs.Trees.Paths.{HaveNames, unknown_root, known_root}
-use Rattle.gix_traverse.specs.Orders.LevelOrder.{IsLevelOrder}
-use Rattle.gix_traverse.specs.Orders.Preorder.{IsPreorder}
+use Rattle.gix_traverse.specs.Orders.LevelOrder.{IsLevelOrder, IsLevelBeginning}
+use Rattle.gix_traverse.specs.Orders.Preorder.{IsPreorder, IsPreorderBeginning}
 use Rattle.gix_traverse.specs.Trees.Script.{entries_in, entries_at, level_calls, depth_calls}
 use Rattle.gix_traverse.specs.Trees.Recorder.{record_of}
 use Rattle.gix_traverse.specs.Trees.Tracked.{Tracked, Tracks, fresh_recorder}
@@ -113,6 +113,18 @@ module _ {V : Type 0} (objects : Objects) (faulty : ObjectId → Type 0) (steps 
   DepthIsInOrder =
       (root : ObjectId) (old new : V) (answer : Result (Unit {0}) Error) (walk : DepthFirst objects faulty steps root old new answer) →
       IsUnfailed walk.end → IsPreorder (entries_at (trees_of objects)) (known_root root) (entries_at (trees_of objects) root) walk.visits (is_broken walk.end)
+
+  -- Whatever a walk by levels answers, its visits are a beginning of level order.
+  abbrev pub LevelsBeginInOrder : Type 0
+  LevelsBeginInOrder =
+      (root : Items) (old new : V) (answer : Result (Unit {0}) Error) (walk : BreadthFirst objects faulty steps root old new answer) →
+      IsLevelBeginning (entries_at (trees_of objects)) unknown_root (entries_in root) walk.visits
+
+  -- Whatever a walk in depth answers, its visits are a beginning of preorder.
+  abbrev pub DepthBeginsInOrder : Type 0
+  DepthBeginsInOrder =
+      (root : ObjectId) (old new : V) (answer : Result (Unit {0}) Error) (walk : DepthFirst objects faulty steps root old new answer) →
+      IsPreorderBeginning (entries_at (trees_of objects)) (known_root root) (entries_at (trees_of objects) root) walk.visits
 
   -- A walk by levels fails only for memory, where what is read of the root is whole, each tree that its visits go into is stored
   -- and reads whole, and no tree on the way down to such a tree has its id. Of a walk that a `Break` ends nothing is asked.

@@ -1,6 +1,6 @@
 //! Laws of the walks of trees.
 ghost use Rattle.gix_traverse.specs.Trees.Measure.{WorkLessens};
-ghost use Rattle.gix_traverse.specs.Trees.Laws.{LevelsAreRecorded, DepthIsRecorded, BothRecordTheSame, LevelsAreInOrder, DepthIsInOrder, MetLevelsSucceed, MetDepthSucceeds, SoundLevelsSucceed, SoundDepthSucceeds, LevelsEndAtBreak, DepthEndsAtBreak, OkWithoutBreak};
+ghost use Rattle.gix_traverse.specs.Trees.Laws.{LevelsAreRecorded, DepthIsRecorded, BothRecordTheSame, LevelsAreInOrder, DepthIsInOrder, LevelsBeginInOrder, DepthBeginsInOrder, MetLevelsSucceed, MetDepthSucceeds, SoundLevelsSucceed, SoundDepthSucceeds, LevelsEndAtBreak, DepthEndsAtBreak, OkWithoutBreak};
 
 use crate::tree::Visit;
 use gix_parts::object::find::Find;
@@ -13,6 +13,16 @@ pub fn levels_in_order<F: Find, V: Visit>(store: &F, _delegate: &V)
 /// A walk of `depthfirst` that doesn't fail makes its visits in preorder.
 pub fn depth_in_order<F: Find, V: Visit>(store: &F, _delegate: &V)
     ensures { DepthIsInOrder (F.objects store.now) (F.faulty store.now) V.steps }
+{}
+
+/// Whatever `breadthfirst` answers, its visits are a beginning of level order.
+pub fn levels_begin_in_order<F: Find, V: Visit>(store: &F, _delegate: &V)
+    ensures { LevelsBeginInOrder (F.objects store.now) (F.faulty store.now) V.steps }
+{}
+
+/// Whatever `depthfirst` answers, its visits are a beginning of preorder.
+pub fn depth_begins_in_order<F: Find, V: Visit>(store: &F, _delegate: &V)
+    ensures { DepthBeginsInOrder (F.objects store.now) (F.faulty store.now) V.steps }
 {}
 
 /// A fresh recorder that followed `breadthfirst` holds one record for each visit, with its path.
