@@ -12,6 +12,13 @@ UnlessBroken Enters visits rest = rest
 UnlessBroken Cycles visits rest = rest
 UnlessBroken Breaks visits rest = visits ≡ []
 
+-- behind a visit that ends the walk no visit follows, and else as is said
+abbrev pub UnlessEnded : Outcome → List Visit → Type 0 → Type 0
+UnlessEnded Leaves visits rest = rest
+UnlessEnded Enters visits rest = rest
+UnlessEnded Cycles visits rest = visits ≡ []
+UnlessEnded Breaks visits rest = visits ≡ []
+
 module _ (entries : ObjectId → List TreeEntry) where
   abbrev pub entries_behind : Place → TreeEntry → Outcome → List (Place × TreeEntry)
   entries_behind p e Leaves = []
@@ -38,3 +45,14 @@ module _ (entries : ObjectId → List TreeEntry) where
   -- the visits of a walk that shows tree after tree, the root's entries first
   abbrev pub IsLevelOrder : Place → List TreeEntry → List Visit → Type 0
   IsLevelOrder p root visits = FollowsInLevels p root [] visits
+
+  -- what may follow these visits in a walk that may fail: the same, up to where it ends
+  abbrev pub BeginsInLevels : Place → List TreeEntry → List Visit → List Visit → Type 0
+  BeginsInLevels p root done [] = Unit {0}
+  BeginsInLevels p root done (v ∷ visits) =
+      (slice_get (entries_by p root done) (length done) ≡ Some (v.place, v.entry))
+      × UnlessEnded (outcome v) visits (BeginsInLevels p root (done ++ v ∷ []) visits)
+
+  -- the visits are a beginning of such a walk's visits
+  abbrev pub IsLevelBeginning : Place → List TreeEntry → List Visit → Type 0
+  IsLevelBeginning p root visits = BeginsInLevels p root [] visits

@@ -13,8 +13,8 @@ use Rattle.gix_traverse.specs.declared.tree.breadthfirst.Error.TheVariants as er
 use Rattle.gix_traverse.specs.Trees.Delegate.{Call, VisitTree, Run}
 use Rattle.gix_traverse.specs.Trees.Visits.{Items, Visit, Broken, IsUnfailed, is_broken}
 use Rattle.gix_traverse.specs.Trees.Paths.{HaveNames, unknown_root, known_root}
-use Rattle.gix_traverse.specs.Orders.LevelOrder.{IsLevelOrder}
-use Rattle.gix_traverse.specs.Orders.Preorder.{IsPreorder}
+use Rattle.gix_traverse.specs.Orders.LevelOrder.{IsLevelOrder, IsLevelBeginning}
+use Rattle.gix_traverse.specs.Orders.Preorder.{IsPreorder, IsPreorderBeginning}
 use Rattle.gix_traverse.specs.Trees.Script.{entries_in, entries_at, level_calls, depth_calls}
 use Rattle.gix_traverse.specs.Trees.Recorder.{record_of}
 use Rattle.gix_traverse.specs.Trees.Tracked.{Tracked, Tracks, fresh_recorder}
@@ -40,7 +40,7 @@ subtrees into [] = []
 subtrees into (e ∷ es) = if into e && is_tree e.mode then e.id ∷ subtrees into es else subtrees into es
 
 module _ (trees : ObjectId → Option Items) (fails : ObjectId → ExistingError → Type 0) where
-  -- a tree that is stored and reads whole, and of which no look-up fails
+  -- a tree that is stored and reads whole, and whose look-up can't fail
   pub record IsWholeTree (i : ObjectId) : Type 0 where
     pub stored : (items : Items) × (trees i ≡ Some items) × IsWhole items
     pub found : (why : ExistingError) → fails i why → ⊥
@@ -50,7 +50,7 @@ module _ (trees : ObjectId → Option Items) (fails : ObjectId → ExistingError
     pub whole : IsWholeTree v.entry.id
     pub free : is_among v.entry.id v.place.ids ≡ false
 
-  -- each tree that these visits go into is such a tree, and holds no entry of its own id on the way down to it
+  -- each tree that these visits go into is such a tree, and no tree on the way down to it has its id
   abbrev pub AllEnterWhole : List Visit → Type 0
   AllEnterWhole visits = AllByRecursion (λ v. GoesIn v → EntersWhole v) visits
 
@@ -114,8 +114,20 @@ module _ {V : Type 0} (objects : Objects) (faulty : ObjectId → Type 0) (steps 
       (root : ObjectId) (old new : V) (answer : Result (Unit {0}) Error) (walk : DepthFirst objects faulty steps root old new answer) →
       IsUnfailed walk.end → IsPreorder (entries_at (trees_of objects)) (known_root root) (entries_at (trees_of objects) root) walk.visits (is_broken walk.end)
 
-  -- A walk by levels fails only for memory, where what is read of the root is whole and each tree that its visits go into is
-  -- stored, reads whole and doesn't hold itself. Of a walk that a `Break` ends nothing is asked.
+  -- Whatever a walk by levels answers, its visits are a beginning of level order.
+  abbrev pub LevelsBeginInOrder : Type 0
+  LevelsBeginInOrder =
+      (root : Items) (old new : V) (answer : Result (Unit {0}) Error) (walk : BreadthFirst objects faulty steps root old new answer) →
+      IsLevelBeginning (entries_at (trees_of objects)) unknown_root (entries_in root) walk.visits
+
+  -- Whatever a walk in depth answers, its visits are a beginning of preorder.
+  abbrev pub DepthBeginsInOrder : Type 0
+  DepthBeginsInOrder =
+      (root : ObjectId) (old new : V) (answer : Result (Unit {0}) Error) (walk : DepthFirst objects faulty steps root old new answer) →
+      IsPreorderBeginning (entries_at (trees_of objects)) (known_root root) (entries_at (trees_of objects) root) walk.visits
+
+  -- A walk by levels fails only for memory, where what is read of the root is whole, each tree that its visits go into is stored
+  -- and reads whole, and no tree on the way down to such a tree has its id. Of a walk that a `Break` ends nothing is asked.
   abbrev pub MetLevelsSucceed : Type 0
   MetLevelsSucceed =
       (root : Items) (old new : V) (answer : Result (Unit {0}) Error) (walk : BreadthFirst objects faulty steps root old new answer) →
@@ -127,8 +139,9 @@ module _ {V : Type 0} (objects : Objects) (faulty : ObjectId → Type 0) (steps 
       (root : ObjectId) (old new : V) (answer : Result (Unit {0}) Error) (walk : DepthFirst objects faulty steps root old new answer) →
       (NoneBreaks walk.visits → IsWholeTree (trees_of objects) (LookUpFails objects faulty) root) → (NoneBreaks walk.visits → AllEnterWhole (trees_of objects) (LookUpFails objects faulty) walk.visits) → answer ≢ Err error.Memory → IsUnfailed walk.end
 
-  -- The same by premises on the delegate and the store alone: a walk by levels fails only for memory, where the trees that the delegate may go into
-  -- are stored, read whole and don't hold themselves. What it leaves out may be missing or broken, or hold itself.
+  -- The same by premises on the delegate and the store alone: a walk by levels fails only for memory, where the trees that the
+  -- delegate may go into are stored, read whole and don't hold themselves. What it leaves out may be missing or broken, or hold
+  -- itself. Of a delegate that may go into each tree, `into` is true of all entries.
   abbrev pub SoundLevelsSucceed : Type 0
   SoundLevelsSucceed =
       (root : Items) (old new : V) (answer : Result (Unit {0}) Error) (walk : BreadthFirst objects faulty steps root old new answer)
@@ -140,7 +153,8 @@ module _ {V : Type 0} (objects : Objects) (faulty : ObjectId → Type 0) (steps 
       (root : ObjectId) (old new : V) (answer : Result (Unit {0}) Error) (walk : DepthFirst objects faulty steps root old new answer)
       (into : TreeEntry → Bool) → GoesOnlyInto steps old into → AreSound (trees_of objects) (LookUpFails objects faulty) into (root ∷ []) → answer ≢ Err error.Memory → IsUnfailed walk.end
 
-  -- A walk by levels in which a visit was answered `Break` ended at it: its calls are those up to it, and the answer is `Cancelled`.
+  -- A walk by levels in which a visit was answered `Break` ended there: its calls are the calls up to that visit, and the answer
+  -- is `Cancelled`.
   abbrev pub LevelsEndAtBreak : Type 0
   LevelsEndAtBreak =
       (root : Items) (old new : V) (answer : Result (Unit {0}) Error) (walk : BreadthFirst objects faulty steps root old new answer) →

@@ -1,6 +1,6 @@
 //! Laws of the walks of trees.
 ghost use Rattle.gix_traverse.specs.Trees.Measure.{WorkLessens};
-ghost use Rattle.gix_traverse.specs.Trees.Laws.{LevelsAreRecorded, DepthIsRecorded, BothRecordTheSame, LevelsAreInOrder, DepthIsInOrder, MetLevelsSucceed, MetDepthSucceeds, SoundLevelsSucceed, SoundDepthSucceeds, LevelsEndAtBreak, DepthEndsAtBreak, OkWithoutBreak};
+ghost use Rattle.gix_traverse.specs.Trees.Laws.{LevelsAreRecorded, DepthIsRecorded, BothRecordTheSame, LevelsAreInOrder, DepthIsInOrder, LevelsBeginInOrder, DepthBeginsInOrder, MetLevelsSucceed, MetDepthSucceeds, SoundLevelsSucceed, SoundDepthSucceeds, LevelsEndAtBreak, DepthEndsAtBreak, OkWithoutBreak};
 
 use crate::tree::Visit;
 use gix_parts::object::find::Find;
@@ -13,6 +13,16 @@ pub fn levels_in_order<F: Find, V: Visit>(store: &F, _delegate: &V)
 /// A walk of `depthfirst` that doesn't fail makes its visits in preorder.
 pub fn depth_in_order<F: Find, V: Visit>(store: &F, _delegate: &V)
     ensures { DepthIsInOrder (F.objects store.now) (F.faulty store.now) V.steps }
+{}
+
+/// Whatever `breadthfirst` answers, its visits are a beginning of level order.
+pub fn levels_begin_in_order<F: Find, V: Visit>(store: &F, _delegate: &V)
+    ensures { LevelsBeginInOrder (F.objects store.now) (F.faulty store.now) V.steps }
+{}
+
+/// Whatever `depthfirst` answers, its visits are a beginning of preorder.
+pub fn depth_begins_in_order<F: Find, V: Visit>(store: &F, _delegate: &V)
+    ensures { DepthBeginsInOrder (F.objects store.now) (F.faulty store.now) V.steps }
 {}
 
 /// A fresh recorder that followed `breadthfirst` holds one record for each visit, with its path.
@@ -30,26 +40,26 @@ pub fn both_record_the_same<F: Find>(store: &F)
     ensures { BothRecordTheSame (F.objects store.now) (F.faulty store.now) }
 {}
 
-/// `breadthfirst` fails only for memory, where what is read of the root is whole, and each tree that its visits go into is
-/// stored, reads whole and doesn't hold itself. Of a walk that a `Break` ends nothing is asked.
+/// `breadthfirst` fails only for memory, where what is read of the root is whole, each tree that its visits go into is stored
+/// and reads whole, and no tree on the way down to such a tree has its id. Of a walk that a `Break` ends nothing is asked.
 pub fn met_levels_succeed<F: Find, V: Visit>(store: &F, _delegate: &V)
     ensures { MetLevelsSucceed (F.objects store.now) (F.faulty store.now) V.steps }
 {}
 
-/// `depthfirst` fails only for memory, where the root and each tree that its visits go into are stored, read whole and don't
-/// hold themselves. Of a walk that a `Break` ends nothing is asked.
+/// `depthfirst` fails only for memory, where the root and each tree that its visits go into are stored and read whole, and no
+/// tree on the way down to such a tree has its id. Of a walk that a `Break` ends nothing is asked.
 pub fn met_depth_succeeds<F: Find, V: Visit>(store: &F, _delegate: &V)
     ensures { MetDepthSucceeds (F.objects store.now) (F.faulty store.now) V.steps }
 {}
 
 /// `breadthfirst` fails only for memory, where all trees that the delegate may go into are stored, read whole and don't hold
-/// themselves. Those that it leaves out may be missing or broken.
+/// themselves. Trees that it leaves out may be missing or broken, or hold themselves.
 pub fn sound_levels_succeed<F: Find, V: Visit>(store: &F, _delegate: &V)
     ensures { SoundLevelsSucceed (F.objects store.now) (F.faulty store.now) V.steps }
 {}
 
 /// `depthfirst` fails only for memory, where all trees that the delegate may go into are stored, read whole and don't hold
-/// themselves. Those that it leaves out may be missing or broken.
+/// themselves. Trees that it leaves out may be missing or broken, or hold themselves.
 pub fn sound_depth_succeeds<F: Find, V: Visit>(store: &F, _delegate: &V)
     ensures { SoundDepthSucceeds (F.objects store.now) (F.faulty store.now) V.steps }
 {}

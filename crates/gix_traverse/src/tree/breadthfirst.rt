@@ -225,7 +225,7 @@ fn show_all<V: Visit>(
 /// - `Find`: a tree whose turn came can't be looked up.
 /// - `Cancelled`: the delegate answered `Break`.
 /// - `ObjectDecode`: behind the entries that were shown, the bytes of the root, or of a tree whose turn came, are no entry.
-/// - `Cycle`: the delegate answered `Continue(true)` at a tree whose id a tree above the entry has.
+/// - `Cycle`: the delegate answered `Continue(true)` at a tree, and a tree above the entry has the same id.
 /// - `Memory`: memory ran out, in the walk, in a look-up or in the delegate.
 ///
 /// After an error the delegate is as the calls up to there left it, and gets no further call. `state` can be used again.

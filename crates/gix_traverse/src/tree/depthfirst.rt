@@ -213,7 +213,7 @@ fn keep(above: &mut Vec<Tree>, tree: Tree) -> Result<(), AllocError>
 /// - `Find`: the root, or a tree at which the delegate answered `Continue(true)`, can't be looked up. The delegate got no call
 ///   where it is the root.
 /// - `ObjectDecode`: behind the entries that were shown, a tree's bytes are no entry.
-/// - `Cycle`: the delegate answered `Continue(true)` at a tree whose id a tree above the entry has, the root included.
+/// - `Cycle`: the delegate answered `Continue(true)` at a tree, and a tree above the entry, maybe the root, has the same id.
 /// - `Memory`: memory ran out, in the walk, in a look-up or in the delegate.
 ///
 /// `Cancelled` never comes. After an error the delegate is as the calls up to there left it, and gets no further call. `state`

@@ -6,7 +6,7 @@ use Rattle.gix_parts.specs.TreeItems.{TreeEntry}
 use Rattle.gix_traverse.specs.Trees.Delegate.{Action, Call, PopBack}
 use Rattle.gix_traverse.specs.Trees.Visits.{Items, Place, Visit, visit, inside, Leaves, Enters, outcome, Ending, Whole, Broken, Failed, IsUnfailed, is_broken}
 use Rattle.gix_traverse.specs.Orders.Preorder as order
-use Rattle.gix_traverse.specs.Orders.Preorder.{IsPreorder}
+use Rattle.gix_traverse.specs.Orders.Preorder.{IsPreorder, IsPreorderBeginning}
 use Rattle.gix_traverse.specs.Trees.Script.{depth_calls, DepthScript, whole, leaves, enters, ends_inside, not_found, breaks, cycles, fault, no_memory_at_look_up, no_memory_for_descent, refused, items_or_none, entries_in, entries_at}
 
 module _ (trees : ObjectId → Option Items) (fails : ObjectId → ExistingError → Type 0) where
@@ -67,3 +67,17 @@ module _ (trees : ObjectId → Option Items) (fails : ObjectId → ExistingError
   preorder (no_memory_at_look_up o) w = absurd w
   preorder (no_memory_for_descent a o) w = absurd w
   preorder (refused a made) w = absurd w
+
+  -- the visits of any walk in depth are a beginning of preorder
+  pub preorder_beginning : {p : Place} {items : Items} {calls : List Call} {visits : List Visit} {end : Ending} → DepthScript trees fails p items calls visits end → IsPreorderBeginning (entries_at trees) p (entries_in items) visits
+  preorder_beginning whole = order.ended
+  preorder_beginning (leaves o rest) = order.behind_entry o (preorder_beginning rest)
+  preorder_beginning (enters {p = p} {e = e} {visits = visits} o is sub rest) = order.behind_tree o (subst (λ l. IsPreorder (entries_at trees) (inside p e) (entries_in (items_or_none l)) visits false) (sym is) (preorder sub tt)) (preorder_beginning rest)
+  preorder_beginning (ends_inside {p = p} {e = e} {visits = visits} o is script broken) = order.in_tree o (subst (λ l. IsPreorderBeginning (entries_at trees) (inside p e) (entries_in (items_or_none l)) visits) (sym is) (preorder_beginning script))
+  preorder_beginning (not_found o why) = order.in_tree o order.ended
+  preorder_beginning (breaks o) = order.at_break o
+  preorder_beginning (cycles o) = order.at_cycle o
+  preorder_beginning fault = order.ended
+  preorder_beginning (no_memory_at_look_up o) = order.in_tree o order.ended
+  preorder_beginning (no_memory_for_descent a o) = order.ended
+  preorder_beginning (refused a made) = order.ended

@@ -9,7 +9,7 @@ use Rattle.gix_parts.specs.declared.object.find.existing_iter.Error.{Error as Ex
 use Rattle.gix_parts.specs.TreeItems.{TreeEntry}
 use Rattle.gix_traverse.specs.Trees.Delegate.{Action, Call}
 use Rattle.gix_traverse.specs.Trees.Visits.{Items, Place, Visit, visit, inside, Outcome, Leaves, Enters, Cycles, Breaks, outcome, Ending, IsUnfailed, Task, Turn, Show, Fault, shows}
-use Rattle.gix_traverse.specs.Orders.LevelOrder.{entries_behind, entries_of, entries_by, FollowsInLevels, IsLevelOrder}
+use Rattle.gix_traverse.specs.Orders.LevelOrder.{entries_behind, entries_of, entries_by, FollowsInLevels, IsLevelOrder, BeginsInLevels, IsLevelBeginning}
 use Rattle.gix_traverse.specs.Trees.Script.{items_or_none, entries_in, entries_at, tasks_behind, Step, Visited, one_step_more, tasks_of, next_of_steps, LevelScript, IsLevelScript, whole, leaves, enters, breaks, cycles, turn, not_found, fault, no_memory_in_turn, no_memory_for_descent, refused}
 use Rattle.gix_traverse.proofs.Trees.Levels.Queue.{first_task, other_tasks, tasks_after, LevelFrom, split_front, no_front}
 
@@ -172,3 +172,25 @@ module _ (trees : ObjectId → Option Items) (fails : ObjectId → ExistingError
   -- the visits of a walk by levels are in level order
   pub level_order : (p : Place) (root : Items) {calls : List Call} {visits : List Visit} {end : Ending} → IsLevelScript trees fails p root calls visits end → IsUnfailed end → IsLevelOrder (entries_at trees) p (entries_in root) visits
   level_order p root walk w = level_follows p (entries_in root) [] (level_queue trees fails p root walk) w (record { passed = []; many = refl; is = append-nil _ ∙ sym (shown_in-shows p root) })
+
+  level_begins : (p : Place) (root : List TreeEntry) (done : List Visit) {tasks : List Task} {calls : List Call} {visits : List Visit} {end : Ending} → LevelFrom trees fails tasks calls visits end → Seen trees p root done tasks → BeginsInLevels (entries_at trees) p root done visits
+  unfolding shown_in
+  level_begins p root done (whole e) h = tt
+  level_begins p root done (leaves {p = q} {e = x} {a = a} e o rest) h =
+      let g = seen_front trees (Show q x) e h in
+      (seen_next trees q x g, rw o (level_begins p root (done ++ visit q x a ∷ []) rest (seen_more trees q x a g)))
+  level_begins p root done (enters {p = q} {e = x} {a = a} e o rest) h =
+      let g = seen_front trees (Show q x) e h in
+      (seen_next trees q x g, rw o (level_begins p root (done ++ visit q x a ∷ []) rest (seen_more trees q x a g)))
+  level_begins p root done (breaks {p = q} {e = x} {a = a} e o) h = (seen_next trees q x (seen_front trees (Show q x) e h), rw o refl)
+  level_begins p root done (cycles {p = q} {e = x} {a = a} e o) h = (seen_next trees q x (seen_front trees (Show q x) e h), rw o refl)
+  level_begins p root done (turn {p = q} {i = i} e is rest) h = level_begins p root done rest (seen_turn trees q i (seen_front trees (Turn q i) e h))
+  level_begins p root done (not_found e f) h = tt
+  level_begins p root done (fault e) h = tt
+  level_begins p root done (no_memory_in_turn e) h = tt
+  level_begins p root done (no_memory_for_descent a e o) h = tt
+  level_begins p root done (refused a e m) h = tt
+
+  -- the visits of any walk by levels are a beginning of level order
+  pub level_beginning : (p : Place) (root : Items) {calls : List Call} {visits : List Visit} {end : Ending} → IsLevelScript trees fails p root calls visits end → IsLevelBeginning (entries_at trees) p (entries_in root) visits
+  level_beginning p root walk = level_begins p (entries_in root) [] (level_queue trees fails p root walk) (record { passed = []; many = refl; is = append-nil _ ∙ sym (shown_in-shows p root) })

@@ -18,13 +18,14 @@ use Rattle.gix_traverse.specs.Trees.Visits.{Items, Visit, visit_call_of, visit_c
 use Rattle.gix_traverse.specs.Trees.Paths.{IsName, HaveNames, joined, unknown_root, known_root}
 use Rattle.gix_traverse.specs.Trees.Script as script
 use Rattle.gix_traverse.specs.Trees.Script.{items_or_none, entries_in, entries_at, IsLevelScript, DepthScript, IsDepthScript}
-use Rattle.gix_traverse.specs.Orders.Preorder.{IsPreorder}
+use Rattle.gix_traverse.specs.Orders.Preorder as order
+use Rattle.gix_traverse.specs.Orders.Preorder.{IsPreorder, IsPreorderBeginning}
 use Rattle.gix_traverse.specs.Trees.Tracked.{Tracked, Tracks, fresh_recorder}
 use Rattle.gix_traverse.specs.Trees.Recorder.{Record, Recorded, fresh, recorded_all, record_of, IsRecorderAnswer, Records}
 use Rattle.gix_traverse.specs.Trees.Walk.{trees_of, LookUpFails, level_answer, depth_answer, BreadthFirst, DepthFirst}
-use Rattle.gix_traverse.specs.Trees.Laws.{LevelsAreRecorded, DepthIsRecorded, BothRecordTheSame, LevelsAreInOrder, DepthIsInOrder, MetLevelsSucceed, MetDepthSucceeds, SoundLevelsSucceed, SoundDepthSucceeds, LevelsEndAtBreak, DepthEndsAtBreak, OkWithoutBreak}
-use Rattle.gix_traverse.proofs.Trees.Levels.Script.{level_order}
-use Rattle.gix_traverse.proofs.Trees.Depth.Script.{preorder}
+use Rattle.gix_traverse.specs.Trees.Laws.{LevelsAreRecorded, DepthIsRecorded, BothRecordTheSame, LevelsAreInOrder, DepthIsInOrder, LevelsBeginInOrder, DepthBeginsInOrder, MetLevelsSucceed, MetDepthSucceeds, SoundLevelsSucceed, SoundDepthSucceeds, LevelsEndAtBreak, DepthEndsAtBreak, OkWithoutBreak}
+use Rattle.gix_traverse.proofs.Trees.Levels.Script.{level_order, level_beginning}
+use Rattle.gix_traverse.proofs.Trees.Depth.Script.{preorder, preorder_beginning}
 use Rattle.gix_traverse.proofs.Trees.Recorder.Records.{fresh_level, fresh_depth}
 use Rattle.gix_traverse.proofs.Trees.Theorems.Called.{level_called, depth_called}
 use Rattle.gix_traverse.proofs.Trees.Theorems.Met.{met_level_script, met_depth_script}
@@ -165,6 +166,17 @@ module _ {V : Type 0} (objects : Objects) (faulty : ObjectId → Type 0) (steps 
 
   pub depth_is_in_order : DepthIsInOrder objects faulty steps
   depth_is_in_order root old new answer walk w = depth_order root walk.script w
+
+  pub levels_begin_in_order : LevelsBeginInOrder objects faulty steps
+  levels_begin_in_order root old new answer walk = level_beginning (trees_of objects) (LookUpFails objects faulty) unknown_root root walk.script
+
+  depth_begins : (root : ObjectId) {calls : List Call} {visits : List Visit} {end : Ending} → IsDepthScript (trees_of objects) (LookUpFails objects faulty) root calls visits end → IsPreorderBeginning (entries_at (trees_of objects)) (known_root root) (entries_at (trees_of objects) root) visits
+  depth_begins root (script.found {visits = visits} is walk) = subst (λ l. IsPreorderBeginning (entries_at (trees_of objects)) (known_root root) (entries_in (items_or_none l)) visits) (sym is) (preorder_beginning (trees_of objects) (LookUpFails objects faulty) walk)
+  depth_begins root (script.not_found why) = order.ended
+  depth_begins root script.no_memory = order.ended
+
+  pub depth_begins_in_order : DepthBeginsInOrder objects faulty steps
+  depth_begins_in_order root old new answer walk = depth_begins root walk.script
 
   pub met_levels_succeed : MetLevelsSucceed objects faulty steps
   met_levels_succeed root old new answer walk whole enter ne = go walk.end refl
