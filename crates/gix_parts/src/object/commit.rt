@@ -133,7 +133,7 @@ fn id_line_at(bytes: &[u8], kind: Kind) -> Option<(ObjectId, &[u8])>
     ensures { option_map (λ r. (r.0, r.1.now)) result ≡ id_line_at kind (Some bytes.now) }
 {
     let (digits, rest) = bytes.split_at_checked(kind.len_in_hex())?;
-    let id = ObjectId::from_hex(digits).ok()?;
+    let id = ObjectId::from_digits(digits, kind)?;
     let rest = rest.strip_prefix(b"\n")?;
     Some((id, rest))
 }
