@@ -4,6 +4,8 @@ pub mod Ids
 pub mod QueueItems
 -- Hex digits, sixteen at a time.
 pub mod HexDigits
+-- The objects of a store in memory.
+pub mod MemoryStore
 -- The items of a commit, and its text.
 pub mod Commits
 -- The entries of a tree.
