@@ -33,7 +33,8 @@ chosen_map p f g (x ∷ v) = ap (λ r. cond (p x) (f x) (g x) ∷ r) (chosen_map
 pub chosen : (m f g : ℕ → ℕ) (v : List ℕ) {a b c : List ℕ} → a ≡ map m v → b ≡ map f v → c ≡ map g v → sel_l (map (top 7) a) b c ≡ map (λ x. cond (top 7 (m x)) (f x) (g x)) v
 chosen m f g v p q r = rw (p, q, r, map-map (top 7) m v) (chosen_map (λ x. top 7 (m x)) f g v)
 
-none_set : (p : ℕ → Bool) (xs : List ℕ) → ((k : ℕ) → k < length xs → p (get_or xs k 0) ≡ false) → mask_l (map p xs) ≡ 0
+-- where no lane passes the test, no bit is set
+pub none_set : (p : ℕ → Bool) (xs : List ℕ) → ((k : ℕ) → k < length xs → p (get_or xs k 0) ≡ false) → mask_l (map p xs) ≡ 0
 none_set p [] h = refl
 none_set p (x ∷ xs) h =
     let first : p x ≡ false = h 0 (omega arith) in

@@ -2,6 +2,7 @@
 ghost use Rattle.std.specs.Prelude.{◌≡◌, codes, drop, min, None, IfNone, Ok, []};
 ghost use Rattle.std.specs.Option.{option_map, option_copied};
 ghost use Rattle.std.specs.Iterator.{YieldsFirstBy, item_count};
+ghost use Rattle.memchr.specs.Find.{IsFirstByte, is_byte};
 ghost use Rattle.gix_parts.specs.CommitItems.{AtTree, AtEnd, Found, Rest, after_word, line_at, id_line_at, text_line_at, tree_front, author_front, committer_front, parent_front, front, commit_items};
 ghost use Rattle.gix_parts.specs.CommitText.{behind_last, without_spaces, digits_from, signed_seconds, seconds_of};
 ghost use Rattle.gix_parts.specs.CommitRefIter.{place_of, commit_items_left, taken, next_taken, item_shown, first_tree, first_committer, signature_shown};
@@ -9,6 +10,7 @@ ghost use Rattle.gix_parts.specs.CommitRefIter.{place_of, commit_items_left, tak
 use crate::hash::{Kind, ObjectId};
 use crate::object::decode::Error;
 use memchr::{memchr, memrchr};
+use std::simd::prelude::*;
 
 /// Who made a change and when.
 #[derive(Clone, Copy, PartialEq, Eq, Debug)]
@@ -117,11 +119,26 @@ fn after_word<'a>(bytes: &'a [u8], word: &[u8]) -> Option<&'a [u8]>
     bytes.strip_prefix(word)
 }
 
+// The place of the first newline. The first 64 bytes are looked at in one step, as most lines end there.
+fn newline_in(bytes: &[u8]) -> Option<usize>
+    ensures { IsFirstByte (is_byte 10) bytes.now result }
+{
+    if 64 <= bytes.len() {
+        let newlines = u8x64::from_slice(bytes)
+            .simd_eq(u8x64::splat(b'\n'))
+            .to_bitmask();
+        if newlines != 0 {
+            return Some(newlines.trailing_zeros() as usize);
+        }
+    }
+    memchr(b'\n', bytes)
+}
+
 // What stands before the first newline, and behind it.
 fn line_at(bytes: &[u8]) -> Option<(&[u8], &[u8])>
     ensures { option_map (λ r. (r.0.now, r.1.now)) result ≡ line_at bytes.now }
 {
-    let end = memchr(b'\n', bytes)?;
+    let end = newline_in(bytes)?;
     Some((&bytes[..end], &bytes[end + 1..]))
 }
 
