@@ -1,5 +1,7 @@
 -- What is at the front of bytes: a word, a line of text, an id in hex.
 pub mod Lines
+-- The first newline among 64 bytes.
+pub mod Newline
 -- The items from a place on: the front of what is left, and then the items behind it.
 pub mod Items
 -- The items that an iterator has left.

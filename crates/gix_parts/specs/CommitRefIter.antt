@@ -1,5 +1,4 @@
 -- What an iterator over a commit's bytes has left, and what its answers show.
-use Rattle.std.specs.Borrow.{Bor}
 use Rattle.std.specs.Prelude.{ℕ, List, [], ◌∷◌, Option, Some, None, Result, Ok, Err}
 use Rattle.gix_parts.specs.declared.hash.ObjectId.{ObjectId}
 use Rattle.gix_parts.specs.declared.object.decode.Error.{Error}
@@ -59,11 +58,11 @@ abbrev pub signature_shown : Result Signature Error → Result (List ℕ) Error
 signature_shown (Ok s) = Ok s.bytes.now
 signature_shown (Err e) = Err e
 
--- what a token found, with the place and the bytes behind it, or a fault, says of the front
-abbrev pub front_of : Result (Token × State × Bor (List ℕ)) Error → Front
-front_of (Ok r) = Found (item_of r.0) (place_of r.1) r.2.now
-front_of (Err e) = Faulty e
+-- what was at the front, where this token or fault was taken and this iterator is left
+abbrev pub taken : Result Token Error → CommitRefIter → Front
+taken (Ok t) then = Found (item_of t) (place_of then.place) then.bytes.now
+taken (Err e) then = Faulty e
 
-abbrev pub next_front : Option (Result (Token × State × Bor (List ℕ)) Error) → Front
-next_front None = Ended
-next_front (Some r) = front_of r
+abbrev pub next_taken : Option (Result Token Error) → CommitRefIter → Front
+next_taken None then = Ended
+next_taken (Some r) then = taken r then

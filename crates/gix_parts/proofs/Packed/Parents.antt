@@ -1,5 +1,5 @@
 -- Which overflow words the reading of a row's parents leaves.
-use Rattle.std.proofs.Common.{◌≡◌, ◌≢◌, ℕ, zero, suc, ◌-◌, ◌*◌, ◌+◌, ◌<◌, ◌≤◌, true, false, cond, List, [], ◌∷◌, length, get_or, take, drop, Option, Some, None, refl, sym, ap, ◌∙◌, arith}
+use Rattle.std.proofs.Common.{◌≡◌, ◌≢◌, ℕ, zero, suc, ◌-◌, ◌*◌, ◌+◌, ◌<◌, ◌≤◌, true, cond, List, [], ◌∷◌, length, get_or, take, drop, Option, Some, None, refl, sym, ap, ◌∙◌, arith}
 use Rattle.std.specs.Prelude.{is_some}
 use Rattle.std.specs.Option.{option_map}
 use Rattle.std.specs.Int.{w32, from_be_bytes}
@@ -20,15 +20,6 @@ behind-with_place (Some p) (Some more) = refl
 
 pub behind-list_on : (n word : ℕ) (words : List ℕ) → word < flag → is_some (place_of n word) ≡ true → behind (list_at n (word ∷ words)) ≡ behind (list_at n words)
 behind-list_on n word words lt is = rw (lt-ltb word flag lt, behind-with_place (place_of n word) (list_at n words), is) refl
-
-pub behind-list_broken : (n word : ℕ) (words : List ℕ) → word < flag → is_some (place_of n word) ≡ false → behind (list_at n (word ∷ words)) ≡ None
-behind-list_broken n word words lt is = rw (lt-ltb word flag lt, behind-with_place (place_of n word) (list_at n words), is) refl
-
-pub behind-list_last : (n word : ℕ) (words : List ℕ) → flag ≤ word → is_some (place_of n (word - flag)) ≡ true → behind (list_at n (word ∷ words)) ≡ Some words
-behind-list_last n word words le is = rw (le-ltb word flag le, behind-with_place (place_of n (word - flag)) (Some ([], words)), is) refl
-
-pub behind-list_last_broken : (n word : ℕ) (words : List ℕ) → flag ≤ word → is_some (place_of n (word - flag)) ≡ false → behind (list_at n (word ∷ words)) ≡ None
-behind-list_last_broken n word words le is = rw (le-ltb word flag le, behind-with_place (place_of n (word - flag)) (Some ([], words)), is) refl
 
 pub words_of-more : (bytes : List ℕ) → 4 ≤ length bytes → words_of bytes ≡ from_be_bytes w32 (get_or bytes 0 0 ∷ get_or bytes 1 0 ∷ get_or bytes 2 0 ∷ get_or bytes 3 0 ∷ []) ∷ words_of (drop 4 bytes)
 words_of-more [] h = absurd (omega arith)

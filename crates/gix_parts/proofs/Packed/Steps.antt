@@ -1,5 +1,5 @@
 -- One row after the other is read.
-use Rattle.std.proofs.Common.{◌≡◌, ℕ, ◌+◌, ◌-◌, ◌*◌, ◌/◌, ◌<◌, true, false, List, [], ◌∷◌, length, drop, Option, Some, None, Result, Ok, Err, refl, sym, ap, ◌∙◌, arith, add-one, rules}
+use Rattle.std.proofs.Common.{◌≡◌, ℕ, ◌+◌, ◌-◌, ◌*◌, ◌/◌, true, false, List, [], ◌∷◌, length, drop, Option, Some, None, Result, Ok, Err, refl, sym, ap, ◌∙◌, arith, add-one, rules}
 use Rattle.std.proofs.lemmas.Bool.{ne_eqb}
 use Rattle.std.specs.Option.{option_map}
 use Rattle.std.specs.Result.{IsOk}
@@ -67,9 +67,6 @@ behind-read k n m bytes words next first second left a b c e = sym (e ∙ rw (a,
 pub option_map_at : {A B : Type 0} (f : A → B) (o p : Option A) → o ≡ p → option_map f o ≡ option_map f p
 option_map_at f o p e = ap (option_map f) e
 
-pub times-left : (a n r : ℕ) → r < n → a * (n - r) ≡ a + a * (n - (r + 1))
-times-left a n r lt = let e : n - r ≡ (n - (r + 1)) + 1 = omega arith in rw e (grind arith)
-
 module _ (k : Kind) (n m left r : ℕ) (before : Option ObjectId) (bytes words : List ℕ) where
   -- no row is left
   pub ends_well : left ≡ 0 → length words ≡ 0 → faults (rows_at k n m left r before bytes words) ≡ None
@@ -95,7 +92,3 @@ faults-laid_out bytes layout len laid e = rw (e, drop-drop (row_len layout.kind 
 pub ok_rows : (read : Result (List GraphRow) Place) → IsOk read → read ≡ Ok (rows_in read)
 ok_rows (Ok rows) h = refl
 ok_rows (Err p) h = absurd (search rules)
-
--- what is opened, where reading gives rows, and where it doesn't
-pub opened_rows : (read : Result (List GraphRow) Place) (rows : List GraphRow) → read ≡ Ok rows → rows_in read ≡ rows
-opened_rows read rows e = ap rows_in e

@@ -1,14 +1,16 @@
 //! The items of a commit: its tree, its parents, its author and committer, and the rest of its bytes.
-ghost use Rattle.std.specs.Prelude.{◌≡◌, codes, drop, min, None};
+ghost use Rattle.std.specs.Prelude.{◌≡◌, codes, drop, min, None, IfNone, Ok, []};
 ghost use Rattle.std.specs.Option.{option_map, option_copied};
 ghost use Rattle.std.specs.Iterator.{YieldsFirstBy, item_count};
-ghost use Rattle.gix_parts.specs.CommitItems.{AtTree, after_word, line_at, id_line_at, text_line_at, tree_front, author_front, committer_front, parent_front, front, commit_items};
+ghost use Rattle.memchr.specs.Find.{IsFirstByte, is_byte};
+ghost use Rattle.gix_parts.specs.CommitItems.{AtTree, AtEnd, Found, Rest, after_word, line_at, id_line_at, text_line_at, tree_front, author_front, committer_front, parent_front, front, commit_items};
 ghost use Rattle.gix_parts.specs.CommitText.{behind_last, without_spaces, digits_from, signed_seconds, seconds_of};
-ghost use Rattle.gix_parts.specs.CommitRefIter.{place_of, commit_items_left, front_of, next_front, item_shown, first_tree, first_committer, signature_shown};
+ghost use Rattle.gix_parts.specs.CommitRefIter.{place_of, commit_items_left, taken, next_taken, item_shown, first_tree, first_committer, signature_shown};
 
 use crate::hash::{Kind, ObjectId};
 use crate::object::decode::Error;
 use memchr::{memchr, memrchr};
+use std::simd::prelude::*;
 
 /// Who made a change and when.
 #[derive(Clone, Copy, PartialEq, Eq, Debug)]
@@ -110,9 +112,6 @@ pub struct CommitRefIter<'a> {
     place: Place,
 }
 
-// A token, and the place and the bytes behind it.
-type Step<'a> = Result<(Token<'a>, Place, &'a [u8]), Error>;
-
 // What follows a word at the front of the bytes.
 fn after_word<'a>(bytes: &'a [u8], word: &[u8]) -> Option<&'a [u8]>
     ensures { option_copied result ≡ after_word word.now bytes.now }
@@ -120,11 +119,26 @@ fn after_word<'a>(bytes: &'a [u8], word: &[u8]) -> Option<&'a [u8]>
     bytes.strip_prefix(word)
 }
 
+// The place of the first newline. The first 64 bytes are looked at in one step, as most lines end there.
+fn newline_in(bytes: &[u8]) -> Option<usize>
+    ensures { IsFirstByte (is_byte 10) bytes.now result }
+{
+    if 64 <= bytes.len() {
+        let newlines = u8x64::from_slice(bytes)
+            .simd_eq(u8x64::splat(b'\n'))
+            .to_bitmask();
+        if newlines != 0 {
+            return Some(newlines.trailing_zeros() as usize);
+        }
+    }
+    memchr(b'\n', bytes)
+}
+
 // What stands before the first newline, and behind it.
 fn line_at(bytes: &[u8]) -> Option<(&[u8], &[u8])>
     ensures { option_map (λ r. (r.0.now, r.1.now)) result ≡ line_at bytes.now }
 {
-    let end = memchr(b'\n', bytes)?;
+    let end = newline_in(bytes)?;
     Some((&bytes[..end], &bytes[end + 1..]))
 }
 
@@ -133,44 +147,9 @@ fn id_line_at(bytes: &[u8], kind: Kind) -> Option<(ObjectId, &[u8])>
     ensures { option_map (λ r. (r.0, r.1.now)) result ≡ id_line_at kind (Some bytes.now) }
 {
     let (digits, rest) = bytes.split_at_checked(kind.len_in_hex())?;
-    let id = ObjectId::from_hex(digits).ok()?;
+    let id = ObjectId::from_digits(digits, kind)?;
     let rest = rest.strip_prefix(b"\n")?;
     Some((id, rest))
-}
-
-// The token at the tree's place.
-fn tree_at(bytes: &[u8], kind: Kind) -> Step<'_>
-    ensures { front_of result ≡ tree_front (id_line_at kind (after_word (codes "tree ") bytes.now)) }
-{
-    let (id, rest) = after_word(bytes, b"tree ")
-        .and_then(|digits| id_line_at(digits, kind))
-        .ok_or(Error::Tree)?;
-    Ok((Token::Tree { id }, Place::Parents, rest))
-}
-
-// The token behind a tree or a parent.
-fn parent_or_author_at(bytes: &[u8], kind: Kind) -> Step<'_>
-    ensures { front_of result ≡ parent_front kind bytes.now (after_word (codes "parent ") bytes.now) (id_line_at kind (after_word (codes "parent ") bytes.now)) }
-{
-    if let Some(digits) = after_word(bytes, b"parent ") {
-        let (id, rest) = id_line_at(digits, kind).ok_or(Error::Parent)?;
-        return Ok((Token::Parent { id }, Place::Parents, rest));
-    }
-    let (line, rest) = after_word(bytes, b"author ")
-        .and_then(line_at)
-        .ok_or(Error::Author)?;
-    Ok((Token::Author { line }, Place::Committer, rest))
-}
-
-// The token behind an author.
-fn committer_at(bytes: &[u8]) -> Step<'_>
-    ensures { front_of result ≡ committer_front (text_line_at (after_word (codes "committer ") bytes.now)) }
-{
-    let (line, rest) = after_word(bytes, b"committer ")
-        .and_then(line_at)
-        .ok_or(Error::Committer)?;
-    let signature = Signature { bytes: line };
-    Ok((Token::Committer { signature }, Place::Rest, rest))
 }
 
 impl<'a> CommitRefIter<'a> {
@@ -216,18 +195,79 @@ impl<'a> CommitRefIter<'a> {
         Err(Error::Missing)
     }
 
-    // What stands at the front of the bytes left.
-    fn front(&self) -> Option<Step<'a>>
-        ensures { next_front result ≡ front self.now.kind (place_of self.now.place) self.now.bytes.now }
+    // Takes the tree's line.
+    fn take_tree(&mut self) -> Result<Token<'a>, Error>
+        ensures front { taken result self.new ≡ tree_front (id_line_at self.old.kind (after_word (codes "tree ") self.old.bytes.now)) }
+        ensures kind { self.new.kind ≡ self.old.kind }
+    {
+        let kind = self.kind;
+        let (id, rest) = after_word(self.bytes, b"tree ")
+            .and_then(|digits| id_line_at(digits, kind))
+            .ok_or(Error::Tree)?;
+        self.bytes = rest;
+        self.place = Place::Parents;
+        Ok(Token::Tree { id })
+    }
+
+    // Takes a parent's line, or the author's.
+    fn take_parent_or_author(&mut self) -> Result<Token<'a>, Error>
+        ensures front { taken result self.new ≡ parent_front self.old.kind self.old.bytes.now (after_word (codes "parent ") self.old.bytes.now) (id_line_at self.old.kind (after_word (codes "parent ") self.old.bytes.now)) }
+        ensures kind { self.new.kind ≡ self.old.kind }
+    {
+        let kind = self.kind;
+        if let Some(digits) = after_word(self.bytes, b"parent ") {
+            let (id, rest) = id_line_at(digits, kind).ok_or(Error::Parent)?;
+            self.bytes = rest;
+            self.place = Place::Parents;
+            return Ok(Token::Parent { id });
+        }
+        let (line, rest) = after_word(self.bytes, b"author ")
+            .and_then(line_at)
+            .ok_or(Error::Author)?;
+        self.bytes = rest;
+        self.place = Place::Committer;
+        Ok(Token::Author { line })
+    }
+
+    // Takes the committer's line.
+    fn take_committer(&mut self) -> Result<Token<'a>, Error>
+        ensures front { taken result self.new ≡ committer_front (text_line_at (after_word (codes "committer ") self.old.bytes.now)) }
+        ensures kind { self.new.kind ≡ self.old.kind }
+    {
+        let (line, rest) = after_word(self.bytes, b"committer ")
+            .and_then(line_at)
+            .ok_or(Error::Committer)?;
+        self.bytes = rest;
+        self.place = Place::Rest;
+        let signature = Signature { bytes: line };
+        Ok(Token::Committer { signature })
+    }
+
+    // Takes all that is left.
+    fn take_rest(&mut self) -> Token<'a>
+        ensures front { taken (Ok result) self.new ≡ Found (Rest self.old.bytes.now) AtEnd [] }
+        ensures kind { self.new.kind ≡ self.old.kind }
+    {
+        let bytes = self.bytes;
+        self.bytes = &[];
+        self.place = Place::End;
+        Token::Rest { bytes }
+    }
+
+    // Takes what stands at the front of the bytes left.
+    fn take(&mut self) -> Option<Result<Token<'a>, Error>>
+        ensures front { next_taken result self.new ≡ front self.old.kind (place_of self.old.place) self.old.bytes.now }
+        ensures kind { self.new.kind ≡ self.old.kind }
+        ensures none { IfNone result (self.new ≡ self.old) }
     {
         if self.bytes.is_empty() {
             return None;
         }
         match self.place {
-            Place::Tree => Some(tree_at(self.bytes, self.kind)),
-            Place::Parents => Some(parent_or_author_at(self.bytes, self.kind)),
-            Place::Committer => Some(committer_at(self.bytes)),
-            Place::Rest => Some(Ok((Token::Rest { bytes: self.bytes }, Place::End, &[]))),
+            Place::Tree => Some(self.take_tree()),
+            Place::Parents => Some(self.take_parent_or_author()),
+            Place::Committer => Some(self.take_committer()),
+            Place::Rest => Some(Ok(self.take_rest())),
             Place::End => None,
         }
     }
@@ -241,12 +281,8 @@ impl<'a> Iterator for CommitRefIter<'a> {
     ghost remaining = { item_count commit_items_left };
 
     fn next(&mut self) -> Option<Result<Token<'a>, Error>> {
-        match self.front()? {
-            Ok((token, place, rest)) => {
-                self.place = place;
-                self.bytes = rest;
-                Some(Ok(token))
-            }
+        match self.take()? {
+            Ok(token) => Some(Ok(token)),
             Err(fault) => {
                 self.place = Place::End;
                 Some(Err(fault))

@@ -9,40 +9,35 @@ use crate::object::find::{Error, Find};
 use std::alloc::{AllocError, Global};
 use std::marker::Model;
 
-/// An object as it is kept.
-#[derive(Drop)]
+// Where the bytes of an object are in the buffer.
+#[derive(Clone, Copy)]
 struct Stored {
     kind: Kind,
-    bytes: Vec<u8>,
+    start: usize,
+    end: usize,
 }
 
-impl Model for Stored {
-    ghost use Rattle.gix_parts.specs.Object.{Object, object_code};
-
-    ghost Value = { Object };
-
-    ghost coded = { object_code };
-
-    ghost view = { λ s. record { kind = s.kind; bytes = s.bytes.items } };
-}
-
-/// Objects held in memory, each with its bytes once. Each look-up succeeds but for want of memory.
+/// Objects held in memory, with the bytes of all in one buffer. Each look-up succeeds unless memory runs out.
 #[derive(Drop)]
 pub struct MemoryStore {
     objects: IdMap<Stored>,
-    alloc: Global,
+    bytes: Vec<u8>,
 }
 
 impl Model for MemoryStore {
+    ghost use Rattle.std.specs.Prelude.{length};
     ghost use Rattle.std.specs.FinMap as map;
     ghost use Rattle.gix_parts.specs.Id.{id_cmp, id_code};
     ghost use Rattle.gix_parts.specs.Object.{Objects, object_code};
+    ghost use Rattle.gix_parts.specs.MemoryStore.{objects_at, AreWithin};
 
     ghost Value = { Objects };
 
     ghost coded = { map.code id_code object_code };
 
-    ghost view = { λ s. s.objects };
+    ghost view = { λ s. objects_at s.bytes.items s.objects };
+
+    ghost invariant = { λ s. AreWithin s.objects (length s.bytes.items) };
 }
 
 impl MemoryStore {
@@ -52,17 +47,22 @@ impl MemoryStore {
     {
         MemoryStore {
             objects: IdMap::new(alloc),
-            alloc,
+            bytes: Vec::new(alloc),
         }
     }
 
-    /// Keeps a copy of an object, in place of what the id had. Where memory is wanting, the store stays.
+    /// Keeps a copy of an object, in place of what the id had, whose bytes take their room until the store is dropped.
+    ///
+    /// # Errors
+    /// Out of memory. The store has the objects that it had.
     pub fn insert(&mut self, id: ObjectId, kind: Kind, bytes: &[u8]) -> Result<(), AllocError>
         ensures ok { OnOk result (self.new ≡ map.insert self.old id (record { kind = kind; bytes = bytes.now })) }
         ensures err { OnErr result (self.new ≡ self.old) }
     {
-        let bytes = bytes.to_vec(self.alloc)?;
-        self.objects.insert(id, Stored { kind, bytes })?;
+        let start = self.bytes.len();
+        self.bytes.extend_from_slice(bytes)?;
+        let end = self.bytes.len();
+        self.objects.insert(id, Stored { kind, start, end })?;
         Ok(())
     }
 
@@ -77,7 +77,7 @@ impl MemoryStore {
     pub fn is_empty(&self) -> bool
         ensures { IsTrue result ↔ (map.len self.now ≡ 0) }
     {
-        self.objects.is_empty()
+        self.len() == 0
     }
 }
 
@@ -91,7 +91,7 @@ impl Find for MemoryStore {
             return Ok(None);
         };
         buf.clear();
-        match buf.extend_from_slice(&stored.bytes) {
+        match buf.extend_from_slice(&self.bytes[stored.start..stored.end]) {
             Ok(()) => Ok(Some(stored.kind)),
             Err(_) => Err(Error::Memory),
         }

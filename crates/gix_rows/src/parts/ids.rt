@@ -41,11 +41,23 @@ fn ids_print_in_lower_case(rt: HostRuntime) -> Result<(), Fail> {
     let text = format!(in rt.alloc(); "{id}")?;
     assert_eq!(rt; text.as_str(), "4b825dc642cb6eb9a060e54bf8d69288fbee4904");
     assert_eq!(rt; ObjectId::from_hex(text.as_str().as_bytes()), Ok(id));
+    assert_eq!(rt;
+        ObjectId::from_digits(text.as_str().as_bytes(), Kind::Sha1),
+        Some(id)
+    );
     assert_eq!(rt; ObjectId::from_bytes(id.as_bytes()), Some(id));
     assert_eq!(rt; ObjectId::from_bytes(b"short"), None);
     let long = ObjectId::Sha256([0xab; 32]);
     let text = format!(in rt.alloc(); "{long}")?;
     assert_eq!(rt; ObjectId::from_hex(text.as_str().as_bytes()), Ok(long));
+    assert_eq!(rt;
+        ObjectId::from_digits(text.as_str().as_bytes(), Kind::Sha256),
+        Some(long)
+    );
+    assert_eq!(rt;
+        ObjectId::from_digits(text.as_str().as_bytes(), Kind::Sha1),
+        None
+    );
     assert!(rt; id < long);
     Ok(())
 }
