@@ -14,7 +14,7 @@ use Rattle.gix_traverse.specs.declared.commit.simple.Error.{Error}
 use Rattle.gix_traverse.specs.declared.commit.simple.Error.TheVariants as error
 use Rattle.gix_traverse.specs.declared.commit.simple.Hidden.{Hidden}
 use Rattle.gix_traverse.specs.declared.commit.simple.Hidden.TheVariants as hidden_by
-use Rattle.gix_traverse.specs.Simple.Painting.{IsAtBoundary, IsHiddenFault, Paints}
+use Rattle.gix_traverse.specs.Simple.Painting.{IsHistory, IsAtBoundary, IsHiddenFault, Paints}
 use Rattle.gix_traverse.specs.History.Reach.{Reaches, start, step, Tells}
 use Rattle.gix_traverse.specs.History.Agreeing.{IsAgreeing}
 use Rattle.gix_traverse.specs.History.Commits.{time_of, parents_of, commit_of_object, walked_parents, ReadsWhole}
@@ -78,11 +78,21 @@ in_order_from : (o : Option CommitTimeOrder) (time : ObjectId → ℤ) (next : O
 in_order_from None time next starts ids h = h
 in_order_from (Some order) time next starts ids h = h
 
+-- a store is a history of the rows that agree with it
+own_history : (objects : Objects) (faulty : ObjectId → Type 0) (rows : List GraphRow) → IsAgreeing objects faulty rows → IsHistory objects rows objects
+own_history objects faulty rows agrees = record {
+  agreeing = λ row m. let a = agrees row m in record { whole = record { commit = a.whole.commit; stored = a.whole.stored; sound = λ k. k }; tree = a.tree; time = a.time; places = a.places; parents = a.parents; finite = a.finite };
+  read = λ i commit r. r;
+}
+
 module _ {F P : Type 0} (objects : F → Objects) (faulty : F → ObjectId → Type 0) (answers : P → ObjectId → Bool → P → Type 0) (w : SimpleWalk F P) (accepts hides : ObjectId → Bool)
     (by_test : AnswersBy answers w.predicate accepts) (is_fresh : IsFresh objects w accepts) (tells : Tells hides (Reaches (parents_of (objects w.store)) w.hidden_tips))
     (meets : MeetsWhole objects faulty w accepts hides) (agreeing : IsAgreeing (objects w.store) (faulty w.store) w.rows) where
   abbrev setting : set.FinSet id_cmp → Setting objects faulty answers
   setting marks = record { store = w.store; predicate = w.predicate; rows = w.rows; parents = w.parents; sorting = w.sorting; marks = marks; accepts = accepts; hidden = hides; starts = starts_of w hides; by_test = by_test; agreeing = agreeing }
+
+  own : IsHistory (objects w.store) w.rows (objects w.store)
+  own = own_history (objects w.store) (faulty w.store) w.rows agreeing
 
   abbrev next_ids : ObjectId → List ObjectId
   next_ids = next_of objects w accepts hides
@@ -153,7 +163,7 @@ module _ {F P : Type 0} (objects : F → Objects) (faulty : F → ObjectId → T
       shown e i = false_from_ne_true _ (λ h. nothing_reached (parents_of (objects w.store)) w.hidden_tips (λ j m. no_member j (subst (λ xs. Contains xs j) e m)) i ((tells i).0 h))
 
   -- the hidden tips are painted
-  painting : (marks : set.FinSet id_cmp) (rows : List GraphRow) → Paints (objects w.store) (faulty w.store) w.rows (ids_of w.pending) w.hidden_tips marks rows → {o : Option (Result Info Error)} {new : SimpleWalk F P} → Steps objects faulty answers (painted objects faulty answers w marks rows) o new → Begins o new
+  painting : (marks : set.FinSet id_cmp) (rows : List GraphRow) → Paints (objects w.store) w.rows (ids_of w.pending) w.hidden_tips marks rows → {o : Option (Result Info Error)} {new : SimpleWalk F P} → Steps objects faulty answers (painted objects faulty answers w marks rows) o new → Begins o new
   painting marks rows paint steps = record {
     marks = marks;
     mid = painted objects faulty answers w marks rows;
@@ -178,17 +188,17 @@ module _ {F P : Type 0} (objects : F → Objects) (faulty : F → ObjectId → T
       exact i at = go (set.contains marks i) refl (hides i) refl
         where
           go : (a : Bool) → set.contains marks i ≡ a → (b : Bool) → hides i ≡ b → set.contains marks i ≡ hides i
-          go true e b f = e ∙ sym ((tells i).1 (paint.sound agreeing i e))
-          go false e true f = paint.whole agreeing i at ((tells i).0 f) ∙ sym f
+          go true e b f = e ∙ sym ((tells i).1 ((paint.marked (objects w.store) own).sound i e))
+          go false e true f = (paint.marked (objects w.store) own).whole i at ((tells i).0 f) ∙ sym f
           go false e false f = e ∙ sym f
 
-  no_hidden_fault : w.pending ≢ [] → w.hidden_tips ≢ [] → (why : Hidden) → IsNoRefusal (Err (error.HiddenGraph why)) → IsHiddenFault (objects w.store) (faulty w.store) w.rows (ids_of w.pending ++ w.hidden_tips) why → ⊥
+  no_hidden_fault : w.pending ≢ [] → w.hidden_tips ≢ [] → (why : Hidden) → IsNoRefusal (Err (error.HiddenGraph why)) → IsHiddenFault (objects w.store) (faulty w.store) w.rows (ids_of w.pending) w.hidden_tips why → ⊥
   no_hidden_fault some hidden (hidden_by.Find e) ok fault =
-      let whole : ReadsWhole (objects w.store) (faulty w.store) fault.0 = meets.painted some hidden fault.0 (fault.1 agreeing) in
-      no_fault (objects w.store) (faulty w.store) fault.0 whole.commit e whole.stored fault.2 (λ k. ok.2 (ap (λ x. Err (error.HiddenGraph (hidden_by.Find x))) k))
+      let whole : ReadsWhole (objects w.store) (faulty w.store) fault.id = meets.painted some hidden fault.id (fault.reached (objects w.store) own) in
+      no_fault (objects w.store) (faulty w.store) fault.id whole.commit e whole.stored fault.fault (λ k. ok.2 (ap (λ x. Err (error.HiddenGraph (hidden_by.Find x))) k))
   no_hidden_fault some hidden (hidden_by.ObjectDecode e) ok fault =
-      let whole : ReadsWhole (objects w.store) (faulty w.store) fault.0 = meets.painted some hidden fault.0 (fault.1 agreeing) in
-      let n : None ≡ Some whole.commit = sym (ap (commit_of_object fault.0) fault.2.1 ∙ fault_unread (commit_items (kind_of fault.0) fault.2.0) e fault.2.2) ∙ whole.stored in cc
+      let whole : ReadsWhole (objects w.store) (faulty w.store) fault.id = meets.painted some hidden fault.id (fault.reached (objects w.store) own) in
+      let n : None ≡ Some whole.commit = sym (ap (commit_of_object fault.id) fault.fault.1 ∙ fault_unread (commit_items (kind_of fault.id) fault.fault.0) e fault.fault.2) ∙ whole.stored in cc
 
   begins : {o : Option (Result Info Error)} {new : SimpleWalk F P} → ((answer : Result Info Error) → o ≡ Some answer → IsNoRefusal answer) → Next objects faulty answers w o new → Begins o new
   begins ok (unhidden none steps) = plain none steps

@@ -71,7 +71,7 @@ module _ {F : Type 0} (objects : F → Objects) (faulty : F → ObjectId → Typ
         row = row;
         in_depth = record { reached = r; high = high };
         by_row = q;
-        corrupt = corrupt_row objects plan.store plan.rows [] [] (faulty plan.store) agrees row (row_stands plan.rows i row q).0 (no_ids (ids_at plan.rows row.parents) f);
+        corrupt = corrupt_row (objects plan.store) (faulty plan.store) plan.rows agrees row (row_stands plan.rows i row q).0 (no_ids (ids_at plan.rows row.parents) f);
       }
 
   -- what is done is reached
