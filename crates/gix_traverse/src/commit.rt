@@ -1,5 +1,5 @@
 //! Walks of commits.
-ghost use Rattle.std.specs.Prelude.{◌≡◌, Bool, true, IfOk};
+ghost use Rattle.std.specs.Prelude.{◌≡◌, ◌≤◌, Bool, true, IfOk, IsOk, length};
 ghost use Rattle.std.specs.Fn.{CalledAt};
 ghost use Rattle.gix_parts.specs.declared.hash.ObjectId.{ObjectId};
 ghost use Rattle.gix_traverse.specs.History.Either.{FindsEither};
@@ -20,13 +20,22 @@ use std::alloc::AllocError;
 pub use topo::Topo;
 
 /// Which parents of a commit are walked.
-#[derive(Clone, Copy, Debug, Default, PartialEq, Eq)]
+#[derive(Clone, Copy, Debug, PartialEq, Eq)]
 pub enum Parents {
     /// All of them, in their order.
-    #[default]
     All,
     /// The first alone.
     First,
+}
+
+impl Default for Parents {
+    ghost use Rattle.gix_traverse.specs.declared.commit.Parents.TheVariants as mode;
+
+    ghost is_default = { λ parents. parents ≡ mode.All };
+
+    fn default() -> Parents {
+        Parents::All
+    }
 }
 
 /// The ids of a commit's parents, in their order. A list of at most one takes no memory.
@@ -45,8 +54,9 @@ pub struct Info {
 }
 
 impl Info {
-    /// An equal value. More than one parent take memory.
+    /// An equal value. Where it has more than one parent, memory can be wanting; then this value is as it was.
     pub fn clone(&self) -> Result<Info, AllocError>
+        ensures succeeds { length self.now.parent_ids.items ≤ 1 → IsOk result }
         ensures id { IfOk result (λ info. info.id ≡ self.now.id) }
         ensures parent_ids { IfOk result (λ info. info.parent_ids.items ≡ self.now.parent_ids.items) }
         ensures generation { IfOk result (λ info. info.generation ≡ self.now.generation) }

@@ -32,20 +32,28 @@ use step::cutoff_of;
 use thiserror::Error;
 
 /// Which of two times comes first.
-#[derive(Clone, Copy, Debug, Default, PartialEq, Eq)]
+#[derive(Clone, Copy, Debug, PartialEq, Eq)]
 pub enum CommitTimeOrder {
     /// The greater time comes first.
-    #[default]
     NewestFirst,
     /// The lesser time comes first.
     OldestFirst,
 }
 
+impl Default for CommitTimeOrder {
+    ghost use Rattle.gix_traverse.specs.declared.commit.simple.CommitTimeOrder.TheVariants.{NewestFirst};
+
+    ghost is_default = { λ order. order ≡ NewestFirst };
+
+    fn default() -> CommitTimeOrder {
+        CommitTimeOrder::NewestFirst
+    }
+}
+
 /// The order of a walk.
-#[derive(Clone, Copy, Debug, Default, PartialEq, Eq)]
+#[derive(Clone, Copy, Debug, PartialEq, Eq)]
 pub enum Sorting {
     /// Commits come in the order in which they are met.
-    #[default]
     BreadthFirst,
     /// Of the commits met, one of best commit time comes next.
     ByCommitTime(CommitTimeOrder),
@@ -54,6 +62,14 @@ pub enum Sorting {
         order: CommitTimeOrder,
         seconds: i64,
     },
+}
+
+impl Default for Sorting {
+    ghost is_default = { λ sorting. sorting ≡ by.BreadthFirst };
+
+    fn default() -> Sorting {
+        Sorting::BreadthFirst
+    }
 }
 
 /// Why the history of hidden tips could not be read.
