@@ -15,6 +15,7 @@ use Rattle.gix_traverse.specs.declared.commit.simple.paint.source.Key.{Key}
 use Rattle.gix_traverse.specs.declared.commit.simple.paint.source.Known.{Known}
 use Rattle.gix_traverse.specs.declared.commit.simple.paint.Entry.{Entry}
 use Rattle.gix_traverse.specs.declared.commit.simple.paint.Painter.{Painter}
+use Rattle.gix_traverse.specs.History.Agreeing.{IsAgreeing}
 use Rattle.gix_traverse.specs.History.Commits.{parents_of, parents_in}
 use Rattle.gix_traverse.specs.Simple.Painting.{IsHistory, DropsBy}
 use Rattle.gix_traverse.specs.Simple.Inside.Painter.{AllMarks, hides, is_hidden, hidden_of, State, Unmet, Open, Read, Hides, state_of, Becomes, stays, opens, covers, rows_in, Reads, Knows, by_row, by_store, IsQueued, IsWaiting, IsTidy, Meets}
@@ -67,6 +68,15 @@ hidden_now (covers v k q) e m = refl
 
 abbrev pub nobody : Side → ObjectId → Type 0
 nobody s i = ⊥
+
+-- a store is a history of the rows that agree with it
+pub own_history : (objects : Objects) (faulty : ObjectId → Type 0) (rows : List GraphRow) → IsAgreeing objects faulty rows → IsHistory objects rows objects
+own_history objects faulty rows agrees = record {
+  agreeing = λ row m.
+      let a = agrees row m in
+      record { whole = record { commit = a.whole.commit; stored = a.whole.stored; sound = λ k. k }; tree = a.tree; time = a.time; places = a.places; parents = a.parents; finite = a.finite };
+  read = λ i commit r. r;
+}
 
 -- what a store reads is the history's
 pub in_history : {objects history : Objects} {rows : List GraphRow} → IsHistory objects rows history → (i : ObjectId) (ids : List ObjectId) → Reads objects i ids → Reads history i ids

@@ -24,6 +24,7 @@ use Rattle.gix_traverse.specs.Simple.Laws.{itself, AnswersBy, AreDistinct, IsFre
 use Rattle.gix_parts.specs.Id.{kind_of}
 use Rattle.gix_parts.specs.CommitItems.{commit_items}
 use Rattle.gix_traverse.proofs.Shared.Committer.{fault_unread}
+use Rattle.gix_traverse.proofs.Painting.Invariant.{own_history}
 use Rattle.gix_parts.proofs.Ids.Membership.{same_is, among_from, among_is, Contains-here, Contains-there, no_member}
 use Rattle.gix_traverse.proofs.Shared.NewIds.{fresh, times, times-fresh, among-filter}
 use Rattle.gix_traverse.proofs.Simple.Treated.{Setting, Stands}
@@ -77,13 +78,6 @@ filter_within p xs x h = All-contains (Contains xs) (filter p xs) x (All-filter 
 in_order_from : (o : Option CommitTimeOrder) (time : ObjectId → ℤ) (next : ObjectId → List ObjectId) (starts ids : List ObjectId) → ((k : ℕ) → k ≤ length ids → IsNextOne o time next starts (take k ids) (slice_get ids k)) → IsInOrder o time next starts ids
 in_order_from None time next starts ids h = h
 in_order_from (Some order) time next starts ids h = h
-
--- a store is a history of the rows that agree with it
-own_history : (objects : Objects) (faulty : ObjectId → Type 0) (rows : List GraphRow) → IsAgreeing objects faulty rows → IsHistory objects rows objects
-own_history objects faulty rows agrees = record {
-  agreeing = λ row m. let a = agrees row m in record { whole = record { commit = a.whole.commit; stored = a.whole.stored; sound = λ k. k }; tree = a.tree; time = a.time; places = a.places; parents = a.parents; finite = a.finite };
-  read = λ i commit r. r;
-}
 
 module _ {F P : Type 0} (objects : F → Objects) (faulty : F → ObjectId → Type 0) (answers : P → ObjectId → Bool → P → Type 0) (w : SimpleWalk F P) (accepts hides : ObjectId → Bool)
     (by_test : AnswersBy answers w.predicate accepts) (is_fresh : IsFresh objects w accepts) (tells : Tells hides (Reaches (parents_of (objects w.store)) w.hidden_tips))
