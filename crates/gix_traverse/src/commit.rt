@@ -45,16 +45,20 @@ pub type ParentIds = SmallVec<ObjectId, 1>;
 #[derive(Debug, Drop, PartialEq, Eq, PartialOrd, Ord, Hash)]
 pub struct Info {
     pub id: ObjectId,
-    /// The parents as the commit names them, repeats kept.
+    /// The parents as the commit names them, repeats kept. Under `Parents::First` a `Simple` gives the first alone, and a `Topo` all.
     pub parent_ids: ParentIds,
-    /// The generation that a commit-graph told, and None where the commit was read from the store.
+    /// The generation in the commit's row of a commit-graph, and None where the commit was read from the store.
     pub generation: Option<u32>,
-    /// The committer's seconds since 1970, in an order by time.
+    /// The committer's seconds since 1970-01-01 00:00 UTC. A `Simple` gives them only in an order by time, and a `Topo` always.
     pub commit_time: Option<i64>,
 }
 
 impl Info {
-    /// An equal value. Where it has more than one parent, memory can be wanting; then this value is as it was.
+    /// An equal value.
+    ///
+    /// # Errors
+    ///
+    /// `AllocError` when out of memory, which a commit with at most one parent doesn't need. This value is as it was.
     pub fn clone(&self) -> Result<Info, AllocError>
         ensures succeeds { length self.now.parent_ids.items ≤ 1 → IsOk result }
         ensures id { IfOk result (λ info. info.id ≡ self.now.id) }
@@ -87,8 +91,11 @@ pub enum Either<'buf, 'cache> {
 impl<'buf, 'cache> Either<'buf, 'cache> {
     ghost use Rattle.gix_traverse.specs.History.Either.{either_tree, either_time};
 
-    /// The id of its tree: that of its row, or else of the first item. Where that is no tree the error names its fault, or
-    /// `Missing`.
+    /// The id of its tree: that of its row, or else of the first item.
+    ///
+    /// # Errors
+    ///
+    /// For items whose first isn't a tree: that item's fault, or `Missing`.
     pub fn tree_id(self) -> Result<ObjectId, decode::Error>
         ensures { result ≡ either_tree self.entry }
     {
@@ -98,8 +105,11 @@ impl<'buf, 'cache> Either<'buf, 'cache> {
         }
     }
 
-    /// The committer's seconds since 1970: those of its row, or else of the first committer among the items. The error names a
-    /// fault before it, or `Missing`.
+    /// The committer's seconds since 1970-01-01 00:00 UTC: those of its row, or else of the first committer among the items.
+    ///
+    /// # Errors
+    ///
+    /// For items without a committer: the fault that ends them, or `Missing`.
     pub fn commit_time(self) -> Result<i64, decode::Error>
         ensures { result ≡ either_time self.entry }
     {
@@ -113,7 +123,14 @@ impl<'buf, 'cache> Either<'buf, 'cache> {
     }
 }
 
-/// Looks a commit up: its row where there is one, and no memory is wanted then, else its items in the store, lent from `buf`.
+/// Looks a commit up: its row where there is one, which takes no memory, else its items in the store, lent from `buf`.
+///
+/// # Errors
+///
+/// Only where the id has no row:
+/// - `NotFound` if the store has no object of this id, and `ObjectKind` if the object is no commit,
+/// - `Store` if the store can't read the object,
+/// - `Memory` when out of memory.
 pub fn find<'cache, 'buf, F: Find + Drop>(
     cache: Option<&'cache Graph>,
     objects: F,
@@ -133,7 +150,8 @@ pub fn find<'cache, 'buf, F: Find + Drop>(
     }
 }
 
-/// Which commits are walked. A commit that is refused is not given, and bars the way to its parents.
+/// Which commits are walked. A commit that is refused is not given. In a `Simple` it also bars the way to its parents, which come only
+/// if another commit names them; a `Topo` walks on through it.
 pub trait Predicate {
     /// Holds of a predicate that may be asked.
     ghost can_accept: { Self → Type 0 } = { λ _. Unit {0} };
