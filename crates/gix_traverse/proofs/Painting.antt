@@ -12,7 +12,11 @@ pub mod Invariant
 pub mod KeptByTurn
 -- A turn: an entry is taken, its commit is read, its parents are met.
 pub mod Turn
+-- Nothing that waits is above what was taken, and rows that were read had no fault.
+pub mod Order
 -- At the stop, early or not, the marks are whole.
 pub mod MarksAreWhole
+-- Why painting fails.
+pub mod Faults
 -- Each turn leaves less room for entries.
 pub mod Ends

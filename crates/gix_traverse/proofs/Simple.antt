@@ -30,6 +30,12 @@ pub mod FromTips
 pub mod Ends
 -- No id is given twice, whatever the store, the rows and the predicate do.
 pub mod NeverTwice
+-- No id is asked about twice.
+pub mod AsksOnce
+-- Which generations are given.
+pub mod Generations
+-- Walks that were built by the same calls.
+pub mod Alike
 -- Laws that follow from the theorem: hiding, rows that agree, falling times.
 pub mod Corollaries
 -- Over a finite history a test of what is reached exists.

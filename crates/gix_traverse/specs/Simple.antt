@@ -8,5 +8,7 @@ pub mod Painting
 pub mod Errors
 -- The words of the laws over whole runs.
 pub mod Laws
+-- What holds along the answers that are drawn, and of two walks that were built alike.
+pub mod Runs
 -- The code's own steps. Nobody but a maintainer needs them.
 pub mod Inside

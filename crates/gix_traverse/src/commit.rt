@@ -1,5 +1,5 @@
 //! Walks of commits.
-ghost use Rattle.std.specs.Prelude.{◌≡◌, Bool, true, IfOk};
+ghost use Rattle.std.specs.Prelude.{◌≡◌, ◌≤◌, Bool, true, IfOk, IsOk, length};
 ghost use Rattle.std.specs.Fn.{CalledAt};
 ghost use Rattle.gix_parts.specs.declared.hash.ObjectId.{ObjectId};
 ghost use Rattle.gix_traverse.specs.History.Either.{FindsEither};
@@ -20,13 +20,22 @@ use std::alloc::AllocError;
 pub use topo::Topo;
 
 /// Which parents of a commit are walked.
-#[derive(Clone, Copy, Debug, Default, PartialEq, Eq)]
+#[derive(Clone, Copy, Debug, PartialEq, Eq)]
 pub enum Parents {
     /// All of them, in their order.
-    #[default]
     All,
     /// The first alone.
     First,
+}
+
+impl Default for Parents {
+    ghost use Rattle.gix_traverse.specs.declared.commit.Parents.TheVariants as mode;
+
+    ghost is_default = { λ parents. parents ≡ mode.All };
+
+    fn default() -> Parents {
+        Parents::All
+    }
 }
 
 /// The ids of a commit's parents, in their order. A list of at most one takes no memory.
@@ -36,17 +45,22 @@ pub type ParentIds = SmallVec<ObjectId, 1>;
 #[derive(Debug, Drop, PartialEq, Eq, PartialOrd, Ord, Hash)]
 pub struct Info {
     pub id: ObjectId,
-    /// The parents as the commit names them, repeats kept.
+    /// The parents as the commit names them, repeats kept. Under `Parents::First` a `Simple` gives the first alone, and a `Topo` all.
     pub parent_ids: ParentIds,
-    /// The generation that a commit-graph told, and None where the commit was read from the store.
+    /// The generation in the commit's row of a commit-graph, and None where the commit was read from the store.
     pub generation: Option<u32>,
-    /// The committer's seconds since 1970, in an order by time.
+    /// The committer's seconds since 1970-01-01 00:00 UTC. A `Simple` gives them only in an order by time, and a `Topo` always.
     pub commit_time: Option<i64>,
 }
 
 impl Info {
-    /// An equal value. More than one parent take memory.
+    /// An equal value.
+    ///
+    /// # Errors
+    ///
+    /// `AllocError` when out of memory, which a commit with at most one parent doesn't need. This value is as it was.
     pub fn clone(&self) -> Result<Info, AllocError>
+        ensures succeeds { length self.now.parent_ids.items ≤ 1 → IsOk result }
         ensures id { IfOk result (λ info. info.id ≡ self.now.id) }
         ensures parent_ids { IfOk result (λ info. info.parent_ids.items ≡ self.now.parent_ids.items) }
         ensures generation { IfOk result (λ info. info.generation ≡ self.now.generation) }
@@ -77,8 +91,11 @@ pub enum Either<'buf, 'cache> {
 impl<'buf, 'cache> Either<'buf, 'cache> {
     ghost use Rattle.gix_traverse.specs.History.Either.{either_tree, either_time};
 
-    /// The id of its tree: that of its row, or else of the first item. Where that is no tree the error names its fault, or
-    /// `Missing`.
+    /// The id of its tree: that of its row, or else of the first item.
+    ///
+    /// # Errors
+    ///
+    /// For items whose first isn't a tree: that item's fault, or `Missing`.
     pub fn tree_id(self) -> Result<ObjectId, decode::Error>
         ensures { result ≡ either_tree self.entry }
     {
@@ -88,8 +105,11 @@ impl<'buf, 'cache> Either<'buf, 'cache> {
         }
     }
 
-    /// The committer's seconds since 1970: those of its row, or else of the first committer among the items. The error names a
-    /// fault before it, or `Missing`.
+    /// The committer's seconds since 1970-01-01 00:00 UTC: those of its row, or else of the first committer among the items.
+    ///
+    /// # Errors
+    ///
+    /// For items without a committer: the fault that ends them, or `Missing`.
     pub fn commit_time(self) -> Result<i64, decode::Error>
         ensures { result ≡ either_time self.entry }
     {
@@ -103,7 +123,14 @@ impl<'buf, 'cache> Either<'buf, 'cache> {
     }
 }
 
-/// Looks a commit up: its row where there is one, and no memory is wanted then, else its items in the store, lent from `buf`.
+/// Looks a commit up: its row where there is one, which takes no memory, else its items in the store, lent from `buf`.
+///
+/// # Errors
+///
+/// Only where the id has no row:
+/// - `NotFound` if the store has no object of this id, and `ObjectKind` if the object is no commit,
+/// - `Store` if the store can't read the object,
+/// - `Memory` when out of memory.
 pub fn find<'cache, 'buf, F: Find + Drop>(
     cache: Option<&'cache Graph>,
     objects: F,
@@ -123,7 +150,8 @@ pub fn find<'cache, 'buf, F: Find + Drop>(
     }
 }
 
-/// Which commits are walked. A commit that is refused is not given, and bars the way to its parents.
+/// Which commits are walked. A commit that is refused is not given. In a `Simple` it also bars the way to its parents, which come only
+/// if another commit names them; a `Topo` walks on through it.
 pub trait Predicate {
     /// Holds of a predicate that may be asked.
     ghost can_accept: { Self → Type 0 } = { λ _. Unit {0} };

@@ -81,15 +81,15 @@ steps_sound (ended e) = tt
 steps_sound (no_memory p) = λ e. cc
 steps_sound (took c t) = takes_sound t
 
-history_sound : (objects : Objects) (rows : List GraphRow) (ids : List ObjectId) (why : Hidden) → IsHiddenFault objects (never_faulty objects) rows ids why → fault_of_walk (error.HiddenGraph why) ≢ fault.Internal
-history_sound objects rows ids (hidden_by.Find e) h = find_sound objects h.0 object.Commit e h.2
-history_sound objects rows ids (hidden_by.ObjectDecode e) h = λ e. cc
+history_sound : (objects : Objects) (rows : List GraphRow) (tips hidden_tips : List ObjectId) (why : Hidden) → IsHiddenFault objects (never_faulty objects) rows tips hidden_tips why → fault_of_walk (error.HiddenGraph why) ≢ fault.Internal
+history_sound objects rows tips hidden_tips (hidden_by.Find e) h = find_sound objects h.id object.Commit e h.fault
+history_sound objects rows tips hidden_tips (hidden_by.ObjectDecode e) h = λ e. cc
 
 -- no answer of a walk tells of a failing store
 pub next_sound : {old : Walk} {answer : Option (Result Info Error)} {new : Walk} → Answers old answer new → IsSound answer
 next_sound (unhidden h s) = steps_sound s
 next_sound (paints p t m s) = steps_sound s
-next_sound {old} (faulty_history {why = why} p t r f) = history_sound old.store old.rows _ why f
+next_sound {old} (faulty_history {why = why} p t r f) = history_sound old.store old.rows _ _ why f
 next_sound (no_memory p t r) = λ e. cc
 
 tip_sound : (objects : Objects) (i : ObjectId) (e : Error) → IsTipFault objects (never_faulty objects) i e → fault_of_walk e ≢ fault.Internal

@@ -1,10 +1,9 @@
 -- A worked example of rows that agree with a store: commit 2 with the parent 1, in whose row the parent's place may be corrupt.
-use Rattle.std.specs.Prelude.{◌≡◌, ◌<◌, ℕ, zero, suc, pos, List, [], ◌∷◌, Some, None, slice_get}
-use Rattle.std.proofs.Common.{refl, sym, ap, subst, ◌∙◌, arith}
-use Rattle.gix_parts.specs.declared.hash.ObjectId.{ObjectId}
+use Rattle.std.specs.Prelude.{◌≡◌, pos, [], ◌∷◌, Some}
+use Rattle.std.proofs.Common.{refl, ap, arith}
 use Rattle.gix_parts.specs.declared.graph.ParentPlace.{ParentPlace}
 use Rattle.gix_parts.specs.declared.graph.ParentPlace.TheVariants.{At, Fault}
-use Rattle.gix_parts.specs.Rows.{GraphRow, row_of}
+use Rattle.gix_parts.specs.Rows.{GraphRow}
 use Rattle.gix_traverse.specs.History.Agreeing.{PlaceAgrees}
 use Rattle.gix_traverse.specs.Orders.Examples.{n}
 

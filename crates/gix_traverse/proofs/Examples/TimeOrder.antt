@@ -1,6 +1,6 @@
 -- Worked examples of the order by time: over a finite history a test that computes says whether a list is in it.
-use Rattle.std.specs.Prelude.{◌≡◌, ◌≤◌, ◌≤ℤ◌, ℕ, ℤ, pos, List, [], ◌∷◌, ◌++◌, Bool, true, false, not, ◌&&◌, ◌||◌, Option, Some, None, Contains, MatchOption}
-use Rattle.std.proofs.Common.{refl, sym, ap, ◌∙◌, arith}
+use Rattle.std.specs.Prelude.{◌≡◌, ◌≤◌, ℕ, pos, List, [], ◌∷◌, ◌++◌, Bool, true, false, not, ◌&&◌, ◌||◌, Option, Some, None, Contains, MatchOption}
+use Rattle.std.proofs.Common.{refl, sym, ◌∙◌, arith}
 use Rattle.std.proofs.Math.Dec.{leb}
 use Rattle.std.proofs.lemmas.Int.{ints}
 use Rattle.std.proofs.lemmas.Bool.{true≢false, and_parts, leb-true, not-true, false_from_ne_true}
@@ -11,7 +11,7 @@ use Rattle.gix_traverse.specs.declared.commit.simple.CommitTimeOrder.{CommitTime
 use Rattle.gix_traverse.specs.declared.commit.simple.CommitTimeOrder.TheVariants.{NewestFirst, OldestFirst}
 use Rattle.gix_traverse.specs.Orders.BreadthOrder.{named_by}
 use Rattle.gix_traverse.specs.Orders.TimeOrder.{IsNoWorse, IsPending, IsBest, IsTimeOrder}
-use Rattle.gix_traverse.specs.Orders.Examples.{n, ids, history, sample_in}
+use Rattle.gix_traverse.specs.Orders.Examples.{ids, history, sample_in}
 use Rattle.gix_traverse.proofs.Examples.Decided.{all_of, all_is}
 use Rattle.gix_traverse.proofs.Examples.TopologicalOrders.{sample_seconds}
 use Rattle.gix_traverse.proofs.Topo.Run.ReadyInTurn.{TurnsFrom, turn_none, turn_more}

@@ -38,7 +38,7 @@ among_parents objects rows c ids r i m =
         among_flat (λ entry. parents_of objects entry.0) (map_of.entries objects) (c, o) i (found_entry (map_of.entries objects) c o (sym (map_of.get-entries objects c) ∙ e))
         (among_from i _ (subst (λ xs. Contains xs i) (reads_parents objects c ids r) m))
 
-module _ {F : Type 0} (objects : F → Objects) (store : F) (rows : List GraphRow) (tips hidden_tips : List ObjectId) {w v : Painter F} (top : Key × Entry) (pops : Pops cmp-value.it w top v) (safe : IsSafe objects store rows tips hidden_tips w) where
+module _ {F : Type 0} (objects : F → Objects) (store : F) (rows : List GraphRow) {w v : Painter F} (top : Key × Entry) (pops : Pops cmp-value.it w top v) (safe : IsSafe objects store rows w) where
   named : {ids : List ObjectId} {after : Option (Bor (List GraphRow))} → GivesParents (objects v.source.objects.now) v.source.graph top.1 ids after → (i : ObjectId) → Contains ids i → is_among i (names (objects store) rows) ≡ true
   named {ids} (brought e) i m = among_parents (objects store) rows top.1.id ids (safe.brings top (popped_there pops) ids e) i m
   named {ids} (looked_up n (by_row {row = row} e f)) i m =

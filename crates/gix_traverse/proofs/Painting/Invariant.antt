@@ -15,8 +15,9 @@ use Rattle.gix_traverse.specs.declared.commit.simple.paint.source.Key.{Key}
 use Rattle.gix_traverse.specs.declared.commit.simple.paint.source.Known.{Known}
 use Rattle.gix_traverse.specs.declared.commit.simple.paint.Entry.{Entry}
 use Rattle.gix_traverse.specs.declared.commit.simple.paint.Painter.{Painter}
+use Rattle.gix_traverse.specs.History.Agreeing.{IsAgreeing}
 use Rattle.gix_traverse.specs.History.Commits.{parents_of, parents_in}
-use Rattle.gix_traverse.specs.Simple.Painting.{DropsBy}
+use Rattle.gix_traverse.specs.Simple.Painting.{IsHistory, DropsBy}
 use Rattle.gix_traverse.specs.Simple.Inside.Painter.{AllMarks, hides, is_hidden, hidden_of, State, Unmet, Open, Read, Hides, state_of, Becomes, stays, opens, covers, rows_in, Reads, Knows, by_row, by_store, IsQueued, IsWaiting, IsTidy, Meets}
 use Rattle.gix_traverse.specs.History.Reach.{Reaches}
 use Rattle.gix_parts.proofs.Ids.Membership.{id_total, id_apart}
@@ -68,61 +69,35 @@ hidden_now (covers v k q) e m = refl
 abbrev pub nobody : Side → ObjectId → Type 0
 nobody s i = ⊥
 
-module _ {F : Type 0} (objects : F → Objects) (store : F) (rows : List GraphRow) (tips hidden_tips : List ObjectId) where
-  abbrev pub next : ObjectId → List ObjectId
-  next = parents_of (objects store)
+-- a store is a history of the rows that agree with it
+pub own_history : (objects : Objects) (faulty : ObjectId → Type 0) (rows : List GraphRow) → IsAgreeing objects faulty rows → IsHistory objects rows objects
+own_history objects faulty rows agrees = record {
+  agreeing = λ row m.
+      let a = agrees row m in
+      record { whole = record { commit = a.whole.commit; stored = a.whole.stored; sound = λ k. k }; tree = a.tree; time = a.time; places = a.places; parents = a.parents; finite = a.finite };
+  read = λ i commit r. r;
+}
 
-  abbrev pub starts_of : Side → List ObjectId
-  starts_of side.Visible = tips
-  starts_of side.Hidden = hidden_tips
+-- what a store reads is the history's
+pub in_history : {objects history : Objects} {rows : List GraphRow} → IsHistory objects rows history → (i : ObjectId) (ids : List ObjectId) → Reads objects i ids → Reads history i ids
+in_history h i ids r = (r.0, h.read i r.0 r.1, r.2)
 
+-- what holds whatever the rows say
+module _ {F : Type 0} (objects : F → Objects) (store : F) (rows : List GraphRow) where
   abbrev pub RowsStand : Painter F → Type 0
   RowsStand p = rows_in p.source.graph ≡ rows
 
-  -- what holds whatever the rows say
   pub record IsSafe (p : Painter F) : Type 0 where
     pub same_store : p.source.objects.now ≡ store
     pub either : (rows_in p.source.graph ≡ rows) ⊎ (p.source.graph ≡ None)
     pub queued : RowsStand p → (q : Key × Entry) → Contains p.queue q → IsQueued (objects store) rows q
     pub brings : (q : Key × Entry) → Contains p.queue q → (ids : List ObjectId) → option_map (λ ids. ids.items) q.1.parent_ids ≡ Some ids → Reads (objects store) q.1.id ids
 
-  -- an id that isn't hidden, if it has a row
-  abbrev pub IsOutside : ObjectId → Type 0
-  IsOutside i = (row : GraphRow) → row_of rows i ≡ Some row → Reaches next hidden_tips i → ⊥
-
-  -- a visible id above which the rows aren't dropped
-  abbrev pub IsBorder : ObjectId → Type 0
-  IsBorder i = Contains tips i ⊎ ((c : ObjectId) × Reaches next tips c × IsOutside c × Contains (next c) i)
-
-  -- what is known of an id by its state, while the parents of a busy one are still to be met
-  abbrev pub Fact : (Side → ObjectId → Type 0) → Painter F → ObjectId → State → Type 0
-  Fact busy p i Unmet = Unit {0}
-  Fact busy p i Open = Reaches next tips i × IsWaiting p side.Visible i × (RowsStand p → IsBorder i)
-  Fact busy p i Read = Reaches next tips i × (busy side.Visible i ⊎ ((c : ObjectId) → Contains (next i) c → state_of p c ≢ Unmet)) × (RowsStand p → IsOutside i)
-  Fact busy p i Hides = Reaches next hidden_tips i × (busy side.Hidden i ⊎ (IsWaiting p side.Hidden i ⊎ ((c : ObjectId) → Contains (next i) c → state_of p c ≡ Hides)))
-
-  -- what holds where the rows agree
-  pub record Stands (busy : Side → ObjectId → Type 0) (p : Painter F) : Type 0 where
-    pub facts : (i : ObjectId) → Fact busy p i (state_of p i)
-    pub tidy : IsTidy p
-    pub reached : (q : Key × Entry) → Contains p.queue q → Reaches next (starts_of q.1.side) q.1.id
-    pub waits : (q : Key × Entry) → Contains p.queue q → q.1.side ≡ side.Hidden → state_of p q.1.id ≡ Hides
-    pub dropped : (RowsStand p → ⊥) → DropsBy (objects store) rows tips hidden_tips
-    pub read : rows ≡ [] → (i : ObjectId) → state_of p i ≢ Unmet → (ids : List ObjectId) × Reads (objects store) i ids
-
   pub rowless : {p : Painter F} → IsSafe p → rows ≡ [] → RowsStand p
   rowless h e = ⊎_elim (λ k. k) (λ n. ap rows_in n ∙ sym e) h.either
 
-  -- the tips and the hidden tips were met
-  pub record IsStarted (p : Painter F) : Type 0 where
-    pub shown : (i : ObjectId) → Contains tips i → state_of p i ≢ Unmet
-    pub hidden : (i : ObjectId) → Contains hidden_tips i → state_of p i ≡ Hides
-
   module _ {s : Side} {ids : List ObjectId} {p new : Painter F} (m : Meets objects s ids p new) where
-    pub started_meets : IsStarted p → IsStarted new
-    started_meets h = record { shown = λ i c. met_stays (m.states i) (h.shown i c); hidden = λ i c. hidden_stays (m.states i) (h.hidden i c) }
-
-    still_stand : RowsStand new → RowsStand p
+    pub still_stand : RowsStand new → RowsStand p
     still_stand r = ap rows_in (sym m.graph_stays) ∙ r
 
     added : IsSafe p → (q : Key × Entry) → Contains new.queue q → Contains p.queue q ⊎ (Contains ids q.1.id × (q.1.side ≡ s) × IsQueued (objects store) (rows_in p.source.graph) q)
@@ -136,13 +111,57 @@ module _ {F : Type 0} (objects : F → Objects) (store : F) (rows : List GraphRo
       brings = λ q c those e. ⊎_elim (λ o. h.brings q o those e) (λ a. brought_read a.2 those e) (added h q c);
     }
 
+module _ {F : Type 0} (objects : F → Objects) (store : F) (history : Objects) (rows : List GraphRow) (tips hidden_tips : List ObjectId) where
+  abbrev pub next : ObjectId → List ObjectId
+  next = parents_of history
+
+  abbrev Standing : Painter F → Type 0
+  Standing = RowsStand objects store rows
+
+  abbrev pub starts_of : Side → List ObjectId
+  starts_of side.Visible = tips
+  starts_of side.Hidden = hidden_tips
+
+  -- an id that isn't hidden, if it has a row
+  abbrev pub IsOutside : ObjectId → Type 0
+  IsOutside i = (row : GraphRow) → row_of rows i ≡ Some row → Reaches next hidden_tips i → ⊥
+
+  -- a visible id above which the rows aren't dropped
+  abbrev pub IsBorder : ObjectId → Type 0
+  IsBorder i = Contains tips i ⊎ ((c : ObjectId) × Reaches next tips c × IsOutside c × Contains (next c) i)
+
+  -- what is known of an id by its state, while the parents of a busy one are still to be met
+  abbrev pub Fact : (Side → ObjectId → Type 0) → Painter F → ObjectId → State → Type 0
+  Fact busy p i Unmet = Unit {0}
+  Fact busy p i Open = Reaches next tips i × IsWaiting p side.Visible i × (Standing p → IsBorder i)
+  Fact busy p i Read = Reaches next tips i × (busy side.Visible i ⊎ ((c : ObjectId) → Contains (next i) c → state_of p c ≢ Unmet)) × (Standing p → IsOutside i)
+  Fact busy p i Hides = Reaches next hidden_tips i × (busy side.Hidden i ⊎ (IsWaiting p side.Hidden i ⊎ ((c : ObjectId) → Contains (next i) c → state_of p c ≡ Hides)))
+
+  -- what holds where the rows agree
+  pub record Stands (busy : Side → ObjectId → Type 0) (p : Painter F) : Type 0 where
+    pub facts : (i : ObjectId) → Fact busy p i (state_of p i)
+    pub tidy : IsTidy p
+    pub reached : (q : Key × Entry) → Contains p.queue q → Reaches next (starts_of q.1.side) q.1.id
+    pub waits : (q : Key × Entry) → Contains p.queue q → q.1.side ≡ side.Hidden → state_of p q.1.id ≡ Hides
+    pub dropped : (Standing p → ⊥) → DropsBy next rows tips hidden_tips
+    pub read : rows ≡ [] → (i : ObjectId) → state_of p i ≢ Unmet → (ids : List ObjectId) × Reads (objects store) i ids
+
+  -- the tips and the hidden tips were met
+  pub record IsStarted (p : Painter F) : Type 0 where
+    pub shown : (i : ObjectId) → Contains tips i → state_of p i ≢ Unmet
+    pub hidden : (i : ObjectId) → Contains hidden_tips i → state_of p i ≡ Hides
+
+  module _ {s : Side} {ids : List ObjectId} {p new : Painter F} (m : Meets objects s ids p new) where
+    pub started_meets : IsStarted p → IsStarted new
+    started_meets h = record { shown = λ i c. met_stays (m.states i) (h.shown i c); hidden = λ i c. hidden_stays (m.states i) (h.hidden i c) }
+
     waiting_stays : (t : Side) (i : ObjectId) → IsWaiting p t i → IsWaiting new t i
     waiting_stays t i w = (w.0, m.keeps w.0 w.1, w.2, w.3)
 
     -- what is met is known, and nobody is busy any more
-    pub stands_meets : (busy : Side → ObjectId → Type 0) → IsSafe p → Stands busy p
+    pub stands_meets : (busy : Side → ObjectId → Type 0) → IsSafe objects store rows p → Stands busy p
         → ((i : ObjectId) → Contains ids i → Reaches next (starts_of s) i)
-        → (s ≡ side.Visible → RowsStand p → (i : ObjectId) → Contains ids i → IsBorder i)
+        → (s ≡ side.Visible → Standing p → (i : ObjectId) → Contains ids i → IsBorder i)
         → ((t : Side) (i : ObjectId) → busy t i → (t ≡ s) × ((c : ObjectId) → Contains (next i) c → Contains ids c))
         → Stands nobody new
     stands_meets busy safe h reach border done = record {
@@ -156,16 +175,16 @@ module _ {F : Type 0} (objects : F → Objects) (store : F) (rows : List GraphRo
       where
         fact : (i : ObjectId) {a b : State} → Becomes s (Contains ids i) (IsWaiting new s i) a b → Fact busy p i a → Fact nobody new i b
         fact i (stays {s = Unmet} f) k = tt
-        fact i (stays {s = Open} f) k = (k.0, waiting_stays side.Visible i k.1, λ r. k.2 (still_stand r))
+        fact i (stays {s = Open} f) k = (k.0, waiting_stays side.Visible i k.1, λ r. k.2 (still_stand objects store rows m r))
         fact i (stays {s = Read} f) k =
-            (k.0, inr (⊎_elim (λ b c n. met_now (m.states c) ((done side.Visible i b).1 c n)) (λ all c n. met_stays (m.states c) (all c n)) k.1), λ r. k.2 (still_stand r))
+            (k.0, inr (⊎_elim (λ b c n. met_now (m.states c) ((done side.Visible i b).1 c n)) (λ all c n. met_stays (m.states c) (all c n)) k.1), λ r. k.2 (still_stand objects store rows m r))
         fact i (stays {s = Hides} f) k =
             (k.0, inr (⊎_elim (λ b. inr (λ c n. hidden_now (m.states c) (sym (done side.Hidden i b).0) ((done side.Hidden i b).1 c n))) (λ o. ⊎_elim (λ w. inl (waiting_stays side.Hidden i w)) (λ all. inr (λ c n. hidden_stays (m.states c) (all c n))) o) k.1))
-        fact i (opens v c w) k = (subst (λ t. Reaches next (starts_of t) i) v (reach i c), subst (λ t. IsWaiting new t i) v w, λ r. border v (still_stand r) i c)
+        fact i (opens v c w) k = (subst (λ t. Reaches next (starts_of t) i) v (reach i c), subst (λ t. IsWaiting new t i) v w, λ r. border v (still_stand objects store rows m r) i c)
         fact i (covers v c w) k = (subst (λ t. Reaches next (starts_of t) i) v (reach i c), inr (inl (subst (λ t. IsWaiting new t i) v w)))
 
         whole : rows ≡ [] → (i : ObjectId) → IsWaiting new s i → (ids : List ObjectId) × Reads (objects store) i ids
-        whole e i w = reads_of (subst (λ rs. IsQueued (objects store) rs w.0) e ((safe_meets safe).queued (rowless (safe_meets safe) e) w.0 w.1))
+        whole e i w = reads_of (subst (λ rs. IsQueued (objects store) rs w.0) e ((safe_meets objects store rows m safe).queued (rowless objects store rows (safe_meets objects store rows m safe) e) w.0 w.1))
           where
             reads_of : Knows (objects store) [] w.0.1.id (record { key = w.0.0; parent_ids = w.0.1.parent_ids }) → (ids : List ObjectId) × Reads (objects store) i ids
             reads_of (by_row r k t n) = cc

@@ -1,5 +1,5 @@
 -- What an entry's turn keeps of what holds while hidden tips are painted.
-use Rattle.std.specs.Prelude.{◌≡◌, ◌≢◌, ◌⊎◌, ◌<◌, ◌≤◌, ℕ, List, [], ◌∷◌, ◌++◌, Bool, true, false, cond, Option, Some, None, Contains, IsSome}
+use Rattle.std.specs.Prelude.{◌≡◌, ◌≢◌, ◌⊎◌, ◌<◌, ◌≤◌, ℕ, List, [], ◌∷◌, ◌++◌, Bool, true, false, cond, Option, Some, None, Contains, IsSome, suc, slice_get}
 use Rattle.std.specs.List.{list_any}
 use Rattle.std.specs.Ordering.{eq_by_cmp}
 use Rattle.std.proofs.Common.{refl, sym, ap, subst, inl, inr, ⊎_elim, ◌∙◌, arith}
@@ -18,20 +18,21 @@ use Rattle.gix_traverse.specs.declared.commit.simple.paint.Marks.{Marks}
 use Rattle.gix_traverse.specs.declared.commit.simple.paint.Side.{Side}
 use Rattle.gix_traverse.specs.declared.commit.simple.paint.Side.TheVariants as side
 use Rattle.gix_traverse.specs.declared.commit.simple.paint.source.Generation.TheVariants.{Told, Infinite}
+use Rattle.gix_parts.specs.declared.graph.ParentPlace.{ParentPlace}
+use Rattle.gix_parts.specs.declared.graph.ParentPlace.TheVariants.{At, Fault}
 use Rattle.gix_traverse.specs.declared.commit.simple.paint.source.Key.{Key}
 use Rattle.gix_traverse.specs.declared.commit.simple.paint.Entry.{Entry}
 use Rattle.gix_traverse.specs.declared.commit.simple.paint.Painter.{Painter}
-use Rattle.gix_traverse.specs.History.Agreeing.{IsAgreeing}
-use Rattle.gix_traverse.specs.Simple.Painting.{DropsBy, generation_in}
+use Rattle.gix_traverse.specs.Simple.Painting.{DropsBy, generation_in, IsHistory}
 use Rattle.gix_traverse.specs.Simple.Inside.Painter.{hides, State, Unmet, Open, Read, Hides, state_by, state_of, rows_in, Reads, ReadsParents, by_row, by_store, drops, Knows, IsQueued, IsWaiting, IsTidy, IsSettled, is_told, Meets, GivesParents, brought, looked_up, Takes, is_turn, is_turn_on, frontier_without, TreatsEntry, skips, reads, Pops}
 use Rattle.gix_traverse.specs.Simple.Inside.Painter as painter
 use Rattle.gix_traverse.specs.History.Reach.{Reaches, start, step}
-use Rattle.gix_traverse.specs.Simple.Walk.{ids_at}
+use Rattle.gix_traverse.specs.Simple.Walk.{ids_at, with_id}
 use Rattle.gix_traverse.proofs.Painting.Invariant.{nobody, next, starts_of, RowsStand, IsSafe, IsOutside, Fact, Stands, IsStarted}
 use Rattle.gix_traverse.proofs.Painting.Keys.{told_below_top}
 use Rattle.gix_traverse.proofs.Shared.ReadsWhole.{row_stands, parent_below, corrupt_row}
 use Rattle.gix_traverse.proofs.Painting.Search.{done_or_waits, told_below}
-use Rattle.gix_parts.proofs.Ids.Membership.{id_total, id_apart, same_itself, Contains-here}
+use Rattle.gix_parts.proofs.Ids.Membership.{id_total, id_apart, same_itself, Contains-here, no_member, Contains-cons_cases}
 
 -- a set that isn't empty has a member
 pub member_of : (s : set.FinSet id_cmp) → (set.len s ≡ 0 → ⊥) → (i : ObjectId) × (set.contains s i ≡ true)
@@ -43,7 +44,20 @@ member_of s some = go (set.items s) refl
         absurd (some (ap set.len none ∙ set.len-empty id_cmp))
     go (x ∷ items) e = (x, set.contains-items s x ∙ ap (list_any (eq_by_cmp id_cmp x)) e ∙ or_left _ _ (same_itself x))
 
--- places that name no ids have a fault among them, if each number is that of a row
+-- places that name ids have no fault among them
+pub no_fault_among : (rows : List GraphRow) (places : List ParentPlace) (ids : List ObjectId) → ids_at rows places ≡ Some ids → Contains places Fault → ⊥
+no_fault_among rows [] ids e c = no_member Fault c
+no_fault_among rows (Fault ∷ places) ids e c = cc
+no_fault_among rows (At n ∷ places) ids e c = go (slice_get rows n) refl (ids_at rows places) refl (λ those b. no_fault_among rows places those b behind) e
+  where
+    behind : Contains places Fault
+    behind = ⊎_elim (λ s. let bad : At n ≡ Fault = s in cc) (λ t. t) (Contains-cons_cases Fault (At n) places c)
+
+    go : (o : Option GraphRow) → slice_get rows n ≡ o → (r : Option (List ObjectId)) → ids_at rows places ≡ r → ((those : List ObjectId) → ids_at rows places ≡ Some those → ⊥) → with_id o r ≡ Some ids → ⊥
+    go None a r b rest f = cc
+    go (Some row) a None b rest f = cc
+    go (Some row) a (Some those) b rest f = rest those b
+
 pub open_read : (o : Option Marks) → state_by o true ≡ Open → state_by o false ≡ Read
 open_read None e = cc
 open_read (Some m) e = go (hides (Some m)) e
@@ -63,11 +77,11 @@ shut (Some m) = go (hides (Some m))
 pub popped_there : {F : Type 0} {old new : Painter F} {top : Key × Entry} → Pops cmp-value.it old top new → Contains old.queue top
 popped_there {new = new} {top = top} pops = Contains-permutation _ _ top (IsPermutation-sym _ _ pops.queue) (Contains-here top new.queue)
 
-module _ {F : Type 0} (objects : F → Objects) (store : F) (rows : List GraphRow) (tips hidden_tips : List ObjectId) where
+module _ {F : Type 0} (objects : F → Objects) (store : F) (history : Objects) (rows : List GraphRow) (tips hidden_tips : List ObjectId) where
   abbrev There : ObjectId → List ObjectId
-  There = next objects store rows tips hidden_tips
+  There = next objects store history rows tips hidden_tips
 
-  pub reaches_either : (s : Side) (i : ObjectId) → Reaches There (starts_of objects store rows tips hidden_tips s) i → Reaches There (tips ++ hidden_tips) i
+  pub reaches_either : (s : Side) (i : ObjectId) → Reaches There (starts_of objects store history rows tips hidden_tips s) i → Reaches There (tips ++ hidden_tips) i
   reaches_either side.Visible i (start m) = start (Contains-append_left tips hidden_tips i m)
   reaches_either side.Hidden i (start m) = start (Contains-append_right tips hidden_tips i m)
   reaches_either s i (step {c = c} q m) = step (reaches_either s c q) m
@@ -76,40 +90,40 @@ module _ {F : Type 0} (objects : F → Objects) (store : F) (rows : List GraphRo
   abbrev IsDone : Painter F → ObjectId → Type 0
   IsDone p i = (state_of p i ≡ Hides) × ((c : ObjectId) → Contains (There i) c → state_of p c ≡ Hides)
 
-  hidden_so : (p : Painter F) → Stands objects store rows tips hidden_tips nobody p → (i : ObjectId) → state_of p i ≡ Hides → IsDone p i ⊎ IsWaiting p side.Hidden i
+  hidden_so : (p : Painter F) → Stands objects store history rows tips hidden_tips nobody p → (i : ObjectId) → state_of p i ≡ Hides → IsDone p i ⊎ IsWaiting p side.Hidden i
   hidden_so p h i e =
-      let f : Fact objects store rows tips hidden_tips nobody p i Hides = subst (Fact objects store rows tips hidden_tips nobody p i) e (h.facts i) in
+      let f : Fact objects store history rows tips hidden_tips nobody p i Hides = subst (Fact objects store history rows tips hidden_tips nobody p i) e (h.facts i) in
       ⊎_elim (λ b. absurd b) (λ o. ⊎_elim (λ w. inr w) (λ all. inl (e, all)) o) f.1
 
-  pub hidden_from : (p : Painter F) → Stands objects store rows tips hidden_tips nobody p → IsStarted objects store rows tips hidden_tips p → (i : ObjectId) → Reaches There hidden_tips i
+  pub hidden_from : (p : Painter F) → Stands objects store history rows tips hidden_tips nobody p → IsStarted objects store history rows tips hidden_tips p → (i : ObjectId) → Reaches There hidden_tips i
       → IsDone p i ⊎ ((q : ObjectId) × IsWaiting p side.Hidden q × Reaches There (q ∷ []) i)
   hidden_from p h started = done_or_waits There hidden_tips (IsWaiting p side.Hidden) (IsDone p) (λ i m. hidden_so p h i (started.hidden i m)) (λ c i d m. hidden_so p h i (d.1 i m))
 
-  abbrev HasGeneration : ObjectId → ℕ → Type 0
+  abbrev pub HasGeneration : ObjectId → ℕ → Type 0
   HasGeneration i n = (row : GraphRow) × (row_of rows i ≡ Some row) × (row.generation ≡ n)
 
-  one_generation : (i : ObjectId) (m n : ℕ) → HasGeneration i m → HasGeneration i n → m ≡ n
+  pub one_generation : (i : ObjectId) (m n : ℕ) → HasGeneration i m → HasGeneration i n → m ≡ n
   one_generation i m n a b = let same : a.0 ≡ b.0 = (let s : Some a.0 ≡ Some b.0 = sym a.1 ∙ b.1 in cc) in sym a.2 ∙ ap (λ row. row.generation) same ∙ b.2
 
-  module _ (faulty : ObjectId → Type 0) (agrees : IsAgreeing (objects store) faulty rows) where
-    falls : (c i : ObjectId) (n : ℕ) → HasGeneration c n → Contains (There c) i → (m : ℕ) × HasGeneration i m × (m < n)
+  module _ (known : IsHistory (objects store) rows history) where
+    pub falls : (c i : ObjectId) (n : ℕ) → HasGeneration c n → Contains (There c) i → (m : ℕ) × HasGeneration i m × (m < n)
     falls c i n h m =
-        let p : (r : GraphRow) × (row_of rows i ≡ Some r) × (r.generation < h.0.generation) = parent_below (objects store) faulty rows agrees c h.0 i h.1 m in
+        let p : (r : GraphRow) × (row_of rows i ≡ Some r) × (r.generation < h.0.generation) = parent_below history (λ i. ⊥) rows known.agreeing c h.0 i h.1 m in
         (p.0.generation, (p.0, p.1, refl), (let e : h.0.generation ≡ n = h.2 in let l : p.0.generation < h.0.generation = p.2 in omega arith))
 
     pub below : (q : ObjectId) (n : ℕ) → HasGeneration q n → (i : ObjectId) → Reaches There (q ∷ []) i → (m : ℕ) × HasGeneration i m × ((q ≡ i) ⊎ (m < n))
     below = told_below There HasGeneration one_generation falls
 
     -- before an entry's turn
-    module _ (w : Painter F) (safe : IsSafe objects store rows tips hidden_tips w) (h : Stands objects store rows tips hidden_tips nobody w) (started : IsStarted objects store rows tips hidden_tips w) where
-      key_of : RowsStand objects store rows tips hidden_tips w → (q : Key × Entry) → Contains w.queue q → (row : GraphRow) → row_of rows q.1.id ≡ Some row → q.0.generation ≡ Told row.generation
+    module _ (w : Painter F) (safe : IsSafe objects store rows w) (h : Stands objects store history rows tips hidden_tips nobody w) (started : IsStarted objects store history rows tips hidden_tips w) where
+      pub key_of : RowsStand objects store rows w → (q : Key × Entry) → Contains w.queue q → (row : GraphRow) → row_of rows q.1.id ≡ Some row → q.0.generation ≡ Told row.generation
       key_of r q c row e = go (safe.queued r q c)
         where
           go : IsQueued (objects store) rows q → q.0.generation ≡ Told row.generation
           go (painter.by_row {row = other} f k t n) = let same : other ≡ row = (let s : Some other ≡ Some row = sym f ∙ e in cc) in k ∙ ap (λ x. Told x.generation) same
           go (painter.by_store f k t m d) = let bad : None ≡ Some row = sym f ∙ e in cc
 
-      row_told : RowsStand objects store rows tips hidden_tips w → (q : Key × Entry) → Contains w.queue q → (n : ℕ) → q.0.generation ≡ Told n → HasGeneration q.1.id n
+      pub row_told : RowsStand objects store rows w → (q : Key × Entry) → Contains w.queue q → (n : ℕ) → q.0.generation ≡ Told n → HasGeneration q.1.id n
       row_told r q c n e = go (safe.queued r q c)
         where
           go : IsQueued (objects store) rows q → HasGeneration q.1.id n
@@ -117,13 +131,13 @@ module _ {F : Type 0} (objects : F → Objects) (store : F) (rows : List GraphRo
           go (painter.by_store f k t m d) = let bad : Infinite ≡ Told n = sym k ∙ e in cc
 
       -- what waits below a key that a row told has a row of its own
-      waits_below : RowsStand objects store rows tips hidden_tips w → (top : Key × Entry) → IsUpperBound cmp-value.it top.0 (keys w.queue) → (n : ℕ) → top.0.generation ≡ Told n → (s : Side) (i : ObjectId) → IsWaiting w s i → (m : ℕ) × HasGeneration i m × (m ≤ n)
+      waits_below : RowsStand objects store rows w → (top : Key × Entry) → IsUpperBound cmp-value.it top.0 (keys w.queue) → (n : ℕ) → top.0.generation ≡ Told n → (s : Side) (i : ObjectId) → IsWaiting w s i → (m : ℕ) × HasGeneration i m × (m ≤ n)
       waits_below r top bound n e s i q =
           let k : (m : ℕ) × (q.0.0.generation ≡ Told m) × (m ≤ n) = told_below_top top.0 w.queue bound n e q.0 q.1 in
           (k.0, subst (λ j. HasGeneration j k.0) q.3 (row_told r q.0 q.1 k.0 k.1), k.2)
 
       -- no id is taken that an unread id above it would hide
-      pub taken_outside : RowsStand objects store rows tips hidden_tips w → (top : Key × Entry) → Contains w.queue top → IsUpperBound cmp-value.it top.0 (keys w.queue) → state_of w top.1.id ≢ Hides → IsOutside objects store rows tips hidden_tips top.1.id
+      pub taken_outside : RowsStand objects store rows w → (top : Key × Entry) → Contains w.queue top → IsUpperBound cmp-value.it top.0 (keys w.queue) → state_of w top.1.id ≢ Hides → IsOutside objects store history rows tips hidden_tips top.1.id
       taken_outside r top there bound unhidden row e hidden =
           ⊎_elim (λ d. unhidden d.0) (λ q.
           let told : top.0.generation ≡ Told row.generation = key_of r top there row e in
@@ -134,27 +148,43 @@ module _ {F : Type 0} (objects : F → Objects) (store : F) (rows : List GraphRo
           (hidden_from w h started top.1.id hidden)
 
       -- rows are dropped for the row of a greatest key, while an open id waits below
-      pub drop_reason : RowsStand objects store rows tips hidden_tips w → IsSome w.source.graph → (top : Key × Entry) → Contains w.queue top → IsUpperBound cmp-value.it top.0 (keys w.queue) → (IsSettled w → ⊥) → (row : GraphRow) → row_of rows top.1.id ≡ Some row → ids_at rows row.parents ≡ None
-          → DropsBy (objects store) rows tips hidden_tips
+      pub drop_reason : RowsStand objects store rows w → IsSome w.source.graph → (top : Key × Entry) → Contains w.queue top → IsUpperBound cmp-value.it top.0 (keys w.queue) → (IsSettled w → ⊥) → (row : GraphRow) → row_of rows top.1.id ≡ Some row → ids_at rows row.parents ≡ None
+          → DropsBy There rows tips hidden_tips
       drop_reason r graph top there bound unsettled row e corrupt =
           let told : top.0.generation ≡ Told row.generation = key_of r top there row e in
           let x : (i : ObjectId) × (set.contains w.frontier i ≡ true) = member_of w.frontier (λ none. unsettled (inr (graph, none, λ q c. ap is_told (told_below_top top.0 w.queue bound row.generation told q c).1))) in
           let waits : state_of w x.0 ≡ Open = h.tidy x.0 x.1 in
-          let fact : Fact objects store rows tips hidden_tips nobody w x.0 Open = subst (Fact objects store rows tips hidden_tips nobody w x.0) waits (h.facts x.0) in
+          let fact : Fact objects store history rows tips hidden_tips nobody w x.0 Open = subst (Fact objects store history rows tips hidden_tips nobody w x.0) waits (h.facts x.0) in
           let low : (m : ℕ) × HasGeneration x.0 m × (m ≤ row.generation) = waits_below r top bound row.generation told side.Visible x.0 fact.1 in
           let stands : Contains rows row × (top.1.id ≡ row.id) = row_stands rows top.1.id row e in
-          let known : generation_in (row_of rows x.0) ≡ low.0 = ap generation_in low.1.1 ∙ low.1.2 in
+          let told_as : generation_in (row_of rows x.0) ≡ low.0 = ap generation_in low.1.1 ∙ low.1.2 in
           record {
             row = row;
-            present = stands.0;
-            corrupt = corrupt_row (objects store) faulty rows agrees row stands.0 corrupt;
+            present = ap (row_of rows) (sym stands.1) ∙ e;
+            corrupt = corrupt_row history (λ i. ⊥) rows known.agreeing row stands.0 corrupt;
             reached = subst (Reaches There (tips ++ hidden_tips)) stands.1 (reaches_either top.1.side top.1.id (h.reached top there));
             bound = x.0;
-            at_boundary = ⊎_elim (λ t. inl t) (λ b. inr (b.0, b.1, outside told x.0 waits b.0 b.2 b.3, b.3)) (fact.2 r);
-            no_deeper = let le : low.0 ≤ row.generation = low.2 in omega arith;
+            no_deeper = record {
+              at_boundary = ⊎_elim (λ t. inl t) (λ b. inr (b.0, b.1, outside told x.0 waits b.0 b.2 b.3, b.3)) (fact.2 r);
+              no_tip = λ m. let bad : Open ≡ Hides = sym waits ∙ started.hidden x.0 m in cc;
+              below = let le : low.0 ≤ row.generation = low.2 in omega arith;
+              children_below = λ c reached m. child told x.0 waits c reached m;
+            };
           }
         where
-          outside : top.0.generation ≡ Told row.generation → (x : ObjectId) → state_of w x ≡ Open → (c : ObjectId) → IsOutside objects store rows tips hidden_tips c → Contains (There c) x → Reaches There hidden_tips c → ⊥
+          -- a hidden commit over an open id waits, or is below what waits
+          child : top.0.generation ≡ Told row.generation → (x : ObjectId) → state_of w x ≡ Open → (c : ObjectId) → Reaches There hidden_tips c → Contains (There c) x → generation_in (row_of rows c) < suc row.generation
+          child told x waits c reached m =
+              ⊎_elim (λ d. let bad : Open ≡ Hides = sym waits ∙ d.1 x m in cc)
+              (λ q.
+              let above : (m : ℕ) × HasGeneration q.0 m × (m ≤ row.generation) = waits_below r top bound row.generation told side.Hidden q.0 q.1 in
+              let under : (m : ℕ) × HasGeneration c m × ((q.0 ≡ c) ⊎ (m < above.0)) = below q.0 above.0 above.1 c q.2 in
+              let told_as : generation_in (row_of rows c) ≡ under.0 = ap generation_in under.1.1 ∙ under.1.2 in
+              let le : above.0 ≤ row.generation = above.2 in
+              ⊎_elim (λ s. let same : under.0 ≡ above.0 = one_generation c under.0 above.0 under.1 (subst (λ j. HasGeneration j above.0) s above.1) in omega arith) (λ l. omega arith) under.2)
+              (hidden_from w h started c reached)
+
+          outside : top.0.generation ≡ Told row.generation → (x : ObjectId) → state_of w x ≡ Open → (c : ObjectId) → IsOutside objects store history rows tips hidden_tips c → Contains (There c) x → Reaches There hidden_tips c → ⊥
           outside told x waits c out m hidden = go (row_of rows c) refl
             where
               go : (o : Option GraphRow) → row_of rows c ≡ o → ⊥

@@ -1,35 +1,33 @@
 -- Where painting begins and ends: the marks are whole.
 use Rattle.std.specs.Borrow.{Bor}
-use Rattle.std.specs.Prelude.{◌≡◌, ◌≢◌, ◌⊎◌, List, [], ◌∷◌, ◌++◌, Bool, true, false, cond, Option, Some, None, Result, Ok, Err, Contains, IsSome, IfErr, is_some, if◌then◌else◌}
-use Rattle.std.specs.Result.{IsErrAnd}
-use Rattle.std.proofs.Common.{refl, sym, ap, subst, inl, inr, ⊎_elim, ◌∙◌}
+use Rattle.std.specs.Prelude.{◌≡◌, ◌≢◌, ◌⊎◌, ◌<◌, ◌≤◌, ℕ, List, [], ◌∷◌, ◌++◌, Bool, true, false, cond, Option, Some, None, Contains, IsSome, is_some, if◌then◌else◌}
+use Rattle.std.proofs.Common.{refl, sym, ap, subst, inl, inr, ⊎_elim, ◌∙◌, arith}
 use Rattle.std.proofs.lemmas.List.Elements.{Contains-append_cases}
 use Rattle.std.specs.FinMap as map_of
 use Rattle.std.specs.FinSet as set
 use Rattle.gix_parts.specs.declared.hash.ObjectId.{ObjectId}
-use Rattle.gix_parts.specs.declared.object.find.existing_iter.Error.TheVariants as existing
 use Rattle.gix_parts.specs.Id.{id_cmp}
 use Rattle.gix_parts.specs.Object.{Objects}
 use Rattle.gix_parts.specs.Rows.{GraphRow, row_of}
-use Rattle.gix_traverse.specs.declared.commit.simple.Hidden.{Hidden}
-use Rattle.gix_traverse.specs.declared.commit.simple.Hidden.TheVariants as hidden_by
-use Rattle.gix_traverse.specs.contracts.commit.simple.paint.source.KeyOrd.TheImpl.{cmp-value}
 use Rattle.gix_traverse.specs.declared.commit.simple.paint.Marks.{Marks}
 use Rattle.gix_traverse.specs.declared.commit.simple.paint.Side.TheVariants as side
 use Rattle.gix_traverse.specs.declared.commit.simple.paint.source.Key.{Key}
+use Rattle.gix_traverse.specs.declared.commit.simple.paint.source.Generation.TheVariants.{Told}
 use Rattle.gix_traverse.specs.declared.commit.simple.paint.Entry.{Entry}
 use Rattle.gix_traverse.specs.declared.commit.simple.paint.Painter.{Painter}
-use Rattle.gix_traverse.specs.History.Agreeing.{IsAgreeing}
-use Rattle.gix_traverse.specs.Simple.Painting.{IsAtBoundary, IsFaultAt, IsHiddenFault, Paints}
+use Rattle.gix_traverse.specs.History.Agreeing.{IsCorrupt}
+use Rattle.gix_traverse.specs.Simple.Painting.{IsHistory, IsAtBoundary, IsOpenBelow, IsRead, shown_commit, hidden_commit, generation_in, Paints}
 use Rattle.gix_traverse.specs.Simple.Inside.Painter.{FailsAmong, hides, is_hidden, hidden_of, State, Unmet, Open, Read, Hides, state_by, state_of, rows_in, Reads, Knows, IsQueued, IsWaiting, IsSettled, is_told, Meets, GivesParents, TreatFails, Pops}
 use Rattle.gix_traverse.specs.Simple.Inside.Painter as painter
 use Rattle.gix_traverse.specs.History.Reach.{Reaches, start, step}
 use Rattle.gix_traverse.proofs.Painting.Invariant.{contains-hidden, hidden_now, met_now, nobody, next, RowsStand, IsSafe, Fact, Stands, IsStarted, rowless, stands_meets, safe_meets, hidden_stays}
 use Rattle.gix_traverse.proofs.Painting.Meets.{hides_then}
-use Rattle.gix_traverse.proofs.Painting.KeptByTurn.{hidden_from, below, popped_there, reaches_either}
-use Rattle.gix_traverse.proofs.Painting.Turn.{given_parents}
-use Rattle.gix_parts.proofs.Ids.Membership.{no_member}
+use Rattle.gix_traverse.proofs.Painting.KeptByTurn.{HasGeneration, one_generation, row_told, hidden_from, below}
+use Rattle.gix_traverse.proofs.Painting.Order as order
+use Rattle.gix_traverse.proofs.Painting.Order.{IsAbove, IsOrdered}
+use Rattle.gix_parts.proofs.Ids.Membership.{no_member, Contains-here}
 use Rattle.gix_traverse.proofs.Shared.Rows.{none_agree}
+use Rattle.gix_traverse.proofs.Shared.ReadsWhole.{row_stands}
 
 hidden_state : (o : Option Marks) (waiting : Bool) → state_by o waiting ≡ Hides → hides o ≡ true
 hidden_state None waiting e = cc
@@ -40,6 +38,9 @@ hidden_state (Some m) waiting e = go (hides (Some m)) waiting e
     go false true e = cc
     go false false e = cc
 
+no_greater : (a b : ℕ) → a < b → b < a → ⊥
+no_greater a b l m = omega arith
+
 open_waits : (o : Option Marks) (waiting : Bool) → state_by o waiting ≡ Open → waiting ≡ true
 open_waits None waiting e = cc
 open_waits (Some m) waiting e = go (hides (Some m)) waiting e
@@ -49,15 +50,15 @@ open_waits (Some m) waiting e = go (hides (Some m)) waiting e
     go false true e = refl
     go false false e = cc
 
-module _ {F : Type 0} (objects : F → Objects) (store : F) (rows : List GraphRow) (tips hidden_tips : List ObjectId) where
+module _ {F : Type 0} (objects : F → Objects) (store : F) (history : Objects) (rows : List GraphRow) (tips hidden_tips : List ObjectId) where
   abbrev There : ObjectId → List ObjectId
-  There = next objects store rows tips hidden_tips
+  There = next objects store history rows tips hidden_tips
 
   abbrev Holds : Painter F → Type 0
-  Holds p = Stands objects store rows tips hidden_tips nobody p
+  Holds p = Stands objects store history rows tips hidden_tips nobody p
 
   abbrev Started : Painter F → Type 0
-  Started p = IsStarted objects store rows tips hidden_tips p
+  Started p = IsStarted objects store history rows tips hidden_tips p
 
   -- a painter that has marked nothing
   pub record IsBlank (p : Painter F) : Type 0 where
@@ -68,7 +69,7 @@ module _ {F : Type 0} (objects : F → Objects) (store : F) (rows : List GraphRo
     pub queue : p.queue ≡ []
 
   module _ {p : Painter F} (blank : IsBlank p) where
-    pub safe_blank : IsSafe objects store rows tips hidden_tips p
+    pub safe_blank : IsSafe objects store rows p
     safe_blank = record {
       same_store = blank.same_store;
       either = inl blank.graph;
@@ -81,7 +82,7 @@ module _ {F : Type 0} (objects : F → Objects) (store : F) (rows : List GraphRo
 
     pub stands_blank : Holds p
     stands_blank = record {
-      facts = λ i. subst (Fact objects store rows tips hidden_tips nobody p i) (sym (unmet i)) tt;
+      facts = λ i. subst (Fact objects store history rows tips hidden_tips nobody p i) (sym (unmet i)) tt;
       tidy = λ i c. let none : true ≡ false = sym c ∙ ap (λ f. set.contains f i) blank.frontier ∙ set.contains-empty id_cmp i in cc;
       reached = λ q c. absurd (no_member q (subst (λ qs. Contains qs q) blank.queue c));
       waits = λ q c. absurd (no_member q (subst (λ qs. Contains qs q) blank.queue c));
@@ -91,14 +92,17 @@ module _ {F : Type 0} (objects : F → Objects) (store : F) (rows : List GraphRo
 
     -- the hidden tips are met first, and then the visible ones
     module _ {mid new : Painter F} (covers : Meets objects side.Hidden hidden_tips p mid) (shows : Meets objects side.Visible tips mid new) where
-      pub safe_start : IsSafe objects store rows tips hidden_tips new
-      safe_start = safe_meets objects store rows tips hidden_tips shows (safe_meets objects store rows tips hidden_tips covers safe_blank)
+      pub safe_start : IsSafe objects store rows new
+      safe_start = safe_meets objects store rows shows (safe_meets objects store rows covers safe_blank)
 
       pub stands_start : Holds new
       stands_start =
-          stands_meets objects store rows tips hidden_tips shows nobody (safe_meets objects store rows tips hidden_tips covers safe_blank)
-          (stands_meets objects store rows tips hidden_tips covers nobody safe_blank stands_blank (λ i c. start c) (λ e. cc) (λ t i b. absurd b))
+          stands_meets objects store history rows tips hidden_tips shows nobody (safe_meets objects store rows covers safe_blank)
+          (stands_meets objects store history rows tips hidden_tips covers nobody safe_blank stands_blank (λ i c. start c) (λ e. cc) (λ t i b. absurd b))
           (λ i c. start c) (λ e r i c. inl c) (λ t i b. absurd b)
+
+      pub ordered_start : IsOrdered objects store history rows tips hidden_tips new
+      ordered_start = order.ordered_start objects store history rows tips hidden_tips unmet covers shows
 
       pub started_start : Started new
       started_start = record {
@@ -106,26 +110,26 @@ module _ {F : Type 0} (objects : F → Objects) (store : F) (rows : List GraphRo
         hidden = λ i c. hidden_stays (shows.states i) (hidden_now (covers.states i) refl c);
       }
 
-  module _ (faulty : ObjectId → Type 0) (p : Painter F) (safe : IsSafe objects store rows tips hidden_tips p) (settled : IsSettled p) where
+  module _ (p : Painter F) (safe : IsSafe objects store rows p) (settled : IsSettled p) where
     -- no visible id waits any more
     none_open : Holds p → (i : ObjectId) → state_of p i ≢ Open
     none_open h i open_now =
-        ⊎_elim (λ none. let f : Fact objects store rows tips hidden_tips nobody p i Open = subst (Fact objects store rows tips hidden_tips nobody p i) open_now (h.facts i) in
+        ⊎_elim (λ none. let f : Fact objects store history rows tips hidden_tips nobody p i Open = subst (Fact objects store history rows tips hidden_tips nobody p i) open_now (h.facts i) in
         no_member f.1.0 (subst (λ qs. Contains qs f.1.0) none f.1.1))
         (λ s. let waits : set.contains p.frontier i ≡ true = open_waits (map_of.get p.marks i) (set.contains p.frontier i) open_now in
         let none : true ≡ false = sym waits ∙ ap (λ f. set.contains f i) (set.empty_of_len p.frontier s.1) ∙ set.contains-empty id_cmp i in cc)
         settled
 
     -- the rows stand where the queue isn't empty
-    standing : IsSome p.source.graph → RowsStand objects store rows tips hidden_tips p
+    standing : IsSome p.source.graph → RowsStand objects store rows p
     standing some = ⊎_elim (λ r. r) (λ n. let none : true ≡ false = sym some ∙ ap is_some n in cc) safe.either
 
-    module _ (agrees : IsAgreeing (objects store) faulty rows) (h : Holds p) (started : Started p) where
+    module _ (known : IsHistory (objects store) rows history) (h : Holds p) (started : Started p) where
       -- what waits has a row, and what it reaches has one
       rowed : IsSome p.source.graph → ((q : Key × Entry) → Contains p.queue q → is_told q.0.generation ≡ true) → (q i : ObjectId) → IsWaiting p side.Hidden q → Reaches There (q ∷ []) i → (row : GraphRow) × (row_of rows i ≡ Some row)
       rowed some told q i w path =
           let k : (row : GraphRow) × (row_of rows q ≡ Some row) = subst (λ j. (row : GraphRow) × (row_of rows j ≡ Some row)) w.3 (row_for (safe.queued (standing some) w.0 w.1) (told w.0 w.1)) in
-          let b = below objects store rows tips hidden_tips faulty agrees q k.0.generation (k.0, k.1, refl) i path in
+          let b = below objects store history rows tips hidden_tips known q k.0.generation (k.0, k.1, refl) i path in
           (b.1.0, b.1.1)
         where
           row_for : Knows (objects store) rows w.0.1.id (record { key = w.0.0; parent_ids = w.0.1.parent_ids }) → is_told w.0.0.generation ≡ true → (row : GraphRow) × (row_of rows w.0.1.id ≡ Some row)
@@ -138,10 +142,10 @@ module _ {F : Type 0} (objects : F → Objects) (store : F) (rows : List GraphRo
         where
           read_so : state_of p i ≡ Read → ⊥
           read_so e =
-              let f : Fact objects store rows tips hidden_tips nobody p i Read = subst (Fact objects store rows tips hidden_tips nobody p i) e (h.facts i) in
+              let f : Fact objects store history rows tips hidden_tips nobody p i Read = subst (Fact objects store history rows tips hidden_tips nobody p i) e (h.facts i) in
               ⊎_elim (λ d. let bad : Read ≡ Hides = sym e ∙ d.0 in cc)
               (λ q. ⊎_elim (λ none. no_member q.1.0 (subst (λ qs. Contains qs q.1.0) none q.1.1)) (λ s. let row : (row : GraphRow) × (row_of rows i ≡ Some row) = rowed s.0 s.2 q.0 i q.1 q.2 in f.2 (standing s.0) row.0 row.1 hidden) settled)
-              (hidden_from objects store rows tips hidden_tips p h started i hidden)
+              (hidden_from objects store history rows tips hidden_tips p h started i hidden)
 
           go : (s : State) → state_of p i ≡ s → state_of p i ≡ Hides
           go Unmet e = absurd (met e)
@@ -159,30 +163,32 @@ module _ {F : Type 0} (objects : F → Objects) (store : F) (rows : List GraphRo
               go : (s : State) → state_of p c ≡ s → state_of p i ≢ Unmet
               go Unmet e = absurd (met e)
               go Open e = absurd (none_open h c e)
-              go Read e = let f : Fact objects store rows tips hidden_tips nobody p c Read = subst (Fact objects store rows tips hidden_tips nobody p c) e (h.facts c) in ⊎_elim (λ b. absurd b) (λ all. all i m) f.1
-              go Hides e = let f : Fact objects store rows tips hidden_tips nobody p c Hides = subst (Fact objects store rows tips hidden_tips nobody p c) e (h.facts c) in absurd (out f.0)
+              go Read e = let f : Fact objects store history rows tips hidden_tips nobody p c Read = subst (Fact objects store history rows tips hidden_tips nobody p c) e (h.facts c) in ⊎_elim (λ b. absurd b) (λ all. all i m) f.1
+              go Hides e = let f : Fact objects store history rows tips hidden_tips nobody p c Hides = subst (Fact objects store history rows tips hidden_tips nobody p c) e (h.facts c) in absurd (out f.0)
 
           met : (c : ObjectId) → Reaches There tips c → (Reaches There hidden_tips c → ⊥) → state_of p c ≢ Unmet
           met c (start m) out = started.shown c m
           met c (step {c = d} r m) out = onward d (met d r (λ hidden. out (step hidden m))) (λ hidden. out (step hidden m)) c m
 
-      whole : (i : ObjectId) → IsAtBoundary There tips hidden_tips i → Reaches There hidden_tips i → set.contains (hidden_of p.marks) i ≡ true
-      whole i at hidden =
-          contains-hidden p.marks i ∙ hidden_state (map_of.get p.marks i) (set.contains p.frontier i) (all_hidden i (⊎_elim (λ t. started.shown i t) (λ b. (all_met b.0 b.1 b.2).1 i b.3) at) hidden)
+      at_met : (i : ObjectId) → IsAtBoundary There tips hidden_tips i → state_of p i ≢ Unmet
+      at_met i at = ⊎_elim (λ t. started.shown i t) (λ b. (all_met b.0 b.1 b.2).1 i b.3) at
 
-      sound : (i : ObjectId) → set.contains (hidden_of p.marks) i ≡ true → Reaches There hidden_tips i
+      pub whole : (i : ObjectId) → IsAtBoundary There tips hidden_tips i → Reaches There hidden_tips i → set.contains (hidden_of p.marks) i ≡ true
+      whole i at hidden = contains-hidden p.marks i ∙ hidden_state (map_of.get p.marks i) (set.contains p.frontier i) (all_hidden i (at_met i at) hidden)
+
+      pub sound : (i : ObjectId) → set.contains (hidden_of p.marks) i ≡ true → Reaches There hidden_tips i
       sound i c =
           let e : state_of p i ≡ Hides = hides_then (map_of.get p.marks i) (set.contains p.frontier i) (sym (contains-hidden p.marks i) ∙ c) in
-          let f : Fact objects store rows tips hidden_tips nobody p i Hides = subst (Fact objects store rows tips hidden_tips nobody p i) e (h.facts i) in
+          let f : Fact objects store history rows tips hidden_tips nobody p i Hides = subst (Fact objects store history rows tips hidden_tips nobody p i) e (h.facts i) in
           f.0
 
       -- without rows the queue is empty, and all is met
-      all_read : rows ≡ [] → (i : ObjectId) → Reaches There (tips ++ hidden_tips) i → state_of p i ≢ Unmet
+      pub all_read : rows ≡ [] → (i : ObjectId) → Reaches There (tips ++ hidden_tips) i → state_of p i ≢ Unmet
       all_read e i (start m) = ⊎_elim (λ t. started.shown i t) (λ t. subst (λ s. s ≢ Unmet) (sym (started.hidden i t)) (λ k. cc)) (Contains-append_cases tips hidden_tips i m)
       all_read e i (step {c = c} r m) = go (state_of p c) refl (all_read e c r)
         where
           nothing_waits : (q : Key × Entry) → Contains p.queue q → ⊥
-          nothing_waits q there = ⊎_elim (λ none. no_member q (subst (λ qs. Contains qs q) none there)) (λ s. unrowed (subst (λ rs. IsQueued (objects store) rs q) e (safe.queued (rowless objects store rows tips hidden_tips safe e) q there)) (s.2 q there)) settled
+          nothing_waits q there = ⊎_elim (λ none. no_member q (subst (λ qs. Contains qs q) none there)) (λ s. unrowed (subst (λ rs. IsQueued (objects store) rs q) e (safe.queued (rowless objects store rows safe e) q there)) (s.2 q there)) settled
             where
               unrowed : Knows (objects store) [] q.1.id (record { key = q.0; parent_ids = q.1.parent_ids }) → is_told q.0.generation ≡ true → ⊥
               unrowed (painter.by_row f k s n) t = cc
@@ -191,56 +197,84 @@ module _ {F : Type 0} (objects : F → Objects) (store : F) (rows : List GraphRo
           go : (s : State) → state_of p c ≡ s → state_of p c ≢ Unmet → state_of p i ≢ Unmet
           go Unmet f met = absurd (met f)
           go Open f met = absurd (none_open h c f)
-          go Read f met = let k : Fact objects store rows tips hidden_tips nobody p c Read = subst (Fact objects store rows tips hidden_tips nobody p c) f (h.facts c) in ⊎_elim (λ b. absurd b) (λ all. all i m) k.1
+          go Read f met = let k : Fact objects store history rows tips hidden_tips nobody p c Read = subst (Fact objects store history rows tips hidden_tips nobody p c) f (h.facts c) in ⊎_elim (λ b. absurd b) (λ all. all i m) k.1
           go Hides f met =
-              let k : Fact objects store rows tips hidden_tips nobody p c Hides = subst (Fact objects store rows tips hidden_tips nobody p c) f (h.facts c) in
+              let k : Fact objects store history rows tips hidden_tips nobody p c Hides = subst (Fact objects store history rows tips hidden_tips nobody p c) f (h.facts c) in
               ⊎_elim (λ b. absurd b) (λ o. ⊎_elim (λ w. absurd (nothing_waits w.0 w.1)) (λ all. subst (λ s. s ≢ Unmet) (sym (all i m)) (λ k. cc)) o) k.1
 
-    -- what painting gives
-    pub paints : (IsAgreeing (objects store) faulty rows → Holds p × Started p) → Paints (objects store) faulty rows tips hidden_tips (hidden_of p.marks) (if is_some p.source.graph then rows else [])
-    paints holds = record {
-      rows_left = either_rows (is_some p.source.graph);
-      sound = λ agrees. let k = holds agrees in sound agrees k.0 k.1;
-      whole = λ agrees. let k = holds agrees in whole agrees k.0 k.1;
-      read = λ e i r.
-          let k = holds (none_agree (objects store) faulty rows e) in
-          ap is_some (k.0.read e i (all_read (none_agree (objects store) faulty rows e) k.0 k.1 e i r)).1.1;
-      drops = λ agrees gone. let k = holds agrees in k.0.dropped (λ stands. gone (still (p.source.graph) refl stands));
-    }
-      where
-        either_rows : (b : Bool) → ((if b then rows else []) ≡ rows) ⊎ ((if b then rows else []) ≡ [])
-        either_rows true = inl refl
-        either_rows false = inr refl
+      -- rows that are left had no corrupt one among those that had to be read
+      module _ (ordered : IsOrdered objects store history rows tips hidden_tips p) (stands : RowsStand objects store rows p) where
+        -- an id below the greatest that waits wasn't taken
+        not_above : (i : ObjectId) (row : GraphRow) → row_of rows i ≡ Some row → (q : ObjectId) → IsWaiting p side.Hidden q → Reaches There (q ∷ []) i → (bound : ObjectId) → generation_in (row_of rows bound) < row.generation → IsAbove objects store history rows tips hidden_tips p bound → ⊥
+        not_above i row e q w path bound lower above = go (row_of rows bound) refl
+          where
+            go : (o : Option GraphRow) → row_of rows bound ≡ o → ⊥
+            go None f = no_greater row.generation (generation_in None) (known.agreeing row (row_stands rows i row e).0).finite (subst (λ o. generation_in o < row.generation) f lower)
+            go (Some other) f =
+                let k : (m : ℕ) × (w.0.0.generation ≡ Told m) × (m ≤ other.generation) = above stands other f w.0 w.1 in
+                let g : HasGeneration objects store history rows tips hidden_tips q k.0 = subst (λ j. HasGeneration objects store history rows tips hidden_tips j k.0) w.3 (row_told objects store history rows tips hidden_tips known p safe h started stands w.0 w.1 k.0 k.1) in
+                let under : (m : ℕ) × HasGeneration objects store history rows tips hidden_tips i m × ((q ≡ i) ⊎ (m < k.0)) = below objects store history rows tips hidden_tips known q k.0 g i path in
+                let same : under.0 ≡ row.generation = one_generation objects store history rows tips hidden_tips i under.0 row.generation under.1 (row, e, refl) in
+                let l : other.generation < row.generation = subst (λ o. generation_in o < row.generation) f lower in
+                let at_most : k.0 ≤ other.generation = k.2 in
+                ⊎_elim (λ s. let t : k.0 ≡ row.generation = one_generation objects store history rows tips hidden_tips i k.0 row.generation (subst (λ j. HasGeneration objects store history rows tips hidden_tips j k.0) s g) (row, e, refl) in absurd (omega arith)) (λ less. absurd (omega arith)) under.2
 
-        still : (o : Option (Bor (List GraphRow))) → p.source.graph ≡ o → RowsStand objects store rows tips hidden_tips p → (if is_some p.source.graph then rows else []) ≡ rows
-        still None e stands = ap (λ g. if is_some g then rows else []) e ∙ sym (ap rows_in e) ∙ stands
-        still (Some graph) e stands = ap (λ g. if is_some g then rows else []) e
+        not_open : (i : ObjectId) (row : GraphRow) → row_of rows i ≡ Some row → (q : ObjectId) → IsWaiting p side.Hidden q → Reaches There (q ∷ []) i → (bound : ObjectId) → IsOpenBelow There rows tips hidden_tips row.generation bound → ⊥
+        not_open i row e q w path bound opened = go (state_of p bound) refl
+          where
+            go : (s : State) → state_of p bound ≡ s → ⊥
+            go Unmet f = at_met bound opened.at_boundary f
+            go Open f = none_open h bound f
+            go Read f = not_above i row e q w path bound opened.below (ordered.shown bound f).0
+            go Hides f = ⊎_elim opened.no_tip (λ c. not_above i row e q w path c.0 (opened.children_below c.0 c.1 c.2) c.3) (ordered.hidden bound f)
 
--- why painting fails
-module _ {F : Type 0} (objects : F → Objects) (faulty : F → ObjectId → Type 0) (store : F) (rows : List GraphRow) (tips hidden_tips : List ObjectId) where
-  abbrev IsFault : Hidden → Type 0
-  IsFault why = why ≢ hidden_by.Find existing.Memory → IsHiddenFault (objects store) (faulty store) rows (tips ++ hidden_tips) why
+        keeps : (i : ObjectId) (row : GraphRow) → row_of rows i ≡ Some row → IsRead There rows tips hidden_tips i row.generation → IsCorrupt row → ⊥
+        keeps i row e (shown_commit reached out) corrupt = go (state_of p i) refl
+          where
+            go : (s : State) → state_of p i ≡ s → ⊥
+            go Unmet f = (all_met i reached out).0 f
+            go Open f = none_open h i f
+            go Read f = (ordered.shown i f).1 stands row e corrupt
+            go Hides f = let k : Fact objects store history rows tips hidden_tips nobody p i Hides = subst (Fact objects store history rows tips hidden_tips nobody p i) f (h.facts i) in out k.0
+        keeps i row e (hidden_commit {bound = bound} reached opened) corrupt =
+            ⊎_elim (λ d. ⊎_elim (λ w. not_open i row e i w (start (Contains-here i [])) bound opened) (λ sound. sound stands row e corrupt) (ordered.sound i d.0)) (λ q. not_open i row e q.0 q.1 q.2 bound opened)
+            (hidden_from objects store history rows tips hidden_tips p h started i reached)
 
-  pub start_fails : {T : Type 0} (r : Result T Hidden) (why : Hidden) (ids : List ObjectId) (now : F) → now ≡ store → IsErrAnd r (λ e. e ≡ why) → ((i : ObjectId) → Contains ids i → Contains (tips ++ hidden_tips) i)
-      → FailsAmong (objects now) (faulty now) ids why → IfErr r IsFault
-  start_fails (Ok done) why ids now same h within f = absurd h
-  start_fails (Err e) why ids now same h within f = λ n.
-      let k : (i : ObjectId) × Contains ids i × IsFaultAt (objects now) (faulty now) i why = f (λ m. n (h ∙ m)) in
-      (k.0, λ agrees. start (within k.0 k.1), subst (λ s. IsFaultAt (objects s) (faulty s) k.0 e) same (subst (λ w. IsFaultAt (objects now) (faulty now) k.0 w) (sym h) k.2))
+module _ {F : Type 0} (objects : F → Objects) (store : F) (rows : List GraphRow) (tips hidden_tips : List ObjectId) (p : Painter F) (safe : IsSafe objects store rows p) (settled : IsSettled p) where
+  -- what holds of a history
+  abbrev pub HoldsOf : Objects → Type 0
+  HoldsOf history = Stands objects store history rows tips hidden_tips nobody p × IsStarted objects store history rows tips hidden_tips p × IsOrdered objects store history rows tips hidden_tips p
 
-  pub turn_fails : {T : Type 0} (r : Result T Hidden) (why : Hidden) {w v : Painter F} (top : Key × Entry) → Pops cmp-value.it w top v → IsSafe objects store rows tips hidden_tips w
-      → (IsAgreeing (objects store) (faulty store) rows → Stands objects store rows tips hidden_tips nobody w × IsStarted objects store rows tips hidden_tips w)
-      → IsErrAnd r (λ e. e ≡ why) → TreatFails (objects v.source.objects.now) (faulty v.source.objects.now) v.source.graph top.1 why → IfErr r IsFault
-  turn_fails (Ok done) why top pops safe holds h f = absurd h
-  turn_fails (Err e) why {w} {v} top pops safe holds h f = λ n.
-      let same : v.source.objects.now ≡ store = ap (λ s. s.objects.now) pops.source ∙ safe.same_store in
-      let k = f (λ m. n (h ∙ m)) in
-      (k.0, λ agrees. reaches k.0 agrees k.1, subst (λ s. IsFaultAt (objects s) (faulty s) k.0 e) same (subst (λ w. IsFaultAt (objects v.source.objects.now) (faulty v.source.objects.now) k.0 w) (sym h) k.2))
+  abbrev Left : List GraphRow
+  Left = if is_some p.source.graph then rows else []
+
+  -- what painting gives
+  pub paints : ((history : Objects) → IsHistory (objects store) rows history → HoldsOf history) → Paints (objects store) rows tips hidden_tips (hidden_of p.marks) Left
+  paints holds = record {
+    rows_left = either_rows (is_some p.source.graph);
+    read = λ e i r.
+        let k = holds (objects store) (none_known e) in
+        ap is_some (k.0.read e i (all_read objects store (objects store) rows tips hidden_tips p safe settled (none_known e) k.0 k.1 e i r)).1.1;
+    marked = λ history known.
+        let k = holds history known in
+        record {
+          sound = sound objects store history rows tips hidden_tips p safe settled known k.0 k.1;
+          whole = whole objects store history rows tips hidden_tips p safe settled known k.0 k.1;
+          drops = λ gone. k.0.dropped (λ stands. gone (still (p.source.graph) refl stands));
+          keeps = λ left. keeps objects store history rows tips hidden_tips p safe settled known k.0 k.1 k.2 (stood left);
+        };
+  }
     where
-      reaches : (i : ObjectId) → IsAgreeing (objects store) (faulty store) rows
-          → (i ≡ top.1.id) ⊎ ((ids : List ObjectId) × (after : Option (Bor (List GraphRow))) × GivesParents (objects v.source.objects.now) v.source.graph top.1 ids after × Contains ids i)
-          → Reaches (next objects store rows tips hidden_tips) (tips ++ hidden_tips) i
-      reaches i agrees (inl e) = subst (Reaches (next objects store rows tips hidden_tips) (tips ++ hidden_tips)) (sym e) (reaches_either objects store rows tips hidden_tips top.1.side top.1.id ((holds agrees).0.reached top (popped_there pops)))
-      reaches i agrees (inr g) =
-          step (reaches_either objects store rows tips hidden_tips top.1.side top.1.id ((holds agrees).0.reached top (popped_there pops)))
-          (subst (λ xs. Contains xs i) (given_parents objects store rows tips hidden_tips top pops safe (faulty store) agrees g.2) g.3)
+      none_known : rows ≡ [] → IsHistory (objects store) rows (objects store)
+      none_known e = record { agreeing = none_agree (objects store) (λ i. ⊥) rows e; read = λ i commit r. r }
+
+      either_rows : (b : Bool) → ((if b then rows else []) ≡ rows) ⊎ ((if b then rows else []) ≡ [])
+      either_rows true = inl refl
+      either_rows false = inr refl
+
+      still : (o : Option (Bor (List GraphRow))) → p.source.graph ≡ o → RowsStand objects store rows p → Left ≡ rows
+      still None e stands = ap (λ g. if is_some g then rows else []) e ∙ sym (ap rows_in e) ∙ stands
+      still (Some graph) e stands = ap (λ g. if is_some g then rows else []) e
+
+      stood : Left ≡ rows → RowsStand objects store rows p
+      stood left = ⊎_elim (λ r. r) (λ n. ap rows_in n ∙ sym (ap (λ g. if is_some g then rows else []) n) ∙ left) safe.either

@@ -10,6 +10,7 @@ use Rattle.std.specs.FinSet as set
 use Rattle.gix_parts.specs.declared.hash.ObjectId.{ObjectId}
 use Rattle.gix_parts.specs.Id.{is_same, is_among}
 use Rattle.gix_parts.specs.Object.{Objects}
+use Rattle.gix_parts.specs.Rows.{GraphRow, row_of}
 use Rattle.gix_traverse.specs.declared.commit.simple.paint.Marks.{Marks}
 use Rattle.gix_traverse.specs.declared.commit.simple.paint.Side.{Side}
 use Rattle.gix_traverse.specs.declared.commit.simple.paint.Side.TheVariants as side
@@ -237,13 +238,14 @@ module _ {F : Type 0} (objects : F → Objects) (faulty : F → ObjectId → Typ
   meets_first {on} ids i rest {p} {mid} {new} e a b = subst (λ xs. Meets objects on xs p new) (sym e) (meets_then objects (i ∷ []) rest a b)
 
   -- what fails for one id fails for them all
-  pub fails_within : {T : Type 0} (was now : Bor F) (r : Result T Hidden) (why : Hidden) (i : ObjectId) (ids : List ObjectId) → now ≡ was → IsErrAnd r (λ e. e ≡ why) → Contains ids i
-      → FailsAmong (objects now.now) (faulty now.now) (i ∷ []) why → IfErr r (FailsAmong (objects was.now) (faulty was.now) ids)
-  fails_within was now (Ok done) why i ids same h c f = absurd h
-  fails_within was now (Err e) why i ids same h c f =
-      subst (λ o. FailsAmong (objects o.now) (faulty o.now) ids e) same
-      (λ n. let k : (j : ObjectId) × Contains (i ∷ []) j × IsFaultAt (objects now.now) (faulty now.now) j why = f (λ m. n (h ∙ m)) in
-      (k.0, subst (λ j. Contains ids j) (only_member i k.0 k.1) c, subst (λ w. IsFaultAt (objects now.now) (faulty now.now) k.0 w) (sym h) k.2))
+  pub fails_within : {T : Type 0} (was now : Bor F) (old new : Option (Bor (List GraphRow))) (r : Result T Hidden) (why : Hidden) (i : ObjectId) (ids : List ObjectId) → now ≡ was → new ≡ old → IsErrAnd r (λ e. e ≡ why) → Contains ids i
+      → FailsAmong (objects now.now) (faulty now.now) (rows_in new) (i ∷ []) why → IfErr r (FailsAmong (objects was.now) (faulty was.now) (rows_in old) ids)
+  fails_within was now old new (Ok done) why i ids same unchanged h c f = absurd h
+  fails_within was now old new (Err e) why i ids same unchanged h c f =
+      subst (λ g. FailsAmong (objects was.now) (faulty was.now) (rows_in g) ids e) unchanged
+      (subst (λ o. FailsAmong (objects o.now) (faulty o.now) (rows_in new) ids e) same
+      (λ n. let k : (j : ObjectId) × Contains (i ∷ []) j × (row_of (rows_in new) j ≡ None) × IsFaultAt (objects now.now) (faulty now.now) j why = f (λ m. n (h ∙ m)) in
+      (k.0, subst (λ j. Contains ids j) (only_member i k.0 k.1) c, k.2, subst (λ w. IsFaultAt (objects now.now) (faulty now.now) k.0 w) (sym h) k.3)))
 
   -- an entry is taken, and its parents are met
   pub treats : {old begun mid new : Painter F} (entry : Entry) (ids items : List ObjectId) → is_turn entry old.frontier ≡ true → Takes old entry begun → begun.source.graph ≡ old.source.graph

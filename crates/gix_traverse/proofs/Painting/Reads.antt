@@ -18,13 +18,12 @@ use Rattle.gix_parts.specs.Parents.{Answer, answers_of}
 use Rattle.gix_parts.specs.Rows.{GraphRow}
 use Rattle.gix_parts.specs.declared.graph.ParentPlace.{ParentPlace}
 use Rattle.gix_parts.specs.declared.graph.ParentPlace.TheVariants.{At, Fault}
-use Rattle.gix_parts.proofs.Ids.Membership.{Contains-here}
 use Rattle.gix_traverse.specs.declared.commit.Parents.TheVariants as mode
 use Rattle.gix_traverse.specs.declared.commit.simple.Hidden.{Hidden}
 use Rattle.gix_traverse.specs.declared.commit.simple.Hidden.TheVariants as hidden_by
 use Rattle.gix_traverse.specs.History.Commits.{commit_of_object, time_in, time_of}
 use Rattle.gix_traverse.specs.Simple.Painting.{IsFaultAt}
-use Rattle.gix_traverse.specs.Simple.Inside.Painter.{FailsAmong, Reads}
+use Rattle.gix_traverse.specs.Simple.Inside.Painter.{FailsAt, Reads}
 use Rattle.gix_traverse.specs.Simple.Walk.{scanned, ids_at, with_id}
 use Rattle.gix_traverse.proofs.Shared.Committer.{unread_fault}
 use Rattle.gix_traverse.proofs.Shared.ReadsWhole.{scan_is}
@@ -74,18 +73,18 @@ time_read objects i bytes signature items ids stored same committer r =
     sym (ap time_in r.1 ∙ items_time (commit_items (kind_of i) bytes) r.0 signature (sym (ap (commit_of_object i) stored) ∙ r.1) (sym (committer ∙ ap first_committer same)))
 
 module _ (objects : Objects) (faulty : ObjectId → Type 0) (i : ObjectId) where
-  pub find_fails : {T : Type 0} (r : Result T Hidden) (e : ExistingError) → IsErrAnd r (λ why. why ≡ hidden_by.Find e) → (e ≢ existing.Memory → IsExistingFault objects faulty i object.Commit e) → IfErr r (FailsAmong objects faulty (i ∷ []))
+  pub find_fails : {T : Type 0} (r : Result T Hidden) (e : ExistingError) → IsErrAnd r (λ why. why ≡ hidden_by.Find e) → (e ≢ existing.Memory → IsExistingFault objects faulty i object.Commit e) → IfErr r (FailsAt objects faulty i)
   find_fails (Ok done) e h f = absurd h
-  find_fails (Err why) e h f = λ n. (i, Contains-here i [], subst (IsFaultAt objects faulty i) (sym h) (f (λ m. n (h ∙ ap hidden_by.Find m))))
+  find_fails (Err why) e h f = λ n. subst (IsFaultAt objects faulty i) (sym h) (f (λ m. n (h ∙ ap hidden_by.Find m)))
 
   pub decode_fails : {T : Type 0} (r : Result T Hidden) (e : DecodeError) (bytes : List ℕ) (items : List (Result Item DecodeError)) → IsErrAnd r (λ why. why ≡ hidden_by.ObjectDecode e)
       → map_of.get objects i ≡ Some (record { kind = object.Commit; bytes = bytes })
       → items ≡ commit_items (kind_of i) bytes
       → Err e ≡ first_committer items
-      → IfErr r (FailsAmong objects faulty (i ∷ []))
+      → IfErr r (FailsAt objects faulty i)
   decode_fails (Ok done) e bytes items h stored same committer = absurd h
   decode_fails (Err why) e bytes items h stored same committer =
-      λ n. (i, Contains-here i [], subst (IsFaultAt objects faulty i) (sym h) (bytes, stored, sym (committer ∙ ap first_committer same)))
+      λ n. subst (IsFaultAt objects faulty i) (sym h) (bytes, stored, sym (committer ∙ ap first_committer same))
 
 -- the ids that the answers for a row's places name
 abbrev pub ids_answered : List GraphRow → List Answer → Option (List ObjectId)

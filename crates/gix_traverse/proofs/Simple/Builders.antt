@@ -39,7 +39,7 @@ module _ (objects : Objects) (limit : Option ℤ) where
       go true r = ap (λ is. p.id ∷ is) r
       go false r = r
 
-  recent_ids : (ps : List Pending) → ids_of (recent limit (timed objects ps)) ≡ filter (λ i. not (is_older (time_of objects i) limit)) (ids_of ps)
+  pub recent_ids : (ps : List Pending) → ids_of (recent limit (timed objects ps)) ≡ filter (λ i. not (is_older (time_of objects i) limit)) (ids_of ps)
   recent_ids [] = refl
   recent_ids (p ∷ ps) = go (not (is_older (time_of objects p.id) limit)) (recent_ids ps)
     where

@@ -131,7 +131,7 @@ times_fall time next starts ids h older k a b ea eb =
     (Contains-append_cases (named_by next starts (take k ids)) (next a) b (subst (λ xs. Contains xs b) named best_b.among.0))
 
 -- walks without hidden tips and rows
-all_kept : (xs : List ObjectId) → filter (λ i. not false) xs ≡ xs
+pub all_kept : (xs : List ObjectId) → filter (λ i. not false) xs ≡ xs
 all_kept [] = refl
 all_kept (x ∷ xs) = ap (λ ys. x ∷ ys) (all_kept xs)
 
@@ -201,49 +201,6 @@ module _ {F P : Type 0} (objects : F → Objects) (faulty : F → ObjectId → T
       (transport (λ k. IsInOrder (e k) (time_of (objects walk.store)) (next_of objects walk accepts hides) (starts_of walk hides) g.ids) g.in_order)
       (λ c i n. older c i (walked_within walk.parents _ i (among_is i _ (and_parts _ _ (sym (among-filter i _ (walked_parents (objects walk.store) walk.parents c)) ∙ among_from i _ n)).1)))
 
-pub with_rows : {F P : Type 0} (objects : F → Objects) (faulty : F → ObjectId → Type 0) (answers : P → ObjectId → Bool → P → Type 0) (walk : SimpleWalk F P) (accepts hides : ObjectId → Bool) (list other : List (Result Info Error)) →
-    IsWholeRun objects faulty answers walk accepts hides list → IsWholeRun objects faulty answers (record walk { rows = [] }) accepts hides other →
-    (ids those : List ObjectId) × AllZip (IsGiven (objects walk.store) walk.rows walk.parents (time_order walk.parents walk.sorting)) list ids × AllZip (IsGiven (objects walk.store) [] walk.parents (time_order walk.parents walk.sorting)) other those
-    × ((i : ObjectId) → Contains ids i ↔ Contains those i) × (time_order walk.parents walk.sorting ≡ None → ids ≡ those)
-with_rows objects faulty answers walk accepts hides list other run rowless =
-    let g : GivesInOrder objects walk accepts hides list = gives objects faulty answers walk accepts hides list run in
-    let h : GivesInOrder objects (record walk { rows = [] }) accepts hides other = gives objects faulty answers (record walk { rows = [] }) accepts hides other rowless in
-    let in_g : (i : ObjectId) → Contains g.ids i ↔ Reaches (next_of objects walk accepts hides) (starts_of walk hides) i = (gives_once objects faulty answers walk accepts hides list g).1 in
-    let in_h : (i : ObjectId) → Contains h.ids i ↔ Reaches (next_of objects walk accepts hides) (starts_of walk hides) i = (gives_once objects faulty answers (record walk { rows = [] }) accepts hides other h).1 in (
-      g.ids,
-      h.ids,
-      g.given,
-      h.given,
-      λ i. (λ c. (in_h i).1 ((in_g i).0 c), λ c. (in_g i).1 ((in_h i).0 c)),
-      λ e. same_breadth (next_of objects walk accepts hides) (starts_of walk hides) g.ids h.ids
-          (transport (λ k. IsInOrder (e k) (time_of (objects walk.store)) (next_of objects walk accepts hides) (starts_of walk hides) g.ids) g.in_order)
-          (transport (λ k. IsInOrder (e k) (time_of (objects walk.store)) (next_of objects walk accepts hides) (starts_of walk hides) h.ids) h.in_order),
-    )
-
 -- the test of no hidden tips
 pub no_tips : {F P : Type 0} (objects : F → Objects) (walk : SimpleWalk F P) (shown : ObjectId → Bool) → Tells shown (Reaches (parents_of (objects walk.store)) []) → shown ≡ (λ i. false)
 no_tips objects walk shown tells = λ k i. (false_from_ne_true (shown i) (λ e. no_reach (parents_of (objects walk.store)) [] refl i ((tells i).0 e))) k
-
-pub hidden_cut : {F P : Type 0} (objects : F → Objects) (faulty : F → ObjectId → Type 0) (answers : P → ObjectId → Bool → P → Type 0) (walk : SimpleWalk F P) (accepts hides shown : ObjectId → Bool) (list longer : List (Result Info Error)) →
-    IsWholeRun objects faulty answers walk accepts hides list → IsWholeRun objects faulty answers (record walk { hidden_tips = [] }) accepts shown longer →
-    (ids more : List ObjectId) × AllZip (IsGiven (objects walk.store) walk.rows walk.parents (time_order walk.parents walk.sorting)) list ids × AllZip (IsGiven (objects walk.store) walk.rows walk.parents (time_order walk.parents walk.sorting)) longer more × ((i : ObjectId) → Contains ids i ↔ (Contains more i × (Reaches (parents_of (objects walk.store)) walk.hidden_tips i → ⊥)))
-hidden_cut objects faulty answers walk accepts hides shown list longer run all =
-    let g : GivesInOrder objects walk accepts hides list = gives objects faulty answers walk accepts hides list run in
-    let h : GivesInOrder objects (record walk { hidden_tips = [] }) accepts shown longer = gives objects faulty answers (record walk { hidden_tips = [] }) accepts shown longer all in
-    let none : shown ≡ (λ i. false) = no_tips objects walk shown all.tells in
-    let limit : Option ℤ = cutoff walk.parents walk.sorting in
-    let in_g : (i : ObjectId) → Contains g.ids i ↔ Reaches (next_of objects walk accepts hides) (starts_of walk hides) i = (gives_once objects faulty answers walk accepts hides list g).1 in
-    let in_h : (i : ObjectId) → Contains h.ids i ↔ Reaches (next_of objects walk accepts (λ j. false)) (ids_of walk.pending) i =
-    transport (λ k. (i : ObjectId) → Contains h.ids i ↔ Reaches (next_of objects walk accepts (none k)) (all_kept (ids_of walk.pending) k) i)
-    (transport (λ k. (i : ObjectId) → Contains h.ids i ↔ Reaches (next_of objects walk accepts shown) (filter (λ j. not (none k j)) (ids_of walk.pending)) i) (gives_once objects faulty answers (record walk { hidden_tips = [] }) accepts shown longer h).1) in (
-      g.ids,
-      h.ids,
-      g.given,
-      h.given,
-      λ i. (
-        λ c.
-            let r : Reaches (next_of objects walk accepts (λ j. false)) (ids_of walk.pending) i × (hides i ≡ false) = reached_shown (objects walk.store) walk.parents accepts hides limit (ids_of walk.pending) walk.hidden_tips run.tells i ((in_g i).0 c) in
-            ((in_h i).1 r.0, λ t. true≢false (sym ((run.tells i).1 t) ∙ r.1)),
-        λ c. (in_g i).1 (shown_reached (objects walk.store) walk.parents accepts hides limit (ids_of walk.pending) walk.hidden_tips run.tells i ((in_h i).0 c.0) (false_from_ne_true _ (λ t. c.1 ((run.tells i).0 t)))),
-      ),
-    )

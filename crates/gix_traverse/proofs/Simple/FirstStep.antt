@@ -1,5 +1,5 @@
 -- How the first step hides what hidden tips reach.
-use Rattle.std.specs.Prelude.{◌≡◌, ◌≢◌, ◌⊎◌, ◌++◌, ◌==◌, ◌||◌, suc, List, [], ◌∷◌, Bool, true, false, not, filter, length, if◌then◌else◌, Option, Some, None, Result, Ok, Err}
+use Rattle.std.specs.Prelude.{◌≡◌, ◌≢◌, ◌⊎◌, ◌==◌, ◌||◌, suc, List, [], ◌∷◌, Bool, true, false, not, filter, length, if◌then◌else◌, Option, Some, None, Result, Ok, Err}
 use Rattle.std.proofs.Common.{refl, sym, ap, subst, inl, inr, ⊎_elim, ◌∙◌, arith}
 use Rattle.std.proofs.lemmas.Bool.{false≢true}
 use Rattle.std.proofs.lemmas.Bool.Decides.{eqb_tells}
@@ -79,14 +79,14 @@ module _ {F P : Type 0} (objects : F → Objects) (faulty : F → ObjectId → T
     hides_no_memory answer new a n = subst (λ e. Hides objects faulty answers old (Err e) new) (sym a) (subst (Hides objects faulty answers old (Err error.Memory)) (sym (n ∙ ap unpainted emptied)) (no_memory pending tips))
 
     -- painting failed
-    pub hides_fault : (these : List Pending) → these ≡ old.pending → (why : Hidden) → (why ≢ hidden_by.Find existing.Memory → IsHiddenFault (objects mid.store) (faulty mid.store) mid.rows (ids_of these ++ mid.hidden_tips) why)
+    pub hides_fault : (these : List Pending) → these ≡ old.pending → (why : Hidden) → (why ≢ hidden_by.Find existing.Memory → IsHiddenFault (objects mid.store) (faulty mid.store) mid.rows (ids_of these) mid.hidden_tips why)
         → (e answer : Error) (new : SimpleWalk F P) → e ≡ error_of_hidden why → answer ≡ e → new ≡ unpainted mid → Hides objects faulty answers old (Err answer) new
-    hides_fault these same why fault e answer new w a n = go why (λ other. subst (λ w. IsHiddenFault (objects w.store) (faulty w.store) w.rows (ids_of old.pending ++ w.hidden_tips) why) emptied (subst (λ ps. IsHiddenFault (objects mid.store) (faulty mid.store) mid.rows (ids_of ps ++ mid.hidden_tips) why) same (fault other))) (a ∙ w)
+    hides_fault these same why fault e answer new w a n = go why (λ other. subst (λ w. IsHiddenFault (objects w.store) (faulty w.store) w.rows (ids_of old.pending) w.hidden_tips why) emptied (subst (λ ps. IsHiddenFault (objects mid.store) (faulty mid.store) mid.rows (ids_of ps) mid.hidden_tips why) same (fault other))) (a ∙ w)
       where
-        told : (why : Hidden) → IsHiddenFault (objects old.store) (faulty old.store) old.rows (ids_of old.pending ++ old.hidden_tips) why → answer ≡ error.HiddenGraph why → Hides objects faulty answers old (Err answer) new
+        told : (why : Hidden) → IsHiddenFault (objects old.store) (faulty old.store) old.rows (ids_of old.pending) old.hidden_tips why → answer ≡ error.HiddenGraph why → Hides objects faulty answers old (Err answer) new
         told why f a = subst (λ e. Hides objects faulty answers old (Err e) new) (sym a) (subst (Hides objects faulty answers old (Err (error.HiddenGraph why))) (sym (n ∙ ap unpainted emptied)) (faulty_history pending tips f))
 
-        go : (why : Hidden) → (why ≢ hidden_by.Find existing.Memory → IsHiddenFault (objects old.store) (faulty old.store) old.rows (ids_of old.pending ++ old.hidden_tips) why) → answer ≡ error_of_hidden why → Hides objects faulty answers old (Err answer) new
+        go : (why : Hidden) → (why ≢ hidden_by.Find existing.Memory → IsHiddenFault (objects old.store) (faulty old.store) old.rows (ids_of old.pending) old.hidden_tips why) → answer ≡ error_of_hidden why → Hides objects faulty answers old (Err answer) new
         go (hidden_by.Find existing.Store) f a = told (hidden_by.Find existing.Store) (f (λ e. cc)) a
         go (hidden_by.Find (existing.NotFound oid)) f a = told (hidden_by.Find (existing.NotFound oid)) (f (λ e. cc)) a
         go (hidden_by.Find (existing.ObjectKind oid wanted actual)) f a = told (hidden_by.Find (existing.ObjectKind oid wanted actual)) (f (λ e. cc)) a
@@ -94,8 +94,8 @@ module _ {F P : Type 0} (objects : F → Objects) (faulty : F → ObjectId → T
         go (hidden_by.ObjectDecode e) f a = told (hidden_by.ObjectDecode e) (f (λ e. cc)) a
 
     -- what is hidden is taken out
-    pub hides_painted : (these : List Pending) → these ≡ old.pending → (marks : set.FinSet id_cmp) (stand : Bool) → Paints (objects mid.store) (faulty mid.store) mid.rows (ids_of these) mid.hidden_tips marks (if stand then mid.rows else [])
+    pub hides_painted : (these : List Pending) → these ≡ old.pending → (marks : set.FinSet id_cmp) (stand : Bool) → Paints (objects mid.store) mid.rows (ids_of these) mid.hidden_tips marks (if stand then mid.rows else [])
         → (new : SimpleWalk F P) → new ≡ record mid { pending = filter (λ tip. not (set.contains marks tip.id)) these; hidden = marks; hidden_tips = []; rows = if stand then mid.rows else [] } → Hides objects faulty answers old (Ok tt) new
     hides_painted these same marks stand p new n =
         subst (Hides objects faulty answers old (Ok tt)) (sym (n ∙ (λ j. record (emptied j) { pending = filter (λ tip. not (set.contains marks tip.id)) (same j); hidden = marks; hidden_tips = []; rows = if stand then (emptied j).rows else [] })))
-        (paints pending tips (subst (λ w. Paints (objects w.store) (faulty w.store) w.rows (ids_of old.pending) w.hidden_tips marks (if stand then w.rows else [])) emptied (subst (λ ps. Paints (objects mid.store) (faulty mid.store) mid.rows (ids_of ps) mid.hidden_tips marks (if stand then mid.rows else [])) same p)))
+        (paints pending tips (subst (λ w. Paints (objects w.store) w.rows (ids_of old.pending) w.hidden_tips marks (if stand then w.rows else [])) emptied (subst (λ ps. Paints (objects mid.store) mid.rows (ids_of ps) mid.hidden_tips marks (if stand then mid.rows else [])) same p)))

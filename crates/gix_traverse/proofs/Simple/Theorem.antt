@@ -14,7 +14,7 @@ use Rattle.gix_traverse.specs.declared.commit.simple.Error.{Error}
 use Rattle.gix_traverse.specs.declared.commit.simple.Error.TheVariants as error
 use Rattle.gix_traverse.specs.declared.commit.simple.Hidden.{Hidden}
 use Rattle.gix_traverse.specs.declared.commit.simple.Hidden.TheVariants as hidden_by
-use Rattle.gix_traverse.specs.Simple.Painting.{IsAtBoundary, IsHiddenFault, Paints}
+use Rattle.gix_traverse.specs.Simple.Painting.{IsHistory, IsAtBoundary, IsHiddenFault, Paints}
 use Rattle.gix_traverse.specs.History.Reach.{Reaches, start, step, Tells}
 use Rattle.gix_traverse.specs.History.Agreeing.{IsAgreeing}
 use Rattle.gix_traverse.specs.History.Commits.{time_of, parents_of, commit_of_object, walked_parents, ReadsWhole}
@@ -24,6 +24,7 @@ use Rattle.gix_traverse.specs.Simple.Laws.{itself, AnswersBy, AreDistinct, IsFre
 use Rattle.gix_parts.specs.Id.{kind_of}
 use Rattle.gix_parts.specs.CommitItems.{commit_items}
 use Rattle.gix_traverse.proofs.Shared.Committer.{fault_unread}
+use Rattle.gix_traverse.proofs.Painting.Invariant.{own_history}
 use Rattle.gix_parts.proofs.Ids.Membership.{same_is, among_from, among_is, Contains-here, Contains-there, no_member}
 use Rattle.gix_traverse.proofs.Shared.NewIds.{fresh, times, times-fresh, among-filter}
 use Rattle.gix_traverse.proofs.Simple.Treated.{Setting, Stands}
@@ -84,6 +85,9 @@ module _ {F P : Type 0} (objects : F → Objects) (faulty : F → ObjectId → T
     (meets : MeetsWhole objects faulty w accepts hides) (agreeing : IsAgreeing (objects w.store) (faulty w.store) w.rows) where
   abbrev setting : set.FinSet id_cmp → Setting objects faulty answers
   setting marks = record { store = w.store; predicate = w.predicate; rows = w.rows; parents = w.parents; sorting = w.sorting; marks = marks; accepts = accepts; hidden = hides; starts = starts_of w hides; by_test = by_test; agreeing = agreeing }
+
+  own : IsHistory (objects w.store) w.rows (objects w.store)
+  own = own_history (objects w.store) (faulty w.store) w.rows agreeing
 
   abbrev next_ids : ObjectId → List ObjectId
   next_ids = next_of objects w accepts hides
@@ -154,7 +158,7 @@ module _ {F P : Type 0} (objects : F → Objects) (faulty : F → ObjectId → T
       shown e i = false_from_ne_true _ (λ h. nothing_reached (parents_of (objects w.store)) w.hidden_tips (λ j m. no_member j (subst (λ xs. Contains xs j) e m)) i ((tells i).0 h))
 
   -- the hidden tips are painted
-  painting : (marks : set.FinSet id_cmp) (rows : List GraphRow) → Paints (objects w.store) (faulty w.store) w.rows (ids_of w.pending) w.hidden_tips marks rows → {o : Option (Result Info Error)} {new : SimpleWalk F P} → Steps objects faulty answers (painted objects faulty answers w marks rows) o new → Begins o new
+  painting : (marks : set.FinSet id_cmp) (rows : List GraphRow) → Paints (objects w.store) w.rows (ids_of w.pending) w.hidden_tips marks rows → {o : Option (Result Info Error)} {new : SimpleWalk F P} → Steps objects faulty answers (painted objects faulty answers w marks rows) o new → Begins o new
   painting marks rows paint steps = record {
     marks = marks;
     mid = painted objects faulty answers w marks rows;
@@ -179,17 +183,17 @@ module _ {F P : Type 0} (objects : F → Objects) (faulty : F → ObjectId → T
       exact i at = go (set.contains marks i) refl (hides i) refl
         where
           go : (a : Bool) → set.contains marks i ≡ a → (b : Bool) → hides i ≡ b → set.contains marks i ≡ hides i
-          go true e b f = e ∙ sym ((tells i).1 (paint.sound agreeing i e))
-          go false e true f = paint.whole agreeing i at ((tells i).0 f) ∙ sym f
+          go true e b f = e ∙ sym ((tells i).1 ((paint.marked (objects w.store) own).sound i e))
+          go false e true f = (paint.marked (objects w.store) own).whole i at ((tells i).0 f) ∙ sym f
           go false e false f = e ∙ sym f
 
-  no_hidden_fault : w.pending ≢ [] → w.hidden_tips ≢ [] → (why : Hidden) → IsNoRefusal (Err (error.HiddenGraph why)) → IsHiddenFault (objects w.store) (faulty w.store) w.rows (ids_of w.pending ++ w.hidden_tips) why → ⊥
+  no_hidden_fault : w.pending ≢ [] → w.hidden_tips ≢ [] → (why : Hidden) → IsNoRefusal (Err (error.HiddenGraph why)) → IsHiddenFault (objects w.store) (faulty w.store) w.rows (ids_of w.pending) w.hidden_tips why → ⊥
   no_hidden_fault some hidden (hidden_by.Find e) ok fault =
-      let whole : ReadsWhole (objects w.store) (faulty w.store) fault.0 = meets.painted some hidden fault.0 (fault.1 agreeing) in
-      no_fault (objects w.store) (faulty w.store) fault.0 whole.commit e whole.stored fault.2 (λ k. ok.2 (ap (λ x. Err (error.HiddenGraph (hidden_by.Find x))) k))
+      let whole : ReadsWhole (objects w.store) (faulty w.store) fault.id = meets.painted some hidden fault.id (fault.reached (objects w.store) own) in
+      no_fault (objects w.store) (faulty w.store) fault.id whole.commit e whole.stored fault.fault (λ k. ok.2 (ap (λ x. Err (error.HiddenGraph (hidden_by.Find x))) k))
   no_hidden_fault some hidden (hidden_by.ObjectDecode e) ok fault =
-      let whole : ReadsWhole (objects w.store) (faulty w.store) fault.0 = meets.painted some hidden fault.0 (fault.1 agreeing) in
-      let n : None ≡ Some whole.commit = sym (ap (commit_of_object fault.0) fault.2.1 ∙ fault_unread (commit_items (kind_of fault.0) fault.2.0) e fault.2.2) ∙ whole.stored in cc
+      let whole : ReadsWhole (objects w.store) (faulty w.store) fault.id = meets.painted some hidden fault.id (fault.reached (objects w.store) own) in
+      let n : None ≡ Some whole.commit = sym (ap (commit_of_object fault.id) fault.fault.1 ∙ fault_unread (commit_items (kind_of fault.id) fault.fault.0) e fault.fault.2) ∙ whole.stored in cc
 
   begins : {o : Option (Result Info Error)} {new : SimpleWalk F P} → ((answer : Result Info Error) → o ≡ Some answer → IsNoRefusal answer) → Next objects faulty answers w o new → Begins o new
   begins ok (unhidden none steps) = plain none steps

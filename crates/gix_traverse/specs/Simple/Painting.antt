@@ -1,11 +1,12 @@
 -- What a painting of hidden tips marks, which rows it leaves, and why it fails.
-use Rattle.std.specs.Prelude.{◌≡◌, ◌≢◌, ◌⊎◌, ◌≤◌, ◌^◌, ◌-◌, ℕ, List, [], ◌++◌, true, Option, Some, None, Err, Contains, IsSome}
+use Rattle.std.specs.Prelude.{◌≡◌, ◌≢◌, ◌⊎◌, ◌<◌, ◌^◌, ◌-◌, ℕ, suc, List, [], ◌++◌, true, Option, Some, None, Err, Contains, IsSome}
 use Rattle.std.specs.FinMap as map_of
 use Rattle.std.specs.FinSet as set
 use Rattle.gix_parts.specs.declared.hash.ObjectId.{ObjectId}
 use Rattle.gix_parts.specs.declared.object.Kind.TheVariants as object
 use Rattle.gix_parts.specs.CommitItems.{commit_items}
 use Rattle.gix_parts.specs.CommitRefIter.{first_committer}
+use Rattle.gix_parts.specs.CommitText.{Commit}
 use Rattle.gix_parts.specs.Find.{IsExistingFault}
 use Rattle.gix_parts.specs.Id.{id_cmp, kind_of}
 use Rattle.gix_parts.specs.Object.{Objects}
@@ -22,39 +23,69 @@ IsFaultAt objects faulty i (hidden_by.Find e) = IsExistingFault objects faulty i
 IsFaultAt objects faulty i (hidden_by.ObjectDecode e) =
     (bytes : List ℕ) × (map_of.get objects i ≡ Some (record { kind = object.Commit; bytes = bytes })) × (first_committer (commit_items (kind_of i) bytes) ≡ Err e)
 
--- such a fault in the history of some ids, where the rows say what the store says
-abbrev pub IsHiddenFault : Objects → (ObjectId → Type 0) → List GraphRow → List ObjectId → Hidden → Type 0
-IsHiddenFault objects faulty rows ids why =
-    (i : ObjectId) × (IsAgreeing objects faulty rows → Reaches (parents_of objects) ids i) × IsFaultAt objects faulty i why
-
--- a tip, or a parent of a commit that tips reach outside what is hidden
-abbrev pub IsAtBoundary : (ObjectId → List ObjectId) → List ObjectId → List ObjectId → ObjectId → Type 0
-IsAtBoundary parents tips hidden_tips i =
-    Contains tips i ⊎ ((c : ObjectId) × Reaches parents tips c × (Reaches parents hidden_tips c → ⊥) × Contains (parents c) i)
+-- Commits that the rows agree with, and of which the store says nothing else. A store that agrees with its rows is a history itself. It
+-- may also lack commits of the history, have them broken, or fail at them.
+pub record IsHistory (objects : Objects) (rows : List GraphRow) (history : Objects) : Type 0 where
+  pub agreeing : IsAgreeing history (λ i. ⊥) rows
+  pub read : (i : ObjectId) (commit : Commit) → commit_at objects i ≡ Some commit → commit_at history i ≡ Some commit
 
 -- the generation that a row tells, and infinity where there is none
 abbrev pub generation_in : Option GraphRow → ℕ
 generation_in None = 2 ^ 32 - 1
 generation_in (Some row) = row.generation
 
--- a corrupt row that tips and hidden tips reach, no deeper than some id at the boundary
-pub record DropsBy (objects : Objects) (rows : List GraphRow) (tips hidden_tips : List ObjectId) : Type 0 where
-  pub row : GraphRow
-  pub present : Contains rows row
-  pub corrupt : IsCorrupt row
-  pub reached : Reaches (parents_of objects) (tips ++ hidden_tips) row.id
-  pub bound : ObjectId
-  pub at_boundary : IsAtBoundary (parents_of objects) tips hidden_tips bound
-  pub no_deeper : generation_in (row_of rows bound) ≤ row.generation
+-- a tip, or a parent of a commit that tips reach outside what is hidden
+abbrev pub IsAtBoundary : (ObjectId → List ObjectId) → List ObjectId → List ObjectId → ObjectId → Type 0
+IsAtBoundary parents tips hidden_tips i =
+    Contains tips i ⊎ ((c : ObjectId) × Reaches parents tips c × (Reaches parents hidden_tips c → ⊥) × Contains (parents c) i)
+
+module _ (parents : ObjectId → List ObjectId) (rows : List GraphRow) (tips hidden_tips : List ObjectId) where
+  -- An id at the boundary is open below a generation: commits of lesser generations alone tell whether it is hidden. It is no hidden tip,
+  -- and neither it nor a hidden commit that names it as a parent has this generation or a greater one.
+  pub record IsOpenBelow (generation : ℕ) (i : ObjectId) : Type 0 where
+    pub at_boundary : IsAtBoundary parents tips hidden_tips i
+    pub no_tip : Contains hidden_tips i → ⊥
+    pub below : generation_in (row_of rows i) < generation
+    pub children_below : (c : ObjectId) → Reaches parents hidden_tips c → Contains (parents c) i → generation_in (row_of rows c) < generation
+
+  -- The commits that painting has to read: what tips reach outside what is hidden, and what hidden tips reach of a generation below
+  -- which an id at the boundary is open.
+  pub data IsRead (i : ObjectId) (generation : ℕ) : Type 0 where
+    shown_commit : Reaches parents tips i → (Reaches parents hidden_tips i → ⊥) → IsRead i generation
+    hidden_commit : {bound : ObjectId} → Reaches parents hidden_tips i → IsOpenBelow generation bound → IsRead i generation
+
+  -- a corrupt row that tips or hidden tips reach, where an id at the boundary is open below it, or at its generation
+  pub record DropsBy : Type 0 where
+    pub row : GraphRow
+    pub present : row_of rows row.id ≡ Some row
+    pub corrupt : IsCorrupt row
+    pub reached : Reaches parents (tips ++ hidden_tips) row.id
+    pub bound : ObjectId
+    pub no_deeper : IsOpenBelow (suc row.generation) bound
+
+  -- which ids a painting of this history marks, and which rows it leaves
+  pub record PaintsHistory (marks : set.FinSet id_cmp) (left : List GraphRow) : Type 0 where
+    -- only what hidden tips reach
+    pub sound : (i : ObjectId) → set.contains marks i ≡ true → Reaches parents hidden_tips i
+    -- each tip, and each parent of a commit that tips reach outside what is hidden
+    pub whole : (i : ObjectId) → IsAtBoundary parents tips hidden_tips i → Reaches parents hidden_tips i → set.contains marks i ≡ true
+    -- rows are dropped only for a corrupt one that was read before the marks were whole
+    pub drops : left ≢ rows → DropsBy
+    -- rows are kept only if none that had to be read is corrupt
+    pub keeps : left ≡ rows → (i : ObjectId) (row : GraphRow) → row_of rows i ≡ Some row → IsRead i row.generation → IsCorrupt row → ⊥
 
 -- which ids a painting marks, and which rows it leaves
-pub record Paints (objects : Objects) (faulty : ObjectId → Type 0) (old_rows : List GraphRow) (tips hidden_tips : List ObjectId) (marks : set.FinSet id_cmp) (rows : List GraphRow) : Type 0 where
+pub record Paints (objects : Objects) (old_rows : List GraphRow) (tips hidden_tips : List ObjectId) (marks : set.FinSet id_cmp) (rows : List GraphRow) : Type 0 where
   pub rows_left : (rows ≡ old_rows) ⊎ (rows ≡ [])
-  -- only what hidden tips reach
-  pub sound : IsAgreeing objects faulty old_rows → (i : ObjectId) → set.contains marks i ≡ true → Reaches (parents_of objects) hidden_tips i
-  -- each tip, and each parent of a commit that tips reach outside what is hidden
-  pub whole : IsAgreeing objects faulty old_rows → (i : ObjectId) → IsAtBoundary (parents_of objects) tips hidden_tips i → Reaches (parents_of objects) hidden_tips i → set.contains marks i ≡ true
   -- without rows all of it was read
   pub read : old_rows ≡ [] → (i : ObjectId) → Reaches (parents_of objects) (tips ++ hidden_tips) i → IsSome (commit_at objects i)
-  -- rows are dropped only for a corrupt one
-  pub drops : IsAgreeing objects faulty old_rows → rows ≢ old_rows → DropsBy objects old_rows tips hidden_tips
+  -- where the rows agree with a history, the marks are its
+  pub marked : (history : Objects) → IsHistory objects old_rows history → PaintsHistory (parents_of history) old_rows tips hidden_tips marks rows
+
+-- A commit in the history of tips and hidden tips can't be read. One with a row is read from the store only if the rows were dropped, so
+-- no commit is a fault that lies below what painting has to read.
+pub record IsHiddenFault (objects : Objects) (faulty : ObjectId → Type 0) (rows : List GraphRow) (tips hidden_tips : List ObjectId) (why : Hidden) : Type 0 where
+  pub id : ObjectId
+  pub fault : IsFaultAt objects faulty id why
+  pub reached : (history : Objects) → IsHistory objects rows history → Reaches (parents_of history) (tips ++ hidden_tips) id
+  pub unrowed : (history : Objects) → IsHistory objects rows history → (row_of rows id ≡ None) ⊎ DropsBy (parents_of history) rows tips hidden_tips

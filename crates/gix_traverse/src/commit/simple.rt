@@ -1,4 +1,4 @@
-//! Walks in the order of parent links.
+//! Walks from commits to their parents, breadth first or by commit time.
 ghost use Rattle.std.specs.Prelude.{◌≡◌, ◌≢◌, List, Ok, IfOk, IfErr};
 ghost use Rattle.std.specs.Iterator.{at_most, IsFinite, Drains};
 ghost use Rattle.gix_parts.specs.declared.hash.ObjectId.{ObjectId};
@@ -32,35 +32,66 @@ use step::cutoff_of;
 use thiserror::Error;
 
 /// Which of two times comes first.
-#[derive(Clone, Copy, Debug, Default, PartialEq, Eq)]
+#[derive(Clone, Copy, Debug, PartialEq, Eq)]
 pub enum CommitTimeOrder {
     /// The greater time comes first.
-    #[default]
     NewestFirst,
     /// The lesser time comes first.
     OldestFirst,
 }
 
+impl Default for CommitTimeOrder {
+    ghost use Rattle.gix_traverse.specs.declared.commit.simple.CommitTimeOrder.TheVariants.{NewestFirst};
+
+    ghost is_default = { λ order. order ≡ NewestFirst };
+
+    fn default() -> CommitTimeOrder {
+        CommitTimeOrder::NewestFirst
+    }
+}
+
 /// The order of a walk.
-#[derive(Clone, Copy, Debug, Default, PartialEq, Eq)]
+///
+/// A history, with each commit's time as its name, and what a walk from 8 gives:
+///
+/// ```text
+/// 1----2----4----7 <- second parent of 8
+///  \              \
+///   3----5----6----8
+///
+/// BreadthFirst                               8 6 7 5 4 3 2 1
+/// ByCommitTime(NewestFirst)                  8 7 6 5 4 3 2 1
+/// ByCommitTime(OldestFirst)                  8 6 5 3 1 7 4 2
+/// ByCommitTimeCutoff of NewestFirst from 4   8 7 6 5 4
+/// ```
+#[derive(Clone, Copy, Debug, PartialEq, Eq)]
 pub enum Sorting {
     /// Commits come in the order in which they are met.
-    #[default]
     BreadthFirst,
     /// Of the commits met, one of best commit time comes next.
     ByCommitTime(CommitTimeOrder),
-    /// The same without the commits older than `seconds` since 1970.
+    /// The same without the commits that are older than `seconds` since 1970-01-01 00:00 UTC. No way leads through them.
     ByCommitTimeCutoff {
         order: CommitTimeOrder,
         seconds: i64,
     },
 }
 
+impl Default for Sorting {
+    ghost is_default = { λ sorting. sorting ≡ by.BreadthFirst };
+
+    fn default() -> Sorting {
+        Sorting::BreadthFirst
+    }
+}
+
 /// Why the history of hidden tips could not be read.
 #[derive(Clone, Copy, Debug, PartialEq, Eq, Error)]
 pub enum Hidden {
+    /// A commit could not be looked up.
     #[error(transparent)]
     Find(existing_iter::Error),
+    /// A commit's bytes are broken before its committer ends.
     #[error(transparent)]
     ObjectDecode(decode::Error),
 }
@@ -74,10 +105,10 @@ pub enum Error {
     /// The commit's bytes are broken before its parents end.
     #[error(transparent)]
     ObjectDecode(decode::Error),
-    /// What hidden tips reach could not be read.
+    /// A commit that tips or hidden tips reach could not be read, so that what is hidden isn't known.
     #[error(transparent)]
     HiddenGraph(Hidden),
-    /// Memory was wanting.
+    /// Out of memory.
     #[error("out of memory")]
     Memory,
 }
@@ -131,8 +162,26 @@ impl From<AllocError> for Error {
 /// A walk over the commits that some tips reach.
 ///
 /// It is an iterator of commits, each once. The commit that was met first comes first, or, where an order by time is chosen, one of
-/// best time among those met. A commit that can't be looked up or read gives an error in its place, and the walk goes on with the
-/// others; after want of memory, and where what hidden tips reach can't be read, nothing is left.
+/// best time among those met.
+///
+/// ```text
+/// let mut walk = Simple::new(alloc, tips, &store)?.sorting(Sorting::ByCommitTime(CommitTimeOrder::NewestFirst))?;
+/// while let Some(commit) = walk.next() {
+///     let commit = commit?;
+///     // `commit.id` and `commit.parent_ids`, and its text in `walk.commit_data()`
+/// }
+/// ```
+///
+/// # Errors
+///
+/// `next` gives an error in the place of a commit:
+/// - `Find` if the store hasn't the commit, or can't read it. In an order by time also `Find(Store)`, if the store fails at a parent that
+///   is asked for its time: the parents behind it aren't walked from this commit. The walk goes on with the other pending commits.
+/// - `ObjectDecode` if the commit's bytes are broken before its parents end. The walk goes on, also with the parents before the fault.
+/// - `HiddenGraph`, at the first step alone, if a commit can't be read that painting has to read to know what is hidden. Nothing follows.
+/// - `Memory` when out of memory. Nothing follows.
+///
+/// Behind each error `commit_data` is empty.
 #[derive(Drop)]
 pub struct Simple<F, P> {
     find: F,
@@ -169,7 +218,11 @@ impl<F, P> Model for Simple<F, P> {
 }
 
 impl<F: Find + Drop> Simple<F, Unfiltered> {
-    /// A walk of all that the tips reach, breadth first. Repeated tips count once, at their first place.
+    /// A walk of all that the tips reach, breadth first. Repeated tips count once, at their first place. Nothing is read yet.
+    ///
+    /// # Errors
+    ///
+    /// `AllocError` when out of memory. The tips and the store are dropped.
     pub fn new<T: IntoIterator<Item = ObjectId>>(
         alloc: Global,
         tips: T,
@@ -186,7 +239,11 @@ impl<F: Find + Drop> Simple<F, Unfiltered> {
 
 impl<F: Find + Drop, P: Predicate + Drop> Simple<F, P> {
     /// A walk of what the tips reach through commits that the predicate accepts, breadth first. The predicate is asked once
-    /// about each tip, in the order given.
+    /// about each tip, in the order given. Nothing is read yet.
+    ///
+    /// # Errors
+    ///
+    /// `AllocError` when out of memory. The tips, the store and the predicate are dropped.
     pub fn filtered<T: IntoIterator<Item = ObjectId>>(
         alloc: Global,
         tips: T,
@@ -228,7 +285,12 @@ impl<F: Find + Drop, P: Predicate + Drop> Simple<F, P> {
     /// The order of the walk, in place of an earlier one. By time, each pending tip is read from the store for its time, and a
     /// cutoff takes out those that are older: only if a parent list names such a tip again it may come back.
     ///
-    /// `Find` and `ObjectDecode` name the first tip, in the order given, that can't be read.
+    /// # Errors
+    ///
+    /// Each error drops the walk. Breadth first there is none. By time:
+    /// - `Find` if the store hasn't a pending tip, or can't read it: the first of them, in the order given,
+    /// - `ObjectDecode` if that tip's bytes are broken before its committer ends,
+    /// - `Memory` when out of memory.
     pub fn sorting(mut self, sorting: Sorting) -> Result<Self, Error>
         ensures breadth_first { sorting ≡ by.BreadthFirst → result ≡ Ok (record self { sorting = sorting }) }
         ensures ok { sorting ≢ by.BreadthFirst → IfOk result (IsSortedByTime F.objects self sorting) }
@@ -244,7 +306,11 @@ impl<F: Find + Drop, P: Predicate + Drop> Simple<F, P> {
     }
 
     /// Hides all that these tips reach, by any parent and whatever the predicate says, in place of tips given earlier. The first
-    /// step reads it; where it can't, that step gives `HiddenGraph`, and then nothing. `Memory` is the one error of this call.
+    /// step reads it; where it can't, that step gives `HiddenGraph`, and then nothing.
+    ///
+    /// # Errors
+    ///
+    /// `Memory` when out of memory. The walk is dropped.
     pub fn hide<T: IntoIterator<Item = ObjectId>>(mut self, tips: T) -> Result<Self, Error>
     where
         T::IntoIter: Drop,

@@ -1,6 +1,6 @@
 //! Laws of `commit::Simple`.
 
-ghost use Rattle.std.specs.Prelude.{◌≡◌, ◌≤◌, ◌≤ℤ◌, ◌↔◌, ℕ, suc, List, [], Bool, false, true, Some, None, Result, All, Contains, length, slice_get, filter};
+ghost use Rattle.std.specs.Prelude.{◌≡◌, ◌≤◌, ◌≤ℤ◌, ◌↔◌, ℕ, suc, List, [], ◌++◌, Bool, false, true, Some, None, Result, All, Contains, length, slice_get, filter};
 ghost use Rattle.std.specs.FinSet as set;
 ghost use Rattle.std.specs.List.{AllZip};
 ghost use Rattle.gix_parts.specs.declared.hash.ObjectId.{ObjectId};
@@ -15,7 +15,8 @@ ghost use Rattle.gix_traverse.specs.History.Reach.{Reaches, Tells};
 ghost use Rattle.gix_traverse.specs.History.Commits.{ReadsWhole, parents_of, time_of};
 ghost use Rattle.gix_traverse.specs.Simple.Walk.{SimpleWalk, May, IsMade, ids_of, time_order, cutoff};
 ghost use Rattle.gix_traverse.specs.Simple.Building.{IsBuilt};
-ghost use Rattle.gix_traverse.specs.Simple.Laws.{IsFresh, IsWholeRun, IsPlainRun, IsPlain, IsGiven, GivesInOrder, AreDistinct, AnswersBy, IsNewWalk, IsNoRefusal, GivesBreadthFirst, new_ids, accepted_parents, recent_parents, next_of, starts_of, answers_left, given_ids};
+ghost use Rattle.gix_traverse.specs.Simple.Laws.{IsFresh, IsWholeRun, IsPlainRun, IsPlain, GivesInOrder, AreDistinct, AnswersBy, IsNewWalk, IsNoRefusal, GivesBreadthFirst, new_ids, accepted_parents, recent_parents, next_of, starts_of, named_in, answers_left, given_ids};
+ghost use Rattle.gix_traverse.specs.Simple.Runs.{Drawn, AsksOnce, TellsGenerations, AreAlike, AreBuiltAlike, GiveTheSame, GivesUnhidden};
 
 use crate::commit::{Parents, Predicate};
 use gix_parts::object::find::Find;
@@ -58,14 +59,27 @@ pub fn each_once<F: Find, P: Predicate>()
     ensures { (walk : SimpleWalk F P) (accepts hidden : ObjectId → Bool) (list : List (Result Info Error)) (gives : GivesInOrder F.objects walk accepts hidden list) → AreDistinct gives.ids × ((i : ObjectId) → Contains gives.ids i ↔ Reaches (next_of F.objects walk accepts hidden) (starts_of walk hidden) i) }
 {}
 
-/// With hidden tips it gives the commits of the walk without them that they don't reach.
-pub fn hides<F: Find, P: Predicate>()
-    ensures { (walk : SimpleWalk F P) (accepts hidden shown : ObjectId → Bool) (list longer : List (Result Info Error)) → IsWholeRun F.objects F.faulty P.answers walk accepts hidden list → IsWholeRun F.objects F.faulty P.answers (record walk { hidden_tips = [] }) accepts shown longer → (ids more : List ObjectId) × AllZip (IsGiven (F.objects walk.store) walk.rows walk.parents (time_order walk.parents walk.sorting)) list ids × AllZip (IsGiven (F.objects walk.store) walk.rows walk.parents (time_order walk.parents walk.sorting)) longer more × ((i : ObjectId) → Contains ids i ↔ (Contains more i × (Reaches (parents_of (F.objects walk.store)) walk.hidden_tips i → ⊥))) }
+/// Two walks that were built of the same tips by the same calls are alike, whatever rows and hidden tips each was given: they start
+/// from the same commits and walk the same parents in the same order.
+pub fn are_alike<F: Find, P: Predicate>()
+    ensures { (store : F) (predicate : P) (accepts : ObjectId → Bool) (tips : List ObjectId) (walk other : SimpleWalk F P) → AnswersBy P.answers predicate accepts → AreBuiltAlike F.objects F.faulty P.answers store predicate tips walk other → AreAlike walk other }
 {}
 
-/// Rows that agree, corrupt ones among them, leave the ids as they are: their list where no order by time is in force, else their set.
+/// With hidden tips a walk gives those commits of a walk without them that they don't reach, where the two are else alike.
+pub fn hides<F: Find, P: Predicate>()
+    ensures { (walk other : SimpleWalk F P) (accepts hidden shown : ObjectId → Bool) (list longer : List (Result Info Error)) → AreAlike walk other → other.hidden_tips ≡ [] → IsWholeRun F.objects F.faulty P.answers walk accepts hidden list → IsWholeRun F.objects F.faulty P.answers other accepts shown longer → GivesUnhidden F.objects walk other list longer }
+{}
+
+/// Rows that agree, corrupt ones among them, leave the ids as they are, for two walks that are else alike: their list where no order
+/// by time is in force, else their set.
 pub fn rows_agree<F: Find, P: Predicate>()
-    ensures { (walk : SimpleWalk F P) (accepts hidden : ObjectId → Bool) (list other : List (Result Info Error)) → IsWholeRun F.objects F.faulty P.answers walk accepts hidden list → IsWholeRun F.objects F.faulty P.answers (record walk { rows = [] }) accepts hidden other → (ids those : List ObjectId) × AllZip (IsGiven (F.objects walk.store) walk.rows walk.parents (time_order walk.parents walk.sorting)) list ids × AllZip (IsGiven (F.objects walk.store) [] walk.parents (time_order walk.parents walk.sorting)) other those × ((i : ObjectId) → Contains ids i ↔ Contains those i) × (time_order walk.parents walk.sorting ≡ None → ids ≡ those) }
+    ensures { (walk other : SimpleWalk F P) (accepts hidden : ObjectId → Bool) (list there : List (Result Info Error)) → AreAlike walk other → IsWholeRun F.objects F.faulty P.answers walk accepts hidden list → IsWholeRun F.objects F.faulty P.answers other accepts hidden there → GiveTheSame F.objects walk other list there }
+{}
+
+/// The generations that are given are those of the rows, and none for a commit without a row, up to where a corrupt row drops the
+/// rows; from there on none is given. Where the rows agree and none is corrupt, they are never dropped.
+pub fn tells<F: Find, P: Predicate>()
+    ensures { (walk new : SimpleWalk F P) (list : List (Result Info Error)) → Drawn F.objects F.faulty P.answers walk list new → TellsGenerations (F.objects walk.store) (F.faulty walk.store) walk.rows list }
 {}
 
 /// Newest first, if no parent is newer than its child, the times never rise.
@@ -76,6 +90,12 @@ pub fn times_fall<F: Find, P: Predicate>()
 /// No id is given twice, whatever faults come.
 pub fn never_twice<F: Find, P: Predicate>()
     ensures { (walk : SimpleWalk F P) (list : List (Result Info Error)) → AreDistinct (ids_of walk.pending) → ((i : ObjectId) → Contains (ids_of walk.pending) i → set.contains walk.seen i ≡ true) → May F.objects F.faulty P.answers walk list → AreDistinct (given_ids list) }
+{}
+
+/// No id is asked about twice, whatever faults come, and only tips and ids that rows and stored texts name: the predicate's state is
+/// a run of its own steps over such ids.
+pub fn asks_once<F: Find, P: Predicate>()
+    ensures { (store : F) (predicate : P) (tips : List ObjectId) (walk new : SimpleWalk F P) (list : List (Result Info Error)) → IsBuilt F.objects F.faulty P.answers store predicate tips walk → Drawn F.objects F.faulty P.answers walk list new → AsksOnce P.answers (tips ++ named_in F.objects walk) predicate new.predicate }
 {}
 
 /// Every walk ends: it gives at most an answer for each pending commit, and for each id not seen that rows or stored texts name.

@@ -73,9 +73,21 @@ IsTidy p = (i : ObjectId) → set.contains p.frontier i ≡ true → state_of p 
 abbrev pub Reads : Objects → ObjectId → List ObjectId → Type 0
 Reads objects i ids = (commit : Commit) × (commit_at objects i ≡ Some commit) × (ids ≡ commit.parents)
 
--- but for want of memory, one of the ids can't be read
-abbrev pub FailsAmong : Objects → (ObjectId → Type 0) → List ObjectId → Hidden → Type 0
-FailsAmong objects faulty ids why = why ≢ hidden_by.Find existing.Memory → (i : ObjectId) × Contains ids i × IsFaultAt objects faulty i why
+-- out of memory, or the commit of an id can't be read
+abbrev pub FailsAt : Objects → (ObjectId → Type 0) → ObjectId → Hidden → Type 0
+FailsAt objects faulty i why = why ≢ hidden_by.Find existing.Memory → IsFaultAt objects faulty i why
+
+-- out of memory, or one of the ids, which has no row, can't be read
+abbrev pub FailsAmong : Objects → (ObjectId → Type 0) → List GraphRow → List ObjectId → Hidden → Type 0
+FailsAmong objects faulty rows ids why = why ≢ hidden_by.Find existing.Memory → (i : ObjectId) × Contains ids i × (row_of rows i ≡ None) × IsFaultAt objects faulty i why
+
+-- an id has no row, or a corrupt one
+abbrev pub IsUntold : List GraphRow → ObjectId → Type 0
+IsUntold rows i = (row : GraphRow) → row_of rows i ≡ Some row → ids_at rows row.parents ≡ None
+
+-- out of memory, or an id can't be read that has no row or a corrupt one
+abbrev pub ReadFails : Objects → (ObjectId → Type 0) → List GraphRow → ObjectId → Hidden → Type 0
+ReadFails objects faulty rows i why = why ≢ hidden_by.Find existing.Memory → IsUntold rows i × IsFaultAt objects faulty i why
 
 -- the parents by the row, or else from the store, and the rows that stand then
 pub data ReadsParents (objects : Objects) (old : Option (Bor (List GraphRow))) (i : ObjectId) (ids : List ObjectId) : Option (Bor (List GraphRow)) → Type 0 where
@@ -158,10 +170,14 @@ pub data TreatsEntry {F : Type 0} (objects : F → Objects) (old : Painter F) (e
   skips : {new : Painter F} → is_turn entry old.frontier ≡ false → Takes old entry new → new.source.graph ≡ old.source.graph → TreatsEntry objects old entry new
   reads : {mid new : Painter F} {ids : List ObjectId} → is_turn entry old.frontier ≡ true → Takes old entry mid → GivesParents (objects old.source.objects.now) old.source.graph entry ids mid.source.graph → Meets objects entry.side ids mid new → TreatsEntry objects old entry new
 
--- the entry's commit or one of its parents can't be read
+-- the entry's own commit, which has no row or a corrupt one, or one of its parents, which has no row then
+abbrev pub IsReadFor : Objects → Option (Bor (List GraphRow)) → Entry → ObjectId → Type 0
+IsReadFor objects old entry i =
+    ((i ≡ entry.id) × IsUntold (rows_in old) i) ⊎ ((ids : List ObjectId) × (new : Option (Bor (List GraphRow))) × GivesParents objects old entry ids new × Contains ids i × (row_of (rows_in new) i ≡ None))
+
+-- out of memory, or one of those can't be read
 abbrev pub TreatFails : Objects → (ObjectId → Type 0) → Option (Bor (List GraphRow)) → Entry → Hidden → Type 0
-TreatFails objects faulty old entry why =
-    why ≢ hidden_by.Find existing.Memory → (i : ObjectId) × ((i ≡ entry.id) ⊎ ((ids : List ObjectId) × (new : Option (Bor (List GraphRow))) × GivesParents objects old entry ids new × Contains ids i)) × IsFaultAt objects faulty i why
+TreatFails objects faulty old entry why = why ≢ hidden_by.Find existing.Memory → (i : ObjectId) × IsReadFor objects old entry i × IsFaultAt objects faulty i why
 
 abbrev pub is_told : Generation → Bool
 is_told (Told n) = true

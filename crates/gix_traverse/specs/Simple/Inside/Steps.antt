@@ -1,5 +1,5 @@
 -- What the parts of one step of a simple walk do.
-use Rattle.std.specs.Prelude.{◌≡◌, ◌≢◌, ◌⊎◌, ◌++◌, ℤ, List, [], Bool, true, false, Option, Some, None, Result, Ok, Err}
+use Rattle.std.specs.Prelude.{◌≡◌, ◌≢◌, ◌⊎◌, ℤ, List, [], Bool, true, false, Option, Some, None, Result, Ok, Err}
 use Rattle.std.specs.FinSet as set
 use Rattle.gix_parts.specs.declared.hash.ObjectId.{ObjectId}
 use Rattle.gix_parts.specs.Object.{Objects}
@@ -51,6 +51,6 @@ unpainted walk = record walk { hidden_tips = []; pending = []; text = [] }
 -- the first step hides what hidden tips reach
 pub data Hides {F P : Type 0} (objects : F → Objects) (faulty : F → ObjectId → Type 0) (answers : P → ObjectId → Bool → P → Type 0) (old : SimpleWalk F P) : Result (Unit {0}) Error → SimpleWalk F P → Type 0 where
   nothing : (old.pending ≡ []) ⊎ (old.hidden_tips ≡ []) → Hides objects faulty answers old (Ok tt) (record old { hidden_tips = [] })
-  paints : {marks : set.FinSet id_cmp} {rows : List GraphRow} → old.pending ≢ [] → old.hidden_tips ≢ [] → Paints (objects old.store) (faulty old.store) old.rows (ids_of old.pending) old.hidden_tips marks rows → Hides objects faulty answers old (Ok tt) (painted objects faulty answers old marks rows)
-  faulty_history : {why : Hidden} → old.pending ≢ [] → old.hidden_tips ≢ [] → IsHiddenFault (objects old.store) (faulty old.store) old.rows (ids_of old.pending ++ old.hidden_tips) why → Hides objects faulty answers old (Err (error.HiddenGraph why)) (unpainted old)
+  paints : {marks : set.FinSet id_cmp} {rows : List GraphRow} → old.pending ≢ [] → old.hidden_tips ≢ [] → Paints (objects old.store) old.rows (ids_of old.pending) old.hidden_tips marks rows → Hides objects faulty answers old (Ok tt) (painted objects faulty answers old marks rows)
+  faulty_history : {why : Hidden} → old.pending ≢ [] → old.hidden_tips ≢ [] → IsHiddenFault (objects old.store) (faulty old.store) old.rows (ids_of old.pending) old.hidden_tips why → Hides objects faulty answers old (Err (error.HiddenGraph why)) (unpainted old)
   no_memory : old.pending ≢ [] → old.hidden_tips ≢ [] → Hides objects faulty answers old (Err error.Memory) (unpainted old)

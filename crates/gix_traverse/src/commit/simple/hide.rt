@@ -1,5 +1,5 @@
 //! How a walk hides what its hidden tips reach.
-ghost use Rattle.std.specs.Prelude.{◌≡◌, ◌≢◌, ◌++◌, ◌==◌, ◌||◌, [], filter, length, not, if◌then◌else◌, IfOk, IfErr};
+ghost use Rattle.std.specs.Prelude.{◌≡◌, ◌≢◌, ◌==◌, ◌||◌, [], filter, length, not, if◌then◌else◌, IfOk, IfErr};
 ghost use Rattle.std.specs.FinSet as set;
 ghost use Rattle.gix_parts.specs.declared.object.find.existing_iter.Error.TheVariants as existing;
 ghost use Rattle.gix_traverse.specs.declared.commit.simple.Hidden.TheVariants as hidden_by;
@@ -61,8 +61,8 @@ impl<F: Find + Drop, P: Predicate + Drop> Simple<F, P> {
     }
 
     fn painted(&self, tips: &VecDeque<Pending>) -> Result<Painting, Hidden>
-        ensures ok { IfOk result (λ p. Paints (F.objects self.now.store) (F.faulty self.now.store) self.now.rows (ids_of tips.now.items) self.now.hidden_tips p.hidden (if p.rows_stand then self.now.rows else [])) }
-        ensures fault { IfErr result (λ why. why ≢ hidden_by.Find existing.Memory → IsHiddenFault (F.objects self.now.store) (F.faulty self.now.store) self.now.rows (ids_of tips.now.items ++ self.now.hidden_tips) why) }
+        ensures ok { IfOk result (λ p. Paints (F.objects self.now.store) self.now.rows (ids_of tips.now.items) self.now.hidden_tips p.hidden (if p.rows_stand then self.now.rows else [])) }
+        ensures fault { IfErr result (λ why. why ≢ hidden_by.Find existing.Memory → IsHiddenFault (F.objects self.now.store) (F.faulty self.now.store) self.now.rows (ids_of tips.now.items) self.now.hidden_tips why) }
     {
         paint(
             self.alloc,

@@ -1,5 +1,5 @@
 //! What hidden tips reach, as far as a walk can meet it.
-ghost use Rattle.std.specs.Prelude.{◌≡◌, ◌≢◌, ◌↔◌, ◌++◌, ◌∷◌, [], IsTrue, IfOk, IfErr, IfSome, IfNone, if◌then◌else◌};
+ghost use Rattle.std.specs.Prelude.{◌≡◌, ◌≢◌, ◌↔◌, ◌∷◌, [], IsTrue, IfOk, IfErr, IfSome, IfNone, if◌then◌else◌};
 ghost use Rattle.std.specs.FinSet as set;
 ghost use Rattle.gix_parts.specs.declared.object.find.existing_iter.Error.TheVariants as existing;
 ghost use Rattle.gix_traverse.specs.declared.commit.simple.paint.source.Key.{Key};
@@ -166,7 +166,7 @@ impl<'a, F: Find> Painter<'a, F> {
     // Puts a commit into the queue.
     fn enqueue(&mut self, id: ObjectId, side: Side) -> Result<(), Hidden>
         ensures ok { IfOk result (λ _. Queues F.objects self.old id side self.new) }
-        ensures fault { IfErr result (FailsAmong (F.objects self.old.source.objects.now) (F.faulty self.old.source.objects.now) (id ∷ [])) }
+        ensures fault { IfErr result (FailsAmong (F.objects self.old.source.objects.now) (F.faulty self.old.source.objects.now) (rows_in self.old.source.graph) (id ∷ [])) }
     {
         let Known { key, parent_ids } = self.source.look_up(&id)?;
         self.queue.insert(
@@ -183,7 +183,7 @@ impl<'a, F: Find> Painter<'a, F> {
     // An id that visible tips reach is queued once. One that is hidden already is left to the hidden side.
     fn show(&mut self, id: ObjectId) -> Result<(), Hidden>
         ensures ok { IfOk result (λ _. Meets F.objects Side.Visible (id ∷ []) self.old self.new) }
-        ensures fault { IfErr result (FailsAmong (F.objects self.old.source.objects.now) (F.faulty self.old.source.objects.now) (id ∷ [])) }
+        ensures fault { IfErr result (FailsAmong (F.objects self.old.source.objects.now) (F.faulty self.old.source.objects.now) (rows_in self.old.source.graph) (id ∷ [])) }
     {
         if self.marks.get(&id).is_some() {
             return Ok(());
@@ -196,7 +196,7 @@ impl<'a, F: Find> Painter<'a, F> {
     // An id that hidden tips reach is queued once for them, whatever visible tips did.
     fn hide(&mut self, id: ObjectId) -> Result<(), Hidden>
         ensures ok { IfOk result (λ _. Meets F.objects Side.Hidden (id ∷ []) self.old self.new) }
-        ensures fault { IfErr result (FailsAmong (F.objects self.old.source.objects.now) (F.faulty self.old.source.objects.now) (id ∷ [])) }
+        ensures fault { IfErr result (FailsAmong (F.objects self.old.source.objects.now) (F.faulty self.old.source.objects.now) (rows_in self.old.source.graph) (id ∷ [])) }
     {
         if is_hidden(&self.marks, &id) {
             return Ok(());
@@ -209,7 +209,7 @@ impl<'a, F: Find> Painter<'a, F> {
     // Ids that are reached on a side, in order.
     fn meet_all(&mut self, mut ids: &[ObjectId], side: Side) -> Result<(), Hidden>
         ensures ok { IfOk result (λ _. Meets F.objects side ids.entry.now self.old self.new) }
-        ensures fault { IfErr result (FailsAmong (F.objects self.old.source.objects.now) (F.faulty self.old.source.objects.now) ids.entry.now) }
+        ensures fault { IfErr result (FailsAmong (F.objects self.old.source.objects.now) (F.faulty self.old.source.objects.now) (rows_in self.old.source.graph) ids.entry.now) }
     {
         while let Some((id, rest)) = ids.split_first() {
             match side {
@@ -223,7 +223,7 @@ impl<'a, F: Find> Painter<'a, F> {
 
     fn show_all(&mut self, tips: &VecDeque<Pending>) -> Result<(), Hidden>
         ensures ok { IfOk result (λ _. Meets F.objects Side.Visible (ids_of tips.now.items) self.old self.new) }
-        ensures fault { IfErr result (FailsAmong (F.objects self.old.source.objects.now) (F.faulty self.old.source.objects.now) (ids_of tips.now.items)) }
+        ensures fault { IfErr result (FailsAmong (F.objects self.old.source.objects.now) (F.faulty self.old.source.objects.now) (rows_in self.old.source.graph) (ids_of tips.now.items)) }
     {
         for tip in tips.iter() {
             self.show(tip.id)?;
@@ -299,8 +299,8 @@ pub(super) fn paint<'a, F: Find>(
     tips: &VecDeque<Pending>,
     hidden_tips: &[ObjectId],
 ) -> Result<Painting, Hidden>
-    ensures ok { IfOk result (λ p. Paints (F.objects objects.now) (F.faulty objects.now) (rows_in graph.entry) (ids_of tips.now.items) hidden_tips.now p.hidden (if p.rows_stand then rows_in graph.entry else [])) }
-    ensures fault { IfErr result (λ why. why ≢ Hidden.Find existing.Memory → IsHiddenFault (F.objects objects.now) (F.faulty objects.now) (rows_in graph.entry) (ids_of tips.now.items ++ hidden_tips.now) why) }
+    ensures ok { IfOk result (λ p. Paints (F.objects objects.now) (rows_in graph.entry) (ids_of tips.now.items) hidden_tips.now p.hidden (if p.rows_stand then rows_in graph.entry else [])) }
+    ensures fault { IfErr result (λ why. why ≢ Hidden.Find existing.Memory → IsHiddenFault (F.objects objects.now) (F.faulty objects.now) (rows_in graph.entry) (ids_of tips.now.items) hidden_tips.now why) }
 {
     let mut painter = Painter {
         source: Source {

@@ -1,7 +1,7 @@
 //! Where painting reads commits: by their rows as long as these are held, and else from the store.
 ghost use Rattle.std.specs.Prelude.{◌≡◌, ◌∷◌, [], IfOk, IfErr};
 ghost use Rattle.gix_traverse.specs.History.Commits.{time_of};
-ghost use Rattle.gix_traverse.specs.Simple.Inside.Painter.{rows_in, FailsAmong, Reads, ReadsParents, GivesParents, Knows};
+ghost use Rattle.gix_traverse.specs.Simple.Inside.Painter.{rows_in, FailsAt, FailsAmong, ReadFails, Reads, ReadsParents, GivesParents, Knows};
 
 use super::Entry;
 use crate::commit::read::{row_parents, scan};
@@ -57,7 +57,7 @@ impl<'a, F: Find> Source<'a, F> {
         ensures graph { self.new.graph ≡ self.old.graph }
         ensures read { IfOk result (λ stored. Reads (F.objects self.old.objects.now) id.now stored.parent_ids.items) }
         ensures time { IfOk result (λ stored. stored.time ≡ time_of (F.objects self.old.objects.now) id.now) }
-        ensures fault { IfErr result (FailsAmong (F.objects self.old.objects.now) (F.faulty self.old.objects.now) (id.now ∷ [])) }
+        ensures fault { IfErr result (FailsAt (F.objects self.old.objects.now) (F.faulty self.old.objects.now) id.now) }
     {
         let items = self.objects.find_commit_iter(id, &mut self.text)?;
         let time = items.committer()?.seconds();
@@ -70,7 +70,7 @@ impl<'a, F: Find> Source<'a, F> {
         ensures objects { self.new.objects ≡ self.old.objects }
         ensures graph { self.new.graph ≡ self.old.graph }
         ensures known { IfOk result (Knows (F.objects self.old.objects.now) (rows_in self.old.graph) id.now) }
-        ensures fault { IfErr result (FailsAmong (F.objects self.old.objects.now) (F.faulty self.old.objects.now) (id.now ∷ [])) }
+        ensures fault { IfErr result (FailsAmong (F.objects self.old.objects.now) (F.faulty self.old.objects.now) (rows_in self.old.graph) (id.now ∷ [])) }
     {
         if let Some(graph) = self.graph
             && let Some(commit) = graph.commit_by_id(id)
@@ -99,7 +99,7 @@ impl<'a, F: Find> Source<'a, F> {
     fn parents_of(&mut self, id: &ObjectId) -> Result<ParentIds, Hidden>
         ensures objects { self.new.objects ≡ self.old.objects }
         ensures parents { IfOk result (λ ids. ReadsParents (F.objects self.old.objects.now) self.old.graph id.now ids.items self.new.graph) }
-        ensures fault { IfErr result (FailsAmong (F.objects self.old.objects.now) (F.faulty self.old.objects.now) (id.now ∷ [])) }
+        ensures fault { IfErr result (ReadFails (F.objects self.old.objects.now) (F.faulty self.old.objects.now) (rows_in self.old.graph) id.now) }
     {
         if let Some(graph) = self.graph
             && let Some(commit) = graph.commit_by_id(id)
@@ -116,7 +116,7 @@ impl<'a, F: Find> Source<'a, F> {
     pub(super) fn parents(&mut self, entry: Entry) -> Result<ParentIds, Hidden>
         ensures objects { self.new.objects ≡ self.old.objects }
         ensures parents { IfOk result (λ ids. GivesParents (F.objects self.old.objects.now) self.old.graph entry ids.items self.new.graph) }
-        ensures fault { IfErr result (FailsAmong (F.objects self.old.objects.now) (F.faulty self.old.objects.now) (entry.id ∷ [])) }
+        ensures fault { IfErr result (ReadFails (F.objects self.old.objects.now) (F.faulty self.old.objects.now) (rows_in self.old.graph) entry.id) }
     {
         let Entry { id, parent_ids, .. } = entry;
         match parent_ids {

@@ -11,6 +11,7 @@ invariant-loop-id g l = record {
   meets : (new : Painter g.row.F.Denot) → Meets g.F.Find.objects l.side l.ids l.self new → Meets g.F.Find.objects l.fn.side l.fn.ids l.fn.self new;
   within : (i : ObjectId) → Contains l.ids i → Contains l.fn.ids i;
   same_objects : l.self.source.objects ≡ l.fn.self.source.objects;
+  same_graph : l.self.source.graph ≡ l.fn.self.source.graph;
 }
 
 abbrev pub decreases-loop-id : goal.decreases-loop-id

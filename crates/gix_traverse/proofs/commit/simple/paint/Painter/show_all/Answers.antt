@@ -15,6 +15,7 @@ loop-tip-init g c =
       meets = λ new m. subst (λ tips. Meets g.F.Find.objects side.Visible (ids_of tips) c.args.self.now new) all m;
       within = λ i m. subst (λ tips. Contains (ids_of tips) i) all m;
       same_objects = refl;
+      same_graph = refl;
     }
 
 pub loop-tip-preserved : goal.loop-tip-preserved
@@ -22,11 +23,12 @@ loop-tip-preserved g c = record {
   meets = λ new rest. c.loop-tip.invariant.meets new (meets_first g.F.Find.objects g.F.Find.faulty (ids_of (deque_iter_rest c.loop-tip.tip-iterator)) c.in-Some.tip.now.id (ids_of (deque_iter_rest c.next.new.self)) (ap ids_of c.in-Some.ensures.steps) c.in_ok-show.ensures.ok rest);
   within = λ i h. c.loop-tip.invariant.within i (subst (λ xs. Contains (ids_of xs) i) (sym c.in-Some.ensures.steps) (Contains-there i c.in-Some.tip.now.id (ids_of (deque_iter_rest c.next.new.self)) h));
   same_objects = c.in_ok-show.ensures.ok.objects_stay ∙ c.loop-tip.invariant.same_objects;
+  same_graph = c.in_ok-show.ensures.ok.graph_stays ∙ c.loop-tip.invariant.same_graph;
 }
 
 pub returns-in_err-show-clause-fault : goal.returns-in_err-show-clause-fault
 returns-in_err-show-clause-fault g c =
-    fails_within g.F.Find.objects g.F.Find.faulty c.args.self.now.source.objects c.loop-tip.self.source.objects c.from_residual.result c.in_err-show.field-0.0 c.in-Some.tip.now.id (ids_of c.args.tips.now.items) c.loop-tip.invariant.same_objects c.from_residual.ensures.1
+    fails_within g.F.Find.objects g.F.Find.faulty c.args.self.now.source.objects c.loop-tip.self.source.objects c.args.self.now.source.graph c.loop-tip.self.source.graph c.from_residual.result c.in_err-show.field-0.0 c.in-Some.tip.now.id (ids_of c.args.tips.now.items) c.loop-tip.invariant.same_objects c.loop-tip.invariant.same_graph c.from_residual.ensures.1
     (c.loop-tip.invariant.within _ (subst (λ xs. Contains (ids_of xs) c.in-Some.tip.now.id) (sym c.in-Some.ensures.steps) (Contains-here c.in-Some.tip.now.id (ids_of (deque_iter_rest c.next.new.self))))) c.in_err-show.ensures.fault
 
 pub returns-clause-ok : goal.returns-clause-ok

@@ -14,4 +14,5 @@ invariant-loop-tip g l = record {
   meets : (new : Painter g.row.F.Denot) → Meets g.F.Find.objects side.Visible (ids_of (deque_iter_rest l.tip-iterator)) l.self new → Meets g.F.Find.objects side.Visible (ids_of l.fn.tips.items) l.fn.self new;
   within : (i : ObjectId) → Contains (ids_of (deque_iter_rest l.tip-iterator)) i → Contains (ids_of l.fn.tips.items) i;
   same_objects : l.self.source.objects ≡ l.fn.self.source.objects;
+  same_graph : l.self.source.graph ≡ l.fn.self.source.graph;
 }

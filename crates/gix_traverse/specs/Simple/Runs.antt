@@ -1,0 +1,89 @@
+-- What holds along the answers that are drawn from a simple walk, and of two walks that were built alike.
+use Rattle.std.specs.Prelude.{◌≡◌, ◌⊎◌, ◌↔◌, List, [], ◌∷◌, ◌++◌, Bool, None, Some, Result, Ok, Err, Contains, All}
+use Rattle.std.specs.Option.{option_map}
+use Rattle.std.specs.List.{AllZip}
+use Rattle.gix_parts.specs.declared.hash.ObjectId.{ObjectId}
+use Rattle.gix_parts.specs.Object.{Objects}
+use Rattle.gix_parts.specs.Rows.{GraphRow, row_of}
+use Rattle.gix_traverse.specs.declared.commit.Parents.{Parents}
+use Rattle.gix_traverse.specs.declared.commit.Info.{Info}
+use Rattle.gix_traverse.specs.declared.commit.simple.Sorting.{Sorting}
+use Rattle.gix_traverse.specs.declared.commit.simple.Sorting.TheVariants as sorting
+use Rattle.gix_traverse.specs.declared.commit.simple.Error.{Error}
+use Rattle.gix_traverse.specs.History.Agreeing.{IsAgreeing, IsCorrupt}
+use Rattle.gix_traverse.specs.History.Commits.{parents_of}
+use Rattle.gix_traverse.specs.History.Reach.{Reaches}
+use Rattle.gix_traverse.specs.Simple.Walk.{SimpleWalk, Next, IsMade, ids_of, time_order}
+use Rattle.gix_traverse.specs.Simple.Building.{IsSortedByTime}
+use Rattle.gix_traverse.specs.Simple.Laws.{AreDistinct, IsGiven}
+use Rattle.gix_traverse.specs.Topo.Laws.{AsksAll}
+
+-- these answers were drawn from a walk, and left it so
+abbrev pub Drawn : {F P : Type 0} → (F → Objects) → (F → ObjectId → Type 0) → (P → ObjectId → Bool → P → Type 0) → SimpleWalk F P → List (Result Info Error) → SimpleWalk F P → Type 0
+Drawn objects faulty answers walk [] new = new ≡ walk
+Drawn {F} {P} objects faulty answers walk (answer ∷ rest) new = (mid : SimpleWalk F P) × Next objects faulty answers walk (Some answer) mid × Drawn objects faulty answers mid rest new
+
+-- a predicate was asked about different ids, each of them among these, and went from one state to another
+pub record AsksOnce {P : Type 0} (answers : P → ObjectId → Bool → P → Type 0) (among : List ObjectId) (first last : P) : Type 0 where
+  pub ids : List ObjectId
+  pub run : AsksAll answers first ids last
+  pub distinct : AreDistinct ids
+  pub named : (i : ObjectId) → Contains ids i → Contains among i
+
+-- a commit has the generation of its row, and none without a row
+abbrev pub IsTold : List GraphRow → Result Info Error → Type 0
+IsTold rows (Ok info) = info.generation ≡ option_map (λ row. row.generation) (row_of rows info.id)
+IsTold rows (Err e) = Unit {0}
+
+-- a commit has no generation
+abbrev pub IsUntold : Result Info Error → Type 0
+IsUntold (Ok info) = info.generation ≡ None
+IsUntold (Err e) = Unit {0}
+
+-- a row of these is corrupt
+pub record HasCorruptRow (rows : List GraphRow) : Type 0 where
+  pub row : GraphRow
+  pub present : Contains rows row
+  pub corrupt : IsCorrupt row
+
+-- the answers have the generations of the rows, up to where a corrupt row drops these, and none from there on
+pub record TellsGenerations (objects : Objects) (faulty : ObjectId → Type 0) (rows : List GraphRow) (list : List (Result Info Error)) : Type 0 where
+  pub before : List (Result Info Error)
+  pub behind : List (Result Info Error)
+  pub parts : list ≡ before ++ behind
+  pub told : All (IsTold rows) before
+  pub untold : All IsUntold behind
+  pub dropped : (behind ≡ []) ⊎ (IsAgreeing objects faulty rows → HasCorruptRow rows)
+
+-- two walks of one store, over the same parents, in the same order, from the same pending commits
+pub record AreAlike {F P : Type 0} (walk other : SimpleWalk F P) : Type 0 where
+  pub same_store : other.store ≡ walk.store
+  pub same_parents : other.parents ≡ walk.parents
+  pub same_sorting : other.sorting ≡ walk.sorting
+  pub same_pending : ids_of other.pending ≡ ids_of walk.pending
+
+-- two walks that were built of the same tips by the same calls, but for the rows and the hidden tips that were given to each
+pub data AreBuiltAlike {F P : Type 0} (objects : F → Objects) (faulty : F → ObjectId → Type 0) (answers : P → ObjectId → Bool → P → Type 0) (store : F) (predicate : P) (tips : List ObjectId) : SimpleWalk F P → SimpleWalk F P → Type 0 where
+  made : {a b : SimpleWalk F P} → IsMade objects faulty answers store predicate tips a → IsMade objects faulty answers store predicate tips b → AreBuiltAlike objects faulty answers store predicate tips a b
+  breadth_first : {a b : SimpleWalk F P} → AreBuiltAlike objects faulty answers store predicate tips a b → AreBuiltAlike objects faulty answers store predicate tips (record a { sorting = sorting.BreadthFirst }) (record b { sorting = sorting.BreadthFirst })
+  by_time : {a b c d : SimpleWalk F P} {by : Sorting} → AreBuiltAlike objects faulty answers store predicate tips a b → IsSortedByTime objects a by c → IsSortedByTime objects b by d → AreBuiltAlike objects faulty answers store predicate tips c d
+  walks : {a b : SimpleWalk F P} {parents : Parents} → AreBuiltAlike objects faulty answers store predicate tips a b → AreBuiltAlike objects faulty answers store predicate tips (record a { parents = parents }) (record b { parents = parents })
+  hides : {a b : SimpleWalk F P} {ids those : List ObjectId} → AreBuiltAlike objects faulty answers store predicate tips a b → AreBuiltAlike objects faulty answers store predicate tips (record a { hidden_tips = ids }) (record b { hidden_tips = those })
+  reads : {a b : SimpleWalk F P} {rows those : List GraphRow} → AreBuiltAlike objects faulty answers store predicate tips a b → AreBuiltAlike objects faulty answers store predicate tips (record a { rows = rows }) (record b { rows = those })
+
+-- the answers of two walks are the same commits: in the same order where none by time is in force, else in any
+pub record GiveTheSame {F P : Type 0} (objects : F → Objects) (walk other : SimpleWalk F P) (list those_given : List (Result Info Error)) : Type 0 where
+  pub ids : List ObjectId
+  pub those : List ObjectId
+  pub given : AllZip (IsGiven (objects walk.store) walk.rows walk.parents (time_order walk.parents walk.sorting)) list ids
+  pub given_there : AllZip (IsGiven (objects other.store) other.rows other.parents (time_order other.parents other.sorting)) those_given those
+  pub same : (i : ObjectId) → Contains ids i ↔ Contains those i
+  pub in_order : time_order walk.parents walk.sorting ≡ None → ids ≡ those
+
+-- the answers of a walk are those commits of another that its hidden tips don't reach
+pub record GivesUnhidden {F P : Type 0} (objects : F → Objects) (walk other : SimpleWalk F P) (list longer : List (Result Info Error)) : Type 0 where
+  pub ids : List ObjectId
+  pub more : List ObjectId
+  pub given : AllZip (IsGiven (objects walk.store) walk.rows walk.parents (time_order walk.parents walk.sorting)) list ids
+  pub given_there : AllZip (IsGiven (objects other.store) other.rows other.parents (time_order other.parents other.sorting)) longer more
+  pub unhidden : (i : ObjectId) → Contains ids i ↔ (Contains more i × (Reaches (parents_of (objects walk.store)) walk.hidden_tips i → ⊥))
