@@ -220,7 +220,13 @@ module _ {F : Type 0} (objects : F → Objects) (faulty : F → ObjectId → Typ
     pub is : IsOfInfo r info
     pub later : standing ≡ true → after ≡ true
 
-  -- the rows agree, and all that the walk may look up reads whole: what tips reach, their parents, and what ends reach
+  -- the rows agree, and all that is walked reads whole: what tips reach, and what ends reach
+  pub record IsWalkable : Type 0 where
+    pub agreeing : IsAgreeing (objects plan.store) (faulty plan.store) plan.rows
+    pub tips_whole : (i : ObjectId) → Reaches (walked_of objects plan) plan.tips i → ReadsWhole (objects plan.store) (faulty plan.store) i
+    pub ends_whole : (i : ObjectId) → Reaches (parents_of (objects plan.store)) plan.ends i → ReadsWhole (objects plan.store) (faulty plan.store) i
+
+  -- and so do all parents of what tips reach, also those that aren't walked
   pub record IsSound : Type 0 where
     pub agreeing : IsAgreeing (objects plan.store) (faulty plan.store) plan.rows
     pub tips_whole : (i : ObjectId) → Reaches (walked_of objects plan) plan.tips i → ReadsWhole (objects plan.store) (faulty plan.store) i
@@ -240,7 +246,7 @@ module _ {F : Type 0} (objects : F → Objects) (faulty : F → ObjectId → Typ
   IsFault error.Memory = Unit {0}
 
 module _ {F P : Type 0} (objects : F → Objects) (faulty : F → ObjectId → Type 0) (answers : P → ObjectId → Bool → P → Type 0) where
-  -- the ready tips of a sound walk: those without children, by rising time
+  -- the ready tips, where all that is walked reads whole: those without children, by rising time
   pub record StartsWith (plan : TopoPlan F) (ready : List Ready) : Type 0 where
     pub childless : List ObjectId
     pub starts : List Ready
@@ -253,12 +259,12 @@ module _ {F P : Type 0} (objects : F → Objects) (faulty : F → ObjectId → T
     pub untaken : walk.taken ≡ set.empty
     pub distinct : AreDistinct (ready_ids walk.ready)
     pub tips : (i : ObjectId) → Contains (ready_ids walk.ready) i → Contains walk.plan.tips i
-    pub starts : IsSound objects faulty walk.plan → StartsWith walk.plan walk.ready
+    pub starts : IsWalkable objects faulty walk.plan → StartsWith walk.plan walk.ready
     -- each was read, whatever the store and the rows
     pub found : (r : Ready) → Contains walk.ready r → IsFound objects faulty walk.plan walk.counted.standing r
-    pub stored : IsSound objects faulty walk.plan → (r : Ready) → Contains walk.ready r → IsStored objects walk.plan walk.counted.standing r
+    pub stored : IsWalkable objects faulty walk.plan → (r : Ready) → Contains walk.ready r → IsStored objects walk.plan walk.counted.standing r
     pub depth : walk.counted.depth ≡ first_depth walk.plan
-    pub counting : IsSound objects faulty walk.plan → IsCounting objects walk.plan walk.counted
+    pub counting : IsWalkable objects faulty walk.plan → IsCounting objects walk.plan walk.counted
     -- without rows, all that is reached was read
     pub read : walk.plan.rows ≡ [] → (i : ObjectId) → IsReached objects walk.plan i → IsCommitRead (objects walk.plan.store) i
 
@@ -280,14 +286,14 @@ module _ {F P : Type 0} (objects : F → Objects) (faulty : F → ObjectId → T
     pub named : (i : ObjectId) → Contains (ready_ids added) i → is_among i (named_ids (objects old.plan.store) old.plan.rows) ≡ true
     -- and was read, whatever the store and the rows
     pub found : (r : Ready) → Contains added r → IsFound objects faulty old.plan counted.standing r
-    -- of a sound walk: the walked parents that became ready, each at its last place
-    pub became : IsSound objects faulty old.plan → Keeps (IsReady (walked_of objects old.plan) (IsMember objects old.plan) (IsTaken (set.insert old.taken c.id))) (last_places (walked_of objects old.plan c.id)) (ready_ids added)
-    pub stored : IsSound objects faulty old.plan → (r : Ready) → Contains added r → IsStored objects old.plan counted.standing r
+    -- where all that is walked reads whole: the walked parents that became ready, each at its last place
+    pub became : IsWalkable objects faulty old.plan → Keeps (IsReady (walked_of objects old.plan) (IsMember objects old.plan) (IsTaken (set.insert old.taken c.id))) (last_places (walked_of objects old.plan c.id)) (ready_ids added)
+    pub stored : IsWalkable objects faulty old.plan → (r : Ready) → Contains added r → IsStored objects old.plan counted.standing r
     -- dropped rows don't come back
     pub stands : counted.standing ≡ true → old.counted.standing ≡ true
     -- lowered to the least generation of the walked parents
     pub depth : counted.depth ≡ least old.plan.rows old.counted.depth (by_mode old.plan.parents c.parents)
-    pub counting : IsSound objects faulty old.plan → IsCounting objects old.plan counted
+    pub counting : IsWalkable objects faulty old.plan → IsCounting objects old.plan counted
 
   -- a ready commit is taken
   pub record Takes (old : TopoWalk F P) (c : Ready) (counted : Counted) (ready : List Ready) : Type 0 where

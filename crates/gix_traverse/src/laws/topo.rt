@@ -9,7 +9,7 @@ ghost use Rattle.gix_traverse.specs.declared.commit.topo.Sorting.TheVariants.{To
 ghost use Rattle.gix_traverse.specs.declared.commit.topo.Error.{Error};
 ghost use Rattle.gix_traverse.specs.History.Reach.{IsAcyclic};
 ghost use Rattle.gix_traverse.specs.Simple.Laws.{AreDistinct};
-ghost use Rattle.gix_traverse.specs.Topo.Walk.{TopoPlan, TopoWalk, walked_of, row_generation, IsMember, IsStarted, IsSound, IsFault, IsLate, IsCounting, Next, May};
+ghost use Rattle.gix_traverse.specs.Topo.Walk.{TopoPlan, TopoWalk, walked_of, row_generation, IsMember, IsStarted, IsWalkable, IsFault, IsLate, IsCounting, Next, May};
 ghost use Rattle.gix_traverse.specs.Topo.Laws.{IsTakenInOrder, IsWholeRun, IsGiven, GivesInOrder, AsksAll, Drawn, answers_left};
 
 use crate::commit::Predicate;
@@ -54,11 +54,11 @@ pub fn fails_once<F: Find, P: Predicate>()
 
 /// As long as the rows stand, a commit is given the generation of its row, and none where it has no row.
 pub fn tells<F: Find, P: Predicate>()
-    ensures { (walk mid new : TopoWalk F P) (list : List (Result Info Error)) (info : Info) → IsStarted F.objects F.faulty P.answers walk → IsSound F.objects F.faulty walk.plan → Drawn F.objects F.faulty P.answers walk list mid → Next F.objects F.faulty P.answers mid (Some (Ok info)) new → new.counted.standing ≡ true → info.generation ≡ row_generation (row_of walk.plan.rows info.id) }
+    ensures { (walk mid new : TopoWalk F P) (list : List (Result Info Error)) (info : Info) → IsStarted F.objects F.faulty P.answers walk → IsWalkable F.objects F.faulty walk.plan → Drawn F.objects F.faulty P.answers walk list mid → Next F.objects F.faulty P.answers mid (Some (Ok info)) new → new.counted.standing ≡ true → info.generation ≡ row_generation (row_of walk.plan.rows info.id) }
 {}
 
 /// As long as the rows stand, counting has read the parents of exactly the commits that tips or ends reach and that aren't below its
 /// depth. The rows are dropped only for a row with a fault, of such a commit.
 pub fn counts<F: Find, P: Predicate>()
-    ensures { (walk new : TopoWalk F P) (list : List (Result Info Error)) → IsStarted F.objects F.faulty P.answers walk → IsSound F.objects F.faulty walk.plan → Drawn F.objects F.faulty P.answers walk list new → ((e : Error) → Contains list (Err e) → ⊥) → IsCounting F.objects walk.plan new.counted }
+    ensures { (walk new : TopoWalk F P) (list : List (Result Info Error)) → IsStarted F.objects F.faulty P.answers walk → IsWalkable F.objects F.faulty walk.plan → Drawn F.objects F.faulty P.answers walk list new → ((e : Error) → Contains list (Err e) → ⊥) → IsCounting F.objects walk.plan new.counted }
 {}

@@ -26,7 +26,7 @@ use Rattle.gix_traverse.specs.Topo.Inside.Searched.{IsCounted, IsBegun, IsExplor
 use Rattle.gix_traverse.specs.History.Reach.{Reaches}
 use Rattle.gix_traverse.specs.Topo.Inside.Starting.{HasBegun, MeetsAll}
 use Rattle.gix_traverse.specs.Topo.Inside.Steady.{IsDone, HasCounted}
-use Rattle.gix_traverse.specs.Topo.Walk.{IsFault, IsCommitRead, IsCounting, IsSound, IsReached}
+use Rattle.gix_traverse.specs.Topo.Walk.{IsFault, IsCommitRead, IsCounting, IsWalkable, IsReached}
 use Rattle.gix_traverse.proofs.Topo.Counting.ExploreKeeps.{explores_keep, explores_made, explores_same, explores_still}
 use Rattle.gix_traverse.proofs.Topo.Counting.Expanded.{counts_on}
 use Rattle.gix_traverse.proofs.Topo.Counting.AllDownToDepth.{exact_there}
@@ -140,7 +140,7 @@ module _ {F : Type 0} (objects : F → Objects) (faulty : F → ObjectId → Typ
       dropped = λ f. absurd (true≢false (sym start.stands ∙ f));
     }
 
-    counts : IsSound objects faulty (plan_by low sorting tips ends) → HasCounted objects (plan_by low sorting tips ends) explored × IsCounting objects (plan_by low sorting tips ends) (counted_by explored)
+    counts : IsWalkable objects faulty (plan_by low sorting tips ends) → HasCounted objects (plan_by low sorting tips ends) explored × IsCounting objects (plan_by low sorting tips ends) (counted_by explored)
     counts sound = counts_on objects faulty sorting tips ends (λ i. false) low explored sound (counted_low (λ i. false) (λ i. refl)) start.begun counts_low explores rested
 
     low_depth : Rows ≡ [] → low.depth ≤ infinity

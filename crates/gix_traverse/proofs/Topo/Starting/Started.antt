@@ -26,7 +26,7 @@ use Rattle.gix_traverse.specs.Simple.Laws.{AreDistinct}
 use Rattle.gix_traverse.specs.Topo.Inside.Starting.{HasBegun, IsBegunWalk, by_rising_time}
 use Rattle.gix_traverse.specs.Orders.TopoOrder.{Keeps, first_places}
 use Rattle.gix_traverse.specs.Topo.Inside.Steady.{IsDone, IsTallied, IsSteady, HasCounted, IsHeld, unasked, unasked_of}
-use Rattle.gix_traverse.specs.Topo.Walk.{TopoPlan, Ready, ready_ids, first_depth, HoldsReady, IsNumberOf, IsInDepth, IsBrokenRow, IsCounting, IsSound, IsStored, IsMember, IsStarted, StartsWith, walked_of, IsFound}
+use Rattle.gix_traverse.specs.Topo.Walk.{TopoPlan, Ready, ready_ids, first_depth, HoldsReady, IsNumberOf, IsInDepth, IsBrokenRow, IsCounting, IsWalkable, IsStored, IsMember, IsStarted, StartsWith, walked_of, IsFound}
 use Rattle.gix_traverse.specs.Orders.WalkSet.{IsChildless}
 use Rattle.gix_traverse.proofs.Topo.Taking.BecomeReady.{none_left, outside, unseen, all_taken}
 use Rattle.gix_traverse.proofs.Topo.Counting.Expanded.{number_same, broken}
@@ -154,7 +154,7 @@ module _ {F : Type 0} (objects : F → Objects) (faulty : F → ObjectId → Typ
       done = λ r m. let tip : Contains p.tips r.id = all.among r (in_starts r m) in ap is_done (moved Tips r.id) ∙ begun.explored agrees Tips r.id (start tip) (tip_high r.id tip);
     }
 
-  module _ (sound : IsSound objects faulty p) where
+  module _ (sound : IsWalkable objects faulty p) where
     counted : IsCounted (objects p.store) p.rows p.parents p.tips p.ends (set.contains w.taken) old.frontier
     counted = before sound.agreeing
 

@@ -21,7 +21,7 @@ use Rattle.gix_traverse.specs.Topo.Inside.Releasing.{plan_of, counted_by, lowere
 use Rattle.gix_traverse.specs.Topo.Inside.Searched.{IsCounted, IsExplored, IsTally, next_by}
 use Rattle.gix_traverse.specs.Orders.TopoOrder.{Keeps, last_places}
 use Rattle.gix_traverse.specs.Topo.Inside.Steady.{IsSteady, IsHeld, unasked, unasked_of}
-use Rattle.gix_traverse.specs.Topo.Walk.{Ready, ready_ids, walked_of, Chooses, IsMember, IsStored, IsCounting, IsSound, IsTaken, Adds, IsFound}
+use Rattle.gix_traverse.specs.Topo.Walk.{Ready, ready_ids, walked_of, Chooses, IsMember, IsStored, IsCounting, IsWalkable, IsTaken, Adds, IsFound}
 use Rattle.gix_traverse.specs.Orders.WalkSet.{IsChild, IsReady}
 use Rattle.gix_traverse.specs.History.Reach.{Reaches, step}
 use Rattle.gix_traverse.proofs.Topo.Taking.BecomeReady.{none_left, outside, unseen, all_taken}
@@ -103,7 +103,7 @@ module _ {F : Type 0} (objects : F → Objects) (faulty : F → ObjectId → Typ
     made_before : (p : ObjectId) → made_of t.explored.frontier p ≡ (set.contains w.taken p || is_among p (ready_ids (ready_in w.ready)))
     made_before p = explores_made objects faulty t.explores p ∙ held.made p
 
-    module _ (sound : IsSound objects faulty (plan_of w)) where
+    module _ (sound : IsWalkable objects faulty (plan_of w)) where
       steady : IsSteady objects w
       steady = held.steady sound
 
@@ -169,7 +169,7 @@ module _ {F : Type 0} (objects : F → Objects) (faulty : F → ObjectId → Typ
       stored a m = found_stored objects faulty (plan_of w) sound (found_added a m) (sound.tips_whole a.id (reached_named a.id (added_named a.id (in_ids added a m))))
 
     -- what is added to a walk that may go on
-    pub adds_on : (IsSound objects faulty (plan_of w) → IsCounting objects (plan_of w) (counted_by new.counting)) → Adds objects faulty (unasked objects faulty) (unasked_of objects faulty w) r (counted_by new.counting) added
+    pub adds_on : (IsWalkable objects faulty (plan_of w) → IsCounting objects (plan_of w) (counted_by new.counting)) → Adds objects faulty (unasked objects faulty) (unasked_of objects faulty w) r (counted_by new.counting) added
     adds_on counting = record {
       distinct = times_once (ready_ids added) (λ i. let a : times i (ready_ids added) ≤ times i (last_places named) = keeps_times (IsDue objects faulty between new) due i in let b : times i (last_places named) ≤ 1 = last_once named i in omega arith);
       unmade = λ i m. sym (made_before i) ∙ (keeps_from (IsDue objects faulty between new) due i m).1.unmade;

@@ -18,7 +18,7 @@ use Rattle.gix_traverse.specs.Topo.Inside.ReadySet.{ready_in, sorting_of}
 use Rattle.gix_traverse.specs.Topo.Inside.Releasing.{plan_of, counted_by, lowered, with_taken, TakesOne}
 use Rattle.gix_traverse.specs.Orders.TopoOrder.{last_places}
 use Rattle.gix_traverse.specs.Topo.Inside.Steady.{IsDone, IsTallied, HasCounted, IsHeld}
-use Rattle.gix_traverse.specs.Topo.Walk.{TopoPlan, Ready, walked_of, Chooses, IsInDepth, IsBrokenRow, IsNumberOf, IsCounting, IsSound}
+use Rattle.gix_traverse.specs.Topo.Walk.{TopoPlan, Ready, walked_of, Chooses, IsInDepth, IsBrokenRow, IsNumberOf, IsCounting, IsWalkable}
 use Rattle.gix_traverse.proofs.Topo.Taking.BecomeReady.{text_tips}
 use Rattle.gix_traverse.proofs.Topo.Counting.ExploreKeeps.{explores_same}
 use Rattle.gix_traverse.proofs.Topo.Counting.Expanded.{number_same, broken, counts_on}
@@ -45,7 +45,7 @@ module _ {F : Type 0} (objects : F → Objects) (faulty : F → ObjectId → Typ
     dropped = λ e. broken_lower objects plan new.depth old.depth l (h.dropped (sym (ap (λ x. x.standing) s) ∙ e));
   }
 
-  module _ (w : Walk F) (rest : ReadySet) (same : sorting_of rest ≡ sorting_of w.ready) (r : Ready) (chosen : Chooses (sorting_of w.ready) (ready_in w.ready) r (ready_in rest)) (added : List Ready) (new : Walk F) (t : TakesOne objects faulty (record w { ready = rest }) r added new) (held : IsHeld objects faulty w) (sound : IsSound objects faulty (plan_of w)) where
+  module _ (w : Walk F) (rest : ReadySet) (same : sorting_of rest ≡ sorting_of w.ready) (r : Ready) (chosen : Chooses (sorting_of w.ready) (ready_in w.ready) r (ready_in rest)) (added : List Ready) (new : Walk F) (t : TakesOne objects faulty (record w { ready = rest }) r added new) (held : IsHeld objects faulty w) (sound : IsWalkable objects faulty (plan_of w)) where
     abbrev low : Counting F
     low = lowered objects faulty (record w { ready = rest }) r
 

@@ -20,7 +20,7 @@ use Rattle.gix_traverse.specs.Topo.Inside.Releasing.{plan_of, counted_by, lowere
 use Rattle.gix_traverse.specs.Topo.Inside.Searched.{IsCounted, IsExplored, IsTally, next_by, starts_by, IsBegun}
 use Rattle.gix_traverse.specs.Orders.TopoOrder.{last_places}
 use Rattle.gix_traverse.specs.Topo.Inside.Steady.{IsTallied, IsSteady, HasCounted, IsHeld, unasked, unasked_of, TakesReady}
-use Rattle.gix_traverse.specs.Topo.Walk.{Ready, ready_ids, walked_of, IsMember, IsSound, IsTaken, IsCommitRead, HoldsReady, Chooses, Adds, IsReached, IsFound}
+use Rattle.gix_traverse.specs.Topo.Walk.{Ready, ready_ids, walked_of, IsMember, IsWalkable, IsTaken, IsCommitRead, HoldsReady, Chooses, Adds, IsReached, IsFound}
 use Rattle.gix_traverse.specs.Orders.WalkSet.{IsChild, IsReady}
 use Rattle.gix_traverse.proofs.Topo.Counting.ExploreKeeps.{explores_made, explores_same, explores_still, explores_done, explores_idle}
 use Rattle.gix_traverse.proofs.Shared.NewIds.{times, times_none}
@@ -147,7 +147,7 @@ module _ {F : Type 0} (objects : F → Objects) (faulty : F → ObjectId → Typ
         done = done_now;
       }
 
-    module _ (has : IsSound objects faulty (plan_of w) → HasCounted objects (plan_of w) new.counting) (adds : Adds objects faulty (unasked objects faulty) (unasked_of objects faulty w) r (counted_by new.counting) added) where
+    module _ (has : IsWalkable objects faulty (plan_of w) → HasCounted objects (plan_of w) new.counting) (adds : Adds objects faulty (unasked objects faulty) (unasked_of objects faulty w) r (counted_by new.counting) added) where
       fresh : (i : ObjectId) → is_among i (ready_ids added) ≡ true → (set.contains w.taken i ≡ false) × (is_among i (ready_ids (ready_in w.ready)) ≡ false)
       fresh i e = or_parts (set.contains w.taken i) (is_among i (ready_ids (ready_in w.ready))) (adds.unmade i (among_is i (ready_ids added) e))
 
@@ -196,7 +196,7 @@ module _ {F : Type 0} (objects : F → Objects) (faulty : F → ObjectId → Typ
               subst (λ p. IsFound objects faulty p new.counting.reader.standing q) (sym plan_is) (record { info = h.info; before = h.before; after = h.after; reads = h.reads; is = h.is; later = λ e. h.later (adds.stands e) })
 
       -- beside a sound history
-      module _ (sound : IsSound objects faulty (plan_of w)) where
+      module _ (sound : IsWalkable objects faulty (plan_of w)) where
         steady : IsSteady objects w
         steady = held.steady sound
 
@@ -225,8 +225,8 @@ module _ {F : Type 0} (objects : F → Objects) (faulty : F → ObjectId → Typ
         untaken = λ i m. untaken_now i (among_from i (ready_ids (ready_in new.ready)) m);
         found = found_now;
         tallied = λ a. tallied_now (subst (λ p. IsAgreeing (objects p.store) (faulty p.store) p.rows) plan_is a);
-        steady = λ s. steady_now (subst (IsSound objects faulty) plan_is s);
-        counts = λ s. subst (λ p. HasCounted objects p new.counting) (sym plan_is) (has (subst (IsSound objects faulty) plan_is s));
+        steady = λ s. steady_now (subst (IsWalkable objects faulty) plan_is s);
+        counts = λ s. subst (λ p. HasCounted objects p new.counting) (sym plan_is) (has (subst (IsWalkable objects faulty) plan_is s));
         idle = λ e. rel.queue ∙ explores_idle objects faulty t.explores (held.idle (sym (ap (λ p. p.rows) plan_is) ∙ e));
         read = λ e i h. subst (λ p. IsCommitRead (objects p.store) i) (sym plan_is) (held.read (sym (ap (λ p. p.rows) plan_is) ∙ e) i (subst (λ p. IsReached objects p i) plan_is h));
       }

@@ -32,7 +32,7 @@ use Rattle.gix_traverse.specs.History.Reading.{rows_of, IsReadFault}
 use Rattle.gix_traverse.specs.Topo.Inside.Releasing.{plan_by, plan_of, IsPushFault, itself, parent}
 use Rattle.gix_traverse.specs.Topo.Inside.Searched.{IsCounted, next_by, starts_by}
 use Rattle.gix_traverse.specs.Topo.Inside.Starting.{Starts, waits, frees, IsStartFault, here, later, short}
-use Rattle.gix_traverse.specs.Topo.Walk.{TopoPlan, walked_of, IsSound, IsFault, IsReached, IsLookedUp}
+use Rattle.gix_traverse.specs.Topo.Walk.{TopoPlan, walked_of, IsSound, IsWalkable, IsFault, IsReached, IsLookedUp}
 use Rattle.gix_traverse.proofs.Topo.Taking.BecomeReady.{text_tips, text_ends}
 use Rattle.gix_traverse.proofs.Shared.Committer.{fault_unread}
 use Rattle.gix_traverse.proofs.Topo.Counting.ExploreKeeps.{explores_keep, explores_same}
@@ -63,7 +63,11 @@ waits_seen Queued n e l = refl
 waits_seen Done n e l = refl
 
 module _ {F : Type 0} (objects : F → Objects) (faulty : F → ObjectId → Type 0) (plan : TopoPlan F) where
-  -- what is reached reads whole in a sound history
+  -- where all that may be looked up reads whole, all that is walked does
+  pub walkable : IsSound objects faulty plan → IsWalkable objects faulty plan
+  walkable s = record { agreeing = s.agreeing; tips_whole = s.tips_whole; ends_whole = s.ends_whole }
+
+  -- what is reached reads whole then
   pub reached_whole : IsSound objects faulty plan → (side : Side) (i : ObjectId) → Reaches (next_by (objects plan.store) plan.parents side) (starts_by plan.tips plan.ends side) i → ReadsWhole (objects plan.store) (faulty plan.store) i
   reached_whole s Tips i r = s.tips_whole i (text_tips (objects plan.store) (faulty plan.store) plan.rows plan.parents plan.tips plan.ends s.agreeing s.tips_whole s.ends_whole i r)
   reached_whole s Ends i r = s.ends_whole i (text_ends (objects plan.store) (faulty plan.store) plan.rows plan.parents plan.tips plan.ends s.agreeing s.tips_whole s.ends_whole i r)

@@ -18,7 +18,7 @@ use Rattle.gix_traverse.specs.Topo.Inside.Releasing.{plan_by, plan_of, counted_b
 use Rattle.gix_traverse.specs.Topo.Inside.Searched.{IsCounted, IsBegun, IsExplored}
 use Rattle.gix_traverse.specs.Topo.Inside.Steady.{HasCounted}
 use Rattle.gix_traverse.specs.Orders.TopoOrder.{by_time}
-use Rattle.gix_traverse.specs.Topo.Walk.{TopoPlan, Ready, HoldsReady, IsReached, first_depth, IsCommitRead, IsCounting, IsSound}
+use Rattle.gix_traverse.specs.Topo.Walk.{TopoPlan, Ready, HoldsReady, IsReached, first_depth, IsCommitRead, IsCounting, IsWalkable}
 
 -- by rising time, and at one time in the order given
 abbrev pub by_rising_time : List Ready → List Ready
@@ -36,11 +36,11 @@ module _ {F : Type 0} (objects : F → Objects) (faulty : F → ObjectId → Typ
     pub depth : c.depth ≡ first_depth plan
     pub unmade : (i : ObjectId) → (known_of c.frontier.known i).made ≡ false
     pub begun : (side : Side) → IsBegun plan.tips plan.ends side c.frontier
-    -- beside rows that agree, and beside a sound history
+    -- beside rows that agree, and where all that is walked reads whole
     pub counted : (taken : ObjectId → Bool) → ((i : ObjectId) → taken i ≡ false) → IsAgreeing (objects plan.store) (faulty plan.store) plan.rows → IsCounted (objects plan.store) plan.rows plan.parents plan.tips plan.ends taken c.frontier
     pub explored : IsAgreeing (objects plan.store) (faulty plan.store) plan.rows → (side : Side) → IsExplored (objects plan.store) plan.rows plan.parents plan.tips plan.ends c.depth side c.frontier
-    pub counts : IsSound objects faulty plan → HasCounted objects plan c
-    pub counting : IsSound objects faulty plan → IsCounting objects plan (counted_by c)
+    pub counts : IsWalkable objects faulty plan → HasCounted objects plan c
+    pub counting : IsWalkable objects faulty plan → IsCounting objects plan (counted_by c)
     -- without rows, all that is walked was read
     pub idle : plan.rows ≡ [] → c.frontier.queue ≡ []
     pub read : plan.rows ≡ [] → (i : ObjectId) → IsReached objects plan i → IsCommitRead (objects plan.store) i

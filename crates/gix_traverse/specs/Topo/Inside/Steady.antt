@@ -19,7 +19,7 @@ use Rattle.gix_traverse.specs.Topo.Inside.Releasing.{plan_of, counted_by, walk_o
 use Rattle.gix_traverse.specs.Topo.Inside.Searched.{IsCounted, IsBegun}
 use Rattle.gix_traverse.specs.Simple.Laws.{AreDistinct}
 use Rattle.gix_traverse.specs.Simple.Walk.{IsInfo}
-use Rattle.gix_traverse.specs.Topo.Walk.{TopoPlan, TopoWalk, Ready, ready_ids, walked_of, Chooses, IsReached, IsFound, IsMember, IsNumberOf, IsBrokenRow, IsCommitRead, IsSound, IsFault, IsLate, Takes}
+use Rattle.gix_traverse.specs.Topo.Walk.{TopoPlan, TopoWalk, Ready, ready_ids, walked_of, Chooses, IsReached, IsFound, IsMember, IsNumberOf, IsBrokenRow, IsCommitRead, IsWalkable, IsFault, IsLate, Takes}
 use Rattle.gix_traverse.specs.Orders.WalkSet.{IsChild}
 
 -- one of the searches has read the parents of the id
@@ -52,10 +52,10 @@ module _ {F : Type 0} (objects : F → Objects) (faulty : F → ObjectId → Typ
     pub distinct : AreDistinct (ready_ids (ready_in w.ready))
     pub untaken : (i : ObjectId) → Contains (ready_ids (ready_in w.ready)) i → set.contains w.taken i ≡ false
     pub found : (r : Ready) → Contains (ready_in w.ready) r → IsFound objects faulty (plan_of w) w.counting.reader.standing r
-    -- beside rows that agree, and beside a sound history
+    -- beside rows that agree, and where all that is walked reads whole
     pub tallied : IsAgreeing (objects (plan_of w).store) (faulty (plan_of w).store) (plan_of w).rows → IsTallied objects w
-    pub steady : IsSound objects faulty (plan_of w) → IsSteady objects w
-    pub counts : IsSound objects faulty (plan_of w) → HasCounted objects (plan_of w) w.counting
+    pub steady : IsWalkable objects faulty (plan_of w) → IsSteady objects w
+    pub counts : IsWalkable objects faulty (plan_of w) → HasCounted objects (plan_of w) w.counting
     -- without rows, all that is walked was read
     pub idle : (plan_of w).rows ≡ [] → w.counting.frontier.queue ≡ []
     pub read : (plan_of w).rows ≡ [] → (i : ObjectId) → IsReached objects (plan_of w) i → IsCommitRead (objects (plan_of w).store) i
