@@ -133,6 +133,10 @@ pub record IsCommitRead (objects : Objects) (i : ObjectId) : Type 0 where
   pub stored : map_of.get objects i ≡ Some (record { kind = object.Commit; bytes = bytes })
   pub faultless : (e : DecodeError) → Contains (commit_items (kind_of i) bytes) (Err e) → ⊥
 
+-- It has a row, as long as the rows stood, or is stored as a commit whose text can be read.
+abbrev pub IsKnown : Objects → List GraphRow → Bool → ObjectId → Type 0
+IsKnown objects rows standing i = ((standing ≡ true) × (row : GraphRow) × (row_of rows i ≡ Some row)) ⊎ IsCommitRead objects i
+
 -- the commit is stored, and its items end in this fault
 abbrev pub IsTextFault : Objects → ObjectId → DecodeError → Type 0
 IsTextFault objects i e =
@@ -176,7 +180,7 @@ module _ {F : Type 0} (objects : F → Objects) (plan : TopoPlan F) where
     pub reached : IsMet i
     pub high : depth ≤ known_generation plan.rows i
 
-  -- a row with a fault, of a commit that is counted: for it the rows may be dropped
+  -- a row with a fault, of a commit that is counted: for it the rows are dropped
   pub record IsBrokenRow (depth : ℕ) : Type 0 where
     pub id : ObjectId
     pub row : GraphRow
@@ -184,11 +188,12 @@ module _ {F : Type 0} (objects : F → Objects) (plan : TopoPlan F) where
     pub by_row : row_of plan.rows id ≡ Some row
     pub corrupt : IsCorrupt row
 
-  -- The number of commits whose parents were read is exact as long as the rows stand, and they are dropped only for a row with a
+  -- The number of commits whose parents were read is exact as long as the rows stand. They are dropped exactly for a row with a
   -- fault.
   pub record IsCounting (counted : Counted) : Type 0 where
     pub exact : counted.standing ≡ true → IsNumberOf (IsInDepth counted.depth) counted.expanded
     pub dropped : counted.standing ≡ false → IsBrokenRow counted.depth
+    pub whole : counted.standing ≡ true → IsBrokenRow counted.depth → ⊥
 
   -- a parent that isn't the first, where only first parents are walked
   pub record IsOtherParent (i : ObjectId) : Type 0 where
@@ -219,6 +224,8 @@ module _ {F : Type 0} (objects : F → Objects) (faulty : F → ObjectId → Typ
     pub reads : Reads (objects plan.store) (faulty plan.store) plan.rows before r.id (Ok info) after
     pub is : IsOfInfo r info
     pub later : standing ≡ true → after ≡ true
+    -- and each of its parents was known, walked or not
+    pub known : (p : ObjectId) → Contains r.parents p → IsKnown (objects plan.store) plan.rows after p
 
   -- the rows agree, and all that is walked reads whole: what tips reach, and what ends reach
   pub record IsWalkable : Type 0 where

@@ -28,7 +28,7 @@ use Rattle.gix_traverse.specs.Topo.Inside.Starting.{HasBegun, MeetsAll}
 use Rattle.gix_traverse.specs.Topo.Inside.Steady.{IsDone, HasCounted}
 use Rattle.gix_traverse.specs.Topo.Walk.{IsFault, IsCommitRead, IsCounting, IsWalkable, IsReached}
 use Rattle.gix_traverse.proofs.Topo.Counting.ExploreKeeps.{explores_keep, explores_made, explores_same, explores_still}
-use Rattle.gix_traverse.proofs.Topo.Counting.Expanded.{counts_on}
+use Rattle.gix_traverse.proofs.Topo.Counting.Expanded.{counts_on, explores_read}
 use Rattle.gix_traverse.proofs.Topo.Counting.AllDownToDepth.{exact_there}
 use Rattle.gix_traverse.proofs.Topo.Taking.ReadFaults.{exploring_fault}
 use Rattle.gix_traverse.proofs.Topo.Reading.Faultless.{faultless}
@@ -141,7 +141,7 @@ module _ {F : Type 0} (objects : F → Objects) (faulty : F → ObjectId → Typ
     }
 
     counts : IsWalkable objects faulty (plan_by low sorting tips ends) → HasCounted objects (plan_by low sorting tips ends) explored × IsCounting objects (plan_by low sorting tips ends) (counted_by explored)
-    counts sound = counts_on objects faulty sorting tips ends (λ i. false) low explored sound (counted_low (λ i. false) (λ i. refl)) start.begun counts_low explores rested
+    counts sound = counts_on objects faulty sorting tips ends (λ i. false) low explored sound (counted_low (λ i. false) (λ i. refl)) start.begun counts_low (λ i d. absurd (undone i d)) explores rested
 
     low_depth : Rows ≡ [] → low.depth ≤ infinity
     low_depth none = subst (λ d. d ≤ infinity) (sym start.depth) (least_below Rows infinity (tips ++ ends))
@@ -180,6 +180,7 @@ module _ {F : Type 0} (objects : F → Objects) (faulty : F → ObjectId → Typ
       explored = λ agrees side. subst (λ d. IsExplored (objects low.reader.find) Rows low.parents tips ends d side explored.frontier) (sym same.depth) (there agrees side);
       counts = λ sound. (counts sound).0;
       counting = λ sound. (counts sound).1;
+      all_read = explores_read objects faulty sorting tips ends (λ i. false) explores (λ i d. absurd (undone i d));
       idle = idle;
       read = read;
     }

@@ -62,7 +62,7 @@ module _ {F : Type 0} (objects : F → Objects) (faulty : F → ObjectId → Typ
     low_counts = counts_lower (plan_of w) w.counting low refl refl refl (least_below (plan_of w).rows w.counting.depth named) (held.counts sound)
 
     explored_counts : HasCounted objects (plan_of w) t.explored × IsCounting objects (plan_of w) (counted_by t.explored)
-    explored_counts = counts_on objects faulty (sorting_of w.ready) w.tips.items w.ends.items (set.contains w.taken) low t.explored sound tallied.counted tallied.begun low_counts t.explores t.rested
+    explored_counts = counts_on objects faulty (sorting_of w.ready) w.tips.items w.ends.items (set.contains w.taken) low t.explored sound tallied.counted tallied.begun low_counts held.all_read t.explores t.rested
 
     named_reached : (i : ObjectId) → Contains named i → Reaches (walked_of objects (plan_of w)) (plan_of w).tips i
     named_reached i m =
@@ -96,5 +96,6 @@ module _ {F : Type 0} (objects : F → Objects) (faulty : F → ObjectId → Typ
       record {
         exact = λ e. subst (λ d. IsNumberOf (IsInDepth objects (plan_of w) d) new.counting.expanded) (sym rel.depth) (subst (IsNumberOf (IsInDepth objects (plan_of w) t.explored.depth)) (sym rel.expanded) (explored_counts.1.exact (rel.stands e)));
         dropped = taken_counts.dropped;
+        whole = λ e b. explored_counts.1.whole (rel.stands e) (subst (IsBrokenRow objects (plan_of w)) rel.depth b);
       },
     )

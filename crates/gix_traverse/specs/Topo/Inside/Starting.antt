@@ -16,7 +16,7 @@ use Rattle.gix_traverse.specs.Topo.Inside.Frontier.{is_due, known_of, Meets}
 use Rattle.gix_traverse.specs.Topo.Inside.ReadySet.{ready_in}
 use Rattle.gix_traverse.specs.Topo.Inside.Releasing.{plan_by, plan_of, counted_by, Pushes, IsPushFault}
 use Rattle.gix_traverse.specs.Topo.Inside.Searched.{IsCounted, IsBegun, IsExplored}
-use Rattle.gix_traverse.specs.Topo.Inside.Steady.{HasCounted}
+use Rattle.gix_traverse.specs.Topo.Inside.Steady.{AreRead, HasCounted}
 use Rattle.gix_traverse.specs.Orders.TopoOrder.{by_time}
 use Rattle.gix_traverse.specs.Topo.Walk.{TopoPlan, Ready, HoldsReady, IsReached, first_depth, IsCommitRead, IsCounting, IsWalkable}
 
@@ -41,6 +41,7 @@ module _ {F : Type 0} (objects : F → Objects) (faulty : F → ObjectId → Typ
     pub explored : IsAgreeing (objects plan.store) (faulty plan.store) plan.rows → (side : Side) → IsExplored (objects plan.store) plan.rows plan.parents plan.tips plan.ends c.depth side c.frontier
     pub counts : IsWalkable objects faulty plan → HasCounted objects plan c
     pub counting : IsWalkable objects faulty plan → IsCounting objects plan (counted_by c)
+    pub all_read : AreRead objects faulty plan c
     -- without rows, all that is walked was read
     pub idle : plan.rows ≡ [] → c.frontier.queue ≡ []
     pub read : plan.rows ≡ [] → (i : ObjectId) → IsReached objects plan i → IsCommitRead (objects plan.store) i

@@ -7,12 +7,13 @@ use Rattle.gix_parts.specs.Object.{Objects}
 use Rattle.gix_traverse.specs.declared.commit.Info.{Info}
 use Rattle.gix_traverse.specs.declared.commit.topo.Error.{Error}
 use Rattle.gix_traverse.specs.declared.commit.topo.counting.Counting.{Counting}
-use Rattle.gix_traverse.specs.declared.commit.topo.frontier.Frontier.{Frontier}
 use Rattle.gix_traverse.specs.declared.commit.topo.frontier.Side.{Side}
-use Rattle.gix_traverse.specs.declared.commit.topo.frontier.Side.TheVariants.{Tips, Ends}
+use Rattle.gix_traverse.specs.declared.commit.topo.frontier.Side.TheVariants.{Tips}
 use Rattle.gix_traverse.specs.declared.commit.topo.walk.Walk.{Walk}
 use Rattle.gix_traverse.specs.History.Agreeing.{IsAgreeing}
 use Rattle.gix_traverse.specs.Topo.Depth.{known_generation}
+use Rattle.gix_traverse.specs.History.Reading.{Reads}
+pub use Rattle.gix_traverse.specs.Topo.Inside.Frontier.{IsDone}
 use Rattle.gix_traverse.specs.Topo.Inside.Frontier.{is_done, known_of, reached}
 use Rattle.gix_traverse.specs.Topo.Inside.ReadySet.{ready_in, sorting_of}
 use Rattle.gix_traverse.specs.Topo.Inside.Releasing.{plan_of, counted_by, walk_of}
@@ -22,9 +23,18 @@ use Rattle.gix_traverse.specs.Simple.Walk.{IsInfo}
 use Rattle.gix_traverse.specs.Topo.Walk.{TopoPlan, TopoWalk, Ready, ready_ids, walked_of, Chooses, IsReached, IsFound, IsMember, IsNumberOf, IsBrokenRow, IsCommitRead, IsWalkable, IsFault, IsLate, Takes}
 use Rattle.gix_traverse.specs.Orders.WalkSet.{IsChild}
 
--- one of the searches has read the parents of the id
-abbrev pub IsDone : Frontier → ObjectId → Type 0
-IsDone f i = (is_done (reached f.known Tips i) ≡ true) ⊎ (is_done (reached f.known Ends i) ≡ true)
+module _ {F : Type 0} (objects : F → Objects) (faulty : F → ObjectId → Type 0) (plan : TopoPlan F) where
+  -- the commit was read, by its row or from the store; rows that stand now stood after that
+  pub record IsReadOnce (standing : Bool) (i : ObjectId) : Type 0 where
+    pub info : Info
+    pub before : Bool
+    pub after : Bool
+    pub reads : Reads (objects plan.store) (faulty plan.store) plan.rows before i (Ok info) after
+    pub later : standing ≡ true → after ≡ true
+
+  -- all that is done was read, whatever the store and the rows
+  abbrev pub AreRead : Counting F → Type 0
+  AreRead c = (i : ObjectId) → IsDone c.frontier i → IsReadOnce c.reader.standing i
 
 module _ {F : Type 0} (objects : F → Objects) where
   -- both searches and the counts are as they are to be; ready commits are done
@@ -56,6 +66,7 @@ module _ {F : Type 0} (objects : F → Objects) (faulty : F → ObjectId → Typ
     pub tallied : IsAgreeing (objects (plan_of w).store) (faulty (plan_of w).store) (plan_of w).rows → IsTallied objects w
     pub steady : IsWalkable objects faulty (plan_of w) → IsSteady objects w
     pub counts : IsWalkable objects faulty (plan_of w) → HasCounted objects (plan_of w) w.counting
+    pub all_read : AreRead objects faulty (plan_of w) w.counting
     -- without rows, all that is walked was read
     pub idle : (plan_of w).rows ≡ [] → w.counting.frontier.queue ≡ []
     pub read : (plan_of w).rows ≡ [] → (i : ObjectId) → IsReached objects (plan_of w) i → IsCommitRead (objects (plan_of w).store) i

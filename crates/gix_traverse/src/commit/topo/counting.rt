@@ -81,6 +81,7 @@ fn one_more(expanded: usize, known: &Known) -> Result<usize, AllocError>
 impl<F: Find + Drop> Counting<F> {
     ghost use Rattle.std.specs.Prelude.{IfErr};
     ghost use Rattle.gix_traverse.specs.declared.commit.topo.Sorting.{Sorting};
+    ghost use Rattle.gix_traverse.specs.Topo.Inside.Releasing.{Knows};
     ghost use Rattle.gix_traverse.specs.Topo.Inside.Starting.{HasBegun, MeetsAll};
     ghost use Rattle.gix_traverse.specs.Topo.Walk.{IsFault};
 
@@ -179,6 +180,7 @@ impl<F: Find + Drop> Counting<F> {
         ensures frontier { self.new.frontier ≡ self.old.frontier }
         ensures depth { self.new.depth ≡ self.old.depth }
         ensures expanded { self.new.expanded ≡ self.old.expanded }
+        ensures known { OnOk result (Knows (F.objects self.old.reader.find) (rows_of self.old.reader.graph) self.old.reader.standing self.old.frontier id.now) }
         ensures fault { IfErr result (IsReadFault (F.objects self.old.reader.find) (F.faulty self.old.reader.find) id.now) }
     {
         if self.reader.standing && self.frontier.known(id).is_done() {

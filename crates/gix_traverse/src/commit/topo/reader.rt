@@ -1,6 +1,7 @@
 //! Reads commits by their rows, or else from the store.
-ghost use Rattle.std.specs.Prelude.{◌≡◌, IfOk, IfErr, true};
+ghost use Rattle.std.specs.Prelude.{◌≡◌, IfOk, IfErr, OnOk, true};
 ghost use Rattle.gix_traverse.specs.Topo.Depth.{known_generation};
+ghost use Rattle.gix_traverse.specs.Topo.Walk.{IsKnown};
 ghost use Rattle.gix_traverse.specs.History.Reading.{rows_of, Reads, ReadsRow, ReadsText, IsReadFault};
 
 use super::Error;
@@ -139,14 +140,15 @@ impl<F: Find + Drop> Reader<F> {
         ensures store { self.new.find ≡ self.old.find }
         ensures graph { self.new.graph ≡ self.old.graph }
         ensures standing { self.new.standing ≡ self.old.standing }
+        ensures known { OnOk result (IsKnown (F.objects self.old.find) (rows_of self.old.graph) self.old.standing id.now) }
         ensures fault { IfErr result (IsReadFault (F.objects self.old.find) (F.faulty self.old.find) id.now) }
     {
         if self.standing && self.generation(id) < GENERATION_NUMBER_INFINITY {
             return Ok(());
         }
-        match self.read_text(id) {
-            Ok(_) => Ok(()),
-            Err(fault) => Err(fault),
+        if let Err(fault) = self.read_text(id) {
+            return Err(fault);
         }
+        Ok(())
     }
 }
