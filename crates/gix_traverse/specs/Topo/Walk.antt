@@ -5,6 +5,7 @@ use Rattle.std.specs.FinMap as map_of
 use Rattle.std.specs.Iterator.{Drains}
 use Rattle.std.specs.FinSet as set
 use Rattle.gix_parts.specs.declared.hash.ObjectId.{ObjectId}
+use Rattle.gix_parts.specs.declared.object.Kind.{Kind}
 use Rattle.gix_parts.specs.declared.object.Kind.TheVariants as object
 use Rattle.gix_parts.specs.declared.object.decode.Error.{Error as DecodeError}
 use Rattle.gix_parts.specs.declared.object.find.existing_iter.Error.TheVariants as existing
@@ -95,15 +96,21 @@ abbrev pub Chooses : Sorting → List Ready → Ready → List Ready → Type 0
 Chooses order.TopoOrder ready c others = ready ≡ others ++ c ∷ []
 Chooses order.DateOrder ready c others = IsPermutation ready (c ∷ others) × ((other : Ready) → Contains others other → other.time ≤ℤ c.time)
 
--- the parents that a text names, also where it breaks off behind them
+abbrev pub text_parents_of_kind : ObjectId → Kind → List ℕ → List ObjectId
+text_parents_of_kind i object.Commit bytes = (scanned mode.All (commit_items (kind_of i) bytes)).0
+text_parents_of_kind i object.Tree bytes = []
+text_parents_of_kind i object.Blob bytes = []
+text_parents_of_kind i object.Tag bytes = []
+
+-- the parents that a commit's text names, also where it breaks off behind them; an object of another kind names none
 abbrev pub text_parents : ObjectId → Object → List ObjectId
-text_parents i object = (scanned mode.All (commit_items (kind_of i) object.bytes)).0
+text_parents i object = text_parents_of_kind i object.kind object.bytes
 
 abbrev pub next_in : ObjectId → Option Object → List ObjectId
 next_in i None = []
 next_in i (Some object) = text_parents i object
 
--- the parents that a stored text names, also where it breaks off behind them
+-- the parents that a stored commit's text names, also where it breaks off behind them
 abbrev pub text_next : Objects → ObjectId → List ObjectId
 text_next objects i = next_in i (map_of.get objects i)
 
@@ -123,7 +130,7 @@ pub record IsNumberOf (Q : ObjectId → Type 0) (n : ℕ) : Type 0 where
 abbrev pub first_depth : {F : Type 0} → TopoPlan F → ℕ
 first_depth plan = least plan.rows infinity (plan.tips ++ plan.ends)
 
--- the ids that rows and stored texts name
+-- the ids that rows and the texts of stored commits name
 abbrev pub named_ids : Objects → List GraphRow → List ObjectId
 named_ids objects rows = map (λ row. row.id) rows ++ flat_map (λ entry. text_parents entry.0 entry.1) (map_of.entries objects)
 
@@ -147,7 +154,7 @@ module _ {F : Type 0} (objects : F → Objects) (plan : TopoPlan F) where
   abbrev pub walked_of : ObjectId → List ObjectId
   walked_of = walked_parents (objects plan.store) plan.parents
 
-  -- the same by texts, also where they break off behind the parents
+  -- the same by the texts of commits, also where they break off behind the parents
   abbrev pub text_walked : ObjectId → List ObjectId
   text_walked i = by_mode plan.parents (text_next (objects plan.store) i)
 
@@ -200,9 +207,7 @@ module _ {F : Type 0} (objects : F → Objects) (plan : TopoPlan F) where
     pub unwalked : plan.parents ≡ mode.First
     pub child : ObjectId
     pub reached : Reaches text_walked plan.tips child
-    pub text : Object
-    pub stored : map_of.get (objects plan.store) child ≡ Some text
-    pub named : Contains (drop 1 (text_parents child text)) i
+    pub named : Contains (drop 1 (text_next (objects plan.store) child)) i
 
   -- `build` has read all that is walked: without rows, a fault found later is that of another parent, or the store fails
   abbrev pub IsLate : Error → Type 0

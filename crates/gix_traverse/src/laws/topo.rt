@@ -10,7 +10,7 @@ ghost use Rattle.gix_traverse.specs.declared.commit.topo.Error.{Error};
 ghost use Rattle.gix_traverse.specs.History.Reach.{IsAcyclic};
 ghost use Rattle.gix_traverse.specs.Simple.Laws.{AreDistinct};
 ghost use Rattle.gix_traverse.specs.Topo.Walk.{TopoPlan, TopoWalk, walked_of, row_generation, IsMember, IsStarted, IsWalkable, IsFault, IsLate, IsCounting, Next, May};
-ghost use Rattle.gix_traverse.specs.Topo.Laws.{IsTakenInOrder, IsWholeRun, IsGiven, GivesInOrder, AsksAll, Drawn, answers_left};
+ghost use Rattle.gix_traverse.specs.Topo.Laws.{IsTakenInOrder, IsWholeRun, IsGiven, GivesInOrder, AsksAll, Drawn, answers_left, given_ids};
 
 use crate::commit::Predicate;
 use gix_parts::object::find::Find;
@@ -37,7 +37,7 @@ pub fn rows_agree<F: Find, P: Predicate>()
 {}
 
 /// Every topological walk ends: it gives at most an answer for each ready commit, and for each id not taken or ready that rows
-/// or stored texts name.
+/// or the texts of stored commits name.
 pub fn ends<F: Find, P: Predicate>()
     ensures { (walk : TopoWalk F P) (list : List (Result Info Error)) → May F.objects F.faulty P.answers walk list → length list ≤ answers_left F.objects walk }
 {}
@@ -45,6 +45,11 @@ pub fn ends<F: Find, P: Predicate>()
 /// The predicate's state is a run of its own steps over different commits.
 pub fn asks_once<F: Find, P: Predicate>()
     ensures { (walk new : TopoWalk F P) (list : List (Result Info Error)) → IsStarted F.objects F.faulty P.answers walk → Drawn F.objects F.faulty P.answers walk list new → (ids : List ObjectId) × AsksAll P.answers walk.predicate ids new.predicate × AreDistinct ids }
+{}
+
+/// It gives no commit twice, whatever faults come, and wherever the caller stops.
+pub fn never_twice<F: Find, P: Predicate>()
+    ensures { (walk new : TopoWalk F P) (list : List (Result Info Error)) → IsStarted F.objects F.faulty P.answers walk → Drawn F.objects F.faulty P.answers walk list new → AreDistinct (given_ids list) }
 {}
 
 /// A fault comes for its reason alone, and nothing follows it.

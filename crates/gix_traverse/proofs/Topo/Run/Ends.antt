@@ -1,5 +1,5 @@
 -- Every topological walk ends, asks about each commit once, and is silent after a fault. None of it needs a sound history.
-use Rattle.std.specs.Prelude.{◌≡◌, ◌+◌, ◌≤◌, ℕ, suc, List, [], ◌∷◌, ◌++◌, length, Bool, true, false, ◌||◌, cond, Option, Some, None, Result, Err, Contains}
+use Rattle.std.specs.Prelude.{◌≡◌, ◌+◌, ◌≤◌, ℕ, suc, List, [], ◌∷◌, ◌++◌, length, Bool, true, false, ◌||◌, cond, Option, Some, None, Result, Ok, Err, Contains}
 use Rattle.std.proofs.Common.{refl, sym, ap, subst, ⊎_elim, ◌∙◌, arith, length-append}
 use Rattle.std.proofs.lemmas.List.Sorted.{length_permutation}
 use Rattle.std.proofs.lemmas.Bool.{true≢false, or_cases, or_right, or_left, or_from, false_from_ne_true}
@@ -13,7 +13,7 @@ use Rattle.gix_traverse.specs.declared.commit.topo.Sorting.TheVariants as order
 use Rattle.gix_traverse.specs.declared.commit.topo.Error.{Error}
 use Rattle.gix_traverse.specs.Simple.Laws.{AreDistinct}
 use Rattle.gix_traverse.specs.Topo.Walk.{TopoWalk, Ready, Counted, ready_ids, is_made, named_ids, HoldsReady, Chooses, IsFault, IsLate, IsStarted, Takes, after, Next, ended, given, refused, failed, May}
-use Rattle.gix_traverse.specs.Topo.Laws.{left_beside, answers_left, AreApart, AsksAll, none, more, Drawn}
+use Rattle.gix_traverse.specs.Topo.Laws.{left_beside, answers_left, AreApart, AsksAll, none, more, Drawn, given_ids}
 use Rattle.gix_parts.proofs.Ids.Membership.{id_total, same_is, same_itself, among_from, among_is, Contains-here, Contains-there, Contains-cons_cases, no_member}
 use Rattle.gix_traverse.proofs.Shared.NewIds.{fresh, fresh_agree, times, times_none}
 use Rattle.gix_traverse.proofs.Simple.Ends.{new_less}
@@ -242,3 +242,47 @@ module _ {F P : Type 0} (objects : F → Objects) (faulty : F → ObjectId → T
   asks_once list w new h d =
       let r : Asks w new.predicate = asks_all list w new (record { distinct = h.distinct; untaken = λ i m. ap (λ s. set.contains s i) h.untaken ∙ set.contains-empty id_cmp i }) d in
       (r.ids, r.run, r.distinct)
+
+  -- what is given from here on
+  record Gives (w : TopoWalk F P) (list : List (Result Info Error)) : Type 0 where
+    distinct : AreDistinct (given_ids list)
+    untaken : (i : ObjectId) → Contains (given_ids list) i → set.contains w.taken i ≡ false
+    silent : w.ready ≡ [] → given_ids list ≡ []
+
+  not_before : (w : TopoWalk F P) (c : Ready) (i : ObjectId) → set.contains (set.insert w.taken c.id) i ≡ false → set.contains w.taken i ≡ false
+  not_before w c i u = false_from_ne_true _ (λ e. true≢false (sym (set.contains-insert id_total w.taken c.id i ∙ or_right (is_same i c.id) _ e) ∙ u))
+
+  gives_next : {w new : TopoWalk F P} {o : Option (Result Info Error)} → Next objects faulty answers w o new → (answer : Result Info Error) (list : List (Result Info Error)) → o ≡ Some answer → AreApart w → (AreApart new → Gives new list) → Gives w (answer ∷ list)
+  gives_next (ended e) answer list s h rest = cc
+  gives_next (given {old = w} {c = c} {counted = counted} {ready = ready} {predicate = q} {info = info} t a is) answer list s h rest =
+      let same : Ok info ≡ answer = cc in
+      subst (λ x. Gives w (x ∷ list)) same (record {
+        distinct = ((λ m. true≢false (sym (set.contains-insert id_total w.taken c.id info.id ∙ or_left _ _ (ap (λ x. is_same x c.id) is.same_id ∙ same_itself c.id)) ∙ r.untaken info.id m)), r.distinct);
+        untaken = λ i m. ⊎_elim (λ e. subst (λ y. set.contains w.taken y ≡ false) (sym is.same_id ∙ e) (h.untaken c.id (in_ids w.ready c here))) (λ n. not_before w c i (r.untaken i n)) (Contains-cons_cases i info.id (given_ids list) m);
+        silent = λ e. absurd (no_member c (subst (λ rs. Contains rs c) e here));
+      })
+    where
+      here : Contains w.ready c
+      here = chosen_in w.plan.sorting w.ready c t.others t.chosen
+
+      r : Gives (after objects faulty answers w c counted ready q) list
+      r = rest (apart_on w c counted ready q t h)
+  gives_next (refused {old = w} {c = c} {counted = counted} {ready = ready} {predicate = q} t a next) answer list s h rest =
+      let r : Gives (after objects faulty answers w c counted ready q) (answer ∷ list) = gives_next next answer list s (apart_on w c counted ready q t h) rest in
+      record {
+        distinct = r.distinct;
+        untaken = λ i m. not_before w c i (r.untaken i m);
+        silent = λ e. absurd (no_member c (subst (λ rs. Contains rs c) e (chosen_in w.plan.sorting w.ready c t.others t.chosen)));
+      }
+  gives_next (failed {old = w} c others {counted = counted} {taken = taken} {e = x} ch f l) answer list s h rest =
+      let r : Gives (record w { counted = counted; ready = []; taken = taken }) list = rest (record { distinct = tt; untaken = λ i m. absurd (no_member i m) }) in
+      let none : given_ids list ≡ [] = r.silent refl in
+      let same : Err x ≡ answer = cc in
+      subst (λ y. Gives w (y ∷ list)) same (record { distinct = r.distinct; untaken = λ i m. absurd (no_member i (subst (λ xs. Contains xs i) none m)); silent = λ n. none })
+
+  gives_all : (list : List (Result Info Error)) (w new : TopoWalk F P) → AreApart w → Drawn objects faulty answers w list new → Gives w list
+  gives_all [] w new h d = record { distinct = tt; untaken = λ i m. absurd (no_member i m); silent = λ e. refl }
+  gives_all (answer ∷ list) w new h d = gives_next d.1 answer list refl h (λ k. gives_all list d.0 new k d.2)
+
+  pub never_twice : (list : List (Result Info Error)) (w new : TopoWalk F P) → IsStarted objects faulty answers w → Drawn objects faulty answers w list new → AreDistinct (given_ids list)
+  never_twice list w new h d = (gives_all list w new (record { distinct = h.distinct; untaken = λ i m. ap (λ s. set.contains s i) h.untaken ∙ set.contains-empty id_cmp i }) d).distinct

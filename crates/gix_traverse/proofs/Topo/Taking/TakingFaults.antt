@@ -1,7 +1,6 @@
 -- When a topological walk can't take a ready commit.
-use Rattle.std.specs.Prelude.{◌≡◌, ◌⊎◌, ◌≤◌, ℕ, ◌+◌, List, [], ◌∷◌, ◌++◌, drop, Bool, true, false, cond, Option, Some, None, Err, Contains}
+use Rattle.std.specs.Prelude.{◌≡◌, ◌⊎◌, ◌≤◌, ℕ, ◌+◌, List, [], ◌∷◌, ◌++◌, drop, Bool, true, false, cond, Some, None, Err, Contains}
 use Rattle.std.proofs.Common.{refl, sym, ap, subst, inl, inr, ⊎_elim, ◌∙◌, arith}
-use Rattle.std.specs.FinMap as map_of
 use Rattle.std.specs.FinSet as set
 use Rattle.gix_parts.specs.declared.hash.ObjectId.{ObjectId}
 use Rattle.gix_parts.specs.declared.object.Kind.TheVariants as object
@@ -26,10 +25,10 @@ use Rattle.gix_traverse.specs.History.Reach.{Reaches, step}
 use Rattle.gix_traverse.specs.History.Reading.{IsReadFault}
 use Rattle.gix_traverse.specs.Topo.Inside.ReadySet.{ready_in, sorting_of}
 use Rattle.gix_traverse.specs.Topo.Inside.Releasing.{plan_of, IsPushFault, itself as pushed, parent, with_frontier, IsReleaseFault, uncounted, unread, no_memory, none, more, IsFaultAmong, here, later, lowered, IsTakingFault, exploring, releasing, short}
-use Rattle.gix_traverse.specs.Topo.Inside.Searched.{text_next, next_in, next_by, times}
+use Rattle.gix_traverse.specs.Topo.Inside.Searched.{text_next, next_by, times}
 use Rattle.gix_traverse.specs.Orders.TopoOrder.{last_places}
 use Rattle.gix_traverse.specs.Topo.Inside.Steady.{IsTallied, IsHeld}
-use Rattle.gix_traverse.specs.Topo.Walk.{TopoPlan, Ready, Chooses, text_parents, IsCommitRead, IsOtherParent, IsLate, IsFault, IsReached}
+use Rattle.gix_traverse.specs.Topo.Walk.{TopoPlan, Ready, Chooses, IsCommitRead, IsOtherParent, IsLate, IsFault, IsReached}
 use Rattle.gix_traverse.proofs.Topo.Counting.ExploreKeeps.{explores_same, explores_done, explores_idle}
 use Rattle.gix_traverse.proofs.Topo.Taking.ReadFaults.{fault_item, exploring_fault, push_fault}
 use Rattle.gix_traverse.proofs.Topo.Ready.IsReady.{last_from}
@@ -39,18 +38,8 @@ use Rattle.gix_traverse.proofs.Topo.Reading.ReadsCommit.{reads_text_next}
 use Rattle.gix_traverse.proofs.Shared.Rows.{none_agree}
 use Rattle.gix_traverse.proofs.Topo.Taking.Setting.{was_ready, plan_taken, was_untaken, named_text, parents_reached, counted_on}
 
--- a text that names parents is stored
-record IsNaming (objects : Objects) (i : ObjectId) (ids : List ObjectId) : Type 0 where
-  text : Object
-  stored : map_of.get objects i ≡ Some text
-  names : text_parents i text ≡ ids
-
 same_object : (a b : Object) → Some a ≡ Some b → a ≡ b
 same_object a b e = cc
-
-naming : (objects : Objects) (i x : ObjectId) (xs : List ObjectId) (o : Option Object) → map_of.get objects i ≡ o → next_in i o ≡ x ∷ xs → IsNaming objects i (x ∷ xs)
-naming objects i x xs None e s = cc
-naming objects i x xs (Some text) e s = record { text = text; stored = e; names = s }
 
 module _ {F : Type 0} (objects : F → Objects) (faulty : F → ObjectId → Type 0) where
   -- a commit that tips reach, where without rows all that is reached was read
@@ -88,7 +77,7 @@ module _ {F : Type 0} (objects : F → Objects) (faulty : F → ObjectId → Typ
       first e [] s m = absurd (no_member p m)
       first e (x ∷ xs) s m =
           ⊎_elim (λ q. walked (subst (λ k. Contains (by_mode k (text_next (objects plan.store) i)) p) (sym e) (subst (λ ids. Contains (by_mode mode.First ids) p) (sym s) (subst (λ y. Contains (x ∷ []) y) q (Contains-here x [])))))
-          (λ t. let k : IsNaming (objects plan.store) i (x ∷ xs) = naming (objects plan.store) i x xs _ refl s in inr (record { unwalked = e; child = i; reached = up.reach (none_agree (objects plan.store) (faulty plan.store) plan.rows n); text = k.text; stored = k.stored; named = subst (λ ids. Contains (drop 1 ids) p) (sym k.names) t }))
+          (λ t. inr (record { unwalked = e; child = i; reached = up.reach (none_agree (objects plan.store) (faulty plan.store) plan.rows n); named = subst (λ ids. Contains (drop 1 ids) p) (sym s) t }))
           (Contains-cons_cases p x xs m)
 
       by : (k : Parents) → plan.parents ≡ k → IsCommitRead (objects plan.store) p ⊎ IsOtherParent objects plan p
