@@ -162,9 +162,28 @@ module _ {F : Type 0} (objects : F → Objects) (plan : TopoPlan F) where
   abbrev pub IsReached : ObjectId → Type 0
   IsReached i = Reaches text_walked plan.tips i ⊎ Reaches (text_next (objects plan.store)) plan.ends i
 
-  -- or it is a parent, walked or not, of one that tips reach so
-  abbrev pub IsLookedUp : ObjectId → Type 0
-  IsLookedUp i = IsReached i ⊎ ((c : ObjectId) × Reaches text_walked plan.tips c × Contains (text_next (objects plan.store) c) i)
+  -- what the walk gives, as far as texts tell
+  abbrev pub IsTextMember : ObjectId → Type 0
+  IsTextMember = IsInWalk text_walked (text_next (objects plan.store)) plan.tips plan.ends
+
+  -- a tip that becomes ready when the walk is built, as far as texts tell
+  pub record IsFirstReady (i : ObjectId) : Type 0 where
+    pub tip : Contains plan.tips i
+    pub childless : IsChildless text_walked IsTextMember i
+
+  -- a parent of this commit that becomes ready when it is taken after those, as far as texts tell
+  pub record IsNextReady (taken : set.FinSet id_cmp) (c i : ObjectId) : Type 0 where
+    pub named : Contains (text_walked c) i
+    pub ready : IsReady text_walked IsTextMember (IsTaken (set.insert taken c)) i
+
+  -- a commit of the walk that isn't among these, as far as texts tell
+  pub record IsLeft (taken : set.FinSet id_cmp) (i : ObjectId) : Type 0 where
+    pub member : IsTextMember i
+    pub untaken : IsTaken taken i → ⊥
+
+  -- it is reached so, or it is a parent, walked or not, of a commit that becomes ready
+  abbrev pub IsLookedUp : (ObjectId → Type 0) → ObjectId → Type 0
+  IsLookedUp BecomesReady i = IsReached i ⊎ ((c : ObjectId) × BecomesReady c × Contains (text_next (objects plan.store) c) i)
 
   -- what the walk gives
   abbrev pub IsMember : ObjectId → Type 0
@@ -202,23 +221,23 @@ module _ {F : Type 0} (objects : F → Objects) (plan : TopoPlan F) where
     pub dropped : counted.standing ≡ false → IsBrokenRow counted.depth
     pub whole : counted.standing ≡ true → IsBrokenRow counted.depth → ⊥
 
-  -- a parent that isn't the first, where only first parents are walked
-  pub record IsOtherParent (i : ObjectId) : Type 0 where
+  -- a parent that isn't the first, of a commit that becomes ready, where only first parents are walked
+  pub record IsOtherParent (BecomesReady : ObjectId → Type 0) (i : ObjectId) : Type 0 where
     pub unwalked : plan.parents ≡ mode.First
     pub child : ObjectId
-    pub reached : Reaches text_walked plan.tips child
+    pub ready : BecomesReady child
     pub named : Contains (drop 1 (text_next (objects plan.store) child)) i
 
   -- `build` has read all that is walked: without rows, a fault found later is that of another parent, or the store fails
-  abbrev pub IsLate : Error → Type 0
-  IsLate error.MissingIndegreeUnexpected = Unit {0}
-  IsLate error.MissingStateUnexpected = ⊥
-  IsLate (error.Find existing.Store) = Unit {0}
-  IsLate (error.Find (existing.NotFound oid)) = plan.rows ≡ [] → IsOtherParent oid
-  IsLate (error.Find (existing.ObjectKind oid expected actual)) = plan.rows ≡ [] → IsOtherParent oid
-  IsLate (error.Find existing.Memory) = ⊥
-  IsLate (error.ObjectDecode e) = plan.rows ≡ [] → (i : ObjectId) × IsOtherParent i × IsTextFault (objects plan.store) i e
-  IsLate error.Memory = Unit {0}
+  abbrev pub IsLate : (ObjectId → Type 0) → Error → Type 0
+  IsLate BecomesReady error.MissingIndegreeUnexpected = Unit {0}
+  IsLate BecomesReady error.MissingStateUnexpected = ⊥
+  IsLate BecomesReady (error.Find existing.Store) = Unit {0}
+  IsLate BecomesReady (error.Find (existing.NotFound oid)) = plan.rows ≡ [] → IsOtherParent BecomesReady oid
+  IsLate BecomesReady (error.Find (existing.ObjectKind oid expected actual)) = plan.rows ≡ [] → IsOtherParent BecomesReady oid
+  IsLate BecomesReady (error.Find existing.Memory) = ⊥
+  IsLate BecomesReady (error.ObjectDecode e) = plan.rows ≡ [] → (i : ObjectId) × IsOtherParent BecomesReady i × IsTextFault (objects plan.store) i e
+  IsLate BecomesReady error.Memory = Unit {0}
 
 module _ {F : Type 0} (objects : F → Objects) (faulty : F → ObjectId → Type 0) (plan : TopoPlan F) where
   -- how a ready commit was read: by its row, as long as the rows stand
@@ -246,16 +265,20 @@ module _ {F : Type 0} (objects : F → Objects) (faulty : F → ObjectId → Typ
     pub ends_whole : (i : ObjectId) → Reaches (parents_of (objects plan.store)) plan.ends i → ReadsWhole (objects plan.store) (faulty plan.store) i
 
   -- beside rows that agree it is looked up, and the history isn't sound
-  abbrev pub IsMetFault : ObjectId → Type 0
-  IsMetFault i = (IsAgreeing (objects plan.store) (faulty plan.store) plan.rows → IsLookedUp objects plan i) × (IsSound → ⊥)
+  abbrev pub IsMetFault : (ObjectId → Type 0) → ObjectId → Type 0
+  IsMetFault BecomesReady i = (IsAgreeing (objects plan.store) (faulty plan.store) plan.rows → IsLookedUp objects plan BecomesReady i) × (IsSound → ⊥)
 
-  -- when each fault comes
-  abbrev pub IsFault : Error → Type 0
-  IsFault error.MissingIndegreeUnexpected = IsAgreeing (objects plan.store) (faulty plan.store) plan.rows → ⊥
-  IsFault error.MissingStateUnexpected = ⊥
-  IsFault (error.Find e) = (i : ObjectId) × IsExistingFault (objects plan.store) (faulty plan.store) i object.Commit e × IsMetFault i
-  IsFault (error.ObjectDecode e) = (i : ObjectId) × IsTextFault (objects plan.store) i e × IsMetFault i
-  IsFault error.Memory = Unit {0}
+  -- when each fault comes, where these become ready
+  abbrev pub IsFault : (ObjectId → Type 0) → Error → Type 0
+  IsFault BecomesReady error.MissingIndegreeUnexpected = IsAgreeing (objects plan.store) (faulty plan.store) plan.rows → ⊥
+  IsFault BecomesReady error.MissingStateUnexpected = ⊥
+  IsFault BecomesReady (error.Find e) = (i : ObjectId) × IsExistingFault (objects plan.store) (faulty plan.store) i object.Commit e × IsMetFault BecomesReady i
+  IsFault BecomesReady (error.ObjectDecode e) = (i : ObjectId) × IsTextFault (objects plan.store) i e × IsMetFault BecomesReady i
+  IsFault BecomesReady error.Memory = Unit {0}
+
+  -- when each fault of `build` comes
+  abbrev pub IsBuildFault : Error → Type 0
+  IsBuildFault = IsFault (IsFirstReady objects plan)
 
 module _ {F P : Type 0} (objects : F → Objects) (faulty : F → ObjectId → Type 0) (answers : P → ObjectId → Bool → P → Type 0) where
   -- the ready tips, where all that is walked reads whole: those without children, by rising time
@@ -288,7 +311,7 @@ module _ {F P : Type 0} (objects : F → Objects) (faulty : F → ObjectId → T
   -- what `build` answers
   abbrev pub Built : TopoBuilder F P → Result (TopoWalk F P) Error → Type 0
   Built builder (Ok walk) = IsOf builder walk × IsStarted walk
-  Built builder (Err e) = IsFault objects faulty builder.plan e
+  Built builder (Err e) = IsBuildFault objects faulty builder.plan e
 
   -- the commits that a taken one makes ready
   pub record Adds (old : TopoWalk F P) (c : Ready) (counted : Counted) (added : List Ready) : Type 0 where
@@ -324,7 +347,7 @@ module _ {F P : Type 0} (objects : F → Objects) (faulty : F → ObjectId → T
     ended : {old : TopoWalk F P} → old.ready ≡ [] → Next old None old
     given : {old : TopoWalk F P} {c : Ready} {counted : Counted} {ready : List Ready} {predicate : P} {info : Info} → Takes old c counted ready → answers old.predicate c.id true predicate → IsInfo info c.id c.parents c.generation (Some c.time) → Next old (Some (Ok info)) (after old c counted ready predicate)
     refused : {old new : TopoWalk F P} {c : Ready} {counted : Counted} {ready : List Ready} {predicate : P} {answer : Option (Result Info Error)} → Takes old c counted ready → answers old.predicate c.id false predicate → Next (after old c counted ready predicate) answer new → Next old answer new
-    failed : {old : TopoWalk F P} (c : Ready) (others : List Ready) {counted : Counted} {taken : set.FinSet id_cmp} {e : Error} → Chooses old.plan.sorting old.ready c others → IsFault objects faulty old.plan e → IsLate objects old.plan e → Next old (Some (Err e)) (record old { counted = counted; ready = []; taken = taken })
+    failed : {old : TopoWalk F P} (c : Ready) (others : List Ready) {counted : Counted} {taken : set.FinSet id_cmp} {e : Error} → Chooses old.plan.sorting old.ready c others → IsFault objects faulty old.plan (IsNextReady objects old.plan old.taken c.id) e → IsLate objects old.plan (IsNextReady objects old.plan old.taken c.id) e → Next old (Some (Err e)) (record old { counted = counted; ready = []; taken = taken })
 
   -- these answers, and no more, may be drawn from a walk
   abbrev pub May : TopoWalk F P → List (Result Info Error) → Type 0

@@ -9,7 +9,7 @@ ghost use Rattle.gix_traverse.specs.declared.commit.topo.Sorting.TheVariants.{To
 ghost use Rattle.gix_traverse.specs.declared.commit.topo.Error.{Error};
 ghost use Rattle.gix_traverse.specs.History.Reach.{IsAcyclic};
 ghost use Rattle.gix_traverse.specs.Simple.Laws.{AreDistinct};
-ghost use Rattle.gix_traverse.specs.Topo.Walk.{TopoPlan, TopoWalk, walked_of, row_generation, IsMember, IsStarted, IsWalkable, IsFault, IsLate, IsCounting, Next, May};
+ghost use Rattle.gix_traverse.specs.Topo.Walk.{TopoPlan, TopoWalk, walked_of, row_generation, IsMember, IsStarted, IsWalkable, IsLeft, IsFault, IsLate, IsCounting, Next, May};
 ghost use Rattle.gix_traverse.specs.Topo.Laws.{IsTakenInOrder, IsWholeRun, IsGiven, GivesInOrder, AsksAll, Drawn, answers_left, given_ids};
 
 use crate::commit::Predicate;
@@ -54,7 +54,7 @@ pub fn never_twice<F: Find, P: Predicate>()
 
 /// A fault comes for its reason alone, and nothing follows it.
 pub fn fails_once<F: Find, P: Predicate>()
-    ensures { (walk new : TopoWalk F P) (e : Error) → Next F.objects F.faulty P.answers walk (Some (Err e)) new → IsFault F.objects F.faulty walk.plan e × IsLate F.objects walk.plan e × ((answer : Option (Result Info Error)) (later : TopoWalk F P) → Next F.objects F.faulty P.answers new answer later → answer ≡ None) }
+    ensures { (walk new : TopoWalk F P) (e : Error) → Next F.objects F.faulty P.answers walk (Some (Err e)) new → IsFault F.objects F.faulty walk.plan (IsLeft F.objects walk.plan walk.taken) e × IsLate F.objects walk.plan (IsLeft F.objects walk.plan walk.taken) e × ((answer : Option (Result Info Error)) (later : TopoWalk F P) → Next F.objects F.faulty P.answers new answer later → answer ≡ None) }
 {}
 
 /// As long as the rows stand, a commit is given the generation of its row, and none where it has no row.

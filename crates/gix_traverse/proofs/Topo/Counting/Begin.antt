@@ -26,7 +26,7 @@ use Rattle.gix_traverse.specs.Topo.Inside.Searched.{IsCounted, IsBegun, IsExplor
 use Rattle.gix_traverse.specs.History.Reach.{Reaches}
 use Rattle.gix_traverse.specs.Topo.Inside.Starting.{HasBegun, MeetsAll}
 use Rattle.gix_traverse.specs.Topo.Inside.Steady.{IsDone, HasCounted}
-use Rattle.gix_traverse.specs.Topo.Walk.{IsFault, IsCommitRead, IsCounting, IsWalkable, IsReached}
+use Rattle.gix_traverse.specs.Topo.Walk.{IsFirstReady, IsBuildFault, IsCommitRead, IsCounting, IsWalkable, IsReached}
 use Rattle.gix_traverse.proofs.Topo.Counting.ExploreKeeps.{explores_keep, explores_made, explores_same, explores_still}
 use Rattle.gix_traverse.proofs.Topo.Counting.Expanded.{counts_on, explores_read}
 use Rattle.gix_traverse.proofs.Topo.Counting.AllDownToDepth.{exact_there}
@@ -197,7 +197,7 @@ module _ {F : Type 0} (objects : F → Objects) (faulty : F → ObjectId → Typ
     pub begun_from : (explored : Counting F) → Explores objects faulty low explored → IsRested explored.reader.standing explored.depth explored.frontier.queue → HasBegun objects faulty (plan_by old sorting tips ends) explored
     begun_from explored explores rested = subst (λ plan. HasBegun objects faulty plan explored) plans (begun_on sorting tips ends low explored start_met explores rested)
 
-    pub fault_from : (e : Error) → IsExploringFault objects faulty low e → IsFault objects faulty (plan_by old sorting tips ends) e
+    pub fault_from : (e : Error) → IsExploringFault objects faulty low e → IsBuildFault objects faulty (plan_by old sorting tips ends) e
     fault_from e f =
-        subst (λ plan. IsFault objects faulty plan e) plans
-        (exploring_fault objects faulty sorting tips ends (λ i. false) low (λ agrees. fresh_counted (objects low.reader.find) (rows_of low.reader.graph) low.parents tips ends low.frontier (λ i. false) (λ i. refl) start_met.fresh) e f)
+        subst (λ plan. IsBuildFault objects faulty plan e) plans
+        (exploring_fault objects faulty sorting tips ends (λ i. false) low (λ agrees. fresh_counted (objects low.reader.find) (rows_of low.reader.graph) low.parents tips ends low.frontier (λ i. false) (λ i. refl) start_met.fresh) (IsFirstReady objects (plan_by low sorting tips ends)) e f)

@@ -122,12 +122,12 @@ module _ {F P : Type 0} (objects : F → Objects) (faulty : F → ObjectId → T
     shows : {w : TopoWalk F P} {c : Ready} {counted : Counted} {ready : List Ready} {predicate : P} {info : Info} {ids : List ObjectId} {list : List (Result Info Error)} → Takes objects faulty answers w c counted ready → accepts c.id ≡ true → IsInfo info c.id c.parents c.generation (Some c.time) → Draws (after objects faulty answers w c counted ready predicate) ids list → Draws w (c.id ∷ ids) (Ok info ∷ list)
     hides : {w : TopoWalk F P} {c : Ready} {counted : Counted} {ready : List Ready} {predicate : P} {ids : List ObjectId} {list : List (Result Info Error)} → Takes objects faulty answers w c counted ready → accepts c.id ≡ false → Draws (after objects faulty answers w c counted ready predicate) ids list → Draws w (c.id ∷ ids) list
 
-  sound_fault : (plan : TopoPlan F) (e : Error) → IsSound objects faulty plan → IsFault objects faulty plan e → e ≡ error.Memory
-  sound_fault plan error.MissingIndegreeUnexpected s f = absurd (f s.agreeing)
-  sound_fault plan error.MissingStateUnexpected s f = absurd f
-  sound_fault plan (error.Find e) s f = absurd (f.2.1 s)
-  sound_fault plan (error.ObjectDecode e) s f = absurd (f.2.1 s)
-  sound_fault plan error.Memory s f = refl
+  sound_fault : (plan : TopoPlan F) (Q : ObjectId → Type 0) (e : Error) → IsSound objects faulty plan → IsFault objects faulty plan Q e → e ≡ error.Memory
+  sound_fault plan Q error.MissingIndegreeUnexpected s f = absurd (f s.agreeing)
+  sound_fault plan Q error.MissingStateUnexpected s f = absurd f
+  sound_fault plan Q (error.Find e) s f = absurd (f.2.1 s)
+  sound_fault plan Q (error.ObjectDecode e) s f = absurd (f.2.1 s)
+  sound_fault plan Q error.Memory s f = refl
 
   no_answer : {w new : TopoWalk F P} {o : Option (Result Info Error)} → Next objects faulty answers w o new → o ≡ None → AnswersBy answers w.predicate accepts → (ids : List ObjectId) × Draws w ids []
   no_answer (ended e) n by = ([], stops e)
@@ -148,7 +148,7 @@ module _ {F P : Type 0} (objects : F → Objects) (faulty : F → ObjectId → T
       let r : (ids : List ObjectId) × Draws (after objects faulty answers w c _ _ q) ids (answer ∷ list) = one_answer next answer list n ok s (answers_on answers accepts w.predicate q c.id false a by) rest in
       (c.id ∷ r.0, hides t (sym (by w.predicate q c.id false itself a)) r.1)
   one_answer (failed {old = w} c others {e = e} ch f l) answer list n ok s by rest =
-      let m : e ≡ error.Memory = sound_fault w.plan e s f in
+      let m : e ≡ error.Memory = sound_fault w.plan _ e s f in
       absurd (ok (let k : Err e ≡ answer = cc in sym k ∙ ap Err m))
 
   all_drawn : (list : List (Result Info Error)) (w : TopoWalk F P) → IsSound objects faulty w.plan → AnswersBy answers w.predicate accepts → All (λ answer. answer ≢ Err error.Memory) list → May objects faulty answers w list → (ids : List ObjectId) × Draws w ids list

@@ -92,7 +92,7 @@ module _ {F : Type 0} (objects : F → Objects) (faulty : F → ObjectId → Typ
     due = h;
   }
 
-  started_one : {old : Walk F} {i : ObjectId} {first : List Ready} {new : Walk F} → Starts objects faulty old i first new → AreStarted old (i ∷ []) first new
+  pub started_one : {old : Walk F} {i : ObjectId} {first : List Ready} {new : Walk F} → Starts objects faulty old i first new → AreStarted old (i ∷ []) first new
   started_one {old} {i} (waits d) = started_none old (i ∷ []) (λ seen h. go seen (is_among i seen))
     where
       not_due : IsTipDue old.counting.frontier i → ⊥

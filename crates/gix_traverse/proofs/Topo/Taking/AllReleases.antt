@@ -105,14 +105,14 @@ module _ {F : Type 0} (objects : F → Objects) (faulty : F → ObjectId → Typ
       go true s = let e : children_of f p ≡ n + 1 = ap (λ j. children_of f j) (same_is p i s) ∙ c in omega arith
       go false s = omega arith
 
-  uncounted_made : (f g : Frontier) (i : ObjectId) (n : ℕ) → (known_of f.known i).children ≡ n + 1 → Uncounts f i g → (p : ObjectId) → made_of g p ≡ made_of f p
+  pub uncounted_made : (f g : Frontier) (i : ObjectId) (n : ℕ) → (known_of f.known i).children ≡ n + 1 → Uncounts f i g → (p : ObjectId) → made_of g p ≡ made_of f p
   uncounted_made f g i n c u p = ap (λ k. (known_of k p).made) (u.known n c) ∙ ap (λ k. k.made) (known-insert f.known i (record (known_of f.known i) { children = n }) p) ∙ go (is_same p i) refl
     where
       go : (b : Bool) → is_same p i ≡ b → (cond b (record (known_of f.known i) { children = n }) (known_of f.known p)).made ≡ made_of f p
       go true s = ap (λ j. made_of f j) (sym (same_is p i s))
       go false s = refl
 
-  uncounted_moved : (f g : Frontier) (i : ObjectId) (n : ℕ) → (known_of f.known i).children ≡ n + 1 → Uncounts f i g → (s : Side) (p : ObjectId) → reached g.known s p ≡ reached f.known s p
+  pub uncounted_moved : (f g : Frontier) (i : ObjectId) (n : ℕ) → (known_of f.known i).children ≡ n + 1 → Uncounts f i g → (s : Side) (p : ObjectId) → reached g.known s p ≡ reached f.known s p
   uncounted_moved f g i n c u s p = ap (λ k. reached k s p) (u.known n c) ∙ unmoved f.known i n s p
 
   -- what making an id ready changes

@@ -20,7 +20,7 @@ use Rattle.gix_traverse.specs.Topo.Inside.Releasing.{plan_of, counted_by, walk_o
 use Rattle.gix_traverse.specs.Topo.Inside.Searched.{IsCounted, IsBegun}
 use Rattle.gix_traverse.specs.Simple.Laws.{AreDistinct}
 use Rattle.gix_traverse.specs.Simple.Walk.{IsInfo}
-use Rattle.gix_traverse.specs.Topo.Walk.{TopoPlan, TopoWalk, Ready, ready_ids, walked_of, Chooses, IsReached, IsFound, IsMember, IsNumberOf, IsBrokenRow, IsCommitRead, IsWalkable, IsFault, IsLate, Takes}
+use Rattle.gix_traverse.specs.Topo.Walk.{TopoPlan, TopoWalk, Ready, ready_ids, walked_of, Chooses, IsReached, IsFound, IsMember, IsNumberOf, IsBrokenRow, IsCommitRead, IsWalkable, IsNextReady, IsFault, IsLate, Takes}
 use Rattle.gix_traverse.specs.Orders.WalkSet.{IsChild}
 
 module _ {F : Type 0} (objects : F → Objects) (faulty : F → ObjectId → Type 0) (plan : TopoPlan F) where
@@ -92,4 +92,4 @@ module _ {F : Type 0} (objects : F → Objects) (faulty : F → ObjectId → Typ
   pub data Turns (old : Walk F) : Option (Result Info Error) → Walk F → Type 0 where
     ended : {new : Walk F} → ready_in old.ready ≡ [] → unasked_of new ≡ unasked_of old → Turns old None new
     given : {r : Ready} {new : Walk F} {info : Info} → TakesReady old r new → IsInfo info r.id r.parents r.generation (Some r.time) → Turns old (Some (Ok info)) new
-    failed : {new : Walk F} (r : Ready) (others : List Ready) {e : Error} → Chooses (sorting_of old.ready) (ready_in old.ready) r others → IsFault objects faulty (plan_of old) e → IsLate objects (plan_of old) e → plan_of new ≡ plan_of old → ready_in new.ready ≡ [] → Turns old (Some (Err e)) new
+    failed : {new : Walk F} (r : Ready) (others : List Ready) {e : Error} → Chooses (sorting_of old.ready) (ready_in old.ready) r others → IsFault objects faulty (plan_of old) (IsNextReady objects (plan_of old) old.taken r.id) e → IsLate objects (plan_of old) (IsNextReady objects (plan_of old) old.taken r.id) e → plan_of new ≡ plan_of old → ready_in new.ready ≡ [] → Turns old (Some (Err e)) new

@@ -83,7 +83,7 @@ impl<F: Find + Drop> Counting<F> {
     ghost use Rattle.gix_traverse.specs.declared.commit.topo.Sorting.{Sorting};
     ghost use Rattle.gix_traverse.specs.Topo.Inside.Releasing.{Knows};
     ghost use Rattle.gix_traverse.specs.Topo.Inside.Starting.{HasBegun, MeetsAll};
-    ghost use Rattle.gix_traverse.specs.Topo.Walk.{IsFault};
+    ghost use Rattle.gix_traverse.specs.Topo.Walk.{IsBuildFault};
 
     /// A side starts from these.
     fn meet_all(&mut self, mut ids: &[ObjectId], side: Side) -> Result<(), AllocError>
@@ -111,7 +111,7 @@ impl<F: Find + Drop> Counting<F> {
     where
         requires { reader.standing ≡ true }
         ensures begun { (sorting : Sorting) → IfOk result (HasBegun F.objects F.faulty (record { store = reader.find; rows = rows_of reader.graph; parents = parents; sorting = sorting; tips = tips.now; ends = ends.now })) }
-        ensures fault { (sorting : Sorting) → IfErr result (IsFault F.objects F.faulty (record { store = reader.find; rows = rows_of reader.graph; parents = parents; sorting = sorting; tips = tips.now; ends = ends.now })) }
+        ensures fault { (sorting : Sorting) → IfErr result (IsBuildFault F.objects F.faulty (record { store = reader.find; rows = rows_of reader.graph; parents = parents; sorting = sorting; tips = tips.now; ends = ends.now })) }
     {
         let mut counting = Counting {
             frontier: Frontier::new(reader.alloc),

@@ -170,7 +170,10 @@ impl<F: Find + Drop, P: Predicate + Drop> Builder<F, P> {
     /// Reads all that tips and ends reach, as far down as the least generation of these, and makes the tips ready that have no child
     /// in the walk.
     ///
-    /// `Find` and `ObjectDecode` name an object that can't be read of those that tips or ends reach, or of the parents of a tip.
+    /// # Errors
+    ///
+    /// `Find` and `ObjectDecode` name an object that can't be read: tips or ends reach it, or it is a parent of a tip that becomes
+    /// ready.
     pub fn build(self) -> Result<Topo<F, P>, Error>
         ensures { Built F.objects F.faulty P.answers self result }
     {

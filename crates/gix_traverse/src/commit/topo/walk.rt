@@ -37,7 +37,7 @@ impl<F: Find + Drop> Walk<F> {
     ghost use Rattle.gix_traverse.specs.Topo.Inside.Releasing.{plan_of, Pushes, IsPushFault, Releases, IsReleaseFault, ReleasesAll, IsFaultAmong, TakesOne, IsTakingFault};
     ghost use Rattle.gix_traverse.specs.Topo.Inside.Starting.{Starts, StartsAll, IsStartFault, IsBegunWalk};
     ghost use Rattle.gix_traverse.specs.Topo.Inside.Steady.{IsOpen, Turns};
-    ghost use Rattle.gix_traverse.specs.Topo.Walk.{Ready, IsFault};
+    ghost use Rattle.gix_traverse.specs.Topo.Walk.{Ready, IsBuildFault};
 
     /// A commit whose children were all taken is read, and becomes ready. Its parents are looked up.
     pub(super) fn push(&mut self, id: &ObjectId) -> Result<(), Error>
@@ -122,7 +122,7 @@ impl<F: Find + Drop> Walk<F> {
         requires { reader.standing ≡ true }
         ensures begun { IfOk result (IsBegunWalk F.objects F.faulty (record { store = reader.find; rows = rows_of reader.graph; parents = parents; sorting = sorting; tips = tips.items; ends = ends.items })) }
         ensures timed { IfOk result (λ walk. AreTimed walk.ready) }
-        ensures fault { IfErr result (IsFault F.objects F.faulty (record { store = reader.find; rows = rows_of reader.graph; parents = parents; sorting = sorting; tips = tips.items; ends = ends.items })) }
+        ensures fault { IfErr result (IsBuildFault F.objects F.faulty (record { store = reader.find; rows = rows_of reader.graph; parents = parents; sorting = sorting; tips = tips.items; ends = ends.items })) }
     {
         let alloc = reader.alloc;
         let counting = match Counting::begin(reader, parents, tips.as_slice(), ends.as_slice()) {
