@@ -240,13 +240,14 @@ module _ {F : Type 0} (objects : F → Objects) (plan : TopoPlan F) where
   IsLate BecomesReady error.Memory = Unit {0}
 
 module _ {F : Type 0} (objects : F → Objects) (faulty : F → ObjectId → Type 0) (plan : TopoPlan F) where
-  -- how a ready commit was read: by its row, as long as the rows stand
-  pub record IsFound (standing : Bool) (r : Ready) : Type 0 where
+  -- how a ready commit was read: by its row, as long as the rows stand; rows that didn't stand before aren't read
+  pub record IsFound (stood standing : Bool) (r : Ready) : Type 0 where
     pub info : Info
     pub before : Bool
     pub after : Bool
     pub reads : Reads (objects plan.store) (faulty plan.store) plan.rows before r.id (Ok info) after
     pub is : IsOfInfo r info
+    pub earlier : before ≡ true → stood ≡ true
     pub later : standing ≡ true → after ≡ true
     -- and each of its parents was known, walked or not
     pub known : (p : ObjectId) → Contains r.parents p → IsKnown (objects plan.store) plan.rows after p
@@ -296,7 +297,7 @@ module _ {F P : Type 0} (objects : F → Objects) (faulty : F → ObjectId → T
     pub tips : (i : ObjectId) → Contains (ready_ids walk.ready) i → Contains walk.plan.tips i
     pub starts : IsWalkable objects faulty walk.plan → StartsWith walk.plan walk.ready
     -- each was read, whatever the store and the rows
-    pub found : (r : Ready) → Contains walk.ready r → IsFound objects faulty walk.plan walk.counted.standing r
+    pub found : (r : Ready) → Contains walk.ready r → IsFound objects faulty walk.plan true walk.counted.standing r
     pub stored : IsWalkable objects faulty walk.plan → (r : Ready) → Contains walk.ready r → IsStored objects walk.plan walk.counted.standing r
     pub depth : walk.counted.depth ≡ first_depth walk.plan
     pub counting : IsWalkable objects faulty walk.plan → IsCounting objects walk.plan walk.counted
@@ -320,7 +321,7 @@ module _ {F P : Type 0} (objects : F → Objects) (faulty : F → ObjectId → T
     pub unmade : (i : ObjectId) → Contains (ready_ids added) i → is_made old i ≡ false
     pub named : (i : ObjectId) → Contains (ready_ids added) i → is_among i (named_ids (objects old.plan.store) old.plan.rows) ≡ true
     -- and was read, whatever the store and the rows
-    pub found : (r : Ready) → Contains added r → IsFound objects faulty old.plan counted.standing r
+    pub found : (r : Ready) → Contains added r → IsFound objects faulty old.plan old.counted.standing counted.standing r
     -- where all that is walked reads whole: the walked parents that became ready, each at its last place
     pub became : IsWalkable objects faulty old.plan → Keeps (IsReady (walked_of objects old.plan) (IsMember objects old.plan) (IsTaken (set.insert old.taken c.id))) (last_places (walked_of objects old.plan c.id)) (ready_ids added)
     pub stored : IsWalkable objects faulty old.plan → (r : Ready) → Contains added r → IsStored objects old.plan counted.standing r

@@ -78,17 +78,18 @@ module _ {F : Type 0} (objects : F → Objects) (faulty : F → ObjectId → Typ
       ⊎_elim (λ q. once_known objects faulty plan standing q.0 (h p (⊎_elim (λ a. inl (sym (ap is_done (moved Tips p)) ∙ a)) (λ b. inr (sym (ap is_done (moved Ends p)) ∙ b)) q.1))) (λ q. q) k
 
   -- a ready commit as it was found, after more was read
-  pub found_later : (plan : TopoPlan F) {now later : Bool} {r : Ready} → (later ≡ true → now ≡ true) → IsFound objects faulty plan now r → IsFound objects faulty plan later r
-  found_later plan s h = record { info = h.info; before = h.before; after = h.after; reads = h.reads; is = h.is; later = λ e. h.later (s e); known = h.known }
+  pub found_later : (plan : TopoPlan F) {stood before now later : Bool} {r : Ready} → (stood ≡ true → before ≡ true) → (later ≡ true → now ≡ true) → IsFound objects faulty plan stood now r → IsFound objects faulty plan before later r
+  found_later plan t s h = record { info = h.info; before = h.before; after = h.after; reads = h.reads; is = h.is; earlier = λ e. t (h.earlier e); later = λ e. h.later (s e); known = h.known }
 
   -- a commit that became ready is found so
-  pub found_pushed : (w : Walk F) (c : Counting F) (i : ObjectId) (r : Ready) (new : Walk F) → ((s : Side) (j : ObjectId) → reached w.counting.frontier.known s j ≡ reached c.frontier.known s j) → AreRead objects faulty (plan_of w) c → Pushes objects faulty w i r new → IsFound objects faulty (plan_of w) new.counting.reader.standing r
+  pub found_pushed : (w : Walk F) (c : Counting F) (i : ObjectId) (r : Ready) (new : Walk F) → ((s : Side) (j : ObjectId) → reached w.counting.frontier.known s j ≡ reached c.frontier.known s j) → AreRead objects faulty (plan_of w) c → Pushes objects faulty w i r new → IsFound objects faulty (plan_of w) w.counting.reader.standing new.counting.reader.standing r
   found_pushed w c i r new moved h p = record {
     info = p.info;
     before = w.counting.reader.standing;
     after = new.counting.reader.standing;
     reads = subst (λ j. Reads (objects (plan_of w).store) (faulty (plan_of w).store) (plan_of w).rows w.counting.reader.standing j (Ok p.info) new.counting.reader.standing) (sym p.id) p.reads;
     is = p.is;
+    earlier = λ e. e;
     later = λ e. e;
     known = λ q m. known_by (plan_of w) c new.counting.reader.standing w.counting.frontier moved h q (p.known q (subst (λ ids. Contains ids q) (sym p.is.same_parents) m));
   }

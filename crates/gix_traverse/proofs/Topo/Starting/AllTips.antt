@@ -70,7 +70,7 @@ module _ {F : Type 0} (objects : F → Objects) (faulty : F → ObjectId → Typ
     pub made : (j : ObjectId) → made_of new.counting.frontier j ≡ (is_among j (ready_ids added) || made_of old.counting.frontier j)
     pub stands : new.counting.reader.standing ≡ true → old.counting.reader.standing ≡ true
     pub among : (r : Ready) → Contains added r → Contains ids r.id
-    pub each : AreRead objects faulty (plan_of old) old.counting → (r : Ready) → Contains added r → IsFound objects faulty (plan_of old) new.counting.reader.standing r
+    pub each : AreRead objects faulty (plan_of old) old.counting → (r : Ready) → Contains added r → IsFound objects faulty (plan_of old) old.counting.reader.standing new.counting.reader.standing r
     pub dropped : old.counting.reader.standing ≡ true → new.counting.reader.standing ≡ false → (i : ObjectId) × Contains ids i × (is_whole_row (plan_of old).rows (row_of (plan_of old).rows i) ≡ false)
     -- each at its first place, but for those behind ids that aren't due
     pub due : (seen : List ObjectId) → ((j : ObjectId) → is_among j seen ≡ true → IsTipDue old.counting.frontier j → ⊥) → Keeps (IsTipDue old.counting.frontier) (distinct_after seen ids) (ready_ids added)
@@ -112,7 +112,7 @@ module _ {F : Type 0} (objects : F → Objects) (faulty : F → ObjectId → Typ
     made = λ j. (makes_known objects faulty old.counting.frontier new.counting.frontier i p.made j).1 ∙ ap (λ b. b || made_of old.counting.frontier j) (ap (is_same j) (sym p.id) ∙ sym (among-one j r.id));
     stands = λ e. reads_stands objects faulty p.reads e;
     among = λ x m. ⊎_elim (λ s. subst (λ j. Contains (i ∷ []) j) (sym p.id ∙ ap (λ y. y.id) s) (Contains-here i [])) (λ t. absurd (no_member x t)) (Contains-cons_cases x r [] m);
-    each = λ h x m. ⊎_elim (λ s. subst (IsFound objects faulty (plan_of old) new.counting.reader.standing) s (found_pushed objects faulty old old.counting i r new (λ s j. refl) h p)) (λ t. absurd (no_member x t)) (Contains-cons_cases x r [] m);
+    each = λ h x m. ⊎_elim (λ s. subst (IsFound objects faulty (plan_of old) old.counting.reader.standing new.counting.reader.standing) s (found_pushed objects faulty old old.counting i r new (λ s j. refl) h p)) (λ t. absurd (no_member x t)) (Contains-cons_cases x r [] m);
     dropped = λ a b. (i, Contains-here i [], reads_drops objects faulty p.reads a b);
     due = λ seen h. go seen (is_among i seen) refl h;
   }
@@ -136,7 +136,7 @@ module _ {F : Type 0} (objects : F → Objects) (faulty : F → ObjectId → Typ
     made = λ j. b.made j ∙ ap (λ x. is_among j (ready_ids others) || x) (a.made j) ∙ joined (is_among j (ready_ids others)) (is_among j (ready_ids first)) (made_of old.counting.frontier j) ∙ ap (λ x. x || made_of old.counting.frontier j) (sym (ap (is_among j) (ids-append first others) ∙ among-append j (ready_ids first) (ready_ids others)));
     stands = λ e. a.stands (b.stands e);
     among = λ r m. ⊎_elim (λ l. here r.id (a.among r l)) (λ t. Contains-there r.id i ids (b.among r t)) (Contains-append_cases r first others m);
-    each = λ h r m. ⊎_elim (λ l. found_later objects faulty (plan_of old) b.stands (a.each h r l)) (λ t. with_plan objects faulty (plan_of old) (plan_of mid) new.counting.reader.standing r a.plan (b.each (read_mid h) r t)) (Contains-append_cases r first others m);
+    each = λ h r m. ⊎_elim (λ l. found_later objects faulty (plan_of old) (λ e. e) b.stands (a.each h r l)) (λ t. found_later objects faulty (plan_of old) a.stands (λ e. e) (with_plan objects faulty (plan_of old) (plan_of mid) mid.counting.reader.standing new.counting.reader.standing r a.plan (b.each (read_mid h) r t))) (Contains-append_cases r first others m);
     dropped = λ e d. drops mid.counting.reader.standing refl e d;
     due = λ seen h. due seen h;
   }

@@ -38,7 +38,7 @@ use Rattle.gix_traverse.proofs.Topo.Ready.RisingTime.{by_time_moves, in_by_time,
 use Rattle.gix_traverse.proofs.Topo.Counting.BothSearches.{searched_same}
 use Rattle.gix_traverse.proofs.Topo.Starting.AllTips.{IsTipDue, AreStarted, started, first_from}
 use Rattle.gix_traverse.proofs.Topo.Reading.FoundIsStored.{found_stored}
-use Rattle.gix_traverse.proofs.Topo.Reading.OnceRead.{all_still}
+use Rattle.gix_traverse.proofs.Topo.Reading.OnceRead.{all_still, found_later}
 use Rattle.gix_traverse.proofs.Topo.Counting.Children.{children_of, made_of, tally_same}
 use Rattle.gix_traverse.proofs.Topo.Run.Theorem.{holds_in, holds_times, times-permutation}
 
@@ -131,8 +131,8 @@ module _ {F : Type 0} (objects : F → Objects) (faulty : F → ObjectId → Typ
   first_read : AreRead objects faulty (plan_of h.first) h.first.counting
   first_read = subst (λ q. AreRead objects faulty q old) (sym first_plan) begun.all_read
 
-  found : (r : Ready) → Contains (ready_in w.ready) r → IsFound objects faulty p new.reader.standing r
-  found r m = subst (λ c. IsFound objects faulty p c.reader.standing r) (sym h.counting) (subst (λ q. IsFound objects faulty q h.mid.counting.reader.standing r) first_plan (all.each first_read r (in_starts r m)))
+  found : (r : Ready) → Contains (ready_in w.ready) r → IsFound objects faulty p true new.reader.standing r
+  found r m = subst (λ c. IsFound objects faulty p true c.reader.standing r) (sym h.counting) (found_later objects faulty p (λ e. refl) (λ e. e) (subst (λ q. IsFound objects faulty q old.reader.standing h.mid.counting.reader.standing r) first_plan (all.each first_read r (in_starts r m))))
 
   made_is : (i : ObjectId) → made_of new.frontier i ≡ is_among i (ready_ids h.starts)
   made_is i = ap (λ c. made_of c.frontier i) h.counting ∙ all.made i ∙ ap (λ b. is_among i (ready_ids h.starts) || b) (begun.unmade i) ∙ or_false (is_among i (ready_ids h.starts))
@@ -185,7 +185,7 @@ module _ {F : Type 0} (objects : F → Objects) (faulty : F → ObjectId → Typ
     stored r m = found_stored objects faulty p sound (found r m) (sound.tips_whole r.id (start (all.among r (in_starts r m))))
 
     start_time : (r : Ready) → Contains h.starts r → r.time ≡ time_of (objects p.store) r.id
-    start_time r m = (found_stored objects faulty p sound (subst (λ q. IsFound objects faulty q h.mid.counting.reader.standing r) first_plan (all.each first_read r m)) (sound.tips_whole r.id (start (all.among r m)))).time
+    start_time r m = (found_stored objects faulty p sound (subst (λ q. IsFound objects faulty q old.reader.standing h.mid.counting.reader.standing r) first_plan (all.each first_read r m)) (sound.tips_whole r.id (start (all.among r m)))).time
 
     starts : StartsWith objects faulty (unasked objects faulty) p (ready_in w.ready)
     starts = record {

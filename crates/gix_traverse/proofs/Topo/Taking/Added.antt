@@ -34,7 +34,7 @@ use Rattle.gix_traverse.proofs.Topo.Counting.Rest.{least_within}
 use Rattle.gix_traverse.proofs.Topo.Counting.Children.{children_of, made_of}
 use Rattle.gix_traverse.proofs.Simple.OneStep.{walked_within}
 use Rattle.gix_traverse.proofs.Topo.Counting.Expanded.{explores_read}
-use Rattle.gix_traverse.proofs.Topo.Reading.OnceRead.{all_still}
+use Rattle.gix_traverse.proofs.Topo.Reading.OnceRead.{all_still, found_later}
 use Rattle.gix_traverse.proofs.Topo.Reading.FoundIsStored.{found_named, found_stored}
 use Rattle.gix_traverse.proofs.Topo.Reading.ReadsCommit.{text_whole}
 use Rattle.gix_traverse.proofs.Topo.Taking.Setting.{was_ready, plan_taken, was_untaken, named_text, counted_on, explored_on, tally_on}
@@ -97,14 +97,14 @@ module _ {F : Type 0} (objects : F → Objects) (faulty : F → ObjectId → Typ
     read_between = subst (λ plan. AreRead objects faulty plan t.explored) (sym plan_between) (explores_read objects faulty (sorting_of w.ready) w.tips.items w.ends.items (set.contains w.taken) t.explores held.all_read)
 
     -- an added commit was read over the same store and rows
-    pub found_added : (a : Ready) → Contains added a → IsFound objects faulty (plan_of w) new.counting.reader.standing a
-    found_added a m = subst (λ plan. IsFound objects faulty plan new.counting.reader.standing a) plan_between (rel.each read_between a m)
+    pub found_added : (a : Ready) → Contains added a → IsFound objects faulty (plan_of w) w.counting.reader.standing new.counting.reader.standing a
+    found_added a m = found_later objects faulty (plan_of w) (explores_stands objects faulty t.explores) (λ e. e) (subst (λ plan. IsFound objects faulty plan t.explored.reader.standing new.counting.reader.standing a) plan_between (rel.each read_between a m))
 
     -- and so is what is done after that
     pub read_after : AreRead objects faulty (plan_of w) new.counting
     read_after = all_still objects faulty (plan_of w) t.explored new.counting rel.moved rel.stands (subst (λ plan. AreRead objects faulty plan t.explored) plan_between read_between)
 
-    found : IsFound objects faulty (plan_of w) w.counting.reader.standing r
+    found : IsFound objects faulty (plan_of w) true w.counting.reader.standing r
     found = held.found r (was_ready objects faulty w rest r chosen)
 
     among_ready : is_among r.id (ready_ids (ready_in w.ready)) ≡ true

@@ -79,7 +79,7 @@ module _ {F : Type 0} (objects : F → Objects) (faulty : F → ObjectId → Typ
     pub holds : HoldsReady (sorting_of old.ready) (ready_in old.ready ++ added) (ready_in new.ready)
     pub stands : new.counting.reader.standing ≡ true → old.counting.reader.standing ≡ true
     pub among : (r : Ready) → Contains added r → Contains ids r.id
-    pub each : AreRead objects faulty (plan_of old) old.counting → (r : Ready) → Contains added r → IsFound objects faulty (plan_of old) new.counting.reader.standing r
+    pub each : AreRead objects faulty (plan_of old) old.counting → (r : Ready) → Contains added r → IsFound objects faulty (plan_of old) old.counting.reader.standing new.counting.reader.standing r
     pub dropped : old.counting.reader.standing ≡ true → new.counting.reader.standing ≡ false → (i : ObjectId) × Contains ids i × (is_whole_row (plan_of old).rows (row_of (plan_of old).rows i) ≡ false)
     pub due : ((j : ObjectId) → times j ids ≤ 1) → Keeps (IsDue old new) ids (ready_ids added)
 
@@ -154,8 +154,8 @@ module _ {F : Type 0} (objects : F → Objects) (faulty : F → ObjectId → Typ
   due_from n k a b c = ap (λ m. ((m == 0) && not k.made) && not (is_seen k.ends)) a ∙ ap (λ x. (true && not x) && not (is_seen k.ends)) c ∙ ap (λ x. true && not x) b
 
   -- found alike over an equal plan
-  pub with_plan : (plan other : TopoPlan F) (standing : Bool) (r : Ready) → other ≡ plan → IsFound objects faulty other standing r → IsFound objects faulty plan standing r
-  with_plan plan other standing r e h = subst (λ p. IsFound objects faulty p standing r) e h
+  pub with_plan : (plan other : TopoPlan F) (stood standing : Bool) (r : Ready) → other ≡ plan → IsFound objects faulty other stood standing r → IsFound objects faulty plan stood standing r
+  with_plan plan other stood standing r e h = subst (λ p. IsFound objects faulty p stood standing r) e h
 
   released_one : {old : Walk F} {i : ObjectId} {first : List Ready} {new : Walk F} → Releases objects faulty old i first new → IsReleased old (i ∷ []) first new
   released_one {old} {i} (waits {f = f} n c u d) = record {
@@ -191,7 +191,7 @@ module _ {F : Type 0} (objects : F → Objects) (faulty : F → ObjectId → Typ
     holds = p.holds;
     stands = λ e. reads_stands p.reads e;
     among = λ x m. ⊎_elim (λ s. subst (λ j. Contains (i ∷ []) j) (sym p.id ∙ ap (λ y. y.id) s) (Contains-here i [])) (λ t. absurd (no_member x t)) (Contains-cons_cases x r [] m);
-    each = λ h x m. ⊎_elim (λ s. subst (IsFound objects faulty (plan_of old) new.counting.reader.standing) s (found_pushed objects faulty (with_frontier objects faulty old f) old.counting i r new (uncounted_moved old.counting.frontier f i n c u) h p)) (λ t. absurd (no_member x t)) (Contains-cons_cases x r [] m);
+    each = λ h x m. ⊎_elim (λ s. subst (IsFound objects faulty (plan_of old) old.counting.reader.standing new.counting.reader.standing) s (found_pushed objects faulty (with_frontier objects faulty old f) old.counting i r new (uncounted_moved old.counting.frontier f i n c u) h p)) (λ t. absurd (no_member x t)) (Contains-cons_cases x r [] m);
     dropped = λ a b. (i, Contains-here i [], reads_drops p.reads a b);
     due = λ h. subst (λ j. Keeps (IsDue old new) (i ∷ []) (j ∷ [])) (sym p.id) (kept is_due_now keeps_none);
   }
@@ -219,7 +219,7 @@ module _ {F : Type 0} (objects : F → Objects) (faulty : F → ObjectId → Typ
     holds = holds_on (sorting_of old.ready) (ready_in old.ready) first (ready_in mid.ready) others (ready_in new.ready) a.holds (subst (λ s. HoldsReady s (ready_in mid.ready ++ others) (ready_in new.ready)) (ap (λ p. p.sorting) a.plan) b.holds);
     stands = λ e. a.stands (b.stands e);
     among = λ r m. ⊎_elim (λ l. ⊎_elim (λ s. subst (λ j. Contains (i ∷ ids) j) s (Contains-here i ids)) (λ t. absurd (no_member r.id t)) (Contains-cons_cases r.id i [] (a.among r l))) (λ t. Contains-there r.id i ids (b.among r t)) (Contains-append_cases r first others m);
-    each = λ h r m. ⊎_elim (λ l. found_later objects faulty (plan_of old) b.stands (a.each h r l)) (λ t. with_plan (plan_of old) (plan_of mid) new.counting.reader.standing r a.plan (b.each (read_mid h) r t)) (Contains-append_cases r first others m);
+    each = λ h r m. ⊎_elim (λ l. found_later objects faulty (plan_of old) (λ e. e) b.stands (a.each h r l)) (λ t. found_later objects faulty (plan_of old) a.stands (λ e. e) (with_plan (plan_of old) (plan_of mid) mid.counting.reader.standing new.counting.reader.standing r a.plan (b.each (read_mid h) r t))) (Contains-append_cases r first others m);
     dropped = λ e d. go mid.counting.reader.standing refl e d;
     due = λ h. due h;
   }

@@ -189,11 +189,11 @@ module _ {F : Type 0} (objects : F → Objects) (faulty : F → ObjectId → Typ
           of_rest : is_among i (ready_ids (ready_in rest)) ≡ true → (is_same i r.id || set.contains w.taken i) ≡ false
           of_rest e = ap (λ b. b || set.contains w.taken i) (other (is_same i r.id) refl e) ∙ held.untaken i (among_is i (ready_ids (ready_in w.ready)) (was_among i ∙ or_right (is_same i r.id) _ e))
 
-      found_now : (q : Ready) → Contains (ready_in new.ready) q → IsFound objects faulty (plan_of new) new.counting.reader.standing q
-      found_now q m = ready_cases (IsFound objects faulty (plan_of new) new.counting.reader.standing q) q of_rest (λ a. subst (λ p. IsFound objects faulty p new.counting.reader.standing q) (sym plan_is) (adds.found q a)) m
+      found_now : (q : Ready) → Contains (ready_in new.ready) q → IsFound objects faulty (plan_of new) true new.counting.reader.standing q
+      found_now q m = ready_cases (IsFound objects faulty (plan_of new) true new.counting.reader.standing q) q of_rest (λ a. subst (λ p. IsFound objects faulty p true new.counting.reader.standing q) (sym plan_is) (found_later objects faulty (plan_of w) (λ e. refl) (λ e. e) (adds.found q a))) m
         where
-          of_rest : Contains (ready_in rest) q → IsFound objects faulty (plan_of new) new.counting.reader.standing q
-          of_rest o = subst (λ p. IsFound objects faulty p new.counting.reader.standing q) (sym plan_is) (found_later objects faulty (plan_of w) adds.stands (held.found q (others_ready q o)))
+          of_rest : Contains (ready_in rest) q → IsFound objects faulty (plan_of new) true new.counting.reader.standing q
+          of_rest o = subst (λ p. IsFound objects faulty p true new.counting.reader.standing q) (sym plan_is) (found_later objects faulty (plan_of w) (λ e. e) adds.stands (held.found q (others_ready q o)))
 
       -- where all that is walked reads whole
       module _ (sound : IsWalkable objects faulty (plan_of w)) where

@@ -61,7 +61,7 @@ module _ {F : Type 0} (objects : F → Objects) (faulty : F → ObjectId → Typ
     pub made : (i : ObjectId) → (known_of w.counting.frontier.known i).made ≡ (set.contains w.taken i || is_among i (ready_ids (ready_in w.ready)))
     pub distinct : AreDistinct (ready_ids (ready_in w.ready))
     pub untaken : (i : ObjectId) → Contains (ready_ids (ready_in w.ready)) i → set.contains w.taken i ≡ false
-    pub found : (r : Ready) → Contains (ready_in w.ready) r → IsFound objects faulty (plan_of w) w.counting.reader.standing r
+    pub found : (r : Ready) → Contains (ready_in w.ready) r → IsFound objects faulty (plan_of w) true w.counting.reader.standing r
     -- beside rows that agree, and where all that is walked reads whole
     pub tallied : IsAgreeing (objects (plan_of w).store) (faulty (plan_of w).store) (plan_of w).rows → IsTallied objects w
     pub steady : IsWalkable objects faulty (plan_of w) → IsSteady objects w
