@@ -50,9 +50,9 @@ pub record Ready : Type 0 where
 
 -- how far a walk has counted
 pub record Counted : Type 0 where
-  -- whether the rows stand: they do until one proves corrupt
+  -- whether the rows are held: they are until one proves corrupt
   pub standing : Bool
-  -- as long as they stand, no commit of a lesser generation is read
+  -- as long as they are held, no commit of a lesser generation is read
   pub depth : ℕ
   -- the number of different commits whose parents were read
   pub expanded : ℕ
@@ -140,7 +140,7 @@ pub record IsCommitRead (objects : Objects) (i : ObjectId) : Type 0 where
   pub stored : map_of.get objects i ≡ Some (record { kind = object.Commit; bytes = bytes })
   pub faultless : (e : DecodeError) → Contains (commit_items (kind_of i) bytes) (Err e) → ⊥
 
--- It has a row, as long as the rows stood, or is stored as a commit whose text can be read.
+-- It has a row, as long as the rows are held, or is stored as a commit whose text can be read.
 abbrev pub IsKnown : Objects → List GraphRow → Bool → ObjectId → Type 0
 IsKnown objects rows standing i = ((standing ≡ true) × (row : GraphRow) × (row_of rows i ≡ Some row)) ⊎ IsCommitRead objects i
 
@@ -193,7 +193,7 @@ module _ {F : Type 0} (objects : F → Objects) (plan : TopoPlan F) where
   pub record IsStored (standing : Bool) (r : Ready) : Type 0 where
     pub parents : r.parents ≡ parents_of (objects plan.store) r.id
     pub time : r.time ≡ time_of (objects plan.store) r.id
-    -- none, or the row's; and the row's as long as the rows stand
+    -- none, or the row's; and the row's as long as the rows are held
     pub by_row : IsRowGeneration plan.rows r.id r.generation
     pub told : standing ≡ true → r.generation ≡ row_generation (row_of plan.rows r.id)
 
@@ -214,8 +214,8 @@ module _ {F : Type 0} (objects : F → Objects) (plan : TopoPlan F) where
     pub by_row : row_of plan.rows id ≡ Some row
     pub corrupt : IsCorrupt row
 
-  -- The number of commits whose parents were read is exact as long as the rows stand. They are dropped exactly for a row with a
-  -- fault.
+  -- The number of commits whose parents were read is exact as long as the rows are held. They are dropped exactly for a row
+  -- with a fault.
   pub record IsCounting (counted : Counted) : Type 0 where
     pub exact : counted.standing ≡ true → IsNumberOf (IsInDepth counted.depth) counted.expanded
     pub dropped : counted.standing ≡ false → IsBrokenRow counted.depth
@@ -240,7 +240,7 @@ module _ {F : Type 0} (objects : F → Objects) (plan : TopoPlan F) where
   IsLate BecomesReady error.Memory = Unit {0}
 
 module _ {F : Type 0} (objects : F → Objects) (faulty : F → ObjectId → Type 0) (plan : TopoPlan F) where
-  -- how a ready commit was read: by its row, as long as the rows stand; rows that didn't stand before aren't read
+  -- how a ready commit was read: by its row, as long as the rows are held; rows that were dropped aren't read
   pub record IsFound (stood standing : Bool) (r : Ready) : Type 0 where
     pub info : Info
     pub before : Bool
@@ -265,7 +265,7 @@ module _ {F : Type 0} (objects : F → Objects) (faulty : F → ObjectId → Typ
     pub parents_whole : (c i : ObjectId) → Reaches (walked_of objects plan) plan.tips c → Contains (parents_of (objects plan.store) c) i → ReadsWhole (objects plan.store) (faulty plan.store) i
     pub ends_whole : (i : ObjectId) → Reaches (parents_of (objects plan.store)) plan.ends i → ReadsWhole (objects plan.store) (faulty plan.store) i
 
-  -- beside rows that agree it is looked up, and the history isn't sound
+  -- with rows that agree it is looked up, and the history isn't sound
   abbrev pub IsMetFault : (ObjectId → Type 0) → ObjectId → Type 0
   IsMetFault BecomesReady i = (IsAgreeing (objects plan.store) (faulty plan.store) plan.rows → IsLookedUp objects plan BecomesReady i) × (IsSound → ⊥)
 

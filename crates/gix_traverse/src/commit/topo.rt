@@ -28,10 +28,10 @@ pub enum Sorting {
 /// Why a topological walk can't be built, or gives no commit. After such a fault it gives nothing more.
 #[derive(Clone, Copy, Debug, PartialEq, Eq, Error)]
 pub enum Error {
-    /// The rows of the commit-graph disagree with each other: a commit had more children than were counted.
+    /// The rows of the commit-graph disagree with each other: a commit had more children than its indegree said.
     #[error("Indegree information is missing")]
     MissingIndegreeUnexpected,
-    /// Never given: a commit that wasn't explored has no children counted, which is `MissingIndegreeUnexpected`.
+    /// Never given: a commit that wasn't explored has no indegree, which is `MissingIndegreeUnexpected`.
     #[error("Internal state (bitflags) not found")]
     MissingStateUnexpected,
     /// The commit's bytes are broken before its committer.
@@ -40,7 +40,7 @@ pub enum Error {
     /// The commit could not be looked up.
     #[error(transparent)]
     Find(existing_iter::Error),
-    /// Memory was wanting.
+    /// The walk ran out of memory.
     #[error("out of memory")]
     Memory,
 }
@@ -82,6 +82,11 @@ impl From<AllocError> for Error {
 }
 
 /// A walk of what tips reach and no end reaches, no commit before its children, from [`Builder::build`].
+///
+/// # Errors
+///
+/// `next` answers `Find` or `ObjectDecode` where it can't read an object: tips or ends reach it, or it is a parent, walked or not, of
+/// a commit that becomes ready. Without a commit-graph it is a parent that isn't walked. After an error no commit is given.
 #[derive(Drop)]
 pub struct Topo<F: Find, P> {
     walk: Walk<F>,
@@ -108,7 +113,7 @@ impl<F: Find, P> Model for Topo<F, P> {
 impl<F: Find + Drop, P: Predicate + Drop> Topo<F, P> {
     ghost use Rattle.std.specs.Prelude.{◌≡◌};
 
-    /// The number of different commits whose parents were read to count children, from their rows or from the store. Without a
+    /// The number of different commits whose parents were read to count indegrees, from their rows or from the store. Without a
     /// commit-graph these are all that tips or ends reach; with one, those that aren't below the least generation needed so far.
     pub fn expanded(&self) -> usize
         ensures { result ≡ self.now.counted.expanded }

@@ -52,18 +52,19 @@ pub fn never_twice<F: Find, P: Predicate>()
     ensures { (walk new : TopoWalk F P) (list : List (Result Info Error)) → IsStarted F.objects F.faulty P.answers walk → Drawn F.objects F.faulty P.answers walk list new → AreDistinct (given_ids list) }
 {}
 
-/// A fault comes for its reason alone, and nothing follows it.
+/// A fault comes for its reason alone, and nothing follows it: tips or ends reach what can't be read, or it is a parent of a commit
+/// that was still to be taken.
 pub fn fails_once<F: Find, P: Predicate>()
     ensures { (walk new : TopoWalk F P) (e : Error) → Next F.objects F.faulty P.answers walk (Some (Err e)) new → IsFault F.objects F.faulty walk.plan (IsLeft F.objects walk.plan walk.taken) e × IsLate F.objects walk.plan (IsLeft F.objects walk.plan walk.taken) e × ((answer : Option (Result Info Error)) (later : TopoWalk F P) → Next F.objects F.faulty P.answers new answer later → answer ≡ None) }
 {}
 
-/// As long as the rows stand, a commit is given the generation of its row, and none where it has no row.
+/// As long as the rows are held, a commit is given the generation of its row, and none where it has no row.
 pub fn tells<F: Find, P: Predicate>()
     ensures { (walk mid new : TopoWalk F P) (list : List (Result Info Error)) (info : Info) → IsStarted F.objects F.faulty P.answers walk → IsWalkable F.objects F.faulty walk.plan → Drawn F.objects F.faulty P.answers walk list mid → Next F.objects F.faulty P.answers mid (Some (Ok info)) new → new.counted.standing ≡ true → info.generation ≡ row_generation (row_of walk.plan.rows info.id) }
 {}
 
-/// As long as the rows stand, counting has read the parents of exactly the commits that tips or ends reach and that aren't below its
-/// depth. The rows are dropped only for a row with a fault, of such a commit.
+/// As long as the rows are held, counting has read the parents of exactly the commits that tips or ends reach and that aren't below
+/// its depth, and no row of such a commit has a fault. The rows are dropped only for one.
 pub fn counts<F: Find, P: Predicate>()
     ensures { (walk new : TopoWalk F P) (list : List (Result Info Error)) → IsStarted F.objects F.faulty P.answers walk → IsWalkable F.objects F.faulty walk.plan → Drawn F.objects F.faulty P.answers walk list new → ((e : Error) → Contains list (Err e) → ⊥) → IsCounting F.objects walk.plan new.counted }
 {}

@@ -42,7 +42,7 @@ pub record IsSameWalk {F : Type 0} (old new : Walk F) : Type 0 where
   pub queue : new.counting.frontier.queue ≡ old.counting.frontier.queue
   pub taken : new.taken ≡ old.taken
 
--- what is known: an id that a search has read, as long as the rows stand, or one with a row, or one that can be read
+-- what is known: an id that a search has read, as long as the rows are held, or one with a row, or one that can be read
 abbrev pub Knows : Objects → List GraphRow → Bool → Frontier → ObjectId → Type 0
 Knows objects rows standing f i = ((standing ≡ true) × IsDone f i) ⊎ IsKnown objects rows standing i
 
@@ -77,7 +77,7 @@ module _ {F : Type 0} (objects : F → Objects) (faulty : F → ObjectId → Typ
     unread : {f : Frontier} {e : Error} (n : ℕ) → (known_of old.counting.frontier.known i).children ≡ n + 1 → Uncounts old.counting.frontier i f → is_due n (known_of f.known i) ≡ true → IsPushFault (with_frontier old f) i e → IsReleaseFault old i e
     no_memory : IsReleaseFault old i error.Memory
 
-  -- each of these parents in turn, and the commits that became ready
+  -- each of these parents, in order, and the commits that became ready
   pub data ReleasesAll : Walk F → List ObjectId → List Ready → Walk F → Type 0 where
     none : {old : Walk F} → ReleasesAll old [] [] old
     more : {old mid new : Walk F} {i : ObjectId} {ids : List ObjectId} {first others : List Ready} → Releases old i first mid → ReleasesAll mid ids others new → ReleasesAll old (i ∷ ids) (first ++ others) new

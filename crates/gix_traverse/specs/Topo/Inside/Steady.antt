@@ -24,7 +24,7 @@ use Rattle.gix_traverse.specs.Topo.Walk.{TopoPlan, TopoWalk, Ready, ready_ids, w
 use Rattle.gix_traverse.specs.Orders.WalkSet.{IsChild}
 
 module _ {F : Type 0} (objects : F → Objects) (faulty : F → ObjectId → Type 0) (plan : TopoPlan F) where
-  -- the commit was read, by its row or from the store; rows that stand now stood after that
+  -- the commit was read, by its row or from the store; rows that are held now were held after that
   pub record IsReadOnce (standing : Bool) (i : ObjectId) : Type 0 where
     pub info : Info
     pub before : Bool
@@ -48,7 +48,7 @@ module _ {F : Type 0} (objects : F → Objects) where
     pub member : (i : ObjectId) → (known_of w.counting.frontier.known i).made ≡ true → IsMember objects (plan_of w) i
     pub children : (i d : ObjectId) → (known_of w.counting.frontier.known i).made ≡ true → IsChild (walked_of objects (plan_of w)) (IsMember objects (plan_of w)) d i → set.contains w.taken d ≡ true
 
-  -- the commits that are done are told, and none of them is below the depth as long as the rows stand
+  -- the number of commits that are done, none of which is below the depth as long as the rows are held
   pub record HasCounted (plan : TopoPlan F) (c : Counting F) : Type 0 where
     pub number : IsNumberOf (IsDone c.frontier) c.expanded
     pub high : c.reader.standing ≡ true → (i : ObjectId) → IsDone c.frontier i → c.depth ≤ known_generation plan.rows i
@@ -62,7 +62,7 @@ module _ {F : Type 0} (objects : F → Objects) (faulty : F → ObjectId → Typ
     pub distinct : AreDistinct (ready_ids (ready_in w.ready))
     pub untaken : (i : ObjectId) → Contains (ready_ids (ready_in w.ready)) i → set.contains w.taken i ≡ false
     pub found : (r : Ready) → Contains (ready_in w.ready) r → IsFound objects faulty (plan_of w) true w.counting.reader.standing r
-    -- beside rows that agree, and where all that is walked reads whole
+    -- with rows that agree, and where all that is walked reads whole
     pub tallied : IsAgreeing (objects (plan_of w).store) (faulty (plan_of w).store) (plan_of w).rows → IsTallied objects w
     pub steady : IsWalkable objects faulty (plan_of w) → IsSteady objects w
     pub counts : IsWalkable objects faulty (plan_of w) → HasCounted objects (plan_of w) w.counting

@@ -57,6 +57,10 @@ impl<F: Find + Drop> Builder<F, Unfiltered> {
     }
 
     /// A fresh builder with these tips and ends.
+    ///
+    /// # Errors
+    ///
+    /// `AllocError` where memory runs out.
     pub fn from_iters<T: IntoIterator<Item = ObjectId>, E: IntoIterator<Item = ObjectId>>(
         alloc: Global,
         find: F,
@@ -106,7 +110,11 @@ impl<F: Find + Drop> Builder<F, Unfiltered> {
 }
 
 impl<F: Find + Drop, P: Predicate + Drop> Builder<F, P> {
-    /// Tips beside those given before. Repeated tips count once, at their first place.
+    /// More tips, after those given before. Repeated tips count once, at their first place.
+    ///
+    /// # Errors
+    ///
+    /// `AllocError` where memory runs out.
     pub fn with_tips<T: IntoIterator<Item = ObjectId>>(
         mut self,
         tips: T,
@@ -124,7 +132,11 @@ impl<F: Find + Drop, P: Predicate + Drop> Builder<F, P> {
         Ok(self)
     }
 
-    /// Ends beside those given before. An end and all that it reaches, by any parent, is not walked.
+    /// More ends, after those given before. An end and all that it reaches, by any parent, is not walked.
+    ///
+    /// # Errors
+    ///
+    /// `AllocError` where memory runs out.
     pub fn with_ends<E: IntoIterator<Item = ObjectId>>(
         mut self,
         ends: E,

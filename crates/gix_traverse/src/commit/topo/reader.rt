@@ -120,7 +120,11 @@ impl<F: Find + Drop> Reader<F> {
         })
     }
 
-    /// The commit by its row where the rows stand and it has one, and else from the store.
+    /// The commit by its row where the rows are held and it has one, and else from the store.
+    ///
+    /// # Errors
+    ///
+    /// Why it can't be read.
     pub(super) fn read(&mut self, id: &ObjectId) -> Result<Info, Error>
         ensures store { self.new.find ≡ self.old.find }
         ensures graph { self.new.graph ≡ self.old.graph }
@@ -135,7 +139,11 @@ impl<F: Find + Drop> Reader<F> {
         }
     }
 
-    /// Whether a parent can be read, where no row says so.
+    /// Looks a parent up, unless a row that is held says that it exists.
+    ///
+    /// # Errors
+    ///
+    /// Why it can't be read.
     pub(super) fn know(&mut self, id: &ObjectId) -> Result<(), Error>
         ensures store { self.new.find ≡ self.old.find }
         ensures graph { self.new.graph ≡ self.old.graph }
