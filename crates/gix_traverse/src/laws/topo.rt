@@ -9,7 +9,7 @@ ghost use Rattle.gix_traverse.specs.declared.commit.topo.Sorting.TheVariants.{To
 ghost use Rattle.gix_traverse.specs.declared.commit.topo.Error.{Error};
 ghost use Rattle.gix_traverse.specs.History.Reach.{IsAcyclic};
 ghost use Rattle.gix_traverse.specs.Simple.Laws.{AreDistinct};
-ghost use Rattle.gix_traverse.specs.Topo.Walk.{TopoPlan, TopoWalk, walked_of, row_generation, IsMember, IsStarted, IsWalkable, IsLeft, IsFault, IsLate, IsCounting, Next, May};
+ghost use Rattle.gix_traverse.specs.Topo.Walk.{TopoPlan, TopoWalk, walked_of, row_generation, IsMember, IsStarted, IsWalkable, IsLeft, IsFault, IsLate, IsCounting, IsKnown, Next, May};
 ghost use Rattle.gix_traverse.specs.Topo.Laws.{IsTakenInOrder, IsWholeRun, IsGiven, GivesInOrder, AsksAll, Drawn, answers_left, given_ids};
 
 use crate::commit::Predicate;
@@ -56,6 +56,11 @@ pub fn never_twice<F: Find, P: Predicate>()
 /// that was still to be taken.
 pub fn fails_once<F: Find, P: Predicate>()
     ensures { (walk new : TopoWalk F P) (e : Error) → Next F.objects F.faulty P.answers walk (Some (Err e)) new → IsFault F.objects F.faulty walk.plan (IsLeft F.objects walk.plan walk.taken) e × IsLate F.objects walk.plan (IsLeft F.objects walk.plan walk.taken) e × ((answer : Option (Result Info Error)) (later : TopoWalk F P) → Next F.objects F.faulty P.answers new answer later → answer ≡ None) }
+{}
+
+/// Each parent of a commit that is given, walked or not, has a row, or is stored as a commit whose text can be read.
+pub fn parents_known<F: Find, P: Predicate>()
+    ensures { (walk new : TopoWalk F P) (list : List (Result Info Error)) (info : Info) → IsStarted F.objects F.faulty P.answers walk → Drawn F.objects F.faulty P.answers walk list new → Contains list (Ok info) → (p : ObjectId) → Contains info.parent_ids.items p → (standing : Bool) × IsKnown (F.objects walk.plan.store) walk.plan.rows standing p }
 {}
 
 /// As long as the rows are held, a commit is given the generation of its row, and none where it has no row.
