@@ -24,18 +24,18 @@ IsSound None = Unit {0}
 IsSound (Some (Ok info)) = Unit {0}
 IsSound (Some (Err e)) = fault_of_topo_walk e ≢ fault.Internal
 
-fault_sound : (plan : TopoPlan Objects) (e : Error) → plan.rows ≡ [] → IsFault objects_of never_faulty plan e → fault_of_topo_walk e ≢ fault.Internal
-fault_sound plan error.MissingIndegreeUnexpected none h = absurd (h (none_agree plan.store (never_faulty plan.store) plan.rows none))
-fault_sound plan error.MissingStateUnexpected none h = absurd h
-fault_sound plan (error.ObjectDecode e) none h = λ e. cc
-fault_sound plan (error.Find e) none h = find_sound plan.store h.0 object.Commit e h.1
-fault_sound plan error.Memory none h = λ e. cc
+fault_sound : (plan : TopoPlan Objects) (BecomesReady : ObjectId → Type 0) (e : Error) → plan.rows ≡ [] → IsFault objects_of never_faulty plan BecomesReady e → fault_of_topo_walk e ≢ fault.Internal
+fault_sound plan ready error.MissingIndegreeUnexpected none h = absurd (h (none_agree plan.store (never_faulty plan.store) plan.rows none))
+fault_sound plan ready error.MissingStateUnexpected none h = absurd h
+fault_sound plan ready (error.ObjectDecode e) none h = λ e. cc
+fault_sound plan ready (error.Find e) none h = find_sound plan.store h.0 object.Commit e h.1
+fault_sound plan ready error.Memory none h = λ e. cc
 
 next_sound : {old new : Walk} {answer : Option (Result Info Error)} → old.plan.rows ≡ [] → Answers old answer new → IsSound answer
 next_sound none (ended e) = tt
 next_sound none (given t a i) = tt
 next_sound none (refused t a h) = next_sound none h
-next_sound {old} none (failed c others {e = e} h f late) = fault_sound old.plan e none f
+next_sound {old} none (failed c others {e = e} h f late) = fault_sound old.plan _ e none f
 
 -- no call puts rows in
 next_rowless : {old new : Walk} {answer : Option (Result Info Error)} → old.plan.rows ≡ [] → Answers old answer new → new.plan.rows ≡ []
@@ -57,7 +57,7 @@ built_rowless built = ap (λ (plan : TopoPlan Objects). plan.rows) built.0.plan
 
 -- nor does the start of one
 pub build_sound : (objects : Objects) (by : Sorting) (tips ends : List ObjectId) (e : Error) → IsBuiltFrom objects by tips ends (Err e) → fault_of_topo_walk e ≢ fault.Internal
-build_sound objects by tips ends e h = fault_sound (plan_from objects by tips ends) e refl h
+build_sound objects by tips ends e h = fault_sound (plan_from objects by tips ends) _ e refl h
 
 -- none ends by the number of a record
 pub topo_unnumbered : (n : ℕ) (e : Error) → fault_of_topo_walk e ≢ fault.Record n

@@ -8,3 +8,5 @@ pub mod Ends
 pub mod Corollaries
 -- With agreeing rows each commit is given with its row's generation.
 pub mod Generations
+-- Each parent of a commit that is given was known.
+pub mod ParentsKnown

@@ -54,7 +54,7 @@ abbrev pub left_beside : ℕ → List Ready → ℕ
 left_beside n [] = 0
 left_beside n (r ∷ ready) = n + suc (length ready)
 
--- how many answers a walk can still give: the ready commits, and the ids that rows and stored texts name and that aren't taken or ready
+-- how many answers a walk can still give: the ready commits, and the ids that rows and the texts of stored commits name and that aren't taken or ready
 abbrev pub answers_left : {F P : Type 0} → (F → Objects) → TopoWalk F P → ℕ
 answers_left objects walk = left_beside (length (new_ids (is_made walk) (named_ids (objects walk.plan.store) walk.plan.rows))) walk.ready
 
@@ -67,6 +67,12 @@ pub record AreApart {F P : Type 0} (walk : TopoWalk F P) : Type 0 where
 pub data AsksAll {P : Type 0} (answers : P → ObjectId → Bool → P → Type 0) : P → List ObjectId → P → Type 0 where
   none : {p : P} → AsksAll answers p [] p
   more : {p q r : P} {i : ObjectId} {ids : List ObjectId} {answer : Bool} → answers p i answer q → AsksAll answers q ids r → AsksAll answers p (i ∷ ids) r
+
+-- the ids of the commits that these answers give, in order
+abbrev pub given_ids : List (Result Info Error) → List ObjectId
+given_ids [] = []
+given_ids (Ok info ∷ list) = info.id ∷ given_ids list
+given_ids (Err e ∷ list) = given_ids list
 
 -- these answers were drawn from a walk, and left it so
 abbrev pub Drawn : {F P : Type 0} → (F → Objects) → (F → ObjectId → Type 0) → (P → ObjectId → Bool → P → Type 0) → TopoWalk F P → List (Result Info Error) → TopoWalk F P → Type 0

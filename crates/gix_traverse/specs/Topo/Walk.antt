@@ -5,6 +5,7 @@ use Rattle.std.specs.FinMap as map_of
 use Rattle.std.specs.Iterator.{Drains}
 use Rattle.std.specs.FinSet as set
 use Rattle.gix_parts.specs.declared.hash.ObjectId.{ObjectId}
+use Rattle.gix_parts.specs.declared.object.Kind.{Kind}
 use Rattle.gix_parts.specs.declared.object.Kind.TheVariants as object
 use Rattle.gix_parts.specs.declared.object.decode.Error.{Error as DecodeError}
 use Rattle.gix_parts.specs.declared.object.find.existing_iter.Error.TheVariants as existing
@@ -49,9 +50,9 @@ pub record Ready : Type 0 where
 
 -- how far a walk has counted
 pub record Counted : Type 0 where
-  -- whether the rows stand: they do until one proves corrupt
+  -- whether the rows are held: they are until one proves corrupt
   pub standing : Bool
-  -- as long as they stand, no commit of a lesser generation is read
+  -- as long as they are held, no commit of a lesser generation is read
   pub depth : ℕ
   -- the number of different commits whose parents were read
   pub expanded : ℕ
@@ -95,15 +96,21 @@ abbrev pub Chooses : Sorting → List Ready → Ready → List Ready → Type 0
 Chooses order.TopoOrder ready c others = ready ≡ others ++ c ∷ []
 Chooses order.DateOrder ready c others = IsPermutation ready (c ∷ others) × ((other : Ready) → Contains others other → other.time ≤ℤ c.time)
 
--- the parents that a text names, also where it breaks off behind them
+abbrev pub text_parents_of_kind : ObjectId → Kind → List ℕ → List ObjectId
+text_parents_of_kind i object.Commit bytes = (scanned mode.All (commit_items (kind_of i) bytes)).0
+text_parents_of_kind i object.Tree bytes = []
+text_parents_of_kind i object.Blob bytes = []
+text_parents_of_kind i object.Tag bytes = []
+
+-- the parents that a commit's text names, also where it breaks off behind them; an object of another kind names none
 abbrev pub text_parents : ObjectId → Object → List ObjectId
-text_parents i object = (scanned mode.All (commit_items (kind_of i) object.bytes)).0
+text_parents i object = text_parents_of_kind i object.kind object.bytes
 
 abbrev pub next_in : ObjectId → Option Object → List ObjectId
 next_in i None = []
 next_in i (Some object) = text_parents i object
 
--- the parents that a stored text names, also where it breaks off behind them
+-- the parents that a stored commit's text names, also where it breaks off behind them
 abbrev pub text_next : Objects → ObjectId → List ObjectId
 text_next objects i = next_in i (map_of.get objects i)
 
@@ -123,7 +130,7 @@ pub record IsNumberOf (Q : ObjectId → Type 0) (n : ℕ) : Type 0 where
 abbrev pub first_depth : {F : Type 0} → TopoPlan F → ℕ
 first_depth plan = least plan.rows infinity (plan.tips ++ plan.ends)
 
--- the ids that rows and stored texts name
+-- the ids that rows and the texts of stored commits name
 abbrev pub named_ids : Objects → List GraphRow → List ObjectId
 named_ids objects rows = map (λ row. row.id) rows ++ flat_map (λ entry. text_parents entry.0 entry.1) (map_of.entries objects)
 
@@ -132,6 +139,10 @@ pub record IsCommitRead (objects : Objects) (i : ObjectId) : Type 0 where
   pub bytes : List ℕ
   pub stored : map_of.get objects i ≡ Some (record { kind = object.Commit; bytes = bytes })
   pub faultless : (e : DecodeError) → Contains (commit_items (kind_of i) bytes) (Err e) → ⊥
+
+-- It has a row, as long as the rows are held, or is stored as a commit whose text can be read.
+abbrev pub IsKnown : Objects → List GraphRow → Bool → ObjectId → Type 0
+IsKnown objects rows standing i = ((standing ≡ true) × (row : GraphRow) × (row_of rows i ≡ Some row)) ⊎ IsCommitRead objects i
 
 -- the commit is stored, and its items end in this fault
 abbrev pub IsTextFault : Objects → ObjectId → DecodeError → Type 0
@@ -143,7 +154,7 @@ module _ {F : Type 0} (objects : F → Objects) (plan : TopoPlan F) where
   abbrev pub walked_of : ObjectId → List ObjectId
   walked_of = walked_parents (objects plan.store) plan.parents
 
-  -- the same by texts, also where they break off behind the parents
+  -- the same by the texts of commits, also where they break off behind the parents
   abbrev pub text_walked : ObjectId → List ObjectId
   text_walked i = by_mode plan.parents (text_next (objects plan.store) i)
 
@@ -151,9 +162,28 @@ module _ {F : Type 0} (objects : F → Objects) (plan : TopoPlan F) where
   abbrev pub IsReached : ObjectId → Type 0
   IsReached i = Reaches text_walked plan.tips i ⊎ Reaches (text_next (objects plan.store)) plan.ends i
 
-  -- or it is a parent, walked or not, of one that tips reach so
-  abbrev pub IsLookedUp : ObjectId → Type 0
-  IsLookedUp i = IsReached i ⊎ ((c : ObjectId) × Reaches text_walked plan.tips c × Contains (text_next (objects plan.store) c) i)
+  -- what the walk gives, as far as texts tell
+  abbrev pub IsTextMember : ObjectId → Type 0
+  IsTextMember = IsInWalk text_walked (text_next (objects plan.store)) plan.tips plan.ends
+
+  -- a tip that becomes ready when the walk is built, as far as texts tell
+  pub record IsFirstReady (i : ObjectId) : Type 0 where
+    pub tip : Contains plan.tips i
+    pub childless : IsChildless text_walked IsTextMember i
+
+  -- a parent of this commit that becomes ready when it is taken after those, as far as texts tell
+  pub record IsNextReady (taken : set.FinSet id_cmp) (c i : ObjectId) : Type 0 where
+    pub named : Contains (text_walked c) i
+    pub ready : IsReady text_walked IsTextMember (IsTaken (set.insert taken c)) i
+
+  -- a commit of the walk that isn't among these, as far as texts tell
+  pub record IsLeft (taken : set.FinSet id_cmp) (i : ObjectId) : Type 0 where
+    pub member : IsTextMember i
+    pub untaken : IsTaken taken i → ⊥
+
+  -- it is reached so, or it is a parent, walked or not, of a commit that becomes ready
+  abbrev pub IsLookedUp : (ObjectId → Type 0) → ObjectId → Type 0
+  IsLookedUp BecomesReady i = IsReached i ⊎ ((c : ObjectId) × BecomesReady c × Contains (text_next (objects plan.store) c) i)
 
   -- what the walk gives
   abbrev pub IsMember : ObjectId → Type 0
@@ -163,7 +193,7 @@ module _ {F : Type 0} (objects : F → Objects) (plan : TopoPlan F) where
   pub record IsStored (standing : Bool) (r : Ready) : Type 0 where
     pub parents : r.parents ≡ parents_of (objects plan.store) r.id
     pub time : r.time ≡ time_of (objects plan.store) r.id
-    -- none, or the row's; and the row's as long as the rows stand
+    -- none, or the row's; and the row's as long as the rows are held
     pub by_row : IsRowGeneration plan.rows r.id r.generation
     pub told : standing ≡ true → r.generation ≡ row_generation (row_of plan.rows r.id)
 
@@ -176,7 +206,7 @@ module _ {F : Type 0} (objects : F → Objects) (plan : TopoPlan F) where
     pub reached : IsMet i
     pub high : depth ≤ known_generation plan.rows i
 
-  -- a row with a fault, of a commit that is counted: for it the rows may be dropped
+  -- a row with a fault, of a commit that is counted: for it the rows are dropped
   pub record IsBrokenRow (depth : ℕ) : Type 0 where
     pub id : ObjectId
     pub row : GraphRow
@@ -184,63 +214,75 @@ module _ {F : Type 0} (objects : F → Objects) (plan : TopoPlan F) where
     pub by_row : row_of plan.rows id ≡ Some row
     pub corrupt : IsCorrupt row
 
-  -- The number of commits whose parents were read is exact as long as the rows stand, and they are dropped only for a row with a
-  -- fault.
+  -- The number of commits whose parents were read is exact as long as the rows are held. They are dropped exactly for a row
+  -- with a fault.
   pub record IsCounting (counted : Counted) : Type 0 where
     pub exact : counted.standing ≡ true → IsNumberOf (IsInDepth counted.depth) counted.expanded
     pub dropped : counted.standing ≡ false → IsBrokenRow counted.depth
+    pub whole : counted.standing ≡ true → IsBrokenRow counted.depth → ⊥
 
-  -- a parent that isn't the first, where only first parents are walked
-  pub record IsOtherParent (i : ObjectId) : Type 0 where
+  -- a parent that isn't the first, of a commit that becomes ready, where only first parents are walked
+  pub record IsOtherParent (BecomesReady : ObjectId → Type 0) (i : ObjectId) : Type 0 where
     pub unwalked : plan.parents ≡ mode.First
     pub child : ObjectId
-    pub reached : Reaches text_walked plan.tips child
-    pub text : Object
-    pub stored : map_of.get (objects plan.store) child ≡ Some text
-    pub named : Contains (drop 1 (text_parents child text)) i
+    pub ready : BecomesReady child
+    pub named : Contains (drop 1 (text_next (objects plan.store) child)) i
 
   -- `build` has read all that is walked: without rows, a fault found later is that of another parent, or the store fails
-  abbrev pub IsLate : Error → Type 0
-  IsLate error.MissingIndegreeUnexpected = Unit {0}
-  IsLate error.MissingStateUnexpected = ⊥
-  IsLate (error.Find existing.Store) = Unit {0}
-  IsLate (error.Find (existing.NotFound oid)) = plan.rows ≡ [] → IsOtherParent oid
-  IsLate (error.Find (existing.ObjectKind oid expected actual)) = plan.rows ≡ [] → IsOtherParent oid
-  IsLate (error.Find existing.Memory) = ⊥
-  IsLate (error.ObjectDecode e) = plan.rows ≡ [] → (i : ObjectId) × IsOtherParent i × IsTextFault (objects plan.store) i e
-  IsLate error.Memory = Unit {0}
+  abbrev pub IsLate : (ObjectId → Type 0) → Error → Type 0
+  IsLate BecomesReady error.MissingIndegreeUnexpected = Unit {0}
+  IsLate BecomesReady error.MissingStateUnexpected = ⊥
+  IsLate BecomesReady (error.Find existing.Store) = Unit {0}
+  IsLate BecomesReady (error.Find (existing.NotFound oid)) = plan.rows ≡ [] → IsOtherParent BecomesReady oid
+  IsLate BecomesReady (error.Find (existing.ObjectKind oid expected actual)) = plan.rows ≡ [] → IsOtherParent BecomesReady oid
+  IsLate BecomesReady (error.Find existing.Memory) = ⊥
+  IsLate BecomesReady (error.ObjectDecode e) = plan.rows ≡ [] → (i : ObjectId) × IsOtherParent BecomesReady i × IsTextFault (objects plan.store) i e
+  IsLate BecomesReady error.Memory = Unit {0}
 
 module _ {F : Type 0} (objects : F → Objects) (faulty : F → ObjectId → Type 0) (plan : TopoPlan F) where
-  -- how a ready commit was read: by its row, as long as the rows stand
-  pub record IsFound (standing : Bool) (r : Ready) : Type 0 where
+  -- how a ready commit was read: by its row, as long as the rows are held; rows that were dropped aren't read
+  pub record IsFound (stood standing : Bool) (r : Ready) : Type 0 where
     pub info : Info
     pub before : Bool
     pub after : Bool
     pub reads : Reads (objects plan.store) (faulty plan.store) plan.rows before r.id (Ok info) after
     pub is : IsOfInfo r info
+    pub earlier : before ≡ true → stood ≡ true
     pub later : standing ≡ true → after ≡ true
+    -- and each of its parents was known, walked or not
+    pub known : (p : ObjectId) → Contains r.parents p → IsKnown (objects plan.store) plan.rows after p
 
-  -- the rows agree, and all that the walk may look up reads whole: what tips reach, their parents, and what ends reach
+  -- the rows agree, and all that is walked reads whole: what tips reach, and what ends reach
+  pub record IsWalkable : Type 0 where
+    pub agreeing : IsAgreeing (objects plan.store) (faulty plan.store) plan.rows
+    pub tips_whole : (i : ObjectId) → Reaches (walked_of objects plan) plan.tips i → ReadsWhole (objects plan.store) (faulty plan.store) i
+    pub ends_whole : (i : ObjectId) → Reaches (parents_of (objects plan.store)) plan.ends i → ReadsWhole (objects plan.store) (faulty plan.store) i
+
+  -- and so do all parents of what tips reach, also those that aren't walked
   pub record IsSound : Type 0 where
     pub agreeing : IsAgreeing (objects plan.store) (faulty plan.store) plan.rows
     pub tips_whole : (i : ObjectId) → Reaches (walked_of objects plan) plan.tips i → ReadsWhole (objects plan.store) (faulty plan.store) i
     pub parents_whole : (c i : ObjectId) → Reaches (walked_of objects plan) plan.tips c → Contains (parents_of (objects plan.store) c) i → ReadsWhole (objects plan.store) (faulty plan.store) i
     pub ends_whole : (i : ObjectId) → Reaches (parents_of (objects plan.store)) plan.ends i → ReadsWhole (objects plan.store) (faulty plan.store) i
 
-  -- beside rows that agree it is looked up, and the history isn't sound
-  abbrev pub IsMetFault : ObjectId → Type 0
-  IsMetFault i = (IsAgreeing (objects plan.store) (faulty plan.store) plan.rows → IsLookedUp objects plan i) × (IsSound → ⊥)
+  -- with rows that agree it is looked up, and the history isn't sound
+  abbrev pub IsMetFault : (ObjectId → Type 0) → ObjectId → Type 0
+  IsMetFault BecomesReady i = (IsAgreeing (objects plan.store) (faulty plan.store) plan.rows → IsLookedUp objects plan BecomesReady i) × (IsSound → ⊥)
 
-  -- when each fault comes
-  abbrev pub IsFault : Error → Type 0
-  IsFault error.MissingIndegreeUnexpected = IsAgreeing (objects plan.store) (faulty plan.store) plan.rows → ⊥
-  IsFault error.MissingStateUnexpected = ⊥
-  IsFault (error.Find e) = (i : ObjectId) × IsExistingFault (objects plan.store) (faulty plan.store) i object.Commit e × IsMetFault i
-  IsFault (error.ObjectDecode e) = (i : ObjectId) × IsTextFault (objects plan.store) i e × IsMetFault i
-  IsFault error.Memory = Unit {0}
+  -- when each fault comes, where these become ready
+  abbrev pub IsFault : (ObjectId → Type 0) → Error → Type 0
+  IsFault BecomesReady error.MissingIndegreeUnexpected = IsAgreeing (objects plan.store) (faulty plan.store) plan.rows → ⊥
+  IsFault BecomesReady error.MissingStateUnexpected = ⊥
+  IsFault BecomesReady (error.Find e) = (i : ObjectId) × IsExistingFault (objects plan.store) (faulty plan.store) i object.Commit e × IsMetFault BecomesReady i
+  IsFault BecomesReady (error.ObjectDecode e) = (i : ObjectId) × IsTextFault (objects plan.store) i e × IsMetFault BecomesReady i
+  IsFault BecomesReady error.Memory = Unit {0}
+
+  -- when each fault of `build` comes
+  abbrev pub IsBuildFault : Error → Type 0
+  IsBuildFault = IsFault (IsFirstReady objects plan)
 
 module _ {F P : Type 0} (objects : F → Objects) (faulty : F → ObjectId → Type 0) (answers : P → ObjectId → Bool → P → Type 0) where
-  -- the ready tips of a sound walk: those without children, by rising time
+  -- the ready tips, where all that is walked reads whole: those without children, by rising time
   pub record StartsWith (plan : TopoPlan F) (ready : List Ready) : Type 0 where
     pub childless : List ObjectId
     pub starts : List Ready
@@ -253,12 +295,12 @@ module _ {F P : Type 0} (objects : F → Objects) (faulty : F → ObjectId → T
     pub untaken : walk.taken ≡ set.empty
     pub distinct : AreDistinct (ready_ids walk.ready)
     pub tips : (i : ObjectId) → Contains (ready_ids walk.ready) i → Contains walk.plan.tips i
-    pub starts : IsSound objects faulty walk.plan → StartsWith walk.plan walk.ready
+    pub starts : IsWalkable objects faulty walk.plan → StartsWith walk.plan walk.ready
     -- each was read, whatever the store and the rows
-    pub found : (r : Ready) → Contains walk.ready r → IsFound objects faulty walk.plan walk.counted.standing r
-    pub stored : IsSound objects faulty walk.plan → (r : Ready) → Contains walk.ready r → IsStored objects walk.plan walk.counted.standing r
+    pub found : (r : Ready) → Contains walk.ready r → IsFound objects faulty walk.plan true walk.counted.standing r
+    pub stored : IsWalkable objects faulty walk.plan → (r : Ready) → Contains walk.ready r → IsStored objects walk.plan walk.counted.standing r
     pub depth : walk.counted.depth ≡ first_depth walk.plan
-    pub counting : IsSound objects faulty walk.plan → IsCounting objects walk.plan walk.counted
+    pub counting : IsWalkable objects faulty walk.plan → IsCounting objects walk.plan walk.counted
     -- without rows, all that is reached was read
     pub read : walk.plan.rows ≡ [] → (i : ObjectId) → IsReached objects walk.plan i → IsCommitRead (objects walk.plan.store) i
 
@@ -270,7 +312,7 @@ module _ {F P : Type 0} (objects : F → Objects) (faulty : F → ObjectId → T
   -- what `build` answers
   abbrev pub Built : TopoBuilder F P → Result (TopoWalk F P) Error → Type 0
   Built builder (Ok walk) = IsOf builder walk × IsStarted walk
-  Built builder (Err e) = IsFault objects faulty builder.plan e
+  Built builder (Err e) = IsBuildFault objects faulty builder.plan e
 
   -- the commits that a taken one makes ready
   pub record Adds (old : TopoWalk F P) (c : Ready) (counted : Counted) (added : List Ready) : Type 0 where
@@ -279,15 +321,15 @@ module _ {F P : Type 0} (objects : F → Objects) (faulty : F → ObjectId → T
     pub unmade : (i : ObjectId) → Contains (ready_ids added) i → is_made old i ≡ false
     pub named : (i : ObjectId) → Contains (ready_ids added) i → is_among i (named_ids (objects old.plan.store) old.plan.rows) ≡ true
     -- and was read, whatever the store and the rows
-    pub found : (r : Ready) → Contains added r → IsFound objects faulty old.plan counted.standing r
-    -- of a sound walk: the walked parents that became ready, each at its last place
-    pub became : IsSound objects faulty old.plan → Keeps (IsReady (walked_of objects old.plan) (IsMember objects old.plan) (IsTaken (set.insert old.taken c.id))) (last_places (walked_of objects old.plan c.id)) (ready_ids added)
-    pub stored : IsSound objects faulty old.plan → (r : Ready) → Contains added r → IsStored objects old.plan counted.standing r
+    pub found : (r : Ready) → Contains added r → IsFound objects faulty old.plan old.counted.standing counted.standing r
+    -- where all that is walked reads whole: the walked parents that became ready, each at its last place
+    pub became : IsWalkable objects faulty old.plan → Keeps (IsReady (walked_of objects old.plan) (IsMember objects old.plan) (IsTaken (set.insert old.taken c.id))) (last_places (walked_of objects old.plan c.id)) (ready_ids added)
+    pub stored : IsWalkable objects faulty old.plan → (r : Ready) → Contains added r → IsStored objects old.plan counted.standing r
     -- dropped rows don't come back
     pub stands : counted.standing ≡ true → old.counted.standing ≡ true
     -- lowered to the least generation of the walked parents
     pub depth : counted.depth ≡ least old.plan.rows old.counted.depth (by_mode old.plan.parents c.parents)
-    pub counting : IsSound objects faulty old.plan → IsCounting objects old.plan counted
+    pub counting : IsWalkable objects faulty old.plan → IsCounting objects old.plan counted
 
   -- a ready commit is taken
   pub record Takes (old : TopoWalk F P) (c : Ready) (counted : Counted) (ready : List Ready) : Type 0 where
@@ -306,7 +348,7 @@ module _ {F P : Type 0} (objects : F → Objects) (faulty : F → ObjectId → T
     ended : {old : TopoWalk F P} → old.ready ≡ [] → Next old None old
     given : {old : TopoWalk F P} {c : Ready} {counted : Counted} {ready : List Ready} {predicate : P} {info : Info} → Takes old c counted ready → answers old.predicate c.id true predicate → IsInfo info c.id c.parents c.generation (Some c.time) → Next old (Some (Ok info)) (after old c counted ready predicate)
     refused : {old new : TopoWalk F P} {c : Ready} {counted : Counted} {ready : List Ready} {predicate : P} {answer : Option (Result Info Error)} → Takes old c counted ready → answers old.predicate c.id false predicate → Next (after old c counted ready predicate) answer new → Next old answer new
-    failed : {old : TopoWalk F P} (c : Ready) (others : List Ready) {counted : Counted} {taken : set.FinSet id_cmp} {e : Error} → Chooses old.plan.sorting old.ready c others → IsFault objects faulty old.plan e → IsLate objects old.plan e → Next old (Some (Err e)) (record old { counted = counted; ready = []; taken = taken })
+    failed : {old : TopoWalk F P} (c : Ready) (others : List Ready) {counted : Counted} {taken : set.FinSet id_cmp} {e : Error} → Chooses old.plan.sorting old.ready c others → IsFault objects faulty old.plan (IsNextReady objects old.plan old.taken c.id) e → IsLate objects old.plan (IsNextReady objects old.plan old.taken c.id) e → Next old (Some (Err e)) (record old { counted = counted; ready = []; taken = taken })
 
   -- these answers, and no more, may be drawn from a walk
   abbrev pub May : TopoWalk F P → List (Result Info Error) → Type 0

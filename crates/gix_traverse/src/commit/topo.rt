@@ -28,10 +28,10 @@ pub enum Sorting {
 /// Why a topological walk can't be built, or gives no commit. After such a fault it gives nothing more.
 #[derive(Clone, Copy, Debug, PartialEq, Eq, Error)]
 pub enum Error {
-    /// The rows of the commit-graph disagree with each other: a commit had more children than were counted.
+    /// The rows of the commit-graph disagree with each other: a commit had more children than its indegree said.
     #[error("Indegree information is missing")]
     MissingIndegreeUnexpected,
-    /// Never given: a commit that wasn't explored has no children counted, which is `MissingIndegreeUnexpected`.
+    /// Never given: a commit that wasn't explored has no indegree, which is `MissingIndegreeUnexpected`.
     #[error("Internal state (bitflags) not found")]
     MissingStateUnexpected,
     /// The commit's bytes are broken before its committer.
@@ -40,7 +40,7 @@ pub enum Error {
     /// The commit could not be looked up.
     #[error(transparent)]
     Find(existing_iter::Error),
-    /// Memory was wanting.
+    /// The walk ran out of memory.
     #[error("out of memory")]
     Memory,
 }
@@ -82,6 +82,11 @@ impl From<AllocError> for Error {
 }
 
 /// A walk of what tips reach and no end reaches, no commit before its children, from [`Builder::build`].
+///
+/// # Errors
+///
+/// `next` answers `Find` or `ObjectDecode` where it can't read an object: tips or ends reach it, or it is a parent, walked or not, of
+/// a commit that becomes ready. Without a commit-graph it is a parent that isn't walked. After an error no commit is given.
 #[derive(Drop)]
 pub struct Topo<F: Find, P> {
     walk: Walk<F>,
@@ -108,7 +113,7 @@ impl<F: Find, P> Model for Topo<F, P> {
 impl<F: Find + Drop, P: Predicate + Drop> Topo<F, P> {
     ghost use Rattle.std.specs.Prelude.{◌≡◌};
 
-    /// The number of different commits whose parents were read to count children, from their rows or from the store. Without a
+    /// The number of different commits whose parents were read to count indegrees, from their rows or from the store. Without a
     /// commit-graph these are all that tips or ends reach; with one, those that aren't below the least generation needed so far.
     pub fn expanded(&self) -> usize
         ensures { result ≡ self.now.counted.expanded }
@@ -118,7 +123,7 @@ impl<F: Find + Drop, P: Predicate + Drop> Topo<F, P> {
 }
 
 impl<F: Find + Drop, P: Predicate + Drop> Iterator for Topo<F, P> {
-    ghost use Rattle.std.specs.Iterator.{at_most};
+    ghost use Rattle.std.specs.Iterator.{MakesProgress, at_most};
     ghost use Rattle.gix_traverse.specs.Topo.Laws.{answers_left};
     ghost use Rattle.gix_traverse.specs.Topo.Walk.{Next};
 
@@ -130,7 +135,13 @@ impl<F: Find + Drop, P: Predicate + Drop> Iterator for Topo<F, P> {
 
     ghost remaining = { λ walk. at_most (answers_left F.objects walk) };
 
-    fn next(&mut self) -> Option<Result<Info, Error>> {
+    fn next(&mut self) -> Option<Result<Info, Error>>
+        requires { P.can_accept self.old.predicate }
+        ensures steps { Next F.objects F.faulty P.answers self.old result self.new }
+        ensures goes { MakesProgress (λ walk. P.can_accept walk.predicate) (λ walk. at_most (answers_left F.objects walk)) self.old result self.new }
+        // It may be called again after each answer, also after None.
+        ensures again { P.can_accept self.new.predicate }
+    {
         loop {
             let info = match self.walk.turn()? {
                 Ok(info) => info,

@@ -9,8 +9,8 @@ ghost use Rattle.gix_traverse.specs.declared.commit.topo.Sorting.TheVariants.{To
 ghost use Rattle.gix_traverse.specs.declared.commit.topo.Error.{Error};
 ghost use Rattle.gix_traverse.specs.History.Reach.{IsAcyclic};
 ghost use Rattle.gix_traverse.specs.Simple.Laws.{AreDistinct};
-ghost use Rattle.gix_traverse.specs.Topo.Walk.{TopoPlan, TopoWalk, walked_of, row_generation, IsMember, IsStarted, IsSound, IsFault, IsLate, IsCounting, Next, May};
-ghost use Rattle.gix_traverse.specs.Topo.Laws.{IsTakenInOrder, IsWholeRun, IsGiven, GivesInOrder, AsksAll, Drawn, answers_left};
+ghost use Rattle.gix_traverse.specs.Topo.Walk.{TopoPlan, TopoWalk, walked_of, row_generation, IsMember, IsStarted, IsWalkable, IsLeft, IsFault, IsLate, IsCounting, IsKnown, Next, May};
+ghost use Rattle.gix_traverse.specs.Topo.Laws.{IsTakenInOrder, IsWholeRun, IsGiven, GivesInOrder, AsksAll, Drawn, answers_left, given_ids};
 
 use crate::commit::Predicate;
 use gix_parts::object::find::Find;
@@ -37,7 +37,7 @@ pub fn rows_agree<F: Find, P: Predicate>()
 {}
 
 /// Every topological walk ends: it gives at most an answer for each ready commit, and for each id not taken or ready that rows
-/// or stored texts name.
+/// or the texts of stored commits name.
 pub fn ends<F: Find, P: Predicate>()
     ensures { (walk : TopoWalk F P) (list : List (Result Info Error)) → May F.objects F.faulty P.answers walk list → length list ≤ answers_left F.objects walk }
 {}
@@ -47,18 +47,29 @@ pub fn asks_once<F: Find, P: Predicate>()
     ensures { (walk new : TopoWalk F P) (list : List (Result Info Error)) → IsStarted F.objects F.faulty P.answers walk → Drawn F.objects F.faulty P.answers walk list new → (ids : List ObjectId) × AsksAll P.answers walk.predicate ids new.predicate × AreDistinct ids }
 {}
 
-/// A fault comes for its reason alone, and nothing follows it.
+/// It gives no commit twice, whatever faults come, and wherever the caller stops.
+pub fn never_twice<F: Find, P: Predicate>()
+    ensures { (walk new : TopoWalk F P) (list : List (Result Info Error)) → IsStarted F.objects F.faulty P.answers walk → Drawn F.objects F.faulty P.answers walk list new → AreDistinct (given_ids list) }
+{}
+
+/// A fault comes for its reason alone, and nothing follows it: tips or ends reach what can't be read, or it is a parent of a commit
+/// that was still to be taken.
 pub fn fails_once<F: Find, P: Predicate>()
-    ensures { (walk new : TopoWalk F P) (e : Error) → Next F.objects F.faulty P.answers walk (Some (Err e)) new → IsFault F.objects F.faulty walk.plan e × IsLate F.objects walk.plan e × ((answer : Option (Result Info Error)) (later : TopoWalk F P) → Next F.objects F.faulty P.answers new answer later → answer ≡ None) }
+    ensures { (walk new : TopoWalk F P) (e : Error) → Next F.objects F.faulty P.answers walk (Some (Err e)) new → IsFault F.objects F.faulty walk.plan (IsLeft F.objects walk.plan walk.taken) e × IsLate F.objects walk.plan (IsLeft F.objects walk.plan walk.taken) e × ((answer : Option (Result Info Error)) (later : TopoWalk F P) → Next F.objects F.faulty P.answers new answer later → answer ≡ None) }
 {}
 
-/// As long as the rows stand, a commit is given the generation of its row, and none where it has no row.
+/// Each parent of a commit that is given, walked or not, has a row, or is stored as a commit whose text can be read.
+pub fn parents_known<F: Find, P: Predicate>()
+    ensures { (walk new : TopoWalk F P) (list : List (Result Info Error)) (info : Info) → IsStarted F.objects F.faulty P.answers walk → Drawn F.objects F.faulty P.answers walk list new → Contains list (Ok info) → (p : ObjectId) → Contains info.parent_ids.items p → (standing : Bool) × IsKnown (F.objects walk.plan.store) walk.plan.rows standing p }
+{}
+
+/// As long as the rows are held, a commit is given the generation of its row, and none where it has no row.
 pub fn tells<F: Find, P: Predicate>()
-    ensures { (walk mid new : TopoWalk F P) (list : List (Result Info Error)) (info : Info) → IsStarted F.objects F.faulty P.answers walk → IsSound F.objects F.faulty walk.plan → Drawn F.objects F.faulty P.answers walk list mid → Next F.objects F.faulty P.answers mid (Some (Ok info)) new → new.counted.standing ≡ true → info.generation ≡ row_generation (row_of walk.plan.rows info.id) }
+    ensures { (walk mid new : TopoWalk F P) (list : List (Result Info Error)) (info : Info) → IsStarted F.objects F.faulty P.answers walk → IsWalkable F.objects F.faulty walk.plan → Drawn F.objects F.faulty P.answers walk list mid → Next F.objects F.faulty P.answers mid (Some (Ok info)) new → new.counted.standing ≡ true → info.generation ≡ row_generation (row_of walk.plan.rows info.id) }
 {}
 
-/// As long as the rows stand, counting has read the parents of exactly the commits that tips or ends reach and that aren't below its
-/// depth. The rows are dropped only for a row with a fault, of such a commit.
+/// As long as the rows are held, counting has read the parents of exactly the commits that tips or ends reach and that aren't below
+/// its depth, and no row of such a commit has a fault. The rows are dropped only for one.
 pub fn counts<F: Find, P: Predicate>()
-    ensures { (walk new : TopoWalk F P) (list : List (Result Info Error)) → IsStarted F.objects F.faulty P.answers walk → IsSound F.objects F.faulty walk.plan → Drawn F.objects F.faulty P.answers walk list new → ((e : Error) → Contains list (Err e) → ⊥) → IsCounting F.objects walk.plan new.counted }
+    ensures { (walk new : TopoWalk F P) (list : List (Result Info Error)) → IsStarted F.objects F.faulty P.answers walk → IsWalkable F.objects F.faulty walk.plan → Drawn F.objects F.faulty P.answers walk list new → ((e : Error) → Contains list (Err e) → ⊥) → IsCounting F.objects walk.plan new.counted }
 {}

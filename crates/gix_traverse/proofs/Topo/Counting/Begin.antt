@@ -26,9 +26,9 @@ use Rattle.gix_traverse.specs.Topo.Inside.Searched.{IsCounted, IsBegun, IsExplor
 use Rattle.gix_traverse.specs.History.Reach.{Reaches}
 use Rattle.gix_traverse.specs.Topo.Inside.Starting.{HasBegun, MeetsAll}
 use Rattle.gix_traverse.specs.Topo.Inside.Steady.{IsDone, HasCounted}
-use Rattle.gix_traverse.specs.Topo.Walk.{IsFault, IsCommitRead, IsCounting, IsSound, IsReached}
+use Rattle.gix_traverse.specs.Topo.Walk.{IsFirstReady, IsBuildFault, IsCommitRead, IsCounting, IsWalkable, IsReached}
 use Rattle.gix_traverse.proofs.Topo.Counting.ExploreKeeps.{explores_keep, explores_made, explores_same, explores_still}
-use Rattle.gix_traverse.proofs.Topo.Counting.Expanded.{counts_on}
+use Rattle.gix_traverse.proofs.Topo.Counting.Expanded.{counts_on, explores_read}
 use Rattle.gix_traverse.proofs.Topo.Counting.AllDownToDepth.{exact_there}
 use Rattle.gix_traverse.proofs.Topo.Taking.ReadFaults.{exploring_fault}
 use Rattle.gix_traverse.proofs.Topo.Reading.Faultless.{faultless}
@@ -140,8 +140,8 @@ module _ {F : Type 0} (objects : F → Objects) (faulty : F → ObjectId → Typ
       dropped = λ f. absurd (true≢false (sym start.stands ∙ f));
     }
 
-    counts : IsSound objects faulty (plan_by low sorting tips ends) → HasCounted objects (plan_by low sorting tips ends) explored × IsCounting objects (plan_by low sorting tips ends) (counted_by explored)
-    counts sound = counts_on objects faulty sorting tips ends (λ i. false) low explored sound (counted_low (λ i. false) (λ i. refl)) start.begun counts_low explores rested
+    counts : IsWalkable objects faulty (plan_by low sorting tips ends) → HasCounted objects (plan_by low sorting tips ends) explored × IsCounting objects (plan_by low sorting tips ends) (counted_by explored)
+    counts sound = counts_on objects faulty sorting tips ends (λ i. false) low explored sound (counted_low (λ i. false) (λ i. refl)) start.begun counts_low (λ i d. absurd (undone i d)) explores rested
 
     low_depth : Rows ≡ [] → low.depth ≤ infinity
     low_depth none = subst (λ d. d ≤ infinity) (sym start.depth) (least_below Rows infinity (tips ++ ends))
@@ -180,6 +180,7 @@ module _ {F : Type 0} (objects : F → Objects) (faulty : F → ObjectId → Typ
       explored = λ agrees side. subst (λ d. IsExplored (objects low.reader.find) Rows low.parents tips ends d side explored.frontier) (sym same.depth) (there agrees side);
       counts = λ sound. (counts sound).0;
       counting = λ sound. (counts sound).1;
+      all_read = explores_read objects faulty sorting tips ends (λ i. false) explores (λ i d. absurd (undone i d));
       idle = idle;
       read = read;
     }
@@ -196,7 +197,7 @@ module _ {F : Type 0} (objects : F → Objects) (faulty : F → ObjectId → Typ
     pub begun_from : (explored : Counting F) → Explores objects faulty low explored → IsRested explored.reader.standing explored.depth explored.frontier.queue → HasBegun objects faulty (plan_by old sorting tips ends) explored
     begun_from explored explores rested = subst (λ plan. HasBegun objects faulty plan explored) plans (begun_on sorting tips ends low explored start_met explores rested)
 
-    pub fault_from : (e : Error) → IsExploringFault objects faulty low e → IsFault objects faulty (plan_by old sorting tips ends) e
+    pub fault_from : (e : Error) → IsExploringFault objects faulty low e → IsBuildFault objects faulty (plan_by old sorting tips ends) e
     fault_from e f =
-        subst (λ plan. IsFault objects faulty plan e) plans
-        (exploring_fault objects faulty sorting tips ends (λ i. false) low (λ agrees. fresh_counted (objects low.reader.find) (rows_of low.reader.graph) low.parents tips ends low.frontier (λ i. false) (λ i. refl) start_met.fresh) e f)
+        subst (λ plan. IsBuildFault objects faulty plan e) plans
+        (exploring_fault objects faulty sorting tips ends (λ i. false) low (λ agrees. fresh_counted (objects low.reader.find) (rows_of low.reader.graph) low.parents tips ends low.frontier (λ i. false) (λ i. refl) start_met.fresh) (IsFirstReady objects (plan_by low sorting tips ends)) e f)

@@ -24,14 +24,15 @@ use Rattle.gix_traverse.specs.History.Reading.{rows_of, is_whole_row}
 use Rattle.gix_traverse.specs.Topo.Inside.Releasing.{plan_by, counted_by}
 use Rattle.gix_traverse.specs.Topo.Inside.Searched.{IsCounted, IsSearched, IsBegun, IsExplored}
 use Rattle.gix_traverse.specs.Simple.Walk.{ids_at}
-use Rattle.gix_traverse.specs.Topo.Inside.Steady.{IsDone, HasCounted}
-use Rattle.gix_traverse.specs.Topo.Walk.{TopoPlan, IsNumberOf, IsMet, IsInDepth, IsBrokenRow, IsCounting, IsSound}
+use Rattle.gix_traverse.specs.Topo.Inside.Steady.{IsDone, IsReadOnce, AreRead, HasCounted}
+use Rattle.gix_traverse.specs.Topo.Walk.{TopoPlan, IsNumberOf, IsMet, IsInDepth, IsBrokenRow, IsCounting, IsWalkable}
 use Rattle.gix_traverse.proofs.Topo.Taking.BecomeReady.{done_seen, tips_text, text_tips, ends_text, text_ends}
 use Rattle.gix_traverse.proofs.Topo.Counting.ExploreKeeps.{steps_keep, explores_keep, explores_same, done_now}
 use Rattle.gix_traverse.proofs.Topo.Counting.AllDownToDepth.{exact_there}
 use Rattle.gix_traverse.proofs.Shared.ReadsWhole.{row_stands, corrupt_row}
 use Rattle.gix_traverse.proofs.Topo.Taking.AllReleases.{reads_stands, reads_drops}
 use Rattle.gix_traverse.proofs.Topo.Counting.Children.{follows_named}
+use Rattle.gix_traverse.proofs.Topo.Reading.OnceRead.{once_still, once_whole}
 
 -- the same ids are so many
 pub number_same : (P Q : ObjectId → Type 0) (m n : ℕ) → m ≡ n → ((i : ObjectId) → P i → Q i) → ((i : ObjectId) → Q i → P i) → IsNumberOf P m → IsNumberOf Q n
@@ -74,7 +75,7 @@ module _ {F : Type 0} (objects : F → Objects) (faulty : F → ObjectId → Typ
       }
 
   -- what is done is reached
-  pub done_reached : (plan : TopoPlan F) → IsSound objects faulty plan → (f : Frontier) → IsSearched (objects plan.store) plan.rows plan.parents plan.tips plan.ends f.queue f.known → (i : ObjectId) → IsDone f i → IsMet objects plan i
+  pub done_reached : (plan : TopoPlan F) → IsWalkable objects faulty plan → (f : Frontier) → IsSearched (objects plan.store) plan.rows plan.parents plan.tips plan.ends f.queue f.known → (i : ObjectId) → IsDone f i → IsMet objects plan i
   done_reached plan sound f h i d =
       ⊎_elim (λ a. inl (text_tips (objects plan.store) (faulty plan.store) plan.rows plan.parents plan.tips plan.ends sound.agreeing sound.tips_whole sound.ends_whole i ((h.search Tips).within i (done_seen (reached f.known Tips i) a))))
       (λ b. inr (text_ends (objects plan.store) (faulty plan.store) plan.rows plan.parents plan.tips plan.ends sound.agreeing sound.tips_whole sound.ends_whole i ((h.search Ends).within i (done_seen (reached f.known Ends i) b)))) d
@@ -136,7 +137,7 @@ module _ {F : Type 0} (objects : F → Objects) (faulty : F → ObjectId → Typ
     Told plan f = IsCounted (objects plan.store) plan.rows plan.parents plan.tips plan.ends taken f
 
     -- a step keeps what is told of the done commits
-    steps_counts : (old new : Counting F) → IsSound objects faulty (Plan old) → Told (Plan old) old.frontier → is_pending old.reader.standing old.depth old.frontier.queue ≡ true → Steps objects faulty old new → HasCounted objects (Plan old) old → HasCounted objects (Plan old) new
+    steps_counts : (old new : Counting F) → IsWalkable objects faulty (Plan old) → Told (Plan old) old.frontier → is_pending old.reader.standing old.depth old.frontier.queue ≡ true → Steps objects faulty old new → HasCounted objects (Plan old) old → HasCounted objects (Plan old) new
     steps_counts old new sound counted pending s h = record {
       number = steps_number old new s h.number;
       high = λ e i d. subst (λ n. n ≤ known_generation (Plan old).rows i) (sym s.same.depth) (⊎_elim (λ q. subst (λ j. old.depth ≤ known_generation (Plan old).rows j) q (high (reads_stands objects faulty s.reads.reads e))) (λ o. h.high (reads_stands objects faulty s.reads.reads e) i o) (steps_to old new s i d));
@@ -159,17 +160,26 @@ module _ {F : Type 0} (objects : F → Objects) (faulty : F → ObjectId → Typ
     same_plan : {old new : Counting F} → IsSamePlan objects faulty old new → Plan new ≡ Plan old
     same_plan s k = record { store = s.find k; rows = rows_of (s.graph k); parents = s.parents k; sorting = sorting; tips = tips; ends = ends }
 
-    explores_counts : {old new : Counting F} → IsSound objects faulty (Plan old) → Told (Plan old) old.frontier → Explores objects faulty old new → HasCounted objects (Plan old) old → HasCounted objects (Plan old) new
+    explores_counts : {old new : Counting F} → IsWalkable objects faulty (Plan old) → Told (Plan old) old.frontier → Explores objects faulty old new → HasCounted objects (Plan old) old → HasCounted objects (Plan old) new
     explores_counts sound counted itself h = h
     explores_counts {old = old} sound counted (further {mid = mid} {new = new} e p s) h =
         let same : Plan mid ≡ Plan old = same_plan (explores_same objects faulty e) in
         let there : Told (Plan old) mid.frontier = explores_keep objects faulty tips ends taken sound.agreeing e counted in
         let before : HasCounted objects (Plan old) mid = explores_counts sound counted e h in
-        subst (λ plan. HasCounted objects plan new) same (steps_counts mid new (subst (IsSound objects faulty) (sym same) sound) (subst (λ plan. Told plan mid.frontier) (sym same) there) p s (subst (λ plan. HasCounted objects plan mid) (sym same) before))
+        subst (λ plan. HasCounted objects plan new) same (steps_counts mid new (subst (IsWalkable objects faulty) (sym same) sound) (subst (λ plan. Told plan mid.frontier) (sym same) there) p s (subst (λ plan. HasCounted objects plan mid) (sym same) before))
+
+    -- what is done after exploring was read
+    pub explores_read : {old new : Counting F} → Explores objects faulty old new → AreRead objects faulty (Plan old) old → AreRead objects faulty (Plan old) new
+    explores_read itself h = λ i d. h i d
+    explores_read {old} (further {mid = mid} {new = new} e p s) h = λ i d.
+        ⊎_elim (λ q. subst (IsReadOnce objects faulty (Plan old) new.reader.standing) q here) (λ o. once_still objects faulty (Plan old) (reads_stands objects faulty s.reads.reads) (explores_read e h i o)) (steps_to mid new s i d)
+      where
+        here : IsReadOnce objects faulty (Plan old) new.reader.standing s.entry.1.id
+        here = subst (λ plan. IsReadOnce objects faulty plan new.reader.standing s.entry.1.id) (same_plan (explores_same objects faulty e)) (record { info = s.reads.info; before = mid.reader.standing; after = new.reader.standing; reads = s.reads.reads; later = λ k. k })
 
     -- after exploring, what is told of the done commits is told of all that is reached down to the depth
-    pub counts_on : (low explored : Counting F) → IsSound objects faulty (Plan low) → Told (Plan low) low.frontier → ((side : Side) → IsBegun tips ends side low.frontier) → HasCounted objects (Plan low) low → Explores objects faulty low explored → IsRested explored.reader.standing explored.depth explored.frontier.queue → HasCounted objects (Plan low) explored × IsCounting objects (Plan low) (counted_by explored)
-    counts_on low explored sound counted begun h e rested = (counts, record { exact = exact; dropped = counts.dropped })
+    pub counts_on : (low explored : Counting F) → IsWalkable objects faulty (Plan low) → Told (Plan low) low.frontier → ((side : Side) → IsBegun tips ends side low.frontier) → HasCounted objects (Plan low) low → AreRead objects faulty (Plan low) low → Explores objects faulty low explored → IsRested explored.reader.standing explored.depth explored.frontier.queue → HasCounted objects (Plan low) explored × IsCounting objects (Plan low) (counted_by explored)
+    counts_on low explored sound counted begun h reads e rested = (counts, record { exact = exact; dropped = counts.dropped; whole = whole })
       where
         counts : HasCounted objects (Plan low) explored
         counts = explores_counts sound counted e h
@@ -185,6 +195,9 @@ module _ {F : Type 0} (objects : F → Objects) (faulty : F → ObjectId → Typ
             let high : low.depth ≤ known_generation (Plan low).rows i = subst (λ n. n ≤ known_generation (Plan low).rows i) (explores_same objects faulty e).depth d.high in
             ⊎_elim (λ a. inl (all Tips i (tips_text (objects low.reader.find) (faulty low.reader.find) (Plan low).rows low.parents tips ends sound.agreeing sound.tips_whole sound.ends_whole i a) high))
             (λ b. inr (all Ends i (ends_text (objects low.reader.find) (faulty low.reader.find) (Plan low).rows low.parents tips ends sound.agreeing sound.tips_whole sound.ends_whole i b) high)) d.reached
+
+        whole : explored.reader.standing ≡ true → IsBrokenRow objects (Plan low) explored.depth → ⊥
+        whole stands b = once_whole objects faulty (Plan low) (explores_read e reads b.id (is_done_there b.id b.in_depth)) stands b.row b.by_row b.corrupt
 
         exact : explored.reader.standing ≡ true → IsNumberOf (IsInDepth objects (Plan low) explored.depth) explored.expanded
         exact stands =

@@ -17,7 +17,7 @@ use Rattle.gix_traverse.specs.History.Commits.{ReadsWhole, time_of, time_in, com
 use Rattle.gix_traverse.specs.History.Reading.{Reads, by_row, by_text, row_ids, is_whole_row, told_generation, time_of_committer}
 use Rattle.gix_traverse.specs.Topo.Inside.Searched.{text_next}
 use Rattle.gix_traverse.specs.Simple.Laws.{IsRowGeneration}
-use Rattle.gix_traverse.specs.Topo.Walk.{TopoPlan, Ready, IsSound, IsStored, named_ids, row_generation, IsFound}
+use Rattle.gix_traverse.specs.Topo.Walk.{TopoPlan, Ready, IsWalkable, IsStored, named_ids, row_generation, IsFound}
 use Rattle.gix_traverse.proofs.Shared.CommitterTime.{TellsTime, tells}
 use Rattle.gix_traverse.proofs.Shared.ReadsWhole.{row_stands, row_says_time}
 use Rattle.gix_traverse.proofs.Topo.Reading.ReadsCommit.{reads_named, reads_text_next, text_whole}
@@ -53,15 +53,15 @@ module _ (objects : Objects) (faulty : ObjectId → Type 0) (rows : List GraphRo
 
 module _ {F : Type 0} (objects : F → Objects) (faulty : F → ObjectId → Type 0) (plan : TopoPlan F) where
   -- beside rows that agree, its parents are those that its text names
-  pub found_text : {standing : Bool} {r : Ready} → IsAgreeing (objects plan.store) (faulty plan.store) plan.rows → IsFound objects faulty plan standing r → r.parents ≡ text_next (objects plan.store) r.id
+  pub found_text : {stood standing : Bool} {r : Ready} → IsAgreeing (objects plan.store) (faulty plan.store) plan.rows → IsFound objects faulty plan stood standing r → r.parents ≡ text_next (objects plan.store) r.id
   found_text agrees f = sym f.is.same_parents ∙ reads_text_next (objects plan.store) (faulty plan.store) plan.rows agrees f.reads
 
   -- rows or texts name its parents
-  pub found_named : {standing : Bool} {r : Ready} → IsFound objects faulty plan standing r → (p : ObjectId) → Contains r.parents p → is_among p (named_ids (objects plan.store) plan.rows) ≡ true
+  pub found_named : {stood standing : Bool} {r : Ready} → IsFound objects faulty plan stood standing r → (p : ObjectId) → Contains r.parents p → is_among p (named_ids (objects plan.store) plan.rows) ≡ true
   found_named f p m = reads_named (objects plan.store) (faulty plan.store) plan.rows f.reads p (subst (λ ids. Contains ids p) (sym f.is.same_parents) m)
 
   -- of a sound walk, it is as the store and the rows say
-  pub found_stored : {standing : Bool} {r : Ready} → IsSound objects faulty plan → IsFound objects faulty plan standing r → ReadsWhole (objects plan.store) (faulty plan.store) r.id → IsStored objects plan standing r
+  pub found_stored : {stood standing : Bool} {r : Ready} → IsWalkable objects faulty plan → IsFound objects faulty plan stood standing r → ReadsWhole (objects plan.store) (faulty plan.store) r.id → IsStored objects plan standing r
   found_stored {r = r} sound f whole = record {
     parents = found_text sound.agreeing f ∙ sym (text_whole (objects plan.store) (faulty plan.store) plan.rows r.id whole);
     time = let same : Some r.time ≡ Some (time_of (objects plan.store) r.id) = sym f.is.same_time ∙ reads_time (objects plan.store) (faulty plan.store) plan.rows sound.agreeing f.reads in cc;

@@ -17,7 +17,7 @@ use Rattle.gix_traverse.specs.History.Agreeing.{IsAgreeing}
 use Rattle.gix_traverse.specs.Topo.Depth.{known_generation, generation_in, infinity}
 use Rattle.gix_traverse.specs.History.Commits.{ReadsWhole, parents_of, commit_at, commit_of_kind, commit_of_object}
 use Rattle.gix_traverse.specs.History.Reading.{Reads, by_row, by_text}
-use Rattle.gix_traverse.specs.Topo.Walk.{text_parents, named_ids}
+use Rattle.gix_traverse.specs.Topo.Walk.{text_parents, text_parents_of_kind, named_ids}
 use Rattle.gix_traverse.specs.Topo.Inside.Searched.{text_next, next_in}
 use Rattle.gix_traverse.proofs.Shared.ReadsWhole.{scan_is, row_stands, row_parents, parent_below}
 use Rattle.gix_traverse.proofs.Shared.Rows.{ids_in_rows, found_entry}
@@ -44,7 +44,7 @@ module _ (objects : Objects) (faulty : ObjectId → Type 0) (rows : List GraphRo
           kinds : (k : Rattle.gix_parts.specs.declared.object.Kind.Kind) → thing.kind ≡ k → parents_of objects i ≡ text_next objects i
           kinds object.Commit q =
               let r : Rattle.gix_parts.specs.CommitText.read_commit (kind_of i) thing.bytes ≡ Some w.commit = sym (ap (λ k. commit_of_kind i k thing.bytes) q) ∙ sym (ap (commit_of_object i) e) ∙ w.stored in
-              ap Rattle.gix_traverse.specs.History.Commits.parents_in w.stored ∙ sym (ap (next_in i) e ∙ ap (λ r. r.0) (scan_is (kind_of i) thing.bytes w.commit r mode.All))
+              ap Rattle.gix_traverse.specs.History.Commits.parents_in w.stored ∙ sym (ap (next_in i) e ∙ ap (λ k. text_parents_of_kind i k thing.bytes) q ∙ ap (λ r. r.0) (scan_is (kind_of i) thing.bytes w.commit r mode.All))
           kinds object.Tree q = let bad : None ≡ Some w.commit = sym (ap (λ k. commit_of_kind i k thing.bytes) q) ∙ sym (ap (commit_of_object i) e) ∙ w.stored in cc
           kinds object.Blob q = let bad : None ≡ Some w.commit = sym (ap (λ k. commit_of_kind i k thing.bytes) q) ∙ sym (ap (commit_of_object i) e) ∙ w.stored in cc
           kinds object.Tag q = let bad : None ≡ Some w.commit = sym (ap (λ k. commit_of_kind i k thing.bytes) q) ∙ sym (ap (commit_of_object i) e) ∙ w.stored in cc

@@ -23,7 +23,8 @@ use Rattle.gix_traverse.specs.Orders.WalkSet.{IsReady}
 use Rattle.gix_traverse.specs.Orders.TopoOrder.{Keeps, last_places, IsMadeReady}
 use Rattle.gix_traverse.specs.Simple.Walk.{IsInfo}
 use Rattle.gix_traverse.specs.Simple.Laws.{Becomes, itself, further, AnswersBy}
-use Rattle.gix_traverse.specs.Topo.Walk.{TopoPlan, TopoWalk, Ready, Counted, ready_ids, IsTaken, HoldsReady, Chooses, walked_of, IsMember, IsStored, IsSound, IsFault, StartsWith, IsStarted, Takes, after, Next, ended, given, refused, failed, May}
+use Rattle.gix_traverse.proofs.Topo.Taking.ReadFaults.{walkable}
+use Rattle.gix_traverse.specs.Topo.Walk.{TopoPlan, TopoWalk, Ready, Counted, ready_ids, IsTaken, HoldsReady, Chooses, walked_of, IsMember, IsStored, IsSound, IsWalkable, IsFault, StartsWith, IsStarted, Takes, after, Next, ended, given, refused, failed, May}
 use Rattle.gix_traverse.specs.Topo.Laws.{IsSorted, IsGiven, GivesInOrder, IsWholeRun}
 use Rattle.gix_parts.proofs.Ids.Membership.{id_total, same_is, same_from, among-append, among-one, among_from, among_is, Contains-here, Contains-there, Contains-cons_cases, no_member}
 use Rattle.gix_traverse.proofs.Shared.NewIds.{times, times-append, times_moved, times_is_among, among_times}
@@ -121,12 +122,12 @@ module _ {F P : Type 0} (objects : F → Objects) (faulty : F → ObjectId → T
     shows : {w : TopoWalk F P} {c : Ready} {counted : Counted} {ready : List Ready} {predicate : P} {info : Info} {ids : List ObjectId} {list : List (Result Info Error)} → Takes objects faulty answers w c counted ready → accepts c.id ≡ true → IsInfo info c.id c.parents c.generation (Some c.time) → Draws (after objects faulty answers w c counted ready predicate) ids list → Draws w (c.id ∷ ids) (Ok info ∷ list)
     hides : {w : TopoWalk F P} {c : Ready} {counted : Counted} {ready : List Ready} {predicate : P} {ids : List ObjectId} {list : List (Result Info Error)} → Takes objects faulty answers w c counted ready → accepts c.id ≡ false → Draws (after objects faulty answers w c counted ready predicate) ids list → Draws w (c.id ∷ ids) list
 
-  sound_fault : (plan : TopoPlan F) (e : Error) → IsSound objects faulty plan → IsFault objects faulty plan e → e ≡ error.Memory
-  sound_fault plan error.MissingIndegreeUnexpected s f = absurd (f s.agreeing)
-  sound_fault plan error.MissingStateUnexpected s f = absurd f
-  sound_fault plan (error.Find e) s f = absurd (f.2.1 s)
-  sound_fault plan (error.ObjectDecode e) s f = absurd (f.2.1 s)
-  sound_fault plan error.Memory s f = refl
+  sound_fault : (plan : TopoPlan F) (Q : ObjectId → Type 0) (e : Error) → IsSound objects faulty plan → IsFault objects faulty plan Q e → e ≡ error.Memory
+  sound_fault plan Q error.MissingIndegreeUnexpected s f = absurd (f s.agreeing)
+  sound_fault plan Q error.MissingStateUnexpected s f = absurd f
+  sound_fault plan Q (error.Find e) s f = absurd (f.2.1 s)
+  sound_fault plan Q (error.ObjectDecode e) s f = absurd (f.2.1 s)
+  sound_fault plan Q error.Memory s f = refl
 
   no_answer : {w new : TopoWalk F P} {o : Option (Result Info Error)} → Next objects faulty answers w o new → o ≡ None → AnswersBy answers w.predicate accepts → (ids : List ObjectId) × Draws w ids []
   no_answer (ended e) n by = ([], stops e)
@@ -147,7 +148,7 @@ module _ {F P : Type 0} (objects : F → Objects) (faulty : F → ObjectId → T
       let r : (ids : List ObjectId) × Draws (after objects faulty answers w c _ _ q) ids (answer ∷ list) = one_answer next answer list n ok s (answers_on answers accepts w.predicate q c.id false a by) rest in
       (c.id ∷ r.0, hides t (sym (by w.predicate q c.id false itself a)) r.1)
   one_answer (failed {old = w} c others {e = e} ch f l) answer list n ok s by rest =
-      let m : e ≡ error.Memory = sound_fault w.plan e s f in
+      let m : e ≡ error.Memory = sound_fault w.plan _ e s f in
       absurd (ok (let k : Err e ≡ answer = cc in sym k ∙ ap Err m))
 
   all_drawn : (list : List (Result Info Error)) (w : TopoWalk F P) → IsSound objects faulty w.plan → AnswersBy answers w.predicate accepts → All (λ answer. answer ≢ Err error.Memory) list → May objects faulty answers w list → (ids : List ObjectId) × Draws w ids list
@@ -159,13 +160,13 @@ module _ {F P : Type 0} (objects : F → Objects) (faulty : F → ObjectId → T
   stored_still : (plan : TopoPlan F) (s t : Bool) (r : Ready) → (t ≡ true → s ≡ true) → IsStored objects plan s r → IsStored objects plan t r
   stored_still plan s t r f h = record { parents = h.parents; time = h.time; by_row = h.by_row; told = λ e. h.told (f e) }
 
-  -- the invariant of a sound walk
+  -- the invariant, where all that is walked reads whole
   pub record Stands (w : TopoWalk F P) (done : List ObjectId) : Type 0 where
     pub taken : (i : ObjectId) → set.contains w.taken i ≡ is_among i done
     pub ready : AreReady (walked_of objects w.plan) (IsMember objects w.plan) (Contains done) (ready_ids w.ready)
     pub stored : (r : Ready) → Contains w.ready r → IsStored objects w.plan w.counted.standing r
 
-  module _ (w : TopoWalk F P) (done : List ObjectId) (sound : IsSound objects faulty w.plan) (c : Ready) (counted : Counted) (ready : List Ready) (t : Takes objects faulty answers w c counted ready) (h : Stands w done) where
+  module _ (w : TopoWalk F P) (done : List ObjectId) (sound : IsWalkable objects faulty w.plan) (c : Ready) (counted : Counted) (ready : List Ready) (t : Takes objects faulty answers w c counted ready) (h : Stands w done) where
     taken_now : (i : ObjectId) → set.contains (set.insert w.taken c.id) i ≡ is_among i (done ++ c.id ∷ [])
     taken_now i = set.contains-insert id_total w.taken c.id i ∙ turned (is_same i c.id) (set.contains w.taken i) ∙ ap (λ b. b || is_same i c.id) (h.taken i) ∙ sym (among-append i done (c.id ∷ []) ∙ ap (λ b. is_among i done || b) (among-one i c.id))
       where
@@ -195,7 +196,7 @@ module _ {F P : Type 0} (objects : F → Objects) (faulty : F → ObjectId → T
     }
 
   -- what is given
-  draws_given : {w : TopoWalk F P} {ids : List ObjectId} {list : List (Result Info Error)} → Draws w ids list → (done : List ObjectId) → IsSound objects faulty w.plan → Stands w done → AllZip (IsGiven objects w.plan) list (filter accepts ids)
+  draws_given : {w : TopoWalk F P} {ids : List ObjectId} {list : List (Result Info Error)} → Draws w ids list → (done : List ObjectId) → IsWalkable objects faulty w.plan → Stands w done → AllZip (IsGiven objects w.plan) list (filter accepts ids)
   draws_given (stops e) done s h = tt
   draws_given (shows {w = w} {c = c} {counted = counted} {ready = ready} {predicate = q} {info = info} {ids = ids} {list = list} t a is d) done s h =
       let r : IsStored objects w.plan w.counted.standing c = h.stored c (chosen_in w.plan.sorting w.ready c t.others t.chosen) in
@@ -227,7 +228,7 @@ module _ {F P : Type 0} (objects : F → Objects) (faulty : F → ObjectId → T
             (Contains-cons_cases k.0 c others (Contains-permutation w.ready (c ∷ others) k.0 ch.0 k.1));
       }
 
-  draws_date : {w : TopoWalk F P} {ids : List ObjectId} {list : List (Result Info Error)} → Draws w ids list → (done : List ObjectId) → IsSound objects faulty w.plan → Stands w done → w.plan.sorting ≡ order.DateOrder → TurnsFrom (IsBestNext w.plan) done ids
+  draws_date : {w : TopoWalk F P} {ids : List ObjectId} {list : List (Result Info Error)} → Draws w ids list → (done : List ObjectId) → IsWalkable objects faulty w.plan → Stands w done → w.plan.sorting ≡ order.DateOrder → TurnsFrom (IsBestNext w.plan) done ids
   draws_date (stops {w = w} e) done s h o = turn_none (IsBestNext w.plan) done (none_best w done h e)
   draws_date (shows {w = w} {c = c} {counted = counted} {ready = ready} {predicate = q} {ids = ids} t a is d) done s h o =
       turn_more (IsBestNext w.plan) done ids c.id (best_next w done h c t.others (subst (λ x. Chooses x w.ready c t.others) o t.chosen)) (draws_date d (done ++ c.id ∷ []) s (stands_on w done s c counted ready t h q) o)
@@ -256,7 +257,7 @@ module _ {F P : Type 0} (objects : F → Objects) (faulty : F → ObjectId → T
     last_next : IsLastNext w.plan done (Some c.id)
     last_next = (h.made, h.is_made, sym (found_first (λ i. not (is_among i done)) (reverse h.made) c.id (reverse (ready_ids others)) (filter-reverse _ h.made ∙ ap reverse stack_is ∙ reverse-append (ready_ids others) (c.id ∷ []))))
 
-  stacks_on : (w : TopoWalk F P) (done : List ObjectId) (sound : IsSound objects faulty w.plan) (c : Ready) (counted : Counted) (ready : List Ready) (t : Takes objects faulty answers w c counted ready) → Stands w done → Stacks w done → w.plan.sorting ≡ order.TopoOrder → (predicate : P) → Stacks (after objects faulty answers w c counted ready predicate) (done ++ c.id ∷ [])
+  stacks_on : (w : TopoWalk F P) (done : List ObjectId) (sound : IsWalkable objects faulty w.plan) (c : Ready) (counted : Counted) (ready : List Ready) (t : Takes objects faulty answers w c counted ready) → Stands w done → Stacks w done → w.plan.sorting ≡ order.TopoOrder → (predicate : P) → Stacks (after objects faulty answers w c counted ready predicate) (done ++ c.id ∷ [])
   stacks_on w done sound c counted ready t st h o predicate =
       record {
         made = h.made ++ ready_ids t.added;
@@ -310,7 +311,7 @@ module _ {F P : Type 0} (objects : F → Objects) (faulty : F → ObjectId → T
           both true b = refl
           both false b = refl
 
-  draws_topo : {w : TopoWalk F P} {ids : List ObjectId} {list : List (Result Info Error)} → Draws w ids list → (done : List ObjectId) → IsSound objects faulty w.plan → Stands w done → Stacks w done → w.plan.sorting ≡ order.TopoOrder → TurnsFrom (IsLastNext w.plan) done ids
+  draws_topo : {w : TopoWalk F P} {ids : List ObjectId} {list : List (Result Info Error)} → Draws w ids list → (done : List ObjectId) → IsWalkable objects faulty w.plan → Stands w done → Stacks w done → w.plan.sorting ≡ order.TopoOrder → TurnsFrom (IsLastNext w.plan) done ids
   draws_topo (stops {w = w} e) done s h k o = turn_none (IsLastNext w.plan) done (none_last w done k e)
   draws_topo (shows {w = w} {c = c} {counted = counted} {ready = ready} {predicate = q} {ids = ids} t a is d) done s h k o =
       turn_more (IsLastNext w.plan) done ids c.id (last_next w done c t.others k (subst (λ x. Chooses x w.ready c t.others) o t.chosen)) (draws_topo d (done ++ c.id ∷ []) s (stands_on w done s c counted ready t h q) (stacks_on w done s c counted ready t h k o q) o)
@@ -318,7 +319,7 @@ module _ {F P : Type 0} (objects : F → Objects) (faulty : F → ObjectId → T
       turn_more (IsLastNext w.plan) done ids c.id (last_next w done c t.others k (subst (λ x. Chooses x w.ready c t.others) o t.chosen)) (draws_topo d (done ++ c.id ∷ []) s (stands_on w done s c counted ready t h q) (stacks_on w done s c counted ready t h k o q) o)
 
   -- a walk that was built
-  pub starts_stands : (w : TopoWalk F P) → IsSound objects faulty w.plan → IsStarted objects faulty answers w → Stands w []
+  pub starts_stands : (w : TopoWalk F P) → IsWalkable objects faulty w.plan → IsStarted objects faulty answers w → Stands w []
   starts_stands w sound h =
       let st : StartsWith objects faulty answers w.plan w.ready = h.starts sound in
       record {
@@ -329,13 +330,13 @@ module _ {F P : Type 0} (objects : F → Objects) (faulty : F → ObjectId → T
         stored = h.stored sound;
       }
 
-  starts_stacks : (w : TopoWalk F P) → IsSound objects faulty w.plan → IsStarted objects faulty answers w → w.plan.sorting ≡ order.TopoOrder → Stacks w []
+  starts_stacks : (w : TopoWalk F P) → IsWalkable objects faulty w.plan → IsStarted objects faulty answers w → w.plan.sorting ≡ order.TopoOrder → Stacks w []
   starts_stacks w sound h o =
       let st : StartsWith objects faulty answers w.plan w.ready = h.starts sound in
       let held : w.ready ≡ st.starts = subst (λ x. HoldsReady x st.starts w.ready) o st.holds in
       record { made = ready_ids st.starts; is_made = (st.childless, st.kept, st.sorted); left = ap ready_ids held ∙ sym (filter_all (λ i. not false) (ready_ids st.starts) (λ i c. refl)) }
 
-  in_order : (w : TopoWalk F P) (ids : List ObjectId) (list : List (Result Info Error)) → Draws w ids list → IsSound objects faulty w.plan → IsStarted objects faulty answers w → (s : Sorting) → w.plan.sorting ≡ s → IsSorted s (time_of (objects w.plan.store)) (walked_of objects w.plan) (IsMember objects w.plan) w.plan.tips ids
+  in_order : (w : TopoWalk F P) (ids : List ObjectId) (list : List (Result Info Error)) → Draws w ids list → IsWalkable objects faulty w.plan → IsStarted objects faulty answers w → (s : Sorting) → w.plan.sorting ≡ s → IsSorted s (time_of (objects w.plan.store)) (walked_of objects w.plan) (IsMember objects w.plan) w.plan.tips ids
   in_order w ids list d sound st order.DateOrder e = draws_date d [] sound (starts_stands w sound st) e
   in_order w ids list d sound st order.TopoOrder e = draws_topo d [] sound (starts_stands w sound st) (starts_stacks w sound st e) e
 
@@ -343,4 +344,4 @@ module _ {F P : Type 0} (objects : F → Objects) (faulty : F → ObjectId → T
   pub gives : (w : TopoWalk F P) (list : List (Result Info Error)) → IsWholeRun objects faulty answers w accepts list → GivesInOrder objects w.plan accepts list
   gives w list run =
       let d : (ids : List ObjectId) × Draws w ids list = all_drawn list w run.sound run.by_test run.unrefused run.drawn in
-      record { ids = d.0; in_order = in_order w d.0 list d.1 run.sound run.started w.plan.sorting refl; given = draws_given d.1 [] run.sound (starts_stands w run.sound run.started) }
+      record { ids = d.0; in_order = in_order w d.0 list d.1 (walkable objects faulty w.plan run.sound) run.started w.plan.sorting refl; given = draws_given d.1 [] (walkable objects faulty w.plan run.sound) (starts_stands w (walkable objects faulty w.plan run.sound) run.started) }

@@ -1,5 +1,5 @@
 -- What the tips that become ready at first do, told of all of them.
-use Rattle.std.specs.Prelude.{◌≡◌, ◌≤◌, ℕ, List, [], ◌∷◌, ◌++◌, Bool, true, false, ◌||◌, cond, Ok, Contains}
+use Rattle.std.specs.Prelude.{◌≡◌, ◌≤◌, ℕ, List, [], ◌∷◌, ◌++◌, Bool, true, false, ◌||◌, cond, Contains}
 use Rattle.std.proofs.Common.{refl, sym, ap, subst, ⊎_elim, ◌∙◌, arith}
 use Rattle.std.proofs.lemmas.Bool.{true≢false, or_right, or_left, or_cases}
 use Rattle.gix_parts.specs.declared.hash.ObjectId.{ObjectId}
@@ -12,12 +12,14 @@ use Rattle.gix_traverse.specs.declared.commit.topo.frontier.Side.TheVariants.{En
 use Rattle.gix_traverse.specs.declared.commit.topo.frontier.Frontier.{Frontier}
 use Rattle.gix_traverse.specs.declared.commit.topo.walk.Walk.{Walk}
 use Rattle.gix_traverse.specs.Topo.Inside.Frontier.{is_seen, known_of, reached}
-use Rattle.gix_traverse.specs.History.Reading.{Reads, is_whole_row}
+use Rattle.gix_traverse.specs.History.Reading.{is_whole_row}
 use Rattle.gix_traverse.specs.Topo.Inside.Releasing.{plan_of}
 use Rattle.gix_traverse.specs.Topo.Inside.Starting.{Starts, waits, frees, StartsAll, none, more}
 use Rattle.gix_traverse.specs.Orders.TopoOrder.{Keeps, none as keeps_none, kept, passed, distinct_after}
+use Rattle.gix_traverse.specs.Topo.Inside.Steady.{AreRead}
 use Rattle.gix_traverse.specs.Topo.Walk.{Ready, ready_ids, IsFound}
 use Rattle.gix_traverse.proofs.Shared.NewIds.{times, among_times}
+use Rattle.gix_traverse.proofs.Topo.Reading.OnceRead.{all_still, found_later, found_pushed}
 use Rattle.gix_traverse.proofs.Topo.Counting.Frontier.{has_seen}
 use Rattle.gix_traverse.proofs.Topo.Ready.IsReady.{keeps_in, first_once}
 use Rattle.gix_traverse.proofs.Topo.Taking.AllReleases.{keeps_on, ids-append, Contains-append_cases, from_ids, reads_stands, reads_drops, makes_known, makes_moved, due_parts, due_from, with_plan}
@@ -68,7 +70,7 @@ module _ {F : Type 0} (objects : F → Objects) (faulty : F → ObjectId → Typ
     pub made : (j : ObjectId) → made_of new.counting.frontier j ≡ (is_among j (ready_ids added) || made_of old.counting.frontier j)
     pub stands : new.counting.reader.standing ≡ true → old.counting.reader.standing ≡ true
     pub among : (r : Ready) → Contains added r → Contains ids r.id
-    pub each : (r : Ready) → Contains added r → IsFound objects faulty (plan_of old) new.counting.reader.standing r
+    pub each : AreRead objects faulty (plan_of old) old.counting → (r : Ready) → Contains added r → IsFound objects faulty (plan_of old) old.counting.reader.standing new.counting.reader.standing r
     pub dropped : old.counting.reader.standing ≡ true → new.counting.reader.standing ≡ false → (i : ObjectId) × Contains ids i × (is_whole_row (plan_of old).rows (row_of (plan_of old).rows i) ≡ false)
     -- each at its first place, but for those behind ids that aren't due
     pub due : (seen : List ObjectId) → ((j : ObjectId) → is_among j seen ≡ true → IsTipDue old.counting.frontier j → ⊥) → Keeps (IsTipDue old.counting.frontier) (distinct_after seen ids) (ready_ids added)
@@ -85,12 +87,12 @@ module _ {F : Type 0} (objects : F → Objects) (faulty : F → ObjectId → Typ
     made = λ j. refl;
     stands = λ e. e;
     among = λ r m. absurd (no_member r m);
-    each = λ r m. absurd (no_member r m);
+    each = λ h r m. absurd (no_member r m);
     dropped = λ a b. absurd (true≢false (sym a ∙ b));
     due = h;
   }
 
-  started_one : {old : Walk F} {i : ObjectId} {first : List Ready} {new : Walk F} → Starts objects faulty old i first new → AreStarted old (i ∷ []) first new
+  pub started_one : {old : Walk F} {i : ObjectId} {first : List Ready} {new : Walk F} → Starts objects faulty old i first new → AreStarted old (i ∷ []) first new
   started_one {old} {i} (waits d) = started_none old (i ∷ []) (λ seen h. go seen (is_among i seen))
     where
       not_due : IsTipDue old.counting.frontier i → ⊥
@@ -110,7 +112,7 @@ module _ {F : Type 0} (objects : F → Objects) (faulty : F → ObjectId → Typ
     made = λ j. (makes_known objects faulty old.counting.frontier new.counting.frontier i p.made j).1 ∙ ap (λ b. b || made_of old.counting.frontier j) (ap (is_same j) (sym p.id) ∙ sym (among-one j r.id));
     stands = λ e. reads_stands objects faulty p.reads e;
     among = λ x m. ⊎_elim (λ s. subst (λ j. Contains (i ∷ []) j) (sym p.id ∙ ap (λ y. y.id) s) (Contains-here i [])) (λ t. absurd (no_member x t)) (Contains-cons_cases x r [] m);
-    each = λ x m. ⊎_elim (λ s. subst (IsFound objects faulty (plan_of old) new.counting.reader.standing) s (record { info = p.info; before = old.counting.reader.standing; after = new.counting.reader.standing; reads = subst (λ j. Reads (objects old.counting.reader.find) (faulty old.counting.reader.find) (plan_of old).rows old.counting.reader.standing j (Ok p.info) new.counting.reader.standing) (sym p.id) p.reads; is = p.is; later = λ e. e })) (λ t. absurd (no_member x t)) (Contains-cons_cases x r [] m);
+    each = λ h x m. ⊎_elim (λ s. subst (IsFound objects faulty (plan_of old) old.counting.reader.standing new.counting.reader.standing) s (found_pushed objects faulty old old.counting i r new (λ s j. refl) h p)) (λ t. absurd (no_member x t)) (Contains-cons_cases x r [] m);
     dropped = λ a b. (i, Contains-here i [], reads_drops objects faulty p.reads a b);
     due = λ seen h. go seen (is_among i seen) refl h;
   }
@@ -134,11 +136,14 @@ module _ {F : Type 0} (objects : F → Objects) (faulty : F → ObjectId → Typ
     made = λ j. b.made j ∙ ap (λ x. is_among j (ready_ids others) || x) (a.made j) ∙ joined (is_among j (ready_ids others)) (is_among j (ready_ids first)) (made_of old.counting.frontier j) ∙ ap (λ x. x || made_of old.counting.frontier j) (sym (ap (is_among j) (ids-append first others) ∙ among-append j (ready_ids first) (ready_ids others)));
     stands = λ e. a.stands (b.stands e);
     among = λ r m. ⊎_elim (λ l. here r.id (a.among r l)) (λ t. Contains-there r.id i ids (b.among r t)) (Contains-append_cases r first others m);
-    each = λ r m. ⊎_elim (λ l. let h : IsFound objects faulty (plan_of old) mid.counting.reader.standing r = a.each r l in record { info = h.info; before = h.before; after = h.after; reads = h.reads; is = h.is; later = λ e. h.later (b.stands e) }) (λ t. with_plan objects faulty (plan_of old) (plan_of mid) new.counting.reader.standing r a.plan (b.each r t)) (Contains-append_cases r first others m);
+    each = λ h r m. ⊎_elim (λ l. found_later objects faulty (plan_of old) (λ e. e) b.stands (a.each h r l)) (λ t. found_later objects faulty (plan_of old) a.stands (λ e. e) (with_plan objects faulty (plan_of old) (plan_of mid) mid.counting.reader.standing new.counting.reader.standing r a.plan (b.each (read_mid h) r t))) (Contains-append_cases r first others m);
     dropped = λ e d. drops mid.counting.reader.standing refl e d;
     due = λ seen h. due seen h;
   }
     where
+      read_mid : AreRead objects faulty (plan_of old) old.counting → AreRead objects faulty (plan_of mid) mid.counting
+      read_mid h = subst (λ p. AreRead objects faulty p mid.counting) (sym a.plan) (all_still objects faulty (plan_of old) old.counting mid.counting a.moved a.stands h)
+
       joined : (x y z : Bool) → (x || (y || z)) ≡ ((y || x) || z)
       joined true true z = refl
       joined true false z = refl

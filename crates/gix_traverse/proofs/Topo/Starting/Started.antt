@@ -25,8 +25,8 @@ use Rattle.gix_traverse.specs.Topo.Inside.Searched.{IsCounted, IsSearched, next_
 use Rattle.gix_traverse.specs.Simple.Laws.{AreDistinct}
 use Rattle.gix_traverse.specs.Topo.Inside.Starting.{HasBegun, IsBegunWalk, by_rising_time}
 use Rattle.gix_traverse.specs.Orders.TopoOrder.{Keeps, first_places}
-use Rattle.gix_traverse.specs.Topo.Inside.Steady.{IsDone, IsTallied, IsSteady, HasCounted, IsHeld, unasked, unasked_of}
-use Rattle.gix_traverse.specs.Topo.Walk.{TopoPlan, Ready, ready_ids, first_depth, HoldsReady, IsNumberOf, IsInDepth, IsBrokenRow, IsCounting, IsSound, IsStored, IsMember, IsStarted, StartsWith, walked_of, IsFound}
+use Rattle.gix_traverse.specs.Topo.Inside.Steady.{IsDone, AreRead, IsTallied, IsSteady, HasCounted, IsHeld, unasked, unasked_of}
+use Rattle.gix_traverse.specs.Topo.Walk.{TopoPlan, Ready, ready_ids, first_depth, HoldsReady, IsNumberOf, IsInDepth, IsBrokenRow, IsCounting, IsWalkable, IsStored, IsMember, IsStarted, StartsWith, walked_of, IsFound}
 use Rattle.gix_traverse.specs.Orders.WalkSet.{IsChildless}
 use Rattle.gix_traverse.proofs.Topo.Taking.BecomeReady.{none_left, outside, unseen, all_taken}
 use Rattle.gix_traverse.proofs.Topo.Counting.Expanded.{number_same, broken}
@@ -38,6 +38,7 @@ use Rattle.gix_traverse.proofs.Topo.Ready.RisingTime.{by_time_moves, in_by_time,
 use Rattle.gix_traverse.proofs.Topo.Counting.BothSearches.{searched_same}
 use Rattle.gix_traverse.proofs.Topo.Starting.AllTips.{IsTipDue, AreStarted, started, first_from}
 use Rattle.gix_traverse.proofs.Topo.Reading.FoundIsStored.{found_stored}
+use Rattle.gix_traverse.proofs.Topo.Reading.OnceRead.{all_still, found_later}
 use Rattle.gix_traverse.proofs.Topo.Counting.Children.{children_of, made_of, tally_same}
 use Rattle.gix_traverse.proofs.Topo.Run.Theorem.{holds_in, holds_times, times-permutation}
 
@@ -127,8 +128,11 @@ module _ {F : Type 0} (objects : F → Objects) (faulty : F → ObjectId → Typ
   is_tip : (i : ObjectId) → Contains (ready_ids (ready_in w.ready)) i → Contains p.tips i
   is_tip i m = first_from [] p.tips i (keeps_from (IsTipDue old.frontier) kept i (start_of i m)).0
 
-  found : (r : Ready) → Contains (ready_in w.ready) r → IsFound objects faulty p new.reader.standing r
-  found r m = subst (λ c. IsFound objects faulty p c.reader.standing r) (sym h.counting) (subst (λ q. IsFound objects faulty q h.mid.counting.reader.standing r) first_plan (all.each r (in_starts r m)))
+  first_read : AreRead objects faulty (plan_of h.first) h.first.counting
+  first_read = subst (λ q. AreRead objects faulty q old) (sym first_plan) begun.all_read
+
+  found : (r : Ready) → Contains (ready_in w.ready) r → IsFound objects faulty p true new.reader.standing r
+  found r m = subst (λ c. IsFound objects faulty p true c.reader.standing r) (sym h.counting) (found_later objects faulty p (λ e. refl) (λ e. e) (subst (λ q. IsFound objects faulty q old.reader.standing h.mid.counting.reader.standing r) first_plan (all.each first_read r (in_starts r m))))
 
   made_is : (i : ObjectId) → made_of new.frontier i ≡ is_among i (ready_ids h.starts)
   made_is i = ap (λ c. made_of c.frontier i) h.counting ∙ all.made i ∙ ap (λ b. is_among i (ready_ids h.starts) || b) (begun.unmade i) ∙ or_false (is_among i (ready_ids h.starts))
@@ -154,7 +158,7 @@ module _ {F : Type 0} (objects : F → Objects) (faulty : F → ObjectId → Typ
       done = λ r m. let tip : Contains p.tips r.id = all.among r (in_starts r m) in ap is_done (moved Tips r.id) ∙ begun.explored agrees Tips r.id (start tip) (tip_high r.id tip);
     }
 
-  module _ (sound : IsSound objects faulty p) where
+  module _ (sound : IsWalkable objects faulty p) where
     counted : IsCounted (objects p.store) p.rows p.parents p.tips p.ends (set.contains w.taken) old.frontier
     counted = before sound.agreeing
 
@@ -181,7 +185,7 @@ module _ {F : Type 0} (objects : F → Objects) (faulty : F → ObjectId → Typ
     stored r m = found_stored objects faulty p sound (found r m) (sound.tips_whole r.id (start (all.among r (in_starts r m))))
 
     start_time : (r : Ready) → Contains h.starts r → r.time ≡ time_of (objects p.store) r.id
-    start_time r m = (found_stored objects faulty p sound (subst (λ q. IsFound objects faulty q h.mid.counting.reader.standing r) first_plan (all.each r m)) (sound.tips_whole r.id (start (all.among r m)))).time
+    start_time r m = (found_stored objects faulty p sound (subst (λ q. IsFound objects faulty q old.reader.standing h.mid.counting.reader.standing r) first_plan (all.each first_read r m)) (sound.tips_whole r.id (start (all.among r m)))).time
 
     starts : StartsWith objects faulty (unasked objects faulty) p (ready_in w.ready)
     starts = record {
@@ -213,6 +217,7 @@ module _ {F : Type 0} (objects : F → Objects) (faulty : F → ObjectId → Typ
     counting = let c : IsCounting objects p (counted_by old) = begun.counting sound in record {
       exact = λ e. subst (λ d. IsNumberOf (IsInDepth objects p d) new.expanded) (sym same_depth) (subst (λ n. IsNumberOf (IsInDepth objects p old.depth) n) (sym same_expanded) (c.exact (stands e)));
       dropped = λ e. broken_row e c.dropped;
+      whole = λ e b. c.whole (stands e) (subst (IsBrokenRow objects p) same_depth b);
     }
 
     made_childless : (i : ObjectId) → made_of new.frontier i ≡ true → IsChildless (walked_of objects p) Member i
@@ -245,6 +250,7 @@ module _ {F : Type 0} (objects : F → Objects) (faulty : F → ObjectId → Typ
     tallied = tallied;
     steady = steady;
     counts = counts;
+    all_read = all_still objects faulty p old new moved stands begun.all_read;
     idle = λ e. same_queue ∙ begun.idle e;
     read = begun.read;
   }

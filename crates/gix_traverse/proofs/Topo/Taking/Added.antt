@@ -20,8 +20,8 @@ use Rattle.gix_traverse.specs.Topo.Inside.ReadySet.{ready_in, sorting_of}
 use Rattle.gix_traverse.specs.Topo.Inside.Releasing.{plan_of, counted_by, lowered, with_taken, TakesOne}
 use Rattle.gix_traverse.specs.Topo.Inside.Searched.{IsCounted, IsExplored, IsTally, next_by}
 use Rattle.gix_traverse.specs.Orders.TopoOrder.{Keeps, last_places}
-use Rattle.gix_traverse.specs.Topo.Inside.Steady.{IsSteady, IsHeld, unasked, unasked_of}
-use Rattle.gix_traverse.specs.Topo.Walk.{Ready, ready_ids, walked_of, Chooses, IsMember, IsStored, IsCounting, IsSound, IsTaken, Adds, IsFound}
+use Rattle.gix_traverse.specs.Topo.Inside.Steady.{AreRead, IsSteady, IsHeld, unasked, unasked_of}
+use Rattle.gix_traverse.specs.Topo.Walk.{Ready, ready_ids, walked_of, Chooses, IsMember, IsStored, IsCounting, IsWalkable, IsTaken, Adds, IsFound}
 use Rattle.gix_traverse.specs.Orders.WalkSet.{IsChild, IsReady}
 use Rattle.gix_traverse.specs.History.Reach.{Reaches, step}
 use Rattle.gix_traverse.proofs.Topo.Taking.BecomeReady.{none_left, outside, unseen, all_taken}
@@ -32,6 +32,8 @@ use Rattle.gix_traverse.proofs.Topo.Ready.IsReady.{keeps_from, keeps_times, last
 use Rattle.gix_traverse.proofs.Topo.Taking.AllReleases.{keeps_on, IsDue, IsReleased, reads_stands, released}
 use Rattle.gix_traverse.proofs.Topo.Counting.Rest.{least_within}
 use Rattle.gix_traverse.proofs.Topo.Counting.Children.{children_of, made_of}
+use Rattle.gix_traverse.proofs.Topo.Counting.Expanded.{explores_read}
+use Rattle.gix_traverse.proofs.Topo.Reading.OnceRead.{all_still, found_later}
 use Rattle.gix_traverse.proofs.Topo.Reading.FoundIsStored.{found_named, found_stored}
 use Rattle.gix_traverse.proofs.Topo.Reading.ReadsCommit.{text_whole}
 use Rattle.gix_traverse.proofs.Topo.Taking.Setting.{was_ready, plan_taken, was_untaken, named_text, counted_on, explored_on, tally_on}
@@ -78,10 +80,6 @@ module _ {F : Type 0} (objects : F → Objects) (faulty : F → ObjectId → Typ
   plan_between : plan_of between ≡ plan_of w
   plan_between = plan_taken objects faulty w rest r chosen same t.explored kept_plan
 
-  -- an added commit was read over the same store and rows
-  pub found_added : (a : Ready) → Contains added a → IsFound objects faulty (plan_of w) new.counting.reader.standing a
-  found_added a m = subst (λ plan. IsFound objects faulty plan new.counting.reader.standing a) plan_between (rel.each a m)
-
   -- dropped rows don't come back
   pub stands_before : new.counting.reader.standing ≡ true → w.counting.reader.standing ≡ true
   stands_before e = explores_stands objects faulty t.explores (rel.stands e)
@@ -94,7 +92,19 @@ module _ {F : Type 0} (objects : F → Objects) (faulty : F → ObjectId → Typ
   added_named i m = last_from named i (keeps_from (IsDue objects faulty between new) due i m).0
 
   module _ (held : IsHeld objects faulty w) where
-    found : IsFound objects faulty (plan_of w) w.counting.reader.standing r
+    -- all that is done after exploring was read
+    pub read_between : AreRead objects faulty (plan_of between) t.explored
+    read_between = subst (λ plan. AreRead objects faulty plan t.explored) (sym plan_between) (explores_read objects faulty (sorting_of w.ready) w.tips.items w.ends.items (set.contains w.taken) t.explores held.all_read)
+
+    -- an added commit was read over the same store and rows
+    pub found_added : (a : Ready) → Contains added a → IsFound objects faulty (plan_of w) w.counting.reader.standing new.counting.reader.standing a
+    found_added a m = found_later objects faulty (plan_of w) (explores_stands objects faulty t.explores) (λ e. e) (subst (λ plan. IsFound objects faulty plan t.explored.reader.standing new.counting.reader.standing a) plan_between (rel.each read_between a m))
+
+    -- and so is what is done after that
+    pub read_after : AreRead objects faulty (plan_of w) new.counting
+    read_after = all_still objects faulty (plan_of w) t.explored new.counting rel.moved rel.stands (subst (λ plan. AreRead objects faulty plan t.explored) plan_between read_between)
+
+    found : IsFound objects faulty (plan_of w) true w.counting.reader.standing r
     found = held.found r (was_ready objects faulty w rest r chosen)
 
     among_ready : is_among r.id (ready_ids (ready_in w.ready)) ≡ true
@@ -103,7 +113,7 @@ module _ {F : Type 0} (objects : F → Objects) (faulty : F → ObjectId → Typ
     made_before : (p : ObjectId) → made_of t.explored.frontier p ≡ (set.contains w.taken p || is_among p (ready_ids (ready_in w.ready)))
     made_before p = explores_made objects faulty t.explores p ∙ held.made p
 
-    module _ (sound : IsSound objects faulty (plan_of w)) where
+    module _ (sound : IsWalkable objects faulty (plan_of w)) where
       steady : IsSteady objects w
       steady = held.steady sound
 
@@ -169,7 +179,7 @@ module _ {F : Type 0} (objects : F → Objects) (faulty : F → ObjectId → Typ
       stored a m = found_stored objects faulty (plan_of w) sound (found_added a m) (sound.tips_whole a.id (reached_named a.id (added_named a.id (in_ids added a m))))
 
     -- what is added to a walk that may go on
-    pub adds_on : (IsSound objects faulty (plan_of w) → IsCounting objects (plan_of w) (counted_by new.counting)) → Adds objects faulty (unasked objects faulty) (unasked_of objects faulty w) r (counted_by new.counting) added
+    pub adds_on : (IsWalkable objects faulty (plan_of w) → IsCounting objects (plan_of w) (counted_by new.counting)) → Adds objects faulty (unasked objects faulty) (unasked_of objects faulty w) r (counted_by new.counting) added
     adds_on counting = record {
       distinct = times_once (ready_ids added) (λ i. let a : times i (ready_ids added) ≤ times i (last_places named) = keeps_times (IsDue objects faulty between new) due i in let b : times i (last_places named) ≤ 1 = last_once named i in omega arith);
       unmade = λ i m. sym (made_before i) ∙ (keeps_from (IsDue objects faulty between new) due i m).1.unmade;

@@ -22,7 +22,9 @@ use Rattle.gix_traverse.specs.Topo.Inside.ReadySet.{ready_in, sorting_of}
 use Rattle.gix_traverse.specs.Topo.Inside.Releasing.{plan_of, with_frontier, Releases, waits, frees, ReleasesAll, none, more}
 use Rattle.gix_traverse.specs.Topo.Inside.Searched.{times}
 use Rattle.gix_traverse.specs.Orders.TopoOrder.{Keeps, none as keeps_none, kept, passed}
+use Rattle.gix_traverse.specs.Topo.Inside.Steady.{AreRead}
 use Rattle.gix_traverse.specs.Topo.Walk.{TopoPlan, Ready, ready_ids, HoldsReady, IsFound}
+use Rattle.gix_traverse.proofs.Topo.Reading.OnceRead.{all_still, found_later, found_pushed}
 use Rattle.gix_traverse.proofs.Topo.Counting.Frontier.{known-insert, unmoved, reached-insert, has_seen}
 use Rattle.gix_traverse.proofs.Topo.Counting.Children.{children_of, made_of}
 use Rattle.gix_traverse.proofs.Shared.NewIds.{among_times}
@@ -77,7 +79,7 @@ module _ {F : Type 0} (objects : F → Objects) (faulty : F → ObjectId → Typ
     pub holds : HoldsReady (sorting_of old.ready) (ready_in old.ready ++ added) (ready_in new.ready)
     pub stands : new.counting.reader.standing ≡ true → old.counting.reader.standing ≡ true
     pub among : (r : Ready) → Contains added r → Contains ids r.id
-    pub each : (r : Ready) → Contains added r → IsFound objects faulty (plan_of old) new.counting.reader.standing r
+    pub each : AreRead objects faulty (plan_of old) old.counting → (r : Ready) → Contains added r → IsFound objects faulty (plan_of old) old.counting.reader.standing new.counting.reader.standing r
     pub dropped : old.counting.reader.standing ≡ true → new.counting.reader.standing ≡ false → (i : ObjectId) × Contains ids i × (is_whole_row (plan_of old).rows (row_of (plan_of old).rows i) ≡ false)
     pub due : ((j : ObjectId) → times j ids ≤ 1) → Keeps (IsDue old new) ids (ready_ids added)
 
@@ -103,14 +105,14 @@ module _ {F : Type 0} (objects : F → Objects) (faulty : F → ObjectId → Typ
       go true s = let e : children_of f p ≡ n + 1 = ap (λ j. children_of f j) (same_is p i s) ∙ c in omega arith
       go false s = omega arith
 
-  uncounted_made : (f g : Frontier) (i : ObjectId) (n : ℕ) → (known_of f.known i).children ≡ n + 1 → Uncounts f i g → (p : ObjectId) → made_of g p ≡ made_of f p
+  pub uncounted_made : (f g : Frontier) (i : ObjectId) (n : ℕ) → (known_of f.known i).children ≡ n + 1 → Uncounts f i g → (p : ObjectId) → made_of g p ≡ made_of f p
   uncounted_made f g i n c u p = ap (λ k. (known_of k p).made) (u.known n c) ∙ ap (λ k. k.made) (known-insert f.known i (record (known_of f.known i) { children = n }) p) ∙ go (is_same p i) refl
     where
       go : (b : Bool) → is_same p i ≡ b → (cond b (record (known_of f.known i) { children = n }) (known_of f.known p)).made ≡ made_of f p
       go true s = ap (λ j. made_of f j) (sym (same_is p i s))
       go false s = refl
 
-  uncounted_moved : (f g : Frontier) (i : ObjectId) (n : ℕ) → (known_of f.known i).children ≡ n + 1 → Uncounts f i g → (s : Side) (p : ObjectId) → reached g.known s p ≡ reached f.known s p
+  pub uncounted_moved : (f g : Frontier) (i : ObjectId) (n : ℕ) → (known_of f.known i).children ≡ n + 1 → Uncounts f i g → (s : Side) (p : ObjectId) → reached g.known s p ≡ reached f.known s p
   uncounted_moved f g i n c u s p = ap (λ k. reached k s p) (u.known n c) ∙ unmoved f.known i n s p
 
   -- what making an id ready changes
@@ -152,8 +154,8 @@ module _ {F : Type 0} (objects : F → Objects) (faulty : F → ObjectId → Typ
   due_from n k a b c = ap (λ m. ((m == 0) && not k.made) && not (is_seen k.ends)) a ∙ ap (λ x. (true && not x) && not (is_seen k.ends)) c ∙ ap (λ x. true && not x) b
 
   -- found alike over an equal plan
-  pub with_plan : (plan other : TopoPlan F) (standing : Bool) (r : Ready) → other ≡ plan → IsFound objects faulty other standing r → IsFound objects faulty plan standing r
-  with_plan plan other standing r e h = subst (λ p. IsFound objects faulty p standing r) e h
+  pub with_plan : (plan other : TopoPlan F) (stood standing : Bool) (r : Ready) → other ≡ plan → IsFound objects faulty other stood standing r → IsFound objects faulty plan stood standing r
+  with_plan plan other stood standing r e h = subst (λ p. IsFound objects faulty p stood standing r) e h
 
   released_one : {old : Walk F} {i : ObjectId} {first : List Ready} {new : Walk F} → Releases objects faulty old i first new → IsReleased old (i ∷ []) first new
   released_one {old} {i} (waits {f = f} n c u d) = record {
@@ -168,7 +170,7 @@ module _ {F : Type 0} (objects : F → Objects) (faulty : F → ObjectId → Typ
     holds = holds_none (sorting_of old.ready) (ready_in old.ready);
     stands = λ e. e;
     among = λ r m. absurd (no_member r m);
-    each = λ r m. absurd (no_member r m);
+    each = λ h r m. absurd (no_member r m);
     dropped = λ a b. absurd (true≢false (sym a ∙ b));
     due = λ h. passed (λ q. not_due q) keeps_none;
   }
@@ -189,7 +191,7 @@ module _ {F : Type 0} (objects : F → Objects) (faulty : F → ObjectId → Typ
     holds = p.holds;
     stands = λ e. reads_stands p.reads e;
     among = λ x m. ⊎_elim (λ s. subst (λ j. Contains (i ∷ []) j) (sym p.id ∙ ap (λ y. y.id) s) (Contains-here i [])) (λ t. absurd (no_member x t)) (Contains-cons_cases x r [] m);
-    each = λ x m. ⊎_elim (λ s. subst (IsFound objects faulty (plan_of old) new.counting.reader.standing) s (record { info = p.info; before = old.counting.reader.standing; after = new.counting.reader.standing; reads = subst (λ j. Reads (objects old.counting.reader.find) (faulty old.counting.reader.find) (plan_of old).rows old.counting.reader.standing j (Ok p.info) new.counting.reader.standing) (sym p.id) p.reads; is = p.is; later = λ e. e })) (λ t. absurd (no_member x t)) (Contains-cons_cases x r [] m);
+    each = λ h x m. ⊎_elim (λ s. subst (IsFound objects faulty (plan_of old) old.counting.reader.standing new.counting.reader.standing) s (found_pushed objects faulty (with_frontier objects faulty old f) old.counting i r new (uncounted_moved old.counting.frontier f i n c u) h p)) (λ t. absurd (no_member x t)) (Contains-cons_cases x r [] m);
     dropped = λ a b. (i, Contains-here i [], reads_drops p.reads a b);
     due = λ h. subst (λ j. Keeps (IsDue old new) (i ∷ []) (j ∷ [])) (sym p.id) (kept is_due_now keeps_none);
   }
@@ -217,11 +219,14 @@ module _ {F : Type 0} (objects : F → Objects) (faulty : F → ObjectId → Typ
     holds = holds_on (sorting_of old.ready) (ready_in old.ready) first (ready_in mid.ready) others (ready_in new.ready) a.holds (subst (λ s. HoldsReady s (ready_in mid.ready ++ others) (ready_in new.ready)) (ap (λ p. p.sorting) a.plan) b.holds);
     stands = λ e. a.stands (b.stands e);
     among = λ r m. ⊎_elim (λ l. ⊎_elim (λ s. subst (λ j. Contains (i ∷ ids) j) s (Contains-here i ids)) (λ t. absurd (no_member r.id t)) (Contains-cons_cases r.id i [] (a.among r l))) (λ t. Contains-there r.id i ids (b.among r t)) (Contains-append_cases r first others m);
-    each = λ r m. ⊎_elim (λ l. let h : IsFound objects faulty (plan_of old) mid.counting.reader.standing r = a.each r l in record { info = h.info; before = h.before; after = h.after; reads = h.reads; is = h.is; later = λ e. h.later (b.stands e) }) (λ t. with_plan (plan_of old) (plan_of mid) new.counting.reader.standing r a.plan (b.each r t)) (Contains-append_cases r first others m);
+    each = λ h r m. ⊎_elim (λ l. found_later objects faulty (plan_of old) (λ e. e) b.stands (a.each h r l)) (λ t. found_later objects faulty (plan_of old) a.stands (λ e. e) (with_plan (plan_of old) (plan_of mid) mid.counting.reader.standing new.counting.reader.standing r a.plan (b.each (read_mid h) r t))) (Contains-append_cases r first others m);
     dropped = λ e d. go mid.counting.reader.standing refl e d;
     due = λ h. due h;
   }
     where
+      read_mid : AreRead objects faulty (plan_of old) old.counting → AreRead objects faulty (plan_of mid) mid.counting
+      read_mid h = subst (λ p. AreRead objects faulty p mid.counting) (sym a.plan) (all_still objects faulty (plan_of old) old.counting mid.counting a.moved a.stands h)
+
       joined : (x y z : Bool) → (x || (y || z)) ≡ ((y || x) || z)
       joined true true z = refl
       joined true false z = refl
@@ -288,7 +293,7 @@ module _ {F : Type 0} (objects : F → Objects) (faulty : F → ObjectId → Typ
     holds = holds_none (sorting_of old.ready) (ready_in old.ready);
     stands = λ e. e;
     among = λ r m. absurd (no_member r m);
-    each = λ r m. absurd (no_member r m);
+    each = λ h r m. absurd (no_member r m);
     dropped = λ a b. absurd (true≢false (sym a ∙ b));
     due = λ h. keeps_none;
   }

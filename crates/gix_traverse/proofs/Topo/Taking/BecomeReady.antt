@@ -28,6 +28,26 @@ done_seen Unseen e = cc
 done_seen Queued e = refl
 done_seen Done e = refl
 
+-- as far as texts tell, after exploring
+module _ (objects : Objects) (faulty : ObjectId → Type 0) (rows : List GraphRow) (parents : Parents) (tips ends : List ObjectId) (agrees : IsAgreeing objects faulty rows) (f : Frontier) (depth : ℕ) (explored : (side : Side) → IsExplored objects rows parents tips ends depth side f) where
+  -- no child is left that wasn't taken
+  pub text_left : (taken : ObjectId → Bool) (children : ObjectId → ℕ) → IsTally (next_by objects parents Tips) (λ i. is_done (reached f.known Tips i)) taken children → (p : ObjectId) → children p ≡ 0 → depth ≤ known_generation rows p → (d : ObjectId) → Reaches (next_by objects parents Tips) tips d → Contains (next_by objects parents Tips d) p → taken d ≡ true
+  text_left taken children tally p z high d reach text = go (taken d) refl
+    where
+      lower : known_generation rows p ≤ known_generation rows d
+      lower = parents_lower objects faulty rows agrees d p (walked_within parents (text_next objects d) p text)
+
+      done : is_done (reached f.known Tips d) ≡ true
+      done = explored Tips d reach (let l : known_generation rows p ≤ known_generation rows d = lower in omega arith)
+
+      go : (b : Bool) → taken d ≡ b → b ≡ true
+      go true e = refl
+      go false e = let n : 1 ≤ children p = tally_counts (next_by objects parents Tips) (λ i. is_done (reached f.known Tips i)) taken children tally p d done e (among_from p (next_by objects parents Tips d) text) in absurd (omega arith)
+
+  -- what ends reach was seen by their side
+  pub text_outside : (p : ObjectId) → is_seen (reached f.known Ends p) ≡ false → depth ≤ known_generation rows p → Reaches (next_by objects parents Ends) ends p → ⊥
+  text_outside p e high r = true≢false (sym (done_seen (reached f.known Ends p) (explored Ends p r high)) ∙ e)
+
 module _ (objects : Objects) (faulty : ObjectId → Type 0) (rows : List GraphRow) (parents : Parents) (tips ends : List ObjectId) where
   abbrev walked : ObjectId → List ObjectId
   walked = walked_parents objects parents
@@ -62,24 +82,11 @@ module _ (objects : Objects) (faulty : ObjectId → Type 0) (rows : List GraphRo
 
       -- no child is left that wasn't taken
       pub none_left : (p : ObjectId) → children p ≡ 0 → depth ≤ known_generation rows p → (d : ObjectId) → IsChild walked In d p → taken d ≡ true
-      none_left p z high d c = go (taken d) refl
-        where
-          text : Contains (next_by objects parents Tips d) p
-          text = named_text d p c.child.reached c.named
-
-          lower : known_generation rows p ≤ known_generation rows d
-          lower = parents_lower objects faulty rows agrees d p (walked_within parents (text_next objects d) p text)
-
-          done : is_done (reached f.known Tips d) ≡ true
-          done = explored Tips d (tips_text d c.child.reached) (let l : known_generation rows p ≤ known_generation rows d = lower in omega arith)
-
-          go : (b : Bool) → taken d ≡ b → b ≡ true
-          go true e = refl
-          go false e = let n : 1 ≤ children p = tally_counts (next_by objects parents Tips) (λ i. is_done (reached f.known Tips i)) taken children tally p d done e (among_from p (next_by objects parents Tips d) text) in absurd (omega arith)
+      none_left p z high d c = text_left objects faulty rows parents tips ends agrees f depth explored taken children tally p z high d (tips_text d c.child.reached) (named_text d p c.child.reached c.named)
 
       -- what ends reach was seen by their side
       pub outside : (p : ObjectId) → is_seen (reached f.known Ends p) ≡ false → depth ≤ known_generation rows p → Reaches (parents_of objects) ends p → ⊥
-      outside p e high r = true≢false (sym (done_seen (reached f.known Ends p) (explored Ends p (ends_text p r) high)) ∙ e)
+      outside p e high r = text_outside objects faulty rows parents tips ends agrees f depth explored p e high (ends_text p r)
 
       pub unseen : (p : ObjectId) → In p → is_seen (reached f.known Ends p) ≡ false
       unseen p m = go (is_seen (reached f.known Ends p)) refl

@@ -18,7 +18,7 @@ use Rattle.gix_traverse.specs.Topo.Inside.ReadySet.{ready_in, sorting_of}
 use Rattle.gix_traverse.specs.Topo.Inside.Releasing.{plan_of, counted_by, lowered, with_taken, TakesOne}
 use Rattle.gix_traverse.specs.Orders.TopoOrder.{last_places}
 use Rattle.gix_traverse.specs.Topo.Inside.Steady.{IsDone, IsTallied, HasCounted, IsHeld}
-use Rattle.gix_traverse.specs.Topo.Walk.{TopoPlan, Ready, walked_of, Chooses, IsInDepth, IsBrokenRow, IsNumberOf, IsCounting, IsSound}
+use Rattle.gix_traverse.specs.Topo.Walk.{TopoPlan, Ready, walked_of, Chooses, IsInDepth, IsBrokenRow, IsNumberOf, IsCounting, IsWalkable}
 use Rattle.gix_traverse.proofs.Topo.Taking.BecomeReady.{text_tips}
 use Rattle.gix_traverse.proofs.Topo.Counting.ExploreKeeps.{explores_same}
 use Rattle.gix_traverse.proofs.Topo.Counting.Expanded.{number_same, broken, counts_on}
@@ -45,7 +45,7 @@ module _ {F : Type 0} (objects : F → Objects) (faulty : F → ObjectId → Typ
     dropped = λ e. broken_lower objects plan new.depth old.depth l (h.dropped (sym (ap (λ x. x.standing) s) ∙ e));
   }
 
-  module _ (w : Walk F) (rest : ReadySet) (same : sorting_of rest ≡ sorting_of w.ready) (r : Ready) (chosen : Chooses (sorting_of w.ready) (ready_in w.ready) r (ready_in rest)) (added : List Ready) (new : Walk F) (t : TakesOne objects faulty (record w { ready = rest }) r added new) (held : IsHeld objects faulty w) (sound : IsSound objects faulty (plan_of w)) where
+  module _ (w : Walk F) (rest : ReadySet) (same : sorting_of rest ≡ sorting_of w.ready) (r : Ready) (chosen : Chooses (sorting_of w.ready) (ready_in w.ready) r (ready_in rest)) (added : List Ready) (new : Walk F) (t : TakesOne objects faulty (record w { ready = rest }) r added new) (held : IsHeld objects faulty w) (sound : IsWalkable objects faulty (plan_of w)) where
     abbrev low : Counting F
     low = lowered objects faulty (record w { ready = rest }) r
 
@@ -62,7 +62,7 @@ module _ {F : Type 0} (objects : F → Objects) (faulty : F → ObjectId → Typ
     low_counts = counts_lower (plan_of w) w.counting low refl refl refl (least_below (plan_of w).rows w.counting.depth named) (held.counts sound)
 
     explored_counts : HasCounted objects (plan_of w) t.explored × IsCounting objects (plan_of w) (counted_by t.explored)
-    explored_counts = counts_on objects faulty (sorting_of w.ready) w.tips.items w.ends.items (set.contains w.taken) low t.explored sound tallied.counted tallied.begun low_counts t.explores t.rested
+    explored_counts = counts_on objects faulty (sorting_of w.ready) w.tips.items w.ends.items (set.contains w.taken) low t.explored sound tallied.counted tallied.begun low_counts held.all_read t.explores t.rested
 
     named_reached : (i : ObjectId) → Contains named i → Reaches (walked_of objects (plan_of w)) (plan_of w).tips i
     named_reached i m =
@@ -96,5 +96,6 @@ module _ {F : Type 0} (objects : F → Objects) (faulty : F → ObjectId → Typ
       record {
         exact = λ e. subst (λ d. IsNumberOf (IsInDepth objects (plan_of w) d) new.counting.expanded) (sym rel.depth) (subst (IsNumberOf (IsInDepth objects (plan_of w) t.explored.depth)) (sym rel.expanded) (explored_counts.1.exact (rel.stands e)));
         dropped = taken_counts.dropped;
+        whole = λ e b. explored_counts.1.whole (rel.stands e) (subst (IsBrokenRow objects (plan_of w)) rel.depth b);
       },
     )

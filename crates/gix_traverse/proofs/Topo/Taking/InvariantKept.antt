@@ -19,8 +19,8 @@ use Rattle.gix_traverse.specs.Topo.Inside.ReadySet.{ready_in, sorting_of}
 use Rattle.gix_traverse.specs.Topo.Inside.Releasing.{plan_of, counted_by, lowered, with_taken, TakesOne}
 use Rattle.gix_traverse.specs.Topo.Inside.Searched.{IsCounted, IsExplored, IsTally, next_by, starts_by, IsBegun}
 use Rattle.gix_traverse.specs.Orders.TopoOrder.{last_places}
-use Rattle.gix_traverse.specs.Topo.Inside.Steady.{IsTallied, IsSteady, HasCounted, IsHeld, unasked, unasked_of, TakesReady}
-use Rattle.gix_traverse.specs.Topo.Walk.{Ready, ready_ids, walked_of, IsMember, IsSound, IsTaken, IsCommitRead, HoldsReady, Chooses, Adds, IsReached, IsFound}
+use Rattle.gix_traverse.specs.Topo.Inside.Steady.{AreRead, IsTallied, IsSteady, HasCounted, IsHeld, unasked, unasked_of, TakesReady}
+use Rattle.gix_traverse.specs.Topo.Walk.{Ready, ready_ids, walked_of, IsMember, IsWalkable, IsTaken, IsCommitRead, HoldsReady, Chooses, Adds, IsReached, IsFound}
 use Rattle.gix_traverse.specs.Orders.WalkSet.{IsChild, IsReady}
 use Rattle.gix_traverse.proofs.Topo.Counting.ExploreKeeps.{explores_made, explores_same, explores_still, explores_done, explores_idle}
 use Rattle.gix_traverse.proofs.Shared.NewIds.{times, times_none, among_times, times_once}
@@ -29,6 +29,8 @@ use Rattle.gix_traverse.proofs.Topo.Taking.AllReleases.{ids-append, Contains-app
 use Rattle.gix_traverse.proofs.Topo.Counting.Rest.{least_within}
 use Rattle.gix_traverse.proofs.Topo.Counting.Children.{children_of, made_of, tally_same}
 use Rattle.gix_traverse.proofs.Topo.Run.Theorem.{chosen_times, others_in, holds_in, holds_times, joined_times}
+use Rattle.gix_traverse.proofs.Topo.Reading.OnceRead.{found_later}
+use Rattle.gix_traverse.proofs.Topo.Taking.Added.{read_after}
 use Rattle.gix_traverse.proofs.Topo.Taking.Setting.{was_ready, plan_taken, named_text, counted_on, explored_on, tally_on}
 
 turned : (a t s o : Bool) → (a || (t || (s || o))) ≡ ((s || t) || (o || a))
@@ -147,7 +149,7 @@ module _ {F : Type 0} (objects : F → Objects) (faulty : F → ObjectId → Typ
         done = done_now;
       }
 
-    module _ (has : IsSound objects faulty (plan_of w) → HasCounted objects (plan_of w) new.counting) (adds : Adds objects faulty (unasked objects faulty) (unasked_of objects faulty w) r (counted_by new.counting) added) where
+    module _ (has : IsWalkable objects faulty (plan_of w) → HasCounted objects (plan_of w) new.counting) (adds : Adds objects faulty (unasked objects faulty) (unasked_of objects faulty w) r (counted_by new.counting) added) where
       fresh : (i : ObjectId) → is_among i (ready_ids added) ≡ true → (set.contains w.taken i ≡ false) × (is_among i (ready_ids (ready_in w.ready)) ≡ false)
       fresh i e = or_parts (set.contains w.taken i) (is_among i (ready_ids (ready_in w.ready))) (adds.unmade i (among_is i (ready_ids added) e))
 
@@ -187,16 +189,14 @@ module _ {F : Type 0} (objects : F → Objects) (faulty : F → ObjectId → Typ
           of_rest : is_among i (ready_ids (ready_in rest)) ≡ true → (is_same i r.id || set.contains w.taken i) ≡ false
           of_rest e = ap (λ b. b || set.contains w.taken i) (other (is_same i r.id) refl e) ∙ held.untaken i (among_is i (ready_ids (ready_in w.ready)) (was_among i ∙ or_right (is_same i r.id) _ e))
 
-      found_now : (q : Ready) → Contains (ready_in new.ready) q → IsFound objects faulty (plan_of new) new.counting.reader.standing q
-      found_now q m = ready_cases (IsFound objects faulty (plan_of new) new.counting.reader.standing q) q of_rest (λ a. subst (λ p. IsFound objects faulty p new.counting.reader.standing q) (sym rel.plan) (rel.each q a)) m
+      found_now : (q : Ready) → Contains (ready_in new.ready) q → IsFound objects faulty (plan_of new) true new.counting.reader.standing q
+      found_now q m = ready_cases (IsFound objects faulty (plan_of new) true new.counting.reader.standing q) q of_rest (λ a. subst (λ p. IsFound objects faulty p true new.counting.reader.standing q) (sym plan_is) (found_later objects faulty (plan_of w) (λ e. refl) (λ e. e) (adds.found q a))) m
         where
-          of_rest : Contains (ready_in rest) q → IsFound objects faulty (plan_of new) new.counting.reader.standing q
-          of_rest o =
-              let h : IsFound objects faulty (plan_of w) w.counting.reader.standing q = held.found q (others_ready q o) in
-              subst (λ p. IsFound objects faulty p new.counting.reader.standing q) (sym plan_is) (record { info = h.info; before = h.before; after = h.after; reads = h.reads; is = h.is; later = λ e. h.later (adds.stands e) })
+          of_rest : Contains (ready_in rest) q → IsFound objects faulty (plan_of new) true new.counting.reader.standing q
+          of_rest o = subst (λ p. IsFound objects faulty p true new.counting.reader.standing q) (sym plan_is) (found_later objects faulty (plan_of w) (λ e. e) adds.stands (held.found q (others_ready q o)))
 
-      -- beside a sound history
-      module _ (sound : IsSound objects faulty (plan_of w)) where
+      -- where all that is walked reads whole
+      module _ (sound : IsWalkable objects faulty (plan_of w)) where
         steady : IsSteady objects w
         steady = held.steady sound
 
@@ -225,8 +225,9 @@ module _ {F : Type 0} (objects : F → Objects) (faulty : F → ObjectId → Typ
         untaken = λ i m. untaken_now i (among_from i (ready_ids (ready_in new.ready)) m);
         found = found_now;
         tallied = λ a. tallied_now (subst (λ p. IsAgreeing (objects p.store) (faulty p.store) p.rows) plan_is a);
-        steady = λ s. steady_now (subst (IsSound objects faulty) plan_is s);
-        counts = λ s. subst (λ p. HasCounted objects p new.counting) (sym plan_is) (has (subst (IsSound objects faulty) plan_is s));
+        steady = λ s. steady_now (subst (IsWalkable objects faulty) plan_is s);
+        counts = λ s. subst (λ p. HasCounted objects p new.counting) (sym plan_is) (has (subst (IsWalkable objects faulty) plan_is s));
+        all_read = subst (λ p. AreRead objects faulty p new.counting) (sym plan_is) (read_after objects faulty w rest same r chosen added new t held);
         idle = λ e. rel.queue ∙ explores_idle objects faulty t.explores (held.idle (sym (ap (λ p. p.rows) plan_is) ∙ e));
         read = λ e i h. subst (λ p. IsCommitRead (objects p.store) i) (sym plan_is) (held.read (sym (ap (λ p. p.rows) plan_is) ∙ e) i (subst (λ p. IsReached objects p i) plan_is h));
       }

@@ -1,8 +1,8 @@
 -- How a commit becomes ready.
-use Rattle.std.specs.Prelude.{◌≡◌, ◌<◌, ℕ, zero, suc, ℤ, pos, List, [], ◌∷◌, Bool, Option, Some, None, Ok, Contains, length}
-use Rattle.std.proofs.Common.{sym, ap, subst, ◌∙◌, arith, get_or}
+use Rattle.std.specs.Prelude.{◌≡◌, ◌⊎◌, ◌<◌, ℕ, take, zero, suc, ℤ, pos, List, [], ◌∷◌, Bool, Option, Some, None, Ok, Contains, length}
+use Rattle.std.proofs.Common.{sym, ap, subst, inl, inr, ⊎_elim, ◌∙◌, arith, get_or}
 use Rattle.std.specs.Option.{unwrap_or}
-use Rattle.gix_parts.proofs.Ids.Membership.{Contains-here, Contains-there}
+use Rattle.gix_parts.proofs.Ids.Membership.{Contains-here, Contains-there, Contains-cons_cases, no_member}
 use Rattle.gix_parts.specs.declared.hash.ObjectId.{ObjectId}
 use Rattle.gix_parts.specs.Object.{Objects}
 use Rattle.gix_parts.specs.Rows.{GraphRow}
@@ -13,12 +13,13 @@ use Rattle.gix_traverse.specs.History.Reading.{rows_of, Reads, by_row, by_text, 
 use Rattle.std.specs.FinSet as set
 use Rattle.gix_parts.specs.Id.{id_cmp}
 use Rattle.gix_traverse.specs.declared.commit.topo.counting.Counting.{Counting}
+use Rattle.gix_traverse.specs.declared.commit.topo.frontier.Frontier.{Frontier}
 use Rattle.gix_traverse.specs.Topo.Depth.{least}
 use Rattle.gix_traverse.specs.Topo.Inside.Exploring.{Explores, IsRested, IsExploringFault}
 use Rattle.gix_traverse.specs.History.Commits.{by_mode}
 use Rattle.gix_traverse.specs.Orders.TopoOrder.{last_places}
 use Rattle.gix_traverse.specs.Topo.Walk.{Ready}
-use Rattle.gix_traverse.specs.Topo.Inside.Releasing.{IsPushFault, parent, lowered, with_taken, TakesOne, IsTakingFault, exploring, releasing, ReleasesAll, IsFaultAmong}
+use Rattle.gix_traverse.specs.Topo.Inside.Releasing.{Knows, IsPushFault, parent, lowered, with_taken, TakesOne, IsTakingFault, exploring, releasing, ReleasesAll, IsFaultAmong}
 
 -- what is read has the id that was asked for, and a time
 pub record IsTimedInfo (i : ObjectId) (info : Info) (time : ℤ) : Type 0 where
@@ -51,6 +52,21 @@ at_index {X} xs ys k d e l = subst (λ zs. Contains zs (get_or ys k d)) e (at ys
     at [] k l = absurd (omega arith)
     at (z ∷ zs) zero l = Contains-here z zs
     at (z ∷ zs) (suc k) l = Contains-there (get_or zs k d) z zs (at zs k (omega arith))
+
+-- one item more of a list
+pub take_more : {X : Type 0} (xs : List X) (k j : ℕ) (d x : X) → j ≡ suc k → k < length xs → Contains (take j xs) x → Contains (take k xs) x ⊎ (get_or xs k d ≡ x)
+take_more {X} xs k j d x e l m = go xs k l (subst (λ n. Contains (take n xs) x) e m)
+  where
+    go : (zs : List X) (n : ℕ) → n < length zs → Contains (take (suc n) zs) x → Contains (take n zs) x ⊎ (get_or zs n d ≡ x)
+    go [] n l m = absurd (omega arith)
+    go (z ∷ zs) zero l m = ⊎_elim (λ s. inr s) (λ t. absurd (no_member x t)) (Contains-cons_cases x z [] m)
+    go (z ∷ zs) (suc n) l m =
+        ⊎_elim (λ s. inl (subst (λ y. Contains (z ∷ take n zs) y) s (Contains-here z (take n zs)))) (λ t. ⊎_elim (λ h. inl (Contains-there x z (take n zs) h)) (λ h. inr h) (go zs n (omega arith) t))
+        (Contains-cons_cases x z (take (suc n) zs) m)
+
+-- known alike over an equal store, rows and searches
+pub knows_by : {F : Type 0} (objects : F → Objects) {find other : F} {graph rest : Option (List GraphRow)} {standing now : Bool} {f g : Frontier} → find ≡ other → graph ≡ rest → standing ≡ now → f ≡ g → (p : ObjectId) → Knows (objects find) (rows_of graph) standing f p → Knows (objects other) (rows_of rest) now g p
+knows_by objects a b c d p h = subst (λ x. x) (λ k. Knows (objects (a k)) (rows_of (b k)) (c k) (d k) p) h
 
 pub time_told : (o : Option ℤ) (d r : ℤ) → o ≡ Some (or_zero o) → r ≡ unwrap_or o d → Some (or_zero o) ≡ Some r
 time_told None d r e u = cc

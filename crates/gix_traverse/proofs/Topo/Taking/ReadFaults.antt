@@ -1,5 +1,5 @@
 -- When a topological walk fails.
-use Rattle.std.specs.Prelude.{◌≡◌, ◌≤◌, ℕ, List, [], ◌∷◌, Bool, true, ◌&&◌, cond, Some, None, Result, Ok, Err, Contains}
+use Rattle.std.specs.Prelude.{◌≡◌, ◌≤◌, ℕ, List, [], ◌∷◌, ◌++◌, Bool, true, false, ◌&&◌, cond, Some, None, Result, Ok, Err, Contains}
 use Rattle.std.proofs.Common.{refl, sym, ap, subst, ⊎_elim, ◌∙◌, arith, inl, inr}
 use Rattle.gix_parts.specs.declared.hash.ObjectId.{ObjectId}
 use Rattle.gix_parts.specs.declared.object.Kind.TheVariants as object
@@ -25,15 +25,23 @@ use Rattle.gix_traverse.specs.declared.commit.topo.frontier.Waiting.{Waiting}
 use Rattle.gix_traverse.specs.declared.commit.topo.walk.Walk.{Walk}
 use Rattle.gix_traverse.specs.History.Agreeing.{IsAgreeing}
 use Rattle.gix_traverse.specs.Topo.Inside.Exploring.{IsExploringFault}
-use Rattle.gix_traverse.specs.Topo.Inside.Frontier.{is_side, is_seen, is_queued, reached, waiting}
+use Rattle.gix_traverse.specs.Topo.Inside.Frontier.{is_side, is_seen, is_queued, known_of, reached, waiting}
 use Rattle.gix_traverse.specs.History.Commits.{ReadsWhole, parents_of, commit_of_object}
 use Rattle.gix_traverse.specs.History.Reach.{Reaches, start}
 use Rattle.gix_traverse.specs.History.Reading.{rows_of, IsReadFault}
 use Rattle.gix_traverse.specs.Topo.Inside.Releasing.{plan_by, plan_of, IsPushFault, itself, parent}
 use Rattle.gix_traverse.specs.Topo.Inside.Searched.{IsCounted, next_by, starts_by}
-use Rattle.gix_traverse.specs.Topo.Inside.Starting.{Starts, waits, frees, IsStartFault, here, later, short}
-use Rattle.gix_traverse.specs.Topo.Walk.{TopoPlan, walked_of, IsSound, IsFault, IsReached, IsLookedUp}
-use Rattle.gix_traverse.proofs.Topo.Taking.BecomeReady.{text_tips, text_ends}
+use Rattle.gix_traverse.specs.Topo.Inside.Starting.{HasBegun, IsStartFault, here, later, short}
+use Rattle.gix_traverse.specs.Topo.Depth.{infinity, known_generation}
+use Rattle.gix_traverse.specs.Topo.Walk.{TopoPlan, walked_of, IsSound, IsWalkable, IsFirstReady, IsFault, IsBuildFault, IsReached, IsLookedUp}
+use Rattle.std.proofs.lemmas.Bool.{true≢false}
+use Rattle.std.proofs.lemmas.List.Elements.{Contains-append_left}
+use Rattle.gix_traverse.proofs.Topo.Counting.Children.{children_of, made_of}
+use Rattle.gix_traverse.proofs.Topo.Counting.Frontier.{has_seen}
+use Rattle.gix_traverse.proofs.Topo.Counting.Rest.{least_within}
+use Rattle.gix_traverse.proofs.Topo.Starting.AllTips.{AreStarted, started_one}
+use Rattle.gix_traverse.proofs.Topo.Taking.AllReleases.{due_parts}
+use Rattle.gix_traverse.proofs.Topo.Taking.BecomeReady.{text_tips, text_ends, text_left, text_outside}
 use Rattle.gix_traverse.proofs.Shared.Committer.{fault_unread}
 use Rattle.gix_traverse.proofs.Topo.Counting.ExploreKeeps.{explores_keep, explores_same}
 use Rattle.gix_traverse.proofs.Topo.Reading.ReadsCommit.{text_whole, reads_text_next}
@@ -63,7 +71,11 @@ waits_seen Queued n e l = refl
 waits_seen Done n e l = refl
 
 module _ {F : Type 0} (objects : F → Objects) (faulty : F → ObjectId → Type 0) (plan : TopoPlan F) where
-  -- what is reached reads whole in a sound history
+  -- where all that may be looked up reads whole, all that is walked does
+  pub walkable : IsSound objects faulty plan → IsWalkable objects faulty plan
+  walkable s = record { agreeing = s.agreeing; tips_whole = s.tips_whole; ends_whole = s.ends_whole }
+
+  -- what is reached reads whole then
   pub reached_whole : IsSound objects faulty plan → (side : Side) (i : ObjectId) → Reaches (next_by (objects plan.store) plan.parents side) (starts_by plan.tips plan.ends side) i → ReadsWhole (objects plan.store) (faulty plan.store) i
   reached_whole s Tips i r = s.tips_whole i (text_tips (objects plan.store) (faulty plan.store) plan.rows plan.parents plan.tips plan.ends s.agreeing s.tips_whole s.ends_whole i r)
   reached_whole s Ends i r = s.ends_whole i (text_ends (objects plan.store) (faulty plan.store) plan.rows plan.parents plan.tips plan.ends s.agreeing s.tips_whole s.ends_whole i r)
@@ -80,20 +92,20 @@ module _ {F : Type 0} (objects : F → Objects) (faulty : F → ObjectId → Typ
   reached_by Ends i r = inr r
 
   -- a commit that is looked up beside rows that agree, and reads whole in a sound history, can't be read
-  pub read_fault : (i : ObjectId) (e : Error) → (IsAgreeing (objects plan.store) (faulty plan.store) plan.rows → IsLookedUp objects plan i) → (IsSound objects faulty plan → ReadsWhole (objects plan.store) (faulty plan.store) i) → IsReadFault (objects plan.store) (faulty plan.store) i e → IsFault objects faulty plan e
-  read_fault i error.MissingIndegreeUnexpected a w f = absurd f
-  read_fault i error.MissingStateUnexpected a w f = absurd f
-  read_fault i (error.Find e) a w f = (i, f, (a, λ s. unfound i e f (w s)))
-  read_fault i (error.ObjectDecode e) a w f = (i, (f.0, f.1, fault_item (commit_items (kind_of i) f.0) e f.2 f.3), (a, λ s. unread (w s)))
+  pub read_fault : (Q : ObjectId → Type 0) (i : ObjectId) (e : Error) → (IsAgreeing (objects plan.store) (faulty plan.store) plan.rows → IsLookedUp objects plan Q i) → (IsSound objects faulty plan → ReadsWhole (objects plan.store) (faulty plan.store) i) → IsReadFault (objects plan.store) (faulty plan.store) i e → IsFault objects faulty plan Q e
+  read_fault Q i error.MissingIndegreeUnexpected a w f = absurd f
+  read_fault Q i error.MissingStateUnexpected a w f = absurd f
+  read_fault Q i (error.Find e) a w f = (i, f, (a, λ s. unfound i e f (w s)))
+  read_fault Q i (error.ObjectDecode e) a w f = (i, (f.0, f.1, fault_item (commit_items (kind_of i) f.0) e f.2 f.3), (a, λ s. unread (w s)))
     where
       unread : ReadsWhole (objects plan.store) (faulty plan.store) i → ⊥
       unread w = let n : None ≡ Some w.commit = sym (fault_unread (commit_items (kind_of i) f.0) e f.2) ∙ sym (ap (commit_of_object i) f.1) ∙ w.stored in cc
-  read_fault i error.Memory a w f = tt
+  read_fault Q i error.Memory a w f = tt
 
 -- exploring fails
 module _ {F : Type 0} (objects : F → Objects) (faulty : F → ObjectId → Type 0) (sorting : Sorting) (tips ends : List ObjectId) (taken : ObjectId → Bool) (low : Counting F) (counted : IsAgreeing (objects low.reader.find) (faulty low.reader.find) (rows_of low.reader.graph) → IsCounted (objects low.reader.find) (rows_of low.reader.graph) low.parents tips ends taken low.frontier) where
-  pub exploring_fault : (e : Error) → IsExploringFault objects faulty low e → IsFault objects faulty (plan_by low sorting tips ends) e
-  exploring_fault e f = read_fault objects faulty (plan_by low sorting tips ends) f.fault.entry.1.id e (λ a. inl (reached_by objects faulty (plan_by low sorting tips ends) f.fault.entry.1.side f.fault.entry.1.id (within a))) (λ s. reached_whole objects faulty (plan_by low sorting tips ends) s f.fault.entry.1.side f.fault.entry.1.id (within s.agreeing)) (subst (λ x. IsReadFault (objects x) (faulty x) f.fault.entry.1.id e) (explores_same objects faulty f.explored).find f.fault.fault)
+  pub exploring_fault : (Q : ObjectId → Type 0) (e : Error) → IsExploringFault objects faulty low e → IsFault objects faulty (plan_by low sorting tips ends) Q e
+  exploring_fault Q e f = read_fault objects faulty (plan_by low sorting tips ends) Q f.fault.entry.1.id e (λ a. inl (reached_by objects faulty (plan_by low sorting tips ends) f.fault.entry.1.side f.fault.entry.1.id (within a))) (λ s. reached_whole objects faulty (plan_by low sorting tips ends) s f.fault.entry.1.side f.fault.entry.1.id (within s.agreeing)) (subst (λ x. IsReadFault (objects x) (faulty x) f.fault.entry.1.id e) (explores_same objects faulty f.explored).find f.fault.fault)
     where
       within : IsAgreeing (objects low.reader.find) (faulty low.reader.find) (rows_of low.reader.graph) → Reaches (next_by (objects low.reader.find) low.parents f.fault.entry.1.side) (starts_by tips ends f.fault.entry.1.side) f.fault.entry.1.id
       within a =
@@ -102,9 +114,9 @@ module _ {F : Type 0} (objects : F → Objects) (faulty : F → ObjectId → Typ
 
 module _ {F : Type 0} (objects : F → Objects) (faulty : F → ObjectId → Type 0) where
   -- a commit that tips reach, or a parent of it, can't be read
-  pub push_fault : (old : Walk F) (i : ObjectId) (e : Error) → (IsAgreeing (objects (plan_of old).store) (faulty (plan_of old).store) (plan_of old).rows → Reaches (next_by (objects (plan_of old).store) (plan_of old).parents Tips) (plan_of old).tips i) → IsPushFault objects faulty old i e → IsFault objects faulty (plan_of old) e
-  push_fault old i e r (itself f) = read_fault objects faulty (plan_of old) i e (λ a. inl (inl (r a))) (λ s. reached_whole objects faulty (plan_of old) s Tips i (r s.agreeing)) f
-  push_fault old i e r (parent {info = info} {p = p} reads m f) = read_fault objects faulty (plan_of old) p e (λ a. inr (i, r a, subst (λ ids. Contains ids p) (reads_text_next (objects (plan_of old).store) (faulty (plan_of old).store) (plan_of old).rows a reads) m)) parent_whole f
+  pub push_fault : (Q : ObjectId → Type 0) (old : Walk F) (i : ObjectId) (e : Error) → (IsAgreeing (objects (plan_of old).store) (faulty (plan_of old).store) (plan_of old).rows → Reaches (next_by (objects (plan_of old).store) (plan_of old).parents Tips) (plan_of old).tips i) → (IsAgreeing (objects (plan_of old).store) (faulty (plan_of old).store) (plan_of old).rows → Q i) → IsPushFault objects faulty old i e → IsFault objects faulty (plan_of old) Q e
+  push_fault Q old i e r q (itself f) = read_fault objects faulty (plan_of old) Q i e (λ a. inl (inl (r a))) (λ s. reached_whole objects faulty (plan_of old) s Tips i (r s.agreeing)) f
+  push_fault Q old i e r q (parent {info = info} {p = p} reads m f) = read_fault objects faulty (plan_of old) Q p e (λ a. inr (i, q a, subst (λ ids. Contains ids p) (reads_text_next (objects (plan_of old).store) (faulty (plan_of old).store) (plan_of old).rows a reads) m)) parent_whole f
     where
       parent_whole : IsSound objects faulty (plan_of old) → ReadsWhole (objects (plan_of old).store) (faulty (plan_of old).store) p
       parent_whole s =
@@ -112,16 +124,31 @@ module _ {F : Type 0} (objects : F → Objects) (faulty : F → ObjectId → Typ
           let same : info.parent_ids.items ≡ parents_of (objects (plan_of old).store) i = reads_text_next (objects (plan_of old).store) (faulty (plan_of old).store) (plan_of old).rows s.agreeing reads ∙ sym (text_whole (objects (plan_of old).store) (faulty (plan_of old).store) (plan_of old).rows i (s.tips_whole i reach)) in
           s.parents_whole i p reach (subst (λ ids. Contains ids p) same m)
 
-  starts_plan : {old : Walk F} {i : ObjectId} {added : List Rattle.gix_traverse.specs.Topo.Walk.Ready} {new : Walk F} → Starts objects faulty old i added new → plan_of new ≡ plan_of old
-  starts_plan (waits d) = refl
-  starts_plan (frees d p) = p.same.plan
+  -- a tip that is due when counting has begun becomes ready
+  module _ (plan : TopoPlan F) (c : Counting F) (begun : HasBegun objects faulty plan c) where
+    first_ready : IsAgreeing (objects plan.store) (faulty plan.store) plan.rows → (i : ObjectId) → Contains plan.tips i → children_of c.frontier i ≡ 0 → has_seen c.frontier Ends i ≡ false → IsFirstReady objects plan i
+    first_ready a i m z u = record {
+      tip = m;
+      childless = record {
+        member = record { reached = start m; outside = text_outside (objects plan.store) (faulty plan.store) plan.rows plan.parents plan.tips plan.ends a c.frontier c.depth (begun.explored a) i u high };
+        alone = λ d k. true≢false (sym (text_left (objects plan.store) (faulty plan.store) plan.rows plan.parents plan.tips plan.ends a c.frontier c.depth (begun.explored a) (λ j. false) (children_of c.frontier) (begun.counted (λ j. false) (λ j. refl) a).tally i z high d k.child.reached k.named));
+      };
+    }
+      where
+        high : c.depth ≤ known_generation plan.rows i
+        high = subst (λ d. d ≤ known_generation plan.rows i) (sym begun.depth) (least_within plan.rows infinity (plan.tips ++ plan.ends) i (Contains-append_left plan.tips plan.ends i m))
 
-  start_fails : (plan : TopoPlan F) {old : Walk F} {ids : List ObjectId} {e : Error} → plan_of old ≡ plan → ((i : ObjectId) → Contains ids i → Contains plan.tips i) → IsStartFault objects faulty old ids e → IsFault objects faulty plan e
-  start_fails plan {old} {e = e} same all (here {i = i} {ids = ids} d f) =
-      subst (λ p. IsFault objects faulty p e) same (push_fault old i e (λ a. start (subst (λ p. Contains p.tips i) (sym same) (all i (Contains-here i ids)))) f)
-  start_fails plan same all (later {i = i} {ids = ids} s f) = start_fails plan (starts_plan s ∙ same) (λ j m. all j (Contains-there j i ids m)) f
-  start_fails plan same all short = tt
+    start_fails : {old : Walk F} {ids : List ObjectId} {e : Error} → plan_of old ≡ plan → ((j : ObjectId) → has_seen old.counting.frontier Ends j ≡ has_seen c.frontier Ends j) → ((j : ObjectId) → children_of old.counting.frontier j ≡ children_of c.frontier j) → ((i : ObjectId) → Contains ids i → Contains plan.tips i) → IsStartFault objects faulty old ids e → IsBuildFault objects faulty plan e
+    start_fails {old} {e = e} same seen counts all (here {i = i} {ids = ids} d f) =
+        let parts : (children_of old.counting.frontier i ≡ 0) × (has_seen old.counting.frontier Ends i ≡ false) × (made_of old.counting.frontier i ≡ false) = due_parts objects faulty (children_of old.counting.frontier i) (known_of old.counting.frontier.known i) d in
+        let tip : Contains plan.tips i = all i (Contains-here i ids) in
+        subst (λ p. IsFault objects faulty p (IsFirstReady objects plan) e) same
+        (push_fault (IsFirstReady objects plan) old i e (λ a. start (subst (λ p. Contains p.tips i) (sym same) tip)) (λ a. first_ready (subst (λ p. IsAgreeing (objects p.store) (faulty p.store) p.rows) same a) i tip (sym (counts i) ∙ parts.0) (sym (seen i) ∙ parts.1)) f)
+    start_fails same seen counts all (later {mid = mid} {i = i} {ids = ids} {first = first} s f) =
+        let by : AreStarted objects faulty _ (i ∷ []) first mid = started_one objects faulty s in
+        start_fails (by.plan ∙ same) (λ j. ap is_seen (by.moved Ends j) ∙ seen j) (λ j. by.children j ∙ counts j) (λ j m. all j (Contains-there j i ids m)) f
+    start_fails same seen counts all short = tt
 
   -- starting fails
-  pub start_fault : (plan : TopoPlan F) (first : Walk F) → plan_of first ≡ plan → (ids : List ObjectId) → ((i : ObjectId) → Contains ids i → Contains plan.tips i) → (e : Error) → IsStartFault objects faulty first ids e → IsFault objects faulty plan e
-  start_fault plan first same ids all e f = start_fails plan same all f
+  pub start_fault : (plan : TopoPlan F) (first : Walk F) → HasBegun objects faulty plan first.counting → plan_of first ≡ plan → (ids : List ObjectId) → ((i : ObjectId) → Contains ids i → Contains plan.tips i) → (e : Error) → IsStartFault objects faulty first ids e → IsBuildFault objects faulty plan e
+  start_fault plan first begun same ids all e f = start_fails plan first.counting begun same (λ j. refl) (λ j. refl) all f

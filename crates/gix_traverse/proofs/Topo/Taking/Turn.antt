@@ -12,7 +12,7 @@ use Rattle.gix_traverse.specs.Topo.Inside.ReadySet.{ready_in, sorting_of}
 use Rattle.gix_traverse.specs.Topo.Inside.Releasing.{plan_of, counted_by, walk_of, TakesOne, IsTakingFault}
 use Rattle.gix_traverse.specs.Topo.Laws.{answers_left}
 use Rattle.gix_traverse.specs.Topo.Inside.Steady.{IsHeld, IsOpen, unasked, unasked_of, TakesReady, Turns, ended, given, failed}
-use Rattle.gix_traverse.specs.Topo.Walk.{TopoWalk, Ready, Counted, Chooses, Adds, IsFault, IsLate, Takes, after, Next}
+use Rattle.gix_traverse.specs.Topo.Walk.{TopoWalk, Ready, Counted, Chooses, Adds, IsNextReady, IsFault, IsLate, Takes, after, Next}
 use Rattle.gix_traverse.specs.Topo.Walk as machine
 use Rattle.gix_parts.proofs.Ids.Membership.{no_member}
 use Rattle.gix_traverse.proofs.Topo.Taking.Added.{adds_on}
@@ -38,7 +38,7 @@ module _ {F : Type 0} (objects : F → Objects) (faulty : F → ObjectId → Typ
       (takes_on objects faulty w rest same r chosen added new t held (λ sound. (counts_taken objects faulty w rest same r chosen added new t held sound).0) adds, held_on objects faulty w rest same r chosen added new t held (λ sound. (counts_taken objects faulty w rest same r chosen added new t held sound).0) adds)
 
   -- it can't be
-  pub turn_faults : (e : Error) → IsTakingFault objects faulty (record w { ready = rest }) r e → IsFault objects faulty (plan_of w) e × IsLate objects (plan_of w) e
+  pub turn_faults : (e : Error) → IsTakingFault objects faulty (record w { ready = rest }) r e → IsFault objects faulty (plan_of w) (IsNextReady objects (plan_of w) w.taken r.id) e × IsLate objects (plan_of w) (IsNextReady objects (plan_of w) w.taken r.id) e
   turn_faults e f = taking_fault objects faulty w held rest same r chosen e f
 
 module _ {F P : Type 0} (objects : F → Objects) (faulty : F → ObjectId → Type 0) (answers : P → ObjectId → Bool → P → Type 0) where

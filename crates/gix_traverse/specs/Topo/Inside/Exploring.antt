@@ -18,12 +18,12 @@ use Rattle.gix_traverse.specs.History.Commits.{by_mode}
 use Rattle.gix_traverse.specs.History.Reading.{rows_of, Reads, IsReadFault}
 use Rattle.gix_traverse.specs.Orders.TopoOrder.{last_places}
 
--- the rows don't stand, or the greatest generation of those that wait isn't below the depth
+-- the rows were dropped, or the greatest generation of those that wait isn't below the depth
 abbrev pub is_pending : Bool → ℕ → List (ℕ × Waiting) → Bool
 is_pending standing depth [] = false
 is_pending standing depth (entry ∷ queue) = not standing || nat_le depth entry.0
 
--- nothing waits, or the rows stand and all that waits is below the depth
+-- nothing waits, or the rows are held and all that waits is below the depth
 abbrev pub IsRested : Bool → ℕ → List (ℕ × Waiting) → Type 0
 IsRested standing depth queue = (queue ≡ []) ⊎ ((standing ≡ true) × ((entry : ℕ × Waiting) → Contains queue entry → entry.0 < depth))
 

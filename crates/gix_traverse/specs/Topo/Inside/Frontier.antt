@@ -1,5 +1,5 @@
 -- Two searches over one queue.
-use Rattle.std.specs.Prelude.{◌≡◌, ℕ, ◌+◌, ◌==◌, List, [], ◌∷◌, Bool, true, false, not, ◌&&◌, cond, Option, Some, None, Contains, IsPermutation}
+use Rattle.std.specs.Prelude.{◌≡◌, ◌⊎◌, ℕ, ◌+◌, ◌==◌, List, [], ◌∷◌, Bool, true, false, not, ◌&&◌, cond, Option, Some, None, Contains, IsPermutation}
 use Rattle.std.specs.FinMap as map
 use Rattle.gix_parts.specs.declared.hash.ObjectId.{ObjectId}
 use Rattle.gix_parts.specs.Id.{id_cmp, is_same}
@@ -55,6 +55,10 @@ with_progress Ends progress known = record known { ends = progress }
 -- how far a search has come with an id
 abbrev pub reached : map.FinMap id_cmp Known → Side → ObjectId → Progress
 reached those side i = progress_of side (known_of those i)
+
+-- one of the searches has read the parents of the id
+abbrev pub IsDone : Frontier → ObjectId → Type 0
+IsDone f i = (is_done (reached f.known Tips i) ≡ true) ⊎ (is_done (reached f.known Ends i) ≡ true)
 
 -- how often an id waits in the queue of a side
 abbrev pub waits_for : Side → ObjectId → ℕ × Waiting → ℕ

@@ -1,8 +1,9 @@
 -- How the parents of a taken commit become ready.
-use Rattle.std.specs.Prelude.{◌≡◌, ◌+◌, ℕ, List, [], ◌∷◌, ◌++◌, Bool, true, false, Ok, Contains}
+use Rattle.std.specs.Prelude.{◌≡◌, ◌⊎◌, ◌+◌, ℕ, List, [], ◌∷◌, ◌++◌, Bool, true, false, Ok, Contains}
 use Rattle.std.specs.FinSet as set
 use Rattle.gix_parts.specs.declared.hash.ObjectId.{ObjectId}
 use Rattle.gix_parts.specs.Object.{Objects}
+use Rattle.gix_parts.specs.Rows.{GraphRow}
 use Rattle.gix_traverse.specs.declared.commit.Info.{Info}
 use Rattle.gix_traverse.specs.declared.commit.topo.Error.{Error}
 use Rattle.gix_traverse.specs.declared.commit.topo.Error.TheVariants as error
@@ -13,11 +14,11 @@ use Rattle.gix_traverse.specs.Topo.Depth.{least}
 use Rattle.gix_traverse.specs.Topo.Inside.Exploring.{Explores, IsRested, IsExploringFault}
 use Rattle.gix_traverse.specs.History.Commits.{by_mode}
 use Rattle.gix_traverse.specs.Orders.TopoOrder.{last_places}
-use Rattle.gix_traverse.specs.Topo.Inside.Frontier.{known_of, is_due, Makes, Uncounts}
+use Rattle.gix_traverse.specs.Topo.Inside.Frontier.{IsDone, known_of, is_due, Makes, Uncounts}
 use Rattle.gix_traverse.specs.Topo.Inside.ReadySet.{ready_in, sorting_of}
 use Rattle.gix_traverse.specs.History.Reading.{rows_of, Reads, IsReadFault}
 use Rattle.gix_traverse.specs.declared.commit.topo.Sorting.{Sorting}
-use Rattle.gix_traverse.specs.Topo.Walk.{TopoPlan, TopoWalk, Counted, Ready, IsOfInfo, HoldsReady}
+use Rattle.gix_traverse.specs.Topo.Walk.{TopoPlan, TopoWalk, Counted, Ready, IsKnown, IsOfInfo, HoldsReady}
 
 -- what searches go over
 abbrev pub plan_by : {F : Type 0} → Counting F → Sorting → List ObjectId → List ObjectId → TopoPlan F
@@ -41,6 +42,10 @@ pub record IsSameWalk {F : Type 0} (old new : Walk F) : Type 0 where
   pub queue : new.counting.frontier.queue ≡ old.counting.frontier.queue
   pub taken : new.taken ≡ old.taken
 
+-- what is known: an id that a search has read, as long as the rows are held, or one with a row, or one that can be read
+abbrev pub Knows : Objects → List GraphRow → Bool → Frontier → ObjectId → Type 0
+Knows objects rows standing f i = ((standing ≡ true) × IsDone f i) ⊎ IsKnown objects rows standing i
+
 module _ {F : Type 0} (objects : F → Objects) (faulty : F → ObjectId → Type 0) where
   -- a commit is read, and becomes ready
   pub record Pushes (old : Walk F) (i : ObjectId) (r : Ready) (new : Walk F) : Type 0 where
@@ -49,6 +54,7 @@ module _ {F : Type 0} (objects : F → Objects) (faulty : F → ObjectId → Typ
     pub info : Info
     pub reads : Reads (objects old.counting.reader.find) (faulty old.counting.reader.find) (rows_of old.counting.reader.graph) old.counting.reader.standing i (Ok info) new.counting.reader.standing
     pub is : IsOfInfo r info
+    pub known : (p : ObjectId) → Contains info.parent_ids.items p → Knows (objects old.counting.reader.find) (rows_of old.counting.reader.graph) new.counting.reader.standing old.counting.frontier p
     pub made : Makes old.counting.frontier i new.counting.frontier
     pub holds : HoldsReady (sorting_of old.ready) (ready_in old.ready ++ r ∷ []) (ready_in new.ready)
 
@@ -71,7 +77,7 @@ module _ {F : Type 0} (objects : F → Objects) (faulty : F → ObjectId → Typ
     unread : {f : Frontier} {e : Error} (n : ℕ) → (known_of old.counting.frontier.known i).children ≡ n + 1 → Uncounts old.counting.frontier i f → is_due n (known_of f.known i) ≡ true → IsPushFault (with_frontier old f) i e → IsReleaseFault old i e
     no_memory : IsReleaseFault old i error.Memory
 
-  -- each of these parents in turn, and the commits that became ready
+  -- each of these parents, in order, and the commits that became ready
   pub data ReleasesAll : Walk F → List ObjectId → List Ready → Walk F → Type 0 where
     none : {old : Walk F} → ReleasesAll old [] [] old
     more : {old mid new : Walk F} {i : ObjectId} {ids : List ObjectId} {first others : List Ready} → Releases old i first mid → ReleasesAll mid ids others new → ReleasesAll old (i ∷ ids) (first ++ others) new

@@ -16,9 +16,9 @@ use Rattle.gix_traverse.specs.Topo.Inside.Frontier.{is_due, known_of, Meets}
 use Rattle.gix_traverse.specs.Topo.Inside.ReadySet.{ready_in}
 use Rattle.gix_traverse.specs.Topo.Inside.Releasing.{plan_by, plan_of, counted_by, Pushes, IsPushFault}
 use Rattle.gix_traverse.specs.Topo.Inside.Searched.{IsCounted, IsBegun, IsExplored}
-use Rattle.gix_traverse.specs.Topo.Inside.Steady.{HasCounted}
+use Rattle.gix_traverse.specs.Topo.Inside.Steady.{AreRead, HasCounted}
 use Rattle.gix_traverse.specs.Orders.TopoOrder.{by_time}
-use Rattle.gix_traverse.specs.Topo.Walk.{TopoPlan, Ready, HoldsReady, IsReached, first_depth, IsCommitRead, IsCounting, IsSound}
+use Rattle.gix_traverse.specs.Topo.Walk.{TopoPlan, Ready, HoldsReady, IsReached, first_depth, IsCommitRead, IsCounting, IsWalkable}
 
 -- by rising time, and at one time in the order given
 abbrev pub by_rising_time : List Ready → List Ready
@@ -36,11 +36,12 @@ module _ {F : Type 0} (objects : F → Objects) (faulty : F → ObjectId → Typ
     pub depth : c.depth ≡ first_depth plan
     pub unmade : (i : ObjectId) → (known_of c.frontier.known i).made ≡ false
     pub begun : (side : Side) → IsBegun plan.tips plan.ends side c.frontier
-    -- beside rows that agree, and beside a sound history
+    -- with rows that agree, and where all that is walked reads whole
     pub counted : (taken : ObjectId → Bool) → ((i : ObjectId) → taken i ≡ false) → IsAgreeing (objects plan.store) (faulty plan.store) plan.rows → IsCounted (objects plan.store) plan.rows plan.parents plan.tips plan.ends taken c.frontier
     pub explored : IsAgreeing (objects plan.store) (faulty plan.store) plan.rows → (side : Side) → IsExplored (objects plan.store) plan.rows plan.parents plan.tips plan.ends c.depth side c.frontier
-    pub counts : IsSound objects faulty plan → HasCounted objects plan c
-    pub counting : IsSound objects faulty plan → IsCounting objects plan (counted_by c)
+    pub counts : IsWalkable objects faulty plan → HasCounted objects plan c
+    pub counting : IsWalkable objects faulty plan → IsCounting objects plan (counted_by c)
+    pub all_read : AreRead objects faulty plan c
     -- without rows, all that is walked was read
     pub idle : plan.rows ≡ [] → c.frontier.queue ≡ []
     pub read : plan.rows ≡ [] → (i : ObjectId) → IsReached objects plan i → IsCommitRead (objects plan.store) i
@@ -50,7 +51,7 @@ module _ {F : Type 0} (objects : F → Objects) (faulty : F → ObjectId → Typ
     waits : is_due (known_of old.counting.frontier.known i).children (known_of old.counting.frontier.known i) ≡ false → Starts old i [] old
     frees : {r : Ready} {new : Walk F} → is_due (known_of old.counting.frontier.known i).children (known_of old.counting.frontier.known i) ≡ true → Pushes objects faulty old i r new → Starts old i (r ∷ []) new
 
-  -- each of these tips in turn, and the commits that became ready
+  -- each of these tips, in order, and the commits that became ready
   pub data StartsAll : Walk F → List ObjectId → List Ready → Walk F → Type 0 where
     none : {old : Walk F} → StartsAll old [] [] old
     more : {old mid new : Walk F} {i : ObjectId} {ids : List ObjectId} {first others : List Ready} → Starts old i first mid → StartsAll mid ids others new → StartsAll old (i ∷ ids) (first ++ others) new
@@ -63,7 +64,7 @@ module _ {F : Type 0} (objects : F → Objects) (faulty : F → ObjectId → Typ
 
   -- a walk that has begun: each tip that has no child and that no end reaches is ready, by rising time
   pub record IsBegunWalk (plan : TopoPlan F) (w : Walk F) : Type 0 where
-    -- before and after the tips in turn
+    -- before and after the tips
     pub first : Walk F
     pub mid : Walk F
     pub starts : List Ready
@@ -72,7 +73,7 @@ module _ {F : Type 0} (objects : F → Objects) (faulty : F → ObjectId → Typ
     pub empty : ready_in first.ready ≡ []
     pub untaken : first.taken ≡ set.empty
     pub all : StartsAll first plan.tips starts mid
-    -- the walk is that, but for the order of the ready commits
+    -- the walk is that, except for the order of the ready commits
     pub sorted : HoldsReady plan.sorting (by_rising_time starts) (ready_in w.ready)
     pub counting : w.counting ≡ mid.counting
     pub taken : w.taken ≡ mid.taken

@@ -7,24 +7,34 @@ use Rattle.gix_parts.specs.Object.{Objects}
 use Rattle.gix_traverse.specs.declared.commit.Info.{Info}
 use Rattle.gix_traverse.specs.declared.commit.topo.Error.{Error}
 use Rattle.gix_traverse.specs.declared.commit.topo.counting.Counting.{Counting}
-use Rattle.gix_traverse.specs.declared.commit.topo.frontier.Frontier.{Frontier}
 use Rattle.gix_traverse.specs.declared.commit.topo.frontier.Side.{Side}
-use Rattle.gix_traverse.specs.declared.commit.topo.frontier.Side.TheVariants.{Tips, Ends}
+use Rattle.gix_traverse.specs.declared.commit.topo.frontier.Side.TheVariants.{Tips}
 use Rattle.gix_traverse.specs.declared.commit.topo.walk.Walk.{Walk}
 use Rattle.gix_traverse.specs.History.Agreeing.{IsAgreeing}
 use Rattle.gix_traverse.specs.Topo.Depth.{known_generation}
+use Rattle.gix_traverse.specs.History.Reading.{Reads}
+pub use Rattle.gix_traverse.specs.Topo.Inside.Frontier.{IsDone}
 use Rattle.gix_traverse.specs.Topo.Inside.Frontier.{is_done, known_of, reached}
 use Rattle.gix_traverse.specs.Topo.Inside.ReadySet.{ready_in, sorting_of}
 use Rattle.gix_traverse.specs.Topo.Inside.Releasing.{plan_of, counted_by, walk_of}
 use Rattle.gix_traverse.specs.Topo.Inside.Searched.{IsCounted, IsBegun}
 use Rattle.gix_traverse.specs.Simple.Laws.{AreDistinct}
 use Rattle.gix_traverse.specs.Simple.Walk.{IsInfo}
-use Rattle.gix_traverse.specs.Topo.Walk.{TopoPlan, TopoWalk, Ready, ready_ids, walked_of, Chooses, IsReached, IsFound, IsMember, IsNumberOf, IsBrokenRow, IsCommitRead, IsSound, IsFault, IsLate, Takes}
+use Rattle.gix_traverse.specs.Topo.Walk.{TopoPlan, TopoWalk, Ready, ready_ids, walked_of, Chooses, IsReached, IsFound, IsMember, IsNumberOf, IsBrokenRow, IsCommitRead, IsWalkable, IsNextReady, IsFault, IsLate, Takes}
 use Rattle.gix_traverse.specs.Orders.WalkSet.{IsChild}
 
--- one of the searches has read the parents of the id
-abbrev pub IsDone : Frontier → ObjectId → Type 0
-IsDone f i = (is_done (reached f.known Tips i) ≡ true) ⊎ (is_done (reached f.known Ends i) ≡ true)
+module _ {F : Type 0} (objects : F → Objects) (faulty : F → ObjectId → Type 0) (plan : TopoPlan F) where
+  -- the commit was read, by its row or from the store; rows that are held now were held after that
+  pub record IsReadOnce (standing : Bool) (i : ObjectId) : Type 0 where
+    pub info : Info
+    pub before : Bool
+    pub after : Bool
+    pub reads : Reads (objects plan.store) (faulty plan.store) plan.rows before i (Ok info) after
+    pub later : standing ≡ true → after ≡ true
+
+  -- all that is done was read, whatever the store and the rows
+  abbrev pub AreRead : Counting F → Type 0
+  AreRead c = (i : ObjectId) → IsDone c.frontier i → IsReadOnce c.reader.standing i
 
 module _ {F : Type 0} (objects : F → Objects) where
   -- both searches and the counts are as they are to be; ready commits are done
@@ -38,7 +48,7 @@ module _ {F : Type 0} (objects : F → Objects) where
     pub member : (i : ObjectId) → (known_of w.counting.frontier.known i).made ≡ true → IsMember objects (plan_of w) i
     pub children : (i d : ObjectId) → (known_of w.counting.frontier.known i).made ≡ true → IsChild (walked_of objects (plan_of w)) (IsMember objects (plan_of w)) d i → set.contains w.taken d ≡ true
 
-  -- the commits that are done are told, and none of them is below the depth as long as the rows stand
+  -- the number of commits that are done, none of which is below the depth as long as the rows are held
   pub record HasCounted (plan : TopoPlan F) (c : Counting F) : Type 0 where
     pub number : IsNumberOf (IsDone c.frontier) c.expanded
     pub high : c.reader.standing ≡ true → (i : ObjectId) → IsDone c.frontier i → c.depth ≤ known_generation plan.rows i
@@ -51,11 +61,12 @@ module _ {F : Type 0} (objects : F → Objects) (faulty : F → ObjectId → Typ
     pub made : (i : ObjectId) → (known_of w.counting.frontier.known i).made ≡ (set.contains w.taken i || is_among i (ready_ids (ready_in w.ready)))
     pub distinct : AreDistinct (ready_ids (ready_in w.ready))
     pub untaken : (i : ObjectId) → Contains (ready_ids (ready_in w.ready)) i → set.contains w.taken i ≡ false
-    pub found : (r : Ready) → Contains (ready_in w.ready) r → IsFound objects faulty (plan_of w) w.counting.reader.standing r
-    -- beside rows that agree, and beside a sound history
+    pub found : (r : Ready) → Contains (ready_in w.ready) r → IsFound objects faulty (plan_of w) true w.counting.reader.standing r
+    -- with rows that agree, and where all that is walked reads whole
     pub tallied : IsAgreeing (objects (plan_of w).store) (faulty (plan_of w).store) (plan_of w).rows → IsTallied objects w
-    pub steady : IsSound objects faulty (plan_of w) → IsSteady objects w
-    pub counts : IsSound objects faulty (plan_of w) → HasCounted objects (plan_of w) w.counting
+    pub steady : IsWalkable objects faulty (plan_of w) → IsSteady objects w
+    pub counts : IsWalkable objects faulty (plan_of w) → HasCounted objects (plan_of w) w.counting
+    pub all_read : AreRead objects faulty (plan_of w) w.counting
     -- without rows, all that is walked was read
     pub idle : (plan_of w).rows ≡ [] → w.counting.frontier.queue ≡ []
     pub read : (plan_of w).rows ≡ [] → (i : ObjectId) → IsReached objects (plan_of w) i → IsCommitRead (objects (plan_of w).store) i
@@ -81,4 +92,4 @@ module _ {F : Type 0} (objects : F → Objects) (faulty : F → ObjectId → Typ
   pub data Turns (old : Walk F) : Option (Result Info Error) → Walk F → Type 0 where
     ended : {new : Walk F} → ready_in old.ready ≡ [] → unasked_of new ≡ unasked_of old → Turns old None new
     given : {r : Ready} {new : Walk F} {info : Info} → TakesReady old r new → IsInfo info r.id r.parents r.generation (Some r.time) → Turns old (Some (Ok info)) new
-    failed : {new : Walk F} (r : Ready) (others : List Ready) {e : Error} → Chooses (sorting_of old.ready) (ready_in old.ready) r others → IsFault objects faulty (plan_of old) e → IsLate objects (plan_of old) e → plan_of new ≡ plan_of old → ready_in new.ready ≡ [] → Turns old (Some (Err e)) new
+    failed : {new : Walk F} (r : Ready) (others : List Ready) {e : Error} → Chooses (sorting_of old.ready) (ready_in old.ready) r others → IsFault objects faulty (plan_of old) (IsNextReady objects (plan_of old) old.taken r.id) e → IsLate objects (plan_of old) (IsNextReady objects (plan_of old) old.taken r.id) e → plan_of new ≡ plan_of old → ready_in new.ready ≡ [] → Turns old (Some (Err e)) new

@@ -1,4 +1,4 @@
-//! Counts, of what tips reach, the children of each commit, as far down as is needed.
+//! Counts the indegree of each commit that tips reach, as far down as is needed.
 ghost use Rattle.std.specs.Prelude.{◌≡◌, IfOk, IfErr, OnOk, OnErr, ℕ, ◌∷◌, ◌<◌, List, Bool, false, true, cond, ◌+◌, ◌||◌};
 ghost use Rattle.gix_parts.specs.declared.hash.ObjectId.{ObjectId};
 ghost use Rattle.gix_traverse.specs.declared.commit.topo.frontier.Side.{Side};
@@ -28,7 +28,7 @@ pub(super) struct Counting<F> {
     pub(super) reader: Reader<F>,
     pub(super) parents: Parents,
     pub(super) frontier: Frontier,
-    /// As long as the rows stand, no id of a lesser generation is read.
+    /// As long as the rows are held, no id of a lesser generation is read.
     pub(super) depth: u32,
     /// The number of different ids whose parents were read.
     pub(super) expanded: usize,
@@ -64,8 +64,11 @@ where
     Ok(places)
 }
 
-/// The number of ids whose parents were read, with one of which this is known. A number that memory could not hold is want of
-/// memory.
+/// The number of ids whose parents were read, with one more of which this is known.
+///
+/// # Errors
+///
+/// A number that no memory could hold is out of memory.
 fn one_more(expanded: usize, known: &Known) -> Result<usize, AllocError>
     ensures { IfOk result (λ n. n ≡ expanded + cond (is_done known.now.tips || is_done known.now.ends) 0 1) }
 {
@@ -81,8 +84,9 @@ fn one_more(expanded: usize, known: &Known) -> Result<usize, AllocError>
 impl<F: Find + Drop> Counting<F> {
     ghost use Rattle.std.specs.Prelude.{IfErr};
     ghost use Rattle.gix_traverse.specs.declared.commit.topo.Sorting.{Sorting};
+    ghost use Rattle.gix_traverse.specs.Topo.Inside.Releasing.{Knows};
     ghost use Rattle.gix_traverse.specs.Topo.Inside.Starting.{HasBegun, MeetsAll};
-    ghost use Rattle.gix_traverse.specs.Topo.Walk.{IsFault};
+    ghost use Rattle.gix_traverse.specs.Topo.Walk.{IsBuildFault};
 
     /// A side starts from these.
     fn meet_all(&mut self, mut ids: &[ObjectId], side: Side) -> Result<(), AllocError>
@@ -110,7 +114,7 @@ impl<F: Find + Drop> Counting<F> {
     where
         requires { reader.standing ≡ true }
         ensures begun { (sorting : Sorting) → IfOk result (HasBegun F.objects F.faulty (record { store = reader.find; rows = rows_of reader.graph; parents = parents; sorting = sorting; tips = tips.now; ends = ends.now })) }
-        ensures fault { (sorting : Sorting) → IfErr result (IsFault F.objects F.faulty (record { store = reader.find; rows = rows_of reader.graph; parents = parents; sorting = sorting; tips = tips.now; ends = ends.now })) }
+        ensures fault { (sorting : Sorting) → IfErr result (IsBuildFault F.objects F.faulty (record { store = reader.find; rows = rows_of reader.graph; parents = parents; sorting = sorting; tips = tips.now; ends = ends.now })) }
     {
         let mut counting = Counting {
             frontier: Frontier::new(reader.alloc),
@@ -170,7 +174,11 @@ impl<F: Find + Drop> Counting<F> {
         }
     }
 
-    /// Whether a parent can be read. As long as the rows stand, one that a search has read can be.
+    /// Looks a parent up, unless a search has read it and the rows are still held.
+    ///
+    /// # Errors
+    ///
+    /// Why it can't be read.
     pub(super) fn know(&mut self, id: &ObjectId) -> Result<(), Error>
         ensures store { self.new.reader.find ≡ self.old.reader.find }
         ensures graph { self.new.reader.graph ≡ self.old.reader.graph }
@@ -179,6 +187,7 @@ impl<F: Find + Drop> Counting<F> {
         ensures frontier { self.new.frontier ≡ self.old.frontier }
         ensures depth { self.new.depth ≡ self.old.depth }
         ensures expanded { self.new.expanded ≡ self.old.expanded }
+        ensures known { OnOk result (Knows (F.objects self.old.reader.find) (rows_of self.old.reader.graph) self.old.reader.standing self.old.frontier id.now) }
         ensures fault { IfErr result (IsReadFault (F.objects self.old.reader.find) (F.faulty self.old.reader.find) id.now) }
     {
         if self.reader.standing && self.frontier.known(id).is_done() {
@@ -235,13 +244,17 @@ impl<F: Find + Drop> Counting<F> {
         }
     }
 
-    /// Reads parents, as long as the rows don't stand or one that waits isn't below the depth.
+    /// Reads parents, as long as the rows were dropped or one that waits isn't below the depth.
+    ///
+    /// # Errors
+    ///
+    /// Why one of them can't be read.
     pub(super) fn explore(&mut self) -> Result<(), Error>
         ensures same { IsSamePlan F.objects F.faulty self.old self.new }
         ensures explores { OnOk result (Explores F.objects F.faulty self.old self.new) }
         ensures rested { OnOk result (IsRested self.new.reader.standing self.new.depth self.new.frontier.queue) }
         ensures fault { IfErr result (IsExploringFault F.objects F.faulty self.old) }
-        // Beside rows that agree, searches and counts stay as they are to be,
+        // With rows that agree, searches and indegrees stay as they are to be,
         ensures counted { (tips ends : List ObjectId) (taken : ObjectId → Bool) → IsAgreeing (F.objects self.old.reader.find) (F.faulty self.old.reader.find) (rows_of self.old.reader.graph) → IsCounted (F.objects self.old.reader.find) (rows_of self.old.reader.graph) self.old.parents tips ends taken self.old.frontier → OnOk result (IsCounted (F.objects self.old.reader.find) (rows_of self.old.reader.graph) self.old.parents tips ends taken self.new.frontier) }
         // and all that a side reaches is done, down to the depth.
         ensures explored { (tips ends : List ObjectId) (taken : ObjectId → Bool) (side : Side) → IsAgreeing (F.objects self.old.reader.find) (F.faulty self.old.reader.find) (rows_of self.old.reader.graph) → IsCounted (F.objects self.old.reader.find) (rows_of self.old.reader.graph) self.old.parents tips ends taken self.old.frontier → IsBegun tips ends side self.old.frontier → OnOk result (IsExplored (F.objects self.old.reader.find) (rows_of self.old.reader.graph) self.old.parents tips ends self.old.depth side self.new.frontier) }

@@ -91,7 +91,7 @@ impl Marks {
 #[derive(Drop)]
 pub(super) struct Known {
     marks: Marks,
-    /// How many commits that the tips' search has done, and that weren't taken, name it as a parent that is walked.
+    /// Its indegree: how many commits that the tips' search has done, and that weren't taken, name it as a parent that is walked.
     pub(super) children: usize,
 }
 
@@ -239,7 +239,11 @@ impl Frontier {
         Ok(())
     }
 
-    /// One more child of an id. A number of children that memory could not hold is want of memory.
+    /// One more child of an id.
+    ///
+    /// # Errors
+    ///
+    /// An indegree that no memory could hold is out of memory.
     fn count(&mut self, id: ObjectId) -> Result<(), AllocError>
         ensures { OnOk result (Counts self.old id self.new) }
     {

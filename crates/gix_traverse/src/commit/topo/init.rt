@@ -57,6 +57,10 @@ impl<F: Find + Drop> Builder<F, Unfiltered> {
     }
 
     /// A fresh builder with these tips and ends.
+    ///
+    /// # Errors
+    ///
+    /// `AllocError` where memory runs out.
     pub fn from_iters<T: IntoIterator<Item = ObjectId>, E: IntoIterator<Item = ObjectId>>(
         alloc: Global,
         find: F,
@@ -106,7 +110,11 @@ impl<F: Find + Drop> Builder<F, Unfiltered> {
 }
 
 impl<F: Find + Drop, P: Predicate + Drop> Builder<F, P> {
-    /// Tips beside those given before. Repeated tips count once, at their first place.
+    /// More tips, after those given before. Repeated tips count once, at their first place.
+    ///
+    /// # Errors
+    ///
+    /// `AllocError` where memory runs out.
     pub fn with_tips<T: IntoIterator<Item = ObjectId>>(
         mut self,
         tips: T,
@@ -124,7 +132,11 @@ impl<F: Find + Drop, P: Predicate + Drop> Builder<F, P> {
         Ok(self)
     }
 
-    /// Ends beside those given before. An end and all that it reaches, by any parent, is not walked.
+    /// More ends, after those given before. An end and all that it reaches, by any parent, is not walked.
+    ///
+    /// # Errors
+    ///
+    /// `AllocError` where memory runs out.
     pub fn with_ends<E: IntoIterator<Item = ObjectId>>(
         mut self,
         ends: E,
@@ -170,7 +182,10 @@ impl<F: Find + Drop, P: Predicate + Drop> Builder<F, P> {
     /// Reads all that tips and ends reach, as far down as the least generation of these, and makes the tips ready that have no child
     /// in the walk.
     ///
-    /// `Find` and `ObjectDecode` name an object that can't be read of those that tips or ends reach, or of the parents of a tip.
+    /// # Errors
+    ///
+    /// `Find` and `ObjectDecode` name an object that can't be read: tips or ends reach it, or it is a parent of a tip that becomes
+    /// ready.
     pub fn build(self) -> Result<Topo<F, P>, Error>
         ensures { Built F.objects F.faulty P.answers self result }
     {

@@ -1,6 +1,7 @@
 //! Reads commits by their rows, or else from the store.
-ghost use Rattle.std.specs.Prelude.{◌≡◌, IfOk, IfErr, true};
+ghost use Rattle.std.specs.Prelude.{◌≡◌, IfOk, IfErr, OnOk, true};
 ghost use Rattle.gix_traverse.specs.Topo.Depth.{known_generation};
+ghost use Rattle.gix_traverse.specs.Topo.Walk.{IsKnown};
 ghost use Rattle.gix_traverse.specs.History.Reading.{rows_of, Reads, ReadsRow, ReadsText, IsReadFault};
 
 use super::Error;
@@ -119,7 +120,11 @@ impl<F: Find + Drop> Reader<F> {
         })
     }
 
-    /// The commit by its row where the rows stand and it has one, and else from the store.
+    /// The commit by its row where the rows are held and it has one, and else from the store.
+    ///
+    /// # Errors
+    ///
+    /// Why it can't be read.
     pub(super) fn read(&mut self, id: &ObjectId) -> Result<Info, Error>
         ensures store { self.new.find ≡ self.old.find }
         ensures graph { self.new.graph ≡ self.old.graph }
@@ -134,19 +139,24 @@ impl<F: Find + Drop> Reader<F> {
         }
     }
 
-    /// Whether a parent can be read, where no row says so.
+    /// Looks a parent up, unless a row that is held says that it exists.
+    ///
+    /// # Errors
+    ///
+    /// Why it can't be read.
     pub(super) fn know(&mut self, id: &ObjectId) -> Result<(), Error>
         ensures store { self.new.find ≡ self.old.find }
         ensures graph { self.new.graph ≡ self.old.graph }
         ensures standing { self.new.standing ≡ self.old.standing }
+        ensures known { OnOk result (IsKnown (F.objects self.old.find) (rows_of self.old.graph) self.old.standing id.now) }
         ensures fault { IfErr result (IsReadFault (F.objects self.old.find) (F.faulty self.old.find) id.now) }
     {
         if self.standing && self.generation(id) < GENERATION_NUMBER_INFINITY {
             return Ok(());
         }
-        match self.read_text(id) {
-            Ok(_) => Ok(()),
-            Err(fault) => Err(fault),
+        if let Err(fault) = self.read_text(id) {
+            return Err(fault);
         }
+        Ok(())
     }
 }

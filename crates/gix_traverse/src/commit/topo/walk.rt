@@ -16,7 +16,7 @@ use gix_parts::hashtable::IdSet;
 use gix_parts::object::find::Find;
 use std::collections::VecDeque;
 
-/// What a walk holds beside its predicate.
+/// What a walk holds, apart from its predicate.
 #[derive(Drop)]
 pub(super) struct Walk<F> {
     pub(super) counting: Counting<F>,
@@ -37,9 +37,13 @@ impl<F: Find + Drop> Walk<F> {
     ghost use Rattle.gix_traverse.specs.Topo.Inside.Releasing.{plan_of, Pushes, IsPushFault, Releases, IsReleaseFault, ReleasesAll, IsFaultAmong, TakesOne, IsTakingFault};
     ghost use Rattle.gix_traverse.specs.Topo.Inside.Starting.{Starts, StartsAll, IsStartFault, IsBegunWalk};
     ghost use Rattle.gix_traverse.specs.Topo.Inside.Steady.{IsOpen, Turns};
-    ghost use Rattle.gix_traverse.specs.Topo.Walk.{Ready, IsFault};
+    ghost use Rattle.gix_traverse.specs.Topo.Walk.{Ready, IsBuildFault};
 
-    /// A commit whose children were all taken is read, and becomes ready. Its parents are looked up.
+    /// A commit whose children were all taken is read, and becomes ready. All its parents are looked up, also those that aren't walked.
+    ///
+    /// # Errors
+    ///
+    /// Why it, or a parent of it, can't be read.
     pub(super) fn push(&mut self, id: &ObjectId) -> Result<(), Error>
         requires { AreTimed self.old.ready }
         ensures pushes { OnOk result ((r : Ready) × Pushes F.objects F.faulty self.old id.now r self.new) }
@@ -93,7 +97,7 @@ impl<F: Find + Drop> Walk<F> {
         self.push(id)
     }
 
-    /// Each tip in turn.
+    /// Each tip, in order.
     fn start_all(&mut self) -> Result<(), Error>
         requires { AreTimed self.old.ready }
         ensures starts { OnOk result ((added : List Ready) × StartsAll F.objects F.faulty self.old self.old.tips.items added self.new) }
@@ -122,7 +126,7 @@ impl<F: Find + Drop> Walk<F> {
         requires { reader.standing ≡ true }
         ensures begun { IfOk result (IsBegunWalk F.objects F.faulty (record { store = reader.find; rows = rows_of reader.graph; parents = parents; sorting = sorting; tips = tips.items; ends = ends.items })) }
         ensures timed { IfOk result (λ walk. AreTimed walk.ready) }
-        ensures fault { IfErr result (IsFault F.objects F.faulty (record { store = reader.find; rows = rows_of reader.graph; parents = parents; sorting = sorting; tips = tips.items; ends = ends.items })) }
+        ensures fault { IfErr result (IsBuildFault F.objects F.faulty (record { store = reader.find; rows = rows_of reader.graph; parents = parents; sorting = sorting; tips = tips.items; ends = ends.items })) }
     {
         let alloc = reader.alloc;
         let counting = match Counting::begin(reader, parents, tips.as_slice(), ends.as_slice()) {

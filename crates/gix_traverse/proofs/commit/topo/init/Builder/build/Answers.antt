@@ -1,6 +1,6 @@
 use Rattle.std.proofs.Common.{inr, ap, subst, ◌∙◌}
 use Rattle.gix_traverse.specs.History.Reading.{rows_of}
-use Rattle.gix_traverse.specs.Topo.Walk.{IsFault}
+use Rattle.gix_traverse.specs.Topo.Walk.{IsBuildFault}
 use Rattle.gix_traverse.proofs.Topo.Starting.Started.{started_on, started_as, begun_held}
 use Rattle.gix_traverse.proofs.commit.topo.init.Builder.build.Goals as goal
 
@@ -18,6 +18,6 @@ returns-in-Ok g c = (
 
 pub returns-in-Err : goal.returns-in-Err
 returns-in-Err g c =
-    subst (λ plan. IsFault g.F.Find.objects g.F.Find.faulty plan c.in-Err.fault)
+    subst (λ plan. IsBuildFault g.F.Find.objects g.F.Find.faulty plan c.in-Err.fault)
     ((λ k. record { store = c.new-reader.ensures.find k; rows = rows_of (c.new-reader.ensures.graph k); parents = c.self.inside.parents; sorting = c.self.inside.sorting; tips = c.self.inside.tips.items; ends = c.self.inside.ends.items }) ∙ ap (λ b. b.plan) c.self.view_is)
     c.in-Err.ensures.fault

@@ -1,4 +1,4 @@
-use Rattle.std.proofs.Common.{◌≡◌, [], ◌∷◌, ◌++◌, refl, sym, ap, subst, ◌∙◌}
+use Rattle.std.proofs.Common.{◌≡◌, ◌+◌, [], ◌∷◌, ◌++◌, Contains, refl, sym, ap, subst, ⊎_elim, ◌∙◌, arith, take_all}
 use Rattle.std.proofs.Common.{w64, to_z, of_z, Some, rules}
 use mir.Val.{SFits}
 use Rattle.std.proofs.lemmas.Int.{to_z-of_z}
@@ -6,7 +6,8 @@ use Rattle.gix_traverse.specs.History.Reading.{rows_of, Reads}
 use Rattle.gix_traverse.specs.Topo.Inside.ReadySet.{sorting_of, ready_in}
 use Rattle.gix_traverse.specs.Topo.Walk.{HoldsReady}
 use Rattle.gix_traverse.specs.Topo.Inside.Frontier.{Makes}
-use Rattle.gix_traverse.proofs.Topo.Taking.OneRelease.{fault_of_parent, reads_timed, at_index, time_told}
+use Rattle.gix_traverse.specs.Topo.Inside.Releasing.{Knows}
+use Rattle.gix_traverse.proofs.Topo.Taking.OneRelease.{knows_by, take_more, fault_of_parent, reads_timed, at_index, time_told}
 use Rattle.gix_traverse.proofs.commit.topo.walk.Walk.push.Goals as goal
 
 pub returns-in-Err-know-clause-fault : goal.returns-in-Err-know-clause-fault
@@ -39,7 +40,28 @@ returns-clause-pushes g c = (
     info = c.in-Ok.info;
     reads = subst (Reads (g.F.Find.objects c.args.self.now.counting.reader.find) (g.F.Find.faulty c.args.self.now.counting.reader.find) (rows_of c.args.self.now.counting.reader.graph) c.args.self.now.counting.reader.standing c.args.id.now (Rattle.std.proofs.Common.Ok c.in-Ok.info)) (sym c.loop-parent.invariant.standing) c.in-Ok.ensures.reads;
     is = record { same_id = refl; same_parents = refl; same_generation = refl; same_time = (reads_timed c.in-Ok.ensures.reads).same_time ∙ time_told _ _ _ (reads_timed c.in-Ok.ensures.reads).same_time c.unwrap_or-time.ensures ∙ ap Some (sym (to_z-of_z w64 c.unwrap_or-time.result (fits g c))) };
+    known = λ p m. subst (λ s. Knows (g.F.Find.objects c.args.self.now.counting.reader.find) (rows_of c.args.self.now.counting.reader.graph) s c.args.self.now.counting.frontier p) (sym c.loop-parent.invariant.standing)
+        (knows_by g.F.Find.objects {standing = c.read.new.self.standing} {f = c.args.self.now.counting.frontier} c.in-Ok.ensures.store c.in-Ok.ensures.graph refl refl p (c.loop-parent.invariant.known p (subst (λ ids. Contains ids p) (sym (take_all c.loop-parent.parent-index c.as_slice-parent-items.result.now c.loop-parent-test.false ∙ c.as_slice-parent-items.ensures)) m)));
     made = subst (λ i. Makes c.args.self.now.counting.frontier i c.make.new.self) (reads_timed c.in-Ok.ensures.reads).id (subst (λ f. Makes f c.in-Ok.info.id c.make.new.self) c.loop-parent.invariant.frontier c.in-Ok-make.ensures);
     holds = subst (λ s. HoldsReady (sorting_of s) (ready_in s ++ record { id = c.in-Ok.info.id; parents = c.in-Ok.info.parent_ids.items; time = to_z w64 (of_z w64 c.unwrap_or-time.result); generation = c.in-Ok.info.generation } ∷ []) (ready_in c.push.new.self)) c.loop-parent.invariant.ready c.in-Ok-push.ensures.holds;
   },
 )
+
+pub loop-parent-preserved : goal.loop-parent-preserved
+loop-parent-preserved g c = record {
+  find = c.know.ensures.store ∙ c.loop-parent.invariant.find;
+  graph = c.know.ensures.graph ∙ c.loop-parent.invariant.graph;
+  standing = c.know.ensures.standing ∙ c.loop-parent.invariant.standing;
+  parents = c.know.ensures.parents ∙ c.loop-parent.invariant.parents;
+  frontier = c.know.ensures.frontier ∙ c.loop-parent.invariant.frontier;
+  depth = c.know.ensures.depth ∙ c.loop-parent.invariant.depth;
+  expanded = c.know.ensures.expanded ∙ c.loop-parent.invariant.expanded;
+  tips = c.loop-parent.invariant.tips;
+  ends = c.loop-parent.invariant.ends;
+  ready = c.loop-parent.invariant.ready;
+  taken = c.loop-parent.invariant.taken;
+  known = λ p m. ⊎_elim (c.loop-parent.invariant.known p)
+      (λ e. subst (Knows (g.F.Find.objects c.read.new.self.find) (rows_of c.read.new.self.graph) c.read.new.self.standing c.args.self.now.counting.frontier) e
+      (knows_by g.F.Find.objects c.loop-parent.invariant.find c.loop-parent.invariant.graph c.loop-parent.invariant.standing c.loop-parent.invariant.frontier _ c.in_default.ensures.known))
+      (take_more c.as_slice-parent-items.result.now c.loop-parent.parent-index (c.loop-parent.parent-index + 1) _ p (omega arith) c.loop-parent-test.true m);
+}

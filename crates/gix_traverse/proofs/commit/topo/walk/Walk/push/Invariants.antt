@@ -1,7 +1,10 @@
-use Rattle.std.proofs.Common.{◌≡◌}
+use Rattle.std.proofs.Common.{◌≡◌, Contains, take}
+use Rattle.gix_parts.specs.declared.hash.ObjectId.{ObjectId}
+use Rattle.gix_traverse.specs.History.Reading.{rows_of}
+use Rattle.gix_traverse.specs.Topo.Inside.Releasing.{Knows}
 use Rattle.gix_traverse.proofs.commit.topo.walk.Walk.push.Given as goal
 
--- looking parents up changes nothing but the text that was read
+-- looking parents up changes nothing but the text that was read; those before the index are known
 abbrev pub invariant-loop-parent : goal.invariant-loop-parent
 invariant-loop-parent g l = record {
   find : l.self.counting.reader.find ≡ l.initial.self.counting.reader.find;
@@ -15,4 +18,5 @@ invariant-loop-parent g l = record {
   ends : l.self.ends ≡ l.initial.self.ends;
   ready : l.self.ready ≡ l.initial.self.ready;
   taken : l.self.taken ≡ l.initial.self.taken;
+  known : (p : ObjectId) → Contains (take l.parent-index l.parent-items) p → Knows (g.F.Find.objects l.initial.self.counting.reader.find) (rows_of l.initial.self.counting.reader.graph) l.initial.self.counting.reader.standing l.initial.self.counting.frontier p;
 }

@@ -2,7 +2,7 @@ use Rattle.std.proofs.Common.{sym, ◌∙◌, inr}
 use Rattle.gix_traverse.specs.Topo.Inside.ReadySet.{as_ready, ready_in}
 use Rattle.gix_traverse.specs.Topo.Inside.Releasing.{plan_of, counted_by}
 use Rattle.gix_traverse.specs.Topo.Inside.Steady.{TakesReady, IsHeld, ended, given, failed}
-use Rattle.gix_traverse.specs.Topo.Walk.{IsFault, IsLate}
+use Rattle.gix_traverse.specs.Topo.Walk.{IsNextReady, IsFault, IsLate}
 use Rattle.gix_traverse.proofs.Topo.Taking.Turn.{popped, turned, turn_faults}
 use Rattle.gix_traverse.proofs.commit.topo.walk.Walk.turn.Goals as goal
 
@@ -18,7 +18,7 @@ returns-in_err-found-clause-turns g c =
 
 pub returns-in-Err-clause-turns : goal.returns-in-Err-clause-turns
 returns-in-Err-clause-turns g c =
-    let f : IsFault g.F.Find.objects g.F.Find.faulty (plan_of c.args.self.now) c.in-Err.fault × IsLate g.F.Find.objects (plan_of c.args.self.now) c.in-Err.fault = turn_faults g.F.Find.objects g.F.Find.faulty c.args.self.now c.pop.new.self c.pop.ensures.sorting (as_ready c.in_ok-found.found) c.in_ok-found.ensures.chosen c.requires.«open» c.in-Err.fault c.in-Err.ensures.fault in
+    let f : IsFault g.F.Find.objects g.F.Find.faulty (plan_of c.args.self.now) (IsNextReady g.F.Find.objects (plan_of c.args.self.now) c.args.self.now.taken (as_ready c.in_ok-found.found).id) c.in-Err.fault × IsLate g.F.Find.objects (plan_of c.args.self.now) (IsNextReady g.F.Find.objects (plan_of c.args.self.now) c.args.self.now.taken (as_ready c.in_ok-found.found).id) c.in-Err.fault = turn_faults g.F.Find.objects g.F.Find.faulty c.args.self.now c.pop.new.self c.pop.ensures.sorting (as_ready c.in_ok-found.found) c.in_ok-found.ensures.chosen c.requires.«open» c.in-Err.fault c.in-Err.ensures.fault in
     failed (as_ready c.in_ok-found.found) (ready_in c.pop.new.self) c.in_ok-found.ensures.chosen f.0 f.1
     ((λ k. record { store = c.take.new.self.counting.reader.find; rows = (plan_of c.take.new.self).rows; parents = c.take.new.self.counting.parents; sorting = c.clear.ensures.sorting k; tips = c.take.new.self.tips.items; ends = c.take.new.self.ends.items }) ∙ c.take.ensures.same ∙ popped c.args.self.now c.pop.new.self c.pop.ensures.sorting)
     c.clear.ensures.none
