@@ -1,8 +1,13 @@
 -- The statements of the laws of simple walks, over any store and predicate.
 use Rattle.std.specs.Prelude.{◌≡◌, ◌≤◌, ◌≤ℤ◌, ◌↔◌, ℕ, suc, List, [], ◌++◌, Bool, false, true, Some, None, Result, All, Contains, length, slice_get, filter}
+use Rattle.std.specs.Cmp.Lexicographic.{slice_cmp}
 use Rattle.std.specs.FinSet as set
 use Rattle.std.specs.List.{AllZip}
+use Rattle.std.specs.Option.{option_cmp}
+use Rattle.std.specs.Ordering.{nat_cmp, int_cmp, ordering_then}
+use Rattle.std.specs.declared.cmp.Ordering.{Ordering}
 use Rattle.gix_parts.specs.declared.hash.ObjectId.{ObjectId}
+use Rattle.gix_parts.specs.Id.{id_cmp}
 use Rattle.gix_parts.specs.Object.{Objects}
 use Rattle.gix_traverse.specs.declared.commit.Info.{Info}
 use Rattle.gix_traverse.specs.declared.commit.Parents.TheVariants as mode
@@ -17,6 +22,13 @@ use Rattle.gix_traverse.specs.Simple.Walk.{SimpleWalk, May, IsMade, ids_of, time
 use Rattle.gix_traverse.specs.Simple.Building.{IsBuilt}
 use Rattle.gix_traverse.specs.Simple.Laws.{IsFresh, IsWholeRun, IsPlainRun, IsPlain, GivesInOrder, AreDistinct, AnswersBy, IsNewWalk, IsNoRefusal, GivesBreadthFirst, new_ids, accepted_parents, recent_parents, next_of, starts_of, named_in, answers_left, given_ids}
 use Rattle.gix_traverse.specs.Simple.Runs.{Drawn, AsksOnce, TellsGenerations, AreAlike, AreBuiltAlike, GiveTheSame, GivesUnhidden}
+
+-- commits are compared by their ids, then by their parents, then by their generations, and then by their times
+abbrev pub info_cmp : Info → Info → Ordering
+info_cmp a b =
+    ordering_then (id_cmp a.id b.id)
+    (ordering_then (slice_cmp id_cmp a.parent_ids.items b.parent_ids.items)
+    (ordering_then (option_cmp nat_cmp a.generation b.generation) (option_cmp int_cmp a.commit_time b.commit_time)))
 
 -- there is a test of what ids reach
 abbrev pub ReachIsDecided : Type 0

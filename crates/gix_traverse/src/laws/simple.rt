@@ -1,9 +1,11 @@
-//! Laws of `commit::Simple`.
+//! Laws of `commit::Simple`, and of the commits that walks give.
 
 ghost use Rattle.gix_traverse.specs.Simple.Statements.{MakesNewWalks, BuildsFreshWalks, NewWalksGiveBreadthFirst, PlainRunsAreInBreadthOrder, PlainRunsAreInTimeOrder, RunsAreInOrder, GivesEachOnce};
-ghost use Rattle.gix_traverse.specs.Simple.Statements.{BuildsAlike, HidesWhatIsReached, RowsLeaveTheIds, TellsTheGenerations, TimesFall, GivesNeverTwice, AsksNeverTwice, Ends, ReachIsDecided};
+ghost use Rattle.std.specs.Prelude.{◌≡◌};
+ghost use Rattle.gix_traverse.specs.declared.commit.Info.{Info as InfoRecord};
+ghost use Rattle.gix_traverse.specs.Simple.Statements.{info_cmp, BuildsAlike, HidesWhatIsReached, RowsLeaveTheIds, TellsTheGenerations, TimesFall, GivesNeverTwice, AsksNeverTwice, Ends, ReachIsDecided};
 
-use crate::commit::Predicate;
+use crate::commit::{Info, Predicate};
 use gix_parts::object::find::Find;
 
 /// A walk that was just made: the accepted tips are pending, each at its first place, and nothing else is.
@@ -91,4 +93,9 @@ pub fn ends<F: Find, P: Predicate>()
 /// There is a test of what ids reach.
 pub fn reach_is_decided()
     ensures { ReachIsDecided }
+{}
+
+/// Commits are compared by their ids, then by their parents, then by their generations, and then by their times.
+pub fn infos_are_ordered()
+    ensures { (a b : InfoRecord) → ⟦<Info as Ord>⟧.cmp a b ≡ info_cmp a b }
 {}
