@@ -10,5 +10,7 @@ pub mod Errors
 pub mod Laws
 -- What holds along the answers that are drawn, and of two walks that were built alike.
 pub mod Runs
+-- The statements of the laws.
+pub mod Statements
 -- The code's own steps. Nobody but a maintainer needs them.
 pub mod Inside

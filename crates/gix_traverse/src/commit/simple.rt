@@ -1,11 +1,12 @@
 //! Walks from commits to their parents, breadth first or by commit time.
-ghost use Rattle.std.specs.Prelude.{◌≡◌, ◌≢◌, List, Ok, IfOk, IfErr};
-ghost use Rattle.std.specs.Iterator.{at_most, IsFinite, Drains};
+ghost use Rattle.std.specs.Prelude.{◌≡◌, ◌≢◌, Ok, IfOk, IfErr};
+ghost use Rattle.std.specs.Iterator.{at_most, IsFiniteIterable};
 ghost use Rattle.gix_parts.specs.declared.hash.ObjectId.{ObjectId};
 ghost use Rattle.gix_parts.specs.CommitItems.{commit_items};
 ghost use Rattle.gix_parts.specs.CommitRefIter.{commit_items_left};
 ghost use Rattle.gix_traverse.specs.declared.commit.simple.Sorting.TheVariants as by;
 ghost use Rattle.gix_traverse.specs.declared.commit.simple.Error.TheVariants as error;
+ghost use Rattle.gix_traverse.specs.History.Tips.{Draws};
 ghost use Rattle.gix_traverse.specs.Simple.Walk.{IsMade, Next};
 ghost use Rattle.gix_traverse.specs.Simple.Building.{IsSortedByTime, FailsAtTip};
 ghost use Rattle.gix_traverse.specs.Simple.Inside.Steps.{rows_of};
@@ -214,7 +215,20 @@ impl<F, P> Model for Simple<F, P> {
 
     ghost coded = { Prim.hlevel (codes, id_set_code) };
 
-    ghost view = { λ w. record { store = w.find; predicate = w.predicate; rows = rows_of w.graph; parents = w.parents; sorting = w.sorting; pending = w.pending; seen = w.seen; remembered = w.remembered; hidden_tips = w.hidden_tips.items; hidden = w.hidden; text = w.text.items; text_kind = w.text_kind } };
+    ghost view = { λ w. record {
+      store = w.find;
+      predicate = w.predicate;
+      rows = rows_of w.graph;
+      parents = w.parents;
+      sorting = w.sorting;
+      pending = w.pending;
+      seen = w.seen;
+      remembered = w.remembered;
+      hidden_tips = w.hidden_tips.items;
+      hidden = w.hidden;
+      text = w.text.items;
+      text_kind = w.text_kind;
+    } };
 }
 
 impl<F: Find + Drop> Simple<F, Unfiltered> {
@@ -230,8 +244,8 @@ impl<F: Find + Drop> Simple<F, Unfiltered> {
     ) -> Result<Self, AllocError>
     where
         T::IntoIter: Drop,
-        requires { (it : T.IntoIter) → T.into_iter_gives tips it → T.IntoIter.can_next it × IsFinite (T.IntoIter.remaining it) }
-        ensures { IfOk result (λ walk. (it : T.IntoIter) × (ids : List ObjectId) × T.into_iter_gives tips it × Drains T.IntoIter.next_gives it ids × IsMade F.objects F.faulty ⟦<Unfiltered as Predicate>⟧.answers find (record {}) ids walk) }
+        requires { IsFiniteIterable T.into_iter_gives T.IntoIter.can_next T.IntoIter.remaining tips }
+        ensures { IfOk result (λ walk. Draws T.into_iter_gives T.IntoIter.next_gives tips (λ ids. IsMade F.objects F.faulty ⟦<Unfiltered as Predicate>⟧.answers find (record {}) ids walk)) }
     {
         Simple::filtered(alloc, tips, find, Unfiltered)
     }
@@ -252,9 +266,9 @@ impl<F: Find + Drop, P: Predicate + Drop> Simple<F, P> {
     ) -> Result<Self, AllocError>
     where
         T::IntoIter: Drop,
-        requires ends { (it : T.IntoIter) → T.into_iter_gives tips it → T.IntoIter.can_next it × IsFinite (T.IntoIter.remaining it) }
+        requires ends { IsFiniteIterable T.into_iter_gives T.IntoIter.can_next T.IntoIter.remaining tips }
         requires asks { P.can_accept predicate }
-        ensures made { IfOk result (λ walk. (it : T.IntoIter) × (ids : List ObjectId) × T.into_iter_gives tips it × Drains T.IntoIter.next_gives it ids × IsMade F.objects F.faulty P.answers find predicate ids walk) }
+        ensures made { IfOk result (λ walk. Draws T.into_iter_gives T.IntoIter.next_gives tips (λ ids. IsMade F.objects F.faulty P.answers find predicate ids walk)) }
         ensures asks { IfOk result (λ walk. P.can_accept walk.predicate) }
     {
         let mut walk = Simple {
@@ -314,8 +328,8 @@ impl<F: Find + Drop, P: Predicate + Drop> Simple<F, P> {
     pub fn hide<T: IntoIterator<Item = ObjectId>>(mut self, tips: T) -> Result<Self, Error>
     where
         T::IntoIter: Drop,
-        requires { (it : T.IntoIter) → T.into_iter_gives tips it → T.IntoIter.can_next it × IsFinite (T.IntoIter.remaining it) }
-        ensures ok { IfOk result (λ walk. (it : T.IntoIter) × (ids : List ObjectId) × T.into_iter_gives tips it × Drains T.IntoIter.next_gives it ids × (walk ≡ record self { hidden_tips = ids })) }
+        requires { IsFiniteIterable T.into_iter_gives T.IntoIter.can_next T.IntoIter.remaining tips }
+        ensures ok { IfOk result (λ walk. Draws T.into_iter_gives T.IntoIter.next_gives tips (λ ids. walk ≡ record self { hidden_tips = ids })) }
         ensures err { IfErr result (λ e. e ≡ error.Memory) }
     {
         let mut hidden_tips = Vec::new(self.alloc);

@@ -62,7 +62,8 @@ impl<F: Find + Drop, P: Predicate + Drop> Simple<F, P> {
 
     fn painted(&self, tips: &VecDeque<Pending>) -> Result<Painting, Hidden>
         ensures ok { IfOk result (λ p. Paints (F.objects self.now.store) self.now.rows (ids_of tips.now.items) self.now.hidden_tips p.hidden (if p.rows_stand then self.now.rows else [])) }
-        ensures fault { IfErr result (λ why. why ≢ hidden_by.Find existing.Memory → IsHiddenFault (F.objects self.now.store) (F.faulty self.now.store) self.now.rows (ids_of tips.now.items) self.now.hidden_tips why) }
+        ensures fault { IfErr result (λ why. why ≢ hidden_by.Find existing.Memory → IsHiddenFault (F.objects self.now.store) (F.faulty self.now.store) self.now.rows
+            (ids_of tips.now.items) self.now.hidden_tips why) }
     {
         paint(
             self.alloc,

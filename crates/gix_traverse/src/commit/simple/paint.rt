@@ -300,7 +300,8 @@ pub(super) fn paint<'a, F: Find>(
     hidden_tips: &[ObjectId],
 ) -> Result<Painting, Hidden>
     ensures ok { IfOk result (λ p. Paints (F.objects objects.now) (rows_in graph.entry) (ids_of tips.now.items) hidden_tips.now p.hidden (if p.rows_stand then rows_in graph.entry else [])) }
-    ensures fault { IfErr result (λ why. why ≢ Hidden.Find existing.Memory → IsHiddenFault (F.objects objects.now) (F.faulty objects.now) (rows_in graph.entry) (ids_of tips.now.items) hidden_tips.now why) }
+    ensures fault { IfErr result (λ why. why ≢ Hidden.Find existing.Memory → IsHiddenFault (F.objects objects.now) (F.faulty objects.now) (rows_in graph.entry)
+        (ids_of tips.now.items) hidden_tips.now why) }
 {
     let mut painter = Painter {
         source: Source {

@@ -180,7 +180,8 @@ impl<F: Find + Drop, P: Predicate + Drop> Simple<F, P> {
 
     // An accepted parent becomes pending, unless it is older than the cutoff.
     fn enqueue(&mut self, id: ObjectId, time: i64) -> Result<(), AllocError>
-        ensures ok { OnOk result (Enqueues F.objects F.faulty P.answers (time_order self.old.parents self.old.sorting) (cutoff self.old.parents self.old.sorting) self.old.pending id time self.new.pending) }
+        ensures ok { OnOk result (Enqueues F.objects F.faulty P.answers (time_order self.old.parents self.old.sorting) (cutoff self.old.parents self.old.sorting)
+            self.old.pending id time self.new.pending) }
         ensures err { OnErr result (self.new.pending ≡ []) }
         ensures rest { self.new ≡ record self.old { pending = self.new.pending } }
     {
@@ -253,7 +254,8 @@ impl<F: Find + Drop, P: Predicate + Drop> Simple<F, P> {
         generation: Option<u32>,
         treated: Result<(), Stop>,
     ) -> Result<Info, Error>
-        ensures concludes { Concludes F.objects F.faulty P.answers taken.id scanned.parent_ids.items generation (given_time self.old taken) self.old.text scanned.fault self.old (how_ended treated) result self.new }
+        ensures concludes { Concludes F.objects F.faulty P.answers taken.id scanned.parent_ids.items generation (given_time self.old taken)
+            self.old.text scanned.fault self.old (how_ended treated) result self.new }
         ensures same { self.new.predicate ≡ self.old.predicate }
     {
         if let Err(stop) = treated {
