@@ -171,11 +171,11 @@ module _ (objects : Objects) (old : Option (List ℕ)) (by : Sorting) (tips hidd
   pub serves_walk : (new : Option (List ℕ)) (walk : Walk) → StartsFrom objects by tips hidden walk → (result : Result (Unit {0}) Fault) → (result ≢ Err fault.Write → WritesAll Answers IsWalkFault walk old result new) → Serves objects old (Commits (Simple by) tips hidden) result new
   serves_walk new walk starts = serves_drawn objects old (Simple by) tips hidden Answers IsWalkFault new walk (λ _ w. walked walk w.infos starts w.ends w.appends)
 
-  not_started : (e : Fault) → (why : Error) × FailsAtStart objects tips why × (e ≡ fault_of_walk why) → Serves objects old (Commits (Simple by) tips hidden) (Err e) old
+  not_started : (e : Fault) → (why : Error) × FailsAtStart objects by tips why × (e ≡ fault_of_walk why) → Serves objects old (Commits (Simple by) tips hidden) (Err e) old
   not_started e h = subst (λ (f : Fault). Serves objects old (Commits (Simple by) tips hidden) (Err f) old) (sym h.2) (not_walked h.0 h.1)
 
   -- the walk couldn't start
-  pub serves_no_walk : (result : Result (Unit {0}) Fault) (e : Fault) → result ≡ Err e → IsStartFault objects tips e → Serves objects old (Commits (Simple by) tips hidden) result old
+  pub serves_no_walk : (result : Result (Unit {0}) Fault) (e : Fault) → result ≡ Err e → IsStartFault objects by tips e → Serves objects old (Commits (Simple by) tips hidden) result old
   serves_no_walk result e same h = serves_failed objects old (Simple by) tips hidden result e same (λ other. not_started e (h other))
 
 module _ (objects : Objects) (old : Option (List ℕ)) (by : TopoSorting) (tips ends : List ObjectId) where

@@ -27,7 +27,7 @@ pub data Serves (objects : Objects) (old : Option (List ℕ)) : Request → Resu
   -- the lines of the commits before a fault are written
   walked : {by : Sorting} {tips hidden : List ObjectId} (walk : Walk) (infos : List Info) {answer : Result (Unit {0}) Fault} {new : Option (List ℕ)}
       → StartsFrom objects by tips hidden walk → Ends Answers IsWalkFault walk infos answer → Appends old new (lines_of infos) → Serves objects old (Commits (Simple by) tips hidden) answer new
-  not_walked : {by : Sorting} {tips hidden : List ObjectId} (e : Error) → FailsAtStart objects tips e → Serves objects old (Commits (Simple by) tips hidden) (Err (fault_of_walk e)) old
+  not_walked : {by : Sorting} {tips hidden : List ObjectId} (e : Error) → FailsAtStart objects by tips e → Serves objects old (Commits (Simple by) tips hidden) (Err (fault_of_walk e)) old
   walked_down : {by : TopoSorting} {tips ends : List ObjectId} (walk : topo.Walk) (infos : List Info) {answer : Result (Unit {0}) Fault} {new : Option (List ℕ)}
       → topo.IsBuiltFrom objects by tips ends (Ok walk) → Ends topo.Answers topo.IsWalkFault walk infos answer → Appends old new (lines_of infos) → Serves objects old (Commits (Topo by) tips ends) answer new
   not_built : {by : TopoSorting} {tips ends : List ObjectId} (e : TopoError) → topo.IsBuiltFrom objects by tips ends (Err e) → Serves objects old (Commits (Topo by) tips ends) (Err (fault_of_topo_walk e)) old

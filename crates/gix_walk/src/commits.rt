@@ -23,7 +23,7 @@ pub fn walk_from(
     store: MemoryStore,
 ) -> Result<Simple<MemoryStore, Unfiltered>, Fault>
     ensures ok { IfOk result (StartsFrom store sorting tips.items hidden.items) }
-    ensures err { IfErr result (IsStartFault store tips.items) }
+    ensures err { IfErr result (IsStartFault store sorting tips.items) }
 {
     let made = Simple::new(alloc, tips, store)?;
     let sorted = made.sorting(sorting)?;
