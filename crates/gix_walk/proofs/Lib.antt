@@ -9,5 +9,6 @@ mod InternalFacts
 mod TreeFacts
 mod TopoInternalFacts
 mod FileFacts
+mod AheadFacts
 mod StartFacts
 mod RunFacts

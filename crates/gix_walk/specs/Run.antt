@@ -1,5 +1,5 @@
 -- What a run of the program may answer and write.
-use Rattle.std.specs.Prelude.{◌≡◌, ℕ, List, Option, Result, Ok, Err}
+use Rattle.std.specs.Prelude.{◌≡◌, ◌⊎◌, ℕ, List, Option, Result, Ok, Err}
 use Rattle.std.specs.Io.KnownBytes.{Appends}
 use Rattle.gix_parts.specs.declared.hash.ObjectId.{ObjectId}
 use Rattle.gix_parts.specs.Object.{Objects}
@@ -13,13 +13,14 @@ use Rattle.gix_traverse.specs.Trees.Tracked.{Tracked}
 use Rattle.gix_walk.specs.declared.fault.Fault.{Fault}
 use Rattle.gix_walk.specs.declared.fault.Fault.TheVariants as fault
 use Rattle.gix_walk.specs.declared.words.Order.TheVariants.{Simple, Topo}
+use Rattle.gix_walk.specs.Ahead.{Counts, FailsToCount, ahead_line}
 use Rattle.gix_walk.specs.Faults.{fault_of_walk, fault_of_topo_walk, fault_of_tree_walk}
 use Rattle.gix_walk.specs.Files.{RecordsTree, file_lines}
 use Rattle.gix_walk.specs.Input.{Tells}
 use Rattle.gix_walk.specs.Records.{Record, AreRecords, IsBadRecord, stored}
 use Rattle.gix_walk.specs.TopoWalked as topo
 use Rattle.gix_walk.specs.Walked.{Walk, Answers, IsWalkFault, StartsFrom, FailsAtStart, Ends, lines_of}
-use Rattle.gix_walk.specs.Words.{Request, Commits, Files, request_of}
+use Rattle.gix_walk.specs.Words.{Request, Commits, Files, Ahead, request_of}
 
 -- Over stored objects and a writer that held these bytes, what was asked for may have this answer and leave the writer with those
 -- bytes.
@@ -35,6 +36,10 @@ pub data Serves (objects : Objects) (old : Option (List ℕ)) : Request → Resu
       → RecordsTree objects tree recorder (Ok tt) → Appends old new (file_lines recorder.held.records) → Serves objects old (Files tree) (Ok tt) new
   -- of a tree whose walk failed no line is written
   not_listed : {tree : ObjectId} (recorder : Tracked) (e : TreeError) → RecordsTree objects tree recorder (Err e) → Serves objects old (Files tree) (Err (fault_of_tree_walk e)) old
+  counted : {one other : ObjectId} (ahead behind : ℕ) {new : Option (List ℕ)}
+      → Counts objects one other ahead → Counts objects other one behind → Appends old new (ahead_line ahead behind) → Serves objects old (Ahead one other) (Ok tt) new
+  -- of two commits one of whose walks failed nothing is written
+  not_counted : {one other : ObjectId} {e : Fault} → FailsToCount objects one other e ⊎ FailsToCount objects other one e → Serves objects old (Ahead one other) (Err e) old
   -- memory was wanting before anything was written
   unserved : {request : Request} → Serves objects old request (Err fault.Memory) old
   -- of what was written nothing is said

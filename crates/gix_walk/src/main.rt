@@ -1,6 +1,7 @@
 //! Lists the commits that some commits reach, or the files of a tree, from a stream of a repository's objects.
 #![tactic(auto)]
 
+mod ahead;
 mod commits;
 mod fault;
 mod files;
