@@ -12,3 +12,5 @@ mod FileFacts
 mod AheadFacts
 mod StartFacts
 mod RunFacts
+mod SimpleRuns
+mod AheadRuns

@@ -8,6 +8,7 @@ pub mod TopoWalked
 pub mod Files
 pub mod Ahead
 pub mod Run
+pub mod Histories
 pub mod Output
 pub mod Input
 pub mod Examples

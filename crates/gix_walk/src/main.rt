@@ -6,6 +6,7 @@ mod commits;
 mod fault;
 mod files;
 mod input;
+pub mod laws;
 mod output;
 mod records;
 mod run;

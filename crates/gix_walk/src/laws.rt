@@ -1,0 +1,9 @@
+//! What a run of the program writes, as laws over the definitions: functions that do nothing, and whose contracts are proved.
+
+ghost use Rattle.gix_walk.specs.Histories.{AheadCounts};
+
+/// `ahead` writes the number of commits that the one reaches and the other doesn't, and the number of those that the other reaches
+/// and the one doesn't.
+pub fn ahead_counts()
+    ensures { AheadCounts }
+{}
