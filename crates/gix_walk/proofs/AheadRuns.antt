@@ -15,6 +15,7 @@ use Rattle.gix_walk.specs.Run.{Serves, served, counted}
 use Rattle.gix_walk.specs.Walked.{Walk, Answers, Ends, finished, given}
 use Rattle.gix_walk.specs.Words.{Request, Ahead}
 use Rattle.gix_walk.proofs.RecordFacts.{only_reading}
+use Rattle.gix_walk.proofs.CommitRuns.{served_so}
 use Rattle.gix_walk.proofs.SimpleRuns.{once, exact, all_read}
 
 length-map : (infos : List Info) → length (map (λ info. info.id) infos) ≡ length infos
@@ -40,16 +41,9 @@ module _ (objects : Objects) (tip hidden : ObjectId) where
             number = length-map infos ∙ sym c.2;
           }
 
-counted_so : (objects : Objects) (one other : ObjectId) (old new : Option (List ℕ)) (request : Request) → request ≡ Ahead one other → Serves objects old request (Ok tt) new
+counted_so : (objects : Objects) (one other : ObjectId) (old new : Option (List ℕ)) → Serves objects old (Ahead one other) (Ok tt) new
     → (ahead behind : ℕ) × IsNumberOf (IsShown objects (one ∷ []) (other ∷ [])) ahead × IsNumberOf (IsShown objects (other ∷ []) (one ∷ [])) behind × Appends old new (ahead_line ahead behind)
-counted_so objects one other old new request e s = go (subst (λ r. Serves objects old r (Ok tt) new) e s)
-  where
-    go : Serves objects old (Ahead one other) (Ok tt) new → (ahead behind : ℕ) × IsNumberOf (IsShown objects (one ∷ []) (other ∷ [])) ahead × IsNumberOf (IsShown objects (other ∷ []) (one ∷ [])) behind × Appends old new (ahead_line ahead behind)
-    go (counted ahead behind a b written) = (ahead, behind, number_of objects one other ahead a, number_of objects other one behind b, written)
+counted_so objects one other old new (counted ahead behind a b written) = (ahead, behind, number_of objects one other ahead a, number_of objects other one behind b, written)
 
 pub ahead_counts : AheadCounts
-ahead_counts words input records one other old new asked are (served request there read t same is s) =
-    counted_so (stored records) one other old new request (ok_same (sym t ∙ asked)) (subst (λ rs. Serves (stored rs) old request (Ok tt) new) (only_reading read records input (subst (AreRecords read) same is) are) s)
-  where
-    ok_same : {a b : Request} → ◌≡◌ {A = Result Request Fault} (Ok a) (Ok b) → a ≡ b
-    ok_same e = cc
+ahead_counts words input records one other old new asked are runs = counted_so (stored records) one other old new (served_so words input records (Ahead one other) old new asked are runs)

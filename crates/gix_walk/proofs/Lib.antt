@@ -13,4 +13,6 @@ mod AheadFacts
 mod StartFacts
 mod RunFacts
 mod SimpleRuns
+mod UncutWords
+mod CommitRuns
 mod AheadRuns

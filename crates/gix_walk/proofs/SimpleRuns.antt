@@ -1,7 +1,8 @@
 -- What a simple walk over records gives that is drawn to its end, told by what commits reach.
-use Rattle.std.specs.Prelude.{◌≡◌, ◌≢◌, ◌↔◌, ℤ, List, [], ◌∷◌, ◌++◌, map, filter, Bool, true, false, ◌&&◌, cond, Option, Some, None, Result, Ok, Err, Contains, All, IsSome}
+use Rattle.std.specs.Prelude.{◌≡◌, ◌≢◌, ◌↔◌, ℤ, List, [], ◌∷◌, ◌++◌, map, filter, Bool, true, false, ◌&&◌, cond, Option, Some, None, Result, Ok, Err, Contains, All, IsSome, not}
 use Rattle.std.specs.Iterator.{Yields}
 use Rattle.std.specs.List.{AllZip}
+use Rattle.std.proofs.Math.Path.{transport}
 use Rattle.std.proofs.Common.{refl, sym, ap, subst, ◌∙◌, ⊎_elim, inl, inr}
 use Rattle.std.proofs.lemmas.Bool.{false≢true, true≢false, false_from_ne_true, and_parts}
 use Rattle.std.proofs.lemmas.List.Elements.{All-nil, All-cons, Contains-append_left, Contains-append_right, Contains-append_cases}
@@ -17,18 +18,18 @@ use Rattle.gix_traverse.specs.declared.commit.simple.Sorting.{Sorting}
 use Rattle.gix_traverse.specs.declared.commit.simple.Sorting.TheVariants as sorting
 use Rattle.gix_traverse.specs.declared.commit.simple.pending.Pending.{Pending}
 use Rattle.gix_traverse.specs.declared.commit.simple.CommitTimeOrder.{CommitTimeOrder}
-use Rattle.gix_traverse.specs.History.Commits.{ReadsWhole, commit_at, parents_of}
+use Rattle.gix_traverse.specs.History.Commits.{ReadsWhole, commit_at, parents_of, time_of}
 use Rattle.gix_traverse.specs.History.Reach.{Reaches, start, step, Tells}
 use Rattle.gix_traverse.specs.Simple.Building.{IsBuilt, made, breadth_first, by_time, hides, recent, timed}
-use Rattle.gix_traverse.specs.Simple.Laws.{AnswersBy, AreDistinct, IsFresh, IsGiven, IsNoRefusal, IsNewWalk, IsWholeRun, GivesInOrder, kept_parents, new_ids, next_of, starts_of}
-use Rattle.gix_traverse.specs.Simple.Walk.{May, unhidden, paints, faulty_history, no_memory, cutoff, ids_of, time_order}
+use Rattle.gix_traverse.specs.Simple.Laws.{AnswersBy, AreDistinct, IsFresh, IsGiven, IsNoRefusal, IsNewWalk, IsWholeRun, GivesInOrder, kept_parents, new_ids, next_of, starts_of, IsInOrder}
+use Rattle.gix_traverse.specs.Simple.Walk.{May, is_older, unhidden, paints, faulty_history, no_memory, cutoff, ids_of, time_order}
 use Rattle.gix_traverse.proofs.Shared.NewIds.{among-filter, times_among, times-fresh}
 use Rattle.gix_traverse.proofs.Shared.Rows.{none_agree}
 use Rattle.gix_traverse.proofs.Simple.Builders.{built}
 use Rattle.gix_traverse.proofs.Simple.Corollaries.{gives, gives_once, shown_reached, reached_shown}
 use Rattle.gix_traverse.proofs.Simple.ReachDecided.{reach_test}
 use Rattle.gix_traverse.proofs.Simple.Tips.{is_new_walk, pending_is}
-use Rattle.gix_walk.specs.Histories.{IsShown}
+use Rattle.gix_walk.specs.Histories.{IsShown, IsListedSo}
 use Rattle.gix_walk.specs.Walked.{Walk, Answers, IsSorted, StartsFrom, objects_of, never_faulty, accepts_all, given}
 
 -- the orders that a command names
@@ -222,6 +223,13 @@ module _ (objects : Objects) (by : Sorting) (tips hidden : List ObjectId) (walk 
       -- and exactly what the tips reach and the hidden ones don't
       pub exact : (i : ObjectId) → Contains (map (λ info. info.id) infos) i ↔ IsShown objects tips hidden i
       exact i = (λ c. shown i ((each.1 i).0 (subst (λ xs. Contains xs i) ids_are c)), λ s. subst (λ xs. Contains xs i) (sym ids_are) ((each.1 i).1 (reached i s)))
+
+      next_is : next_of objects_of opened (λ i. true) test.0 ≡ (λ c. filter (λ i. not (test.0 i)) (parents_of objects c))
+      next_is = (λ k c. filter (λ i. not (test.0 i) && not (is_older (time_of objects i) (uncut_none by uncut k))) (parents_of objects c)) ∙ (λ k c. filter (λ i. and_true (not (test.0 i)) k) (parents_of objects c))
+
+      -- in the order that was asked for
+      pub in_order : IsListedSo objects by tips hidden (map (λ info. info.id) infos)
+      in_order = (test.0, test.1, transport (λ k. IsInOrder (time_order mode.All by) (time_of objects) (next_is k) (filter (λ i. not (test.0 i)) (pending k)) (sym ids_are k)) gave.in_order)
 
 -- a walk from one tip beside one hidden tip that gave no fault has read all that both reach
 pub all_read : (objects : Objects) (tip hider : ObjectId) (walk : Walk) → StartsFrom objects sorting.BreadthFirst (tip ∷ []) (hider ∷ []) walk → (infos : List Info) (at new : Walk) → Yields Answers walk (given infos) at → Answers at None new

@@ -1,19 +1,54 @@
 -- What a run writes of a history, told by what commits reach alone.
-use Rattle.std.specs.Prelude.{◌≡◌, ℕ, List, [], ◌∷◌, Option, Some, Ok}
+use Rattle.std.specs.Prelude.{◌≡◌, ◌↔◌, ℕ, List, [], ◌∷◌, ◌++◌, filter, Bool, false, not, Contains, Option, Some, Ok, IsSome}
 use Rattle.std.specs.Io.KnownBytes.{Appends}
+use Rattle.std.specs.List.{flat_map}
 use Rattle.gix_parts.specs.declared.hash.ObjectId.{ObjectId}
 use Rattle.gix_parts.specs.Object.{Objects}
-use Rattle.gix_traverse.specs.History.Commits.{parents_of}
-use Rattle.gix_traverse.specs.History.Reach.{Reaches}
+use Rattle.gix_traverse.specs.declared.commit.Parents.TheVariants as mode
+use Rattle.gix_traverse.specs.declared.commit.simple.Sorting.{Sorting}
+use Rattle.gix_traverse.specs.History.Commits.{parents_of, commit_at, time_of}
+use Rattle.gix_traverse.specs.History.Reach.{Reaches, Tells}
+use Rattle.gix_traverse.specs.Simple.Laws.{AreDistinct, IsInOrder, new_ids}
+use Rattle.gix_traverse.specs.Simple.Walk.{time_order}
 use Rattle.gix_traverse.specs.Topo.Walk.{IsNumberOf}
+use Rattle.gix_walk.specs.declared.words.Order.TheVariants.{Simple}
 use Rattle.gix_walk.specs.Ahead.{ahead_line}
 use Rattle.gix_walk.specs.Records.{Record, AreRecords, stored}
 use Rattle.gix_walk.specs.Run.{Runs}
-use Rattle.gix_walk.specs.Words.{Ahead, request_of}
+use Rattle.gix_walk.specs.Walked.{line_of}
+use Rattle.gix_walk.specs.Words.{Ahead, Commits, request_of}
 
 -- the tips reach the commit, and the hidden ones don't
 abbrev pub IsShown : Objects → List ObjectId → List ObjectId → ObjectId → Type 0
 IsShown objects tips hidden i = Reaches (parents_of objects) tips i × (Reaches (parents_of objects) hidden i → ⊥)
+
+-- all that the ids reach are whole commits
+abbrev pub AreWhole : Objects → List ObjectId → Type 0
+AreWhole objects ids = (i : ObjectId) → Reaches (parents_of objects) ids i → IsSome (commit_at objects i)
+
+-- in breadth order or in one by time, from the tips through parents, without what the hidden tips reach
+abbrev pub IsListedSo : Objects → Sorting → List ObjectId → List ObjectId → List ObjectId → Type 0
+IsListedSo objects by tips hidden ids =
+    (hides : ObjectId → Bool) × Tells hides (Reaches (parents_of objects) hidden)
+    × IsInOrder (time_order mode.All by) (time_of objects) (λ c. filter (λ i. not (hides i)) (parents_of objects c)) (filter (λ i. not (hides i)) (new_ids (λ i. false) tips)) ids
+
+-- each id is there once, and exactly those that the tips reach and the hidden ones don't, in the order that was asked for
+pub record Lists (objects : Objects) (by : Sorting) (tips hidden ids : List ObjectId) : Type 0 where
+  pub once : AreDistinct ids
+  pub exact : (i : ObjectId) → Contains ids i ↔ IsShown objects tips hidden i
+  pub in_order : IsListedSo objects by tips hidden ids
+
+-- ids, one a line
+abbrev pub lines_of_ids : List ObjectId → List ℕ
+lines_of_ids ids = flat_map line_of ids
+
+-- Over words that ask for `breadth`, `newest` or `oldest` and records, where all that tips and hidden tips reach are whole commits, a
+-- run that ends well writes such a list.
+abbrev pub SimpleLists : Type 0
+SimpleLists =
+    (words : List (List ℕ)) (input : List ℕ) (records : List Record) (by : Sorting) (tips hidden : List ObjectId) (old new : Option (List ℕ)) →
+    request_of words ≡ Ok (Commits (Simple by) tips hidden) → AreRecords records input → AreWhole (stored records) (tips ++ hidden) → Runs words (Some input) old (Ok tt) new →
+    (ids : List ObjectId) × Lists (stored records) by tips hidden ids × Appends old new (lines_of_ids ids)
 
 -- Over words that ask for it and records, a run of `ahead` that ends well writes how many commits the one reaches and the other
 -- doesn't, and how many the other reaches and the one doesn't.
