@@ -1,20 +1,18 @@
 -- What a run of `ahead` writes, told by what commits reach.
-use Rattle.std.specs.Prelude.{◌≡◌, ℕ, suc, List, [], ◌∷◌, map, length, Option, Result, Ok}
+use Rattle.std.specs.Prelude.{◌≡◌, ℕ, suc, List, [], ◌∷◌, map, length, Option, Ok}
 use Rattle.std.specs.Io.KnownBytes.{Appends}
-use Rattle.std.proofs.Common.{refl, sym, ap, subst, ◌∙◌}
+use Rattle.std.proofs.Common.{refl, sym, ap, ◌∙◌}
 use Rattle.gix_parts.specs.declared.hash.ObjectId.{ObjectId}
 use Rattle.gix_parts.specs.Object.{Objects}
 use Rattle.gix_traverse.specs.declared.commit.Info.{Info}
 use Rattle.gix_traverse.specs.declared.commit.simple.Sorting.TheVariants as sorting
 use Rattle.gix_traverse.specs.Topo.Walk.{IsNumberOf}
-use Rattle.gix_walk.specs.declared.fault.Fault.{Fault}
 use Rattle.gix_walk.specs.Ahead.{Counts, ahead_line}
 use Rattle.gix_walk.specs.Histories.{IsShown, AheadCounts}
-use Rattle.gix_walk.specs.Records.{AreRecords, stored}
-use Rattle.gix_walk.specs.Run.{Serves, served, counted}
+use Rattle.gix_walk.specs.Records.{stored}
+use Rattle.gix_walk.specs.Run.{Serves, counted}
 use Rattle.gix_walk.specs.Walked.{Walk, Answers, Ends, finished, given}
-use Rattle.gix_walk.specs.Words.{Request, Ahead}
-use Rattle.gix_walk.proofs.RecordFacts.{only_reading}
+use Rattle.gix_walk.specs.Words.{Ahead}
 use Rattle.gix_walk.proofs.CommitRuns.{served_so}
 use Rattle.gix_walk.proofs.SimpleRuns.{once, exact, all_read}
 

@@ -15,4 +15,6 @@ mod RunFacts
 mod SimpleRuns
 mod UncutWords
 mod CommitRuns
+mod TopoRuns
+mod FileRuns
 mod AheadRuns

@@ -46,7 +46,7 @@ recent_all : (objects : Objects) (ps : List Pending) → ids_of (recent None (ti
 recent_all objects [] = refl
 recent_all objects (p ∷ ps) = ap (λ is. p.id ∷ is) (recent_all objects ps)
 
-reach_more : (next : ObjectId → List ObjectId) (xs ys : List ObjectId) → ((i : ObjectId) → Contains xs i → Contains ys i) → (i : ObjectId) → Reaches next xs i → Reaches next ys i
+pub reach_more : (next : ObjectId → List ObjectId) (xs ys : List ObjectId) → ((i : ObjectId) → Contains xs i → Contains ys i) → (i : ObjectId) → Reaches next xs i → Reaches next ys i
 reach_more next xs ys f i (start s) = start (f i s)
 reach_more next xs ys f i (step {c = c} r n) = step (reach_more next xs ys f c r) n
 
@@ -64,7 +64,7 @@ same_ids objects order [] (i ∷ ids) h = absurd h
 same_ids objects order (info ∷ infos) [] h = absurd h
 same_ids objects order (info ∷ infos) (i ∷ ids) h = (λ k. h.0.info_is.same_id k ∷ same_ids objects order infos ids h.1 k)
 
-whole_from : (objects : Objects) (i : ObjectId) → IsSome (commit_at objects i) → ReadsWhole objects (never_faulty objects) i
+pub whole_from : (objects : Objects) (i : ObjectId) → IsSome (commit_at objects i) → ReadsWhole objects (never_faulty objects) i
 whole_from objects i h = go (commit_at objects i) refl h
   where
     go : (o : Option Commit) → commit_at objects i ≡ o → IsSome o → ReadsWhole objects (never_faulty objects) i

@@ -1,17 +1,22 @@
 -- What a run writes of a history, told by what commits reach alone.
-use Rattle.std.specs.Prelude.{◌≡◌, ◌↔◌, ℕ, List, [], ◌∷◌, ◌++◌, filter, Bool, false, not, Contains, Option, Some, Ok, IsSome}
+use Rattle.std.specs.Prelude.{◌≡◌, ◌↔◌, ℕ, List, [], ◌∷◌, ◌++◌, filter, Bool, false, not, Contains, Option, Some, Result, Ok, Err, IsSome}
 use Rattle.std.specs.Io.KnownBytes.{Appends}
 use Rattle.std.specs.List.{flat_map}
 use Rattle.gix_parts.specs.declared.hash.ObjectId.{ObjectId}
 use Rattle.gix_parts.specs.Object.{Objects}
 use Rattle.gix_traverse.specs.declared.commit.Parents.TheVariants as mode
 use Rattle.gix_traverse.specs.declared.commit.simple.Sorting.{Sorting}
+use Rattle.gix_traverse.specs.declared.commit.topo.Sorting.{Sorting as TopoSorting}
 use Rattle.gix_traverse.specs.History.Commits.{parents_of, commit_at, time_of}
-use Rattle.gix_traverse.specs.History.Reach.{Reaches, Tells}
+use Rattle.gix_traverse.specs.History.Reach.{Reaches, Tells, IsAcyclic}
+use Rattle.gix_traverse.specs.Orders.WalkSet.{IsInWalk}
 use Rattle.gix_traverse.specs.Simple.Laws.{AreDistinct, IsInOrder, new_ids}
 use Rattle.gix_traverse.specs.Simple.Walk.{time_order}
+use Rattle.gix_traverse.specs.Topo.Laws.{IsSorted}
 use Rattle.gix_traverse.specs.Topo.Walk.{IsNumberOf}
-use Rattle.gix_walk.specs.declared.words.Order.TheVariants.{Simple}
+use Rattle.gix_walk.specs.declared.fault.Fault.{Fault}
+use Rattle.gix_walk.specs.declared.fault.Fault.TheVariants as fault
+use Rattle.gix_walk.specs.declared.words.Order.TheVariants.{Simple, Topo}
 use Rattle.gix_walk.specs.Ahead.{ahead_line}
 use Rattle.gix_walk.specs.Records.{Record, AreRecords, stored}
 use Rattle.gix_walk.specs.Run.{Runs}
@@ -49,6 +54,46 @@ SimpleLists =
     (words : List (List ℕ)) (input : List ℕ) (records : List Record) (by : Sorting) (tips hidden : List ObjectId) (old new : Option (List ℕ)) →
     request_of words ≡ Ok (Commits (Simple by) tips hidden) → AreRecords records input → AreWhole (stored records) (tips ++ hidden) → Runs words (Some input) old (Ok tt) new →
     (ids : List ObjectId) × Lists (stored records) by tips hidden ids × Appends old new (lines_of_ids ids)
+
+-- Each id is there once, none but those that the tips reach and the ends don't, and where no commit is its own ancestor all of them, in
+-- the order that was asked for.
+pub record ListsDown (objects : Objects) (by : TopoSorting) (tips ends ids : List ObjectId) : Type 0 where
+  pub once : AreDistinct ids
+  pub shown : (i : ObjectId) → Contains ids i → IsShown objects tips ends i
+  pub all : IsAcyclic (parents_of objects) → (i : ObjectId) → IsShown objects tips ends i → Contains ids i
+  pub in_order : IsSorted by (time_of objects) (parents_of objects) (IsInWalk (parents_of objects) (parents_of objects) tips ends) tips ids
+
+-- The same of `topo` and `date`.
+abbrev pub TopoLists : Type 0
+TopoLists =
+    (words : List (List ℕ)) (input : List ℕ) (records : List Record) (by : TopoSorting) (tips ends : List ObjectId) (old new : Option (List ℕ)) →
+    request_of words ≡ Ok (Commits (Topo by) tips ends) → AreRecords records input → AreWhole (stored records) (tips ++ ends) → Runs words (Some input) old (Ok tt) new →
+    (ids : List ObjectId) × ListsDown (stored records) by tips ends ids × Appends old new (lines_of_ids ids)
+
+-- memory was wanting, or the input or the output failed
+abbrev pub IsOutside : Fault → Type 0
+IsOutside fault.Memory = Unit {0}
+IsOutside fault.Read = Unit {0}
+IsOutside fault.Write = Unit {0}
+IsOutside fault.Usage = ⊥
+IsOutside (fault.Id n) = ⊥
+IsOutside (fault.Record n) = ⊥
+IsOutside (fault.Missing i) = ⊥
+IsOutside (fault.WrongKind i) = ⊥
+IsOutside fault.Broken = ⊥
+IsOutside (fault.Cycle i) = ⊥
+IsOutside fault.Internal = ⊥
+
+-- nothing in the words and the input was at fault
+abbrev pub EndsWell : Result (Unit {0}) Fault → Type 0
+EndsWell (Ok done) = Unit {0}
+EndsWell (Err e) = IsOutside e
+
+-- A run of `topo` or `date` over whole commits ends well.
+abbrev pub TopoSucceeds : Type 0
+TopoSucceeds =
+    (words : List (List ℕ)) (input : List ℕ) (records : List Record) (by : TopoSorting) (tips ends : List ObjectId) (answer : Result (Unit {0}) Fault) (old new : Option (List ℕ)) →
+    request_of words ≡ Ok (Commits (Topo by) tips ends) → AreRecords records input → AreWhole (stored records) (tips ++ ends) → Runs words (Some input) old answer new → EndsWell answer
 
 -- Over words that ask for it and records, a run of `ahead` that ends well writes how many commits the one reaches and the other
 -- doesn't, and how many the other reaches and the one doesn't.

@@ -9,6 +9,7 @@ pub mod Files
 pub mod Ahead
 pub mod Run
 pub mod Histories
+pub mod Listings
 pub mod Output
 pub mod Input
 pub mod Examples

@@ -1,11 +1,34 @@
 //! What a run of the program writes, as laws over the definitions: functions that do nothing, and whose contracts are proved.
 
-ghost use Rattle.gix_walk.specs.Histories.{AheadCounts, SimpleLists};
+ghost use Rattle.gix_walk.specs.Histories.{AheadCounts, SimpleLists, TopoLists, TopoSucceeds};
+ghost use Rattle.gix_walk.specs.Listings.{FilesLists, FilesSucceeds};
 
 /// `breadth`, `newest` and `oldest` write, where all that is reached are whole commits, the ids of exactly the commits that the tips
 /// reach and the hidden ones don't, each once, in their order.
 pub fn simple_lists()
     ensures { SimpleLists }
+{}
+
+/// `topo` and `date` write, where all that is reached are whole commits, the ids of commits that the tips reach and the ends don't, each
+/// once, in their order; and all of them, where no commit is its own ancestor.
+pub fn topo_lists()
+    ensures { TopoLists }
+{}
+
+/// Where all that is reached are whole commits, `topo` and `date` fail for memory, reading or writing alone.
+pub fn topo_succeeds()
+    ensures { TopoSucceeds }
+{}
+
+/// `files` writes a line for each entry of the tree and of the trees in it, in preorder; with its path, where no name is empty or holds
+/// `/`.
+pub fn files_lists()
+    ensures { FilesLists }
+{}
+
+/// Where each of these trees reads whole and none is in itself, `files` fails for memory, reading or writing alone.
+pub fn files_succeeds()
+    ensures { FilesSucceeds }
 {}
 
 /// `ahead` writes the number of commits that the one reaches and the other doesn't, and the number of those that the other reaches
