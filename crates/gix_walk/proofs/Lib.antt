@@ -17,4 +17,6 @@ mod UncutWords
 mod CommitRuns
 mod TopoRuns
 mod FileRuns
+mod SimpleFaults
+mod SilentRuns
 mod AheadRuns

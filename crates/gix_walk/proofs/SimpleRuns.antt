@@ -130,7 +130,7 @@ module _ (objects : Objects) where
 
 module _ (objects : Objects) (by : Sorting) (tips hidden : List ObjectId) (walk : Walk) (uncut : IsUncut by) (starts : StartsFrom objects by tips hidden walk) where
   -- the walk before its first step, its options written out
-  abbrev opened : Walk
+  abbrev pub opened : Walk
   opened = record walk { store = objects; rows = []; parents = mode.All; sorting = by; hidden_tips = hidden }
 
   new_walk : IsNewWalk objects_of accepts_all objects (λ i. true) tips starts.made
@@ -139,7 +139,7 @@ module _ (objects : Objects) (by : Sorting) (tips hidden : List ObjectId) (walk 
   sorted_so : Follows by starts.made starts.sorted
   sorted_so = follows by uncut starts.made starts.sorted starts.sorts
 
-  same : walk ≡ opened
+  pub same : walk ≡ opened
   same =
       let s : walk.store ≡ objects = ap (λ w. w.store) starts.hides ∙ sorted_so.store ∙ new_walk.same_store in
       let r : walk.rows ≡ [] = ap (λ w. w.rows) starts.hides ∙ sorted_so.rows ∙ new_walk.rowless in
@@ -151,7 +151,7 @@ module _ (objects : Objects) (by : Sorting) (tips hidden : List ObjectId) (walk 
   pending : ids_of walk.pending ≡ new_ids (λ i. false) tips
   pending = ap (λ w. ids_of w.pending) starts.hides ∙ sorted_so.pending ∙ new_walk.pending ∙ ap (new_ids (λ i. false)) (all_kept tips)
 
-  is_tip : (i : ObjectId) → Contains (ids_of walk.pending) i → Contains tips i
+  pub is_tip : (i : ObjectId) → Contains (ids_of walk.pending) i → Contains tips i
   is_tip i c =
       among_is i tips (pending_is objects_of never_faulty accepts_all objects (record {}) (λ j. true) tips starts.made (λ mid new j answer b h. h.0) starts.makes i
       (subst (λ xs. Contains xs i) (ap (λ w. ids_of w.pending) starts.hides ∙ sorted_so.pending) c)).1

@@ -1,9 +1,10 @@
 -- What a run writes of a history, told by what commits reach alone.
-use Rattle.std.specs.Prelude.{◌≡◌, ◌↔◌, ℕ, List, [], ◌∷◌, ◌++◌, filter, Bool, false, not, Contains, Option, Some, Result, Ok, Err, IsSome}
+use Rattle.std.specs.Prelude.{◌≡◌, ◌≢◌, ◌↔◌, ℕ, List, [], ◌∷◌, ◌++◌, map, filter, Bool, false, not, Contains, Option, Some, Result, Ok, Err, IsSome}
 use Rattle.std.specs.Io.KnownBytes.{Appends}
 use Rattle.std.specs.List.{flat_map}
 use Rattle.gix_parts.specs.declared.hash.ObjectId.{ObjectId}
 use Rattle.gix_parts.specs.Object.{Objects}
+use Rattle.gix_traverse.specs.declared.commit.Info.{Info}
 use Rattle.gix_traverse.specs.declared.commit.Parents.TheVariants as mode
 use Rattle.gix_traverse.specs.declared.commit.simple.Sorting.{Sorting}
 use Rattle.gix_traverse.specs.declared.commit.topo.Sorting.{Sorting as TopoSorting}
@@ -16,8 +17,9 @@ use Rattle.gix_traverse.specs.Topo.Laws.{IsSorted}
 use Rattle.gix_traverse.specs.Topo.Walk.{IsNumberOf}
 use Rattle.gix_walk.specs.declared.fault.Fault.{Fault}
 use Rattle.gix_walk.specs.declared.fault.Fault.TheVariants as fault
+use Rattle.gix_walk.specs.declared.words.Order.{Order}
 use Rattle.gix_walk.specs.declared.words.Order.TheVariants.{Simple, Topo}
-use Rattle.gix_walk.specs.Ahead.{ahead_line}
+use Rattle.gix_walk.specs.Ahead.{Draws, ahead_line}
 use Rattle.gix_walk.specs.Records.{Record, AreRecords, stored}
 use Rattle.gix_walk.specs.Run.{Runs}
 use Rattle.gix_walk.specs.Walked.{line_of}
@@ -89,11 +91,30 @@ abbrev pub EndsWell : Result (Unit {0}) Fault → Type 0
 EndsWell (Ok done) = Unit {0}
 EndsWell (Err e) = IsOutside e
 
+-- A run of `breadth`, `newest` or `oldest` over whole commits ends well.
+abbrev pub SimpleSucceeds : Type 0
+SimpleSucceeds =
+    (words : List (List ℕ)) (input : List ℕ) (records : List Record) (by : Sorting) (tips hidden : List ObjectId) (answer : Result (Unit {0}) Fault) (old new : Option (List ℕ)) →
+    request_of words ≡ Ok (Commits (Simple by) tips hidden) → AreRecords records input → AreWhole (stored records) (tips ++ hidden) → Runs words (Some input) old answer new → EndsWell answer
+
+-- The same of `ahead`.
+abbrev pub AheadSucceeds : Type 0
+AheadSucceeds =
+    (words : List (List ℕ)) (input : List ℕ) (records : List Record) (one other : ObjectId) (answer : Result (Unit {0}) Fault) (old new : Option (List ℕ)) →
+    request_of words ≡ Ok (Ahead one other) → AreRecords records input → AreWhole (stored records) (one ∷ other ∷ []) → Runs words (Some input) old answer new → EndsWell answer
+
 -- A run of `topo` or `date` over whole commits ends well.
 abbrev pub TopoSucceeds : Type 0
 TopoSucceeds =
     (words : List (List ℕ)) (input : List ℕ) (records : List Record) (by : TopoSorting) (tips ends : List ObjectId) (answer : Result (Unit {0}) Fault) (old new : Option (List ℕ)) →
     request_of words ≡ Ok (Commits (Topo by) tips ends) → AreRecords records input → AreWhole (stored records) (tips ++ ends) → Runs words (Some input) old answer new → EndsWell answer
+
+-- A walk breadth first from a tip through all parents, which hides what another commit reaches and ends well, gives exactly the commits
+-- that the tip reaches and the other doesn't, each once.
+abbrev pub DrawsDifference : Type 0
+DrawsDifference =
+    (objects : Objects) (tip hidden : ObjectId) (infos : List Info) → Draws objects tip hidden infos (Ok tt) →
+    AreDistinct (map (λ info. info.id) infos) × ((i : ObjectId) → Contains (map (λ info. info.id) infos) i ↔ IsShown objects (tip ∷ []) (hidden ∷ []) i)
 
 -- Over words that ask for it and records, a run of `ahead` that ends well writes how many commits the one reaches and the other
 -- doesn't, and how many the other reaches and the one doesn't.
@@ -105,3 +126,9 @@ AheadCounts =
     × IsNumberOf (IsShown (stored records) (one ∷ []) (other ∷ [])) ahead
     × IsNumberOf (IsShown (stored records) (other ∷ []) (one ∷ [])) behind
     × Appends old new (ahead_line ahead behind)
+
+-- A run that fails, and not by the writer, writes nothing, unless the words ask for a list of commits.
+abbrev pub FailsSilently : Type 0
+FailsSilently =
+    (words : List (List ℕ)) (has old new : Option (List ℕ)) (e : Fault) → Runs words has old (Err e) new → e ≢ fault.Write →
+    ((by : Order) (tips hidden : List ObjectId) → request_of words ≢ Ok (Commits by tips hidden)) → new ≡ old
