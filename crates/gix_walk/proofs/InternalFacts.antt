@@ -14,6 +14,7 @@ use Rattle.gix_traverse.specs.declared.commit.simple.Error.{Error}
 use Rattle.gix_traverse.specs.declared.commit.simple.Error.TheVariants as error
 use Rattle.gix_traverse.specs.declared.commit.simple.Hidden.{Hidden}
 use Rattle.gix_traverse.specs.declared.commit.simple.Hidden.TheVariants as hidden_by
+use Rattle.gix_traverse.specs.declared.commit.simple.Sorting.{Sorting}
 use Rattle.gix_traverse.specs.declared.commit.simple.pending.Pending.{Pending}
 use Rattle.gix_traverse.specs.Simple.Walk.{Treated, GoesOn, StoreFails, NoMemory, ReadsTime, unasked, from_row, from_store, store_fails, Treats, hidden, known, refused, accepted, no_memory, no_memory_after, TreatsAll, none, more, stops, Concludes, given, broken, Takes, by_row, by_store, not_found, Steps, ended, took, unhidden, paints, faulty_history}
 use Rattle.gix_traverse.specs.Simple.Painting.{IsHiddenFault}
@@ -99,5 +100,5 @@ tip_sound objects i (error.HiddenGraph e) h = absurd h
 tip_sound objects i error.Memory h = λ e. cc
 
 -- nor does the start of one
-pub start_sound : {objects : Objects} {tips : List ObjectId} {e : Error} → FailsAtStart objects tips e → fault_of_walk e ≢ fault.Internal
+pub start_sound : {objects : Objects} {by : Sorting} {tips : List ObjectId} {e : Error} → FailsAtStart objects by tips e → fault_of_walk e ≢ fault.Internal
 start_sound {e = e} f = tip_sound f.made.store f.fails.tip.id e f.fails.fault

@@ -9,5 +9,14 @@ mod InternalFacts
 mod TreeFacts
 mod TopoInternalFacts
 mod FileFacts
+mod AheadFacts
 mod StartFacts
 mod RunFacts
+mod SimpleRuns
+mod UncutWords
+mod CommitRuns
+mod TopoRuns
+mod FileRuns
+mod SimpleFaults
+mod SilentRuns
+mod AheadRuns

@@ -1,6 +1,6 @@
 -- What a run may answer.
 use Rattle.std.specs.Prelude.{◌≡◌, ◌≢◌, ◌⊎◌, ℕ, List, [], Option, Some, Result, Ok, Err}
-use Rattle.std.proofs.Common.{sym, subst, ap, ◌∙◌, inl, inr}
+use Rattle.std.proofs.Common.{sym, subst, ap, ◌∙◌, inl, inr, ⊎_elim}
 use Rattle.gix_parts.specs.declared.hash.ObjectId.{ObjectId}
 use Rattle.gix_parts.specs.Object.{Objects}
 use Rattle.gix_traverse.specs.declared.commit.Info.{Info}
@@ -18,7 +18,7 @@ use Rattle.gix_walk.specs.Faults.{fault_of_walk, fault_of_topo_walk}
 use Rattle.gix_walk.specs.Input.{Tells}
 use Rattle.gix_walk.specs.Output.{WritesAll}
 use Rattle.gix_walk.specs.Records.{Record, AreRecords, IsRecordFault, bad, no_memory, stored}
-use Rattle.gix_walk.specs.Run.{Serves, walked, not_walked, walked_down, not_built, listed, not_listed, unserved, not_written, Runs, without_memory, no_command, not_read, bad_record, served}
+use Rattle.gix_walk.specs.Run.{Serves, walked, not_walked, walked_down, not_built, listed, not_listed, counted, not_counted, unserved, not_written, Runs, without_memory, no_command, not_read, bad_record, served}
 use Rattle.gix_walk.specs.TopoWalked as topo
 use Rattle.gix_walk.specs.Walked.{Walk, Answers, IsWalkFault, StartsFrom, FailsAtStart, IsStartFault, Ends, finished, failed, cut_short}
 use Rattle.gix_walk.specs.Words.{Request, Commits, request_of}
@@ -49,6 +49,8 @@ serves_sound (walked_down walk infos built ends a) = topo_ends_sound (built_rowl
 serves_sound {objects} (not_built {by = by} {tips = tips} {ends = ends} why h) = λ same. build_sound objects by tips ends why h (err_same same)
 serves_sound (listed recorder r a) = λ e. cc
 serves_sound {objects} (not_listed recorder why r) = λ same. tree_sound objects r (err_same same)
+serves_sound (counted ahead behind c d a) = λ e. cc
+serves_sound (not_counted f) = ⊎_elim (λ h. ends_sound h.1.ends) (λ h. ends_sound h.1.ends) f
 serves_sound unserved = λ e. cc
 serves_sound not_written = λ e. cc
 
@@ -83,6 +85,8 @@ serves_unnumbered n (walked_down walk infos built ends a) = topo_ends_unnumbered
 serves_unnumbered n (not_built why h) = λ same. topo_unnumbered n why (err_same same)
 serves_unnumbered n (listed recorder r a) = λ e. cc
 serves_unnumbered n (not_listed recorder why r) = λ same. tree_unnumbered n why (err_same same)
+serves_unnumbered n (counted ahead behind c d a) = λ e. cc
+serves_unnumbered n (not_counted f) = ⊎_elim (λ h. ends_unnumbered n h.1.ends) (λ h. ends_unnumbered n h.1.ends) f
 serves_unnumbered n unserved = λ e. cc
 serves_unnumbered n not_written = λ e. cc
 
@@ -171,11 +175,11 @@ module _ (objects : Objects) (old : Option (List ℕ)) (by : Sorting) (tips hidd
   pub serves_walk : (new : Option (List ℕ)) (walk : Walk) → StartsFrom objects by tips hidden walk → (result : Result (Unit {0}) Fault) → (result ≢ Err fault.Write → WritesAll Answers IsWalkFault walk old result new) → Serves objects old (Commits (Simple by) tips hidden) result new
   serves_walk new walk starts = serves_drawn objects old (Simple by) tips hidden Answers IsWalkFault new walk (λ _ w. walked walk w.infos starts w.ends w.appends)
 
-  not_started : (e : Fault) → (why : Error) × FailsAtStart objects tips why × (e ≡ fault_of_walk why) → Serves objects old (Commits (Simple by) tips hidden) (Err e) old
+  not_started : (e : Fault) → (why : Error) × FailsAtStart objects by tips why × (e ≡ fault_of_walk why) → Serves objects old (Commits (Simple by) tips hidden) (Err e) old
   not_started e h = subst (λ (f : Fault). Serves objects old (Commits (Simple by) tips hidden) (Err f) old) (sym h.2) (not_walked h.0 h.1)
 
   -- the walk couldn't start
-  pub serves_no_walk : (result : Result (Unit {0}) Fault) (e : Fault) → result ≡ Err e → IsStartFault objects tips e → Serves objects old (Commits (Simple by) tips hidden) result old
+  pub serves_no_walk : (result : Result (Unit {0}) Fault) (e : Fault) → result ≡ Err e → IsStartFault objects by tips e → Serves objects old (Commits (Simple by) tips hidden) result old
   serves_no_walk result e same h = serves_failed objects old (Simple by) tips hidden result e same (λ other. not_started e (h other))
 
 module _ (objects : Objects) (old : Option (List ℕ)) (by : TopoSorting) (tips ends : List ObjectId) where

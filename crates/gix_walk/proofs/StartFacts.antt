@@ -37,10 +37,11 @@ is_sorted made sorted (sorting.ByCommitTime order) plain timed = timed (λ e. cc
 is_sorted made sorted (sorting.ByCommitTimeCutoff order seconds) plain timed = timed (λ e. cc)
 
 -- the time of a tip couldn't be read, or memory was wanting
-pub start_failed : (objects : Objects) (tips : List ObjectId) (made : Walk) → IsMadeOf objects tips made → (why : Error) (result : Result Walk Fault) (e : Fault) → result ≡ Err e → e ≡ fault_of_walk why → (why ≢ error.Memory → FailsAtTip made.store (never_faulty made.store) made.pending why) → IfErr result (IsStartFault objects tips)
-start_failed objects tips made makes why result e same is h =
-    subst (λ (r : Result Walk Fault). IfErr r (IsStartFault objects tips)) (sym same)
-    (λ other. (why, record { made = made; makes = makes; fails = h (λ m. other (is ∙ ap fault_of_walk m)) }, is))
+pub start_failed : (objects : Objects) (by : Sorting) (tips : List ObjectId) (made : Walk) → IsMadeOf objects tips made → (why : Error) (result : Result Walk Fault) (e : Fault) → result ≡ Err e → e ≡ fault_of_walk why
+    → (by ≡ sorting.BreadthFirst → ◌≡◌ {A = Result Walk Error} (Err why) (Ok (record made { sorting = by }))) → (why ≢ error.Memory → FailsAtTip made.store (never_faulty made.store) made.pending why) → IfErr result (IsStartFault objects by tips)
+start_failed objects by tips made makes why result e same is plain h =
+    subst (λ (r : Result Walk Fault). IfErr r (IsStartFault objects by tips)) (sym same)
+    (λ other. (why, record { by_time = λ b. cc (plain b); made = made; makes = makes; fails = h (λ m. other (is ∙ ap fault_of_walk m)) }, is))
 
 abbrev Builder : Type 0
 Builder = TopoBuilder Objects Unfiltered

@@ -39,6 +39,18 @@ hidden_tree = refl
 pub bad_tree : request_of (codes "files" ∷ codes "zz" ∷ []) ≡ Err (fault.Id 2)
 bad_tree = refl
 
+pub one_commit : request_of (codes "ahead" ∷ codes "zz" ∷ []) ≡ Err fault.Usage
+one_commit = refl
+
+pub three_commits : request_of (codes "ahead" ∷ codes "zz" ∷ codes "zz" ∷ codes "zz" ∷ []) ≡ Err fault.Usage
+three_commits = refl
+
+pub hidden_commit : request_of (codes "ahead" ∷ codes "zz" ∷ codes "^" ∷ []) ≡ Err fault.Usage
+hidden_commit = refl
+
+pub bad_commit : request_of (codes "ahead" ∷ codes "zz" ∷ codes "zz" ∷ []) ≡ Err (fault.Id 2)
+bad_commit = refl
+
 pub digits_of_tree : six_octal_digits 0o40000 ≡ codes "040000"
 unfolding digits
 digits_of_tree = refl

@@ -6,7 +6,10 @@ pub mod RecordFront
 pub mod Walked
 pub mod TopoWalked
 pub mod Files
+pub mod Ahead
 pub mod Run
+pub mod Histories
+pub mod Listings
 pub mod Output
 pub mod Input
 pub mod Examples

@@ -1,5 +1,5 @@
 -- What a run of the program may answer and write.
-use Rattle.std.specs.Prelude.{◌≡◌, ℕ, List, Option, Result, Ok, Err}
+use Rattle.std.specs.Prelude.{◌≡◌, ◌⊎◌, ℕ, List, Option, Result, Ok, Err}
 use Rattle.std.specs.Io.KnownBytes.{Appends}
 use Rattle.gix_parts.specs.declared.hash.ObjectId.{ObjectId}
 use Rattle.gix_parts.specs.Object.{Objects}
@@ -13,13 +13,14 @@ use Rattle.gix_traverse.specs.Trees.Tracked.{Tracked}
 use Rattle.gix_walk.specs.declared.fault.Fault.{Fault}
 use Rattle.gix_walk.specs.declared.fault.Fault.TheVariants as fault
 use Rattle.gix_walk.specs.declared.words.Order.TheVariants.{Simple, Topo}
+use Rattle.gix_walk.specs.Ahead.{Counts, FailsToCount, ahead_line}
 use Rattle.gix_walk.specs.Faults.{fault_of_walk, fault_of_topo_walk, fault_of_tree_walk}
 use Rattle.gix_walk.specs.Files.{RecordsTree, file_lines}
 use Rattle.gix_walk.specs.Input.{Tells}
 use Rattle.gix_walk.specs.Records.{Record, AreRecords, IsBadRecord, stored}
 use Rattle.gix_walk.specs.TopoWalked as topo
 use Rattle.gix_walk.specs.Walked.{Walk, Answers, IsWalkFault, StartsFrom, FailsAtStart, Ends, lines_of}
-use Rattle.gix_walk.specs.Words.{Request, Commits, Files, request_of}
+use Rattle.gix_walk.specs.Words.{Request, Commits, Files, Ahead, request_of}
 
 -- Over stored objects and a writer that held these bytes, what was asked for may have this answer and leave the writer with those
 -- bytes.
@@ -27,7 +28,7 @@ pub data Serves (objects : Objects) (old : Option (List ℕ)) : Request → Resu
   -- the lines of the commits before a fault are written
   walked : {by : Sorting} {tips hidden : List ObjectId} (walk : Walk) (infos : List Info) {answer : Result (Unit {0}) Fault} {new : Option (List ℕ)}
       → StartsFrom objects by tips hidden walk → Ends Answers IsWalkFault walk infos answer → Appends old new (lines_of infos) → Serves objects old (Commits (Simple by) tips hidden) answer new
-  not_walked : {by : Sorting} {tips hidden : List ObjectId} (e : Error) → FailsAtStart objects tips e → Serves objects old (Commits (Simple by) tips hidden) (Err (fault_of_walk e)) old
+  not_walked : {by : Sorting} {tips hidden : List ObjectId} (e : Error) → FailsAtStart objects by tips e → Serves objects old (Commits (Simple by) tips hidden) (Err (fault_of_walk e)) old
   walked_down : {by : TopoSorting} {tips ends : List ObjectId} (walk : topo.Walk) (infos : List Info) {answer : Result (Unit {0}) Fault} {new : Option (List ℕ)}
       → topo.IsBuiltFrom objects by tips ends (Ok walk) → Ends topo.Answers topo.IsWalkFault walk infos answer → Appends old new (lines_of infos) → Serves objects old (Commits (Topo by) tips ends) answer new
   not_built : {by : TopoSorting} {tips ends : List ObjectId} (e : TopoError) → topo.IsBuiltFrom objects by tips ends (Err e) → Serves objects old (Commits (Topo by) tips ends) (Err (fault_of_topo_walk e)) old
@@ -35,6 +36,10 @@ pub data Serves (objects : Objects) (old : Option (List ℕ)) : Request → Resu
       → RecordsTree objects tree recorder (Ok tt) → Appends old new (file_lines recorder.held.records) → Serves objects old (Files tree) (Ok tt) new
   -- of a tree whose walk failed no line is written
   not_listed : {tree : ObjectId} (recorder : Tracked) (e : TreeError) → RecordsTree objects tree recorder (Err e) → Serves objects old (Files tree) (Err (fault_of_tree_walk e)) old
+  counted : {one other : ObjectId} (ahead behind : ℕ) {new : Option (List ℕ)}
+      → Counts objects one other ahead → Counts objects other one behind → Appends old new (ahead_line ahead behind) → Serves objects old (Ahead one other) (Ok tt) new
+  -- of two commits one of whose walks failed nothing is written
+  not_counted : {one other : ObjectId} {e : Fault} → FailsToCount objects one other e ⊎ FailsToCount objects other one e → Serves objects old (Ahead one other) (Err e) old
   -- memory was wanting before anything was written
   unserved : {request : Request} → Serves objects old request (Err fault.Memory) old
   -- of what was written nothing is said

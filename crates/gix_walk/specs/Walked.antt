@@ -51,8 +51,9 @@ pub record StartsFrom (objects : Objects) (by : Sorting) (tips hidden : List Obj
   pub sorts : IsSorted made by sorted
   pub hides : walk ≡ record sorted { hidden_tips = hidden }
 
--- the time of a tip can't be read
-pub record FailsAtStart (objects : Objects) (tips : List ObjectId) (e : Error) : Type 0 where
+-- In an order by time the time of a tip can't be read. Breadth first no commit is read before the first step.
+pub record FailsAtStart (objects : Objects) (by : Sorting) (tips : List ObjectId) (e : Error) : Type 0 where
+  pub by_time : by ≢ sorting.BreadthFirst
   pub made : Walk
   pub makes : IsMadeOf objects tips made
   pub fails : FailsAtTip made.store (never_faulty made.store) made.pending e
@@ -62,8 +63,8 @@ abbrev pub IsWalkFault : Error → Fault → Type 0
 IsWalkFault e f = f ≡ fault_of_walk e
 
 -- a walk may fail so before its first step, unless memory ran out
-abbrev pub IsStartFault : Objects → List ObjectId → Fault → Type 0
-IsStartFault objects tips e = e ≢ fault.Memory → (why : Error) × FailsAtStart objects tips why × (e ≡ fault_of_walk why)
+abbrev pub IsStartFault : Objects → Sorting → List ObjectId → Fault → Type 0
+IsStartFault objects by tips e = e ≢ fault.Memory → (why : Error) × FailsAtStart objects by tips why × (e ≡ fault_of_walk why)
 
 abbrev pub given : {E : Type 0} → List Info → List (Result Info E)
 given infos = map Ok infos

@@ -1,5 +1,5 @@
 -- What the words of a command ask for.
-use Rattle.std.specs.Prelude.{◌≡◌, ◌≢◌, ℕ, ◌+◌, ◌==◌, List, [], ◌∷◌, ◌++◌, Bool, true, false, if◌then◌else◌, Option, Some, None, Result, Ok, Err, codes}
+use Rattle.std.specs.Prelude.{◌≡◌, ◌≢◌, ℕ, ◌+◌, ◌==◌, List, [], ◌∷◌, ◌++◌, Bool, true, false, ◌||◌, if◌then◌else◌, Option, Some, None, Result, Ok, Err, codes}
 use Rattle.std.specs.List.{list_all}
 use Rattle.std.specs.Str.{bytes_eq}
 use Rattle.gix_parts.specs.declared.hash.ObjectId.{ObjectId}
@@ -20,10 +20,13 @@ pub data Request : Type 0 where
   Commits : (order : Order) (tips hidden : List ObjectId) → Request
   -- what stands in the tree of this id
   Files : (tree : ObjectId) → Request
+  -- how many commits the one reaches and the other doesn't, and the other way round
+  Ahead : (one other : ObjectId) → Request
 
 abbrev pub request_of_command : Command → Request
 request_of_command (command.Commits order tips hidden) = Commits order tips.items hidden.items
 request_of_command (command.Files tree) = Files tree
+request_of_command (command.Ahead one other) = Ahead one other
 
 -- what a function returned, seen by view, is what it was to be, unless memory ran out
 abbrev pub Gives : {X Y : Type 0} → (X → Y) → Result X Fault → Result Y Fault → Type 0
@@ -91,10 +94,25 @@ files_of [] = Err fault.Usage
 files_of (id ∷ []) = if begins_with_caret id then Err fault.Usage else files_from (id_from_hex id)
 files_of (id ∷ next ∷ ids) = Err fault.Usage
 
+abbrev pub ahead_from : Result ObjectId HexError → Result ObjectId HexError → Result Request Fault
+ahead_from (Ok one) (Ok other) = Ok (Ahead one other)
+ahead_from (Ok one) (Err e) = Err (fault.Id 3)
+ahead_from (Err e) other = Err (fault.Id 2)
+
+-- two ids
+abbrev pub ahead_of : List (List ℕ) → Result Request Fault
+ahead_of [] = Err fault.Usage
+ahead_of (one ∷ []) = Err fault.Usage
+ahead_of (one ∷ other ∷ []) = if begins_with_caret one || begins_with_caret other then Err fault.Usage else ahead_from (id_from_hex one) (id_from_hex other)
+ahead_of (one ∷ other ∷ next ∷ ids) = Err fault.Usage
+
 -- what words ask for by this name, which may be that of an order
 abbrev pub request_named : List ℕ → Option Order → List (List ℕ) → Result Request Fault
 request_named name (Some by) ids = commits_of by ids
-request_named name None ids = if bytes_eq name (codes "files") then files_of ids else Err fault.Usage
+request_named name None ids =
+    if bytes_eq name (codes "files") then files_of ids
+    else if bytes_eq name (codes "ahead") then ahead_of ids
+    else Err fault.Usage
 
 -- what words ask for, or why they are no command
 abbrev pub request_of : List (List ℕ) → Result Request Fault

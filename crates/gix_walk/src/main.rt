@@ -1,10 +1,12 @@
 //! Lists the commits that some commits reach, or the files of a tree, from a stream of a repository's objects.
 #![tactic(auto)]
 
+mod ahead;
 mod commits;
 mod fault;
 mod files;
 mod input;
+pub mod laws;
 mod output;
 mod records;
 mod run;

@@ -4,6 +4,7 @@ ghost use Rattle.gix_walk.specs.Records.{Record, AreRecords};
 ghost use Rattle.gix_walk.specs.Run.{Runs, Serves};
 ghost use Rattle.gix_walk.specs.Words.{Commits, request_of_command};
 
+use crate::ahead::write_ahead;
 use crate::commits::{topo_walk_from, walk_from};
 use crate::fault::Fault;
 use crate::files::write_files;
@@ -22,12 +23,14 @@ pub const READS: u32 = 1 << 24;
 /// Runs the command that the words are over the records that the reader gives. `breadth`, `newest` and `oldest` write the id of each
 /// commit that the tips reach and the hidden ones don't, one a line, in the order in which they are met or in one by time, `topo` and
 /// `date` in one in which no commit comes before its children; `files` writes the mode, the id and the path of each entry that stands
-/// in the tree or in a tree in it, one a line. The words are tested first, then the input is read whole.
+/// in the tree or in a tree in it, one a line; `ahead` writes how many commits the first reaches and the second doesn't, a space, and
+/// how many the second reaches and the first doesn't. The words are tested first, then the input is read whole.
 ///
 /// # Errors
 /// `Usage` and `Id` where the words are no command, `Read` where the reader fails or gives no end at its last turn, `Record` where the
 /// input isn't records: in these cases nothing is written. `Missing`, `WrongKind` and `Broken` where the walk meets such an object,
-/// `Cycle` where it meets a tree that stands under itself: the lines of the commits before are written, and none of `files`. `Write`
+/// `Cycle` where it meets a tree that stands under itself: the lines of the commits before are written, and nothing of `files`
+/// and `ahead`. `Write`
 /// where the writer fails; what it holds then is left open. `Memory`.
 pub fn run<R: Read, W: Write>(
     alloc: Global,
@@ -63,6 +66,7 @@ fn serve<W: Write>(
             hidden,
         } => serve_commits(alloc, order, tips, hidden, store, writer),
         Command::Files(tree) => write_files(alloc, tree, store, writer),
+        Command::Ahead { one, other } => write_ahead(alloc, one, other, &store, writer),
     }
 }
 
@@ -79,7 +83,7 @@ fn serve_commits<W: Write>(
 {
     match order {
         Order::Simple(sorting) => {
-            let walk = walk_from(alloc, sorting, tips, hidden, store)?;
+            let walk = walk_from(alloc, sorting, tips, hidden, &store)?;
             write_commits(alloc, walk, writer)
         }
         Order::Topo(sorting) => {

@@ -1,7 +1,7 @@
 //! The words of a command.
 ghost use Rattle.std.specs.Prelude.{◌≡◌, map, string_bytes};
 ghost use Rattle.std.specs.List.{list_all};
-ghost use Rattle.gix_walk.specs.Words.{Gives, AddsId, begins_with_caret, request_of_command, request_of, order_named, ids_from, commits_of, files_of};
+ghost use Rattle.gix_walk.specs.Words.{Gives, AddsId, begins_with_caret, request_of_command, request_of, order_named, ids_from, commits_of, files_of, ahead_of};
 
 use crate::fault::Fault;
 use gix_parts::hash::ObjectId;
@@ -29,10 +29,15 @@ pub enum Command {
     },
     /// What stands in the tree of this id.
     Files(ObjectId),
+    /// How many commits one of them reaches and the other doesn't, and the other way round.
+    Ahead {
+        one: ObjectId,
+        other: ObjectId,
+    },
 }
 
 /// The command that the words are: `breadth`, `newest`, `oldest`, `topo` or `date`, ids of tips, one at least, and behind a `^` ids of
-/// commits to be hidden; or `files` and one id. An id is 40 or 64 hex digits.
+/// commits to be hidden; or `files` and one id; or `ahead` and two ids. An id is 40 or 64 hex digits.
 ///
 /// # Errors
 /// `Usage` where the words are no command, `Id` at the first word that has to be an id and is none, `Memory`.
@@ -47,6 +52,9 @@ pub fn read_command(alloc: Global, words: &[String]) -> Result<Command, Fault>
     }
     if name.as_str() == "files" {
         return files(ids);
+    }
+    if name.as_str() == "ahead" {
+        return ahead(ids);
     }
     Err(Fault::Usage)
 }
@@ -104,6 +112,25 @@ fn files(ids: &[String]) -> Result<Command, Fault>
         Ok(tree) => Ok(Command::Files(tree)),
         Err(_) => Err(Fault::Id(2)),
     }
+}
+
+// The two commits of these ids, which must be alone.
+fn ahead(ids: &[String]) -> Result<Command, Fault>
+    ensures { Gives request_of_command result (ahead_of (map string_bytes ids.now)) }
+{
+    let [one, other] = ids else {
+        return Err(Fault::Usage);
+    };
+    if begins_with_caret(one) || begins_with_caret(other) {
+        return Err(Fault::Usage);
+    }
+    let Ok(one) = ObjectId::from_hex(one.as_bytes()) else {
+        return Err(Fault::Id(2));
+    };
+    let Ok(other) = ObjectId::from_hex(other.as_bytes()) else {
+        return Err(Fault::Id(3));
+    };
+    Ok(Command::Ahead { one, other })
 }
 
 // Whether each of them is to be hidden.

@@ -1,0 +1,68 @@
+-- Counting the commits of a walk, and the line that two such numbers make.
+use Rattle.std.specs.Prelude.{◌≡◌, ◌≢◌, ℕ, ◌+◌, List, [], ◌∷◌, ◌++◌, length, Option, Some, None, Result, Ok, Err, IfOk, IfErr, OnOk, ◌⊎◌}
+use Rattle.std.specs.Io.KnownBytes.{Appends}
+use Rattle.std.specs.Iterator.{Yields}
+use Rattle.std.proofs.Common.{sym, ap, subst, ◌∙◌, length-append}
+use Rattle.gix_parts.specs.declared.hash.ObjectId.{ObjectId}
+use Rattle.gix_parts.specs.Object.{Objects}
+use Rattle.gix_traverse.specs.declared.commit.Info.{Info}
+use Rattle.gix_traverse.specs.declared.commit.simple.Sorting.TheVariants as sorting
+use Rattle.gix_walk.specs.declared.fault.Fault.{Fault}
+use Rattle.gix_walk.specs.declared.fault.Fault.TheVariants as fault
+use Rattle.gix_walk.specs.Ahead.{Counts, FailsToCount, Numbers, ahead_line}
+use Rattle.gix_walk.specs.Run.{Serves, counted, not_counted, unserved, not_written}
+use Rattle.gix_walk.specs.Walked.{Walk, Answers, IsWalkFault, StartsFrom, given, finished, failed, cut_short}
+use Rattle.gix_walk.specs.Words.{Ahead}
+
+module _ {W E : Type 0} (Steps : W → Option (Result Info E) → W → Type 0) (Tells : E → Fault → Type 0) (walk : W) (infos : List Info) where
+  -- the walk's answer was a fault
+  pub numbers_failed : (at drawn : W) (answer : Result Info E) (e : E) (f : Fault) → Yields Steps walk (given infos) at → Steps at (Some answer) drawn → answer ≡ Err e → Tells e f → Numbers Steps Tells walk (Err f)
+  numbers_failed at drawn answer e f h step is tells = (infos, failed e f drawn (at, h, subst (λ (a : Result Info E). Steps at (Some a) drawn) is step) tells)
+
+  -- there is no number for one more
+  pub numbers_cut : (at : W) → Yields Steps walk (given infos) at → Numbers Steps Tells walk (Err fault.Memory)
+  numbers_cut at h = (infos, cut_short at h)
+
+  -- the walk ended
+  pub numbers_all : (at drawn : W) (n : ℕ) → Yields Steps walk (given infos) at → Steps at None drawn → n ≡ length infos → Numbers Steps Tells walk (Ok n)
+  numbers_all at drawn n h step is = (infos, finished drawn (at, h, step), is)
+
+pub one_more : (infos : List Info) (info : Info) (n m : ℕ) → n ≡ length infos → m ≡ n + 1 → m ≡ length (infos ++ info ∷ [])
+one_more infos info n m is more = more ∙ ap (λ k. k + 1) is ∙ sym (length-append infos (info ∷ []))
+
+pub starts_alone : (objects : Objects) (tip hidden : ObjectId) (tips others : List ObjectId) (walk : Walk) → tips ≡ tip ∷ [] → others ≡ hidden ∷ [] → StartsFrom objects sorting.BreadthFirst tips others walk → StartsFrom objects sorting.BreadthFirst (tip ∷ []) (hidden ∷ []) walk
+starts_alone objects tip hidden tips others walk e f h = subst (λ (ids : List ObjectId). StartsFrom objects sorting.BreadthFirst (tip ∷ []) ids walk) f (subst (λ (ids : List ObjectId). StartsFrom objects sorting.BreadthFirst ids others walk) e h)
+
+-- a walk that starts so was counted
+module _ (objects : Objects) (tip hidden : ObjectId) (walk : Walk) (starts : StartsFrom objects sorting.BreadthFirst (tip ∷ []) (hidden ∷ []) walk) where
+  pub counts : (result : Result ℕ Fault) → Numbers Answers IsWalkFault walk result → IfOk result (Counts objects tip hidden)
+  counts (Ok n) h = (h.0, record { walk = walk; starts = starts; ends = h.1 }, h.2)
+  counts (Err e) h = tt
+
+  pub fails_to_count : (result : Result ℕ Fault) → Numbers Answers IsWalkFault walk result → IfErr result (λ e. e ≢ fault.Memory → FailsToCount objects tip hidden e)
+  fails_to_count (Ok n) h = tt
+  fails_to_count (Err e) h = λ other. (h.0, record { walk = walk; starts = starts; ends = h.1 })
+
+module _ (objects : Objects) (old : Option (List ℕ)) (one other : ObjectId) where
+  failed_count : (e : Fault) → (e ≢ fault.Memory → FailsToCount objects one other e ⊎ FailsToCount objects other one e) → Serves objects old (Ahead one other) (Err e) old
+  failed_count fault.Memory h = unserved
+  failed_count fault.Usage h = not_counted (h (λ e. cc))
+  failed_count (fault.Id n) h = not_counted (h (λ e. cc))
+  failed_count (fault.Record n) h = not_counted (h (λ e. cc))
+  failed_count (fault.Missing i) h = not_counted (h (λ e. cc))
+  failed_count (fault.WrongKind i) h = not_counted (h (λ e. cc))
+  failed_count fault.Broken h = not_counted (h (λ e. cc))
+  failed_count (fault.Cycle i) h = not_counted (h (λ e. cc))
+  failed_count fault.Read h = not_counted (h (λ e. cc))
+  failed_count fault.Write h = not_counted (h (λ e. cc))
+  failed_count fault.Internal h = not_counted (h (λ e. cc))
+
+  -- nothing was written
+  pub ahead_failed : (result : Result (Unit {0}) Fault) (e : Fault) → result ≡ Err e → (e ≢ fault.Memory → FailsToCount objects one other e ⊎ FailsToCount objects other one e) → Serves objects old (Ahead one other) result old
+  ahead_failed result e same h = subst (λ (r : Result (Unit {0}) Fault). Serves objects old (Ahead one other) r old) (sym same) (failed_count e h)
+
+  -- the line was written, or the writer failed
+  pub ahead_written : (new : Option (List ℕ)) (ahead behind : ℕ) (line : List ℕ) (result : Result (Unit {0}) Fault) → Counts objects one other ahead → Counts objects other one behind → line ≡ ahead_line ahead behind
+      → OnOk result (Appends old new line) → IfErr result (λ e. e ≡ fault.Write) → Serves objects old (Ahead one other) result new
+  ahead_written new ahead behind line (Ok done) a b is h k = counted ahead behind a b (subst (Appends old new) is h)
+  ahead_written new ahead behind line (Err e) a b is h k = subst (λ (f : Fault). Serves objects old (Ahead one other) (Err f) new) (sym k) not_written

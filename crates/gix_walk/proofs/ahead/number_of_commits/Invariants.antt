@@ -1,0 +1,13 @@
+use Rattle.std.proofs.Common.{◌≡◌, length, List}
+use Rattle.std.specs.Iterator.{Yields}
+use Rattle.gix_traverse.specs.declared.commit.Info.{Info}
+use Rattle.gix_walk.specs.Walked.{given}
+use Rattle.gix_walk.proofs.ahead.number_of_commits.Given as goal
+
+-- the walk gave commits so far, and they were counted
+abbrev pub invariant-loop-answer : goal.invariant-loop-answer
+invariant-loop-answer g l = record {
+  infos : List Info;
+  drawn : Yields g.I.Iterator.next_gives l.fn.walk (given infos) l.answer-iterator;
+  counted : l.number ≡ length infos;
+}
