@@ -1,5 +1,5 @@
 -- What an iterator over a commit's bytes has left, and what its answers show.
-use Rattle.std.specs.Prelude.{ℕ, List, [], ◌∷◌, Option, Some, None, Result, Ok, Err}
+use Rattle.std.specs.Prelude.{◌≡◌, ℕ, List, [], ◌∷◌, Option, Some, None, Result, Ok, Err}
 use Rattle.gix_parts.specs.declared.hash.ObjectId.{ObjectId}
 use Rattle.gix_parts.specs.declared.object.decode.Error.{Error}
 use Rattle.gix_parts.specs.declared.object.decode.Error.TheVariants as fault
@@ -58,11 +58,8 @@ abbrev pub signature_shown : Result Signature Error → Result (List ℕ) Error
 signature_shown (Ok s) = Ok s.bytes.now
 signature_shown (Err e) = Err e
 
--- what was at the front, where this token or fault was taken and this iterator is left
-abbrev pub taken : Result Token Error → CommitRefIter → Front
-taken (Ok t) then = Found (item_of t) (place_of then.place) then.bytes.now
-taken (Err e) then = Faulty e
-
-abbrev pub next_taken : Option (Result Token Error) → CommitRefIter → Front
-next_taken None then = Ended
-next_taken (Some r) then = taken r then
+-- what taking what is at the front answers, and how it leaves the iterator
+abbrev pub IsTaken : CommitRefIter → Front → Option (Result Token Error) → CommitRefIter → Type 0
+IsTaken it front None then = (Ended ≡ front) × (then ≡ it)
+IsTaken it front (Some (Ok t)) then = (Found (item_of t) (place_of then.place) then.bytes.now ≡ front) × (then.kind ≡ it.kind)
+IsTaken it front (Some (Err e)) then = (Faulty e ≡ front) × (place_of then.place ≡ AtEnd)

@@ -31,9 +31,8 @@ use Rattle.gix_traverse.specs.Simple.Building.{IsTipFault}
 use Rattle.gix_traverse.specs.Simple.Painting.{IsFaultAt}
 use Rattle.gix_traverse.specs.Simple.Walk.{Treated, Holds, Enqueues, dropped, enqueued, Treats, hidden, known, refused, accepted, store_fails, no_memory, no_memory_after, TreatsAll, none, more, stops, Concludes, given, broken, Takes, by_row, by_store, not_found, Chooses, first, best, Steps, ended, took, unhidden, paints, faulty_history, ids_of, kept_rows, scanned, unrowed}
 use Rattle.gix_traverse.proofs.Shared.Committer.{fault_unread}
-use Rattle.gix_traverse.proofs.Shared.ReadsWhole.{scan_is}
+use Rattle.gix_traverse.proofs.Shared.ReadsWhole.{scan_is, no_fault}
 use Rattle.gix_traverse.proofs.Shared.Rows.{none_agree}
-use Rattle.gix_traverse.proofs.Simple.OneStep.{no_fault}
 use Rattle.gix_traverse.proofs.Simple.Tips.{is_new_walk, pending_is}
 use Rattle.gix_walk.specs.declared.fault.Fault.{Fault}
 use Rattle.gix_walk.specs.declared.fault.Fault.TheVariants as fault

@@ -1,10 +1,12 @@
 -- How the items that an iterator has left follow from what stands at the front.
-use Rattle.std.specs.Prelude.{◌≡◌, [], ◌∷◌, Ok, Err}
-use Rattle.std.proofs.Common.{sym, ap, ◌∙◌}
+use Rattle.std.specs.Prelude.{◌≡◌, [], ◌∷◌, length, Option, Some, None, Result, Ok, Err}
+use Rattle.std.specs.Iterator.{YieldsFirstBy, MakesProgress, item_count}
+use Rattle.std.proofs.Common.{rules, sym, ap, ◌∙◌}
 use Rattle.gix_parts.specs.declared.object.decode.Error.{Error}
 use Rattle.gix_parts.specs.declared.object.commit.CommitRefIter.{CommitRefIter}
 use Rattle.gix_parts.specs.CommitItems.{Item, AtEnd, Found, Faulty, Ended, front, unfolded, items_from}
-use Rattle.gix_parts.specs.CommitRefIter.{place_of, commit_items_left}
+use Rattle.gix_parts.specs.declared.object.commit.Token.{Token}
+use Rattle.gix_parts.specs.CommitRefIter.{place_of, commit_items_left, item_of, item_shown, IsTaken}
 use Rattle.gix_parts.proofs.Commits.Items.{items_from-step}
 
 pub left_none : (it : CommitRefIter) → Ended ≡ front it.kind (place_of it.place) it.bytes.now → commit_items_left it ≡ []
@@ -24,3 +26,18 @@ left_found it then item h same =
     items_from-step it.kind (place_of it.place) it.bytes.now
     ∙ ap (λ f. unfolded f (items_from it.kind)) (sym h)
     ∙ ap (λ k. Ok item ∷ items_from k (place_of then.place) then.bytes.now) (sym same)
+
+-- what is taken from the front is the first of the items left
+pub taken_first : (it then : CommitRefIter) (r : Option (Result Token Error)) → IsTaken it (front it.kind (place_of it.place) it.bytes.now) r then → YieldsFirstBy item_shown commit_items_left it r then
+taken_first it then None h = (left_none it h.0, ap commit_items_left h.1 ∙ left_none it h.0)
+taken_first it then (Some (Ok t)) h = left_found it then (item_of t) h.0 h.1
+taken_first it then (Some (Err e)) h = left_fault it then e h.0 h.1
+
+-- and fewer items are left
+pub fewer_left : (can : CommitRefIter → Type 0) → ((it : CommitRefIter) → can it) → (it then : CommitRefIter) (r : Option (Result Token Error))
+    → YieldsFirstBy item_shown commit_items_left it r then → MakesProgress can (item_count commit_items_left) it r then
+fewer_left can always it then None h = search rules
+fewer_left can always it then (Some x) h =
+    let shorter = ap length h in
+    let again = always then in
+    search rules

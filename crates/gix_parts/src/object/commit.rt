@@ -1,11 +1,11 @@
 //! The items of a commit: its tree, its parents, its author and committer, and the rest of its bytes.
-ghost use Rattle.std.specs.Prelude.{◌≡◌, codes, drop, min, None, IfNone, Ok, []};
+ghost use Rattle.std.specs.Prelude.{◌≡◌, codes, drop, min, None, Some, Err, []};
 ghost use Rattle.std.specs.Option.{option_map, option_copied};
 ghost use Rattle.std.specs.Iterator.{YieldsFirstBy, item_count};
 ghost use Rattle.memchr.specs.Find.{IsFirstByte, is_byte};
 ghost use Rattle.gix_parts.specs.CommitItems.{AtTree, AtEnd, Found, Rest, after_word, line_at, id_line_at, text_line_at, tree_front, author_front, committer_front, parent_front, front, commit_items};
 ghost use Rattle.gix_parts.specs.CommitText.{behind_last, without_spaces, digits_from, signed_seconds, seconds_of};
-ghost use Rattle.gix_parts.specs.CommitRefIter.{place_of, commit_items_left, taken, next_taken, item_shown, first_tree, first_committer, signature_shown};
+ghost use Rattle.gix_parts.specs.CommitRefIter.{place_of, commit_items_left, IsTaken, item_shown, first_tree, first_committer, signature_shown};
 
 use crate::hash::{Kind, ObjectId};
 use crate::object::decode::Error;
@@ -195,79 +195,98 @@ impl<'a> CommitRefIter<'a> {
         Err(Error::Missing)
     }
 
-    // Takes the tree's line.
-    fn take_tree(&mut self) -> Result<Token<'a>, Error>
-        ensures front { taken result self.new ≡ tree_front (id_line_at self.old.kind (after_word (codes "tree ") self.old.bytes.now)) }
+    // Ends at a fault.
+    fn end_at(&mut self, why: Error) -> Option<Result<Token<'a>, Error>>
+        ensures result { result ≡ Some (Err why) }
         ensures kind { self.new.kind ≡ self.old.kind }
+        ensures end { place_of self.new.place ≡ AtEnd }
     {
-        let kind = self.kind;
-        let (id, rest) = after_word(self.bytes, b"tree ")
-            .and_then(|digits| id_line_at(digits, kind))
-            .ok_or(Error::Tree)?;
+        self.place = Place::End;
+        Some(Err(why))
+    }
+
+    // Takes the tree's line.
+    #[inline(never)]
+    fn take_tree(&mut self) -> Option<Result<Token<'a>, Error>>
+        ensures { IsTaken self.old (tree_front (id_line_at self.old.kind (after_word (codes "tree ") self.old.bytes.now))) result self.new }
+    {
+        let Some(digits) = after_word(self.bytes, b"tree ") else {
+            return self.end_at(Error::Tree);
+        };
+        let Some((id, rest)) = id_line_at(digits, self.kind) else {
+            return self.end_at(Error::Tree);
+        };
         self.bytes = rest;
         self.place = Place::Parents;
-        Ok(Token::Tree { id })
+        Some(Ok(Token::Tree { id }))
     }
 
     // Takes a parent's line, or the author's.
-    fn take_parent_or_author(&mut self) -> Result<Token<'a>, Error>
-        ensures front { taken result self.new ≡ parent_front self.old.kind self.old.bytes.now (after_word (codes "parent ") self.old.bytes.now) (id_line_at self.old.kind (after_word (codes "parent ") self.old.bytes.now)) }
-        ensures kind { self.new.kind ≡ self.old.kind }
+    #[inline(never)]
+    fn take_parent_or_author(&mut self) -> Option<Result<Token<'a>, Error>>
+        ensures { IsTaken self.old (parent_front self.old.kind self.old.bytes.now (after_word (codes "parent ") self.old.bytes.now) (id_line_at self.old.kind (after_word (codes "parent ") self.old.bytes.now))) result self.new }
     {
-        let kind = self.kind;
-        if let Some(digits) = after_word(self.bytes, b"parent ") {
-            let (id, rest) = id_line_at(digits, kind).ok_or(Error::Parent)?;
-            self.bytes = rest;
-            self.place = Place::Parents;
-            return Ok(Token::Parent { id });
-        }
-        let (line, rest) = after_word(self.bytes, b"author ")
-            .and_then(line_at)
-            .ok_or(Error::Author)?;
+        let Some(digits) = after_word(self.bytes, b"parent ") else {
+            return self.take_author();
+        };
+        let Some((id, rest)) = id_line_at(digits, self.kind) else {
+            return self.end_at(Error::Parent);
+        };
+        self.bytes = rest;
+        self.place = Place::Parents;
+        Some(Ok(Token::Parent { id }))
+    }
+
+    // Takes the author's line.
+    fn take_author(&mut self) -> Option<Result<Token<'a>, Error>>
+        ensures { IsTaken self.old (author_front (text_line_at (after_word (codes "author ") self.old.bytes.now))) result self.new }
+    {
+        let Some((line, rest)) = after_word(self.bytes, b"author ").and_then(line_at) else {
+            return self.end_at(Error::Author);
+        };
         self.bytes = rest;
         self.place = Place::Committer;
-        Ok(Token::Author { line })
+        Some(Ok(Token::Author { line }))
     }
 
     // Takes the committer's line.
-    fn take_committer(&mut self) -> Result<Token<'a>, Error>
-        ensures front { taken result self.new ≡ committer_front (text_line_at (after_word (codes "committer ") self.old.bytes.now)) }
-        ensures kind { self.new.kind ≡ self.old.kind }
+    #[inline(never)]
+    fn take_committer(&mut self) -> Option<Result<Token<'a>, Error>>
+        ensures { IsTaken self.old (committer_front (text_line_at (after_word (codes "committer ") self.old.bytes.now))) result self.new }
     {
-        let (line, rest) = after_word(self.bytes, b"committer ")
-            .and_then(line_at)
-            .ok_or(Error::Committer)?;
+        let Some((line, rest)) = after_word(self.bytes, b"committer ").and_then(line_at) else {
+            return self.end_at(Error::Committer);
+        };
         self.bytes = rest;
         self.place = Place::Rest;
         let signature = Signature { bytes: line };
-        Ok(Token::Committer { signature })
+        Some(Ok(Token::Committer { signature }))
     }
 
     // Takes all that is left.
-    fn take_rest(&mut self) -> Token<'a>
-        ensures front { taken (Ok result) self.new ≡ Found (Rest self.old.bytes.now) AtEnd [] }
-        ensures kind { self.new.kind ≡ self.old.kind }
+    #[inline(never)]
+    fn take_rest(&mut self) -> Option<Result<Token<'a>, Error>>
+        ensures { IsTaken self.old (Found (Rest self.old.bytes.now) AtEnd []) result self.new }
     {
         let bytes = self.bytes;
         self.bytes = &[];
         self.place = Place::End;
-        Token::Rest { bytes }
+        Some(Ok(Token::Rest { bytes }))
     }
 
-    // Takes what stands at the front of the bytes left.
+    // Takes what is at the front of the bytes left.
+    #[inline(always)]
     fn take(&mut self) -> Option<Result<Token<'a>, Error>>
-        ensures front { next_taken result self.new ≡ front self.old.kind (place_of self.old.place) self.old.bytes.now }
-        ensures kind { self.new.kind ≡ self.old.kind }
-        ensures none { IfNone result (self.new ≡ self.old) }
+        ensures { IsTaken self.old (front self.old.kind (place_of self.old.place) self.old.bytes.now) result self.new }
     {
         if self.bytes.is_empty() {
             return None;
         }
         match self.place {
-            Place::Tree => Some(self.take_tree()),
-            Place::Parents => Some(self.take_parent_or_author()),
-            Place::Committer => Some(self.take_committer()),
-            Place::Rest => Some(Ok(self.take_rest())),
+            Place::Tree => self.take_tree(),
+            Place::Parents => self.take_parent_or_author(),
+            Place::Committer => self.take_committer(),
+            Place::Rest => self.take_rest(),
             Place::End => None,
         }
     }
@@ -281,12 +300,6 @@ impl<'a> Iterator for CommitRefIter<'a> {
     ghost remaining = { item_count commit_items_left };
 
     fn next(&mut self) -> Option<Result<Token<'a>, Error>> {
-        match self.take()? {
-            Ok(token) => Some(Ok(token)),
-            Err(fault) => {
-                self.place = Place::End;
-                Some(Err(fault))
-            }
-        }
+        self.take()
     }
 }
