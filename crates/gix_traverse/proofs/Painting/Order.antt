@@ -1,4 +1,4 @@
--- Painting takes what has the greatest generation first: nothing that waits is above what was taken. Rows that stand had no fault where they were read.
+-- Painting takes what has the greatest generation first: nothing that waits is above what was taken. Rows that are held had no fault where they were read.
 use Rattle.std.specs.Borrow.{Bor}
 use Rattle.std.specs.Prelude.{◌≡◌, ◌⊎◌, ◌<◌, ◌≤◌, ℕ, List, true, false, Option, Some, None, Contains}
 use Rattle.std.specs.Option.{option_map}
@@ -28,7 +28,7 @@ use Rattle.gix_traverse.proofs.Painting.Turn.{IsTurned, turned, within, waits_st
 abbrev pub IsSoundRow : List GraphRow → ObjectId → Type 0
 IsSoundRow rows i = (row : GraphRow) → row_of rows i ≡ Some row → IsCorrupt row → ⊥
 
--- parents were read, and the rows stand: the row has no fault
+-- parents were read, and the rows are held: the row has no fault
 given_sound : {objects : Objects} {old new : Option (Bor (List GraphRow))} {entry : Entry} {ids : List ObjectId} (rows : List GraphRow) → GivesParents objects old entry ids new → rows_in new ≡ rows → rows_in old ≡ rows
     → ((those : List ObjectId) → option_map (λ ids. ids.items) entry.parent_ids ≡ Some those → row_of rows entry.id ≡ None) → IsSoundRow rows entry.id
 given_sound {ids = ids} rows (brought e) now was none row k corrupt = let bad : None ≡ Some row = sym (none ids e) ∙ k in cc

@@ -108,7 +108,7 @@ module _ {F P : Type 0} (objects : F → Objects) (faulty : F → ObjectId → T
   steps_tells w (no_memory some) = ends refl tt
   steps_tells w (took {taken = p} {others = others} chooses takes) = from_same refl refl (takes_tells (record w { pending = others }) p takes)
 
-  -- without rows nothing is told
+  -- without rows no generation is given
   told_none : (answer : Result Info Error) → IsTold [] answer → IsUntold answer
   told_none (Ok info) e = e
   told_none (Err x) e = tt
@@ -125,7 +125,7 @@ module _ {F P : Type 0} (objects : F → Objects) (faulty : F → ObjectId → T
   pends w (faulty_history some tips_given left fault) empty = some empty
   pends w (no_memory some tips_given left) empty = some empty
 
-  -- without rows the rest is untold
+  -- without rows none is given from here on
   rowless : {w : SimpleWalk F P} {answer : Result Info Error} {new : SimpleWalk F P} → w.rows ≡ [] → Tells w answer new → IsUntold answer × ((new.rows ≡ []) ⊎ (new.pending ≡ []))
   rowless {answer = answer} empty (keeps store rows told) = (told_none answer (subst (λ rs. IsTold rs answer) empty told), inl (rows ∙ empty))
   rowless empty (loses store rows untold why) = (untold, inl rows)

@@ -29,7 +29,7 @@ pub record IsHistory (objects : Objects) (rows : List GraphRow) (history : Objec
   pub agreeing : IsAgreeing history (λ i. ⊥) rows
   pub read : (i : ObjectId) (commit : Commit) → commit_at objects i ≡ Some commit → commit_at history i ≡ Some commit
 
--- the generation that a row tells, and infinity where there is none
+-- the generation of a row, and infinity where there is none
 abbrev pub generation_in : Option GraphRow → ℕ
 generation_in None = 2 ^ 32 - 1
 generation_in (Some row) = row.generation

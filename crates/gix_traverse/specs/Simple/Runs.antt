@@ -62,7 +62,7 @@ pub record AreAlike {F P : Type 0} (walk other : SimpleWalk F P) : Type 0 where
   pub same_sorting : other.sorting ≡ walk.sorting
   pub same_pending : ids_of other.pending ≡ ids_of walk.pending
 
--- two walks that were built of the same tips by the same calls, but for the rows and the hidden tips that were given to each
+-- two walks that were built of the same tips by the same calls; rows and hidden tips may differ
 pub data AreBuiltAlike {F P : Type 0} (objects : F → Objects) (faulty : F → ObjectId → Type 0) (answers : P → ObjectId → Bool → P → Type 0) (store : F) (predicate : P) (tips : List ObjectId) : SimpleWalk F P → SimpleWalk F P → Type 0 where
   made : {a b : SimpleWalk F P} → IsMade objects faulty answers store predicate tips a → IsMade objects faulty answers store predicate tips b → AreBuiltAlike objects faulty answers store predicate tips a b
   breadth_first : {a b : SimpleWalk F P} → AreBuiltAlike objects faulty answers store predicate tips a b → AreBuiltAlike objects faulty answers store predicate tips (record a { sorting = sorting.BreadthFirst }) (record b { sorting = sorting.BreadthFirst })

@@ -291,7 +291,11 @@ pub(super) struct Painting {
 }
 
 /// Marks what the hidden tips reach: the tips themselves, and each parent of a commit that they reach and hidden tips don't.
-/// It stops as soon as the rows say that these marks are whole. Memory that is wanting is a fault of `Find`.
+/// It stops as soon as the rows say that these marks are whole: below, no row is read, and no commit that has one is looked up.
+///
+/// # Errors
+///
+/// `Find` or `ObjectDecode` for a commit that has to be read and can't be; out of memory is `Find(Memory)`.
 pub(super) fn paint<'a, F: Find>(
     alloc: Global,
     objects: &'a F,
