@@ -1,4 +1,4 @@
--- A simple walk over records, all of which that is reached are whole commits, gives no fault but want of memory.
+-- A simple walk that reaches whole commits alone fails for memory alone.
 use Rattle.std.specs.Prelude.{◌≡◌, ◌≢◌, ℕ, ℤ, List, [], ◌∷◌, ◌++◌, filter, Bool, true, false, Option, Some, None, Result, Ok, Err, Contains}
 use Rattle.std.specs.Iterator.{Yields}
 use Rattle.std.proofs.Common.{refl, sym, ap, subst, ◌∙◌, ⊎_elim}

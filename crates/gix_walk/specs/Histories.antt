@@ -72,7 +72,7 @@ TopoLists =
     request_of words ≡ Ok (Commits (Topo by) tips ends) → AreRecords records input → AreWhole (stored records) (tips ++ ends) → Runs words (Some input) old (Ok tt) new →
     (ids : List ObjectId) × ListsDown (stored records) by tips ends ids × Appends old new (lines_of_ids ids)
 
--- memory was wanting, or the input or the output failed
+-- out of memory, or the input or the output failed
 abbrev pub IsOutside : Fault → Type 0
 IsOutside fault.Memory = Unit {0}
 IsOutside fault.Read = Unit {0}

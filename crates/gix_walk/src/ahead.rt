@@ -51,6 +51,7 @@ fn count(
     number_of_commits(walk)
 }
 
+// A list of this id alone.
 fn alone(alloc: Global, id: ObjectId) -> Result<Vec<ObjectId>, AllocError>
     ensures { IfOk result (λ ids. ids.items ≡ id ∷ []) }
 {
