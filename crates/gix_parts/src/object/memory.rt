@@ -51,7 +51,8 @@ impl MemoryStore {
         }
     }
 
-    /// Keeps a copy of an object, in place of what the id had, whose bytes take their room until the store is dropped.
+    /// Keeps a copy of an object, in place of what the id had. The bytes of an object that is replaced keep their room until
+    /// the store is dropped.
     ///
     /// # Errors
     /// Out of memory. The store has the objects that it had.
