@@ -3,7 +3,7 @@ use Rattle.std.specs.Prelude.{◌≡◌, ◌≢◌, ℕ, List, [], ◌∷◌, �
 use Rattle.std.specs.declared.ops.ControlFlow.TheVariants.{Continue}
 use Rattle.std.specs.Io.KnownBytes.{Appends}
 use Rattle.std.specs.List.{AllByRecursion}
-use Rattle.std.proofs.Common.{subst}
+use Rattle.std.proofs.Common.{refl, subst}
 use Rattle.gix_parts.specs.declared.hash.ObjectId.{ObjectId}
 use Rattle.gix_parts.specs.declared.object.find.existing_iter.Error.{Error as ExistingError}
 use Rattle.gix_parts.specs.Object.{Objects}
@@ -11,7 +11,7 @@ use Rattle.gix_parts.specs.TreeItems.{TreeEntry, is_tree}
 use Rattle.gix_traverse.specs.declared.tree.breadthfirst.Error.{Error}
 use Rattle.gix_traverse.specs.declared.tree.breadthfirst.Error.TheVariants as error
 use Rattle.gix_traverse.specs.Trees.Delegate.{Action, Call, Run}
-use Rattle.gix_traverse.specs.Trees.Laws.{AreSound, GoOn}
+use Rattle.gix_traverse.specs.Trees.Laws.{AreSound}
 use Rattle.gix_traverse.specs.Trees.Paths.{HaveNames}
 use Rattle.gix_traverse.specs.Trees.Recorder.{IsRecorderAnswer, record_of}
 use Rattle.gix_traverse.specs.Trees.Script as script
@@ -20,7 +20,7 @@ use Rattle.gix_traverse.specs.Trees.Tracked.{Tracked, Tracks, fresh_recorder}
 use Rattle.gix_traverse.specs.Trees.Visits.{Items, Place, Visit, visit, outcome, Ending, Whole, Broken, Failed, IsUnfailed, visit_call_of}
 use Rattle.gix_traverse.specs.Trees.Walk.{LookUpFails, depth_answer, trees_of}
 use Rattle.gix_traverse.proofs.Trees.Theorems.Laws.{depth_is_in_order, depth_is_recorded, sound_depth_succeeds}
-use Rattle.gix_traverse.proofs.Trees.Theorems.SameRecords.{unbroken}
+use Rattle.gix_traverse.proofs.Trees.Theorems.SameRecords.{GoOn, unbroken}
 use Rattle.gix_walk.specs.declared.fault.Fault.{Fault}
 use Rattle.gix_walk.specs.Faults.{fault_of_tree_walk}
 use Rattle.gix_walk.specs.Files.{RecordsTree, file_lines}
@@ -100,10 +100,10 @@ module _ (objects : Objects) (tree : ObjectId) where
     λ names. subst (λ records. Appends old new (file_lines records)) (depth_is_recorded objects (never_faulty objects) tree recorder (Ok tt) walk (λ e. cc) names) written,
   )
 
-  module _ (sound : AreSound (trees_of objects) (LookUpFails objects (never_faulty objects)) (tree ∷ [])) where
+  module _ (sound : AreSound (trees_of objects) (LookUpFails objects (never_faulty objects)) (λ e. true) (tree ∷ [])) where
     no_other : (why : Error) (recorder : Tracked) → RecordsTree objects tree recorder (Err why) → why ≢ error.Memory → ⊥
     no_other why recorder walk other =
-        not_failed why walk.end walk.answered (sound_depth_succeeds objects (never_faulty objects) Tracks tree fresh_recorder recorder (Err why) walk sound (λ e. let same : why ≡ error.Memory = cc in other same))
+        not_failed why walk.end walk.answered (sound_depth_succeeds objects (never_faulty objects) Tracks tree fresh_recorder recorder (Err why) walk (λ e. true) (λ calls mid new e run s. refl) sound (λ e. let same : why ≡ error.Memory = cc in other same))
 
     outside : (why : Error) (recorder : Tracked) → RecordsTree objects tree recorder (Err why) → IsOutside (fault_of_tree_walk why)
     outside error.Memory recorder walk = tt

@@ -47,6 +47,7 @@ use Rattle.gix_walk.proofs.CommitRuns.{ends_well}
 use Rattle.gix_walk.proofs.InternalFacts.{next_sound}
 use Rattle.gix_walk.proofs.SimpleRuns.{IsUncut, is_tip, reach_more, same, whole_from}
 use Rattle.gix_walk.proofs.UncutWords.{uncut}
+use Rattle.gix_traverse.proofs.Painting.Invariant.{own_history}
 
 within : {X : Type 0} (p : X → Bool) (xs : List X) (x : X) → Contains (filter p xs) x → Contains xs x
 within p xs x h = All-contains (Contains xs) (filter p xs) x (All-filter p (Contains xs) xs (All-contains_itself xs)) h
@@ -153,7 +154,7 @@ module _ (objects : Objects) (tips hiders : List ObjectId) (whole : AreWhole obj
   called (unhidden e steps) s = stepped steps (record { store = s.store; rows = s.rows; parents = s.parents; behind = λ i c. absurd (no_member i c); met = s.met })
   called {w} (paints {marks = marks} {rows = rows} some hides paint steps) s =
       stepped steps (record { store = s.store; rows = ⊎_elim (λ e. e ∙ s.rows) (λ e. e) paint.rows_left; parents = s.parents; behind = λ i c. absurd (no_member i c); met = λ p c. s.met p (within _ w.pending p c) })
-  called {w} (faulty_history {why = why} some hides left f) s = λ ne. absurd (no_fault_at f.0 why (whole_from objects f.0 (whole f.0 reached)) (subst (λ o. IsFaultAt o (never_faulty o) f.0 why) s.store f.2))
+  called {w} (faulty_history {why = why} some hides left f) s = λ ne. absurd (no_fault_at f.id why (whole_from objects f.id (whole f.id reached)) (subst (λ o. IsFaultAt o (never_faulty o) f.id why) s.store f.fault))
     where
       both : (i : ObjectId) → Contains (ids_of w.pending ++ w.hidden_tips) i → Reaches (parents_of objects) (tips ++ hiders) i
       both i c =
@@ -162,8 +163,8 @@ module _ (objects : Objects) (tips hiders : List ObjectId) (whole : AreWhole obj
           (λ m. start (Contains-append_right tips hiders i (s.behind i m)))
           (Contains-append_cases (ids_of w.pending) w.hidden_tips i c)
 
-      reached : Reaches (parents_of objects) (tips ++ hiders) f.0
-      reached = reach_on (parents_of objects) (ids_of w.pending ++ w.hidden_tips) (tips ++ hiders) both f.0 (subst (λ o. Reaches (parents_of o) (ids_of w.pending ++ w.hidden_tips) f.0) s.store (f.1 (none_agree w.store (never_faulty w.store) w.rows s.rows)))
+      reached : Reaches (parents_of objects) (tips ++ hiders) f.id
+      reached = reach_on (parents_of objects) (ids_of w.pending ++ w.hidden_tips) (tips ++ hiders) both f.id (subst (λ o. Reaches (parents_of o) (ids_of w.pending ++ w.hidden_tips) f.id) s.store (f.reached w.store (own_history w.store (never_faulty w.store) w.rows (none_agree w.store (never_faulty w.store) w.rows s.rows))))
   called (no_memory some hides left) s = λ ne. tt
 
   drawn : (infos : List Info) (w at : Walk) → Yields Answers w (all_given infos) at → Stands w → Stands at

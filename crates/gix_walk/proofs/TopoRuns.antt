@@ -5,7 +5,9 @@ use Rattle.std.specs.Iterator.{Yields}
 use Rattle.std.specs.List.{AllZip}
 use Rattle.std.proofs.Common.{refl, sym, ap, subst, ◌∙◌}
 use Rattle.std.proofs.lemmas.List.Elements.{All-nil, All-cons, Contains-append_left, Contains-append_right}
+use Rattle.std.specs.FinSet as set
 use Rattle.gix_parts.specs.declared.hash.ObjectId.{ObjectId}
+use Rattle.gix_parts.specs.Id.{id_cmp}
 use Rattle.gix_parts.specs.Object.{Objects}
 use Rattle.gix_traverse.specs.declared.commit.Info.{Info}
 use Rattle.gix_traverse.specs.declared.commit.topo.Error.{Error}
@@ -14,7 +16,7 @@ use Rattle.gix_traverse.specs.declared.commit.topo.Sorting.{Sorting}
 use Rattle.gix_traverse.specs.History.Commits.{parents_of}
 use Rattle.gix_traverse.specs.History.Reach.{step}
 use Rattle.gix_traverse.specs.Topo.Laws.{IsTakenInOrder, IsGiven, IsWholeRun, GivesInOrder}
-use Rattle.gix_traverse.specs.Topo.Walk.{TopoPlan, IsFault, IsSound, May, ended, given, refused, failed}
+use Rattle.gix_traverse.specs.Topo.Walk.{TopoPlan, IsFault, IsFirstReady, IsNextReady, IsSound, May, ended, given, refused, failed}
 use Rattle.gix_traverse.proofs.Shared.Rows.{none_agree}
 use Rattle.gix_traverse.proofs.Topo.Run.Corollaries.{once}
 use Rattle.gix_traverse.proofs.Topo.Run.Theorem.{gives}
@@ -59,13 +61,13 @@ yields_plan walk at (answer ∷ list) h = yields_plan h.0 at list h.2 ∙ next_p
 abbrev Says : TopoPlan Objects → Option (Result Info Error) → Type 0
 Says plan None = Unit {0}
 Says plan (Some (Ok info)) = Unit {0}
-Says plan (Some (Err e)) = IsFault objects_of never_faulty plan e
+Says plan (Some (Err e)) = (taken : set.FinSet id_cmp) × (c : ObjectId) × IsFault objects_of never_faulty plan (IsNextReady objects_of plan taken c) e
 
 next_says : {old new : Walk} {answer : Option (Result Info Error)} → Answers old answer new → Says old.plan answer
 next_says (ended e) = tt
 next_says (given t a i) = tt
 next_says (refused t a h) = next_says h
-next_says (failed c others h f late) = f
+next_says (failed {old = old} c others h f late) = (old.taken, c.id, f)
 
 module _ (objects : Objects) (by : Sorting) (tips ends : List ObjectId) (whole : AreWhole objects (tips ++ ends)) where
   sound : IsSound objects_of never_faulty (plan_from objects by tips ends)
@@ -77,18 +79,20 @@ module _ (objects : Objects) (by : Sorting) (tips ends : List ObjectId) (whole :
   }
 
   -- over whole commits no fault comes but for memory
-  outside : (e : Error) → IsFault objects_of never_faulty (plan_from objects by tips ends) e → IsOutside (fault_of_topo_walk e)
-  outside error.MissingIndegreeUnexpected h = absurd (h (none_agree objects (never_faulty objects) [] refl))
-  outside error.MissingStateUnexpected h = absurd h
-  outside (error.ObjectDecode e) h = absurd (h.2.1 sound)
-  outside (error.Find e) h = absurd (h.2.1 sound)
-  outside error.Memory h = tt
+  outside : (BecomesReady : ObjectId → Type 0) (e : Error) → IsFault objects_of never_faulty (plan_from objects by tips ends) BecomesReady e → IsOutside (fault_of_topo_walk e)
+  outside Q error.MissingIndegreeUnexpected h = absurd (h (none_agree objects (never_faulty objects) [] refl))
+  outside Q error.MissingStateUnexpected h = absurd h
+  outside Q (error.ObjectDecode e) h = absurd (h.2.1 sound)
+  outside Q (error.Find e) h = absurd (h.2.1 sound)
+  outside Q error.Memory h = tt
 
   module _ (walk : Walk) (built : IsBuiltFrom objects by tips ends (Ok walk)) where
     drawn_outside : (infos : List Info) (answer : Result (Unit {0}) Fault) → Ends Answers IsWalkFault walk infos answer → EndsWell answer
     drawn_outside infos answer (finished new h) = tt
     drawn_outside infos answer (fell e f new h is) =
-        subst IsOutside (sym is) (outside e (subst (λ plan. IsFault objects_of never_faulty plan e) (yields_plan walk h.0 (all_given infos) h.1 ∙ built.0.plan) (next_says h.2)))
+        let says : (taken : set.FinSet id_cmp) × (c : ObjectId) × IsFault objects_of never_faulty (plan_from objects by tips ends) (IsNextReady objects_of (plan_from objects by tips ends) taken c) e =
+        subst (λ plan. (taken : set.FinSet id_cmp) × (c : ObjectId) × IsFault objects_of never_faulty plan (IsNextReady objects_of plan taken c) e) (yields_plan walk h.0 (all_given infos) h.1 ∙ built.0.plan) (next_says h.2) in
+        subst IsOutside (sym is) (outside (IsNextReady objects_of (plan_from objects by tips ends) says.0 says.1) e says.2)
     drawn_outside infos answer (cut_short new h) = tt
 
     listed : (infos : List Info) → Ends Answers IsWalkFault walk infos (Ok tt) → ListsDown objects by tips ends (map (λ info. info.id) infos)
@@ -117,7 +121,7 @@ module _ (objects : Objects) (by : Sorting) (tips ends : List ObjectId) (whole :
 
     well : (answer : Result (Unit {0}) Fault) (new : Option (List ℕ)) → Serves objects old (Commits (Topo by) tips ends) answer new → EndsWell answer
     well answer new (walked_down walk infos built ends written) = drawn_outside walk built infos answer ends
-    well answer new (not_built e h) = outside e h
+    well answer new (not_built e h) = outside (IsFirstReady objects_of (plan_from objects by tips ends)) e h
     well answer new unserved = tt
     well answer new not_written = tt
 

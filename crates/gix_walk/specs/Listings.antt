@@ -1,10 +1,12 @@
 -- What a run writes of a tree, told by its entries and the trees in it.
-use Rattle.std.specs.Prelude.{◌≡◌, ℕ, List, [], ◌∷◌, map, false, Option, Some, Result, Ok}
+use Rattle.std.specs.Prelude.{◌≡◌, ℕ, List, [], ◌∷◌, map, true, false, Option, Some, Result, Ok}
+use Rattle.std.specs.declared.ops.ControlFlow.TheVariants.{Continue}
 use Rattle.std.specs.Io.KnownBytes.{Appends}
+use Rattle.std.specs.List.{AllByRecursion}
 use Rattle.gix_parts.specs.declared.hash.ObjectId.{ObjectId}
 use Rattle.gix_parts.specs.Object.{Objects}
 use Rattle.gix_traverse.specs.Orders.Preorder.{IsPreorder}
-use Rattle.gix_traverse.specs.Trees.Laws.{AreSound, GoOn}
+use Rattle.gix_traverse.specs.Trees.Laws.{AreSound}
 use Rattle.gix_traverse.specs.Trees.Paths.{HaveNames, known_root}
 use Rattle.gix_traverse.specs.Trees.Recorder.{record_of}
 use Rattle.gix_traverse.specs.Trees.Script.{entries_at}
@@ -21,7 +23,7 @@ use Rattle.gix_walk.specs.Words.{Files, request_of}
 -- the entries of a tree and of all trees in it, in preorder, each with its place
 pub record Unfolds (objects : Objects) (tree : ObjectId) (visits : List Visit) : Type 0 where
   pub in_order : IsPreorder (entries_at (trees_of objects)) (known_root tree) (entries_at (trees_of objects) tree) visits false
-  pub all : GoOn visits
+  pub all : AllByRecursion (λ v. v.answer ≡ Continue true) visits
 
 -- Over words that ask for it and records, a run of `files` that ends well writes a line for each entry of the tree and of the trees in
 -- it, in preorder, with its path, where each name can stand in a path.
@@ -35,4 +37,4 @@ FilesLists =
 abbrev pub FilesSucceeds : Type 0
 FilesSucceeds =
     (words : List (List ℕ)) (input : List ℕ) (records : List Record) (tree : ObjectId) (answer : Result (Unit {0}) Fault) (old new : Option (List ℕ)) →
-    request_of words ≡ Ok (Files tree) → AreRecords records input → AreSound (trees_of (stored records)) (LookUpFails (stored records) (never_faulty (stored records))) (tree ∷ []) → Runs words (Some input) old answer new → EndsWell answer
+    request_of words ≡ Ok (Files tree) → AreRecords records input → AreSound (trees_of (stored records)) (LookUpFails (stored records) (never_faulty (stored records))) (λ e. true) (tree ∷ []) → Runs words (Some input) old answer new → EndsWell answer
