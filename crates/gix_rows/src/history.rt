@@ -1,4 +1,5 @@
 //! Histories to walk. Commit n has the id of forty digits n, and mostly time n.
+use crate::words::Stop;
 use gix_parts::graph::{Graph, ParentPlace, Row};
 use gix_parts::hash::ObjectId;
 use gix_parts::object::Kind;
@@ -6,10 +7,15 @@ use gix_parts::object::find::{self, Find};
 use gix_parts::object::memory::MemoryStore;
 use std::alloc::{AllocError, Global};
 use std::fmt;
-use std::test::Fail;
 
 /// The empty tree, as Git names it.
 pub const TREE: &str = "4b825dc642cb6eb9a060e54bf8d69288fbee4904";
+
+/// The bytes of its id.
+pub const EMPTY_TREE: [u8; 20] = [
+    0x4b, 0x82, 0x5d, 0xc6, 0x42, 0xcb, 0x6e, 0xb9, 0xa0, 0x60, 0xe5, 0x4b, 0xf8, 0xd6, 0x92, 0x88,
+    0xfb, 0xee, 0x49, 0x04,
+];
 
 /// The commits of the sample with their parents.
 pub const SAMPLE: [(u8, &[u8]); 8] = [
@@ -80,16 +86,6 @@ pub fn insert_at(
     store.insert(id(n), Kind::Commit, text.as_str().as_bytes())
 }
 
-/// Stores commit n with these parents.
-pub fn insert(
-    alloc: Global,
-    store: &mut MemoryStore,
-    n: u8,
-    parents: &[u8],
-) -> Result<(), AllocError> {
-    insert_at(alloc, store, n, i64::from(n), parents)
-}
-
 /// Stores commit n, whose text ends behind its author line.
 pub fn insert_without_committer(
     alloc: Global,
@@ -112,33 +108,82 @@ pub fn insert_with_broken_parent(
     store.insert(id(n), Kind::Commit, text.as_str().as_bytes())
 }
 
-/// A store of these commits.
-pub fn store(alloc: Global, commits: &[(u8, &[u8])]) -> Result<MemoryStore, AllocError> {
-    let mut store = MemoryStore::new(alloc);
-    for (n, parents) in commits {
-        insert(alloc, &mut store, *n, parents)?;
-    }
-    Ok(store)
+/// A commit whose text is of no use, or an object that is no commit.
+#[derive(Clone, Copy)]
+pub enum Odd {
+    None,
+    /// Commit 9 ends behind its author line.
+    WithoutCommitter,
+    /// Commit 9 has the first parent 6, and a second one whose name is a digit short.
+    BrokenParent,
+    /// The long commit 3 has a parent whose name has forty digits.
+    ShortParent,
+    /// The object of this digit is a tag.
+    Tag(u8),
 }
 
-/// A store of the sample.
-pub fn sample(alloc: Global) -> Result<MemoryStore, AllocError> {
-    store(alloc, &SAMPLE)
+/// What a store holds.
+#[derive(Clone, Copy)]
+pub struct History<'a> {
+    /// Commits with their parents.
+    pub commits: &'a [(u8, &'a [u8])],
+    /// Commit n has this many times n for its time.
+    pub scale: i64,
+    /// Commits with times of their own, in place of those before.
+    pub more: &'a [(u8, i64, &'a [u8])],
+    /// Commits of 32-byte ids.
+    pub long: &'a [(u8, &'a [u8])],
+    pub odd: Odd,
 }
 
-/// The sample with times that are this many times the digits.
-pub fn scaled_store(alloc: Global, scale: i64) -> Result<MemoryStore, AllocError> {
-    let mut store = MemoryStore::new(alloc);
-    for (n, parents) in &SAMPLE {
-        insert_at(
-            alloc,
-            &mut store,
-            *n,
-            i64::from(*n).wrapping_mul(scale),
-            parents,
-        )?;
+/// No commits.
+pub const EMPTY: History<'static> = History {
+    commits: &[],
+    scale: 1,
+    more: &[],
+    long: &[],
+    odd: Odd::None,
+};
+
+/// The sample.
+pub const PLAIN: History<'static> = History {
+    commits: &SAMPLE,
+    ..EMPTY
+};
+
+impl Odd {
+    fn insert(self, alloc: Global, store: &mut MemoryStore) -> Result<(), AllocError> {
+        match self {
+            Odd::None => Ok(()),
+            Odd::WithoutCommitter => insert_without_committer(alloc, store, 9),
+            Odd::BrokenParent => insert_with_broken_parent(alloc, store, 9),
+            Odd::ShortParent => {
+                let tree = format!(in alloc; "{}", long_id(14))?;
+                let text = text(alloc, tree.as_str(), 3, &[id(2)])?;
+                store.insert(long_id(3), Kind::Commit, text.as_str().as_bytes())
+            }
+            Odd::Tag(n) => store.insert(id(n), Kind::Tag, b"tag"),
+        }
     }
-    Ok(store)
+}
+
+impl History<'_> {
+    /// A store of all this.
+    pub fn store(&self, alloc: Global) -> Result<MemoryStore, AllocError> {
+        let mut store = MemoryStore::new(alloc);
+        for (n, parents) in self.commits {
+            let time = i64::from(*n).wrapping_mul(self.scale);
+            insert_at(alloc, &mut store, *n, time, parents)?;
+        }
+        for (n, time, parents) in self.more {
+            insert_at(alloc, &mut store, *n, *time, parents)?;
+        }
+        for (n, parents) in self.long {
+            insert_long(alloc, &mut store, *n, parents)?;
+        }
+        self.odd.insert(alloc, &mut store)?;
+        Ok(store)
+    }
 }
 
 /// A store that fails at one id.
@@ -180,7 +225,7 @@ pub const FULL: Rows<'static> = Rows {
 };
 
 impl Rows<'_> {
-    /// Where the row of a commit stands, if there is one.
+    /// The place of a commit's row, if there is one.
     fn place(&self, n: u8) -> ParentPlace {
         for (place, commit) in self.commits.iter().enumerate() {
             if commit.0 == n {
@@ -206,27 +251,63 @@ impl Rows<'_> {
     }
 
     /// The graph of these rows.
-    pub fn graph(&self, alloc: Global) -> Result<Graph, Fail> {
-        let mut rows = Vec::new(alloc);
-        for (place, (n, parents)) in self.commits.iter().enumerate() {
-            rows.push(Row {
-                id: id(*n),
-                tree: ObjectId::from_hex(TREE.as_bytes())?,
-                parents: self.places(alloc, *n, parents)?,
-                generation: *self.generations.get(place).ok_or("no generation")?,
-                time: i64::from(*n),
-            })?;
-        }
+    pub fn graph(&self, alloc: Global) -> Result<Graph, Stop> {
+        let rows = self.rows(alloc)?;
         Ok(Graph::new(alloc, rows)?)
     }
 
+    fn rows(&self, alloc: Global) -> Result<Vec<Row>, AllocError> {
+        let mut rows = Vec::new(alloc);
+        for ((n, parents), generation) in self.commits.iter().zip(self.generations) {
+            rows.push(Row {
+                id: id(*n),
+                tree: ObjectId::Sha1(EMPTY_TREE),
+                parents: self.places(alloc, *n, parents)?,
+                generation: *generation,
+                time: i64::from(*n),
+            })?;
+        }
+        Ok(rows)
+    }
+
     /// A graph that was read from the bytes of another.
-    pub fn packed(&self, alloc: Global) -> Result<Graph, Fail> {
+    pub fn packed(&self, alloc: Global) -> Result<Graph, Stop> {
         let graph = self.graph(alloc)?;
         let bytes = Vec::from_slice(alloc, graph.packed())?;
         Ok(Graph::from_packed(bytes)?)
     }
 }
+
+/// How a walk reads commits: from the store alone, by rows, or by the bytes of these rows.
+#[derive(Clone, Copy, Debug)]
+pub enum By {
+    Store,
+    Rows,
+    Packed,
+}
+
+/// From the store alone.
+pub const BY_STORE: &[By] = &[By::Store];
+
+/// By rows and by their bytes.
+pub const BY_ROWS: &[By] = &[By::Rows, By::Packed];
+
+/// In each way.
+pub const BY_ALL: &[By] = &[By::Store, By::Rows, By::Packed];
+
+impl By {
+    /// The graph of these rows, where one is used.
+    pub fn graph(self, alloc: Global, rows: &Rows<'_>) -> Result<Option<Graph>, Stop> {
+        match self {
+            By::Store => Ok(None),
+            By::Rows => Ok(Some(rows.graph(alloc)?)),
+            By::Packed => Ok(Some(rows.packed(alloc)?)),
+        }
+    }
+}
+
+/// How many bytes a row's answers have at most.
+pub const ROOM: usize = 1024;
 
 /// Stores the commit of a 32-byte id.
 pub fn insert_long(

@@ -1,16 +1,13 @@
-//! Tests of the walks, over worked histories and trees (the rows of the crate's name): a store that fails, a predicate and a
-//! delegate that write down what they are asked. Rows of a commit-graph are in `simple::graphs` and `topo::counts`.
+//! Worked examples of the walks, as tables: histories and trees, how to walk them, and what is to be given. A store that fails, a
+//! predicate and a delegate that write down what they are asked. The tests of this crate walk by the tables.
 #![tactic(auto)]
 
-#[cfg(test)]
-mod history;
+pub mod calls;
+pub mod example;
+pub mod history;
 #[cfg(test)]
 mod parts;
-#[cfg(test)]
-mod simple;
-#[cfg(test)]
-mod topo;
-#[cfg(test)]
-mod trees;
-#[cfg(test)]
-mod words;
+pub mod simple;
+pub mod topo;
+pub mod trees;
+pub mod words;

@@ -1,22 +1,22 @@
-//! Walks by parent links, told as text: a word for each answer.
-mod breadth;
-mod faults;
+//! Walks by parent links, written as text: a word for each answer.
+pub mod breadth;
+pub mod faults;
 pub mod graphs;
-mod hiding;
-mod times;
+pub mod hiding;
+pub mod times;
 
-use crate::history::{Failing, SAMPLE, TREE, digit, id, ids, long_id, sample, store, text};
-use crate::words::{broken, not_found};
+use crate::history::{
+    BY_STORE, By, FULL, Failing, History, PLAIN, ROOM, Rows, TREE, digit, id, ids, long_id, text,
+};
+use crate::words::{Stop, space, write_broken, write_not_found};
 use gix_parts::graph::Graph;
 use gix_parts::hash::ObjectId;
 use gix_parts::object::commit::Token;
 use gix_parts::object::decode;
 use gix_parts::object::find::Find;
-use gix_parts::object::memory::MemoryStore;
 use gix_traverse::commit::simple::{CommitTimeOrder, Error, Hidden, Sorting};
 use gix_traverse::commit::{Filter, Info, Parents, Predicate, Simple, Unfiltered};
 use std::alloc::{AllocError, Global};
-use std::test::Fail;
 
 pub const BREADTH: Sorting = Sorting::BreadthFirst;
 
@@ -30,50 +30,112 @@ pub const SINCE_4: Sorting = Sorting::ByCommitTimeCutoff {
     seconds: 4,
 };
 
-/// What is told of a commit.
+/// What is written of a commit.
 #[derive(Clone, Copy, PartialEq, Eq)]
 pub enum Detail {
     /// Its digit.
     Digit,
-    /// Its digit, and behind `:` the generation that a row told.
+    /// Its digit, and behind `:` the generation that a row has.
     Generation,
-    /// The same, behind `@` its time where the walk told one, and its parents: all as a clone holds it.
+    /// The same, behind `@` its time where the walk gave one, and its parents: all as a clone holds it.
     All,
+    /// Its digit. Behind `=` is the commit whose text the walk lends: before the first answer, behind each, and at the end.
+    Texts,
+}
+
+/// A predicate that is asked about commits.
+#[derive(Clone, Copy)]
+pub enum Asked {
+    /// There is none.
+    No,
+    /// It refuses this commit. The commits that it was asked about are written behind the answers.
+    Refusing(u8),
 }
 
 /// What a walk is to be.
 #[derive(Clone, Copy)]
 pub struct Wish<'a> {
-    /// Tips of 32-byte ids, before the others.
-    pub long: &'a [u8],
     pub tips: &'a [u8],
+    /// Tips of 32-byte ids, behind the others.
+    pub long: &'a [u8],
     /// The order that is chosen, and the order that is chosen in its place.
     pub sortings: [Sorting; 2],
+    /// The parents that are chosen between the orders.
     pub parents: Parents,
-    pub hidden: &'a [u8],
+    /// The parents that are chosen behind the orders, if any are.
+    pub last_parents: Option<Parents>,
+    /// The tips that are hidden, and the tips that are hidden in their place.
+    pub hidden: [&'a [u8]; 2],
+    pub asked: Asked,
     pub detail: Detail,
 }
 
 /// The digits of all that 8 reaches, breadth first.
 pub const ALL: Wish<'static> = Wish {
-    long: &[],
     tips: &[8],
+    long: &[],
     sortings: [BREADTH, BREADTH],
     parents: Parents::All,
-    hidden: &[],
+    last_parents: None,
+    hidden: [&[], &[]],
+    asked: Asked::No,
     detail: Detail::Digit,
 };
 
-/// A fault as a word. One in what hidden tips reach begins with `hidden`. Want of memory stays want of memory.
-fn fault(alloc: Global, error: &Error) -> Result<String, AllocError> {
+/// The tips of a walk, its orders, the tips that are hidden at last, and what the walk tells.
+pub type Case<'a> = (&'a [u8], [Sorting; 2], &'a [u8], &'a str);
+
+/// Walks over one history.
+#[derive(Clone, Copy)]
+pub struct Table<'a> {
+    pub history: History<'a>,
+    /// The store fails at this commit, if at any.
+    pub fails: Option<u8>,
+    pub rows: Rows<'a>,
+    /// How the walks read commits. In each way they tell the same.
+    pub by: &'a [By],
+    /// What the walks have in common.
+    pub wish: Wish<'a>,
+    pub cases: &'a [Case<'a>],
+}
+
+/// Walks over the sample, from the store alone.
+pub const OF_SAMPLE: Table<'static> = Table {
+    history: PLAIN,
+    fails: None,
+    rows: FULL,
+    by: BY_STORE,
+    wish: ALL,
+    cases: &[],
+};
+
+/// The order of a walk for which none is chosen.
+pub const AS_MET: [Sorting; 2] = [BREADTH, BREADTH];
+
+/// Newest first.
+pub const BY_TIME: [Sorting; 2] = [BREADTH, NEWEST];
+
+impl From<Error> for Stop {
+    fn from(error: Error) -> Stop {
+        match error {
+            Error::Memory => Stop::Memory,
+            _ => Stop::Row,
+        }
+    }
+}
+
+/// Writes a fault as a word. One in what hidden tips reach begins with `hidden`. Out of memory stays out of memory.
+fn write_fault(told: &mut String, error: &Error) -> Result<(), AllocError> {
     match error {
-        Error::Find(error) => not_found(alloc, error),
-        Error::ObjectDecode(error) => broken(alloc, error),
+        Error::Find(error) => write_not_found(told, error),
+        Error::ObjectDecode(error) => write_broken(told, error),
         Error::HiddenGraph(Hidden::Find(error)) => {
-            format!(in alloc; "hidden-{}", not_found(alloc, error)?)
+            told.push_str("hidden-")?;
+            write_not_found(told, error)
         }
         Error::HiddenGraph(Hidden::ObjectDecode(error)) => {
-            format!(in alloc; "hidden-{}", broken(alloc, error)?)
+            told.push_str("hidden-")?;
+            write_broken(told, error)
         }
         Error::Memory => Err(AllocError),
     }
@@ -86,7 +148,7 @@ fn write_commit(told: &mut String, info: &Info, detail: Detail) -> Result<(), Al
     if info.id != id(n) {
         told.push('L')?;
     }
-    if detail == Detail::Digit {
+    if let Detail::Digit | Detail::Texts = detail {
         return Ok(());
     }
     if let Some(generation) = info.generation {
@@ -95,165 +157,147 @@ fn write_commit(told: &mut String, info: &Info, detail: Detail) -> Result<(), Al
     if detail == Detail::Generation {
         return Ok(());
     }
-    let same = info.clone()?;
-    if same != *info {
-        return told.push_str(" unlike its clone");
-    }
-    if let Some(time) = same.commit_time {
+    if let Some(time) = info.commit_time {
         write!(told, "@{time}")?;
     }
     told.push('(')?;
-    for parent in same.parent_ids.as_slice() {
+    for parent in info.parent_ids.as_slice() {
         write!(told, "{},", digit(parent))?;
     }
     told.push(')')
 }
 
+/// Writes a clone of a commit as a word.
+fn write_clone(told: &mut String, info: &Info, detail: Detail) -> Result<(), AllocError> {
+    let same = info.clone()?;
+    space(told)?;
+    if same != *info {
+        told.push_str("unlike-")?;
+    }
+    write_commit(told, &same, detail)
+}
+
 /// Writes an answer as a word behind those before.
 fn write_answer(
-    alloc: Global,
     told: &mut String,
     answer: &Result<Info, Error>,
     detail: Detail,
 ) -> Result<(), AllocError> {
-    if !told.is_empty() {
-        told.push(' ')?;
-    }
     match answer {
-        Ok(info) => write_commit(told, info, detail),
-        Err(error) => told.push_str(fault(alloc, error)?.as_str()),
+        Ok(info) => write_clone(told, info, detail),
+        Err(error) => {
+            space(told)?;
+            write_fault(told, error)
+        }
     }
 }
 
-/// Tells each answer that a walk still gives.
+/// Tells each answer that a walk still gives. The answer says whether the walk came to its end, and not out of memory.
 fn draw<F: Find + Drop, P: Predicate + Drop>(
-    alloc: Global,
     walk: &mut Simple<F, P>,
     detail: Detail,
-) -> Result<String, AllocError>
+    told: &mut String,
+) -> Result<bool, AllocError>
     requires { P.can_accept walk.old.predicate }
 {
-    let mut told = String::new(alloc);
     for answer in walk {
-        write_answer(alloc, &mut told, &answer, detail)?;
+        if let Err(Error::Memory) = answer {
+            return Ok(false);
+        }
+        write_answer(told, &answer, detail)?;
     }
-    Ok(told)
+    Ok(true)
 }
 
 /// Behind its end a walk gives nothing.
-fn check_end<F: Find + Drop, P: Predicate + Drop>(walk: &mut Simple<F, P>) -> Result<(), Fail>
+fn check_end<F: Find + Drop, P: Predicate + Drop>(walk: &mut Simple<F, P>) -> Result<(), Stop>
     requires { P.can_accept walk.old.predicate }
 {
     match walk.next() {
         None => Ok(()),
-        Some(_) => Err("an answer behind the end".into()),
+        Some(_) => Err(Stop::Late),
     }
 }
 
+/// Out of memory where a walk didn't come to its end.
+fn end(whole: bool) -> Result<(), Stop> {
+    if whole { Ok(()) } else { Err(Stop::Memory) }
+}
+
 /// Draws a walk to its end and tells each answer.
-pub fn told<F: Find + Drop>(
-    alloc: Global,
+fn tell_walk<F: Find + Drop>(
     mut walk: Simple<F, Unfiltered>,
     detail: Detail,
-) -> Result<String, Fail> {
-    let told = draw(alloc, &mut walk, detail)?;
+    told: &mut String,
+) -> Result<(), Stop> {
+    let whole = draw(&mut walk, detail, told)?;
     check_end(&mut walk)?;
     check_end(&mut walk)?;
-    Ok(told)
-}
-
-/// What a new walk gives from these tips.
-pub fn tell_from<F: Find + Drop>(alloc: Global, tips: &[u8], find: F) -> Result<String, Fail> {
-    told(
-        alloc,
-        Simple::new(alloc, ids(alloc, tips)?, find)?,
-        Detail::Digit,
-    )
-}
-
-/// What a new walk gives from these tips over a store.
-pub fn tell(alloc: Global, tips: &[u8], store: &MemoryStore) -> Result<String, Fail> {
-    tell_from(alloc, tips, store)
+    end(whole)
 }
 
 impl Wish<'_> {
     fn tips(&self, alloc: Global) -> Result<Vec<ObjectId>, AllocError> {
         let mut tips = Vec::new(alloc);
-        for digit in self.long {
-            tips.push(long_id(*digit))?;
-        }
         for digit in self.tips {
             tips.push(id(*digit))?;
+        }
+        for digit in self.long {
+            tips.push(long_id(*digit))?;
         }
         Ok(tips)
     }
 
     /// The tips' walk by the other wishes.
-    fn made<F: Find + Drop>(
+    fn made<F: Find + Drop, P: Predicate + Drop>(
         &self,
         alloc: Global,
-        walk: Simple<F, Unfiltered>,
+        walk: Simple<F, P>,
         graph: Option<Graph>,
-    ) -> Result<Simple<F, Unfiltered>, Error> {
-        Ok(
-            walk.sorting(self.sortings[0])?
-                .parents(self.parents)
-                .sorting(self.sortings[1])?
-                .hide(ids(alloc, self.hidden)?)?
-                .commit_graph(graph),
-        )
-    }
-
-    /// What the walk gives, by the rows of a graph where there is one. `unsorted` and a fault stand for a walk whose tips can't
-    /// be sorted.
-    fn tell_from<F: Find + Drop>(
-        &self,
-        alloc: Global,
-        find: F,
-        graph: Option<Graph>,
-    ) -> Result<String, Fail> {
-        let walk = Simple::new(alloc, self.tips(alloc)?, find)?;
-        match self.made(alloc, walk, graph) {
-            Ok(walk) => told(alloc, walk, self.detail),
-            Err(error) => Ok(format!(in alloc; "unsorted {}", fault(alloc, &error)?)?),
+    ) -> Result<Simple<F, P>, Error> {
+        let [hidden_before, hidden] = self.hidden;
+        let walk = walk
+            .sorting(self.sortings[0])?
+            .parents(self.parents)
+            .sorting(self.sortings[1])?
+            .hide(ids(alloc, hidden_before)?)?
+            .hide(ids(alloc, hidden)?)?
+            .commit_graph(graph);
+        match self.last_parents {
+            Some(parents) => Ok(walk.parents(parents)),
+            None => Ok(walk),
         }
     }
 
-    /// What the walk gives over a store.
-    pub fn tell(
-        &self,
-        alloc: Global,
-        store: &MemoryStore,
-        graph: Option<Graph>,
-    ) -> Result<String, Fail> {
-        self.tell_from(alloc, store, graph)
-    }
-
-    /// The same over a store that fails at this commit.
-    pub fn tell_failing(&self, alloc: Global, store: &MemoryStore, n: u8) -> Result<String, Fail> {
-        let failing = Failing { store, at: id(n) };
-        self.tell_from(alloc, &failing, None)
-    }
-
-    /// The same over the sample.
-    pub fn tell_sample(&self, alloc: Global) -> Result<String, Fail> {
-        self.tell(alloc, &sample(alloc)?, None)
-    }
-
-    /// What the walk gives over the sample with a predicate that refuses one commit, and behind it the commits that the predicate
-    /// was asked about.
-    pub fn tell_asking(&self, alloc: Global, refused: u8) -> Result<String, Fail> {
-        self.asking_from(alloc, &sample(alloc)?, refused)
-    }
-
-    /// The same from any source of commits.
-    fn asking_from<F: Find + Drop>(
+    /// What the walk gives without a predicate. `unsorted` and a fault are written of a walk whose tips can't be sorted.
+    fn tell_all<F: Find + Drop>(
         &self,
         alloc: Global,
         find: F,
+        graph: Option<Graph>,
+        told: &mut String,
+    ) -> Result<(), Stop> {
+        let walk = Simple::new(alloc, self.tips(alloc)?, find)?;
+        match self.made(alloc, walk, graph) {
+            Ok(walk) => tell_walk(walk, self.detail, told),
+            Err(Error::Memory) => Err(Stop::Memory),
+            Err(error) => {
+                told.push_str("unsorted ")?;
+                Ok(write_fault(told, &error)?)
+            }
+        }
+    }
+
+    /// What the walk gives with a predicate that refuses one commit, and behind it the commits that the predicate was asked about.
+    fn tell_asking<F: Find + Drop>(
+        &self,
+        alloc: Global,
+        find: F,
+        graph: Option<Graph>,
         refused: u8,
-    ) -> Result<String, Fail> {
-        let mut asked = String::new(alloc);
+        told: &mut String,
+    ) -> Result<(), Stop> {
+        let mut asked = String::with_capacity(alloc, ROOM)?;
         let mut noted = Ok(());
         let asking = Filter::new(|i: &_| {
             if noted.is_ok() {
@@ -261,97 +305,171 @@ impl Wish<'_> {
             }
             digit(i) != refused
         });
-        let mut walk = Simple::filtered(alloc, self.tips(alloc)?, find, asking)?
-            .sorting(self.sortings[0])?
-            .sorting(self.sortings[1])?
-            .hide(ids(alloc, self.hidden)?)?;
-        let told = draw(alloc, &mut walk, self.detail)?;
+        let walk = Simple::filtered(alloc, self.tips(alloc)?, find, asking)?;
+        let mut walk = self.made(alloc, walk, graph)?;
+        let whole = draw(&mut walk, self.detail, told)?;
         check_end(&mut walk)?;
         check_end(&mut walk)?;
         drop(walk);
         noted?;
-        Ok(format!(in alloc; "{told}, asked{asked}")?)
+        end(whole)?;
+        Ok(write!(told, ", asked{asked}")?)
+    }
+
+    /// What the walk gives, with the owners of the texts that it lends, which are among these commits.
+    fn tell_texts<F: Find + Drop>(
+        &self,
+        alloc: Global,
+        find: F,
+        graph: Option<Graph>,
+        commits: &[(u8, &[u8])],
+        told: &mut String,
+    ) -> Result<(), Stop> {
+        let walk = Simple::new(alloc, self.tips(alloc)?, find)?;
+        let mut walk = self.made(alloc, walk, graph)?;
+        let whole = draw_owners(alloc, commits, &mut walk, told)?;
+        check_end(&mut walk)?;
+        end(whole)
+    }
+
+    /// What the walk gives over a store of these commits, by the rows of a graph where there is one.
+    pub fn tell<F: Find + Drop>(
+        &self,
+        alloc: Global,
+        find: F,
+        graph: Option<Graph>,
+        commits: &[(u8, &[u8])],
+        told: &mut String,
+    ) -> Result<(), Stop> {
+        match (self.asked, self.detail) {
+            (Asked::Refusing(n), _) => self.tell_asking(alloc, find, graph, n, told),
+            (_, Detail::Texts) => self.tell_texts(alloc, find, graph, commits, told),
+            _ => self.tell_all(alloc, find, graph, told),
+        }
     }
 }
 
-/// Whose text this is among these commits: a digit, `none` of an empty text, or `other`. The first of its items is its tree.
-fn owner(
+/// Whether a text is that of this commit.
+fn owns(alloc: Global, n: u8, parents: &[u8], lent: &[u8]) -> Result<bool, AllocError> {
+    let text = text(alloc, TREE, i64::from(n), &ids(alloc, parents)?)?;
+    Ok(lent == text.as_str().as_bytes())
+}
+
+/// Writes whose text this is among these commits: a digit, `none` of an empty text, or `other`. The first of its items is its tree.
+fn write_owner(
     alloc: Global,
+    told: &mut String,
     commits: &[(u8, &[u8])],
     lent: &[u8],
     first: Option<Result<Token<'_>, decode::Error>>,
-) -> Result<String, Fail> {
-    if lent.is_empty() && first.is_none() {
-        return Ok(format!(in alloc; "none")?);
-    }
-    let tree = ObjectId::from_hex(TREE.as_bytes())?;
-    if first == Some(Ok(Token::Tree { id: tree })) {
-        for (n, parents) in commits {
-            let text = text(alloc, TREE, i64::from(*n), &ids(alloc, parents)?)?;
-            if lent == text.as_str().as_bytes() {
-                return Ok(format!(in alloc; "{n}")?);
+) -> Result<(), AllocError> {
+    match first {
+        None if lent.is_empty() => return told.push_str("=none"),
+        Some(Ok(Token::Tree { .. })) => {
+            for (n, parents) in commits {
+                if owns(alloc, *n, parents, lent)? {
+                    return write!(told, "={n}");
+                }
             }
         }
+        _ => {}
     }
-    Ok(format!(in alloc; "other")?)
+    told.push_str("=other")
 }
 
 /// Writes whose text a walk over these commits lends.
-fn write_owner<F: Find + Drop>(
+fn write_lent<F: Find + Drop>(
     alloc: Global,
     told: &mut String,
     commits: &[(u8, &[u8])],
     walk: &Simple<F, Unfiltered>,
-) -> Result<(), Fail> {
-    let owner = owner(
-        alloc,
-        commits,
-        walk.commit_data(),
-        walk.commit_iter().next(),
-    )?;
-    Ok(write!(told, "={owner}")?)
+) -> Result<(), AllocError> {
+    let first = walk.commit_iter().next();
+    write_owner(alloc, told, commits, walk.commit_data(), first)
 }
 
-/// Tells each answer that a walk over these commits still gives. Behind `=` stands whose text it lends: before the first answer,
-/// behind each, and at its end.
+/// Tells each answer that a walk over these commits still gives, and whose text it lends. The answer says whether the walk came to
+/// its end, and not out of memory.
 fn draw_owners<F: Find + Drop>(
     alloc: Global,
     commits: &[(u8, &[u8])],
     walk: &mut Simple<F, Unfiltered>,
     told: &mut String,
-) -> Result<(), Fail> {
-    write_owner(alloc, told, commits, walk)?;
+) -> Result<bool, AllocError> {
+    write_lent(alloc, told, commits, walk)?;
     while let Some(answer) = walk.next() {
-        write_answer(alloc, told, &answer, Detail::Digit)?;
-        write_owner(alloc, told, commits, walk)?;
+        if let Err(Error::Memory) = answer {
+            return Ok(false);
+        }
+        write_answer(told, &answer, Detail::Texts)?;
+        write_lent(alloc, told, commits, walk)?;
     }
     told.push(' ')?;
-    write_owner(alloc, told, commits, walk)
+    write_lent(alloc, told, commits, walk)?;
+    Ok(true)
 }
 
-/// What a walk from 8 gives, with the owners of the texts that it lends.
-fn tell_owners<F: Find + Drop>(
-    alloc: Global,
-    commits: &[(u8, &[u8])],
-    find: F,
-    graph: Option<Graph>,
-) -> Result<String, Fail> {
-    let mut walk = Simple::new(alloc, [id(8)], find)?.commit_graph(graph);
-    let mut told = String::new(alloc);
-    draw_owners(alloc, commits, &mut walk, &mut told)?;
-    Ok(told)
+impl Table<'_> {
+    /// What the walk of a case tells, which reads commits in this way.
+    pub fn tell(
+        &self,
+        alloc: Global,
+        by: By,
+        case: &Case<'_>,
+        told: &mut String,
+    ) -> Result<(), Stop> {
+        told.reserve(ROOM)?;
+        let (tips, sortings, hidden, _) = *case;
+        let [hidden_before, _] = self.wish.hidden;
+        let wish = Wish {
+            tips,
+            sortings,
+            hidden: [hidden_before, hidden],
+            ..self.wish
+        };
+        let store = self.history.store(alloc)?;
+        let graph = by.graph(alloc, &self.rows)?;
+        let commits = self.history.commits;
+        match self.fails {
+            None => wish.tell(alloc, &store, graph, commits, told),
+            Some(n) => {
+                let failing = Failing {
+                    store: &store,
+                    at: id(n),
+                };
+                wish.tell(alloc, &failing, graph, commits, told)
+            }
+        }
+    }
 }
 
-/// The same over a store of these commits.
-pub fn tell_texts(
-    alloc: Global,
-    commits: &[(u8, &[u8])],
-    graph: Option<Graph>,
-) -> Result<String, Fail> {
-    tell_owners(alloc, commits, &store(alloc, commits)?, graph)
-}
+#[cfg(test)]
+pub mod tests {
+    use super::*;
+    use std::test::Fail;
 
-/// The same over the sample.
-pub fn tell_sample_texts(alloc: Global, graph: Option<Graph>) -> Result<String, Fail> {
-    tell_texts(alloc, &SAMPLE, graph)
+    /// Compares what a walk tells with what is wanted.
+    fn check_case(alloc: Global, table: &Table<'_>, by: By, case: &Case<'_>) -> Result<(), Fail> {
+        let mut told = String::new(alloc);
+        table.tell(alloc, by, case, &mut told)?;
+        let (tips, sortings, hidden, want) = case;
+        if told.as_str() != *want {
+            return Err(Fail::new(format_args!(
+                "{tips:?} {sortings:?} without {hidden:?} by {by:?} tells {told}, not {want}"
+            )));
+        }
+        Ok(())
+    }
+
+    /// Compares what walks tell with what is wanted.
+    pub fn check(alloc: Global, tables: &[Table<'_>]) -> Result<(), Fail> {
+        for table in tables {
+            for case in table.cases {
+                for by in table.by {
+                    check_case(alloc, table, *by, case)?;
+                }
+            }
+        }
+        Ok(())
+    }
 }

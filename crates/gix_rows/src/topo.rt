@@ -1,56 +1,61 @@
-//! Topological walks, told in words; and their faults.
-mod counts;
-mod orders;
+//! Topological walks, written in words; and their faults.
+pub mod counts;
+pub mod orders;
 
-use crate::history::{Rows, digit, id, ids};
-use crate::words::{broken, not_found};
+use crate::history::{BY_STORE, By, FULL, Failing, History, PLAIN, ROOM, Rows, digit, id, ids};
+use crate::words::{Stop, space, write_broken, write_not_found};
 use gix_parts::graph::Graph;
 use gix_parts::hash::ObjectId;
-use gix_parts::object::decode;
-use gix_parts::object::find::{Find, existing_iter};
+use gix_parts::object::find::Find;
 use gix_traverse::commit::topo::{Builder, Error, Sorting, Topo};
-use gix_traverse::commit::{Info, Parents, Predicate};
+use gix_traverse::commit::{Filter, Info, Parents, Predicate, Unfiltered};
 use std::alloc::{AllocError, Global};
-use std::fmt::Display;
-use std::test::Fail;
 
-/// What is told of each commit that a walk gives.
+/// What is written of each commit that a walk gives.
 #[derive(Clone, Copy)]
 pub enum Telling {
-    /// Its digit, and its generation behind `:` where a row told one.
+    /// Its digit, and its generation behind `:` where a row has one.
     Short,
     /// The same, each parent behind `<`, and its time behind `@`.
     Whole,
-    /// Its digit, and behind `:` the number of commits whose parents the walk has read by then. This number stands before all
+    /// Its digit, and behind `:` the number of commits whose parents the walk has read by then. This number comes before all
     /// commits too, as it is when the walk is built.
     Counts,
 }
 
+/// Which commits a predicate refuses. Those that it was asked about are written behind the answers.
+#[derive(Clone, Copy)]
+pub enum Asked {
+    /// There is no predicate.
+    No,
+    Refusing(u8),
+}
+
 /// How to walk, and what to tell of it.
 #[derive(Clone, Copy)]
-pub struct Way<'a> {
+pub struct Way {
     pub sorting: Sorting,
     pub parents: Parents,
-    pub rows: Option<&'a Rows<'a>>,
+    pub asked: Asked,
     pub telling: Telling,
 }
 
 /// By all parents, lines of history not intermixed.
-pub const LINES: Way<'static> = Way {
+pub const LINES: Way = Way {
     sorting: Sorting::TopoOrder,
     parents: Parents::All,
-    rows: None,
+    asked: Asked::No,
     telling: Telling::Short,
 };
 
 /// The same by time.
-pub const DATES: Way<'static> = Way {
+pub const DATES: Way = Way {
     sorting: Sorting::DateOrder,
     ..LINES
 };
 
 /// By first parents alone, lines of history not intermixed.
-pub const FIRST: Way<'static> = Way {
+pub const FIRST: Way = Way {
     parents: Parents::First,
     ..LINES
 };
@@ -58,100 +63,147 @@ pub const FIRST: Way<'static> = Way {
 /// The tips and ends of a walk, and what it tells.
 pub type Case<'a> = (&'a [u8], &'a [u8], &'a str);
 
-impl Way<'_> {
+/// Walks over one history.
+#[derive(Clone, Copy)]
+pub struct Table<'a> {
+    pub history: History<'a>,
+    /// The store fails at this commit, if at any.
+    pub fails: Option<u8>,
+    pub rows: Rows<'a>,
+    /// How the walks read commits. In each way they tell the same.
+    pub by: &'a [By],
+    pub way: Way,
+    pub cases: &'a [Case<'a>],
+}
+
+/// Lines of history of the sample, from the store alone.
+pub const OF_SAMPLE: Table<'static> = Table {
+    history: PLAIN,
+    fails: None,
+    rows: FULL,
+    by: BY_STORE,
+    way: LINES,
+    cases: &[],
+};
+
+impl From<Error> for Stop {
+    fn from(error: Error) -> Stop {
+        match error {
+            Error::Memory => Stop::Memory,
+            _ => Stop::Row,
+        }
+    }
+}
+
+impl Way {
+    /// A builder of this way from the tips to the ends.
+    fn builder<F: Find + Drop>(
+        &self,
+        alloc: Global,
+        find: F,
+        tips: &[u8],
+        ends: &[u8],
+    ) -> Result<Builder<F, Unfiltered>, AllocError> {
+        Builder::new(alloc, find)
+            .sorting(self.sorting)
+            .parents(self.parents)
+            .with_tips(ids(alloc, tips)?)?
+            .with_ends(ids(alloc, ends)?)
+    }
+
     /// What a walk over a store tells, by a graph if there is one.
-    fn over<F: Find + Drop>(
+    pub fn tell<F: Find + Drop>(
         &self,
         alloc: Global,
         find: F,
         graph: Option<Graph>,
         tips: &[u8],
         ends: &[u8],
-    ) -> Result<String, AllocError> {
-        let built = Builder::new(alloc, find)
-            .sorting(self.sorting)
-            .parents(self.parents)
-            .with_tips(ids(alloc, tips)?)?
-            .with_ends(ids(alloc, ends)?)?
-            .with_commit_graph(graph)
-            .build();
-        match built {
-            Ok(walk) => tell(alloc, walk, self.telling),
-            Err(fault) => format!(in alloc; "no walk: {}", word(alloc, &fault)?),
+        told: &mut String,
+    ) -> Result<(), Stop> {
+        let builder = self
+            .builder(alloc, find, tips, ends)?
+            .with_commit_graph(graph);
+        match self.asked {
+            Asked::No => match builder.build() {
+                Ok(walk) => tell_walk(walk, self.telling, told),
+                Err(fault) => Ok(no_walk(told, &fault)?),
+            },
+            Asked::Refusing(n) => tell_asking(alloc, builder, n, self.telling, told),
         }
-    }
-
-    /// What a walk over a store tells. By rows and by their bytes it has to tell the same.
-    pub fn told<F: Find + Copy + Drop>(
-        &self,
-        alloc: Global,
-        find: F,
-        tips: &[u8],
-        ends: &[u8],
-    ) -> Result<String, Fail> {
-        let Some(rows) = self.rows else {
-            return Ok(self.over(alloc, find, None, tips, ends)?);
-        };
-        let told = self.over(alloc, find, Some(rows.graph(alloc)?), tips, ends)?;
-        let packed = self.over(alloc, find, Some(rows.packed(alloc)?), tips, ends)?;
-        same(tips, ends, packed.as_str(), told.as_str())?;
-        Ok(told)
-    }
-
-    /// Compares what walks over a store tell.
-    pub fn check<F: Find + Copy + Drop>(
-        &self,
-        alloc: Global,
-        find: F,
-        cases: &[Case<'_>],
-    ) -> Result<(), Fail> {
-        for (tips, ends, want) in cases {
-            let told = self.told(alloc, find, tips, ends)?;
-            same(tips, ends, told.as_str(), want)?;
-        }
-        Ok(())
     }
 }
 
-/// Compares what a walk from these tips to these ends told.
-fn same(tips: &[u8], ends: &[u8], told: &str, want: &str) -> Result<(), Fail> {
-    if told != want {
-        return Err(Fail::new(format_args!("{tips:?} without {ends:?}: {told}, not {want}")));
+/// What a walk tells with a predicate that refuses one commit, and behind it the commits that the predicate was asked about.
+fn tell_asking<F: Find + Drop>(
+    alloc: Global,
+    builder: Builder<F, Unfiltered>,
+    refused: u8,
+    telling: Telling,
+    told: &mut String,
+) -> Result<(), Stop> {
+    let mut asked = String::with_capacity(alloc, ROOM)?;
+    let mut noted = Ok(());
+    let asking = Filter::new(|i: &_| {
+        if noted.is_ok() {
+            noted = write!(asked, " {}", digit(i));
+        }
+        digit(i) != refused
+    });
+    let walk = builder.with_predicate(asking).build()?;
+    tell_walk(walk, telling, told)?;
+    noted?;
+    Ok(write!(told, ", asked{asked}")?)
+}
+
+/// Writes why there is no walk.
+pub fn no_walk(told: &mut String, fault: &Error) -> Result<(), AllocError> {
+    if let Error::Memory = fault {
+        return Err(AllocError);
+    }
+    told.push_str("no walk: ")?;
+    write_fault(told, fault)
+}
+
+/// All that a walk gives, in words.
+pub fn tell_walk<F: Find + Drop, P: Predicate + Drop>(
+    mut walk: Topo<F, P>,
+    telling: Telling,
+    told: &mut String,
+) -> Result<(), Stop>
+    requires { P.can_accept walk.predicate }
+{
+    telling.begin(told, walk.expanded())?;
+    let mut whole = true;
+    while let Some(answer) = walk.next() {
+        if !whole {
+            return Err(Stop::Late);
+        }
+        match answer {
+            Ok(info) => telling.add(told, &info, walk.expanded())?,
+            Err(Error::Memory) => whole = false,
+            Err(fault) => {
+                space(told)?;
+                write_fault(told, &fault)?;
+            }
+        }
+    }
+    if !whole {
+        return Err(Stop::Memory);
     }
     Ok(())
 }
 
-/// All that a walk gives, in words.
-pub fn tell<F: Find + Drop, P: Predicate + Drop>(
-    alloc: Global,
-    mut walk: Topo<F, P>,
-    telling: Telling,
-) -> Result<String, AllocError>
-    requires { P.can_accept walk.predicate }
-{
-    let mut told = telling.beginning(alloc, walk.expanded())?;
-    while let Some(answer) = walk.next() {
-        match answer {
-            Ok(info) => telling.add(&mut told, &info, walk.expanded())?,
-            Err(fault) => {
-                space(&mut told)?;
-                told.push_str(word(alloc, &fault)?.as_str())?;
-            }
-        }
-    }
-    Ok(told)
-}
-
 impl Telling {
-    /// What is told before all commits.
-    fn beginning(self, alloc: Global, expanded: usize) -> Result<String, AllocError> {
+    /// What is written before all commits.
+    fn begin(self, told: &mut String, expanded: usize) -> Result<(), AllocError> {
         match self {
-            Telling::Counts => format!(in alloc; "{expanded}"),
-            _ => Ok(String::new(alloc)),
+            Telling::Counts => write!(told, "{expanded}"),
+            _ => Ok(()),
         }
     }
 
-    /// Tells a commit.
+    /// Writes a commit.
     fn add(self, told: &mut String, info: &Info, expanded: usize) -> Result<(), AllocError> {
         space(told)?;
         name(told, &info.id)?;
@@ -174,14 +226,6 @@ impl Telling {
     }
 }
 
-/// Begins a word.
-fn space(told: &mut String) -> Result<(), AllocError> {
-    if !told.as_str().is_empty() {
-        write!(told, " ")?;
-    }
-    Ok(())
-}
-
 /// The digit of an id, or the whole of one that is not of one digit alone.
 fn name(told: &mut String, of: &ObjectId) -> Result<(), AllocError> {
     if *of == id(digit(of)) {
@@ -191,40 +235,100 @@ fn name(told: &mut String, of: &ObjectId) -> Result<(), AllocError> {
     }
 }
 
-/// A fault in a short word. Want of memory stays want of memory.
-fn word(alloc: Global, fault: &Error) -> Result<String, AllocError> {
+/// Writes a fault as a word. Out of memory stays out of memory.
+fn write_fault(told: &mut String, fault: &Error) -> Result<(), AllocError> {
     match fault {
-        Error::Find(error) => not_found(alloc, error),
-        Error::ObjectDecode(error) => broken(alloc, error),
-        Error::MissingIndegreeUnexpected => String::from_str(alloc, "no-indegree"),
-        Error::MissingStateUnexpected => String::from_str(alloc, "no-state"),
+        Error::Find(error) => write_not_found(told, error),
+        Error::ObjectDecode(error) => write_broken(told, error),
+        Error::MissingIndegreeUnexpected => told.push_str("no-indegree"),
+        Error::MissingStateUnexpected => told.push_str("no-state"),
         Error::Memory => Err(AllocError),
     }
 }
 
-/// A fault as it prints itself.
-fn printed<D: Display + Drop>(alloc: Global, fault: D) -> Result<String, AllocError> {
-    format!(in alloc; "{fault}")
+impl Table<'_> {
+    /// What the walk of a case tells, which reads commits in this way.
+    pub fn tell(
+        &self,
+        alloc: Global,
+        by: By,
+        case: &Case<'_>,
+        told: &mut String,
+    ) -> Result<(), Stop> {
+        told.reserve(ROOM)?;
+        let (tips, ends, _) = *case;
+        let store = self.history.store(alloc)?;
+        let graph = by.graph(alloc, &self.rows)?;
+        match self.fails {
+            None => self.way.tell(alloc, &store, graph, tips, ends, told),
+            Some(n) => {
+                let failing = Failing {
+                    store: &store,
+                    at: id(n),
+                };
+                self.way.tell(alloc, &failing, graph, tips, ends, told)
+            }
+        }
+    }
 }
 
-#[test]
-fn a_fault_says_what_it_holds(rt: HostRuntime) -> Result<(), Fail> {
-    let told = printed(rt.alloc(), Error::MissingIndegreeUnexpected)?;
-    assert_eq!(rt; told.as_str(), "Indegree information is missing");
-    let told = printed(rt.alloc(), Error::MissingStateUnexpected)?;
-    assert_eq!(rt; told.as_str(), "Internal state (bitflags) not found");
-    let held = printed(rt.alloc(), existing_iter::Error::Store)?;
-    let told = printed(rt.alloc(), Error::from(existing_iter::Error::Store))?;
-    assert_eq!(rt; told.as_str(), held.as_str());
-    let held = printed(rt.alloc(), decode::Error::Parent)?;
-    let told = printed(rt.alloc(), Error::from(decode::Error::Parent))?;
-    assert_eq!(rt; told.as_str(), held.as_str());
-    Ok(())
-}
+#[cfg(test)]
+pub mod tests {
+    use super::*;
+    use gix_parts::object::decode;
+    use gix_parts::object::find::existing_iter;
+    use std::fmt::Display;
+    use std::test::Fail;
 
-#[test]
-fn want_of_memory_is_memory(rt: HostRuntime) {
-    assert_eq!(rt; Error::from(existing_iter::Error::Memory), Error::Memory);
-    assert_eq!(rt; Error::from(AllocError), Error::Memory);
-    assert_eq!(rt; Sorting::default(), Sorting::DateOrder);
+    /// Compares what a walk tells with what is wanted.
+    fn check_case(alloc: Global, table: &Table<'_>, by: By, case: &Case<'_>) -> Result<(), Fail> {
+        let mut told = String::new(alloc);
+        table.tell(alloc, by, case, &mut told)?;
+        let (tips, ends, want) = case;
+        if told.as_str() != *want {
+            return Err(Fail::new(format_args!(
+                "{tips:?} without {ends:?} by {by:?} tells {told}, not {want}"
+            )));
+        }
+        Ok(())
+    }
+
+    /// Compares what walks tell with what is wanted.
+    pub fn check(alloc: Global, tables: &[Table<'_>]) -> Result<(), Fail> {
+        for table in tables {
+            for case in table.cases {
+                for by in table.by {
+                    check_case(alloc, table, *by, case)?;
+                }
+            }
+        }
+        Ok(())
+    }
+
+    /// A fault as it prints itself.
+    fn printed<D: Display + Drop>(alloc: Global, fault: D) -> Result<String, AllocError> {
+        format!(in alloc; "{fault}")
+    }
+
+    #[test]
+    fn a_fault_says_what_it_holds(rt: HostRuntime) -> Result<(), Fail> {
+        let told = printed(rt.alloc(), Error::MissingIndegreeUnexpected)?;
+        assert_eq!(rt; told.as_str(), "Indegree information is missing");
+        let told = printed(rt.alloc(), Error::MissingStateUnexpected)?;
+        assert_eq!(rt; told.as_str(), "Internal state (bitflags) not found");
+        let held = printed(rt.alloc(), existing_iter::Error::Store)?;
+        let told = printed(rt.alloc(), Error::from(existing_iter::Error::Store))?;
+        assert_eq!(rt; told.as_str(), held.as_str());
+        let held = printed(rt.alloc(), decode::Error::Parent)?;
+        let told = printed(rt.alloc(), Error::from(decode::Error::Parent))?;
+        assert_eq!(rt; told.as_str(), held.as_str());
+        Ok(())
+    }
+
+    #[test]
+    fn out_of_memory_is_memory(rt: HostRuntime) {
+        assert_eq!(rt; Error::from(existing_iter::Error::Memory), Error::Memory);
+        assert_eq!(rt; Error::from(AllocError), Error::Memory);
+        assert_eq!(rt; Sorting::default(), Sorting::DateOrder);
+    }
 }

@@ -1,50 +1,57 @@
 //! Trees to walk, their walks, and a delegate that writes its calls down.
-mod calls;
-mod recorded;
+pub mod calls;
+pub mod recorded;
 
-use crate::history::{digit, id};
-use crate::words::{broken, not_found};
+use crate::history::{Failing, ROOM, digit, id};
+use crate::words::{Stop, write_broken, write_not_found};
 use bstr::BStr;
 use gix_parts::hash::ObjectId;
 use gix_parts::object::Kind;
 use gix_parts::object::find::Find;
 use gix_parts::object::memory::MemoryStore;
 use gix_parts::object::tree::EntryRef;
+use gix_traverse::tree::Recorder;
 use gix_traverse::tree::breadthfirst::{self, Error, breadthfirst};
 use gix_traverse::tree::depthfirst::{State, depthfirst};
+use gix_traverse::tree::recorder::Location;
 use gix_traverse::tree::visit::{Action, Visit};
 use std::alloc::{AllocError, Global};
 use std::ops::ControlFlow;
-use std::test::Fail;
 
 /// The entries of the sample's root: a file `a`, a tree `d`, and a file `e`.
 pub const ROOT: [(&str, u8); 3] = [("100644 a", 1), ("40000 d", 13), ("100644 e", 3)];
 
-/// Stores a tree of these entries. Each is told by what stands before the NUL, and by the digit of its id.
-pub fn insert_tree(
-    alloc: Global,
-    store: &mut MemoryStore,
-    digit: u8,
-    entries: &[(&str, u8)],
-) -> Result<(), AllocError> {
+/// The entries of the tree `d` in it, which has the id of digit 13: a file `x`.
+pub const D: [(&str, u8); 1] = [("100644 x", 2)];
+
+/// A tree: the digit of its id, and its entries, each as what comes before the NUL and as the digit of its id.
+pub type Tree<'a> = (u8, &'a [(&'a str, u8)]);
+
+/// The sample: its root has the id of digit 10.
+pub const SAMPLE: [Tree<'static>; 2] = [(10, &ROOT), (13, &D)];
+
+/// The bytes of a tree of these entries.
+pub fn tree_bytes(alloc: Global, entries: &[(&str, u8)]) -> Result<Vec<u8>, AllocError> {
     let mut bytes = Vec::new(alloc);
     for (entry, digit) in entries {
         bytes.extend_from_slice(entry.as_bytes())?;
         bytes.push(0)?;
         bytes.extend_from_slice(id(*digit).as_bytes())?;
     }
-    store.insert(id(digit), Kind::Tree, &bytes)
+    Ok(bytes)
 }
 
-/// The sample: its root has the id of digit 10, and the tree `d` in it holds a file `x`.
-pub fn sample(alloc: Global) -> Result<MemoryStore, AllocError> {
+/// A store of these trees.
+pub fn store(alloc: Global, trees: &[Tree<'_>]) -> Result<MemoryStore, AllocError> {
     let mut store = MemoryStore::new(alloc);
-    insert_tree(alloc, &mut store, 10, &ROOT)?;
-    insert_tree(alloc, &mut store, 13, &[("100644 x", 2)])?;
+    for (digit, entries) in trees {
+        let bytes = tree_bytes(alloc, entries)?;
+        store.insert(id(*digit), Kind::Tree, &bytes)?;
+    }
     Ok(store)
 }
 
-/// A delegate that writes its calls down, each as a word, with the name that it is told in brackets. A line begins where a name
+/// A delegate that writes its calls down, each as a word, with the name that it is given in brackets. A line begins where a name
 /// is put behind the path, and where a tree is turned to. It answers `Continue(true)`, but at the entry of one name.
 #[derive(Drop)]
 pub struct Scripted<'a> {
@@ -57,7 +64,7 @@ impl<'a> Scripted<'a> {
     /// It answers this at the entry of this name. The memory for its words is taken here.
     pub fn new(alloc: Global, at: &'a str, answer: Action) -> Result<Scripted<'a>, AllocError> {
         Ok(Scripted {
-            calls: String::with_capacity(alloc, 512)?,
+            calls: String::with_capacity(alloc, ROOM)?,
             at,
             answer,
         })
@@ -117,42 +124,65 @@ impl Visit for Scripted<'_> {
 }
 
 /// The order of a walk: all entries of a tree before those of the trees in it, or each tree right behind its entry.
-#[derive(Clone, Copy)]
+#[derive(Clone, Copy, Debug)]
 pub enum Order {
     Levels,
     Depth,
 }
 
-/// Walks the tree of this id, and says in a word how the walk ended: `done`, or why not all was shown.
-pub fn walk<F: Find, V: Visit>(
+/// What is written of a walk.
+#[derive(Clone, Copy)]
+pub enum Teller<'a> {
+    /// The calls on a delegate that answers this at the entry of this name.
+    Calls(&'a str, Action),
+    /// The paths in a recorder that tracks this, each behind a space.
+    Paths(Option<Location>),
+}
+
+/// What a recorder tells that tracks whole paths.
+pub const PATHS: Teller<'static> = Teller::Paths(Some(Location::Path));
+
+/// A walk of the tree of digit 10, and what is written of it. Its last word says how the walk ended: `done`, or why not all was shown.
+pub type Case<'a> = (Order, Teller<'a>, &'a str);
+
+/// Walks over one store.
+#[derive(Clone, Copy)]
+pub struct Table<'a> {
+    pub trees: &'a [Tree<'a>],
+    /// What is stored for the tree of digit 10 is of this kind, and cut to this many bytes.
+    pub root: (Kind, Option<usize>),
+    /// The store fails at this tree, if at any.
+    pub fails: Option<u8>,
+    pub cases: &'a [Case<'a>],
+}
+
+/// Walks of the sample.
+pub const OF_SAMPLE: Table<'static> = Table {
+    trees: &SAMPLE,
+    root: (Kind::Tree, None),
+    fails: None,
+    cases: &[],
+};
+
+/// Walks the tree of this id.
+pub fn walk<F: Find + Drop, V: Visit>(
     alloc: Global,
     order: Order,
     store: &F,
     root: ObjectId,
     delegate: &mut V,
-) -> Result<String, AllocError> {
+) -> Result<(), Error> {
     match order {
-        Order::Levels => end(alloc, levels(alloc, store, root, delegate)),
+        Order::Levels => levels(alloc, store, root, delegate),
         Order::Depth => {
             let mut state = State::new(alloc);
-            walk_with(alloc, &mut state, store, root, delegate)
+            depthfirst(alloc, root, &mut state, store, delegate)
         }
     }
 }
 
-/// Walks in depth with a state that other walks may have had.
-pub fn walk_with<F: Find, V: Visit>(
-    alloc: Global,
-    state: &mut State,
-    store: &F,
-    root: ObjectId,
-    delegate: &mut V,
-) -> Result<String, AllocError> {
-    end(alloc, depthfirst(alloc, root, state, store, delegate))
-}
-
 // The root is looked up here, since a walk by levels is given its entries.
-fn levels<F: Find, V: Visit>(
+fn levels<F: Find + Drop, V: Visit>(
     alloc: Global,
     store: &F,
     root: ObjectId,
@@ -164,24 +194,150 @@ fn levels<F: Find, V: Visit>(
     breadthfirst(alloc, entries, &mut state, store, delegate)
 }
 
-// The word for what a walk answered. Want of memory stays want of memory.
-fn end(alloc: Global, answer: Result<(), Error>) -> Result<String, AllocError> {
+/// Writes the word for what a walk answered. Out of memory stays out of memory.
+pub fn write_end(told: &mut String, answer: Result<(), Error>) -> Result<(), AllocError> {
     match answer {
-        Ok(()) => String::from_str(alloc, "done"),
-        Err(Error::Find(error)) => not_found(alloc, &error),
-        Err(Error::Cancelled) => String::from_str(alloc, "cancelled"),
-        Err(Error::ObjectDecode(error)) => broken(alloc, &error),
-        Err(Error::Cycle { oid }) => format!(in alloc; "cycle-{}", digit(&oid)),
+        Ok(()) => told.push_str("done"),
+        Err(Error::Find(error)) => write_not_found(told, &error),
+        Err(Error::Cancelled) => told.push_str("cancelled"),
+        Err(Error::ObjectDecode(error)) => write_broken(told, &error),
+        Err(Error::Cycle { oid }) => write!(told, "cycle-{}", digit(&oid)),
         Err(Error::Memory) => Err(AllocError),
     }
 }
 
-/// Fails unless a case, which is named by its place, tells what was expected.
-pub fn expect(case: usize, told: &str, expected: &str) -> Result<(), Fail> {
-    if told != expected {
-        return Err(Fail::new(format_args!(
-            "case {case} told {told}, but was expected to tell {expected}"
-        )));
+/// Writes the paths of the records, each behind a space.
+pub fn write_paths(told: &mut String, recorder: &Recorder) -> Result<(), AllocError> {
+    for entry in recorder.records.iter() {
+        write!(told, " {}", entry.filepath)?;
     }
     Ok(())
+}
+
+/// The paths in a fresh recorder that tracks this.
+fn tell_paths<F: Find + Drop>(
+    alloc: Global,
+    order: Order,
+    store: &F,
+    location: Option<Location>,
+    told: &mut String,
+) -> Result<(), AllocError> {
+    let mut recorder = Recorder::new(alloc).track_location(location);
+    let answer = walk(alloc, order, store, id(10), &mut recorder);
+    write_paths(told, &recorder)?;
+    if answer != Err(Error::Memory) {
+        told.push(' ')?;
+    }
+    write_end(told, answer)
+}
+
+/// The calls on a delegate that answers this at this name, and a last line that says how the walk ended.
+fn tell_calls<F: Find + Drop>(
+    alloc: Global,
+    order: Order,
+    store: &F,
+    at: &str,
+    action: Action,
+    told: &mut String,
+) -> Result<(), AllocError> {
+    let mut delegate = Scripted::new(alloc, at, action)?;
+    let answer = walk(alloc, order, store, id(10), &mut delegate);
+    told.push_str(delegate.calls())?;
+    if answer != Err(Error::Memory) {
+        told.push('\n')?;
+    }
+    write_end(told, answer)
+}
+
+/// What is written of a walk over a store.
+fn tell<F: Find + Drop>(
+    alloc: Global,
+    store: &F,
+    case: &Case<'_>,
+    told: &mut String,
+) -> Result<(), AllocError> {
+    let (order, teller, _) = *case;
+    match teller {
+        Teller::Calls(at, action) => tell_calls(alloc, order, store, at, action, told),
+        Teller::Paths(location) => tell_paths(alloc, order, store, location, told),
+    }
+}
+
+impl Table<'_> {
+    fn store(&self, alloc: Global) -> Result<MemoryStore, AllocError> {
+        let mut store = store(alloc, self.trees)?;
+        for (digit, entries) in self.trees {
+            if *digit == 10 {
+                let (kind, len) = self.root;
+                let mut bytes = tree_bytes(alloc, entries)?;
+                if let Some(len) = len {
+                    bytes.truncate(len);
+                }
+                store.insert(id(10), kind, &bytes)?;
+            }
+        }
+        Ok(store)
+    }
+
+    /// What is written of the walk of a case.
+    pub fn tell(&self, alloc: Global, case: &Case<'_>, told: &mut String) -> Result<(), Stop> {
+        told.reserve(ROOM)?;
+        let store = self.store(alloc)?;
+        match self.fails {
+            None => tell(alloc, &store, case, told)?,
+            Some(n) => {
+                let failing = Failing {
+                    store: &store,
+                    at: id(n),
+                };
+                tell(alloc, &failing, case, told)?
+            }
+        }
+        Ok(())
+    }
+}
+
+#[cfg(test)]
+pub mod tests {
+    use super::*;
+    use gix_parts::object::decode;
+    use gix_parts::object::find::existing_iter;
+    use std::test::Fail;
+
+    /// Compares what is written of a walk with what is wanted.
+    fn check_case(alloc: Global, table: &Table<'_>, case: &Case<'_>) -> Result<(), Fail> {
+        let mut told = String::new(alloc);
+        table.tell(alloc, case, &mut told)?;
+        let (order, _, want) = case;
+        if told.as_str() != *want {
+            return Err(Fail::new(format_args!("{order:?} tells {told}, not {want}")));
+        }
+        Ok(())
+    }
+
+    /// Compares what is written of walks with what is wanted.
+    pub fn check(alloc: Global, tables: &[Table<'_>]) -> Result<(), Fail> {
+        for table in tables {
+            for case in table.cases {
+                check_case(alloc, table, case)?;
+            }
+        }
+        Ok(())
+    }
+
+    #[test]
+    fn faults_print_what_they_hold(rt: HostRuntime) -> Result<(), Fail> {
+        let missing = existing_iter::Error::NotFound { oid: id(6) };
+        let held = format!(in rt.alloc(); "{missing}")?;
+        let printed = format!(in rt.alloc(); "{}", Error::from(missing))?;
+        assert_eq!(rt; printed.as_str(), held.as_str());
+        let held = format!(in rt.alloc(); "{}", decode::Error::EntryId)?;
+        let printed = format!(in rt.alloc(); "{}", Error::from(decode::Error::EntryId))?;
+        assert_eq!(rt; printed.as_str(), held.as_str());
+        let printed = format!(in rt.alloc(); "{}", Error::Cancelled)?;
+        assert_eq!(rt; printed.as_str(), "The delegate cancelled the operation");
+        assert_eq!(rt; Error::from(existing_iter::Error::Memory), Error::Memory);
+        assert_eq!(rt; Error::from(AllocError), Error::Memory);
+        Ok(())
+    }
 }

@@ -1,25 +1,67 @@
 //! Faults in short words.
 use crate::history::digit;
+use gix_parts::graph::GraphError;
 use gix_parts::object::decode;
 use gix_parts::object::find::existing_iter;
-use std::alloc::{AllocError, Global};
+use std::alloc::AllocError;
+use thiserror::Error;
 
-/// Why an object was not found: `missing-6`, `Tag-6-for-Commit` where it is of another kind, or `store`. Want of memory stays
-/// want of memory.
-pub fn not_found(alloc: Global, error: &existing_iter::Error) -> Result<String, AllocError> {
+/// Why the answers of a row or of a call end too early.
+#[derive(Clone, Copy, PartialEq, Eq, Debug, Error)]
+pub enum Stop {
+    /// A request for memory was refused.
+    #[error("out of memory")]
+    Memory,
+    /// An answer behind the end.
+    #[error("an answer behind the end")]
+    Late,
+    /// A refused call changed what it was called on.
+    #[error("a refused call changed what was there")]
+    Changed,
+    /// What the row names can't be had.
+    #[error("a row of no use")]
+    Row,
+}
+
+impl From<AllocError> for Stop {
+    fn from(_error: AllocError) -> Stop {
+        Stop::Memory
+    }
+}
+
+impl From<GraphError> for Stop {
+    fn from(error: GraphError) -> Stop {
+        match error {
+            GraphError::Memory => Stop::Memory,
+            _ => Stop::Row,
+        }
+    }
+}
+
+/// Writes why an object was not found: `missing-6`, `Tag-6-for-Commit` where it is of another kind, or `store`. Out of memory
+/// stays out of memory.
+pub fn write_not_found(told: &mut String, error: &existing_iter::Error) -> Result<(), AllocError> {
     match error {
-        existing_iter::Error::Store => format!(in alloc; "store"),
-        existing_iter::Error::NotFound { oid } => format!(in alloc; "missing-{}", digit(oid)),
+        existing_iter::Error::Store => told.push_str("store"),
+        existing_iter::Error::NotFound { oid } => write!(told, "missing-{}", digit(oid)),
         existing_iter::Error::ObjectKind {
             oid,
             expected,
             actual,
-        } => format!(in alloc; "{actual:?}-{}-for-{expected:?}", digit(oid)),
+        } => write!(told, "{actual:?}-{}-for-{expected:?}", digit(oid)),
         existing_iter::Error::Memory => Err(AllocError),
     }
 }
 
-/// Where the bytes of an object are broken, as `broken-Parent`.
-pub fn broken(alloc: Global, error: &decode::Error) -> Result<String, AllocError> {
-    format!(in alloc; "broken-{error:?}")
+/// Writes where the bytes of an object are broken, as `broken-Parent`.
+pub fn write_broken(told: &mut String, error: &decode::Error) -> Result<(), AllocError> {
+    write!(told, "broken-{error:?}")
+}
+
+/// Begins a word.
+pub fn space(told: &mut String) -> Result<(), AllocError> {
+    if told.is_empty() {
+        return Ok(());
+    }
+    told.push(' ')
 }

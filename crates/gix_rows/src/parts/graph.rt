@@ -241,31 +241,51 @@ fn refuses_changed_lists(rt: HostRuntime) -> Result<(), Fail> {
     Ok(())
 }
 
-#[test]
-fn packs_long_ids(rt: HostRuntime) -> Result<(), Fail> {
-    let rows = vec![in rt.alloc();
+// A graph of one row of long ids at this time.
+fn long_graph(alloc: Global, time: i64) -> Result<Graph, Fail> {
+    let rows = vec![in alloc;
         Row {
             id: ObjectId::from_hex(&[b'1'; 64])?,
             tree: ObjectId::from_hex(&[b'a'; 64])?,
-            parents: Vec::new(rt.alloc()),
+            parents: Vec::new(alloc),
             generation: 1,
-            time: -1,
+            time,
         },
     ]?;
-    let graph = Graph::new(rt.alloc(), rows)?;
-    let packed = text(&rt, &graph)?;
-    assert_eq!(rt;
-        packed.as_str(),
-        "475452320000000100000000\
-        1111111111111111111111111111111111111111111111111111111111111111\
-        aaaaaaaaaaaaaaaaaaaaaaaaaaaaaaaaaaaaaaaaaaaaaaaaaaaaaaaaaaaaaaaa\
-        7fffffff7fffffff00000001ffffffffffffffff"
-    );
-    let commit = graph
-        .commit_by_id(&ObjectId::from_hex(&[b'1'; 64])?)
-        .ok_or("the graph has the row")?;
-    assert_eq!(rt; commit.committer_timestamp(), -1);
-    assert_eq!(rt; commit.root_tree_id(), ObjectId::from_hex(&[b'a'; 64])?);
+    Ok(Graph::new(alloc, rows)?)
+}
+
+#[test]
+fn packs_long_ids(rt: HostRuntime) -> Result<(), Fail> {
+    for (time, end) in [(-1, "ffffffffffffffff"), (1, "0000000000000001")] {
+        let graph = long_graph(rt.alloc(), time)?;
+        let packed = text(&rt, &graph)?;
+        let want = format!(in rt.alloc();
+            "475452320000000100000000\
+            1111111111111111111111111111111111111111111111111111111111111111\
+            aaaaaaaaaaaaaaaaaaaaaaaaaaaaaaaaaaaaaaaaaaaaaaaaaaaaaaaaaaaaaaaa\
+            7fffffff7fffffff00000001{end}"
+        )?;
+        assert_eq!(rt; packed.as_str(), want.as_str());
+        let commit = graph
+            .commit_by_id(&ObjectId::from_hex(&[b'1'; 64])?)
+            .ok_or("the graph has the row")?;
+        assert_eq!(rt; commit.committer_timestamp(), time);
+        assert_eq!(rt; commit.root_tree_id(), ObjectId::from_hex(&[b'a'; 64])?);
+    }
+    Ok(())
+}
+
+// Why there is no graph of one row whose tree has a long id.
+fn mixed(alloc: Global) -> Result<Option<GraphError>, Fail> {
+    let mut mixed = row(alloc, b'1', 1, &[])?;
+    mixed.tree = ObjectId::from_hex(&[b'a'; 64])?;
+    Ok(Graph::new(alloc, vec![in alloc; mixed]?).err())
+}
+
+#[test]
+fn refuses_a_long_tree(rt: HostRuntime) -> Result<(), Fail> {
+    assert_eq!(rt; mixed(rt.alloc())?, Some(GraphError::MixedKinds));
     Ok(())
 }
 

@@ -1,12 +1,7 @@
 //! Walks by the rows of a commit-graph, made of rows and read from their bytes.
-use crate::history::{FULL, Rows, id, insert, insert_long, sample, store};
-use crate::simple::{ALL, BREADTH, Detail, NEWEST, Wish, tell_sample_texts, told};
-use gix_parts::graph::Graph;
-use gix_parts::object::find::Find;
-use gix_parts::object::memory::MemoryStore;
-use gix_traverse::commit::{Parents, Simple};
-use std::alloc::Global;
-use std::test::Fail;
+use crate::history::{BY_ROWS, EMPTY, FULL, History, PLAIN, Rows};
+use crate::simple::{ALL, AS_MET, BY_TIME, Detail, OF_SAMPLE, Table, Wish};
+use gix_traverse::commit::Parents;
 
 /// Rows of some commits of the sample.
 const ODD: Rows<'static> = Rows {
@@ -15,146 +10,18 @@ const ODD: Rows<'static> = Rows {
     fault: None,
 };
 
-/// The rows of the whole sample with a fault in this place.
-fn faulty(place: (u8, u8)) -> Rows<'static> {
-    Rows {
-        fault: Some(place),
-        ..FULL
-    }
-}
-
-/// All that 8 reaches with the generations that rows tell.
-const BY_ROWS: Wish<'static> = Wish {
+/// All that 8 reaches with the generations that rows have.
+const GENERATIONS: Wish<'static> = Wish {
     detail: Detail::Generation,
     ..ALL
 };
 
-/// The same, newest first.
-const BY_TIME: Wish<'static> = Wish {
-    sortings: [BREADTH, NEWEST],
-    ..BY_ROWS
-};
-
-/// What 7 doesn't reach of it.
-const WITHOUT_7: Wish<'static> = Wish {
-    hidden: &[7],
-    ..BY_ROWS
-};
-
-/// What a walk gives by these rows, and the same by their bytes.
-fn given(
-    alloc: Global,
-    store: &MemoryStore,
-    rows: &Rows<'_>,
-    wish: &Wish<'_>,
-) -> Result<String, Fail> {
-    let told = wish.tell(alloc, store, Some(rows.graph(alloc)?))?;
-    let again = wish.tell(alloc, store, Some(rows.packed(alloc)?))?;
-    if told.as_str() != again.as_str() {
-        return Err(format!(in alloc; "packed rows change {told} to {again}")?.into());
-    }
-    Ok(told)
-}
-
-/// The same over the sample.
-fn given_sample(alloc: Global, rows: &Rows<'_>, wish: &Wish<'_>) -> Result<String, Fail> {
-    given(alloc, &sample(alloc)?, rows, wish)
-}
-
-#[test]
-fn full_rows(rt: HostRuntime) -> Result<(), Fail> {
-    let given = given_sample(rt.alloc(), &FULL, &BY_ROWS)?;
-    assert_eq!(rt; given.as_str(), "8:5 6:4 7:4 5:3 4:3 3:2 2:2 1:1");
-    Ok(())
-}
-
-#[test]
-fn some_rows(rt: HostRuntime) -> Result<(), Fail> {
-    let given = given_sample(rt.alloc(), &ODD, &BY_ROWS)?;
-    assert_eq!(rt; given.as_str(), "8 6 7 5:3 4 3:2 2 1:1");
-    let given = given_sample(rt.alloc(), &ODD, &BY_TIME)?;
-    assert_eq!(rt; given.as_str(), "8 7 6 5:3 4 3:2 2 1:1");
-    Ok(())
-}
-
-#[test]
-fn a_fault_in_the_row_of_6(rt: HostRuntime) -> Result<(), Fail> {
-    let given = given_sample(rt.alloc(), &faulty((6, 5)), &BY_ROWS)?;
-    assert_eq!(rt; given.as_str(), "8:5 6 7 5 4 3 2 1");
-    Ok(())
-}
-
-#[test]
-fn a_fault_in_a_place_that_is_not_walked(rt: HostRuntime) -> Result<(), Fail> {
-    let first = Wish {
-        parents: Parents::First,
-        ..BY_ROWS
-    };
-    let given = given_sample(rt.alloc(), &faulty((8, 7)), &first)?;
-    assert_eq!(rt; given.as_str(), "8 6 5 3 1");
-    Ok(())
-}
-
-/// Each place of the sample.
-pub const PLACES: [(u8, u8); 8] = [
-    (8, 6),
-    (8, 7),
-    (7, 4),
-    (6, 5),
-    (5, 3),
-    (4, 2),
-    (3, 1),
-    (2, 1),
-];
-
-/// With a fault in each place of the sample a walk gives this.
-fn check_places(alloc: Global, wish: &Wish<'_>, want: &str) -> Result<(), Fail> {
-    let sample = sample(alloc)?;
-    for place in &PLACES {
-        let given = given(alloc, &sample, &faulty(*place), wish)?;
-        if given.as_str() != want {
-            return Err(format!(in alloc; "{given} with a fault in {place:?}")?.into());
-        }
-    }
-    Ok(())
-}
-
-#[test]
-fn a_fault_in_each_place(rt: HostRuntime) -> Result<(), Fail> {
-    let newest = Wish {
-        sortings: [BREADTH, NEWEST],
-        ..ALL
-    };
-    check_places(rt.alloc(), &ALL, "8 6 7 5 4 3 2 1")?;
-    check_places(rt.alloc(), &newest, "8 7 6 5 4 3 2 1")
-}
-
-#[test]
-fn a_fault_in_each_place_of_what_is_painted(rt: HostRuntime) -> Result<(), Fail> {
-    let hiding = Wish {
-        hidden: &[7],
-        ..ALL
-    };
-    let newest = Wish {
-        sortings: [BREADTH, NEWEST],
-        ..hiding
-    };
-    check_places(rt.alloc(), &hiding, "8 6 5 3")?;
-    check_places(rt.alloc(), &newest, "8 6 5 3")
-}
-
-#[test]
-fn a_fault_above_what_is_hidden(rt: HostRuntime) -> Result<(), Fail> {
-    let given = given_sample(rt.alloc(), &FULL, &WITHOUT_7)?;
-    assert_eq!(rt; given.as_str(), "8:5 6:4 5:3 3:2");
-    let given = given_sample(rt.alloc(), &faulty((8, 7)), &WITHOUT_7)?;
-    assert_eq!(rt; given.as_str(), "8 6 5 3");
-    Ok(())
-}
+/// A line of commits from 5 to 1.
+const CHAIN_COMMITS: [(u8, &[u8]); 5] = [(5, &[4]), (4, &[3]), (3, &[2]), (2, &[1]), (1, &[])];
 
 /// Rows of a line of commits from 5 to 1, with a fault in the row of 2.
 const CHAIN: Rows<'static> = Rows {
-    commits: &[(5, &[4]), (4, &[3]), (3, &[2]), (2, &[1]), (1, &[])],
+    commits: &CHAIN_COMMITS,
     generations: &[5, 4, 3, 2, 1],
     fault: Some((2, 1)),
 };
@@ -165,21 +32,6 @@ const CHAIN_BELOW_5: Rows<'static> = Rows {
     generations: &[4, 3, 2, 1],
     fault: Some((2, 1)),
 };
-
-#[test]
-fn painting_stops_above_a_fault(rt: HostRuntime) -> Result<(), Fail> {
-    let store = store(rt.alloc(), CHAIN.commits)?;
-    let wish = Wish {
-        tips: &[5],
-        hidden: &[4],
-        ..BY_ROWS
-    };
-    let told = given(rt.alloc(), &store, &CHAIN, &wish)?;
-    assert_eq!(rt; told.as_str(), "5:5");
-    let told = given(rt.alloc(), &store, &CHAIN_BELOW_5, &wish)?;
-    assert_eq!(rt; told.as_str(), "5");
-    Ok(())
-}
 
 /// Rows of the sample and of a commit, 9, upon 4, with a fault in the row of 3.
 const WITH_9: Rows<'static> = Rows {
@@ -198,30 +50,167 @@ const WITH_9: Rows<'static> = Rows {
     fault: Some((3, 1)),
 };
 
-#[test]
-fn painting_stops_with_two_queued(rt: HostRuntime) -> Result<(), Fail> {
-    let mut store = sample(rt.alloc())?;
-    insert(rt.alloc(), &mut store, 9, &[4])?;
-    let wish = Wish {
-        tips: &[9],
-        hidden: &[8],
-        ..BY_ROWS
-    };
-    let told = given(rt.alloc(), &store, &WITH_9, &wish)?;
-    assert_eq!(rt; told.as_str(), "9:4");
-    Ok(())
-}
+/// Walks over the sample by rows, which give generations.
+const BY_FULL_ROWS: Table<'static> = Table {
+    by: BY_ROWS,
+    wish: GENERATIONS,
+    ..OF_SAMPLE
+};
 
-#[test]
-fn a_hidden_tip_that_is_not_stored(rt: HostRuntime) -> Result<(), Fail> {
-    let wish = Wish {
-        hidden: &[10],
-        ..BY_ROWS
-    };
-    let given = given_sample(rt.alloc(), &FULL, &wish)?;
-    assert_eq!(rt; given.as_str(), "hidden-missing-10");
-    Ok(())
-}
+pub static TABLES: [Table<'static>; 14] = [
+    Table {
+        cases: &[
+            (&[8], AS_MET, &[], "8:5 6:4 7:4 5:3 4:3 3:2 2:2 1:1"),
+            (&[8], AS_MET, &[7], "8:5 6:4 5:3 3:2"),
+        ],
+        ..BY_FULL_ROWS
+    },
+    // Rows alone.
+    Table {
+        history: EMPTY,
+        cases: &[(&[8], AS_MET, &[], "8:5 6:4 7:4 5:3 4:3 3:2 2:2 1:1")],
+        ..BY_FULL_ROWS
+    },
+    // Rows of some commits.
+    Table {
+        rows: ODD,
+        cases: &[
+            (&[8], AS_MET, &[], "8 6 7 5:3 4 3:2 2 1:1"),
+            (&[8], BY_TIME, &[], "8 7 6 5:3 4 3:2 2 1:1"),
+        ],
+        ..BY_FULL_ROWS
+    },
+    // A fault in the row of 6, and in a place that isn't walked.
+    Table {
+        rows: Rows {
+            fault: Some((6, 5)),
+            ..FULL
+        },
+        cases: &[(&[8], AS_MET, &[], "8:5 6 7 5 4 3 2 1")],
+        ..BY_FULL_ROWS
+    },
+    Table {
+        rows: Rows {
+            fault: Some((8, 7)),
+            ..FULL
+        },
+        wish: Wish {
+            parents: Parents::First,
+            ..GENERATIONS
+        },
+        cases: &[(&[8], AS_MET, &[], "8 6 5 3 1")],
+        ..BY_FULL_ROWS
+    },
+    // A fault above what is hidden.
+    Table {
+        rows: Rows {
+            fault: Some((8, 7)),
+            ..FULL
+        },
+        cases: &[(&[8], AS_MET, &[7], "8 6 5 3")],
+        ..BY_FULL_ROWS
+    },
+    // Painting stops above a fault.
+    Table {
+        history: History {
+            commits: &CHAIN_COMMITS,
+            ..EMPTY
+        },
+        rows: CHAIN,
+        cases: &[(&[5], AS_MET, &[4], "5:5")],
+        ..BY_FULL_ROWS
+    },
+    Table {
+        history: History {
+            commits: &CHAIN_COMMITS,
+            ..EMPTY
+        },
+        rows: CHAIN_BELOW_5,
+        cases: &[(&[5], AS_MET, &[4], "5")],
+        ..BY_FULL_ROWS
+    },
+    // It stops with two queued.
+    Table {
+        history: History {
+            more: &[(9, 9, &[4])],
+            ..PLAIN
+        },
+        rows: WITH_9,
+        cases: &[(&[9], AS_MET, &[8], "9:4")],
+        ..BY_FULL_ROWS
+    },
+    // Rows lend no text.
+    Table {
+        wish: Wish {
+            detail: Detail::Texts,
+            ..ALL
+        },
+        cases: &[(
+            &[8],
+            AS_MET,
+            &[],
+            "=none 8=none 6=none 7=none 5=none 4=none 3=none 2=none 1=none =none",
+        )],
+        ..BY_FULL_ROWS
+    },
+    Table {
+        rows: ODD,
+        wish: Wish {
+            detail: Detail::Texts,
+            ..ALL
+        },
+        cases: &[(
+            &[8],
+            AS_MET,
+            &[],
+            "=none 8=8 6=6 7=7 5=none 4=4 3=none 2=2 1=none =none",
+        )],
+        ..BY_FULL_ROWS
+    },
+    // A long id has no short row.
+    Table {
+        history: History {
+            long: &[(2, &[])],
+            ..EMPTY
+        },
+        wish: Wish {
+            long: &[2],
+            ..GENERATIONS
+        },
+        cases: &[(&[], AS_MET, &[], "2L")],
+        ..BY_FULL_ROWS
+    },
+    // All that rows have.
+    Table {
+        wish: Wish {
+            parents: Parents::First,
+            detail: Detail::All,
+            ..ALL
+        },
+        cases: &[(&[8], AS_MET, &[], "8:5(6,) 6:4(5,) 5:3(3,) 3:2(1,) 1:1()")],
+        ..BY_FULL_ROWS
+    },
+    Table {
+        wish: Wish {
+            detail: Detail::All,
+            ..ALL
+        },
+        cases: &[(&[6], BY_TIME, &[], "6:4@6(5,) 5:3@5(3,) 3:2@3(1,) 1:1@1()")],
+        ..BY_FULL_ROWS
+    },
+];
+
+/// Each place of the sample.
+pub const PLACES: [(u8, u8); 8] = [
+    (8, 6),
+    (8, 7),
+    (7, 4),
+    (6, 5),
+    (5, 3),
+    (4, 2),
+    (3, 1),
+    (2, 1),
+];
 
 /// Rows that don't agree with the store.
 pub const WRONG: [Rows<'static>; 4] = [
@@ -261,89 +250,107 @@ pub const WRONG: [Rows<'static>; 4] = [
     },
 ];
 
-/// Whether these are at most eight commits, each of one digit, and no fault.
-fn are_at_most_eight(told: &str) -> bool {
-    told.len() <= 15
-        && told
-            .as_bytes()
-            .iter()
-            .all(|b: &u8| *b == b' ' || b.is_ascii_digit())
-}
+#[cfg(test)]
+mod tests {
+    use super::*;
+    use crate::history::{By, id};
+    use crate::simple::tests::check;
+    use crate::words::Stop;
+    use gix_parts::graph::Graph;
+    use gix_parts::object::find::Find;
+    use gix_traverse::commit::{Info, Simple};
+    use std::alloc::Global;
+    use std::test::Fail;
 
-/// By these rows walks from 8 beside hidden tips end behind at most eight commits, and meet no fault.
-fn check_end(alloc: Global, rows: &Rows<'_>, hidden: &[u8]) -> Result<(), Fail> {
-    let wish = Wish { hidden, ..ALL };
-    let newest = Wish {
-        sortings: [BREADTH, NEWEST],
-        ..wish
-    };
-    let told = given_sample(alloc, rows, &wish)?;
-    let by_time = given_sample(alloc, rows, &newest)?;
-    if !are_at_most_eight(told.as_str()) || !are_at_most_eight(by_time.as_str()) {
-        return Err(format!(in alloc; "without {hidden:?}: {told}, {by_time}")?.into());
+    #[test]
+    fn rows(rt: HostRuntime) -> Result<(), Fail> {
+        check(rt.alloc(), &TABLES)
     }
-    Ok(())
-}
 
-#[test]
-fn walks_by_wrong_rows_end(rt: HostRuntime) -> Result<(), Fail> {
-    for rows in &WRONG {
-        check_end(rt.alloc(), rows, &[])?;
-        check_end(rt.alloc(), rows, &[7])?;
-        check_end(rt.alloc(), rows, &[8])?;
+    /// Rows don't change what is given, whatever place is corrupt.
+    fn check_place(alloc: Global, place: (u8, u8)) -> Result<(), Fail> {
+        let table = Table {
+            rows: Rows {
+                fault: Some(place),
+                ..FULL
+            },
+            by: BY_ROWS,
+            cases: &[
+                (&[8], AS_MET, &[], "8 6 7 5 4 3 2 1"),
+                (&[8], BY_TIME, &[], "8 7 6 5 4 3 2 1"),
+                (&[8], AS_MET, &[7], "8 6 5 3"),
+                (&[8], BY_TIME, &[7], "8 6 5 3"),
+            ],
+            ..OF_SAMPLE
+        };
+        check(alloc, &[table])
     }
-    Ok(())
-}
 
-#[test]
-fn rows_lend_no_text(rt: HostRuntime) -> Result<(), Fail> {
-    let told = tell_sample_texts(rt.alloc(), Some(FULL.graph(rt.alloc())?))?;
-    assert_eq!(rt;
-        told.as_str(),
-        "=none 8=none 6=none 7=none 5=none 4=none 3=none 2=none 1=none =none"
-    );
-    let told = tell_sample_texts(rt.alloc(), Some(ODD.graph(rt.alloc())?))?;
-    assert_eq!(rt;
-        told.as_str(),
-        "=none 8=8 6=6 7=7 5=none 4=4 3=none 2=2 1=none =none"
-    );
-    Ok(())
-}
+    #[test]
+    fn a_fault_in_each_place(rt: HostRuntime) -> Result<(), Fail> {
+        for place in PLACES {
+            check_place(rt.alloc(), place)?;
+        }
+        Ok(())
+    }
 
-#[test]
-fn rows_stand_for_the_store(rt: HostRuntime) -> Result<(), Fail> {
-    let empty = MemoryStore::new(rt.alloc());
-    let given = given(rt.alloc(), &empty, &FULL, &ALL)?;
-    assert_eq!(rt; given.as_str(), "8 6 7 5 4 3 2 1");
-    Ok(())
-}
+    /// Whether these are at most eight commits, each of one digit, and no fault.
+    fn are_at_most_eight(told: &str) -> bool {
+        told.len() <= 15
+            && told
+                .as_bytes()
+                .iter()
+                .all(|b: &u8| *b == b' ' || b.is_ascii_digit())
+    }
 
-/// What a walk from 1 gives that is told a graph, and then none in its place.
-fn without_graph<F: Find + Drop>(alloc: Global, find: F, graph: Graph) -> Result<String, Fail> {
-    let walk = Simple::new(alloc, [id(1)], find)?
-        .commit_graph(Some(graph))
-        .commit_graph(None);
-    told(alloc, walk, Detail::Generation)
-}
+    /// By these rows walks from 8 end behind at most eight commits, and meet no fault.
+    fn check_end(alloc: Global, rows: &Rows<'_>, by: By) -> Result<(), Fail> {
+        let table = Table {
+            rows: *rows,
+            ..OF_SAMPLE
+        };
+        for sortings in [AS_MET, BY_TIME] {
+            for hidden in [[].as_slice(), &[7], &[8]] {
+                let mut told = String::new(alloc);
+                table.tell(alloc, by, &(&[8], sortings, hidden, ""), &mut told)?;
+                if !are_at_most_eight(told.as_str()) {
+                    return Err(format!(in alloc; "without {hidden:?}: {told}")?.into());
+                }
+            }
+        }
+        Ok(())
+    }
 
-#[test]
-fn the_last_graph_counts(rt: HostRuntime) -> Result<(), Fail> {
-    let graph = FULL.graph(rt.alloc())?;
-    let told = without_graph(rt.alloc(), &sample(rt.alloc())?, graph)?;
-    assert_eq!(rt; told.as_str(), "1");
-    Ok(())
-}
+    #[test]
+    fn walks_by_wrong_rows_end(rt: HostRuntime) -> Result<(), Fail> {
+        for rows in &WRONG {
+            check_end(rt.alloc(), rows, By::Rows)?;
+            check_end(rt.alloc(), rows, By::Packed)?;
+        }
+        Ok(())
+    }
 
-#[test]
-fn long_ids_have_no_short_row(rt: HostRuntime) -> Result<(), Fail> {
-    let mut store = MemoryStore::new(rt.alloc());
-    insert_long(rt.alloc(), &mut store, 2, &[])?;
-    let wish = Wish {
-        long: &[2],
-        tips: &[],
-        ..BY_ROWS
-    };
-    let given = given(rt.alloc(), &store, &FULL, &wish)?;
-    assert_eq!(rt; given.as_str(), "2L");
-    Ok(())
+    /// What a walk from 1 gives first whose graph is taken away again.
+    fn without_graph<F: Find + Drop>(
+        alloc: Global,
+        find: F,
+        graph: Graph,
+    ) -> Result<Option<Info>, Stop> {
+        let mut walk = Simple::new(alloc, [id(1)], find)?
+            .commit_graph(Some(graph))
+            .commit_graph(None);
+        match walk.next() {
+            Some(answer) => Ok(Some(answer?)),
+            None => Ok(None),
+        }
+    }
+
+    #[test]
+    fn the_last_graph_counts(rt: HostRuntime) -> Result<(), Fail> {
+        let graph = FULL.graph(rt.alloc())?;
+        let store = PLAIN.store(rt.alloc())?;
+        let first = without_graph(rt.alloc(), &store, graph)?.ok_or("nothing")?;
+        assert_eq!(rt; first.generation, None);
+        Ok(())
+    }
 }

@@ -1,0 +1,92 @@
+//! Walks by the tables of `gix_rows`, and writes a line for each walk and each call. A line that meets a refused request for memory
+//! has the answers so far and `out of memory`. Writing itself asks for none.
+#![tactic(auto)]
+
+use gix_rows::words::Stop;
+use gix_rows::{calls, simple, topo, trees};
+use std::io;
+
+fn main(rt: HostRuntime) -> io::Result<()> {
+    write_all(&rt)
+}
+
+fn write_all(rt: &HostRuntime) -> io::Result<()> {
+    write_all_simple(rt)?;
+    write_topo(rt, "orders", &topo::orders::TABLES)?;
+    write_topo(rt, "counts", &topo::counts::TABLES)?;
+    write_trees(rt, "calls", &trees::calls::TABLES)?;
+    write_trees(rt, "recorded", &trees::recorded::TABLES)?;
+    write_calls(rt, &calls::CALLS)
+}
+
+fn write_all_simple(rt: &HostRuntime) -> io::Result<()> {
+    write_simple(rt, "breadth", &simple::breadth::TABLES)?;
+    write_simple(rt, "faults", &simple::faults::TABLES)?;
+    write_simple(rt, "times", &simple::times::TABLES)?;
+    write_simple(rt, "hiding", &simple::hiding::TABLES)?;
+    write_simple(rt, "graphs", &simple::graphs::TABLES)
+}
+
+/// Ends a line: the answers, each line of them behind `|`, and why it ends too early.
+fn end_line(rt: &HostRuntime, told: &str, end: Result<(), Stop>) -> io::Result<()> {
+    for (place, part) in told.split('\n').enumerate() {
+        if place > 0 {
+            print!(rt; " |")?;
+        }
+        print!(rt; " {part}")?;
+    }
+    match end {
+        Ok(()) => println!(rt; ""),
+        Err(stop) => println!(rt; " {stop}"),
+    }
+}
+
+fn write_simple(rt: &HostRuntime, name: &str, tables: &[simple::Table<'_>]) -> io::Result<()> {
+    for (place, table) in tables.iter().enumerate() {
+        for (case, row) in table.cases.iter().enumerate() {
+            for by in table.by {
+                let mut told = String::new(rt.alloc());
+                let end = table.tell(rt.alloc(), *by, row, &mut told);
+                print!(rt; "Simple {name} {place}.{case} {by:?}:")?;
+                end_line(rt, told.as_str(), end)?;
+            }
+        }
+    }
+    Ok(())
+}
+
+fn write_topo(rt: &HostRuntime, name: &str, tables: &[topo::Table<'_>]) -> io::Result<()> {
+    for (place, table) in tables.iter().enumerate() {
+        for (case, row) in table.cases.iter().enumerate() {
+            for by in table.by {
+                let mut told = String::new(rt.alloc());
+                let end = table.tell(rt.alloc(), *by, row, &mut told);
+                print!(rt; "Topo {name} {place}.{case} {by:?}:")?;
+                end_line(rt, told.as_str(), end)?;
+            }
+        }
+    }
+    Ok(())
+}
+
+fn write_trees(rt: &HostRuntime, name: &str, tables: &[trees::Table<'_>]) -> io::Result<()> {
+    for (place, table) in tables.iter().enumerate() {
+        for (case, row) in table.cases.iter().enumerate() {
+            let mut told = String::new(rt.alloc());
+            let end = table.tell(rt.alloc(), row, &mut told);
+            print!(rt; "trees {name} {place}.{case}:")?;
+            end_line(rt, told.as_str(), end)?;
+        }
+    }
+    Ok(())
+}
+
+fn write_calls(rt: &HostRuntime, calls: &[(calls::Call, &str)]) -> io::Result<()> {
+    for (call, _) in calls {
+        let mut told = String::new(rt.alloc());
+        let end = call.tell(rt.alloc(), &mut told);
+        print!(rt; "call {call:?}:")?;
+        end_line(rt, told.as_str(), end)?;
+    }
+    Ok(())
+}

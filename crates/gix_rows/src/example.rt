@@ -1,0 +1,44 @@
+//! The example of README.md, to the letter.
+use gix_parts::hash::ObjectId;
+use gix_parts::object::find::Find;
+use gix_traverse::commit::Simple;
+use gix_traverse::commit::simple::{CommitTimeOrder, Error, Sorting};
+use std::alloc::{AllocError, Global};
+
+/// The commits that `tip` reaches and `merged` doesn't, newest first. A reference to a store is a store too.
+pub fn unmerged<F: Find + Drop>(
+    alloc: Global,
+    store: F,
+    tip: ObjectId,
+    merged: ObjectId,
+) -> Result<Vec<ObjectId>, Error> {
+    let newest = Sorting::ByCommitTime(CommitTimeOrder::NewestFirst);
+    let walk = Simple::new(alloc, [tip], store)?
+        .sorting(newest)?
+        .hide([merged])?;
+    let mut ids = Vec::new(alloc);
+    for answer in walk {
+        let info = answer?;
+        ids.push(info.id).map_err(AllocError::from)?;
+    }
+    Ok(ids)
+}
+
+#[cfg(test)]
+mod tests {
+    use super::*;
+    use crate::history::{PLAIN, digit, id};
+    use std::test::Fail;
+
+    #[test]
+    fn the_sample_without_what_7_reaches(rt: HostRuntime) -> Result<(), Fail> {
+        let store = PLAIN.store(rt.alloc())?;
+        let ids = unmerged(rt.alloc(), &store, id(8), id(7))?;
+        let mut told = String::new(rt.alloc());
+        for id in ids.iter() {
+            write!(told, "{} ", digit(id))?;
+        }
+        assert_eq!(rt; told.as_str(), "8 6 5 3 ");
+        Ok(())
+    }
+}
