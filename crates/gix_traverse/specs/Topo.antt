@@ -6,5 +6,7 @@ pub mod Walk
 pub mod Errors
 -- The words of the laws over whole runs.
 pub mod Laws
+-- The statements of the laws.
+pub mod Statements
 -- The code's own steps. Nobody but a maintainer needs them.
 pub mod Inside

@@ -1,8 +1,8 @@
 //! What a topological walk is built from.
-ghost use Rattle.std.specs.Prelude.{◌≡◌, [], ◌++◌, List, Some, IfOk};
-ghost use Rattle.std.specs.Iterator.{IsFinite, Drains};
-ghost use Rattle.gix_parts.specs.declared.hash.ObjectId.{ObjectId};
+ghost use Rattle.std.specs.Prelude.{◌≡◌, [], ◌++◌, IfOk, IfSome};
+ghost use Rattle.std.specs.Iterator.{IsFiniteIterable};
 ghost use Rattle.gix_traverse.specs.History.Reading.{rows_of};
+ghost use Rattle.gix_traverse.specs.History.Tips.{Draws};
 ghost use Rattle.gix_traverse.specs.Topo.Walk.{fresh_builder, IsFromEnds, Built};
 
 use super::reader::Reader;
@@ -71,9 +71,9 @@ impl<F: Find + Drop> Builder<F, Unfiltered> {
         T::IntoIter: Drop,
         E::IntoIter: Drop,
         E: Drop,
-        requires tips { (it : T.IntoIter) → T.into_iter_gives tips it → T.IntoIter.can_next it × IsFinite (T.IntoIter.remaining it) }
-        requires ends { (those : E) → ends ≡ Some those → (it : E.IntoIter) → E.into_iter_gives those it → E.IntoIter.can_next it × IsFinite (E.IntoIter.remaining it) }
-        ensures { IfOk result (λ builder. (it : T.IntoIter) × (ids : List ObjectId) × T.into_iter_gives tips it × Drains T.IntoIter.next_gives it ids × IsFromEnds E.into_iter_gives E.IntoIter.next_gives find (record {}) ids ends builder) }
+        requires tips { IsFiniteIterable T.into_iter_gives T.IntoIter.can_next T.IntoIter.remaining tips }
+        requires ends { IfSome ends (IsFiniteIterable E.into_iter_gives E.IntoIter.can_next E.IntoIter.remaining) }
+        ensures { IfOk result (λ builder. Draws T.into_iter_gives T.IntoIter.next_gives tips (λ ids. IsFromEnds E.into_iter_gives E.IntoIter.next_gives find (record {}) ids ends builder)) }
     {
         let builder = Builder::new(alloc, find).with_tips(tips)?;
         match ends {
@@ -121,8 +121,8 @@ impl<F: Find + Drop, P: Predicate + Drop> Builder<F, P> {
     ) -> Result<Self, AllocError>
     where
         T::IntoIter: Drop,
-        requires { (it : T.IntoIter) → T.into_iter_gives tips it → T.IntoIter.can_next it × IsFinite (T.IntoIter.remaining it) }
-        ensures { IfOk result (λ builder. (it : T.IntoIter) × (ids : List ObjectId) × T.into_iter_gives tips it × Drains T.IntoIter.next_gives it ids × (builder ≡ record self { plan = record self.plan { tips = self.plan.tips ++ ids } })) }
+        requires { IsFiniteIterable T.into_iter_gives T.IntoIter.can_next T.IntoIter.remaining tips }
+        ensures { IfOk result (λ builder. Draws T.into_iter_gives T.IntoIter.next_gives tips (λ ids. builder ≡ record self { plan = record self.plan { tips = self.plan.tips ++ ids } })) }
     {
         for tip in tips {
             let Ok(()) = self.tips.push(tip) else {
@@ -143,8 +143,8 @@ impl<F: Find + Drop, P: Predicate + Drop> Builder<F, P> {
     ) -> Result<Self, AllocError>
     where
         E::IntoIter: Drop,
-        requires { (it : E.IntoIter) → E.into_iter_gives ends it → E.IntoIter.can_next it × IsFinite (E.IntoIter.remaining it) }
-        ensures { IfOk result (λ builder. (it : E.IntoIter) × (ids : List ObjectId) × E.into_iter_gives ends it × Drains E.IntoIter.next_gives it ids × (builder ≡ record self { plan = record self.plan { ends = self.plan.ends ++ ids } })) }
+        requires { IsFiniteIterable E.into_iter_gives E.IntoIter.can_next E.IntoIter.remaining ends }
+        ensures { IfOk result (λ builder. Draws E.into_iter_gives E.IntoIter.next_gives ends (λ ids. builder ≡ record self { plan = record self.plan { ends = self.plan.ends ++ ids } })) }
     {
         for end in ends {
             let Ok(()) = self.ends.push(end) else {
