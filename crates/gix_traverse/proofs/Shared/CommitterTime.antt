@@ -59,7 +59,7 @@ module _ (objects : Objects) (i : ObjectId) (bytes : List ℕ) (there : get obje
   at : commit_at objects i ≡ read_commit (kind_of i) bytes
   at = ap (commit_of_object i) there
 
-  committer_read : (signature : List ℕ) → first_committer (commit_items (kind_of i) bytes) ≡ Ok signature → IsTipRead objects i (seconds_of signature)
+  pub committer_read : (signature : List ℕ) → first_committer (commit_items (kind_of i) bytes) ≡ Ok signature → IsTipRead objects i (seconds_of signature)
   committer_read signature e = go (read_commit (kind_of i) bytes) refl (subst (TellsTime (read_commit (kind_of i) bytes)) e (tells (kind_of i) bytes))
     where
       go : (o : Option Commit) → read_commit (kind_of i) bytes ≡ o → TellsTime o (Ok signature) → IsTipRead objects i (seconds_of signature)

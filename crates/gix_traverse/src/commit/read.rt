@@ -1,8 +1,10 @@
-//! What a commit's row or its bytes say of its parents.
+//! What a commit's row or its bytes say of its parents, and its bytes of its committer.
 ghost use Rattle.std.specs.Prelude.{◌≡◌, ◌≤◌, IfOk, IsOk, length};
 ghost use Rattle.std.specs.Option.{option_map};
-ghost use Rattle.gix_parts.specs.CommitRefIter.{commit_items_left};
+ghost use Rattle.gix_parts.specs.CommitRefIter.{commit_items_left, first_committer};
 ghost use Rattle.gix_parts.specs.GraphCommit.{rows_of_commit, row_of_commit};
+ghost use Rattle.gix_traverse.specs.declared.commit.Parents.TheVariants as mode;
+ghost use Rattle.gix_traverse.specs.History.Either.{seconds_told};
 ghost use Rattle.gix_traverse.specs.Simple.Walk.{ids_at, scanned};
 
 use super::{ParentIds, Parents};
@@ -50,6 +52,53 @@ pub(crate) fn scan(
         parent_ids,
         fault: None,
     })
+}
+
+// All parents that a commit's items name, up to the first item behind them, and the committer's seconds.
+#[derive(Drop)]
+pub(crate) struct Header {
+    pub(crate) parent_ids: ParentIds,
+    // Else the first fault, where it comes before a committer, and `Missing` where the items end before both.
+    pub(crate) time: Result<i64, decode::Error>,
+}
+
+// Reads the parents and the committer in one pass, and ends there. Lists of at most one parent take no memory.
+pub(crate) fn read_header(alloc: Global, mut items: CommitRefIter<'_>) -> Result<Header, AllocError>
+    ensures parents { IfOk result (λ h. h.parent_ids.items ≡ (scanned mode.All (commit_items_left items.entry)).0) }
+    ensures time { IfOk result (λ h. h.time ≡ seconds_told (first_committer (commit_items_left items.entry))) }
+    ensures succeeds { length (scanned mode.All (commit_items_left items.entry)).0 ≤ 1 → IsOk result }
+{
+    let mut parent_ids = ParentIds::new(alloc);
+    while let Some(item) = items.next() {
+        match item {
+            Ok(Token::Tree { .. }) => {}
+            Ok(Token::Parent { id }) => parent_ids.push(id)?,
+            Ok(Token::Author { .. } | Token::Rest { .. }) => {
+                let time = committer_seconds(items);
+                return Ok(Header { parent_ids, time });
+            }
+            Ok(Token::Committer { signature }) => {
+                let time = Ok(signature.seconds());
+                return Ok(Header { parent_ids, time });
+            }
+            Err(fault) => {
+                let time = Err(fault);
+                return Ok(Header { parent_ids, time });
+            }
+        }
+    }
+    let time = Err(decode::Error::Missing);
+    Ok(Header { parent_ids, time })
+}
+
+// The seconds of the first committer among the items left.
+fn committer_seconds(items: CommitRefIter<'_>) -> Result<i64, decode::Error>
+    ensures { result ≡ seconds_told (first_committer (commit_items_left items.entry)) }
+{
+    match items.committer() {
+        Ok(signature) => Ok(signature.seconds()),
+        Err(fault) => Err(fault),
+    }
 }
 
 // The ids at a row's places, and None where one of them is corrupt.

@@ -5,8 +5,8 @@ ghost use Rattle.gix_traverse.specs.Topo.Walk.{IsKnown};
 ghost use Rattle.gix_traverse.specs.History.Reading.{rows_of, Reads, ReadsRow, ReadsText, IsReadFault};
 
 use super::Error;
-use crate::commit::read::{row_parents, scan};
-use crate::commit::{Info, Parents};
+use crate::commit::Info;
+use crate::commit::read::{Header, read_header, row_parents};
 use gix_parts::graph::{GENERATION_NUMBER_INFINITY, Graph};
 use gix_parts::hash::ObjectId;
 use gix_parts::object;
@@ -100,21 +100,18 @@ impl<F: Find + Drop> Reader<F> {
         {
             return Err(Error::from(fault));
         }
-        let Ok(scanned) = scan(
-            self.alloc,
-            Parents::All,
-            CommitRefIter::from_bytes(&self.text, id.kind()),
-        ) else {
+        let items = CommitRefIter::from_bytes(&self.text, id.kind());
+        let Ok(Header { parent_ids, time }) = read_header(self.alloc, items) else {
             return Err(Error::Memory);
         };
-        let time = match CommitRefIter::from_bytes(&self.text, id.kind()).committer() {
-            Ok(signature) => signature.seconds(),
+        let time = match time {
+            Ok(seconds) => seconds,
             Err(decode::Error::Missing) => 0,
             Err(fault) => return Err(Error::ObjectDecode(fault)),
         };
         Ok(Info {
             id: *id,
-            parent_ids: scanned.parent_ids,
+            parent_ids,
             generation: None,
             commit_time: Some(time),
         })

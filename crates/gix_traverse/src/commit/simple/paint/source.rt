@@ -4,9 +4,9 @@ ghost use Rattle.gix_traverse.specs.History.Commits.{time_of};
 ghost use Rattle.gix_traverse.specs.Simple.Inside.Painter.{rows_in, FailsAt, FailsAmong, ReadFails, Reads, ReadsParents, GivesParents, Knows};
 
 use super::Entry;
-use crate::commit::read::{row_parents, scan};
+use crate::commit::ParentIds;
+use crate::commit::read::{Header, read_header, row_parents};
 use crate::commit::simple::Hidden;
-use crate::commit::{ParentIds, Parents};
 use gix_parts::graph::Graph;
 use gix_parts::hash::ObjectId;
 use gix_parts::object::find::Find;
@@ -60,8 +60,8 @@ impl<'a, F: Find> Source<'a, F> {
         ensures fault { IfErr result (FailsAt (F.objects self.old.objects.now) (F.faulty self.old.objects.now) id.now) }
     {
         let items = self.objects.find_commit_iter(id, &mut self.text)?;
-        let time = items.committer()?.seconds();
-        let parent_ids = scan(self.alloc, Parents::All, items)?.parent_ids;
+        let Header { parent_ids, time } = read_header(self.alloc, items)?;
+        let time = time?;
         Ok(Stored { parent_ids, time })
     }
 
