@@ -26,13 +26,13 @@ in_octal_is : (n : ℕ) → in_octal n ≡ six_octal_digits n
 unfolding padded_integral char_count
 in_octal_is n = simp (sub-zero, append-nil)
 
--- what stands before the path
-pub front_text : (shown : Option (List ℕ)) (n : ℕ) (i : ObjectId) (front : List ℕ) → shown ≡ Some (in_octal n) → IfSome (shown ++? Some (32 ∷ (hex_of i ++ 32 ∷ []))) (λ bs. front ≡ bs) → front ≡ six_octal_digits n ++ 32 ∷ (hex_of i ++ 32 ∷ [])
-front_text shown n i front is h = subst (λ (o : Option (List ℕ)). IfSome (o ++? Some (32 ∷ (hex_of i ++ 32 ∷ []))) (λ bs. front ≡ bs)) (is ∙ ap (λ x. Some x) (in_octal_is n)) h
+-- a mode and a space
+pub mode_text : (shown : Option (List ℕ)) (n : ℕ) (text : List ℕ) → shown ≡ Some (in_octal n) → IfSome (shown ++? Some (32 ∷ [])) (λ bs. text ≡ bs) → text ≡ six_octal_digits n ++ 32 ∷ []
+mode_text shown n text is h = subst (λ (o : Option (List ℕ)). IfSome (o ++? Some (32 ∷ [])) (λ bs. text ≡ bs)) (is ∙ ap (λ x. Some x) (in_octal_is n)) h
 
--- the front, the path and a newline were added
-pub line_added : (r : Record) (old front first second new : List ℕ) → front ≡ six_octal_digits r.mode ++ 32 ∷ (hex_of r.id ++ 32 ∷ []) → first ≡ old ++ front → second ≡ first ++ r.path → new ≡ second ++ 10 ∷ [] → new ≡ old ++ file_line r
-line_added r old front first second new f a b c = rw (c, b, a, f) (simp append_assoc)
+-- the mode, the id, the path and a newline were added
+pub line_added : (r : Record) (old first second third new : List ℕ) → first ≡ old ++ (six_octal_digits r.mode ++ 32 ∷ []) → second ≡ first ++ (hex_of r.id ++ 32 ∷ []) → third ≡ second ++ r.path → new ≡ third ++ 10 ∷ [] → new ≡ old ++ file_line r
+line_added r old first second third new a b c d = rw (d, c, b, a) (simp append_assoc)
 
 module _ (objects : Objects) (old : Option (List ℕ)) (tree : ObjectId) where
   walk_failed : (e : Fault) → (recorder : Tracked) × (why : Error) × RecordsTree objects tree recorder (Err why) × (e ≡ fault_of_tree_walk why) → Serves objects old (Files tree) (Err e) old

@@ -1,10 +1,11 @@
 //! The lines of what stands in a tree.
-ghost use Rattle.std.specs.Prelude.{◌≡◌, ◌++◌, map, IfErr, IfOk, OnOk};
+ghost use Rattle.std.specs.Prelude.{◌≡◌, ◌++◌, ◌∷◌, [], length, map, take, IfErr, IfOk, IfSome, OnErr, OnOk};
 ghost use Rattle.gix_traverse.specs.Trees.Tracked.{record_of_entry};
-ghost use Rattle.gix_walk.specs.Files.{AreLinesOf, IsTreeFault, file_line, file_lines};
+ghost use Rattle.gix_walk.specs.Files.{AreLinesOf, IsTreeFault, file_line, file_lines, six_octal_digits};
 ghost use Rattle.gix_walk.specs.Run.{Serves};
 ghost use Rattle.gix_walk.specs.Words.{Files};
 
+use crate::digits::add_id;
 use crate::fault::Fault;
 use crate::output::write_out;
 use gix_parts::hash::ObjectId;
@@ -46,20 +47,57 @@ fn lines_of_entries(alloc: Global, entries: &[Entry]) -> Result<Vec<u8>, AllocEr
 {
     let mut lines = Vec::new(alloc);
     for entry in entries {
-        add_line(alloc, &mut lines, entry)?;
+        add_line(
+            alloc,
+            &mut lines,
+            entry.mode.value,
+            &entry.oid,
+            entry.filepath.as_bytes(),
+        )?;
     }
     Ok(lines)
 }
 
-// The mode in six octal digits, the id and the path.
-fn add_line(alloc: Global, lines: &mut Vec<u8>, entry: &Entry) -> Result<(), AllocError>
-    ensures { OnOk result (lines.new.items ≡ lines.old.items ++ file_line (record_of_entry entry.now)) }
+// Adds the mode in six octal digits, the id and the path. Where memory runs out, some of them may be added.
+fn add_line(
+    alloc: Global,
+    lines: &mut Vec<u8>,
+    mode: u32,
+    id: &ObjectId,
+    path: &[u8],
+) -> Result<(), AllocError>
+    ensures ok { OnOk result (lines.new.items ≡ lines.old.items ++ file_line (record { mode = mode; path = path.now; id = id.now })) }
+    ensures err { OnErr result (take (length lines.old.items) lines.new.items ≡ lines.old.items) }
 {
-    let mode = entry.mode.value;
-    let oid = entry.oid;
-    let front = format!(in alloc; "{mode:06o} {oid} ")?;
-    lines.extend_from_slice(front.as_bytes())?;
-    lines.extend_from_slice(entry.filepath.as_bytes())?;
+    add_mode(alloc, lines, mode)?;
+    add_id(lines, id, b' ')?;
+    lines.extend_from_slice(path)?;
     lines.push(b'\n')?;
     Ok(())
+}
+
+// Adds a mode and a space.
+fn add_mode(alloc: Global, lines: &mut Vec<u8>, mode: u32) -> Result<(), AllocError>
+    ensures ok { OnOk result (lines.new.items ≡ lines.old.items ++ (six_octal_digits mode ++ 32 ∷ [])) }
+    ensures err { OnErr result (lines.new.items ≡ lines.old.items) }
+{
+    if let Some(text) = usual_mode(mode) {
+        return lines.extend_from_slice(text);
+    }
+    let text = format!(in alloc; "{mode:06o} ")?;
+    lines.extend_from_slice(text.as_bytes())
+}
+
+// A mode that Git writes, in six digits, and a space.
+fn usual_mode(mode: u32) -> Option<&'static [u8; 7]>
+    ensures { IfSome result (λ text. text.now ≡ six_octal_digits mode ++ 32 ∷ []) }
+{
+    match mode {
+        0o100644 => Some(b"100644 "),
+        0o040000 => Some(b"040000 "),
+        0o100755 => Some(b"100755 "),
+        0o120000 => Some(b"120000 "),
+        0o160000 => Some(b"160000 "),
+        _ => None,
+    }
 }

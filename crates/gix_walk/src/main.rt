@@ -3,6 +3,7 @@
 
 mod ahead;
 mod commits;
+mod digits;
 mod fault;
 mod files;
 mod input;

@@ -5,6 +5,7 @@ ghost use Rattle.std.specs.Iterator.{IsFinite};
 ghost use Rattle.gix_walk.specs.Output.{Grows, Adds, WritesAll};
 ghost use Rattle.gix_walk.specs.Walked.{line_of};
 
+use crate::digits::add_id;
 use crate::fault::Fault;
 use gix_parts::hash::ObjectId;
 use gix_traverse::commit::Info;
@@ -28,7 +29,7 @@ where
     ensures { result ≢ Err Fault.Write → WritesAll I.next_gives E.converts walk (W.contents writer.old) result (W.contents writer.new) }
 {
     let mut lines = Vec::new(alloc);
-    let drawn = add_commits(alloc, walk, &mut lines, writer);
+    let drawn = add_commits(walk, &mut lines, writer);
     write_out(&mut lines, writer)?;
     drawn
 }
@@ -46,12 +47,7 @@ pub fn write_out<W: Write>(lines: &mut Vec<u8>, writer: &mut W) -> Result<(), Fa
 }
 
 // Adds a line for each commit to those that wait, up to the walk's first fault.
-fn add_commits<I, E, W>(
-    alloc: Global,
-    walk: I,
-    lines: &mut Vec<u8>,
-    writer: &mut W,
-) -> Result<(), Fault>
+fn add_commits<I, E, W>(walk: I, lines: &mut Vec<u8>, writer: &mut W) -> Result<(), Fault>
 where
     I: Iterator<Item = Result<Info, E>> + Drop,
     E: Into<Fault> + Drop,
@@ -65,25 +61,18 @@ where
             Ok(info) => info,
             Err(fault) => return Err(fault.into()),
         };
-        add_line(alloc, lines, writer, info.id)?;
+        add_line(lines, writer, info.id)?;
     }
     Ok(())
 }
 
 // Adds a line to those that wait.
-fn add_line<W: Write>(
-    alloc: Global,
-    lines: &mut Vec<u8>,
-    writer: &mut W,
-    id: ObjectId,
-) -> Result<(), Fault>
+fn add_line<W: Write>(lines: &mut Vec<u8>, writer: &mut W, id: ObjectId) -> Result<(), Fault>
     ensures ok { OnOk result (Grows (W.contents writer.old) lines.old.items (W.contents writer.new) lines.new.items (line_of id)) }
     ensures err { IfErr result (λ e. (e ≡ Fault.Write) ⊎ ((e ≡ Fault.Memory) × Grows (W.contents writer.old) lines.old.items (W.contents writer.new) lines.new.items [])) }
 {
     make_room(lines, writer)?;
-    let line = format!(in alloc; "{id}\n")?;
-    lines.extend_from_slice(line.as_bytes())?;
-    Ok(())
+    Ok(add_id(lines, &id, b'\n')?)
 }
 
 // Writes the lines that wait, where they are many.

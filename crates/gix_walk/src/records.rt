@@ -1,12 +1,14 @@
 //! Records of objects.
 ghost use Rattle.std.specs.Prelude.{◌≡◌, ℕ, List, IfOk, IfErr, MatchResult};
 ghost use Rattle.std.specs.Option.{option_map};
+ghost use Rattle.std.specs.Result.{result_ok};
+ghost use Rattle.gix_parts.specs.Id.{id_from_hex};
 ghost use Rattle.gix_walk.specs.Records.{Record, AreRecords, IsRecordFault, stored};
 ghost use Rattle.gix_walk.specs.Decimal.{decimal};
 ghost use Rattle.gix_walk.specs.RecordFront.{split_at_byte, kind_named, body_at, record_at, front_shown};
 
 use crate::fault::Fault;
-use gix_parts::hash::ObjectId;
+use gix_parts::hash::{self, ObjectId};
 use gix_parts::object::Kind;
 use gix_parts::object::memory::MemoryStore;
 use memchr::memchr;
@@ -53,7 +55,7 @@ fn record_at(text: &[u8]) -> Option<Front<'_>>
     let (word, rest) = split_at_byte(text, b' ')?;
     let kind = kind_named(word)?;
     let (digits, rest) = split_at_byte(rest, b' ')?;
-    let id = ObjectId::from_hex(digits).ok()?;
+    let id = id_spelled(digits)?;
     let (digits, rest) = split_at_byte(rest, b'\n')?;
     let len = decimal(digits)?;
     let (bytes, behind) = body_at(rest, len)?;
@@ -71,6 +73,17 @@ fn split_at_byte(text: &[u8], byte: u8) -> Option<(&[u8], &[u8])>
 {
     let end = memchr(byte, text)?;
     Some((&text[..end], &text[end + 1..]))
+}
+
+// The id that 40 or 64 hex digits spell.
+fn id_spelled(digits: &[u8]) -> Option<ObjectId>
+    ensures { result ≡ result_ok (id_from_hex digits.now) }
+{
+    match digits.len() {
+        40 => ObjectId::from_digits(digits, hash::Kind::Sha1),
+        64 => ObjectId::from_digits(digits, hash::Kind::Sha256),
+        _ => None,
+    }
 }
 
 fn kind_named(word: &[u8]) -> Option<Kind>

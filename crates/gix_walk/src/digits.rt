@@ -1,0 +1,55 @@
+//! Hex digits of ids in lines.
+ghost use Rattle.std.specs.Prelude.{◌≡◌, ◌*◌, ◌<◌, ◌++◌, ◌∷◌, [], length, slice_index, OnOk, OnErr};
+ghost use Rattle.hex.specs.Hex.{encode_lower, lower_digits};
+ghost use Rattle.gix_parts.specs.Id.{hex_of};
+
+use gix_parts::hash::ObjectId;
+use std::alloc::AllocError;
+
+/// Adds an id in hex digits of lower case, and a byte behind it.
+///
+/// # Errors
+/// Out of memory. Nothing is added.
+pub fn add_id(lines: &mut Vec<u8>, id: &ObjectId, behind: u8) -> Result<(), AllocError>
+    ensures ok { OnOk result (lines.new.items ≡ lines.old.items ++ (hex_of id.now ++ behind ∷ [])) }
+    ensures err { OnErr result (lines.new.items ≡ lines.old.items) }
+{
+    match id {
+        ObjectId::Sha1(bytes) => {
+            let mut text = [behind; 41];
+            put_digits(bytes, &mut text[..40]);
+            lines.extend_from_slice(&text)
+        }
+        ObjectId::Sha256(bytes) => {
+            let mut text = [behind; 65];
+            put_digits(bytes, &mut text[..64]);
+            lines.extend_from_slice(&text)
+        }
+    }
+}
+
+// Writes the two digits of each byte.
+#[inline(always)]
+fn put_digits(bytes: &[u8], text: &mut [u8])
+    requires { length text.old ≡ 2 * length bytes.now }
+    ensures { text.new ≡ encode_lower bytes.now }
+{
+    'bytes: for i in 0..bytes.len() {
+        let byte = bytes[i];
+        text[2 * i] = digit(byte >> 4);
+        text[2 * i + 1] = digit(byte & 0x0f);
+    }
+}
+
+// The digit of a number.
+#[inline(always)]
+fn digit(number: u8) -> u8
+    requires { number < 16 }
+    ensures { result ≡ slice_index lower_digits number }
+{
+    if number < 10 {
+        number + b'0'
+    } else {
+        number + (b'a' - 10)
+    }
+}
