@@ -9,6 +9,7 @@ mod InternalFacts
 mod TreeFacts
 mod TopoInternalFacts
 mod FileFacts
+mod ListerFacts
 mod AheadFacts
 mod StartFacts
 mod RunFacts

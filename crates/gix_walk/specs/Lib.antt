@@ -6,6 +6,7 @@ pub mod RecordFront
 pub mod Walked
 pub mod TopoWalked
 pub mod Files
+pub mod Lister
 pub mod Ahead
 pub mod Run
 pub mod Histories

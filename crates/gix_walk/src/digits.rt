@@ -47,9 +47,5 @@ fn digit(number: u8) -> u8
     requires { number < 16 }
     ensures { result ≡ slice_index lower_digits number }
 {
-    if number < 10 {
-        number + b'0'
-    } else {
-        number + (b'a' - 10)
-    }
+    number + b'0' + u8::from(number > 9) * (b'a' - b'9' - 1)
 }

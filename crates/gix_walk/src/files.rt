@@ -1,20 +1,25 @@
 //! The lines of what stands in a tree.
-ghost use Rattle.std.specs.Prelude.{◌≡◌, ◌++◌, ◌∷◌, [], length, map, take, IfErr, IfOk, IfSome, OnErr, OnOk};
-ghost use Rattle.gix_traverse.specs.Trees.Tracked.{record_of_entry};
-ghost use Rattle.gix_walk.specs.Files.{AreLinesOf, IsTreeFault, file_line, file_lines, six_octal_digits};
+ghost use Rattle.std.specs.Prelude.{◌≡◌, ◌++◌, ◌∷◌, [], length, take, IfErr, IfOk, IfSome, OnErr, OnOk};
+ghost use Rattle.gix_parts.specs.TreeRefIter.{entry_of};
+ghost use Rattle.gix_walk.specs.Files.{AreLinesOf, IsTreeFault, file_line, six_octal_digits};
+ghost use Rattle.gix_walk.specs.Lister.{line_at};
 ghost use Rattle.gix_walk.specs.Run.{Serves};
 ghost use Rattle.gix_walk.specs.Words.{Files};
 
 use crate::digits::add_id;
 use crate::fault::Fault;
 use crate::output::write_out;
+use bstr::BStr;
 use gix_parts::hash::ObjectId;
 use gix_parts::object::memory::MemoryStore;
+use gix_parts::object::tree::EntryRef;
 use gix_traverse::tree::Recorder;
 use gix_traverse::tree::depthfirst::{State, depthfirst};
-use gix_traverse::tree::recorder::Entry;
+use gix_traverse::tree::visit::{Action, Visit};
 use std::alloc::{AllocError, Global};
 use std::io::Write;
+use std::marker::Model;
+use std::ops::ControlFlow;
 
 /// Walks through the tree of this id in depth, and writes a line for each entry once the walk has ended well.
 ///
@@ -37,25 +42,89 @@ fn lines_of_tree(alloc: Global, tree: ObjectId, store: MemoryStore) -> Result<Ve
     ensures ok { IfOk result (λ lines. AreLinesOf store tree lines.items) }
     ensures err { IfErr result (IsTreeFault store tree) }
 {
-    let mut recorder = Recorder::new(alloc);
-    depthfirst(alloc, tree, &mut State::new(alloc), store, &mut recorder)?;
-    Ok(lines_of_entries(alloc, &recorder.records)?)
+    let mut lister = Lister {
+        recorder: Recorder::new(alloc),
+        lines: Vec::new(alloc),
+        alloc,
+    };
+    depthfirst(alloc, tree, &mut State::new(alloc), store, &mut lister)?;
+    Ok(lister.lines)
 }
 
-fn lines_of_entries(alloc: Global, entries: &[Entry]) -> Result<Vec<u8>, AllocError>
-    ensures { IfOk result (λ lines. lines.items ≡ file_lines (map record_of_entry entries.now)) }
-{
-    let mut lines = Vec::new(alloc);
-    for entry in entries {
-        add_line(
-            alloc,
-            &mut lines,
+// Adds a line for each entry that a walk shows, and goes into each tree. The recorder follows the path, and records nothing.
+#[derive(Drop)]
+struct Lister {
+    recorder: Recorder,
+    lines: Vec<u8>,
+    alloc: Global,
+}
+
+impl Model for Lister {
+    ghost use Rattle.gix_walk.specs.Lister.{Listed};
+
+    ghost Value = { Listed };
+
+    ghost view = { λ l. record { recorder = l.recorder; lines = l.lines.items } };
+}
+
+impl Lister {
+    // Adds the line of the entry at the current path.
+    fn list(&mut self, entry: &EntryRef<'_>) -> Result<(), AllocError>
+        ensures ok { OnOk result (self.new ≡ record self.old { lines = self.old.lines ++ line_at self.old (entry_of entry.now) }) }
+        ensures err { OnErr result (self.new ≡ self.old) }
+    {
+        let len = self.lines.len();
+        let path = self.recorder.path();
+        match add_line(
+            self.alloc,
+            &mut self.lines,
             entry.mode.value,
             &entry.oid,
-            entry.filepath.as_bytes(),
-        )?;
+            path.as_bytes(),
+        ) {
+            Ok(()) => Ok(()),
+            Err(e) => {
+                self.lines.truncate(len);
+                Err(e)
+            }
+        }
     }
-    Ok(lines)
+}
+
+impl Visit for Lister {
+    ghost use Rattle.gix_walk.specs.Lister.{Lists};
+
+    ghost steps = { Lists };
+
+    fn pop_back_tracked_path_and_set_current(&mut self) {
+        self.recorder.pop_back_tracked_path_and_set_current();
+    }
+
+    fn pop_front_tracked_path_and_set_current(&mut self) {
+        self.recorder.pop_front_tracked_path_and_set_current();
+    }
+
+    fn pop_path_component(&mut self) {
+        self.recorder.pop_path_component();
+    }
+
+    fn push_back_tracked_path_component(&mut self, component: &BStr<'_>) -> Result<(), AllocError> {
+        self.recorder.push_back_tracked_path_component(component)
+    }
+
+    fn push_path_component(&mut self, component: &BStr<'_>) -> Result<(), AllocError> {
+        self.recorder.push_path_component(component)
+    }
+
+    fn visit_tree(&mut self, entry: &EntryRef<'_>) -> Result<Action, AllocError> {
+        self.list(entry)?;
+        Ok(ControlFlow::Continue(true))
+    }
+
+    fn visit_nontree(&mut self, entry: &EntryRef<'_>) -> Result<Action, AllocError> {
+        self.list(entry)?;
+        Ok(ControlFlow::Continue(true))
+    }
 }
 
 // Adds the mode in six octal digits, the id and the path. Where memory runs out, some of them may be added.

@@ -1,0 +1,139 @@
+-- A lister adds the lines of what a recorder would record.
+use Rattle.std.specs.Prelude.{◌≡◌, ℕ, List, [], ◌∷◌, ◌++◌, Option, Some, None, Result, Ok, Err, IfErr}
+use Rattle.std.proofs.Common.{refl, sym, ap, subst, ◌∙◌}
+use Rattle.std.proofs.lemmas.List.{append-nil}
+use Rattle.std.proofs.lemmas.Grind.{flat_map-append}
+use Rattle.gix_parts.specs.declared.hash.ObjectId.{ObjectId}
+use Rattle.gix_parts.specs.Object.{Objects}
+use Rattle.gix_parts.specs.TreeItems.{TreeEntry}
+use Rattle.gix_traverse.specs.declared.tree.breadthfirst.Error.{Error}
+use Rattle.gix_traverse.specs.declared.tree.recorder.Location.{Location}
+use Rattle.gix_traverse.specs.declared.tree.recorder.Location.TheVariants.{Path, FileName}
+use Rattle.gix_traverse.specs.Trees.Delegate.{Action, Call, PushPath, PopPath, PushBack, PopBack, PopFront, VisitTree, VisitNontree, Refused, Run}
+use Rattle.gix_traverse.specs.Trees.Recorder.{Record, Recorded, recorded, with_record}
+use Rattle.gix_traverse.specs.Trees.Tracked.{Tracked, Tracks, fresh_recorder}
+use Rattle.gix_traverse.specs.Trees.Walk.{DepthFirst}
+use Rattle.gix_walk.specs.declared.fault.Fault.{Fault}
+use Rattle.gix_walk.specs.Faults.{fault_of_tree_walk}
+use Rattle.gix_walk.specs.Files.{RecordsTree, file_line, file_lines, AreLinesOf, IsTreeFault}
+use Rattle.gix_walk.specs.Lister.{Listed, Lists, fresh_lister}
+use Rattle.gix_walk.specs.Walked.{never_faulty}
+
+abbrev holding : Recorded → List Record → Recorded
+holding r records = record r { records = records }
+
+-- the recorder, with these records
+abbrev tracking : Tracked → List Record → Tracked
+tracking t records = record t { held = holding t.held records }
+
+module _ (records : List Record) where
+  -- a call that follows the path leaves any records
+  pushed : (location : Option Location) (r : Recorded) (name : List ℕ) → holding (recorded location r (PushPath name)) records ≡ recorded location (holding r records) (PushPath name)
+  pushed (Some Path) r name = refl
+  pushed (Some FileName) r name = refl
+  pushed None r name = refl
+
+  popped : (location : Option Location) (r : Recorded) → holding (recorded location r PopPath) records ≡ recorded location (holding r records) PopPath
+  popped (Some Path) r = refl
+  popped (Some FileName) r = refl
+  popped None r = refl
+
+  pushed_back : (location : Option Location) (r : Recorded) (name : List ℕ) → holding (recorded location r (PushBack name)) records ≡ recorded location (holding r records) (PushBack name)
+  pushed_back (Some Path) r name = refl
+  pushed_back (Some FileName) r name = refl
+  pushed_back None r name = refl
+
+  popped_back : (location : Option Location) (r : Recorded) → holding (recorded location r PopBack) records ≡ recorded location (holding r records) PopBack
+  popped_back (Some Path) r = refl
+  popped_back (Some FileName) r = refl
+  popped_back None r = refl
+
+  popped_front : (location : Option Location) (r : Recorded) → holding (recorded location r PopFront) records ≡ recorded location (holding r records) PopFront
+  popped_front (Some Path) r = refl
+  popped_front (Some FileName) r = refl
+  popped_front None r = refl
+
+  refused : (location : Option Location) (r : Recorded) → holding (recorded location r Refused) records ≡ recorded location (holding r records) Refused
+  refused (Some Path) r = refl
+  refused (Some FileName) r = refl
+  refused None r = refl
+
+saw_tree : (location : Option Location) (r : Recorded) (e : TreeEntry) (answer : Action) → with_record r e ≡ recorded location r (VisitTree e answer)
+saw_tree (Some Path) r e answer = refl
+saw_tree (Some FileName) r e answer = refl
+saw_tree None r e answer = refl
+
+saw_other : (location : Option Location) (r : Recorded) (e : TreeEntry) (answer : Action) → with_record r e ≡ recorded location r (VisitNontree e answer)
+saw_other (Some Path) r e answer = refl
+saw_other (Some FileName) r e answer = refl
+saw_other None r e answer = refl
+
+lines_last : (records : List Record) (r : Record) → file_lines (records ++ r ∷ []) ≡ file_lines records ++ file_line r
+lines_last records r = flat_map-append file_line records (r ∷ []) ∙ ap (λ x. file_lines records ++ x) (append-nil (file_line r))
+
+-- a recorder with these records does what the lister does, and holds the records of its lines
+abbrev Follows : Listed → List Record → Call → Listed → Type 0
+Follows old records call new = (more : List Record) × Tracks (tracking old.recorder records) call (tracking new.recorder more) × (new.lines ≡ file_lines more)
+
+module _ (old : Listed) (records : List Record) (lines : old.lines ≡ file_lines records) (new : Listed) where
+  abbrev held : Recorded
+  held = old.recorder.held
+
+  abbrev location : Option Location
+  location = old.recorder.location
+
+  follow : (call : Call) → Lists old call new → Follows old records call new
+  follow (PushPath name) h = (records, (h.0.0, (h.0.1.0, ap (λ r. holding r records) h.0.1.1 ∙ pushed records location held name)), h.1 ∙ lines)
+  follow PopPath h = (records, (h.0.0, (h.0.1.0, ap (λ r. holding r records) h.0.1.1 ∙ popped records location held)), h.1 ∙ lines)
+  follow (PushBack name) h = (records, (h.0.0, (h.0.1.0, ap (λ r. holding r records) h.0.1.1 ∙ pushed_back records location held name)), h.1 ∙ lines)
+  follow PopBack h = (records, (h.0.0, (h.0.1.0, ap (λ r. holding r records) h.0.1.1 ∙ popped_back records location held)), h.1 ∙ lines)
+  follow PopFront h = (records, (h.0.0, (h.0.1.0, ap (λ r. holding r records) h.0.1.1 ∙ popped_front records location held)), h.1 ∙ lines)
+  follow Refused h = (records, (h.0.0, (h.0.1.0, ap (λ r. holding r records) h.0.1.1 ∙ refused records location held)), h.1 ∙ lines)
+  follow (VisitTree e answer) h =
+      let more : List Record = records ++ record { mode = e.mode; path = held.path; id = e.id } ∷ [] in (
+        more,
+        (ap (λ l. l.recorder.location) h.1, (h.0, ap (λ l. holding l.recorder.held more) h.1 ∙ saw_tree location (holding held records) e answer)),
+        ap (λ l. l.lines) h.1 ∙ ap (λ x. x ++ file_line (record { mode = e.mode; path = held.path; id = e.id })) lines ∙ sym (lines_last records (record { mode = e.mode; path = held.path; id = e.id })),
+      )
+  follow (VisitNontree e answer) h =
+      let more : List Record = records ++ record { mode = e.mode; path = held.path; id = e.id } ∷ [] in (
+        more,
+        (ap (λ l. l.recorder.location) h.1, (h.0, ap (λ l. holding l.recorder.held more) h.1 ∙ saw_other location (holding held records) e answer)),
+        ap (λ l. l.lines) h.1 ∙ ap (λ x. x ++ file_line (record { mode = e.mode; path = held.path; id = e.id })) lines ∙ sym (lines_last records (record { mode = e.mode; path = held.path; id = e.id })),
+      )
+
+follow_all : (old : Listed) (records : List Record) → old.lines ≡ file_lines records → (calls : List Call) (new : Listed) → Run Lists old calls new
+    → (more : List Record) × Run Tracks (tracking old.recorder records) calls (tracking new.recorder more) × (new.lines ≡ file_lines more)
+follow_all old records lines [] new h = (records, ap (λ l. tracking l.recorder records) h, ap (λ l. l.lines) h ∙ lines)
+follow_all old records lines (call ∷ calls) new h =
+    let one : Follows old records call h.0 = follow old records lines h.0 call h.1 in
+    let rest : (more : List Record) × Run Tracks (tracking h.0.recorder one.0) calls (tracking new.recorder more) × (new.lines ≡ file_lines more) = follow_all h.0 one.0 one.2 calls new h.2 in
+    (rest.0, (tracking h.0.recorder one.0, one.1, rest.1), rest.2)
+
+-- what a walk made of a lister tells what it makes of a recorder
+pub recorded_so : (objects : Objects) (tree : ObjectId) (new : Listed) (answer : Result (Unit {0}) Error) → DepthFirst objects (never_faulty objects) Lists tree fresh_lister new answer
+    → (recorder : Tracked) × RecordsTree objects tree recorder answer × (new.lines ≡ file_lines recorder.held.records)
+recorded_so objects tree new answer walk =
+    let all : (more : List Record) × Run Tracks (tracking fresh_lister.recorder []) walk.calls (tracking new.recorder more) × (new.lines ≡ file_lines more) = follow_all fresh_lister [] refl walk.calls new walk.run in (
+      tracking new.recorder all.0,
+      record { calls = walk.calls; visits = walk.visits; end = walk.end; script = walk.script; run = all.1; answered = walk.answered },
+      all.2,
+    )
+
+-- what a walk made of a lister that was just made
+module _ (objects : Objects) (tree : ObjectId) (recorder : Tracked) (none : List ℕ) (new : Listed) (answer : Result (Unit {0}) Error) (made : recorder ≡ fresh_recorder) (empty : none ≡ [])
+    (walk : DepthFirst objects (never_faulty objects) Lists tree (record { recorder = recorder; lines = none }) new answer) where
+  from_fresh : DepthFirst objects (never_faulty objects) Lists tree fresh_lister new answer
+  from_fresh = subst (λ (r : Tracked). DepthFirst objects (never_faulty objects) Lists tree (record { recorder = r; lines = [] }) new answer) made (subst (λ (x : List ℕ). DepthFirst objects (never_faulty objects) Lists tree (record { recorder = recorder; lines = x }) new answer) empty walk)
+
+  -- these are the lines, where it ended well
+  pub lines_listed : answer ≡ Ok tt → (lines : List ℕ) → lines ≡ new.lines → AreLinesOf objects tree lines
+  lines_listed well lines same =
+      let all : (recorder : Tracked) × RecordsTree objects tree recorder answer × (new.lines ≡ file_lines recorder.held.records) = recorded_so objects tree new answer from_fresh in
+      (all.0, subst (λ (a : Result (Unit {0}) Error). RecordsTree objects tree all.0 a) well all.1, same ∙ all.2)
+
+  -- its fault is one of the walk
+  pub list_failed : {A : Type 0} (result : Result A Fault) (f : Fault) (e : Error) → result ≡ Err f → f ≡ fault_of_tree_walk e → answer ≡ Err e → IfErr result (IsTreeFault objects tree)
+  list_failed result f e is told failed =
+      let all : (recorder : Tracked) × RecordsTree objects tree recorder answer × (new.lines ≡ file_lines recorder.held.records) = recorded_so objects tree new answer from_fresh in
+      rw is (λ other. (all.0, e, subst (λ (a : Result (Unit {0}) Error). RecordsTree objects tree all.0 a) failed all.1, told))
