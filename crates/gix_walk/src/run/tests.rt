@@ -27,13 +27,24 @@ const SEVEN: &str = "7777777777777777777777777777777777777777";
 
 const EIGHT: &str = "8888888888888888888888888888888888888888";
 
+const LESS_FIVE: &str = "^5555555555555555555555555555555555555555";
+
 const LESS_SEVEN: &str = "^7777777777777777777777777777777777777777";
 
 const LESS_MISSING: &str = "^aaaaaaaaaaaaaaaaaaaaaaaaaaaaaaaaaaaaaaaa";
 
 // The text of a commit with these parents, whose times are a number.
 fn commit(alloc: Global, time: &str, parents: &[&str]) -> Result<String, AllocError> {
-    let mut text = format!(in alloc; "tree {EMPTY_TREE}\n")?;
+    commit_of_tree(alloc, EMPTY_TREE, time, parents)
+}
+
+fn commit_of_tree(
+    alloc: Global,
+    tree: &str,
+    time: &str,
+    parents: &[&str],
+) -> Result<String, AllocError> {
+    let mut text = format!(in alloc; "tree {tree}\n")?;
     for parent in parents {
         let line = format!(in alloc; "parent {parent}\n")?;
         text.push_str(line.as_str())?;
@@ -174,6 +185,7 @@ mod ahead;
 mod breadth;
 mod by_time;
 mod files;
+mod hidden;
 mod records;
 mod streams;
 mod topo;

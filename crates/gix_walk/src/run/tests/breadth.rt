@@ -1,6 +1,12 @@
 //! The command `breadth`.
 use super::*;
 
+const LONG_ONE: &str = "1111111111111111111111111111111111111111111111111111111111111111";
+
+const LONG_TWO: &str = "2222222222222222222222222222222222222222222222222222222222222222";
+
+const LONG_TREE: &str = "aaaaaaaaaaaaaaaaaaaaaaaaaaaaaaaaaaaaaaaaaaaaaaaaaaaaaaaaaaaaaaaa";
+
 #[test]
 fn prints_the_child_first(rt: HostRuntime) -> Result<(), Fail> {
     let alloc = rt.alloc();
@@ -57,15 +63,20 @@ fn hides_what_hidden_commits_reach(rt: HostRuntime) -> Result<(), Fail> {
     Ok(())
 }
 
+// The records of commit 1 and its child 2, whose ids have 64 digits.
+fn two_long_commits(alloc: Global) -> Result<String, AllocError> {
+    let first = commit_of_tree(alloc, LONG_TREE, "1", &[])?;
+    let second = commit_of_tree(alloc, LONG_TREE, "2", &[LONG_ONE])?;
+    format!(in alloc; "commit {LONG_ONE} 120\n{first}\ncommit {LONG_TWO} 192\n{second}\n")
+}
+
 #[test]
-fn a_hidden_commit_has_to_be_there(rt: HostRuntime) -> Result<(), Fail> {
+fn walks_through_ids_of_64_digits(rt: HostRuntime) -> Result<(), Fail> {
     let alloc = rt.alloc();
-    let input = sample(alloc)?;
-    let (answer, output) = outcome(alloc, &["breadth", EIGHT, LESS_MISSING], input.as_str())?;
-    assert_eq!(rt; answer, Err(Fault::Missing(id(ROOT)?)));
-    assert!(rt; output.is_empty());
-    let (answer, output) = outcome(alloc, &["breadth", "zz", LESS_SEVEN], "")?;
-    assert_eq!(rt; answer, Err(Fault::Id(2)));
-    assert!(rt; output.is_empty());
+    let input = two_long_commits(alloc)?;
+    let (answer, output) = outcome(alloc, &["breadth", LONG_TWO], input.as_str())?;
+    assert_eq!(rt; answer, Ok(()));
+    let lines = lines_of(alloc, &[LONG_TWO, LONG_ONE])?;
+    assert_eq!(rt; output.as_slice(), lines.as_bytes());
     Ok(())
 }

@@ -19,6 +19,10 @@ fn lists_no_commit_before_its_children(rt: HostRuntime) -> Result<(), Fail> {
             [EIGHT, SIX, FIVE, THREE].as_slice(),
         ),
         (
+            ["topo", EIGHT, LESS_FIVE],
+            [EIGHT, SEVEN, FOUR, TWO, SIX].as_slice(),
+        ),
+        (
             ["date", LESS_SEVEN, EIGHT],
             [EIGHT, SIX, FIVE, THREE].as_slice(),
         ),
