@@ -44,6 +44,7 @@ pub type ParentIds = SmallVec<ObjectId, 1>;
 /// A commit, as a walk gives it.
 #[derive(Debug, Drop, PartialEq, Eq, PartialOrd, Ord, Hash)]
 pub struct Info {
+    /// The commit's id.
     pub id: ObjectId,
     /// The parents as the commit names them, repeats kept. Under `Parents::First` a `Simple` gives the first alone, and a `Topo` all.
     pub parent_ids: ParentIds,

@@ -27,25 +27,28 @@ impl<'a> Commit<'a> {
         Commit { graph, position }
     }
 
+    /// The commit's id.
     pub fn id(&self) -> ObjectId
         ensures { result ≡ (row_of_commit self.now).id }
     {
         self.graph.id_at(self.position.0)
     }
 
+    /// The id of the commit's tree.
     pub fn root_tree_id(&self) -> ObjectId
         ensures { result ≡ (row_of_commit self.now).tree }
     {
         self.graph.tree_at(self.position.0)
     }
 
+    /// The generation that the row says.
     pub fn generation(&self) -> u32
         ensures { result ≡ (row_of_commit self.now).generation }
     {
         self.graph.generation_at(self.position.0)
     }
 
-    /// The committer's seconds.
+    /// The committer's seconds since 1970-01-01 00:00 UTC.
     pub fn committer_timestamp(&self) -> i64
         ensures { result ≡ (row_of_commit self.now).time }
     {
