@@ -1,4 +1,4 @@
--- What a store in memory holds after an object was put behind those of its buffer.
+-- What a store in memory holds after the bytes of an object were put behind the bytes in its buffer.
 use Rattle.std.specs.Prelude.{IfSome}
 use Rattle.std.specs.Option.{option_map}
 use Rattle.std.specs.Ordering.{is_lt, eq_by_cmp}
@@ -48,6 +48,23 @@ module _ (buffer : List ℕ) (places : FinMap id_cmp Stored) where
   pub len_stored : map.len (objects_at buffer places) ≡ map.len places
   len_stored = map.len-entries (objects_at buffer places) ∙ ap length (map.entries-from_sorted id_cmp _ sorted) ∙ length-map _ _ ∙ sym (map.len-entries places)
 
+-- an object is put in at a place of the buffer
+pub object_put : (buffer : List ℕ) (places : FinMap id_cmp Stored) (i : ObjectId) (s : Stored) → objects_at buffer (map.insert places i s) ≡ map.insert (objects_at buffer places) i (object_at buffer s)
+object_put buffer places i s = map.same_map id_total id_apart _ _ (λ q.
+    get_stored buffer _ q ∙ ap (option_map (object_at buffer)) (map.get-insert id_total places i s q)
+    ∙ at_key q (eq_by_cmp id_cmp q i) ∙ sym (map.get-insert id_total (objects_at buffer places) i _ q))
+  where
+    at_key : (q : ObjectId) (b : Bool) → option_map (object_at buffer) (cond b (Some s) (map.get places q)) ≡ cond b (Some (object_at buffer s)) (map.get (objects_at buffer places) q)
+    at_key q true = refl
+    at_key q false = sym (get_stored buffer places q)
+
+pub within_put : (places : FinMap id_cmp Stored) (count : ℕ) → AreWithin places count → (i : ObjectId) (s : Stored) → s.start ≤ s.end → s.end ≤ count → AreWithin (map.insert places i s) count
+within_put places count within i s low high q = subst (λ o. IfSome o (λ s. (s.start ≤ s.end) × (s.end ≤ count))) (sym (map.get-insert id_total places i s q)) (at_key (eq_by_cmp id_cmp q i))
+  where
+    at_key : (b : Bool) → IfSome (cond b (Some s) (map.get places q)) (λ s. (s.start ≤ s.end) × (s.end ≤ count))
+    at_key true = (low, high)
+    at_key false = within q
+
 module _ (buffer more : List ℕ) (places : FinMap id_cmp Stored) (within : AreWithin places (length buffer)) where
   same_object : (o : Option Stored) → IfSome o (λ s. (s.start ≤ s.end) × (s.end ≤ length buffer)) → option_map (object_at (buffer ++ more)) o ≡ option_map (object_at buffer) o
   same_object None h = refl
@@ -58,7 +75,7 @@ module _ (buffer more : List ℕ) (places : FinMap id_cmp Stored) (within : AreW
       let part = take-append-le (s.end - s.start) (drop s.start buffer) more (omega (arith, length-drop s.start buffer)) in
       ap (λ bytes. Some (record { kind = s.kind; bytes = bytes })) (ap (take (s.end - s.start)) rest ∙ part)
 
-  -- bytes behind those of all objects change none
+  -- bytes behind the bytes of all objects change no object
   pub objects_kept : objects_at (buffer ++ more) places ≡ objects_at buffer places
   objects_kept = map.same_map id_total id_apart _ _ (λ q. get_stored (buffer ++ more) places q ∙ same_object (map.get places q) (within q) ∙ sym (get_stored buffer places q))
 
@@ -67,27 +84,20 @@ module _ (buffer more : List ℕ) (places : FinMap id_cmp Stored) (within : AreW
 
   -- an object whose bytes are put behind them
   pub object_stored : (i : ObjectId) (kind : Kind) → objects_at (buffer ++ more) (map.insert places i (behind kind)) ≡ map.insert (objects_at buffer places) i (record { kind = kind; bytes = more })
-  object_stored i kind = map.same_map id_total id_apart _ _ (λ q.
-      get_stored (buffer ++ more) _ q ∙ ap (option_map (object_at (buffer ++ more))) (map.get-insert id_total places i (behind kind) q)
-      ∙ at_key q (eq_by_cmp id_cmp q i) ∙ sym (map.get-insert id_total (objects_at buffer places) i _ q))
-    where
-      at_key : (q : ObjectId) (b : Bool) → option_map (object_at (buffer ++ more)) (cond b (Some (behind kind)) (map.get places q)) ≡ cond b (Some (record { kind = kind; bytes = more })) (map.get (objects_at buffer places) q)
-      at_key q true =
-          let count : length buffer + length more - length buffer ≡ length more = omega arith in
-          let part = ap (λ n. take n (drop (length buffer) (buffer ++ more))) count ∙ ap (take (length more)) (drop-append_seam buffer more) ∙ take_all (length more) more (omega arith) in
-          ap (λ bytes. Some (record { kind = kind; bytes = bytes })) part
-      at_key q false = same_object (map.get places q) (within q) ∙ sym (get_stored buffer places q)
+  object_stored i kind =
+      let count : length buffer + length more - length buffer ≡ length more = omega arith in
+      let part = ap (λ n. take n (drop (length buffer) (buffer ++ more))) count ∙ ap (take (length more)) (drop-append_seam buffer more) ∙ take_all (length more) more (omega arith) in
+      object_put (buffer ++ more) places i (behind kind)
+      ∙ ap₂ (λ objects bytes. map.insert objects i (record { kind = kind; bytes = bytes })) objects_kept part
 
   pub within_stored : (i : ObjectId) (kind : Kind) → AreWithin (map.insert places i (behind kind)) (length (buffer ++ more))
-  within_stored i kind q = subst (λ o. IfSome o (λ s. (s.start ≤ s.end) × (s.end ≤ length (buffer ++ more)))) (sym (map.get-insert id_total places i (behind kind) q)) (at_key (eq_by_cmp id_cmp q i) (map.get places q) (within q))
+  within_stored i kind =
+      let long = length-append buffer more in
+      within_put places _ (λ q. longer (map.get places q) (within q)) i (behind kind) (omega arith) (omega (arith, long))
     where
-      long : length (buffer ++ more) ≡ length buffer + length more
-      long = length-append buffer more
-
-      at_key : (b : Bool) (o : Option Stored) → IfSome o (λ s. (s.start ≤ s.end) × (s.end ≤ length buffer)) → IfSome (cond b (Some (behind kind)) o) (λ s. (s.start ≤ s.end) × (s.end ≤ length (buffer ++ more)))
-      at_key true o h = (omega arith, omega (arith, long))
-      at_key false None h = h
-      at_key false (Some s) h = let low = h.0 in let high = h.1 in (low, omega (arith, long))
+      longer : (o : Option Stored) → IfSome o (λ s. (s.start ≤ s.end) × (s.end ≤ length buffer)) → IfSome o (λ s. (s.start ≤ s.end) × (s.end ≤ length (buffer ++ more)))
+      longer None h = h
+      longer (Some s) h = let low = h.0 in let high = h.1 in (low, omega (arith, high, length-append buffer more))
 
 -- a store without objects
 pub within_empty : (count : ℕ) → AreWithin map.empty count

@@ -10,7 +10,7 @@ pub mod RowSearch
 pub mod Fields
 -- The overflow words that reading a row's parents leaves.
 pub mod Parents
--- Parent words and overflow words are those of the places that were read.
+-- Parent words and overflow words are the words of the places that were read.
 pub mod Takes
 -- A row that is read is spelled as it was read.
 pub mod RowTakes

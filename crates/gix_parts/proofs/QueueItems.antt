@@ -10,7 +10,7 @@ module _ {X K T : Type 0} (key : X → K) (value : X → T) where
   abbrev pub pairs : List X → List (K × T)
   pairs items = map (λ x. (key x, value x)) items
 
-  -- an item that no item of greater key stands beside
+  -- an item such that no other item has a greater key
   pub greatest_key : (R : K → K → Ordering) (x : X) (items : List X) → IsUpperBound (λ a b. R (key a) (key b)) x items → IsUpperBound R (key x) (keys (pairs items))
   greatest_key R x [] h = tt
   greatest_key R x (y ∷ items) h = (h.0, greatest_key R x items h.1)

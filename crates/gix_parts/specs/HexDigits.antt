@@ -15,7 +15,7 @@ byte_at digits i = value_of (slice_index digits i) * 16 + value_of (slice_index 
 abbrev pub AreDigits : List ℕ → ℕ → ℕ → Type 0
 AreDigits digits from to = (k : ℕ) → from ≤ k → k < to → is_hex_digit (slice_index digits k) ≡ true
 
--- the first so many bytes are those that the digits from a place on spell
+-- the first so many bytes are the bytes that the digits from a place on spell
 abbrev pub AreSpelled : List ℕ → ℕ → List ℕ → ℕ → Type 0
 AreSpelled digits at bytes count = (k : ℕ) → k < count → slice_index bytes k ≡ byte_at digits (at + 2 * k)
 

@@ -59,7 +59,7 @@ unfoldable pub row_bytes : ℕ → GraphRow → List ℕ
 row_bytes k row =
     bytes_of row.id ++ (bytes_of row.tree ++ (to_be_bytes w32 (first_word row.parents) ++ (to_be_bytes w32 (second_word k row.parents) ++ (to_be_bytes w32 row.generation ++ to_be_bytes w64 (cast_unsigned w64 row.time)))))
 
--- the rows, each with its overflow list behind those of the rows before it
+-- the rows, each with its overflow list behind the overflow lists of the rows before it
 unfoldable pub rows_bytes : ℕ → List GraphRow → List ℕ
 rows_bytes k [] = []
 rows_bytes k (row ∷ rows) = row_bytes k row ++ rows_bytes (k + length (overflow_of row.parents)) rows

@@ -47,7 +47,7 @@ pub record IsPackedAs (bytes : List ℕ) (layout : Layout) (rows : List GraphRow
   pub spelled : bytes ≡ spelling rows
   pub head : IsHeadOf layout rows
 
--- the bytes are those of a graph that has the same rows
+-- the bytes are the packed bytes of a graph that has the same rows
 pub record PacksSame (rows : List GraphRow) (layout : Layout) (bytes : List ℕ) : Type 0 where
   pub graph : List GraphRow
   pub kept : IsPackedAs bytes layout graph

@@ -24,7 +24,7 @@ long_id = refl
 pub cut_in_id : tree_items kind.Sha1 (entry_bytes 19) ≡ Err fault.EntryId ∷ []
 cut_in_id = refl
 
--- what stands before a fault is read, and nothing behind it
+-- the entries before a fault are read, and nothing behind it
 pub fault_behind_entry : tree_items kind.Sha1 (entry_bytes 20 ++ codes "100644" ++ entry_bytes 20) ≡ Ok file_x ∷ Err fault.EntryMode ∷ []
 fault_behind_entry = refl
 

@@ -32,8 +32,8 @@ items_left it = tree_items (id_kind it) (bytes_left it)
 abbrev pub IsEndOf : List ℕ → List ℕ → Type 0
 IsEndOf bytes buf = drop (length buf - length bytes) buf ≡ bytes
 
--- A call of `next` gave the first of the items that were left, or `None` where none was. What it left are the last bytes
--- of those before, and none behind a fault, with ids of the same kind.
+-- A call of `next` gave the first of the items that were left, or `None` where none was. The bytes that it left are the end
+-- of the bytes before, and none behind a fault, with ids of the same kind.
 pub record ReadsNext (old : TreeRefIter) (result : Option (Result EntryRef Error)) (new : TreeRefIter) : Type 0 where
   pub item : YieldsFirstBy item_of items_left old result new
   pub end : IsEndOf (bytes_left new) (bytes_left old)

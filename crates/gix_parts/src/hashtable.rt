@@ -1,4 +1,4 @@
-//! Sets and maps of ids. Which container holds them is this module's alone to know.
+//! Sets and maps of ids. No other module knows which container holds them.
 ghost use Rattle.std.specs.Prelude.{◌≡◌, ◌↔◌, IsTrue, not, IfOk, OnOk, OnErr, OnSome, IfNone};
 ghost use Rattle.std.specs.Option.{option_copied};
 ghost use Rattle.std.specs.FinSet as set;
@@ -44,7 +44,7 @@ impl IdSet {
         self.ids.contains(id)
     }
 
-    /// Puts an id in, and tells whether it is new. Only for a new one memory may be wanting, and then the set stays.
+    /// Puts an id in, and says whether it is new. Only a new id takes memory; where memory runs out, the set stays as it was.
     pub fn insert(&mut self, id: ObjectId) -> Result<bool, AllocError>
         ensures added { IfOk result (λ added. added ≡ not (set.contains self.old id)) }
         ensures ok { OnOk result (self.new ≡ set.insert self.old id) }
@@ -53,7 +53,7 @@ impl IdSet {
         Ok(self.ids.insert(id)?)
     }
 
-    /// Takes an id out, and tells whether it was there.
+    /// Takes an id out, and says whether it was in the set.
     pub fn remove(&mut self, id: &ObjectId) -> bool
         ensures removed { result ≡ set.contains self.old id.now }
         ensures set { self.new ≡ set.remove self.old id.now }
@@ -117,7 +117,8 @@ impl<T> IdMap<T> {
         self.values.get(id)
     }
 
-    /// Gives an id a value, and returns the one that it had. Only for a new id memory may be wanting, and then the map stays.
+    /// Gives an id a value, and returns the value that it had. Only a new id takes memory; where memory runs out, the map stays
+    /// as it was.
     pub fn insert(&mut self, id: ObjectId, value: T) -> Result<Option<T>, AllocError>
     where
         T: Drop,
@@ -128,8 +129,8 @@ impl<T> IdMap<T> {
         Ok(self.values.insert(id, value)?)
     }
 
-    /// Gives an id that has a value another, and returns the one that it had. Where the id has none, None, and the map stays.
-    /// No memory is wanted, so counting goes by this.
+    /// Replaces the value of an id that has one, and returns the old value. Where the id has no value, the answer is None and the
+    /// map stays. No memory is taken.
     pub fn replace(&mut self, id: &ObjectId, value: T) -> Option<T>
     where
         T: Drop,

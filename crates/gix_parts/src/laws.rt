@@ -4,8 +4,8 @@ ghost use Rattle.gix_parts.specs.CommitItems.{FaultsEnd};
 ghost use Rattle.gix_parts.specs.CommitText.{ReadsTexts};
 ghost use Rattle.gix_parts.specs.PackedLaws.{SpellingsAreRead, SpellingsDiffer};
 
-/// Reading a commit gives exactly the texts of commits: bytes are read as a tree, parents and seconds where they are a tree line,
-/// a line for each parent in order, an author line, a committer line with those seconds, and any rest; and no others.
+/// Reading a commit gives exactly the texts of commits: bytes are read as a tree, parents and seconds exactly where they are a tree
+/// line, a line for each parent in order, an author line, a committer line with these seconds, and any rest.
 pub fn reads_texts()
     ensures { ReadsTexts }
 {}
@@ -15,7 +15,7 @@ pub fn faults_end()
     ensures { FaultsEnd }
 {}
 
-/// Rows of a commit-graph that are packed are read again: what `Graph::new` packs `Graph::from_packed` takes, and it means the same rows.
+/// Packed rows of a commit-graph are read again: `Graph::from_packed` accepts what `Graph::new` packs, and it means the same rows.
 pub fn spellings_are_read()
     ensures { SpellingsAreRead }
 {}

@@ -22,7 +22,7 @@ struct Item<K, T> {
 
 /// Values, each with the key that it was put in under. Several values may have equal keys.
 ///
-/// A clause reads a queue as the list of its pairs of key and value. The first of them is the one that comes next, and
+/// A clause reads a queue as the list of its pairs of key and value. The first pair is the one that comes next, and
 /// the order of the others is open.
 #[derive(Drop)]
 pub struct PriorityQueue<K: Ord, T> {
@@ -97,7 +97,7 @@ impl<K: Ord, T> PriorityQueue<K, T> {
 }
 
 impl<K: Ord + Drop, T: Drop> PriorityQueue<K, T> {
-    /// Puts in a value under a key, beside those of equal keys. An error says that memory was refused: the queue is then
+    /// Puts in a value under a key. Values of equal keys stay. An error says that memory was refused: the queue is then
     /// as it was, and the key and the value are dropped.
     pub fn insert(&mut self, key: K, value: T) -> Result<(), AllocError>
         ensures ok { OnOk result (IsPermutation ((key, value) ∷ self.old) self.new) }

@@ -3,7 +3,7 @@
 #![tactic(auto)]
 
 pub mod calls;
-pub mod example;
+pub mod examples;
 pub mod history;
 #[cfg(test)]
 mod parts;

@@ -13,7 +13,7 @@ use gix_parts::object::tree::EntryRef;
 use gix_traverse::tree::Recorder;
 use gix_traverse::tree::breadthfirst::{self, Error, breadthfirst};
 use gix_traverse::tree::depthfirst::{State, depthfirst};
-use gix_traverse::tree::recorder::Location;
+use gix_traverse::tree::recorder::{Entry, Location};
 use gix_traverse::tree::visit::{Action, Visit};
 use std::alloc::{AllocError, Global};
 use std::ops::ControlFlow;
@@ -207,8 +207,8 @@ pub fn write_end(told: &mut String, answer: Result<(), Error>) -> Result<(), All
 }
 
 /// Writes the paths of the records, each behind a space.
-pub fn write_paths(told: &mut String, recorder: &Recorder) -> Result<(), AllocError> {
-    for entry in recorder.records.iter() {
+pub fn write_paths(told: &mut String, records: &[Entry]) -> Result<(), AllocError> {
+    for entry in records {
         write!(told, " {}", entry.filepath)?;
     }
     Ok(())
@@ -224,7 +224,7 @@ fn tell_paths<F: Find + Drop>(
 ) -> Result<(), AllocError> {
     let mut recorder = Recorder::new(alloc).track_location(location);
     let answer = walk(alloc, order, store, id(10), &mut recorder);
-    write_paths(told, &recorder)?;
+    write_paths(told, &recorder.records)?;
     if answer != Err(Error::Memory) {
         told.push(' ')?;
     }

@@ -1,4 +1,4 @@
--- Over a finite history, tests that compute tell which commits are ready.
+-- Over a finite history, tests that compute decide which commits are ready.
 pub mod Decided
 -- Date order and topological order, one of them a refused list; the walk set; the boundary of hidden tips.
 pub mod TopologicalOrders

@@ -3,7 +3,7 @@ ghost use Rattle.std.specs.Prelude.{◌≡◌, ◌≤◌, Bool, true, IfOk, IsOk
 ghost use Rattle.std.specs.Fn.{CalledAt};
 ghost use Rattle.gix_parts.specs.declared.hash.ObjectId.{ObjectId};
 ghost use Rattle.gix_traverse.specs.History.Either.{FindsEither};
-ghost use Rattle.gix_traverse.specs.Simple.Inside.Painter.{rows_in};
+ghost use Rattle.gix_traverse.specs.History.Agreeing.{rows_in};
 
 mod read;
 pub mod simple;

@@ -13,6 +13,7 @@ use Rattle.gix_walk.specs.Ahead.{Counts, FailsToCount, Numbers, ahead_line}
 use Rattle.gix_walk.specs.Run.{Serves, counted, not_counted, unserved, not_written}
 use Rattle.gix_walk.specs.Walked.{Walk, Answers, IsWalkFault, StartsFrom, given, finished, failed, cut_short}
 use Rattle.gix_walk.specs.Words.{Ahead}
+use Rattle.gix_walk.proofs.MemoryFaults.{failed_so}
 
 module _ {W E : Type 0} (Steps : W → Option (Result Info E) → W → Type 0) (Tells : E → Fault → Type 0) (walk : W) (infos : List Info) where
   -- the walk's answer was a fault
@@ -44,22 +45,9 @@ module _ (objects : Objects) (tip hidden : ObjectId) (walk : Walk) (starts : Sta
   fails_to_count (Err e) h = λ other. (h.0, record { walk = walk; starts = starts; ends = h.1 })
 
 module _ (objects : Objects) (old : Option (List ℕ)) (one other : ObjectId) where
-  failed_count : (e : Fault) → (e ≢ fault.Memory → FailsToCount objects one other e ⊎ FailsToCount objects other one e) → Serves objects old (Ahead one other) (Err e) old
-  failed_count fault.Memory h = unserved
-  failed_count fault.Usage h = not_counted (h (λ e. cc))
-  failed_count (fault.Id n) h = not_counted (h (λ e. cc))
-  failed_count (fault.Record n) h = not_counted (h (λ e. cc))
-  failed_count (fault.Missing i) h = not_counted (h (λ e. cc))
-  failed_count (fault.WrongKind i) h = not_counted (h (λ e. cc))
-  failed_count fault.Broken h = not_counted (h (λ e. cc))
-  failed_count (fault.Cycle i) h = not_counted (h (λ e. cc))
-  failed_count fault.Read h = not_counted (h (λ e. cc))
-  failed_count fault.Write h = not_counted (h (λ e. cc))
-  failed_count fault.Internal h = not_counted (h (λ e. cc))
-
   -- nothing was written
   pub ahead_failed : (result : Result (Unit {0}) Fault) (e : Fault) → result ≡ Err e → (e ≢ fault.Memory → FailsToCount objects one other e ⊎ FailsToCount objects other one e) → Serves objects old (Ahead one other) result old
-  ahead_failed result e same h = subst (λ (r : Result (Unit {0}) Fault). Serves objects old (Ahead one other) r old) (sym same) (failed_count e h)
+  ahead_failed result e same h = failed_so (λ r. Serves objects old (Ahead one other) r old) unserved result e same (λ other. not_counted (h other))
 
   -- the line was written, or the writer failed
   pub ahead_written : (new : Option (List ℕ)) (ahead behind : ℕ) (line : List ℕ) (result : Result (Unit {0}) Fault) → Counts objects one other ahead → Counts objects other one behind → line ≡ ahead_line ahead behind

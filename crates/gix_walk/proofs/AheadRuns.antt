@@ -1,4 +1,4 @@
--- What a run of `ahead` writes, told by what commits reach.
+-- What a run of `ahead` writes, by what commits reach.
 use Rattle.std.specs.Prelude.{◌≡◌, ℕ, suc, List, [], ◌∷◌, map, length, Option, Ok, Contains, ◌↔◌}
 use Rattle.std.specs.Io.KnownBytes.{Appends}
 use Rattle.std.proofs.Common.{refl, sym, ap, ◌∙◌}

@@ -1,4 +1,4 @@
--- What a run of `breadth`, `newest` or `oldest` writes, told by what commits reach.
+-- What a run of `breadth`, `newest` or `oldest` writes, by what commits reach.
 use Rattle.std.specs.Prelude.{◌≡◌, ℕ, List, [], ◌∷◌, ◌++◌, map, Option, Some, Result, Ok, Err}
 use Rattle.std.specs.Io.KnownBytes.{Appends}
 use Rattle.std.proofs.Common.{refl, sym, ap, subst, ◌∙◌}

@@ -1,4 +1,4 @@
--- The lines of what stands in a tree.
+-- The lines of the entries of a tree.
 use Rattle.std.specs.Prelude.{◌≡◌, ℕ, ◌-◌, ◌^◌, List, [], ◌∷◌, ◌++◌, false, Option, Some, Result, Ok, Err, IfSome, IfErr, OnOk}
 use Rattle.std.specs.Fmt.{digits, padded_integral, char_count, format_spec, ◌++?◌}
 use Rattle.std.specs.Io.KnownBytes.{Appends}
@@ -17,6 +17,7 @@ use Rattle.gix_walk.specs.Faults.{fault_of_tree_walk}
 use Rattle.gix_walk.specs.Files.{RecordsTree, six_octal_digits, file_line, AreLinesOf, IsTreeFault}
 use Rattle.gix_walk.specs.Run.{Serves, listed, not_listed, unserved, not_written}
 use Rattle.gix_walk.specs.Words.{Files}
+use Rattle.gix_walk.proofs.MemoryFaults.{failed_so}
 
 -- six places, filled up with zeros
 abbrev pub in_octal : ℕ → List ℕ
@@ -38,22 +39,9 @@ module _ (objects : Objects) (old : Option (List ℕ)) (tree : ObjectId) where
   walk_failed : (e : Fault) → (recorder : Tracked) × (why : Error) × RecordsTree objects tree recorder (Err why) × (e ≡ fault_of_tree_walk why) → Serves objects old (Files tree) (Err e) old
   walk_failed e h = subst (λ (f : Fault). Serves objects old (Files tree) (Err f) old) (sym h.3) (not_listed h.0 h.1 h.2)
 
-  failed : (e : Fault) → IsTreeFault objects tree e → Serves objects old (Files tree) (Err e) old
-  failed fault.Memory h = unserved
-  failed fault.Usage h = walk_failed _ (h (λ e. cc))
-  failed (fault.Id n) h = walk_failed _ (h (λ e. cc))
-  failed (fault.Record n) h = walk_failed _ (h (λ e. cc))
-  failed (fault.Missing i) h = walk_failed _ (h (λ e. cc))
-  failed (fault.WrongKind i) h = walk_failed _ (h (λ e. cc))
-  failed fault.Broken h = walk_failed _ (h (λ e. cc))
-  failed (fault.Cycle i) h = walk_failed _ (h (λ e. cc))
-  failed fault.Read h = walk_failed _ (h (λ e. cc))
-  failed fault.Write h = walk_failed _ (h (λ e. cc))
-  failed fault.Internal h = walk_failed _ (h (λ e. cc))
-
   -- nothing was written
   pub files_failed : (result : Result (Unit {0}) Fault) (e : Fault) → result ≡ Err e → IsTreeFault objects tree e → Serves objects old (Files tree) result old
-  files_failed result e same h = subst (λ (r : Result (Unit {0}) Fault). Serves objects old (Files tree) r old) (sym same) (failed e h)
+  files_failed result e same h = failed_so (λ r. Serves objects old (Files tree) r old) unserved result e same (λ other. walk_failed e (h other))
 
   -- the lines were written, or the writer failed
   pub files_written : (new : Option (List ℕ)) (lines : List ℕ) (result : Result (Unit {0}) Fault) → AreLinesOf objects tree lines → OnOk result (Appends old new lines) → IfErr result (λ e. e ≡ fault.Write) → Serves objects old (Files tree) result new

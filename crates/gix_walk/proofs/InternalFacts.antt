@@ -23,7 +23,7 @@ use Rattle.gix_walk.specs.declared.fault.Fault.TheVariants as fault
 use Rattle.gix_walk.specs.Faults.{fault_of_find, fault_of_walk}
 use Rattle.gix_walk.specs.Walked.{Walk, FailsAtStart, Answers, objects_of, never_faulty, accepts_all}
 
--- an answer that tells of no failing store
+-- an answer that reports no failing store
 abbrev pub IsSound : Option (Result Info Error) → Type 0
 IsSound None = Unit {0}
 IsSound (Some (Ok info)) = Unit {0}
@@ -86,7 +86,7 @@ history_sound : (objects : Objects) (rows : List GraphRow) (tips hidden_tips : L
 history_sound objects rows tips hidden_tips (hidden_by.Find e) h = find_sound objects h.id object.Commit e h.fault
 history_sound objects rows tips hidden_tips (hidden_by.ObjectDecode e) h = λ e. cc
 
--- no answer of a walk tells of a failing store
+-- no answer of a walk reports a failing store
 pub next_sound : {old : Walk} {answer : Option (Result Info Error)} {new : Walk} → Answers old answer new → IsSound answer
 next_sound (unhidden h s) = steps_sound s
 next_sound (paints p t m s) = steps_sound s

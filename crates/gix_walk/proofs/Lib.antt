@@ -4,6 +4,7 @@ mod HexFacts
 mod DecimalFacts
 mod WordFacts
 mod WordFaults
+mod MemoryFaults
 mod OutputFacts
 mod InternalFacts
 mod TreeFacts

@@ -110,7 +110,7 @@ follow_all old records lines (call ∷ calls) new h =
     let rest : (more : List Record) × Run Tracks (tracking h.0.recorder one.0) calls (tracking new.recorder more) × (new.lines ≡ file_lines more) = follow_all h.0 one.0 one.2 calls new h.2 in
     (rest.0, (tracking h.0.recorder one.0, one.1, rest.1), rest.2)
 
--- what a walk made of a lister tells what it makes of a recorder
+-- what a walk made of a lister says what it makes of a recorder
 pub recorded_so : (objects : Objects) (tree : ObjectId) (new : Listed) (answer : Result (Unit {0}) Error) → DepthFirst objects (never_faulty objects) Lists tree fresh_lister new answer
     → (recorder : Tracked) × RecordsTree objects tree recorder answer × (new.lines ≡ file_lines recorder.held.records)
 recorded_so objects tree new answer walk =

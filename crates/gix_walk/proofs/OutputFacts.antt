@@ -1,4 +1,4 @@
--- The lines that wait, and those that were written.
+-- Lines that are buffered, and lines that were written.
 use Rattle.std.specs.Prelude.{◌≡◌, ℕ, List, [], ◌∷◌, ◌++◌, Option, Some, None, Result, Ok, Err, ◌⊎◌}
 use Rattle.std.specs.Io.KnownBytes.{Appends, Keeps}
 use Rattle.std.specs.Iterator.{Yields}
@@ -38,7 +38,7 @@ grows_more a b c x y z p q h k = (
   sym (append_assoc x p q) ∙ ap (λ w. w ++ q) h.2 ∙ append_assoc h.0 y q ∙ ap (λ w. h.0 ++ w) k.2 ∙ sym (append_assoc h.0 k.0 z),
 )
 
--- all that waits is written
+-- all that is buffered is written
 pub grows_end : (old mid new : Option (List ℕ)) (waits bytes : List ℕ) → Grows old [] mid waits bytes → Appends mid new waits → Appends old new bytes
 grows_end old mid new waits bytes h k = subst (Appends old new) (sym h.2) (appends_more old mid new h.0 waits h.1 k)
 
@@ -91,7 +91,7 @@ module _ {W E : Type 0} where
         grows = grows;
       }
 
-      -- what waits was written
+      -- what was buffered was written
       pub all_written : (walk : W) (old mid new : Option (List ℕ)) (waiting waits : List ℕ) (answer : Result (Unit {0}) Fault) → Adds Steps Tells walk old waiting answer mid waits → waiting ≡ [] → Appends mid new waits → WritesAll Steps Tells walk old answer new
       all_written walk old mid new waiting waits answer h none k = record {
         infos = h.infos;

@@ -1,20 +1,24 @@
 -- Records read from the left, and the grammar of records.
-use Rattle.std.specs.Prelude.{ℕ, suc, ◌≡◌, ◌≢◌, ◌≤◌, ◌<◌, ◌+◌, ◌==◌, List, [], ◌∷◌, ◌++◌, Bool, true, false, length, take, drop, Option, Some, None, Result, Ok, Err, codes}
+use Rattle.std.specs.Prelude.{ℕ, suc, ◌≡◌, ◌≢◌, ◌≤◌, ◌<◌, ◌+◌, ◌-◌, ◌==◌, List, [], ◌∷◌, ◌++◌, Bool, true, false, length, take, drop, Option, Some, None, Result, Ok, Err, codes}
 use Rattle.std.specs.List.{AllByRecursion}
 use Rattle.std.specs.Result.{result_ok}
 use Rattle.std.specs.Str.{bytes_eq}
 use Rattle.std.specs.FinMap as map_of
+use Rattle.std.specs.FinMap.{FinMap}
 use Rattle.std.proofs.Common.{cond, refl, sym, ap, subst, ◌∙◌, arith, length-append}
 use Rattle.std.proofs.lemmas.Bool.{eqb-true}
 use Rattle.std.proofs.lemmas.Option.{some_pair_parts, same_Some, none-some}
-use Rattle.std.proofs.lemmas.List.{take_at, drop_at, take-append-drop, length-take-le, length-drop}
+use Rattle.std.proofs.lemmas.List.{append_assoc, take_at, drop_at, take-append-drop, length-take-le, length-drop}
 use Rattle.std.proofs.lemmas.Slice.Eq.{bytes_eq-Decides}
 use Rattle.gix_parts.specs.declared.hash.ObjectId.{ObjectId}
 use Rattle.gix_parts.specs.declared.hash.HexError.{HexError}
 use Rattle.gix_parts.specs.declared.object.Kind.{Kind}
 use Rattle.gix_parts.specs.declared.object.Kind.TheVariants as kind
-use Rattle.gix_parts.specs.Id.{id_from_hex}
+use Rattle.gix_parts.specs.declared.object.memory.Stored.{Stored}
+use Rattle.gix_parts.specs.Id.{id_cmp, id_from_hex}
+use Rattle.gix_parts.specs.MemoryStore.{objects_at}
 use Rattle.gix_parts.specs.Object.{Objects}
+use Rattle.gix_parts.proofs.MemoryStore.{object_put}
 use Rattle.gix_walk.specs.Decimal.{decimal}
 use Rattle.gix_walk.specs.Records.{Record, kind_word, IsRecord, BeginsWith, AreRecords, IsBadRecord, put_in, stored}
 use Rattle.gix_walk.specs.RecordFront.{split_at_byte, kind_named, behind_newline, body_at, record_at, ◌>>=◌}
@@ -131,10 +135,23 @@ put_in_last : (objects : Objects) (records : List Record) (r : Record) → put_i
 put_in_last objects [] r = refl
 put_in_last objects (q ∷ records) r = put_in_last (map_of.insert objects q.id (record { kind = q.kind; bytes = q.bytes })) records r
 
+-- a record is its front, its bytes and a newline
+record_parts : (r : Record) (text behind : List ℕ) → IsRecord r text behind → (front : List ℕ) × (text ≡ front ++ (r.bytes ++ 10 ∷ behind))
+record_parts r text behind h = (kind_word r.kind ++ 32 ∷ (h.id_digits ++ 32 ∷ (h.length_digits ++ 10 ∷ [])), h.whole ∙ sym (simp append_assoc))
+
+-- the rest after records is the end of the text
+begins_before : (records : List Record) (text rest : List ℕ) → BeginsWith records text rest → (front : List ℕ) × (text ≡ front ++ rest)
+begins_before [] text rest e = ([], e)
+begins_before (r ∷ records) text rest h =
+    let one = record_parts r text h.0 h.1 in
+    let more = begins_before records h.0 rest h.2 in
+    (one.0 ++ (r.bytes ++ 10 ∷ more.0), one.1 ∙ ap (λ x. one.0 ++ (r.bytes ++ 10 ∷ x)) more.1 ∙ sym (simp append_assoc))
+
 -- a record takes some bytes
 record_takes : (r : Record) (text behind : List ℕ) → IsRecord r text behind → length behind < length text
 record_takes r text behind h =
-    omega (arith, ap length h.whole, length-append (kind_word r.kind) (32 ∷ (h.id_digits ++ 32 ∷ (h.length_digits ++ 10 ∷ (r.bytes ++ 10 ∷ behind)))), length-append h.id_digits (32 ∷ (h.length_digits ++ 10 ∷ (r.bytes ++ 10 ∷ behind))), length-append h.length_digits (10 ∷ (r.bytes ++ 10 ∷ behind)), length-append r.bytes (10 ∷ behind))
+    let parts = record_parts r text behind h in
+    omega (arith, ap length parts.1, length-append parts.0 (r.bytes ++ 10 ∷ behind), length-append r.bytes (10 ∷ behind))
 
 pub found_takes : (text : List ℕ) (r : Record × List ℕ) → record_at text ≡ Some r → length r.1 < length text
 found_takes text r e = record_takes r.0 text r.1 (record_found text r e)
@@ -142,7 +159,7 @@ found_takes text r e = record_takes r.0 text r.1 (record_found text r e)
 pub stored_none : (text : List ℕ) (objects : Objects) → objects ≡ map_of.empty → HasStored text text 1 objects
 stored_none text objects e = record { before = []; begins = refl; count = refl; same = e }
 
-pub stored_one : (text rest : List ℕ) (number : ℕ) (objects : Objects) (r : Record × List ℕ) (new : Objects) → HasStored text rest number objects → record_at rest ≡ Some r
+stored_one : (text rest : List ℕ) (number : ℕ) (objects : Objects) (r : Record × List ℕ) (new : Objects) → HasStored text rest number objects → record_at rest ≡ Some r
     → new ≡ map_of.insert objects r.0.id (record { kind = r.0.kind; bytes = r.0.bytes }) → HasStored text r.1 (number + 1) new
 stored_one text rest number objects r new h e put = record {
   before = h.before ++ r.0 ∷ [];
@@ -150,6 +167,26 @@ stored_one text rest number objects r new h e put = record {
   count = omega (arith, h.count, length-append h.before (r.0 ∷ []));
   same = put ∙ ap (λ (m : Objects). map_of.insert m r.0.id (record { kind = r.0.kind; bytes = r.0.bytes })) h.same ∙ sym (put_in_last map_of.empty h.before r.0);
 }
+
+-- the place of the bytes of the record that comes next
+module _ (text rest : List ℕ) (number : ℕ) (places : FinMap id_cmp Stored) (r : Record × List ℕ) (h : HasStored text rest number (objects_at text places)) (found : record_at rest ≡ Some r) where
+  bytes_before : (front : List ℕ) × (text ≡ front ++ (r.0.bytes ++ 10 ∷ r.1))
+  bytes_before =
+      let before = begins_before h.before text rest h.begins in
+      let one = record_parts r.0 rest r.1 (record_found rest r found) in
+      (before.0 ++ one.0, before.1 ∙ ap (λ x. before.0 ++ x) one.1 ∙ sym (append_assoc before.0 one.0 (r.0.bytes ++ 10 ∷ r.1)))
+
+  pub bytes_fit : length r.0.bytes + 1 + length r.1 ≤ length text
+  bytes_fit = let p = bytes_before in omega (arith, ap length p.1, length-append p.0 (r.0.bytes ++ 10 ∷ r.1), length-append r.0.bytes (10 ∷ r.1))
+
+  pub placed_one : (start end : ℕ) → start + length r.0.bytes ≡ end → end + 1 + length r.1 ≡ length text → HasStored text r.1 (number + 1) (objects_at text (map_of.insert places r.0.id (record { kind = r.0.kind; start = start; end = end })))
+  placed_one start end low high =
+      let p = bytes_before in
+      let from : length p.0 ≡ start = omega (arith, low, high, ap length p.1, length-append p.0 (r.0.bytes ++ 10 ∷ r.1), length-append r.0.bytes (10 ∷ r.1)) in
+      let count : length r.0.bytes ≡ end - start = omega (arith, low) in
+      let bytes : take (end - start) (drop start text) ≡ r.0.bytes = ap (λ x. take (end - start) (drop start x)) p.1 ∙ ap (take (end - start)) (drop_at p.0 (r.0.bytes ++ 10 ∷ r.1) start from) ∙ take_at r.0.bytes (10 ∷ r.1) (end - start) count in
+      stored_one text rest number (objects_at text places) r _ h found
+      (object_put text places r.0.id (record { kind = r.0.kind; start = start; end = end }) ∙ ap (λ x. map_of.insert (objects_at text places) r.0.id (record { kind = r.0.kind; bytes = x })) bytes)
 
 pub stored_all : (text : List ℕ) (number : ℕ) (objects : Objects) (rest : List ℕ) → HasStored text rest number objects → rest ≡ [] → (records : List Record) × AreRecords records text × (objects ≡ stored records)
 stored_all text number objects rest h e = (h.before, subst (BeginsWith h.before text) e h.begins, h.same)

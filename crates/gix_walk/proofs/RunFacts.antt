@@ -22,6 +22,7 @@ use Rattle.gix_walk.specs.Run.{Serves, walked, not_walked, walked_down, not_buil
 use Rattle.gix_walk.specs.TopoWalked as topo
 use Rattle.gix_walk.specs.Walked.{Walk, Answers, IsWalkFault, StartsFrom, FailsAtStart, IsStartFault, Ends, finished, failed, cut_short}
 use Rattle.gix_walk.specs.Words.{Request, Commits, request_of}
+use Rattle.gix_walk.proofs.MemoryFaults.{failed_so}
 use Rattle.gix_walk.proofs.RecordFacts.{no_bad_record}
 use Rattle.gix_walk.proofs.InternalFacts.{IsSound, next_sound, start_sound}
 use Rattle.gix_walk.proofs.TopoInternalFacts.{drawn_sound, built_rowless, build_sound, topo_unnumbered}
@@ -93,7 +94,7 @@ serves_unnumbered n not_written = λ e. cc
 told_same : (bytes input : List ℕ) (has : Option (List ℕ)) → has ≡ Some bytes → Tells has input → input ≡ bytes
 told_same bytes input has is h = subst (λ (o : Option (List ℕ)). Tells o input) is h
 
--- where the reader has records, none is told to be bad
+-- where the reader has records, none is reported as bad
 pub runs_spelled : {words : List (List ℕ)} {has old : Option (List ℕ)} {answer : Result (Unit {0}) Fault} {new : Option (List ℕ)} → Runs words has old answer new
     → (bytes : List ℕ) (records : List Record) (n : ℕ) → has ≡ Some bytes → AreRecords records bytes → answer ≢ Err (fault.Record n)
 runs_spelled without_memory bytes records n is are = λ e. cc
@@ -103,22 +104,9 @@ runs_spelled {words} {has} (bad_record request input m t h b) bytes records n is
 runs_spelled (served request input read t h r s) bytes records n is are = serves_unnumbered n s
 
 module _ (words : List (List ℕ)) (has old : Option (List ℕ)) where
-  of_words : (e : Fault) → (e ≢ fault.Memory → request_of words ≡ Err e) → Runs words has old (Err e) old
-  of_words fault.Memory h = without_memory
-  of_words fault.Usage h = no_command (h (λ e. cc))
-  of_words (fault.Id n) h = no_command (h (λ e. cc))
-  of_words (fault.Record n) h = no_command (h (λ e. cc))
-  of_words (fault.Missing i) h = no_command (h (λ e. cc))
-  of_words (fault.WrongKind i) h = no_command (h (λ e. cc))
-  of_words fault.Broken h = no_command (h (λ e. cc))
-  of_words (fault.Cycle i) h = no_command (h (λ e. cc))
-  of_words fault.Read h = no_command (h (λ e. cc))
-  of_words fault.Write h = no_command (h (λ e. cc))
-  of_words fault.Internal h = no_command (h (λ e. cc))
-
   -- the words were no command
   pub runs_words : (result : Result (Unit {0}) Fault) (e : Fault) → result ≡ Err e → (e ≢ fault.Memory → request_of words ≡ Err e) → Runs words has old result old
-  runs_words result e same h = subst (λ (r : Result (Unit {0}) Fault). Runs words has old r old) (sym same) (of_words e h)
+  runs_words result e same h = failed_so (λ r. Runs words has old r old) without_memory result e same (λ other. no_command (h other))
 
   -- the input wasn't read
   pub runs_input : (request : Request) (result : Result (Unit {0}) Fault) (e : Fault) → request_of words ≡ Ok request → result ≡ Err e → (e ≡ fault.Read) ⊎ (e ≡ fault.Memory) → Runs words has old result old
@@ -155,22 +143,6 @@ module _ (objects : Objects) (old : Option (List ℕ)) (order : Order) (tips hid
     serves_drawn (Err fault.Read) w = serves _ (w (λ e. cc))
     serves_drawn (Err fault.Internal) w = serves _ (w (λ e. cc))
 
-  failed_start : (e : Fault) → (e ≢ fault.Memory → Serves objects old (Commits order tips hidden) (Err e) old) → Serves objects old (Commits order tips hidden) (Err e) old
-  failed_start fault.Memory h = unserved
-  failed_start fault.Usage h = h (λ e. cc)
-  failed_start (fault.Id n) h = h (λ e. cc)
-  failed_start (fault.Record n) h = h (λ e. cc)
-  failed_start (fault.Missing i) h = h (λ e. cc)
-  failed_start (fault.WrongKind i) h = h (λ e. cc)
-  failed_start fault.Broken h = h (λ e. cc)
-  failed_start (fault.Cycle i) h = h (λ e. cc)
-  failed_start fault.Read h = h (λ e. cc)
-  failed_start fault.Write h = h (λ e. cc)
-  failed_start fault.Internal h = h (λ e. cc)
-
-  serves_failed : (result : Result (Unit {0}) Fault) (e : Fault) → result ≡ Err e → (e ≢ fault.Memory → Serves objects old (Commits order tips hidden) (Err e) old) → Serves objects old (Commits order tips hidden) result old
-  serves_failed result e same h = subst (λ (r : Result (Unit {0}) Fault). Serves objects old (Commits order tips hidden) r old) (sym same) (failed_start e h)
-
 module _ (objects : Objects) (old : Option (List ℕ)) (by : Sorting) (tips hidden : List ObjectId) where
   pub serves_walk : (new : Option (List ℕ)) (walk : Walk) → StartsFrom objects by tips hidden walk → (result : Result (Unit {0}) Fault) → (result ≢ Err fault.Write → WritesAll Answers IsWalkFault walk old result new) → Serves objects old (Commits (Simple by) tips hidden) result new
   serves_walk new walk starts = serves_drawn objects old (Simple by) tips hidden Answers IsWalkFault new walk (λ _ w. walked walk w.infos starts w.ends w.appends)
@@ -180,7 +152,7 @@ module _ (objects : Objects) (old : Option (List ℕ)) (by : Sorting) (tips hidd
 
   -- the walk couldn't start
   pub serves_no_walk : (result : Result (Unit {0}) Fault) (e : Fault) → result ≡ Err e → IsStartFault objects by tips e → Serves objects old (Commits (Simple by) tips hidden) result old
-  serves_no_walk result e same h = serves_failed objects old (Simple by) tips hidden result e same (λ other. not_started e (h other))
+  serves_no_walk result e same h = failed_so (λ r. Serves objects old (Commits (Simple by) tips hidden) r old) unserved result e same (λ other. not_started e (h other))
 
 module _ (objects : Objects) (old : Option (List ℕ)) (by : TopoSorting) (tips ends : List ObjectId) where
   pub serves_topo : (new : Option (List ℕ)) (walk : topo.Walk) → topo.IsBuiltFrom objects by tips ends (Ok walk) → (result : Result (Unit {0}) Fault) → (result ≢ Err fault.Write → WritesAll topo.Answers topo.IsWalkFault walk old result new) → Serves objects old (Commits (Topo by) tips ends) result new
@@ -191,4 +163,8 @@ module _ (objects : Objects) (old : Option (List ℕ)) (by : TopoSorting) (tips 
 
   -- the walk couldn't be built
   pub serves_no_topo : (result : Result (Unit {0}) Fault) (e : Fault) → result ≡ Err e → topo.IsStartFault objects by tips ends e → Serves objects old (Commits (Topo by) tips ends) result old
-  serves_no_topo result e same h = serves_failed objects old (Topo by) tips ends result e same (λ other. topo_not_built e (h other))
+  serves_no_topo result e same h = failed_so (λ r. Serves objects old (Commits (Topo by) tips ends) r old) unserved result e same (λ other. topo_not_built e (h other))
+
+-- words that are a command aren't rejected
+pub no_rejection : {command : Result Request Fault} {request : Request} {A : Type 0} → command ≡ Ok request → (e : Fault) → command ≡ Err e → A
+no_rejection is e rejected = let no : ◌≡◌ {A = Result Request Fault} (Ok _) (Err e) = sym is ∙ rejected in cc

@@ -1,4 +1,4 @@
--- A run that fails writes nothing, but for lists of commits.
+-- A run that fails writes nothing, except for lists of commits.
 use Rattle.std.specs.Prelude.{◌≡◌, ◌≢◌, ℕ, List, Option, Ok, Err}
 use Rattle.std.proofs.Common.{refl, ap, ◌∙◌}
 use Rattle.gix_parts.specs.declared.hash.ObjectId.{ObjectId}

@@ -84,7 +84,7 @@ module _ (objects : Objects) (tips hiders : List ObjectId) (whole : AreWhole obj
     met : (p : Pending) → Contains w.pending p → IsMet p.id
 
   no_find : (i : ObjectId) (e : ExistingError) → ReadsWhole objects (never_faulty objects) i → IsExistingFault objects (never_faulty objects) i object.Commit e → ⊥
-  no_find i e reads f = no_fault objects (never_faulty objects) i reads.commit e reads.stored f (λ is. subst (IsExistingFault objects (never_faulty objects) i object.Commit) is f)
+  no_find i e reads f = subst (IsExistingFault objects (never_faulty objects) i object.Commit) (no_fault objects (never_faulty objects) i reads.commit e reads.stored f) f
 
   no_fault_at : (i : ObjectId) (why : Hidden) → ReadsWhole objects (never_faulty objects) i → IsFaultAt objects (never_faulty objects) i why → ⊥
   no_fault_at i (hidden_by.Find e) reads f = no_find i e reads f

@@ -1,4 +1,4 @@
--- What a simple walk over records gives that is drawn to its end, told by what commits reach.
+-- What a simple walk over records gives that is drawn to its end, by what commits reach.
 use Rattle.std.specs.Prelude.{◌≡◌, ◌≢◌, ◌↔◌, ℤ, List, [], ◌∷◌, ◌++◌, map, filter, Bool, true, false, ◌&&◌, cond, Option, Some, None, Result, Ok, Err, Contains, All, IsSome, not}
 use Rattle.std.specs.Iterator.{Yields}
 use Rattle.std.specs.List.{AllZip}
@@ -69,7 +69,7 @@ whole_from objects i h = go (commit_at objects i) refl h
   where
     go : (o : Option Commit) → commit_at objects i ≡ o → IsSome o → ReadsWhole objects (never_faulty objects) i
     go None e n = absurd (false≢true n)
-    go (Some commit) e n = record { commit = commit; stored = e; sound = λ f. f }
+    go (Some commit) e n = record { commit = commit; stored = e }
 
 uncut_none : (by : Sorting) → IsUncut by → cutoff mode.All by ≡ None
 uncut_none sorting.BreadthFirst u = refl
@@ -220,7 +220,7 @@ module _ (objects : Objects) (by : Sorting) (tips hidden : List ObjectId) (walk 
           (subst (λ limit. Reaches (kept_parents objects mode.All (λ j. true) (λ j. false) limit) (ids_of walk.pending) i) (sym (uncut_none by uncut)) (through_all objects (ids_of walk.pending) i (reach_more (parents_of objects) tips (ids_of walk.pending) is_pending i s.0)))
           (false_from_ne_true (test.0 i) (λ e. s.1 ((test.1 i).0 e)))
 
-      -- and exactly what the tips reach and the hidden ones don't
+      -- and exactly what the tips reach and the hidden tips don't
       pub exact : (i : ObjectId) → Contains (map (λ info. info.id) infos) i ↔ IsShown objects tips hidden i
       exact i = (λ c. shown i ((each.1 i).0 (subst (λ xs. Contains xs i) ids_are c)), λ s. subst (λ xs. Contains xs i) (sym ids_are) ((each.1 i).1 (reached i s)))
 
@@ -231,7 +231,7 @@ module _ (objects : Objects) (by : Sorting) (tips hidden : List ObjectId) (walk 
       pub in_order : IsListedSo objects by tips hidden (map (λ info. info.id) infos)
       in_order = (test.0, test.1, transport (λ k. IsInOrder (time_order mode.All by) (time_of objects) (next_is k) (filter (λ i. not (test.0 i)) (pending k)) (sym ids_are k)) gave.in_order)
 
--- a walk from one tip beside one hidden tip that gave no fault has read all that both reach
+-- a walk from one tip, with one hidden tip, that gave no fault has read all that both reach
 pub all_read : (objects : Objects) (tip hider : ObjectId) (walk : Walk) → StartsFrom objects sorting.BreadthFirst (tip ∷ []) (hider ∷ []) walk → (infos : List Info) (at new : Walk) → Yields Answers walk (given infos) at → Answers at None new
     → (i : ObjectId) → Reaches (parents_of objects) ((tip ∷ []) ++ (hider ∷ [])) i → IsSome (commit_at objects i)
 all_read objects tip hider walk starts infos at new drawn ended i r = first infos drawn

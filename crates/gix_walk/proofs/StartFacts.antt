@@ -23,7 +23,7 @@ use Rattle.gix_walk.specs.Faults.{fault_of_walk, fault_of_topo_walk}
 use Rattle.gix_walk.specs.TopoWalked as topo
 use Rattle.gix_walk.specs.Walked.{Walk, objects_of, never_faulty, accepts_all, IsMadeOf, IsSorted, IsStartFault}
 
--- the ids that came of a vector are those that it held
+-- the ids that came out of a vector are the ids that it held
 pub drained : {Z : Type 0} (tips ids : List ObjectId) (it : IntoIter ObjectId Z) → into_iter_items it ≡ tips → into_iter_len it ≡ length tips → Drains into_iter_steps it ids → ids ≡ tips
 drained tips ids it items len d = sym (map-id ids) ∙ items_from_drains ids (d.1.0, d.1.1, λ _. (d.0, d.1.2)) (YieldsList-from_vec tips items len)
 
@@ -36,7 +36,7 @@ is_sorted made sorted sorting.BreadthFirst plain timed = ok_same (plain refl)
 is_sorted made sorted (sorting.ByCommitTime order) plain timed = timed (λ e. cc)
 is_sorted made sorted (sorting.ByCommitTimeCutoff order seconds) plain timed = timed (λ e. cc)
 
--- the time of a tip couldn't be read, or memory was wanting
+-- the time of a tip couldn't be read, or memory ran out
 pub start_failed : (objects : Objects) (by : Sorting) (tips : List ObjectId) (made : Walk) → IsMadeOf objects tips made → (why : Error) (result : Result Walk Fault) (e : Fault) → result ≡ Err e → e ≡ fault_of_walk why
     → (by ≡ sorting.BreadthFirst → ◌≡◌ {A = Result Walk Error} (Err why) (Ok (record made { sorting = by }))) → (why ≢ error.Memory → FailsAtTip made.store (never_faulty made.store) made.pending why) → IfErr result (IsStartFault objects by tips)
 start_failed objects by tips made makes why result e same is plain h =
@@ -46,11 +46,11 @@ start_failed objects by tips made makes why result e same is plain h =
 abbrev Builder : Type 0
 Builder = TopoBuilder Objects Unfiltered
 
-abbrev beside_tips : Builder → List ObjectId → Builder
-beside_tips b ids = record b { plan = record b.plan { tips = b.plan.tips ++ ids } }
+abbrev with_more_tips : Builder → List ObjectId → Builder
+with_more_tips b ids = record b { plan = record b.plan { tips = b.plan.tips ++ ids } }
 
-abbrev beside_ends : Builder → List ObjectId → Builder
-beside_ends b ids = record b { plan = record b.plan { ends = b.plan.ends ++ ids } }
+abbrev with_more_ends : Builder → List ObjectId → Builder
+with_more_ends b ids = record b { plan = record b.plan { ends = b.plan.ends ++ ids } }
 
 abbrev in_order : TopoSorting → Builder → Builder
 in_order by b = record b { plan = record b.plan { sorting = by } }
@@ -63,7 +63,7 @@ pub chosen : (objects : Objects) (by : TopoSorting) (tips ends those others : Li
     → fresh ≡ fresh_builder objects (record {}) [] → from_tips ≡ record fresh { plan = record fresh.plan { tips = fresh.plan.tips ++ those } } → those ≡ tips
     → builder ≡ record from_tips { plan = record from_tips.plan { ends = from_tips.plan.ends ++ others } } → others ≡ ends → sorted ≡ record builder { plan = record builder.plan { sorting = by } } → sorted ≡ builder_from objects by tips ends
 chosen objects by tips ends those others fresh from_tips builder sorted f t those_are e others_are s =
-    s ∙ ap (in_order by) (e ∙ ap (beside_ends from_tips) others_are ∙ ap (λ b. beside_ends b ends) (t ∙ ap (beside_tips fresh) those_are ∙ ap (λ b. beside_tips b tips) f))
+    s ∙ ap (in_order by) (e ∙ ap (with_more_ends from_tips) others_are ∙ ap (λ b. with_more_ends b ends) (t ∙ ap (with_more_tips fresh) those_are ∙ ap (λ b. with_more_tips b tips) f))
 
 module _ (objects : Objects) (by : TopoSorting) (tips ends : List ObjectId) (builder : Builder) (same : builder ≡ builder_from objects by tips ends) where
   pub built_from : (answer : Result topo.Walk TopoError) → Built objects_of never_faulty accepts_all builder answer → topo.IsBuiltFrom objects by tips ends answer

@@ -18,7 +18,7 @@ use Rattle.gix_walk.specs.Walked.{objects_of, never_faulty}
 use Rattle.gix_walk.proofs.InternalFacts.{find_sound}
 use Rattle.gix_walk.proofs.TreeFacts.{find_unnumbered}
 
--- an answer that tells of no failing store and of nothing that is missing
+-- an answer that reports no failing store and nothing that is missing
 abbrev IsSound : Option (Result Info Error) → Type 0
 IsSound None = Unit {0}
 IsSound (Some (Ok info)) = Unit {0}

@@ -1,5 +1,5 @@
--- What a run of `topo` or `date` writes, told by what commits reach.
-use Rattle.std.specs.Prelude.{◌≡◌, ◌≢◌, ℕ, List, [], ◌∷◌, ◌++◌, map, filter, true, Option, Some, None, Result, Ok, Err, All}
+-- What a run of `topo` or `date` writes, by what commits reach.
+use Rattle.std.specs.Prelude.{◌≡◌, ℕ, List, [], ◌∷◌, ◌++◌, map, filter, true, Option, Some, None, Result, Ok, Err, All}
 use Rattle.std.specs.Io.KnownBytes.{Appends}
 use Rattle.std.specs.Iterator.{Yields}
 use Rattle.std.specs.List.{AllZip}
@@ -7,6 +7,9 @@ use Rattle.std.proofs.Common.{refl, sym, ap, subst, ◌∙◌}
 use Rattle.std.proofs.lemmas.List.Elements.{All-nil, All-cons, Contains-append_left, Contains-append_right}
 use Rattle.std.specs.FinSet as set
 use Rattle.gix_parts.specs.declared.hash.ObjectId.{ObjectId}
+use Rattle.gix_parts.specs.declared.object.Kind.TheVariants as object
+use Rattle.gix_parts.specs.declared.object.find.existing_iter.Error.TheVariants as existing
+use Rattle.gix_parts.specs.Find.{IsExistingFault}
 use Rattle.gix_parts.specs.Id.{id_cmp}
 use Rattle.gix_parts.specs.Object.{Objects}
 use Rattle.gix_traverse.specs.declared.commit.Info.{Info}
@@ -15,7 +18,7 @@ use Rattle.gix_traverse.specs.declared.commit.topo.Error.TheVariants as error
 use Rattle.gix_traverse.specs.declared.commit.topo.Sorting.{Sorting}
 use Rattle.gix_traverse.specs.History.Commits.{parents_of}
 use Rattle.gix_traverse.specs.History.Reach.{step}
-use Rattle.gix_traverse.specs.Topo.Laws.{IsTakenInOrder, IsGiven, IsWholeRun, GivesInOrder}
+use Rattle.gix_traverse.specs.Topo.Laws.{IsNoRefusal, IsTakenInOrder, IsGiven, IsWholeRun, GivesInOrder}
 use Rattle.gix_traverse.specs.Topo.Walk.{TopoPlan, IsFault, IsFirstReady, IsNextReady, IsSound, May, ended, given, refused, failed}
 use Rattle.gix_traverse.proofs.Shared.Rows.{none_agree}
 use Rattle.gix_traverse.proofs.Topo.Run.Corollaries.{once}
@@ -36,9 +39,9 @@ may_from : (walk at new : Walk) (list : List (Result Info Error)) → Yields Ans
 may_from walk at new [] h n = (new, subst (λ w. Answers w None new) (sym h) n)
 may_from walk at new (answer ∷ list) h n = (h.0, h.1, may_from h.0 at new list h.2 n)
 
-unrefused : (infos : List Info) → All (λ answer. answer ≢ Err error.Memory) (all_given infos)
-unrefused [] = All-nil (λ answer. answer ≢ Err error.Memory)
-unrefused (info ∷ infos) = All-cons (λ answer. answer ≢ Err error.Memory) (Ok info) (all_given infos) (λ e. cc) (unrefused infos)
+unrefused : (infos : List Info) → All IsNoRefusal (all_given infos)
+unrefused [] = All-nil IsNoRefusal
+unrefused (info ∷ infos) = All-cons IsNoRefusal (Ok info) (all_given infos) ((λ e. cc), (λ e. cc)) (unrefused infos)
 
 same_ids : (plan : TopoPlan Objects) (infos : List Info) (ids : List ObjectId) → AllZip (IsGiven objects_of plan) (all_given infos) (filter (λ i. true) ids) → map (λ info. info.id) infos ≡ ids
 same_ids plan [] [] h = refl
@@ -78,12 +81,15 @@ module _ (objects : Objects) (by : Sorting) (tips ends : List ObjectId) (whole :
     ends_whole = λ i r. whole_from objects i (whole i (reach_more (parents_of objects) ends (tips ++ ends) (λ j c. Contains-append_right tips ends j c) i r));
   }
 
-  -- over whole commits no fault comes but for memory
+  -- over whole commits the only fault is out of memory
   outside : (BecomesReady : ObjectId → Type 0) (e : Error) → IsFault objects_of never_faulty (plan_from objects by tips ends) BecomesReady e → IsOutside (fault_of_topo_walk e)
   outside Q error.MissingIndegreeUnexpected h = absurd (h (none_agree objects (never_faulty objects) [] refl))
   outside Q error.MissingStateUnexpected h = absurd h
-  outside Q (error.ObjectDecode e) h = absurd (h.2.1 sound)
-  outside Q (error.Find e) h = absurd (h.2.1 sound)
+  outside Q (error.ObjectDecode e) h = let same : error.ObjectDecode e ≡ error.Find existing.Store = h.2.1 sound in cc
+  outside Q (error.Find e) h =
+      let same : error.Find e ≡ error.Find existing.Store = h.2.1 sound in
+      let store : e ≡ existing.Store = cc in
+      absurd (subst (IsExistingFault objects (never_faulty objects) h.0 object.Commit) store h.1)
   outside Q error.Memory h = tt
 
   module _ (walk : Walk) (built : IsBuiltFrom objects by tips ends (Ok walk)) where

@@ -19,7 +19,7 @@ use Rattle.gix_walk.specs.Files.{RecordsTree}
 use Rattle.gix_walk.specs.Walked.{never_faulty}
 use Rattle.gix_walk.proofs.InternalFacts.{find_sound}
 
--- an ending that tells of no failing store and of no delegate that broke the walk off
+-- an ending that reports no failing store and no delegate that broke the walk off
 abbrev IsSound : Ending → Type 0
 IsSound Whole = Unit {0}
 IsSound Broken = Unit {0}

@@ -5,7 +5,7 @@ use Rattle.gix_parts.specs.declared.hash.ObjectId.{ObjectId}
 use Rattle.gix_walk.specs.declared.fault.Fault.{Fault}
 use Rattle.gix_walk.specs.Words.{Ids, with_word}
 
--- ids behind others
+-- ids after others
 abbrev pub behind : Ids → Result Ids Fault → Result Ids Fault
 behind front (Ok ids) = Ok (front.0 ++ ids.0, front.1 ++ ids.1)
 behind front (Err e) = Err e

@@ -1,4 +1,4 @@
--- What stands in a tree and in the trees in it, and the lines that it is written as.
+-- The entries of a tree and of the trees in it, and the lines that they are written as.
 use Rattle.std.specs.Prelude.{◌≡◌, ◌≢◌, ℕ, ◌-◌, List, [], ◌∷◌, ◌++◌, length, replicate, false, Result, Ok, Err}
 use Rattle.std.specs.Fmt.{digits}
 use Rattle.std.specs.List.{flat_map}
@@ -30,7 +30,7 @@ file_line r = six_octal_digits r.mode ++ 32 ∷ (hex_of r.id ++ 32 ∷ (r.path +
 abbrev pub file_lines : List Record → List ℕ
 file_lines records = flat_map file_line records
 
--- these are the lines of what stands in a tree
+-- these are the lines of the entries of a tree and of the trees in it
 abbrev pub AreLinesOf : Objects → ObjectId → List ℕ → Type 0
 AreLinesOf objects tree lines = (recorder : Tracked) × RecordsTree objects tree recorder (Ok tt) × (lines ≡ file_lines recorder.held.records)
 

@@ -1,4 +1,4 @@
--- What a run writes of a history, told by what commits reach alone.
+-- What a run writes of a history, by what commits reach alone.
 use Rattle.std.specs.Prelude.{◌≡◌, ◌≢◌, ◌↔◌, ℕ, List, [], ◌∷◌, ◌++◌, map, filter, Bool, false, not, Contains, Option, Some, Result, Ok, Err, IsSome}
 use Rattle.std.specs.Io.KnownBytes.{Appends}
 use Rattle.std.specs.List.{flat_map}
@@ -25,7 +25,7 @@ use Rattle.gix_walk.specs.Run.{Runs}
 use Rattle.gix_walk.specs.Walked.{line_of}
 use Rattle.gix_walk.specs.Words.{Ahead, Commits, request_of}
 
--- the tips reach the commit, and the hidden ones don't
+-- the tips reach the commit, and the hidden tips don't
 abbrev pub IsShown : Objects → List ObjectId → List ObjectId → ObjectId → Type 0
 IsShown objects tips hidden i = Reaches (parents_of objects) tips i × (Reaches (parents_of objects) hidden i → ⊥)
 
@@ -39,7 +39,7 @@ IsListedSo objects by tips hidden ids =
     (hides : ObjectId → Bool) × Tells hides (Reaches (parents_of objects) hidden)
     × IsInOrder (time_order mode.All by) (time_of objects) (λ c. filter (λ i. not (hides i)) (parents_of objects c)) (filter (λ i. not (hides i)) (new_ids (λ i. false) tips)) ids
 
--- each id is there once, and exactly those that the tips reach and the hidden ones don't, in the order that was asked for
+-- each commit that the tips reach and the hidden tips don't is there once, and no other, in the order that was asked for
 pub record Lists (objects : Objects) (by : Sorting) (tips hidden ids : List ObjectId) : Type 0 where
   pub once : AreDistinct ids
   pub exact : (i : ObjectId) → Contains ids i ↔ IsShown objects tips hidden i
@@ -57,8 +57,8 @@ SimpleLists =
     request_of words ≡ Ok (Commits (Simple by) tips hidden) → AreRecords records input → AreWhole (stored records) (tips ++ hidden) → Runs words (Some input) old (Ok tt) new →
     (ids : List ObjectId) × Lists (stored records) by tips hidden ids × Appends old new (lines_of_ids ids)
 
--- Each id is there once, none but those that the tips reach and the ends don't, and where no commit is its own ancestor all of them, in
--- the order that was asked for.
+-- No id is there twice, and each is one that the tips reach and the ends don't. Where no commit is its own ancestor, all of these are
+-- there. They are in the order that was asked for.
 pub record ListsDown (objects : Objects) (by : TopoSorting) (tips ends ids : List ObjectId) : Type 0 where
   pub once : AreDistinct ids
   pub shown : (i : ObjectId) → Contains ids i → IsShown objects tips ends i

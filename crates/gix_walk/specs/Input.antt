@@ -2,7 +2,7 @@
 use Rattle.std.specs.Prelude.{◌≡◌, ℕ, List, ◌++◌, Option, Some, None, ⊤}
 use Rattle.std.specs.Io.KnownBytes.{Consumes}
 
--- the bytes that a reader has are these, where it tells
+-- the bytes that a reader has are these, where they are known
 abbrev pub Tells : Option (List ℕ) → List ℕ → Type 0
 Tells None input = ⊤
 Tells (Some bytes) input = input ≡ bytes

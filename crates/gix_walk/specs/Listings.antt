@@ -1,4 +1,4 @@
--- What a run writes of a tree, told by its entries and the trees in it.
+-- What a run writes of a tree, by its entries and the trees in it.
 use Rattle.std.specs.Prelude.{◌≡◌, ℕ, List, [], ◌∷◌, map, true, false, Option, Some, Result, Ok}
 use Rattle.std.specs.declared.ops.ControlFlow.TheVariants.{Continue}
 use Rattle.std.specs.Io.KnownBytes.{Appends}
@@ -26,14 +26,14 @@ pub record Unfolds (objects : Objects) (tree : ObjectId) (visits : List Visit) :
   pub all : AllByRecursion (λ v. v.answer ≡ Continue true) visits
 
 -- Over words that ask for it and records, a run of `files` that ends well writes a line for each entry of the tree and of the trees in
--- it, in preorder, with its path, where each name can stand in a path.
+-- it, in preorder, with its path, where each name can be a part of a path.
 abbrev pub FilesLists : Type 0
 FilesLists =
     (words : List (List ℕ)) (input : List ℕ) (records : List Record) (tree : ObjectId) (old new : Option (List ℕ)) →
     request_of words ≡ Ok (Files tree) → AreRecords records input → Runs words (Some input) old (Ok tt) new →
     (visits : List Visit) × Unfolds (stored records) tree visits × (HaveNames visits → Appends old new (file_lines (map record_of visits)))
 
--- Where each tree in it reads whole, and none is in itself, it ends well.
+-- Where each tree in it reads whole, and none is under itself, it ends well.
 abbrev pub FilesSucceeds : Type 0
 FilesSucceeds =
     (words : List (List ℕ)) (input : List ℕ) (records : List Record) (tree : ObjectId) (answer : Result (Unit {0}) Fault) (old new : Option (List ℕ)) →

@@ -13,7 +13,7 @@ abbrev pub with_byte : ℕ → Option (List ℕ × List ℕ) → Option (List �
 with_byte b None = None
 with_byte b (Some r) = Some (b ∷ r.0, r.1)
 
--- what stands before the first such byte, and behind it
+-- the text before the first such byte, and the text after it
 abbrev pub split_at_byte : ℕ → List ℕ → Option (List ℕ × List ℕ)
 split_at_byte byte [] = None
 split_at_byte byte (b ∷ bs) = if b == byte then Some ([], bs) else with_byte b (split_at_byte byte bs)
@@ -30,7 +30,7 @@ abbrev pub behind_newline : List ℕ → List ℕ → Option (List ℕ × List �
 behind_newline bytes [] = None
 behind_newline bytes (b ∷ rest) = if b == 10 then Some (bytes, rest) else None
 
--- n bytes, if a newline ends them, and what stands behind it
+-- n bytes, if a newline ends them, and the text after it
 abbrev pub body_at : ℕ → List ℕ → Option (List ℕ × List ℕ)
 body_at n text = behind_newline (take n text) (drop n text)
 
@@ -39,7 +39,7 @@ abbrev pub ◌>>=◌ : {A B : Type 0} → Option A → (A → Option B) → Opti
 None >>= f = None
 (Some x) >>= f = f x
 
--- the record, and what stands behind it
+-- the record, and the text after it
 unfoldable pub record_at : List ℕ → Option (Record × List ℕ)
 record_at text = do
   word ← split_at_byte 32 text
@@ -51,6 +51,6 @@ record_at text = do
   body ← body_at n length_digits.1
   Some (record { kind = kind; id = id; bytes = body.0 }, body.1)
 
--- a record that was found, and what stands behind it
+-- a record that was found, and the text after it
 abbrev pub front_shown : Front → Record × List ℕ
 front_shown front = (record { kind = front.kind; id = front.id; bytes = front.bytes.now }, front.behind.now)

@@ -22,7 +22,7 @@ kind_word kind.Blob = codes "blob"
 kind_word kind.Commit = codes "commit"
 kind_word kind.Tag = codes "tag"
 
--- at the front of a text stands this record, and behind it the rest
+-- this record is at the front of a text, and the rest comes after it
 pub record IsRecord (r : Record) (text rest : List ℕ) : Type 0 where
   pub id_digits : List ℕ
   pub length_digits : List ℕ
@@ -30,7 +30,7 @@ pub record IsRecord (r : Record) (text rest : List ℕ) : Type 0 where
   pub is_length : decimal length_digits ≡ Some (length r.bytes)
   pub whole : text ≡ kind_word r.kind ++ 32 ∷ (id_digits ++ 32 ∷ (length_digits ++ 10 ∷ (r.bytes ++ 10 ∷ rest)))
 
--- the text begins with these records, and behind them stands the rest
+-- the text begins with these records, and the rest comes after them
 abbrev pub BeginsWith : List Record → List ℕ → List ℕ → Type 0
 BeginsWith [] text rest = text ≡ rest
 BeginsWith (r ∷ records) text rest = (behind : List ℕ) × IsRecord r text behind × BeginsWith records behind rest
@@ -39,7 +39,7 @@ BeginsWith (r ∷ records) text rest = (behind : List ℕ) × IsRecord r text be
 abbrev pub AreRecords : List Record → List ℕ → Type 0
 AreRecords records text = BeginsWith records text []
 
--- the text has n - 1 records, and what stands behind them is neither the end nor begins with a record
+-- the text begins with n - 1 records, and the rest after them is neither empty nor begins with a record
 pub record IsBadRecord (n : ℕ) (text : List ℕ) : Type 0 where
   pub before : List Record
   pub rest : List ℕ
@@ -56,7 +56,7 @@ put_in objects (r ∷ records) = put_in (map_of.insert objects r.id (record { ki
 abbrev pub stored : List Record → Objects
 stored records = put_in map_of.empty records
 
--- why an input isn't stored: its first bad record, or that memory was wanting
+-- why an input isn't stored: it has a bad record, or memory ran out
 pub data IsRecordFault (text : List ℕ) : Fault → Type 0 where
   bad : {n : ℕ} → IsBadRecord n text → IsRecordFault text (fault.Record n)
   no_memory : IsRecordFault text fault.Memory

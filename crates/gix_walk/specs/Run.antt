@@ -22,8 +22,7 @@ use Rattle.gix_walk.specs.TopoWalked as topo
 use Rattle.gix_walk.specs.Walked.{Walk, Answers, IsWalkFault, StartsFrom, FailsAtStart, Ends, lines_of}
 use Rattle.gix_walk.specs.Words.{Request, Commits, Files, Ahead, request_of}
 
--- Over stored objects and a writer that held these bytes, what was asked for may have this answer and leave the writer with those
--- bytes.
+-- Over stored objects and a writer that has the bytes `old`: which answers a request may get, and which bytes the writer then has.
 pub data Serves (objects : Objects) (old : Option (List ℕ)) : Request → Result (Unit {0}) Fault → Option (List ℕ) → Type 0 where
   -- the lines of the commits before a fault are written
   walked : {by : Sorting} {tips hidden : List ObjectId} (walk : Walk) (infos : List Info) {answer : Result (Unit {0}) Fault} {new : Option (List ℕ)}
@@ -40,15 +39,15 @@ pub data Serves (objects : Objects) (old : Option (List ℕ)) : Request → Resu
       → Counts objects one other ahead → Counts objects other one behind → Appends old new (ahead_line ahead behind) → Serves objects old (Ahead one other) (Ok tt) new
   -- of two commits one of whose walks failed nothing is written
   not_counted : {one other : ObjectId} {e : Fault} → FailsToCount objects one other e ⊎ FailsToCount objects other one e → Serves objects old (Ahead one other) (Err e) old
-  -- memory was wanting before anything was written
+  -- memory ran out before anything was written
   unserved : {request : Request} → Serves objects old request (Err fault.Memory) old
   -- of what was written nothing is said
   not_written : {request : Request} {new : Option (List ℕ)} → Serves objects old request (Err fault.Write) new
 
--- Over these words, a reader that has these bytes and a writer that held these bytes, a run may give this answer and leave the writer
--- with those bytes.
+-- Over these words, a reader that has the bytes `has` and a writer that has the bytes `old`: which answers a run may give, and which bytes
+-- the writer then has.
 pub data Runs (words : List (List ℕ)) (has old : Option (List ℕ)) : Result (Unit {0}) Fault → Option (List ℕ) → Type 0 where
-  -- memory was wanting for the words or the input
+  -- memory ran out for the words or the input
   without_memory : Runs words has old (Err fault.Memory) old
   no_command : {e : Fault} → request_of words ≡ Err e → Runs words has old (Err e) old
   not_read : (request : Request) → request_of words ≡ Ok request → Runs words has old (Err fault.Read) old

@@ -69,8 +69,8 @@ IsStartFault objects by tips e = e ≢ fault.Memory → (why : Error) × FailsAt
 abbrev pub given : {E : Type 0} → List Info → List (Result Info E)
 given infos = map Ok infos
 
--- How a walk that gave these commits ended, whose steps and the meaning of whose faults are these: behind them it has no more, its next
--- answer is a fault, or memory was wanting.
+-- How a walk ended that gave these commits, by its steps and the meaning of its faults: it has no more commits, its next answer is a
+-- fault, or memory ran out.
 pub data Ends {W E : Type 0} (Steps : W → Option (Result Info E) → W → Type 0) (Tells : E → Fault → Type 0) (walk : W) (infos : List Info) : Result (Unit {0}) Fault → Type 0 where
   finished : (new : W) → YieldsThen Steps walk (given infos) None new → Ends Steps Tells walk infos (Ok tt)
   failed : (e : E) (f : Fault) (new : W) → YieldsThen Steps walk (given infos) (Some (Err e)) new → Tells e f → Ends Steps Tells walk infos (Err f)

@@ -18,7 +18,7 @@ use Rattle.gix_walk.specs.declared.words.Order.TheVariants.{Simple, Topo}
 pub data Request : Type 0 where
   -- the commits that the tips reach and the hidden ones don't, in an order
   Commits : (order : Order) (tips hidden : List ObjectId) → Request
-  -- what stands in the tree of this id
+  -- the entries of the tree of this id, and of the trees in it
   Files : (tree : ObjectId) → Request
   -- how many commits the one reaches and the other doesn't, and the other way round
   Ahead : (one other : ObjectId) → Request
@@ -50,7 +50,7 @@ abbrev pub with_id : Bool → ObjectId → Ids → Ids
 with_id true i ids = (ids.0, i ∷ ids.1)
 with_id false i ids = (i ∷ ids.0, ids.1)
 
--- the id of a word before those of others, or the number of the word, which spells none
+-- the id of a word before the ids of other words, or the number of the word, where it spells no id
 abbrev pub with_word : Bool → ℕ → Result ObjectId HexError → Result Ids Fault → Result Ids Fault
 with_word hidden n (Err e) others = Err (fault.Id n)
 with_word hidden n (Ok i) (Err e) = Err e
@@ -61,7 +61,7 @@ abbrev pub ids_from : ℕ → List (List ℕ) → Result Ids Fault
 ids_from n [] = Ok ([], [])
 ids_from n (word ∷ words) = with_word (begins_with_caret word) n (id_from_hex (without_caret word)) (ids_from (n + 1) words)
 
--- the id that the digits of word n spell was put behind others, unless memory ran out
+-- the id that the digits of word n spell was added after other ids, unless memory ran out
 abbrev pub AddsId : List ℕ → ℕ → List ObjectId → Result (Unit {0}) Fault → List ObjectId → Type 0
 AddsId digits n old (Ok done) new = (i : ObjectId) × (id_from_hex digits ≡ Ok i) × (new ≡ old ++ i ∷ [])
 AddsId digits n old (Err e) new = e ≢ fault.Memory → (why : HexError) × (id_from_hex digits ≡ Err why) × (e ≡ fault.Id n)

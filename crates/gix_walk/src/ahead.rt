@@ -1,4 +1,4 @@
-//! How many commits two commits reach, each without the other's.
+//! How many commits one commit reaches and another doesn't.
 ghost use Rattle.std.specs.Prelude.{◌≡◌, ◌≢◌, [], ◌∷◌, IfErr, IfOk};
 ghost use Rattle.std.specs.Iterator.{IsFinite};
 ghost use Rattle.gix_walk.specs.Ahead.{Counts, FailsToCount, Numbers, ahead_line};
@@ -15,8 +15,8 @@ use gix_traverse::commit::simple::Sorting;
 use std::alloc::{AllocError, Global};
 use std::io::Write;
 
-/// Counts the commits that one reaches and the other doesn't, and the other way round, and writes the two numbers once both walks
-/// have ended well.
+/// Counts the commits that `one` reaches and `other` doesn't, and the commits that `other` reaches and `one` doesn't, and writes the
+/// two numbers once both walks have ended well.
 ///
 /// # Errors
 /// The fault of a walk, and `Memory`: nothing is written. `Write` where the writer failed.

@@ -14,7 +14,7 @@ use gix_traverse::commit::{Simple, Unfiltered};
 use std::alloc::Global;
 use std::marker::Model;
 
-/// A store that several walks read, one after another. To each it is what it holds.
+/// A store that several walks read, one after another. The model of it is the objects that it holds.
 #[derive(Drop)]
 pub struct Lent<'a> {
     store: &'a MemoryStore,

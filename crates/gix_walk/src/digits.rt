@@ -6,7 +6,7 @@ ghost use Rattle.gix_parts.specs.Id.{hex_of};
 use gix_parts::hash::ObjectId;
 use std::alloc::AllocError;
 
-/// Adds an id in hex digits of lower case, and a byte behind it.
+/// Adds an id in hex digits of lower case, and this byte after it.
 ///
 /// # Errors
 /// Out of memory. Nothing is added.

@@ -8,7 +8,7 @@ use gix_traverse::tree::depthfirst;
 use std::alloc::AllocError;
 use thiserror::Error;
 
-/// Why a run failed. What it prints stands behind the program's name in the line that the program writes.
+/// Why a run failed. The program writes a line with its name and this text.
 #[derive(Clone, Copy, PartialEq, Eq, Debug, Error)]
 pub enum Fault {
     /// The words are no command.
@@ -23,16 +23,16 @@ pub enum Fault {
     /// The input has no object of this id.
     #[error("missing {0}")]
     Missing(ObjectId),
-    /// The object of this id is of another kind than the one that is wanted.
+    /// The object of this id is no commit where the walk needs a commit, or no tree where it needs a tree.
     #[error("wrong kind {0}")]
     WrongKind(ObjectId),
     /// An object's bytes are broken.
     #[error("broken object")]
     Broken,
-    /// The tree of this id stands under itself.
+    /// The tree of this id is under itself.
     #[error("cycle {0}")]
     Cycle(ObjectId),
-    /// Memory was wanting.
+    /// Memory ran out.
     #[error("out of memory")]
     Memory,
     /// The input could not be read to its end.
@@ -41,8 +41,8 @@ pub enum Fault {
     /// The output could not be written.
     #[error("write failed")]
     Write,
-    /// A store that is held in memory failed, a recorder broke a walk off, or a walk without a commit-graph missed what it counted,
-    /// which doesn't happen.
+    /// A store in memory failed, a recorder broke a walk off, or a walk without a commit-graph missed what it counted. None of these
+    /// happens.
     #[error("internal fault")]
     Internal,
 }

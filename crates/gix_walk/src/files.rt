@@ -1,4 +1,4 @@
-//! The lines of what stands in a tree.
+//! The lines of the entries of a tree.
 ghost use Rattle.std.specs.Prelude.{◌≡◌, ◌++◌, ◌∷◌, [], length, take, IfErr, IfOk, IfSome, OnErr, OnOk};
 ghost use Rattle.gix_parts.specs.TreeRefIter.{entry_of};
 ghost use Rattle.gix_walk.specs.Files.{AreLinesOf, IsTreeFault, file_line, six_octal_digits};
@@ -37,7 +37,7 @@ pub fn write_files<W: Write>(
     write_out(&mut lines, writer)
 }
 
-// A line for each entry that stands in the tree of this id and in the trees in it.
+// A line for each entry of the tree of this id and of the trees in it.
 fn lines_of_tree(alloc: Global, tree: ObjectId, store: MemoryStore) -> Result<Vec<u8>, Fault>
     ensures ok { IfOk result (λ lines. AreLinesOf store tree lines.items) }
     ensures err { IfErr result (IsTreeFault store tree) }

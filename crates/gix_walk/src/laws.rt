@@ -31,7 +31,7 @@ pub fn files_lists()
     ensures { FilesLists }
 {}
 
-/// Where each of these trees reads whole and none is in itself, `files` fails for memory, reading or writing alone.
+/// Where each of these trees reads whole and none is under itself, `files` fails for memory, reading or writing alone.
 pub fn files_succeeds()
     ensures { FilesSucceeds }
 {}
@@ -42,13 +42,13 @@ pub fn draws_difference()
     ensures { DrawsDifference }
 {}
 
-/// `ahead` writes the number of commits that the one reaches and the other doesn't, and the number of those that the other reaches
-/// and the one doesn't.
+/// `ahead` writes the number of commits that the first id reaches and the second doesn't, and the number of commits that the second
+/// reaches and the first doesn't.
 pub fn ahead_counts()
     ensures { AheadCounts }
 {}
 
-/// Where all that the two reach are whole commits, `ahead` fails for memory, reading or writing alone.
+/// Where all that the two ids reach are whole commits, `ahead` fails for memory, reading or writing alone.
 pub fn ahead_succeeds()
     ensures { AheadSucceeds }
 {}

@@ -12,7 +12,7 @@ use gix_traverse::commit::Info;
 use std::alloc::Global;
 use std::io::Write;
 
-// How many bytes wait before they are written.
+// How many bytes are buffered before they are written.
 const MANY: usize = 1 << 16;
 
 /// Draws a walk to its end or to its first fault, and writes the id of each commit that it gives, one a line.
@@ -34,7 +34,7 @@ where
     drawn
 }
 
-/// Writes the lines that wait, and flushes the writer.
+/// Writes the buffered lines, and flushes the writer.
 ///
 /// # Errors
 /// `Write` where the writer failed.
@@ -46,7 +46,7 @@ pub fn write_out<W: Write>(lines: &mut Vec<u8>, writer: &mut W) -> Result<(), Fa
     writer.flush().map_err(|_| Fault::Write)
 }
 
-// Adds a line for each commit to those that wait, up to the walk's first fault.
+// Adds a line for each commit to the buffered lines, up to the walk's first fault.
 fn add_commits<I, E, W>(walk: I, lines: &mut Vec<u8>, writer: &mut W) -> Result<(), Fault>
 where
     I: Iterator<Item = Result<Info, E>> + Drop,
@@ -66,7 +66,7 @@ where
     Ok(())
 }
 
-// Adds a line to those that wait.
+// Adds a line to the buffered lines.
 fn add_line<W: Write>(lines: &mut Vec<u8>, writer: &mut W, id: ObjectId) -> Result<(), Fault>
     ensures ok { OnOk result (Grows (W.contents writer.old) lines.old.items (W.contents writer.new) lines.new.items (line_of id)) }
     ensures err { IfErr result (λ e. (e ≡ Fault.Write) ⊎ ((e ≡ Fault.Memory) × Grows (W.contents writer.old) lines.old.items (W.contents writer.new) lines.new.items [])) }
@@ -75,7 +75,7 @@ fn add_line<W: Write>(lines: &mut Vec<u8>, writer: &mut W, id: ObjectId) -> Resu
     Ok(add_id(lines, &id, b'\n')?)
 }
 
-// Writes the lines that wait, where they are many.
+// Writes the buffered lines, where they are many.
 fn make_room<W: Write>(lines: &mut Vec<u8>, writer: &mut W) -> Result<(), Fault>
     ensures ok { OnOk result (Grows (W.contents writer.old) lines.old.items (W.contents writer.new) lines.new.items []) }
     ensures fault { IfErr result (λ e. e ≡ Fault.Write) }
@@ -86,7 +86,7 @@ fn make_room<W: Write>(lines: &mut Vec<u8>, writer: &mut W) -> Result<(), Fault>
     write_lines(lines, writer)
 }
 
-// Writes the lines that wait. Behind a failure nothing waits.
+// Writes the buffered lines. After a failure too, none is buffered.
 fn write_lines<W: Write>(lines: &mut Vec<u8>, writer: &mut W) -> Result<(), Fault>
     ensures ok { OnOk result (Appends (W.contents writer.old) (W.contents writer.new) lines.old.items) }
     ensures fault { IfErr result (λ e. e ≡ Fault.Write) }

@@ -9,12 +9,13 @@ ghost use Rattle.gix_walk.specs.RecordFront.{split_at_byte, kind_named, body_at,
 
 use crate::fault::Fault;
 use gix_parts::hash::{self, ObjectId};
+use gix_parts::hashtable::IdMap;
 use gix_parts::object::Kind;
-use gix_parts::object::memory::MemoryStore;
+use gix_parts::object::memory::{MemoryStore, Stored};
 use memchr::memchr;
 use std::alloc::Global;
 
-// A record at the front of a text, and what stands behind it.
+// A record at the front of a text, and the text after it.
 #[derive(Clone, Copy)]
 struct Front<'a> {
     kind: Kind,
@@ -23,27 +24,32 @@ struct Front<'a> {
     behind: &'a [u8],
 }
 
-/// The objects of the records that the input is. Of two records of one id the later counts.
+/// The objects of the records that the input is, in a store that keeps the input and copies no object. Of two records of one id the
+/// later counts.
 ///
 /// # Errors
 /// `Record` with the number of the first that isn't one, `Memory`.
-pub fn read_records(alloc: Global, mut input: &[u8]) -> Result<MemoryStore, Fault>
-    ensures read { IfOk result (λ store. (records : List Record) × AreRecords records input.entry.now × (store ≡ stored records)) }
-    ensures fault { IfErr result (λ e. IsRecordFault input.entry.now e) }
-    // What is so spelled is read, unless memory runs out.
-    ensures only { (records : List Record) → AreRecords records input.entry.now → MatchResult result (λ store. store ≡ stored records) (λ e. e ≡ Fault.Memory) }
+pub fn read_records(alloc: Global, input: Vec<u8>) -> Result<MemoryStore, Fault>
+    ensures read { IfOk result (λ store. (records : List Record) × AreRecords records input.items × (store ≡ stored records)) }
+    ensures fault { IfErr result (λ e. IsRecordFault input.items e) }
+    // Input that is records is read, unless memory runs out.
+    ensures only { (records : List Record) → AreRecords records input.items → MatchResult result (λ store. store ≡ stored records) (λ e. e ≡ Fault.Memory) }
 {
-    let mut store = MemoryStore::new(alloc);
+    let mut objects = IdMap::new(alloc);
+    let mut rest = input.as_slice();
     let mut number = 1;
-    while !input.is_empty() {
-        let Some(front) = record_at(input) else {
+    while !rest.is_empty() {
+        let Some(front) = record_at(rest) else {
             return Err(Fault::Record(number));
         };
-        store.insert(front.id, front.kind, front.bytes)?;
-        input = front.behind;
+        let end = input.len() - front.behind.len() - 1;
+        let start = end - front.bytes.len();
+        let kind = front.kind;
+        objects.insert(front.id, Stored { kind, start, end })?;
+        rest = front.behind;
         number += 1;
     }
-    Ok(store)
+    Ok(MemoryStore::over(input, objects))
 }
 
 // The record at the front: a kind, a space, an id in hex digits, a space, the length in decimal digits, a newline, as many
@@ -67,7 +73,7 @@ fn record_at(text: &[u8]) -> Option<Front<'_>>
     })
 }
 
-// What stands before the first such byte, and behind it.
+// The text before the first such byte, and the text after it.
 fn split_at_byte(text: &[u8], byte: u8) -> Option<(&[u8], &[u8])>
     ensures { option_map (λ r. (r.0.now, r.1.now)) result ≡ split_at_byte byte text.now }
 {
@@ -104,7 +110,7 @@ fn kind_named(word: &[u8]) -> Option<Kind>
     None
 }
 
-// The number that 1 to 10 decimal digits say.
+// The number that 1 to 10 decimal digits spell.
 fn decimal(digits: &[u8]) -> Option<usize>
     ensures { result ≡ decimal digits.now }
 {
@@ -121,7 +127,7 @@ fn decimal(digits: &[u8]) -> Option<usize>
     Some(number)
 }
 
-// So many bytes, if a newline ends them, and what stands behind it.
+// So many bytes, if a newline ends them, and the text after it.
 fn body_at(text: &[u8], len: usize) -> Option<(&[u8], &[u8])>
     ensures { option_map (λ r. (r.0.now, r.1.now)) result ≡ body_at len text.now }
 {

@@ -2,7 +2,7 @@
 ghost use Rattle.std.specs.Prelude.{◌≡◌, ◌≢◌, ℕ, List, map, Some, Err, string_bytes};
 ghost use Rattle.gix_walk.specs.Records.{Record, AreRecords};
 ghost use Rattle.gix_walk.specs.Run.{Runs, Serves};
-ghost use Rattle.gix_walk.specs.Words.{Commits, request_of_command};
+ghost use Rattle.gix_walk.specs.Words.{Commits, request_of, request_of_command};
 
 use crate::ahead::write_ahead;
 use crate::commits::{topo_walk_from, walk_from};
@@ -17,21 +17,22 @@ use gix_parts::object::memory::MemoryStore;
 use std::alloc::Global;
 use std::io::{Read, Write};
 
-/// How often a run asks its reader at most.
+/// How often a run asks its reader at the most.
 pub const READS: u32 = 1 << 24;
 
-/// Runs the command that the words are over the records that the reader gives. `breadth`, `newest` and `oldest` write the id of each
-/// commit that the tips reach and the hidden ones don't, one a line, in the order in which they are met or in one by time, `topo` and
-/// `date` in one in which no commit comes before its children; `files` writes the mode, the id and the path of each entry that stands
-/// in the tree or in a tree in it, one a line; `ahead` writes how many commits the first reaches and the second doesn't, a space, and
-/// how many the second reaches and the first doesn't. The words are tested first, then the input is read whole.
+/// Runs the command that the words are over the records that the reader gives. The words are tested first, then the input is read
+/// whole, then the walk runs.
+///
+/// `breadth`, `newest` and `oldest` write the id of each commit that the tips reach and the hidden tips don't, one a line: in the order
+/// in which commits are met, or in one by time. `topo` and `date` do this in an order in which no commit comes before its children.
+/// `files` writes the mode, the id and the path of each entry of the tree and of the trees in it, one a line. `ahead` writes how many
+/// commits the first id reaches and the second doesn't, a space, and how many the second reaches and the first doesn't.
 ///
 /// # Errors
-/// `Usage` and `Id` where the words are no command, `Read` where the reader fails or gives no end at its last turn, `Record` where the
-/// input isn't records: in these cases nothing is written. `Missing`, `WrongKind` and `Broken` where the walk meets such an object,
-/// `Cycle` where it meets a tree that stands under itself: the lines of the commits before are written, and nothing of `files`
-/// and `ahead`. `Write`
-/// where the writer fails; what it holds then is left open. `Memory`.
+/// `Usage` and `Id` where the words are no command, `Read` where the reader fails or gives no end when it is asked for the last time,
+/// `Record` where the input isn't records: nothing is written. `Missing`, `WrongKind` and `Broken` where the walk meets such an object,
+/// `Cycle` where it meets a tree that is under itself, and `Memory`: the lines of the commits before are written, and nothing of
+/// `files` and `ahead`. `Write` where the writer fails: what was written is not stated.
 pub fn run<R: Read, W: Write>(
     alloc: Global,
     words: &[String],
@@ -39,14 +40,15 @@ pub fn run<R: Read, W: Write>(
     writer: &mut W,
 ) -> Result<(), Fault>
     ensures runs { Runs (map string_bytes words.now) (R.remaining reader.old) (W.contents writer.old) result (W.contents writer.new) }
-    // What is spelled as records is read as records.
+    // Words that are no command are rejected before anything is read.
+    ensures unread { (e : Fault) → request_of (map string_bytes words.now) ≡ Err e → reader.new ≡ reader.old }
+    // Input that is records is never rejected.
     ensures spelled { (input : List ℕ) (records : List Record) (n : ℕ) → R.remaining reader.old ≡ Some input → AreRecords records input → result ≢ Err (Fault.Record n) }
     ensures sound { result ≢ Err Fault.Internal }
 {
     let command = read_command(alloc, words)?;
     let input = read_to_end(alloc, reader, READS)?;
-    let store = read_records(alloc, &input)?;
-    drop(input);
+    let store = read_records(alloc, input)?;
     serve(alloc, command, store, writer)
 }
 
@@ -70,7 +72,7 @@ fn serve<W: Write>(
     }
 }
 
-// Writes the commits that the tips reach and the hidden ones don't.
+// Writes the commits that the tips reach and the hidden tips don't.
 fn serve_commits<W: Write>(
     alloc: Global,
     order: Order,

@@ -27,17 +27,17 @@ pub enum Command {
         tips: Vec<ObjectId>,
         hidden: Vec<ObjectId>,
     },
-    /// What stands in the tree of this id.
+    /// The entries of the tree of this id, and of the trees in it.
     Files(ObjectId),
-    /// How many commits one of them reaches and the other doesn't, and the other way round.
+    /// How many commits the one reaches and the other doesn't, and how many the other reaches and the one doesn't.
     Ahead {
         one: ObjectId,
         other: ObjectId,
     },
 }
 
-/// The command that the words are: `breadth`, `newest`, `oldest`, `topo` or `date`, ids of tips, one at least, and behind a `^` ids of
-/// commits to be hidden; or `files` and one id; or `ahead` and two ids. An id is 40 or 64 hex digits.
+/// The command that the words are: `breadth`, `newest`, `oldest`, `topo` or `date`, ids of tips, one at least, and ids of commits to be
+/// hidden, each after a `^`; or `files` and one id; or `ahead` and two ids. An id is 40 or 64 hex digits.
 ///
 /// # Errors
 /// `Usage` where the words are no command, `Id` at the first word that has to be an id and is none, `Memory`.
@@ -133,7 +133,7 @@ fn ahead(ids: &[String]) -> Result<Command, Fault>
     Ok(Command::Ahead { one, other })
 }
 
-// Whether each of them is to be hidden.
+// Whether each word names a commit that is to be hidden.
 fn are_hidden(ids: &[String]) -> bool
     ensures { result ≡ list_all begins_with_caret (map string_bytes ids.now) }
 {
@@ -145,14 +145,14 @@ fn are_hidden(ids: &[String]) -> bool
     true
 }
 
-// Whether it names a commit that is to be hidden.
+// Whether the word names a commit that is to be hidden.
 fn begins_with_caret(word: &String) -> bool
     ensures { result ≡ begins_with_caret (string_bytes word.now) }
 {
     matches!(word.as_bytes(), [b'^', ..])
 }
 
-// The ids of tips that the words behind the command spell, and those of commits to be hidden. The first of the words is word 2.
+// The ids of tips that the words after the command spell, and the ids of commits to be hidden. The first of these words is word 2.
 fn read_ids(alloc: Global, words: &[String]) -> Result<(Vec<ObjectId>, Vec<ObjectId>), Fault>
     ensures { Gives (λ ids. (ids.0.items, ids.1.items)) result (ids_from 2 (map string_bytes words.now)) }
 {

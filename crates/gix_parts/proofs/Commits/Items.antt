@@ -38,7 +38,7 @@ found_line word bytes r e = go (after_word word bytes) refl e
         let line : AllByRecursion (λ b. b ≢ 10) r.0 × (rest ≡ r.0 ++ 10 ∷ r.1) = line_at_found rest r e in
         record { one_line = line.0; whole = after_word_found word bytes rest w ∙ ap (λ x. word ++ x) line.1 }
 
--- what stands at the front of the bytes at a place
+-- what is at the front of the bytes at a place
 pub data Stands (k : Kind) (bytes : List ℕ) : Place → Front → Type 0 where
   ended : {place : Place} → Stands k bytes place Ended
   faulty : {place : Place} {e : Error} → Stands k bytes place (Faulty e)
@@ -113,7 +113,7 @@ items_within_enough (suc n) zero k place (b ∷ bs) l h = absurd (omega arith)
 items_within_enough (suc n) (suc m) k place (b ∷ bs) l h =
     unfolded_same k (b ∷ bs) place (front k place (b ∷ bs)) (items_within n k) (items_within m k) (stands k place (b ∷ bs)) (λ next rest less. items_within_enough n m k next rest (omega arith) (omega arith))
 
--- the items from a place on are what stands at the front, and the items behind it
+-- the items from a place on are what is at the front, and the items behind it
 pub items_from-step : (k : Kind) (place : Place) (bytes : List ℕ) → items_from k place bytes ≡ unfolded (front k place bytes) (items_from k)
 items_from-step k place bytes =
     items_within_enough (length bytes) (suc (length bytes)) k place bytes (omega arith) (omega arith)

@@ -1,4 +1,4 @@
--- How the items that an iterator has left follow from what stands at the front.
+-- How the items that an iterator has left follow from what is at the front.
 use Rattle.std.specs.Prelude.{◌≡◌, [], ◌∷◌, length, Option, Some, None, Result, Ok, Err}
 use Rattle.std.specs.Iterator.{YieldsFirstBy, MakesProgress, item_count}
 use Rattle.std.proofs.Common.{rules, sym, ap, ◌∙◌}

@@ -1,4 +1,4 @@
--- What stands at the front of bytes: a word, a line of text, an id in hex.
+-- What is at the front of bytes: a word, a line of text, an id in hex.
 use Rattle.std.specs.Prelude.{ℕ, ◌≡◌, ◌≢◌, ◌<◌, ◌+◌, ◌*◌, ◌==◌, List, [], ◌∷◌, ◌++◌, Bool, true, false, length, take, drop, Option, Some, None}
 use Rattle.std.specs.List.{AllByRecursion}
 use Rattle.std.specs.Option.{MatchOption, option_copied}
@@ -46,7 +46,7 @@ pub line_at-append : (content rest : List ℕ) → AllByRecursion (λ b. b ≢ 1
 line_at-append [] rest h = refl
 line_at-append (b ∷ content) rest h = cond-false (b == 10) _ _ (ne_eqb b 10 h.0) ∙ ap (with_byte b) (line_at-append content rest h.1)
 
--- digits that spell an id are as many as the kind wants
+-- digits that spell an id are as many as an id of the kind has
 pub length-digits : (k : Kind) (digits : List ℕ) (i : ObjectId) → id_of_hex k digits ≡ Some i → length digits ≡ 2 * id_len k
 length-digits k digits i e = go (length digits == 2 * id_len k) refl e
   where

@@ -1,4 +1,4 @@
--- The seconds of a signature: what stands behind the last `>`, and the number that digits say.
+-- The seconds of a signature: the bytes behind the last `>`, and the number that digits say.
 use Rattle.std.specs.Prelude.{ℕ, zero, suc, ◌==◌, Option, Some, ◌≡◌, ◌≤◌, ◌<◌, ◌+◌, ◌-◌, ◌*◌, Bool, true, false, List, [], ◌∷◌, length, drop, min}
 use Rattle.std.proofs.Common.{cond, refl, ap, inl, inr, ◌∙◌, arith, get_or}
 use Rattle.std.proofs.lemmas.Bool.{cases_lt, cond-true, cond-false, ne_eqb, eq-eqb}

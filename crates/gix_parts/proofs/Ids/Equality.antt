@@ -1,4 +1,4 @@
--- The derived `==` of ids tells whether they are one.
+-- The derived `==` of ids is true exactly where they are one.
 use Rattle.std.specs.Prelude.{◌≡◌}
 use Rattle.std.proofs.Common.{refl}
 use Rattle.std.specs.Cmp.Lexicographic.{texts_ties}

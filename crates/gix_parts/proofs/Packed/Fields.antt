@@ -22,7 +22,7 @@ after_part at next whole part rest e n = ap (λ (m : ℕ). drop m whole) n ∙ s
 pub part_at : (at n : ℕ) (whole part rest : List ℕ) → drop at whole ≡ part ++ rest → length part ≡ n → take n (drop at whole) ≡ part
 part_at at n whole part rest e len = ap (take n) e ∙ take_at part rest n len
 
--- what stands where, in a row of six parts
+-- where each part is, in a row of six parts
 pub record HasParts (len : ℕ) (a b c d e f rest whole : List ℕ) : Type 0 where
   pub a_is : take len whole ≡ a
   pub b_is : take len (drop len whole) ≡ b

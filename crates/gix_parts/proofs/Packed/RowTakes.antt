@@ -104,7 +104,7 @@ row_among k n bytes parents long fits among =
       time = sfits_to_z (Fits-of_lt (long_below (take 8 (drop (2 * len + 12) bytes)) at_time));
     }
 
--- bytes of four to a word are those of the words that they say
+-- bytes, four to a word, are the bytes of the words that they say
 pub bytes-words_of : (bytes : List ℕ) → AreBytes bytes → length bytes ≡ 4 * length (words_of bytes) → flat_map (to_be_bytes w32) (words_of bytes) ≡ bytes
 bytes-words_of [] fits len = refl
 bytes-words_of (a ∷ []) fits len = absurd (omega arith)

@@ -4,7 +4,7 @@ use Rattle.std.proofs.lemmas.Bool.{cases_lt}
 use Rattle.std.proofs.lemmas.List.{length-drop, drop_all}
 use Rattle.gix_parts.specs.TreeRefIter.{IsEndOf}
 
--- what stands behind the first bytes is an end
+-- the bytes behind the first ones are an end
 pub drop_end : (n : ℕ) (bytes : List ℕ) → IsEndOf (drop n bytes) bytes
 drop_end n bytes = go (cases_lt n (length bytes))
   where

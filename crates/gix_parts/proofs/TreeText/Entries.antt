@@ -1,4 +1,4 @@
--- How an entry of a tree stands in the tree's bytes, and how the items of a tree follow one another.
+-- Where an entry of a tree is in the tree's bytes, and how the items of a tree follow one another.
 use Rattle.std.proofs.Common.{◌≡◌, ℕ, zero, suc, ◌+◌, ◌<◌, ◌≤◌, List, [], ◌∷◌, length, take, drop, Bool, true, false, cond, Option, Some, None, Ok, nat_eq, refl, sym, ap, ◌∙◌, arith}
 use Rattle.std.specs.List.{position}
 use Rattle.std.proofs.lemmas.List.{length-drop, drop-drop}
@@ -68,7 +68,7 @@ behind_entry k bytes e rest h = go (mode_at bytes) refl h
     go None h f = cc
     go (Some r) h f = with_name r (name_at r.1) (behind_mode bytes r h) refl f
 
--- what stands behind an entry is an end of the bytes
+-- the bytes behind an entry are an end of the bytes
 pub entry_end : (k : Kind) (bytes : List ℕ) (e : TreeEntry) (rest : List ℕ) → Found e rest ≡ entry_front k (mode_at bytes) → IsEndOf rest bytes
 entry_end k bytes e rest h =
     let b = behind_entry k bytes e rest (sym h) in

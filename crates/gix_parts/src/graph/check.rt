@@ -152,7 +152,8 @@ fn check_row<'a>(
 ) -> Result<(ObjectId, &'a [u8]), Place>
     requires few { layout.words ≤ most }
     requires whole { row_len layout.kind ≤ length row.now }
-    ensures { (left : ℕ) → StepsOver (rows_left layout (left + 1) r before row.now (words_of words.now)) (λ x. rows_left layout left (r + 1) (Some x.0) (drop (row_len layout.kind) row.now) (words_of x.1.now)) result }
+    ensures { (left : ℕ) → StepsOver (rows_left layout (left + 1) r before row.now (words_of words.now))
+        (λ x. rows_left layout left (r + 1) (Some x.0) (drop (row_len layout.kind) row.now) (words_of x.1.now)) result }
 {
     let id = fields::id_field(layout.kind, row);
     if !is_above(before, id) {

@@ -128,7 +128,7 @@ fn push_lists(
     Ok(())
 }
 
-/// Writes what stands before the rows.
+/// Writes the head, which is before the rows.
 fn push_head(out: &mut Vec<u8>, kind: Kind, rows: u32, words: u32) -> Result<(), AllocError>
     ensures { OnOk result (out.new.items ≡ out.old.items ++ (layout_name kind ++ (to_be_bytes w32 rows ++ to_be_bytes w32 words))) }
 {

@@ -43,7 +43,7 @@ fn has_len_of(bytes: &[u8], kind: Kind) -> bool
     bytes.len() == kind.len_in_bytes()
 }
 
-/// Whether the id is of this kind, told by its length.
+/// Whether the id is of this kind, which its length says.
 fn is_of_kind(id: &ObjectId, kind: Kind) -> bool
     ensures { MatchBool result (IsIdOf kind id.now) (¬ (kind_of id.now ≡ kind)) }
 {

@@ -34,7 +34,7 @@ fn bytes_at(digits: &[u8], at: usize) -> u8x8
     (high << u8x8::splat(4)) + low
 }
 
-// Spells the eight bytes from a place on, behind those that are spelled.
+// Spells the eight bytes from a place on, behind the bytes that are spelled already.
 #[inline(always)]
 fn spell(digits: &[u8], bytes: &mut [u8], at: usize) -> bool
     requires digits { 2 * at + 16 ≤ length digits.now }
@@ -51,41 +51,21 @@ fn spell(digits: &[u8], bytes: &mut [u8], at: usize) -> bool
     true
 }
 
-// The 20 bytes that 40 digits spell.
-pub(super) fn twenty(digits: &[u8]) -> Option<[u8; 20]>
-    requires { length digits.now ≡ 40 }
+// The N bytes that twice as many digits spell. The last step overlaps the one before where N isn't a multiple of eight.
+pub(super) fn spelled<const N: usize>(digits: &[u8]) -> Option<[u8; N]>
+    requires enough { 8 ≤ N }
+    requires len { length digits.now ≡ 2 * N }
     ensures { result ≡ decoded digits.now }
 {
-    let mut bytes = [0u8; 20];
-    if !spell(digits, &mut bytes, 0) {
-        return None;
+    let mut bytes = [0u8; N];
+    let mut at = 0;
+    while at < N - 8 {
+        if !spell(digits, &mut bytes, at) {
+            return None;
+        }
+        at += 8;
     }
-    if !spell(digits, &mut bytes, 8) {
-        return None;
-    }
-    // These sixteen digits overlap those before.
-    if !spell(digits, &mut bytes, 12) {
-        return None;
-    }
-    Some(bytes)
-}
-
-// The 32 bytes that 64 digits spell.
-pub(super) fn thirty_two(digits: &[u8]) -> Option<[u8; 32]>
-    requires { length digits.now ≡ 64 }
-    ensures { result ≡ decoded digits.now }
-{
-    let mut bytes = [0u8; 32];
-    if !spell(digits, &mut bytes, 0) {
-        return None;
-    }
-    if !spell(digits, &mut bytes, 8) {
-        return None;
-    }
-    if !spell(digits, &mut bytes, 16) {
-        return None;
-    }
-    if !spell(digits, &mut bytes, 24) {
+    if !spell(digits, &mut bytes, N - 8) {
         return None;
     }
     Some(bytes)

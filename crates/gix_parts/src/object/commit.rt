@@ -15,7 +15,7 @@ use std::simd::prelude::*;
 /// Who made a change and when.
 #[derive(Clone, Copy, PartialEq, Eq, Debug)]
 pub struct Signature<'a> {
-    /// What stands between the header's name and the newline, as a name, an address in angle brackets, seconds and an offset.
+    /// The bytes between the header's name and the newline, as a name, an address in angle brackets, seconds and an offset.
     /// It may be any bytes.
     pub bytes: &'a [u8],
 }
@@ -33,7 +33,7 @@ impl Signature<'_> {
     }
 }
 
-// What stands behind the last `>`.
+// The bytes behind the last `>`.
 fn behind_last(bytes: &[u8]) -> Option<&[u8]>
     ensures { option_copied result ≡ behind_last None bytes.now }
 {
@@ -134,7 +134,7 @@ fn newline_in(bytes: &[u8]) -> Option<usize>
     memchr(b'\n', bytes)
 }
 
-// What stands before the first newline, and behind it.
+// The bytes before the first newline, and the bytes behind it.
 fn line_at(bytes: &[u8]) -> Option<(&[u8], &[u8])>
     ensures { option_map (λ r. (r.0.now, r.1.now)) result ≡ line_at bytes.now }
 {
@@ -142,7 +142,7 @@ fn line_at(bytes: &[u8]) -> Option<(&[u8], &[u8])>
     Some((&bytes[..end], &bytes[end + 1..]))
 }
 
-// An id in hex digits and a newline: the id, and what stands behind it.
+// An id in hex digits and a newline: the id, and the bytes behind them.
 fn id_line_at(bytes: &[u8], kind: Kind) -> Option<(ObjectId, &[u8])>
     ensures { option_map (λ r. (r.0, r.1.now)) result ≡ id_line_at kind (Some bytes.now) }
 {
@@ -224,7 +224,8 @@ impl<'a> CommitRefIter<'a> {
     // Takes a parent's line, or the author's.
     #[inline(never)]
     fn take_parent_or_author(&mut self) -> Option<Result<Token<'a>, Error>>
-        ensures { IsTaken self.old (parent_front self.old.kind self.old.bytes.now (after_word (codes "parent ") self.old.bytes.now) (id_line_at self.old.kind (after_word (codes "parent ") self.old.bytes.now))) result self.new }
+        ensures { IsTaken self.old (parent_front self.old.kind self.old.bytes.now (after_word (codes "parent ") self.old.bytes.now)
+            (id_line_at self.old.kind (after_word (codes "parent ") self.old.bytes.now))) result self.new }
     {
         let Some(digits) = after_word(self.bytes, b"parent ") else {
             return self.take_author();

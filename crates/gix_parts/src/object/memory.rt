@@ -1,6 +1,7 @@
 //! A store that is held in memory.
-ghost use Rattle.std.specs.Prelude.{◌≡◌, ◌↔◌, IsTrue, OnOk, OnErr};
+ghost use Rattle.std.specs.Prelude.{◌≡◌, ◌↔◌, IsTrue, length, OnOk, OnErr};
 ghost use Rattle.std.specs.FinMap as map;
+ghost use Rattle.gix_parts.specs.MemoryStore.{objects_at, AreWithin};
 
 use crate::hash::ObjectId;
 use crate::hashtable::IdMap;
@@ -9,15 +10,34 @@ use crate::object::find::{Error, Find};
 use std::alloc::{AllocError, Global};
 use std::marker::Model;
 
-// Where the bytes of an object are in the buffer.
+/// An object whose bytes are in a buffer, from `start` up to `end`.
 #[derive(Clone, Copy)]
-struct Stored {
-    kind: Kind,
-    start: usize,
-    end: usize,
+pub struct Stored {
+    /// What the bytes are.
+    pub kind: Kind,
+    /// The place of the first byte.
+    pub start: usize,
+    /// The place behind the last byte.
+    pub end: usize,
 }
 
 /// Objects held in memory, with the bytes of all in one buffer. Each look-up succeeds unless memory runs out.
+///
+/// A store with one commit:
+///
+/// ```rust
+/// pub fn store_of_one(alloc: Global, id: ObjectId) -> Result<MemoryStore, AllocError> {
+///     let mut store = MemoryStore::new(alloc);
+///     let commit = b"tree 4b825dc642cb6eb9a060e54bf8d69288fbee4904
+/// author A <a@b> 100 +0000
+/// committer A <a@b> 200 +0000
+///
+/// The first commit
+/// ";
+///     store.insert(id, Kind::Commit, commit)?;
+///     Ok(store)
+/// }
+/// ```
 #[derive(Drop)]
 pub struct MemoryStore {
     objects: IdMap<Stored>,
@@ -49,6 +69,14 @@ impl MemoryStore {
             objects: IdMap::new(alloc),
             bytes: Vec::new(alloc),
         }
+    }
+
+    /// A store of the objects that are at these places of a buffer. No byte is copied.
+    pub fn over(bytes: Vec<u8>, objects: IdMap<Stored>) -> MemoryStore
+        requires { AreWithin objects (length bytes.items) }
+        ensures { result ≡ objects_at bytes.items objects }
+    {
+        MemoryStore { objects, bytes }
     }
 
     /// Keeps a copy of an object, in place of what the id had. The bytes of an object that is replaced keep their room until

@@ -32,7 +32,7 @@ pub struct EntryRef<'a> {
     pub mode: EntryMode,
     /// The name, which holds no NUL. Nothing else is asked of it: it may be empty or hold a `/`.
     pub filename: BStr<'a>,
-    /// The id of what the name stands for: a blob, a tree, or the commit of a submodule.
+    /// The id of what has this name: a blob, a tree, or the commit of a submodule.
     pub oid: ObjectId,
 }
 
@@ -154,7 +154,7 @@ fn read_id(bytes: &[u8], kind: Kind) -> Option<(ObjectId, &[u8])>
     Some((ObjectId::from_bytes(&bytes[..len])?, &bytes[len..]))
 }
 
-// What stands before the first such byte, and behind it.
+// The bytes before the first such byte, and the bytes behind it.
 fn split_at_byte(bytes: &[u8], byte: u8) -> Option<(&[u8], &[u8])>
     ensures { option_map (λ p. (p.0.now, p.1.now)) result ≡ parted byte bytes.now }
 {

@@ -94,7 +94,7 @@ mod tests {
         let store = store(alloc, &SAMPLE)?;
         let answer = walk(alloc, order, &store, id(10), recorder);
         let mut told = String::new(alloc);
-        write_paths(&mut told, recorder)?;
+        write_paths(&mut told, &recorder.records)?;
         told.push(' ')?;
         write_end(&mut told, answer)?;
         Ok(told)
@@ -153,7 +153,7 @@ mod tests {
             )?;
         }
         let mut told = String::new(alloc);
-        write_paths(&mut told, &recorder)?;
+        write_paths(&mut told, &recorder.records)?;
         told.push_str(ends.as_str())?;
         Ok((told, recorder.records.last().map(|entry| entry.oid)))
     }

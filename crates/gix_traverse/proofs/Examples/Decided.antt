@@ -1,4 +1,4 @@
--- Over a finite history, where a test tells the members, a test tells which commits are ready.
+-- Over a finite history, where a test decides the members, a test decides which commits are ready.
 use Rattle.std.specs.Prelude.{◌≡◌, List, [], ◌∷◌, Bool, true, false, not, ◌&&◌, ◌||◌, cond, filter, Contains}
 use Rattle.std.proofs.Common.{refl, sym, subst, ⊎_elim, ◌∙◌}
 use Rattle.std.proofs.lemmas.Bool.{false≢true, true≢false, and_parts, and_from, not-true, not_from_false, false_from_ne_true}

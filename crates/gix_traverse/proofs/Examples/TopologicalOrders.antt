@@ -199,11 +199,11 @@ module _ (h : List (ℕ × List ℕ)) (tips ends reached hidden : List ℕ)
 abbrev pub all_eight : List ℕ
 all_eight = 8 ∷ 6 ∷ 7 ∷ 5 ∷ 4 ∷ 3 ∷ 2 ∷ 1 ∷ []
 
--- with the parents of 8 the other way round
+-- with the parents of 8 in the other order
 abbrev pub turned : List (ℕ × List ℕ)
 turned = (8, 7 ∷ 6 ∷ []) ∷ (7, 4 ∷ []) ∷ (6, 5 ∷ []) ∷ (5, 3 ∷ []) ∷ (4, 2 ∷ []) ∷ (3, 1 ∷ []) ∷ (2, 1 ∷ []) ∷ (1, []) ∷ []
 
--- with a commit whose first parent stands twice
+-- with a commit whose first parent is named twice
 abbrev pub repeated : List (ℕ × List ℕ)
 repeated = (9, 6 ∷ 7 ∷ 6 ∷ []) ∷ history
 

@@ -18,7 +18,7 @@ use Rattle.gix_traverse.specs.declared.commit.simple.paint.Painter.{Painter}
 use Rattle.gix_traverse.specs.History.Agreeing.{IsAgreeing}
 use Rattle.gix_traverse.specs.History.Commits.{parents_of, parents_in}
 use Rattle.gix_traverse.specs.Simple.Painting.{IsHistory, DropsBy}
-use Rattle.gix_traverse.specs.Simple.Inside.Painter.{AllMarks, hides, is_hidden, hidden_of, State, Unmet, Open, Read, Hides, state_of, Becomes, stays, opens, covers, rows_in, Reads, Knows, by_row, by_store, IsQueued, IsWaiting, IsTidy, Meets}
+use Rattle.gix_traverse.specs.Simple.Inside.Painter.{AllMarks, hides, is_hidden, hidden_of, State, Unmet, Open, Read, Hides, state_of, Becomes, stays, opens, covers, rows_in, held_graph, Reads, Knows, by_row, by_store, IsQueued, IsWaiting, IsTidy, Meets}
 use Rattle.gix_traverse.specs.History.Reach.{Reaches}
 use Rattle.gix_parts.proofs.Ids.Membership.{id_total, id_apart}
 
@@ -74,7 +74,7 @@ pub own_history : (objects : Objects) (faulty : ObjectId → Type 0) (rows : Lis
 own_history objects faulty rows agrees = record {
   agreeing = λ row m.
       let a = agrees row m in
-      record { whole = record { commit = a.whole.commit; stored = a.whole.stored; sound = λ k. k }; tree = a.tree; time = a.time; places = a.places; parents = a.parents; finite = a.finite };
+      record { whole = record { commit = a.whole.commit; stored = a.whole.stored }; tree = a.tree; time = a.time; places = a.places; parents = a.parents; finite = a.finite };
   read = λ i commit r. r;
 }
 
@@ -85,11 +85,11 @@ in_history h i ids r = (r.0, h.read i r.0 r.1, r.2)
 -- what holds whatever the rows say
 module _ {F : Type 0} (objects : F → Objects) (store : F) (rows : List GraphRow) where
   abbrev pub RowsStand : Painter F → Type 0
-  RowsStand p = rows_in p.source.graph ≡ rows
+  RowsStand p = rows_in (held_graph p.source) ≡ rows
 
   pub record IsSafe (p : Painter F) : Type 0 where
     pub same_store : p.source.objects.now ≡ store
-    pub either : (rows_in p.source.graph ≡ rows) ⊎ (p.source.graph ≡ None)
+    pub either : (rows_in (held_graph p.source) ≡ rows) ⊎ (held_graph p.source ≡ None)
     pub queued : RowsStand p → (q : Key × Entry) → Contains p.queue q → IsQueued (objects store) rows q
     pub brings : (q : Key × Entry) → Contains p.queue q → (ids : List ObjectId) → option_map (λ ids. ids.items) q.1.parent_ids ≡ Some ids → Reads (objects store) q.1.id ids
 
@@ -100,8 +100,8 @@ module _ {F : Type 0} (objects : F → Objects) (store : F) (rows : List GraphRo
     pub still_stand : RowsStand new → RowsStand p
     still_stand r = ap rows_in (sym m.graph_stays) ∙ r
 
-    added : IsSafe p → (q : Key × Entry) → Contains new.queue q → Contains p.queue q ⊎ (Contains ids q.1.id × (q.1.side ≡ s) × IsQueued (objects store) (rows_in p.source.graph) q)
-    added safe q c = ⊎_elim (λ o. inl o) (λ a. inr (a.0, a.1, subst (λ f. IsQueued (objects f) (rows_in p.source.graph) q) safe.same_store a.2)) (m.adds q c)
+    added : IsSafe p → (q : Key × Entry) → Contains new.queue q → Contains p.queue q ⊎ (Contains ids q.1.id × (q.1.side ≡ s) × IsQueued (objects store) (rows_in (held_graph p.source)) q)
+    added safe q c = ⊎_elim (λ o. inl o) (λ a. inr (a.0, a.1, subst (λ f. IsQueued (objects f) (rows_in (held_graph p.source)) q) safe.same_store a.2)) (m.adds q c)
 
     pub safe_meets : IsSafe p → IsSafe new
     safe_meets h = record {

@@ -1,5 +1,5 @@
 -- What an entry's turn keeps of what holds while hidden tips are painted.
-use Rattle.std.specs.Prelude.{◌≡◌, ◌≢◌, ◌⊎◌, ◌<◌, ◌≤◌, ℕ, List, [], ◌∷◌, ◌++◌, Bool, true, false, cond, Option, Some, None, Contains, IsSome, suc, slice_get}
+use Rattle.std.specs.Prelude.{◌≡◌, ◌≢◌, ◌⊎◌, ◌<◌, ◌≤◌, ℕ, List, [], ◌∷◌, ◌++◌, Bool, true, false, cond, Option, Some, None, Contains, IsSome, suc}
 use Rattle.std.specs.List.{list_any}
 use Rattle.std.specs.Ordering.{eq_by_cmp}
 use Rattle.std.proofs.Common.{refl, sym, ap, subst, inl, inr, ⊎_elim, ◌∙◌, arith}
@@ -18,21 +18,19 @@ use Rattle.gix_traverse.specs.declared.commit.simple.paint.Marks.{Marks}
 use Rattle.gix_traverse.specs.declared.commit.simple.paint.Side.{Side}
 use Rattle.gix_traverse.specs.declared.commit.simple.paint.Side.TheVariants as side
 use Rattle.gix_traverse.specs.declared.commit.simple.paint.source.Generation.TheVariants.{Told, Infinite}
-use Rattle.gix_parts.specs.declared.graph.ParentPlace.{ParentPlace}
-use Rattle.gix_parts.specs.declared.graph.ParentPlace.TheVariants.{At, Fault}
 use Rattle.gix_traverse.specs.declared.commit.simple.paint.source.Key.{Key}
 use Rattle.gix_traverse.specs.declared.commit.simple.paint.Entry.{Entry}
 use Rattle.gix_traverse.specs.declared.commit.simple.paint.Painter.{Painter}
 use Rattle.gix_traverse.specs.Simple.Painting.{DropsBy, generation_in, IsHistory}
-use Rattle.gix_traverse.specs.Simple.Inside.Painter.{hides, State, Unmet, Open, Read, Hides, state_by, state_of, rows_in, Reads, ReadsParents, by_row, by_store, drops, Knows, IsQueued, IsWaiting, IsTidy, IsSettled, is_told, Meets, GivesParents, brought, looked_up, Takes, is_turn, is_turn_on, frontier_without, TreatsEntry, skips, reads, Pops}
+use Rattle.gix_traverse.specs.Simple.Inside.Painter.{hides, State, Unmet, Open, Read, Hides, state_by, state_of, rows_in, held_graph, Reads, ReadsParents, by_row, by_store, drops, Knows, IsQueued, IsWaiting, IsTidy, IsSettled, is_told, Meets, GivesParents, brought, looked_up, Takes, is_turn, is_turn_on, frontier_without, TreatsEntry, skips, reads, Pops}
 use Rattle.gix_traverse.specs.Simple.Inside.Painter as painter
 use Rattle.gix_traverse.specs.History.Reach.{Reaches, start, step}
-use Rattle.gix_traverse.specs.Simple.Walk.{ids_at, with_id}
+use Rattle.gix_traverse.specs.Simple.Walk.{ids_at}
 use Rattle.gix_traverse.proofs.Painting.Invariant.{nobody, next, starts_of, RowsStand, IsSafe, IsOutside, Fact, Stands, IsStarted}
 use Rattle.gix_traverse.proofs.Painting.Keys.{told_below_top}
 use Rattle.gix_traverse.proofs.Shared.ReadsWhole.{row_stands, parent_below, corrupt_row}
 use Rattle.gix_traverse.proofs.Painting.Search.{done_or_waits, told_below}
-use Rattle.gix_parts.proofs.Ids.Membership.{id_total, id_apart, same_itself, Contains-here, no_member, Contains-cons_cases}
+use Rattle.gix_parts.proofs.Ids.Membership.{id_total, id_apart, same_itself, Contains-here}
 
 -- a set that isn't empty has a member
 pub member_of : (s : set.FinSet id_cmp) → (set.len s ≡ 0 → ⊥) → (i : ObjectId) × (set.contains s i ≡ true)
@@ -43,20 +41,6 @@ member_of s some = go (set.items s) refl
         let none : s ≡ set.empty = set.same_set id_total id_apart s set.empty (λ q. set.contains-items s q ∙ ap (list_any (eq_by_cmp id_cmp q)) e ∙ sym (set.contains-empty id_cmp q)) in
         absurd (some (ap set.len none ∙ set.len-empty id_cmp))
     go (x ∷ items) e = (x, set.contains-items s x ∙ ap (list_any (eq_by_cmp id_cmp x)) e ∙ or_left _ _ (same_itself x))
-
--- places that name ids have no fault among them
-pub no_fault_among : (rows : List GraphRow) (places : List ParentPlace) (ids : List ObjectId) → ids_at rows places ≡ Some ids → Contains places Fault → ⊥
-no_fault_among rows [] ids e c = no_member Fault c
-no_fault_among rows (Fault ∷ places) ids e c = cc
-no_fault_among rows (At n ∷ places) ids e c = go (slice_get rows n) refl (ids_at rows places) refl (λ those b. no_fault_among rows places those b behind) e
-  where
-    behind : Contains places Fault
-    behind = ⊎_elim (λ s. let bad : At n ≡ Fault = s in cc) (λ t. t) (Contains-cons_cases Fault (At n) places c)
-
-    go : (o : Option GraphRow) → slice_get rows n ≡ o → (r : Option (List ObjectId)) → ids_at rows places ≡ r → ((those : List ObjectId) → ids_at rows places ≡ Some those → ⊥) → with_id o r ≡ Some ids → ⊥
-    go None a r b rest f = cc
-    go (Some row) a None b rest f = cc
-    go (Some row) a (Some those) b rest f = rest those b
 
 pub open_read : (o : Option Marks) → state_by o true ≡ Open → state_by o false ≡ Read
 open_read None e = cc
@@ -130,7 +114,7 @@ module _ {F : Type 0} (objects : F → Objects) (store : F) (history : Objects) 
           go (painter.by_row {row = row} f k t m) = (row, f, (let s : Told row.generation ≡ Told n = sym k ∙ e in cc))
           go (painter.by_store f k t m d) = let bad : Infinite ≡ Told n = sym k ∙ e in cc
 
-      -- what waits below a key that a row told has a row of its own
+      -- what waits below a key that has a row's generation has a row of its own
       waits_below : RowsStand objects store rows w → (top : Key × Entry) → IsUpperBound cmp-value.it top.0 (keys w.queue) → (n : ℕ) → top.0.generation ≡ Told n → (s : Side) (i : ObjectId) → IsWaiting w s i → (m : ℕ) × HasGeneration i m × (m ≤ n)
       waits_below r top bound n e s i q =
           let k : (m : ℕ) × (q.0.0.generation ≡ Told m) × (m ≤ n) = told_below_top top.0 w.queue bound n e q.0 q.1 in
@@ -148,7 +132,7 @@ module _ {F : Type 0} (objects : F → Objects) (store : F) (history : Objects) 
           (hidden_from w h started top.1.id hidden)
 
       -- rows are dropped for the row of a greatest key, while an open id waits below
-      pub drop_reason : RowsStand objects store rows w → IsSome w.source.graph → (top : Key × Entry) → Contains w.queue top → IsUpperBound cmp-value.it top.0 (keys w.queue) → (IsSettled w → ⊥) → (row : GraphRow) → row_of rows top.1.id ≡ Some row → ids_at rows row.parents ≡ None
+      pub drop_reason : RowsStand objects store rows w → IsSome (held_graph w.source) → (top : Key × Entry) → Contains w.queue top → IsUpperBound cmp-value.it top.0 (keys w.queue) → (IsSettled w → ⊥) → (row : GraphRow) → row_of rows top.1.id ≡ Some row → ids_at rows row.parents ≡ None
           → DropsBy There rows tips hidden_tips
       drop_reason r graph top there bound unsettled row e corrupt =
           let told : top.0.generation ≡ Told row.generation = key_of r top there row e in

@@ -1,4 +1,4 @@
--- The order of the queue's keys: what a greatest key tells of the others.
+-- The order of the queue's keys: what a greatest key says of the others.
 use Rattle.std.specs.Prelude.{◌≡◌, ◌≤◌, ℕ, ℤ, List, [], ◌∷◌, true, false, Some, Contains, IsSome, slice_get}
 use Rattle.std.specs.FinSet as set
 use Rattle.std.proofs.Common.{refl, sym, ap, subst, inr, ⊎_elim, ◌∙◌, arith}
@@ -14,7 +14,7 @@ use Rattle.gix_traverse.specs.declared.commit.simple.paint.source.Generation.The
 use Rattle.gix_traverse.specs.declared.commit.simple.paint.source.Key.{Key}
 use Rattle.gix_traverse.specs.declared.commit.simple.paint.Entry.{Entry}
 use Rattle.gix_traverse.specs.declared.commit.simple.paint.Painter.{Painter}
-use Rattle.gix_traverse.specs.Simple.Inside.Painter.{IsSettled, is_told}
+use Rattle.gix_traverse.specs.Simple.Inside.Painter.{held_graph, IsSettled, is_told}
 use Rattle.gix_parts.specs.PriorityQueue.{keys}
 use Rattle.gix_parts.proofs.Ids.Membership.{Contains-here, Contains-cons_cases, no_member}
 
@@ -35,15 +35,15 @@ pub first_member : {X : Type 0} (xs : List X) (x : X) → slice_get xs 0 ≡ Som
 first_member [] x e = cc
 first_member (y ∷ xs) x e = let same : y ≡ x = cc in subst (λ z. Contains (z ∷ xs) x) (sym same) (Contains-here x xs)
 
--- below a greatest key of a told generation, all keys have one, no greater
+-- below a greatest key that has a generation, all keys have one, and none is greater
 pub told_below_top : {T : Type 0} (top : Key) (queue : List (Key × T)) → IsUpperBound cmp-value.it top (keys queue) → (n : ℕ) → top.generation ≡ Told n → (q : Key × T) → Contains queue q → (m : ℕ) × (q.0.generation ≡ Told m) × (m ≤ n)
 told_below_top top [] h n e q c = absurd (no_member q c)
 told_below_top top (x ∷ queue) h n e q c =
     ⊎_elim (λ s. subst (λ y. (m : ℕ) × (y.0.generation ≡ Told m) × (m ≤ n)) s (generation_below top.generation x.0.generation top.time x.0.time h.0 n e)) (λ t. told_below_top top queue h.1 n e q t) (Contains-cons_cases q x queue c)
 
 module _ {F : Type 0} (p : Painter F) where
-  -- with a greatest key that a row told, all that is queued has a row
-  pub settled_by_top : (top : Key) (n : ℕ) → IsSome p.source.graph → set.len p.frontier ≡ 0 → IsUpperBound cmp-value.it top (keys p.queue) → top.generation ≡ Told n → IsSettled p
+  -- with a greatest key that has a row's generation, all that is queued has a row
+  pub settled_by_top : (top : Key) (n : ℕ) → IsSome (held_graph p.source) → set.len p.frontier ≡ 0 → IsUpperBound cmp-value.it top (keys p.queue) → top.generation ≡ Told n → IsSettled p
   settled_by_top top n graph none h e = inr (graph, none, λ q c. let k : (m : ℕ) × (q.0.generation ≡ Told m) × (m ≤ n) = told_below_top top p.queue h n e q c in ap is_told k.1)
 
   pub unsettled_by_top : (top : Key × Entry) → Some top ≡ slice_get p.queue 0 → top.0.generation ≡ Infinite → IsSettled p → ⊥

@@ -17,7 +17,7 @@ use Rattle.gix_traverse.specs.declared.commit.simple.paint.Entry.{Entry}
 use Rattle.gix_traverse.specs.declared.commit.simple.paint.Painter.{Painter}
 use Rattle.gix_traverse.specs.History.Agreeing.{IsCorrupt}
 use Rattle.gix_traverse.specs.Simple.Painting.{IsHistory, IsAtBoundary, IsOpenBelow, IsRead, shown_commit, hidden_commit, generation_in, Paints}
-use Rattle.gix_traverse.specs.Simple.Inside.Painter.{FailsAmong, hides, is_hidden, hidden_of, State, Unmet, Open, Read, Hides, state_by, state_of, rows_in, Reads, Knows, IsQueued, IsWaiting, IsSettled, is_told, Meets, GivesParents, TreatFails, Pops}
+use Rattle.gix_traverse.specs.Simple.Inside.Painter.{FailsAmong, hides, is_hidden, hidden_of, State, Unmet, Open, Read, Hides, state_by, state_of, rows_in, held_graph, Reads, Knows, IsQueued, IsWaiting, IsSettled, is_told, Meets, GivesParents, TreatFails, Pops}
 use Rattle.gix_traverse.specs.Simple.Inside.Painter as painter
 use Rattle.gix_traverse.specs.History.Reach.{Reaches, start, step}
 use Rattle.gix_traverse.proofs.Painting.Invariant.{contains-hidden, hidden_now, met_now, nobody, next, RowsStand, IsSafe, Fact, Stands, IsStarted, rowless, stands_meets, safe_meets, hidden_stays}
@@ -63,7 +63,7 @@ module _ {F : Type 0} (objects : F → Objects) (store : F) (history : Objects) 
   -- a painter that has marked nothing
   pub record IsBlank (p : Painter F) : Type 0 where
     pub same_store : p.source.objects.now ≡ store
-    pub graph : rows_in p.source.graph ≡ rows
+    pub graph : rows_in (held_graph p.source) ≡ rows
     pub marks : p.marks ≡ map_of.empty
     pub frontier : p.frontier ≡ set.empty
     pub queue : p.queue ≡ []
@@ -120,13 +120,13 @@ module _ {F : Type 0} (objects : F → Objects) (store : F) (history : Objects) 
         let none : true ≡ false = sym waits ∙ ap (λ f. set.contains f i) (set.empty_of_len p.frontier s.1) ∙ set.contains-empty id_cmp i in cc)
         settled
 
-    -- the rows stand where the queue isn't empty
-    standing : IsSome p.source.graph → RowsStand objects store rows p
+    -- the rows are in use where the queue isn't empty
+    standing : IsSome (held_graph p.source) → RowsStand objects store rows p
     standing some = ⊎_elim (λ r. r) (λ n. let none : true ≡ false = sym some ∙ ap is_some n in cc) safe.either
 
     module _ (known : IsHistory (objects store) rows history) (h : Holds p) (started : Started p) where
       -- what waits has a row, and what it reaches has one
-      rowed : IsSome p.source.graph → ((q : Key × Entry) → Contains p.queue q → is_told q.0.generation ≡ true) → (q i : ObjectId) → IsWaiting p side.Hidden q → Reaches There (q ∷ []) i → (row : GraphRow) × (row_of rows i ≡ Some row)
+      rowed : IsSome (held_graph p.source) → ((q : Key × Entry) → Contains p.queue q → is_told q.0.generation ≡ true) → (q i : ObjectId) → IsWaiting p side.Hidden q → Reaches There (q ∷ []) i → (row : GraphRow) × (row_of rows i ≡ Some row)
       rowed some told q i w path =
           let k : (row : GraphRow) × (row_of rows q ≡ Some row) = subst (λ j. (row : GraphRow) × (row_of rows j ≡ Some row)) w.3 (row_for (safe.queued (standing some) w.0 w.1) (told w.0 w.1)) in
           let b = below objects store history rows tips hidden_tips known q k.0.generation (k.0, k.1, refl) i path in
@@ -246,12 +246,12 @@ module _ {F : Type 0} (objects : F → Objects) (store : F) (rows : List GraphRo
   HoldsOf history = Stands objects store history rows tips hidden_tips nobody p × IsStarted objects store history rows tips hidden_tips p × IsOrdered objects store history rows tips hidden_tips p
 
   abbrev Left : List GraphRow
-  Left = if is_some p.source.graph then rows else []
+  Left = if is_some (held_graph p.source) then rows else []
 
   -- what painting gives
   pub paints : ((history : Objects) → IsHistory (objects store) rows history → HoldsOf history) → Paints (objects store) rows tips hidden_tips (hidden_of p.marks) Left
   paints holds = record {
-    rows_left = either_rows (is_some p.source.graph);
+    rows_left = either_rows (is_some (held_graph p.source));
     read = λ e i r.
         let k = holds (objects store) (none_known e) in
         ap is_some (k.0.read e i (all_read objects store (objects store) rows tips hidden_tips p safe settled (none_known e) k.0 k.1 e i r)).1.1;
@@ -260,7 +260,7 @@ module _ {F : Type 0} (objects : F → Objects) (store : F) (rows : List GraphRo
         record {
           sound = sound objects store history rows tips hidden_tips p safe settled known k.0 k.1;
           whole = whole objects store history rows tips hidden_tips p safe settled known k.0 k.1;
-          drops = λ gone. k.0.dropped (λ stands. gone (still (p.source.graph) refl stands));
+          drops = λ gone. k.0.dropped (λ stands. gone (still (held_graph p.source) refl stands));
           keeps = λ left. keeps objects store history rows tips hidden_tips p safe settled known k.0 k.1 k.2 (stood left);
         };
   }
@@ -272,7 +272,7 @@ module _ {F : Type 0} (objects : F → Objects) (store : F) (rows : List GraphRo
       either_rows true = inl refl
       either_rows false = inr refl
 
-      still : (o : Option (Bor (List GraphRow))) → p.source.graph ≡ o → RowsStand objects store rows p → Left ≡ rows
+      still : (o : Option (Bor (List GraphRow))) → held_graph p.source ≡ o → RowsStand objects store rows p → Left ≡ rows
       still None e stands = ap (λ g. if is_some g then rows else []) e ∙ sym (ap rows_in e) ∙ stands
       still (Some graph) e stands = ap (λ g. if is_some g then rows else []) e
 

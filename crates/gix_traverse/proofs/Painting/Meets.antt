@@ -21,7 +21,7 @@ use Rattle.gix_traverse.specs.declared.commit.simple.pending.Pending.{Pending}
 use Rattle.gix_traverse.specs.Simple.Walk.{ids_of}
 use Rattle.gix_traverse.specs.declared.commit.simple.Hidden.{Hidden}
 use Rattle.gix_traverse.specs.Simple.Painting.{IsFaultAt}
-use Rattle.gix_traverse.specs.Simple.Inside.Painter.{FailsAmong, hides, is_hidden, State, Unmet, Open, Read, Hides, state_by, state_of, IsTidy, Becomes, stays, opens, covers, rows_in, IsQueued, IsWaiting, Queues, Meets, is_turn, Takes, GivesParents, TreatsEntry, reads, room}
+use Rattle.gix_traverse.specs.Simple.Inside.Painter.{FailsAmong, hides, is_hidden, State, Unmet, Open, Read, Hides, state_by, state_of, IsTidy, Becomes, stays, opens, covers, rows_in, held_graph, IsQueued, IsWaiting, Queues, Meets, is_turn, Takes, GivesParents, TreatsEntry, reads, room}
 use Rattle.gix_traverse.proofs.Shared.NewIds.{fresh, fresh_agree, new_less}
 use Rattle.gix_traverse.proofs.Painting.Search.{only_member}
 use Rattle.gix_parts.proofs.Ids.Membership.{id_total, same_is, same_itself, Contains-here, Contains-there, Contains-cons_cases}
@@ -84,8 +84,8 @@ module _ {F : Type 0} (objects : F → Objects) where
     spends = λ named h. Rattle.std.proofs.Math.Nat.le_trans (b.spends named (λ i c. h i (Contains-append_right xs ys i c))) (a.spends named (λ i c. h i (Contains-append_left xs ys i c)));
   }
     where
-      known : (q : Key × Entry) → IsQueued (objects mid.source.objects.now) (rows_in mid.source.graph) q → IsQueued (objects p.source.objects.now) (rows_in p.source.graph) q
-      known q h = subst (λ g. IsQueued (objects p.source.objects.now) (rows_in g) q) a.graph_stays (subst (λ o. IsQueued (objects o.now) (rows_in mid.source.graph) q) a.objects_stay h)
+      known : (q : Key × Entry) → IsQueued (objects mid.source.objects.now) (rows_in (held_graph mid.source)) q → IsQueued (objects p.source.objects.now) (rows_in (held_graph p.source)) q
+      known q h = subst (λ g. IsQueued (objects p.source.objects.now) (rows_in g) q) a.graph_stays (subst (λ o. IsQueued (objects o.now) (rows_in (held_graph mid.source)) q) a.objects_stay h)
 
   -- an id is marked and put into the queue
   module _ (on : Side) (i : ObjectId) (mark : Marks) (p mid new : Painter F) (source : mid.source ≡ p.source) (marks : mid.marks ≡ map_of.insert p.marks i mark) (queue : mid.queue ≡ p.queue) (q : Queues objects mid i on new) where
@@ -98,9 +98,9 @@ module _ {F : Type 0} (objects : F → Objects) where
     queued : IsWaiting new on i
     queued = (q.entry, Contains-permutation _ _ q.entry q.queue (Contains-here q.entry mid.queue), q.of_side, q.of_id)
 
-    added : (e : Key × Entry) → Contains new.queue e → Contains p.queue e ⊎ (Contains (i ∷ []) e.1.id × (e.1.side ≡ on) × IsQueued (objects p.source.objects.now) (rows_in p.source.graph) e)
-    added e c = ⊎_elim (λ s. inr (subst (λ x. Contains (i ∷ []) x.1.id × (x.1.side ≡ on) × IsQueued (objects p.source.objects.now) (rows_in p.source.graph) x) s
-        (subst (λ j. Contains (i ∷ []) j) (sym q.of_id) (Contains-here i []), q.of_side, subst (λ so. IsQueued (objects so.objects.now) (rows_in so.graph) q.entry) source q.known)))
+    added : (e : Key × Entry) → Contains new.queue e → Contains p.queue e ⊎ (Contains (i ∷ []) e.1.id × (e.1.side ≡ on) × IsQueued (objects p.source.objects.now) (rows_in (held_graph p.source)) e)
+    added e c = ⊎_elim (λ s. inr (subst (λ x. Contains (i ∷ []) x.1.id × (x.1.side ≡ on) × IsQueued (objects p.source.objects.now) (rows_in (held_graph p.source)) x) s
+        (subst (λ j. Contains (i ∷ []) j) (sym q.of_id) (Contains-here i []), q.of_side, subst (λ so. IsQueued (objects so.objects.now) (rows_in (held_graph so)) q.entry) source q.known)))
         (λ o. inl (subst (λ es. Contains es e) queue o))
         (Contains-cons_cases e q.entry mid.queue (Contains-permutation _ _ e (Rattle.std.proofs.lemmas.List.Sorted.IsPermutation-sym _ _ q.queue) c))
 
@@ -110,107 +110,102 @@ module _ {F : Type 0} (objects : F → Objects) where
     length_now : length new.queue ≡ suc (length p.queue)
     length_now = length_permutation _ _ q.queue ∙ ap (λ es. suc (length es)) queue
 
-    met_fewer : (named : List ObjectId) → is_among i named ≡ true → length (fresh (λ j. is_some (map_of.get new.marks j)) named) ≤ length (fresh (λ j. is_some (map_of.get p.marks j)) named)
-    met_fewer named e =
-        let same : length (fresh (λ j. is_some (map_of.get new.marks j)) named) ≡ length (fresh (λ j. is_same j i || is_some (map_of.get p.marks j)) named) = ap length (fresh_agree _ _ named (λ j h. ap is_some (marks_now j) ∙ split (is_same j i) (map_of.get p.marks j))) in
-        let less = more_old (λ j. is_some (map_of.get p.marks j)) named i e in
-        omega arith
+    marked_fresh : (named : List ObjectId) → length (fresh (λ j. is_some (map_of.get new.marks j)) named) ≡ length (fresh (λ j. is_same j i || is_some (map_of.get p.marks j)) named)
+    marked_fresh named = ap length (fresh_agree _ _ named (λ j h. ap is_some (marks_now j) ∙ split (is_same j i) (map_of.get p.marks j)))
       where
         split : (b : Bool) (o : Option Marks) → is_some (cond b (Some mark) o) ≡ (b || is_some o)
         split true o = refl
         split false o = refl
 
+    met_fewer : (named : List ObjectId) → is_among i named ≡ true → length (fresh (λ j. is_some (map_of.get new.marks j)) named) ≤ length (fresh (λ j. is_some (map_of.get p.marks j)) named)
+    met_fewer named e =
+        let same = marked_fresh named in
+        let less = more_old (λ j. is_some (map_of.get p.marks j)) named i e in
+        omega arith
+
+    -- another id's state stays, where the frontier holds it as before
+    module _ (waits : Bool → Bool → Bool) (waits_now : (j : ObjectId) → set.contains new.frontier j ≡ waits (is_same j i) (set.contains p.frontier j)) (others_wait : (w : Bool) → waits false w ≡ w) where
+      state_if : (j : ObjectId) (b : Bool) → is_same j i ≡ b → state_of new j ≡ state_by (cond b (Some mark) (map_of.get p.marks j)) (waits b (set.contains p.frontier j))
+      state_if j b e = (λ k. state_by (marks_now j k) (waits_now j k)) ∙ ap (λ b. state_by (cond b (Some mark) (map_of.get p.marks j)) (waits b (set.contains p.frontier j))) e
+
+      state_stays : (j : ObjectId) → is_same j i ≡ false → state_of new j ≡ state_of p j
+      state_stays j e = state_if j false e ∙ ap (λ w. state_by (map_of.get p.marks j) w) (others_wait (set.contains p.frontier j))
+
+      meets : ((j : ObjectId) → is_same j i ≡ true → Becomes on (Contains (i ∷ []) j) (IsWaiting new on j) (state_of p j) (state_by (Some mark) (waits true (set.contains p.frontier j))))
+          → ((j : ObjectId) → is_same j i ≡ true → set.contains new.frontier j ≡ true → state_by (Some mark) (waits true (set.contains p.frontier j)) ≡ Open)
+          → ((named : List ObjectId) → is_among i named ≡ true → room named new ≤ room named p) → Meets objects on (i ∷ []) p new
+      meets becomes tidy spent = record {
+        objects_stay = q.objects_stay ∙ ap (λ s. s.objects) source;
+        graph_stays = q.graph_stays ∙ ap held_graph source;
+        states = λ j. states j (is_same j i) refl;
+        keeps = kept;
+        adds = added;
+        tidies = λ t j. tidied t j (is_same j i) refl;
+        spends = λ named h. spent named (h i (Contains-here i []));
+      }
+        where
+          states : (j : ObjectId) (b : Bool) → is_same j i ≡ b → Becomes on (Contains (i ∷ []) j) (IsWaiting new on j) (state_of p j) (state_of new j)
+          states j true e = subst (Becomes on (Contains (i ∷ []) j) (IsWaiting new on j) (state_of p j)) (sym (state_if j true e)) (becomes j e)
+          states j false e = subst (Becomes on (Contains (i ∷ []) j) (IsWaiting new on j) (state_of p j)) (sym (state_stays j e)) (stays (λ m. absurd (other j e m)))
+
+          tidied : IsTidy p → (j : ObjectId) (b : Bool) → is_same j i ≡ b → set.contains new.frontier j ≡ true → state_of new j ≡ Open
+          tidied t j true e w = state_if j true e ∙ tidy j e w
+          tidied t j false e w = state_stays j e ∙ t j (sym (waits_now j ∙ ap (λ b. waits b (set.contains p.frontier j)) e ∙ others_wait (set.contains p.frontier j)) ∙ w)
+
+    named_here : (j : ObjectId) → is_same j i ≡ true → Contains (i ∷ []) j
+    named_here j e = subst (Contains (i ∷ [])) (sym (same_is j i e)) (Contains-here i [])
+
+    waits_here : (j : ObjectId) → is_same j i ≡ true → IsWaiting new on j
+    waits_here j e = subst (IsWaiting new on) (sym (same_is j i e)) queued
+
     -- a visible id is open
     pub meets_shown : on ≡ side.Visible → map_of.get p.marks i ≡ None → hides (Some mark) ≡ false → mid.frontier ≡ set.insert p.frontier i → Meets objects on (i ∷ []) p new
-    meets_shown visible unmet mark_is frontier = record {
-      objects_stay = q.objects_stay ∙ ap (λ s. s.objects) source;
-      graph_stays = q.graph_stays ∙ ap (λ s. s.graph) source;
-      states = λ j. states j (is_same j i) refl;
-      keeps = kept;
-      adds = added;
-      tidies = λ t j. tidied t j (is_same j i) refl;
-      spends = spent;
-    }
+    meets_shown visible unmet mark_is frontier = meets ◌||◌ waits_now (λ w. refl) becomes (λ j e w. opened) spent
       where
         waits_now : (j : ObjectId) → set.contains new.frontier j ≡ (is_same j i || set.contains p.frontier j)
         waits_now j = ap (λ s. set.contains s j) (q.frontier_stays ∙ frontier) ∙ set.contains-insert id_total p.frontier i j
 
-        state_now : (j : ObjectId) → state_of new j ≡ state_by (cond (is_same j i) (Some mark) (map_of.get p.marks j)) (is_same j i || set.contains p.frontier j)
-        state_now j = λ k. state_by (marks_now j k) (waits_now j k)
-
         opened : state_by (Some mark) true ≡ Open
         opened = ap (λ b. cond b Hides Open) mark_is
 
-        states : (j : ObjectId) (b : Bool) → is_same j i ≡ b → Becomes on (Contains (i ∷ []) j) (IsWaiting new on j) (state_of p j) (state_of new j)
-        states j true e =
-            let same : i ≡ j = sym (same_is j i e) in
-            let before : state_of p j ≡ Unmet = ap (λ k. state_by (map_of.get p.marks k) (set.contains p.frontier j)) (sym same) ∙ ap (λ o. state_by o (set.contains p.frontier j)) unmet in
-            let now : state_of new j ≡ Open = state_now j ∙ ap (λ b. state_by (cond b (Some mark) (map_of.get p.marks j)) (b || set.contains p.frontier j)) e ∙ opened in
-            subst (λ s. Becomes on (Contains (i ∷ []) j) (IsWaiting new on j) s (state_of new j)) (sym before)
-            (subst (Becomes on (Contains (i ∷ []) j) (IsWaiting new on j) Unmet) (sym now) (opens visible (subst (Contains (i ∷ [])) same (Contains-here i [])) (subst (IsWaiting new on) same queued)))
-        states j false e =
-            let now : state_of new j ≡ state_of p j = state_now j ∙ ap (λ b. state_by (cond b (Some mark) (map_of.get p.marks j)) (b || set.contains p.frontier j)) e in
-            subst (Becomes on (Contains (i ∷ []) j) (IsWaiting new on j) (state_of p j)) (sym now) (stays (λ m. absurd (other j e m)))
-
-        tidied : IsTidy p → (j : ObjectId) (b : Bool) → is_same j i ≡ b → set.contains new.frontier j ≡ true → state_of new j ≡ Open
-        tidied t j true e w = state_now j ∙ ap (λ b. state_by (cond b (Some mark) (map_of.get p.marks j)) (b || set.contains p.frontier j)) e ∙ opened
-        tidied t j false e w = state_now j ∙ ap (λ b. state_by (cond b (Some mark) (map_of.get p.marks j)) (b || set.contains p.frontier j)) e ∙ t j (sym (waits_now j ∙ ap (λ b. b || set.contains p.frontier j) e) ∙ w)
+        becomes : (j : ObjectId) → is_same j i ≡ true → Becomes on (Contains (i ∷ []) j) (IsWaiting new on j) (state_of p j) (state_by (Some mark) true)
+        becomes j e =
+            let before : state_of p j ≡ Unmet = ap (λ k. state_by (map_of.get p.marks k) (set.contains p.frontier j)) (same_is j i e) ∙ ap (λ o. state_by o (set.contains p.frontier j)) unmet in
+            subst (λ s. Becomes on (Contains (i ∷ []) j) (IsWaiting new on j) s (state_by (Some mark) true)) (sym before)
+            (subst (Becomes on (Contains (i ∷ []) j) (IsWaiting new on j) Unmet) (sym opened) (opens visible (named_here j e) (waits_here j e)))
 
         hidden_same : (j : ObjectId) (b : Bool) → is_same j i ≡ b → hides (cond b (Some mark) (map_of.get p.marks j)) ≡ hides (map_of.get p.marks j)
         hidden_same j true e = mark_is ∙ sym (ap hides (ap (map_of.get p.marks) (same_is j i e) ∙ unmet))
         hidden_same j false e = refl
 
-        spent : (named : List ObjectId) → ((j : ObjectId) → Contains (i ∷ []) j → is_among j named ≡ true) → room named new ≤ room named p
-        spent named h =
-            let e = h i (Contains-here i []) in
+        spent : (named : List ObjectId) → is_among i named ≡ true → room named new ≤ room named p
+        spent named e =
             let less : suc (length (fresh (λ j. is_same j i || is_some (map_of.get p.marks j)) named)) ≡ length (fresh (λ j. is_some (map_of.get p.marks j)) named) = new_less (λ j. is_some (map_of.get p.marks j)) named i e (ap is_some unmet) in
-            let same : length (fresh (λ j. is_some (map_of.get new.marks j)) named) ≡ length (fresh (λ j. is_same j i || is_some (map_of.get p.marks j)) named) = ap length (fresh_agree _ _ named (λ j h. ap is_some (marks_now j) ∙ split (is_same j i) (map_of.get p.marks j))) in
+            let same = marked_fresh named in
             let hidden : length (fresh (is_hidden new.marks) named) ≡ length (fresh (is_hidden p.marks) named) = ap length (fresh_agree _ _ named (λ j h. ap hides (marks_now j) ∙ hidden_same j (is_same j i) refl)) in
             let longer = length_now in
             omega arith
-          where
-            split : (b : Bool) (o : Option Marks) → is_some (cond b (Some mark) o) ≡ (b || is_some o)
-            split true o = refl
-            split false o = refl
 
     -- a hidden id is hidden whatever it was
     pub meets_hidden : on ≡ side.Hidden → is_hidden p.marks i ≡ false → hides (Some mark) ≡ true → mid.frontier ≡ set.remove p.frontier i → Meets objects on (i ∷ []) p new
-    meets_hidden hidden unhidden mark_is frontier = record {
-      objects_stay = q.objects_stay ∙ ap (λ s. s.objects) source;
-      graph_stays = q.graph_stays ∙ ap (λ s. s.graph) source;
-      states = λ j. states j (is_same j i) refl;
-      keeps = kept;
-      adds = added;
-      tidies = λ t j. tidied t j (is_same j i) refl;
-      spends = spent;
-    }
+    meets_hidden hidden unhidden mark_is frontier = meets (λ same w. not same && w) waits_now (λ w. refl) becomes none_waits spent
       where
         waits_now : (j : ObjectId) → set.contains new.frontier j ≡ (not (is_same j i) && set.contains p.frontier j)
         waits_now j = ap (λ s. set.contains s j) (q.frontier_stays ∙ frontier) ∙ set.contains-remove id_total p.frontier i j
 
-        state_now : (j : ObjectId) → state_of new j ≡ state_by (cond (is_same j i) (Some mark) (map_of.get p.marks j)) (not (is_same j i) && set.contains p.frontier j)
-        state_now j = λ k. state_by (marks_now j k) (waits_now j k)
+        becomes : (j : ObjectId) → is_same j i ≡ true → Becomes on (Contains (i ∷ []) j) (IsWaiting new on j) (state_of p j) (state_by (Some mark) false)
+        becomes j e =
+            subst (Becomes on (Contains (i ∷ []) j) (IsWaiting new on j) (state_of p j)) (sym (ap (λ b. cond b Hides Read) mark_is)) (covers hidden (named_here j e) (waits_here j e))
 
-        states : (j : ObjectId) (b : Bool) → is_same j i ≡ b → Becomes on (Contains (i ∷ []) j) (IsWaiting new on j) (state_of p j) (state_of new j)
-        states j true e =
-            let same : i ≡ j = sym (same_is j i e) in
-            let now : state_of new j ≡ Hides = state_now j ∙ ap (λ b. state_by (cond b (Some mark) (map_of.get p.marks j)) (not b && set.contains p.frontier j)) e ∙ ap (λ b. cond b Hides Read) mark_is in
-            subst (Becomes on (Contains (i ∷ []) j) (IsWaiting new on j) (state_of p j)) (sym now) (covers hidden (subst (Contains (i ∷ [])) same (Contains-here i [])) (subst (IsWaiting new on) same queued))
-        states j false e =
-            let now : state_of new j ≡ state_of p j = state_now j ∙ ap (λ b. state_by (cond b (Some mark) (map_of.get p.marks j)) (not b && set.contains p.frontier j)) e in
-            subst (Becomes on (Contains (i ∷ []) j) (IsWaiting new on j) (state_of p j)) (sym now) (stays (λ m. absurd (other j e m)))
-
-        tidied : IsTidy p → (j : ObjectId) (b : Bool) → is_same j i ≡ b → set.contains new.frontier j ≡ true → state_of new j ≡ Open
-        tidied t j true e w = let none : true ≡ false = sym w ∙ waits_now j ∙ ap (λ b. not b && set.contains p.frontier j) e in cc
-        tidied t j false e w = state_now j ∙ ap (λ b. state_by (cond b (Some mark) (map_of.get p.marks j)) (not b && set.contains p.frontier j)) e ∙ t j (sym (waits_now j ∙ ap (λ b. not b && set.contains p.frontier j) e) ∙ w)
+        none_waits : (j : ObjectId) → is_same j i ≡ true → set.contains new.frontier j ≡ true → state_by (Some mark) false ≡ Open
+        none_waits j e w = let none : true ≡ false = sym w ∙ waits_now j ∙ ap (λ b. not b && set.contains p.frontier j) e in cc
 
         split : (b : Bool) (o : Option Marks) → hides (cond b (Some mark) o) ≡ (b || hides o)
         split true o = mark_is
         split false o = refl
 
-        spent : (named : List ObjectId) → ((j : ObjectId) → Contains (i ∷ []) j → is_among j named ≡ true) → room named new ≤ room named p
-        spent named h =
-            let e = h i (Contains-here i []) in
+        spent : (named : List ObjectId) → is_among i named ≡ true → room named new ≤ room named p
+        spent named e =
             let less : suc (length (fresh (λ j. is_same j i || is_hidden p.marks j) named)) ≡ length (fresh (is_hidden p.marks) named) = new_less (is_hidden p.marks) named i e unhidden in
             let same : length (fresh (is_hidden new.marks) named) ≡ length (fresh (λ j. is_same j i || is_hidden p.marks j) named) = ap length (fresh_agree _ _ named (λ j h. ap hides (marks_now j) ∙ split (is_same j i) (map_of.get p.marks j))) in
             let fewer = met_fewer named e in
@@ -248,15 +243,15 @@ module _ {F : Type 0} (objects : F → Objects) (faulty : F → ObjectId → Typ
       (k.0, subst (λ j. Contains ids j) (only_member i k.0 k.1) c, k.2, subst (λ w. IsFaultAt (objects now.now) (faulty now.now) k.0 w) (sym h) k.3)))
 
   -- an entry is taken, and its parents are met
-  pub treats : {old begun mid new : Painter F} (entry : Entry) (ids items : List ObjectId) → is_turn entry old.frontier ≡ true → Takes old entry begun → begun.source.graph ≡ old.source.graph
+  pub treats : {old begun mid new : Painter F} (entry : Entry) (ids items : List ObjectId) → is_turn entry old.frontier ≡ true → Takes old entry begun → held_graph begun.source ≡ held_graph old.source
       → mid.source.objects ≡ begun.source.objects → mid.marks ≡ begun.marks → mid.frontier ≡ begun.frontier → mid.queue ≡ begun.queue
-      → GivesParents (objects begun.source.objects.now) begun.source.graph entry items mid.source.graph → ids ≡ items → Meets objects entry.side ids mid new → TreatsEntry objects old entry new
+      → GivesParents (objects begun.source.objects.now) (held_graph begun.source) entry items (held_graph mid.source) → ids ≡ items → Meets objects entry.side ids mid new → TreatsEntry objects old entry new
   treats {old} {begun} {mid} entry ids items turn takes graph same_objects marks frontier queue gives same met =
       reads turn
       (record { objects_stay = same_objects ∙ takes.objects_stay; marks_stay = marks ∙ takes.marks_stay; queue_stays = queue ∙ takes.queue_stays; frontier = frontier ∙ takes.frontier })
-      (subst (λ xs. GivesParents (objects old.source.objects.now) old.source.graph entry xs mid.source.graph) (sym same)
-      (subst (λ g. GivesParents (objects old.source.objects.now) g entry items mid.source.graph) graph
-      (subst (λ o. GivesParents (objects o.now) begun.source.graph entry items mid.source.graph) takes.objects_stay gives)))
+      (subst (λ xs. GivesParents (objects old.source.objects.now) (held_graph old.source) entry xs (held_graph mid.source)) (sym same)
+      (subst (λ g. GivesParents (objects old.source.objects.now) g entry items (held_graph mid.source)) graph
+      (subst (λ o. GivesParents (objects o.now) (held_graph begun.source) entry items (held_graph mid.source)) takes.objects_stay gives)))
       met
 
 pub no_ids : (tips : List Pending) → length tips ≡ 0 → length (ids_of tips) ≡ 0

@@ -13,20 +13,16 @@ use Rattle.gix_traverse.specs.declared.commit.simple.paint.source.Generation.The
 use Rattle.gix_traverse.specs.declared.commit.simple.paint.source.Key.{Key}
 use Rattle.gix_traverse.specs.declared.commit.simple.paint.Entry.{Entry}
 use Rattle.gix_traverse.specs.declared.commit.simple.paint.Painter.{Painter}
-use Rattle.gix_traverse.specs.History.Agreeing.{IsCorrupt}
 use Rattle.gix_traverse.specs.History.Reach.{Reaches}
 use Rattle.gix_traverse.specs.Simple.Painting.{IsHistory}
-use Rattle.gix_traverse.specs.Simple.Inside.Painter.{State, Unmet, Open, Read, Hides, state_of, Becomes, stays, opens, covers, rows_in, by_row, by_store, drops, IsQueued, IsWaiting, Meets, GivesParents, brought, looked_up, is_turn, is_turn_on, TreatsEntry, skips, reads, Pops}
+use Rattle.gix_traverse.specs.Simple.Inside.Painter.{State, Unmet, Open, Read, Hides, state_of, Becomes, stays, opens, covers, rows_in, held_graph, by_row, by_store, drops, IsQueued, IsWaiting, Meets, GivesParents, brought, looked_up, is_turn, is_turn_on, TreatsEntry, skips, reads, Pops}
 use Rattle.gix_traverse.specs.Simple.Inside.Painter as painter
 use Rattle.gix_traverse.specs.Simple.Walk.{ids_at}
 use Rattle.gix_traverse.proofs.Painting.Invariant.{nobody, next, starts_of, RowsStand, IsSafe, Stands, IsStarted, still_stand}
+use Rattle.gix_traverse.proofs.Shared.HeldRows.{IsSoundRow, unread_fault}
 use Rattle.gix_traverse.proofs.Painting.Keys.{told_below_top}
-use Rattle.gix_traverse.proofs.Painting.KeptByTurn.{HasGeneration, falls, key_of, row_told, popped_there, no_fault_among}
+use Rattle.gix_traverse.proofs.Painting.KeptByTurn.{HasGeneration, falls, key_of, row_told, popped_there}
 use Rattle.gix_traverse.proofs.Painting.Turn.{IsTurned, turned, within, waits_still, graph_after, given_parents}
-
--- the row of an id, if there is one, has no fault
-abbrev pub IsSoundRow : List GraphRow → ObjectId → Type 0
-IsSoundRow rows i = (row : GraphRow) → row_of rows i ≡ Some row → IsCorrupt row → ⊥
 
 -- parents were read, and the rows are held: the row has no fault
 given_sound : {objects : Objects} {old new : Option (Bor (List GraphRow))} {entry : Entry} {ids : List ObjectId} (rows : List GraphRow) → GivesParents objects old entry ids new → rows_in new ≡ rows → rows_in old ≡ rows
@@ -37,7 +33,7 @@ given_sound {old = old} {entry = entry} {ids = ids} rows (looked_up n (by_row {r
     let it : other ≡ row = cc in
     let back : row ≡ other = sym it in
     let stood : rows ≡ rows_in old = sym was in
-    no_fault_among rows row.parents ids ((λ k. ids_at (stood k) (back k).parents) ∙ f) corrupt
+    unread_fault rows row.parents ids ((λ k. ids_at (stood k) (back k).parents) ∙ f) corrupt
 given_sound {entry = entry} rows (looked_up n (by_store e r)) now was none row k corrupt = let bad : None ≡ Some row = sym (ap (λ rs. row_of rs entry.id) (sym was) ∙ e) ∙ k in cc
 given_sound {entry = entry} rows (looked_up n (drops e f r)) now was none row k corrupt = let bad : None ≡ Some row = ap (λ rs. row_of rs entry.id) now ∙ k in cc
 
@@ -101,7 +97,7 @@ module _ {F : Type 0} (objects : F → Objects) (store : F) (history : Objects) 
     }
       where
         back : Standing new → Standing w
-        back r = ap rows_in (sym (graph ∙ ap (λ s. s.graph) pops.source)) ∙ r
+        back r = ap rows_in (sym (graph ∙ ap held_graph pops.source)) ∙ r
 
         same : (i : ObjectId) → state_of new i ≡ state_of w i
         same i = ⊎_elim (λ e. e) (λ t. let bad : true ≡ false = sym t.0 ∙ ap (λ f. is_turn top.1 f) (sym pops.frontier) ∙ idle_turn in cc) (turned objects store history rows tips hidden_tips top pops takes h i)
@@ -119,7 +115,7 @@ module _ {F : Type 0} (objects : F → Objects) (store : F) (history : Objects) 
           (λ k. inl (subst (λ s. IsWaiting new s i) k.0 k.2)) (was_hidden (met.states i) e);
     }
       where
-        after : ((rows_in mid.source.graph ≡ rows) ⊎ (mid.source.graph ≡ None)) × (rows_in mid.source.graph ≡ rows → Standing w)
+        after : ((rows_in (held_graph mid.source) ≡ rows) ⊎ (held_graph mid.source ≡ None)) × (rows_in (held_graph mid.source) ≡ rows → Standing w)
         after = graph_after objects store history rows tips hidden_tips top pops safe gives
 
         back : Standing new → Standing w
@@ -135,7 +131,7 @@ module _ {F : Type 0} (objects : F → Objects) (store : F) (history : Objects) 
         keeps_below : Standing new → (n : ℕ) → IsBelow w n → IsBelow new n
         keeps_below r n b q c = ⊎_elim (λ was. b q (within objects store history rows tips hidden_tips top pops takes q was)) (λ a. added a.0 a.2) (met.adds q c)
           where
-            added : Contains ids q.1.id → IsQueued (objects mid.source.objects.now) (rows_in mid.source.graph) q → (m : ℕ) × (q.0.generation ≡ Told m) × (m ≤ n)
+            added : Contains ids q.1.id → IsQueued (objects mid.source.objects.now) (rows_in (held_graph mid.source)) q → (m : ℕ) × (q.0.generation ≡ Told m) × (m ≤ n)
             added m queued =
                 let t : (k : ℕ) × (top.0.generation ≡ Told k) × (k ≤ n) = b top there in
                 let g : HasGeneration objects store history rows tips hidden_tips top.1.id t.0 = row_told objects store history rows tips hidden_tips known w safe h started (back r) top there t.0 t.1 in
@@ -153,7 +149,7 @@ module _ {F : Type 0} (objects : F → Objects) (store : F) (history : Objects) 
         top_above r row e = keeps_below r row.generation (λ q c. told_below_top top.0 w.queue pops.greatest row.generation (key_of objects store history rows tips hidden_tips known w safe h started (back r) top there row e) q c)
 
         top_sound : Standing new → IsSoundRow rows top.1.id
-        top_sound r = given_sound rows gives (still_stand objects store rows met r) (ap (λ s. rows_in s.graph) pops.source ∙ back r) (λ those e. unrowed those e (safe.queued (back r) top there))
+        top_sound r = given_sound rows gives (still_stand objects store rows met r) (ap (λ s. rows_in (held_graph s)) pops.source ∙ back r) (λ those e. unrowed those e (safe.queued (back r) top there))
           where
             unrowed : (those : List ObjectId) → option_map (λ ids. ids.items) top.1.parent_ids ≡ Some those → IsQueued (objects store) rows top → row_of rows top.1.id ≡ None
             unrowed those e (painter.by_row f k s n) = let bad : None ≡ Some those = sym (ap (option_map (λ ids. ids.items)) n) ∙ e in cc

@@ -1,25 +1,26 @@
--- A commit is read from the store whole, or there is a fault at its id.
-use Rattle.std.specs.Prelude.{◌≡◌, ℕ, ℤ, List, [], ◌∷◌, Option, Some, None, Result, Ok, Err, slice_get}
-use Rattle.std.proofs.Common.{refl, sym, ap, ◌∙◌}
-use Rattle.std.specs.FinMap as map_of
+-- How painting reads a commit: by its row, or whole from the store.
+use Rattle.std.specs.Borrow.{Bor}
+use Rattle.std.specs.Prelude.{◌≡◌, ℕ, ℤ, List, Bool, true, false, if◌then◌else◌, Option, Some, None, Result, Ok, Err}
+use Rattle.std.proofs.Common.{refl, sym, ap, subst, ◌∙◌}
 use Rattle.gix_parts.specs.declared.hash.ObjectId.{ObjectId}
-use Rattle.gix_parts.specs.declared.object.Kind.TheVariants as object
 use Rattle.gix_parts.specs.declared.object.decode.Error.{Error as DecodeError}
-use Rattle.gix_parts.specs.CommitItems.{Item, commit_items}
+use Rattle.gix_parts.specs.CommitItems.{commit_items}
 use Rattle.gix_parts.specs.CommitRefIter.{first_committer}
 use Rattle.gix_parts.specs.CommitText.{read_commit, seconds_of}
 use Rattle.gix_parts.specs.Id.{kind_of}
 use Rattle.gix_parts.specs.Object.{Objects}
-use Rattle.gix_parts.specs.Parents.{Answer, answers_of}
 use Rattle.gix_parts.specs.Rows.{GraphRow}
-use Rattle.gix_parts.specs.declared.graph.ParentPlace.{ParentPlace}
-use Rattle.gix_parts.specs.declared.graph.ParentPlace.TheVariants.{At, Fault}
 use Rattle.gix_traverse.specs.declared.commit.Parents.TheVariants as mode
+use Rattle.gix_traverse.specs.declared.commit.read.Header.{Header}
+use Rattle.gix_traverse.specs.declared.commit.read.RowRead.{RowRead}
+use Rattle.gix_traverse.specs.History.Agreeing.{rows_in}
+use Rattle.gix_traverse.specs.History.Reading.{ReadsHeader, ReadsRow, is_read, absent, corrupt, dropped}
 use Rattle.gix_traverse.specs.History.Commits.{commit_of_object, time_of}
 use Rattle.gix_traverse.specs.History.Either.{seconds_told}
 use Rattle.gix_traverse.specs.Simple.Building.{IsTipRead}
-use Rattle.gix_traverse.specs.Simple.Inside.Painter.{Reads}
-use Rattle.gix_traverse.specs.Simple.Walk.{scanned, ids_at, with_id}
+use Rattle.gix_traverse.specs.Simple.Inside.Painter.{Reads, ReadsParents, by_row, by_store, drops}
+use Rattle.gix_traverse.specs.Simple.Walk.{IsUnrowed}
+use Rattle.gix_traverse.proofs.Shared.HeldRows.{passes}
 use Rattle.gix_traverse.proofs.Shared.CommitterTime.{committer_read, time_read}
 use Rattle.gix_traverse.proofs.Shared.ReadsWhole.{scan_is}
 
@@ -28,26 +29,26 @@ committer_told (Ok signature) time h = (signature, refl, cc)
 committer_told (Err e) time h = cc
 
 -- a commit whose committer is read is read whole, and that is its time
-pub header_read : (objects : Objects) (i : ObjectId) (bytes : List ℕ) (items : List (Result Item DecodeError)) (time : ℤ) (ids : List ObjectId)
-    → map_of.get objects i ≡ Some (record { kind = object.Commit; bytes = bytes })
-    → items ≡ commit_items (kind_of i) bytes
-    → Ok time ≡ seconds_told (first_committer items)
-    → ids ≡ (scanned mode.All items).0
-    → Reads objects i ids × (time ≡ time_of objects i)
-header_read objects i bytes items time ids stored same committer scan =
-    let told : (signature : List ℕ) × (first_committer items ≡ Ok signature) × (time ≡ seconds_of signature) = committer_told (first_committer items) time committer in
-    let tip : IsTipRead objects i (seconds_of told.0) = committer_read objects i bytes stored told.0 (sym (ap first_committer same) ∙ told.1) in
-    let read : read_commit (kind_of i) bytes ≡ Some tip.commit = sym (ap (commit_of_object i) stored) ∙ tip.stored in
-    let all : scanned mode.All items ≡ (tip.commit.parents, None) = ap (scanned mode.All) same ∙ scan_is (kind_of i) bytes tip.commit read mode.All in
-    ((tip.commit, tip.stored, scan ∙ ap (λ p. p.0) all), told.2 ∙ sym (time_read objects i _ tip))
+pub header_read : (objects : Objects) (i : ObjectId) (header : Header) → ReadsHeader objects i header → (time : ℤ) → header.time ≡ Ok time → Reads objects i header.parent_ids.items × (time ≡ time_of objects i)
+header_read objects i header h time is =
+    let told : (signature : List ℕ) × (first_committer (commit_items (kind_of i) h.bytes) ≡ Ok signature) × (time ≡ seconds_of signature) = committer_told (first_committer (commit_items (kind_of i) h.bytes)) time (sym is ∙ h.time) in
+    let tip : IsTipRead objects i (seconds_of told.0) = committer_read objects i h.bytes h.stored told.0 told.1 in
+    let read : read_commit (kind_of i) h.bytes ≡ Some tip.commit = sym (ap (commit_of_object i) h.stored) ∙ tip.stored in
+    ((tip.commit, tip.stored, h.parents ∙ ap (λ p. p.0) (scan_is (kind_of i) h.bytes tip.commit read mode.All)), told.2 ∙ sym (time_read objects i _ tip))
 
--- the ids that the answers for a row's places name
-abbrev pub ids_answered : List GraphRow → List Answer → Option (List ObjectId)
-ids_answered rows [] = Some []
-ids_answered rows (Err e ∷ answers) = None
-ids_answered rows (Ok position ∷ answers) = with_id (slice_get rows position.0) (ids_answered rows answers)
+module _ (objects : Objects) where
+  -- the parents of a row that was read
+  pub row_read : (graph : Option (Bor (List GraphRow))) {held new : Bool} {i : ObjectId} {read : RowRead} → ReadsRow (rows_in graph) held i (Some read) new → ReadsParents objects (if held then graph else None) i read.parent_ids.items (if new then graph else None)
+  row_read graph {i = i} {read = read} (is_read h says) = subst (λ b. ReadsParents objects (if b then graph else None) i read.parent_ids.items (if b then graph else None)) (sym h) (by_row says.there says.parents)
 
-pub answered : (rows : List GraphRow) (places : List ParentPlace) → ids_answered rows (answers_of places) ≡ ids_at rows places
-answered rows [] = refl
-answered rows (Fault ∷ places) = refl
-answered rows (At n ∷ places) = ap (with_id (slice_get rows n)) (answered rows places)
+  -- those that the store says, where no row is read
+  pub store_read : (graph : Option (Bor (List GraphRow))) {held new : Bool} {i : ObjectId} {ids : List ObjectId} → ReadsRow (rows_in graph) held i None new → Reads objects i ids → ReadsParents objects (if held then graph else None) i ids (if new then graph else None)
+  store_read graph {held = true} (absent n) r = by_store n r
+  store_read graph {held = false} (absent n) r = by_store refl r
+  store_read graph {i = i} {ids = ids} (dropped h) r = subst (λ b. ReadsParents objects (if b then graph else None) i ids (if b then graph else None)) (sym h) (by_store refl r)
+  store_read graph {i = i} {ids = ids} (corrupt h d) r = subst (λ b. ReadsParents objects (if b then graph else None) i ids None) (sym h) (drops d.1 d.2 r)
+
+  -- the id has no row then, or a corrupt one
+  pub unread : (graph : Option (Bor (List GraphRow))) {held new : Bool} {i : ObjectId} → ReadsRow (rows_in graph) held i None new → IsUnrowed (rows_in (if held then graph else None)) i
+  unread graph {held = true} r = (passes r).0
+  unread graph {held = false} r = λ row e. cc

@@ -25,7 +25,7 @@ module _ (next : ObjectId → List ObjectId) where
       (λ w. inr (w.0, w.1, step w.2 m))
       (done_or_waits starts Waits Done begins goes c r)
 
-  -- what an id of a told generation reaches has a told generation, the same or a lesser one
+  -- what an id that has a generation reaches has a generation, the same or a lesser one
   pub told_below : (told : ObjectId → ℕ → Type 0)
       → ((i : ObjectId) (m n : ℕ) → told i m → told i n → m ≡ n)
       → ((c i : ObjectId) (n : ℕ) → told c n → Contains (next c) i → (m : ℕ) × told i m × (m < n))

@@ -1,4 +1,4 @@
--- A committer is read exactly where a commit is, and tells its time.
+-- A committer is read exactly where a commit is, and has the commit's time.
 use Rattle.std.specs.Prelude.{ℕ, zero, suc, ◌≡◌, List, [], ◌∷◌, ◌++◌, length, Option, Some, None, Result, Ok, Err, pos, ℤ}
 use Rattle.std.proofs.Common.{refl, sym, ap, subst, ◌∙◌}
 use Rattle.std.specs.FinMap.{get}
@@ -16,6 +16,7 @@ use Rattle.gix_parts.specs.Find.{FindsCommit}
 use Rattle.gix_parts.specs.CommitText.{Commit, commit_of, commit_of_items, read_commit, seconds_of}
 use Rattle.gix_traverse.specs.History.Commits.{commit_at, commit_of_object, time_in, time_of}
 use Rattle.gix_traverse.specs.Simple.Building.{IsTipRead}
+use Rattle.gix_traverse.proofs.Shared.Committer.{fault_unread}
 use Rattle.gix_traverse.proofs.Shared.ReadsWhole.{IsParentsFront, ended, faulty, parent, author, parents_front}
 
 abbrev pub TellsTime : Option Commit → Result (List ℕ) DecodeError → Type 0
@@ -67,16 +68,12 @@ module _ (objects : Objects) (i : ObjectId) (bytes : List ℕ) (there : get obje
       go (Some c) r h = record { commit = c; stored = at ∙ r; same = h }
 
   committer_unread : (e : DecodeError) → first_committer (commit_items (kind_of i) bytes) ≡ Err e → time_of objects i ≡ pos 0
-  committer_unread fault e = go (read_commit (kind_of i) bytes) refl (subst (TellsTime (read_commit (kind_of i) bytes)) e (tells (kind_of i) bytes))
-    where
-      go : (o : Option Commit) → read_commit (kind_of i) bytes ≡ o → TellsTime o (Err fault) → time_of objects i ≡ pos 0
-      go None r h = ap time_in (at ∙ r)
-      go (Some c) r h = absurd h
+  committer_unread fault e = ap time_in (at ∙ fault_unread (commit_items (kind_of i) bytes) fault e)
 
 pub time_read : (objects : Objects) (i : ObjectId) (time : ℤ) → IsTipRead objects i time → time_of objects i ≡ time
 time_read objects i time r = ap time_in r.stored ∙ r.same
 
--- what the committer of a commit that was found tells
+-- what the committer of a commit that was found says
 module _ (objects : Objects) (bad : ObjectId → Type 0) (i : ObjectId) (items : CommitRefIter) (found : FindsCommit objects bad i (Ok items)) (read : Result Signature DecodeError) (shown : signature_shown read ≡ first_committer (commit_items_left items)) where
   pub found_read : (signature : Signature) → read ≡ Ok signature → (time : ℤ) → time ≡ seconds_of signature.bytes.now → IsTipRead objects i time
   found_read signature e time t = subst (IsTipRead objects i) (sym t) (committer_read objects i found.0 found.1 signature.bytes.now (ap first_committer (sym found.2) ∙ sym shown ∙ ap signature_shown e))

@@ -93,7 +93,7 @@ times_sum : (i : ObjectId) (xs : List ObjectId) → times i xs ≡ sum_by (λ x.
 times_sum i [] = refl
 times_sum i (x ∷ xs) = ap (λ n. cond (is_same i x) 1 0 + n) (times_sum i xs) ∙ sym (sum_by-cons (λ y. cond (is_same i y) 1 0) x xs)
 
--- in another order each id stands as often
+-- in another order each id is in the list as often
 pub times_moved : (i : ObjectId) (xs ys : List ObjectId) → IsPermutation xs ys → times i ys ≡ times i xs
 times_moved i xs ys h = times_sum i ys ∙ sum_by-IsPermutation (λ x. cond (is_same i x) 1 0) xs ys h ∙ sym (times_sum i xs)
 
@@ -113,7 +113,7 @@ times_none i (x ∷ xs) e = go (times_none i xs) (is_same i x) e
     go r true e = absurd (true≢false e)
     go r false e = let k : times i xs ≡ 0 = r e in omega arith
 
--- each new one stands there once
+-- each new id is in the list once
 pub times-fresh : (i : ObjectId) (s : ObjectId → Bool) (xs : List ObjectId) → times i (fresh s xs) ≡ cond (not (s i) && is_among i xs) 1 0
 times-fresh i s [] = elim (s i) as (λ b. ◌≡◌ {A = ℕ} 0 (cond (not b && false) 1 0)) [ true ↦ refl | false ↦ refl ]
 times-fresh i s (x ∷ xs) = go (times-fresh i s xs) (times-fresh i (λ j. is_same j x || s j) xs) (s x) refl
@@ -201,7 +201,7 @@ among_times i (x ∷ xs) e = go (is_same i x) (among_times i xs) e
 pub times_is_among : (i : ObjectId) (xs : List ObjectId) → 1 ≤ times i xs → is_among i xs ≡ true
 times_is_among i xs h = true_from_ne_false _ (λ f. let z : times i xs ≡ 0 = times_none i xs f in omega arith)
 
--- distinct ids stand once each
+-- distinct ids are in the list once each
 pub times_once : (xs : List ObjectId) → ((i : ObjectId) → times i xs ≤ 1) → AreDistinct xs
 times_once [] n = tt
 times_once (x ∷ xs) n = (

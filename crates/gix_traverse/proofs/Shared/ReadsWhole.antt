@@ -23,7 +23,7 @@ use Rattle.gix_parts.specs.declared.object.Kind.{Kind as ObjectKind}
 use Rattle.gix_parts.specs.declared.object.find.existing_iter.Error.{Error as ExistingError}
 use Rattle.gix_parts.specs.Find.{IsExistingFault}
 
--- what may stand at the front behind a tree or a parent
+-- what may be at the front behind a tree or a parent
 pub data IsParentsFront : Front → Type 0 where
   ended : IsParentsFront Ended
   faulty : {e : DecodeError} → IsParentsFront (Faulty e)
@@ -177,11 +177,11 @@ no_commit i object.Blob bytes c ne e = cc
 no_commit i object.Tag bytes c ne e = cc
 
 -- the look-up of a commit that is stored fails by the store alone
-pub no_fault : (those : Objects) (fails : ObjectId → Type 0) (i : ObjectId) (c : Commit) (e : ExistingError) → commit_at those i ≡ Some c → IsExistingFault those fails i object.Commit e → (e ≡ existing.Store → ⊥) → ⊥
-no_fault those fails i c existing.Store stored f ne = ne refl
-no_fault those fails i c (existing.NotFound oid) stored f ne = let n : None ≡ Some c = sym (ap (commit_of_object i) f.1) ∙ stored in cc
-no_fault those fails i c (existing.ObjectKind oid wanted actual) stored f ne = no_commit i actual f.3 c f.2 (sym (ap (commit_of_object i) f.4) ∙ stored)
-no_fault those fails i c existing.Memory stored f ne = f
+pub no_fault : (those : Objects) (fails : ObjectId → Type 0) (i : ObjectId) (c : Commit) (e : ExistingError) → commit_at those i ≡ Some c → IsExistingFault those fails i object.Commit e → e ≡ existing.Store
+no_fault those fails i c existing.Store stored f = refl
+no_fault those fails i c (existing.NotFound oid) stored f = let n : None ≡ Some c = sym (ap (commit_of_object i) f.1) ∙ stored in cc
+no_fault those fails i c (existing.ObjectKind oid wanted actual) stored f = absurd (no_commit i actual f.3 c f.2 (sym (ap (commit_of_object i) f.4) ∙ stored))
+no_fault those fails i c existing.Memory stored f = absurd f
 
 pub fault_among : (rows : List GraphRow) (places : List ParentPlace) → ((n : ℕ) → Contains places (At n) → (row : GraphRow) × (slice_get rows n ≡ Some row)) → ids_at rows places ≡ None → Contains places Fault
 fault_among rows [] all e = cc

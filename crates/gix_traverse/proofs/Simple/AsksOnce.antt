@@ -45,7 +45,7 @@ module _ {F P : Type 0} (objects : F → Objects) (faulty : F → ObjectId → T
   abbrev IsKnown : SimpleWalk F P → ObjectId → Type 0
   IsKnown w i = (set.contains w.seen i ≡ true) ⊎ (set.contains w.remembered i ≡ true)
 
-  -- what was asked so far, which the walk knows
+  -- what was asked about, which the walk knows
   record Asked (w : SimpleWalk F P) : Type 0 where
     so_far : AsksOnce answers named first w.predicate
     known : (i : ObjectId) → Contains so_far.ids i → IsKnown w i

@@ -4,13 +4,10 @@ use Rattle.std.proofs.Common.{refl, sym, ap, subst, inl, inr, ⊎_elim, ◌∙�
 use Rattle.std.proofs.lemmas.Bool.{false≢true}
 use Rattle.std.proofs.lemmas.Bool.Decides.{eqb_tells}
 use Rattle.std.specs.Iterator.{MakesProgress, at_most}
-use Rattle.std.specs.Borrow.{Bor}
-use Rattle.std.specs.Option.{option_copied}
 use Rattle.std.specs.FinSet as set
 use Rattle.gix_parts.specs.declared.hash.ObjectId.{ObjectId}
 use Rattle.gix_parts.specs.Id.{id_cmp}
 use Rattle.gix_parts.specs.Object.{Objects}
-use Rattle.gix_parts.specs.Rows.{GraphRow}
 use Rattle.gix_traverse.specs.declared.commit.Info.{Info}
 use Rattle.gix_traverse.specs.declared.commit.simple.Error.{Error}
 use Rattle.gix_traverse.specs.declared.commit.simple.Error.TheVariants as error
@@ -20,17 +17,11 @@ use Rattle.gix_parts.specs.declared.object.find.existing_iter.Error.TheVariants 
 use Rattle.gix_traverse.specs.declared.commit.simple.pending.Pending.{Pending}
 use Rattle.gix_traverse.specs.Simple.Painting.{Paints, IsHiddenFault}
 use Rattle.gix_traverse.specs.Simple.Errors.{error_of_hidden}
-use Rattle.gix_traverse.specs.Simple.Inside.Steps.{rows_of, Hides, nothing, paints, faulty_history, no_memory, unpainted}
+use Rattle.gix_traverse.specs.Simple.Inside.Steps.{Hides, nothing, paints, faulty_history, no_memory, unpainted}
 use Rattle.gix_traverse.specs.Simple.Walk as walk
 use Rattle.gix_traverse.specs.Simple.Walk.{SimpleWalk, Steps, Next, unhidden, ids_of}
 use Rattle.gix_traverse.specs.Simple.Laws.{answers_left}
-use Rattle.gix_traverse.specs.Simple.Inside.Painter.{rows_in}
 use Rattle.gix_traverse.proofs.Simple.Ends.{next_left}
-
--- the rows of a graph that is lent
-pub rows_lent : (lent : Option (Bor (List GraphRow))) (graph : Option (List GraphRow)) → option_copied lent ≡ graph → rows_in lent ≡ rows_of graph
-rows_lent None graph e = ap rows_of e
-rows_lent (Some lent) graph e = ap rows_of e
 
 none_in : {X : Type 0} (xs : List X) → (length xs == 0) ≡ true → xs ≡ []
 none_in [] e = refl
@@ -74,7 +65,7 @@ module _ {F P : Type 0} (objects : F → Objects) (faulty : F → ObjectId → T
         always true = refl
         always false = refl
 
-    -- memory was wanting
+    -- memory ran out
     pub hides_no_memory : (answer : Error) (new : SimpleWalk F P) → answer ≡ error.Memory → new ≡ unpainted mid → Hides objects faulty answers old (Err answer) new
     hides_no_memory answer new a n = subst (λ e. Hides objects faulty answers old (Err e) new) (sym a) (subst (Hides objects faulty answers old (Err error.Memory)) (sym (n ∙ ap unpainted emptied)) (no_memory pending tips))
 

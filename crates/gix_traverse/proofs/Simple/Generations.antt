@@ -1,4 +1,4 @@
--- The generations that a walk gives are those of its rows, up to where a corrupt row drops these.
+-- The generations that a walk gives are the generations of its rows, up to where a corrupt row drops the rows.
 use Rattle.std.specs.Prelude.{◌≡◌, ◌⊎◌, ℕ, ℤ, suc, List, [], ◌∷◌, length, Bool, true, false, Option, Some, None, Result, Ok, Err, All}
 use Rattle.std.specs.Option.{option_map}
 use Rattle.std.proofs.Common.{refl, sym, ap, subst, inl, inr, ⊎_elim, ◌∙◌, arith}
@@ -68,7 +68,7 @@ module _ {F P : Type 0} (objects : F → Objects) (faulty : F → ObjectId → T
   failed_untold (Ok info) f = absurd f
   failed_untold (Err e) f = tt
 
-  -- a step keeps the rows, and tells by them, or drops them for a corrupt one, or fails and is the last
+  -- a step keeps the rows and gives their generation, or drops them for a corrupt row, or fails and is the last
   data Tells (w : SimpleWalk F P) (answer : Result Info Error) (new : SimpleWalk F P) : Type 0 where
     keeps : new.store ≡ w.store → new.rows ≡ w.rows → IsTold w.rows answer → Tells w answer new
     loses : new.store ≡ w.store → new.rows ≡ [] → IsUntold answer → (IsAgreeing (objects w.store) (faulty w.store) w.rows → HasCorruptRow w.rows) → Tells w answer new

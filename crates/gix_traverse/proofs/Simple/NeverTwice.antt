@@ -74,7 +74,7 @@ module _ {F P : Type 0} (objects : F → Objects) (faulty : F → ObjectId → T
   sole_all gone row (more {old = w} {i = i} t ts) h = sole_all gone row ts (sole_one gone w row i h t)
   sole_all gone row (stops {old = w} {i = i} ne t) h = sole_one gone w row i h t
 
-  -- what was gone so far, and this answer
+  -- what was gone before, and this answer
   abbrev with_answer : List ObjectId → Result Info Error → List ObjectId
   with_answer gone answer = gone ++ given_ids (answer ∷ [])
 

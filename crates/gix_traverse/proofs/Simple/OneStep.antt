@@ -88,5 +88,5 @@ module _ {F P : Type 0} (objects : F → Objects) (faulty : F → ObjectId → T
       record { marked = marked i (walked_within s.parents _ i (subst (λ xs. Contains xs i) same n)); rowed = λ b. absurd (false≢true b) }))
       concludes ok in
       record { given_as = t.given_as; rest = t.rest; seen = t.seen; pending = t.pending }
-  took_well s w h p whole marked timed (not_found {e = e} u fault) ok = absurd (no_fault (objects w.store) (faulty w.store) p.id whole.commit e (ap (λ f. commit_at (objects f) p.id) h.store ∙ whole.stored) fault (λ k. ok.1 (ap (λ x. Err (error.Find x)) k)))
+  took_well s w h p whole marked timed (not_found {e = e} u fault) ok = absurd (ok.1 (ap (λ x. Err (error.Find x)) (no_fault (objects w.store) (faulty w.store) p.id whole.commit e (ap (λ f. commit_at (objects f) p.id) h.store ∙ whole.stored) fault)))
   took_well s w h p whole marked timed (no_memory left) ok = absurd (ok.0 refl)

@@ -9,7 +9,7 @@ use Rattle.gix_parts.specs.declared.object.find.existing_iter.Error.{Error as Ex
 use Rattle.gix_parts.specs.declared.object.find.existing_iter.Error.TheVariants as existing
 use Rattle.gix_parts.specs.Id.{kind_of}
 use Rattle.gix_parts.specs.Object.{Objects}
-use Rattle.gix_parts.specs.Rows.{GraphRow, row_of}
+use Rattle.gix_parts.specs.Rows.{row_of}
 use Rattle.gix_parts.specs.CommitItems.{commit_items}
 use Rattle.gix_parts.specs.Find.{FindsKindInto}
 use Rattle.gix_traverse.specs.declared.commit.Info.{Info}
@@ -17,18 +17,18 @@ use Rattle.gix_traverse.specs.declared.commit.simple.CommitTimeOrder.{CommitTime
 use Rattle.gix_traverse.specs.declared.commit.simple.Error.{Error}
 use Rattle.gix_traverse.specs.declared.commit.simple.Error.TheVariants as error
 use Rattle.gix_traverse.specs.declared.commit.simple.pending.Pending.{Pending}
-use Rattle.gix_traverse.specs.declared.commit.simple.step.RowParents.{RowParents}
+use Rattle.gix_traverse.specs.declared.commit.read.RowRead.{RowRead}
 use Rattle.gix_traverse.specs.declared.commit.simple.step.Stop.{Stop}
 use Rattle.gix_traverse.specs.declared.commit.simple.step.Stop.TheVariants as stop
 use Rattle.gix_traverse.specs.History.Commits.{by_mode}
 use Rattle.gix_traverse.specs.Simple.Errors.{error_of_find, error_of_stop}
 use Rattle.gix_traverse.specs.Simple.Inside.PendingQueue.{IsChosen, TakesOut}
-use Rattle.gix_traverse.specs.Simple.Inside.Steps.{RowSays}
-use Rattle.gix_traverse.specs.Simple.Walk.{SimpleWalk, scanned, failed, given_time, time_if, time_order, how_ended, GoesOn, StoreFails, NoMemory, IsInfo, kept_rows, unrowed, Treated, TreatsAll, IsUnrowed, Concludes, given, broken, store_fails, no_memory, Takes, by_row, by_store, not_found, Chooses, first, best, Steps, ended, took, ids_at}
+use Rattle.gix_traverse.specs.History.Reading.{RowSays}
+use Rattle.gix_traverse.specs.Simple.Walk.{SimpleWalk, scanned, failed, given_time, time_if, time_order, how_ended, GoesOn, StoreFails, NoMemory, IsInfo, kept_rows, unrowed, Treated, TreatsAll, IsUnrowed, Concludes, given, broken, store_fails, no_memory, Takes, by_row, by_store, not_found, Chooses, first, best, Steps, ended, took}
 use Rattle.gix_traverse.proofs.Simple.LentText.{with_text, treats_all_with, SameText, treats_all_same}
 
 module _ {F P : Type 0} (objects : F → Objects) (faulty : F → ObjectId → Type 0) (answers : P → ObjectId → Bool → P → Type 0) (old : SimpleWalk F P) (taken : Pending) where
-  -- the text that was read before the parents were treated stands in no one's way
+  -- the text that was read before the parents were treated changes nothing
   concludes_with : (text : List ℕ) (parents : List ObjectId) (generation : Option ℕ) (fault : Option DecodeError) (walk : SimpleWalk F P) (other : List ℕ) (kind : Kind) (time : Option ℤ) {how : Treated} {answer : Result Info Error} {new : SimpleWalk F P} → Concludes objects faulty answers taken.id parents generation time text fault walk how answer new → Concludes objects faulty answers taken.id parents generation time text fault (with_text walk other kind) how answer new
   concludes_with text parents generation fault walk other kind time (given f is) = given f is
   concludes_with text parents generation fault walk other kind time (broken f) = broken f
@@ -39,17 +39,17 @@ module _ {F P : Type 0} (objects : F → Objects) (faulty : F → ObjectId → T
   given_same from to p s = λ j. time_if (time_order (p j) (s j)) taken.time
 
   -- a sound row gives the commit
-  pub takes_by_row : (says : RowParents) (cleared : SimpleWalk F P) → RowSays old taken.id says → cleared ≡ with_text old [] old.text_kind → (ids : List ObjectId) → ids ≡ says.parent_ids.items → (how : Treated) (walk : SimpleWalk F P) → TreatsAll objects faulty answers true cleared ids how walk
-      → (answer : Result Info Error) (new : SimpleWalk F P) → Concludes objects faulty answers taken.id says.parent_ids.items (Some says.generation) (given_time walk taken) walk.text None walk how answer new → Takes objects faulty answers old taken answer new
-  takes_by_row says cleared row is_cleared ids same_ids how walk treats answer new c =
-      let t : TreatsAll objects faulty answers true (with_text old [] old.text_kind) (by_mode old.parents row.ids) how walk = subst (λ xs. TreatsAll objects faulty answers true (with_text old [] old.text_kind) xs how walk) (same_ids ∙ row.parents) (subst (λ w. TreatsAll objects faulty answers true w ids how walk) is_cleared treats) in
+  pub takes_by_row : (read : RowRead) (named : List ObjectId) (cleared : SimpleWalk F P) → RowSays old.rows taken.id read → named ≡ by_mode old.parents read.parent_ids.items → cleared ≡ with_text old [] old.text_kind → (ids : List ObjectId) → ids ≡ named → (how : Treated) (walk : SimpleWalk F P) → TreatsAll objects faulty answers true cleared ids how walk
+      → (answer : Result Info Error) (new : SimpleWalk F P) → Concludes objects faulty answers taken.id named (Some read.generation) (given_time walk taken) walk.text None walk how answer new → Takes objects faulty answers old taken answer new
+  takes_by_row read named cleared says is_named is_cleared ids same_ids how walk treats answer new c =
+      let t : TreatsAll objects faulty answers true (with_text old [] old.text_kind) (by_mode old.parents read.parent_ids.items) how walk = subst (λ xs. TreatsAll objects faulty answers true (with_text old [] old.text_kind) xs how walk) (same_ids ∙ is_named) (subst (λ w. TreatsAll objects faulty answers true w ids how walk) is_cleared treats) in
       let kept : SameText objects faulty answers (with_text old [] old.text_kind) walk = treats_all_same objects faulty answers t in
-      let d : Concludes objects faulty answers taken.id (by_mode old.parents row.ids) (Some row.row.generation) (given_time old taken) [] None walk how answer new =
-      subst (λ xs. Concludes objects faulty answers taken.id xs (Some row.row.generation) (given_time old taken) [] None walk how answer new) row.parents
-      (subst (λ g. Concludes objects faulty answers taken.id says.parent_ids.items (Some g) (given_time old taken) [] None walk how answer new) row.generation
-      (subst (λ x. Concludes objects faulty answers taken.id says.parent_ids.items (Some says.generation) (given_time old taken) x None walk how answer new) kept.text
-      (subst (λ x. Concludes objects faulty answers taken.id says.parent_ids.items (Some says.generation) x walk.text None walk how answer new) (given_same old walk kept.parents kept.sorting) c))) in
-      by_row row.there row.sound (treats_all_with objects faulty answers old.text old.text_kind t) (concludes_with [] (by_mode old.parents row.ids) (Some row.row.generation) None walk old.text old.text_kind (given_time old taken) d)
+      let d : Concludes objects faulty answers taken.id (by_mode old.parents read.parent_ids.items) (Some says.row.generation) (given_time old taken) [] None walk how answer new =
+      subst (λ xs. Concludes objects faulty answers taken.id xs (Some says.row.generation) (given_time old taken) [] None walk how answer new) is_named
+      (subst (λ g. Concludes objects faulty answers taken.id named (Some g) (given_time old taken) [] None walk how answer new) says.generation
+      (subst (λ x. Concludes objects faulty answers taken.id named (Some read.generation) (given_time old taken) x None walk how answer new) kept.text
+      (subst (λ x. Concludes objects faulty answers taken.id named (Some read.generation) x walk.text None walk how answer new) (given_same old walk kept.parents kept.sorting) c))) in
+      by_row says.there says.parents (treats_all_with objects faulty answers old.text old.text_kind t) (concludes_with [] (by_mode old.parents read.parent_ids.items) (Some says.row.generation) None walk old.text old.text_kind (given_time old taken) d)
 
   -- there is no memory to read it
   pub takes_no_memory : (walk new : SimpleWalk F P) (answer : Error) → walk ≡ with_text old walk.text walk.text_kind → answer ≡ error.Memory → new ≡ failed taken.id error.Memory walk → Takes objects faulty answers old taken (Err answer) new
@@ -96,23 +96,8 @@ module _ {F P : Type 0} (objects : F → Objects) (faulty : F → ObjectId → T
         by_store unrowed_is there (subst (λ xs. TreatsAll objects faulty answers false start xs how (with_text then start.text start.text_kind)) (ap (λ r. r.0) read) back)
         (subst (λ r. Concludes objects faulty answers taken.id r.0 None (given_time old taken) walk.text r.1 (with_text then start.text start.text_kind) how answer new) read d)
 
-module _ {F P : Type 0} (old : SimpleWalk F P) (i : ObjectId) (inside : SimpleWalk F P) (is : inside ≡ old) where
-  -- what a sound row says
-  pub says_row : (rows : List GraphRow) → inside.rows ≡ rows → (row : GraphRow) → Some row ≡ row_of rows i → (ids : List ObjectId) → Some ids ≡ ids_at rows row.parents → (says : RowParents) → says.parent_ids.items ≡ by_mode inside.parents ids → says.generation ≡ row.generation → RowSays old i says × (old ≡ old)
-  says_row rows r row there ids sound says p g = (
-    subst (λ w. RowSays w i says) is (record {
-      row = row;
-      ids = ids;
-      there = ap (λ rows. row_of rows i) r ∙ sym there;
-      sound = ap (λ rows. ids_at rows row.parents) r ∙ sym sound;
-      parents = p;
-      generation = g;
-    }),
-    refl,
-  )
-
 module _ {F P : Type 0} (objects : F → Objects) (faulty : F → ObjectId → Type 0) (answers : P → ObjectId → Bool → P → Type 0) (old : SimpleWalk F P) (taken : Pending) where
-  -- where the rows were dropped, or don't tell of the commit, it is taken as from the walk before
+  -- where the rows were dropped, or have no row of the commit, it is taken as from the walk before
   pub takes_unrowed : IsUnrowed old.rows taken.id → (mid : SimpleWalk F P) → mid ≡ unrowed old taken.id → row_of mid.rows taken.id ≡ None → (answer : Result Info Error) (new : SimpleWalk F P) → Takes objects faulty answers mid taken answer new → Takes objects faulty answers old taken answer new
   takes_unrowed u mid m rowless answer new t = go (subst (λ w. row_of w.rows taken.id ≡ None) m rowless) (subst (λ w. Takes objects faulty answers w taken answer new) m t)
     where

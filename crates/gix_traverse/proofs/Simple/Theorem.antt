@@ -190,7 +190,7 @@ module _ {F P : Type 0} (objects : F → Objects) (faulty : F → ObjectId → T
   no_hidden_fault : w.pending ≢ [] → w.hidden_tips ≢ [] → (why : Hidden) → IsNoRefusal (Err (error.HiddenGraph why)) → IsHiddenFault (objects w.store) (faulty w.store) w.rows (ids_of w.pending) w.hidden_tips why → ⊥
   no_hidden_fault some hidden (hidden_by.Find e) ok fault =
       let whole : ReadsWhole (objects w.store) (faulty w.store) fault.id = meets.painted some hidden fault.id (fault.reached (objects w.store) own) in
-      no_fault (objects w.store) (faulty w.store) fault.id whole.commit e whole.stored fault.fault (λ k. ok.2 (ap (λ x. Err (error.HiddenGraph (hidden_by.Find x))) k))
+      ok.2 (ap (λ x. Err (error.HiddenGraph (hidden_by.Find x))) (no_fault (objects w.store) (faulty w.store) fault.id whole.commit e whole.stored fault.fault))
   no_hidden_fault some hidden (hidden_by.ObjectDecode e) ok fault =
       let whole : ReadsWhole (objects w.store) (faulty w.store) fault.id = meets.painted some hidden fault.id (fault.reached (objects w.store) own) in
       let n : None ≡ Some whole.commit = sym (ap (commit_of_object fault.id) fault.fault.1 ∙ fault_unread (commit_items (kind_of fault.id) fault.fault.0) e fault.fault.2) ∙ whole.stored in cc

@@ -1,4 +1,4 @@
--- The keys under which pending commits stand by time.
+-- The keys of pending commits in an order by time.
 use Rattle.std.specs.Prelude.{◌≡◌, ◌<ℤ◌, ℤ, List, [], ◌∷◌, ◌++◌, false, Contains, Option, Some, None, IsPermutation, length}
 use Rattle.std.proofs.Common.{refl, sym, ap, subst, ⊎_elim, ◌∙◌, arith, append-nil, append_assoc}
 use Rattle.std.proofs.lemmas.Int.{ints}
@@ -61,7 +61,7 @@ module _ (order : CommitTimeOrder) (pair : ℤ × Pending) (old new : List (ℤ 
   pub keyed_less : AreKeyed order new
   keyed_less = All-from_recursion (Keyed order) new keyed_all.1
 
-  -- what stood under a greatest key is of best time
+  -- a commit under a greatest key is of best time
   pub best_chosen : IsUpperBound int_cmp pair.0 (keys old) → IsChosen (Some order) (values old) pair.1 (values new)
   best_chosen u =
       let good : AllByRecursion (λ x. IsNoWorse order pair.1.time x.1.time) old = all_as_good order pair.1.time old (subst (λ key. IsUpperBound int_cmp key (keys old)) keyed_all.0 u) (recursion_from_All (Keyed order) old keyed) in
@@ -69,7 +69,7 @@ module _ (order : CommitTimeOrder) (pair : ℤ × Pending) (old new : List (ℤ 
       (All-permutation (λ x. IsNoWorse order pair.1.time x.1.time) old (pair ∷ new) rest (All-from_recursion (λ x. IsNoWorse order pair.1.time x.1.time) old good)) in
       (IsPermutation-map (λ x. x.1) old (pair ∷ new) rest, among_values order pair.1.time new others.1)
 
--- one commit goes over from those that are left to those that stand by time
+-- one commit goes from the list into the queue by time
 pub goes_over : (all standing left rest new : List Pending) (p : Pending) → IsPermutation all (standing ++ left) → left ≡ p ∷ rest → IsPermutation (standing ++ p ∷ []) new → IsPermutation all (new ++ rest)
 goes_over all standing left rest new p h e n =
     IsPermutation-trans all (standing ++ p ∷ rest) (new ++ rest) (subst (λ xs. IsPermutation all (standing ++ xs)) e h)
@@ -79,17 +79,22 @@ pub none_of : (xs : List Pending) → length xs ≡ 0 → xs ≡ []
 none_of [] e = refl
 none_of (x ∷ xs) e = absurd (omega arith)
 
--- the pending commits `old`, once they stand by time, are `mid`
-module _ (o : Option CommitTimeOrder) (order : CommitTimeOrder) (some : o ≡ Some order) (old mid : List Pending) (stand : IsPermutation old mid) where
+-- what holds of the pending commits `mid`, which are held by an order as it asks, holds of `old`, from which they were put in that order
+module _ (o by : Option CommitTimeOrder) (old mid new : List Pending) (held : (by ≡ o) × Holds o old mid) where
   -- one more among them
-  pub holds_more : (p : Pending) (new : List Pending) → IsPermutation (mid ++ p ∷ []) new → Holds o (old ++ p ∷ []) new
-  holds_more p new h = subst (λ o. Holds o (old ++ p ∷ []) new) (sym some)
-      (IsPermutation-trans (old ++ p ∷ []) (mid ++ p ∷ []) new (IsPermutation-append_left (p ∷ []) old mid stand) h)
-
-  -- the best is taken out
-  pub takes_best : (taken : Option Pending) (new : List Pending) → TakesOut (Some order) mid taken new → TakesOut o old taken new
-  takes_best taken new h = subst (λ o. TakesOut o old taken new) (sym some) (go taken h)
+  pub holds_more : (p : Pending) → Holds by (mid ++ p ∷ []) new → Holds o (old ++ p ∷ []) new
+  holds_more p h = go o held.1 (subst (λ o. Holds o (mid ++ p ∷ []) new) held.0 h)
     where
-      go : (t : Option Pending) → TakesOut (Some order) mid t new → TakesOut (Some order) old t new
-      go None h = (none_of old (sym (length_permutation old mid stand) ∙ ap length h.0), h.1)
-      go (Some t) h = (IsPermutation-trans old mid (t ∷ new) stand h.0, h.1)
+      go : (o : Option CommitTimeOrder) → Holds o old mid → Holds o (mid ++ p ∷ []) new → Holds o (old ++ p ∷ []) new
+      go None e h = h ∙ ap (λ xs. xs ++ p ∷ []) e
+      go (Some order) e h = IsPermutation-trans (old ++ p ∷ []) (mid ++ p ∷ []) new (IsPermutation-append_left (p ∷ []) old mid e) h
+
+  -- one is taken out
+  pub takes_out : (taken : Option Pending) → TakesOut by mid taken new → TakesOut o old taken new
+  takes_out taken h = go o taken held.1 (subst (λ o. TakesOut o mid taken new) held.0 h)
+    where
+      go : (o : Option CommitTimeOrder) (t : Option Pending) → Holds o old mid → TakesOut o mid t new → TakesOut o old t new
+      go None None e h = (sym e ∙ h.0, h.1)
+      go None (Some t) e h = sym e ∙ h
+      go (Some order) None e h = (none_of old (sym (length_permutation old mid e) ∙ ap length h.0), h.1)
+      go (Some order) (Some t) e h = (IsPermutation-trans old mid (t ∷ new) e h.0, h.1)

@@ -1,4 +1,4 @@
--- How the pending tips are read and sorted out in turn.
+-- How the pending tips are read and sorted out, one after the other.
 use Rattle.std.specs.Prelude.{◌≡◌, ℤ, List, [], ◌∷◌, ◌++◌, filter, Bool, true, false, not, ◌&&◌, ◌||◌, cond, Option, Some, Ok, All, IsSome}
 use Rattle.std.proofs.Common.{refl, sym, ap, subst, ◌∙◌, append_assoc, append-nil}
 use Rattle.std.proofs.lemmas.List.Elements.{All-cons, All-nil}

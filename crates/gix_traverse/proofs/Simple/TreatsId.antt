@@ -48,7 +48,7 @@ module _ {F P : Type 0} (objects : F → Objects) (faulty : F → ObjectId → T
   enqueued_so inside old is time pending {order} o young h =
       enqueued young (subst (λ w. Holds (time_order old.parents old.sorting) (w.pending ++ record { id = i; time = time } ∷ []) pending) is (subst (λ o. Holds o (inside.pending ++ record { id = i; time = time } ∷ []) pending) o h))
 
-  -- the time that the store tells
+  -- the time that the stored text has
   pub stored_time : (old : SimpleWalk F P) (order : CommitTimeOrder) → time_order old.parents old.sorting ≡ Some order → by_row ≡ false → (result : Result ℤ Stop) → IfOk result (λ time. time ≡ time_of (objects old.store) i) → IfErr result (λ why. why ≡ stop.Store → faulty old.store i) → TimeIs objects faulty answers old by_row i result
   stored_time old order o b (Ok time) t f = subst (λ t. ReadsTime objects faulty answers old by_row i (Ok t)) (sym t) (from_store o b)
   stored_time old order o b (Err stop.Store) t f = store_fails o b (f refl)
@@ -102,7 +102,7 @@ module _ {F P : Type 0} (objects : F → Objects) (faulty : F → ObjectId → T
   treats_known old met (inl h) e = subst (Treats objects faulty answers old by_row i GoesOn) (sym e) (hidden h)
   treats_known old met (inr s) e = subst (Treats objects faulty answers old by_row i GoesOn) (sym e) (known s)
 
-  -- what was met, by what the meeting told
+  -- what was met, by what the meeting answered
   pub met_new : (old met : SimpleWalk F P) (E : Type 0) (is_new : Bool) → Meets objects faulty answers {E = E} old i (Ok is_new) met → is_new ≡ true → IsNew objects faulty answers old i × (met ≡ record old { seen = set.insert old.seen i })
   met_new old met E is_new h e = subst (λ b. Meets objects faulty answers {E = E} old i (Ok b) met) e h
 
@@ -128,7 +128,7 @@ module _ {F P : Type 0} (objects : F → Objects) (faulty : F → ObjectId → T
   treats_none [] e = none
   treats_none (i ∷ ids) e = absurd (omega arith)
 
-  -- one more id is treated behind those of a list
+  -- one more id is treated behind the ids of a list
   pub treats_last : {new : SimpleWalk F P} {i : ObjectId} {mid old : SimpleWalk F P} {ids : List ObjectId} → TreatsAll objects faulty answers by_row old ids GoesOn mid → Treats objects faulty answers mid by_row i GoesOn new → TreatsAll objects faulty answers by_row old (ids ++ i ∷ []) GoesOn new
   treats_last none h = more h none
   treats_last (more t rest) h = more t (treats_last rest h)

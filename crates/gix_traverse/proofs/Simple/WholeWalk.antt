@@ -136,7 +136,7 @@ module _ {F P : Type 0} (objects : F → Objects) (faulty : F → ObjectId → T
   then_steps w [] tips ok may = (may.0, next_steps w tips (λ a e. cc) may.1)
   then_steps w (answer ∷ left) tips ok may = (may.0, next_steps w tips (λ a e. let same : answer ≡ a = cc in subst IsNoRefusal same (All-head IsNoRefusal answer left ok)) may.1, may.2)
 
-  -- each of the ids comes in its turn
+  -- each of the ids is the next one where it comes
   abbrev pub OrderFrom : Setting objects faulty answers → List ObjectId → List ObjectId → Type 0
   OrderFrom s done ids = (k : ℕ) → k ≤ length ids → is_next s (done ++ take k ids) (slice_get ids k)
 

@@ -4,5 +4,5 @@ pub mod ReadsCommit
 pub mod FoundIsStored
 -- A text without a fault up to its committer has none before it.
 pub mod Faultless
--- What was read once is known, and as long as the rows stand its row has no fault.
+-- What was read once is known, and as long as the rows are in use its row has no fault.
 pub mod OnceRead

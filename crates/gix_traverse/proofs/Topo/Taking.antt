@@ -4,6 +4,8 @@ pub mod OneRelease
 pub mod AllReleases
 -- The parents that are added are exactly those that became ready.
 pub mod BecomeReady
+-- Which commits were taken, by the table.
+pub mod Taken
 -- What all facts about a taken commit start from.
 pub mod Setting
 -- A steady walk adds exactly the parents that became ready.

@@ -1,4 +1,5 @@
--- The rows of a commit-graph that say what the store says, but for places that are corrupt.
+-- The rows of a commit-graph that say what the store says, except for places that are corrupt.
+use Rattle.std.specs.Borrow.{Bor}
 use Rattle.std.specs.Prelude.{◌≡◌, ◌<◌, ◌^◌, ◌-◌, ℕ, List, [], Contains, Option, Some, None, slice_get, length}
 use Rattle.gix_parts.specs.declared.hash.ObjectId.{ObjectId}
 use Rattle.gix_parts.specs.declared.graph.ParentPlace.{ParentPlace}
@@ -11,6 +12,11 @@ use Rattle.gix_traverse.specs.History.Commits.{ReadsWhole}
 abbrev pub rows_of : Option (List GraphRow) → List GraphRow
 rows_of None = []
 rows_of (Some rows) = rows
+
+-- the rows of a graph that is lent, or none
+abbrev pub rows_in : Option (Bor (List GraphRow)) → List GraphRow
+rows_in None = []
+rows_in (Some graph) = graph.now
 
 -- the place names the row of this parent, or is corrupt; either way the parent has a row, of a lesser generation
 abbrev pub PlaceAgrees : List GraphRow → ℕ → ObjectId → ParentPlace → Type 0

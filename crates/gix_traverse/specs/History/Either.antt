@@ -6,7 +6,7 @@ use Rattle.gix_parts.specs.declared.object.find.existing_iter.Error.{Error as Ex
 use Rattle.gix_parts.specs.CommitRefIter.{commit_items_left, first_tree, first_committer}
 use Rattle.gix_parts.specs.CommitText.{seconds_of}
 use Rattle.gix_parts.specs.Find.{FindsCommit}
-use Rattle.gix_parts.specs.GraphCommit.{row_of_commit}
+use Rattle.gix_parts.specs.GraphCommit.{row_of_commit, rows_of_commit}
 use Rattle.gix_parts.specs.Object.{Objects}
 use Rattle.gix_parts.specs.Rows.{GraphRow, row_of}
 use Rattle.gix_traverse.specs.declared.commit.Either.{Either}
@@ -26,8 +26,8 @@ abbrev pub either_time : Either → Result ℤ DecodeError
 either_time (CommitRefIter items) = seconds_told (first_committer (commit_items_left items))
 either_time (CachedCommit commit) = Ok (row_of_commit commit).time
 
--- the row of the id where there is one, else what the store has
+-- the row of the id where there is one, as a commit of these rows, else what the store has
 abbrev pub FindsEither : List GraphRow → Objects → (ObjectId → Type 0) → ObjectId → Result Either ExistingError → Type 0
-FindsEither rows objects faulty i (Ok (CachedCommit commit)) = row_of rows i ≡ Some (row_of_commit commit)
+FindsEither rows objects faulty i (Ok (CachedCommit commit)) = (row_of rows i ≡ Some (row_of_commit commit)) × (rows_of_commit commit ≡ rows)
 FindsEither rows objects faulty i (Ok (CommitRefIter items)) = (row_of rows i ≡ None) × FindsCommit objects faulty i (Ok items)
 FindsEither rows objects faulty i (Err fault) = (row_of rows i ≡ None) × FindsCommit objects faulty i (Err fault)

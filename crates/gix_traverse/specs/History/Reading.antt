@@ -1,5 +1,5 @@
--- How a topological walk reads a commit: by its row, or else from the store.
-use Rattle.std.specs.Prelude.{◌≡◌, ℕ, ℤ, pos, nat_lt, List, Bool, true, ◌&&◌, if◌then◌else◌, Option, Some, None, Result, Ok, Err}
+-- How walks read a commit: by its row as long as rows are held, or else from the store.
+use Rattle.std.specs.Prelude.{◌≡◌, ℕ, ℤ, pos, nat_lt, List, Bool, true, false, if◌then◌else◌, Option, Some, None, Result, Ok, Err}
 use Rattle.std.specs.FinMap as map_of
 use Rattle.gix_parts.specs.declared.hash.ObjectId.{ObjectId}
 use Rattle.gix_parts.specs.declared.object.Kind.TheVariants as object
@@ -16,11 +16,40 @@ use Rattle.gix_traverse.specs.declared.commit.Parents.TheVariants as mode
 use Rattle.gix_traverse.specs.declared.commit.Info.{Info}
 use Rattle.gix_traverse.specs.declared.commit.topo.Error.{Error}
 use Rattle.gix_traverse.specs.declared.commit.topo.Error.TheVariants as error
+use Rattle.gix_traverse.specs.declared.commit.read.Header.{Header}
+use Rattle.gix_traverse.specs.declared.commit.read.RowRead.{RowRead}
+use Rattle.gix_traverse.specs.History.Either.{seconds_told}
 use Rattle.gix_traverse.specs.Simple.Walk.{IsInfo, scanned, ids_at}
 pub use Rattle.gix_traverse.specs.History.Agreeing.{rows_of}
 use Rattle.gix_traverse.specs.Topo.Depth.{infinity}
 
--- a row's generation, but for infinity
+-- what a row without a fault says of its commit
+pub record RowSays (rows : List GraphRow) (i : ObjectId) (read : RowRead) : Type 0 where
+  pub row : GraphRow
+  pub there : row_of rows i ≡ Some row
+  pub parents : ids_at rows row.parents ≡ Some read.parent_ids.items
+  pub generation : read.generation ≡ row.generation
+  pub time : read.time ≡ row.time
+
+-- the row of the id has a fault
+abbrev pub DropsRows : List GraphRow → ObjectId → Type 0
+DropsRows rows i = (row : GraphRow) × (row_of rows i ≡ Some row) × (ids_at rows row.parents ≡ None)
+
+-- what reading a row gives, and whether the rows are held then: a row with a fault drops them for good
+pub data ReadsRow (rows : List GraphRow) (held : Bool) (i : ObjectId) : Option RowRead → Bool → Type 0 where
+  is_read : {read : RowRead} → held ≡ true → RowSays rows i read → ReadsRow rows held i (Some read) held
+  absent : row_of rows i ≡ None → ReadsRow rows held i None held
+  corrupt : held ≡ true → DropsRows rows i → ReadsRow rows held i None false
+  dropped : held ≡ false → ReadsRow rows held i None held
+
+-- a header is that of the commit that is stored at an id
+pub record ReadsHeader (objects : Objects) (i : ObjectId) (header : Header) : Type 0 where
+  pub bytes : List ℕ
+  pub stored : map_of.get objects i ≡ Some (record { kind = object.Commit; bytes = bytes })
+  pub parents : header.parent_ids.items ≡ (scanned mode.All (commit_items (kind_of i) bytes)).0
+  pub time : header.time ≡ seconds_told (first_committer (commit_items (kind_of i) bytes))
+
+-- a row's generation, and none where it is infinity
 abbrev pub told_generation : ℕ → Option ℕ
 told_generation generation = if nat_lt generation infinity then Some generation else None
 
@@ -48,31 +77,8 @@ abbrev pub ReadsText : Objects → (ObjectId → Type 0) → ObjectId → Result
 ReadsText objects faulty i (Ok info) = (bytes : List ℕ) × (map_of.get objects i ≡ Some (record { kind = object.Commit; bytes = bytes })) × IsOfItems i (commit_items (kind_of i) bytes) info
 ReadsText objects faulty i (Err e) = IsReadFault objects faulty i e
 
--- the parents of a row, where it has no fault
-abbrev pub row_ids : List GraphRow → Option GraphRow → Option (List ObjectId)
-row_ids rows None = None
-row_ids rows (Some row) = ids_at rows row.parents
-
--- a row without a fault, if any, or none at all
-abbrev pub is_whole_row : List GraphRow → Option GraphRow → Bool
-is_whole_row rows None = true
-is_whole_row rows (Some row) = Rattle.std.specs.Option.is_some (ids_at rows row.parents)
-
--- a commit as its row says it
-pub record IsOfRow (rows : List GraphRow) (i : ObjectId) (info : Info) : Type 0 where
-  pub row : GraphRow
-  pub ids : List ObjectId
-  pub there : row_of rows i ≡ Some row
-  pub whole : ids_at rows row.parents ≡ Some ids
-  pub info_is : IsInfo info i ids (told_generation row.generation) (Some row.time)
-
--- what a row gives: its commit where the rows stand and it has no fault; a row with a fault drops the rows
-abbrev pub ReadsRow : List GraphRow → Bool → ObjectId → Option Info → Bool → Type 0
-ReadsRow rows standing i None new = (standing ≡ true → row_ids rows (row_of rows i) ≡ None) × (new ≡ (standing && is_whole_row rows (row_of rows i)))
-ReadsRow rows standing i (Some info) new = (standing ≡ true) × (new ≡ true) × IsOfRow rows i info
-
--- what reading a commit answers, and whether the rows stand then
+-- what reading a commit answers, and whether the rows are held then
 pub data Reads (objects : Objects) (faulty : ObjectId → Type 0) (rows : List GraphRow) (standing : Bool) (i : ObjectId) : Result Info Error → Bool → Type 0 where
-  by_row : {info : Info} → standing ≡ true → IsOfRow rows i info → Reads objects faulty rows standing i (Ok info) true
+  by_row : {read : RowRead} {info : Info} {new : Bool} → ReadsRow rows standing i (Some read) new → IsInfo info i read.parent_ids.items (told_generation read.generation) (Some read.time) → Reads objects faulty rows standing i (Ok info) new
   by_text : {answer : Result Info Error} {new : Bool} → ReadsRow rows standing i None new → ReadsText objects faulty i answer → Reads objects faulty rows standing i answer new
   no_memory : {new : Bool} → Reads objects faulty rows standing i (Err error.Memory) new

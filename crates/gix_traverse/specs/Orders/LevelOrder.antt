@@ -34,8 +34,8 @@ module _ (entries : ObjectId → List TreeEntry) where
   abbrev pub entries_by : Place → List TreeEntry → List Visit → List (Place × TreeEntry)
   entries_by p root visits = map (λ x. (p, x)) root ++ flat_map entries_of visits
 
-  -- What may follow these visits: the next of those entries, as many as were visited being passed by, and an end where
-  -- there is none.
+  -- What may follow these visits: the next of these entries, behind as many as were visited, and an end where there is
+  -- none.
   abbrev pub FollowsInLevels : Place → List TreeEntry → List Visit → List Visit → Type 0
   FollowsInLevels p root done [] = slice_get (entries_by p root done) (length done) ≡ None
   FollowsInLevels p root done (v ∷ visits) =
@@ -46,7 +46,7 @@ module _ (entries : ObjectId → List TreeEntry) where
   abbrev pub IsLevelOrder : Place → List TreeEntry → List Visit → Type 0
   IsLevelOrder p root visits = FollowsInLevels p root [] visits
 
-  -- what may follow these visits in a walk that may fail: the same, up to where it ends
+  -- what may follow these visits in a walk that may fail: level order, up to where the walk ends
   abbrev pub BeginsInLevels : Place → List TreeEntry → List Visit → List Visit → Type 0
   BeginsInLevels p root done [] = Unit {0}
   BeginsInLevels p root done (v ∷ visits) =

@@ -15,7 +15,7 @@ module _ (entries : ObjectId → List TreeEntry) where
     broken_inside : {p : Place} {e : TreeEntry} {a : Action} {es : List TreeEntry} {ws : List Visit} → outcome (visit p e a) ≡ Enters → IsPreorder (inside p e) (entries e.id) ws true → IsPreorder p (e ∷ es) (visit p e a ∷ ws) true
     breaks : {p : Place} {e : TreeEntry} {a : Action} {es : List TreeEntry} → outcome (visit p e a) ≡ Breaks → IsPreorder p (e ∷ es) (visit p e a ∷ []) true
 
-  -- the visits of the entries of one tree in a walk that may fail: the same, up to where it ends
+  -- the visits of the entries of one tree in a walk that may fail: preorder, up to where the walk ends
   pub data IsPreorderBeginning : Place → List TreeEntry → List Visit → Type 0 where
     ended : {p : Place} {es : List TreeEntry} → IsPreorderBeginning p es []
     behind_entry : {p : Place} {e : TreeEntry} {a : Action} {es : List TreeEntry} {vs : List Visit} → outcome (visit p e a) ≡ Leaves → IsPreorderBeginning p es vs → IsPreorderBeginning p (e ∷ es) (visit p e a ∷ vs)

@@ -43,7 +43,7 @@ module _ (time : ObjectId → ℤ) (walked : ObjectId → List ObjectId) (In : O
       × IsMadeReady taken before
       × Keeps (IsReady walked In (Contains (c ∷ taken))) (last_places (walked c)) added × (ready ≡ before ++ added)
 
-  -- Each commit is the last of those made ready that isn't taken. The list ends where there is none.
+  -- Each commit is the last of the commits made ready that isn't taken. The list ends where there is none.
   abbrev pub IsTopoOrder : List ObjectId → Type 0
   IsTopoOrder ids =
       (k : ℕ) → k ≤ length ids → (ready : List ObjectId) × IsMadeReady (reverse (take k ids)) ready × (slice_get ids k ≡ first_new (reverse ready) (take k ids))

@@ -22,14 +22,14 @@ use Rattle.gix_traverse.specs.Simple.Walk.{SimpleWalk, cutoff, is_older, ids_of,
 abbrev pub timed : Objects → List Pending → List Pending
 timed objects pending = map (λ p. record { id = p.id; time = time_of objects p.id }) pending
 
--- those that a cutoff leaves, and the ids of those that it takes out
+-- the pending commits that a cutoff leaves, and the ids of the ones that it takes out
 abbrev pub recent : Option ℤ → List Pending → List Pending
 recent limit pending = filter (λ p. not (is_older p.time limit)) pending
 
 abbrev pub outdated : Option ℤ → List Pending → List ObjectId
 outdated limit pending = ids_of (filter (λ p. is_older p.time limit) pending)
 
--- the pending commits have been read, and those older than a cutoff are taken out: they may come again, and then nobody is asked
+-- the pending commits have been read, and the ones older than a cutoff are taken out: they may come again, and the predicate isn't asked again
 pub record IsSortedByTime {F P : Type 0} (objects : F → Objects) (old : SimpleWalk F P) (by : Sorting) (new : SimpleWalk F P) : Type 0 where
   pub read : All (λ p. IsSome (commit_at (objects old.store) p.id)) old.pending
   pub pending : new.pending ≡ recent (cutoff mode.All by) (timed (objects old.store) old.pending)
@@ -37,7 +37,7 @@ pub record IsSortedByTime {F P : Type 0} (objects : F → Objects) (old : Simple
   pub remembered : (i : ObjectId) → set.contains new.remembered i ≡ (set.contains old.remembered i || is_among i (outdated (cutoff mode.All by) (timed (objects old.store) old.pending)))
   pub others : new ≡ record old { sorting = by; pending = new.pending; seen = new.seen; remembered = new.remembered }
 
--- a pending commit whose committer tells this time
+-- a pending commit whose committer has this time
 pub record IsTipRead (objects : Objects) (i : ObjectId) (time : ℤ) : Type 0 where
   pub commit : Commit
   pub stored : commit_at objects i ≡ Some commit
@@ -67,7 +67,7 @@ abbrev pub SortsIn : {F P : Type 0} → (F → Objects) → (F → ObjectId → 
 SortsIn objects faulty limit old i (Ok done) new = (time : ℤ) × IsTipRead (objects old.store) i time × IsSortedIn old i time (is_older time limit) new
 SortsIn objects faulty limit old i (Err e) new = IsTipFault (objects old.store) (faulty old.store) i e
 
--- the pending commits are read in turn
+-- the pending commits are read one after the other
 pub data SortsAll {F P : Type 0} (objects : F → Objects) (faulty : F → ObjectId → Type 0) (limit : Option ℤ) : SimpleWalk F P → List Pending → SimpleWalk F P → Type 0 where
   none : {old : SimpleWalk F P} → SortsAll objects faulty limit old [] old
   more : {old mid new : SimpleWalk F P} {tip : Pending} {tips : List Pending} → SortsIn objects faulty limit old tip.id (Ok tt) mid → SortsAll objects faulty limit mid tips new → SortsAll objects faulty limit old (tip ∷ tips) new

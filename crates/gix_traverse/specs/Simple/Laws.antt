@@ -156,7 +156,7 @@ pub record IsPlainRun {F P : Type 0} (objects : F → Objects) (faulty : F → O
   pub unrefused : All IsNoRefusal list
   pub drawn : May objects faulty answers walk list
 
--- the answers are commits read from the store, in breadth order, each once, and exactly those that the starts reach
+-- the answers are commits read from the store, in breadth order, each once, and exactly the commits that the starts reach
 pub record GivesBreadthFirst (objects : Objects) (next : ObjectId → List ObjectId) (starts : List ObjectId) (answers : List (Result Info Error)) : Type 0 where
   pub ids : List ObjectId
   pub given : AllZip (IsPlain objects mode.All None) answers ids

@@ -40,7 +40,7 @@ IsAtBoundary parents tips hidden_tips i =
     Contains tips i ⊎ ((c : ObjectId) × Reaches parents tips c × (Reaches parents hidden_tips c → ⊥) × Contains (parents c) i)
 
 module _ (parents : ObjectId → List ObjectId) (rows : List GraphRow) (tips hidden_tips : List ObjectId) where
-  -- An id at the boundary is open below a generation: commits of lesser generations alone tell whether it is hidden. It is no hidden tip,
+  -- An id at the boundary is open below a generation: whether it is hidden depends on commits of lesser generations alone. It is no hidden tip,
   -- and neither it nor a hidden commit that names it as a parent has this generation or a greater one.
   pub record IsOpenBelow (generation : ℕ) (i : ObjectId) : Type 0 where
     pub at_boundary : IsAtBoundary parents tips hidden_tips i

@@ -71,7 +71,7 @@ pub data AreBuiltAlike {F P : Type 0} (objects : F → Objects) (faulty : F → 
   hides : {a b : SimpleWalk F P} {ids those : List ObjectId} → AreBuiltAlike objects faulty answers store predicate tips a b → AreBuiltAlike objects faulty answers store predicate tips (record a { hidden_tips = ids }) (record b { hidden_tips = those })
   reads : {a b : SimpleWalk F P} {rows those : List GraphRow} → AreBuiltAlike objects faulty answers store predicate tips a b → AreBuiltAlike objects faulty answers store predicate tips (record a { rows = rows }) (record b { rows = those })
 
--- the answers of two walks are the same commits: in the same order where none by time is in force, else in any
+-- the answers of two walks are the same commits: in the same order where no order by time is in force, otherwise in any
 pub record GiveTheSame {F P : Type 0} (objects : F → Objects) (walk other : SimpleWalk F P) (list those_given : List (Result Info Error)) : Type 0 where
   pub ids : List ObjectId
   pub those : List ObjectId
@@ -80,7 +80,7 @@ pub record GiveTheSame {F P : Type 0} (objects : F → Objects) (walk other : Si
   pub same : (i : ObjectId) → Contains ids i ↔ Contains those i
   pub in_order : time_order walk.parents walk.sorting ≡ None → ids ≡ those
 
--- the answers of a walk are those commits of another that its hidden tips don't reach
+-- the answers of a walk are exactly the commits of another walk that its hidden tips don't reach
 pub record GivesUnhidden {F P : Type 0} (objects : F → Objects) (walk other : SimpleWalk F P) (list longer : List (Result Info Error)) : Type 0 where
   pub ids : List ObjectId
   pub more : List ObjectId

@@ -73,7 +73,7 @@ module _ {F P : Type 0} (objects : F → Objects) (faulty : F → ObjectId → T
       → IsPlainRun objects faulty answers walk accepts next list
       → (ids : List ObjectId) × AllZip (IsPlain (objects walk.store) walk.parents None) list ids × IsBreadthOrder next (ids_of walk.pending) ids
 
-  -- the same in an order by time
+  -- such a walk in an order by time
   abbrev pub PlainRunsAreInTimeOrder : Type 0
   PlainRunsAreInTimeOrder =
       (walk : SimpleWalk F P) (accepts : ObjectId → Bool) (order : CommitTimeOrder) (list : List (Result Info Error))

@@ -113,7 +113,7 @@ how_ended (Ok done) = GoesOn
 how_ended (Err stop.Store) = StoreFails
 how_ended (Err stop.Memory) = NoMemory
 
--- what is left of a walk after a fault in the place of a commit: no text, and for want of memory no pending commit
+-- what is left of a walk after a fault in the place of a commit: no text, and where memory ran out no pending commit
 abbrev pub failed : {F P : Type 0} → ObjectId → Error → SimpleWalk F P → SimpleWalk F P
 failed id error.Memory walk = record walk { text = []; text_kind = kind_of id; pending = [] }
 failed id (error.Find e) walk = record walk { text = []; text_kind = kind_of id }
@@ -157,7 +157,7 @@ abbrev pub time_if : Option CommitTimeOrder → ℤ → Option ℤ
 time_if None time = None
 time_if (Some order) time = Some time
 
--- the time that is given beside a commit
+-- the time that is given with a commit
 abbrev pub given_time : {F P : Type 0} → SimpleWalk F P → Pending → Option ℤ
 given_time walk taken = time_if (time_order walk.parents walk.sorting) taken.time
 

@@ -1,4 +1,4 @@
--- How far a topological walk counts, where rows tell generations.
+-- How far a topological walk counts, where rows have generations.
 use Rattle.std.specs.Prelude.{◌-◌, ◌^◌, ℕ, min, List, [], ◌∷◌, Option, Some, None}
 use Rattle.gix_parts.specs.declared.hash.ObjectId.{ObjectId}
 use Rattle.gix_parts.specs.Rows.{GraphRow, row_of}

@@ -3,6 +3,7 @@ use Rattle.std.specs.Prelude.{◌≡◌, ◌≢◌, ℕ, suc, ◌+◌, ℤ, List
 use Rattle.std.specs.List.{AllZip}
 use Rattle.std.specs.FinSet as set
 use Rattle.gix_parts.specs.declared.hash.ObjectId.{ObjectId}
+use Rattle.gix_parts.specs.declared.object.find.existing_iter.Error.TheVariants as existing
 use Rattle.gix_parts.specs.Object.{Objects}
 use Rattle.gix_traverse.specs.declared.commit.Info.{Info}
 use Rattle.gix_traverse.specs.declared.commit.topo.Sorting.{Sorting}
@@ -35,18 +36,22 @@ abbrev pub IsGiven : {F : Type 0} → (F → Objects) → TopoPlan F → Result 
 IsGiven objects plan (Ok info) i = IsCommitInfo objects plan info i
 IsGiven objects plan (Err e) i = ⊥
 
--- the answers are the commits in order, without those that the predicate refuses
+-- the answers are the commits in order, without the commits that the predicate refuses
 pub record GivesInOrder {F : Type 0} (objects : F → Objects) (plan : TopoPlan F) (accepts : ObjectId → Bool) (list : List (Result Info Error)) : Type 0 where
   pub ids : List ObjectId
   pub in_order : IsTakenInOrder objects plan ids
   pub given : AllZip (IsGiven objects plan) list (filter accepts ids)
+
+-- neither memory nor the store failed
+abbrev pub IsNoRefusal : Result Info Error → Type 0
+IsNoRefusal answer = (answer ≢ Err error.Memory) × (answer ≢ Err (error.Find existing.Store))
 
 -- a built walk drawn to its end, and what is known of its history
 pub record IsWholeRun {F P : Type 0} (objects : F → Objects) (faulty : F → ObjectId → Type 0) (answers : P → ObjectId → Bool → P → Type 0) (walk : TopoWalk F P) (accepts : ObjectId → Bool) (list : List (Result Info Error)) : Type 0 where
   pub by_test : AnswersBy answers walk.predicate accepts
   pub started : IsStarted objects faulty answers walk
   pub sound : IsSound objects faulty walk.plan
-  pub unrefused : All (λ answer. answer ≢ Err error.Memory) list
+  pub unrefused : All IsNoRefusal list
   pub drawn : May objects faulty answers walk list
 
 -- nothing is left where nothing is ready

@@ -1,5 +1,5 @@
 -- The statements of the laws of topological walks, over any store and predicate.
-use Rattle.std.specs.Prelude.{◌≡◌, ◌≤◌, ℕ, List, Bool, true, Option, Some, None, Result, Ok, Err, Contains, filter, length, slice_get, take}
+use Rattle.std.specs.Prelude.{◌≡◌, ◌≤◌, ℕ, List, [], Bool, true, Option, Some, None, Result, Ok, Err, Contains, filter, length, slice_get, take}
 use Rattle.std.specs.List.{AllZip}
 use Rattle.gix_parts.specs.declared.hash.ObjectId.{ObjectId}
 use Rattle.gix_parts.specs.Object.{Objects}
@@ -39,7 +39,7 @@ module _ {F P : Type 0} (objects : F → Objects) (faulty : F → ObjectId → T
       → IsWholeRun objects faulty answers walk accepts list
       → GivesInOrder objects walk.plan accepts list
 
-  -- the same walk by rows that agree, and by others
+  -- two walks, each by rows of its own that agree
   abbrev pub RowsLeaveTheIds : Type 0
   RowsLeaveTheIds =
       (walk other : TopoWalk F P) (rows : List GraphRow) (accepts : ObjectId → Bool) (list longer : List (Result Info Error))
@@ -78,6 +78,13 @@ module _ {F P : Type 0} (objects : F → Objects) (faulty : F → ObjectId → T
       (walk new : TopoWalk F P) (e : Error)
       → Next objects faulty answers walk (Some (Err e)) new
       → IsFault objects faulty walk.plan (IsLeft objects walk.plan walk.taken) e × IsLate objects walk.plan (IsLeft objects walk.plan walk.taken) e × ((answer : Option (Result Info Error)) (later : TopoWalk F P) → Next objects faulty answers new answer later → answer ≡ None)
+
+  -- after the end nothing is ready, and nothing follows
+  abbrev pub StaysEnded : Type 0
+  StaysEnded =
+      (walk new : TopoWalk F P)
+      → Next objects faulty answers walk None new
+      → (new.ready ≡ []) × ((answer : Option (Result Info Error)) (later : TopoWalk F P) → Next objects faulty answers new answer later → answer ≡ None)
 
   -- each parent of a commit that is given has a row or can be read
   abbrev pub ParentsAreKnown : Type 0

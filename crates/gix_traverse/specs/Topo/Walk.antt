@@ -34,7 +34,7 @@ use Rattle.gix_traverse.specs.Simple.Laws.{AreDistinct, IsRowGeneration}
 -- what a walk goes over; none of it changes
 pub record TopoPlan (F : Type 0) : Type 0 where
   pub store : F
-  -- those handed in
+  -- the rows handed in
   pub rows : List GraphRow
   pub parents : Parents
   pub sorting : Sorting
@@ -162,21 +162,21 @@ module _ {F : Type 0} (objects : F → Objects) (plan : TopoPlan F) where
   abbrev pub IsReached : ObjectId → Type 0
   IsReached i = Reaches text_walked plan.tips i ⊎ Reaches (text_next (objects plan.store)) plan.ends i
 
-  -- what the walk gives, as far as texts tell
+  -- what the walk gives, by the texts alone
   abbrev pub IsTextMember : ObjectId → Type 0
   IsTextMember = IsInWalk text_walked (text_next (objects plan.store)) plan.tips plan.ends
 
-  -- a tip that becomes ready when the walk is built, as far as texts tell
+  -- a tip that becomes ready when the walk is built, by the texts alone
   pub record IsFirstReady (i : ObjectId) : Type 0 where
     pub tip : Contains plan.tips i
     pub childless : IsChildless text_walked IsTextMember i
 
-  -- a parent of this commit that becomes ready when it is taken after those, as far as texts tell
+  -- a parent of this commit that becomes ready when the commit is taken after these, by the texts alone
   pub record IsNextReady (taken : set.FinSet id_cmp) (c i : ObjectId) : Type 0 where
     pub named : Contains (text_walked c) i
     pub ready : IsReady text_walked IsTextMember (IsTaken (set.insert taken c)) i
 
-  -- a commit of the walk that isn't among these, as far as texts tell
+  -- a commit of the walk that isn't among these, by the texts alone
   pub record IsLeft (taken : set.FinSet id_cmp) (i : ObjectId) : Type 0 where
     pub member : IsTextMember i
     pub untaken : IsTaken taken i → ⊥
@@ -258,23 +258,23 @@ module _ {F : Type 0} (objects : F → Objects) (faulty : F → ObjectId → Typ
     pub tips_whole : (i : ObjectId) → Reaches (walked_of objects plan) plan.tips i → ReadsWhole (objects plan.store) (faulty plan.store) i
     pub ends_whole : (i : ObjectId) → Reaches (parents_of (objects plan.store)) plan.ends i → ReadsWhole (objects plan.store) (faulty plan.store) i
 
-  -- and so do all parents of what tips reach, also those that aren't walked
+  -- and so do all parents of what tips reach, also the parents that aren't walked
   pub record IsSound : Type 0 where
     pub agreeing : IsAgreeing (objects plan.store) (faulty plan.store) plan.rows
     pub tips_whole : (i : ObjectId) → Reaches (walked_of objects plan) plan.tips i → ReadsWhole (objects plan.store) (faulty plan.store) i
     pub parents_whole : (c i : ObjectId) → Reaches (walked_of objects plan) plan.tips c → Contains (parents_of (objects plan.store) c) i → ReadsWhole (objects plan.store) (faulty plan.store) i
     pub ends_whole : (i : ObjectId) → Reaches (parents_of (objects plan.store)) plan.ends i → ReadsWhole (objects plan.store) (faulty plan.store) i
 
-  -- with rows that agree it is looked up, and the history isn't sound
-  abbrev pub IsMetFault : (ObjectId → Type 0) → ObjectId → Type 0
-  IsMetFault BecomesReady i = (IsAgreeing (objects plan.store) (faulty plan.store) plan.rows → IsLookedUp objects plan BecomesReady i) × (IsSound → ⊥)
+  -- with rows that agree it is looked up, and over a sound plan it is the store that fails
+  abbrev pub IsMetFault : (ObjectId → Type 0) → ObjectId → Error → Type 0
+  IsMetFault BecomesReady i e = (IsAgreeing (objects plan.store) (faulty plan.store) plan.rows → IsLookedUp objects plan BecomesReady i) × (IsSound → e ≡ error.Find existing.Store)
 
   -- when each fault comes, where these become ready
   abbrev pub IsFault : (ObjectId → Type 0) → Error → Type 0
   IsFault BecomesReady error.MissingIndegreeUnexpected = IsAgreeing (objects plan.store) (faulty plan.store) plan.rows → ⊥
   IsFault BecomesReady error.MissingStateUnexpected = ⊥
-  IsFault BecomesReady (error.Find e) = (i : ObjectId) × IsExistingFault (objects plan.store) (faulty plan.store) i object.Commit e × IsMetFault BecomesReady i
-  IsFault BecomesReady (error.ObjectDecode e) = (i : ObjectId) × IsTextFault (objects plan.store) i e × IsMetFault BecomesReady i
+  IsFault BecomesReady (error.Find e) = (i : ObjectId) × IsExistingFault (objects plan.store) (faulty plan.store) i object.Commit e × IsMetFault BecomesReady i (error.Find e)
+  IsFault BecomesReady (error.ObjectDecode e) = (i : ObjectId) × IsTextFault (objects plan.store) i e × IsMetFault BecomesReady i (error.ObjectDecode e)
   IsFault BecomesReady error.Memory = Unit {0}
 
   -- when each fault of `build` comes
@@ -282,7 +282,7 @@ module _ {F : Type 0} (objects : F → Objects) (faulty : F → ObjectId → Typ
   IsBuildFault = IsFault (IsFirstReady objects plan)
 
 module _ {F P : Type 0} (objects : F → Objects) (faulty : F → ObjectId → Type 0) (answers : P → ObjectId → Bool → P → Type 0) where
-  -- the ready tips, where all that is walked reads whole: those without children, by rising time
+  -- the ready tips, where all that is walked reads whole: the tips without children, by rising time
   pub record StartsWith (plan : TopoPlan F) (ready : List Ready) : Type 0 where
     pub childless : List ObjectId
     pub starts : List Ready
@@ -359,7 +359,7 @@ module _ {F P : Type 0} (objects : F → Objects) (faulty : F → ObjectId → T
 abbrev pub fresh_builder : {F P : Type 0} → F → P → List ObjectId → TopoBuilder F P
 fresh_builder store predicate tips = record { plan = record { store = store; rows = []; parents = mode.All; sorting = order.DateOrder; tips = tips; ends = [] }; predicate = predicate }
 
--- and with those that an iterator gives as ends, if there is one
+-- and with the ends that an iterator gives, if there is one
 abbrev pub IsFromEnds : {F P E I : Type 0} → (E → I → Type 0) → (I → Option ObjectId → I → Type 0) → F → P → List ObjectId → Option E → TopoBuilder F P → Type 0
 IsFromEnds gives next store predicate tips None builder = builder ≡ fresh_builder store predicate tips
 IsFromEnds {I = I} gives next store predicate tips (Some ends) builder =

@@ -18,7 +18,7 @@ use Rattle.gix_traverse.specs.Orders.Preorder.{IsPreorder, IsPreorderBeginning}
 use Rattle.gix_traverse.specs.Trees.Script.{entries_in, entries_at, level_calls, depth_calls}
 use Rattle.gix_traverse.specs.Trees.Recorder.{record_of}
 use Rattle.gix_traverse.specs.Trees.Tracked.{Tracked, Tracks, fresh_recorder}
-use Rattle.gix_traverse.specs.Trees.Walk.{trees_of, LookUpFails, BreadthFirst, DepthFirst}
+use Rattle.gix_traverse.specs.Trees.Walk.{trees_of, LookUpFailed, BreadthFirst, DepthFirst}
 
 -- no visit was answered `Break`
 abbrev pub NoneBreaks : List Visit → Type 0
@@ -40,12 +40,12 @@ subtrees into [] = []
 subtrees into (e ∷ es) = if into e && is_tree e.mode then e.id ∷ subtrees into es else subtrees into es
 
 module _ (trees : ObjectId → Option Items) (fails : ObjectId → ExistingError → Type 0) where
-  -- a tree that is stored and reads whole, and whose look-up can't fail
+  -- a tree that is stored and reads whole, and whose look-up doesn't fail
   pub record IsWholeTree (i : ObjectId) : Type 0 where
     pub stored : (items : Items) × (trees i ≡ Some items) × IsWhole items
     pub found : (why : ExistingError) → fails i why → ⊥
 
-  -- the entry's tree is such a tree, and isn't one of those that hold the entry
+  -- the entry's tree is such a tree, and isn't one of the trees that hold the entry
   pub record EntersWhole (v : Visit) : Type 0 where
     pub whole : IsWholeTree v.entry.id
     pub free : is_among v.entry.id v.place.ids ≡ false
@@ -58,7 +58,7 @@ module _ (trees : ObjectId → Option Items) (fails : ObjectId → ExistingError
   abbrev pub subtrees_of : (TreeEntry → Bool) → ObjectId → List ObjectId
   subtrees_of into i = subtrees into (entries_at trees i)
 
-  -- All these trees, and those that they hold, and so on, as far as `into` is true of them, are stored and read whole. None
+  -- All these trees, and the trees that they hold, and so on, as far as `into` is true of them, are stored and read whole. None
   -- holds itself.
   pub record AreSound (into : TreeEntry → Bool) (starts : List ObjectId) : Type 0 where
     pub whole : (i : ObjectId) → Reaches (subtrees_of into) starts i → IsWholeTree i
@@ -127,31 +127,32 @@ module _ {V : Type 0} (objects : Objects) (faulty : ObjectId → Type 0) (steps 
       IsPreorderBeginning (entries_at (trees_of objects)) (known_root root) (entries_at (trees_of objects) root) walk.visits
 
   -- A walk by levels fails only for memory, where what is read of the root is whole, each tree that its visits go into is stored
-  -- and reads whole, and no tree on the way down to such a tree has its id. Of a walk that a `Break` ends nothing is asked.
+  -- and reads whole, and no tree on the way down to such a tree has its id. A look-up of such a tree may fail, where the walk
+  -- doesn't answer that it did. Of a walk that a `Break` ends nothing is asked.
   abbrev pub MetLevelsSucceed : Type 0
   MetLevelsSucceed =
       (root : Items) (old new : V) (answer : Result (Unit {0}) Error) (walk : BreadthFirst objects faulty steps root old new answer) →
-      (NoneBreaks walk.visits → IsWhole root) → (NoneBreaks walk.visits → AllEnterWhole (trees_of objects) (LookUpFails objects faulty) walk.visits) → answer ≢ Err error.Memory → IsUnfailed walk.end
+      (NoneBreaks walk.visits → IsWhole root) → (NoneBreaks walk.visits → AllEnterWhole (trees_of objects) (LookUpFailed objects faulty answer) walk.visits) → answer ≢ Err error.Memory → IsUnfailed walk.end
 
   -- The same of a walk in depth.
   abbrev pub MetDepthSucceeds : Type 0
   MetDepthSucceeds =
       (root : ObjectId) (old new : V) (answer : Result (Unit {0}) Error) (walk : DepthFirst objects faulty steps root old new answer) →
-      (NoneBreaks walk.visits → IsWholeTree (trees_of objects) (LookUpFails objects faulty) root) → (NoneBreaks walk.visits → AllEnterWhole (trees_of objects) (LookUpFails objects faulty) walk.visits) → answer ≢ Err error.Memory → IsUnfailed walk.end
+      (NoneBreaks walk.visits → IsWholeTree (trees_of objects) (LookUpFailed objects faulty answer) root) → (NoneBreaks walk.visits → AllEnterWhole (trees_of objects) (LookUpFailed objects faulty answer) walk.visits) → answer ≢ Err error.Memory → IsUnfailed walk.end
 
-  -- The same by premises on the delegate and the store alone: a walk by levels fails only for memory, where the trees that the
-  -- delegate may go into are stored, read whole and don't hold themselves. What it leaves out may be missing or broken, or hold
-  -- itself. Of a delegate that may go into each tree, `into` is true of all entries.
+  -- The same by premises on the delegate and the store, and on the answer only where look-ups may fail: a walk by levels fails
+  -- only for memory, where the trees that the delegate may go into are stored, read whole and don't hold themselves. What it
+  -- leaves out may be missing or broken, or hold itself. Of a delegate that may go into each tree, `into` is true of all entries.
   abbrev pub SoundLevelsSucceed : Type 0
   SoundLevelsSucceed =
       (root : Items) (old new : V) (answer : Result (Unit {0}) Error) (walk : BreadthFirst objects faulty steps root old new answer)
-      (into : TreeEntry → Bool) → GoesOnlyInto steps old into → IsWhole root → AreSound (trees_of objects) (LookUpFails objects faulty) into (subtrees into (entries_in root)) → answer ≢ Err error.Memory → IsUnfailed walk.end
+      (into : TreeEntry → Bool) → GoesOnlyInto steps old into → IsWhole root → AreSound (trees_of objects) (LookUpFailed objects faulty answer) into (subtrees into (entries_in root)) → answer ≢ Err error.Memory → IsUnfailed walk.end
 
   -- The same of a walk in depth.
   abbrev pub SoundDepthSucceeds : Type 0
   SoundDepthSucceeds =
       (root : ObjectId) (old new : V) (answer : Result (Unit {0}) Error) (walk : DepthFirst objects faulty steps root old new answer)
-      (into : TreeEntry → Bool) → GoesOnlyInto steps old into → AreSound (trees_of objects) (LookUpFails objects faulty) into (root ∷ []) → answer ≢ Err error.Memory → IsUnfailed walk.end
+      (into : TreeEntry → Bool) → GoesOnlyInto steps old into → AreSound (trees_of objects) (LookUpFailed objects faulty answer) into (root ∷ []) → answer ≢ Err error.Memory → IsUnfailed walk.end
 
   -- A walk by levels in which a visit was answered `Break` ended there: its calls are the calls up to that visit, and the answer
   -- is `Cancelled`.

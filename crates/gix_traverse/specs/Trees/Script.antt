@@ -33,7 +33,7 @@ depth_calls_behind name false Breaks = []
 abbrev pub depth_calls : Visit → List Call
 depth_calls v = PushPath v.entry.name ∷ visit_call v ∷ depth_calls_behind v.entry.name (is_tree v.entry.mode) (outcome v)
 
--- a step of a walk by levels: a tree is entered in its turn, or an entry is visited
+-- a step of a walk by levels: the next tree is entered, or an entry is visited
 pub data Step : Type 0 where
   Entered : Step
   Visited : (v : Visit) → Step

@@ -16,7 +16,7 @@ Items = List (Result TreeEntry DecodeError)
 pub record Place : Type 0 where
   -- the names from the root down to it
   pub names : List (List ℕ)
-  -- the known ids of the trees down to it, the nearest first: its own and those above it
+  -- the known ids of the trees down to it, the nearest first: its own id and the ids of the trees above it
   pub ids : List ObjectId
 
 pub record Visit : Type 0 where

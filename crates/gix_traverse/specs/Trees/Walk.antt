@@ -34,6 +34,10 @@ trees_of objects i = items_of_object i (get objects i)
 abbrev pub LookUpFails : Objects → (ObjectId → Type 0) → ObjectId → ExistingError → Type 0
 LookUpFails objects faulty i why = IsExistingFault objects faulty i kind.Tree why
 
+-- which look-ups of a tree failed, as far as the answer of a walk shows, and how
+abbrev pub LookUpFailed : Objects → (ObjectId → Type 0) → Result (Unit {0}) Error → ObjectId → ExistingError → Type 0
+LookUpFailed objects faulty answer i why = LookUpFails objects faulty i why × (answer ≡ Err (error.Find why))
+
 -- what a walk by levels answers
 abbrev pub level_answer : Ending → Result (Unit {0}) Error
 level_answer Whole = Ok tt

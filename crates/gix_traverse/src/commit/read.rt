@@ -1,16 +1,23 @@
 //! What a commit's row or its bytes say of its parents, and its bytes of its committer.
-ghost use Rattle.std.specs.Prelude.{◌≡◌, ◌≤◌, IfOk, IsOk, length};
+ghost use Rattle.std.specs.Prelude.{◌≡◌, ◌≢◌, ◌≤◌, IfOk, IfErr, IsOk, OnErr, length};
 ghost use Rattle.std.specs.Option.{option_map};
 ghost use Rattle.gix_parts.specs.CommitRefIter.{commit_items_left, first_committer};
+ghost use Rattle.gix_parts.specs.declared.object.Kind.TheVariants as object;
+ghost use Rattle.gix_parts.specs.declared.object.find.existing_iter.Error.TheVariants as existing;
+ghost use Rattle.gix_parts.specs.Find.{IsExistingFault};
 ghost use Rattle.gix_parts.specs.GraphCommit.{rows_of_commit, row_of_commit};
 ghost use Rattle.gix_traverse.specs.declared.commit.Parents.TheVariants as mode;
+ghost use Rattle.gix_traverse.specs.History.Agreeing.{rows_in};
 ghost use Rattle.gix_traverse.specs.History.Either.{seconds_told};
+ghost use Rattle.gix_traverse.specs.History.Reading.{ReadsHeader, ReadsRow};
 ghost use Rattle.gix_traverse.specs.Simple.Walk.{ids_at, scanned};
 
 use super::{ParentIds, Parents};
 use gix_parts::graph::{Commit, Graph};
+use gix_parts::hash::ObjectId;
 use gix_parts::object::commit::{CommitRefIter, Token};
 use gix_parts::object::decode;
+use gix_parts::object::find::{Find, existing_iter};
 use std::alloc::{AllocError, Global};
 
 // The parents that a commit's items name, up to the first item behind them, and the fault that ended the reading.
@@ -63,7 +70,7 @@ pub(crate) struct Header {
 }
 
 // Reads the parents and the committer in one pass, and ends there. Lists of at most one parent take no memory.
-pub(crate) fn read_header(alloc: Global, mut items: CommitRefIter<'_>) -> Result<Header, AllocError>
+fn read_header(alloc: Global, mut items: CommitRefIter<'_>) -> Result<Header, AllocError>
     ensures parents { IfOk result (λ h. h.parent_ids.items ≡ (scanned mode.All (commit_items_left items.entry)).0) }
     ensures time { IfOk result (λ h. h.time ≡ seconds_told (first_committer (commit_items_left items.entry))) }
     ensures succeeds { length (scanned mode.All (commit_items_left items.entry)).0 ≤ 1 → IsOk result }
@@ -91,6 +98,23 @@ pub(crate) fn read_header(alloc: Global, mut items: CommitRefIter<'_>) -> Result
     Ok(Header { parent_ids, time })
 }
 
+// Looks a commit up, and reads its header in one pass over its text, which `text` then holds.
+pub(crate) fn find_header<F: Find>(
+    alloc: Global,
+    objects: &F,
+    id: &ObjectId,
+    text: &mut Vec<u8>,
+) -> Result<Header, existing_iter::Error>
+    ensures reads { IfOk result (ReadsHeader (F.objects objects.now) id.now) }
+    ensures fault { IfErr result (λ why. why ≢ existing.Memory → IsExistingFault (F.objects objects.now) (F.faulty objects.now) id.now object.Commit why) }
+{
+    let items = objects.find_commit_iter(id, text)?;
+    match read_header(alloc, items) {
+        Ok(header) => Ok(header),
+        Err(_) => Err(existing_iter::Error::Memory),
+    }
+}
+
 // The seconds of the first committer among the items left.
 fn committer_seconds(items: CommitRefIter<'_>) -> Result<i64, decode::Error>
     ensures { result ≡ seconds_told (first_committer (commit_items_left items.entry)) }
@@ -102,7 +126,7 @@ fn committer_seconds(items: CommitRefIter<'_>) -> Result<i64, decode::Error>
 }
 
 // The ids at a row's places, and None where one of them is corrupt.
-pub(crate) fn row_parents(
+fn row_parents(
     alloc: Global,
     graph: &Graph,
     commit: Commit<'_>,
@@ -119,4 +143,45 @@ pub(crate) fn row_parents(
         parent_ids.push(graph.commit_at(position).id())?;
     }
     Ok(Some(parent_ids))
+}
+
+// What a row says of its commit.
+#[derive(Drop)]
+pub(crate) struct RowRead {
+    pub(crate) parent_ids: ParentIds,
+    pub(crate) generation: u32,
+    // The committer's seconds.
+    pub(crate) time: i64,
+}
+
+// What the row of an id says, where there is one and rows are held. A row with a corrupt place drops the rows for good.
+pub(crate) fn read_row(
+    alloc: Global,
+    graph: Option<&Graph>,
+    held: &mut bool,
+    id: &ObjectId,
+) -> Result<Option<RowRead>, AllocError>
+    ensures reads { IfOk result (λ read. ReadsRow (rows_in graph.entry) held.old id.now read held.new) }
+    ensures err { OnErr result (held.new ≡ held.old) }
+{
+    if !*held {
+        return Ok(None);
+    }
+    let Some(graph) = graph else {
+        return Ok(None);
+    };
+    let Some(commit) = graph.commit_by_id(id) else {
+        return Ok(None);
+    };
+    let generation = commit.generation();
+    let time = commit.committer_timestamp();
+    let Some(parent_ids) = row_parents(alloc, graph, commit)? else {
+        *held = false;
+        return Ok(None);
+    };
+    Ok(Some(RowRead {
+        parent_ids,
+        generation,
+        time,
+    }))
 }

@@ -27,7 +27,7 @@ use gix_parts::object::decode;
 use gix_parts::object::find::{Find, existing_iter};
 use paint::HiddenIds;
 use pending::PendingQueue;
-use std::alloc::{AllocError, Global};
+use std::alloc::{AllocError, AllocFailed, Global};
 use std::marker::Model;
 use step::cutoff_of;
 use thiserror::Error;
@@ -72,6 +72,7 @@ pub enum Sorting {
     /// Of the commits met, one of best commit time comes next.
     ByCommitTime(CommitTimeOrder),
     /// The same without the commits that are older than `seconds` since 1970-01-01 00:00 UTC. No way leads through them.
+    /// Under `Parents::First` tips alone are tested.
     ByCommitTimeCutoff {
         order: CommitTimeOrder,
         seconds: i64,
@@ -160,6 +161,17 @@ impl From<AllocError> for Error {
     }
 }
 
+// So that `list.push(id)?` is this error. The value is dropped.
+impl<T: Drop> From<AllocFailed<T>> for Error {
+    ghost use Rattle.gix_traverse.specs.declared.commit.simple.Error.TheVariants as error;
+
+    ghost from_gives = { λ _ r. r ≡ error.Memory };
+
+    fn from(_e: AllocFailed<T>) -> Error {
+        Error::Memory
+    }
+}
+
 /// A walk over the commits that some tips reach.
 ///
 /// It is an iterator of commits, each once. The commit that was met first comes first, or, where an order by time is chosen, one of
@@ -179,7 +191,8 @@ impl From<AllocError> for Error {
 /// - `Find` if the store hasn't the commit, or can't read it. In an order by time also `Find(Store)`, if the store fails at a parent that
 ///   is asked for its time: the parents behind it aren't walked from this commit. The walk goes on with the other pending commits.
 /// - `ObjectDecode` if the commit's bytes are broken before its parents end. The walk goes on, also with the parents before the fault.
-/// - `HiddenGraph`, at the first step alone, if a commit can't be read that painting has to read to know what is hidden. Nothing follows.
+/// - `HiddenGraph`, at the first step after `hide`, if a commit can't be read that painting has to read to know what is hidden. Nothing
+///   follows.
 /// - `Memory` when out of memory. Nothing follows.
 ///
 /// Behind each error `commit_data` is empty.
@@ -188,6 +201,8 @@ pub struct Simple<F, P> {
     find: F,
     predicate: P,
     graph: Option<Graph>,
+    // Whether rows are read: they are until one proves corrupt.
+    held: bool,
     parents: Parents,
     sorting: Sorting,
     pending: PendingQueue,
@@ -197,7 +212,7 @@ pub struct Simple<F, P> {
     // To be hidden, with all that they reach, by the first step.
     hidden_tips: Vec<ObjectId>,
     hidden: HiddenIds,
-    // The text of the commit last given.
+    // The text of the commit last given, if it was read from the store.
     text: Vec<u8>,
     text_kind: Kind,
     // Where a parent is read for its time.
@@ -207,6 +222,7 @@ pub struct Simple<F, P> {
 
 impl<F, P> Model for Simple<F, P> {
     ghost use Rattle.std.specs.Coded.{codes};
+    ghost use Rattle.std.specs.Prelude.{[], if◌then◌else◌};
     ghost use Rattle.gix_parts.specs.Id.{id_set_code};
     ghost use Rattle.gix_traverse.specs.Simple.Walk.{SimpleWalk};
     ghost use Rattle.gix_traverse.specs.Simple.Inside.Steps.{rows_of};
@@ -218,10 +234,10 @@ impl<F, P> Model for Simple<F, P> {
     ghost view = { λ w. record {
       store = w.find;
       predicate = w.predicate;
-      rows = rows_of w.graph;
+      rows = if w.held then rows_of w.graph else [];
       parents = w.parents;
       sorting = w.sorting;
-      pending = w.pending;
+      pending = w.pending.items;
       seen = w.seen;
       remembered = w.remembered;
       hidden_tips = w.hidden_tips.items;
@@ -275,6 +291,7 @@ impl<F: Find + Drop, P: Predicate + Drop> Simple<F, P> {
             find,
             predicate,
             graph: None,
+            held: true,
             parents: Parents::All,
             sorting: Sorting::BreadthFirst,
             pending: PendingQueue::new(alloc),
@@ -319,7 +336,7 @@ impl<F: Find + Drop, P: Predicate + Drop> Simple<F, P> {
         Ok(self)
     }
 
-    /// Hides all that these tips reach, by any parent and whatever the predicate says, in place of tips given earlier. The first
+    /// Hides all that these tips reach, by any parent and whatever the predicate says, in place of tips given earlier. The next
     /// step reads it; where it can't, that step gives `HiddenGraph`, and then nothing.
     ///
     /// # Errors
@@ -351,15 +368,17 @@ impl<F: Find + Drop, P: Predicate + Drop> Simple<F, P> {
     }
 
     /// A commit-graph to read commits from, in place of an earlier one. A commit without a row is read from the store. The first
-    /// corrupt row drops the graph.
+    /// corrupt row that is read drops the graph.
     pub fn commit_graph(mut self, graph: Option<Graph>) -> Self
         ensures { result ≡ record self { rows = rows_of graph } }
     {
         self.graph = graph;
+        self.held = true;
         self
     }
 
-    /// The text of the commit last given. It is empty before the first commit and after a fault, and stays after the end.
+    /// The text of the commit last given. It is empty where a row gave the commit, before the first commit and after a fault, and
+    /// stays after the end.
     pub fn commit_data(&self) -> &[u8]
         ensures { result.now ≡ self.now.text }
     {

@@ -10,19 +10,29 @@ use super::{Info, Predicate};
 use gix_parts::object::decode;
 use gix_parts::object::find::{Find, existing_iter};
 pub use init::Builder;
-use std::alloc::AllocError;
+use std::alloc::{AllocError, AllocFailed};
 use std::marker::Model;
 use thiserror::Error;
 use walk::Walk;
 
 /// The order of a topological walk. In both no parent comes before all of its children.
-#[derive(Clone, Copy, Debug, Default, PartialEq, Eq)]
+#[derive(Clone, Copy, Debug, PartialEq, Eq)]
 pub enum Sorting {
     /// Of the commits whose children were all taken, one of greatest commit time comes next.
-    #[default]
     DateOrder,
     /// Lines of history aren't intermixed: of those commits the one that became ready last comes next.
     TopoOrder,
+}
+
+impl Default for Sorting {
+    ghost use Rattle.std.specs.Prelude.{◌≡◌};
+    ghost use Rattle.gix_traverse.specs.declared.commit.topo.Sorting.TheVariants.{DateOrder};
+
+    ghost is_default = { λ sorting. sorting ≡ DateOrder };
+
+    fn default() -> Sorting {
+        Sorting::DateOrder
+    }
 }
 
 /// Why a topological walk can't be built, or gives no commit. After such a fault it gives nothing more.
@@ -81,12 +91,27 @@ impl From<AllocError> for Error {
     }
 }
 
+// So that `list.push(id)?` is this error. The value is dropped.
+impl<T: Drop> From<AllocFailed<T>> for Error {
+    ghost use Rattle.std.specs.Prelude.{◌≡◌};
+    ghost use Rattle.gix_traverse.specs.declared.commit.topo.Error.TheVariants as error;
+
+    ghost from_gives = { λ _ r. r ≡ error.Memory };
+
+    fn from(_e: AllocFailed<T>) -> Error {
+        Error::Memory
+    }
+}
+
 /// A walk of what tips reach and no end reaches, no commit before its children, from [`Builder::build`].
 ///
 /// # Errors
 ///
 /// `next` answers `Find` or `ObjectDecode` where it can't read an object: tips or ends reach it, or it is a parent, walked or not, of
-/// a commit that becomes ready. Without a commit-graph it is a parent that isn't walked. After an error no commit is given.
+/// a commit that becomes ready. Where a commit-graph disagrees with the store, it may be another object. Without a commit-graph it
+/// is a parent that isn't walked, unless the store failed. After an error no commit is given.
+///
+/// After None and after an error `next` may be called again, whatever the predicate: it gives None, and doesn't ask the predicate.
 #[derive(Drop)]
 pub struct Topo<F: Find, P> {
     walk: Walk<F>,
@@ -96,7 +121,6 @@ pub struct Topo<F: Find, P> {
 impl<F: Find, P> Model for Topo<F, P> {
     ghost use Rattle.std.specs.Coded.{codes};
     ghost use Rattle.gix_parts.specs.Id.{id_set_code};
-    ghost use Rattle.gix_traverse.specs.Topo.Inside.ReadySet.{AreTimed};
     ghost use Rattle.gix_traverse.specs.Topo.Inside.Releasing.{walk_of};
     ghost use Rattle.gix_traverse.specs.Topo.Inside.Steady.{IsOpen};
     ghost use Rattle.gix_traverse.specs.Topo.Walk.{TopoWalk};
@@ -107,7 +131,7 @@ impl<F: Find, P> Model for Topo<F, P> {
 
     ghost view = { λ t. walk_of t.walk t.predicate };
 
-    ghost invariant = { λ t. AreTimed t.walk.ready × IsOpen F.objects F.faulty t.walk };
+    ghost invariant = { λ t. IsOpen F.objects F.faulty t.walk };
 }
 
 impl<F: Find + Drop, P: Predicate + Drop> Topo<F, P> {
@@ -124,12 +148,14 @@ impl<F: Find + Drop, P: Predicate + Drop> Topo<F, P> {
 
 impl<F: Find + Drop, P: Predicate + Drop> Iterator for Topo<F, P> {
     ghost use Rattle.std.specs.Iterator.{at_most};
+    ghost use Rattle.std.specs.Prelude.{◌≡◌, ◌⊎◌, []};
     ghost use Rattle.gix_traverse.specs.Topo.Laws.{answers_left};
     ghost use Rattle.gix_traverse.specs.Topo.Walk.{Next};
 
     type Item = Result<Info, Error>;
 
-    ghost can_next = { λ walk. P.can_accept walk.predicate };
+    // Where nothing is ready, as after None and after an error, the predicate isn't asked.
+    ghost can_next = { λ walk. P.can_accept walk.predicate ⊎ (walk.ready ≡ []) };
 
     ghost next_gives = { Next F.objects F.faulty P.answers };
 

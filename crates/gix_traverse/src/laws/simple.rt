@@ -3,7 +3,8 @@
 ghost use Rattle.gix_traverse.specs.Simple.Statements.{MakesNewWalks, BuildsFreshWalks, NewWalksGiveBreadthFirst, PlainRunsAreInBreadthOrder, PlainRunsAreInTimeOrder, RunsAreInOrder, GivesEachOnce};
 ghost use Rattle.std.specs.Prelude.{◌≡◌};
 ghost use Rattle.gix_traverse.specs.declared.commit.Info.{Info as InfoRecord};
-ghost use Rattle.gix_traverse.specs.Simple.Statements.{info_cmp, BuildsAlike, HidesWhatIsReached, RowsLeaveTheIds, TellsTheGenerations, TimesFall, GivesNeverTwice, AsksNeverTwice, Ends, ReachIsDecided};
+ghost use Rattle.gix_traverse.specs.Simple.Statements.{info_cmp, BuildsAlike, HidesWhatIsReached, RowsLeaveTheIds, TellsTheGenerations};
+ghost use Rattle.gix_traverse.specs.Simple.Statements.{TimesFall, GivesNeverTwice, AsksNeverTwice, Ends, ReachIsDecided};
 
 use crate::commit::{Info, Predicate};
 use gix_parts::object::find::Find;
@@ -13,7 +14,7 @@ pub fn is_made<F: Find, P: Predicate>()
     ensures { MakesNewWalks F.objects F.faulty P.answers }
 {}
 
-/// Whatever calls choose its order, as often and in whatever turn, before its first step a walk is fresh: each pending commit is
+/// Whatever calls built it, in any order and any number of times, before its first step a walk is fresh: each pending commit is
 /// pending once, was accepted, and has its own time where an order by time is in force.
 pub fn is_built<F: Find, P: Predicate>()
     ensures { BuildsFreshWalks F.objects F.faulty P.answers }
@@ -26,7 +27,7 @@ pub fn gives_breadth_first<F: Find, P: Predicate>()
     ensures { NewWalksGiveBreadthFirst F.objects F.faulty P.answers }
 {}
 
-/// A walk without hidden tips and rows, and with no order by time: each commit is the first new one of those named before.
+/// A walk without hidden tips and rows, and with no order by time: each commit is the first new id among the ids named before.
 pub fn breadth_order<F: Find, P: Predicate>()
     ensures { PlainRunsAreInBreadthOrder F.objects F.faulty P.answers }
 {}
@@ -41,7 +42,7 @@ pub fn in_order<F: Find, P: Predicate>()
     ensures { RunsAreInOrder F.objects F.faulty P.answers }
 {}
 
-/// It gives no id twice, and exactly those that are reached.
+/// It gives no id twice, and exactly the ids that are reached.
 pub fn each_once<F: Find, P: Predicate>()
     ensures { GivesEachOnce F.objects F.faulty P.answers }
 {}
@@ -52,19 +53,20 @@ pub fn are_alike<F: Find, P: Predicate>()
     ensures { BuildsAlike F.objects F.faulty P.answers }
 {}
 
-/// With hidden tips a walk gives those commits of a walk without them that they don't reach, where the two are else alike.
+/// With hidden tips a walk gives exactly the commits of a walk without hidden tips that these tips don't reach, where the two walks
+/// are otherwise alike.
 pub fn hides<F: Find, P: Predicate>()
     ensures { HidesWhatIsReached F.objects F.faulty P.answers }
 {}
 
-/// Rows that agree, corrupt ones among them, leave the ids as they are, for two walks that are else alike: their list where no order
-/// by time is in force, else their set.
+/// Rows that agree, corrupt ones among them, leave the ids as they are, for two walks that are otherwise alike: their list where no
+/// order by time is in force, otherwise their set.
 pub fn rows_agree<F: Find, P: Predicate>()
     ensures { RowsLeaveTheIds F.objects F.faulty P.answers }
 {}
 
-/// The generations that are given are those of the rows, and none for a commit without a row, up to where a corrupt row drops the
-/// rows; from there on none is given. Where the rows agree and none is corrupt, they are never dropped.
+/// The generations that are given are the generations of the rows, and none for a commit without a row, up to where a corrupt row
+/// drops the rows; from there on none is given. Where the rows agree and none is corrupt, they are never dropped.
 pub fn tells<F: Find, P: Predicate>()
     ensures { TellsTheGenerations F.objects F.faulty P.answers }
 {}

@@ -1,6 +1,7 @@
 //! Laws of `commit::Topo`.
 
-ghost use Rattle.gix_traverse.specs.Topo.Statements.{RunsAreInOrder, TakesEachOnce, TakesChildrenFirst, RowsLeaveTheIds, Ends, AsksNeverTwice, GivesNeverTwice, FailsForItsReason, ParentsAreKnown, TellsTheGenerations, CountsDownToTheDepth};
+ghost use Rattle.gix_traverse.specs.Topo.Statements.{RunsAreInOrder, TakesEachOnce, TakesChildrenFirst, RowsLeaveTheIds, Ends, AsksNeverTwice};
+ghost use Rattle.gix_traverse.specs.Topo.Statements.{GivesNeverTwice, FailsForItsReason, StaysEnded, ParentsAreKnown, TellsTheGenerations, CountsDownToTheDepth};
 
 use crate::commit::Predicate;
 use gix_parts::object::find::Find;
@@ -48,17 +49,22 @@ pub fn fails_once<F: Find, P: Predicate>()
     ensures { FailsForItsReason F.objects F.faulty P.answers }
 {}
 
+/// After None nothing is ready, so `next` may be called again, whatever its predicate, and it gives None.
+pub fn stays_ended<F: Find, P: Predicate>()
+    ensures { StaysEnded F.objects F.faulty P.answers }
+{}
+
 /// Each parent of a commit that is given, walked or not, has a row, or is stored as a commit whose text can be read.
 pub fn parents_known<F: Find, P: Predicate>()
     ensures { ParentsAreKnown F.objects F.faulty P.answers }
 {}
 
-/// As long as the rows are held, a commit is given the generation of its row, and none where it has no row.
+/// As long as the rows are in use, a commit is given the generation of its row, and none where it has no row.
 pub fn tells<F: Find, P: Predicate>()
     ensures { TellsTheGenerations F.objects F.faulty P.answers }
 {}
 
-/// As long as the rows are held, counting has read the parents of exactly the commits that tips or ends reach and that aren't below
+/// As long as the rows are in use, counting has read the parents of exactly the commits that tips or ends reach and that aren't below
 /// its depth, and no row of such a commit has a fault. The rows are dropped only for one.
 pub fn counts<F: Find, P: Predicate>()
     ensures { CountsDownToTheDepth F.objects F.faulty P.answers }

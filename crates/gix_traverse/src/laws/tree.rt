@@ -1,6 +1,7 @@
 //! Laws of the walks of trees.
 ghost use Rattle.gix_traverse.specs.Trees.Measure.{WorkLessens};
-ghost use Rattle.gix_traverse.specs.Trees.Laws.{LevelsAreRecorded, DepthIsRecorded, BothRecordTheSame, LevelsAreInOrder, DepthIsInOrder, LevelsBeginInOrder, DepthBeginsInOrder, MetLevelsSucceed, MetDepthSucceeds, SoundLevelsSucceed, SoundDepthSucceeds, LevelsEndAtBreak, DepthEndsAtBreak, OkWithoutBreak};
+ghost use Rattle.gix_traverse.specs.Trees.Laws.{LevelsAreRecorded, DepthIsRecorded, BothRecordTheSame, LevelsAreInOrder, DepthIsInOrder, LevelsBeginInOrder, DepthBeginsInOrder};
+ghost use Rattle.gix_traverse.specs.Trees.Laws.{MetLevelsSucceed, MetDepthSucceeds, SoundLevelsSucceed, SoundDepthSucceeds, LevelsEndAtBreak, DepthEndsAtBreak, OkWithoutBreak};
 
 use crate::tree::Visit;
 use gix_parts::object::find::Find;
@@ -40,26 +41,26 @@ pub fn both_record_the_same<F: Find>(store: &F)
     ensures { BothRecordTheSame (F.objects store.now) (F.faulty store.now) }
 {}
 
-/// `breadthfirst` fails only for memory, where what is read of the root is whole, each tree that its visits go into is stored
-/// and reads whole, and no tree on the way down to such a tree has its id. Of a walk that a `Break` ends nothing is asked.
+/// `breadthfirst` fails only for memory, where the store didn't fail, what is read of the root is whole, each tree that its visits
+/// go into is stored and reads whole, and no tree on the way down to such a tree has its id. Of a walk that a `Break` ends nothing is asked.
 pub fn met_levels_succeed<F: Find, V: Visit>(store: &F, _delegate: &V)
     ensures { MetLevelsSucceed (F.objects store.now) (F.faulty store.now) V.steps }
 {}
 
-/// `depthfirst` fails only for memory, where the root and each tree that its visits go into are stored and read whole, and no
-/// tree on the way down to such a tree has its id. Of a walk that a `Break` ends nothing is asked.
+/// `depthfirst` fails only for memory, where the store didn't fail, the root and each tree that its visits go into are stored and
+/// read whole, and no tree on the way down to such a tree has its id. Of a walk that a `Break` ends nothing is asked.
 pub fn met_depth_succeeds<F: Find, V: Visit>(store: &F, _delegate: &V)
     ensures { MetDepthSucceeds (F.objects store.now) (F.faulty store.now) V.steps }
 {}
 
-/// `breadthfirst` fails only for memory, where all trees that the delegate may go into are stored, read whole and don't hold
-/// themselves. Trees that it leaves out may be missing or broken, or hold themselves.
+/// `breadthfirst` fails only for memory, where the store didn't fail and all trees that the delegate may go into are stored, read
+/// whole and don't hold themselves. Trees that it leaves out may be missing or broken, or hold themselves.
 pub fn sound_levels_succeed<F: Find, V: Visit>(store: &F, _delegate: &V)
     ensures { SoundLevelsSucceed (F.objects store.now) (F.faulty store.now) V.steps }
 {}
 
-/// `depthfirst` fails only for memory, where all trees that the delegate may go into are stored, read whole and don't hold
-/// themselves. Trees that it leaves out may be missing or broken, or hold themselves.
+/// `depthfirst` fails only for memory, where the store didn't fail and all trees that the delegate may go into are stored, read
+/// whole and don't hold themselves. Trees that it leaves out may be missing or broken, or hold themselves.
 pub fn sound_depth_succeeds<F: Find, V: Visit>(store: &F, _delegate: &V)
     ensures { SoundDepthSucceeds (F.objects store.now) (F.faulty store.now) V.steps }
 {}

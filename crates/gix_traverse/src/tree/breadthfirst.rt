@@ -138,7 +138,7 @@ impl Queue {
         Ok(())
     }
 
-    // The tree that has waited longest has its turn.
+    // The tree that has waited longest is next.
     fn pop(&mut self) -> Option<ObjectId>
         ensures { MatchOption result ((self.old.waiting ≡ []) × (self.new ≡ self.old)) (λ oid. self.old.waiting ≡ (oid, self.new.known) ∷ self.new.waiting) }
     {
@@ -165,7 +165,7 @@ impl State {
     }
 }
 
-// The entry's tree waits for its turn, under the path that ends with the entry's name.
+// The entry's tree waits in the queue, under the path that ends with the entry's name.
 fn enqueue<V: Visit>(queue: &mut Queue, delegate: &mut V, entry: &EntryRef<'_>) -> Result<(), Error>
     ensures { Queues V.steps (entry_of entry.now) delegate.old queue.old delegate.new queue.new result }
 {
@@ -210,7 +210,7 @@ fn show_all<V: Visit>(
 }
 
 /// Shows each entry of a tree, and then the entries of each tree at which the delegate answered `Continue(true)`, tree after
-/// tree, in the order of these answers. A tree is looked up when its turn comes.
+/// tree, in the order of these answers. A tree is looked up when it is next.
 ///
 /// Calls on the delegate:
 /// - at each entry: `push_path_component` with its name, the visit, and, unless the walk ends there, `pop_path_component`;
@@ -240,7 +240,7 @@ fn show_all<V: Visit>(
 /// use std::alloc::Global;
 ///
 /// /// The entries of a tree and of the trees in it, by levels, with their paths.
-/// fn listed<F: Find>(alloc: Global, store: &F, root: &ObjectId) -> Result<Vec<Entry>, Error> {
+/// pub fn listed<F: Find>(alloc: Global, store: &F, root: &ObjectId) -> Result<Vec<Entry>, Error> {
 ///     let mut bytes = Vec::new(alloc);
 ///     let entries = store.find_tree_iter(root, &mut bytes)?;
 ///     let mut state = State::new(alloc);

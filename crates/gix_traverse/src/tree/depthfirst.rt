@@ -229,7 +229,7 @@ fn keep(above: &mut Vec<Tree>, tree: Tree) -> Result<(), AllocError>
 /// use std::alloc::Global;
 ///
 /// /// The entries of a tree and of the trees in it, each tree right behind its entry, with their paths.
-/// fn listed<F: Find>(alloc: Global, store: &F, root: ObjectId) -> Result<Vec<Entry>, Error> {
+/// pub fn listed<F: Find>(alloc: Global, store: &F, root: ObjectId) -> Result<Vec<Entry>, Error> {
 ///     let mut state = State::new(alloc);
 ///     let mut recorder = Recorder::new(alloc);
 ///     depthfirst(alloc, root, &mut state, store, &mut recorder)?;

@@ -134,7 +134,7 @@ fn cut(path: &mut Vec<u8>)
 /// use std::alloc::Global;
 ///
 /// /// The names alone of the entries of a tree and of the trees in it.
-/// fn names<F: Find>(alloc: Global, store: &F, root: ObjectId) -> Result<Vec<Entry>, Error> {
+/// pub fn names<F: Find>(alloc: Global, store: &F, root: ObjectId) -> Result<Vec<Entry>, Error> {
 ///     let mut recorder = Recorder::new(alloc).track_location(Some(Location::FileName));
 ///     depthfirst(alloc, root, &mut State::new(alloc), store, &mut recorder)?;
 ///     Ok(recorder.records)

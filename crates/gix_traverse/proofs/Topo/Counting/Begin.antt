@@ -20,7 +20,7 @@ use Rattle.gix_traverse.specs.History.Agreeing.{IsAgreeing}
 use Rattle.gix_traverse.specs.Topo.Depth.{infinity, known_generation, least}
 use Rattle.gix_traverse.specs.Topo.Inside.Exploring.{Explores, itself, further, IsSamePlan, IsRested, IsExploringFault}
 use Rattle.gix_traverse.specs.Topo.Inside.Frontier.{is_side, is_done, reached}
-use Rattle.gix_traverse.specs.History.Reading.{rows_of, Reads, by_row, by_text}
+use Rattle.gix_traverse.specs.History.Reading.{rows_of, is_read, Reads, by_row, by_text}
 use Rattle.gix_traverse.specs.Topo.Inside.Releasing.{plan_by, counted_by}
 use Rattle.gix_traverse.specs.Topo.Inside.Searched.{IsCounted, IsBegun, IsExplored, next_by, starts_by}
 use Rattle.gix_traverse.specs.History.Reach.{Reaches}
@@ -49,7 +49,7 @@ unknown_generation rows i e = ap (λ those. known_generation those i) e
 
 -- without rows a commit that is read has no fault
 read_faultless : (objects : Objects) (faulty : ObjectId → Type 0) (rows : List GraphRow) (standing : Bool) (i : ObjectId) (info : Info) (new : Bool) → rows ≡ [] → Reads objects faulty rows standing i (Ok info) new → IsCommitRead objects i
-read_faultless objects faulty rows standing i info new e (by_row s r) = let q : None ≡ Some r.row = sym (ap (λ those. row_of those i) e) ∙ r.there in cc
+read_faultless objects faulty rows standing i info new e (by_row (is_read h says) is) = let q : None ≡ Some says.row = sym (ap (λ those. row_of those i) e) ∙ says.there in cc
 read_faultless objects faulty rows standing i info new e (by_text n t) = record { bytes = t.0; stored = t.1; faultless = faultless (kind_of i) t.0 t.2.1 }
 
 module _ {F : Type 0} (objects : F → Objects) (faulty : F → ObjectId → Type 0) where

@@ -128,7 +128,7 @@ finishes_children {old} {i} {side} {new} f j = moved_children old new i side Don
 pub finishes_made : {old : Frontier} {i : ObjectId} {side : Side} {new : Frontier} → Finishes old i side new → (j : ObjectId) → made_of new j ≡ made_of old j
 finishes_made {old} {i} {side} {new} f j = moved_made old new i side Done f.known j
 
--- at last places an id stands once
+-- at last places an id is in the list once
 pub times-last : (i : ObjectId) (xs : List ObjectId) → times i (last_places xs) ≡ cond (is_among i xs) 1 0
 times-last i xs = go (is_among i xs) refl
   where

@@ -1,13 +1,11 @@
 -- Counting is exact down to the depth.
-use Rattle.std.specs.Prelude.{◌≡◌, ◌⊎◌, ◌≤◌, ℕ, ◌+◌, List, [], ◌∷◌, Bool, true, false, not, ◌&&◌, ◌||◌, cond, nat_le, Option, Some, None, Contains, length, slice_get}
+use Rattle.std.specs.Prelude.{◌≡◌, ◌⊎◌, ◌≤◌, ℕ, ◌+◌, List, [], ◌∷◌, Bool, true, false, not, ◌&&◌, ◌||◌, cond, nat_le, Some, Contains, length, slice_get}
 use Rattle.std.proofs.Common.{refl, sym, ap, subst, inl, inr, ⊎_elim, ◌∙◌, arith}
-use Rattle.std.specs.Option.{is_some}
 use Rattle.std.proofs.lemmas.Bool.{leb-true, true≢false, false≢true}
 use Rattle.std.proofs.lemmas.List.Sorted.{Contains-permutation, IsPermutation-sym}
 use Rattle.gix_parts.specs.declared.hash.ObjectId.{ObjectId}
 use Rattle.gix_parts.specs.Id.{is_same}
 use Rattle.gix_parts.specs.Object.{Objects}
-use Rattle.gix_parts.specs.Rows.{GraphRow, row_of}
 use Rattle.gix_parts.proofs.Ids.Membership.{same_is, same_itself, Contains-here, Contains-there, Contains-cons_cases}
 use Rattle.gix_traverse.specs.declared.commit.topo.Sorting.{Sorting}
 use Rattle.gix_traverse.specs.declared.commit.topo.frontier.Side.{Side}
@@ -20,10 +18,9 @@ use Rattle.gix_traverse.specs.History.Agreeing.{IsAgreeing}
 use Rattle.gix_traverse.specs.Topo.Depth.{known_generation}
 use Rattle.gix_traverse.specs.Topo.Inside.Exploring.{is_pending, IsRested, Steps, Explores, itself, further, IsSamePlan}
 use Rattle.gix_traverse.specs.Topo.Inside.Frontier.{is_side, is_done, reached}
-use Rattle.gix_traverse.specs.History.Reading.{rows_of, is_whole_row}
+use Rattle.gix_traverse.specs.History.Reading.{rows_of, DropsRows}
 use Rattle.gix_traverse.specs.Topo.Inside.Releasing.{plan_by, counted_by}
 use Rattle.gix_traverse.specs.Topo.Inside.Searched.{IsCounted, IsSearched, IsBegun, IsExplored}
-use Rattle.gix_traverse.specs.Simple.Walk.{ids_at}
 use Rattle.gix_traverse.specs.Topo.Inside.Steady.{IsDone, IsReadOnce, AreRead, HasCounted}
 use Rattle.gix_traverse.specs.Topo.Walk.{TopoPlan, IsNumberOf, IsMet, IsInDepth, IsBrokenRow, IsCounting, IsWalkable}
 use Rattle.gix_traverse.proofs.Topo.Taking.BecomeReady.{done_seen, tips_text, text_tips, ends_text, text_ends}
@@ -48,31 +45,23 @@ number_more P Q n c absent now f g h = record {
   number = let e : length h.ids ≡ n = h.number in omega arith;
 }
 
--- the first that waits isn't below the depth as long as the rows stand
+-- the first that waits isn't below the depth as long as the rows are in use
 top_high : (standing : Bool) (depth : ℕ) (queue : List (ℕ × Waiting)) (entry : ℕ × Waiting) → slice_get queue 0 ≡ Some entry → is_pending standing depth queue ≡ true → standing ≡ true → depth ≤ entry.0
 top_high standing depth [] entry f p e = absurd (false≢true p)
 top_high standing depth (x ∷ queue) entry f p e =
     let same : x ≡ entry = (let s : Some x ≡ Some entry = f in cc) in
     subst (λ y. depth ≤ y.0) same (leb-true depth x.0 (sym (ap (λ b. not b || nat_le depth x.0) e) ∙ p))
 
-no_ids : (o : Option (List ObjectId)) → is_some o ≡ false → o ≡ None
-no_ids None e = refl
-no_ids (Some ids) e = absurd (true≢false e)
-
 module _ {F : Type 0} (objects : F → Objects) (faulty : F → ObjectId → Type 0) where
   -- a row that isn't whole has a fault, where the rows agree
-  pub broken : (plan : TopoPlan F) → IsAgreeing (objects plan.store) (faulty plan.store) plan.rows → (depth : ℕ) (i : ObjectId) → IsMet objects plan i → depth ≤ known_generation plan.rows i → is_whole_row plan.rows (row_of plan.rows i) ≡ false → IsBrokenRow objects plan depth
-  broken plan agrees depth i r high e = go (row_of plan.rows i) refl e
-    where
-      go : (o : Option GraphRow) → row_of plan.rows i ≡ o → is_whole_row plan.rows o ≡ false → IsBrokenRow objects plan depth
-      go None q f = absurd (true≢false f)
-      go (Some row) q f = record {
-        id = i;
-        row = row;
-        in_depth = record { reached = r; high = high };
-        by_row = q;
-        corrupt = corrupt_row (objects plan.store) (faulty plan.store) plan.rows agrees row (row_stands plan.rows i row q).0 (no_ids (ids_at plan.rows row.parents) f);
-      }
+  pub broken : (plan : TopoPlan F) → IsAgreeing (objects plan.store) (faulty plan.store) plan.rows → (depth : ℕ) (i : ObjectId) → IsMet objects plan i → depth ≤ known_generation plan.rows i → DropsRows plan.rows i → IsBrokenRow objects plan depth
+  broken plan agrees depth i r high d = record {
+    id = i;
+    row = d.0;
+    in_depth = record { reached = r; high = high };
+    by_row = d.1;
+    corrupt = corrupt_row (objects plan.store) (faulty plan.store) plan.rows agrees d.0 (row_stands plan.rows i d.0 d.1).0 d.2;
+  }
 
   -- what is done is reached
   pub done_reached : (plan : TopoPlan F) → IsWalkable objects faulty plan → (f : Frontier) → IsSearched (objects plan.store) plan.rows plan.parents plan.tips plan.ends f.queue f.known → (i : ObjectId) → IsDone f i → IsMet objects plan i
@@ -136,7 +125,7 @@ module _ {F : Type 0} (objects : F → Objects) (faulty : F → ObjectId → Typ
     abbrev Told : TopoPlan F → Frontier → Type 0
     Told plan f = IsCounted (objects plan.store) plan.rows plan.parents plan.tips plan.ends taken f
 
-    -- a step keeps what is told of the done commits
+    -- a step keeps what holds of the done commits
     steps_counts : (old new : Counting F) → IsWalkable objects faulty (Plan old) → Told (Plan old) old.frontier → is_pending old.reader.standing old.depth old.frontier.queue ≡ true → Steps objects faulty old new → HasCounted objects (Plan old) old → HasCounted objects (Plan old) new
     steps_counts old new sound counted pending s h = record {
       number = steps_number old new s h.number;
@@ -177,7 +166,7 @@ module _ {F : Type 0} (objects : F → Objects) (faulty : F → ObjectId → Typ
         here : IsReadOnce objects faulty (Plan old) new.reader.standing s.entry.1.id
         here = subst (λ plan. IsReadOnce objects faulty plan new.reader.standing s.entry.1.id) (same_plan (explores_same objects faulty e)) (record { info = s.reads.info; before = mid.reader.standing; after = new.reader.standing; reads = s.reads.reads; later = λ k. k })
 
-    -- after exploring, what is told of the done commits is told of all that is reached down to the depth
+    -- after exploring, what holds of the done commits holds of all that is reached down to the depth
     pub counts_on : (low explored : Counting F) → IsWalkable objects faulty (Plan low) → Told (Plan low) low.frontier → ((side : Side) → IsBegun tips ends side low.frontier) → HasCounted objects (Plan low) low → AreRead objects faulty (Plan low) low → Explores objects faulty low explored → IsRested explored.reader.standing explored.depth explored.frontier.queue → HasCounted objects (Plan low) explored × IsCounting objects (Plan low) (counted_by explored)
     counts_on low explored sound counted begun h reads e rested = (counts, record { exact = exact; dropped = counts.dropped; whole = whole })
       where

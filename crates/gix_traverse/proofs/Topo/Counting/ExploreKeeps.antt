@@ -1,4 +1,4 @@
--- Exploring keeps searches and counts as they are to be, beside rows that agree.
+-- With rows that agree, exploring keeps searches and counts as they are to be.
 use Rattle.std.specs.Prelude.{◌≡◌, ℕ, ◌+◌, List, [], ◌∷◌, Bool, true, false, ◌&&◌, ◌||◌, cond, Contains}
 use Rattle.std.proofs.Common.{refl, sym, ap, subst, ◌∙◌}
 use Rattle.std.proofs.lemmas.Bool.{false≢true}

@@ -1,4 +1,4 @@
--- What one more mark tells of an id.
+-- What one more mark says of an id.
 use Rattle.std.specs.Prelude.{◌≡◌, ℕ, ◌==◌, Bool, true, false, cond}
 use Rattle.std.proofs.Common.{refl, ap, ◌∙◌}
 use Rattle.std.proofs.lemmas.Nat.{and_or_self, and_or_apart}

@@ -1,5 +1,5 @@
 -- Naming the parents of a commit one by one.
-use Rattle.std.specs.Prelude.{◌≡◌, ℕ, List, [], ◌∷◌, Result, Ok, Err, OnOk, IfErr, length}
+use Rattle.std.specs.Prelude.{◌≡◌, ℕ, List, [], ◌∷◌, Result, Ok, Err, OnOk, IfErr, IsErrAnd, length}
 use Rattle.std.proofs.Common.{refl, sym, subst, arith}
 use Rattle.gix_parts.specs.declared.hash.ObjectId.{ObjectId}
 use Rattle.gix_parts.specs.Rows.{GraphRow}
@@ -23,6 +23,10 @@ follows_more rows side old mid new generation i all ids e g n f = subst (λ thos
 pub if_err : {X E : Type 0} {P Q : E → Type 0} (r : Result X E) → ((e : E) → P e → Q e) → IfErr r P → IfErr r Q
 if_err (Ok x) f h = tt
 if_err (Err e) f h = f e h
+
+pub err_from : {X E : Type 0} (P : E → Type 0) (r : Result X E) (why : E) → IsErrAnd r (λ e. e ≡ why) → P why → IfErr r P
+err_from P (Ok x) why h p = absurd h
+err_from P (Err e) why h p = subst P (sym h) p
 
 pub no_items : {X : Type 0} (xs : List X) → length xs ≡ 0 → xs ≡ []
 no_items [] e = refl

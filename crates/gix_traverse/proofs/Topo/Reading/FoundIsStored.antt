@@ -1,7 +1,7 @@
--- A ready commit as it was read, beside rows that agree.
-use Rattle.std.specs.Prelude.{◌≡◌, ℕ, Bool, true, false, ◌&&◌, cond, Option, Some, None, Result, Ok, Err, List, Contains}
+-- A ready commit as it was read, with rows that agree.
+use Rattle.std.specs.Prelude.{◌≡◌, ℕ, Bool, true, cond, Option, Some, None, Result, Ok, Err, List, Contains}
 use Rattle.std.proofs.Common.{refl, sym, ap, subst, ◌∙◌}
-use Rattle.std.proofs.lemmas.Bool.{false≢true, lt-ltb}
+use Rattle.std.proofs.lemmas.Bool.{lt-ltb}
 use Rattle.gix_parts.specs.declared.hash.ObjectId.{ObjectId}
 use Rattle.gix_parts.specs.declared.object.decode.Error.{Error as DecodeError}
 use Rattle.gix_parts.specs.Id.{kind_of, is_among}
@@ -11,13 +11,15 @@ use Rattle.gix_parts.specs.CommitItems.{commit_items}
 use Rattle.gix_parts.specs.CommitRefIter.{first_committer}
 use Rattle.gix_parts.specs.Rows.{GraphRow, row_of}
 use Rattle.gix_traverse.specs.declared.commit.Info.{Info}
+use Rattle.gix_traverse.specs.declared.commit.read.RowRead.{RowRead}
 use Rattle.gix_traverse.specs.History.Agreeing.{IsAgreeing}
 use Rattle.gix_traverse.specs.Topo.Depth.{infinity}
 use Rattle.gix_traverse.specs.History.Commits.{ReadsWhole, time_of, time_in, commit_of_object}
-use Rattle.gix_traverse.specs.History.Reading.{Reads, by_row, by_text, row_ids, is_whole_row, told_generation, time_of_committer}
+use Rattle.gix_traverse.specs.History.Reading.{RowSays, is_read, Reads, by_row, by_text, told_generation, time_of_committer}
 use Rattle.gix_traverse.specs.Topo.Inside.Searched.{text_next}
 use Rattle.gix_traverse.specs.Simple.Laws.{IsRowGeneration}
 use Rattle.gix_traverse.specs.Topo.Walk.{TopoPlan, Ready, IsWalkable, IsStored, named_ids, row_generation, IsFound}
+use Rattle.gix_traverse.proofs.Shared.HeldRows.{passed_over}
 use Rattle.gix_traverse.proofs.Shared.CommitterTime.{TellsTime, tells}
 use Rattle.gix_traverse.proofs.Shared.ReadsWhole.{row_stands, row_says_time}
 use Rattle.gix_traverse.proofs.Topo.Reading.ReadsCommit.{reads_named, reads_text_next, text_whole}
@@ -28,31 +30,26 @@ committer_time (Some c) (Err e) h = absurd h
 committer_time None (Ok signature) h = absurd h
 committer_time None (Err e) h = refl
 
--- where rows stand still, a row that was passed over is none
-passed_over : (rows : List GraphRow) (o : Option GraphRow) (before : Bool) → (before ≡ true → row_ids rows o ≡ None) → (before && is_whole_row rows o) ≡ true → None ≡ row_generation o
-passed_over rows None before n e = refl
-passed_over rows (Some row) false n e = absurd (false≢true e)
-passed_over rows (Some row) true n e = absurd (false≢true (sym (ap Rattle.std.specs.Option.is_some (n refl)) ∙ e))
-
 module _ (objects : Objects) (faulty : ObjectId → Type 0) (rows : List GraphRow) (agrees : IsAgreeing objects faulty rows) where
-  finite_told : (i : ObjectId) (row : GraphRow) → row_of rows i ≡ Some row → told_generation row.generation ≡ Some row.generation
-  finite_told i row e = ap (λ b. cond b (Some row.generation) None) (lt-ltb row.generation infinity (agrees row (row_stands rows i row e).0).finite)
+  finite_told : (i : ObjectId) {read : RowRead} (says : RowSays rows i read) → told_generation read.generation ≡ Some says.row.generation
+  finite_told i says =
+      ap told_generation says.generation ∙ ap (λ b. cond b (Some says.row.generation) None) (lt-ltb says.row.generation infinity (agrees says.row (row_stands rows i says.row says.there).0).finite)
 
   reads_time : {standing : Bool} {i : ObjectId} {info : Info} {new : Bool} → Reads objects faulty rows standing i (Ok info) new → info.commit_time ≡ Some (time_of objects i)
-  reads_time {i = i} (by_row s r) = r.info_is.same_time ∙ ap Some (row_says_time objects faulty rows agrees i r.row r.there)
+  reads_time {i = i} (by_row (is_read h says) is) = is.same_time ∙ ap Some (says.time ∙ row_says_time objects faulty rows agrees i says.row says.there)
   reads_time {i = i} (by_text n t) =
       t.2.0.same_time ∙ ap Some (committer_time (read_commit (kind_of i) t.0) (first_committer (commit_items (kind_of i) t.0)) (tells (kind_of i) t.0) ∙ sym (ap (λ o. time_in (commit_of_object i o)) t.1))
 
   reads_row : {standing : Bool} {i : ObjectId} {info : Info} {new : Bool} → Reads objects faulty rows standing i (Ok info) new → IsRowGeneration rows i info.generation
-  reads_row {i = i} (by_row s r) = subst (IsRowGeneration rows i) (sym (r.info_is.same_generation ∙ finite_told i r.row r.there)) (r.row, r.there, refl)
+  reads_row {i = i} (by_row (is_read h says) is) = subst (IsRowGeneration rows i) (sym (is.same_generation ∙ finite_told i says)) (says.row, says.there, refl)
   reads_row {i = i} (by_text n t) = subst (IsRowGeneration rows i) (sym t.2.0.same_generation) tt
 
   reads_told : {standing : Bool} {i : ObjectId} {info : Info} {new : Bool} → Reads objects faulty rows standing i (Ok info) new → new ≡ true → info.generation ≡ row_generation (row_of rows i)
-  reads_told {i = i} (by_row s r) e = r.info_is.same_generation ∙ finite_told i r.row r.there ∙ sym (ap row_generation r.there)
-  reads_told {standing = standing} {i = i} (by_text n t) e = t.2.0.same_generation ∙ passed_over rows (row_of rows i) standing n.0 (sym n.1 ∙ e)
+  reads_told {i = i} (by_row (is_read h says) is) e = is.same_generation ∙ finite_told i says ∙ sym (ap row_generation says.there)
+  reads_told (by_text r t) e = t.2.0.same_generation ∙ sym (ap row_generation (passed_over r e))
 
 module _ {F : Type 0} (objects : F → Objects) (faulty : F → ObjectId → Type 0) (plan : TopoPlan F) where
-  -- beside rows that agree, its parents are those that its text names
+  -- with rows that agree, its parents are the ids that its text names
   pub found_text : {stood standing : Bool} {r : Ready} → IsAgreeing (objects plan.store) (faulty plan.store) plan.rows → IsFound objects faulty plan stood standing r → r.parents ≡ text_next (objects plan.store) r.id
   found_text agrees f = sym f.is.same_parents ∙ reads_text_next (objects plan.store) (faulty plan.store) plan.rows agrees f.reads
 

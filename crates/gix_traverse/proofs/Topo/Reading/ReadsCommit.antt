@@ -1,4 +1,4 @@
--- What reading a commit tells of the ids that rows and texts name, and, beside rows that agree, of its parents.
+-- What reading a commit says of the ids that rows and texts name, and, with rows that agree, of its parents.
 use Rattle.std.specs.Prelude.{◌≡◌, ◌≤◌, ◌<◌, ◌^◌, ◌-◌, List, [], map, Bool, true, Option, Some, None, Ok, Contains}
 use Rattle.std.proofs.Common.{refl, sym, ap, subst, ◌∙◌, arith}
 use Rattle.std.proofs.lemmas.Bool.{or_left, or_right}
@@ -16,7 +16,7 @@ use Rattle.gix_traverse.specs.declared.commit.Parents.TheVariants as mode
 use Rattle.gix_traverse.specs.History.Agreeing.{IsAgreeing}
 use Rattle.gix_traverse.specs.Topo.Depth.{known_generation, generation_in, infinity}
 use Rattle.gix_traverse.specs.History.Commits.{ReadsWhole, parents_of, commit_at, commit_of_kind, commit_of_object}
-use Rattle.gix_traverse.specs.History.Reading.{Reads, by_row, by_text}
+use Rattle.gix_traverse.specs.History.Reading.{is_read, Reads, by_row, by_text}
 use Rattle.gix_traverse.specs.Topo.Walk.{text_parents, text_parents_of_kind, named_ids}
 use Rattle.gix_traverse.specs.Topo.Inside.Searched.{text_next, next_in}
 use Rattle.gix_traverse.proofs.Shared.ReadsWhole.{scan_is, row_stands, row_parents, parent_below}
@@ -26,8 +26,8 @@ use Rattle.gix_traverse.proofs.Shared.NewIds.{among_flat}
 module _ (objects : Objects) (faulty : ObjectId → Type 0) (rows : List GraphRow) where
   -- the parents that are read are among the ids that rows and texts name
   pub reads_named : {standing : Bool} {i : ObjectId} {info : Info} {new : Bool} → Reads objects faulty rows standing i (Ok info) new → (j : ObjectId) → Contains info.parent_ids.items j → is_among j (named_ids objects rows) ≡ true
-  reads_named (by_row s r) j m =
-      among-append j (map (λ row. row.id) rows) _ ∙ or_left _ _ (ids_in_rows rows r.row.parents r.ids r.whole j (subst (λ ids. Contains ids j) r.info_is.same_parents m))
+  reads_named (by_row (is_read h says) is) j m =
+      among-append j (map (λ row. row.id) rows) _ ∙ or_left _ _ (ids_in_rows rows says.row.parents _ says.parents j (subst (λ ids. Contains ids j) is.same_parents m))
   reads_named {i = i} (by_text n t) j m =
       let entry : Contains (map_of.entries objects) (i, record { kind = object.Commit; bytes = t.0 }) = found_entry (map_of.entries objects) i _ (sym (map_of.get-entries objects i) ∙ t.1) in
       among-append j (map (λ row. row.id) rows) _ ∙ or_right (is_among j (map (λ row. row.id) rows)) _
@@ -51,10 +51,10 @@ module _ (objects : Objects) (faulty : ObjectId → Type 0) (rows : List GraphRo
 
   module _ (agrees : IsAgreeing objects faulty rows) where
     pub reads_text_next : {standing : Bool} {i : ObjectId} {info : Info} {new : Bool} → Reads objects faulty rows standing i (Ok info) new → info.parent_ids.items ≡ text_next objects i
-    reads_text_next {i = i} (by_row s r) =
-        let h : Contains rows r.row × (i ≡ r.row.id) = row_stands rows i r.row r.there in
-        let w : ReadsWhole objects faulty i = subst (ReadsWhole objects faulty) (sym h.1) (agrees r.row h.0).whole in
-        r.info_is.same_parents ∙ row_parents objects faulty rows agrees i r.row r.ids r.there r.whole ∙ text_whole i w
+    reads_text_next {i = i} (by_row (is_read h says) is) =
+        let m : Contains rows says.row × (i ≡ says.row.id) = row_stands rows i says.row says.there in
+        let w : ReadsWhole objects faulty i = subst (ReadsWhole objects faulty) (sym m.1) (agrees says.row m.0).whole in
+        is.same_parents ∙ row_parents objects faulty rows agrees i says.row _ says.there says.parents ∙ text_whole i w
     reads_text_next {i = i} (by_text n t) = t.2.0.same_parents ∙ sym (ap (next_in i) t.1)
 
     finite : (i : ObjectId) (row : GraphRow) → row_of rows i ≡ Some row → row.generation ≤ infinity
@@ -91,4 +91,4 @@ text_has objects i j m = go (commit_at objects i) refl m
   where
     go : (o : Option Commit) → commit_at objects i ≡ o → Contains (parents_in o) j → Contains (text_next objects i) j
     go None e n = absurd (no_member j n)
-    go (Some commit) e n = subst (λ ids. Contains ids j) (text_whole objects (λ k. ⊥) [] i (record { commit = commit; stored = e; sound = λ f. f })) m
+    go (Some commit) e n = subst (λ ids. Contains ids j) (text_whole objects (λ k. ⊥) [] i (record { commit = commit; stored = e })) m

@@ -1,4 +1,4 @@
--- The laws of topological walks that stand on the order alone.
+-- The laws of topological walks that follow from the order alone.
 use Rattle.std.specs.Prelude.{◌≡◌, ◌++◌, ℕ, List, [], ◌∷◌, Bool, true, filter, take, slice_get, Option, Some, None, Result, Contains}
 use Rattle.std.proofs.Common.{refl, sym, subst, ⊎_elim, ◌∙◌}
 use Rattle.std.specs.List.{AllZip, flat_map}

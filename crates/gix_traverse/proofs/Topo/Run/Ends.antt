@@ -137,11 +137,17 @@ module _ {F P : Type 0} (objects : F → Objects) (faulty : F → ObjectId → T
       omega arith
 
   -- when a fault comes, and what follows
-  nothing_more : {w new : TopoWalk F P} {o : Option (Result Info Error)} → Next objects faulty answers w o new → w.ready ≡ [] → o ≡ None
+  pub nothing_more : {w new : TopoWalk F P} {o : Option (Result Info Error)} → Next objects faulty answers w o new → w.ready ≡ [] → o ≡ None
   nothing_more (ended e) n = refl
   nothing_more (given {old = w} {c = c} t a is) n = absurd (no_member c (subst (λ rs. Contains rs c) n (chosen_in w.plan.sorting w.ready c t.others t.chosen)))
   nothing_more (refused {old = w} {c = c} t a next) n = absurd (no_member c (subst (λ rs. Contains rs c) n (chosen_in w.plan.sorting w.ready c t.others t.chosen)))
   nothing_more (failed {old = w} c others ch f l) n = absurd (no_member c (subst (λ rs. Contains rs c) n (chosen_in w.plan.sorting w.ready c others ch)))
+
+  pub ended_ready : {w new : TopoWalk F P} {o : Option (Result Info Error)} → Next objects faulty answers w o new → o ≡ None → new.ready ≡ []
+  ended_ready (ended n) s = n
+  ended_ready (given t a is) s = cc
+  ended_ready (refused t a next) s = ended_ready next s
+  ended_ready (failed c others ch f l) s = cc
 
   -- the same fault where more may become ready
   fault_more : (w : TopoWalk F P) (Q R : ObjectId → Type 0) → ((i : ObjectId) → Q i → R i) → (e : Error) → IsFault objects faulty w.plan Q e → IsFault objects faulty w.plan R e

@@ -1,4 +1,4 @@
--- As long as the rows stand, each commit is given its row's generation.
+-- As long as the rows are in use, each commit is given its row's generation.
 use Rattle.std.specs.Prelude.{Err, ◌≡◌, List, [], ◌∷◌, ◌++◌, Bool, true, Option, Some, Result, Ok, Contains}
 use Rattle.std.proofs.Common.{refl, sym, ap, subst, ⊎_elim, ◌∙◌}
 use Rattle.std.proofs.lemmas.List.Elements.{Contains-append_cases}
@@ -13,7 +13,7 @@ use Rattle.gix_parts.proofs.Ids.Membership.{Contains-here, Contains-there, no_me
 use Rattle.gix_traverse.proofs.Topo.Run.Theorem.{holds_in, chosen_in, others_in}
 
 module _ {F P : Type 0} (objects : F → Objects) (faulty : F → ObjectId → Type 0) (answers : P → ObjectId → Bool → P → Type 0) where
-  -- the ready commits are told their rows' generations
+  -- the ready commits have their rows' generations
   abbrev Tells : TopoWalk F P → Type 0
   Tells w = w.counted.standing ≡ true → (r : Ready) → Contains w.ready r → r.generation ≡ row_generation (row_of w.plan.rows r.id)
 

@@ -1,4 +1,4 @@
--- What a list has in which each commit is ready in its turn: no id twice, children first, and all of the set where none is its own ancestor.
+-- What a list has in which each commit is ready when it comes: no id twice, children first, and all of the set where none is its own ancestor.
 use Rattle.std.specs.Prelude.{◌≡◌, ◌⊎◌, ◌+◌, ◌≤◌, ℕ, zero, suc, ℤ, List, [], ◌∷◌, ◌++◌, Bool, true, false, not, ◌||◌, cond, filter, reverse, length, take, slice_get, Option, Some, None, Contains, MatchOption}
 use Rattle.std.proofs.Common.{refl, sym, ap, subst, inl, inr, ⊎_elim, ◌∙◌, arith, append_assoc, append-nil, take_all, le_refl}
 use Rattle.std.proofs.lemmas.Bool.{true≢false, false_from_ne_true, true_from_ne_false, and_parts, and_from, not-true}
@@ -20,7 +20,7 @@ use Rattle.gix_traverse.proofs.Shared.NewIds.{fresh, times, times-append, times_
 use Rattle.gix_traverse.proofs.Shared.Orders.{found_passes, none_passes}
 use Rattle.gix_traverse.proofs.Topo.Ready.IsReady.{times-filter, times-by_time, keeps_from, keeps_one, AreReady, are_ready_alike, takes_ready, starts_ready}
 
--- an order that is told by beginnings
+-- an order that is defined by the beginnings of its list
 module _ (Q : List ObjectId → Option ObjectId → Type 0) where
   abbrev pub TurnsFrom : List ObjectId → List ObjectId → Type 0
   TurnsFrom done ids = (k : ℕ) → k ≤ length ids → Q (done ++ take k ids) (slice_get ids k)

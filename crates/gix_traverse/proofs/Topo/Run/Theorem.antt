@@ -1,6 +1,6 @@
 -- A whole topological walk takes what the definitions say, in their order.
-use Rattle.std.specs.Prelude.{◌≡◌, ◌≢◌, ◌+◌, ◌≤◌, ◌≤ℤ◌, ℕ, List, [], ◌∷◌, ◌++◌, Bool, true, false, not, ◌&&◌, ◌||◌, cond, filter, find, reverse, Option, Some, None, Result, Ok, Err, Contains, MatchOption, IsPermutation, All}
-use Rattle.std.proofs.Common.{refl, sym, ap, subst, ⊎_elim, ◌∙◌, arith, append-nil}
+use Rattle.std.specs.Prelude.{◌≡◌, ◌⊎◌, ◌+◌, ◌≤◌, ◌≤ℤ◌, ℕ, List, [], ◌∷◌, ◌++◌, Bool, true, false, not, ◌&&◌, ◌||◌, cond, filter, find, reverse, Option, Some, None, Result, Ok, Err, Contains, MatchOption, IsPermutation, All}
+use Rattle.std.proofs.Common.{refl, sym, ap, subst, ⊎_elim, inl, inr, ◌∙◌, arith, append-nil}
 use Rattle.std.specs.List.{AllZip}
 use Rattle.std.proofs.lemmas.Int.{ints}
 use Rattle.std.proofs.lemmas.Bool.{false≢true, or_cases, false_from_ne_true, not_from_false}
@@ -10,6 +10,7 @@ use Rattle.std.proofs.lemmas.List.Elements.{Contains-append_left, Contains-appen
 use Rattle.std.specs.FinSet as set
 use Rattle.gix_parts.specs.declared.hash.ObjectId.{ObjectId}
 use Rattle.gix_parts.specs.Id.{id_cmp, is_same, is_among}
+use Rattle.gix_parts.specs.declared.object.find.existing_iter.Error.TheVariants as existing
 use Rattle.gix_parts.specs.Object.{Objects}
 use Rattle.gix_traverse.specs.declared.commit.Info.{Info}
 use Rattle.gix_traverse.specs.declared.commit.simple.CommitTimeOrder.TheVariants.{NewestFirst}
@@ -25,7 +26,7 @@ use Rattle.gix_traverse.specs.Simple.Walk.{IsInfo}
 use Rattle.gix_traverse.specs.Simple.Laws.{Becomes, itself, further, AnswersBy}
 use Rattle.gix_traverse.proofs.Topo.Taking.ReadFaults.{walkable}
 use Rattle.gix_traverse.specs.Topo.Walk.{TopoPlan, TopoWalk, Ready, Counted, ready_ids, IsTaken, HoldsReady, Chooses, walked_of, IsMember, IsStored, IsSound, IsWalkable, IsFault, StartsWith, IsStarted, Takes, after, Next, ended, given, refused, failed, May}
-use Rattle.gix_traverse.specs.Topo.Laws.{IsSorted, IsGiven, GivesInOrder, IsWholeRun}
+use Rattle.gix_traverse.specs.Topo.Laws.{IsNoRefusal, IsSorted, IsGiven, GivesInOrder, IsWholeRun}
 use Rattle.gix_parts.proofs.Ids.Membership.{id_total, same_is, same_from, among-append, among-one, among_from, among_is, Contains-here, Contains-there, Contains-cons_cases, no_member}
 use Rattle.gix_traverse.proofs.Shared.NewIds.{times, times-append, times_moved, times_is_among, among_times}
 use Rattle.gix_traverse.proofs.Topo.Ready.IsReady.{times-by_time, keeps_from, keeps_alike, AreReady, ready_alike, takes_ready, starts_ready, in_walk_top}
@@ -122,12 +123,12 @@ module _ {F P : Type 0} (objects : F → Objects) (faulty : F → ObjectId → T
     shows : {w : TopoWalk F P} {c : Ready} {counted : Counted} {ready : List Ready} {predicate : P} {info : Info} {ids : List ObjectId} {list : List (Result Info Error)} → Takes objects faulty answers w c counted ready → accepts c.id ≡ true → IsInfo info c.id c.parents c.generation (Some c.time) → Draws (after objects faulty answers w c counted ready predicate) ids list → Draws w (c.id ∷ ids) (Ok info ∷ list)
     hides : {w : TopoWalk F P} {c : Ready} {counted : Counted} {ready : List Ready} {predicate : P} {ids : List ObjectId} {list : List (Result Info Error)} → Takes objects faulty answers w c counted ready → accepts c.id ≡ false → Draws (after objects faulty answers w c counted ready predicate) ids list → Draws w (c.id ∷ ids) list
 
-  sound_fault : (plan : TopoPlan F) (Q : ObjectId → Type 0) (e : Error) → IsSound objects faulty plan → IsFault objects faulty plan Q e → e ≡ error.Memory
+  sound_fault : (plan : TopoPlan F) (Q : ObjectId → Type 0) (e : Error) → IsSound objects faulty plan → IsFault objects faulty plan Q e → (e ≡ error.Memory) ⊎ (e ≡ error.Find existing.Store)
   sound_fault plan Q error.MissingIndegreeUnexpected s f = absurd (f s.agreeing)
   sound_fault plan Q error.MissingStateUnexpected s f = absurd f
-  sound_fault plan Q (error.Find e) s f = absurd (f.2.1 s)
-  sound_fault plan Q (error.ObjectDecode e) s f = absurd (f.2.1 s)
-  sound_fault plan Q error.Memory s f = refl
+  sound_fault plan Q (error.Find e) s f = inr (f.2.1 s)
+  sound_fault plan Q (error.ObjectDecode e) s f = inr (f.2.1 s)
+  sound_fault plan Q error.Memory s f = inl refl
 
   no_answer : {w new : TopoWalk F P} {o : Option (Result Info Error)} → Next objects faulty answers w o new → o ≡ None → AnswersBy answers w.predicate accepts → (ids : List ObjectId) × Draws w ids []
   no_answer (ended e) n by = ([], stops e)
@@ -137,7 +138,7 @@ module _ {F P : Type 0} (objects : F → Objects) (faulty : F → ObjectId → T
       (c.id ∷ r.0, hides t (sym (by w.predicate q c.id false itself a)) r.1)
   no_answer (failed c others ch f l) n by = cc
 
-  one_answer : {w new : TopoWalk F P} {o : Option (Result Info Error)} → Next objects faulty answers w o new → (answer : Result Info Error) (list : List (Result Info Error)) → o ≡ Some answer → answer ≢ Err error.Memory → IsSound objects faulty w.plan → AnswersBy answers w.predicate accepts →
+  one_answer : {w new : TopoWalk F P} {o : Option (Result Info Error)} → Next objects faulty answers w o new → (answer : Result Info Error) (list : List (Result Info Error)) → o ≡ Some answer → IsNoRefusal answer → IsSound objects faulty w.plan → AnswersBy answers w.predicate accepts →
       (IsSound objects faulty new.plan → AnswersBy answers new.predicate accepts → (ids : List ObjectId) × Draws new ids list) → (ids : List ObjectId) × Draws w ids (answer ∷ list)
   one_answer (ended e) answer list n ok s by rest = cc
   one_answer (given {old = w} {c = c} {predicate = q} {info = info} t a is) answer list n ok s by rest =
@@ -148,14 +149,14 @@ module _ {F P : Type 0} (objects : F → Objects) (faulty : F → ObjectId → T
       let r : (ids : List ObjectId) × Draws (after objects faulty answers w c _ _ q) ids (answer ∷ list) = one_answer next answer list n ok s (answers_on answers accepts w.predicate q c.id false a by) rest in
       (c.id ∷ r.0, hides t (sym (by w.predicate q c.id false itself a)) r.1)
   one_answer (failed {old = w} c others {e = e} ch f l) answer list n ok s by rest =
-      let m : e ≡ error.Memory = sound_fault w.plan _ e s f in
-      absurd (ok (let k : Err e ≡ answer = cc in sym k ∙ ap Err m))
+      let same : Err e ≡ answer = cc in
+      absurd (⊎_elim (λ m. ok.0 (sym same ∙ ap Err m)) (λ m. ok.1 (sym same ∙ ap Err m)) (sound_fault w.plan _ e s f))
 
-  all_drawn : (list : List (Result Info Error)) (w : TopoWalk F P) → IsSound objects faulty w.plan → AnswersBy answers w.predicate accepts → All (λ answer. answer ≢ Err error.Memory) list → May objects faulty answers w list → (ids : List ObjectId) × Draws w ids list
+  all_drawn : (list : List (Result Info Error)) (w : TopoWalk F P) → IsSound objects faulty w.plan → AnswersBy answers w.predicate accepts → All IsNoRefusal list → May objects faulty answers w list → (ids : List ObjectId) × Draws w ids list
   all_drawn [] w s by ok may = no_answer may.1 refl by
   all_drawn (answer ∷ list) w s by ok may =
-      one_answer may.1 answer list refl (All-head (λ a. a ≢ Err error.Memory) answer list ok) s by
-      (λ t b. all_drawn list may.0 t b (All-tail (λ a. a ≢ Err error.Memory) answer list ok) may.2)
+      one_answer may.1 answer list refl (All-head IsNoRefusal answer list ok) s by
+      (λ t b. all_drawn list may.0 t b (All-tail IsNoRefusal answer list ok) may.2)
 
   stored_still : (plan : TopoPlan F) (s t : Bool) (r : Ready) → (t ≡ true → s ≡ true) → IsStored objects plan s r → IsStored objects plan t r
   stored_still plan s t r f h = record { parents = h.parents; time = h.time; by_row = h.by_row; told = λ e. h.told (f e) }
@@ -288,7 +289,7 @@ module _ {F P : Type 0} (objects : F → Objects) (faulty : F → ObjectId → T
       added_left : ready_ids t.added ≡ filter (λ i. not (is_among i (done ++ c.id ∷ []))) (ready_ids t.added)
       added_left = sym (filter_all (λ i. not (is_among i (done ++ c.id ∷ []))) (ready_ids t.added) (λ i m. not_from_false _ (false_from_ne_true _ (λ e. (keeps_from _ became_now i m).1.left (among_is i _ e)))))
 
-      -- the one taken stood there once
+      -- the commit taken was there once
       once : (i : ObjectId) → Contains (ready_ids t.others) i → is_same i c.id ≡ false
       once i m = false_from_ne_true _ (λ e.
           let s : times i (ready_ids w.ready) ≡ cond (is_same i c.id) 1 0 + times i (ready_ids t.others) = chosen_times w.plan.sorting w.ready c t.others t.chosen i in

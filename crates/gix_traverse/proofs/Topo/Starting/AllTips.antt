@@ -1,18 +1,17 @@
--- What the tips that become ready at first do, told of all of them.
+-- What all the tips that become ready at first do.
 use Rattle.std.specs.Prelude.{◌≡◌, ◌≤◌, ℕ, List, [], ◌∷◌, ◌++◌, Bool, true, false, ◌||◌, cond, Contains}
 use Rattle.std.proofs.Common.{refl, sym, ap, subst, ⊎_elim, ◌∙◌, arith}
 use Rattle.std.proofs.lemmas.Bool.{true≢false, or_right, or_left, or_cases}
 use Rattle.gix_parts.specs.declared.hash.ObjectId.{ObjectId}
 use Rattle.gix_parts.specs.Id.{is_same, is_among}
 use Rattle.gix_parts.specs.Object.{Objects}
-use Rattle.gix_parts.specs.Rows.{row_of}
 use Rattle.gix_parts.proofs.Ids.Membership.{same_is, among-append, among-one, among_from, among_is, Contains-here, Contains-there, Contains-cons_cases, no_member}
 use Rattle.gix_traverse.specs.declared.commit.topo.frontier.Side.{Side}
 use Rattle.gix_traverse.specs.declared.commit.topo.frontier.Side.TheVariants.{Ends}
 use Rattle.gix_traverse.specs.declared.commit.topo.frontier.Frontier.{Frontier}
 use Rattle.gix_traverse.specs.declared.commit.topo.walk.Walk.{Walk}
 use Rattle.gix_traverse.specs.Topo.Inside.Frontier.{is_seen, known_of, reached}
-use Rattle.gix_traverse.specs.History.Reading.{is_whole_row}
+use Rattle.gix_traverse.specs.History.Reading.{DropsRows}
 use Rattle.gix_traverse.specs.Topo.Inside.Releasing.{plan_of}
 use Rattle.gix_traverse.specs.Topo.Inside.Starting.{Starts, waits, frees, StartsAll, none, more}
 use Rattle.gix_traverse.specs.Orders.TopoOrder.{Keeps, none as keeps_none, kept, passed, distinct_after}
@@ -58,21 +57,20 @@ pub record IsTipDue (f : Frontier) (p : ObjectId) : Type 0 where
   pub unmade : made_of f p ≡ false
 
 module _ {F : Type 0} (objects : F → Objects) (faulty : F → ObjectId → Type 0) where
-  -- what these ids in turn do to a walk
+  -- what these ids, one after the other, do to a walk
   pub record AreStarted (old : Walk F) (ids : List ObjectId) (added : List Ready) (new : Walk F) : Type 0 where
     pub plan : plan_of new ≡ plan_of old
     pub depth : new.counting.depth ≡ old.counting.depth
     pub expanded : new.counting.expanded ≡ old.counting.expanded
     pub queue : new.counting.frontier.queue ≡ old.counting.frontier.queue
-    pub taken : new.taken ≡ old.taken
     pub moved : (s : Side) (j : ObjectId) → reached new.counting.frontier.known s j ≡ reached old.counting.frontier.known s j
     pub children : (p : ObjectId) → children_of new.counting.frontier p ≡ children_of old.counting.frontier p
     pub made : (j : ObjectId) → made_of new.counting.frontier j ≡ (is_among j (ready_ids added) || made_of old.counting.frontier j)
     pub stands : new.counting.reader.standing ≡ true → old.counting.reader.standing ≡ true
     pub among : (r : Ready) → Contains added r → Contains ids r.id
     pub each : AreRead objects faulty (plan_of old) old.counting → (r : Ready) → Contains added r → IsFound objects faulty (plan_of old) old.counting.reader.standing new.counting.reader.standing r
-    pub dropped : old.counting.reader.standing ≡ true → new.counting.reader.standing ≡ false → (i : ObjectId) × Contains ids i × (is_whole_row (plan_of old).rows (row_of (plan_of old).rows i) ≡ false)
-    -- each at its first place, but for those behind ids that aren't due
+    pub dropped : old.counting.reader.standing ≡ true → new.counting.reader.standing ≡ false → (i : ObjectId) × Contains ids i × DropsRows (plan_of old).rows i
+    -- each at its first place, except for ids behind ids that aren't due
     pub due : (seen : List ObjectId) → ((j : ObjectId) → is_among j seen ≡ true → IsTipDue old.counting.frontier j → ⊥) → Keeps (IsTipDue old.counting.frontier) (distinct_after seen ids) (ready_ids added)
 
   started_none : (old : Walk F) (ids : List ObjectId) → ((seen : List ObjectId) → ((j : ObjectId) → is_among j seen ≡ true → IsTipDue old.counting.frontier j → ⊥) → Keeps (IsTipDue old.counting.frontier) (distinct_after seen ids) []) → AreStarted old ids [] old
@@ -81,7 +79,6 @@ module _ {F : Type 0} (objects : F → Objects) (faulty : F → ObjectId → Typ
     depth = refl;
     expanded = refl;
     queue = refl;
-    taken = refl;
     moved = λ s j. refl;
     children = λ p. refl;
     made = λ j. refl;
@@ -106,7 +103,6 @@ module _ {F : Type 0} (objects : F → Objects) (faulty : F → ObjectId → Typ
     depth = p.same.depth;
     expanded = p.same.expanded;
     queue = p.same.queue;
-    taken = p.same.taken;
     moved = makes_moved objects faulty old.counting.frontier new.counting.frontier i p.made;
     children = λ j. (makes_known objects faulty old.counting.frontier new.counting.frontier i p.made j).0;
     made = λ j. (makes_known objects faulty old.counting.frontier new.counting.frontier i p.made j).1 ∙ ap (λ b. b || made_of old.counting.frontier j) (ap (is_same j) (sym p.id) ∙ sym (among-one j r.id));
@@ -130,7 +126,6 @@ module _ {F : Type 0} (objects : F → Objects) (faulty : F → ObjectId → Typ
     depth = b.depth ∙ a.depth;
     expanded = b.expanded ∙ a.expanded;
     queue = b.queue ∙ a.queue;
-    taken = b.taken ∙ a.taken;
     moved = λ s j. b.moved s j ∙ a.moved s j;
     children = λ p. b.children p ∙ a.children p;
     made = λ j. b.made j ∙ ap (λ x. is_among j (ready_ids others) || x) (a.made j) ∙ joined (is_among j (ready_ids others)) (is_among j (ready_ids first)) (made_of old.counting.frontier j) ∙ ap (λ x. x || made_of old.counting.frontier j) (sym (ap (is_among j) (ids-append first others) ∙ among-append j (ready_ids first) (ready_ids others)));
@@ -153,12 +148,12 @@ module _ {F : Type 0} (objects : F → Objects) (faulty : F → ObjectId → Typ
       here : (j : ObjectId) → Contains (i ∷ []) j → Contains (i ∷ ids) j
       here j m = ⊎_elim (λ s. subst (λ x. Contains (i ∷ ids) x) s (Contains-here i ids)) (λ t. absurd (no_member j t)) (Contains-cons_cases j i [] m)
 
-      drops : (m : Bool) → mid.counting.reader.standing ≡ m → old.counting.reader.standing ≡ true → new.counting.reader.standing ≡ false → (j : ObjectId) × Contains (i ∷ ids) j × (is_whole_row (plan_of old).rows (row_of (plan_of old).rows j) ≡ false)
+      drops : (m : Bool) → mid.counting.reader.standing ≡ m → old.counting.reader.standing ≡ true → new.counting.reader.standing ≡ false → (j : ObjectId) × Contains (i ∷ ids) j × DropsRows (plan_of old).rows j
       drops true m e d =
-          let h : (j : ObjectId) × Contains ids j × (is_whole_row (plan_of mid).rows (row_of (plan_of mid).rows j) ≡ false) = b.dropped m d in
-          (h.0, Contains-there h.0 i ids h.1, subst (λ p. is_whole_row p.rows (row_of p.rows h.0) ≡ false) a.plan h.2)
+          let h : (j : ObjectId) × Contains ids j × DropsRows (plan_of mid).rows j = b.dropped m d in
+          (h.0, Contains-there h.0 i ids h.1, subst (λ p. DropsRows p.rows h.0) a.plan h.2)
       drops false m e d =
-          let h : (j : ObjectId) × Contains (i ∷ []) j × (is_whole_row (plan_of old).rows (row_of (plan_of old).rows j) ≡ false) = a.dropped e m in
+          let h : (j : ObjectId) × Contains (i ∷ []) j × DropsRows (plan_of old).rows j = a.dropped e m in
           (h.0, here h.0 h.1, h.2)
 
       -- what is due later was due before
@@ -169,7 +164,7 @@ module _ {F : Type 0} (objects : F → Objects) (faulty : F → ObjectId → Typ
           go false e = refl
           go true e = absurd (true≢false (sym (a.made p ∙ or_right (is_among p (ready_ids first)) (made_of old.counting.frontier p) e) ∙ d.unmade))
 
-      -- and the other way about, but for the one that became ready
+      -- the converse, except for the tip that became ready
       later : (p : ObjectId) → is_among p (i ∷ []) ≡ false → IsTipDue old.counting.frontier p → IsTipDue mid.counting.frontier p
       later p n d = record { none_left = a.children p ∙ d.none_left; outside = ap is_seen (a.moved Ends p) ∙ d.outside; unmade = a.made p ∙ ap (λ x. is_among p (ready_ids first) || x) d.unmade ∙ go (is_among p (ready_ids first)) refl }
         where

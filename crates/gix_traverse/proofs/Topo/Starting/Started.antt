@@ -1,14 +1,14 @@
 -- What holds of a topological walk that has begun.
-use Rattle.std.specs.Prelude.{◌≡◌, ◌≤◌, [], ◌++◌, Bool, true, false, ◌||◌, Contains}
+use Rattle.std.specs.Prelude.{◌≡◌, ◌≤◌, [], ◌++◌, Bool, true, false, not, ◌&&◌, ◌||◌, Contains}
 use Rattle.std.proofs.Common.{refl, sym, ap, subst, inl, inr, ⊎_elim, ◌∙◌, arith}
+use Rattle.std.proofs.Math.Bool.{or-false, and-not_self}
 use Rattle.std.proofs.lemmas.Bool.{true≢false, false≢true}
 use Rattle.std.proofs.lemmas.List.Elements.{Contains-append_left}
 use Rattle.std.specs.FinSet as set
 use Rattle.gix_parts.specs.declared.hash.ObjectId.{ObjectId}
 use Rattle.gix_parts.specs.Id.{id_cmp, is_among}
 use Rattle.gix_parts.specs.Object.{Objects}
-use Rattle.gix_parts.specs.Rows.{row_of}
-use Rattle.gix_parts.proofs.Ids.Membership.{among_from, among_is}
+use Rattle.gix_parts.proofs.Ids.Membership.{id_total, id_apart, among_from, among_is}
 use Rattle.gix_traverse.specs.declared.commit.topo.frontier.Side.{Side}
 use Rattle.gix_traverse.specs.declared.commit.topo.frontier.Side.TheVariants.{Tips, Ends}
 use Rattle.gix_traverse.specs.declared.commit.topo.counting.Counting.{Counting}
@@ -18,9 +18,8 @@ use Rattle.gix_traverse.specs.Topo.Depth.{infinity, known_generation}
 use Rattle.gix_traverse.specs.Topo.Inside.Frontier.{is_seen, is_done, reached}
 use Rattle.gix_traverse.specs.History.Commits.{time_of}
 use Rattle.gix_traverse.specs.History.Reach.{start}
-use Rattle.gix_traverse.specs.History.Reading.{is_whole_row}
-use Rattle.gix_traverse.specs.Topo.Inside.ReadySet.{ready_in}
-use Rattle.gix_traverse.specs.Topo.Inside.Releasing.{plan_of, counted_by, walk_of}
+use Rattle.gix_traverse.specs.History.Reading.{DropsRows}
+use Rattle.gix_traverse.specs.Topo.Inside.Releasing.{plan_of, counted_by, taken_of, walk_of}
 use Rattle.gix_traverse.specs.Topo.Inside.Searched.{IsCounted, IsSearched, next_by}
 use Rattle.gix_traverse.specs.Simple.Laws.{AreDistinct}
 use Rattle.gix_traverse.specs.Topo.Inside.Starting.{HasBegun, IsBegunWalk, by_rising_time}
@@ -34,6 +33,7 @@ use Rattle.gix_traverse.proofs.Shared.NewIds.{times, times_once}
 use Rattle.gix_traverse.proofs.Topo.Ready.IsReady.{keeps_from, keeps_times, first_once, among_by}
 use Rattle.gix_traverse.proofs.Topo.Taking.AllReleases.{keeps_on}
 use Rattle.gix_traverse.proofs.Topo.Counting.Rest.{least_within}
+use Rattle.gix_traverse.proofs.Topo.Taking.Taken.{contains-taken}
 use Rattle.gix_traverse.proofs.Topo.Ready.RisingTime.{by_time_moves, in_by_time, by_time_map}
 use Rattle.gix_traverse.proofs.Topo.Counting.BothSearches.{searched_same}
 use Rattle.gix_traverse.proofs.Topo.Starting.AllTips.{IsTipDue, AreStarted, started, first_from}
@@ -41,10 +41,6 @@ use Rattle.gix_traverse.proofs.Topo.Reading.FoundIsStored.{found_stored}
 use Rattle.gix_traverse.proofs.Topo.Reading.OnceRead.{all_still, found_later}
 use Rattle.gix_traverse.proofs.Topo.Counting.Children.{children_of, made_of, tally_same}
 use Rattle.gix_traverse.proofs.Topo.Run.Theorem.{holds_in, holds_times, times-permutation}
-
-or_false : (b : Bool) → (b || false) ≡ b
-or_false true = refl
-or_false false = refl
 
 module _ {F : Type 0} (objects : F → Objects) (faulty : F → ObjectId → Type 0) (plan : TopoPlan F) (w : Walk F) (h : IsBegunWalk objects faulty plan w) where
   abbrev p : TopoPlan F
@@ -68,8 +64,8 @@ module _ {F : Type 0} (objects : F → Objects) (faulty : F → ObjectId → Typ
   first_plan : plan_of h.first ≡ p
   first_plan = h.before ∙ sym h.same
 
-  sorted : HoldsReady p.sorting (by_rising_time h.starts) (ready_in w.ready)
-  sorted = subst (λ q. HoldsReady q.sorting (by_rising_time h.starts) (ready_in w.ready)) (sym h.same) h.sorted
+  sorted : HoldsReady p.sorting (by_rising_time h.starts) w.ready.commits
+  sorted = subst (λ q. HoldsReady q.sorting (by_rising_time h.starts) w.ready.commits) (sym h.same) h.sorted
 
   -- what stays as it was before
   moved : (s : Side) (j : ObjectId) → reached new.frontier.known s j ≡ reached old.frontier.known s j
@@ -90,12 +86,6 @@ module _ {F : Type 0} (objects : F → Objects) (faulty : F → ObjectId → Typ
   stands : new.reader.standing ≡ true → old.reader.standing ≡ true
   stands e = all.stands (sym (ap (λ c. c.reader.standing) h.counting) ∙ e)
 
-  none_taken : w.taken ≡ set.empty
-  none_taken = h.taken ∙ all.taken ∙ h.untaken
-
-  untaken : (i : ObjectId) → set.contains w.taken i ≡ false
-  untaken i = ap (λ s. set.contains s i) none_taken ∙ set.contains-empty id_cmp i
-
   to_done : (i : ObjectId) → IsDone new.frontier i → IsDone old.frontier i
   to_done i d = ⊎_elim (λ e. inl (sym (ap is_done (moved Tips i)) ∙ e)) (λ e. inr (sym (ap is_done (moved Ends i)) ∙ e)) d
 
@@ -103,39 +93,48 @@ module _ {F : Type 0} (objects : F → Objects) (faulty : F → ObjectId → Typ
   from_done i d = ⊎_elim (λ e. inl (ap is_done (moved Tips i) ∙ e)) (λ e. inr (ap is_done (moved Ends i) ∙ e)) d
 
   -- the ready commits
-  in_starts : (r : Ready) → Contains (ready_in w.ready) r → Contains h.starts r
-  in_starts r m = in_by_time (λ s. s.time) h.starts r (holds_in p.sorting (by_rising_time h.starts) (ready_in w.ready) sorted r m)
+  in_starts : (r : Ready) → Contains w.ready.commits r → Contains h.starts r
+  in_starts r m = in_by_time (λ s. s.time) h.starts r (holds_in p.sorting (by_rising_time h.starts) w.ready.commits sorted r m)
 
-  ready_times : (i : ObjectId) → times i (ready_ids (ready_in w.ready)) ≡ times i (ready_ids h.starts)
-  ready_times i = holds_times p.sorting (by_rising_time h.starts) (ready_in w.ready) sorted i ∙ times-permutation i h.starts (by_rising_time h.starts) (by_time_moves (λ r. r.time) h.starts)
+  ready_times : (i : ObjectId) → times i (ready_ids w.ready.commits) ≡ times i (ready_ids h.starts)
+  ready_times i = holds_times p.sorting (by_rising_time h.starts) w.ready.commits sorted i ∙ times-permutation i h.starts (by_rising_time h.starts) (by_time_moves (λ r. r.time) h.starts)
 
-  ready_among : (i : ObjectId) → is_among i (ready_ids h.starts) ≡ is_among i (ready_ids (ready_in w.ready))
-  ready_among i = among_by i (ready_ids h.starts) (ready_ids (ready_in w.ready)) (sym (ready_times i))
+  ready_among : (i : ObjectId) → is_among i (ready_ids h.starts) ≡ is_among i (ready_ids w.ready.commits)
+  ready_among i = among_by i (ready_ids h.starts) (ready_ids w.ready.commits) (sym (ready_times i))
 
-  start_of : (i : ObjectId) → Contains (ready_ids (ready_in w.ready)) i → Contains (ready_ids h.starts) i
+  start_of : (i : ObjectId) → Contains (ready_ids w.ready.commits) i → Contains (ready_ids h.starts) i
   start_of i m = among_is i (ready_ids h.starts) (ready_among i ∙ among_from i _ m)
 
   kept : Keeps (IsTipDue old.frontier) (first_places p.tips) (ready_ids h.starts)
   kept = all.due [] (λ j e. absurd (false≢true e))
 
-  distinct : AreDistinct (ready_ids (ready_in w.ready))
-  distinct = times_once (ready_ids (ready_in w.ready)) (λ i.
-      let a : times i (ready_ids (ready_in w.ready)) ≡ times i (ready_ids h.starts) = ready_times i in
+  distinct : AreDistinct (ready_ids w.ready.commits)
+  distinct = times_once (ready_ids w.ready.commits) (λ i.
+      let a : times i (ready_ids w.ready.commits) ≡ times i (ready_ids h.starts) = ready_times i in
       let b : times i (ready_ids h.starts) ≤ times i (first_places p.tips) = keeps_times (IsTipDue old.frontier) kept i in
       let c : times i (first_places p.tips) ≤ 1 = first_once [] p.tips i in
       omega arith)
 
-  is_tip : (i : ObjectId) → Contains (ready_ids (ready_in w.ready)) i → Contains p.tips i
+  is_tip : (i : ObjectId) → Contains (ready_ids w.ready.commits) i → Contains p.tips i
   is_tip i m = first_from [] p.tips i (keeps_from (IsTipDue old.frontier) kept i (start_of i m)).0
 
   first_read : AreRead objects faulty (plan_of h.first) h.first.counting
   first_read = subst (λ q. AreRead objects faulty q old) (sym first_plan) begun.all_read
 
-  found : (r : Ready) → Contains (ready_in w.ready) r → IsFound objects faulty p true new.reader.standing r
+  found : (r : Ready) → Contains w.ready.commits r → IsFound objects faulty p true new.reader.standing r
   found r m = subst (λ c. IsFound objects faulty p true c.reader.standing r) (sym h.counting) (found_later objects faulty p (λ e. refl) (λ e. e) (subst (λ q. IsFound objects faulty q old.reader.standing h.mid.counting.reader.standing r) first_plan (all.each first_read r (in_starts r m))))
 
   made_is : (i : ObjectId) → made_of new.frontier i ≡ is_among i (ready_ids h.starts)
-  made_is i = ap (λ c. made_of c.frontier i) h.counting ∙ all.made i ∙ ap (λ b. is_among i (ready_ids h.starts) || b) (begun.unmade i) ∙ or_false (is_among i (ready_ids h.starts))
+  made_is i = ap (λ c. made_of c.frontier i) h.counting ∙ all.made i ∙ ap (λ b. is_among i (ready_ids h.starts) || b) (begun.unmade i) ∙ or-false (is_among i (ready_ids h.starts))
+
+  made_ready : (i : ObjectId) → made_of new.frontier i ≡ is_among i (ready_ids w.ready.commits)
+  made_ready i = made_is i ∙ ready_among i
+
+  untaken : (i : ObjectId) → set.contains (taken_of w) i ≡ false
+  untaken i = contains-taken new.frontier.known w.ready.commits i ∙ ap (λ b. b && not (is_among i (ready_ids w.ready.commits))) (made_ready i) ∙ and-not_self (is_among i (ready_ids w.ready.commits))
+
+  none_taken : taken_of w ≡ set.empty
+  none_taken = set.same_set id_total id_apart (taken_of w) set.empty (λ i. untaken i ∙ sym (set.contains-empty id_cmp i))
 
   depth_is : new.depth ≡ first_depth p
   depth_is = same_depth ∙ begun.depth
@@ -145,49 +144,49 @@ module _ {F : Type 0} (objects : F → Objects) (faulty : F → ObjectId → Typ
   tip_high i m = subst (λ d. d ≤ known_generation p.rows i) (sym begun.depth) (least_within p.rows infinity (p.tips ++ p.ends) i (Contains-append_left p.tips p.ends i m))
 
   module _ (agrees : IsAgreeing (objects p.store) (faulty p.store) p.rows) where
-    before : IsCounted (objects p.store) p.rows p.parents p.tips p.ends (set.contains w.taken) old.frontier
-    before = begun.counted (set.contains w.taken) untaken agrees
+    before : IsCounted (objects p.store) p.rows p.parents p.tips p.ends (set.contains (taken_of w)) old.frontier
+    before = begun.counted (set.contains (taken_of w)) untaken agrees
 
     tallied : IsTallied objects w
     tallied = record {
       counted = record {
         searched = searched_same (objects p.store) p.rows p.parents p.tips p.ends new.frontier.queue old.frontier.known new.frontier.known moved (subst (λ q. IsSearched (objects p.store) p.rows p.parents p.tips p.ends q old.frontier.known) (sym same_queue) before.searched);
-        tally = tally_same (next_by (objects p.store) p.parents Tips) (λ i. is_done (reached old.frontier.known Tips i)) (λ i. is_done (reached new.frontier.known Tips i)) (set.contains w.taken) (children_of old.frontier) (children_of new.frontier) (λ j. ap is_done (moved Tips j)) same_children before.tally;
+        tally = tally_same (next_by (objects p.store) p.parents Tips) (λ i. is_done (reached old.frontier.known Tips i)) (λ i. is_done (reached new.frontier.known Tips i)) (set.contains (taken_of w)) (children_of old.frontier) (children_of new.frontier) (λ j. ap is_done (moved Tips j)) same_children before.tally;
       };
       begun = λ side i m. ap is_seen (moved side i) ∙ begun.begun side i m;
       done = λ r m. let tip : Contains p.tips r.id = all.among r (in_starts r m) in ap is_done (moved Tips r.id) ∙ begun.explored agrees Tips r.id (start tip) (tip_high r.id tip);
     }
 
   module _ (sound : IsWalkable objects faulty p) where
-    counted : IsCounted (objects p.store) p.rows p.parents p.tips p.ends (set.contains w.taken) old.frontier
+    counted : IsCounted (objects p.store) p.rows p.parents p.tips p.ends (set.contains (taken_of w)) old.frontier
     counted = before sound.agreeing
 
     due_childless : (i : ObjectId) → Contains p.tips i → IsTipDue old.frontier i → IsChildless (walked_of objects p) Member i
     due_childless i m d = record {
       member = record {
         reached = start m;
-        outside = outside (objects p.store) (faulty p.store) p.rows p.parents p.tips p.ends sound.agreeing sound.tips_whole sound.ends_whole old.frontier old.depth (begun.explored sound.agreeing) (λ side. (counted.searched.search side).within) (set.contains w.taken) (children_of old.frontier) counted.tally i d.outside (tip_high i m);
+        outside = outside (objects p.store) (faulty p.store) p.rows p.parents p.tips p.ends sound.agreeing sound.tips_whole sound.ends_whole old.frontier old.depth (begun.explored sound.agreeing) (λ side. (counted.searched.search side).within) (set.contains (taken_of w)) (children_of old.frontier) counted.tally i d.outside (tip_high i m);
       };
-      alone = λ c k. true≢false (sym (none_left (objects p.store) (faulty p.store) p.rows p.parents p.tips p.ends sound.agreeing sound.tips_whole sound.ends_whole old.frontier old.depth (begun.explored sound.agreeing) (λ side. (counted.searched.search side).within) (set.contains w.taken) (children_of old.frontier) counted.tally i d.none_left (tip_high i m) c k) ∙ untaken c);
+      alone = λ c k. true≢false (sym (none_left (objects p.store) (faulty p.store) p.rows p.parents p.tips p.ends sound.agreeing sound.tips_whole sound.ends_whole old.frontier old.depth (begun.explored sound.agreeing) (λ side. (counted.searched.search side).within) (set.contains (taken_of w)) (children_of old.frontier) counted.tally i d.none_left (tip_high i m) c k) ∙ untaken c);
     }
 
     childless_due : (i : ObjectId) → IsChildless (walked_of objects p) Member i → IsTipDue old.frontier i
     childless_due i q = record {
-      none_left = all_taken (objects p.store) (faulty p.store) p.rows p.parents p.tips p.ends sound.agreeing sound.tips_whole sound.ends_whole old.frontier old.depth (begun.explored sound.agreeing) (λ side. (counted.searched.search side).within) (set.contains w.taken) (children_of old.frontier) counted.tally i q.member (λ c k. absurd (q.alone c k));
-      outside = unseen (objects p.store) (faulty p.store) p.rows p.parents p.tips p.ends sound.agreeing sound.tips_whole sound.ends_whole old.frontier old.depth (begun.explored sound.agreeing) (λ side. (counted.searched.search side).within) (set.contains w.taken) (children_of old.frontier) counted.tally i q.member;
+      none_left = all_taken (objects p.store) (faulty p.store) p.rows p.parents p.tips p.ends sound.agreeing sound.tips_whole sound.ends_whole old.frontier old.depth (begun.explored sound.agreeing) (λ side. (counted.searched.search side).within) (set.contains (taken_of w)) (children_of old.frontier) counted.tally i q.member (λ c k. absurd (q.alone c k));
+      outside = unseen (objects p.store) (faulty p.store) p.rows p.parents p.tips p.ends sound.agreeing sound.tips_whole sound.ends_whole old.frontier old.depth (begun.explored sound.agreeing) (λ side. (counted.searched.search side).within) (set.contains (taken_of w)) (children_of old.frontier) counted.tally i q.member;
       unmade = begun.unmade i;
     }
 
     kept_childless : Keeps (IsChildless (walked_of objects p) Member) (first_places p.tips) (ready_ids h.starts)
     kept_childless = keeps_on (λ i m d. due_childless i (first_from [] p.tips i m) d) (λ i m q. childless_due i q) kept
 
-    stored : (r : Ready) → Contains (ready_in w.ready) r → IsStored objects p new.reader.standing r
+    stored : (r : Ready) → Contains w.ready.commits r → IsStored objects p new.reader.standing r
     stored r m = found_stored objects faulty p sound (found r m) (sound.tips_whole r.id (start (all.among r (in_starts r m))))
 
     start_time : (r : Ready) → Contains h.starts r → r.time ≡ time_of (objects p.store) r.id
     start_time r m = (found_stored objects faulty p sound (subst (λ q. IsFound objects faulty q old.reader.standing h.mid.counting.reader.standing r) first_plan (all.each first_read r m)) (sound.tips_whole r.id (start (all.among r m)))).time
 
-    starts : StartsWith objects faulty (unasked objects faulty) p (ready_in w.ready)
+    starts : StartsWith objects faulty (unasked objects faulty) p w.ready.commits
     starts = record {
       childless = ready_ids h.starts;
       starts = by_rising_time h.starts;
@@ -203,8 +202,8 @@ module _ {F : Type 0} (objects : F → Objects) (faulty : F → ObjectId → Typ
         go : (b : Bool) → old.reader.standing ≡ b → IsBrokenRow objects p old.depth
         go false d = before d
         go true d =
-            let k : (i : ObjectId) × Contains p.tips i × (is_whole_row (plan_of h.first).rows (row_of (plan_of h.first).rows i) ≡ false) = all.dropped d (sym (ap (λ c. c.reader.standing) h.counting) ∙ e) in
-            broken objects faulty p sound.agreeing old.depth k.0 (inl (start k.1)) (tip_high k.0 k.1) (subst (λ q. is_whole_row q.rows (row_of q.rows k.0) ≡ false) first_plan k.2)
+            let k : (i : ObjectId) × Contains p.tips i × DropsRows (plan_of h.first).rows i = all.dropped d (sym (ap (λ c. c.reader.standing) h.counting) ∙ e) in
+            broken objects faulty p sound.agreeing old.depth k.0 (inl (start k.1)) (tip_high k.0 k.1) (subst (λ q. DropsRows q.rows k.0) first_plan k.2)
 
     counts : HasCounted objects p new
     counts = let c : HasCounted objects p old = begun.counts sound in record {
@@ -243,9 +242,8 @@ module _ {F : Type 0} (objects : F → Objects) (faulty : F → ObjectId → Typ
   -- and may go on
   pub begun_held : IsHeld objects faulty w
   begun_held = record {
-    made = λ i. made_is i ∙ ready_among i ∙ ap (λ b. b || is_among i (ready_ids (ready_in w.ready))) (sym (untaken i));
+    made = λ i m. made_ready i ∙ among_from i (ready_ids w.ready.commits) m;
     distinct = distinct;
-    untaken = λ i m. untaken i;
     found = found;
     tallied = tallied;
     steady = steady;
@@ -261,7 +259,7 @@ started_as objects faulty answers w p h = record {
   untaken = h.untaken;
   distinct = h.distinct;
   tips = h.tips;
-  starts = λ sound. let s : StartsWith objects faulty (unasked objects faulty) (plan_of w) (ready_in w.ready) = h.starts sound in record { childless = s.childless; starts = s.starts; kept = s.kept; sorted = s.sorted; holds = s.holds };
+  starts = λ sound. let s : StartsWith objects faulty (unasked objects faulty) (plan_of w) w.ready.commits = h.starts sound in record { childless = s.childless; starts = s.starts; kept = s.kept; sorted = s.sorted; holds = s.holds };
   found = h.found;
   stored = h.stored;
   depth = h.depth;

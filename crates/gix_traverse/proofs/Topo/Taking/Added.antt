@@ -11,13 +11,12 @@ use Rattle.gix_traverse.specs.declared.commit.topo.frontier.Side.{Side}
 use Rattle.gix_traverse.specs.declared.commit.topo.frontier.Side.TheVariants.{Tips, Ends}
 use Rattle.gix_traverse.specs.declared.commit.topo.counting.Counting.{Counting}
 use Rattle.gix_traverse.specs.declared.commit.topo.walk.Walk.{Walk}
-use Rattle.gix_traverse.specs.declared.commit.topo.ready.ReadySet.{ReadySet}
+use Rattle.gix_traverse.specs.Topo.Inside.ReadySet.{ReadySet}
 use Rattle.gix_traverse.specs.Topo.Depth.{known_generation}
 use Rattle.gix_traverse.specs.Topo.Inside.Exploring.{IsSamePlan, Explores, itself, further}
 use Rattle.gix_traverse.specs.Topo.Inside.Frontier.{is_seen, is_done, reached}
 use Rattle.gix_traverse.specs.History.Commits.{by_mode}
-use Rattle.gix_traverse.specs.Topo.Inside.ReadySet.{ready_in, sorting_of}
-use Rattle.gix_traverse.specs.Topo.Inside.Releasing.{plan_of, counted_by, lowered, with_taken, TakesOne}
+use Rattle.gix_traverse.specs.Topo.Inside.Releasing.{plan_of, counted_by, lowered, with_counting, taken_of, TakesOne}
 use Rattle.gix_traverse.specs.Topo.Inside.Searched.{IsCounted, IsExplored, IsTally, next_by}
 use Rattle.gix_traverse.specs.Orders.TopoOrder.{Keeps, last_places}
 use Rattle.gix_traverse.specs.Topo.Inside.Steady.{AreRead, IsSteady, IsHeld, unasked, unasked_of}
@@ -36,17 +35,18 @@ use Rattle.gix_traverse.proofs.Topo.Counting.Expanded.{explores_read}
 use Rattle.gix_traverse.proofs.Topo.Reading.OnceRead.{all_still, found_later}
 use Rattle.gix_traverse.proofs.Topo.Reading.FoundIsStored.{found_named, found_stored}
 use Rattle.gix_traverse.proofs.Topo.Reading.ReadsCommit.{text_whole}
+use Rattle.gix_traverse.proofs.Topo.Taking.Taken.{made_taken}
 use Rattle.gix_traverse.proofs.Topo.Taking.Setting.{was_ready, plan_taken, was_untaken, named_text, counted_on, explored_on, tally_on}
 use Rattle.gix_traverse.proofs.Topo.Run.Theorem.{in_ids}
 use Rattle.gix_traverse.proofs.Shared.ReadsWhole.{walked_within}
 
 module _ {F : Type 0} (objects : F → Objects) (faulty : F → ObjectId → Type 0) where
-  -- rows that stand after exploring stood before
+  -- rows that are in use after exploring were in use before
   pub explores_stands : {old new : Counting F} → Explores objects faulty old new → new.reader.standing ≡ true → old.reader.standing ≡ true
   explores_stands itself e = e
   explores_stands (further x p s) e = explores_stands x (reads_stands objects faulty s.reads.reads e)
 
-module _ {F : Type 0} (objects : F → Objects) (faulty : F → ObjectId → Type 0) (w : Walk F) (rest : ReadySet) (same : sorting_of rest ≡ sorting_of w.ready) (r : Ready) (chosen : Chooses (sorting_of w.ready) (ready_in w.ready) r (ready_in rest)) (added : List Ready) (new : Walk F) (t : TakesOne objects faulty (record w { ready = rest }) r added new) where
+module _ {F : Type 0} (objects : F → Objects) (faulty : F → ObjectId → Type 0) (w : Walk F) (rest : ReadySet) (same : rest.sorting ≡ w.ready.sorting) (r : Ready) (chosen : Chooses w.ready.sorting w.ready.commits r rest.commits) (added : List Ready) (new : Walk F) (t : TakesOne objects faulty (record w { ready = rest }) r added new) where
   abbrev those : Objects
   those = objects w.counting.reader.find
 
@@ -54,7 +54,7 @@ module _ {F : Type 0} (objects : F → Objects) (faulty : F → ObjectId → Typ
   low = lowered objects faulty (record w { ready = rest }) r
 
   abbrev between : Walk F
-  between = with_taken objects faulty (record w { ready = rest }) t.explored r
+  between = with_counting objects faulty (record w { ready = rest }) t.explored
 
   abbrev walked : ObjectId → List ObjectId
   walked = walked_of objects (plan_of w)
@@ -69,7 +69,7 @@ module _ {F : Type 0} (objects : F → Objects) (faulty : F → ObjectId → Typ
   named = by_mode w.counting.parents r.parents
 
   abbrev now_taken : ObjectId → Bool
-  now_taken i = set.contains (set.insert w.taken r.id) i
+  now_taken i = set.contains (set.insert (taken_of w) r.id) i
 
   rel : IsReleased objects faulty between (last_places named) added new
   rel = released objects faulty t.releases
@@ -94,7 +94,7 @@ module _ {F : Type 0} (objects : F → Objects) (faulty : F → ObjectId → Typ
   module _ (held : IsHeld objects faulty w) where
     -- all that is done after exploring was read
     pub read_between : AreRead objects faulty (plan_of between) t.explored
-    read_between = subst (λ plan. AreRead objects faulty plan t.explored) (sym plan_between) (explores_read objects faulty (sorting_of w.ready) w.tips.items w.ends.items (set.contains w.taken) t.explores held.all_read)
+    read_between = subst (λ plan. AreRead objects faulty plan t.explored) (sym plan_between) (explores_read objects faulty w.ready.sorting w.tips.items w.ends.items (set.contains (taken_of w)) t.explores held.all_read)
 
     -- an added commit was read over the same store and rows
     pub found_added : (a : Ready) → Contains added a → IsFound objects faulty (plan_of w) w.counting.reader.standing new.counting.reader.standing a
@@ -107,24 +107,24 @@ module _ {F : Type 0} (objects : F → Objects) (faulty : F → ObjectId → Typ
     found : IsFound objects faulty (plan_of w) true w.counting.reader.standing r
     found = held.found r (was_ready objects faulty w rest r chosen)
 
-    among_ready : is_among r.id (ready_ids (ready_in w.ready)) ≡ true
-    among_ready = among_from r.id (ready_ids (ready_in w.ready)) (in_ids (ready_in w.ready) r (was_ready objects faulty w rest r chosen))
+    among_ready : is_among r.id (ready_ids w.ready.commits) ≡ true
+    among_ready = among_from r.id (ready_ids w.ready.commits) (in_ids w.ready.commits r (was_ready objects faulty w rest r chosen))
 
-    made_before : (p : ObjectId) → made_of t.explored.frontier p ≡ (set.contains w.taken p || is_among p (ready_ids (ready_in w.ready)))
-    made_before p = explores_made objects faulty t.explores p ∙ held.made p
+    made_before : (p : ObjectId) → made_of t.explored.frontier p ≡ (set.contains (taken_of w) p || is_among p (ready_ids w.ready.commits))
+    made_before p = explores_made objects faulty t.explores p ∙ made_taken w held.made p
 
     module _ (sound : IsWalkable objects faulty (plan_of w)) where
       steady : IsSteady objects w
       steady = held.steady sound
 
-      counted : IsCounted those (plan_of w).rows w.counting.parents (plan_of w).tips (plan_of w).ends (set.contains w.taken) t.explored.frontier
+      counted : IsCounted those (plan_of w).rows w.counting.parents (plan_of w).tips (plan_of w).ends (set.contains (taken_of w)) t.explored.frontier
       counted = counted_on objects faulty w rest r chosen held sound.agreeing t.explored t.explores
 
       explored : (side : Side) → IsExplored those (plan_of w).rows w.counting.parents (plan_of w).tips (plan_of w).ends low.depth side t.explored.frontier
       explored = explored_on objects faulty w rest r chosen held sound.agreeing t.explored t.explores t.rested
 
       is_member : Member r.id
-      is_member = steady.member r.id (held.made r.id ∙ or_right (set.contains w.taken r.id) _ among_ready)
+      is_member = steady.member r.id (made_taken w held.made r.id ∙ or_right (set.contains (taken_of w) r.id) _ among_ready)
 
       walked_is : named ≡ walked r.id
       walked_is = named_text objects faulty w rest r chosen held sound.agreeing ∙ ap (by_mode w.counting.parents) (sym (text_whole those (faulty w.counting.reader.find) (plan_of w).rows r.id (sound.tips_whole r.id is_member.reached)))
@@ -141,23 +141,23 @@ module _ {F : Type 0} (objects : F → Objects) (faulty : F → ObjectId → Typ
       reached_named : (p : ObjectId) → Contains named p → Reaches walked (plan_of w).tips p
       reached_named p m = step is_member.reached (subst (λ ids. Contains ids p) walked_is m)
 
-      due_ready : (p : ObjectId) → Contains (last_places named) p → IsDue objects faulty between new p → IsReady walked Member (IsTaken (set.insert w.taken r.id)) p
+      due_ready : (p : ObjectId) → Contains (last_places named) p → IsDue objects faulty between new p → IsReady walked Member (IsTaken (set.insert (taken_of w) r.id)) p
       due_ready p m d = record {
         member = record {
           reached = reached_named p here;
           outside = outside those (faulty w.counting.reader.find) (plan_of w).rows w.counting.parents (plan_of w).tips (plan_of w).ends sound.agreeing sound.tips_whole sound.ends_whole t.explored.frontier low.depth explored (λ side. (counted.searched.search side).within) now_taken (children_of new.counting.frontier) tally p (sym (seen_there p) ∙ d.outside) (high p here);
         };
-        left = λ e. ⊎_elim (λ s. unmade (subst (λ j. (set.contains w.taken j || is_among j (ready_ids (ready_in w.ready))) ≡ true) (sym (same_is p r.id s)) (or_right (set.contains w.taken r.id) _ among_ready))) (λ k. unmade (or_left _ _ k)) (or_cases (is_same p r.id) (set.contains w.taken p) (sym (set.contains-insert id_total w.taken r.id p) ∙ e));
+        left = λ e. ⊎_elim (λ s. unmade (subst (λ j. (set.contains (taken_of w) j || is_among j (ready_ids w.ready.commits)) ≡ true) (sym (same_is p r.id s)) (or_right (set.contains (taken_of w) r.id) _ among_ready))) (λ k. unmade (or_left _ _ k)) (or_cases (is_same p r.id) (set.contains (taken_of w) p) (sym (set.contains-insert id_total (taken_of w) r.id p) ∙ e));
         children = λ c k. none_left those (faulty w.counting.reader.find) (plan_of w).rows w.counting.parents (plan_of w).tips (plan_of w).ends sound.agreeing sound.tips_whole sound.ends_whole t.explored.frontier low.depth explored (λ side. (counted.searched.search side).within) now_taken (children_of new.counting.frontier) tally p d.none_left (high p here) c k;
       }
         where
           here : Contains named p
           here = last_from named p m
 
-          unmade : (set.contains w.taken p || is_among p (ready_ids (ready_in w.ready))) ≡ true → ⊥
+          unmade : (set.contains (taken_of w) p || is_among p (ready_ids w.ready.commits)) ≡ true → ⊥
           unmade e = true≢false (sym e ∙ sym (made_before p) ∙ d.unmade)
 
-      ready_due : (p : ObjectId) → Contains (last_places named) p → IsReady walked Member (IsTaken (set.insert w.taken r.id)) p → IsDue objects faulty between new p
+      ready_due : (p : ObjectId) → Contains (last_places named) p → IsReady walked Member (IsTaken (set.insert (taken_of w) r.id)) p → IsDue objects faulty between new p
       ready_due p m q = record {
         none_left = all_taken those (faulty w.counting.reader.find) (plan_of w).rows w.counting.parents (plan_of w).tips (plan_of w).ends sound.agreeing sound.tips_whole sound.ends_whole t.explored.frontier low.depth explored (λ side. (counted.searched.search side).within) now_taken (children_of new.counting.frontier) tally p q.member q.children;
         outside = seen_there p ∙ unseen those (faulty w.counting.reader.find) (plan_of w).rows w.counting.parents (plan_of w).tips (plan_of w).ends sound.agreeing sound.tips_whole sound.ends_whole t.explored.frontier low.depth explored (λ side. (counted.searched.search side).within) now_taken (children_of new.counting.frontier) tally p q.member;
@@ -172,8 +172,8 @@ module _ {F : Type 0} (objects : F → Objects) (faulty : F → ObjectId → Typ
           go false e = refl
 
       -- the parents that are added are those that became ready, each at its last place
-      pub became : Keeps (IsReady walked Member (IsTaken (set.insert w.taken r.id))) (last_places (walked r.id)) (ready_ids added)
-      became = subst (λ ids. Keeps (IsReady walked Member (IsTaken (set.insert w.taken r.id))) (last_places ids) (ready_ids added)) walked_is (keeps_on due_ready ready_due due)
+      pub became : Keeps (IsReady walked Member (IsTaken (set.insert (taken_of w) r.id))) (last_places (walked r.id)) (ready_ids added)
+      became = subst (λ ids. Keeps (IsReady walked Member (IsTaken (set.insert (taken_of w) r.id))) (last_places ids) (ready_ids added)) walked_is (keeps_on due_ready ready_due due)
 
       stored : (a : Ready) → Contains added a → IsStored objects (plan_of w) new.counting.reader.standing a
       stored a m = found_stored objects faulty (plan_of w) sound (found_added a m) (sound.tips_whole a.id (reached_named a.id (added_named a.id (in_ids added a m))))

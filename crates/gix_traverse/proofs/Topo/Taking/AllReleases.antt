@@ -1,4 +1,4 @@
--- What releasing the parents of a taken commit does, told of all of them.
+-- What releasing all the parents of a taken commit does.
 use Rattle.std.specs.Prelude.{◌≡◌, ◌≤◌, ◌⊎◌, ℕ, ◌+◌, ◌==◌, List, [], ◌∷◌, ◌++◌, Bool, true, false, not, ◌&&◌, ◌||◌, cond, Ok, Contains, IsPermutation}
 use Rattle.std.proofs.Common.{refl, sym, ap, subst, inl, inr, ⊎_elim, ◌∙◌, arith, append_assoc, append-nil, zero-add}
 use Rattle.std.proofs.lemmas.Bool.{true≢false, false≢true, eqb-true}
@@ -6,7 +6,7 @@ use Rattle.std.proofs.lemmas.List.Sorted.{IsPermutation-append_left, IsPermutati
 use Rattle.gix_parts.specs.declared.hash.ObjectId.{ObjectId}
 use Rattle.gix_parts.specs.Id.{is_same, is_among}
 use Rattle.gix_parts.specs.Object.{Objects}
-use Rattle.gix_parts.specs.Rows.{GraphRow, row_of}
+use Rattle.gix_parts.specs.Rows.{GraphRow}
 use Rattle.gix_parts.proofs.Ids.Membership.{same_is, same_itself, among-append, among-one, among_from, among_is, Contains-here, Contains-there, Contains-cons_cases, no_member}
 use Rattle.gix_traverse.specs.declared.commit.Info.{Info}
 use Rattle.gix_traverse.specs.declared.commit.topo.Sorting.{Sorting}
@@ -17,8 +17,7 @@ use Rattle.gix_traverse.specs.Topo.Inside.Known.{Known}
 use Rattle.gix_traverse.specs.declared.commit.topo.frontier.Frontier.{Frontier}
 use Rattle.gix_traverse.specs.declared.commit.topo.walk.Walk.{Walk}
 use Rattle.gix_traverse.specs.Topo.Inside.Frontier.{is_seen, known_of, progress_of, reached, is_due, Uncounts, Makes}
-use Rattle.gix_traverse.specs.History.Reading.{Reads, by_row, by_text, is_whole_row}
-use Rattle.gix_traverse.specs.Topo.Inside.ReadySet.{ready_in, sorting_of}
+use Rattle.gix_traverse.specs.History.Reading.{Reads, by_row, by_text, DropsRows}
 use Rattle.gix_traverse.specs.Topo.Inside.Releasing.{plan_of, with_frontier, Releases, waits, frees, ReleasesAll, none, more}
 use Rattle.gix_traverse.specs.Topo.Inside.Searched.{times}
 use Rattle.gix_traverse.specs.Orders.TopoOrder.{Keeps, none as keeps_none, kept, passed}
@@ -27,9 +26,10 @@ use Rattle.gix_traverse.specs.Topo.Walk.{TopoPlan, Ready, ready_ids, HoldsReady,
 use Rattle.gix_traverse.proofs.Topo.Reading.OnceRead.{all_still, found_later, found_pushed}
 use Rattle.gix_traverse.proofs.Topo.Counting.Frontier.{known-insert, unmoved, reached-insert, has_seen}
 use Rattle.gix_traverse.proofs.Topo.Counting.Children.{children_of, made_of}
+use Rattle.gix_traverse.proofs.Shared.HeldRows.{held_before, dropped_by}
 use Rattle.gix_traverse.proofs.Shared.NewIds.{among_times}
 
--- a test of P told otherwise, for the ids of a list
+-- P in other words, for the ids of a list
 pub keeps_on : {P Q : ObjectId → Type 0} {xs ys : List ObjectId} → ((i : ObjectId) → Contains xs i → P i → Q i) → ((i : ObjectId) → Contains xs i → Q i → P i) → Keeps P xs ys → Keeps Q xs ys
 keeps_on f g keeps_none = keeps_none
 keeps_on f g (kept {i = i} {ids = ids} p k) = kept (f i (Contains-here i ids) p) (keeps_on (λ j m. f j (Contains-there j i ids m)) (λ j m. g j (Contains-there j i ids m)) k)
@@ -61,7 +61,7 @@ holds_none order.TopoOrder old = sym (append-nil old)
 holds_none order.DateOrder old = subst (λ xs. IsPermutation xs old) (sym (append-nil old)) (IsPermutation-refl old)
 
 module _ {F : Type 0} (objects : F → Objects) (faulty : F → ObjectId → Type 0) where
-  -- becoming ready, told at the end
+  -- becoming ready, as the end shows it
   pub record IsDue (old new : Walk F) (p : ObjectId) : Type 0 where
     pub none_left : children_of new.counting.frontier p ≡ 0
     pub outside : has_seen new.counting.frontier Ends p ≡ false
@@ -72,30 +72,25 @@ module _ {F : Type 0} (objects : F → Objects) (faulty : F → ObjectId → Typ
     pub depth : new.counting.depth ≡ old.counting.depth
     pub expanded : new.counting.expanded ≡ old.counting.expanded
     pub queue : new.counting.frontier.queue ≡ old.counting.frontier.queue
-    pub taken : new.taken ≡ old.taken
     pub moved : (s : Side) (j : ObjectId) → reached new.counting.frontier.known s j ≡ reached old.counting.frontier.known s j
     pub children : (p : ObjectId) → times p ids + children_of new.counting.frontier p ≡ children_of old.counting.frontier p
     pub made : (j : ObjectId) → made_of new.counting.frontier j ≡ (is_among j (ready_ids added) || made_of old.counting.frontier j)
-    pub holds : HoldsReady (sorting_of old.ready) (ready_in old.ready ++ added) (ready_in new.ready)
+    pub holds : HoldsReady old.ready.sorting (old.ready.commits ++ added) new.ready.commits
     pub stands : new.counting.reader.standing ≡ true → old.counting.reader.standing ≡ true
     pub among : (r : Ready) → Contains added r → Contains ids r.id
     pub each : AreRead objects faulty (plan_of old) old.counting → (r : Ready) → Contains added r → IsFound objects faulty (plan_of old) old.counting.reader.standing new.counting.reader.standing r
-    pub dropped : old.counting.reader.standing ≡ true → new.counting.reader.standing ≡ false → (i : ObjectId) × Contains ids i × (is_whole_row (plan_of old).rows (row_of (plan_of old).rows i) ≡ false)
+    pub dropped : old.counting.reader.standing ≡ true → new.counting.reader.standing ≡ false → (i : ObjectId) × Contains ids i × DropsRows (plan_of old).rows i
     pub due : ((j : ObjectId) → times j ids ≤ 1) → Keeps (IsDue old new) ids (ready_ids added)
 
-  -- rows that stand after reading stood before
+  -- rows that are in use after a reading were in use before
   pub reads_stands : {os : Objects} {fs : ObjectId → Type 0} {rows : List GraphRow} {standing : Bool} {i : ObjectId} {info : Info} {new : Bool} → Reads os fs rows standing i (Ok info) new → new ≡ true → standing ≡ true
-  reads_stands (by_row s r) e = s
-  reads_stands {rows = rows} {standing = standing} {i = i} (by_text n t) e = go standing (sym n.1 ∙ e)
-    where
-      go : (b : Bool) → (b && is_whole_row rows (row_of rows i)) ≡ true → b ≡ true
-      go true f = refl
-      go false f = f
+  reads_stands (by_row r is) = held_before r
+  reads_stands (by_text r t) = held_before r
 
   -- rows that fall by reading fall by a row with a fault
-  pub reads_drops : {os : Objects} {fs : ObjectId → Type 0} {rows : List GraphRow} {standing : Bool} {i : ObjectId} {info : Info} {new : Bool} → Reads os fs rows standing i (Ok info) new → standing ≡ true → new ≡ false → is_whole_row rows (row_of rows i) ≡ false
-  reads_drops (by_row s r) a b = absurd (true≢false b)
-  reads_drops {rows = rows} {i = i} (by_text n t) a b = ap (λ x. x && is_whole_row rows (row_of rows i)) (sym a) ∙ sym n.1 ∙ b
+  pub reads_drops : {os : Objects} {fs : ObjectId → Type 0} {rows : List GraphRow} {standing : Bool} {i : ObjectId} {info : Info} {new : Bool} → Reads os fs rows standing i (Ok info) new → standing ≡ true → new ≡ false → DropsRows rows i
+  reads_drops (by_row r is) = dropped_by r
+  reads_drops (by_text r t) = dropped_by r
 
   -- one child less of one id
   uncounted_children : (f g : Frontier) (i : ObjectId) (n : ℕ) → (known_of f.known i).children ≡ n + 1 → Uncounts f i g → (p : ObjectId) → (cond (is_same p i) 1 0 + 0) + children_of g p ≡ children_of f p
@@ -163,11 +158,10 @@ module _ {F : Type 0} (objects : F → Objects) (faulty : F → ObjectId → Typ
     depth = refl;
     expanded = refl;
     queue = u.queue;
-    taken = refl;
     moved = uncounted_moved old.counting.frontier f i n c u;
     children = uncounted_children old.counting.frontier f i n c u;
     made = uncounted_made old.counting.frontier f i n c u;
-    holds = holds_none (sorting_of old.ready) (ready_in old.ready);
+    holds = holds_none old.ready.sorting old.ready.commits;
     stands = λ e. e;
     among = λ r m. absurd (no_member r m);
     each = λ h r m. absurd (no_member r m);
@@ -184,7 +178,6 @@ module _ {F : Type 0} (objects : F → Objects) (faulty : F → ObjectId → Typ
     depth = p.same.depth;
     expanded = p.same.expanded;
     queue = p.same.queue ∙ u.queue;
-    taken = p.same.taken;
     moved = λ s j. makes_moved f new.counting.frontier i p.made s j ∙ uncounted_moved old.counting.frontier f i n c u s j;
     children = λ j. ap (λ k. (cond (is_same j i) 1 0 + 0) + k) (makes_known f new.counting.frontier i p.made j).0 ∙ uncounted_children old.counting.frontier f i n c u j;
     made = λ j. (makes_known f new.counting.frontier i p.made j).1 ∙ ap (λ b. is_same j i || b) (uncounted_made old.counting.frontier f i n c u j) ∙ ap (λ b. b || made_of old.counting.frontier j) (ap (is_same j) (sym p.id) ∙ sym (among-one j r.id));
@@ -212,11 +205,10 @@ module _ {F : Type 0} (objects : F → Objects) (faulty : F → ObjectId → Typ
     depth = b.depth ∙ a.depth;
     expanded = b.expanded ∙ a.expanded;
     queue = b.queue ∙ a.queue;
-    taken = b.taken ∙ a.taken;
     moved = λ s j. b.moved s j ∙ a.moved s j;
     children = λ p. let x : times p ids + children_of new.counting.frontier p ≡ children_of mid.counting.frontier p = b.children p in let y : (cond (is_same p i) 1 0 + 0) + children_of mid.counting.frontier p ≡ children_of old.counting.frontier p = a.children p in omega arith;
     made = λ j. b.made j ∙ ap (λ x. is_among j (ready_ids others) || x) (a.made j) ∙ joined (is_among j (ready_ids others)) (is_among j (ready_ids first)) (made_of old.counting.frontier j) ∙ ap (λ x. x || made_of old.counting.frontier j) (sym (ap (is_among j) (ids-append first others) ∙ among-append j (ready_ids first) (ready_ids others)));
-    holds = holds_on (sorting_of old.ready) (ready_in old.ready) first (ready_in mid.ready) others (ready_in new.ready) a.holds (subst (λ s. HoldsReady s (ready_in mid.ready ++ others) (ready_in new.ready)) (ap (λ p. p.sorting) a.plan) b.holds);
+    holds = holds_on old.ready.sorting old.ready.commits first mid.ready.commits others new.ready.commits a.holds (subst (λ s. HoldsReady s (mid.ready.commits ++ others) new.ready.commits) (ap (λ p. p.sorting) a.plan) b.holds);
     stands = λ e. a.stands (b.stands e);
     among = λ r m. ⊎_elim (λ l. ⊎_elim (λ s. subst (λ j. Contains (i ∷ ids) j) s (Contains-here i ids)) (λ t. absurd (no_member r.id t)) (Contains-cons_cases r.id i [] (a.among r l))) (λ t. Contains-there r.id i ids (b.among r t)) (Contains-append_cases r first others m);
     each = λ h r m. ⊎_elim (λ l. found_later objects faulty (plan_of old) (λ e. e) b.stands (a.each h r l)) (λ t. found_later objects faulty (plan_of old) a.stands (λ e. e) (with_plan (plan_of old) (plan_of mid) mid.counting.reader.standing new.counting.reader.standing r a.plan (b.each (read_mid h) r t))) (Contains-append_cases r first others m);
@@ -233,12 +225,12 @@ module _ {F : Type 0} (objects : F → Objects) (faulty : F → ObjectId → Typ
       joined false true z = refl
       joined false false z = refl
 
-      go : (m : Bool) → mid.counting.reader.standing ≡ m → old.counting.reader.standing ≡ true → new.counting.reader.standing ≡ false → (j : ObjectId) × Contains (i ∷ ids) j × (is_whole_row (plan_of old).rows (row_of (plan_of old).rows j) ≡ false)
+      go : (m : Bool) → mid.counting.reader.standing ≡ m → old.counting.reader.standing ≡ true → new.counting.reader.standing ≡ false → (j : ObjectId) × Contains (i ∷ ids) j × DropsRows (plan_of old).rows j
       go true m e d =
-          let h : (j : ObjectId) × Contains ids j × (is_whole_row (plan_of mid).rows (row_of (plan_of mid).rows j) ≡ false) = b.dropped m d in
-          (h.0, Contains-there h.0 i ids h.1, subst (λ p. is_whole_row p.rows (row_of p.rows h.0) ≡ false) a.plan h.2)
+          let h : (j : ObjectId) × Contains ids j × DropsRows (plan_of mid).rows j = b.dropped m d in
+          (h.0, Contains-there h.0 i ids h.1, subst (λ p. DropsRows p.rows h.0) a.plan h.2)
       go false m e d =
-          let h : (j : ObjectId) × Contains (i ∷ []) j × (is_whole_row (plan_of old).rows (row_of (plan_of old).rows j) ≡ false) = a.dropped e m in
+          let h : (j : ObjectId) × Contains (i ∷ []) j × DropsRows (plan_of old).rows j = a.dropped e m in
           (h.0, ⊎_elim (λ s. subst (λ x. Contains (i ∷ ids) x) s (Contains-here i ids)) (λ t. absurd (no_member h.0 t)) (Contains-cons_cases h.0 i [] h.1), h.2)
 
       due : ((j : ObjectId) → times j (i ∷ ids) ≤ 1) → Keeps (IsDue old new) (i ∷ ids) (ready_ids (first ++ others))
@@ -286,11 +278,10 @@ module _ {F : Type 0} (objects : F → Objects) (faulty : F → ObjectId → Typ
     depth = refl;
     expanded = refl;
     queue = refl;
-    taken = refl;
     moved = λ s j. refl;
     children = λ p. zero-add _;
     made = λ j. refl;
-    holds = holds_none (sorting_of old.ready) (ready_in old.ready);
+    holds = holds_none old.ready.sorting old.ready.commits;
     stands = λ e. e;
     among = λ r m. absurd (no_member r m);
     each = λ h r m. absurd (no_member r m);

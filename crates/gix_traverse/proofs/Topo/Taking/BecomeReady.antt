@@ -28,7 +28,7 @@ done_seen Unseen e = cc
 done_seen Queued e = refl
 done_seen Done e = refl
 
--- as far as texts tell, after exploring
+-- by the texts alone, after exploring
 module _ (objects : Objects) (faulty : ObjectId → Type 0) (rows : List GraphRow) (parents : Parents) (tips ends : List ObjectId) (agrees : IsAgreeing objects faulty rows) (f : Frontier) (depth : ℕ) (explored : (side : Side) → IsExplored objects rows parents tips ends depth side f) where
   -- no child is left that wasn't taken
   pub text_left : (taken : ObjectId → Bool) (children : ObjectId → ℕ) → IsTally (next_by objects parents Tips) (λ i. is_done (reached f.known Tips i)) taken children → (p : ObjectId) → children p ≡ 0 → depth ≤ known_generation rows p → (d : ObjectId) → Reaches (next_by objects parents Tips) tips d → Contains (next_by objects parents Tips d) p → taken d ≡ true

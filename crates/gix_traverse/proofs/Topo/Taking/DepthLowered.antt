@@ -4,18 +4,16 @@ use Rattle.std.proofs.Common.{refl, sym, ap, subst, inl, inr, ⊎_elim, ◌∙�
 use Rattle.std.specs.FinSet as set
 use Rattle.gix_parts.specs.declared.hash.ObjectId.{ObjectId}
 use Rattle.gix_parts.specs.Object.{Objects}
-use Rattle.gix_parts.specs.Rows.{row_of}
 use Rattle.gix_traverse.specs.declared.commit.topo.frontier.Side.TheVariants.{Tips, Ends}
 use Rattle.gix_traverse.specs.declared.commit.topo.counting.Counting.{Counting}
 use Rattle.gix_traverse.specs.declared.commit.topo.walk.Walk.{Walk}
-use Rattle.gix_traverse.specs.declared.commit.topo.ready.ReadySet.{ReadySet}
+use Rattle.gix_traverse.specs.Topo.Inside.ReadySet.{ReadySet}
 use Rattle.gix_traverse.specs.Topo.Depth.{known_generation}
 use Rattle.gix_traverse.specs.Topo.Inside.Frontier.{is_done}
 use Rattle.gix_traverse.specs.History.Commits.{by_mode}
 use Rattle.gix_traverse.specs.History.Reach.{Reaches}
-use Rattle.gix_traverse.specs.History.Reading.{rows_of, is_whole_row}
-use Rattle.gix_traverse.specs.Topo.Inside.ReadySet.{ready_in, sorting_of}
-use Rattle.gix_traverse.specs.Topo.Inside.Releasing.{plan_of, counted_by, lowered, with_taken, TakesOne}
+use Rattle.gix_traverse.specs.History.Reading.{rows_of, DropsRows}
+use Rattle.gix_traverse.specs.Topo.Inside.Releasing.{plan_of, counted_by, lowered, with_counting, taken_of, TakesOne}
 use Rattle.gix_traverse.specs.Orders.TopoOrder.{last_places}
 use Rattle.gix_traverse.specs.Topo.Inside.Steady.{IsDone, IsTallied, HasCounted, IsHeld}
 use Rattle.gix_traverse.specs.Topo.Walk.{TopoPlan, Ready, walked_of, Chooses, IsInDepth, IsBrokenRow, IsNumberOf, IsCounting, IsWalkable}
@@ -37,7 +35,7 @@ broken_lower objects plan low depth l b = record {
 }
 
 module _ {F : Type 0} (objects : F → Objects) (faulty : F → ObjectId → Type 0) where
-  -- the same done commits, told down to a lesser depth
+  -- the same done commits, down to a lesser depth
   counts_lower : (plan : TopoPlan F) (old new : Counting F) → new.frontier ≡ old.frontier → new.expanded ≡ old.expanded → new.reader ≡ old.reader → new.depth ≤ old.depth → HasCounted objects plan old → HasCounted objects plan new
   counts_lower plan old new f n s l h = record {
     number = subst (λ x. IsNumberOf (IsDone x) new.expanded) (sym f) (subst (IsNumberOf (IsDone old.frontier)) (sym n) h.number);
@@ -45,14 +43,14 @@ module _ {F : Type 0} (objects : F → Objects) (faulty : F → ObjectId → Typ
     dropped = λ e. broken_lower objects plan new.depth old.depth l (h.dropped (sym (ap (λ x. x.standing) s) ∙ e));
   }
 
-  module _ (w : Walk F) (rest : ReadySet) (same : sorting_of rest ≡ sorting_of w.ready) (r : Ready) (chosen : Chooses (sorting_of w.ready) (ready_in w.ready) r (ready_in rest)) (added : List Ready) (new : Walk F) (t : TakesOne objects faulty (record w { ready = rest }) r added new) (held : IsHeld objects faulty w) (sound : IsWalkable objects faulty (plan_of w)) where
+  module _ (w : Walk F) (rest : ReadySet) (same : rest.sorting ≡ w.ready.sorting) (r : Ready) (chosen : Chooses w.ready.sorting w.ready.commits r rest.commits) (added : List Ready) (new : Walk F) (t : TakesOne objects faulty (record w { ready = rest }) r added new) (held : IsHeld objects faulty w) (sound : IsWalkable objects faulty (plan_of w)) where
     abbrev low : Counting F
     low = lowered objects faulty (record w { ready = rest }) r
 
     abbrev named : List ObjectId
     named = by_mode w.counting.parents r.parents
 
-    rel : IsReleased objects faulty (with_taken objects faulty (record w { ready = rest }) t.explored r) (last_places named) added new
+    rel : IsReleased objects faulty (with_counting objects faulty (record w { ready = rest }) t.explored) (last_places named) added new
     rel = released objects faulty t.releases
 
     tallied : IsTallied objects w
@@ -62,7 +60,7 @@ module _ {F : Type 0} (objects : F → Objects) (faulty : F → ObjectId → Typ
     low_counts = counts_lower (plan_of w) w.counting low refl refl refl (least_below (plan_of w).rows w.counting.depth named) (held.counts sound)
 
     explored_counts : HasCounted objects (plan_of w) t.explored × IsCounting objects (plan_of w) (counted_by t.explored)
-    explored_counts = counts_on objects faulty (sorting_of w.ready) w.tips.items w.ends.items (set.contains w.taken) low t.explored sound tallied.counted tallied.begun low_counts held.all_read t.explores t.rested
+    explored_counts = counts_on objects faulty w.ready.sorting w.tips.items w.ends.items (set.contains (taken_of w)) low t.explored sound tallied.counted tallied.begun low_counts held.all_read t.explores t.rested
 
     named_reached : (i : ObjectId) → Contains named i → Reaches (walked_of objects (plan_of w)) (plan_of w).tips i
     named_reached i m =
@@ -77,10 +75,10 @@ module _ {F : Type 0} (objects : F → Objects) (faulty : F → ObjectId → Typ
     drops : (b : Bool) → t.explored.reader.standing ≡ b → new.counting.reader.standing ≡ false → IsBrokenRow objects (plan_of w) t.explored.depth
     drops false q e = explored_counts.0.dropped q
     drops true q e =
-        let h : (i : ObjectId) × Contains (last_places named) i × (is_whole_row (rows_of t.explored.reader.graph) (row_of (rows_of t.explored.reader.graph) i) ≡ false) = rel.dropped q e in
+        let h : (i : ObjectId) × Contains (last_places named) i × DropsRows (rows_of t.explored.reader.graph) i = rel.dropped q e in
         let m : Contains named h.0 = last_from named h.0 h.1 in
         broken objects faulty (plan_of w) sound.agreeing t.explored.depth h.0 (inl (named_reached h.0 m)) (subst (λ n. n ≤ known_generation (plan_of w).rows h.0) (sym (explores_same objects faulty t.explores).depth) (least_within (plan_of w).rows w.counting.depth named h.0 m))
-        (subst (λ g. is_whole_row (rows_of g) (row_of (rows_of g) h.0) ≡ false) (explores_same objects faulty t.explores).graph h.2)
+        (subst (λ g. DropsRows (rows_of g) h.0) (explores_same objects faulty t.explores).graph h.2)
 
     taken_counts : HasCounted objects (plan_of w) new.counting
     taken_counts = record {
@@ -89,7 +87,7 @@ module _ {F : Type 0} (objects : F → Objects) (faulty : F → ObjectId → Typ
       dropped = λ e. subst (IsBrokenRow objects (plan_of w)) (sym rel.depth) (drops t.explored.reader.standing refl e);
     }
 
-    -- what is told of the done commits stays told, and counting exact
+    -- what holds of the done commits still holds, and counting stays exact
     pub counts_taken : HasCounted objects (plan_of w) new.counting × IsCounting objects (plan_of w) (counted_by new.counting)
     counts_taken = (
       taken_counts,

@@ -10,8 +10,6 @@ use Rattle.gix_traverse.specs.declared.commit.Info.{Info}
 use Rattle.gix_traverse.specs.declared.commit.topo.Error.{Error}
 use Rattle.gix_traverse.specs.declared.commit.topo.walk.Walk.{Walk}
 use Rattle.gix_traverse.specs.History.Reading.{rows_of, Reads, by_row, by_text, IsReadFault}
-use Rattle.std.specs.FinSet as set
-use Rattle.gix_parts.specs.Id.{id_cmp}
 use Rattle.gix_traverse.specs.declared.commit.topo.counting.Counting.{Counting}
 use Rattle.gix_traverse.specs.declared.commit.topo.frontier.Frontier.{Frontier}
 use Rattle.gix_traverse.specs.Topo.Depth.{least}
@@ -19,7 +17,7 @@ use Rattle.gix_traverse.specs.Topo.Inside.Exploring.{Explores, IsRested, IsExplo
 use Rattle.gix_traverse.specs.History.Commits.{by_mode}
 use Rattle.gix_traverse.specs.Orders.TopoOrder.{last_places}
 use Rattle.gix_traverse.specs.Topo.Walk.{Ready}
-use Rattle.gix_traverse.specs.Topo.Inside.Releasing.{Knows, IsPushFault, parent, lowered, with_taken, TakesOne, IsTakingFault, exploring, releasing, ReleasesAll, IsFaultAmong}
+use Rattle.gix_traverse.specs.Topo.Inside.Releasing.{Knows, IsPushFault, parent, lowered, with_counting, TakesOne, IsTakingFault, exploring, releasing, ReleasesAll, IsFaultAmong}
 
 -- what is read has the id that was asked for, and a time
 pub record IsTimedInfo (i : ObjectId) (info : Info) (time : ℤ) : Type 0 where
@@ -30,15 +28,12 @@ abbrev pub or_zero : Option ℤ → ℤ
 or_zero None = pos 0
 or_zero (Some t) = t
 
+timed : {o : Option ℤ} (t : ℤ) → o ≡ Some t → o ≡ Some (or_zero o)
+timed t e = e ∙ ap (λ x. Some (or_zero x)) (sym e)
+
 pub reads_timed : {objects : Objects} {faulty : ObjectId → Type 0} {rows : List GraphRow} {standing : Bool} {i : ObjectId} {info : Info} {new : Bool} → Reads objects faulty rows standing i (Ok info) new → IsTimedInfo i info (or_zero info.commit_time)
-reads_timed (by_row s r) = record { id = r.info_is.same_id; same_time = timed _ r.info_is.same_time }
-  where
-    timed : {o : Option ℤ} (t : ℤ) → o ≡ Some t → o ≡ Some (or_zero o)
-    timed t e = e ∙ ap (λ x. Some (or_zero x)) (sym e)
+reads_timed (by_row r is) = record { id = is.same_id; same_time = timed _ is.same_time }
 reads_timed (by_text n t) = record { id = t.2.0.same_id; same_time = timed _ t.2.0.same_time }
-  where
-    timed : {o : Option ℤ} (t : ℤ) → o ≡ Some t → o ≡ Some (or_zero o)
-    timed t e = e ∙ ap (λ x. Some (or_zero x)) (sym e)
 
 module _ {F : Type 0} (objects : F → Objects) (faulty : F → ObjectId → Type 0) where
   pub fault_of_parent : (old : Walk F) (i : ObjectId) (e : Error) (info : Info) (standing : Bool) (find : F) (p : ObjectId) → find ≡ old.counting.reader.find → Reads (objects old.counting.reader.find) (faulty old.counting.reader.find) (rows_of old.counting.reader.graph) old.counting.reader.standing i (Ok info) standing → Contains info.parent_ids.items p → IsReadFault (objects find) (faulty find) p e → IsPushFault objects faulty old i e
@@ -86,14 +81,14 @@ module _ {F : Type 0} (objects : F → Objects) (faulty : F → ObjectId → Typ
   pub fault_low : (e : Error) → IsExploringFault objects faulty low e → IsTakingFault objects faulty old r e
   fault_low e f = exploring (subst (λ c. IsExploringFault objects faulty c e) low_is f)
 
-  module _ (explored : Counting F) (taken : set.FinSet id_cmp) (is : taken ≡ set.insert old.taken r.id) (e : Explores objects faulty low explored) (rests : IsRested explored.reader.standing explored.depth explored.frontier.queue) where
-    pub takes_one : (added : List Ready) (new : Walk F) → ReleasesAll objects faulty (record old { counting = explored; taken = taken }) ids added new → TakesOne objects faulty old r added new
+  module _ (explored : Counting F) (e : Explores objects faulty low explored) (rests : IsRested explored.reader.standing explored.depth explored.frontier.queue) where
+    pub takes_one : (added : List Ready) (new : Walk F) → ReleasesAll objects faulty (with_counting objects faulty old explored) ids added new → TakesOne objects faulty old r added new
     takes_one added new all = record {
       explored = explored;
       explores = explores_low explored e;
       rested = rests;
-      releases = subst (λ those. ReleasesAll objects faulty (with_taken objects faulty old explored r) those added new) ids_are (subst (λ t. ReleasesAll objects faulty (record old { counting = explored; taken = t }) ids added new) is all);
+      releases = subst (λ those. ReleasesAll objects faulty (with_counting objects faulty old explored) those added new) ids_are all;
     }
 
-    pub fault_among : (fault : Error) → IsFaultAmong objects faulty (record old { counting = explored; taken = taken }) ids fault → IsTakingFault objects faulty old r fault
-    fault_among fault f = releasing (explores_low explored e) rests (subst (λ those. IsFaultAmong objects faulty (with_taken objects faulty old explored r) those fault) ids_are (subst (λ t. IsFaultAmong objects faulty (record old { counting = explored; taken = t }) ids fault) is f))
+    pub fault_among : (fault : Error) → IsFaultAmong objects faulty (with_counting objects faulty old explored) ids fault → IsTakingFault objects faulty old r fault
+    fault_among fault f = releasing (explores_low explored e) rests (subst (λ those. IsFaultAmong objects faulty (with_counting objects faulty old explored) those fault) ids_are f)

@@ -2,16 +2,12 @@
 use Rattle.std.specs.Prelude.{◌≡◌, ◌≤◌, ℕ, List, [], ◌∷◌, ◌++◌, Bool, true, false, ◌&&◌, cond, Some, None, Result, Ok, Err, Contains}
 use Rattle.std.proofs.Common.{refl, sym, ap, subst, ⊎_elim, ◌∙◌, arith, inl, inr}
 use Rattle.gix_parts.specs.declared.hash.ObjectId.{ObjectId}
-use Rattle.gix_parts.specs.declared.object.Kind.TheVariants as object
 use Rattle.gix_parts.specs.declared.object.decode.Error.{Error as DecodeError}
 use Rattle.gix_parts.specs.declared.object.decode.Error.TheVariants as fault
-use Rattle.gix_parts.specs.declared.object.find.existing_iter.Error.{Error as ExistingError}
-use Rattle.gix_parts.specs.declared.object.find.existing_iter.Error.TheVariants as existing
 use Rattle.gix_parts.specs.Id.{kind_of, is_same}
 use Rattle.gix_parts.specs.Object.{Objects}
 use Rattle.gix_parts.specs.CommitItems.{Item, Tree, Parent, Author, Committer, Rest, commit_items}
 use Rattle.gix_parts.specs.CommitRefIter.{first_committer}
-use Rattle.gix_parts.specs.Find.{IsExistingFault}
 use Rattle.gix_parts.proofs.Ids.Membership.{same_itself, Contains-here, Contains-there, Contains-cons_cases, no_member}
 use Rattle.gix_traverse.specs.declared.commit.topo.Sorting.{Sorting}
 use Rattle.gix_traverse.specs.declared.commit.topo.Error.{Error}
@@ -80,23 +76,17 @@ module _ {F : Type 0} (objects : F → Objects) (faulty : F → ObjectId → Typ
   reached_whole s Tips i r = s.tips_whole i (text_tips (objects plan.store) (faulty plan.store) plan.rows plan.parents plan.tips plan.ends s.agreeing s.tips_whole s.ends_whole i r)
   reached_whole s Ends i r = s.ends_whole i (text_ends (objects plan.store) (faulty plan.store) plan.rows plan.parents plan.tips plan.ends s.agreeing s.tips_whole s.ends_whole i r)
 
-  unfound : (i : ObjectId) (e : ExistingError) → IsExistingFault (objects plan.store) (faulty plan.store) i object.Commit e → ReadsWhole (objects plan.store) (faulty plan.store) i → ⊥
-  unfound i existing.Store f w = w.sound f
-  unfound i (existing.NotFound oid) f w = no_fault (objects plan.store) (faulty plan.store) i w.commit (existing.NotFound oid) w.stored f (λ e. cc)
-  unfound i (existing.ObjectKind oid wanted actual) f w = no_fault (objects plan.store) (faulty plan.store) i w.commit (existing.ObjectKind oid wanted actual) w.stored f (λ e. cc)
-  unfound i existing.Memory f w = f
-
   -- what a side reaches by texts
   reached_by : (side : Side) (i : ObjectId) → Reaches (next_by (objects plan.store) plan.parents side) (starts_by plan.tips plan.ends side) i → IsReached objects plan i
   reached_by Tips i r = inl r
   reached_by Ends i r = inr r
 
-  -- a commit that is looked up beside rows that agree, and reads whole in a sound history, can't be read
+  -- a fault at a commit that is looked up with rows that agree, and that reads whole in a sound history
   pub read_fault : (Q : ObjectId → Type 0) (i : ObjectId) (e : Error) → (IsAgreeing (objects plan.store) (faulty plan.store) plan.rows → IsLookedUp objects plan Q i) → (IsSound objects faulty plan → ReadsWhole (objects plan.store) (faulty plan.store) i) → IsReadFault (objects plan.store) (faulty plan.store) i e → IsFault objects faulty plan Q e
   read_fault Q i error.MissingIndegreeUnexpected a w f = absurd f
   read_fault Q i error.MissingStateUnexpected a w f = absurd f
-  read_fault Q i (error.Find e) a w f = (i, f, (a, λ s. unfound i e f (w s)))
-  read_fault Q i (error.ObjectDecode e) a w f = (i, (f.0, f.1, fault_item (commit_items (kind_of i) f.0) e f.2 f.3), (a, λ s. unread (w s)))
+  read_fault Q i (error.Find e) a w f = (i, f, (a, λ s. ap error.Find (no_fault (objects plan.store) (faulty plan.store) i (w s).commit e (w s).stored f)))
+  read_fault Q i (error.ObjectDecode e) a w f = (i, (f.0, f.1, fault_item (commit_items (kind_of i) f.0) e f.2 f.3), (a, λ s. absurd (unread (w s))))
     where
       unread : ReadsWhole (objects plan.store) (faulty plan.store) i → ⊥
       unread w = let n : None ≡ Some w.commit = sym (fault_unread (commit_items (kind_of i) f.0) e f.2) ∙ sym (ap (commit_of_object i) f.1) ∙ w.stored in cc

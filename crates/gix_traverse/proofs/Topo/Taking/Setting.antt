@@ -1,4 +1,4 @@
--- A ready commit is chosen to be taken, and counting goes on for it: what all facts about that stand on.
+-- A ready commit is chosen to be taken, and counting goes on for it: what all facts about that rest on.
 use Rattle.std.specs.Prelude.{◌≡◌, ◌+◌, ℕ, List, Bool, false, cond, Contains}
 use Rattle.std.proofs.Common.{sym, ap, subst, ◌∙◌}
 use Rattle.std.specs.FinSet as set
@@ -10,15 +10,14 @@ use Rattle.gix_traverse.specs.declared.commit.topo.frontier.Side.{Side}
 use Rattle.gix_traverse.specs.declared.commit.topo.frontier.Side.TheVariants.{Tips}
 use Rattle.gix_traverse.specs.declared.commit.topo.counting.Counting.{Counting}
 use Rattle.gix_traverse.specs.declared.commit.topo.walk.Walk.{Walk}
-use Rattle.gix_traverse.specs.declared.commit.topo.ready.ReadySet.{ReadySet}
+use Rattle.gix_traverse.specs.Topo.Inside.ReadySet.{ReadySet}
 use Rattle.gix_traverse.specs.History.Agreeing.{IsAgreeing}
 use Rattle.gix_traverse.specs.Topo.Inside.Exploring.{IsRested, IsSamePlan, Explores}
 use Rattle.gix_traverse.specs.Topo.Inside.Frontier.{is_done, reached}
 use Rattle.gix_traverse.specs.History.Commits.{by_mode}
 use Rattle.gix_traverse.specs.History.Reach.{Reaches, step}
 use Rattle.gix_traverse.specs.History.Reading.{rows_of}
-use Rattle.gix_traverse.specs.Topo.Inside.ReadySet.{ready_in, sorting_of}
-use Rattle.gix_traverse.specs.Topo.Inside.Releasing.{plan_of, lowered, with_taken}
+use Rattle.gix_traverse.specs.Topo.Inside.Releasing.{plan_of, lowered, with_counting, taken_of}
 use Rattle.gix_traverse.specs.Topo.Inside.Searched.{IsCounted, IsExplored, IsTally, next_by, times}
 use Rattle.gix_traverse.specs.Orders.TopoOrder.{last_places}
 use Rattle.gix_traverse.specs.Topo.Inside.Steady.{IsTallied, IsHeld}
@@ -29,8 +28,9 @@ use Rattle.gix_traverse.proofs.Topo.Counting.AllDownToDepth.{exact_there}
 use Rattle.gix_traverse.proofs.Topo.Reading.FoundIsStored.{found_text}
 use Rattle.gix_traverse.proofs.Topo.Counting.Children.{children_of, times-last, tally_takes}
 use Rattle.gix_traverse.proofs.Topo.Run.Theorem.{chosen_in, in_ids}
+use Rattle.gix_traverse.proofs.Topo.Taking.Taken.{ready_untaken}
 
-module _ {F : Type 0} (objects : F → Objects) (faulty : F → ObjectId → Type 0) (w : Walk F) (rest : ReadySet) (r : Ready) (chosen : Chooses (sorting_of w.ready) (ready_in w.ready) r (ready_in rest)) where
+module _ {F : Type 0} (objects : F → Objects) (faulty : F → ObjectId → Type 0) (w : Walk F) (rest : ReadySet) (r : Ready) (chosen : Chooses w.ready.sorting w.ready.commits r rest.commits) where
   abbrev those : Objects
   those = objects w.counting.reader.find
 
@@ -41,24 +41,24 @@ module _ {F : Type 0} (objects : F → Objects) (faulty : F → ObjectId → Typ
   named = by_mode w.counting.parents r.parents
 
   abbrev now_taken : ObjectId → Bool
-  now_taken i = set.contains (set.insert w.taken r.id) i
+  now_taken i = set.contains (set.insert (taken_of w) r.id) i
 
-  pub was_ready : Contains (ready_in w.ready) r
-  was_ready = chosen_in (sorting_of w.ready) (ready_in w.ready) r (ready_in rest) chosen
+  pub was_ready : Contains w.ready.commits r
+  was_ready = chosen_in w.ready.sorting w.ready.commits r rest.commits chosen
 
   -- exploring leaves what the walk goes over
-  pub plan_taken : sorting_of rest ≡ sorting_of w.ready → (explored : Counting F) → IsSamePlan objects faulty low explored → plan_of (with_taken objects faulty (record w { ready = rest }) explored r) ≡ plan_of w
+  pub plan_taken : rest.sorting ≡ w.ready.sorting → (explored : Counting F) → IsSamePlan objects faulty low explored → plan_of (with_counting objects faulty (record w { ready = rest }) explored) ≡ plan_of w
   plan_taken same explored s = λ k. record { store = s.find k; rows = rows_of (s.graph k); parents = s.parents k; sorting = same k; tips = w.tips.items; ends = w.ends.items }
 
   module _ (held : IsHeld objects faulty w) where
-    pub was_untaken : set.contains w.taken r.id ≡ false
-    was_untaken = held.untaken r.id (in_ids (ready_in w.ready) r was_ready)
+    pub was_untaken : set.contains (taken_of w) r.id ≡ false
+    was_untaken = ready_untaken w r.id (in_ids w.ready.commits r was_ready)
 
     module _ (agrees : IsAgreeing (objects (plan_of w).store) (faulty (plan_of w).store) (plan_of w).rows) where
       tallied : IsTallied objects w
       tallied = held.tallied agrees
 
-      -- its walked parents are those of its text, and tips reach them
+      -- its walked parents are the walked parents of its text, and tips reach them
       pub named_text : named ≡ next_by those w.counting.parents Tips r.id
       named_text = ap (by_mode w.counting.parents) (found_text objects faulty (plan_of w) agrees (held.found r was_ready))
 
@@ -69,17 +69,17 @@ module _ {F : Type 0} (objects : F → Objects) (faulty : F → ObjectId → Typ
 
       -- what exploring has counted, and how far it went
       module _ (explored : Counting F) (explores : Explores objects faulty low explored) where
-        pub counted_on : IsCounted those (plan_of w).rows w.counting.parents (plan_of w).tips (plan_of w).ends (set.contains w.taken) explored.frontier
-        counted_on = explores_keep objects faulty (plan_of w).tips (plan_of w).ends (set.contains w.taken) agrees explores tallied.counted
+        pub counted_on : IsCounted those (plan_of w).rows w.counting.parents (plan_of w).tips (plan_of w).ends (set.contains (taken_of w)) explored.frontier
+        counted_on = explores_keep objects faulty (plan_of w).tips (plan_of w).ends (set.contains (taken_of w)) agrees explores tallied.counted
 
         pub explored_on : IsRested explored.reader.standing explored.depth explored.frontier.queue → (side : Side) → IsExplored those (plan_of w).rows w.counting.parents (plan_of w).tips (plan_of w).ends low.depth side explored.frontier
         explored_on rested side =
-            exact_there objects faulty (plan_of w).tips (plan_of w).ends (set.contains w.taken) agrees explores tallied.counted side (tallied.begun side)
+            exact_there objects faulty (plan_of w).tips (plan_of w).ends (set.contains (taken_of w)) agrees explores tallied.counted side (tallied.begun side)
             (subst (λ d. IsRested explored.reader.standing d explored.frontier.queue) (explores_same objects faulty explores).depth rested)
 
         -- once it is taken, its parents have a child less
         pub tally_on : (children : ObjectId → ℕ) → ((p : ObjectId) → times p (last_places named) + children p ≡ children_of explored.frontier p) → IsTally (next_by those w.counting.parents Tips) (λ i. is_done (reached explored.frontier.known Tips i)) now_taken children
         tally_on children less =
-            tally_takes (next_by those w.counting.parents Tips) (λ i. is_done (reached explored.frontier.known Tips i)) (set.contains w.taken) now_taken (children_of explored.frontier) children r.id
-            (explores_done objects faulty explores Tips r.id (tallied.done r was_ready)) was_untaken (λ j. set.contains-insert id_total w.taken r.id j)
+            tally_takes (next_by those w.counting.parents Tips) (λ i. is_done (reached explored.frontier.known Tips i)) (set.contains (taken_of w)) now_taken (children_of explored.frontier) children r.id
+            (explores_done objects faulty explores Tips r.id (tallied.done r was_ready)) was_untaken (λ j. set.contains-insert id_total (taken_of w) r.id j)
             (λ p. ap (λ n. n + children p) (sym (times-last p named ∙ ap (λ ids. cond (is_among p ids) 1 0) named_text)) ∙ less p) counted_on.tally

@@ -17,7 +17,7 @@ use Rattle.gix_traverse.specs.declared.commit.topo.counting.Counting.{Counting}
 use Rattle.gix_traverse.specs.declared.commit.topo.frontier.Side.{Side}
 use Rattle.gix_traverse.specs.declared.commit.topo.frontier.Side.TheVariants.{Tips, Ends}
 use Rattle.gix_traverse.specs.declared.commit.topo.walk.Walk.{Walk}
-use Rattle.gix_traverse.specs.declared.commit.topo.ready.ReadySet.{ReadySet}
+use Rattle.gix_traverse.specs.Topo.Inside.ReadySet.{ReadySet}
 use Rattle.gix_traverse.specs.History.Agreeing.{IsAgreeing}
 use Rattle.gix_traverse.specs.Topo.Inside.Exploring.{Explores, IsRested}
 use Rattle.gix_traverse.specs.Topo.Inside.Frontier.{is_seen, is_done, known_of, reached}
@@ -27,8 +27,7 @@ use Rattle.std.proofs.lemmas.Bool.{true≢false, or_cases, or_left, or_right, or
 use Rattle.gix_traverse.specs.History.Commits.{by_mode}
 use Rattle.gix_traverse.specs.History.Reach.{Reaches, step}
 use Rattle.gix_traverse.specs.History.Reading.{IsReadFault}
-use Rattle.gix_traverse.specs.Topo.Inside.ReadySet.{ready_in, sorting_of}
-use Rattle.gix_traverse.specs.Topo.Inside.Releasing.{plan_of, IsPushFault, itself as pushed, parent, with_frontier, IsReleaseFault, uncounted, unread, no_memory, none, more, IsFaultAmong, here, later, lowered, IsTakingFault, exploring, releasing, short}
+use Rattle.gix_traverse.specs.Topo.Inside.Releasing.{plan_of, taken_of, IsPushFault, itself as pushed, parent, with_frontier, IsReleaseFault, uncounted, unread, no_memory, none, more, IsFaultAmong, here, later, lowered, IsTakingFault, exploring, releasing, short}
 use Rattle.gix_traverse.specs.Topo.Inside.Searched.{IsExplored, text_next, next_by, times}
 use Rattle.gix_traverse.specs.Orders.TopoOrder.{last_places}
 use Rattle.gix_traverse.specs.Topo.Inside.Steady.{IsTallied, IsHeld}
@@ -44,6 +43,7 @@ use Rattle.gix_traverse.proofs.Topo.Taking.AllReleases.{IsReleased, uncounted_ma
 use Rattle.gix_traverse.proofs.Topo.Counting.Children.{children_of, made_of, times-last, tally_counts}
 use Rattle.gix_traverse.proofs.Topo.Reading.ReadsCommit.{reads_text_next}
 use Rattle.gix_traverse.proofs.Shared.Rows.{none_agree}
+use Rattle.gix_traverse.proofs.Topo.Taking.Taken.{made_taken}
 use Rattle.gix_traverse.proofs.Topo.Taking.Setting.{was_ready, plan_taken, was_untaken, named_text, parents_reached, counted_on, explored_on, tally_on}
 use Rattle.gix_traverse.proofs.Shared.NewIds.{among_times}
 
@@ -171,7 +171,7 @@ module _ {F : Type 0} (objects : F → Objects) (faulty : F → ObjectId → Typ
       })
       (λ a p. let l : times p (i ∷ ids) ≤ children_of old.counting.frontier p = c a p in let k : (cond (is_same p i) 1 0 + 0) + children_of mid.counting.frontier p ≡ children_of old.counting.frontier p = rel.children p in omega arith) f
 
-  module _ (w : Walk F) (held : IsHeld objects faulty w) (rest : ReadySet) (same : sorting_of rest ≡ sorting_of w.ready) (r : Ready) (chosen : Chooses (sorting_of w.ready) (ready_in w.ready) r (ready_in rest)) where
+  module _ (w : Walk F) (held : IsHeld objects faulty w) (rest : ReadySet) (same : rest.sorting ≡ w.ready.sorting) (r : Ready) (chosen : Chooses w.ready.sorting w.ready.commits r rest.commits) where
     abbrev Agrees : Type 0
     Agrees = IsAgreeing (objects (plan_of w).store) (faulty (plan_of w).store) (plan_of w).rows
 
@@ -199,7 +199,7 @@ module _ {F : Type 0} (objects : F → Objects) (faulty : F → ObjectId → Typ
         go : (b : Bool) → is_among p named ≡ b → times p (last_places named) ≡ cond (is_among p named) 1 0 → times p (last_places named) ≤ children_of explored.frontier p
         go true e l =
             let o : ◌≡◌ {A = ℕ} (cond (is_among p named) 1 0) 1 = ap (λ b. cond b 1 0) e in
-            let n : 1 ≤ children_of explored.frontier p = tally_counts next (λ i. is_done (reached explored.frontier.known Tips i)) (set.contains w.taken) (children_of explored.frontier) (counted_on objects faulty w rest r chosen held a explored x).tally p r.id (explores_done objects faulty x Tips r.id (t.done r (was_ready objects faulty w rest r chosen))) (was_untaken objects faulty w rest r chosen held) (ap (is_among p) (sym (named_text objects faulty w rest r chosen held a)) ∙ e) in
+            let n : 1 ≤ children_of explored.frontier p = tally_counts next (λ i. is_done (reached explored.frontier.known Tips i)) (set.contains (taken_of w)) (children_of explored.frontier) (counted_on objects faulty w rest r chosen held a explored x).tally p r.id (explores_done objects faulty x Tips r.id (t.done r (was_ready objects faulty w rest r chosen))) (was_untaken objects faulty w rest r chosen held) (ap (is_among p) (sym (named_text objects faulty w rest r chosen held a)) ∙ e) in
             omega arith
         go false e l = let o : ◌≡◌ {A = ℕ} (cond (is_among p named) 1 0) 0 = ap (λ b. cond b 1 0) e in omega arith
 
@@ -209,7 +209,7 @@ module _ {F : Type 0} (objects : F → Objects) (faulty : F → ObjectId → Typ
       left p = children_of explored.frontier p - times p (last_places named)
 
       -- a parent that loses its last child becomes ready
-      next_ready : Agrees → (i : ObjectId) → Contains (last_places named) i → IsLastChild explored.frontier i → IsNextReady objects (plan_of w) w.taken r.id i
+      next_ready : Agrees → (i : ObjectId) → Contains (last_places named) i → IsLastChild explored.frontier i → IsNextReady objects (plan_of w) (taken_of w) r.id i
       next_ready a i m l = record {
         named = subst (λ ids. Contains ids i) (named_text objects faulty w rest r chosen held a) within;
         ready = record {
@@ -217,8 +217,8 @@ module _ {F : Type 0} (objects : F → Objects) (faulty : F → ObjectId → Typ
             reached = parents_reached objects faulty w rest r chosen held a i within;
             outside = text_outside (objects w.counting.reader.find) (faulty w.counting.reader.find) (plan_of w).rows w.counting.parents (plan_of w).tips (plan_of w).ends a explored.frontier low.depth there i l.outside high;
           };
-          left = λ e. ⊎_elim (λ s. unmade (subst (λ j. (set.contains w.taken j || is_among j (ready_ids (ready_in w.ready))) ≡ true) (sym (same_is i r.id s)) (or_right (set.contains w.taken r.id) _ (among_from r.id (ready_ids (ready_in w.ready)) (in_ids (ready_in w.ready) r (was_ready objects faulty w rest r chosen)))))) (λ k. unmade (or_left _ _ k)) (or_cases (is_same i r.id) (set.contains w.taken i) (sym (set.contains-insert id_total w.taken r.id i) ∙ e));
-          children = λ d k. text_left (objects w.counting.reader.find) (faulty w.counting.reader.find) (plan_of w).rows w.counting.parents (plan_of w).tips (plan_of w).ends a explored.frontier low.depth there (λ j. set.contains (set.insert w.taken r.id) j) left (tally_on objects faulty w rest r chosen held a explored x left (λ p. kept_apart p (children_left explored x a p))) i none_left high d k.child.reached k.named;
+          left = λ e. ⊎_elim (λ s. unmade (subst (λ j. (set.contains (taken_of w) j || is_among j (ready_ids w.ready.commits)) ≡ true) (sym (same_is i r.id s)) (or_right (set.contains (taken_of w) r.id) _ (among_from r.id (ready_ids w.ready.commits) (in_ids w.ready.commits r (was_ready objects faulty w rest r chosen)))))) (λ k. unmade (or_left _ _ k)) (or_cases (is_same i r.id) (set.contains (taken_of w) i) (sym (set.contains-insert id_total (taken_of w) r.id i) ∙ e));
+          children = λ d k. text_left (objects w.counting.reader.find) (faulty w.counting.reader.find) (plan_of w).rows w.counting.parents (plan_of w).tips (plan_of w).ends a explored.frontier low.depth there (λ j. set.contains (set.insert (taken_of w) r.id) j) left (tally_on objects faulty w rest r chosen held a explored x left (λ p. kept_apart p (children_left explored x a p))) i none_left high d k.child.reached k.named;
         };
       }
         where
@@ -240,16 +240,16 @@ module _ {F : Type 0} (objects : F → Objects) (faulty : F → ObjectId → Typ
               let o : children_of explored.frontier i ≡ 1 = l.one in
               omega arith
 
-          unmade : (set.contains w.taken i || is_among i (ready_ids (ready_in w.ready))) ≡ true → ⊥
-          unmade e = true≢false (sym e ∙ sym (explores_made objects faulty x i ∙ held.made i) ∙ l.unmade)
+          unmade : (set.contains (taken_of w) i || is_among i (ready_ids w.ready.commits)) ≡ true → ⊥
+          unmade e = true≢false (sym e ∙ sym (explores_made objects faulty x i ∙ made_taken w held.made i) ∙ l.unmade)
 
     -- taking the chosen commit fails for a reason, and a fault found so late without rows is that of another parent
-    pub taking_fault : (e : Error) → IsTakingFault objects faulty (record w { ready = rest }) r e → IsFault objects faulty (plan_of w) (IsNextReady objects (plan_of w) w.taken r.id) e × IsLate objects (plan_of w) (IsNextReady objects (plan_of w) w.taken r.id) e
+    pub taking_fault : (e : Error) → IsTakingFault objects faulty (record w { ready = rest }) r e → IsFault objects faulty (plan_of w) (IsNextReady objects (plan_of w) (taken_of w) r.id) e × IsLate objects (plan_of w) (IsNextReady objects (plan_of w) (taken_of w) r.id) e
     taking_fault e (exploring f) = (
-      exploring_fault objects faulty (sorting_of w.ready) w.tips.items w.ends.items (set.contains w.taken) low (λ a. (held.tallied a).counted) (IsNextReady objects (plan_of w) w.taken r.id) e f,
-      late (plan_of w) (IsNextReady objects (plan_of w) w.taken r.id) f.fault.entry.1.id e (λ n. absurd (no_member f.fault.entry (subst (λ queue. Contains queue f.fault.entry) (explores_idle objects faulty f.explored (held.idle n)) f.fault.queued))) (subst (λ x. IsReadFault (objects x) (faulty x) f.fault.entry.1.id e) (explores_same objects faulty f.explored).find f.fault.fault),
+      exploring_fault objects faulty w.ready.sorting w.tips.items w.ends.items (set.contains (taken_of w)) low (λ a. (held.tallied a).counted) (IsNextReady objects (plan_of w) (taken_of w) r.id) e f,
+      late (plan_of w) (IsNextReady objects (plan_of w) (taken_of w) r.id) f.fault.entry.1.id e (λ n. absurd (no_member f.fault.entry (subst (λ queue. Contains queue f.fault.entry) (explores_idle objects faulty f.explored (held.idle n)) f.fault.queued))) (subst (λ x. IsReadFault (objects x) (faulty x) f.fault.entry.1.id e) (explores_same objects faulty f.explored).find f.fault.fault),
     )
     taking_fault e (releasing {explored = explored} x rests f) =
-        among_fails (plan_of w) (IsNextReady objects (plan_of w) w.taken r.id) explored.frontier (last_places named) (last_once named) upcoming (next_ready explored x rests) (plan_taken objects faulty w rest r chosen same explored (explores_same objects faulty x))
+        among_fails (plan_of w) (IsNextReady objects (plan_of w) (taken_of w) r.id) explored.frontier (last_places named) (last_once named) upcoming (next_ready explored x rests) (plan_taken objects faulty w rest r chosen same explored (explores_same objects faulty x))
         (partway_none explored.frontier (last_places named)) (children_left explored x) f
-    taking_fault e (short q) = subst (Fails (plan_of w) (IsNextReady objects (plan_of w) w.taken r.id)) (sym q) (tt, tt)
+    taking_fault e (short q) = subst (Fails (plan_of w) (IsNextReady objects (plan_of w) (taken_of w) r.id)) (sym q) (tt, tt)

@@ -1,5 +1,5 @@
 -- One call of `next`: a commit after the other is taken, until one is shown.
-use Rattle.std.specs.Prelude.{◌≡◌, ◌≤◌, suc, List, Bool, true, false, Option, Some, None, Result, Ok, Err, Contains}
+use Rattle.std.specs.Prelude.{◌≡◌, ◌⊎◌, ◌≤◌, suc, List, [], Bool, true, false, Option, Some, None, Result, Ok, Err, Contains}
 use Rattle.std.proofs.Common.{refl, sym, ap, subst, ⊎_elim, ◌∙◌}
 use Rattle.std.specs.Iterator.{MakesProgress, at_most}
 use Rattle.gix_parts.specs.declared.hash.ObjectId.{ObjectId}
@@ -7,9 +7,8 @@ use Rattle.gix_parts.specs.Object.{Objects}
 use Rattle.gix_traverse.specs.declared.commit.Info.{Info}
 use Rattle.gix_traverse.specs.declared.commit.topo.Error.{Error}
 use Rattle.gix_traverse.specs.declared.commit.topo.walk.Walk.{Walk}
-use Rattle.gix_traverse.specs.declared.commit.topo.ready.ReadySet.{ReadySet}
-use Rattle.gix_traverse.specs.Topo.Inside.ReadySet.{ready_in, sorting_of}
-use Rattle.gix_traverse.specs.Topo.Inside.Releasing.{plan_of, counted_by, walk_of, TakesOne, IsTakingFault}
+use Rattle.gix_traverse.specs.Topo.Inside.ReadySet.{ReadySet}
+use Rattle.gix_traverse.specs.Topo.Inside.Releasing.{plan_of, counted_by, taken_of, walk_of, TakesOne, IsTakingFault}
 use Rattle.gix_traverse.specs.Topo.Laws.{answers_left}
 use Rattle.gix_traverse.specs.Topo.Inside.Steady.{IsHeld, IsOpen, unasked, unasked_of, TakesReady, Turns, ended, given, failed}
 use Rattle.gix_traverse.specs.Topo.Walk.{TopoWalk, Ready, Counted, Chooses, Adds, IsNextReady, IsFault, IsLate, Takes, after, Next}
@@ -23,13 +22,13 @@ use Rattle.gix_traverse.proofs.Topo.Run.Ends.{takes_left, next_left}
 use Rattle.gix_traverse.proofs.Topo.Run.Theorem.{chosen_in}
 
 -- a walk without the commit whose turn it is goes over the same
-pub popped : {F : Type 0} (w : Walk F) (rest : ReadySet) → sorting_of rest ≡ sorting_of w.ready → plan_of (record w { ready = rest }) ≡ plan_of w
+pub popped : {F : Type 0} (w : Walk F) (rest : ReadySet) → rest.sorting ≡ w.ready.sorting → plan_of (record w { ready = rest }) ≡ plan_of w
 popped w rest same = λ k. record { store = w.counting.reader.find; rows = (plan_of w).rows; parents = w.counting.parents; sorting = same k; tips = w.tips.items; ends = w.ends.items }
 
-module _ {F : Type 0} (objects : F → Objects) (faulty : F → ObjectId → Type 0) (w : Walk F) (rest : ReadySet) (same : sorting_of rest ≡ sorting_of w.ready) (r : Ready) (chosen : Chooses (sorting_of w.ready) (ready_in w.ready) r (ready_in rest)) (may : IsOpen objects faulty w) where
+module _ {F : Type 0} (objects : F → Objects) (faulty : F → ObjectId → Type 0) (w : Walk F) (rest : ReadySet) (same : rest.sorting ≡ w.ready.sorting) (r : Ready) (chosen : Chooses w.ready.sorting w.ready.commits r rest.commits) (may : IsOpen objects faulty w) where
   -- where a commit is ready the walk is held
   held : IsHeld objects faulty w
-  held = ⊎_elim (λ e. absurd (no_member r (subst (λ rs. Contains rs r) e (chosen_in (sorting_of w.ready) (ready_in w.ready) r (ready_in rest) chosen)))) (λ h. h) may
+  held = ⊎_elim (λ e. absurd (no_member r (subst (λ rs. Contains rs r) e (chosen_in w.ready.sorting w.ready.commits r rest.commits chosen)))) (λ h. h) may
 
   -- a commit was taken
   pub turned : (added : List Ready) (new : Walk F) → TakesOne objects faulty (record w { ready = rest }) r added new → TakesReady objects faulty w r new × IsHeld objects faulty new
@@ -38,8 +37,21 @@ module _ {F : Type 0} (objects : F → Objects) (faulty : F → ObjectId → Typ
       (takes_on objects faulty w rest same r chosen added new t held (λ sound. (counts_taken objects faulty w rest same r chosen added new t held sound).0) adds, held_on objects faulty w rest same r chosen added new t held (λ sound. (counts_taken objects faulty w rest same r chosen added new t held sound).0) adds)
 
   -- it can't be
-  pub turn_faults : (e : Error) → IsTakingFault objects faulty (record w { ready = rest }) r e → IsFault objects faulty (plan_of w) (IsNextReady objects (plan_of w) w.taken r.id) e × IsLate objects (plan_of w) (IsNextReady objects (plan_of w) w.taken r.id) e
+  pub turn_faults : (e : Error) → IsTakingFault objects faulty (record w { ready = rest }) r e → IsFault objects faulty (plan_of w) (IsNextReady objects (plan_of w) (taken_of w) r.id) e × IsLate objects (plan_of w) (IsNextReady objects (plan_of w) (taken_of w) r.id) e
   turn_faults e f = taking_fault objects faulty w held rest same r chosen e f
+
+module _ {F : Type 0} (objects : F → Objects) (faulty : F → ObjectId → Type 0) where
+  -- where a commit is taken something was ready
+  pub turn_asks : {w new : Walk F} {o : Option (Result Info Error)} {Can : Type 0} → Turns objects faulty w o new → (info : Info) → o ≡ Some (Ok info) → Can ⊎ (w.ready.commits ≡ []) → Can
+  turn_asks (ended n s) info k can = cc
+  turn_asks {w = w} (given {r = r} t is) info k can = ⊎_elim (λ c. c) (λ n. absurd (no_member r (subst (λ rs. Contains rs r) n (chosen_in w.ready.sorting (w.ready.commits) r t.takes.others t.takes.chosen)))) can
+  turn_asks (failed r others c f l s n) info k can = cc
+
+  -- nothing is ready after a fault
+  pub turn_spent : {w new : Walk F} {o : Option (Result Info Error)} → Turns objects faulty w o new → (e : Error) → o ≡ Some (Err e) → new.ready.commits ≡ []
+  turn_spent (ended n s) e k = cc
+  turn_spent (given t is) e k = cc
+  turn_spent (failed r others c f l s n) e k = n
 
 module _ {F P : Type 0} (objects : F → Objects) (faulty : F → ObjectId → Type 0) (answers : P → ObjectId → Bool → P → Type 0) where
   -- what is taken doesn't depend on the predicate
@@ -52,11 +64,11 @@ module _ {F P : Type 0} (objects : F → Objects) (faulty : F → ObjectId → T
     holds = t.holds;
   }
 
-  after_as : (w new : Walk F) (p q : P) (r : Ready) → TakesReady objects faulty w r new → after objects faulty answers (walk_of w p) r (counted_by new.counting) (ready_in new.ready) q ≡ walk_of new q
-  after_as w new p q r t = λ k. record { plan = sym t.plan k; predicate = q; counted = counted_by new.counting; ready = ready_in new.ready; taken = sym t.taken k }
+  after_as : (w new : Walk F) (p q : P) (r : Ready) → TakesReady objects faulty w r new → after objects faulty answers (walk_of w p) r (counted_by new.counting) new.ready.commits q ≡ walk_of new q
+  after_as w new p q r t = λ k. record { plan = sym t.plan k; predicate = q; counted = counted_by new.counting; ready = new.ready.commits; taken = sym t.taken k }
 
-  taken_as : (w new : Walk F) (p : P) (r : Ready) → TakesReady objects faulty w r new → Takes objects faulty answers (walk_of w p) r (counted_by new.counting) (ready_in new.ready)
-  taken_as w new p r t = takes_as w p r (counted_by new.counting) (ready_in new.ready) t.takes
+  taken_as : (w new : Walk F) (p : P) (r : Ready) → TakesReady objects faulty w r new → Takes objects faulty answers (walk_of w p) r (counted_by new.counting) new.ready.commits
+  taken_as w new p r t = takes_as w p r (counted_by new.counting) new.ready.commits t.takes
 
   -- it is shown
   pub turn_given : {w new : Walk F} {o : Option (Result Info Error)} → Turns objects faulty w o new → (info : Info) → o ≡ Some (Ok info) → (p q : P) → answers p info.id true q → Next objects faulty answers (walk_of w p) (Some (Ok info)) (walk_of new q)
@@ -84,7 +96,7 @@ module _ {F P : Type 0} (objects : F → Objects) (faulty : F → ObjectId → T
   turn_failed {w = w} {new = new} (failed r others {e = x} c f l s n) e k p =
       let same : x ≡ e = cc in
       subst (λ y. Next objects faulty answers (walk_of w p) (Some (Err y)) (walk_of new p)) same
-      (subst (λ y. Next objects faulty answers (walk_of w p) (Some (Err x)) y) (λ i. record { plan = sym s i; predicate = p; counted = counted_by new.counting; ready = sym n i; taken = new.taken }) (machine.failed r others c f l))
+      (subst (λ y. Next objects faulty answers (walk_of w p) (Some (Err x)) y) (λ i. record { plan = sym s i; predicate = p; counted = counted_by new.counting; ready = sym n i; taken = taken_of new }) (machine.failed r others c f l))
 
   -- nothing is ready
   pub turn_ended : {w new : Walk F} {o : Option (Result Info Error)} → Turns objects faulty w o new → o ≡ None → (p : P) → Next objects faulty answers (walk_of w p) None (walk_of new p)
@@ -97,7 +109,7 @@ module _ {F P : Type 0} (objects : F → Objects) (faulty : F → ObjectId → T
   pub turn_less : {w new : Walk F} {o : Option (Result Info Error)} → Turns objects faulty w o new → (info : Info) → o ≡ Some (Ok info) → (p q : P) → suc (answers_left objects (walk_of new q)) ≤ answers_left objects (walk_of w p)
   turn_less (ended e s) info k p q = cc
   turn_less {w = w} {new = new} (given {r = r} t is) info k p q =
-      subst (λ x. suc (answers_left objects x) ≤ answers_left objects (walk_of w p)) (after_as w new p q r t) (takes_left objects faulty answers (walk_of w p) r (counted_by new.counting) (ready_in new.ready) q (taken_as w new p r t))
+      subst (λ x. suc (answers_left objects x) ≤ answers_left objects (walk_of w p)) (after_as w new p q r t) (takes_left objects faulty answers (walk_of w p) r (counted_by new.counting) new.ready.commits q (taken_as w new p r t))
   turn_less (failed r others c f l s n) info k p q = cc
 
   -- an answer leaves fewer

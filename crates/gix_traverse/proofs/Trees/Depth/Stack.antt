@@ -61,7 +61,7 @@ first_of i [] k t h e = absurd (omega (arith, h))
 first_of i (u ∷ trees) zero t h e = ap (λ x. is_same i x.oid || is_of i trees) (sym e)
 first_of i (u ∷ trees) (suc k) t h e = first_of i trees k t (omega (arith, h)) e
 
--- a tree is found, or the others tell
+-- a tree that has the id is among the trees from its place on
 pub found_of : (i : ObjectId) (trees : List Tree) (k : ℕ) (t : Tree) → k < length trees → t ≡ get_or trees k t → is_same i t.oid ≡ true → is_of i (drop k trees) ≡ true
 found_of i trees k t h e s = first_of i trees k t h e ∙ ap (λ b. b || is_of i (drop (suc k) trees)) s
 

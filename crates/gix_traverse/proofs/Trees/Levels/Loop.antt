@@ -115,7 +115,7 @@ module _ {V : Type 0} (objects : Objects) (faulty : ObjectId → Type 0) (steps 
             (h.goes_on (level_calls v ++ more) (v ∷ rest) end (script.leaves refl leaves (rw (leaves, append-nil (shows h.place items ++ waiting_tasks h.places)) walk)));
       }
 
-  -- a tree that the walk goes into in its turn
+  -- a tree that the walk will go into
   pub so_far_enters : (mid now : V) {ids : List ObjectId} {items : Items} {waiting : List Waiting} (e : TreeEntry) (a : Action) → LevelSoFar mid ids (Ok e ∷ items) waiting → outcome (visit_below ids e a) ≡ Enters → Run steps mid (level_calls (visit_below ids e a)) now → LevelSoFar now ids items (waiting ++ (e.id, e.id ∷ ids) ∷ [])
   so_far_enters mid now {ids = ids} {items = items} e a h o run =
       let v = visit h.place e a in

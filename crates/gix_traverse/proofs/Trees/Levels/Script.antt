@@ -121,7 +121,7 @@ module _ (trees : ObjectId → Option Items) where
   shown_of_visit p e Cycles = refl
   shown_of_visit p e Breaks = refl
 
-  -- of the entries named by the visits so far, as many as were visited are passed by, and the others are in the queue
+  -- of the entries that the visits up to now name, as many as were visited are passed by, and the others are in the queue
   record Seen (p : Place) (root : List TreeEntry) (done : List Visit) (tasks : List Task) : Type 0 where
     passed : List (Place × TreeEntry)
     many : length passed ≡ length done

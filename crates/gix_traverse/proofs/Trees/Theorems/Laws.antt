@@ -22,7 +22,7 @@ use Rattle.gix_traverse.specs.Orders.Preorder as order
 use Rattle.gix_traverse.specs.Orders.Preorder.{IsPreorder, IsPreorderBeginning}
 use Rattle.gix_traverse.specs.Trees.Tracked.{Tracked, Tracks, fresh_recorder}
 use Rattle.gix_traverse.specs.Trees.Recorder.{Record, Recorded, fresh, recorded_all, record_of, IsRecorderAnswer, Records}
-use Rattle.gix_traverse.specs.Trees.Walk.{trees_of, LookUpFails, level_answer, depth_answer, BreadthFirst, DepthFirst}
+use Rattle.gix_traverse.specs.Trees.Walk.{trees_of, LookUpFails, LookUpFailed, level_answer, depth_answer, BreadthFirst, DepthFirst}
 use Rattle.gix_traverse.specs.Trees.Laws.{LevelsAreRecorded, DepthIsRecorded, BothRecordTheSame, LevelsAreInOrder, DepthIsInOrder, LevelsBeginInOrder, DepthBeginsInOrder, MetLevelsSucceed, MetDepthSucceeds, SoundLevelsSucceed, SoundDepthSucceeds, LevelsEndAtBreak, DepthEndsAtBreak, OkWithoutBreak}
 use Rattle.gix_traverse.proofs.Trees.Levels.Script.{level_order, level_beginning}
 use Rattle.gix_traverse.proofs.Trees.Depth.Script.{preorder, preorder_beginning}
@@ -46,7 +46,8 @@ of_answer : (t : Bool) (e : TreeEntry) (a : Action) → IsRecorderAnswer (visit_
 of_answer true e a h = h
 of_answer false e a h = h
 
-go_on : (visits : List Visit) → AllByRecursion (λ v. IsRecorderAnswer (visit_call v)) visits → GoOn visits
+-- a recorder answers each visit to go on
+pub go_on : (visits : List Visit) → AllByRecursion (λ v. IsRecorderAnswer (visit_call v)) visits → GoOn visits
 go_on [] h = tt
 go_on (v ∷ visits) h = (of_answer (is_tree v.entry.mode) v.entry v.answer h.0, go_on visits h.1)
 
@@ -61,7 +62,7 @@ level_ok Whole e = refl
 level_ok Broken e = cc
 level_ok (Failed why) e = cc
 
-depth_ok : (end : Ending) → Ok tt ≡ depth_answer end → IsUnfailed end
+pub depth_ok : (end : Ending) → Ok tt ≡ depth_answer end → IsUnfailed end
 depth_ok Whole e = tt
 depth_ok Broken e = tt
 depth_ok (Failed why) e = cc
@@ -155,6 +156,12 @@ module _ (objects : Objects) (faulty : ObjectId → Type 0) where
   pub both_record_the_same : BothRecordTheSame objects faulty
   both_record_the_same root items first second levels depth is names = both_recorded objects faulty root items first.held second.held (held_levels {old = fresh_recorder} {new = first} refl levels) (held_depth {old = fresh_recorder} {new = second} refl depth) is names
 
+-- a walk hasn't failed where each fault that could end it is refuted
+unless_failed : (end : Ending) → ((why : Error) → end ≡ Failed why → IsUnfailed end) → IsUnfailed end
+unless_failed Broken h = tt
+unless_failed Whole h = tt
+unless_failed (Failed why) h = h why refl
+
 module _ {V : Type 0} (objects : Objects) (faulty : ObjectId → Type 0) (steps : V → Call → V → Type 0) where
   pub levels_are_in_order : LevelsAreInOrder objects faulty steps
   levels_are_in_order root old new answer walk w = level_order (trees_of objects) (LookUpFails objects faulty) unknown_root root walk.script w
@@ -179,34 +186,24 @@ module _ {V : Type 0} (objects : Objects) (faulty : ObjectId → Type 0) (steps 
   depth_begins_in_order root old new answer walk = depth_begins root walk.script
 
   pub met_levels_succeed : MetLevelsSucceed objects faulty steps
-  met_levels_succeed root old new answer walk whole enter ne = go walk.end refl
-    where
-      go : (end : Ending) → walk.end ≡ end → IsUnfailed walk.end
-      go Broken is = subst (λ l. IsUnfailed l) (sym is) tt
-      go Whole is = subst (λ l. IsUnfailed l) (sym is) tt
-      go (Failed why) is =
-          let none = none_breaks (trees_of objects) (LookUpFails objects faulty) walk.script (λ e. cc) in
-          met_level_script (trees_of objects) (LookUpFails objects faulty) root walk.script (whole none) (enter none) (level_memory answer walk.end walk.answered ne)
+  met_levels_succeed root old new answer walk whole enter ne = unless_failed walk.end (λ why is.
+      let none = none_breaks (trees_of objects) (LookUpFails objects faulty) walk.script (λ e. cc) in
+      met_level_script (trees_of objects) (LookUpFails objects faulty) (LookUpFailed objects faulty answer) root walk.script (whole none) (enter none) (level_memory answer walk.end walk.answered ne, λ i e f s. (f, walk.answered ∙ ap level_answer s)))
 
   pub met_depth_succeeds : MetDepthSucceeds objects faulty steps
-  met_depth_succeeds root old new answer walk whole enter ne = go walk.end refl
-    where
-      go : (end : Ending) → walk.end ≡ end → IsUnfailed walk.end
-      go Broken is = subst (λ l. IsUnfailed l) (sym is) tt
-      go Whole is = subst (λ l. IsUnfailed l) (sym is) tt
-      go (Failed why) is =
-          let none = root_none_breaks (trees_of objects) (LookUpFails objects faulty) walk.script (λ e. cc) in
-          met_depth_script (trees_of objects) (LookUpFails objects faulty) root walk.script (whole none) (enter none) (depth_memory answer walk.end walk.answered ne)
+  met_depth_succeeds root old new answer walk whole enter ne = unless_failed walk.end (λ why is.
+      let none = root_none_breaks (trees_of objects) (LookUpFails objects faulty) walk.script (λ e. cc) in
+      met_depth_script (trees_of objects) (LookUpFails objects faulty) (LookUpFailed objects faulty answer) root walk.script (whole none) (enter none) (depth_memory answer walk.end walk.answered ne, λ i e f s. (f, walk.answered ∙ ap depth_answer s)))
 
   pub sound_levels_succeed : SoundLevelsSucceed objects faulty steps
   sound_levels_succeed root old new answer walk into goes w sound ne =
       met_levels_succeed root old new answer walk (λ none. w)
-      (λ none. sound_level_visits (trees_of objects) (LookUpFails objects faulty) into root sound walk.script (run_only steps into old walk.calls new goes walk.run)) ne
+      (λ none. sound_level_visits (trees_of objects) (LookUpFails objects faulty) (LookUpFailed objects faulty answer) into root sound walk.script (run_only steps into old walk.calls new goes walk.run)) ne
 
   pub sound_depth_succeeds : SoundDepthSucceeds objects faulty steps
   sound_depth_succeeds root old new answer walk into goes sound ne =
       met_depth_succeeds root old new answer walk (λ none. sound.whole root (reach.start (0, omega arith, refl)))
-      (λ none. sound_depth_visits (trees_of objects) (LookUpFails objects faulty) into root sound walk.script (run_only steps into old walk.calls new goes walk.run)) ne
+      (λ none. sound_depth_visits (trees_of objects) (LookUpFails objects faulty) (LookUpFailed objects faulty answer) into root sound walk.script (run_only steps into old walk.calls new goes walk.run)) ne
 
   pub levels_end_at_break : LevelsEndAtBreak objects faulty steps
   levels_end_at_break root old new answer walk h =

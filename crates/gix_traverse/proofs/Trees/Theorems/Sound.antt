@@ -54,7 +54,7 @@ call_of false e a t is = cc
 goes_into : (into : TreeEntry → Bool) (v : Visit) → IsOnlyInto into (visit_call v) → GoesIn v → into v.entry ≡ true
 goes_into into v h g = h.only v.entry (call_of (is_tree v.entry.mode) v.entry v.answer g.0 g.1)
 
-module _ (trees : ObjectId → Option Items) (fails : ObjectId → ExistingError → Type 0) (into : TreeEntry → Bool) where
+module _ (trees : ObjectId → Option Items) (fails misses : ObjectId → ExistingError → Type 0) (into : TreeEntry → Bool) where
   -- a tree among entries is among their subtrees
   record IsHeld (es : List TreeEntry) (e : TreeEntry) : Type 0 where
     held : into e && is_tree e.mode ≡ true → Contains (subtrees into es) e.id
@@ -131,7 +131,7 @@ module _ (trees : ObjectId → Option Items) (fails : ObjectId → ExistingError
     fine_inside p e h t = fine_entries p e (entries_at trees e.id) h t (all_held (entries_at trees e.id))
 
     -- a visit that goes in finds a whole tree, which isn't above it
-    enters_whole : (p : Place) (e : TreeEntry) (a : Action) → AreSound trees fails into starts → Fine starts p e → IsOnlyInto into (visit_call (visit p e a)) → GoesIn (visit p e a) → EntersWhole trees fails (visit p e a)
+    enters_whole : (p : Place) (e : TreeEntry) (a : Action) → AreSound trees misses into starts → Fine starts p e → IsOnlyInto into (visit_call (visit p e a)) → GoesIn (visit p e a) → EntersWhole trees misses (visit p e a)
     enters_whole p e a sound h only g =
         let t = both_true (into e) (is_tree e.mode) (goes_into into (visit p e a) only g) g.0 in
         record { whole = sound.whole e.id (h.met t); free = go (is_among e.id p.ids) refl t }
@@ -150,13 +150,13 @@ module _ (trees : ObjectId → Option Items) (fails : ObjectId → ExistingError
 
     -- IN DEPTH
 
-    sound_depth : {p : Place} {items : Items} {calls : List Call} {visits : List Visit} {end : Ending} → AreSound trees fails into starts → DepthScript trees fails p items calls visits end → AllFine p (entries_in items) → AllOnly visits → AllEnterWhole trees fails visits
+    sound_depth : {p : Place} {items : Items} {calls : List Call} {visits : List Visit} {end : Ending} → AreSound trees misses into starts → DepthScript trees fails p items calls visits end → AllFine p (entries_in items) → AllOnly visits → AllEnterWhole trees misses visits
     unfolding AllFine
     sound_depth sound script.whole h only = tt
     sound_depth sound (script.leaves {p = p} {e = e} {a = a} o rest) h only = (enters_whole p e a sound h.0 only.0, sound_depth sound rest h.1 only.1)
     sound_depth sound (script.enters {p = p} {e = e} {a = a} {visits = visits} {others = others} o is sub rest) h only = (
       enters_whole p e a sound h.0 only.0,
-      all_both (λ v. GoesIn v → EntersWhole trees fails v) visits others
+      all_both (λ v. GoesIn v → EntersWhole trees misses v) visits others
           (sound_depth sound sub (subst (λ l. AllFine (inside p e) (entries_in (items_or_none l))) is (fine_entered p e a h.0 only.0 o)) (all_left (λ v. IsOnlyInto into (visit_call v)) visits others only.1))
           (sound_depth sound rest h.1 (all_right (λ v. IsOnlyInto into (visit_call v)) visits others only.1)),
     )
@@ -194,7 +194,7 @@ module _ (trees : ObjectId → Option Items) (fails : ObjectId → ExistingError
     fine_front : (tasks : List Task) (t : Task) → first_task tasks ≡ Some t → FineTasks tasks → FineTasks (t ∷ other_tasks tasks)
     fine_front tasks t e h = subst (λ l. FineTasks l) (split_front tasks t e) h
 
-    sound_levels : {tasks : List Task} {calls : List Call} {visits : List Visit} {end : Ending} → AreSound trees fails into starts → LevelFrom trees fails tasks calls visits end → FineTasks tasks → AllOnly visits → AllEnterWhole trees fails visits
+    sound_levels : {tasks : List Task} {calls : List Call} {visits : List Visit} {end : Ending} → AreSound trees misses into starts → LevelFrom trees fails tasks calls visits end → FineTasks tasks → AllOnly visits → AllEnterWhole trees misses visits
     sound_levels sound (script.whole e) h only = tt
     sound_levels sound (script.leaves {s = s} {p = p} {e = e} {a = a} is o rest) h only =
         let g = fine_front s (Show p e) is h in
@@ -214,14 +214,14 @@ module _ (trees : ObjectId → Option Items) (fails : ObjectId → ExistingError
 
   -- OF A ROOT
 
-  pub sound_level_visits : (root : Items) {calls : List Call} {visits : List Visit} {end : Ending} → AreSound trees fails into (subtrees into (entries_in root)) → IsLevelScript trees fails unknown_root root calls visits end → AllByRecursion (IsOnlyInto into) calls → AllEnterWhole trees fails visits
+  pub sound_level_visits : (root : Items) {calls : List Call} {visits : List Visit} {end : Ending} → AreSound trees misses into (subtrees into (entries_in root)) → IsLevelScript trees fails unknown_root root calls visits end → AllByRecursion (IsOnlyInto into) calls → AllEnterWhole trees misses visits
   unfolding AllFine
   sound_level_visits root sound walk only =
       sound_levels (subtrees into (entries_in root)) sound (level_queue trees fails unknown_root root walk)
       (fine_shows (subtrees into (entries_in root)) unknown_root root (root_fine (entries_in root) (entries_in root) (all_held (entries_in root))))
       (level_called trees fails (IsOnlyInto into) walk only)
 
-  pub sound_depth_visits : (root : ObjectId) {calls : List Call} {visits : List Visit} {end : Ending} → AreSound trees fails into (root ∷ []) → IsDepthScript trees fails root calls visits end → AllByRecursion (IsOnlyInto into) calls → AllEnterWhole trees fails visits
+  pub sound_depth_visits : (root : ObjectId) {calls : List Call} {visits : List Visit} {end : Ending} → AreSound trees misses into (root ∷ []) → IsDepthScript trees fails root calls visits end → AllByRecursion (IsOnlyInto into) calls → AllEnterWhole trees misses visits
   unfolding AllFine
   sound_depth_visits root sound (script.found {items = items} is walk) only =
       sound_depth (root ∷ []) sound walk

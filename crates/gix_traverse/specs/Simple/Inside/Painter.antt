@@ -1,7 +1,7 @@
 -- What a painting holds while it goes on, and what its steps do.
 use Rattle.std.specs.Borrow.{Bor}
 use Rattle.std.specs.Int.Bits.{bit_and}
-use Rattle.std.specs.Prelude.{◌≡◌, ◌≢◌, ◌⊎◌, ◌+◌, ◌≤◌, ◌==◌, ℕ, List, [], ◌∷◌, length, Bool, true, false, cond, is_some, Option, Some, None, Contains, IsSome, IsPermutation}
+use Rattle.std.specs.Prelude.{◌≡◌, ◌≢◌, ◌⊎◌, ◌+◌, ◌≤◌, ◌==◌, ℕ, List, [], ◌∷◌, length, Bool, true, false, cond, if◌then◌else◌, is_some, Option, Some, None, Contains, IsSome, IsPermutation}
 use Rattle.std.specs.Option.{option_map}
 use Rattle.std.specs.BinaryHeap.{IsUpperBound}
 use Rattle.std.specs.declared.cmp.Ordering.{Ordering}
@@ -23,23 +23,24 @@ use Rattle.gix_traverse.specs.declared.commit.simple.paint.source.Generation.{Ge
 use Rattle.gix_traverse.specs.declared.commit.simple.paint.source.Generation.TheVariants.{Told, Infinite}
 use Rattle.gix_traverse.specs.declared.commit.simple.paint.source.Key.{Key}
 use Rattle.gix_traverse.specs.declared.commit.simple.paint.source.Known.{Known}
+use Rattle.gix_traverse.specs.declared.commit.simple.paint.source.Source.{Source}
 use Rattle.gix_traverse.specs.declared.commit.simple.paint.Entry.{Entry}
 use Rattle.gix_traverse.specs.declared.commit.simple.paint.Painter.{Painter}
+pub use Rattle.gix_traverse.specs.History.Agreeing.{rows_in}
 use Rattle.gix_traverse.specs.History.Commits.{commit_at, time_of}
 use Rattle.gix_traverse.specs.Simple.Painting.{IsFaultAt}
 use Rattle.gix_traverse.specs.Simple.Laws.{new_ids}
-use Rattle.gix_traverse.specs.Simple.Walk.{ids_at}
+use Rattle.gix_traverse.specs.Simple.Walk.{IsUnrowed, ids_at}
 
--- the rows, while they stand
-abbrev pub rows_in : Option (Bor (List GraphRow)) → List GraphRow
-rows_in None = []
-rows_in (Some graph) = graph.now
+-- the rows, while they are in use
+abbrev pub held_graph : {F : Type 0} → Source F → Option (Bor (List GraphRow))
+held_graph source = if source.held then source.graph else None
 
 -- the marks of all ids that were met
 abbrev pub AllMarks : Type 0
 AllMarks = map_of.FinMap id_cmp Marks
 
--- whether the second bit, which stands for hidden tips, is set
+-- whether the second bit, which is the mark of hidden tips, is set
 abbrev pub hides : Option Marks → Bool
 hides None = false
 hides (Some marks) = bit_and marks.0 2 == 2
@@ -81,15 +82,11 @@ FailsAt objects faulty i why = why ≢ hidden_by.Find existing.Memory → IsFaul
 abbrev pub FailsAmong : Objects → (ObjectId → Type 0) → List GraphRow → List ObjectId → Hidden → Type 0
 FailsAmong objects faulty rows ids why = why ≢ hidden_by.Find existing.Memory → (i : ObjectId) × Contains ids i × (row_of rows i ≡ None) × IsFaultAt objects faulty i why
 
--- an id has no row, or a corrupt one
-abbrev pub IsUntold : List GraphRow → ObjectId → Type 0
-IsUntold rows i = (row : GraphRow) → row_of rows i ≡ Some row → ids_at rows row.parents ≡ None
-
 -- out of memory, or an id can't be read that has no row or a corrupt one
 abbrev pub ReadFails : Objects → (ObjectId → Type 0) → List GraphRow → ObjectId → Hidden → Type 0
-ReadFails objects faulty rows i why = why ≢ hidden_by.Find existing.Memory → IsUntold rows i × IsFaultAt objects faulty i why
+ReadFails objects faulty rows i why = why ≢ hidden_by.Find existing.Memory → IsUnrowed rows i × IsFaultAt objects faulty i why
 
--- the parents by the row, or else from the store, and the rows that stand then
+-- the parents by the row, or else from the store, and the rows that are in use then
 pub data ReadsParents (objects : Objects) (old : Option (Bor (List GraphRow))) (i : ObjectId) (ids : List ObjectId) : Option (Bor (List GraphRow)) → Type 0 where
   by_row : {row : GraphRow} → row_of (rows_in old) i ≡ Some row → ids_at (rows_in old) row.parents ≡ Some ids → ReadsParents objects old i ids old
   by_store : row_of (rows_in old) i ≡ None → Reads objects i ids → ReadsParents objects old i ids old
@@ -121,22 +118,22 @@ IsWaiting p side i = (q : Key × Entry) × Contains p.queue q × (q.1.side ≡ s
 -- an id is put into the queue
 pub record Queues {F : Type 0} (objects : F → Objects) (old : Painter F) (i : ObjectId) (side : Side) (new : Painter F) : Type 0 where
   pub objects_stay : new.source.objects ≡ old.source.objects
-  pub graph_stays : new.source.graph ≡ old.source.graph
+  pub graph_stays : held_graph new.source ≡ held_graph old.source
   pub marks_stay : new.marks ≡ old.marks
   pub frontier_stays : new.frontier ≡ old.frontier
   pub entry : Key × Entry
   pub of_id : entry.1.id ≡ i
   pub of_side : entry.1.side ≡ side
-  pub known : IsQueued (objects old.source.objects.now) (rows_in old.source.graph) entry
+  pub known : IsQueued (objects old.source.objects.now) (rows_in (held_graph old.source)) entry
   pub queue : IsPermutation (entry ∷ old.queue) new.queue
 
 -- some ids are met on a side
 pub record Meets {F : Type 0} (objects : F → Objects) (side : Side) (ids : List ObjectId) (old new : Painter F) : Type 0 where
   pub objects_stay : new.source.objects ≡ old.source.objects
-  pub graph_stays : new.source.graph ≡ old.source.graph
+  pub graph_stays : held_graph new.source ≡ held_graph old.source
   pub states : (i : ObjectId) → Becomes side (Contains ids i) (IsWaiting new side i) (state_of old i) (state_of new i)
   pub keeps : (q : Key × Entry) → Contains old.queue q → Contains new.queue q
-  pub adds : (q : Key × Entry) → Contains new.queue q → Contains old.queue q ⊎ (Contains ids q.1.id × (q.1.side ≡ side) × IsQueued (objects old.source.objects.now) (rows_in old.source.graph) q)
+  pub adds : (q : Key × Entry) → Contains new.queue q → Contains old.queue q ⊎ (Contains ids q.1.id × (q.1.side ≡ side) × IsQueued (objects old.source.objects.now) (rows_in (held_graph old.source)) q)
   pub tidies : IsTidy old → IsTidy new
   pub spends : (named : List ObjectId) → ((i : ObjectId) → Contains ids i → is_among i named ≡ true) → room named new ≤ room named old
 
@@ -145,7 +142,7 @@ pub data GivesParents (objects : Objects) (old : Option (Bor (List GraphRow))) (
   brought : option_map (λ ids. ids.items) entry.parent_ids ≡ Some ids → GivesParents objects old entry ids old
   looked_up : {new : Option (Bor (List GraphRow))} → entry.parent_ids ≡ None → ReadsParents objects old entry.id ids new → GivesParents objects old entry ids new
 
--- an entry that has its turn waits no more
+-- an entry that was taken from the queue waits no more
 abbrev pub frontier_without : Side → set.FinSet id_cmp → ObjectId → set.FinSet id_cmp
 frontier_without side.Visible frontier i = set.remove frontier i
 frontier_without side.Hidden frontier i = frontier
@@ -155,7 +152,7 @@ abbrev pub is_turn_on : Side → set.FinSet id_cmp → ObjectId → Bool
 is_turn_on side.Visible frontier i = set.contains frontier i
 is_turn_on side.Hidden frontier i = true
 
--- an entry that was taken from the queue has its turn, which may drop the rows
+-- an entry that was taken from the queue is treated, which may drop the rows
 pub record Takes {F : Type 0} (old : Painter F) (entry : Entry) (new : Painter F) : Type 0 where
   pub objects_stay : new.source.objects ≡ old.source.objects
   pub marks_stay : new.marks ≡ old.marks
@@ -167,13 +164,13 @@ is_turn entry frontier = is_turn_on entry.side frontier entry.id
 
 -- the entry is left to the hidden side, or its parents are read and met
 pub data TreatsEntry {F : Type 0} (objects : F → Objects) (old : Painter F) (entry : Entry) : Painter F → Type 0 where
-  skips : {new : Painter F} → is_turn entry old.frontier ≡ false → Takes old entry new → new.source.graph ≡ old.source.graph → TreatsEntry objects old entry new
-  reads : {mid new : Painter F} {ids : List ObjectId} → is_turn entry old.frontier ≡ true → Takes old entry mid → GivesParents (objects old.source.objects.now) old.source.graph entry ids mid.source.graph → Meets objects entry.side ids mid new → TreatsEntry objects old entry new
+  skips : {new : Painter F} → is_turn entry old.frontier ≡ false → Takes old entry new → held_graph new.source ≡ held_graph old.source → TreatsEntry objects old entry new
+  reads : {mid new : Painter F} {ids : List ObjectId} → is_turn entry old.frontier ≡ true → Takes old entry mid → GivesParents (objects old.source.objects.now) (held_graph old.source) entry ids (held_graph mid.source) → Meets objects entry.side ids mid new → TreatsEntry objects old entry new
 
 -- the entry's own commit, which has no row or a corrupt one, or one of its parents, which has no row then
 abbrev pub IsReadFor : Objects → Option (Bor (List GraphRow)) → Entry → ObjectId → Type 0
 IsReadFor objects old entry i =
-    ((i ≡ entry.id) × IsUntold (rows_in old) i) ⊎ ((ids : List ObjectId) × (new : Option (Bor (List GraphRow))) × GivesParents objects old entry ids new × Contains ids i × (row_of (rows_in new) i ≡ None))
+    ((i ≡ entry.id) × IsUnrowed (rows_in old) i) ⊎ ((ids : List ObjectId) × (new : Option (Bor (List GraphRow))) × GivesParents objects old entry ids new × Contains ids i × (row_of (rows_in new) i ≡ None))
 
 -- out of memory, or one of those can't be read
 abbrev pub TreatFails : Objects → (ObjectId → Type 0) → Option (Bor (List GraphRow)) → Entry → Hidden → Type 0
@@ -183,9 +180,9 @@ abbrev pub is_told : Generation → Bool
 is_told (Told n) = true
 is_told Infinite = false
 
--- nothing is queued, or while the rows stand, all that is queued is hidden and has a row
+-- nothing is queued; or the rows are in use, and all that is queued is hidden and has a row
 abbrev pub IsSettled : {F : Type 0} → Painter F → Type 0
-IsSettled p = (p.queue ≡ []) ⊎ (IsSome p.source.graph × (set.len p.frontier ≡ 0) × ((q : Key × Entry) → Contains p.queue q → is_told q.0.generation ≡ true))
+IsSettled p = (p.queue ≡ []) ⊎ (IsSome (held_graph p.source) × (set.len p.frontier ≡ 0) × ((q : Key × Entry) → Contains p.queue q → is_told q.0.generation ≡ true))
 
 -- the next entry is taken from the queue
 pub record Pops {F : Type 0} (cmp : Key → Key → Ordering) (old : Painter F) (top : Key × Entry) (new : Painter F) : Type 0 where

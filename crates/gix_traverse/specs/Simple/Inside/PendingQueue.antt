@@ -8,7 +8,17 @@ use Rattle.gix_traverse.specs.declared.commit.simple.pending.Held.{Held}
 use Rattle.gix_traverse.specs.declared.commit.simple.pending.Held.TheVariants.{Listed, ByTime}
 use Rattle.gix_traverse.specs.Orders.TimeOrder.{IsNoWorse}
 
--- the commits, whichever way they are held
+-- The pending commits, and the order by time in which they are held, if there is one. Without one they are in the order in which they
+-- became pending.
+pub record Queued : Type 0 where
+  pub order : Option CommitTimeOrder
+  pub items : List Pending
+
+abbrev pub held_order : Held → Option CommitTimeOrder
+held_order (Listed list) = None
+held_order (ByTime order queue) = Some order
+
+-- the commits, in either form
 abbrev pub held_items : Held → List Pending
 held_items (Listed list) = list.items
 held_items (ByTime order queue) = values queue
@@ -18,7 +28,7 @@ abbrev pub time_key : CommitTimeOrder → ℤ → ℤ
 time_key NewestFirst time = time
 time_key OldestFirst time = neg_ℤ (pos 1) -ℤ time
 
--- each commit stands under the key of its time
+-- each commit is under the key of its time
 abbrev pub AreKeyed : CommitTimeOrder → List (ℤ × Pending) → Type 0
 AreKeyed order pairs = All (λ pair. pair.0 ≡ time_key order pair.1.time) pairs
 

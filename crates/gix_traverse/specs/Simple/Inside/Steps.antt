@@ -1,20 +1,18 @@
 -- What the parts of one step of a simple walk do.
-use Rattle.std.specs.Prelude.{◌≡◌, ◌≢◌, ◌⊎◌, ℤ, List, [], Bool, true, false, Option, Some, None, Result, Ok, Err}
+use Rattle.std.specs.Prelude.{◌≡◌, ◌≢◌, ◌⊎◌, ℤ, List, [], Bool, true, false, Result, Ok, Err}
 use Rattle.std.specs.FinSet as set
 use Rattle.gix_parts.specs.declared.hash.ObjectId.{ObjectId}
 use Rattle.gix_parts.specs.Object.{Objects}
-use Rattle.gix_parts.specs.Rows.{GraphRow, row_of}
+use Rattle.gix_parts.specs.Rows.{GraphRow}
 pub use Rattle.gix_traverse.specs.History.Agreeing.{rows_of}
-use Rattle.gix_traverse.specs.declared.commit.simple.step.RowParents.{RowParents}
 use Rattle.gix_traverse.specs.declared.commit.simple.step.Stop.{Stop}
 use Rattle.gix_traverse.specs.declared.commit.simple.step.Stop.TheVariants as stop
 use Rattle.gix_traverse.specs.declared.commit.simple.Error.{Error}
 use Rattle.gix_traverse.specs.declared.commit.simple.Error.TheVariants as error
 use Rattle.gix_traverse.specs.declared.commit.simple.Hidden.{Hidden}
 use Rattle.gix_parts.specs.Id.{id_cmp}
-use Rattle.gix_traverse.specs.History.Commits.{by_mode}
 use Rattle.gix_traverse.specs.Simple.Painting.{Paints, IsHiddenFault}
-use Rattle.gix_traverse.specs.Simple.Walk.{SimpleWalk, StoreFails, IsNew, IsUnrowed, ReadsTime, ids_at, ids_of, unrowed, painted}
+use Rattle.gix_traverse.specs.Simple.Walk.{SimpleWalk, StoreFails, IsNew, ReadsTime, ids_of, painted}
 
 module _ {F P : Type 0} (objects : F → Objects) (faulty : F → ObjectId → Type 0) (answers : P → ObjectId → Bool → P → Type 0) where
   -- an id is named: a new one is seen from now on
@@ -28,21 +26,6 @@ module _ {F P : Type 0} (objects : F → Objects) (faulty : F → ObjectId → T
   TimeIs old by_row i (Ok time) = ReadsTime objects faulty answers old by_row i (Ok time)
   TimeIs old by_row i (Err stop.Store) = ReadsTime objects faulty answers old by_row i (Err StoreFails)
   TimeIs old by_row i (Err stop.Memory) = Unit {0}
-
--- what a sound row says of its commit
-pub record RowSays {F P : Type 0} (old : SimpleWalk F P) (i : ObjectId) (says : RowParents) : Type 0 where
-  pub row : GraphRow
-  pub ids : List ObjectId
-  pub there : row_of old.rows i ≡ Some row
-  pub sound : ids_at old.rows row.parents ≡ Some ids
-  pub parents : says.parent_ids.items ≡ by_mode old.parents ids
-  pub generation : says.generation ≡ row.generation
-
--- the row of an id is read; a corrupt one drops the rows
-abbrev pub ReadsRow : {F P E : Type 0} → SimpleWalk F P → ObjectId → Result (Option RowParents) E → SimpleWalk F P → Type 0
-ReadsRow old i (Ok (Some says)) new = RowSays old i says × (new ≡ old)
-ReadsRow old i (Ok None) new = IsUnrowed old.rows i × (new ≡ unrowed old i) × (row_of new.rows i ≡ None)
-ReadsRow old i (Err e) new = new ≡ old
 
 -- what is left where painting failed
 abbrev pub unpainted : {F P : Type 0} → SimpleWalk F P → SimpleWalk F P

@@ -1,4 +1,4 @@
--- What is known of an id, and the marks that tell it.
+-- What is known of an id, and the marks that say it.
 use Rattle.std.specs.Prelude.{ℕ, ◌==◌, Bool, cond}
 use Rattle.std.specs.Int.Bits.{bit_and}
 use Rattle.gix_traverse.specs.declared.commit.topo.frontier.Side.{Side}

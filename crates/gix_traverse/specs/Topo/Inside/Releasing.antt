@@ -1,38 +1,52 @@
 -- How the parents of a taken commit become ready.
-use Rattle.std.specs.Prelude.{◌≡◌, ◌⊎◌, ◌+◌, ℕ, List, [], ◌∷◌, ◌++◌, Bool, true, false, Ok, Contains}
+use Rattle.std.specs.Prelude.{◌≡◌, ◌⊎◌, ◌+◌, ℕ, List, [], ◌∷◌, ◌++◌, Bool, true, false, not, ◌&&◌, Ok, Contains}
 use Rattle.std.specs.FinSet as set
+use Rattle.std.specs.FinMap as map_of
 use Rattle.gix_parts.specs.declared.hash.ObjectId.{ObjectId}
+use Rattle.gix_parts.specs.Id.{id_cmp, is_among}
 use Rattle.gix_parts.specs.Object.{Objects}
 use Rattle.gix_parts.specs.Rows.{GraphRow}
 use Rattle.gix_traverse.specs.declared.commit.Info.{Info}
 use Rattle.gix_traverse.specs.declared.commit.topo.Error.{Error}
 use Rattle.gix_traverse.specs.declared.commit.topo.Error.TheVariants as error
 use Rattle.gix_traverse.specs.declared.commit.topo.frontier.Frontier.{Frontier}
+use Rattle.gix_traverse.specs.declared.commit.Parents.{Parents}
+use Rattle.gix_traverse.specs.declared.commit.topo.reader.Reader.{Reader}
 use Rattle.gix_traverse.specs.declared.commit.topo.counting.Counting.{Counting}
 use Rattle.gix_traverse.specs.declared.commit.topo.walk.Walk.{Walk}
 use Rattle.gix_traverse.specs.Topo.Depth.{least}
 use Rattle.gix_traverse.specs.Topo.Inside.Exploring.{Explores, IsRested, IsExploringFault}
 use Rattle.gix_traverse.specs.History.Commits.{by_mode}
 use Rattle.gix_traverse.specs.Orders.TopoOrder.{last_places}
+use Rattle.gix_traverse.specs.Topo.Inside.Known.{Known}
 use Rattle.gix_traverse.specs.Topo.Inside.Frontier.{IsDone, known_of, is_due, Makes, Uncounts}
-use Rattle.gix_traverse.specs.Topo.Inside.ReadySet.{ready_in, sorting_of}
 use Rattle.gix_traverse.specs.History.Reading.{rows_of, Reads, IsReadFault}
 use Rattle.gix_traverse.specs.declared.commit.topo.Sorting.{Sorting}
-use Rattle.gix_traverse.specs.Topo.Walk.{TopoPlan, TopoWalk, Counted, Ready, IsKnown, IsOfInfo, HoldsReady}
+use Rattle.gix_traverse.specs.Topo.Walk.{TopoPlan, TopoWalk, Counted, Ready, ready_ids, IsKnown, IsOfInfo, HoldsReady}
 
--- what searches go over
+-- what a walk over a reader goes over
+abbrev pub plan_over : {F : Type 0} → Reader F → Parents → Sorting → List ObjectId → List ObjectId → TopoPlan F
+plan_over reader parents sorting tips ends = record { store = reader.find; rows = rows_of reader.graph; parents = parents; sorting = sorting; tips = tips; ends = ends }
+
 abbrev pub plan_by : {F : Type 0} → Counting F → Sorting → List ObjectId → List ObjectId → TopoPlan F
-plan_by c sorting tips ends = record { store = c.reader.find; rows = rows_of c.reader.graph; parents = c.parents; sorting = sorting; tips = tips; ends = ends }
+plan_by c sorting tips ends = plan_over c.reader c.parents sorting tips ends
 
 abbrev pub plan_of : {F : Type 0} → Walk F → TopoPlan F
-plan_of w = plan_by w.counting (sorting_of w.ready) w.tips.items w.ends.items
+plan_of w = plan_by w.counting w.ready.sorting w.tips.items w.ends.items
 
 abbrev pub counted_by : {F : Type 0} → Counting F → Counted
 counted_by c = record { standing = c.reader.standing; depth = c.depth; expanded = c.expanded }
 
+-- the taken commits: those that were ready once, and aren't now
+unfoldable pub taken_in : map_of.FinMap id_cmp Known → List Ready → set.FinSet id_cmp
+taken_in known ready = set.retain (set.from_list (map_of.keys known)) (λ i. (known_of known i).made && not (is_among i (ready_ids ready)))
+
+abbrev pub taken_of : {F : Type 0} → Walk F → set.FinSet id_cmp
+taken_of w = taken_in w.counting.frontier.known w.ready.commits
+
 -- what a walk holds, with a predicate
 abbrev pub walk_of : {F P : Type 0} → Walk F → P → TopoWalk F P
-walk_of w predicate = record { plan = plan_of w; predicate = predicate; counted = counted_by w.counting; ready = ready_in w.ready; taken = w.taken }
+walk_of w predicate = record { plan = plan_of w; predicate = predicate; counted = counted_by w.counting; ready = w.ready.commits; taken = taken_of w }
 
 -- what becoming ready leaves as it is
 pub record IsSameWalk {F : Type 0} (old new : Walk F) : Type 0 where
@@ -40,7 +54,6 @@ pub record IsSameWalk {F : Type 0} (old new : Walk F) : Type 0 where
   pub depth : new.counting.depth ≡ old.counting.depth
   pub expanded : new.counting.expanded ≡ old.counting.expanded
   pub queue : new.counting.frontier.queue ≡ old.counting.frontier.queue
-  pub taken : new.taken ≡ old.taken
 
 -- what is known: an id that a search has read, as long as the rows are held, or one with a row, or one that can be read
 abbrev pub Knows : Objects → List GraphRow → Bool → Frontier → ObjectId → Type 0
@@ -56,7 +69,7 @@ module _ {F : Type 0} (objects : F → Objects) (faulty : F → ObjectId → Typ
     pub is : IsOfInfo r info
     pub known : (p : ObjectId) → Contains info.parent_ids.items p → Knows (objects old.counting.reader.find) (rows_of old.counting.reader.graph) new.counting.reader.standing old.counting.frontier p
     pub made : Makes old.counting.frontier i new.counting.frontier
-    pub holds : HoldsReady (sorting_of old.ready) (ready_in old.ready ++ r ∷ []) (ready_in new.ready)
+    pub holds : HoldsReady old.ready.sorting (old.ready.commits ++ r ∷ []) new.ready.commits
 
   -- why a commit can't become ready: it, or a parent of it, can't be read
   pub data IsPushFault (old : Walk F) (i : ObjectId) (e : Error) : Type 0 where
@@ -91,18 +104,18 @@ module _ {F : Type 0} (objects : F → Objects) (faulty : F → ObjectId → Typ
   abbrev pub lowered : Walk F → Ready → Counting F
   lowered old r = record old.counting { depth = least (rows_of old.counting.reader.graph) old.counting.depth (by_mode old.counting.parents r.parents) }
 
-  abbrev pub with_taken : Walk F → Counting F → Ready → Walk F
-  with_taken old counting r = record old { counting = counting; taken = set.insert old.taken r.id }
+  abbrev pub with_counting : Walk F → Counting F → Walk F
+  with_counting old counting = record old { counting = counting }
 
   -- a commit whose turn it is is taken
   pub record TakesOne (old : Walk F) (r : Ready) (added : List Ready) (new : Walk F) : Type 0 where
     pub explored : Counting F
     pub explores : Explores objects faulty (lowered old r) explored
     pub rested : IsRested explored.reader.standing explored.depth explored.frontier.queue
-    pub releases : ReleasesAll (with_taken old explored r) (last_places (by_mode old.counting.parents r.parents)) added new
+    pub releases : ReleasesAll (with_counting old explored) (last_places (by_mode old.counting.parents r.parents)) added new
 
   -- why that fails
   pub data IsTakingFault (old : Walk F) (r : Ready) (e : Error) : Type 0 where
     exploring : IsExploringFault objects faulty (lowered old r) e → IsTakingFault old r e
-    releasing : {explored : Counting F} → Explores objects faulty (lowered old r) explored → IsRested explored.reader.standing explored.depth explored.frontier.queue → IsFaultAmong (with_taken old explored r) (last_places (by_mode old.counting.parents r.parents)) e → IsTakingFault old r e
+    releasing : {explored : Counting F} → Explores objects faulty (lowered old r) explored → IsRested explored.reader.standing explored.depth explored.frontier.queue → IsFaultAmong (with_counting old explored) (last_places (by_mode old.counting.parents r.parents)) e → IsTakingFault old r e
     short : e ≡ error.Memory → IsTakingFault old r e

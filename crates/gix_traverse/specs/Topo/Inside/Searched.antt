@@ -26,7 +26,7 @@ abbrev pub starts_by : List ObjectId → List ObjectId → Side → List ObjectI
 starts_by tips ends Tips = tips
 starts_by tips ends Ends = ends
 
--- both searches are so far, and each id waits under its generation
+-- both searches have come to this point, and each id waits under its generation
 pub record IsSearched (objects : Objects) (rows : List GraphRow) (parents : Parents) (tips ends : List ObjectId) (queue : List (ℕ × Waiting)) (known : map_of.FinMap id_cmp Known) : Type 0 where
   pub search : (side : Side) → IsSearch (next_by objects parents side) (starts_by tips ends side) (reached known side) (waiting queue side)
   pub keyed : (entry : ℕ × Waiting) → Contains queue entry → entry.0 ≡ known_generation rows entry.1.id
@@ -48,7 +48,7 @@ pub record IsTally (walked : ObjectId → List ObjectId) (done taken : ObjectId 
   pub counts : (p : ObjectId) → children p ≡ naming walked p open_to
   pub taken_done : (i : ObjectId) → taken i ≡ true → done i ≡ true
 
--- the searches and the counts are so far
+-- the searches and the counts have come to this point
 pub record IsCounted (objects : Objects) (rows : List GraphRow) (parents : Parents) (tips ends : List ObjectId) (taken : ObjectId → Bool) (f : Frontier) : Type 0 where
   pub searched : IsSearched objects rows parents tips ends f.queue f.known
   pub tally : IsTally (next_by objects parents Tips) (λ i. is_done (reached f.known Tips i)) taken (λ p. (known_of f.known p).children)

@@ -1,6 +1,5 @@
 -- How a topological walk starts.
 use Rattle.std.specs.Prelude.{◌≡◌, ◌++◌, List, [], ◌∷◌, Bool, true, false}
-use Rattle.std.specs.FinSet as set
 use Rattle.gix_parts.specs.declared.hash.ObjectId.{ObjectId}
 use Rattle.gix_parts.specs.Object.{Objects}
 use Rattle.gix_parts.specs.Rows.{GraphRow}
@@ -13,7 +12,6 @@ use Rattle.gix_traverse.specs.declared.commit.topo.walk.Walk.{Walk}
 use Rattle.gix_traverse.specs.History.Agreeing.{IsAgreeing}
 use Rattle.gix_traverse.specs.Topo.Depth.{known_generation}
 use Rattle.gix_traverse.specs.Topo.Inside.Frontier.{is_due, known_of, Meets}
-use Rattle.gix_traverse.specs.Topo.Inside.ReadySet.{ready_in}
 use Rattle.gix_traverse.specs.Topo.Inside.Releasing.{plan_by, plan_of, counted_by, Pushes, IsPushFault}
 use Rattle.gix_traverse.specs.Topo.Inside.Searched.{IsCounted, IsBegun, IsExplored}
 use Rattle.gix_traverse.specs.Topo.Inside.Steady.{AreRead, HasCounted}
@@ -70,11 +68,9 @@ module _ {F : Type 0} (objects : F → Objects) (faulty : F → ObjectId → Typ
     pub starts : List Ready
     pub begun : HasBegun plan first.counting
     pub before : plan_of first ≡ plan
-    pub empty : ready_in first.ready ≡ []
-    pub untaken : first.taken ≡ set.empty
+    pub empty : first.ready.commits ≡ []
     pub all : StartsAll first plan.tips starts mid
     -- the walk is that, except for the order of the ready commits
-    pub sorted : HoldsReady plan.sorting (by_rising_time starts) (ready_in w.ready)
+    pub sorted : HoldsReady plan.sorting (by_rising_time starts) w.ready.commits
     pub counting : w.counting ≡ mid.counting
-    pub taken : w.taken ≡ mid.taken
     pub same : plan_of w ≡ plan

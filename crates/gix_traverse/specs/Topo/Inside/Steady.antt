@@ -1,8 +1,7 @@
 -- What holds of a topological walk between two calls.
-use Rattle.std.specs.Prelude.{◌≡◌, ◌⊎◌, ◌≤◌, List, [], Bool, true, false, ◌||◌, Option, Some, None, Result, Ok, Err, Contains}
+use Rattle.std.specs.Prelude.{◌≡◌, ◌⊎◌, ◌≤◌, List, [], Bool, true, false, Option, Some, None, Result, Ok, Err, Contains}
 use Rattle.std.specs.FinSet as set
 use Rattle.gix_parts.specs.declared.hash.ObjectId.{ObjectId}
-use Rattle.gix_parts.specs.Id.{is_among}
 use Rattle.gix_parts.specs.Object.{Objects}
 use Rattle.gix_traverse.specs.declared.commit.Info.{Info}
 use Rattle.gix_traverse.specs.declared.commit.topo.Error.{Error}
@@ -15,8 +14,7 @@ use Rattle.gix_traverse.specs.Topo.Depth.{known_generation}
 use Rattle.gix_traverse.specs.History.Reading.{Reads}
 pub use Rattle.gix_traverse.specs.Topo.Inside.Frontier.{IsDone}
 use Rattle.gix_traverse.specs.Topo.Inside.Frontier.{is_done, known_of, reached}
-use Rattle.gix_traverse.specs.Topo.Inside.ReadySet.{ready_in, sorting_of}
-use Rattle.gix_traverse.specs.Topo.Inside.Releasing.{plan_of, counted_by, walk_of}
+use Rattle.gix_traverse.specs.Topo.Inside.Releasing.{plan_of, counted_by, taken_of, walk_of}
 use Rattle.gix_traverse.specs.Topo.Inside.Searched.{IsCounted, IsBegun}
 use Rattle.gix_traverse.specs.Simple.Laws.{AreDistinct}
 use Rattle.gix_traverse.specs.Simple.Walk.{IsInfo}
@@ -39,14 +37,14 @@ module _ {F : Type 0} (objects : F → Objects) (faulty : F → ObjectId → Typ
 module _ {F : Type 0} (objects : F → Objects) where
   -- both searches and the counts are as they are to be; ready commits are done
   pub record IsTallied (w : Walk F) : Type 0 where
-    pub counted : IsCounted (objects (plan_of w).store) (plan_of w).rows (plan_of w).parents (plan_of w).tips (plan_of w).ends (set.contains w.taken) w.counting.frontier
+    pub counted : IsCounted (objects (plan_of w).store) (plan_of w).rows (plan_of w).parents (plan_of w).tips (plan_of w).ends (set.contains (taken_of w)) w.counting.frontier
     pub begun : (side : Side) → IsBegun (plan_of w).tips (plan_of w).ends side w.counting.frontier
-    pub done : (r : Ready) → Contains (ready_in w.ready) r → is_done (reached w.counting.frontier.known Tips r.id) ≡ true
+    pub done : (r : Ready) → Contains w.ready.commits r → is_done (reached w.counting.frontier.known Tips r.id) ≡ true
 
   -- each commit that was ready once is a member, and all its children were taken
   pub record IsSteady (w : Walk F) : Type 0 where
     pub member : (i : ObjectId) → (known_of w.counting.frontier.known i).made ≡ true → IsMember objects (plan_of w) i
-    pub children : (i d : ObjectId) → (known_of w.counting.frontier.known i).made ≡ true → IsChild (walked_of objects (plan_of w)) (IsMember objects (plan_of w)) d i → set.contains w.taken d ≡ true
+    pub children : (i d : ObjectId) → (known_of w.counting.frontier.known i).made ≡ true → IsChild (walked_of objects (plan_of w)) (IsMember objects (plan_of w)) d i → set.contains (taken_of w) d ≡ true
 
   -- the number of commits that are done, none of which is below the depth as long as the rows are held
   pub record HasCounted (plan : TopoPlan F) (c : Counting F) : Type 0 where
@@ -55,13 +53,11 @@ module _ {F : Type 0} (objects : F → Objects) where
     pub dropped : c.reader.standing ≡ false → IsBrokenRow objects plan c.depth
 
 module _ {F : Type 0} (objects : F → Objects) (faulty : F → ObjectId → Type 0) where
-  -- What holds of a walk that may go on, whatever its store and rows. The commits that were ready once are the taken and the ready
-  -- ones.
+  -- What holds of a walk that may go on, whatever its store and rows. The ready commits are different ones.
   pub record IsHeld (w : Walk F) : Type 0 where
-    pub made : (i : ObjectId) → (known_of w.counting.frontier.known i).made ≡ (set.contains w.taken i || is_among i (ready_ids (ready_in w.ready)))
-    pub distinct : AreDistinct (ready_ids (ready_in w.ready))
-    pub untaken : (i : ObjectId) → Contains (ready_ids (ready_in w.ready)) i → set.contains w.taken i ≡ false
-    pub found : (r : Ready) → Contains (ready_in w.ready) r → IsFound objects faulty (plan_of w) true w.counting.reader.standing r
+    pub made : (i : ObjectId) → Contains (ready_ids w.ready.commits) i → (known_of w.counting.frontier.known i).made ≡ true
+    pub distinct : AreDistinct (ready_ids w.ready.commits)
+    pub found : (r : Ready) → Contains w.ready.commits r → IsFound objects faulty (plan_of w) true w.counting.reader.standing r
     -- with rows that agree, and where all that is walked reads whole
     pub tallied : IsAgreeing (objects (plan_of w).store) (faulty (plan_of w).store) (plan_of w).rows → IsTallied objects w
     pub steady : IsWalkable objects faulty (plan_of w) → IsSteady objects w
@@ -73,7 +69,7 @@ module _ {F : Type 0} (objects : F → Objects) (faulty : F → ObjectId → Typ
 
   -- nothing is ready, or the walk may go on
   abbrev pub IsOpen : Walk F → Type 0
-  IsOpen w = (ready_in w.ready ≡ []) ⊎ IsHeld w
+  IsOpen w = (w.ready.commits ≡ []) ⊎ IsHeld w
 
   -- no predicate is asked
   abbrev pub unasked : Unit {0} → ObjectId → Bool → Unit {0} → Type 0
@@ -84,12 +80,12 @@ module _ {F : Type 0} (objects : F → Objects) (faulty : F → ObjectId → Typ
 
   -- a ready commit is taken
   pub record TakesReady (old : Walk F) (r : Ready) (new : Walk F) : Type 0 where
-    pub takes : Takes objects faulty unasked (unasked_of old) r (counted_by new.counting) (ready_in new.ready)
+    pub takes : Takes objects faulty unasked (unasked_of old) r (counted_by new.counting) new.ready.commits
     pub plan : plan_of new ≡ plan_of old
-    pub taken : new.taken ≡ set.insert old.taken r.id
+    pub taken : taken_of new ≡ set.insert (taken_of old) r.id
 
   -- what the next ready commit gives
   pub data Turns (old : Walk F) : Option (Result Info Error) → Walk F → Type 0 where
-    ended : {new : Walk F} → ready_in old.ready ≡ [] → unasked_of new ≡ unasked_of old → Turns old None new
+    ended : {new : Walk F} → old.ready.commits ≡ [] → unasked_of new ≡ unasked_of old → Turns old None new
     given : {r : Ready} {new : Walk F} {info : Info} → TakesReady old r new → IsInfo info r.id r.parents r.generation (Some r.time) → Turns old (Some (Ok info)) new
-    failed : {new : Walk F} (r : Ready) (others : List Ready) {e : Error} → Chooses (sorting_of old.ready) (ready_in old.ready) r others → IsFault objects faulty (plan_of old) (IsNextReady objects (plan_of old) old.taken r.id) e → IsLate objects (plan_of old) (IsNextReady objects (plan_of old) old.taken r.id) e → plan_of new ≡ plan_of old → ready_in new.ready ≡ [] → Turns old (Some (Err e)) new
+    failed : {new : Walk F} (r : Ready) (others : List Ready) {e : Error} → Chooses old.ready.sorting old.ready.commits r others → IsFault objects faulty (plan_of old) (IsNextReady objects (plan_of old) (taken_of old) r.id) e → IsLate objects (plan_of old) (IsNextReady objects (plan_of old) (taken_of old) r.id) e → plan_of new ≡ plan_of old → new.ready.commits ≡ [] → Turns old (Some (Err e)) new

@@ -68,7 +68,7 @@ impl<F: Find + Drop, P: Predicate + Drop> Simple<F, P> {
         paint(
             self.alloc,
             &self.find,
-            self.graph.as_ref(),
+            self.held_graph(),
             tips,
             self.hidden_tips.as_slice(),
         )
@@ -115,7 +115,7 @@ impl<F: Find + Drop, P: Predicate + Drop> Simple<F, P> {
         self.hidden = painting.hidden;
         self.hidden_tips.clear();
         if !painting.rows_stand {
-            self.graph = None;
+            self.held = false;
         }
     }
 }

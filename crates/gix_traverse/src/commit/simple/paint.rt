@@ -6,7 +6,7 @@ ghost use Rattle.gix_traverse.specs.declared.commit.simple.paint.source.Key.{Key
 ghost use Rattle.gix_traverse.specs.Simple.Painting.{IsHiddenFault, Paints};
 ghost use Rattle.gix_traverse.specs.Simple.Walk.{ids_of};
 ghost use Rattle.gix_traverse.specs.Simple.Inside.Painter as painter;
-ghost use Rattle.gix_traverse.specs.Simple.Inside.Painter.{rows_in, FailsAmong, Queues, Meets, is_turn, Takes, TreatsEntry, TreatFails, IsSettled, Pops};
+ghost use Rattle.gix_traverse.specs.Simple.Inside.Painter.{rows_in, held_graph, FailsAmong, Queues, Meets, is_turn, Takes, TreatsEntry, TreatFails, IsSettled, Pops};
 
 mod source;
 
@@ -166,7 +166,7 @@ impl<'a, F: Find> Painter<'a, F> {
     // Puts a commit into the queue.
     fn enqueue(&mut self, id: ObjectId, side: Side) -> Result<(), Hidden>
         ensures ok { IfOk result (λ _. Queues F.objects self.old id side self.new) }
-        ensures fault { IfErr result (FailsAmong (F.objects self.old.source.objects.now) (F.faulty self.old.source.objects.now) (rows_in self.old.source.graph) (id ∷ [])) }
+        ensures fault { IfErr result (FailsAmong (F.objects self.old.source.objects.now) (F.faulty self.old.source.objects.now) (rows_in (held_graph self.old.source)) (id ∷ [])) }
     {
         let Known { key, parent_ids } = self.source.look_up(&id)?;
         self.queue.insert(
@@ -183,7 +183,7 @@ impl<'a, F: Find> Painter<'a, F> {
     // An id that visible tips reach is queued once. One that is hidden already is left to the hidden side.
     fn show(&mut self, id: ObjectId) -> Result<(), Hidden>
         ensures ok { IfOk result (λ _. Meets F.objects Side.Visible (id ∷ []) self.old self.new) }
-        ensures fault { IfErr result (FailsAmong (F.objects self.old.source.objects.now) (F.faulty self.old.source.objects.now) (rows_in self.old.source.graph) (id ∷ [])) }
+        ensures fault { IfErr result (FailsAmong (F.objects self.old.source.objects.now) (F.faulty self.old.source.objects.now) (rows_in (held_graph self.old.source)) (id ∷ [])) }
     {
         if self.marks.get(&id).is_some() {
             return Ok(());
@@ -196,7 +196,7 @@ impl<'a, F: Find> Painter<'a, F> {
     // An id that hidden tips reach is queued once for them, whatever visible tips did.
     fn hide(&mut self, id: ObjectId) -> Result<(), Hidden>
         ensures ok { IfOk result (λ _. Meets F.objects Side.Hidden (id ∷ []) self.old self.new) }
-        ensures fault { IfErr result (FailsAmong (F.objects self.old.source.objects.now) (F.faulty self.old.source.objects.now) (rows_in self.old.source.graph) (id ∷ [])) }
+        ensures fault { IfErr result (FailsAmong (F.objects self.old.source.objects.now) (F.faulty self.old.source.objects.now) (rows_in (held_graph self.old.source)) (id ∷ [])) }
     {
         if is_hidden(&self.marks, &id) {
             return Ok(());
@@ -209,7 +209,7 @@ impl<'a, F: Find> Painter<'a, F> {
     // Ids that are reached on a side, in order.
     fn meet_all(&mut self, mut ids: &[ObjectId], side: Side) -> Result<(), Hidden>
         ensures ok { IfOk result (λ _. Meets F.objects side ids.entry.now self.old self.new) }
-        ensures fault { IfErr result (FailsAmong (F.objects self.old.source.objects.now) (F.faulty self.old.source.objects.now) (rows_in self.old.source.graph) ids.entry.now) }
+        ensures fault { IfErr result (FailsAmong (F.objects self.old.source.objects.now) (F.faulty self.old.source.objects.now) (rows_in (held_graph self.old.source)) ids.entry.now) }
     {
         while let Some((id, rest)) = ids.split_first() {
             match side {
@@ -223,7 +223,7 @@ impl<'a, F: Find> Painter<'a, F> {
 
     fn show_all(&mut self, tips: &VecDeque<Pending>) -> Result<(), Hidden>
         ensures ok { IfOk result (λ _. Meets F.objects Side.Visible (ids_of tips.now.items) self.old self.new) }
-        ensures fault { IfErr result (FailsAmong (F.objects self.old.source.objects.now) (F.faulty self.old.source.objects.now) (rows_in self.old.source.graph) (ids_of tips.now.items)) }
+        ensures fault { IfErr result (FailsAmong (F.objects self.old.source.objects.now) (F.faulty self.old.source.objects.now) (rows_in (held_graph self.old.source)) (ids_of tips.now.items)) }
     {
         for tip in tips.iter() {
             self.show(tip.id)?;
@@ -235,7 +235,7 @@ impl<'a, F: Find> Painter<'a, F> {
     fn begins(&mut self, entry: &Entry) -> bool
         ensures turn { result ≡ is_turn entry.now self.old.frontier }
         ensures takes { Takes self.old entry.now self.new }
-        ensures graph { self.new.source.graph ≡ self.old.source.graph }
+        ensures graph { held_graph self.new.source ≡ held_graph self.old.source }
     {
         match entry.side {
             Side::Visible => self.frontier.remove(&entry.id),
@@ -246,7 +246,7 @@ impl<'a, F: Find> Painter<'a, F> {
     // The commit of an entry is read, and its parents are met on its side.
     fn treat(&mut self, entry: Entry) -> Result<(), Hidden>
         ensures ok { IfOk result (λ _. TreatsEntry F.objects self.old entry self.new) }
-        ensures fault { IfErr result (TreatFails (F.objects self.old.source.objects.now) (F.faulty self.old.source.objects.now) self.old.source.graph entry) }
+        ensures fault { IfErr result (TreatFails (F.objects self.old.source.objects.now) (F.faulty self.old.source.objects.now) (held_graph self.old.source) entry) }
     {
         if !self.begins(&entry) {
             return Ok(());
@@ -263,7 +263,7 @@ impl<'a, F: Find> Painter<'a, F> {
         let Some((key, _)) = self.queue.peek() else {
             return true;
         };
-        self.source.graph.is_some()
+        self.source.held_graph().is_some()
             && self.frontier.is_empty()
             && matches!(key.generation, Generation::Told(_))
     }
@@ -311,6 +311,7 @@ pub(super) fn paint<'a, F: Find>(
         source: Source {
             objects,
             graph,
+            held: true,
             text: Vec::new(alloc),
             alloc,
         },
@@ -326,6 +327,6 @@ pub(super) fn paint<'a, F: Find>(
     let Painter { source, marks, .. } = painter;
     Ok(Painting {
         hidden: HiddenIds { marks },
-        rows_stand: source.graph.is_some(),
+        rows_stand: source.held_graph().is_some(),
     })
 }

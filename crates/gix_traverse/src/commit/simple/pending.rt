@@ -1,7 +1,7 @@
 //! The pending commits of a walk, held so that the next one is at hand.
-ghost use Rattle.std.specs.Prelude.{◌≡◌, ◌≢◌, ◌++◌, ◌∷◌, [], length, ◌==◌, IfOk, OnOk, OnErr, IfErr, Some, IsPermutation};
+ghost use Rattle.std.specs.Prelude.{◌≡◌, ◌≢◌, ◌++◌, ◌∷◌, [], length, ◌==◌, IfOk, OnOk, OnErr, None, Some, IsPermutation};
 ghost use Rattle.gix_parts.specs.PriorityQueue.{values};
-ghost use Rattle.gix_traverse.specs.Simple.Inside.PendingQueue.{held_items, time_key, AreKeyed, IsKeyed, TakesOut};
+ghost use Rattle.gix_traverse.specs.Simple.Inside.PendingQueue.{time_key, AreKeyed, TakesOut};
 ghost use Rattle.gix_traverse.specs.Simple.Walk.{Holds};
 
 use super::CommitTimeOrder;
@@ -19,14 +19,14 @@ pub(super) struct Pending {
     pub(super) time: i64,
 }
 
-// In the order in which they became pending, or by time, the best first.
+// In the order in which they became pending until one is taken by time. Then by time, the best first.
 #[derive(Drop)]
 enum Held {
     Listed(VecDeque<Pending>),
     ByTime(CommitTimeOrder, PriorityQueue<i64, Pending>),
 }
 
-// The pending commits. They stay one list until one is taken by time.
+// The pending commits, and the order by time in which they are held, if there is one.
 #[derive(Drop)]
 pub(super) struct PendingQueue {
     held: Held,
@@ -34,20 +34,18 @@ pub(super) struct PendingQueue {
 }
 
 impl Model for PendingQueue {
-    ghost use Rattle.std.specs.Prelude.{List};
-    ghost use Rattle.gix_traverse.specs.declared.commit.simple.pending.Pending.{Pending};
-    ghost use Rattle.gix_traverse.specs.Simple.Inside.PendingQueue.{held_items, IsKeyed};
+    ghost use Rattle.gix_traverse.specs.Simple.Inside.PendingQueue.{Queued, held_order, held_items, IsKeyed};
 
-    ghost Value = { List Pending };
+    ghost Value = { Queued };
 
-    ghost view = { λ q. held_items q.held };
+    ghost view = { λ q. record { order = held_order q.held; items = held_items q.held } };
 
     ghost invariant = { λ q. IsKeyed q.held };
 }
 
 impl PendingQueue {
     pub(super) fn new(alloc: Global) -> PendingQueue
-        ensures { result ≡ [] }
+        ensures { result.items ≡ [] }
     {
         PendingQueue {
             held: Held::Listed(VecDeque::new(alloc)),
@@ -56,7 +54,7 @@ impl PendingQueue {
     }
 
     pub(super) fn is_empty(&self) -> bool
-        ensures { result ≡ (length self.now == 0) }
+        ensures { result ≡ (length self.now.items == 0) }
     {
         match &self.held {
             Held::Listed(list) => list.is_empty(),
@@ -65,93 +63,113 @@ impl PendingQueue {
     }
 
     pub(super) fn clear(&mut self)
-        ensures { self.new ≡ [] }
+        ensures { self.new.items ≡ [] }
     {
         self.held = Held::Listed(VecDeque::new(self.alloc));
     }
 
     // Takes all commits out, in the order in which they became pending where none was taken by time.
     pub(super) fn take_list(&mut self) -> Result<VecDeque<Pending>, AllocError>
-        ensures list { IfOk result (λ list. list.items ≡ self.old) }
-        ensures left { self.new ≡ [] }
+        ensures list { IfOk result (λ list. list.items ≡ self.old.items) }
+        ensures left { self.new.items ≡ [] }
     {
-        let held = self.take_held();
-        into_list(self.alloc, held)
+        match mem::replace(&mut self.held, Held::Listed(VecDeque::new(self.alloc))) {
+            Held::Listed(list) => Ok(list),
+            Held::ByTime(_, queue) => list_of(self.alloc, &queue),
+        }
     }
 
     // Puts these in the place of what was there.
     pub(super) fn set_list(&mut self, list: VecDeque<Pending>)
-        ensures { self.new ≡ list.items }
+        ensures { self.new ≡ record { order = None; items = list.items } }
     {
-        self.set_held(Held::Listed(list));
+        self.held = Held::Listed(list);
     }
 
-    // One more becomes pending. Where memory is wanting none is left.
+    // One more becomes pending. When out of memory none is left.
     pub(super) fn push(
         &mut self,
         order: Option<CommitTimeOrder>,
         pending: Pending,
     ) -> Result<(), AllocError>
-        ensures ok { OnOk result (Holds order (self.old ++ pending ∷ []) self.new) }
-        ensures err { OnErr result (self.new ≡ []) }
+        ensures ok { OnOk result (Holds order (self.old.items ++ pending ∷ []) self.new.items) }
+        ensures err { OnErr result (self.new.items ≡ []) }
     {
-        let held = self.take_held();
-        match order {
-            None => {
-                let mut list = into_list(self.alloc, held)?;
-                list.push_back(pending)?;
-                self.set_held(Held::Listed(list));
-            }
-            Some(order) => {
-                let mut queue = into_queue(self.alloc, order, held)?;
-                put(order, &mut queue, pending)?;
-                self.set_held(Held::ByTime(order, queue));
+        self.set_order(order)?;
+        match self.put(pending) {
+            Ok(()) => Ok(()),
+            Err(e) => {
+                self.clear();
+                Err(e)
             }
         }
-        Ok(())
     }
 
-    // Takes out the one whose turn it is. Where none is pending no memory is wanted.
+    // Takes out the one whose turn it is. When out of memory none is left.
     pub(super) fn pop(
         &mut self,
         order: Option<CommitTimeOrder>,
     ) -> Result<Option<Pending>, AllocError>
-        ensures ok { IfOk result (λ taken. TakesOut order self.old taken self.new) }
-        ensures err { IfErr result (λ _. self.old ≢ []) }
+        ensures ok { IfOk result (λ taken. TakesOut order self.old.items taken self.new.items) }
+        ensures err { OnErr result ((self.old.items ≢ []) × (self.new.items ≡ [])) }
     {
         if self.is_empty() {
             return Ok(None);
         }
-        let held = self.take_held();
+        self.set_order(order)?;
+        Ok(self.take())
+    }
+
+    // The commits are held in this order from now on. When out of memory none is left.
+    fn set_order(&mut self, order: Option<CommitTimeOrder>) -> Result<(), AllocError>
+        ensures ok { OnOk result ((self.new.order ≡ order) × Holds order self.old.items self.new.items) }
+        ensures err { OnErr result (self.new.items ≡ []) }
+    {
+        if self.order() == order {
+            return Ok(());
+        }
+        self.rearrange(order)
+    }
+
+    // Moves all commits.
+    fn rearrange(&mut self, order: Option<CommitTimeOrder>) -> Result<(), AllocError>
+        ensures ok { OnOk result ((self.new.order ≡ order) × Holds order self.old.items self.new.items) }
+        ensures err { OnErr result (self.new.items ≡ []) }
+    {
+        let list = self.take_list()?;
         match order {
-            None => {
-                let mut list = into_list(self.alloc, held)?;
-                let taken = list.pop_front();
-                self.set_held(Held::Listed(list));
-                Ok(taken)
-            }
-            Some(order) => {
-                let mut queue = into_queue(self.alloc, order, held)?;
-                let taken = take_best(order, &mut queue);
-                self.set_held(Held::ByTime(order, queue));
-                Ok(taken)
-            }
+            None => self.set_list(list),
+            Some(order) => self.held = Held::ByTime(order, queue_of(self.alloc, order, list)?),
+        }
+        Ok(())
+    }
+
+    fn order(&self) -> Option<CommitTimeOrder>
+        ensures { result ≡ self.now.order }
+    {
+        match &self.held {
+            Held::Listed(_) => None,
+            Held::ByTime(order, _) => Some(*order),
         }
     }
 
-    fn set_held(&mut self, held: Held)
-        requires { IsKeyed held }
-        ensures { self.new ≡ held_items held }
+    fn put(&mut self, pending: Pending) -> Result<(), AllocError>
+        ensures { OnOk result (Holds self.old.order (self.old.items ++ pending ∷ []) self.new.items) }
     {
-        self.held = held;
+        match &mut self.held {
+            Held::Listed(list) => list.push_back(pending)?,
+            Held::ByTime(order, queue) => put(*order, queue, pending)?,
+        }
+        Ok(())
     }
 
-    fn take_held(&mut self) -> Held
-        ensures items { held_items result ≡ self.old }
-        ensures keyed { IsKeyed result }
-        ensures left { self.new ≡ [] }
+    fn take(&mut self) -> Option<Pending>
+        ensures { TakesOut self.old.order self.old.items result self.new.items }
     {
-        mem::replace(&mut self.held, Held::Listed(VecDeque::new(self.alloc)))
+        match &mut self.held {
+            Held::Listed(list) => list.pop_front(),
+            Held::ByTime(order, queue) => take_best(*order, queue),
+        }
     }
 }
 
@@ -187,15 +205,6 @@ fn take_best(order: CommitTimeOrder, queue: &mut PriorityQueue<i64, Pending>) ->
     Some(pending)
 }
 
-fn into_list(alloc: Global, held: Held) -> Result<VecDeque<Pending>, AllocError>
-    ensures { IfOk result (λ list. list.items ≡ held_items held) }
-{
-    match held {
-        Held::Listed(list) => Ok(list),
-        Held::ByTime(_, queue) => list_of(alloc, &queue),
-    }
-}
-
 fn list_of(
     alloc: Global,
     queue: &PriorityQueue<i64, Pending>,
@@ -208,27 +217,6 @@ fn list_of(
         list.push_back(*pending)?;
     }
     Ok(list)
-}
-
-fn into_queue(
-    alloc: Global,
-    order: CommitTimeOrder,
-    held: Held,
-) -> Result<PriorityQueue<i64, Pending>, AllocError>
-    requires { IsKeyed held }
-    ensures items { IfOk result (λ queue. IsPermutation (held_items held) (values queue)) }
-    ensures keyed { IfOk result (AreKeyed order) }
-{
-    match held {
-        Held::Listed(list) => queue_of(alloc, order, list),
-        Held::ByTime(by, queue) => {
-            if by == order {
-                Ok(queue)
-            } else {
-                queue_of(alloc, order, list_of(alloc, &queue)?)
-            }
-        }
-    }
 }
 
 fn queue_of(

@@ -5,16 +5,19 @@ ghost use Rattle.gix_parts.specs.Rows.{row_of};
 ghost use Rattle.gix_parts.specs.CommitItems.{commit_items};
 ghost use Rattle.gix_parts.specs.CommitRefIter.{commit_items_left};
 ghost use Rattle.gix_parts.specs.declared.hash.ObjectId.{ObjectId};
+ghost use Rattle.gix_traverse.specs.History.Agreeing.{rows_in};
 ghost use Rattle.gix_traverse.specs.History.Commits.{by_mode, time_of};
+ghost use Rattle.gix_traverse.specs.History.Reading.{RowSays};
 ghost use Rattle.gix_traverse.specs.declared.commit.simple.step.Stop.TheVariants as stop;
-ghost use Rattle.gix_traverse.specs.Simple.Inside.Steps.{Meets, TimeIs, ReadsRow, RowSays};
+ghost use Rattle.gix_traverse.specs.Simple.Inside.Steps.{Meets, TimeIs};
 ghost use Rattle.gix_traverse.specs.Simple.Walk.{scanned, how_ended, failed, time_order, cutoff, is_older, given_time, row_time, Asks, Enqueues, Treats, TreatsAll, Concludes, Takes, Steps};
 ghost use Rattle.gix_traverse.specs.Simple.Inside.PendingQueue.{TakesOut};
 
 use super::pending::Pending;
 use super::{CommitTimeOrder, Error, Simple, Sorting};
-use crate::commit::read::{Scanned, row_parents, scan};
+use crate::commit::read::{RowRead, Scanned, read_row, scan};
 use crate::commit::{Info, ParentIds, Parents, Predicate};
+use gix_parts::graph::Graph;
 use gix_parts::hash::ObjectId;
 use gix_parts::object;
 use gix_parts::object::commit::CommitRefIter;
@@ -41,13 +44,6 @@ impl From<Stop> for Error {
             Stop::Memory => Error::Memory,
         }
     }
-}
-
-// What a sound row says of its commit.
-#[derive(Drop)]
-struct RowParents {
-    parent_ids: ParentIds,
-    generation: u32,
 }
 
 pub(super) fn time_order_of(parents: Parents, sorting: Sorting) -> Option<CommitTimeOrder>
@@ -166,10 +162,20 @@ impl<F: Find + Drop, P: Predicate + Drop> Simple<F, P> {
         Ok(signature.seconds())
     }
 
+    // The graph, as long as its rows are held.
+    pub(super) fn held_graph(&self) -> Option<&Graph>
+        ensures { rows_in result ≡ self.now.rows }
+    {
+        if !self.held {
+            return None;
+        }
+        self.graph.as_ref()
+    }
+
     fn row_time(&self, id: &ObjectId) -> i64
         ensures { result ≡ row_time (row_of self.now.rows id.now) }
     {
-        let Some(graph) = &self.graph else {
+        let Some(graph) = self.held_graph() else {
             return 0;
         };
         match graph.commit_by_id(id) {
@@ -274,37 +280,17 @@ impl<F: Find + Drop, P: Predicate + Drop> Simple<F, P> {
         })
     }
 
-    // Reads the row of an id, where there is one. A corrupt one drops the rows for good.
-    fn read_row(&mut self, id: &ObjectId) -> Result<Option<RowParents>, AllocError>
-        ensures { ReadsRow self.old id.now result self.new }
-    {
-        let Some(graph) = &self.graph else {
-            return Ok(None);
-        };
-        let Some(commit) = graph.commit_by_id(id) else {
-            return Ok(None);
-        };
-        let generation = commit.generation();
-        let Some(parent_ids) = row_parents(self.alloc, graph, commit)? else {
-            self.graph = None;
-            return Ok(None);
-        };
-        Ok(Some(RowParents {
-            parent_ids: walked(self.parents, parent_ids),
-            generation,
-        }))
-    }
-
-    fn take_by_row(&mut self, taken: Pending, row: RowParents) -> Result<Info, Error>
-        requires sound { RowSays self.old taken.id row }
+    fn take_by_row(&mut self, taken: Pending, row: RowRead) -> Result<Info, Error>
+        requires sound { RowSays self.old.rows taken.id row }
         requires asks { P.can_accept self.old.predicate }
         ensures takes { Takes F.objects F.faulty P.answers self.old taken result self.new }
         ensures asks { P.can_accept self.new.predicate }
     {
         self.text.clear();
-        let treated = self.treat_all(true, row.parent_ids.as_slice());
+        let parent_ids = walked(self.parents, row.parent_ids);
+        let treated = self.treat_all(true, parent_ids.as_slice());
         let scanned = Scanned {
-            parent_ids: row.parent_ids,
+            parent_ids,
             fault: None,
         };
         self.conclude(taken, scanned, Some(row.generation), treated)
@@ -337,7 +323,7 @@ impl<F: Find + Drop, P: Predicate + Drop> Simple<F, P> {
         ensures takes { Takes F.objects F.faulty P.answers self.old taken result self.new }
         ensures asks { P.can_accept self.new.predicate }
     {
-        let row = match self.read_row(&taken.id) {
+        let row = match read_row(self.alloc, self.graph.as_ref(), &mut self.held, &taken.id) {
             Ok(row) => row,
             Err(_) => return Err(self.fail(&taken.id, Error::Memory)),
         };
@@ -355,14 +341,11 @@ impl<F: Find + Drop, P: Predicate + Drop> Simple<F, P> {
         ensures err { OnErr result (self.new ≡ record self.old { text = []; pending = [] }) }
     {
         let order = self.time_order();
-        match self.pending.pop(order) {
-            Ok(taken) => Ok(taken),
-            Err(e) => {
-                self.text.clear();
-                self.pending.clear();
-                Err(e)
-            }
+        let chosen = self.pending.pop(order);
+        if chosen.is_err() {
+            self.text.clear();
         }
+        chosen
     }
 
     // Takes the commit whose turn it is.

@@ -1,9 +1,5 @@
 //! Counts the indegree of each commit that tips reach, as far down as is needed.
-ghost use Rattle.std.specs.Prelude.{◌≡◌, IfOk, IfErr, OnOk, OnErr, ℕ, ◌∷◌, ◌<◌, List, Bool, false, true, cond, ◌+◌, ◌||◌};
-ghost use Rattle.gix_parts.specs.declared.hash.ObjectId.{ObjectId};
-ghost use Rattle.gix_traverse.specs.declared.commit.topo.frontier.Side.{Side};
-ghost use Rattle.gix_traverse.specs.History.Agreeing.{IsAgreeing};
-ghost use Rattle.gix_traverse.specs.Topo.Inside.Searched.{IsCounted, IsBegun, IsExplored};
+ghost use Rattle.std.specs.Prelude.{◌≡◌, IfOk, IfErr, OnOk, false, true, cond, ◌+◌, ◌||◌};
 ghost use Rattle.gix_traverse.specs.Topo.Inside.Frontier.{is_done};
 ghost use Rattle.gix_traverse.specs.Topo.Depth.{least};
 ghost use Rattle.gix_traverse.specs.History.Commits.{by_mode};
@@ -84,7 +80,7 @@ fn one_more(expanded: usize, known: &Known) -> Result<usize, AllocError>
 impl<F: Find + Drop> Counting<F> {
     ghost use Rattle.std.specs.Prelude.{IfErr};
     ghost use Rattle.gix_traverse.specs.declared.commit.topo.Sorting.{Sorting};
-    ghost use Rattle.gix_traverse.specs.Topo.Inside.Releasing.{Knows};
+    ghost use Rattle.gix_traverse.specs.Topo.Inside.Releasing.{Knows, plan_over};
     ghost use Rattle.gix_traverse.specs.Topo.Inside.Starting.{HasBegun, MeetsAll};
     ghost use Rattle.gix_traverse.specs.Topo.Walk.{IsBuildFault};
 
@@ -113,8 +109,8 @@ impl<F: Find + Drop> Counting<F> {
     ) -> Result<Counting<F>, Error>
     where
         requires { reader.standing ≡ true }
-        ensures begun { (sorting : Sorting) → IfOk result (HasBegun F.objects F.faulty (record { store = reader.find; rows = rows_of reader.graph; parents = parents; sorting = sorting; tips = tips.now; ends = ends.now })) }
-        ensures fault { (sorting : Sorting) → IfErr result (IsBuildFault F.objects F.faulty (record { store = reader.find; rows = rows_of reader.graph; parents = parents; sorting = sorting; tips = tips.now; ends = ends.now })) }
+        ensures begun { (sorting : Sorting) → IfOk result (HasBegun F.objects F.faulty (plan_over reader parents sorting tips.now ends.now)) }
+        ensures fault { (sorting : Sorting) → IfErr result (IsBuildFault F.objects F.faulty (plan_over reader parents sorting tips.now ends.now)) }
     {
         let mut counting = Counting {
             frontier: Frontier::new(reader.alloc),
@@ -123,17 +119,11 @@ impl<F: Find + Drop> Counting<F> {
             depth: GENERATION_NUMBER_INFINITY,
             expanded: 0,
         };
-        let Ok(()) = counting.meet_all(tips, Side::Tips) else {
-            return Err(Error::Memory);
-        };
-        let Ok(()) = counting.meet_all(ends, Side::Ends) else {
-            return Err(Error::Memory);
-        };
+        counting.meet_all(tips, Side::Tips)?;
+        counting.meet_all(ends, Side::Ends)?;
         counting.lower(ends);
         counting.lower(tips);
-        if let Err(fault) = counting.explore() {
-            return Err(fault);
-        }
+        counting.explore()?;
         Ok(counting)
     }
 
@@ -160,18 +150,12 @@ impl<F: Find + Drop> Counting<F> {
         ensures reads { IfOk result (λ ids. ReadsParents F.objects F.faulty self.old id.now side ids.items self.new.reader.standing) }
         ensures fault { IfErr result (IsReadFault (F.objects self.old.reader.find) (F.faulty self.old.reader.find) id.now) }
     {
-        let info = match self.reader.read(id) {
-            Ok(info) => info,
-            Err(fault) => return Err(fault),
-        };
+        let info = self.reader.read(id)?;
         let mode = match side {
             Side::Tips => self.parents,
             Side::Ends => Parents::All,
         };
-        match places(self.reader.alloc, walked(mode, info.parent_ids.as_slice())) {
-            Ok(ids) => Ok(ids),
-            Err(_) => Err(Error::Memory),
-        }
+        Ok(places(self.reader.alloc, walked(mode, info.parent_ids.as_slice()))?)
     }
 
     /// Looks a parent up, unless a search has read it and the rows are still held.
@@ -193,7 +177,7 @@ impl<F: Find + Drop> Counting<F> {
         if self.reader.standing && self.frontier.known(id).is_done() {
             return Ok(());
         }
-        self.reader.know(id)
+        self.reader.look_up(id)
     }
 
     /// Reads the parents of a queued id of greatest generation.
@@ -206,20 +190,10 @@ impl<F: Find + Drop> Counting<F> {
         let Some((_, Waiting { id, side })) = self.frontier.queue.pop() else {
             return Ok(());
         };
-        let ids = match self.read(&id, side) {
-            Ok(ids) => ids,
-            Err(fault) => return Err(fault),
-        };
-        let Ok(expanded) = one_more(self.expanded, &self.frontier.known(&id)) else {
-            return Err(Error::Memory);
-        };
-        self.expanded = expanded;
-        let Ok(()) = self.follow(ids, side) else {
-            return Err(Error::Memory);
-        };
-        let Ok(()) = self.frontier.finish(id, side) else {
-            return Err(Error::Memory);
-        };
+        let ids = self.read(&id, side)?;
+        self.expanded = one_more(self.expanded, &self.frontier.known(&id))?;
+        self.follow(ids, side)?;
+        self.frontier.finish(id, side)?;
         Ok(())
     }
 
@@ -254,15 +228,9 @@ impl<F: Find + Drop> Counting<F> {
         ensures explores { OnOk result (Explores F.objects F.faulty self.old self.new) }
         ensures rested { OnOk result (IsRested self.new.reader.standing self.new.depth self.new.frontier.queue) }
         ensures fault { IfErr result (IsExploringFault F.objects F.faulty self.old) }
-        // With rows that agree, searches and indegrees stay as they are to be,
-        ensures counted { (tips ends : List ObjectId) (taken : ObjectId → Bool) → IsAgreeing (F.objects self.old.reader.find) (F.faulty self.old.reader.find) (rows_of self.old.reader.graph) → IsCounted (F.objects self.old.reader.find) (rows_of self.old.reader.graph) self.old.parents tips ends taken self.old.frontier → OnOk result (IsCounted (F.objects self.old.reader.find) (rows_of self.old.reader.graph) self.old.parents tips ends taken self.new.frontier) }
-        // and all that a side reaches is done, down to the depth.
-        ensures explored { (tips ends : List ObjectId) (taken : ObjectId → Bool) (side : Side) → IsAgreeing (F.objects self.old.reader.find) (F.faulty self.old.reader.find) (rows_of self.old.reader.graph) → IsCounted (F.objects self.old.reader.find) (rows_of self.old.reader.graph) self.old.parents tips ends taken self.old.frontier → IsBegun tips ends side self.old.frontier → OnOk result (IsExplored (F.objects self.old.reader.find) (rows_of self.old.reader.graph) self.old.parents tips ends self.old.depth side self.new.frontier) }
     {
         while self.is_pending() {
-            if let Err(fault) = self.step() {
-                return Err(fault);
-            }
+            self.step()?;
         }
         Ok(())
     }

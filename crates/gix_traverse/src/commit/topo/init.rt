@@ -18,6 +18,25 @@ use std::marker::Model;
 /// What a topological walk is built from: a store, tips and ends, and how it goes.
 ///
 /// A fresh one has no tips, no ends and no commit-graph, walks all parents in date order, and shows all commits.
+///
+/// A walk over what `tip` reaches and `merged` does not, one line of history after the other:
+///
+/// ```rust
+/// pub fn lines_of_history<F: Find + Drop>(
+///     alloc: Global,
+///     store: F,
+///     graph: Option<Graph>,
+///     tip: ObjectId,
+///     merged: ObjectId,
+/// ) -> Result<Topo<F, Unfiltered>, Error> {
+///     Builder::new(alloc, store)
+///         .with_tips([tip])?
+///         .with_ends([merged])?
+///         .sorting(Sorting::TopoOrder)
+///         .with_commit_graph(graph)
+///         .build()
+/// }
+/// ```
 #[derive(Drop)]
 pub struct Builder<F, P> {
     find: F,
@@ -36,7 +55,17 @@ impl<F, P> Model for Builder<F, P> {
 
     ghost Value = { TopoBuilder F P };
 
-    ghost view = { λ b. record { plan = record { store = b.find; rows = rows_of b.graph; parents = b.parents; sorting = b.sorting; tips = b.tips.items; ends = b.ends.items }; predicate = b.predicate } };
+    ghost view = { λ b. record {
+      plan = record {
+        store = b.find;
+        rows = rows_of b.graph;
+        parents = b.parents;
+        sorting = b.sorting;
+        tips = b.tips.items;
+        ends = b.ends.items;
+      };
+      predicate = b.predicate;
+    } };
 }
 
 impl<F: Find + Drop> Builder<F, Unfiltered> {
@@ -171,7 +200,7 @@ impl<F: Find + Drop, P: Predicate + Drop> Builder<F, P> {
     }
 
     /// A commit-graph to read commits from, in place of an earlier one. A commit without a row is read from the store. The first
-    /// corrupt row drops the graph.
+    /// corrupt row that is read drops the graph.
     pub fn with_commit_graph(mut self, graph: Option<Graph>) -> Self
         ensures { result ≡ record self { plan = record self.plan { rows = rows_of graph } } }
     {
@@ -184,8 +213,8 @@ impl<F: Find + Drop, P: Predicate + Drop> Builder<F, P> {
     ///
     /// # Errors
     ///
-    /// `Find` and `ObjectDecode` name an object that can't be read: tips or ends reach it, or it is a parent of a tip that becomes
-    /// ready.
+    /// `Find` and `ObjectDecode` where an object can't be read: tips or ends reach it, or it is a parent of a tip that becomes ready
+    /// (where rows disagree with the store, it may be another object). `Memory`.
     pub fn build(self) -> Result<Topo<F, P>, Error>
         ensures { Built F.objects F.faulty P.answers self result }
     {

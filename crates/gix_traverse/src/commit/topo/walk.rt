@@ -1,9 +1,8 @@
 //! A topological walk: how it begins, and how it takes a commit.
 ghost use Rattle.std.specs.Prelude.{◌≡◌, ◌∷◌, List, true, IfOk, OnOk, IfErr};
 ghost use Rattle.gix_parts.specs.declared.hash.ObjectId.{ObjectId};
-ghost use Rattle.gix_traverse.specs.History.Reading.{rows_of};
 ghost use Rattle.gix_traverse.specs.Topo.Inside.Frontier.{is_due};
-ghost use Rattle.gix_traverse.specs.Topo.Inside.ReadySet.{as_ready, AreTimed};
+ghost use Rattle.gix_traverse.specs.Topo.Inside.ReadySet.{as_ready};
 
 use super::counting::{Counting, places, walked};
 use super::frontier::{Known, Progress, Side};
@@ -12,7 +11,6 @@ use super::ready::{Found, ReadySet};
 use super::{Error, Sorting};
 use crate::commit::{Info, Parents};
 use gix_parts::hash::ObjectId;
-use gix_parts::hashtable::IdSet;
 use gix_parts::object::find::Find;
 use std::collections::VecDeque;
 
@@ -23,7 +21,6 @@ pub(super) struct Walk<F> {
     pub(super) tips: Vec<ObjectId>,
     pub(super) ends: Vec<ObjectId>,
     pub(super) ready: ReadySet,
-    pub(super) taken: IdSet,
 }
 
 /// Whether a commit of which this is known becomes ready when so many of its children are left.
@@ -34,7 +31,7 @@ pub(super) fn is_due(left: usize, known: &Known) -> bool
 }
 
 impl<F: Find + Drop> Walk<F> {
-    ghost use Rattle.gix_traverse.specs.Topo.Inside.Releasing.{plan_of, Pushes, IsPushFault, Releases, IsReleaseFault, ReleasesAll, IsFaultAmong, TakesOne, IsTakingFault};
+    ghost use Rattle.gix_traverse.specs.Topo.Inside.Releasing.{plan_of, plan_over, Pushes, IsPushFault, Releases, IsReleaseFault, ReleasesAll, IsFaultAmong, TakesOne, IsTakingFault};
     ghost use Rattle.gix_traverse.specs.Topo.Inside.Starting.{Starts, StartsAll, IsStartFault, IsBegunWalk};
     ghost use Rattle.gix_traverse.specs.Topo.Inside.Steady.{IsOpen, Turns};
     ghost use Rattle.gix_traverse.specs.Topo.Walk.{Ready, IsBuildFault};
@@ -45,20 +42,13 @@ impl<F: Find + Drop> Walk<F> {
     ///
     /// Why it, or a parent of it, can't be read.
     pub(super) fn push(&mut self, id: &ObjectId) -> Result<(), Error>
-        requires { AreTimed self.old.ready }
         ensures pushes { OnOk result ((r : Ready) × Pushes F.objects F.faulty self.old id.now r self.new) }
         ensures fault { IfErr result (IsPushFault F.objects F.faulty self.old id.now) }
         ensures same { plan_of self.new ≡ plan_of self.old }
-        ensures timed { AreTimed self.new.ready }
     {
-        let info = match self.counting.reader.read(id) {
-            Ok(info) => info,
-            Err(fault) => return Err(fault),
-        };
+        let info = self.counting.reader.read(id)?;
         for parent in info.parent_ids.as_slice() {
-            if let Err(fault) = self.counting.know(parent) {
-                return Err(fault);
-            }
+            self.counting.know(parent)?;
         }
         let time = info.commit_time.unwrap_or(0);
         let Info {
@@ -73,22 +63,16 @@ impl<F: Find + Drop> Walk<F> {
             generation,
             time,
         };
-        let Ok(()) = self.counting.frontier.make(id) else {
-            return Err(Error::Memory);
-        };
-        let Ok(()) = self.ready.push(time, found) else {
-            return Err(Error::Memory);
-        };
+        self.counting.frontier.make(id)?;
+        self.ready.push(found)?;
         Ok(())
     }
 
     /// A tip becomes ready where it has no child and no end reaches it.
     fn start(&mut self, id: &ObjectId) -> Result<(), Error>
-        requires { AreTimed self.old.ready }
         ensures starts { OnOk result ((added : List Ready) × Starts F.objects F.faulty self.old id.now added self.new) }
         ensures fault { (ids : List ObjectId) → IfErr result (IsStartFault F.objects F.faulty self.old (id.now ∷ ids)) }
         ensures same { plan_of self.new ≡ plan_of self.old }
-        ensures timed { AreTimed self.new.ready }
     {
         let known = self.counting.frontier.known(id);
         if !is_due(known.children, &known) {
@@ -99,17 +83,13 @@ impl<F: Find + Drop> Walk<F> {
 
     /// Each tip, in order.
     fn start_all(&mut self) -> Result<(), Error>
-        requires { AreTimed self.old.ready }
         ensures starts { OnOk result ((added : List Ready) × StartsAll F.objects F.faulty self.old self.old.tips.items added self.new) }
         ensures fault { IfErr result (IsStartFault F.objects F.faulty self.old self.old.tips.items) }
         ensures same { plan_of self.new ≡ plan_of self.old }
-        ensures timed { AreTimed self.new.ready }
     {
         for index in 0..self.tips.len() {
             let id = self.tips[index];
-            if let Err(fault) = self.start(&id) {
-                return Err(fault);
-            }
+            self.start(&id)?;
         }
         Ok(())
     }
@@ -124,38 +104,27 @@ impl<F: Find + Drop> Walk<F> {
     ) -> Result<Walk<F>, Error>
     where
         requires { reader.standing ≡ true }
-        ensures begun { IfOk result (IsBegunWalk F.objects F.faulty (record { store = reader.find; rows = rows_of reader.graph; parents = parents; sorting = sorting; tips = tips.items; ends = ends.items })) }
-        ensures timed { IfOk result (λ walk. AreTimed walk.ready) }
-        ensures fault { IfErr result (IsBuildFault F.objects F.faulty (record { store = reader.find; rows = rows_of reader.graph; parents = parents; sorting = sorting; tips = tips.items; ends = ends.items })) }
+        ensures begun { IfOk result (IsBegunWalk F.objects F.faulty (plan_over reader parents sorting tips.items ends.items)) }
+        ensures fault { IfErr result (IsBuildFault F.objects F.faulty (plan_over reader parents sorting tips.items ends.items)) }
     {
         let alloc = reader.alloc;
-        let counting = match Counting::begin(reader, parents, tips.as_slice(), ends.as_slice()) {
-            Ok(counting) => counting,
-            Err(fault) => return Err(fault),
-        };
+        let counting = Counting::begin(reader, parents, tips.as_slice(), ends.as_slice())?;
         let mut walk = Walk {
             counting,
             tips,
             ends,
             ready: ReadySet::new(sorting, alloc),
-            taken: IdSet::new(alloc),
         };
-        if let Err(fault) = walk.start_all() {
-            return Err(fault);
-        }
-        let Ok(()) = walk.ready.sort_by_rising_time() else {
-            return Err(Error::Memory);
-        };
+        walk.start_all()?;
+        walk.ready.sort_by_rising_time()?;
         Ok(walk)
     }
 
     /// A parent of a taken commit, at its last place: it has a child less, and becomes ready where that was the last one.
     fn release(&mut self, id: &ObjectId) -> Result<(), Error>
-        requires { AreTimed self.old.ready }
         ensures releases { OnOk result ((added : List Ready) × Releases F.objects F.faulty self.old id.now added self.new) }
         ensures fault { IfErr result (IsReleaseFault F.objects F.faulty self.old id.now) }
         ensures same { plan_of self.new ≡ plan_of self.old }
-        ensures timed { AreTimed self.new.ready }
     {
         let left = match self.counting.frontier.uncount(*id) {
             Ok(Some(left)) => left,
@@ -170,48 +139,33 @@ impl<F: Find + Drop> Walk<F> {
 
     /// The parents of a taken commit, each at its last place.
     fn release_all(&mut self, mut ids: VecDeque<ObjectId>) -> Result<(), Error>
-        requires { AreTimed self.old.ready }
         ensures releases { OnOk result ((added : List Ready) × ReleasesAll F.objects F.faulty self.old ids.items added self.new) }
         ensures fault { IfErr result (IsFaultAmong F.objects F.faulty self.old ids.items) }
         ensures same { plan_of self.new ≡ plan_of self.old }
-        ensures timed { AreTimed self.new.ready }
     {
         while let Some(id) = ids.pop_front() {
-            if let Err(fault) = self.release(&id) {
-                return Err(fault);
-            }
+            self.release(&id)?;
         }
         Ok(())
     }
 
     /// A commit whose turn it is: counting goes on to the depth of its parents, and they have a child less.
     fn take(&mut self, found: &Found) -> Result<(), Error>
-        requires { AreTimed self.old.ready }
         ensures takes { OnOk result ((added : List Ready) × TakesOne F.objects F.faulty self.old (as_ready found.now) added self.new) }
         ensures fault { IfErr result (IsTakingFault F.objects F.faulty self.old (as_ready found.now)) }
         ensures same { plan_of self.new ≡ plan_of self.old }
-        ensures timed { AreTimed self.new.ready }
     {
         let named = walked(self.counting.parents, found.parent_ids.as_slice());
         self.counting.lower(named);
-        let Ok(ids) = places(self.counting.reader.alloc, named) else {
-            return Err(Error::Memory);
-        };
-        if let Err(fault) = self.counting.explore() {
-            return Err(fault);
-        }
-        let Ok(_) = self.taken.insert(found.id) else {
-            return Err(Error::Memory);
-        };
+        let ids = places(self.counting.reader.alloc, named)?;
+        self.counting.explore()?;
         self.release_all(ids)
     }
 
     /// Takes the ready commit whose turn it is. After a fault none is ready.
     pub(super) fn turn(&mut self) -> Option<Result<Info, Error>>
-        requires timed { AreTimed self.old.ready }
-        requires open { IsOpen F.objects F.faulty self.old }
+        requires { IsOpen F.objects F.faulty self.old }
         ensures turns { Turns F.objects F.faulty self.old result self.new }
-        ensures timed { AreTimed self.new.ready }
         ensures open { IsOpen F.objects F.faulty self.new }
     {
         let found = self.ready.pop()?;

@@ -4,7 +4,7 @@ use Rattle.gix_traverse.specs.declared.commit.Info.{Info}
 use Rattle.gix_walk.specs.Walked.{given}
 use Rattle.gix_walk.proofs.ahead.number_of_commits.Given as goal
 
--- the walk gave commits so far, and they were counted
+-- the walk gave commits, and they were counted
 abbrev pub invariant-loop-answer : goal.invariant-loop-answer
 invariant-loop-answer g l = record {
   infos : List Info;

@@ -5,7 +5,7 @@ use Rattle.gix_walk.specs.Output.{Grows}
 use Rattle.gix_walk.specs.Walked.{given, lines_of}
 use Rattle.gix_walk.proofs.output.add_commits.Given as goal
 
--- the walk gave commits so far, and their lines were added
+-- the walk gave commits, and their lines were added
 abbrev pub invariant-loop-answer : goal.invariant-loop-answer
 invariant-loop-answer g l = record {
   infos : List Info;

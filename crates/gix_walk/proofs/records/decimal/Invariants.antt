@@ -2,7 +2,7 @@ use Rattle.std.proofs.Common.{◌≡◌, ◌<◌, ◌^◌, drop}
 use Rattle.gix_walk.specs.Decimal.{digits_behind}
 use Rattle.gix_walk.proofs.records.decimal.Given as goal
 
--- the digits that are left say behind the number what all of them say
+-- the digits that are left, after the number, spell what all of them spell
 abbrev pub invariant-loop-digit : goal.invariant-loop-digit
 invariant-loop-digit l = record {
   bound : l.number < 10 ^ l.digit-index;

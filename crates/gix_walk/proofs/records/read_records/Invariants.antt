@@ -1,13 +1,15 @@
 use Rattle.std.proofs.Common.{◌≤◌, ◌+◌, length}
+use Rattle.gix_parts.specs.MemoryStore.{objects_at, AreWithin}
 use Rattle.gix_walk.proofs.RecordFacts.{HasStored}
 use Rattle.gix_walk.proofs.records.read_records.Given as goal
 
--- what was read are records, and they are stored
-abbrev pub invariant-loop-input : goal.invariant-loop-input
-invariant-loop-input l = record {
-  read : HasStored l.fn.input l.input l.number l.store;
-  room : l.number + length l.input ≤ 1 + length l.fn.input;
+-- what was read are records, and the places of their objects are kept
+abbrev pub invariant-loop-rest : goal.invariant-loop-rest
+invariant-loop-rest l = record {
+  read : HasStored l.fn.input.items l.rest l.number (objects_at l.fn.input.items l.objects);
+  within : AreWithin l.objects (length l.fn.input.items);
+  room : l.number + length l.rest ≤ 1 + length l.fn.input.items;
 }
 
-abbrev pub decreases-loop-input : goal.decreases-loop-input
-decreases-loop-input l = length l.input
+abbrev pub decreases-loop-rest : goal.decreases-loop-rest
+decreases-loop-rest l = length l.rest

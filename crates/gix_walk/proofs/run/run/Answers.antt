@@ -1,7 +1,6 @@
-use Rattle.std.proofs.Common.{Err, sym, ◌∙◌, ap, subst}
+use Rattle.std.proofs.Common.{Err, ◌∙◌, ap}
 use Rattle.std.proofs.lemmas.Result.{err_from_is_err_and}
-use Rattle.gix_walk.specs.Input.{Tells}
-use Rattle.gix_walk.proofs.RunFacts.{runs_sound, runs_spelled, runs_words, runs_input, runs_records, runs_served}
+use Rattle.gix_walk.proofs.RunFacts.{no_rejection, runs_sound, runs_spelled, runs_words, runs_input, runs_records, runs_served}
 use Rattle.gix_walk.proofs.run.run.Goals as goal
 
 pub returns-in_err-command-clause-runs : goal.returns-in_err-command-clause-runs
@@ -20,11 +19,11 @@ returns-in_err-input-clause-runs g c =
 pub returns-in_err-store-clause-runs : goal.returns-in_err-store-clause-runs
 returns-in_err-store-clause-runs g c =
     let p = err_from_is_err_and c.from_residual-in_err-store.result c.from_residual-in_err-store.ensures.1 in
-    runs_records _ _ _ _ _ _ _ c.in_ok-command.ensures (subst (Tells (g.R.Read.remaining c.args.reader.now)) (sym c.deref.ensures.value) c.in_ok-input.ensures.whole) (p.1 ∙ ap (λ f. Err f) p.2) c.in_err-store.ensures.fault
+    runs_records _ _ _ _ _ _ _ c.in_ok-command.ensures c.in_ok-input.ensures.whole (p.1 ∙ ap (λ f. Err f) p.2) c.in_err-store.ensures.fault
 
 pub returns-clause-runs : goal.returns-clause-runs
 returns-clause-runs g c =
-    runs_served _ _ _ _ _ c.in_ok-command.ensures (subst (Tells (g.R.Read.remaining c.args.reader.now)) (sym c.deref.ensures.value) c.in_ok-input.ensures.whole) _ c.in_ok-store.ensures.read _ _ c.serve.ensures
+    runs_served _ _ _ _ _ c.in_ok-command.ensures c.in_ok-input.ensures.whole _ c.in_ok-store.ensures.read _ _ c.serve.ensures
 
 pub returns-clause-sound : goal.returns-clause-sound
 returns-clause-sound g c = runs_sound (returns-clause-runs g c)
@@ -37,3 +36,12 @@ returns-in_err-store-clause-spelled g c = runs_spelled (returns-in_err-store-cla
 
 pub returns-clause-spelled : goal.returns-clause-spelled
 returns-clause-spelled g c = runs_spelled (returns-clause-runs g c)
+
+pub returns-in_err-input-clause-unread : goal.returns-in_err-input-clause-unread
+returns-in_err-input-clause-unread g c = no_rejection c.in_ok-command.ensures
+
+pub returns-in_err-store-clause-unread : goal.returns-in_err-store-clause-unread
+returns-in_err-store-clause-unread g c = no_rejection c.in_ok-command.ensures
+
+pub returns-clause-unread : goal.returns-clause-unread
+returns-clause-unread g c = no_rejection c.in_ok-command.ensures

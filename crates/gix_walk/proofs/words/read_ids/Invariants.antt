@@ -3,6 +3,6 @@ use Rattle.gix_walk.specs.Words.{ids_from}
 use Rattle.gix_walk.proofs.WordFacts.{behind}
 use Rattle.gix_walk.proofs.words.read_ids.Given as goal
 
--- the ids so far and those of the words that are left are those of all words
+-- the ids that were read, followed by the ids of the words that are left, are the ids of all words
 abbrev pub invariant-loop-i : goal.invariant-loop-i
 invariant-loop-i l = behind (l.tips.items, l.hidden.items) (ids_from (l.i + 2) (map string_bytes (drop l.i l.words))) ≡ ids_from 2 (map string_bytes l.words)

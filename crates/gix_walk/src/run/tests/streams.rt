@@ -144,7 +144,7 @@ fn outcome_of_failing(
     Ok((answer, writer.bytes))
 }
 
-// The first call whose failure isn't answered by `Write` behind the lines' bytes before it, with what that run answers and writes.
+// The first call whose failure isn't answered by `Write` after the bytes before it, with what that run answers and writes.
 fn first_unreported(
     alloc: Global,
     words: &[&str],
@@ -186,7 +186,7 @@ fn a_failing_writer_is_reported(rt: HostRuntime) -> Result<(), Fail> {
         (["ahead", SIX, SEVEN].as_slice(), "3 3\n"),
     ] {
         let first = first_unreported(alloc, words, input.as_slice(), lines)?;
-        // Two calls for each byte, and a flush behind them.
+        // Two calls for each byte, and a flush at the end.
         let beyond = lines.len().saturating_mul(2).saturating_add(2);
         match first {
             Some((fails_at, answer, output)) => {

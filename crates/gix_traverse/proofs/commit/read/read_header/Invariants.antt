@@ -4,7 +4,7 @@ use Rattle.gix_traverse.specs.declared.commit.Parents.TheVariants as mode
 use Rattle.gix_traverse.specs.Simple.Walk.{scanned}
 use Rattle.gix_traverse.proofs.commit.read.read_header.Given as goal
 
--- what was read so far and what is left show the whole
+-- what was read and what is left are the whole
 abbrev pub invariant-loop-item : goal.invariant-loop-item
 invariant-loop-item l = record {
   parents : l.parent_ids.items ++ (scanned mode.All (commit_items_left l.items)).0 ≡ (scanned mode.All (commit_items_left l.fn.items)).0;

@@ -9,7 +9,7 @@ use Rattle.gix_traverse.proofs.commit.read.scan.Given as goal
 abbrev pub behind : List ObjectId → List ObjectId × Option Error → List ObjectId × Option Error
 behind ids r = (ids ++ r.0, r.1)
 
--- what was read so far and what is left show the whole
+-- what was read and what is left are the whole
 abbrev pub invariant-loop-item : goal.invariant-loop-item
 invariant-loop-item l = record {
   shown : behind l.parent_ids.items (scanned l.parents (commit_items_left l.items)) ≡ scanned l.parents (commit_items_left l.fn.items);

@@ -1,11 +1,11 @@
 //! Where painting reads commits: by their rows as long as these are held, and else from the store.
 ghost use Rattle.std.specs.Prelude.{◌≡◌, ◌∷◌, [], IfOk, IfErr};
 ghost use Rattle.gix_traverse.specs.History.Commits.{time_of};
-ghost use Rattle.gix_traverse.specs.Simple.Inside.Painter.{rows_in, FailsAt, FailsAmong, ReadFails, Reads, ReadsParents, GivesParents, Knows};
+ghost use Rattle.gix_traverse.specs.Simple.Inside.Painter.{rows_in, held_graph, FailsAt, FailsAmong, ReadFails, Reads, ReadsParents, GivesParents, Knows};
 
 use super::Entry;
 use crate::commit::ParentIds;
-use crate::commit::read::{Header, read_header, row_parents};
+use crate::commit::read::{Header, find_header, read_row};
 use crate::commit::simple::Hidden;
 use gix_parts::graph::Graph;
 use gix_parts::hash::ObjectId;
@@ -41,26 +41,39 @@ struct Stored {
     time: i64,
 }
 
-// Where commits are read: by their rows while these stand, and else from the store.
+// Where commits are read: by their rows as long as these are held, and else from the store.
 #[derive(Drop)]
 pub(super) struct Source<'a, F> {
     pub(super) objects: &'a F,
     pub(super) graph: Option<&'a Graph>,
+    // Whether rows are read: they are until one proves corrupt.
+    pub(super) held: bool,
     pub(super) text: Vec<u8>,
     pub(super) alloc: Global,
 }
 
 impl<'a, F: Find> Source<'a, F> {
+    // The graph, as long as its rows are held.
+    pub(super) fn held_graph(&self) -> Option<&'a Graph>
+        ensures { result ≡ held_graph self.now }
+    {
+        if self.held { self.graph } else { None }
+    }
+
     // Reads a commit from the store, its committer too.
     fn read(&mut self, id: &ObjectId) -> Result<Stored, Hidden>
         ensures objects { self.new.objects ≡ self.old.objects }
-        ensures graph { self.new.graph ≡ self.old.graph }
+        ensures graph { held_graph self.new ≡ held_graph self.old }
         ensures read { IfOk result (λ stored. Reads (F.objects self.old.objects.now) id.now stored.parent_ids.items) }
         ensures time { IfOk result (λ stored. stored.time ≡ time_of (F.objects self.old.objects.now) id.now) }
         ensures fault { IfErr result (FailsAt (F.objects self.old.objects.now) (F.faulty self.old.objects.now) id.now) }
     {
-        let items = self.objects.find_commit_iter(id, &mut self.text)?;
-        let Header { parent_ids, time } = read_header(self.alloc, items)?;
+        let Header { parent_ids, time } = find_header(
+            self.alloc,
+            self.objects,
+            id,
+            &mut self.text,
+        )?;
         let time = time?;
         Ok(Stored { parent_ids, time })
     }
@@ -68,11 +81,11 @@ impl<'a, F: Find> Source<'a, F> {
     // What is known of a commit by its row, whose places are left alone, or else by the store.
     pub(super) fn look_up(&mut self, id: &ObjectId) -> Result<Known, Hidden>
         ensures objects { self.new.objects ≡ self.old.objects }
-        ensures graph { self.new.graph ≡ self.old.graph }
-        ensures known { IfOk result (Knows (F.objects self.old.objects.now) (rows_in self.old.graph) id.now) }
-        ensures fault { IfErr result (FailsAmong (F.objects self.old.objects.now) (F.faulty self.old.objects.now) (rows_in self.old.graph) (id.now ∷ [])) }
+        ensures graph { held_graph self.new ≡ held_graph self.old }
+        ensures known { IfOk result (Knows (F.objects self.old.objects.now) (rows_in (held_graph self.old)) id.now) }
+        ensures fault { IfErr result (FailsAmong (F.objects self.old.objects.now) (F.faulty self.old.objects.now) (rows_in (held_graph self.old)) (id.now ∷ [])) }
     {
-        if let Some(graph) = self.graph
+        if let Some(graph) = self.held_graph()
             && let Some(commit) = graph.commit_by_id(id)
         {
             let key = Key {
@@ -95,19 +108,14 @@ impl<'a, F: Find> Source<'a, F> {
         })
     }
 
-    // The parents by the row, or else from the store. A corrupt row drops all rows for good.
+    // The parents by the row, or else from the store.
     fn parents_of(&mut self, id: &ObjectId) -> Result<ParentIds, Hidden>
         ensures objects { self.new.objects ≡ self.old.objects }
-        ensures parents { IfOk result (λ ids. ReadsParents (F.objects self.old.objects.now) self.old.graph id.now ids.items self.new.graph) }
-        ensures fault { IfErr result (ReadFails (F.objects self.old.objects.now) (F.faulty self.old.objects.now) (rows_in self.old.graph) id.now) }
+        ensures parents { IfOk result (λ ids. ReadsParents (F.objects self.old.objects.now) (held_graph self.old) id.now ids.items (held_graph self.new)) }
+        ensures fault { IfErr result (ReadFails (F.objects self.old.objects.now) (F.faulty self.old.objects.now) (rows_in (held_graph self.old)) id.now) }
     {
-        if let Some(graph) = self.graph
-            && let Some(commit) = graph.commit_by_id(id)
-        {
-            if let Some(parent_ids) = row_parents(self.alloc, graph, commit)? {
-                return Ok(parent_ids);
-            }
-            self.graph = None;
+        if let Some(row) = read_row(self.alloc, self.graph, &mut self.held, id)? {
+            return Ok(row.parent_ids);
         }
         Ok(self.read(id)?.parent_ids)
     }
@@ -115,8 +123,8 @@ impl<'a, F: Find> Source<'a, F> {
     // The parents of an entry's commit: those that it brings, or else those that are read now.
     pub(super) fn parents(&mut self, entry: Entry) -> Result<ParentIds, Hidden>
         ensures objects { self.new.objects ≡ self.old.objects }
-        ensures parents { IfOk result (λ ids. GivesParents (F.objects self.old.objects.now) self.old.graph entry ids.items self.new.graph) }
-        ensures fault { IfErr result (ReadFails (F.objects self.old.objects.now) (F.faulty self.old.objects.now) (rows_in self.old.graph) entry.id) }
+        ensures parents { IfOk result (λ ids. GivesParents (F.objects self.old.objects.now) (held_graph self.old) entry ids.items (held_graph self.new)) }
+        ensures fault { IfErr result (ReadFails (F.objects self.old.objects.now) (F.faulty self.old.objects.now) (rows_in (held_graph self.old)) entry.id) }
     {
         let Entry { id, parent_ids, .. } = entry;
         match parent_ids {

@@ -3,7 +3,7 @@ use Rattle.std.specs.FinSet as set
 use Rattle.std.proofs.Common.{◌≡◌, ◌++◌, length}
 use Rattle.gix_traverse.proofs.commit.simple.hide.visible.Given as goal
 
--- the tips shown so far and those to be shown of the ones left are all
+-- the tips already shown, and the tips among the rest that will be, are all
 abbrev pub invariant-loop-tip : goal.invariant-loop-tip
 invariant-loop-tip l = l.shown.items ++ filter (λ tip. not (set.contains l.hidden tip.id)) l.tips.items ≡ filter (λ tip. not (set.contains l.hidden tip.id)) l.fn.tips.items
 

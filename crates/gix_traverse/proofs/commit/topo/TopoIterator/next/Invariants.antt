@@ -1,7 +1,6 @@
-use Rattle.std.specs.Prelude.{Option, Result}
+use Rattle.std.specs.Prelude.{◌≡◌, ◌⊎◌, [], Option, Result}
 use Rattle.gix_traverse.specs.declared.commit.Info.{Info}
 use Rattle.gix_traverse.specs.declared.commit.topo.Error.{Error}
-use Rattle.gix_traverse.specs.Topo.Inside.ReadySet.{AreTimed}
 use Rattle.gix_traverse.specs.Topo.Inside.Releasing.{walk_of}
 use Rattle.gix_traverse.specs.Topo.Laws.{answers_left}
 use Rattle.gix_traverse.specs.Topo.Inside.Steady.{IsOpen}
@@ -12,8 +11,7 @@ use Rattle.gix_traverse.proofs.commit.topo.TopoIterator.next.Given as goal
 abbrev pub invariant-loop-info : goal.invariant-loop-info
 invariant-loop-info g l = record {
   steps : (answer : Option (Result Info Error)) (new : TopoWalk g.row.F.Denot g.row.P.Denot) → Next g.F.Find.objects g.F.Find.faulty g.P.Predicate.answers (walk_of l.self-inside.walk l.self-inside.predicate) answer new → Next g.F.Find.objects g.F.Find.faulty g.P.Predicate.answers l.fn.self answer new;
-  asks : g.P.Predicate.can_accept l.self-inside.predicate;
-  timed : AreTimed l.self-inside.walk.ready;
+  asks : g.P.Predicate.can_accept l.self-inside.predicate ⊎ (l.self-inside.walk.ready.commits ≡ []);
   may : IsOpen g.F.Find.objects g.F.Find.faulty l.self-inside.walk;
 }
 

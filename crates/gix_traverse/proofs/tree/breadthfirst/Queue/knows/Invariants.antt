@@ -3,7 +3,7 @@ use Rattle.gix_parts.specs.Id.{is_among}
 use Rattle.gix_traverse.specs.Trees.Inside.LevelQueue.{known_at, met_behind}
 use Rattle.gix_traverse.proofs.tree.breadthfirst.Queue.knows.Given as goal
 
--- the ids that are left tell whether the id is known
+-- whether the id is known depends on the ids that are left alone
 abbrev pub invariant-loop-turn : goal.invariant-loop-turn
 invariant-loop-turn l = record {
   within : l.turn ≤ length l.self-inside.trees.items;

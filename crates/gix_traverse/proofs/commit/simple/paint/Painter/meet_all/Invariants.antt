@@ -2,7 +2,7 @@ use Rattle.std.proofs.Common.{◌≡◌, length}
 use Rattle.std.specs.List.{Contains}
 use Rattle.gix_parts.specs.declared.hash.ObjectId.{ObjectId}
 use Rattle.gix_traverse.specs.declared.commit.simple.paint.Painter.{Painter}
-use Rattle.gix_traverse.specs.Simple.Inside.Painter.{Meets}
+use Rattle.gix_traverse.specs.Simple.Inside.Painter.{held_graph, Meets}
 use Rattle.gix_traverse.proofs.commit.simple.paint.Painter.meet_all.Given as goal
 
 -- to meet the ids that are left is to meet them all
@@ -11,7 +11,7 @@ invariant-loop-id g l = record {
   meets : (new : Painter g.row.F.Denot) → Meets g.F.Find.objects l.side l.ids l.self new → Meets g.F.Find.objects l.fn.side l.fn.ids l.fn.self new;
   within : (i : ObjectId) → Contains l.ids i → Contains l.fn.ids i;
   same_objects : l.self.source.objects ≡ l.fn.self.source.objects;
-  same_graph : l.self.source.graph ≡ l.fn.self.source.graph;
+  same_graph : held_graph l.self.source ≡ held_graph l.fn.self.source;
 }
 
 abbrev pub decreases-loop-id : goal.decreases-loop-id

@@ -4,7 +4,7 @@ use Rattle.std.specs.VecDeque.Iter.{deque_iter_rest}
 use Rattle.gix_parts.specs.declared.hash.ObjectId.{ObjectId}
 use Rattle.gix_traverse.specs.declared.commit.simple.paint.Side.TheVariants as side
 use Rattle.gix_traverse.specs.declared.commit.simple.paint.Painter.{Painter}
-use Rattle.gix_traverse.specs.Simple.Inside.Painter.{Meets}
+use Rattle.gix_traverse.specs.Simple.Inside.Painter.{held_graph, Meets}
 use Rattle.gix_traverse.specs.Simple.Walk.{ids_of}
 use Rattle.gix_traverse.proofs.commit.simple.paint.Painter.show_all.Given as goal
 
@@ -14,5 +14,5 @@ invariant-loop-tip g l = record {
   meets : (new : Painter g.row.F.Denot) → Meets g.F.Find.objects side.Visible (ids_of (deque_iter_rest l.tip-iterator)) l.self new → Meets g.F.Find.objects side.Visible (ids_of l.fn.tips.items) l.fn.self new;
   within : (i : ObjectId) → Contains (ids_of (deque_iter_rest l.tip-iterator)) i → Contains (ids_of l.fn.tips.items) i;
   same_objects : l.self.source.objects ≡ l.fn.self.source.objects;
-  same_graph : l.self.source.graph ≡ l.fn.self.source.graph;
+  same_graph : held_graph l.self.source ≡ held_graph l.fn.self.source;
 }

@@ -1,10 +1,5 @@
-use Rattle.std.proofs.Common.{subst, IsPermutation}
-use Rattle.gix_parts.specs.PriorityQueue.{values}
-use Rattle.gix_traverse.proofs.Simple.TimeKeys.{takes_best}
+use Rattle.gix_traverse.proofs.Simple.TimeKeys.{takes_out}
 use Rattle.gix_traverse.proofs.commit.simple.pending.PendingQueue.pop.Goals as goal
 
-pub returns-in_ok-queue-in-Some-clause-ok : goal.returns-in_ok-queue-in-Some-clause-ok
-returns-in_ok-queue-in-Some-clause-ok c =
-    rw c.set_held-in-Some.ensures
-    (takes_best c.args.order c.in-Some.order c.in-Some.is c.args.self.now (values c.in_ok-queue-in-Some.queue)
-    (subst (λ old. IsPermutation old (values c.in_ok-queue-in-Some.queue)) c.take_held-held.ensures.items c.in_ok-queue-in-Some.ensures.items) _ _ c.take_best-taken.ensures.taken)
+pub returns-clause-ok : goal.returns-clause-ok
+returns-clause-ok c = takes_out _ _ _ _ _ c.in_ok-set_order.ensures.ok _ c.take.ensures

@@ -3,7 +3,7 @@ use Rattle.gix_traverse.proofs.Topo.Counting.ExploreEnds.{names_of}
 use Rattle.gix_traverse.proofs.Topo.Counting.Frontier.{to_do}
 use Rattle.gix_traverse.proofs.commit.topo.counting.Counting.explore.Given as goal
 
--- what was explored so far
+-- what was explored before this step
 abbrev pub invariant-loop-self : goal.invariant-loop-self
 invariant-loop-self g l = record {
   same : IsSamePlan g.F.Find.objects g.F.Find.faulty l.fn.self l.self;

@@ -5,7 +5,7 @@ use Rattle.gix_traverse.proofs.Topo.Starting.Started.{started_on, started_as, be
 use Rattle.gix_traverse.proofs.commit.topo.init.Builder.build.Goals as goal
 
 pub invariant_of-result : goal.invariant_of-result
-invariant_of-result g c = (c.in-Ok.ensures.timed, inr (begun_held g.F.Find.objects g.F.Find.faulty _ c.in-Ok.walk c.in-Ok.ensures.begun))
+invariant_of-result g c = inr (begun_held g.F.Find.objects g.F.Find.faulty _ c.in-Ok.walk c.in-Ok.ensures.begun)
 
 pub returns-in-Ok : goal.returns-in-Ok
 returns-in-Ok g c = (

@@ -17,6 +17,5 @@ invariant-loop-parent g l = record {
   tips : l.self.tips ≡ l.initial.self.tips;
   ends : l.self.ends ≡ l.initial.self.ends;
   ready : l.self.ready ≡ l.initial.self.ready;
-  taken : l.self.taken ≡ l.initial.self.taken;
   known : (p : ObjectId) → Contains (take l.parent-index l.parent-items) p → Knows (g.F.Find.objects l.initial.self.counting.reader.find) (rows_of l.initial.self.counting.reader.graph) l.initial.self.counting.reader.standing l.initial.self.counting.frontier p;
 }

@@ -1,7 +1,6 @@
 use Rattle.std.proofs.Common.{◌≡◌, List, length}
 use Rattle.gix_traverse.specs.declared.commit.topo.Error.{Error}
 use Rattle.gix_traverse.specs.declared.commit.topo.walk.Walk.{Walk}
-use Rattle.gix_traverse.specs.Topo.Inside.ReadySet.{AreTimed}
 use Rattle.gix_traverse.specs.Topo.Inside.Releasing.{plan_of, ReleasesAll, IsFaultAmong}
 use Rattle.gix_traverse.specs.Topo.Walk.{Ready}
 use Rattle.gix_traverse.proofs.commit.topo.walk.Walk.release_all.Given as goal
@@ -12,7 +11,6 @@ invariant-loop-id g l = record {
   releases : (new : Walk g.row.F.Denot) (others : List Ready) → ReleasesAll g.F.Find.objects g.F.Find.faulty l.self l.ids.items others new → (added : List Ready) × ReleasesAll g.F.Find.objects g.F.Find.faulty l.fn.self l.fn.ids.items added new;
   fault : (e : Error) → IsFaultAmong g.F.Find.objects g.F.Find.faulty l.self l.ids.items e → IsFaultAmong g.F.Find.objects g.F.Find.faulty l.fn.self l.fn.ids.items e;
   same : plan_of l.self ≡ plan_of l.fn.self;
-  timed : AreTimed l.self.ready;
 }
 
 abbrev pub decreases-loop-id : goal.decreases-loop-id

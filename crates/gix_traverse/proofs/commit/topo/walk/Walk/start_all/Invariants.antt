@@ -1,7 +1,6 @@
 use Rattle.std.proofs.Common.{◌≡◌, List, drop}
 use Rattle.gix_traverse.specs.declared.commit.topo.Error.{Error}
 use Rattle.gix_traverse.specs.declared.commit.topo.walk.Walk.{Walk}
-use Rattle.gix_traverse.specs.Topo.Inside.ReadySet.{AreTimed}
 use Rattle.gix_traverse.specs.Topo.Inside.Releasing.{plan_of}
 use Rattle.gix_traverse.specs.Topo.Inside.Starting.{StartsAll, IsStartFault}
 use Rattle.gix_traverse.specs.Topo.Walk.{Ready}
@@ -13,5 +12,4 @@ invariant-loop-index g l = record {
   starts : (new : Walk g.row.F.Denot) (others : List Ready) → StartsAll g.F.Find.objects g.F.Find.faulty l.self (drop l.index l.fn.self.tips.items) others new → (added : List Ready) × StartsAll g.F.Find.objects g.F.Find.faulty l.fn.self l.fn.self.tips.items added new;
   fault : (e : Error) → IsStartFault g.F.Find.objects g.F.Find.faulty l.self (drop l.index l.fn.self.tips.items) e → IsStartFault g.F.Find.objects g.F.Find.faulty l.fn.self l.fn.self.tips.items e;
   same : plan_of l.self ≡ plan_of l.fn.self;
-  timed : AreTimed l.self.ready;
 }

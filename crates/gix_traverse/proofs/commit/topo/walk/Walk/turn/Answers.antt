@@ -1,6 +1,6 @@
-use Rattle.std.proofs.Common.{sym, ◌∙◌, inr}
-use Rattle.gix_traverse.specs.Topo.Inside.ReadySet.{as_ready, ready_in}
-use Rattle.gix_traverse.specs.Topo.Inside.Releasing.{plan_of, counted_by}
+use Rattle.std.proofs.Common.{sym, ap, ◌∙◌, inr}
+use Rattle.gix_traverse.specs.Topo.Inside.ReadySet.{as_ready}
+use Rattle.gix_traverse.specs.Topo.Inside.Releasing.{plan_of, counted_by, taken_in, taken_of}
 use Rattle.gix_traverse.specs.Topo.Inside.Steady.{TakesReady, IsHeld, ended, given, failed}
 use Rattle.gix_traverse.specs.Topo.Walk.{IsNextReady, IsFault, IsLate}
 use Rattle.gix_traverse.proofs.Topo.Taking.Turn.{popped, turned, turn_faults}
@@ -13,18 +13,18 @@ returns-in_err-found-clause-turns g c =
       predicate = tt;
       counted = counted_by c.args.self.now.counting;
       ready = (c.in_err-found.ensures.none.1 ∙ sym c.in_err-found.ensures.none.0) k;
-      taken = c.args.self.now.taken;
+      taken = taken_in c.args.self.now.counting.frontier.known ((c.in_err-found.ensures.none.1 ∙ sym c.in_err-found.ensures.none.0) k);
     }))
 
 pub returns-in-Err-clause-turns : goal.returns-in-Err-clause-turns
 returns-in-Err-clause-turns g c =
-    let f : IsFault g.F.Find.objects g.F.Find.faulty (plan_of c.args.self.now) (IsNextReady g.F.Find.objects (plan_of c.args.self.now) c.args.self.now.taken (as_ready c.in_ok-found.found).id) c.in-Err.fault × IsLate g.F.Find.objects (plan_of c.args.self.now) (IsNextReady g.F.Find.objects (plan_of c.args.self.now) c.args.self.now.taken (as_ready c.in_ok-found.found).id) c.in-Err.fault = turn_faults g.F.Find.objects g.F.Find.faulty c.args.self.now c.pop.new.self c.pop.ensures.sorting (as_ready c.in_ok-found.found) c.in_ok-found.ensures.chosen c.requires.«open» c.in-Err.fault c.in-Err.ensures.fault in
-    failed (as_ready c.in_ok-found.found) (ready_in c.pop.new.self) c.in_ok-found.ensures.chosen f.0 f.1
-    ((λ k. record { store = c.take.new.self.counting.reader.find; rows = (plan_of c.take.new.self).rows; parents = c.take.new.self.counting.parents; sorting = c.clear.ensures.sorting k; tips = c.take.new.self.tips.items; ends = c.take.new.self.ends.items }) ∙ c.take.ensures.same ∙ popped c.args.self.now c.pop.new.self c.pop.ensures.sorting)
-    c.clear.ensures.none
+    let f : IsFault g.F.Find.objects g.F.Find.faulty (plan_of c.args.self.now) (IsNextReady g.F.Find.objects (plan_of c.args.self.now) (taken_of c.args.self.now) (as_ready c.in_ok-found.found).id) c.in-Err.fault × IsLate g.F.Find.objects (plan_of c.args.self.now) (IsNextReady g.F.Find.objects (plan_of c.args.self.now) (taken_of c.args.self.now) (as_ready c.in_ok-found.found).id) c.in-Err.fault = turn_faults g.F.Find.objects g.F.Find.faulty c.args.self.now c.pop.new.self c.pop.ensures.sorting (as_ready c.in_ok-found.found) c.in_ok-found.ensures.chosen c.requires c.in-Err.fault c.in-Err.ensures.fault in
+    failed (as_ready c.in_ok-found.found) c.pop.new.self.commits c.in_ok-found.ensures.chosen f.0 f.1
+    ((λ k. record { store = c.take.new.self.counting.reader.find; rows = (plan_of c.take.new.self).rows; parents = c.take.new.self.counting.parents; sorting = (ap (λ s. s.sorting) c.clear.ensures) k; tips = c.take.new.self.tips.items; ends = c.take.new.self.ends.items }) ∙ c.take.ensures.same ∙ popped c.args.self.now c.pop.new.self c.pop.ensures.sorting)
+    (ap (λ s. s.commits) c.clear.ensures)
 
 both : (g : _) (c : goal.After-into_info g) → TakesReady g.F.Find.objects g.F.Find.faulty c.args.self.now (as_ready c.in_ok-found.found) c.take.new.self × IsHeld g.F.Find.objects g.F.Find.faulty c.take.new.self
-both g c = turned g.F.Find.objects g.F.Find.faulty c.args.self.now c.pop.new.self c.pop.ensures.sorting (as_ready c.in_ok-found.found) c.in_ok-found.ensures.chosen c.requires.«open» c.in_default.ensures.takes.0 c.take.new.self c.in_default.ensures.takes.1
+both g c = turned g.F.Find.objects g.F.Find.faulty c.args.self.now c.pop.new.self c.pop.ensures.sorting (as_ready c.in_ok-found.found) c.in_ok-found.ensures.chosen c.requires c.in_default.ensures.takes.0 c.take.new.self c.in_default.ensures.takes.1
 
 pub returns-clause-turns : goal.returns-clause-turns
 returns-clause-turns g c = given (both g c).0 c.into_info.ensures

@@ -1,33 +1,26 @@
-use Rattle.std.proofs.Common.{◌≡◌, None, sym, ap, subst, ◌∙◌, rules}
-use Rattle.std.specs.Option.{option_map}
-use Rattle.gix_parts.specs.GraphCommit.{row_of_commit}
-use Rattle.gix_parts.specs.Rows.{row_of}
-use Rattle.gix_traverse.specs.Simple.Inside.Painter.{rows_in, Reads, ReadsParents, by_row, by_store, drops}
-use Rattle.gix_traverse.specs.Simple.Walk.{ids_at}
+use Rattle.std.proofs.Common.{◌≡◌, Err, IfErr, sym, subst, ◌∙◌}
+use Rattle.std.proofs.lemmas.Result.{err_from_is_err_and}
+use Rattle.gix_traverse.specs.declared.commit.simple.Hidden.{Hidden}
+use Rattle.gix_traverse.specs.History.Agreeing.{rows_in}
+use Rattle.gix_traverse.specs.History.Reading.{ReadsRow}
+use Rattle.gix_traverse.specs.Simple.Inside.Painter.{held_graph, ReadsParents, ReadFails}
+use Rattle.gix_traverse.specs.Simple.Painting.{IsFaultAt}
+use Rattle.gix_traverse.proofs.Painting.Reads.{row_read, store_read, unread}
 use Rattle.gix_traverse.proofs.commit.simple.paint.source.Source.parents_of.Goals as goal
-use Rattle.gix_traverse.proofs.commit.simple.paint.source.Source.parents_of.Goals.{in-Some+in-Some-commit_by_id+in_ok-parent_ids+in_default, in_default, in_default-via-in-None-1, in_default-via-in-Some+in-None-1}
 
-pub returns-in-Some-2-clause-parents : goal.returns-in-Some-2-clause-parents
-returns-in-Some-2-clause-parents g c =
-    let at : rows_in c.args.self.now.graph ≡ c.in-Some.graph.now = ap rows_in c.in-Some.is in
-    by_row (ap (λ rows. row_of rows c.args.id.now) at ∙ sym c.in-Some-commit_by_id.ensures.row)
-    (ap (λ rows. ids_at rows (row_of_commit c.in-Some-commit_by_id.commit).parents) at ∙ sym c.in_ok-parent_ids.ensures ∙ ap (option_map (λ ids. ids.items)) c.in-Some-2.is)
+pub returns-in-Some-clause-parents : goal.returns-in-Some-clause-parents
+returns-in-Some-clause-parents g c =
+    row_read (g.F.Find.objects c.args.self.now.objects.now) c.args.self.now.graph (subst (λ row. ReadsRow (rows_in c.args.self.now.graph) c.args.self.now.held c.args.id.now row c.read_row.new.held) c.in-Some.is c.in_ok-row.ensures.reads)
 
 pub returns-clause-parents : goal.returns-clause-parents
 returns-clause-parents g c =
-    elim c.match-self.branch [
-      | in-Some+in-Some-commit_by_id+in_ok-parent_ids+in_default w ↦
-          (let at : rows_in c.args.self.now.graph ≡ w.in-Some.graph.now = ap rows_in w.in-Some.is in
-          let read = subst (λ o. Reads (g.F.Find.objects o.now) c.args.id.now c.in_ok-read.field-0.parent_ids.items) (ap (λ s. s.objects) w.self-is) c.in_ok-read.ensures.read in
-          subst (ReadsParents (g.F.Find.objects c.args.self.now.objects.now) c.args.self.now.graph c.args.id.now c.in_ok-read.field-0.parent_ids.items) (sym (c.in_ok-read.ensures.graph ∙ ap (λ s. s.graph) w.self-is))
-          (drops (ap (λ rows. row_of rows c.args.id.now) at ∙ sym w.in-Some-commit_by_id.ensures.row)
-          (ap (λ rows. ids_at rows (row_of_commit w.in-Some-commit_by_id.commit).parents) at ∙ sym w.in_ok-parent_ids.ensures ∙ ap (option_map (λ ids. ids.items)) w.in_default.is) read))
-      | in_default w ↦
-          (let read = subst (λ o. Reads (g.F.Find.objects o.now) c.args.id.now c.in_ok-read.field-0.parent_ids.items) (ap (λ s. s.objects) w.self-is) c.in_ok-read.ensures.read in
-          let unrowed : row_of (rows_in c.args.self.now.graph) c.args.id.now ≡ None = elim w.in_default.branch [
-            | in_default-via-in-None-1 v ↦ (let e : c.args.self.now.graph ≡ None = search rules in ap (λ graph. row_of (rows_in graph) c.args.id.now) e)
-            | in_default-via-in-Some+in-None-1 v ↦ (let e : v.commit_by_id.result ≡ None = search rules in ap (λ graph. row_of (rows_in graph) c.args.id.now) v.in-Some.is ∙ sym v.commit_by_id.ensures.row ∙ ap (option_map row_of_commit) e)
-          ] in
-          subst (ReadsParents (g.F.Find.objects c.args.self.now.objects.now) c.args.self.now.graph c.args.id.now c.in_ok-read.field-0.parent_ids.items) (sym (c.in_ok-read.ensures.graph ∙ ap (λ s. s.graph) w.self-is))
-          (by_store unrowed read))
-    ]
+    subst (ReadsParents (g.F.Find.objects c.args.self.now.objects.now) (held_graph c.args.self.now) c.args.id.now c.in_ok-read.field-0.parent_ids.items) (sym c.in_ok-read.ensures.graph)
+    (store_read (g.F.Find.objects c.args.self.now.objects.now) c.args.self.now.graph (subst (λ row. ReadsRow (rows_in c.args.self.now.graph) c.args.self.now.held c.args.id.now row c.read_row.new.held) c.in_default.is c.in_ok-row.ensures.reads) c.in_ok-read.ensures.read)
+
+pub returns-in_err-read-clause-fault : goal.returns-in_err-read-clause-fault
+returns-in_err-read-clause-fault g c =
+    let p : (e : Hidden) × (c.from_residual-in_err-read.result ≡ Err e) × (e ≡ c.in_err-read.field-0.0) = err_from_is_err_and c.from_residual-in_err-read.result c.from_residual-in_err-read.ensures.1 in
+    subst (λ answer. IfErr answer (ReadFails (g.F.Find.objects c.args.self.now.objects.now) (g.F.Find.faulty c.args.self.now.objects.now) (rows_in (held_graph c.args.self.now)) c.args.id.now)) (sym p.1) (λ n. (
+      unread (g.F.Find.objects c.args.self.now.objects.now) c.args.self.now.graph (subst (λ row. ReadsRow (rows_in c.args.self.now.graph) c.args.self.now.held c.args.id.now row c.read_row.new.held) c.in_default.is c.in_ok-row.ensures.reads),
+      subst (IsFaultAt (g.F.Find.objects c.args.self.now.objects.now) (g.F.Find.faulty c.args.self.now.objects.now) c.args.id.now) (sym p.2) (c.in_err-read.ensures.fault (λ m. n (p.2 ∙ m))),
+    ))

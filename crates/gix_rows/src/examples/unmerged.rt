@@ -1,9 +1,9 @@
-//! The example of README.md, to the letter.
+//! The example of README.md.
 use gix_parts::hash::ObjectId;
 use gix_parts::object::find::Find;
 use gix_traverse::commit::Simple;
 use gix_traverse::commit::simple::{CommitTimeOrder, Error, Sorting};
-use std::alloc::{AllocError, Global};
+use std::alloc::Global;
 
 /// The commits that `tip` reaches and `merged` doesn't, newest first. A reference to a store is a store too.
 pub fn unmerged<F: Find + Drop>(
@@ -19,7 +19,7 @@ pub fn unmerged<F: Find + Drop>(
     let mut ids = Vec::new(alloc);
     for answer in walk {
         let info = answer?;
-        ids.push(info.id).map_err(AllocError::from)?;
+        ids.push(info.id)?;
     }
     Ok(ids)
 }

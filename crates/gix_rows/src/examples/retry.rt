@@ -1,0 +1,41 @@
+//! The example of `Find`.
+use gix_parts::hash::ObjectId;
+use gix_parts::object::Kind;
+use gix_parts::object::find::{Error, Find};
+
+/// A store that asks another one again where that fails.
+#[derive(Drop)]
+pub struct Retry<F> {
+    pub store: F,
+}
+
+impl<F: Find> Find for Retry<F> {
+    ghost objects = { λ s. F.objects s.store };
+
+    ghost faulty = { λ s. F.faulty s.store };
+
+    fn find_into(&self, id: &ObjectId, buf: &mut Vec<u8>) -> Result<Option<Kind>, Error> {
+        match self.store.find_into(id, buf) {
+            Err(Error::Store) => self.store.find_into(id, buf),
+            answer => answer,
+        }
+    }
+}
+
+#[cfg(test)]
+mod tests {
+    use super::*;
+    use crate::history::{PLAIN, id};
+    use std::test::Fail;
+
+    #[test]
+    fn what_the_store_has_is_found(rt: HostRuntime) -> Result<(), Fail> {
+        let retry = Retry {
+            store: PLAIN.store(rt.alloc())?,
+        };
+        let mut buf = Vec::new(rt.alloc());
+        let found = retry.find_into(&id(8), &mut buf)?;
+        assert_eq!(rt; found, Some(Kind::Commit));
+        Ok(())
+    }
+}
