@@ -72,7 +72,7 @@ module _ (objects : Objects) (tips hiders : List ObjectId) (whole : AreWhole obj
   abbrev IsMet : ObjectId → Type 0
   IsMet i = Reaches (parents_of objects) tips i
 
-  met_whole : (i : ObjectId) → IsMet i → ReadsWhole objects (never_faulty objects) i
+  met_whole : (i : ObjectId) → IsMet i → ReadsWhole objects i
   met_whole i r = whole_from objects i (whole i (reach_more (parents_of objects) tips (tips ++ hiders) (λ j c. Contains-append_left tips hiders j c) i r))
 
   -- what a walk keeps, whose history is whole
@@ -83,10 +83,10 @@ module _ (objects : Objects) (tips hiders : List ObjectId) (whole : AreWhole obj
     behind : (i : ObjectId) → Contains w.hidden_tips i → Contains hiders i
     met : (p : Pending) → Contains w.pending p → IsMet p.id
 
-  no_find : (i : ObjectId) (e : ExistingError) → ReadsWhole objects (never_faulty objects) i → IsExistingFault objects (never_faulty objects) i object.Commit e → ⊥
+  no_find : (i : ObjectId) (e : ExistingError) → ReadsWhole objects i → IsExistingFault objects (never_faulty objects) i object.Commit e → ⊥
   no_find i e reads f = subst (IsExistingFault objects (never_faulty objects) i object.Commit) (no_fault objects (never_faulty objects) i reads.commit e reads.stored f) f
 
-  no_fault_at : (i : ObjectId) (why : Hidden) → ReadsWhole objects (never_faulty objects) i → IsFaultAt objects (never_faulty objects) i why → ⊥
+  no_fault_at : (i : ObjectId) (why : Hidden) → ReadsWhole objects i → IsFaultAt objects (never_faulty objects) i why → ⊥
   no_fault_at i (hidden_by.Find e) reads f = no_find i e reads f
   no_fault_at i (hidden_by.ObjectDecode e) reads f =
       let n : None ≡ Some reads.commit = sym (ap (commit_of_object i) f.1 ∙ fault_unread (commit_items (kind_of i) f.0) e f.2) ∙ reads.stored in cc
@@ -130,7 +130,7 @@ module _ (objects : Objects) (tips hiders : List ObjectId) (whole : AreWhole obj
   taken : {w : Walk} {p : Pending} {answer : Result Info Error} {new : Walk} → Takes objects_of never_faulty accepts_all w p answer new → Stands w → IsMet p.id → IsGood (Some answer) new
   taken {w} {p} (by_row {row = row} r e t c) s m = let n : None ≡ Some row = ap (λ rows. row_of rows p.id) (sym s.rows) ∙ r in cc
   taken {w} {p} (by_store {bytes = bytes} u e t c) s m =
-      let reads : ReadsWhole objects (never_faulty objects) p.id = met_whole p.id m in
+      let reads : ReadsWhole objects p.id = met_whole p.id m in
       let text : read_commit (kind_of p.id) bytes ≡ Some reads.commit = sym (ap (commit_of_object p.id) e) ∙ ap (λ o. commit_at o p.id) s.store ∙ reads.stored in
       let scan = scan_is (kind_of p.id) bytes reads.commit text w.parents in
       let parents : (scanned w.parents (commit_items (kind_of p.id) bytes)).0 ≡ parents_of objects p.id = ap (λ x. x.0) scan ∙ ap (λ k. by_mode k reads.commit.parents) s.parents ∙ sym (ap parents_in reads.stored) in
@@ -164,7 +164,7 @@ module _ (objects : Objects) (tips hiders : List ObjectId) (whole : AreWhole obj
           (Contains-append_cases (ids_of w.pending) w.hidden_tips i c)
 
       reached : Reaches (parents_of objects) (tips ++ hiders) f.id
-      reached = reach_on (parents_of objects) (ids_of w.pending ++ w.hidden_tips) (tips ++ hiders) both f.id (subst (λ o. Reaches (parents_of o) (ids_of w.pending ++ w.hidden_tips) f.id) s.store (f.reached w.store (own_history w.store (never_faulty w.store) w.rows (none_agree w.store (never_faulty w.store) w.rows s.rows))))
+      reached = reach_on (parents_of objects) (ids_of w.pending ++ w.hidden_tips) (tips ++ hiders) both f.id (subst (λ o. Reaches (parents_of o) (ids_of w.pending ++ w.hidden_tips) f.id) s.store (f.reached w.store (own_history w.store (never_faulty w.store) w.rows (none_agree w.store w.rows s.rows))))
   called (no_memory some hides left) s = λ ne. tt
 
   drawn : (infos : List Info) (w at : Walk) → Yields Answers w (all_given infos) at → Stands w → Stands at
@@ -197,7 +197,7 @@ module _ (objects : Objects) (tips hiders : List ObjectId) (whole : AreWhole obj
       among : Contains f.made.pending f.fails.tip
       among = subst (λ ps. Contains ps f.fails.tip) (sym f.fails.place) (Contains-append_right f.fails.before (f.fails.tip ∷ f.fails.behind) f.fails.tip (Contains-here f.fails.tip f.fails.behind))
 
-      reads : ReadsWhole objects (never_faulty objects) f.fails.tip.id
+      reads : ReadsWhole objects f.fails.tip.id
       reads = met_whole f.fails.tip.id (start (among_is f.fails.tip.id tips (pending_is objects_of never_faulty accepts_all objects (record {}) (λ i. true) tips f.made (λ mid last i answer b h. h.0) f.makes f.fails.tip.id (in_ids f.made.pending f.fails.tip among)).1))
 
       go : (e : Error) → IsTipFault f.made.store (never_faulty f.made.store) f.fails.tip.id e → IsOutside (fault_of_walk e)

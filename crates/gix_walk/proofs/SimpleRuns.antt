@@ -64,10 +64,10 @@ same_ids objects order [] (i ∷ ids) h = absurd h
 same_ids objects order (info ∷ infos) [] h = absurd h
 same_ids objects order (info ∷ infos) (i ∷ ids) h = (λ k. h.0.info_is.same_id k ∷ same_ids objects order infos ids h.1 k)
 
-pub whole_from : (objects : Objects) (i : ObjectId) → IsSome (commit_at objects i) → ReadsWhole objects (never_faulty objects) i
+pub whole_from : (objects : Objects) (i : ObjectId) → IsSome (commit_at objects i) → ReadsWhole objects i
 whole_from objects i h = go (commit_at objects i) refl h
   where
-    go : (o : Option Commit) → commit_at objects i ≡ o → IsSome o → ReadsWhole objects (never_faulty objects) i
+    go : (o : Option Commit) → commit_at objects i ≡ o → IsSome o → ReadsWhole objects i
     go None e n = absurd (false≢true n)
     go (Some commit) e n = record { commit = commit; stored = e }
 
@@ -188,7 +188,7 @@ module _ (objects : Objects) (by : Sorting) (tips hidden : List ObjectId) (walk 
           given = λ i r. whole_from objects i (tips_whole i (reach_more (parents_of objects) _ (ids_of walk.pending) (λ j c. unkept objects _ (ids_of walk.pending) j c) i (loosened objects (λ j. true) test.0 (cutoff mode.All by) _ i r)));
           painted = λ p h i r. whole_from objects i (whole i (reach_more (parents_of objects) (ids_of walk.pending ++ hidden) (tips ++ hidden) both i r));
         };
-        agreeing = none_agree objects (never_faulty objects) [] refl;
+        agreeing = none_agree objects [] refl;
         unrefused = unrefused infos;
         drawn = subst (λ w. May objects_of never_faulty accepts_all w (given infos)) same (may_from walk at new (given infos) drawn ended);
       }

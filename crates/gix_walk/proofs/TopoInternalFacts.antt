@@ -25,7 +25,7 @@ IsSound (Some (Ok info)) = Unit {0}
 IsSound (Some (Err e)) = fault_of_topo_walk e ≢ fault.Internal
 
 fault_sound : (plan : TopoPlan Objects) (BecomesReady : ObjectId → Type 0) (e : Error) → plan.rows ≡ [] → IsFault objects_of never_faulty plan BecomesReady e → fault_of_topo_walk e ≢ fault.Internal
-fault_sound plan ready error.MissingIndegreeUnexpected none h = absurd (h (none_agree plan.store (never_faulty plan.store) plan.rows none))
+fault_sound plan ready error.MissingIndegreeUnexpected none h = absurd (h (none_agree plan.store plan.rows none))
 fault_sound plan ready error.MissingStateUnexpected none h = absurd h
 fault_sound plan ready (error.ObjectDecode e) none h = λ e. cc
 fault_sound plan ready (error.Find e) none h = find_sound plan.store h.0 object.Commit e h.1

@@ -75,7 +75,7 @@ next_says (failed {old = old} c others h f late) = (old.taken, c.id, f)
 module _ (objects : Objects) (by : Sorting) (tips ends : List ObjectId) (whole : AreWhole objects (tips ++ ends)) where
   sound : IsSound objects_of never_faulty (plan_from objects by tips ends)
   sound = record {
-    agreeing = none_agree objects (never_faulty objects) [] refl;
+    agreeing = none_agree objects [] refl;
     tips_whole = λ i r. whole_from objects i (whole i (reach_more (parents_of objects) tips (tips ++ ends) (λ j c. Contains-append_left tips ends j c) i r));
     parents_whole = λ c i r n. whole_from objects i (whole i (reach_more (parents_of objects) tips (tips ++ ends) (λ j m. Contains-append_left tips ends j m) i (step r n)));
     ends_whole = λ i r. whole_from objects i (whole i (reach_more (parents_of objects) ends (tips ++ ends) (λ j c. Contains-append_right tips ends j c) i r));
@@ -83,7 +83,7 @@ module _ (objects : Objects) (by : Sorting) (tips ends : List ObjectId) (whole :
 
   -- over whole commits the only fault is out of memory
   outside : (BecomesReady : ObjectId → Type 0) (e : Error) → IsFault objects_of never_faulty (plan_from objects by tips ends) BecomesReady e → IsOutside (fault_of_topo_walk e)
-  outside Q error.MissingIndegreeUnexpected h = absurd (h (none_agree objects (never_faulty objects) [] refl))
+  outside Q error.MissingIndegreeUnexpected h = absurd (h (none_agree objects [] refl))
   outside Q error.MissingStateUnexpected h = absurd h
   outside Q (error.ObjectDecode e) h = let same : error.ObjectDecode e ≡ error.Find existing.Store = h.2.1 sound in cc
   outside Q (error.Find e) h =

@@ -70,7 +70,7 @@ abbrev pub nobody : Side → ObjectId → Type 0
 nobody s i = ⊥
 
 -- a store is a history of the rows that agree with it
-pub own_history : (objects : Objects) (faulty : ObjectId → Type 0) (rows : List GraphRow) → IsAgreeing objects faulty rows → IsHistory objects rows objects
+pub own_history : (objects : Objects) (faulty : ObjectId → Type 0) (rows : List GraphRow) → IsAgreeing objects rows → IsHistory objects rows objects
 own_history objects faulty rows agrees = record {
   agreeing = λ row m.
       let a = agrees row m in

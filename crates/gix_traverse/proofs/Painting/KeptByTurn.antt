@@ -92,7 +92,7 @@ module _ {F : Type 0} (objects : F → Objects) (store : F) (history : Objects) 
   module _ (known : IsHistory (objects store) rows history) where
     pub falls : (c i : ObjectId) (n : ℕ) → HasGeneration c n → Contains (There c) i → (m : ℕ) × HasGeneration i m × (m < n)
     falls c i n h m =
-        let p : (r : GraphRow) × (row_of rows i ≡ Some r) × (r.generation < h.0.generation) = parent_below history (λ i. ⊥) rows known.agreeing c h.0 i h.1 m in
+        let p : (r : GraphRow) × (row_of rows i ≡ Some r) × (r.generation < h.0.generation) = parent_below history rows known.agreeing c h.0 i h.1 m in
         (p.0.generation, (p.0, p.1, refl), (let e : h.0.generation ≡ n = h.2 in let l : p.0.generation < h.0.generation = p.2 in omega arith))
 
     pub below : (q : ObjectId) (n : ℕ) → HasGeneration q n → (i : ObjectId) → Reaches There (q ∷ []) i → (m : ℕ) × HasGeneration i m × ((q ≡ i) ⊎ (m < n))
@@ -145,7 +145,7 @@ module _ {F : Type 0} (objects : F → Objects) (store : F) (history : Objects) 
           record {
             row = row;
             present = ap (row_of rows) (sym stands.1) ∙ e;
-            corrupt = corrupt_row history (λ i. ⊥) rows known.agreeing row stands.0 corrupt;
+            corrupt = corrupt_row history rows known.agreeing row stands.0 corrupt;
             reached = subst (Reaches There (tips ++ hidden_tips)) stands.1 (reaches_either top.1.side top.1.id (h.reached top there));
             bound = x.0;
             no_deeper = record {

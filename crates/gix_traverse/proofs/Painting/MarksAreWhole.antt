@@ -266,7 +266,7 @@ module _ {F : Type 0} (objects : F → Objects) (store : F) (rows : List GraphRo
   }
     where
       none_known : rows ≡ [] → IsHistory (objects store) rows (objects store)
-      none_known e = record { agreeing = none_agree (objects store) (λ i. ⊥) rows e; read = λ i commit r. r }
+      none_known e = record { agreeing = none_agree (objects store) rows e; read = λ i commit r. r }
 
       either_rows : (b : Bool) → ((if b then rows else []) ≡ rows) ⊎ ((if b then rows else []) ≡ [])
       either_rows true = inl refl

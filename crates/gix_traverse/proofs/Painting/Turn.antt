@@ -200,7 +200,7 @@ module _ {F : Type 0} (objects : F → Objects) (store : F) (history : Objects) 
       given_parents {ids = ids} (brought e) = reads_parents history top.1.id ids (in_history known top.1.id ids (safe.brings top (popped_there pops) ids e))
       given_parents {ids = ids} (looked_up n (by_row {row = row} e f)) =
           let graph : rows_in (held_graph v.source) ≡ rows_in (held_graph w.source) = ap (λ s. rows_in (held_graph s)) pops.source in
-          ⊎_elim (λ r. row_parents history (λ i. ⊥) rows known.agreeing top.1.id row ids (ap (λ rs. row_of rs top.1.id) (sym (graph ∙ r)) ∙ e) (ap (λ rs. ids_at rs row.parents) (sym (graph ∙ r)) ∙ f))
+          ⊎_elim (λ r. row_parents history rows known.agreeing top.1.id row ids (ap (λ rs. row_of rs top.1.id) (sym (graph ∙ r)) ∙ e) (ap (λ rs. ids_at rs row.parents) (sym (graph ∙ r)) ∙ f))
           (λ n. let none : None ≡ Some row = sym (ap (λ rs. row_of rs top.1.id) (graph ∙ ap rows_in n)) ∙ e in cc) safe.either
       given_parents {ids = ids} (looked_up n (by_store e r)) = reads_parents history top.1.id ids (in_history known top.1.id ids (subst (λ f. Reads (objects f) top.1.id ids) (ap (λ s. s.objects.now) pops.source ∙ safe.same_store) r))
       given_parents {ids = ids} (looked_up n (drops e f r)) = reads_parents history top.1.id ids (in_history known top.1.id ids (subst (λ o. Reads (objects o) top.1.id ids) (ap (λ s. s.objects.now) pops.source ∙ safe.same_store) r))

@@ -138,25 +138,25 @@ same_long (x ∷ xs) (z ∷ ys) (suc k) y l e = same_long xs ys k y (omega arith
 pub place_of : {X : Type 0} (xs : List X) (x : X) → Contains xs x → (k : ℕ) × (slice_get xs k ≡ Some x)
 place_of xs x h = (h.0, Rattle.std.proofs.lemmas.Option.slice_get-get_or xs h.0 x h.1 ∙ ap Some h.2)
 
-module _ (objects : Objects) (faulty : ObjectId → Type 0) (rows : List GraphRow) (agrees : IsAgreeing objects faulty rows) where
+module _ (objects : Objects) (rows : List GraphRow) (agrees : IsAgreeing objects rows) where
   -- a row says the parents and the time
   pub row_parents : (i : ObjectId) (row : GraphRow) (ids : List ObjectId) → row_of rows i ≡ Some row → ids_at rows row.parents ≡ Some ids → ids ≡ parents_of objects i
   row_parents i row ids e f =
       let h : Contains rows row × (i ≡ row.id) = row_stands rows i row e in
-      let a : RowAgrees objects faulty rows row = agrees row h.0 in
+      let a : RowAgrees objects rows row = agrees row h.0 in
       let p : ids ≡ a.whole.commit.parents = ids_agree rows row.generation row.parents a.whole.commit.parents ids a.places a.parents f in
       p ∙ sym (ap parents_in (ap (commit_at objects) h.1 ∙ a.whole.stored))
 
   pub row_says_time : (i : ObjectId) (row : GraphRow) → row_of rows i ≡ Some row → row.time ≡ time_of objects i
   row_says_time i row e =
       let h : Contains rows row × (i ≡ row.id) = row_stands rows i row e in
-      let a : RowAgrees objects faulty rows row = agrees row h.0 in
+      let a : RowAgrees objects rows row = agrees row h.0 in
       sym (ap time_in (ap (commit_at objects) h.1 ∙ a.whole.stored) ∙ a.time)
 
   pub parent_below : (c : ObjectId) (row : GraphRow) (i : ObjectId) → row_of rows c ≡ Some row → Contains (parents_of objects c) i → (r : GraphRow) × (row_of rows i ≡ Some r) × (r.generation < row.generation)
   parent_below c row i e n =
       let h : Contains rows row × (c ≡ row.id) = row_stands rows c row e in
-      let a : RowAgrees objects faulty rows row = agrees row h.0 in
+      let a : RowAgrees objects rows row = agrees row h.0 in
       let m : Contains a.whole.commit.parents i = subst (λ ps. Contains ps i) (ap parents_in (ap (commit_at objects) h.1 ∙ a.whole.stored)) n in
       let k : (k : ℕ) × (slice_get a.whole.commit.parents k ≡ Some i) = place_of _ i m in
       let q : (place : ParentPlace) × (slice_get row.parents k.0 ≡ Some place) = same_long row.parents a.whole.commit.parents k.0 i a.places k.1 in
@@ -195,12 +195,12 @@ fault_among rows (At n ∷ places) all e =
     go (Some row) a (Some ids) b rest e = cc
 
 -- where the rows agree, a row that can't be read has a fault among its places
-pub corrupt_row : (those : Objects) (fails : ObjectId → Type 0) (rows : List GraphRow) → IsAgreeing those fails rows → (row : GraphRow) → Contains rows row → ids_at rows row.parents ≡ None → IsCorrupt row
-corrupt_row those fails rows agrees row c e =
-    let a : RowAgrees those fails rows row = agrees row c in
+pub corrupt_row : (those : Objects) (rows : List GraphRow) → IsAgreeing those rows → (row : GraphRow) → Contains rows row → ids_at rows row.parents ≡ None → IsCorrupt row
+corrupt_row those rows agrees row c e =
+    let a : RowAgrees those rows row = agrees row c in
     fault_among rows row.parents (λ n m. placed a n m) e
   where
-    placed : (a : RowAgrees those fails rows row) (n : ℕ) → Contains row.parents (At n) → (r : GraphRow) × (slice_get rows n ≡ Some r)
+    placed : (a : RowAgrees those rows row) (n : ℕ) → Contains row.parents (At n) → (r : GraphRow) × (slice_get rows n ≡ Some r)
     placed a n m =
         let k : (k : ℕ) × (slice_get row.parents k ≡ Some (At n)) = place_of row.parents (At n) m in
         let q : (i : ObjectId) × (slice_get a.whole.commit.parents k.0 ≡ Some i) = same_long a.whole.commit.parents row.parents k.0 (At n) (sym a.places) k.1 in

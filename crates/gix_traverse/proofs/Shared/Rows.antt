@@ -17,8 +17,8 @@ use Rattle.std.proofs.lemmas.Bool.{or_left, or_right}
 use Rattle.gix_parts.specs.Id.{id_cmp, is_same, is_among}
 
 -- no rows agree with any store
-pub none_agree : (objects : Objects) (faulty : ObjectId → Type 0) (rows : List GraphRow) → rows ≡ [] → IsAgreeing objects faulty rows
-none_agree objects faulty rows e row m = absurd (no_member row (subst (λ those. Contains those row) e m))
+pub none_agree : (objects : Objects) (rows : List GraphRow) → rows ≡ [] → IsAgreeing objects rows
+none_agree objects rows e row m = absurd (no_member row (subst (λ those. Contains those row) e m))
 
 -- the ids that answers of a row's iterator name
 abbrev pub answered_ids : List GraphRow → List Answer → Option (List ObjectId)

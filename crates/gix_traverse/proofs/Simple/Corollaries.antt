@@ -169,7 +169,7 @@ module _ {F P : Type 0} (objects : F → Objects) (faulty : F → ObjectId → T
       gives_in_order objects faulty answers walk accepts (λ i. false) run.by_test run.fresh
       (λ i. (λ e. absurd (false≢true e), λ r. absurd (no_reach _ walk.hidden_tips run.open_to i r)))
       (record { given = λ i r. run.whole i (subst (λ n. Reaches n (ids_of walk.pending) i) same (subst (λ ts. Reaches (next_of objects walk accepts (λ j. false)) ts i) (all_kept (ids_of walk.pending)) r)); painted = λ some hides. absurd (hides run.open_to) })
-      (subst (λ rows. IsAgreeing (objects walk.store) (faulty walk.store) rows) (sym run.rowless) (λ row n. absurd (no_member row n)))
+      (subst (λ rows. IsAgreeing (objects walk.store) rows) (sym run.rowless) (λ row n. absurd (no_member row n)))
       list run.unrefused run.drawn
 
   plain_order : (order : Option CommitTimeOrder) (next : ObjectId → List ObjectId) (list : List (Result Info Error)) → time_order walk.parents walk.sorting ≡ order → next_of objects walk accepts (λ i. false) ≡ next → IsPlainRun objects faulty answers walk accepts next list →

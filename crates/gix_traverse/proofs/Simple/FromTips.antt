@@ -21,14 +21,14 @@ module _ {F P : Type 0} (objects : F → Objects) (faulty : F → ObjectId → T
   Drawn store parents starts = (ids : List ObjectId) × AllZip (IsPlain (objects store) parents None) list ids × IsBreadthOrder (accepted_parents (objects store) parents accepts) starts ids
 
   Whole : F → Parents → List ObjectId → Type 0
-  Whole store parents starts = (i : ObjectId) → Reaches (accepted_parents (objects store) parents accepts) starts i → ReadsWhole (objects store) (faulty store) i
+  Whole store parents starts = (i : ObjectId) → Reaches (accepted_parents (objects store) parents accepts) starts i → ReadsWhole (objects store) i
 
   -- what holds at one of two equal triples holds at the other
   moved : (Q : F → Parents → List ObjectId → Type 0) {a b : F} {m n : Parents} {xs ys : List ObjectId} → a ≡ b → m ≡ n → xs ≡ ys → Q a m xs → Q b n ys
   moved Q {a} {b} {m} {n} {xs} {ys} e f g q = subst (λ zs. Q b n zs) g (subst (λ k. Q b k xs) f (subst (λ c. Q c m xs) e q))
 
   pub made_run : (store : F) (predicate : P) (tips : List ObjectId) (walk : SimpleWalk F P) → AnswersBy answers predicate accepts → IsMade objects faulty answers store predicate tips walk
-      → ((i : ObjectId) → Reaches (accepted_parents (objects store) mode.All accepts) (new_ids (λ i. false) (filter accepts tips)) i → ReadsWhole (objects store) (faulty store) i)
+      → ((i : ObjectId) → Reaches (accepted_parents (objects store) mode.All accepts) (new_ids (λ i. false) (filter accepts tips)) i → ReadsWhole (objects store) i)
       → All IsNoRefusal list → May objects faulty answers walk list
       → GivesBreadthFirst (objects store) (accepted_parents (objects store) mode.All accepts) (new_ids (λ i. false) (filter accepts tips)) list
   unfolding Drawn Whole

@@ -71,12 +71,12 @@ module _ {F P : Type 0} (objects : F → Objects) (faulty : F → ObjectId → T
   -- a step keeps the rows and gives their generation, or drops them for a corrupt row, or fails and is the last
   data Tells (w : SimpleWalk F P) (answer : Result Info Error) (new : SimpleWalk F P) : Type 0 where
     keeps : new.store ≡ w.store → new.rows ≡ w.rows → IsTold w.rows answer → Tells w answer new
-    loses : new.store ≡ w.store → new.rows ≡ [] → IsUntold answer → (IsAgreeing (objects w.store) (faulty w.store) w.rows → HasCorruptRow w.rows) → Tells w answer new
+    loses : new.store ≡ w.store → new.rows ≡ [] → IsUntold answer → (IsAgreeing (objects w.store) w.rows → HasCorruptRow w.rows) → Tells w answer new
     ends : new.pending ≡ [] → IsFailed answer → Tells w answer new
 
   -- a row that names no ids is corrupt
-  corrupt : (w : SimpleWalk F P) (i : ObjectId) (row : GraphRow) → row_of w.rows i ≡ Some row → ids_at w.rows row.parents ≡ None → IsAgreeing (objects w.store) (faulty w.store) w.rows → HasCorruptRow w.rows
-  corrupt w i row e n agrees = let c = (row_stands w.rows i row e).0 in record { row = row; present = c; corrupt = corrupt_row (objects w.store) (faulty w.store) w.rows agrees row c n }
+  corrupt : (w : SimpleWalk F P) (i : ObjectId) (row : GraphRow) → row_of w.rows i ≡ Some row → ids_at w.rows row.parents ≡ None → IsAgreeing (objects w.store) w.rows → HasCorruptRow w.rows
+  corrupt w i row e n agrees = let c = (row_stands w.rows i row e).0 in record { row = row; present = c; corrupt = corrupt_row (objects w.store) w.rows agrees row c n }
 
   -- a commit without a row that can be read
   unrowed_tells : (w : SimpleWalk F P) (i : ObjectId) (answer : Result Info Error) (new : SimpleWalk F P) → IsUnrowed w.rows i → IsGivenAs i None answer → new.store ≡ w.store → new.rows ≡ kept_rows w.rows (row_of w.rows i) → Tells w answer new
@@ -101,7 +101,7 @@ module _ {F P : Type 0} (objects : F → Objects) (faulty : F → ObjectId → T
   -- the same, seen from a walk with the same rows and store
   from_same : {w v : SimpleWalk F P} {answer : Result Info Error} {new : SimpleWalk F P} → v.store ≡ w.store → v.rows ≡ w.rows → Tells v answer new → Tells w answer new
   from_same {w} {v} {answer} s r (keeps store rows told) = keeps (store ∙ s) (rows ∙ r) (subst (λ rs. IsTold rs answer) r told)
-  from_same {w} {v} s r (loses store rows untold why) = loses (store ∙ s) rows untold (λ agrees. subst HasCorruptRow r (why (transport (λ k. IsAgreeing (objects (sym s k)) (faulty (sym s k)) (sym r k)) agrees)))
+  from_same {w} {v} s r (loses store rows untold why) = loses (store ∙ s) rows untold (λ agrees. subst HasCorruptRow r (why (transport (λ k. IsAgreeing (objects (sym s k)) (sym r k)) agrees)))
   from_same s r (ends gone failed) = ends gone failed
 
   steps_tells : (w : SimpleWalk F P) {answer : Result Info Error} {new : SimpleWalk F P} → Steps objects faulty answers w (Some answer) new → Tells w answer new
@@ -142,7 +142,7 @@ module _ {F P : Type 0} (objects : F → Objects) (faulty : F → ObjectId → T
       tells : Tells (painted objects faulty answers w marks rows) answer new
       tells = steps_tells (painted objects faulty answers w marks rows) steps
 
-      after : (empty : rows ≡ []) → (IsAgreeing (objects w.store) (faulty w.store) w.rows → HasCorruptRow w.rows) → Tells (painted objects faulty answers w marks rows) answer new → Tells w answer new
+      after : (empty : rows ≡ []) → (IsAgreeing (objects w.store) w.rows → HasCorruptRow w.rows) → Tells (painted objects faulty answers w marks rows) answer new → Tells w answer new
       after empty why (keeps store left told) = loses store (left ∙ empty) (told_none answer (subst (λ rs. IsTold rs answer) empty told)) why
       after empty why (loses store left untold other) = loses store left untold why
       after empty why (ends gone failed) = ends gone failed

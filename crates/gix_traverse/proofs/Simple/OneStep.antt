@@ -66,15 +66,15 @@ module _ {F P : Type 0} (objects : F → Objects) (faulty : F → ObjectId → T
       go (Some order) e = ap Some (t order e)
 
   pub took_well : (s : Setting objects faulty answers) (w : SimpleWalk F P) → Stands objects faulty answers s w → (p : Pending) →
-      ReadsWhole (objects s.store) (faulty s.store) p.id → ((i : ObjectId) → Contains (parents_of (objects s.store) p.id) i → set.contains s.marks i ≡ s.hidden i) → ((order : CommitTimeOrder) → order_of objects faulty answers s ≡ Some order → p.time ≡ time_of (objects s.store) p.id) →
+      ReadsWhole (objects s.store) p.id → ((i : ObjectId) → Contains (parents_of (objects s.store) p.id) i → set.contains s.marks i ≡ s.hidden i) → ((order : CommitTimeOrder) → order_of objects faulty answers s ≡ Some order → p.time ≡ time_of (objects s.store) p.id) →
       {answer : Result Info Error} {new : SimpleWalk F P} → Takes objects faulty answers w p answer new → IsNoRefusal answer → Took s p.id w answer new
   took_well s w h p whole marked timed (by_row {row = row} {ids = ids} {how = how} {walk = walk} r e treats concludes) ok =
-      let is : ids ≡ parents_of (objects s.store) p.id = row_parents (objects s.store) (faulty s.store) w.rows (rows_agree objects faulty answers s w h) p.id row ids r e in
+      let is : ids ≡ parents_of (objects s.store) p.id = row_parents (objects s.store) w.rows (rows_agree objects faulty answers s w h) p.id row ids r e in
       let same : by_mode w.parents ids ≡ walked_parents (objects s.store) s.parents p.id = λ k. by_mode (h.parents k) (is k) in
       concluded s w p.id (by_mode w.parents ids) (Some row.generation) (given_time w p) [] None walk same refl (row, row_generation s w h p.id row r, refl) (time_given s w h p timed)
       (λ on. all_treated objects faulty answers s true treats on h (λ i n.
       let m : Contains (parents_of (objects s.store) p.id) i = subst (λ xs. Contains xs i) is (walked_within w.parents ids i n) in
-      record { marked = marked i m; rowed = λ b. parent_has_row (objects s.store) (faulty s.store) w.rows (rows_agree objects faulty answers s w h) p.id row i r m }))
+      record { marked = marked i m; rowed = λ b. parent_has_row (objects s.store) w.rows (rows_agree objects faulty answers s w h) p.id row i r m }))
       concludes ok
   took_well s w h p whole marked timed (by_store {bytes = bytes} {how = how} {walk = walk} u e treats concludes) ok =
       let reads : read_commit (kind_of p.id) bytes ≡ Some whole.commit = sym (ap (commit_of_object p.id) e) ∙ ap (λ f. commit_at (objects f) p.id) h.store ∙ whole.stored in

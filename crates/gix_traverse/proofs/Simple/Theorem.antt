@@ -82,7 +82,7 @@ in_order_from (Some order) time next starts ids h = h
 
 module _ {F P : Type 0} (objects : F → Objects) (faulty : F → ObjectId → Type 0) (answers : P → ObjectId → Bool → P → Type 0) (w : SimpleWalk F P) (accepts hides : ObjectId → Bool)
     (by_test : AnswersBy answers w.predicate accepts) (is_fresh : IsFresh objects w accepts) (tells : Tells hides (Reaches (parents_of (objects w.store)) w.hidden_tips))
-    (meets : MeetsWhole objects faulty w accepts hides) (agreeing : IsAgreeing (objects w.store) (faulty w.store) w.rows) where
+    (meets : MeetsWhole objects faulty w accepts hides) (agreeing : IsAgreeing (objects w.store) w.rows) where
   abbrev setting : set.FinSet id_cmp → Setting objects faulty answers
   setting marks = record { store = w.store; predicate = w.predicate; rows = w.rows; parents = w.parents; sorting = w.sorting; marks = marks; accepts = accepts; hidden = hides; starts = starts_of w hides; by_test = by_test; agreeing = agreeing }
 
@@ -189,10 +189,10 @@ module _ {F P : Type 0} (objects : F → Objects) (faulty : F → ObjectId → T
 
   no_hidden_fault : w.pending ≢ [] → w.hidden_tips ≢ [] → (why : Hidden) → IsNoRefusal (Err (error.HiddenGraph why)) → IsHiddenFault (objects w.store) (faulty w.store) w.rows (ids_of w.pending) w.hidden_tips why → ⊥
   no_hidden_fault some hidden (hidden_by.Find e) ok fault =
-      let whole : ReadsWhole (objects w.store) (faulty w.store) fault.id = meets.painted some hidden fault.id (fault.reached (objects w.store) own) in
+      let whole : ReadsWhole (objects w.store) fault.id = meets.painted some hidden fault.id (fault.reached (objects w.store) own) in
       ok.2 (ap (λ x. Err (error.HiddenGraph (hidden_by.Find x))) (no_fault (objects w.store) (faulty w.store) fault.id whole.commit e whole.stored fault.fault))
   no_hidden_fault some hidden (hidden_by.ObjectDecode e) ok fault =
-      let whole : ReadsWhole (objects w.store) (faulty w.store) fault.id = meets.painted some hidden fault.id (fault.reached (objects w.store) own) in
+      let whole : ReadsWhole (objects w.store) fault.id = meets.painted some hidden fault.id (fault.reached (objects w.store) own) in
       let n : None ≡ Some whole.commit = sym (ap (commit_of_object fault.id) fault.fault.1 ∙ fault_unread (commit_items (kind_of fault.id) fault.fault.0) e fault.fault.2) ∙ whole.stored in cc
 
   begins : {o : Option (Result Info Error)} {new : SimpleWalk F P} → ((answer : Result Info Error) → o ≡ Some answer → IsNoRefusal answer) → Next objects faulty answers w o new → Begins o new

@@ -73,7 +73,7 @@ module _ {F P : Type 0} (objects : F → Objects) (faulty : F → ObjectId → T
     pub hidden : ObjectId → Bool
     pub starts : List ObjectId
     pub by_test : AnswersBy answers predicate accepts
-    pub agreeing : IsAgreeing (objects store) (faulty store) rows
+    pub agreeing : IsAgreeing (objects store) rows
 
   abbrev pub order_of : Setting → Option CommitTimeOrder
   order_of s = time_order s.parents s.sorting
@@ -143,8 +143,8 @@ module _ {F P : Type 0} (objects : F → Objects) (faulty : F → ObjectId → T
   seen_still i j old e = sym (ap (λ b. b || old j) e)
 
   -- the rows that are left agree
-  pub rows_agree : (s : Setting) (w : SimpleWalk F P) → Stands s w → IsAgreeing (objects s.store) (faulty s.store) w.rows
-  rows_agree s w h = ⊎_elim (λ e. subst (λ rows. IsAgreeing (objects s.store) (faulty s.store) rows) (sym e) s.agreeing) (λ e. subst (λ rows. IsAgreeing (objects s.store) (faulty s.store) rows) (sym e) (λ row n. absurd (no_member row n))) h.rows
+  pub rows_agree : (s : Setting) (w : SimpleWalk F P) → Stands s w → IsAgreeing (objects s.store) w.rows
+  rows_agree s w h = ⊎_elim (λ e. subst (λ rows. IsAgreeing (objects s.store) rows) (sym e) s.agreeing) (λ e. subst (λ rows. IsAgreeing (objects s.store) rows) (sym e) (λ row n. absurd (no_member row n))) h.rows
 
   older_alike : (s : Setting) (w : SimpleWalk F P) → Stands s w → (by_row : Bool) (i : ObjectId) (time : ℤ) → (by_row ≡ true → (row : GraphRow) × (row_of w.rows i ≡ Some row)) → ReadsTime objects faulty answers w by_row i (Ok time) → ((order : CommitTimeOrder) → order_of s ≡ Some order → time ≡ time_of (objects s.store) i) × (is_older time (limit_of s) ≡ is_older (time_of (objects s.store) i) (limit_of s))
   older_alike s w h by_row i time rowed (unasked e) =
@@ -152,7 +152,7 @@ module _ {F P : Type 0} (objects : F → Objects) (faulty : F → ObjectId → T
       (λ order some. cc, ap (is_older (pos 0)) (no_cutoff s.parents s.sorting none) ∙ sym (ap (is_older (time_of (objects s.store) i)) (no_cutoff s.parents s.sorting none)))
   older_alike s w h by_row i time rowed (from_row e b) =
       let r : (row : GraphRow) × (row_of w.rows i ≡ Some row) = rowed b in
-      let t : row_time (row_of w.rows i) ≡ time_of (objects s.store) i = ap row_time r.1 ∙ row_says_time (objects s.store) (faulty s.store) w.rows (rows_agree s w h) i r.0 r.1 in
+      let t : row_time (row_of w.rows i) ≡ time_of (objects s.store) i = ap row_time r.1 ∙ row_says_time (objects s.store) w.rows (rows_agree s w h) i r.0 r.1 in
       (λ order some. t, ap (λ n. is_older n (limit_of s)) t)
   older_alike s w h by_row i time rowed (from_store e b) =
       let t : time_of (objects w.store) i ≡ time_of (objects s.store) i = ap (λ f. time_of (objects f) i) h.store in

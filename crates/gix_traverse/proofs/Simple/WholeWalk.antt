@@ -47,7 +47,7 @@ module _ {F P : Type 0} (objects : F → Objects) (faulty : F → ObjectId → T
 
   -- what is known of the history
   pub record Known (s : Setting objects faulty answers) : Type 0 where
-    pub whole : (i : ObjectId) → Reaches (next objects faulty answers s) s.starts i → ReadsWhole (objects s.store) (faulty s.store) i
+    pub whole : (i : ObjectId) → Reaches (next objects faulty answers s) s.starts i → ReadsWhole (objects s.store) i
     pub marked : (c i : ObjectId) → Reaches (next objects faulty answers s) s.starts c → Contains (parents_of (objects s.store) c) i → set.contains s.marks i ≡ s.hidden i
 
   -- the invariant of a whole walk

@@ -3,7 +3,7 @@ pub mod Marks
 -- What naming and finishing an id changes in the table.
 pub mod Frontier
 -- Naming the parents of a commit one by one.
-pub mod NamesParents
+pub mod MeetsParents
 -- Each id of a list at its last place.
 pub mod LastPlaces
 -- A step of the searches, put together from its parts.

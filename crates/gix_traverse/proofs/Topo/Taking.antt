@@ -19,4 +19,4 @@ pub mod ReadFaults
 -- When a ready commit can't be taken.
 pub mod TakingFaults
 -- One call of `next`: commits are taken until one is given.
-pub mod Turn
+pub mod TakeNext

@@ -24,16 +24,16 @@ PlaceAgrees rows generation i (At n) =
     (row : GraphRow) × (slice_get rows n ≡ Some row) × (row.id ≡ i) × (row_of rows i ≡ Some row) × (row.generation < generation)
 PlaceAgrees rows generation i Fault = (row : GraphRow) × (row_of rows i ≡ Some row) × (row.generation < generation)
 
-pub record RowAgrees (objects : Objects) (faulty : ObjectId → Type 0) (rows : List GraphRow) (row : GraphRow) : Type 0 where
-  pub whole : ReadsWhole objects faulty row.id
+pub record RowAgrees (objects : Objects) (rows : List GraphRow) (row : GraphRow) : Type 0 where
+  pub whole : ReadsWhole objects row.id
   pub tree : whole.commit.tree ≡ row.tree
   pub time : whole.commit.time ≡ row.time
   pub places : length row.parents ≡ length whole.commit.parents
   pub parents : (k : ℕ) (i : ObjectId) (place : ParentPlace) → slice_get whole.commit.parents k ≡ Some i → slice_get row.parents k ≡ Some place → PlaceAgrees rows row.generation i place
   pub finite : row.generation < 2 ^ 32 - 1
 
-abbrev pub IsAgreeing : Objects → (ObjectId → Type 0) → List GraphRow → Type 0
-IsAgreeing objects faulty rows = (row : GraphRow) → Contains rows row → RowAgrees objects faulty rows row
+abbrev pub IsAgreeing : Objects → List GraphRow → Type 0
+IsAgreeing objects rows = (row : GraphRow) → Contains rows row → RowAgrees objects rows row
 
 -- a row with a corrupt place
 abbrev pub IsCorrupt : GraphRow → Type 0

@@ -90,8 +90,8 @@ IsInOrder (Some order) time next starts ids = IsTimeOrder order time next starts
 
 -- what a walk meets reads whole: with hidden tips, all that tips and hidden tips reach
 pub record MeetsWhole {F P : Type 0} (objects : F → Objects) (faulty : F → ObjectId → Type 0) (walk : SimpleWalk F P) (accepts hidden : ObjectId → Bool) : Type 0 where
-  pub given : (i : ObjectId) → Reaches (next_of objects walk accepts hidden) (starts_of walk hidden) i → ReadsWhole (objects walk.store) (faulty walk.store) i
-  pub painted : walk.pending ≢ [] → walk.hidden_tips ≢ [] → (i : ObjectId) → Reaches (parents_of (objects walk.store)) (ids_of walk.pending ++ walk.hidden_tips) i → ReadsWhole (objects walk.store) (faulty walk.store) i
+  pub given : (i : ObjectId) → Reaches (next_of objects walk accepts hidden) (starts_of walk hidden) i → ReadsWhole (objects walk.store) i
+  pub painted : walk.pending ≢ [] → walk.hidden_tips ≢ [] → (i : ObjectId) → Reaches (parents_of (objects walk.store)) (ids_of walk.pending ++ walk.hidden_tips) i → ReadsWhole (objects walk.store) i
 
 -- the answers are these commits in order
 pub record GivesInOrder {F P : Type 0} (objects : F → Objects) (walk : SimpleWalk F P) (accepts hidden : ObjectId → Bool) (answers : List (Result Info Error)) : Type 0 where
@@ -105,7 +105,7 @@ pub record IsWholeRun {F P : Type 0} (objects : F → Objects) (faulty : F → O
   pub fresh : IsFresh objects walk accepts
   pub tells : Tells hidden (Reaches (parents_of (objects walk.store)) walk.hidden_tips)
   pub meets : MeetsWhole objects faulty walk accepts hidden
-  pub agreeing : IsAgreeing (objects walk.store) (faulty walk.store) walk.rows
+  pub agreeing : IsAgreeing (objects walk.store) walk.rows
   pub unrefused : All IsNoRefusal list
   pub drawn : May objects faulty answers walk list
 
@@ -152,7 +152,7 @@ pub record IsPlainRun {F P : Type 0} (objects : F → Objects) (faulty : F → O
   pub fresh : IsFresh objects walk accepts
   pub open_to : walk.hidden_tips ≡ []
   pub rowless : walk.rows ≡ []
-  pub whole : (i : ObjectId) → Reaches next (ids_of walk.pending) i → ReadsWhole (objects walk.store) (faulty walk.store) i
+  pub whole : (i : ObjectId) → Reaches next (ids_of walk.pending) i → ReadsWhole (objects walk.store) i
   pub unrefused : All IsNoRefusal list
   pub drawn : May objects faulty answers walk list
 

@@ -26,7 +26,7 @@ IsFaultAt objects faulty i (hidden_by.ObjectDecode e) =
 -- Commits that the rows agree with, and of which the store says nothing else. A store that agrees with its rows is a history itself. It
 -- may also lack commits of the history, have them broken, or fail at them.
 pub record IsHistory (objects : Objects) (rows : List GraphRow) (history : Objects) : Type 0 where
-  pub agreeing : IsAgreeing history (λ i. ⊥) rows
+  pub agreeing : IsAgreeing history rows
   pub read : (i : ObjectId) (commit : Commit) → commit_at objects i ≡ Some commit → commit_at history i ≡ Some commit
 
 -- the generation of a row, and infinity where there is none

@@ -53,7 +53,7 @@ pub record TellsGenerations (objects : Objects) (faulty : ObjectId → Type 0) (
   pub parts : list ≡ before ++ behind
   pub told : All (IsTold rows) before
   pub untold : All IsUntold behind
-  pub dropped : (behind ≡ []) ⊎ (IsAgreeing objects faulty rows → HasCorruptRow rows)
+  pub dropped : (behind ≡ []) ⊎ (IsAgreeing objects rows → HasCorruptRow rows)
 
 -- two walks of one store, over the same parents, in the same order, from the same pending commits
 pub record AreAlike {F P : Type 0} (walk other : SimpleWalk F P) : Type 0 where

@@ -59,7 +59,7 @@ module _ {F P : Type 0} (objects : F → Objects) (faulty : F → ObjectId → T
       let starts = new_ids (λ i. false) (filter accepts tips) in
       AnswersBy answers predicate accepts
       → IsMade objects faulty answers store predicate tips walk
-      → ((i : ObjectId) → Reaches next starts i → ReadsWhole (objects store) (faulty store) i)
+      → ((i : ObjectId) → Reaches next starts i → ReadsWhole (objects store) i)
       → All IsNoRefusal list
       → May objects faulty answers walk list
       → GivesBreadthFirst (objects store) next starts list

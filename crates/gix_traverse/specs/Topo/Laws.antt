@@ -15,7 +15,7 @@ use Rattle.gix_traverse.specs.Orders.TopoOrder.{IsTopoOrder}
 use Rattle.gix_traverse.specs.History.Commits.{parents_of, time_of}
 use Rattle.gix_traverse.specs.Simple.Walk.{IsInfo}
 use Rattle.gix_traverse.specs.Simple.Laws.{AnswersBy, AreDistinct, IsRowGeneration, new_ids}
-use Rattle.gix_traverse.specs.Topo.Walk.{TopoPlan, TopoWalk, Ready, walked_of, IsMember, IsSound, IsStarted, Next, May, ready_ids, is_made, named_ids}
+use Rattle.gix_traverse.specs.Topo.Walk.{TopoPlan, TopoWalk, Ready, walked_of, IsMember, IsSound, IsStarted, Next, May, ready_ids, was_ready, named_ids}
 
 -- the order that was asked for
 abbrev pub IsSorted : Sorting → (ObjectId → ℤ) → (ObjectId → List ObjectId) → (ObjectId → Type 0) → List ObjectId → List ObjectId → Type 0
@@ -61,7 +61,7 @@ left_beside n (r ∷ ready) = n + suc (length ready)
 
 -- how many answers a walk can still give: the ready commits, and the ids that rows and the texts of stored commits name and that aren't taken or ready
 abbrev pub answers_left : {F P : Type 0} → (F → Objects) → TopoWalk F P → ℕ
-answers_left objects walk = left_beside (length (new_ids (is_made walk) (named_ids (objects walk.plan.store) walk.plan.rows))) walk.ready
+answers_left objects walk = left_beside (length (new_ids (was_ready walk) (named_ids (objects walk.plan.store) walk.plan.rows))) walk.ready
 
 -- the ready commits are different ones, and not taken
 pub record AreApart {F P : Type 0} (walk : TopoWalk F P) : Type 0 where

@@ -83,8 +83,8 @@ abbrev pub IsTaken : set.FinSet id_cmp → ObjectId → Type 0
 IsTaken taken i = set.contains taken i ≡ true
 
 -- taken, or ready
-abbrev pub is_made : {F P : Type 0} → TopoWalk F P → ObjectId → Bool
-is_made walk i = set.contains walk.taken i || is_among i (ready_ids walk.ready)
+abbrev pub was_ready : {F P : Type 0} → TopoWalk F P → ObjectId → Bool
+was_ready walk i = set.contains walk.taken i || is_among i (ready_ids walk.ready)
 
 -- the ready ones are these
 abbrev pub HoldsReady : Sorting → List Ready → List Ready → Type 0
@@ -254,24 +254,24 @@ module _ {F : Type 0} (objects : F → Objects) (faulty : F → ObjectId → Typ
 
   -- the rows agree, and all that is walked reads whole: what tips reach, and what ends reach
   pub record IsWalkable : Type 0 where
-    pub agreeing : IsAgreeing (objects plan.store) (faulty plan.store) plan.rows
-    pub tips_whole : (i : ObjectId) → Reaches (walked_of objects plan) plan.tips i → ReadsWhole (objects plan.store) (faulty plan.store) i
-    pub ends_whole : (i : ObjectId) → Reaches (parents_of (objects plan.store)) plan.ends i → ReadsWhole (objects plan.store) (faulty plan.store) i
+    pub agreeing : IsAgreeing (objects plan.store) plan.rows
+    pub tips_whole : (i : ObjectId) → Reaches (walked_of objects plan) plan.tips i → ReadsWhole (objects plan.store) i
+    pub ends_whole : (i : ObjectId) → Reaches (parents_of (objects plan.store)) plan.ends i → ReadsWhole (objects plan.store) i
 
   -- and so do all parents of what tips reach, also the parents that aren't walked
   pub record IsSound : Type 0 where
-    pub agreeing : IsAgreeing (objects plan.store) (faulty plan.store) plan.rows
-    pub tips_whole : (i : ObjectId) → Reaches (walked_of objects plan) plan.tips i → ReadsWhole (objects plan.store) (faulty plan.store) i
-    pub parents_whole : (c i : ObjectId) → Reaches (walked_of objects plan) plan.tips c → Contains (parents_of (objects plan.store) c) i → ReadsWhole (objects plan.store) (faulty plan.store) i
-    pub ends_whole : (i : ObjectId) → Reaches (parents_of (objects plan.store)) plan.ends i → ReadsWhole (objects plan.store) (faulty plan.store) i
+    pub agreeing : IsAgreeing (objects plan.store) plan.rows
+    pub tips_whole : (i : ObjectId) → Reaches (walked_of objects plan) plan.tips i → ReadsWhole (objects plan.store) i
+    pub parents_whole : (c i : ObjectId) → Reaches (walked_of objects plan) plan.tips c → Contains (parents_of (objects plan.store) c) i → ReadsWhole (objects plan.store) i
+    pub ends_whole : (i : ObjectId) → Reaches (parents_of (objects plan.store)) plan.ends i → ReadsWhole (objects plan.store) i
 
   -- with rows that agree it is looked up, and over a sound plan it is the store that fails
   abbrev pub IsMetFault : (ObjectId → Type 0) → ObjectId → Error → Type 0
-  IsMetFault BecomesReady i e = (IsAgreeing (objects plan.store) (faulty plan.store) plan.rows → IsLookedUp objects plan BecomesReady i) × (IsSound → e ≡ error.Find existing.Store)
+  IsMetFault BecomesReady i e = (IsAgreeing (objects plan.store) plan.rows → IsLookedUp objects plan BecomesReady i) × (IsSound → e ≡ error.Find existing.Store)
 
   -- when each fault comes, where these become ready
   abbrev pub IsFault : (ObjectId → Type 0) → Error → Type 0
-  IsFault BecomesReady error.MissingIndegreeUnexpected = IsAgreeing (objects plan.store) (faulty plan.store) plan.rows → ⊥
+  IsFault BecomesReady error.MissingIndegreeUnexpected = IsAgreeing (objects plan.store) plan.rows → ⊥
   IsFault BecomesReady error.MissingStateUnexpected = ⊥
   IsFault BecomesReady (error.Find e) = (i : ObjectId) × IsExistingFault (objects plan.store) (faulty plan.store) i object.Commit e × IsMetFault BecomesReady i (error.Find e)
   IsFault BecomesReady (error.ObjectDecode e) = (i : ObjectId) × IsTextFault (objects plan.store) i e × IsMetFault BecomesReady i (error.ObjectDecode e)
@@ -318,7 +318,7 @@ module _ {F P : Type 0} (objects : F → Objects) (faulty : F → ObjectId → T
   pub record Adds (old : TopoWalk F P) (c : Ready) (counted : Counted) (added : List Ready) : Type 0 where
     -- each is new
     pub distinct : AreDistinct (ready_ids added)
-    pub unmade : (i : ObjectId) → Contains (ready_ids added) i → is_made old i ≡ false
+    pub unmade : (i : ObjectId) → Contains (ready_ids added) i → was_ready old i ≡ false
     pub named : (i : ObjectId) → Contains (ready_ids added) i → is_among i (named_ids (objects old.plan.store) old.plan.rows) ≡ true
     -- and was read, whatever the store and the rows
     pub found : (r : Ready) → Contains added r → IsFound objects faulty old.plan old.counted.standing counted.standing r

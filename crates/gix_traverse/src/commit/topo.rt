@@ -163,7 +163,7 @@ impl<F: Find + Drop, P: Predicate + Drop> Iterator for Topo<F, P> {
 
     fn next(&mut self) -> Option<Result<Info, Error>> {
         loop {
-            let info = match self.walk.turn()? {
+            let info = match self.walk.take_next()? {
                 Ok(info) => info,
                 Err(fault) => return Some(Err(fault)),
             };

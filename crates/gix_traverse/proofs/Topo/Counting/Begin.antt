@@ -119,7 +119,7 @@ module _ {F : Type 0} (objects : F → Objects) (faulty : F → ObjectId → Typ
     Rows = rows_of low.reader.graph
 
     abbrev Agrees : Type 0
-    Agrees = IsAgreeing (objects low.reader.find) (faulty low.reader.find) Rows
+    Agrees = IsAgreeing (objects low.reader.find) Rows
 
     same : IsSamePlan objects faulty low explored
     same = explores_same objects faulty explores
@@ -150,7 +150,7 @@ module _ {F : Type 0} (objects : F → Objects) (faulty : F → ObjectId → Typ
     idle none = ⊎_elim (λ q. q) (λ r. go r.1 explored.frontier.queue refl) rested
       where
         keyed : (entry : ℕ × Waiting) → Contains explored.frontier.queue entry → entry.0 ≡ known_generation Rows entry.1.id
-        keyed = (explores_keep objects faulty tips ends (λ i. false) (none_agree (objects low.reader.find) (faulty low.reader.find) Rows none) explores (counted_low (λ i. false) (λ i. refl))).searched.keyed
+        keyed = (explores_keep objects faulty tips ends (λ i. false) (none_agree (objects low.reader.find) Rows none) explores (counted_low (λ i. false) (λ i. refl))).searched.keyed
 
         go : ((entry : ℕ × Waiting) → Contains explored.frontier.queue entry → entry.0 < explored.depth) → (queue : List (ℕ × Waiting)) → explored.frontier.queue ≡ queue → queue ≡ []
         go below [] e = refl
@@ -166,7 +166,7 @@ module _ {F : Type 0} (objects : F → Objects) (faulty : F → ObjectId → Typ
     read none i r =
         let high : low.depth ≤ known_generation Rows i = subst (λ g. low.depth ≤ g) (sym (unknown_generation Rows i none)) (low_depth none) in
         let by : (side : Side) → Reaches (next_by (objects low.reader.find) low.parents side) (starts_by tips ends side) i → IsCommitRead (objects low.reader.find) i =
-        λ side t. done_read none start.fresh.undone explores side i (there (none_agree (objects low.reader.find) (faulty low.reader.find) Rows none) side i t high) in
+        λ side t. done_read none start.fresh.undone explores side i (there (none_agree (objects low.reader.find) Rows none) side i t high) in
         ⊎_elim (by Tips) (by Ends) r
 
     -- the searches have begun

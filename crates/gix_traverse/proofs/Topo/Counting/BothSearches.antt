@@ -20,7 +20,7 @@ use Rattle.gix_traverse.specs.declared.commit.topo.frontier.Waiting.{Waiting}
 use Rattle.gix_traverse.specs.declared.commit.topo.frontier.Frontier.{Frontier}
 use Rattle.gix_traverse.specs.Topo.Depth.{known_generation}
 use Rattle.gix_traverse.specs.Topo.Inside.Exploring.{Follows, none, more}
-use Rattle.gix_traverse.specs.Topo.Inside.Frontier.{is_side, is_seen, is_queued, reached, waits_for, waiting, IsSearch, Meets, seen, unseen, Counts, Names, Finishes}
+use Rattle.gix_traverse.specs.Topo.Inside.Frontier.{is_side, is_seen, is_queued, reached, waits_for, waiting, IsSearch, Meets, seen, unseen, Counts, MeetsParent, Finishes}
 use Rattle.gix_traverse.specs.History.Reach.{Reaches}
 use Rattle.gix_traverse.specs.Topo.Inside.Searched.{IsSearched, next_by, starts_by}
 use Rattle.gix_traverse.proofs.Topo.Counting.Frontier.{moved, unmoved, has_seen}
@@ -65,11 +65,11 @@ meets_seen {old = old} {i = i} {side = side} {new = new} (unseen u p k) = ap is_
 counts_still : {old : Frontier} {i : ObjectId} {new : Frontier} → Counts old i new → (s : Side) (j : ObjectId) → reached new.known s j ≡ reached old.known s j
 counts_still {old} {i} c s j = ap (λ those. reached those s j) c.known ∙ unmoved old.known i _ s j
 
-names_still : (old : Frontier) (g : ℕ) (i : ObjectId) (new : Frontier) (side : Side) → Names side old g i new → (s : Side) (j : ObjectId) → has_seen old s j ≡ true → has_seen new s j ≡ true
+names_still : (old : Frontier) (g : ℕ) (i : ObjectId) (new : Frontier) (side : Side) → MeetsParent side old g i new → (s : Side) (j : ObjectId) → has_seen old s j ≡ true → has_seen new s j ≡ true
 names_still old g i new Tips n s j h = meets_still n.2 s j (ap is_seen (counts_still n.1 s j) ∙ h)
 names_still old g i new Ends n s j h = meets_still n s j h
 
-names_seen : (old : Frontier) (g : ℕ) (i : ObjectId) (new : Frontier) (side : Side) → Names side old g i new → has_seen new side i ≡ true
+names_seen : (old : Frontier) (g : ℕ) (i : ObjectId) (new : Frontier) (side : Side) → MeetsParent side old g i new → has_seen new side i ≡ true
 names_seen old g i new Tips n = meets_seen n.2
 names_seen old g i new Ends n = meets_seen n
 
@@ -144,7 +144,7 @@ module _ (objects : Objects) (rows : List GraphRow) (parents : Parents) (tips en
           (Contains-append_cases front new.queue entry m)
 
   module _ (e : ℕ × Waiting) where
-    names_keep : (old : Frontier) (i : ObjectId) (new : Frontier) (side : Side) → Reaches (next_by objects parents side) (starts_by tips ends side) i → Names side old (known_generation rows i) i new → S (e ∷ old.queue) old.known → S (e ∷ new.queue) new.known
+    names_keep : (old : Frontier) (i : ObjectId) (new : Frontier) (side : Side) → Reaches (next_by objects parents side) (starts_by tips ends side) i → MeetsParent side old (known_generation rows i) i new → S (e ∷ old.queue) old.known → S (e ∷ new.queue) new.known
     names_keep old i new Tips r n h = meets_keep (e ∷ []) r n.2 (searched_same (e ∷ n.0.queue) old.known n.0.known (counts_still n.1) (subst (λ q. S (e ∷ q) old.known) (sym n.1.queue) h))
     names_keep old i new Ends r n h = meets_keep (e ∷ []) r n h
 

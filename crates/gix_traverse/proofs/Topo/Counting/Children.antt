@@ -14,7 +14,7 @@ use Rattle.gix_traverse.specs.declared.commit.topo.frontier.Progress.TheVariants
 use Rattle.gix_traverse.specs.Topo.Inside.Known.{Known}
 use Rattle.gix_traverse.specs.declared.commit.topo.frontier.Frontier.{Frontier}
 use Rattle.gix_traverse.specs.Topo.Inside.Exploring.{Follows, none, more}
-use Rattle.gix_traverse.specs.Topo.Inside.Frontier.{is_side, is_seen, is_done, known_of, with_progress, reached, Meets, seen, unseen, Counts, Names, Finishes}
+use Rattle.gix_traverse.specs.Topo.Inside.Frontier.{is_side, is_seen, is_done, known_of, with_progress, reached, Meets, seen, unseen, Counts, MeetsParent, Finishes}
 use Rattle.gix_traverse.specs.Topo.Inside.Searched.{IsTally, times, naming}
 use Rattle.gix_traverse.specs.Orders.TopoOrder.{last_places}
 use Rattle.gix_traverse.proofs.Topo.Counting.Frontier.{known-insert, moved, unmoved}
@@ -22,38 +22,38 @@ use Rattle.gix_traverse.proofs.Topo.Ready.IsReady.{last_in, last_from, last_once
 use Rattle.gix_traverse.proofs.Shared.NewIds.{among_times, times_is_among}
 
 abbrev pub children_of : Frontier → ObjectId → ℕ
-children_of f p = (known_of f.known p).children
+children_of f p = (known_of f.known p).indegree
 
-abbrev pub made_of : Frontier → ObjectId → Bool
-made_of f p = (known_of f.known p).made
+abbrev pub was_ready_of : Frontier → ObjectId → Bool
+was_ready_of f p = (known_of f.known p).was_ready
 
-progress_keeps : (side : Side) (p : Progress) (known : Known) → (with_progress side p known).children ≡ known.children
+progress_keeps : (side : Side) (p : Progress) (known : Known) → (with_progress side p known).indegree ≡ known.indegree
 progress_keeps Tips p known = refl
 progress_keeps Ends p known = refl
 
-progress_keeps_made : (side : Side) (p : Progress) (known : Known) → (with_progress side p known).made ≡ known.made
+progress_keeps_made : (side : Side) (p : Progress) (known : Known) → (with_progress side p known).was_ready ≡ known.was_ready
 progress_keeps_made Tips p known = refl
 progress_keeps_made Ends p known = refl
 
 -- a move changes no count
 moved_children : (old new : Frontier) (i : ObjectId) (side : Side) (p : Progress) → new.known ≡ map.insert old.known i (with_progress side p (known_of old.known i)) → (j : ObjectId) → children_of new j ≡ children_of old j
-moved_children old new i side p k j = ap (λ those. (known_of those j).children) k ∙ ap (λ x. x.children) (known-insert old.known i _ j) ∙ go (is_same j i) refl
+moved_children old new i side p k j = ap (λ those. (known_of those j).indegree) k ∙ ap (λ x. x.indegree) (known-insert old.known i _ j) ∙ go (is_same j i) refl
   where
-    go : (b : Bool) → is_same j i ≡ b → (cond b (with_progress side p (known_of old.known i)) (known_of old.known j)).children ≡ children_of old j
+    go : (b : Bool) → is_same j i ≡ b → (cond b (with_progress side p (known_of old.known i)) (known_of old.known j)).indegree ≡ children_of old j
     go true s = progress_keeps side p (known_of old.known i) ∙ ap (λ x. children_of old x) (sym (same_is j i s))
     go false s = refl
 
-moved_made : (old new : Frontier) (i : ObjectId) (side : Side) (p : Progress) → new.known ≡ map.insert old.known i (with_progress side p (known_of old.known i)) → (j : ObjectId) → made_of new j ≡ made_of old j
-moved_made old new i side p k j = ap (λ those. (known_of those j).made) k ∙ ap (λ x. x.made) (known-insert old.known i _ j) ∙ go (is_same j i) refl
+moved_made : (old new : Frontier) (i : ObjectId) (side : Side) (p : Progress) → new.known ≡ map.insert old.known i (with_progress side p (known_of old.known i)) → (j : ObjectId) → was_ready_of new j ≡ was_ready_of old j
+moved_made old new i side p k j = ap (λ those. (known_of those j).was_ready) k ∙ ap (λ x. x.was_ready) (known-insert old.known i _ j) ∙ go (is_same j i) refl
   where
-    go : (b : Bool) → is_same j i ≡ b → (cond b (with_progress side p (known_of old.known i)) (known_of old.known j)).made ≡ made_of old j
-    go true s = progress_keeps_made side p (known_of old.known i) ∙ ap (λ x. made_of old x) (sym (same_is j i s))
+    go : (b : Bool) → is_same j i ≡ b → (cond b (with_progress side p (known_of old.known i)) (known_of old.known j)).was_ready ≡ was_ready_of old j
+    go true s = progress_keeps_made side p (known_of old.known i) ∙ ap (λ x. was_ready_of old x) (sym (same_is j i s))
     go false s = refl
 
 -- what naming ids leaves as it is
 pub record IsNamed (old new : Frontier) : Type 0 where
   pub done : (s : Side) (j : ObjectId) → is_done (reached new.known s j) ≡ is_done (reached old.known s j)
-  pub made : (j : ObjectId) → made_of new j ≡ made_of old j
+  pub made : (j : ObjectId) → was_ready_of new j ≡ was_ready_of old j
 
 named_on : (old mid new : Frontier) → IsNamed old mid → IsNamed mid new → IsNamed old new
 named_on old mid new a b = record { done = λ s j. b.done s j ∙ a.done s j; made = λ j. b.made j ∙ a.made j }
@@ -88,17 +88,17 @@ meets_children {old = old} {i = i} {side = side} {new = new} (unseen u p k) j = 
 counts_named : {old : Frontier} {i : ObjectId} {new : Frontier} → Counts old i new → IsNamed old new
 counts_named {old} {i} {new} c = record {
   done = λ s j. ap is_done (ap (λ those. reached those s j) c.known ∙ unmoved old.known i _ s j);
-  made = λ j. ap (λ those. (known_of those j).made) c.known ∙ ap (λ x. x.made) (known-insert old.known i _ j) ∙ go j (is_same j i) refl;
+  made = λ j. ap (λ those. (known_of those j).was_ready) c.known ∙ ap (λ x. x.was_ready) (known-insert old.known i _ j) ∙ go j (is_same j i) refl;
 }
   where
-    go : (j : ObjectId) (b : Bool) → is_same j i ≡ b → (cond b (record (known_of old.known i) { children = (known_of old.known i).children + 1 }) (known_of old.known j)).made ≡ made_of old j
-    go j true s = ap (λ x. made_of old x) (sym (same_is j i s))
+    go : (j : ObjectId) (b : Bool) → is_same j i ≡ b → (cond b (record (known_of old.known i) { indegree = (known_of old.known i).indegree + 1 }) (known_of old.known j)).was_ready ≡ was_ready_of old j
+    go j true s = ap (λ x. was_ready_of old x) (sym (same_is j i s))
     go j false s = refl
 
 counts_children : {old : Frontier} {i : ObjectId} {new : Frontier} → Counts old i new → (j : ObjectId) → children_of new j ≡ cond (is_same j i) 1 0 + children_of old j
-counts_children {old} {i} {new} c j = ap (λ those. (known_of those j).children) c.known ∙ ap (λ x. x.children) (known-insert old.known i _ j) ∙ go (is_same j i) refl
+counts_children {old} {i} {new} c j = ap (λ those. (known_of those j).indegree) c.known ∙ ap (λ x. x.indegree) (known-insert old.known i _ j) ∙ go (is_same j i) refl
   where
-    go : (b : Bool) → is_same j i ≡ b → (cond b (record (known_of old.known i) { children = (known_of old.known i).children + 1 }) (known_of old.known j)).children ≡ cond b 1 0 + children_of old j
+    go : (b : Bool) → is_same j i ≡ b → (cond b (record (known_of old.known i) { indegree = (known_of old.known i).indegree + 1 }) (known_of old.known j)).indegree ≡ cond b 1 0 + children_of old j
     go true s = let e : children_of old i ≡ children_of old j = ap (λ x. children_of old x) (sym (same_is j i s)) in omega arith
     go false s = sym (zero-add _)
 
@@ -106,7 +106,7 @@ pub follows_named : {rows : List GraphRow} {side : Side} {old : Frontier} {ids :
 follows_named none = record { done = λ s j. refl; made = λ j. refl }
 follows_named {side = side} {old = old} {new = new} (more {mid = mid} {i = i} n f) = named_on old mid new (names side _ i n) (follows_named f)
   where
-    names : (s : Side) (g : ℕ) (i : ObjectId) → Names s old g i mid → IsNamed old mid
+    names : (s : Side) (g : ℕ) (i : ObjectId) → MeetsParent s old g i mid → IsNamed old mid
     names Tips g i n = named_on old n.0 mid (counts_named n.1) (meets_named n.2)
     names Ends g i n = meets_named n
 
@@ -125,7 +125,7 @@ follows_uncounted (more n f) j = follows_uncounted f j ∙ meets_children n j
 pub finishes_children : {old : Frontier} {i : ObjectId} {side : Side} {new : Frontier} → Finishes old i side new → (j : ObjectId) → children_of new j ≡ children_of old j
 finishes_children {old} {i} {side} {new} f j = moved_children old new i side Done f.known j
 
-pub finishes_made : {old : Frontier} {i : ObjectId} {side : Side} {new : Frontier} → Finishes old i side new → (j : ObjectId) → made_of new j ≡ made_of old j
+pub finishes_made : {old : Frontier} {i : ObjectId} {side : Side} {new : Frontier} → Finishes old i side new → (j : ObjectId) → was_ready_of new j ≡ was_ready_of old j
 finishes_made {old} {i} {side} {new} f j = moved_made old new i side Done f.known j
 
 -- at last places an id is in the list once

@@ -54,13 +54,13 @@ top_high standing depth (x ∷ queue) entry f p e =
 
 module _ {F : Type 0} (objects : F → Objects) (faulty : F → ObjectId → Type 0) where
   -- a row that isn't whole has a fault, where the rows agree
-  pub broken : (plan : TopoPlan F) → IsAgreeing (objects plan.store) (faulty plan.store) plan.rows → (depth : ℕ) (i : ObjectId) → IsMet objects plan i → depth ≤ known_generation plan.rows i → DropsRows plan.rows i → IsBrokenRow objects plan depth
+  pub broken : (plan : TopoPlan F) → IsAgreeing (objects plan.store) plan.rows → (depth : ℕ) (i : ObjectId) → IsMet objects plan i → depth ≤ known_generation plan.rows i → DropsRows plan.rows i → IsBrokenRow objects plan depth
   broken plan agrees depth i r high d = record {
     id = i;
     row = d.0;
     in_depth = record { reached = r; high = high };
     by_row = d.1;
-    corrupt = corrupt_row (objects plan.store) (faulty plan.store) plan.rows agrees d.0 (row_stands plan.rows i d.0 d.1).0 d.2;
+    corrupt = corrupt_row (objects plan.store) plan.rows agrees d.0 (row_stands plan.rows i d.0 d.1).0 d.2;
   }
 
   -- what is done is reached

@@ -24,7 +24,7 @@ use Rattle.gix_traverse.proofs.Topo.Counting.ExploreEnds.{same_on}
 use Rattle.gix_traverse.proofs.Topo.Counting.Frontier.{moved, has_seen}
 use Rattle.gix_traverse.proofs.Topo.Ready.IsReady.{last_in, last_from}
 use Rattle.gix_traverse.proofs.Topo.Counting.BothSearches.{searched_permuted, in_hand, follows_keep, follows_seen, follows_still, seen_still, finishes_keep}
-use Rattle.gix_traverse.proofs.Topo.Counting.Children.{children_of, made_of, follows_named, follows_counts, follows_uncounted, finishes_children, finishes_made, times-last, tally_done, tally_same}
+use Rattle.gix_traverse.proofs.Topo.Counting.Children.{children_of, was_ready_of, follows_named, follows_counts, follows_uncounted, finishes_children, finishes_made, times-last, tally_done, tally_same}
 use Rattle.gix_traverse.proofs.Topo.Reading.ReadsCommit.{reads_text_next}
 
 queued_seen : (p : Progress) → is_queued p ≡ true → is_seen p ≡ true
@@ -39,14 +39,14 @@ queued_undone Done e = cc
 
 module _ {F : Type 0} (objects : F → Objects) (faulty : F → ObjectId → Type 0) where
   -- no step changes which ids were ready
-  pub steps_made : (old new : Counting F) → Steps objects faulty old new → (j : ObjectId) → made_of new.frontier j ≡ made_of old.frontier j
+  pub steps_made : (old new : Counting F) → Steps objects faulty old new → (j : ObjectId) → was_ready_of new.frontier j ≡ was_ready_of old.frontier j
   steps_made old new s j = finishes_made s.finishes j ∙ (follows_named s.follows).made j
 
   -- a step is done with one id
   pub done_now : (old new : Counting F) (s : Steps objects faulty old new) (t : Side) (j : ObjectId) → is_done (reached new.frontier.known t j) ≡ is_done (cond (is_same j s.entry.1.id && is_side t s.entry.1.side) Done (reached s.followed.known t j))
   done_now old new s t j = ap is_done (ap (λ those. reached those t j) s.finishes.known ∙ moved s.followed.known s.entry.1.id s.entry.1.side t Done j)
 
-  pub explores_made : {old new : Counting F} → Explores objects faulty old new → (j : ObjectId) → made_of new.frontier j ≡ made_of old.frontier j
+  pub explores_made : {old new : Counting F} → Explores objects faulty old new → (j : ObjectId) → was_ready_of new.frontier j ≡ was_ready_of old.frontier j
   explores_made itself j = refl
   explores_made (further {mid = mid} {new = new} e p s) j = steps_made mid new s j ∙ explores_made e j
 
@@ -81,7 +81,7 @@ module _ {F : Type 0} (objects : F → Objects) (faulty : F → ObjectId → Typ
   Counted c tips ends taken f = IsCounted (objects c.reader.find) (rows_of c.reader.graph) c.parents tips ends taken f
 
   module _ (tips ends : List ObjectId) (taken : ObjectId → Bool) where
-    module _ (old new : Counting F) (agrees : IsAgreeing (objects old.reader.find) (faulty old.reader.find) (rows_of old.reader.graph)) (s : Steps objects faulty old new) (h : Counted old tips ends taken old.frontier) where
+    module _ (old new : Counting F) (agrees : IsAgreeing (objects old.reader.find) (rows_of old.reader.graph)) (s : Steps objects faulty old new) (h : Counted old tips ends taken old.frontier) where
       abbrev next : Side → ObjectId → List ObjectId
       next = next_by (objects old.reader.find) old.parents
 
@@ -136,12 +136,12 @@ module _ {F : Type 0} (objects : F → Objects) (faulty : F → ObjectId → Typ
       pub steps_keep : Counted old tips ends taken new.frontier
       steps_keep = record { searched = ended; tally = tally s.entry.1.side refl }
 
-    pub explores_keep : {old new : Counting F} → IsAgreeing (objects old.reader.find) (faulty old.reader.find) (rows_of old.reader.graph) → Explores objects faulty old new → Counted old tips ends taken old.frontier → Counted old tips ends taken new.frontier
+    pub explores_keep : {old new : Counting F} → IsAgreeing (objects old.reader.find) (rows_of old.reader.graph) → Explores objects faulty old new → Counted old tips ends taken old.frontier → Counted old tips ends taken new.frontier
     explores_keep a itself h = h
     explores_keep {old = old} a (further {mid = mid} {new = new} e p s) h =
         let same : IsSamePlan objects faulty old mid = explores_same e in
         let there : Counted old tips ends taken mid.frontier = explores_keep a e h in
-        let b : IsAgreeing (objects mid.reader.find) (faulty mid.reader.find) (rows_of mid.reader.graph) = subst (λ f. IsAgreeing (objects f) (faulty f) (rows_of mid.reader.graph)) (sym same.find) (subst (λ g. IsAgreeing (objects old.reader.find) (faulty old.reader.find) (rows_of g)) (sym same.graph) a) in
+        let b : IsAgreeing (objects mid.reader.find) (rows_of mid.reader.graph) = subst (λ f. IsAgreeing (objects f) (rows_of mid.reader.graph)) (sym same.find) (subst (λ g. IsAgreeing (objects old.reader.find) (rows_of g)) (sym same.graph) a) in
         back same (steps_keep mid new b s (on same there))
       where
         on : {f : Frontier} → IsSamePlan objects faulty old mid → Counted old tips ends taken f → Counted mid tips ends taken f

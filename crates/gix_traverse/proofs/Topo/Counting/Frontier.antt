@@ -14,7 +14,7 @@ use Rattle.gix_traverse.specs.declared.commit.topo.frontier.Progress.{Progress}
 use Rattle.gix_traverse.specs.declared.commit.topo.frontier.Progress.TheVariants.{Queued, Done}
 use Rattle.gix_traverse.specs.Topo.Inside.Known.{Known}
 use Rattle.gix_traverse.specs.declared.commit.topo.frontier.Frontier.{Frontier}
-use Rattle.gix_traverse.specs.Topo.Inside.Frontier.{is_side, is_seen, known_or, known_of, progress_of, with_progress, reached, Meets, seen, unseen, Counts, Names, Finishes}
+use Rattle.gix_traverse.specs.Topo.Inside.Frontier.{is_side, is_seen, known_or, known_of, progress_of, with_progress, reached, Meets, seen, unseen, Counts, MeetsParent, Finishes}
 use Rattle.gix_traverse.specs.Topo.Inside.Exploring.{Follows, none, more}
 use Rattle.gix_traverse.proofs.Shared.NewIds.{fresh, fresh_agree, new_less}
 
@@ -47,10 +47,10 @@ moved those i side other p j = reached-insert those i _ other j ∙ go (is_same 
     go false s = refl
 
 -- counting moves no side
-pub unmoved : (those : map.FinMap id_cmp Known) (i : ObjectId) (n : ℕ) (side : Side) (j : ObjectId) → reached (map.insert those i (record (known_of those i) { children = n })) side j ≡ reached those side j
+pub unmoved : (those : map.FinMap id_cmp Known) (i : ObjectId) (n : ℕ) (side : Side) (j : ObjectId) → reached (map.insert those i (record (known_of those i) { indegree = n })) side j ≡ reached those side j
 unmoved those i n side j = reached-insert those i _ side j ∙ go side (is_same j i) refl
   where
-    go : (side : Side) (b : Bool) → is_same j i ≡ b → cond b (progress_of side (record (known_of those i) { children = n })) (reached those side j) ≡ reached those side j
+    go : (side : Side) (b : Bool) → is_same j i ≡ b → cond b (progress_of side (record (known_of those i) { indegree = n })) (reached those side j) ≡ reached those side j
     go Tips true s = ap (λ k. reached those Tips k) (sym (same_is j i s))
     go Ends true s = ap (λ k. reached those Ends k) (sym (same_is j i s))
     go side false s = refl
@@ -130,7 +130,7 @@ module _ (names : List ObjectId) where
       let q : length new.queue ≡ length old.queue = ap length c.queue in
       omega arith
 
-  names_left : (old : Frontier) (g : ℕ) (i : ObjectId) (new : Frontier) (side : Side) → is_among i names ≡ true → Names side old g i new → to_do names new ≤ to_do names old
+  names_left : (old : Frontier) (g : ℕ) (i : ObjectId) (new : Frontier) (side : Side) → is_among i names ≡ true → MeetsParent side old g i new → to_do names new ≤ to_do names old
   names_left old g i new Tips a n = let x : to_do names n.0 ≤ to_do names old = counts_left n.1 in let y : to_do names new ≤ to_do names n.0 = meets_left a n.2 in omega arith
   names_left old g i new Ends a n = meets_left a n
 

@@ -33,14 +33,14 @@ not_done false met unseen = refl
 pub marked_met : (marks children : ℕ) (side : Side) → is_seen (progress_of side (known_by marks children)) ≡ false → known_by (bit_or marks (met_mark side)) children ≡ with_progress side Queued (known_by marks children)
 marked_met marks children Tips unseen =
     let queued = is_met_mark (bit_or marks 1) Tips (set marks 1 refl) (stays marks 1 2 refl ∙ not_done (has marks 2) (has marks 1) unseen) in
-    λ i. record { tips = queued i; ends = progress_stays marks 1 Ends refl refl i; children = children; made = stays marks 1 16 refl i }
+    λ i. record { tips = queued i; ends = progress_stays marks 1 Ends refl refl i; indegree = children; was_ready = stays marks 1 16 refl i }
 marked_met marks children Ends unseen =
     let queued = is_met_mark (bit_or marks 4) Ends (set marks 4 refl) (stays marks 4 8 refl ∙ not_done (has marks 8) (has marks 4) unseen) in
-    λ i. record { tips = progress_stays marks 4 Tips refl refl i; ends = queued i; children = children; made = stays marks 4 16 refl i }
+    λ i. record { tips = progress_stays marks 4 Tips refl refl i; ends = queued i; indegree = children; was_ready = stays marks 4 16 refl i }
 
 pub marked_done : (marks children : ℕ) (side : Side) → known_by (bit_or marks (done_mark side)) children ≡ with_progress side Done (known_by marks children)
-marked_done marks children Tips i = record { tips = is_done_mark (bit_or marks 2) Tips (set marks 2 refl) i; ends = progress_stays marks 2 Ends refl refl i; children = children; made = stays marks 2 16 refl i }
-marked_done marks children Ends i = record { tips = progress_stays marks 8 Tips refl refl i; ends = is_done_mark (bit_or marks 8) Ends (set marks 8 refl) i; children = children; made = stays marks 8 16 refl i }
+marked_done marks children Tips i = record { tips = is_done_mark (bit_or marks 2) Tips (set marks 2 refl) i; ends = progress_stays marks 2 Ends refl refl i; indegree = children; was_ready = stays marks 2 16 refl i }
+marked_done marks children Ends i = record { tips = progress_stays marks 8 Tips refl refl i; ends = is_done_mark (bit_or marks 8) Ends (set marks 8 refl) i; indegree = children; was_ready = stays marks 8 16 refl i }
 
-pub marked_made : (marks children : ℕ) → known_by (bit_or marks 16) children ≡ record (known_by marks children) { made = true }
-marked_made marks children i = record { tips = progress_stays marks 16 Tips refl refl i; ends = progress_stays marks 16 Ends refl refl i; children = children; made = set marks 16 refl i }
+pub marked_was_ready : (marks children : ℕ) → known_by (bit_or marks 16) children ≡ record (known_by marks children) { was_ready = true }
+marked_was_ready marks children i = record { tips = progress_stays marks 16 Tips refl refl i; ends = progress_stays marks 16 Ends refl refl i; indegree = children; was_ready = set marks 16 refl i }

@@ -20,7 +20,7 @@ use Rattle.gix_traverse.specs.Topo.Inside.Searched.{IsSearched, IsCounted, start
 use Rattle.gix_traverse.specs.Topo.Inside.Starting.{MeetsAll, met, meets}
 use Rattle.gix_traverse.proofs.Topo.Counting.Frontier.{has_seen}
 use Rattle.gix_traverse.proofs.Topo.Counting.BothSearches.{meets_keep, meets_seen, meets_still}
-use Rattle.gix_traverse.proofs.Topo.Counting.Children.{children_of, made_of, meets_named, meets_children}
+use Rattle.gix_traverse.proofs.Topo.Counting.Children.{children_of, was_ready_of, meets_named, meets_children}
 
 pub meets_none : (rows : List GraphRow) (side : Side) (old : Frontier) (ids : List ObjectId) → length ids ≡ 0 → MeetsAll rows side old ids old
 meets_none rows side old [] e = met
@@ -46,7 +46,7 @@ module _ (objects : Objects) (rows : List GraphRow) (parents : Parents) (tips en
     pub searched : IsSearched objects rows parents tips ends f.queue f.known
     pub undone : (side : Side) (i : ObjectId) → is_done (reached f.known side i) ≡ false
     pub childless : (i : ObjectId) → children_of f i ≡ 0
-    pub unmade : (i : ObjectId) → made_of f i ≡ false
+    pub unmade : (i : ObjectId) → was_ready_of f i ≡ false
 
   progress_unknown : (side : Side) → progress_of side unknown ≡ Unseen
   progress_unknown Tips = refl
@@ -63,8 +63,8 @@ module _ (objects : Objects) (rows : List GraphRow) (parents : Parents) (tips en
       keyed = λ entry m. absurd (no_member entry m);
     });
     undone = λ side i. ap is_done (unseen side i);
-    childless = λ i. ap (λ known. known.children) (none i);
-    unmade = λ i. ap (λ known. known.made) (none i);
+    childless = λ i. ap (λ known. known.indegree) (none i);
+    unmade = λ i. ap (λ known. known.was_ready) (none i);
   }
     where
       none : (i : ObjectId) → known_of f.known i ≡ unknown

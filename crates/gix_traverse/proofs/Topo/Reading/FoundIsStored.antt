@@ -30,13 +30,13 @@ committer_time (Some c) (Err e) h = absurd h
 committer_time None (Ok signature) h = absurd h
 committer_time None (Err e) h = refl
 
-module _ (objects : Objects) (faulty : ObjectId → Type 0) (rows : List GraphRow) (agrees : IsAgreeing objects faulty rows) where
+module _ (objects : Objects) (faulty : ObjectId → Type 0) (rows : List GraphRow) (agrees : IsAgreeing objects rows) where
   finite_told : (i : ObjectId) {read : RowRead} (says : RowSays rows i read) → told_generation read.generation ≡ Some says.row.generation
   finite_told i says =
       ap told_generation says.generation ∙ ap (λ b. cond b (Some says.row.generation) None) (lt-ltb says.row.generation infinity (agrees says.row (row_stands rows i says.row says.there).0).finite)
 
   reads_time : {standing : Bool} {i : ObjectId} {info : Info} {new : Bool} → Reads objects faulty rows standing i (Ok info) new → info.commit_time ≡ Some (time_of objects i)
-  reads_time {i = i} (by_row (is_read h says) is) = is.same_time ∙ ap Some (says.time ∙ row_says_time objects faulty rows agrees i says.row says.there)
+  reads_time {i = i} (by_row (is_read h says) is) = is.same_time ∙ ap Some (says.time ∙ row_says_time objects rows agrees i says.row says.there)
   reads_time {i = i} (by_text n t) =
       t.2.0.same_time ∙ ap Some (committer_time (read_commit (kind_of i) t.0) (first_committer (commit_items (kind_of i) t.0)) (tells (kind_of i) t.0) ∙ sym (ap (λ o. time_in (commit_of_object i o)) t.1))
 
@@ -50,7 +50,7 @@ module _ (objects : Objects) (faulty : ObjectId → Type 0) (rows : List GraphRo
 
 module _ {F : Type 0} (objects : F → Objects) (faulty : F → ObjectId → Type 0) (plan : TopoPlan F) where
   -- with rows that agree, its parents are the ids that its text names
-  pub found_text : {stood standing : Bool} {r : Ready} → IsAgreeing (objects plan.store) (faulty plan.store) plan.rows → IsFound objects faulty plan stood standing r → r.parents ≡ text_next (objects plan.store) r.id
+  pub found_text : {stood standing : Bool} {r : Ready} → IsAgreeing (objects plan.store) plan.rows → IsFound objects faulty plan stood standing r → r.parents ≡ text_next (objects plan.store) r.id
   found_text agrees f = sym f.is.same_parents ∙ reads_text_next (objects plan.store) (faulty plan.store) plan.rows agrees f.reads
 
   -- rows or texts name its parents
@@ -58,7 +58,7 @@ module _ {F : Type 0} (objects : F → Objects) (faulty : F → ObjectId → Typ
   found_named f p m = reads_named (objects plan.store) (faulty plan.store) plan.rows f.reads p (subst (λ ids. Contains ids p) (sym f.is.same_parents) m)
 
   -- of a sound walk, it is as the store and the rows say
-  pub found_stored : {stood standing : Bool} {r : Ready} → IsWalkable objects faulty plan → IsFound objects faulty plan stood standing r → ReadsWhole (objects plan.store) (faulty plan.store) r.id → IsStored objects plan standing r
+  pub found_stored : {stood standing : Bool} {r : Ready} → IsWalkable objects faulty plan → IsFound objects faulty plan stood standing r → ReadsWhole (objects plan.store) r.id → IsStored objects plan standing r
   found_stored {r = r} sound f whole = record {
     parents = found_text sound.agreeing f ∙ sym (text_whole (objects plan.store) (faulty plan.store) plan.rows r.id whole);
     time = let same : Some r.time ≡ Some (time_of (objects plan.store) r.id) = sym f.is.same_time ∙ reads_time (objects plan.store) (faulty plan.store) plan.rows sound.agreeing f.reads in cc;

@@ -12,7 +12,7 @@ use Rattle.gix_traverse.specs.declared.commit.topo.frontier.Frontier.{Frontier}
 use Rattle.gix_traverse.specs.declared.commit.topo.counting.Counting.{Counting}
 use Rattle.gix_traverse.specs.declared.commit.topo.walk.Walk.{Walk}
 use Rattle.gix_traverse.specs.Topo.Inside.Frontier.{is_done, reached}
-use Rattle.gix_traverse.specs.Topo.Inside.Releasing.{plan_of, Knows, Pushes}
+use Rattle.gix_traverse.specs.Topo.Inside.Releasing.{plan_of, LooksUpParent, Pushes}
 use Rattle.gix_traverse.specs.Topo.Inside.Steady.{IsReadOnce, AreRead}
 use Rattle.gix_traverse.specs.Topo.Walk.{TopoPlan, Ready, IsCommitRead, IsKnown, IsFound}
 use Rattle.gix_traverse.proofs.Shared.HeldRows.{IsSoundRow, held_whole}
@@ -49,7 +49,7 @@ module _ {F : Type 0} (objects : F → Objects) (faulty : F → ObjectId → Typ
   all_still plan old new moved stands h i d = once_still plan stands (h i (⊎_elim (λ a. inl (sym (ap is_done (moved Tips i)) ∙ a)) (λ b. inr (sym (ap is_done (moved Ends i)) ∙ b)) d))
 
   -- what the code knows is known
-  pub known_by : (plan : TopoPlan F) (c : Counting F) (standing : Bool) (f : Frontier) → ((s : Side) (j : ObjectId) → reached f.known s j ≡ reached c.frontier.known s j) → AreRead objects faulty plan c → (p : ObjectId) → Knows (objects plan.store) plan.rows standing f p → IsKnown (objects plan.store) plan.rows standing p
+  pub known_by : (plan : TopoPlan F) (c : Counting F) (standing : Bool) (f : Frontier) → ((s : Side) (j : ObjectId) → reached f.known s j ≡ reached c.frontier.known s j) → AreRead objects faulty plan c → (p : ObjectId) → LooksUpParent (objects plan.store) plan.rows standing f p → IsKnown (objects plan.store) plan.rows standing p
   known_by plan c standing f moved h p k =
       ⊎_elim (λ q. once_known objects faulty plan standing q.0 (h p (⊎_elim (λ a. inl (sym (ap is_done (moved Tips p)) ∙ a)) (λ b. inr (sym (ap is_done (moved Ends p)) ∙ b)) q.1))) (λ q. q) k
 

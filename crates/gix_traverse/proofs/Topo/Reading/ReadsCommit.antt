@@ -34,7 +34,7 @@ module _ (objects : Objects) (faulty : ObjectId → Type 0) (rows : List GraphRo
       (among_flat (λ entry. text_parents entry.0 entry.1) (map_of.entries objects) _ j entry (among_from j _ (subst (λ ids. Contains ids j) t.2.0.same_parents m)))
 
   -- where the rows agree they are those that the text names
-  pub text_whole : (i : ObjectId) → ReadsWhole objects faulty i → parents_of objects i ≡ text_next objects i
+  pub text_whole : (i : ObjectId) → ReadsWhole objects i → parents_of objects i ≡ text_next objects i
   text_whole i w = go (map_of.get objects i) refl
     where
       go : (o : Option Object) → map_of.get objects i ≡ o → parents_of objects i ≡ text_next objects i
@@ -49,12 +49,12 @@ module _ (objects : Objects) (faulty : ObjectId → Type 0) (rows : List GraphRo
           kinds object.Blob q = let bad : None ≡ Some w.commit = sym (ap (λ k. commit_of_kind i k thing.bytes) q) ∙ sym (ap (commit_of_object i) e) ∙ w.stored in cc
           kinds object.Tag q = let bad : None ≡ Some w.commit = sym (ap (λ k. commit_of_kind i k thing.bytes) q) ∙ sym (ap (commit_of_object i) e) ∙ w.stored in cc
 
-  module _ (agrees : IsAgreeing objects faulty rows) where
+  module _ (agrees : IsAgreeing objects rows) where
     pub reads_text_next : {standing : Bool} {i : ObjectId} {info : Info} {new : Bool} → Reads objects faulty rows standing i (Ok info) new → info.parent_ids.items ≡ text_next objects i
     reads_text_next {i = i} (by_row (is_read h says) is) =
         let m : Contains rows says.row × (i ≡ says.row.id) = row_stands rows i says.row says.there in
-        let w : ReadsWhole objects faulty i = subst (ReadsWhole objects faulty) (sym m.1) (agrees says.row m.0).whole in
-        is.same_parents ∙ row_parents objects faulty rows agrees i says.row _ says.there says.parents ∙ text_whole i w
+        let w : ReadsWhole objects i = subst (ReadsWhole objects) (sym m.1) (agrees says.row m.0).whole in
+        is.same_parents ∙ row_parents objects rows agrees i says.row _ says.there says.parents ∙ text_whole i w
     reads_text_next {i = i} (by_text n t) = t.2.0.same_parents ∙ sym (ap (next_in i) t.1)
 
     finite : (i : ObjectId) (row : GraphRow) → row_of rows i ≡ Some row → row.generation ≤ infinity
@@ -75,12 +75,12 @@ module _ (objects : Objects) (faulty : ObjectId → Type 0) (rows : List GraphRo
         go None e = highest i
         go (Some row) e =
             let h : Contains rows row × (c ≡ row.id) = row_stands rows c row e in
-            let w : ReadsWhole objects faulty c = subst (ReadsWhole objects faulty) (sym h.1) (agrees row h.0).whole in
+            let w : ReadsWhole objects c = subst (ReadsWhole objects) (sym h.1) (agrees row h.0).whole in
             lower c row i e (subst (λ ids. Contains ids i) (sym (text_whole c w)) m)
           where
             lower : (c : ObjectId) (row : GraphRow) (i : ObjectId) → row_of rows c ≡ Some row → Contains (parents_of objects c) i → known_generation rows i ≤ row.generation
             lower c row i e n =
-                let l : (r : GraphRow) × (row_of rows i ≡ Some r) × (r.generation < row.generation) = parent_below objects faulty rows agrees c row i e n in
+                let l : (r : GraphRow) × (row_of rows i ≡ Some r) × (r.generation < row.generation) = parent_below objects rows agrees c row i e n in
                 let k : known_generation rows i ≡ l.0.generation = ap generation_in l.1 in
                 let b : l.0.generation < row.generation = l.2 in
                 omega arith

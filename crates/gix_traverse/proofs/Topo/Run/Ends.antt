@@ -14,7 +14,7 @@ use Rattle.gix_traverse.specs.declared.commit.topo.Error.{Error}
 use Rattle.gix_traverse.specs.declared.commit.topo.Error.TheVariants as error
 use Rattle.gix_parts.specs.declared.object.find.existing_iter.Error.TheVariants as existing
 use Rattle.gix_traverse.specs.Simple.Laws.{AreDistinct}
-use Rattle.gix_traverse.specs.Topo.Walk.{TopoWalk, Ready, Counted, ready_ids, is_made, named_ids, HoldsReady, Chooses, IsNextReady, IsLeft, IsOtherParent, IsFault, IsLate, IsStarted, Takes, after, Next, ended, given, refused, failed, May}
+use Rattle.gix_traverse.specs.Topo.Walk.{TopoWalk, Ready, Counted, ready_ids, was_ready, named_ids, HoldsReady, Chooses, IsNextReady, IsLeft, IsOtherParent, IsFault, IsLate, IsStarted, Takes, after, Next, ended, given, refused, failed, May}
 use Rattle.gix_traverse.specs.Topo.Laws.{left_beside, answers_left, AreApart, AsksAll, none, more, Drawn, given_ids}
 use Rattle.gix_parts.proofs.Ids.Membership.{id_total, same_is, same_itself, among_from, among_is, Contains-here, Contains-there, Contains-cons_cases, no_member}
 use Rattle.gix_traverse.proofs.Shared.NewIds.{fresh, fresh_agree, times, times_none, new_less, among_times, times_is_among, times_once}
@@ -61,7 +61,7 @@ left_all n [] m e = absurd (omega arith)
 left_all n (r ∷ ready) m e = refl
 
 module _ {F P : Type 0} (objects : F → Objects) (faulty : F → ObjectId → Type 0) (answers : P → ObjectId → Bool → P → Type 0) where
-  made_then : (w : TopoWalk F P) (c : Ready) (counted : Counted) (ready : List Ready) (predicate : P) (t : Takes objects faulty answers w c counted ready) (j : ObjectId) → is_made (after objects faulty answers w c counted ready predicate) j ≡ (is_among j (ready_ids t.added) || is_made w j)
+  made_then : (w : TopoWalk F P) (c : Ready) (counted : Counted) (ready : List Ready) (predicate : P) (t : Takes objects faulty answers w c counted ready) (j : ObjectId) → was_ready (after objects faulty answers w c counted ready predicate) j ≡ (is_among j (ready_ids t.added) || was_ready w j)
   made_then w c counted ready predicate t j = both_ways _ _ to from
     where
       counts : times j (ready_ids ready) ≡ times j (ready_ids t.others) + times j (ready_ids t.added)
@@ -73,7 +73,7 @@ module _ {F P : Type 0} (objects : F → Objects) (faulty : F → ObjectId → T
       is_ready : (b : Bool) → is_same j c.id ≡ b → 1 ≤ cond b 1 0 + times j (ready_ids t.others) → is_among j (ready_ids w.ready) ≡ true
       is_ready b e n = let s : times j (ready_ids w.ready) ≡ cond (is_same j c.id) 1 0 + times j (ready_ids t.others) = split in let k : ◌≡◌ {A = ℕ} (cond (is_same j c.id) 1 0) (cond b 1 0) = ap (λ x. cond x 1 0) e in times_is_among j (ready_ids w.ready) (omega arith)
 
-      of_ready : is_among j (ready_ids ready) ≡ true → (b : Bool) → is_among j (ready_ids t.added) ≡ b → (b || is_made w j) ≡ true
+      of_ready : is_among j (ready_ids ready) ≡ true → (b : Bool) → is_among j (ready_ids t.added) ≡ b → (b || was_ready w j) ≡ true
       of_ready m true e = refl
       of_ready m false e =
           let y : times j (ready_ids ready) ≡ times j (ready_ids t.others) + times j (ready_ids t.added) = counts in
@@ -81,7 +81,7 @@ module _ {F P : Type 0} (objects : F → Objects) (faulty : F → ObjectId → T
           let o : 1 ≤ times j (ready_ids ready) = among_times j (ready_ids ready) m in
           or_right (set.contains w.taken j) _ (is_ready (is_same j c.id) refl (omega arith))
 
-      to : (set.contains (set.insert w.taken c.id) j || is_among j (ready_ids ready)) ≡ true → (is_among j (ready_ids t.added) || is_made w j) ≡ true
+      to : (set.contains (set.insert w.taken c.id) j || is_among j (ready_ids ready)) ≡ true → (is_among j (ready_ids t.added) || was_ready w j) ≡ true
       to h = ⊎_elim
           (λ k. or_right (is_among j (ready_ids t.added)) _ (⊎_elim (λ e. or_right (set.contains w.taken j) _ (is_ready true e (omega arith))) (λ e. or_left _ _ e) (or_cases (is_same j c.id) (set.contains w.taken j) (sym (set.contains-insert id_total w.taken c.id j) ∙ k))))
           (λ k. of_ready k (is_among j (ready_ids t.added)) refl) (or_cases _ _ h)
@@ -95,19 +95,19 @@ module _ {F P : Type 0} (objects : F → Objects) (faulty : F → ObjectId → T
           let o : 1 ≤ times j (ready_ids w.ready) = among_times j (ready_ids w.ready) m in
           or_right (set.contains (set.insert w.taken c.id) j) _ (times_is_among j (ready_ids ready) (omega arith))
 
-      from : (is_among j (ready_ids t.added) || is_made w j) ≡ true → (set.contains (set.insert w.taken c.id) j || is_among j (ready_ids ready)) ≡ true
+      from : (is_among j (ready_ids t.added) || was_ready w j) ≡ true → (set.contains (set.insert w.taken c.id) j || is_among j (ready_ids ready)) ≡ true
       from h = ⊎_elim
           (λ k. let y : times j (ready_ids ready) ≡ times j (ready_ids t.others) + times j (ready_ids t.added) = counts in let o : 1 ≤ times j (ready_ids t.added) = among_times j (ready_ids t.added) k in or_right (set.contains (set.insert w.taken c.id) j) _ (times_is_among j (ready_ids ready) (omega arith)))
           (λ k. ⊎_elim (λ e. or_left _ _ (set.contains-insert id_total w.taken c.id j ∙ or_right (is_same j c.id) _ e)) (λ e. of_old e (is_same j c.id) refl) (or_cases _ _ k)) (or_cases _ _ h)
 
   abbrev new_in : TopoWalk F P → ℕ
-  new_in w = length (fresh (is_made w) (named_ids (objects w.plan.store) w.plan.rows))
+  new_in w = length (fresh (was_ready w) (named_ids (objects w.plan.store) w.plan.rows))
 
   pub takes_left : (w : TopoWalk F P) (c : Ready) (counted : Counted) (ready : List Ready) (predicate : P) → Takes objects faulty answers w c counted ready → suc (answers_left objects (after objects faulty answers w c counted ready predicate)) ≤ answers_left objects w
   takes_left w c counted ready predicate t =
       let named : List ObjectId = named_ids (objects w.plan.store) w.plan.rows in
-      let a : length (fresh (λ j. is_among j (ready_ids t.added) || is_made w j) named) + length (ready_ids t.added) ≡ new_in w = all_new (is_made w) named (ready_ids t.added) t.adds.distinct t.adds.named t.adds.unmade in
-      let b : new_in (after objects faulty answers w c counted ready predicate) ≡ length (fresh (λ j. is_among j (ready_ids t.added) || is_made w j) named) = ap length (fresh_agree _ _ named (λ j h. made_then w c counted ready predicate t j)) in
+      let a : length (fresh (λ j. is_among j (ready_ids t.added) || was_ready w j) named) + length (ready_ids t.added) ≡ new_in w = all_new (was_ready w) named (ready_ids t.added) t.adds.distinct t.adds.named t.adds.unmade in
+      let b : new_in (after objects faulty answers w c counted ready predicate) ≡ length (fresh (λ j. is_among j (ready_ids t.added) || was_ready w j) named) = ap length (fresh_agree _ _ named (λ j h. made_then w c counted ready predicate t j)) in
       let l : length (ready_ids t.added) ≡ length t.added = length-ids t.added in
       let h : length ready ≡ length (t.others ++ t.added) = held_length w.plan.sorting (t.others ++ t.added) ready t.holds in
       let j : length (t.others ++ t.added) ≡ length t.others + length t.added = length-append t.others t.added in
@@ -228,7 +228,7 @@ module _ {F P : Type 0} (objects : F → Objects) (faulty : F → ObjectId → T
 
       added_out : (i : ObjectId) → is_among i (ready_ids t.added) ≡ true → set.contains (set.insert w.taken c.id) i ≡ true → ⊥
       added_out i a m =
-          let f : is_made w i ≡ false = t.adds.unmade i (among_is i _ a) in
+          let f : was_ready w i ≡ false = t.adds.unmade i (among_is i _ a) in
           ⊎_elim (λ y. true≢false (sym (or_right (set.contains w.taken i) _ (among_from i (ready_ids w.ready) (subst (λ z. Contains (ready_ids w.ready) z) (sym (same_is i c.id y)) (in_ids w.ready c (chosen_in w.plan.sorting w.ready c t.others t.chosen))))) ∙ f))
           (λ y. true≢false (sym (or_left _ _ y) ∙ f)) (or_cases (is_same i c.id) (set.contains w.taken i) (sym (set.contains-insert id_total w.taken c.id i) ∙ m))
 

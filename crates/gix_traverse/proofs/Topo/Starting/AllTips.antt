@@ -21,8 +21,8 @@ use Rattle.gix_traverse.proofs.Shared.NewIds.{times, among_times}
 use Rattle.gix_traverse.proofs.Topo.Reading.OnceRead.{all_still, found_later, found_pushed}
 use Rattle.gix_traverse.proofs.Topo.Counting.Frontier.{has_seen}
 use Rattle.gix_traverse.proofs.Topo.Ready.IsReady.{keeps_in, first_once}
-use Rattle.gix_traverse.proofs.Topo.Taking.AllReleases.{keeps_on, ids-append, Contains-append_cases, from_ids, reads_stands, reads_drops, makes_known, makes_moved, due_parts, due_from, with_plan}
-use Rattle.gix_traverse.proofs.Topo.Counting.Children.{children_of, made_of}
+use Rattle.gix_traverse.proofs.Topo.Taking.AllReleases.{keeps_on, ids-append, Contains-append_cases, from_ids, reads_stands, reads_drops, marks_ready_known, makes_moved, due_parts, due_from, with_plan}
+use Rattle.gix_traverse.proofs.Topo.Counting.Children.{children_of, was_ready_of}
 
 -- what is left of a list behind some ids is none of them
 first_apart : (seen xs : List ObjectId) (i : ObjectId) → Contains (distinct_after seen xs) i → is_among i seen ≡ false
@@ -54,7 +54,7 @@ keeps_append (passed n h) k = passed n (keeps_append h k)
 pub record IsTipDue (f : Frontier) (p : ObjectId) : Type 0 where
   pub none_left : children_of f p ≡ 0
   pub outside : has_seen f Ends p ≡ false
-  pub unmade : made_of f p ≡ false
+  pub unmade : was_ready_of f p ≡ false
 
 module _ {F : Type 0} (objects : F → Objects) (faulty : F → ObjectId → Type 0) where
   -- what these ids, one after the other, do to a walk
@@ -65,7 +65,7 @@ module _ {F : Type 0} (objects : F → Objects) (faulty : F → ObjectId → Typ
     pub queue : new.counting.frontier.queue ≡ old.counting.frontier.queue
     pub moved : (s : Side) (j : ObjectId) → reached new.counting.frontier.known s j ≡ reached old.counting.frontier.known s j
     pub children : (p : ObjectId) → children_of new.counting.frontier p ≡ children_of old.counting.frontier p
-    pub made : (j : ObjectId) → made_of new.counting.frontier j ≡ (is_among j (ready_ids added) || made_of old.counting.frontier j)
+    pub made : (j : ObjectId) → was_ready_of new.counting.frontier j ≡ (is_among j (ready_ids added) || was_ready_of old.counting.frontier j)
     pub stands : new.counting.reader.standing ≡ true → old.counting.reader.standing ≡ true
     pub among : (r : Ready) → Contains added r → Contains ids r.id
     pub each : AreRead objects faulty (plan_of old) old.counting → (r : Ready) → Contains added r → IsFound objects faulty (plan_of old) old.counting.reader.standing new.counting.reader.standing r
@@ -104,8 +104,8 @@ module _ {F : Type 0} (objects : F → Objects) (faulty : F → ObjectId → Typ
     expanded = p.same.expanded;
     queue = p.same.queue;
     moved = makes_moved objects faulty old.counting.frontier new.counting.frontier i p.made;
-    children = λ j. (makes_known objects faulty old.counting.frontier new.counting.frontier i p.made j).0;
-    made = λ j. (makes_known objects faulty old.counting.frontier new.counting.frontier i p.made j).1 ∙ ap (λ b. b || made_of old.counting.frontier j) (ap (is_same j) (sym p.id) ∙ sym (among-one j r.id));
+    children = λ j. (marks_ready_known objects faulty old.counting.frontier new.counting.frontier i p.made j).0;
+    made = λ j. (marks_ready_known objects faulty old.counting.frontier new.counting.frontier i p.made j).1 ∙ ap (λ b. b || was_ready_of old.counting.frontier j) (ap (is_same j) (sym p.id) ∙ sym (among-one j r.id));
     stands = λ e. reads_stands objects faulty p.reads e;
     among = λ x m. ⊎_elim (λ s. subst (λ j. Contains (i ∷ []) j) (sym p.id ∙ ap (λ y. y.id) s) (Contains-here i [])) (λ t. absurd (no_member x t)) (Contains-cons_cases x r [] m);
     each = λ h x m. ⊎_elim (λ s. subst (IsFound objects faulty (plan_of old) old.counting.reader.standing new.counting.reader.standing) s (found_pushed objects faulty old old.counting i r new (λ s j. refl) h p)) (λ t. absurd (no_member x t)) (Contains-cons_cases x r [] m);
@@ -114,7 +114,7 @@ module _ {F : Type 0} (objects : F → Objects) (faulty : F → ObjectId → Typ
   }
     where
       is_due_now : IsTipDue old.counting.frontier i
-      is_due_now = let parts : (children_of old.counting.frontier i ≡ 0) × (has_seen old.counting.frontier Ends i ≡ false) × (made_of old.counting.frontier i ≡ false) = due_parts objects faulty (children_of old.counting.frontier i) (known_of old.counting.frontier.known i) d in record { none_left = parts.0; outside = parts.1; unmade = parts.2 }
+      is_due_now = let parts : (children_of old.counting.frontier i ≡ 0) × (has_seen old.counting.frontier Ends i ≡ false) × (was_ready_of old.counting.frontier i ≡ false) = due_parts objects faulty (children_of old.counting.frontier i) (known_of old.counting.frontier.known i) d in record { none_left = parts.0; outside = parts.1; unmade = parts.2 }
 
       go : (seen : List ObjectId) (b : Bool) → is_among i seen ≡ b → ((j : ObjectId) → is_among j seen ≡ true → IsTipDue old.counting.frontier j → ⊥) → Keeps (IsTipDue old.counting.frontier) (cond b [] (i ∷ [])) (r.id ∷ [])
       go seen true e h = absurd (h i e is_due_now)
@@ -128,7 +128,7 @@ module _ {F : Type 0} (objects : F → Objects) (faulty : F → ObjectId → Typ
     queue = b.queue ∙ a.queue;
     moved = λ s j. b.moved s j ∙ a.moved s j;
     children = λ p. b.children p ∙ a.children p;
-    made = λ j. b.made j ∙ ap (λ x. is_among j (ready_ids others) || x) (a.made j) ∙ joined (is_among j (ready_ids others)) (is_among j (ready_ids first)) (made_of old.counting.frontier j) ∙ ap (λ x. x || made_of old.counting.frontier j) (sym (ap (is_among j) (ids-append first others) ∙ among-append j (ready_ids first) (ready_ids others)));
+    made = λ j. b.made j ∙ ap (λ x. is_among j (ready_ids others) || x) (a.made j) ∙ joined (is_among j (ready_ids others)) (is_among j (ready_ids first)) (was_ready_of old.counting.frontier j) ∙ ap (λ x. x || was_ready_of old.counting.frontier j) (sym (ap (is_among j) (ids-append first others) ∙ among-append j (ready_ids first) (ready_ids others)));
     stands = λ e. a.stands (b.stands e);
     among = λ r m. ⊎_elim (λ l. here r.id (a.among r l)) (λ t. Contains-there r.id i ids (b.among r t)) (Contains-append_cases r first others m);
     each = λ h r m. ⊎_elim (λ l. found_later objects faulty (plan_of old) (λ e. e) b.stands (a.each h r l)) (λ t. found_later objects faulty (plan_of old) a.stands (λ e. e) (with_plan objects faulty (plan_of old) (plan_of mid) mid.counting.reader.standing new.counting.reader.standing r a.plan (b.each (read_mid h) r t))) (Contains-append_cases r first others m);
@@ -158,11 +158,11 @@ module _ {F : Type 0} (objects : F → Objects) (faulty : F → ObjectId → Typ
 
       -- what is due later was due before
       earlier : (p : ObjectId) → IsTipDue mid.counting.frontier p → IsTipDue old.counting.frontier p
-      earlier p d = record { none_left = sym (a.children p) ∙ d.none_left; outside = sym (ap is_seen (a.moved Ends p)) ∙ d.outside; unmade = go (made_of old.counting.frontier p) refl }
+      earlier p d = record { none_left = sym (a.children p) ∙ d.none_left; outside = sym (ap is_seen (a.moved Ends p)) ∙ d.outside; unmade = go (was_ready_of old.counting.frontier p) refl }
         where
-          go : (x : Bool) → made_of old.counting.frontier p ≡ x → x ≡ false
+          go : (x : Bool) → was_ready_of old.counting.frontier p ≡ x → x ≡ false
           go false e = refl
-          go true e = absurd (true≢false (sym (a.made p ∙ or_right (is_among p (ready_ids first)) (made_of old.counting.frontier p) e) ∙ d.unmade))
+          go true e = absurd (true≢false (sym (a.made p ∙ or_right (is_among p (ready_ids first)) (was_ready_of old.counting.frontier p) e) ∙ d.unmade))
 
       -- the converse, except for the tip that became ready
       later : (p : ObjectId) → is_among p (i ∷ []) ≡ false → IsTipDue old.counting.frontier p → IsTipDue mid.counting.frontier p

@@ -39,7 +39,7 @@ use Rattle.gix_traverse.proofs.Topo.Counting.BothSearches.{searched_same}
 use Rattle.gix_traverse.proofs.Topo.Starting.AllTips.{IsTipDue, AreStarted, started, first_from}
 use Rattle.gix_traverse.proofs.Topo.Reading.FoundIsStored.{found_stored}
 use Rattle.gix_traverse.proofs.Topo.Reading.OnceRead.{all_still, found_later}
-use Rattle.gix_traverse.proofs.Topo.Counting.Children.{children_of, made_of, tally_same}
+use Rattle.gix_traverse.proofs.Topo.Counting.Children.{children_of, was_ready_of, tally_same}
 use Rattle.gix_traverse.proofs.Topo.Run.Theorem.{holds_in, holds_times, times-permutation}
 
 module _ {F : Type 0} (objects : F → Objects) (faulty : F → ObjectId → Type 0) (plan : TopoPlan F) (w : Walk F) (h : IsBegunWalk objects faulty plan w) where
@@ -124,10 +124,10 @@ module _ {F : Type 0} (objects : F → Objects) (faulty : F → ObjectId → Typ
   found : (r : Ready) → Contains w.ready.commits r → IsFound objects faulty p true new.reader.standing r
   found r m = subst (λ c. IsFound objects faulty p true c.reader.standing r) (sym h.counting) (found_later objects faulty p (λ e. refl) (λ e. e) (subst (λ q. IsFound objects faulty q old.reader.standing h.mid.counting.reader.standing r) first_plan (all.each first_read r (in_starts r m))))
 
-  made_is : (i : ObjectId) → made_of new.frontier i ≡ is_among i (ready_ids h.starts)
-  made_is i = ap (λ c. made_of c.frontier i) h.counting ∙ all.made i ∙ ap (λ b. is_among i (ready_ids h.starts) || b) (begun.unmade i) ∙ or-false (is_among i (ready_ids h.starts))
+  made_is : (i : ObjectId) → was_ready_of new.frontier i ≡ is_among i (ready_ids h.starts)
+  made_is i = ap (λ c. was_ready_of c.frontier i) h.counting ∙ all.made i ∙ ap (λ b. is_among i (ready_ids h.starts) || b) (begun.unmade i) ∙ or-false (is_among i (ready_ids h.starts))
 
-  made_ready : (i : ObjectId) → made_of new.frontier i ≡ is_among i (ready_ids w.ready.commits)
+  made_ready : (i : ObjectId) → was_ready_of new.frontier i ≡ is_among i (ready_ids w.ready.commits)
   made_ready i = made_is i ∙ ready_among i
 
   untaken : (i : ObjectId) → set.contains (taken_of w) i ≡ false
@@ -143,7 +143,7 @@ module _ {F : Type 0} (objects : F → Objects) (faulty : F → ObjectId → Typ
   tip_high : (i : ObjectId) → Contains p.tips i → old.depth ≤ known_generation p.rows i
   tip_high i m = subst (λ d. d ≤ known_generation p.rows i) (sym begun.depth) (least_within p.rows infinity (p.tips ++ p.ends) i (Contains-append_left p.tips p.ends i m))
 
-  module _ (agrees : IsAgreeing (objects p.store) (faulty p.store) p.rows) where
+  module _ (agrees : IsAgreeing (objects p.store) p.rows) where
     before : IsCounted (objects p.store) p.rows p.parents p.tips p.ends (set.contains (taken_of w)) old.frontier
     before = begun.counted (set.contains (taken_of w)) untaken agrees
 
@@ -219,7 +219,7 @@ module _ {F : Type 0} (objects : F → Objects) (faulty : F → ObjectId → Typ
       whole = λ e b. c.whole (stands e) (subst (IsBrokenRow objects p) same_depth b);
     }
 
-    made_childless : (i : ObjectId) → made_of new.frontier i ≡ true → IsChildless (walked_of objects p) Member i
+    made_childless : (i : ObjectId) → was_ready_of new.frontier i ≡ true → IsChildless (walked_of objects p) Member i
     made_childless i e = (keeps_from (IsChildless (walked_of objects p) Member) kept_childless i (among_is i (ready_ids h.starts) (sym (made_is i) ∙ e))).1
 
     steady : IsSteady objects w

@@ -30,7 +30,7 @@ use Rattle.gix_traverse.proofs.Shared.NewIds.{times, times_once}
 use Rattle.gix_traverse.proofs.Topo.Ready.IsReady.{keeps_from, keeps_times, last_from, last_once}
 use Rattle.gix_traverse.proofs.Topo.Taking.AllReleases.{keeps_on, IsDue, IsReleased, reads_stands, released}
 use Rattle.gix_traverse.proofs.Topo.Counting.Rest.{least_within}
-use Rattle.gix_traverse.proofs.Topo.Counting.Children.{children_of, made_of}
+use Rattle.gix_traverse.proofs.Topo.Counting.Children.{children_of, was_ready_of}
 use Rattle.gix_traverse.proofs.Topo.Counting.Expanded.{explores_read}
 use Rattle.gix_traverse.proofs.Topo.Reading.OnceRead.{all_still, found_later}
 use Rattle.gix_traverse.proofs.Topo.Reading.FoundIsStored.{found_named, found_stored}
@@ -110,7 +110,7 @@ module _ {F : Type 0} (objects : F → Objects) (faulty : F → ObjectId → Typ
     among_ready : is_among r.id (ready_ids w.ready.commits) ≡ true
     among_ready = among_from r.id (ready_ids w.ready.commits) (in_ids w.ready.commits r (was_ready objects faulty w rest r chosen))
 
-    made_before : (p : ObjectId) → made_of t.explored.frontier p ≡ (set.contains (taken_of w) p || is_among p (ready_ids w.ready.commits))
+    made_before : (p : ObjectId) → was_ready_of t.explored.frontier p ≡ (set.contains (taken_of w) p || is_among p (ready_ids w.ready.commits))
     made_before p = explores_made objects faulty t.explores p ∙ made_taken w held.made p
 
     module _ (sound : IsWalkable objects faulty (plan_of w)) where
@@ -161,13 +161,13 @@ module _ {F : Type 0} (objects : F → Objects) (faulty : F → ObjectId → Typ
       ready_due p m q = record {
         none_left = all_taken those (faulty w.counting.reader.find) (plan_of w).rows w.counting.parents (plan_of w).tips (plan_of w).ends sound.agreeing sound.tips_whole sound.ends_whole t.explored.frontier low.depth explored (λ side. (counted.searched.search side).within) now_taken (children_of new.counting.frontier) tally p q.member q.children;
         outside = seen_there p ∙ unseen those (faulty w.counting.reader.find) (plan_of w).rows w.counting.parents (plan_of w).tips (plan_of w).ends sound.agreeing sound.tips_whole sound.ends_whole t.explored.frontier low.depth explored (λ side. (counted.searched.search side).within) now_taken (children_of new.counting.frontier) tally p q.member;
-        unmade = go (made_of t.explored.frontier p) refl;
+        unmade = go (was_ready_of t.explored.frontier p) refl;
       }
         where
           child : IsChild walked Member r.id p
           child = record { child = is_member; parent = q.member; named = subst (λ ids. Contains ids p) walked_is (last_from named p m) }
 
-          go : (b : Bool) → made_of t.explored.frontier p ≡ b → b ≡ false
+          go : (b : Bool) → was_ready_of t.explored.frontier p ≡ b → b ≡ false
           go true e = absurd (true≢false (sym (steady.children p r.id (sym (explores_made objects faulty t.explores p) ∙ e) child) ∙ was_untaken objects faulty w rest r chosen held))
           go false e = refl
 

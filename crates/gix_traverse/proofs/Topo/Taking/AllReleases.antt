@@ -16,7 +16,7 @@ use Rattle.gix_traverse.specs.declared.commit.topo.frontier.Side.TheVariants.{Ti
 use Rattle.gix_traverse.specs.Topo.Inside.Known.{Known}
 use Rattle.gix_traverse.specs.declared.commit.topo.frontier.Frontier.{Frontier}
 use Rattle.gix_traverse.specs.declared.commit.topo.walk.Walk.{Walk}
-use Rattle.gix_traverse.specs.Topo.Inside.Frontier.{is_seen, known_of, progress_of, reached, is_due, Uncounts, Makes}
+use Rattle.gix_traverse.specs.Topo.Inside.Frontier.{is_seen, known_of, progress_of, reached, is_due, Uncounts, MarksReady}
 use Rattle.gix_traverse.specs.History.Reading.{Reads, by_row, by_text, DropsRows}
 use Rattle.gix_traverse.specs.Topo.Inside.Releasing.{plan_of, with_frontier, Releases, waits, frees, ReleasesAll, none, more}
 use Rattle.gix_traverse.specs.Topo.Inside.Searched.{times}
@@ -25,7 +25,7 @@ use Rattle.gix_traverse.specs.Topo.Inside.Steady.{AreRead}
 use Rattle.gix_traverse.specs.Topo.Walk.{TopoPlan, Ready, ready_ids, HoldsReady, IsFound}
 use Rattle.gix_traverse.proofs.Topo.Reading.OnceRead.{all_still, found_later, found_pushed}
 use Rattle.gix_traverse.proofs.Topo.Counting.Frontier.{known-insert, unmoved, reached-insert, has_seen}
-use Rattle.gix_traverse.proofs.Topo.Counting.Children.{children_of, made_of}
+use Rattle.gix_traverse.proofs.Topo.Counting.Children.{children_of, was_ready_of}
 use Rattle.gix_traverse.proofs.Shared.HeldRows.{held_before, dropped_by}
 use Rattle.gix_traverse.proofs.Shared.NewIds.{among_times}
 
@@ -65,7 +65,7 @@ module _ {F : Type 0} (objects : F → Objects) (faulty : F → ObjectId → Typ
   pub record IsDue (old new : Walk F) (p : ObjectId) : Type 0 where
     pub none_left : children_of new.counting.frontier p ≡ 0
     pub outside : has_seen new.counting.frontier Ends p ≡ false
-    pub unmade : made_of old.counting.frontier p ≡ false
+    pub unmade : was_ready_of old.counting.frontier p ≡ false
 
   pub record IsReleased (old : Walk F) (ids : List ObjectId) (added : List Ready) (new : Walk F) : Type 0 where
     pub plan : plan_of new ≡ plan_of old
@@ -74,7 +74,7 @@ module _ {F : Type 0} (objects : F → Objects) (faulty : F → ObjectId → Typ
     pub queue : new.counting.frontier.queue ≡ old.counting.frontier.queue
     pub moved : (s : Side) (j : ObjectId) → reached new.counting.frontier.known s j ≡ reached old.counting.frontier.known s j
     pub children : (p : ObjectId) → times p ids + children_of new.counting.frontier p ≡ children_of old.counting.frontier p
-    pub made : (j : ObjectId) → made_of new.counting.frontier j ≡ (is_among j (ready_ids added) || made_of old.counting.frontier j)
+    pub made : (j : ObjectId) → was_ready_of new.counting.frontier j ≡ (is_among j (ready_ids added) || was_ready_of old.counting.frontier j)
     pub holds : HoldsReady old.ready.sorting (old.ready.commits ++ added) new.ready.commits
     pub stands : new.counting.reader.standing ≡ true → old.counting.reader.standing ≡ true
     pub among : (r : Ready) → Contains added r → Contains ids r.id
@@ -93,60 +93,60 @@ module _ {F : Type 0} (objects : F → Objects) (faulty : F → ObjectId → Typ
   reads_drops (by_text r t) = dropped_by r
 
   -- one child less of one id
-  uncounted_children : (f g : Frontier) (i : ObjectId) (n : ℕ) → (known_of f.known i).children ≡ n + 1 → Uncounts f i g → (p : ObjectId) → (cond (is_same p i) 1 0 + 0) + children_of g p ≡ children_of f p
-  uncounted_children f g i n c u p = ap (λ k. (cond (is_same p i) 1 0 + 0) + (known_of k p).children) (u.known n c) ∙ ap (λ k. (cond (is_same p i) 1 0 + 0) + k.children) (known-insert f.known i (record (known_of f.known i) { children = n }) p) ∙ go (is_same p i) refl
+  uncounted_children : (f g : Frontier) (i : ObjectId) (n : ℕ) → (known_of f.known i).indegree ≡ n + 1 → Uncounts f i g → (p : ObjectId) → (cond (is_same p i) 1 0 + 0) + children_of g p ≡ children_of f p
+  uncounted_children f g i n c u p = ap (λ k. (cond (is_same p i) 1 0 + 0) + (known_of k p).indegree) (u.known n c) ∙ ap (λ k. (cond (is_same p i) 1 0 + 0) + k.indegree) (known-insert f.known i (record (known_of f.known i) { indegree = n }) p) ∙ go (is_same p i) refl
     where
-      go : (b : Bool) → is_same p i ≡ b → (cond b 1 0 + 0) + (cond b (record (known_of f.known i) { children = n }) (known_of f.known p)).children ≡ children_of f p
+      go : (b : Bool) → is_same p i ≡ b → (cond b 1 0 + 0) + (cond b (record (known_of f.known i) { indegree = n }) (known_of f.known p)).indegree ≡ children_of f p
       go true s = let e : children_of f p ≡ n + 1 = ap (λ j. children_of f j) (same_is p i s) ∙ c in omega arith
       go false s = omega arith
 
-  pub uncounted_made : (f g : Frontier) (i : ObjectId) (n : ℕ) → (known_of f.known i).children ≡ n + 1 → Uncounts f i g → (p : ObjectId) → made_of g p ≡ made_of f p
-  uncounted_made f g i n c u p = ap (λ k. (known_of k p).made) (u.known n c) ∙ ap (λ k. k.made) (known-insert f.known i (record (known_of f.known i) { children = n }) p) ∙ go (is_same p i) refl
+  pub uncounted_made : (f g : Frontier) (i : ObjectId) (n : ℕ) → (known_of f.known i).indegree ≡ n + 1 → Uncounts f i g → (p : ObjectId) → was_ready_of g p ≡ was_ready_of f p
+  uncounted_made f g i n c u p = ap (λ k. (known_of k p).was_ready) (u.known n c) ∙ ap (λ k. k.was_ready) (known-insert f.known i (record (known_of f.known i) { indegree = n }) p) ∙ go (is_same p i) refl
     where
-      go : (b : Bool) → is_same p i ≡ b → (cond b (record (known_of f.known i) { children = n }) (known_of f.known p)).made ≡ made_of f p
-      go true s = ap (λ j. made_of f j) (sym (same_is p i s))
+      go : (b : Bool) → is_same p i ≡ b → (cond b (record (known_of f.known i) { indegree = n }) (known_of f.known p)).was_ready ≡ was_ready_of f p
+      go true s = ap (λ j. was_ready_of f j) (sym (same_is p i s))
       go false s = refl
 
-  pub uncounted_moved : (f g : Frontier) (i : ObjectId) (n : ℕ) → (known_of f.known i).children ≡ n + 1 → Uncounts f i g → (s : Side) (p : ObjectId) → reached g.known s p ≡ reached f.known s p
+  pub uncounted_moved : (f g : Frontier) (i : ObjectId) (n : ℕ) → (known_of f.known i).indegree ≡ n + 1 → Uncounts f i g → (s : Side) (p : ObjectId) → reached g.known s p ≡ reached f.known s p
   uncounted_moved f g i n c u s p = ap (λ k. reached k s p) (u.known n c) ∙ unmoved f.known i n s p
 
   -- what making an id ready changes
-  pub makes_known : (f g : Frontier) (i : ObjectId) → Makes f i g → (p : ObjectId) → (children_of g p ≡ children_of f p) × (made_of g p ≡ (is_same p i || made_of f p))
-  makes_known f g i m p = (ap (λ k. (known_of k p).children) m.known ∙ ap (λ k. k.children) (known-insert f.known i (record (known_of f.known i) { made = true }) p) ∙ one (is_same p i) refl, ap (λ k. (known_of k p).made) m.known ∙ ap (λ k. k.made) (known-insert f.known i (record (known_of f.known i) { made = true }) p) ∙ two (is_same p i) refl)
+  pub marks_ready_known : (f g : Frontier) (i : ObjectId) → MarksReady f i g → (p : ObjectId) → (children_of g p ≡ children_of f p) × (was_ready_of g p ≡ (is_same p i || was_ready_of f p))
+  marks_ready_known f g i m p = (ap (λ k. (known_of k p).indegree) m.known ∙ ap (λ k. k.indegree) (known-insert f.known i (record (known_of f.known i) { was_ready = true }) p) ∙ one (is_same p i) refl, ap (λ k. (known_of k p).was_ready) m.known ∙ ap (λ k. k.was_ready) (known-insert f.known i (record (known_of f.known i) { was_ready = true }) p) ∙ two (is_same p i) refl)
     where
-      one : (b : Bool) → is_same p i ≡ b → (cond b (record (known_of f.known i) { made = true }) (known_of f.known p)).children ≡ children_of f p
+      one : (b : Bool) → is_same p i ≡ b → (cond b (record (known_of f.known i) { was_ready = true }) (known_of f.known p)).indegree ≡ children_of f p
       one true s = ap (λ j. children_of f j) (sym (same_is p i s))
       one false s = refl
 
-      two : (b : Bool) → is_same p i ≡ b → (cond b (record (known_of f.known i) { made = true }) (known_of f.known p)).made ≡ (b || made_of f p)
+      two : (b : Bool) → is_same p i ≡ b → (cond b (record (known_of f.known i) { was_ready = true }) (known_of f.known p)).was_ready ≡ (b || was_ready_of f p)
       two true s = refl
       two false s = refl
 
   -- and that it moves no search
-  pub makes_moved : (f g : Frontier) (i : ObjectId) → Makes f i g → (s : Side) (p : ObjectId) → reached g.known s p ≡ reached f.known s p
-  makes_moved f g i m s p = ap (λ k. reached k s p) m.known ∙ reached-insert f.known i (record (known_of f.known i) { made = true }) s p ∙ go s (is_same p i) refl
+  pub makes_moved : (f g : Frontier) (i : ObjectId) → MarksReady f i g → (s : Side) (p : ObjectId) → reached g.known s p ≡ reached f.known s p
+  makes_moved f g i m s p = ap (λ k. reached k s p) m.known ∙ reached-insert f.known i (record (known_of f.known i) { was_ready = true }) s p ∙ go s (is_same p i) refl
     where
-      go : (s : Side) (b : Bool) → is_same p i ≡ b → cond b (progress_of s (record (known_of f.known i) { made = true })) (reached f.known s p) ≡ reached f.known s p
+      go : (s : Side) (b : Bool) → is_same p i ≡ b → cond b (progress_of s (record (known_of f.known i) { was_ready = true })) (reached f.known s p) ≡ reached f.known s p
       go Tips true e = ap (λ j. reached f.known Tips j) (sym (same_is p i e))
       go Ends true e = ap (λ j. reached f.known Ends j) (sym (same_is p i e))
       go s false e = refl
 
   -- what being due says
-  pub due_parts : (n : ℕ) (k : Known) → is_due n k ≡ true → (n ≡ 0) × (is_seen k.ends ≡ false) × (k.made ≡ false)
-  due_parts n k e = go (n == 0) (k.made) (is_seen k.ends) refl refl refl e
+  pub due_parts : (n : ℕ) (k : Known) → is_due n k ≡ true → (n ≡ 0) × (is_seen k.ends ≡ false) × (k.was_ready ≡ false)
+  due_parts n k e = go (n == 0) (k.was_ready) (is_seen k.ends) refl refl refl e
     where
       zero_is : (n : ℕ) → (n == 0) ≡ true → n ≡ 0
       zero_is n e = eqb-true n 0 e
 
-      go : (a b c : Bool) → (n == 0) ≡ a → k.made ≡ b → is_seen k.ends ≡ c → ((a && not b) && not c) ≡ true → (n ≡ 0) × (is_seen k.ends ≡ false) × (k.made ≡ false)
+      go : (a b c : Bool) → (n == 0) ≡ a → k.was_ready ≡ b → is_seen k.ends ≡ c → ((a && not b) && not c) ≡ true → (n ≡ 0) × (is_seen k.ends ≡ false) × (k.was_ready ≡ false)
       go true false false p q r e = (zero_is n p, r, q)
       go true false true p q r e = absurd (false≢true e)
       go true true c p q r e = absurd (false≢true e)
       go false b c p q r e = absurd (false≢true e)
 
   -- and when it is so
-  pub due_from : (n : ℕ) (k : Known) → n ≡ 0 → is_seen k.ends ≡ false → k.made ≡ false → is_due n k ≡ true
-  due_from n k a b c = ap (λ m. ((m == 0) && not k.made) && not (is_seen k.ends)) a ∙ ap (λ x. (true && not x) && not (is_seen k.ends)) c ∙ ap (λ x. true && not x) b
+  pub due_from : (n : ℕ) (k : Known) → n ≡ 0 → is_seen k.ends ≡ false → k.was_ready ≡ false → is_due n k ≡ true
+  due_from n k a b c = ap (λ m. ((m == 0) && not k.was_ready) && not (is_seen k.ends)) a ∙ ap (λ x. (true && not x) && not (is_seen k.ends)) c ∙ ap (λ x. true && not x) b
 
   -- found alike over an equal plan
   pub with_plan : (plan other : TopoPlan F) (stood standing : Bool) (r : Ready) → other ≡ plan → IsFound objects faulty other stood standing r → IsFound objects faulty plan stood standing r
@@ -179,8 +179,8 @@ module _ {F : Type 0} (objects : F → Objects) (faulty : F → ObjectId → Typ
     expanded = p.same.expanded;
     queue = p.same.queue ∙ u.queue;
     moved = λ s j. makes_moved f new.counting.frontier i p.made s j ∙ uncounted_moved old.counting.frontier f i n c u s j;
-    children = λ j. ap (λ k. (cond (is_same j i) 1 0 + 0) + k) (makes_known f new.counting.frontier i p.made j).0 ∙ uncounted_children old.counting.frontier f i n c u j;
-    made = λ j. (makes_known f new.counting.frontier i p.made j).1 ∙ ap (λ b. is_same j i || b) (uncounted_made old.counting.frontier f i n c u j) ∙ ap (λ b. b || made_of old.counting.frontier j) (ap (is_same j) (sym p.id) ∙ sym (among-one j r.id));
+    children = λ j. ap (λ k. (cond (is_same j i) 1 0 + 0) + k) (marks_ready_known f new.counting.frontier i p.made j).0 ∙ uncounted_children old.counting.frontier f i n c u j;
+    made = λ j. (marks_ready_known f new.counting.frontier i p.made j).1 ∙ ap (λ b. is_same j i || b) (uncounted_made old.counting.frontier f i n c u j) ∙ ap (λ b. b || was_ready_of old.counting.frontier j) (ap (is_same j) (sym p.id) ∙ sym (among-one j r.id));
     holds = p.holds;
     stands = λ e. reads_stands p.reads e;
     among = λ x m. ⊎_elim (λ s. subst (λ j. Contains (i ∷ []) j) (sym p.id ∙ ap (λ y. y.id) s) (Contains-here i [])) (λ t. absurd (no_member x t)) (Contains-cons_cases x r [] m);
@@ -189,12 +189,12 @@ module _ {F : Type 0} (objects : F → Objects) (faulty : F → ObjectId → Typ
     due = λ h. subst (λ j. Keeps (IsDue old new) (i ∷ []) (j ∷ [])) (sym p.id) (kept is_due_now keeps_none);
   }
     where
-      parts : (n ≡ 0) × (is_seen (known_of f.known i).ends ≡ false) × ((known_of f.known i).made ≡ false)
+      parts : (n ≡ 0) × (is_seen (known_of f.known i).ends ≡ false) × ((known_of f.known i).was_ready ≡ false)
       parts = due_parts n (known_of f.known i) d
 
       is_due_now : IsDue old new i
       is_due_now = record {
-        none_left = (makes_known f new.counting.frontier i p.made i).0 ∙ (let e : (cond (is_same i i) 1 0 + 0) + children_of f i ≡ children_of old.counting.frontier i = uncounted_children old.counting.frontier f i n c u i in let s : ◌≡◌ {A = ℕ} (cond (is_same i i) 1 0) 1 = ap (λ b. cond b 1 0) (same_itself i) in let k : children_of old.counting.frontier i ≡ n + 1 = c in let z : n ≡ 0 = parts.0 in let r : children_of f i ≡ 0 = omega arith in r);
+        none_left = (marks_ready_known f new.counting.frontier i p.made i).0 ∙ (let e : (cond (is_same i i) 1 0 + 0) + children_of f i ≡ children_of old.counting.frontier i = uncounted_children old.counting.frontier f i n c u i in let s : ◌≡◌ {A = ℕ} (cond (is_same i i) 1 0) 1 = ap (λ b. cond b 1 0) (same_itself i) in let k : children_of old.counting.frontier i ≡ n + 1 = c in let z : n ≡ 0 = parts.0 in let r : children_of f i ≡ 0 = omega arith in r);
         outside = ap is_seen (makes_moved f new.counting.frontier i p.made Ends i) ∙ parts.1;
         unmade = sym (uncounted_made old.counting.frontier f i n c u i) ∙ parts.2;
       }
@@ -207,7 +207,7 @@ module _ {F : Type 0} (objects : F → Objects) (faulty : F → ObjectId → Typ
     queue = b.queue ∙ a.queue;
     moved = λ s j. b.moved s j ∙ a.moved s j;
     children = λ p. let x : times p ids + children_of new.counting.frontier p ≡ children_of mid.counting.frontier p = b.children p in let y : (cond (is_same p i) 1 0 + 0) + children_of mid.counting.frontier p ≡ children_of old.counting.frontier p = a.children p in omega arith;
-    made = λ j. b.made j ∙ ap (λ x. is_among j (ready_ids others) || x) (a.made j) ∙ joined (is_among j (ready_ids others)) (is_among j (ready_ids first)) (made_of old.counting.frontier j) ∙ ap (λ x. x || made_of old.counting.frontier j) (sym (ap (is_among j) (ids-append first others) ∙ among-append j (ready_ids first) (ready_ids others)));
+    made = λ j. b.made j ∙ ap (λ x. is_among j (ready_ids others) || x) (a.made j) ∙ joined (is_among j (ready_ids others)) (is_among j (ready_ids first)) (was_ready_of old.counting.frontier j) ∙ ap (λ x. x || was_ready_of old.counting.frontier j) (sym (ap (is_among j) (ids-append first others) ∙ among-append j (ready_ids first) (ready_ids others)));
     holds = holds_on old.ready.sorting old.ready.commits first mid.ready.commits others new.ready.commits a.holds (subst (λ s. HoldsReady s (mid.ready.commits ++ others) new.ready.commits) (ap (λ p. p.sorting) a.plan) b.holds);
     stands = λ e. a.stands (b.stands e);
     among = λ r m. ⊎_elim (λ l. ⊎_elim (λ s. subst (λ j. Contains (i ∷ ids) j) s (Contains-here i ids)) (λ t. absurd (no_member r.id t)) (Contains-cons_cases r.id i [] (a.among r l))) (λ t. Contains-there r.id i ids (b.among r t)) (Contains-append_cases r first others m);
@@ -257,10 +257,10 @@ module _ {F : Type 0} (objects : F → Objects) (faulty : F → ObjectId → Typ
               at : {w : Walk F} (j : ObjectId) → Contains (i ∷ []) j → IsDue old w i → IsDue old w j
               at {w} j m d = subst (IsDue old w) (is_i j m) d
 
-          fresh_there : (p : ObjectId) → Contains ids p → made_of mid.counting.frontier p ≡ made_of old.counting.frontier p
+          fresh_there : (p : ObjectId) → Contains ids p → was_ready_of mid.counting.frontier p ≡ was_ready_of old.counting.frontier p
           fresh_there p m = a.made p ∙ go_made (is_among p (ready_ids first)) refl
             where
-              go_made : (x : Bool) → is_among p (ready_ids first) ≡ x → (x || made_of old.counting.frontier p) ≡ made_of old.counting.frontier p
+              go_made : (x : Bool) → is_among p (ready_ids first) ≡ x → (x || was_ready_of old.counting.frontier p) ≡ was_ready_of old.counting.frontier p
               go_made false e = refl
               go_made true e =
                   let r : (r : Ready) × Contains first r × (r.id ≡ p) = from_ids first p (among_is p (ready_ids first) e) in

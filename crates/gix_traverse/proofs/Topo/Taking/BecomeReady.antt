@@ -29,7 +29,7 @@ done_seen Queued e = refl
 done_seen Done e = refl
 
 -- by the texts alone, after exploring
-module _ (objects : Objects) (faulty : ObjectId → Type 0) (rows : List GraphRow) (parents : Parents) (tips ends : List ObjectId) (agrees : IsAgreeing objects faulty rows) (f : Frontier) (depth : ℕ) (explored : (side : Side) → IsExplored objects rows parents tips ends depth side f) where
+module _ (objects : Objects) (faulty : ObjectId → Type 0) (rows : List GraphRow) (parents : Parents) (tips ends : List ObjectId) (agrees : IsAgreeing objects rows) (f : Frontier) (depth : ℕ) (explored : (side : Side) → IsExplored objects rows parents tips ends depth side f) where
   -- no child is left that wasn't taken
   pub text_left : (taken : ObjectId → Bool) (children : ObjectId → ℕ) → IsTally (next_by objects parents Tips) (λ i. is_done (reached f.known Tips i)) taken children → (p : ObjectId) → children p ≡ 0 → depth ≤ known_generation rows p → (d : ObjectId) → Reaches (next_by objects parents Tips) tips d → Contains (next_by objects parents Tips d) p → taken d ≡ true
   text_left taken children tally p z high d reach text = go (taken d) refl
@@ -55,7 +55,7 @@ module _ (objects : Objects) (faulty : ObjectId → Type 0) (rows : List GraphRo
   abbrev In : ObjectId → Type 0
   In = IsInWalk walked (parents_of objects) tips ends
 
-  module _ (agrees : IsAgreeing objects faulty rows) (tips_whole : (i : ObjectId) → Reaches walked tips i → ReadsWhole objects faulty i) (ends_whole : (i : ObjectId) → Reaches (parents_of objects) ends i → ReadsWhole objects faulty i) where
+  module _ (agrees : IsAgreeing objects rows) (tips_whole : (i : ObjectId) → Reaches walked tips i → ReadsWhole objects i) (ends_whole : (i : ObjectId) → Reaches (parents_of objects) ends i → ReadsWhole objects i) where
     -- over a sound history, what texts name is what is reached
     pub tips_text : (i : ObjectId) → Reaches walked tips i → Reaches (next_by objects parents Tips) tips i
     tips_text i (start m) = start m

@@ -26,7 +26,7 @@ use Rattle.gix_traverse.proofs.Shared.NewIds.{times, times_none, among_times, ti
 use Rattle.gix_traverse.proofs.Topo.Ready.IsReady.{distinct_times, keeps_from, last_from, last_once, among_by}
 use Rattle.gix_traverse.proofs.Topo.Taking.AllReleases.{ids-append, Contains-append_cases, IsDue, IsReleased, released}
 use Rattle.gix_traverse.proofs.Topo.Counting.Rest.{least_within}
-use Rattle.gix_traverse.proofs.Topo.Counting.Children.{children_of, made_of, tally_same}
+use Rattle.gix_traverse.proofs.Topo.Counting.Children.{children_of, was_ready_of, tally_same}
 use Rattle.gix_traverse.proofs.Topo.Run.Theorem.{chosen_times, others_in, holds_in, holds_times, joined_times}
 use Rattle.gix_traverse.proofs.Topo.Reading.OnceRead.{found_later}
 use Rattle.gix_traverse.proofs.Topo.Taking.Added.{read_after}
@@ -96,14 +96,14 @@ module _ {F : Type 0} (objects : F → Objects) (faulty : F → ObjectId → Typ
   ready_cases : (A : Type 0) (q : Ready) → (Contains rest.commits q → A) → (Contains added q → A) → Contains new.ready.commits q → A
   ready_cases A q f g m = ⊎_elim f g (Contains-append_cases q rest.commits added (holds_in rest.sorting (rest.commits ++ added) new.ready.commits rel.holds q m))
 
-  made_now : (j : ObjectId) → made_of new.counting.frontier j ≡ (is_among j (ready_ids added) || made_of w.counting.frontier j)
+  made_now : (j : ObjectId) → was_ready_of new.counting.frontier j ≡ (is_among j (ready_ids added) || was_ready_of w.counting.frontier j)
   made_now j = rel.made j ∙ ap (λ b. is_among j (ready_ids added) || b) (explores_made objects faulty t.explores j)
 
   module _ (held : IsHeld objects faulty w) where
-    unmade : (j : ObjectId) → is_among j (ready_ids added) ≡ true → made_of w.counting.frontier j ≡ false
+    unmade : (j : ObjectId) → is_among j (ready_ids added) ≡ true → was_ready_of w.counting.frontier j ≡ false
     unmade j e = sym (explores_made objects faulty t.explores j) ∙ (keeps_from (IsDue objects faulty between new) (rel.due (λ i. last_once named i)) j (among_is j (ready_ids added) e)).1.unmade
 
-    was_made : (j : ObjectId) → (is_same j r.id || is_among j (ready_ids rest.commits)) ≡ true → made_of w.counting.frontier j ≡ true
+    was_made : (j : ObjectId) → (is_same j r.id || is_among j (ready_ids rest.commits)) ≡ true → was_ready_of w.counting.frontier j ≡ true
     was_made j e = held.made j (among_is j (ready_ids w.ready.commits) (was_among j ∙ e))
 
     -- the chosen one was ready once
@@ -118,14 +118,14 @@ module _ {F : Type 0} (objects : F → Objects) (faulty : F → ObjectId → Typ
     taken_now : (j : ObjectId) → set.contains (taken_of new) j ≡ (is_same j r.id || set.contains (taken_of w) j)
     taken_now j =
         contains-taken new.counting.frontier.known new.ready.commits j ∙ (λ k. made_now j k && not (is_now j k))
-        ∙ chosen_too (is_among j (ready_ids added)) (made_of w.counting.frontier j) (is_among j (ready_ids rest.commits)) (is_same j r.id) (unmade j) (was_made j) (other j)
-        ∙ ap (λ b. is_same j r.id || b) (sym (contains-taken w.counting.frontier.known w.ready.commits j ∙ ap (λ b. made_of w.counting.frontier j && not b) (was_among j)))
+        ∙ chosen_too (is_among j (ready_ids added)) (was_ready_of w.counting.frontier j) (is_among j (ready_ids rest.commits)) (is_same j r.id) (unmade j) (was_made j) (other j)
+        ∙ ap (λ b. is_same j r.id || b) (sym (contains-taken w.counting.frontier.known w.ready.commits j ∙ ap (λ b. was_ready_of w.counting.frontier j && not b) (was_among j)))
 
     taken_is : taken_of new ≡ set.insert (taken_of w) r.id
     taken_is = set.same_set id_total id_apart (taken_of new) (set.insert (taken_of w) r.id) (λ j. taken_now j ∙ sym (set.contains-insert id_total (taken_of w) r.id j))
 
     -- with rows that agree
-    module _ (agrees : IsAgreeing (objects (plan_of w).store) (faulty (plan_of w).store) (plan_of w).rows) where
+    module _ (agrees : IsAgreeing (objects (plan_of w).store) (plan_of w).rows) where
       before : IsTallied objects w
       before = held.tallied agrees
 
@@ -193,7 +193,7 @@ module _ {F : Type 0} (objects : F → Objects) (faulty : F → ObjectId → Typ
               let o : times i (ready_ids w.ready.commits) ≤ 1 = distinct_times (ready_ids w.ready.commits) held.distinct i in
               omega arith
 
-      still_made : (j : ObjectId) → (is_among j (ready_ids rest.commits) ≡ true) ⊎ (is_among j (ready_ids added) ≡ true) → (is_among j (ready_ids added) || made_of w.counting.frontier j) ≡ true
+      still_made : (j : ObjectId) → (is_among j (ready_ids rest.commits) ≡ true) ⊎ (is_among j (ready_ids added) ≡ true) → (is_among j (ready_ids added) || was_ready_of w.counting.frontier j) ≡ true
       still_made j c = ⊎_elim (λ e. or_right (is_among j (ready_ids added)) _ (was_made j (or_right (is_same j r.id) _ e))) (λ e. or_left _ _ e) c
 
       found_now : (q : Ready) → Contains new.ready.commits q → IsFound objects faulty (plan_of new) true new.counting.reader.standing q
@@ -210,13 +210,13 @@ module _ {F : Type 0} (objects : F → Objects) (faulty : F → ObjectId → Typ
         now_ready : (i : ObjectId) → is_among i (ready_ids added) ≡ true → IsReady walked Member (IsTaken (set.insert (taken_of w) r.id)) i
         now_ready i e = (keeps_from (IsReady walked Member (IsTaken (set.insert (taken_of w) r.id))) (adds.became sound) i (among_is i (ready_ids added) e)).1
 
-        member_now : (i : ObjectId) → made_of new.counting.frontier i ≡ true → Member i
-        member_now i e = ⊎_elim (λ a. (now_ready i a).member) (λ o. steady.member i o) (or_cases (is_among i (ready_ids added)) (made_of w.counting.frontier i) (sym (made_now i) ∙ e))
+        member_now : (i : ObjectId) → was_ready_of new.counting.frontier i ≡ true → Member i
+        member_now i e = ⊎_elim (λ a. (now_ready i a).member) (λ o. steady.member i o) (or_cases (is_among i (ready_ids added)) (was_ready_of w.counting.frontier i) (sym (made_now i) ∙ e))
 
-        children_now : (i d : ObjectId) → made_of new.counting.frontier i ≡ true → IsChild walked Member d i → set.contains (taken_of new) d ≡ true
+        children_now : (i d : ObjectId) → was_ready_of new.counting.frontier i ≡ true → IsChild walked Member d i → set.contains (taken_of new) d ≡ true
         children_now i d e c =
             ⊎_elim (λ a. ap (λ s. set.contains s d) taken_is ∙ (now_ready i a).children d c) (λ o. taken_now d ∙ or_right (is_same d r.id) _ (steady.children i d o c))
-            (or_cases (is_among i (ready_ids added)) (made_of w.counting.frontier i) (sym (made_now i) ∙ e))
+            (or_cases (is_among i (ready_ids added)) (was_ready_of w.counting.frontier i) (sym (made_now i) ∙ e))
 
         steady_now : IsSteady objects new
         steady_now = record {
@@ -230,7 +230,7 @@ module _ {F : Type 0} (objects : F → Objects) (faulty : F → ObjectId → Typ
         made = λ j m. made_now j ∙ still_made j (or_cases (is_among j (ready_ids rest.commits)) (is_among j (ready_ids added)) (sym (is_now j) ∙ among_from j (ready_ids new.ready.commits) m));
         distinct = times_once (ready_ids new.ready.commits) once;
         found = found_now;
-        tallied = λ a. tallied_now (subst (λ p. IsAgreeing (objects p.store) (faulty p.store) p.rows) plan_is a);
+        tallied = λ a. tallied_now (subst (λ p. IsAgreeing (objects p.store) p.rows) plan_is a);
         steady = λ s. steady_now (subst (IsWalkable objects faulty) plan_is s);
         counts = λ s. subst (λ p. HasCounted objects p new.counting) (sym plan_is) (has (subst (IsWalkable objects faulty) plan_is s));
         all_read = subst (λ p. AreRead objects faulty p new.counting) (sym plan_is) (read_after objects faulty w rest same r chosen added new t held);

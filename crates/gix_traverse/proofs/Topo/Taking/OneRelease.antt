@@ -17,7 +17,7 @@ use Rattle.gix_traverse.specs.Topo.Inside.Exploring.{Explores, IsRested, IsExplo
 use Rattle.gix_traverse.specs.History.Commits.{by_mode}
 use Rattle.gix_traverse.specs.Orders.TopoOrder.{last_places}
 use Rattle.gix_traverse.specs.Topo.Walk.{Ready}
-use Rattle.gix_traverse.specs.Topo.Inside.Releasing.{Knows, IsPushFault, parent, lowered, with_counting, TakesOne, IsTakingFault, exploring, releasing, ReleasesAll, IsFaultAmong}
+use Rattle.gix_traverse.specs.Topo.Inside.Releasing.{LooksUpParent, IsPushFault, parent, lowered, with_counting, TakesOne, IsTakingFault, exploring, releasing, ReleasesAll, IsFaultAmong}
 
 -- what is read has the id that was asked for, and a time
 pub record IsTimedInfo (i : ObjectId) (info : Info) (time : ℤ) : Type 0 where
@@ -60,8 +60,8 @@ take_more {X} xs k j d x e l m = go xs k l (subst (λ n. Contains (take n xs) x)
         (Contains-cons_cases x z (take (suc n) zs) m)
 
 -- known alike over an equal store, rows and searches
-pub knows_by : {F : Type 0} (objects : F → Objects) {find other : F} {graph rest : Option (List GraphRow)} {standing now : Bool} {f g : Frontier} → find ≡ other → graph ≡ rest → standing ≡ now → f ≡ g → (p : ObjectId) → Knows (objects find) (rows_of graph) standing f p → Knows (objects other) (rows_of rest) now g p
-knows_by objects a b c d p h = subst (λ x. x) (λ k. Knows (objects (a k)) (rows_of (b k)) (c k) (d k) p) h
+pub looks_up_by : {F : Type 0} (objects : F → Objects) {find other : F} {graph rest : Option (List GraphRow)} {standing now : Bool} {f g : Frontier} → find ≡ other → graph ≡ rest → standing ≡ now → f ≡ g → (p : ObjectId) → LooksUpParent (objects find) (rows_of graph) standing f p → LooksUpParent (objects other) (rows_of rest) now g p
+looks_up_by objects a b c d p h = subst (λ x. x) (λ k. LooksUpParent (objects (a k)) (rows_of (b k)) (c k) (d k) p) h
 
 pub time_told : (o : Option ℤ) (d r : ℤ) → o ≡ Some (or_zero o) → r ≡ unwrap_or o d → Some (or_zero o) ≡ Some r
 time_told None d r e u = cc

@@ -32,7 +32,7 @@ use Rattle.gix_traverse.specs.Topo.Depth.{infinity, known_generation}
 use Rattle.gix_traverse.specs.Topo.Walk.{TopoPlan, walked_of, IsSound, IsWalkable, IsFirstReady, IsFault, IsBuildFault, IsReached, IsLookedUp}
 use Rattle.std.proofs.lemmas.Bool.{true≢false}
 use Rattle.std.proofs.lemmas.List.Elements.{Contains-append_left}
-use Rattle.gix_traverse.proofs.Topo.Counting.Children.{children_of, made_of}
+use Rattle.gix_traverse.proofs.Topo.Counting.Children.{children_of, was_ready_of}
 use Rattle.gix_traverse.proofs.Topo.Counting.Frontier.{has_seen}
 use Rattle.gix_traverse.proofs.Topo.Counting.Rest.{least_within}
 use Rattle.gix_traverse.proofs.Topo.Starting.AllTips.{AreStarted, started_one}
@@ -72,7 +72,7 @@ module _ {F : Type 0} (objects : F → Objects) (faulty : F → ObjectId → Typ
   walkable s = record { agreeing = s.agreeing; tips_whole = s.tips_whole; ends_whole = s.ends_whole }
 
   -- what is reached reads whole then
-  pub reached_whole : IsSound objects faulty plan → (side : Side) (i : ObjectId) → Reaches (next_by (objects plan.store) plan.parents side) (starts_by plan.tips plan.ends side) i → ReadsWhole (objects plan.store) (faulty plan.store) i
+  pub reached_whole : IsSound objects faulty plan → (side : Side) (i : ObjectId) → Reaches (next_by (objects plan.store) plan.parents side) (starts_by plan.tips plan.ends side) i → ReadsWhole (objects plan.store) i
   reached_whole s Tips i r = s.tips_whole i (text_tips (objects plan.store) (faulty plan.store) plan.rows plan.parents plan.tips plan.ends s.agreeing s.tips_whole s.ends_whole i r)
   reached_whole s Ends i r = s.ends_whole i (text_ends (objects plan.store) (faulty plan.store) plan.rows plan.parents plan.tips plan.ends s.agreeing s.tips_whole s.ends_whole i r)
 
@@ -82,33 +82,33 @@ module _ {F : Type 0} (objects : F → Objects) (faulty : F → ObjectId → Typ
   reached_by Ends i r = inr r
 
   -- a fault at a commit that is looked up with rows that agree, and that reads whole in a sound history
-  pub read_fault : (Q : ObjectId → Type 0) (i : ObjectId) (e : Error) → (IsAgreeing (objects plan.store) (faulty plan.store) plan.rows → IsLookedUp objects plan Q i) → (IsSound objects faulty plan → ReadsWhole (objects plan.store) (faulty plan.store) i) → IsReadFault (objects plan.store) (faulty plan.store) i e → IsFault objects faulty plan Q e
+  pub read_fault : (Q : ObjectId → Type 0) (i : ObjectId) (e : Error) → (IsAgreeing (objects plan.store) plan.rows → IsLookedUp objects plan Q i) → (IsSound objects faulty plan → ReadsWhole (objects plan.store) i) → IsReadFault (objects plan.store) (faulty plan.store) i e → IsFault objects faulty plan Q e
   read_fault Q i error.MissingIndegreeUnexpected a w f = absurd f
   read_fault Q i error.MissingStateUnexpected a w f = absurd f
   read_fault Q i (error.Find e) a w f = (i, f, (a, λ s. ap error.Find (no_fault (objects plan.store) (faulty plan.store) i (w s).commit e (w s).stored f)))
   read_fault Q i (error.ObjectDecode e) a w f = (i, (f.0, f.1, fault_item (commit_items (kind_of i) f.0) e f.2 f.3), (a, λ s. absurd (unread (w s))))
     where
-      unread : ReadsWhole (objects plan.store) (faulty plan.store) i → ⊥
+      unread : ReadsWhole (objects plan.store) i → ⊥
       unread w = let n : None ≡ Some w.commit = sym (fault_unread (commit_items (kind_of i) f.0) e f.2) ∙ sym (ap (commit_of_object i) f.1) ∙ w.stored in cc
   read_fault Q i error.Memory a w f = tt
 
 -- exploring fails
-module _ {F : Type 0} (objects : F → Objects) (faulty : F → ObjectId → Type 0) (sorting : Sorting) (tips ends : List ObjectId) (taken : ObjectId → Bool) (low : Counting F) (counted : IsAgreeing (objects low.reader.find) (faulty low.reader.find) (rows_of low.reader.graph) → IsCounted (objects low.reader.find) (rows_of low.reader.graph) low.parents tips ends taken low.frontier) where
+module _ {F : Type 0} (objects : F → Objects) (faulty : F → ObjectId → Type 0) (sorting : Sorting) (tips ends : List ObjectId) (taken : ObjectId → Bool) (low : Counting F) (counted : IsAgreeing (objects low.reader.find) (rows_of low.reader.graph) → IsCounted (objects low.reader.find) (rows_of low.reader.graph) low.parents tips ends taken low.frontier) where
   pub exploring_fault : (Q : ObjectId → Type 0) (e : Error) → IsExploringFault objects faulty low e → IsFault objects faulty (plan_by low sorting tips ends) Q e
   exploring_fault Q e f = read_fault objects faulty (plan_by low sorting tips ends) Q f.fault.entry.1.id e (λ a. inl (reached_by objects faulty (plan_by low sorting tips ends) f.fault.entry.1.side f.fault.entry.1.id (within a))) (λ s. reached_whole objects faulty (plan_by low sorting tips ends) s f.fault.entry.1.side f.fault.entry.1.id (within s.agreeing)) (subst (λ x. IsReadFault (objects x) (faulty x) f.fault.entry.1.id e) (explores_same objects faulty f.explored).find f.fault.fault)
     where
-      within : IsAgreeing (objects low.reader.find) (faulty low.reader.find) (rows_of low.reader.graph) → Reaches (next_by (objects low.reader.find) low.parents f.fault.entry.1.side) (starts_by tips ends f.fault.entry.1.side) f.fault.entry.1.id
+      within : IsAgreeing (objects low.reader.find) (rows_of low.reader.graph) → Reaches (next_by (objects low.reader.find) low.parents f.fault.entry.1.side) (starts_by tips ends f.fault.entry.1.side) f.fault.entry.1.id
       within a =
           let c : IsCounted (objects low.reader.find) (rows_of low.reader.graph) low.parents tips ends taken f.so_far.frontier = explores_keep objects faulty tips ends taken a f.explored (counted a) in
           (c.searched.search f.fault.entry.1.side).within f.fault.entry.1.id (waits_seen (reached f.so_far.frontier.known f.fault.entry.1.side f.fault.entry.1.id) (waiting f.so_far.frontier.queue f.fault.entry.1.side f.fault.entry.1.id) ((c.searched.search f.fault.entry.1.side).queued f.fault.entry.1.id) (queue_waits f.so_far.frontier.queue f.fault.entry f.fault.queued))
 
 module _ {F : Type 0} (objects : F → Objects) (faulty : F → ObjectId → Type 0) where
   -- a commit that tips reach, or a parent of it, can't be read
-  pub push_fault : (Q : ObjectId → Type 0) (old : Walk F) (i : ObjectId) (e : Error) → (IsAgreeing (objects (plan_of old).store) (faulty (plan_of old).store) (plan_of old).rows → Reaches (next_by (objects (plan_of old).store) (plan_of old).parents Tips) (plan_of old).tips i) → (IsAgreeing (objects (plan_of old).store) (faulty (plan_of old).store) (plan_of old).rows → Q i) → IsPushFault objects faulty old i e → IsFault objects faulty (plan_of old) Q e
+  pub push_fault : (Q : ObjectId → Type 0) (old : Walk F) (i : ObjectId) (e : Error) → (IsAgreeing (objects (plan_of old).store) (plan_of old).rows → Reaches (next_by (objects (plan_of old).store) (plan_of old).parents Tips) (plan_of old).tips i) → (IsAgreeing (objects (plan_of old).store) (plan_of old).rows → Q i) → IsPushFault objects faulty old i e → IsFault objects faulty (plan_of old) Q e
   push_fault Q old i e r q (itself f) = read_fault objects faulty (plan_of old) Q i e (λ a. inl (inl (r a))) (λ s. reached_whole objects faulty (plan_of old) s Tips i (r s.agreeing)) f
   push_fault Q old i e r q (parent {info = info} {p = p} reads m f) = read_fault objects faulty (plan_of old) Q p e (λ a. inr (i, q a, subst (λ ids. Contains ids p) (reads_text_next (objects (plan_of old).store) (faulty (plan_of old).store) (plan_of old).rows a reads) m)) parent_whole f
     where
-      parent_whole : IsSound objects faulty (plan_of old) → ReadsWhole (objects (plan_of old).store) (faulty (plan_of old).store) p
+      parent_whole : IsSound objects faulty (plan_of old) → ReadsWhole (objects (plan_of old).store) p
       parent_whole s =
           let reach : Reaches (walked_of objects (plan_of old)) (plan_of old).tips i = text_tips (objects (plan_of old).store) (faulty (plan_of old).store) (plan_of old).rows (plan_of old).parents (plan_of old).tips (plan_of old).ends s.agreeing s.tips_whole s.ends_whole i (r s.agreeing) in
           let same : info.parent_ids.items ≡ parents_of (objects (plan_of old).store) i = reads_text_next (objects (plan_of old).store) (faulty (plan_of old).store) (plan_of old).rows s.agreeing reads ∙ sym (text_whole (objects (plan_of old).store) (faulty (plan_of old).store) (plan_of old).rows i (s.tips_whole i reach)) in
@@ -116,7 +116,7 @@ module _ {F : Type 0} (objects : F → Objects) (faulty : F → ObjectId → Typ
 
   -- a tip that is due when counting has begun becomes ready
   module _ (plan : TopoPlan F) (c : Counting F) (begun : HasBegun objects faulty plan c) where
-    first_ready : IsAgreeing (objects plan.store) (faulty plan.store) plan.rows → (i : ObjectId) → Contains plan.tips i → children_of c.frontier i ≡ 0 → has_seen c.frontier Ends i ≡ false → IsFirstReady objects plan i
+    first_ready : IsAgreeing (objects plan.store) plan.rows → (i : ObjectId) → Contains plan.tips i → children_of c.frontier i ≡ 0 → has_seen c.frontier Ends i ≡ false → IsFirstReady objects plan i
     first_ready a i m z u = record {
       tip = m;
       childless = record {
@@ -130,10 +130,10 @@ module _ {F : Type 0} (objects : F → Objects) (faulty : F → ObjectId → Typ
 
     start_fails : {old : Walk F} {ids : List ObjectId} {e : Error} → plan_of old ≡ plan → ((j : ObjectId) → has_seen old.counting.frontier Ends j ≡ has_seen c.frontier Ends j) → ((j : ObjectId) → children_of old.counting.frontier j ≡ children_of c.frontier j) → ((i : ObjectId) → Contains ids i → Contains plan.tips i) → IsStartFault objects faulty old ids e → IsBuildFault objects faulty plan e
     start_fails {old} {e = e} same seen counts all (here {i = i} {ids = ids} d f) =
-        let parts : (children_of old.counting.frontier i ≡ 0) × (has_seen old.counting.frontier Ends i ≡ false) × (made_of old.counting.frontier i ≡ false) = due_parts objects faulty (children_of old.counting.frontier i) (known_of old.counting.frontier.known i) d in
+        let parts : (children_of old.counting.frontier i ≡ 0) × (has_seen old.counting.frontier Ends i ≡ false) × (was_ready_of old.counting.frontier i ≡ false) = due_parts objects faulty (children_of old.counting.frontier i) (known_of old.counting.frontier.known i) d in
         let tip : Contains plan.tips i = all i (Contains-here i ids) in
         subst (λ p. IsFault objects faulty p (IsFirstReady objects plan) e) same
-        (push_fault (IsFirstReady objects plan) old i e (λ a. start (subst (λ p. Contains p.tips i) (sym same) tip)) (λ a. first_ready (subst (λ p. IsAgreeing (objects p.store) (faulty p.store) p.rows) same a) i tip (sym (counts i) ∙ parts.0) (sym (seen i) ∙ parts.1)) f)
+        (push_fault (IsFirstReady objects plan) old i e (λ a. start (subst (λ p. Contains p.tips i) (sym same) tip)) (λ a. first_ready (subst (λ p. IsAgreeing (objects p.store) p.rows) same a) i tip (sym (counts i) ∙ parts.0) (sym (seen i) ∙ parts.1)) f)
     start_fails same seen counts all (later {mid = mid} {i = i} {ids = ids} {first = first} s f) =
         let by : AreStarted objects faulty _ (i ∷ []) first mid = started_one objects faulty s in
         start_fails (by.plan ∙ same) (λ j. ap is_seen (by.moved Ends j) ∙ seen j) (λ j. by.children j ∙ counts j) (λ j m. all j (Contains-there j i ids m)) f

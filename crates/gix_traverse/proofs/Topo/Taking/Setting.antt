@@ -54,7 +54,7 @@ module _ {F : Type 0} (objects : F → Objects) (faulty : F → ObjectId → Typ
     pub was_untaken : set.contains (taken_of w) r.id ≡ false
     was_untaken = ready_untaken w r.id (in_ids w.ready.commits r was_ready)
 
-    module _ (agrees : IsAgreeing (objects (plan_of w).store) (faulty (plan_of w).store) (plan_of w).rows) where
+    module _ (agrees : IsAgreeing (objects (plan_of w).store) (plan_of w).rows) where
       tallied : IsTallied objects w
       tallied = held.tallied agrees
 

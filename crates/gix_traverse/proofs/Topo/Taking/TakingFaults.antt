@@ -40,7 +40,7 @@ use Rattle.gix_traverse.proofs.Topo.Run.Theorem.{in_ids}
 use Rattle.gix_traverse.proofs.Topo.Taking.ReadFaults.{fault_item, exploring_fault, push_fault}
 use Rattle.gix_traverse.proofs.Topo.Ready.IsReady.{last_from, last_once}
 use Rattle.gix_traverse.proofs.Topo.Taking.AllReleases.{IsReleased, uncounted_made, uncounted_moved, due_parts, released}
-use Rattle.gix_traverse.proofs.Topo.Counting.Children.{children_of, made_of, times-last, tally_counts}
+use Rattle.gix_traverse.proofs.Topo.Counting.Children.{children_of, was_ready_of, times-last, tally_counts}
 use Rattle.gix_traverse.proofs.Topo.Reading.ReadsCommit.{reads_text_next}
 use Rattle.gix_traverse.proofs.Shared.Rows.{none_agree}
 use Rattle.gix_traverse.proofs.Topo.Taking.Taken.{made_taken}
@@ -53,14 +53,14 @@ same_object a b e = cc
 module _ {F : Type 0} (objects : F → Objects) (faulty : F → ObjectId → Type 0) where
   -- a commit that tips reach, where without rows all that is reached was read
   record IsUpcoming (plan : TopoPlan F) (i : ObjectId) : Type 0 where
-    reach : IsAgreeing (objects plan.store) (faulty plan.store) plan.rows → Reaches (next_by (objects plan.store) plan.parents Tips) plan.tips i
+    reach : IsAgreeing (objects plan.store) plan.rows → Reaches (next_by (objects plan.store) plan.parents Tips) plan.tips i
     read : plan.rows ≡ [] → (j : ObjectId) → IsReached objects plan j → IsCommitRead (objects plan.store) j
 
   abbrev Fails : TopoPlan F → (ObjectId → Type 0) → Error → Type 0
   Fails plan Q e = IsFault objects faulty plan Q e × IsLate objects plan Q e
 
   abbrev Agree : TopoPlan F → Type 0
-  Agree plan = IsAgreeing (objects plan.store) (faulty plan.store) plan.rows
+  Agree plan = IsAgreeing (objects plan.store) plan.rows
 
   -- what was read is read again
   late : (plan : TopoPlan F) (Q : ObjectId → Type 0) (p : ObjectId) (e : Error) → (plan.rows ≡ [] → IsCommitRead (objects plan.store) p ⊎ IsOtherParent objects plan Q p) → IsReadFault (objects plan.store) (faulty plan.store) p e → IsLate objects plan Q e
@@ -83,13 +83,13 @@ module _ {F : Type 0} (objects : F → Objects) (faulty : F → ObjectId → Typ
   parent_read plan Q i p up ready n m = by plan.parents refl
     where
       walked : Contains (by_mode plan.parents (text_next (objects plan.store) i)) p → IsCommitRead (objects plan.store) p ⊎ IsOtherParent objects plan Q p
-      walked k = inl (up.read n p (inl (step (up.reach (none_agree (objects plan.store) (faulty plan.store) plan.rows n)) k)))
+      walked k = inl (up.read n p (inl (step (up.reach (none_agree (objects plan.store) plan.rows n)) k)))
 
       first : plan.parents ≡ mode.First → (ids : List ObjectId) → text_next (objects plan.store) i ≡ ids → Contains ids p → IsCommitRead (objects plan.store) p ⊎ IsOtherParent objects plan Q p
       first e [] s m = absurd (no_member p m)
       first e (x ∷ xs) s m =
           ⊎_elim (λ q. walked (subst (λ k. Contains (by_mode k (text_next (objects plan.store) i)) p) (sym e) (subst (λ ids. Contains (by_mode mode.First ids) p) (sym s) (subst (λ y. Contains (x ∷ []) y) q (Contains-here x [])))))
-          (λ t. inr (record { unwalked = e; child = i; ready = ready (none_agree (objects plan.store) (faulty plan.store) plan.rows n); named = subst (λ ids. Contains (drop 1 ids) p) (sym s) t }))
+          (λ t. inr (record { unwalked = e; child = i; ready = ready (none_agree (objects plan.store) plan.rows n); named = subst (λ ids. Contains (drop 1 ids) p) (sym s) t }))
           (Contains-cons_cases p x xs m)
 
       by : (k : Parents) → plan.parents ≡ k → IsCommitRead (objects plan.store) p ⊎ IsOtherParent objects plan Q p
@@ -100,19 +100,19 @@ module _ {F : Type 0} (objects : F → Objects) (faulty : F → ObjectId → Typ
   push_fails old Q i e up ready f = (push_fault objects faulty Q old i e up.reach ready f, fails f)
     where
       fails : IsPushFault objects faulty old i e → IsLate objects (plan_of old) Q e
-      fails (pushed f) = late (plan_of old) Q i e (λ n. inl (up.read n i (inl (up.reach (none_agree (objects (plan_of old).store) (faulty (plan_of old).store) (plan_of old).rows n))))) f
-      fails (parent {p = p} reads m f) = late (plan_of old) Q p e (λ n. parent_read (plan_of old) Q i p up ready n (subst (λ ids. Contains ids p) (reads_text_next (objects (plan_of old).store) (faulty (plan_of old).store) (plan_of old).rows (none_agree (objects (plan_of old).store) (faulty (plan_of old).store) (plan_of old).rows n) reads) m)) f
+      fails (pushed f) = late (plan_of old) Q i e (λ n. inl (up.read n i (inl (up.reach (none_agree (objects (plan_of old).store) (plan_of old).rows n))))) f
+      fails (parent {p = p} reads m f) = late (plan_of old) Q p e (λ n. parent_read (plan_of old) Q i p up ready n (subst (λ ids. Contains ids p) (reads_text_next (objects (plan_of old).store) (faulty (plan_of old).store) (plan_of old).rows (none_agree (objects (plan_of old).store) (plan_of old).rows n) reads) m)) f
 
   -- the last child of a commit that wasn't ready, and that no end has seen, was taken
   record IsLastChild (f : Frontier) (i : ObjectId) : Type 0 where
     one : children_of f i ≡ 1
     outside : has_seen f Ends i ≡ false
-    unmade : made_of f i ≡ false
+    unmade : was_ready_of f i ≡ false
 
   release_fails : {old : Walk F} {i : ObjectId} {e : Error} (Q : ObjectId → Type 0) → IsUpcoming (plan_of old) i → (Agree (plan_of old) → IsLastChild old.counting.frontier i → Q i) → (Agree (plan_of old) → 1 ≤ children_of old.counting.frontier i) → IsReleaseFault objects faulty old i e → Fails (plan_of old) Q e
   release_fails Q up ready c (uncounted z) = (λ a. let l : 1 ≤ _ = c a in absurd (omega arith), tt)
   release_fails {old} {i} {e} Q up ready c (unread {f = f} n k u d p) =
-      let parts : (n ≡ 0) × (is_seen (known_of f.known i).ends ≡ false) × ((known_of f.known i).made ≡ false) = due_parts objects faulty n (known_of f.known i) d in
+      let parts : (n ≡ 0) × (is_seen (known_of f.known i).ends ≡ false) × ((known_of f.known i).was_ready ≡ false) = due_parts objects faulty n (known_of f.known i) d in
       push_fails (with_frontier objects faulty old f) Q i e up
       (λ a. ready a (record { one = k ∙ ap (λ m. m + 1) parts.0; outside = sym (ap is_seen (uncounted_moved objects faulty old.counting.frontier f i n k u Ends i)) ∙ parts.1; unmade = sym (uncounted_made objects faulty old.counting.frontier f i n k u i) ∙ parts.2 })) p
   release_fails Q up ready c no_memory = (tt, tt)
@@ -121,7 +121,7 @@ module _ {F : Type 0} (objects : F → Objects) (faulty : F → ObjectId → Typ
   record IsPartway (base : Frontier) (all ids : List ObjectId) (f : Frontier) : Type 0 where
     children : (p : ObjectId) → times p all + children_of f p ≡ children_of base p + times p ids
     seen : (p : ObjectId) → has_seen f Ends p ≡ has_seen base Ends p
-    made : (p : ObjectId) → made_of f p ≡ false → made_of base p ≡ false
+    made : (p : ObjectId) → was_ready_of f p ≡ false → was_ready_of base p ≡ false
     among : (p : ObjectId) → Contains ids p → Contains all p
 
   partway_none : (f : Frontier) (all : List ObjectId) → IsPartway f all all f
@@ -139,7 +139,7 @@ module _ {F : Type 0} (objects : F → Objects) (faulty : F → ObjectId → Typ
       there = part.among i (Contains-here i ids)
 
       on : Agree (plan_of old) → Agree plan
-      on a = subst (λ p. IsAgreeing (objects p.store) (faulty p.store) p.rows) same a
+      on a = subst (λ p. IsAgreeing (objects p.store) p.rows) same a
 
       here_once : 1 ≤ times i (i ∷ ids)
       here_once = let o : ◌≡◌ {A = ℕ} (cond (is_same i i) 1 0) 1 = ap (λ b. cond b 1 0) (same_itself i) in omega arith
@@ -166,14 +166,14 @@ module _ {F : Type 0} (objects : F → Objects) (faulty : F → ObjectId → Typ
       (record {
         children = λ p. let s : times p all + children_of old.counting.frontier p ≡ children_of base p + times p (i ∷ ids) = part.children p in let k : (cond (is_same p i) 1 0 + 0) + children_of mid.counting.frontier p ≡ children_of old.counting.frontier p = rel.children p in omega arith;
         seen = λ p. ap is_seen (rel.moved Ends p) ∙ part.seen p;
-        made = λ p e. part.made p (or_parts (is_among p (ready_ids (first ++ []))) (made_of old.counting.frontier p) (sym (rel.made p) ∙ e)).1;
+        made = λ p e. part.made p (or_parts (is_among p (ready_ids (first ++ []))) (was_ready_of old.counting.frontier p) (sym (rel.made p) ∙ e)).1;
         among = λ p m. part.among p (Contains-there p i ids m);
       })
       (λ a p. let l : times p (i ∷ ids) ≤ children_of old.counting.frontier p = c a p in let k : (cond (is_same p i) 1 0 + 0) + children_of mid.counting.frontier p ≡ children_of old.counting.frontier p = rel.children p in omega arith) f
 
   module _ (w : Walk F) (held : IsHeld objects faulty w) (rest : ReadySet) (same : rest.sorting ≡ w.ready.sorting) (r : Ready) (chosen : Chooses w.ready.sorting w.ready.commits r rest.commits) where
     abbrev Agrees : Type 0
-    Agrees = IsAgreeing (objects (plan_of w).store) (faulty (plan_of w).store) (plan_of w).rows
+    Agrees = IsAgreeing (objects (plan_of w).store) (plan_of w).rows
 
     abbrev low : Counting F
     low = lowered objects faulty (record w { ready = rest }) r

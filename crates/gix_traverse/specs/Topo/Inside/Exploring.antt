@@ -13,7 +13,7 @@ use Rattle.gix_traverse.specs.declared.commit.topo.frontier.Waiting.{Waiting}
 use Rattle.gix_traverse.specs.declared.commit.topo.frontier.Frontier.{Frontier}
 use Rattle.gix_traverse.specs.declared.commit.topo.counting.Counting.{Counting}
 use Rattle.gix_traverse.specs.Topo.Depth.{known_generation}
-use Rattle.gix_traverse.specs.Topo.Inside.Frontier.{reached, is_done, Names, Finishes}
+use Rattle.gix_traverse.specs.Topo.Inside.Frontier.{reached, is_done, MeetsParent, Finishes}
 use Rattle.gix_traverse.specs.History.Commits.{by_mode}
 use Rattle.gix_traverse.specs.History.Reading.{rows_of, Reads, IsReadFault}
 use Rattle.gix_traverse.specs.Orders.TopoOrder.{last_places}
@@ -35,7 +35,7 @@ side_mode Ends parents = mode.All
 -- these parents are named, in order
 pub data Follows (rows : List GraphRow) (side : Side) : Frontier → List ObjectId → Frontier → Type 0 where
   none : {old : Frontier} → Follows rows side old [] old
-  more : {old mid new : Frontier} {i : ObjectId} {ids : List ObjectId} → Names side old (known_generation rows i) i mid → Follows rows side mid ids new → Follows rows side old (i ∷ ids) new
+  more : {old mid new : Frontier} {i : ObjectId} {ids : List ObjectId} → MeetsParent side old (known_generation rows i) i mid → Follows rows side mid ids new → Follows rows side old (i ∷ ids) new
 
 module _ {F : Type 0} (objects : F → Objects) (faulty : F → ObjectId → Type 0) where
   -- what no step changes

@@ -35,7 +35,7 @@ is_done Done = true
 
 -- an id that wasn't met
 abbrev pub unknown : Known
-unknown = record { tips = Unseen; ends = Unseen; children = 0; made = false }
+unknown = record { tips = Unseen; ends = Unseen; indegree = 0; was_ready = false }
 
 abbrev pub known_or : Option Known → Known
 known_or None = unknown
@@ -76,22 +76,22 @@ pub data Meets (old : Frontier) (generation : ℕ) (i : ObjectId) (side : Side) 
 -- one more child of an id
 pub record Counts (old : Frontier) (i : ObjectId) (new : Frontier) : Type 0 where
   pub queue : new.queue ≡ old.queue
-  pub known : new.known ≡ map.insert old.known i (record (known_of old.known i) { children = (known_of old.known i).children + 1 })
+  pub known : new.known ≡ map.insert old.known i (record (known_of old.known i) { indegree = (known_of old.known i).indegree + 1 })
 
 -- one child of an id less, if it had one
 pub record Uncounts (old : Frontier) (i : ObjectId) (new : Frontier) : Type 0 where
   pub queue : new.queue ≡ old.queue
-  pub known : (n : ℕ) → (known_of old.known i).children ≡ n + 1 → new.known ≡ map.insert old.known i (record (known_of old.known i) { children = n })
+  pub known : (n : ℕ) → (known_of old.known i).indegree ≡ n + 1 → new.known ≡ map.insert old.known i (record (known_of old.known i) { indegree = n })
 
 -- an id becomes ready
-pub record Makes (old : Frontier) (i : ObjectId) (new : Frontier) : Type 0 where
+pub record MarksReady (old : Frontier) (i : ObjectId) (new : Frontier) : Type 0 where
   pub queue : new.queue ≡ old.queue
-  pub known : new.known ≡ map.insert old.known i (record (known_of old.known i) { made = true })
+  pub known : new.known ≡ map.insert old.known i (record (known_of old.known i) { was_ready = true })
 
 -- a parent of a commit that a side reads: on the tips' side it is counted
-abbrev pub Names : Side → Frontier → ℕ → ObjectId → Frontier → Type 0
-Names Tips old generation i new = (counted : Frontier) × Counts old i counted × Meets counted generation i Tips new
-Names Ends old generation i new = Meets old generation i Ends new
+abbrev pub MeetsParent : Side → Frontier → ℕ → ObjectId → Frontier → Type 0
+MeetsParent Tips old generation i new = (counted : Frontier) × Counts old i counted × Meets counted generation i Tips new
+MeetsParent Ends old generation i new = Meets old generation i Ends new
 
 -- a side is done with an id
 pub record Finishes (old : Frontier) (i : ObjectId) (side : Side) (new : Frontier) : Type 0 where
@@ -106,4 +106,4 @@ pub record IsSearch (next : ObjectId → List ObjectId) (starts : List ObjectId)
 
 -- a commit of which this is known becomes ready when so many of its children are left
 abbrev pub is_due : ℕ → Known → Bool
-is_due left known = (left == 0 && not known.made) && not (is_seen known.ends)
+is_due left known = (left == 0 && not known.was_ready) && not (is_seen known.ends)

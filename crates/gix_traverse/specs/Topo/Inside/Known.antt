@@ -9,10 +9,10 @@ use Rattle.gix_traverse.specs.declared.commit.topo.frontier.Progress.TheVariants
 pub record Known : Type 0 where
   pub tips : Progress
   pub ends : Progress
-  -- how many commits that the tips' search has done, and that weren't taken, name it as a parent that is walked
-  pub children : ℕ
+  -- its indegree: how many commits that the tips' search has done, and that weren't taken, name it as a parent that is walked
+  pub indegree : ℕ
   -- whether it was ready once
-  pub made : Bool
+  pub was_ready : Bool
 
 -- the mark of an id that a side met
 abbrev pub met_mark : Side → ℕ
@@ -33,4 +33,4 @@ abbrev pub progress_by : ℕ → Side → Progress
 progress_by marks side = cond (has marks (done_mark side)) Done (cond (has marks (met_mark side)) Queued Unseen)
 
 abbrev pub known_by : ℕ → ℕ → Known
-known_by marks children = record { tips = progress_by marks Tips; ends = progress_by marks Ends; children = children; made = has marks 16 }
+known_by marks indegree = record { tips = progress_by marks Tips; ends = progress_by marks Ends; indegree = indegree; was_ready = has marks 16 }

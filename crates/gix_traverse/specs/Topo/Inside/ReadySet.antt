@@ -2,7 +2,7 @@
 use Rattle.std.specs.Prelude.{◌≡◌, ℤ, List, map, Contains}
 use Rattle.gix_traverse.specs.declared.commit.topo.Sorting.{Sorting}
 use Rattle.gix_traverse.specs.declared.commit.topo.Sorting.TheVariants.{DateOrder, TopoOrder}
-use Rattle.gix_traverse.specs.declared.commit.topo.ready.Found.{Found}
+use Rattle.gix_traverse.specs.declared.commit.topo.ready.ReadyCommit.{ReadyCommit}
 use Rattle.gix_traverse.specs.declared.commit.topo.ready.Held.{Held}
 use Rattle.gix_traverse.specs.declared.commit.topo.ready.Held.TheVariants.{ByTime, Stack}
 use Rattle.gix_traverse.specs.Topo.Walk.{Ready}
@@ -11,10 +11,10 @@ pub record ReadySet : Type 0 where
   pub sorting : Sorting
   pub commits : List Ready
 
-abbrev pub as_ready : Found → Ready
+abbrev pub as_ready : ReadyCommit → Ready
 as_ready found = record { id = found.id; parents = found.parent_ids.items; time = found.time; generation = found.generation }
 
-abbrev pub as_ready_by : ℤ × Found → Ready
+abbrev pub as_ready_by : ℤ × ReadyCommit → Ready
 as_ready_by entry = as_ready entry.1
 
 -- the ready commits: of a stack from its bottom up
@@ -24,5 +24,5 @@ ready_set (Stack stack) = record { sorting = TopoOrder; commits = map as_ready s
 
 -- each commit is in the queue under its time
 abbrev pub AreTimed : Held → Type 0
-AreTimed (ByTime queue) = (entry : ℤ × Found) → Contains queue entry → entry.0 ≡ entry.1.time
+AreTimed (ByTime queue) = (entry : ℤ × ReadyCommit) → Contains queue entry → entry.0 ≡ entry.1.time
 AreTimed (Stack stack) = Unit {0}

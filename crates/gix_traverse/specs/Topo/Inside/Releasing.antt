@@ -19,7 +19,7 @@ use Rattle.gix_traverse.specs.Topo.Inside.Exploring.{Explores, IsRested, IsExplo
 use Rattle.gix_traverse.specs.History.Commits.{by_mode}
 use Rattle.gix_traverse.specs.Orders.TopoOrder.{last_places}
 use Rattle.gix_traverse.specs.Topo.Inside.Known.{Known}
-use Rattle.gix_traverse.specs.Topo.Inside.Frontier.{IsDone, known_of, is_due, Makes, Uncounts}
+use Rattle.gix_traverse.specs.Topo.Inside.Frontier.{IsDone, known_of, is_due, MarksReady, Uncounts}
 use Rattle.gix_traverse.specs.History.Reading.{rows_of, Reads, IsReadFault}
 use Rattle.gix_traverse.specs.declared.commit.topo.Sorting.{Sorting}
 use Rattle.gix_traverse.specs.Topo.Walk.{TopoPlan, TopoWalk, Counted, Ready, ready_ids, IsKnown, IsOfInfo, HoldsReady}
@@ -39,7 +39,7 @@ counted_by c = record { standing = c.reader.standing; depth = c.depth; expanded 
 
 -- the taken commits: those that were ready once, and aren't now
 unfoldable pub taken_in : map_of.FinMap id_cmp Known → List Ready → set.FinSet id_cmp
-taken_in known ready = set.retain (set.from_list (map_of.keys known)) (λ i. (known_of known i).made && not (is_among i (ready_ids ready)))
+taken_in known ready = set.retain (set.from_list (map_of.keys known)) (λ i. (known_of known i).was_ready && not (is_among i (ready_ids ready)))
 
 abbrev pub taken_of : {F : Type 0} → Walk F → set.FinSet id_cmp
 taken_of w = taken_in w.counting.frontier.known w.ready.commits
@@ -56,8 +56,8 @@ pub record IsSameWalk {F : Type 0} (old new : Walk F) : Type 0 where
   pub queue : new.counting.frontier.queue ≡ old.counting.frontier.queue
 
 -- what is known: an id that a search has read, as long as the rows are held, or one with a row, or one that can be read
-abbrev pub Knows : Objects → List GraphRow → Bool → Frontier → ObjectId → Type 0
-Knows objects rows standing f i = ((standing ≡ true) × IsDone f i) ⊎ IsKnown objects rows standing i
+abbrev pub LooksUpParent : Objects → List GraphRow → Bool → Frontier → ObjectId → Type 0
+LooksUpParent objects rows standing f i = ((standing ≡ true) × IsDone f i) ⊎ IsKnown objects rows standing i
 
 module _ {F : Type 0} (objects : F → Objects) (faulty : F → ObjectId → Type 0) where
   -- a commit is read, and becomes ready
@@ -67,8 +67,8 @@ module _ {F : Type 0} (objects : F → Objects) (faulty : F → ObjectId → Typ
     pub info : Info
     pub reads : Reads (objects old.counting.reader.find) (faulty old.counting.reader.find) (rows_of old.counting.reader.graph) old.counting.reader.standing i (Ok info) new.counting.reader.standing
     pub is : IsOfInfo r info
-    pub known : (p : ObjectId) → Contains info.parent_ids.items p → Knows (objects old.counting.reader.find) (rows_of old.counting.reader.graph) new.counting.reader.standing old.counting.frontier p
-    pub made : Makes old.counting.frontier i new.counting.frontier
+    pub known : (p : ObjectId) → Contains info.parent_ids.items p → LooksUpParent (objects old.counting.reader.find) (rows_of old.counting.reader.graph) new.counting.reader.standing old.counting.frontier p
+    pub made : MarksReady old.counting.frontier i new.counting.frontier
     pub holds : HoldsReady old.ready.sorting (old.ready.commits ++ r ∷ []) new.ready.commits
 
   -- why a commit can't become ready: it, or a parent of it, can't be read
@@ -81,13 +81,13 @@ module _ {F : Type 0} (objects : F → Objects) (faulty : F → ObjectId → Typ
 
   -- a parent has a child less, and becomes ready where that was the last one
   pub data Releases (old : Walk F) (i : ObjectId) : List Ready → Walk F → Type 0 where
-    waits : {f : Frontier} (n : ℕ) → (known_of old.counting.frontier.known i).children ≡ n + 1 → Uncounts old.counting.frontier i f → is_due n (known_of f.known i) ≡ false → Releases old i [] (with_frontier old f)
-    frees : {f : Frontier} {r : Ready} {new : Walk F} (n : ℕ) → (known_of old.counting.frontier.known i).children ≡ n + 1 → Uncounts old.counting.frontier i f → is_due n (known_of f.known i) ≡ true → Pushes (with_frontier old f) i r new → Releases old i (r ∷ []) new
+    waits : {f : Frontier} (n : ℕ) → (known_of old.counting.frontier.known i).indegree ≡ n + 1 → Uncounts old.counting.frontier i f → is_due n (known_of f.known i) ≡ false → Releases old i [] (with_frontier old f)
+    frees : {f : Frontier} {r : Ready} {new : Walk F} (n : ℕ) → (known_of old.counting.frontier.known i).indegree ≡ n + 1 → Uncounts old.counting.frontier i f → is_due n (known_of f.known i) ≡ true → Pushes (with_frontier old f) i r new → Releases old i (r ∷ []) new
 
   -- why that fails: no child was counted, or the commit can't become ready
   pub data IsReleaseFault (old : Walk F) (i : ObjectId) : Error → Type 0 where
-    uncounted : (known_of old.counting.frontier.known i).children ≡ 0 → IsReleaseFault old i error.MissingIndegreeUnexpected
-    unread : {f : Frontier} {e : Error} (n : ℕ) → (known_of old.counting.frontier.known i).children ≡ n + 1 → Uncounts old.counting.frontier i f → is_due n (known_of f.known i) ≡ true → IsPushFault (with_frontier old f) i e → IsReleaseFault old i e
+    uncounted : (known_of old.counting.frontier.known i).indegree ≡ 0 → IsReleaseFault old i error.MissingIndegreeUnexpected
+    unread : {f : Frontier} {e : Error} (n : ℕ) → (known_of old.counting.frontier.known i).indegree ≡ n + 1 → Uncounts old.counting.frontier i f → is_due n (known_of f.known i) ≡ true → IsPushFault (with_frontier old f) i e → IsReleaseFault old i e
     no_memory : IsReleaseFault old i error.Memory
 
   -- each of these parents, in order, and the commits that became ready

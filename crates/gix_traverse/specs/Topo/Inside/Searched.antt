@@ -51,7 +51,7 @@ pub record IsTally (walked : ObjectId → List ObjectId) (done taken : ObjectId 
 -- the searches and the counts have come to this point
 pub record IsCounted (objects : Objects) (rows : List GraphRow) (parents : Parents) (tips ends : List ObjectId) (taken : ObjectId → Bool) (f : Frontier) : Type 0 where
   pub searched : IsSearched objects rows parents tips ends f.queue f.known
-  pub tally : IsTally (next_by objects parents Tips) (λ i. is_done (reached f.known Tips i)) taken (λ p. (known_of f.known p).children)
+  pub tally : IsTally (next_by objects parents Tips) (λ i. is_done (reached f.known Tips i)) taken (λ p. (known_of f.known p).indegree)
 
 -- a side has seen what it starts from
 abbrev pub IsBegun : List ObjectId → List ObjectId → Side → Frontier → Type 0

@@ -32,11 +32,11 @@ module _ {F : Type 0} (objects : F → Objects) (faulty : F → ObjectId → Typ
   pub record HasBegun (plan : TopoPlan F) (c : Counting F) : Type 0 where
     pub same : plan_by c plan.sorting plan.tips plan.ends ≡ plan
     pub depth : c.depth ≡ first_depth plan
-    pub unmade : (i : ObjectId) → (known_of c.frontier.known i).made ≡ false
+    pub unmade : (i : ObjectId) → (known_of c.frontier.known i).was_ready ≡ false
     pub begun : (side : Side) → IsBegun plan.tips plan.ends side c.frontier
     -- with rows that agree, and where all that is walked reads whole
-    pub counted : (taken : ObjectId → Bool) → ((i : ObjectId) → taken i ≡ false) → IsAgreeing (objects plan.store) (faulty plan.store) plan.rows → IsCounted (objects plan.store) plan.rows plan.parents plan.tips plan.ends taken c.frontier
-    pub explored : IsAgreeing (objects plan.store) (faulty plan.store) plan.rows → (side : Side) → IsExplored (objects plan.store) plan.rows plan.parents plan.tips plan.ends c.depth side c.frontier
+    pub counted : (taken : ObjectId → Bool) → ((i : ObjectId) → taken i ≡ false) → IsAgreeing (objects plan.store) plan.rows → IsCounted (objects plan.store) plan.rows plan.parents plan.tips plan.ends taken c.frontier
+    pub explored : IsAgreeing (objects plan.store) plan.rows → (side : Side) → IsExplored (objects plan.store) plan.rows plan.parents plan.tips plan.ends c.depth side c.frontier
     pub counts : IsWalkable objects faulty plan → HasCounted objects plan c
     pub counting : IsWalkable objects faulty plan → IsCounting objects plan (counted_by c)
     pub all_read : AreRead objects faulty plan c
@@ -46,8 +46,8 @@ module _ {F : Type 0} (objects : F → Objects) (faulty : F → ObjectId → Typ
 
   -- a tip becomes ready where it has no child and no end reaches it
   pub data Starts (old : Walk F) (i : ObjectId) : List Ready → Walk F → Type 0 where
-    waits : is_due (known_of old.counting.frontier.known i).children (known_of old.counting.frontier.known i) ≡ false → Starts old i [] old
-    frees : {r : Ready} {new : Walk F} → is_due (known_of old.counting.frontier.known i).children (known_of old.counting.frontier.known i) ≡ true → Pushes objects faulty old i r new → Starts old i (r ∷ []) new
+    waits : is_due (known_of old.counting.frontier.known i).indegree (known_of old.counting.frontier.known i) ≡ false → Starts old i [] old
+    frees : {r : Ready} {new : Walk F} → is_due (known_of old.counting.frontier.known i).indegree (known_of old.counting.frontier.known i) ≡ true → Pushes objects faulty old i r new → Starts old i (r ∷ []) new
 
   -- each of these tips, in order, and the commits that became ready
   pub data StartsAll : Walk F → List ObjectId → List Ready → Walk F → Type 0 where
@@ -56,7 +56,7 @@ module _ {F : Type 0} (objects : F → Objects) (faulty : F → ObjectId → Typ
 
   -- one of them can't become ready, after those before it
   pub data IsStartFault : Walk F → List ObjectId → Error → Type 0 where
-    here : {old : Walk F} {i : ObjectId} {ids : List ObjectId} {e : Error} → is_due (known_of old.counting.frontier.known i).children (known_of old.counting.frontier.known i) ≡ true → IsPushFault objects faulty old i e → IsStartFault old (i ∷ ids) e
+    here : {old : Walk F} {i : ObjectId} {ids : List ObjectId} {e : Error} → is_due (known_of old.counting.frontier.known i).indegree (known_of old.counting.frontier.known i) ≡ true → IsPushFault objects faulty old i e → IsStartFault old (i ∷ ids) e
     later : {old mid : Walk F} {i : ObjectId} {ids : List ObjectId} {first : List Ready} {e : Error} → Starts old i first mid → IsStartFault mid ids e → IsStartFault old (i ∷ ids) e
     short : {old : Walk F} {ids : List ObjectId} → IsStartFault old ids error.Memory
 

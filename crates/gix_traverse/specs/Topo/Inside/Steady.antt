@@ -43,8 +43,8 @@ module _ {F : Type 0} (objects : F → Objects) where
 
   -- each commit that was ready once is a member, and all its children were taken
   pub record IsSteady (w : Walk F) : Type 0 where
-    pub member : (i : ObjectId) → (known_of w.counting.frontier.known i).made ≡ true → IsMember objects (plan_of w) i
-    pub children : (i d : ObjectId) → (known_of w.counting.frontier.known i).made ≡ true → IsChild (walked_of objects (plan_of w)) (IsMember objects (plan_of w)) d i → set.contains (taken_of w) d ≡ true
+    pub member : (i : ObjectId) → (known_of w.counting.frontier.known i).was_ready ≡ true → IsMember objects (plan_of w) i
+    pub children : (i d : ObjectId) → (known_of w.counting.frontier.known i).was_ready ≡ true → IsChild (walked_of objects (plan_of w)) (IsMember objects (plan_of w)) d i → set.contains (taken_of w) d ≡ true
 
   -- the number of commits that are done, none of which is below the depth as long as the rows are held
   pub record HasCounted (plan : TopoPlan F) (c : Counting F) : Type 0 where
@@ -55,11 +55,11 @@ module _ {F : Type 0} (objects : F → Objects) where
 module _ {F : Type 0} (objects : F → Objects) (faulty : F → ObjectId → Type 0) where
   -- What holds of a walk that may go on, whatever its store and rows. The ready commits are different ones.
   pub record IsHeld (w : Walk F) : Type 0 where
-    pub made : (i : ObjectId) → Contains (ready_ids w.ready.commits) i → (known_of w.counting.frontier.known i).made ≡ true
+    pub made : (i : ObjectId) → Contains (ready_ids w.ready.commits) i → (known_of w.counting.frontier.known i).was_ready ≡ true
     pub distinct : AreDistinct (ready_ids w.ready.commits)
     pub found : (r : Ready) → Contains w.ready.commits r → IsFound objects faulty (plan_of w) true w.counting.reader.standing r
     -- with rows that agree, and where all that is walked reads whole
-    pub tallied : IsAgreeing (objects (plan_of w).store) (faulty (plan_of w).store) (plan_of w).rows → IsTallied objects w
+    pub tallied : IsAgreeing (objects (plan_of w).store) (plan_of w).rows → IsTallied objects w
     pub steady : IsWalkable objects faulty (plan_of w) → IsSteady objects w
     pub counts : IsWalkable objects faulty (plan_of w) → HasCounted objects (plan_of w) w.counting
     pub all_read : AreRead objects faulty (plan_of w) w.counting
@@ -85,7 +85,7 @@ module _ {F : Type 0} (objects : F → Objects) (faulty : F → ObjectId → Typ
     pub taken : taken_of new ≡ set.insert (taken_of old) r.id
 
   -- what the next ready commit gives
-  pub data Turns (old : Walk F) : Option (Result Info Error) → Walk F → Type 0 where
-    ended : {new : Walk F} → old.ready.commits ≡ [] → unasked_of new ≡ unasked_of old → Turns old None new
-    given : {r : Ready} {new : Walk F} {info : Info} → TakesReady old r new → IsInfo info r.id r.parents r.generation (Some r.time) → Turns old (Some (Ok info)) new
-    failed : {new : Walk F} (r : Ready) (others : List Ready) {e : Error} → Chooses old.ready.sorting old.ready.commits r others → IsFault objects faulty (plan_of old) (IsNextReady objects (plan_of old) (taken_of old) r.id) e → IsLate objects (plan_of old) (IsNextReady objects (plan_of old) (taken_of old) r.id) e → plan_of new ≡ plan_of old → new.ready.commits ≡ [] → Turns old (Some (Err e)) new
+  pub data TakesNext (old : Walk F) : Option (Result Info Error) → Walk F → Type 0 where
+    ended : {new : Walk F} → old.ready.commits ≡ [] → unasked_of new ≡ unasked_of old → TakesNext old None new
+    given : {r : Ready} {new : Walk F} {info : Info} → TakesReady old r new → IsInfo info r.id r.parents r.generation (Some r.time) → TakesNext old (Some (Ok info)) new
+    failed : {new : Walk F} (r : Ready) (others : List Ready) {e : Error} → Chooses old.ready.sorting old.ready.commits r others → IsFault objects faulty (plan_of old) (IsNextReady objects (plan_of old) (taken_of old) r.id) e → IsLate objects (plan_of old) (IsNextReady objects (plan_of old) (taken_of old) r.id) e → plan_of new ≡ plan_of old → new.ready.commits ≡ [] → TakesNext old (Some (Err e)) new

@@ -41,7 +41,7 @@ pub(super) fn walked(parents: Parents, ids: &[ObjectId]) -> &[ObjectId]
 }
 
 /// Each id of a list at its last place.
-pub(super) fn places(alloc: Global, mut ids: &[ObjectId]) -> Result<VecDeque<ObjectId>, AllocError>
+pub(super) fn last_places(alloc: Global, mut ids: &[ObjectId]) -> Result<VecDeque<ObjectId>, AllocError>
 where
     ensures { IfOk result (λ places. places.items ≡ last_places ids.entry.now) }
 {
@@ -80,7 +80,7 @@ fn one_more(expanded: usize, known: &Known) -> Result<usize, AllocError>
 impl<F: Find + Drop> Counting<F> {
     ghost use Rattle.std.specs.Prelude.{IfErr};
     ghost use Rattle.gix_traverse.specs.declared.commit.topo.Sorting.{Sorting};
-    ghost use Rattle.gix_traverse.specs.Topo.Inside.Releasing.{Knows, plan_over};
+    ghost use Rattle.gix_traverse.specs.Topo.Inside.Releasing.{LooksUpParent, plan_over};
     ghost use Rattle.gix_traverse.specs.Topo.Inside.Starting.{HasBegun, MeetsAll};
     ghost use Rattle.gix_traverse.specs.Topo.Walk.{IsBuildFault};
 
@@ -137,7 +137,7 @@ impl<F: Find + Drop> Counting<F> {
     {
         while let Some(id) = ids.pop_front() {
             let generation = self.reader.generation(&id);
-            self.frontier.name(generation, id, side)?;
+            self.frontier.meet_parent(generation, id, side)?;
         }
         Ok(())
     }
@@ -155,7 +155,7 @@ impl<F: Find + Drop> Counting<F> {
             Side::Tips => self.parents,
             Side::Ends => Parents::All,
         };
-        Ok(places(self.reader.alloc, walked(mode, info.parent_ids.as_slice()))?)
+        Ok(last_places(self.reader.alloc, walked(mode, info.parent_ids.as_slice()))?)
     }
 
     /// Looks a parent up, unless a search has read it and the rows are still held.
@@ -163,7 +163,7 @@ impl<F: Find + Drop> Counting<F> {
     /// # Errors
     ///
     /// Why it can't be read.
-    pub(super) fn know(&mut self, id: &ObjectId) -> Result<(), Error>
+    pub(super) fn look_up_parent(&mut self, id: &ObjectId) -> Result<(), Error>
         ensures store { self.new.reader.find ≡ self.old.reader.find }
         ensures graph { self.new.reader.graph ≡ self.old.reader.graph }
         ensures standing { self.new.reader.standing ≡ self.old.reader.standing }
@@ -171,7 +171,7 @@ impl<F: Find + Drop> Counting<F> {
         ensures frontier { self.new.frontier ≡ self.old.frontier }
         ensures depth { self.new.depth ≡ self.old.depth }
         ensures expanded { self.new.expanded ≡ self.old.expanded }
-        ensures known { OnOk result (Knows (F.objects self.old.reader.find) (rows_of self.old.reader.graph) self.old.reader.standing self.old.frontier id.now) }
+        ensures known { OnOk result (LooksUpParent (F.objects self.old.reader.find) (rows_of self.old.reader.graph) self.old.reader.standing self.old.frontier id.now) }
         ensures fault { IfErr result (IsReadFault (F.objects self.old.reader.find) (F.faulty self.old.reader.find) id.now) }
     {
         if self.reader.standing && self.frontier.known(id).is_done() {

@@ -1,7 +1,7 @@
 //! Two searches over one queue: what tips reach by the parents that are walked, and what ends reach by any.
 ghost use Rattle.std.specs.Prelude.{◌≡◌, ◌+◌, OnOk, IfOk, IfSome, IfNone, [], List};
 ghost use Rattle.std.specs.FinMap as map;
-ghost use Rattle.gix_traverse.specs.Topo.Inside.Frontier.{known_of, Meets, Counts, Uncounts, Makes, Names, Finishes};
+ghost use Rattle.gix_traverse.specs.Topo.Inside.Frontier.{known_of, Meets, Counts, Uncounts, MarksReady, MeetsParent, Finishes};
 
 use bitflags::{Flag, Flags, bitflag_items};
 use gix_parts::hash::ObjectId;
@@ -37,7 +37,7 @@ bitflag_items! {
         const TIPS_DONE = 2;
         const ENDS_MET = 4;
         const ENDS_DONE = 8;
-        const MADE = 16;
+        const WAS_READY = 16;
     }
 }
 
@@ -48,7 +48,7 @@ impl Flags for Marks {
 
     ghost exact = { ⊤ };
 
-    ghost table = { (codes "TIPS_MET", 1) ∷ (codes "TIPS_DONE", 2) ∷ (codes "ENDS_MET", 4) ∷ (codes "ENDS_DONE", 8) ∷ (codes "MADE", 16) ∷ [] };
+    ghost table = { (codes "TIPS_MET", 1) ∷ (codes "TIPS_DONE", 2) ∷ (codes "ENDS_MET", 4) ∷ (codes "ENDS_DONE", 8) ∷ (codes "WAS_READY", 16) ∷ [] };
 
     ghost set_of = { λ m. m.0 };
 
@@ -92,7 +92,7 @@ impl Marks {
 pub(super) struct Known {
     marks: Marks,
     /// Its indegree: how many commits that the tips' search has done, and that weren't taken, name it as a parent that is walked.
-    pub(super) children: usize,
+    pub(super) indegree: usize,
 }
 
 impl Model for Known {
@@ -100,7 +100,7 @@ impl Model for Known {
 
     ghost Value = { known.Known };
 
-    ghost view = { λ k. known.known_by k.marks.0 k.children };
+    ghost view = { λ k. known.known_by k.marks.0 k.indegree };
 }
 
 impl Known {
@@ -114,7 +114,7 @@ impl Known {
     {
         Known {
             marks: self.marks,
-            children: self.children,
+            indegree: self.indegree,
         }
     }
 
@@ -139,10 +139,10 @@ impl Known {
     }
 
     /// Whether it was ready once.
-    pub(super) fn is_made(&self) -> bool
-        ensures { result ≡ self.now.made }
+    pub(super) fn was_ready(&self) -> bool
+        ensures { result ≡ self.now.was_ready }
     {
-        self.marks.contains(Marks::MADE)
+        self.marks.contains(Marks::WAS_READY)
     }
 
     fn with_met(self, side: Side) -> Known
@@ -151,7 +151,7 @@ impl Known {
     {
         Known {
             marks: self.marks.union(Marks::met(side)),
-            children: self.children,
+            indegree: self.indegree,
         }
     }
 
@@ -160,25 +160,25 @@ impl Known {
     {
         Known {
             marks: self.marks.union(Marks::done(side)),
-            children: self.children,
+            indegree: self.indegree,
         }
     }
 
-    fn with_made(self) -> Known
-        ensures { result ≡ record self { made = true } }
+    fn with_was_ready(self) -> Known
+        ensures { result ≡ record self { was_ready = true } }
     {
         Known {
-            marks: self.marks.union(Marks::MADE),
-            children: self.children,
+            marks: self.marks.union(Marks::WAS_READY),
+            indegree: self.indegree,
         }
     }
 
-    fn with_children(self, children: usize) -> Known
-        ensures { result ≡ record self { children = children } }
+    fn with_indegree(self, indegree: usize) -> Known
+        ensures { result ≡ record self { indegree = indegree } }
     {
         Known {
             marks: self.marks,
-            children,
+            indegree,
         }
     }
 }
@@ -215,7 +215,7 @@ impl Frontier {
             Some(known) => known.copy(),
             None => Known {
                 marks: Marks::empty(),
-                children: 0,
+                indegree: 0,
             },
         }
     }
@@ -248,22 +248,22 @@ impl Frontier {
         ensures { OnOk result (Counts self.old id self.new) }
     {
         let known = self.known(&id);
-        let Some(children) = known.children.checked_add(1) else {
+        let Some(indegree) = known.indegree.checked_add(1) else {
             return Err(AllocError);
         };
-        self.known.insert(id, known.with_children(children))?;
+        self.known.insert(id, known.with_indegree(indegree))?;
         Ok(())
     }
 
     /// A parent of a commit whose parents a side reads.
-    pub(super) fn name(
+    pub(super) fn meet_parent(
         &mut self,
         generation: u32,
         id: ObjectId,
         side: Side,
     ) -> Result<(), AllocError>
     where
-        ensures { OnOk result (Names side self.old generation id self.new) }
+        ensures { OnOk result (MeetsParent side self.old generation id self.new) }
     {
         match side {
             Side::Tips => {
@@ -276,24 +276,24 @@ impl Frontier {
 
     /// One child of an id less: how many are left. None where there was none, and then nothing changes.
     pub(super) fn uncount(&mut self, id: ObjectId) -> Result<Option<usize>, AllocError>
-        ensures less { IfOk result (λ left. IfSome left (λ n. (known_of self.old.known id).children ≡ n + 1)) }
+        ensures less { IfOk result (λ left. IfSome left (λ n. (known_of self.old.known id).indegree ≡ n + 1)) }
         ensures counts { OnOk result (Uncounts self.old id self.new) }
-        ensures none { IfOk result (λ left. IfNone left ((known_of self.old.known id).children ≡ 0)) }
+        ensures none { IfOk result (λ left. IfNone left ((known_of self.old.known id).indegree ≡ 0)) }
     {
         let known = self.known(&id);
-        let Some(children) = known.children.checked_sub(1) else {
+        let Some(indegree) = known.indegree.checked_sub(1) else {
             return Ok(None);
         };
-        self.known.insert(id, known.with_children(children))?;
-        Ok(Some(children))
+        self.known.insert(id, known.with_indegree(indegree))?;
+        Ok(Some(indegree))
     }
 
-    /// An id that becomes ready.
-    pub(super) fn make(&mut self, id: ObjectId) -> Result<(), AllocError>
-        ensures { OnOk result (Makes self.old id self.new) }
+    /// An id becomes ready.
+    pub(super) fn mark_ready(&mut self, id: ObjectId) -> Result<(), AllocError>
+        ensures { OnOk result (MarksReady self.old id self.new) }
     {
         let known = self.known(&id);
-        self.known.insert(id, known.with_made())?;
+        self.known.insert(id, known.with_was_ready())?;
         Ok(())
     }
 

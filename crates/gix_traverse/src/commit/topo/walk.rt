@@ -4,10 +4,10 @@ ghost use Rattle.gix_parts.specs.declared.hash.ObjectId.{ObjectId};
 ghost use Rattle.gix_traverse.specs.Topo.Inside.Frontier.{is_due};
 ghost use Rattle.gix_traverse.specs.Topo.Inside.ReadySet.{as_ready};
 
-use super::counting::{Counting, places, walked};
+use super::counting::{Counting, last_places, walked};
 use super::frontier::{Known, Progress, Side};
 use super::reader::Reader;
-use super::ready::{Found, ReadySet};
+use super::ready::{ReadyCommit, ReadySet};
 use super::{Error, Sorting};
 use crate::commit::{Info, Parents};
 use gix_parts::hash::ObjectId;
@@ -27,13 +27,13 @@ pub(super) struct Walk<F> {
 pub(super) fn is_due(left: usize, known: &Known) -> bool
     ensures { result ≡ is_due left known.now }
 {
-    left == 0 && !known.is_made() && matches!(known.progress(Side::Ends), Progress::Unseen)
+    left == 0 && !known.was_ready() && matches!(known.progress(Side::Ends), Progress::Unseen)
 }
 
 impl<F: Find + Drop> Walk<F> {
     ghost use Rattle.gix_traverse.specs.Topo.Inside.Releasing.{plan_of, plan_over, Pushes, IsPushFault, Releases, IsReleaseFault, ReleasesAll, IsFaultAmong, TakesOne, IsTakingFault};
     ghost use Rattle.gix_traverse.specs.Topo.Inside.Starting.{Starts, StartsAll, IsStartFault, IsBegunWalk};
-    ghost use Rattle.gix_traverse.specs.Topo.Inside.Steady.{IsOpen, Turns};
+    ghost use Rattle.gix_traverse.specs.Topo.Inside.Steady.{IsOpen, TakesNext};
     ghost use Rattle.gix_traverse.specs.Topo.Walk.{Ready, IsBuildFault};
 
     /// A commit whose children were all taken is read, and becomes ready. All its parents are looked up, also those that aren't walked.
@@ -48,7 +48,7 @@ impl<F: Find + Drop> Walk<F> {
     {
         let info = self.counting.reader.read(id)?;
         for parent in info.parent_ids.as_slice() {
-            self.counting.know(parent)?;
+            self.counting.look_up_parent(parent)?;
         }
         let time = info.commit_time.unwrap_or(0);
         let Info {
@@ -57,14 +57,14 @@ impl<F: Find + Drop> Walk<F> {
             generation,
             ..
         } = info;
-        let found = Found {
+        let commit = ReadyCommit {
             id,
             parent_ids,
             generation,
             time,
         };
-        self.counting.frontier.make(id)?;
-        self.ready.push(found)?;
+        self.counting.frontier.mark_ready(id)?;
+        self.ready.push(commit)?;
         Ok(())
     }
 
@@ -75,7 +75,7 @@ impl<F: Find + Drop> Walk<F> {
         ensures same { plan_of self.new ≡ plan_of self.old }
     {
         let known = self.counting.frontier.known(id);
-        if !is_due(known.children, &known) {
+        if !is_due(known.indegree, &known) {
             return Ok(());
         }
         self.push(id)
@@ -150,29 +150,29 @@ impl<F: Find + Drop> Walk<F> {
     }
 
     /// A commit whose turn it is: counting goes on to the depth of its parents, and they have a child less.
-    fn take(&mut self, found: &Found) -> Result<(), Error>
-        ensures takes { OnOk result ((added : List Ready) × TakesOne F.objects F.faulty self.old (as_ready found.now) added self.new) }
-        ensures fault { IfErr result (IsTakingFault F.objects F.faulty self.old (as_ready found.now)) }
+    fn take(&mut self, commit: &ReadyCommit) -> Result<(), Error>
+        ensures takes { OnOk result ((added : List Ready) × TakesOne F.objects F.faulty self.old (as_ready commit.now) added self.new) }
+        ensures fault { IfErr result (IsTakingFault F.objects F.faulty self.old (as_ready commit.now)) }
         ensures same { plan_of self.new ≡ plan_of self.old }
     {
-        let named = walked(self.counting.parents, found.parent_ids.as_slice());
+        let named = walked(self.counting.parents, commit.parent_ids.as_slice());
         self.counting.lower(named);
-        let ids = places(self.counting.reader.alloc, named)?;
+        let ids = last_places(self.counting.reader.alloc, named)?;
         self.counting.explore()?;
         self.release_all(ids)
     }
 
     /// Takes the ready commit whose turn it is. After a fault none is ready.
-    pub(super) fn turn(&mut self) -> Option<Result<Info, Error>>
+    pub(super) fn take_next(&mut self) -> Option<Result<Info, Error>>
         requires { IsOpen F.objects F.faulty self.old }
-        ensures turns { Turns F.objects F.faulty self.old result self.new }
+        ensures takes { TakesNext F.objects F.faulty self.old result self.new }
         ensures open { IsOpen F.objects F.faulty self.new }
     {
-        let found = self.ready.pop()?;
-        if let Err(fault) = self.take(&found) {
+        let commit = self.ready.pop()?;
+        if let Err(fault) = self.take(&commit) {
             self.ready.clear();
             return Some(Err(fault));
         }
-        Some(Ok(found.into_info()))
+        Some(Ok(commit.into_info()))
     }
 }

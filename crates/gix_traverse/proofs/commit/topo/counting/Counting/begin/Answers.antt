@@ -1,7 +1,7 @@
 use Rattle.std.proofs.Common.{refl}
 use Rattle.gix_traverse.specs.Topo.Depth.{infinity}
 use Rattle.gix_traverse.proofs.Topo.Counting.Begin.{begun_from, fault_from}
-use Rattle.gix_traverse.proofs.Topo.Counting.NamesParents.{err_from}
+use Rattle.gix_traverse.proofs.Topo.Counting.MeetsParents.{err_from}
 use Rattle.gix_traverse.proofs.commit.topo.counting.Counting.begin.Goals as goal
 
 pub returns-clause-begun : goal.returns-clause-begun

@@ -1,7 +1,7 @@
 use Rattle.std.proofs.Common.{refl, sym, ◌∙◌}
 use Rattle.gix_traverse.specs.Topo.Inside.Exploring.{itself, further}
 use Rattle.gix_traverse.proofs.Topo.Counting.ExploreEnds.{steps_smaller, same_on}
-use Rattle.gix_traverse.proofs.Topo.Counting.NamesParents.{err_from}
+use Rattle.gix_traverse.proofs.Topo.Counting.MeetsParents.{err_from}
 use Rattle.gix_traverse.proofs.commit.topo.counting.Counting.explore.Goals as goal
 
 pub loop-self-init : goal.loop-self-init

@@ -1,7 +1,7 @@
 use Rattle.std.proofs.Common.{◌∙◌, ap, arith}
 use Rattle.gix_traverse.specs.Topo.Depth.{known_generation}
 use Rattle.gix_traverse.specs.History.Reading.{rows_of}
-use Rattle.gix_traverse.proofs.Topo.Counting.NamesParents.{follows_none, follows_more}
+use Rattle.gix_traverse.proofs.Topo.Counting.MeetsParents.{follows_none, follows_more}
 use Rattle.gix_traverse.proofs.commit.topo.counting.Counting.follow.Goals as goal
 
 pub loop-id-preserved : goal.loop-id-preserved
@@ -10,7 +10,7 @@ loop-id-preserved g c = record {
   parents = c.loop-id.invariant.parents;
   depth = c.loop-id.invariant.depth;
   expanded = c.loop-id.invariant.expanded;
-  follows = λ new f. c.loop-id.invariant.follows new (follows_more _ _ _ _ _ _ _ _ _ c.in-Some.ensures.items (c.generation-generation.ensures ∙ ap (λ r. known_generation (rows_of r.graph) c.in-Some.id) c.loop-id.invariant.reader) c.in_ok-name.ensures f);
+  follows = λ new f. c.loop-id.invariant.follows new (follows_more _ _ _ _ _ _ _ _ _ c.in-Some.ensures.items (c.generation-generation.ensures ∙ ap (λ r. known_generation (rows_of r.graph) c.in-Some.id) c.loop-id.invariant.reader) c.in_ok-meet_parent.ensures f);
 }
 
 pub returns-clause-follows : goal.returns-clause-follows

@@ -1,7 +1,7 @@
 use Rattle.std.proofs.Common.{◌∙◌, ◌+◌, ◌||◌, ap, cond}
 use Rattle.gix_traverse.specs.Topo.Inside.Frontier.{is_done}
 use Rattle.gix_traverse.specs.declared.commit.topo.Error.TheVariants as error
-use Rattle.gix_traverse.proofs.Topo.Counting.NamesParents.{err_from}
+use Rattle.gix_traverse.proofs.Topo.Counting.MeetsParents.{err_from}
 use Rattle.gix_traverse.proofs.Topo.Counting.Step.{first_in, steps_made}
 use Rattle.gix_traverse.proofs.commit.topo.counting.Counting.step.Goals as goal
 

@@ -7,6 +7,6 @@ use Rattle.gix_traverse.proofs.commit.topo.frontier.Known.with_done.Goals as goa
 
 pub returns : goal.returns
 returns c =
-    ap (λ m. known_by m c.self.inside.children) (c.union.ensures tt ∙ ap (bit_or c.self.inside.marks.0) c.done.ensures)
-    ∙ marked_done c.self.inside.marks.0 c.self.inside.children c.args.side
+    ap (λ m. known_by m c.self.inside.indegree) (c.union.ensures tt ∙ ap (bit_or c.self.inside.marks.0) c.done.ensures)
+    ∙ marked_done c.self.inside.marks.0 c.self.inside.indegree c.args.side
     ∙ ap (with_progress c.args.side progress.Done) c.self.view_is

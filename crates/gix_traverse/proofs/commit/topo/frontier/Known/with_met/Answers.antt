@@ -7,6 +7,6 @@ use Rattle.gix_traverse.proofs.commit.topo.frontier.Known.with_met.Goals as goal
 
 pub returns : goal.returns
 returns c =
-    ap (λ m. known_by m c.self.inside.children) (c.union.ensures tt ∙ ap (bit_or c.self.inside.marks.0) c.met.ensures)
-    ∙ marked_met c.self.inside.marks.0 c.self.inside.children c.args.side (ap (λ k. is_seen (progress_of c.args.side k)) c.self.view_is ∙ c.requires)
+    ap (λ m. known_by m c.self.inside.indegree) (c.union.ensures tt ∙ ap (bit_or c.self.inside.marks.0) c.met.ensures)
+    ∙ marked_met c.self.inside.marks.0 c.self.inside.indegree c.args.side (ap (λ k. is_seen (progress_of c.args.side k)) c.self.view_is ∙ c.requires)
     ∙ ap (with_progress c.args.side progress.Queued) c.self.view_is

@@ -1,7 +1,7 @@
 use Rattle.std.proofs.Common.{◌≡◌, Contains, take}
 use Rattle.gix_parts.specs.declared.hash.ObjectId.{ObjectId}
 use Rattle.gix_traverse.specs.History.Reading.{rows_of}
-use Rattle.gix_traverse.specs.Topo.Inside.Releasing.{Knows}
+use Rattle.gix_traverse.specs.Topo.Inside.Releasing.{LooksUpParent}
 use Rattle.gix_traverse.proofs.commit.topo.walk.Walk.push.Given as goal
 
 -- looking parents up changes nothing but the text that was read; those before the index are known
@@ -17,5 +17,5 @@ invariant-loop-parent g l = record {
   tips : l.self.tips ≡ l.initial.self.tips;
   ends : l.self.ends ≡ l.initial.self.ends;
   ready : l.self.ready ≡ l.initial.self.ready;
-  known : (p : ObjectId) → Contains (take l.parent-index l.parent-items) p → Knows (g.F.Find.objects l.initial.self.counting.reader.find) (rows_of l.initial.self.counting.reader.graph) l.initial.self.counting.reader.standing l.initial.self.counting.frontier p;
+  known : (p : ObjectId) → Contains (take l.parent-index l.parent-items) p → LooksUpParent (g.F.Find.objects l.initial.self.counting.reader.find) (rows_of l.initial.self.counting.reader.graph) l.initial.self.counting.reader.standing l.initial.self.counting.frontier p;
 }

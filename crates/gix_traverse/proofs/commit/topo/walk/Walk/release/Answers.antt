@@ -1,7 +1,7 @@
 use Rattle.std.proofs.Common.{[], ◌∷◌, sym, ap, ◌∙◌}
 use Rattle.gix_traverse.specs.Topo.Inside.Frontier.{is_due}
 use Rattle.gix_traverse.specs.Topo.Inside.Releasing.{waits, frees, uncounted, unread, no_memory}
-use Rattle.gix_traverse.proofs.Topo.Counting.NamesParents.{on_ok, if_err}
+use Rattle.gix_traverse.proofs.Topo.Counting.MeetsParents.{on_ok, if_err}
 use Rattle.gix_traverse.proofs.commit.topo.walk.Walk.release.Goals as goal
 
 pub returns-in-Ok-None-clause-fault : goal.returns-in-Ok-None-clause-fault

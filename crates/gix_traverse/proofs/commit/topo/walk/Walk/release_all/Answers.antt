@@ -1,6 +1,6 @@
 use Rattle.std.proofs.Common.{[], ◌++◌, sym, subst, ◌∙◌, arith}
 use Rattle.gix_traverse.specs.Topo.Inside.Releasing.{ReleasesAll, IsFaultAmong, none, more, here, later}
-use Rattle.gix_traverse.proofs.Topo.Counting.NamesParents.{no_items, err_from}
+use Rattle.gix_traverse.proofs.Topo.Counting.MeetsParents.{no_items, err_from}
 use Rattle.gix_traverse.proofs.commit.topo.walk.Walk.release_all.Goals as goal
 
 pub returns-in_err-release-clause-fault : goal.returns-in_err-release-clause-fault

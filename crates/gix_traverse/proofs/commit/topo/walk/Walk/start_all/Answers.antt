@@ -1,7 +1,7 @@
 use Rattle.std.proofs.Common.{◌≡◌, ◌+◌, [], ◌∷◌, ◌++◌, drop, refl, sym, ap, subst, ◌∙◌, arith}
 use Rattle.gix_traverse.specs.Topo.Inside.Starting.{StartsAll, IsStartFault, none, more, later}
 use Rattle.gix_traverse.proofs.Topo.Starting.OneTip.{drop_at, drop_none}
-use Rattle.gix_traverse.proofs.Topo.Counting.NamesParents.{err_from}
+use Rattle.gix_traverse.proofs.Topo.Counting.MeetsParents.{err_from}
 use Rattle.gix_traverse.proofs.commit.topo.walk.Walk.start_all.Goals as goal
 
 pub loop-index-init : goal.loop-index-init

@@ -1,6 +1,6 @@
 use Rattle.std.proofs.Common.{ap, ◌∙◌}
 use Rattle.gix_traverse.specs.History.Commits.{by_mode}
-use Rattle.gix_traverse.proofs.Topo.Counting.NamesParents.{on_ok, if_err}
+use Rattle.gix_traverse.proofs.Topo.Counting.MeetsParents.{on_ok, if_err}
 use Rattle.gix_traverse.proofs.Topo.Taking.OneRelease.{takes_one, fault_among}
 use Rattle.gix_traverse.proofs.commit.topo.walk.Walk.take.Goals as goal
 

@@ -3,7 +3,7 @@ use Rattle.std.specs.FinSet as set
 use Rattle.gix_parts.specs.declared.hash.ObjectId.{ObjectId}
 use Rattle.gix_parts.specs.Id.{id_cmp, is_among}
 use Rattle.gix_traverse.proofs.Topo.Counting.LastPlaces.{kept_place, new_place, later_with, later_same}
-use Rattle.gix_traverse.proofs.commit.topo.counting.places.Goals as goal
+use Rattle.gix_traverse.proofs.commit.topo.counting.last_places.Goals as goal
 
 pub loop-id-init : goal.loop-id-init
 loop-id-init c = record {

@@ -3,7 +3,7 @@ use Rattle.std.specs.FinSet as set
 use Rattle.gix_parts.specs.declared.hash.ObjectId.{ObjectId}
 use Rattle.gix_parts.specs.Id.{is_among}
 use Rattle.gix_traverse.specs.Orders.TopoOrder.{last_places}
-use Rattle.gix_traverse.proofs.commit.topo.counting.places.Given as goal
+use Rattle.gix_traverse.proofs.commit.topo.counting.last_places.Given as goal
 
 -- what is behind the ids that are left is there at its last places
 abbrev pub invariant-loop-id : goal.invariant-loop-id

@@ -1,5 +1,5 @@
-use Rattle.gix_traverse.proofs.Topo.Counting.NamesParents.{on_ok}
-use Rattle.gix_traverse.proofs.commit.topo.frontier.Frontier.name.Goals as goal
+use Rattle.gix_traverse.proofs.Topo.Counting.MeetsParents.{on_ok}
+use Rattle.gix_traverse.proofs.commit.topo.frontier.Frontier.meet_parent.Goals as goal
 
 pub returns-in_ok-count-in-Tips : goal.returns-in_ok-count-in-Tips
 returns-in_ok-count-in-Tips c =

@@ -6,7 +6,7 @@ use Rattle.gix_parts.specs.Rows.{GraphRow}
 use Rattle.gix_traverse.specs.declared.commit.topo.frontier.Side.{Side}
 use Rattle.gix_traverse.specs.declared.commit.topo.frontier.Frontier.{Frontier}
 use Rattle.gix_traverse.specs.Topo.Depth.{known_generation}
-use Rattle.gix_traverse.specs.Topo.Inside.Frontier.{Names}
+use Rattle.gix_traverse.specs.Topo.Inside.Frontier.{MeetsParent}
 use Rattle.gix_traverse.specs.Topo.Inside.Exploring.{Follows, none, more}
 
 pub on_ok : {X E A B : Type 0} (r : Result X E) → (A → B) → OnOk r A → OnOk r B
@@ -17,8 +17,8 @@ pub follows_none : (rows : List GraphRow) (side : Side) (old : Frontier) (ids : 
 follows_none rows side old [] e = none
 follows_none rows side old (i ∷ ids) e = absurd (omega arith)
 
-pub follows_more : (rows : List GraphRow) (side : Side) (old mid new : Frontier) (generation : ℕ) (i : ObjectId) (all ids : List ObjectId) → all ≡ i ∷ ids → generation ≡ known_generation rows i → Names side old generation i mid → Follows rows side mid ids new → Follows rows side old all new
-follows_more rows side old mid new generation i all ids e g n f = subst (λ those. Follows rows side old those new) (sym e) (more (subst (λ k. Names side old k i mid) g n) f)
+pub follows_more : (rows : List GraphRow) (side : Side) (old mid new : Frontier) (generation : ℕ) (i : ObjectId) (all ids : List ObjectId) → all ≡ i ∷ ids → generation ≡ known_generation rows i → MeetsParent side old generation i mid → Follows rows side mid ids new → Follows rows side old all new
+follows_more rows side old mid new generation i all ids e g n f = subst (λ those. Follows rows side old those new) (sym e) (more (subst (λ k. MeetsParent side old k i mid) g n) f)
 
 pub if_err : {X E : Type 0} {P Q : E → Type 0} (r : Result X E) → ((e : E) → P e → Q e) → IfErr r P → IfErr r Q
 if_err (Ok x) f h = tt

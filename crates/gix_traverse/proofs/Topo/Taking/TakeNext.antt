@@ -10,7 +10,7 @@ use Rattle.gix_traverse.specs.declared.commit.topo.walk.Walk.{Walk}
 use Rattle.gix_traverse.specs.Topo.Inside.ReadySet.{ReadySet}
 use Rattle.gix_traverse.specs.Topo.Inside.Releasing.{plan_of, counted_by, taken_of, walk_of, TakesOne, IsTakingFault}
 use Rattle.gix_traverse.specs.Topo.Laws.{answers_left}
-use Rattle.gix_traverse.specs.Topo.Inside.Steady.{IsHeld, IsOpen, unasked, unasked_of, TakesReady, Turns, ended, given, failed}
+use Rattle.gix_traverse.specs.Topo.Inside.Steady.{IsHeld, IsOpen, unasked, unasked_of, TakesReady, TakesNext, ended, given, failed}
 use Rattle.gix_traverse.specs.Topo.Walk.{TopoWalk, Ready, Counted, Chooses, Adds, IsNextReady, IsFault, IsLate, Takes, after, Next}
 use Rattle.gix_traverse.specs.Topo.Walk as machine
 use Rattle.gix_parts.proofs.Ids.Membership.{no_member}
@@ -42,13 +42,13 @@ module _ {F : Type 0} (objects : F → Objects) (faulty : F → ObjectId → Typ
 
 module _ {F : Type 0} (objects : F → Objects) (faulty : F → ObjectId → Type 0) where
   -- where a commit is taken something was ready
-  pub turn_asks : {w new : Walk F} {o : Option (Result Info Error)} {Can : Type 0} → Turns objects faulty w o new → (info : Info) → o ≡ Some (Ok info) → Can ⊎ (w.ready.commits ≡ []) → Can
+  pub turn_asks : {w new : Walk F} {o : Option (Result Info Error)} {Can : Type 0} → TakesNext objects faulty w o new → (info : Info) → o ≡ Some (Ok info) → Can ⊎ (w.ready.commits ≡ []) → Can
   turn_asks (ended n s) info k can = cc
   turn_asks {w = w} (given {r = r} t is) info k can = ⊎_elim (λ c. c) (λ n. absurd (no_member r (subst (λ rs. Contains rs r) n (chosen_in w.ready.sorting (w.ready.commits) r t.takes.others t.takes.chosen)))) can
   turn_asks (failed r others c f l s n) info k can = cc
 
   -- nothing is ready after a fault
-  pub turn_spent : {w new : Walk F} {o : Option (Result Info Error)} → Turns objects faulty w o new → (e : Error) → o ≡ Some (Err e) → new.ready.commits ≡ []
+  pub turn_spent : {w new : Walk F} {o : Option (Result Info Error)} → TakesNext objects faulty w o new → (e : Error) → o ≡ Some (Err e) → new.ready.commits ≡ []
   turn_spent (ended n s) e k = cc
   turn_spent (given t is) e k = cc
   turn_spent (failed r others c f l s n) e k = n
@@ -71,7 +71,7 @@ module _ {F P : Type 0} (objects : F → Objects) (faulty : F → ObjectId → T
   taken_as w new p r t = takes_as w p r (counted_by new.counting) new.ready.commits t.takes
 
   -- it is shown
-  pub turn_given : {w new : Walk F} {o : Option (Result Info Error)} → Turns objects faulty w o new → (info : Info) → o ≡ Some (Ok info) → (p q : P) → answers p info.id true q → Next objects faulty answers (walk_of w p) (Some (Ok info)) (walk_of new q)
+  pub turn_given : {w new : Walk F} {o : Option (Result Info Error)} → TakesNext objects faulty w o new → (info : Info) → o ≡ Some (Ok info) → (p q : P) → answers p info.id true q → Next objects faulty answers (walk_of w p) (Some (Ok info)) (walk_of new q)
   turn_given (ended e s) info k p q a = cc
   turn_given {w = w} {new = new} (given {r = r} {info = i} t is) info k p q a =
       let same : i ≡ info = cc in
@@ -81,7 +81,7 @@ module _ {F P : Type 0} (objects : F → Objects) (faulty : F → ObjectId → T
   turn_given (failed r others c f l s n) info k p q a = cc
 
   -- it isn't shown, and the call goes on
-  pub turn_refused : {w new : Walk F} {o : Option (Result Info Error)} → Turns objects faulty w o new → (info : Info) → o ≡ Some (Ok info) → (p q : P) → answers p info.id false q → (answer : Option (Result Info Error)) (last : TopoWalk F P) → Next objects faulty answers (walk_of new q) answer last → Next objects faulty answers (walk_of w p) answer last
+  pub turn_refused : {w new : Walk F} {o : Option (Result Info Error)} → TakesNext objects faulty w o new → (info : Info) → o ≡ Some (Ok info) → (p q : P) → answers p info.id false q → (answer : Option (Result Info Error)) (last : TopoWalk F P) → Next objects faulty answers (walk_of new q) answer last → Next objects faulty answers (walk_of w p) answer last
   turn_refused (ended e s) info k p q a answer last n = cc
   turn_refused {w = w} {new = new} (given {r = r} {info = i} t is) info k p q a answer last n =
       let same : i ≡ info = cc in
@@ -90,7 +90,7 @@ module _ {F P : Type 0} (objects : F → Objects) (faulty : F → ObjectId → T
   turn_refused (failed r others c f l s n) info k p q a answer last next = cc
 
   -- a fault
-  pub turn_failed : {w new : Walk F} {o : Option (Result Info Error)} → Turns objects faulty w o new → (e : Error) → o ≡ Some (Err e) → (p : P) → Next objects faulty answers (walk_of w p) (Some (Err e)) (walk_of new p)
+  pub turn_failed : {w new : Walk F} {o : Option (Result Info Error)} → TakesNext objects faulty w o new → (e : Error) → o ≡ Some (Err e) → (p : P) → Next objects faulty answers (walk_of w p) (Some (Err e)) (walk_of new p)
   turn_failed (ended n s) e k p = cc
   turn_failed (given t is) e k p = cc
   turn_failed {w = w} {new = new} (failed r others {e = x} c f l s n) e k p =
@@ -99,14 +99,14 @@ module _ {F P : Type 0} (objects : F → Objects) (faulty : F → ObjectId → T
       (subst (λ y. Next objects faulty answers (walk_of w p) (Some (Err x)) y) (λ i. record { plan = sym s i; predicate = p; counted = counted_by new.counting; ready = sym n i; taken = taken_of new }) (machine.failed r others c f l))
 
   -- nothing is ready
-  pub turn_ended : {w new : Walk F} {o : Option (Result Info Error)} → Turns objects faulty w o new → o ≡ None → (p : P) → Next objects faulty answers (walk_of w p) None (walk_of new p)
+  pub turn_ended : {w new : Walk F} {o : Option (Result Info Error)} → TakesNext objects faulty w o new → o ≡ None → (p : P) → Next objects faulty answers (walk_of w p) None (walk_of new p)
   turn_ended {w = w} {new = new} (ended n s) k p =
       subst (λ y. Next objects faulty answers (walk_of w p) None y) (ap (λ x. record { plan = x.plan; predicate = p; counted = x.counted; ready = x.ready; taken = x.taken }) (sym s)) (machine.ended n)
   turn_ended (given t is) k p = cc
   turn_ended (failed r others c f l s n) k p = cc
 
   -- each commit taken leaves less
-  pub turn_less : {w new : Walk F} {o : Option (Result Info Error)} → Turns objects faulty w o new → (info : Info) → o ≡ Some (Ok info) → (p q : P) → suc (answers_left objects (walk_of new q)) ≤ answers_left objects (walk_of w p)
+  pub turn_less : {w new : Walk F} {o : Option (Result Info Error)} → TakesNext objects faulty w o new → (info : Info) → o ≡ Some (Ok info) → (p q : P) → suc (answers_left objects (walk_of new q)) ≤ answers_left objects (walk_of w p)
   turn_less (ended e s) info k p q = cc
   turn_less {w = w} {new = new} (given {r = r} t is) info k p q =
       subst (λ x. suc (answers_left objects x) ≤ answers_left objects (walk_of w p)) (after_as w new p q r t) (takes_left objects faulty answers (walk_of w p) r (counted_by new.counting) new.ready.commits q (taken_as w new p r t))
