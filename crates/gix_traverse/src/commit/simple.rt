@@ -351,9 +351,7 @@ impl<F: Find + Drop, P: Predicate + Drop> Simple<F, P> {
     {
         let mut hidden_tips = Vec::new(self.alloc);
         for tip in tips {
-            let Ok(()) = hidden_tips.push(tip) else {
-                return Err(Error::Memory);
-            };
+            hidden_tips.push(tip)?;
         }
         self.hidden_tips = hidden_tips;
         Ok(self)

@@ -41,7 +41,10 @@ pub(super) fn walked(parents: Parents, ids: &[ObjectId]) -> &[ObjectId]
 }
 
 /// Each id of a list at its last place.
-pub(super) fn last_places(alloc: Global, mut ids: &[ObjectId]) -> Result<VecDeque<ObjectId>, AllocError>
+pub(super) fn last_places(
+    alloc: Global,
+    mut ids: &[ObjectId],
+) -> Result<VecDeque<ObjectId>, AllocError>
 where
     ensures { IfOk result (λ places. places.items ≡ last_places ids.entry.now) }
 {

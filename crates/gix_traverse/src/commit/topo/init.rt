@@ -154,9 +154,7 @@ impl<F: Find + Drop, P: Predicate + Drop> Builder<F, P> {
         ensures { IfOk result (λ builder. Draws T.into_iter_gives T.IntoIter.next_gives tips (λ ids. builder ≡ record self { plan = record self.plan { tips = self.plan.tips ++ ids } })) }
     {
         for tip in tips {
-            let Ok(()) = self.tips.push(tip) else {
-                return Err(AllocError);
-            };
+            self.tips.push(tip)?;
         }
         Ok(self)
     }
@@ -176,9 +174,7 @@ impl<F: Find + Drop, P: Predicate + Drop> Builder<F, P> {
         ensures { IfOk result (λ builder. Draws E.into_iter_gives E.IntoIter.next_gives ends (λ ids. builder ≡ record self { plan = record self.plan { ends = self.plan.ends ++ ids } })) }
     {
         for end in ends {
-            let Ok(()) = self.ends.push(end) else {
-                return Err(AllocError);
-            };
+            self.ends.push(end)?;
         }
         Ok(self)
     }
