@@ -131,7 +131,9 @@ impl PendingQueue {
         self.rearrange(order)
     }
 
-    // Moves all commits.
+    // Moves all commits. It stands apart, so that the test of the order is inlined.
+    #[cold]
+    #[inline(never)]
     fn rearrange(&mut self, order: Option<CommitTimeOrder>) -> Result<(), AllocError>
         ensures ok { OnOk result ((self.new.order ≡ order) × Holds order self.old.items self.new.items) }
         ensures err { OnErr result (self.new.items ≡ []) }
