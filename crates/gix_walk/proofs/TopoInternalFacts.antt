@@ -57,7 +57,7 @@ built_rowless built = ap (λ (plan : TopoPlan Objects). plan.rows) built.0.plan
 
 -- nor does the start of one
 pub build_sound : (objects : Objects) (by : Sorting) (tips ends : List ObjectId) (e : Error) → IsBuiltFrom objects by tips ends (Err e) → fault_of_topo_walk e ≢ fault.Internal
-build_sound objects by tips ends e h = fault_sound (plan_from objects by tips ends) _ e refl h
+build_sound objects by tips ends e h = fault_sound (plan_from objects by tips ends) _ e refl h.1
 
 -- none ends by the number of a record
 pub topo_unnumbered : (n : ℕ) (e : Error) → fault_of_topo_walk e ≢ fault.Record n

@@ -127,7 +127,7 @@ module _ (objects : Objects) (by : Sorting) (tips ends : List ObjectId) (whole :
 
     well : (answer : Result (Unit {0}) Fault) (new : Option (List ℕ)) → Serves objects old (Commits (Topo by) tips ends) answer new → EndsWell answer
     well answer new (walked_down walk infos built ends written) = drawn_outside walk built infos answer ends
-    well answer new (not_built e h) = outside (IsFirstReady objects_of (plan_from objects by tips ends)) e h
+    well answer new (not_built e h) = outside (IsFirstReady objects_of (plan_from objects by tips ends)) e h.1
     well answer new unserved = tt
     well answer new not_written = tt
 

@@ -1,5 +1,5 @@
 -- What a topological walk holds, as its callers see it, and what one call of it may do.
-use Rattle.std.specs.Prelude.{◌≡◌, ◌⊎◌, ◌≤◌, ◌≤ℤ◌, ℕ, ℤ, List, [], ◌∷◌, ◌++◌, map, drop, length, Bool, true, false, ◌||◌, Option, Some, None, Result, Ok, Err, Contains, IsPermutation}
+use Rattle.std.specs.Prelude.{◌≡◌, ◌≢◌, ◌⊎◌, ◌≤◌, ◌≤ℤ◌, ℕ, ℤ, List, [], ◌∷◌, ◌++◌, map, drop, length, Bool, true, false, ◌||◌, Option, Some, None, Result, Ok, Err, Contains, IsPermutation}
 use Rattle.std.specs.List.{flat_map}
 use Rattle.std.specs.FinMap as map_of
 use Rattle.std.specs.Iterator.{Drains}
@@ -214,10 +214,11 @@ module _ {F : Type 0} (objects : F → Objects) (plan : TopoPlan F) where
     pub by_row : row_of plan.rows id ≡ Some row
     pub corrupt : IsCorrupt row
 
-  -- The number of commits whose parents were read is exact as long as the rows are held. They are dropped exactly for a row
-  -- with a fault.
+  -- The number of commits whose parents were read is exact: down to the depth as long as the rows are held, and of all once they
+  -- are dropped. They are dropped exactly for a row with a fault.
   pub record IsCounting (counted : Counted) : Type 0 where
     pub exact : counted.standing ≡ true → IsNumberOf (IsInDepth counted.depth) counted.expanded
+    pub all : counted.standing ≡ false → IsNumberOf IsMet counted.expanded
     pub dropped : counted.standing ≡ false → IsBrokenRow counted.depth
     pub whole : counted.standing ≡ true → IsBrokenRow counted.depth → ⊥
 
@@ -277,9 +278,9 @@ module _ {F : Type 0} (objects : F → Objects) (faulty : F → ObjectId → Typ
   IsFault BecomesReady (error.ObjectDecode e) = (i : ObjectId) × IsTextFault (objects plan.store) i e × IsMetFault BecomesReady i (error.ObjectDecode e)
   IsFault BecomesReady error.Memory = Unit {0}
 
-  -- when each fault of `build` comes
+  -- when each fault of `build` comes: no commit is taken yet, so no count is missing
   abbrev pub IsBuildFault : Error → Type 0
-  IsBuildFault = IsFault (IsFirstReady objects plan)
+  IsBuildFault e = (e ≢ error.MissingIndegreeUnexpected) × IsFault (IsFirstReady objects plan) e
 
 module _ {F P : Type 0} (objects : F → Objects) (faulty : F → ObjectId → Type 0) (answers : P → ObjectId → Bool → P → Type 0) where
   -- the ready tips, where all that is walked reads whole: the tips without children, by rising time

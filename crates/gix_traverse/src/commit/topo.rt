@@ -38,7 +38,8 @@ impl Default for Sorting {
 /// Why a topological walk can't be built, or gives no commit. After such a fault it gives nothing more.
 #[derive(Clone, Copy, Debug, PartialEq, Eq, Error)]
 pub enum Error {
-    /// The rows of the commit-graph disagree with each other: a commit had more children than its indegree said.
+    /// The rows of the commit-graph disagree, with each other or with the store: a commit had more children than its indegree said.
+    /// Only `next` gives it.
     #[error("Indegree information is missing")]
     MissingIndegreeUnexpected,
     /// Never given: a commit that wasn't explored has no indegree, which is `MissingIndegreeUnexpected`.
@@ -137,8 +138,11 @@ impl<F: Find, P> Model for Topo<F, P> {
 impl<F: Find + Drop, P: Predicate + Drop> Topo<F, P> {
     ghost use Rattle.std.specs.Prelude.{◌≡◌};
 
-    /// The number of different commits whose parents were read to count indegrees, from their rows or from the store. Without a
-    /// commit-graph these are all that tips or ends reach; with one, those that aren't below the least generation needed so far.
+    /// The number of different commits whose parents were read to count indegrees, from their rows or from the store.
+    ///
+    /// Where the rows agree, all that is walked reads whole and no fault was given, these are all that tips reach by the walked
+    /// parents and all that ends reach, without a commit-graph and once it was dropped. As long as it is in use, they are those of
+    /// these commits that aren't below the least generation of tips, ends and the walked parents of the commits taken.
     pub fn expanded(&self) -> usize
         ensures { result ≡ self.now.counted.expanded }
     {

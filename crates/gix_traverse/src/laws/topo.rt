@@ -1,4 +1,9 @@
 //! Laws of `commit::Topo`.
+//!
+//! The walk set is what tips reach by the walked parents and no end reaches. What is walked is what tips reach so and what ends reach
+//! by any parents. The history is *sound* where the rows agree with the store or there are none, and all that is walked and all
+//! parents of what tips reach read whole. A law that names no premise holds for every store, all rows and every predicate, and over
+//! cycles.
 
 ghost use Rattle.gix_traverse.specs.Topo.Statements.{RunsAreInOrder, TakesEachOnce, TakesChildrenFirst, RowsLeaveTheIds, Ends, AsksNeverTwice};
 ghost use Rattle.gix_traverse.specs.Topo.Statements.{GivesNeverTwice, FailsForItsReason, StaysEnded, ParentsAreKnown, TellsTheGenerations, CountsDownToTheDepth};
@@ -6,23 +11,26 @@ ghost use Rattle.gix_traverse.specs.Topo.Statements.{GivesNeverTwice, FailsForIt
 use crate::commit::Predicate;
 use gix_parts::object::find::Find;
 
-/// A built topological walk that is drawn to its end takes the commits of its set in the order that was asked for, and gives
-/// those that the predicate accepts.
+/// A walk that was built over a sound history and is drawn to its end, where memory and the store don't fail and the predicate's
+/// answer depends on the id alone: it takes the commits of its set in the order that was asked for, and gives those that the
+/// predicate accepts.
 pub fn in_order<F: Find, P: Predicate>()
     ensures { RunsAreInOrder F.objects F.faulty P.answers }
 {}
 
-/// It takes no commit twice, and none outside of its set; and all of it, where no commit is its own ancestor.
+/// Commits that are taken in the order that was asked for: none is taken twice, and none outside of the walk set; and the whole set
+/// is taken, where no commit is its own ancestor by the walked parents.
 pub fn each_once<F: Find>()
     ensures { TakesEachOnce F.objects }
 {}
 
-/// It takes every child before its parents.
+/// In such a list a commit comes before each of its walked parents that is in the list.
 pub fn children_first<F: Find>()
     ensures { TakesChildrenFirst F.objects }
 {}
 
-/// Under `TopoOrder`, rows that agree leave the list of ids as it is.
+/// Two walks under `TopoOrder` that were built alike, except that each has rows of its own or none, give the same list of ids, where
+/// the premises of `in_order` hold for both, and both predicates answer alike.
 pub fn rows_agree<F: Find, P: Predicate>()
     ensures { RowsLeaveTheIds F.objects F.faulty P.answers }
 {}
@@ -33,18 +41,20 @@ pub fn ends<F: Find, P: Predicate>()
     ensures { Ends F.objects F.faulty P.answers }
 {}
 
-/// The predicate's state is a run of its own steps over different commits.
+/// The predicate of a walk that was built is never asked about one id twice, wherever the caller stops: its state is a run of its own
+/// steps over different ids.
 pub fn asks_once<F: Find, P: Predicate>()
     ensures { AsksNeverTwice F.objects F.faulty P.answers }
 {}
 
-/// It gives no commit twice, whatever faults come, and wherever the caller stops.
+/// A walk that was built gives no commit twice, whatever faults come, and wherever the caller stops.
 pub fn never_twice<F: Find, P: Predicate>()
     ensures { GivesNeverTwice F.objects F.faulty P.answers }
 {}
 
-/// A fault comes for its reason alone, and nothing follows it: tips or ends reach what can't be read, or it is a parent of a commit
-/// that was still to be taken.
+/// A fault of `next` comes for its reason alone, and nothing follows it: an object can't be read, the rows don't agree, or memory ran
+/// out. Where the rows agree, tips or ends reach the object, or it is a parent of a commit that was still to be taken; over a sound
+/// history it is the store that fails. Without rows the object is a parent that isn't walked, or the store fails.
 pub fn fails_once<F: Find, P: Predicate>()
     ensures { FailsForItsReason F.objects F.faulty P.answers }
 {}
@@ -54,18 +64,20 @@ pub fn stays_ended<F: Find, P: Predicate>()
     ensures { StaysEnded F.objects F.faulty P.answers }
 {}
 
-/// Each parent of a commit that is given, walked or not, has a row, or is stored as a commit whose text can be read.
+/// Each parent of a commit that a built walk gives, walked or not, has a row, or is stored as a commit whose text can be read.
 pub fn parents_known<F: Find, P: Predicate>()
     ensures { ParentsAreKnown F.objects F.faulty P.answers }
 {}
 
-/// As long as the rows are in use, a commit is given the generation of its row, and none where it has no row.
+/// A walk that was built, where the rows agree and all that is walked reads whole: as long as the rows are in use, a commit is given
+/// with the generation of its row, and with none where it has no row.
 pub fn tells<F: Find, P: Predicate>()
     ensures { TellsTheGenerations F.objects F.faulty P.answers }
 {}
 
-/// As long as the rows are in use, counting has read the parents of exactly the commits that tips or ends reach and that aren't below
-/// its depth, and no row of such a commit has a fault. The rows are dropped only for one.
+/// A walk that was built, where the rows agree and all that is walked reads whole, and that gave no fault: as long as the rows are in
+/// use, counting has read the parents of exactly the commits that tips or ends reach and that aren't below its depth, and no row of
+/// such a commit has a fault. The rows are dropped only for one; then it has read the parents of all that tips or ends reach.
 pub fn counts<F: Find, P: Predicate>()
     ensures { CountsDownToTheDepth F.objects F.faulty P.answers }
 {}

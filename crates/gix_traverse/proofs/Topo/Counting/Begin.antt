@@ -30,7 +30,7 @@ use Rattle.gix_traverse.specs.Topo.Walk.{IsFirstReady, IsBuildFault, IsCommitRea
 use Rattle.gix_traverse.proofs.Topo.Counting.ExploreKeeps.{explores_keep, explores_made, explores_same, explores_still}
 use Rattle.gix_traverse.proofs.Topo.Counting.Expanded.{counts_on, explores_read}
 use Rattle.gix_traverse.proofs.Topo.Counting.AllDownToDepth.{exact_there}
-use Rattle.gix_traverse.proofs.Topo.Taking.ReadFaults.{exploring_fault}
+use Rattle.gix_traverse.proofs.Topo.Taking.ReadFaults.{read_misses_no_count, exploring_fault}
 use Rattle.gix_traverse.proofs.Topo.Reading.Faultless.{faultless}
 use Rattle.gix_traverse.proofs.Topo.Counting.Frontier.{moved}
 use Rattle.gix_traverse.proofs.Topo.Counting.MeetsStarts.{IsFresh, fresh_empty, fresh_on, fresh_counted, all_still, all_seen}
@@ -199,5 +199,7 @@ module _ {F : Type 0} (objects : F → Objects) (faulty : F → ObjectId → Typ
 
     pub fault_from : (e : Error) → IsExploringFault objects faulty low e → IsBuildFault objects faulty (plan_by old sorting tips ends) e
     fault_from e f =
-        subst (λ plan. IsBuildFault objects faulty plan e) plans
-        (exploring_fault objects faulty sorting tips ends (λ i. false) low (λ agrees. fresh_counted (objects low.reader.find) (rows_of low.reader.graph) low.parents tips ends low.frontier (λ i. false) (λ i. refl) start_met.fresh) (IsFirstReady objects (plan_by low sorting tips ends)) e f)
+        subst (λ plan. IsBuildFault objects faulty plan e) plans (
+          read_misses_no_count (objects f.so_far.reader.find) (faulty f.so_far.reader.find) f.fault.entry.1.id e f.fault.fault,
+          exploring_fault objects faulty sorting tips ends (λ i. false) low (λ agrees. fresh_counted (objects low.reader.find) (rows_of low.reader.graph) low.parents tips ends low.frontier (λ i. false) (λ i. refl) start_met.fresh) (IsFirstReady objects (plan_by low sorting tips ends)) e f,
+        )

@@ -18,14 +18,15 @@ use Rattle.gix_traverse.specs.History.Agreeing.{IsAgreeing}
 use Rattle.gix_traverse.specs.Topo.Depth.{known_generation}
 use Rattle.gix_traverse.specs.Topo.Inside.Exploring.{is_pending, IsRested, Steps, Explores, itself, further, IsSamePlan}
 use Rattle.gix_traverse.specs.Topo.Inside.Frontier.{is_side, is_done, reached}
+use Rattle.gix_traverse.specs.History.Reach.{Reaches}
 use Rattle.gix_traverse.specs.History.Reading.{rows_of, DropsRows}
 use Rattle.gix_traverse.specs.Topo.Inside.Releasing.{plan_by, counted_by}
-use Rattle.gix_traverse.specs.Topo.Inside.Searched.{IsCounted, IsSearched, IsBegun, IsExplored}
+use Rattle.gix_traverse.specs.Topo.Inside.Searched.{IsCounted, IsSearched, IsBegun, next_by, starts_by}
 use Rattle.gix_traverse.specs.Topo.Inside.Steady.{IsDone, IsReadOnce, AreRead, HasCounted}
 use Rattle.gix_traverse.specs.Topo.Walk.{TopoPlan, IsNumberOf, IsMet, IsInDepth, IsBrokenRow, IsCounting, IsWalkable}
 use Rattle.gix_traverse.proofs.Topo.Taking.BecomeReady.{done_seen, tips_text, text_tips, ends_text, text_ends}
-use Rattle.gix_traverse.proofs.Topo.Counting.ExploreKeeps.{steps_keep, explores_keep, explores_same, done_now}
-use Rattle.gix_traverse.proofs.Topo.Counting.AllDownToDepth.{exact_there}
+use Rattle.gix_traverse.proofs.Topo.Counting.ExploreKeeps.{steps_keep, explores_keep, explores_same, explores_still, done_now}
+use Rattle.gix_traverse.proofs.Topo.Counting.AllDownToDepth.{exact as exact_down}
 use Rattle.gix_traverse.proofs.Shared.ReadsWhole.{row_stands, corrupt_row}
 use Rattle.gix_traverse.proofs.Topo.Taking.AllReleases.{reads_stands, reads_drops}
 use Rattle.gix_traverse.proofs.Topo.Counting.Children.{follows_named}
@@ -168,7 +169,7 @@ module _ {F : Type 0} (objects : F → Objects) (faulty : F → ObjectId → Typ
 
     -- after exploring, what holds of the done commits holds of all that is reached down to the depth
     pub counts_on : (low explored : Counting F) → IsWalkable objects faulty (Plan low) → Told (Plan low) low.frontier → ((side : Side) → IsBegun tips ends side low.frontier) → HasCounted objects (Plan low) low → AreRead objects faulty (Plan low) low → Explores objects faulty low explored → IsRested explored.reader.standing explored.depth explored.frontier.queue → HasCounted objects (Plan low) explored × IsCounting objects (Plan low) (counted_by explored)
-    counts_on low explored sound counted begun h reads e rested = (counts, record { exact = exact; dropped = counts.dropped; whole = whole })
+    counts_on low explored sound counted begun h reads e rested = (counts, record { exact = exact; all = all; dropped = counts.dropped; whole = whole })
       where
         counts : HasCounted objects (Plan low) explored
         counts = explores_counts sound counted e h
@@ -176,19 +177,27 @@ module _ {F : Type 0} (objects : F → Objects) (faulty : F → ObjectId → Typ
         there : Told (Plan low) explored.frontier
         there = explores_keep objects faulty tips ends taken sound.agreeing e counted
 
-        all : (side : Side) → IsExplored (objects low.reader.find) (Plan low).rows low.parents tips ends low.depth side explored.frontier
-        all side = exact_there objects faulty tips ends taken sound.agreeing e counted side (begun side) (subst (λ d. IsRested explored.reader.standing d explored.frontier.queue) (explores_same objects faulty e).depth rested)
+        -- what is reached, and isn't below a depth to which exploring rests, is done
+        done_down : (depth : ℕ) → IsRested explored.reader.standing depth explored.frontier.queue → (i : ObjectId) → IsInDepth objects (Plan low) depth i → IsDone explored.frontier i
+        done_down depth rests i d =
+            let there_by : (side : Side) → Reaches (next_by (objects low.reader.find) low.parents side) (starts_by tips ends side) i → is_done (reached explored.frontier.known side i) ≡ true =
+            λ side r. exact_down (objects low.reader.find) (faulty low.reader.find) (Plan low).rows low.parents tips ends sound.agreeing explored.frontier explored.reader.standing depth there.searched rests side (λ j m. explores_still objects faulty e side j (begun side j m)) i r d.high in
+            ⊎_elim (λ a. inl (there_by Tips (tips_text (objects low.reader.find) (faulty low.reader.find) (Plan low).rows low.parents tips ends sound.agreeing sound.tips_whole sound.ends_whole i a)))
+            (λ b. inr (there_by Ends (ends_text (objects low.reader.find) (faulty low.reader.find) (Plan low).rows low.parents tips ends sound.agreeing sound.tips_whole sound.ends_whole i b))) d.reached
 
-        is_done_there : (i : ObjectId) → IsInDepth objects (Plan low) explored.depth i → IsDone explored.frontier i
-        is_done_there i d =
-            let high : low.depth ≤ known_generation (Plan low).rows i = subst (λ n. n ≤ known_generation (Plan low).rows i) (explores_same objects faulty e).depth d.high in
-            ⊎_elim (λ a. inl (all Tips i (tips_text (objects low.reader.find) (faulty low.reader.find) (Plan low).rows low.parents tips ends sound.agreeing sound.tips_whole sound.ends_whole i a) high))
-            (λ b. inr (all Ends i (ends_text (objects low.reader.find) (faulty low.reader.find) (Plan low).rows low.parents tips ends sound.agreeing sound.tips_whole sound.ends_whole i b) high)) d.reached
+        done_met : (i : ObjectId) → IsDone explored.frontier i → IsMet objects (Plan low) i
+        done_met = done_reached (Plan low) sound explored.frontier there.searched
 
         whole : explored.reader.standing ≡ true → IsBrokenRow objects (Plan low) explored.depth → ⊥
-        whole stands b = once_whole objects faulty (Plan low) (explores_read e reads b.id (is_done_there b.id b.in_depth)) stands b.row b.by_row b.corrupt
+        whole stands b = once_whole objects faulty (Plan low) (explores_read e reads b.id (done_down explored.depth rested b.id b.in_depth)) stands b.row b.by_row b.corrupt
 
         exact : explored.reader.standing ≡ true → IsNumberOf (IsInDepth objects (Plan low) explored.depth) explored.expanded
         exact stands =
             number_same (IsDone explored.frontier) (IsInDepth objects (Plan low) explored.depth) explored.expanded explored.expanded refl
-            (λ i d. record { reached = done_reached (Plan low) sound explored.frontier there.searched i d; high = counts.high stands i d }) is_done_there counts.number
+            (λ i d. record { reached = done_met i d; high = counts.high stands i d }) (done_down explored.depth rested) counts.number
+
+        -- with the rows dropped nothing waits
+        all : explored.reader.standing ≡ false → IsNumberOf (IsMet objects (Plan low)) explored.expanded
+        all dropped =
+            number_same (IsDone explored.frontier) (IsMet objects (Plan low)) explored.expanded explored.expanded refl done_met
+            (λ i r. done_down 0 (⊎_elim (λ q. inl q) (λ held. absurd (true≢false (sym held.0 ∙ dropped))) rested) i (record { reached = r; high = omega arith })) counts.number

@@ -25,7 +25,7 @@ use Rattle.gix_traverse.specs.Simple.Laws.{AreDistinct}
 use Rattle.gix_traverse.specs.Topo.Inside.Starting.{HasBegun, IsBegunWalk, by_rising_time}
 use Rattle.gix_traverse.specs.Orders.TopoOrder.{Keeps, first_places}
 use Rattle.gix_traverse.specs.Topo.Inside.Steady.{IsDone, AreRead, IsTallied, IsSteady, HasCounted, IsHeld, unasked, unasked_of}
-use Rattle.gix_traverse.specs.Topo.Walk.{TopoPlan, Ready, ready_ids, first_depth, HoldsReady, IsNumberOf, IsInDepth, IsBrokenRow, IsCounting, IsWalkable, IsStored, IsMember, IsStarted, StartsWith, walked_of, IsFound}
+use Rattle.gix_traverse.specs.Topo.Walk.{TopoPlan, Ready, ready_ids, first_depth, HoldsReady, IsNumberOf, IsMet, IsInDepth, IsBrokenRow, IsCounting, IsWalkable, IsStored, IsMember, IsStarted, StartsWith, walked_of, IsFound}
 use Rattle.gix_traverse.specs.Orders.WalkSet.{IsChildless}
 use Rattle.gix_traverse.proofs.Topo.Taking.BecomeReady.{none_left, outside, unseen, all_taken}
 use Rattle.gix_traverse.proofs.Topo.Counting.Expanded.{number_same, broken}
@@ -195,27 +195,28 @@ module _ {F : Type 0} (objects : F → Objects) (faulty : F → ObjectId → Typ
       holds = sorted;
     }
 
-    -- a tip's row with a fault may have dropped the rows
-    broken_row : (new.reader.standing ≡ false) → (old.reader.standing ≡ false → IsBrokenRow objects p old.depth) → IsBrokenRow objects p new.depth
-    broken_row e before = subst (IsBrokenRow objects p) (sym same_depth) (go old.reader.standing refl)
+    -- a tip that becomes ready was read before, so its row drops no rows
+    stays : new.reader.standing ≡ false → old.reader.standing ≡ false
+    stays e = go old.reader.standing refl
       where
-        go : (b : Bool) → old.reader.standing ≡ b → IsBrokenRow objects p old.depth
-        go false d = before d
+        go : (b : Bool) → old.reader.standing ≡ b → b ≡ false
+        go false d = refl
         go true d =
             let k : (i : ObjectId) × Contains p.tips i × DropsRows (plan_of h.first).rows i = all.dropped d (sym (ap (λ c. c.reader.standing) h.counting) ∙ e) in
-            broken objects faulty p sound.agreeing old.depth k.0 (inl (start k.1)) (tip_high k.0 k.1) (subst (λ q. DropsRows q.rows k.0) first_plan k.2)
+            absurd ((begun.counting sound).whole d (broken objects faulty p sound.agreeing old.depth k.0 (inl (start k.1)) (tip_high k.0 k.1) (subst (λ q. DropsRows q.rows k.0) first_plan k.2)))
 
     counts : HasCounted objects p new
     counts = let c : HasCounted objects p old = begun.counts sound in record {
       number = number_same (IsDone old.frontier) (IsDone new.frontier) old.expanded new.expanded (sym same_expanded) from_done to_done c.number;
       high = λ e i d. subst (λ n. n ≤ known_generation p.rows i) (sym same_depth) (c.high (stands e) i (to_done i d));
-      dropped = λ e. broken_row e c.dropped;
+      dropped = λ e. subst (IsBrokenRow objects p) (sym same_depth) (c.dropped (stays e));
     }
 
     counting : IsCounting objects p (counted_by new)
     counting = let c : IsCounting objects p (counted_by old) = begun.counting sound in record {
       exact = λ e. subst (λ d. IsNumberOf (IsInDepth objects p d) new.expanded) (sym same_depth) (subst (λ n. IsNumberOf (IsInDepth objects p old.depth) n) (sym same_expanded) (c.exact (stands e)));
-      dropped = λ e. broken_row e c.dropped;
+      all = λ e. subst (IsNumberOf (IsMet objects p)) (sym same_expanded) (c.all (stays e));
+      dropped = counts.dropped;
       whole = λ e b. c.whole (stands e) (subst (IsBrokenRow objects p) same_depth b);
     }
 

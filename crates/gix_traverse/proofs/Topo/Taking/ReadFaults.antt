@@ -1,5 +1,5 @@
 -- When a topological walk fails.
-use Rattle.std.specs.Prelude.{◌≡◌, ◌≤◌, ℕ, List, [], ◌∷◌, ◌++◌, Bool, true, false, ◌&&◌, cond, Some, None, Result, Ok, Err, Contains}
+use Rattle.std.specs.Prelude.{◌≡◌, ◌≢◌, ◌≤◌, ℕ, List, [], ◌∷◌, ◌++◌, Bool, true, false, ◌&&◌, cond, Some, None, Result, Ok, Err, Contains}
 use Rattle.std.proofs.Common.{refl, sym, ap, subst, ⊎_elim, ◌∙◌, arith, inl, inr}
 use Rattle.gix_parts.specs.declared.hash.ObjectId.{ObjectId}
 use Rattle.gix_parts.specs.declared.object.decode.Error.{Error as DecodeError}
@@ -66,6 +66,10 @@ waits_seen Unseen n e l = absurd (omega arith)
 waits_seen Queued n e l = refl
 waits_seen Done n e l = refl
 
+-- reading never answers that a count is missing
+pub read_misses_no_count : (objects : Objects) (faulty : ObjectId → Type 0) (i : ObjectId) (e : Error) → IsReadFault objects faulty i e → e ≢ error.MissingIndegreeUnexpected
+read_misses_no_count objects faulty i e f = λ q. subst (IsReadFault objects faulty i) q f
+
 module _ {F : Type 0} (objects : F → Objects) (faulty : F → ObjectId → Type 0) (plan : TopoPlan F) where
   -- where all that may be looked up reads whole, all that is walked does
   pub walkable : IsSound objects faulty plan → IsWalkable objects faulty plan
@@ -114,6 +118,11 @@ module _ {F : Type 0} (objects : F → Objects) (faulty : F → ObjectId → Typ
           let same : info.parent_ids.items ≡ parents_of (objects (plan_of old).store) i = reads_text_next (objects (plan_of old).store) (faulty (plan_of old).store) (plan_of old).rows s.agreeing reads ∙ sym (text_whole (objects (plan_of old).store) (faulty (plan_of old).store) (plan_of old).rows i (s.tips_whole i reach)) in
           s.parents_whole i p reach (subst (λ ids. Contains ids p) same m)
 
+  -- nor does making a commit ready
+  push_misses_no_count : (old : Walk F) (i : ObjectId) (e : Error) → IsPushFault objects faulty old i e → e ≢ error.MissingIndegreeUnexpected
+  push_misses_no_count old i e (itself f) = read_misses_no_count (objects old.counting.reader.find) (faulty old.counting.reader.find) i e f
+  push_misses_no_count old i e (parent {p = p} reads m f) = read_misses_no_count (objects old.counting.reader.find) (faulty old.counting.reader.find) p e f
+
   -- a tip that is due when counting has begun becomes ready
   module _ (plan : TopoPlan F) (c : Counting F) (begun : HasBegun objects faulty plan c) where
     first_ready : IsAgreeing (objects plan.store) plan.rows → (i : ObjectId) → Contains plan.tips i → children_of c.frontier i ≡ 0 → has_seen c.frontier Ends i ≡ false → IsFirstReady objects plan i
@@ -131,13 +140,15 @@ module _ {F : Type 0} (objects : F → Objects) (faulty : F → ObjectId → Typ
     start_fails : {old : Walk F} {ids : List ObjectId} {e : Error} → plan_of old ≡ plan → ((j : ObjectId) → has_seen old.counting.frontier Ends j ≡ has_seen c.frontier Ends j) → ((j : ObjectId) → children_of old.counting.frontier j ≡ children_of c.frontier j) → ((i : ObjectId) → Contains ids i → Contains plan.tips i) → IsStartFault objects faulty old ids e → IsBuildFault objects faulty plan e
     start_fails {old} {e = e} same seen counts all (here {i = i} {ids = ids} d f) =
         let parts : (children_of old.counting.frontier i ≡ 0) × (has_seen old.counting.frontier Ends i ≡ false) × (was_ready_of old.counting.frontier i ≡ false) = due_parts objects faulty (children_of old.counting.frontier i) (known_of old.counting.frontier.known i) d in
-        let tip : Contains plan.tips i = all i (Contains-here i ids) in
-        subst (λ p. IsFault objects faulty p (IsFirstReady objects plan) e) same
-        (push_fault (IsFirstReady objects plan) old i e (λ a. start (subst (λ p. Contains p.tips i) (sym same) tip)) (λ a. first_ready (subst (λ p. IsAgreeing (objects p.store) p.rows) same a) i tip (sym (counts i) ∙ parts.0) (sym (seen i) ∙ parts.1)) f)
+        let tip : Contains plan.tips i = all i (Contains-here i ids) in (
+          push_misses_no_count old i e f,
+          subst (λ p. IsFault objects faulty p (IsFirstReady objects plan) e) same
+              (push_fault (IsFirstReady objects plan) old i e (λ a. start (subst (λ p. Contains p.tips i) (sym same) tip)) (λ a. first_ready (subst (λ p. IsAgreeing (objects p.store) p.rows) same a) i tip (sym (counts i) ∙ parts.0) (sym (seen i) ∙ parts.1)) f),
+        )
     start_fails same seen counts all (later {mid = mid} {i = i} {ids = ids} {first = first} s f) =
         let by : AreStarted objects faulty _ (i ∷ []) first mid = started_one objects faulty s in
         start_fails (by.plan ∙ same) (λ j. ap is_seen (by.moved Ends j) ∙ seen j) (λ j. by.children j ∙ counts j) (λ j m. all j (Contains-there j i ids m)) f
-    start_fails same seen counts all short = tt
+    start_fails same seen counts all short = ((λ q. cc), tt)
 
   -- starting fails
   pub start_fault : (plan : TopoPlan F) (first : Walk F) → HasBegun objects faulty plan first.counting → plan_of first ≡ plan → (ids : List ObjectId) → ((i : ObjectId) → Contains ids i → Contains plan.tips i) → (e : Error) → IsStartFault objects faulty first ids e → IsBuildFault objects faulty plan e
