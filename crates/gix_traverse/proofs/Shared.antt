@@ -8,6 +8,10 @@ pub mod HeldRows
 pub mod Orders
 -- A commit that reads whole gives the same parents by its items and by its row.
 pub mod ReadsWhole
+-- A commit that reads whole has the parents that its text names.
+pub mod TextParents
+-- What was drawn to its end, one answer after the other.
+pub mod Drained
 -- A fault of a committer is found exactly where no commit is read.
 pub mod Committer
 -- A committer is read exactly where a commit is read, with the commit's time.

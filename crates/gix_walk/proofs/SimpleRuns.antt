@@ -1,6 +1,6 @@
 -- What a simple walk over records gives that is drawn to its end, by what commits reach.
 use Rattle.std.specs.Prelude.{◌≡◌, ◌≢◌, ◌↔◌, ℤ, List, [], ◌∷◌, ◌++◌, map, filter, Bool, true, false, ◌&&◌, cond, Option, Some, None, Result, Ok, Err, Contains, All, IsSome, not}
-use Rattle.std.specs.Iterator.{Yields}
+use Rattle.std.specs.Iterator.{Drains, Yields}
 use Rattle.std.specs.List.{AllZip}
 use Rattle.std.proofs.Math.Path.{transport}
 use Rattle.std.proofs.Common.{refl, sym, ap, subst, ◌∙◌, ⊎_elim, inl, inr}
@@ -22,7 +22,7 @@ use Rattle.gix_traverse.specs.History.Commits.{ReadsWhole, commit_at, parents_of
 use Rattle.gix_traverse.specs.History.Reach.{Reaches, start, step, Tells}
 use Rattle.gix_traverse.specs.Simple.Building.{IsBuilt, made, breadth_first, by_time, hides, recent, timed}
 use Rattle.gix_traverse.specs.Simple.Laws.{AnswersBy, AreDistinct, IsFresh, IsGiven, IsNoRefusal, IsNewWalk, IsWholeRun, GivesInOrder, kept_parents, new_ids, next_of, starts_of, IsInOrder}
-use Rattle.gix_traverse.specs.Simple.Walk.{May, is_older, unhidden, paints, faulty_history, no_memory, cutoff, ids_of, time_order}
+use Rattle.gix_traverse.specs.Simple.Walk.{is_older, unhidden, paints, faulty_history, no_memory, cutoff, ids_of, time_order}
 use Rattle.gix_traverse.proofs.Shared.NewIds.{among-filter, times_among, times-fresh}
 use Rattle.gix_traverse.proofs.Shared.Rows.{none_agree}
 use Rattle.gix_traverse.proofs.Simple.Builders.{built}
@@ -49,10 +49,6 @@ recent_all objects (p ∷ ps) = ap (λ is. p.id ∷ is) (recent_all objects ps)
 pub reach_more : (next : ObjectId → List ObjectId) (xs ys : List ObjectId) → ((i : ObjectId) → Contains xs i → Contains ys i) → (i : ObjectId) → Reaches next xs i → Reaches next ys i
 reach_more next xs ys f i (start s) = start (f i s)
 reach_more next xs ys f i (step {c = c} r n) = step (reach_more next xs ys f c r) n
-
-pub may_from : (walk at new : Walk) (list : List (Result Info Error)) → Yields Answers walk list at → Answers at None new → May objects_of never_faulty accepts_all walk list
-may_from walk at new [] h n = (new, subst (λ w. Answers w None new) (sym h) n)
-may_from walk at new (answer ∷ list) h n = (h.0, h.1, may_from h.0 at new list h.2 n)
 
 unrefused : (infos : List Info) → All IsNoRefusal (given infos)
 unrefused [] = All-nil IsNoRefusal
@@ -190,7 +186,7 @@ module _ (objects : Objects) (by : Sorting) (tips hidden : List ObjectId) (walk 
         };
         agreeing = none_agree objects [] refl;
         unrefused = unrefused infos;
-        drawn = subst (λ w. May objects_of never_faulty accepts_all w (given infos)) same (may_from walk at new (given infos) drawn ended);
+        drawn = subst (λ w. Drains Answers w (given infos)) same (new, (at, drawn, ended));
       }
         where
           both : (j : ObjectId) → Contains (ids_of walk.pending ++ hidden) j → Contains (tips ++ hidden) j

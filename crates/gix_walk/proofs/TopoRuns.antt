@@ -19,7 +19,7 @@ use Rattle.gix_traverse.specs.declared.commit.topo.Sorting.{Sorting}
 use Rattle.gix_traverse.specs.History.Commits.{parents_of}
 use Rattle.gix_traverse.specs.History.Reach.{step}
 use Rattle.gix_traverse.specs.Topo.Laws.{IsNoRefusal, IsTakenInOrder, IsGiven, IsWholeRun, GivesInOrder}
-use Rattle.gix_traverse.specs.Topo.Walk.{TopoPlan, IsFault, IsFirstReady, IsNextReady, IsSound, May, ended, given, refused, failed}
+use Rattle.gix_traverse.specs.Topo.Walk.{TopoPlan, IsFault, IsFirstReady, IsNextReady, IsSound, ended, given, refused, failed}
 use Rattle.gix_traverse.proofs.Shared.Rows.{none_agree}
 use Rattle.gix_traverse.proofs.Topo.Run.Corollaries.{once}
 use Rattle.gix_traverse.proofs.Topo.Run.Theorem.{gives}
@@ -34,10 +34,6 @@ use Rattle.gix_walk.specs.Walked.{Ends, finished, failed as fell, cut_short, obj
 use Rattle.gix_walk.specs.Words.{Commits}
 use Rattle.gix_walk.proofs.CommitRuns.{served_so, ends_well, lines_by_ids}
 use Rattle.gix_walk.proofs.SimpleRuns.{reach_more, whole_from}
-
-may_from : (walk at new : Walk) (list : List (Result Info Error)) → Yields Answers walk list at → Answers at None new → May objects_of never_faulty accepts_all walk list
-may_from walk at new [] h n = (new, subst (λ w. Answers w None new) (sym h) n)
-may_from walk at new (answer ∷ list) h n = (h.0, h.1, may_from h.0 at new list h.2 n)
 
 unrefused : (infos : List Info) → All IsNoRefusal (all_given infos)
 unrefused [] = All-nil IsNoRefusal
@@ -109,7 +105,7 @@ module _ (objects : Objects) (by : Sorting) (tips ends : List ObjectId) (whole :
           started = built.1;
           sound = subst (IsSound objects_of never_faulty) (sym built.0.plan) sound;
           unrefused = unrefused infos;
-          drawn = may_from walk h.0 new (all_given infos) h.1 h.2;
+          drawn = (new, h);
         } in
         let g : GivesInOrder objects_of walk.plan (λ i. true) (all_given infos) = gives objects_of never_faulty accepts_all (λ i. true) walk (all_given infos) run in
         let order : IsTakenInOrder objects_of (plan_from objects by tips ends) g.ids = subst (λ plan. IsTakenInOrder objects_of plan g.ids) built.0.plan g.in_order in

@@ -1,6 +1,7 @@
 -- No id is asked about twice, whatever faults come, and only ids that tips, rows and stored texts name.
 use Rattle.std.specs.Prelude.{◌≡◌, ◌⊎◌, ℕ, ℤ, List, [], ◌∷◌, ◌++◌, map, Bool, true, false, not, ◌&&◌, ◌||◌, Option, Result, Contains}
 use Rattle.std.proofs.Common.{refl, sym, ap, subst, inl, inr, ⊎_elim, ◌∙◌}
+use Rattle.std.specs.Iterator.{Yields}
 use Rattle.std.specs.List.{flat_map}
 use Rattle.std.proofs.lemmas.Bool.{true≢false, or_right, or_left}
 use Rattle.std.proofs.lemmas.List.Elements.{Contains-append_cases}
@@ -19,7 +20,7 @@ use Rattle.gix_traverse.specs.declared.commit.simple.pending.Pending.{Pending}
 use Rattle.gix_traverse.specs.Simple.Walk.{SimpleWalk, Treated, bare, scanned, kept_rows, unrowed, asked, IsNew, Asks, remembers, asks, Treats, hidden, known, refused, accepted, store_fails, no_memory, no_memory_after, TreatsAll, none, more, stops, IsMade, Concludes, given, broken, Takes, by_row, by_store, not_found, Steps, ended, took, painted, Next, unhidden, paints, faulty_history}
 use Rattle.gix_traverse.specs.Simple.Building.{outdated, timed, IsBuilt, made, breadth_first, by_time, hides, walks, reads}
 use Rattle.gix_traverse.specs.Simple.Laws.{AreDistinct, named_in}
-use Rattle.gix_traverse.specs.Simple.Runs.{Drawn, AsksOnce}
+use Rattle.gix_traverse.specs.Simple.Runs.{AsksOnce}
 use Rattle.gix_traverse.specs.Simple.Walk as walk_of
 use Rattle.gix_traverse.specs.Topo.Laws.{AsksAll}
 use Rattle.gix_traverse.specs.Topo.Laws as topo
@@ -162,8 +163,8 @@ module _ {F P : Type 0} (objects : F → Objects) (faulty : F → ObjectId → T
   next_asked w (faulty_history some tips_given left fault) n a = (same_asked refl refl refl a, record { store = refl; parents = refl; rows = left })
   next_asked w (no_memory some tips_given left) n a = (same_asked refl refl refl a, record { store = refl; parents = refl; rows = left })
 
-  drawn_asked : (list : List (Result Info Error)) (w new : SimpleWalk F P) → Drawn objects faulty answers w list new → Names w → Asked w → Asked new
-  drawn_asked [] w new d n a = subst Asked (sym d) a
+  drawn_asked : (list : List (Result Info Error)) (w new : SimpleWalk F P) → Yields (Next objects faulty answers) w list new → Names w → Asked w → Asked new
+  drawn_asked [] w new d n a = subst Asked d a
   drawn_asked (answer ∷ list) w new d n a = let k = next_asked w d.1 n a in drawn_asked list d.0 new d.2 (names_then k.1 n) k.0
 
   module _ (store : F) (tips : List ObjectId) (within : (i : ObjectId) → Contains tips i → is_among i named ≡ true) where
@@ -188,7 +189,7 @@ module _ {F P : Type 0} (objects : F → Objects) (faulty : F → ObjectId → T
 
 -- the law
 pub asks_once : {F P : Type 0} (objects : F → Objects) (faulty : F → ObjectId → Type 0) (answers : P → ObjectId → Bool → P → Type 0) (store : F) (predicate : P) (tips : List ObjectId) (walk new : SimpleWalk F P) (list : List (Result Info Error))
-    → IsBuilt objects faulty answers store predicate tips walk → Drawn objects faulty answers walk list new → AsksOnce answers (tips ++ named_in objects walk) predicate new.predicate
+    → IsBuilt objects faulty answers store predicate tips walk → Yields (Next objects faulty answers) walk list new → AsksOnce answers (tips ++ named_in objects walk) predicate new.predicate
 asks_once objects faulty answers store predicate tips walk new list built drawn =
     let all : List ObjectId = tips ++ named_in objects walk in
     let start = built_asked objects faulty answers predicate all store tips (λ i m. among-append i tips (named_in objects walk) ∙ or_left _ _ (among_from i tips m)) built in

@@ -18,7 +18,7 @@ use Rattle.gix_traverse.specs.Orders.TimeOrder.{IsTimeOrder, IsPending, IsBest}
 use Rattle.gix_traverse.specs.History.Reach.{Reaches, start, step, Tells}
 use Rattle.gix_traverse.specs.History.Agreeing.{IsAgreeing}
 use Rattle.gix_traverse.specs.History.Commits.{time_of, parents_of, walked_parents}
-use Rattle.gix_traverse.specs.Simple.Walk.{SimpleWalk, IsInfo, ids_of, time_order, cutoff, is_older, May}
+use Rattle.gix_traverse.specs.Simple.Walk.{SimpleWalk, IsInfo, ids_of, time_order, cutoff, is_older}
 use Rattle.gix_traverse.specs.Simple.Laws.{AreDistinct, IsGiven, IsRowGeneration, IsInOrder, GivesInOrder, IsWholeRun, starts_of, next_of, is_kept, kept_parents, accepted_parents, recent_parents, IsPlain, IsPlainRun}
 use Rattle.gix_parts.proofs.Ids.Membership.{among_from, among_is, Contains-here, Contains-cons_cases, no_member}
 use Rattle.gix_traverse.proofs.Shared.NewIds.{among-filter, named-push}

@@ -5,6 +5,7 @@ use Rattle.std.proofs.lemmas.List.Sorted.{length_permutation}
 use Rattle.std.proofs.lemmas.Bool.{true≢false, or_right, or_left}
 use Rattle.std.specs.FinMap as map_of
 use Rattle.std.specs.FinSet as set
+use Rattle.std.specs.Iterator.{Yields}
 use Rattle.gix_parts.specs.declared.hash.ObjectId.{ObjectId}
 use Rattle.gix_parts.specs.declared.object.Kind.TheVariants as object
 use Rattle.gix_parts.specs.declared.object.decode.Error.{Error as DecodeError}
@@ -16,7 +17,7 @@ use Rattle.gix_traverse.specs.declared.commit.Info.{Info}
 use Rattle.gix_traverse.specs.declared.commit.simple.CommitTimeOrder.{CommitTimeOrder}
 use Rattle.gix_traverse.specs.declared.commit.simple.Error.{Error}
 use Rattle.gix_traverse.specs.declared.commit.simple.pending.Pending.{Pending}
-use Rattle.gix_traverse.specs.Simple.Walk.{SimpleWalk, Treated, Holds, time_order, cutoff, unrowed, kept_rows, scanned, asked, Enqueues, dropped, enqueued, IsNew, Treats, hidden, known, refused, accepted, store_fails, no_memory, no_memory_after, TreatsAll, none, more, stops, Concludes, given, broken, Takes, by_row, by_store, not_found, Chooses, first, best, Steps, took, painted, Next, unhidden, paints, faulty_history, May}
+use Rattle.gix_traverse.specs.Simple.Walk.{SimpleWalk, Treated, Holds, time_order, cutoff, unrowed, kept_rows, scanned, asked, Enqueues, dropped, enqueued, IsNew, Treats, hidden, known, refused, accepted, store_fails, no_memory, no_memory_after, TreatsAll, none, more, stops, Concludes, given, broken, Takes, by_row, by_store, not_found, Chooses, first, best, Steps, took, painted, Next, unhidden, paints, faulty_history}
 use Rattle.gix_traverse.specs.Simple.Laws.{named_in, answers_left}
 use Rattle.gix_parts.proofs.Ids.Membership.{id_total, same_is, among-append, among_from, Contains-here, Contains-there}
 use Rattle.gix_traverse.proofs.Shared.NewIds.{fresh, fresh_agree, new_less, among_flat}
@@ -186,9 +187,9 @@ module _ {F P : Type 0} (objects : F → Objects) (faulty : F → ObjectId → T
       omega arith
 
   -- a list that may follow a walk is no longer than that
-  pub may_left : (list : List (Result Info Error)) (w : SimpleWalk F P) → May objects faulty answers w list → length list ≤ answers_left objects w
-  may_left [] w may = Prim.Native.Nat.zero-le
-  may_left (answer ∷ list) w may =
-      let a : suc (answers_left objects may.0) ≤ answers_left objects w = next_left w may.1 in
-      let b : length list ≤ answers_left objects may.0 = may_left list may.0 may.2 in
+  pub drawn_left : (list : List (Result Info Error)) (w new : SimpleWalk F P) → Yields (Next objects faulty answers) w list new → length list ≤ answers_left objects w
+  drawn_left [] w new d = Prim.Native.Nat.zero-le
+  drawn_left (answer ∷ list) w new d =
+      let a : suc (answers_left objects d.0) ≤ answers_left objects w = next_left w d.1 in
+      let b : length list ≤ answers_left objects d.0 = drawn_left list d.0 new d.2 in
       omega arith

@@ -1,6 +1,7 @@
 -- A walk that was just made, breadth first, and drawn to its end.
 use Rattle.std.specs.Prelude.{◌≡◌, List, filter, Bool, false, None, Result, All}
 use Rattle.std.proofs.Common.{sym, subst}
+use Rattle.std.specs.Iterator.{Drains}
 use Rattle.std.specs.List.{AllZip}
 use Rattle.gix_parts.specs.declared.hash.ObjectId.{ObjectId}
 use Rattle.gix_parts.specs.Object.{Objects}
@@ -11,7 +12,7 @@ use Rattle.gix_traverse.specs.declared.commit.simple.Error.{Error}
 use Rattle.gix_traverse.specs.Orders.BreadthOrder.{IsBreadthOrder}
 use Rattle.gix_traverse.specs.History.Commits.{ReadsWhole, time_of}
 use Rattle.gix_traverse.specs.History.Reach.{Reaches}
-use Rattle.gix_traverse.specs.Simple.Walk.{SimpleWalk, IsMade, May, ids_of, time_order}
+use Rattle.gix_traverse.specs.Simple.Walk.{SimpleWalk, IsMade, Next, ids_of, time_order}
 use Rattle.gix_traverse.specs.Simple.Laws.{AnswersBy, IsNoRefusal, IsPlain, GivesBreadthFirst, accepted_parents, new_ids}
 use Rattle.gix_traverse.proofs.Simple.Corollaries.{breadth, each_once}
 use Rattle.gix_traverse.proofs.Simple.Tips.{is_new_walk}
@@ -29,7 +30,7 @@ module _ {F P : Type 0} (objects : F → Objects) (faulty : F → ObjectId → T
 
   pub made_run : (store : F) (predicate : P) (tips : List ObjectId) (walk : SimpleWalk F P) → AnswersBy answers predicate accepts → IsMade objects faulty answers store predicate tips walk
       → ((i : ObjectId) → Reaches (accepted_parents (objects store) mode.All accepts) (new_ids (λ i. false) (filter accepts tips)) i → ReadsWhole (objects store) i)
-      → All IsNoRefusal list → May objects faulty answers walk list
+      → All IsNoRefusal list → Drains (Next objects faulty answers) walk list
       → GivesBreadthFirst (objects store) (accepted_parents (objects store) mode.All accepts) (new_ids (λ i. false) (filter accepts tips)) list
   unfolding Drawn Whole
   made_run store predicate tips walk by_test made whole unrefused may =

@@ -1,40 +1,114 @@
 -- The generations that a walk gives are the generations of its rows, up to where a corrupt row drops the rows.
-use Rattle.std.specs.Prelude.{◌≡◌, ◌⊎◌, ℕ, ℤ, suc, List, [], ◌∷◌, length, Bool, true, false, Option, Some, None, Result, Ok, Err, All}
+use Rattle.std.specs.Prelude.{◌≡◌, ◌⊎◌, ℕ, ℤ, suc, List, [], ◌∷◌, ◌++◌, filter, length, Bool, true, false, not, cond, Option, Some, None, Result, Ok, Err, All, Contains}
 use Rattle.std.specs.Option.{option_map}
 use Rattle.std.proofs.Common.{refl, sym, ap, subst, inl, inr, ⊎_elim, ◌∙◌, arith}
 use Rattle.std.proofs.Math.Path.{transport}
-use Rattle.std.proofs.lemmas.List.Sorted.{length_permutation}
-use Rattle.std.proofs.lemmas.List.Elements.{recursion_from_All, All-from_recursion}
+use Rattle.std.proofs.lemmas.List.{map-append}
+use Rattle.std.proofs.lemmas.List.Sorted.{length_permutation, Contains-permutation, IsPermutation-map, IsPermutation-sym}
+use Rattle.std.proofs.lemmas.List.Elements.{recursion_from_All, All-from_recursion, Contains-append_cases}
+use Rattle.std.specs.FinSet as set
+use Rattle.std.specs.Iterator.{Yields}
 use Rattle.gix_parts.specs.declared.hash.ObjectId.{ObjectId}
 use Rattle.gix_parts.specs.declared.object.decode.Error.{Error as DecodeError}
+use Rattle.gix_parts.specs.CommitItems.{Item, Tree, Parent, Author, Committer, Rest, commit_items}
+use Rattle.gix_parts.specs.Id.{kind_of}
 use Rattle.gix_parts.specs.Object.{Objects}
 use Rattle.gix_parts.specs.Rows.{GraphRow, row_of}
 use Rattle.gix_traverse.specs.declared.commit.Info.{Info}
+use Rattle.gix_traverse.specs.declared.commit.Parents.{Parents}
+use Rattle.gix_traverse.specs.declared.commit.Parents.TheVariants as mode
+use Rattle.gix_traverse.specs.declared.commit.simple.CommitTimeOrder.{CommitTimeOrder}
 use Rattle.gix_traverse.specs.declared.commit.simple.Error.{Error}
 use Rattle.gix_traverse.specs.declared.commit.simple.pending.Pending.{Pending}
 use Rattle.gix_traverse.specs.History.Agreeing.{IsAgreeing}
-use Rattle.gix_traverse.specs.History.Commits.{parents_of}
-use Rattle.gix_traverse.specs.Simple.Painting.{DropsBy}
-use Rattle.gix_traverse.specs.Simple.Walk.{SimpleWalk, Treated, ids_at, rows_if, kept_rows, ids_of, IsUnrowed, Treats, hidden, known, refused, accepted, store_fails, no_memory, no_memory_after, TreatsAll, none, more, stops, Concludes, given, broken, Takes, by_row, by_store, not_found, first, best, Steps, took, painted, Next, unhidden, paints, faulty_history}
-use Rattle.gix_traverse.specs.Simple.Runs.{Drawn, IsTold, IsUntold, HasCorruptRow, TellsGenerations}
+use Rattle.gix_traverse.specs.History.Commits.{ReadsWhole, by_mode}
+use Rattle.gix_traverse.specs.History.Reach.{Reaches, start, step}
+use Rattle.gix_traverse.specs.Simple.Walk.{SimpleWalk, Treated, Holds, time_order, scanned, ids_at, rows_if, kept_rows, unrowed, ids_of, IsUnrowed, Treats, hidden, known, refused, accepted, dropped, enqueued, store_fails, no_memory, no_memory_after, TreatsAll, none, more, stops, Concludes, given, broken, Takes, by_row, by_store, not_found, Chooses, first, best, Steps, took, painted, Next, unhidden, paints, faulty_history}
+use Rattle.gix_traverse.specs.Simple.Runs.{IsTold, IsUntold, IsAbout, HasCorruptRow, PaintingDrops, TellsGenerations}
+use Rattle.gix_traverse.specs.Topo.Walk.{text_next, next_in}
+use Rattle.gix_parts.proofs.Ids.Membership.{no_member, Contains-here, Contains-there, Contains-cons_cases}
 use Rattle.gix_traverse.proofs.Painting.Invariant.{own_history}
-use Rattle.gix_traverse.proofs.Shared.ReadsWhole.{row_stands, corrupt_row}
+use Rattle.gix_traverse.proofs.Shared.ReadsWhole.{row_stands, row_parents, corrupt_row}
+use Rattle.gix_traverse.proofs.Shared.TextParents.{text_whole}
+
+-- the parents that are scanned are those that are walked, of all that are named
+scan_by : (m : Parents) (items : List (Result Item DecodeError)) → (scanned m items).0 ≡ by_mode m (scanned mode.All items).0
+scan_by mode.All items = refl
+scan_by mode.First [] = refl
+scan_by mode.First (Err e ∷ items) = refl
+scan_by mode.First (Ok (Tree i) ∷ items) = scan_by mode.First items
+scan_by mode.First (Ok (Parent i) ∷ items) = refl
+scan_by mode.First (Ok (Author line) ∷ items) = refl
+scan_by mode.First (Ok (Committer signature) ∷ items) = refl
+scan_by mode.First (Ok (Rest bytes) ∷ items) = refl
+
+-- what is reached from reached ids
+reaches_from : (next : ObjectId → List ObjectId) (starts tips : List ObjectId) → ((i : ObjectId) → Contains starts i → Reaches next tips i) → (i : ObjectId) → Reaches next starts i → Reaches next tips i
+reaches_from next starts tips f i (start m) = f i m
+reaches_from next starts tips f i (step {c = c} r m) = step (reaches_from next starts tips f c r) m
+
+-- one more becomes pending
+holds_more : (o : Option CommitTimeOrder) (old new : List Pending) (p : Pending) → Holds o (old ++ p ∷ []) new → (i : ObjectId) → Contains (ids_of new) i → Contains (ids_of old) i ⊎ (p.id ≡ i)
+holds_more o old new p h i m = ⊎_elim inl (λ c. inr (⊎_elim (λ e. e) (λ n. absurd (no_member i n)) (Contains-cons_cases i p.id [] c))) (Contains-append_cases (ids_of old) (p.id ∷ []) i (subst (λ ids. Contains ids i) (map-append (λ q. q.id) old (p ∷ [])) (go o h)))
+  where
+    go : (o : Option CommitTimeOrder) → Holds o (old ++ p ∷ []) new → Contains (ids_of (old ++ p ∷ [])) i
+    go None e = subst (λ ps. Contains (ids_of ps) i) e m
+    go (Some order) k = Contains-permutation (ids_of new) (ids_of (old ++ p ∷ [])) i (IsPermutation-sym (ids_of (old ++ p ∷ [])) (ids_of new) (IsPermutation-map (λ q. q.id) (old ++ p ∷ []) new k)) m
+
+-- a part of what is pending
+filter_within : (keeps : Pending → Bool) (ps : List Pending) (i : ObjectId) → Contains (ids_of (filter keeps ps)) i → Contains (ids_of ps) i
+filter_within keeps [] i m = m
+filter_within keeps (p ∷ ps) i m = go (keeps p) (filter_within keeps ps i) m
+  where
+    go : (b : Bool) → (Contains (ids_of (filter keeps ps)) i → Contains (ids_of ps) i) → Contains (ids_of (cond b (p ∷ filter keeps ps) (filter keeps ps))) i → Contains (p.id ∷ ids_of ps) i
+    go true r m = ⊎_elim (λ e. subst (λ x. Contains (x ∷ ids_of ps) i) (sym e) (Contains-here i (ids_of ps))) (λ n. Contains-there i p.id (ids_of ps) (r n)) (Contains-cons_cases i p.id (ids_of (filter keeps ps)) m)
+    go false r m = Contains-there i p.id (ids_of ps) (r m)
 
 module _ {F P : Type 0} (objects : F → Objects) (faulty : F → ObjectId → Type 0) (answers : P → ObjectId → Bool → P → Type 0) where
-  -- treating parents reads the rows, and keeps them
-  one_keeps : (w : SimpleWalk F P) (row : Bool) (i : ObjectId) {how : Treated} {v : SimpleWalk F P} → Treats objects faulty answers w row i how v → (v.rows ≡ w.rows) × (v.store ≡ w.store)
-  one_keeps w row i (hidden e) = (refl, refl)
-  one_keeps w row i (known e) = (refl, refl)
-  one_keeps w row i (refused is_new b) = (refl, refl)
-  one_keeps w row i (accepted is_new b time queues) = (refl, refl)
-  one_keeps w row i (store_fails is_new b time) = (refl, refl)
-  one_keeps w row i no_memory = (refl, refl)
-  one_keeps w row i (no_memory_after is_new b left) = (refl, refl)
+  -- the parents that are walked, as texts name them
+  abbrev text_walked : SimpleWalk F P → ObjectId → List ObjectId
+  text_walked w i = by_mode w.parents (text_next (objects w.store) i)
 
-  all_keep : (row : Bool) {w v : SimpleWalk F P} {ids : List ObjectId} {how : Treated} → TreatsAll objects faulty answers row w ids how v → (v.rows ≡ w.rows) × (v.store ≡ w.store)
-  all_keep row none = (refl, refl)
-  all_keep row (more {old = w} {i = i} t ts) = let a = one_keeps w row i t in let b = all_keep row ts in (b.0 ∙ a.0, b.1 ∙ a.1)
-  all_keep row (stops {old = w} {i = i} ne t) = one_keeps w row i t
+  -- the walk reads the same, and what became pending is Named
+  record Grows (Named : ObjectId → Type 0) (w v : SimpleWalk F P) : Type 0 where
+    store : v.store ≡ w.store
+    rows : v.rows ≡ w.rows
+    parents : v.parents ≡ w.parents
+    tips : v.hidden_tips ≡ w.hidden_tips
+    pending : (i : ObjectId) → Contains (ids_of v.pending) i → Contains (ids_of w.pending) i ⊎ Named i
+
+  grows_then : {Named : ObjectId → Type 0} {w v u : SimpleWalk F P} → Grows Named w v → Grows Named v u → Grows Named w u
+  grows_then a b = record { store = b.store ∙ a.store; rows = b.rows ∙ a.rows; parents = b.parents ∙ a.parents; tips = b.tips ∙ a.tips; pending = λ i m. ⊎_elim (a.pending i) inr (b.pending i m) }
+
+  none_pends : (Named : ObjectId → Type 0) (ps old : List Pending) → ps ≡ [] → (i : ObjectId) → Contains (ids_of ps) i → Contains (ids_of old) i ⊎ Named i
+  none_pends Named ps old e i m = absurd (no_member i (subst (λ qs. Contains (ids_of qs) i) e m))
+
+  one_grows : (Named : ObjectId → Type 0) (w : SimpleWalk F P) (row : Bool) (i : ObjectId) {how : Treated} {v : SimpleWalk F P} → Named i → Treats objects faulty answers w row i how v → Grows Named w v
+  one_grows Named w row i n (hidden e) = record { store = refl; rows = refl; parents = refl; tips = refl; pending = λ j m. inl m }
+  one_grows Named w row i n (known e) = record { store = refl; rows = refl; parents = refl; tips = refl; pending = λ j m. inl m }
+  one_grows Named w row i n (refused is_new b) = record { store = refl; rows = refl; parents = refl; tips = refl; pending = λ j m. inl m }
+  one_grows Named w row i n (accepted is_new b time (dropped e)) = record { store = refl; rows = refl; parents = refl; tips = refl; pending = λ j m. inl m }
+  one_grows Named w row i n (accepted {time = at} is_new b time (enqueued {new = new} e holds)) = record {
+    store = refl;
+    rows = refl;
+    parents = refl;
+    tips = refl;
+    pending = λ j m. ⊎_elim inl (λ s. inr (subst Named s n)) (holds_more (time_order w.parents w.sorting) w.pending new (record { id = i; time = at }) holds j m);
+  }
+  one_grows Named w row i n (store_fails is_new b time) = record { store = refl; rows = refl; parents = refl; tips = refl; pending = λ j m. inl m }
+  one_grows Named w row i n no_memory = record { store = refl; rows = refl; parents = refl; tips = refl; pending = λ j m. inl m }
+  one_grows Named w row i n (no_memory_after {pending = ps} is_new b left) = record {
+    store = refl;
+    rows = refl;
+    parents = refl;
+    tips = refl;
+    pending = λ j m. ⊎_elim (λ e. inl (subst (λ qs. Contains (ids_of qs) j) e m)) (λ e. none_pends Named ps w.pending e j m) left;
+  }
+
+  all_grow : (Named : ObjectId → Type 0) (row : Bool) {w v : SimpleWalk F P} {ids : List ObjectId} {how : Treated} → ((i : ObjectId) → Contains ids i → Named i) → TreatsAll objects faulty answers row w ids how v → Grows Named w v
+  all_grow Named row n none = record { store = refl; rows = refl; parents = refl; tips = refl; pending = λ j m. inl m }
+  all_grow Named row n (more {old = w} {i = i} {ids = ids} t ts) = grows_then (one_grows Named w row i (n i (Contains-here i ids)) t) (all_grow Named row (λ j m. n j (Contains-there j i ids m)) ts)
+  all_grow Named row n (stops {old = w} {i = i} {ids = ids} ne t) = one_grows Named w row i (n i (Contains-here i ids)) t
 
   -- what is given has this id and this generation
   abbrev IsGivenAs : ObjectId → Option ℕ → Result Info Error → Type 0
@@ -42,11 +116,11 @@ module _ {F P : Type 0} (objects : F → Objects) (faulty : F → ObjectId → T
   IsGivenAs i generation (Err e) = Unit {0}
 
   concluded : (i : ObjectId) (ps : List ObjectId) (generation : Option ℕ) (time : Option ℤ) (text : List ℕ) (fault : Option DecodeError) (walk : SimpleWalk F P) {how : Treated} {answer : Result Info Error} {new : SimpleWalk F P}
-      → Concludes objects faulty answers i ps generation time text fault walk how answer new → IsGivenAs i generation answer × (new.rows ≡ walk.rows) × (new.store ≡ walk.store)
-  concluded i ps generation time text fault walk (given f is) = ((is.same_id, is.same_generation), refl, refl)
-  concluded i ps generation time text fault walk (broken f) = (tt, refl, refl)
-  concluded i ps generation time text fault walk store_fails = (tt, refl, refl)
-  concluded i ps generation time text fault walk no_memory = (tt, refl, refl)
+      → (Named : ObjectId → Type 0) → Concludes objects faulty answers i ps generation time text fault walk how answer new → IsGivenAs i generation answer × Grows Named walk new
+  concluded i ps generation time text fault walk Named (given f is) = ((is.same_id, is.same_generation), record { store = refl; rows = refl; parents = refl; tips = refl; pending = λ j m. inl m })
+  concluded i ps generation time text fault walk Named (broken f) = (tt, record { store = refl; rows = refl; parents = refl; tips = refl; pending = λ j m. inl m })
+  concluded i ps generation time text fault walk Named store_fails = (tt, record { store = refl; rows = refl; parents = refl; tips = refl; pending = λ j m. inl m })
+  concluded i ps generation time text fault walk Named no_memory = (tt, record { store = refl; rows = refl; parents = refl; tips = refl; pending = none_pends Named [] walk.pending refl })
 
   told_as : (rows : List GraphRow) (i : ObjectId) (generation : Option ℕ) (answer : Result Info Error) → option_map (λ row. row.generation) (row_of rows i) ≡ generation → IsGivenAs i generation answer → IsTold rows answer
   told_as rows i generation (Ok info) e g = g.1 ∙ sym e ∙ ap (λ j. option_map (λ row. row.generation) (row_of rows j)) (sym g.0)
@@ -68,45 +142,105 @@ module _ {F P : Type 0} (objects : F → Objects) (faulty : F → ObjectId → T
   failed_untold (Ok info) f = absurd f
   failed_untold (Err e) f = tt
 
+  about_as : (i : ObjectId) (generation : Option ℕ) (answer : Result Info Error) → IsGivenAs i generation answer → IsAbout i answer
+  about_as i generation (Ok info) g = g.0
+  about_as i generation (Err x) g = tt
+
+  -- what is pending afterwards is reached
+  record Descends (w new : SimpleWalk F P) : Type 0 where
+    parents : new.parents ≡ w.parents
+    tips : new.hidden_tips ≡ []
+    reached : IsAgreeing (objects w.store) w.rows → (i : ObjectId) → Contains (ids_of new.pending) i → Reaches (text_walked w) (ids_of w.pending) i
+
   -- a step keeps the rows and gives their generation, or drops them for a corrupt row, or fails and is the last
   data Tells (w : SimpleWalk F P) (answer : Result Info Error) (new : SimpleWalk F P) : Type 0 where
-    keeps : new.store ≡ w.store → new.rows ≡ w.rows → IsTold w.rows answer → Tells w answer new
-    loses : new.store ≡ w.store → new.rows ≡ [] → IsUntold answer → (IsAgreeing (objects w.store) w.rows → HasCorruptRow w.rows) → Tells w answer new
+    keeps : new.store ≡ w.store → new.rows ≡ w.rows → Descends w new → IsTold w.rows answer → Tells w answer new
+    loses : new.store ≡ w.store → new.rows ≡ [] → IsUntold answer → (IsAgreeing (objects w.store) w.rows → HasCorruptRow objects w answer ⊎ PaintingDrops objects w) → Tells w answer new
     ends : new.pending ≡ [] → IsFailed answer → Tells w answer new
 
   -- a row that names no ids is corrupt
-  corrupt : (w : SimpleWalk F P) (i : ObjectId) (row : GraphRow) → row_of w.rows i ≡ Some row → ids_at w.rows row.parents ≡ None → IsAgreeing (objects w.store) w.rows → HasCorruptRow w.rows
-  corrupt w i row e n agrees = let c = (row_stands w.rows i row e).0 in record { row = row; present = c; corrupt = corrupt_row (objects w.store) w.rows agrees row c n }
+  corrupt : (w : SimpleWalk F P) (i : ObjectId) (row : GraphRow) (answer : Result Info Error) → row_of w.rows i ≡ Some row → ids_at w.rows row.parents ≡ None → Contains (ids_of w.pending) i → IsAbout i answer → IsAgreeing (objects w.store) w.rows → HasCorruptRow objects w answer
+  corrupt w i row answer e n m about agrees =
+      let c : Contains w.rows row × (i ≡ row.id) = row_stands w.rows i row e in
+      record {
+        row = row;
+        present = subst (λ j. row_of w.rows j ≡ Some row) c.1 e;
+        corrupt = corrupt_row (objects w.store) w.rows agrees row c.0 n;
+        reached = start (subst (Contains (ids_of w.pending)) c.1 m);
+        about = subst (λ j. IsAbout j answer) c.1 about;
+      }
 
-  -- a commit without a row that can be read
-  unrowed_tells : (w : SimpleWalk F P) (i : ObjectId) (answer : Result Info Error) (new : SimpleWalk F P) → IsUnrowed w.rows i → IsGivenAs i None answer → new.store ≡ w.store → new.rows ≡ kept_rows w.rows (row_of w.rows i) → Tells w answer new
-  unrowed_tells w i answer new unrowed g store rows = go (row_of w.rows i) refl
-    where
-      go : (o : Option GraphRow) → row_of w.rows i ≡ o → Tells w answer new
-      go None e = keeps store (rows ∙ ap (kept_rows w.rows) e) (told_as w.rows i None answer (ap (option_map (λ row. row.generation)) e) g)
-      go (Some row) e = let n : ids_at w.rows row.parents ≡ None = unrowed row e in loses store (rows ∙ ap (kept_rows w.rows) e ∙ ap (rows_if w.rows) n) (untold_as i answer g) (corrupt w i row e n)
+  -- the commit that is taken, and the commits that its text names
+  abbrev Reached : SimpleWalk F P → ObjectId → Type 0
+  Reached w i = IsAgreeing (objects w.store) w.rows → Reaches (text_walked w) (ids_of w.pending) i
 
-  takes_tells : (w : SimpleWalk F P) (p : Pending) {answer : Result Info Error} {new : SimpleWalk F P} → Takes objects faulty answers w p answer new → Tells w answer new
-  takes_tells w p {answer} (by_row {row = row} {walk = walk} r e treats concludes) =
-      let k = all_keep true treats in
-      let c = concluded p.id _ _ _ _ _ walk concludes in
-      keeps (c.2 ∙ k.1) (c.1 ∙ k.0) (told_as w.rows p.id (Some row.generation) answer (ap (option_map (λ row. row.generation)) r) c.0)
-  takes_tells w p {answer} {new} (by_store {walk = walk} u e treats concludes) =
-      let k = all_keep false treats in
-      let c = concluded p.id _ _ _ _ _ walk concludes in
-      unrowed_tells w p.id answer new u c.0 (c.2 ∙ k.1) (c.1 ∙ k.0)
-  takes_tells w p {answer} {new} (not_found u fault) = unrowed_tells w p.id answer new u tt refl refl
-  takes_tells w p (no_memory left) = ends refl tt
+  module _ (w : SimpleWalk F P) (p : Pending) (others : List Pending) (chooses : Chooses objects faulty answers w p others) (unhidden_tips : w.hidden_tips ≡ []) where
+    chosen : (i : ObjectId) → Contains (p.id ∷ ids_of others) i → Contains (ids_of w.pending) i
+    chosen i m = go chooses
+      where
+        go : Chooses objects faulty answers w p others → Contains (ids_of w.pending) i
+        go (first t e) = subst (λ ps. Contains (ids_of ps) i) (sym e) m
+        go (best t perm no_worse) = Contains-permutation (p.id ∷ ids_of others) (ids_of w.pending) i (IsPermutation-sym (ids_of w.pending) (p.id ∷ ids_of others) (IsPermutation-map (λ q. q.id) w.pending (p ∷ others) perm)) m
 
-  -- the same, seen from a walk with the same rows and store
-  from_same : {w v : SimpleWalk F P} {answer : Result Info Error} {new : SimpleWalk F P} → v.store ≡ w.store → v.rows ≡ w.rows → Tells v answer new → Tells w answer new
-  from_same {w} {v} {answer} s r (keeps store rows told) = keeps (store ∙ s) (rows ∙ r) (subst (λ rs. IsTold rs answer) r told)
-  from_same {w} {v} s r (loses store rows untold why) = loses (store ∙ s) rows untold (λ agrees. subst HasCorruptRow r (why (transport (λ k. IsAgreeing (objects (sym s k)) (sym r k)) agrees)))
-  from_same s r (ends gone failed) = ends gone failed
+    descends : {new : SimpleWalk F P} (v : SimpleWalk F P) → v.parents ≡ w.parents → v.hidden_tips ≡ w.hidden_tips → v.pending ≡ others → Grows (Reached w) v new → Descends w new
+    descends v parents tips pending g = record {
+      parents = g.parents ∙ parents;
+      tips = g.tips ∙ tips ∙ unhidden_tips;
+      reached = λ agrees i m. ⊎_elim (λ c. start (chosen i (Contains-there i p.id (ids_of others) (subst (λ ps. Contains (ids_of ps) i) pending c)))) (λ n. n agrees) (g.pending i m);
+    }
 
-  steps_tells : (w : SimpleWalk F P) {answer : Result Info Error} {new : SimpleWalk F P} → Steps objects faulty answers w (Some answer) new → Tells w answer new
-  steps_tells w (no_memory some) = ends refl tt
-  steps_tells w (took {taken = p} {others = others} chooses takes) = from_same refl refl (takes_tells (record w { pending = others }) p takes)
+    -- a commit without a row that can be read
+    unrowed_tells : (answer : Result Info Error) {new : SimpleWalk F P} → IsUnrowed w.rows p.id → IsGivenAs p.id None answer → Grows (Reached w) (unrowed (record w { pending = others }) p.id) new → Tells w answer new
+    unrowed_tells answer {new} unread g grows = go (row_of w.rows p.id) refl
+      where
+        go : (o : Option GraphRow) → row_of w.rows p.id ≡ o → Tells w answer new
+        go None e = keeps grows.store (grows.rows ∙ ap (kept_rows w.rows) e) (descends (unrowed (record w { pending = others }) p.id) refl refl refl grows) (told_as w.rows p.id None answer (ap (option_map (λ row. row.generation)) e) g)
+        go (Some row) e =
+            let n : ids_at w.rows row.parents ≡ None = unread row e in
+            loses grows.store (grows.rows ∙ ap (kept_rows w.rows) e ∙ ap (rows_if w.rows) n) (untold_as p.id answer g) (λ agrees. inl (corrupt w p.id row answer e n (chosen p.id (Contains-here p.id (ids_of others))) (about_as p.id None answer g) agrees))
+
+    reached_next : (i : ObjectId) → Contains (text_walked w p.id) i → Reached w i
+    reached_next i m agrees = step (start (chosen p.id (Contains-here p.id (ids_of others)))) m
+
+    takes_tells : {answer : Result Info Error} {new : SimpleWalk F P} → Takes objects faulty answers (record w { pending = others }) p answer new → Tells w answer new
+    takes_tells {answer} (by_row {row = row} {ids = ids} {walk = walk} r e treats concludes) =
+        let c = concluded p.id _ _ _ _ _ walk (Reached w) concludes in
+        let g = grows_then (all_grow (Reached w) true named treats) c.1 in
+        keeps g.store g.rows (descends (record w { pending = others }) refl refl refl g) (told_as w.rows p.id (Some row.generation) answer (ap (option_map (λ row. row.generation)) r) c.0)
+      where
+        named : (i : ObjectId) → Contains (by_mode w.parents ids) i → Reached w i
+        named i m agrees =
+            let k : Contains w.rows row × (p.id ≡ row.id) = row_stands w.rows p.id row r in
+            let whole : ReadsWhole (objects w.store) p.id = subst (ReadsWhole (objects w.store)) (sym k.1) (agrees row k.0).whole in
+            reached_next i (subst (λ those. Contains (by_mode w.parents those) i) (row_parents (objects w.store) w.rows agrees p.id row ids r e ∙ text_whole (objects w.store) p.id whole) m) agrees
+    takes_tells {answer} (by_store {bytes = bytes} {walk = walk} u e treats concludes) =
+        let c = concluded p.id _ _ _ _ _ walk (Reached w) concludes in
+        unrowed_tells answer u c.0 (grows_then (all_grow (Reached w) false named treats) c.1)
+      where
+        named : (i : ObjectId) → Contains (scanned w.parents (commit_items (kind_of p.id) bytes)).0 i → Reached w i
+        named i m = reached_next i (subst (λ ids. Contains ids i) (scan_by w.parents (commit_items (kind_of p.id) bytes) ∙ ap (by_mode w.parents) (sym (ap (next_in p.id) e))) m)
+    takes_tells {answer} (not_found u fault) = unrowed_tells answer u tt (record { store = refl; rows = refl; parents = refl; tips = refl; pending = λ j m. inl m })
+    takes_tells (no_memory left) = ends refl tt
+
+  steps_tells : (w : SimpleWalk F P) {answer : Result Info Error} {new : SimpleWalk F P} → w.hidden_tips ≡ [] → Steps objects faulty answers w (Some answer) new → Tells w answer new
+  steps_tells w tips (no_memory some) = ends refl tt
+  steps_tells w tips (took {taken = p} {others = others} chooses takes) = takes_tells w p others chooses tips takes
+
+  -- a step of a walk that painting left with the same rows
+  module _ (w : SimpleWalk F P) (v : SimpleWalk F P) (store : v.store ≡ w.store) (rows : v.rows ≡ w.rows) (parents : v.parents ≡ w.parents) (tips : v.hidden_tips ≡ []) (pending : (i : ObjectId) → Contains (ids_of v.pending) i → Contains (ids_of w.pending) i) where
+    agree : IsAgreeing (objects w.store) w.rows → IsAgreeing (objects v.store) v.rows
+    agree agrees = transport (λ k. IsAgreeing (objects (sym store k)) (sym rows k)) agrees
+
+    reaches : (i : ObjectId) → Reaches (text_walked v) (ids_of v.pending) i → Reaches (text_walked w) (ids_of w.pending) i
+    reaches i r = reaches_from (text_walked w) (ids_of v.pending) (ids_of w.pending) (λ j m. start (pending j m)) i (transport (λ k. Reaches (λ j. by_mode (parents k) (text_next (objects (store k)) j)) (ids_of v.pending) i) r)
+
+    from_same : {answer : Result Info Error} {new : SimpleWalk F P} → Tells v answer new → Tells w answer new
+    from_same {answer} (keeps s r d told) = keeps (s ∙ store) (r ∙ rows) (record { parents = d.parents ∙ parents; tips = d.tips; reached = λ agrees i m. reaches i (d.reached (agree agrees) i m) }) (subst (λ rs. IsTold rs answer) rows told)
+    from_same {answer} (loses s r untold why) = loses (s ∙ store) r untold (λ agrees. ⊎_elim (λ c. inl (carried c)) (λ d. absurd (d.0 tips)) (why (agree agrees)))
+      where
+        carried : HasCorruptRow objects v answer → HasCorruptRow objects w answer
+        carried c = record { row = c.row; present = subst (λ rs. row_of rs c.row.id ≡ Some c.row) rows c.present; corrupt = c.corrupt; reached = reaches c.row.id c.reached; about = c.about }
+    from_same (ends gone failed) = ends gone failed
 
   -- without rows no generation is given
   told_none : (answer : Result Info Error) → IsTold [] answer → IsUntold answer
@@ -127,29 +261,31 @@ module _ {F P : Type 0} (objects : F → Objects) (faulty : F → ObjectId → T
 
   -- without rows none is given from here on
   rowless : {w : SimpleWalk F P} {answer : Result Info Error} {new : SimpleWalk F P} → w.rows ≡ [] → Tells w answer new → IsUntold answer × ((new.rows ≡ []) ⊎ (new.pending ≡ []))
-  rowless {answer = answer} empty (keeps store rows told) = (told_none answer (subst (λ rs. IsTold rs answer) empty told), inl (rows ∙ empty))
+  rowless {answer = answer} empty (keeps store rows below told) = (told_none answer (subst (λ rs. IsTold rs answer) empty told), inl (rows ∙ empty))
   rowless empty (loses store rows untold why) = (untold, inl rows)
   rowless {answer = answer} empty (ends gone failed) = (failed_untold answer failed, inr gone)
 
-  -- painting drops the rows for a corrupt one
-  has_corrupt : (w : SimpleWalk F P) → DropsBy (parents_of (objects w.store)) w.rows (ids_of w.pending) w.hidden_tips → HasCorruptRow w.rows
-  has_corrupt w d = record { row = d.row; present = (row_stands w.rows d.row.id d.row d.present).0; corrupt = d.corrupt }
-
   next_tells : (w : SimpleWalk F P) {answer : Result Info Error} {new : SimpleWalk F P} → Next objects faulty answers w (Some answer) new → Tells w answer new
-  next_tells w (unhidden unpainted steps) = from_same refl refl (steps_tells (record w { hidden_tips = [] }) steps)
-  next_tells w {answer} {new} (paints {marks = marks} {rows = rows} some tips_given paint steps) = ⊎_elim (λ e. from_same refl e tells) (λ e. go w.rows refl e) paint.rows_left
+  next_tells w (unhidden unpainted steps) = from_same w (record w { hidden_tips = [] }) refl refl refl refl (λ i m. m) (steps_tells (record w { hidden_tips = [] }) refl steps)
+  next_tells w {answer} {new} (paints {marks = marks} {rows = rows} some tips_given paint steps) = ⊎_elim same (λ e. go w.rows refl e) paint.rows_left
     where
-      tells : Tells (painted objects faulty answers w marks rows) answer new
-      tells = steps_tells (painted objects faulty answers w marks rows) steps
+      v : SimpleWalk F P
+      v = painted objects faulty answers w marks rows
 
-      after : (empty : rows ≡ []) → (IsAgreeing (objects w.store) w.rows → HasCorruptRow w.rows) → Tells (painted objects faulty answers w marks rows) answer new → Tells w answer new
-      after empty why (keeps store left told) = loses store (left ∙ empty) (told_none answer (subst (λ rs. IsTold rs answer) empty told)) why
-      after empty why (loses store left untold other) = loses store left untold why
+      tells : Tells v answer new
+      tells = steps_tells v refl steps
+
+      same : rows ≡ w.rows → Tells w answer new
+      same e = from_same w v refl e refl refl (filter_within (λ p. not (set.contains marks p.id)) w.pending) tells
+
+      after : (empty : rows ≡ []) → (IsAgreeing (objects w.store) w.rows → PaintingDrops objects w) → Tells v answer new → Tells w answer new
+      after empty why (keeps store left below told) = loses store (left ∙ empty) (told_none answer (subst (λ rs. IsTold rs answer) empty told)) (λ agrees. inr (why agrees))
+      after empty why (loses store left untold other) = loses store left untold (λ agrees. inr (why agrees))
       after empty why (ends gone failed) = ends gone failed
 
       go : (those : List GraphRow) → w.rows ≡ those → rows ≡ [] → Tells w answer new
-      go [] f e = from_same refl (e ∙ sym f) tells
-      go (row ∷ those) f e = after e (λ agrees. has_corrupt w ((paint.marked (objects w.store) (own_history (objects w.store) (faulty w.store) w.rows agrees)).drops (λ same. let bad : [] ≡ row ∷ those = sym e ∙ same ∙ f in cc))) tells
+      go [] f e = same (e ∙ sym f)
+      go (row ∷ those) f e = after e (λ agrees. (tips_given, (paint.marked (objects w.store) (own_history (objects w.store) (faulty w.store) w.rows agrees)).drops (λ same. let bad : [] ≡ row ∷ those = sym e ∙ same ∙ f in cc))) tells
   next_tells w (faulty_history some tips_given left fault) = ends refl tt
   next_tells w (no_memory some tips_given left) = ends refl tt
 
@@ -157,27 +293,49 @@ module _ {F P : Type 0} (objects : F → Objects) (faulty : F → ObjectId → T
   all_with A answer list a all = All-from_recursion A (answer ∷ list) (a, recursion_from_All A list all)
 
   -- nothing follows a walk with no pending commits
-  nothing_more : (list : List (Result Info Error)) (w new : SimpleWalk F P) → Drawn objects faulty answers w list new → w.pending ≡ [] → list ≡ []
+  nothing_more : (list : List (Result Info Error)) (w new : SimpleWalk F P) → Yields (Next objects faulty answers) w list new → w.pending ≡ [] → list ≡ []
   nothing_more [] w new d empty = refl
   nothing_more (answer ∷ list) w new d empty = absurd (pends w d.1 empty)
 
-  all_untold : (list : List (Result Info Error)) (w new : SimpleWalk F P) → Drawn objects faulty answers w list new → w.rows ≡ [] → All IsUntold list
+  all_untold : (list : List (Result Info Error)) (w new : SimpleWalk F P) → Yields (Next objects faulty answers) w list new → w.rows ≡ [] → All IsUntold list
   all_untold [] w new d empty = All-from_recursion IsUntold [] tt
   all_untold (answer ∷ list) w new d empty =
       let k = rowless empty (next_tells w d.1) in
       all_with IsUntold answer list k.0 (⊎_elim (λ r. all_untold list d.0 new d.2 r) (λ gone. subst (All IsUntold) (sym (nothing_more list d.0 new d.2 gone)) (All-from_recursion IsUntold [] tt)) k.1)
 
   -- the law
-  pub tells_generations : (list : List (Result Info Error)) (w new : SimpleWalk F P) → Drawn objects faulty answers w list new → TellsGenerations (objects w.store) (faulty w.store) w.rows list
-  tells_generations [] w new d = record { before = []; behind = []; parts = refl; told = All-from_recursion (IsTold w.rows) [] tt; untold = All-from_recursion IsUntold [] tt; dropped = inl refl }
+  pub tells_generations : (list : List (Result Info Error)) (w new : SimpleWalk F P) → Yields (Next objects faulty answers) w list new → TellsGenerations objects w list
+  tells_generations [] w new d = record { before = []; behind = []; parts = refl; told = All-from_recursion (IsTold w.rows) [] tt; untold = All-from_recursion IsUntold [] tt; dropped = λ a rest e agrees. cc }
   tells_generations (answer ∷ list) w new d = go (next_tells w d.1) (tells_generations list d.0 new d.2)
     where
-      go : Tells w answer d.0 → TellsGenerations (objects d.0.store) (faulty d.0.store) d.0.rows list → TellsGenerations (objects w.store) (faulty w.store) w.rows (answer ∷ list)
-      go (keeps store rows told) r =
-          let rest : TellsGenerations (objects w.store) (faulty w.store) w.rows list = transport (λ k. TellsGenerations (objects (store k)) (faulty (store k)) (rows k) list) r in
-          record { before = answer ∷ rest.before; behind = rest.behind; parts = ap (λ xs. answer ∷ xs) rest.parts; told = all_with (IsTold w.rows) answer rest.before told rest.told; untold = rest.untold; dropped = rest.dropped }
+      go : Tells w answer d.0 → TellsGenerations objects d.0 list → TellsGenerations objects w (answer ∷ list)
+      go (keeps store rows below told) rest =
+          record {
+            before = answer ∷ rest.before;
+            behind = rest.behind;
+            parts = ap (λ xs. answer ∷ xs) rest.parts;
+            told = all_with (IsTold w.rows) answer rest.before told (subst (λ rs. All (IsTold rs) rest.before) rows rest.told);
+            untold = rest.untold;
+            dropped = λ a more e agrees. inl (⊎_elim (carried agrees a) (λ painting. absurd (painting.1.0 below.tips)) (rest.dropped a more e (transport (λ k. IsAgreeing (objects (sym store k)) (sym rows k)) agrees)));
+          }
+        where
+          carried : IsAgreeing (objects w.store) w.rows → (a : Result Info Error) → HasCorruptRow objects d.0 a → HasCorruptRow objects w a
+          carried agrees a c = record {
+            row = c.row;
+            present = subst (λ rs. row_of rs c.row.id ≡ Some c.row) rows c.present;
+            corrupt = c.corrupt;
+            reached = reaches_from (text_walked w) (ids_of d.0.pending) (ids_of w.pending) (below.reached agrees) c.row.id (transport (λ k. Reaches (λ j. by_mode (below.parents k) (text_next (objects (store k)) j)) (ids_of d.0.pending) c.row.id) c.reached);
+            about = c.about;
+          }
       go (loses store rows untold why) r =
-          record { before = []; behind = answer ∷ list; parts = refl; told = All-from_recursion (IsTold w.rows) [] tt; untold = all_with IsUntold answer list untold (all_untold list d.0 new d.2 rows); dropped = inr why }
+          record {
+            before = [];
+            behind = answer ∷ list;
+            parts = refl;
+            told = All-from_recursion (IsTold w.rows) [] tt;
+            untold = all_with IsUntold answer list untold (all_untold list d.0 new d.2 rows);
+            dropped = λ a rest e agrees. ⊎_elim (λ c. inl (subst (HasCorruptRow objects w) (let same : answer ≡ a = cc in same) c)) (λ painting. inr (refl, painting)) (why agrees);
+          }
       go (ends gone failed) r =
           record {
             before = answer ∷ [];
@@ -185,5 +343,5 @@ module _ {F P : Type 0} (objects : F → Objects) (faulty : F → ObjectId → T
             parts = ap (λ xs. answer ∷ xs) (nothing_more list d.0 new d.2 gone);
             told = all_with (IsTold w.rows) answer [] (failed_told w.rows answer failed) (All-from_recursion (IsTold w.rows) [] tt);
             untold = All-from_recursion IsUntold [] tt;
-            dropped = inl refl;
+            dropped = λ a rest e agrees. cc;
           }

@@ -3,6 +3,7 @@ use Rattle.std.specs.Prelude.{◌≡◌, ◌+◌, ◌≤◌, ℕ, ℤ, List, [],
 use Rattle.std.proofs.Common.{refl, sym, ap, subst, ⊎_elim, ◌∙◌, arith, append_assoc, append-nil, le_refl}
 use Rattle.std.proofs.lemmas.Bool.{false_from_ne_true}
 use Rattle.std.specs.FinSet as set
+use Rattle.std.specs.Iterator.{Yields}
 use Rattle.gix_parts.specs.declared.hash.ObjectId.{ObjectId}
 use Rattle.gix_parts.specs.declared.object.decode.Error.{Error as DecodeError}
 use Rattle.gix_parts.specs.Id.{is_same, is_among}
@@ -10,7 +11,7 @@ use Rattle.gix_parts.specs.Object.{Objects}
 use Rattle.gix_traverse.specs.declared.commit.Info.{Info}
 use Rattle.gix_traverse.specs.declared.commit.simple.Error.{Error}
 use Rattle.gix_traverse.specs.declared.commit.simple.pending.Pending.{Pending}
-use Rattle.gix_traverse.specs.Simple.Walk.{SimpleWalk, Treated, Holds, ids_of, time_order, cutoff, asked, Enqueues, dropped, enqueued, IsNew, Treats, hidden, known, refused, accepted, store_fails, no_memory, no_memory_after, TreatsAll, none, more, stops, Concludes, given, broken, Takes, by_row, by_store, not_found, Chooses, first, best, Steps, took, Next, unhidden, paints, faulty_history, May}
+use Rattle.gix_traverse.specs.Simple.Walk.{SimpleWalk, Treated, Holds, ids_of, time_order, cutoff, asked, Enqueues, dropped, enqueued, IsNew, Treats, hidden, known, refused, accepted, store_fails, no_memory, no_memory_after, TreatsAll, none, more, stops, Concludes, given, broken, Takes, by_row, by_store, not_found, Chooses, first, best, Steps, took, Next, unhidden, paints, faulty_history}
 use Rattle.gix_traverse.specs.Simple.Laws.{AreDistinct, given_ids}
 use Rattle.gix_parts.proofs.Ids.Membership.{id_total, same_is, among_is}
 use Rattle.gix_traverse.proofs.Shared.NewIds.{times, times-append, times_none, times_once}
@@ -123,18 +124,18 @@ module _ {F P : Type 0} (objects : F → Objects) (faulty : F → ObjectId → T
   at_most true = omega arith
   at_most false = omega arith
 
-  may_sole : (list : List (Result Info Error)) (done : List ObjectId) (w : SimpleWalk F P) → May objects faulty answers w list → IsSole done w → (i : ObjectId) → times i (done ++ given_ids list) ≤ 1
-  may_sole [] done w may h i =
+  drawn_sole : (list : List (Result Info Error)) (done : List ObjectId) (w new : SimpleWalk F P) → Yields (Next objects faulty answers) w list new → IsSole done w → (i : ObjectId) → times i (done ++ given_ids list) ≤ 1
+  drawn_sole [] done w new d h i =
       let k : times i (ids_of w.pending) + times i done ≤ cond (set.contains w.seen i) 1 0 = h i in
       let b : times i (done ++ []) ≡ times i done = ap (times i) (append-nil done) in
       let c : cond (set.contains w.seen i) 1 0 ≤ 1 = at_most (set.contains w.seen i) in
       omega arith
-  may_sole (answer ∷ list) done w may h i =
+  drawn_sole (answer ∷ list) done w new d h i =
       subst (λ xs. times i xs ≤ 1) (append_assoc done (given_ids (answer ∷ [])) (given_ids list) ∙ ap (λ xs. done ++ xs) (sym (given_cons answer list)))
-      (may_sole list (with_answer done answer) may.0 may.2 (next_sole done w may.1 h) i)
+      (drawn_sole list (with_answer done answer) d.0 new d.2 (next_sole done w d.1 h) i)
 
-  pub never_twice : (w : SimpleWalk F P) (list : List (Result Info Error)) → AreDistinct (ids_of w.pending) → ((i : ObjectId) → Contains (ids_of w.pending) i → set.contains w.seen i ≡ true) → May objects faulty answers w list → AreDistinct (given_ids list)
-  never_twice w list distinct seen may = times_once (given_ids list) (λ i. may_sole list [] w may (λ j. go j (is_among j (ids_of w.pending)) refl (once_times (ids_of w.pending) distinct j)) i)
+  pub never_twice : (w new : SimpleWalk F P) (list : List (Result Info Error)) → AreDistinct (ids_of w.pending) → ((i : ObjectId) → Contains (ids_of w.pending) i → set.contains w.seen i ≡ true) → Yields (Next objects faulty answers) w list new → AreDistinct (given_ids list)
+  never_twice w new list distinct seen d = times_once (given_ids list) (λ i. drawn_sole list [] w new d (λ j. go j (is_among j (ids_of w.pending)) refl (once_times (ids_of w.pending) distinct j)) i)
     where
       go : (j : ObjectId) (b : Bool) → is_among j (ids_of w.pending) ≡ b → times j (ids_of w.pending) ≤ cond b 1 0 → times j (ids_of w.pending) + 0 ≤ cond (set.contains w.seen j) 1 0
       go j true e k = subst (λ b. times j (ids_of w.pending) + 0 ≤ cond b 1 0) (sym (seen j (among_is j _ e))) (omega arith)

@@ -4,6 +4,7 @@ use Rattle.std.proofs.Common.{refl, sym, ap, subst, inl, inr, ⊎_elim, ◌∙�
 use Rattle.std.proofs.lemmas.List.Elements.{All-head, All-filter, All-contains_itself, All-contains}
 use Rattle.std.proofs.lemmas.Bool.{false≢true, true≢false, or_cases, or_right, or_left, cases_Bool, false_from_ne_true, true_from_ne_false, and_left, and_right, and_from, and_parts, not_from_true, not_from_false, not-true}
 use Rattle.std.specs.FinSet as set
+use Rattle.std.specs.Iterator.{Drains}
 use Rattle.gix_parts.specs.declared.hash.ObjectId.{ObjectId}
 use Rattle.gix_parts.specs.Id.{id_cmp, is_same, is_among}
 use Rattle.gix_parts.specs.Object.{Objects}
@@ -19,10 +20,11 @@ use Rattle.gix_traverse.specs.History.Reach.{Reaches, start, step, Tells}
 use Rattle.gix_traverse.specs.History.Agreeing.{IsAgreeing}
 use Rattle.gix_traverse.specs.History.Commits.{time_of, parents_of, commit_of_object, walked_parents, ReadsWhole}
 use Rattle.gix_traverse.specs.declared.commit.simple.pending.Pending.{Pending}
-use Rattle.gix_traverse.specs.Simple.Walk.{SimpleWalk, ids_of, time_order, cutoff, Steps, painted, Next, unhidden, paints, faulty_history, no_memory, May}
+use Rattle.gix_traverse.specs.Simple.Walk.{SimpleWalk, ids_of, time_order, cutoff, Steps, painted, Next, unhidden, paints, faulty_history, no_memory}
 use Rattle.gix_traverse.specs.Simple.Laws.{itself, AnswersBy, AreDistinct, IsFresh, IsNoRefusal, IsInOrder, MeetsWhole, GivesInOrder, starts_of, next_of, is_kept}
 use Rattle.gix_parts.specs.Id.{kind_of}
 use Rattle.gix_parts.specs.CommitItems.{commit_items}
+use Rattle.gix_traverse.proofs.Shared.Drained.{at_end, at_first}
 use Rattle.gix_traverse.proofs.Shared.Committer.{fault_unread}
 use Rattle.gix_traverse.proofs.Painting.Invariant.{own_history}
 use Rattle.gix_parts.proofs.Ids.Membership.{same_is, among_from, among_is, Contains-here, Contains-there, no_member}
@@ -205,10 +207,12 @@ module _ {F P : Type 0} (objects : F → Objects) (faulty : F → ObjectId → T
   ran marks list r = record { ids = r.ids; given = r.given_as; in_order = in_order_from (time_order w.parents w.sorting) (time_of (objects w.store)) next_ids (starts_of w hides) r.ids r.order }
 
   -- the theorem
-  pub gives_in_order : (list : List (Result Info Error)) → All IsNoRefusal list → May objects faulty answers w list → GivesInOrder objects w accepts hides list
-  gives_in_order [] ok may =
-      let b : Begins None may.0 = begins (λ a e. cc) may.1 in
-      ran b.marks [] (run objects faulty answers (setting b.marks) b.known [] b.mid [] b.runs ok (may.0, b.steps))
-  gives_in_order (answer ∷ left) ok may =
-      let b : Begins (Some answer) may.0 = begins (λ a e. let same : answer ≡ a = cc in subst IsNoRefusal same (All-head IsNoRefusal answer left ok)) may.1 in
-      ran b.marks (answer ∷ left) (run objects faulty answers (setting b.marks) b.known (answer ∷ left) b.mid [] b.runs ok (may.0, b.steps, may.2))
+  pub gives_in_order : (list : List (Result Info Error)) → All IsNoRefusal list → Drains (Next objects faulty answers) w list → GivesInOrder objects w accepts hides list
+  gives_in_order [] ok drawn =
+      let end = at_end (Next objects faulty answers) w drawn in
+      let b : Begins None end.0 = begins (λ a e. cc) end.1 in
+      ran b.marks [] (run objects faulty answers (setting b.marks) b.known [] b.mid [] b.runs ok (end.0, b.steps))
+  gives_in_order (answer ∷ left) ok drawn =
+      let first = at_first (Next objects faulty answers) w answer left drawn in
+      let b : Begins (Some answer) first.0 = begins (λ a e. let same : answer ≡ a = cc in subst IsNoRefusal same (All-head IsNoRefusal answer left ok)) first.1 in
+      ran b.marks (answer ∷ left) (run objects faulty answers (setting b.marks) b.known (answer ∷ left) b.mid [] b.runs ok (first.0, b.steps, first.2))

@@ -1,6 +1,7 @@
 -- A whole walk gives what the definitions say.
 use Rattle.std.specs.Prelude.{◌≡◌, ◌≤◌, ℕ, zero, suc, ℤ, List, [], ◌∷◌, ◌++◌, length, take, slice_get, Bool, true, false, ◌&&◌, ◌||◌, Option, Some, None, Result, Err, Contains, All}
 use Rattle.std.proofs.Common.{refl, sym, ap, subst, ⊎_elim, ◌∙◌, arith, append_assoc, append-nil}
+use Rattle.std.specs.Iterator.{Drains}
 use Rattle.std.specs.List.{AllZip}
 use Rattle.std.proofs.lemmas.List.Sorted.{Contains-permutation, IsPermutation-sym}
 use Rattle.std.proofs.lemmas.List.Elements.{All-head, All-tail}
@@ -17,9 +18,10 @@ use Rattle.gix_traverse.specs.Orders.BreadthOrder.{named_by}
 use Rattle.gix_traverse.specs.History.Reach.{Reaches}
 use Rattle.gix_traverse.specs.History.Commits.{time_of, parents_of, walked_parents, ReadsWhole}
 use Rattle.gix_traverse.specs.declared.commit.simple.pending.Pending.{Pending}
-use Rattle.gix_traverse.specs.Simple.Walk.{SimpleWalk, ids_of, time_order, Chooses, first, best, Steps, ended, took, Next, unhidden, paints, faulty_history, no_memory, May}
+use Rattle.gix_traverse.specs.Simple.Walk.{SimpleWalk, ids_of, time_order, Chooses, first, best, Steps, ended, took, Next, unhidden, paints, faulty_history, no_memory}
 use Rattle.gix_traverse.specs.Simple.Laws.{IsNoRefusal, IsGiven}
 use Rattle.gix_parts.proofs.Ids.Membership.{same_is, among-append, among-one, among_is, Contains-here, Contains-there}
+use Rattle.gix_traverse.proofs.Shared.Drained.{at_end, at_first}
 use Rattle.gix_traverse.proofs.Shared.NewIds.{among-filter, named-push}
 use Rattle.gix_traverse.proofs.Shared.Orders.{reached_by_named, Contains-push}
 use Rattle.gix_traverse.proofs.Simple.Treated.{Setting, order_of, keep, Stands}
@@ -120,7 +122,7 @@ module _ {F P : Type 0} (objects : F → Objects) (faulty : F → ObjectId → T
   -- these answers may follow a walk whose hidden tips are painted
   abbrev pub MayStep : SimpleWalk F P → List (Result Info Error) → Type 0
   MayStep walk [] = (new : SimpleWalk F P) × Steps objects faulty answers walk None new
-  MayStep walk (answer ∷ rest) = (new : SimpleWalk F P) × Steps objects faulty answers walk (Some answer) new × May objects faulty answers new rest
+  MayStep walk (answer ∷ rest) = (new : SimpleWalk F P) × Steps objects faulty answers walk (Some answer) new × Drains (Next objects faulty answers) new rest
 
   pub unchanged : (w : SimpleWalk F P) → w.hidden_tips ≡ [] → ◌≡◌ {A = SimpleWalk F P} (record w { hidden_tips = [] }) w
   unchanged w e = λ k. record w { hidden_tips = sym e k }
@@ -132,9 +134,11 @@ module _ {F P : Type 0} (objects : F → Objects) (faulty : F → ObjectId → T
   next_steps w tips ok (faulty_history some hides left fault) = absurd (hides tips)
   next_steps w tips ok (no_memory some hides left) = absurd ((ok (Err error.Memory) refl).0 refl)
 
-  pub then_steps : (w : SimpleWalk F P) (answers_left : List (Result Info Error)) → w.hidden_tips ≡ [] → All IsNoRefusal answers_left → May objects faulty answers w answers_left → MayStep w answers_left
-  then_steps w [] tips ok may = (may.0, next_steps w tips (λ a e. cc) may.1)
-  then_steps w (answer ∷ left) tips ok may = (may.0, next_steps w tips (λ a e. let same : answer ≡ a = cc in subst IsNoRefusal same (All-head IsNoRefusal answer left ok)) may.1, may.2)
+  pub then_steps : (w : SimpleWalk F P) (answers_left : List (Result Info Error)) → w.hidden_tips ≡ [] → All IsNoRefusal answers_left → Drains (Next objects faulty answers) w answers_left → MayStep w answers_left
+  then_steps w [] tips ok drawn = let end = at_end (Next objects faulty answers) w drawn in (end.0, next_steps w tips (λ a e. cc) end.1)
+  then_steps w (answer ∷ left) tips ok drawn =
+      let first = at_first (Next objects faulty answers) w answer left drawn in
+      (first.0, next_steps w tips (λ a e. let same : answer ≡ a = cc in subst IsNoRefusal same (All-head IsNoRefusal answer left ok)) first.1, first.2)
 
   -- each of the ids is the next one where it comes
   abbrev pub OrderFrom : Setting objects faulty answers → List ObjectId → List ObjectId → Type 0

@@ -1,6 +1,7 @@
 -- What a simple walk gives, over the definitions alone: the words of its laws.
 use Rattle.std.specs.Prelude.{◌≡◌, ◌≢◌, ◌⊎◌, ◌↔◌, ℕ, ℤ, List, [], ◌∷◌, ◌++◌, filter, Bool, true, false, not, ◌&&◌, ◌||◌, if◌then◌else◌, ◌+◌, map, length, Option, Some, None, Result, Ok, Err, Contains, All}
 use Rattle.std.specs.List.{AllZip, flat_map}
+use Rattle.std.specs.Iterator.{Drains}
 use Rattle.std.specs.FinMap as map_of
 use Rattle.std.specs.FinSet as set
 use Rattle.gix_parts.specs.declared.hash.ObjectId.{ObjectId}
@@ -23,7 +24,7 @@ use Rattle.gix_traverse.specs.Orders.TimeOrder.{IsTimeOrder}
 use Rattle.gix_traverse.specs.History.Reach.{Reaches, Tells}
 use Rattle.gix_traverse.specs.History.Commits.{ReadsWhole, walked_parents, parents_of, time_of}
 use Rattle.gix_traverse.specs.declared.commit.simple.pending.Pending.{Pending}
-use Rattle.gix_traverse.specs.Simple.Walk.{SimpleWalk, IsInfo, ids_of, time_order, cutoff, is_older, time_if, scanned, May}
+use Rattle.gix_traverse.specs.Simple.Walk.{SimpleWalk, IsInfo, ids_of, time_order, cutoff, is_older, time_if, scanned, Next}
 
 -- what a predicate becomes by being asked
 pub data Becomes {P : Type 0} (answers : P → ObjectId → Bool → P → Type 0) (old : P) : P → Type 0 where
@@ -107,7 +108,7 @@ pub record IsWholeRun {F P : Type 0} (objects : F → Objects) (faulty : F → O
   pub meets : MeetsWhole objects faulty walk accepts hidden
   pub agreeing : IsAgreeing (objects walk.store) walk.rows
   pub unrefused : All IsNoRefusal list
-  pub drawn : May objects faulty answers walk list
+  pub drawn : Drains (Next objects faulty answers) walk list
 
 -- the ids of a list that aren't old, each once
 abbrev pub new_ids : (ObjectId → Bool) → List ObjectId → List ObjectId
@@ -154,7 +155,7 @@ pub record IsPlainRun {F P : Type 0} (objects : F → Objects) (faulty : F → O
   pub rowless : walk.rows ≡ []
   pub whole : (i : ObjectId) → Reaches next (ids_of walk.pending) i → ReadsWhole (objects walk.store) i
   pub unrefused : All IsNoRefusal list
-  pub drawn : May objects faulty answers walk list
+  pub drawn : Drains (Next objects faulty answers) walk list
 
 -- the answers are commits read from the store, in breadth order, each once, and exactly the commits that the starts reach
 pub record GivesBreadthFirst (objects : Objects) (next : ObjectId → List ObjectId) (starts : List ObjectId) (answers : List (Result Info Error)) : Type 0 where

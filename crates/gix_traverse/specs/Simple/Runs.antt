@@ -1,5 +1,5 @@
 -- What holds along the answers that are drawn from a simple walk, and of two walks that were built alike.
-use Rattle.std.specs.Prelude.{◌≡◌, ◌⊎◌, ◌↔◌, List, [], ◌∷◌, ◌++◌, Bool, None, Some, Result, Ok, Err, Contains, All}
+use Rattle.std.specs.Prelude.{◌≡◌, ◌≢◌, ◌⊎◌, ◌↔◌, List, [], ◌∷◌, ◌++◌, Bool, None, Some, Result, Ok, Err, Contains, All}
 use Rattle.std.specs.Option.{option_map}
 use Rattle.std.specs.List.{AllZip}
 use Rattle.gix_parts.specs.declared.hash.ObjectId.{ObjectId}
@@ -11,17 +11,14 @@ use Rattle.gix_traverse.specs.declared.commit.simple.Sorting.{Sorting}
 use Rattle.gix_traverse.specs.declared.commit.simple.Sorting.TheVariants as sorting
 use Rattle.gix_traverse.specs.declared.commit.simple.Error.{Error}
 use Rattle.gix_traverse.specs.History.Agreeing.{IsAgreeing, IsCorrupt}
-use Rattle.gix_traverse.specs.History.Commits.{parents_of}
+use Rattle.gix_traverse.specs.History.Commits.{parents_of, by_mode}
 use Rattle.gix_traverse.specs.History.Reach.{Reaches}
-use Rattle.gix_traverse.specs.Simple.Walk.{SimpleWalk, Next, IsMade, ids_of, time_order}
+use Rattle.gix_traverse.specs.Simple.Walk.{SimpleWalk, IsMade, ids_of, time_order}
 use Rattle.gix_traverse.specs.Simple.Building.{IsSortedByTime}
+use Rattle.gix_traverse.specs.Simple.Painting.{DropsBy}
 use Rattle.gix_traverse.specs.Simple.Laws.{AreDistinct, IsGiven}
 use Rattle.gix_traverse.specs.Topo.Laws.{AsksAll}
-
--- these answers were drawn from a walk, and left it so
-abbrev pub Drawn : {F P : Type 0} → (F → Objects) → (F → ObjectId → Type 0) → (P → ObjectId → Bool → P → Type 0) → SimpleWalk F P → List (Result Info Error) → SimpleWalk F P → Type 0
-Drawn objects faulty answers walk [] new = new ≡ walk
-Drawn {F} {P} objects faulty answers walk (answer ∷ rest) new = (mid : SimpleWalk F P) × Next objects faulty answers walk (Some answer) mid × Drawn objects faulty answers mid rest new
+use Rattle.gix_traverse.specs.Topo.Walk.{text_next}
 
 -- a predicate was asked about different ids, each of them among these, and went from one state to another
 pub record AsksOnce {P : Type 0} (answers : P → ObjectId → Bool → P → Type 0) (among : List ObjectId) (first last : P) : Type 0 where
@@ -40,20 +37,33 @@ abbrev pub IsUntold : Result Info Error → Type 0
 IsUntold (Ok info) = info.generation ≡ None
 IsUntold (Err e) = Unit {0}
 
--- a row of these is corrupt
-pub record HasCorruptRow (rows : List GraphRow) : Type 0 where
-  pub row : GraphRow
-  pub present : Contains rows row
-  pub corrupt : IsCorrupt row
+-- the answer is about this commit, unless it is an error
+abbrev pub IsAbout : ObjectId → Result Info Error → Type 0
+IsAbout i (Ok info) = info.id ≡ i
+IsAbout i (Err e) = Unit {0}
 
--- the answers have the generations of the rows, up to where a corrupt row drops these, and none from there on
-pub record TellsGenerations (objects : Objects) (faulty : ObjectId → Type 0) (rows : List GraphRow) (list : List (Result Info Error)) : Type 0 where
+-- The commit that this answer is about has a corrupt row. Pending commits reach it by the parents that are walked, as the texts of
+-- commits name them, also where a text breaks off behind its parents.
+pub record HasCorruptRow {F P : Type 0} (objects : F → Objects) (walk : SimpleWalk F P) (answer : Result Info Error) : Type 0 where
+  pub row : GraphRow
+  pub present : row_of walk.rows row.id ≡ Some row
+  pub corrupt : IsCorrupt row
+  pub reached : Reaches (λ i. by_mode walk.parents (text_next (objects walk.store) i)) (ids_of walk.pending) row.id
+  pub about : IsAbout row.id answer
+
+-- painting drops the rows for a corrupt one
+abbrev pub PaintingDrops : {F P : Type 0} → (F → Objects) → SimpleWalk F P → Type 0
+PaintingDrops objects walk = (walk.hidden_tips ≢ []) × DropsBy (parents_of (objects walk.store)) walk.rows (ids_of walk.pending) walk.hidden_tips
+
+-- The answers have the generations of the rows, up to where a corrupt row drops these, and none from there on. The first of these is about
+-- the commit of that row, or it is the first of all and painting dropped the rows.
+pub record TellsGenerations {F P : Type 0} (objects : F → Objects) (walk : SimpleWalk F P) (list : List (Result Info Error)) : Type 0 where
   pub before : List (Result Info Error)
   pub behind : List (Result Info Error)
   pub parts : list ≡ before ++ behind
-  pub told : All (IsTold rows) before
+  pub told : All (IsTold walk.rows) before
   pub untold : All IsUntold behind
-  pub dropped : (behind ≡ []) ⊎ (IsAgreeing objects rows → HasCorruptRow rows)
+  pub dropped : (answer : Result Info Error) (rest : List (Result Info Error)) → behind ≡ answer ∷ rest → IsAgreeing (objects walk.store) walk.rows → HasCorruptRow objects walk answer ⊎ ((before ≡ []) × PaintingDrops objects walk)
 
 -- two walks of one store, over the same parents, in the same order, from the same pending commits
 pub record AreAlike {F P : Type 0} (walk other : SimpleWalk F P) : Type 0 where

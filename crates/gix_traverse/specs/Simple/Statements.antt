@@ -2,6 +2,7 @@
 use Rattle.std.specs.Prelude.{◌≡◌, ◌≤◌, ◌≤ℤ◌, ◌↔◌, ℕ, suc, List, [], ◌++◌, Bool, false, true, Some, None, Result, All, Contains, length, slice_get, filter}
 use Rattle.std.specs.Cmp.Lexicographic.{slice_cmp}
 use Rattle.std.specs.FinSet as set
+use Rattle.std.specs.Iterator.{Drains, Yields}
 use Rattle.std.specs.List.{AllZip}
 use Rattle.std.specs.Option.{option_cmp}
 use Rattle.std.specs.Ordering.{nat_cmp, int_cmp, ordering_then}
@@ -18,10 +19,10 @@ use Rattle.gix_traverse.specs.Orders.BreadthOrder.{IsBreadthOrder}
 use Rattle.gix_traverse.specs.Orders.TimeOrder.{IsTimeOrder}
 use Rattle.gix_traverse.specs.History.Reach.{Reaches, Tells}
 use Rattle.gix_traverse.specs.History.Commits.{ReadsWhole, parents_of, time_of}
-use Rattle.gix_traverse.specs.Simple.Walk.{SimpleWalk, May, IsMade, ids_of, time_order, cutoff}
+use Rattle.gix_traverse.specs.Simple.Walk.{SimpleWalk, Next, IsMade, ids_of, time_order, cutoff}
 use Rattle.gix_traverse.specs.Simple.Building.{IsBuilt}
 use Rattle.gix_traverse.specs.Simple.Laws.{IsFresh, IsWholeRun, IsPlainRun, IsPlain, GivesInOrder, AreDistinct, AnswersBy, IsNewWalk, IsNoRefusal, GivesBreadthFirst, new_ids, accepted_parents, recent_parents, next_of, starts_of, named_in, answers_left, given_ids}
-use Rattle.gix_traverse.specs.Simple.Runs.{Drawn, AsksOnce, TellsGenerations, AreAlike, AreBuiltAlike, GiveTheSame, GivesUnhidden}
+use Rattle.gix_traverse.specs.Simple.Runs.{AsksOnce, TellsGenerations, AreAlike, AreBuiltAlike, GiveTheSame, GivesUnhidden}
 
 -- commits are compared by their ids, then by their parents, then by their generations, and then by their times
 abbrev pub info_cmp : Info → Info → Ordering
@@ -61,7 +62,7 @@ module _ {F P : Type 0} (objects : F → Objects) (faulty : F → ObjectId → T
       → IsMade objects faulty answers store predicate tips walk
       → ((i : ObjectId) → Reaches next starts i → ReadsWhole (objects store) i)
       → All IsNoRefusal list
-      → May objects faulty answers walk list
+      → Drains (Next objects faulty answers) walk list
       → GivesBreadthFirst (objects store) next starts list
 
   -- a walk without hidden tips and rows, in no order by time
@@ -127,8 +128,8 @@ module _ {F P : Type 0} (objects : F → Objects) (faulty : F → ObjectId → T
   abbrev pub TellsTheGenerations : Type 0
   TellsTheGenerations =
       (walk new : SimpleWalk F P) (list : List (Result Info Error))
-      → Drawn objects faulty answers walk list new
-      → TellsGenerations (objects walk.store) (faulty walk.store) walk.rows list
+      → Yields (Next objects faulty answers) walk list new
+      → TellsGenerations objects walk list
 
   -- newest first, where no parent is newer than its child
   abbrev pub TimesFall : Type 0
@@ -144,10 +145,10 @@ module _ {F P : Type 0} (objects : F → Objects) (faulty : F → ObjectId → T
   -- whatever faults come, no id is given twice
   abbrev pub GivesNeverTwice : Type 0
   GivesNeverTwice =
-      (walk : SimpleWalk F P) (list : List (Result Info Error))
+      (walk new : SimpleWalk F P) (list : List (Result Info Error))
       → AreDistinct (ids_of walk.pending)
       → ((i : ObjectId) → Contains (ids_of walk.pending) i → set.contains walk.seen i ≡ true)
-      → May objects faulty answers walk list
+      → Yields (Next objects faulty answers) walk list new
       → AreDistinct (given_ids list)
 
   -- whatever faults come, no id is asked about twice
@@ -155,12 +156,12 @@ module _ {F P : Type 0} (objects : F → Objects) (faulty : F → ObjectId → T
   AsksNeverTwice =
       (store : F) (predicate : P) (tips : List ObjectId) (walk new : SimpleWalk F P) (list : List (Result Info Error))
       → IsBuilt objects faulty answers store predicate tips walk
-      → Drawn objects faulty answers walk list new
+      → Yields (Next objects faulty answers) walk list new
       → AsksOnce answers (tips ++ named_in objects walk) predicate new.predicate
 
   -- how many answers there are
   abbrev pub Ends : Type 0
   Ends =
-      (walk : SimpleWalk F P) (list : List (Result Info Error))
-      → May objects faulty answers walk list
+      (walk new : SimpleWalk F P) (list : List (Result Info Error))
+      → Yields (Next objects faulty answers) walk list new
       → length list ≤ answers_left objects walk

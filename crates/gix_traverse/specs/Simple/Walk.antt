@@ -244,8 +244,3 @@ module _ {F P : Type 0} (objects : F → Objects) (faulty : F → ObjectId → T
     paints : {marks : set.FinSet id_cmp} {rows : List GraphRow} {answer : Option (Result Info Error)} {new : SimpleWalk F P} → old.pending ≢ [] → old.hidden_tips ≢ [] → Paints (objects old.store) old.rows (ids_of old.pending) old.hidden_tips marks rows → Steps (painted old marks rows) answer new → Next old answer new
     faulty_history : {why : Hidden} {rows : List GraphRow} → old.pending ≢ [] → old.hidden_tips ≢ [] → (rows ≡ old.rows) ⊎ (rows ≡ []) → IsHiddenFault (objects old.store) (faulty old.store) old.rows (ids_of old.pending) old.hidden_tips why → Next old (Some (Err (error.HiddenGraph why))) (record old { rows = rows; hidden_tips = []; pending = []; text = [] })
     no_memory : {rows : List GraphRow} → old.pending ≢ [] → old.hidden_tips ≢ [] → (rows ≡ old.rows) ⊎ (rows ≡ []) → Next old (Some (Err error.Memory)) (record old { rows = rows; hidden_tips = []; pending = []; text = [] })
-
-  -- these answers, and no more, may be drawn from a walk
-  abbrev pub May : SimpleWalk F P → List (Result Info Error) → Type 0
-  May walk [] = (new : SimpleWalk F P) × Next walk None new
-  May walk (answer ∷ rest) = (new : SimpleWalk F P) × Next walk (Some answer) new × May new rest

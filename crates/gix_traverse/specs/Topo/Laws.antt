@@ -2,6 +2,7 @@
 use Rattle.std.specs.Prelude.{◌≡◌, ◌≢◌, ℕ, suc, ◌+◌, ℤ, List, [], ◌∷◌, filter, length, Bool, false, Contains, Option, Some, Result, Ok, Err, All}
 use Rattle.std.specs.List.{AllZip}
 use Rattle.std.specs.FinSet as set
+use Rattle.std.specs.Iterator.{Drains}
 use Rattle.gix_parts.specs.declared.hash.ObjectId.{ObjectId}
 use Rattle.gix_parts.specs.declared.object.find.existing_iter.Error.TheVariants as existing
 use Rattle.gix_parts.specs.Object.{Objects}
@@ -15,7 +16,7 @@ use Rattle.gix_traverse.specs.Orders.TopoOrder.{IsTopoOrder}
 use Rattle.gix_traverse.specs.History.Commits.{parents_of, time_of}
 use Rattle.gix_traverse.specs.Simple.Walk.{IsInfo}
 use Rattle.gix_traverse.specs.Simple.Laws.{AnswersBy, AreDistinct, IsRowGeneration, new_ids}
-use Rattle.gix_traverse.specs.Topo.Walk.{TopoPlan, TopoWalk, Ready, walked_of, IsMember, IsSound, IsStarted, Next, May, ready_ids, was_ready, named_ids}
+use Rattle.gix_traverse.specs.Topo.Walk.{TopoPlan, TopoWalk, Ready, walked_of, IsMember, IsSound, IsStarted, Next, ready_ids, was_ready, named_ids}
 
 -- the order that was asked for
 abbrev pub IsSorted : Sorting → (ObjectId → ℤ) → (ObjectId → List ObjectId) → (ObjectId → Type 0) → List ObjectId → List ObjectId → Type 0
@@ -52,7 +53,7 @@ pub record IsWholeRun {F P : Type 0} (objects : F → Objects) (faulty : F → O
   pub started : IsStarted objects faulty answers walk
   pub sound : IsSound objects faulty walk.plan
   pub unrefused : All IsNoRefusal list
-  pub drawn : May objects faulty answers walk list
+  pub drawn : Drains (Next objects faulty answers) walk list
 
 -- nothing is left where nothing is ready
 abbrev pub left_beside : ℕ → List Ready → ℕ
@@ -78,8 +79,3 @@ abbrev pub given_ids : List (Result Info Error) → List ObjectId
 given_ids [] = []
 given_ids (Ok info ∷ list) = info.id ∷ given_ids list
 given_ids (Err e ∷ list) = given_ids list
-
--- these answers were drawn from a walk, and left it so
-abbrev pub Drawn : {F P : Type 0} → (F → Objects) → (F → ObjectId → Type 0) → (P → ObjectId → Bool → P → Type 0) → TopoWalk F P → List (Result Info Error) → TopoWalk F P → Type 0
-Drawn objects faulty answers walk [] new = new ≡ walk
-Drawn {F} {P} objects faulty answers walk (answer ∷ rest) new = (mid : TopoWalk F P) × Next objects faulty answers walk (Some answer) mid × Drawn objects faulty answers mid rest new

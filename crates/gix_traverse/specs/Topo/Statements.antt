@@ -1,6 +1,7 @@
 -- The statements of the laws of topological walks, over any store and predicate.
 use Rattle.std.specs.Prelude.{◌≡◌, ◌≤◌, ℕ, List, [], Bool, true, Option, Some, None, Result, Ok, Err, Contains, filter, length, slice_get, take}
 use Rattle.std.specs.List.{AllZip}
+use Rattle.std.specs.Iterator.{Yields}
 use Rattle.gix_parts.specs.declared.hash.ObjectId.{ObjectId}
 use Rattle.gix_parts.specs.Object.{Objects}
 use Rattle.gix_parts.specs.Rows.{GraphRow, row_of}
@@ -9,8 +10,8 @@ use Rattle.gix_traverse.specs.declared.commit.topo.Sorting.TheVariants.{TopoOrde
 use Rattle.gix_traverse.specs.declared.commit.topo.Error.{Error}
 use Rattle.gix_traverse.specs.History.Reach.{IsAcyclic}
 use Rattle.gix_traverse.specs.Simple.Laws.{AreDistinct}
-use Rattle.gix_traverse.specs.Topo.Walk.{TopoPlan, TopoWalk, walked_of, row_generation, IsMember, IsStarted, IsWalkable, IsLeft, IsFault, IsLate, IsCounting, IsKnown, Next, May}
-use Rattle.gix_traverse.specs.Topo.Laws.{IsTakenInOrder, IsWholeRun, IsGiven, GivesInOrder, AsksAll, Drawn, answers_left, given_ids}
+use Rattle.gix_traverse.specs.Topo.Walk.{TopoPlan, TopoWalk, walked_of, row_generation, IsMember, IsStarted, IsWalkable, IsLeft, IsFault, IsLate, IsCounting, IsKnown, Next}
+use Rattle.gix_traverse.specs.Topo.Laws.{IsTakenInOrder, IsWholeRun, IsGiven, GivesInOrder, AsksAll, answers_left, given_ids}
 
 module _ {F : Type 0} (objects : F → Objects) where
   -- commits that were taken in order
@@ -52,8 +53,8 @@ module _ {F P : Type 0} (objects : F → Objects) (faulty : F → ObjectId → T
   -- an answer for each ready commit and each named id, at most
   abbrev pub Ends : Type 0
   Ends =
-      (walk : TopoWalk F P) (list : List (Result Info Error))
-      → May objects faulty answers walk list
+      (walk new : TopoWalk F P) (list : List (Result Info Error))
+      → Yields (Next objects faulty answers) walk list new
       → length list ≤ answers_left objects walk
 
   -- the predicate's state is a run of its own steps over different commits
@@ -61,7 +62,7 @@ module _ {F P : Type 0} (objects : F → Objects) (faulty : F → ObjectId → T
   AsksNeverTwice =
       (walk new : TopoWalk F P) (list : List (Result Info Error))
       → IsStarted objects faulty answers walk
-      → Drawn objects faulty answers walk list new
+      → Yields (Next objects faulty answers) walk list new
       → (ids : List ObjectId) × AsksAll answers walk.predicate ids new.predicate × AreDistinct ids
 
   -- whatever faults come, and wherever the caller stops
@@ -69,7 +70,7 @@ module _ {F P : Type 0} (objects : F → Objects) (faulty : F → ObjectId → T
   GivesNeverTwice =
       (walk new : TopoWalk F P) (list : List (Result Info Error))
       → IsStarted objects faulty answers walk
-      → Drawn objects faulty answers walk list new
+      → Yields (Next objects faulty answers) walk list new
       → AreDistinct (given_ids list)
 
   -- a fault comes for its reason alone, and nothing follows it
@@ -91,7 +92,7 @@ module _ {F P : Type 0} (objects : F → Objects) (faulty : F → ObjectId → T
   ParentsAreKnown =
       (walk new : TopoWalk F P) (list : List (Result Info Error)) (info : Info)
       → IsStarted objects faulty answers walk
-      → Drawn objects faulty answers walk list new
+      → Yields (Next objects faulty answers) walk list new
       → Contains list (Ok info)
       → (p : ObjectId)
       → Contains info.parent_ids.items p
@@ -103,7 +104,7 @@ module _ {F P : Type 0} (objects : F → Objects) (faulty : F → ObjectId → T
       (walk mid new : TopoWalk F P) (list : List (Result Info Error)) (info : Info)
       → IsStarted objects faulty answers walk
       → IsWalkable objects faulty walk.plan
-      → Drawn objects faulty answers walk list mid
+      → Yields (Next objects faulty answers) walk list mid
       → Next objects faulty answers mid (Some (Ok info)) new
       → new.counted.standing ≡ true
       → info.generation ≡ row_generation (row_of walk.plan.rows info.id)
@@ -114,6 +115,6 @@ module _ {F P : Type 0} (objects : F → Objects) (faulty : F → ObjectId → T
       (walk new : TopoWalk F P) (list : List (Result Info Error))
       → IsStarted objects faulty answers walk
       → IsWalkable objects faulty walk.plan
-      → Drawn objects faulty answers walk list new
+      → Yields (Next objects faulty answers) walk list new
       → ((e : Error) → Contains list (Err e) → ⊥)
       → IsCounting objects walk.plan new.counted

@@ -351,11 +351,6 @@ module _ {F P : Type 0} (objects : F → Objects) (faulty : F → ObjectId → T
     refused : {old new : TopoWalk F P} {c : Ready} {counted : Counted} {ready : List Ready} {predicate : P} {answer : Option (Result Info Error)} → Takes old c counted ready → answers old.predicate c.id false predicate → Next (after old c counted ready predicate) answer new → Next old answer new
     failed : {old : TopoWalk F P} (c : Ready) (others : List Ready) {counted : Counted} {taken : set.FinSet id_cmp} {e : Error} → Chooses old.plan.sorting old.ready c others → IsFault objects faulty old.plan (IsNextReady objects old.plan old.taken c.id) e → IsLate objects old.plan (IsNextReady objects old.plan old.taken c.id) e → Next old (Some (Err e)) (record old { counted = counted; ready = []; taken = taken })
 
-  -- these answers, and no more, may be drawn from a walk
-  abbrev pub May : TopoWalk F P → List (Result Info Error) → Type 0
-  May walk [] = (new : TopoWalk F P) × Next walk None new
-  May walk (answer ∷ rest) = (new : TopoWalk F P) × Next walk (Some answer) new × May new rest
-
 -- a fresh builder over a store, with these tips
 abbrev pub fresh_builder : {F P : Type 0} → F → P → List ObjectId → TopoBuilder F P
 fresh_builder store predicate tips = record { plan = record { store = store; rows = []; parents = mode.All; sorting = order.DateOrder; tips = tips; ends = [] }; predicate = predicate }

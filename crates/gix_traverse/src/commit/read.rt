@@ -1,11 +1,12 @@
 //! What a commit's row or its bytes say of its parents, and its bytes of its committer.
-ghost use Rattle.std.specs.Prelude.{◌≡◌, ◌≢◌, ◌≤◌, IfOk, IfErr, IsOk, OnErr, length};
+ghost use Rattle.std.specs.Prelude.{◌≡◌, ◌≢◌, ◌≤◌, ◌<◌, Some, IfOk, IfErr, IsOk, OnErr, length};
 ghost use Rattle.std.specs.Option.{option_map};
 ghost use Rattle.gix_parts.specs.CommitRefIter.{commit_items_left, first_committer};
 ghost use Rattle.gix_parts.specs.declared.object.Kind.TheVariants as object;
 ghost use Rattle.gix_parts.specs.declared.object.find.existing_iter.Error.TheVariants as existing;
 ghost use Rattle.gix_parts.specs.Find.{IsExistingFault};
 ghost use Rattle.gix_parts.specs.GraphCommit.{rows_of_commit, row_of_commit};
+ghost use Rattle.gix_parts.specs.Rows.{GraphRow, row_of};
 ghost use Rattle.gix_traverse.specs.declared.commit.Parents.TheVariants as mode;
 ghost use Rattle.gix_traverse.specs.History.Agreeing.{rows_in};
 ghost use Rattle.gix_traverse.specs.History.Either.{seconds_told};
@@ -125,14 +126,15 @@ fn committer_seconds(items: CommitRefIter<'_>) -> Result<i64, decode::Error>
     }
 }
 
-// The ids at a row's places, and None where one of them is corrupt.
+// The ids at a row's places, and None where one of them is corrupt. At most one place takes no memory.
 fn row_parents(
     alloc: Global,
     graph: &Graph,
     commit: Commit<'_>,
 ) -> Result<Option<ParentIds>, AllocError>
     requires { rows_of_commit commit ≡ graph.now }
-    ensures { IfOk result (λ ids. option_map (λ ids. ids.items) ids ≡ ids_at graph.now (row_of_commit commit.entry).parents) }
+    ensures ok { IfOk result (λ ids. option_map (λ ids. ids.items) ids ≡ ids_at graph.now (row_of_commit commit.entry).parents) }
+    ensures succeeds { length (row_of_commit commit.entry).parents ≤ 1 → IsOk result }
 {
     let mut parent_ids = ParentIds::new(alloc);
     let mut places = commit.iter_parents();
@@ -154,7 +156,8 @@ pub(crate) struct RowRead {
     pub(crate) time: i64,
 }
 
-// What the row of an id says, where there is one and rows are held. A row with a corrupt place drops the rows for good.
+// What the row of an id says, where there is one and rows are held. A row with a corrupt place drops the rows for good. A row of at
+// most one parent takes no memory.
 pub(crate) fn read_row(
     alloc: Global,
     graph: Option<&Graph>,
@@ -163,6 +166,7 @@ pub(crate) fn read_row(
 ) -> Result<Option<RowRead>, AllocError>
     ensures reads { IfOk result (λ read. ReadsRow (rows_in graph.entry) held.old id.now read held.new) }
     ensures err { OnErr result (held.new ≡ held.old) }
+    ensures fails { OnErr result ((row : GraphRow) × (row_of (rows_in graph.entry) id.now ≡ Some row) × (1 < length row.parents)) }
 {
     if !*held {
         return Ok(None);

@@ -6,12 +6,12 @@ ghost use Rattle.gix_traverse.specs.Trees.Laws.{MetLevelsSucceed, MetDepthSuccee
 use crate::tree::Visit;
 use gix_parts::object::find::Find;
 
-/// A walk of `breadthfirst` that doesn't fail makes its visits in level order.
+/// A walk of `breadthfirst` that doesn't fail, so shows all or ends at a `Break`, makes its visits in level order.
 pub fn levels_in_order<F: Find, V: Visit>(store: &F, _delegate: &V)
     ensures { LevelsAreInOrder (F.objects store.now) (F.faulty store.now) V.steps }
 {}
 
-/// A walk of `depthfirst` that doesn't fail makes its visits in preorder.
+/// A walk of `depthfirst` that doesn't fail, so shows all or ends at a `Break`, makes its visits in preorder.
 pub fn depth_in_order<F: Find, V: Visit>(store: &F, _delegate: &V)
     ensures { DepthIsInOrder (F.objects store.now) (F.faulty store.now) V.steps }
 {}
@@ -26,17 +26,20 @@ pub fn depth_begins_in_order<F: Find, V: Visit>(store: &F, _delegate: &V)
     ensures { DepthBeginsInOrder (F.objects store.now) (F.faulty store.now) V.steps }
 {}
 
-/// A fresh recorder that followed `breadthfirst` holds one record for each visit, with its path.
+/// A fresh recorder that followed `breadthfirst` holds one record for each visit, with its path, where memory didn't run out and no
+/// name that was visited is empty or holds `/`.
 pub fn levels_recorded<F: Find>(store: &F)
     ensures { LevelsAreRecorded (F.objects store.now) (F.faulty store.now) }
 {}
 
-/// A fresh recorder that followed `depthfirst` holds one record for each visit, with its path.
+/// A fresh recorder that followed `depthfirst` holds one record for each visit, with its path, where memory didn't run out and no
+/// name that was visited is empty or holds `/`.
 pub fn depth_recorded<F: Find>(store: &F)
     ensures { DepthIsRecorded (F.objects store.now) (F.faulty store.now) }
 {}
 
-/// Both walks of one tree, where they answer `Ok`, record the same entries with the same paths, as often.
+/// Both walks of one stored tree, each with a fresh recorder, record the same entries with the same paths, as often, where both
+/// answer `Ok` and no name that was visited is empty or holds `/`.
 pub fn both_record_the_same<F: Find>(store: &F)
     ensures { BothRecordTheSame (F.objects store.now) (F.faulty store.now) }
 {}
@@ -53,29 +56,31 @@ pub fn met_depth_succeeds<F: Find, V: Visit>(store: &F, _delegate: &V)
     ensures { MetDepthSucceeds (F.objects store.now) (F.faulty store.now) V.steps }
 {}
 
-/// `breadthfirst` fails only for memory, where the store didn't fail and all trees that the delegate may go into are stored, read
-/// whole and don't hold themselves. Trees that it leaves out may be missing or broken, or hold themselves.
+/// `breadthfirst` fails only for memory, where the store didn't fail, what is read of the root is whole, and all trees that the
+/// delegate may go into are stored, read whole and don't hold themselves. Trees that it leaves out may be missing or broken, or hold
+/// themselves.
 pub fn sound_levels_succeed<F: Find, V: Visit>(store: &F, _delegate: &V)
     ensures { SoundLevelsSucceed (F.objects store.now) (F.faulty store.now) V.steps }
 {}
 
-/// `depthfirst` fails only for memory, where the store didn't fail and all trees that the delegate may go into are stored, read
-/// whole and don't hold themselves. Trees that it leaves out may be missing or broken, or hold themselves.
+/// `depthfirst` fails only for memory, where the store didn't fail, and the root and all trees that the delegate may go into are
+/// stored, read whole and don't hold themselves. Trees that it leaves out may be missing or broken, or hold themselves.
 pub fn sound_depth_succeeds<F: Find, V: Visit>(store: &F, _delegate: &V)
     ensures { SoundDepthSucceeds (F.objects store.now) (F.faulty store.now) V.steps }
 {}
 
-/// `breadthfirst` ends at the first visit that is answered `Break`, with the calls up to it, and answers `Cancelled`.
+/// `breadthfirst` ends at the first visit that is answered `Break`, where there is one, with the calls up to it, and answers
+/// `Cancelled`.
 pub fn levels_end_at_break<F: Find, V: Visit>(store: &F, _delegate: &V)
     ensures { LevelsEndAtBreak (F.objects store.now) (F.faulty store.now) V.steps }
 {}
 
-/// `depthfirst` ends at the first visit that is answered `Break`, with the calls up to it, and answers `Ok`.
+/// `depthfirst` ends at the first visit that is answered `Break`, where there is one, with the calls up to it, and answers `Ok`.
 pub fn depth_ends_at_break<F: Find, V: Visit>(store: &F, _delegate: &V)
     ensures { DepthEndsAtBreak (F.objects store.now) (F.faulty store.now) V.steps }
 {}
 
-/// Each visit leaves less work than there was before it, so a walk ends.
+/// Whatever the store holds and whatever a visit is answered, it leaves less work than there was before it, so a walk ends.
 pub fn work_lessens<F: Find>(store: &F)
     ensures { WorkLessens (F.objects store.now) }
 {}

@@ -22,7 +22,8 @@ use Rattle.gix_traverse.specs.Topo.Walk.{TopoPlan, Ready, IsWalkable, IsStored, 
 use Rattle.gix_traverse.proofs.Shared.HeldRows.{passed_over}
 use Rattle.gix_traverse.proofs.Shared.CommitterTime.{TellsTime, tells}
 use Rattle.gix_traverse.proofs.Shared.ReadsWhole.{row_stands, row_says_time}
-use Rattle.gix_traverse.proofs.Topo.Reading.ReadsCommit.{reads_named, reads_text_next, text_whole}
+use Rattle.gix_traverse.proofs.Shared.TextParents.{text_whole}
+use Rattle.gix_traverse.proofs.Topo.Reading.ReadsCommit.{reads_named, reads_text_next}
 
 committer_time : (o : Option Commit) (q : Result (List ℕ) DecodeError) → TellsTime o q → time_of_committer q ≡ time_in o
 committer_time (Some c) (Ok signature) h = sym h
@@ -60,7 +61,7 @@ module _ {F : Type 0} (objects : F → Objects) (faulty : F → ObjectId → Typ
   -- of a sound walk, it is as the store and the rows say
   pub found_stored : {stood standing : Bool} {r : Ready} → IsWalkable objects faulty plan → IsFound objects faulty plan stood standing r → ReadsWhole (objects plan.store) r.id → IsStored objects plan standing r
   found_stored {r = r} sound f whole = record {
-    parents = found_text sound.agreeing f ∙ sym (text_whole (objects plan.store) (faulty plan.store) plan.rows r.id whole);
+    parents = found_text sound.agreeing f ∙ sym (text_whole (objects plan.store) r.id whole);
     time = let same : Some r.time ≡ Some (time_of (objects plan.store) r.id) = sym f.is.same_time ∙ reads_time (objects plan.store) (faulty plan.store) plan.rows sound.agreeing f.reads in cc;
     by_row = subst (IsRowGeneration plan.rows r.id) f.is.same_generation (reads_row (objects plan.store) (faulty plan.store) plan.rows sound.agreeing f.reads);
     told = λ e. sym f.is.same_generation ∙ reads_told (objects plan.store) (faulty plan.store) plan.rows sound.agreeing f.reads (f.later e);

@@ -1,25 +1,25 @@
 -- What reading a commit says of the ids that rows and texts name, and, with rows that agree, of its parents.
-use Rattle.std.specs.Prelude.{◌≡◌, ◌≤◌, ◌<◌, ◌^◌, ◌-◌, List, [], map, Bool, true, Option, Some, None, Ok, Contains}
+use Rattle.std.specs.Prelude.{◌≡◌, ◌≤◌, ◌<◌, ◌^◌, ◌-◌, List, map, Bool, true, Option, Some, None, Ok, Contains}
 use Rattle.std.proofs.Common.{refl, sym, ap, subst, ◌∙◌, arith}
 use Rattle.std.proofs.lemmas.Bool.{or_left, or_right}
 use Rattle.std.specs.FinMap as map_of
 use Rattle.gix_parts.specs.declared.hash.ObjectId.{ObjectId}
 use Rattle.gix_parts.specs.declared.object.Kind.TheVariants as object
-use Rattle.gix_parts.specs.Id.{kind_of, is_among}
-use Rattle.gix_parts.specs.Object.{Object, Objects}
+use Rattle.gix_parts.specs.Id.{is_among}
+use Rattle.gix_parts.specs.Object.{Objects}
 use Rattle.gix_parts.specs.Rows.{GraphRow, row_of}
 use Rattle.gix_parts.specs.CommitText.{Commit}
 use Rattle.gix_traverse.specs.History.Commits.{parents_in}
 use Rattle.gix_parts.proofs.Ids.Membership.{among-append, among_from, no_member}
 use Rattle.gix_traverse.specs.declared.commit.Info.{Info}
-use Rattle.gix_traverse.specs.declared.commit.Parents.TheVariants as mode
 use Rattle.gix_traverse.specs.History.Agreeing.{IsAgreeing}
 use Rattle.gix_traverse.specs.Topo.Depth.{known_generation, generation_in, infinity}
-use Rattle.gix_traverse.specs.History.Commits.{ReadsWhole, parents_of, commit_at, commit_of_kind, commit_of_object}
+use Rattle.gix_traverse.specs.History.Commits.{ReadsWhole, parents_of, commit_at}
 use Rattle.gix_traverse.specs.History.Reading.{is_read, Reads, by_row, by_text}
-use Rattle.gix_traverse.specs.Topo.Walk.{text_parents, text_parents_of_kind, named_ids}
+use Rattle.gix_traverse.specs.Topo.Walk.{text_parents, named_ids}
 use Rattle.gix_traverse.specs.Topo.Inside.Searched.{text_next, next_in}
-use Rattle.gix_traverse.proofs.Shared.ReadsWhole.{scan_is, row_stands, row_parents, parent_below}
+use Rattle.gix_traverse.proofs.Shared.ReadsWhole.{row_stands, row_parents, parent_below}
+use Rattle.gix_traverse.proofs.Shared.TextParents.{text_whole}
 use Rattle.gix_traverse.proofs.Shared.Rows.{ids_in_rows, found_entry}
 use Rattle.gix_traverse.proofs.Shared.NewIds.{among_flat}
 
@@ -33,28 +33,12 @@ module _ (objects : Objects) (faulty : ObjectId → Type 0) (rows : List GraphRo
       among-append j (map (λ row. row.id) rows) _ ∙ or_right (is_among j (map (λ row. row.id) rows)) _
       (among_flat (λ entry. text_parents entry.0 entry.1) (map_of.entries objects) _ j entry (among_from j _ (subst (λ ids. Contains ids j) t.2.0.same_parents m)))
 
-  -- where the rows agree they are those that the text names
-  pub text_whole : (i : ObjectId) → ReadsWhole objects i → parents_of objects i ≡ text_next objects i
-  text_whole i w = go (map_of.get objects i) refl
-    where
-      go : (o : Option Object) → map_of.get objects i ≡ o → parents_of objects i ≡ text_next objects i
-      go None e = let bad : None ≡ Some w.commit = sym (ap (commit_of_object i) e) ∙ w.stored in cc
-      go (Some thing) e = kinds thing.kind refl
-        where
-          kinds : (k : Rattle.gix_parts.specs.declared.object.Kind.Kind) → thing.kind ≡ k → parents_of objects i ≡ text_next objects i
-          kinds object.Commit q =
-              let r : Rattle.gix_parts.specs.CommitText.read_commit (kind_of i) thing.bytes ≡ Some w.commit = sym (ap (λ k. commit_of_kind i k thing.bytes) q) ∙ sym (ap (commit_of_object i) e) ∙ w.stored in
-              ap Rattle.gix_traverse.specs.History.Commits.parents_in w.stored ∙ sym (ap (next_in i) e ∙ ap (λ k. text_parents_of_kind i k thing.bytes) q ∙ ap (λ r. r.0) (scan_is (kind_of i) thing.bytes w.commit r mode.All))
-          kinds object.Tree q = let bad : None ≡ Some w.commit = sym (ap (λ k. commit_of_kind i k thing.bytes) q) ∙ sym (ap (commit_of_object i) e) ∙ w.stored in cc
-          kinds object.Blob q = let bad : None ≡ Some w.commit = sym (ap (λ k. commit_of_kind i k thing.bytes) q) ∙ sym (ap (commit_of_object i) e) ∙ w.stored in cc
-          kinds object.Tag q = let bad : None ≡ Some w.commit = sym (ap (λ k. commit_of_kind i k thing.bytes) q) ∙ sym (ap (commit_of_object i) e) ∙ w.stored in cc
-
   module _ (agrees : IsAgreeing objects rows) where
     pub reads_text_next : {standing : Bool} {i : ObjectId} {info : Info} {new : Bool} → Reads objects faulty rows standing i (Ok info) new → info.parent_ids.items ≡ text_next objects i
     reads_text_next {i = i} (by_row (is_read h says) is) =
         let m : Contains rows says.row × (i ≡ says.row.id) = row_stands rows i says.row says.there in
         let w : ReadsWhole objects i = subst (ReadsWhole objects) (sym m.1) (agrees says.row m.0).whole in
-        is.same_parents ∙ row_parents objects rows agrees i says.row _ says.there says.parents ∙ text_whole i w
+        is.same_parents ∙ row_parents objects rows agrees i says.row _ says.there says.parents ∙ text_whole objects i w
     reads_text_next {i = i} (by_text n t) = t.2.0.same_parents ∙ sym (ap (next_in i) t.1)
 
     finite : (i : ObjectId) (row : GraphRow) → row_of rows i ≡ Some row → row.generation ≤ infinity
@@ -76,7 +60,7 @@ module _ (objects : Objects) (faulty : ObjectId → Type 0) (rows : List GraphRo
         go (Some row) e =
             let h : Contains rows row × (c ≡ row.id) = row_stands rows c row e in
             let w : ReadsWhole objects c = subst (ReadsWhole objects) (sym h.1) (agrees row h.0).whole in
-            lower c row i e (subst (λ ids. Contains ids i) (sym (text_whole c w)) m)
+            lower c row i e (subst (λ ids. Contains ids i) (sym (text_whole objects c w)) m)
           where
             lower : (c : ObjectId) (row : GraphRow) (i : ObjectId) → row_of rows c ≡ Some row → Contains (parents_of objects c) i → known_generation rows i ≤ row.generation
             lower c row i e n =
@@ -91,4 +75,4 @@ text_has objects i j m = go (commit_at objects i) refl m
   where
     go : (o : Option Commit) → commit_at objects i ≡ o → Contains (parents_in o) j → Contains (text_next objects i) j
     go None e n = absurd (no_member j n)
-    go (Some commit) e n = subst (λ ids. Contains ids j) (text_whole objects (λ k. ⊥) [] i (record { commit = commit; stored = e })) m
+    go (Some commit) e n = subst (λ ids. Contains ids j) (text_whole objects i (record { commit = commit; stored = e })) m

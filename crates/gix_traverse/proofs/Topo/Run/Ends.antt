@@ -4,6 +4,7 @@ use Rattle.std.proofs.Common.{refl, sym, ap, subst, inl, inr, ⊎_elim, ◌∙�
 use Rattle.std.proofs.lemmas.List.Sorted.{length_permutation}
 use Rattle.std.proofs.lemmas.Bool.{true≢false, or_cases, or_right, or_left, or_from, false_from_ne_true}
 use Rattle.std.specs.FinSet as set
+use Rattle.std.specs.Iterator.{Yields}
 use Rattle.gix_parts.specs.declared.hash.ObjectId.{ObjectId}
 use Rattle.gix_parts.specs.Id.{id_cmp, is_same, is_among}
 use Rattle.gix_parts.specs.Object.{Objects}
@@ -14,8 +15,8 @@ use Rattle.gix_traverse.specs.declared.commit.topo.Error.{Error}
 use Rattle.gix_traverse.specs.declared.commit.topo.Error.TheVariants as error
 use Rattle.gix_parts.specs.declared.object.find.existing_iter.Error.TheVariants as existing
 use Rattle.gix_traverse.specs.Simple.Laws.{AreDistinct}
-use Rattle.gix_traverse.specs.Topo.Walk.{TopoWalk, Ready, Counted, ready_ids, was_ready, named_ids, HoldsReady, Chooses, IsNextReady, IsLeft, IsOtherParent, IsFault, IsLate, IsStarted, Takes, after, Next, ended, given, refused, failed, May}
-use Rattle.gix_traverse.specs.Topo.Laws.{left_beside, answers_left, AreApart, AsksAll, none, more, Drawn, given_ids}
+use Rattle.gix_traverse.specs.Topo.Walk.{TopoWalk, Ready, Counted, ready_ids, was_ready, named_ids, HoldsReady, Chooses, IsNextReady, IsLeft, IsOtherParent, IsFault, IsLate, IsStarted, Takes, after, Next, ended, given, refused, failed}
+use Rattle.gix_traverse.specs.Topo.Laws.{left_beside, answers_left, AreApart, AsksAll, none, more, given_ids}
 use Rattle.gix_parts.proofs.Ids.Membership.{id_total, same_is, same_itself, among_from, among_is, Contains-here, Contains-there, Contains-cons_cases, no_member}
 use Rattle.gix_traverse.proofs.Shared.NewIds.{fresh, fresh_agree, times, times_none, new_less, among_times, times_is_among, times_once}
 use Rattle.gix_traverse.proofs.Topo.Ready.IsReady.{distinct_times}
@@ -129,11 +130,11 @@ module _ {F P : Type 0} (objects : F → Objects) (faulty : F → ObjectId → T
       omega arith
 
   -- a list that may follow a walk is no longer than that
-  pub may_left : (list : List (Result Info Error)) (w : TopoWalk F P) → May objects faulty answers w list → length list ≤ answers_left objects w
-  may_left [] w may = Prim.Native.Nat.zero-le
-  may_left (answer ∷ list) w may =
-      let a : suc (answers_left objects may.0) ≤ answers_left objects w = next_left may.1 answer refl in
-      let b : length list ≤ answers_left objects may.0 = may_left list may.0 may.2 in
+  pub drawn_left : (list : List (Result Info Error)) (w new : TopoWalk F P) → Yields (Next objects faulty answers) w list new → length list ≤ answers_left objects w
+  drawn_left [] w new d = Prim.Native.Nat.zero-le
+  drawn_left (answer ∷ list) w new d =
+      let a : suc (answers_left objects d.0) ≤ answers_left objects w = next_left d.1 answer refl in
+      let b : length list ≤ answers_left objects d.0 = drawn_left list d.0 new d.2 in
       omega arith
 
   -- when a fault comes, and what follows
@@ -273,11 +274,11 @@ module _ {F P : Type 0} (objects : F → Objects) (faulty : F → ObjectId → T
       let e : r.ids ≡ [] = r.silent refl in
       record { ids = r.ids; run = r.run; distinct = r.distinct; untaken = λ i m. absurd (no_member i (subst (λ xs. Contains xs i) e m)); silent = λ n. e }
 
-  asks_all : (list : List (Result Info Error)) (w new : TopoWalk F P) → AreApart w → Drawn objects faulty answers w list new → Asks w new.predicate
-  asks_all [] w new h d = subst (λ p. Asks w p) (ap (λ x. x.predicate) (sym d)) (record { ids = []; run = none; distinct = tt; untaken = λ i m. absurd (no_member i m); silent = λ e. refl })
+  asks_all : (list : List (Result Info Error)) (w new : TopoWalk F P) → AreApart w → Yields (Next objects faulty answers) w list new → Asks w new.predicate
+  asks_all [] w new h d = subst (λ p. Asks w p) (ap (λ x. x.predicate) d) (record { ids = []; run = none; distinct = tt; untaken = λ i m. absurd (no_member i m); silent = λ e. refl })
   asks_all (answer ∷ list) w new h d = asks_next d.1 new.predicate h (λ k. asks_all list d.0 new k d.2)
 
-  pub asks_once : (list : List (Result Info Error)) (w new : TopoWalk F P) → IsStarted objects faulty answers w → Drawn objects faulty answers w list new → (ids : List ObjectId) × AsksAll answers w.predicate ids new.predicate × AreDistinct ids
+  pub asks_once : (list : List (Result Info Error)) (w new : TopoWalk F P) → IsStarted objects faulty answers w → Yields (Next objects faulty answers) w list new → (ids : List ObjectId) × AsksAll answers w.predicate ids new.predicate × AreDistinct ids
   asks_once list w new h d =
       let r : Asks w new.predicate = asks_all list w new (record { distinct = h.distinct; untaken = λ i m. ap (λ s. set.contains s i) h.untaken ∙ set.contains-empty id_cmp i }) d in
       (r.ids, r.run, r.distinct)
@@ -319,9 +320,9 @@ module _ {F P : Type 0} (objects : F → Objects) (faulty : F → ObjectId → T
       let same : Err x ≡ answer = cc in
       subst (λ y. Gives w (y ∷ list)) same (record { distinct = r.distinct; untaken = λ i m. absurd (no_member i (subst (λ xs. Contains xs i) none m)); silent = λ n. none })
 
-  gives_all : (list : List (Result Info Error)) (w new : TopoWalk F P) → AreApart w → Drawn objects faulty answers w list new → Gives w list
+  gives_all : (list : List (Result Info Error)) (w new : TopoWalk F P) → AreApart w → Yields (Next objects faulty answers) w list new → Gives w list
   gives_all [] w new h d = record { distinct = tt; untaken = λ i m. absurd (no_member i m); silent = λ e. refl }
   gives_all (answer ∷ list) w new h d = gives_next d.1 answer list refl h (λ k. gives_all list d.0 new k d.2)
 
-  pub never_twice : (list : List (Result Info Error)) (w new : TopoWalk F P) → IsStarted objects faulty answers w → Drawn objects faulty answers w list new → AreDistinct (given_ids list)
+  pub never_twice : (list : List (Result Info Error)) (w new : TopoWalk F P) → IsStarted objects faulty answers w → Yields (Next objects faulty answers) w list new → AreDistinct (given_ids list)
   never_twice list w new h d = (gives_all list w new (record { distinct = h.distinct; untaken = λ i m. ap (λ s. set.contains s i) h.untaken ∙ set.contains-empty id_cmp i }) d).distinct

@@ -2,13 +2,13 @@
 use Rattle.std.specs.Prelude.{Err, ◌≡◌, List, [], ◌∷◌, ◌++◌, Bool, true, Option, Some, Result, Ok, Contains}
 use Rattle.std.proofs.Common.{refl, sym, ap, subst, ⊎_elim, ◌∙◌}
 use Rattle.std.proofs.lemmas.List.Elements.{Contains-append_cases}
+use Rattle.std.specs.Iterator.{Yields}
 use Rattle.gix_parts.specs.declared.hash.ObjectId.{ObjectId}
 use Rattle.gix_parts.specs.Object.{Objects}
 use Rattle.gix_parts.specs.Rows.{row_of}
 use Rattle.gix_traverse.specs.declared.commit.Info.{Info}
 use Rattle.gix_traverse.specs.declared.commit.topo.Error.{Error}
 use Rattle.gix_traverse.specs.Topo.Walk.{Counted, TopoWalk, Ready, row_generation, IsWalkable, IsCounting, IsStarted, Takes, after, Next, ended, given, refused, failed}
-use Rattle.gix_traverse.specs.Topo.Laws.{Drawn}
 use Rattle.gix_parts.proofs.Ids.Membership.{Contains-here, Contains-there, no_member}
 use Rattle.gix_traverse.proofs.Topo.Run.Theorem.{holds_in, chosen_in, others_in}
 
@@ -42,14 +42,14 @@ module _ {F P : Type 0} (objects : F → Objects) (faulty : F → ObjectId → T
       record { plan = r.plan; tells = r.tells; info = r.info }
   told (failed c others ch f l) s h = record { plan = refl; tells = λ e r m. absurd (no_member r m); info = λ i n. cc }
 
-  told_all : (list : List (Result Info Error)) (w mid : TopoWalk F P) → IsWalkable objects faulty w.plan → Tells w → Drawn objects faulty answers w list mid → (mid.plan ≡ w.plan) × Tells mid
-  told_all [] w mid s h d = (ap (λ x. x.plan) d, subst Tells (sym d) h)
+  told_all : (list : List (Result Info Error)) (w mid : TopoWalk F P) → IsWalkable objects faulty w.plan → Tells w → Yields (Next objects faulty answers) w list mid → (mid.plan ≡ w.plan) × Tells mid
+  told_all [] w mid s h d = (ap (λ x. x.plan) (sym d), subst Tells d h)
   told_all (answer ∷ list) w mid s h d =
       let t : Told w d.0 (Some answer) = told d.1 s h in
       let r : (mid.plan ≡ d.0.plan) × Tells mid = told_all list d.0 mid (subst (IsWalkable objects faulty) (sym t.plan) s) t.tells d.2 in
       (r.0 ∙ t.plan, r.1)
 
-  pub tells : (walk mid new : TopoWalk F P) (list : List (Result Info Error)) (info : Info) → IsStarted objects faulty answers walk → IsWalkable objects faulty walk.plan → Drawn objects faulty answers walk list mid → Next objects faulty answers mid (Some (Ok info)) new → new.counted.standing ≡ true → info.generation ≡ row_generation (row_of walk.plan.rows info.id)
+  pub tells : (walk mid new : TopoWalk F P) (list : List (Result Info Error)) (info : Info) → IsStarted objects faulty answers walk → IsWalkable objects faulty walk.plan → Yields (Next objects faulty answers) walk list mid → Next objects faulty answers mid (Some (Ok info)) new → new.counted.standing ≡ true → info.generation ≡ row_generation (row_of walk.plan.rows info.id)
   tells walk mid new list info st s d next e =
       let r : (mid.plan ≡ walk.plan) × Tells mid = told_all list walk mid s (λ k x m. (st.stored s x m).told k) d in
       let t : Told mid new (Some (Ok info)) = told next (subst (IsWalkable objects faulty) (sym r.0) s) r.1 in
@@ -68,12 +68,12 @@ module _ {F P : Type 0} (objects : F → Objects) (faulty : F → ObjectId → T
   counts_next (refused t a next) s h ok = counts_next next s (t.adds.counting s) ok
   counts_next (failed c others {e = e} ch f l) s h ok = absurd (ok e refl)
 
-  counts_all : (list : List (Result Info Error)) (w new : TopoWalk F P) → IsWalkable objects faulty w.plan → IsCounting objects w.plan w.counted → Drawn objects faulty answers w list new → ((e : Error) → Contains list (Err e) → ⊥) → IsCounting objects w.plan new.counted
-  counts_all [] w new s h d ok = subst (λ x. IsCounting objects w.plan x.counted) (sym d) h
+  counts_all : (list : List (Result Info Error)) (w new : TopoWalk F P) → IsWalkable objects faulty w.plan → IsCounting objects w.plan w.counted → Yields (Next objects faulty answers) w list new → ((e : Error) → Contains list (Err e) → ⊥) → IsCounting objects w.plan new.counted
+  counts_all [] w new s h d ok = subst (λ x. IsCounting objects w.plan x.counted) d h
   counts_all (answer ∷ list) w new s h d ok =
       let p : d.0.plan ≡ w.plan = plan_stays d.1 in
       let n : IsCounting objects d.0.plan d.0.counted = counts_next d.1 s h (λ x m. ok x (let k : answer ≡ Err x = cc in subst (λ y. Contains (answer ∷ list) y) k (Contains-here answer list))) in
       subst (λ q. IsCounting objects q new.counted) p (counts_all list d.0 new (subst (IsWalkable objects faulty) (sym p) s) n d.2 (λ x m. ok x (Contains-there (Err x) answer list m)))
 
-  pub counts : (walk new : TopoWalk F P) (list : List (Result Info Error)) → IsStarted objects faulty answers walk → IsWalkable objects faulty walk.plan → Drawn objects faulty answers walk list new → ((e : Error) → Contains list (Err e) → ⊥) → IsCounting objects walk.plan new.counted
+  pub counts : (walk new : TopoWalk F P) (list : List (Result Info Error)) → IsStarted objects faulty answers walk → IsWalkable objects faulty walk.plan → Yields (Next objects faulty answers) walk list new → ((e : Error) → Contains list (Err e) → ⊥) → IsCounting objects walk.plan new.counted
   counts walk new list st s d ok = counts_all list walk new s (st.counting s) d ok

@@ -2,13 +2,13 @@
 use Rattle.std.specs.Prelude.{◌≡◌, List, [], ◌∷◌, ◌++◌, Bool, Option, Some, Result, Ok, Contains}
 use Rattle.std.proofs.Common.{refl, sym, ap, subst, ⊎_elim}
 use Rattle.std.proofs.lemmas.List.Elements.{Contains-append_cases}
+use Rattle.std.specs.Iterator.{Yields}
 use Rattle.gix_parts.specs.declared.hash.ObjectId.{ObjectId}
 use Rattle.gix_parts.specs.Object.{Objects}
 use Rattle.gix_parts.proofs.Ids.Membership.{Contains-cons_cases, no_member}
 use Rattle.gix_traverse.specs.declared.commit.Info.{Info}
 use Rattle.gix_traverse.specs.declared.commit.topo.Error.{Error}
 use Rattle.gix_traverse.specs.Topo.Walk.{TopoPlan, TopoWalk, Ready, Counted, IsKnown, IsStarted, Takes, after, Next, ended, given, refused, failed}
-use Rattle.gix_traverse.specs.Topo.Laws.{Drawn}
 use Rattle.gix_traverse.proofs.Topo.Run.Theorem.{holds_in, chosen_in, others_in}
 
 module _ {F P : Type 0} (objects : F → Objects) (faulty : F → ObjectId → Type 0) (answers : P → ObjectId → Bool → P → Type 0) where
@@ -43,11 +43,11 @@ module _ {F P : Type 0} (objects : F → Objects) (faulty : F → ObjectId → T
       record { plan = r.plan; knows = r.knows; info = r.info }
   given_known (failed c others ch f l) h = record { plan = refl; knows = λ r m. absurd (no_member r m); info = λ i n. cc }
 
-  all_known : (list : List (Result Info Error)) (w new : TopoWalk F P) → Knows w → Drawn objects faulty answers w list new → (info : Info) → Contains list (Ok info) → AreKnown w.plan info.parent_ids.items
+  all_known : (list : List (Result Info Error)) (w new : TopoWalk F P) → Knows w → Yields (Next objects faulty answers) w list new → (info : Info) → Contains list (Ok info) → AreKnown w.plan info.parent_ids.items
   all_known [] w new h d info m = absurd (no_member (Ok info) m)
   all_known (answer ∷ list) w new h d info m =
       let r : Given w d.0 (Some answer) = given_known d.1 h in
       ⊎_elim (λ s. r.info info (ap Some s)) (λ t. subst (λ plan. AreKnown plan info.parent_ids.items) r.plan (all_known list d.0 new r.knows d.2 info t)) (Contains-cons_cases (Ok info) answer list m)
 
-  pub parents_known : (walk new : TopoWalk F P) (list : List (Result Info Error)) (info : Info) → IsStarted objects faulty answers walk → Drawn objects faulty answers walk list new → Contains list (Ok info) → (p : ObjectId) → Contains info.parent_ids.items p → (standing : Bool) × IsKnown (objects walk.plan.store) walk.plan.rows standing p
+  pub parents_known : (walk new : TopoWalk F P) (list : List (Result Info Error)) (info : Info) → IsStarted objects faulty answers walk → Yields (Next objects faulty answers) walk list new → Contains list (Ok info) → (p : ObjectId) → Contains info.parent_ids.items p → (standing : Bool) × IsKnown (objects walk.plan.store) walk.plan.rows standing p
   parents_known walk new list info st d m = all_known list walk new (λ r k p n. ((st.found r k).after, (st.found r k).known p n)) d info m

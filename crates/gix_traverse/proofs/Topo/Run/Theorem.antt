@@ -8,6 +8,7 @@ use Rattle.std.proofs.lemmas.List.{map-append, reverse-append}
 use Rattle.std.proofs.lemmas.List.Sorted.{IsPermutation-map, IsPermutation-sym, Contains-permutation}
 use Rattle.std.proofs.lemmas.List.Elements.{Contains-append_left, Contains-append_cases, Contains-push, Contains-push_cases, All-head, All-tail, filter-append, filter_agree}
 use Rattle.std.specs.FinSet as set
+use Rattle.std.specs.Iterator.{Drains}
 use Rattle.gix_parts.specs.declared.hash.ObjectId.{ObjectId}
 use Rattle.gix_parts.specs.Id.{id_cmp, is_same, is_among}
 use Rattle.gix_parts.specs.declared.object.find.existing_iter.Error.TheVariants as existing
@@ -25,9 +26,10 @@ use Rattle.gix_traverse.specs.Orders.TopoOrder.{Keeps, last_places, IsMadeReady}
 use Rattle.gix_traverse.specs.Simple.Walk.{IsInfo}
 use Rattle.gix_traverse.specs.Simple.Laws.{Becomes, itself, further, AnswersBy}
 use Rattle.gix_traverse.proofs.Topo.Taking.ReadFaults.{walkable}
-use Rattle.gix_traverse.specs.Topo.Walk.{TopoPlan, TopoWalk, Ready, Counted, ready_ids, IsTaken, HoldsReady, Chooses, walked_of, IsMember, IsStored, IsSound, IsWalkable, IsFault, StartsWith, IsStarted, Takes, after, Next, ended, given, refused, failed, May}
+use Rattle.gix_traverse.specs.Topo.Walk.{TopoPlan, TopoWalk, Ready, Counted, ready_ids, IsTaken, HoldsReady, Chooses, walked_of, IsMember, IsStored, IsSound, IsWalkable, IsFault, StartsWith, IsStarted, Takes, after, Next, ended, given, refused, failed}
 use Rattle.gix_traverse.specs.Topo.Laws.{IsNoRefusal, IsSorted, IsGiven, GivesInOrder, IsWholeRun}
 use Rattle.gix_parts.proofs.Ids.Membership.{id_total, same_is, same_from, among-append, among-one, among_from, among_is, Contains-here, Contains-there, Contains-cons_cases, no_member}
+use Rattle.gix_traverse.proofs.Shared.Drained.{at_end, at_first}
 use Rattle.gix_traverse.proofs.Shared.NewIds.{times, times-append, times_moved, times_is_among, among_times}
 use Rattle.gix_traverse.proofs.Topo.Ready.IsReady.{times-by_time, keeps_from, keeps_alike, AreReady, ready_alike, takes_ready, starts_ready, in_walk_top}
 use Rattle.gix_traverse.proofs.Topo.Run.ReadyInTurn.{TurnsFrom, turn_none, turn_more, IsLastMade, reverse_in, in_reverse}
@@ -152,11 +154,12 @@ module _ {F P : Type 0} (objects : F → Objects) (faulty : F → ObjectId → T
       let same : Err e ≡ answer = cc in
       absurd (⊎_elim (λ m. ok.0 (sym same ∙ ap Err m)) (λ m. ok.1 (sym same ∙ ap Err m)) (sound_fault w.plan _ e s f))
 
-  all_drawn : (list : List (Result Info Error)) (w : TopoWalk F P) → IsSound objects faulty w.plan → AnswersBy answers w.predicate accepts → All IsNoRefusal list → May objects faulty answers w list → (ids : List ObjectId) × Draws w ids list
-  all_drawn [] w s by ok may = no_answer may.1 refl by
-  all_drawn (answer ∷ list) w s by ok may =
-      one_answer may.1 answer list refl (All-head IsNoRefusal answer list ok) s by
-      (λ t b. all_drawn list may.0 t b (All-tail IsNoRefusal answer list ok) may.2)
+  all_drawn : (list : List (Result Info Error)) (w : TopoWalk F P) → IsSound objects faulty w.plan → AnswersBy answers w.predicate accepts → All IsNoRefusal list → Drains (Next objects faulty answers) w list → (ids : List ObjectId) × Draws w ids list
+  all_drawn [] w s by ok drawn = no_answer (at_end (Next objects faulty answers) w drawn).1 refl by
+  all_drawn (answer ∷ list) w s by ok drawn =
+      let first = at_first (Next objects faulty answers) w answer list drawn in
+      one_answer first.1 answer list refl (All-head IsNoRefusal answer list ok) s by
+      (λ t b. all_drawn list first.0 t b (All-tail IsNoRefusal answer list ok) first.2)
 
   stored_still : (plan : TopoPlan F) (s t : Bool) (r : Ready) → (t ≡ true → s ≡ true) → IsStored objects plan s r → IsStored objects plan t r
   stored_still plan s t r f h = record { parents = h.parents; time = h.time; by_row = h.by_row; told = λ e. h.told (f e) }

@@ -34,11 +34,11 @@ use Rattle.gix_traverse.proofs.Topo.Counting.Children.{children_of, was_ready_of
 use Rattle.gix_traverse.proofs.Topo.Counting.Expanded.{explores_read}
 use Rattle.gix_traverse.proofs.Topo.Reading.OnceRead.{all_still, found_later}
 use Rattle.gix_traverse.proofs.Topo.Reading.FoundIsStored.{found_named, found_stored}
-use Rattle.gix_traverse.proofs.Topo.Reading.ReadsCommit.{text_whole}
 use Rattle.gix_traverse.proofs.Topo.Taking.Taken.{made_taken}
 use Rattle.gix_traverse.proofs.Topo.Taking.Setting.{was_ready, plan_taken, was_untaken, named_text, counted_on, explored_on, tally_on}
 use Rattle.gix_traverse.proofs.Topo.Run.Theorem.{in_ids}
 use Rattle.gix_traverse.proofs.Shared.ReadsWhole.{walked_within}
+use Rattle.gix_traverse.proofs.Shared.TextParents.{text_whole}
 
 module _ {F : Type 0} (objects : F → Objects) (faulty : F → ObjectId → Type 0) where
   -- rows that are in use after exploring were in use before
@@ -127,7 +127,7 @@ module _ {F : Type 0} (objects : F → Objects) (faulty : F → ObjectId → Typ
       is_member = steady.member r.id (made_taken w held.made r.id ∙ or_right (set.contains (taken_of w) r.id) _ among_ready)
 
       walked_is : named ≡ walked r.id
-      walked_is = named_text objects faulty w rest r chosen held sound.agreeing ∙ ap (by_mode w.counting.parents) (sym (text_whole those (faulty w.counting.reader.find) (plan_of w).rows r.id (sound.tips_whole r.id is_member.reached)))
+      walked_is = named_text objects faulty w rest r chosen held sound.agreeing ∙ ap (by_mode w.counting.parents) (sym (text_whole those r.id (sound.tips_whole r.id is_member.reached)))
 
       tally : IsTally (next Tips) (λ i. is_done (reached t.explored.frontier.known Tips i)) now_taken (children_of new.counting.frontier)
       tally = tally_on objects faulty w rest r chosen held sound.agreeing t.explored t.explores (children_of new.counting.frontier) rel.children

@@ -20,8 +20,9 @@ use Rattle.gix_traverse.specs.History.Reach.{Reaches, start, step}
 use Rattle.gix_traverse.specs.Topo.Inside.Searched.{IsExplored, IsTally, text_next, next_by, starts_by}
 use Rattle.gix_traverse.specs.Orders.WalkSet.{IsInWalk, IsChild}
 use Rattle.gix_traverse.proofs.Topo.Counting.Children.{tally_counts, tally_child, IsOpenChild}
-use Rattle.gix_traverse.proofs.Topo.Reading.ReadsCommit.{text_whole, text_has, parents_lower}
+use Rattle.gix_traverse.proofs.Topo.Reading.ReadsCommit.{text_has, parents_lower}
 use Rattle.gix_traverse.proofs.Shared.ReadsWhole.{walked_within}
+use Rattle.gix_traverse.proofs.Shared.TextParents.{text_whole}
 
 pub done_seen : (p : Progress) → is_done p ≡ true → is_seen p ≡ true
 done_seen Unseen e = cc
@@ -59,11 +60,11 @@ module _ (objects : Objects) (faulty : ObjectId → Type 0) (rows : List GraphRo
     -- over a sound history, what texts name is what is reached
     pub tips_text : (i : ObjectId) → Reaches walked tips i → Reaches (next_by objects parents Tips) tips i
     tips_text i (start m) = start m
-    tips_text i (step {c = c} r m) = step (tips_text c r) (subst (λ ids. Contains (by_mode parents ids) i) (text_whole objects faulty rows c (tips_whole c r)) m)
+    tips_text i (step {c = c} r m) = step (tips_text c r) (subst (λ ids. Contains (by_mode parents ids) i) (text_whole objects c (tips_whole c r)) m)
 
     pub text_tips : (i : ObjectId) → Reaches (next_by objects parents Tips) tips i → Reaches walked tips i
     text_tips i (start m) = start m
-    text_tips i (step {c = c} r m) = let h : Reaches walked tips c = text_tips c r in step h (subst (λ ids. Contains (by_mode parents ids) i) (sym (text_whole objects faulty rows c (tips_whole c h))) m)
+    text_tips i (step {c = c} r m) = let h : Reaches walked tips c = text_tips c r in step h (subst (λ ids. Contains (by_mode parents ids) i) (sym (text_whole objects c (tips_whole c h))) m)
 
     pub ends_text : (i : ObjectId) → Reaches (parents_of objects) ends i → Reaches (next_by objects parents Ends) ends i
     ends_text i (start m) = start m
@@ -71,14 +72,14 @@ module _ (objects : Objects) (faulty : ObjectId → Type 0) (rows : List GraphRo
 
     pub text_ends : (i : ObjectId) → Reaches (next_by objects parents Ends) ends i → Reaches (parents_of objects) ends i
     text_ends i (start m) = start m
-    text_ends i (step {c = c} r m) = let h : Reaches (parents_of objects) ends c = text_ends c r in step h (subst (λ ids. Contains ids i) (sym (text_whole objects faulty rows c (ends_whole c h))) m)
+    text_ends i (step {c = c} r m) = let h : Reaches (parents_of objects) ends c = text_ends c r in step h (subst (λ ids. Contains ids i) (sym (text_whole objects c (ends_whole c h))) m)
 
     -- after exploring, and after one commit more was taken
     module _ (f : Frontier) (depth : ℕ) (explored : (side : Side) → IsExplored objects rows parents tips ends depth side f)
         (within : (side : Side) (i : ObjectId) → is_seen (reached f.known side i) ≡ true → Reaches (next_by objects parents side) (starts_by tips ends side) i)
         (taken : ObjectId → Bool) (children : ObjectId → ℕ) (tally : IsTally (next_by objects parents Tips) (λ i. is_done (reached f.known Tips i)) taken children) where
       named_text : (d p : ObjectId) → Reaches walked tips d → Contains (walked d) p → Contains (next_by objects parents Tips d) p
-      named_text d p r m = subst (λ ids. Contains (by_mode parents ids) p) (text_whole objects faulty rows d (tips_whole d r)) m
+      named_text d p r m = subst (λ ids. Contains (by_mode parents ids) p) (text_whole objects d (tips_whole d r)) m
 
       -- no child is left that wasn't taken
       pub none_left : (p : ObjectId) → children p ≡ 0 → depth ≤ known_generation rows p → (d : ObjectId) → IsChild walked In d p → taken d ≡ true
@@ -104,6 +105,6 @@ module _ (objects : Objects) (faulty : ObjectId → Type 0) (rows : List GraphRo
           go (suc n) e =
               let k : IsOpenChild (next_by objects parents Tips) (λ i. is_done (reached f.known Tips i)) taken p = tally_child (next_by objects parents Tips) (λ i. is_done (reached f.known Tips i)) taken children tally p (omega arith) in
               let r : Reaches walked tips k.id = text_tips k.id (within Tips k.id (done_seen (reached f.known Tips k.id) k.done_now)) in
-              let w : Contains (walked k.id) p = subst (λ ids. Contains (by_mode parents ids) p) (sym (text_whole objects faulty rows k.id (tips_whole k.id r))) k.names in
+              let w : Contains (walked k.id) p = subst (λ ids. Contains (by_mode parents ids) p) (sym (text_whole objects k.id (tips_whole k.id r))) k.names in
               let c : IsChild walked In k.id p = record { child = record { reached = r; outside = λ e. m.outside (step e (walked_within parents (parents_of objects k.id) p w)) }; parent = m; named = w } in
               absurd (true≢false (sym (all k.id c) ∙ k.untaken))

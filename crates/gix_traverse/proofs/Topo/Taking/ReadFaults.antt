@@ -40,9 +40,10 @@ use Rattle.gix_traverse.proofs.Topo.Taking.AllReleases.{due_parts}
 use Rattle.gix_traverse.proofs.Topo.Taking.BecomeReady.{text_tips, text_ends, text_left, text_outside}
 use Rattle.gix_traverse.proofs.Shared.Committer.{fault_unread}
 use Rattle.gix_traverse.proofs.Topo.Counting.ExploreKeeps.{explores_keep, explores_same}
-use Rattle.gix_traverse.proofs.Topo.Reading.ReadsCommit.{text_whole, reads_text_next}
+use Rattle.gix_traverse.proofs.Topo.Reading.ReadsCommit.{reads_text_next}
 use Rattle.gix_traverse.proofs.Topo.Counting.BothSearches.{side_itself}
 use Rattle.gix_traverse.proofs.Shared.ReadsWhole.{no_fault}
+use Rattle.gix_traverse.proofs.Shared.TextParents.{text_whole}
 
 -- a fault found in place of a committer is an item
 pub fault_item : (items : List (Result Item DecodeError)) (e : DecodeError) → first_committer items ≡ Err e → (e ≡ fault.Missing → ⊥) → Contains items (Err e)
@@ -115,7 +116,7 @@ module _ {F : Type 0} (objects : F → Objects) (faulty : F → ObjectId → Typ
       parent_whole : IsSound objects faulty (plan_of old) → ReadsWhole (objects (plan_of old).store) p
       parent_whole s =
           let reach : Reaches (walked_of objects (plan_of old)) (plan_of old).tips i = text_tips (objects (plan_of old).store) (faulty (plan_of old).store) (plan_of old).rows (plan_of old).parents (plan_of old).tips (plan_of old).ends s.agreeing s.tips_whole s.ends_whole i (r s.agreeing) in
-          let same : info.parent_ids.items ≡ parents_of (objects (plan_of old).store) i = reads_text_next (objects (plan_of old).store) (faulty (plan_of old).store) (plan_of old).rows s.agreeing reads ∙ sym (text_whole (objects (plan_of old).store) (faulty (plan_of old).store) (plan_of old).rows i (s.tips_whole i reach)) in
+          let same : info.parent_ids.items ≡ parents_of (objects (plan_of old).store) i = reads_text_next (objects (plan_of old).store) (faulty (plan_of old).store) (plan_of old).rows s.agreeing reads ∙ sym (text_whole (objects (plan_of old).store) i (s.tips_whole i reach)) in
           s.parents_whole i p reach (subst (λ ids. Contains ids p) same m)
 
   -- nor does making a commit ready

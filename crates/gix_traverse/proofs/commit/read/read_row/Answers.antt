@@ -21,7 +21,7 @@ returns-in_default-2-clause-reads c =
     corrupt (search rules) (
       row_of_commit c.in-Some-commit_by_id.commit,
       ap (λ graph. row_of (rows_in graph) c.args.id.now) c.in-Some.is ∙ sym c.in-Some-commit_by_id.ensures.row,
-      ap (λ graph. ids_at (rows_in graph) (row_of_commit c.in-Some-commit_by_id.commit).parents) c.in-Some.is ∙ sym c.in_ok-parent_ids.ensures ∙ ap (option_map (λ ids. ids.items)) c.in_default-2.is,
+      ap (λ graph. ids_at (rows_in graph) (row_of_commit c.in-Some-commit_by_id.commit).parents) c.in-Some.is ∙ sym c.in_ok-parent_ids.ensures.ok ∙ ap (option_map (λ ids. ids.items)) c.in_default-2.is,
     )
 
 pub returns-clause-reads : goal.returns-clause-reads
