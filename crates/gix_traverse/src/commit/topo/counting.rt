@@ -1,6 +1,6 @@
 //! Counts the indegree of each commit that tips reach, as far down as is needed.
 ghost use Rattle.std.specs.Prelude.{◌≡◌, IfOk, IfErr, OnOk, false, true, cond, ◌+◌, ◌||◌};
-ghost use Rattle.gix_traverse.specs.Topo.Inside.Frontier.{is_done};
+ghost use Rattle.gix_traverse.specs.Topo.Inside.Frontier.{is_done, known_of};
 ghost use Rattle.gix_traverse.specs.Topo.Depth.{least};
 ghost use Rattle.gix_traverse.specs.History.Commits.{by_mode};
 ghost use Rattle.gix_traverse.specs.Orders.TopoOrder.{last_places};
@@ -8,7 +8,7 @@ ghost use Rattle.gix_traverse.specs.History.Reading.{rows_of, IsReadFault};
 ghost use Rattle.gix_traverse.specs.Topo.Inside.Exploring.{is_pending, Follows, ReadsParents, Steps, IsStepFault, IsSamePlan, Explores, IsExploringFault, IsRested};
 
 use super::Error;
-use super::frontier::{Frontier, Known, Side, Waiting};
+use super::frontier::{Frontier, Side, Waiting};
 use super::reader::Reader;
 use crate::commit::Parents;
 use gix_parts::graph::GENERATION_NUMBER_INFINITY;
@@ -61,23 +61,6 @@ where
         }
     }
     Ok(places)
-}
-
-/// The number of ids whose parents were read, with one more of which this is known.
-///
-/// # Errors
-///
-/// A number that no memory could hold is out of memory.
-fn one_more(expanded: usize, known: &Known) -> Result<usize, AllocError>
-    ensures { IfOk result (λ n. n ≡ expanded + cond (is_done known.now.tips || is_done known.now.ends) 0 1) }
-{
-    if known.is_done() {
-        return Ok(expanded);
-    }
-    match expanded.checked_add(1) {
-        Some(expanded) => Ok(expanded),
-        None => Err(AllocError),
-    }
 }
 
 impl<F: Find + Drop> Counting<F> {
@@ -183,6 +166,25 @@ impl<F: Find + Drop> Counting<F> {
         self.reader.look_up(id)
     }
 
+    /// One id more whose parents are read, unless a side has read them before.
+    ///
+    /// # Errors
+    ///
+    /// A number that no memory could hold is out of memory.
+    fn count(&mut self, id: &ObjectId) -> Result<(), AllocError>
+        ensures same { self.new ≡ record self.old { expanded = self.new.expanded } }
+        ensures expanded { OnOk result (let known = known_of self.old.frontier.known id.now in self.new.expanded ≡ self.old.expanded + cond (is_done known.tips || is_done known.ends) 0 1) }
+    {
+        if self.frontier.known(id).is_done() {
+            return Ok(());
+        }
+        match self.expanded.checked_add(1) {
+            Some(expanded) => self.expanded = expanded,
+            None => return Err(AllocError),
+        }
+        Ok(())
+    }
+
     /// Reads the parents of a queued id of greatest generation.
     fn step(&mut self) -> Result<(), Error>
         requires { is_pending self.old.reader.standing self.old.depth self.old.frontier.queue ≡ true }
@@ -194,7 +196,7 @@ impl<F: Find + Drop> Counting<F> {
             return Ok(());
         };
         let ids = self.read(&id, side)?;
-        self.expanded = one_more(self.expanded, &self.frontier.known(&id))?;
+        self.count(&id)?;
         self.follow(ids, side)?;
         self.frontier.finish(id, side)?;
         Ok(())
