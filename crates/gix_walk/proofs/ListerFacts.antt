@@ -10,13 +10,13 @@ use Rattle.gix_traverse.specs.declared.tree.breadthfirst.Error.{Error}
 use Rattle.gix_traverse.specs.declared.tree.recorder.Location.{Location}
 use Rattle.gix_traverse.specs.declared.tree.recorder.Location.TheVariants.{Path, FileName}
 use Rattle.gix_traverse.specs.Trees.Delegate.{Action, Call, PushPath, PopPath, PushBack, PopBack, PopFront, VisitTree, VisitNontree, Refused, Run}
-use Rattle.gix_traverse.specs.Trees.Recorder.{Record, Recorded, recorded, with_record}
+use Rattle.gix_traverse.specs.Trees.Recorder.{Record, Recorded, IsRecorderAnswer, recorded, with_record}
 use Rattle.gix_traverse.specs.Trees.Tracked.{Tracked, Tracks, fresh_recorder}
 use Rattle.gix_traverse.specs.Trees.Walk.{DepthFirst}
 use Rattle.gix_walk.specs.declared.fault.Fault.{Fault}
 use Rattle.gix_walk.specs.Faults.{fault_of_tree_walk}
 use Rattle.gix_walk.specs.Files.{RecordsTree, file_line, file_lines, AreLinesOf, IsTreeFault}
-use Rattle.gix_walk.specs.Lister.{Listed, Lists, fresh_lister}
+use Rattle.gix_walk.specs.Lister.{Listed, Moves, AddsLine, Lists, fresh_lister}
 use Rattle.gix_walk.specs.Walked.{never_faulty}
 
 abbrev holding : Recorded → List Record → Recorded
@@ -26,47 +26,10 @@ holding r records = record r { records = records }
 abbrev tracking : Tracked → List Record → Tracked
 tracking t records = record t { held = holding t.held records }
 
-module _ (records : List Record) where
-  -- a call that follows the path leaves any records
-  pushed : (location : Option Location) (r : Recorded) (name : List ℕ) → holding (recorded location r (PushPath name)) records ≡ recorded location (holding r records) (PushPath name)
-  pushed (Some Path) r name = refl
-  pushed (Some FileName) r name = refl
-  pushed None r name = refl
-
-  popped : (location : Option Location) (r : Recorded) → holding (recorded location r PopPath) records ≡ recorded location (holding r records) PopPath
-  popped (Some Path) r = refl
-  popped (Some FileName) r = refl
-  popped None r = refl
-
-  pushed_back : (location : Option Location) (r : Recorded) (name : List ℕ) → holding (recorded location r (PushBack name)) records ≡ recorded location (holding r records) (PushBack name)
-  pushed_back (Some Path) r name = refl
-  pushed_back (Some FileName) r name = refl
-  pushed_back None r name = refl
-
-  popped_back : (location : Option Location) (r : Recorded) → holding (recorded location r PopBack) records ≡ recorded location (holding r records) PopBack
-  popped_back (Some Path) r = refl
-  popped_back (Some FileName) r = refl
-  popped_back None r = refl
-
-  popped_front : (location : Option Location) (r : Recorded) → holding (recorded location r PopFront) records ≡ recorded location (holding r records) PopFront
-  popped_front (Some Path) r = refl
-  popped_front (Some FileName) r = refl
-  popped_front None r = refl
-
-  refused : (location : Option Location) (r : Recorded) → holding (recorded location r Refused) records ≡ recorded location (holding r records) Refused
-  refused (Some Path) r = refl
-  refused (Some FileName) r = refl
-  refused None r = refl
-
-saw_tree : (location : Option Location) (r : Recorded) (e : TreeEntry) (answer : Action) → with_record r e ≡ recorded location r (VisitTree e answer)
-saw_tree (Some Path) r e answer = refl
-saw_tree (Some FileName) r e answer = refl
-saw_tree None r e answer = refl
-
-saw_other : (location : Option Location) (r : Recorded) (e : TreeEntry) (answer : Action) → with_record r e ≡ recorded location r (VisitNontree e answer)
-saw_other (Some Path) r e answer = refl
-saw_other (Some FileName) r e answer = refl
-saw_other None r e answer = refl
+by_location : (P : Option Location → Type 0) → P (Some Path) → P (Some FileName) → P None → (l : Option Location) → P l
+by_location P a b c (Some Path) = a
+by_location P a b c (Some FileName) = b
+by_location P a b c None = c
 
 lines_last : (records : List Record) (r : Record) → file_lines (records ++ r ∷ []) ≡ file_lines records ++ file_line r
 lines_last records r = flat_map-append file_line records (r ∷ []) ∙ ap (λ x. file_lines records ++ x) (append-nil (file_line r))
@@ -82,25 +45,28 @@ module _ (old : Listed) (records : List Record) (lines : old.lines ≡ file_line
   abbrev location : Option Location
   location = old.recorder.location
 
+  -- whatever it tracks, a call that follows the path leaves any records
+  moves : (call : Call) → ((l : Option Location) → holding (recorded l held call) records ≡ recorded l (holding held records) call) → Moves old call new → Follows old records call new
+  moves call keeps h = (records, (h.0.0, (h.0.1.0, ap (λ r. holding r records) h.0.1.1 ∙ keeps location)), h.1 ∙ lines)
+
+  -- and a visit adds one
+  adds : (call : Call) (e : TreeEntry) (answer : Action) → ((l : Option Location) → with_record (holding held records) e ≡ recorded l (holding held records) call) → IsRecorderAnswer call → AddsLine old e answer new → Follows old records call new
+  adds call e answer shows answered h =
+      let one : Record = record { mode = e.mode; path = held.path; id = e.id } in (
+        records ++ one ∷ [],
+        (ap (λ l. l.recorder.location) h.1, (answered, ap (λ l. holding l.recorder.held (records ++ one ∷ [])) h.1 ∙ shows location)),
+        ap (λ l. l.lines) h.1 ∙ ap (λ x. x ++ file_line one) lines ∙ sym (lines_last records one),
+      )
+
   follow : (call : Call) → Lists old call new → Follows old records call new
-  follow (PushPath name) h = (records, (h.0.0, (h.0.1.0, ap (λ r. holding r records) h.0.1.1 ∙ pushed records location held name)), h.1 ∙ lines)
-  follow PopPath h = (records, (h.0.0, (h.0.1.0, ap (λ r. holding r records) h.0.1.1 ∙ popped records location held)), h.1 ∙ lines)
-  follow (PushBack name) h = (records, (h.0.0, (h.0.1.0, ap (λ r. holding r records) h.0.1.1 ∙ pushed_back records location held name)), h.1 ∙ lines)
-  follow PopBack h = (records, (h.0.0, (h.0.1.0, ap (λ r. holding r records) h.0.1.1 ∙ popped_back records location held)), h.1 ∙ lines)
-  follow PopFront h = (records, (h.0.0, (h.0.1.0, ap (λ r. holding r records) h.0.1.1 ∙ popped_front records location held)), h.1 ∙ lines)
-  follow Refused h = (records, (h.0.0, (h.0.1.0, ap (λ r. holding r records) h.0.1.1 ∙ refused records location held)), h.1 ∙ lines)
-  follow (VisitTree e answer) h =
-      let more : List Record = records ++ record { mode = e.mode; path = held.path; id = e.id } ∷ [] in (
-        more,
-        (ap (λ l. l.recorder.location) h.1, (h.0, ap (λ l. holding l.recorder.held more) h.1 ∙ saw_tree location (holding held records) e answer)),
-        ap (λ l. l.lines) h.1 ∙ ap (λ x. x ++ file_line (record { mode = e.mode; path = held.path; id = e.id })) lines ∙ sym (lines_last records (record { mode = e.mode; path = held.path; id = e.id })),
-      )
-  follow (VisitNontree e answer) h =
-      let more : List Record = records ++ record { mode = e.mode; path = held.path; id = e.id } ∷ [] in (
-        more,
-        (ap (λ l. l.recorder.location) h.1, (h.0, ap (λ l. holding l.recorder.held more) h.1 ∙ saw_other location (holding held records) e answer)),
-        ap (λ l. l.lines) h.1 ∙ ap (λ x. x ++ file_line (record { mode = e.mode; path = held.path; id = e.id })) lines ∙ sym (lines_last records (record { mode = e.mode; path = held.path; id = e.id })),
-      )
+  follow (PushPath name) h = moves (PushPath name) (by_location _ refl refl refl) h
+  follow PopPath h = moves PopPath (by_location _ refl refl refl) h
+  follow (PushBack name) h = moves (PushBack name) (by_location _ refl refl refl) h
+  follow PopBack h = moves PopBack (by_location _ refl refl refl) h
+  follow PopFront h = moves PopFront (by_location _ refl refl refl) h
+  follow Refused h = moves Refused (by_location _ refl refl refl) h
+  follow (VisitTree e answer) h = adds (VisitTree e answer) e answer (by_location _ refl refl refl) h.0 h
+  follow (VisitNontree e answer) h = adds (VisitNontree e answer) e answer (by_location _ refl refl refl) h.0 h
 
 follow_all : (old : Listed) (records : List Record) → old.lines ≡ file_lines records → (calls : List Call) (new : Listed) → Run Lists old calls new
     → (more : List Record) × Run Tracks (tracking old.recorder records) calls (tracking new.recorder more) × (new.lines ≡ file_lines more)
