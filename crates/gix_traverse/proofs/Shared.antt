@@ -1,9 +1,7 @@
 -- The new ids of a list, each at its first place, and how many times an id is in a list.
 pub mod NewIds
--- The ids that a row's places name, and what a row with a fault is.
+-- The ids that a row's places name, what a row with a fault is, which rows are held after a row was read, and what drops them.
 pub mod Rows
--- Which rows are held after a row was read, and what drops them.
-pub mod HeldRows
 -- What a list in order has: no id twice, and exactly what is reached.
 pub mod Orders
 -- A commit that reads whole gives the same parents by its items and by its row.

@@ -19,7 +19,7 @@ use Rattle.gix_traverse.specs.Simple.Inside.Painter.{State, Unmet, Open, Read, H
 use Rattle.gix_traverse.specs.Simple.Inside.Painter as painter
 use Rattle.gix_traverse.specs.Simple.Walk.{ids_at}
 use Rattle.gix_traverse.proofs.Painting.Invariant.{nobody, next, starts_of, RowsStand, IsSafe, Stands, IsStarted, still_stand}
-use Rattle.gix_traverse.proofs.Shared.HeldRows.{IsSoundRow, unread_fault}
+use Rattle.gix_traverse.proofs.Shared.Rows.{IsSoundRow, unread_fault}
 use Rattle.gix_traverse.proofs.Painting.Keys.{told_below_top}
 use Rattle.gix_traverse.proofs.Painting.KeptByTurn.{HasGeneration, falls, key_of, row_told, popped_there}
 use Rattle.gix_traverse.proofs.Painting.Turn.{IsTurned, turned, within, waits_still, graph_after, given_parents}

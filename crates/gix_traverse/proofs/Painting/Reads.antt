@@ -20,7 +20,7 @@ use Rattle.gix_traverse.specs.History.Either.{seconds_told}
 use Rattle.gix_traverse.specs.Simple.Building.{IsTipRead}
 use Rattle.gix_traverse.specs.Simple.Inside.Painter.{Reads, ReadsParents, by_row, by_store, drops}
 use Rattle.gix_traverse.specs.Simple.Walk.{IsUnrowed}
-use Rattle.gix_traverse.proofs.Shared.HeldRows.{passes}
+use Rattle.gix_traverse.proofs.Shared.Rows.{passes}
 use Rattle.gix_traverse.proofs.Shared.CommitterTime.{committer_read, time_read}
 use Rattle.gix_traverse.proofs.Shared.ReadsWhole.{scan_is}
 

@@ -1,6 +1,7 @@
 -- Over a finite history there is a list in breadth order, and so a test of what is reached.
 use Rattle.std.specs.Prelude.{◌≡◌, ◌↔◌, ◌+◌, ◌≤◌, ℕ, zero, suc, List, [], ◌∷◌, ◌++◌, filter, length, take, slice_get, Bool, true, false, not, cond, ◌||◌, Option, Some, None, Contains, find}
 use Rattle.std.proofs.Common.{refl, sym, ap, subst, inl, inr, ⊎_elim, ◌∙◌, arith, append_assoc, append-nil}
+use Rattle.std.proofs.Math.Bool.{or_comm}
 use Rattle.std.specs.List.{flat_map}
 use Rattle.std.proofs.lemmas.List.Elements.{Contains-append_cases}
 use Rattle.std.proofs.lemmas.Bool.{false≢true, true≢false, false_from_ne_true, true_from_ne_false, not-true}
@@ -37,14 +38,8 @@ module _ (next : ObjectId → List ObjectId) (starts : List ObjectId) (all : Lis
   falls : (taken : List ObjectId) (i : ObjectId) → Some i ≡ first_new (named_by next starts taken) taken → suc (length (fresh (λ j. is_among j (taken ++ i ∷ [])) all)) ≡ length (fresh (λ j. is_among j taken) all)
   falls taken i e =
       let h : Contains (named_by next starts taken) i × (not (is_among i taken) ≡ true) = found_passes (λ j. not (is_among j taken)) (named_by next starts taken) i (sym e) in
-      ap (λ xs. suc (length xs)) (fresh_agree (λ j. is_among j (taken ++ i ∷ [])) (λ j. is_same j i || is_among j taken) all (λ j n. among-append j taken (i ∷ []) ∙ ap (λ b. is_among j taken || b) (among-one j i) ∙ turned (is_among j taken) (is_same j i)))
+      ap (λ xs. suc (length xs)) (fresh_agree (λ j. is_among j (taken ++ i ∷ [])) (λ j. is_same j i || is_among j taken) all (λ j n. among-append j taken (i ∷ []) ∙ ap (λ b. is_among j taken || b) (among-one j i) ∙ or_comm (is_among j taken) (is_same j i)))
       ∙ new_less (λ j. is_among j taken) all i (named_in_all taken i h.0) (not-true _ h.1)
-    where
-      turned : (a b : Bool) → (a || b) ≡ (b || a)
-      turned true true = refl
-      turned true false = refl
-      turned false true = refl
-      turned false false = refl
 
   order_from : (n : ℕ) (taken : List ObjectId) → length (fresh (λ j. is_among j taken) all) ≤ n → (ids : List ObjectId) × BreadthFrom next starts taken ids
   order_from zero taken b = go (first_new (named_by next starts taken) taken) refl

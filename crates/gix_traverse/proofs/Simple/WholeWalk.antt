@@ -1,6 +1,7 @@
 -- A whole walk gives what the definitions say.
-use Rattle.std.specs.Prelude.{◌≡◌, ◌≤◌, ℕ, zero, suc, ℤ, List, [], ◌∷◌, ◌++◌, length, take, slice_get, Bool, true, false, ◌&&◌, ◌||◌, Option, Some, None, Result, Err, Contains, All}
+use Rattle.std.specs.Prelude.{◌≡◌, ◌≤◌, ℕ, zero, suc, ℤ, List, [], ◌∷◌, ◌++◌, length, take, slice_get, Bool, true, ◌&&◌, ◌||◌, Option, Some, None, Result, Err, Contains, All}
 use Rattle.std.proofs.Common.{refl, sym, ap, subst, ⊎_elim, ◌∙◌, arith, append_assoc, append-nil}
+use Rattle.std.proofs.Math.Bool.{or_comm}
 use Rattle.std.specs.Iterator.{Drains}
 use Rattle.std.specs.List.{AllZip}
 use Rattle.std.proofs.lemmas.List.Sorted.{Contains-permutation, IsPermutation-sym}
@@ -103,7 +104,7 @@ module _ {F P : Type 0} (objects : F → Objects) (faulty : F → ObjectId → T
         turn = c.0;
         runs = record {
           rest = t.rest;
-          seen = λ j k. t.seen j k ∙ ap (λ b. is_among j (walked_parents (objects s.store) s.parents p.id) || b) (h.seen j k) ∙ turned (is_among j (walked_parents (objects s.store) s.parents p.id)) (is_among j (named s done))
+          seen = λ j k. t.seen j k ∙ ap (λ b. is_among j (walked_parents (objects s.store) s.parents p.id) || b) (h.seen j k) ∙ or_comm (is_among j (walked_parents (objects s.store) s.parents p.id)) (is_among j (named s done))
               ∙ sym (among_push j ∙ ap (λ b. is_among j (named s done) || b) (kept j ∙ ap (λ b. b && is_among j (walked_parents (objects s.store) s.parents p.id)) k));
           queue = subst (λ xs. IsQueue (order_of objects faulty answers s) xs (done ++ p.id ∷ []) (ids_of new.pending)) (sym push)
               (grows (order_of objects faulty answers s) (named s done) done p.id (ids_of others) (ids_of new.pending) (next objects faulty answers s p.id) (set.contains w.seen) c.1 t.pending
@@ -112,12 +113,6 @@ module _ {F P : Type 0} (objects : F → Objects) (faulty : F → ObjectId → T
           within = λ d m. among_push d ∙ or_left _ _ (⊎_elim (λ n. h.within d n) (λ e. subst (λ y. is_among y (named s done) ≡ true) (sym (same_is d p.id (sym (among-one d p.id) ∙ e))) c.2) (or_cases _ _ (sym (among-append d done (p.id ∷ [])) ∙ m)));
         };
       }
-    where
-      turned : (a b : Bool) → (a || b) ≡ (b || a)
-      turned true true = refl
-      turned true false = refl
-      turned false true = refl
-      turned false false = refl
 
   -- these answers may follow a walk whose hidden tips are painted
   abbrev pub MayStep : SimpleWalk F P → List (Result Info Error) → Type 0

@@ -19,7 +19,7 @@ use Rattle.gix_traverse.specs.History.Reading.{RowSays, is_read, Reads, by_row, 
 use Rattle.gix_traverse.specs.Topo.Inside.Searched.{text_next}
 use Rattle.gix_traverse.specs.Simple.Laws.{IsRowGeneration}
 use Rattle.gix_traverse.specs.Topo.Walk.{TopoPlan, Ready, IsWalkable, IsStored, named_ids, row_generation, IsFound}
-use Rattle.gix_traverse.proofs.Shared.HeldRows.{passed_over}
+use Rattle.gix_traverse.proofs.Shared.Rows.{passed_over}
 use Rattle.gix_traverse.proofs.Shared.CommitterTime.{TellsTime, tells}
 use Rattle.gix_traverse.proofs.Shared.ReadsWhole.{row_stands, row_says_time}
 use Rattle.gix_traverse.proofs.Shared.TextParents.{text_whole}

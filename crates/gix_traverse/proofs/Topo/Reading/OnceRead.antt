@@ -15,7 +15,7 @@ use Rattle.gix_traverse.specs.Topo.Inside.Frontier.{is_done, reached}
 use Rattle.gix_traverse.specs.Topo.Inside.Releasing.{plan_of, LooksUpParent, Pushes}
 use Rattle.gix_traverse.specs.Topo.Inside.Steady.{IsReadOnce, AreRead}
 use Rattle.gix_traverse.specs.Topo.Walk.{TopoPlan, Ready, IsCommitRead, IsKnown, IsFound}
-use Rattle.gix_traverse.proofs.Shared.HeldRows.{IsSoundRow, held_whole}
+use Rattle.gix_traverse.proofs.Shared.Rows.{IsSoundRow, held_whole}
 use Rattle.gix_traverse.proofs.Topo.Reading.Faultless.{faultless}
 
 -- a commit that is read from the store has no fault

@@ -1,6 +1,7 @@
 -- A whole topological walk takes what the definitions say, in their order.
 use Rattle.std.specs.Prelude.{◌≡◌, ◌⊎◌, ◌+◌, ◌≤◌, ◌≤ℤ◌, ℕ, List, [], ◌∷◌, ◌++◌, Bool, true, false, not, ◌&&◌, ◌||◌, cond, filter, find, reverse, Option, Some, None, Result, Ok, Err, Contains, MatchOption, IsPermutation, All}
 use Rattle.std.proofs.Common.{refl, sym, ap, subst, ⊎_elim, inl, inr, ◌∙◌, arith, append-nil}
+use Rattle.std.proofs.Math.Bool.{or_comm}
 use Rattle.std.specs.List.{AllZip}
 use Rattle.std.proofs.lemmas.Int.{ints}
 use Rattle.std.proofs.lemmas.Bool.{false≢true, or_cases, false_from_ne_true, not_from_false}
@@ -172,13 +173,7 @@ module _ {F P : Type 0} (objects : F → Objects) (faulty : F → ObjectId → T
 
   module _ (w : TopoWalk F P) (done : List ObjectId) (sound : IsWalkable objects faulty w.plan) (c : Ready) (counted : Counted) (ready : List Ready) (t : Takes objects faulty answers w c counted ready) (h : Stands w done) where
     taken_now : (i : ObjectId) → set.contains (set.insert w.taken c.id) i ≡ is_among i (done ++ c.id ∷ [])
-    taken_now i = set.contains-insert id_total w.taken c.id i ∙ turned (is_same i c.id) (set.contains w.taken i) ∙ ap (λ b. b || is_same i c.id) (h.taken i) ∙ sym (among-append i done (c.id ∷ []) ∙ ap (λ b. is_among i done || b) (among-one i c.id))
-      where
-        turned : (a b : Bool) → (a || b) ≡ (b || a)
-        turned true true = refl
-        turned true false = refl
-        turned false true = refl
-        turned false false = refl
+    taken_now i = set.contains-insert id_total w.taken c.id i ∙ or_comm (is_same i c.id) (set.contains w.taken i) ∙ ap (λ b. b || is_same i c.id) (h.taken i) ∙ sym (among-append i done (c.id ∷ []) ∙ ap (λ b. is_among i done || b) (among-one i c.id))
 
     became : Keeps (IsReady (walked_of objects w.plan) (IsMember objects w.plan) (Contains (done ++ c.id ∷ []))) (last_places (walked_of objects w.plan c.id)) (ready_ids t.added)
     became =

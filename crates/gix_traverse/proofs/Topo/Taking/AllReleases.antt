@@ -26,7 +26,7 @@ use Rattle.gix_traverse.specs.Topo.Walk.{TopoPlan, Ready, ready_ids, HoldsReady,
 use Rattle.gix_traverse.proofs.Topo.Reading.OnceRead.{all_still, found_later, found_pushed}
 use Rattle.gix_traverse.proofs.Topo.Counting.Frontier.{known-insert, unmoved, reached-insert, has_seen}
 use Rattle.gix_traverse.proofs.Topo.Counting.Children.{children_of, was_ready_of}
-use Rattle.gix_traverse.proofs.Shared.HeldRows.{held_before, dropped_by}
+use Rattle.gix_traverse.proofs.Shared.Rows.{held_before, dropped_by}
 use Rattle.gix_traverse.proofs.Shared.NewIds.{among_times}
 
 -- P in other words, for the ids of a list

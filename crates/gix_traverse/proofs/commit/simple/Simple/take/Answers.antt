@@ -2,7 +2,7 @@ use Rattle.std.proofs.Common.{[], ap, subst, ◌∙◌, if◌then◌else◌}
 use Rattle.gix_traverse.specs.History.Reading.{rows_of, ReadsRow}
 use Rattle.gix_traverse.specs.Simple.Walk.{IsUnrowed, Takes, kept_rows}
 use Rattle.gix_parts.specs.Rows.{row_of}
-use Rattle.gix_traverse.proofs.Shared.HeldRows.{reads_lent, read_held, passes}
+use Rattle.gix_traverse.proofs.Shared.Rows.{reads_lent, read_held, passes}
 use Rattle.gix_traverse.proofs.Simple.TakesCommit.{takes_no_memory, takes_unrowed}
 use Rattle.gix_traverse.proofs.commit.simple.Simple.take.Goals as goal
 

@@ -3,7 +3,7 @@ use Rattle.std.proofs.lemmas.Result.{err_from_is_err_and}
 use Rattle.gix_traverse.specs.declared.commit.topo.Error.{Error}
 use Rattle.gix_traverse.specs.declared.commit.topo.Error.TheVariants as error
 use Rattle.gix_traverse.specs.History.Reading.{rows_of, ReadsRow, Reads, by_row, by_text, no_memory}
-use Rattle.gix_traverse.proofs.Shared.HeldRows.{reads_lent}
+use Rattle.gix_traverse.proofs.Shared.Rows.{reads_lent}
 use Rattle.gix_traverse.proofs.commit.topo.reader.Reader.read.Goals as goal
 
 pub returns-in_err-row-clause-reads : goal.returns-in_err-row-clause-reads
