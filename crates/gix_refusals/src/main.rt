@@ -2,6 +2,8 @@
 //! has the answers so far and `out of memory`. Writing itself asks for none.
 #![tactic(auto)]
 
+use gix_rows::history::By;
+use gix_rows::table::Table;
 use gix_rows::words::Stop;
 use gix_rows::{calls, simple, topo, trees};
 use std::io;
@@ -12,19 +14,19 @@ fn main(rt: HostRuntime) -> io::Result<()> {
 
 fn write_all(rt: &HostRuntime) -> io::Result<()> {
     write_all_simple(rt)?;
-    write_topo(rt, "orders", &topo::orders::TABLES)?;
-    write_topo(rt, "counts", &topo::counts::TABLES)?;
+    write_walks(rt, "Topo", "orders", &topo::orders::TABLES)?;
+    write_walks(rt, "Topo", "counts", &topo::counts::TABLES)?;
     write_trees(rt, "calls", &trees::calls::TABLES)?;
     write_trees(rt, "recorded", &trees::recorded::TABLES)?;
     write_calls(rt, &calls::CALLS)
 }
 
 fn write_all_simple(rt: &HostRuntime) -> io::Result<()> {
-    write_simple(rt, "breadth", &simple::breadth::TABLES)?;
-    write_simple(rt, "faults", &simple::faults::TABLES)?;
-    write_simple(rt, "times", &simple::times::TABLES)?;
-    write_simple(rt, "hiding", &simple::hiding::TABLES)?;
-    write_simple(rt, "graphs", &simple::graphs::TABLES)
+    write_walks(rt, "Simple", "breadth", &simple::breadth::TABLES)?;
+    write_walks(rt, "Simple", "faults", &simple::faults::TABLES)?;
+    write_walks(rt, "Simple", "times", &simple::times::TABLES)?;
+    write_walks(rt, "Simple", "hiding", &simple::hiding::TABLES)?;
+    write_walks(rt, "Simple", "graphs", &simple::graphs::TABLES)
 }
 
 /// Ends a line: the answers, each line of them behind `|`, and why it ends too early.
@@ -41,27 +43,19 @@ fn end_line(rt: &HostRuntime, told: &str, end: Result<(), Stop>) -> io::Result<(
     }
 }
 
-fn write_simple(rt: &HostRuntime, name: &str, tables: &[simple::Table<'_>]) -> io::Result<()> {
+fn write_walks<T: Table>(
+    rt: &HostRuntime,
+    walks: &str,
+    name: &str,
+    tables: &[T],
+) -> io::Result<()> {
     for (place, table) in tables.iter().enumerate() {
-        for (case, row) in table.cases.iter().enumerate() {
-            for by in table.by {
+        let (cases, ways) = table.rows();
+        for (case, row) in cases.iter().enumerate() {
+            for by in ways {
                 let mut told = String::new(rt.alloc());
                 let end = table.tell(rt.alloc(), *by, row, &mut told);
-                print!(rt; "Simple {name} {place}.{case} {by:?}:")?;
-                end_line(rt, told.as_str(), end)?;
-            }
-        }
-    }
-    Ok(())
-}
-
-fn write_topo(rt: &HostRuntime, name: &str, tables: &[topo::Table<'_>]) -> io::Result<()> {
-    for (place, table) in tables.iter().enumerate() {
-        for (case, row) in table.cases.iter().enumerate() {
-            for by in table.by {
-                let mut told = String::new(rt.alloc());
-                let end = table.tell(rt.alloc(), *by, row, &mut told);
-                print!(rt; "Topo {name} {place}.{case} {by:?}:")?;
+                print!(rt; "{walks} {name} {place}.{case} {by:?}:")?;
                 end_line(rt, told.as_str(), end)?;
             }
         }
@@ -73,7 +67,7 @@ fn write_trees(rt: &HostRuntime, name: &str, tables: &[trees::Table<'_>]) -> io:
     for (place, table) in tables.iter().enumerate() {
         for (case, row) in table.cases.iter().enumerate() {
             let mut told = String::new(rt.alloc());
-            let end = table.tell(rt.alloc(), row, &mut told);
+            let end = table.tell(rt.alloc(), By::Store, row, &mut told);
             print!(rt; "trees {name} {place}.{case}:")?;
             end_line(rt, told.as_str(), end)?;
         }

@@ -186,25 +186,22 @@ impl History<'_> {
     }
 }
 
-/// A store that fails at one id.
+/// A store, and the id at which it fails, if at any.
 #[derive(Clone, Copy)]
-pub struct Failing<'a> {
-    pub store: &'a MemoryStore,
-    pub at: ObjectId,
-}
+pub struct Failing<'a>(pub &'a MemoryStore, pub Option<ObjectId>);
 
 impl Find for Failing<'_> {
-    ghost use Rattle.std.specs.Prelude.{◌≡◌};
+    ghost use Rattle.std.specs.Prelude.{◌≡◌, Some};
 
-    ghost objects = { λ s. s.store.now };
+    ghost objects = { λ s. s.0.now };
 
-    ghost faulty = { λ s i. i ≡ s.at };
+    ghost faulty = { λ s i. s.1 ≡ Some i };
 
     fn find_into(&self, id: &ObjectId, buf: &mut Vec<u8>) -> Result<Option<Kind>, find::Error> {
-        if *id == self.at {
+        if self.1 == Some(*id) {
             return Err(find::Error::Store);
         }
-        self.store.find_into(id, buf)
+        self.0.find_into(id, buf)
     }
 }
 
@@ -216,6 +213,23 @@ pub struct Rows<'a> {
     pub generations: &'a [u32],
     pub fault: Option<(u8, u8)>,
 }
+
+/// Commits that reach younger ones.
+pub const SKEWED_COMMITS: [(u8, &[u8]); 6] = [
+    (9, &[8, 6]),
+    (8, &[7]),
+    (7, &[6]),
+    (6, &[]),
+    (2, &[1]),
+    (1, &[8]),
+];
+
+/// A history with a commit, 1, that is older than its parent, 8.
+pub const SKEWED: Rows<'static> = Rows {
+    commits: &SKEWED_COMMITS,
+    generations: &[4, 3, 2, 1, 5, 4],
+    fault: None,
+};
 
 /// The rows of the whole sample.
 pub const FULL: Rows<'static> = Rows {

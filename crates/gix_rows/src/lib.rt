@@ -8,6 +8,7 @@ pub mod history;
 #[cfg(test)]
 mod parts;
 pub mod simple;
+pub mod table;
 pub mod topo;
 pub mod trees;
 pub mod words;

@@ -8,6 +8,7 @@ pub mod times;
 use crate::history::{
     BY_STORE, By, FULL, Failing, History, PLAIN, ROOM, Rows, TREE, digit, id, ids, long_id, text,
 };
+use crate::table;
 use crate::words::{Stop, space, write_broken, write_not_found};
 use gix_parts::graph::Graph;
 use gix_parts::hash::ObjectId;
@@ -92,7 +93,6 @@ pub struct Table<'a> {
     /// The store fails at this commit, if at any.
     pub fails: Option<u8>,
     pub rows: Rows<'a>,
-    /// How the walks read commits. In each way they tell the same.
     pub by: &'a [By],
     /// What the walks have in common.
     pub wish: Wish<'a>,
@@ -238,10 +238,7 @@ fn tell_walk<F: Find + Drop>(
 
 impl Wish<'_> {
     fn tips(&self, alloc: Global) -> Result<Vec<ObjectId>, AllocError> {
-        let mut tips = Vec::new(alloc);
-        for digit in self.tips {
-            tips.push(id(*digit))?;
-        }
+        let mut tips = ids(alloc, self.tips)?;
         for digit in self.long {
             tips.push(long_id(*digit))?;
         }
@@ -409,15 +406,18 @@ fn draw_owners<F: Find + Drop>(
     Ok(true)
 }
 
-impl Table<'_> {
-    /// What the walk of a case tells, which reads commits in this way.
-    pub fn tell(
-        &self,
-        alloc: Global,
-        by: By,
-        case: &Case<'_>,
-        told: &mut String,
-    ) -> Result<(), Stop> {
+impl<'a> table::Table for Table<'a> {
+    type Case = Case<'a>;
+
+    fn rows(&self) -> (&[Case<'a>], &[By]) {
+        (self.cases, self.by)
+    }
+
+    fn want<'c>(case: &'c Case<'a>) -> &'c str {
+        case.3
+    }
+
+    fn tell(&self, alloc: Global, by: By, case: &Case<'a>, told: &mut String) -> Result<(), Stop> {
         told.reserve(ROOM)?;
         let (tips, sortings, hidden, _) = *case;
         let [hidden_before, _] = self.wish.hidden;
@@ -428,48 +428,24 @@ impl Table<'_> {
             ..self.wish
         };
         let store = self.history.store(alloc)?;
+        let failing = Failing(&store, self.fails.map(id));
         let graph = by.graph(alloc, &self.rows)?;
-        let commits = self.history.commits;
-        match self.fails {
-            None => wish.tell(alloc, &store, graph, commits, told),
-            Some(n) => {
-                let failing = Failing {
-                    store: &store,
-                    at: id(n),
-                };
-                wish.tell(alloc, &failing, graph, commits, told)
-            }
-        }
+        wish.tell(alloc, &failing, graph, self.history.commits, told)
     }
 }
 
 #[cfg(test)]
-pub mod tests {
+mod tests {
     use super::*;
+    use crate::table::tests::check;
     use std::test::Fail;
 
-    /// Compares what a walk tells with what is wanted.
-    fn check_case(alloc: Global, table: &Table<'_>, by: By, case: &Case<'_>) -> Result<(), Fail> {
-        let mut told = String::new(alloc);
-        table.tell(alloc, by, case, &mut told)?;
-        let (tips, sortings, hidden, want) = case;
-        if told.as_str() != *want {
-            return Err(Fail::new(format_args!(
-                "{tips:?} {sortings:?} without {hidden:?} by {by:?} tells {told}, not {want}"
-            )));
-        }
-        Ok(())
-    }
-
-    /// Compares what walks tell with what is wanted.
-    pub fn check(alloc: Global, tables: &[Table<'_>]) -> Result<(), Fail> {
-        for table in tables {
-            for case in table.cases {
-                for by in table.by {
-                    check_case(alloc, table, *by, case)?;
-                }
-            }
-        }
-        Ok(())
+    #[test]
+    fn rows(rt: HostRuntime) -> Result<(), Fail> {
+        check(rt.alloc(), "breadth", &breadth::TABLES)?;
+        check(rt.alloc(), "faults", &faults::TABLES)?;
+        check(rt.alloc(), "times", &times::TABLES)?;
+        check(rt.alloc(), "hiding", &hiding::TABLES)?;
+        check(rt.alloc(), "graphs", &graphs::TABLES)
     }
 }

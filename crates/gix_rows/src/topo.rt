@@ -3,6 +3,7 @@ pub mod counts;
 pub mod orders;
 
 use crate::history::{BY_STORE, By, FULL, Failing, History, PLAIN, ROOM, Rows, digit, id, ids};
+use crate::table;
 use crate::words::{Stop, space, write_broken, write_not_found};
 use gix_parts::graph::Graph;
 use gix_parts::hash::ObjectId;
@@ -70,7 +71,6 @@ pub struct Table<'a> {
     /// The store fails at this commit, if at any.
     pub fails: Option<u8>,
     pub rows: Rows<'a>,
-    /// How the walks read commits. In each way they tell the same.
     pub by: &'a [By],
     pub way: Way,
     pub cases: &'a [Case<'a>],
@@ -246,83 +246,58 @@ fn write_fault(told: &mut String, fault: &Error) -> Result<(), AllocError> {
     }
 }
 
-impl Table<'_> {
-    /// What the walk of a case tells, which reads commits in this way.
-    pub fn tell(
-        &self,
-        alloc: Global,
-        by: By,
-        case: &Case<'_>,
-        told: &mut String,
-    ) -> Result<(), Stop> {
+impl<'a> table::Table for Table<'a> {
+    type Case = Case<'a>;
+
+    fn rows(&self) -> (&[Case<'a>], &[By]) {
+        (self.cases, self.by)
+    }
+
+    fn want<'c>(case: &'c Case<'a>) -> &'c str {
+        case.2
+    }
+
+    fn tell(&self, alloc: Global, by: By, case: &Case<'a>, told: &mut String) -> Result<(), Stop> {
         told.reserve(ROOM)?;
         let (tips, ends, _) = *case;
         let store = self.history.store(alloc)?;
+        let failing = Failing(&store, self.fails.map(id));
         let graph = by.graph(alloc, &self.rows)?;
-        match self.fails {
-            None => self.way.tell(alloc, &store, graph, tips, ends, told),
-            Some(n) => {
-                let failing = Failing {
-                    store: &store,
-                    at: id(n),
-                };
-                self.way.tell(alloc, &failing, graph, tips, ends, told)
-            }
-        }
+        self.way.tell(alloc, &failing, graph, tips, ends, told)
     }
 }
 
 #[cfg(test)]
-pub mod tests {
+mod tests {
     use super::*;
+    use crate::table::tests::{check, check_print};
     use gix_parts::object::decode;
     use gix_parts::object::find::existing_iter;
-    use std::fmt::Display;
     use std::test::Fail;
 
-    /// Compares what a walk tells with what is wanted.
-    fn check_case(alloc: Global, table: &Table<'_>, by: By, case: &Case<'_>) -> Result<(), Fail> {
-        let mut told = String::new(alloc);
-        table.tell(alloc, by, case, &mut told)?;
-        let (tips, ends, want) = case;
-        if told.as_str() != *want {
-            return Err(Fail::new(format_args!(
-                "{tips:?} without {ends:?} by {by:?} tells {told}, not {want}"
-            )));
-        }
-        Ok(())
-    }
-
-    /// Compares what walks tell with what is wanted.
-    pub fn check(alloc: Global, tables: &[Table<'_>]) -> Result<(), Fail> {
-        for table in tables {
-            for case in table.cases {
-                for by in table.by {
-                    check_case(alloc, table, *by, case)?;
-                }
-            }
-        }
-        Ok(())
-    }
-
-    /// A fault as it prints itself.
-    fn printed<D: Display + Drop>(alloc: Global, fault: D) -> Result<String, AllocError> {
-        format!(in alloc; "{fault}")
+    #[test]
+    fn rows(rt: HostRuntime) -> Result<(), Fail> {
+        check(rt.alloc(), "orders", &orders::TABLES)?;
+        check(rt.alloc(), "counts", &counts::TABLES)
     }
 
     #[test]
     fn a_fault_says_what_it_holds(rt: HostRuntime) -> Result<(), Fail> {
-        let told = printed(rt.alloc(), Error::MissingIndegreeUnexpected)?;
-        assert_eq!(rt; told.as_str(), "Indegree information is missing");
-        let told = printed(rt.alloc(), Error::MissingStateUnexpected)?;
-        assert_eq!(rt; told.as_str(), "Internal state (bitflags) not found");
-        let held = printed(rt.alloc(), existing_iter::Error::Store)?;
-        let told = printed(rt.alloc(), Error::from(existing_iter::Error::Store))?;
-        assert_eq!(rt; told.as_str(), held.as_str());
-        let held = printed(rt.alloc(), decode::Error::Parent)?;
-        let told = printed(rt.alloc(), Error::from(decode::Error::Parent))?;
-        assert_eq!(rt; told.as_str(), held.as_str());
-        Ok(())
+        let alloc = rt.alloc();
+        check_print(
+            alloc,
+            &Error::MissingIndegreeUnexpected,
+            &"Indegree information is missing",
+        )?;
+        check_print(
+            alloc,
+            &Error::MissingStateUnexpected,
+            &"Internal state (bitflags) not found",
+        )?;
+        let held = existing_iter::Error::Store;
+        check_print(alloc, &Error::from(held), &held)?;
+        let held = decode::Error::Parent;
+        check_print(alloc, &Error::from(held), &held)
     }
 
     #[test]

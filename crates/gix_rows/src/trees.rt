@@ -2,7 +2,8 @@
 pub mod calls;
 pub mod recorded;
 
-use crate::history::{Failing, ROOM, digit, id};
+use crate::history::{BY_STORE, By, Failing, ROOM, digit, id};
+use crate::table;
 use crate::words::{Stop, write_broken, write_not_found};
 use bstr::BStr;
 use gix_parts::hash::ObjectId;
@@ -278,64 +279,52 @@ impl Table<'_> {
         }
         Ok(store)
     }
+}
 
-    /// What is written of the walk of a case.
-    pub fn tell(&self, alloc: Global, case: &Case<'_>, told: &mut String) -> Result<(), Stop> {
+impl<'a> table::Table for Table<'a> {
+    type Case = Case<'a>;
+
+    fn rows(&self) -> (&[Case<'a>], &[By]) {
+        (self.cases, BY_STORE)
+    }
+
+    fn want<'c>(case: &'c Case<'a>) -> &'c str {
+        case.2
+    }
+
+    fn tell(&self, alloc: Global, _by: By, case: &Case<'a>, told: &mut String) -> Result<(), Stop> {
         told.reserve(ROOM)?;
         let store = self.store(alloc)?;
-        match self.fails {
-            None => tell(alloc, &store, case, told)?,
-            Some(n) => {
-                let failing = Failing {
-                    store: &store,
-                    at: id(n),
-                };
-                tell(alloc, &failing, case, told)?
-            }
-        }
-        Ok(())
+        let failing = Failing(&store, self.fails.map(id));
+        Ok(tell(alloc, &failing, case, told)?)
     }
 }
 
 #[cfg(test)]
-pub mod tests {
+mod tests {
     use super::*;
+    use crate::table::tests::{check, check_print};
     use gix_parts::object::decode;
     use gix_parts::object::find::existing_iter;
     use std::test::Fail;
 
-    /// Compares what is written of a walk with what is wanted.
-    fn check_case(alloc: Global, table: &Table<'_>, case: &Case<'_>) -> Result<(), Fail> {
-        let mut told = String::new(alloc);
-        table.tell(alloc, case, &mut told)?;
-        let (order, _, want) = case;
-        if told.as_str() != *want {
-            return Err(Fail::new(format_args!("{order:?} tells {told}, not {want}")));
-        }
-        Ok(())
-    }
-
-    /// Compares what is written of walks with what is wanted.
-    pub fn check(alloc: Global, tables: &[Table<'_>]) -> Result<(), Fail> {
-        for table in tables {
-            for case in table.cases {
-                check_case(alloc, table, case)?;
-            }
-        }
-        Ok(())
+    #[test]
+    fn rows(rt: HostRuntime) -> Result<(), Fail> {
+        check(rt.alloc(), "calls", &calls::TABLES)?;
+        check(rt.alloc(), "recorded", &recorded::TABLES)
     }
 
     #[test]
     fn faults_print_what_they_hold(rt: HostRuntime) -> Result<(), Fail> {
         let missing = existing_iter::Error::NotFound { oid: id(6) };
-        let held = format!(in rt.alloc(); "{missing}")?;
-        let printed = format!(in rt.alloc(); "{}", Error::from(missing))?;
-        assert_eq!(rt; printed.as_str(), held.as_str());
-        let held = format!(in rt.alloc(); "{}", decode::Error::EntryId)?;
-        let printed = format!(in rt.alloc(); "{}", Error::from(decode::Error::EntryId))?;
-        assert_eq!(rt; printed.as_str(), held.as_str());
-        let printed = format!(in rt.alloc(); "{}", Error::Cancelled)?;
-        assert_eq!(rt; printed.as_str(), "The delegate cancelled the operation");
+        check_print(rt.alloc(), &Error::from(missing), &missing)?;
+        let broken = decode::Error::EntryId;
+        check_print(rt.alloc(), &Error::from(broken), &broken)?;
+        check_print(
+            rt.alloc(),
+            &Error::Cancelled,
+            &"The delegate cancelled the operation",
+        )?;
         assert_eq!(rt; Error::from(existing_iter::Error::Memory), Error::Memory);
         assert_eq!(rt; Error::from(AllocError), Error::Memory);
         Ok(())

@@ -110,9 +110,28 @@ fn seconds_stand_behind_the_last_angle(rt: HostRuntime) {
     }
 }
 
+// The items of the front of a commit, from each first length to each last.
+fn check_cuts(
+    alloc: Global,
+    bytes: &[u8],
+    kind: Kind,
+    cuts: &[(usize, usize, &str)],
+) -> Result<(), Fail> {
+    for (first, last, items) in cuts {
+        for length in *first..=*last {
+            let front = bytes.get(..length).ok_or("too long")?;
+            let found = names(alloc, front, kind)?;
+            if found.as_str() != *items {
+                return Err(Fail::new(format_args!("{found} at {length}, not {items}")));
+            }
+        }
+    }
+    Ok(())
+}
+
 #[test]
 fn a_commit_is_cut_at_each_length(rt: HostRuntime) -> Result<(), Fail> {
-    let cuts = [
+    let cuts = &[
         (0, 0, ""),
         (1, 45, "no tree"),
         (46, 46, "tree "),
@@ -126,19 +145,12 @@ fn a_commit_is_cut_at_each_length(rt: HostRuntime) -> Result<(), Fail> {
         (144, 144, "tree parent author committer rest "),
     ];
     assert_eq!(rt; SHORT.len(), 144);
-    for (first, last, items) in cuts {
-        for length in first..=last {
-            assert!(rt; length <= SHORT.len());
-            let found = names(rt.alloc(), &SHORT[..length], Kind::Sha1)?;
-            assert_eq!(rt; found.as_str(), items, "at {length}");
-        }
-    }
-    Ok(())
+    check_cuts(rt.alloc(), SHORT, Kind::Sha1, cuts)
 }
 
 #[test]
 fn a_commit_with_long_ids_is_cut_at_each_length(rt: HostRuntime) -> Result<(), Fail> {
-    let cuts = [
+    let cuts = &[
         (0, 0, ""),
         (1, 69, "no tree"),
         (70, 70, "tree "),
@@ -152,14 +164,7 @@ fn a_commit_with_long_ids_is_cut_at_each_length(rt: HostRuntime) -> Result<(), F
         (192, 192, "tree parent author committer rest "),
     ];
     assert_eq!(rt; LONG.len(), 192);
-    for (first, last, items) in cuts {
-        for length in first..=last {
-            assert!(rt; length <= LONG.len());
-            let found = names(rt.alloc(), &LONG[..length], Kind::Sha256)?;
-            assert_eq!(rt; found.as_str(), items, "at {length}");
-        }
-    }
-    Ok(())
+    check_cuts(rt.alloc(), LONG, Kind::Sha256, cuts)
 }
 
 #[test]

@@ -98,17 +98,10 @@ pub static TABLES: [Table<'static>; 7] = [
 
 #[cfg(test)]
 mod tests {
-    use super::TABLES;
     use crate::history::{id, ids};
-    use crate::simple::tests::check;
     use gix_traverse::commit::{Info, ParentIds};
     use std::alloc::{AllocError, Global};
     use std::test::Fail;
-
-    #[test]
-    fn rows(rt: HostRuntime) -> Result<(), Fail> {
-        check(rt.alloc(), &TABLES)
-    }
 
     /// Commit n with these parents, as it is given.
     fn info(alloc: Global, n: u8, parents: &[u8]) -> Result<Info, AllocError> {

@@ -56,21 +56,15 @@ pub static TABLES: [Table<'static>; 7] = [
 
 #[cfg(test)]
 mod tests {
-    use super::TABLES;
     use crate::history::{EMPTY, History, TREE, id, text};
-    use crate::simple::tests::check;
     use crate::simple::{ALL, Detail, Wish};
+    use crate::table::tests::check_print;
     use gix_parts::object::find::existing_iter;
     use gix_parts::object::{Kind, decode};
     use gix_traverse::commit::Parents;
-    use gix_traverse::commit::simple::{CommitTimeOrder, Error, Sorting};
+    use gix_traverse::commit::simple::{CommitTimeOrder, Error, Hidden, Sorting};
     use std::alloc::Global;
     use std::test::Fail;
-
-    #[test]
-    fn rows(rt: HostRuntime) -> Result<(), Fail> {
-        check(rt.alloc(), &TABLES)
-    }
 
     /// What a walk from commit 2 gives where its text ends after `length` bytes.
     fn cut(alloc: Global, length: usize) -> Result<String, Fail> {
@@ -112,14 +106,19 @@ mod tests {
     #[test]
     fn faults_print_what_they_hold(rt: HostRuntime) -> Result<(), Fail> {
         let missing = existing_iter::Error::NotFound { oid: id(6) };
-        let held = format!(in rt.alloc(); "{missing}")?;
-        let printed = format!(in rt.alloc(); "{}", Error::from(missing))?;
-        assert_eq!(rt; printed.as_str(), held.as_str());
-        assert_eq!(rt; Error::from(existing_iter::Error::Memory), Error::Memory);
-        let held = format!(in rt.alloc(); "{}", decode::Error::Parent)?;
-        let printed = format!(in rt.alloc(); "{}", Error::from(decode::Error::Parent))?;
-        assert_eq!(rt; printed.as_str(), held.as_str());
-        Ok(())
+        check_print(rt.alloc(), &Error::from(missing), &missing)?;
+        check_print(rt.alloc(), &Error::from(Hidden::Find(missing)), &missing)?;
+        let broken = decode::Error::Parent;
+        check_print(rt.alloc(), &Error::from(broken), &broken)?;
+        let hidden = Hidden::ObjectDecode(decode::Error::Missing);
+        check_print(rt.alloc(), &Error::from(hidden), &decode::Error::Missing)
+    }
+
+    #[test]
+    fn out_of_memory_is_memory(rt: HostRuntime) {
+        let wanting = existing_iter::Error::Memory;
+        assert_eq!(rt; Error::from(wanting), Error::Memory);
+        assert_eq!(rt; Error::from(Hidden::Find(wanting)), Error::Memory);
     }
 
     #[test]

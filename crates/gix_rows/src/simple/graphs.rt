@@ -254,18 +254,14 @@ pub const WRONG: [Rows<'static>; 4] = [
 mod tests {
     use super::*;
     use crate::history::{By, id};
-    use crate::simple::tests::check;
+    use crate::table::Table as _;
+    use crate::table::tests::check_rows;
     use crate::words::Stop;
     use gix_parts::graph::Graph;
     use gix_parts::object::find::Find;
     use gix_traverse::commit::{Info, Simple};
     use std::alloc::Global;
     use std::test::Fail;
-
-    #[test]
-    fn rows(rt: HostRuntime) -> Result<(), Fail> {
-        check(rt.alloc(), &TABLES)
-    }
 
     /// Rows don't change what is given, whatever place is corrupt.
     fn check_place(alloc: Global, place: (u8, u8)) -> Result<(), Fail> {
@@ -283,7 +279,7 @@ mod tests {
             ],
             ..OF_SAMPLE
         };
-        check(alloc, &[table])
+        check_rows(alloc, &table, "corrupt", usize::from(place.0))
     }
 
     #[test]

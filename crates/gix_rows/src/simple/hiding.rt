@@ -1,24 +1,7 @@
 //! Walks with hidden tips.
-use crate::history::{BY_ALL, EMPTY, History, Odd, PLAIN, Rows};
+use crate::history::{BY_ALL, EMPTY, History, Odd, PLAIN, SKEWED, SKEWED_COMMITS};
 use crate::simple::{ALL, AS_MET, Asked, BREADTH, BY_TIME, OF_SAMPLE, SINCE_4, Table, Wish};
 use gix_traverse::commit::Parents;
-
-/// Commits that reach younger ones.
-const SKEWED_COMMITS: [(u8, &[u8]); 6] = [
-    (9, &[8, 6]),
-    (8, &[7]),
-    (7, &[6]),
-    (6, &[]),
-    (2, &[1]),
-    (1, &[8]),
-];
-
-/// A history with a commit, 1, that is older than its parent, 8.
-const SKEWED: Rows<'static> = Rows {
-    commits: &SKEWED_COMMITS,
-    generations: &[4, 3, 2, 1, 5, 4],
-    fault: None,
-};
 
 pub static TABLES: [Table<'static>; 9] = [
     Table {
@@ -110,34 +93,3 @@ pub static TABLES: [Table<'static>; 9] = [
         ..OF_SAMPLE
     },
 ];
-
-#[cfg(test)]
-mod tests {
-    use super::TABLES;
-    use crate::history::id;
-    use crate::simple::tests::check;
-    use gix_parts::object::decode;
-    use gix_parts::object::find::existing_iter;
-    use gix_traverse::commit::simple::{Error, Hidden};
-    use std::test::Fail;
-
-    #[test]
-    fn rows(rt: HostRuntime) -> Result<(), Fail> {
-        check(rt.alloc(), &TABLES)
-    }
-
-    #[test]
-    fn faults_print_what_they_hold(rt: HostRuntime) -> Result<(), Fail> {
-        let missing = existing_iter::Error::NotFound { oid: id(6) };
-        let held = format!(in rt.alloc(); "{missing}")?;
-        let printed = format!(in rt.alloc(); "{}", Error::from(Hidden::Find(missing)))?;
-        assert_eq!(rt; printed.as_str(), held.as_str());
-        let broken = Hidden::ObjectDecode(decode::Error::Missing);
-        let held = format!(in rt.alloc(); "{}", decode::Error::Missing)?;
-        let printed = format!(in rt.alloc(); "{}", Error::from(broken))?;
-        assert_eq!(rt; printed.as_str(), held.as_str());
-        let wanting = Hidden::Find(existing_iter::Error::Memory);
-        assert_eq!(rt; Error::from(wanting), Error::Memory);
-        Ok(())
-    }
-}

@@ -181,17 +181,10 @@ pub static TABLES: [Table<'static>; 14] = [
 
 #[cfg(test)]
 mod tests {
-    use super::TABLES;
     use crate::history::{EMPTY, History};
-    use crate::simple::tests::check;
     use crate::simple::{ALL, BY_TIME, Wish};
     use std::alloc::Global;
     use std::test::Fail;
-
-    #[test]
-    fn rows(rt: HostRuntime) -> Result<(), Fail> {
-        check(rt.alloc(), &TABLES)
-    }
 
     /// What a walk gives, newest first, where no parent of 8 is stored.
     fn without_parents(alloc: Global) -> Result<String, Fail> {

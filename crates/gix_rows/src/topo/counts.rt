@@ -1,5 +1,5 @@
 //! Topological walks by the rows of a commit-graph: how far down they count, and what they tell.
-use crate::history::{BY_ROWS, EMPTY, FULL, History, Rows};
+use crate::history::{BY_ROWS, EMPTY, FULL, History, Rows, SKEWED, SKEWED_COMMITS};
 use crate::topo::{DATES, FIRST, LINES, OF_SAMPLE, Table, Telling, Way};
 
 /// Rows of the lower commits of the sample.
@@ -16,23 +16,6 @@ const OLDER_COMMITS: [(u8, &[u8]); 4] = [(1, &[5]), (5, &[]), (3, &[0]), (0, &[]
 const OLDER: Rows<'static> = Rows {
     commits: &OLDER_COMMITS,
     generations: &[2, 1, 2, 1],
-    fault: None,
-};
-
-/// Commits that reach younger ones.
-const OLDEST_COMMITS: [(u8, &[u8]); 6] = [
-    (9, &[8, 6]),
-    (8, &[7]),
-    (7, &[6]),
-    (6, &[]),
-    (2, &[1]),
-    (1, &[8]),
-];
-
-/// Two commits, 2 and 1, that reach younger ones.
-const OLDEST: Rows<'static> = Rows {
-    commits: &OLDEST_COMMITS,
-    generations: &[4, 3, 2, 1, 5, 4],
     fault: None,
 };
 
@@ -138,10 +121,10 @@ pub static TABLES: [Table<'static>; 14] = [
     },
     Table {
         history: History {
-            commits: &OLDEST_COMMITS,
+            commits: &SKEWED_COMMITS,
             ..EMPTY
         },
-        rows: OLDEST,
+        rows: SKEWED,
         cases: &[(&[9], &[2], "3 9:6")],
         ..COUNTED
     },
@@ -179,15 +162,10 @@ mod tests {
     use super::*;
     use crate::history::By;
     use crate::simple::graphs::{PLACES, WRONG};
+    use crate::table::Table as _;
     use crate::topo::Case;
-    use crate::topo::tests::check;
     use std::alloc::Global;
     use std::test::Fail;
-
-    #[test]
-    fn rows(rt: HostRuntime) -> Result<(), Fail> {
-        check(rt.alloc(), &TABLES)
-    }
 
     /// Compares what a walk from 8 counts by rows with a fault in this place.
     fn check_place(alloc: Global, place: (u8, u8), way: Way, want: &str) -> Result<(), Fail> {

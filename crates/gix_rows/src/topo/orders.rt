@@ -240,17 +240,11 @@ pub static TABLES: [Table<'static>; 24] = [
 
 #[cfg(test)]
 mod tests {
-    use super::TABLES;
     use crate::history::PLAIN;
-    use crate::topo::tests::check;
+    use crate::table::tests::check_rows;
     use crate::topo::{OF_SAMPLE, Table};
     use std::alloc::Global;
     use std::test::Fail;
-
-    #[test]
-    fn rows(rt: HostRuntime) -> Result<(), Fail> {
-        check(rt.alloc(), &TABLES)
-    }
 
     fn check_failing(alloc: Global, n: u8) -> Result<(), Fail> {
         let table = Table {
@@ -259,7 +253,7 @@ mod tests {
             cases: &[(&[8], &[], "no walk: store")],
             ..OF_SAMPLE
         };
-        check(alloc, &[table])
+        check_rows(alloc, &table, "failing", usize::from(n))
     }
 
     #[test]

@@ -137,15 +137,3 @@ pub static TABLES: [Table<'static>; 4] = [
         ..OF_SAMPLE
     },
 ];
-
-#[cfg(test)]
-mod tests {
-    use super::TABLES;
-    use crate::trees::tests::check;
-    use std::test::Fail;
-
-    #[test]
-    fn rows(rt: HostRuntime) -> Result<(), Fail> {
-        check(rt.alloc(), &TABLES)
-    }
-}

@@ -70,9 +70,7 @@ pub static TABLES: [Table<'static>; 7] = [
 
 #[cfg(test)]
 mod tests {
-    use super::TABLES;
     use crate::history::{id, long_id};
-    use crate::trees::tests::check;
     use crate::trees::{Order, SAMPLE, store, walk, write_end, write_paths};
     use gix_parts::hash::ObjectId;
     use gix_parts::object::Kind;
@@ -83,11 +81,6 @@ mod tests {
     use gix_traverse::tree::recorder::Location;
     use std::alloc::{AllocError, Global};
     use std::test::Fail;
-
-    #[test]
-    fn rows(rt: HostRuntime) -> Result<(), Fail> {
-        check(rt.alloc(), &TABLES)
-    }
 
     /// What a recorder tells behind a walk of the sample.
     fn told(alloc: Global, order: Order, recorder: &mut Recorder) -> Result<String, AllocError> {
