@@ -48,7 +48,8 @@ pub struct Info {
     pub id: ObjectId,
     /// The parents as the commit names them, repeats kept. Under `Parents::First` a `Simple` gives the first alone, and a `Topo` all.
     pub parent_ids: ParentIds,
-    /// The generation in the commit's row of a commit-graph, and None where the commit was read from the store.
+    /// The generation in the commit's row of a commit-graph, and None where the commit was read from the store. A `Topo` gives None
+    /// also for 4294967295, which says that none is known.
     pub generation: Option<u32>,
     /// The committer's seconds since 1970-01-01 00:00 UTC. A `Simple` gives them only in an order by time, and a `Topo` always.
     pub commit_time: Option<i64>,
@@ -151,8 +152,8 @@ pub fn find<'cache, 'buf, F: Find + Drop>(
     }
 }
 
-/// Which commits are walked. A commit that is refused is not given. In a `Simple` it also bars the way to its parents, which come only
-/// if another commit names them; a `Topo` walks on through it.
+/// Which commits are given. In a `Simple` a refused commit also bars the way to its parents, which come only if another commit names
+/// them; a `Topo` walks on through it.
 pub trait Predicate {
     /// Holds of a predicate that may be asked.
     ghost can_accept: { Self → Type 0 } = { λ _. Unit {0} };
@@ -160,7 +161,7 @@ pub trait Predicate {
     /// From the first state, it may give this answer on the id and go on to the second.
     ghost answers: { Self → ObjectId → Bool → Self → Type 0 };
 
-    /// Whether the commit of this id is walked. A walk asks about no id twice.
+    /// Whether the commit of this id is given. A walk asks about no id twice.
     fn accepts(&mut self, id: &ObjectId) -> bool
         requires { can_accept self.old }
         ensures answer { answers self.old id.now result self.new }

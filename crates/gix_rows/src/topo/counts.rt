@@ -128,7 +128,7 @@ pub static TABLES: [Table<'static>; 14] = [
         cases: &[(&[9], &[2], "3 9:6")],
         ..COUNTED
     },
-    // Rows tell generations.
+    // Rows have generations.
     Table {
         by: BY_ROWS,
         cases: &[(&[8], &[], "8:5 7:4 4:3 2:2 6:4 5:3 3:2 1:1")],

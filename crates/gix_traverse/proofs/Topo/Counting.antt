@@ -1,8 +1,8 @@
 -- One more mark on an id.
 pub mod Marks
--- What naming and finishing an id changes in the table.
+-- What meeting and finishing an id changes in the table.
 pub mod Frontier
--- Naming the parents of a commit one by one.
+-- Meeting the parents of a commit one by one.
 pub mod MeetsParents
 -- Each id of a list at its last place.
 pub mod LastPlaces
@@ -12,7 +12,7 @@ pub mod Step
 pub mod OneSearch
 -- Each step keeps the invariants of both searches.
 pub mod BothSearches
--- What naming, finishing and taking do to the indegrees, and what an indegree of 0 means.
+-- What meeting, finishing and taking do to the indegrees, and what an indegree of 0 means.
 pub mod Children
 -- Exploring keeps the searches and the indegrees.
 pub mod ExploreKeeps
@@ -26,5 +26,5 @@ pub mod AllDownToDepth
 pub mod MeetsStarts
 -- What holds when counting has begun.
 pub mod Begin
--- The number of expanded commits is exact down to the depth.
+-- The number of expanded commits is exact down to the depth, and of all once the rows were dropped.
 pub mod Expanded

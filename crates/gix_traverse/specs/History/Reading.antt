@@ -31,11 +31,11 @@ pub record RowSays (rows : List GraphRow) (i : ObjectId) (read : RowRead) : Type
   pub generation : read.generation ≡ row.generation
   pub time : read.time ≡ row.time
 
--- the row of the id has a fault
+-- the row of the id is corrupt
 abbrev pub DropsRows : List GraphRow → ObjectId → Type 0
 DropsRows rows i = (row : GraphRow) × (row_of rows i ≡ Some row) × (ids_at rows row.parents ≡ None)
 
--- what reading a row gives, and whether the rows are held then: a row with a fault drops them for good
+-- what reading a row gives, and whether the rows are held then: a corrupt row drops them for good
 pub data ReadsRow (rows : List GraphRow) (held : Bool) (i : ObjectId) : Option RowRead → Bool → Type 0 where
   is_read : {read : RowRead} → held ≡ true → RowSays rows i read → ReadsRow rows held i (Some read) held
   absent : row_of rows i ≡ None → ReadsRow rows held i None held

@@ -69,7 +69,7 @@ module _ (parents : ObjectId → List ObjectId) (rows : List GraphRow) (tips hid
     pub sound : (i : ObjectId) → set.contains marks i ≡ true → Reaches parents hidden_tips i
     -- each tip, and each parent of a commit that tips reach outside what is hidden
     pub whole : (i : ObjectId) → IsAtBoundary parents tips hidden_tips i → Reaches parents hidden_tips i → set.contains marks i ≡ true
-    -- rows are dropped only for a corrupt one that was read before the marks were whole
+    -- rows are dropped only for a corrupt one that isn't below what decides the marks
     pub drops : left ≢ rows → DropsBy
     -- rows are kept only if none that had to be read is corrupt
     pub keeps : left ≡ rows → (i : ObjectId) (row : GraphRow) → row_of rows i ≡ Some row → IsRead i row.generation → IsCorrupt row → ⊥

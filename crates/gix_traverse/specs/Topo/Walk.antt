@@ -206,7 +206,7 @@ module _ {F : Type 0} (objects : F → Objects) (plan : TopoPlan F) where
     pub reached : IsMet i
     pub high : depth ≤ known_generation plan.rows i
 
-  -- a row with a fault, of a commit that is counted: for it the rows are dropped
+  -- a corrupt row of a commit that is counted: for it the rows are dropped
   pub record IsBrokenRow (depth : ℕ) : Type 0 where
     pub id : ObjectId
     pub row : GraphRow
@@ -215,7 +215,7 @@ module _ {F : Type 0} (objects : F → Objects) (plan : TopoPlan F) where
     pub corrupt : IsCorrupt row
 
   -- The number of commits whose parents were read is exact: down to the depth as long as the rows are held, and of all once they
-  -- are dropped. They are dropped exactly for a row with a fault.
+  -- are dropped. They are dropped exactly for a corrupt row.
   pub record IsCounting (counted : Counted) : Type 0 where
     pub exact : counted.standing ≡ true → IsNumberOf (IsInDepth counted.depth) counted.expanded
     pub all : counted.standing ≡ false → IsNumberOf IsMet counted.expanded

@@ -305,7 +305,7 @@ impl<F: Find + Drop, P: Predicate + Drop> Simple<F, P> {
             alloc,
         };
         for tip in tips {
-            // Breadth first no time is read, so memory alone can be wanting.
+            // Breadth first no time is read, so the only fault is out of memory.
             let Ok(()) = walk.treat(false, tip) else {
                 return Err(AllocError);
             };

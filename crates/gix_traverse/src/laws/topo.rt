@@ -76,8 +76,8 @@ pub fn tells<F: Find, P: Predicate>()
 {}
 
 /// A walk that was built, where the rows agree and all that is walked reads whole, and that gave no fault: as long as the rows are in
-/// use, counting has read the parents of exactly the commits that tips or ends reach and that aren't below its depth, and no row of
-/// such a commit has a fault. The rows are dropped only for one; then it has read the parents of all that tips or ends reach.
+/// use, counting has read the parents of exactly the commits that tips or ends reach and that aren't below its depth, and no such
+/// commit has a corrupt row. The rows are dropped only for one; then it has read the parents of all that tips or ends reach.
 pub fn counts<F: Find, P: Predicate>()
     ensures { CountsDownToTheDepth F.objects F.faulty P.answers }
 {}

@@ -1,4 +1,4 @@
--- Counts of children: what naming, finishing and taking does to them, and what a count of 0 says.
+-- Counts of children: what meeting, finishing and taking does to them, and what a count of 0 says.
 use Rattle.std.specs.Prelude.{◌≡◌, ◌≤◌, ℕ, zero, suc, ◌+◌, List, [], ◌∷◌, Bool, true, false, not, ◌&&◌, ◌||◌, cond, Contains}
 use Rattle.std.proofs.Common.{refl, sym, ap, subst, ⊎_elim, ◌∙◌, arith, zero-add}
 use Rattle.std.proofs.lemmas.Bool.{true≢false}
@@ -50,7 +50,7 @@ moved_made old new i side p k j = ap (λ those. (known_of those j).was_ready) k 
     go true s = progress_keeps_made side p (known_of old.known i) ∙ ap (λ x. was_ready_of old x) (sym (same_is j i s))
     go false s = refl
 
--- what naming ids leaves as it is
+-- what meeting ids leaves as it is
 pub record IsNamed (old new : Frontier) : Type 0 where
   pub done : (s : Side) (j : ObjectId) → is_done (reached new.known s j) ≡ is_done (reached old.known s j)
   pub made : (j : ObjectId) → was_ready_of new j ≡ was_ready_of old j

@@ -41,7 +41,7 @@ abbrev pub IsChosen : Option CommitTimeOrder → List Pending → Pending → Li
 IsChosen None pending taken others = pending ≡ taken ∷ others
 IsChosen (Some order) pending taken others = IsPermutation pending (taken ∷ others) × ((other : Pending) → Contains others other → IsNoWorse order taken.time other.time)
 
--- the one whose turn it is is taken out, if there is one
+-- the next pending commit is taken out, if there is one
 abbrev pub TakesOut : Option CommitTimeOrder → List Pending → Option Pending → List Pending → Type 0
 TakesOut order old None new = (old ≡ []) × (new ≡ [])
 TakesOut order old (Some taken) new = IsChosen order old taken new

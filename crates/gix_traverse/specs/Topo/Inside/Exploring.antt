@@ -32,7 +32,7 @@ abbrev pub side_mode : Side → Parents → Parents
 side_mode Tips parents = parents
 side_mode Ends parents = mode.All
 
--- these parents are named, in order
+-- these parents are met, in order
 pub data Follows (rows : List GraphRow) (side : Side) : Frontier → List ObjectId → Frontier → Type 0 where
   none : {old : Frontier} → Follows rows side old [] old
   more : {old mid new : Frontier} {i : ObjectId} {ids : List ObjectId} → MeetsParent side old (known_generation rows i) i mid → Follows rows side mid ids new → Follows rows side old (i ∷ ids) new
@@ -51,7 +51,7 @@ module _ {F : Type 0} (objects : F → Objects) (faulty : F → ObjectId → Typ
     pub reads : Reads (objects old.reader.find) (faulty old.reader.find) (rows_of old.reader.graph) old.reader.standing i (Ok info) standing
     pub named : ids ≡ last_places (by_mode (side_mode side old.parents) info.parent_ids.items)
 
-  -- a queued id is read, and its parents are named
+  -- a queued id is read, and its parents are met
   pub record Steps (old new : Counting F) : Type 0 where
     pub same : IsSamePlan old new
     pub entry : ℕ × Waiting

@@ -107,7 +107,7 @@ module _ {F : Type 0} (objects : F → Objects) (faulty : F → ObjectId → Typ
   abbrev pub with_counting : Walk F → Counting F → Walk F
   with_counting old counting = record old { counting = counting }
 
-  -- a commit whose turn it is is taken
+  -- the next ready commit is taken
   pub record TakesOne (old : Walk F) (r : Ready) (added : List Ready) (new : Walk F) : Type 0 where
     pub explored : Counting F
     pub explores : Explores objects faulty (lowered old r) explored

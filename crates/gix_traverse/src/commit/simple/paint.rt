@@ -152,12 +152,12 @@ struct Entry {
     parent_ids: Option<ParentIds>,
 }
 
-// What is marked so far, and what waits to be read.
+// What was marked, and what waits to be read.
 #[derive(Drop)]
 struct Painter<'a, F> {
     source: Source<'a, F>,
     marks: IdMap<Marks>,
-    // The queued ids that no hidden tip reached so far.
+    // The queued ids that no hidden tip was found to reach.
     frontier: IdSet,
     queue: PriorityQueue<Key, Entry>,
 }
@@ -256,7 +256,7 @@ impl<'a, F: Find> Painter<'a, F> {
         self.meet_all(parent_ids.as_slice(), side)
     }
 
-    // Whether the marks are whole: nothing is queued, or while the rows stand, all that is queued is hidden and has a row.
+    // Whether the marks are whole: nothing is queued, or, while the rows are in use, all that is queued is hidden and has a row.
     fn is_settled(&self) -> bool
         ensures { IsTrue result ↔ IsSettled self.now }
     {

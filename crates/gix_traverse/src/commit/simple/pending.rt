@@ -131,7 +131,7 @@ impl PendingQueue {
         self.rearrange(order)
     }
 
-    // Moves all commits. It stands apart, so that the test of the order is inlined.
+    // Moves all commits. It is a call of its own, so that the test of the order is inlined.
     #[cold]
     #[inline(never)]
     fn rearrange(&mut self, order: Option<CommitTimeOrder>) -> Result<(), AllocError>

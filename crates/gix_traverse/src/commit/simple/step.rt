@@ -28,7 +28,7 @@ use std::alloc::{AllocError, Global};
 // Why the treatment of a commit's parents stopped.
 #[derive(Clone, Copy, PartialEq, Eq, Debug)]
 pub(super) enum Stop {
-    // The store refused to tell a parent's time.
+    // The store failed at a parent that was asked for its time.
     Store,
     Memory,
 }
@@ -239,7 +239,7 @@ impl<F: Find + Drop, P: Predicate + Drop> Simple<F, P> {
         Ok(())
     }
 
-    // What is left of the walk after a fault in the place of a commit: no text, and for want of memory no pending commit.
+    // What is left of the walk after a fault in the place of a commit: no text, and where memory ran out no pending commit.
     fn fail(&mut self, id: &ObjectId, error: Error) -> Error
         ensures same { result ≡ error }
         ensures left { self.new ≡ failed id.now error self.old }

@@ -113,7 +113,7 @@ impl<F: Find + Drop> Counting<F> {
         Ok(counting)
     }
 
-    /// The parents of a commit that a side reads are named.
+    /// The parents of a commit that a side reads are met.
     fn follow(&mut self, mut ids: VecDeque<ObjectId>, side: Side) -> Result<(), AllocError>
         ensures reader { self.new.reader ≡ self.old.reader }
         ensures parents { self.new.parents ≡ self.old.parents }
@@ -144,7 +144,7 @@ impl<F: Find + Drop> Counting<F> {
         Ok(last_places(self.reader.alloc, walked(mode, info.parent_ids.as_slice()))?)
     }
 
-    /// Looks a parent up, unless a search has read it and the rows are still held.
+    /// Looks a parent up, unless the rows are held and it has a row or a search has read it.
     ///
     /// # Errors
     ///
@@ -223,7 +223,7 @@ impl<F: Find + Drop> Counting<F> {
         }
     }
 
-    /// Reads parents, as long as the rows were dropped or one that waits isn't below the depth.
+    /// Reads parents as long as an id waits that isn't below the depth; once the rows were dropped, as long as any id waits.
     ///
     /// # Errors
     ///

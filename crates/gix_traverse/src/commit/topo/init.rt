@@ -159,7 +159,7 @@ impl<F: Find + Drop, P: Predicate + Drop> Builder<F, P> {
         Ok(self)
     }
 
-    /// More ends, after those given before. An end and all that it reaches, by any parent, is not walked.
+    /// More ends, after those given before. An end and all that it reaches, by any parent, is read and not given.
     ///
     /// # Errors
     ///

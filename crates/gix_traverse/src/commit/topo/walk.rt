@@ -23,7 +23,7 @@ pub(super) struct Walk<F> {
     pub(super) ready: ReadySet,
 }
 
-/// Whether a commit of which this is known becomes ready when so many of its children are left.
+/// Whether a commit becomes ready: it has no child left, was never ready, and the ends' search hasn't seen it.
 pub(super) fn is_due(left: usize, known: &Known) -> bool
     ensures { result ≡ is_due left known.now }
 {

@@ -12,7 +12,7 @@ use gix_parts::hash::ObjectId;
 use gix_parts::object::find::Find;
 use std::alloc::Global;
 
-// The generation that a commit's row tells. Without a row it counts as greater than all that rows tell.
+// The generation in a commit's row. Without a row it counts as greater than that of any row.
 #[derive(Clone, Copy, PartialEq, Eq, PartialOrd, Ord, Debug)]
 pub(super) enum Generation {
     Told(u32),
