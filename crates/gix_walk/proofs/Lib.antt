@@ -2,7 +2,6 @@ mod RecordFacts
 mod SplitFacts
 mod HexFacts
 mod DecimalFacts
-mod WordFacts
 mod WordFaults
 mod MemoryFaults
 mod OutputFacts

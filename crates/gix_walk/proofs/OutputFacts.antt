@@ -1,6 +1,6 @@
 -- Lines that are buffered, and lines that were written.
 use Rattle.std.specs.Prelude.{◌≡◌, ℕ, List, [], ◌∷◌, ◌++◌, Option, Some, None, Result, Ok, Err, ◌⊎◌}
-use Rattle.std.specs.Io.KnownBytes.{Appends, Keeps}
+use Rattle.std.specs.Io.KnownBytes.{Appends}
 use Rattle.std.specs.Iterator.{Yields}
 use Rattle.std.proofs.Common.{refl, sym, ap, subst, ◌∙◌, append_assoc, inl, inr}
 use Rattle.std.proofs.lemmas.List.{append-nil, map-append}
@@ -20,12 +20,6 @@ appends_more None mid new a b h k = tt
 appends_more (Some xs) None new a b h k = absurd h
 appends_more (Some xs) (Some ys) None a b h k = k
 appends_more (Some xs) (Some ys) (Some zs) a b h k = k ∙ ap (λ y. y ++ b) h ∙ append_assoc xs a b
-
-pub appends_kept : (old mid new : Option (List ℕ)) (a : List ℕ) → Appends old mid a → Keeps mid new → Appends old new a
-appends_kept None mid new a h k = tt
-appends_kept (Some xs) None new a h k = absurd h
-appends_kept (Some xs) (Some ys) None a h k = k
-appends_kept (Some xs) (Some ys) (Some zs) a h k = k ∙ h
 
 -- nothing was written
 pub grows_waiting : (old : Option (List ℕ)) (waiting waits bytes : List ℕ) → waits ≡ waiting ++ bytes → Grows old waiting old waits bytes

@@ -22,7 +22,7 @@ use Rattle.gix_traverse.specs.declared.commit.simple.paint.source.Key.{Key}
 use Rattle.gix_traverse.specs.declared.commit.simple.paint.Entry.{Entry}
 use Rattle.gix_traverse.specs.declared.commit.simple.paint.Painter.{Painter}
 use Rattle.gix_traverse.specs.Simple.Painting.{DropsBy, generation_in, IsHistory}
-use Rattle.gix_traverse.specs.Simple.Inside.Painter.{hides, State, Unmet, Open, Read, Hides, state_by, state_of, rows_in, held_graph, Reads, ReadsParents, by_row, by_store, drops, Knows, IsQueued, IsWaiting, IsTidy, IsSettled, is_told, Meets, GivesParents, brought, looked_up, Takes, is_turn, is_turn_on, frontier_without, TreatsEntry, skips, reads, Pops}
+use Rattle.gix_traverse.specs.Simple.Inside.Painter.{hides, Open, Read, Hides, state_by, state_of, held_graph, by_row, by_store, IsQueued, IsWaiting, IsSettled, is_told, Pops}
 use Rattle.gix_traverse.specs.Simple.Inside.Painter as painter
 use Rattle.gix_traverse.specs.History.Reach.{Reaches, start, step}
 use Rattle.gix_traverse.specs.Simple.Walk.{ids_at}

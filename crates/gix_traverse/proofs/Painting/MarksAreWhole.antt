@@ -17,7 +17,7 @@ use Rattle.gix_traverse.specs.declared.commit.simple.paint.Entry.{Entry}
 use Rattle.gix_traverse.specs.declared.commit.simple.paint.Painter.{Painter}
 use Rattle.gix_traverse.specs.History.Agreeing.{IsCorrupt}
 use Rattle.gix_traverse.specs.Simple.Painting.{IsHistory, IsAtBoundary, IsOpenBelow, IsRead, shown_commit, hidden_commit, generation_in, Paints}
-use Rattle.gix_traverse.specs.Simple.Inside.Painter.{FailsAmong, hides, is_hidden, hidden_of, State, Unmet, Open, Read, Hides, state_by, state_of, rows_in, held_graph, Reads, Knows, IsQueued, IsWaiting, IsSettled, is_told, Meets, GivesParents, TreatFails, Pops}
+use Rattle.gix_traverse.specs.Simple.Inside.Painter.{hides, hidden_of, State, Unmet, Open, Read, Hides, state_by, state_of, rows_in, held_graph, Knows, IsQueued, IsWaiting, IsSettled, is_told, Meets}
 use Rattle.gix_traverse.specs.Simple.Inside.Painter as painter
 use Rattle.gix_traverse.specs.History.Reach.{Reaches, start, step}
 use Rattle.gix_traverse.proofs.Painting.Invariant.{contains-hidden, hidden_now, met_now, nobody, next, RowsStand, IsSafe, Fact, Stands, IsStarted, rowless, stands_meets, safe_meets, hidden_stays}

@@ -15,7 +15,7 @@ use Rattle.gix_traverse.specs.declared.commit.simple.paint.Entry.{Entry}
 use Rattle.gix_traverse.specs.declared.commit.simple.paint.Painter.{Painter}
 use Rattle.gix_traverse.specs.History.Reach.{Reaches}
 use Rattle.gix_traverse.specs.Simple.Painting.{IsHistory}
-use Rattle.gix_traverse.specs.Simple.Inside.Painter.{State, Unmet, Open, Read, Hides, state_of, Becomes, stays, opens, covers, rows_in, held_graph, by_row, by_store, drops, IsQueued, IsWaiting, Meets, GivesParents, brought, looked_up, is_turn, is_turn_on, TreatsEntry, skips, reads, Pops}
+use Rattle.gix_traverse.specs.Simple.Inside.Painter.{State, Unmet, Read, Hides, state_of, Becomes, stays, opens, covers, rows_in, held_graph, by_row, by_store, drops, IsQueued, IsWaiting, Meets, GivesParents, brought, looked_up, is_turn, is_turn_on, TreatsEntry, skips, reads, Pops}
 use Rattle.gix_traverse.specs.Simple.Inside.Painter as painter
 use Rattle.gix_traverse.specs.Simple.Walk.{ids_at}
 use Rattle.gix_traverse.proofs.Painting.Invariant.{nobody, next, starts_of, RowsStand, IsSafe, Stands, IsStarted, still_stand}

@@ -1,7 +1,7 @@
 -- What a list in order has: no id twice, and exactly what is reached.
 use Rattle.std.specs.Prelude.{ℕ, zero, suc, ℤ, ◌≡◌, ◌≤◌, ◌⊎◌, List, [], ◌∷◌, ◌++◌, Bool, true, false, not, cond, length, take, slice_get, Contains, find, Option, Some, None, MatchOption}
 use Rattle.std.proofs.Common.{refl, sym, subst, inl, inr, ⊎_elim, ◌∙◌, arith, append_assoc, append-nil, take_all, le_refl}
-use Rattle.std.proofs.lemmas.Bool.{false≢true, true≢false, or_cases, or_right, or_left, cases_Bool, false_from_ne_true, not-true, not-false}
+use Rattle.std.proofs.lemmas.Bool.{true≢false, not-true, not-false}
 use Rattle.std.specs.List.{flat_map}
 use Rattle.std.proofs.lemmas.List.Elements.{Contains-append_left, Contains-append_right, Contains-append_cases}
 use Rattle.gix_parts.specs.declared.hash.ObjectId.{ObjectId}

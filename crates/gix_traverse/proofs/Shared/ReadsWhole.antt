@@ -58,10 +58,6 @@ record ScansTo (items : List (Result Item DecodeError)) (ps : List ObjectId) (c 
   parents : c.parents ≡ ps ++ left
   scan : (m : Parents) → scanned m items ≡ (by_mode m left, None)
 
-no_parents : (m : Parents) → by_mode m [] ≡ []
-no_parents mode.All = refl
-no_parents mode.First = refl
-
 scan_author : (m : Parents) (line : List ℕ) (items : List (Result Item DecodeError)) → scanned m (Ok (Author line) ∷ items) ≡ (by_mode m [], None)
 scan_author mode.All line items = refl
 scan_author mode.First line items = refl

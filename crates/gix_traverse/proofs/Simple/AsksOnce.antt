@@ -17,14 +17,14 @@ use Rattle.gix_parts.specs.Rows.{row_of}
 use Rattle.gix_traverse.specs.declared.commit.Info.{Info}
 use Rattle.gix_traverse.specs.declared.commit.simple.Error.{Error}
 use Rattle.gix_traverse.specs.declared.commit.simple.pending.Pending.{Pending}
-use Rattle.gix_traverse.specs.Simple.Walk.{SimpleWalk, Treated, bare, scanned, kept_rows, unrowed, asked, IsNew, Asks, remembers, asks, Treats, hidden, known, refused, accepted, store_fails, no_memory, no_memory_after, TreatsAll, none, more, stops, IsMade, Concludes, given, broken, Takes, by_row, by_store, not_found, Steps, ended, took, painted, Next, unhidden, paints, faulty_history}
+use Rattle.gix_traverse.specs.Simple.Walk.{SimpleWalk, Treated, scanned, unrowed, asked, IsNew, Asks, remembers, asks, Treats, hidden, known, refused, accepted, store_fails, no_memory, no_memory_after, TreatsAll, none, more, stops, Concludes, given, broken, Takes, by_row, by_store, not_found, Steps, ended, took, painted, Next, unhidden, paints, faulty_history}
 use Rattle.gix_traverse.specs.Simple.Building.{outdated, timed, IsBuilt, made, breadth_first, by_time, hides, walks, reads}
 use Rattle.gix_traverse.specs.Simple.Laws.{AreDistinct, named_in}
 use Rattle.gix_traverse.specs.Simple.Runs.{AsksOnce}
 use Rattle.gix_traverse.specs.Simple.Walk as walk_of
 use Rattle.gix_traverse.specs.Topo.Laws.{AsksAll}
 use Rattle.gix_traverse.specs.Topo.Laws as topo
-use Rattle.gix_parts.proofs.Ids.Membership.{id_total, same_is, among-append, among_from, among_is, Contains-here, Contains-there, Contains-cons_cases, no_member}
+use Rattle.gix_parts.proofs.Ids.Membership.{id_total, among-append, among_from, among_is, Contains-here, Contains-there, Contains-cons_cases, no_member}
 use Rattle.gix_traverse.proofs.Shared.NewIds.{among_flat}
 use Rattle.gix_traverse.proofs.Shared.Rows.{found_entry, ids_in_rows, kept_either}
 use Rattle.gix_traverse.proofs.Shared.ReadsWhole.{walked_within}

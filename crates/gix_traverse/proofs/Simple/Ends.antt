@@ -1,6 +1,6 @@
 -- Every walk ends: each answer lowers how many answers are left.
 use Rattle.std.specs.Prelude.{◌≡◌, ◌≢◌, ◌⊎◌, ◌+◌, ◌≤◌, ℕ, suc, ℤ, List, [], ◌∷◌, ◌++◌, map, filter, length, Bool, true, false, not, ◌||◌, cond, Option, Some, None, Result, Contains}
-use Rattle.std.proofs.Common.{refl, sym, ap, subst, inl, inr, ⊎_elim, ◌∙◌, arith, append_assoc, append-nil, length-append}
+use Rattle.std.proofs.Common.{refl, sym, ap, subst, inl, inr, ⊎_elim, ◌∙◌, arith, length-append}
 use Rattle.std.proofs.lemmas.List.Sorted.{length_permutation}
 use Rattle.std.proofs.lemmas.Bool.{true≢false, or_right, or_left}
 use Rattle.std.specs.FinMap as map_of
@@ -44,10 +44,6 @@ fewer s (x ∷ xs) ys = go (fewer s xs ys) (fewer (λ j. is_same j x || s j) xs 
     go : length (fresh s ys) ≤ length (fresh s (xs ++ ys)) → length (fresh (λ j. is_same j x || s j) ys) ≤ length (fresh (λ j. is_same j x || s j) (xs ++ ys)) → (b : Bool) → s x ≡ b → length (fresh s ys) ≤ length (cond b (fresh s (xs ++ ys)) (x ∷ fresh (λ j. is_same j x || s j) (xs ++ ys)))
     go r q true e = r
     go r q false e = let k : length (fresh s ys) ≤ suc (length (fresh (λ j. is_same j x || s j) ys)) = one_less s ys x e in omega arith
-
-length-map : {A B : Type 0} (f : A → B) (xs : List A) → length (map f xs) ≡ length xs
-length-map f [] = refl
-length-map f (x ∷ xs) = ap suc (length-map f xs)
 
 holds_length : (o : Option CommitTimeOrder) (old new : List Pending) → Holds o old new → length new ≡ length old
 holds_length None old new e = ap length e

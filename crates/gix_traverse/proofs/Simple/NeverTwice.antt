@@ -11,7 +11,7 @@ use Rattle.gix_parts.specs.Object.{Objects}
 use Rattle.gix_traverse.specs.declared.commit.Info.{Info}
 use Rattle.gix_traverse.specs.declared.commit.simple.Error.{Error}
 use Rattle.gix_traverse.specs.declared.commit.simple.pending.Pending.{Pending}
-use Rattle.gix_traverse.specs.Simple.Walk.{SimpleWalk, Treated, Holds, ids_of, time_order, cutoff, asked, Enqueues, dropped, enqueued, IsNew, Treats, hidden, known, refused, accepted, store_fails, no_memory, no_memory_after, TreatsAll, none, more, stops, Concludes, given, broken, Takes, by_row, by_store, not_found, Chooses, first, best, Steps, took, Next, unhidden, paints, faulty_history}
+use Rattle.gix_traverse.specs.Simple.Walk.{SimpleWalk, Treated, ids_of, time_order, cutoff, asked, Enqueues, dropped, enqueued, IsNew, Treats, hidden, known, refused, accepted, store_fails, no_memory, no_memory_after, TreatsAll, none, more, stops, Concludes, given, broken, Takes, by_row, by_store, not_found, Chooses, first, best, Steps, took, Next, unhidden, paints, faulty_history}
 use Rattle.gix_traverse.specs.Simple.Laws.{AreDistinct, given_ids}
 use Rattle.gix_parts.proofs.Ids.Membership.{id_total, same_is, among_is}
 use Rattle.gix_traverse.proofs.Shared.NewIds.{times, times-append, times_none, times_once}

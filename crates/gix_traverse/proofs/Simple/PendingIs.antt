@@ -3,7 +3,7 @@ use Rattle.std.specs.Prelude.{◌≡◌, ◌+◌, ℕ, ℤ, List, [], ◌∷◌,
 use Rattle.std.proofs.Common.{refl, sym, ap, subst, ⊎_elim, ◌∙◌, arith}
 use Rattle.std.proofs.lemmas.Int.{ints}
 use Rattle.std.proofs.lemmas.List.Sorted.{Contains-permutation, IsPermutation-sym}
-use Rattle.std.proofs.lemmas.Bool.{false≢true, true≢false, or_cases, or_right, or_left, false_from_ne_true}
+use Rattle.std.proofs.lemmas.Bool.{false≢true, true≢false, or_cases, false_from_ne_true}
 use Rattle.gix_parts.specs.declared.hash.ObjectId.{ObjectId}
 use Rattle.gix_parts.specs.Id.{is_same, is_among}
 use Rattle.gix_traverse.specs.declared.commit.simple.CommitTimeOrder.{CommitTimeOrder}
@@ -12,7 +12,7 @@ use Rattle.gix_traverse.specs.Orders.BreadthOrder.{named_by, first_new}
 use Rattle.gix_traverse.specs.Orders.TimeOrder.{IsNoWorse, IsPending, IsBest}
 use Rattle.gix_traverse.specs.declared.commit.simple.pending.Pending.{Pending}
 use Rattle.gix_traverse.specs.Simple.Walk.{ids_of}
-use Rattle.gix_parts.proofs.Ids.Membership.{same_is, same_itself, same_from, among-append, among-one, among_from, among_is, Contains-here, Contains-there, Contains-cons_cases, no_member}
+use Rattle.gix_parts.proofs.Ids.Membership.{same_is, same_itself, among-append, among-one, among_from, among_is, Contains-here, Contains-there, Contains-cons_cases}
 use Rattle.gix_traverse.proofs.Shared.NewIds.{fresh, fresh_agree, fresh-append, fresh_head, fresh_none, IsHead, times, times-append, times-fresh, times_among}
 use Rattle.gix_traverse.proofs.Simple.Treated.{Joins, times-permutation}
 
@@ -110,10 +110,6 @@ no_worse_itself OldestFirst a b e = omega (arith, ints)
 in_pending : (i : ObjectId) (ps : List Pending) → is_among i (ids_of ps) ≡ true → (p : Pending) × Contains ps p × (p.id ≡ i)
 in_pending i [] e = absurd (false≢true e)
 in_pending i (p ∷ ps) e = ⊎_elim (λ s. (p, Contains-here p ps, sym (same_is i p.id s))) (λ t. let r : (q : Pending) × Contains ps q × (q.id ≡ i) = in_pending i ps t in (r.0, Contains-there r.0 p ps r.1, r.2)) (or_cases _ _ e)
-
-pending_ids : (ps : List Pending) (p : Pending) → Contains ps p → is_among p.id (ids_of ps) ≡ true
-pending_ids [] p h = absurd (no_member p h)
-pending_ids (q ∷ ps) p h = ⊎_elim (λ e. or_left _ _ (same_from p.id q.id (ap (λ x. x.id) (sym e)))) (λ t. or_right (is_same p.id q.id) _ (pending_ids ps p t)) (Contains-cons_cases p q ps h)
 
 counted_one : (n t : Bool) (x : ℕ) → 1 + x ≡ cond (n && not t) 1 0 → (n ≡ true) × (t ≡ false)
 counted_one true true x e = absurd (omega arith)

@@ -1,10 +1,10 @@
 -- Over a finite history there is a list in breadth order, and so a test of what is reached.
-use Rattle.std.specs.Prelude.{◌≡◌, ◌↔◌, ◌+◌, ◌≤◌, ℕ, zero, suc, List, [], ◌∷◌, ◌++◌, filter, length, take, slice_get, Bool, true, false, not, cond, ◌||◌, Option, Some, None, Contains, find}
-use Rattle.std.proofs.Common.{refl, sym, ap, subst, inl, inr, ⊎_elim, ◌∙◌, arith, append_assoc, append-nil}
+use Rattle.std.specs.Prelude.{◌≡◌, ◌↔◌, ◌+◌, ◌≤◌, ℕ, zero, suc, List, [], ◌∷◌, ◌++◌, length, Bool, true, not, ◌||◌, Option, Some, None, Contains}
+use Rattle.std.proofs.Common.{refl, sym, ap, subst, ⊎_elim, ◌∙◌, arith, append_assoc, append-nil}
 use Rattle.std.proofs.Math.Bool.{or_comm}
 use Rattle.std.specs.List.{flat_map}
 use Rattle.std.proofs.lemmas.List.Elements.{Contains-append_cases}
-use Rattle.std.proofs.lemmas.Bool.{false≢true, true≢false, false_from_ne_true, true_from_ne_false, not-true}
+use Rattle.std.proofs.lemmas.Bool.{not-true}
 use Rattle.std.specs.FinMap as map_of
 use Rattle.gix_parts.specs.declared.hash.ObjectId.{ObjectId}
 use Rattle.gix_parts.specs.Id.{is_same, is_among}

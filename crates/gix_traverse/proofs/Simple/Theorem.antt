@@ -2,7 +2,7 @@
 use Rattle.std.specs.Prelude.{◌≡◌, ◌≢◌, ◌⊎◌, ◌≤◌, ℕ, ℤ, List, [], ◌∷◌, ◌++◌, filter, length, take, slice_get, Bool, true, false, not, ◌&&◌, ◌||◌, cond, Option, Some, None, Result, Err, Contains, All}
 use Rattle.std.proofs.Common.{refl, sym, ap, subst, inl, inr, ⊎_elim, ◌∙◌, append-nil}
 use Rattle.std.proofs.lemmas.List.Elements.{All-head, All-filter, All-contains_itself, All-contains}
-use Rattle.std.proofs.lemmas.Bool.{false≢true, true≢false, or_cases, or_right, or_left, cases_Bool, false_from_ne_true, true_from_ne_false, and_left, and_right, and_from, and_parts, not_from_true, not_from_false, not-true}
+use Rattle.std.proofs.lemmas.Bool.{false≢true, true≢false, false_from_ne_true, and_from, and_parts, not-true}
 use Rattle.std.specs.FinSet as set
 use Rattle.std.specs.Iterator.{Drains}
 use Rattle.gix_parts.specs.declared.hash.ObjectId.{ObjectId}

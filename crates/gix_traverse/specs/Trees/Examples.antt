@@ -13,7 +13,7 @@ use Rattle.gix_traverse.specs.Trees.Delegate.{Action, Call, PushPath, PopPath, P
 use Rattle.gix_traverse.specs.Trees.Visits.{Items, Place, Visit, visit, inside, Whole, Broken, Failed}
 use Rattle.gix_traverse.specs.Trees.Paths.{unknown_root, known_root}
 use Rattle.gix_traverse.specs.Orders.LevelOrder.{IsLevelOrder}
-use Rattle.gix_traverse.specs.Trees.Script.{IsLevelScript, IsDepthScript, DepthScript, entries_at, entries_in}
+use Rattle.gix_traverse.specs.Trees.Script.{IsLevelScript, IsDepthScript, entries_at, entries_in}
 use Rattle.gix_traverse.specs.Trees.Script as script
 use Rattle.gix_traverse.specs.Trees.Recorder.{fresh, Recorded, recorded_all}
 

@@ -4,7 +4,7 @@ use Rattle.std.proofs.Common.{refl, sym, ap, subst, inl, inr, ⊎_elim, ◌∙�
 use Rattle.std.proofs.lemmas.Bool.{false≢true}
 use Rattle.gix_parts.specs.declared.hash.ObjectId.{ObjectId}
 use Rattle.gix_parts.specs.Id.{is_same}
-use Rattle.gix_parts.proofs.Ids.Membership.{same_is, same_itself, Contains-here}
+use Rattle.gix_parts.proofs.Ids.Membership.{same_is, Contains-here}
 use Rattle.gix_traverse.specs.declared.commit.topo.frontier.Progress.{Progress}
 use Rattle.gix_traverse.specs.declared.commit.topo.frontier.Progress.TheVariants.{Unseen, Queued, Done}
 use Rattle.gix_traverse.specs.History.Reach.{Reaches, start, step}

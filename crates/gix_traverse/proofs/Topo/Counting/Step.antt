@@ -1,5 +1,5 @@
 -- A step of the searches, put together from what its parts did.
-use Rattle.std.specs.Prelude.{◌≡◌, ◌+◌, ◌||◌, ◌<◌, ℕ, suc, List, [], ◌∷◌, Some, cond, Contains, IsPermutation, slice_get, length}
+use Rattle.std.specs.Prelude.{◌≡◌, ◌+◌, ◌||◌, ℕ, List, [], ◌∷◌, Some, cond, Contains, IsPermutation, slice_get}
 use Rattle.std.proofs.Common.{sym, ap, subst, ◌∙◌}
 use Rattle.gix_parts.specs.declared.hash.ObjectId.{ObjectId}
 use Rattle.gix_parts.specs.Object.{Objects}

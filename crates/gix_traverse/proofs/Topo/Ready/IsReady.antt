@@ -1,7 +1,7 @@
 -- Which commits are ready: how taking one changes them. Over any walked parents and any set.
 use Rattle.std.specs.Prelude.{◌≡◌, ◌⊎◌, ◌+◌, ◌≤◌, ℕ, ℤ, List, [], ◌∷◌, Bool, true, false, ◌||◌, cond, filter, Contains}
 use Rattle.std.proofs.Common.{refl, sym, ap, subst, inl, inr, ⊎_elim, ◌∙◌, arith}
-use Rattle.std.proofs.lemmas.Bool.{false≢true, true≢false, or_right, false_from_ne_true, true_from_ne_false}
+use Rattle.std.proofs.lemmas.Bool.{true≢false, false_from_ne_true}
 use Rattle.gix_parts.specs.declared.hash.ObjectId.{ObjectId}
 use Rattle.gix_parts.specs.Id.{is_same, is_among}
 use Rattle.gix_traverse.specs.History.Reach.{Reaches, start, step}

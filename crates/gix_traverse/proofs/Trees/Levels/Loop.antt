@@ -16,7 +16,7 @@ use Rattle.gix_traverse.specs.Trees.Delegate.{Action, Call, PushPath, PopFront, 
 use Rattle.gix_traverse.specs.Trees.Visits.{Items, Place, Visit, visit, inside, Outcome, Leaves, Enters, Cycles, Breaks, outcome_of, outcome, visit_call, Ending, Whole, Broken, Failed, Task, Turn, shows}
 use Rattle.gix_traverse.specs.Trees.Paths.{unknown_root}
 use Rattle.gix_traverse.specs.Trees.Script as script
-use Rattle.gix_traverse.specs.Trees.Script.{items_or_none, level_calls, tasks_of, Visited, IsLevelScript}
+use Rattle.gix_traverse.specs.Trees.Script.{items_or_none, level_calls}
 use Rattle.gix_traverse.specs.Trees.Inside.LevelQueue.{LevelQueue, Waiting}
 use Rattle.gix_traverse.specs.Trees.Inside.ShowsEntry as round
 use Rattle.gix_traverse.specs.Trees.Inside.ShowsEntry.{ShowsEntry, ShowsTree, visit_below}

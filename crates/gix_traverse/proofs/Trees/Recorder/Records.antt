@@ -12,7 +12,7 @@ use Rattle.gix_traverse.specs.Trees.Delegate.{Action, Call, PushPath, PopPath, P
 use Rattle.gix_traverse.specs.Trees.Visits.{Items, Place, Visit, visit, inside, Outcome, Leaves, Enters, Cycles, Breaks, outcome, visit_call, visit_call_of, Ending, Whole, Failed, Task, Turn, Show, Fault, shows}
 use Rattle.gix_traverse.specs.Trees.Paths.{IsName, HaveNames, joined, unknown_root}
 use Rattle.gix_traverse.specs.Trees.Script as script
-use Rattle.gix_traverse.specs.Trees.Script.{Step, Entered, Visited, tasks_of, tasks_behind, items_or_none, level_calls, depth_calls, LevelScript, IsLevelScript, DepthScript, IsDepthScript}
+use Rattle.gix_traverse.specs.Trees.Script.{Visited, tasks_of, items_or_none, level_calls, depth_calls, IsLevelScript, DepthScript, IsDepthScript}
 use Rattle.gix_traverse.proofs.Trees.All.{all_left, all_right}
 use Rattle.gix_traverse.proofs.Trees.Levels.Queue.{first_task, other_tasks, LevelFrom, split_front}
 use Rattle.gix_traverse.proofs.Trees.Levels.Script.{level_queue}

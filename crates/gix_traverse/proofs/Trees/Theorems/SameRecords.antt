@@ -12,7 +12,7 @@ use Rattle.gix_traverse.specs.Trees.Delegate.{Action, Call}
 use Rattle.gix_traverse.specs.Trees.Visits.{Items, Place, Visit, visit, inside, Leaves, Enters, Breaks, outcome_of, outcome, Ending, Whole, Task, Turn, Show, Fault, shows}
 use Rattle.gix_traverse.specs.Trees.Paths.{unknown_root, known_root}
 use Rattle.gix_traverse.specs.Trees.Script as script
-use Rattle.gix_traverse.specs.Trees.Script.{Step, Entered, Visited, tasks_of, tasks_behind, items_or_none, entries_in, entries_at, LevelScript, IsLevelScript, DepthScript, IsDepthScript}
+use Rattle.gix_traverse.specs.Trees.Script.{Visited, tasks_of, items_or_none, entries_in, entries_at, IsLevelScript, DepthScript}
 use Rattle.gix_traverse.specs.Orders.Preorder as order
 use Rattle.gix_traverse.specs.Orders.Preorder.{IsPreorder}
 use Rattle.gix_traverse.proofs.Trees.Levels.Queue.{first_task, other_tasks, LevelFrom, split_front, no_front}

@@ -28,9 +28,6 @@ pub room_no_more : (i : ObjectId) (stored ids : List ObjectId) → room stored (
 room_no_more i [] ids = omega arith
 room_no_more i (k ∷ stored) ids = omega (arith, one_less (is_same k i) (is_among k ids), room_no_more i stored ids)
 
-or_false : (c : Bool) → false || c ≡ true → c ≡ true
-or_false c e = e
-
 none_or_one : (b c : Bool) (m n : ℕ) → b ≡ true → c ≡ false → m ≤ n → (if b || c then 0 else 1) + m < (if c then 0 else 1) + n
 none_or_one true false m n e f h = omega arith
 none_or_one true true m n e f h = cc

@@ -286,8 +286,8 @@ impl<F: Find + Drop, P: Predicate + Drop> Simple<F, P> {
         ensures takes { Takes F.objects F.faulty P.answers self.old taken result self.new }
         ensures asks { P.can_accept self.new.predicate }
     {
-        self.text.clear();
         let parent_ids = walked(self.parents, row.parent_ids);
+        self.text.clear();
         let treated = self.treat_all(true, parent_ids.as_slice());
         let scanned = Scanned {
             parent_ids,

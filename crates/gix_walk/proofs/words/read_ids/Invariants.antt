@@ -1,7 +1,13 @@
+use Rattle.std.specs.Prelude.{List, Result, Ok, Err, ◌++◌}
 use Rattle.std.proofs.Common.{◌≡◌, ◌+◌, map, drop, string_bytes}
-use Rattle.gix_walk.specs.Words.{ids_from}
-use Rattle.gix_walk.proofs.WordFacts.{behind}
+use Rattle.gix_walk.specs.declared.fault.Fault.{Fault}
+use Rattle.gix_walk.specs.Words.{Ids, ids_from}
 use Rattle.gix_walk.proofs.words.read_ids.Given as goal
+
+-- ids after others
+abbrev behind : Ids → Result Ids Fault → Result Ids Fault
+behind front (Ok ids) = Ok (front.0 ++ ids.0, front.1 ++ ids.1)
+behind front (Err e) = Err e
 
 -- the ids that were read, followed by the ids of the words that are left, are the ids of all words
 abbrev pub invariant-loop-i : goal.invariant-loop-i

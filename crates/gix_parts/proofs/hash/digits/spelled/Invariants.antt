@@ -1,4 +1,4 @@
-use Rattle.std.proofs.Common.{◌≡◌, ℕ, ◌-◌, ◌*◌, length}
+use Rattle.std.proofs.Common.{◌≡◌, ◌-◌, ◌*◌, length}
 use Rattle.gix_parts.specs.HexDigits.{AreDigits, AreSpelled}
 use Rattle.gix_parts.proofs.hash.digits.spelled.Given as goal
 

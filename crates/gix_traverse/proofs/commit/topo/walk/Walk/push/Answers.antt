@@ -1,4 +1,4 @@
-use Rattle.std.proofs.Common.{◌≡◌, ◌+◌, [], ◌∷◌, ◌++◌, Contains, refl, sym, ap, subst, ⊎_elim, ◌∙◌, arith, take_all}
+use Rattle.std.proofs.Common.{◌+◌, [], ◌∷◌, ◌++◌, Contains, refl, sym, ap, subst, ⊎_elim, ◌∙◌, arith, take_all}
 use Rattle.std.proofs.Common.{w64, to_z, of_z, Some, rules}
 use mir.Val.{SFits}
 use Rattle.std.proofs.lemmas.Int.{to_z-of_z}
