@@ -14,3 +14,7 @@ pub mod Drained
 pub mod Committer
 -- A committer is read exactly where a commit is read, with the commit's time.
 pub mod CommitterTime
+-- Facts on lists of anything.
+pub mod Lists
+-- What is reached from ids that are reached.
+pub mod Reached

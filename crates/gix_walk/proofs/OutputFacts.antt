@@ -5,36 +5,27 @@ use Rattle.std.specs.Iterator.{Yields}
 use Rattle.std.proofs.Common.{refl, sym, ap, subst, ◌∙◌, append_assoc, inl, inr}
 use Rattle.std.proofs.lemmas.List.{append-nil, map-append}
 use Rattle.std.proofs.lemmas.Grind.{flat_map-append}
+use Rattle.std.proofs.KnownBytes.{Appends-nil, Appends-trans}
 use Rattle.gix_traverse.specs.declared.commit.Info.{Info}
 use Rattle.gix_walk.specs.declared.fault.Fault.{Fault}
 use Rattle.gix_walk.specs.declared.fault.Fault.TheVariants as fault
 use Rattle.gix_walk.specs.Output.{Grows, Adds, WritesAll}
 use Rattle.gix_walk.specs.Walked.{given, Ends, finished, failed, cut_short, line_of, lines_of}
 
-pub appends_none : (old : Option (List ℕ)) → Appends old old []
-appends_none None = tt
-appends_none (Some xs) = sym (append-nil xs)
-
-pub appends_more : (old mid new : Option (List ℕ)) (a b : List ℕ) → Appends old mid a → Appends mid new b → Appends old new (a ++ b)
-appends_more None mid new a b h k = tt
-appends_more (Some xs) None new a b h k = absurd h
-appends_more (Some xs) (Some ys) None a b h k = k
-appends_more (Some xs) (Some ys) (Some zs) a b h k = k ∙ ap (λ y. y ++ b) h ∙ append_assoc xs a b
-
 -- nothing was written
 pub grows_waiting : (old : Option (List ℕ)) (waiting waits bytes : List ℕ) → waits ≡ waiting ++ bytes → Grows old waiting old waits bytes
-grows_waiting old waiting waits bytes e = ([], appends_none old, sym e)
+grows_waiting old waiting waits bytes e = ([], Appends-nil old, sym e)
 
 pub grows_more : (a b c : Option (List ℕ)) (x y z p q : List ℕ) → Grows a x b y p → Grows b y c z q → Grows a x c z (p ++ q)
 grows_more a b c x y z p q h k = (
   h.0 ++ k.0,
-  appends_more a b c h.0 k.0 h.1 k.1,
+  Appends-trans a b c h.0 k.0 h.1 k.1,
   sym (append_assoc x p q) ∙ ap (λ w. w ++ q) h.2 ∙ append_assoc h.0 y q ∙ ap (λ w. h.0 ++ w) k.2 ∙ sym (append_assoc h.0 k.0 z),
 )
 
 -- all that is buffered is written
 pub grows_end : (old mid new : Option (List ℕ)) (waits bytes : List ℕ) → Grows old [] mid waits bytes → Appends mid new waits → Appends old new bytes
-grows_end old mid new waits bytes h k = subst (Appends old new) (sym h.2) (appends_more old mid new h.0 waits h.1 k)
+grows_end old mid new waits bytes h k = subst (Appends old new) (sym h.2) (Appends-trans old mid new h.0 waits h.1 k)
 
 pub lines_last : (infos : List Info) (info : Info) → lines_of (infos ++ info ∷ []) ≡ lines_of infos ++ line_of info.id
 lines_last infos info = flat_map-append (λ (i : Info). line_of i.id) infos (info ∷ []) ∙ ap (λ x. lines_of infos ++ x) (append-nil (line_of info.id))

@@ -1,8 +1,8 @@
 -- A simple walk that reaches whole commits alone fails for memory alone.
-use Rattle.std.specs.Prelude.{◌≡◌, ◌≢◌, ℕ, ℤ, List, [], ◌∷◌, ◌++◌, filter, Bool, true, false, Option, Some, None, Result, Ok, Err, Contains}
+use Rattle.std.specs.Prelude.{◌≡◌, ◌≢◌, ℕ, ℤ, List, [], ◌∷◌, ◌++◌, true, false, Option, Some, None, Result, Ok, Err, Contains}
 use Rattle.std.specs.Iterator.{Yields}
 use Rattle.std.proofs.Common.{refl, sym, ap, subst, ◌∙◌, ⊎_elim}
-use Rattle.std.proofs.lemmas.List.Elements.{All-filter, All-contains, All-contains_itself, Contains-append_left, Contains-append_right, Contains-append_cases}
+use Rattle.std.proofs.lemmas.List.Elements.{Contains-append_left, Contains-append_right, Contains-append_cases}
 use Rattle.std.proofs.lemmas.List.Sorted.{Contains-permutation, IsPermutation-sym}
 use Rattle.gix_parts.specs.declared.hash.ObjectId.{ObjectId}
 use Rattle.gix_parts.specs.declared.object.Kind.TheVariants as object
@@ -29,7 +29,7 @@ use Rattle.gix_traverse.specs.History.Commits.{ReadsWhole, by_mode, commit_at, c
 use Rattle.gix_traverse.specs.History.Reach.{Reaches, start, step}
 use Rattle.gix_traverse.specs.Simple.Building.{IsTipFault}
 use Rattle.gix_traverse.specs.Simple.Painting.{IsFaultAt}
-use Rattle.gix_traverse.specs.Simple.Walk.{Treated, Holds, Enqueues, dropped, enqueued, Treats, hidden, known, refused, accepted, store_fails, no_memory, no_memory_after, TreatsAll, none, more, stops, Concludes, given, broken, Takes, by_row, by_store, not_found, Chooses, first, best, Steps, ended, took, unhidden, paints, faulty_history, ids_of, kept_rows, scanned, unrowed}
+use Rattle.gix_traverse.specs.Simple.Walk.{Treated, Enqueues, dropped, enqueued, Treats, hidden, known, refused, accepted, store_fails, no_memory, no_memory_after, TreatsAll, none, more, stops, Concludes, given, broken, Takes, by_row, by_store, not_found, Chooses, first, best, Steps, ended, took, unhidden, paints, faulty_history, ids_of, kept_rows, scanned, unrowed}
 use Rattle.gix_traverse.proofs.Shared.Committer.{fault_unread}
 use Rattle.gix_traverse.proofs.Shared.ReadsWhole.{scan_is, no_fault}
 use Rattle.gix_traverse.proofs.Shared.Rows.{none_agree}
@@ -45,16 +45,12 @@ use Rattle.gix_walk.specs.Walked.{Walk, Answers, IsWalkFault, StartsFrom, FailsA
 use Rattle.gix_walk.specs.Words.{Commits, Ahead}
 use Rattle.gix_walk.proofs.CommitRuns.{ends_well}
 use Rattle.gix_walk.proofs.InternalFacts.{next_sound}
-use Rattle.gix_walk.proofs.SimpleRuns.{IsUncut, is_tip, reach_more, same, whole_from}
+use Rattle.gix_walk.proofs.SimpleRuns.{IsUncut, is_tip, same, whole_from}
 use Rattle.gix_walk.proofs.UncutWords.{uncut}
 use Rattle.gix_traverse.proofs.Painting.Invariant.{own_history}
-
-within : {X : Type 0} (p : X → Bool) (xs : List X) (x : X) → Contains (filter p xs) x → Contains xs x
-within p xs x h = All-contains (Contains xs) (filter p xs) x (All-filter p (Contains xs) xs (All-contains_itself xs)) h
-
-held : (o : Option CommitTimeOrder) (these pending : List Pending) → Holds o these pending → (p : Pending) → Contains pending p → Contains these p
-held None these pending e p c = subst (λ ps. Contains ps p) e c
-held (Some order) these pending h p c = Contains-permutation pending these p (IsPermutation-sym these pending h) c
+use Rattle.gix_traverse.proofs.Shared.Lists.{filter_within, only_member}
+use Rattle.gix_traverse.proofs.Shared.Reached.{reaches_from, reach_more}
+use Rattle.gix_traverse.proofs.Simple.Treated.{Contains-holds}
 
 in_ids : (ps : List Pending) (p : Pending) → Contains ps p → Contains (ids_of ps) p.id
 in_ids [] p c = absurd (no_member p c)
@@ -63,10 +59,6 @@ in_ids (q ∷ ps) p c = ⊎_elim (λ e. subst (λ i. Contains (q.id ∷ ids_of p
 each_id : (P : ObjectId → Type 0) (ps : List Pending) → ((p : Pending) → Contains ps p → P p.id) → (i : ObjectId) → Contains (ids_of ps) i → P i
 each_id P [] f i c = absurd (no_member i c)
 each_id P (q ∷ ps) f i c = ⊎_elim (λ e. subst P e (f q (Contains-here q ps))) (λ m. each_id P ps (λ p n. f p (Contains-there p q ps n)) i m) (Contains-cons_cases i q.id (ids_of ps) c)
-
-reach_on : (next : ObjectId → List ObjectId) (xs ys : List ObjectId) → ((i : ObjectId) → Contains xs i → Reaches next ys i) → (i : ObjectId) → Reaches next xs i → Reaches next ys i
-reach_on next xs ys f i (start s) = f i s
-reach_on next xs ys f i (step {c = c} r n) = step (reach_on next xs ys f c r) n
 
 module _ (objects : Objects) (tips hiders : List ObjectId) (whole : AreWhole objects (tips ++ hiders)) where
   abbrev IsMet : ObjectId → Type 0
@@ -94,7 +86,7 @@ module _ (objects : Objects) (tips hiders : List ObjectId) (whole : AreWhole obj
   joined : (w : Walk) (i : ObjectId) (time : ℤ) (pending : List Pending) (o : Option CommitTimeOrder) (limit : Option ℤ) → Stands w → IsMet i → Enqueues objects_of never_faulty accepts_all o limit w.pending i time pending → (p : Pending) → Contains pending p → IsMet p.id
   joined w i time pending o limit s m (dropped old) p c = s.met p c
   joined w i time pending o limit s m (enqueued new holds) p c =
-      ⊎_elim (s.met p) (λ n. ⊎_elim (λ e. subst IsMet (ap (λ x. x.id) e) m) (λ no. absurd (no_member p no)) (Contains-cons_cases p _ [] n)) (Contains-append_cases w.pending _ p (held o _ pending holds p c))
+      ⊎_elim (s.met p) (λ n. subst IsMet (ap (λ x. x.id) (only_member _ p n)) m) (Contains-append_cases w.pending _ p (Contains-holds o _ pending holds p c))
 
   -- one parent is treated, and all of them
   treated : {w : Walk} {i : ObjectId} {how : Treated} {v : Walk} → Treats objects_of never_faulty accepts_all w false i how v → Stands w → IsMet i → Stands v
@@ -153,7 +145,7 @@ module _ (objects : Objects) (tips hiders : List ObjectId) (whole : AreWhole obj
   called : {w : Walk} {o : Option (Result Info Error)} {new : Walk} → Answers w o new → Stands w → IsGood o new
   called (unhidden e steps) s = stepped steps (record { store = s.store; rows = s.rows; parents = s.parents; behind = λ i c. absurd (no_member i c); met = s.met })
   called {w} (paints {marks = marks} {rows = rows} some hides paint steps) s =
-      stepped steps (record { store = s.store; rows = ⊎_elim (λ e. e ∙ s.rows) (λ e. e) paint.rows_left; parents = s.parents; behind = λ i c. absurd (no_member i c); met = λ p c. s.met p (within _ w.pending p c) })
+      stepped steps (record { store = s.store; rows = ⊎_elim (λ e. e ∙ s.rows) (λ e. e) paint.rows_left; parents = s.parents; behind = λ i c. absurd (no_member i c); met = λ p c. s.met p (filter_within _ w.pending p c) })
   called {w} (faulty_history {why = why} some hides left f) s = λ ne. absurd (no_fault_at f.id why (whole_from objects f.id (whole f.id reached)) (subst (λ o. IsFaultAt o (never_faulty o) f.id why) s.store f.fault))
     where
       both : (i : ObjectId) → Contains (ids_of w.pending ++ w.hidden_tips) i → Reaches (parents_of objects) (tips ++ hiders) i
@@ -164,7 +156,7 @@ module _ (objects : Objects) (tips hiders : List ObjectId) (whole : AreWhole obj
           (Contains-append_cases (ids_of w.pending) w.hidden_tips i c)
 
       reached : Reaches (parents_of objects) (tips ++ hiders) f.id
-      reached = reach_on (parents_of objects) (ids_of w.pending ++ w.hidden_tips) (tips ++ hiders) both f.id (subst (λ o. Reaches (parents_of o) (ids_of w.pending ++ w.hidden_tips) f.id) s.store (f.reached w.store (own_history w.store (never_faulty w.store) w.rows (none_agree w.store w.rows s.rows))))
+      reached = reaches_from (parents_of objects) (ids_of w.pending ++ w.hidden_tips) (tips ++ hiders) both f.id (subst (λ o. Reaches (parents_of o) (ids_of w.pending ++ w.hidden_tips) f.id) s.store (f.reached w.store (own_history w.store (never_faulty w.store) w.rows (none_agree w.store w.rows s.rows))))
   called (no_memory some hides left) s = λ ne. tt
 
   drawn : (infos : List Info) (w at : Walk) → Yields Answers w (all_given infos) at → Stands w → Stands at

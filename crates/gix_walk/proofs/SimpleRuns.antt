@@ -4,12 +4,12 @@ use Rattle.std.specs.Iterator.{Drains, Yields}
 use Rattle.std.specs.List.{AllZip}
 use Rattle.std.proofs.Math.Path.{transport}
 use Rattle.std.proofs.Common.{refl, sym, ap, subst, ◌∙◌, ⊎_elim, inl, inr}
-use Rattle.std.proofs.lemmas.Bool.{false≢true, true≢false, false_from_ne_true, and_parts}
+use Rattle.std.proofs.lemmas.Bool.{false≢true, true≢false, false_from_ne_true}
 use Rattle.std.proofs.lemmas.List.Elements.{All-nil, All-cons, Contains-append_left, Contains-append_right, Contains-append_cases}
+use Rattle.std.proofs.Math.Bool.{and-true}
 use Rattle.gix_parts.proofs.Ids.Membership.{among_from, among_is}
 use Rattle.gix_parts.specs.declared.hash.ObjectId.{ObjectId}
 use Rattle.gix_parts.specs.CommitText.{Commit}
-use Rattle.gix_parts.specs.Id.{is_among}
 use Rattle.gix_parts.specs.Object.{Objects}
 use Rattle.gix_traverse.specs.declared.commit.Info.{Info}
 use Rattle.gix_traverse.specs.declared.commit.Parents.TheVariants as mode
@@ -23,7 +23,7 @@ use Rattle.gix_traverse.specs.History.Reach.{Reaches, start, step, Tells}
 use Rattle.gix_traverse.specs.Simple.Building.{IsBuilt, made, breadth_first, by_time, hides, recent, timed}
 use Rattle.gix_traverse.specs.Simple.Laws.{AnswersBy, AreDistinct, IsFresh, IsGiven, IsNoRefusal, IsNewWalk, IsWholeRun, GivesInOrder, kept_parents, new_ids, next_of, starts_of, IsInOrder}
 use Rattle.gix_traverse.specs.Simple.Walk.{is_older, unhidden, paints, faulty_history, no_memory, cutoff, ids_of, time_order}
-use Rattle.gix_traverse.proofs.Shared.NewIds.{among-filter, times_among, times-fresh}
+use Rattle.gix_traverse.proofs.Shared.NewIds.{times_among, times-fresh}
 use Rattle.gix_traverse.proofs.Shared.Rows.{none_agree}
 use Rattle.gix_traverse.proofs.Simple.Builders.{built}
 use Rattle.gix_traverse.proofs.Simple.Corollaries.{gives, gives_once, shown_reached, reached_shown}
@@ -31,6 +31,8 @@ use Rattle.gix_traverse.proofs.Simple.ReachDecided.{reach_test}
 use Rattle.gix_traverse.proofs.Simple.Tips.{is_new_walk, pending_is}
 use Rattle.gix_walk.specs.Histories.{IsShown, IsListedSo}
 use Rattle.gix_walk.specs.Walked.{Walk, Answers, IsSorted, StartsFrom, objects_of, never_faulty, accepts_all, given}
+use Rattle.gix_traverse.proofs.Shared.Lists.{filter_within, filter_all}
+use Rattle.gix_traverse.proofs.Shared.Reached.{reach_more}
 
 -- the orders that a command names
 abbrev pub IsUncut : Sorting → Type 0
@@ -38,17 +40,9 @@ IsUncut sorting.BreadthFirst = Unit {0}
 IsUncut (sorting.ByCommitTime order) = Unit {0}
 IsUncut (sorting.ByCommitTimeCutoff order seconds) = ⊥
 
-all_kept : (xs : List ObjectId) → filter (λ i. true) xs ≡ xs
-all_kept [] = refl
-all_kept (x ∷ xs) = ap (λ ys. x ∷ ys) (all_kept xs)
-
 recent_all : (objects : Objects) (ps : List Pending) → ids_of (recent None (timed objects ps)) ≡ ids_of ps
 recent_all objects [] = refl
 recent_all objects (p ∷ ps) = ap (λ is. p.id ∷ is) (recent_all objects ps)
-
-pub reach_more : (next : ObjectId → List ObjectId) (xs ys : List ObjectId) → ((i : ObjectId) → Contains xs i → Contains ys i) → (i : ObjectId) → Reaches next xs i → Reaches next ys i
-reach_more next xs ys f i (start s) = start (f i s)
-reach_more next xs ys f i (step {c = c} r n) = step (reach_more next xs ys f c r) n
 
 unrefused : (infos : List Info) → All IsNoRefusal (given infos)
 unrefused [] = All-nil IsNoRefusal
@@ -71,10 +65,6 @@ uncut_none : (by : Sorting) → IsUncut by → cutoff mode.All by ≡ None
 uncut_none sorting.BreadthFirst u = refl
 uncut_none (sorting.ByCommitTime order) u = refl
 uncut_none (sorting.ByCommitTimeCutoff order seconds) u = absurd u
-
-and_true : (a : Bool) → (a && true) ≡ a
-and_true true = refl
-and_true false = refl
 
 -- what sorting leaves
 record Follows (by : Sorting) (first sorted : Walk) : Type 0 where
@@ -111,18 +101,15 @@ painted_whole walk none some behind (faulty_history p h rows fault) good i r = a
 painted_whole walk none some behind (no_memory p h rows) good i r = absurd good
 
 module _ (objects : Objects) where
-  unkept : (p : ObjectId → Bool) (xs : List ObjectId) (i : ObjectId) → Contains (filter p xs) i → Contains xs i
-  unkept p xs i c = among_is i xs (and_parts (p i) (is_among i xs) (sym (among-filter i p xs) ∙ among_from i (filter p xs) c)).1
-
   -- what is reached through some of the parents is reached
   loosened : (accepts shows : ObjectId → Bool) (limit : Option ℤ) (xs : List ObjectId) (i : ObjectId) → Reaches (kept_parents objects mode.All accepts shows limit) xs i → Reaches (parents_of objects) xs i
   loosened accepts shows limit xs i (start s) = start s
-  loosened accepts shows limit xs i (step {c = c} r n) = step (loosened accepts shows limit xs c r) (unkept _ (parents_of objects c) i n)
+  loosened accepts shows limit xs i (step {c = c} r n) = step (loosened accepts shows limit xs c r) (filter_within _ (parents_of objects c) i n)
 
   -- through all parents
   through_all : (xs : List ObjectId) (i : ObjectId) → Reaches (parents_of objects) xs i → Reaches (kept_parents objects mode.All (λ j. true) (λ j. false) None) xs i
   through_all xs i (start s) = start s
-  through_all xs i (step {c = c} r n) = step (through_all xs c r) (subst (λ ys. Contains ys i) (sym (all_kept (parents_of objects c))) n)
+  through_all xs i (step {c = c} r n) = step (through_all xs c r) (subst (λ ys. Contains ys i) (sym (filter_all (λ i. true) (parents_of objects c) (λ i m. refl))) n)
 
 module _ (objects : Objects) (by : Sorting) (tips hidden : List ObjectId) (walk : Walk) (uncut : IsUncut by) (starts : StartsFrom objects by tips hidden walk) where
   -- the walk before its first step, its options written out
@@ -145,7 +132,7 @@ module _ (objects : Objects) (by : Sorting) (tips hidden : List ObjectId) (walk 
       (λ k. record walk { store = s k; rows = r k; parents = p k; sorting = b k; hidden_tips = h k })
 
   pending : ids_of walk.pending ≡ new_ids (λ i. false) tips
-  pending = ap (λ w. ids_of w.pending) starts.hides ∙ sorted_so.pending ∙ new_walk.pending ∙ ap (new_ids (λ i. false)) (all_kept tips)
+  pending = ap (λ w. ids_of w.pending) starts.hides ∙ sorted_so.pending ∙ new_walk.pending ∙ ap (new_ids (λ i. false)) (filter_all (λ i. true) tips (λ i m. refl))
 
   pub is_tip : (i : ObjectId) → Contains (ids_of walk.pending) i → Contains tips i
   is_tip i c =
@@ -181,7 +168,7 @@ module _ (objects : Objects) (by : Sorting) (tips hidden : List ObjectId) (walk 
         fresh = subst (λ w. IsFresh objects_of w (λ i. true)) same is_fresh.0;
         tells = test.1;
         meets = record {
-          given = λ i r. whole_from objects i (tips_whole i (reach_more (parents_of objects) _ (ids_of walk.pending) (λ j c. unkept objects _ (ids_of walk.pending) j c) i (loosened objects (λ j. true) test.0 (cutoff mode.All by) _ i r)));
+          given = λ i r. whole_from objects i (tips_whole i (reach_more (parents_of objects) _ (ids_of walk.pending) (λ j c. filter_within _ (ids_of walk.pending) j c) i (loosened objects (λ j. true) test.0 (cutoff mode.All by) _ i r)));
           painted = λ p h i r. whole_from objects i (whole i (reach_more (parents_of objects) (ids_of walk.pending ++ hidden) (tips ++ hidden) both i r));
         };
         agreeing = none_agree objects [] refl;
@@ -221,7 +208,7 @@ module _ (objects : Objects) (by : Sorting) (tips hidden : List ObjectId) (walk 
       exact i = (λ c. shown i ((each.1 i).0 (subst (λ xs. Contains xs i) ids_are c)), λ s. subst (λ xs. Contains xs i) (sym ids_are) ((each.1 i).1 (reached i s)))
 
       next_is : next_of objects_of opened (λ i. true) test.0 ≡ (λ c. filter (λ i. not (test.0 i)) (parents_of objects c))
-      next_is = (λ k c. filter (λ i. not (test.0 i) && not (is_older (time_of objects i) (uncut_none by uncut k))) (parents_of objects c)) ∙ (λ k c. filter (λ i. and_true (not (test.0 i)) k) (parents_of objects c))
+      next_is = (λ k c. filter (λ i. not (test.0 i) && not (is_older (time_of objects i) (uncut_none by uncut k))) (parents_of objects c)) ∙ (λ k c. filter (λ i. and-true (not (test.0 i)) k) (parents_of objects c))
 
       -- in the order that was asked for
       pub in_order : IsListedSo objects by tips hidden (map (λ info. info.id) infos)

@@ -1,5 +1,5 @@
 -- Facts on ids, and on whether one is in a list.
-use Rattle.std.specs.Prelude.{ℕ, zero, suc, ◌≡◌, ◌<◌, ◌⊎◌, List, [], ◌∷◌, ◌++◌, Bool, true, false, ◌||◌, length, get_or, Contains}
+use Rattle.std.specs.Prelude.{ℕ, zero, suc, ◌≡◌, ◌<◌, ◌⊎◌, List, [], ◌∷◌, ◌++◌, true, false, ◌||◌, length, get_or, Contains}
 use Rattle.std.proofs.Common.{refl, sym, ap, subst, inl, inr, ⊎_elim, ◌∙◌, arith}
 use Rattle.std.specs.Ordering.{is_eq}
 use Rattle.std.specs.declared.cmp.Ordering.TheVariants.{Less, Equal}
@@ -7,6 +7,7 @@ use Rattle.std.specs.Cmp.{IsTotalOrder, Equal-is, tied_itself}
 use Rattle.std.specs.Cmp.Lexicographic.{nat_list_cmp_total}
 use Rattle.std.specs.FinMap.{IsAntisymmetric, nat_cmp-IsAntisymmetric, slice_cmp-IsAntisymmetric}
 use Rattle.std.proofs.lemmas.Bool.{false≢true, or_cases, or_right, or_left, false_from_ne_true}
+use Rattle.std.proofs.Math.Bool.{or_assoc}
 use Rattle.gix_parts.specs.declared.hash.ObjectId.{ObjectId}
 use Rattle.gix_parts.specs.declared.hash.ObjectId.TheVariants as id
 use Rattle.gix_parts.specs.Id.{id_cmp, is_same, is_among}
@@ -61,11 +62,7 @@ same_back a b = elim (is_same a b) as (λ t. is_same a b ≡ t → t ≡ is_same
 -- membership
 pub among-append : (i : ObjectId) (xs ys : List ObjectId) → is_among i (xs ++ ys) ≡ (is_among i xs || is_among i ys)
 among-append i [] ys = refl
-among-append i (x ∷ xs) ys = ap (λ b. is_same i x || b) (among-append i xs ys) ∙ or_joins (is_same i x) (is_among i xs) (is_among i ys)
-  where
-    or_joins : (a b c : Bool) → (a || (b || c)) ≡ ((a || b) || c)
-    or_joins true b c = refl
-    or_joins false b c = refl
+among-append i (x ∷ xs) ys = ap (λ b. is_same i x || b) (among-append i xs ys) ∙ sym (or_assoc (is_same i x) (is_among i xs) (is_among i ys))
 
 pub among-one : (i x : ObjectId) → is_among i (x ∷ []) ≡ is_same i x
 among-one i x = elim (is_same i x) as (λ t. (t || false) ≡ t) [ true ↦ refl | false ↦ refl ]

@@ -23,7 +23,7 @@ use Rattle.gix_traverse.specs.declared.commit.simple.Hidden.{Hidden}
 use Rattle.gix_traverse.specs.Simple.Painting.{IsFaultAt}
 use Rattle.gix_traverse.specs.Simple.Inside.Painter.{FailsAmong, hides, is_hidden, State, Unmet, Open, Read, Hides, state_by, state_of, IsTidy, Becomes, stays, opens, covers, rows_in, held_graph, IsQueued, IsWaiting, Queues, Meets, is_turn, Takes, GivesParents, TreatsEntry, reads, room}
 use Rattle.gix_traverse.proofs.Shared.NewIds.{fresh, fresh_agree, new_less}
-use Rattle.gix_traverse.proofs.Painting.Search.{only_member}
+use Rattle.gix_traverse.proofs.Shared.Lists.{only_member}
 use Rattle.gix_parts.proofs.Ids.Membership.{id_total, same_is, same_itself, Contains-here, Contains-there, Contains-cons_cases}
 
 becomes_both : {on : Side} {met1 met2 met3 queued1 queued2 : Type 0} {a b c : State} → (met3 → met1 ⊎ met2) → (met1 → met3) → (met2 → met3) → (queued1 → queued2) → Becomes on met1 queued1 a b → Becomes on met2 queued2 b c → Becomes on met3 queued2 a c

@@ -3,16 +3,14 @@ use Rattle.std.specs.Prelude.{◌≡◌, ◌⊎◌, ◌<◌, ℕ, List, [], ◌�
 use Rattle.std.proofs.Common.{subst, inl, inr, ⊎_elim, arith}
 use Rattle.gix_parts.specs.declared.hash.ObjectId.{ObjectId}
 use Rattle.gix_traverse.specs.History.Reach.{Reaches, start, step}
-use Rattle.gix_parts.proofs.Ids.Membership.{Contains-here, Contains-cons_cases, no_member}
-
-pub only_member : {X : Type 0} (x y : X) → Contains (x ∷ []) y → x ≡ y
-only_member x y h = ⊎_elim (λ e. e) (λ t. absurd (no_member y t)) (Contains-cons_cases y x [] h)
+use Rattle.gix_parts.proofs.Ids.Membership.{Contains-here}
+use Rattle.gix_traverse.proofs.Shared.Lists.{only_member}
+use Rattle.gix_traverse.proofs.Shared.Reached.{reaches_from}
 
 module _ (next : ObjectId → List ObjectId) where
   -- what is reached from a member is reached
   pub reaches_on : (starts : List ObjectId) (c i : ObjectId) → Reaches next starts c → Reaches next (c ∷ []) i → Reaches next starts i
-  reaches_on starts c i r (start m) = subst (Reaches next starts) (only_member c i m) r
-  reaches_on starts c i r (step {c = d} s m) = step (reaches_on starts c d r s) m
+  reaches_on starts c i r = reaches_from next (c ∷ []) starts (λ j m. subst (Reaches next starts) (only_member c j m) r) i
 
   -- what is reached is done, or is reached from what waits
   pub done_or_waits : (starts : List ObjectId) (Waits Done : ObjectId → Type 0)

@@ -11,6 +11,7 @@ use Rattle.gix_traverse.specs.Orders.BreadthOrder.{first_new, named_by, IsBreadt
 use Rattle.gix_traverse.specs.Orders.TimeOrder.{IsTimeOrder, IsPending, IsBest}
 use Rattle.gix_traverse.specs.History.Reach.{Reaches, start, step}
 use Rattle.gix_parts.proofs.Ids.Membership.{among_from, among_is, Contains-here, Contains-there, Contains-cons_cases, no_member}
+use Rattle.gix_traverse.proofs.Shared.Lists.{past_end, only_member}
 
 -- Each id is a pending one. The list ends where none is.
 abbrev pub IsWorkOrder : (ObjectId → List ObjectId) → List ObjectId → List ObjectId → Type 0
@@ -73,7 +74,7 @@ module _ (next : ObjectId → List ObjectId) (starts : List ObjectId) where
   reached_by_named taken all i h = ⊎_elim (λ s. start s) (λ n. reached_by_all taken all i n) (Contains-append_cases starts (flat_map next taken) i h)
 
   pub Contains-push : (taken : List ObjectId) (i c : ObjectId) → Contains (taken ++ i ∷ []) c → Contains taken c ⊎ (i ≡ c)
-  Contains-push taken i c h = ⊎_elim (λ t. inl t) (λ t. ⊎_elim (λ e. inr e) (λ n. absurd (no_member c n)) (Contains-cons_cases c i [] t)) (Contains-append_cases taken (i ∷ []) c h)
+  Contains-push taken i c h = ⊎_elim (λ t. inl t) (λ t. inr (only_member i c t)) (Contains-append_cases taken (i ∷ []) c h)
 
   pub all_reached : (taken ids : List ObjectId) → WorksFrom taken ids → ((c : ObjectId) → Contains taken c → Reaches next starts c) → (c : ObjectId) → Contains ids c → Reaches next starts c
   all_reached taken [] h all c k = absurd (no_member c k)
@@ -90,10 +91,6 @@ module _ (next : ObjectId → List ObjectId) (starts : List ObjectId) where
   in_all : (c : ObjectId) (taken : List ObjectId) (i : ObjectId) → Contains taken c → Contains (next c) i → Contains (flat_map next taken) i
   in_all c [] i h n = absurd (no_member c h)
   in_all c (x ∷ xs) i h n = ⊎_elim (λ e. Contains-append_left (next x) (flat_map next xs) i (subst (λ y. Contains (next y) i) (sym e) n)) (λ t. Contains-append_right (next x) (flat_map next xs) i (in_all c xs i t n)) (Contains-cons_cases c x xs h)
-
-  past_end : {X : Type 0} (xs : List X) → slice_get xs (length xs) ≡ None
-  past_end [] = refl
-  past_end (x ∷ xs) = past_end xs
 
   pub reached_is_given : (ids : List ObjectId) → IsWorkOrder next starts ids → (i : ObjectId) → Reaches next starts i → Contains ids i
   reached_is_given ids h = go

@@ -1,6 +1,6 @@
 -- A commit that reads whole is read alike from its items and from its row.
 use Rattle.std.specs.Prelude.{ℕ, zero, suc, ◌≡◌, ◌<◌, List, [], ◌∷◌, ◌++◌, Bool, true, false, cond, length, slice_get, Contains, Option, Some, None, Result, Ok, ◌≢◌}
-use Rattle.std.proofs.Common.{refl, sym, ap, subst, ◌∙◌, arith, append_assoc, append-nil, ⊎_elim}
+use Rattle.std.proofs.Common.{refl, sym, ap, subst, ◌∙◌, arith, append_assoc, append-nil}
 use Rattle.gix_parts.specs.declared.hash.Kind.{Kind}
 use Rattle.gix_parts.specs.declared.hash.ObjectId.{ObjectId}
 use Rattle.gix_parts.specs.declared.object.Kind.TheVariants as object
@@ -18,10 +18,11 @@ use Rattle.gix_traverse.specs.declared.commit.Parents.TheVariants as mode
 use Rattle.gix_traverse.specs.History.Commits.{by_mode, parents_of, parents_in, time_of, time_in, commit_at, commit_of_kind, commit_of_object}
 use Rattle.gix_traverse.specs.History.Agreeing.{PlaceAgrees, RowAgrees, IsAgreeing, IsCorrupt}
 use Rattle.gix_traverse.specs.Simple.Walk.{scanned, with_parent, ids_at, with_id}
-use Rattle.gix_parts.proofs.Ids.Membership.{same_is, Contains-here, Contains-there, Contains-cons_cases, no_member}
+use Rattle.gix_parts.proofs.Ids.Membership.{same_is, Contains-here, Contains-there}
 use Rattle.gix_parts.specs.declared.object.Kind.{Kind as ObjectKind}
 use Rattle.gix_parts.specs.declared.object.find.existing_iter.Error.{Error as ExistingError}
 use Rattle.gix_parts.specs.Find.{IsExistingFault}
+use Rattle.gix_traverse.proofs.Shared.Lists.{only_member}
 
 -- what may be at the front behind a tree or a parent
 pub data IsParentsFront : Front → Type 0 where
@@ -164,7 +165,7 @@ module _ (objects : Objects) (rows : List GraphRow) (agrees : IsAgreeing objects
 pub walked_within : (m : Parents) (ids : List ObjectId) (i : ObjectId) → Contains (by_mode m ids) i → Contains ids i
 walked_within mode.All ids i h = h
 walked_within mode.First [] i h = h
-walked_within mode.First (j ∷ ids) i h = ⊎_elim (λ e. subst (λ x. Contains (x ∷ ids) i) (sym e) (Contains-here i ids)) (λ n. absurd (no_member i n)) (Contains-cons_cases i j [] h)
+walked_within mode.First (j ∷ ids) i h = subst (λ x. Contains (x ∷ ids) i) (sym (only_member j i h)) (Contains-here i ids)
 
 no_commit : (i : ObjectId) (kind : ObjectKind) (bytes : List ℕ) (c : Commit) → kind ≢ object.Commit → commit_of_kind i kind bytes ≡ Some c → ⊥
 no_commit i object.Commit bytes c ne e = ne refl

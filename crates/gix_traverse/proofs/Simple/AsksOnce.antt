@@ -24,10 +24,11 @@ use Rattle.gix_traverse.specs.Simple.Runs.{AsksOnce}
 use Rattle.gix_traverse.specs.Simple.Walk as walk_of
 use Rattle.gix_traverse.specs.Topo.Laws.{AsksAll}
 use Rattle.gix_traverse.specs.Topo.Laws as topo
-use Rattle.gix_parts.proofs.Ids.Membership.{id_total, among-append, among_from, among_is, Contains-here, Contains-there, Contains-cons_cases, no_member}
+use Rattle.gix_parts.proofs.Ids.Membership.{id_total, among-append, among_from, among_is, Contains-here, Contains-there, no_member}
 use Rattle.gix_traverse.proofs.Shared.NewIds.{among_flat}
 use Rattle.gix_traverse.proofs.Shared.Rows.{found_entry, ids_in_rows, kept_either}
 use Rattle.gix_traverse.proofs.Shared.ReadsWhole.{walked_within}
+use Rattle.gix_traverse.proofs.Shared.Lists.{only_member}
 
 asks_then : {P : Type 0} {answers : P → ObjectId → Bool → P → Type 0} {p q r : P} {ids : List ObjectId} {i : ObjectId} {answer : Bool} → AsksAll answers p ids q → answers q i answer r → AsksAll answers p (ids ++ i ∷ []) r
 asks_then topo.none a = topo.more a topo.none
@@ -36,10 +37,7 @@ asks_then (topo.more b rest) a = topo.more b (asks_then rest a)
 distinct_then : (ids : List ObjectId) (i : ObjectId) → AreDistinct ids → (Contains ids i → ⊥) → AreDistinct (ids ++ i ∷ [])
 distinct_then [] i d n = ((λ m. no_member i m), tt)
 distinct_then (x ∷ ids) i d n =
-    ((λ m. ⊎_elim d.0 (λ k. n (subst (λ y. Contains (y ∷ ids) i) (sym (only x k)) (Contains-here i ids))) (Contains-append_cases ids (i ∷ []) x m)), distinct_then ids i d.1 (λ m. n (Contains-there i x ids m)))
-  where
-    only : (x : ObjectId) → Contains (i ∷ []) x → x ≡ i
-    only x k = ⊎_elim (λ e. sym e) (λ t. absurd (no_member x t)) (Contains-cons_cases x i [] k)
+    ((λ m. ⊎_elim d.0 (λ k. n (subst (λ y. Contains (y ∷ ids) i) (only_member i x k) (Contains-here i ids))) (Contains-append_cases ids (i ∷ []) x m)), distinct_then ids i d.1 (λ m. n (Contains-there i x ids m)))
 
 module _ {F P : Type 0} (objects : F → Objects) (faulty : F → ObjectId → Type 0) (answers : P → ObjectId → Bool → P → Type 0) (first : P) (named : List ObjectId) where
   -- an id that the walk knows
@@ -102,13 +100,10 @@ module _ {F P : Type 0} (objects : F → Objects) (faulty : F → ObjectId → T
       ids = a.so_far.ids ++ i ∷ [];
       run = asks_then a.so_far.run answer;
       distinct = distinct_then a.so_far.ids i a.so_far.distinct (λ m. ⊎_elim (λ s. true≢false (sym s ∙ is_new.unseen)) (λ r. true≢false (sym r ∙ e)) (a.known i m));
-      named = λ j m. ⊎_elim (a.so_far.named j) (λ k. subst (Contains named) (sym (only j k)) (among_is i named n)) (Contains-append_cases a.so_far.ids (i ∷ []) j m);
+      named = λ j m. ⊎_elim (a.so_far.named j) (λ k. subst (Contains named) (only_member i j k) (among_is i named n)) (Contains-append_cases a.so_far.ids (i ∷ []) j m);
     };
-    known = λ j m. ⊎_elim (λ k. still_known w i q ps j (a.known j k)) (λ k. inl (set.contains-insert id_total w.seen i j ∙ or_left _ _ (Rattle.gix_parts.proofs.Ids.Membership.same_from j i (only j k)))) (Contains-append_cases a.so_far.ids (i ∷ []) j m);
+    known = λ j m. ⊎_elim (λ k. still_known w i q ps j (a.known j k)) (λ k. inl (set.contains-insert id_total w.seen i j ∙ or_left _ _ (Rattle.gix_parts.proofs.Ids.Membership.same_from j i (sym (only_member i j k))))) (Contains-append_cases a.so_far.ids (i ∷ []) j m);
   }
-    where
-      only : (j : ObjectId) → Contains (i ∷ []) j → j ≡ i
-      only j k = ⊎_elim (λ e. sym e) (λ t. absurd (no_member j t)) (Contains-cons_cases j i [] k)
 
   one_asked : (w : SimpleWalk F P) (row : Bool) (i : ObjectId) → is_among i named ≡ true → {how : Treated} {v : SimpleWalk F P} → Treats objects faulty answers w row i how v → Asked w → Asked v × SameSource w v
   one_asked w row i n (hidden e) a = (a, same_source refl refl refl)

@@ -24,6 +24,7 @@ use Rattle.gix_parts.proofs.Ids.Membership.{among_from, among_is, Contains-here,
 use Rattle.gix_traverse.proofs.Shared.NewIds.{among-filter, named-push}
 use Rattle.gix_traverse.proofs.Shared.Orders.{IsWorkOrder, IsDistinctFrom, work_from_breadth, work_from_time, reached_is_given, given_is_reached, given_once}
 use Rattle.std.proofs.Math.Path.{transport}
+use Rattle.std.proofs.Math.Bool.{and-true}
 use Rattle.gix_traverse.proofs.Simple.Treated.{no_cutoff}
 use Rattle.gix_traverse.proofs.Simple.Theorem.{gives_in_order}
 use Rattle.gix_traverse.proofs.Shared.ReadsWhole.{walked_within}
@@ -139,10 +140,6 @@ no_reach : (next : ObjectId → List ObjectId) (starts : List ObjectId) → star
 no_reach next starts e i (start s) = no_member i (subst (λ xs. Contains xs i) e s)
 no_reach next starts e i (step {c = c} r n) = no_reach next starts e c r
 
-and_true : (a : Bool) → (a && true) ≡ a
-and_true true = refl
-and_true false = refl
-
 zip_weaker : {A B : Type 0} (R S : A → B → Type 0) → ((a : A) (b : B) → R a b → S a b) → (xs : List A) (ys : List B) → AllZip R xs ys → AllZip S xs ys
 zip_weaker R S f [] [] h = tt
 zip_weaker R S f [] (y ∷ ys) h = absurd h
@@ -159,10 +156,10 @@ plain_info objects rows m order e (Err x) i h = h
 
 module _ {F P : Type 0} (objects : F → Objects) (faulty : F → ObjectId → Type 0) (answers : P → ObjectId → Bool → P → Type 0) (walk : SimpleWalk F P) (accepts : ObjectId → Bool) where
   recent_is : next_of objects walk accepts (λ i. false) ≡ recent_parents (objects walk.store) walk.parents accepts (cutoff walk.parents walk.sorting)
-  recent_is = λ k c. filter (λ i. and_true (accepts i) k && not (is_older (time_of (objects walk.store) i) (cutoff walk.parents walk.sorting))) (walked_parents (objects walk.store) walk.parents c)
+  recent_is = λ k c. filter (λ i. and-true (accepts i) k && not (is_older (time_of (objects walk.store) i) (cutoff walk.parents walk.sorting))) (walked_parents (objects walk.store) walk.parents c)
 
   accepted_is : cutoff walk.parents walk.sorting ≡ None → next_of objects walk accepts (λ i. false) ≡ accepted_parents (objects walk.store) walk.parents accepts
-  accepted_is e = recent_is ∙ (λ k c. filter (λ i. accepts i && not (is_older (time_of (objects walk.store) i) (e k))) (walked_parents (objects walk.store) walk.parents c)) ∙ (λ k c. filter (λ i. and_true (accepts i) k) (walked_parents (objects walk.store) walk.parents c))
+  accepted_is e = recent_is ∙ (λ k c. filter (λ i. accepts i && not (is_older (time_of (objects walk.store) i) (e k))) (walked_parents (objects walk.store) walk.parents c)) ∙ (λ k c. filter (λ i. and-true (accepts i) k) (walked_parents (objects walk.store) walk.parents c))
 
   plain_gives : (next : ObjectId → List ObjectId) (list : List (Result Info Error)) → next_of objects walk accepts (λ i. false) ≡ next → IsPlainRun objects faulty answers walk accepts next list → GivesInOrder objects walk accepts (λ i. false) list
   plain_gives next list same run =

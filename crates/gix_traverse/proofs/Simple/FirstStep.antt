@@ -5,6 +5,7 @@ use Rattle.std.proofs.lemmas.Bool.{false≢true}
 use Rattle.std.proofs.lemmas.Bool.Decides.{eqb_tells}
 use Rattle.std.specs.Iterator.{MakesProgress, at_most}
 use Rattle.std.specs.FinSet as set
+use Rattle.std.proofs.Math.Bool.{or-true}
 use Rattle.gix_parts.specs.declared.hash.ObjectId.{ObjectId}
 use Rattle.gix_parts.specs.Id.{id_cmp}
 use Rattle.gix_parts.specs.Object.{Objects}
@@ -59,11 +60,7 @@ module _ {F P : Type 0} (objects : F → Objects) (faulty : F → ObjectId → T
     pending e = false≢true (sym some ∙ ap (λ ps. length ps == 0 || length old.hidden_tips == 0) e)
 
     tips : old.hidden_tips ≢ []
-    tips e = false≢true (sym some ∙ ap (λ ts. length old.pending == 0 || length ts == 0) e ∙ always (length old.pending == 0))
-      where
-        always : (b : Bool) → (b || true) ≡ true
-        always true = refl
-        always false = refl
+    tips e = false≢true (sym some ∙ ap (λ ts. length old.pending == 0 || length ts == 0) e ∙ or-true (length old.pending == 0))
 
     -- memory ran out
     pub hides_no_memory : (answer : Error) (new : SimpleWalk F P) → answer ≡ error.Memory → new ≡ unpainted mid → Hides objects faulty answers old (Err answer) new

@@ -30,6 +30,8 @@ use Rattle.gix_parts.proofs.Ids.Membership.{no_member, Contains-here, Contains-t
 use Rattle.gix_traverse.proofs.Painting.Invariant.{own_history}
 use Rattle.gix_traverse.proofs.Shared.ReadsWhole.{row_stands, row_parents, corrupt_row}
 use Rattle.gix_traverse.proofs.Shared.TextParents.{text_whole}
+use Rattle.gix_traverse.proofs.Shared.Reached.{reaches_from}
+use Rattle.gix_traverse.proofs.Shared.Lists.{only_member}
 
 -- the parents that are scanned are those that are walked, of all that are named
 scan_by : (m : Parents) (items : List (Result Item DecodeError)) → (scanned m items).0 ≡ by_mode m (scanned mode.All items).0
@@ -42,14 +44,9 @@ scan_by mode.First (Ok (Author line) ∷ items) = refl
 scan_by mode.First (Ok (Committer signature) ∷ items) = refl
 scan_by mode.First (Ok (Rest bytes) ∷ items) = refl
 
--- what is reached from reached ids
-reaches_from : (next : ObjectId → List ObjectId) (starts tips : List ObjectId) → ((i : ObjectId) → Contains starts i → Reaches next tips i) → (i : ObjectId) → Reaches next starts i → Reaches next tips i
-reaches_from next starts tips f i (start m) = f i m
-reaches_from next starts tips f i (step {c = c} r m) = step (reaches_from next starts tips f c r) m
-
 -- one more becomes pending
 holds_more : (o : Option CommitTimeOrder) (old new : List Pending) (p : Pending) → Holds o (old ++ p ∷ []) new → (i : ObjectId) → Contains (ids_of new) i → Contains (ids_of old) i ⊎ (p.id ≡ i)
-holds_more o old new p h i m = ⊎_elim inl (λ c. inr (⊎_elim (λ e. e) (λ n. absurd (no_member i n)) (Contains-cons_cases i p.id [] c))) (Contains-append_cases (ids_of old) (p.id ∷ []) i (subst (λ ids. Contains ids i) (map-append (λ q. q.id) old (p ∷ [])) (go o h)))
+holds_more o old new p h i m = ⊎_elim inl (λ c. inr (only_member p.id i c)) (Contains-append_cases (ids_of old) (p.id ∷ []) i (subst (λ ids. Contains ids i) (map-append (λ q. q.id) old (p ∷ [])) (go o h)))
   where
     go : (o : Option CommitTimeOrder) → Holds o (old ++ p ∷ []) new → Contains (ids_of (old ++ p ∷ [])) i
     go None e = subst (λ ps. Contains (ids_of ps) i) e m

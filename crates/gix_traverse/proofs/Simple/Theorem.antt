@@ -1,7 +1,7 @@
 -- The first step, which paints; and the theorem over a whole walk.
 use Rattle.std.specs.Prelude.{◌≡◌, ◌≢◌, ◌⊎◌, ◌≤◌, ℕ, ℤ, List, [], ◌∷◌, ◌++◌, filter, length, take, slice_get, Bool, true, false, not, ◌&&◌, ◌||◌, cond, Option, Some, None, Result, Err, Contains, All}
 use Rattle.std.proofs.Common.{refl, sym, ap, subst, inl, inr, ⊎_elim, ◌∙◌, append-nil}
-use Rattle.std.proofs.lemmas.List.Elements.{All-head, All-filter, All-contains_itself, All-contains}
+use Rattle.std.proofs.lemmas.List.Elements.{All-head}
 use Rattle.std.proofs.lemmas.Bool.{false≢true, true≢false, false_from_ne_true, and_from, and_parts, not-true}
 use Rattle.std.specs.FinSet as set
 use Rattle.std.specs.Iterator.{Drains}
@@ -34,6 +34,7 @@ use Rattle.gix_traverse.proofs.Simple.OneStep.{next}
 use Rattle.gix_traverse.proofs.Simple.PendingIs.{IsQueue, IsNextOne}
 use Rattle.gix_traverse.proofs.Simple.WholeWalk.{Known, Runs, RunOf, run}
 use Rattle.gix_traverse.proofs.Shared.ReadsWhole.{walked_within, no_fault}
+use Rattle.gix_traverse.proofs.Shared.Lists.{filter_within}
 
 Contains-filter : (p : ObjectId → Bool) (xs : List ObjectId) (i : ObjectId) → Contains (filter p xs) i → Contains xs i × (p i ≡ true)
 Contains-filter p xs i h =
@@ -74,9 +75,6 @@ ids-filter p q (x ∷ ps) h = go (q x.id) (h x.id (Contains-here x.id (ids_of ps
     go : (b : Bool) → p x.id ≡ b → ids_of (filter (λ x. not (p x.id)) ps) ≡ filter (λ i. not (q i)) (ids_of ps) → ids_of (cond (not (p x.id)) (x ∷ filter (λ x. not (p x.id)) ps) (filter (λ x. not (p x.id)) ps)) ≡ cond (not b) (x.id ∷ filter (λ i. not (q i)) (ids_of ps)) (filter (λ i. not (q i)) (ids_of ps))
     go true e r = ap (λ b. ids_of (cond (not b) (x ∷ filter (λ x. not (p x.id)) ps) (filter (λ x. not (p x.id)) ps))) e ∙ r
     go false e r = ap (λ b. ids_of (cond (not b) (x ∷ filter (λ x. not (p x.id)) ps) (filter (λ x. not (p x.id)) ps))) e ∙ ap (λ ys. x.id ∷ ys) r
-
-filter_within : {X : Type 0} (p : X → Bool) (xs : List X) (x : X) → Contains (filter p xs) x → Contains xs x
-filter_within p xs x h = All-contains (Contains xs) (filter p xs) x (All-filter p (Contains xs) xs (All-contains_itself xs)) h
 
 in_order_from : (o : Option CommitTimeOrder) (time : ObjectId → ℤ) (next : ObjectId → List ObjectId) (starts ids : List ObjectId) → ((k : ℕ) → k ≤ length ids → IsNextOne o time next starts (take k ids) (slice_get ids k)) → IsInOrder o time next starts ids
 in_order_from None time next starts ids h = h

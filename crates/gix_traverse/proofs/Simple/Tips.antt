@@ -3,6 +3,7 @@ use Rattle.std.specs.Prelude.{◌≡◌, ◌⊎◌, ◌≤◌, List, [], filter,
 use Rattle.std.proofs.Common.{refl, sym, ap, subst, inl, inr, ⊎_elim, arith, ◌∙◌}
 use Rattle.std.proofs.lemmas.Bool.{false≢true, and_parts}
 use Rattle.std.specs.FinSet as set
+use Rattle.std.proofs.Math.Bool.{or-false}
 use Rattle.gix_parts.specs.declared.hash.ObjectId.{ObjectId}
 use Rattle.gix_parts.specs.Id.{id_cmp, is_among}
 use Rattle.gix_parts.specs.Object.{Objects}
@@ -67,11 +68,7 @@ module _ {F P : Type 0} (objects : F → Objects) (faulty : F → ObjectId → T
   pending = did.pending ∙ (λ j. new_ids (λ i. set.contains-empty id_cmp i j) (filter (λ i. keep_is i j) tips))
 
   seen : (i : ObjectId) → accepts i ≡ true → set.contains walk.seen i ≡ is_among i tips
-  seen i a = did.seen i (keep_is i ∙ a) ∙ ap (λ b. is_among i tips || b) (set.contains-empty id_cmp i) ∙ alone (is_among i tips)
-    where
-      alone : (b : Bool) → (b || false) ≡ b
-      alone true = refl
-      alone false = refl
+  seen i a = did.seen i (keep_is i ∙ a) ∙ ap (λ b. is_among i tips || b) (set.contains-empty id_cmp i) ∙ or-false (is_among i tips)
 
   pub pending_is : (i : ObjectId) → Contains (ids_of walk.pending) i → (accepts i ≡ true) × (is_among i tips ≡ true)
   pending_is i h = and_parts (accepts i) (is_among i tips) (sym (among-filter i accepts tips) ∙ fresh_among i (λ j. false) (filter accepts tips) (subst (λ ids. Contains ids i) pending h))

@@ -20,9 +20,10 @@ use Rattle.gix_traverse.specs.History.Commits.{time_of}
 use Rattle.gix_traverse.specs.declared.commit.simple.pending.Pending.{Pending}
 use Rattle.gix_traverse.specs.Simple.Walk.{SimpleWalk, Treated, GoesOn, Holds, ids_of, time_order, cutoff, is_older, row_time, Asks, remembers, asks, asked as asked_walk, ReadsTime, unasked, from_row, from_store, Enqueues, dropped, enqueued, Treats, hidden, known, refused, accepted, TreatsAll, none, more, stops}
 use Rattle.gix_traverse.specs.Simple.Laws.{Becomes, further, AnswersBy, is_kept}
-use Rattle.gix_parts.proofs.Ids.Membership.{id_total, same_is, among-one, Contains-here, Contains-there, Contains-cons_cases, no_member}
+use Rattle.gix_parts.proofs.Ids.Membership.{id_total, same_is, among-one, Contains-here, Contains-there, no_member}
 use Rattle.gix_traverse.proofs.Shared.NewIds.{fresh, fresh_agree, fresh-append, times, times-append, times_moved, among-filter}
 use Rattle.gix_traverse.proofs.Shared.ReadsWhole.{row_says_time}
+use Rattle.gix_traverse.proofs.Shared.Lists.{only_member}
 
 -- the lists are one; or they have each id as often, where an order by time is in force
 abbrev pub Joins : Option CommitTimeOrder → List ObjectId → List ObjectId → Type 0
@@ -49,7 +50,7 @@ Joins-holds : (o : Option CommitTimeOrder) (old new : List Pending) (p : Pending
 Joins-holds None old new p e = ap ids_of e ∙ map-append (λ q. q.id) old (p ∷ [])
 Joins-holds (Some order) old new p h = λ i. times-permutation i (old ++ p ∷ []) new h ∙ ap (times i) (map-append (λ q. q.id) old (p ∷ []))
 
-Contains-holds : (o : Option CommitTimeOrder) (old new : List Pending) → Holds o old new → (p : Pending) → Contains new p → Contains old p
+pub Contains-holds : (o : Option CommitTimeOrder) (old new : List Pending) → Holds o old new → (p : Pending) → Contains new p → Contains old p
 Contains-holds None old new e p h = subst (λ ps. Contains ps p) e h
 Contains-holds (Some order) old new k p h = Contains-permutation new old p (IsPermutation-sym old new k) h
 
@@ -175,7 +176,7 @@ module _ {F P : Type 0} (objects : F → Objects) (faulty : F → ObjectId → T
   timed_on s w h i time ps t holds order some p n =
       let new : Pending = record { id = i; time = time } in
       ⊎_elim (λ m. h.timed order some p m)
-      (λ m. ⊎_elim (λ e. subst (λ x. x.time ≡ time_of (objects s.store) x.id) e (t order some)) (λ k. absurd (no_member p k)) (Contains-cons_cases p new [] m))
+      (λ m. subst (λ x. x.time ≡ time_of (objects s.store) x.id) (only_member new p m) (t order some))
       (Contains-append_cases w.pending (new ∷ []) p (Contains-holds (time_order w.parents w.sorting) _ ps holds p n))
 
   same_order : (s : Setting) (w : SimpleWalk F P) → Stands s w → time_order w.parents w.sorting ≡ order_of s

@@ -28,3 +28,11 @@ pub mod MeetsStarts
 pub mod Begin
 -- The number of expanded commits is exact down to the depth, and of all once the rows were dropped.
 pub mod Expanded
+-- What ids do to a walk of which some become ready.
+pub mod MakesReady
+-- What indegree 0 means after exploring: no child is left that wasn't taken.
+pub mod IndegreeZero
+-- Which commits were taken, by the table.
+pub mod Taken
+-- When a fault of reading comes.
+pub mod ReadFaults

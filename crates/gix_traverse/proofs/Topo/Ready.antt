@@ -4,3 +4,5 @@ pub mod ReadySet
 pub mod RisingTime
 -- How taking a commit changes which commits are ready.
 pub mod IsReady
+-- Ready commits by their ids: those that are held, chosen, and joined.
+pub mod ReadyIds

@@ -4,3 +4,5 @@ pub mod OneTip
 pub mod AllTips
 -- What holds of a walk that was just built.
 pub mod Started
+-- When a walk can't be built.
+pub mod StartFaults

@@ -2,10 +2,6 @@
 pub mod OneRelease
 -- What releasing all parents of a taken commit does.
 pub mod AllReleases
--- The parents that are added are exactly those that became ready.
-pub mod BecomeReady
--- Which commits were taken, by the table.
-pub mod Taken
 -- What all facts about a taken commit start from.
 pub mod Setting
 -- A steady walk adds exactly the parents that became ready.
@@ -14,8 +10,6 @@ pub mod Added
 pub mod InvariantKept
 -- Counting stays exact down to the lowered depth.
 pub mod DepthLowered
--- When a fault of reading comes.
-pub mod ReadFaults
 -- When a ready commit can't be taken.
 pub mod TakingFaults
 -- One call of `next`: commits are taken until one is given.

@@ -30,13 +30,13 @@ use Rattle.gix_traverse.specs.Topo.Walk.{IsFirstReady, IsBuildFault, IsCommitRea
 use Rattle.gix_traverse.proofs.Topo.Counting.ExploreKeeps.{explores_keep, explores_made, explores_same, explores_still}
 use Rattle.gix_traverse.proofs.Topo.Counting.Expanded.{counts_on, explores_read}
 use Rattle.gix_traverse.proofs.Topo.Counting.AllDownToDepth.{exact_there}
-use Rattle.gix_traverse.proofs.Topo.Taking.ReadFaults.{read_misses_no_count, exploring_fault}
 use Rattle.gix_traverse.proofs.Topo.Reading.Faultless.{faultless}
 use Rattle.gix_traverse.proofs.Topo.Counting.Frontier.{moved}
 use Rattle.gix_traverse.proofs.Topo.Counting.MeetsStarts.{IsFresh, fresh_empty, fresh_on, fresh_counted, all_still, all_seen}
 use Rattle.gix_traverse.proofs.Topo.Counting.Children.{follows_named}
 use Rattle.gix_traverse.proofs.Shared.Rows.{none_agree}
 use Rattle.gix_traverse.proofs.Topo.Counting.Rest.{least_below}
+use Rattle.gix_traverse.proofs.Topo.Counting.ReadFaults.{read_misses_no_count, exploring_fault}
 
 -- the least of two lists, one after the other
 least-append : (rows : List GraphRow) (depth : ℕ) (ids others : List ObjectId) → least rows (least rows depth others) ids ≡ least rows depth (ids ++ others)

@@ -5,6 +5,8 @@ use Rattle.std.specs.FinMap as map
 use Rattle.std.proofs.lemmas.List.Recursion.{is_sum_by}
 use Rattle.std.proofs.lemmas.List.Elements.{Contains-append_left, Contains-append_right, Contains-append_cases}
 use Rattle.std.proofs.lemmas.List.Sorted.{sum_by-IsPermutation, Contains-permutation, IsPermutation-sym}
+use Rattle.std.proofs.lemmas.Bool.{and_right}
+use Rattle.std.proofs.Math.Bool.{and-true}
 use Rattle.gix_parts.specs.declared.hash.ObjectId.{ObjectId}
 use Rattle.gix_parts.specs.Id.{id_cmp, is_same}
 use Rattle.gix_parts.specs.Object.{Objects}
@@ -23,7 +25,7 @@ use Rattle.gix_traverse.specs.Topo.Inside.Exploring.{Follows, none, more}
 use Rattle.gix_traverse.specs.Topo.Inside.Frontier.{is_side, is_seen, is_queued, reached, waits_for, waiting, IsSearch, Meets, seen, unseen, Counts, MeetsParent, Finishes}
 use Rattle.gix_traverse.specs.History.Reach.{Reaches}
 use Rattle.gix_traverse.specs.Topo.Inside.Searched.{IsSearched, next_by, starts_by}
-use Rattle.gix_traverse.proofs.Topo.Counting.Frontier.{moved, unmoved, has_seen}
+use Rattle.gix_traverse.proofs.Topo.Counting.Frontier.{moved, unmoved, has_seen, side_is, side_itself}
 use Rattle.gix_traverse.proofs.Topo.Counting.OneSearch.{search_same, search_meets, search_ends}
 
 pub waiting-permutation : (side : Side) (i : ObjectId) (old new : List (ℕ × Waiting)) → IsPermutation old new → waiting new side i ≡ waiting old side i
@@ -36,15 +38,8 @@ waiting-append : (side : Side) (i : ObjectId) (front queue : List (ℕ × Waitin
 waiting-append side i [] queue = sym (zero-add _)
 waiting-append side i (entry ∷ front) queue = let r : waiting (front ++ queue) side i ≡ waiting front side i + waiting queue side i = waiting-append side i front queue in omega arith
 
-side_is : (a b : Side) → is_side a b ≡ true → a ≡ b
-side_is Tips Tips e = refl
-side_is Tips Ends e = cc
-side_is Ends Tips e = cc
-side_is Ends Ends e = refl
-
-pub side_itself : (a : Side) → is_side a a ≡ true
-side_itself Tips = refl
-side_itself Ends = refl
+and_one : (a b : Bool) → b ≡ true → (a && b) ≡ a
+and_one a b e = ap (λ x. a && x) e ∙ and-true a
 
 -- what one id's move does to what is seen
 pub seen_still : (f new : Frontier) (i : ObjectId) (side : Side) (p : Progress) → is_seen p ≡ true → ((s : Side) (j : ObjectId) → reached new.known s j ≡ cond (is_same j i && is_side s side) p (reached f.known s j)) → (s : Side) (j : ObjectId) → has_seen f s j ≡ true → has_seen new s j ≡ true
@@ -125,17 +120,9 @@ module _ (objects : Objects) (rows : List GraphRow) (parents : Parents) (tips en
       search s true q =
           let same : s ≡ side = side_is s side q in
           search_meets (next_by objects parents s) (starts_by tips ends s) (reached old.known s) (reached new.known s) (waiting (front ++ old.queue) s) (waiting (front ++ new.queue) s) i (ap (λ x. is_seen (reached old.known x i)) same ∙ u) (subst (λ x. Reaches (next_by objects parents x) (starts_by tips ends x) i) (sym same) r)
-          (λ j. to s j ∙ ap (λ b. cond b Queued (reached old.known s j)) (both (is_same j i) (is_side s side) q)) (λ j. more_wait s j ∙ ap (λ b. cond b 1 0 + waiting (front ++ old.queue) s j) (both (is_same j i) (is_side s side) q)) (h.search s)
-        where
-          both : (a b : Bool) → b ≡ true → (a && b) ≡ a
-          both true b f = f
-          both false b f = refl
+          (λ j. to s j ∙ ap (λ b. cond b Queued (reached old.known s j)) (and_one (is_same j i) (is_side s side) q)) (λ j. more_wait s j ∙ ap (λ b. cond b 1 0 + waiting (front ++ old.queue) s j) (and_one (is_same j i) (is_side s side) q)) (h.search s)
       search s false q =
-          search_same (next_by objects parents s) (starts_by tips ends s) (reached old.known s) (reached new.known s) (waiting (front ++ old.queue) s) (waiting (front ++ new.queue) s) (λ j. to s j ∙ ap (λ b. cond b Queued (reached old.known s j)) (neither (is_same j i) (is_side s side) q)) (λ j. more_wait s j ∙ ap (λ b. cond b 1 0 + waiting (front ++ old.queue) s j) (neither (is_same j i) (is_side s side) q) ∙ zero-add _) (h.search s)
-        where
-          neither : (a b : Bool) → b ≡ false → (a && b) ≡ false
-          neither true b f = f
-          neither false b f = refl
+          search_same (next_by objects parents s) (starts_by tips ends s) (reached old.known s) (reached new.known s) (waiting (front ++ old.queue) s) (waiting (front ++ new.queue) s) (λ j. to s j ∙ ap (λ b. cond b Queued (reached old.known s j)) (and_right (is_same j i) (is_side s side) q)) (λ j. more_wait s j ∙ ap (λ b. cond b 1 0 + waiting (front ++ old.queue) s j) (and_right (is_same j i) (is_side s side) q) ∙ zero-add _) (h.search s)
 
       keyed : (entry : ℕ × Waiting) → Contains (front ++ new.queue) entry → entry.0 ≡ known_generation rows entry.1.id
       keyed entry m =
@@ -166,14 +153,6 @@ module _ (objects : Objects) (rows : List GraphRow) (parents : Parents) (tips en
         search s true q =
             let same : s ≡ e.1.side = side_is s e.1.side q in
             search_ends (next_by objects parents s) (starts_by tips ends s) (reached old.known s) (reached new.known s) (waiting (e ∷ old.queue) s) (waiting new.queue s) e.1.id (ap (λ x. is_seen (reached old.known x e.1.id)) same ∙ u) (λ j m. ap (λ x. has_seen old x j) same ∙ all j (subst (λ x. Contains (next_by objects parents x e.1.id) j) same m))
-            (λ j. to s j ∙ ap (λ b. cond b Done (reached old.known s j)) (both (is_same j e.1.id) (is_side s e.1.side) q)) (λ j. less_wait s j ∙ ap (λ b. cond b 1 0 + waiting new.queue s j) (both (is_same j e.1.id) (is_side s e.1.side) q)) (h.search s)
-          where
-            both : (a b : Bool) → b ≡ true → (a && b) ≡ a
-            both true b f = f
-            both false b f = refl
+            (λ j. to s j ∙ ap (λ b. cond b Done (reached old.known s j)) (and_one (is_same j e.1.id) (is_side s e.1.side) q)) (λ j. less_wait s j ∙ ap (λ b. cond b 1 0 + waiting new.queue s j) (and_one (is_same j e.1.id) (is_side s e.1.side) q)) (h.search s)
         search s false q =
-            search_same (next_by objects parents s) (starts_by tips ends s) (reached old.known s) (reached new.known s) (waiting (e ∷ old.queue) s) (waiting new.queue s) (λ j. to s j ∙ ap (λ b. cond b Done (reached old.known s j)) (neither (is_same j e.1.id) (is_side s e.1.side) q)) (λ j. sym (less_wait s j ∙ ap (λ b. cond b 1 0 + waiting new.queue s j) (neither (is_same j e.1.id) (is_side s e.1.side) q) ∙ zero-add _)) (h.search s)
-          where
-            neither : (a b : Bool) → b ≡ false → (a && b) ≡ false
-            neither true b f = f
-            neither false b f = refl
+            search_same (next_by objects parents s) (starts_by tips ends s) (reached old.known s) (reached new.known s) (waiting (e ∷ old.queue) s) (waiting new.queue s) (λ j. to s j ∙ ap (λ b. cond b Done (reached old.known s j)) (and_right (is_same j e.1.id) (is_side s e.1.side) q)) (λ j. sym (less_wait s j ∙ ap (λ b. cond b 1 0 + waiting new.queue s j) (and_right (is_same j e.1.id) (is_side s e.1.side) q) ∙ zero-add _)) (h.search s)

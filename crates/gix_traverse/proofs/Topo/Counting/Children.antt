@@ -3,6 +3,7 @@ use Rattle.std.specs.Prelude.{◌≡◌, ◌≤◌, ℕ, zero, suc, ◌+◌, Lis
 use Rattle.std.proofs.Common.{refl, sym, ap, subst, ⊎_elim, ◌∙◌, arith, zero-add}
 use Rattle.std.proofs.lemmas.Bool.{true≢false}
 use Rattle.std.specs.FinMap as map
+use Rattle.std.proofs.Math.Bool.{or-true}
 use Rattle.gix_parts.specs.declared.hash.ObjectId.{ObjectId}
 use Rattle.gix_parts.specs.Id.{is_same, is_among}
 use Rattle.gix_parts.specs.Rows.{GraphRow}
@@ -17,7 +18,7 @@ use Rattle.gix_traverse.specs.Topo.Inside.Exploring.{Follows, none, more}
 use Rattle.gix_traverse.specs.Topo.Inside.Frontier.{is_side, is_seen, is_done, known_of, with_progress, reached, Meets, seen, unseen, Counts, MeetsParent, Finishes}
 use Rattle.gix_traverse.specs.Topo.Inside.Searched.{IsTally, times, naming}
 use Rattle.gix_traverse.specs.Orders.TopoOrder.{last_places}
-use Rattle.gix_traverse.proofs.Topo.Counting.Frontier.{known-insert, moved, unmoved}
+use Rattle.gix_traverse.proofs.Topo.Counting.Frontier.{known-insert, moved, unmoved, side_is}
 use Rattle.gix_traverse.proofs.Topo.Ready.IsReady.{last_in, last_from, last_once}
 use Rattle.gix_traverse.proofs.Shared.NewIds.{among_times, times_is_among}
 
@@ -71,13 +72,7 @@ meets_named {old} {g} {i} {side} {new} (unseen u p k) = record {
 }
   where
     go : (s : Side) (j : ObjectId) (a b : Bool) → is_same j i ≡ a → is_side s side ≡ b → is_done (cond (a && b) Queued (reached old.known s j)) ≡ is_done (reached old.known s j)
-    go s j true true p q = sym (unseen_undone _ (ap is_seen (ap (λ x. reached old.known s x) (same_is j i p) ∙ ap (λ x. reached old.known x i) (sides s side q)) ∙ u))
-      where
-        sides : (a b : Side) → is_side a b ≡ true → a ≡ b
-        sides Tips Tips e = refl
-        sides Tips Ends e = cc
-        sides Ends Tips e = cc
-        sides Ends Ends e = refl
+    go s j true true p q = sym (unseen_undone _ (ap is_seen (ap (λ x. reached old.known s x) (same_is j i p) ∙ ap (λ x. reached old.known x i) (side_is s side q)) ∙ u))
     go s j true false p q = refl
     go s j false b p q = refl
 
@@ -147,13 +142,9 @@ module _ (walked : ObjectId → List ObjectId) where
     open_to = i ∷ h.open_to;
     each = λ j. ap (λ n. cond (is_same j i) 1 0 + n) (h.each j) ∙ each j (is_same j i) refl;
     counts = λ p. c p ∙ ap (λ n. cond (is_among p (walked i)) 1 0 + n) (h.counts p);
-    taken_done = λ j t. d j ∙ ap (λ b. is_same j i || b) (h.taken_done j t) ∙ or_true (is_same j i);
+    taken_done = λ j t. d j ∙ ap (λ b. is_same j i || b) (h.taken_done j t) ∙ or-true (is_same j i);
   }
     where
-      or_true : (b : Bool) → (b || true) ≡ true
-      or_true true = refl
-      or_true false = refl
-
       untaken : taken i ≡ false
       untaken = go (taken i) refl
         where

@@ -24,13 +24,13 @@ use Rattle.gix_traverse.specs.Topo.Inside.Releasing.{plan_by, counted_by}
 use Rattle.gix_traverse.specs.Topo.Inside.Searched.{IsCounted, IsSearched, IsBegun, next_by, starts_by}
 use Rattle.gix_traverse.specs.Topo.Inside.Steady.{IsDone, IsReadOnce, AreRead, HasCounted}
 use Rattle.gix_traverse.specs.Topo.Walk.{TopoPlan, IsNumberOf, IsMet, IsInDepth, IsBrokenRow, IsCounting, IsWalkable}
-use Rattle.gix_traverse.proofs.Topo.Taking.BecomeReady.{done_seen, tips_text, text_tips, ends_text, text_ends}
+use Rattle.gix_traverse.proofs.Topo.Counting.IndegreeZero.{done_seen, tips_text, text_tips, ends_text, text_ends}
 use Rattle.gix_traverse.proofs.Topo.Counting.ExploreKeeps.{steps_keep, explores_keep, explores_same, explores_still, done_now}
 use Rattle.gix_traverse.proofs.Topo.Counting.AllDownToDepth.{exact as exact_down}
 use Rattle.gix_traverse.proofs.Shared.ReadsWhole.{row_stands, corrupt_row}
-use Rattle.gix_traverse.proofs.Topo.Taking.AllReleases.{reads_stands, reads_drops}
 use Rattle.gix_traverse.proofs.Topo.Counting.Children.{follows_named}
 use Rattle.gix_traverse.proofs.Topo.Reading.OnceRead.{once_still, once_whole}
+use Rattle.gix_traverse.proofs.Topo.Counting.MakesReady.{reads_stands, reads_drops}
 
 -- the same ids are so many
 pub number_same : (P Q : ObjectId → Type 0) (m n : ℕ) → m ≡ n → ((i : ObjectId) → P i → Q i) → ((i : ObjectId) → Q i → P i) → IsNumberOf P m → IsNumberOf Q n

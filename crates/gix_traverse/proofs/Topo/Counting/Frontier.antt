@@ -18,6 +18,17 @@ use Rattle.gix_traverse.specs.Topo.Inside.Frontier.{is_side, is_seen, known_or, 
 use Rattle.gix_traverse.specs.Topo.Inside.Exploring.{Follows, none, more}
 use Rattle.gix_traverse.proofs.Shared.NewIds.{fresh, fresh_agree, new_less}
 
+-- sides
+pub side_is : (a b : Side) → is_side a b ≡ true → a ≡ b
+side_is Tips Tips e = refl
+side_is Tips Ends e = cc
+side_is Ends Tips e = cc
+side_is Ends Ends e = refl
+
+pub side_itself : (a : Side) → is_side a a ≡ true
+side_itself Tips = refl
+side_itself Ends = refl
+
 pub known-insert : (those : map.FinMap id_cmp Known) (i : ObjectId) (known : Known) (j : ObjectId) → known_of (map.insert those i known) j ≡ cond (is_same j i) known (known_of those j)
 known-insert those i known j = ap known_or (map.get-insert id_total those i known j) ∙ go (is_same j i)
   where

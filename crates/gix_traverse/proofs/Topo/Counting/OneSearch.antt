@@ -9,6 +9,7 @@ use Rattle.gix_traverse.specs.declared.commit.topo.frontier.Progress.{Progress}
 use Rattle.gix_traverse.specs.declared.commit.topo.frontier.Progress.TheVariants.{Unseen, Queued, Done}
 use Rattle.gix_traverse.specs.History.Reach.{Reaches, start, step}
 use Rattle.gix_traverse.specs.Topo.Inside.Frontier.{is_seen, is_queued, is_done, IsSearch}
+use Rattle.gix_traverse.proofs.Shared.Lists.{only_member}
 
 -- after one id made progress
 abbrev pub IsMoved : ObjectId → Progress → (ObjectId → Progress) → (ObjectId → Progress) → Type 0
@@ -19,7 +20,23 @@ unseen_waits_not Unseen e = refl
 unseen_waits_not Queued e = cc
 unseen_waits_not Done e = refl
 
+-- what is seen stays so
+still_seen : (old new : ObjectId → Progress) (i : ObjectId) (to : Progress) → is_seen to ≡ true → IsMoved i to old new → (j : ObjectId) → is_seen (old j) ≡ true → is_seen (new j) ≡ true
+still_seen old new i to q p j e = ap is_seen (p j) ∙ go (is_same j i)
+  where
+    go : (b : Bool) → is_seen (cond b to (old j)) ≡ true
+    go true = q
+    go false = e
+
 module _ (next : ObjectId → List ObjectId) (starts : List ObjectId) where
+  -- where the id that moved is reached, all that is seen is
+  within_moved : (old new : ObjectId → Progress) (i : ObjectId) (to : Progress) → Reaches next starts i → IsMoved i to old new → ((j : ObjectId) → is_seen (old j) ≡ true → Reaches next starts j) → (j : ObjectId) → is_seen (new j) ≡ true → Reaches next starts j
+  within_moved old new i to r p within j e = go (is_same j i) refl
+    where
+      go : (b : Bool) → is_same j i ≡ b → Reaches next starts j
+      go true s = subst (Reaches next starts) (sym (same_is j i s)) r
+      go false s = within j (ap is_seen (sym (p j ∙ ap (λ b. cond b to (old j)) s)) ∙ e)
+
   -- the same search, said otherwise
   pub search_same : (old new : ObjectId → Progress) (before after : ObjectId → ℕ) → ((j : ObjectId) → new j ≡ old j) → ((j : ObjectId) → after j ≡ before j) → IsSearch next starts old before → IsSearch next starts new after
   search_same old new before after p w h = record {
@@ -30,15 +47,8 @@ module _ (next : ObjectId → List ObjectId) (starts : List ObjectId) where
 
   -- a new id is met
   pub search_meets : (old new : ObjectId → Progress) (before after : ObjectId → ℕ) (i : ObjectId) → is_seen (old i) ≡ false → Reaches next starts i → IsMoved i Queued old new → ((j : ObjectId) → after j ≡ cond (is_same j i) 1 0 + before j) → IsSearch next starts old before → IsSearch next starts new after
-  search_meets old new before after i u r p w h = record { within = within; queued = queued; closed = closed }
+  search_meets old new before after i u r p w h = record { within = within_moved old new i Queued r p h.within; queued = queued; closed = closed }
     where
-      within : (j : ObjectId) → is_seen (new j) ≡ true → Reaches next starts j
-      within j e = go (is_same j i) refl
-        where
-          go : (b : Bool) → is_same j i ≡ b → Reaches next starts j
-          go true s = subst (Reaches next starts) (sym (same_is j i s)) r
-          go false s = h.within j (ap is_seen (sym (p j ∙ ap (λ b. cond b Queued (old j)) s)) ∙ e)
-
       queued : (j : ObjectId) → after j ≡ cond (is_queued (new j)) 1 0
       queued j = go (is_same j i) refl
         where
@@ -57,32 +67,14 @@ module _ (next : ObjectId → List ObjectId) (starts : List ObjectId) where
       closed : (c j : ObjectId) → is_done (new c) ≡ true → Contains (next c) j → is_seen (new j) ≡ true
       closed c j d m = go (is_same c i) refl
         where
-          seen : is_seen (old j) ≡ true → (b : Bool) → is_same j i ≡ b → is_seen (new j) ≡ true
-          seen e true s = ap is_seen (p j ∙ ap (λ b. cond b Queued (old j)) s)
-          seen e false s = ap is_seen (p j ∙ ap (λ b. cond b Queued (old j)) s) ∙ e
-
           go : (b : Bool) → is_same c i ≡ b → is_seen (new j) ≡ true
           go true s = absurd (false≢true (ap is_done (sym (p c ∙ ap (λ b. cond b Queued (old c)) s)) ∙ d))
-          go false s = seen (h.closed c j (ap is_done (sym (p c ∙ ap (λ b. cond b Queued (old c)) s)) ∙ d) m) (is_same j i) refl
+          go false s = still_seen old new i Queued refl p j (h.closed c j (ap is_done (sym (p c ∙ ap (λ b. cond b Queued (old c)) s)) ∙ d) m)
 
   -- an id is done, all of whose next ids are seen
   pub search_ends : (old new : ObjectId → Progress) (before after : ObjectId → ℕ) (i : ObjectId) → is_seen (old i) ≡ true → ((j : ObjectId) → Contains (next i) j → is_seen (old j) ≡ true) → IsMoved i Done old new → ((j : ObjectId) → before j ≡ cond (is_same j i) 1 0 + after j) → IsSearch next starts old before → IsSearch next starts new after
-  search_ends old new before after i u all p w h = record { within = within; queued = queued; closed = closed }
+  search_ends old new before after i u all p w h = record { within = within_moved old new i Done (h.within i u) p h.within; queued = queued; closed = closed }
     where
-      still : (j : ObjectId) → is_seen (old j) ≡ true → is_seen (new j) ≡ true
-      still j e = go (is_same j i) refl
-        where
-          go : (b : Bool) → is_same j i ≡ b → is_seen (new j) ≡ true
-          go true s = ap is_seen (p j ∙ ap (λ b. cond b Done (old j)) s)
-          go false s = ap is_seen (p j ∙ ap (λ b. cond b Done (old j)) s) ∙ e
-
-      within : (j : ObjectId) → is_seen (new j) ≡ true → Reaches next starts j
-      within j e = go (is_same j i) refl
-        where
-          go : (b : Bool) → is_same j i ≡ b → Reaches next starts j
-          go true s = subst (Reaches next starts) (sym (same_is j i s)) (h.within i u)
-          go false s = h.within j (ap is_seen (sym (p j ∙ ap (λ b. cond b Done (old j)) s)) ∙ e)
-
       queued : (j : ObjectId) → after j ≡ cond (is_queued (new j)) 1 0
       queued j = go (is_same j i) refl
         where
@@ -108,8 +100,8 @@ module _ (next : ObjectId → List ObjectId) (starts : List ObjectId) where
       closed c j d m = go (is_same c i) refl
         where
           go : (b : Bool) → is_same c i ≡ b → is_seen (new j) ≡ true
-          go true s = still j (all j (subst (λ x. Contains (next x) j) (same_is c i s) m))
-          go false s = still j (h.closed c j (ap is_done (sym (p c ∙ ap (λ b. cond b Done (old c)) s)) ∙ d) m)
+          go true s = still_seen old new i Done refl p j (all j (subst (λ x. Contains (next x) j) (same_is c i s) m))
+          go false s = still_seen old new i Done refl p j (h.closed c j (ap is_done (sym (p c ∙ ap (λ b. cond b Done (old c)) s)) ∙ d) m)
 
   -- what is reached is done, or reached from a queued id
   pub record IsAhead (progress : ObjectId → Progress) (x : ObjectId) : Type 0 where
@@ -132,7 +124,7 @@ module _ (next : ObjectId → List ObjectId) (starts : List ObjectId) where
 
   -- along a path a measure that no step raises doesn't rise
   pub no_higher : (g : ObjectId → ℕ) → ((c i : ObjectId) → Contains (next c) i → g i ≤ g c) → (q x : ObjectId) → Reaches next (q ∷ []) x → g x ≤ g q
-  no_higher g low q x (start m) = ⊎_elim (λ e. subst (λ y. g y ≤ g q) e (let r : g q ≤ g q = omega arith in r)) (λ t. absurd (Rattle.gix_parts.proofs.Ids.Membership.no_member x t)) (Rattle.gix_parts.proofs.Ids.Membership.Contains-cons_cases x q [] m)
+  no_higher g low q x (start m) = subst (λ y. g y ≤ g q) (only_member q x m) (let r : g q ≤ g q = omega arith in r)
   no_higher g low q x (step {c = c} r m) = let a : g c ≤ g q = no_higher g low q c r in let b : g x ≤ g c = low c x m in omega arith
 
   -- what is reached, and not below a depth that no queued id reaches, is done

@@ -1,5 +1,5 @@
 -- Which commits are ready: how taking one changes them. Over any walked parents and any set.
-use Rattle.std.specs.Prelude.{◌≡◌, ◌⊎◌, ◌+◌, ◌≤◌, ℕ, ℤ, List, [], ◌∷◌, Bool, true, false, ◌||◌, cond, filter, Contains}
+use Rattle.std.specs.Prelude.{◌≡◌, ◌⊎◌, ◌+◌, ◌≤◌, ℕ, ℤ, List, [], ◌∷◌, ◌++◌, Bool, true, false, ◌||◌, cond, filter, Contains}
 use Rattle.std.proofs.Common.{refl, sym, ap, subst, inl, inr, ⊎_elim, ◌∙◌, arith}
 use Rattle.std.proofs.lemmas.Bool.{true≢false, false_from_ne_true}
 use Rattle.gix_parts.specs.declared.hash.ObjectId.{ObjectId}
@@ -66,10 +66,20 @@ module _ (P : ObjectId → Type 0) where
   keeps_one (passed n k) (y ∷ zs) (kept g l) = absurd (n g)
   keeps_one (passed n k) zs (passed m l) = keeps_one k zs l
 
+-- P in other words, for the ids of a list
+pub keeps_on : {P Q : ObjectId → Type 0} {xs ys : List ObjectId} → ((i : ObjectId) → Contains xs i → P i → Q i) → ((i : ObjectId) → Contains xs i → Q i → P i) → Keeps P xs ys → Keeps Q xs ys
+keeps_on f g none = none
+keeps_on f g (kept {i = i} {ids = ids} p k) = kept (f i (Contains-here i ids) p) (keeps_on (λ j m. f j (Contains-there j i ids m)) (λ j m. g j (Contains-there j i ids m)) k)
+keeps_on f g (passed {i = i} {ids = ids} n k) = passed (λ q. n (g i (Contains-here i ids) q)) (keeps_on (λ j m. f j (Contains-there j i ids m)) (λ j m. g j (Contains-there j i ids m)) k)
+
+-- one list after the other
+pub keeps_append : {P : ObjectId → Type 0} {xs ys first others : List ObjectId} → Keeps P xs first → Keeps P ys others → Keeps P (xs ++ ys) (first ++ others)
+keeps_append none k = k
+keeps_append (kept p h) k = kept p (keeps_append h k)
+keeps_append (passed n h) k = passed n (keeps_append h k)
+
 pub keeps_alike : (P Q : ObjectId → Type 0) → ((i : ObjectId) → P i → Q i) → ((i : ObjectId) → Q i → P i) → {xs ys : List ObjectId} → Keeps P xs ys → Keeps Q xs ys
-keeps_alike P Q f g none = none
-keeps_alike P Q f g (kept {i = i} h k) = kept (f i h) (keeps_alike P Q f g k)
-keeps_alike P Q f g (passed {i = i} n k) = passed (λ q. n (g i q)) (keeps_alike P Q f g k)
+keeps_alike P Q f g = keeps_on (λ i m. f i) (λ i m. g i)
 
 -- each id at its last, or first, place
 pub last_in : (xs : List ObjectId) (i : ObjectId) → Contains xs i → Contains (last_places xs) i

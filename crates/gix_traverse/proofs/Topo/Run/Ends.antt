@@ -20,7 +20,7 @@ use Rattle.gix_traverse.specs.Topo.Laws.{left_beside, answers_left, AreApart, As
 use Rattle.gix_parts.proofs.Ids.Membership.{id_total, same_is, same_itself, among_from, among_is, Contains-here, Contains-there, Contains-cons_cases, no_member}
 use Rattle.gix_traverse.proofs.Shared.NewIds.{fresh, fresh_agree, times, times_none, new_less, among_times, times_is_among, times_once}
 use Rattle.gix_traverse.proofs.Topo.Ready.IsReady.{distinct_times}
-use Rattle.gix_traverse.proofs.Topo.Run.Theorem.{holds_times, joined_times, chosen_times, chosen_in, in_ids}
+use Rattle.gix_traverse.proofs.Topo.Ready.ReadyIds.{holds_times, joined_times, chosen_times, chosen_in, in_ids}
 
 -- distinct ids that are new no more
 all_new : (s : ObjectId → Bool) (xs ids : List ObjectId) → AreDistinct ids → ((i : ObjectId) → Contains ids i → is_among i xs ≡ true) → ((i : ObjectId) → Contains ids i → s i ≡ false) → length (fresh (λ j. is_among j ids || s j) xs) + length ids ≡ length (fresh s xs)

@@ -10,7 +10,7 @@ use Rattle.gix_traverse.specs.declared.commit.Info.{Info}
 use Rattle.gix_traverse.specs.declared.commit.topo.Error.{Error}
 use Rattle.gix_traverse.specs.Topo.Walk.{Counted, TopoWalk, Ready, row_generation, IsWalkable, IsCounting, IsStarted, Takes, after, Next, ended, given, refused, failed}
 use Rattle.gix_parts.proofs.Ids.Membership.{Contains-here, Contains-there, no_member}
-use Rattle.gix_traverse.proofs.Topo.Run.Theorem.{holds_in, chosen_in, others_in}
+use Rattle.gix_traverse.proofs.Topo.Ready.ReadyIds.{holds_in, chosen_in, others_in}
 
 module _ {F P : Type 0} (objects : F → Objects) (faulty : F → ObjectId → Type 0) (answers : P → ObjectId → Bool → P → Type 0) where
   -- the ready commits have their rows' generations

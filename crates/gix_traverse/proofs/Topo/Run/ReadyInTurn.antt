@@ -19,6 +19,7 @@ use Rattle.gix_parts.proofs.Ids.Membership.{same_is, among_from, among_is, Conta
 use Rattle.gix_traverse.proofs.Shared.NewIds.{fresh, times, times-append, times_none, among-filter, new_less, among_times}
 use Rattle.gix_traverse.proofs.Shared.Orders.{found_passes, none_passes}
 use Rattle.gix_traverse.proofs.Topo.Ready.IsReady.{times-filter, times-by_time, keeps_from, keeps_one, AreReady, are_ready_alike, takes_ready, starts_ready}
+use Rattle.gix_traverse.proofs.Shared.Lists.{past_end}
 
 -- an order that is defined by the beginnings of its list
 module _ (Q : List ObjectId → Option ObjectId → Type 0) where
@@ -45,10 +46,6 @@ module _ (Q : List ObjectId → Option ObjectId → Type 0) where
 through : (walked : ObjectId → List ObjectId) (d i v : ObjectId) → Contains (walked d) i → Reaches walked (walked i) v → Reaches walked (walked d) v
 through walked d i v n (start s) = step (start n) s
 through walked d i v n (step r m) = step (through walked d i _ n r) m
-
-past_end : {X : Type 0} (xs : List X) → slice_get xs (length xs) ≡ None
-past_end [] = refl
-past_end (x ∷ xs) = past_end xs
 
 module _ (walked : ObjectId → List ObjectId) (In : ObjectId → Type 0) where
   -- the next one is ready; there is none only where none is ready

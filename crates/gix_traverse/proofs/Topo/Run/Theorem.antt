@@ -1,12 +1,12 @@
 -- A whole topological walk takes what the definitions say, in their order.
-use Rattle.std.specs.Prelude.{◌≡◌, ◌⊎◌, ◌+◌, ◌≤◌, ◌≤ℤ◌, ℕ, List, [], ◌∷◌, ◌++◌, Bool, true, false, not, ◌&&◌, ◌||◌, cond, filter, find, reverse, Option, Some, None, Result, Ok, Err, Contains, MatchOption, IsPermutation, All}
+use Rattle.std.specs.Prelude.{◌≡◌, ◌⊎◌, ◌+◌, ◌≤◌, ◌≤ℤ◌, ℕ, List, [], ◌∷◌, ◌++◌, Bool, true, false, not, ◌&&◌, ◌||◌, cond, filter, find, reverse, Option, Some, None, Result, Ok, Err, Contains, MatchOption, All}
 use Rattle.std.proofs.Common.{refl, sym, ap, subst, ⊎_elim, inl, inr, ◌∙◌, arith, append-nil}
 use Rattle.std.proofs.Math.Bool.{or_comm}
 use Rattle.std.specs.List.{AllZip}
 use Rattle.std.proofs.lemmas.Int.{ints}
-use Rattle.std.proofs.lemmas.Bool.{false≢true, or_cases, false_from_ne_true, not_from_false}
+use Rattle.std.proofs.lemmas.Bool.{false≢true, false_from_ne_true, not_from_false}
 use Rattle.std.proofs.lemmas.List.{map-append, reverse-append}
-use Rattle.std.proofs.lemmas.List.Sorted.{IsPermutation-map, IsPermutation-sym, Contains-permutation}
+use Rattle.std.proofs.lemmas.List.Sorted.{Contains-permutation}
 use Rattle.std.proofs.lemmas.List.Elements.{Contains-append_left, Contains-append_cases, Contains-push, Contains-push_cases, All-head, All-tail, filter-append, filter_agree}
 use Rattle.std.specs.FinSet as set
 use Rattle.std.specs.Iterator.{Drains}
@@ -26,53 +26,20 @@ use Rattle.gix_traverse.specs.Orders.WalkSet.{IsReady}
 use Rattle.gix_traverse.specs.Orders.TopoOrder.{Keeps, last_places, IsMadeReady}
 use Rattle.gix_traverse.specs.Simple.Walk.{IsInfo}
 use Rattle.gix_traverse.specs.Simple.Laws.{Becomes, itself, further, AnswersBy}
-use Rattle.gix_traverse.proofs.Topo.Taking.ReadFaults.{walkable}
 use Rattle.gix_traverse.specs.Topo.Walk.{TopoPlan, TopoWalk, Ready, Counted, ready_ids, IsTaken, HoldsReady, Chooses, walked_of, IsMember, IsStored, IsSound, IsWalkable, IsFault, StartsWith, IsStarted, Takes, after, Next, ended, given, refused, failed}
 use Rattle.gix_traverse.specs.Topo.Laws.{IsNoRefusal, IsSorted, IsGiven, GivesInOrder, IsWholeRun}
-use Rattle.gix_parts.proofs.Ids.Membership.{id_total, same_is, same_from, among-append, among-one, among_from, among_is, Contains-here, Contains-there, Contains-cons_cases, no_member}
+use Rattle.gix_parts.proofs.Ids.Membership.{id_total, same_from, among-append, among-one, among_from, among_is, Contains-here, Contains-there, Contains-cons_cases, no_member}
 use Rattle.gix_traverse.proofs.Shared.Drained.{at_end, at_first}
-use Rattle.gix_traverse.proofs.Shared.NewIds.{times, times-append, times_moved, times_is_among, among_times}
+use Rattle.gix_traverse.proofs.Shared.NewIds.{times, times_is_among, among_times}
 use Rattle.gix_traverse.proofs.Topo.Ready.IsReady.{times-by_time, keeps_from, keeps_alike, AreReady, ready_alike, takes_ready, starts_ready, in_walk_top}
 use Rattle.gix_traverse.proofs.Topo.Run.ReadyInTurn.{TurnsFrom, turn_none, turn_more, IsLastMade, reverse_in, in_reverse}
 use Rattle.gix_traverse.proofs.Shared.ReadsWhole.{walked_within}
+use Rattle.gix_traverse.proofs.Topo.Ready.ReadyIds.{from_ids, holds_times, holds_in, joined_times, chosen_times, chosen_in, others_in}
+use Rattle.gix_traverse.proofs.Shared.Lists.{filter_all}
 
--- what is chosen, and what is held, by ids
-pub times-permutation : (i : ObjectId) (xs ys : List Ready) → IsPermutation xs ys → times i (ready_ids ys) ≡ times i (ready_ids xs)
-times-permutation i xs ys h = times_moved i (ready_ids xs) (ready_ids ys) (IsPermutation-map (λ r. r.id) xs ys h)
-
-pub holds_times : (s : Sorting) (these ready : List Ready) → HoldsReady s these ready → (i : ObjectId) → times i (ready_ids ready) ≡ times i (ready_ids these)
-holds_times order.TopoOrder these ready h i = ap (λ rs. times i (ready_ids rs)) h
-holds_times order.DateOrder these ready h i = times-permutation i these ready h
-
-pub holds_in : (s : Sorting) (these ready : List Ready) → HoldsReady s these ready → (r : Ready) → Contains ready r → Contains these r
-holds_in order.TopoOrder these ready h r c = subst (λ rs. Contains rs r) h c
-holds_in order.DateOrder these ready h r c = Contains-permutation ready these r (IsPermutation-sym these ready h) c
-
-pub in_ids : (rs : List Ready) (r : Ready) → Contains rs r → Contains (ready_ids rs) r.id
-in_ids [] r m = absurd (no_member r m)
-in_ids (x ∷ rs) r m = ⊎_elim (λ s. subst (λ j. Contains (x.id ∷ ready_ids rs) j) (ap (λ y. y.id) s) (Contains-here x.id (ready_ids rs))) (λ t. Contains-there r.id x.id (ready_ids rs) (in_ids rs r t)) (Contains-cons_cases r x rs m)
-
-pub joined_times : (i : ObjectId) (xs ys : List Ready) → times i (ready_ids (xs ++ ys)) ≡ times i (ready_ids xs) + times i (ready_ids ys)
-joined_times i xs ys = ap (times i) (map-append (λ r. r.id) xs ys) ∙ times-append i (ready_ids xs) (ready_ids ys)
-
-pub chosen_times : (s : Sorting) (ready : List Ready) (c : Ready) (others : List Ready) → Chooses s ready c others → (i : ObjectId) → times i (ready_ids ready) ≡ cond (is_same i c.id) 1 0 + times i (ready_ids others)
-chosen_times order.TopoOrder ready c others h i =
-    let e : times i (ready_ids ready) ≡ times i (ready_ids (others ++ c ∷ [])) = ap (λ rs. times i (ready_ids rs)) h in
-    let j : times i (ready_ids (others ++ c ∷ [])) ≡ times i (ready_ids others) + times i (ready_ids (c ∷ [])) = joined_times i others (c ∷ []) in
-    omega arith
-chosen_times order.DateOrder ready c others h i = sym (times-permutation i ready (c ∷ others) h.0)
-
-pub chosen_in : (s : Sorting) (ready : List Ready) (c : Ready) (others : List Ready) → Chooses s ready c others → Contains ready c
-chosen_in order.TopoOrder ready c others h = subst (λ rs. Contains rs c) (sym h) (Contains-push others c)
-chosen_in order.DateOrder ready c others h = Contains-permutation (c ∷ others) ready c (IsPermutation-sym ready (c ∷ others) h.0) (Contains-here c others)
-
-pub others_in : (s : Sorting) (ready : List Ready) (c : Ready) (others : List Ready) → Chooses s ready c others → (r : Ready) → Contains others r → Contains ready r
-others_in order.TopoOrder ready c others h r m = subst (λ rs. Contains rs r) (sym h) (Contains-append_left others (c ∷ []) r m)
-others_in order.DateOrder ready c others h r m = Contains-permutation (c ∷ others) ready r (IsPermutation-sym ready (c ∷ others) h.0) (Contains-there r c others m)
-
-in_ready : (i : ObjectId) (ready : List Ready) → is_among i (ready_ids ready) ≡ true → (r : Ready) × Contains ready r × (r.id ≡ i)
-in_ready i [] e = absurd (false≢true e)
-in_ready i (r ∷ ready) e = ⊎_elim (λ s. (r, Contains-here r ready, sym (same_is i r.id s))) (λ t. let k : (q : Ready) × Contains ready q × (q.id ≡ i) = in_ready i ready t in (k.0, Contains-there k.0 r ready k.1, k.2)) (or_cases _ _ e)
+-- where all that may be looked up reads whole, all that is walked does
+walkable : {F : Type 0} (objects : F → Objects) (faulty : F → ObjectId → Type 0) (plan : TopoPlan F) → IsSound objects faulty plan → IsWalkable objects faulty plan
+walkable objects faulty plan s = record { agreeing = s.agreeing; tips_whole = s.tips_whole; ends_whole = s.ends_whole }
 
 -- filters
 filter-reverse : (p : ObjectId → Bool) (xs : List ObjectId) → filter p (reverse xs) ≡ reverse (filter p xs)
@@ -98,10 +65,6 @@ found_none p (x ∷ xs) e = go (p x) (found_none p xs) e
     go : (b : Bool) → (filter p xs ≡ [] → find p xs ≡ None) → cond b (x ∷ filter p xs) (filter p xs) ≡ [] → cond b (Some x) (find p xs) ≡ None
     go true r e = cc
     go false r e = r e
-
-filter_all : (p : ObjectId → Bool) (xs : List ObjectId) → ((i : ObjectId) → Contains xs i → p i ≡ true) → filter p xs ≡ xs
-filter_all p [] h = refl
-filter_all p (x ∷ xs) h = ap (λ b. cond b (x ∷ filter p xs) (filter p xs)) (h x (Contains-here x xs)) ∙ ap (λ ys. x ∷ ys) (filter_all p xs (λ i c. h i (Contains-there i x xs c)))
 
 filter_twice : (p q : ObjectId → Bool) (xs : List ObjectId) → filter q (filter p xs) ≡ filter (λ x. p x && q x) xs
 filter_twice p q [] = refl
@@ -219,7 +182,7 @@ module _ {F P : Type 0} (objects : F → Objects) (faulty : F → ObjectId → T
       record {
         among = h.ready.each c.id (times_is_among c.id (ready_ids w.ready) (let e : times c.id (ready_ids w.ready) ≡ cond (is_same c.id c.id) 1 0 + times c.id (ready_ids others) = chosen_times order.DateOrder w.ready c others ch c.id in let s : ◌≡◌ {A = ℕ} (cond (is_same c.id c.id) 1 0) 1 = ap (λ b. cond b 1 0) (same_from c.id c.id refl) in omega arith));
         best = λ other r.
-            let k : (q : Ready) × Contains w.ready q × (q.id ≡ other) = in_ready other w.ready (h.ready.all other r) in
+            let k : (q : Ready) × Contains w.ready q × (q.id ≡ other) = from_ids w.ready other (among_is other (ready_ids w.ready) (h.ready.all other r)) in
             let there : k.0.time ≡ time_of (objects w.plan.store) other = (h.stored k.0 k.1).time ∙ ap (time_of (objects w.plan.store)) k.2 in
             let here : c.time ≡ time_of (objects w.plan.store) c.id = (h.stored c c_in).time in
             ⊎_elim (λ e. let s : time_of (objects w.plan.store) other ≡ time_of (objects w.plan.store) c.id = sym there ∙ ap (λ x. x.time) (sym e) ∙ here in let g : time_of (objects w.plan.store) other ≤ℤ time_of (objects w.plan.store) c.id = omega (arith, ints) in g)

@@ -5,24 +5,20 @@ use Rattle.std.proofs.lemmas.Bool.{true≢false, or_right, or_left, or_cases}
 use Rattle.gix_parts.specs.declared.hash.ObjectId.{ObjectId}
 use Rattle.gix_parts.specs.Id.{is_same, is_among}
 use Rattle.gix_parts.specs.Object.{Objects}
-use Rattle.gix_parts.proofs.Ids.Membership.{same_is, among-append, among-one, among_from, among_is, Contains-here, Contains-there, Contains-cons_cases, no_member}
-use Rattle.gix_traverse.specs.declared.commit.topo.frontier.Side.{Side}
+use Rattle.gix_parts.proofs.Ids.Membership.{same_is, among-one, among_from, among_is, Contains-here, Contains-there, Contains-cons_cases}
 use Rattle.gix_traverse.specs.declared.commit.topo.frontier.Side.TheVariants.{Ends}
 use Rattle.gix_traverse.specs.declared.commit.topo.frontier.Frontier.{Frontier}
 use Rattle.gix_traverse.specs.declared.commit.topo.walk.Walk.{Walk}
-use Rattle.gix_traverse.specs.Topo.Inside.Frontier.{is_seen, known_of, reached}
-use Rattle.gix_traverse.specs.History.Reading.{DropsRows}
-use Rattle.gix_traverse.specs.Topo.Inside.Releasing.{plan_of}
+use Rattle.gix_traverse.specs.Topo.Inside.Frontier.{is_seen, known_of}
 use Rattle.gix_traverse.specs.Topo.Inside.Starting.{Starts, waits, frees, StartsAll, none, more}
 use Rattle.gix_traverse.specs.Orders.TopoOrder.{Keeps, none as keeps_none, kept, passed, distinct_after}
-use Rattle.gix_traverse.specs.Topo.Inside.Steady.{AreRead}
-use Rattle.gix_traverse.specs.Topo.Walk.{Ready, ready_ids, IsFound}
+use Rattle.gix_traverse.specs.Topo.Walk.{Ready, ready_ids}
 use Rattle.gix_traverse.proofs.Shared.NewIds.{times, among_times}
-use Rattle.gix_traverse.proofs.Topo.Reading.OnceRead.{all_still, found_later, found_pushed}
 use Rattle.gix_traverse.proofs.Topo.Counting.Frontier.{has_seen}
-use Rattle.gix_traverse.proofs.Topo.Ready.IsReady.{keeps_in, first_once}
-use Rattle.gix_traverse.proofs.Topo.Taking.AllReleases.{keeps_on, ids-append, Contains-append_cases, from_ids, reads_stands, reads_drops, marks_ready_known, makes_moved, due_parts, due_from, with_plan}
+use Rattle.gix_traverse.proofs.Topo.Ready.IsReady.{keeps_in, keeps_on, keeps_append, first_once}
 use Rattle.gix_traverse.proofs.Topo.Counting.Children.{children_of, was_ready_of}
+use Rattle.gix_traverse.proofs.Topo.Ready.ReadyIds.{ids-append, from_ids}
+use Rattle.gix_traverse.proofs.Topo.Counting.MakesReady.{MakesReady, made_none, made_one, made_more, marks_ready_known, due_parts, due_from}
 
 -- what is left of a list behind some ids is none of them
 first_apart : (seen xs : List ObjectId) (i : ObjectId) → Contains (distinct_after seen xs) i → is_among i seen ≡ false
@@ -45,11 +41,6 @@ first_from seen (x ∷ xs) i m = go (is_among x seen) (first_from seen xs i) (fi
     go true f g m = Contains-there i x xs (f m)
     go false f g m = ⊎_elim (λ e. subst (λ y. Contains (x ∷ xs) y) e (Contains-here x xs)) (λ t. Contains-there i x xs (g t)) (Contains-cons_cases i x (distinct_after (x ∷ seen) xs) m)
 
-keeps_append : {P : ObjectId → Type 0} {xs ys first others : List ObjectId} → Keeps P xs first → Keeps P ys others → Keeps P (xs ++ ys) (first ++ others)
-keeps_append keeps_none k = k
-keeps_append (kept p h) k = kept p (keeps_append h k)
-keeps_append (passed n h) k = passed n (keeps_append h k)
-
 -- an id without children, that no end has seen, and that wasn't ready yet
 pub record IsTipDue (f : Frontier) (p : ObjectId) : Type 0 where
   pub none_left : children_of f p ≡ 0
@@ -59,33 +50,15 @@ pub record IsTipDue (f : Frontier) (p : ObjectId) : Type 0 where
 module _ {F : Type 0} (objects : F → Objects) (faulty : F → ObjectId → Type 0) where
   -- what these ids, one after the other, do to a walk
   pub record AreStarted (old : Walk F) (ids : List ObjectId) (added : List Ready) (new : Walk F) : Type 0 where
-    pub plan : plan_of new ≡ plan_of old
-    pub depth : new.counting.depth ≡ old.counting.depth
-    pub expanded : new.counting.expanded ≡ old.counting.expanded
-    pub queue : new.counting.frontier.queue ≡ old.counting.frontier.queue
-    pub moved : (s : Side) (j : ObjectId) → reached new.counting.frontier.known s j ≡ reached old.counting.frontier.known s j
+    pub ready : MakesReady objects faulty old ids added new
     pub children : (p : ObjectId) → children_of new.counting.frontier p ≡ children_of old.counting.frontier p
-    pub made : (j : ObjectId) → was_ready_of new.counting.frontier j ≡ (is_among j (ready_ids added) || was_ready_of old.counting.frontier j)
-    pub stands : new.counting.reader.standing ≡ true → old.counting.reader.standing ≡ true
-    pub among : (r : Ready) → Contains added r → Contains ids r.id
-    pub each : AreRead objects faulty (plan_of old) old.counting → (r : Ready) → Contains added r → IsFound objects faulty (plan_of old) old.counting.reader.standing new.counting.reader.standing r
-    pub dropped : old.counting.reader.standing ≡ true → new.counting.reader.standing ≡ false → (i : ObjectId) × Contains ids i × DropsRows (plan_of old).rows i
     -- each at its first place, except for ids behind ids that aren't due
     pub due : (seen : List ObjectId) → ((j : ObjectId) → is_among j seen ≡ true → IsTipDue old.counting.frontier j → ⊥) → Keeps (IsTipDue old.counting.frontier) (distinct_after seen ids) (ready_ids added)
 
   started_none : (old : Walk F) (ids : List ObjectId) → ((seen : List ObjectId) → ((j : ObjectId) → is_among j seen ≡ true → IsTipDue old.counting.frontier j → ⊥) → Keeps (IsTipDue old.counting.frontier) (distinct_after seen ids) []) → AreStarted old ids [] old
   started_none old ids h = record {
-    plan = refl;
-    depth = refl;
-    expanded = refl;
-    queue = refl;
-    moved = λ s j. refl;
+    ready = made_none objects faulty old old.counting.frontier ids refl (λ s j. refl) (λ j. refl);
     children = λ p. refl;
-    made = λ j. refl;
-    stands = λ e. e;
-    among = λ r m. absurd (no_member r m);
-    each = λ h r m. absurd (no_member r m);
-    dropped = λ a b. absurd (true≢false (sym a ∙ b));
     due = h;
   }
 
@@ -99,17 +72,8 @@ module _ {F : Type 0} (objects : F → Objects) (faulty : F → ObjectId → Typ
       go seen true = keeps_none
       go seen false = passed not_due keeps_none
   started_one {old} {i} {new = new} (frees {r = r} d p) = record {
-    plan = p.same.plan;
-    depth = p.same.depth;
-    expanded = p.same.expanded;
-    queue = p.same.queue;
-    moved = makes_moved objects faulty old.counting.frontier new.counting.frontier i p.made;
+    ready = made_one objects faulty old old.counting.frontier refl (λ s j. refl) (λ j. refl) p;
     children = λ j. (marks_ready_known objects faulty old.counting.frontier new.counting.frontier i p.made j).0;
-    made = λ j. (marks_ready_known objects faulty old.counting.frontier new.counting.frontier i p.made j).1 ∙ ap (λ b. b || was_ready_of old.counting.frontier j) (ap (is_same j) (sym p.id) ∙ sym (among-one j r.id));
-    stands = λ e. reads_stands objects faulty p.reads e;
-    among = λ x m. ⊎_elim (λ s. subst (λ j. Contains (i ∷ []) j) (sym p.id ∙ ap (λ y. y.id) s) (Contains-here i [])) (λ t. absurd (no_member x t)) (Contains-cons_cases x r [] m);
-    each = λ h x m. ⊎_elim (λ s. subst (IsFound objects faulty (plan_of old) old.counting.reader.standing new.counting.reader.standing) s (found_pushed objects faulty old old.counting i r new (λ s j. refl) h p)) (λ t. absurd (no_member x t)) (Contains-cons_cases x r [] m);
-    dropped = λ a b. (i, Contains-here i [], reads_drops objects faulty p.reads a b);
     due = λ seen h. go seen (is_among i seen) refl h;
   }
     where
@@ -122,57 +86,28 @@ module _ {F : Type 0} (objects : F → Objects) (faulty : F → ObjectId → Typ
 
   started_more : (old mid new : Walk F) (i : ObjectId) (ids : List ObjectId) (first others : List Ready) → AreStarted old (i ∷ []) first mid → AreStarted mid ids others new → AreStarted old (i ∷ ids) (first ++ others) new
   started_more old mid new i ids first others a b = record {
-    plan = b.plan ∙ a.plan;
-    depth = b.depth ∙ a.depth;
-    expanded = b.expanded ∙ a.expanded;
-    queue = b.queue ∙ a.queue;
-    moved = λ s j. b.moved s j ∙ a.moved s j;
+    ready = made_more objects faulty old mid new i ids first others a.ready b.ready;
     children = λ p. b.children p ∙ a.children p;
-    made = λ j. b.made j ∙ ap (λ x. is_among j (ready_ids others) || x) (a.made j) ∙ joined (is_among j (ready_ids others)) (is_among j (ready_ids first)) (was_ready_of old.counting.frontier j) ∙ ap (λ x. x || was_ready_of old.counting.frontier j) (sym (ap (is_among j) (ids-append first others) ∙ among-append j (ready_ids first) (ready_ids others)));
-    stands = λ e. a.stands (b.stands e);
-    among = λ r m. ⊎_elim (λ l. here r.id (a.among r l)) (λ t. Contains-there r.id i ids (b.among r t)) (Contains-append_cases r first others m);
-    each = λ h r m. ⊎_elim (λ l. found_later objects faulty (plan_of old) (λ e. e) b.stands (a.each h r l)) (λ t. found_later objects faulty (plan_of old) a.stands (λ e. e) (with_plan objects faulty (plan_of old) (plan_of mid) mid.counting.reader.standing new.counting.reader.standing r a.plan (b.each (read_mid h) r t))) (Contains-append_cases r first others m);
-    dropped = λ e d. drops mid.counting.reader.standing refl e d;
     due = λ seen h. due seen h;
   }
     where
-      read_mid : AreRead objects faulty (plan_of old) old.counting → AreRead objects faulty (plan_of mid) mid.counting
-      read_mid h = subst (λ p. AreRead objects faulty p mid.counting) (sym a.plan) (all_still objects faulty (plan_of old) old.counting mid.counting a.moved a.stands h)
-
-      joined : (x y z : Bool) → (x || (y || z)) ≡ ((y || x) || z)
-      joined true true z = refl
-      joined true false z = refl
-      joined false true z = refl
-      joined false false z = refl
-
-      here : (j : ObjectId) → Contains (i ∷ []) j → Contains (i ∷ ids) j
-      here j m = ⊎_elim (λ s. subst (λ x. Contains (i ∷ ids) x) s (Contains-here i ids)) (λ t. absurd (no_member j t)) (Contains-cons_cases j i [] m)
-
-      drops : (m : Bool) → mid.counting.reader.standing ≡ m → old.counting.reader.standing ≡ true → new.counting.reader.standing ≡ false → (j : ObjectId) × Contains (i ∷ ids) j × DropsRows (plan_of old).rows j
-      drops true m e d =
-          let h : (j : ObjectId) × Contains ids j × DropsRows (plan_of mid).rows j = b.dropped m d in
-          (h.0, Contains-there h.0 i ids h.1, subst (λ p. DropsRows p.rows h.0) a.plan h.2)
-      drops false m e d =
-          let h : (j : ObjectId) × Contains (i ∷ []) j × DropsRows (plan_of old).rows j = a.dropped e m in
-          (h.0, here h.0 h.1, h.2)
-
       -- what is due later was due before
       earlier : (p : ObjectId) → IsTipDue mid.counting.frontier p → IsTipDue old.counting.frontier p
-      earlier p d = record { none_left = sym (a.children p) ∙ d.none_left; outside = sym (ap is_seen (a.moved Ends p)) ∙ d.outside; unmade = go (was_ready_of old.counting.frontier p) refl }
+      earlier p d = record { none_left = sym (a.children p) ∙ d.none_left; outside = sym (ap is_seen (a.ready.moved Ends p)) ∙ d.outside; unmade = go (was_ready_of old.counting.frontier p) refl }
         where
           go : (x : Bool) → was_ready_of old.counting.frontier p ≡ x → x ≡ false
           go false e = refl
-          go true e = absurd (true≢false (sym (a.made p ∙ or_right (is_among p (ready_ids first)) (was_ready_of old.counting.frontier p) e) ∙ d.unmade))
+          go true e = absurd (true≢false (sym (a.ready.made p ∙ or_right (is_among p (ready_ids first)) (was_ready_of old.counting.frontier p) e) ∙ d.unmade))
 
       -- the converse, except for the tip that became ready
       later : (p : ObjectId) → is_among p (i ∷ []) ≡ false → IsTipDue old.counting.frontier p → IsTipDue mid.counting.frontier p
-      later p n d = record { none_left = a.children p ∙ d.none_left; outside = ap is_seen (a.moved Ends p) ∙ d.outside; unmade = a.made p ∙ ap (λ x. is_among p (ready_ids first) || x) d.unmade ∙ go (is_among p (ready_ids first)) refl }
+      later p n d = record { none_left = a.children p ∙ d.none_left; outside = ap is_seen (a.ready.moved Ends p) ∙ d.outside; unmade = a.ready.made p ∙ ap (λ x. is_among p (ready_ids first) || x) d.unmade ∙ go (is_among p (ready_ids first)) refl }
         where
           go : (x : Bool) → is_among p (ready_ids first) ≡ x → (x || false) ≡ false
           go false e = refl
           go true e =
               let r : (r : Ready) × Contains first r × (r.id ≡ p) = from_ids first p (among_is p (ready_ids first) e) in
-              absurd (true≢false (sym (among_from p (i ∷ []) (subst (λ j. Contains (i ∷ []) j) r.2 (a.among r.0 r.1))) ∙ n))
+              absurd (true≢false (sym (among_from p (i ∷ []) (subst (λ j. Contains (i ∷ []) j) r.2 (a.ready.among r.0 r.1))) ∙ n))
 
       due : (seen : List ObjectId) → ((j : ObjectId) → is_among j seen ≡ true → IsTipDue old.counting.frontier j → ⊥) → Keeps (IsTipDue old.counting.frontier) (distinct_after seen (i ∷ ids)) (ready_ids (first ++ others))
       due seen h = subst (Keeps (IsTipDue old.counting.frontier) (distinct_after seen (i ∷ ids))) (sym (ids-append first others)) (go (is_among i seen) refl)
@@ -198,7 +133,7 @@ module _ {F : Type 0} (objects : F → Objects) (faulty : F → ObjectId → Typ
               head = subst (λ x. Keeps (IsTipDue old.counting.frontier) (cond x [] (i ∷ [])) (ready_ids first)) e (a.due seen h)
 
               made_now : IsTipDue mid.counting.frontier i → ⊥
-              made_now d = true≢false (sym (a.made i ∙ or_left (is_among i (ready_ids first)) _ (among_from i _ (keeps_in (IsTipDue old.counting.frontier) head i (Contains-here i []) (earlier i d)))) ∙ d.unmade)
+              made_now d = true≢false (sym (a.ready.made i ∙ or_left (is_among i (ready_ids first)) _ (among_from i _ (keeps_in (IsTipDue old.counting.frontier) head i (Contains-here i []) (earlier i d)))) ∙ d.unmade)
 
   -- all of them
   pub started : {old : Walk F} {ids : List ObjectId} {added : List Ready} {new : Walk F} → StartsAll objects faulty old ids added new → AreStarted old ids added new

@@ -27,20 +27,19 @@ use Rattle.gix_traverse.specs.Orders.TopoOrder.{Keeps, first_places}
 use Rattle.gix_traverse.specs.Topo.Inside.Steady.{IsDone, AreRead, IsTallied, IsSteady, HasCounted, IsHeld, unasked, unasked_of}
 use Rattle.gix_traverse.specs.Topo.Walk.{TopoPlan, Ready, ready_ids, first_depth, HoldsReady, IsNumberOf, IsMet, IsInDepth, IsBrokenRow, IsCounting, IsWalkable, IsStored, IsMember, IsStarted, StartsWith, walked_of, IsFound}
 use Rattle.gix_traverse.specs.Orders.WalkSet.{IsChildless}
-use Rattle.gix_traverse.proofs.Topo.Taking.BecomeReady.{none_left, outside, unseen, all_taken}
+use Rattle.gix_traverse.proofs.Topo.Counting.IndegreeZero.{none_left, outside, unseen, all_taken}
 use Rattle.gix_traverse.proofs.Topo.Counting.Expanded.{number_same, broken}
 use Rattle.gix_traverse.proofs.Shared.NewIds.{times, times_once}
-use Rattle.gix_traverse.proofs.Topo.Ready.IsReady.{keeps_from, keeps_times, first_once, among_by}
-use Rattle.gix_traverse.proofs.Topo.Taking.AllReleases.{keeps_on}
+use Rattle.gix_traverse.proofs.Topo.Ready.IsReady.{keeps_from, keeps_times, first_once, among_by, keeps_on}
 use Rattle.gix_traverse.proofs.Topo.Counting.Rest.{least_within}
-use Rattle.gix_traverse.proofs.Topo.Taking.Taken.{contains-taken}
+use Rattle.gix_traverse.proofs.Topo.Counting.Taken.{contains-taken}
 use Rattle.gix_traverse.proofs.Topo.Ready.RisingTime.{by_time_moves, in_by_time, by_time_map}
 use Rattle.gix_traverse.proofs.Topo.Counting.BothSearches.{searched_same}
 use Rattle.gix_traverse.proofs.Topo.Starting.AllTips.{IsTipDue, AreStarted, started, first_from}
 use Rattle.gix_traverse.proofs.Topo.Reading.FoundIsStored.{found_stored}
 use Rattle.gix_traverse.proofs.Topo.Reading.OnceRead.{all_still, found_later}
 use Rattle.gix_traverse.proofs.Topo.Counting.Children.{children_of, was_ready_of, tally_same}
-use Rattle.gix_traverse.proofs.Topo.Run.Theorem.{holds_in, holds_times, times-permutation}
+use Rattle.gix_traverse.proofs.Topo.Ready.ReadyIds.{holds_in, holds_times, times-permutation}
 
 module _ {F : Type 0} (objects : F → Objects) (faulty : F → ObjectId → Type 0) (plan : TopoPlan F) (w : Walk F) (h : IsBegunWalk objects faulty plan w) where
   abbrev p : TopoPlan F
@@ -69,22 +68,22 @@ module _ {F : Type 0} (objects : F → Objects) (faulty : F → ObjectId → Typ
 
   -- what stays as it was before
   moved : (s : Side) (j : ObjectId) → reached new.frontier.known s j ≡ reached old.frontier.known s j
-  moved s j = ap (λ c. reached c.frontier.known s j) h.counting ∙ all.moved s j
+  moved s j = ap (λ c. reached c.frontier.known s j) h.counting ∙ all.ready.moved s j
 
   same_children : (j : ObjectId) → children_of new.frontier j ≡ children_of old.frontier j
   same_children j = ap (λ c. children_of c.frontier j) h.counting ∙ all.children j
 
   same_queue : new.frontier.queue ≡ old.frontier.queue
-  same_queue = ap (λ c. c.frontier.queue) h.counting ∙ all.queue
+  same_queue = ap (λ c. c.frontier.queue) h.counting ∙ all.ready.queue
 
   same_depth : new.depth ≡ old.depth
-  same_depth = ap (λ c. c.depth) h.counting ∙ all.depth
+  same_depth = ap (λ c. c.depth) h.counting ∙ all.ready.depth
 
   same_expanded : new.expanded ≡ old.expanded
-  same_expanded = ap (λ c. c.expanded) h.counting ∙ all.expanded
+  same_expanded = ap (λ c. c.expanded) h.counting ∙ all.ready.expanded
 
   stands : new.reader.standing ≡ true → old.reader.standing ≡ true
-  stands e = all.stands (sym (ap (λ c. c.reader.standing) h.counting) ∙ e)
+  stands e = all.ready.stands (sym (ap (λ c. c.reader.standing) h.counting) ∙ e)
 
   to_done : (i : ObjectId) → IsDone new.frontier i → IsDone old.frontier i
   to_done i d = ⊎_elim (λ e. inl (sym (ap is_done (moved Tips i)) ∙ e)) (λ e. inr (sym (ap is_done (moved Ends i)) ∙ e)) d
@@ -122,10 +121,10 @@ module _ {F : Type 0} (objects : F → Objects) (faulty : F → ObjectId → Typ
   first_read = subst (λ q. AreRead objects faulty q old) (sym first_plan) begun.all_read
 
   found : (r : Ready) → Contains w.ready.commits r → IsFound objects faulty p true new.reader.standing r
-  found r m = subst (λ c. IsFound objects faulty p true c.reader.standing r) (sym h.counting) (found_later objects faulty p (λ e. refl) (λ e. e) (subst (λ q. IsFound objects faulty q old.reader.standing h.mid.counting.reader.standing r) first_plan (all.each first_read r (in_starts r m))))
+  found r m = subst (λ c. IsFound objects faulty p true c.reader.standing r) (sym h.counting) (found_later objects faulty p (λ e. refl) (λ e. e) (subst (λ q. IsFound objects faulty q old.reader.standing h.mid.counting.reader.standing r) first_plan (all.ready.each first_read r (in_starts r m))))
 
   made_is : (i : ObjectId) → was_ready_of new.frontier i ≡ is_among i (ready_ids h.starts)
-  made_is i = ap (λ c. was_ready_of c.frontier i) h.counting ∙ all.made i ∙ ap (λ b. is_among i (ready_ids h.starts) || b) (begun.unmade i) ∙ or-false (is_among i (ready_ids h.starts))
+  made_is i = ap (λ c. was_ready_of c.frontier i) h.counting ∙ all.ready.made i ∙ ap (λ b. is_among i (ready_ids h.starts) || b) (begun.unmade i) ∙ or-false (is_among i (ready_ids h.starts))
 
   made_ready : (i : ObjectId) → was_ready_of new.frontier i ≡ is_among i (ready_ids w.ready.commits)
   made_ready i = made_is i ∙ ready_among i
@@ -154,7 +153,7 @@ module _ {F : Type 0} (objects : F → Objects) (faulty : F → ObjectId → Typ
         tally = tally_same (next_by (objects p.store) p.parents Tips) (λ i. is_done (reached old.frontier.known Tips i)) (λ i. is_done (reached new.frontier.known Tips i)) (set.contains (taken_of w)) (children_of old.frontier) (children_of new.frontier) (λ j. ap is_done (moved Tips j)) same_children before.tally;
       };
       begun = λ side i m. ap is_seen (moved side i) ∙ begun.begun side i m;
-      done = λ r m. let tip : Contains p.tips r.id = all.among r (in_starts r m) in ap is_done (moved Tips r.id) ∙ begun.explored agrees Tips r.id (start tip) (tip_high r.id tip);
+      done = λ r m. let tip : Contains p.tips r.id = all.ready.among r (in_starts r m) in ap is_done (moved Tips r.id) ∙ begun.explored agrees Tips r.id (start tip) (tip_high r.id tip);
     }
 
   module _ (sound : IsWalkable objects faulty p) where
@@ -181,10 +180,10 @@ module _ {F : Type 0} (objects : F → Objects) (faulty : F → ObjectId → Typ
     kept_childless = keeps_on (λ i m d. due_childless i (first_from [] p.tips i m) d) (λ i m q. childless_due i q) kept
 
     stored : (r : Ready) → Contains w.ready.commits r → IsStored objects p new.reader.standing r
-    stored r m = found_stored objects faulty p sound (found r m) (sound.tips_whole r.id (start (all.among r (in_starts r m))))
+    stored r m = found_stored objects faulty p sound (found r m) (sound.tips_whole r.id (start (all.ready.among r (in_starts r m))))
 
     start_time : (r : Ready) → Contains h.starts r → r.time ≡ time_of (objects p.store) r.id
-    start_time r m = (found_stored objects faulty p sound (subst (λ q. IsFound objects faulty q old.reader.standing h.mid.counting.reader.standing r) first_plan (all.each first_read r m)) (sound.tips_whole r.id (start (all.among r m)))).time
+    start_time r m = (found_stored objects faulty p sound (subst (λ q. IsFound objects faulty q old.reader.standing h.mid.counting.reader.standing r) first_plan (all.ready.each first_read r m)) (sound.tips_whole r.id (start (all.ready.among r m)))).time
 
     starts : StartsWith objects faulty (unasked objects faulty) p w.ready.commits
     starts = record {
@@ -202,7 +201,7 @@ module _ {F : Type 0} (objects : F → Objects) (faulty : F → ObjectId → Typ
         go : (b : Bool) → old.reader.standing ≡ b → b ≡ false
         go false d = refl
         go true d =
-            let k : (i : ObjectId) × Contains p.tips i × DropsRows (plan_of h.first).rows i = all.dropped d (sym (ap (λ c. c.reader.standing) h.counting) ∙ e) in
+            let k : (i : ObjectId) × Contains p.tips i × DropsRows (plan_of h.first).rows i = all.ready.dropped d (sym (ap (λ c. c.reader.standing) h.counting) ∙ e) in
             absurd ((begun.counting sound).whole d (broken objects faulty p sound.agreeing old.depth k.0 (inl (start k.1)) (tip_high k.0 k.1) (subst (λ q. DropsRows q.rows k.0) first_plan k.2)))
 
     counts : HasCounted objects p new

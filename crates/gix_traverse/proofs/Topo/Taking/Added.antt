@@ -23,22 +23,23 @@ use Rattle.gix_traverse.specs.Topo.Inside.Steady.{AreRead, IsSteady, IsHeld, una
 use Rattle.gix_traverse.specs.Topo.Walk.{Ready, ready_ids, walked_of, Chooses, IsMember, IsStored, IsCounting, IsWalkable, IsTaken, Adds, IsFound}
 use Rattle.gix_traverse.specs.Orders.WalkSet.{IsChild, IsReady}
 use Rattle.gix_traverse.specs.History.Reach.{Reaches, step}
-use Rattle.gix_traverse.proofs.Topo.Taking.BecomeReady.{none_left, outside, unseen, all_taken}
+use Rattle.gix_traverse.proofs.Topo.Counting.IndegreeZero.{none_left, outside, unseen, all_taken}
 use Rattle.gix_traverse.proofs.Topo.Counting.ExploreKeeps.{explores_same, explores_made}
 use Rattle.gix_traverse.proofs.Topo.Counting.Frontier.{has_seen}
 use Rattle.gix_traverse.proofs.Shared.NewIds.{times, times_once}
-use Rattle.gix_traverse.proofs.Topo.Ready.IsReady.{keeps_from, keeps_times, last_from, last_once}
-use Rattle.gix_traverse.proofs.Topo.Taking.AllReleases.{keeps_on, IsDue, IsReleased, reads_stands, released}
+use Rattle.gix_traverse.proofs.Topo.Ready.IsReady.{keeps_from, keeps_times, last_from, last_once, keeps_on}
+use Rattle.gix_traverse.proofs.Topo.Taking.AllReleases.{IsDue, IsReleased, released}
 use Rattle.gix_traverse.proofs.Topo.Counting.Rest.{least_within}
 use Rattle.gix_traverse.proofs.Topo.Counting.Children.{children_of, was_ready_of}
 use Rattle.gix_traverse.proofs.Topo.Counting.Expanded.{explores_read}
 use Rattle.gix_traverse.proofs.Topo.Reading.OnceRead.{all_still, found_later}
 use Rattle.gix_traverse.proofs.Topo.Reading.FoundIsStored.{found_named, found_stored}
-use Rattle.gix_traverse.proofs.Topo.Taking.Taken.{made_taken}
+use Rattle.gix_traverse.proofs.Topo.Counting.Taken.{made_taken}
 use Rattle.gix_traverse.proofs.Topo.Taking.Setting.{was_ready, plan_taken, was_untaken, named_text, counted_on, explored_on, tally_on}
-use Rattle.gix_traverse.proofs.Topo.Run.Theorem.{in_ids}
 use Rattle.gix_traverse.proofs.Shared.ReadsWhole.{walked_within}
 use Rattle.gix_traverse.proofs.Shared.TextParents.{text_whole}
+use Rattle.gix_traverse.proofs.Topo.Ready.ReadyIds.{in_ids}
+use Rattle.gix_traverse.proofs.Topo.Counting.MakesReady.{reads_stands}
 
 module _ {F : Type 0} (objects : F → Objects) (faulty : F → ObjectId → Type 0) where
   -- rows that are in use after exploring were in use before
@@ -82,7 +83,7 @@ module _ {F : Type 0} (objects : F → Objects) (faulty : F → ObjectId → Typ
 
   -- dropped rows don't come back
   pub stands_before : new.counting.reader.standing ≡ true → w.counting.reader.standing ≡ true
-  stands_before e = explores_stands objects faulty t.explores (rel.stands e)
+  stands_before e = explores_stands objects faulty t.explores (rel.ready.stands e)
 
   due : Keeps (IsDue objects faulty between new) (last_places named) (ready_ids added)
   due = rel.due (λ j. last_once named j)
@@ -98,11 +99,11 @@ module _ {F : Type 0} (objects : F → Objects) (faulty : F → ObjectId → Typ
 
     -- an added commit was read over the same store and rows
     pub found_added : (a : Ready) → Contains added a → IsFound objects faulty (plan_of w) w.counting.reader.standing new.counting.reader.standing a
-    found_added a m = found_later objects faulty (plan_of w) (explores_stands objects faulty t.explores) (λ e. e) (subst (λ plan. IsFound objects faulty plan t.explored.reader.standing new.counting.reader.standing a) plan_between (rel.each read_between a m))
+    found_added a m = found_later objects faulty (plan_of w) (explores_stands objects faulty t.explores) (λ e. e) (subst (λ plan. IsFound objects faulty plan t.explored.reader.standing new.counting.reader.standing a) plan_between (rel.ready.each read_between a m))
 
     -- and so is what is done after that
     pub read_after : AreRead objects faulty (plan_of w) new.counting
-    read_after = all_still objects faulty (plan_of w) t.explored new.counting rel.moved rel.stands (subst (λ plan. AreRead objects faulty plan t.explored) plan_between read_between)
+    read_after = all_still objects faulty (plan_of w) t.explored new.counting rel.ready.moved rel.ready.stands (subst (λ plan. AreRead objects faulty plan t.explored) plan_between read_between)
 
     found : IsFound objects faulty (plan_of w) true w.counting.reader.standing r
     found = held.found r (was_ready objects faulty w rest r chosen)
@@ -133,7 +134,7 @@ module _ {F : Type 0} (objects : F → Objects) (faulty : F → ObjectId → Typ
       tally = tally_on objects faulty w rest r chosen held sound.agreeing t.explored t.explores (children_of new.counting.frontier) rel.children
 
       seen_there : (p : ObjectId) → has_seen new.counting.frontier Ends p ≡ has_seen t.explored.frontier Ends p
-      seen_there p = ap is_seen (rel.moved Ends p)
+      seen_there p = ap is_seen (rel.ready.moved Ends p)
 
       high : (p : ObjectId) → Contains named p → low.depth ≤ known_generation (plan_of w).rows p
       high p m = least_within (plan_of w).rows w.counting.depth named p m
@@ -188,6 +189,6 @@ module _ {F : Type 0} (objects : F → Objects) (faulty : F → ObjectId → Typ
       found = found_added;
       stored = λ sound a m. stored sound a m;
       stands = stands_before;
-      depth = rel.depth ∙ kept_plan.depth;
+      depth = rel.ready.depth ∙ kept_plan.depth;
       counting = counting;
     }

@@ -17,7 +17,7 @@ use Rattle.gix_traverse.specs.Topo.Inside.Releasing.{plan_of, counted_by, lowere
 use Rattle.gix_traverse.specs.Orders.TopoOrder.{last_places}
 use Rattle.gix_traverse.specs.Topo.Inside.Steady.{IsDone, IsTallied, HasCounted, IsHeld}
 use Rattle.gix_traverse.specs.Topo.Walk.{TopoPlan, Ready, walked_of, Chooses, IsMet, IsInDepth, IsBrokenRow, IsNumberOf, IsCounting, IsWalkable}
-use Rattle.gix_traverse.proofs.Topo.Taking.BecomeReady.{text_tips}
+use Rattle.gix_traverse.proofs.Topo.Counting.IndegreeZero.{text_tips}
 use Rattle.gix_traverse.proofs.Topo.Counting.ExploreKeeps.{explores_same}
 use Rattle.gix_traverse.proofs.Topo.Counting.Expanded.{number_same, broken, counts_on}
 use Rattle.gix_traverse.proofs.Topo.Ready.IsReady.{last_from}
@@ -67,10 +67,10 @@ module _ {F : Type 0} (objects : F → Objects) (faulty : F → ObjectId → Typ
         text_tips (objects w.counting.reader.find) (faulty w.counting.reader.find) (plan_of w).rows w.counting.parents (plan_of w).tips (plan_of w).ends sound.agreeing sound.tips_whole sound.ends_whole i (parents_reached objects faulty w rest r chosen held sound.agreeing i m)
 
     done_on : (i : ObjectId) → IsDone t.explored.frontier i → IsDone new.counting.frontier i
-    done_on i d = ⊎_elim (λ a. inl (ap is_done (rel.moved Tips i) ∙ a)) (λ b. inr (ap is_done (rel.moved Ends i) ∙ b)) d
+    done_on i d = ⊎_elim (λ a. inl (ap is_done (rel.ready.moved Tips i) ∙ a)) (λ b. inr (ap is_done (rel.ready.moved Ends i) ∙ b)) d
 
     done_back : (i : ObjectId) → IsDone new.counting.frontier i → IsDone t.explored.frontier i
-    done_back i d = ⊎_elim (λ a. inl (sym (ap is_done (rel.moved Tips i)) ∙ a)) (λ b. inr (sym (ap is_done (rel.moved Ends i)) ∙ b)) d
+    done_back i d = ⊎_elim (λ a. inl (sym (ap is_done (rel.ready.moved Tips i)) ∙ a)) (λ b. inr (sym (ap is_done (rel.ready.moved Ends i)) ∙ b)) d
 
     -- a parent that becomes ready was read before, so its row drops no rows
     stays : new.counting.reader.standing ≡ false → t.explored.reader.standing ≡ false
@@ -79,7 +79,7 @@ module _ {F : Type 0} (objects : F → Objects) (faulty : F → ObjectId → Typ
         go : (b : Bool) → t.explored.reader.standing ≡ b → b ≡ false
         go false q = refl
         go true q =
-            let h : (i : ObjectId) × Contains (last_places named) i × DropsRows (rows_of t.explored.reader.graph) i = rel.dropped q e in
+            let h : (i : ObjectId) × Contains (last_places named) i × DropsRows (rows_of t.explored.reader.graph) i = rel.ready.dropped q e in
             let m : Contains named h.0 = last_from named h.0 h.1 in
             absurd (explored_counts.1.whole q
             (broken objects faulty (plan_of w) sound.agreeing t.explored.depth h.0 (inl (named_reached h.0 m)) (subst (λ n. n ≤ known_generation (plan_of w).rows h.0) (sym (explores_same objects faulty t.explores).depth) (least_within (plan_of w).rows w.counting.depth named h.0 m))
@@ -87,9 +87,9 @@ module _ {F : Type 0} (objects : F → Objects) (faulty : F → ObjectId → Typ
 
     taken_counts : HasCounted objects (plan_of w) new.counting
     taken_counts = record {
-      number = number_same (IsDone t.explored.frontier) (IsDone new.counting.frontier) t.explored.expanded new.counting.expanded (sym rel.expanded) done_on done_back explored_counts.0.number;
-      high = λ e i d. subst (λ n. n ≤ known_generation (plan_of w).rows i) (sym rel.depth) (explored_counts.0.high (rel.stands e) i (done_back i d));
-      dropped = λ e. subst (IsBrokenRow objects (plan_of w)) (sym rel.depth) (explored_counts.0.dropped (stays e));
+      number = number_same (IsDone t.explored.frontier) (IsDone new.counting.frontier) t.explored.expanded new.counting.expanded (sym rel.ready.expanded) done_on done_back explored_counts.0.number;
+      high = λ e i d. subst (λ n. n ≤ known_generation (plan_of w).rows i) (sym rel.ready.depth) (explored_counts.0.high (rel.ready.stands e) i (done_back i d));
+      dropped = λ e. subst (IsBrokenRow objects (plan_of w)) (sym rel.ready.depth) (explored_counts.0.dropped (stays e));
     }
 
     -- what holds of the done commits still holds, and counting stays exact
@@ -97,9 +97,9 @@ module _ {F : Type 0} (objects : F → Objects) (faulty : F → ObjectId → Typ
     counts_taken = (
       taken_counts,
       record {
-        exact = λ e. subst (λ d. IsNumberOf (IsInDepth objects (plan_of w) d) new.counting.expanded) (sym rel.depth) (subst (IsNumberOf (IsInDepth objects (plan_of w) t.explored.depth)) (sym rel.expanded) (explored_counts.1.exact (rel.stands e)));
-        all = λ e. subst (IsNumberOf (IsMet objects (plan_of w))) (sym rel.expanded) (explored_counts.1.all (stays e));
+        exact = λ e. subst (λ d. IsNumberOf (IsInDepth objects (plan_of w) d) new.counting.expanded) (sym rel.ready.depth) (subst (IsNumberOf (IsInDepth objects (plan_of w) t.explored.depth)) (sym rel.ready.expanded) (explored_counts.1.exact (rel.ready.stands e)));
+        all = λ e. subst (IsNumberOf (IsMet objects (plan_of w))) (sym rel.ready.expanded) (explored_counts.1.all (stays e));
         dropped = taken_counts.dropped;
-        whole = λ e b. explored_counts.1.whole (rel.stands e) (subst (IsBrokenRow objects (plan_of w)) rel.depth b);
+        whole = λ e b. explored_counts.1.whole (rel.ready.stands e) (subst (IsBrokenRow objects (plan_of w)) rel.ready.depth b);
       },
     )

@@ -24,14 +24,15 @@ use Rattle.gix_traverse.specs.Orders.WalkSet.{IsChild, IsReady}
 use Rattle.gix_traverse.proofs.Topo.Counting.ExploreKeeps.{explores_made, explores_same, explores_still, explores_done, explores_idle}
 use Rattle.gix_traverse.proofs.Shared.NewIds.{times, times_none, among_times, times_once}
 use Rattle.gix_traverse.proofs.Topo.Ready.IsReady.{distinct_times, keeps_from, last_from, last_once, among_by}
-use Rattle.gix_traverse.proofs.Topo.Taking.AllReleases.{ids-append, Contains-append_cases, IsDue, IsReleased, released}
+use Rattle.gix_traverse.proofs.Topo.Taking.AllReleases.{IsDue, IsReleased, released}
 use Rattle.gix_traverse.proofs.Topo.Counting.Rest.{least_within}
 use Rattle.gix_traverse.proofs.Topo.Counting.Children.{children_of, was_ready_of, tally_same}
-use Rattle.gix_traverse.proofs.Topo.Run.Theorem.{chosen_times, others_in, holds_in, holds_times, joined_times}
 use Rattle.gix_traverse.proofs.Topo.Reading.OnceRead.{found_later}
 use Rattle.gix_traverse.proofs.Topo.Taking.Added.{read_after}
-use Rattle.gix_traverse.proofs.Topo.Taking.Taken.{contains-taken}
+use Rattle.gix_traverse.proofs.Topo.Counting.Taken.{contains-taken}
 use Rattle.gix_traverse.proofs.Topo.Taking.Setting.{was_ready, plan_taken, named_text, counted_on, explored_on, tally_on}
+use Rattle.gix_traverse.proofs.Topo.Ready.ReadyIds.{ids-append, chosen_times, others_in, holds_in, holds_times, joined_times}
+use Rattle.std.proofs.lemmas.List.Elements.{Contains-append_cases}
 
 -- of ids that were ready once, the chosen one is taken as well, where it is ready no longer and the added ones weren't ready before
 chosen_too : (added made rest chosen : Bool) → (added ≡ true → made ≡ false) → ((chosen || rest) ≡ true → made ≡ true) → (chosen ≡ true → rest ≡ false) → ((added || made) && not (rest || added)) ≡ (chosen || (made && not (chosen || rest)))
@@ -76,7 +77,7 @@ module _ {F : Type 0} (objects : F → Objects) (faulty : F → ObjectId → Typ
   rel = released objects faulty t.releases
 
   plan_is : plan_of new ≡ plan_of w
-  plan_is = rel.plan ∙ plan_taken objects faulty w rest r chosen same t.explored (explores_same objects faulty t.explores)
+  plan_is = rel.ready.plan ∙ plan_taken objects faulty w rest r chosen same t.explored (explores_same objects faulty t.explores)
 
   others_ready : (q : Ready) → Contains rest.commits q → Contains w.ready.commits q
   others_ready q m = others_in w.ready.sorting w.ready.commits r rest.commits chosen q m
@@ -94,10 +95,10 @@ module _ {F : Type 0} (objects : F → Objects) (faulty : F → ObjectId → Typ
   is_now j = among_by j (ready_ids new.ready.commits) (ready_ids (rest.commits ++ added)) (are j) ∙ ap (is_among j) (ids-append rest.commits added) ∙ among-append j (ready_ids rest.commits) (ready_ids added)
 
   ready_cases : (A : Type 0) (q : Ready) → (Contains rest.commits q → A) → (Contains added q → A) → Contains new.ready.commits q → A
-  ready_cases A q f g m = ⊎_elim f g (Contains-append_cases q rest.commits added (holds_in rest.sorting (rest.commits ++ added) new.ready.commits rel.holds q m))
+  ready_cases A q f g m = ⊎_elim f g (Contains-append_cases rest.commits added q (holds_in rest.sorting (rest.commits ++ added) new.ready.commits rel.holds q m))
 
   made_now : (j : ObjectId) → was_ready_of new.counting.frontier j ≡ (is_among j (ready_ids added) || was_ready_of w.counting.frontier j)
-  made_now j = rel.made j ∙ ap (λ b. is_among j (ready_ids added) || b) (explores_made objects faulty t.explores j)
+  made_now j = rel.ready.made j ∙ ap (λ b. is_among j (ready_ids added) || b) (explores_made objects faulty t.explores j)
 
   module _ (held : IsHeld objects faulty w) where
     unmade : (j : ObjectId) → is_among j (ready_ids added) ≡ true → was_ready_of w.counting.frontier j ≡ false
@@ -142,15 +143,15 @@ module _ {F : Type 0} (objects : F → Objects) (faulty : F → ObjectId → Typ
       search side =
           let h : IsSearch (next side) (starts_by (plan_of w).tips (plan_of w).ends side) (reached t.explored.frontier.known side) (waiting t.explored.frontier.queue side) = counted.searched.search side in
           record {
-            within = λ i e. h.within i (sym (ap is_seen (rel.moved side i)) ∙ e);
-            queued = λ i. ap (λ queue. waiting queue side i) rel.queue ∙ h.queued i ∙ ap (λ p. cond (is_queued p) 1 0) (sym (rel.moved side i));
-            closed = λ c i d m. ap is_seen (rel.moved side i) ∙ h.closed c i (sym (ap is_done (rel.moved side c)) ∙ d) m;
+            within = λ i e. h.within i (sym (ap is_seen (rel.ready.moved side i)) ∙ e);
+            queued = λ i. ap (λ queue. waiting queue side i) rel.ready.queue ∙ h.queued i ∙ ap (λ p. cond (is_queued p) 1 0) (sym (rel.ready.moved side i));
+            closed = λ c i d m. ap is_seen (rel.ready.moved side i) ∙ h.closed c i (sym (ap is_done (rel.ready.moved side c)) ∙ d) m;
           }
 
       counted_now : IsCounted those (plan_of w).rows w.counting.parents (plan_of w).tips (plan_of w).ends (set.contains (taken_of new)) new.counting.frontier
       counted_now = record {
-        searched = record { search = search; keyed = λ entry m. counted.searched.keyed entry (subst (λ queue. Contains queue entry) rel.queue m) };
-        tally = subst (λ s. IsTally (next Tips) (λ i. is_done (reached new.counting.frontier.known Tips i)) (set.contains s) (children_of new.counting.frontier)) (sym taken_is) (tally_same (next Tips) (λ i. is_done (reached t.explored.frontier.known Tips i)) (λ i. is_done (reached new.counting.frontier.known Tips i)) now_taken (children_of new.counting.frontier) (children_of new.counting.frontier) (λ j. ap is_done (rel.moved Tips j)) (λ p. refl) tally);
+        searched = record { search = search; keyed = λ entry m. counted.searched.keyed entry (subst (λ queue. Contains queue entry) rel.ready.queue m) };
+        tally = subst (λ s. IsTally (next Tips) (λ i. is_done (reached new.counting.frontier.known Tips i)) (set.contains s) (children_of new.counting.frontier)) (sym taken_is) (tally_same (next Tips) (λ i. is_done (reached t.explored.frontier.known Tips i)) (λ i. is_done (reached new.counting.frontier.known Tips i)) now_taken (children_of new.counting.frontier) (children_of new.counting.frontier) (λ j. ap is_done (rel.ready.moved Tips j)) (λ p. refl) tally);
       }
 
       -- a walked parent was reached, and it isn't below the depth
@@ -162,13 +163,13 @@ module _ {F : Type 0} (objects : F → Objects) (faulty : F → ObjectId → Typ
 
       done_now : (q : Ready) → Contains new.ready.commits q → is_done (reached new.counting.frontier.known Tips q.id) ≡ true
       done_now q m =
-          ap is_done (rel.moved Tips q.id) ∙
-          ready_cases (is_done (reached t.explored.frontier.known Tips q.id) ≡ true) q (λ o. explores_done objects faulty t.explores Tips q.id (before.done q (others_ready q o))) (λ a. parent_done q.id (last_from named q.id (rel.among q a))) m
+          ap is_done (rel.ready.moved Tips q.id) ∙
+          ready_cases (is_done (reached t.explored.frontier.known Tips q.id) ≡ true) q (λ o. explores_done objects faulty t.explores Tips q.id (before.done q (others_ready q o))) (λ a. parent_done q.id (last_from named q.id (rel.ready.among q a))) m
 
       tallied_now : IsTallied objects new
       tallied_now = record {
         counted = subst (λ p. IsCounted (objects p.store) p.rows p.parents p.tips p.ends (set.contains (taken_of new)) new.counting.frontier) (sym plan_is) counted_now;
-        begun = subst (λ p. (side : Side) → IsBegun p.tips p.ends side new.counting.frontier) (sym plan_is) (λ side i m. ap is_seen (rel.moved side i) ∙ explores_still objects faulty t.explores side i (before.begun side i m));
+        begun = subst (λ p. (side : Side) → IsBegun p.tips p.ends side new.counting.frontier) (sym plan_is) (λ side i m. ap is_seen (rel.ready.moved side i) ∙ explores_still objects faulty t.explores side i (before.begun side i m));
         done = done_now;
       }
 
@@ -234,7 +235,7 @@ module _ {F : Type 0} (objects : F → Objects) (faulty : F → ObjectId → Typ
         steady = λ s. steady_now (subst (IsWalkable objects faulty) plan_is s);
         counts = λ s. subst (λ p. HasCounted objects p new.counting) (sym plan_is) (has (subst (IsWalkable objects faulty) plan_is s));
         all_read = subst (λ p. AreRead objects faulty p new.counting) (sym plan_is) (read_after objects faulty w rest same r chosen added new t held);
-        idle = λ e. rel.queue ∙ explores_idle objects faulty t.explores (held.idle (sym (ap (λ p. p.rows) plan_is) ∙ e));
+        idle = λ e. rel.ready.queue ∙ explores_idle objects faulty t.explores (held.idle (sym (ap (λ p. p.rows) plan_is) ∙ e));
         read = λ e i h. subst (λ p. IsCommitRead (objects p.store) i) (sym plan_is) (held.read (sym (ap (λ p. p.rows) plan_is) ∙ e) i (subst (λ p. IsReached objects p i) plan_is h));
       }
 

@@ -2,7 +2,7 @@
 use Rattle.std.specs.Prelude.{◌≡◌, ◌⊎◌, ◌<◌, ℕ, take, zero, suc, ℤ, pos, List, [], ◌∷◌, Bool, Option, Some, None, Ok, Contains, length}
 use Rattle.std.proofs.Common.{sym, ap, subst, inl, inr, ⊎_elim, ◌∙◌, arith, get_or}
 use Rattle.std.specs.Option.{unwrap_or}
-use Rattle.gix_parts.proofs.Ids.Membership.{Contains-here, Contains-there, Contains-cons_cases, no_member}
+use Rattle.gix_parts.proofs.Ids.Membership.{Contains-here, Contains-there, Contains-cons_cases}
 use Rattle.gix_parts.specs.declared.hash.ObjectId.{ObjectId}
 use Rattle.gix_parts.specs.Object.{Objects}
 use Rattle.gix_parts.specs.Rows.{GraphRow}
@@ -18,6 +18,7 @@ use Rattle.gix_traverse.specs.History.Commits.{by_mode}
 use Rattle.gix_traverse.specs.Orders.TopoOrder.{last_places}
 use Rattle.gix_traverse.specs.Topo.Walk.{Ready}
 use Rattle.gix_traverse.specs.Topo.Inside.Releasing.{LooksUpParent, IsPushFault, parent, lowered, with_counting, TakesOne, IsTakingFault, exploring, releasing, ReleasesAll, IsFaultAmong}
+use Rattle.gix_traverse.proofs.Shared.Lists.{only_member}
 
 -- what is read has the id that was asked for, and a time
 pub record IsTimedInfo (i : ObjectId) (info : Info) (time : ℤ) : Type 0 where
@@ -54,7 +55,7 @@ take_more {X} xs k j d x e l m = go xs k l (subst (λ n. Contains (take n xs) x)
   where
     go : (zs : List X) (n : ℕ) → n < length zs → Contains (take (suc n) zs) x → Contains (take n zs) x ⊎ (get_or zs n d ≡ x)
     go [] n l m = absurd (omega arith)
-    go (z ∷ zs) zero l m = ⊎_elim (λ s. inr s) (λ t. absurd (no_member x t)) (Contains-cons_cases x z [] m)
+    go (z ∷ zs) zero l m = inr (only_member z x m)
     go (z ∷ zs) (suc n) l m =
         ⊎_elim (λ s. inl (subst (λ y. Contains (z ∷ take n zs) y) s (Contains-here z (take n zs)))) (λ t. ⊎_elim (λ h. inl (Contains-there x z (take n zs) h)) (λ h. inr h) (go zs n (omega arith) t))
         (Contains-cons_cases x z (take (suc n) zs) m)

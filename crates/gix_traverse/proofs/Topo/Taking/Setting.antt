@@ -22,13 +22,13 @@ use Rattle.gix_traverse.specs.Topo.Inside.Searched.{IsCounted, IsExplored, IsTal
 use Rattle.gix_traverse.specs.Orders.TopoOrder.{last_places}
 use Rattle.gix_traverse.specs.Topo.Inside.Steady.{IsTallied, IsHeld}
 use Rattle.gix_traverse.specs.Topo.Walk.{Ready, Chooses}
-use Rattle.gix_traverse.proofs.Topo.Taking.BecomeReady.{done_seen}
+use Rattle.gix_traverse.proofs.Topo.Counting.IndegreeZero.{done_seen}
 use Rattle.gix_traverse.proofs.Topo.Counting.ExploreKeeps.{explores_keep, explores_same, explores_done}
 use Rattle.gix_traverse.proofs.Topo.Counting.AllDownToDepth.{exact_there}
 use Rattle.gix_traverse.proofs.Topo.Reading.FoundIsStored.{found_text}
 use Rattle.gix_traverse.proofs.Topo.Counting.Children.{children_of, times-last, tally_takes}
-use Rattle.gix_traverse.proofs.Topo.Run.Theorem.{chosen_in, in_ids}
-use Rattle.gix_traverse.proofs.Topo.Taking.Taken.{ready_untaken}
+use Rattle.gix_traverse.proofs.Topo.Counting.Taken.{ready_untaken}
+use Rattle.gix_traverse.proofs.Topo.Ready.ReadyIds.{chosen_in, in_ids}
 
 module _ {F : Type 0} (objects : F → Objects) (faulty : F → ObjectId → Type 0) (w : Walk F) (rest : ReadySet) (r : Ready) (chosen : Chooses w.ready.sorting w.ready.commits r rest.commits) where
   abbrev those : Objects

@@ -19,7 +19,7 @@ use Rattle.gix_traverse.proofs.Topo.Taking.InvariantKept.{held_on, takes_on}
 use Rattle.gix_traverse.proofs.Topo.Taking.DepthLowered.{counts_taken}
 use Rattle.gix_traverse.proofs.Topo.Taking.TakingFaults.{taking_fault}
 use Rattle.gix_traverse.proofs.Topo.Run.Ends.{takes_left, next_left}
-use Rattle.gix_traverse.proofs.Topo.Run.Theorem.{chosen_in}
+use Rattle.gix_traverse.proofs.Topo.Ready.ReadyIds.{chosen_in}
 
 -- a walk without the commit whose turn it is goes over the same
 pub popped : {F : Type 0} (w : Walk F) (rest : ReadySet) → rest.sorting ≡ w.ready.sorting → plan_of (record w { ready = rest }) ≡ plan_of w

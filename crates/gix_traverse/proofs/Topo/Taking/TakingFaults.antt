@@ -35,17 +35,18 @@ use Rattle.gix_traverse.specs.Topo.Walk.{TopoPlan, Ready, ready_ids, Chooses, Is
 use Rattle.gix_traverse.proofs.Topo.Counting.ExploreKeeps.{explores_same, explores_made, explores_done, explores_idle}
 use Rattle.gix_traverse.proofs.Topo.Counting.Frontier.{has_seen}
 use Rattle.gix_traverse.proofs.Topo.Counting.Rest.{least_within}
-use Rattle.gix_traverse.proofs.Topo.Taking.BecomeReady.{text_left, text_outside}
-use Rattle.gix_traverse.proofs.Topo.Run.Theorem.{in_ids}
-use Rattle.gix_traverse.proofs.Topo.Taking.ReadFaults.{fault_item, exploring_fault, push_fault}
+use Rattle.gix_traverse.proofs.Topo.Counting.IndegreeZero.{text_left, text_outside}
 use Rattle.gix_traverse.proofs.Topo.Ready.IsReady.{last_from, last_once}
-use Rattle.gix_traverse.proofs.Topo.Taking.AllReleases.{IsReleased, uncounted_made, uncounted_moved, due_parts, released}
+use Rattle.gix_traverse.proofs.Topo.Taking.AllReleases.{IsReleased, uncounted_made, uncounted_moved, released}
 use Rattle.gix_traverse.proofs.Topo.Counting.Children.{children_of, was_ready_of, times-last, tally_counts}
 use Rattle.gix_traverse.proofs.Topo.Reading.ReadsCommit.{reads_text_next}
 use Rattle.gix_traverse.proofs.Shared.Rows.{none_agree}
-use Rattle.gix_traverse.proofs.Topo.Taking.Taken.{made_taken}
+use Rattle.gix_traverse.proofs.Topo.Counting.Taken.{made_taken}
 use Rattle.gix_traverse.proofs.Topo.Taking.Setting.{was_ready, plan_taken, was_untaken, named_text, parents_reached, counted_on, explored_on, tally_on}
 use Rattle.gix_traverse.proofs.Shared.NewIds.{among_times}
+use Rattle.gix_traverse.proofs.Topo.Ready.ReadyIds.{in_ids}
+use Rattle.gix_traverse.proofs.Topo.Counting.ReadFaults.{fault_item, exploring_fault, push_fault}
+use Rattle.gix_traverse.proofs.Topo.Counting.MakesReady.{due_parts}
 
 same_object : (a b : Object) → Some a ≡ Some b → a ≡ b
 same_object a b e = cc
@@ -162,11 +163,11 @@ module _ {F : Type 0} (objects : F → Objects) (faulty : F → ObjectId → Typ
       }
   among_fails plan Q base all once up ready {old} same part c (later {mid = mid} {i = i} {ids = ids} {first = first} r f) =
       let rel : IsReleased objects faulty old (i ∷ []) (first ++ []) mid = released objects faulty (more r none) in
-      among_fails plan Q base all once up ready {old = mid} (rel.plan ∙ same)
+      among_fails plan Q base all once up ready {old = mid} (rel.ready.plan ∙ same)
       (record {
         children = λ p. let s : times p all + children_of old.counting.frontier p ≡ children_of base p + times p (i ∷ ids) = part.children p in let k : (cond (is_same p i) 1 0 + 0) + children_of mid.counting.frontier p ≡ children_of old.counting.frontier p = rel.children p in omega arith;
-        seen = λ p. ap is_seen (rel.moved Ends p) ∙ part.seen p;
-        made = λ p e. part.made p (or_parts (is_among p (ready_ids (first ++ []))) (was_ready_of old.counting.frontier p) (sym (rel.made p) ∙ e)).1;
+        seen = λ p. ap is_seen (rel.ready.moved Ends p) ∙ part.seen p;
+        made = λ p e. part.made p (or_parts (is_among p (ready_ids (first ++ []))) (was_ready_of old.counting.frontier p) (sym (rel.ready.made p) ∙ e)).1;
         among = λ p m. part.among p (Contains-there p i ids m);
       })
       (λ a p. let l : times p (i ∷ ids) ≤ children_of old.counting.frontier p = c a p in let k : (cond (is_same p i) 1 0 + 0) + children_of mid.counting.frontier p ≡ children_of old.counting.frontier p = rel.children p in omega arith) f

@@ -3,6 +3,7 @@ use Rattle.std.proofs.Common.{◌≡◌, ℕ, zero, suc, ◌+◌, ◌-◌, ◌<�
 use Rattle.std.specs.List.{list_any}
 use Rattle.std.proofs.lemmas.List.{drop_all, reverse-append}
 use Rattle.std.proofs.lemmas.List.Folds.{list_any-append}
+use Rattle.std.proofs.Math.Bool.{or-false, or-true}
 use Rattle.gix_parts.specs.contracts.hash.ObjectIdPartialEq.TheImpl.{eq-value}
 use Rattle.gix_parts.specs.declared.hash.ObjectId.{ObjectId}
 use Rattle.gix_parts.specs.Id.{is_same, is_among}
@@ -72,21 +73,13 @@ others_of i trees k t h e s =
 
 -- the id is that of one of the trees
 pub known_found : (i root : ObjectId) (trees : List Tree) → is_of i trees ≡ true → true ≡ is_among i (root ∷ ids_down (reverse trees))
-known_found i root trees h = sym (ap (λ b. is_same i root || b) (among_back i trees ∙ h) ∙ or_true (is_same i root))
-  where
-    or_true : (b : Bool) → (b || true) ≡ true
-    or_true true = refl
-    or_true false = refl
+known_found i root trees h = sym (ap (λ b. is_same i root || b) (among_back i trees ∙ h) ∙ or-true (is_same i root))
 
 -- no tree above has the id, and so the comparison with the last decides
 pub known_last : (i root : ObjectId) (trees : List Tree) (k : ℕ) (r : Bool) → length trees ≤ k → is_of i (drop k trees) ≡ is_of i trees → r ≡ eq-value.it i root → r ≡ is_among i (root ∷ ids_down (reverse trees))
 known_last i root trees k r past same e =
     let none : is_of i trees ≡ false = sym same ∙ ap (λ l. is_of i l) (drop_all k trees past) in
-    sym (ap (λ b. is_same i root || b) (among_back i trees ∙ none) ∙ or_false (is_same i root) ∙ told_same i root r e)
-  where
-    or_false : (b : Bool) → (b || false) ≡ b
-    or_false true = refl
-    or_false false = refl
+    sym (ap (λ b. is_same i root || b) (among_back i trees ∙ none) ∙ or-false (is_same i root) ∙ told_same i root r e)
 
 drop_drop : (m k : ℕ) (xs : List ℕ) → drop k (drop m xs) ≡ drop (m + k) xs
 drop_drop zero k xs = ap (λ n. drop n xs) (sym (zero-add k))

@@ -1,5 +1,5 @@
 -- The walk by levels from a queue on is the walk by its steps.
-use Rattle.std.proofs.Common.{◌≡◌, ℕ, List, [], ◌∷◌, ◌++◌, length, map, Option, Some, None, Ok, Err, refl, sym, ap, ◌∙◌, subst, arith, append_assoc, length-append}
+use Rattle.std.proofs.Common.{◌≡◌, ℕ, List, [], ◌∷◌, ◌++◌, length, map, Option, Some, Ok, Err, refl, sym, ap, ◌∙◌, subst, arith, append_assoc, length-append}
 use Rattle.std.proofs.lemmas.List.{append-nil}
 use Rattle.std.specs.Prelude.{slice_get}
 use Rattle.std.specs.List.{flat_map}
@@ -12,6 +12,7 @@ use Rattle.gix_traverse.specs.Trees.Visits.{Items, Place, Visit, visit, inside, 
 use Rattle.gix_traverse.specs.Orders.LevelOrder.{entries_behind, entries_of, entries_by, FollowsInLevels, IsLevelOrder, BeginsInLevels, IsLevelBeginning}
 use Rattle.gix_traverse.specs.Trees.Script.{items_or_none, entries_in, entries_at, tasks_behind, Step, Visited, one_step_more, tasks_of, next_of_steps, LevelScript, IsLevelScript, whole, leaves, enters, breaks, cycles, turn, not_found, fault, no_memory_in_turn, no_memory_for_descent, refused}
 use Rattle.gix_traverse.proofs.Trees.Levels.Queue.{first_task, other_tasks, tasks_after, LevelFrom, split_front, no_front}
+use Rattle.gix_traverse.proofs.Shared.Lists.{past_end}
 
 pub first_behind : (passed tasks : List Task) → slice_get (passed ++ tasks) (length passed) ≡ first_task tasks
 first_behind [] [] = refl
@@ -108,10 +109,6 @@ shown_in-shows p (Err why ∷ items) = refl
 get_behind : {X : Type 0} (passed left : List X) → slice_get (passed ++ left) (length passed) ≡ slice_get left 0
 get_behind [] left = refl
 get_behind (x ∷ passed) left = get_behind passed left
-
-past_end : {X : Type 0} (xs : List X) → slice_get xs (length xs) ≡ None
-past_end [] = refl
-past_end (x ∷ xs) = past_end xs
 
 module _ (trees : ObjectId → Option Items) where
   shown_of_visit : (p : Place) (e : TreeEntry) (o : Outcome) → shown_in (tasks_behind trees p e o) ≡ entries_behind (entries_at trees) p e o

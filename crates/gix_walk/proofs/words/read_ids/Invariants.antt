@@ -1,4 +1,4 @@
-use Rattle.std.specs.Prelude.{List, Result, Ok, Err, ◌++◌}
+use Rattle.std.specs.Prelude.{Result, Ok, Err, ◌++◌}
 use Rattle.std.proofs.Common.{◌≡◌, ◌+◌, map, drop, string_bytes}
 use Rattle.gix_walk.specs.declared.fault.Fault.{Fault}
 use Rattle.gix_walk.specs.Words.{Ids, ids_from}

@@ -1,9 +1,9 @@
 use Rattle.std.proofs.Common.{refl}
 use Rattle.gix_traverse.specs.Topo.Inside.Releasing.{plan_over}
-use Rattle.gix_traverse.proofs.Topo.Taking.ReadFaults.{start_fault}
 use Rattle.gix_traverse.proofs.Topo.Starting.OneTip.{begun_by, fault_by, plan_before, begun_walk}
 use Rattle.gix_traverse.proofs.Topo.Counting.MeetsParents.{err_from}
 use Rattle.gix_traverse.proofs.commit.topo.walk.Walk.begin.Goals as goal
+use Rattle.gix_traverse.proofs.Topo.Starting.StartFaults.{start_fault}
 
 pub returns-in_err-counting-clause-fault : goal.returns-in_err-counting-clause-fault
 returns-in_err-counting-clause-fault g c =

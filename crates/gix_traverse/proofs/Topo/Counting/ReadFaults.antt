@@ -1,5 +1,5 @@
--- When a topological walk fails.
-use Rattle.std.specs.Prelude.{◌≡◌, ◌≢◌, ◌≤◌, ℕ, List, [], ◌∷◌, ◌++◌, Bool, true, false, ◌&&◌, cond, Some, None, Result, Ok, Err, Contains}
+-- When a fault of reading comes: while exploring, and where a commit would become ready.
+use Rattle.std.specs.Prelude.{◌≡◌, ◌≢◌, ◌≤◌, ℕ, List, [], ◌∷◌, Bool, true, ◌&&◌, cond, Some, None, Result, Ok, Err, Contains}
 use Rattle.std.proofs.Common.{refl, sym, ap, subst, ⊎_elim, ◌∙◌, arith, inl, inr}
 use Rattle.gix_parts.specs.declared.hash.ObjectId.{ObjectId}
 use Rattle.gix_parts.specs.declared.object.decode.Error.{Error as DecodeError}
@@ -21,27 +21,18 @@ use Rattle.gix_traverse.specs.declared.commit.topo.frontier.Waiting.{Waiting}
 use Rattle.gix_traverse.specs.declared.commit.topo.walk.Walk.{Walk}
 use Rattle.gix_traverse.specs.History.Agreeing.{IsAgreeing}
 use Rattle.gix_traverse.specs.Topo.Inside.Exploring.{IsExploringFault}
-use Rattle.gix_traverse.specs.Topo.Inside.Frontier.{is_side, is_seen, is_queued, known_of, reached, waiting}
+use Rattle.gix_traverse.specs.Topo.Inside.Frontier.{is_side, is_seen, is_queued, reached, waiting}
 use Rattle.gix_traverse.specs.History.Commits.{ReadsWhole, parents_of, commit_of_object}
-use Rattle.gix_traverse.specs.History.Reach.{Reaches, start}
+use Rattle.gix_traverse.specs.History.Reach.{Reaches}
 use Rattle.gix_traverse.specs.History.Reading.{rows_of, IsReadFault}
 use Rattle.gix_traverse.specs.Topo.Inside.Releasing.{plan_by, plan_of, IsPushFault, itself, parent}
 use Rattle.gix_traverse.specs.Topo.Inside.Searched.{IsCounted, next_by, starts_by}
-use Rattle.gix_traverse.specs.Topo.Inside.Starting.{HasBegun, IsStartFault, here, later, short}
-use Rattle.gix_traverse.specs.Topo.Depth.{infinity, known_generation}
-use Rattle.gix_traverse.specs.Topo.Walk.{TopoPlan, walked_of, IsSound, IsWalkable, IsFirstReady, IsFault, IsBuildFault, IsReached, IsLookedUp}
-use Rattle.std.proofs.lemmas.Bool.{true≢false}
-use Rattle.std.proofs.lemmas.List.Elements.{Contains-append_left}
-use Rattle.gix_traverse.proofs.Topo.Counting.Children.{children_of, was_ready_of}
-use Rattle.gix_traverse.proofs.Topo.Counting.Frontier.{has_seen}
-use Rattle.gix_traverse.proofs.Topo.Counting.Rest.{least_within}
-use Rattle.gix_traverse.proofs.Topo.Starting.AllTips.{AreStarted, started_one}
-use Rattle.gix_traverse.proofs.Topo.Taking.AllReleases.{due_parts}
-use Rattle.gix_traverse.proofs.Topo.Taking.BecomeReady.{text_tips, text_ends, text_left, text_outside}
+use Rattle.gix_traverse.specs.Topo.Walk.{TopoPlan, walked_of, IsSound, IsFault, IsReached, IsLookedUp}
+use Rattle.gix_traverse.proofs.Topo.Counting.IndegreeZero.{text_tips, text_ends}
 use Rattle.gix_traverse.proofs.Shared.Committer.{fault_unread}
 use Rattle.gix_traverse.proofs.Topo.Counting.ExploreKeeps.{explores_keep, explores_same}
 use Rattle.gix_traverse.proofs.Topo.Reading.ReadsCommit.{reads_text_next}
-use Rattle.gix_traverse.proofs.Topo.Counting.BothSearches.{side_itself}
+use Rattle.gix_traverse.proofs.Topo.Counting.Frontier.{side_itself}
 use Rattle.gix_traverse.proofs.Shared.ReadsWhole.{no_fault}
 use Rattle.gix_traverse.proofs.Shared.TextParents.{text_whole}
 
@@ -72,10 +63,6 @@ pub read_misses_no_count : (objects : Objects) (faulty : ObjectId → Type 0) (i
 read_misses_no_count objects faulty i e f = λ q. subst (IsReadFault objects faulty i) q f
 
 module _ {F : Type 0} (objects : F → Objects) (faulty : F → ObjectId → Type 0) (plan : TopoPlan F) where
-  -- where all that may be looked up reads whole, all that is walked does
-  pub walkable : IsSound objects faulty plan → IsWalkable objects faulty plan
-  walkable s = record { agreeing = s.agreeing; tips_whole = s.tips_whole; ends_whole = s.ends_whole }
-
   -- what is reached reads whole then
   pub reached_whole : IsSound objects faulty plan → (side : Side) (i : ObjectId) → Reaches (next_by (objects plan.store) plan.parents side) (starts_by plan.tips plan.ends side) i → ReadsWhole (objects plan.store) i
   reached_whole s Tips i r = s.tips_whole i (text_tips (objects plan.store) (faulty plan.store) plan.rows plan.parents plan.tips plan.ends s.agreeing s.tips_whole s.ends_whole i r)
@@ -120,37 +107,6 @@ module _ {F : Type 0} (objects : F → Objects) (faulty : F → ObjectId → Typ
           s.parents_whole i p reach (subst (λ ids. Contains ids p) same m)
 
   -- nor does making a commit ready
-  push_misses_no_count : (old : Walk F) (i : ObjectId) (e : Error) → IsPushFault objects faulty old i e → e ≢ error.MissingIndegreeUnexpected
+  pub push_misses_no_count : (old : Walk F) (i : ObjectId) (e : Error) → IsPushFault objects faulty old i e → e ≢ error.MissingIndegreeUnexpected
   push_misses_no_count old i e (itself f) = read_misses_no_count (objects old.counting.reader.find) (faulty old.counting.reader.find) i e f
   push_misses_no_count old i e (parent {p = p} reads m f) = read_misses_no_count (objects old.counting.reader.find) (faulty old.counting.reader.find) p e f
-
-  -- a tip that is due when counting has begun becomes ready
-  module _ (plan : TopoPlan F) (c : Counting F) (begun : HasBegun objects faulty plan c) where
-    first_ready : IsAgreeing (objects plan.store) plan.rows → (i : ObjectId) → Contains plan.tips i → children_of c.frontier i ≡ 0 → has_seen c.frontier Ends i ≡ false → IsFirstReady objects plan i
-    first_ready a i m z u = record {
-      tip = m;
-      childless = record {
-        member = record { reached = start m; outside = text_outside (objects plan.store) (faulty plan.store) plan.rows plan.parents plan.tips plan.ends a c.frontier c.depth (begun.explored a) i u high };
-        alone = λ d k. true≢false (sym (text_left (objects plan.store) (faulty plan.store) plan.rows plan.parents plan.tips plan.ends a c.frontier c.depth (begun.explored a) (λ j. false) (children_of c.frontier) (begun.counted (λ j. false) (λ j. refl) a).tally i z high d k.child.reached k.named));
-      };
-    }
-      where
-        high : c.depth ≤ known_generation plan.rows i
-        high = subst (λ d. d ≤ known_generation plan.rows i) (sym begun.depth) (least_within plan.rows infinity (plan.tips ++ plan.ends) i (Contains-append_left plan.tips plan.ends i m))
-
-    start_fails : {old : Walk F} {ids : List ObjectId} {e : Error} → plan_of old ≡ plan → ((j : ObjectId) → has_seen old.counting.frontier Ends j ≡ has_seen c.frontier Ends j) → ((j : ObjectId) → children_of old.counting.frontier j ≡ children_of c.frontier j) → ((i : ObjectId) → Contains ids i → Contains plan.tips i) → IsStartFault objects faulty old ids e → IsBuildFault objects faulty plan e
-    start_fails {old} {e = e} same seen counts all (here {i = i} {ids = ids} d f) =
-        let parts : (children_of old.counting.frontier i ≡ 0) × (has_seen old.counting.frontier Ends i ≡ false) × (was_ready_of old.counting.frontier i ≡ false) = due_parts objects faulty (children_of old.counting.frontier i) (known_of old.counting.frontier.known i) d in
-        let tip : Contains plan.tips i = all i (Contains-here i ids) in (
-          push_misses_no_count old i e f,
-          subst (λ p. IsFault objects faulty p (IsFirstReady objects plan) e) same
-              (push_fault (IsFirstReady objects plan) old i e (λ a. start (subst (λ p. Contains p.tips i) (sym same) tip)) (λ a. first_ready (subst (λ p. IsAgreeing (objects p.store) p.rows) same a) i tip (sym (counts i) ∙ parts.0) (sym (seen i) ∙ parts.1)) f),
-        )
-    start_fails same seen counts all (later {mid = mid} {i = i} {ids = ids} {first = first} s f) =
-        let by : AreStarted objects faulty _ (i ∷ []) first mid = started_one objects faulty s in
-        start_fails (by.plan ∙ same) (λ j. ap is_seen (by.moved Ends j) ∙ seen j) (λ j. by.children j ∙ counts j) (λ j m. all j (Contains-there j i ids m)) f
-    start_fails same seen counts all short = ((λ q. cc), tt)
-
-  -- starting fails
-  pub start_fault : (plan : TopoPlan F) (first : Walk F) → HasBegun objects faulty plan first.counting → plan_of first ≡ plan → (ids : List ObjectId) → ((i : ObjectId) → Contains ids i → Contains plan.tips i) → (e : Error) → IsStartFault objects faulty first ids e → IsBuildFault objects faulty plan e
-  start_fault plan first begun same ids all e f = start_fails plan first.counting begun same (λ j. refl) (λ j. refl) all f

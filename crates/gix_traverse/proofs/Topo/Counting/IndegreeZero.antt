@@ -1,4 +1,4 @@
--- The parents of a taken commit that are added are those that became ready.
+-- What indegree 0 means after exploring: no child is left that wasn't taken; and what the ends reach was seen.
 use Rattle.std.specs.Prelude.{◌≡◌, ◌≤◌, ℕ, zero, suc, List, Bool, true, false, Contains}
 use Rattle.std.proofs.Common.{refl, sym, subst, ◌∙◌, arith}
 use Rattle.std.proofs.lemmas.Bool.{true≢false}
