@@ -93,7 +93,7 @@ pub enum Token<'a> {
 }
 
 // Which item may come next.
-#[derive(Clone, Copy, PartialEq, Eq, Debug)]
+#[derive(Clone, Copy, Debug)]
 enum Place {
     Tree,
     Parents,

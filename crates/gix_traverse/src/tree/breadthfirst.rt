@@ -71,7 +71,7 @@ impl From<AllocError> for Error {
 
 // A tree that was met: its id, and how many trees had had their turn by then. The last of these holds it, or the root does
 // where there is none.
-#[derive(Clone, Copy, PartialEq, Eq, Debug)]
+#[derive(Clone, Copy)]
 struct Tree {
     oid: ObjectId,
     turn: usize,

@@ -81,7 +81,7 @@ struct Tree {
 }
 
 // Where a walk leaves a tree.
-#[derive(Clone, Copy, PartialEq, Eq, Debug)]
+#[derive(Clone, Copy)]
 enum Stop {
     // At its end.
     End,

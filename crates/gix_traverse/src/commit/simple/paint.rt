@@ -57,7 +57,7 @@ impl From<AllocError> for Hidden {
 }
 
 // What is known of an id: that a hidden tip reaches it, or else that a visible one does.
-#[derive(Clone, Copy, PartialEq, Eq, Debug)]
+#[derive(Clone, Copy)]
 struct Marks(u8);
 
 bitflag_items! {
@@ -138,7 +138,7 @@ fn is_hidden(marks: &IdMap<Marks>, id: &ObjectId) -> bool
 }
 
 // For which tips a commit is read: those of the walk, or the hidden ones.
-#[derive(Clone, Copy, PartialEq, Eq, Debug)]
+#[derive(Clone, Copy)]
 enum Side {
     Visible,
     Hidden,

@@ -13,7 +13,7 @@ use std::marker::Model;
 use std::mem;
 
 // A pending commit, with the time by which it is taken (0 where none was read).
-#[derive(Clone, Copy, PartialEq, Eq, Debug)]
+#[derive(Clone, Copy)]
 pub(super) struct Pending {
     pub(super) id: ObjectId,
     pub(super) time: i64,

@@ -26,7 +26,7 @@ use gix_parts::object::find::{Find, existing_iter};
 use std::alloc::{AllocError, Global};
 
 // Why the treatment of a commit's parents stopped.
-#[derive(Clone, Copy, PartialEq, Eq, Debug)]
+#[derive(Clone, Copy)]
 pub(super) enum Stop {
     // The store failed at a parent that was asked for its time.
     Store,

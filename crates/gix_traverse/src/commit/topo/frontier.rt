@@ -11,14 +11,14 @@ use std::alloc::{AllocError, Global};
 use std::marker::Model;
 
 /// Which search met an id.
-#[derive(Clone, Copy, Debug, PartialEq, Eq)]
+#[derive(Clone, Copy)]
 pub(super) enum Side {
     Tips,
     Ends,
 }
 
 /// How far a search has come with an id.
-#[derive(Clone, Copy, Debug, PartialEq, Eq)]
+#[derive(Clone, Copy)]
 pub(super) enum Progress {
     Unseen,
     /// It waits in the queue.
@@ -28,7 +28,7 @@ pub(super) enum Progress {
 }
 
 /// What was done with an id. One that a side met waits in the queue until the side has done it.
-#[derive(Clone, Copy, PartialEq, Eq, Debug)]
+#[derive(Clone, Copy)]
 struct Marks(u8);
 
 bitflag_items! {
@@ -184,7 +184,7 @@ impl Known {
 }
 
 /// An id whose parents a search has still to read.
-#[derive(Clone, Copy, Debug)]
+#[derive(Clone, Copy)]
 pub(super) struct Waiting {
     pub(super) id: ObjectId,
     pub(super) side: Side,

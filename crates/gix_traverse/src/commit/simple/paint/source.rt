@@ -13,7 +13,7 @@ use gix_parts::object::find::Find;
 use std::alloc::Global;
 
 // The generation in a commit's row. Without a row it counts as greater than that of any row.
-#[derive(Clone, Copy, PartialEq, Eq, PartialOrd, Ord, Debug)]
+#[derive(Clone, Copy, PartialEq, Eq, PartialOrd, Ord)]
 pub(super) enum Generation {
     Told(u32),
     Infinite,
@@ -21,7 +21,7 @@ pub(super) enum Generation {
 
 // The greatest key is taken first. Parents have lesser generations, so what is taken is reached by nothing that still waits.
 // Among equal generations, as without rows, a greater time lets both sides meet early.
-#[derive(Clone, Copy, PartialEq, Eq, PartialOrd, Ord, Debug)]
+#[derive(Clone, Copy, PartialEq, Eq, PartialOrd, Ord)]
 pub(super) struct Key {
     pub(super) generation: Generation,
     pub(super) time: i64,
