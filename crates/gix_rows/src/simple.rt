@@ -433,19 +433,3 @@ impl<'a> table::Table for Table<'a> {
         wish.tell(alloc, &failing, graph, self.history.commits, told)
     }
 }
-
-#[cfg(test)]
-mod tests {
-    use super::*;
-    use crate::table::tests::check;
-    use std::test::Fail;
-
-    #[test]
-    fn rows(rt: HostRuntime) -> Result<(), Fail> {
-        check(rt.alloc(), "breadth", &breadth::TABLES)?;
-        check(rt.alloc(), "faults", &faults::TABLES)?;
-        check(rt.alloc(), "times", &times::TABLES)?;
-        check(rt.alloc(), "hiding", &hiding::TABLES)?;
-        check(rt.alloc(), "graphs", &graphs::TABLES)
-    }
-}

@@ -299,34 +299,3 @@ impl<'a> table::Table for Table<'a> {
         Ok(tell(alloc, &failing, case, told)?)
     }
 }
-
-#[cfg(test)]
-mod tests {
-    use super::*;
-    use crate::table::tests::{check, check_print};
-    use gix_parts::object::decode;
-    use gix_parts::object::find::existing_iter;
-    use std::test::Fail;
-
-    #[test]
-    fn rows(rt: HostRuntime) -> Result<(), Fail> {
-        check(rt.alloc(), "calls", &calls::TABLES)?;
-        check(rt.alloc(), "recorded", &recorded::TABLES)
-    }
-
-    #[test]
-    fn faults_print_what_they_hold(rt: HostRuntime) -> Result<(), Fail> {
-        let missing = existing_iter::Error::NotFound { oid: id(6) };
-        check_print(rt.alloc(), &Error::from(missing), &missing)?;
-        let broken = decode::Error::EntryId;
-        check_print(rt.alloc(), &Error::from(broken), &broken)?;
-        check_print(
-            rt.alloc(),
-            &Error::Cancelled,
-            &"The delegate cancelled the operation",
-        )?;
-        assert_eq!(rt; Error::from(existing_iter::Error::Memory), Error::Memory);
-        assert_eq!(rt; Error::from(AllocError), Error::Memory);
-        Ok(())
-    }
-}

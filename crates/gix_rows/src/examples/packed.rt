@@ -28,23 +28,3 @@ pub fn graph_of_two(
     ]?;
     Graph::new(alloc, rows)
 }
-
-#[cfg(test)]
-mod tests {
-    use super::*;
-    use crate::history::id;
-    use gix_parts::graph::Position;
-    use std::test::Fail;
-
-    #[test]
-    fn rows_are_numbered_by_rising_ids(rt: HostRuntime) -> Result<(), Fail> {
-        let graph = graph_of_two(rt.alloc(), id(0), id(7), id(3))?;
-        assert_eq!(rt; graph.num_commits(), 2);
-        let first = match graph.commit_by_id(&id(3)) {
-            Some(child) => child.iter_parents().next(),
-            None => None,
-        };
-        assert_eq!(rt; first, Some(Ok(Position(1))));
-        Ok(())
-    }
-}

@@ -21,21 +21,3 @@ impl<F: Find> Find for Retry<F> {
         }
     }
 }
-
-#[cfg(test)]
-mod tests {
-    use super::*;
-    use crate::history::{PLAIN, id};
-    use std::test::Fail;
-
-    #[test]
-    fn what_the_store_has_is_found(rt: HostRuntime) -> Result<(), Fail> {
-        let retry = Retry {
-            store: PLAIN.store(rt.alloc())?,
-        };
-        let mut buf = Vec::new(rt.alloc());
-        let found = retry.find_into(&id(8), &mut buf)?;
-        assert_eq!(rt; found, Some(Kind::Commit));
-        Ok(())
-    }
-}

@@ -16,20 +16,3 @@ The first commit
     store.insert(id, Kind::Commit, commit)?;
     Ok(store)
 }
-
-#[cfg(test)]
-mod tests {
-    use super::*;
-    use crate::history::id;
-    use gix_parts::object::find::Find;
-    use std::test::Fail;
-
-    #[test]
-    fn the_commit_has_its_time(rt: HostRuntime) -> Result<(), Fail> {
-        let store = store_of_one(rt.alloc(), id(1))?;
-        let mut buf = Vec::new(rt.alloc());
-        let committer = store.find_commit_iter(&id(1), &mut buf)?.committer()?;
-        assert_eq!(rt; committer.seconds(), 200);
-        Ok(())
-    }
-}

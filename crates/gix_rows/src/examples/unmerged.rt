@@ -23,22 +23,3 @@ pub fn unmerged<F: Find + Drop>(
     }
     Ok(ids)
 }
-
-#[cfg(test)]
-mod tests {
-    use super::*;
-    use crate::history::{PLAIN, digit, id};
-    use std::test::Fail;
-
-    #[test]
-    fn the_sample_without_what_7_reaches(rt: HostRuntime) -> Result<(), Fail> {
-        let store = PLAIN.store(rt.alloc())?;
-        let ids = unmerged(rt.alloc(), &store, id(8), id(7))?;
-        let mut told = String::new(rt.alloc());
-        for id in ids.iter() {
-            write!(told, "{} ", digit(id))?;
-        }
-        assert_eq!(rt; told.as_str(), "8 6 5 3 ");
-        Ok(())
-    }
-}

@@ -95,27 +95,3 @@ pub static TABLES: [Table<'static>; 7] = [
         ..OF_SAMPLE
     },
 ];
-
-#[cfg(test)]
-mod tests {
-    use crate::history::{id, ids};
-    use gix_traverse::commit::{Info, ParentIds};
-    use std::alloc::{AllocError, Global};
-    use std::test::Fail;
-
-    /// Commit n with these parents, as it is given.
-    fn info(alloc: Global, n: u8, parents: &[u8]) -> Result<Info, AllocError> {
-        Ok(Info {
-            id: id(n),
-            parent_ids: ParentIds::from_slice(alloc, ids(alloc, parents)?.as_slice())?,
-            generation: None,
-            commit_time: None,
-        })
-    }
-
-    #[test]
-    fn commits_are_ordered_by_their_ids(rt: HostRuntime) -> Result<(), Fail> {
-        assert!(rt; info(rt.alloc(), 6, &[5])? < info(rt.alloc(), 8, &[6, 7])?);
-        Ok(())
-    }
-}

@@ -178,35 +178,3 @@ pub static TABLES: [Table<'static>; 14] = [
         ..OF_SAMPLE
     },
 ];
-
-#[cfg(test)]
-mod tests {
-    use crate::history::{EMPTY, History};
-    use crate::simple::{ALL, BY_TIME, Wish};
-    use std::alloc::Global;
-    use std::test::Fail;
-
-    /// What a walk gives, newest first, where no parent of 8 is stored.
-    fn without_parents(alloc: Global) -> Result<String, Fail> {
-        let history = History {
-            commits: &[(8, &[6, 7])],
-            ..EMPTY
-        };
-        let wish = Wish {
-            sortings: BY_TIME,
-            ..ALL
-        };
-        let mut told = String::new(alloc);
-        wish.tell(alloc, &history.store(alloc)?, None, &[], &mut told)?;
-        Ok(told)
-    }
-
-    /// Which of them comes first is open.
-    #[test]
-    fn parents_that_are_not_stored(rt: HostRuntime) -> Result<(), Fail> {
-        let told = without_parents(rt.alloc())?;
-        let told = told.as_str();
-        assert!(rt; told == "8 missing-6 missing-7" || told == "8 missing-7 missing-6");
-        Ok(())
-    }
-}

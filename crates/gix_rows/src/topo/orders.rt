@@ -237,30 +237,3 @@ pub static TABLES: [Table<'static>; 24] = [
         ..OF_SAMPLE
     },
 ];
-
-#[cfg(test)]
-mod tests {
-    use crate::history::PLAIN;
-    use crate::table::tests::check_rows;
-    use crate::topo::{OF_SAMPLE, Table};
-    use std::alloc::Global;
-    use std::test::Fail;
-
-    fn check_failing(alloc: Global, n: u8) -> Result<(), Fail> {
-        let table = Table {
-            history: PLAIN,
-            fails: Some(n),
-            cases: &[(&[8], &[], "no walk: store")],
-            ..OF_SAMPLE
-        };
-        check_rows(alloc, &table, "failing", usize::from(n))
-    }
-
-    #[test]
-    fn a_store_that_fails(rt: HostRuntime) -> Result<(), Fail> {
-        for n in 1..9u8 {
-            check_failing(rt.alloc(), n)?;
-        }
-        Ok(())
-    }
-}

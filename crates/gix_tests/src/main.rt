@@ -2,6 +2,9 @@
 //! has the answers so far and `out of memory`. Writing itself asks for none.
 #![tactic(auto)]
 
+#[cfg(test)]
+mod tests;
+
 use gix_rows::history::By;
 use gix_rows::table::Table;
 use gix_rows::words::Stop;

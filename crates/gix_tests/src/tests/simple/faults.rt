@@ -1,0 +1,72 @@
+//! Texts cut at each length, and what faults print.
+use crate::tests::check_print;
+use gix_parts::object::find::existing_iter;
+use gix_parts::object::{Kind, decode};
+use gix_rows::history::{EMPTY, History, TREE, id, text};
+use gix_rows::simple::{ALL, Detail, Wish};
+use gix_traverse::commit::Parents;
+use gix_traverse::commit::simple::{CommitTimeOrder, Error, Hidden, Sorting};
+use std::alloc::Global;
+use std::test::Fail;
+
+/// What a walk from commit 2 gives where its text ends after `length` bytes.
+fn cut(alloc: Global, length: usize) -> Result<String, Fail> {
+    let history = History {
+        commits: &[(1, &[])],
+        ..EMPTY
+    };
+    let mut store = history.store(alloc)?;
+    let whole = text(alloc, TREE, 2, &[id(1)])?;
+    let front = whole.as_str().as_bytes().get(..length).ok_or("too long")?;
+    store.insert(id(2), Kind::Commit, front)?;
+    let wish = Wish {
+        tips: &[2],
+        detail: Detail::All,
+        ..ALL
+    };
+    let mut told = String::new(alloc);
+    wish.tell(alloc, &store, None, &[], &mut told)?;
+    Ok(told)
+}
+
+#[test]
+fn a_text_cut_at_each_length(rt: HostRuntime) -> Result<(), Fail> {
+    for length in 0..145usize {
+        let want = match length {
+            0 | 46 => "2()",
+            1..46 => "broken-Tree",
+            47..53 => "broken-Author",
+            53..94 => "broken-Parent",
+            95..117 => "broken-Author 1()",
+            _ => "2(1,) 1()",
+        };
+        let told = cut(rt.alloc(), length)?;
+        assert_eq!(rt; told.as_str(), want, "after {length} bytes");
+    }
+    Ok(())
+}
+
+#[test]
+fn faults_print_what_they_hold(rt: HostRuntime) -> Result<(), Fail> {
+    let missing = existing_iter::Error::NotFound { oid: id(6) };
+    check_print(rt.alloc(), &Error::from(missing), &missing)?;
+    check_print(rt.alloc(), &Error::from(Hidden::Find(missing)), &missing)?;
+    let broken = decode::Error::Parent;
+    check_print(rt.alloc(), &Error::from(broken), &broken)?;
+    let hidden = Hidden::ObjectDecode(decode::Error::Missing);
+    check_print(rt.alloc(), &Error::from(hidden), &decode::Error::Missing)
+}
+
+#[test]
+fn out_of_memory_is_memory(rt: HostRuntime) {
+    let wanting = existing_iter::Error::Memory;
+    assert_eq!(rt; Error::from(wanting), Error::Memory);
+    assert_eq!(rt; Error::from(Hidden::Find(wanting)), Error::Memory);
+}
+
+#[test]
+fn defaults(rt: HostRuntime) {
+    assert_eq!(rt; Parents::default(), Parents::All);
+    assert_eq!(rt; CommitTimeOrder::default(), CommitTimeOrder::NewestFirst);
+    assert_eq!(rt; Sorting::default(), Sorting::BreadthFirst);
+}

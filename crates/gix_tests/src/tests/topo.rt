@@ -1,0 +1,61 @@
+//! Topological walks.
+mod counts;
+
+use crate::tests::{check, check_print, check_rows};
+use gix_parts::object::decode;
+use gix_parts::object::find::existing_iter;
+use gix_rows::history::PLAIN;
+use gix_rows::topo::{OF_SAMPLE, Table, orders};
+use gix_traverse::commit::topo::{Error, Sorting};
+use std::alloc::{AllocError, Global};
+use std::test::Fail;
+
+#[test]
+fn rows(rt: HostRuntime) -> Result<(), Fail> {
+    check(rt.alloc(), "orders", &orders::TABLES)?;
+    check(rt.alloc(), "counts", &gix_rows::topo::counts::TABLES)
+}
+
+#[test]
+fn a_fault_says_what_it_holds(rt: HostRuntime) -> Result<(), Fail> {
+    let alloc = rt.alloc();
+    check_print(
+        alloc,
+        &Error::MissingIndegreeUnexpected,
+        &"Indegree information is missing",
+    )?;
+    check_print(
+        alloc,
+        &Error::MissingStateUnexpected,
+        &"Internal state (bitflags) not found",
+    )?;
+    let held = existing_iter::Error::Store;
+    check_print(alloc, &Error::from(held), &held)?;
+    let held = decode::Error::Parent;
+    check_print(alloc, &Error::from(held), &held)
+}
+
+#[test]
+fn out_of_memory_is_memory(rt: HostRuntime) {
+    assert_eq!(rt; Error::from(existing_iter::Error::Memory), Error::Memory);
+    assert_eq!(rt; Error::from(AllocError), Error::Memory);
+    assert_eq!(rt; Sorting::default(), Sorting::DateOrder);
+}
+
+fn check_failing(alloc: Global, n: u8) -> Result<(), Fail> {
+    let table = Table {
+        history: PLAIN,
+        fails: Some(n),
+        cases: &[(&[8], &[], "no walk: store")],
+        ..OF_SAMPLE
+    };
+    check_rows(alloc, &table, "failing", usize::from(n))
+}
+
+#[test]
+fn a_store_that_fails(rt: HostRuntime) -> Result<(), Fail> {
+    for n in 1..9u8 {
+        check_failing(rt.alloc(), n)?;
+    }
+    Ok(())
+}
