@@ -8,7 +8,6 @@ use Rattle.gix_parts.specs.declared.hash.ObjectId.{ObjectId}
 use Rattle.gix_parts.specs.Id.{id_cmp}
 use Rattle.gix_parts.specs.Object.{Objects}
 use Rattle.gix_parts.specs.Rows.{GraphRow, row_of}
-use Rattle.gix_traverse.specs.declared.commit.simple.paint.Marks.{Marks}
 use Rattle.gix_traverse.specs.declared.commit.simple.paint.Side.{Side}
 use Rattle.gix_traverse.specs.declared.commit.simple.paint.Side.TheVariants as side
 use Rattle.gix_traverse.specs.declared.commit.simple.paint.source.Key.{Key}
@@ -30,7 +29,7 @@ contains-hidden marks i =
     ∙ ap (λ b. b && is_hidden marks i) (set.contains-from_list id_total (map_of.keys marks) i ∙ sym (map_of.contains_key-keys marks i))
     ∙ go (map_of.get marks i)
   where
-    go : (o : Option Marks) → (is_some o && hides o) ≡ hides o
+    go : (o : Option Side) → (is_some o && hides o) ≡ hides o
     go None = refl
     go (Some m) = refl
 

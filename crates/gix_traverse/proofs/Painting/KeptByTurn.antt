@@ -14,7 +14,6 @@ use Rattle.gix_parts.specs.Object.{Objects}
 use Rattle.gix_parts.specs.PriorityQueue.{keys}
 use Rattle.gix_parts.specs.Rows.{GraphRow, row_of}
 use Rattle.gix_traverse.specs.contracts.commit.simple.paint.source.KeyOrd.TheImpl.{cmp-value}
-use Rattle.gix_traverse.specs.declared.commit.simple.paint.Marks.{Marks}
 use Rattle.gix_traverse.specs.declared.commit.simple.paint.Side.{Side}
 use Rattle.gix_traverse.specs.declared.commit.simple.paint.Side.TheVariants as side
 use Rattle.gix_traverse.specs.declared.commit.simple.paint.source.Generation.TheVariants.{Told, Infinite}
@@ -42,7 +41,7 @@ member_of s some = go (set.items s) refl
         absurd (some (ap set.len none ∙ set.len-empty id_cmp))
     go (x ∷ items) e = (x, set.contains-items s x ∙ ap (list_any (eq_by_cmp id_cmp x)) e ∙ or_left _ _ (same_itself x))
 
-pub open_read : (o : Option Marks) → state_by o true ≡ Open → state_by o false ≡ Read
+pub open_read : (o : Option Side) → state_by o true ≡ Open → state_by o false ≡ Read
 open_read None e = cc
 open_read (Some m) e = go (hides (Some m)) e
   where
@@ -50,7 +49,7 @@ open_read (Some m) e = go (hides (Some m)) e
     go true e = cc
     go false e = refl
 
-pub shut : (o : Option Marks) → state_by o false ≢ Open
+pub shut : (o : Option Side) → state_by o false ≢ Open
 shut None = λ e. cc
 shut (Some m) = go (hides (Some m))
   where

@@ -9,7 +9,7 @@ use Rattle.gix_parts.specs.declared.hash.ObjectId.{ObjectId}
 use Rattle.gix_parts.specs.Id.{id_cmp}
 use Rattle.gix_parts.specs.Object.{Objects}
 use Rattle.gix_parts.specs.Rows.{GraphRow, row_of}
-use Rattle.gix_traverse.specs.declared.commit.simple.paint.Marks.{Marks}
+use Rattle.gix_traverse.specs.declared.commit.simple.paint.Side.{Side}
 use Rattle.gix_traverse.specs.declared.commit.simple.paint.Side.TheVariants as side
 use Rattle.gix_traverse.specs.declared.commit.simple.paint.source.Key.{Key}
 use Rattle.gix_traverse.specs.declared.commit.simple.paint.source.Generation.TheVariants.{Told}
@@ -29,7 +29,7 @@ use Rattle.gix_parts.proofs.Ids.Membership.{no_member, Contains-here}
 use Rattle.gix_traverse.proofs.Shared.Rows.{none_agree}
 use Rattle.gix_traverse.proofs.Shared.ReadsWhole.{row_stands}
 
-hidden_state : (o : Option Marks) (waiting : Bool) → state_by o waiting ≡ Hides → hides o ≡ true
+hidden_state : (o : Option Side) (waiting : Bool) → state_by o waiting ≡ Hides → hides o ≡ true
 hidden_state None waiting e = cc
 hidden_state (Some m) waiting e = go (hides (Some m)) waiting e
   where
@@ -41,7 +41,7 @@ hidden_state (Some m) waiting e = go (hides (Some m)) waiting e
 no_greater : (a b : ℕ) → a < b → b < a → ⊥
 no_greater a b l m = omega arith
 
-open_waits : (o : Option Marks) (waiting : Bool) → state_by o waiting ≡ Open → waiting ≡ true
+open_waits : (o : Option Side) (waiting : Bool) → state_by o waiting ≡ Open → waiting ≡ true
 open_waits None waiting e = cc
 open_waits (Some m) waiting e = go (hides (Some m)) waiting e
   where

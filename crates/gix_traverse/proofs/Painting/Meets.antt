@@ -11,7 +11,6 @@ use Rattle.gix_parts.specs.declared.hash.ObjectId.{ObjectId}
 use Rattle.gix_parts.specs.Id.{is_same, is_among}
 use Rattle.gix_parts.specs.Object.{Objects}
 use Rattle.gix_parts.specs.Rows.{GraphRow, row_of}
-use Rattle.gix_traverse.specs.declared.commit.simple.paint.Marks.{Marks}
 use Rattle.gix_traverse.specs.declared.commit.simple.paint.Side.{Side}
 use Rattle.gix_traverse.specs.declared.commit.simple.paint.Side.TheVariants as side
 use Rattle.gix_traverse.specs.declared.commit.simple.paint.source.Key.{Key}
@@ -88,7 +87,7 @@ module _ {F : Type 0} (objects : F → Objects) where
       known q h = subst (λ g. IsQueued (objects p.source.objects.now) (rows_in g) q) a.graph_stays (subst (λ o. IsQueued (objects o.now) (rows_in (held_graph mid.source)) q) a.objects_stay h)
 
   -- an id is marked and put into the queue
-  module _ (on : Side) (i : ObjectId) (mark : Marks) (p mid new : Painter F) (source : mid.source ≡ p.source) (marks : mid.marks ≡ map_of.insert p.marks i mark) (queue : mid.queue ≡ p.queue) (q : Queues objects mid i on new) where
+  module _ (on : Side) (i : ObjectId) (p mid new : Painter F) (source : mid.source ≡ p.source) (marks : mid.marks ≡ map_of.insert p.marks i on) (queue : mid.queue ≡ p.queue) (q : Queues objects mid i on new) where
     other : (j : ObjectId) → is_same j i ≡ false → Contains (i ∷ []) j → ⊥
     other j e m = let t : true ≡ false = sym (same_itself i) ∙ ap (λ k. is_same k i) (only_member i j m) ∙ e in cc
 
@@ -104,8 +103,8 @@ module _ {F : Type 0} (objects : F → Objects) where
         (λ o. inl (subst (λ es. Contains es e) queue o))
         (Contains-cons_cases e q.entry mid.queue (Contains-permutation _ _ e (Rattle.std.proofs.lemmas.List.Sorted.IsPermutation-sym _ _ q.queue) c))
 
-    marks_now : (j : ObjectId) → map_of.get new.marks j ≡ cond (is_same j i) (Some mark) (map_of.get p.marks j)
-    marks_now j = ap (λ m. map_of.get m j) (q.marks_stay ∙ marks) ∙ map_of.get-insert id_total p.marks i mark j
+    marks_now : (j : ObjectId) → map_of.get new.marks j ≡ cond (is_same j i) (Some on) (map_of.get p.marks j)
+    marks_now j = ap (λ m. map_of.get m j) (q.marks_stay ∙ marks) ∙ map_of.get-insert id_total p.marks i on j
 
     length_now : length new.queue ≡ suc (length p.queue)
     length_now = length_permutation _ _ q.queue ∙ ap (λ es. suc (length es)) queue
@@ -113,7 +112,7 @@ module _ {F : Type 0} (objects : F → Objects) where
     marked_fresh : (named : List ObjectId) → length (fresh (λ j. is_some (map_of.get new.marks j)) named) ≡ length (fresh (λ j. is_same j i || is_some (map_of.get p.marks j)) named)
     marked_fresh named = ap length (fresh_agree _ _ named (λ j h. ap is_some (marks_now j) ∙ split (is_same j i) (map_of.get p.marks j)))
       where
-        split : (b : Bool) (o : Option Marks) → is_some (cond b (Some mark) o) ≡ (b || is_some o)
+        split : (b : Bool) (o : Option Side) → is_some (cond b (Some on) o) ≡ (b || is_some o)
         split true o = refl
         split false o = refl
 
@@ -125,14 +124,14 @@ module _ {F : Type 0} (objects : F → Objects) where
 
     -- another id's state stays, where the frontier holds it as before
     module _ (waits : Bool → Bool → Bool) (waits_now : (j : ObjectId) → set.contains new.frontier j ≡ waits (is_same j i) (set.contains p.frontier j)) (others_wait : (w : Bool) → waits false w ≡ w) where
-      state_if : (j : ObjectId) (b : Bool) → is_same j i ≡ b → state_of new j ≡ state_by (cond b (Some mark) (map_of.get p.marks j)) (waits b (set.contains p.frontier j))
-      state_if j b e = (λ k. state_by (marks_now j k) (waits_now j k)) ∙ ap (λ b. state_by (cond b (Some mark) (map_of.get p.marks j)) (waits b (set.contains p.frontier j))) e
+      state_if : (j : ObjectId) (b : Bool) → is_same j i ≡ b → state_of new j ≡ state_by (cond b (Some on) (map_of.get p.marks j)) (waits b (set.contains p.frontier j))
+      state_if j b e = (λ k. state_by (marks_now j k) (waits_now j k)) ∙ ap (λ b. state_by (cond b (Some on) (map_of.get p.marks j)) (waits b (set.contains p.frontier j))) e
 
       state_stays : (j : ObjectId) → is_same j i ≡ false → state_of new j ≡ state_of p j
       state_stays j e = state_if j false e ∙ ap (λ w. state_by (map_of.get p.marks j) w) (others_wait (set.contains p.frontier j))
 
-      meets : ((j : ObjectId) → is_same j i ≡ true → Becomes on (Contains (i ∷ []) j) (IsWaiting new on j) (state_of p j) (state_by (Some mark) (waits true (set.contains p.frontier j))))
-          → ((j : ObjectId) → is_same j i ≡ true → set.contains new.frontier j ≡ true → state_by (Some mark) (waits true (set.contains p.frontier j)) ≡ Open)
+      meets : ((j : ObjectId) → is_same j i ≡ true → Becomes on (Contains (i ∷ []) j) (IsWaiting new on j) (state_of p j) (state_by (Some on) (waits true (set.contains p.frontier j))))
+          → ((j : ObjectId) → is_same j i ≡ true → set.contains new.frontier j ≡ true → state_by (Some on) (waits true (set.contains p.frontier j)) ≡ Open)
           → ((named : List ObjectId) → is_among i named ≡ true → room named new ≤ room named p) → Meets objects on (i ∷ []) p new
       meets becomes tidy spent = record {
         objects_stay = q.objects_stay ∙ ap (λ s. s.objects) source;
@@ -159,23 +158,26 @@ module _ {F : Type 0} (objects : F → Objects) where
     waits_here j e = subst (IsWaiting new on) (sym (same_is j i e)) queued
 
     -- a visible id is open
-    pub meets_shown : on ≡ side.Visible → map_of.get p.marks i ≡ None → hides (Some mark) ≡ false → mid.frontier ≡ set.insert p.frontier i → Meets objects on (i ∷ []) p new
-    meets_shown visible unmet mark_is frontier = meets ◌||◌ waits_now (λ w. refl) becomes (λ j e w. opened) spent
+    pub meets_shown : on ≡ side.Visible → map_of.get p.marks i ≡ None → mid.frontier ≡ set.insert p.frontier i → Meets objects on (i ∷ []) p new
+    meets_shown visible unmet frontier = meets ◌||◌ waits_now (λ w. refl) becomes (λ j e w. opened) spent
       where
         waits_now : (j : ObjectId) → set.contains new.frontier j ≡ (is_same j i || set.contains p.frontier j)
         waits_now j = ap (λ s. set.contains s j) (q.frontier_stays ∙ frontier) ∙ set.contains-insert id_total p.frontier i j
 
-        opened : state_by (Some mark) true ≡ Open
-        opened = ap (λ b. cond b Hides Open) mark_is
+        unhidden : hides (Some on) ≡ false
+        unhidden = ap (λ s. hides (Some s)) visible
 
-        becomes : (j : ObjectId) → is_same j i ≡ true → Becomes on (Contains (i ∷ []) j) (IsWaiting new on j) (state_of p j) (state_by (Some mark) true)
+        opened : state_by (Some on) true ≡ Open
+        opened = ap (λ b. cond b Hides Open) unhidden
+
+        becomes : (j : ObjectId) → is_same j i ≡ true → Becomes on (Contains (i ∷ []) j) (IsWaiting new on j) (state_of p j) (state_by (Some on) true)
         becomes j e =
             let before : state_of p j ≡ Unmet = ap (λ k. state_by (map_of.get p.marks k) (set.contains p.frontier j)) (same_is j i e) ∙ ap (λ o. state_by o (set.contains p.frontier j)) unmet in
-            subst (λ s. Becomes on (Contains (i ∷ []) j) (IsWaiting new on j) s (state_by (Some mark) true)) (sym before)
+            subst (λ s. Becomes on (Contains (i ∷ []) j) (IsWaiting new on j) s (state_by (Some on) true)) (sym before)
             (subst (Becomes on (Contains (i ∷ []) j) (IsWaiting new on j) Unmet) (sym opened) (opens visible (named_here j e) (waits_here j e)))
 
-        hidden_same : (j : ObjectId) (b : Bool) → is_same j i ≡ b → hides (cond b (Some mark) (map_of.get p.marks j)) ≡ hides (map_of.get p.marks j)
-        hidden_same j true e = mark_is ∙ sym (ap hides (ap (map_of.get p.marks) (same_is j i e) ∙ unmet))
+        hidden_same : (j : ObjectId) (b : Bool) → is_same j i ≡ b → hides (cond b (Some on) (map_of.get p.marks j)) ≡ hides (map_of.get p.marks j)
+        hidden_same j true e = unhidden ∙ sym (ap hides (ap (map_of.get p.marks) (same_is j i e) ∙ unmet))
         hidden_same j false e = refl
 
         spent : (named : List ObjectId) → is_among i named ≡ true → room named new ≤ room named p
@@ -187,21 +189,21 @@ module _ {F : Type 0} (objects : F → Objects) where
             omega arith
 
     -- a hidden id is hidden whatever it was
-    pub meets_hidden : on ≡ side.Hidden → is_hidden p.marks i ≡ false → hides (Some mark) ≡ true → mid.frontier ≡ set.remove p.frontier i → Meets objects on (i ∷ []) p new
-    meets_hidden hidden unhidden mark_is frontier = meets (λ same w. not same && w) waits_now (λ w. refl) becomes none_waits spent
+    pub meets_hidden : on ≡ side.Hidden → is_hidden p.marks i ≡ false → mid.frontier ≡ set.remove p.frontier i → Meets objects on (i ∷ []) p new
+    meets_hidden hidden unhidden frontier = meets (λ same w. not same && w) waits_now (λ w. refl) becomes none_waits spent
       where
         waits_now : (j : ObjectId) → set.contains new.frontier j ≡ (not (is_same j i) && set.contains p.frontier j)
         waits_now j = ap (λ s. set.contains s j) (q.frontier_stays ∙ frontier) ∙ set.contains-remove id_total p.frontier i j
 
-        becomes : (j : ObjectId) → is_same j i ≡ true → Becomes on (Contains (i ∷ []) j) (IsWaiting new on j) (state_of p j) (state_by (Some mark) false)
+        becomes : (j : ObjectId) → is_same j i ≡ true → Becomes on (Contains (i ∷ []) j) (IsWaiting new on j) (state_of p j) (state_by (Some on) false)
         becomes j e =
-            subst (Becomes on (Contains (i ∷ []) j) (IsWaiting new on j) (state_of p j)) (sym (ap (λ b. cond b Hides Read) mark_is)) (covers hidden (named_here j e) (waits_here j e))
+            subst (Becomes on (Contains (i ∷ []) j) (IsWaiting new on j) (state_of p j)) (sym (ap (λ s. state_by (Some s) false) hidden)) (covers hidden (named_here j e) (waits_here j e))
 
-        none_waits : (j : ObjectId) → is_same j i ≡ true → set.contains new.frontier j ≡ true → state_by (Some mark) false ≡ Open
+        none_waits : (j : ObjectId) → is_same j i ≡ true → set.contains new.frontier j ≡ true → state_by (Some on) false ≡ Open
         none_waits j e w = let none : true ≡ false = sym w ∙ waits_now j ∙ ap (λ b. not b && set.contains p.frontier j) e in cc
 
-        split : (b : Bool) (o : Option Marks) → hides (cond b (Some mark) o) ≡ (b || hides o)
-        split true o = mark_is
+        split : (b : Bool) (o : Option Side) → hides (cond b (Some on) o) ≡ (b || hides o)
+        split true o = ap (λ s. hides (Some s)) hidden
         split false o = refl
 
         spent : (named : List ObjectId) → is_among i named ≡ true → room named new ≤ room named p
@@ -216,7 +218,7 @@ pub if_ok : {T E : Type 0} {P Q : T → Type 0} (r : Result T E) → ((x : T) �
 if_ok (Ok x) f h = f x h
 if_ok (Err e) f h = tt
 
-pub met_then : (o : Option Marks) (waiting : Bool) → is_some o ≡ true → state_by o waiting ≢ Unmet
+pub met_then : (o : Option Side) (waiting : Bool) → is_some o ≡ true → state_by o waiting ≢ Unmet
 met_then None waiting e = cc
 met_then (Some mark) waiting e = go (hides (Some mark))
   where
@@ -224,7 +226,7 @@ met_then (Some mark) waiting e = go (hides (Some mark))
     go true = λ e. cc
     go false = elim waiting as (λ w. cond w Open Read ≢ Unmet) [ true ↦ λ e. cc | false ↦ λ e. cc ]
 
-pub hides_then : (o : Option Marks) (waiting : Bool) → hides o ≡ true → state_by o waiting ≡ Hides
+pub hides_then : (o : Option Side) (waiting : Bool) → hides o ≡ true → state_by o waiting ≡ Hides
 hides_then None waiting e = cc
 hides_then (Some mark) waiting e = ap (λ b. cond b Hides (cond waiting Open Read)) e
 

@@ -1,5 +1,5 @@
 -- When a topological walk can't be built.
-use Rattle.std.specs.Prelude.{◌≡◌, ◌≢◌, ◌≤◌, List, [], ◌∷◌, ◌++◌, true, false, Contains}
+use Rattle.std.specs.Prelude.{◌≡◌, ◌≤◌, List, [], ◌∷◌, ◌++◌, false, Contains}
 use Rattle.std.proofs.Common.{refl, sym, ap, subst, ◌∙◌}
 use Rattle.gix_parts.specs.declared.hash.ObjectId.{ObjectId}
 use Rattle.gix_parts.specs.Object.{Objects}
@@ -9,7 +9,7 @@ use Rattle.gix_traverse.specs.declared.commit.topo.counting.Counting.{Counting}
 use Rattle.gix_traverse.specs.declared.commit.topo.frontier.Side.TheVariants.{Ends}
 use Rattle.gix_traverse.specs.declared.commit.topo.walk.Walk.{Walk}
 use Rattle.gix_traverse.specs.History.Agreeing.{IsAgreeing}
-use Rattle.gix_traverse.specs.Topo.Inside.Frontier.{is_seen, known_of, reached}
+use Rattle.gix_traverse.specs.Topo.Inside.Frontier.{is_seen, known_of}
 use Rattle.gix_traverse.specs.History.Reach.{start}
 use Rattle.gix_traverse.specs.Topo.Inside.Releasing.{plan_of}
 use Rattle.gix_traverse.specs.Topo.Inside.Starting.{HasBegun, IsStartFault, here, later, short}

@@ -1,7 +1,6 @@
 -- What a painting holds while it goes on, and what its steps do.
 use Rattle.std.specs.Borrow.{Bor}
-use Rattle.std.specs.Int.Bits.{bit_and}
-use Rattle.std.specs.Prelude.{◌≡◌, ◌≢◌, ◌⊎◌, ◌+◌, ◌≤◌, ◌==◌, ℕ, List, [], ◌∷◌, length, Bool, true, false, cond, if◌then◌else◌, is_some, Option, Some, None, Contains, IsSome, IsPermutation}
+use Rattle.std.specs.Prelude.{◌≡◌, ◌≢◌, ◌⊎◌, ◌+◌, ◌≤◌, ℕ, List, [], ◌∷◌, length, Bool, true, false, cond, if◌then◌else◌, is_some, Option, Some, None, Contains, IsSome, IsPermutation}
 use Rattle.std.specs.Option.{option_map}
 use Rattle.std.specs.BinaryHeap.{IsUpperBound}
 use Rattle.std.specs.declared.cmp.Ordering.{Ordering}
@@ -16,7 +15,6 @@ use Rattle.gix_parts.specs.PriorityQueue.{keys}
 use Rattle.gix_parts.specs.Rows.{GraphRow, row_of}
 use Rattle.gix_traverse.specs.declared.commit.simple.Hidden.{Hidden}
 use Rattle.gix_traverse.specs.declared.commit.simple.Hidden.TheVariants as hidden_by
-use Rattle.gix_traverse.specs.declared.commit.simple.paint.Marks.{Marks}
 use Rattle.gix_traverse.specs.declared.commit.simple.paint.Side.{Side}
 use Rattle.gix_traverse.specs.declared.commit.simple.paint.Side.TheVariants as side
 use Rattle.gix_traverse.specs.declared.commit.simple.paint.source.Generation.{Generation}
@@ -38,12 +36,13 @@ held_graph source = if source.held then source.graph else None
 
 -- the marks of all ids that were met
 abbrev pub AllMarks : Type 0
-AllMarks = map_of.FinMap id_cmp Marks
+AllMarks = map_of.FinMap id_cmp Side
 
--- whether the second bit, which is the mark of hidden tips, is set
-abbrev pub hides : Option Marks → Bool
+-- whether an id is marked for the hidden tips
+abbrev pub hides : Option Side → Bool
 hides None = false
-hides (Some marks) = bit_and marks.0 2 == 2
+hides (Some side.Visible) = false
+hides (Some side.Hidden) = true
 
 abbrev pub is_hidden : AllMarks → ObjectId → Bool
 is_hidden marks i = hides (map_of.get marks i)
@@ -59,9 +58,9 @@ pub data State : Type 0 where
   Read : State
   Hides : State
 
-abbrev pub state_by : Option Marks → Bool → State
+abbrev pub state_by : Option Side → Bool → State
 state_by None waiting = Unmet
-state_by (Some marks) waiting = cond (hides (Some marks)) Hides (cond waiting Open Read)
+state_by (Some mark) waiting = cond (hides (Some mark)) Hides (cond waiting Open Read)
 
 abbrev pub state_of : {F : Type 0} → Painter F → ObjectId → State
 state_of p i = state_by (map_of.get p.marks i) (set.contains p.frontier i)

@@ -13,7 +13,6 @@ mod source;
 use super::Hidden;
 use super::pending::Pending;
 use crate::commit::ParentIds;
-use bitflags::{Flag, Flags, bitflag_items};
 use gix_parts::graph::Graph;
 use gix_parts::hash::ObjectId;
 use gix_parts::hashtable::{IdMap, IdSet};
@@ -56,45 +55,17 @@ impl From<AllocError> for Hidden {
     }
 }
 
-// What is known of an id: that a hidden tip reaches it, or else that a visible one does.
+// For which tips an id is marked and its commit is read: those of the walk, or the hidden ones.
 #[derive(Clone, Copy)]
-struct Marks(u8);
-
-bitflag_items! {
-    impl Marks: u8 {
-        const VISIBLE = 1;
-        const HIDDEN = 2;
-    }
-}
-
-impl Flags for Marks {
-    ghost use Rattle.std.specs.Prelude.{⊤, codes};
-
-    type Bits = u8;
-
-    ghost exact = { ⊤ };
-
-    ghost table = { (codes "VISIBLE", 1) ∷ (codes "HIDDEN", 2) ∷ [] };
-
-    ghost set_of = { λ m. m.0 };
-
-    fn flags<'a>() -> &'a [Flag<Marks>] {
-        Marks::FLAGS
-    }
-
-    fn bits(&self) -> u8 {
-        self.0
-    }
-
-    fn from_bits_retain(bits: u8) -> Marks {
-        Marks(bits)
-    }
+enum Side {
+    Visible,
+    Hidden,
 }
 
 /// The ids that a painting found hidden.
 #[derive(Drop)]
 pub(super) struct HiddenIds {
-    marks: IdMap<Marks>,
+    marks: IdMap<Side>,
 }
 
 impl Model for HiddenIds {
@@ -128,20 +99,10 @@ impl HiddenIds {
 }
 
 // Whether a hidden tip is known to reach the id.
-fn is_hidden(marks: &IdMap<Marks>, id: &ObjectId) -> bool
+fn is_hidden(marks: &IdMap<Side>, id: &ObjectId) -> bool
     ensures { result ≡ painter.is_hidden marks.now id.now }
 {
-    match marks.get(id) {
-        Some(marks) => marks.contains(Marks::HIDDEN),
-        None => false,
-    }
-}
-
-// For which tips a commit is read: those of the walk, or the hidden ones.
-#[derive(Clone, Copy)]
-enum Side {
-    Visible,
-    Hidden,
+    matches!(marks.get(id), Some(Side::Hidden))
 }
 
 // A commit that waits to be read.
@@ -156,7 +117,8 @@ struct Entry {
 #[derive(Drop)]
 struct Painter<'a, F> {
     source: Source<'a, F>,
-    marks: IdMap<Marks>,
+    // Each id that was met: for hidden tips as soon as one of them was found to reach it.
+    marks: IdMap<Side>,
     // The queued ids that no hidden tip was found to reach.
     frontier: IdSet,
     queue: PriorityQueue<Key, Entry>,
@@ -188,7 +150,7 @@ impl<'a, F: Find> Painter<'a, F> {
         if self.marks.get(&id).is_some() {
             return Ok(());
         }
-        self.marks.insert(id, Marks::VISIBLE)?;
+        self.marks.insert(id, Side::Visible)?;
         self.frontier.insert(id)?;
         self.enqueue(id, Side::Visible)
     }
@@ -201,7 +163,7 @@ impl<'a, F: Find> Painter<'a, F> {
         if is_hidden(&self.marks, &id) {
             return Ok(());
         }
-        self.marks.insert(id, Marks::HIDDEN)?;
+        self.marks.insert(id, Side::Hidden)?;
         self.frontier.remove(&id);
         self.enqueue(id, Side::Hidden)
     }

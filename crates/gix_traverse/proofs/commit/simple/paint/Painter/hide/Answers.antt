@@ -16,5 +16,5 @@ returns-then-is_hidden-clause-ok g c =
 
 pub returns-clause-ok : goal.returns-clause-ok
 returns-clause-ok g c =
-    if_ok c.enqueue.result (λ x queues. meets_hidden g.F.Find.objects side.Hidden c.args.id _ c.args.self.now _ _ refl c.in_ok-insert.ensures.ok refl queues refl
-    (sym c.is_hidden.ensures ∙ c.if-is_hidden.false) refl c.remove.ensures.set) c.enqueue.ensures.ok
+    if_ok c.enqueue.result (λ x queues. meets_hidden g.F.Find.objects side.Hidden c.args.id c.args.self.now _ _ refl c.in_ok-insert.ensures.ok refl queues refl
+    (sym c.is_hidden.ensures ∙ c.if-is_hidden.false) c.remove.ensures.set) c.enqueue.ensures.ok

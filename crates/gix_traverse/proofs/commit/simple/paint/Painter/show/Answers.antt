@@ -3,16 +3,16 @@ use Rattle.std.specs.FinMap.{get}
 use Rattle.std.specs.FinSet.{contains}
 use Rattle.std.specs.Option.{option_copied}
 use Rattle.std.specs.Borrow.{Bor}
-use Rattle.gix_traverse.specs.declared.commit.simple.paint.Marks.{Marks}
+use Rattle.gix_traverse.specs.declared.commit.simple.paint.Side.{Side}
 use Rattle.gix_traverse.specs.declared.commit.simple.paint.Side.TheVariants as side
 use Rattle.gix_traverse.proofs.Painting.Meets.{if_ok, met_then, meets_known, meets_shown}
 use Rattle.gix_traverse.proofs.commit.simple.paint.Painter.show.Goals as goal
 
-copied : (o : Option (Bor Marks)) → is_some (option_copied o) ≡ is_some o
+copied : (o : Option (Bor Side)) → is_some (option_copied o) ≡ is_some o
 copied None = refl
 copied (Some m) = refl
 
-none : (o : Option Marks) → is_some o ≡ false → o ≡ None
+none : (o : Option Side) → is_some o ≡ false → o ≡ None
 none None e = refl
 none (Some m) e = cc
 
@@ -23,5 +23,5 @@ returns-then-is_some-clause-ok g c =
 
 pub returns-clause-ok : goal.returns-clause-ok
 returns-clause-ok g c =
-    if_ok c.enqueue.result (λ x queues. meets_shown g.F.Find.objects side.Visible c.args.id _ c.args.self.now _ _ refl c.in_ok-insert.ensures.ok refl queues refl
-    (none (get c.args.self.now.marks c.args.id) (ap is_some (sym c.get.ensures) ∙ copied c.get.result ∙ sym c.is_some.ensures ∙ c.if-is_some.false)) refl c.in_ok-insert-2.ensures.ok) c.enqueue.ensures.ok
+    if_ok c.enqueue.result (λ x queues. meets_shown g.F.Find.objects side.Visible c.args.id c.args.self.now _ _ refl c.in_ok-insert.ensures.ok refl queues refl
+    (none (get c.args.self.now.marks c.args.id) (ap is_some (sym c.get.ensures) ∙ copied c.get.result ∙ sym c.is_some.ensures ∙ c.if-is_some.false)) c.in_ok-insert-2.ensures.ok) c.enqueue.ensures.ok
