@@ -171,18 +171,22 @@ impl History<'_> {
     /// A store of all this.
     pub fn store(&self, alloc: Global) -> Result<MemoryStore, AllocError> {
         let mut store = MemoryStore::new(alloc);
+        self.insert(alloc, &mut store)?;
+        Ok(store)
+    }
+
+    fn insert(&self, alloc: Global, store: &mut MemoryStore) -> Result<(), AllocError> {
         for (n, parents) in self.commits {
             let time = i64::from(*n).wrapping_mul(self.scale);
-            insert_at(alloc, &mut store, *n, time, parents)?;
+            insert_at(alloc, store, *n, time, parents)?;
         }
         for (n, time, parents) in self.more {
-            insert_at(alloc, &mut store, *n, *time, parents)?;
+            insert_at(alloc, store, *n, *time, parents)?;
         }
         for (n, parents) in self.long {
-            insert_long(alloc, &mut store, *n, parents)?;
+            insert_long(alloc, store, *n, parents)?;
         }
-        self.odd.insert(alloc, &mut store)?;
-        Ok(store)
+        self.odd.insert(alloc, store)
     }
 }
 

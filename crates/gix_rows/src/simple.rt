@@ -192,23 +192,6 @@ fn write_answer(
     }
 }
 
-/// Tells each answer that a walk still gives. The answer says whether the walk came to its end, and not out of memory.
-fn draw<F: Find + Drop, P: Predicate + Drop>(
-    walk: &mut Simple<F, P>,
-    detail: Detail,
-    told: &mut String,
-) -> Result<bool, AllocError>
-    requires { P.can_accept walk.old.predicate }
-{
-    for answer in walk {
-        if let Err(Error::Memory) = answer {
-            return Ok(false);
-        }
-        write_answer(told, &answer, detail)?;
-    }
-    Ok(true)
-}
-
 /// Behind its end a walk gives nothing.
 fn check_end<F: Find + Drop, P: Predicate + Drop>(walk: &mut Simple<F, P>) -> Result<(), Stop>
     requires { P.can_accept walk.old.predicate }
@@ -219,21 +202,34 @@ fn check_end<F: Find + Drop, P: Predicate + Drop>(walk: &mut Simple<F, P>) -> Re
     }
 }
 
-/// Out of memory where a walk didn't come to its end.
-fn end(whole: bool) -> Result<(), Stop> {
-    if whole { Ok(()) } else { Err(Stop::Memory) }
+/// Tells each answer that a walk still gives. Behind one that is out of memory there is none.
+fn draw<F: Find + Drop, P: Predicate + Drop>(
+    walk: &mut Simple<F, P>,
+    detail: Detail,
+    told: &mut String,
+) -> Result<(), Stop>
+    requires { P.can_accept walk.old.predicate }
+{
+    while let Some(answer) = walk.next() {
+        if let Err(Error::Memory) = answer {
+            check_end(walk)?;
+            return Err(Stop::Memory);
+        }
+        write_answer(told, &answer, detail)?;
+    }
+    Ok(())
 }
 
 /// Draws a walk to its end and tells each answer.
-fn tell_walk<F: Find + Drop>(
+pub fn tell_walk<F: Find + Drop>(
     mut walk: Simple<F, Unfiltered>,
     detail: Detail,
     told: &mut String,
 ) -> Result<(), Stop> {
-    let whole = draw(&mut walk, detail, told)?;
-    check_end(&mut walk)?;
-    check_end(&mut walk)?;
-    end(whole)
+    match draw(&mut walk, detail, told) {
+        Ok(()) => check_end(&mut walk),
+        stopped => stopped,
+    }
 }
 
 impl Wish<'_> {
@@ -245,6 +241,22 @@ impl Wish<'_> {
         Ok(tips)
     }
 
+    /// The walk by the first order, and then by these parents.
+    fn begun<F: Find + Drop, P: Predicate + Drop>(
+        &self,
+        walk: Simple<F, P>,
+    ) -> Result<Simple<F, P>, Error> {
+        Ok(walk.sorting(self.sortings[0])?.parents(self.parents))
+    }
+
+    // A function of its own, since a proof goes slowly that carries along what `sorting` says.
+    fn sorted<F: Find + Drop, P: Predicate + Drop>(
+        &self,
+        walk: Simple<F, P>,
+    ) -> Result<Simple<F, P>, Error> {
+        self.begun(walk)?.sorting(self.sortings[1])
+    }
+
     /// The tips' walk by the other wishes.
     fn made<F: Find + Drop, P: Predicate + Drop>(
         &self,
@@ -253,12 +265,12 @@ impl Wish<'_> {
         graph: Option<Graph>,
     ) -> Result<Simple<F, P>, Error> {
         let [hidden_before, hidden] = self.hidden;
-        let walk = walk
-            .sorting(self.sortings[0])?
-            .parents(self.parents)
-            .sorting(self.sortings[1])?
-            .hide(ids(alloc, hidden_before)?)?
-            .hide(ids(alloc, hidden)?)?
+        let hidden_before = ids(alloc, hidden_before)?;
+        let hidden = ids(alloc, hidden)?;
+        let walk = self
+            .sorted(walk)?
+            .hide(hidden_before)?
+            .hide(hidden)?
             .commit_graph(graph);
         match self.last_parents {
             Some(parents) => Ok(walk.parents(parents)),
@@ -304,12 +316,13 @@ impl Wish<'_> {
         });
         let walk = Simple::filtered(alloc, self.tips(alloc)?, find, asking)?;
         let mut walk = self.made(alloc, walk, graph)?;
-        let whole = draw(&mut walk, self.detail, told)?;
-        check_end(&mut walk)?;
-        check_end(&mut walk)?;
+        let drawn = match draw(&mut walk, self.detail, told) {
+            Ok(()) => check_end(&mut walk),
+            stopped => stopped,
+        };
         drop(walk);
+        drawn?;
         noted?;
-        end(whole)?;
         Ok(write!(told, ", asked{asked}")?)
     }
 
@@ -324,9 +337,7 @@ impl Wish<'_> {
     ) -> Result<(), Stop> {
         let walk = Simple::new(alloc, self.tips(alloc)?, find)?;
         let mut walk = self.made(alloc, walk, graph)?;
-        let whole = draw_owners(alloc, commits, &mut walk, told)?;
-        check_end(&mut walk)?;
-        end(whole)
+        draw_owners(alloc, commits, &mut walk, told)
     }
 
     /// What the walk gives over a store of these commits, by the rows of a graph where there is one.
@@ -385,25 +396,25 @@ fn write_lent<F: Find + Drop>(
     write_owner(alloc, told, commits, walk.commit_data(), first)
 }
 
-/// Tells each answer that a walk over these commits still gives, and whose text it lends. The answer says whether the walk came to
-/// its end, and not out of memory.
+/// Tells each answer that a walk over these commits still gives, and whose text it lends.
 fn draw_owners<F: Find + Drop>(
     alloc: Global,
     commits: &[(u8, &[u8])],
     walk: &mut Simple<F, Unfiltered>,
     told: &mut String,
-) -> Result<bool, AllocError> {
+) -> Result<(), Stop> {
     write_lent(alloc, told, commits, walk)?;
     while let Some(answer) = walk.next() {
         if let Err(Error::Memory) = answer {
-            return Ok(false);
+            check_end(walk)?;
+            return Err(Stop::Memory);
         }
         write_answer(told, &answer, Detail::Texts)?;
         write_lent(alloc, told, commits, walk)?;
     }
     told.push(' ')?;
     write_lent(alloc, told, commits, walk)?;
-    Ok(true)
+    check_end(walk)
 }
 
 impl<'a> table::Table for Table<'a> {

@@ -173,23 +173,32 @@ pub fn tell_walk<F: Find + Drop, P: Predicate + Drop>(
 ) -> Result<(), Stop>
     requires { P.can_accept walk.predicate }
 {
+    draw(&mut walk, telling, told)
+}
+
+/// Writes each answer that a walk still gives. Behind one that is out of memory there is none.
+fn draw<F: Find + Drop, P: Predicate + Drop>(
+    walk: &mut Topo<F, P>,
+    telling: Telling,
+    told: &mut String,
+) -> Result<(), Stop>
+    requires { P.can_accept walk.old.predicate }
+{
     telling.begin(told, walk.expanded())?;
-    let mut whole = true;
     while let Some(answer) = walk.next() {
-        if !whole {
-            return Err(Stop::Late);
-        }
         match answer {
             Ok(info) => telling.add(told, &info, walk.expanded())?,
-            Err(Error::Memory) => whole = false,
+            Err(Error::Memory) => {
+                return match walk.next() {
+                    None => Err(Stop::Memory),
+                    Some(_) => Err(Stop::Late),
+                };
+            }
             Err(fault) => {
                 space(told)?;
                 write_fault(told, &fault)?;
             }
         }
-    }
-    if !whole {
-        return Err(Stop::Memory);
     }
     Ok(())
 }

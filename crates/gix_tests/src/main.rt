@@ -17,28 +17,29 @@ fn main(rt: HostRuntime) -> io::Result<()> {
 
 fn write_all(rt: &HostRuntime) -> io::Result<()> {
     write_all_simple(rt)?;
-    write_walks(rt, "Topo", "orders", &topo::orders::TABLES)?;
-    write_walks(rt, "Topo", "counts", &topo::counts::TABLES)?;
-    write_trees(rt, "calls", &trees::calls::TABLES)?;
-    write_trees(rt, "recorded", &trees::recorded::TABLES)?;
+    write_walks(rt, "Topo", "orders", topo::orders::tables())?;
+    write_walks(rt, "Topo", "counts", topo::counts::tables())?;
+    write_trees(rt, "calls", trees::calls::tables())?;
+    write_trees(rt, "recorded", trees::recorded::tables())?;
     write_calls(rt, &calls::CALLS)
 }
 
 fn write_all_simple(rt: &HostRuntime) -> io::Result<()> {
-    write_walks(rt, "Simple", "breadth", &simple::breadth::TABLES)?;
-    write_walks(rt, "Simple", "faults", &simple::faults::TABLES)?;
-    write_walks(rt, "Simple", "times", &simple::times::TABLES)?;
-    write_walks(rt, "Simple", "hiding", &simple::hiding::TABLES)?;
-    write_walks(rt, "Simple", "graphs", &simple::graphs::TABLES)
+    write_walks(rt, "Simple", "breadth", simple::breadth::tables())?;
+    write_walks(rt, "Simple", "faults", simple::faults::tables())?;
+    write_walks(rt, "Simple", "times", simple::times::tables())?;
+    write_walks(rt, "Simple", "hiding", simple::hiding::tables())?;
+    write_walks(rt, "Simple", "graphs", simple::graphs::tables())
 }
 
 /// Ends a line: the answers, each line of them behind `|`, and why it ends too early.
 fn end_line(rt: &HostRuntime, told: &str, end: Result<(), Stop>) -> io::Result<()> {
-    for (place, part) in told.split('\n').enumerate() {
-        if place > 0 {
-            print!(rt; " |")?;
-        }
-        print!(rt; " {part}")?;
+    let mut parts = told.split('\n');
+    if let Some(first) = parts.next() {
+        print!(rt; " {first}")?;
+    }
+    for part in parts {
+        print!(rt; " | {part}")?;
     }
     match end {
         Ok(()) => println!(rt; ""),

@@ -3,7 +3,12 @@ use crate::history::{BY_ALL, EMPTY, History, Odd, PLAIN, SKEWED, SKEWED_COMMITS}
 use crate::simple::{ALL, AS_MET, Asked, BREADTH, BY_TIME, OF_SAMPLE, SINCE_4, Table, Wish};
 use gix_traverse::commit::Parents;
 
-pub static TABLES: [Table<'static>; 9] = [
+/// The tables. A caller's proof sees nothing of what is in them.
+pub fn tables() -> &'static [Table<'static>] {
+    &TABLES
+}
+
+static TABLES: [Table<'static>; 9] = [
     Table {
         by: BY_ALL,
         cases: &[

@@ -94,7 +94,12 @@ pop_back
 push_path(d) tree(d) pop_path
 done";
 
-pub static TABLES: [Table<'static>; 4] = [
+/// The tables. A caller's proof sees nothing of what is in them.
+pub fn tables() -> &'static [Table<'static>] {
+    &TABLES
+}
+
+static TABLES: [Table<'static>; 4] = [
     Table {
         cases: &[
             (Levels, Calls("", INTO), LEVELS),

@@ -5,7 +5,12 @@ use crate::trees::{D, OF_SAMPLE, PATHS, ROOT, Table};
 use gix_parts::object::Kind;
 use gix_traverse::tree::recorder::Location;
 
-pub static TABLES: [Table<'static>; 7] = [
+/// The tables. A caller's proof sees nothing of what is in them.
+pub fn tables() -> &'static [Table<'static>] {
+    &TABLES
+}
+
+static TABLES: [Table<'static>; 7] = [
     Table {
         cases: &[
             (Depth, PATHS, " a d d/x e done"),

@@ -50,9 +50,8 @@ fn builders(rt: HostRuntime) -> Result<(), Fail> {
     let store = PLAIN.store(rt.alloc())?;
     let mut told = String::new(rt.alloc());
     added(rt.alloc(), &store, &mut told)?;
-    assert_eq!(rt; told.as_str(), "7 6 5 4");
-    let mut told = String::new(rt.alloc());
+    told.push(';')?;
     replaced(rt.alloc(), &store, &mut told)?;
-    assert_eq!(rt; told.as_str(), "8 7 4 2 6 5 3 1");
+    assert_eq!(rt; told.as_str(), "7 6 5 4; 8 7 4 2 6 5 3 1");
     Ok(())
 }

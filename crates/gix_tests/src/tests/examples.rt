@@ -9,19 +9,25 @@ use gix_rows::examples::topological::lines_of_history;
 use gix_rows::examples::unmerged::unmerged;
 use gix_rows::examples::{depth, levels, names};
 use gix_rows::history::{PLAIN, digit, id};
+use gix_rows::topo::{Telling, tell_walk};
 use gix_rows::trees::{SAMPLE, store, write_paths};
+use gix_rows::words::{Stop, space};
 use std::alloc::Global;
 use std::test::Fail;
+
+fn write_entries<F: Find>(alloc: Global, store: &F, told: &mut String) -> Result<(), Fail> {
+    write_paths(told, &levels::listed(alloc, store, &id(10))?)?;
+    told.push(';')?;
+    write_paths(told, &depth::listed(alloc, store, id(10))?)?;
+    told.push(';')?;
+    Ok(write_paths(told, &names::names(alloc, store, id(10))?)?)
+}
 
 #[test]
 fn the_entries_of_the_sample(rt: HostRuntime) -> Result<(), Fail> {
     let store = store(rt.alloc(), &SAMPLE)?;
     let mut told = String::new(rt.alloc());
-    write_paths(&mut told, &levels::listed(rt.alloc(), &store, &id(10))?)?;
-    told.push(';')?;
-    write_paths(&mut told, &depth::listed(rt.alloc(), &store, id(10))?)?;
-    told.push(';')?;
-    write_paths(&mut told, &names::names(rt.alloc(), &store, id(10))?)?;
+    write_entries(rt.alloc(), &store, &mut told)?;
     assert_eq!(rt; told.as_str(), " a d e d/x; a d d/x e; a d x e");
     Ok(())
 }
@@ -58,30 +64,33 @@ fn the_commit_has_its_time(rt: HostRuntime) -> Result<(), Fail> {
     Ok(())
 }
 
+fn write_lines<F: Find + Drop>(alloc: Global, store: F, told: &mut String) -> Result<(), Stop> {
+    let walk = lines_of_history(alloc, store, None, id(8), id(4))?;
+    tell_walk(walk, Telling::Short, told)
+}
+
 #[test]
 fn the_sample_without_what_4_reaches(rt: HostRuntime) -> Result<(), Fail> {
     let store = PLAIN.store(rt.alloc())?;
-    let told = told(rt.alloc(), &store)?;
-    assert_eq!(rt; told.as_str(), "8 7 6 5 3 ");
+    let mut told = String::new(rt.alloc());
+    write_lines(rt.alloc(), &store, &mut told)?;
+    assert_eq!(rt; told.as_str(), "8 7 6 5 3");
     Ok(())
 }
 
-fn told<F: Find + Drop>(alloc: Global, store: F) -> Result<String, Fail> {
-    let mut told = String::new(alloc);
-    for answer in lines_of_history(alloc, store, None, id(8), id(4))? {
-        write!(told, "{} ", digit(&answer?.id))?;
+fn write_unmerged<F: Find + Drop>(alloc: Global, store: F, told: &mut String) -> Result<(), Stop> {
+    for id in unmerged(alloc, store, id(8), id(7))?.iter() {
+        space(told)?;
+        write!(told, "{}", digit(id))?;
     }
-    Ok(told)
+    Ok(())
 }
 
 #[test]
 fn the_sample_without_what_7_reaches(rt: HostRuntime) -> Result<(), Fail> {
     let store = PLAIN.store(rt.alloc())?;
-    let ids = unmerged(rt.alloc(), &store, id(8), id(7))?;
     let mut told = String::new(rt.alloc());
-    for id in ids.iter() {
-        write!(told, "{} ", digit(id))?;
-    }
-    assert_eq!(rt; told.as_str(), "8 6 5 3 ");
+    write_unmerged(rt.alloc(), &store, &mut told)?;
+    assert_eq!(rt; told.as_str(), "8 6 5 3");
     Ok(())
 }

@@ -11,11 +11,11 @@ use std::test::Fail;
 
 #[test]
 fn rows(rt: HostRuntime) -> Result<(), Fail> {
-    check(rt.alloc(), "breadth", &breadth::TABLES)?;
-    check(rt.alloc(), "faults", &gix_rows::simple::faults::TABLES)?;
-    check(rt.alloc(), "times", &times::TABLES)?;
-    check(rt.alloc(), "hiding", &hiding::TABLES)?;
-    check(rt.alloc(), "graphs", &gix_rows::simple::graphs::TABLES)
+    check(rt.alloc(), "breadth", breadth::tables())?;
+    check(rt.alloc(), "faults", gix_rows::simple::faults::tables())?;
+    check(rt.alloc(), "times", times::tables())?;
+    check(rt.alloc(), "hiding", hiding::tables())?;
+    check(rt.alloc(), "graphs", gix_rows::simple::graphs::tables())
 }
 
 /// Commit n with these parents, as it is given.

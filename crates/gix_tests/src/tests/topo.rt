@@ -12,8 +12,8 @@ use std::test::Fail;
 
 #[test]
 fn rows(rt: HostRuntime) -> Result<(), Fail> {
-    check(rt.alloc(), "orders", &orders::TABLES)?;
-    check(rt.alloc(), "counts", &gix_rows::topo::counts::TABLES)
+    check(rt.alloc(), "orders", orders::tables())?;
+    check(rt.alloc(), "counts", gix_rows::topo::counts::tables())
 }
 
 #[test]

@@ -15,8 +15,8 @@ use std::test::Fail;
 
 #[test]
 fn rows(rt: HostRuntime) -> Result<(), Fail> {
-    check(rt.alloc(), "calls", &calls::TABLES)?;
-    check(rt.alloc(), "recorded", &recorded::TABLES)
+    check(rt.alloc(), "calls", calls::tables())?;
+    check(rt.alloc(), "recorded", recorded::tables())
 }
 
 #[test]

@@ -1,6 +1,7 @@
 //! Texts cut at each length, and what faults print.
 use crate::tests::check_print;
 use gix_parts::object::find::existing_iter;
+use gix_parts::object::memory::MemoryStore;
 use gix_parts::object::{Kind, decode};
 use gix_rows::history::{EMPTY, History, TREE, id, text};
 use gix_rows::simple::{ALL, Detail, Wish};
@@ -9,24 +10,31 @@ use gix_traverse::commit::simple::{CommitTimeOrder, Error, Hidden, Sorting};
 use std::alloc::Global;
 use std::test::Fail;
 
-/// What a walk from commit 2 gives where its text ends after `length` bytes.
-fn cut(alloc: Global, length: usize) -> Result<String, Fail> {
-    let history = History {
-        commits: &[(1, &[])],
-        ..EMPTY
-    };
-    let mut store = history.store(alloc)?;
+/// Commit 1 alone.
+const ROOT: History<'static> = History {
+    commits: &[(1, &[])],
+    ..EMPTY
+};
+
+/// All of what 2 reaches.
+const FROM_2: Wish<'static> = Wish {
+    tips: &[2],
+    detail: Detail::All,
+    ..ALL
+};
+
+/// Stores commit 2, whose text ends after `length` bytes.
+fn insert_cut(alloc: Global, store: &mut MemoryStore, length: usize) -> Result<(), Fail> {
     let whole = text(alloc, TREE, 2, &[id(1)])?;
     let front = whole.as_str().as_bytes().get(..length).ok_or("too long")?;
-    store.insert(id(2), Kind::Commit, front)?;
-    let wish = Wish {
-        tips: &[2],
-        detail: Detail::All,
-        ..ALL
-    };
-    let mut told = String::new(alloc);
-    wish.tell(alloc, &store, None, &[], &mut told)?;
-    Ok(told)
+    Ok(store.insert(id(2), Kind::Commit, front)?)
+}
+
+/// What a walk from commit 2 gives where its text ends after `length` bytes.
+fn cut(alloc: Global, length: usize, told: &mut String) -> Result<(), Fail> {
+    let mut store = ROOT.store(alloc)?;
+    insert_cut(alloc, &mut store, length)?;
+    Ok(FROM_2.tell(alloc, &store, None, &[], told)?)
 }
 
 #[test]
@@ -40,7 +48,8 @@ fn a_text_cut_at_each_length(rt: HostRuntime) -> Result<(), Fail> {
             95..117 => "broken-Author 1()",
             _ => "2(1,) 1()",
         };
-        let told = cut(rt.alloc(), length)?;
+        let mut told = String::new(rt.alloc());
+        cut(rt.alloc(), length, &mut told)?;
         assert_eq!(rt; told.as_str(), want, "after {length} bytes");
     }
     Ok(())
