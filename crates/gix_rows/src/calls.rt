@@ -94,7 +94,7 @@ impl Call {
             Call::InsertStore => insert_store(alloc, told),
             Call::InsertSet => insert_set(alloc, told),
             Call::InsertMap => insert_map(alloc, told),
-            Call::Recorder => record(alloc, told),
+            Call::Recorder => record(&mut Recorder::new(alloc), told),
             Call::FromIters => from_iters(alloc, &PLAIN.store(alloc)?, told),
             Call::WithTipsAndEnds => with_tips_and_ends(alloc, &PLAIN.store(alloc)?, told),
         }
@@ -108,9 +108,12 @@ fn clone_info(alloc: Global, told: &mut String) -> Result<(), AllocError> {
         generation: None,
         commit_time: None,
     };
-    let same = info.clone()?;
-    write!(told, "{}", digit(&same.id))?;
-    for parent in same.parent_ids.as_slice() {
+    write_info(told, &info.clone()?)
+}
+
+fn write_info(told: &mut String, info: &Info) -> Result<(), AllocError> {
+    write!(told, "{}", digit(&info.id))?;
+    for parent in info.parent_ids.as_slice() {
         write!(told, " {}", digit(parent))?;
     }
     Ok(())
@@ -363,11 +366,16 @@ impl Step {
             oid: id(1),
         };
         match self {
-            Step::Push(name) => recorder.push_path_component(&BStr::new(name)),
-            Step::Queue(name) => recorder.push_back_tracked_path_component(&BStr::new(name)),
-            Step::Tree => recorder.visit_tree(&entry).map(|_| ()),
-            Step::File => recorder.visit_nontree(&entry).map(|_| ()),
+            Step::Push(name) => recorder.push_path_component(&BStr::new(name))?,
+            Step::Queue(name) => recorder.push_back_tracked_path_component(&BStr::new(name))?,
+            Step::Tree => {
+                recorder.visit_tree(&entry)?;
+            }
+            Step::File => {
+                recorder.visit_nontree(&entry)?;
+            }
         }
+        Ok(())
     }
 }
 
@@ -379,11 +387,10 @@ fn holds(recorder: &mut Recorder, held: Held) -> bool {
     same && recorder.path().as_bytes() == queued
 }
 
-fn record(alloc: Global, told: &mut String) -> Result<(), Stop> {
-    let mut recorder = Recorder::new(alloc);
+fn record(recorder: &mut Recorder, told: &mut String) -> Result<(), Stop> {
     for (step, held) in STEPS {
-        if step.call(&mut recorder).is_err() {
-            return Err(refused(holds(&mut recorder, held)));
+        if step.call(recorder).is_err() {
+            return Err(refused(holds(recorder, held)));
         }
     }
     for entry in recorder.records.iter() {
