@@ -129,18 +129,23 @@ mod tests {
     #[test]
     fn prints_its_text(rt: HostRuntime) -> Result<(), Fail> {
         let id = ObjectId::Sha1([0x11; 20]);
-        let digits = "1111111111111111111111111111111111111111";
-        let missing = format!(in rt.alloc(); "missing {digits}")?;
-        let wrong_kind = format!(in rt.alloc(); "wrong kind {digits}")?;
-        let cycle = format!(in rt.alloc(); "cycle {digits}")?;
         for (fault, text) in [
             (Fault::Usage, "usage"),
             (Fault::Id(2), "bad id in word 2"),
             (Fault::Record(1), "bad record 1"),
-            (Fault::Missing(id), missing.as_str()),
-            (Fault::WrongKind(id), wrong_kind.as_str()),
+            (
+                Fault::Missing(id),
+                "missing 1111111111111111111111111111111111111111",
+            ),
+            (
+                Fault::WrongKind(id),
+                "wrong kind 1111111111111111111111111111111111111111",
+            ),
             (Fault::Broken, "broken object"),
-            (Fault::Cycle(id), cycle.as_str()),
+            (
+                Fault::Cycle(id),
+                "cycle 1111111111111111111111111111111111111111",
+            ),
             (Fault::Memory, "out of memory"),
             (Fault::Read, "read failed"),
             (Fault::Write, "write failed"),

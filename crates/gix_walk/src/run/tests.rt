@@ -1,184 +1,120 @@
-//! Runs over records in memory: the harness, and the tests by command.
+//! Runs over records in memory: what tries a table of them, and the tests by command.
+//!
+//! Texts are written short: `#` and a digit stand for an id of forty such digits, `##` for one of sixty-four; `$` and a byte for twenty
+//! such bytes, as an id stands in a tree; `%` for a byte that is no text.
 use super::*;
-use gix_parts::hash::ObjectId;
+use bstr::BStr;
 use std::alloc::AllocError;
 use std::io;
 use std::test::Fail;
 
-const ONE: &str = "1111111111111111111111111111111111111111";
+/// The words of a command, and what it writes: its lines, and behind them `! ` and why it failed.
+type Row<'a> = (&'a [&'a str], &'a str);
 
-const TWO: &str = "2222222222222222222222222222222222222222";
+/// The records of a history: two lines from commit 1 that commit 8 merges.
+const SAMPLE: &str = "\
+commit #1 96\ntree #0\nauthor A <a@b> 1 +0000\ncommitter A <a@b> 1 +0000\n\n\n\
+commit #2 144\ntree #0\nparent #1\nauthor A <a@b> 2 +0000\ncommitter A <a@b> 2 +0000\n\n\n\
+commit #3 144\ntree #0\nparent #1\nauthor A <a@b> 3 +0000\ncommitter A <a@b> 3 +0000\n\n\n\
+commit #4 144\ntree #0\nparent #2\nauthor A <a@b> 4 +0000\ncommitter A <a@b> 4 +0000\n\n\n\
+commit #5 144\ntree #0\nparent #3\nauthor A <a@b> 5 +0000\ncommitter A <a@b> 5 +0000\n\n\n\
+commit #6 144\ntree #0\nparent #5\nauthor A <a@b> 6 +0000\ncommitter A <a@b> 6 +0000\n\n\n\
+commit #7 144\ntree #0\nparent #4\nauthor A <a@b> 7 +0000\ncommitter A <a@b> 7 +0000\n\n\n\
+commit #8 192\ntree #0\nparent #6\nparent #7\nauthor A <a@b> 8 +0000\ncommitter A <a@b> 8 +0000\n\n\n\
+";
 
-const EMPTY_TREE: &str = "4b825dc642cb6eb9a060e54bf8d69288fbee4904";
-
-const THREE: &str = "3333333333333333333333333333333333333333";
-
-const ROOT: &str = "aaaaaaaaaaaaaaaaaaaaaaaaaaaaaaaaaaaaaaaa";
-
-const INNER: &str = "dddddddddddddddddddddddddddddddddddddddd";
-
-const FOUR: &str = "4444444444444444444444444444444444444444";
-
-const FIVE: &str = "5555555555555555555555555555555555555555";
-
-const SIX: &str = "6666666666666666666666666666666666666666";
-
-const SEVEN: &str = "7777777777777777777777777777777777777777";
-
-const EIGHT: &str = "8888888888888888888888888888888888888888";
-
-const LESS_FIVE: &str = "^5555555555555555555555555555555555555555";
-
-const LESS_SEVEN: &str = "^7777777777777777777777777777777777777777";
-
-const LESS_MISSING: &str = "^aaaaaaaaaaaaaaaaaaaaaaaaaaaaaaaaaaaaaaaa";
-
-// The text of a commit with these parents, whose times are a number.
-fn commit(alloc: Global, time: &str, parents: &[&str]) -> Result<String, AllocError> {
-    commit_of_tree(alloc, EMPTY_TREE, time, parents)
+// Adds a text that is written short.
+fn push_text(text: &mut Vec<u8>, short: &str) -> Result<(), AllocError> {
+    let mut times = 1usize;
+    for byte in short.as_bytes() {
+        match *byte {
+            b'#' => times = if times == 1 { 40 } else { 64 },
+            b'$' => times = 20,
+            b'%' => text.push(0xff)?,
+            other => {
+                push_times(text, other, times)?;
+                times = 1;
+            }
+        }
+    }
+    Ok(())
 }
 
-fn commit_of_tree(
-    alloc: Global,
-    tree: &str,
-    time: &str,
-    parents: &[&str],
-) -> Result<String, AllocError> {
-    let mut text = format!(in alloc; "tree {tree}\n")?;
-    for parent in parents {
-        let line = format!(in alloc; "parent {parent}\n")?;
-        text.push_str(line.as_str())?;
+fn push_times(text: &mut Vec<u8>, byte: u8, times: usize) -> Result<(), AllocError> {
+    for _ in 0..times {
+        text.push(byte)?;
     }
-    let people = format!(in alloc;
-        "author A <a@b> {time} +0000\ncommitter A <a@b> {time} +0000\n\n"
-    )?;
-    text.push_str(people.as_str())?;
+    Ok(())
+}
+
+fn text_of(alloc: Global, pieces: &[&str]) -> Result<Vec<u8>, AllocError> {
+    let mut text = Vec::new(alloc);
+    for short in pieces {
+        push_text(&mut text, short)?;
+    }
     Ok(text)
 }
 
-fn record(alloc: Global, kind: &str, id: &str, text: &str) -> Result<String, AllocError> {
-    let len = text.len();
-    format!(in alloc; "{kind} {id} {len}\n{text}\n")
-}
-
-// Commit 1, and commit 2 with commit 1 as its parent.
-fn two_commits(alloc: Global) -> Result<String, AllocError> {
-    let first = commit(alloc, "1", &[])?;
-    let second = commit(alloc, "2", &[ONE])?;
-    let mut records = record(alloc, "commit", ONE, first.as_str())?;
-    records.push_str(record(alloc, "commit", TWO, second.as_str())?.as_str())?;
-    Ok(records)
-}
-
-fn strings(alloc: Global, words: &[&str]) -> Result<Vec<String>, AllocError> {
-    let mut strings = Vec::new(alloc);
-    for word in words {
-        strings.push(String::from_str(alloc, word)?)?;
+fn words_of(alloc: Global, pieces: &[&str]) -> Result<Vec<String>, AllocError> {
+    let mut words = Vec::new(alloc);
+    for short in pieces {
+        words.push(word_of(alloc, short)?)?;
     }
-    Ok(strings)
+    Ok(words)
 }
 
-// What a run answers and writes.
-fn outcome(
-    alloc: Global,
-    words: &[&str],
-    input: &str,
-) -> Result<(Result<(), Fault>, Vec<u8>), AllocError> {
-    outcome_of_bytes(alloc, words, input.as_bytes())
+fn word_of(alloc: Global, short: &str) -> Result<String, AllocError> {
+    String::from_utf8_lossy(alloc, &text_of(alloc, &[short])?)
 }
 
-fn outcome_of_bytes(
-    alloc: Global,
-    words: &[&str],
-    input: &[u8],
-) -> Result<(Result<(), Fault>, Vec<u8>), AllocError> {
-    let words = strings(alloc, words)?;
-    let mut reader = input;
-    let mut output = Vec::new(alloc);
-    let answer = run(alloc, &words, &mut reader, &mut output);
-    Ok((answer, output))
+// Tries each row over these records.
+fn check(alloc: Global, records: &[&str], rows: &[Row]) -> Result<(), Fail> {
+    check_rows(alloc, &text_of(alloc, records)?, rows)
 }
 
-fn id(digits: &str) -> Result<ObjectId, Fail> {
-    Ok(ObjectId::from_hex(digits.as_bytes())?)
-}
-
-// The bytes of a tree with these modes and names, and ids.
-fn tree(alloc: Global, entries: &[(&[u8], &str)]) -> Result<Vec<u8>, Fail> {
-    let mut bytes = Vec::new(alloc);
-    for (name, digits) in entries {
-        bytes.extend_from_slice(name)?;
-        bytes.push(0)?;
-        bytes.extend_from_slice(id(digits)?.as_bytes())?;
+fn check_rows(alloc: Global, input: &[u8], rows: &[Row]) -> Result<(), Fail> {
+    for (words, want) in rows {
+        check_run(alloc, words, &mut { input }, want)?;
     }
-    Ok(bytes)
-}
-
-fn add_record(
-    alloc: Global,
-    input: &mut Vec<u8>,
-    kind: &str,
-    id: &str,
-    bytes: &[u8],
-) -> Result<(), AllocError> {
-    let len = bytes.len();
-    let front = format!(in alloc; "{kind} {id} {len}\n")?;
-    input.extend_from_slice(front.as_bytes())?;
-    input.extend_from_slice(bytes)?;
-    input.push(b'\n')?;
     Ok(())
 }
 
-// The record of a tree with a file, a tree of the inner id, and another file.
-fn root(alloc: Global) -> Result<Vec<u8>, Fail> {
-    let bytes = tree(
-        alloc,
-        &[
-            (b"100644 a", ONE),
-            (b"40000 d", INNER),
-            (b"100644 e", THREE),
-        ],
-    )?;
-    let mut input = Vec::new(alloc);
-    add_record(alloc, &mut input, "tree", ROOT, bytes.as_slice())?;
-    Ok(input)
-}
-
-// Adds the record of a commit whose time is its number.
-fn add_commit(
+// Tries a row over what a reader gives.
+fn check_run<R: Read>(
     alloc: Global,
-    records: &mut String,
-    id: &str,
-    time: &str,
-    parents: &[&str],
-) -> Result<(), AllocError> {
-    let text = commit(alloc, time, parents)?;
-    records.push_str(record(alloc, "commit", id, text.as_str())?.as_str())?;
-    Ok(())
+    words: &[&str],
+    reader: &mut R,
+    want: &str,
+) -> Result<(), Fail> {
+    let words = words_of(alloc, words)?;
+    check_told(alloc, &words, reader, &mut Vec::new(alloc), want)
 }
 
-// The records of a history: two lines from commit 1 that commit 8 merges.
-fn sample(alloc: Global) -> Result<String, AllocError> {
-    let mut records = String::new(alloc);
-    add_commit(alloc, &mut records, ONE, "1", &[])?;
-    add_commit(alloc, &mut records, TWO, "2", &[ONE])?;
-    add_commit(alloc, &mut records, THREE, "3", &[ONE])?;
-    add_commit(alloc, &mut records, FOUR, "4", &[TWO])?;
-    add_commit(alloc, &mut records, FIVE, "5", &[THREE])?;
-    add_commit(alloc, &mut records, SIX, "6", &[FIVE])?;
-    add_commit(alloc, &mut records, SEVEN, "7", &[FOUR])?;
-    add_commit(alloc, &mut records, EIGHT, "8", &[SIX, SEVEN])?;
-    Ok(records)
-}
-
-// These ids, one a line.
-fn lines_of(alloc: Global, ids: &[&str]) -> Result<String, AllocError> {
-    let mut lines = String::new(alloc);
-    for id in ids {
-        lines.push_str(id)?;
-        lines.push_str("\n")?;
+fn check_told<R: Read>(
+    alloc: Global,
+    words: &[String],
+    reader: &mut R,
+    told: &mut Vec<u8>,
+    want: &str,
+) -> Result<(), Fail> {
+    if let Err(fault) = run(alloc, words, reader, told) {
+        push_fault(alloc, told, fault)?;
     }
-    Ok(lines)
+    compare(words, told, &text_of(alloc, &[want])?)
+}
+
+fn push_fault(alloc: Global, told: &mut Vec<u8>, fault: Fault) -> Result<(), AllocError> {
+    told.extend_from_slice(b"! ")?;
+    told.extend_from_slice(fault.to_string(alloc)?.as_bytes())
+}
+
+fn compare(words: &[String], told: &[u8], want: &[u8]) -> Result<(), Fail> {
+    if told == want {
+        return Ok(());
+    }
+    let told = BStr::new(told);
+    let want = BStr::new(want);
+    Err(Fail::new(format_args!("{words:?}: {told:?}, and not {want:?}")))
 }
 
 mod ahead;

@@ -1,82 +1,68 @@
-//! The command `breadth`.
+//! The command `breadth`, and what all walks over commits have in common.
 use super::*;
-
-const LONG_ONE: &str = "1111111111111111111111111111111111111111111111111111111111111111";
-
-const LONG_TWO: &str = "2222222222222222222222222222222222222222222222222222222222222222";
-
-const LONG_TREE: &str = "aaaaaaaaaaaaaaaaaaaaaaaaaaaaaaaaaaaaaaaaaaaaaaaaaaaaaaaaaaaaaaaa";
 
 #[test]
 fn prints_the_child_first(rt: HostRuntime) -> Result<(), Fail> {
-    let alloc = rt.alloc();
-    let input = two_commits(alloc)?;
-    let (answer, output) = outcome(alloc, &["breadth", TWO], input.as_str())?;
-    assert_eq!(rt; answer, Ok(()));
-    let lines = format!(in alloc; "{TWO}\n{ONE}\n")?;
-    assert_eq!(rt; output.as_slice(), lines.as_bytes());
-    Ok(())
+    check(rt.alloc(), &[SAMPLE], &[(&["breadth", "#2"], "#2\n#1\n")])
 }
 
 #[test]
 fn a_missing_parent_comes_behind_the_child(rt: HostRuntime) -> Result<(), Fail> {
-    let alloc = rt.alloc();
-    let second = commit(alloc, "2", &[ONE])?;
-    let input = record(alloc, "commit", TWO, second.as_str())?;
-    let (answer, output) = outcome(alloc, &["breadth", TWO], input.as_str())?;
-    assert_eq!(rt; answer, Err(Fault::Missing(id(ONE)?)));
-    let lines = format!(in alloc; "{TWO}\n")?;
-    assert_eq!(rt; output.as_slice(), lines.as_bytes());
-    Ok(())
+    check(
+        rt.alloc(),
+        &[
+            "commit #2 144\ntree #0\nparent #1\nauthor A <a@b> 2 +0000\ncommitter A <a@b> 2 +0000\n\n\n",
+        ],
+        &[(&["breadth", "#2"], "#2\n! missing #1")],
+    )
 }
 
 #[test]
 fn tells_what_an_object_is_not(rt: HostRuntime) -> Result<(), Fail> {
-    let alloc = rt.alloc();
-    let whole = commit(alloc, "1", &[])?;
-    for kind in ["tree", "blob", "tag"] {
-        let input = record(alloc, kind, ONE, whole.as_str())?;
-        let (answer, _output) = outcome(alloc, &["breadth", ONE], input.as_str())?;
-        assert_eq!(rt; answer, Err(Fault::WrongKind(id(ONE)?)));
-    }
-    let input = record(alloc, "commit", ONE, "tree")?;
-    let (answer, _output) = outcome(alloc, &["breadth", ONE], input.as_str())?;
-    assert_eq!(rt; answer, Err(Fault::Broken));
-    Ok(())
+    check(
+        rt.alloc(),
+        &[
+            "tree #a 96\ntree #0\nauthor A <a@b> 1 +0000\ncommitter A <a@b> 1 +0000\n\n\n",
+            "blob #b 96\ntree #0\nauthor A <a@b> 1 +0000\ncommitter A <a@b> 1 +0000\n\n\n",
+            "tag #c 96\ntree #0\nauthor A <a@b> 1 +0000\ncommitter A <a@b> 1 +0000\n\n\n",
+            "commit #d 4\ntree\n",
+        ],
+        &[
+            (&["breadth", "#a"], "! wrong kind #a"),
+            (&["breadth", "#b"], "! wrong kind #b"),
+            (&["breadth", "#c"], "! wrong kind #c"),
+            (&["breadth", "#d"], "! broken object"),
+        ],
+    )
 }
 
 #[test]
 fn hides_what_hidden_commits_reach(rt: HostRuntime) -> Result<(), Fail> {
-    let alloc = rt.alloc();
-    let input = sample(alloc)?;
-    let lines = lines_of(alloc, &[EIGHT, SIX, FIVE, THREE])?;
-    for command in ["breadth", "newest", "oldest"] {
-        for (first, second) in [(EIGHT, LESS_SEVEN), (LESS_SEVEN, EIGHT)] {
-            let (answer, output) = outcome(alloc, &[command, first, second], input.as_str())?;
-            assert_eq!(rt; answer, Ok(()));
-            assert_eq!(rt; output.as_slice(), lines.as_bytes());
-        }
-        let (answer, output) = outcome(alloc, &[command, LESS_SEVEN], input.as_str())?;
-        assert_eq!(rt; answer, Err(Fault::Usage));
-        assert!(rt; output.is_empty());
-    }
-    Ok(())
-}
-
-// The records of commit 1 and its child 2, whose ids have 64 digits.
-fn two_long_commits(alloc: Global) -> Result<String, AllocError> {
-    let first = commit_of_tree(alloc, LONG_TREE, "1", &[])?;
-    let second = commit_of_tree(alloc, LONG_TREE, "2", &[LONG_ONE])?;
-    format!(in alloc; "commit {LONG_ONE} 120\n{first}\ncommit {LONG_TWO} 192\n{second}\n")
+    check(
+        rt.alloc(),
+        &[SAMPLE],
+        &[
+            (&["breadth", "#8", "^#7"], "#8\n#6\n#5\n#3\n"),
+            (&["breadth", "^#7", "#8"], "#8\n#6\n#5\n#3\n"),
+            (&["breadth", "^#7"], "! usage"),
+            (&["newest", "#8", "^#7"], "#8\n#6\n#5\n#3\n"),
+            (&["newest", "^#7", "#8"], "#8\n#6\n#5\n#3\n"),
+            (&["newest", "^#7"], "! usage"),
+            (&["oldest", "#8", "^#7"], "#8\n#6\n#5\n#3\n"),
+            (&["oldest", "^#7", "#8"], "#8\n#6\n#5\n#3\n"),
+            (&["oldest", "^#7"], "! usage"),
+        ],
+    )
 }
 
 #[test]
 fn walks_through_ids_of_64_digits(rt: HostRuntime) -> Result<(), Fail> {
-    let alloc = rt.alloc();
-    let input = two_long_commits(alloc)?;
-    let (answer, output) = outcome(alloc, &["breadth", LONG_TWO], input.as_str())?;
-    assert_eq!(rt; answer, Ok(()));
-    let lines = lines_of(alloc, &[LONG_TWO, LONG_ONE])?;
-    assert_eq!(rt; output.as_slice(), lines.as_bytes());
-    Ok(())
+    check(
+        rt.alloc(),
+        &[
+            "commit ##1 120\ntree ##a\nauthor A <a@b> 1 +0000\ncommitter A <a@b> 1 +0000\n\n\n",
+            "commit ##2 192\ntree ##a\nparent ##1\nauthor A <a@b> 2 +0000\ncommitter A <a@b> 2 +0000\n\n\n",
+        ],
+        &[(&["breadth", "##2"], "##2\n##1\n")],
+    )
 }

@@ -1,54 +1,56 @@
 //! A hidden commit that can't be read, by each command that reads one.
 use super::*;
 
-// What the first command answers and writes that doesn't end in this fault before its first line. Each reads one hidden commit.
-fn first_other(
-    alloc: Global,
-    input: &str,
-    fault: Fault,
-) -> Result<Option<(Result<(), Fault>, Vec<u8>)>, AllocError> {
-    for words in [
-        &["breadth", EIGHT, LESS_MISSING],
-        &["newest", EIGHT, LESS_MISSING],
-        &["oldest", EIGHT, LESS_MISSING],
-        &["topo", EIGHT, LESS_MISSING],
-        &["date", EIGHT, LESS_MISSING],
-        &["ahead", EIGHT, ROOT],
-    ] {
-        let (answer, output) = outcome(alloc, words, input)?;
-        if answer != Err(fault) || !output.is_empty() {
-            return Ok(Some((answer, output)));
-        }
+/// Each command that reads a hidden commit. The one of `ahead` is hidden from the other.
+const COMMANDS: [&[&str]; 6] = [
+    &["breadth", "#8", "^#a"],
+    &["newest", "#8", "^#a"],
+    &["oldest", "#8", "^#a"],
+    &["topo", "#8", "^#a"],
+    &["date", "#8", "^#a"],
+    &["ahead", "#8", "#a"],
+];
+
+// Tries each command over the sample and this record behind it.
+fn check_each(alloc: Global, record: &str, want: &str) -> Result<(), Fail> {
+    check_commands(alloc, &text_of(alloc, &[SAMPLE, record])?, want)
+}
+
+fn check_commands(alloc: Global, input: &[u8], want: &str) -> Result<(), Fail> {
+    for words in COMMANDS {
+        check_run(alloc, words, &mut { input }, want)?;
     }
-    Ok(None)
+    Ok(())
 }
 
 #[test]
 fn a_hidden_commit_has_to_be_there(rt: HostRuntime) -> Result<(), Fail> {
     let alloc = rt.alloc();
-    let input = sample(alloc)?;
-    let missing = Fault::Missing(id(ROOT)?);
-    assert_eq!(rt; first_other(alloc, input.as_str(), missing)?, None);
-    let (answer, output) = outcome(alloc, &["breadth", "zz", LESS_SEVEN], "")?;
-    assert_eq!(rt; answer, Err(Fault::Id(2)));
-    assert!(rt; output.is_empty());
-    Ok(())
+    check_each(alloc, "", "! missing #a")?;
+    check(
+        alloc,
+        &[],
+        &[(&["breadth", "zz", "^#7"], "! bad id in word 2")],
+    )
 }
 
 #[test]
 fn a_hidden_commit_has_to_be_a_whole_one(rt: HostRuntime) -> Result<(), Fail> {
     let alloc = rt.alloc();
-    let whole = commit(alloc, "1", &[])?;
-    let other = Fault::WrongKind(id(ROOT)?);
-    for (kind, text, fault) in [
-        ("tree", whole.as_str(), other),
-        ("blob", whole.as_str(), other),
-        ("tag", whole.as_str(), other),
-        ("commit", "tree", Fault::Broken),
-    ] {
-        let mut input = sample(alloc)?;
-        input.push_str(record(alloc, kind, ROOT, text)?.as_str())?;
-        assert_eq!(rt; first_other(alloc, input.as_str(), fault)?, None, "{kind}");
-    }
-    Ok(())
+    check_each(
+        alloc,
+        "tree #a 96\ntree #0\nauthor A <a@b> 1 +0000\ncommitter A <a@b> 1 +0000\n\n\n",
+        "! wrong kind #a",
+    )?;
+    check_each(
+        alloc,
+        "blob #a 96\ntree #0\nauthor A <a@b> 1 +0000\ncommitter A <a@b> 1 +0000\n\n\n",
+        "! wrong kind #a",
+    )?;
+    check_each(
+        alloc,
+        "tag #a 96\ntree #0\nauthor A <a@b> 1 +0000\ncommitter A <a@b> 1 +0000\n\n\n",
+        "! wrong kind #a",
+    )?;
+    check_each(alloc, "commit #a 4\ntree\n", "! broken object")
 }

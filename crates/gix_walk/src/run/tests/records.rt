@@ -3,89 +3,86 @@ use super::*;
 
 #[test]
 fn empty_input_is_no_records(rt: HostRuntime) -> Result<(), Fail> {
-    let alloc = rt.alloc();
-    let (answer, output) = outcome(alloc, &["breadth", ONE], "")?;
-    assert_eq!(rt; answer, Err(Fault::Missing(id(ONE)?)));
-    assert!(rt; output.is_empty());
-    Ok(())
+    check(rt.alloc(), &[], &[(&["breadth", "#1"], "! missing #1")])
 }
 
 #[test]
 fn a_later_record_replaces_an_earlier(rt: HostRuntime) -> Result<(), Fail> {
-    let alloc = rt.alloc();
-    let old = commit(alloc, "1", &[TWO])?;
-    let new = commit(alloc, "1", &[])?;
-    let mut input = record(alloc, "commit", ONE, old.as_str())?;
-    input.push_str(record(alloc, "commit", ONE, new.as_str())?.as_str())?;
-    let (answer, output) = outcome(alloc, &["breadth", ONE], input.as_str())?;
-    assert_eq!(rt; answer, Ok(()));
-    let lines = format!(in alloc; "{ONE}\n")?;
-    assert_eq!(rt; output.as_slice(), lines.as_bytes());
-    Ok(())
+    check(
+        rt.alloc(),
+        &[
+            "commit #1 144\ntree #0\nparent #2\nauthor A <a@b> 1 +0000\ncommitter A <a@b> 1 +0000\n\n\n",
+            SAMPLE,
+        ],
+        &[(&["breadth", "#1"], "#1\n")],
+    )
 }
 
 #[test]
 fn takes_other_spellings(rt: HostRuntime) -> Result<(), Fail> {
-    let alloc = rt.alloc();
-    let lower = "aaaaaaaaaaaaaaaaaaaaaaaaaaaaaaaaaaaaaaaa";
-    let upper = "AAAAAAAAAAAAAAAAAAAAAAAAAAAAAAAAAAAAAAAA";
-    let text = commit(alloc, "1", &[])?;
-    let input = format!(in alloc; "tag {upper} 000\n\ncommit {upper} 0000000096\n{text}\n")?;
-    for tip in [lower, upper] {
-        let (answer, output) = outcome(alloc, &["breadth", tip, lower], input.as_str())?;
-        assert_eq!(rt; answer, Ok(()));
-        let lines = format!(in alloc; "{lower}\n")?;
-        assert_eq!(rt; output.as_slice(), lines.as_bytes());
-    }
-    let long = format!(in alloc; "{ONE}111111111111111111111111")?;
-    let (answer, _output) = outcome(alloc, &["breadth", long.as_str()], "")?;
-    assert_eq!(rt; answer, Err(Fault::Missing(id(long.as_str())?)));
-    Ok(())
+    check(
+        rt.alloc(),
+        &[
+            "tag #A 000\n\n",
+            "commit #A 0000000096\ntree #0\nauthor A <a@b> 1 +0000\ncommitter A <a@b> 1 +0000\n\n\n",
+        ],
+        &[
+            (&["breadth", "#a", "#a"], "#a\n"),
+            (&["breadth", "#A", "#a"], "#a\n"),
+            (&["breadth", "##1"], "! missing ##1"),
+        ],
+    )
+}
+
+/// Records that aren't any.
+const NO_RECORDS: [&str; 28] = [
+    "c#1",
+    "commit#1",
+    "#1 0\n\n",
+    " #1 0\n\n",
+    "commits #1 0\n\n",
+    "Commit #1 0\n\n",
+    "commit  #1 0\n\n",
+    "commit\n#1 0\n\n",
+    "commit x#1 0\n\n",
+    "commit 1#1 0\n\n",
+    "commit 111111111111111111111111111111111111111 0\n\n",
+    "commit #1",
+    "commit #1\n",
+    "commit #1 ",
+    "commit #1 \n\n",
+    "commit #1 0",
+    "commit #1 0\n",
+    "commit #1 0\nx",
+    "commit #1 0 \n\n",
+    "commit #1  0\n\n",
+    "commit #1 -1\n\n",
+    "commit #1 +0\n\n",
+    "commit #1 0x0\n\n",
+    "commit #1 00000000000\n\n",
+    "commit #1 9999999999\n\n",
+    "commit #1 96\n0123456789",
+    "commit #1 3\n12\n",
+    "commit #1 1\n12\n",
+];
+
+// Tries what is no record, by itself and as the third.
+fn check_refused(alloc: Global, short: &str) -> Result<(), Fail> {
+    check(alloc, &[short], &[(&["breadth", "#1"], "! bad record 1")])?;
+    check(
+        alloc,
+        &["blob #2 0\n\nblob #1 1\nx\n", short],
+        &[(&["breadth", "#1"], "! bad record 3")],
+    )
 }
 
 #[test]
 fn refuses_what_is_no_record(rt: HostRuntime) -> Result<(), Fail> {
-    let alloc = rt.alloc();
-    let short = "111111111111111111111111111111111111111";
-    for (front, behind) in [
-        ("c", ""),
-        ("commit", ""),
-        ("", " 0\n\n"),
-        (" ", " 0\n\n"),
-        ("commits ", " 0\n\n"),
-        ("Commit ", " 0\n\n"),
-        ("commit  ", " 0\n\n"),
-        ("commit\n", " 0\n\n"),
-        ("commit x", " 0\n\n"),
-        ("commit 1", " 0\n\n"),
-        ("commit ", ""),
-        ("commit ", "\n"),
-        ("commit ", " "),
-        ("commit ", " \n\n"),
-        ("commit ", " 0"),
-        ("commit ", " 0\n"),
-        ("commit ", " 0\nx"),
-        ("commit ", " 0 \n\n"),
-        ("commit ", "  0\n\n"),
-        ("commit ", " -1\n\n"),
-        ("commit ", " +0\n\n"),
-        ("commit ", " 0x0\n\n"),
-        ("commit ", " 00000000000\n\n"),
-        ("commit ", " 9999999999\n\n"),
-        ("commit ", " 96\n0123456789"),
-        ("commit ", " 3\n12\n"),
-        ("commit ", " 1\n12\n"),
-    ] {
-        let input = format!(in alloc; "{front}{ONE}{behind}")?;
-        let (answer, output) = outcome(alloc, &["breadth", ONE], input.as_str())?;
-        assert_eq!(rt; answer, Err(Fault::Record(1)), "{front:?} and {behind:?}");
-        assert!(rt; output.is_empty());
-        let behind_two = format!(in alloc; "blob {TWO} 0\n\nblob {ONE} 1\nx\n{input}")?;
-        let (answer, _output) = outcome(alloc, &["breadth", ONE], behind_two.as_str())?;
-        assert_eq!(rt; answer, Err(Fault::Record(3)), "{front:?} and {behind:?}");
+    for short in NO_RECORDS {
+        if let Err(fail) = check_refused(rt.alloc(), short) {
+            let _ = eprintln!(rt; "Where this is the record: {short:?}");
+            return Err(fail);
+        }
     }
-    let input = format!(in alloc; "commit {short} 0\n\n")?;
-    let (answer, _output) = outcome(alloc, &["breadth", ONE], input.as_str())?;
-    assert_eq!(rt; answer, Err(Fault::Record(1)));
     Ok(())
 }

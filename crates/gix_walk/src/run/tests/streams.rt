@@ -29,35 +29,37 @@ impl Read for Drip<'_> {
     }
 }
 
+// Tries a row whose reader fails at the read of this number, if it comes so far. Gives how often it was asked.
+fn check_dripping(alloc: Global, bytes: &[u8], fails_at: usize, want: &str) -> Result<usize, Fail> {
+    let mut reader = Drip {
+        bytes,
+        reads: 0,
+        fails_at,
+    };
+    check_run(alloc, &["breadth", "#2"], &mut reader, want)?;
+    Ok(reader.reads)
+}
+
+fn check_each_read(alloc: Global, input: &[u8]) -> Result<(), Fail> {
+    let reads = check_dripping(alloc, input, 0, "#2\n#1\n")?;
+    // Two reads for each byte, and two that find the end.
+    if reads != input.len().saturating_mul(2).saturating_add(2) {
+        return Err(Fail::new(format_args!("{reads} reads")));
+    }
+    for fails_at in 1..reads.saturating_add(1) {
+        check_dripping(alloc, input, fails_at, "! read failed")?;
+    }
+    Ok(())
+}
+
 #[test]
 fn a_failing_reader_is_reported(rt: HostRuntime) -> Result<(), Fail> {
     let alloc = rt.alloc();
-    let words = strings(alloc, &["breadth", TWO])?;
-    let input = two_commits(alloc)?;
-    let lines = format!(in alloc; "{TWO}\n{ONE}\n")?;
-    let reads = input.len().saturating_mul(2).saturating_add(2);
-    for fails_at in 1..reads.saturating_add(1) {
-        let mut reader = Drip {
-            bytes: input.as_bytes(),
-            reads: 0,
-            fails_at,
-        };
-        let mut output: Vec<u8> = Vec::new(alloc);
-        let answer = run(alloc, &words, &mut reader, &mut output);
-        assert_eq!(rt; answer, Err(Fault::Read));
-        assert!(rt; output.is_empty());
-    }
-    let mut reader = Drip {
-        bytes: input.as_bytes(),
-        reads: 0,
-        fails_at: 0,
-    };
-    let mut output: Vec<u8> = Vec::new(alloc);
-    let answer = run(alloc, &words, &mut reader, &mut output);
-    assert_eq!(rt; answer, Ok(()));
-    assert_eq!(rt; reader.reads, reads);
-    assert_eq!(rt; output.as_slice(), lines.as_bytes());
-    Ok(())
+    let records = [
+        "commit #1 96\ntree #0\nauthor A <a@b> 1 +0000\ncommitter A <a@b> 1 +0000\n\n\n",
+        "commit #2 144\ntree #0\nparent #1\nauthor A <a@b> 2 +0000\ncommitter A <a@b> 2 +0000\n\n\n",
+    ];
+    check_each_read(alloc, &text_of(alloc, &records)?)
 }
 
 // Gives a byte at each read and never ends. It leaves the room as it is, which costs nothing.
@@ -73,21 +75,11 @@ impl Read for Endless {
     }
 }
 
-// What a run answers and writes whose reader never ends, and how often it reads.
-fn outcome_of_endless(alloc: Global) -> Result<(Result<(), Fault>, Vec<u8>, u32), AllocError> {
-    let words = strings(alloc, &["breadth", ONE])?;
-    let mut reader = Endless { reads: 0 };
-    let mut output: Vec<u8> = Vec::new(alloc);
-    let answer = run(alloc, &words, &mut reader, &mut output);
-    Ok((answer, output, reader.reads))
-}
-
 #[test]
 fn an_endless_reader_is_reported(rt: HostRuntime) -> Result<(), Fail> {
-    let (answer, output, reads) = outcome_of_endless(rt.alloc())?;
-    assert_eq!(rt; answer, Err(Fault::Read));
-    assert_eq!(rt; reads, 16_777_216);
-    assert!(rt; output.is_empty());
+    let mut reader = Endless { reads: 0 };
+    check_run(rt.alloc(), &["breadth", "#1"], &mut reader, "! read failed")?;
+    assert_eq!(rt; reader.reads, 16_777_216);
     Ok(())
 }
 
@@ -126,101 +118,102 @@ impl Write for Trickle {
     }
 }
 
-// What a run answers whose writer fails at the call of this number, and what the writer took.
-fn outcome_of_failing(
+// Tries a run whose writer fails at the call of this number, if it comes so far.
+fn check_trickling(
     alloc: Global,
-    words: &[&str],
+    words: &[String],
     input: &[u8],
     fails_at: usize,
-) -> Result<(Result<(), Fault>, Vec<u8>), AllocError> {
-    let words = strings(alloc, words)?;
-    let mut reader = input;
+    lines: &[u8],
+    want: Result<(), Fault>,
+) -> Result<(), Fail> {
     let mut writer = Trickle {
         bytes: Vec::new(alloc),
         calls: 0,
         fails_at,
     };
-    let answer = run(alloc, &words, &mut reader, &mut writer);
-    Ok((answer, writer.bytes))
-}
-
-// The first call whose failure isn't answered by `Write` after the bytes before it, with what that run answers and writes.
-fn first_unreported(
-    alloc: Global,
-    words: &[&str],
-    input: &[u8],
-    lines: &str,
-) -> Result<Option<(usize, Result<(), Fault>, Vec<u8>)>, AllocError> {
-    for fails_at in 1..1000usize {
-        let (answer, output) = outcome_of_failing(alloc, words, input, fails_at)?;
-        let taken = fails_at.saturating_sub(1) / 2;
-        let begins = lines.as_bytes().starts_with(output.as_slice());
-        if answer != Err(Fault::Write) || output.len() != taken || !begins {
-            return Ok(Some((fails_at, answer, output)));
-        }
+    let answer = run(alloc, words, &mut { input }, &mut writer);
+    if answer == want && writer.bytes.as_slice() == lines {
+        return Ok(());
     }
-    Ok(None)
+    let told = BStr::new(&writer.bytes);
+    Err(Fail::new(format_args!("{words:?}, call {fails_at}: {answer:?} behind {told:?}")))
 }
 
-// The records of the sample, and of a tree with one file.
-fn sample_and_tree(alloc: Global) -> Result<Vec<u8>, Fail> {
-    let mut input = sample(alloc)?.into_bytes();
-    let inner = tree(alloc, &[(b"100644 x", TWO)])?;
-    add_record(alloc, &mut input, "tree", INNER, inner.as_slice())?;
-    Ok(input)
+fn check_each_call(
+    alloc: Global,
+    words: &[String],
+    input: &[u8],
+    lines: &[u8],
+) -> Result<(), Fail> {
+    // Two calls for each byte, and a flush at the end.
+    let beyond = lines.len().saturating_mul(2).saturating_add(2);
+    for fails_at in 1..beyond {
+        let taken = fails_at.saturating_sub(1) / 2;
+        let before = lines.get(..taken).unwrap_or_default();
+        check_trickling(alloc, words, input, fails_at, before, Err(Fault::Write))?;
+    }
+    check_trickling(alloc, words, input, beyond, lines, Ok(()))
+}
+
+fn check_each_command(alloc: Global, input: &[u8], rows: &[Row]) -> Result<(), Fail> {
+    for (words, lines) in rows {
+        check_each_call(
+            alloc,
+            &words_of(alloc, words)?,
+            input,
+            &text_of(alloc, &[lines])?,
+        )?;
+    }
+    Ok(())
 }
 
 #[test]
 fn a_failing_writer_is_reported(rt: HostRuntime) -> Result<(), Fail> {
     let alloc = rt.alloc();
-    let input = sample_and_tree(alloc)?;
-    let pair = lines_of(alloc, &[TWO, ONE])?;
-    let entry = format!(in alloc; "100644 {TWO} x\n")?;
-    for (words, lines) in [
-        (["breadth", TWO].as_slice(), pair.as_str()),
-        (["newest", TWO].as_slice(), pair.as_str()),
-        (["oldest", TWO].as_slice(), pair.as_str()),
-        (["topo", TWO].as_slice(), pair.as_str()),
-        (["date", TWO].as_slice(), pair.as_str()),
-        (["files", INNER].as_slice(), entry.as_str()),
-        (["ahead", SIX, SEVEN].as_slice(), "3 3\n"),
-    ] {
-        let first = first_unreported(alloc, words, input.as_slice(), lines)?;
-        // Two calls for each byte, and a flush at the end.
-        let beyond = lines.len().saturating_mul(2).saturating_add(2);
-        match first {
-            Some((fails_at, answer, output)) => {
-                assert_eq!(rt; fails_at, beyond, "{words:?}");
-                assert_eq!(rt; answer, Ok(()), "{words:?}");
-                assert_eq!(rt; output.as_slice(), lines.as_bytes(), "{words:?}");
-            }
-            None => assert!(rt; false, "{words:?}"),
-        }
+    check_each_command(
+        alloc,
+        &text_of(alloc, &[SAMPLE, "tree #a 29\n100644 x\0$\x22\n"])?,
+        &[
+            (&["breadth", "#2"], "#2\n#1\n"),
+            (&["newest", "#2"], "#2\n#1\n"),
+            (&["oldest", "#2"], "#2\n#1\n"),
+            (&["topo", "#2"], "#2\n#1\n"),
+            (&["date", "#2"], "#2\n#1\n"),
+            (&["files", "#a"], "100644 #2 x\n"),
+            (&["ahead", "#6", "#7"], "3 3\n"),
+        ],
+    )
+}
+
+// Adds the record of a commit of this number, whose parent is the next one, and its line.
+fn push_link(input: &mut String, lines: &mut String, n: u32) -> Result<(), AllocError> {
+    let next = n.saturating_add(1);
+    write!(
+        input,
+        "commit {n:040x} 144\ntree {n:040x}\nparent {next:040x}\n"
+    )?;
+    input.push_str("author A <a@b> 1 +0000\ncommitter A <a@b> 1 +0000\n\n\n")?;
+    write!(lines, "{n:040x}\n")
+}
+
+fn push_links(input: &mut String, lines: &mut String) -> Result<(), AllocError> {
+    for n in 0..2000u32 {
+        push_link(input, lines, n)?;
     }
     Ok(())
 }
 
 #[test]
 fn writes_many_lines(rt: HostRuntime) -> Result<(), Fail> {
-    let alloc = rt.alloc();
-    let mut input = String::new(alloc);
-    let mut lines = String::new(alloc);
-    for n in 0..2000u32 {
-        let id = format!(in alloc; "{n:040x}")?;
-        let parent = format!(in alloc; "{:040x}", n.saturating_add(1))?;
-        let text = if n < 1999 {
-            commit(alloc, "1", &[parent.as_str()])?
-        } else {
-            commit(alloc, "1", &[])?
-        };
-        input.push_str(record(alloc, "commit", id.as_str(), text.as_str())?.as_str())?;
-        lines.push_str(id.as_str())?;
-        lines.push_str("\n")?;
-    }
-    let zero = "0000000000000000000000000000000000000000";
-    let (answer, output) = outcome(alloc, &["breadth", zero], input.as_str())?;
-    assert_eq!(rt; answer, Ok(()));
-    assert_eq!(rt; output.len(), 82_000);
-    assert_eq!(rt; output.as_slice(), lines.as_bytes());
-    Ok(())
+    let mut input = String::new(rt.alloc());
+    let mut lines = String::new(rt.alloc());
+    push_links(&mut input, &mut lines)?;
+    lines.push_str("! missing 00000000000000000000000000000000000007d0")?;
+    check_run(
+        rt.alloc(),
+        &["breadth", "#0"],
+        &mut input.as_bytes(),
+        lines.as_str(),
+    )
 }

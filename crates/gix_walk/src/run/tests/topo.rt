@@ -3,68 +3,51 @@ use super::*;
 
 #[test]
 fn lists_no_commit_before_its_children(rt: HostRuntime) -> Result<(), Fail> {
-    let alloc = rt.alloc();
-    let input = sample(alloc)?;
-    for (words, ids) in [
-        (
-            ["topo", EIGHT, EIGHT],
-            [EIGHT, SEVEN, FOUR, TWO, SIX, FIVE, THREE, ONE].as_slice(),
-        ),
-        (
-            ["date", EIGHT, EIGHT],
-            [EIGHT, SEVEN, SIX, FIVE, FOUR, THREE, TWO, ONE].as_slice(),
-        ),
-        (
-            ["topo", EIGHT, LESS_SEVEN],
-            [EIGHT, SIX, FIVE, THREE].as_slice(),
-        ),
-        (
-            ["topo", EIGHT, LESS_FIVE],
-            [EIGHT, SEVEN, FOUR, TWO, SIX].as_slice(),
-        ),
-        (
-            ["date", LESS_SEVEN, EIGHT],
-            [EIGHT, SIX, FIVE, THREE].as_slice(),
-        ),
-    ] {
-        let (answer, output) = outcome(alloc, &words, input.as_str())?;
-        assert_eq!(rt; answer, Ok(()));
-        let lines = lines_of(alloc, ids)?;
-        assert_eq!(rt; output.as_slice(), lines.as_bytes());
-    }
-    Ok(())
+    check(
+        rt.alloc(),
+        &[SAMPLE],
+        &[
+            (&["topo", "#8", "#8"], "#8\n#7\n#4\n#2\n#6\n#5\n#3\n#1\n"),
+            (&["date", "#8", "#8"], "#8\n#7\n#6\n#5\n#4\n#3\n#2\n#1\n"),
+            (&["topo", "#8", "^#7"], "#8\n#6\n#5\n#3\n"),
+            (&["topo", "#8", "^#5"], "#8\n#7\n#4\n#2\n#6\n"),
+            (&["date", "^#7", "#8"], "#8\n#6\n#5\n#3\n"),
+        ],
+    )
 }
 
 #[test]
 fn a_fault_below_comes_before_all_lines(rt: HostRuntime) -> Result<(), Fail> {
-    let alloc = rt.alloc();
-    let second = commit(alloc, "2", &[ONE])?;
-    let missing = record(alloc, "commit", TWO, second.as_str())?;
-    let other = format!(in alloc; "{missing}blob {ONE} 0\n\n")?;
-    let broken = format!(in alloc; "{missing}commit {ONE} 4\ntree\n")?;
-    for (input, fault) in [
-        (missing.as_str(), Fault::Missing(id(ONE)?)),
-        (other.as_str(), Fault::WrongKind(id(ONE)?)),
-        (broken.as_str(), Fault::Broken),
-    ] {
-        for command in ["topo", "date"] {
-            let (answer, output) = outcome(alloc, &[command, TWO], input)?;
-            assert_eq!(rt; answer, Err(fault));
-            assert!(rt; output.is_empty());
-        }
-    }
-    Ok(())
+    check(
+        rt.alloc(),
+        &[
+            "commit #a 144\ntree #0\nparent #b\nauthor A <a@b> 2 +0000\ncommitter A <a@b> 2 +0000\n\n\n",
+            "commit #c 144\ntree #0\nparent #d\nauthor A <a@b> 2 +0000\ncommitter A <a@b> 2 +0000\n\n\n",
+            "blob #d 0\n\n",
+            "commit #e 144\ntree #0\nparent #f\nauthor A <a@b> 2 +0000\ncommitter A <a@b> 2 +0000\n\n\n",
+            "commit #f 4\ntree\n",
+        ],
+        &[
+            (&["topo", "#a"], "! missing #b"),
+            (&["date", "#a"], "! missing #b"),
+            (&["topo", "#c"], "! wrong kind #d"),
+            (&["date", "#c"], "! wrong kind #d"),
+            (&["topo", "#e"], "! broken object"),
+            (&["date", "#e"], "! broken object"),
+        ],
+    )
 }
 
 #[test]
 fn topo_wants_a_tip(rt: HostRuntime) -> Result<(), Fail> {
-    let alloc = rt.alloc();
-    for command in ["topo", "date"] {
-        let (answer, output) = outcome(alloc, &[command, LESS_SEVEN], "no record")?;
-        assert_eq!(rt; answer, Err(Fault::Usage));
-        assert!(rt; output.is_empty());
-        let (answer, _output) = outcome(alloc, &[command, ONE, "^zz"], "no record")?;
-        assert_eq!(rt; answer, Err(Fault::Id(3)));
-    }
-    Ok(())
+    check(
+        rt.alloc(),
+        &["no record"],
+        &[
+            (&["topo", "^#7"], "! usage"),
+            (&["topo", "#1", "^zz"], "! bad id in word 3"),
+            (&["date", "^#7"], "! usage"),
+            (&["date", "#1", "^zz"], "! bad id in word 3"),
+        ],
+    )
 }
