@@ -9,6 +9,7 @@
 extern void *__libc_malloc(size_t size);
 extern void *__libc_calloc(size_t count, size_t size);
 extern void *__libc_realloc(void *old, size_t size);
+extern void *__libc_memalign(size_t alignment, size_t size);
 
 static long requests, refused = -1;
 static int counts;
@@ -44,3 +45,13 @@ void *malloc(size_t size) { return refuses() ? NULL : __libc_malloc(size); }
 void *calloc(size_t count, size_t size) { return refuses() ? NULL : __libc_calloc(count, size); }
 
 void *realloc(void *old, size_t size) { return refuses() ? NULL : __libc_realloc(old, size); }
+
+void *aligned_alloc(size_t alignment, size_t size) { return refuses() ? NULL : __libc_memalign(alignment, size); }
+
+int posix_memalign(void **place, size_t alignment, size_t size) {
+    if (refuses()) {
+        return ENOMEM;
+    }
+    *place = __libc_memalign(alignment, size);
+    return *place == NULL ? ENOMEM : 0;
+}
