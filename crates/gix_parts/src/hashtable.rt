@@ -1,5 +1,5 @@
 //! Sets and maps of ids. No other module knows which container holds them.
-ghost use Rattle.std.specs.Prelude.{◌≡◌, ◌↔◌, IsTrue, not, IfOk, OnOk, OnErr, OnSome, IfNone};
+ghost use Rattle.std.specs.Prelude.{◌≡◌, ◌↔◌, IsTrue, false, not, None, IfOk, OnOk, OnErr, OnSome, IfNone};
 ghost use Rattle.std.specs.Option.{option_copied};
 ghost use Rattle.std.specs.FinSet as set;
 ghost use Rattle.std.specs.FinMap as map;
@@ -49,6 +49,7 @@ impl IdSet {
         ensures added { IfOk result (λ added. added ≡ not (set.contains self.old id)) }
         ensures ok { OnOk result (self.new ≡ set.insert self.old id) }
         ensures err { OnErr result (self.new ≡ self.old) }
+        ensures absent { OnErr result (set.contains self.old id ≡ false) }
     {
         Ok(self.ids.insert(id)?)
     }
@@ -125,6 +126,7 @@ impl<T> IdMap<T> {
         ensures old { IfOk result (λ old. old ≡ map.get self.old id) }
         ensures ok { OnOk result (self.new ≡ map.insert self.old id value) }
         ensures err { OnErr result (self.new ≡ self.old) }
+        ensures absent { OnErr result (map.get self.old id ≡ None) }
     {
         Ok(self.values.insert(id, value)?)
     }

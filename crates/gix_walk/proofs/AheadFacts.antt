@@ -1,5 +1,5 @@
 -- Counting the commits of a walk, and the line that two such numbers make.
-use Rattle.std.specs.Prelude.{◌≡◌, ◌≢◌, ℕ, ◌+◌, List, [], ◌∷◌, ◌++◌, length, Option, Some, None, Result, Ok, Err, IfOk, IfErr, OnOk, ◌⊎◌}
+use Rattle.std.specs.Prelude.{◌≡◌, ◌≢◌, ℕ, ◌+◌, List, [], ◌∷◌, ◌++◌, length, Option, Some, None, Result, Ok, Err, IfOk, IfErr, OnOk}
 use Rattle.std.specs.Io.KnownBytes.{Appends}
 use Rattle.std.specs.Iterator.{Yields}
 use Rattle.std.proofs.Common.{sym, ap, subst, ◌∙◌, length-append}
@@ -10,7 +10,7 @@ use Rattle.gix_traverse.specs.declared.commit.simple.Sorting.TheVariants as sort
 use Rattle.gix_walk.specs.declared.fault.Fault.{Fault}
 use Rattle.gix_walk.specs.declared.fault.Fault.TheVariants as fault
 use Rattle.gix_walk.specs.Ahead.{Counts, FailsToCount, Numbers, ahead_line}
-use Rattle.gix_walk.specs.Run.{Serves, counted, not_counted, unserved, not_written}
+use Rattle.gix_walk.specs.Run.{Serves, counted, unserved, not_written}
 use Rattle.gix_walk.specs.Walked.{Walk, Answers, IsWalkFault, StartsFrom, given, finished, failed, cut_short}
 use Rattle.gix_walk.specs.Words.{Ahead}
 use Rattle.gix_walk.proofs.MemoryFaults.{failed_so}
@@ -21,8 +21,8 @@ module _ {W E : Type 0} (Steps : W → Option (Result Info E) → W → Type 0) 
   numbers_failed at drawn answer e f h step is tells = (infos, failed e f drawn (at, h, subst (λ (a : Result Info E). Steps at (Some a) drawn) is step) tells)
 
   -- there is no number for one more
-  pub numbers_cut : (at : W) → Yields Steps walk (given infos) at → Numbers Steps Tells walk (Err fault.Memory)
-  numbers_cut at h = (infos, cut_short at h)
+  pub numbers_cut : (at drawn : W) (answer : Result Info E) (info : Info) → Yields Steps walk (given infos) at → Steps at (Some answer) drawn → answer ≡ Ok info → Numbers Steps Tells walk (Err fault.Memory)
+  numbers_cut at drawn answer info h step is = (infos, cut_short info drawn (at, h, subst (λ (a : Result Info E). Steps at (Some a) drawn) is step))
 
   -- the walk ended
   pub numbers_all : (at drawn : W) (n : ℕ) → Yields Steps walk (given infos) at → Steps at None drawn → n ≡ length infos → Numbers Steps Tells walk (Ok n)
@@ -46,8 +46,8 @@ module _ (objects : Objects) (tip hidden : ObjectId) (walk : Walk) (starts : Sta
 
 module _ (objects : Objects) (old : Option (List ℕ)) (one other : ObjectId) where
   -- nothing was written
-  pub ahead_failed : (result : Result (Unit {0}) Fault) (e : Fault) → result ≡ Err e → (e ≢ fault.Memory → FailsToCount objects one other e ⊎ FailsToCount objects other one e) → Serves objects old (Ahead one other) result old
-  ahead_failed result e same h = failed_so (λ r. Serves objects old (Ahead one other) r old) unserved result e same (λ other. not_counted (h other))
+  pub ahead_failed : (result : Result (Unit {0}) Fault) (e : Fault) → result ≡ Err e → (e ≢ fault.Memory → Serves objects old (Ahead one other) (Err e) old) → Serves objects old (Ahead one other) result old
+  ahead_failed result e same h = failed_so (λ r. Serves objects old (Ahead one other) r old) unserved result e same h
 
   -- the line was written, or the writer failed
   pub ahead_written : (new : Option (List ℕ)) (ahead behind : ℕ) (line : List ℕ) (result : Result (Unit {0}) Fault) → Counts objects one other ahead → Counts objects other one behind → line ≡ ahead_line ahead behind

@@ -59,12 +59,12 @@ module _ {W E : Type 0} where
       }
 
       -- a line couldn't be added
-      pub adds_cut : (walk at : W) (infos : List Info) (e : Fault) (result : Result (Unit {0}) Fault) (a b c : Option (List ℕ)) (x y z : List ℕ)
-          → Yields Steps walk (given infos) at → Grows a x b y (lines_of infos) → result ≡ Err e → (result ≡ Err fault.Write → ⊥) → (e ≡ fault.Write) ⊎ ((e ≡ fault.Memory) × Grows b y c z []) → Adds Steps Tells walk a x result c z
-      adds_cut walk at infos e result a b c x y z h grows same other (inl w) = absurd (other (same ∙ ap (λ f. Err f) w))
-      adds_cut walk at infos e result a b c x y z h grows same other (inr (m, more)) = record {
+      pub adds_cut : (walk at drawn : W) (infos : List Info) (next : Result Info E) (info : Info) (e : Fault) (result : Result (Unit {0}) Fault) (a b c : Option (List ℕ)) (x y z : List ℕ)
+          → Yields Steps walk (given infos) at → Steps at (Some next) drawn → next ≡ Ok info → Grows a x b y (lines_of infos) → result ≡ Err e → (result ≡ Err fault.Write → ⊥) → (e ≡ fault.Write) ⊎ ((e ≡ fault.Memory) × Grows b y c z []) → Adds Steps Tells walk a x result c z
+      adds_cut walk at drawn infos next info e result a b c x y z h step is grows same other (inl w) = absurd (other (same ∙ ap (λ f. Err f) w))
+      adds_cut walk at drawn infos next info e result a b c x y z h step is grows same other (inr (m, more)) = record {
         infos = infos;
-        ends = subst (Ends Steps Tells walk infos) (sym (same ∙ ap (λ f. Err f) m)) (cut_short at h);
+        ends = subst (Ends Steps Tells walk infos) (sym (same ∙ ap (λ f. Err f) m)) (cut_short info drawn (at, h, subst (λ (a : Result Info E). Steps at (Some a) drawn) is step));
         grows = subst (Grows a x c z) (append-nil (lines_of infos)) (grows_more a b c x y z (lines_of infos) [] grows more);
       }
 

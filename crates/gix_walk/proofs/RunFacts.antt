@@ -1,6 +1,6 @@
 -- What a run may answer.
 use Rattle.std.specs.Prelude.{◌≡◌, ◌≢◌, ◌⊎◌, ℕ, List, [], Option, Some, Result, Ok, Err}
-use Rattle.std.proofs.Common.{sym, subst, ap, ◌∙◌, inl, inr, ⊎_elim}
+use Rattle.std.proofs.Common.{sym, subst, ap, ◌∙◌, inl, inr}
 use Rattle.gix_parts.specs.declared.hash.ObjectId.{ObjectId}
 use Rattle.gix_parts.specs.Object.{Objects}
 use Rattle.gix_traverse.specs.declared.commit.Info.{Info}
@@ -18,7 +18,7 @@ use Rattle.gix_walk.specs.Faults.{fault_of_walk, fault_of_topo_walk}
 use Rattle.gix_walk.specs.Input.{Tells}
 use Rattle.gix_walk.specs.Output.{WritesAll}
 use Rattle.gix_walk.specs.Records.{Record, AreRecords, IsRecordFault, bad, no_memory, stored}
-use Rattle.gix_walk.specs.Run.{Serves, walked, not_walked, walked_down, not_built, listed, not_listed, counted, not_counted, unserved, not_written, Runs, without_memory, no_command, not_read, bad_record, served}
+use Rattle.gix_walk.specs.Run.{Serves, walked, not_walked, walked_down, not_built, listed, not_listed, counted, not_ahead, not_behind, unserved, not_written, Runs, without_memory, no_command, not_read, bad_record, served}
 use Rattle.gix_walk.specs.TopoWalked as topo
 use Rattle.gix_walk.specs.Walked.{Walk, Answers, IsWalkFault, StartsFrom, FailsAtStart, IsStartFault, Ends, finished, failed, cut_short}
 use Rattle.gix_walk.specs.Words.{Request, Commits, request_of}
@@ -36,12 +36,12 @@ err_same same = cc
 ends_sound : {walk : Walk} {infos : List Info} {answer : Result (Unit {0}) Fault} → Ends Answers IsWalkFault walk infos answer → answer ≢ Err fault.Internal
 ends_sound (finished new h) = λ e. cc
 ends_sound (failed e f new h is) = λ same. let sound : IsSound (Some (Err e)) = next_sound h.2 in sound (sym is ∙ err_same same)
-ends_sound (cut_short new h) = λ e. cc
+ends_sound (cut_short info new h) = λ e. cc
 
 topo_ends_sound : {walk : topo.Walk} {infos : List Info} {answer : Result (Unit {0}) Fault} → walk.plan.rows ≡ [] → Ends topo.Answers topo.IsWalkFault walk infos answer → answer ≢ Err fault.Internal
 topo_ends_sound none (finished new h) = λ e. cc
 topo_ends_sound {walk} none (failed e f new h is) = λ same. drawn_sound walk new _ e none h (sym is ∙ err_same same)
-topo_ends_sound none (cut_short new h) = λ e. cc
+topo_ends_sound none (cut_short info new h) = λ e. cc
 
 serves_sound : {objects : Objects} {old new : Option (List ℕ)} {request : Request} {answer : Result (Unit {0}) Fault} → Serves objects old request answer new → answer ≢ Err fault.Internal
 serves_sound (walked walk infos s ends a) = ends_sound ends
@@ -51,7 +51,8 @@ serves_sound {objects} (not_built {by = by} {tips = tips} {ends = ends} why h) =
 serves_sound (listed recorder r a) = λ e. cc
 serves_sound {objects} (not_listed recorder why r) = λ same. tree_sound objects r (err_same same)
 serves_sound (counted ahead behind c d a) = λ e. cc
-serves_sound (not_counted f) = ⊎_elim (λ h. ends_sound h.1.ends) (λ h. ends_sound h.1.ends) f
+serves_sound (not_ahead f) = ends_sound f.1.ends
+serves_sound (not_behind n a f) = ends_sound f.1.ends
 serves_sound unserved = λ e. cc
 serves_sound not_written = λ e. cc
 
@@ -72,12 +73,12 @@ walk_unnumbered n error.Memory = λ e. cc
 ends_unnumbered : {walk : Walk} {infos : List Info} {answer : Result (Unit {0}) Fault} (n : ℕ) → Ends Answers IsWalkFault walk infos answer → answer ≢ Err (fault.Record n)
 ends_unnumbered n (finished new h) = λ e. cc
 ends_unnumbered n (failed e f new h is) = λ same. walk_unnumbered n e (sym is ∙ err_same same)
-ends_unnumbered n (cut_short new h) = λ e. cc
+ends_unnumbered n (cut_short info new h) = λ e. cc
 
 topo_ends_unnumbered : {walk : topo.Walk} {infos : List Info} {answer : Result (Unit {0}) Fault} (n : ℕ) → Ends topo.Answers topo.IsWalkFault walk infos answer → answer ≢ Err (fault.Record n)
 topo_ends_unnumbered n (finished new h) = λ e. cc
 topo_ends_unnumbered n (failed e f new h is) = λ same. topo_unnumbered n e (sym is ∙ err_same same)
-topo_ends_unnumbered n (cut_short new h) = λ e. cc
+topo_ends_unnumbered n (cut_short info new h) = λ e. cc
 
 serves_unnumbered : {objects : Objects} {old new : Option (List ℕ)} {request : Request} {answer : Result (Unit {0}) Fault} (n : ℕ) → Serves objects old request answer new → answer ≢ Err (fault.Record n)
 serves_unnumbered n (walked walk infos s ends a) = ends_unnumbered n ends
@@ -87,7 +88,8 @@ serves_unnumbered n (not_built why h) = λ same. topo_unnumbered n why (err_same
 serves_unnumbered n (listed recorder r a) = λ e. cc
 serves_unnumbered n (not_listed recorder why r) = λ same. tree_unnumbered n why (err_same same)
 serves_unnumbered n (counted ahead behind c d a) = λ e. cc
-serves_unnumbered n (not_counted f) = ⊎_elim (λ h. ends_unnumbered n h.1.ends) (λ h. ends_unnumbered n h.1.ends) f
+serves_unnumbered n (not_ahead f) = ends_unnumbered n f.1.ends
+serves_unnumbered n (not_behind m a f) = ends_unnumbered n f.1.ends
 serves_unnumbered n unserved = λ e. cc
 serves_unnumbered n not_written = λ e. cc
 

@@ -7,7 +7,7 @@ use Rattle.gix_walk.specs.declared.fault.Fault.{Fault}
 use Rattle.gix_walk.specs.declared.fault.Fault.TheVariants as fault
 use Rattle.gix_walk.specs.declared.words.Order.{Order}
 use Rattle.gix_walk.specs.Histories.{FailsSilently}
-use Rattle.gix_walk.specs.Run.{Serves, walked, not_walked, walked_down, not_built, not_listed, not_counted, unserved, not_written, without_memory, no_command, not_read, bad_record, served}
+use Rattle.gix_walk.specs.Run.{Serves, walked, not_walked, walked_down, not_built, not_listed, not_ahead, not_behind, unserved, not_written, without_memory, no_command, not_read, bad_record, served}
 use Rattle.gix_walk.specs.Words.{Request, Commits}
 
 serves_silently : (objects : Objects) (old new : Option (List ℕ)) (request : Request) (e : Fault) → Serves objects old request (Err e) new → e ≢ fault.Write → ((by : Order) (tips hidden : List ObjectId) → request ≢ Commits by tips hidden) → new ≡ old
@@ -16,7 +16,8 @@ serves_silently objects old new request e (not_walked why f) other none = refl
 serves_silently objects old new request e (walked_down walk infos built ends written) other none = absurd (none _ _ _ refl)
 serves_silently objects old new request e (not_built why h) other none = refl
 serves_silently objects old new request e (not_listed recorder why walk) other none = refl
-serves_silently objects old new request e (not_counted f) other none = refl
+serves_silently objects old new request e (not_ahead f) other none = refl
+serves_silently objects old new request e (not_behind n a f) other none = refl
 serves_silently objects old new request e unserved other none = refl
 serves_silently objects old new request e not_written other none = absurd (other refl)
 

@@ -40,7 +40,7 @@ use Rattle.gix_walk.specs.declared.words.Order.TheVariants.{Simple}
 use Rattle.gix_walk.specs.Faults.{fault_of_walk}
 use Rattle.gix_walk.specs.Histories.{AreWhole, EndsWell, IsOutside, SimpleSucceeds, AheadSucceeds}
 use Rattle.gix_walk.specs.Records.{stored}
-use Rattle.gix_walk.specs.Run.{Serves, walked, not_walked, counted, not_counted, unserved, not_written}
+use Rattle.gix_walk.specs.Run.{Serves, walked, not_walked, counted, not_ahead, not_behind, unserved, not_written}
 use Rattle.gix_walk.specs.Walked.{Walk, Answers, IsWalkFault, StartsFrom, FailsAtStart, Ends, finished, failed, cut_short, objects_of, never_faulty, accepts_all, given as all_given}
 use Rattle.gix_walk.specs.Words.{Commits, Ahead}
 use Rattle.gix_walk.proofs.CommitRuns.{ends_well}
@@ -178,7 +178,7 @@ module _ (objects : Objects) (tips hiders : List ObjectId) (whole : AreWhole obj
             behind = λ i c. subst (λ xs. Contains xs i) (ap (λ w. w.hidden_tips) is) c;
             met = λ p c. start (is_tip objects by tips hiders walk named starts p.id (in_ids walk.pending p c));
           }
-  drawn_well by walk named starts infos answer (cut_short new h) = tt
+  drawn_well by walk named starts infos answer (cut_short info new h) = tt
 
   pub started_well : (by : Sorting) (e : Error) → FailsAtStart objects by tips e → IsOutside (fault_of_walk e)
   started_well by e f = go e f.fails.fault
@@ -207,11 +207,8 @@ module _ (objects : Objects) (old : Option (List ℕ)) where
 
   ahead_well : (one other : ObjectId) → AreWhole objects (one ∷ other ∷ []) → (answer : Result (Unit {0}) Fault) (new : Option (List ℕ)) → Serves objects old (Ahead one other) answer new → EndsWell answer
   ahead_well one other whole answer new (counted ahead behind a b written) = tt
-  ahead_well one other whole answer new (not_counted f) =
-      ⊎_elim
-      (λ h. drawn_well objects (one ∷ []) (other ∷ []) whole sorting.BreadthFirst h.1.walk tt h.1.starts h.0 answer h.1.ends)
-      (λ h. drawn_well objects (other ∷ []) (one ∷ []) turned sorting.BreadthFirst h.1.walk tt h.1.starts h.0 answer h.1.ends)
-      f
+  ahead_well one other whole answer new (not_ahead f) = drawn_well objects (one ∷ []) (other ∷ []) whole sorting.BreadthFirst f.1.walk tt f.1.starts f.0 answer f.1.ends
+  ahead_well one other whole answer new (not_behind n a f) = drawn_well objects (other ∷ []) (one ∷ []) turned sorting.BreadthFirst f.1.walk tt f.1.starts f.0 answer f.1.ends
     where
       turned : AreWhole objects (other ∷ one ∷ [])
       turned i r = whole i (reach_more (parents_of objects) (other ∷ one ∷ []) (one ∷ other ∷ []) (λ j c. ⊎_elim (λ e. Contains-there j one (other ∷ []) (subst (λ k. Contains (other ∷ []) k) e (Contains-here other []))) (λ m. ⊎_elim (λ e. subst (λ k. Contains (one ∷ other ∷ []) k) e (Contains-here one (other ∷ []))) (λ n. absurd (no_member j n)) (Contains-cons_cases j one [] m)) (Contains-cons_cases j other (one ∷ []) c)) i r)

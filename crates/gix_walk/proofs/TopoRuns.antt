@@ -96,7 +96,7 @@ module _ (objects : Objects) (by : Sorting) (tips ends : List ObjectId) (whole :
         let says : (taken : set.FinSet id_cmp) × (c : ObjectId) × IsFault objects_of never_faulty (plan_from objects by tips ends) (IsNextReady objects_of (plan_from objects by tips ends) taken c) e =
         subst (λ plan. (taken : set.FinSet id_cmp) × (c : ObjectId) × IsFault objects_of never_faulty plan (IsNextReady objects_of plan taken c) e) (yields_plan walk h.0 (all_given infos) h.1 ∙ built.0.plan) (next_says h.2) in
         subst IsOutside (sym is) (outside (IsNextReady objects_of (plan_from objects by tips ends) says.0 says.1) e says.2)
-    drawn_outside infos answer (cut_short new h) = tt
+    drawn_outside infos answer (cut_short info new h) = tt
 
     listed : (infos : List Info) → Ends Answers IsWalkFault walk infos (Ok tt) → ListsDown objects by tips ends (map (λ info. info.id) infos)
     listed infos (finished new h) =

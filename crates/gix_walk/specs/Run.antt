@@ -1,5 +1,5 @@
 -- What a run of the program may answer and write.
-use Rattle.std.specs.Prelude.{◌≡◌, ◌⊎◌, ℕ, List, Option, Result, Ok, Err}
+use Rattle.std.specs.Prelude.{◌≡◌, ℕ, List, Option, Result, Ok, Err}
 use Rattle.std.specs.Io.KnownBytes.{Appends}
 use Rattle.gix_parts.specs.declared.hash.ObjectId.{ObjectId}
 use Rattle.gix_parts.specs.Object.{Objects}
@@ -37,8 +37,9 @@ pub data Serves (objects : Objects) (old : Option (List ℕ)) : Request → Resu
   not_listed : {tree : ObjectId} (recorder : Tracked) (e : TreeError) → RecordsTree objects tree recorder (Err e) → Serves objects old (Files tree) (Err (fault_of_tree_walk e)) old
   counted : {one other : ObjectId} (ahead behind : ℕ) {new : Option (List ℕ)}
       → Counts objects one other ahead → Counts objects other one behind → Appends old new (ahead_line ahead behind) → Serves objects old (Ahead one other) (Ok tt) new
-  -- of two commits one of whose walks failed nothing is written
-  not_counted : {one other : ObjectId} {e : Fault} → FailsToCount objects one other e ⊎ FailsToCount objects other one e → Serves objects old (Ahead one other) (Err e) old
+  -- of two commits one of whose walks failed nothing is written: the second walk is drawn once the first has ended well
+  not_ahead : {one other : ObjectId} {e : Fault} → FailsToCount objects one other e → Serves objects old (Ahead one other) (Err e) old
+  not_behind : {one other : ObjectId} {e : Fault} (ahead : ℕ) → Counts objects one other ahead → FailsToCount objects other one e → Serves objects old (Ahead one other) (Err e) old
   -- memory ran out before anything was written
   unserved : {request : Request} → Serves objects old request (Err fault.Memory) old
   -- of what was written nothing is said

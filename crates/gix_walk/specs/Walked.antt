@@ -1,7 +1,7 @@
 -- A walk over records, and the lines that it writes.
 use Rattle.std.specs.Prelude.{◌≡◌, ◌≢◌, ℕ, List, [], ◌∷◌, ◌++◌, map, Bool, true, Option, Some, None, Result, Ok, Err}
 use Rattle.std.specs.List.{flat_map}
-use Rattle.std.specs.Iterator.{Yields, YieldsThen}
+use Rattle.std.specs.Iterator.{YieldsThen}
 use Rattle.gix_parts.specs.declared.hash.ObjectId.{ObjectId}
 use Rattle.gix_parts.specs.Id.{hex_of}
 use Rattle.gix_parts.specs.Object.{Objects}
@@ -70,11 +70,11 @@ abbrev pub given : {E : Type 0} → List Info → List (Result Info E)
 given infos = map Ok infos
 
 -- How a walk ended that gave these commits, by its steps and the meaning of its faults: it has no more commits, its next answer is a
--- fault, or memory ran out.
+-- fault, or its next answer is a commit for which there was no memory.
 pub data Ends {W E : Type 0} (Steps : W → Option (Result Info E) → W → Type 0) (Tells : E → Fault → Type 0) (walk : W) (infos : List Info) : Result (Unit {0}) Fault → Type 0 where
   finished : (new : W) → YieldsThen Steps walk (given infos) None new → Ends Steps Tells walk infos (Ok tt)
   failed : (e : E) (f : Fault) (new : W) → YieldsThen Steps walk (given infos) (Some (Err e)) new → Tells e f → Ends Steps Tells walk infos (Err f)
-  cut_short : (new : W) → Yields Steps walk (given infos) new → Ends Steps Tells walk infos (Err fault.Memory)
+  cut_short : (info : Info) (new : W) → YieldsThen Steps walk (given infos) (Some (Ok info)) new → Ends Steps Tells walk infos (Err fault.Memory)
 
 -- an id and a newline
 abbrev pub line_of : ObjectId → List ℕ

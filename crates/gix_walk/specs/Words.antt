@@ -33,6 +33,11 @@ abbrev pub Gives : {X Y : Type 0} → (X → Y) → Result X Fault → Result Y 
 Gives view (Ok x) wanted = wanted ≡ Ok (view x)
 Gives view (Err e) wanted = e ≢ fault.Memory → wanted ≡ Err e
 
+-- what a function that takes no memory returned, seen by view, is what it was to be
+abbrev pub Tells : {X Y : Type 0} → (X → Y) → Result X Fault → Result Y Fault → Type 0
+Tells view (Ok x) wanted = wanted ≡ Ok (view x)
+Tells view (Err e) wanted = wanted ≡ Err e
+
 -- whether the word asks for a commit to be hidden
 abbrev pub begins_with_caret : List ℕ → Bool
 begins_with_caret [] = false

@@ -1,7 +1,7 @@
 //! The words of a command.
 ghost use Rattle.std.specs.Prelude.{◌≡◌, map, string_bytes};
 ghost use Rattle.std.specs.List.{list_all};
-ghost use Rattle.gix_walk.specs.Words.{Gives, AddsId, begins_with_caret, request_of_command, request_of, order_named, ids_from, commits_of, files_of, ahead_of};
+ghost use Rattle.gix_walk.specs.Words.{Gives, Tells, AddsId, begins_with_caret, request_of_command, request_of, order_named, ids_from, commits_of, files_of, ahead_of};
 
 use crate::fault::Fault;
 use gix_parts::hash::ObjectId;
@@ -100,7 +100,7 @@ fn commits(alloc: Global, order: Order, ids: &[String]) -> Result<Command, Fault
 
 // The tree of this id, which must be alone.
 fn files(ids: &[String]) -> Result<Command, Fault>
-    ensures { Gives request_of_command result (files_of (map string_bytes ids.now)) }
+    ensures { Tells request_of_command result (files_of (map string_bytes ids.now)) }
 {
     let [tree] = ids else {
         return Err(Fault::Usage);
@@ -116,7 +116,7 @@ fn files(ids: &[String]) -> Result<Command, Fault>
 
 // The two commits of these ids, which must be alone.
 fn ahead(ids: &[String]) -> Result<Command, Fault>
-    ensures { Gives request_of_command result (ahead_of (map string_bytes ids.now)) }
+    ensures { Tells request_of_command result (ahead_of (map string_bytes ids.now)) }
 {
     let [one, other] = ids else {
         return Err(Fault::Usage);

@@ -1,6 +1,6 @@
 -- What a list of distinct ids says of the set of them, and a list of entries of the map of them.
 -- `E` is the test that the container uses: whether two ids are one.
-use Rattle.std.specs.Prelude.{◌≡◌, ◌+◌, Bool, true, false, cond, not, ◌&&◌, ◌||◌, List, [], ◌∷◌, length, Some, None, is_some}
+use Rattle.std.specs.Prelude.{◌≡◌, ◌+◌, Bool, true, false, cond, not, ◌&&◌, ◌||◌, List, [], ◌∷◌, length, Some, None, is_some, Result, Ok, Err, OnErr}
 use Rattle.std.proofs.Common.{refl, sym, ap, ◌∙◌, arith}
 use Rattle.std.specs.List.{list_any, AllByRecursion, IsDistinct}
 use Rattle.std.specs.FinSet as set
@@ -9,6 +9,11 @@ use Rattle.std.specs.Map.{lookup, keys_of}
 use Rattle.gix_parts.specs.declared.hash.ObjectId.{ObjectId}
 use Rattle.gix_parts.specs.Id.{id_cmp, is_same}
 use Rattle.gix_parts.proofs.Ids.Membership.{id_total, id_apart, same_back}
+
+-- what is so is so where a call failed
+pub on_err : {A E P : Type 0} (r : Result A E) → P → OnErr r P
+on_err (Ok x) p = tt
+on_err (Err e) p = p
 
 cond-true : (b c : Bool) → cond b true c ≡ (b || c)
 cond-true true c = refl

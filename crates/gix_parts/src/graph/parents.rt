@@ -9,7 +9,7 @@ use super::{ParentFault, Position};
 use std::marker::Model;
 
 /// The places of a row in order: the positions of the parents, or faults.
-#[derive(Clone, Debug, Drop)]
+#[derive(Debug, Drop)]
 pub struct Parents<'a> {
     first: Option<u32>,
     second: Option<u32>,

@@ -10,7 +10,7 @@ pub returns-in-Err : goal.returns-in-Err
 returns-in-Err g c = numbers_failed g.I.Iterator.next_gives g.E.Into.converts c.args.walk _ _ _ _ _ _ c.loop-answer.invariant.drawn c.in-Some.ensures.steps c.in-Err.is c.into.ensures
 
 pub returns-in_default : goal.returns-in_default
-returns-in_default g c = numbers_cut g.I.Iterator.next_gives g.E.Into.converts c.args.walk _ _ c.loop-answer.invariant.drawn
+returns-in_default g c = numbers_cut g.I.Iterator.next_gives g.E.Into.converts c.args.walk _ _ _ _ _ c.loop-answer.invariant.drawn c.in-Some.ensures.steps c.in-Ok.is
 
 pub loop-answer-preserved : goal.loop-answer-preserved
 loop-answer-preserved g c = record {

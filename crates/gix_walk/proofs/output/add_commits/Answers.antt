@@ -17,7 +17,7 @@ returns-in-Err g c = λ _. adds_failed g.I.Iterator.next_gives g.E.Into.converts
 pub returns-in_err-add_line : goal.returns-in_err-add_line
 returns-in_err-add_line g c =
     let p = err_from_is_err_and c.from_residual.result c.from_residual.ensures.1 in
-    λ other. adds_cut g.I.Iterator.next_gives g.E.Into.converts _ _ _ _ _ _ _ _ _ _ _ c.loop-answer.invariant.drawn c.loop-answer.invariant.grows (p.1 ∙ ap (λ f. Err f) p.2) other c.in_err-add_line.ensures.err
+    λ other. adds_cut g.I.Iterator.next_gives g.E.Into.converts _ _ _ _ _ _ _ _ _ _ _ _ _ _ c.loop-answer.invariant.drawn c.in-Some.ensures.steps c.in-Ok.is c.loop-answer.invariant.grows (p.1 ∙ ap (λ f. Err f) p.2) other c.in_err-add_line.ensures.err
 
 pub loop-answer-preserved-in_ok-add_line : goal.loop-answer-preserved-in_ok-add_line
 loop-answer-preserved-in_ok-add_line g c = record {
