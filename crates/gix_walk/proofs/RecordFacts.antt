@@ -19,8 +19,9 @@ use Rattle.gix_parts.specs.Id.{id_cmp, id_from_hex}
 use Rattle.gix_parts.specs.MemoryStore.{objects_at}
 use Rattle.gix_parts.specs.Object.{Objects}
 use Rattle.gix_parts.proofs.MemoryStore.{object_put}
+use Rattle.gix_walk.specs.declared.fault.Fault.TheVariants as fault
 use Rattle.gix_walk.specs.Decimal.{decimal}
-use Rattle.gix_walk.specs.Records.{Record, kind_word, IsRecord, BeginsWith, AreRecords, IsBadRecord, put_in, stored}
+use Rattle.gix_walk.specs.Records.{Record, kind_word, IsRecord, BeginsWith, AreRecords, IsBadRecord, IsRecordFault, no_memory, put_in, stored}
 use Rattle.gix_walk.specs.RecordFront.{split_at_byte, kind_named, behind_newline, body_at, record_at, ◌>>=◌}
 use Rattle.gix_walk.proofs.SplitFacts.{split_found, split-append}
 use Rattle.gix_walk.proofs.DecimalFacts.{decimal_lineless}
@@ -194,6 +195,10 @@ stored_all text number objects rest h e = (h.before, subst (BeginsWith h.before 
 -- in what is no record's front none is found
 pub unspelled : (text : List ℕ) → record_at text ≡ None → (r : Record) (behind : List ℕ) → IsRecord r text behind → ⊥
 unspelled text none r behind h = let found : record_at text ≡ Some (r, behind) = record_read r text behind h in cc
+
+-- the next is a record, for whose place there was no memory
+pub stored_cut : (text rest : List ℕ) (number : ℕ) (objects : Objects) → HasStored text rest number objects → (r : Record × List ℕ) → record_at rest ≡ Some r → IsRecordFault text fault.Memory
+stored_cut text rest number objects h r e = no_memory h.before r.0 rest r.1 h.begins (record_found rest r e)
 
 pub stored_bad : (text rest : List ℕ) (number : ℕ) (objects : Objects) → HasStored text rest number objects → rest ≢ [] → record_at rest ≡ None → IsBadRecord number text
 stored_bad text rest number objects h more none = record {

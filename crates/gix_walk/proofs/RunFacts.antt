@@ -117,7 +117,7 @@ module _ (words : List (List ℕ)) (has old : Option (List ℕ)) where
 
   of_record : (request : Request) (input : List ℕ) (e : Fault) → request_of words ≡ Ok request → Tells has input → IsRecordFault input e → Runs words has old (Err e) old
   of_record request input e t h (bad {n = n} b) = bad_record request input n t h b
-  of_record request input e t h no_memory = without_memory
+  of_record request input e t h (no_memory before r rest behind begins is) = without_memory
 
   -- the input was no records
   pub runs_records : (request : Request) (input : List ℕ) (result : Result (Unit {0}) Fault) (e : Fault) → request_of words ≡ Ok request → Tells has input → result ≡ Err e → IsRecordFault input e → Runs words has old result old

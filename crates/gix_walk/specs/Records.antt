@@ -56,7 +56,7 @@ put_in objects (r ∷ records) = put_in (map_of.insert objects r.id (record { ki
 abbrev pub stored : List Record → Objects
 stored records = put_in map_of.empty records
 
--- why an input isn't stored: it has a bad record, or memory ran out
+-- why an input isn't stored: it has a bad record, or memory ran out for the place of a record
 pub data IsRecordFault (text : List ℕ) : Fault → Type 0 where
   bad : {n : ℕ} → IsBadRecord n text → IsRecordFault text (fault.Record n)
-  no_memory : IsRecordFault text fault.Memory
+  no_memory : (before : List Record) (r : Record) (rest behind : List ℕ) → BeginsWith before text rest → IsRecord r rest behind → IsRecordFault text fault.Memory

@@ -2,9 +2,9 @@ use Rattle.std.proofs.Common.{◌≡◌, sym, ◌∙◌, ap, refl, arith, length
 use Rattle.std.proofs.lemmas.Bool.{eqb-true, eqb-false}
 use Rattle.std.proofs.lemmas.Result.{err_from_is_err_and}
 use Rattle.gix_parts.proofs.MemoryStore.{empty_stored, within_empty, within_put}
-use Rattle.gix_walk.specs.Records.{bad, no_memory, stored}
+use Rattle.gix_walk.specs.Records.{bad, stored}
 use Rattle.gix_walk.specs.RecordFront.{front_shown}
-use Rattle.gix_walk.proofs.RecordFacts.{stored_none, stored_bad, stored_all, found_takes, bytes_fit, placed_one, only_reading, no_bad_record}
+use Rattle.gix_walk.proofs.RecordFacts.{stored_none, stored_cut, stored_bad, stored_all, found_takes, bytes_fit, placed_one, only_reading, no_bad_record}
 use Rattle.gix_walk.proofs.records.read_records.Goals as goal
 
 pub loop-rest-init : goal.loop-rest-init
@@ -30,7 +30,7 @@ returns-in_default-clause-fault c =
     bad (stored_bad _ _ _ _ c.loop-rest.invariant.read (λ e. eqb-false _ _ (sym c.is_empty.ensures ∙ c.loop-rest-test.true) (ap length e)) (sym c.in_default.ensures))
 
 pub returns-in_err-insert-clause-fault : goal.returns-in_err-insert-clause-fault
-returns-in_err-insert-clause-fault c = let p = err_from_is_err_and c.from_residual.result c.from_residual.ensures.1 in rw (p.1, p.2) no_memory
+returns-in_err-insert-clause-fault c = let p = err_from_is_err_and c.from_residual.result c.from_residual.ensures.1 in rw (p.1, p.2) (stored_cut _ _ _ _ c.loop-rest.invariant.read (front_shown c.in-Some.front) (sym c.in-Some.ensures))
 
 pub loop-rest-smaller : goal.loop-rest-smaller
 loop-rest-smaller c = found_takes _ (front_shown c.in-Some.front) (sym c.in-Some.ensures)
