@@ -1,5 +1,3 @@
--- One more mark on an id.
-pub mod Marks
 -- What meeting and finishing an id changes in the table.
 pub mod Frontier
 -- Meeting the parents of a commit one by one.

@@ -1,7 +1,3 @@
--- What is known of an id, by marks.
-pub mod Known
--- The queue and the table of both searches.
-pub mod Frontier
 -- How both searches go on.
 pub mod Exploring
 -- What both searches have seen and done.

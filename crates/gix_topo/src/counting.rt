@@ -1,6 +1,6 @@
 //! Counts the indegree of each commit that tips reach, as far down as is needed.
 ghost use Rattle.std.specs.Prelude.{◌≡◌, IfOk, IfErr, OnOk, false, true, cond, ◌+◌, ◌||◌};
-ghost use Rattle.gix_topo.specs.Inside.Frontier.{is_done, known_of};
+ghost use Rattle.gix_frontier.specs.Inside.Frontier.{is_done, known_of};
 ghost use Rattle.gix_topo.specs.Depth.{least};
 ghost use Rattle.gix_revwalk.specs.Commits.{by_mode};
 ghost use Rattle.gix_topo.specs.TopoOrder.{last_places};
@@ -9,9 +9,9 @@ ghost use Rattle.gix_topo.specs.Reading.{IsReadFault};
 ghost use Rattle.gix_topo.specs.Inside.Exploring.{is_pending, Follows, ReadsParents, Steps, IsStepFault, IsSamePlan, Explores, IsExploringFault, IsRested};
 
 use super::Error;
-use super::frontier::{Frontier, Side, Waiting};
 use super::reader::Reader;
 use gix_commitgraph::GENERATION_NUMBER_INFINITY;
+use gix_frontier::{Frontier, Side, Waiting};
 use gix_hash::ObjectId;
 use gix_hash::hashtable::IdSet;
 use gix_object::find::Find;

@@ -2,7 +2,6 @@
 #![tactic(auto)]
 
 mod counting;
-mod frontier;
 mod init;
 pub mod laws;
 mod reader;

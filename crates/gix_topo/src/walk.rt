@@ -1,14 +1,14 @@
 //! A topological walk: how it begins, and how it takes a commit.
 ghost use Rattle.std.specs.Prelude.{◌≡◌, ◌∷◌, List, true, IfOk, OnOk, IfErr};
 ghost use Rattle.gix_hash.specs.declared.ObjectId.{ObjectId};
-ghost use Rattle.gix_topo.specs.Inside.Frontier.{is_due};
+ghost use Rattle.gix_frontier.specs.Inside.Frontier.{is_due};
 ghost use Rattle.gix_topo.specs.Inside.ReadySet.{as_ready};
 
 use super::counting::{Counting, last_places, walked};
-use super::frontier::{Known, Progress, Side};
 use super::reader::Reader;
 use super::ready::{ReadyCommit, ReadySet};
 use super::{Error, Sorting};
+use gix_frontier::{Known, Progress, Side};
 use gix_hash::ObjectId;
 use gix_object::find::Find;
 use gix_revwalk::{Info, Parents};

@@ -7,13 +7,13 @@ use Rattle.gix_object.specs.Object.{Objects}
 use Rattle.gix_commitgraph.specs.Rows.{GraphRow}
 use Rattle.gix_hash.proofs.Ids.Membership.{same_is, Contains-here, Contains-there, no_member}
 use Rattle.gix_revwalk.specs.declared.Parents.{Parents}
-use Rattle.gix_topo.specs.declared.frontier.Side.{Side}
-use Rattle.gix_topo.specs.declared.frontier.Waiting.{Waiting}
-use Rattle.gix_topo.specs.declared.frontier.Frontier.{Frontier}
+use Rattle.gix_frontier.specs.declared.Side.{Side}
+use Rattle.gix_frontier.specs.declared.Waiting.{Waiting}
+use Rattle.gix_frontier.specs.declared.Frontier.{Frontier}
 use Rattle.gix_revwalk.specs.Agreeing.{IsAgreeing}
 use Rattle.gix_topo.specs.Depth.{known_generation}
 use Rattle.gix_topo.specs.Inside.Exploring.{IsRested, side_mode, Explores}
-use Rattle.gix_topo.specs.Inside.Frontier.{is_side, is_seen, is_queued, is_done, reached, waiting}
+use Rattle.gix_frontier.specs.Inside.Frontier.{is_side, is_seen, is_queued, is_done, reached, waiting}
 use Rattle.gix_hash.specs.Reach.{Reaches}
 use Rattle.gix_topo.specs.Inside.Searched.{IsSearched, text_next, next_by, starts_by, IsCounted, IsBegun, IsExplored}
 use Rattle.gix_topo.specs.declared.counting.Counting.{Counting}

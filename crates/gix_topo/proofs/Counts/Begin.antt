@@ -11,15 +11,15 @@ use Rattle.gix_hash.proofs.Ids.Membership.{same_is, no_member, Contains-here}
 use Rattle.gix_revwalk.specs.declared.Info.{Info}
 use Rattle.gix_topo.specs.declared.Error.{Error}
 use Rattle.gix_topo.specs.declared.Sorting.{Sorting}
-use Rattle.gix_topo.specs.declared.frontier.Side.{Side}
-use Rattle.gix_topo.specs.declared.frontier.Side.TheVariants.{Tips, Ends}
-use Rattle.gix_topo.specs.declared.frontier.Progress.TheVariants.{Done}
-use Rattle.gix_topo.specs.declared.frontier.Waiting.{Waiting}
+use Rattle.gix_frontier.specs.declared.Side.{Side}
+use Rattle.gix_frontier.specs.declared.Side.TheVariants.{Tips, Ends}
+use Rattle.gix_frontier.specs.declared.Progress.TheVariants.{Done}
+use Rattle.gix_frontier.specs.declared.Waiting.{Waiting}
 use Rattle.gix_topo.specs.declared.counting.Counting.{Counting}
 use Rattle.gix_revwalk.specs.Agreeing.{IsAgreeing}
 use Rattle.gix_topo.specs.Depth.{infinity, known_generation, least}
 use Rattle.gix_topo.specs.Inside.Exploring.{Explores, itself, further, IsSamePlan, IsRested, IsExploringFault}
-use Rattle.gix_topo.specs.Inside.Frontier.{is_side, is_done, reached}
+use Rattle.gix_frontier.specs.Inside.Frontier.{is_side, is_done, reached}
 use Rattle.gix_revwalk.specs.Reading.{rows_of, is_read}
 use Rattle.gix_topo.specs.Reading.{Reads, by_row, by_text}
 use Rattle.gix_topo.specs.Inside.Releasing.{plan_by, counted_by}

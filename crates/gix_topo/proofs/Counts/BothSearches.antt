@@ -13,16 +13,16 @@ use Rattle.gix_object.specs.Object.{Objects}
 use Rattle.gix_commitgraph.specs.Rows.{GraphRow}
 use Rattle.gix_hash.proofs.Ids.Membership.{same_itself, Contains-here, Contains-there, Contains-cons_cases}
 use Rattle.gix_revwalk.specs.declared.Parents.{Parents}
-use Rattle.gix_topo.specs.declared.frontier.Side.{Side}
-use Rattle.gix_topo.specs.declared.frontier.Side.TheVariants.{Tips, Ends}
-use Rattle.gix_topo.specs.declared.frontier.Progress.{Progress}
-use Rattle.gix_topo.specs.declared.frontier.Progress.TheVariants.{Queued, Done}
-use Rattle.gix_topo.specs.Inside.Known.{Known}
-use Rattle.gix_topo.specs.declared.frontier.Waiting.{Waiting}
-use Rattle.gix_topo.specs.declared.frontier.Frontier.{Frontier}
+use Rattle.gix_frontier.specs.declared.Side.{Side}
+use Rattle.gix_frontier.specs.declared.Side.TheVariants.{Tips, Ends}
+use Rattle.gix_frontier.specs.declared.Progress.{Progress}
+use Rattle.gix_frontier.specs.declared.Progress.TheVariants.{Queued, Done}
+use Rattle.gix_frontier.specs.Inside.Known.{Known}
+use Rattle.gix_frontier.specs.declared.Waiting.{Waiting}
+use Rattle.gix_frontier.specs.declared.Frontier.{Frontier}
 use Rattle.gix_topo.specs.Depth.{known_generation}
 use Rattle.gix_topo.specs.Inside.Exploring.{Follows, none, more}
-use Rattle.gix_topo.specs.Inside.Frontier.{is_side, is_seen, is_queued, reached, waits_for, waiting, IsSearch, Meets, seen, unseen, Counts, MeetsParent, Finishes}
+use Rattle.gix_frontier.specs.Inside.Frontier.{is_side, is_seen, is_queued, reached, waits_for, waiting, IsSearch, Meets, seen, unseen, Counts, MeetsParent, Finishes}
 use Rattle.gix_hash.specs.Reach.{Reaches}
 use Rattle.gix_topo.specs.Inside.Searched.{IsSearched, next_by, starts_by}
 use Rattle.gix_topo.proofs.Counts.Frontier.{moved, unmoved, has_seen, side_is, side_itself}

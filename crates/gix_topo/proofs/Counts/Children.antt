@@ -8,14 +8,14 @@ use Rattle.gix_hash.specs.declared.ObjectId.{ObjectId}
 use Rattle.gix_hash.specs.Id.{is_same, is_among}
 use Rattle.gix_commitgraph.specs.Rows.{GraphRow}
 use Rattle.gix_hash.proofs.Ids.Membership.{same_is, among_from, among_is, Contains-here, Contains-there, Contains-cons_cases, no_member}
-use Rattle.gix_topo.specs.declared.frontier.Side.{Side}
-use Rattle.gix_topo.specs.declared.frontier.Side.TheVariants.{Tips, Ends}
-use Rattle.gix_topo.specs.declared.frontier.Progress.{Progress}
-use Rattle.gix_topo.specs.declared.frontier.Progress.TheVariants.{Unseen, Queued, Done}
-use Rattle.gix_topo.specs.Inside.Known.{Known}
-use Rattle.gix_topo.specs.declared.frontier.Frontier.{Frontier}
+use Rattle.gix_frontier.specs.declared.Side.{Side}
+use Rattle.gix_frontier.specs.declared.Side.TheVariants.{Tips, Ends}
+use Rattle.gix_frontier.specs.declared.Progress.{Progress}
+use Rattle.gix_frontier.specs.declared.Progress.TheVariants.{Unseen, Queued, Done}
+use Rattle.gix_frontier.specs.Inside.Known.{Known}
+use Rattle.gix_frontier.specs.declared.Frontier.{Frontier}
 use Rattle.gix_topo.specs.Inside.Exploring.{Follows, none, more}
-use Rattle.gix_topo.specs.Inside.Frontier.{is_side, is_seen, is_done, known_of, with_progress, reached, Meets, seen, unseen, Counts, MeetsParent, Finishes}
+use Rattle.gix_frontier.specs.Inside.Frontier.{is_side, is_seen, is_done, known_of, with_progress, reached, Meets, seen, unseen, Counts, MeetsParent, Finishes}
 use Rattle.gix_topo.specs.Inside.Searched.{IsTally, naming}
 use Rattle.gix_revwalk.specs.Ids.{times}
 use Rattle.gix_topo.specs.TopoOrder.{last_places}

@@ -8,16 +8,16 @@ use Rattle.gix_hash.specs.Id.{is_same}
 use Rattle.gix_object.specs.Object.{Objects}
 use Rattle.gix_hash.proofs.Ids.Membership.{same_is, same_itself, Contains-here, Contains-there, Contains-cons_cases}
 use Rattle.gix_topo.specs.declared.Sorting.{Sorting}
-use Rattle.gix_topo.specs.declared.frontier.Side.{Side}
-use Rattle.gix_topo.specs.declared.frontier.Side.TheVariants.{Tips, Ends}
-use Rattle.gix_topo.specs.declared.frontier.Progress.TheVariants.{Done}
-use Rattle.gix_topo.specs.declared.frontier.Waiting.{Waiting}
-use Rattle.gix_topo.specs.declared.frontier.Frontier.{Frontier}
+use Rattle.gix_frontier.specs.declared.Side.{Side}
+use Rattle.gix_frontier.specs.declared.Side.TheVariants.{Tips, Ends}
+use Rattle.gix_frontier.specs.declared.Progress.TheVariants.{Done}
+use Rattle.gix_frontier.specs.declared.Waiting.{Waiting}
+use Rattle.gix_frontier.specs.declared.Frontier.{Frontier}
 use Rattle.gix_topo.specs.declared.counting.Counting.{Counting}
 use Rattle.gix_revwalk.specs.Agreeing.{IsAgreeing}
 use Rattle.gix_topo.specs.Depth.{known_generation}
 use Rattle.gix_topo.specs.Inside.Exploring.{is_pending, IsRested, Steps, Explores, itself, further, IsSamePlan}
-use Rattle.gix_topo.specs.Inside.Frontier.{is_side, is_done, reached}
+use Rattle.gix_frontier.specs.Inside.Frontier.{is_side, is_done, reached}
 use Rattle.gix_hash.specs.Reach.{Reaches}
 use Rattle.gix_revwalk.specs.Reading.{rows_of, DropsRows}
 use Rattle.gix_topo.specs.Inside.Releasing.{plan_by, counted_by}

@@ -5,16 +5,16 @@ use Rattle.std.proofs.lemmas.Bool.{false≢true}
 use Rattle.gix_hash.specs.declared.ObjectId.{ObjectId}
 use Rattle.gix_hash.specs.Id.{is_same, is_among}
 use Rattle.gix_object.specs.Object.{Objects}
-use Rattle.gix_topo.specs.declared.frontier.Side.{Side}
-use Rattle.gix_topo.specs.declared.frontier.Side.TheVariants.{Tips, Ends}
-use Rattle.gix_topo.specs.declared.frontier.Progress.{Progress}
-use Rattle.gix_topo.specs.declared.frontier.Progress.TheVariants.{Unseen, Queued, Done}
-use Rattle.gix_topo.specs.declared.frontier.Waiting.{Waiting}
-use Rattle.gix_topo.specs.declared.frontier.Frontier.{Frontier}
+use Rattle.gix_frontier.specs.declared.Side.{Side}
+use Rattle.gix_frontier.specs.declared.Side.TheVariants.{Tips, Ends}
+use Rattle.gix_frontier.specs.declared.Progress.{Progress}
+use Rattle.gix_frontier.specs.declared.Progress.TheVariants.{Unseen, Queued, Done}
+use Rattle.gix_frontier.specs.declared.Waiting.{Waiting}
+use Rattle.gix_frontier.specs.declared.Frontier.{Frontier}
 use Rattle.gix_topo.specs.declared.counting.Counting.{Counting}
 use Rattle.gix_revwalk.specs.Agreeing.{IsAgreeing}
 use Rattle.gix_topo.specs.Inside.Exploring.{Follows, Steps, Explores, itself, further, IsSamePlan, side_mode, is_pending}
-use Rattle.gix_topo.specs.Inside.Frontier.{is_side, is_seen, is_queued, is_done, reached}
+use Rattle.gix_frontier.specs.Inside.Frontier.{is_side, is_seen, is_queued, is_done, reached}
 use Rattle.gix_revwalk.specs.Commits.{by_mode}
 use Rattle.gix_hash.specs.Reach.{Reaches, step}
 use Rattle.gix_revwalk.specs.Reading.{rows_of}

@@ -8,13 +8,13 @@ use Rattle.gix_hash.specs.declared.ObjectId.{ObjectId}
 use Rattle.gix_hash.specs.Id.{id_cmp, is_same, is_among}
 use Rattle.gix_commitgraph.specs.Rows.{GraphRow}
 use Rattle.gix_hash.proofs.Ids.Membership.{id_total, same_is, same_itself}
-use Rattle.gix_topo.specs.declared.frontier.Side.{Side}
-use Rattle.gix_topo.specs.declared.frontier.Side.TheVariants.{Tips, Ends}
-use Rattle.gix_topo.specs.declared.frontier.Progress.{Progress}
-use Rattle.gix_topo.specs.declared.frontier.Progress.TheVariants.{Queued, Done}
-use Rattle.gix_topo.specs.Inside.Known.{Known}
-use Rattle.gix_topo.specs.declared.frontier.Frontier.{Frontier}
-use Rattle.gix_topo.specs.Inside.Frontier.{is_side, is_seen, known_or, known_of, progress_of, with_progress, reached, Meets, seen, unseen, Counts, MeetsParent, Finishes}
+use Rattle.gix_frontier.specs.declared.Side.{Side}
+use Rattle.gix_frontier.specs.declared.Side.TheVariants.{Tips, Ends}
+use Rattle.gix_frontier.specs.declared.Progress.{Progress}
+use Rattle.gix_frontier.specs.declared.Progress.TheVariants.{Queued, Done}
+use Rattle.gix_frontier.specs.Inside.Known.{Known}
+use Rattle.gix_frontier.specs.declared.Frontier.{Frontier}
+use Rattle.gix_frontier.specs.Inside.Frontier.{is_side, is_seen, known_or, known_of, progress_of, with_progress, reached, Meets, seen, unseen, Counts, MeetsParent, Finishes}
 use Rattle.gix_topo.specs.Inside.Exploring.{Follows, none, more}
 use Rattle.gix_revwalk.proofs.NewIds.{fresh, fresh_agree, new_less}
 

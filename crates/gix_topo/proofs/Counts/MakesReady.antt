@@ -9,14 +9,14 @@ use Rattle.gix_object.specs.Object.{Objects}
 use Rattle.gix_commitgraph.specs.Rows.{GraphRow}
 use Rattle.gix_hash.proofs.Ids.Membership.{same_is, among-append, among-one, Contains-here, Contains-there, no_member}
 use Rattle.gix_revwalk.specs.declared.Info.{Info}
-use Rattle.gix_topo.specs.declared.frontier.Side.{Side}
-use Rattle.gix_topo.specs.declared.frontier.Side.TheVariants.{Tips, Ends}
-use Rattle.gix_topo.specs.declared.frontier.Frontier.{Frontier}
+use Rattle.gix_frontier.specs.declared.Side.{Side}
+use Rattle.gix_frontier.specs.declared.Side.TheVariants.{Tips, Ends}
+use Rattle.gix_frontier.specs.declared.Frontier.{Frontier}
 use Rattle.gix_topo.specs.declared.walk.Walk.{Walk}
 use Rattle.gix_topo.specs.Reading.{Reads, by_row, by_text}
 use Rattle.gix_revwalk.specs.Reading.{DropsRows}
-use Rattle.gix_topo.specs.Inside.Known.{Known}
-use Rattle.gix_topo.specs.Inside.Frontier.{is_seen, known_of, progress_of, reached, is_due, MarksReady}
+use Rattle.gix_frontier.specs.Inside.Known.{Known}
+use Rattle.gix_frontier.specs.Inside.Frontier.{is_seen, known_of, progress_of, reached, is_due, MarksReady}
 use Rattle.gix_topo.specs.Inside.Releasing.{plan_of, with_frontier, Pushes}
 use Rattle.gix_topo.specs.Inside.Steady.{AreRead}
 use Rattle.gix_topo.specs.Walk.{Ready, ready_ids, IsFound}

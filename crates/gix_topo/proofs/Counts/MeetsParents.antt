@@ -1,17 +1,13 @@
 -- Naming the parents of a commit one by one.
-use Rattle.std.specs.Prelude.{◌≡◌, ℕ, List, [], ◌∷◌, Result, Ok, Err, OnOk, IfErr, IsErrAnd, length}
+use Rattle.std.specs.Prelude.{◌≡◌, ℕ, List, [], ◌∷◌, length}
 use Rattle.std.proofs.Common.{refl, sym, subst, arith}
 use Rattle.gix_hash.specs.declared.ObjectId.{ObjectId}
 use Rattle.gix_commitgraph.specs.Rows.{GraphRow}
-use Rattle.gix_topo.specs.declared.frontier.Side.{Side}
-use Rattle.gix_topo.specs.declared.frontier.Frontier.{Frontier}
+use Rattle.gix_frontier.specs.declared.Side.{Side}
+use Rattle.gix_frontier.specs.declared.Frontier.{Frontier}
 use Rattle.gix_topo.specs.Depth.{known_generation}
-use Rattle.gix_topo.specs.Inside.Frontier.{MeetsParent}
+use Rattle.gix_frontier.specs.Inside.Frontier.{MeetsParent}
 use Rattle.gix_topo.specs.Inside.Exploring.{Follows, none, more}
-
-pub on_ok : {X E A B : Type 0} (r : Result X E) → (A → B) → OnOk r A → OnOk r B
-on_ok (Ok x) f h = f h
-on_ok (Err e) f h = tt
 
 pub follows_none : (rows : List GraphRow) (side : Side) (old : Frontier) (ids : List ObjectId) → length ids ≡ 0 → Follows rows side old ids old
 follows_none rows side old [] e = none
@@ -19,14 +15,6 @@ follows_none rows side old (i ∷ ids) e = absurd (omega arith)
 
 pub follows_more : (rows : List GraphRow) (side : Side) (old mid new : Frontier) (generation : ℕ) (i : ObjectId) (all ids : List ObjectId) → all ≡ i ∷ ids → generation ≡ known_generation rows i → MeetsParent side old generation i mid → Follows rows side mid ids new → Follows rows side old all new
 follows_more rows side old mid new generation i all ids e g n f = subst (λ those. Follows rows side old those new) (sym e) (more (subst (λ k. MeetsParent side old k i mid) g n) f)
-
-pub if_err : {X E : Type 0} {P Q : E → Type 0} (r : Result X E) → ((e : E) → P e → Q e) → IfErr r P → IfErr r Q
-if_err (Ok x) f h = tt
-if_err (Err e) f h = f e h
-
-pub err_from : {X E : Type 0} (P : E → Type 0) (r : Result X E) (why : E) → IsErrAnd r (λ e. e ≡ why) → P why → IfErr r P
-err_from P (Ok x) why h p = absurd h
-err_from P (Err e) why h p = subst P (sym h) p
 
 pub no_items : {X : Type 0} (xs : List X) → length xs ≡ 0 → xs ≡ []
 no_items [] e = refl

@@ -9,12 +9,12 @@ use Rattle.gix_object.specs.Object.{Objects}
 use Rattle.gix_commitgraph.specs.Rows.{GraphRow}
 use Rattle.gix_hash.proofs.Ids.Membership.{Contains-here, Contains-there, Contains-cons_cases, no_member}
 use Rattle.gix_revwalk.specs.declared.Parents.{Parents}
-use Rattle.gix_topo.specs.declared.frontier.Side.{Side}
-use Rattle.gix_topo.specs.declared.frontier.Side.TheVariants.{Tips, Ends}
-use Rattle.gix_topo.specs.declared.frontier.Progress.TheVariants.{Unseen}
-use Rattle.gix_topo.specs.declared.frontier.Frontier.{Frontier}
+use Rattle.gix_frontier.specs.declared.Side.{Side}
+use Rattle.gix_frontier.specs.declared.Side.TheVariants.{Tips, Ends}
+use Rattle.gix_frontier.specs.declared.Progress.TheVariants.{Unseen}
+use Rattle.gix_frontier.specs.declared.Frontier.{Frontier}
 use Rattle.gix_topo.specs.Depth.{known_generation}
-use Rattle.gix_topo.specs.Inside.Frontier.{is_seen, is_queued, is_done, unknown, known_or, known_of, progress_of, reached, Meets}
+use Rattle.gix_frontier.specs.Inside.Frontier.{is_seen, is_queued, is_done, unknown, known_or, known_of, progress_of, reached, Meets}
 use Rattle.gix_hash.specs.Reach.{start}
 use Rattle.gix_topo.specs.Inside.Searched.{IsSearched, IsCounted, starts_by}
 use Rattle.gix_topo.specs.Inside.Starting.{MeetsAll, met, meets}

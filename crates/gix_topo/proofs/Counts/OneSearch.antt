@@ -5,10 +5,10 @@ use Rattle.std.proofs.lemmas.Bool.{false≢true}
 use Rattle.gix_hash.specs.declared.ObjectId.{ObjectId}
 use Rattle.gix_hash.specs.Id.{is_same}
 use Rattle.gix_hash.proofs.Ids.Membership.{same_is, Contains-here}
-use Rattle.gix_topo.specs.declared.frontier.Progress.{Progress}
-use Rattle.gix_topo.specs.declared.frontier.Progress.TheVariants.{Unseen, Queued, Done}
+use Rattle.gix_frontier.specs.declared.Progress.{Progress}
+use Rattle.gix_frontier.specs.declared.Progress.TheVariants.{Unseen, Queued, Done}
 use Rattle.gix_hash.specs.Reach.{Reaches, start, step}
-use Rattle.gix_topo.specs.Inside.Frontier.{is_seen, is_queued, is_done, IsSearch}
+use Rattle.gix_frontier.specs.Inside.Frontier.{is_seen, is_queued, is_done, IsSearch}
 use Rattle.gix_hash.proofs.Lists.{only_member}
 
 -- after one id made progress

@@ -13,15 +13,15 @@ use Rattle.gix_topo.specs.declared.Sorting.{Sorting}
 use Rattle.gix_topo.specs.declared.Error.{Error}
 use Rattle.gix_topo.specs.declared.Error.TheVariants as error
 use Rattle.gix_topo.specs.declared.counting.Counting.{Counting}
-use Rattle.gix_topo.specs.declared.frontier.Side.{Side}
-use Rattle.gix_topo.specs.declared.frontier.Side.TheVariants.{Tips, Ends}
-use Rattle.gix_topo.specs.declared.frontier.Progress.{Progress}
-use Rattle.gix_topo.specs.declared.frontier.Progress.TheVariants.{Unseen, Queued, Done}
-use Rattle.gix_topo.specs.declared.frontier.Waiting.{Waiting}
+use Rattle.gix_frontier.specs.declared.Side.{Side}
+use Rattle.gix_frontier.specs.declared.Side.TheVariants.{Tips, Ends}
+use Rattle.gix_frontier.specs.declared.Progress.{Progress}
+use Rattle.gix_frontier.specs.declared.Progress.TheVariants.{Unseen, Queued, Done}
+use Rattle.gix_frontier.specs.declared.Waiting.{Waiting}
 use Rattle.gix_topo.specs.declared.walk.Walk.{Walk}
 use Rattle.gix_revwalk.specs.Agreeing.{IsAgreeing}
 use Rattle.gix_topo.specs.Inside.Exploring.{IsExploringFault}
-use Rattle.gix_topo.specs.Inside.Frontier.{is_side, is_seen, is_queued, reached, waiting}
+use Rattle.gix_frontier.specs.Inside.Frontier.{is_side, is_seen, is_queued, reached, waiting}
 use Rattle.gix_revwalk.specs.Commits.{ReadsWhole, parents_of, commit_of_object}
 use Rattle.gix_hash.specs.Reach.{Reaches}
 use Rattle.gix_revwalk.specs.Reading.{rows_of}

@@ -4,11 +4,11 @@ use Rattle.std.proofs.Common.{sym, ap, subst, ◌∙◌}
 use Rattle.gix_hash.specs.declared.ObjectId.{ObjectId}
 use Rattle.gix_object.specs.Object.{Objects}
 use Rattle.gix_hash.proofs.Ids.Membership.{Contains-here}
-use Rattle.gix_topo.specs.declared.frontier.Side.TheVariants.{Tips, Ends}
-use Rattle.gix_topo.specs.declared.frontier.Waiting.{Waiting}
-use Rattle.gix_topo.specs.declared.frontier.Frontier.{Frontier}
+use Rattle.gix_frontier.specs.declared.Side.TheVariants.{Tips, Ends}
+use Rattle.gix_frontier.specs.declared.Waiting.{Waiting}
+use Rattle.gix_frontier.specs.declared.Frontier.{Frontier}
 use Rattle.gix_topo.specs.declared.counting.Counting.{Counting}
-use Rattle.gix_topo.specs.Inside.Frontier.{reached, is_done, Finishes}
+use Rattle.gix_frontier.specs.Inside.Frontier.{reached, is_done, Finishes}
 use Rattle.gix_revwalk.specs.Reading.{rows_of}
 use Rattle.gix_topo.specs.Inside.Exploring.{Follows, IsSamePlan, ReadsParents, Steps}
 

@@ -8,8 +8,8 @@ use Rattle.gix_hash.specs.declared.ObjectId.{ObjectId}
 use Rattle.gix_hash.specs.Id.{id_cmp, is_among}
 use Rattle.gix_hash.proofs.Ids.Membership.{id_total, id_apart, among_from, among_is}
 use Rattle.gix_topo.specs.declared.walk.Walk.{Walk}
-use Rattle.gix_topo.specs.Inside.Frontier.{known_of, known_or}
-use Rattle.gix_topo.specs.Inside.Known.{Known}
+use Rattle.gix_frontier.specs.Inside.Frontier.{known_of, known_or}
+use Rattle.gix_frontier.specs.Inside.Known.{Known}
 use Rattle.gix_topo.specs.Inside.Releasing.{taken_in, taken_of}
 use Rattle.gix_topo.specs.Walk.{Ready, ready_ids}
 use Rattle.gix_topo.proofs.Counts.Children.{was_ready_of}

@@ -7,12 +7,12 @@ use Rattle.gix_object.specs.Object.{Objects}
 use Rattle.gix_revwalk.specs.declared.Info.{Info}
 use Rattle.gix_revwalk.specs.Reading.{is_read}
 use Rattle.gix_topo.specs.Reading.{Reads, by_row, by_text, ReadsText}
-use Rattle.gix_topo.specs.declared.frontier.Side.{Side}
-use Rattle.gix_topo.specs.declared.frontier.Side.TheVariants.{Tips, Ends}
-use Rattle.gix_topo.specs.declared.frontier.Frontier.{Frontier}
+use Rattle.gix_frontier.specs.declared.Side.{Side}
+use Rattle.gix_frontier.specs.declared.Side.TheVariants.{Tips, Ends}
+use Rattle.gix_frontier.specs.declared.Frontier.{Frontier}
 use Rattle.gix_topo.specs.declared.counting.Counting.{Counting}
 use Rattle.gix_topo.specs.declared.walk.Walk.{Walk}
-use Rattle.gix_topo.specs.Inside.Frontier.{is_done, reached}
+use Rattle.gix_frontier.specs.Inside.Frontier.{is_done, reached}
 use Rattle.gix_topo.specs.Inside.Releasing.{plan_of, LooksUpParent, Pushes}
 use Rattle.gix_topo.specs.Inside.Steady.{IsReadOnce, AreRead}
 use Rattle.gix_topo.specs.Walk.{TopoPlan, Ready, IsCommitRead, IsKnown, IsFound}

@@ -6,10 +6,10 @@ use Rattle.gix_hash.specs.declared.ObjectId.{ObjectId}
 use Rattle.gix_hash.specs.Id.{is_same, is_among}
 use Rattle.gix_object.specs.Object.{Objects}
 use Rattle.gix_hash.proofs.Ids.Membership.{same_is, among-one, among_from, among_is, Contains-here, Contains-there, Contains-cons_cases}
-use Rattle.gix_topo.specs.declared.frontier.Side.TheVariants.{Ends}
-use Rattle.gix_topo.specs.declared.frontier.Frontier.{Frontier}
+use Rattle.gix_frontier.specs.declared.Side.TheVariants.{Ends}
+use Rattle.gix_frontier.specs.declared.Frontier.{Frontier}
 use Rattle.gix_topo.specs.declared.walk.Walk.{Walk}
-use Rattle.gix_topo.specs.Inside.Frontier.{is_seen, known_of}
+use Rattle.gix_frontier.specs.Inside.Frontier.{is_seen, known_of}
 use Rattle.gix_topo.specs.Inside.Starting.{Starts, waits, frees, StartsAll, none, more}
 use Rattle.gix_topo.specs.TopoOrder.{Keeps, none as keeps_none, kept, passed, distinct_after}
 use Rattle.gix_topo.specs.Walk.{Ready, ready_ids}

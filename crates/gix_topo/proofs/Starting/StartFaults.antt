@@ -6,10 +6,10 @@ use Rattle.gix_object.specs.Object.{Objects}
 use Rattle.gix_hash.proofs.Ids.Membership.{Contains-here, Contains-there}
 use Rattle.gix_topo.specs.declared.Error.{Error}
 use Rattle.gix_topo.specs.declared.counting.Counting.{Counting}
-use Rattle.gix_topo.specs.declared.frontier.Side.TheVariants.{Ends}
+use Rattle.gix_frontier.specs.declared.Side.TheVariants.{Ends}
 use Rattle.gix_topo.specs.declared.walk.Walk.{Walk}
 use Rattle.gix_revwalk.specs.Agreeing.{IsAgreeing}
-use Rattle.gix_topo.specs.Inside.Frontier.{is_seen, known_of}
+use Rattle.gix_frontier.specs.Inside.Frontier.{is_seen, known_of}
 use Rattle.gix_hash.specs.Reach.{start}
 use Rattle.gix_topo.specs.Inside.Releasing.{plan_of}
 use Rattle.gix_topo.specs.Inside.Starting.{HasBegun, IsStartFault, here, later, short}

@@ -9,13 +9,13 @@ use Rattle.gix_hash.specs.declared.ObjectId.{ObjectId}
 use Rattle.gix_hash.specs.Id.{id_cmp, is_among}
 use Rattle.gix_object.specs.Object.{Objects}
 use Rattle.gix_hash.proofs.Ids.Membership.{id_total, id_apart, among_from, among_is}
-use Rattle.gix_topo.specs.declared.frontier.Side.{Side}
-use Rattle.gix_topo.specs.declared.frontier.Side.TheVariants.{Tips, Ends}
+use Rattle.gix_frontier.specs.declared.Side.{Side}
+use Rattle.gix_frontier.specs.declared.Side.TheVariants.{Tips, Ends}
 use Rattle.gix_topo.specs.declared.counting.Counting.{Counting}
 use Rattle.gix_topo.specs.declared.walk.Walk.{Walk}
 use Rattle.gix_revwalk.specs.Agreeing.{IsAgreeing}
 use Rattle.gix_topo.specs.Depth.{infinity, known_generation}
-use Rattle.gix_topo.specs.Inside.Frontier.{is_seen, is_done, reached}
+use Rattle.gix_frontier.specs.Inside.Frontier.{is_seen, is_done, reached}
 use Rattle.gix_revwalk.specs.Commits.{time_of}
 use Rattle.gix_hash.specs.Reach.{start}
 use Rattle.gix_revwalk.specs.Reading.{DropsRows}

@@ -7,14 +7,14 @@ use Rattle.gix_hash.specs.declared.ObjectId.{ObjectId}
 use Rattle.gix_hash.specs.Id.{is_same, is_among}
 use Rattle.gix_object.specs.Object.{Objects}
 use Rattle.gix_hash.proofs.Ids.Membership.{id_total, same_is, among_from}
-use Rattle.gix_topo.specs.declared.frontier.Side.{Side}
-use Rattle.gix_topo.specs.declared.frontier.Side.TheVariants.{Tips, Ends}
+use Rattle.gix_frontier.specs.declared.Side.{Side}
+use Rattle.gix_frontier.specs.declared.Side.TheVariants.{Tips, Ends}
 use Rattle.gix_topo.specs.declared.counting.Counting.{Counting}
 use Rattle.gix_topo.specs.declared.walk.Walk.{Walk}
 use Rattle.gix_topo.specs.Inside.ReadySet.{ReadySet}
 use Rattle.gix_topo.specs.Depth.{known_generation}
 use Rattle.gix_topo.specs.Inside.Exploring.{IsSamePlan, Explores, itself, further}
-use Rattle.gix_topo.specs.Inside.Frontier.{is_seen, is_done, reached}
+use Rattle.gix_frontier.specs.Inside.Frontier.{is_seen, is_done, reached}
 use Rattle.gix_revwalk.specs.Commits.{by_mode}
 use Rattle.gix_topo.specs.Inside.Releasing.{plan_of, counted_by, lowered, with_counting, taken_of, TakesOne}
 use Rattle.gix_topo.specs.Inside.Searched.{IsCounted, IsExplored, IsTally, next_by}

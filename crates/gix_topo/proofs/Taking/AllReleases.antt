@@ -6,11 +6,11 @@ use Rattle.gix_hash.specs.declared.ObjectId.{ObjectId}
 use Rattle.gix_hash.specs.Id.{is_same, is_among}
 use Rattle.gix_object.specs.Object.{Objects}
 use Rattle.gix_hash.proofs.Ids.Membership.{same_is, same_itself, among_from, among_is}
-use Rattle.gix_topo.specs.declared.frontier.Side.{Side}
-use Rattle.gix_topo.specs.declared.frontier.Side.TheVariants.{Ends}
-use Rattle.gix_topo.specs.declared.frontier.Frontier.{Frontier}
+use Rattle.gix_frontier.specs.declared.Side.{Side}
+use Rattle.gix_frontier.specs.declared.Side.TheVariants.{Ends}
+use Rattle.gix_frontier.specs.declared.Frontier.{Frontier}
 use Rattle.gix_topo.specs.declared.walk.Walk.{Walk}
-use Rattle.gix_topo.specs.Inside.Frontier.{is_seen, known_of, reached, Uncounts}
+use Rattle.gix_frontier.specs.Inside.Frontier.{is_seen, known_of, reached, Uncounts}
 use Rattle.gix_topo.specs.Inside.Releasing.{with_frontier, Releases, waits, frees, ReleasesAll, none, more}
 use Rattle.gix_revwalk.specs.Ids.{times}
 use Rattle.gix_topo.specs.TopoOrder.{Keeps, none as keeps_none, kept, passed}

@@ -4,12 +4,12 @@ use Rattle.std.proofs.Common.{refl, sym, ap, subst, inl, inr, ⊎_elim, ◌∙�
 use Rattle.std.specs.FinSet as set
 use Rattle.gix_hash.specs.declared.ObjectId.{ObjectId}
 use Rattle.gix_object.specs.Object.{Objects}
-use Rattle.gix_topo.specs.declared.frontier.Side.TheVariants.{Tips, Ends}
+use Rattle.gix_frontier.specs.declared.Side.TheVariants.{Tips, Ends}
 use Rattle.gix_topo.specs.declared.counting.Counting.{Counting}
 use Rattle.gix_topo.specs.declared.walk.Walk.{Walk}
 use Rattle.gix_topo.specs.Inside.ReadySet.{ReadySet}
 use Rattle.gix_topo.specs.Depth.{known_generation}
-use Rattle.gix_topo.specs.Inside.Frontier.{is_done}
+use Rattle.gix_frontier.specs.Inside.Frontier.{is_done}
 use Rattle.gix_revwalk.specs.Commits.{by_mode}
 use Rattle.gix_hash.specs.Reach.{Reaches}
 use Rattle.gix_revwalk.specs.Reading.{rows_of, DropsRows}

@@ -7,13 +7,13 @@ use Rattle.gix_hash.specs.declared.ObjectId.{ObjectId}
 use Rattle.gix_hash.specs.Id.{is_same, is_among}
 use Rattle.gix_object.specs.Object.{Objects}
 use Rattle.gix_hash.proofs.Ids.Membership.{id_total, id_apart, among-append, among_from, among_is}
-use Rattle.gix_topo.specs.declared.frontier.Side.{Side}
-use Rattle.gix_topo.specs.declared.frontier.Side.TheVariants.{Tips}
+use Rattle.gix_frontier.specs.declared.Side.{Side}
+use Rattle.gix_frontier.specs.declared.Side.TheVariants.{Tips}
 use Rattle.gix_topo.specs.declared.counting.Counting.{Counting}
 use Rattle.gix_topo.specs.declared.walk.Walk.{Walk}
 use Rattle.gix_topo.specs.Inside.ReadySet.{ReadySet}
 use Rattle.gix_revwalk.specs.Agreeing.{IsAgreeing}
-use Rattle.gix_topo.specs.Inside.Frontier.{is_seen, is_queued, is_done, reached, waiting, IsSearch}
+use Rattle.gix_frontier.specs.Inside.Frontier.{is_seen, is_queued, is_done, reached, waiting, IsSearch}
 use Rattle.gix_revwalk.specs.Commits.{by_mode}
 use Rattle.gix_topo.specs.Inside.Releasing.{plan_of, counted_by, lowered, with_counting, taken_of, TakesOne}
 use Rattle.gix_topo.specs.Inside.Searched.{IsCounted, IsExplored, IsTally, next_by, starts_by, IsBegun}

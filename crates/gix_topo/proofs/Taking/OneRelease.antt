@@ -12,7 +12,7 @@ use Rattle.gix_topo.specs.declared.walk.Walk.{Walk}
 use Rattle.gix_revwalk.specs.Reading.{rows_of}
 use Rattle.gix_topo.specs.Reading.{Reads, by_row, by_text, IsReadFault}
 use Rattle.gix_topo.specs.declared.counting.Counting.{Counting}
-use Rattle.gix_topo.specs.declared.frontier.Frontier.{Frontier}
+use Rattle.gix_frontier.specs.declared.Frontier.{Frontier}
 use Rattle.gix_topo.specs.Depth.{least}
 use Rattle.gix_topo.specs.Inside.Exploring.{Explores, IsRested, IsExploringFault}
 use Rattle.gix_revwalk.specs.Commits.{by_mode}

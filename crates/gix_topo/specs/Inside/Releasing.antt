@@ -9,7 +9,7 @@ use Rattle.gix_commitgraph.specs.Rows.{GraphRow}
 use Rattle.gix_revwalk.specs.declared.Info.{Info}
 use Rattle.gix_topo.specs.declared.Error.{Error}
 use Rattle.gix_topo.specs.declared.Error.TheVariants as error
-use Rattle.gix_topo.specs.declared.frontier.Frontier.{Frontier}
+use Rattle.gix_frontier.specs.declared.Frontier.{Frontier}
 use Rattle.gix_revwalk.specs.declared.Parents.{Parents}
 use Rattle.gix_topo.specs.declared.reader.Reader.{Reader}
 use Rattle.gix_topo.specs.declared.counting.Counting.{Counting}
@@ -18,8 +18,8 @@ use Rattle.gix_topo.specs.Depth.{least}
 use Rattle.gix_topo.specs.Inside.Exploring.{Explores, IsRested, IsExploringFault}
 use Rattle.gix_revwalk.specs.Commits.{by_mode}
 use Rattle.gix_topo.specs.TopoOrder.{last_places}
-use Rattle.gix_topo.specs.Inside.Known.{Known}
-use Rattle.gix_topo.specs.Inside.Frontier.{IsDone, known_of, is_due, MarksReady, Uncounts}
+use Rattle.gix_frontier.specs.Inside.Known.{Known}
+use Rattle.gix_frontier.specs.Inside.Frontier.{IsDone, known_of, is_due, MarksReady, Uncounts}
 use Rattle.gix_revwalk.specs.Reading.{rows_of}
 use Rattle.gix_topo.specs.Reading.{Reads, IsReadFault}
 use Rattle.gix_topo.specs.declared.Sorting.{Sorting}

@@ -6,14 +6,14 @@ use Rattle.gix_hash.specs.Id.{id_cmp, is_among}
 use Rattle.gix_object.specs.Object.{Objects}
 use Rattle.gix_commitgraph.specs.Rows.{GraphRow}
 use Rattle.gix_revwalk.specs.declared.Parents.{Parents}
-use Rattle.gix_topo.specs.declared.frontier.Side.{Side}
-use Rattle.gix_topo.specs.declared.frontier.Side.TheVariants.{Tips, Ends}
-use Rattle.gix_topo.specs.Inside.Known.{Known}
-use Rattle.gix_topo.specs.declared.frontier.Waiting.{Waiting}
-use Rattle.gix_topo.specs.declared.frontier.Frontier.{Frontier}
+use Rattle.gix_frontier.specs.declared.Side.{Side}
+use Rattle.gix_frontier.specs.declared.Side.TheVariants.{Tips, Ends}
+use Rattle.gix_frontier.specs.Inside.Known.{Known}
+use Rattle.gix_frontier.specs.declared.Waiting.{Waiting}
+use Rattle.gix_frontier.specs.declared.Frontier.{Frontier}
 use Rattle.gix_topo.specs.Depth.{known_generation}
 use Rattle.gix_topo.specs.Inside.Exploring.{side_mode}
-use Rattle.gix_topo.specs.Inside.Frontier.{is_seen, is_done, known_of, reached, waiting, IsSearch}
+use Rattle.gix_frontier.specs.Inside.Frontier.{is_seen, is_done, known_of, reached, waiting, IsSearch}
 use Rattle.gix_revwalk.specs.Commits.{by_mode}
 use Rattle.gix_hash.specs.Reach.{Reaches}
 pub use Rattle.gix_revwalk.specs.Texts.{text_next, next_in}

@@ -6,12 +6,12 @@ use Rattle.gix_commitgraph.specs.Rows.{GraphRow}
 use Rattle.gix_topo.specs.declared.Error.{Error}
 use Rattle.gix_topo.specs.declared.Error.TheVariants as error
 use Rattle.gix_topo.specs.declared.counting.Counting.{Counting}
-use Rattle.gix_topo.specs.declared.frontier.Frontier.{Frontier}
-use Rattle.gix_topo.specs.declared.frontier.Side.{Side}
+use Rattle.gix_frontier.specs.declared.Frontier.{Frontier}
+use Rattle.gix_frontier.specs.declared.Side.{Side}
 use Rattle.gix_topo.specs.declared.walk.Walk.{Walk}
 use Rattle.gix_revwalk.specs.Agreeing.{IsAgreeing}
 use Rattle.gix_topo.specs.Depth.{known_generation}
-use Rattle.gix_topo.specs.Inside.Frontier.{is_due, known_of, Meets}
+use Rattle.gix_frontier.specs.Inside.Frontier.{is_due, known_of, Meets}
 use Rattle.gix_topo.specs.Inside.Releasing.{plan_by, plan_of, counted_by, Pushes, IsPushFault}
 use Rattle.gix_topo.specs.Inside.Searched.{IsCounted, IsBegun, IsExplored}
 use Rattle.gix_topo.specs.Inside.Steady.{AreRead, HasCounted}

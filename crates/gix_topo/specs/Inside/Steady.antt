@@ -6,14 +6,14 @@ use Rattle.gix_object.specs.Object.{Objects}
 use Rattle.gix_revwalk.specs.declared.Info.{Info}
 use Rattle.gix_topo.specs.declared.Error.{Error}
 use Rattle.gix_topo.specs.declared.counting.Counting.{Counting}
-use Rattle.gix_topo.specs.declared.frontier.Side.{Side}
-use Rattle.gix_topo.specs.declared.frontier.Side.TheVariants.{Tips}
+use Rattle.gix_frontier.specs.declared.Side.{Side}
+use Rattle.gix_frontier.specs.declared.Side.TheVariants.{Tips}
 use Rattle.gix_topo.specs.declared.walk.Walk.{Walk}
 use Rattle.gix_revwalk.specs.Agreeing.{IsAgreeing}
 use Rattle.gix_topo.specs.Depth.{known_generation}
 use Rattle.gix_topo.specs.Reading.{Reads}
-pub use Rattle.gix_topo.specs.Inside.Frontier.{IsDone}
-use Rattle.gix_topo.specs.Inside.Frontier.{is_done, known_of, reached}
+pub use Rattle.gix_frontier.specs.Inside.Frontier.{IsDone}
+use Rattle.gix_frontier.specs.Inside.Frontier.{is_done, known_of, reached}
 use Rattle.gix_topo.specs.Inside.Releasing.{plan_of, counted_by, taken_of, walk_of}
 use Rattle.gix_topo.specs.Inside.Searched.{IsCounted, IsBegun}
 use Rattle.gix_revwalk.specs.Ids.{AreDistinct}

@@ -1,5 +1,5 @@
 use Rattle.std.proofs.Common.{◌≡◌, length}
-use Rattle.gix_topo.specs.declared.frontier.Frontier.{Frontier}
+use Rattle.gix_frontier.specs.declared.Frontier.{Frontier}
 use Rattle.gix_revwalk.specs.Reading.{rows_of}
 use Rattle.gix_topo.specs.Inside.Starting.{MeetsAll}
 use Rattle.gix_topo.proofs.counting.Counting.meet_all.Given as goal

@@ -2,7 +2,7 @@ use Rattle.std.proofs.Common.{◌∙◌, ap, subst}
 use Rattle.gix_revwalk.specs.Reading.{rows_of}
 use Rattle.gix_topo.specs.Inside.Exploring.{Follows}
 use Rattle.gix_topo.specs.declared.Error.TheVariants as error
-use Rattle.gix_topo.proofs.Counts.MeetsParents.{err_from}
+use Rattle.gix_frontier.proofs.Results.{err_from}
 use Rattle.gix_topo.proofs.Counts.Step.{first_in, steps_made}
 use Rattle.gix_topo.proofs.counting.Counting.step.Goals as goal
 

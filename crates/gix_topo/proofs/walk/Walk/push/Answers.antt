@@ -5,10 +5,10 @@ use Rattle.std.proofs.lemmas.Int.{to_z-of_z}
 use Rattle.gix_revwalk.specs.Reading.{rows_of}
 use Rattle.gix_topo.specs.Reading.{Reads}
 use Rattle.gix_topo.specs.Walk.{HoldsReady}
-use Rattle.gix_topo.specs.Inside.Frontier.{MarksReady}
+use Rattle.gix_frontier.specs.Inside.Frontier.{MarksReady}
 use Rattle.gix_topo.specs.Inside.Releasing.{LooksUpParent}
 use Rattle.gix_topo.proofs.Taking.OneRelease.{looks_up_by, take_more, fault_of_parent, reads_timed, at_index, time_told}
-use Rattle.gix_topo.proofs.Counts.MeetsParents.{err_from}
+use Rattle.gix_frontier.proofs.Results.{err_from}
 use Rattle.gix_topo.proofs.walk.Walk.push.Goals as goal
 
 pub returns-in_err-look_up_parent-clause-fault : goal.returns-in_err-look_up_parent-clause-fault

@@ -1,8 +1,8 @@
 use Rattle.std.proofs.Common.{◌≡◌, ℕ, [], ◌∷◌, sym, ap, ◌∙◌}
-use Rattle.gix_topo.specs.Inside.Known.{Known}
-use Rattle.gix_topo.specs.Inside.Frontier.{is_due}
+use Rattle.gix_frontier.specs.Inside.Known.{Known}
+use Rattle.gix_frontier.specs.Inside.Frontier.{is_due}
 use Rattle.gix_topo.specs.Inside.Starting.{waits, frees, here}
-use Rattle.gix_topo.proofs.Counts.MeetsParents.{on_ok, if_err}
+use Rattle.gix_frontier.proofs.Results.{on_ok, if_err}
 use Rattle.gix_topo.proofs.walk.Walk.start.Goals as goal
 
 same_due : (known : Known) {found : Known} {children : ℕ} → found ≡ known → children ≡ found.indegree → is_due known.indegree known ≡ is_due children found

@@ -1,9 +1,9 @@
 use Rattle.std.proofs.Common.{ap, ◌∙◌, bit_or}
-use Rattle.gix_topo.specs.Inside.Known.{known_by}
-use Rattle.gix_topo.specs.Inside.Frontier.{is_seen, progress_of, with_progress}
-use Rattle.gix_topo.specs.declared.frontier.Progress.TheVariants as progress
-use Rattle.gix_topo.proofs.Counts.Marks.{marked_met}
-use Rattle.gix_topo.proofs.frontier.Known.with_met.Goals as goal
+use Rattle.gix_frontier.specs.Inside.Known.{known_by}
+use Rattle.gix_frontier.specs.Inside.Frontier.{is_seen, progress_of, with_progress}
+use Rattle.gix_frontier.specs.declared.Progress.TheVariants as progress
+use Rattle.gix_frontier.proofs.OneMoreMark.{marked_met}
+use Rattle.gix_frontier.proofs.Known.with_met.Goals as goal
 
 pub returns : goal.returns
 returns c =

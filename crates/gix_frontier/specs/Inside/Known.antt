@@ -1,10 +1,10 @@
 -- What is known of an id, and the marks that say it.
 use Rattle.std.specs.Prelude.{ℕ, ◌==◌, Bool, cond}
 use Rattle.std.specs.Int.Bits.{bit_and}
-use Rattle.gix_topo.specs.declared.frontier.Side.{Side}
-use Rattle.gix_topo.specs.declared.frontier.Side.TheVariants.{Tips, Ends}
-use Rattle.gix_topo.specs.declared.frontier.Progress.{Progress}
-use Rattle.gix_topo.specs.declared.frontier.Progress.TheVariants.{Unseen, Queued, Done}
+use Rattle.gix_frontier.specs.declared.Side.{Side}
+use Rattle.gix_frontier.specs.declared.Side.TheVariants.{Tips, Ends}
+use Rattle.gix_frontier.specs.declared.Progress.{Progress}
+use Rattle.gix_frontier.specs.declared.Progress.TheVariants.{Unseen, Queued, Done}
 
 pub record Known : Type 0 where
   pub tips : Progress

@@ -1,7 +1,7 @@
 use Rattle.std.proofs.Common.{true, ap, ◌∙◌}
-use Rattle.gix_topo.specs.Inside.Known.{Known, known_by}
-use Rattle.gix_topo.proofs.Counts.Marks.{marked_was_ready}
-use Rattle.gix_topo.proofs.frontier.Known.with_was_ready.Goals as goal
+use Rattle.gix_frontier.specs.Inside.Known.{Known, known_by}
+use Rattle.gix_frontier.proofs.OneMoreMark.{marked_was_ready}
+use Rattle.gix_frontier.proofs.Known.with_was_ready.Goals as goal
 
 pub returns : goal.returns
 returns c =

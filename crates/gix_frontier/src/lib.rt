@@ -1,7 +1,9 @@
 //! Two searches over one queue: what tips reach by the parents that are walked, and what ends reach by any.
+#![tactic(auto)]
+
 ghost use Rattle.std.specs.Prelude.{◌≡◌, ◌+◌, OnOk, IfOk, IfSome, IfNone, [], List};
 ghost use Rattle.std.specs.FinMap as map;
-ghost use Rattle.gix_topo.specs.Inside.Frontier.{known_of, Meets, Counts, Uncounts, MarksReady, MeetsParent, Finishes};
+ghost use Rattle.gix_frontier.specs.Inside.Frontier.{known_of, Meets, Counts, Uncounts, MarksReady, MeetsParent, Finishes};
 
 use bitflags::{Flag, Flags, bitflag_items};
 use gix_hash::ObjectId;
@@ -12,14 +14,17 @@ use std::marker::Model;
 
 /// Which search met an id.
 #[derive(Clone, Copy)]
-pub(super) enum Side {
+pub enum Side {
+    /// The search from the tips, by the parents that are walked.
     Tips,
+    /// The search from the ends, by all parents.
     Ends,
 }
 
 /// How far a search has come with an id.
 #[derive(Clone, Copy)]
-pub(super) enum Progress {
+pub enum Progress {
+    /// It hasn't met it.
     Unseen,
     /// It waits in the queue.
     Queued,
@@ -66,7 +71,7 @@ impl Flags for Marks {
 }
 
 impl Marks {
-    ghost use Rattle.gix_topo.specs.Inside.Known.{met_mark, done_mark};
+    ghost use Rattle.gix_frontier.specs.Inside.Known.{met_mark, done_mark};
 
     fn met(side: Side) -> Marks
         ensures { result.0 ≡ met_mark side }
@@ -89,14 +94,14 @@ impl Marks {
 
 /// What is known of an id.
 #[derive(Drop)]
-pub(super) struct Known {
+pub struct Known {
     marks: Marks,
     /// Its indegree: how many commits that the tips' search has done, and that weren't taken, name it as a parent that is walked.
-    pub(super) indegree: usize,
+    pub indegree: usize,
 }
 
 impl Model for Known {
-    ghost use Rattle.gix_topo.specs.Inside.Known as known;
+    ghost use Rattle.gix_frontier.specs.Inside.Known as known;
 
     ghost Value = { known.Known };
 
@@ -105,8 +110,8 @@ impl Model for Known {
 
 impl Known {
     ghost use Rattle.std.specs.Prelude.{true, false, ◌||◌};
-    ghost use Rattle.gix_topo.specs.declared.frontier.Progress.TheVariants as progress;
-    ghost use Rattle.gix_topo.specs.Inside.Frontier.{is_seen, is_done, progress_of, with_progress};
+    ghost use Rattle.gix_frontier.specs.declared.Progress.TheVariants as progress;
+    ghost use Rattle.gix_frontier.specs.Inside.Frontier.{is_seen, is_done, progress_of, with_progress};
 
     // A copy by hand, since `Copy` needs marks that can be told from what contracts see.
     fn copy(&self) -> Known
@@ -118,7 +123,8 @@ impl Known {
         }
     }
 
-    pub(super) fn progress(&self, side: Side) -> Progress
+    /// How far a search has come with it.
+    pub fn progress(&self, side: Side) -> Progress
         ensures { result ≡ progress_of side self.now }
     {
         if self.marks.contains(Marks::done(side)) {
@@ -131,7 +137,7 @@ impl Known {
     }
 
     /// Whether a search has read its parents.
-    pub(super) fn is_done(&self) -> bool
+    pub fn is_done(&self) -> bool
         ensures { result ≡ (is_done self.now.tips || is_done self.now.ends) }
     {
         matches!(self.progress(Side::Tips), Progress::Done)
@@ -139,7 +145,7 @@ impl Known {
     }
 
     /// Whether it was ready once.
-    pub(super) fn was_ready(&self) -> bool
+    pub fn was_ready(&self) -> bool
         ensures { result ≡ self.now.was_ready }
     {
         self.marks.contains(Marks::WAS_READY)
@@ -185,20 +191,25 @@ impl Known {
 
 /// An id whose parents a search has still to read.
 #[derive(Clone, Copy)]
-pub(super) struct Waiting {
-    pub(super) id: ObjectId,
-    pub(super) side: Side,
+pub struct Waiting {
+    /// The id.
+    pub id: ObjectId,
+    /// The search.
+    pub side: Side,
 }
 
 /// What is known of the ids met, and those whose parents are still to be read, by their generations.
 #[derive(Drop)]
-pub(super) struct Frontier {
-    pub(super) queue: PriorityQueue<u32, Waiting>,
-    pub(super) known: IdMap<Known>,
+pub struct Frontier {
+    /// Those whose parents are still to be read.
+    pub queue: PriorityQueue<u32, Waiting>,
+    /// What is known of the ids met.
+    pub known: IdMap<Known>,
 }
 
 impl Frontier {
-    pub(super) fn new(alloc: Global) -> Frontier
+    /// Neither search has met anything. It takes no memory yet.
+    pub fn new(alloc: Global) -> Frontier
         ensures queue { result.queue ≡ [] }
         ensures known { result.known ≡ map.empty }
     {
@@ -208,7 +219,8 @@ impl Frontier {
         }
     }
 
-    pub(super) fn known(&self, id: &ObjectId) -> Known
+    /// What is known of an id, also of one that wasn't met.
+    pub fn known(&self, id: &ObjectId) -> Known
         ensures { result ≡ known_of self.now.known id.now }
     {
         match self.known.get(id) {
@@ -221,12 +233,11 @@ impl Frontier {
     }
 
     /// An id that a search meets: where it is new to that search, it waits in the queue.
-    pub(super) fn meet(
-        &mut self,
-        generation: u32,
-        id: ObjectId,
-        side: Side,
-    ) -> Result<(), AllocError>
+    ///
+    /// # Errors
+    ///
+    /// `AllocError` when out of memory. The frontier may hold anything then.
+    pub fn meet(&mut self, generation: u32, id: ObjectId, side: Side) -> Result<(), AllocError>
     where
         ensures { OnOk result (Meets self.old generation id side self.new) }
     {
@@ -256,7 +267,11 @@ impl Frontier {
     }
 
     /// A parent of a commit whose parents a side reads.
-    pub(super) fn meet_parent(
+    ///
+    /// # Errors
+    ///
+    /// `AllocError` when out of memory, which an indegree is too that no memory could hold. The frontier may hold anything then.
+    pub fn meet_parent(
         &mut self,
         generation: u32,
         id: ObjectId,
@@ -275,7 +290,11 @@ impl Frontier {
     }
 
     /// One child of an id less: how many are left. None where there was none, and then nothing changes.
-    pub(super) fn uncount(&mut self, id: ObjectId) -> Result<Option<usize>, AllocError>
+    ///
+    /// # Errors
+    ///
+    /// `AllocError` when out of memory. The frontier may hold anything then.
+    pub fn uncount(&mut self, id: ObjectId) -> Result<Option<usize>, AllocError>
         ensures less { IfOk result (λ left. IfSome left (λ n. (known_of self.old.known id).indegree ≡ n + 1)) }
         ensures counts { OnOk result (Uncounts self.old id self.new) }
         ensures none { IfOk result (λ left. IfNone left ((known_of self.old.known id).indegree ≡ 0)) }
@@ -289,7 +308,11 @@ impl Frontier {
     }
 
     /// An id becomes ready.
-    pub(super) fn mark_ready(&mut self, id: ObjectId) -> Result<(), AllocError>
+    ///
+    /// # Errors
+    ///
+    /// `AllocError` when out of memory. The frontier may hold anything then.
+    pub fn mark_ready(&mut self, id: ObjectId) -> Result<(), AllocError>
         ensures { OnOk result (MarksReady self.old id self.new) }
     {
         let known = self.known(&id);
@@ -298,7 +321,11 @@ impl Frontier {
     }
 
     /// An id whose parents were all met.
-    pub(super) fn finish(&mut self, id: ObjectId, side: Side) -> Result<(), AllocError>
+    ///
+    /// # Errors
+    ///
+    /// `AllocError` when out of memory. The frontier may hold anything then.
+    pub fn finish(&mut self, id: ObjectId, side: Side) -> Result<(), AllocError>
         ensures { OnOk result (Finishes self.old id side self.new) }
     {
         let known = self.known(&id);

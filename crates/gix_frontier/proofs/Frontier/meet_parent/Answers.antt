@@ -1,5 +1,5 @@
-use Rattle.gix_topo.proofs.Counts.MeetsParents.{on_ok}
-use Rattle.gix_topo.proofs.frontier.Frontier.meet_parent.Goals as goal
+use Rattle.gix_frontier.proofs.Results.{on_ok}
+use Rattle.gix_frontier.proofs.Frontier.meet_parent.Goals as goal
 
 pub returns-in_ok-count-in-Tips : goal.returns-in_ok-count-in-Tips
 returns-in_ok-count-in-Tips c =
