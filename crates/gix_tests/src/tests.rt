@@ -1,6 +1,7 @@
 //! Walks by the tables of `gix_rows`, compared with what is wanted; and the parts of the library, called one by one.
 mod calls;
 mod examples;
+mod names;
 mod parts;
 mod simple;
 mod topo;

@@ -1,4 +1,4 @@
-//! Walks of Git's commit history and of its trees.
+//! Walks of Git's commit history and of its trees, under the names that users know.
 #![tactic(auto)]
 
 pub mod commit;

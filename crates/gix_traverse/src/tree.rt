@@ -1,8 +1,2 @@
 //! Walks of trees, which show each entry to a delegate.
-pub mod breadthfirst;
-pub mod depthfirst;
-pub mod recorder;
-pub mod visit;
-
-pub use recorder::Recorder;
-pub use visit::Visit;
+pub use gix_tree::{Recorder, Visit, breadthfirst, depthfirst, recorder, visit};

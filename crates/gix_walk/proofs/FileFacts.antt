@@ -5,12 +5,12 @@ use Rattle.std.specs.Io.KnownBytes.{Appends}
 use Rattle.std.proofs.Common.{sym, ap, subst, ◌∙◌, append_assoc}
 use Rattle.std.proofs.Math.Nat.{sub-zero}
 use Rattle.std.proofs.lemmas.List.{append-nil}
-use Rattle.gix_parts.specs.declared.hash.ObjectId.{ObjectId}
-use Rattle.gix_parts.specs.Id.{hex_of}
-use Rattle.gix_parts.specs.Object.{Objects}
-use Rattle.gix_traverse.specs.declared.tree.breadthfirst.Error.{Error}
-use Rattle.gix_traverse.specs.Trees.Recorder.{Record}
-use Rattle.gix_traverse.specs.Trees.Tracked.{Tracked}
+use Rattle.gix_hash.specs.declared.ObjectId.{ObjectId}
+use Rattle.gix_hash.specs.Id.{hex_of}
+use Rattle.gix_object.specs.Object.{Objects}
+use Rattle.gix_tree.specs.declared.breadthfirst.Error.{Error}
+use Rattle.gix_tree.specs.Recorder.{Record}
+use Rattle.gix_tree.specs.Tracked.{Tracked}
 use Rattle.gix_walk.specs.declared.fault.Fault.{Fault}
 use Rattle.gix_walk.specs.declared.fault.Fault.TheVariants as fault
 use Rattle.gix_walk.specs.Faults.{fault_of_tree_walk}

@@ -3,21 +3,21 @@ use Rattle.std.specs.Prelude.{◌≡◌, ◌≢◌, ℕ, List, [], ◌∷◌, ma
 use Rattle.std.specs.Io.KnownBytes.{Appends}
 use Rattle.std.specs.List.{AllByRecursion}
 use Rattle.std.proofs.Common.{refl, subst}
-use Rattle.gix_parts.specs.declared.hash.ObjectId.{ObjectId}
-use Rattle.gix_parts.specs.Object.{Objects}
-use Rattle.gix_traverse.specs.declared.tree.breadthfirst.Error.{Error}
-use Rattle.gix_traverse.specs.declared.tree.breadthfirst.Error.TheVariants as error
-use Rattle.gix_traverse.specs.Trees.Delegate.{Call, Run}
-use Rattle.gix_traverse.specs.Trees.Laws.{AreSound}
-use Rattle.gix_traverse.specs.Trees.Paths.{HaveNames}
-use Rattle.gix_traverse.specs.Trees.Recorder.{IsRecorderAnswer, record_of}
-use Rattle.gix_traverse.specs.Trees.Script.{entries_at}
-use Rattle.gix_traverse.specs.Trees.Tracked.{Tracked, Tracks, fresh_recorder}
-use Rattle.gix_traverse.specs.Trees.Visits.{Visit, Ending, Whole, Broken, Failed, IsUnfailed}
-use Rattle.gix_traverse.specs.Trees.Walk.{LookUpFails, depth_answer, trees_of, LookUpFailed}
-use Rattle.gix_traverse.proofs.Trees.Theorems.Called.{root_called}
-use Rattle.gix_traverse.proofs.Trees.Theorems.Laws.{go_on, depth_ok, depth_is_in_order, depth_is_recorded, sound_depth_succeeds}
-use Rattle.gix_traverse.proofs.Trees.Theorems.SameRecords.{unbroken}
+use Rattle.gix_hash.specs.declared.ObjectId.{ObjectId}
+use Rattle.gix_object.specs.Object.{Objects}
+use Rattle.gix_tree.specs.declared.breadthfirst.Error.{Error}
+use Rattle.gix_tree.specs.declared.breadthfirst.Error.TheVariants as error
+use Rattle.gix_tree.specs.Delegate.{Call, Run}
+use Rattle.gix_tree.specs.Laws.{AreSound}
+use Rattle.gix_tree.specs.Paths.{HaveNames}
+use Rattle.gix_tree.specs.Recorder.{IsRecorderAnswer, record_of}
+use Rattle.gix_tree.specs.Script.{entries_at}
+use Rattle.gix_tree.specs.Tracked.{Tracked, Tracks, fresh_recorder}
+use Rattle.gix_tree.specs.Visits.{Visit, Ending, Whole, Broken, Failed, IsUnfailed}
+use Rattle.gix_tree.specs.Walk.{LookUpFails, depth_answer, trees_of, LookUpFailed}
+use Rattle.gix_tree.proofs.Theorems.Called.{root_called}
+use Rattle.gix_tree.proofs.Theorems.Laws.{go_on, depth_ok, depth_is_in_order, depth_is_recorded, sound_depth_succeeds}
+use Rattle.gix_tree.proofs.Theorems.SameRecords.{unbroken}
 use Rattle.gix_walk.specs.declared.fault.Fault.{Fault}
 use Rattle.gix_walk.specs.Faults.{fault_of_tree_walk}
 use Rattle.gix_walk.specs.Files.{RecordsTree, file_lines}
@@ -44,7 +44,7 @@ module _ (objects : Objects) (tree : ObjectId) where
   unfolds recorder walk =
       let all = go_on walk.visits (root_called (trees_of objects) (LookUpFails objects (never_faulty objects)) IsRecorderAnswer walk.script (answers_of fresh_recorder walk.calls recorder walk.run)) in
       let order = depth_is_in_order objects (never_faulty objects) Tracks tree fresh_recorder recorder (Ok tt) walk (depth_ok walk.end walk.answered) in
-      record { in_order = subst (Rattle.gix_traverse.specs.Orders.Preorder.IsPreorder (entries_at (trees_of objects)) (Rattle.gix_traverse.specs.Trees.Paths.known_root tree) (entries_at (trees_of objects) tree) walk.visits) (unbroken (entries_at (trees_of objects)) order all) order; all = all }
+      record { in_order = subst (Rattle.gix_tree.specs.Preorder.IsPreorder (entries_at (trees_of objects)) (Rattle.gix_tree.specs.Paths.known_root tree) (entries_at (trees_of objects) tree) walk.visits) (unbroken (entries_at (trees_of objects)) order all) order; all = all }
 
   lists : (old new : Option (List ℕ)) → Serves objects old (Files tree) (Ok tt) new → (visits : List Visit) × Unfolds objects tree visits × (HaveNames visits → Appends old new (file_lines (map record_of visits)))
   lists old new (listed recorder walk written) = (

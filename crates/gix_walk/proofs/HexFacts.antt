@@ -5,11 +5,11 @@ use Rattle.std.proofs.Common.{cond, refl, subst}
 use Rattle.hex.specs.Hex.{decode_pairs, decode_of, pair_value, value_at, ◌>>=◌}
 use Rattle.hex.specs.declared.error.FromHexError.{FromHexError}
 use Rattle.hex.specs.declared.error.FromHexError.TheVariants.{OddLength}
-use Rattle.gix_parts.specs.declared.hash.ObjectId.{ObjectId}
-use Rattle.gix_parts.specs.declared.hash.HexError.TheVariants as hex_error
-use Rattle.gix_parts.specs.declared.hash.Kind.{Kind}
-use Rattle.gix_parts.specs.declared.hash.Kind.TheVariants as kind
-use Rattle.gix_parts.specs.Id.{id_from_hex, id_of_hex, id_of_decoded, id_len, or_digit}
+use Rattle.gix_hash.specs.declared.ObjectId.{ObjectId}
+use Rattle.gix_hash.specs.declared.HexError.TheVariants as hex_error
+use Rattle.gix_hash.specs.declared.Kind.{Kind}
+use Rattle.gix_hash.specs.declared.Kind.TheVariants as kind
+use Rattle.gix_hash.specs.Id.{id_from_hex, id_of_hex, id_of_decoded, id_len, or_digit}
 
 -- the digits of an id have no space among them
 pair_spaceless : (high low i : ℕ) (byte : ℕ) → pair_value high low i ≡ Ok byte → (high ≢ 32) × (low ≢ 32)

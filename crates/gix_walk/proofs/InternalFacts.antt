@@ -1,24 +1,24 @@
 -- A store that is held in memory doesn't fail.
 use Rattle.std.specs.Prelude.{◌≢◌, ℕ, ℤ, List, Bool, Option, Some, None, Result, Ok, Err}
-use Rattle.gix_parts.specs.declared.hash.ObjectId.{ObjectId}
-use Rattle.gix_parts.specs.declared.object.Kind.{Kind}
-use Rattle.gix_parts.specs.declared.object.Kind.TheVariants as object
-use Rattle.gix_parts.specs.declared.object.decode.Error.{Error as DecodeError}
-use Rattle.gix_parts.specs.declared.object.find.existing_iter.Error.{Error as ExistingError}
-use Rattle.gix_parts.specs.declared.object.find.existing_iter.Error.TheVariants as existing
-use Rattle.gix_parts.specs.Find.{IsExistingFault}
-use Rattle.gix_parts.specs.Object.{Objects}
-use Rattle.gix_parts.specs.Rows.{GraphRow}
-use Rattle.gix_traverse.specs.declared.commit.Info.{Info}
-use Rattle.gix_traverse.specs.declared.commit.simple.Error.{Error}
-use Rattle.gix_traverse.specs.declared.commit.simple.Error.TheVariants as error
-use Rattle.gix_traverse.specs.declared.commit.simple.Hidden.{Hidden}
-use Rattle.gix_traverse.specs.declared.commit.simple.Hidden.TheVariants as hidden_by
-use Rattle.gix_traverse.specs.declared.commit.simple.Sorting.{Sorting}
-use Rattle.gix_traverse.specs.declared.commit.simple.pending.Pending.{Pending}
-use Rattle.gix_traverse.specs.Simple.Walk.{Treated, GoesOn, StoreFails, NoMemory, ReadsTime, unasked, from_row, from_store, store_fails, Treats, hidden, known, refused, accepted, no_memory, no_memory_after, TreatsAll, none, more, stops, Concludes, given, broken, Takes, by_row, by_store, not_found, Steps, ended, took, unhidden, paints, faulty_history}
-use Rattle.gix_traverse.specs.Simple.Painting.{IsHiddenFault}
-use Rattle.gix_traverse.specs.Simple.Building.{IsTipFault}
+use Rattle.gix_hash.specs.declared.ObjectId.{ObjectId}
+use Rattle.gix_object.specs.declared.Kind.{Kind}
+use Rattle.gix_object.specs.declared.Kind.TheVariants as object
+use Rattle.gix_object.specs.declared.decode.Error.{Error as DecodeError}
+use Rattle.gix_object.specs.declared.find.existing_iter.Error.{Error as ExistingError}
+use Rattle.gix_object.specs.declared.find.existing_iter.Error.TheVariants as existing
+use Rattle.gix_object.specs.Find.{IsExistingFault}
+use Rattle.gix_object.specs.Object.{Objects}
+use Rattle.gix_commitgraph.specs.Rows.{GraphRow}
+use Rattle.gix_revwalk.specs.declared.Info.{Info}
+use Rattle.gix_simple.specs.declared.Error.{Error}
+use Rattle.gix_simple.specs.declared.Error.TheVariants as error
+use Rattle.gix_paint.specs.declared.Hidden.{Hidden}
+use Rattle.gix_paint.specs.declared.Hidden.TheVariants as hidden_by
+use Rattle.gix_simple.specs.declared.Sorting.{Sorting}
+use Rattle.gix_revwalk.specs.declared.Pending.{Pending}
+use Rattle.gix_simple.specs.Walk.{Treated, GoesOn, StoreFails, NoMemory, ReadsTime, unasked, from_row, from_store, store_fails, Treats, hidden, known, refused, accepted, no_memory, no_memory_after, TreatsAll, none, more, stops, Concludes, given, broken, Takes, by_row, by_store, not_found, Steps, ended, took, unhidden, paints, faulty_history}
+use Rattle.gix_paint.specs.Painting.{IsHiddenFault}
+use Rattle.gix_simple.specs.Building.{IsTipFault}
 use Rattle.gix_walk.specs.declared.fault.Fault.TheVariants as fault
 use Rattle.gix_walk.specs.Faults.{fault_of_find, fault_of_walk}
 use Rattle.gix_walk.specs.Walked.{Walk, FailsAtStart, Answers, objects_of, never_faulty, accepts_all}

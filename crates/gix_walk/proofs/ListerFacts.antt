@@ -3,16 +3,16 @@ use Rattle.std.specs.Prelude.{◌≡◌, ℕ, List, [], ◌∷◌, ◌++◌, Opt
 use Rattle.std.proofs.Common.{refl, sym, ap, subst, ◌∙◌}
 use Rattle.std.proofs.lemmas.List.{append-nil}
 use Rattle.std.proofs.lemmas.Grind.{flat_map-append}
-use Rattle.gix_parts.specs.declared.hash.ObjectId.{ObjectId}
-use Rattle.gix_parts.specs.Object.{Objects}
-use Rattle.gix_parts.specs.TreeItems.{TreeEntry}
-use Rattle.gix_traverse.specs.declared.tree.breadthfirst.Error.{Error}
-use Rattle.gix_traverse.specs.declared.tree.recorder.Location.{Location}
-use Rattle.gix_traverse.specs.declared.tree.recorder.Location.TheVariants.{Path, FileName}
-use Rattle.gix_traverse.specs.Trees.Delegate.{Action, Call, PushPath, PopPath, PushBack, PopBack, PopFront, VisitTree, VisitNontree, Refused, Run}
-use Rattle.gix_traverse.specs.Trees.Recorder.{Record, Recorded, IsRecorderAnswer, recorded, with_record}
-use Rattle.gix_traverse.specs.Trees.Tracked.{Tracked, Tracks, fresh_recorder}
-use Rattle.gix_traverse.specs.Trees.Walk.{DepthFirst}
+use Rattle.gix_hash.specs.declared.ObjectId.{ObjectId}
+use Rattle.gix_object.specs.Object.{Objects}
+use Rattle.gix_object.specs.TreeItems.{TreeEntry}
+use Rattle.gix_tree.specs.declared.breadthfirst.Error.{Error}
+use Rattle.gix_tree.specs.declared.recorder.Location.{Location}
+use Rattle.gix_tree.specs.declared.recorder.Location.TheVariants.{Path, FileName}
+use Rattle.gix_tree.specs.Delegate.{Action, Call, PushPath, PopPath, PushBack, PopBack, PopFront, VisitTree, VisitNontree, Refused, Run}
+use Rattle.gix_tree.specs.Recorder.{Record, Recorded, IsRecorderAnswer, recorded, with_record}
+use Rattle.gix_tree.specs.Tracked.{Tracked, Tracks, fresh_recorder}
+use Rattle.gix_tree.specs.Walk.{DepthFirst}
 use Rattle.gix_walk.specs.declared.fault.Fault.{Fault}
 use Rattle.gix_walk.specs.Faults.{fault_of_tree_walk}
 use Rattle.gix_walk.specs.Files.{RecordsTree, file_line, file_lines, AreLinesOf, IsTreeFault}

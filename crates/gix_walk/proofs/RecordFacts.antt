@@ -10,15 +10,15 @@ use Rattle.std.proofs.lemmas.Bool.{eqb-true}
 use Rattle.std.proofs.lemmas.Option.{some_pair_parts, same_Some, none-some}
 use Rattle.std.proofs.lemmas.List.{append_assoc, take_at, drop_at, take-append-drop, length-take-le, length-drop}
 use Rattle.std.proofs.lemmas.Slice.Eq.{bytes_eq-Decides}
-use Rattle.gix_parts.specs.declared.hash.ObjectId.{ObjectId}
-use Rattle.gix_parts.specs.declared.hash.HexError.{HexError}
-use Rattle.gix_parts.specs.declared.object.Kind.{Kind}
-use Rattle.gix_parts.specs.declared.object.Kind.TheVariants as kind
-use Rattle.gix_parts.specs.declared.object.memory.Stored.{Stored}
-use Rattle.gix_parts.specs.Id.{id_cmp, id_from_hex}
-use Rattle.gix_parts.specs.MemoryStore.{objects_at}
-use Rattle.gix_parts.specs.Object.{Objects}
-use Rattle.gix_parts.proofs.MemoryStore.{object_put}
+use Rattle.gix_hash.specs.declared.ObjectId.{ObjectId}
+use Rattle.gix_hash.specs.declared.HexError.{HexError}
+use Rattle.gix_object.specs.declared.Kind.{Kind}
+use Rattle.gix_object.specs.declared.Kind.TheVariants as kind
+use Rattle.gix_object.specs.declared.memory.Stored.{Stored}
+use Rattle.gix_hash.specs.Id.{id_cmp, id_from_hex}
+use Rattle.gix_object.specs.MemoryStore.{objects_at}
+use Rattle.gix_object.specs.Object.{Objects}
+use Rattle.gix_object.proofs.MemoryStore.{object_put}
 use Rattle.gix_walk.specs.declared.fault.Fault.TheVariants as fault
 use Rattle.gix_walk.specs.Decimal.{decimal}
 use Rattle.gix_walk.specs.Records.{Record, kind_word, IsRecord, BeginsWith, AreRecords, IsBadRecord, IsRecordFault, no_memory, put_in, stored}

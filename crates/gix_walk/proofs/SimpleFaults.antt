@@ -4,36 +4,39 @@ use Rattle.std.specs.Iterator.{Yields}
 use Rattle.std.proofs.Common.{refl, sym, ap, subst, ◌∙◌, ⊎_elim}
 use Rattle.std.proofs.lemmas.List.Elements.{Contains-append_left, Contains-append_right, Contains-append_cases}
 use Rattle.std.proofs.lemmas.List.Sorted.{Contains-permutation, IsPermutation-sym}
-use Rattle.gix_parts.specs.declared.hash.ObjectId.{ObjectId}
-use Rattle.gix_parts.specs.declared.object.Kind.TheVariants as object
-use Rattle.gix_parts.specs.declared.object.decode.Error.{Error as DecodeError}
-use Rattle.gix_parts.specs.declared.object.find.existing_iter.Error.{Error as ExistingError}
-use Rattle.gix_parts.specs.CommitItems.{commit_items}
-use Rattle.gix_parts.specs.CommitText.{read_commit}
-use Rattle.gix_parts.specs.Find.{IsExistingFault}
-use Rattle.gix_parts.specs.Id.{kind_of}
-use Rattle.gix_parts.specs.Object.{Objects}
-use Rattle.gix_parts.specs.Rows.{row_of}
-use Rattle.gix_parts.proofs.Ids.Membership.{among_is, Contains-here, Contains-there, Contains-cons_cases, no_member}
-use Rattle.gix_traverse.specs.declared.commit.Info.{Info}
-use Rattle.gix_traverse.specs.declared.commit.Parents.TheVariants as mode
-use Rattle.gix_traverse.specs.declared.commit.simple.CommitTimeOrder.{CommitTimeOrder}
-use Rattle.gix_traverse.specs.declared.commit.simple.Error.{Error}
-use Rattle.gix_traverse.specs.declared.commit.simple.Error.TheVariants as error
-use Rattle.gix_traverse.specs.declared.commit.simple.Hidden.{Hidden}
-use Rattle.gix_traverse.specs.declared.commit.simple.Hidden.TheVariants as hidden_by
-use Rattle.gix_traverse.specs.declared.commit.simple.Sorting.{Sorting}
-use Rattle.gix_traverse.specs.declared.commit.simple.Sorting.TheVariants as sorting
-use Rattle.gix_traverse.specs.declared.commit.simple.pending.Pending.{Pending}
-use Rattle.gix_traverse.specs.History.Commits.{ReadsWhole, by_mode, commit_at, commit_of_object, parents_in, parents_of}
-use Rattle.gix_traverse.specs.History.Reach.{Reaches, start, step}
-use Rattle.gix_traverse.specs.Simple.Building.{IsTipFault}
-use Rattle.gix_traverse.specs.Simple.Painting.{IsFaultAt}
-use Rattle.gix_traverse.specs.Simple.Walk.{Treated, Enqueues, dropped, enqueued, Treats, hidden, known, refused, accepted, store_fails, no_memory, no_memory_after, TreatsAll, none, more, stops, Concludes, given, broken, Takes, by_row, by_store, not_found, Chooses, first, best, Steps, ended, took, unhidden, paints, faulty_history, ids_of, kept_rows, scanned, unrowed}
-use Rattle.gix_traverse.proofs.Shared.Committer.{fault_unread}
-use Rattle.gix_traverse.proofs.Shared.ReadsWhole.{scan_is, no_fault}
-use Rattle.gix_traverse.proofs.Shared.Rows.{none_agree}
-use Rattle.gix_traverse.proofs.Simple.Tips.{is_new_walk, pending_is}
+use Rattle.gix_hash.specs.declared.ObjectId.{ObjectId}
+use Rattle.gix_object.specs.declared.Kind.TheVariants as object
+use Rattle.gix_object.specs.declared.decode.Error.{Error as DecodeError}
+use Rattle.gix_object.specs.declared.find.existing_iter.Error.{Error as ExistingError}
+use Rattle.gix_object.specs.CommitItems.{commit_items}
+use Rattle.gix_object.specs.CommitText.{read_commit}
+use Rattle.gix_object.specs.Find.{IsExistingFault}
+use Rattle.gix_hash.specs.Id.{kind_of}
+use Rattle.gix_object.specs.Object.{Objects}
+use Rattle.gix_commitgraph.specs.Rows.{row_of}
+use Rattle.gix_hash.proofs.Ids.Membership.{among_is, Contains-here, Contains-there, Contains-cons_cases, no_member}
+use Rattle.gix_revwalk.specs.declared.Info.{Info}
+use Rattle.gix_revwalk.specs.declared.Parents.TheVariants as mode
+use Rattle.gix_revwalk.specs.declared.CommitTimeOrder.{CommitTimeOrder}
+use Rattle.gix_simple.specs.declared.Error.{Error}
+use Rattle.gix_simple.specs.declared.Error.TheVariants as error
+use Rattle.gix_paint.specs.declared.Hidden.{Hidden}
+use Rattle.gix_paint.specs.declared.Hidden.TheVariants as hidden_by
+use Rattle.gix_simple.specs.declared.Sorting.{Sorting}
+use Rattle.gix_simple.specs.declared.Sorting.TheVariants as sorting
+use Rattle.gix_revwalk.specs.declared.Pending.{Pending}
+use Rattle.gix_revwalk.specs.Commits.{ReadsWhole, by_mode, commit_at, commit_of_object, parents_in, parents_of}
+use Rattle.gix_hash.specs.Reach.{Reaches, start, step}
+use Rattle.gix_simple.specs.Building.{IsTipFault}
+use Rattle.gix_paint.specs.Painting.{IsFaultAt}
+use Rattle.gix_simple.specs.Walk.{Treated, Enqueues, dropped, enqueued, Treats, hidden, known, refused, accepted, store_fails, no_memory, no_memory_after, TreatsAll, none, more, stops, Concludes, given, broken, Takes, by_row, by_store, not_found, Chooses, first, best, Steps, ended, took, unhidden, paints, faulty_history, unrowed}
+use Rattle.gix_revwalk.specs.Ids.{ids_of}
+use Rattle.gix_revwalk.specs.RowParents.{kept_rows}
+use Rattle.gix_revwalk.specs.Texts.{scanned}
+use Rattle.gix_revwalk.proofs.Committer.{fault_unread}
+use Rattle.gix_revwalk.proofs.ReadsWhole.{scan_is, no_fault}
+use Rattle.gix_revwalk.proofs.Rows.{none_agree}
+use Rattle.gix_simple.proofs.MadeOfTips.{is_new_walk, pending_is}
 use Rattle.gix_walk.specs.declared.fault.Fault.{Fault}
 use Rattle.gix_walk.specs.declared.fault.Fault.TheVariants as fault
 use Rattle.gix_walk.specs.declared.words.Order.TheVariants.{Simple}
@@ -47,10 +50,10 @@ use Rattle.gix_walk.proofs.CommitRuns.{ends_well}
 use Rattle.gix_walk.proofs.InternalFacts.{next_sound}
 use Rattle.gix_walk.proofs.SimpleRuns.{IsUncut, is_tip, same, whole_from}
 use Rattle.gix_walk.proofs.UncutWords.{uncut}
-use Rattle.gix_traverse.proofs.Painting.Invariant.{own_history}
-use Rattle.gix_traverse.proofs.Shared.Lists.{filter_within, only_member}
-use Rattle.gix_traverse.proofs.Shared.Reached.{reaches_from, reach_more}
-use Rattle.gix_traverse.proofs.Simple.Treated.{Contains-holds}
+use Rattle.gix_paint.proofs.Invariant.{own_history}
+use Rattle.gix_hash.proofs.Lists.{filter_within, only_member}
+use Rattle.gix_revwalk.proofs.Reached.{reaches_from, reach_more}
+use Rattle.gix_simple.proofs.Treated.{Contains-holds}
 
 in_ids : (ps : List Pending) (p : Pending) → Contains ps p → Contains (ids_of ps) p.id
 in_ids [] p c = absurd (no_member p c)

@@ -7,32 +7,34 @@ use Rattle.std.proofs.Common.{refl, sym, ap, subst, ◌∙◌, ⊎_elim, inl, in
 use Rattle.std.proofs.lemmas.Bool.{false≢true, true≢false, false_from_ne_true}
 use Rattle.std.proofs.lemmas.List.Elements.{All-nil, All-cons, Contains-append_left, Contains-append_right, Contains-append_cases}
 use Rattle.std.proofs.Math.Bool.{and-true}
-use Rattle.gix_parts.proofs.Ids.Membership.{among_from, among_is}
-use Rattle.gix_parts.specs.declared.hash.ObjectId.{ObjectId}
-use Rattle.gix_parts.specs.CommitText.{Commit}
-use Rattle.gix_parts.specs.Object.{Objects}
-use Rattle.gix_traverse.specs.declared.commit.Info.{Info}
-use Rattle.gix_traverse.specs.declared.commit.Parents.TheVariants as mode
-use Rattle.gix_traverse.specs.declared.commit.simple.Error.{Error}
-use Rattle.gix_traverse.specs.declared.commit.simple.Sorting.{Sorting}
-use Rattle.gix_traverse.specs.declared.commit.simple.Sorting.TheVariants as sorting
-use Rattle.gix_traverse.specs.declared.commit.simple.pending.Pending.{Pending}
-use Rattle.gix_traverse.specs.declared.commit.simple.CommitTimeOrder.{CommitTimeOrder}
-use Rattle.gix_traverse.specs.History.Commits.{ReadsWhole, commit_at, parents_of, time_of}
-use Rattle.gix_traverse.specs.History.Reach.{Reaches, start, step, Tells}
-use Rattle.gix_traverse.specs.Simple.Building.{IsBuilt, made, breadth_first, by_time, hides, recent, timed}
-use Rattle.gix_traverse.specs.Simple.Laws.{AnswersBy, AreDistinct, IsFresh, IsGiven, IsNoRefusal, IsNewWalk, IsWholeRun, GivesInOrder, kept_parents, new_ids, next_of, starts_of, IsInOrder}
-use Rattle.gix_traverse.specs.Simple.Walk.{is_older, unhidden, paints, faulty_history, no_memory, cutoff, ids_of, time_order}
-use Rattle.gix_traverse.proofs.Shared.NewIds.{times_among, times-fresh}
-use Rattle.gix_traverse.proofs.Shared.Rows.{none_agree}
-use Rattle.gix_traverse.proofs.Simple.Builders.{built}
-use Rattle.gix_traverse.proofs.Simple.Corollaries.{gives, gives_once, shown_reached, reached_shown}
-use Rattle.gix_traverse.proofs.Simple.ReachDecided.{reach_test}
-use Rattle.gix_traverse.proofs.Simple.Tips.{is_new_walk, pending_is}
+use Rattle.gix_hash.proofs.Ids.Membership.{among_from, among_is}
+use Rattle.gix_hash.specs.declared.ObjectId.{ObjectId}
+use Rattle.gix_object.specs.CommitText.{Commit}
+use Rattle.gix_object.specs.Object.{Objects}
+use Rattle.gix_revwalk.specs.declared.Info.{Info}
+use Rattle.gix_revwalk.specs.declared.Parents.TheVariants as mode
+use Rattle.gix_simple.specs.declared.Error.{Error}
+use Rattle.gix_simple.specs.declared.Sorting.{Sorting}
+use Rattle.gix_simple.specs.declared.Sorting.TheVariants as sorting
+use Rattle.gix_revwalk.specs.declared.Pending.{Pending}
+use Rattle.gix_revwalk.specs.declared.CommitTimeOrder.{CommitTimeOrder}
+use Rattle.gix_revwalk.specs.Commits.{ReadsWhole, commit_at, parents_of, time_of}
+use Rattle.gix_hash.specs.Reach.{Reaches, start, step, Tells}
+use Rattle.gix_simple.specs.Building.{IsBuilt, made, breadth_first, by_time, hides, recent, timed}
+use Rattle.gix_revwalk.specs.Asking.{AnswersBy}
+use Rattle.gix_revwalk.specs.Ids.{AreDistinct, new_ids, ids_of}
+use Rattle.gix_simple.specs.Laws.{IsFresh, IsGiven, IsNoRefusal, IsNewWalk, IsWholeRun, GivesInOrder, kept_parents, next_of, starts_of, IsInOrder}
+use Rattle.gix_simple.specs.Walk.{is_older, unhidden, paints, faulty_history, no_memory, cutoff, time_order}
+use Rattle.gix_revwalk.proofs.NewIds.{times_among, times-fresh}
+use Rattle.gix_revwalk.proofs.Rows.{none_agree}
+use Rattle.gix_simple.proofs.Builders.{built}
+use Rattle.gix_simple.proofs.Corollaries.{gives, gives_once, shown_reached, reached_shown}
+use Rattle.gix_simple.proofs.ReachDecided.{reach_test}
+use Rattle.gix_simple.proofs.MadeOfTips.{is_new_walk, pending_is}
 use Rattle.gix_walk.specs.Histories.{IsShown, IsListedSo}
 use Rattle.gix_walk.specs.Walked.{Walk, Answers, IsSorted, StartsFrom, objects_of, never_faulty, accepts_all, given}
-use Rattle.gix_traverse.proofs.Shared.Lists.{filter_within, filter_all}
-use Rattle.gix_traverse.proofs.Shared.Reached.{reach_more}
+use Rattle.gix_hash.proofs.Lists.{filter_within, filter_all}
+use Rattle.gix_revwalk.proofs.Reached.{reach_more}
 
 -- the orders that a command names
 abbrev pub IsUncut : Sorting → Type 0

@@ -7,17 +7,17 @@ use Rattle.std.proofs.Common.{refl, sym, ap, subst, ◌∙◌}
 use Rattle.std.proofs.lemmas.Iterator.{items_from_drains}
 use Rattle.std.proofs.lemmas.Iterator.Adapters.{YieldsList-from_vec}
 use Rattle.std.proofs.lemmas.List.{map-id}
-use Rattle.gix_parts.specs.declared.hash.ObjectId.{ObjectId}
-use Rattle.gix_parts.specs.Object.{Objects}
-use Rattle.gix_traverse.specs.declared.commit.simple.Error.{Error}
-use Rattle.gix_traverse.specs.declared.commit.simple.Error.TheVariants as error
-use Rattle.gix_traverse.specs.declared.commit.simple.Sorting.{Sorting}
-use Rattle.gix_traverse.specs.declared.commit.simple.Sorting.TheVariants as sorting
-use Rattle.gix_traverse.specs.declared.commit.Unfiltered.{Unfiltered}
-use Rattle.gix_traverse.specs.declared.commit.topo.Error.{Error as TopoError}
-use Rattle.gix_traverse.specs.declared.commit.topo.Sorting.{Sorting as TopoSorting}
-use Rattle.gix_traverse.specs.Topo.Walk.{TopoBuilder, Built, fresh_builder}
-use Rattle.gix_traverse.specs.Simple.Building.{IsSortedByTime, FailsAtTip}
+use Rattle.gix_hash.specs.declared.ObjectId.{ObjectId}
+use Rattle.gix_object.specs.Object.{Objects}
+use Rattle.gix_simple.specs.declared.Error.{Error}
+use Rattle.gix_simple.specs.declared.Error.TheVariants as error
+use Rattle.gix_simple.specs.declared.Sorting.{Sorting}
+use Rattle.gix_simple.specs.declared.Sorting.TheVariants as sorting
+use Rattle.gix_revwalk.specs.declared.Unfiltered.{Unfiltered}
+use Rattle.gix_topo.specs.declared.Error.{Error as TopoError}
+use Rattle.gix_topo.specs.declared.Sorting.{Sorting as TopoSorting}
+use Rattle.gix_topo.specs.Walk.{TopoBuilder, Built, fresh_builder}
+use Rattle.gix_simple.specs.Building.{IsSortedByTime, FailsAtTip}
 use Rattle.gix_walk.specs.declared.fault.Fault.{Fault}
 use Rattle.gix_walk.specs.Faults.{fault_of_walk, fault_of_topo_walk}
 use Rattle.gix_walk.specs.TopoWalked as topo

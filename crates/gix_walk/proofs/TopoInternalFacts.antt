@@ -2,15 +2,15 @@
 use Rattle.std.specs.Prelude.{◌≡◌, ◌≢◌, ℕ, List, [], ◌∷◌, Option, Some, None, Result, Ok, Err}
 use Rattle.std.specs.Iterator.{Yields, YieldsThen}
 use Rattle.std.proofs.Common.{refl, ap, subst}
-use Rattle.gix_parts.specs.declared.hash.ObjectId.{ObjectId}
-use Rattle.gix_parts.specs.declared.object.Kind.TheVariants as object
-use Rattle.gix_parts.specs.Object.{Objects}
-use Rattle.gix_traverse.specs.declared.commit.Info.{Info}
-use Rattle.gix_traverse.specs.declared.commit.topo.Error.{Error}
-use Rattle.gix_traverse.specs.declared.commit.topo.Error.TheVariants as error
-use Rattle.gix_traverse.specs.declared.commit.topo.Sorting.{Sorting}
-use Rattle.gix_traverse.proofs.Shared.Rows.{none_agree}
-use Rattle.gix_traverse.specs.Topo.Walk.{TopoPlan, IsFault, ended, given, refused, failed}
+use Rattle.gix_hash.specs.declared.ObjectId.{ObjectId}
+use Rattle.gix_object.specs.declared.Kind.TheVariants as object
+use Rattle.gix_object.specs.Object.{Objects}
+use Rattle.gix_revwalk.specs.declared.Info.{Info}
+use Rattle.gix_topo.specs.declared.Error.{Error}
+use Rattle.gix_topo.specs.declared.Error.TheVariants as error
+use Rattle.gix_topo.specs.declared.Sorting.{Sorting}
+use Rattle.gix_revwalk.proofs.Rows.{none_agree}
+use Rattle.gix_topo.specs.Walk.{TopoPlan, IsFault, ended, given, refused, failed}
 use Rattle.gix_walk.specs.declared.fault.Fault.TheVariants as fault
 use Rattle.gix_walk.specs.Faults.{fault_of_topo_walk}
 use Rattle.gix_walk.specs.TopoWalked.{Walk, Answers, plan_from, IsBuiltFrom}

@@ -6,23 +6,23 @@ use Rattle.std.specs.List.{AllZip}
 use Rattle.std.proofs.Common.{refl, sym, ap, subst, ◌∙◌}
 use Rattle.std.proofs.lemmas.List.Elements.{All-nil, All-cons, Contains-append_left, Contains-append_right}
 use Rattle.std.specs.FinSet as set
-use Rattle.gix_parts.specs.declared.hash.ObjectId.{ObjectId}
-use Rattle.gix_parts.specs.declared.object.Kind.TheVariants as object
-use Rattle.gix_parts.specs.declared.object.find.existing_iter.Error.TheVariants as existing
-use Rattle.gix_parts.specs.Find.{IsExistingFault}
-use Rattle.gix_parts.specs.Id.{id_cmp}
-use Rattle.gix_parts.specs.Object.{Objects}
-use Rattle.gix_traverse.specs.declared.commit.Info.{Info}
-use Rattle.gix_traverse.specs.declared.commit.topo.Error.{Error}
-use Rattle.gix_traverse.specs.declared.commit.topo.Error.TheVariants as error
-use Rattle.gix_traverse.specs.declared.commit.topo.Sorting.{Sorting}
-use Rattle.gix_traverse.specs.History.Commits.{parents_of}
-use Rattle.gix_traverse.specs.History.Reach.{step}
-use Rattle.gix_traverse.specs.Topo.Laws.{IsNoRefusal, IsTakenInOrder, IsGiven, IsWholeRun, GivesInOrder}
-use Rattle.gix_traverse.specs.Topo.Walk.{TopoPlan, IsFault, IsFirstReady, IsNextReady, IsSound, ended, given, refused, failed}
-use Rattle.gix_traverse.proofs.Shared.Rows.{none_agree}
-use Rattle.gix_traverse.proofs.Topo.Run.Corollaries.{once}
-use Rattle.gix_traverse.proofs.Topo.Run.Theorem.{gives}
+use Rattle.gix_hash.specs.declared.ObjectId.{ObjectId}
+use Rattle.gix_object.specs.declared.Kind.TheVariants as object
+use Rattle.gix_object.specs.declared.find.existing_iter.Error.TheVariants as existing
+use Rattle.gix_object.specs.Find.{IsExistingFault}
+use Rattle.gix_hash.specs.Id.{id_cmp}
+use Rattle.gix_object.specs.Object.{Objects}
+use Rattle.gix_revwalk.specs.declared.Info.{Info}
+use Rattle.gix_topo.specs.declared.Error.{Error}
+use Rattle.gix_topo.specs.declared.Error.TheVariants as error
+use Rattle.gix_topo.specs.declared.Sorting.{Sorting}
+use Rattle.gix_revwalk.specs.Commits.{parents_of}
+use Rattle.gix_hash.specs.Reach.{step}
+use Rattle.gix_topo.specs.Laws.{IsNoRefusal, IsTakenInOrder, IsGiven, IsWholeRun, GivesInOrder}
+use Rattle.gix_topo.specs.Walk.{TopoPlan, IsFault, IsFirstReady, IsNextReady, IsSound, ended, given, refused, failed}
+use Rattle.gix_revwalk.proofs.Rows.{none_agree}
+use Rattle.gix_topo.proofs.Run.Corollaries.{once}
+use Rattle.gix_topo.proofs.Run.Theorem.{gives}
 use Rattle.gix_walk.specs.declared.fault.Fault.{Fault}
 use Rattle.gix_walk.specs.declared.words.Order.TheVariants.{Topo}
 use Rattle.gix_walk.specs.Faults.{fault_of_topo_walk}
@@ -34,7 +34,7 @@ use Rattle.gix_walk.specs.Walked.{Ends, finished, failed as fell, cut_short, obj
 use Rattle.gix_walk.specs.Words.{Commits}
 use Rattle.gix_walk.proofs.CommitRuns.{served_so, ends_well, lines_by_ids}
 use Rattle.gix_walk.proofs.SimpleRuns.{whole_from}
-use Rattle.gix_traverse.proofs.Shared.Reached.{reach_more}
+use Rattle.gix_revwalk.proofs.Reached.{reach_more}
 
 unrefused : (infos : List Info) → All IsNoRefusal (all_given infos)
 unrefused [] = All-nil IsNoRefusal

@@ -1,18 +1,18 @@
 -- How walks through stored trees end.
 use Rattle.std.specs.Prelude.{◌≡◌, ◌≢◌, ℕ, List, Result, Err}
 use Rattle.std.proofs.Common.{subst}
-use Rattle.gix_parts.specs.declared.hash.ObjectId.{ObjectId}
-use Rattle.gix_parts.specs.declared.object.Kind.TheVariants as object
-use Rattle.gix_parts.specs.declared.object.find.existing_iter.Error.{Error as ExistingError}
-use Rattle.gix_parts.specs.declared.object.find.existing_iter.Error.TheVariants as existing
-use Rattle.gix_parts.specs.Object.{Objects}
-use Rattle.gix_traverse.specs.declared.tree.breadthfirst.Error.{Error}
-use Rattle.gix_traverse.specs.declared.tree.breadthfirst.Error.TheVariants as error
-use Rattle.gix_traverse.specs.Trees.Delegate.{Call}
-use Rattle.gix_traverse.specs.Trees.Script.{DepthScript, IsDepthScript, whole, leaves, enters, ends_inside, not_found, breaks, cycles, fault, no_memory_at_look_up, no_memory_for_descent, refused, found, no_memory}
-use Rattle.gix_traverse.specs.Trees.Tracked.{Tracked}
-use Rattle.gix_traverse.specs.Trees.Walk.{LookUpFails, depth_answer, trees_of}
-use Rattle.gix_traverse.specs.Trees.Visits.{Items, Place, Visit, Ending, Whole, Broken, Failed}
+use Rattle.gix_hash.specs.declared.ObjectId.{ObjectId}
+use Rattle.gix_object.specs.declared.Kind.TheVariants as object
+use Rattle.gix_object.specs.declared.find.existing_iter.Error.{Error as ExistingError}
+use Rattle.gix_object.specs.declared.find.existing_iter.Error.TheVariants as existing
+use Rattle.gix_object.specs.Object.{Objects}
+use Rattle.gix_tree.specs.declared.breadthfirst.Error.{Error}
+use Rattle.gix_tree.specs.declared.breadthfirst.Error.TheVariants as error
+use Rattle.gix_tree.specs.Delegate.{Call}
+use Rattle.gix_tree.specs.Script.{DepthScript, IsDepthScript, whole, leaves, enters, ends_inside, not_found, breaks, cycles, fault, no_memory_at_look_up, no_memory_for_descent, refused, found, no_memory}
+use Rattle.gix_tree.specs.Tracked.{Tracked}
+use Rattle.gix_tree.specs.Walk.{LookUpFails, depth_answer, trees_of}
+use Rattle.gix_tree.specs.Visits.{Items, Place, Visit, Ending, Whole, Broken, Failed}
 use Rattle.gix_walk.specs.declared.fault.Fault.TheVariants as run_fault
 use Rattle.gix_walk.specs.Faults.{fault_of_find, fault_of_tree_walk}
 use Rattle.gix_walk.specs.Files.{RecordsTree}

@@ -2,11 +2,11 @@
 use Rattle.std.specs.Prelude.{◌≡◌, ℕ, List, Bool, true, false, cond, Option, Some, None, Result, Ok, Err, codes}
 use Rattle.std.specs.Str.{bytes_eq}
 use Rattle.std.proofs.Common.{subst}
-use Rattle.gix_parts.specs.declared.hash.ObjectId.{ObjectId}
-use Rattle.gix_traverse.specs.declared.commit.simple.CommitTimeOrder.TheVariants as order
-use Rattle.gix_traverse.specs.declared.commit.simple.Sorting.{Sorting}
-use Rattle.gix_traverse.specs.declared.commit.simple.Sorting.TheVariants as sorting
-use Rattle.gix_traverse.specs.declared.commit.topo.Sorting.TheVariants as topo
+use Rattle.gix_hash.specs.declared.ObjectId.{ObjectId}
+use Rattle.gix_revwalk.specs.declared.CommitTimeOrder.TheVariants as order
+use Rattle.gix_simple.specs.declared.Sorting.{Sorting}
+use Rattle.gix_simple.specs.declared.Sorting.TheVariants as sorting
+use Rattle.gix_topo.specs.declared.Sorting.TheVariants as topo
 use Rattle.gix_walk.specs.declared.fault.Fault.{Fault}
 use Rattle.gix_walk.specs.declared.words.Order.{Order}
 use Rattle.gix_walk.specs.declared.words.Order.TheVariants.{Simple, Topo}

@@ -1,13 +1,13 @@
 -- Which fault of a run a fault of a walk is.
-use Rattle.gix_parts.specs.declared.object.find.existing_iter.Error.{Error as ExistingError}
-use Rattle.gix_parts.specs.declared.object.find.existing_iter.Error.TheVariants as existing
-use Rattle.gix_traverse.specs.declared.commit.simple.Error.{Error}
-use Rattle.gix_traverse.specs.declared.commit.simple.Error.TheVariants as error
-use Rattle.gix_traverse.specs.declared.commit.simple.Hidden.TheVariants as hidden_by
-use Rattle.gix_traverse.specs.declared.commit.topo.Error.{Error as TopoError}
-use Rattle.gix_traverse.specs.declared.commit.topo.Error.TheVariants as topo_error
-use Rattle.gix_traverse.specs.declared.tree.breadthfirst.Error.{Error as TreeError}
-use Rattle.gix_traverse.specs.declared.tree.breadthfirst.Error.TheVariants as tree_error
+use Rattle.gix_object.specs.declared.find.existing_iter.Error.{Error as ExistingError}
+use Rattle.gix_object.specs.declared.find.existing_iter.Error.TheVariants as existing
+use Rattle.gix_simple.specs.declared.Error.{Error}
+use Rattle.gix_simple.specs.declared.Error.TheVariants as error
+use Rattle.gix_paint.specs.declared.Hidden.TheVariants as hidden_by
+use Rattle.gix_topo.specs.declared.Error.{Error as TopoError}
+use Rattle.gix_topo.specs.declared.Error.TheVariants as topo_error
+use Rattle.gix_tree.specs.declared.breadthfirst.Error.{Error as TreeError}
+use Rattle.gix_tree.specs.declared.breadthfirst.Error.TheVariants as tree_error
 use Rattle.gix_walk.specs.declared.fault.Fault.{Fault}
 use Rattle.gix_walk.specs.declared.fault.Fault.TheVariants as fault
 

@@ -2,19 +2,20 @@
 use Rattle.std.specs.Prelude.{◌≡◌, ◌≢◌, ◌↔◌, ℕ, List, [], ◌∷◌, ◌++◌, map, filter, Bool, false, not, Contains, Option, Some, Result, Ok, Err, IsSome}
 use Rattle.std.specs.Io.KnownBytes.{Appends}
 use Rattle.std.specs.List.{flat_map}
-use Rattle.gix_parts.specs.declared.hash.ObjectId.{ObjectId}
-use Rattle.gix_parts.specs.Object.{Objects}
-use Rattle.gix_traverse.specs.declared.commit.Info.{Info}
-use Rattle.gix_traverse.specs.declared.commit.Parents.TheVariants as mode
-use Rattle.gix_traverse.specs.declared.commit.simple.Sorting.{Sorting}
-use Rattle.gix_traverse.specs.declared.commit.topo.Sorting.{Sorting as TopoSorting}
-use Rattle.gix_traverse.specs.History.Commits.{parents_of, commit_at, time_of}
-use Rattle.gix_traverse.specs.History.Reach.{Reaches, Tells, IsAcyclic}
-use Rattle.gix_traverse.specs.Orders.WalkSet.{IsInWalk}
-use Rattle.gix_traverse.specs.Simple.Laws.{AreDistinct, IsInOrder, new_ids}
-use Rattle.gix_traverse.specs.Simple.Walk.{time_order}
-use Rattle.gix_traverse.specs.Topo.Laws.{IsSorted}
-use Rattle.gix_traverse.specs.Topo.Walk.{IsNumberOf}
+use Rattle.gix_hash.specs.declared.ObjectId.{ObjectId}
+use Rattle.gix_object.specs.Object.{Objects}
+use Rattle.gix_revwalk.specs.declared.Info.{Info}
+use Rattle.gix_revwalk.specs.declared.Parents.TheVariants as mode
+use Rattle.gix_simple.specs.declared.Sorting.{Sorting}
+use Rattle.gix_topo.specs.declared.Sorting.{Sorting as TopoSorting}
+use Rattle.gix_revwalk.specs.Commits.{parents_of, commit_at, time_of}
+use Rattle.gix_hash.specs.Reach.{Reaches, Tells, IsAcyclic}
+use Rattle.gix_topo.specs.WalkSet.{IsInWalk}
+use Rattle.gix_revwalk.specs.Ids.{AreDistinct, new_ids}
+use Rattle.gix_simple.specs.Laws.{IsInOrder}
+use Rattle.gix_simple.specs.Walk.{time_order}
+use Rattle.gix_topo.specs.Laws.{IsSorted}
+use Rattle.gix_topo.specs.Walk.{IsNumberOf}
 use Rattle.gix_walk.specs.declared.fault.Fault.{Fault}
 use Rattle.gix_walk.specs.declared.fault.Fault.TheVariants as fault
 use Rattle.gix_walk.specs.declared.words.Order.{Order}

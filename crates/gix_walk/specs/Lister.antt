@@ -1,9 +1,9 @@
 -- What a lister of the entries of trees holds, and what each call leaves of it.
 use Rattle.std.specs.Prelude.{◌≡◌, ℕ, List, [], ◌++◌, true}
 use Rattle.std.specs.declared.ops.ControlFlow.TheVariants.{Continue}
-use Rattle.gix_parts.specs.TreeItems.{TreeEntry}
-use Rattle.gix_traverse.specs.Trees.Delegate.{Action, Call, PushPath, PopPath, PushBack, PopBack, PopFront, VisitTree, VisitNontree, Refused}
-use Rattle.gix_traverse.specs.Trees.Tracked.{Tracked, Tracks, fresh_recorder}
+use Rattle.gix_object.specs.TreeItems.{TreeEntry}
+use Rattle.gix_tree.specs.Delegate.{Action, Call, PushPath, PopPath, PushBack, PopBack, PopFront, VisitTree, VisitNontree, Refused}
+use Rattle.gix_tree.specs.Tracked.{Tracked, Tracks, fresh_recorder}
 use Rattle.gix_walk.specs.Files.{file_line}
 
 -- a recorder that follows the path and records nothing, and the lines

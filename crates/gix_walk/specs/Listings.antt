@@ -3,15 +3,15 @@ use Rattle.std.specs.Prelude.{◌≡◌, ℕ, List, [], ◌∷◌, map, true, fa
 use Rattle.std.specs.declared.ops.ControlFlow.TheVariants.{Continue}
 use Rattle.std.specs.Io.KnownBytes.{Appends}
 use Rattle.std.specs.List.{AllByRecursion}
-use Rattle.gix_parts.specs.declared.hash.ObjectId.{ObjectId}
-use Rattle.gix_parts.specs.Object.{Objects}
-use Rattle.gix_traverse.specs.Orders.Preorder.{IsPreorder}
-use Rattle.gix_traverse.specs.Trees.Laws.{AreSound}
-use Rattle.gix_traverse.specs.Trees.Paths.{HaveNames, known_root}
-use Rattle.gix_traverse.specs.Trees.Recorder.{record_of}
-use Rattle.gix_traverse.specs.Trees.Script.{entries_at}
-use Rattle.gix_traverse.specs.Trees.Visits.{Visit}
-use Rattle.gix_traverse.specs.Trees.Walk.{LookUpFails, trees_of}
+use Rattle.gix_hash.specs.declared.ObjectId.{ObjectId}
+use Rattle.gix_object.specs.Object.{Objects}
+use Rattle.gix_tree.specs.Preorder.{IsPreorder}
+use Rattle.gix_tree.specs.Laws.{AreSound}
+use Rattle.gix_tree.specs.Paths.{HaveNames, known_root}
+use Rattle.gix_tree.specs.Recorder.{record_of}
+use Rattle.gix_tree.specs.Script.{entries_at}
+use Rattle.gix_tree.specs.Visits.{Visit}
+use Rattle.gix_tree.specs.Walk.{LookUpFails, trees_of}
 use Rattle.gix_walk.specs.declared.fault.Fault.{Fault}
 use Rattle.gix_walk.specs.Files.{file_lines}
 use Rattle.gix_walk.specs.Histories.{EndsWell}

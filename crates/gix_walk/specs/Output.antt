@@ -1,7 +1,7 @@
 -- Lines that are buffered before they are written.
 use Rattle.std.specs.Prelude.{◌≡◌, ℕ, List, ◌++◌, Option, Result}
 use Rattle.std.specs.Io.KnownBytes.{Appends}
-use Rattle.gix_traverse.specs.declared.commit.Info.{Info}
+use Rattle.gix_revwalk.specs.declared.Info.{Info}
 use Rattle.gix_walk.specs.declared.fault.Fault.{Fault}
 use Rattle.gix_walk.specs.Walked.{Ends, lines_of}
 

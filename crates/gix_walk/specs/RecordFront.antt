@@ -2,9 +2,9 @@
 use Rattle.std.specs.Prelude.{ℕ, ◌==◌, List, [], ◌∷◌, take, drop, Option, Some, None, if◌then◌else◌, codes}
 use Rattle.std.specs.Result.{result_ok}
 use Rattle.std.specs.Str.{bytes_eq}
-use Rattle.gix_parts.specs.declared.object.Kind.{Kind}
-use Rattle.gix_parts.specs.declared.object.Kind.TheVariants as kind
-use Rattle.gix_parts.specs.Id.{id_from_hex}
+use Rattle.gix_object.specs.declared.Kind.{Kind}
+use Rattle.gix_object.specs.declared.Kind.TheVariants as kind
+use Rattle.gix_hash.specs.Id.{id_from_hex}
 use Rattle.gix_walk.specs.Decimal.{decimal}
 use Rattle.gix_walk.specs.Records.{Record}
 use Rattle.gix_walk.specs.declared.records.Front.{Front}

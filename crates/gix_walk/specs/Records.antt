@@ -2,11 +2,11 @@
 -- newline, the bytes, a newline.
 use Rattle.std.specs.Prelude.{◌≡◌, ◌≢◌, ℕ, suc, List, [], ◌∷◌, ◌++◌, length, Some, Ok, codes}
 use Rattle.std.specs.FinMap as map_of
-use Rattle.gix_parts.specs.declared.hash.ObjectId.{ObjectId}
-use Rattle.gix_parts.specs.declared.object.Kind.{Kind}
-use Rattle.gix_parts.specs.declared.object.Kind.TheVariants as kind
-use Rattle.gix_parts.specs.Id.{id_from_hex}
-use Rattle.gix_parts.specs.Object.{Objects}
+use Rattle.gix_hash.specs.declared.ObjectId.{ObjectId}
+use Rattle.gix_object.specs.declared.Kind.{Kind}
+use Rattle.gix_object.specs.declared.Kind.TheVariants as kind
+use Rattle.gix_hash.specs.Id.{id_from_hex}
+use Rattle.gix_object.specs.Object.{Objects}
 use Rattle.gix_walk.specs.declared.fault.Fault.{Fault}
 use Rattle.gix_walk.specs.declared.fault.Fault.TheVariants as fault
 use Rattle.gix_walk.specs.Decimal.{decimal}

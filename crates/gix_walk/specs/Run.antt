@@ -1,15 +1,15 @@
 -- What a run of the program may answer and write.
 use Rattle.std.specs.Prelude.{◌≡◌, ℕ, List, Option, Result, Ok, Err}
 use Rattle.std.specs.Io.KnownBytes.{Appends}
-use Rattle.gix_parts.specs.declared.hash.ObjectId.{ObjectId}
-use Rattle.gix_parts.specs.Object.{Objects}
-use Rattle.gix_traverse.specs.declared.commit.Info.{Info}
-use Rattle.gix_traverse.specs.declared.commit.simple.Error.{Error}
-use Rattle.gix_traverse.specs.declared.commit.simple.Sorting.{Sorting}
-use Rattle.gix_traverse.specs.declared.commit.topo.Error.{Error as TopoError}
-use Rattle.gix_traverse.specs.declared.commit.topo.Sorting.{Sorting as TopoSorting}
-use Rattle.gix_traverse.specs.declared.tree.breadthfirst.Error.{Error as TreeError}
-use Rattle.gix_traverse.specs.Trees.Tracked.{Tracked}
+use Rattle.gix_hash.specs.declared.ObjectId.{ObjectId}
+use Rattle.gix_object.specs.Object.{Objects}
+use Rattle.gix_revwalk.specs.declared.Info.{Info}
+use Rattle.gix_simple.specs.declared.Error.{Error}
+use Rattle.gix_simple.specs.declared.Sorting.{Sorting}
+use Rattle.gix_topo.specs.declared.Error.{Error as TopoError}
+use Rattle.gix_topo.specs.declared.Sorting.{Sorting as TopoSorting}
+use Rattle.gix_tree.specs.declared.breadthfirst.Error.{Error as TreeError}
+use Rattle.gix_tree.specs.Tracked.{Tracked}
 use Rattle.gix_walk.specs.declared.fault.Fault.{Fault}
 use Rattle.gix_walk.specs.declared.fault.Fault.TheVariants as fault
 use Rattle.gix_walk.specs.declared.words.Order.TheVariants.{Simple, Topo}

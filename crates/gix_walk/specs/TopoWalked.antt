@@ -1,13 +1,13 @@
 -- A topological walk over records.
 use Rattle.std.specs.Prelude.{◌≡◌, ◌≢◌, List, [], Option, Result, Err}
-use Rattle.gix_parts.specs.declared.hash.ObjectId.{ObjectId}
-use Rattle.gix_parts.specs.Object.{Objects}
-use Rattle.gix_traverse.specs.declared.commit.Info.{Info}
-use Rattle.gix_traverse.specs.declared.commit.Parents.TheVariants as mode
-use Rattle.gix_traverse.specs.declared.commit.Unfiltered.{Unfiltered}
-use Rattle.gix_traverse.specs.declared.commit.topo.Error.{Error}
-use Rattle.gix_traverse.specs.declared.commit.topo.Sorting.{Sorting}
-use Rattle.gix_traverse.specs.Topo.Walk.{TopoPlan, TopoWalk, Next, Built}
+use Rattle.gix_hash.specs.declared.ObjectId.{ObjectId}
+use Rattle.gix_object.specs.Object.{Objects}
+use Rattle.gix_revwalk.specs.declared.Info.{Info}
+use Rattle.gix_revwalk.specs.declared.Parents.TheVariants as mode
+use Rattle.gix_revwalk.specs.declared.Unfiltered.{Unfiltered}
+use Rattle.gix_topo.specs.declared.Error.{Error}
+use Rattle.gix_topo.specs.declared.Sorting.{Sorting}
+use Rattle.gix_topo.specs.Walk.{TopoPlan, TopoWalk, Next, Built}
 use Rattle.gix_walk.specs.declared.fault.Fault.{Fault}
 use Rattle.gix_walk.specs.declared.fault.Fault.TheVariants as fault
 use Rattle.gix_walk.specs.Faults.{fault_of_topo_walk}

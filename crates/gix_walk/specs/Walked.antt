@@ -2,16 +2,16 @@
 use Rattle.std.specs.Prelude.{◌≡◌, ◌≢◌, ℕ, List, [], ◌∷◌, ◌++◌, map, Bool, true, Option, Some, None, Result, Ok, Err}
 use Rattle.std.specs.List.{flat_map}
 use Rattle.std.specs.Iterator.{YieldsThen}
-use Rattle.gix_parts.specs.declared.hash.ObjectId.{ObjectId}
-use Rattle.gix_parts.specs.Id.{hex_of}
-use Rattle.gix_parts.specs.Object.{Objects}
-use Rattle.gix_traverse.specs.declared.commit.Info.{Info}
-use Rattle.gix_traverse.specs.declared.commit.Unfiltered.{Unfiltered}
-use Rattle.gix_traverse.specs.declared.commit.simple.Error.{Error}
-use Rattle.gix_traverse.specs.declared.commit.simple.Sorting.{Sorting}
-use Rattle.gix_traverse.specs.declared.commit.simple.Sorting.TheVariants as sorting
-use Rattle.gix_traverse.specs.Simple.Building.{IsSortedByTime, FailsAtTip}
-use Rattle.gix_traverse.specs.Simple.Walk.{SimpleWalk, IsMade, Next}
+use Rattle.gix_hash.specs.declared.ObjectId.{ObjectId}
+use Rattle.gix_hash.specs.Id.{hex_of}
+use Rattle.gix_object.specs.Object.{Objects}
+use Rattle.gix_revwalk.specs.declared.Info.{Info}
+use Rattle.gix_revwalk.specs.declared.Unfiltered.{Unfiltered}
+use Rattle.gix_simple.specs.declared.Error.{Error}
+use Rattle.gix_simple.specs.declared.Sorting.{Sorting}
+use Rattle.gix_simple.specs.declared.Sorting.TheVariants as sorting
+use Rattle.gix_simple.specs.Building.{IsSortedByTime, FailsAtTip}
+use Rattle.gix_simple.specs.Walk.{SimpleWalk, IsMade, Next}
 use Rattle.gix_walk.specs.declared.fault.Fault.{Fault}
 use Rattle.gix_walk.specs.declared.fault.Fault.TheVariants as fault
 use Rattle.gix_walk.specs.Faults.{fault_of_walk}

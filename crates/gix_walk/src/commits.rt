@@ -22,8 +22,8 @@ pub struct Lent<'a> {
 
 impl<'a> Model for Lent<'a> {
     ghost use Rattle.std.specs.FinMap as map;
-    ghost use Rattle.gix_parts.specs.Id.{id_code};
-    ghost use Rattle.gix_parts.specs.Object.{Objects, object_code};
+    ghost use Rattle.gix_hash.specs.Id.{id_code};
+    ghost use Rattle.gix_object.specs.Object.{Objects, object_code};
 
     ghost Value = { Objects };
 

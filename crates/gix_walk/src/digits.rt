@@ -1,7 +1,7 @@
 //! Hex digits of ids in lines.
 ghost use Rattle.std.specs.Prelude.{◌≡◌, ◌*◌, ◌<◌, ◌++◌, ◌∷◌, [], length, slice_index, OnOk, OnErr};
 ghost use Rattle.hex.specs.Hex.{encode_lower, lower_digits};
-ghost use Rattle.gix_parts.specs.Id.{hex_of};
+ghost use Rattle.gix_hash.specs.Id.{hex_of};
 
 use gix_parts::hash::ObjectId;
 use std::alloc::AllocError;

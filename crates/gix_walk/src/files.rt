@@ -1,6 +1,6 @@
 //! The lines of the entries of a tree.
 ghost use Rattle.std.specs.Prelude.{◌≡◌, ◌++◌, ◌∷◌, [], length, take, IfErr, IfOk, IfSome, OnErr, OnOk};
-ghost use Rattle.gix_parts.specs.TreeRefIter.{entry_of};
+ghost use Rattle.gix_object.specs.TreeRefIter.{entry_of};
 ghost use Rattle.gix_walk.specs.Files.{AreLinesOf, IsTreeFault, file_line, six_octal_digits};
 ghost use Rattle.gix_walk.specs.Lister.{line_at};
 ghost use Rattle.gix_walk.specs.Run.{Serves};

@@ -2,7 +2,7 @@
 ghost use Rattle.std.specs.Prelude.{◌≡◌, ℕ, List, IfOk, IfErr, MatchResult};
 ghost use Rattle.std.specs.Option.{option_map};
 ghost use Rattle.std.specs.Result.{result_ok};
-ghost use Rattle.gix_parts.specs.Id.{id_from_hex};
+ghost use Rattle.gix_hash.specs.Id.{id_from_hex};
 ghost use Rattle.gix_walk.specs.Records.{Record, AreRecords, IsRecordFault, stored};
 ghost use Rattle.gix_walk.specs.Decimal.{decimal};
 ghost use Rattle.gix_walk.specs.RecordFront.{split_at_byte, kind_named, body_at, record_at, front_shown};

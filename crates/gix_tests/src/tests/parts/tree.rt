@@ -1,7 +1,7 @@
 //! The entries of trees.
 ghost use Rattle.std.specs.Prelude.{◌≡◌, drop};
-ghost use Rattle.gix_parts.specs.TreeItems.{tree_items};
-ghost use Rattle.gix_parts.specs.TreeRefIter.{bytes_left, id_kind, items_left, IsEndOf};
+ghost use Rattle.gix_object.specs.TreeItems.{tree_items};
+ghost use Rattle.gix_object.specs.TreeRefIter.{bytes_left, id_kind, items_left, IsEndOf};
 
 use gix_parts::hash::{Kind, ObjectId};
 use gix_parts::object::decode::Error;

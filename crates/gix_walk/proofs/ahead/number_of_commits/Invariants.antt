@@ -1,6 +1,6 @@
 use Rattle.std.proofs.Common.{◌≡◌, length, List}
 use Rattle.std.specs.Iterator.{Yields}
-use Rattle.gix_traverse.specs.declared.commit.Info.{Info}
+use Rattle.gix_revwalk.specs.declared.Info.{Info}
 use Rattle.gix_walk.specs.Walked.{given}
 use Rattle.gix_walk.proofs.ahead.number_of_commits.Given as goal
 

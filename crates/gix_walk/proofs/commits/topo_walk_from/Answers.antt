@@ -1,6 +1,6 @@
 use Rattle.std.proofs.Common.{List, Ok, ◌∙◌}
 use Rattle.std.proofs.lemmas.Result.{err_from_is_err_and}
-use Rattle.gix_parts.specs.declared.hash.ObjectId.{ObjectId}
+use Rattle.gix_hash.specs.declared.ObjectId.{ObjectId}
 use Rattle.gix_walk.proofs.StartFacts.{drained, chosen, built_from, build_failed}
 use Rattle.gix_walk.proofs.commits.topo_walk_from.Goals as goal
 

@@ -1,6 +1,6 @@
 use Rattle.std.proofs.Common.{List}
 use Rattle.std.specs.Iterator.{Yields}
-use Rattle.gix_traverse.specs.declared.commit.Info.{Info}
+use Rattle.gix_revwalk.specs.declared.Info.{Info}
 use Rattle.gix_walk.specs.Output.{Grows}
 use Rattle.gix_walk.specs.Walked.{given, lines_of}
 use Rattle.gix_walk.proofs.output.add_commits.Given as goal

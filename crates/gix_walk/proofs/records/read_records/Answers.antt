@@ -1,7 +1,7 @@
 use Rattle.std.proofs.Common.{◌≡◌, sym, ◌∙◌, ap, refl, arith, length, List, ℕ, [], ◌∷◌}
 use Rattle.std.proofs.lemmas.Bool.{eqb-true, eqb-false}
 use Rattle.std.proofs.lemmas.Result.{err_from_is_err_and}
-use Rattle.gix_parts.proofs.MemoryStore.{empty_stored, within_empty, within_put}
+use Rattle.gix_object.proofs.MemoryStore.{empty_stored, within_empty, within_put}
 use Rattle.gix_walk.specs.Records.{bad, stored}
 use Rattle.gix_walk.specs.RecordFront.{front_shown}
 use Rattle.gix_walk.proofs.RecordFacts.{stored_none, stored_cut, stored_bad, stored_all, found_takes, bytes_fit, placed_one, only_reading, no_bad_record}

@@ -1,5 +1,5 @@
 use Rattle.std.proofs.Common.{◌≤◌, ◌+◌, length}
-use Rattle.gix_parts.specs.MemoryStore.{objects_at, AreWithin}
+use Rattle.gix_object.specs.MemoryStore.{objects_at, AreWithin}
 use Rattle.gix_walk.proofs.RecordFacts.{HasStored}
 use Rattle.gix_walk.proofs.records.read_records.Given as goal
 

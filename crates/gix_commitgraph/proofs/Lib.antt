@@ -1,0 +1,2 @@
+-- The packed rows of a commit-graph.
+pub mod Packed

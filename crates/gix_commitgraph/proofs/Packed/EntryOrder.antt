@@ -1,0 +1,56 @@
+-- The entries of rows, in the order of their ids.
+use Rattle.std.proofs.Common.{◌≡◌, ◌≢◌, ℕ, suc, ◌+◌, ◌-◌, ◌<◌, ◌≤◌, false, List, [], ◌∷◌, ◌++◌, length, get_or, set, take, sym, ap, ◌∙◌, arith, inl, inr}
+use Rattle.std.specs.Ordering.{is_lt}
+use Rattle.std.proofs.lemmas.Bool.{cases_lt}
+use Rattle.std.proofs.lemmas.List.{take_more, map_push, get_or_default, get_or-set_same, get_or-set_other, length-set, length-take, length-map, get_or_past}
+use Rattle.std.proofs.lemmas.Bool.Decides.{eqb_tells}
+use Rattle.gix_commitgraph.specs.declared.Row.{Row}
+use Rattle.gix_hash.specs.Id.{id_cmp}
+use Rattle.gix_commitgraph.specs.Rows.{GraphRow}
+use Rattle.gix_commitgraph.specs.Packed.{most}
+use Rattle.gix_commitgraph.specs.Renumbering.{row_seen, rows_seen, Entry, entries_from, StopsRising, HasPlaces}
+
+entries_from-push : (n : ℕ) (rows : List GraphRow) (row : GraphRow) → entries_from n (rows ++ row ∷ []) ≡ entries_from n rows ++ (row.id, n + length rows) ∷ []
+entries_from-push n [] row = let same : n ≡ n + 0 = omega arith in ap (λ (m : ℕ). (row.id, m) ∷ []) same
+entries_from-push n (r ∷ rows) row =
+    let same : suc n + length rows ≡ n + suc (length rows) = omega arith in
+    ap (λ (x : List Entry). (r.id, n) ∷ x) (entries_from-push (suc n) rows row ∙ ap (λ (m : ℕ). entries_from (suc n) rows ++ (row.id, m) ∷ []) same)
+
+-- one more row, as it was read
+pub entries_more : (rows : List Row) (i : ℕ) (row : Row) → i < length rows → row ≡ get_or rows i row → entries_from 0 (rows_seen (take (i + 1) rows)) ≡ entries_from 0 (rows_seen (take i rows)) ++ (row.id, i) ∷ []
+entries_more rows i row lt is =
+    let read : Row = get_or rows i row in
+    let seen : rows_seen (take (i + 1) rows) ≡ rows_seen (take i rows) ++ row_seen read ∷ [] = ap rows_seen (take_more rows i row lt) ∙ map_push row_seen (take i rows) read in
+    let len : 0 + length (rows_seen (take i rows)) ≡ i = omega (arith, length-map (take i rows) row_seen, length-take i rows) in
+    ap (entries_from 0) seen ∙ entries_from-push 0 (rows_seen (take i rows)) (row_seen read) ∙ (λ j. entries_from 0 (rows_seen (take i rows)) ++ ((sym is j).id, len j) ∷ [])
+
+pub stops : (order : List Entry) (i : ℕ) (e : Entry) → 0 < i → i < length order → is_lt (id_cmp (get_or order (i - 1) e).0 (get_or order i e).0) ≡ false → StopsRising order
+stops order i e some lt stop =
+    let next : i - 1 + 1 ≡ i = omega arith in
+    (i - 1, (omega arith), λ d. rw next ((λ j. is_lt (id_cmp (get_or_default order (i - 1) d e (omega arith) j).0 (get_or_default order i d e lt j).0)) ∙ stop))
+
+-- one more number is written
+pub number_more : (order : List Entry) (numbers : List ℕ) (j : ℕ) (e : Entry) → HasPlaces (length order) order → j < length order → length numbers ≡ length order
+    → ((k : ℕ) (d : Entry) → k < j → get_or numbers (get_or order k d).1 0 ≡ k)
+    → (k : ℕ) (d : Entry) → k < j + 1 → get_or (set numbers (get_or order j e).1 j) (get_or order k d).1 0 ≡ k
+number_more order numbers j e places lt len told k d below =
+    elim (cases_lt k j) [
+      | inl before ↦ (
+          let other : (get_or order k d).1 ≢ (get_or order j e).1 = λ same. places.apart k j d before lt (same ∙ ap (λ (x : Entry). x.1) (get_or_default order j e d lt)) in
+          get_or-set_other numbers (get_or order j e).1 (get_or order k d).1 j 0 other ∙ told k d before)
+      | inr from ↦ (
+          let here : k ≡ j = omega arith in
+          let place : (get_or order k d).1 ≡ (get_or order j e).1 = ap (λ (n : ℕ). (get_or order n d).1) here ∙ ap (λ (x : Entry). x.1) (get_or_default order j d e lt) in
+          let within : (get_or order j e).1 < length numbers = omega (arith, places.below j e lt) in
+          ap (λ (p : ℕ). get_or (set numbers (get_or order j e).1 j) p 0) place ∙ get_or-set_same numbers (get_or order j e).1 j 0 within ∙ sym here)
+    ]
+
+pub number_small : (numbers : List ℕ) (p n : ℕ) → n ≤ most → ((place : ℕ) → get_or numbers place 0 ≤ most) → (place : ℕ) → get_or (set numbers p n) place 0 ≤ most
+number_small numbers p n few small place =
+    elim (eqb_tells place p) [
+      | inl same ↦ elim (cases_lt p (length numbers)) [
+        | inl lt ↦ rw same.1 (rw (get_or-set_same numbers p n 0 lt) few)
+        | inr le ↦ rw (get_or_past (set numbers p n) place 0 (omega (arith, same.1, length-set numbers p n))) (omega arith)
+      ]
+      | inr other ↦ rw (get_or-set_other numbers p place n 0 other.1) (small place)
+    ]

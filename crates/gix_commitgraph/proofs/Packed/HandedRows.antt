@@ -1,0 +1,86 @@
+-- Rows that are handed in, tested one after the other.
+use Rattle.std.proofs.Common.{◌≡◌, ℕ, zero, suc, ◌+◌, ◌-◌, ◌<◌, ◌≤◌, Bool, true, false, List, [], ◌∷◌, ◌++◌, length, eqb, get_or, take, drop, refl, sym, ap, subst, ◌∙◌, arith}
+use Rattle.std.specs.List.{AllByRecursion}
+use Rattle.std.specs.Prelude.{MatchBool}
+use Rattle.std.proofs.lemmas.Bool.{eqb-true, eqb-false}
+use Rattle.std.proofs.lemmas.List.{length-append, length-map, take_more, take-append-drop, map-append, map_push}
+use Rattle.std.proofs.lemmas.List.Concat.{flat_map-append}
+use Rattle.gix_hash.specs.declared.Kind.{Kind}
+use Rattle.gix_hash.specs.declared.Kind.TheVariants as kind
+use Rattle.gix_hash.specs.declared.ObjectId.{ObjectId}
+use Rattle.gix_commitgraph.specs.declared.ParentPlace.{ParentPlace}
+use Rattle.gix_commitgraph.specs.declared.Row.{Row}
+use Rattle.gix_hash.specs.Id.{id_len, kind_of, bytes_of}
+use Rattle.gix_commitgraph.specs.Rows.{GraphRow}
+use Rattle.gix_commitgraph.specs.Packed.{list_words, overflow_of, overflow_words, kind_of_rows, AreBytes, IsIdOf, IsPlaceAmong}
+use Rattle.gix_commitgraph.specs.Renumbering.{row_seen, rows_seen, IsRowOf, AreOfKind, AreOfOneKind, HavePlacesWithin}
+
+length-list_words : (p : ParentPlace) (ps : List ParentPlace) → length (list_words p ps) ≡ suc (length ps)
+length-list_words p [] = refl
+length-list_words p (q ∷ ps) = ap suc (length-list_words q ps)
+
+pub length-overflow_of : (ps : List ParentPlace) → 3 ≤ length ps → length (overflow_of ps) ≡ length ps - 1
+length-overflow_of [] h = absurd (omega arith)
+length-overflow_of (p ∷ []) h = absurd (omega arith)
+length-overflow_of (p ∷ q ∷ []) h = absurd (omega arith)
+length-overflow_of (p ∷ q ∷ r ∷ ps) h = length-list_words q (r ∷ ps) ∙ omega arith
+
+-- how many overflow words the first rows have
+pub words_of_more : (rows : List Row) (i : ℕ) (d : Row) → i < length rows
+    → length (overflow_words (rows_seen (take (i + 1) rows))) ≡ length (overflow_words (rows_seen (take i rows))) + length (overflow_of (get_or rows i d).parents.items)
+words_of_more rows i d lt =
+    let more = take_more rows i d lt in
+    let row = get_or rows i d in
+    let seen : rows_seen (take (i + 1) rows) ≡ rows_seen (take i rows) ++ row_seen row ∷ [] = ap rows_seen more ∙ map_push row_seen (take i rows) row in
+    let words : overflow_words (rows_seen (take (i + 1) rows)) ≡ overflow_words (rows_seen (take i rows)) ++ overflow_words (row_seen row ∷ []) = ap overflow_words seen ∙ flat_map-append (λ (x : GraphRow). overflow_of x.parents) (rows_seen (take i rows)) (row_seen row ∷ []) in
+    ap length words ∙ length-append (overflow_words (rows_seen (take i rows))) (overflow_words (row_seen row ∷ [])) ∙ omega (arith, length-append (overflow_of row.parents.items) [])
+
+pub words_of_part : (rows : List Row) (i : ℕ) → length (overflow_words (rows_seen (take i rows))) ≤ length (overflow_words (rows_seen rows))
+words_of_part rows i =
+    let whole : overflow_words (rows_seen rows) ≡ overflow_words (rows_seen (take i rows)) ++ overflow_words (rows_seen (drop i rows)) =
+    ap (λ (x : List Row). overflow_words (rows_seen x)) (sym (take-append-drop i rows)) ∙ ap overflow_words (map-append row_seen (take i rows) (drop i rows)) ∙ flat_map-append (λ (x : GraphRow). overflow_of x.parents) (rows_seen (take i rows)) (rows_seen (drop i rows)) in
+    omega (arith, ap length whole, length-append (overflow_words (rows_seen (take i rows))) (overflow_words (rows_seen (drop i rows))))
+
+-- what holds of each row, by places and by the list
+module _ (P : GraphRow → Type 0) where
+  pub all_seen : (rows : List Row) → ((k : ℕ) (d : Row) → k < length rows → P (row_seen (get_or rows k d))) → AllByRecursion P (rows_seen rows)
+  all_seen [] each = tt
+  all_seen (row ∷ rows) each = (each 0 row (omega arith), all_seen rows (λ k d lt. each (suc k) d (omega arith)))
+
+  pub seen_at : (rows : List Row) (k : ℕ) (d : Row) → AllByRecursion P (rows_seen rows) → k < length rows → P (row_seen (get_or rows k d))
+  seen_at [] k d all lt = absurd (omega arith)
+  seen_at (row ∷ rows) zero d all lt = all.0
+  seen_at (row ∷ rows) (suc k) d all lt = seen_at rows k d all.1 (omega arith)
+
+kinds_of_rows : (k : Kind) (rows : List GraphRow) → AllByRecursion (IsRowOf k) rows → AreOfKind k rows
+kinds_of_rows k [] all = tt
+kinds_of_rows k (row ∷ rows) all = ((all.0.id.kind, all.0.tree.kind), kinds_of_rows k rows all.1)
+
+pub kind_from_len : (k : Kind) (i : ObjectId) → id_len (kind_of i) ≡ id_len k → kind_of i ≡ k
+kind_from_len k i e = by_cases (kind_of i) k e
+  where
+    by_cases : (a b : Kind) → id_len a ≡ id_len b → a ≡ b
+    by_cases kind.Sha1 kind.Sha1 e = refl
+    by_cases kind.Sha1 kind.Sha256 e = absurd (omega arith)
+    by_cases kind.Sha256 kind.Sha1 e = absurd (omega arith)
+    by_cases kind.Sha256 kind.Sha256 e = refl
+
+pub is_of_kind_cases : (k : Kind) (i : ObjectId) (bytes : List ℕ) (b : Bool) → bytes ≡ bytes_of i → length bytes ≡ id_len (kind_of i) → AreBytes bytes → b ≡ eqb (length bytes) (id_len k)
+    → MatchBool b (IsIdOf k i) (kind_of i ≡ k → ⊥)
+is_of_kind_cases k i bytes true is len fits e =
+    let same : length bytes ≡ id_len k = eqb-true (length bytes) (id_len k) (sym e) in
+    record { kind = kind_from_len k i (omega arith); len = ap length (sym is) ∙ same; bytes = subst AreBytes is fits }
+is_of_kind_cases k i bytes false is len fits e = λ same. eqb-false (length bytes) (id_len k) (sym e) (len ∙ ap id_len same)
+
+-- where all rows have a property, the row that was read has it
+pub read_row : (P : GraphRow → Type 0) (rows : List Row) (k : ℕ) (row : Row) → AllByRecursion P (rows_seen rows) → k < length rows → row ≡ get_or rows k row → P (row_seen row)
+read_row P rows k row all lt is = subst (λ (x : Row). P (row_seen x)) (sym is) (seen_at P rows k row all lt)
+
+pub places_within : (rows : List Row) → ((k : ℕ) (d : Row) → k < length rows → AllByRecursion (IsPlaceAmong (length rows)) (get_or rows k d).parents.items) → HavePlacesWithin (rows_seen rows)
+places_within rows each = all_seen (λ row. AllByRecursion (IsPlaceAmong (length (rows_seen rows))) row.parents) rows (λ k d lt. subst (λ (n : ℕ). AllByRecursion (IsPlaceAmong n) (get_or rows k d).parents.items) (sym (length-map rows row_seen)) (each k d lt))
+
+pub read_places : (rows : List Row) (k : ℕ) (row : Row) → HavePlacesWithin (rows_seen rows) → k < length rows → row ≡ get_or rows k row → AllByRecursion (IsPlaceAmong (length rows)) row.parents.items
+read_places rows k row all lt is = subst (λ (n : ℕ). AllByRecursion (IsPlaceAmong n) row.parents.items) (length-map rows row_seen) (read_row (λ x. AllByRecursion (IsPlaceAmong (length (rows_seen rows))) x.parents) rows k row all lt is)
+
+pub are_of_one_kind : (k : Kind) (rows : List GraphRow) → k ≡ kind_of_rows rows → AllByRecursion (IsRowOf k) rows → AreOfOneKind rows
+are_of_one_kind k rows is all = subst (λ (x : Kind). AreOfKind x rows) is (kinds_of_rows k rows all)

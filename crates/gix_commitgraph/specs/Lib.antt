@@ -1,0 +1,9 @@
+pub mod Rows
+pub mod Packed
+pub mod PackedReading
+pub mod PackedLayout
+pub mod PackedLaws
+pub mod Parents
+pub mod GraphCommit
+pub mod Renumbering
+pub mod GraphExamples

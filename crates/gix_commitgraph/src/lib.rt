@@ -1,0 +1,325 @@
+//! The rows of a commit-graph, kept as packed bytes.
+#![tactic(auto)]
+
+mod check;
+mod commit;
+mod fields;
+pub mod laws;
+mod order;
+mod pack;
+mod parents;
+mod rows;
+
+use check::Layout;
+pub use commit::Commit;
+use gix_hash::{Kind, ObjectId};
+pub use parents::Parents;
+use std::alloc::{AllocError, AllocFailed, Global};
+use std::cmp::Ordering;
+use std::marker::Model;
+use thiserror::Error;
+
+/// Where a parent's row is.
+#[derive(Clone, Copy, PartialEq, Eq, Debug)]
+pub enum ParentPlace {
+    /// The row of this number.
+    At(u32),
+    /// No row: the graph is corrupt here.
+    Fault,
+}
+
+/// What a commit-graph says of a commit.
+#[derive(Debug, Drop)]
+pub struct Row {
+    /// The commit's id. No two rows of a graph have the same id.
+    pub id: ObjectId,
+    /// The id of the commit's tree.
+    pub tree: ObjectId,
+    /// The parents in the commit's order; `At` names a row by its place in the list of rows that are handed in.
+    pub parents: Vec<ParentPlace>,
+    /// The generation. In a graph that agrees with a store it is greater than that of each parent.
+    pub generation: u32,
+    /// The committer's seconds since 1970-01-01 00:00 UTC.
+    pub time: i64,
+}
+
+/// Where packed bytes are not as they should be.
+#[derive(Clone, Copy, PartialEq, Eq, Debug)]
+pub enum Place {
+    /// There are fewer than 12 bytes, or the first four name no layout.
+    Head,
+    /// There are too many rows or overflow words, or the number of bytes doesn't fit them.
+    Size,
+    /// The id of this row isn't above the one before it.
+    Order(u32),
+    /// The parent words of this row, or the overflow words that they name, are not as they should be.
+    Parents(u32),
+    /// There are further words behind the last row's overflow list.
+    Overflow,
+}
+
+/// Why there is no graph of these rows or bytes.
+#[derive(Clone, Copy, PartialEq, Eq, Debug, Error)]
+pub enum GraphError {
+    /// There are more than 2,147,483,646 rows, or as many overflow words.
+    #[error("a commit-graph has at most 2147483646 rows and as many overflow words")]
+    TooMany,
+    /// The ids and trees are not all of one kind.
+    #[error("the ids of a commit-graph are of more than one kind")]
+    MixedKinds,
+    /// Two rows have one id.
+    #[error("two rows of a commit-graph have one id")]
+    DuplicateId,
+    /// A parent's place isn't below the number of rows.
+    #[error("a parent's place in a commit-graph is out of range")]
+    PositionOutOfRange,
+    /// The bytes are not packed rows; the first place where they are not as they should be.
+    #[error("not a packed commit-graph: {0:?}")]
+    Packed(Place),
+    #[error("out of memory")]
+    Memory,
+}
+
+impl From<AllocError> for GraphError {
+    ghost use Rattle.std.specs.Prelude.{◌≡◌};
+    ghost use Rattle.gix_commitgraph.specs.declared.GraphError.TheVariants.{Memory};
+
+    ghost from_gives = { λ _ error. error ≡ Memory };
+
+    fn from(_error: AllocError) -> GraphError {
+        GraphError::Memory
+    }
+}
+
+// So that `list.push(row)?` is this error. The value is dropped.
+impl<T: Drop> From<AllocFailed<T>> for GraphError {
+    ghost use Rattle.std.specs.Prelude.{◌≡◌};
+    ghost use Rattle.gix_commitgraph.specs.declared.GraphError.TheVariants.{Memory};
+
+    ghost from_gives = { λ _ error. error ≡ Memory };
+
+    fn from(_error: AllocFailed<T>) -> GraphError {
+        GraphError::Memory
+    }
+}
+
+/// The number of a row, in the rising order of ids.
+#[derive(Clone, Copy, PartialEq, Eq, PartialOrd, Ord, Hash, Debug)]
+pub struct Position(pub u32);
+
+/// A parent's place names no row.
+#[derive(Clone, Copy, PartialEq, Eq, Debug, Error)]
+#[error("a parent's place in a commit-graph is corrupt")]
+pub struct ParentFault;
+
+/// The generation of a commit that has no row.
+pub const GENERATION_NUMBER_INFINITY: u32 = 0xFFFF_FFFF;
+
+/// The rows of a commit-graph, by their numbers in the rising order of ids.
+///
+/// Rows name their parents by place in the list that is handed in:
+///
+/// ```rust
+/// pub fn graph_of_two(
+///     alloc: Global,
+///     tree: ObjectId,
+///     root: ObjectId,
+///     child: ObjectId,
+/// ) -> Result<Graph, GraphError> {
+///     let rows = vec![in alloc;
+///         Row {
+///             id: root,
+///             tree,
+///             parents: Vec::new(alloc),
+///             generation: 1,
+///             time: 100,
+///         },
+///         Row {
+///             id: child,
+///             tree,
+///             parents: vec![in alloc; ParentPlace::At(0)]?,
+///             generation: 2,
+///             time: 200,
+///         },
+///     ]?;
+///     Graph::new(alloc, rows)
+/// }
+/// ```
+#[derive(Debug, Drop)]
+pub struct Graph {
+    packed: Vec<u8>,
+    layout: Layout,
+}
+
+impl Model for Graph {
+    ghost use Rattle.std.specs.Prelude.{List};
+    ghost use Rattle.gix_commitgraph.specs.Rows.{GraphRow};
+    ghost use Rattle.gix_commitgraph.specs.PackedReading.{read_packed, rows_in};
+
+    ghost Value = { List GraphRow };
+
+    ghost use Rattle.gix_commitgraph.specs.PackedLayout.{IsPackedAs};
+
+    ghost view = { λ g. rows_in (read_packed g.packed.items) };
+
+    ghost invariant = { λ g. IsPackedAs g.packed.items g.layout (rows_in (read_packed g.packed.items)) };
+}
+
+impl Graph {
+    ghost use Rattle.std.specs.Prelude.{◌≡◌, ◌<◌, List, length, slice_get, All, Ok, IfOk, OnOk, IfErr, Some, IfSome};
+    ghost use Rattle.std.specs.Option.{option_map};
+    ghost use Rattle.gix_hash.specs.Id.{id_cmp};
+    ghost use Rattle.gix_commitgraph.specs.Rows.{GraphRow, row_at, row_of};
+    ghost use Rattle.gix_commitgraph.specs.GraphCommit.{rows_of_commit, row_of_commit};
+    ghost use Rattle.gix_commitgraph.specs.Parents.{answers_of};
+    ghost use Rattle.gix_commitgraph.specs.Packed.{AreGraphRows, kind_of_rows, overflow_words, spelling};
+    ghost use Rattle.gix_commitgraph.specs.PackedReading.{words_of, read_packed, opened};
+    ghost use Rattle.gix_commitgraph.specs.PackedLayout.{BeginsWithRow};
+    ghost use Rattle.gix_commitgraph.specs.Renumbering.{rows_seen, HasSameRows, IsAccepted, Refuses};
+
+    /// The graph of these rows, whatever their order. The rows need not agree with any store.
+    ///
+    /// Too many rows are refused first, then ids or trees of more than one kind, then an id of two rows, then a place
+    /// out of range; `Memory` comes where memory runs out.
+    pub fn new(alloc: Global, rows: Vec<Row>) -> Result<Graph, GraphError>
+        ensures rows { IfOk result (λ graph. AreGraphRows graph × HasSameRows (rows_seen rows.items) graph) }
+        ensures accepted { OnOk result (IsAccepted (rows_seen rows.items)) }
+        ensures refused { IfErr result (Refuses (rows_seen rows.items)) }
+    {
+        let layout = rows::layout_of(rows.as_slice())?;
+        let order = order::sorted_entries(alloc, rows.as_slice())?;
+        order::test(layout, rows.as_slice(), order.as_slice())?;
+        let packed = pack::pack_rows(alloc, layout, rows.as_slice(), order.as_slice())?;
+        Ok(Graph { packed, layout })
+    }
+
+    /// The graph of packed bytes, which it keeps as they are. Other bytes are refused with the first place that is not
+    /// as it should be. No memory is taken.
+    pub fn from_packed(packed: Vec<u8>) -> Result<Graph, GraphError>
+        // Bytes that are accepted spell the graph's rows.
+        ensures found { IfOk result (λ rows. AreGraphRows rows × (packed.items ≡ spelling rows)) }
+        // Bytes that spell rows are accepted.
+        ensures only { (rows : List GraphRow) → AreGraphRows rows → packed.items ≡ spelling rows → result ≡ Ok rows }
+        // Which place is reported.
+        ensures exact { result ≡ opened (read_packed packed.items) }
+    {
+        match check::check(packed.as_slice()) {
+            Ok(layout) => Ok(Graph { packed, layout }),
+            Err(place) => Err(GraphError::Packed(place)),
+        }
+    }
+
+    /// The one spelling of the rows.
+    pub fn packed(&self) -> &[u8]
+        ensures { result.now ≡ spelling self.now }
+    {
+        self.packed.as_slice()
+    }
+
+    /// The number of rows.
+    pub fn num_commits(&self) -> u32
+        ensures count { result ≡ length self.now }
+        ensures sound { AreGraphRows self.now }
+    {
+        self.layout.rows
+    }
+
+    /// The commit of an id, by binary search.
+    pub fn commit_by_id(&self, id: &ObjectId) -> Option<Commit<'_>>
+        ensures row { option_map row_of_commit result ≡ row_of self.now id.now }
+        ensures rows { IfSome result (λ commit. rows_of_commit commit ≡ self.now) }
+    {
+        let mut low = 0u32;
+        let mut high = self.num_commits();
+        while low < high {
+            let middle = low + (high - low) / 2;
+            match self.compare_at(middle, id) {
+                Ordering::Less => low = middle + 1,
+                Ordering::Greater => high = middle,
+                Ordering::Equal => return Some(self.commit_at(Position(middle))),
+            }
+        }
+        None
+    }
+
+    /// The commit at a position.
+    pub fn commit_at(&self, position: Position) -> Commit<'_>
+        requires { position.0 < length self.now }
+        ensures row { slice_get self.now position.0 ≡ Some (row_of_commit result) }
+        ensures rows { rows_of_commit result ≡ self.now }
+    {
+        Commit::new(self, position)
+    }
+
+    /// The kind of all ids and trees.
+    fn kind(&self) -> Kind
+        ensures { result ≡ kind_of_rows self.now }
+    {
+        self.layout.kind
+    }
+
+    /// What begins with the row of a number.
+    fn row(&self, row: u32) -> &[u8]
+        requires { row < length self.now }
+        ensures { BeginsWithRow self.now row result.now }
+    {
+        fields::row(self.packed.as_slice(), self.layout.kind, row)
+    }
+
+    /// The overflow words.
+    fn overflow(&self) -> &[u8]
+        ensures { words_of result.now ≡ overflow_words self.now }
+    {
+        let rows_len = fields::row_len(self.layout.kind) * self.layout.rows as usize;
+        self.packed.as_slice().split_at(12 + rows_len).1
+    }
+
+    fn id_at(&self, row: u32) -> ObjectId
+        requires { row < length self.now }
+        ensures { result ≡ (row_at self.now row).id }
+    {
+        fields::id_field(self.kind(), self.row(row))
+    }
+
+    fn compare_at(&self, row: u32, id: &ObjectId) -> Ordering
+        requires { row < length self.now }
+        ensures { result ≡ id_cmp (row_at self.now row).id id.now }
+    {
+        self.id_at(row).cmp(id)
+    }
+
+    fn tree_at(&self, row: u32) -> ObjectId
+        requires { row < length self.now }
+        ensures { result ≡ (row_at self.now row).tree }
+    {
+        fields::tree_field(self.kind(), self.row(row))
+    }
+
+    fn generation_at(&self, row: u32) -> u32
+        requires { row < length self.now }
+        ensures { result ≡ (row_at self.now row).generation }
+    {
+        fields::generation_field(self.kind(), self.row(row))
+    }
+
+    fn time_at(&self, row: u32) -> i64
+        requires { row < length self.now }
+        ensures { result ≡ (row_at self.now row).time }
+    {
+        fields::time_field(self.kind(), self.row(row))
+    }
+
+    fn parents_at(&self, row: u32) -> Parents<'_>
+        requires { row < length self.now }
+        ensures places { result ≡ answers_of (row_at self.now row).parents }
+        ensures within { All (λ answer. IfOk answer (λ position. position.0 < length self.now)) result }
+    {
+        let kind = self.kind();
+        let row = self.row(row);
+        Parents::new(
+            fields::first_field(kind, row),
+            fields::second_field(kind, row),
+            self.overflow(),
+        )
+    }
+}

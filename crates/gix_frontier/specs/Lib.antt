@@ -1,0 +1,2 @@
+-- The code's own steps. Nobody but a maintainer needs them.
+pub mod Inside

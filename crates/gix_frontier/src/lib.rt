@@ -1,0 +1,335 @@
+//! Two searches over one queue: what tips reach by the parents that are walked, and what ends reach by any.
+#![tactic(auto)]
+
+ghost use Rattle.std.specs.Prelude.{◌≡◌, ◌+◌, OnOk, IfOk, IfSome, IfNone, [], List};
+ghost use Rattle.std.specs.FinMap as map;
+ghost use Rattle.gix_frontier.specs.Inside.Frontier.{known_of, Meets, Counts, Uncounts, MarksReady, MeetsParent, Finishes};
+
+use bitflags::{Flag, Flags, bitflag_items};
+use gix_hash::ObjectId;
+use gix_hash::hashtable::IdMap;
+use gix_revwalk::queue::PriorityQueue;
+use std::alloc::{AllocError, Global};
+use std::marker::Model;
+
+/// Which search met an id.
+#[derive(Clone, Copy)]
+pub enum Side {
+    /// The search from the tips, by the parents that are walked.
+    Tips,
+    /// The search from the ends, by all parents.
+    Ends,
+}
+
+/// How far a search has come with an id.
+#[derive(Clone, Copy)]
+pub enum Progress {
+    /// It hasn't met it.
+    Unseen,
+    /// It waits in the queue.
+    Queued,
+    /// Its parents were read.
+    Done,
+}
+
+/// What was done with an id. One that a side met waits in the queue until the side has done it.
+#[derive(Clone, Copy)]
+struct Marks(u8);
+
+bitflag_items! {
+    impl Marks: u8 {
+        const TIPS_MET = 1;
+        const TIPS_DONE = 2;
+        const ENDS_MET = 4;
+        const ENDS_DONE = 8;
+        const WAS_READY = 16;
+    }
+}
+
+impl Flags for Marks {
+    ghost use Rattle.std.specs.Prelude.{⊤, codes, ◌∷◌, []};
+
+    type Bits = u8;
+
+    ghost exact = { ⊤ };
+
+    ghost table = { (codes "TIPS_MET", 1) ∷ (codes "TIPS_DONE", 2) ∷ (codes "ENDS_MET", 4) ∷ (codes "ENDS_DONE", 8) ∷ (codes "WAS_READY", 16) ∷ [] };
+
+    ghost set_of = { λ m. m.0 };
+
+    fn flags<'a>() -> &'a [Flag<Marks>] {
+        Marks::FLAGS
+    }
+
+    fn bits(&self) -> u8 {
+        self.0
+    }
+
+    fn from_bits_retain(bits: u8) -> Marks {
+        Marks(bits)
+    }
+}
+
+impl Marks {
+    ghost use Rattle.gix_frontier.specs.Inside.Known.{met_mark, done_mark};
+
+    fn met(side: Side) -> Marks
+        ensures { result.0 ≡ met_mark side }
+    {
+        match side {
+            Side::Tips => Marks::TIPS_MET,
+            Side::Ends => Marks::ENDS_MET,
+        }
+    }
+
+    fn done(side: Side) -> Marks
+        ensures { result.0 ≡ done_mark side }
+    {
+        match side {
+            Side::Tips => Marks::TIPS_DONE,
+            Side::Ends => Marks::ENDS_DONE,
+        }
+    }
+}
+
+/// What is known of an id.
+#[derive(Drop)]
+pub struct Known {
+    marks: Marks,
+    /// Its indegree: how many commits that the tips' search has done, and that weren't taken, name it as a parent that is walked.
+    pub indegree: usize,
+}
+
+impl Model for Known {
+    ghost use Rattle.gix_frontier.specs.Inside.Known as known;
+
+    ghost Value = { known.Known };
+
+    ghost view = { λ k. known.known_by k.marks.0 k.indegree };
+}
+
+impl Known {
+    ghost use Rattle.std.specs.Prelude.{true, false, ◌||◌};
+    ghost use Rattle.gix_frontier.specs.declared.Progress.TheVariants as progress;
+    ghost use Rattle.gix_frontier.specs.Inside.Frontier.{is_seen, is_done, progress_of, with_progress};
+
+    // A copy by hand, since `Copy` needs marks that can be told from what contracts see.
+    fn copy(&self) -> Known
+        ensures { result ≡ self.now }
+    {
+        Known {
+            marks: self.marks,
+            indegree: self.indegree,
+        }
+    }
+
+    /// How far a search has come with it.
+    pub fn progress(&self, side: Side) -> Progress
+        ensures { result ≡ progress_of side self.now }
+    {
+        if self.marks.contains(Marks::done(side)) {
+            Progress::Done
+        } else if self.marks.contains(Marks::met(side)) {
+            Progress::Queued
+        } else {
+            Progress::Unseen
+        }
+    }
+
+    /// Whether a search has read its parents.
+    pub fn is_done(&self) -> bool
+        ensures { result ≡ (is_done self.now.tips || is_done self.now.ends) }
+    {
+        matches!(self.progress(Side::Tips), Progress::Done)
+            || matches!(self.progress(Side::Ends), Progress::Done)
+    }
+
+    /// Whether it was ready once.
+    pub fn was_ready(&self) -> bool
+        ensures { result ≡ self.now.was_ready }
+    {
+        self.marks.contains(Marks::WAS_READY)
+    }
+
+    fn with_met(self, side: Side) -> Known
+        requires { is_seen (progress_of side self) ≡ false }
+        ensures { result ≡ with_progress side progress.Queued self }
+    {
+        Known {
+            marks: self.marks.union(Marks::met(side)),
+            indegree: self.indegree,
+        }
+    }
+
+    fn with_done(self, side: Side) -> Known
+        ensures { result ≡ with_progress side progress.Done self }
+    {
+        Known {
+            marks: self.marks.union(Marks::done(side)),
+            indegree: self.indegree,
+        }
+    }
+
+    fn with_was_ready(self) -> Known
+        ensures { result ≡ record self { was_ready = true } }
+    {
+        Known {
+            marks: self.marks.union(Marks::WAS_READY),
+            indegree: self.indegree,
+        }
+    }
+
+    fn with_indegree(self, indegree: usize) -> Known
+        ensures { result ≡ record self { indegree = indegree } }
+    {
+        Known {
+            marks: self.marks,
+            indegree,
+        }
+    }
+}
+
+/// An id whose parents a search has still to read.
+#[derive(Clone, Copy)]
+pub struct Waiting {
+    /// The id.
+    pub id: ObjectId,
+    /// The search.
+    pub side: Side,
+}
+
+/// What is known of the ids met, and those whose parents are still to be read, by their generations.
+#[derive(Drop)]
+pub struct Frontier {
+    /// Those whose parents are still to be read.
+    pub queue: PriorityQueue<u32, Waiting>,
+    /// What is known of the ids met.
+    pub known: IdMap<Known>,
+}
+
+impl Frontier {
+    /// Neither search has met anything. It takes no memory yet.
+    pub fn new(alloc: Global) -> Frontier
+        ensures queue { result.queue ≡ [] }
+        ensures known { result.known ≡ map.empty }
+    {
+        Frontier {
+            queue: PriorityQueue::new(alloc),
+            known: IdMap::new(alloc),
+        }
+    }
+
+    /// What is known of an id, also of one that wasn't met.
+    pub fn known(&self, id: &ObjectId) -> Known
+        ensures { result ≡ known_of self.now.known id.now }
+    {
+        match self.known.get(id) {
+            Some(known) => known.copy(),
+            None => Known {
+                marks: Marks::empty(),
+                indegree: 0,
+            },
+        }
+    }
+
+    /// An id that a search meets: where it is new to that search, it waits in the queue.
+    ///
+    /// # Errors
+    ///
+    /// `AllocError` when out of memory. The frontier may hold anything then.
+    pub fn meet(&mut self, generation: u32, id: ObjectId, side: Side) -> Result<(), AllocError>
+    where
+        ensures { OnOk result (Meets self.old generation id side self.new) }
+    {
+        let known = self.known(&id);
+        if !matches!(known.progress(side), Progress::Unseen) {
+            return Ok(());
+        }
+        self.known.insert(id, known.with_met(side))?;
+        self.queue.insert(generation, Waiting { id, side })?;
+        Ok(())
+    }
+
+    /// One more child of an id.
+    ///
+    /// # Errors
+    ///
+    /// An indegree that no memory could hold is out of memory.
+    fn count(&mut self, id: ObjectId) -> Result<(), AllocError>
+        ensures { OnOk result (Counts self.old id self.new) }
+    {
+        let known = self.known(&id);
+        let Some(indegree) = known.indegree.checked_add(1) else {
+            return Err(AllocError);
+        };
+        self.known.insert(id, known.with_indegree(indegree))?;
+        Ok(())
+    }
+
+    /// A parent of a commit whose parents a side reads.
+    ///
+    /// # Errors
+    ///
+    /// `AllocError` when out of memory, which an indegree is too that no memory could hold. The frontier may hold anything then.
+    pub fn meet_parent(
+        &mut self,
+        generation: u32,
+        id: ObjectId,
+        side: Side,
+    ) -> Result<(), AllocError>
+    where
+        ensures { OnOk result (MeetsParent side self.old generation id self.new) }
+    {
+        match side {
+            Side::Tips => {
+                self.count(id)?;
+                self.meet(generation, id, side)
+            }
+            Side::Ends => self.meet(generation, id, side),
+        }
+    }
+
+    /// One child of an id less: how many are left. None where there was none, and then nothing changes.
+    ///
+    /// # Errors
+    ///
+    /// `AllocError` when out of memory. The frontier may hold anything then.
+    pub fn uncount(&mut self, id: ObjectId) -> Result<Option<usize>, AllocError>
+        ensures less { IfOk result (λ left. IfSome left (λ n. (known_of self.old.known id).indegree ≡ n + 1)) }
+        ensures counts { OnOk result (Uncounts self.old id self.new) }
+        ensures none { IfOk result (λ left. IfNone left ((known_of self.old.known id).indegree ≡ 0)) }
+    {
+        let known = self.known(&id);
+        let Some(indegree) = known.indegree.checked_sub(1) else {
+            return Ok(None);
+        };
+        self.known.insert(id, known.with_indegree(indegree))?;
+        Ok(Some(indegree))
+    }
+
+    /// An id becomes ready.
+    ///
+    /// # Errors
+    ///
+    /// `AllocError` when out of memory. The frontier may hold anything then.
+    pub fn mark_ready(&mut self, id: ObjectId) -> Result<(), AllocError>
+        ensures { OnOk result (MarksReady self.old id self.new) }
+    {
+        let known = self.known(&id);
+        self.known.insert(id, known.with_was_ready())?;
+        Ok(())
+    }
+
+    /// An id whose parents were all met.
+    ///
+    /// # Errors
+    ///
+    /// `AllocError` when out of memory. The frontier may hold anything then.
+    pub fn finish(&mut self, id: ObjectId, side: Side) -> Result<(), AllocError>
+        ensures { OnOk result (Finishes self.old id side self.new) }
+    {
+        let known = self.known(&id);
+        self.known.insert(id, known.with_done(side))?;
+        Ok(())
+    }
+}

@@ -1,0 +1,4 @@
+pub mod Id
+pub mod HexDigits
+-- What ids reach by a step to the next ids.
+pub mod Reach

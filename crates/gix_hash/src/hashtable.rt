@@ -1,0 +1,179 @@
+//! Sets and maps of ids. No other module knows which container holds them.
+ghost use Rattle.std.specs.Prelude.{◌≡◌, ◌↔◌, IsTrue, false, not, None, IfOk, OnOk, OnErr, OnSome, IfNone};
+ghost use Rattle.std.specs.Option.{option_copied};
+ghost use Rattle.std.specs.FinSet as set;
+ghost use Rattle.std.specs.FinMap as map;
+
+use crate::ObjectId;
+use std::alloc::{AllocError, Global};
+use std::collections::{HashMap, HashSet};
+use std::marker::Model;
+use std::mem;
+
+/// A set of ids.
+#[derive(Drop)]
+pub struct IdSet {
+    ids: HashSet<ObjectId>,
+}
+
+impl Model for IdSet {
+    ghost use Rattle.std.specs.FinSet as set;
+    ghost use Rattle.gix_hash.specs.Id.{id_cmp, id_code};
+
+    ghost Value = { set.FinSet id_cmp };
+
+    ghost coded = { set.code id_code };
+
+    ghost view = { λ s. set.from_list s.ids.keys };
+}
+
+impl IdSet {
+    /// The empty set. It takes no memory until an id is put in.
+    pub fn new(alloc: Global) -> IdSet
+        ensures { result ≡ set.empty }
+    {
+        IdSet {
+            ids: HashSet::new(alloc),
+        }
+    }
+
+    /// Whether the set has the id.
+    pub fn contains(&self, id: &ObjectId) -> bool
+        ensures { result ≡ set.contains self.now id.now }
+    {
+        self.ids.contains(id)
+    }
+
+    /// Puts an id in, and says whether it is new. Only a new id takes memory; where memory runs out, the set stays as it was.
+    pub fn insert(&mut self, id: ObjectId) -> Result<bool, AllocError>
+        ensures added { IfOk result (λ added. added ≡ not (set.contains self.old id)) }
+        ensures ok { OnOk result (self.new ≡ set.insert self.old id) }
+        ensures err { OnErr result (self.new ≡ self.old) }
+        ensures absent { OnErr result (set.contains self.old id ≡ false) }
+    {
+        Ok(self.ids.insert(id)?)
+    }
+
+    /// Takes an id out, and says whether it was in the set.
+    pub fn remove(&mut self, id: &ObjectId) -> bool
+        ensures removed { result ≡ set.contains self.old id.now }
+        ensures set { self.new ≡ set.remove self.old id.now }
+    {
+        self.ids.remove(id)
+    }
+
+    /// How many ids the set has.
+    pub fn len(&self) -> usize
+        ensures { result ≡ set.len self.now }
+    {
+        self.ids.len()
+    }
+
+    /// Whether the set has no id.
+    pub fn is_empty(&self) -> bool
+        ensures { IsTrue result ↔ (set.len self.now ≡ 0) }
+    {
+        self.len() == 0
+    }
+
+    /// Takes every id out.
+    pub fn clear(&mut self)
+        ensures { self.new ≡ set.empty }
+    {
+        self.ids.clear();
+    }
+}
+
+/// A map from ids to values.
+#[derive(Drop)]
+pub struct IdMap<T> {
+    values: HashMap<ObjectId, T>,
+}
+
+impl<T> Model for IdMap<T> {
+    ghost use Rattle.std.specs.FinMap as map;
+    ghost use Rattle.gix_hash.specs.Id.{id_cmp, id_code};
+
+    ghost Value = { map.FinMap id_cmp T };
+
+    ghost coded = { map.code id_code T.code };
+
+    ghost view = { λ m. map.from_entries m.values.entries };
+}
+
+impl<T> IdMap<T> {
+    /// The empty map. It takes no memory until a value is put in.
+    pub fn new(alloc: Global) -> IdMap<T>
+        ensures { result ≡ map.empty }
+    {
+        IdMap {
+            values: HashMap::new(alloc),
+        }
+    }
+
+    /// The value of an id.
+    pub fn get(&self, id: &ObjectId) -> Option<&T>
+        ensures { option_copied result ≡ map.get self.now id.now }
+    {
+        self.values.get(id)
+    }
+
+    /// Gives an id a value, and returns the value that it had. Only a new id takes memory; where memory runs out, the map stays
+    /// as it was.
+    pub fn insert(&mut self, id: ObjectId, value: T) -> Result<Option<T>, AllocError>
+    where
+        T: Drop,
+        ensures old { IfOk result (λ old. old ≡ map.get self.old id) }
+        ensures ok { OnOk result (self.new ≡ map.insert self.old id value) }
+        ensures err { OnErr result (self.new ≡ self.old) }
+        ensures absent { OnErr result (map.get self.old id ≡ None) }
+    {
+        Ok(self.values.insert(id, value)?)
+    }
+
+    /// Replaces the value of an id that has one, and returns the old value. Where the id has no value, the answer is None and the
+    /// map stays. No memory is taken.
+    pub fn replace(&mut self, id: &ObjectId, value: T) -> Option<T>
+    where
+        T: Drop,
+        ensures old { result ≡ map.get self.old id.now }
+        ensures some { OnSome result (self.new ≡ map.insert self.old id.now value) }
+        ensures none { IfNone result (self.new ≡ self.old) }
+    {
+        let Some(place) = self.values.get_mut(id) else {
+            return None;
+        };
+        Some(mem::replace(place, value))
+    }
+
+    /// Takes the value of an id out.
+    pub fn remove(&mut self, id: &ObjectId) -> Option<T>
+        ensures value { result ≡ map.get self.old id.now }
+        ensures map { self.new ≡ map.remove self.old id.now }
+    {
+        self.values.remove(id)
+    }
+
+    /// How many ids have a value.
+    pub fn len(&self) -> usize
+        ensures { result ≡ map.len self.now }
+    {
+        self.values.len()
+    }
+
+    /// Whether no id has a value.
+    pub fn is_empty(&self) -> bool
+        ensures { IsTrue result ↔ (map.len self.now ≡ 0) }
+    {
+        self.len() == 0
+    }
+
+    /// Takes every value out.
+    pub fn clear(&mut self)
+    where
+        T: Drop,
+        ensures { self.new ≡ map.empty }
+    {
+        self.values.clear();
+    }
+}

@@ -1,0 +1,11 @@
+pub mod Object
+pub mod MemoryStore
+pub mod Find
+pub mod CommitItems
+pub mod CommitText
+pub mod CommitRefIter
+pub mod CommitExamples
+pub mod TreeItems
+pub mod TreeRefIter
+pub mod TreeParts
+pub mod TreeExamples

@@ -1,0 +1,64 @@
+-- Painting ends: each turn leaves less room for entries.
+use Rattle.std.specs.Borrow.{Bor}
+use Rattle.std.specs.Prelude.{◌≡◌, ◌≤◌, suc, List, ◌++◌, map, length, true, is_some, Option, Some, None, Contains}
+use Rattle.std.specs.List.{flat_map}
+use Rattle.std.proofs.Common.{refl, sym, ap, subst, ⊎_elim, ◌∙◌, arith}
+use Rattle.std.proofs.lemmas.Bool.{or_left, or_right}
+use Rattle.std.proofs.lemmas.List.Sorted.{length_permutation}
+use Rattle.std.specs.FinMap as map_of
+use Rattle.gix_hash.specs.declared.ObjectId.{ObjectId}
+use Rattle.gix_hash.specs.Id.{is_among}
+use Rattle.gix_object.specs.Object.{Object, Objects}
+use Rattle.gix_commitgraph.specs.Rows.{GraphRow, row_of}
+use Rattle.gix_paint.specs.contracts.source.KeyOrd.TheImpl.{cmp-value}
+use Rattle.gix_paint.specs.declared.source.Key.{Key}
+use Rattle.gix_paint.specs.declared.Entry.{Entry}
+use Rattle.gix_paint.specs.declared.Painter.{Painter}
+use Rattle.gix_revwalk.specs.Commits.{parents_of, commit_of_object}
+use Rattle.gix_paint.specs.Inside.Painter.{is_hidden, rows_in, held_graph, Reads, by_row, by_store, drops, GivesParents, brought, looked_up, Takes, TreatsEntry, skips, reads, Pops, room}
+use Rattle.gix_revwalk.specs.Ids.{new_ids}
+use Rattle.gix_revwalk.specs.RowParents.{ids_at}
+use Rattle.gix_paint.proofs.Invariant.{reads_parents, IsSafe}
+use Rattle.gix_paint.proofs.KeptByTurn.{popped_there}
+use Rattle.gix_hash.proofs.Ids.Membership.{among-append, among_from}
+use Rattle.gix_revwalk.proofs.NewIds.{among_flat}
+use Rattle.gix_revwalk.proofs.Rows.{found_entry, ids_in_rows}
+
+-- the ids that rows and stored commits name
+abbrev pub names : Objects → List GraphRow → List ObjectId
+names objects rows = map (λ row. row.id) rows ++ flat_map (λ entry. parents_of objects entry.0) (map_of.entries objects)
+
+among_parents : (objects : Objects) (rows : List GraphRow) (c : ObjectId) (ids : List ObjectId) → Reads objects c ids → (i : ObjectId) → Contains ids i → is_among i (names objects rows) ≡ true
+among_parents objects rows c ids r i m =
+    among-append i (map (λ row. row.id) rows) _ ∙ or_right (is_among i (map (λ row. row.id) rows)) _ (go (map_of.get objects c) refl r.1)
+  where
+    go : (o : Option Object) → map_of.get objects c ≡ o → commit_of_object c (map_of.get objects c) ≡ Some r.0 → is_among i (flat_map (λ entry. parents_of objects entry.0) (map_of.entries objects)) ≡ true
+    go None e f = let bad : None ≡ Some r.0 = sym (ap (commit_of_object c) e) ∙ f in cc
+    go (Some o) e f =
+        among_flat (λ entry. parents_of objects entry.0) (map_of.entries objects) (c, o) i (found_entry (map_of.entries objects) c o (sym (map_of.get-entries objects c) ∙ e))
+        (among_from i _ (subst (λ xs. Contains xs i) (reads_parents objects c ids r) m))
+
+module _ {F : Type 0} (objects : F → Objects) (store : F) (rows : List GraphRow) {w v : Painter F} (top : Key × Entry) (pops : Pops cmp-value.it w top v) (safe : IsSafe objects store rows w) where
+  named : {ids : List ObjectId} {after : Option (Bor (List GraphRow))} → GivesParents (objects v.source.objects.now) (held_graph v.source) top.1 ids after → (i : ObjectId) → Contains ids i → is_among i (names (objects store) rows) ≡ true
+  named {ids} (brought e) i m = among_parents (objects store) rows top.1.id ids (safe.brings top (popped_there pops) ids e) i m
+  named {ids} (looked_up n (by_row {row = row} e f)) i m =
+      let graph : rows_in (held_graph v.source) ≡ rows_in (held_graph w.source) = ap (λ s. rows_in (held_graph s)) pops.source in
+      ⊎_elim (λ r. among-append i (map (λ row. row.id) rows) _ ∙ or_left _ _ (ids_in_rows rows row.parents ids (ap (λ rs. ids_at rs row.parents) (sym (graph ∙ r)) ∙ f) i m))
+      (λ n. let none : None ≡ Some row = sym (ap (λ rs. row_of rs top.1.id) (graph ∙ ap rows_in n)) ∙ e in cc) safe.either
+  named {ids} (looked_up n (by_store e r)) i m = among_parents (objects store) rows top.1.id ids (subst (λ f. Reads (objects f) top.1.id ids) (ap (λ s. s.objects.now) pops.source ∙ safe.same_store) r) i m
+  named {ids} (looked_up n (drops e f r)) i m = among_parents (objects store) rows top.1.id ids (subst (λ o. Reads (objects o) top.1.id ids) (ap (λ s. s.objects.now) pops.source ∙ safe.same_store) r) i m
+
+  room_takes : {mid : Painter F} (ids : List ObjectId) → Takes v top.1 mid → suc (room ids mid) ≡ room ids w
+  room_takes {mid} ids takes =
+      let met : length (new_ids (λ i. is_some (map_of.get mid.marks i)) ids) ≡ length (new_ids (λ i. is_some (map_of.get w.marks i)) ids) = ap (λ m. length (new_ids (λ i. is_some (map_of.get m i)) ids)) (takes.marks_stay ∙ pops.marks) in
+      let hidden : length (new_ids (is_hidden mid.marks) ids) ≡ length (new_ids (is_hidden w.marks) ids) = ap (λ m. length (new_ids (is_hidden m) ids)) (takes.marks_stay ∙ pops.marks) in
+      let left : length mid.queue ≡ length v.queue = ap length takes.queue_stays in
+      let one : suc (length v.queue) ≡ length w.queue = length_permutation _ _ pops.queue in
+      omega arith
+
+  pub turn_less : {new : Painter F} → TreatsEntry objects v top.1 new → suc (room (names (objects store) rows) new) ≤ room (names (objects store) rows) w
+  turn_less (skips turn takes graph) = let same = room_takes (names (objects store) rows) takes in omega arith
+  turn_less {new} (reads {mid = mid} turn takes gives met) =
+      let same = room_takes (names (objects store) rows) takes in
+      let less : room (names (objects store) rows) new ≤ room (names (objects store) rows) mid = met.spends (names (objects store) rows) (named gives) in
+      omega arith

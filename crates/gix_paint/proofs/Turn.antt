@@ -1,0 +1,269 @@
+-- A turn of the painting: an entry is taken, its commit is read, and its parents are met.
+use Rattle.std.specs.Borrow.{Bor}
+use Rattle.std.specs.Prelude.{◌≡◌, ◌≢◌, ◌⊎◌, List, Bool, true, false, not, ◌&&◌, Option, Some, None, Contains, IsSome}
+use Rattle.std.proofs.Common.{refl, sym, ap, subst, inl, inr, ⊎_elim, ◌∙◌}
+use Rattle.std.proofs.lemmas.List.Sorted.{Contains-permutation, IsPermutation-sym}
+use Rattle.std.specs.FinMap as map_of
+use Rattle.std.specs.FinSet as set
+use Rattle.gix_hash.specs.declared.ObjectId.{ObjectId}
+use Rattle.gix_hash.specs.Id.{is_same}
+use Rattle.gix_object.specs.Object.{Objects}
+use Rattle.gix_commitgraph.specs.Rows.{GraphRow, row_of}
+use Rattle.gix_paint.specs.contracts.source.KeyOrd.TheImpl.{cmp-value}
+use Rattle.gix_paint.specs.declared.Side.{Side}
+use Rattle.gix_paint.specs.declared.Side.TheVariants as side
+use Rattle.gix_paint.specs.declared.source.Key.{Key}
+use Rattle.gix_paint.specs.declared.Entry.{Entry}
+use Rattle.gix_paint.specs.declared.Painter.{Painter}
+use Rattle.gix_paint.specs.Painting.{IsHistory, DropsBy}
+use Rattle.gix_paint.specs.Inside.Painter.{State, Unmet, Open, Read, Hides, state_by, state_of, rows_in, held_graph, Reads, by_row, by_store, drops, IsWaiting, IsSettled, GivesParents, brought, looked_up, Takes, is_turn, is_turn_on, frontier_without, TreatsEntry, skips, reads, Pops}
+use Rattle.gix_hash.specs.Reach.{Reaches, step}
+use Rattle.gix_revwalk.specs.RowParents.{ids_at}
+use Rattle.gix_paint.proofs.Invariant.{in_history, reads_parents, nobody, next, starts_of, RowsStand, IsSafe, IsOutside, Fact, Stands, IsStarted, stands_meets, safe_meets, started_meets}
+use Rattle.gix_paint.proofs.KeptByTurn.{popped_there, open_read, shut, taken_outside, drop_reason}
+use Rattle.gix_revwalk.proofs.ReadsWhole.{row_parents}
+use Rattle.gix_hash.proofs.Ids.Membership.{id_total, same_is, same_itself, Contains-there, Contains-cons_cases}
+
+-- what an entry's turn makes of an id: a visible one that was open is read
+abbrev pub IsTurned : Bool → Side → Type 0 → State → State → Type 0
+IsTurned turn on here a b = (b ≡ a) ⊎ ((turn ≡ true) × (on ≡ side.Visible) × here × (a ≡ Open) × (b ≡ Read))
+
+-- the rows that are in use after parents were read
+pub given_graph : {objects : Objects} {old new : Option (Bor (List GraphRow))} {entry : Entry} {ids : List ObjectId} → GivesParents objects old entry ids new
+    → (new ≡ old) ⊎ ((new ≡ None) × (row : GraphRow) × (row_of (rows_in old) entry.id ≡ Some row) × (ids_at (rows_in old) row.parents ≡ None))
+given_graph (brought e) = inl refl
+given_graph (looked_up n (by_row e f)) = inl refl
+given_graph (looked_up n (by_store e r)) = inl refl
+given_graph (looked_up n (drops {row = row} e f r)) = inr (refl, row, e, f)
+
+module _ {F : Type 0} (objects : F → Objects) (store : F) (history : Objects) (rows : List GraphRow) (tips hidden_tips : List ObjectId) where
+  abbrev There : ObjectId → List ObjectId
+  There = next objects store history rows tips hidden_tips
+
+  abbrev Known : (Side → ObjectId → Type 0) → Painter F → ObjectId → State → Type 0
+  Known = Fact objects store history rows tips hidden_tips
+
+  abbrev Standing : Painter F → Type 0
+  Standing = RowsStand objects store rows
+
+  module _ {w v mid : Painter F} (top : Key × Entry) (pops : Pops cmp-value.it w top v) (takes : Takes v top.1 mid) where
+    abbrev pub turn : Bool
+    turn = is_turn top.1 w.frontier
+
+    -- whose parents are still to be met
+    abbrev Busy : Side → ObjectId → Type 0
+    Busy s i = (turn ≡ true) × (s ≡ top.1.side) × (i ≡ top.1.id)
+
+    pub within : (q : Key × Entry) → Contains mid.queue q → Contains w.queue q
+    within q c = Contains-permutation _ _ q (IsPermutation-sym _ _ pops.queue) (Contains-there q top v.queue (subst (λ qs. Contains qs q) takes.queue_stays c))
+
+    pub waits_still : (s : Side) (i : ObjectId) → IsWaiting w s i → IsWaiting mid s i ⊎ ((s ≡ top.1.side) × (i ≡ top.1.id))
+    waits_still s i q =
+        ⊎_elim (λ e. inr (sym q.2 ∙ ap (λ x. x.1.side) (sym e), sym q.3 ∙ ap (λ x. x.1.id) (sym e)))
+        (λ c. inl (q.0, subst (λ qs. Contains qs q.0) (sym takes.queue_stays) c, q.2, q.3))
+        (Contains-cons_cases q.0 top v.queue (Contains-permutation _ _ q.0 pops.queue q.1))
+
+    marks_same : (i : ObjectId) → map_of.get mid.marks i ≡ map_of.get w.marks i
+    marks_same i = ap (λ m. map_of.get m i) (takes.marks_stay ∙ pops.marks)
+
+    frontier_now : mid.frontier ≡ frontier_without top.1.side w.frontier top.1.id
+    frontier_now = takes.frontier ∙ ap (λ f. frontier_without top.1.side f top.1.id) pops.frontier
+
+    pub turned : Stands objects store history rows tips hidden_tips nobody w → (i : ObjectId) → IsTurned turn top.1.side (i ≡ top.1.id) (state_of w i) (state_of mid i)
+    turned h i = go top.1.side refl
+      where
+        go : (s : Side) → top.1.side ≡ s → IsTurned turn top.1.side (i ≡ top.1.id) (state_of w i) (state_of mid i)
+        go side.Hidden on = inl (λ k. state_by (marks_same i k) (ap (λ f. set.contains f i) (frontier_now ∙ ap (λ s. frontier_without s w.frontier top.1.id) on) k))
+        go side.Visible on = which (is_same i top.1.id) refl (set.contains w.frontier i) refl
+          where
+            waits_now : set.contains mid.frontier i ≡ (not (is_same i top.1.id) && set.contains w.frontier i)
+            waits_now = ap (λ f. set.contains f i) (frontier_now ∙ ap (λ s. frontier_without s w.frontier top.1.id) on) ∙ set.contains-remove id_total w.frontier top.1.id i
+
+            state_now : state_of mid i ≡ state_by (map_of.get w.marks i) (not (is_same i top.1.id) && set.contains w.frontier i)
+            state_now = λ k. state_by (marks_same i k) (waits_now k)
+
+            which : (b : Bool) → is_same i top.1.id ≡ b → (c : Bool) → set.contains w.frontier i ≡ c → IsTurned turn top.1.side (i ≡ top.1.id) (state_of w i) (state_of mid i)
+            which false e c f = inl (state_now ∙ ap (λ b. state_by (map_of.get w.marks i) (not b && set.contains w.frontier i)) e)
+            which true e false f = inl (state_now ∙ ap (λ b. state_by (map_of.get w.marks i) (not b && set.contains w.frontier i)) e ∙ ap (state_by (map_of.get w.marks i)) (sym f))
+            which true e true f =
+                let here : i ≡ top.1.id = same_is i top.1.id e in
+                let opened : state_of w i ≡ Open = h.tidy i f in
+                let now : state_of mid i ≡ Read = state_now ∙ ap (λ b. state_by (map_of.get w.marks i) (not b && set.contains w.frontier i)) e ∙ open_read (map_of.get w.marks i) (ap (state_by (map_of.get w.marks i)) (sym f) ∙ opened) in
+                inr (ap (λ s. is_turn_on s w.frontier top.1.id) on ∙ ap (set.contains w.frontier) (sym here) ∙ f, on, here, opened, now)
+
+    -- the id of a visible entry is open no more
+    shut_now : top.1.side ≡ side.Visible → state_of mid top.1.id ≢ Open
+    shut_now on = subst (λ c. state_by (map_of.get mid.marks top.1.id) c ≢ Open) (sym closed) (shut (map_of.get mid.marks top.1.id))
+      where
+        closed : set.contains mid.frontier top.1.id ≡ false
+        closed =
+            ap (λ f. set.contains f top.1.id) (frontier_now ∙ ap (λ s. frontier_without s w.frontier top.1.id) on) ∙ set.contains-remove id_total w.frontier top.1.id top.1.id
+            ∙ ap (λ b. not b && set.contains w.frontier top.1.id) (same_itself top.1.id)
+
+    met_still : Stands objects store history rows tips hidden_tips nobody w → (i : ObjectId) → state_of w i ≢ Unmet → state_of mid i ≢ Unmet
+    met_still h i n = ⊎_elim (λ e. subst (λ s. s ≢ Unmet) (sym e) n) (λ t. subst (λ s. s ≢ Unmet) (sym t.4) (λ e. cc)) (turned h i)
+
+    hidden_still : Stands objects store history rows tips hidden_tips nobody w → (i : ObjectId) → state_of w i ≡ Hides → state_of mid i ≡ Hides
+    hidden_still h i e = ⊎_elim (λ f. f ∙ e) (λ t. let bad : Open ≡ Hides = sym t.3 ∙ e in cc) (turned h i)
+
+    pub started_takes : Stands objects store history rows tips hidden_tips nobody w → IsStarted objects store history rows tips hidden_tips w → IsStarted objects store history rows tips hidden_tips mid
+    started_takes h s = record { shown = λ i c. met_still h i (s.shown i c); hidden = λ i c. hidden_still h i (s.hidden i c) }
+
+    pub safe_takes : IsSafe objects store rows w → ((rows_in (held_graph mid.source) ≡ rows) ⊎ (held_graph mid.source ≡ None)) → (Standing mid → Standing w) → IsSafe objects store rows mid
+    safe_takes safe either back = record {
+      same_store = ap (λ o. o.now) (takes.objects_stay ∙ ap (λ s. s.objects) pops.source) ∙ safe.same_store;
+      either = either;
+      queued = λ r q c. safe.queued (back r) q (within q c);
+      brings = λ q c. safe.brings q (within q c);
+    }
+
+    pub stands_takes : Stands objects store history rows tips hidden_tips nobody w → (Standing mid → Standing w) → ((Standing mid → ⊥) → DropsBy There rows tips hidden_tips)
+        → (Standing w → state_of w top.1.id ≢ Hides → IsOutside objects store history rows tips hidden_tips top.1.id)
+        → Stands objects store history rows tips hidden_tips Busy mid
+    stands_takes h back dropped outside = record {
+      facts = λ i. fact i (turned h i) (state_of w i) refl (h.facts i);
+      tidy = λ i c. tidied i c (turned h i);
+      reached = λ q c. h.reached q (within q c);
+      waits = λ q c e. hidden_still h q.1.id (h.waits q (within q c) e);
+      dropped = dropped;
+      read = λ e i n. h.read e i (λ u. was_met i u n (turned h i));
+    }
+      where
+        was_met : (i : ObjectId) → state_of w i ≡ Unmet → state_of mid i ≢ Unmet → IsTurned turn top.1.side (i ≡ top.1.id) (state_of w i) (state_of mid i) → ⊥
+        was_met i u n (inl e) = n (e ∙ u)
+        was_met i u n (inr t) = let bad : Open ≡ Unmet = sym t.3 ∙ u in cc
+
+        tidied : (i : ObjectId) → set.contains mid.frontier i ≡ true → IsTurned turn top.1.side (i ≡ top.1.id) (state_of w i) (state_of mid i) → state_of mid i ≡ Open
+        tidied i c (inl e) = e ∙ h.tidy i (kept top.1.side refl)
+          where
+            kept : (s : Side) → top.1.side ≡ s → set.contains w.frontier i ≡ true
+            kept side.Hidden on = sym (ap (λ f. set.contains f i) (frontier_now ∙ ap (λ s. frontier_without s w.frontier top.1.id) on)) ∙ c
+            kept side.Visible on = right (not (is_same i top.1.id)) (set.contains w.frontier i) (sym (ap (λ f. set.contains f i) (frontier_now ∙ ap (λ s. frontier_without s w.frontier top.1.id) on) ∙ set.contains-remove id_total w.frontier top.1.id i) ∙ c)
+              where
+                right : (a b : Bool) → (a && b) ≡ true → b ≡ true
+                right true b e = e
+                right false b e = cc
+        tidied i c (inr t) = absurd (shut_gone t.1 (subst (λ j. set.contains mid.frontier j ≡ true) t.2 c))
+          where
+            shut_gone : top.1.side ≡ side.Visible → set.contains mid.frontier top.1.id ≡ true → ⊥
+            shut_gone on c =
+                let gone : set.contains mid.frontier top.1.id ≡ false =
+                ap (λ f. set.contains f top.1.id) (frontier_now ∙ ap (λ s. frontier_without s w.frontier top.1.id) on) ∙ set.contains-remove id_total w.frontier top.1.id top.1.id
+                ∙ ap (λ b. not b && set.contains w.frontier top.1.id) (same_itself top.1.id) in
+                let bad : true ≡ false = sym c ∙ gone in cc
+
+        fact : (i : ObjectId) → IsTurned turn top.1.side (i ≡ top.1.id) (state_of w i) (state_of mid i) → (s : State) → state_of w i ≡ s → Known nobody w i (state_of w i) → Known Busy mid i (state_of mid i)
+        fact i (inl e) Unmet f k = subst (Known Busy mid i) (sym (e ∙ f)) tt
+        fact i (inl e) Open f k =
+            let o : Known nobody w i Open = subst (Known nobody w i) f k in
+            subst (Known Busy mid i) (sym (e ∙ f))
+            (o.0, ⊎_elim (λ q. q) (λ t. absurd (shut_now (sym t.0) (ap (state_of mid) (sym t.1) ∙ e ∙ f))) (waits_still side.Visible i o.1), λ r. o.2 (back r))
+        fact i (inl e) Read f k =
+            let o : Known nobody w i Read = subst (Known nobody w i) f k in
+            subst (Known Busy mid i) (sym (e ∙ f)) (o.0, ⊎_elim (λ b. absurd b) (λ all. inr (λ c n. met_still h c (all c n))) o.1, λ r. o.2 (back r))
+        fact i (inl e) Hides f k =
+            let o : Known nobody w i Hides = subst (Known nobody w i) f k in
+            subst (Known Busy mid i) (sym (e ∙ f))
+            (o.0, ⊎_elim (λ b. absurd b) (λ r. ⊎_elim (λ q. ⊎_elim (λ stays. inr (inl stays)) (λ t. inl (ap (λ s. is_turn_on s w.frontier top.1.id) (sym t.0), t.0, t.1)) (waits_still side.Hidden i q)) (λ all. inr (inr (λ c n. hidden_still h c (all c n)))) r) o.1)
+        fact i (inr t) s f k =
+            let o : Known nobody w i Open = subst (Known nobody w i) t.3 k in
+            subst (Known Busy mid i) (sym t.4)
+            (o.0, inl (t.0, sym t.1, t.2), λ r. subst (IsOutside objects store history rows tips hidden_tips) (sym t.2) (outside (back r) (λ hides. let bad : Open ≡ Hides = sym t.3 ∙ ap (state_of w) t.2 ∙ hides in cc)))
+
+  -- nobody is busy where nothing is done
+  idle : {busy : Side → ObjectId → Type 0} {p : Painter F} → ((s : Side) (i : ObjectId) → busy s i → ⊥) → Stands objects store history rows tips hidden_tips busy p → Stands objects store history rows tips hidden_tips nobody p
+  idle {busy} {p} none h = record { facts = λ i. fact i (state_of p i) (h.facts i); tidy = h.tidy; reached = h.reached; waits = h.waits; dropped = h.dropped; read = h.read }
+    where
+      fact : (i : ObjectId) (s : State) → Known busy p i s → Known nobody p i s
+      fact i Unmet k = tt
+      fact i Open k = k
+      fact i Read k = (k.0, ⊎_elim (λ b. absurd (none side.Visible i b)) (λ o. inr o) k.1, k.2)
+      fact i Hides k = (k.0, ⊎_elim (λ b. absurd (none side.Hidden i b)) (λ o. inr o) k.1)
+
+  module _ {w v : Painter F} (top : Key × Entry) (pops : Pops cmp-value.it w top v) (safe : IsSafe objects store rows w) where
+    -- rows are in use after the reading only if they were in use before
+    pub graph_after : {after : Option (Bor (List GraphRow))} {ids : List ObjectId} → GivesParents (objects v.source.objects.now) (held_graph v.source) top.1 ids after
+        → ((rows_in after ≡ rows) ⊎ (after ≡ None)) × (rows_in after ≡ rows → Standing w)
+    graph_after {after = after} gives = go (given_graph gives)
+      where
+        go : (after ≡ held_graph v.source) ⊎ ((after ≡ None) × (row : GraphRow) × (row_of (rows_in (held_graph v.source)) top.1.id ≡ Some row) × (ids_at (rows_in (held_graph v.source)) row.parents ≡ None))
+            → ((rows_in after ≡ rows) ⊎ (after ≡ None)) × (rows_in after ≡ rows → Standing w)
+        go (inl e) =
+            let g : after ≡ held_graph w.source = e ∙ ap held_graph pops.source in
+            (⊎_elim (λ r. inl (ap rows_in g ∙ r)) (λ n. inr (g ∙ n)) safe.either, λ r. ap rows_in (sym g) ∙ r)
+        go (inr d) =
+            (inr d.0, λ r. ⊎_elim (λ stood. stood) (λ n. let none : None ≡ Some d.1 = sym (ap (λ g. row_of (rows_in g) top.1.id) (ap held_graph pops.source ∙ n)) ∙ d.2 in cc) safe.either)
+
+    module _ (known : IsHistory (objects store) rows history) where
+      -- the parents that are read are the commit's
+      pub given_parents : {after : Option (Bor (List GraphRow))} {ids : List ObjectId} → GivesParents (objects v.source.objects.now) (held_graph v.source) top.1 ids after → ids ≡ There top.1.id
+      given_parents {ids = ids} (brought e) = reads_parents history top.1.id ids (in_history known top.1.id ids (safe.brings top (popped_there pops) ids e))
+      given_parents {ids = ids} (looked_up n (by_row {row = row} e f)) =
+          let graph : rows_in (held_graph v.source) ≡ rows_in (held_graph w.source) = ap (λ s. rows_in (held_graph s)) pops.source in
+          ⊎_elim (λ r. row_parents history rows known.agreeing top.1.id row ids (ap (λ rs. row_of rs top.1.id) (sym (graph ∙ r)) ∙ e) (ap (λ rs. ids_at rs row.parents) (sym (graph ∙ r)) ∙ f))
+          (λ n. let none : None ≡ Some row = sym (ap (λ rs. row_of rs top.1.id) (graph ∙ ap rows_in n)) ∙ e in cc) safe.either
+      given_parents {ids = ids} (looked_up n (by_store e r)) = reads_parents history top.1.id ids (in_history known top.1.id ids (subst (λ f. Reads (objects f) top.1.id ids) (ap (λ s. s.objects.now) pops.source ∙ safe.same_store) r))
+      given_parents {ids = ids} (looked_up n (drops e f r)) = reads_parents history top.1.id ids (in_history known top.1.id ids (subst (λ o. Reads (objects o) top.1.id ids) (ap (λ s. s.objects.now) pops.source ∙ safe.same_store) r))
+
+      -- rows that were in use and are in use no more were dropped for a reason
+      pub dropped_so : {after : Option (Bor (List GraphRow))} {ids : List ObjectId} → (h : Stands objects store history rows tips hidden_tips nobody w) → IsStarted objects store history rows tips hidden_tips w → (IsSettled w → ⊥)
+          → GivesParents (objects v.source.objects.now) (held_graph v.source) top.1 ids after → (rows_in after ≡ rows → ⊥) → DropsBy There rows tips hidden_tips
+      dropped_so {after = after} h started unsettled gives gone = go (given_graph gives)
+        where
+          graph_same : held_graph v.source ≡ held_graph w.source
+          graph_same = ap held_graph pops.source
+
+          some : (o : Option (Bor (List GraphRow))) (row : GraphRow) → row_of (rows_in o) top.1.id ≡ Some row → IsSome o
+          some None row e = cc
+          some (Some graph) row e = refl
+
+          stood : (row : GraphRow) → row_of (rows_in (held_graph w.source)) top.1.id ≡ Some row → Standing w
+          stood row e = ⊎_elim (λ r. r) (λ n. let none : None ≡ Some row = sym (ap (λ g. row_of (rows_in g) top.1.id) n) ∙ e in cc) safe.either
+
+          go : (after ≡ held_graph v.source) ⊎ ((after ≡ None) × (row : GraphRow) × (row_of (rows_in (held_graph v.source)) top.1.id ≡ Some row) × (ids_at (rows_in (held_graph v.source)) row.parents ≡ None)) → DropsBy There rows tips hidden_tips
+          go (inl e) = h.dropped (λ r. gone (ap rows_in (e ∙ graph_same) ∙ r))
+          go (inr d) =
+              let e : row_of (rows_in (held_graph w.source)) top.1.id ≡ Some d.1 = ap (λ g. row_of (rows_in g) top.1.id) (sym graph_same) ∙ d.2 in
+              let r : Standing w = stood d.1 e in
+              drop_reason objects store history rows tips hidden_tips known w safe h started r (some (held_graph w.source) d.1 e) top (popped_there pops) pops.greatest unsettled d.1 (ap (λ rs. row_of rs top.1.id) (sym r) ∙ e)
+              (ap (λ rs. ids_at rs d.1.parents) (sym (ap rows_in graph_same ∙ r)) ∙ d.3)
+
+      -- a turn keeps what holds
+      pub stands_turn : {new : Painter F} → Stands objects store history rows tips hidden_tips nobody w → IsStarted objects store history rows tips hidden_tips w → (IsSettled w → ⊥) → TreatsEntry objects v top.1 new
+          → Stands objects store history rows tips hidden_tips nobody new × IsStarted objects store history rows tips hidden_tips new
+      stands_turn {new} h started unsettled (skips turn takes graph) =
+          let same : held_graph new.source ≡ held_graph w.source = graph ∙ ap held_graph pops.source in (
+            idle (λ s i b. let bad : true ≡ false = sym b.0 ∙ ap (λ f. is_turn top.1 f) (sym pops.frontier) ∙ turn in cc)
+                (stands_takes top pops takes h (λ r. ap rows_in (sym same) ∙ r) (λ n. h.dropped (λ r. n (ap rows_in same ∙ r)))
+                (λ r u. taken_outside objects store history rows tips hidden_tips known w safe h started r top (popped_there pops) pops.greatest u)),
+            started_takes top pops takes h started,
+          )
+      stands_turn {new} h started unsettled (reads {mid = mid} {ids = ids} turn takes gives met) =
+          let after = graph_after gives in
+          let outside = λ (r : Standing w) (u : state_of w top.1.id ≢ Hides). taken_outside objects store history rows tips hidden_tips known w safe h started r top (popped_there pops) pops.greatest u in
+          let busy = stands_takes top pops takes h after.1 (dropped_so h started unsettled gives) outside in
+          let parents : ids ≡ There top.1.id = given_parents gives in (
+            stands_meets objects store history rows tips hidden_tips met (Busy top pops takes) (safe_takes top pops takes safe after.0 after.1) busy
+                (λ i c. step (h.reached top (popped_there pops)) (subst (λ xs. Contains xs i) parents c))
+                (λ on r i c. inr (
+                  top.1.id,
+                  subst (λ s. Reaches There (starts_of objects store history rows tips hidden_tips s) top.1.id) on (h.reached top (popped_there pops)),
+                  outside (after.1 r) (visible_open h turn on),
+                  subst (λ xs. Contains xs i) parents c,
+                ))
+                (λ t i b. (b.1, λ c m. subst (λ xs. Contains xs c) (ap There b.2 ∙ sym parents) m)),
+            started_meets objects store history rows tips hidden_tips met (started_takes top pops takes h started),
+          )
+        where
+          visible_open : Stands objects store history rows tips hidden_tips nobody w → is_turn top.1 v.frontier ≡ true → top.1.side ≡ side.Visible → state_of w top.1.id ≢ Hides
+          visible_open h turn on hides =
+              let waits : set.contains w.frontier top.1.id ≡ true = ap (λ f. set.contains f top.1.id) (sym pops.frontier) ∙ ap (λ s. is_turn_on s v.frontier top.1.id) (sym on) ∙ turn in
+              let bad : Open ≡ Hides = sym (h.tidy top.1.id waits) ∙ hides in cc
+
+    pub safe_turn : {new : Painter F} → TreatsEntry objects v top.1 new → IsSafe objects store rows new
+    safe_turn {new} (skips idle_turn takes graph) =
+        let same : held_graph new.source ≡ held_graph w.source = graph ∙ ap held_graph pops.source in
+        safe_takes top pops takes safe (⊎_elim (λ r. inl (ap rows_in same ∙ r)) (λ n. inr (same ∙ n)) safe.either) (λ r. ap rows_in (sym same) ∙ r)
+    safe_turn (reads its_turn takes gives met) =
+        let after = graph_after gives in
+        safe_meets objects store rows met (safe_takes top pops takes safe after.0 after.1)

@@ -1,0 +1,53 @@
+-- How painting reads a commit: by its row, or whole from the store.
+use Rattle.std.specs.Borrow.{Bor}
+use Rattle.std.specs.Prelude.{◌≡◌, ℕ, ℤ, List, Bool, true, false, if◌then◌else◌, Option, Some, None, Result, Ok, Err}
+use Rattle.std.proofs.Common.{refl, sym, ap, subst, ◌∙◌}
+use Rattle.gix_hash.specs.declared.ObjectId.{ObjectId}
+use Rattle.gix_object.specs.declared.decode.Error.{Error as DecodeError}
+use Rattle.gix_object.specs.CommitItems.{commit_items}
+use Rattle.gix_object.specs.CommitRefIter.{first_committer}
+use Rattle.gix_object.specs.CommitText.{read_commit, seconds_of}
+use Rattle.gix_hash.specs.Id.{kind_of}
+use Rattle.gix_object.specs.Object.{Objects}
+use Rattle.gix_commitgraph.specs.Rows.{GraphRow}
+use Rattle.gix_revwalk.specs.declared.Parents.TheVariants as mode
+use Rattle.gix_revwalk.specs.declared.read.Header.{Header}
+use Rattle.gix_revwalk.specs.declared.read.RowRead.{RowRead}
+use Rattle.gix_revwalk.specs.Agreeing.{rows_in}
+use Rattle.gix_revwalk.specs.Reading.{ReadsHeader, ReadsRow, is_read, absent, corrupt, dropped}
+use Rattle.gix_revwalk.specs.Commits.{commit_of_object, time_of, HasTime}
+use Rattle.gix_revwalk.specs.Either.{seconds_told}
+use Rattle.gix_paint.specs.Inside.Painter.{Reads, ReadsParents, by_row, by_store, drops}
+use Rattle.gix_revwalk.specs.RowParents.{IsUnrowed}
+use Rattle.gix_revwalk.proofs.Rows.{passes}
+use Rattle.gix_revwalk.proofs.CommitterTime.{committer_read, time_read}
+use Rattle.gix_revwalk.proofs.ReadsWhole.{scan_is}
+
+committer_told : (r : Result (List ℕ) DecodeError) (time : ℤ) → Ok time ≡ seconds_told r → (signature : List ℕ) × (r ≡ Ok signature) × (time ≡ seconds_of signature)
+committer_told (Ok signature) time h = (signature, refl, cc)
+committer_told (Err e) time h = cc
+
+-- a commit whose committer is read is read whole, and that is its time
+pub header_read : (objects : Objects) (i : ObjectId) (header : Header) → ReadsHeader objects i header → (time : ℤ) → header.time ≡ Ok time → Reads objects i header.parent_ids.items × (time ≡ time_of objects i)
+header_read objects i header h time is =
+    let told : (signature : List ℕ) × (first_committer (commit_items (kind_of i) h.bytes) ≡ Ok signature) × (time ≡ seconds_of signature) = committer_told (first_committer (commit_items (kind_of i) h.bytes)) time (sym is ∙ h.time) in
+    let tip : HasTime objects i (seconds_of told.0) = committer_read objects i h.bytes h.stored told.0 told.1 in
+    let read : read_commit (kind_of i) h.bytes ≡ Some tip.commit = sym (ap (commit_of_object i) h.stored) ∙ tip.stored in
+    ((tip.commit, tip.stored, h.parents ∙ ap (λ p. p.0) (scan_is (kind_of i) h.bytes tip.commit read mode.All)), told.2 ∙ sym (time_read objects i _ tip))
+
+module _ (objects : Objects) where
+  -- the parents of a row that was read
+  pub row_read : (graph : Option (Bor (List GraphRow))) {held new : Bool} {i : ObjectId} {read : RowRead} → ReadsRow (rows_in graph) held i (Some read) new → ReadsParents objects (if held then graph else None) i read.parent_ids.items (if new then graph else None)
+  row_read graph {i = i} {read = read} (is_read h says) = subst (λ b. ReadsParents objects (if b then graph else None) i read.parent_ids.items (if b then graph else None)) (sym h) (by_row says.there says.parents)
+
+  -- those that the store says, where no row is read
+  pub store_read : (graph : Option (Bor (List GraphRow))) {held new : Bool} {i : ObjectId} {ids : List ObjectId} → ReadsRow (rows_in graph) held i None new → Reads objects i ids → ReadsParents objects (if held then graph else None) i ids (if new then graph else None)
+  store_read graph {held = true} (absent n) r = by_store n r
+  store_read graph {held = false} (absent n) r = by_store refl r
+  store_read graph {i = i} {ids = ids} (dropped h) r = subst (λ b. ReadsParents objects (if b then graph else None) i ids (if b then graph else None)) (sym h) (by_store refl r)
+  store_read graph {i = i} {ids = ids} (corrupt h d) r = subst (λ b. ReadsParents objects (if b then graph else None) i ids None) (sym h) (drops d.1 d.2 r)
+
+  -- the id has no row then, or a corrupt one
+  pub unread : (graph : Option (Bor (List GraphRow))) {held new : Bool} {i : ObjectId} → ReadsRow (rows_in graph) held i None new → IsUnrowed (rows_in (if held then graph else None)) i
+  unread graph {held = true} r = (passes r).0
+  unread graph {held = false} r = λ row e. cc

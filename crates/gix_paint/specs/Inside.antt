@@ -1,0 +1,2 @@
+-- What painting holds while it goes on.
+pub mod Painter

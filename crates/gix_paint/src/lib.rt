@@ -1,0 +1,306 @@
+//! What hidden tips reach, as far as a walk can meet it.
+#![tactic(auto)]
+
+ghost use Rattle.std.specs.Prelude.{◌≡◌, ◌≢◌, ◌↔◌, ◌∷◌, [], IsTrue, IfOk, IfErr, IfSome, IfNone, if◌then◌else◌};
+ghost use Rattle.std.specs.FinSet as set;
+ghost use Rattle.gix_object.specs.declared.find.existing_iter.Error.TheVariants as existing;
+ghost use Rattle.gix_paint.specs.declared.source.Key.{Key};
+ghost use Rattle.gix_paint.specs.Painting.{IsHiddenFault, Paints};
+ghost use Rattle.gix_revwalk.specs.Ids.{ids_of};
+ghost use Rattle.gix_paint.specs.Inside.Painter as painter;
+ghost use Rattle.gix_paint.specs.Inside.Painter.{rows_in, held_graph, FailsAmong, Queues, Meets, is_turn, Takes, TreatsEntry, TreatFails, IsSettled, Pops};
+
+mod source;
+
+use gix_commitgraph::Graph;
+use gix_hash::ObjectId;
+use gix_hash::hashtable::{IdMap, IdSet};
+use gix_object::decode;
+use gix_object::find::{Find, existing_iter};
+use gix_revwalk::queue::PriorityQueue;
+use gix_revwalk::{ParentIds, Pending};
+use source::{Generation, Key, Known, Source};
+use std::alloc::{AllocError, Global};
+use std::collections::VecDeque;
+use std::marker::Model;
+use thiserror::Error;
+
+/// Why the history of hidden tips could not be read.
+#[derive(Clone, Copy, Debug, PartialEq, Eq, Error)]
+pub enum Hidden {
+    /// A commit could not be looked up.
+    #[error(transparent)]
+    Find(existing_iter::Error),
+    /// A commit's bytes are broken before its committer ends.
+    #[error(transparent)]
+    ObjectDecode(decode::Error),
+}
+
+impl From<decode::Error> for Hidden {
+    ghost use Rattle.gix_paint.specs.declared.Hidden.TheVariants as hidden_by;
+
+    ghost from_gives = { λ e r. r ≡ hidden_by.ObjectDecode e };
+
+    fn from(e: decode::Error) -> Hidden {
+        Hidden::ObjectDecode(e)
+    }
+}
+
+impl From<existing_iter::Error> for Hidden {
+    ghost use Rattle.gix_paint.specs.declared.Hidden.TheVariants as hidden_by;
+
+    ghost from_gives = { λ e r. r ≡ hidden_by.Find e };
+
+    fn from(e: existing_iter::Error) -> Hidden {
+        Hidden::Find(e)
+    }
+}
+
+impl From<AllocError> for Hidden {
+    ghost use Rattle.gix_object.specs.declared.find.existing_iter.Error.TheVariants as existing;
+    ghost use Rattle.gix_paint.specs.declared.Hidden.TheVariants as hidden_by;
+
+    ghost from_gives = { λ _ r. r ≡ hidden_by.Find existing.Memory };
+
+    fn from(_e: AllocError) -> Hidden {
+        Hidden::Find(existing_iter::Error::Memory)
+    }
+}
+
+// For which tips an id is marked and its commit is read: those of the walk, or the hidden ones.
+#[derive(Clone, Copy)]
+enum Side {
+    Visible,
+    Hidden,
+}
+
+/// The ids that a painting found hidden.
+#[derive(Drop)]
+pub struct HiddenIds {
+    marks: IdMap<Side>,
+}
+
+impl Model for HiddenIds {
+    ghost use Rattle.std.specs.FinSet.{FinSet, code};
+    ghost use Rattle.gix_hash.specs.Id.{id_cmp, id_code};
+    ghost use Rattle.gix_paint.specs.Inside.Painter.{hidden_of};
+
+    ghost Value = { FinSet id_cmp };
+
+    ghost coded = { code id_code };
+
+    ghost view = { λ h. hidden_of h.marks };
+}
+
+impl HiddenIds {
+    /// No id.
+    pub fn new(alloc: Global) -> HiddenIds
+        ensures { result ≡ set.empty }
+    {
+        HiddenIds {
+            marks: IdMap::new(alloc),
+        }
+    }
+
+    /// Whether the id is hidden.
+    pub fn contains(&self, id: &ObjectId) -> bool
+        ensures { result ≡ set.contains self.now id.now }
+    {
+        is_hidden(&self.marks, id)
+    }
+}
+
+// Whether a hidden tip is known to reach the id.
+fn is_hidden(marks: &IdMap<Side>, id: &ObjectId) -> bool
+    ensures { result ≡ painter.is_hidden marks.now id.now }
+{
+    matches!(marks.get(id), Some(Side::Hidden))
+}
+
+// A commit that waits to be read.
+#[derive(Drop)]
+struct Entry {
+    id: ObjectId,
+    side: Side,
+    parent_ids: Option<ParentIds>,
+}
+
+// What was marked, and what waits to be read.
+#[derive(Drop)]
+struct Painter<'a, F> {
+    source: Source<'a, F>,
+    // Each id that was met: for hidden tips as soon as one of them was found to reach it.
+    marks: IdMap<Side>,
+    // The queued ids that no hidden tip was found to reach.
+    frontier: IdSet,
+    queue: PriorityQueue<Key, Entry>,
+}
+
+impl<'a, F: Find> Painter<'a, F> {
+    // Puts a commit into the queue.
+    fn enqueue(&mut self, id: ObjectId, side: Side) -> Result<(), Hidden>
+        ensures ok { IfOk result (λ _. Queues F.objects self.old id side self.new) }
+        ensures fault { IfErr result (FailsAmong (F.objects self.old.source.objects.now) (F.faulty self.old.source.objects.now) (rows_in (held_graph self.old.source)) (id ∷ [])) }
+    {
+        let Known { key, parent_ids } = self.source.look_up(&id)?;
+        self.queue.insert(
+            key,
+            Entry {
+                id,
+                side,
+                parent_ids,
+            },
+        )?;
+        Ok(())
+    }
+
+    // An id that visible tips reach is queued once. One that is hidden already is left to the hidden side.
+    fn show(&mut self, id: ObjectId) -> Result<(), Hidden>
+        ensures ok { IfOk result (λ _. Meets F.objects Side.Visible (id ∷ []) self.old self.new) }
+        ensures fault { IfErr result (FailsAmong (F.objects self.old.source.objects.now) (F.faulty self.old.source.objects.now) (rows_in (held_graph self.old.source)) (id ∷ [])) }
+    {
+        if self.marks.get(&id).is_some() {
+            return Ok(());
+        }
+        self.marks.insert(id, Side::Visible)?;
+        self.frontier.insert(id)?;
+        self.enqueue(id, Side::Visible)
+    }
+
+    // An id that hidden tips reach is queued once for them, whatever visible tips did.
+    fn hide(&mut self, id: ObjectId) -> Result<(), Hidden>
+        ensures ok { IfOk result (λ _. Meets F.objects Side.Hidden (id ∷ []) self.old self.new) }
+        ensures fault { IfErr result (FailsAmong (F.objects self.old.source.objects.now) (F.faulty self.old.source.objects.now) (rows_in (held_graph self.old.source)) (id ∷ [])) }
+    {
+        if is_hidden(&self.marks, &id) {
+            return Ok(());
+        }
+        self.marks.insert(id, Side::Hidden)?;
+        self.frontier.remove(&id);
+        self.enqueue(id, Side::Hidden)
+    }
+
+    // Ids that are reached on a side, in order.
+    fn meet_all(&mut self, mut ids: &[ObjectId], side: Side) -> Result<(), Hidden>
+        ensures ok { IfOk result (λ _. Meets F.objects side ids.entry.now self.old self.new) }
+        ensures fault { IfErr result (FailsAmong (F.objects self.old.source.objects.now) (F.faulty self.old.source.objects.now) (rows_in (held_graph self.old.source)) ids.entry.now) }
+    {
+        while let Some((id, rest)) = ids.split_first() {
+            match side {
+                Side::Visible => self.show(*id)?,
+                Side::Hidden => self.hide(*id)?,
+            }
+            ids = rest;
+        }
+        Ok(())
+    }
+
+    fn show_all(&mut self, tips: &VecDeque<Pending>) -> Result<(), Hidden>
+        ensures ok { IfOk result (λ _. Meets F.objects Side.Visible (ids_of tips.now.items) self.old self.new) }
+        ensures fault { IfErr result (FailsAmong (F.objects self.old.source.objects.now) (F.faulty self.old.source.objects.now) (rows_in (held_graph self.old.source)) (ids_of tips.now.items)) }
+    {
+        for tip in tips.iter() {
+            self.show(tip.id)?;
+        }
+        Ok(())
+    }
+
+    // Whether an entry that was taken is to be read. Where a hidden tip reached a visible id meanwhile, the hidden side reads it.
+    fn begins(&mut self, entry: &Entry) -> bool
+        ensures turn { result ≡ is_turn entry.now self.old.frontier }
+        ensures takes { Takes self.old entry.now self.new }
+        ensures graph { held_graph self.new.source ≡ held_graph self.old.source }
+    {
+        match entry.side {
+            Side::Visible => self.frontier.remove(&entry.id),
+            Side::Hidden => true,
+        }
+    }
+
+    // The commit of an entry is read, and its parents are met on its side.
+    fn treat(&mut self, entry: Entry) -> Result<(), Hidden>
+        ensures ok { IfOk result (λ _. TreatsEntry F.objects self.old entry self.new) }
+        ensures fault { IfErr result (TreatFails (F.objects self.old.source.objects.now) (F.faulty self.old.source.objects.now) (held_graph self.old.source) entry) }
+    {
+        if !self.begins(&entry) {
+            return Ok(());
+        }
+        let side = entry.side;
+        let parent_ids = self.source.parents(entry)?;
+        self.meet_all(parent_ids.as_slice(), side)
+    }
+
+    // Whether the marks are whole: nothing is queued, or, while the rows are in use, all that is queued is hidden and has a row.
+    fn is_settled(&self) -> bool
+        ensures { IsTrue result ↔ IsSettled self.now }
+    {
+        let Some((key, _)) = self.queue.peek() else {
+            return true;
+        };
+        self.source.held_graph().is_some()
+            && self.frontier.is_empty()
+            && matches!(key.generation, Generation::Told(_))
+    }
+
+    // The entry whose turn it is, and None where the painting is settled.
+    fn next_entry(&mut self) -> Option<Entry>
+        ensures none { IfNone result (IsSettled self.old × (self.new ≡ self.old)) }
+        ensures some { IfSome result (λ entry. ¬ (IsSettled self.old) × ((key : Key) × Pops ⟦<Key as Ord>⟧.cmp self.old (key, entry) self.new)) }
+    {
+        if self.is_settled() {
+            return None;
+        }
+        let (_, entry) = self.queue.pop()?;
+        Some(entry)
+    }
+}
+
+/// What a painting gives.
+#[derive(Drop)]
+pub struct Painting {
+    /// The ids found hidden.
+    pub hidden: HiddenIds,
+    /// Whether there is a graph, none of whose rows was found corrupt.
+    pub rows_stand: bool,
+}
+
+/// Marks what the hidden tips reach: the tips themselves, and each parent of a commit that they reach and hidden tips don't.
+/// It stops as soon as the rows say that these marks are whole: below, no row is read, and no commit that has one is looked up.
+///
+/// # Errors
+///
+/// `Find` or `ObjectDecode` for a commit that has to be read and can't be; out of memory is `Find(Memory)`.
+pub fn paint<'a, F: Find>(
+    alloc: Global,
+    objects: &'a F,
+    graph: Option<&'a Graph>,
+    tips: &VecDeque<Pending>,
+    hidden_tips: &[ObjectId],
+) -> Result<Painting, Hidden>
+    ensures ok { IfOk result (λ p. Paints (F.objects objects.now) (rows_in graph.entry) (ids_of tips.now.items) hidden_tips.now p.hidden (if p.rows_stand then rows_in graph.entry else [])) }
+    ensures fault { IfErr result (λ why. why ≢ Hidden.Find existing.Memory → IsHiddenFault (F.objects objects.now) (F.faulty objects.now) (rows_in graph.entry)
+        (ids_of tips.now.items) hidden_tips.now why) }
+{
+    let mut painter = Painter {
+        source: Source {
+            objects,
+            graph,
+            held: true,
+            text: Vec::new(alloc),
+            alloc,
+        },
+        marks: IdMap::new(alloc),
+        frontier: IdSet::new(alloc),
+        queue: PriorityQueue::new(alloc),
+    };
+    painter.meet_all(hidden_tips, Side::Hidden)?;
+    painter.show_all(tips)?;
+    while let Some(entry) = painter.next_entry() {
+        painter.treat(entry)?;
+    }
+    let Painter { source, marks, .. } = painter;
+    Ok(Painting {
+        hidden: HiddenIds { marks },
+        rows_stand: source.held_graph().is_some(),
+    })
+}

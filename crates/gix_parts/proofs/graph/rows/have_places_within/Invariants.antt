@@ -1,8 +1,0 @@
-use Rattle.std.proofs.Common.{ℕ, ◌<◌, get_or, length}
-use Rattle.std.specs.List.{AllByRecursion}
-use Rattle.gix_parts.specs.declared.graph.Row.{Row}
-use Rattle.gix_parts.specs.Packed.{IsPlaceAmong}
-use Rattle.gix_parts.proofs.graph.rows.have_places_within.Given as goal
-
-abbrev pub invariant-loop-row : goal.invariant-loop-row
-invariant-loop-row l = (k : ℕ) (d : Row) → k < l.row-index → AllByRecursion (IsPlaceAmong (length l.rows)) (get_or l.rows k d).parents.items

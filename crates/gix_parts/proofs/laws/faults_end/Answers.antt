@@ -1,5 +1,0 @@
-use Rattle.gix_parts.proofs.Commits.Items.{faults_end}
-use Rattle.gix_parts.proofs.laws.faults_end.Goals as goal
-
-pub returns : goal.returns
-returns c = faults_end

@@ -1,5 +1,0 @@
-use Rattle.gix_parts.proofs.Commits.Texts.{reads_texts}
-use Rattle.gix_parts.proofs.laws.reads_texts.Goals as goal
-
-pub returns : goal.returns
-returns c = reads_texts

@@ -1,5 +1,0 @@
-use Rattle.gix_parts.proofs.Packed.Whole.{packed_once}
-use Rattle.gix_parts.proofs.laws.spellings_differ.Goals as goal
-
-pub returns : goal.returns
-returns c = packed_once

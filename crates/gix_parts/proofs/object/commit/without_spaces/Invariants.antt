@@ -1,9 +1,0 @@
-use Rattle.std.proofs.Common.{◌≡◌, length}
-use Rattle.gix_parts.specs.CommitText.{without_spaces}
-use Rattle.gix_parts.proofs.object.commit.without_spaces.Given as goal
-
-abbrev pub invariant-loop-bytes : goal.invariant-loop-bytes
-invariant-loop-bytes l = without_spaces l.bytes ≡ without_spaces l.initial.bytes
-
-abbrev pub decreases-loop-bytes : goal.decreases-loop-bytes
-decreases-loop-bytes l = length l.bytes

@@ -1,0 +1,22 @@
+-- The pairs that the items of a priority queue's heap are.
+pub mod QueueItems
+-- The new ids of a list, each at its first place, and how many times an id is in a list.
+pub mod NewIds
+-- The ids that a row's places name, what a row with a fault is, which rows are held after a row was read, and what drops them.
+pub mod Rows
+-- What a list in order has: no id twice, and exactly what is reached.
+pub mod Orders
+-- A commit that reads whole gives the same parents by its items and by its row.
+pub mod ReadsWhole
+-- A commit that reads whole has the parents that its text names.
+pub mod TextParents
+-- What was drawn to its end, one answer after the other.
+pub mod Drained
+-- A fault of a committer is found exactly where no commit is read.
+pub mod Committer
+-- A committer is read exactly where a commit is read, with the commit's time.
+pub mod CommitterTime
+-- What is reached from ids that are reached.
+pub mod Reached
+-- Worked examples that take a proof.
+pub mod Examples

@@ -1,0 +1,20 @@
+use Rattle.std.proofs.Common.{◌≡◌, ◌≤◌, ◌++◌, List, Option, length}
+use Rattle.gix_hash.specs.declared.ObjectId.{ObjectId}
+use Rattle.gix_object.specs.declared.decode.Error.{Error}
+use Rattle.gix_object.specs.CommitRefIter.{commit_items_left}
+use Rattle.gix_revwalk.specs.Texts.{scanned}
+use Rattle.gix_revwalk.proofs.read.scan.Given as goal
+
+-- what items show behind parents that were read before
+abbrev pub behind : List ObjectId → List ObjectId × Option Error → List ObjectId × Option Error
+behind ids r = (ids ++ r.0, r.1)
+
+-- what was read and what is left are the whole
+abbrev pub invariant-loop-item : goal.invariant-loop-item
+invariant-loop-item l = record {
+  shown : behind l.parent_ids.items (scanned l.parents (commit_items_left l.items)) ≡ scanned l.parents (commit_items_left l.fn.items);
+  inline : 1 ≤ l.parent_ids.capacity;
+}
+
+abbrev pub decreases-loop-item : goal.decreases-loop-item
+decreases-loop-item l = length (commit_items_left l.items)

@@ -1,0 +1,43 @@
+-- How walks read a commit: by its row as long as rows are held, or else from the store.
+use Rattle.std.specs.Prelude.{◌≡◌, ℕ, List, Bool, true, false, Option, Some, None}
+use Rattle.std.specs.FinMap as map_of
+use Rattle.gix_hash.specs.declared.ObjectId.{ObjectId}
+use Rattle.gix_object.specs.declared.Kind.TheVariants as object
+use Rattle.gix_hash.specs.Id.{kind_of}
+use Rattle.gix_object.specs.Object.{Objects}
+use Rattle.gix_object.specs.CommitItems.{commit_items}
+use Rattle.gix_object.specs.CommitRefIter.{first_committer}
+use Rattle.gix_commitgraph.specs.Rows.{GraphRow, row_of}
+use Rattle.gix_revwalk.specs.declared.Parents.TheVariants as mode
+use Rattle.gix_revwalk.specs.declared.read.Header.{Header}
+use Rattle.gix_revwalk.specs.declared.read.RowRead.{RowRead}
+use Rattle.gix_revwalk.specs.Either.{seconds_told}
+use Rattle.gix_revwalk.specs.Texts.{scanned}
+use Rattle.gix_revwalk.specs.RowParents.{ids_at}
+pub use Rattle.gix_revwalk.specs.Agreeing.{rows_of}
+
+-- what a row without a fault says of its commit
+pub record RowSays (rows : List GraphRow) (i : ObjectId) (read : RowRead) : Type 0 where
+  pub row : GraphRow
+  pub there : row_of rows i ≡ Some row
+  pub parents : ids_at rows row.parents ≡ Some read.parent_ids.items
+  pub generation : read.generation ≡ row.generation
+  pub time : read.time ≡ row.time
+
+-- the row of the id is corrupt
+abbrev pub DropsRows : List GraphRow → ObjectId → Type 0
+DropsRows rows i = (row : GraphRow) × (row_of rows i ≡ Some row) × (ids_at rows row.parents ≡ None)
+
+-- what reading a row gives, and whether the rows are held then: a corrupt row drops them for good
+pub data ReadsRow (rows : List GraphRow) (held : Bool) (i : ObjectId) : Option RowRead → Bool → Type 0 where
+  is_read : {read : RowRead} → held ≡ true → RowSays rows i read → ReadsRow rows held i (Some read) held
+  absent : row_of rows i ≡ None → ReadsRow rows held i None held
+  corrupt : held ≡ true → DropsRows rows i → ReadsRow rows held i None false
+  dropped : held ≡ false → ReadsRow rows held i None held
+
+-- a header is that of the commit that is stored at an id
+pub record ReadsHeader (objects : Objects) (i : ObjectId) (header : Header) : Type 0 where
+  pub bytes : List ℕ
+  pub stored : map_of.get objects i ≡ Some (record { kind = object.Commit; bytes = bytes })
+  pub parents : header.parent_ids.items ≡ (scanned mode.All (commit_items (kind_of i) bytes)).0
+  pub time : header.time ≡ seconds_told (first_committer (commit_items (kind_of i) bytes))

@@ -1,0 +1,213 @@
+//! What a commit's row or its bytes say of its parents, and its bytes of its committer.
+ghost use Rattle.std.specs.Prelude.{◌≡◌, ◌≢◌, ◌≤◌, ◌<◌, Some, IfOk, IfErr, IsOk, OnErr, length};
+ghost use Rattle.std.specs.Option.{option_map};
+ghost use Rattle.gix_object.specs.CommitRefIter.{commit_items_left, first_committer};
+ghost use Rattle.gix_object.specs.declared.Kind.TheVariants as object;
+ghost use Rattle.gix_object.specs.declared.find.existing_iter.Error.TheVariants as existing;
+ghost use Rattle.gix_object.specs.Find.{IsExistingFault};
+ghost use Rattle.gix_commitgraph.specs.GraphCommit.{rows_of_commit, row_of_commit};
+ghost use Rattle.gix_commitgraph.specs.Rows.{GraphRow, row_of};
+ghost use Rattle.gix_revwalk.specs.declared.Parents.TheVariants as mode;
+ghost use Rattle.gix_revwalk.specs.Agreeing.{rows_in};
+ghost use Rattle.gix_revwalk.specs.Either.{seconds_told};
+ghost use Rattle.gix_revwalk.specs.Reading.{ReadsHeader, ReadsRow};
+ghost use Rattle.gix_revwalk.specs.RowParents.{ids_at};
+ghost use Rattle.gix_revwalk.specs.Texts.{scanned};
+
+use super::{ParentIds, Parents};
+use gix_commitgraph::{Commit, Graph};
+use gix_hash::ObjectId;
+use gix_object::commit::{CommitRefIter, Token};
+use gix_object::decode;
+use gix_object::find::{Find, existing_iter};
+use std::alloc::{AllocError, Global};
+
+/// The parents that a commit's items name, up to the first item behind them, and the fault that ended the reading.
+#[derive(Drop)]
+pub struct Scanned {
+    /// The ids of the parents, in their order.
+    pub parent_ids: ParentIds,
+    /// The fault, where no item behind the parents comes before it.
+    pub fault: Option<decode::Error>,
+}
+
+/// Reads the parents that a commit's items name: all of them, or the first alone. Lists of at most one parent take no memory.
+///
+/// # Errors
+///
+/// `AllocError` when out of memory. The items are dropped.
+pub fn scan(
+    alloc: Global,
+    parents: Parents,
+    mut items: CommitRefIter<'_>,
+) -> Result<Scanned, AllocError>
+    ensures ok { IfOk result (λ s. (s.parent_ids.items, s.fault) ≡ scanned parents (commit_items_left items.entry)) }
+    ensures succeeds { length (scanned parents (commit_items_left items.entry)).0 ≤ 1 → IsOk result }
+{
+    let mut parent_ids = ParentIds::new(alloc);
+    while let Some(item) = items.next() {
+        match item {
+            Ok(Token::Tree { .. }) => {}
+            Ok(Token::Parent { id }) => {
+                parent_ids.push(id)?;
+                if parents == Parents::First {
+                    break;
+                }
+            }
+            Ok(Token::Author { .. } | Token::Committer { .. } | Token::Rest { .. }) => break,
+            Err(fault) => {
+                return Ok(Scanned {
+                    parent_ids,
+                    fault: Some(fault),
+                });
+            }
+        }
+    }
+    Ok(Scanned {
+        parent_ids,
+        fault: None,
+    })
+}
+
+/// All parents that a commit's items name, up to the first item behind them, and the committer's time.
+#[derive(Drop)]
+pub struct Header {
+    /// The ids of the parents, in their order.
+    pub parent_ids: ParentIds,
+    /// The committer's seconds since 1970-01-01 00:00 UTC. Else the first fault, where it comes before a committer, and `Missing`
+    /// where the items end before both.
+    pub time: Result<i64, decode::Error>,
+}
+
+// Reads the parents and the committer in one pass, and ends there. Lists of at most one parent take no memory.
+fn read_header(alloc: Global, mut items: CommitRefIter<'_>) -> Result<Header, AllocError>
+    ensures parents { IfOk result (λ h. h.parent_ids.items ≡ (scanned mode.All (commit_items_left items.entry)).0) }
+    ensures time { IfOk result (λ h. h.time ≡ seconds_told (first_committer (commit_items_left items.entry))) }
+    ensures succeeds { length (scanned mode.All (commit_items_left items.entry)).0 ≤ 1 → IsOk result }
+{
+    let mut parent_ids = ParentIds::new(alloc);
+    while let Some(item) = items.next() {
+        match item {
+            Ok(Token::Tree { .. }) => {}
+            Ok(Token::Parent { id }) => parent_ids.push(id)?,
+            Ok(Token::Author { .. } | Token::Rest { .. }) => {
+                let time = committer_seconds(items);
+                return Ok(Header { parent_ids, time });
+            }
+            Ok(Token::Committer { signature }) => {
+                let time = Ok(signature.seconds());
+                return Ok(Header { parent_ids, time });
+            }
+            Err(fault) => {
+                let time = Err(fault);
+                return Ok(Header { parent_ids, time });
+            }
+        }
+    }
+    let time = Err(decode::Error::Missing);
+    Ok(Header { parent_ids, time })
+}
+
+/// Looks a commit up, and reads its header in one pass over its text, which `text` then holds.
+///
+/// # Errors
+///
+/// After each of them `text` may hold anything:
+/// - `NotFound` if the store has no object of this id, and `ObjectKind` if the object is no commit,
+/// - `Store` if the store can't read the object,
+/// - `Memory` when out of memory.
+pub fn find_header<F: Find>(
+    alloc: Global,
+    objects: &F,
+    id: &ObjectId,
+    text: &mut Vec<u8>,
+) -> Result<Header, existing_iter::Error>
+    ensures reads { IfOk result (ReadsHeader (F.objects objects.now) id.now) }
+    ensures fault { IfErr result (λ why. why ≢ existing.Memory → IsExistingFault (F.objects objects.now) (F.faulty objects.now) id.now object.Commit why) }
+{
+    let items = objects.find_commit_iter(id, text)?;
+    match read_header(alloc, items) {
+        Ok(header) => Ok(header),
+        Err(_) => Err(existing_iter::Error::Memory),
+    }
+}
+
+// The seconds of the first committer among the items left.
+fn committer_seconds(items: CommitRefIter<'_>) -> Result<i64, decode::Error>
+    ensures { result ≡ seconds_told (first_committer (commit_items_left items.entry)) }
+{
+    match items.committer() {
+        Ok(signature) => Ok(signature.seconds()),
+        Err(fault) => Err(fault),
+    }
+}
+
+// The ids at a row's places, and None where one of them is corrupt. At most one place takes no memory.
+fn row_parents(
+    alloc: Global,
+    graph: &Graph,
+    commit: Commit<'_>,
+) -> Result<Option<ParentIds>, AllocError>
+    requires { rows_of_commit commit ≡ graph.now }
+    ensures ok { IfOk result (λ ids. option_map (λ ids. ids.items) ids ≡ ids_at graph.now (row_of_commit commit.entry).parents) }
+    ensures succeeds { length (row_of_commit commit.entry).parents ≤ 1 → IsOk result }
+{
+    let mut parent_ids = ParentIds::new(alloc);
+    let mut places = commit.iter_parents();
+    while let Some(place) = places.next() {
+        let Ok(position) = place else {
+            return Ok(None);
+        };
+        parent_ids.push(graph.commit_at(position).id())?;
+    }
+    Ok(Some(parent_ids))
+}
+
+/// What a row says of its commit.
+#[derive(Drop)]
+pub struct RowRead {
+    /// The ids of the parents, in their order.
+    pub parent_ids: ParentIds,
+    /// The generation, where 4294967295 says that none is known.
+    pub generation: u32,
+    /// The committer's seconds since 1970-01-01 00:00 UTC.
+    pub time: i64,
+}
+
+/// What the row of an id says, where there is one and rows are held. A row with a corrupt place drops the rows for good: they aren't
+/// held from then on. A row of at most one parent takes no memory.
+///
+/// # Errors
+///
+/// `AllocError` when out of memory. The rows are held if they were.
+pub fn read_row(
+    alloc: Global,
+    graph: Option<&Graph>,
+    held: &mut bool,
+    id: &ObjectId,
+) -> Result<Option<RowRead>, AllocError>
+    ensures reads { IfOk result (λ read. ReadsRow (rows_in graph.entry) held.old id.now read held.new) }
+    ensures err { OnErr result (held.new ≡ held.old) }
+    ensures fails { OnErr result ((row : GraphRow) × (row_of (rows_in graph.entry) id.now ≡ Some row) × (1 < length row.parents)) }
+{
+    if !*held {
+        return Ok(None);
+    }
+    let Some(graph) = graph else {
+        return Ok(None);
+    };
+    let Some(commit) = graph.commit_by_id(id) else {
+        return Ok(None);
+    };
+    let generation = commit.generation();
+    let time = commit.committer_timestamp();
+    let Some(parent_ids) = row_parents(alloc, graph, commit)? else {
+        *held = false;
+        return Ok(None);
+    };
+    Ok(Some(RowRead {
+        parent_ids,
+        generation,
+        time,
+    }))
+}

@@ -1,0 +1,93 @@
+-- Two walks that were built by the same calls walk the same commits in the same order.
+use Rattle.std.specs.Prelude.{◌≡◌, ◌↔◌, ℤ, List, [], filter, Bool, false, not, Option, Result, Contains}
+use Rattle.std.proofs.Common.{refl, sym, ap, ◌∙◌}
+use Rattle.std.proofs.Math.Path.{transport}
+use Rattle.std.proofs.lemmas.Bool.{true≢false, false_from_ne_true}
+use Rattle.gix_hash.specs.declared.ObjectId.{ObjectId}
+use Rattle.gix_object.specs.Object.{Objects}
+use Rattle.gix_revwalk.specs.declared.Parents.TheVariants as mode
+use Rattle.gix_revwalk.specs.declared.Info.{Info}
+use Rattle.gix_simple.specs.declared.Error.{Error}
+use Rattle.gix_revwalk.specs.Commits.{parents_of, time_of}
+use Rattle.gix_hash.specs.Reach.{Reaches, Tells}
+use Rattle.gix_simple.specs.Walk.{SimpleWalk, time_order, cutoff, is_older}
+use Rattle.gix_revwalk.specs.Ids.{ids_of}
+use Rattle.gix_revwalk.specs.Asking.{AnswersBy}
+use Rattle.gix_simple.specs.Laws.{IsWholeRun, IsInOrder, GivesInOrder, kept_parents, next_of, starts_of}
+use Rattle.gix_simple.specs.Runs.{AreAlike, GiveTheSame, GivesUnhidden, AreBuiltAlike, made, breadth_first, by_time, walks, hides, reads}
+use Rattle.gix_simple.proofs.Builders.{recent_ids}
+use Rattle.gix_simple.proofs.Corollaries.{gives, gives_once, same_breadth, no_tips, all_kept, shown_reached, reached_shown}
+use Rattle.gix_simple.proofs.MadeOfTips.{is_new_walk}
+
+module _ {F P : Type 0} (objects : F → Objects) (faulty : F → ObjectId → Type 0) (answers : P → ObjectId → Bool → P → Type 0) where
+  module _ (store : F) (predicate : P) (accepts : ObjectId → Bool) (tips : List ObjectId) (by_test : AnswersBy answers predicate accepts) where
+    pub are_alike : {walk other : SimpleWalk F P} → AreBuiltAlike objects faulty answers store predicate tips walk other → AreAlike walk other
+    are_alike (made {a = a} {b = b} m n) =
+        let x = is_new_walk objects faulty answers store predicate accepts tips a by_test m in
+        let y = is_new_walk objects faulty answers store predicate accepts tips b by_test n in
+        record { same_store = y.same_store ∙ sym x.same_store; same_parents = y.all_parents ∙ sym x.all_parents; same_sorting = y.breadth_first ∙ sym x.breadth_first; same_pending = y.pending ∙ sym x.pending }
+    are_alike (breadth_first h) = let k = are_alike h in record { same_store = k.same_store; same_parents = k.same_parents; same_sorting = refl; same_pending = k.same_pending }
+    are_alike (by_time {a = a} {b = b} {c = c} {d = d} {by = by} h s t) =
+        let k = are_alike h in
+        record {
+          same_store = ap (λ w. w.store) t.others ∙ k.same_store ∙ sym (ap (λ w. w.store) s.others);
+          same_parents = ap (λ w. w.parents) t.others ∙ k.same_parents ∙ sym (ap (λ w. w.parents) s.others);
+          same_sorting = ap (λ w. w.sorting) t.others ∙ sym (ap (λ w. w.sorting) s.others);
+          same_pending =
+              ap ids_of t.pending ∙ recent_ids (objects b.store) (cutoff mode.All by) b.pending
+              ∙ (λ j. filter (λ i. not (is_older (time_of (objects (k.same_store j)) i) (cutoff mode.All by))) (k.same_pending j))
+              ∙ sym (ap ids_of s.pending ∙ recent_ids (objects a.store) (cutoff mode.All by) a.pending);
+        }
+    are_alike (walks h) = let k = are_alike h in record { same_store = k.same_store; same_parents = refl; same_sorting = k.same_sorting; same_pending = k.same_pending }
+    are_alike (hides h) = let k = are_alike h in record { same_store = k.same_store; same_parents = k.same_parents; same_sorting = k.same_sorting; same_pending = k.same_pending }
+    are_alike (reads h) = let k = are_alike h in record { same_store = k.same_store; same_parents = k.same_parents; same_sorting = k.same_sorting; same_pending = k.same_pending }
+
+  module _ (walk other : SimpleWalk F P) (accepts : ObjectId → Bool) (alike : AreAlike walk other) where
+    -- what the other walk reaches, this one reaches
+    reached_too : (hidden : ObjectId → Bool) (ids : List ObjectId) → ((i : ObjectId) → Contains ids i ↔ Reaches (next_of objects other accepts hidden) (starts_of other hidden) i) → (i : ObjectId) → Contains ids i ↔ Reaches (next_of objects walk accepts hidden) (starts_of walk hidden) i
+    reached_too hidden ids = transport (λ k. (i : ObjectId) → Contains ids i ↔ Reaches (kept_parents (objects (alike.same_store k)) (alike.same_parents k) accepts hidden (cutoff (alike.same_parents k) (alike.same_sorting k))) (filter (λ j. not (hidden j)) (alike.same_pending k)) i)
+
+    pub give_the_same : (hidden : ObjectId → Bool) (list there : List (Result Info Error)) → IsWholeRun objects faulty answers walk accepts hidden list → IsWholeRun objects faulty answers other accepts hidden there → GiveTheSame objects walk other list there
+    give_the_same hidden list there run run_there =
+        let g : GivesInOrder objects walk accepts hidden list = gives objects faulty answers walk accepts hidden list run in
+        let h : GivesInOrder objects other accepts hidden there = gives objects faulty answers other accepts hidden there run_there in
+        let in_g : (i : ObjectId) → Contains g.ids i ↔ Reaches (next_of objects walk accepts hidden) (starts_of walk hidden) i = (gives_once objects faulty answers walk accepts hidden list g).1 in
+        let in_h : (i : ObjectId) → Contains h.ids i ↔ Reaches (next_of objects walk accepts hidden) (starts_of walk hidden) i = reached_too hidden h.ids (gives_once objects faulty answers other accepts hidden there h).1 in
+        let other_order : IsInOrder (time_order walk.parents walk.sorting) (time_of (objects walk.store)) (next_of objects walk accepts hidden) (starts_of walk hidden) h.ids =
+        transport (λ k.
+        IsInOrder (time_order (alike.same_parents k) (alike.same_sorting k)) (time_of (objects (alike.same_store k))) (kept_parents (objects (alike.same_store k)) (alike.same_parents k) accepts hidden (cutoff (alike.same_parents k) (alike.same_sorting k)))
+        (filter (λ j. not (hidden j)) (alike.same_pending k)) h.ids) h.in_order in
+        record {
+          ids = g.ids;
+          those = h.ids;
+          given = g.given;
+          given_there = h.given;
+          same = λ i. (λ c. (in_h i).1 ((in_g i).0 c), λ c. (in_g i).1 ((in_h i).0 c));
+          in_order = λ e.
+              same_breadth (next_of objects walk accepts hidden) (starts_of walk hidden) g.ids h.ids
+              (transport (λ k. IsInOrder (e k) (time_of (objects walk.store)) (next_of objects walk accepts hidden) (starts_of walk hidden) g.ids) g.in_order)
+              (transport (λ k. IsInOrder (e k) (time_of (objects walk.store)) (next_of objects walk accepts hidden) (starts_of walk hidden) h.ids) other_order);
+        }
+
+    pub gives_unhidden : other.hidden_tips ≡ [] → (hidden shown : ObjectId → Bool) (list longer : List (Result Info Error)) → IsWholeRun objects faulty answers walk accepts hidden list → IsWholeRun objects faulty answers other accepts shown longer → GivesUnhidden objects walk other list longer
+    gives_unhidden tipless hidden shown list longer run all =
+        let g : GivesInOrder objects walk accepts hidden list = gives objects faulty answers walk accepts hidden list run in
+        let h : GivesInOrder objects other accepts shown longer = gives objects faulty answers other accepts shown longer all in
+        let none : shown ≡ (λ i. false) = no_tips objects other shown (transport (λ k. Tells shown (Reaches (parents_of (objects other.store)) (tipless k))) all.tells) in
+        let limit : Option ℤ = cutoff walk.parents walk.sorting in
+        let in_g : (i : ObjectId) → Contains g.ids i ↔ Reaches (next_of objects walk accepts hidden) (starts_of walk hidden) i = (gives_once objects faulty answers walk accepts hidden list g).1 in
+        let in_h : (i : ObjectId) → Contains h.ids i ↔ Reaches (next_of objects walk accepts (λ j. false)) (ids_of walk.pending) i =
+        transport (λ k. (i : ObjectId) → Contains h.ids i ↔ Reaches (next_of objects walk accepts (none k)) (all_kept (ids_of walk.pending) k) i)
+        (transport (λ k. (i : ObjectId) → Contains h.ids i ↔ Reaches (next_of objects walk accepts shown) (filter (λ j. not (none k j)) (ids_of walk.pending)) i) (reached_too shown h.ids (gives_once objects faulty answers other accepts shown longer h).1)) in
+        record {
+          ids = g.ids;
+          more = h.ids;
+          given = g.given;
+          given_there = h.given;
+          unhidden = λ i. (
+            λ c.
+                let r : Reaches (next_of objects walk accepts (λ j. false)) (ids_of walk.pending) i × (hidden i ≡ false) = reached_shown (objects walk.store) walk.parents accepts hidden limit (ids_of walk.pending) walk.hidden_tips run.tells i ((in_g i).0 c) in
+                ((in_h i).1 r.0, λ t. true≢false (sym ((run.tells i).1 t) ∙ r.1)),
+            λ c. (in_g i).1 (shown_reached (objects walk.store) walk.parents accepts hidden limit (ids_of walk.pending) walk.hidden_tips run.tells i ((in_h i).0 c.0) (false_from_ne_true _ (λ t. c.1 ((run.tells i).0 t)))),
+          );
+        }

@@ -1,0 +1,174 @@
+-- A walk that was made of some tips, and whose order was chosen, is fresh.
+use Rattle.std.specs.Prelude.{◌≡◌, ◌⊎◌, ◌≤◌, ℤ, List, [], ◌∷◌, filter, Bool, true, false, not, ◌&&◌, cond, Option, Some, Contains}
+use Rattle.std.proofs.Common.{refl, sym, ap, subst, inl, inr, ⊎_elim, ◌∙◌, arith}
+use Rattle.std.proofs.lemmas.Bool.{false≢true, and_parts, or_cases}
+use Rattle.std.specs.FinSet as set
+use Rattle.gix_hash.specs.declared.ObjectId.{ObjectId}
+use Rattle.gix_hash.specs.Id.{is_among}
+use Rattle.gix_object.specs.Object.{Objects}
+use Rattle.gix_hash.proofs.Ids.Membership.{among_from, among_is, Contains-cons_cases, no_member}
+use Rattle.gix_revwalk.specs.declared.Parents.{Parents}
+use Rattle.gix_revwalk.specs.declared.Parents.TheVariants as mode
+use Rattle.gix_revwalk.specs.declared.CommitTimeOrder.{CommitTimeOrder}
+use Rattle.gix_revwalk.specs.declared.Pending.{Pending}
+use Rattle.gix_simple.specs.declared.Sorting.{Sorting}
+use Rattle.gix_simple.specs.declared.Sorting.TheVariants as by
+use Rattle.gix_revwalk.specs.Commits.{time_of}
+use Rattle.gix_simple.specs.Walk.{SimpleWalk, time_order, cutoff, is_older, IsMade}
+use Rattle.gix_revwalk.specs.Ids.{ids_of}
+use Rattle.gix_revwalk.specs.Asking.{AnswersBy}
+use Rattle.gix_simple.specs.Laws.{IsFresh}
+use Rattle.gix_simple.specs.Building.{IsSortedByTime, timed, recent, outdated, IsBuilt, made, breadth_first, by_time, hides, walks, reads}
+use Rattle.gix_revwalk.proofs.NewIds.{times, among-filter, times_once}
+use Rattle.gix_simple.proofs.NeverTwice.{once_times, times-filter}
+use Rattle.gix_simple.proofs.MadeOfTips.{is_new_walk, pending_is}
+
+in_force : (m : Parents) (by : Sorting) (order : CommitTimeOrder) → time_order m by ≡ Some order → time_order mode.All by ≡ Some order
+in_force mode.First by order e = cc
+in_force mode.All by order e = e
+
+once_at_most : (b : Bool) → cond b 1 0 ≤ 1
+once_at_most true = omega arith
+once_at_most false = omega arith
+
+module _ (objects : Objects) (limit : Option ℤ) where
+  outdated_ids : (ps : List Pending) → outdated limit (timed objects ps) ≡ filter (λ i. is_older (time_of objects i) limit) (ids_of ps)
+  outdated_ids [] = refl
+  outdated_ids (p ∷ ps) = go (is_older (time_of objects p.id) limit) (outdated_ids ps)
+    where
+      go : (b : Bool) → outdated limit (timed objects ps) ≡ filter (λ i. is_older (time_of objects i) limit) (ids_of ps)
+          → ids_of (cond b (record { id = p.id; time = time_of objects p.id } ∷ filter (λ p. is_older p.time limit) (timed objects ps)) (filter (λ p. is_older p.time limit) (timed objects ps))) ≡ cond b (p.id ∷ filter (λ i. is_older (time_of objects i) limit) (ids_of ps)) (filter (λ i. is_older (time_of objects i) limit) (ids_of ps))
+      go true r = ap (λ is. p.id ∷ is) r
+      go false r = r
+
+  pub recent_ids : (ps : List Pending) → ids_of (recent limit (timed objects ps)) ≡ filter (λ i. not (is_older (time_of objects i) limit)) (ids_of ps)
+  recent_ids [] = refl
+  recent_ids (p ∷ ps) = go (not (is_older (time_of objects p.id) limit)) (recent_ids ps)
+    where
+      go : (b : Bool) → ids_of (recent limit (timed objects ps)) ≡ filter (λ i. not (is_older (time_of objects i) limit)) (ids_of ps)
+          → ids_of (cond b (record { id = p.id; time = time_of objects p.id } ∷ recent limit (timed objects ps)) (recent limit (timed objects ps))) ≡ cond b (p.id ∷ filter (λ i. not (is_older (time_of objects i) limit)) (ids_of ps)) (filter (λ i. not (is_older (time_of objects i) limit)) (ids_of ps))
+      go true r = ap (λ is. p.id ∷ is) r
+      go false r = r
+
+  recent_among : (ps : List Pending) (i : ObjectId) → is_among i (ids_of (recent limit (timed objects ps))) ≡ (not (is_older (time_of objects i) limit) && is_among i (ids_of ps))
+  recent_among ps i = ap (is_among i) (recent_ids ps) ∙ among-filter i (λ i. not (is_older (time_of objects i) limit)) (ids_of ps)
+
+  outdated_among : (ps : List Pending) (i : ObjectId) → is_among i (outdated limit (timed objects ps)) ≡ (is_older (time_of objects i) limit && is_among i (ids_of ps))
+  outdated_among ps i = ap (is_among i) (outdated_ids ps) ∙ among-filter i (λ i. is_older (time_of objects i) limit) (ids_of ps)
+
+  timed_ids : (ps : List Pending) → ids_of (timed objects ps) ≡ ids_of ps
+  timed_ids [] = refl
+  timed_ids (p ∷ ps) = ap (λ is. p.id ∷ is) (timed_ids ps)
+
+  recent_timed : (ps : List Pending) (p : Pending) → Contains (recent limit (timed objects ps)) p → p.time ≡ time_of objects p.id
+  recent_timed [] p h = absurd (no_member p h)
+  recent_timed (q ∷ ps) p h = go (recent_timed ps p) (not (is_older (time_of objects q.id) limit)) h
+    where
+      go : (Contains (recent limit (timed objects ps)) p → p.time ≡ time_of objects p.id) → (b : Bool) → Contains (cond b (record { id = q.id; time = time_of objects q.id } ∷ recent limit (timed objects ps)) (recent limit (timed objects ps))) p → p.time ≡ time_of objects p.id
+      go r true h = ⊎_elim (λ e. ap (λ x. x.time) (sym e) ∙ ap (λ x. time_of objects x.id) e) r (Contains-cons_cases p (record { id = q.id; time = time_of objects q.id }) (recent limit (timed objects ps)) h)
+      go r false h = r h
+
+module _ {F P : Type 0} (objects : F → Objects) (faulty : F → ObjectId → Type 0) (answers : P → ObjectId → Bool → P → Type 0) (accepts : ObjectId → Bool) (store : F) (predicate : P) (by_test : AnswersBy answers predicate accepts) where
+  -- what every builder call keeps
+  record Built (walk : SimpleWalk F P) : Type 0 where
+    tested : AnswersBy answers walk.predicate accepts
+    same_store : walk.store ≡ store
+    once : (i : ObjectId) → times i (ids_of walk.pending) ≤ 1
+    pending_seen : (i : ObjectId) → is_among i (ids_of walk.pending) ≡ true → set.contains walk.seen i ≡ true
+    accepted : (i : ObjectId) → is_among i (ids_of walk.pending) ≡ true → accepts i ≡ true
+    seen : (i : ObjectId) → set.contains walk.seen i ≡ true → (is_among i (ids_of walk.pending) ≡ true) ⊎ (accepts i ≡ false)
+    remembered : (i : ObjectId) → set.contains walk.remembered i ≡ true → accepts i ≡ true
+    shown : (i : ObjectId) → set.contains walk.hidden i ≡ false
+    timely : (order : CommitTimeOrder) → time_order mode.All walk.sorting ≡ Some order → (p : Pending) → Contains walk.pending p → p.time ≡ time_of (objects walk.store) p.id
+
+  made_built : (tips : List ObjectId) (walk : SimpleWalk F P) → IsMade objects faulty answers store predicate tips walk → Built walk
+  made_built tips walk m =
+      let new = is_new_walk objects faulty answers store predicate accepts tips walk by_test m in
+      record {
+        tested = new.by_test;
+        same_store = new.same_store;
+        once = λ i. let k : times i (ids_of walk.pending) ≤ cond (is_among i (ids_of walk.pending)) 1 0 = once_times (ids_of walk.pending) new.fresh.distinct i in let n : cond (is_among i (ids_of walk.pending)) 1 0 ≤ 1 = once_at_most _ in omega arith;
+        pending_seen = λ i h. new.fresh.pending_seen i (among_is i (ids_of walk.pending) h);
+        accepted = λ i h. (pending_is objects faulty answers store predicate accepts tips walk by_test m i (among_is i (ids_of walk.pending) h)).0;
+        seen = λ i h. ⊎_elim (λ c. inl (among_from i (ids_of walk.pending) c)) inr (new.fresh.seen i h);
+        remembered = new.fresh.remembered;
+        shown = new.fresh.shown;
+        timely = λ order e. timeless new.breadth_first e;
+      }
+    where
+      timeless : {order : CommitTimeOrder} {A : Type 0} → walk.sorting ≡ by.BreadthFirst → time_order mode.All walk.sorting ≡ Some order → A
+      timeless b e = cc (ap (time_order mode.All) b)
+
+  by_time_built : (old new : SimpleWalk F P) (sorting : Sorting) → Built old → IsSortedByTime objects old sorting new → Built new
+  by_time_built old new sorting b s = record {
+    tested = subst (λ p. AnswersBy answers p accepts) (sym (ap (λ w. w.predicate) s.others)) b.tested;
+    same_store = stored ∙ b.same_store;
+    once = λ i.
+        let f : times i (ids_of (recent limit (timed found old.pending))) ≤ times i (ids_of (timed found old.pending)) = times-filter (λ p. not (is_older p.time limit)) (timed found old.pending) i in
+        let t : times i (ids_of (timed found old.pending)) ≡ times i (ids_of old.pending) = ap (times i) (timed_ids found limit old.pending) in
+        let n : times i (ids_of new.pending) ≡ times i (ids_of (recent limit (timed found old.pending))) = ap (λ ps. times i (ids_of ps)) s.pending in
+        let o : times i (ids_of old.pending) ≤ 1 = b.once i in
+        omega arith;
+    pending_seen = λ i h. let k = kept i h in s.seen i ∙ (λ j. b.pending_seen i k.1 j && not ((outdated_among found limit old.pending i ∙ ap (λ o. o && is_among i (ids_of old.pending)) (was_not _ k.0)) j));
+    accepted = λ i h. b.accepted i (kept i h).1;
+    seen = λ i h.
+        let both = and_parts (set.contains old.seen i) (not (is_among i (outdated limit (timed found old.pending)))) (sym (s.seen i) ∙ h) in
+        ⊎_elim (λ there. inl (is_kept i there both.1)) inr (b.seen i both.0);
+    remembered = λ i h. ⊎_elim (b.remembered i) (λ o. b.accepted i (and_parts _ _ (sym (outdated_among found limit old.pending i) ∙ o)).1) (or_cases _ _ (sym (s.remembered i) ∙ h));
+    shown = λ i. ap (λ w. set.contains w.hidden i) s.others ∙ b.shown i;
+    timely = λ order e p c. recent_timed found limit old.pending p (subst (λ ps. Contains ps p) s.pending c) ∙ ap (λ f. time_of (objects f) p.id) (sym stored);
+  }
+    where
+      limit : Option ℤ
+      limit = cutoff mode.All sorting
+
+      found : Objects
+      found = objects old.store
+
+      stored : new.store ≡ old.store
+      stored = ap (λ w. w.store) s.others
+
+      was_not : (o : Bool) → not o ≡ true → o ≡ false
+      was_not true e = absurd (false≢true e)
+      was_not false e = refl
+
+      kept : (i : ObjectId) → is_among i (ids_of new.pending) ≡ true → (not (is_older (time_of found i) limit) ≡ true) × (is_among i (ids_of old.pending) ≡ true)
+      kept i h = and_parts _ _ (sym (ap (λ ps. is_among i (ids_of ps)) s.pending ∙ recent_among found limit old.pending i) ∙ h)
+
+      is_kept : (i : ObjectId) → is_among i (ids_of old.pending) ≡ true → not (is_among i (outdated limit (timed found old.pending))) ≡ true → is_among i (ids_of new.pending) ≡ true
+      is_kept i there young = ap (λ ps. is_among i (ids_of ps)) s.pending ∙ recent_among found limit old.pending i ∙ go (is_older (time_of found i) limit) (is_among i (ids_of old.pending)) there (sym (ap not (outdated_among found limit old.pending i)) ∙ young)
+        where
+          go : (o a : Bool) → a ≡ true → not (o && a) ≡ true → (not o && a) ≡ true
+          go true true e f = absurd (false≢true f)
+          go false true e f = refl
+          go o false e f = absurd (false≢true e)
+
+  fresh_of : (walk : SimpleWalk F P) → Built walk → IsFresh objects walk accepts
+  fresh_of walk b = record {
+    distinct = times_once (ids_of walk.pending) b.once;
+    pending_seen = λ i c. b.pending_seen i (among_from i (ids_of walk.pending) c);
+    seen = λ i h. ⊎_elim (λ e. inl (among_is i (ids_of walk.pending) e)) inr (b.seen i h);
+    remembered = b.remembered;
+    shown = b.shown;
+    timed = λ order e. b.timely order (in_force walk.parents walk.sorting order e);
+  }
+
+  built_all : (tips : List ObjectId) {walk : SimpleWalk F P} → IsBuilt objects faulty answers store predicate tips walk → Built walk
+  built_all tips (made {walk = walk} m) = made_built tips walk m
+  built_all tips (breadth_first {walk = walk} b) =
+      let w : Built walk = built_all tips b in
+      record { tested = w.tested; same_store = w.same_store; once = w.once; pending_seen = w.pending_seen; accepted = w.accepted; seen = w.seen; remembered = w.remembered; shown = w.shown; timely = λ order e. cc }
+  built_all tips (by_time {walk = walk} {new = new} {by = sorting} b s) = by_time_built walk new sorting (built_all tips b) s
+  built_all tips (hides {walk = walk} b) =
+      let w : Built walk = built_all tips b in
+      record { tested = w.tested; same_store = w.same_store; once = w.once; pending_seen = w.pending_seen; accepted = w.accepted; seen = w.seen; remembered = w.remembered; shown = w.shown; timely = w.timely }
+  built_all tips (walks {walk = walk} b) =
+      let w : Built walk = built_all tips b in
+      record { tested = w.tested; same_store = w.same_store; once = w.once; pending_seen = w.pending_seen; accepted = w.accepted; seen = w.seen; remembered = w.remembered; shown = w.shown; timely = w.timely }
+  built_all tips (reads {walk = walk} b) =
+      let w : Built walk = built_all tips b in
+      record { tested = w.tested; same_store = w.same_store; once = w.once; pending_seen = w.pending_seen; accepted = w.accepted; seen = w.seen; remembered = w.remembered; shown = w.shown; timely = w.timely }
+
+  -- the law
+  pub built : (tips : List ObjectId) (walk : SimpleWalk F P) → IsBuilt objects faulty answers store predicate tips walk → IsFresh objects walk accepts × AnswersBy answers walk.predicate accepts × (walk.store ≡ store)
+  built tips walk b = let w = built_all tips b in (fresh_of walk w, w.tested, w.same_store)

@@ -1,0 +1,205 @@
+-- The laws that follow from the theorem over whole walks.
+use Rattle.std.specs.Prelude.{◌≡◌, ◌↔◌, ◌≤◌, ◌≤ℤ◌, ℕ, zero, suc, ℤ, List, [], ◌∷◌, ◌++◌, filter, length, take, slice_get, Bool, true, false, not, ◌&&◌, Option, Some, None, Result, Ok, Err, Contains, MatchOption}
+use Rattle.std.proofs.Common.{refl, sym, ap, subst, ⊎_elim, ◌∙◌, arith, append_assoc, append-nil}
+use Rattle.std.specs.List.{AllZip}
+use Rattle.std.proofs.lemmas.List.Elements.{Contains-append_left, Contains-append_right, Contains-append_cases}
+use Rattle.std.proofs.lemmas.Bool.{false≢true, true≢false, and_parts, and_from, not_from_false, not-true, false_from_ne_true}
+use Rattle.gix_hash.specs.declared.ObjectId.{ObjectId}
+use Rattle.gix_hash.specs.Id.{is_among}
+use Rattle.gix_object.specs.Object.{Objects}
+use Rattle.gix_commitgraph.specs.Rows.{GraphRow, row_of}
+use Rattle.gix_revwalk.specs.declared.Parents.{Parents}
+use Rattle.gix_revwalk.specs.declared.Info.{Info}
+use Rattle.gix_revwalk.specs.declared.CommitTimeOrder.{CommitTimeOrder}
+use Rattle.gix_revwalk.specs.declared.CommitTimeOrder.TheVariants.{NewestFirst}
+use Rattle.gix_simple.specs.declared.Error.{Error}
+use Rattle.gix_revwalk.specs.BreadthOrder.{named_by, first_new, IsBreadthOrder}
+use Rattle.gix_revwalk.specs.TimeOrder.{IsTimeOrder, IsPending, IsBest}
+use Rattle.gix_hash.specs.Reach.{Reaches, start, step, Tells}
+use Rattle.gix_revwalk.specs.Agreeing.{IsAgreeing}
+use Rattle.gix_revwalk.specs.Commits.{time_of, parents_of, walked_parents}
+use Rattle.gix_simple.specs.Walk.{SimpleWalk, time_order, cutoff, is_older}
+use Rattle.gix_revwalk.specs.Infos.{IsInfo, IsRowGeneration}
+use Rattle.gix_revwalk.specs.Ids.{ids_of, AreDistinct}
+use Rattle.gix_simple.specs.Laws.{IsGiven, IsInOrder, GivesInOrder, IsWholeRun, starts_of, next_of, is_kept, kept_parents, accepted_parents, recent_parents, IsPlain, IsPlainRun}
+use Rattle.gix_hash.proofs.Ids.Membership.{among_from, among_is, Contains-here, Contains-cons_cases, no_member}
+use Rattle.gix_revwalk.proofs.NewIds.{among-filter, named-push}
+use Rattle.gix_revwalk.proofs.Orders.{IsWorkOrder, IsDistinctFrom, work_from_breadth, work_from_time, reached_is_given, given_is_reached, given_once}
+use Rattle.std.proofs.Math.Path.{transport}
+use Rattle.std.proofs.Math.Bool.{and-true}
+use Rattle.gix_simple.proofs.Treated.{no_cutoff}
+use Rattle.gix_simple.proofs.Theorem.{gives_in_order}
+use Rattle.gix_revwalk.proofs.ReadsWhole.{walked_within}
+
+-- one and all
+distinct_is : (taken ids : List ObjectId) → IsDistinctFrom taken ids → AreDistinct ids × ((i : ObjectId) → Contains taken i → Contains ids i → ⊥)
+distinct_is taken [] h = (tt, λ i t c. no_member i c)
+distinct_is taken (x ∷ ids) h =
+    let r : AreDistinct ids × ((i : ObjectId) → Contains (taken ++ x ∷ []) i → Contains ids i → ⊥) = distinct_is (taken ++ x ∷ []) ids h.1 in (
+      (λ c. r.1 x (Contains-append_right taken (x ∷ []) x (Contains-here x [])) c, r.0),
+      λ i t c. ⊎_elim (λ e. h.0 (subst (λ y. Contains taken y) (sym e) t)) (λ n. r.1 i (Contains-append_left taken (x ∷ []) i t) n) (Contains-cons_cases i x ids c),
+    )
+
+work_of : (o : Option CommitTimeOrder) (time : ObjectId → ℤ) (next : ObjectId → List ObjectId) (starts ids : List ObjectId) → IsInOrder o time next starts ids → IsWorkOrder next starts ids
+work_of None time next starts ids h = work_from_breadth next starts ids h
+work_of (Some order) time next starts ids h = work_from_time order time next starts ids h
+
+-- a list in order has each id that is reached, once
+pub each_once : (o : Option CommitTimeOrder) (time : ObjectId → ℤ) (next : ObjectId → List ObjectId) (starts ids : List ObjectId) → IsInOrder o time next starts ids → AreDistinct ids × ((i : ObjectId) → Contains ids i ↔ Reaches next starts i)
+each_once o time next starts ids h =
+    let w : IsWorkOrder next starts ids = work_of o time next starts ids h in
+    ((distinct_is [] ids (given_once next starts ids w)).0, λ i. (given_is_reached next starts ids w i, reached_is_given next starts ids w i))
+
+-- there is one list in breadth order
+module _ (next : ObjectId → List ObjectId) (starts : List ObjectId) where
+  abbrev pub BreadthFrom : List ObjectId → List ObjectId → Type 0
+  BreadthFrom taken ids = (k : ℕ) → k ≤ length ids → slice_get ids k ≡ first_new (named_by next starts (taken ++ take k ids)) (taken ++ take k ids)
+
+  breadth_here : (taken ids : List ObjectId) → BreadthFrom taken ids → slice_get ids zero ≡ first_new (named_by next starts taken) taken
+  breadth_here taken ids h = rw append-nil at (h zero Prim.Native.Nat.zero-le)
+
+  breadth_on : (taken ids : List ObjectId) (i : ObjectId) → BreadthFrom taken (i ∷ ids) → BreadthFrom (taken ++ i ∷ []) ids
+  breadth_on taken ids i h k b = rw append_assoc (h (suc k) (omega arith))
+
+  one_breadth : (taken xs ys : List ObjectId) → BreadthFrom taken xs → BreadthFrom taken ys → xs ≡ ys
+  one_breadth taken [] [] h k = refl
+  one_breadth taken [] (y ∷ ys) h k = let e : None ≡ Some y = breadth_here taken [] h ∙ sym (breadth_here taken (y ∷ ys) k) in cc
+  one_breadth taken (x ∷ xs) [] h k = let e : Some x ≡ None = breadth_here taken (x ∷ xs) h ∙ sym (breadth_here taken [] k) in cc
+  one_breadth taken (x ∷ xs) (y ∷ ys) h k =
+      let e : x ≡ y = let s : Some x ≡ Some y = breadth_here taken (x ∷ xs) h ∙ sym (breadth_here taken (y ∷ ys) k) in cc in
+      let r : xs ≡ ys = one_breadth (taken ++ x ∷ []) xs ys (breadth_on taken xs x h) (subst (λ z. BreadthFrom (taken ++ z ∷ []) ys) (sym e) (breadth_on taken ys y k)) in
+      cc
+
+pub same_breadth : (next : ObjectId → List ObjectId) (starts xs ys : List ObjectId) → IsBreadthOrder next starts xs → IsBreadthOrder next starts ys → xs ≡ ys
+same_breadth next starts xs ys h k = one_breadth next starts [] xs ys h k
+
+-- what hidden tips cut away
+module _ (objects : Objects) (m : Parents) (accepts hides : ObjectId → Bool) (limit : Option ℤ) (tips hidden_tips : List ObjectId) (tells : Tells hides (Reaches (parents_of objects) hidden_tips)) where
+  kept_both : (i : ObjectId) → is_kept objects accepts (λ j. false) limit i ≡ true → hides i ≡ false → is_kept objects accepts hides limit i ≡ true
+  kept_both i k h =
+      let a : ((accepts i && true) ≡ true) × (not (is_older (time_of objects i) limit) ≡ true) = and_parts _ _ k in
+      and_from _ _ (and_from _ _ (and_parts _ _ a.0).0 (not_from_false _ h)) a.1
+
+  kept_still : (i : ObjectId) → is_kept objects accepts hides limit i ≡ true → (is_kept objects accepts (λ j. false) limit i ≡ true) × (hides i ≡ false)
+  kept_still i k =
+      let a : ((accepts i && not (hides i)) ≡ true) × (not (is_older (time_of objects i) limit) ≡ true) = and_parts _ _ k in
+      let b : (accepts i ≡ true) × (not (hides i) ≡ true) = and_parts _ _ a.0 in
+      (and_from _ _ (and_from _ _ b.0 refl) a.1, not-true _ b.1)
+
+  in_filter : (p : ObjectId → Bool) (xs : List ObjectId) (i : ObjectId) → Contains xs i → p i ≡ true → Contains (filter p xs) i
+  in_filter p xs i c e = among_is i _ (among-filter i p xs ∙ and_from _ _ e (among_from i xs c))
+
+  of_filter : (p : ObjectId → Bool) (xs : List ObjectId) (i : ObjectId) → Contains (filter p xs) i → (p i ≡ true) × Contains xs i
+  of_filter p xs i c = let a : (p i ≡ true) × (is_among i xs ≡ true) = and_parts (p i) (is_among i xs) (sym (among-filter i p xs) ∙ among_from i _ c) in (a.0, among_is i xs a.1)
+
+  abbrev pub All-next : ObjectId → List ObjectId
+  All-next = kept_parents objects m accepts (λ j. false) limit
+
+  abbrev pub Shown-next : ObjectId → List ObjectId
+  Shown-next = kept_parents objects m accepts hides limit
+
+  abbrev pub shown_tips : List ObjectId
+  shown_tips = filter (λ i. not (hides i)) tips
+
+  pub shown_reached : (i : ObjectId) → Reaches All-next tips i → hides i ≡ false → Reaches Shown-next shown_tips i
+  shown_reached i (start s) h = start (in_filter (λ j. not (hides j)) tips i s (not_from_false _ h))
+  shown_reached i (step {c = c} r n) h =
+      let a : (is_kept objects accepts (λ j. false) limit i ≡ true) × Contains (walked_parents objects m c) i = of_filter _ (walked_parents objects m c) i n in
+      let open_c : hides c ≡ false = false_from_ne_true _ (λ t. true≢false (sym ((tells i).1 (step ((tells c).0 t) (walked_within m _ i a.1))) ∙ h)) in
+      step (shown_reached c r open_c) (in_filter _ (walked_parents objects m c) i a.1 (kept_both i a.0 h))
+
+  pub reached_shown : (i : ObjectId) → Reaches Shown-next shown_tips i → Reaches All-next tips i × (hides i ≡ false)
+  reached_shown i (start s) = let a : (not (hides i) ≡ true) × Contains tips i = of_filter (λ j. not (hides j)) tips i s in (start a.1, not-true _ a.0)
+  reached_shown i (step {c = c} r n) =
+      let a : (is_kept objects accepts hides limit i ≡ true) × Contains (walked_parents objects m c) i = of_filter _ (walked_parents objects m c) i n in
+      let k : (is_kept objects accepts (λ j. false) limit i ≡ true) × (hides i ≡ false) = kept_still i a.0 in
+      (step (reached_shown c r).0 (in_filter _ (walked_parents objects m c) i a.1 k.0), k.1)
+
+-- the times never rise
+take_next : {X : Type 0} (xs : List X) (k : ℕ) (x : X) → slice_get xs k ≡ Some x → take (suc k) xs ≡ take k xs ++ x ∷ []
+take_next [] k x e = cc
+take_next (y ∷ xs) zero x e = cc
+take_next (y ∷ xs) (suc k) x e = ap (λ ys. y ∷ ys) (take_next xs k x e)
+
+within : {X : Type 0} (xs : List X) (k : ℕ) (x : X) → slice_get xs k ≡ Some x → suc k ≤ length xs
+within xs k x e = Rattle.std.proofs.lemmas.Option.slice_get_within xs k x e
+
+pub times_fall : (time : ObjectId → ℤ) (next : ObjectId → List ObjectId) (starts ids : List ObjectId) → IsTimeOrder NewestFirst time next starts ids → ((c i : ObjectId) → Contains (next c) i → time i ≤ℤ time c) → (k : ℕ) (a b : ObjectId) → slice_get ids k ≡ Some a → slice_get ids (suc k) ≡ Some b → time b ≤ℤ time a
+times_fall time next starts ids h older k a b ea eb =
+    let best_a : IsBest NewestFirst time (IsPending next starts (take k ids)) a = subst (λ o. MatchOption o ((i : ObjectId) → IsPending next starts (take k ids) i → ⊥) (IsBest NewestFirst time (IsPending next starts (take k ids)))) ea (h k (let w : suc k ≤ length ids = within ids k a ea in omega arith)) in
+    let best_b : IsBest NewestFirst time (IsPending next starts (take (suc k) ids)) b = subst (λ o. MatchOption o ((i : ObjectId) → IsPending next starts (take (suc k) ids) i → ⊥) (IsBest NewestFirst time (IsPending next starts (take (suc k) ids)))) eb (h (suc k) (let w : suc (suc k) ≤ length ids = within ids (suc k) b eb in omega arith)) in
+    let taken : take (suc k) ids ≡ take k ids ++ a ∷ [] = take_next ids k a ea in
+    let named : named_by next starts (take (suc k) ids) ≡ named_by next starts (take k ids) ++ next a = ap (named_by next starts) taken ∙ named-push next starts (take k ids) a in
+    ⊎_elim (λ n. best_a.best b (n, λ c. best_b.among.1 (subst (λ xs. Contains xs b) (sym taken) (Contains-append_left (take k ids) (a ∷ []) b c)))) (λ n. older a b n)
+    (Contains-append_cases (named_by next starts (take k ids)) (next a) b (subst (λ xs. Contains xs b) named best_b.among.0))
+
+-- walks without hidden tips and rows
+pub all_kept : (xs : List ObjectId) → filter (λ i. not false) xs ≡ xs
+all_kept [] = refl
+all_kept (x ∷ xs) = ap (λ ys. x ∷ ys) (all_kept xs)
+
+no_reach : (next : ObjectId → List ObjectId) (starts : List ObjectId) → starts ≡ [] → (i : ObjectId) → Reaches next starts i → ⊥
+no_reach next starts e i (start s) = no_member i (subst (λ xs. Contains xs i) e s)
+no_reach next starts e i (step {c = c} r n) = no_reach next starts e c r
+
+zip_weaker : {A B : Type 0} (R S : A → B → Type 0) → ((a : A) (b : B) → R a b → S a b) → (xs : List A) (ys : List B) → AllZip R xs ys → AllZip S xs ys
+zip_weaker R S f [] [] h = tt
+zip_weaker R S f [] (y ∷ ys) h = absurd h
+zip_weaker R S f (x ∷ xs) [] h = absurd h
+zip_weaker R S f (x ∷ xs) (y ∷ ys) h = (f x y h.0, zip_weaker R S f xs ys h.1)
+
+plain_info : (objects : Objects) (rows : List GraphRow) (m : Parents) (order : Option CommitTimeOrder) → rows ≡ [] → (answer : Result Info Error) (i : ObjectId) → IsGiven objects rows m order answer i → IsPlain objects m order answer i
+plain_info objects rows m order e (Ok info) i h = go h.generation h.by_row h.info_is
+  where
+    go : (generation : Option ℕ) → IsRowGeneration rows i generation → IsInfo info i (walked_parents objects m i) generation (Rattle.gix_simple.specs.Walk.time_if order (time_of objects i)) → IsPlain objects m order (Ok info) i
+    go None r is = is
+    go (Some generation) r is = let n : None ≡ Some r.0 = ap (λ rs. row_of rs i) (sym e) ∙ r.1 in cc
+plain_info objects rows m order e (Err x) i h = h
+
+module _ {F P : Type 0} (objects : F → Objects) (faulty : F → ObjectId → Type 0) (answers : P → ObjectId → Bool → P → Type 0) (walk : SimpleWalk F P) (accepts : ObjectId → Bool) where
+  recent_is : next_of objects walk accepts (λ i. false) ≡ recent_parents (objects walk.store) walk.parents accepts (cutoff walk.parents walk.sorting)
+  recent_is = λ k c. filter (λ i. and-true (accepts i) k && not (is_older (time_of (objects walk.store) i) (cutoff walk.parents walk.sorting))) (walked_parents (objects walk.store) walk.parents c)
+
+  accepted_is : cutoff walk.parents walk.sorting ≡ None → next_of objects walk accepts (λ i. false) ≡ accepted_parents (objects walk.store) walk.parents accepts
+  accepted_is e = recent_is ∙ (λ k c. filter (λ i. accepts i && not (is_older (time_of (objects walk.store) i) (e k))) (walked_parents (objects walk.store) walk.parents c)) ∙ (λ k c. filter (λ i. and-true (accepts i) k) (walked_parents (objects walk.store) walk.parents c))
+
+  plain_gives : (next : ObjectId → List ObjectId) (list : List (Result Info Error)) → next_of objects walk accepts (λ i. false) ≡ next → IsPlainRun objects faulty answers walk accepts next list → GivesInOrder objects walk accepts (λ i. false) list
+  plain_gives next list same run =
+      gives_in_order objects faulty answers walk accepts (λ i. false) run.by_test run.fresh
+      (λ i. (λ e. absurd (false≢true e), λ r. absurd (no_reach _ walk.hidden_tips run.open_to i r)))
+      (record { given = λ i r. run.whole i (subst (λ n. Reaches n (ids_of walk.pending) i) same (subst (λ ts. Reaches (next_of objects walk accepts (λ j. false)) ts i) (all_kept (ids_of walk.pending)) r)); painted = λ some hides. absurd (hides run.open_to) })
+      (subst (λ rows. IsAgreeing (objects walk.store) rows) (sym run.rowless) (λ row n. absurd (no_member row n)))
+      list run.unrefused run.drawn
+
+  plain_order : (order : Option CommitTimeOrder) (next : ObjectId → List ObjectId) (list : List (Result Info Error)) → time_order walk.parents walk.sorting ≡ order → next_of objects walk accepts (λ i. false) ≡ next → IsPlainRun objects faulty answers walk accepts next list →
+      (ids : List ObjectId) × AllZip (IsPlain (objects walk.store) walk.parents order) list ids × IsInOrder order (time_of (objects walk.store)) next (ids_of walk.pending) ids
+  plain_order order next list e same run =
+      let g : GivesInOrder objects walk accepts (λ i. false) list = plain_gives next list same run in (
+        g.ids,
+        subst (λ o. AllZip (IsPlain (objects walk.store) walk.parents o) list g.ids) e (zip_weaker _ (IsPlain (objects walk.store) walk.parents (time_order walk.parents walk.sorting)) (plain_info (objects walk.store) walk.rows walk.parents (time_order walk.parents walk.sorting) run.rowless) list g.ids g.given),
+        transport (λ k. IsInOrder (e k) (time_of (objects walk.store)) (same k) (all_kept (ids_of walk.pending) k) g.ids) g.in_order,
+      )
+
+  pub breadth : (list : List (Result Info Error)) → time_order walk.parents walk.sorting ≡ None → IsPlainRun objects faulty answers walk accepts (accepted_parents (objects walk.store) walk.parents accepts) list →
+      (ids : List ObjectId) × AllZip (IsPlain (objects walk.store) walk.parents None) list ids × IsBreadthOrder (accepted_parents (objects walk.store) walk.parents accepts) (ids_of walk.pending) ids
+  breadth list e run = plain_order None _ list e (accepted_is (no_cutoff walk.parents walk.sorting e)) run
+
+  pub by_time : (order : CommitTimeOrder) (list : List (Result Info Error)) → time_order walk.parents walk.sorting ≡ Some order → IsPlainRun objects faulty answers walk accepts (recent_parents (objects walk.store) walk.parents accepts (cutoff walk.parents walk.sorting)) list →
+      (ids : List ObjectId) × AllZip (IsPlain (objects walk.store) walk.parents (Some order)) list ids × IsTimeOrder order (time_of (objects walk.store)) (recent_parents (objects walk.store) walk.parents accepts (cutoff walk.parents walk.sorting)) (ids_of walk.pending) ids
+  by_time order list e run = plain_order (Some order) _ list e recent_is run
+
+module _ {F P : Type 0} (objects : F → Objects) (faulty : F → ObjectId → Type 0) (answers : P → ObjectId → Bool → P → Type 0) (walk : SimpleWalk F P) (accepts : ObjectId → Bool) where
+  pub gives : (hides : ObjectId → Bool) (list : List (Result Info Error)) → IsWholeRun objects faulty answers walk accepts hides list → GivesInOrder objects walk accepts hides list
+  gives hides list run = gives_in_order objects faulty answers walk accepts hides run.by_test run.fresh run.tells run.meets run.agreeing list run.unrefused run.drawn
+
+  pub gives_once : (hides : ObjectId → Bool) (list : List (Result Info Error)) (g : GivesInOrder objects walk accepts hides list) → AreDistinct g.ids × ((i : ObjectId) → Contains g.ids i ↔ Reaches (next_of objects walk accepts hides) (starts_of walk hides) i)
+  gives_once hides list g = each_once (time_order walk.parents walk.sorting) (time_of (objects walk.store)) (next_of objects walk accepts hides) (starts_of walk hides) g.ids g.in_order
+
+  pub rising : (hides : ObjectId → Bool) (list : List (Result Info Error)) → time_order walk.parents walk.sorting ≡ Some NewestFirst → ((c i : ObjectId) → Contains (parents_of (objects walk.store) c) i → time_of (objects walk.store) i ≤ℤ time_of (objects walk.store) c) → (g : GivesInOrder objects walk accepts hides list) (k : ℕ) (a b : ObjectId) → slice_get g.ids k ≡ Some a → slice_get g.ids (suc k) ≡ Some b → time_of (objects walk.store) b ≤ℤ time_of (objects walk.store) a
+  rising hides list e older g = times_fall (time_of (objects walk.store)) (next_of objects walk accepts hides) (starts_of walk hides) g.ids
+      (transport (λ k. IsInOrder (e k) (time_of (objects walk.store)) (next_of objects walk accepts hides) (starts_of walk hides) g.ids) g.in_order)
+      (λ c i n. older c i (walked_within walk.parents _ i (among_is i _ (and_parts _ _ (sym (among-filter i _ (walked_parents (objects walk.store) walk.parents c)) ∙ among_from i _ n)).1)))
+
+-- the test of no hidden tips
+pub no_tips : {F P : Type 0} (objects : F → Objects) (walk : SimpleWalk F P) (shown : ObjectId → Bool) → Tells shown (Reaches (parents_of (objects walk.store)) []) → shown ≡ (λ i. false)
+no_tips objects walk shown tells = λ k i. (false_from_ne_true (shown i) (λ e. no_reach (parents_of (objects walk.store)) [] refl i ((tells i).0 e))) k

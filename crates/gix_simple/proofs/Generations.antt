@@ -1,0 +1,346 @@
+-- The generations that a walk gives are the generations of its rows, up to where a corrupt row drops the rows.
+use Rattle.std.specs.Prelude.{◌≡◌, ◌⊎◌, ℕ, ℤ, suc, List, [], ◌∷◌, ◌++◌, filter, length, Bool, true, false, not, cond, Option, Some, None, Result, Ok, Err, All, Contains}
+use Rattle.std.specs.Option.{option_map}
+use Rattle.std.proofs.Common.{refl, sym, ap, subst, inl, inr, ⊎_elim, ◌∙◌, arith}
+use Rattle.std.proofs.Math.Path.{transport}
+use Rattle.std.proofs.lemmas.List.{map-append}
+use Rattle.std.proofs.lemmas.List.Sorted.{length_permutation, Contains-permutation, IsPermutation-map, IsPermutation-sym}
+use Rattle.std.proofs.lemmas.List.Elements.{recursion_from_All, All-from_recursion, Contains-append_cases}
+use Rattle.std.specs.FinSet as set
+use Rattle.std.specs.Iterator.{Yields}
+use Rattle.gix_hash.specs.declared.ObjectId.{ObjectId}
+use Rattle.gix_object.specs.declared.decode.Error.{Error as DecodeError}
+use Rattle.gix_object.specs.CommitItems.{Item, Tree, Parent, Author, Committer, Rest, commit_items}
+use Rattle.gix_hash.specs.Id.{kind_of}
+use Rattle.gix_object.specs.Object.{Objects}
+use Rattle.gix_commitgraph.specs.Rows.{GraphRow, row_of}
+use Rattle.gix_revwalk.specs.declared.Info.{Info}
+use Rattle.gix_revwalk.specs.declared.Parents.{Parents}
+use Rattle.gix_revwalk.specs.declared.Parents.TheVariants as mode
+use Rattle.gix_revwalk.specs.declared.CommitTimeOrder.{CommitTimeOrder}
+use Rattle.gix_simple.specs.declared.Error.{Error}
+use Rattle.gix_revwalk.specs.declared.Pending.{Pending}
+use Rattle.gix_revwalk.specs.Agreeing.{IsAgreeing}
+use Rattle.gix_revwalk.specs.Commits.{ReadsWhole, by_mode}
+use Rattle.gix_hash.specs.Reach.{Reaches, start, step}
+use Rattle.gix_simple.specs.Walk.{SimpleWalk, Treated, Holds, time_order, unrowed, Treats, hidden, known, refused, accepted, dropped, enqueued, store_fails, no_memory, no_memory_after, TreatsAll, none, more, stops, Concludes, given, broken, Takes, by_row, by_store, not_found, Chooses, first, best, Steps, took, painted, Next, unhidden, paints, faulty_history}
+use Rattle.gix_revwalk.specs.Texts.{scanned, text_next, next_in}
+use Rattle.gix_revwalk.specs.RowParents.{ids_at, rows_if, kept_rows, IsUnrowed}
+use Rattle.gix_revwalk.specs.Ids.{ids_of}
+use Rattle.gix_simple.specs.Runs.{IsTold, IsUntold, IsAbout, HasCorruptRow, PaintingDrops, TellsGenerations}
+use Rattle.gix_hash.proofs.Ids.Membership.{no_member, Contains-here, Contains-there, Contains-cons_cases}
+use Rattle.gix_paint.proofs.Invariant.{own_history}
+use Rattle.gix_revwalk.proofs.ReadsWhole.{row_stands, row_parents, corrupt_row}
+use Rattle.gix_revwalk.proofs.TextParents.{text_whole}
+use Rattle.gix_revwalk.proofs.Reached.{reaches_from}
+use Rattle.gix_hash.proofs.Lists.{only_member}
+
+-- the parents that are scanned are those that are walked, of all that are named
+scan_by : (m : Parents) (items : List (Result Item DecodeError)) → (scanned m items).0 ≡ by_mode m (scanned mode.All items).0
+scan_by mode.All items = refl
+scan_by mode.First [] = refl
+scan_by mode.First (Err e ∷ items) = refl
+scan_by mode.First (Ok (Tree i) ∷ items) = scan_by mode.First items
+scan_by mode.First (Ok (Parent i) ∷ items) = refl
+scan_by mode.First (Ok (Author line) ∷ items) = refl
+scan_by mode.First (Ok (Committer signature) ∷ items) = refl
+scan_by mode.First (Ok (Rest bytes) ∷ items) = refl
+
+-- one more becomes pending
+holds_more : (o : Option CommitTimeOrder) (old new : List Pending) (p : Pending) → Holds o (old ++ p ∷ []) new → (i : ObjectId) → Contains (ids_of new) i → Contains (ids_of old) i ⊎ (p.id ≡ i)
+holds_more o old new p h i m = ⊎_elim inl (λ c. inr (only_member p.id i c)) (Contains-append_cases (ids_of old) (p.id ∷ []) i (subst (λ ids. Contains ids i) (map-append (λ q. q.id) old (p ∷ [])) (go o h)))
+  where
+    go : (o : Option CommitTimeOrder) → Holds o (old ++ p ∷ []) new → Contains (ids_of (old ++ p ∷ [])) i
+    go None e = subst (λ ps. Contains (ids_of ps) i) e m
+    go (Some order) k = Contains-permutation (ids_of new) (ids_of (old ++ p ∷ [])) i (IsPermutation-sym (ids_of (old ++ p ∷ [])) (ids_of new) (IsPermutation-map (λ q. q.id) (old ++ p ∷ []) new k)) m
+
+-- a part of what is pending
+filter_within : (keeps : Pending → Bool) (ps : List Pending) (i : ObjectId) → Contains (ids_of (filter keeps ps)) i → Contains (ids_of ps) i
+filter_within keeps [] i m = m
+filter_within keeps (p ∷ ps) i m = go (keeps p) (filter_within keeps ps i) m
+  where
+    go : (b : Bool) → (Contains (ids_of (filter keeps ps)) i → Contains (ids_of ps) i) → Contains (ids_of (cond b (p ∷ filter keeps ps) (filter keeps ps))) i → Contains (p.id ∷ ids_of ps) i
+    go true r m = ⊎_elim (λ e. subst (λ x. Contains (x ∷ ids_of ps) i) (sym e) (Contains-here i (ids_of ps))) (λ n. Contains-there i p.id (ids_of ps) (r n)) (Contains-cons_cases i p.id (ids_of (filter keeps ps)) m)
+    go false r m = Contains-there i p.id (ids_of ps) (r m)
+
+module _ {F P : Type 0} (objects : F → Objects) (faulty : F → ObjectId → Type 0) (answers : P → ObjectId → Bool → P → Type 0) where
+  -- the parents that are walked, as texts name them
+  abbrev text_walked : SimpleWalk F P → ObjectId → List ObjectId
+  text_walked w i = by_mode w.parents (text_next (objects w.store) i)
+
+  -- the walk reads the same, and what became pending is Named
+  record Grows (Named : ObjectId → Type 0) (w v : SimpleWalk F P) : Type 0 where
+    store : v.store ≡ w.store
+    rows : v.rows ≡ w.rows
+    parents : v.parents ≡ w.parents
+    tips : v.hidden_tips ≡ w.hidden_tips
+    pending : (i : ObjectId) → Contains (ids_of v.pending) i → Contains (ids_of w.pending) i ⊎ Named i
+
+  grows_then : {Named : ObjectId → Type 0} {w v u : SimpleWalk F P} → Grows Named w v → Grows Named v u → Grows Named w u
+  grows_then a b = record { store = b.store ∙ a.store; rows = b.rows ∙ a.rows; parents = b.parents ∙ a.parents; tips = b.tips ∙ a.tips; pending = λ i m. ⊎_elim (a.pending i) inr (b.pending i m) }
+
+  none_pends : (Named : ObjectId → Type 0) (ps old : List Pending) → ps ≡ [] → (i : ObjectId) → Contains (ids_of ps) i → Contains (ids_of old) i ⊎ Named i
+  none_pends Named ps old e i m = absurd (no_member i (subst (λ qs. Contains (ids_of qs) i) e m))
+
+  one_grows : (Named : ObjectId → Type 0) (w : SimpleWalk F P) (row : Bool) (i : ObjectId) {how : Treated} {v : SimpleWalk F P} → Named i → Treats objects faulty answers w row i how v → Grows Named w v
+  one_grows Named w row i n (hidden e) = record { store = refl; rows = refl; parents = refl; tips = refl; pending = λ j m. inl m }
+  one_grows Named w row i n (known e) = record { store = refl; rows = refl; parents = refl; tips = refl; pending = λ j m. inl m }
+  one_grows Named w row i n (refused is_new b) = record { store = refl; rows = refl; parents = refl; tips = refl; pending = λ j m. inl m }
+  one_grows Named w row i n (accepted is_new b time (dropped e)) = record { store = refl; rows = refl; parents = refl; tips = refl; pending = λ j m. inl m }
+  one_grows Named w row i n (accepted {time = at} is_new b time (enqueued {new = new} e holds)) = record {
+    store = refl;
+    rows = refl;
+    parents = refl;
+    tips = refl;
+    pending = λ j m. ⊎_elim inl (λ s. inr (subst Named s n)) (holds_more (time_order w.parents w.sorting) w.pending new (record { id = i; time = at }) holds j m);
+  }
+  one_grows Named w row i n (store_fails is_new b time) = record { store = refl; rows = refl; parents = refl; tips = refl; pending = λ j m. inl m }
+  one_grows Named w row i n no_memory = record { store = refl; rows = refl; parents = refl; tips = refl; pending = λ j m. inl m }
+  one_grows Named w row i n (no_memory_after {pending = ps} is_new b left) = record {
+    store = refl;
+    rows = refl;
+    parents = refl;
+    tips = refl;
+    pending = λ j m. ⊎_elim (λ e. inl (subst (λ qs. Contains (ids_of qs) j) e m)) (λ e. none_pends Named ps w.pending e j m) left;
+  }
+
+  all_grow : (Named : ObjectId → Type 0) (row : Bool) {w v : SimpleWalk F P} {ids : List ObjectId} {how : Treated} → ((i : ObjectId) → Contains ids i → Named i) → TreatsAll objects faulty answers row w ids how v → Grows Named w v
+  all_grow Named row n none = record { store = refl; rows = refl; parents = refl; tips = refl; pending = λ j m. inl m }
+  all_grow Named row n (more {old = w} {i = i} {ids = ids} t ts) = grows_then (one_grows Named w row i (n i (Contains-here i ids)) t) (all_grow Named row (λ j m. n j (Contains-there j i ids m)) ts)
+  all_grow Named row n (stops {old = w} {i = i} {ids = ids} ne t) = one_grows Named w row i (n i (Contains-here i ids)) t
+
+  -- what is given has this id and this generation
+  abbrev IsGivenAs : ObjectId → Option ℕ → Result Info Error → Type 0
+  IsGivenAs i generation (Ok info) = (info.id ≡ i) × (info.generation ≡ generation)
+  IsGivenAs i generation (Err e) = Unit {0}
+
+  concluded : (i : ObjectId) (ps : List ObjectId) (generation : Option ℕ) (time : Option ℤ) (text : List ℕ) (fault : Option DecodeError) (walk : SimpleWalk F P) {how : Treated} {answer : Result Info Error} {new : SimpleWalk F P}
+      → (Named : ObjectId → Type 0) → Concludes objects faulty answers i ps generation time text fault walk how answer new → IsGivenAs i generation answer × Grows Named walk new
+  concluded i ps generation time text fault walk Named (given f is) = ((is.same_id, is.same_generation), record { store = refl; rows = refl; parents = refl; tips = refl; pending = λ j m. inl m })
+  concluded i ps generation time text fault walk Named (broken f) = (tt, record { store = refl; rows = refl; parents = refl; tips = refl; pending = λ j m. inl m })
+  concluded i ps generation time text fault walk Named store_fails = (tt, record { store = refl; rows = refl; parents = refl; tips = refl; pending = λ j m. inl m })
+  concluded i ps generation time text fault walk Named no_memory = (tt, record { store = refl; rows = refl; parents = refl; tips = refl; pending = none_pends Named [] walk.pending refl })
+
+  told_as : (rows : List GraphRow) (i : ObjectId) (generation : Option ℕ) (answer : Result Info Error) → option_map (λ row. row.generation) (row_of rows i) ≡ generation → IsGivenAs i generation answer → IsTold rows answer
+  told_as rows i generation (Ok info) e g = g.1 ∙ sym e ∙ ap (λ j. option_map (λ row. row.generation) (row_of rows j)) (sym g.0)
+  told_as rows i generation (Err x) e g = tt
+
+  untold_as : (i : ObjectId) (answer : Result Info Error) → IsGivenAs i None answer → IsUntold answer
+  untold_as i (Ok info) g = g.1
+  untold_as i (Err x) g = tt
+
+  abbrev IsFailed : Result Info Error → Type 0
+  IsFailed (Ok info) = ⊥
+  IsFailed (Err e) = Unit {0}
+
+  failed_told : (rows : List GraphRow) (answer : Result Info Error) → IsFailed answer → IsTold rows answer
+  failed_told rows (Ok info) f = absurd f
+  failed_told rows (Err e) f = tt
+
+  failed_untold : (answer : Result Info Error) → IsFailed answer → IsUntold answer
+  failed_untold (Ok info) f = absurd f
+  failed_untold (Err e) f = tt
+
+  about_as : (i : ObjectId) (generation : Option ℕ) (answer : Result Info Error) → IsGivenAs i generation answer → IsAbout i answer
+  about_as i generation (Ok info) g = g.0
+  about_as i generation (Err x) g = tt
+
+  -- what is pending afterwards is reached
+  record Descends (w new : SimpleWalk F P) : Type 0 where
+    parents : new.parents ≡ w.parents
+    tips : new.hidden_tips ≡ []
+    reached : IsAgreeing (objects w.store) w.rows → (i : ObjectId) → Contains (ids_of new.pending) i → Reaches (text_walked w) (ids_of w.pending) i
+
+  -- a step keeps the rows and gives their generation, or drops them for a corrupt row, or fails and is the last
+  data Tells (w : SimpleWalk F P) (answer : Result Info Error) (new : SimpleWalk F P) : Type 0 where
+    keeps : new.store ≡ w.store → new.rows ≡ w.rows → Descends w new → IsTold w.rows answer → Tells w answer new
+    loses : new.store ≡ w.store → new.rows ≡ [] → IsUntold answer → (IsAgreeing (objects w.store) w.rows → HasCorruptRow objects w answer ⊎ PaintingDrops objects w) → Tells w answer new
+    ends : new.pending ≡ [] → IsFailed answer → Tells w answer new
+
+  -- a row that names no ids is corrupt
+  corrupt : (w : SimpleWalk F P) (i : ObjectId) (row : GraphRow) (answer : Result Info Error) → row_of w.rows i ≡ Some row → ids_at w.rows row.parents ≡ None → Contains (ids_of w.pending) i → IsAbout i answer → IsAgreeing (objects w.store) w.rows → HasCorruptRow objects w answer
+  corrupt w i row answer e n m about agrees =
+      let c : Contains w.rows row × (i ≡ row.id) = row_stands w.rows i row e in
+      record {
+        row = row;
+        present = subst (λ j. row_of w.rows j ≡ Some row) c.1 e;
+        corrupt = corrupt_row (objects w.store) w.rows agrees row c.0 n;
+        reached = start (subst (Contains (ids_of w.pending)) c.1 m);
+        about = subst (λ j. IsAbout j answer) c.1 about;
+      }
+
+  -- the commit that is taken, and the commits that its text names
+  abbrev Reached : SimpleWalk F P → ObjectId → Type 0
+  Reached w i = IsAgreeing (objects w.store) w.rows → Reaches (text_walked w) (ids_of w.pending) i
+
+  module _ (w : SimpleWalk F P) (p : Pending) (others : List Pending) (chooses : Chooses objects faulty answers w p others) (unhidden_tips : w.hidden_tips ≡ []) where
+    chosen : (i : ObjectId) → Contains (p.id ∷ ids_of others) i → Contains (ids_of w.pending) i
+    chosen i m = go chooses
+      where
+        go : Chooses objects faulty answers w p others → Contains (ids_of w.pending) i
+        go (first t e) = subst (λ ps. Contains (ids_of ps) i) (sym e) m
+        go (best t perm no_worse) = Contains-permutation (p.id ∷ ids_of others) (ids_of w.pending) i (IsPermutation-sym (ids_of w.pending) (p.id ∷ ids_of others) (IsPermutation-map (λ q. q.id) w.pending (p ∷ others) perm)) m
+
+    descends : {new : SimpleWalk F P} (v : SimpleWalk F P) → v.parents ≡ w.parents → v.hidden_tips ≡ w.hidden_tips → v.pending ≡ others → Grows (Reached w) v new → Descends w new
+    descends v parents tips pending g = record {
+      parents = g.parents ∙ parents;
+      tips = g.tips ∙ tips ∙ unhidden_tips;
+      reached = λ agrees i m. ⊎_elim (λ c. start (chosen i (Contains-there i p.id (ids_of others) (subst (λ ps. Contains (ids_of ps) i) pending c)))) (λ n. n agrees) (g.pending i m);
+    }
+
+    -- a commit without a row that can be read
+    unrowed_tells : (answer : Result Info Error) {new : SimpleWalk F P} → IsUnrowed w.rows p.id → IsGivenAs p.id None answer → Grows (Reached w) (unrowed (record w { pending = others }) p.id) new → Tells w answer new
+    unrowed_tells answer {new} unread g grows = go (row_of w.rows p.id) refl
+      where
+        go : (o : Option GraphRow) → row_of w.rows p.id ≡ o → Tells w answer new
+        go None e = keeps grows.store (grows.rows ∙ ap (kept_rows w.rows) e) (descends (unrowed (record w { pending = others }) p.id) refl refl refl grows) (told_as w.rows p.id None answer (ap (option_map (λ row. row.generation)) e) g)
+        go (Some row) e =
+            let n : ids_at w.rows row.parents ≡ None = unread row e in
+            loses grows.store (grows.rows ∙ ap (kept_rows w.rows) e ∙ ap (rows_if w.rows) n) (untold_as p.id answer g) (λ agrees. inl (corrupt w p.id row answer e n (chosen p.id (Contains-here p.id (ids_of others))) (about_as p.id None answer g) agrees))
+
+    reached_next : (i : ObjectId) → Contains (text_walked w p.id) i → Reached w i
+    reached_next i m agrees = step (start (chosen p.id (Contains-here p.id (ids_of others)))) m
+
+    takes_tells : {answer : Result Info Error} {new : SimpleWalk F P} → Takes objects faulty answers (record w { pending = others }) p answer new → Tells w answer new
+    takes_tells {answer} (by_row {row = row} {ids = ids} {walk = walk} r e treats concludes) =
+        let c = concluded p.id _ _ _ _ _ walk (Reached w) concludes in
+        let g = grows_then (all_grow (Reached w) true named treats) c.1 in
+        keeps g.store g.rows (descends (record w { pending = others }) refl refl refl g) (told_as w.rows p.id (Some row.generation) answer (ap (option_map (λ row. row.generation)) r) c.0)
+      where
+        named : (i : ObjectId) → Contains (by_mode w.parents ids) i → Reached w i
+        named i m agrees =
+            let k : Contains w.rows row × (p.id ≡ row.id) = row_stands w.rows p.id row r in
+            let whole : ReadsWhole (objects w.store) p.id = subst (ReadsWhole (objects w.store)) (sym k.1) (agrees row k.0).whole in
+            reached_next i (subst (λ those. Contains (by_mode w.parents those) i) (row_parents (objects w.store) w.rows agrees p.id row ids r e ∙ text_whole (objects w.store) p.id whole) m) agrees
+    takes_tells {answer} (by_store {bytes = bytes} {walk = walk} u e treats concludes) =
+        let c = concluded p.id _ _ _ _ _ walk (Reached w) concludes in
+        unrowed_tells answer u c.0 (grows_then (all_grow (Reached w) false named treats) c.1)
+      where
+        named : (i : ObjectId) → Contains (scanned w.parents (commit_items (kind_of p.id) bytes)).0 i → Reached w i
+        named i m = reached_next i (subst (λ ids. Contains ids i) (scan_by w.parents (commit_items (kind_of p.id) bytes) ∙ ap (by_mode w.parents) (sym (ap (next_in p.id) e))) m)
+    takes_tells {answer} (not_found u fault) = unrowed_tells answer u tt (record { store = refl; rows = refl; parents = refl; tips = refl; pending = λ j m. inl m })
+    takes_tells (no_memory left) = ends refl tt
+
+  steps_tells : (w : SimpleWalk F P) {answer : Result Info Error} {new : SimpleWalk F P} → w.hidden_tips ≡ [] → Steps objects faulty answers w (Some answer) new → Tells w answer new
+  steps_tells w tips (no_memory some) = ends refl tt
+  steps_tells w tips (took {taken = p} {others = others} chooses takes) = takes_tells w p others chooses tips takes
+
+  -- a step of a walk that painting left with the same rows
+  module _ (w : SimpleWalk F P) (v : SimpleWalk F P) (store : v.store ≡ w.store) (rows : v.rows ≡ w.rows) (parents : v.parents ≡ w.parents) (tips : v.hidden_tips ≡ []) (pending : (i : ObjectId) → Contains (ids_of v.pending) i → Contains (ids_of w.pending) i) where
+    agree : IsAgreeing (objects w.store) w.rows → IsAgreeing (objects v.store) v.rows
+    agree agrees = transport (λ k. IsAgreeing (objects (sym store k)) (sym rows k)) agrees
+
+    reaches : (i : ObjectId) → Reaches (text_walked v) (ids_of v.pending) i → Reaches (text_walked w) (ids_of w.pending) i
+    reaches i r = reaches_from (text_walked w) (ids_of v.pending) (ids_of w.pending) (λ j m. start (pending j m)) i (transport (λ k. Reaches (λ j. by_mode (parents k) (text_next (objects (store k)) j)) (ids_of v.pending) i) r)
+
+    from_same : {answer : Result Info Error} {new : SimpleWalk F P} → Tells v answer new → Tells w answer new
+    from_same {answer} (keeps s r d told) = keeps (s ∙ store) (r ∙ rows) (record { parents = d.parents ∙ parents; tips = d.tips; reached = λ agrees i m. reaches i (d.reached (agree agrees) i m) }) (subst (λ rs. IsTold rs answer) rows told)
+    from_same {answer} (loses s r untold why) = loses (s ∙ store) r untold (λ agrees. ⊎_elim (λ c. inl (carried c)) (λ d. absurd (d.0 tips)) (why (agree agrees)))
+      where
+        carried : HasCorruptRow objects v answer → HasCorruptRow objects w answer
+        carried c = record { row = c.row; present = subst (λ rs. row_of rs c.row.id ≡ Some c.row) rows c.present; corrupt = c.corrupt; reached = reaches c.row.id c.reached; about = c.about }
+    from_same (ends gone failed) = ends gone failed
+
+  -- without rows no generation is given
+  told_none : (answer : Result Info Error) → IsTold [] answer → IsUntold answer
+  told_none (Ok info) e = e
+  told_none (Err x) e = tt
+
+  -- nothing is drawn where nothing is pending
+  pends : (w : SimpleWalk F P) {answer : Result Info Error} {new : SimpleWalk F P} → Next objects faulty answers w (Some answer) new → w.pending ≡ [] → ⊥
+  pends w (unhidden unpainted (no_memory some)) empty = some empty
+  pends w (unhidden unpainted (took (first t e) takes)) empty = let bad = sym empty ∙ e in cc
+  pends w (unhidden unpainted (took {taken = p} {others = others} (best t perm no_worse) takes)) empty =
+      let longer : length w.pending ≡ suc (length others) = sym (length_permutation w.pending (p ∷ others) perm) in
+      let short : length w.pending ≡ 0 = ap length empty in
+      absurd (omega arith)
+  pends w (paints some tips_given paint steps) empty = some empty
+  pends w (faulty_history some tips_given left fault) empty = some empty
+  pends w (no_memory some tips_given left) empty = some empty
+
+  -- without rows none is given from here on
+  rowless : {w : SimpleWalk F P} {answer : Result Info Error} {new : SimpleWalk F P} → w.rows ≡ [] → Tells w answer new → IsUntold answer × ((new.rows ≡ []) ⊎ (new.pending ≡ []))
+  rowless {answer = answer} empty (keeps store rows below told) = (told_none answer (subst (λ rs. IsTold rs answer) empty told), inl (rows ∙ empty))
+  rowless empty (loses store rows untold why) = (untold, inl rows)
+  rowless {answer = answer} empty (ends gone failed) = (failed_untold answer failed, inr gone)
+
+  next_tells : (w : SimpleWalk F P) {answer : Result Info Error} {new : SimpleWalk F P} → Next objects faulty answers w (Some answer) new → Tells w answer new
+  next_tells w (unhidden unpainted steps) = from_same w (record w { hidden_tips = [] }) refl refl refl refl (λ i m. m) (steps_tells (record w { hidden_tips = [] }) refl steps)
+  next_tells w {answer} {new} (paints {marks = marks} {rows = rows} some tips_given paint steps) = ⊎_elim same (λ e. go w.rows refl e) paint.rows_left
+    where
+      v : SimpleWalk F P
+      v = painted objects faulty answers w marks rows
+
+      tells : Tells v answer new
+      tells = steps_tells v refl steps
+
+      same : rows ≡ w.rows → Tells w answer new
+      same e = from_same w v refl e refl refl (filter_within (λ p. not (set.contains marks p.id)) w.pending) tells
+
+      after : (empty : rows ≡ []) → (IsAgreeing (objects w.store) w.rows → PaintingDrops objects w) → Tells v answer new → Tells w answer new
+      after empty why (keeps store left below told) = loses store (left ∙ empty) (told_none answer (subst (λ rs. IsTold rs answer) empty told)) (λ agrees. inr (why agrees))
+      after empty why (loses store left untold other) = loses store left untold (λ agrees. inr (why agrees))
+      after empty why (ends gone failed) = ends gone failed
+
+      go : (those : List GraphRow) → w.rows ≡ those → rows ≡ [] → Tells w answer new
+      go [] f e = same (e ∙ sym f)
+      go (row ∷ those) f e = after e (λ agrees. (tips_given, (paint.marked (objects w.store) (own_history (objects w.store) (faulty w.store) w.rows agrees)).drops (λ same. let bad : [] ≡ row ∷ those = sym e ∙ same ∙ f in cc))) tells
+  next_tells w (faulty_history some tips_given left fault) = ends refl tt
+  next_tells w (no_memory some tips_given left) = ends refl tt
+
+  all_with : (A : Result Info Error → Type 0) (answer : Result Info Error) (list : List (Result Info Error)) → A answer → All A list → All A (answer ∷ list)
+  all_with A answer list a all = All-from_recursion A (answer ∷ list) (a, recursion_from_All A list all)
+
+  -- nothing follows a walk with no pending commits
+  nothing_more : (list : List (Result Info Error)) (w new : SimpleWalk F P) → Yields (Next objects faulty answers) w list new → w.pending ≡ [] → list ≡ []
+  nothing_more [] w new d empty = refl
+  nothing_more (answer ∷ list) w new d empty = absurd (pends w d.1 empty)
+
+  all_untold : (list : List (Result Info Error)) (w new : SimpleWalk F P) → Yields (Next objects faulty answers) w list new → w.rows ≡ [] → All IsUntold list
+  all_untold [] w new d empty = All-from_recursion IsUntold [] tt
+  all_untold (answer ∷ list) w new d empty =
+      let k = rowless empty (next_tells w d.1) in
+      all_with IsUntold answer list k.0 (⊎_elim (λ r. all_untold list d.0 new d.2 r) (λ gone. subst (All IsUntold) (sym (nothing_more list d.0 new d.2 gone)) (All-from_recursion IsUntold [] tt)) k.1)
+
+  -- the law
+  pub tells_generations : (list : List (Result Info Error)) (w new : SimpleWalk F P) → Yields (Next objects faulty answers) w list new → TellsGenerations objects w list
+  tells_generations [] w new d = record { before = []; behind = []; parts = refl; told = All-from_recursion (IsTold w.rows) [] tt; untold = All-from_recursion IsUntold [] tt; dropped = λ a rest e agrees. cc }
+  tells_generations (answer ∷ list) w new d = go (next_tells w d.1) (tells_generations list d.0 new d.2)
+    where
+      go : Tells w answer d.0 → TellsGenerations objects d.0 list → TellsGenerations objects w (answer ∷ list)
+      go (keeps store rows below told) rest =
+          record {
+            before = answer ∷ rest.before;
+            behind = rest.behind;
+            parts = ap (λ xs. answer ∷ xs) rest.parts;
+            told = all_with (IsTold w.rows) answer rest.before told (subst (λ rs. All (IsTold rs) rest.before) rows rest.told);
+            untold = rest.untold;
+            dropped = λ a more e agrees. inl (⊎_elim (carried agrees a) (λ painting. absurd (painting.1.0 below.tips)) (rest.dropped a more e (transport (λ k. IsAgreeing (objects (sym store k)) (sym rows k)) agrees)));
+          }
+        where
+          carried : IsAgreeing (objects w.store) w.rows → (a : Result Info Error) → HasCorruptRow objects d.0 a → HasCorruptRow objects w a
+          carried agrees a c = record {
+            row = c.row;
+            present = subst (λ rs. row_of rs c.row.id ≡ Some c.row) rows c.present;
+            corrupt = c.corrupt;
+            reached = reaches_from (text_walked w) (ids_of d.0.pending) (ids_of w.pending) (below.reached agrees) c.row.id (transport (λ k. Reaches (λ j. by_mode (below.parents k) (text_next (objects (store k)) j)) (ids_of d.0.pending) c.row.id) c.reached);
+            about = c.about;
+          }
+      go (loses store rows untold why) r =
+          record {
+            before = [];
+            behind = answer ∷ list;
+            parts = refl;
+            told = All-from_recursion (IsTold w.rows) [] tt;
+            untold = all_with IsUntold answer list untold (all_untold list d.0 new d.2 rows);
+            dropped = λ a rest e agrees. ⊎_elim (λ c. inl (subst (HasCorruptRow objects w) (let same : answer ≡ a = cc in same) c)) (λ painting. inr (refl, painting)) (why agrees);
+          }
+      go (ends gone failed) r =
+          record {
+            before = answer ∷ [];
+            behind = [];
+            parts = ap (λ xs. answer ∷ xs) (nothing_more list d.0 new d.2 gone);
+            told = all_with (IsTold w.rows) answer [] (failed_told w.rows answer failed) (All-from_recursion (IsTold w.rows) [] tt);
+            untold = All-from_recursion IsUntold [] tt;
+            dropped = λ a rest e agrees. cc;
+          }

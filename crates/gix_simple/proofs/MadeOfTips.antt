@@ -1,0 +1,107 @@
+-- What a walk holds that was just made of some tips.
+use Rattle.std.specs.Prelude.{◌≡◌, ◌⊎◌, ◌≤◌, List, [], filter, Bool, true, false, not, ◌&&◌, ◌||◌, cond, Contains}
+use Rattle.std.proofs.Common.{refl, sym, ap, subst, inl, inr, ⊎_elim, arith, ◌∙◌}
+use Rattle.std.proofs.lemmas.Bool.{false≢true, and_parts}
+use Rattle.std.specs.FinSet as set
+use Rattle.std.proofs.Math.Bool.{or-false}
+use Rattle.gix_hash.specs.declared.ObjectId.{ObjectId}
+use Rattle.gix_hash.specs.Id.{id_cmp, is_among}
+use Rattle.gix_object.specs.Object.{Objects}
+use Rattle.gix_hash.proofs.Ids.Membership.{among_from, among_is, no_member}
+use Rattle.gix_revwalk.specs.declared.Parents.TheVariants as mode
+use Rattle.gix_simple.specs.declared.Sorting.TheVariants as sorting
+use Rattle.gix_simple.specs.Walk.{SimpleWalk, bare, time_order, IsMade}
+use Rattle.gix_revwalk.specs.Ids.{ids_of, AreDistinct, new_ids}
+use Rattle.gix_revwalk.specs.Asking.{Becomes, itself, further, AnswersBy}
+use Rattle.gix_simple.specs.Laws.{IsFresh, IsNewWalk}
+use Rattle.gix_revwalk.proofs.NewIds.{fresh, times_among, times-fresh, among-filter, times_once, among_times}
+use Rattle.gix_simple.proofs.Treated.{Setting, Stands, Did, keep, all_treated}
+
+once_or_never : (b : Bool) → cond b 1 0 ≤ 1
+once_or_never true = omega arith
+once_or_never false = omega arith
+
+-- new ids are distinct
+fresh_once : (s : ObjectId → Bool) (xs : List ObjectId) → AreDistinct (fresh s xs)
+fresh_once s xs = times_once (fresh s xs) (λ i. subst (λ n. n ≤ 1) (sym (times-fresh i s xs)) (once_or_never (not (s i) && is_among i xs)))
+
+-- they are ids of the list
+fresh_among : (i : ObjectId) (s : ObjectId → Bool) (xs : List ObjectId) → Contains (fresh s xs) i → is_among i xs ≡ true
+fresh_among i s xs h = go (not (s i)) (is_among i xs) (subst (λ n. 1 ≤ n) (times-fresh i s xs) (among_times i (fresh s xs) (among_from i (fresh s xs) h)))
+  where
+    go : (a b : Bool) → 1 ≤ cond (a && b) 1 0 → b ≡ true
+    go true true h = refl
+    go true false h = absurd (omega arith)
+    go false b h = absurd (omega arith)
+
+-- all of them, where none is old
+among_fresh : (i : ObjectId) (xs : List ObjectId) → is_among i xs ≡ true → Contains (fresh (λ j. false) xs) i
+among_fresh i xs h = among_is i (fresh (λ j. false) xs) (times_among i (fresh (λ j. false) xs) 0 (times-fresh i (λ j. false) xs ∙ ap (λ b. cond b 1 0) h))
+
+further_on : {P : Type 0} (answers : P → ObjectId → Bool → P → Type 0) {first mid last : P} → Becomes answers first mid → Becomes answers mid last → Becomes answers first last
+further_on answers {first} {mid} {last} h itself = h
+further_on answers {first} {mid} {last} h (further b a) = further (further_on answers h b) a
+
+module _ {F P : Type 0} (objects : F → Objects) (faulty : F → ObjectId → Type 0) (answers : P → ObjectId → Bool → P → Type 0) (store : F) (predicate : P) (accepts : ObjectId → Bool) (tips : List ObjectId) (walk : SimpleWalk F P) (by_test : AnswersBy answers predicate accepts) (made : IsMade objects faulty answers store predicate tips walk) where
+  setting : Setting objects faulty answers
+  setting = record { store = store; predicate = predicate; rows = []; parents = mode.All; sorting = sorting.BreadthFirst; marks = set.empty; accepts = accepts; hidden = λ i. false; starts = tips; by_test = by_test; agreeing = λ row n. absurd (no_member row n) }
+
+  nothing : (i : ObjectId) → set.contains (set.empty {R = id_cmp}) i ≡ true → ⊥
+  nothing i e = false≢true (sym (set.contains-empty id_cmp i) ∙ e)
+
+  stood : Stands objects faulty answers setting (bare store predicate)
+  unfolding setting
+  stood = record { store = refl; parents = refl; sorting = refl; marks = refl; tips = refl; rows = inl refl; asked_of = itself; remembered = λ i e. absurd (nothing i e); timed = λ order some. cc }
+
+  did : Did objects faulty answers setting tips (bare store predicate) walk
+  unfolding setting
+  did = all_treated objects faulty answers setting false made refl stood (λ i n. record { marked = set.contains-empty id_cmp i; rowed = λ e. absurd (false≢true e) })
+
+  keep_is : (i : ObjectId) → keep objects faulty answers setting i ≡ accepts i
+  unfolding setting
+  keep_is i = go (accepts i)
+    where
+      go : (b : Bool) → ((b && true) && true) ≡ b
+      go true = refl
+      go false = refl
+
+  pending : ids_of walk.pending ≡ new_ids (λ i. false) (filter accepts tips)
+  unfolding setting
+  pending = did.pending ∙ (λ j. new_ids (λ i. set.contains-empty id_cmp i j) (filter (λ i. keep_is i j) tips))
+
+  seen : (i : ObjectId) → accepts i ≡ true → set.contains walk.seen i ≡ is_among i tips
+  seen i a = did.seen i (keep_is i ∙ a) ∙ ap (λ b. is_among i tips || b) (set.contains-empty id_cmp i) ∙ or-false (is_among i tips)
+
+  pub pending_is : (i : ObjectId) → Contains (ids_of walk.pending) i → (accepts i ≡ true) × (is_among i tips ≡ true)
+  pending_is i h = and_parts (accepts i) (is_among i tips) (sym (among-filter i accepts tips) ∙ fresh_among i (λ j. false) (filter accepts tips) (subst (λ ids. Contains ids i) pending h))
+
+  is_fresh : IsFresh objects walk accepts
+  unfolding setting
+  is_fresh = record {
+    distinct = subst AreDistinct (sym pending) (fresh_once (λ i. false) (filter accepts tips));
+    pending_seen = λ i h. let p = pending_is i h in seen i p.0 ∙ p.1;
+    seen = λ i h. decided i h (accepts i) refl;
+    remembered = did.rest.remembered;
+    shown = λ i. ap (λ s. set.contains s i) did.rest.marks ∙ set.contains-empty id_cmp i;
+    timed = λ order some. cc (ap (λ m. time_order m walk.sorting) did.rest.parents, ap (time_order mode.All) did.rest.sorting);
+  }
+    where
+      decided : (i : ObjectId) → set.contains walk.seen i ≡ true → (b : Bool) → accepts i ≡ b → Contains (ids_of walk.pending) i ⊎ (accepts i ≡ false)
+      decided i h true a = inl (subst (λ ids. Contains ids i) (sym pending) (among_fresh i (filter accepts tips) (among-filter i accepts tips ∙ ap (λ b. b && is_among i tips) a ∙ sym (seen i a) ∙ h)))
+      decided i h false a = inr a
+
+  pub is_new_walk : IsNewWalk objects answers store accepts tips walk
+  unfolding setting
+  is_new_walk = record {
+    pending = pending;
+    fresh = is_fresh;
+    by_test = λ mid new i answer b a. by_test mid new i answer (further_on answers did.rest.asked_of b) a;
+    same_store = did.rest.store;
+    all_parents = did.rest.parents;
+    breadth_first = did.rest.sorting;
+    rowless = no_rows did.rest.rows;
+    open_to = did.rest.tips;
+  }
+    where
+      no_rows : (walk.rows ≡ []) ⊎ (walk.rows ≡ []) → walk.rows ≡ []
+      no_rows h = ⊎_elim (λ e. e) (λ e. e) h

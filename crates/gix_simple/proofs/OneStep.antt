@@ -1,0 +1,95 @@
+-- One step of a walk whose hidden tips are painted.
+use Rattle.std.specs.Prelude.{◌≡◌, ℕ, ℤ, List, [], ◌++◌, filter, Bool, true, false, ◌||◌, Option, Some, None, Result, Err, Contains}
+use Rattle.std.proofs.Common.{refl, sym, ap, subst, inl, inr, ⊎_elim, ◌∙◌}
+use Rattle.std.proofs.lemmas.Bool.{false≢true}
+use Rattle.std.specs.FinSet as set
+use Rattle.gix_hash.specs.declared.ObjectId.{ObjectId}
+use Rattle.gix_object.specs.declared.decode.Error.{Error as DecodeError}
+use Rattle.gix_hash.specs.Id.{is_among, kind_of}
+use Rattle.gix_object.specs.Object.{Objects}
+use Rattle.gix_object.specs.CommitItems.{commit_items}
+use Rattle.gix_object.specs.CommitText.{read_commit}
+use Rattle.gix_commitgraph.specs.Rows.{GraphRow, row_of}
+use Rattle.gix_revwalk.specs.declared.Info.{Info}
+use Rattle.gix_revwalk.specs.declared.CommitTimeOrder.{CommitTimeOrder}
+use Rattle.gix_simple.specs.declared.Error.{Error}
+use Rattle.gix_simple.specs.declared.Error.TheVariants as error
+use Rattle.gix_revwalk.specs.Commits.{by_mode, time_of, parents_of, parents_in, commit_at, commit_of_object, walked_parents, ReadsWhole}
+use Rattle.gix_revwalk.specs.declared.Pending.{Pending}
+use Rattle.gix_simple.specs.Walk.{SimpleWalk, Treated, GoesOn, time_order, time_if, given_time, unrowed, Concludes, given, broken, store_fails, no_memory, Takes, by_row, by_store, not_found}
+use Rattle.gix_revwalk.specs.Ids.{ids_of}
+use Rattle.gix_revwalk.specs.Texts.{scanned}
+use Rattle.gix_simple.specs.Laws.{kept_parents, IsGiven, IsNoRefusal}
+use Rattle.gix_revwalk.specs.Infos.{IsRowGeneration}
+use Rattle.gix_revwalk.proofs.NewIds.{fresh}
+use Rattle.gix_revwalk.proofs.ReadsWhole.{scan_is, row_parents, parent_has_row, walked_within, no_fault}
+use Rattle.gix_simple.proofs.Treated.{Joins, Joins-refl, Joins-trans, Setting, order_of, limit_of, keep, Stands, Did, all_treated, rows_agree}
+use Rattle.gix_revwalk.proofs.Rows.{kept_either}
+
+module _ {F P : Type 0} (objects : F → Objects) (faulty : F → ObjectId → Type 0) (answers : P → ObjectId → Bool → P → Type 0) where
+  abbrev pub next : Setting objects faulty answers → ObjectId → List ObjectId
+  next s = kept_parents (objects s.store) s.parents s.accepts s.hidden (limit_of objects faulty answers s)
+
+  -- what a step does to a walk from which i was taken
+  pub record Took (s : Setting objects faulty answers) (i : ObjectId) (old : SimpleWalk F P) (answer : Result Info Error) (new : SimpleWalk F P) : Type 0 where
+    pub given_as : IsGiven (objects s.store) s.rows s.parents (order_of objects faulty answers s) answer i
+    pub rest : Stands objects faulty answers s new
+    pub seen : (j : ObjectId) → keep objects faulty answers s j ≡ true → set.contains new.seen j ≡ (is_among j (walked_parents (objects s.store) s.parents i) || set.contains old.seen j)
+    pub pending : Joins (order_of objects faulty answers s) (ids_of new.pending) (ids_of old.pending ++ fresh (set.contains old.seen) (next s i))
+
+  stands_read : (s : Setting objects faulty answers) (w : SimpleWalk F P) (text : List ℕ) (i : ObjectId) → Stands objects faulty answers s w → Stands objects faulty answers s (record w { text = text; text_kind = kind_of i })
+  stands_read s w text i h = record { store = h.store; parents = h.parents; sorting = h.sorting; marks = h.marks; tips = h.tips; rows = h.rows; asked_of = h.asked_of; remembered = h.remembered; timed = h.timed }
+
+  stands_unrowed : (s : Setting objects faulty answers) (w : SimpleWalk F P) (i : ObjectId) → Stands objects faulty answers s w → Stands objects faulty answers s (unrowed w i)
+  stands_unrowed s w i h = record { store = h.store; parents = h.parents; sorting = h.sorting; marks = h.marks; tips = h.tips; rows = ⊎_elim (λ e. ⊎_elim (λ r. inl (e ∙ r)) (λ r. inr (e ∙ r)) h.rows) (λ e. inr e) (kept_either w.rows (row_of w.rows i)); asked_of = h.asked_of; remembered = h.remembered; timed = h.timed }
+
+  concluded : (s : Setting objects faulty answers) (w : SimpleWalk F P) (i : ObjectId) (ps : List ObjectId) (generation : Option ℕ) (time : Option ℤ) (text : List ℕ) (fault : Option DecodeError) (walk : SimpleWalk F P) {how : Treated} {answer : Result Info Error} {new : SimpleWalk F P} →
+      ps ≡ walked_parents (objects s.store) s.parents i → fault ≡ None → IsRowGeneration s.rows i generation → time ≡ time_if (order_of objects faulty answers s) (time_of (objects s.store) i) → (how ≡ GoesOn → Did objects faulty answers s ps w walk) →
+      Concludes objects faulty answers i ps generation time text fault walk how answer new → IsNoRefusal answer → Took s i w answer new
+  concluded s w i ps generation time text fault walk same none row when did (given {info = info} f is) ok =
+      let d : Did objects faulty answers s ps w walk = did refl in
+      record {
+        given_as = record { generation = generation; by_row = row; info_is = record { same_id = is.same_id; same_parents = is.same_parents ∙ same; same_generation = is.same_generation; same_time = is.same_time ∙ when } };
+        rest = stands_read s walk text i d.rest;
+        seen = λ j k. d.seen j k ∙ ap (λ xs. is_among j xs || set.contains w.seen j) same;
+        pending = Joins-trans (order_of objects faulty answers s) _ _ _ d.pending (Joins-refl (order_of objects faulty answers s) _ _ (ap (λ xs. ids_of w.pending ++ fresh (set.contains w.seen) (filter (keep objects faulty answers s) xs)) same));
+      }
+  concluded s w i ps generation time text fault walk same none row when did (broken {e = e} f) ok = cc
+  concluded s w i ps generation time text fault walk same none row when did store_fails ok = absurd (ok.1 refl)
+  concluded s w i ps generation time text fault walk same none row when did no_memory ok = absurd (ok.0 refl)
+
+  row_generation : (s : Setting objects faulty answers) (w : SimpleWalk F P) → Stands objects faulty answers s w → (i : ObjectId) (row : GraphRow) → row_of w.rows i ≡ Some row → row_of s.rows i ≡ Some row
+  row_generation s w h i row e = ⊎_elim (λ r. ap (λ rows. row_of rows i) (sym r) ∙ e) (λ r. let n : None ≡ Some row = ap (λ rows. row_of rows i) (sym r) ∙ e in cc) h.rows
+
+  time_given : (s : Setting objects faulty answers) (w : SimpleWalk F P) → Stands objects faulty answers s w → (p : Pending) → ((order : CommitTimeOrder) → order_of objects faulty answers s ≡ Some order → p.time ≡ time_of (objects s.store) p.id) → given_time w p ≡ time_if (order_of objects faulty answers s) (time_of (objects s.store) p.id)
+  time_given s w h p t = (λ k. time_if (time_order (h.parents k) (h.sorting k)) p.time) ∙ go (order_of objects faulty answers s) refl
+    where
+      go : (o : Option CommitTimeOrder) → order_of objects faulty answers s ≡ o → time_if o p.time ≡ time_if o (time_of (objects s.store) p.id)
+      go None e = refl
+      go (Some order) e = ap Some (t order e)
+
+  pub took_well : (s : Setting objects faulty answers) (w : SimpleWalk F P) → Stands objects faulty answers s w → (p : Pending) →
+      ReadsWhole (objects s.store) p.id → ((i : ObjectId) → Contains (parents_of (objects s.store) p.id) i → set.contains s.marks i ≡ s.hidden i) → ((order : CommitTimeOrder) → order_of objects faulty answers s ≡ Some order → p.time ≡ time_of (objects s.store) p.id) →
+      {answer : Result Info Error} {new : SimpleWalk F P} → Takes objects faulty answers w p answer new → IsNoRefusal answer → Took s p.id w answer new
+  took_well s w h p whole marked timed (by_row {row = row} {ids = ids} {how = how} {walk = walk} r e treats concludes) ok =
+      let is : ids ≡ parents_of (objects s.store) p.id = row_parents (objects s.store) w.rows (rows_agree objects faulty answers s w h) p.id row ids r e in
+      let same : by_mode w.parents ids ≡ walked_parents (objects s.store) s.parents p.id = λ k. by_mode (h.parents k) (is k) in
+      concluded s w p.id (by_mode w.parents ids) (Some row.generation) (given_time w p) [] None walk same refl (row, row_generation s w h p.id row r, refl) (time_given s w h p timed)
+      (λ on. all_treated objects faulty answers s true treats on h (λ i n.
+      let m : Contains (parents_of (objects s.store) p.id) i = subst (λ xs. Contains xs i) is (walked_within w.parents ids i n) in
+      record { marked = marked i m; rowed = λ b. parent_has_row (objects s.store) w.rows (rows_agree objects faulty answers s w h) p.id row i r m }))
+      concludes ok
+  took_well s w h p whole marked timed (by_store {bytes = bytes} {how = how} {walk = walk} u e treats concludes) ok =
+      let reads : read_commit (kind_of p.id) bytes ≡ Some whole.commit = sym (ap (commit_of_object p.id) e) ∙ ap (λ f. commit_at (objects f) p.id) h.store ∙ whole.stored in
+      let scan : scanned w.parents (commit_items (kind_of p.id) bytes) ≡ (by_mode w.parents whole.commit.parents, None) = scan_is (kind_of p.id) bytes whole.commit reads w.parents in
+      let is : whole.commit.parents ≡ parents_of (objects s.store) p.id = sym (ap parents_in whole.stored) in
+      let same : (scanned w.parents (commit_items (kind_of p.id) bytes)).0 ≡ walked_parents (objects s.store) s.parents p.id = ap (λ t. t.0) scan ∙ (λ k. by_mode (h.parents k) (is k)) in
+      let h' : Stands objects faulty answers s (unrowed w p.id) = stands_unrowed s w p.id h in
+      let t : Took s p.id (unrowed w p.id) _ _ =
+      concluded s (unrowed w p.id) p.id _ None (given_time w p) bytes _ walk same (ap (λ t. t.1) scan) tt (time_given s w h p timed)
+      (λ on. all_treated objects faulty answers s false treats on h' (λ i n.
+      record { marked = marked i (walked_within s.parents _ i (subst (λ xs. Contains xs i) same n)); rowed = λ b. absurd (false≢true b) }))
+      concludes ok in
+      record { given_as = t.given_as; rest = t.rest; seen = t.seen; pending = t.pending }
+  took_well s w h p whole marked timed (not_found {e = e} u fault) ok = absurd (ok.1 (ap (λ x. Err (error.Find x)) (no_fault (objects w.store) (faulty w.store) p.id whole.commit e (ap (λ f. commit_at (objects f) p.id) h.store ∙ whole.stored) fault)))
+  took_well s w h p whole marked timed (no_memory left) ok = absurd (ok.0 refl)

@@ -1,0 +1,217 @@
+-- The first step, which paints; and the theorem over a whole walk.
+use Rattle.std.specs.Prelude.{◌≡◌, ◌≢◌, ◌⊎◌, ◌≤◌, ℕ, ℤ, List, [], ◌∷◌, ◌++◌, filter, length, take, slice_get, Bool, true, false, not, ◌&&◌, ◌||◌, cond, Option, Some, None, Result, Err, Contains, All}
+use Rattle.std.proofs.Common.{refl, sym, ap, subst, inl, inr, ⊎_elim, ◌∙◌, append-nil}
+use Rattle.std.proofs.lemmas.List.Elements.{All-head}
+use Rattle.std.proofs.lemmas.Bool.{false≢true, true≢false, false_from_ne_true, and_from, and_parts, not-true}
+use Rattle.std.specs.FinSet as set
+use Rattle.std.specs.Iterator.{Drains}
+use Rattle.gix_hash.specs.declared.ObjectId.{ObjectId}
+use Rattle.gix_hash.specs.Id.{id_cmp, is_same, is_among, kind_of}
+use Rattle.gix_object.specs.Object.{Objects}
+use Rattle.gix_commitgraph.specs.Rows.{GraphRow}
+use Rattle.gix_revwalk.specs.declared.Info.{Info}
+use Rattle.gix_revwalk.specs.declared.CommitTimeOrder.{CommitTimeOrder}
+use Rattle.gix_simple.specs.declared.Error.{Error}
+use Rattle.gix_simple.specs.declared.Error.TheVariants as error
+use Rattle.gix_paint.specs.declared.Hidden.{Hidden}
+use Rattle.gix_paint.specs.declared.Hidden.TheVariants as hidden_by
+use Rattle.gix_paint.specs.Painting.{IsHistory, IsHiddenFault, Paints}
+use Rattle.gix_hash.specs.Reach.{IsAtBoundary, Reaches, start, step, Tells}
+use Rattle.gix_revwalk.specs.Agreeing.{IsAgreeing}
+use Rattle.gix_revwalk.specs.Commits.{time_of, parents_of, commit_of_object, walked_parents, ReadsWhole}
+use Rattle.gix_revwalk.specs.declared.Pending.{Pending}
+use Rattle.gix_simple.specs.Walk.{SimpleWalk, time_order, cutoff, Steps, painted, Next, unhidden, paints, faulty_history, no_memory}
+use Rattle.gix_revwalk.specs.Ids.{ids_of, AreDistinct}
+use Rattle.gix_revwalk.specs.Asking.{itself, AnswersBy}
+use Rattle.gix_simple.specs.Laws.{IsFresh, IsNoRefusal, IsInOrder, MeetsWhole, GivesInOrder, starts_of, next_of, is_kept}
+use Rattle.gix_object.specs.CommitItems.{commit_items}
+use Rattle.gix_revwalk.proofs.Drained.{at_end, at_first}
+use Rattle.gix_revwalk.proofs.Committer.{fault_unread}
+use Rattle.gix_paint.proofs.Invariant.{own_history}
+use Rattle.gix_hash.proofs.Ids.Membership.{same_is, among_from, among_is, Contains-here, Contains-there, no_member}
+use Rattle.gix_revwalk.proofs.NewIds.{fresh, times, times-fresh, among-filter}
+use Rattle.gix_simple.proofs.Treated.{Setting, Stands}
+use Rattle.gix_simple.proofs.OneStep.{next}
+use Rattle.gix_simple.proofs.PendingIs.{IsQueue, IsNextOne}
+use Rattle.gix_simple.proofs.WholeWalk.{Known, Runs, RunOf, run}
+use Rattle.gix_revwalk.proofs.ReadsWhole.{walked_within, no_fault}
+use Rattle.gix_hash.proofs.Lists.{filter_within}
+
+Contains-filter : (p : ObjectId → Bool) (xs : List ObjectId) (i : ObjectId) → Contains (filter p xs) i → Contains xs i × (p i ≡ true)
+Contains-filter p xs i h =
+    let e : (p i ≡ true) × (is_among i xs ≡ true) = and_parts (p i) (is_among i xs) (sym (among-filter i p xs) ∙ among_from i _ h) in
+    (among_is i xs e.1, e.0)
+
+distinct-filter : (p : ObjectId → Bool) (xs : List ObjectId) → AreDistinct xs → AreDistinct (filter p xs)
+distinct-filter p [] d = tt
+distinct-filter p (x ∷ xs) d = go (p x) (distinct-filter p xs d.1)
+  where
+    go : (b : Bool) → AreDistinct (filter p xs) → AreDistinct (cond b (x ∷ filter p xs) (filter p xs))
+    go true r = (λ c. d.0 (Contains-filter p xs x c).0, r)
+    go false r = r
+
+-- distinct ids that aren't old are all new
+fresh_distinct : (old : ObjectId → Bool) (xs : List ObjectId) → AreDistinct xs → ((i : ObjectId) → Contains xs i → old i ≡ false) → xs ≡ fresh old xs
+fresh_distinct old [] d h = refl
+fresh_distinct old (x ∷ xs) d h =
+    ap (λ ys. x ∷ ys) (fresh_distinct (λ j. is_same j x || old j) xs d.1 (λ i c. Rattle.std.proofs.lemmas.Bool.or_from (is_same i x) (old i) (false_from_ne_true _ (λ e. d.0 (subst (λ y. Contains xs y) (same_is i x e) c))) (h i (Contains-there i x xs c))))
+    ∙ ap (λ b. cond b (fresh old xs) (x ∷ fresh (λ j. is_same j x || old j) xs)) (sym (h x (Contains-here x xs)))
+
+queue_starts : (o : Option CommitTimeOrder) (starts : List ObjectId) → AreDistinct starts → IsQueue o (starts ++ []) [] starts
+queue_starts None starts d = fresh_distinct (λ j. false) starts d (λ i c. refl) ∙ ap (fresh (λ j. false)) (sym (append-nil starts))
+queue_starts (Some order) starts d = λ j. ap (times j) (fresh_distinct (λ k. false) starts d (λ i c. refl) ∙ ap (fresh (λ k. false)) (sym (append-nil starts))) ∙ times-fresh j (λ k. false) (starts ++ []) ∙ padded (is_among j (starts ++ []))
+  where
+    padded : (b : Bool) → ◌≡◌ {A = ℕ} (cond (not false && b) 1 0) (cond (b && not false) 1 0)
+    padded true = refl
+    padded false = refl
+
+nothing_reached : (next : ObjectId → List ObjectId) (starts : List ObjectId) → ((i : ObjectId) → Contains starts i → ⊥) → (i : ObjectId) → Reaches next starts i → ⊥
+nothing_reached next starts none i (start s) = none i s
+nothing_reached next starts none i (step {c = c} r n) = nothing_reached next starts none c r
+
+ids-filter : (p q : ObjectId → Bool) (ps : List Pending) → ((i : ObjectId) → Contains (ids_of ps) i → p i ≡ q i) → ids_of (filter (λ x. not (p x.id)) ps) ≡ filter (λ i. not (q i)) (ids_of ps)
+ids-filter p q [] h = refl
+ids-filter p q (x ∷ ps) h = go (q x.id) (h x.id (Contains-here x.id (ids_of ps))) (ids-filter p q ps (λ i c. h i (Contains-there i x.id (ids_of ps) c)))
+  where
+    go : (b : Bool) → p x.id ≡ b → ids_of (filter (λ x. not (p x.id)) ps) ≡ filter (λ i. not (q i)) (ids_of ps) → ids_of (cond (not (p x.id)) (x ∷ filter (λ x. not (p x.id)) ps) (filter (λ x. not (p x.id)) ps)) ≡ cond (not b) (x.id ∷ filter (λ i. not (q i)) (ids_of ps)) (filter (λ i. not (q i)) (ids_of ps))
+    go true e r = ap (λ b. ids_of (cond (not b) (x ∷ filter (λ x. not (p x.id)) ps) (filter (λ x. not (p x.id)) ps))) e ∙ r
+    go false e r = ap (λ b. ids_of (cond (not b) (x ∷ filter (λ x. not (p x.id)) ps) (filter (λ x. not (p x.id)) ps))) e ∙ ap (λ ys. x.id ∷ ys) r
+
+in_order_from : (o : Option CommitTimeOrder) (time : ObjectId → ℤ) (next : ObjectId → List ObjectId) (starts ids : List ObjectId) → ((k : ℕ) → k ≤ length ids → IsNextOne o time next starts (take k ids) (slice_get ids k)) → IsInOrder o time next starts ids
+in_order_from None time next starts ids h = h
+in_order_from (Some order) time next starts ids h = h
+
+module _ {F P : Type 0} (objects : F → Objects) (faulty : F → ObjectId → Type 0) (answers : P → ObjectId → Bool → P → Type 0) (w : SimpleWalk F P) (accepts hides : ObjectId → Bool)
+    (by_test : AnswersBy answers w.predicate accepts) (is_fresh : IsFresh objects w accepts) (tells : Tells hides (Reaches (parents_of (objects w.store)) w.hidden_tips))
+    (meets : MeetsWhole objects faulty w accepts hides) (agreeing : IsAgreeing (objects w.store) w.rows) where
+  abbrev setting : set.FinSet id_cmp → Setting objects faulty answers
+  setting marks = record { store = w.store; predicate = w.predicate; rows = w.rows; parents = w.parents; sorting = w.sorting; marks = marks; accepts = accepts; hidden = hides; starts = starts_of w hides; by_test = by_test; agreeing = agreeing }
+
+  own : IsHistory (objects w.store) w.rows (objects w.store)
+  own = own_history (objects w.store) (faulty w.store) w.rows agreeing
+
+  abbrev next_ids : ObjectId → List ObjectId
+  next_ids = next_of objects w accepts hides
+
+  -- what the pending tips reach, and not what is hidden
+  outside : (c : ObjectId) → Reaches next_ids (starts_of w hides) c → Reaches (parents_of (objects w.store)) (ids_of w.pending) c × (hides c ≡ false)
+  outside c (start s) = let h : Contains (ids_of w.pending) c × (not (hides c) ≡ true) = Contains-filter (λ i. not (hides i)) (ids_of w.pending) c s in (start h.0, not-true _ h.1)
+  outside c (step {c = d} r n) =
+      let h : Contains (walked_parents (objects w.store) w.parents d) c × (is_kept (objects w.store) accepts hides (cutoff w.parents w.sorting) c ≡ true) = Contains-filter _ (walked_parents (objects w.store) w.parents d) c n in
+      (step (outside d r).0 (walked_within w.parents _ c h.0), not-true _ (and_parts _ _ (and_parts _ _ h.1).0).1)
+
+  not_hidden : (c : ObjectId) → hides c ≡ false → Reaches (parents_of (objects w.store)) w.hidden_tips c → ⊥
+  not_hidden c e r = true≢false (sym ((tells c).1 r) ∙ e)
+
+  record Begins (o : Option (Result Info Error)) (new : SimpleWalk F P) : Type 0 where
+    marks : set.FinSet id_cmp
+    mid : SimpleWalk F P
+    known : Known objects faulty answers (setting marks)
+    runs : Runs objects faulty answers (setting marks) mid []
+    steps : Steps objects faulty answers mid o new
+
+  seen_starts : (i : ObjectId) → is_kept (objects w.store) accepts hides (cutoff w.parents w.sorting) i ≡ true → set.contains w.seen i ≡ is_among i (starts_of w hides ++ [])
+  seen_starts i k = rw append-nil (go (set.contains w.seen i) refl (is_among i (starts_of w hides)) refl)
+    where
+      parts : (accepts i ≡ true) × (not (hides i) ≡ true)
+      parts = and_parts _ _ (and_parts _ _ k).0
+
+      from_seen : set.contains w.seen i ≡ true → is_among i (starts_of w hides) ≡ true
+      from_seen e = ⊎_elim (λ t. among-filter i (λ j. not (hides j)) (ids_of w.pending) ∙ and_from _ _ parts.1 (among_from i _ t)) (λ r. absurd (true≢false (sym parts.0 ∙ r))) (is_fresh.seen i e)
+
+      from_starts : is_among i (starts_of w hides) ≡ true → set.contains w.seen i ≡ true
+      from_starts e = is_fresh.pending_seen i (Contains-filter (λ j. not (hides j)) (ids_of w.pending) i (among_is i _ e)).0
+
+      go : (a : Bool) → set.contains w.seen i ≡ a → (b : Bool) → is_among i (starts_of w hides) ≡ b → set.contains w.seen i ≡ is_among i (starts_of w hides)
+      go true e b f = e ∙ sym (from_seen e)
+      go false e true f = from_starts f ∙ sym f
+      go false e false f = e ∙ sym f
+
+  begun : (marks : set.FinSet id_cmp) (mid : SimpleWalk F P) → Stands objects faulty answers (setting marks) mid → mid.seen ≡ w.seen → ids_of mid.pending ≡ starts_of w hides → Runs objects faulty answers (setting marks) mid []
+  begun marks mid stands same_seen same_pending = record {
+    rest = stands;
+    seen = λ i k. ap (λ x. set.contains x i) same_seen ∙ seen_starts i k;
+    queue = subst (IsQueue (time_order w.parents w.sorting) (starts_of w hides ++ []) []) (sym same_pending) (queue_starts (time_order w.parents w.sorting) (starts_of w hides) (distinct-filter _ (ids_of w.pending) is_fresh.distinct));
+    reached = λ c m. absurd (no_member c m);
+    within = λ c e. absurd (false≢true e);
+  }
+
+  keeps_all : (xs : List ObjectId) → ((i : ObjectId) → Contains xs i → hides i ≡ false) → xs ≡ filter (λ i. not (hides i)) xs
+  keeps_all [] h = refl
+  keeps_all (x ∷ xs) h = ap (λ ys. x ∷ ys) (keeps_all xs (λ i c. h i (Contains-there i x xs c))) ∙ ap (λ b. cond (not b) (x ∷ filter (λ i. not (hides i)) xs) (filter (λ i. not (hides i)) xs)) (sym (h x (Contains-here x xs)))
+
+  -- nothing is painted
+  plain : (w.pending ≡ []) ⊎ (w.hidden_tips ≡ []) → {o : Option (Result Info Error)} {new : SimpleWalk F P} → Steps objects faulty answers (record w { hidden_tips = [] }) o new → Begins o new
+  plain none steps = record {
+    marks = w.hidden;
+    mid = record w { hidden_tips = [] };
+    known = record { whole = meets.given; marked = λ c i r n. is_fresh.shown i ∙ sym (⊎_elim (λ e. absurd (nothing_reached next_ids (starts_of w hides) (λ j m. no_tip e j (Contains-filter _ (ids_of w.pending) j m).0) c r)) (λ e. shown e i) none) };
+    runs = begun w.hidden (record w { hidden_tips = [] })
+        (record { store = refl; parents = refl; sorting = refl; marks = refl; tips = refl; rows = inl refl; asked_of = itself; remembered = is_fresh.remembered; timed = is_fresh.timed })
+        refl (keeps_all (ids_of w.pending) (λ i c. ⊎_elim (λ e. absurd (no_tip e i c)) (λ e. shown e i) none));
+    steps = steps;
+  }
+    where
+      no_tip : w.pending ≡ [] → (i : ObjectId) → Contains (ids_of w.pending) i → ⊥
+      no_tip e i c = no_member i (subst (λ ps. Contains (ids_of ps) i) e c)
+
+      shown : w.hidden_tips ≡ [] → (i : ObjectId) → hides i ≡ false
+      shown e i = false_from_ne_true _ (λ h. nothing_reached (parents_of (objects w.store)) w.hidden_tips (λ j m. no_member j (subst (λ xs. Contains xs j) e m)) i ((tells i).0 h))
+
+  -- the hidden tips are painted
+  painting : (marks : set.FinSet id_cmp) (rows : List GraphRow) → Paints (objects w.store) w.rows (ids_of w.pending) w.hidden_tips marks rows → {o : Option (Result Info Error)} {new : SimpleWalk F P} → Steps objects faulty answers (painted objects faulty answers w marks rows) o new → Begins o new
+  painting marks rows paint steps = record {
+    marks = marks;
+    mid = painted objects faulty answers w marks rows;
+    known = record { whole = meets.given; marked = λ c i r n. exact i (inr (c, (outside c r).0, not_hidden c (outside c r).1, n)) };
+    runs = begun marks (painted objects faulty answers w marks rows)
+        (record {
+          store = refl;
+          parents = refl;
+          sorting = refl;
+          marks = refl;
+          tips = refl;
+          rows = paint.rows_left;
+          asked_of = itself;
+          remembered = is_fresh.remembered;
+          timed = λ order e p m. is_fresh.timed order e p (filter_within _ w.pending p m);
+        })
+        refl (ids-filter (set.contains marks) hides w.pending (λ i c. exact i (inl c)));
+    steps = steps;
+  }
+    where
+      exact : (i : ObjectId) → IsAtBoundary (parents_of (objects w.store)) (ids_of w.pending) w.hidden_tips i → set.contains marks i ≡ hides i
+      exact i at = go (set.contains marks i) refl (hides i) refl
+        where
+          go : (a : Bool) → set.contains marks i ≡ a → (b : Bool) → hides i ≡ b → set.contains marks i ≡ hides i
+          go true e b f = e ∙ sym ((tells i).1 ((paint.marked (objects w.store) own).sound i e))
+          go false e true f = (paint.marked (objects w.store) own).whole i at ((tells i).0 f) ∙ sym f
+          go false e false f = e ∙ sym f
+
+  no_hidden_fault : w.pending ≢ [] → w.hidden_tips ≢ [] → (why : Hidden) → IsNoRefusal (Err (error.HiddenGraph why)) → IsHiddenFault (objects w.store) (faulty w.store) w.rows (ids_of w.pending) w.hidden_tips why → ⊥
+  no_hidden_fault some hidden (hidden_by.Find e) ok fault =
+      let whole : ReadsWhole (objects w.store) fault.id = meets.painted some hidden fault.id (fault.reached (objects w.store) own) in
+      ok.2 (ap (λ x. Err (error.HiddenGraph (hidden_by.Find x))) (no_fault (objects w.store) (faulty w.store) fault.id whole.commit e whole.stored fault.fault))
+  no_hidden_fault some hidden (hidden_by.ObjectDecode e) ok fault =
+      let whole : ReadsWhole (objects w.store) fault.id = meets.painted some hidden fault.id (fault.reached (objects w.store) own) in
+      let n : None ≡ Some whole.commit = sym (ap (commit_of_object fault.id) fault.fault.1 ∙ fault_unread (commit_items (kind_of fault.id) fault.fault.0) e fault.fault.2) ∙ whole.stored in cc
+
+  begins : {o : Option (Result Info Error)} {new : SimpleWalk F P} → ((answer : Result Info Error) → o ≡ Some answer → IsNoRefusal answer) → Next objects faulty answers w o new → Begins o new
+  begins ok (unhidden none steps) = plain none steps
+  begins ok (paints {marks = marks} {rows = rows} some hidden paint steps) = painting marks rows paint steps
+  begins ok (faulty_history {why = why} some hidden left fault) = absurd (no_hidden_fault some hidden why (ok (Err (error.HiddenGraph why)) refl) fault)
+  begins ok (no_memory some hidden left) = absurd ((ok (Err error.Memory) refl).0 refl)
+
+  ran : (marks : set.FinSet id_cmp) (list : List (Result Info Error)) → RunOf objects faulty answers (setting marks) [] list → GivesInOrder objects w accepts hides list
+  ran marks list r = record { ids = r.ids; given = r.given_as; in_order = in_order_from (time_order w.parents w.sorting) (time_of (objects w.store)) next_ids (starts_of w hides) r.ids r.order }
+
+  -- the theorem
+  pub gives_in_order : (list : List (Result Info Error)) → All IsNoRefusal list → Drains (Next objects faulty answers) w list → GivesInOrder objects w accepts hides list
+  gives_in_order [] ok drawn =
+      let end = at_end (Next objects faulty answers) w drawn in
+      let b : Begins None end.0 = begins (λ a e. cc) end.1 in
+      ran b.marks [] (run objects faulty answers (setting b.marks) b.known [] b.mid [] b.runs ok (end.0, b.steps))
+  gives_in_order (answer ∷ left) ok drawn =
+      let first = at_first (Next objects faulty answers) w answer left drawn in
+      let b : Begins (Some answer) first.0 = begins (λ a e. let same : answer ≡ a = cc in subst IsNoRefusal same (All-head IsNoRefusal answer left ok)) first.1 in
+      ran b.marks (answer ∷ left) (run objects faulty answers (setting b.marks) b.known (answer ∷ left) b.mid [] b.runs ok (first.0, b.steps, first.2))

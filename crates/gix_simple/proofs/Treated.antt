@@ -1,0 +1,266 @@
+-- The parents of a commit, treated in order: what becomes pending and seen.
+use Rattle.std.specs.Prelude.{◌≡◌, ◌⊎◌, ◌+◌, ℤ, pos, List, [], ◌∷◌, ◌++◌, filter, Bool, true, false, not, ◌&&◌, ◌||◌, cond, Option, Some, None, Ok, Contains, IsPermutation}
+use Rattle.std.proofs.Common.{refl, sym, ap, subst, ⊎_elim, ◌∙◌, append_assoc, append-nil}
+use Rattle.std.proofs.lemmas.List.{map-append}
+use Rattle.std.proofs.lemmas.List.Sorted.{IsPermutation-map, Contains-permutation, IsPermutation-sym}
+use Rattle.std.proofs.lemmas.List.Elements.{filter-append, Contains-append_cases}
+use Rattle.std.proofs.lemmas.Bool.{false≢true, false_from_ne_true, and_left, and_right, and_parts, not_from_true}
+use Rattle.std.specs.FinSet as set
+use Rattle.gix_hash.specs.declared.ObjectId.{ObjectId}
+use Rattle.gix_hash.specs.Id.{id_cmp, is_same, is_among}
+use Rattle.gix_object.specs.Object.{Objects}
+use Rattle.gix_commitgraph.specs.Rows.{GraphRow, row_of}
+use Rattle.gix_revwalk.specs.declared.Parents.{Parents}
+use Rattle.gix_revwalk.specs.declared.Parents.TheVariants as mode
+use Rattle.gix_revwalk.specs.declared.CommitTimeOrder.{CommitTimeOrder}
+use Rattle.gix_simple.specs.declared.Sorting.{Sorting}
+use Rattle.gix_simple.specs.declared.Sorting.TheVariants as sorting
+use Rattle.gix_revwalk.specs.Agreeing.{IsAgreeing}
+use Rattle.gix_revwalk.specs.Commits.{time_of}
+use Rattle.gix_revwalk.specs.declared.Pending.{Pending}
+use Rattle.gix_simple.specs.Walk.{SimpleWalk, Treated, GoesOn, Holds, time_order, cutoff, is_older, row_time, Asks, remembers, asks, asked as asked_walk, ReadsTime, unasked, from_row, from_store, Enqueues, dropped, enqueued, Treats, hidden, known, refused, accepted, TreatsAll, none, more, stops}
+use Rattle.gix_revwalk.specs.Ids.{ids_of}
+use Rattle.gix_revwalk.specs.Asking.{Becomes, further, AnswersBy}
+use Rattle.gix_simple.specs.Laws.{is_kept}
+use Rattle.gix_hash.proofs.Ids.Membership.{id_total, same_is, among-one, Contains-here, Contains-there, no_member}
+use Rattle.gix_revwalk.proofs.NewIds.{fresh, fresh_agree, fresh-append, times, times-append, times_moved, among-filter}
+use Rattle.gix_revwalk.proofs.ReadsWhole.{row_says_time}
+use Rattle.gix_hash.proofs.Lists.{only_member}
+
+-- the lists are one; or they have each id as often, where an order by time is in force
+abbrev pub Joins : Option CommitTimeOrder → List ObjectId → List ObjectId → Type 0
+Joins None xs ys = xs ≡ ys
+Joins (Some order) xs ys = (i : ObjectId) → times i xs ≡ times i ys
+
+pub Joins-refl : (o : Option CommitTimeOrder) (xs ys : List ObjectId) → xs ≡ ys → Joins o xs ys
+Joins-refl None xs ys e = e
+Joins-refl (Some order) xs ys e = λ i. ap (times i) e
+
+pub Joins-trans : (o : Option CommitTimeOrder) (xs ys zs : List ObjectId) → Joins o xs ys → Joins o ys zs → Joins o xs zs
+Joins-trans None xs ys zs p q = p ∙ q
+Joins-trans (Some order) xs ys zs p q = λ i. p i ∙ q i
+
+pub Joins-append : (o : Option CommitTimeOrder) (xs ys zs : List ObjectId) → Joins o xs ys → Joins o (xs ++ zs) (ys ++ zs)
+Joins-append None xs ys zs p = ap (λ ws. ws ++ zs) p
+Joins-append (Some order) xs ys zs p = λ i. times-append i xs zs ∙ ap (λ n. n + times i zs) (p i) ∙ sym (times-append i ys zs)
+
+-- pending commits in another order
+pub times-permutation : (i : ObjectId) (ps qs : List Pending) → IsPermutation ps qs → times i (ids_of qs) ≡ times i (ids_of ps)
+times-permutation i ps qs h = times_moved i (ids_of ps) (ids_of qs) (IsPermutation-map (λ p. p.id) ps qs h)
+
+Joins-holds : (o : Option CommitTimeOrder) (old new : List Pending) (p : Pending) → Holds o (old ++ p ∷ []) new → Joins o (ids_of new) (ids_of old ++ p.id ∷ [])
+Joins-holds None old new p e = ap ids_of e ∙ map-append (λ q. q.id) old (p ∷ [])
+Joins-holds (Some order) old new p h = λ i. times-permutation i (old ++ p ∷ []) new h ∙ ap (times i) (map-append (λ q. q.id) old (p ∷ []))
+
+pub Contains-holds : (o : Option CommitTimeOrder) (old new : List Pending) → Holds o old new → (p : Pending) → Contains new p → Contains old p
+Contains-holds None old new e p h = subst (λ ps. Contains ps p) e h
+Contains-holds (Some order) old new k p h = Contains-permutation new old p (IsPermutation-sym old new k) h
+
+-- where no order by time is in force, there is no cutoff either
+pub no_cutoff : (m : Parents) (s : Sorting) → time_order m s ≡ None → cutoff m s ≡ None
+no_cutoff mode.First s e = refl
+no_cutoff mode.All sorting.BreadthFirst e = refl
+no_cutoff mode.All (sorting.ByCommitTime order) e = cc
+no_cutoff mode.All (sorting.ByCommitTimeCutoff order seconds) e = cc
+
+module _ {F P : Type 0} (objects : F → Objects) (faulty : F → ObjectId → Type 0) (answers : P → ObjectId → Bool → P → Type 0) where
+  -- what a walk was given, and what holds of it
+  pub record Setting : Type 0 where
+    pub store : F
+    pub predicate : P
+    pub rows : List GraphRow
+    pub parents : Parents
+    pub sorting : Sorting
+    pub marks : set.FinSet id_cmp
+    pub accepts : ObjectId → Bool
+    pub hidden : ObjectId → Bool
+    pub starts : List ObjectId
+    pub by_test : AnswersBy answers predicate accepts
+    pub agreeing : IsAgreeing (objects store) rows
+
+  abbrev pub order_of : Setting → Option CommitTimeOrder
+  order_of s = time_order s.parents s.sorting
+
+  abbrev pub limit_of : Setting → Option ℤ
+  limit_of s = cutoff s.parents s.sorting
+
+  abbrev pub keep : Setting → ObjectId → Bool
+  keep s i = is_kept (objects s.store) s.accepts s.hidden (limit_of s) i
+
+  -- what holds of a walk at any moment
+  pub record Stands (s : Setting) (w : SimpleWalk F P) : Type 0 where
+    pub store : w.store ≡ s.store
+    pub parents : w.parents ≡ s.parents
+    pub sorting : w.sorting ≡ s.sorting
+    pub marks : w.hidden ≡ s.marks
+    pub tips : w.hidden_tips ≡ []
+    pub rows : (w.rows ≡ s.rows) ⊎ (w.rows ≡ [])
+    pub asked_of : Becomes answers s.predicate w.predicate
+    pub remembered : (i : ObjectId) → set.contains w.remembered i ≡ true → s.accepts i ≡ true
+    pub timed : (order : CommitTimeOrder) → order_of s ≡ Some order → (p : Pending) → Contains w.pending p → p.time ≡ time_of (objects s.store) p.id
+
+  -- what the treatment of parents does
+  pub record Did (s : Setting) (ids : List ObjectId) (old new : SimpleWalk F P) : Type 0 where
+    pub rest : Stands s new
+    pub same_rows : new.rows ≡ old.rows
+    pub seen : (i : ObjectId) → keep s i ≡ true → set.contains new.seen i ≡ (is_among i ids || set.contains old.seen i)
+    pub pending : Joins (order_of s) (ids_of new.pending) (ids_of old.pending ++ fresh (set.contains old.seen) (filter (keep s) ids))
+
+  -- what is known of an id before it is treated
+  pub record IsReady (s : Setting) (old : SimpleWalk F P) (by_row : Bool) (i : ObjectId) : Type 0 where
+    pub marked : set.contains s.marks i ≡ s.hidden i
+    pub rowed : by_row ≡ true → (row : GraphRow) × (row_of old.rows i ≡ Some row)
+
+  asked_test : (s : Setting) (w : SimpleWalk F P) → Stands s w → (i : ObjectId) {b : Bool} {q : P} → Asks objects faulty answers w i b q → (b ≡ s.accepts i) × Becomes answers s.predicate q
+  asked_test s w h i (remembers e) = (sym (h.remembered i e), h.asked_of)
+  asked_test s w h i (asks {answer = b} {predicate = q} e a) = (s.by_test w.predicate q i b h.asked_of a, further h.asked_of a)
+
+  insert_seen : (old : set.FinSet id_cmp) (i j : ObjectId) → set.contains (set.insert old i) j ≡ (is_same j i || set.contains old j)
+  insert_seen old i j = set.contains-insert id_total old i j
+
+  -- an id that isn't kept adds nothing
+  passed_over : (s : Setting) (i : ObjectId) (xs : List ObjectId) (old : ObjectId → Bool) → keep s i ≡ false → Joins (order_of s) xs (xs ++ fresh old (filter (keep s) (i ∷ [])))
+  passed_over s i xs old e = Joins-refl (order_of s) _ _ (sym (ap (λ b. xs ++ fresh old (cond b (i ∷ []) [])) e ∙ append-nil xs))
+
+  already : (s : Setting) (i : ObjectId) (xs : List ObjectId) (old : ObjectId → Bool) → old i ≡ true → Joins (order_of s) xs (xs ++ fresh old (filter (keep s) (i ∷ [])))
+  already s i xs old e = Joins-refl (order_of s) _ _ (sym (go (keep s i)))
+    where
+      go : (b : Bool) → xs ++ fresh old (cond b (i ∷ []) []) ≡ xs
+      go true = ap (λ b. xs ++ cond b [] (i ∷ [])) e ∙ append-nil xs
+      go false = append-nil xs
+
+  added : (s : Setting) (i : ObjectId) (xs : List ObjectId) (old : ObjectId → Bool) → keep s i ≡ true → old i ≡ false → xs ++ i ∷ [] ≡ xs ++ fresh old (filter (keep s) (i ∷ []))
+  added s i xs old k e = sym (ap (λ b. xs ++ fresh old (cond b (i ∷ []) [])) k ∙ ap (λ b. xs ++ cond b [] (i ∷ [])) e)
+
+  not_same : (s : Setting) (i j : ObjectId) → keep s i ≡ false → keep s j ≡ true → is_same j i ≡ false
+  not_same s i j e k = false_from_ne_true _ (λ t. false≢true (sym e ∙ sym (ap (keep s) (same_is j i t)) ∙ k))
+
+  seen_once : (i j : ObjectId) (old : ObjectId → Bool) → old i ≡ true → old j ≡ (is_same j i || old j)
+  seen_once i j old e = go (is_same j i) refl
+    where
+      go : (b : Bool) → is_same j i ≡ b → old j ≡ (b || old j)
+      go true t = ap old (same_is j i t) ∙ e
+      go false t = refl
+
+  seen_still : (i j : ObjectId) (old : ObjectId → Bool) → is_same j i ≡ false → old j ≡ (is_same j i || old j)
+  seen_still i j old e = sym (ap (λ b. b || old j) e)
+
+  -- the rows that are left agree
+  pub rows_agree : (s : Setting) (w : SimpleWalk F P) → Stands s w → IsAgreeing (objects s.store) w.rows
+  rows_agree s w h = ⊎_elim (λ e. subst (λ rows. IsAgreeing (objects s.store) rows) (sym e) s.agreeing) (λ e. subst (λ rows. IsAgreeing (objects s.store) rows) (sym e) (λ row n. absurd (no_member row n))) h.rows
+
+  older_alike : (s : Setting) (w : SimpleWalk F P) → Stands s w → (by_row : Bool) (i : ObjectId) (time : ℤ) → (by_row ≡ true → (row : GraphRow) × (row_of w.rows i ≡ Some row)) → ReadsTime objects faulty answers w by_row i (Ok time) → ((order : CommitTimeOrder) → order_of s ≡ Some order → time ≡ time_of (objects s.store) i) × (is_older time (limit_of s) ≡ is_older (time_of (objects s.store) i) (limit_of s))
+  older_alike s w h by_row i time rowed (unasked e) =
+      let none : order_of s ≡ None = (λ k. time_order (sym h.parents k) (sym h.sorting k)) ∙ e in
+      (λ order some. cc, ap (is_older (pos 0)) (no_cutoff s.parents s.sorting none) ∙ sym (ap (is_older (time_of (objects s.store) i)) (no_cutoff s.parents s.sorting none)))
+  older_alike s w h by_row i time rowed (from_row e b) =
+      let r : (row : GraphRow) × (row_of w.rows i ≡ Some row) = rowed b in
+      let t : row_time (row_of w.rows i) ≡ time_of (objects s.store) i = ap row_time r.1 ∙ row_says_time (objects s.store) w.rows (rows_agree s w h) i r.0 r.1 in
+      (λ order some. t, ap (λ n. is_older n (limit_of s)) t)
+  older_alike s w h by_row i time rowed (from_store e b) =
+      let t : time_of (objects w.store) i ≡ time_of (objects s.store) i = ap (λ f. time_of (objects f) i) h.store in
+      (λ order some. t, ap (λ n. is_older n (limit_of s)) t)
+
+  stands_asked : (s : Setting) (w : SimpleWalk F P) → Stands s w → (i : ObjectId) (q : P) (ps : List Pending) → Becomes answers s.predicate q → ((order : CommitTimeOrder) → order_of s ≡ Some order → (p : Pending) → Contains ps p → p.time ≡ time_of (objects s.store) p.id) → Stands s (asked_walk objects faulty answers w i q ps)
+  stands_asked s w h i q ps becomes timed = record {
+    store = h.store;
+    parents = h.parents;
+    sorting = h.sorting;
+    marks = h.marks;
+    tips = h.tips;
+    rows = h.rows;
+    asked_of = becomes;
+    remembered = λ j e. h.remembered j (and_parts (not (is_same j i)) (set.contains w.remembered j) (sym (set.contains-remove id_total w.remembered i j) ∙ e)).1;
+    timed = timed;
+  }
+
+  timed_on : (s : Setting) (w : SimpleWalk F P) → Stands s w → (i : ObjectId) (time : ℤ) (ps : List Pending) → ((order : CommitTimeOrder) → order_of s ≡ Some order → time ≡ time_of (objects s.store) i) → Holds (time_order w.parents w.sorting) (w.pending ++ record { id = i; time = time } ∷ []) ps → (order : CommitTimeOrder) → order_of s ≡ Some order → (p : Pending) → Contains ps p → p.time ≡ time_of (objects s.store) p.id
+  timed_on s w h i time ps t holds order some p n =
+      let new : Pending = record { id = i; time = time } in
+      ⊎_elim (λ m. h.timed order some p m)
+      (λ m. subst (λ x. x.time ≡ time_of (objects s.store) x.id) (only_member new p m) (t order some))
+      (Contains-append_cases w.pending (new ∷ []) p (Contains-holds (time_order w.parents w.sorting) _ ps holds p n))
+
+  same_order : (s : Setting) (w : SimpleWalk F P) → Stands s w → time_order w.parents w.sorting ≡ order_of s
+  same_order s w h k = time_order (h.parents k) (h.sorting k)
+
+  same_limit : (s : Setting) (w : SimpleWalk F P) → Stands s w → cutoff w.parents w.sorting ≡ limit_of s
+  same_limit s w h k = cutoff (h.parents k) (h.sorting k)
+
+  is_kept_if : (s : Setting) (i : ObjectId) (b : Bool) → s.accepts i ≡ true → s.hidden i ≡ false → is_older (time_of (objects s.store) i) (limit_of s) ≡ b → keep s i ≡ not b
+  is_kept_if s i b a h o = λ k. (a k && not (h k)) && not (o k)
+
+  one : (s : Setting) (w : SimpleWalk F P) → Stands s w → (by_row : Bool) (i : ObjectId) → IsReady s w by_row i → {v : SimpleWalk F P} → Treats objects faulty answers w by_row i GoesOn v → Did s (i ∷ []) w v
+  one s w h by_row i ready (hidden e) =
+      let hid : s.hidden i ≡ true = sym ready.marked ∙ ap (λ m. set.contains m i) (sym h.marks) ∙ e in
+      let out : keep s i ≡ false = and_left _ _ (and_right (s.accepts i) _ (not_from_true _ hid)) in
+      record { rest = h; same_rows = refl; seen = λ j k. seen_still i j (set.contains w.seen) (not_same s i j out k) ∙ ap (λ b. b || set.contains w.seen j) (sym (among-one j i)); pending = passed_over s i _ _ out }
+  one s w h by_row i ready (known e) =
+      record { rest = h; same_rows = refl; seen = λ j k. seen_once i j (set.contains w.seen) e ∙ ap (λ b. b || set.contains w.seen j) (sym (among-one j i)); pending = already s i _ _ e }
+  one s w h by_row i ready (refused {predicate = q} is_new a) =
+      let t : (false ≡ s.accepts i) × Becomes answers s.predicate q = asked_test s w h i a in
+      let out : keep s i ≡ false = and_left _ _ (and_left _ _ (sym t.0)) in
+      record {
+        rest = stands_asked s w h i q w.pending t.1 h.timed;
+        same_rows = refl;
+        seen = λ j k. insert_seen w.seen i j ∙ ap (λ b. b || set.contains w.seen j) (sym (among-one j i));
+        pending = passed_over s i _ _ out;
+      }
+  one s w h by_row i ready (accepted {predicate = q} {time = time} {pending = ps} is_new a reads queues) =
+      let t : (true ≡ s.accepts i) × Becomes answers s.predicate q = asked_test s w h i a in
+      let o : ((order : CommitTimeOrder) → order_of s ≡ Some order → time ≡ time_of (objects s.store) i) × (is_older time (limit_of s) ≡ is_older (time_of (objects s.store) i) (limit_of s)) = older_alike s w h by_row i time ready.rowed reads in
+      let shown : s.hidden i ≡ false = sym ready.marked ∙ ap (λ m. set.contains m i) (sym h.marks) ∙ is_new.open_to in
+      let decided : (b : Bool) → is_older time (cutoff w.parents w.sorting) ≡ b → keep s i ≡ not b = λ b e. is_kept_if s i b (sym t.0) shown (sym o.1 ∙ ap (is_older time) (sym (same_limit s w h)) ∙ e) in
+      go t.1 o.0 decided queues
+    where
+      go : Becomes answers s.predicate q → ((order : CommitTimeOrder) → order_of s ≡ Some order → time ≡ time_of (objects s.store) i) → ((b : Bool) → is_older time (cutoff w.parents w.sorting) ≡ b → keep s i ≡ not b) → {ps' : List Pending} → Enqueues objects faulty answers (time_order w.parents w.sorting) (cutoff w.parents w.sorting) w.pending i time ps' → Did s (i ∷ []) w (asked_walk objects faulty answers w i q ps')
+      go becomes t decided (dropped e) = record {
+        rest = stands_asked s w h i q w.pending becomes h.timed;
+        same_rows = refl;
+        seen = λ j k. insert_seen w.seen i j ∙ ap (λ b. b || set.contains w.seen j) (sym (among-one j i));
+        pending = passed_over s i (ids_of w.pending) (set.contains w.seen) (decided true e);
+      }
+      go becomes t decided (enqueued {new = new} e holds) = record {
+        rest = stands_asked s w h i q new becomes (timed_on s w h i time new t holds);
+        same_rows = refl;
+        seen = λ j k. insert_seen w.seen i j ∙ ap (λ b. b || set.contains w.seen j) (sym (among-one j i));
+        pending = Joins-trans (order_of s) _ _ _ (subst (λ ord. Joins ord (ids_of new) (ids_of w.pending ++ i ∷ [])) (same_order s w h) (Joins-holds (time_order w.parents w.sorting) w.pending new (record { id = i; time = time }) holds)) (Joins-refl (order_of s) _ _ (added s i (ids_of w.pending) (set.contains w.seen) (decided false e) is_new.unseen));
+      }
+
+  joined : (s : Setting) (i : ObjectId) (ids : List ObjectId) (w mid : SimpleWalk F P) → Did s (i ∷ []) w mid →
+      fresh (set.contains w.seen) (filter (keep s) (i ∷ [])) ++ fresh (set.contains mid.seen) (filter (keep s) ids) ≡ fresh (set.contains w.seen) (filter (keep s) (i ∷ ids))
+  joined s i ids w mid d =
+      ap (λ xs. fresh (set.contains w.seen) (filter (keep s) (i ∷ [])) ++ xs) (fresh_agree _ _ (filter (keep s) ids) alike)
+      ∙ sym (fresh-append (set.contains w.seen) (filter (keep s) (i ∷ [])) (filter (keep s) ids))
+      ∙ ap (fresh (set.contains w.seen)) (sym (filter-append (keep s) (i ∷ []) ids))
+    where
+      alike : (j : ObjectId) → is_among j (filter (keep s) ids) ≡ true → set.contains mid.seen j ≡ (is_among j (filter (keep s) (i ∷ [])) || set.contains w.seen j)
+      alike j n =
+          let k : keep s j ≡ true = (and_parts (keep s j) (is_among j ids) (sym (among-filter j (keep s) ids) ∙ n)).0 in
+          d.seen j k ∙ ap (λ b. b || set.contains w.seen j) (sym (among-filter j (keep s) (i ∷ []) ∙ ap (λ b. b && is_among j (i ∷ [])) k))
+
+  -- one after the other
+  both : (s : Setting) (i : ObjectId) (ids : List ObjectId) (w mid v : SimpleWalk F P) → Did s (i ∷ []) w mid → Did s ids mid v → Did s (i ∷ ids) w v
+  both s i ids w mid v d e = record {
+    rest = e.rest;
+    same_rows = e.same_rows ∙ d.same_rows;
+    seen = λ j k. e.seen j k ∙ ap (λ b. is_among j ids || b) (d.seen j k) ∙ swapped (is_among j ids) (is_same j i) (set.contains w.seen j);
+    pending = Joins-trans (order_of s) _ _ _ e.pending (Joins-trans (order_of s) _ _ _ (Joins-append (order_of s) _ _ (fresh (set.contains mid.seen) (filter (keep s) ids)) d.pending) (Joins-refl (order_of s) _ _ (append_assoc (ids_of w.pending) _ _ ∙ ap (λ xs. ids_of w.pending ++ xs) (joined s i ids w mid d))));
+  }
+    where
+      swapped : (a b c : Bool) → (a || ((b || false) || c)) ≡ ((b || a) || c)
+      swapped true true c = refl
+      swapped true false c = refl
+      swapped false true c = refl
+      swapped false false c = refl
+
+  pub all_treated : (s : Setting) (by_row : Bool) {w v : SimpleWalk F P} {ids : List ObjectId} {how : Treated} → TreatsAll objects faulty answers by_row w ids how v → how ≡ GoesOn → Stands s w → ((i : ObjectId) → Contains ids i → IsReady s w by_row i) → Did s ids w v
+  all_treated s by_row (none {old = w}) e h ready = record { rest = h; same_rows = refl; seen = λ j k. refl; pending = Joins-refl (order_of s) _ _ (sym (append-nil _)) }
+  all_treated s by_row (more {old = w} {mid = mid} {new = v} {i = i} {ids = ids} t ts) e h ready =
+      let d : Did s (i ∷ []) w mid = one s w h by_row i (ready i (Contains-here i ids)) t in
+      both s i ids w mid v d (all_treated s by_row ts e d.rest (λ j n. let r : IsReady s w by_row j = ready j (Contains-there j i ids n) in record { marked = r.marked; rowed = λ b. subst (λ rows. (row : GraphRow) × (row_of rows j ≡ Some row)) (sym d.same_rows) (r.rowed b) }))
+  all_treated s by_row (stops ne t) e h ready = absurd (ne e)
+
+pub times_holds : (o : Option CommitTimeOrder) (old new : List Pending) (p : Pending) → Holds o (old ++ p ∷ []) new → (i : ObjectId) → times i (ids_of new) ≡ times i (ids_of old ++ p.id ∷ [])
+times_holds None old new p h i = ap (times i) (Joins-holds None old new p h)
+times_holds (Some order) old new p h i = Joins-holds (Some order) old new p h i

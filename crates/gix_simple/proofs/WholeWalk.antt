@@ -1,0 +1,164 @@
+-- A whole walk gives what the definitions say.
+use Rattle.std.specs.Prelude.{◌≡◌, ◌≤◌, ℕ, zero, suc, ℤ, List, [], ◌∷◌, ◌++◌, length, take, slice_get, Bool, true, ◌&&◌, ◌||◌, Option, Some, None, Result, Err, Contains, All}
+use Rattle.std.proofs.Common.{refl, sym, ap, subst, ⊎_elim, ◌∙◌, arith, append_assoc, append-nil}
+use Rattle.std.proofs.Math.Bool.{or_comm}
+use Rattle.std.specs.Iterator.{Drains}
+use Rattle.std.specs.List.{AllZip}
+use Rattle.std.proofs.lemmas.List.Sorted.{Contains-permutation, IsPermutation-sym}
+use Rattle.std.proofs.lemmas.List.Elements.{All-head, All-tail}
+use Rattle.std.proofs.lemmas.Bool.{or_cases, or_left, and_parts}
+use Rattle.std.specs.FinSet as set
+use Rattle.gix_hash.specs.declared.ObjectId.{ObjectId}
+use Rattle.gix_hash.specs.Id.{is_among}
+use Rattle.gix_object.specs.Object.{Objects}
+use Rattle.gix_revwalk.specs.declared.Info.{Info}
+use Rattle.gix_revwalk.specs.declared.CommitTimeOrder.{CommitTimeOrder}
+use Rattle.gix_simple.specs.declared.Error.{Error}
+use Rattle.gix_simple.specs.declared.Error.TheVariants as error
+use Rattle.gix_revwalk.specs.BreadthOrder.{named_by}
+use Rattle.gix_hash.specs.Reach.{Reaches}
+use Rattle.gix_revwalk.specs.Commits.{time_of, parents_of, walked_parents, ReadsWhole}
+use Rattle.gix_revwalk.specs.declared.Pending.{Pending}
+use Rattle.gix_simple.specs.Walk.{SimpleWalk, time_order, Chooses, first, best, Steps, ended, took, Next, unhidden, paints, faulty_history, no_memory}
+use Rattle.gix_revwalk.specs.Ids.{ids_of}
+use Rattle.gix_simple.specs.Laws.{IsNoRefusal, IsGiven}
+use Rattle.gix_hash.proofs.Ids.Membership.{same_is, among-append, among-one, among_is, Contains-here, Contains-there}
+use Rattle.gix_revwalk.proofs.Drained.{at_end, at_first}
+use Rattle.gix_revwalk.proofs.NewIds.{among-filter, named-push}
+use Rattle.gix_revwalk.proofs.Orders.{reached_by_named, Contains-push}
+use Rattle.gix_simple.proofs.Treated.{Setting, order_of, keep, Stands}
+use Rattle.gix_simple.proofs.OneStep.{next, Took, took_well}
+use Rattle.gix_simple.proofs.PendingIs.{IsQueue, IsRest, IsNextOne, grows, ends, heads, bests}
+
+-- the choice of the next one
+chosen : {F P : Type 0} (objects : F → Objects) (faulty : F → ObjectId → Type 0) (answers : P → ObjectId → Bool → P → Type 0) (time : ObjectId → ℤ) (next : ObjectId → List ObjectId) (starts taken : List ObjectId) (w : SimpleWalk F P) (p : Pending) (others : List Pending) (o : Option CommitTimeOrder) →
+    time_order w.parents w.sorting ≡ o → IsQueue o (named_by next starts taken) taken (ids_of w.pending) → ((order : CommitTimeOrder) → o ≡ Some order → (q : Pending) → Contains w.pending q → q.time ≡ time q.id) → Chooses objects faulty answers w p others →
+    IsNextOne o time next starts taken (Some p.id) × IsRest o (named_by next starts taken) taken p.id (ids_of others) × (is_among p.id (named_by next starts taken) ≡ true)
+chosen objects faulty answers time next starts taken w p others None e q timed (first t is) = heads time next starts taken p.id (ids_of others) (sym (ap ids_of is) ∙ q)
+chosen objects faulty answers time next starts taken w p others None e q timed (best t perm no_worse) = cc
+chosen objects faulty answers time next starts taken w p others (Some order) e q timed (first t is) = cc
+chosen objects faulty answers time next starts taken w p others (Some order) e q timed (best {order = o} t perm no_worse) =
+    let same : o ≡ order = let s : Some o ≡ Some order = sym t ∙ e in cc in
+    bests order time next starts taken w.pending p others q perm (timed order refl) (λ other m. subst (λ x. Rattle.gix_revwalk.specs.TimeOrder.IsNoWorse x p.time other.time) same (no_worse other m))
+
+others_pending : {F P : Type 0} (objects : F → Objects) (faulty : F → ObjectId → Type 0) (answers : P → ObjectId → Bool → P → Type 0) (w : SimpleWalk F P) (p : Pending) (others : List Pending) → Chooses objects faulty answers w p others → (q : Pending) → Contains (p ∷ others) q → Contains w.pending q
+others_pending objects faulty answers w p others (first t is) q m = subst (λ ps. Contains ps q) (sym is) m
+others_pending objects faulty answers w p others (best t perm no_worse) q m = Contains-permutation (p ∷ others) w.pending q (IsPermutation-sym w.pending (p ∷ others) perm) m
+
+module _ {F P : Type 0} (objects : F → Objects) (faulty : F → ObjectId → Type 0) (answers : P → ObjectId → Bool → P → Type 0) where
+  abbrev pub named : Setting objects faulty answers → List ObjectId → List ObjectId
+  named s taken = named_by (next objects faulty answers s) s.starts taken
+
+  -- what is known of the history
+  pub record Known (s : Setting objects faulty answers) : Type 0 where
+    pub whole : (i : ObjectId) → Reaches (next objects faulty answers s) s.starts i → ReadsWhole (objects s.store) i
+    pub marked : (c i : ObjectId) → Reaches (next objects faulty answers s) s.starts c → Contains (parents_of (objects s.store) c) i → set.contains s.marks i ≡ s.hidden i
+
+  -- the invariant of a whole walk
+  pub record Runs (s : Setting objects faulty answers) (w : SimpleWalk F P) (taken : List ObjectId) : Type 0 where
+    pub rest : Stands objects faulty answers s w
+    pub seen : (i : ObjectId) → keep objects faulty answers s i ≡ true → set.contains w.seen i ≡ is_among i (named s taken)
+    pub queue : IsQueue (order_of objects faulty answers s) (named s taken) taken (ids_of w.pending)
+    pub reached : (c : ObjectId) → Contains taken c → Reaches (next objects faulty answers s) s.starts c
+    pub within : (c : ObjectId) → is_among c taken ≡ true → is_among c (named s taken) ≡ true
+
+  abbrev pub given : Setting objects faulty answers → Result Info Error → ObjectId → Type 0
+  given s = IsGiven (objects s.store) s.rows s.parents (order_of objects faulty answers s)
+
+  abbrev pub is_next : Setting objects faulty answers → List ObjectId → Option ObjectId → Type 0
+  is_next s taken o = IsNextOne (order_of objects faulty answers s) (time_of (objects s.store)) (next objects faulty answers s) s.starts taken o
+
+  record Stepped (s : Setting objects faulty answers) (taken : List ObjectId) (answer : Result Info Error) (new : SimpleWalk F P) : Type 0 where
+    i : ObjectId
+    given_as : given s answer i
+    turn : is_next s taken (Some i)
+    runs : Runs s new (taken ++ i ∷ [])
+
+  stepped : (s : Setting objects faulty answers) → Known s → (w : SimpleWalk F P) (taken : List ObjectId) → Runs s w taken → {answer : Result Info Error} {new : SimpleWalk F P} → Steps objects faulty answers w (Some answer) new → IsNoRefusal answer → Stepped s taken answer new
+  stepped s known w done h (no_memory some) ok = absurd (ok.0 refl)
+  stepped s known w done h (took {taken = p} {others = others} {answer = answer} {new = new} chooses takes) ok =
+      let stands : Stands objects faulty answers s w = h.rest in
+      let same : time_order w.parents w.sorting ≡ order_of objects faulty answers s = (λ k. time_order (stands.parents k) (stands.sorting k)) in
+      let c : is_next s done (Some p.id) × IsRest (order_of objects faulty answers s) (named s done) done p.id (ids_of others) × (is_among p.id (named s done) ≡ true) =
+      chosen objects faulty answers (time_of (objects s.store)) (next objects faulty answers s) s.starts done w p others (order_of objects faulty answers s) same h.queue stands.timed chooses in
+      let r : Reaches (next objects faulty answers s) s.starts p.id = reached_by_named (next objects faulty answers s) s.starts done h.reached p.id (among_is p.id _ c.2) in
+      let left : Stands objects faulty answers s (record w { pending = others }) =
+      record {
+        store = stands.store;
+        parents = stands.parents;
+        sorting = stands.sorting;
+        marks = stands.marks;
+        tips = stands.tips;
+        rows = stands.rows;
+        asked_of = stands.asked_of;
+        remembered = stands.remembered;
+        timed = λ order e q m. stands.timed order e q (others_pending objects faulty answers w p others chooses q (Contains-there q p others m));
+      } in
+      let t : Took objects faulty answers s p.id (record w { pending = others }) answer new =
+      took_well objects faulty answers s (record w { pending = others }) left p (known.whole p.id r) (λ i m. known.marked p.id i r m) (λ order e. stands.timed order e p (others_pending objects faulty answers w p others chooses p (Contains-here p others))) takes ok in
+      let push : named s (done ++ p.id ∷ []) ≡ named s done ++ next objects faulty answers s p.id = named-push (next objects faulty answers s) s.starts done p.id in
+      let kept : (j : ObjectId) → is_among j (next objects faulty answers s p.id) ≡ (keep objects faulty answers s j && is_among j (walked_parents (objects s.store) s.parents p.id)) = λ j. among-filter j (keep objects faulty answers s) (walked_parents (objects s.store) s.parents p.id) in
+      let among_push : (j : ObjectId) → is_among j (named s (done ++ p.id ∷ [])) ≡ (is_among j (named s done) || is_among j (next objects faulty answers s p.id)) = λ j. ap (is_among j) push ∙ among-append j (named s done) (next objects faulty answers s p.id) in
+      record {
+        i = p.id;
+        given_as = t.given_as;
+        turn = c.0;
+        runs = record {
+          rest = t.rest;
+          seen = λ j k. t.seen j k ∙ ap (λ b. is_among j (walked_parents (objects s.store) s.parents p.id) || b) (h.seen j k) ∙ or_comm (is_among j (walked_parents (objects s.store) s.parents p.id)) (is_among j (named s done))
+              ∙ sym (among_push j ∙ ap (λ b. is_among j (named s done) || b) (kept j ∙ ap (λ b. b && is_among j (walked_parents (objects s.store) s.parents p.id)) k));
+          queue = subst (λ xs. IsQueue (order_of objects faulty answers s) xs (done ++ p.id ∷ []) (ids_of new.pending)) (sym push)
+              (grows (order_of objects faulty answers s) (named s done) done p.id (ids_of others) (ids_of new.pending) (next objects faulty answers s p.id) (set.contains w.seen) c.1 t.pending
+              (λ j n. h.seen j (and_parts _ _ (sym (kept j) ∙ n)).0) h.within c.2);
+          reached = λ d m. ⊎_elim (λ n. h.reached d n) (λ e. subst (Reaches (next objects faulty answers s) s.starts) e r) (Contains-push (next objects faulty answers s) s.starts done p.id d m);
+          within = λ d m. among_push d ∙ or_left _ _ (⊎_elim (λ n. h.within d n) (λ e. subst (λ y. is_among y (named s done) ≡ true) (sym (same_is d p.id (sym (among-one d p.id) ∙ e))) c.2) (or_cases _ _ (sym (among-append d done (p.id ∷ [])) ∙ m)));
+        };
+      }
+
+  -- these answers may follow a walk whose hidden tips are painted
+  abbrev pub MayStep : SimpleWalk F P → List (Result Info Error) → Type 0
+  MayStep walk [] = (new : SimpleWalk F P) × Steps objects faulty answers walk None new
+  MayStep walk (answer ∷ rest) = (new : SimpleWalk F P) × Steps objects faulty answers walk (Some answer) new × Drains (Next objects faulty answers) new rest
+
+  pub unchanged : (w : SimpleWalk F P) → w.hidden_tips ≡ [] → ◌≡◌ {A = SimpleWalk F P} (record w { hidden_tips = [] }) w
+  unchanged w e = λ k. record w { hidden_tips = sym e k }
+
+  -- behind the first step
+  next_steps : (w : SimpleWalk F P) → w.hidden_tips ≡ [] → {o : Option (Result Info Error)} {new : SimpleWalk F P} → ((answer : Result Info Error) → o ≡ Some answer → IsNoRefusal answer) → Next objects faulty answers w o new → Steps objects faulty answers w o new
+  next_steps w tips {o} {new} ok (unhidden e steps) = subst (λ x. Steps objects faulty answers x o new) (unchanged w tips) steps
+  next_steps w tips ok (paints some hides paint steps) = absurd (hides tips)
+  next_steps w tips ok (faulty_history some hides left fault) = absurd (hides tips)
+  next_steps w tips ok (no_memory some hides left) = absurd ((ok (Err error.Memory) refl).0 refl)
+
+  pub then_steps : (w : SimpleWalk F P) (answers_left : List (Result Info Error)) → w.hidden_tips ≡ [] → All IsNoRefusal answers_left → Drains (Next objects faulty answers) w answers_left → MayStep w answers_left
+  then_steps w [] tips ok drawn = let end = at_end (Next objects faulty answers) w drawn in (end.0, next_steps w tips (λ a e. cc) end.1)
+  then_steps w (answer ∷ left) tips ok drawn =
+      let first = at_first (Next objects faulty answers) w answer left drawn in
+      (first.0, next_steps w tips (λ a e. let same : answer ≡ a = cc in subst IsNoRefusal same (All-head IsNoRefusal answer left ok)) first.1, first.2)
+
+  -- each of the ids is the next one where it comes
+  abbrev pub OrderFrom : Setting objects faulty answers → List ObjectId → List ObjectId → Type 0
+  OrderFrom s done ids = (k : ℕ) → k ≤ length ids → is_next s (done ++ take k ids) (slice_get ids k)
+
+  order_none : (s : Setting objects faulty answers) (done : List ObjectId) → is_next s done None → OrderFrom s done []
+  order_none s done h zero b = rw append-nil h
+  order_none s done h (suc k) b = absurd (omega arith)
+
+  order_more : (s : Setting objects faulty answers) (done ids : List ObjectId) (i : ObjectId) → is_next s done (Some i) → OrderFrom s (done ++ i ∷ []) ids → OrderFrom s done (i ∷ ids)
+  order_more s done ids i h r zero b = rw append-nil h
+  order_more s done ids i h r (suc k) b = rw append_assoc at (r k (omega arith))
+
+  pub record RunOf (s : Setting objects faulty answers) (done : List ObjectId) (list : List (Result Info Error)) : Type 0 where
+    pub ids : List ObjectId
+    pub given_as : AllZip (given s) list ids
+    pub order : OrderFrom s done ids
+
+  ended_run : (s : Setting objects faulty answers) (w : SimpleWalk F P) (done : List ObjectId) → Runs s w done → {new : SimpleWalk F P} → Steps objects faulty answers w None new → RunOf s done []
+  ended_run s w done h (ended e) = record { ids = []; given_as = tt; order = order_none s done (ends (order_of objects faulty answers s) (time_of (objects s.store)) (next objects faulty answers s) s.starts done (subst (IsQueue (order_of objects faulty answers s) (named s done) done) (ap ids_of e) h.queue)) }
+
+  pub run : (s : Setting objects faulty answers) → Known s → (list : List (Result Info Error)) (w : SimpleWalk F P) (done : List ObjectId) → Runs s w done → All IsNoRefusal list → MayStep w list → RunOf s done list
+  run s known [] w done h ok may = ended_run s w done h may.1
+  run s known (answer ∷ left) w done h ok may =
+      let t : Stepped s done answer may.0 = stepped s known w done h may.1 (All-head IsNoRefusal answer left ok) in
+      let r : RunOf s (done ++ t.i ∷ []) left = run s known left may.0 (done ++ t.i ∷ []) t.runs (All-tail IsNoRefusal answer left ok) (then_steps may.0 left t.runs.rest.tips (All-tail IsNoRefusal answer left ok) may.2) in
+      record { ids = t.i ∷ r.ids; given_as = (t.given_as, r.given_as); order = order_more s done r.ids t.i t.turn r.order }

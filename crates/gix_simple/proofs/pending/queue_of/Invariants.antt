@@ -1,0 +1,14 @@
+use Rattle.std.proofs.Common.{◌++◌, IsPermutation, length}
+use Rattle.gix_revwalk.specs.PriorityQueue.{values}
+use Rattle.gix_simple.specs.Inside.PendingQueue.{AreKeyed}
+use Rattle.gix_simple.proofs.pending.queue_of.Given as goal
+
+-- the commits that were put in and those that are left are all
+abbrev pub invariant-loop-pending : goal.invariant-loop-pending
+invariant-loop-pending l = record {
+  items : IsPermutation l.fn.list.items (values l.queue ++ l.list.items);
+  keyed : AreKeyed l.order l.queue;
+}
+
+abbrev pub decreases-loop-pending : goal.decreases-loop-pending
+decreases-loop-pending l = length l.list.items

@@ -1,0 +1,169 @@
+-- The statements of the laws of simple walks, over any store and predicate.
+use Rattle.std.specs.Prelude.{◌≡◌, ◌≤◌, ◌≤ℤ◌, ◌↔◌, ℕ, suc, List, [], ◌++◌, Bool, false, true, Some, None, Result, All, Contains, length, slice_get, filter}
+use Rattle.std.specs.Cmp.Lexicographic.{slice_cmp}
+use Rattle.std.specs.FinSet as set
+use Rattle.std.specs.Iterator.{Drains, Yields}
+use Rattle.std.specs.List.{AllZip}
+use Rattle.std.specs.Option.{option_cmp}
+use Rattle.std.specs.Ordering.{nat_cmp, int_cmp, ordering_then}
+use Rattle.std.specs.declared.cmp.Ordering.{Ordering}
+use Rattle.gix_hash.specs.declared.ObjectId.{ObjectId}
+use Rattle.gix_hash.specs.Id.{id_cmp}
+use Rattle.gix_object.specs.Object.{Objects}
+use Rattle.gix_revwalk.specs.declared.Info.{Info}
+use Rattle.gix_revwalk.specs.declared.Parents.TheVariants as mode
+use Rattle.gix_revwalk.specs.declared.CommitTimeOrder.{CommitTimeOrder}
+use Rattle.gix_revwalk.specs.declared.CommitTimeOrder.TheVariants.{NewestFirst}
+use Rattle.gix_simple.specs.declared.Error.{Error}
+use Rattle.gix_revwalk.specs.BreadthOrder.{IsBreadthOrder}
+use Rattle.gix_revwalk.specs.TimeOrder.{IsTimeOrder}
+use Rattle.gix_hash.specs.Reach.{Reaches, Tells}
+use Rattle.gix_revwalk.specs.Commits.{ReadsWhole, parents_of, time_of}
+use Rattle.gix_simple.specs.Walk.{SimpleWalk, Next, IsMade, time_order, cutoff}
+use Rattle.gix_revwalk.specs.Ids.{ids_of, AreDistinct, new_ids}
+use Rattle.gix_simple.specs.Building.{IsBuilt}
+use Rattle.gix_simple.specs.Laws.{IsFresh, IsWholeRun, IsPlainRun, IsPlain, GivesInOrder, IsNewWalk, IsNoRefusal, GivesBreadthFirst, accepted_parents, recent_parents, next_of, starts_of, named_in, answers_left, given_ids}
+use Rattle.gix_revwalk.specs.Asking.{AnswersBy}
+use Rattle.gix_simple.specs.Runs.{AsksOnce, TellsGenerations, AreAlike, AreBuiltAlike, GiveTheSame, GivesUnhidden}
+
+-- commits are compared by their ids, then by their parents, then by their generations, and then by their times
+abbrev pub info_cmp : Info → Info → Ordering
+info_cmp a b =
+    ordering_then (id_cmp a.id b.id)
+    (ordering_then (slice_cmp id_cmp a.parent_ids.items b.parent_ids.items)
+    (ordering_then (option_cmp nat_cmp a.generation b.generation) (option_cmp int_cmp a.commit_time b.commit_time)))
+
+-- there is a test of what ids reach
+abbrev pub ReachIsDecided : Type 0
+ReachIsDecided = (objects : Objects) (ids : List ObjectId) → (test : ObjectId → Bool) × Tells test (Reaches (parents_of objects) ids)
+
+module _ {F P : Type 0} (objects : F → Objects) (faulty : F → ObjectId → Type 0) (answers : P → ObjectId → Bool → P → Type 0) where
+  -- a walk that was made of some tips
+  abbrev pub MakesNewWalks : Type 0
+  MakesNewWalks =
+      (store : F) (predicate : P) (accepts : ObjectId → Bool) (tips : List ObjectId) (walk : SimpleWalk F P)
+      → AnswersBy answers predicate accepts
+      → IsMade objects faulty answers store predicate tips walk
+      → IsNewWalk objects answers store accepts tips walk
+
+  -- a walk after any calls that choose its order
+  abbrev pub BuildsFreshWalks : Type 0
+  BuildsFreshWalks =
+      (store : F) (predicate : P) (accepts : ObjectId → Bool) (tips : List ObjectId) (walk : SimpleWalk F P)
+      → AnswersBy answers predicate accepts
+      → IsBuilt objects faulty answers store predicate tips walk
+      → IsFresh objects walk accepts × AnswersBy answers walk.predicate accepts × (walk.store ≡ store)
+
+  -- a new walk that is drawn to its end, where all that is met reads whole
+  abbrev pub NewWalksGiveBreadthFirst : Type 0
+  NewWalksGiveBreadthFirst =
+      (store : F) (predicate : P) (accepts : ObjectId → Bool) (tips : List ObjectId) (walk : SimpleWalk F P) (list : List (Result Info Error))
+      → let next = accepted_parents (objects store) mode.All accepts in
+      let starts = new_ids (λ i. false) (filter accepts tips) in
+      AnswersBy answers predicate accepts
+      → IsMade objects faulty answers store predicate tips walk
+      → ((i : ObjectId) → Reaches next starts i → ReadsWhole (objects store) i)
+      → All IsNoRefusal list
+      → Drains (Next objects faulty answers) walk list
+      → GivesBreadthFirst (objects store) next starts list
+
+  -- a walk without hidden tips and rows, in no order by time
+  abbrev pub PlainRunsAreInBreadthOrder : Type 0
+  PlainRunsAreInBreadthOrder =
+      (walk : SimpleWalk F P) (accepts : ObjectId → Bool) (list : List (Result Info Error))
+      → let next = accepted_parents (objects walk.store) walk.parents accepts in
+      time_order walk.parents walk.sorting ≡ None
+      → IsPlainRun objects faulty answers walk accepts next list
+      → (ids : List ObjectId) × AllZip (IsPlain (objects walk.store) walk.parents None) list ids × IsBreadthOrder next (ids_of walk.pending) ids
+
+  -- such a walk in an order by time
+  abbrev pub PlainRunsAreInTimeOrder : Type 0
+  PlainRunsAreInTimeOrder =
+      (walk : SimpleWalk F P) (accepts : ObjectId → Bool) (order : CommitTimeOrder) (list : List (Result Info Error))
+      → let next = recent_parents (objects walk.store) walk.parents accepts (cutoff walk.parents walk.sorting) in
+      time_order walk.parents walk.sorting ≡ Some order
+      → IsPlainRun objects faulty answers walk accepts next list
+      → (ids : List ObjectId) × AllZip (IsPlain (objects walk.store) walk.parents (Some order)) list ids
+      × IsTimeOrder order (time_of (objects walk.store)) next (ids_of walk.pending) ids
+
+  -- any walk that is drawn to its end
+  abbrev pub RunsAreInOrder : Type 0
+  RunsAreInOrder =
+      (walk : SimpleWalk F P) (accepts hidden : ObjectId → Bool) (list : List (Result Info Error))
+      → IsWholeRun objects faulty answers walk accepts hidden list
+      → GivesInOrder objects walk accepts hidden list
+
+  -- no id twice, and exactly what is reached
+  abbrev pub GivesEachOnce : Type 0
+  GivesEachOnce =
+      (walk : SimpleWalk F P) (accepts hidden : ObjectId → Bool) (list : List (Result Info Error)) (gives : GivesInOrder objects walk accepts hidden list)
+      → AreDistinct gives.ids × ((i : ObjectId) → Contains gives.ids i ↔ Reaches (next_of objects walk accepts hidden) (starts_of walk hidden) i)
+
+  -- walks that were built by the same calls
+  abbrev pub BuildsAlike : Type 0
+  BuildsAlike =
+      (store : F) (predicate : P) (accepts : ObjectId → Bool) (tips : List ObjectId) (walk other : SimpleWalk F P)
+      → AnswersBy answers predicate accepts
+      → AreBuiltAlike objects faulty answers store predicate tips walk other
+      → AreAlike walk other
+
+  -- a walk with hidden tips, and one without
+  abbrev pub HidesWhatIsReached : Type 0
+  HidesWhatIsReached =
+      (walk other : SimpleWalk F P) (accepts hidden shown : ObjectId → Bool) (list longer : List (Result Info Error))
+      → AreAlike walk other
+      → other.hidden_tips ≡ []
+      → IsWholeRun objects faulty answers walk accepts hidden list
+      → IsWholeRun objects faulty answers other accepts shown longer
+      → GivesUnhidden objects walk other list longer
+
+  -- two walks with different rows
+  abbrev pub RowsLeaveTheIds : Type 0
+  RowsLeaveTheIds =
+      (walk other : SimpleWalk F P) (accepts hidden : ObjectId → Bool) (list there : List (Result Info Error))
+      → AreAlike walk other
+      → IsWholeRun objects faulty answers walk accepts hidden list
+      → IsWholeRun objects faulty answers other accepts hidden there
+      → GiveTheSame objects walk other list there
+
+  -- which generations are given
+  abbrev pub TellsTheGenerations : Type 0
+  TellsTheGenerations =
+      (walk new : SimpleWalk F P) (list : List (Result Info Error))
+      → Yields (Next objects faulty answers) walk list new
+      → TellsGenerations objects walk list
+
+  -- newest first, where no parent is newer than its child
+  abbrev pub TimesFall : Type 0
+  TimesFall =
+      (walk : SimpleWalk F P) (accepts hidden : ObjectId → Bool) (list : List (Result Info Error))
+      → time_order walk.parents walk.sorting ≡ Some NewestFirst
+      → ((c i : ObjectId) → Contains (parents_of (objects walk.store) c) i → time_of (objects walk.store) i ≤ℤ time_of (objects walk.store) c)
+      → (gives : GivesInOrder objects walk accepts hidden list) (k : ℕ) (a b : ObjectId)
+      → slice_get gives.ids k ≡ Some a
+      → slice_get gives.ids (suc k) ≡ Some b
+      → time_of (objects walk.store) b ≤ℤ time_of (objects walk.store) a
+
+  -- whatever faults come, no id is given twice
+  abbrev pub GivesNeverTwice : Type 0
+  GivesNeverTwice =
+      (walk new : SimpleWalk F P) (list : List (Result Info Error))
+      → AreDistinct (ids_of walk.pending)
+      → ((i : ObjectId) → Contains (ids_of walk.pending) i → set.contains walk.seen i ≡ true)
+      → Yields (Next objects faulty answers) walk list new
+      → AreDistinct (given_ids list)
+
+  -- whatever faults come, no id is asked about twice
+  abbrev pub AsksNeverTwice : Type 0
+  AsksNeverTwice =
+      (store : F) (predicate : P) (tips : List ObjectId) (walk new : SimpleWalk F P) (list : List (Result Info Error))
+      → IsBuilt objects faulty answers store predicate tips walk
+      → Yields (Next objects faulty answers) walk list new
+      → AsksOnce answers (tips ++ named_in objects walk) predicate new.predicate
+
+  -- how many answers there are
+  abbrev pub Ends : Type 0
+  Ends =
+      (walk new : SimpleWalk F P) (list : List (Result Info Error))
+      → Yields (Next objects faulty answers) walk list new
+      → length list ≤ answers_left objects walk

@@ -1,0 +1,36 @@
+-- What meeting and finishing an id changes in the table.
+pub mod Frontier
+-- Meeting the parents of a commit one by one.
+pub mod MeetsParents
+-- Each id of a list at its last place.
+pub mod LastPlaces
+-- A step of the searches, put together from its parts.
+pub mod Step
+-- What one search has found when little is left in its queue.
+pub mod OneSearch
+-- Each step keeps the invariants of both searches.
+pub mod BothSearches
+-- What meeting, finishing and taking do to the indegrees, and what an indegree of 0 means.
+pub mod Children
+-- Exploring keeps the searches and the indegrees.
+pub mod ExploreKeeps
+-- Exploring ends: each step leaves less to do.
+pub mod ExploreEnds
+-- Where the greatest generation in the queue is below the depth, all of them are.
+pub mod Rest
+-- What exploring has found when it rests: all that is reached, down to the depth.
+pub mod AllDownToDepth
+-- Both searches meet their starts before anything is read.
+pub mod MeetsStarts
+-- What holds when counting has begun.
+pub mod Begin
+-- The number of expanded commits is exact down to the depth, and of all once the rows were dropped.
+pub mod Expanded
+-- What ids do to a walk of which some become ready.
+pub mod MakesReady
+-- What indegree 0 means after exploring: no child is left that wasn't taken.
+pub mod IndegreeZero
+-- Which commits were taken, by the table.
+pub mod Taken
+-- When a fault of reading comes.
+pub mod ReadFaults

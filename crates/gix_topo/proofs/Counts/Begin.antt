@@ -1,0 +1,206 @@
+-- What counting has found when it has begun.
+use Rattle.std.specs.Prelude.{◌≡◌, ◌≤◌, ◌<◌, ℕ, min, List, [], ◌∷◌, ◌++◌, Bool, true, false, ◌&&◌, cond, Some, None, Ok, Contains}
+use Rattle.std.proofs.Common.{refl, sym, ap, subst, ⊎_elim, ◌∙◌, arith}
+use Rattle.std.proofs.lemmas.Bool.{true≢false}
+use Rattle.std.specs.FinMap as map
+use Rattle.gix_hash.specs.declared.ObjectId.{ObjectId}
+use Rattle.gix_hash.specs.Id.{is_same, kind_of}
+use Rattle.gix_object.specs.Object.{Objects}
+use Rattle.gix_commitgraph.specs.Rows.{GraphRow, row_of}
+use Rattle.gix_hash.proofs.Ids.Membership.{same_is, no_member, Contains-here}
+use Rattle.gix_revwalk.specs.declared.Info.{Info}
+use Rattle.gix_topo.specs.declared.Error.{Error}
+use Rattle.gix_topo.specs.declared.Sorting.{Sorting}
+use Rattle.gix_frontier.specs.declared.Side.{Side}
+use Rattle.gix_frontier.specs.declared.Side.TheVariants.{Tips, Ends}
+use Rattle.gix_frontier.specs.declared.Progress.TheVariants.{Done}
+use Rattle.gix_frontier.specs.declared.Waiting.{Waiting}
+use Rattle.gix_topo.specs.declared.counting.Counting.{Counting}
+use Rattle.gix_revwalk.specs.Agreeing.{IsAgreeing}
+use Rattle.gix_topo.specs.Depth.{infinity, known_generation, least}
+use Rattle.gix_topo.specs.Inside.Exploring.{Explores, itself, further, IsSamePlan, IsRested, IsExploringFault}
+use Rattle.gix_frontier.specs.Inside.Frontier.{is_side, is_done, reached}
+use Rattle.gix_revwalk.specs.Reading.{rows_of, is_read}
+use Rattle.gix_topo.specs.Reading.{Reads, by_row, by_text}
+use Rattle.gix_topo.specs.Inside.Releasing.{plan_by, counted_by}
+use Rattle.gix_topo.specs.Inside.Searched.{IsCounted, IsBegun, IsExplored, next_by, starts_by}
+use Rattle.gix_hash.specs.Reach.{Reaches}
+use Rattle.gix_topo.specs.Inside.Starting.{HasBegun, MeetsAll}
+use Rattle.gix_topo.specs.Inside.Steady.{IsDone, HasCounted}
+use Rattle.gix_topo.specs.Walk.{IsFirstReady, IsBuildFault, IsCommitRead, IsCounting, IsWalkable, IsReached}
+use Rattle.gix_topo.proofs.Counts.ExploreKeeps.{explores_keep, explores_made, explores_same, explores_still}
+use Rattle.gix_topo.proofs.Counts.Expanded.{counts_on, explores_read}
+use Rattle.gix_topo.proofs.Counts.AllDownToDepth.{exact_there}
+use Rattle.gix_topo.proofs.Reading.Faultless.{faultless}
+use Rattle.gix_topo.proofs.Counts.Frontier.{moved}
+use Rattle.gix_topo.proofs.Counts.MeetsStarts.{IsFresh, fresh_empty, fresh_on, fresh_counted, all_still, all_seen}
+use Rattle.gix_topo.proofs.Counts.Children.{follows_named}
+use Rattle.gix_revwalk.proofs.Rows.{none_agree}
+use Rattle.gix_topo.proofs.Counts.Rest.{least_below}
+use Rattle.gix_topo.proofs.Counts.ReadFaults.{read_misses_no_count, exploring_fault}
+
+-- the least of two lists, one after the other
+least-append : (rows : List GraphRow) (depth : ℕ) (ids others : List ObjectId) → least rows (least rows depth others) ids ≡ least rows depth (ids ++ others)
+least-append rows depth [] others = refl
+least-append rows depth (i ∷ ids) others = ap (min (known_generation rows i)) (least-append rows depth ids others)
+
+-- without rows nothing is known of generations
+unknown_generation : (rows : List GraphRow) (i : ObjectId) → rows ≡ [] → known_generation rows i ≡ infinity
+unknown_generation rows i e = ap (λ those. known_generation those i) e
+
+-- without rows a commit that is read has no fault
+read_faultless : (objects : Objects) (faulty : ObjectId → Type 0) (rows : List GraphRow) (standing : Bool) (i : ObjectId) (info : Info) (new : Bool) → rows ≡ [] → Reads objects faulty rows standing i (Ok info) new → IsCommitRead objects i
+read_faultless objects faulty rows standing i info new e (by_row (is_read h says) is) = let q : None ≡ Some says.row = sym (ap (λ those. row_of those i) e) ∙ says.there in cc
+read_faultless objects faulty rows standing i info new e (by_text n t) = record { bytes = t.0; stored = t.1; faultless = faultless (kind_of i) t.0 t.2.1 }
+
+module _ {F : Type 0} (objects : F → Objects) (faulty : F → ObjectId → Type 0) where
+  -- without rows all that is done was read
+  done_read : {old new : Counting F} → rows_of old.reader.graph ≡ [] → ((side : Side) (i : ObjectId) → is_done (reached old.frontier.known side i) ≡ false) → Explores objects faulty old new → (side : Side) (i : ObjectId) → is_done (reached new.frontier.known side i) ≡ true → IsCommitRead (objects old.reader.find) i
+  done_read none undone itself side i d = absurd (true≢false (sym d ∙ undone side i))
+  done_read {old} none undone (further {mid = mid} {new = new} e p s) side i d =
+      go (λ k. done_read none undone e side i k) (is_same i s.entry.1.id) (is_side side s.entry.1.side) refl (sym (ap is_done (ap (λ those. reached those side i) s.finishes.known ∙ moved s.followed.known s.entry.1.id s.entry.1.side side Done i)) ∙ d)
+    where
+      same : IsSamePlan objects faulty old mid
+      same = explores_same objects faulty e
+
+      here : IsCommitRead (objects old.reader.find) s.entry.1.id
+      here = subst (λ x. IsCommitRead (objects x) s.entry.1.id) same.find (read_faultless (objects mid.reader.find) (faulty mid.reader.find) (rows_of mid.reader.graph) mid.reader.standing s.entry.1.id s.reads.info new.reader.standing (ap rows_of same.graph ∙ none) s.reads.reads)
+
+      before : is_done (reached s.followed.known side i) ≡ true → is_done (reached mid.frontier.known side i) ≡ true
+      before h = sym ((follows_named s.follows).done side i) ∙ h
+
+      go : (is_done (reached mid.frontier.known side i) ≡ true → IsCommitRead (objects old.reader.find) i) → (a b : Bool) → is_same i s.entry.1.id ≡ a → is_done (cond (a && b) Done (reached s.followed.known side i)) ≡ true → IsCommitRead (objects old.reader.find) i
+      go r true true q h = subst (IsCommitRead (objects old.reader.find)) (sym (same_is i s.entry.1.id q)) here
+      go r true false q h = r (before h)
+      go r false b q h = r (before h)
+
+  -- both sides have met what they start from, and nothing is read
+  pub record IsMet (tips ends : List ObjectId) (low : Counting F) : Type 0 where
+    pub stands : low.reader.standing ≡ true
+    pub depth : low.depth ≡ least (rows_of low.reader.graph) infinity (tips ++ ends)
+    pub expanded : low.expanded ≡ 0
+    pub fresh : IsFresh (objects low.reader.find) (rows_of low.reader.graph) low.parents tips ends low.frontier
+    pub begun : (side : Side) → IsBegun tips ends side low.frontier
+
+  -- what a side meets, and what that leaves
+  pub record HasMet (side : Side) (ids : List ObjectId) (old new : Counting F) : Type 0 where
+    pub reader : new.reader ≡ old.reader
+    pub parents : new.parents ≡ old.parents
+    pub depth : new.depth ≡ old.depth
+    pub expanded : new.expanded ≡ old.expanded
+    pub meets : MeetsAll (rows_of old.reader.graph) side old.frontier ids new.frontier
+
+  -- with the depth of these
+  abbrev pub lower_by : Counting F → List ObjectId → Counting F
+  lower_by c ids = record c { depth = least (rows_of c.reader.graph) c.depth ids }
+
+  pub both_met : (tips ends : List ObjectId) (old first second : Counting F) → old.reader.standing ≡ true → old.depth ≡ infinity → old.expanded ≡ 0 → old.frontier.queue ≡ [] → old.frontier.known ≡ map.empty → HasMet Tips tips old first → HasMet Ends ends first second → IsMet tips ends (lower_by (lower_by second ends) tips)
+  both_met tips ends old first second stands depth expanded queue known a b = record {
+    stands = ap (λ r. r.standing) (b.reader ∙ a.reader) ∙ stands;
+    depth = least-append (rows_of second.reader.graph) second.depth tips ends ∙ ap (λ d. least (rows_of second.reader.graph) d (tips ++ ends)) (b.depth ∙ a.depth ∙ depth);
+    expanded = b.expanded ∙ a.expanded ∙ expanded;
+    fresh = subst (λ r. IsFresh (objects r.find) (rows_of r.graph) second.parents tips ends second.frontier) (sym (b.reader ∙ a.reader)) (subst (λ m. IsFresh (objects old.reader.find) (rows_of old.reader.graph) m tips ends second.frontier) (sym (b.parents ∙ a.parents)) fresh);
+    begun = begun;
+  }
+    where
+      more : MeetsAll (rows_of old.reader.graph) Ends first.frontier ends second.frontier
+      more = subst (λ r. MeetsAll (rows_of r.graph) Ends first.frontier ends second.frontier) a.reader b.meets
+
+      fresh : IsFresh (objects old.reader.find) (rows_of old.reader.graph) old.parents tips ends second.frontier
+      fresh =
+          fresh_on (objects old.reader.find) (rows_of old.reader.graph) old.parents tips ends (λ i m. m) more
+          (fresh_on (objects old.reader.find) (rows_of old.reader.graph) old.parents tips ends (λ i m. m) a.meets (fresh_empty (objects old.reader.find) (rows_of old.reader.graph) old.parents tips ends old.frontier queue known))
+
+      begun : (side : Side) → IsBegun tips ends side second.frontier
+      begun Tips i m = all_still more Tips i (all_seen a.meets i m)
+      begun Ends i m = all_seen more i m
+
+  module _ (sorting : Sorting) (tips ends : List ObjectId) (low explored : Counting F) (start : IsMet tips ends low) (explores : Explores objects faulty low explored) (rested : IsRested explored.reader.standing explored.depth explored.frontier.queue) where
+    abbrev Rows : List GraphRow
+    Rows = rows_of low.reader.graph
+
+    abbrev Agrees : Type 0
+    Agrees = IsAgreeing (objects low.reader.find) Rows
+
+    same : IsSamePlan objects faulty low explored
+    same = explores_same objects faulty explores
+
+    counted_low : (taken : ObjectId → Bool) → ((i : ObjectId) → taken i ≡ false) → IsCounted (objects low.reader.find) Rows low.parents tips ends taken low.frontier
+    counted_low taken untaken = fresh_counted (objects low.reader.find) Rows low.parents tips ends low.frontier taken untaken start.fresh
+
+    there : Agrees → (side : Side) → IsExplored (objects low.reader.find) Rows low.parents tips ends low.depth side explored.frontier
+    there agrees side = exact_there objects faulty tips ends (λ i. false) agrees explores (counted_low (λ i. false) (λ i. refl)) side (start.begun side) (subst (λ d. IsRested explored.reader.standing d explored.frontier.queue) same.depth rested)
+
+    undone : (i : ObjectId) → IsDone low.frontier i → ⊥
+    undone i = ⊎_elim (λ d. true≢false (sym d ∙ start.fresh.undone Tips i)) (λ d. true≢false (sym d ∙ start.fresh.undone Ends i))
+
+    counts_low : HasCounted objects (plan_by low sorting tips ends) low
+    counts_low = record {
+      number = record { ids = []; distinct = tt; each = λ i m. absurd (no_member i m); all = λ i d. absurd (undone i d); number = sym start.expanded };
+      high = λ s i d. absurd (undone i d);
+      dropped = λ f. absurd (true≢false (sym start.stands ∙ f));
+    }
+
+    counts : IsWalkable objects faulty (plan_by low sorting tips ends) → HasCounted objects (plan_by low sorting tips ends) explored × IsCounting objects (plan_by low sorting tips ends) (counted_by explored)
+    counts sound = counts_on objects faulty sorting tips ends (λ i. false) low explored sound (counted_low (λ i. false) (λ i. refl)) start.begun counts_low (λ i d. absurd (undone i d)) explores rested
+
+    low_depth : Rows ≡ [] → low.depth ≤ infinity
+    low_depth none = subst (λ d. d ≤ infinity) (sym start.depth) (least_below Rows infinity (tips ++ ends))
+
+    idle : Rows ≡ [] → explored.frontier.queue ≡ []
+    idle none = ⊎_elim (λ q. q) (λ r. go r.1 explored.frontier.queue refl) rested
+      where
+        keyed : (entry : ℕ × Waiting) → Contains explored.frontier.queue entry → entry.0 ≡ known_generation Rows entry.1.id
+        keyed = (explores_keep objects faulty tips ends (λ i. false) (none_agree (objects low.reader.find) Rows none) explores (counted_low (λ i. false) (λ i. refl))).searched.keyed
+
+        go : ((entry : ℕ × Waiting) → Contains explored.frontier.queue entry → entry.0 < explored.depth) → (queue : List (ℕ × Waiting)) → explored.frontier.queue ≡ queue → queue ≡ []
+        go below [] e = refl
+        go below (entry ∷ queue) e =
+            let m : Contains explored.frontier.queue entry = subst (λ q. Contains q entry) (sym e) (Contains-here entry queue) in
+            let k : entry.0 ≡ infinity = keyed entry m ∙ unknown_generation Rows entry.1.id none in
+            let l : entry.0 < explored.depth = below entry m in
+            let d : explored.depth ≡ low.depth = same.depth in
+            let h : low.depth ≤ infinity = low_depth none in
+            absurd (omega arith)
+
+    read : Rows ≡ [] → (i : ObjectId) → IsReached objects (plan_by low sorting tips ends) i → IsCommitRead (objects low.reader.find) i
+    read none i r =
+        let high : low.depth ≤ known_generation Rows i = subst (λ g. low.depth ≤ g) (sym (unknown_generation Rows i none)) (low_depth none) in
+        let by : (side : Side) → Reaches (next_by (objects low.reader.find) low.parents side) (starts_by tips ends side) i → IsCommitRead (objects low.reader.find) i =
+        λ side t. done_read none start.fresh.undone explores side i (there (none_agree (objects low.reader.find) Rows none) side i t high) in
+        ⊎_elim (by Tips) (by Ends) r
+
+    -- the searches have begun
+    pub begun_on : HasBegun objects faulty (plan_by low sorting tips ends) explored
+    begun_on = record {
+      same = λ k. record { store = same.find k; rows = rows_of (same.graph k); parents = same.parents k; sorting = sorting; tips = tips; ends = ends };
+      depth = same.depth ∙ start.depth;
+      unmade = λ i. explores_made objects faulty explores i ∙ start.fresh.unmade i;
+      begun = λ side i m. explores_still objects faulty explores side i (start.begun side i m);
+      counted = λ taken untaken agrees. explores_keep objects faulty tips ends taken agrees explores (counted_low taken untaken);
+      explored = λ agrees side. subst (λ d. IsExplored (objects low.reader.find) Rows low.parents tips ends d side explored.frontier) (sym same.depth) (there agrees side);
+      counts = λ sound. (counts sound).0;
+      counting = λ sound. (counts sound).1;
+      all_read = explores_read objects faulty sorting tips ends (λ i. false) explores (λ i d. absurd (undone i d));
+      idle = idle;
+      read = read;
+    }
+
+  -- the same, and why it fails, as the code comes there: both sides meet their starts, and the depth is lowered twice
+  module _ (tips ends : List ObjectId) (old first second once low : Counting F) (stands : old.reader.standing ≡ true) (depth : old.depth ≡ infinity) (expanded : old.expanded ≡ 0) (queue : old.frontier.queue ≡ []) (known : old.frontier.known ≡ map.empty)
+      (a : HasMet Tips tips old first) (b : HasMet Ends ends first second) (c : once ≡ lower_by second ends) (d : low ≡ lower_by once tips) (sorting : Sorting) where
+    plans : plan_by low sorting tips ends ≡ plan_by old sorting tips ends
+    plans = ap (λ x. plan_by x sorting tips ends) d ∙ ap (λ x. plan_by x sorting tips ends) c ∙ ap (λ r. record { store = r.find; rows = rows_of r.graph; parents = second.parents; sorting = sorting; tips = tips; ends = ends }) (b.reader ∙ a.reader) ∙ ap (λ m. record { store = old.reader.find; rows = rows_of old.reader.graph; parents = m; sorting = sorting; tips = tips; ends = ends }) (b.parents ∙ a.parents)
+
+    start_met : IsMet tips ends low
+    start_met = subst (λ x. IsMet tips ends x) (sym (d ∙ ap (λ x. lower_by x tips) c)) (both_met tips ends old first second stands depth expanded queue known a b)
+
+    pub begun_from : (explored : Counting F) → Explores objects faulty low explored → IsRested explored.reader.standing explored.depth explored.frontier.queue → HasBegun objects faulty (plan_by old sorting tips ends) explored
+    begun_from explored explores rested = subst (λ plan. HasBegun objects faulty plan explored) plans (begun_on sorting tips ends low explored start_met explores rested)
+
+    pub fault_from : (e : Error) → IsExploringFault objects faulty low e → IsBuildFault objects faulty (plan_by old sorting tips ends) e
+    fault_from e f =
+        subst (λ plan. IsBuildFault objects faulty plan e) plans (
+          read_misses_no_count (objects f.so_far.reader.find) (faulty f.so_far.reader.find) f.fault.entry.1.id e f.fault.fault,
+          exploring_fault objects faulty sorting tips ends (λ i. false) low (λ agrees. fresh_counted (objects low.reader.find) (rows_of low.reader.graph) low.parents tips ends low.frontier (λ i. false) (λ i. refl) start_met.fresh) (IsFirstReady objects (plan_by low sorting tips ends)) e f,
+        )

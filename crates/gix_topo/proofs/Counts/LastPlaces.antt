@@ -1,0 +1,25 @@
+-- Each id of a list at its last place, found from the back.
+use Rattle.std.specs.Prelude.{◌≡◌, List, ◌∷◌, Bool, true, false, ◌||◌, cond}
+use Rattle.std.proofs.Common.{refl, ap, ◌∙◌}
+use Rattle.std.specs.FinSet as set
+use Rattle.gix_hash.specs.declared.ObjectId.{ObjectId}
+use Rattle.gix_hash.specs.Id.{id_cmp, is_among, is_same}
+use Rattle.gix_hash.proofs.Ids.Membership.{id_total, same_is}
+use Rattle.gix_topo.specs.TopoOrder.{last_places}
+
+-- an id that comes again keeps the later place
+pub kept_place : (i : ObjectId) (ids : List ObjectId) → is_among i ids ≡ true → last_places (i ∷ ids) ≡ last_places ids
+kept_place i ids e = ap (λ b. cond b (last_places ids) (i ∷ last_places ids)) e
+
+pub new_place : (i : ObjectId) (ids : List ObjectId) → is_among i ids ≡ false → last_places (i ∷ ids) ≡ i ∷ last_places ids
+new_place i ids e = ap (λ b. cond b (last_places ids) (i ∷ last_places ids)) e
+
+pub later_with : (later : set.FinSet id_cmp) (i : ObjectId) (ids : List ObjectId) → ((j : ObjectId) → set.contains later j ≡ is_among j ids) → (j : ObjectId) → set.contains (set.insert later i) j ≡ is_among j (i ∷ ids)
+later_with later i ids h j = set.contains-insert id_total later i j ∙ ap (λ b. is_same j i || b) (h j)
+
+pub later_same : (later : set.FinSet id_cmp) (i : ObjectId) (ids : List ObjectId) → is_among i ids ≡ true → ((j : ObjectId) → set.contains later j ≡ is_among j ids) → (j : ObjectId) → set.contains later j ≡ is_among j (i ∷ ids)
+later_same later i ids e h j = h j ∙ go (is_same j i) refl
+  where
+    go : (b : Bool) → is_same j i ≡ b → is_among j ids ≡ (b || is_among j ids)
+    go true s = ap (λ x. is_among x ids) (same_is j i s) ∙ e
+    go false s = refl

@@ -1,0 +1,155 @@
+-- What ids do to a walk, one after the other, where some of them become ready.
+use Rattle.std.specs.Prelude.{◌≡◌, ℕ, ◌==◌, List, [], ◌∷◌, ◌++◌, Bool, true, false, not, ◌&&◌, ◌||◌, cond, Ok, Contains}
+use Rattle.std.proofs.Common.{refl, sym, ap, subst, ⊎_elim, ◌∙◌}
+use Rattle.std.proofs.lemmas.Bool.{true≢false, false≢true, eqb-true}
+use Rattle.std.proofs.lemmas.List.Elements.{Contains-append_cases}
+use Rattle.gix_hash.specs.declared.ObjectId.{ObjectId}
+use Rattle.gix_hash.specs.Id.{is_same, is_among}
+use Rattle.gix_object.specs.Object.{Objects}
+use Rattle.gix_commitgraph.specs.Rows.{GraphRow}
+use Rattle.gix_hash.proofs.Ids.Membership.{same_is, among-append, among-one, Contains-here, Contains-there, no_member}
+use Rattle.gix_revwalk.specs.declared.Info.{Info}
+use Rattle.gix_frontier.specs.declared.Side.{Side}
+use Rattle.gix_frontier.specs.declared.Side.TheVariants.{Tips, Ends}
+use Rattle.gix_frontier.specs.declared.Frontier.{Frontier}
+use Rattle.gix_topo.specs.declared.walk.Walk.{Walk}
+use Rattle.gix_topo.specs.Reading.{Reads, by_row, by_text}
+use Rattle.gix_revwalk.specs.Reading.{DropsRows}
+use Rattle.gix_frontier.specs.Inside.Known.{Known}
+use Rattle.gix_frontier.specs.Inside.Frontier.{is_seen, known_of, progress_of, reached, is_due, MarksReady}
+use Rattle.gix_topo.specs.Inside.Releasing.{plan_of, with_frontier, Pushes}
+use Rattle.gix_topo.specs.Inside.Steady.{AreRead}
+use Rattle.gix_topo.specs.Walk.{Ready, ready_ids, IsFound}
+use Rattle.gix_revwalk.proofs.Rows.{held_before, dropped_by}
+use Rattle.gix_topo.proofs.Reading.OnceRead.{all_still, found_later, found_pushed}
+use Rattle.gix_topo.proofs.Readiness.ReadyIds.{ids-append}
+use Rattle.gix_topo.proofs.Counts.Frontier.{known-insert, reached-insert}
+use Rattle.gix_topo.proofs.Counts.Children.{children_of, was_ready_of}
+use Rattle.gix_hash.proofs.Lists.{only_member}
+
+module _ {F : Type 0} (objects : F → Objects) (faulty : F → ObjectId → Type 0) where
+  -- rows that are in use after a reading were in use before
+  pub reads_stands : {os : Objects} {fs : ObjectId → Type 0} {rows : List GraphRow} {standing : Bool} {i : ObjectId} {info : Info} {new : Bool} → Reads os fs rows standing i (Ok info) new → new ≡ true → standing ≡ true
+  reads_stands (by_row r is) = held_before r
+  reads_stands (by_text r t) = held_before r
+
+  -- rows that fall by reading fall by a row with a fault
+  pub reads_drops : {os : Objects} {fs : ObjectId → Type 0} {rows : List GraphRow} {standing : Bool} {i : ObjectId} {info : Info} {new : Bool} → Reads os fs rows standing i (Ok info) new → standing ≡ true → new ≡ false → DropsRows rows i
+  reads_drops (by_row r is) = dropped_by r
+  reads_drops (by_text r t) = dropped_by r
+
+  -- what making an id ready changes
+  pub marks_ready_known : (f g : Frontier) (i : ObjectId) → MarksReady f i g → (p : ObjectId) → (children_of g p ≡ children_of f p) × (was_ready_of g p ≡ (is_same p i || was_ready_of f p))
+  marks_ready_known f g i m p = (ap (λ k. (known_of k p).indegree) m.known ∙ ap (λ k. k.indegree) (known-insert f.known i (record (known_of f.known i) { was_ready = true }) p) ∙ one (is_same p i) refl, ap (λ k. (known_of k p).was_ready) m.known ∙ ap (λ k. k.was_ready) (known-insert f.known i (record (known_of f.known i) { was_ready = true }) p) ∙ two (is_same p i) refl)
+    where
+      one : (b : Bool) → is_same p i ≡ b → (cond b (record (known_of f.known i) { was_ready = true }) (known_of f.known p)).indegree ≡ children_of f p
+      one true s = ap (λ j. children_of f j) (sym (same_is p i s))
+      one false s = refl
+
+      two : (b : Bool) → is_same p i ≡ b → (cond b (record (known_of f.known i) { was_ready = true }) (known_of f.known p)).was_ready ≡ (b || was_ready_of f p)
+      two true s = refl
+      two false s = refl
+
+  -- and that it moves no search
+  pub makes_moved : (f g : Frontier) (i : ObjectId) → MarksReady f i g → (s : Side) (p : ObjectId) → reached g.known s p ≡ reached f.known s p
+  makes_moved f g i m s p = ap (λ k. reached k s p) m.known ∙ reached-insert f.known i (record (known_of f.known i) { was_ready = true }) s p ∙ go s (is_same p i) refl
+    where
+      go : (s : Side) (b : Bool) → is_same p i ≡ b → cond b (progress_of s (record (known_of f.known i) { was_ready = true })) (reached f.known s p) ≡ reached f.known s p
+      go Tips true e = ap (λ j. reached f.known Tips j) (sym (same_is p i e))
+      go Ends true e = ap (λ j. reached f.known Ends j) (sym (same_is p i e))
+      go s false e = refl
+
+  -- what being due says
+  pub due_parts : (n : ℕ) (k : Known) → is_due n k ≡ true → (n ≡ 0) × (is_seen k.ends ≡ false) × (k.was_ready ≡ false)
+  due_parts n k e = go (n == 0) (k.was_ready) (is_seen k.ends) refl refl refl e
+    where
+      zero_is : (n : ℕ) → (n == 0) ≡ true → n ≡ 0
+      zero_is n e = eqb-true n 0 e
+
+      go : (a b c : Bool) → (n == 0) ≡ a → k.was_ready ≡ b → is_seen k.ends ≡ c → ((a && not b) && not c) ≡ true → (n ≡ 0) × (is_seen k.ends ≡ false) × (k.was_ready ≡ false)
+      go true false false p q r e = (zero_is n p, r, q)
+      go true false true p q r e = absurd (false≢true e)
+      go true true c p q r e = absurd (false≢true e)
+      go false b c p q r e = absurd (false≢true e)
+
+  -- and when it is so
+  pub due_from : (n : ℕ) (k : Known) → n ≡ 0 → is_seen k.ends ≡ false → k.was_ready ≡ false → is_due n k ≡ true
+  due_from n k a b c = ap (λ m. ((m == 0) && not k.was_ready) && not (is_seen k.ends)) a ∙ ap (λ x. (true && not x) && not (is_seen k.ends)) c ∙ ap (λ x. true && not x) b
+
+  -- what these ids do, of which the added commits became ready
+  pub record MakesReady (old : Walk F) (ids : List ObjectId) (added : List Ready) (new : Walk F) : Type 0 where
+    pub plan : plan_of new ≡ plan_of old
+    pub depth : new.counting.depth ≡ old.counting.depth
+    pub expanded : new.counting.expanded ≡ old.counting.expanded
+    pub queue : new.counting.frontier.queue ≡ old.counting.frontier.queue
+    pub moved : (s : Side) (j : ObjectId) → reached new.counting.frontier.known s j ≡ reached old.counting.frontier.known s j
+    pub made : (j : ObjectId) → was_ready_of new.counting.frontier j ≡ (is_among j (ready_ids added) || was_ready_of old.counting.frontier j)
+    pub stands : new.counting.reader.standing ≡ true → old.counting.reader.standing ≡ true
+    pub among : (r : Ready) → Contains added r → Contains ids r.id
+    pub each : AreRead objects faulty (plan_of old) old.counting → (r : Ready) → Contains added r → IsFound objects faulty (plan_of old) old.counting.reader.standing new.counting.reader.standing r
+    pub dropped : old.counting.reader.standing ≡ true → new.counting.reader.standing ≡ false → (i : ObjectId) × Contains ids i × DropsRows (plan_of old).rows i
+
+  -- none became ready, and the table may differ in indegrees
+  pub made_none : (old : Walk F) (f : Frontier) (ids : List ObjectId) → f.queue ≡ old.counting.frontier.queue → ((s : Side) (j : ObjectId) → reached f.known s j ≡ reached old.counting.frontier.known s j) → ((j : ObjectId) → was_ready_of f j ≡ was_ready_of old.counting.frontier j) → MakesReady old ids [] (with_frontier objects faulty old f)
+  made_none old f ids queue moved made = record {
+    plan = refl;
+    depth = refl;
+    expanded = refl;
+    queue = queue;
+    moved = moved;
+    made = made;
+    stands = λ e. e;
+    among = λ r m. absurd (no_member r m);
+    each = λ h r m. absurd (no_member r m);
+    dropped = λ a b. absurd (true≢false (sym a ∙ b));
+  }
+
+  -- one became ready
+  pub made_one : (old : Walk F) (f : Frontier) {i : ObjectId} {r : Ready} {new : Walk F} → f.queue ≡ old.counting.frontier.queue → ((s : Side) (j : ObjectId) → reached f.known s j ≡ reached old.counting.frontier.known s j) → ((j : ObjectId) → was_ready_of f j ≡ was_ready_of old.counting.frontier j) → Pushes objects faulty (with_frontier objects faulty old f) i r new → MakesReady old (i ∷ []) (r ∷ []) new
+  made_one old f {i} {r} {new} queue moved made p = record {
+    plan = p.same.plan;
+    depth = p.same.depth;
+    expanded = p.same.expanded;
+    queue = p.same.queue ∙ queue;
+    moved = λ s j. makes_moved f new.counting.frontier i p.made s j ∙ moved s j;
+    made = λ j. (marks_ready_known f new.counting.frontier i p.made j).1 ∙ ap (λ b. is_same j i || b) (made j) ∙ ap (λ b. b || was_ready_of old.counting.frontier j) (ap (is_same j) (sym p.id) ∙ sym (among-one j r.id));
+    stands = λ e. reads_stands p.reads e;
+    among = λ x m. subst (λ j. Contains (i ∷ []) j) (sym p.id ∙ ap (λ y. y.id) (only_member r x m)) (Contains-here i []);
+    each = λ h x m. subst (IsFound objects faulty (plan_of old) old.counting.reader.standing new.counting.reader.standing) (only_member r x m) (found_pushed objects faulty (with_frontier objects faulty old f) old.counting i r new moved h p);
+    dropped = λ a b. (i, Contains-here i [], reads_drops p.reads a b);
+  }
+
+  -- one id, and then others
+  pub made_more : (old mid new : Walk F) (i : ObjectId) (ids : List ObjectId) (first others : List Ready) → MakesReady old (i ∷ []) first mid → MakesReady mid ids others new → MakesReady old (i ∷ ids) (first ++ others) new
+  made_more old mid new i ids first others a b = record {
+    plan = b.plan ∙ a.plan;
+    depth = b.depth ∙ a.depth;
+    expanded = b.expanded ∙ a.expanded;
+    queue = b.queue ∙ a.queue;
+    moved = λ s j. b.moved s j ∙ a.moved s j;
+    made = λ j. b.made j ∙ ap (λ x. is_among j (ready_ids others) || x) (a.made j) ∙ joined (is_among j (ready_ids others)) (is_among j (ready_ids first)) (was_ready_of old.counting.frontier j) ∙ ap (λ x. x || was_ready_of old.counting.frontier j) (sym (ap (is_among j) (ids-append first others) ∙ among-append j (ready_ids first) (ready_ids others)));
+    stands = λ e. a.stands (b.stands e);
+    among = λ r m. ⊎_elim (λ l. here r.id (a.among r l)) (λ t. Contains-there r.id i ids (b.among r t)) (Contains-append_cases first others r m);
+    each = λ h r m. ⊎_elim (λ l. found_later objects faulty (plan_of old) (λ e. e) b.stands (a.each h r l)) (λ t. found_later objects faulty (plan_of old) a.stands (λ e. e) (subst (λ p. IsFound objects faulty p mid.counting.reader.standing new.counting.reader.standing r) a.plan (b.each (read_mid h) r t))) (Contains-append_cases first others r m);
+    dropped = λ e d. drops mid.counting.reader.standing refl e d;
+  }
+    where
+      read_mid : AreRead objects faulty (plan_of old) old.counting → AreRead objects faulty (plan_of mid) mid.counting
+      read_mid h = subst (λ p. AreRead objects faulty p mid.counting) (sym a.plan) (all_still objects faulty (plan_of old) old.counting mid.counting a.moved a.stands h)
+
+      joined : (x y z : Bool) → (x || (y || z)) ≡ ((y || x) || z)
+      joined true true z = refl
+      joined true false z = refl
+      joined false true z = refl
+      joined false false z = refl
+
+      here : (j : ObjectId) → Contains (i ∷ []) j → Contains (i ∷ ids) j
+      here j m = subst (λ x. Contains (i ∷ ids) x) (only_member i j m) (Contains-here i ids)
+
+      drops : (m : Bool) → mid.counting.reader.standing ≡ m → old.counting.reader.standing ≡ true → new.counting.reader.standing ≡ false → (j : ObjectId) × Contains (i ∷ ids) j × DropsRows (plan_of old).rows j
+      drops true m e d =
+          let h : (j : ObjectId) × Contains ids j × DropsRows (plan_of mid).rows j = b.dropped m d in
+          (h.0, Contains-there h.0 i ids h.1, subst (λ p. DropsRows p.rows h.0) a.plan h.2)
+      drops false m e d =
+          let h : (j : ObjectId) × Contains (i ∷ []) j × DropsRows (plan_of old).rows j = a.dropped e m in
+          (h.0, here h.0 h.1, h.2)

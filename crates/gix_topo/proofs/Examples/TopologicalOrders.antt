@@ -1,0 +1,255 @@
+-- Worked examples: over a finite history, lists in the orders of topological walks are found by computing.
+use Rattle.std.specs.Prelude.{◌≡◌, ◌≤◌, ℕ, ℤ, pos, List, [], ◌∷◌, ◌++◌, Bool, true, false, not, ◌&&◌, ◌||◌, cond, filter, reverse, take, Option, Some, None, Contains, MatchOption}
+use Rattle.std.proofs.Common.{refl, sym, ap, subst, inr, ⊎_elim, ◌∙◌, arith}
+use Rattle.std.proofs.Math.Dec.{leb}
+use Rattle.std.proofs.lemmas.Int.{ints}
+use Rattle.std.proofs.lemmas.Bool.{false≢true, true≢false, and_parts, and_from, leb-true, not-true, not_from_false, false_from_ne_true}
+use Rattle.gix_hash.specs.declared.ObjectId.{ObjectId}
+use Rattle.gix_hash.specs.Id.{is_same, is_among}
+use Rattle.gix_revwalk.specs.BreadthOrder.{first_new, named_by}
+use Rattle.gix_revwalk.specs.TimeOrder.{IsBest}
+use Rattle.gix_revwalk.specs.declared.CommitTimeOrder.TheVariants.{NewestFirst}
+use Rattle.gix_topo.specs.DateOrder.{IsDateOrder}
+use Rattle.gix_hash.specs.Reach.{Reaches, start, step, IsAtBoundary}
+use Rattle.gix_topo.specs.WalkSet.{IsInWalk, IsChildless, IsReady}
+use Rattle.gix_topo.specs.TopoOrder.{Keeps, first_places, last_places, by_time, IsMadeReady, IsTopoOrder}
+use Rattle.gix_revwalk.specs.Examples.{n, ids, history, sample_in}
+use Rattle.gix_hash.proofs.Ids.Membership.{same_is, among_from, among_is, Contains-cons_cases, no_member}
+use Rattle.gix_revwalk.proofs.Orders.{reached_by_named}
+use Rattle.gix_topo.proofs.Readiness.IsReady.{keeps_alike, ready_alike}
+use Rattle.gix_topo.proofs.Examples.Decided.{all_of, all_is, given, is_ready as is_ready_of, ready_is as ready_of, is_ready_by as of_ready, keeps as keeps_of}
+use Rattle.gix_topo.proofs.Run.ReadyInTurn.{TurnsFrom, turn_none, turn_more, IsLastMade, same_topo}
+
+-- the list is what the starts reach: it is closed, and each id of it is named by those before
+module _ (next : ObjectId → List ObjectId) (starts : List ObjectId) where
+  abbrev is_closed : List ObjectId → Bool
+  is_closed rs = all_of (λ i. is_among i rs) starts && all_of (λ c. all_of (λ i. is_among i rs) (next c)) rs
+
+  abbrev is_led : List ObjectId → List ObjectId → Bool
+  is_led done [] = true
+  is_led done (i ∷ rs) = is_among i (named_by next starts done) && is_led (i ∷ done) rs
+
+  reach_in : (rs : List ObjectId) → is_closed rs ≡ true → (i : ObjectId) → Reaches next starts i → is_among i rs ≡ true
+  reach_in rs e i (start s) = all_is (λ j. is_among j rs) starts (and_parts _ _ e).0 i s
+  reach_in rs e i (step {c = c} r m) = all_is (λ j. is_among j rs) (next c) (all_is (λ d. all_of (λ j. is_among j rs) (next d)) rs (and_parts _ _ e).1 c (among_is c rs (reach_in rs e c r))) i m
+
+  led_reach : (rs done : List ObjectId) → is_led done rs ≡ true → ((c : ObjectId) → Contains done c → Reaches next starts c) → (i : ObjectId) → Contains rs i → Reaches next starts i
+  led_reach [] done e h i c = absurd (no_member i c)
+  led_reach (x ∷ rs) done e h i c =
+      let here : Reaches next starts x = reached_by_named next starts done h x (among_is x _ (and_parts _ _ e).0) in
+      ⊎_elim (λ s. subst (Reaches next starts) s here)
+      (λ t. led_reach rs (x ∷ done) (and_parts _ _ e).1 (λ d k. ⊎_elim (λ s. subst (Reaches next starts) s here) (λ l. h d l) (Contains-cons_cases d x done k)) i t)
+      (Contains-cons_cases i x rs c)
+
+-- a finite history: the commits that have parents, what tips reach, and what ends reach
+module _ (walked : ObjectId → List ObjectId) (tips ends keys reached hidden : List ObjectId) (finite : (c i : ObjectId) → Contains (walked c) i → is_among c keys ≡ true)
+    (checked : ((is_closed walked tips reached && is_led walked tips [] reached) && (is_closed walked ends hidden && is_led walked ends [] hidden)) ≡ true) where
+  abbrev Member : ObjectId → Type 0
+  Member = IsInWalk walked walked tips ends
+
+  abbrev is_member : ObjectId → Bool
+  is_member i = is_among i reached && not (is_among i hidden)
+
+  member_is : (i : ObjectId) → is_member i ≡ true → Member i
+  member_is i e =
+      let a : (is_among i reached ≡ true) × (not (is_among i hidden) ≡ true) = and_parts _ _ e in
+      let tip : (is_closed walked tips reached ≡ true) × (is_led walked tips [] reached ≡ true) = and_parts _ _ (and_parts _ _ checked).0 in
+      let end : (is_closed walked ends hidden ≡ true) × (is_led walked ends [] hidden ≡ true) = and_parts _ _ (and_parts _ _ checked).1 in
+      record { reached = led_reach walked tips reached [] tip.1 (λ c k. absurd (no_member c k)) i (among_is i reached a.0); outside = λ r. true≢false (sym (reach_in walked ends hidden end.0 i r) ∙ not-true _ a.1) }
+
+  is_member_by : (i : ObjectId) → Member i → is_member i ≡ true
+  is_member_by i m =
+      let tip : (is_closed walked tips reached ≡ true) × (is_led walked tips [] reached ≡ true) = and_parts _ _ (and_parts _ _ checked).0 in
+      let end : (is_closed walked ends hidden ≡ true) × (is_led walked ends [] hidden ≡ true) = and_parts _ _ (and_parts _ _ checked).1 in
+      and_from _ _ (reach_in walked tips reached tip.0 i m.reached) (not_from_false _ (false_from_ne_true _ (λ h. m.outside (led_reach walked ends hidden [] end.1 (λ c k. absurd (no_member c k)) i (among_is i hidden h)))))
+
+  abbrev is_ready : List ObjectId → ObjectId → Bool
+  is_ready taken i = is_ready_of walked Member keys is_member (λ d. is_among d taken) i
+
+  alike : (taken : List ObjectId) (i : ObjectId) → IsReady walked Member (λ d. is_among d taken ≡ true) i → IsReady walked Member (Contains taken) i
+  alike taken i r = ready_alike walked Member (λ d. is_among d taken ≡ true) (Contains taken) (λ j e. among_is j taken e) (λ j c. among_from j taken c) i r
+
+  unlike : (taken : List ObjectId) (i : ObjectId) → IsReady walked Member (Contains taken) i → IsReady walked Member (λ d. is_among d taken ≡ true) i
+  unlike taken i r = ready_alike walked Member (Contains taken) (λ d. is_among d taken ≡ true) (λ j c. among_from j taken c) (λ j e. among_is j taken e) i r
+
+  ready_is : (taken : List ObjectId) (i : ObjectId) → is_ready taken i ≡ true → IsReady walked Member (Contains taken) i
+  ready_is taken i e = alike taken i (ready_of walked Member keys is_member finite member_is is_member_by (λ d. is_among d taken) i e)
+
+  is_ready_by : (taken : List ObjectId) (i : ObjectId) → IsReady walked Member (Contains taken) i → is_ready taken i ≡ true
+  is_ready_by taken i r = of_ready walked Member keys is_member finite member_is is_member_by (λ d. is_among d taken) i (unlike taken i r)
+
+  keeps : (taken xs : List ObjectId) → Keeps (IsReady walked Member (Contains taken)) xs (filter (is_ready taken) xs)
+  keeps taken xs = keeps_alike (IsReady walked Member (λ d. is_among d taken ≡ true)) (IsReady walked Member (Contains taken)) (alike taken) (unlike taken) (keeps_of walked Member keys is_member finite member_is is_member_by (λ d. is_among d taken) xs)
+
+  -- the next one is ready, and no member that is ready has a greater time
+  module _ (seconds : ObjectId → ℕ) where
+    abbrev is_best : List ObjectId → Option ObjectId → Bool
+    is_best done None = all_of (λ j. not (is_ready done j)) reached
+    is_best done (Some i) = is_ready done i && all_of (λ j. not (is_ready done j) || leb (seconds j) (seconds i)) reached
+
+    best_is : (done : List ObjectId) (o : Option ObjectId) → is_best done o ≡ true → MatchOption o ((i : ObjectId) → IsReady walked Member (Contains done) i → ⊥) (IsBest NewestFirst (λ i. pos (seconds i)) (IsReady walked Member (Contains done)))
+    best_is done None e = λ i r.
+        let b : is_ready done i ≡ true = is_ready_by done i r in
+        true≢false (sym (all_is (λ j. not (is_ready done j)) reached e i (among_is i reached (and_parts _ _ (and_parts _ _ b).0).0)) ∙ ap not b)
+    best_is done (Some i) e =
+        let a : (is_ready done i ≡ true) × (all_of (λ j. not (is_ready done j) || leb (seconds j) (seconds i)) reached ≡ true) = and_parts _ _ e in
+        record {
+          among = ready_is done i a.0;
+          best = λ j r.
+              let b : is_ready done j ≡ true = is_ready_by done j r in
+              let l : seconds j ≤ seconds i = leb-true _ _ (given _ _ (all_is (λ k. not (is_ready done k) || leb (seconds k) (seconds i)) reached a.1 j (among_is j reached (and_parts _ _ (and_parts _ _ b).0).0)) b) in
+              omega (arith, ints);
+        }
+
+    abbrev is_date : List ObjectId → List ObjectId → Bool
+    is_date done [] = is_best done None
+    is_date done (i ∷ ids) = is_best done (Some i) && is_date (done ++ i ∷ []) ids
+
+    abbrev BestNext : List ObjectId → Option ObjectId → Type 0
+    BestNext done o = MatchOption o ((i : ObjectId) → IsReady walked Member (Contains done) i → ⊥) (IsBest NewestFirst (λ i. pos (seconds i)) (IsReady walked Member (Contains done)))
+
+    date_from : (ids done : List ObjectId) → is_date done ids ≡ true → TurnsFrom BestNext done ids
+    date_from [] done e = turn_none BestNext done (best_is done None e)
+    date_from (i ∷ ids) done e = turn_more BestNext done ids i (best_is done (Some i) (and_parts _ _ e).0) (date_from ids (done ++ i ∷ []) (and_parts _ _ e).1)
+
+    -- a list that passes is in order by date
+    pub date_by : (ids : List ObjectId) → is_date [] ids ≡ true → IsDateOrder (λ i. pos (seconds i)) walked Member ids
+    date_by ids e = date_from ids [] e
+
+  module _ (time : ObjectId → ℤ) where
+    -- those made ready by the time when these were taken (the latest first)
+    abbrev made : List ObjectId → List ObjectId
+    made [] = by_time time (filter (is_ready []) (first_places tips))
+    made (c ∷ taken) = made taken ++ filter (is_ready (c ∷ taken)) (last_places (walked c))
+
+    made_is : (taken : List ObjectId) → IsMadeReady time walked Member tips taken (made taken)
+    made_is [] = (
+      filter (is_ready []) (first_places tips),
+      keeps_alike (IsReady walked Member (Contains [])) (IsChildless walked Member) (λ i r. record { member = r.member; alone = λ d c. no_member d (r.children d c) }) (λ i r. record { member = r.member; left = λ c. no_member i c; children = λ d c. absurd (r.alone d c) }) (keeps [] (first_places tips)),
+      refl,
+    )
+    made_is (c ∷ taken) = (made taken, filter (is_ready (c ∷ taken)) (last_places (walked c)), made_is taken, keeps (c ∷ taken) (last_places (walked c)), refl)
+
+    abbrev is_this : Option ObjectId → Option ObjectId → Bool
+    is_this None None = true
+    is_this None (Some j) = false
+    is_this (Some i) None = false
+    is_this (Some i) (Some j) = is_same i j
+
+    this_is : (o p : Option ObjectId) → is_this o p ≡ true → o ≡ p
+    this_is None None e = refl
+    this_is None (Some j) e = absurd (false≢true e)
+    this_is (Some i) None e = absurd (false≢true e)
+    this_is (Some i) (Some j) e = ap Some (same_is i j e)
+
+    abbrev is_turn : List ObjectId → Option ObjectId → Bool
+    is_turn done o = is_this o (first_new (reverse (made (reverse done))) done)
+
+    abbrev is_topo : List ObjectId → List ObjectId → Bool
+    is_topo done [] = is_turn done None
+    is_topo done (i ∷ ids) = is_turn done (Some i) && is_topo (done ++ i ∷ []) ids
+
+    topo_from : (ids done : List ObjectId) → is_topo done ids ≡ true → TurnsFrom (IsLastMade time walked Member tips) done ids
+    topo_from [] done e = turn_none (IsLastMade time walked Member tips) done (made (reverse done), made_is (reverse done), this_is None _ e)
+    topo_from (i ∷ ids) done e =
+        turn_more (IsLastMade time walked Member tips) done ids i (made (reverse done), made_is (reverse done), this_is (Some i) _ (and_parts _ _ e).0) (topo_from ids (done ++ i ∷ []) (and_parts _ _ e).1)
+
+    -- a list that passes is in topological order
+    pub topo_by : (ids : List ObjectId) → is_topo [] ids ≡ true → IsTopoOrder time walked Member tips ids
+    topo_by ids e = topo_from ids [] e
+
+-- the sample history
+abbrev pub keys_of : List (ℕ × List ℕ) → List ObjectId
+keys_of [] = []
+keys_of (entry ∷ entries) = n entry.0 ∷ keys_of entries
+
+-- commit n has time n
+abbrev pub sample_seconds : List (ℕ × List ℕ) → ObjectId → ℕ
+sample_seconds [] i = 0
+sample_seconds (entry ∷ entries) i = cond (is_same i (n entry.0)) entry.0 (sample_seconds entries i)
+
+sample_finite : (h : List (ℕ × List ℕ)) (c i : ObjectId) → Contains (sample_in h c) i → is_among c (keys_of h) ≡ true
+sample_finite [] c i m = absurd (no_member i m)
+sample_finite (entry ∷ h) c i m = go (is_same c (n entry.0)) m (sample_finite h c i)
+  where
+    go : (b : Bool) → Contains (cond b (ids entry.1) (sample_in h c)) i → (Contains (sample_in h c) i → is_among c (keys_of h) ≡ true) → (b || is_among c (keys_of h)) ≡ true
+    go true m r = refl
+    go false m r = r m
+
+-- over such a history, what the tips reach and the ends don't
+abbrev pub SampleSet : List (ℕ × List ℕ) → List ℕ → List ℕ → ObjectId → Type 0
+SampleSet h tips ends = IsInWalk (sample_in h) (sample_in h) (ids tips) (ids ends)
+
+abbrev pub IsSampleTopo : List (ℕ × List ℕ) → List ℕ → List ℕ → List ℕ → Type 0
+IsSampleTopo h tips ends order = IsTopoOrder (λ i. pos (sample_seconds h i)) (sample_in h) (SampleSet h tips ends) (ids tips) (ids order)
+
+abbrev pub IsSampleDate : List (ℕ × List ℕ) → List ℕ → List ℕ → List ℕ → Type 0
+IsSampleDate h tips ends order = IsDateOrder (λ i. pos (sample_seconds h i)) (sample_in h) (SampleSet h tips ends) (ids order)
+
+-- `reached` and `hidden` are what tips and ends reach, each behind a commit that names it
+module _ (h : List (ℕ × List ℕ)) (tips ends reached hidden : List ℕ)
+    (checked : ((is_closed (sample_in h) (ids tips) (ids reached) && is_led (sample_in h) (ids tips) [] (ids reached)) && (is_closed (sample_in h) (ids ends) (ids hidden) && is_led (sample_in h) (ids ends) [] (ids hidden))) ≡ true) where
+  sample_topo : (order : List ℕ) → is_topo (sample_in h) (ids tips) (ids ends) (keys_of h) (ids reached) (ids hidden) (sample_finite h) checked (λ i. pos (sample_seconds h i)) [] (ids order) ≡ true → IsSampleTopo h tips ends order
+  sample_topo order e = topo_by (sample_in h) (ids tips) (ids ends) (keys_of h) (ids reached) (ids hidden) (sample_finite h) checked (λ i. pos (sample_seconds h i)) (ids order) e
+
+  sample_date : (order : List ℕ) → is_date (sample_in h) (ids tips) (ids ends) (keys_of h) (ids reached) (ids hidden) (sample_finite h) checked (sample_seconds h) [] (ids order) ≡ true → IsSampleDate h tips ends order
+  sample_date order e = date_by (sample_in h) (ids tips) (ids ends) (keys_of h) (ids reached) (ids hidden) (sample_finite h) checked (sample_seconds h) (ids order) e
+
+abbrev pub all_eight : List ℕ
+all_eight = 8 ∷ 6 ∷ 7 ∷ 5 ∷ 4 ∷ 3 ∷ 2 ∷ 1 ∷ []
+
+-- with the parents of 8 in the other order
+abbrev pub turned : List (ℕ × List ℕ)
+turned = (8, 7 ∷ 6 ∷ []) ∷ (7, 4 ∷ []) ∷ (6, 5 ∷ []) ∷ (5, 3 ∷ []) ∷ (4, 2 ∷ []) ∷ (3, 1 ∷ []) ∷ (2, 1 ∷ []) ∷ (1, []) ∷ []
+
+-- with a commit whose first parent is named twice
+abbrev pub repeated : List (ℕ × List ℕ)
+repeated = (9, 6 ∷ 7 ∷ 6 ∷ []) ∷ history
+
+-- two commits, each the other's parent
+abbrev pub round : List (ℕ × List ℕ)
+round = (1, 2 ∷ []) ∷ (2, 1 ∷ []) ∷ []
+
+pub one_tip : IsSampleTopo history (8 ∷ []) [] (8 ∷ 7 ∷ 4 ∷ 2 ∷ 6 ∷ 5 ∷ 3 ∷ 1 ∷ [])
+one_tip = sample_topo history (8 ∷ []) [] all_eight [] refl (8 ∷ 7 ∷ 4 ∷ 2 ∷ 6 ∷ 5 ∷ 3 ∷ 1 ∷ []) refl
+
+pub parents_turned : IsSampleTopo turned (8 ∷ []) [] (8 ∷ 6 ∷ 5 ∷ 3 ∷ 7 ∷ 4 ∷ 2 ∷ 1 ∷ [])
+parents_turned = sample_topo turned (8 ∷ []) [] all_eight [] refl (8 ∷ 6 ∷ 5 ∷ 3 ∷ 7 ∷ 4 ∷ 2 ∷ 1 ∷ []) refl
+
+pub by_date : IsSampleDate history (8 ∷ []) [] (8 ∷ 7 ∷ 6 ∷ 5 ∷ 4 ∷ 3 ∷ 2 ∷ 1 ∷ [])
+by_date = sample_date history (8 ∷ []) [] all_eight [] refl (8 ∷ 7 ∷ 6 ∷ 5 ∷ 4 ∷ 3 ∷ 2 ∷ 1 ∷ []) refl
+
+pub two_tips : IsSampleTopo history (7 ∷ 6 ∷ []) [] (7 ∷ 4 ∷ 2 ∷ 6 ∷ 5 ∷ 3 ∷ 1 ∷ [])
+two_tips = sample_topo history (7 ∷ 6 ∷ []) [] (7 ∷ 6 ∷ 5 ∷ 4 ∷ 3 ∷ 2 ∷ 1 ∷ []) [] refl (7 ∷ 4 ∷ 2 ∷ 6 ∷ 5 ∷ 3 ∷ 1 ∷ []) refl
+
+pub an_end : IsSampleTopo history (8 ∷ []) (5 ∷ []) (8 ∷ 7 ∷ 4 ∷ 2 ∷ 6 ∷ [])
+an_end = sample_topo history (8 ∷ []) (5 ∷ []) all_eight (5 ∷ 3 ∷ 1 ∷ []) refl (8 ∷ 7 ∷ 4 ∷ 2 ∷ 6 ∷ []) refl
+
+pub tip_is_end : IsSampleTopo history (8 ∷ []) (8 ∷ []) []
+tip_is_end = sample_topo history (8 ∷ []) (8 ∷ []) all_eight all_eight refl [] refl
+
+pub parent_repeated : IsSampleTopo repeated (9 ∷ []) [] (9 ∷ 6 ∷ 5 ∷ 3 ∷ 7 ∷ 4 ∷ 2 ∷ 1 ∷ [])
+parent_repeated = sample_topo repeated (9 ∷ []) [] (9 ∷ 6 ∷ 7 ∷ 5 ∷ 4 ∷ 3 ∷ 2 ∷ 1 ∷ []) [] refl (9 ∷ 6 ∷ 5 ∷ 3 ∷ 7 ∷ 4 ∷ 2 ∷ 1 ∷ []) refl
+
+pub goes_round : IsSampleTopo round (1 ∷ []) [] [] × IsSampleDate round (1 ∷ []) [] []
+goes_round = (sample_topo round (1 ∷ []) [] (1 ∷ 2 ∷ []) [] refl [] refl, sample_date round (1 ∷ []) [] (1 ∷ 2 ∷ []) [] refl [] refl)
+
+-- at its first place the repeated parent would come last
+pub first_place_refused : IsSampleTopo repeated (9 ∷ []) [] (9 ∷ 7 ∷ 4 ∷ 2 ∷ 6 ∷ 5 ∷ 3 ∷ 1 ∷ []) → ⊥
+first_place_refused h =
+    let e : ids (9 ∷ 7 ∷ 4 ∷ 2 ∷ 6 ∷ 5 ∷ 3 ∷ 1 ∷ []) ≡ ids (9 ∷ 6 ∷ 5 ∷ 3 ∷ 7 ∷ 4 ∷ 2 ∷ 1 ∷ []) =
+    same_topo (λ i. pos (sample_seconds repeated i)) (sample_in repeated) (SampleSet repeated (9 ∷ []) []) (ids (9 ∷ [])) _ _ h parent_repeated in
+    false≢true (ap (λ xs. is_among (n 7) (take 2 xs)) (sym e))
+
+-- 6 is in the walk from 8 with the end 5; 3 is reached by the end
+pub above_an_end : SampleSet history (8 ∷ []) (5 ∷ []) (n 6) × (SampleSet history (8 ∷ []) (5 ∷ []) (n 3) → ⊥)
+above_an_end = (
+  member_is (sample_in history) (ids (8 ∷ [])) (ids (5 ∷ [])) (keys_of history) (ids all_eight) (ids (5 ∷ 3 ∷ 1 ∷ [])) (sample_finite history) refl (n 6) refl,
+  λ m. true≢false (sym (is_member_by (sample_in history) (ids (8 ∷ [])) (ids (5 ∷ [])) (keys_of history) (ids all_eight) (ids (5 ∷ 3 ∷ 1 ∷ [])) (sample_finite history) refl (n 3) m)),
+)
+
+-- With the tip 8 and the hidden tip 7, commit 1 is at the boundary, as a parent of 3. Hidden tips reach it, so painting has to mark it.
+pub at_boundary : IsAtBoundary (sample_in history) (ids (8 ∷ [])) (ids (7 ∷ [])) (n 1)
+at_boundary =
+    let three : SampleSet history (8 ∷ []) (7 ∷ []) (n 3) = member_is (sample_in history) (ids (8 ∷ [])) (ids (7 ∷ [])) (keys_of history) (ids all_eight) (ids (7 ∷ 4 ∷ 2 ∷ 1 ∷ [])) (sample_finite history) refl (n 3) refl in
+    inr (n 3, three.reached, three.outside, among_is (n 1) (sample_in history (n 3)) refl)

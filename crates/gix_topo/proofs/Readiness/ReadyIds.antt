@@ -1,0 +1,64 @@
+-- Ready commits by their ids: those that are held, chosen, and joined.
+use Rattle.std.specs.Prelude.{◌≡◌, ◌+◌, List, [], ◌∷◌, ◌++◌, cond, Contains, IsPermutation}
+use Rattle.std.proofs.Common.{sym, ap, subst, ⊎_elim, ◌∙◌, arith, append_assoc, append-nil}
+use Rattle.std.proofs.lemmas.List.{map-append}
+use Rattle.std.proofs.lemmas.List.Elements.{Contains-append_left, Contains-push}
+use Rattle.std.proofs.lemmas.List.Sorted.{IsPermutation-map, IsPermutation-sym, IsPermutation-append_left, IsPermutation-trans, IsPermutation-refl, Contains-permutation}
+use Rattle.gix_hash.specs.declared.ObjectId.{ObjectId}
+use Rattle.gix_hash.specs.Id.{is_same}
+use Rattle.gix_hash.proofs.Ids.Membership.{Contains-here, Contains-there, Contains-cons_cases, no_member}
+use Rattle.gix_topo.specs.declared.Sorting.{Sorting}
+use Rattle.gix_topo.specs.declared.Sorting.TheVariants as order
+use Rattle.gix_topo.specs.Walk.{Ready, ready_ids, HoldsReady, Chooses}
+use Rattle.gix_revwalk.proofs.NewIds.{times, times-append, times_moved}
+
+pub in_ids : (rs : List Ready) (r : Ready) → Contains rs r → Contains (ready_ids rs) r.id
+in_ids [] r m = absurd (no_member r m)
+in_ids (x ∷ rs) r m = ⊎_elim (λ s. subst (λ j. Contains (x.id ∷ ready_ids rs) j) (ap (λ y. y.id) s) (Contains-here x.id (ready_ids rs))) (λ t. Contains-there r.id x.id (ready_ids rs) (in_ids rs r t)) (Contains-cons_cases r x rs m)
+
+pub from_ids : (rs : List Ready) (p : ObjectId) → Contains (ready_ids rs) p → (r : Ready) × Contains rs r × (r.id ≡ p)
+from_ids [] p m = absurd (no_member p m)
+from_ids (x ∷ rs) p m =
+    ⊎_elim (λ s. (x, Contains-here x rs, s)) (λ t. let h : (r : Ready) × Contains rs r × (r.id ≡ p) = from_ids rs p t in (h.0, Contains-there h.0 x rs h.1, h.2)) (Contains-cons_cases p x.id (ready_ids rs) m)
+
+pub ids-append : (xs ys : List Ready) → ready_ids (xs ++ ys) ≡ ready_ids xs ++ ready_ids ys
+ids-append xs ys = map-append (λ r. r.id) xs ys
+
+pub times-permutation : (i : ObjectId) (xs ys : List Ready) → IsPermutation xs ys → times i (ready_ids ys) ≡ times i (ready_ids xs)
+times-permutation i xs ys h = times_moved i (ready_ids xs) (ready_ids ys) (IsPermutation-map (λ r. r.id) xs ys h)
+
+pub joined_times : (i : ObjectId) (xs ys : List Ready) → times i (ready_ids (xs ++ ys)) ≡ times i (ready_ids xs) + times i (ready_ids ys)
+joined_times i xs ys = ap (times i) (ids-append xs ys) ∙ times-append i (ready_ids xs) (ready_ids ys)
+
+-- what is held
+pub holds_times : (s : Sorting) (these ready : List Ready) → HoldsReady s these ready → (i : ObjectId) → times i (ready_ids ready) ≡ times i (ready_ids these)
+holds_times order.TopoOrder these ready h i = ap (λ rs. times i (ready_ids rs)) h
+holds_times order.DateOrder these ready h i = times-permutation i these ready h
+
+pub holds_in : (s : Sorting) (these ready : List Ready) → HoldsReady s these ready → (r : Ready) → Contains ready r → Contains these r
+holds_in order.TopoOrder these ready h r c = subst (λ rs. Contains rs r) h c
+holds_in order.DateOrder these ready h r c = Contains-permutation ready these r (IsPermutation-sym these ready h) c
+
+pub holds_none : (s : Sorting) (old : List Ready) → HoldsReady s (old ++ []) old
+holds_none order.TopoOrder old = sym (append-nil old)
+holds_none order.DateOrder old = subst (λ xs. IsPermutation xs old) (sym (append-nil old)) (IsPermutation-refl old)
+
+pub holds_on : (s : Sorting) (old first mid others new : List Ready) → HoldsReady s (old ++ first) mid → HoldsReady s (mid ++ others) new → HoldsReady s (old ++ (first ++ others)) new
+holds_on order.TopoOrder old first mid others new a b = b ∙ ap (λ xs. xs ++ others) a ∙ append_assoc old first others
+holds_on order.DateOrder old first mid others new a b = subst (λ xs. IsPermutation xs new) (append_assoc old first others) (IsPermutation-trans _ _ _ (IsPermutation-append_left others (old ++ first) mid a) b)
+
+-- what is chosen, and what is left
+pub chosen_times : (s : Sorting) (ready : List Ready) (c : Ready) (others : List Ready) → Chooses s ready c others → (i : ObjectId) → times i (ready_ids ready) ≡ cond (is_same i c.id) 1 0 + times i (ready_ids others)
+chosen_times order.TopoOrder ready c others h i =
+    let e : times i (ready_ids ready) ≡ times i (ready_ids (others ++ c ∷ [])) = ap (λ rs. times i (ready_ids rs)) h in
+    let j : times i (ready_ids (others ++ c ∷ [])) ≡ times i (ready_ids others) + times i (ready_ids (c ∷ [])) = joined_times i others (c ∷ []) in
+    omega arith
+chosen_times order.DateOrder ready c others h i = sym (times-permutation i ready (c ∷ others) h.0)
+
+pub chosen_in : (s : Sorting) (ready : List Ready) (c : Ready) (others : List Ready) → Chooses s ready c others → Contains ready c
+chosen_in order.TopoOrder ready c others h = subst (λ rs. Contains rs c) (sym h) (Contains-push others c)
+chosen_in order.DateOrder ready c others h = Contains-permutation (c ∷ others) ready c (IsPermutation-sym ready (c ∷ others) h.0) (Contains-here c others)
+
+pub others_in : (s : Sorting) (ready : List Ready) (c : Ready) (others : List Ready) → Chooses s ready c others → (r : Ready) → Contains others r → Contains ready r
+others_in order.TopoOrder ready c others h r m = subst (λ rs. Contains rs r) (sym h) (Contains-append_left others (c ∷ []) r m)
+others_in order.DateOrder ready c others h r m = Contains-permutation (c ∷ others) ready r (IsPermutation-sym ready (c ∷ others) h.0) (Contains-there r c others m)

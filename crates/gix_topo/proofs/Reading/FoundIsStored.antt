@@ -1,0 +1,69 @@
+-- A ready commit as it was read, with rows that agree.
+use Rattle.std.specs.Prelude.{◌≡◌, ℕ, Bool, true, cond, Option, Some, None, Result, Ok, Err, List, Contains}
+use Rattle.std.proofs.Common.{refl, sym, ap, subst, ◌∙◌}
+use Rattle.std.proofs.lemmas.Bool.{lt-ltb}
+use Rattle.gix_hash.specs.declared.ObjectId.{ObjectId}
+use Rattle.gix_object.specs.declared.decode.Error.{Error as DecodeError}
+use Rattle.gix_hash.specs.Id.{kind_of, is_among}
+use Rattle.gix_object.specs.Object.{Objects}
+use Rattle.gix_object.specs.CommitText.{Commit, read_commit}
+use Rattle.gix_object.specs.CommitItems.{commit_items}
+use Rattle.gix_object.specs.CommitRefIter.{first_committer}
+use Rattle.gix_commitgraph.specs.Rows.{GraphRow, row_of}
+use Rattle.gix_revwalk.specs.declared.Info.{Info}
+use Rattle.gix_revwalk.specs.declared.read.RowRead.{RowRead}
+use Rattle.gix_revwalk.specs.Agreeing.{IsAgreeing}
+use Rattle.gix_topo.specs.Depth.{infinity}
+use Rattle.gix_revwalk.specs.Commits.{ReadsWhole, time_of, time_in, commit_of_object}
+use Rattle.gix_revwalk.specs.Reading.{RowSays, is_read}
+use Rattle.gix_topo.specs.Reading.{Reads, by_row, by_text, told_generation, time_of_committer}
+use Rattle.gix_topo.specs.Inside.Searched.{text_next}
+use Rattle.gix_revwalk.specs.Infos.{IsRowGeneration}
+use Rattle.gix_topo.specs.Walk.{TopoPlan, Ready, IsWalkable, IsStored, named_ids, row_generation, IsFound}
+use Rattle.gix_revwalk.proofs.Rows.{passed_over}
+use Rattle.gix_revwalk.proofs.CommitterTime.{TellsTime, tells}
+use Rattle.gix_revwalk.proofs.ReadsWhole.{row_stands, row_says_time}
+use Rattle.gix_revwalk.proofs.TextParents.{text_whole}
+use Rattle.gix_topo.proofs.Reading.ReadsCommit.{reads_named, reads_text_next}
+
+committer_time : (o : Option Commit) (q : Result (List ℕ) DecodeError) → TellsTime o q → time_of_committer q ≡ time_in o
+committer_time (Some c) (Ok signature) h = sym h
+committer_time (Some c) (Err e) h = absurd h
+committer_time None (Ok signature) h = absurd h
+committer_time None (Err e) h = refl
+
+module _ (objects : Objects) (faulty : ObjectId → Type 0) (rows : List GraphRow) (agrees : IsAgreeing objects rows) where
+  finite_told : (i : ObjectId) {read : RowRead} (says : RowSays rows i read) → told_generation read.generation ≡ Some says.row.generation
+  finite_told i says =
+      ap told_generation says.generation ∙ ap (λ b. cond b (Some says.row.generation) None) (lt-ltb says.row.generation infinity (agrees says.row (row_stands rows i says.row says.there).0).finite)
+
+  reads_time : {standing : Bool} {i : ObjectId} {info : Info} {new : Bool} → Reads objects faulty rows standing i (Ok info) new → info.commit_time ≡ Some (time_of objects i)
+  reads_time {i = i} (by_row (is_read h says) is) = is.same_time ∙ ap Some (says.time ∙ row_says_time objects rows agrees i says.row says.there)
+  reads_time {i = i} (by_text n t) =
+      t.2.0.same_time ∙ ap Some (committer_time (read_commit (kind_of i) t.0) (first_committer (commit_items (kind_of i) t.0)) (tells (kind_of i) t.0) ∙ sym (ap (λ o. time_in (commit_of_object i o)) t.1))
+
+  reads_row : {standing : Bool} {i : ObjectId} {info : Info} {new : Bool} → Reads objects faulty rows standing i (Ok info) new → IsRowGeneration rows i info.generation
+  reads_row {i = i} (by_row (is_read h says) is) = subst (IsRowGeneration rows i) (sym (is.same_generation ∙ finite_told i says)) (says.row, says.there, refl)
+  reads_row {i = i} (by_text n t) = subst (IsRowGeneration rows i) (sym t.2.0.same_generation) tt
+
+  reads_told : {standing : Bool} {i : ObjectId} {info : Info} {new : Bool} → Reads objects faulty rows standing i (Ok info) new → new ≡ true → info.generation ≡ row_generation (row_of rows i)
+  reads_told {i = i} (by_row (is_read h says) is) e = is.same_generation ∙ finite_told i says ∙ sym (ap row_generation says.there)
+  reads_told (by_text r t) e = t.2.0.same_generation ∙ sym (ap row_generation (passed_over r e))
+
+module _ {F : Type 0} (objects : F → Objects) (faulty : F → ObjectId → Type 0) (plan : TopoPlan F) where
+  -- with rows that agree, its parents are the ids that its text names
+  pub found_text : {stood standing : Bool} {r : Ready} → IsAgreeing (objects plan.store) plan.rows → IsFound objects faulty plan stood standing r → r.parents ≡ text_next (objects plan.store) r.id
+  found_text agrees f = sym f.is.same_parents ∙ reads_text_next (objects plan.store) (faulty plan.store) plan.rows agrees f.reads
+
+  -- rows or texts name its parents
+  pub found_named : {stood standing : Bool} {r : Ready} → IsFound objects faulty plan stood standing r → (p : ObjectId) → Contains r.parents p → is_among p (named_ids (objects plan.store) plan.rows) ≡ true
+  found_named f p m = reads_named (objects plan.store) (faulty plan.store) plan.rows f.reads p (subst (λ ids. Contains ids p) (sym f.is.same_parents) m)
+
+  -- of a sound walk, it is as the store and the rows say
+  pub found_stored : {stood standing : Bool} {r : Ready} → IsWalkable objects faulty plan → IsFound objects faulty plan stood standing r → ReadsWhole (objects plan.store) r.id → IsStored objects plan standing r
+  found_stored {r = r} sound f whole = record {
+    parents = found_text sound.agreeing f ∙ sym (text_whole (objects plan.store) r.id whole);
+    time = let same : Some r.time ≡ Some (time_of (objects plan.store) r.id) = sym f.is.same_time ∙ reads_time (objects plan.store) (faulty plan.store) plan.rows sound.agreeing f.reads in cc;
+    by_row = subst (IsRowGeneration plan.rows r.id) f.is.same_generation (reads_row (objects plan.store) (faulty plan.store) plan.rows sound.agreeing f.reads);
+    told = λ e. sym f.is.same_generation ∙ reads_told (objects plan.store) (faulty plan.store) plan.rows sound.agreeing f.reads (f.later e);
+  }

@@ -1,0 +1,72 @@
+-- What was read once is known, and as long as the rows are in use its row has no fault.
+use Rattle.std.specs.Prelude.{◌≡◌, Bool, true, Ok, Contains}
+use Rattle.std.proofs.Common.{sym, ap, subst, inl, inr, ⊎_elim, ◌∙◌}
+use Rattle.gix_hash.specs.declared.ObjectId.{ObjectId}
+use Rattle.gix_hash.specs.Id.{kind_of}
+use Rattle.gix_object.specs.Object.{Objects}
+use Rattle.gix_revwalk.specs.declared.Info.{Info}
+use Rattle.gix_revwalk.specs.Reading.{is_read}
+use Rattle.gix_topo.specs.Reading.{Reads, by_row, by_text, ReadsText}
+use Rattle.gix_frontier.specs.declared.Side.{Side}
+use Rattle.gix_frontier.specs.declared.Side.TheVariants.{Tips, Ends}
+use Rattle.gix_frontier.specs.declared.Frontier.{Frontier}
+use Rattle.gix_topo.specs.declared.counting.Counting.{Counting}
+use Rattle.gix_topo.specs.declared.walk.Walk.{Walk}
+use Rattle.gix_frontier.specs.Inside.Frontier.{is_done, reached}
+use Rattle.gix_topo.specs.Inside.Releasing.{plan_of, LooksUpParent, Pushes}
+use Rattle.gix_topo.specs.Inside.Steady.{IsReadOnce, AreRead}
+use Rattle.gix_topo.specs.Walk.{TopoPlan, Ready, IsCommitRead, IsKnown, IsFound}
+use Rattle.gix_revwalk.proofs.Rows.{IsSoundRow, held_whole}
+use Rattle.gix_topo.proofs.Reading.Faultless.{faultless}
+
+-- a commit that is read from the store has no fault
+pub text_read : (objects : Objects) (faulty : ObjectId → Type 0) (i : ObjectId) (info : Info) → ReadsText objects faulty i (Ok info) → IsCommitRead objects i
+text_read objects faulty i info t = record { bytes = t.0; stored = t.1; faultless = faultless (kind_of i) t.0 t.2.1 }
+
+module _ {F : Type 0} (objects : F → Objects) (faulty : F → ObjectId → Type 0) (plan : TopoPlan F) where
+  -- it has a row, or it is stored as a commit that can be read
+  pub once_known : {now : Bool} (standing : Bool) {i : ObjectId} → standing ≡ true → IsReadOnce objects faulty plan now i → IsKnown (objects plan.store) plan.rows standing i
+  once_known standing {i} e h = go h.reads
+    where
+      go : {before after : Bool} → Reads (objects plan.store) (faulty plan.store) plan.rows before i (Ok h.info) after → IsKnown (objects plan.store) plan.rows standing i
+      go (by_row (is_read h says) is) = inl (e, says.row, says.there)
+      go (by_text n t) = inr (text_read (objects plan.store) (faulty plan.store) i h.info t)
+
+  -- rows that are in use after a reading have no fault there
+  pub once_whole : {standing : Bool} {i : ObjectId} → IsReadOnce objects faulty plan standing i → standing ≡ true → IsSoundRow plan.rows i
+  once_whole {i = i} h e = go h.reads (h.later e)
+    where
+      go : {before after : Bool} → Reads (objects plan.store) (faulty plan.store) plan.rows before i (Ok h.info) after → after ≡ true → IsSoundRow plan.rows i
+      go (by_row r is) = held_whole r
+      go (by_text r t) = held_whole r
+
+module _ {F : Type 0} (objects : F → Objects) (faulty : F → ObjectId → Type 0) where
+  -- what was read once was read once also after more was read
+  pub once_still : (plan : TopoPlan F) {now later : Bool} {i : ObjectId} → (later ≡ true → now ≡ true) → IsReadOnce objects faulty plan now i → IsReadOnce objects faulty plan later i
+  once_still plan s h = record { info = h.info; before = h.before; after = h.after; reads = h.reads; later = λ e. h.later (s e) }
+
+  -- where the searches have done the same, the same was read
+  pub all_still : (plan : TopoPlan F) (old new : Counting F) → ((s : Side) (j : ObjectId) → reached new.frontier.known s j ≡ reached old.frontier.known s j) → (new.reader.standing ≡ true → old.reader.standing ≡ true) → AreRead objects faulty plan old → AreRead objects faulty plan new
+  all_still plan old new moved stands h i d = once_still plan stands (h i (⊎_elim (λ a. inl (sym (ap is_done (moved Tips i)) ∙ a)) (λ b. inr (sym (ap is_done (moved Ends i)) ∙ b)) d))
+
+  -- what the code knows is known
+  pub known_by : (plan : TopoPlan F) (c : Counting F) (standing : Bool) (f : Frontier) → ((s : Side) (j : ObjectId) → reached f.known s j ≡ reached c.frontier.known s j) → AreRead objects faulty plan c → (p : ObjectId) → LooksUpParent (objects plan.store) plan.rows standing f p → IsKnown (objects plan.store) plan.rows standing p
+  known_by plan c standing f moved h p k =
+      ⊎_elim (λ q. once_known objects faulty plan standing q.0 (h p (⊎_elim (λ a. inl (sym (ap is_done (moved Tips p)) ∙ a)) (λ b. inr (sym (ap is_done (moved Ends p)) ∙ b)) q.1))) (λ q. q) k
+
+  -- a ready commit as it was found, after more was read
+  pub found_later : (plan : TopoPlan F) {stood before now later : Bool} {r : Ready} → (stood ≡ true → before ≡ true) → (later ≡ true → now ≡ true) → IsFound objects faulty plan stood now r → IsFound objects faulty plan before later r
+  found_later plan t s h = record { info = h.info; before = h.before; after = h.after; reads = h.reads; is = h.is; earlier = λ e. t (h.earlier e); later = λ e. h.later (s e); known = h.known }
+
+  -- a commit that became ready is found so
+  pub found_pushed : (w : Walk F) (c : Counting F) (i : ObjectId) (r : Ready) (new : Walk F) → ((s : Side) (j : ObjectId) → reached w.counting.frontier.known s j ≡ reached c.frontier.known s j) → AreRead objects faulty (plan_of w) c → Pushes objects faulty w i r new → IsFound objects faulty (plan_of w) w.counting.reader.standing new.counting.reader.standing r
+  found_pushed w c i r new moved h p = record {
+    info = p.info;
+    before = w.counting.reader.standing;
+    after = new.counting.reader.standing;
+    reads = subst (λ j. Reads (objects (plan_of w).store) (faulty (plan_of w).store) (plan_of w).rows w.counting.reader.standing j (Ok p.info) new.counting.reader.standing) (sym p.id) p.reads;
+    is = p.is;
+    earlier = λ e. e;
+    later = λ e. e;
+    known = λ q m. known_by (plan_of w) c new.counting.reader.standing w.counting.frontier moved h q (p.known q (subst (λ ids. Contains ids q) (sym p.is.same_parents) m));
+  }

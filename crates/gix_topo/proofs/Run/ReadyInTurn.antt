@@ -1,0 +1,235 @@
+-- What a list has in which each commit is ready when it comes: no id twice, children first, and all of the set where none is its own ancestor.
+use Rattle.std.specs.Prelude.{◌≡◌, ◌⊎◌, ◌+◌, ◌≤◌, ℕ, zero, suc, ℤ, List, [], ◌∷◌, ◌++◌, Bool, true, false, not, ◌||◌, cond, filter, reverse, length, take, slice_get, Option, Some, None, Contains, MatchOption}
+use Rattle.std.proofs.Common.{refl, sym, ap, subst, inl, inr, ⊎_elim, ◌∙◌, arith, append_assoc, append-nil, take_all, le_refl}
+use Rattle.std.proofs.lemmas.Bool.{true≢false, false_from_ne_true, true_from_ne_false, and_parts, and_from, not-true}
+use Rattle.std.proofs.lemmas.List.{reverse-append}
+use Rattle.std.proofs.lemmas.List.Sorted.{list_any-IsPermutation, IsPermutation-reverse}
+use Rattle.std.proofs.lemmas.List.Elements.{Contains-append_left, Contains-push}
+use Rattle.gix_hash.specs.declared.ObjectId.{ObjectId}
+use Rattle.gix_hash.specs.Id.{is_same, is_among}
+use Rattle.gix_revwalk.specs.declared.CommitTimeOrder.TheVariants.{NewestFirst}
+use Rattle.gix_revwalk.specs.BreadthOrder.{first_new}
+use Rattle.gix_revwalk.specs.TimeOrder.{IsBest}
+use Rattle.gix_hash.specs.Reach.{Reaches, start, step, IsAcyclic}
+use Rattle.gix_topo.specs.WalkSet.{IsChild, IsChildless, IsReady}
+use Rattle.gix_topo.specs.DateOrder.{IsDateOrder}
+use Rattle.gix_topo.specs.TopoOrder.{by_time, IsMadeReady, IsTopoOrder}
+use Rattle.gix_revwalk.specs.Ids.{AreDistinct}
+use Rattle.gix_hash.proofs.Ids.Membership.{same_is, among_from, among_is, Contains-here, Contains-there, Contains-cons_cases, no_member}
+use Rattle.gix_revwalk.proofs.NewIds.{fresh, times, times-append, times_none, among-filter, new_less, among_times}
+use Rattle.gix_revwalk.proofs.Orders.{found_passes, none_passes}
+use Rattle.gix_topo.proofs.Readiness.IsReady.{times-filter, times-by_time, keeps_from, keeps_one, AreReady, are_ready_alike, takes_ready, starts_ready}
+use Rattle.gix_hash.proofs.Lists.{past_end}
+
+-- an order that is defined by the beginnings of its list
+module _ (Q : List ObjectId → Option ObjectId → Type 0) where
+  abbrev pub TurnsFrom : List ObjectId → List ObjectId → Type 0
+  TurnsFrom done ids = (k : ℕ) → k ≤ length ids → Q (done ++ take k ids) (slice_get ids k)
+
+  pub turn_none : (done : List ObjectId) → Q done None → TurnsFrom done []
+  turn_none done h zero b = rw append-nil h
+  turn_none done h (suc k) b = absurd (omega arith)
+
+  pub turn_more : (done ids : List ObjectId) (i : ObjectId) → Q done (Some i) → TurnsFrom (done ++ i ∷ []) ids → TurnsFrom done (i ∷ ids)
+  turn_more done ids i h r zero b = rw append-nil h
+  turn_more done ids i h r (suc k) b = rw append_assoc at (r k (omega arith))
+
+  pub turn_ended : (done : List ObjectId) → TurnsFrom done [] → Q done None
+  turn_ended done h = rw append-nil at (h zero (omega arith))
+
+  pub turn_now : (done ids : List ObjectId) (i : ObjectId) → TurnsFrom done (i ∷ ids) → Q done (Some i)
+  turn_now done ids i h = rw append-nil at (h zero (omega arith))
+
+  pub turn_on : (done ids : List ObjectId) (i : ObjectId) → TurnsFrom done (i ∷ ids) → TurnsFrom (done ++ i ∷ []) ids
+  turn_on done ids i h k b = rw append_assoc (h (suc k) (omega arith))
+
+through : (walked : ObjectId → List ObjectId) (d i v : ObjectId) → Contains (walked d) i → Reaches walked (walked i) v → Reaches walked (walked d) v
+through walked d i v n (start s) = step (start n) s
+through walked d i v n (step r m) = step (through walked d i _ n r) m
+
+module _ (walked : ObjectId → List ObjectId) (In : ObjectId → Type 0) where
+  -- the next one is ready; there is none only where none is ready
+  abbrev pub IsReadyNext : List ObjectId → Option ObjectId → Type 0
+  IsReadyNext done o = MatchOption o ((i : ObjectId) → IsReady walked In (Contains done) i → ⊥) (IsReady walked In (Contains done))
+
+  once_from : (ids done : List ObjectId) → TurnsFrom IsReadyNext done ids → AreDistinct ids × ((i : ObjectId) → Contains done i → Contains ids i → ⊥)
+  once_from [] done h = (tt, λ i d c. no_member i c)
+  once_from (x ∷ ids) done h =
+      let now : IsReady walked In (Contains done) x = turn_now IsReadyNext done ids x h in
+      let r : AreDistinct ids × ((i : ObjectId) → Contains (done ++ x ∷ []) i → Contains ids i → ⊥) = once_from ids (done ++ x ∷ []) (turn_on IsReadyNext done ids x h) in (
+        (λ c. r.1 x (Contains-push done x) c, r.0),
+        λ i d c. ⊎_elim (λ e. now.left (subst (λ y. Contains done y) (sym e) d)) (λ t. r.1 i (Contains-append_left done (x ∷ []) i d) t) (Contains-cons_cases i x ids c),
+      )
+
+  members_from : (ids done : List ObjectId) → TurnsFrom IsReadyNext done ids → (i : ObjectId) → Contains ids i → In i
+  members_from [] done h i c = absurd (no_member i c)
+  members_from (x ∷ ids) done h i c =
+      let now : IsReady walked In (Contains done) x = turn_now IsReadyNext done ids x h in
+      ⊎_elim (λ e. subst In e now.member) (λ t. members_from ids (done ++ x ∷ []) (turn_on IsReadyNext done ids x h) i t) (Contains-cons_cases i x ids c)
+
+  module _ (ids : List ObjectId) (turns : TurnsFrom IsReadyNext [] ids) where
+    pub each_once : AreDistinct ids
+    each_once = (once_from ids [] turns).0
+
+    pub each_member : (i : ObjectId) → Contains ids i → In i
+    each_member = members_from ids [] turns
+
+    -- a child comes before its parents
+    pub children_first : (k : ℕ) (d p : ObjectId) → slice_get ids k ≡ Some p → Contains ids d → Contains (walked d) p → Contains (take k ids) d
+    children_first k d p e c n =
+        let w : suc k ≤ length ids = Rattle.std.proofs.lemmas.Option.slice_get_within ids k p e in
+        let r : IsReady walked In (Contains (take k ids)) p = subst (IsReadyNext (take k ids)) e (turns k (omega arith)) in
+        r.children d (record { child = each_member d c; parent = r.member; named = n })
+
+    none_left : (i : ObjectId) → IsReady walked In (Contains ids) i → ⊥
+    none_left = rw (past_end ids, take_all (length ids) ids (le_refl _)) at (turns (length ids) (le_refl _))
+
+    -- a member that is missing has a child that is missing, which isn't among those seen on the way
+    missing : (finite : List ObjectId) → ((i : ObjectId) → In i → is_among i finite ≡ true) → IsAcyclic walked → (n : ℕ) (seen : List ObjectId) (i : ObjectId) → length (fresh (λ j. is_among j seen) finite) ≤ n → ((v : ObjectId) → Contains seen v → Reaches walked (walked i) v) → In i → is_among i ids ≡ false → ⊥
+    missing finite within acyclic zero seen i b above m f =
+        let e : suc (length (fresh (λ j. is_same j i || is_among j seen) finite)) ≡ length (fresh (λ j. is_among j seen) finite) = new_less (λ j. is_among j seen) finite i (within i m) (false_from_ne_true _ (λ t. acyclic i (above i (among_is i seen t)))) in
+        omega arith
+    missing finite within acyclic (suc n) seen i b above m f =
+        let e : suc (length (fresh (λ j. is_same j i || is_among j seen) finite)) ≡ length (fresh (λ j. is_among j seen) finite) = new_less (λ j. is_among j seen) finite i (within i m) (false_from_ne_true _ (λ t. acyclic i (above i (among_is i seen t)))) in
+        none_left i (record {
+          member = m;
+          left = λ c. true≢false (sym (among_from i ids c) ∙ f);
+          children = λ d c. among_is d ids (true_from_ne_false _ (λ g.
+              missing finite within acyclic n (i ∷ seen) d (omega arith)
+              (λ v h. ⊎_elim (λ s. subst (Reaches walked (walked d)) s (start c.named)) (λ t. through walked d i v c.named (above v t)) (Contains-cons_cases v i seen h))
+              c.child g));
+        })
+
+    pub all_given : (finite : List ObjectId) → ((i : ObjectId) → In i → is_among i finite ≡ true) → IsAcyclic walked → (i : ObjectId) → In i → Contains ids i
+    all_given finite within acyclic i m = among_is i ids (true_from_ne_false _ (λ f. missing finite within acyclic (length (fresh (λ j. is_among j []) finite)) [] i (le_refl _) (λ v h. absurd (no_member v h)) m f))
+
+best_is_ready : (time : ObjectId → ℤ) (P : ObjectId → Type 0) (o : Option ObjectId) → MatchOption o ((i : ObjectId) → P i → ⊥) (IsBest NewestFirst time P) → MatchOption o ((i : ObjectId) → P i → ⊥) P
+best_is_ready time P None h = h
+best_is_ready time P (Some i) h = h.among
+
+pub date_turns : (time : ObjectId → ℤ) (walked : ObjectId → List ObjectId) (In : ObjectId → Type 0) (ids : List ObjectId) → IsDateOrder time walked In ids → TurnsFrom (IsReadyNext walked In) [] ids
+date_turns time walked In ids h k b = best_is_ready time (IsReady walked In (Contains (take k ids))) (slice_get ids k) (h k b)
+
+pub among-reverse : (i : ObjectId) (xs : List ObjectId) → is_among i (reverse xs) ≡ is_among i xs
+among-reverse i xs = sym (list_any-IsPermutation (is_same i) xs (reverse xs) (IsPermutation-reverse xs))
+
+pub reverse_in : (i : ObjectId) (xs : List ObjectId) → Contains (reverse xs) i → Contains xs i
+reverse_in i xs c = among_is i xs (sym (among-reverse i xs) ∙ among_from i (reverse xs) c)
+
+pub in_reverse : (i : ObjectId) (xs : List ObjectId) → Contains xs i → Contains (reverse xs) i
+in_reverse i xs c = among_is i (reverse xs) (among-reverse i xs ∙ among_from i xs c)
+
+module _ (time : ObjectId → ℤ) (walked : ObjectId → List ObjectId) (In : ObjectId → Type 0) (tips : List ObjectId) where
+  -- the last of those made ready that isn't taken
+  abbrev pub IsLastMade : List ObjectId → Option ObjectId → Type 0
+  IsLastMade done o = (ready : List ObjectId) × IsMadeReady time walked In tips (reverse done) ready × (o ≡ first_new (reverse ready) done)
+
+  -- there is one list of those made ready
+  pub made_one : (taken xs ys : List ObjectId) → IsMadeReady time walked In tips taken xs → IsMadeReady time walked In tips taken ys → xs ≡ ys
+  made_one [] xs ys h k = let e : h.0 ≡ k.0 = keeps_one (IsChildless walked In) h.1 k.0 k.1 in h.2 ∙ ap (by_time time) e ∙ sym k.2
+  made_one (c ∷ taken) xs ys h k =
+      let e : h.0 ≡ k.0 = made_one taken h.0 k.0 h.2 k.2 in
+      let f : h.1 ≡ k.1 = keeps_one (IsReady walked In (Contains (c ∷ taken))) h.3 k.1 k.3 in
+      h.4 ∙ (λ j. e j ++ f j) ∙ sym k.4
+
+  -- so there is one list in this order
+  one_topo : (done xs ys : List ObjectId) → TurnsFrom IsLastMade done xs → TurnsFrom IsLastMade done ys → xs ≡ ys
+  one_topo done [] [] h k = refl
+  one_topo done [] (y ∷ ys) h k = absurd (let e : None ≡ Some y = same_turn None (Some y) (turn_ended IsLastMade done h) (turn_now IsLastMade done ys y k) in cc)
+    where
+      same_turn : (o p : Option ObjectId) → IsLastMade done o → IsLastMade done p → o ≡ p
+      same_turn o p a b = a.2 ∙ ap (λ r. first_new (reverse r) done) (made_one (reverse done) a.0 b.0 a.1 b.1) ∙ sym b.2
+  one_topo done (x ∷ xs) [] h k = absurd (let e : None ≡ Some x = same_turn None (Some x) (turn_ended IsLastMade done k) (turn_now IsLastMade done xs x h) in cc)
+    where
+      same_turn : (o p : Option ObjectId) → IsLastMade done o → IsLastMade done p → o ≡ p
+      same_turn o p a b = a.2 ∙ ap (λ r. first_new (reverse r) done) (made_one (reverse done) a.0 b.0 a.1 b.1) ∙ sym b.2
+  one_topo done (x ∷ xs) (y ∷ ys) h k =
+      let a : IsLastMade done (Some x) = turn_now IsLastMade done xs x h in
+      let b : IsLastMade done (Some y) = turn_now IsLastMade done ys y k in
+      let s : Some x ≡ Some y = a.2 ∙ ap (λ r. first_new (reverse r) done) (made_one (reverse done) a.0 b.0 a.1 b.1) ∙ sym b.2 in
+      let e : x ≡ y = cc in
+      let r : xs ≡ ys = one_topo (done ++ x ∷ []) xs ys (turn_on IsLastMade done xs x h) (subst (λ z. TurnsFrom IsLastMade (done ++ z ∷ []) ys) (sym e) (turn_on IsLastMade done ys y k)) in
+      cc
+
+  pub same_topo : (xs ys : List ObjectId) → IsTopoOrder time walked In tips xs → IsTopoOrder time walked In tips ys → xs ≡ ys
+  same_topo xs ys h k = one_topo [] xs ys h k
+
+  -- each was the last of those made ready, when it was taken
+  abbrev WereTaken : List ObjectId → Type 0
+  WereTaken [] = Unit {0}
+  WereTaken (c ∷ taken) = ((ready : List ObjectId) → IsMadeReady time walked In tips taken ready → (is_among c ready ≡ true) × (is_among c taken ≡ false)) × WereTaken taken
+
+  abbrev pub left_among : List ObjectId → List ObjectId → List ObjectId
+  left_among taken ready = filter (λ i. not (is_among i taken)) ready
+
+  module _ (top : (i : ObjectId) → In i → Contains tips i ⊎ ((c : ObjectId) × IsChild walked In c i)) where
+    made_more : (c : ObjectId) (taken ready : List ObjectId) (h : IsMadeReady time walked In tips (c ∷ taken) ready) → (is_among c h.0 ≡ true) × (is_among c taken ≡ false) → AreReady walked In (Contains taken) (left_among taken h.0) → AreReady walked In (Contains (c ∷ taken)) (left_among (c ∷ taken) ready)
+    made_more c taken ready h here before =
+        takes_ready walked In (Contains taken) (Contains (c ∷ taken)) c (left_among taken h.0) (left_among (c ∷ taken) h.0) h.1 (left_among (c ∷ taken) ready)
+        (record { before = λ i t. Contains-there i c taken t; now = Contains-here c taken; either = λ i t. ⊎_elim (λ e. inr e) (λ t. inl t) (Contains-cons_cases i c taken t) })
+        before (λ i. split i (is_same i c) refl) h.3 (λ i. joined i (is_same i c || is_among i taken) refl)
+      where
+        split : (i : ObjectId) (b : Bool) → is_same i c ≡ b → times i (left_among taken h.0) ≡ cond (is_same i c) 1 0 + times i (left_among (c ∷ taken) h.0)
+        split i true e =
+            let same : i ≡ c = same_is i c e in
+            let a : times i (left_among taken h.0) ≡ times i h.0 = times-filter (λ j. not (is_among j taken)) i h.0 ∙ ap (λ b. cond (not b) (times i h.0) 0) (ap (λ y. is_among y taken) same ∙ here.1) in
+            let z : times i (left_among (c ∷ taken) h.0) ≡ 0 = times-filter (λ j. not (is_same j c || is_among j taken)) i h.0 ∙ ap (λ b. cond (not (b || is_among i taken)) (times i h.0) 0) e in
+            let o : times i (left_among taken h.0) ≤ 1 = before.once i in
+            let m : 1 ≤ times i h.0 = among_times i h.0 (ap (λ y. is_among y h.0) same ∙ here.0) in
+            let k : ◌≡◌ {A = ℕ} (cond (is_same i c) 1 0) 1 = ap (λ b. cond b 1 0) e in
+            omega arith
+        split i false e =
+            let a : times i (left_among taken h.0) ≡ cond (not (is_among i taken)) (times i h.0) 0 = times-filter (λ j. not (is_among j taken)) i h.0 in
+            let z : times i (left_among (c ∷ taken) h.0) ≡ cond (not (is_among i taken)) (times i h.0) 0 = times-filter (λ j. not (is_same j c || is_among j taken)) i h.0 ∙ ap (λ b. cond (not (b || is_among i taken)) (times i h.0) 0) e in
+            let k : ◌≡◌ {A = ℕ} (cond (is_same i c) 1 0) 0 = ap (λ b. cond b 1 0) e in
+            omega arith
+
+        all_times : (i : ObjectId) → times i ready ≡ times i h.0 + times i h.1
+        all_times i = ap (times i) h.4 ∙ times-append i h.0 h.1
+
+        joined : (i : ObjectId) (b : Bool) → (is_same i c || is_among i taken) ≡ b → times i (left_among (c ∷ taken) ready) ≡ times i (left_among (c ∷ taken) h.0) + times i h.1
+        joined i true e =
+            let a : times i (left_among (c ∷ taken) ready) ≡ 0 = times-filter (λ j. not (is_same j c || is_among j taken)) i ready ∙ ap (λ b. cond (not b) (times i ready) 0) e in
+            let z : times i (left_among (c ∷ taken) h.0) ≡ 0 = times-filter (λ j. not (is_same j c || is_among j taken)) i h.0 ∙ ap (λ b. cond (not b) (times i h.0) 0) e in
+            let n : times i h.1 ≡ 0 = times_none i h.1 (false_from_ne_true _ (λ t. (keeps_from (IsReady walked In (Contains (c ∷ taken))) h.3 i (among_is i h.1 t)).1.left (among_is i (c ∷ taken) e))) in
+            omega arith
+        joined i false e =
+            let a : times i (left_among (c ∷ taken) ready) ≡ times i ready = times-filter (λ j. not (is_same j c || is_among j taken)) i ready ∙ ap (λ b. cond (not b) (times i ready) 0) e in
+            let z : times i (left_among (c ∷ taken) h.0) ≡ times i h.0 = times-filter (λ j. not (is_same j c || is_among j taken)) i h.0 ∙ ap (λ b. cond (not b) (times i h.0) 0) e in
+            let s : times i ready ≡ times i h.0 + times i h.1 = all_times i in
+            omega arith
+
+    -- those made ready that aren't taken are the ready ones
+    made_ready : (taken ready : List ObjectId) → WereTaken taken → IsMadeReady time walked In tips taken ready → AreReady walked In (Contains taken) (left_among taken ready)
+    made_ready [] ready were h =
+        starts_ready walked In (Contains []) tips h.0 (left_among [] ready) (λ i c. no_member i c) top h.1
+        (λ i. times-filter (λ j. true) i ready ∙ ap (times i) h.2 ∙ times-by_time time i h.0)
+    made_ready (c ∷ taken) ready were h = made_more c taken ready h (were.0 h.0 h.2) (made_ready taken h.0 were.1 h.2)
+
+    last_is_ready : (done : List ObjectId) (o : Option ObjectId) → WereTaken (reverse done) → IsLastMade done o → IsReadyNext walked In done o
+    last_is_ready done None were h = λ i r.
+        let a : AreReady walked In (Contains (reverse done)) (left_among (reverse done) h.0) = made_ready (reverse done) h.0 were h.1 in
+        let b : AreReady walked In (Contains done) (left_among (reverse done) h.0) = are_ready_alike walked In (Contains (reverse done)) (Contains done) (λ j. reverse_in j done) (λ j. in_reverse j done) (left_among (reverse done) h.0) a in
+        let m : (not (is_among i (reverse done)) ≡ true) × (is_among i h.0 ≡ true) = and_parts _ _ (sym (among-filter i (λ j. not (is_among j (reverse done))) h.0) ∙ b.all i r) in
+        let n : not (is_among i done) ≡ false = none_passes (λ j. not (is_among j done)) (reverse h.0) i (sym h.2) (in_reverse i h.0 (among_is i h.0 m.1)) in
+        true≢false (sym m.0 ∙ ap not (among-reverse i done) ∙ n)
+    last_is_ready done (Some i) were h =
+        let a : AreReady walked In (Contains (reverse done)) (left_among (reverse done) h.0) = made_ready (reverse done) h.0 were h.1 in
+        let b : AreReady walked In (Contains done) (left_among (reverse done) h.0) = are_ready_alike walked In (Contains (reverse done)) (Contains done) (λ j. reverse_in j done) (λ j. in_reverse j done) (left_among (reverse done) h.0) a in
+        let f : Contains (reverse h.0) i × (not (is_among i done) ≡ true) = found_passes (λ j. not (is_among j done)) (reverse h.0) i (sym h.2) in
+        b.each i (among-filter i (λ j. not (is_among j (reverse done))) h.0 ∙ and_from _ _ (ap not (among-reverse i done) ∙ f.1) (among_from i h.0 (reverse_in i h.0 f.0)))
+
+    taken_on : (done : List ObjectId) (i : ObjectId) → WereTaken (reverse done) → IsLastMade done (Some i) → WereTaken (reverse (done ++ i ∷ []))
+    taken_on done i were h =
+        let f : Contains (reverse h.0) i × (not (is_among i done) ≡ true) = found_passes (λ j. not (is_among j done)) (reverse h.0) i (sym h.2) in
+        subst WereTaken (sym (reverse-append done (i ∷ [])))
+        ((λ ready made. (among_from i ready (subst (λ r. Contains r i) (made_one (reverse done) h.0 ready h.1 made) (reverse_in i h.0 f.0)), among-reverse i done ∙ not-true _ f.1)), were)
+
+    turns_from : (ids done : List ObjectId) → WereTaken (reverse done) → TurnsFrom IsLastMade done ids → TurnsFrom (IsReadyNext walked In) done ids
+    turns_from [] done were h = turn_none (IsReadyNext walked In) done (last_is_ready done None were (turn_ended IsLastMade done h))
+    turns_from (i ∷ ids) done were h =
+        let now : IsLastMade done (Some i) = turn_now IsLastMade done ids i h in
+        turn_more (IsReadyNext walked In) done ids i (last_is_ready done (Some i) were now) (turns_from ids (done ++ i ∷ []) (taken_on done i were now) (turn_on IsLastMade done ids i h))
+
+    pub topo_turns : (ids : List ObjectId) → IsTopoOrder time walked In tips ids → TurnsFrom (IsReadyNext walked In) [] ids
+    topo_turns ids h = turns_from ids [] tt h

@@ -1,0 +1,268 @@
+-- What holds of a topological walk that has begun.
+use Rattle.std.specs.Prelude.{◌≡◌, ◌≤◌, [], ◌++◌, Bool, true, false, not, ◌&&◌, ◌||◌, Contains}
+use Rattle.std.proofs.Common.{refl, sym, ap, subst, inl, inr, ⊎_elim, ◌∙◌, arith}
+use Rattle.std.proofs.Math.Bool.{or-false, and-not_self}
+use Rattle.std.proofs.lemmas.Bool.{true≢false, false≢true}
+use Rattle.std.proofs.lemmas.List.Elements.{Contains-append_left}
+use Rattle.std.specs.FinSet as set
+use Rattle.gix_hash.specs.declared.ObjectId.{ObjectId}
+use Rattle.gix_hash.specs.Id.{id_cmp, is_among}
+use Rattle.gix_object.specs.Object.{Objects}
+use Rattle.gix_hash.proofs.Ids.Membership.{id_total, id_apart, among_from, among_is}
+use Rattle.gix_frontier.specs.declared.Side.{Side}
+use Rattle.gix_frontier.specs.declared.Side.TheVariants.{Tips, Ends}
+use Rattle.gix_topo.specs.declared.counting.Counting.{Counting}
+use Rattle.gix_topo.specs.declared.walk.Walk.{Walk}
+use Rattle.gix_revwalk.specs.Agreeing.{IsAgreeing}
+use Rattle.gix_topo.specs.Depth.{infinity, known_generation}
+use Rattle.gix_frontier.specs.Inside.Frontier.{is_seen, is_done, reached}
+use Rattle.gix_revwalk.specs.Commits.{time_of}
+use Rattle.gix_hash.specs.Reach.{start}
+use Rattle.gix_revwalk.specs.Reading.{DropsRows}
+use Rattle.gix_topo.specs.Inside.Releasing.{plan_of, counted_by, taken_of, walk_of}
+use Rattle.gix_topo.specs.Inside.Searched.{IsCounted, IsSearched, next_by}
+use Rattle.gix_revwalk.specs.Ids.{AreDistinct}
+use Rattle.gix_topo.specs.Inside.Starting.{HasBegun, IsBegunWalk, by_rising_time}
+use Rattle.gix_topo.specs.TopoOrder.{Keeps, first_places}
+use Rattle.gix_topo.specs.Inside.Steady.{IsDone, AreRead, IsTallied, IsSteady, HasCounted, IsHeld, unasked, unasked_of}
+use Rattle.gix_topo.specs.Walk.{TopoPlan, Ready, ready_ids, first_depth, HoldsReady, IsNumberOf, IsMet, IsInDepth, IsBrokenRow, IsCounting, IsWalkable, IsStored, IsMember, IsStarted, StartsWith, walked_of, IsFound}
+use Rattle.gix_topo.specs.WalkSet.{IsChildless}
+use Rattle.gix_topo.proofs.Counts.IndegreeZero.{none_left, outside, unseen, all_taken}
+use Rattle.gix_topo.proofs.Counts.Expanded.{number_same, broken}
+use Rattle.gix_revwalk.proofs.NewIds.{times, times_once}
+use Rattle.gix_topo.proofs.Readiness.IsReady.{keeps_from, keeps_times, first_once, among_by, keeps_on}
+use Rattle.gix_topo.proofs.Counts.Rest.{least_within}
+use Rattle.gix_topo.proofs.Counts.Taken.{contains-taken}
+use Rattle.gix_topo.proofs.Readiness.RisingTime.{by_time_moves, in_by_time, by_time_map}
+use Rattle.gix_topo.proofs.Counts.BothSearches.{searched_same}
+use Rattle.gix_topo.proofs.Starting.AllTips.{IsTipDue, AreStarted, started, first_from}
+use Rattle.gix_topo.proofs.Reading.FoundIsStored.{found_stored}
+use Rattle.gix_topo.proofs.Reading.OnceRead.{all_still, found_later}
+use Rattle.gix_topo.proofs.Counts.Children.{children_of, was_ready_of, tally_same}
+use Rattle.gix_topo.proofs.Readiness.ReadyIds.{holds_in, holds_times, times-permutation}
+
+module _ {F : Type 0} (objects : F → Objects) (faulty : F → ObjectId → Type 0) (plan : TopoPlan F) (w : Walk F) (h : IsBegunWalk objects faulty plan w) where
+  abbrev p : TopoPlan F
+  p = plan_of w
+
+  abbrev old : Counting F
+  old = h.first.counting
+
+  abbrev new : Counting F
+  new = w.counting
+
+  abbrev Member : ObjectId → Type 0
+  Member = IsMember objects (plan_of w)
+
+  begun : HasBegun objects faulty p old
+  begun = subst (λ q. HasBegun objects faulty q old) (sym h.same) h.begun
+
+  all : AreStarted objects faulty h.first p.tips h.starts h.mid
+  all = subst (λ q. AreStarted objects faulty h.first q.tips h.starts h.mid) (sym h.same) (started objects faulty h.all)
+
+  first_plan : plan_of h.first ≡ p
+  first_plan = h.before ∙ sym h.same
+
+  sorted : HoldsReady p.sorting (by_rising_time h.starts) w.ready.commits
+  sorted = subst (λ q. HoldsReady q.sorting (by_rising_time h.starts) w.ready.commits) (sym h.same) h.sorted
+
+  -- what stays as it was before
+  moved : (s : Side) (j : ObjectId) → reached new.frontier.known s j ≡ reached old.frontier.known s j
+  moved s j = ap (λ c. reached c.frontier.known s j) h.counting ∙ all.ready.moved s j
+
+  same_children : (j : ObjectId) → children_of new.frontier j ≡ children_of old.frontier j
+  same_children j = ap (λ c. children_of c.frontier j) h.counting ∙ all.children j
+
+  same_queue : new.frontier.queue ≡ old.frontier.queue
+  same_queue = ap (λ c. c.frontier.queue) h.counting ∙ all.ready.queue
+
+  same_depth : new.depth ≡ old.depth
+  same_depth = ap (λ c. c.depth) h.counting ∙ all.ready.depth
+
+  same_expanded : new.expanded ≡ old.expanded
+  same_expanded = ap (λ c. c.expanded) h.counting ∙ all.ready.expanded
+
+  stands : new.reader.standing ≡ true → old.reader.standing ≡ true
+  stands e = all.ready.stands (sym (ap (λ c. c.reader.standing) h.counting) ∙ e)
+
+  to_done : (i : ObjectId) → IsDone new.frontier i → IsDone old.frontier i
+  to_done i d = ⊎_elim (λ e. inl (sym (ap is_done (moved Tips i)) ∙ e)) (λ e. inr (sym (ap is_done (moved Ends i)) ∙ e)) d
+
+  from_done : (i : ObjectId) → IsDone old.frontier i → IsDone new.frontier i
+  from_done i d = ⊎_elim (λ e. inl (ap is_done (moved Tips i) ∙ e)) (λ e. inr (ap is_done (moved Ends i) ∙ e)) d
+
+  -- the ready commits
+  in_starts : (r : Ready) → Contains w.ready.commits r → Contains h.starts r
+  in_starts r m = in_by_time (λ s. s.time) h.starts r (holds_in p.sorting (by_rising_time h.starts) w.ready.commits sorted r m)
+
+  ready_times : (i : ObjectId) → times i (ready_ids w.ready.commits) ≡ times i (ready_ids h.starts)
+  ready_times i = holds_times p.sorting (by_rising_time h.starts) w.ready.commits sorted i ∙ times-permutation i h.starts (by_rising_time h.starts) (by_time_moves (λ r. r.time) h.starts)
+
+  ready_among : (i : ObjectId) → is_among i (ready_ids h.starts) ≡ is_among i (ready_ids w.ready.commits)
+  ready_among i = among_by i (ready_ids h.starts) (ready_ids w.ready.commits) (sym (ready_times i))
+
+  start_of : (i : ObjectId) → Contains (ready_ids w.ready.commits) i → Contains (ready_ids h.starts) i
+  start_of i m = among_is i (ready_ids h.starts) (ready_among i ∙ among_from i _ m)
+
+  kept : Keeps (IsTipDue old.frontier) (first_places p.tips) (ready_ids h.starts)
+  kept = all.due [] (λ j e. absurd (false≢true e))
+
+  distinct : AreDistinct (ready_ids w.ready.commits)
+  distinct = times_once (ready_ids w.ready.commits) (λ i.
+      let a : times i (ready_ids w.ready.commits) ≡ times i (ready_ids h.starts) = ready_times i in
+      let b : times i (ready_ids h.starts) ≤ times i (first_places p.tips) = keeps_times (IsTipDue old.frontier) kept i in
+      let c : times i (first_places p.tips) ≤ 1 = first_once [] p.tips i in
+      omega arith)
+
+  is_tip : (i : ObjectId) → Contains (ready_ids w.ready.commits) i → Contains p.tips i
+  is_tip i m = first_from [] p.tips i (keeps_from (IsTipDue old.frontier) kept i (start_of i m)).0
+
+  first_read : AreRead objects faulty (plan_of h.first) h.first.counting
+  first_read = subst (λ q. AreRead objects faulty q old) (sym first_plan) begun.all_read
+
+  found : (r : Ready) → Contains w.ready.commits r → IsFound objects faulty p true new.reader.standing r
+  found r m = subst (λ c. IsFound objects faulty p true c.reader.standing r) (sym h.counting) (found_later objects faulty p (λ e. refl) (λ e. e) (subst (λ q. IsFound objects faulty q old.reader.standing h.mid.counting.reader.standing r) first_plan (all.ready.each first_read r (in_starts r m))))
+
+  made_is : (i : ObjectId) → was_ready_of new.frontier i ≡ is_among i (ready_ids h.starts)
+  made_is i = ap (λ c. was_ready_of c.frontier i) h.counting ∙ all.ready.made i ∙ ap (λ b. is_among i (ready_ids h.starts) || b) (begun.unmade i) ∙ or-false (is_among i (ready_ids h.starts))
+
+  made_ready : (i : ObjectId) → was_ready_of new.frontier i ≡ is_among i (ready_ids w.ready.commits)
+  made_ready i = made_is i ∙ ready_among i
+
+  untaken : (i : ObjectId) → set.contains (taken_of w) i ≡ false
+  untaken i = contains-taken new.frontier.known w.ready.commits i ∙ ap (λ b. b && not (is_among i (ready_ids w.ready.commits))) (made_ready i) ∙ and-not_self (is_among i (ready_ids w.ready.commits))
+
+  none_taken : taken_of w ≡ set.empty
+  none_taken = set.same_set id_total id_apart (taken_of w) set.empty (λ i. untaken i ∙ sym (set.contains-empty id_cmp i))
+
+  depth_is : new.depth ≡ first_depth p
+  depth_is = same_depth ∙ begun.depth
+
+  -- no tip is below the depth
+  tip_high : (i : ObjectId) → Contains p.tips i → old.depth ≤ known_generation p.rows i
+  tip_high i m = subst (λ d. d ≤ known_generation p.rows i) (sym begun.depth) (least_within p.rows infinity (p.tips ++ p.ends) i (Contains-append_left p.tips p.ends i m))
+
+  module _ (agrees : IsAgreeing (objects p.store) p.rows) where
+    before : IsCounted (objects p.store) p.rows p.parents p.tips p.ends (set.contains (taken_of w)) old.frontier
+    before = begun.counted (set.contains (taken_of w)) untaken agrees
+
+    tallied : IsTallied objects w
+    tallied = record {
+      counted = record {
+        searched = searched_same (objects p.store) p.rows p.parents p.tips p.ends new.frontier.queue old.frontier.known new.frontier.known moved (subst (λ q. IsSearched (objects p.store) p.rows p.parents p.tips p.ends q old.frontier.known) (sym same_queue) before.searched);
+        tally = tally_same (next_by (objects p.store) p.parents Tips) (λ i. is_done (reached old.frontier.known Tips i)) (λ i. is_done (reached new.frontier.known Tips i)) (set.contains (taken_of w)) (children_of old.frontier) (children_of new.frontier) (λ j. ap is_done (moved Tips j)) same_children before.tally;
+      };
+      begun = λ side i m. ap is_seen (moved side i) ∙ begun.begun side i m;
+      done = λ r m. let tip : Contains p.tips r.id = all.ready.among r (in_starts r m) in ap is_done (moved Tips r.id) ∙ begun.explored agrees Tips r.id (start tip) (tip_high r.id tip);
+    }
+
+  module _ (sound : IsWalkable objects faulty p) where
+    counted : IsCounted (objects p.store) p.rows p.parents p.tips p.ends (set.contains (taken_of w)) old.frontier
+    counted = before sound.agreeing
+
+    due_childless : (i : ObjectId) → Contains p.tips i → IsTipDue old.frontier i → IsChildless (walked_of objects p) Member i
+    due_childless i m d = record {
+      member = record {
+        reached = start m;
+        outside = outside (objects p.store) (faulty p.store) p.rows p.parents p.tips p.ends sound.agreeing sound.tips_whole sound.ends_whole old.frontier old.depth (begun.explored sound.agreeing) (λ side. (counted.searched.search side).within) (set.contains (taken_of w)) (children_of old.frontier) counted.tally i d.outside (tip_high i m);
+      };
+      alone = λ c k. true≢false (sym (none_left (objects p.store) (faulty p.store) p.rows p.parents p.tips p.ends sound.agreeing sound.tips_whole sound.ends_whole old.frontier old.depth (begun.explored sound.agreeing) (λ side. (counted.searched.search side).within) (set.contains (taken_of w)) (children_of old.frontier) counted.tally i d.none_left (tip_high i m) c k) ∙ untaken c);
+    }
+
+    childless_due : (i : ObjectId) → IsChildless (walked_of objects p) Member i → IsTipDue old.frontier i
+    childless_due i q = record {
+      none_left = all_taken (objects p.store) (faulty p.store) p.rows p.parents p.tips p.ends sound.agreeing sound.tips_whole sound.ends_whole old.frontier old.depth (begun.explored sound.agreeing) (λ side. (counted.searched.search side).within) (set.contains (taken_of w)) (children_of old.frontier) counted.tally i q.member (λ c k. absurd (q.alone c k));
+      outside = unseen (objects p.store) (faulty p.store) p.rows p.parents p.tips p.ends sound.agreeing sound.tips_whole sound.ends_whole old.frontier old.depth (begun.explored sound.agreeing) (λ side. (counted.searched.search side).within) (set.contains (taken_of w)) (children_of old.frontier) counted.tally i q.member;
+      unmade = begun.unmade i;
+    }
+
+    kept_childless : Keeps (IsChildless (walked_of objects p) Member) (first_places p.tips) (ready_ids h.starts)
+    kept_childless = keeps_on (λ i m d. due_childless i (first_from [] p.tips i m) d) (λ i m q. childless_due i q) kept
+
+    stored : (r : Ready) → Contains w.ready.commits r → IsStored objects p new.reader.standing r
+    stored r m = found_stored objects faulty p sound (found r m) (sound.tips_whole r.id (start (all.ready.among r (in_starts r m))))
+
+    start_time : (r : Ready) → Contains h.starts r → r.time ≡ time_of (objects p.store) r.id
+    start_time r m = (found_stored objects faulty p sound (subst (λ q. IsFound objects faulty q old.reader.standing h.mid.counting.reader.standing r) first_plan (all.ready.each first_read r m)) (sound.tips_whole r.id (start (all.ready.among r m)))).time
+
+    starts : StartsWith objects faulty (unasked objects faulty) p w.ready.commits
+    starts = record {
+      childless = ready_ids h.starts;
+      starts = by_rising_time h.starts;
+      kept = kept_childless;
+      sorted = by_time_map (λ r. r.id) (λ r. r.time) (time_of (objects p.store)) h.starts start_time;
+      holds = sorted;
+    }
+
+    -- a tip that becomes ready was read before, so its row drops no rows
+    stays : new.reader.standing ≡ false → old.reader.standing ≡ false
+    stays e = go old.reader.standing refl
+      where
+        go : (b : Bool) → old.reader.standing ≡ b → b ≡ false
+        go false d = refl
+        go true d =
+            let k : (i : ObjectId) × Contains p.tips i × DropsRows (plan_of h.first).rows i = all.ready.dropped d (sym (ap (λ c. c.reader.standing) h.counting) ∙ e) in
+            absurd ((begun.counting sound).whole d (broken objects faulty p sound.agreeing old.depth k.0 (inl (start k.1)) (tip_high k.0 k.1) (subst (λ q. DropsRows q.rows k.0) first_plan k.2)))
+
+    counts : HasCounted objects p new
+    counts = let c : HasCounted objects p old = begun.counts sound in record {
+      number = number_same (IsDone old.frontier) (IsDone new.frontier) old.expanded new.expanded (sym same_expanded) from_done to_done c.number;
+      high = λ e i d. subst (λ n. n ≤ known_generation p.rows i) (sym same_depth) (c.high (stands e) i (to_done i d));
+      dropped = λ e. subst (IsBrokenRow objects p) (sym same_depth) (c.dropped (stays e));
+    }
+
+    counting : IsCounting objects p (counted_by new)
+    counting = let c : IsCounting objects p (counted_by old) = begun.counting sound in record {
+      exact = λ e. subst (λ d. IsNumberOf (IsInDepth objects p d) new.expanded) (sym same_depth) (subst (λ n. IsNumberOf (IsInDepth objects p old.depth) n) (sym same_expanded) (c.exact (stands e)));
+      all = λ e. subst (IsNumberOf (IsMet objects p)) (sym same_expanded) (c.all (stays e));
+      dropped = counts.dropped;
+      whole = λ e b. c.whole (stands e) (subst (IsBrokenRow objects p) same_depth b);
+    }
+
+    made_childless : (i : ObjectId) → was_ready_of new.frontier i ≡ true → IsChildless (walked_of objects p) Member i
+    made_childless i e = (keeps_from (IsChildless (walked_of objects p) Member) kept_childless i (among_is i (ready_ids h.starts) (sym (made_is i) ∙ e))).1
+
+    steady : IsSteady objects w
+    steady = record { member = λ i e. (made_childless i e).member; children = λ i d e k. absurd ((made_childless i e).alone d k) }
+
+  -- a walk that has begun is as a built one is to be
+  pub started_on : IsStarted objects faulty (unasked objects faulty) (unasked_of objects faulty w)
+  started_on = record {
+    untaken = none_taken;
+    distinct = distinct;
+    tips = is_tip;
+    starts = starts;
+    stored = stored;
+    depth = depth_is;
+    counting = counting;
+    read = begun.read;
+    found = found;
+  }
+
+  -- and may go on
+  pub begun_held : IsHeld objects faulty w
+  begun_held = record {
+    made = λ i m. made_ready i ∙ among_from i (ready_ids w.ready.commits) m;
+    distinct = distinct;
+    found = found;
+    tallied = tallied;
+    steady = steady;
+    counts = counts;
+    all_read = all_still objects faulty p old new moved stands begun.all_read;
+    idle = λ e. same_queue ∙ begun.idle e;
+    read = begun.read;
+  }
+
+-- a walk starts as it does, whatever predicate it has
+pub started_as : {F P : Type 0} (objects : F → Objects) (faulty : F → ObjectId → Type 0) (answers : P → ObjectId → Bool → P → Type 0) (w : Walk F) (p : P) → IsStarted objects faulty (unasked objects faulty) (unasked_of objects faulty w) → IsStarted objects faulty answers (walk_of w p)
+started_as objects faulty answers w p h = record {
+  untaken = h.untaken;
+  distinct = h.distinct;
+  tips = h.tips;
+  starts = λ sound. let s : StartsWith objects faulty (unasked objects faulty) (plan_of w) w.ready.commits = h.starts sound in record { childless = s.childless; starts = s.starts; kept = s.kept; sorted = s.sorted; holds = s.holds };
+  found = h.found;
+  stored = h.stored;
+  depth = h.depth;
+  counting = h.counting;
+  read = h.read;
+}

@@ -1,0 +1,248 @@
+-- What a walk holds still holds after a commit was taken.
+use Rattle.std.specs.Prelude.{◌≡◌, ◌⊎◌, ◌≤◌, ℕ, ◌+◌, List, ◌∷◌, ◌++◌, Bool, true, false, not, ◌&&◌, ◌||◌, cond, Contains}
+use Rattle.std.proofs.Common.{refl, sym, ap, subst, ⊎_elim, ◌∙◌, arith}
+use Rattle.std.proofs.lemmas.Bool.{true≢false, false≢true, false_from_ne_true, or_cases, or_left, or_right, or_parts}
+use Rattle.std.specs.FinSet as set
+use Rattle.gix_hash.specs.declared.ObjectId.{ObjectId}
+use Rattle.gix_hash.specs.Id.{is_same, is_among}
+use Rattle.gix_object.specs.Object.{Objects}
+use Rattle.gix_hash.proofs.Ids.Membership.{id_total, id_apart, among-append, among_from, among_is}
+use Rattle.gix_frontier.specs.declared.Side.{Side}
+use Rattle.gix_frontier.specs.declared.Side.TheVariants.{Tips}
+use Rattle.gix_topo.specs.declared.counting.Counting.{Counting}
+use Rattle.gix_topo.specs.declared.walk.Walk.{Walk}
+use Rattle.gix_topo.specs.Inside.ReadySet.{ReadySet}
+use Rattle.gix_revwalk.specs.Agreeing.{IsAgreeing}
+use Rattle.gix_frontier.specs.Inside.Frontier.{is_seen, is_queued, is_done, reached, waiting, IsSearch}
+use Rattle.gix_revwalk.specs.Commits.{by_mode}
+use Rattle.gix_topo.specs.Inside.Releasing.{plan_of, counted_by, lowered, with_counting, taken_of, TakesOne}
+use Rattle.gix_topo.specs.Inside.Searched.{IsCounted, IsExplored, IsTally, next_by, starts_by, IsBegun}
+use Rattle.gix_topo.specs.TopoOrder.{last_places}
+use Rattle.gix_topo.specs.Inside.Steady.{AreRead, IsTallied, IsSteady, HasCounted, IsHeld, unasked, unasked_of, TakesReady}
+use Rattle.gix_topo.specs.Walk.{Ready, ready_ids, walked_of, IsMember, IsWalkable, IsTaken, IsCommitRead, HoldsReady, Chooses, Adds, IsReached, IsFound}
+use Rattle.gix_topo.specs.WalkSet.{IsChild, IsReady}
+use Rattle.gix_topo.proofs.Counts.ExploreKeeps.{explores_made, explores_same, explores_still, explores_done, explores_idle}
+use Rattle.gix_revwalk.proofs.NewIds.{times, times_none, among_times, times_once}
+use Rattle.gix_topo.proofs.Readiness.IsReady.{distinct_times, keeps_from, last_from, last_once, among_by}
+use Rattle.gix_topo.proofs.Taking.AllReleases.{IsDue, IsReleased, released}
+use Rattle.gix_topo.proofs.Counts.Rest.{least_within}
+use Rattle.gix_topo.proofs.Counts.Children.{children_of, was_ready_of, tally_same}
+use Rattle.gix_topo.proofs.Reading.OnceRead.{found_later}
+use Rattle.gix_topo.proofs.Taking.Added.{read_after}
+use Rattle.gix_topo.proofs.Counts.Taken.{contains-taken}
+use Rattle.gix_topo.proofs.Taking.Setting.{was_ready, plan_taken, named_text, counted_on, explored_on, tally_on}
+use Rattle.gix_topo.proofs.Readiness.ReadyIds.{ids-append, chosen_times, others_in, holds_in, holds_times, joined_times}
+use Rattle.std.proofs.lemmas.List.Elements.{Contains-append_cases}
+
+-- of ids that were ready once, the chosen one is taken as well, where it is ready no longer and the added ones weren't ready before
+chosen_too : (added made rest chosen : Bool) → (added ≡ true → made ≡ false) → ((chosen || rest) ≡ true → made ≡ true) → (chosen ≡ true → rest ≡ false) → ((added || made) && not (rest || added)) ≡ (chosen || (made && not (chosen || rest)))
+chosen_too true true rest chosen a m r = absurd (true≢false (a refl))
+chosen_too true false true true a m r = absurd (true≢false (r refl))
+chosen_too true false true false a m r = absurd (false≢true (m refl))
+chosen_too true false false true a m r = absurd (false≢true (m refl))
+chosen_too true false false false a m r = refl
+chosen_too false true true true a m r = absurd (true≢false (r refl))
+chosen_too false true true false a m r = refl
+chosen_too false true false true a m r = refl
+chosen_too false true false false a m r = refl
+chosen_too false false rest true a m r = absurd (false≢true (m refl))
+chosen_too false false rest false a m r = refl
+
+module _ {F : Type 0} (objects : F → Objects) (faulty : F → ObjectId → Type 0) (w : Walk F) (rest : ReadySet) (same : rest.sorting ≡ w.ready.sorting) (r : Ready) (chosen : Chooses w.ready.sorting w.ready.commits r rest.commits) (added : List Ready) (new : Walk F) (t : TakesOne objects faulty (record w { ready = rest }) r added new) where
+  abbrev those : Objects
+  those = objects w.counting.reader.find
+
+  abbrev low : Counting F
+  low = lowered objects faulty (record w { ready = rest }) r
+
+  abbrev walked : ObjectId → List ObjectId
+  walked = walked_of objects (plan_of w)
+
+  abbrev Member : ObjectId → Type 0
+  Member = IsMember objects (plan_of w)
+
+  abbrev next : Side → ObjectId → List ObjectId
+  next = next_by those w.counting.parents
+
+  abbrev named : List ObjectId
+  named = by_mode w.counting.parents r.parents
+
+  abbrev now_taken : ObjectId → Bool
+  now_taken i = set.contains (set.insert (taken_of w) r.id) i
+
+  abbrev between : Walk F
+  between = with_counting objects faulty (record w { ready = rest }) t.explored
+
+  rel : IsReleased objects faulty between (last_places named) added new
+  rel = released objects faulty t.releases
+
+  plan_is : plan_of new ≡ plan_of w
+  plan_is = rel.ready.plan ∙ plan_taken objects faulty w rest r chosen same t.explored (explores_same objects faulty t.explores)
+
+  others_ready : (q : Ready) → Contains rest.commits q → Contains w.ready.commits q
+  others_ready q m = others_in w.ready.sorting w.ready.commits r rest.commits chosen q m
+
+  were : (j : ObjectId) → times j (ready_ids w.ready.commits) ≡ cond (is_same j r.id) 1 0 + times j (ready_ids rest.commits)
+  were j = chosen_times w.ready.sorting w.ready.commits r rest.commits chosen j
+
+  are : (j : ObjectId) → times j (ready_ids new.ready.commits) ≡ times j (ready_ids (rest.commits ++ added))
+  are j = holds_times rest.sorting (rest.commits ++ added) new.ready.commits rel.holds j
+
+  was_among : (j : ObjectId) → is_among j (ready_ids w.ready.commits) ≡ (is_same j r.id || is_among j (ready_ids rest.commits))
+  was_among j = among_by j (ready_ids w.ready.commits) (r.id ∷ ready_ids rest.commits) (were j)
+
+  is_now : (j : ObjectId) → is_among j (ready_ids new.ready.commits) ≡ (is_among j (ready_ids rest.commits) || is_among j (ready_ids added))
+  is_now j = among_by j (ready_ids new.ready.commits) (ready_ids (rest.commits ++ added)) (are j) ∙ ap (is_among j) (ids-append rest.commits added) ∙ among-append j (ready_ids rest.commits) (ready_ids added)
+
+  ready_cases : (A : Type 0) (q : Ready) → (Contains rest.commits q → A) → (Contains added q → A) → Contains new.ready.commits q → A
+  ready_cases A q f g m = ⊎_elim f g (Contains-append_cases rest.commits added q (holds_in rest.sorting (rest.commits ++ added) new.ready.commits rel.holds q m))
+
+  made_now : (j : ObjectId) → was_ready_of new.counting.frontier j ≡ (is_among j (ready_ids added) || was_ready_of w.counting.frontier j)
+  made_now j = rel.ready.made j ∙ ap (λ b. is_among j (ready_ids added) || b) (explores_made objects faulty t.explores j)
+
+  module _ (held : IsHeld objects faulty w) where
+    unmade : (j : ObjectId) → is_among j (ready_ids added) ≡ true → was_ready_of w.counting.frontier j ≡ false
+    unmade j e = sym (explores_made objects faulty t.explores j) ∙ (keeps_from (IsDue objects faulty between new) (rel.due (λ i. last_once named i)) j (among_is j (ready_ids added) e)).1.unmade
+
+    was_made : (j : ObjectId) → (is_same j r.id || is_among j (ready_ids rest.commits)) ≡ true → was_ready_of w.counting.frontier j ≡ true
+    was_made j e = held.made j (among_is j (ready_ids w.ready.commits) (was_among j ∙ e))
+
+    -- the chosen one was ready once
+    other : (j : ObjectId) → is_same j r.id ≡ true → is_among j (ready_ids rest.commits) ≡ false
+    other j s = false_from_ne_true _ (λ e.
+        let o : times j (ready_ids w.ready.commits) ≤ 1 = distinct_times (ready_ids w.ready.commits) held.distinct j in
+        let k : times j (ready_ids w.ready.commits) ≡ cond (is_same j r.id) 1 0 + times j (ready_ids rest.commits) = were j in
+        let l : 1 ≤ times j (ready_ids rest.commits) = among_times j (ready_ids rest.commits) e in
+        let c : ◌≡◌ {A = ℕ} (cond (is_same j r.id) 1 0) 1 = ap (λ b. cond b 1 0) s in
+        omega arith)
+
+    taken_now : (j : ObjectId) → set.contains (taken_of new) j ≡ (is_same j r.id || set.contains (taken_of w) j)
+    taken_now j =
+        contains-taken new.counting.frontier.known new.ready.commits j ∙ (λ k. made_now j k && not (is_now j k))
+        ∙ chosen_too (is_among j (ready_ids added)) (was_ready_of w.counting.frontier j) (is_among j (ready_ids rest.commits)) (is_same j r.id) (unmade j) (was_made j) (other j)
+        ∙ ap (λ b. is_same j r.id || b) (sym (contains-taken w.counting.frontier.known w.ready.commits j ∙ ap (λ b. was_ready_of w.counting.frontier j && not b) (was_among j)))
+
+    taken_is : taken_of new ≡ set.insert (taken_of w) r.id
+    taken_is = set.same_set id_total id_apart (taken_of new) (set.insert (taken_of w) r.id) (λ j. taken_now j ∙ sym (set.contains-insert id_total (taken_of w) r.id j))
+
+    -- with rows that agree
+    module _ (agrees : IsAgreeing (objects (plan_of w).store) (plan_of w).rows) where
+      before : IsTallied objects w
+      before = held.tallied agrees
+
+      counted : IsCounted those (plan_of w).rows w.counting.parents (plan_of w).tips (plan_of w).ends (set.contains (taken_of w)) t.explored.frontier
+      counted = counted_on objects faulty w rest r chosen held agrees t.explored t.explores
+
+      explored : (side : Side) → IsExplored those (plan_of w).rows w.counting.parents (plan_of w).tips (plan_of w).ends low.depth side t.explored.frontier
+      explored = explored_on objects faulty w rest r chosen held agrees t.explored t.explores t.rested
+
+      tally : IsTally (next Tips) (λ i. is_done (reached t.explored.frontier.known Tips i)) now_taken (children_of new.counting.frontier)
+      tally = tally_on objects faulty w rest r chosen held agrees t.explored t.explores (children_of new.counting.frontier) rel.children
+
+      search : (side : Side) → IsSearch (next side) (starts_by (plan_of w).tips (plan_of w).ends side) (reached new.counting.frontier.known side) (waiting new.counting.frontier.queue side)
+      search side =
+          let h : IsSearch (next side) (starts_by (plan_of w).tips (plan_of w).ends side) (reached t.explored.frontier.known side) (waiting t.explored.frontier.queue side) = counted.searched.search side in
+          record {
+            within = λ i e. h.within i (sym (ap is_seen (rel.ready.moved side i)) ∙ e);
+            queued = λ i. ap (λ queue. waiting queue side i) rel.ready.queue ∙ h.queued i ∙ ap (λ p. cond (is_queued p) 1 0) (sym (rel.ready.moved side i));
+            closed = λ c i d m. ap is_seen (rel.ready.moved side i) ∙ h.closed c i (sym (ap is_done (rel.ready.moved side c)) ∙ d) m;
+          }
+
+      counted_now : IsCounted those (plan_of w).rows w.counting.parents (plan_of w).tips (plan_of w).ends (set.contains (taken_of new)) new.counting.frontier
+      counted_now = record {
+        searched = record { search = search; keyed = λ entry m. counted.searched.keyed entry (subst (λ queue. Contains queue entry) rel.ready.queue m) };
+        tally = subst (λ s. IsTally (next Tips) (λ i. is_done (reached new.counting.frontier.known Tips i)) (set.contains s) (children_of new.counting.frontier)) (sym taken_is) (tally_same (next Tips) (λ i. is_done (reached t.explored.frontier.known Tips i)) (λ i. is_done (reached new.counting.frontier.known Tips i)) now_taken (children_of new.counting.frontier) (children_of new.counting.frontier) (λ j. ap is_done (rel.ready.moved Tips j)) (λ p. refl) tally);
+      }
+
+      -- a walked parent was reached, and it isn't below the depth
+      parent_done : (p : ObjectId) → Contains named p → is_done (reached t.explored.frontier.known Tips p) ≡ true
+      parent_done p m =
+          explored Tips p
+          ((before.counted.searched.search Tips).within p ((before.counted.searched.search Tips).closed r.id p (before.done r (was_ready objects faulty w rest r chosen)) (subst (λ ids. Contains ids p) (named_text objects faulty w rest r chosen held agrees) m)))
+          (least_within (plan_of w).rows w.counting.depth named p m)
+
+      done_now : (q : Ready) → Contains new.ready.commits q → is_done (reached new.counting.frontier.known Tips q.id) ≡ true
+      done_now q m =
+          ap is_done (rel.ready.moved Tips q.id) ∙
+          ready_cases (is_done (reached t.explored.frontier.known Tips q.id) ≡ true) q (λ o. explores_done objects faulty t.explores Tips q.id (before.done q (others_ready q o))) (λ a. parent_done q.id (last_from named q.id (rel.ready.among q a))) m
+
+      tallied_now : IsTallied objects new
+      tallied_now = record {
+        counted = subst (λ p. IsCounted (objects p.store) p.rows p.parents p.tips p.ends (set.contains (taken_of new)) new.counting.frontier) (sym plan_is) counted_now;
+        begun = subst (λ p. (side : Side) → IsBegun p.tips p.ends side new.counting.frontier) (sym plan_is) (λ side i m. ap is_seen (rel.ready.moved side i) ∙ explores_still objects faulty t.explores side i (before.begun side i m));
+        done = done_now;
+      }
+
+    module _ (has : IsWalkable objects faulty (plan_of w) → HasCounted objects (plan_of w) new.counting) (adds : Adds objects faulty (unasked objects faulty) (unasked_of objects faulty w) r (counted_by new.counting) added) where
+      fresh : (i : ObjectId) → is_among i (ready_ids added) ≡ true → (set.contains (taken_of w) i ≡ false) × (is_among i (ready_ids w.ready.commits) ≡ false)
+      fresh i e = or_parts (set.contains (taken_of w) i) (is_among i (ready_ids w.ready.commits)) (adds.unmade i (among_is i (ready_ids added) e))
+
+      once : (i : ObjectId) → times i (ready_ids new.ready.commits) ≤ 1
+      once i =
+          let n : times i (ready_ids new.ready.commits) ≡ times i (ready_ids (rest.commits ++ added)) = are i in
+          let j : times i (ready_ids (rest.commits ++ added)) ≡ times i (ready_ids rest.commits) + times i (ready_ids added) = joined_times i rest.commits added in
+          let l : times i (ready_ids rest.commits) + times i (ready_ids added) ≤ 1 = go (is_among i (ready_ids added)) refl (were i) in
+          omega arith
+        where
+          go : (b : Bool) → is_among i (ready_ids added) ≡ b → times i (ready_ids w.ready.commits) ≡ cond (is_same i r.id) 1 0 + times i (ready_ids rest.commits) → times i (ready_ids rest.commits) + times i (ready_ids added) ≤ 1
+          go true e s =
+              let z : times i (ready_ids w.ready.commits) ≡ 0 = times_none i (ready_ids w.ready.commits) (fresh i e).1 in
+              let a : times i (ready_ids added) ≤ 1 = distinct_times (ready_ids added) adds.distinct i in
+              omega arith
+          go false e s =
+              let z : times i (ready_ids added) ≡ 0 = times_none i (ready_ids added) e in
+              let o : times i (ready_ids w.ready.commits) ≤ 1 = distinct_times (ready_ids w.ready.commits) held.distinct i in
+              omega arith
+
+      still_made : (j : ObjectId) → (is_among j (ready_ids rest.commits) ≡ true) ⊎ (is_among j (ready_ids added) ≡ true) → (is_among j (ready_ids added) || was_ready_of w.counting.frontier j) ≡ true
+      still_made j c = ⊎_elim (λ e. or_right (is_among j (ready_ids added)) _ (was_made j (or_right (is_same j r.id) _ e))) (λ e. or_left _ _ e) c
+
+      found_now : (q : Ready) → Contains new.ready.commits q → IsFound objects faulty (plan_of new) true new.counting.reader.standing q
+      found_now q m = ready_cases (IsFound objects faulty (plan_of new) true new.counting.reader.standing q) q of_rest (λ a. subst (λ p. IsFound objects faulty p true new.counting.reader.standing q) (sym plan_is) (found_later objects faulty (plan_of w) (λ e. refl) (λ e. e) (adds.found q a))) m
+        where
+          of_rest : Contains rest.commits q → IsFound objects faulty (plan_of new) true new.counting.reader.standing q
+          of_rest o = subst (λ p. IsFound objects faulty p true new.counting.reader.standing q) (sym plan_is) (found_later objects faulty (plan_of w) (λ e. e) adds.stands (held.found q (others_ready q o)))
+
+      -- where all that is walked reads whole
+      module _ (sound : IsWalkable objects faulty (plan_of w)) where
+        steady : IsSteady objects w
+        steady = held.steady sound
+
+        now_ready : (i : ObjectId) → is_among i (ready_ids added) ≡ true → IsReady walked Member (IsTaken (set.insert (taken_of w) r.id)) i
+        now_ready i e = (keeps_from (IsReady walked Member (IsTaken (set.insert (taken_of w) r.id))) (adds.became sound) i (among_is i (ready_ids added) e)).1
+
+        member_now : (i : ObjectId) → was_ready_of new.counting.frontier i ≡ true → Member i
+        member_now i e = ⊎_elim (λ a. (now_ready i a).member) (λ o. steady.member i o) (or_cases (is_among i (ready_ids added)) (was_ready_of w.counting.frontier i) (sym (made_now i) ∙ e))
+
+        children_now : (i d : ObjectId) → was_ready_of new.counting.frontier i ≡ true → IsChild walked Member d i → set.contains (taken_of new) d ≡ true
+        children_now i d e c =
+            ⊎_elim (λ a. ap (λ s. set.contains s d) taken_is ∙ (now_ready i a).children d c) (λ o. taken_now d ∙ or_right (is_same d r.id) _ (steady.children i d o c))
+            (or_cases (is_among i (ready_ids added)) (was_ready_of w.counting.frontier i) (sym (made_now i) ∙ e))
+
+        steady_now : IsSteady objects new
+        steady_now = record {
+          member = λ i e. subst (λ p. IsMember objects p i) (sym plan_is) (member_now i e);
+          children = λ i d e c. children_now i d e (subst (λ p. IsChild (walked_of objects p) (IsMember objects p) d i) plan_is c);
+        }
+
+      -- what a walk holds, after a ready commit was taken
+      pub held_on : IsHeld objects faulty new
+      held_on = record {
+        made = λ j m. made_now j ∙ still_made j (or_cases (is_among j (ready_ids rest.commits)) (is_among j (ready_ids added)) (sym (is_now j) ∙ among_from j (ready_ids new.ready.commits) m));
+        distinct = times_once (ready_ids new.ready.commits) once;
+        found = found_now;
+        tallied = λ a. tallied_now (subst (λ p. IsAgreeing (objects p.store) p.rows) plan_is a);
+        steady = λ s. steady_now (subst (IsWalkable objects faulty) plan_is s);
+        counts = λ s. subst (λ p. HasCounted objects p new.counting) (sym plan_is) (has (subst (IsWalkable objects faulty) plan_is s));
+        all_read = subst (λ p. AreRead objects faulty p new.counting) (sym plan_is) (read_after objects faulty w rest same r chosen added new t held);
+        idle = λ e. rel.ready.queue ∙ explores_idle objects faulty t.explores (held.idle (sym (ap (λ p. p.rows) plan_is) ∙ e));
+        read = λ e i h. subst (λ p. IsCommitRead (objects p.store) i) (sym plan_is) (held.read (sym (ap (λ p. p.rows) plan_is) ∙ e) i (subst (λ p. IsReached objects p i) plan_is h));
+      }
+
+      -- a ready commit is taken
+      pub takes_on : TakesReady objects faulty w r new
+      takes_on = record {
+        takes = record { others = rest.commits; added = added; chosen = chosen; adds = adds; holds = subst (λ s. HoldsReady s (rest.commits ++ added) new.ready.commits) same rel.holds };
+        plan = plan_is;
+        taken = taken_is;
+      }

@@ -1,0 +1,96 @@
+-- How a commit becomes ready.
+use Rattle.std.specs.Prelude.{◌≡◌, ◌⊎◌, ◌<◌, ℕ, take, zero, suc, ℤ, pos, List, [], ◌∷◌, Bool, Option, Some, None, Ok, Contains, length}
+use Rattle.std.proofs.Common.{sym, ap, subst, inl, inr, ⊎_elim, ◌∙◌, arith, get_or}
+use Rattle.std.specs.Option.{unwrap_or}
+use Rattle.gix_hash.proofs.Ids.Membership.{Contains-here, Contains-there, Contains-cons_cases}
+use Rattle.gix_hash.specs.declared.ObjectId.{ObjectId}
+use Rattle.gix_object.specs.Object.{Objects}
+use Rattle.gix_commitgraph.specs.Rows.{GraphRow}
+use Rattle.gix_revwalk.specs.declared.Info.{Info}
+use Rattle.gix_topo.specs.declared.Error.{Error}
+use Rattle.gix_topo.specs.declared.walk.Walk.{Walk}
+use Rattle.gix_revwalk.specs.Reading.{rows_of}
+use Rattle.gix_topo.specs.Reading.{Reads, by_row, by_text, IsReadFault}
+use Rattle.gix_topo.specs.declared.counting.Counting.{Counting}
+use Rattle.gix_frontier.specs.declared.Frontier.{Frontier}
+use Rattle.gix_topo.specs.Depth.{least}
+use Rattle.gix_topo.specs.Inside.Exploring.{Explores, IsRested, IsExploringFault}
+use Rattle.gix_revwalk.specs.Commits.{by_mode}
+use Rattle.gix_topo.specs.TopoOrder.{last_places}
+use Rattle.gix_topo.specs.Walk.{Ready}
+use Rattle.gix_topo.specs.Inside.Releasing.{LooksUpParent, IsPushFault, parent, lowered, with_counting, TakesOne, IsTakingFault, exploring, releasing, ReleasesAll, IsFaultAmong}
+use Rattle.gix_hash.proofs.Lists.{only_member}
+
+-- what is read has the id that was asked for, and a time
+pub record IsTimedInfo (i : ObjectId) (info : Info) (time : ℤ) : Type 0 where
+  pub id : info.id ≡ i
+  pub same_time : info.commit_time ≡ Some time
+
+abbrev pub or_zero : Option ℤ → ℤ
+or_zero None = pos 0
+or_zero (Some t) = t
+
+timed : {o : Option ℤ} (t : ℤ) → o ≡ Some t → o ≡ Some (or_zero o)
+timed t e = e ∙ ap (λ x. Some (or_zero x)) (sym e)
+
+pub reads_timed : {objects : Objects} {faulty : ObjectId → Type 0} {rows : List GraphRow} {standing : Bool} {i : ObjectId} {info : Info} {new : Bool} → Reads objects faulty rows standing i (Ok info) new → IsTimedInfo i info (or_zero info.commit_time)
+reads_timed (by_row r is) = record { id = is.same_id; same_time = timed _ is.same_time }
+reads_timed (by_text n t) = record { id = t.2.0.same_id; same_time = timed _ t.2.0.same_time }
+
+module _ {F : Type 0} (objects : F → Objects) (faulty : F → ObjectId → Type 0) where
+  pub fault_of_parent : (old : Walk F) (i : ObjectId) (e : Error) (info : Info) (standing : Bool) (find : F) (p : ObjectId) → find ≡ old.counting.reader.find → Reads (objects old.counting.reader.find) (faulty old.counting.reader.find) (rows_of old.counting.reader.graph) old.counting.reader.standing i (Ok info) standing → Contains info.parent_ids.items p → IsReadFault (objects find) (faulty find) p e → IsPushFault objects faulty old i e
+  fault_of_parent old i e info standing find p same r m f = parent r m (subst (λ x. IsReadFault (objects x) (faulty x) p e) same f)
+
+-- an item at an index is in the list
+pub at_index : {X : Type 0} (xs ys : List X) (k : ℕ) (d : X) → ys ≡ xs → k < length ys → Contains xs (get_or ys k d)
+at_index {X} xs ys k d e l = subst (λ zs. Contains zs (get_or ys k d)) e (at ys k l)
+  where
+    at : (zs : List X) (k : ℕ) → k < length zs → Contains zs (get_or zs k d)
+    at [] k l = absurd (omega arith)
+    at (z ∷ zs) zero l = Contains-here z zs
+    at (z ∷ zs) (suc k) l = Contains-there (get_or zs k d) z zs (at zs k (omega arith))
+
+-- one item more of a list
+pub take_more : {X : Type 0} (xs : List X) (k j : ℕ) (d x : X) → j ≡ suc k → k < length xs → Contains (take j xs) x → Contains (take k xs) x ⊎ (get_or xs k d ≡ x)
+take_more {X} xs k j d x e l m = go xs k l (subst (λ n. Contains (take n xs) x) e m)
+  where
+    go : (zs : List X) (n : ℕ) → n < length zs → Contains (take (suc n) zs) x → Contains (take n zs) x ⊎ (get_or zs n d ≡ x)
+    go [] n l m = absurd (omega arith)
+    go (z ∷ zs) zero l m = inr (only_member z x m)
+    go (z ∷ zs) (suc n) l m =
+        ⊎_elim (λ s. inl (subst (λ y. Contains (z ∷ take n zs) y) s (Contains-here z (take n zs)))) (λ t. ⊎_elim (λ h. inl (Contains-there x z (take n zs) h)) (λ h. inr h) (go zs n (omega arith) t))
+        (Contains-cons_cases x z (take (suc n) zs) m)
+
+-- known alike over an equal store, rows and searches
+pub looks_up_by : {F : Type 0} (objects : F → Objects) {find other : F} {graph rest : Option (List GraphRow)} {standing now : Bool} {f g : Frontier} → find ≡ other → graph ≡ rest → standing ≡ now → f ≡ g → (p : ObjectId) → LooksUpParent (objects find) (rows_of graph) standing f p → LooksUpParent (objects other) (rows_of rest) now g p
+looks_up_by objects a b c d p h = subst (λ x. x) (λ k. LooksUpParent (objects (a k)) (rows_of (b k)) (c k) (d k) p) h
+
+pub time_told : (o : Option ℤ) (d r : ℤ) → o ≡ Some (or_zero o) → r ≡ unwrap_or o d → Some (or_zero o) ≡ Some r
+time_told None d r e u = cc
+time_told (Some t) d r e u = ap Some (sym u)
+
+-- a commit is taken, put together from what the parts did
+module _ {F : Type 0} (objects : F → Objects) (faulty : F → ObjectId → Type 0) (old : Walk F) (r : Ready) (low : Counting F) (named ids : List ObjectId) (by : named ≡ by_mode old.counting.parents r.parents) (lows : low ≡ record old.counting { depth = least (rows_of old.counting.reader.graph) old.counting.depth named }) (at : ids ≡ last_places named) where
+  low_is : low ≡ lowered objects faulty old r
+  low_is = lows ∙ ap (λ those. record old.counting { depth = least (rows_of old.counting.reader.graph) old.counting.depth those }) by
+
+  ids_are : ids ≡ last_places (by_mode old.counting.parents r.parents)
+  ids_are = at ∙ ap last_places by
+
+  pub explores_low : (explored : Counting F) → Explores objects faulty low explored → Explores objects faulty (lowered objects faulty old r) explored
+  explores_low explored e = subst (λ c. Explores objects faulty c explored) low_is e
+
+  pub fault_low : (e : Error) → IsExploringFault objects faulty low e → IsTakingFault objects faulty old r e
+  fault_low e f = exploring (subst (λ c. IsExploringFault objects faulty c e) low_is f)
+
+  module _ (explored : Counting F) (e : Explores objects faulty low explored) (rests : IsRested explored.reader.standing explored.depth explored.frontier.queue) where
+    pub takes_one : (added : List Ready) (new : Walk F) → ReleasesAll objects faulty (with_counting objects faulty old explored) ids added new → TakesOne objects faulty old r added new
+    takes_one added new all = record {
+      explored = explored;
+      explores = explores_low explored e;
+      rested = rests;
+      releases = subst (λ those. ReleasesAll objects faulty (with_counting objects faulty old explored) those added new) ids_are all;
+    }
+
+    pub fault_among : (fault : Error) → IsFaultAmong objects faulty (with_counting objects faulty old explored) ids fault → IsTakingFault objects faulty old r fault
+    fault_among fault f = releasing (explores_low explored e) rests (subst (λ those. IsFaultAmong objects faulty (with_counting objects faulty old explored) those fault) ids_are f)

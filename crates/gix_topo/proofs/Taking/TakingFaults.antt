@@ -1,0 +1,257 @@
+-- When a topological walk can't take a ready commit.
+use Rattle.std.specs.Prelude.{◌≡◌, ◌⊎◌, ◌≤◌, ℕ, ◌+◌, ◌-◌, ◌||◌, List, [], ◌∷◌, ◌++◌, drop, Bool, true, false, cond, Some, None, Err, Contains}
+use Rattle.std.proofs.Common.{refl, sym, ap, subst, inl, inr, ⊎_elim, ◌∙◌, arith}
+use Rattle.std.specs.FinSet as set
+use Rattle.gix_hash.specs.declared.ObjectId.{ObjectId}
+use Rattle.gix_object.specs.declared.Kind.TheVariants as object
+use Rattle.gix_object.specs.declared.find.existing_iter.Error.TheVariants as existing
+use Rattle.gix_hash.specs.Id.{kind_of, is_same, is_among}
+use Rattle.gix_object.specs.Object.{Object, Objects}
+use Rattle.gix_object.specs.CommitItems.{commit_items}
+use Rattle.gix_hash.proofs.Ids.Membership.{id_total, same_is, same_itself, among_from, Contains-here, Contains-there, Contains-cons_cases, no_member}
+use Rattle.gix_revwalk.specs.declared.Parents.{Parents}
+use Rattle.gix_revwalk.specs.declared.Parents.TheVariants as mode
+use Rattle.gix_topo.specs.declared.Error.{Error}
+use Rattle.gix_topo.specs.declared.Error.TheVariants as error
+use Rattle.gix_topo.specs.declared.counting.Counting.{Counting}
+use Rattle.gix_frontier.specs.declared.Side.{Side}
+use Rattle.gix_frontier.specs.declared.Side.TheVariants.{Tips, Ends}
+use Rattle.gix_topo.specs.declared.walk.Walk.{Walk}
+use Rattle.gix_topo.specs.Inside.ReadySet.{ReadySet}
+use Rattle.gix_revwalk.specs.Agreeing.{IsAgreeing}
+use Rattle.gix_topo.specs.Inside.Exploring.{Explores, IsRested}
+use Rattle.gix_frontier.specs.Inside.Frontier.{is_seen, is_done, known_of, reached}
+use Rattle.gix_frontier.specs.declared.Frontier.{Frontier}
+use Rattle.gix_topo.specs.Depth.{known_generation}
+use Rattle.std.proofs.lemmas.Bool.{true≢false, or_cases, or_left, or_right, or_parts}
+use Rattle.gix_revwalk.specs.Commits.{by_mode}
+use Rattle.gix_hash.specs.Reach.{Reaches, step}
+use Rattle.gix_topo.specs.Reading.{IsReadFault}
+use Rattle.gix_topo.specs.Inside.Releasing.{plan_of, taken_of, IsPushFault, itself as pushed, parent, with_frontier, IsReleaseFault, uncounted, unread, no_memory, none, more, IsFaultAmong, here, later, lowered, IsTakingFault, exploring, releasing, short}
+use Rattle.gix_topo.specs.Inside.Searched.{IsExplored, text_next, next_by}
+use Rattle.gix_revwalk.specs.Ids.{times}
+use Rattle.gix_topo.specs.TopoOrder.{last_places}
+use Rattle.gix_topo.specs.Inside.Steady.{IsTallied, IsHeld}
+use Rattle.gix_topo.specs.Walk.{TopoPlan, Ready, ready_ids, Chooses, IsCommitRead, IsNextReady, IsOtherParent, IsLate, IsFault, IsReached}
+use Rattle.gix_topo.proofs.Counts.ExploreKeeps.{explores_same, explores_made, explores_done, explores_idle}
+use Rattle.gix_topo.proofs.Counts.Frontier.{has_seen}
+use Rattle.gix_topo.proofs.Counts.Rest.{least_within}
+use Rattle.gix_topo.proofs.Counts.IndegreeZero.{text_left, text_outside}
+use Rattle.gix_topo.proofs.Readiness.IsReady.{last_from, last_once}
+use Rattle.gix_topo.proofs.Taking.AllReleases.{IsReleased, uncounted_made, uncounted_moved, released}
+use Rattle.gix_topo.proofs.Counts.Children.{children_of, was_ready_of, times-last, tally_counts}
+use Rattle.gix_topo.proofs.Reading.ReadsCommit.{reads_text_next}
+use Rattle.gix_revwalk.proofs.Rows.{none_agree}
+use Rattle.gix_topo.proofs.Counts.Taken.{made_taken}
+use Rattle.gix_topo.proofs.Taking.Setting.{was_ready, plan_taken, was_untaken, named_text, parents_reached, counted_on, explored_on, tally_on}
+use Rattle.gix_revwalk.proofs.NewIds.{among_times}
+use Rattle.gix_topo.proofs.Readiness.ReadyIds.{in_ids}
+use Rattle.gix_topo.proofs.Counts.ReadFaults.{fault_item, exploring_fault, push_fault}
+use Rattle.gix_topo.proofs.Counts.MakesReady.{due_parts}
+
+same_object : (a b : Object) → Some a ≡ Some b → a ≡ b
+same_object a b e = cc
+
+module _ {F : Type 0} (objects : F → Objects) (faulty : F → ObjectId → Type 0) where
+  -- a commit that tips reach, where without rows all that is reached was read
+  record IsUpcoming (plan : TopoPlan F) (i : ObjectId) : Type 0 where
+    reach : IsAgreeing (objects plan.store) plan.rows → Reaches (next_by (objects plan.store) plan.parents Tips) plan.tips i
+    read : plan.rows ≡ [] → (j : ObjectId) → IsReached objects plan j → IsCommitRead (objects plan.store) j
+
+  abbrev Fails : TopoPlan F → (ObjectId → Type 0) → Error → Type 0
+  Fails plan Q e = IsFault objects faulty plan Q e × IsLate objects plan Q e
+
+  abbrev Agree : TopoPlan F → Type 0
+  Agree plan = IsAgreeing (objects plan.store) plan.rows
+
+  -- what was read is read again
+  late : (plan : TopoPlan F) (Q : ObjectId → Type 0) (p : ObjectId) (e : Error) → (plan.rows ≡ [] → IsCommitRead (objects plan.store) p ⊎ IsOtherParent objects plan Q p) → IsReadFault (objects plan.store) (faulty plan.store) p e → IsLate objects plan Q e
+  late plan Q p error.MissingIndegreeUnexpected c f = tt
+  late plan Q p error.MissingStateUnexpected c f = absurd f
+  late plan Q p (error.Find existing.Store) c f = tt
+  late plan Q p (error.Find (existing.NotFound oid)) c f =
+      λ n. ⊎_elim (λ k. let bad : None ≡ Some (record { kind = object.Commit; bytes = k.bytes }) = sym f.1 ∙ k.stored in cc) (λ o. subst (IsOtherParent objects plan Q) (sym f.0) o) (c n)
+  late plan Q p (error.Find (existing.ObjectKind oid wanted actual)) c f =
+      λ n. ⊎_elim (λ k. let same : ◌≡◌ {A = Object} (record { kind = actual; bytes = f.3 }) (record { kind = object.Commit; bytes = k.bytes }) = same_object _ _ (sym f.4 ∙ k.stored) in absurd (f.2 (ap (λ o. o.kind) same))) (λ o. subst (IsOtherParent objects plan Q) (sym f.0) o) (c n)
+  late plan Q p (error.Find existing.Memory) c f = f
+  late plan Q p (error.ObjectDecode e) c f =
+      let item : Contains (commit_items (kind_of p) f.0) (Err e) = fault_item (commit_items (kind_of p) f.0) e f.2 f.3 in
+      λ n. ⊎_elim (λ k. let same : ◌≡◌ {A = Object} (record { kind = object.Commit; bytes = f.0 }) (record { kind = object.Commit; bytes = k.bytes }) = same_object _ _ (sym f.1 ∙ k.stored) in absurd (k.faultless e (subst (λ b. Contains (commit_items (kind_of p) b) (Err e)) (ap (λ o. o.bytes) same) item)))
+      (λ o. (p, o, (f.0, f.1, item))) (c n)
+  late plan Q p error.Memory c f = tt
+
+  -- without rows, a parent of a commit that tips reach was read, or isn't the first
+  parent_read : (plan : TopoPlan F) (Q : ObjectId → Type 0) (i p : ObjectId) → IsUpcoming plan i → (Agree plan → Q i) → plan.rows ≡ [] → Contains (text_next (objects plan.store) i) p → IsCommitRead (objects plan.store) p ⊎ IsOtherParent objects plan Q p
+  parent_read plan Q i p up ready n m = by plan.parents refl
+    where
+      walked : Contains (by_mode plan.parents (text_next (objects plan.store) i)) p → IsCommitRead (objects plan.store) p ⊎ IsOtherParent objects plan Q p
+      walked k = inl (up.read n p (inl (step (up.reach (none_agree (objects plan.store) plan.rows n)) k)))
+
+      first : plan.parents ≡ mode.First → (ids : List ObjectId) → text_next (objects plan.store) i ≡ ids → Contains ids p → IsCommitRead (objects plan.store) p ⊎ IsOtherParent objects plan Q p
+      first e [] s m = absurd (no_member p m)
+      first e (x ∷ xs) s m =
+          ⊎_elim (λ q. walked (subst (λ k. Contains (by_mode k (text_next (objects plan.store) i)) p) (sym e) (subst (λ ids. Contains (by_mode mode.First ids) p) (sym s) (subst (λ y. Contains (x ∷ []) y) q (Contains-here x [])))))
+          (λ t. inr (record { unwalked = e; child = i; ready = ready (none_agree (objects plan.store) plan.rows n); named = subst (λ ids. Contains (drop 1 ids) p) (sym s) t }))
+          (Contains-cons_cases p x xs m)
+
+      by : (k : Parents) → plan.parents ≡ k → IsCommitRead (objects plan.store) p ⊎ IsOtherParent objects plan Q p
+      by mode.All e = walked (subst (λ k. Contains (by_mode k (text_next (objects plan.store) i)) p) (sym e) m)
+      by mode.First e = first e (text_next (objects plan.store) i) refl m
+
+  push_fails : (old : Walk F) (Q : ObjectId → Type 0) (i : ObjectId) (e : Error) → IsUpcoming (plan_of old) i → (Agree (plan_of old) → Q i) → IsPushFault objects faulty old i e → Fails (plan_of old) Q e
+  push_fails old Q i e up ready f = (push_fault objects faulty Q old i e up.reach ready f, fails f)
+    where
+      fails : IsPushFault objects faulty old i e → IsLate objects (plan_of old) Q e
+      fails (pushed f) = late (plan_of old) Q i e (λ n. inl (up.read n i (inl (up.reach (none_agree (objects (plan_of old).store) (plan_of old).rows n))))) f
+      fails (parent {p = p} reads m f) = late (plan_of old) Q p e (λ n. parent_read (plan_of old) Q i p up ready n (subst (λ ids. Contains ids p) (reads_text_next (objects (plan_of old).store) (faulty (plan_of old).store) (plan_of old).rows (none_agree (objects (plan_of old).store) (plan_of old).rows n) reads) m)) f
+
+  -- the last child of a commit that wasn't ready, and that no end has seen, was taken
+  record IsLastChild (f : Frontier) (i : ObjectId) : Type 0 where
+    one : children_of f i ≡ 1
+    outside : has_seen f Ends i ≡ false
+    unmade : was_ready_of f i ≡ false
+
+  release_fails : {old : Walk F} {i : ObjectId} {e : Error} (Q : ObjectId → Type 0) → IsUpcoming (plan_of old) i → (Agree (plan_of old) → IsLastChild old.counting.frontier i → Q i) → (Agree (plan_of old) → 1 ≤ children_of old.counting.frontier i) → IsReleaseFault objects faulty old i e → Fails (plan_of old) Q e
+  release_fails Q up ready c (uncounted z) = (λ a. let l : 1 ≤ _ = c a in absurd (omega arith), tt)
+  release_fails {old} {i} {e} Q up ready c (unread {f = f} n k u d p) =
+      let parts : (n ≡ 0) × (is_seen (known_of f.known i).ends ≡ false) × ((known_of f.known i).was_ready ≡ false) = due_parts objects faulty n (known_of f.known i) d in
+      push_fails (with_frontier objects faulty old f) Q i e up
+      (λ a. ready a (record { one = k ∙ ap (λ m. m + 1) parts.0; outside = sym (ap is_seen (uncounted_moved objects faulty old.counting.frontier f i n k u Ends i)) ∙ parts.1; unmade = sym (uncounted_made objects faulty old.counting.frontier f i n k u i) ∙ parts.2 })) p
+  release_fails Q up ready c no_memory = (tt, tt)
+
+  -- some of the parents were released, and these are left
+  record IsPartway (base : Frontier) (all ids : List ObjectId) (f : Frontier) : Type 0 where
+    children : (p : ObjectId) → times p all + children_of f p ≡ children_of base p + times p ids
+    seen : (p : ObjectId) → has_seen f Ends p ≡ has_seen base Ends p
+    made : (p : ObjectId) → was_ready_of f p ≡ false → was_ready_of base p ≡ false
+    among : (p : ObjectId) → Contains ids p → Contains all p
+
+  partway_none : (f : Frontier) (all : List ObjectId) → IsPartway f all all f
+  partway_none f all = record { children = λ p. turned p; seen = λ p. refl; made = λ p e. e; among = λ p m. m }
+    where
+      turned : (p : ObjectId) → times p all + children_of f p ≡ children_of f p + times p all
+      turned p = omega arith
+
+  -- each of these is reached, and has a child left for each place
+  among_fails : (plan : TopoPlan F) (Q : ObjectId → Type 0) (base : Frontier) (all : List ObjectId) → ((p : ObjectId) → times p all ≤ 1) → ((i : ObjectId) → Contains all i → IsUpcoming plan i) → (Agree plan → (i : ObjectId) → Contains all i → IsLastChild base i → Q i) → {old : Walk F} {ids : List ObjectId} {e : Error} → plan_of old ≡ plan → IsPartway base all ids old.counting.frontier → (Agree plan → (p : ObjectId) → times p ids ≤ children_of old.counting.frontier p) → IsFaultAmong objects faulty old ids e → Fails plan Q e
+  among_fails plan Q base all once up ready {old} {e = e} same part c (here {i = i} {ids = ids} f) =
+      subst (λ p. Fails p Q e) same (release_fails Q (subst (λ p. IsUpcoming p i) (sym same) (up i there)) (λ a l. ready (on a) i there (first a l)) (λ a. counted (c (on a) i)) f)
+    where
+      there : Contains all i
+      there = part.among i (Contains-here i ids)
+
+      on : Agree (plan_of old) → Agree plan
+      on a = subst (λ p. IsAgreeing (objects p.store) p.rows) same a
+
+      here_once : 1 ≤ times i (i ∷ ids)
+      here_once = let o : ◌≡◌ {A = ℕ} (cond (is_same i i) 1 0) 1 = ap (λ b. cond b 1 0) (same_itself i) in omega arith
+
+      counted : times i (i ∷ ids) ≤ children_of old.counting.frontier i → 1 ≤ children_of old.counting.frontier i
+      counted l = let o : 1 ≤ times i (i ∷ ids) = here_once in omega arith
+
+      first : Agree (plan_of old) → IsLastChild old.counting.frontier i → IsLastChild base i
+      first a l = record {
+        one =
+            let o : 1 ≤ times i (i ∷ ids) = here_once in
+            let k : times i (i ∷ ids) ≤ children_of old.counting.frontier i = c (on a) i in
+            let n : children_of old.counting.frontier i ≡ 1 = l.one in
+            let s : times i all + children_of old.counting.frontier i ≡ children_of base i + times i (i ∷ ids) = part.children i in
+            let m : 1 ≤ times i all = among_times i all (among_from i all there) in
+            let t : times i all ≤ 1 = once i in
+            omega arith;
+        outside = sym (part.seen i) ∙ l.outside;
+        unmade = part.made i l.unmade;
+      }
+  among_fails plan Q base all once up ready {old} same part c (later {mid = mid} {i = i} {ids = ids} {first = first} r f) =
+      let rel : IsReleased objects faulty old (i ∷ []) (first ++ []) mid = released objects faulty (more r none) in
+      among_fails plan Q base all once up ready {old = mid} (rel.ready.plan ∙ same)
+      (record {
+        children = λ p. let s : times p all + children_of old.counting.frontier p ≡ children_of base p + times p (i ∷ ids) = part.children p in let k : (cond (is_same p i) 1 0 + 0) + children_of mid.counting.frontier p ≡ children_of old.counting.frontier p = rel.children p in omega arith;
+        seen = λ p. ap is_seen (rel.ready.moved Ends p) ∙ part.seen p;
+        made = λ p e. part.made p (or_parts (is_among p (ready_ids (first ++ []))) (was_ready_of old.counting.frontier p) (sym (rel.ready.made p) ∙ e)).1;
+        among = λ p m. part.among p (Contains-there p i ids m);
+      })
+      (λ a p. let l : times p (i ∷ ids) ≤ children_of old.counting.frontier p = c a p in let k : (cond (is_same p i) 1 0 + 0) + children_of mid.counting.frontier p ≡ children_of old.counting.frontier p = rel.children p in omega arith) f
+
+  module _ (w : Walk F) (held : IsHeld objects faulty w) (rest : ReadySet) (same : rest.sorting ≡ w.ready.sorting) (r : Ready) (chosen : Chooses w.ready.sorting w.ready.commits r rest.commits) where
+    abbrev Agrees : Type 0
+    Agrees = IsAgreeing (objects (plan_of w).store) (plan_of w).rows
+
+    abbrev low : Counting F
+    low = lowered objects faulty (record w { ready = rest }) r
+
+    abbrev next : ObjectId → List ObjectId
+    next = next_by (objects w.counting.reader.find) w.counting.parents Tips
+
+    abbrev named : List ObjectId
+    named = by_mode w.counting.parents r.parents
+
+    upcoming : (i : ObjectId) → Contains (last_places named) i → IsUpcoming (plan_of w) i
+    upcoming i m = record {
+      reach = λ a. parents_reached objects faulty w rest r chosen held a i (last_from named i m);
+      read = held.read;
+    }
+
+    children_left : (explored : Counting F) → Explores objects faulty low explored → Agrees → (p : ObjectId) → times p (last_places named) ≤ children_of explored.frontier p
+    children_left explored x a p = go (is_among p named) refl (times-last p named)
+      where
+        t : IsTallied objects w
+        t = held.tallied a
+
+        go : (b : Bool) → is_among p named ≡ b → times p (last_places named) ≡ cond (is_among p named) 1 0 → times p (last_places named) ≤ children_of explored.frontier p
+        go true e l =
+            let o : ◌≡◌ {A = ℕ} (cond (is_among p named) 1 0) 1 = ap (λ b. cond b 1 0) e in
+            let n : 1 ≤ children_of explored.frontier p = tally_counts next (λ i. is_done (reached explored.frontier.known Tips i)) (set.contains (taken_of w)) (children_of explored.frontier) (counted_on objects faulty w rest r chosen held a explored x).tally p r.id (explores_done objects faulty x Tips r.id (t.done r (was_ready objects faulty w rest r chosen))) (was_untaken objects faulty w rest r chosen held) (ap (is_among p) (sym (named_text objects faulty w rest r chosen held a)) ∙ e) in
+            omega arith
+        go false e l = let o : ◌≡◌ {A = ℕ} (cond (is_among p named) 1 0) 0 = ap (λ b. cond b 1 0) e in omega arith
+
+    module _ (explored : Counting F) (x : Explores objects faulty low explored) (rests : IsRested explored.reader.standing explored.depth explored.frontier.queue) where
+      -- how many children are left once it is taken
+      abbrev left : ObjectId → ℕ
+      left p = children_of explored.frontier p - times p (last_places named)
+
+      -- a parent that loses its last child becomes ready
+      next_ready : Agrees → (i : ObjectId) → Contains (last_places named) i → IsLastChild explored.frontier i → IsNextReady objects (plan_of w) (taken_of w) r.id i
+      next_ready a i m l = record {
+        named = subst (λ ids. Contains ids i) (named_text objects faulty w rest r chosen held a) within;
+        ready = record {
+          member = record {
+            reached = parents_reached objects faulty w rest r chosen held a i within;
+            outside = text_outside (objects w.counting.reader.find) (faulty w.counting.reader.find) (plan_of w).rows w.counting.parents (plan_of w).tips (plan_of w).ends a explored.frontier low.depth there i l.outside high;
+          };
+          left = λ e. ⊎_elim (λ s. unmade (subst (λ j. (set.contains (taken_of w) j || is_among j (ready_ids w.ready.commits)) ≡ true) (sym (same_is i r.id s)) (or_right (set.contains (taken_of w) r.id) _ (among_from r.id (ready_ids w.ready.commits) (in_ids w.ready.commits r (was_ready objects faulty w rest r chosen)))))) (λ k. unmade (or_left _ _ k)) (or_cases (is_same i r.id) (set.contains (taken_of w) i) (sym (set.contains-insert id_total (taken_of w) r.id i) ∙ e));
+          children = λ d k. text_left (objects w.counting.reader.find) (faulty w.counting.reader.find) (plan_of w).rows w.counting.parents (plan_of w).tips (plan_of w).ends a explored.frontier low.depth there (λ j. set.contains (set.insert (taken_of w) r.id) j) left (tally_on objects faulty w rest r chosen held a explored x left (λ p. kept_apart p (children_left explored x a p))) i none_left high d k.child.reached k.named;
+        };
+      }
+        where
+          within : Contains named i
+          within = last_from named i m
+
+          there : (side : Side) → IsExplored (objects w.counting.reader.find) (plan_of w).rows w.counting.parents (plan_of w).tips (plan_of w).ends low.depth side explored.frontier
+          there = explored_on objects faulty w rest r chosen held a explored x rests
+
+          high : low.depth ≤ known_generation (plan_of w).rows i
+          high = least_within (plan_of w).rows w.counting.depth named i within
+
+          kept_apart : (p : ObjectId) → times p (last_places named) ≤ children_of explored.frontier p → times p (last_places named) + (children_of explored.frontier p - times p (last_places named)) ≡ children_of explored.frontier p
+          kept_apart p n = omega arith
+
+          none_left : (children_of explored.frontier i - times i (last_places named)) ≡ 0
+          none_left =
+              let n : 1 ≤ times i (last_places named) = among_times i (last_places named) (among_from i (last_places named) m) in
+              let o : children_of explored.frontier i ≡ 1 = l.one in
+              omega arith
+
+          unmade : (set.contains (taken_of w) i || is_among i (ready_ids w.ready.commits)) ≡ true → ⊥
+          unmade e = true≢false (sym e ∙ sym (explores_made objects faulty x i ∙ made_taken w held.made i) ∙ l.unmade)
+
+    -- taking the chosen commit fails for a reason, and a fault found so late without rows is that of another parent
+    pub taking_fault : (e : Error) → IsTakingFault objects faulty (record w { ready = rest }) r e → IsFault objects faulty (plan_of w) (IsNextReady objects (plan_of w) (taken_of w) r.id) e × IsLate objects (plan_of w) (IsNextReady objects (plan_of w) (taken_of w) r.id) e
+    taking_fault e (exploring f) = (
+      exploring_fault objects faulty w.ready.sorting w.tips.items w.ends.items (set.contains (taken_of w)) low (λ a. (held.tallied a).counted) (IsNextReady objects (plan_of w) (taken_of w) r.id) e f,
+      late (plan_of w) (IsNextReady objects (plan_of w) (taken_of w) r.id) f.fault.entry.1.id e (λ n. absurd (no_member f.fault.entry (subst (λ queue. Contains queue f.fault.entry) (explores_idle objects faulty f.explored (held.idle n)) f.fault.queued))) (subst (λ x. IsReadFault (objects x) (faulty x) f.fault.entry.1.id e) (explores_same objects faulty f.explored).find f.fault.fault),
+    )
+    taking_fault e (releasing {explored = explored} x rests f) =
+        among_fails (plan_of w) (IsNextReady objects (plan_of w) (taken_of w) r.id) explored.frontier (last_places named) (last_once named) upcoming (next_ready explored x rests) (plan_taken objects faulty w rest r chosen same explored (explores_same objects faulty x))
+        (partway_none explored.frontier (last_places named)) (children_left explored x) f
+    taking_fault e (short q) = subst (Fails (plan_of w) (IsNextReady objects (plan_of w) (taken_of w) r.id)) (sym q) (tt, tt)

@@ -1,0 +1,18 @@
+use Rattle.std.proofs.Common.{◌≡◌, length}
+use Rattle.gix_frontier.specs.declared.Frontier.{Frontier}
+use Rattle.gix_revwalk.specs.Reading.{rows_of}
+use Rattle.gix_topo.specs.Inside.Exploring.{Follows}
+use Rattle.gix_topo.proofs.counting.Counting.follow.Given as goal
+
+-- to follow the parents that are left is to follow them all
+abbrev pub invariant-loop-id : goal.invariant-loop-id
+invariant-loop-id g l = record {
+  reader : l.self.reader ≡ l.fn.self.reader;
+  parents : l.self.parents ≡ l.fn.self.parents;
+  depth : l.self.depth ≡ l.fn.self.depth;
+  expanded : l.self.expanded ≡ l.fn.self.expanded;
+  follows : (new : Frontier) → Follows (rows_of l.fn.self.reader.graph) l.side l.self.frontier l.ids.items new → Follows (rows_of l.fn.self.reader.graph) l.side l.fn.self.frontier l.fn.ids.items new;
+}
+
+abbrev pub decreases-loop-id : goal.decreases-loop-id
+decreases-loop-id g l = length l.ids.items

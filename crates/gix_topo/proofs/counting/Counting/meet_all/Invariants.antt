@@ -1,0 +1,18 @@
+use Rattle.std.proofs.Common.{◌≡◌, length}
+use Rattle.gix_frontier.specs.declared.Frontier.{Frontier}
+use Rattle.gix_revwalk.specs.Reading.{rows_of}
+use Rattle.gix_topo.specs.Inside.Starting.{MeetsAll}
+use Rattle.gix_topo.proofs.counting.Counting.meet_all.Given as goal
+
+-- to meet the ids that are left is to meet them all
+abbrev pub invariant-loop-id : goal.invariant-loop-id
+invariant-loop-id g l = record {
+  reader : l.self.reader ≡ l.fn.self.reader;
+  parents : l.self.parents ≡ l.fn.self.parents;
+  depth : l.self.depth ≡ l.fn.self.depth;
+  expanded : l.self.expanded ≡ l.fn.self.expanded;
+  meets : (new : Frontier) → MeetsAll (rows_of l.fn.self.reader.graph) l.side l.self.frontier l.ids new → MeetsAll (rows_of l.fn.self.reader.graph) l.side l.fn.self.frontier l.fn.ids new;
+}
+
+abbrev pub decreases-loop-id : goal.decreases-loop-id
+decreases-loop-id g l = length l.ids

@@ -1,0 +1,39 @@
+use Rattle.std.proofs.Common.{◌≡◌, ◌<◌, [], ◌∷◌, ◌++◌, true, false, List, sym, ap, ◌∙◌, arith, append_assoc, append-nil, length}
+use Rattle.std.specs.FinSet as set
+use Rattle.gix_hash.specs.declared.ObjectId.{ObjectId}
+use Rattle.gix_hash.specs.Id.{id_cmp, is_among}
+use Rattle.gix_topo.proofs.Counts.LastPlaces.{kept_place, new_place, later_with, later_same}
+use Rattle.gix_topo.proofs.counting.last_places.Goals as goal
+
+pub loop-id-init : goal.loop-id-init
+loop-id-init c = record {
+  behind = [];
+  whole = sym (append-nil c.args.ids.now);
+  later = λ n i. ap (λ s. set.contains s i) c.new-later.ensures ∙ set.contains-empty id_cmp i;
+  places = c.new-places.ensures.items;
+}
+
+longer : (all ids rest behind : List ObjectId) (i : ObjectId) → all ≡ ids ++ behind → ids ≡ rest ++ i ∷ [] → all ≡ rest ++ (i ∷ behind)
+longer all ids rest behind i e f = e ∙ ap (λ those. those ++ behind) f ∙ append_assoc rest (i ∷ []) behind
+
+pub loop-id-preserved-then-contains : goal.loop-id-preserved-then-contains
+loop-id-preserved-then-contains c =
+    let some : 0 < length c.loop-id.ids.now = omega (arith, c.in-Some.ensures.cases.1) in
+    let again : is_among c.in-Some.id.now c.loop-id.invariant.behind ≡ true = sym (c.loop-id.invariant.later some c.in-Some.id.now) ∙ sym c.contains.ensures ∙ c.if-contains.true in
+    record {
+      behind = c.in-Some.id.now ∷ c.loop-id.invariant.behind;
+      whole = longer _ _ _ _ _ c.loop-id.invariant.whole c.in-Some.ensures.cases.0;
+      later = λ n. later_same c.loop-id.later c.in-Some.id.now c.loop-id.invariant.behind again (c.loop-id.invariant.later some);
+      places = c.loop-id.invariant.places ∙ sym (kept_place c.in-Some.id.now c.loop-id.invariant.behind again);
+    }
+
+pub loop-id-preserved-in_ok-insert : goal.loop-id-preserved-in_ok-insert
+loop-id-preserved-in_ok-insert c =
+    let some : 0 < length c.loop-id.ids.now = omega (arith, c.in-Some.ensures.cases.1) in
+    let first : is_among c.in-Some.id.now c.loop-id.invariant.behind ≡ false = sym (c.loop-id.invariant.later some c.in-Some.id.now) ∙ sym c.contains.ensures ∙ c.if-contains.false in
+    record {
+      behind = c.in-Some.id.now ∷ c.loop-id.invariant.behind;
+      whole = longer _ _ _ _ _ c.loop-id.invariant.whole c.in-Some.ensures.cases.0;
+      later = λ n i. ap (λ s. set.contains s i) c.in_ok-insert.ensures.ok ∙ later_with c.loop-id.later c.in-Some.id.now c.loop-id.invariant.behind (c.loop-id.invariant.later some) i;
+      places = c.in_ok-push_front.ensures.items ∙ ap (λ ids. c.in-Some.id.now ∷ ids) c.loop-id.invariant.places ∙ sym (new_place c.in-Some.id.now c.loop-id.invariant.behind first);
+    }

@@ -1,0 +1,23 @@
+use Rattle.std.proofs.Common.{[], ◌∷◌, sym, ap, ◌∙◌}
+use Rattle.gix_frontier.specs.Inside.Frontier.{is_due}
+use Rattle.gix_topo.specs.Inside.Releasing.{waits, frees, uncounted, unread, no_memory}
+use Rattle.gix_frontier.proofs.Results.{on_ok, if_err}
+use Rattle.gix_topo.proofs.walk.Walk.release.Goals as goal
+
+pub returns-in-Ok-None-clause-fault : goal.returns-in-Ok-None-clause-fault
+returns-in-Ok-None-clause-fault g c = uncounted (rw c.in-Ok-None.field-0-is at c.in-Ok-None.ensures.none)
+
+pub returns-in-Err-clause-fault : goal.returns-in-Err-clause-fault
+returns-in-Err-clause-fault g c = no_memory
+
+pub returns-then-not-is_due-clause-releases : goal.returns-then-not-is_due-clause-releases
+returns-then-not-is_due-clause-releases g c =
+    ([], waits c.in-Ok-Some.left (rw c.in-Ok-Some.field-0-is at c.in-Ok-Some.ensures.less) c.in-Ok-Some.ensures.counts (ap (is_due c.in-Ok-Some.left) (sym c.known.ensures) ∙ sym c.is_due.ensures ∙ c.if-not-is_due.true))
+
+pub returns-clause-releases : goal.returns-clause-releases
+returns-clause-releases g c =
+    on_ok c.push.result (λ p. (p.0 ∷ [], frees c.in-Ok-Some.left (rw c.in-Ok-Some.field-0-is at c.in-Ok-Some.ensures.less) c.in-Ok-Some.ensures.counts (ap (is_due c.in-Ok-Some.left) (sym c.known.ensures) ∙ sym c.is_due.ensures ∙ c.if-not-is_due.false) p.1)) c.push.ensures.pushes
+
+pub returns-clause-fault : goal.returns-clause-fault
+returns-clause-fault g c =
+    if_err c.push.result (λ e f. unread c.in-Ok-Some.left (rw c.in-Ok-Some.field-0-is at c.in-Ok-Some.ensures.less) c.in-Ok-Some.ensures.counts (ap (is_due c.in-Ok-Some.left) (sym c.known.ensures) ∙ sym c.is_due.ensures ∙ c.if-not-is_due.false) f) c.push.ensures.fault

@@ -1,0 +1,17 @@
+use Rattle.std.proofs.Common.{◌≡◌, List, length}
+use Rattle.gix_topo.specs.declared.Error.{Error}
+use Rattle.gix_topo.specs.declared.walk.Walk.{Walk}
+use Rattle.gix_topo.specs.Inside.Releasing.{plan_of, ReleasesAll, IsFaultAmong}
+use Rattle.gix_topo.specs.Walk.{Ready}
+use Rattle.gix_topo.proofs.walk.Walk.release_all.Given as goal
+
+-- to release the parents that are left is to release them all
+abbrev pub invariant-loop-id : goal.invariant-loop-id
+invariant-loop-id g l = record {
+  releases : (new : Walk g.row.F.Denot) (others : List Ready) → ReleasesAll g.F.Find.objects g.F.Find.faulty l.self l.ids.items others new → (added : List Ready) × ReleasesAll g.F.Find.objects g.F.Find.faulty l.fn.self l.fn.ids.items added new;
+  fault : (e : Error) → IsFaultAmong g.F.Find.objects g.F.Find.faulty l.self l.ids.items e → IsFaultAmong g.F.Find.objects g.F.Find.faulty l.fn.self l.fn.ids.items e;
+  same : plan_of l.self ≡ plan_of l.fn.self;
+}
+
+abbrev pub decreases-loop-id : goal.decreases-loop-id
+decreases-loop-id g l = length l.ids.items

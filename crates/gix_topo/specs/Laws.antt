@@ -1,0 +1,77 @@
+-- What a topological walk gives, over the definitions alone: the words of its laws.
+use Rattle.std.specs.Prelude.{◌≡◌, ◌≢◌, ℕ, suc, ◌+◌, ℤ, List, [], ◌∷◌, filter, length, Bool, false, Contains, Option, Some, Result, Ok, Err, All}
+use Rattle.std.specs.List.{AllZip}
+use Rattle.std.specs.FinSet as set
+use Rattle.std.specs.Iterator.{Drains}
+use Rattle.gix_hash.specs.declared.ObjectId.{ObjectId}
+use Rattle.gix_object.specs.declared.find.existing_iter.Error.TheVariants as existing
+use Rattle.gix_object.specs.Object.{Objects}
+use Rattle.gix_revwalk.specs.declared.Info.{Info}
+use Rattle.gix_topo.specs.declared.Sorting.{Sorting}
+use Rattle.gix_topo.specs.declared.Sorting.TheVariants as order
+use Rattle.gix_topo.specs.declared.Error.{Error}
+use Rattle.gix_topo.specs.declared.Error.TheVariants as error
+use Rattle.gix_topo.specs.DateOrder.{IsDateOrder}
+use Rattle.gix_topo.specs.TopoOrder.{IsTopoOrder}
+use Rattle.gix_revwalk.specs.Commits.{parents_of, time_of}
+use Rattle.gix_revwalk.specs.Infos.{IsInfo, IsRowGeneration}
+use Rattle.gix_revwalk.specs.Asking.{AnswersBy}
+use Rattle.gix_revwalk.specs.Ids.{AreDistinct, new_ids}
+use Rattle.gix_topo.specs.Walk.{TopoPlan, TopoWalk, Ready, walked_of, IsMember, IsSound, IsStarted, Next, ready_ids, was_ready, named_ids}
+
+-- the order that was asked for
+abbrev pub IsSorted : Sorting → (ObjectId → ℤ) → (ObjectId → List ObjectId) → (ObjectId → Type 0) → List ObjectId → List ObjectId → Type 0
+IsSorted order.DateOrder time walked In tips ids = IsDateOrder time walked In ids
+IsSorted order.TopoOrder time walked In tips ids = IsTopoOrder time walked In tips ids
+
+-- these commits are taken, in order
+abbrev pub IsTakenInOrder : {F : Type 0} → (F → Objects) → TopoPlan F → List ObjectId → Type 0
+IsTakenInOrder objects plan ids = IsSorted plan.sorting (time_of (objects plan.store)) (walked_of objects plan) (IsMember objects plan) plan.tips ids
+
+-- the answer is this commit, with all its parents
+pub record IsCommitInfo {F : Type 0} (objects : F → Objects) (plan : TopoPlan F) (info : Info) (i : ObjectId) : Type 0 where
+  pub generation : Option ℕ
+  pub by_row : IsRowGeneration plan.rows i generation
+  pub info_is : IsInfo info i (parents_of (objects plan.store) i) generation (Some (time_of (objects plan.store) i))
+
+abbrev pub IsGiven : {F : Type 0} → (F → Objects) → TopoPlan F → Result Info Error → ObjectId → Type 0
+IsGiven objects plan (Ok info) i = IsCommitInfo objects plan info i
+IsGiven objects plan (Err e) i = ⊥
+
+-- the answers are the commits in order, without the commits that the predicate refuses
+pub record GivesInOrder {F : Type 0} (objects : F → Objects) (plan : TopoPlan F) (accepts : ObjectId → Bool) (list : List (Result Info Error)) : Type 0 where
+  pub ids : List ObjectId
+  pub in_order : IsTakenInOrder objects plan ids
+  pub given : AllZip (IsGiven objects plan) list (filter accepts ids)
+
+-- neither memory nor the store failed
+abbrev pub IsNoRefusal : Result Info Error → Type 0
+IsNoRefusal answer = (answer ≢ Err error.Memory) × (answer ≢ Err (error.Find existing.Store))
+
+-- a built walk drawn to its end, and what is known of its history
+pub record IsWholeRun {F P : Type 0} (objects : F → Objects) (faulty : F → ObjectId → Type 0) (answers : P → ObjectId → Bool → P → Type 0) (walk : TopoWalk F P) (accepts : ObjectId → Bool) (list : List (Result Info Error)) : Type 0 where
+  pub by_test : AnswersBy answers walk.predicate accepts
+  pub started : IsStarted objects faulty answers walk
+  pub sound : IsSound objects faulty walk.plan
+  pub unrefused : All IsNoRefusal list
+  pub drawn : Drains (Next objects faulty answers) walk list
+
+-- nothing is left where nothing is ready
+abbrev pub left_beside : ℕ → List Ready → ℕ
+left_beside n [] = 0
+left_beside n (r ∷ ready) = n + suc (length ready)
+
+-- how many answers a walk can still give: the ready commits, and the ids that rows and the texts of stored commits name and that aren't taken or ready
+abbrev pub answers_left : {F P : Type 0} → (F → Objects) → TopoWalk F P → ℕ
+answers_left objects walk = left_beside (length (new_ids (was_ready walk) (named_ids (objects walk.plan.store) walk.plan.rows))) walk.ready
+
+-- the ready commits are different ones, and not taken
+pub record AreApart {F P : Type 0} (walk : TopoWalk F P) : Type 0 where
+  pub distinct : AreDistinct (ready_ids walk.ready)
+  pub untaken : (i : ObjectId) → Contains (ready_ids walk.ready) i → set.contains walk.taken i ≡ false
+
+-- the ids of the commits that these answers give, in order
+abbrev pub given_ids : List (Result Info Error) → List ObjectId
+given_ids [] = []
+given_ids (Ok info ∷ list) = info.id ∷ given_ids list
+given_ids (Err e ∷ list) = given_ids list

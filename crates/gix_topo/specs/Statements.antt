@@ -1,0 +1,121 @@
+-- The statements of the laws of topological walks, over any store and predicate.
+use Rattle.std.specs.Prelude.{◌≡◌, ◌≤◌, ℕ, List, [], Bool, true, Option, Some, None, Result, Ok, Err, Contains, filter, length, slice_get, take}
+use Rattle.std.specs.List.{AllZip}
+use Rattle.std.specs.Iterator.{Yields}
+use Rattle.gix_hash.specs.declared.ObjectId.{ObjectId}
+use Rattle.gix_object.specs.Object.{Objects}
+use Rattle.gix_commitgraph.specs.Rows.{GraphRow, row_of}
+use Rattle.gix_revwalk.specs.declared.Info.{Info}
+use Rattle.gix_topo.specs.declared.Sorting.TheVariants.{TopoOrder}
+use Rattle.gix_topo.specs.declared.Error.{Error}
+use Rattle.gix_hash.specs.Reach.{IsAcyclic}
+use Rattle.gix_revwalk.specs.Ids.{AreDistinct}
+use Rattle.gix_topo.specs.Walk.{TopoPlan, TopoWalk, walked_of, row_generation, IsMember, IsStarted, IsWalkable, IsLeft, IsFault, IsLate, IsCounting, IsKnown, Next}
+use Rattle.gix_topo.specs.Laws.{IsTakenInOrder, IsWholeRun, IsGiven, GivesInOrder, answers_left, given_ids}
+use Rattle.gix_revwalk.specs.Asking.{AsksAll}
+
+module _ {F : Type 0} (objects : F → Objects) where
+  -- commits that were taken in order
+  abbrev pub TakesEachOnce : Type 0
+  TakesEachOnce =
+      (plan : TopoPlan F) (ids : List ObjectId)
+      → IsTakenInOrder objects plan ids
+      → AreDistinct ids × ((i : ObjectId) → Contains ids i → IsMember objects plan i) × (IsAcyclic (walked_of objects plan) → (i : ObjectId) → IsMember objects plan i → Contains ids i)
+
+  -- every child comes before its parents
+  abbrev pub TakesChildrenFirst : Type 0
+  TakesChildrenFirst =
+      (plan : TopoPlan F) (ids : List ObjectId)
+      → IsTakenInOrder objects plan ids
+      → (k : ℕ) (child parent : ObjectId)
+      → slice_get ids k ≡ Some parent
+      → Contains ids child
+      → Contains (walked_of objects plan child) parent
+      → Contains (take k ids) child
+
+module _ {F P : Type 0} (objects : F → Objects) (faulty : F → ObjectId → Type 0) (answers : P → ObjectId → Bool → P → Type 0) where
+  -- a built walk that is drawn to its end
+  abbrev pub RunsAreInOrder : Type 0
+  RunsAreInOrder =
+      (walk : TopoWalk F P) (accepts : ObjectId → Bool) (list : List (Result Info Error))
+      → IsWholeRun objects faulty answers walk accepts list
+      → GivesInOrder objects walk.plan accepts list
+
+  -- two walks, each by rows of its own that agree
+  abbrev pub RowsLeaveTheIds : Type 0
+  RowsLeaveTheIds =
+      (walk other : TopoWalk F P) (rows : List GraphRow) (accepts : ObjectId → Bool) (list longer : List (Result Info Error))
+      → walk.plan.sorting ≡ TopoOrder
+      → other.plan ≡ record walk.plan { rows = rows }
+      → IsWholeRun objects faulty answers walk accepts list
+      → IsWholeRun objects faulty answers other accepts longer
+      → (ids : List ObjectId) × AllZip (IsGiven objects walk.plan) list (filter accepts ids) × AllZip (IsGiven objects other.plan) longer (filter accepts ids)
+
+  -- an answer for each ready commit and each named id, at most
+  abbrev pub Ends : Type 0
+  Ends =
+      (walk new : TopoWalk F P) (list : List (Result Info Error))
+      → Yields (Next objects faulty answers) walk list new
+      → length list ≤ answers_left objects walk
+
+  -- the predicate's state is a run of its own steps over different commits
+  abbrev pub AsksNeverTwice : Type 0
+  AsksNeverTwice =
+      (walk new : TopoWalk F P) (list : List (Result Info Error))
+      → IsStarted objects faulty answers walk
+      → Yields (Next objects faulty answers) walk list new
+      → (ids : List ObjectId) × AsksAll answers walk.predicate ids new.predicate × AreDistinct ids
+
+  -- whatever faults come, and wherever the caller stops
+  abbrev pub GivesNeverTwice : Type 0
+  GivesNeverTwice =
+      (walk new : TopoWalk F P) (list : List (Result Info Error))
+      → IsStarted objects faulty answers walk
+      → Yields (Next objects faulty answers) walk list new
+      → AreDistinct (given_ids list)
+
+  -- a fault comes for its reason alone, and nothing follows it
+  abbrev pub FailsForItsReason : Type 0
+  FailsForItsReason =
+      (walk new : TopoWalk F P) (e : Error)
+      → Next objects faulty answers walk (Some (Err e)) new
+      → IsFault objects faulty walk.plan (IsLeft objects walk.plan walk.taken) e × IsLate objects walk.plan (IsLeft objects walk.plan walk.taken) e × ((answer : Option (Result Info Error)) (later : TopoWalk F P) → Next objects faulty answers new answer later → answer ≡ None)
+
+  -- after the end nothing is ready, and nothing follows
+  abbrev pub StaysEnded : Type 0
+  StaysEnded =
+      (walk new : TopoWalk F P)
+      → Next objects faulty answers walk None new
+      → (new.ready ≡ []) × ((answer : Option (Result Info Error)) (later : TopoWalk F P) → Next objects faulty answers new answer later → answer ≡ None)
+
+  -- each parent of a commit that is given has a row or can be read
+  abbrev pub ParentsAreKnown : Type 0
+  ParentsAreKnown =
+      (walk new : TopoWalk F P) (list : List (Result Info Error)) (info : Info)
+      → IsStarted objects faulty answers walk
+      → Yields (Next objects faulty answers) walk list new
+      → Contains list (Ok info)
+      → (p : ObjectId)
+      → Contains info.parent_ids.items p
+      → (standing : Bool) × IsKnown (objects walk.plan.store) walk.plan.rows standing p
+
+  -- as long as the rows are held
+  abbrev pub TellsTheGenerations : Type 0
+  TellsTheGenerations =
+      (walk mid new : TopoWalk F P) (list : List (Result Info Error)) (info : Info)
+      → IsStarted objects faulty answers walk
+      → IsWalkable objects faulty walk.plan
+      → Yields (Next objects faulty answers) walk list mid
+      → Next objects faulty answers mid (Some (Ok info)) new
+      → new.counted.standing ≡ true
+      → info.generation ≡ row_generation (row_of walk.plan.rows info.id)
+
+  -- as long as no fault came
+  abbrev pub CountsDownToTheDepth : Type 0
+  CountsDownToTheDepth =
+      (walk new : TopoWalk F P) (list : List (Result Info Error))
+      → IsStarted objects faulty answers walk
+      → IsWalkable objects faulty walk.plan
+      → Yields (Next objects faulty answers) walk list new
+      → ((e : Error) → Contains list (Err e) → ⊥)
+      → IsCounting objects walk.plan new.counted

@@ -1,0 +1,243 @@
+//! Counts the indegree of each commit that tips reach, as far down as is needed.
+ghost use Rattle.std.specs.Prelude.{◌≡◌, IfOk, IfErr, OnOk, false, true, cond, ◌+◌, ◌||◌};
+ghost use Rattle.gix_frontier.specs.Inside.Frontier.{is_done, known_of};
+ghost use Rattle.gix_topo.specs.Depth.{least};
+ghost use Rattle.gix_revwalk.specs.Commits.{by_mode};
+ghost use Rattle.gix_topo.specs.TopoOrder.{last_places};
+ghost use Rattle.gix_revwalk.specs.Reading.{rows_of};
+ghost use Rattle.gix_topo.specs.Reading.{IsReadFault};
+ghost use Rattle.gix_topo.specs.Inside.Exploring.{is_pending, Follows, ReadsParents, Steps, IsStepFault, IsSamePlan, Explores, IsExploringFault, IsRested};
+
+use super::Error;
+use super::reader::Reader;
+use gix_commitgraph::GENERATION_NUMBER_INFINITY;
+use gix_frontier::{Frontier, Side, Waiting};
+use gix_hash::ObjectId;
+use gix_hash::hashtable::IdSet;
+use gix_object::find::Find;
+use gix_revwalk::Parents;
+use std::alloc::{AllocError, Global};
+use std::collections::VecDeque;
+
+/// The searches of both sides, and how far down they have come.
+#[derive(Drop)]
+pub(super) struct Counting<F> {
+    pub(super) reader: Reader<F>,
+    pub(super) parents: Parents,
+    pub(super) frontier: Frontier,
+    /// As long as the rows are held, no id of a lesser generation is read.
+    pub(super) depth: u32,
+    /// The number of different ids whose parents were read.
+    pub(super) expanded: usize,
+}
+
+/// Of a commit's parents, those that are walked.
+pub(super) fn walked(parents: Parents, ids: &[ObjectId]) -> &[ObjectId]
+    ensures { result.now ≡ by_mode parents ids.now }
+{
+    match (parents, ids) {
+        (Parents::First, [_, _, ..]) => &ids[..1],
+        _ => ids,
+    }
+}
+
+/// Each id of a list at its last place.
+pub(super) fn last_places(
+    alloc: Global,
+    mut ids: &[ObjectId],
+) -> Result<VecDeque<ObjectId>, AllocError>
+where
+    ensures { IfOk result (λ places. places.items ≡ last_places ids.entry.now) }
+{
+    let mut places = VecDeque::new(alloc);
+    let mut later = IdSet::new(alloc);
+    while let Some((id, rest)) = ids.split_last() {
+        ids = rest;
+        if later.contains(id) {
+            continue;
+        }
+        places.push_front(*id)?;
+        if !rest.is_empty() {
+            later.insert(*id)?;
+        }
+    }
+    Ok(places)
+}
+
+impl<F: Find + Drop> Counting<F> {
+    ghost use Rattle.std.specs.Prelude.{IfErr};
+    ghost use Rattle.gix_topo.specs.declared.Sorting.{Sorting};
+    ghost use Rattle.gix_topo.specs.Inside.Releasing.{LooksUpParent, plan_over};
+    ghost use Rattle.gix_topo.specs.Inside.Starting.{HasBegun, MeetsAll};
+    ghost use Rattle.gix_topo.specs.Walk.{IsBuildFault};
+
+    /// A side starts from these.
+    fn meet_all(&mut self, mut ids: &[ObjectId], side: Side) -> Result<(), AllocError>
+        ensures reader { self.new.reader ≡ self.old.reader }
+        ensures parents { self.new.parents ≡ self.old.parents }
+        ensures depth { self.new.depth ≡ self.old.depth }
+        ensures expanded { self.new.expanded ≡ self.old.expanded }
+        ensures meets { OnOk result (MeetsAll (rows_of self.old.reader.graph) side self.old.frontier ids.entry.now self.new.frontier) }
+    {
+        while let Some((id, rest)) = ids.split_first() {
+            let generation = self.reader.generation(id);
+            self.frontier.meet(generation, *id, side)?;
+            ids = rest;
+        }
+        Ok(())
+    }
+
+    /// The searches from tips and ends, as far down as the least generation of these.
+    pub(super) fn begin(
+        reader: Reader<F>,
+        parents: Parents,
+        tips: &[ObjectId],
+        ends: &[ObjectId],
+    ) -> Result<Counting<F>, Error>
+    where
+        requires { reader.standing ≡ true }
+        ensures begun { (sorting : Sorting) → IfOk result (HasBegun F.objects F.faulty (plan_over reader parents sorting tips.now ends.now)) }
+        ensures fault { (sorting : Sorting) → IfErr result (IsBuildFault F.objects F.faulty (plan_over reader parents sorting tips.now ends.now)) }
+    {
+        let mut counting = Counting {
+            frontier: Frontier::new(reader.alloc),
+            reader,
+            parents,
+            depth: GENERATION_NUMBER_INFINITY,
+            expanded: 0,
+        };
+        counting.meet_all(tips, Side::Tips)?;
+        counting.meet_all(ends, Side::Ends)?;
+        counting.lower(ends);
+        counting.lower(tips);
+        counting.explore()?;
+        Ok(counting)
+    }
+
+    /// The parents of a commit that a side reads are met.
+    fn follow(&mut self, mut ids: VecDeque<ObjectId>, side: Side) -> Result<(), AllocError>
+        ensures reader { self.new.reader ≡ self.old.reader }
+        ensures parents { self.new.parents ≡ self.old.parents }
+        ensures depth { self.new.depth ≡ self.old.depth }
+        ensures expanded { self.new.expanded ≡ self.old.expanded }
+        ensures follows { OnOk result (Follows (rows_of self.old.reader.graph) side self.old.frontier ids.items self.new.frontier) }
+    {
+        while let Some(id) = ids.pop_front() {
+            let generation = self.reader.generation(&id);
+            self.frontier.meet_parent(generation, id, side)?;
+        }
+        Ok(())
+    }
+
+    /// The parents of a commit that a side goes to, each at its last place.
+    fn read(&mut self, id: &ObjectId, side: Side) -> Result<VecDeque<ObjectId>, Error>
+        ensures same { IsSamePlan F.objects F.faulty self.old self.new }
+        ensures frontier { self.new.frontier ≡ self.old.frontier }
+        ensures expanded { self.new.expanded ≡ self.old.expanded }
+        ensures reads { IfOk result (λ ids. ReadsParents F.objects F.faulty self.old id.now side ids.items self.new.reader.standing) }
+        ensures fault { IfErr result (IsReadFault (F.objects self.old.reader.find) (F.faulty self.old.reader.find) id.now) }
+    {
+        let info = self.reader.read(id)?;
+        let mode = match side {
+            Side::Tips => self.parents,
+            Side::Ends => Parents::All,
+        };
+        Ok(last_places(self.reader.alloc, walked(mode, info.parent_ids.as_slice()))?)
+    }
+
+    /// Looks a parent up, unless the rows are held and it has a row or a search has read it.
+    ///
+    /// # Errors
+    ///
+    /// Why it can't be read.
+    pub(super) fn look_up_parent(&mut self, id: &ObjectId) -> Result<(), Error>
+        ensures store { self.new.reader.find ≡ self.old.reader.find }
+        ensures graph { self.new.reader.graph ≡ self.old.reader.graph }
+        ensures standing { self.new.reader.standing ≡ self.old.reader.standing }
+        ensures parents { self.new.parents ≡ self.old.parents }
+        ensures frontier { self.new.frontier ≡ self.old.frontier }
+        ensures depth { self.new.depth ≡ self.old.depth }
+        ensures expanded { self.new.expanded ≡ self.old.expanded }
+        ensures known { OnOk result (LooksUpParent (F.objects self.old.reader.find) (rows_of self.old.reader.graph) self.old.reader.standing self.old.frontier id.now) }
+        ensures fault { IfErr result (IsReadFault (F.objects self.old.reader.find) (F.faulty self.old.reader.find) id.now) }
+    {
+        if self.reader.standing && self.frontier.known(id).is_done() {
+            return Ok(());
+        }
+        self.reader.look_up(id)
+    }
+
+    /// One id more whose parents are read, unless a side has read them before.
+    ///
+    /// # Errors
+    ///
+    /// A number that no memory could hold is out of memory.
+    fn count(&mut self, id: &ObjectId) -> Result<(), AllocError>
+        ensures same { self.new ≡ record self.old { expanded = self.new.expanded } }
+        ensures expanded { OnOk result (let known = known_of self.old.frontier.known id.now in self.new.expanded ≡ self.old.expanded + cond (is_done known.tips || is_done known.ends) 0 1) }
+    {
+        if self.frontier.known(id).is_done() {
+            return Ok(());
+        }
+        match self.expanded.checked_add(1) {
+            Some(expanded) => self.expanded = expanded,
+            None => return Err(AllocError),
+        }
+        Ok(())
+    }
+
+    /// Reads the parents of a queued id of greatest generation.
+    fn step(&mut self) -> Result<(), Error>
+        requires { is_pending self.old.reader.standing self.old.depth self.old.frontier.queue ≡ true }
+        ensures same { IsSamePlan F.objects F.faulty self.old self.new }
+        ensures steps { OnOk result (Steps F.objects F.faulty self.old self.new) }
+        ensures fault { IfErr result (IsStepFault F.objects F.faulty self.old) }
+    {
+        let Some((_, Waiting { id, side })) = self.frontier.queue.pop() else {
+            return Ok(());
+        };
+        let ids = self.read(&id, side)?;
+        self.count(&id)?;
+        self.follow(ids, side)?;
+        self.frontier.finish(id, side)?;
+        Ok(())
+    }
+
+    /// Whether exploring must go on.
+    fn is_pending(&self) -> bool
+        ensures pending { result ≡ is_pending self.now.reader.standing self.now.depth self.now.frontier.queue }
+        ensures rested { result ≡ false → IsRested self.now.reader.standing self.now.depth self.now.frontier.queue }
+    {
+        match self.frontier.queue.peek() {
+            Some((generation, _)) => !self.reader.standing || self.depth <= *generation,
+            None => false,
+        }
+    }
+
+    /// Lowers the depth to the least generation of some ids, where that is lower.
+    pub(super) fn lower(&mut self, mut ids: &[ObjectId])
+        ensures { self.new ≡ record self.old { depth = least (rows_of self.old.reader.graph) self.old.depth ids.entry.now } }
+    {
+        while let Some((id, rest)) = ids.split_first() {
+            self.depth = self.depth.min(self.reader.generation(id));
+            ids = rest;
+        }
+    }
+
+    /// Reads parents as long as an id waits that isn't below the depth; once the rows were dropped, as long as any id waits.
+    ///
+    /// # Errors
+    ///
+    /// Why one of them can't be read.
+    pub(super) fn explore(&mut self) -> Result<(), Error>
+        ensures same { IsSamePlan F.objects F.faulty self.old self.new }
+        ensures explores { OnOk result (Explores F.objects F.faulty self.old self.new) }
+        ensures rested { OnOk result (IsRested self.new.reader.standing self.new.depth self.new.frontier.queue) }
+        ensures fault { IfErr result (IsExploringFault F.objects F.faulty self.old) }
+    {
+        while self.is_pending() {
+            self.step()?;
+        }
+        Ok(())
+    }
+}

@@ -1,0 +1,82 @@
+//! Laws of `commit::Topo`.
+//!
+//! The walk set is what tips reach by the walked parents and no end reaches. What is walked is what tips reach so and what ends reach
+//! by any parents. The history is *sound* where the rows agree with the store or there are none, and all that is walked and all
+//! parents of what tips reach read whole. A law that names no premise holds for every store, all rows and every predicate, and over
+//! cycles.
+
+ghost use Rattle.gix_topo.specs.Statements.{RunsAreInOrder, TakesEachOnce, TakesChildrenFirst, RowsLeaveTheIds, Ends, AsksNeverTwice, GivesNeverTwice, FailsForItsReason, StaysEnded, ParentsAreKnown, TellsTheGenerations, CountsDownToTheDepth};
+
+use gix_object::find::Find;
+use gix_revwalk::Predicate;
+
+/// A walk that was built over a sound history and is drawn to its end, where memory and the store don't fail and the predicate's
+/// answer depends on the id alone: it takes the commits of its set in the order that was asked for, and gives those that the
+/// predicate accepts.
+pub fn in_order<F: Find, P: Predicate>()
+    ensures { RunsAreInOrder F.objects F.faulty P.answers }
+{}
+
+/// Commits that are taken in the order that was asked for: none is taken twice, and none outside of the walk set; and the whole set
+/// is taken, where no commit is its own ancestor by the walked parents.
+pub fn each_once<F: Find>()
+    ensures { TakesEachOnce F.objects }
+{}
+
+/// In such a list a commit comes before each of its walked parents that is in the list.
+pub fn children_first<F: Find>()
+    ensures { TakesChildrenFirst F.objects }
+{}
+
+/// Two walks under `TopoOrder` that were built alike, except that each has rows of its own or none, give the same list of ids, where
+/// the premises of `in_order` hold for both, and both predicates answer alike.
+pub fn rows_agree<F: Find, P: Predicate>()
+    ensures { RowsLeaveTheIds F.objects F.faulty P.answers }
+{}
+
+/// Every topological walk ends: it gives at most an answer for each ready commit, and for each id not taken or ready that rows
+/// or the texts of stored commits name.
+pub fn ends<F: Find, P: Predicate>()
+    ensures { Ends F.objects F.faulty P.answers }
+{}
+
+/// The predicate of a walk that was built is never asked about one id twice, wherever the caller stops: its state is a run of its own
+/// steps over different ids.
+pub fn asks_once<F: Find, P: Predicate>()
+    ensures { AsksNeverTwice F.objects F.faulty P.answers }
+{}
+
+/// A walk that was built gives no commit twice, whatever faults come, and wherever the caller stops.
+pub fn never_twice<F: Find, P: Predicate>()
+    ensures { GivesNeverTwice F.objects F.faulty P.answers }
+{}
+
+/// A fault of `next` comes for its reason alone, and nothing follows it: an object can't be read, the rows don't agree, or memory ran
+/// out. Where the rows agree, tips or ends reach the object, or it is a parent of a commit that was still to be taken; over a sound
+/// history it is the store that fails. Without rows the object is a parent that isn't walked, or the store fails.
+pub fn fails_once<F: Find, P: Predicate>()
+    ensures { FailsForItsReason F.objects F.faulty P.answers }
+{}
+
+/// After None nothing is ready, so `next` may be called again, whatever its predicate, and it gives None.
+pub fn stays_ended<F: Find, P: Predicate>()
+    ensures { StaysEnded F.objects F.faulty P.answers }
+{}
+
+/// Each parent of a commit that a built walk gives, walked or not, has a row, or is stored as a commit whose text can be read.
+pub fn parents_known<F: Find, P: Predicate>()
+    ensures { ParentsAreKnown F.objects F.faulty P.answers }
+{}
+
+/// A walk that was built, where the rows agree and all that is walked reads whole: as long as the rows are in use, a commit is given
+/// with the generation of its row, and with none where it has no row.
+pub fn tells<F: Find, P: Predicate>()
+    ensures { TellsTheGenerations F.objects F.faulty P.answers }
+{}
+
+/// A walk that was built, where the rows agree and all that is walked reads whole, and that gave no fault: as long as the rows are in
+/// use, counting has read the parents of exactly the commits that tips or ends reach and that aren't below its depth, and no such
+/// commit has a corrupt row. The rows are dropped only for one; then it has read the parents of all that tips or ends reach.
+pub fn counts<F: Find, P: Predicate>()
+    ensures { CountsDownToTheDepth F.objects F.faulty P.answers }
+{}

@@ -1,0 +1,121 @@
+//! Reads commits by their rows, or else from the store.
+ghost use Rattle.std.specs.Prelude.{◌≡◌, IfOk, IfErr, OnOk, true};
+ghost use Rattle.gix_topo.specs.Depth.{known_generation};
+ghost use Rattle.gix_topo.specs.Walk.{IsKnown};
+ghost use Rattle.gix_revwalk.specs.Reading.{rows_of};
+ghost use Rattle.gix_topo.specs.Reading.{Reads, ReadsText, IsReadFault};
+
+use super::Error;
+use gix_commitgraph::{GENERATION_NUMBER_INFINITY, Graph};
+use gix_hash::ObjectId;
+use gix_object::decode;
+use gix_object::find::Find;
+use gix_revwalk::Info;
+use gix_revwalk::read::{Header, find_header, read_row};
+use std::alloc::Global;
+
+/// What commits are read from.
+#[derive(Drop)]
+pub(super) struct Reader<F> {
+    pub(super) find: F,
+    pub(super) graph: Option<Graph>,
+    /// Whether rows are read: they are until one proves corrupt.
+    pub(super) standing: bool,
+    pub(super) text: Vec<u8>,
+    pub(super) alloc: Global,
+}
+
+impl<F: Find + Drop> Reader<F> {
+    pub(super) fn new(alloc: Global, find: F, graph: Option<Graph>) -> Reader<F>
+        ensures find { result.find ≡ find }
+        ensures graph { result.graph ≡ graph }
+        ensures standing { result.standing ≡ true }
+    {
+        Reader {
+            find,
+            graph,
+            standing: true,
+            text: Vec::new(alloc),
+            alloc,
+        }
+    }
+
+    /// The generation that a row says, and infinity where there is none.
+    pub(super) fn generation(&self, id: &ObjectId) -> u32
+        ensures { result ≡ known_generation (rows_of self.now.graph) id.now }
+    {
+        let Some(graph) = &self.graph else {
+            return GENERATION_NUMBER_INFINITY;
+        };
+        match graph.commit_by_id(id) {
+            Some(commit) => commit.generation(),
+            None => GENERATION_NUMBER_INFINITY,
+        }
+    }
+
+    // The commit as its text says it. A text that ends before a committer has time 0.
+    fn read_text(&mut self, id: &ObjectId) -> Result<Info, Error>
+        ensures store { self.new.find ≡ self.old.find }
+        ensures graph { self.new.graph ≡ self.old.graph }
+        ensures standing { self.new.standing ≡ self.old.standing }
+        ensures reads { ReadsText (F.objects self.old.find) (F.faulty self.old.find) id.now result }
+    {
+        let Header { parent_ids, time } = find_header(self.alloc, &self.find, id, &mut self.text)?;
+        let time = match time {
+            Ok(seconds) => seconds,
+            Err(decode::Error::Missing) => 0,
+            Err(fault) => return Err(Error::ObjectDecode(fault)),
+        };
+        Ok(Info {
+            id: *id,
+            parent_ids,
+            generation: None,
+            commit_time: Some(time),
+        })
+    }
+
+    /// The commit by its row where the rows are held and it has one, and else from the store.
+    ///
+    /// # Errors
+    ///
+    /// Why it can't be read.
+    pub(super) fn read(&mut self, id: &ObjectId) -> Result<Info, Error>
+        ensures store { self.new.find ≡ self.old.find }
+        ensures graph { self.new.graph ≡ self.old.graph }
+        ensures reads { Reads (F.objects self.old.find) (F.faulty self.old.find) (rows_of self.old.graph) self.old.standing id.now result self.new.standing }
+    {
+        let row = read_row(self.alloc, self.graph.as_ref(), &mut self.standing, id)?;
+        let Some(row) = row else {
+            return self.read_text(id);
+        };
+        Ok(Info {
+            id: *id,
+            parent_ids: row.parent_ids,
+            generation: if row.generation < GENERATION_NUMBER_INFINITY {
+                Some(row.generation)
+            } else {
+                None
+            },
+            commit_time: Some(row.time),
+        })
+    }
+
+    /// Looks a parent up, unless a row that is held says that it exists.
+    ///
+    /// # Errors
+    ///
+    /// Why it can't be read.
+    pub(super) fn look_up(&mut self, id: &ObjectId) -> Result<(), Error>
+        ensures store { self.new.find ≡ self.old.find }
+        ensures graph { self.new.graph ≡ self.old.graph }
+        ensures standing { self.new.standing ≡ self.old.standing }
+        ensures known { OnOk result (IsKnown (F.objects self.old.find) (rows_of self.old.graph) self.old.standing id.now) }
+        ensures fault { IfErr result (IsReadFault (F.objects self.old.find) (F.faulty self.old.find) id.now) }
+    {
+        if self.standing && self.generation(id) < GENERATION_NUMBER_INFINITY {
+            return Ok(());
+        }
+        self.read_text(id)?;
+        Ok(())
+    }
+}

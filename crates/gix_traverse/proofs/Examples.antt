@@ -1,8 +1,0 @@
--- Over a finite history, tests that compute decide which commits are ready.
-pub mod Decided
--- Date order and topological order, one of them a refused list; the walk set; the boundary of hidden tips.
-pub mod TopologicalOrders
--- The order by time, newest first and oldest first.
-pub mod TimeOrder
--- Places of parents that agree with a store, and one that doesn't.
-pub mod AgreeingRows

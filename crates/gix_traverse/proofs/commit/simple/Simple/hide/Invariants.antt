@@ -1,6 +1,0 @@
-use Rattle.std.proofs.Common.{◌≡◌}
-use Rattle.gix_traverse.proofs.commit.simple.Simple.hide.Given as goal
-
--- the tips that have come are kept
-abbrev pub invariant-loop-tip : goal.invariant-loop-tip
-invariant-loop-tip g l = l.hidden_tips.items ≡ l.yielded

@@ -1,5 +1,0 @@
-use Rattle.gix_traverse.proofs.Simple.TimeKeys.{holds_more}
-use Rattle.gix_traverse.proofs.commit.simple.pending.PendingQueue.push.Goals as goal
-
-pub returns-in-Ok-clause-ok : goal.returns-in-Ok-clause-ok
-returns-in-Ok-clause-ok c = holds_more _ _ _ _ _ c.in_ok-set_order.ensures.ok _ c.in-Ok.ensures

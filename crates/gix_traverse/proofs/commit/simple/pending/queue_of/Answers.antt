@@ -1,8 +1,0 @@
-use Rattle.gix_traverse.proofs.Simple.TimeKeys.{goes_over}
-use Rattle.gix_traverse.proofs.commit.simple.pending.queue_of.Goals as goal
-
-pub loop-pending-preserved : goal.loop-pending-preserved
-loop-pending-preserved c = record {
-  items = goes_over _ _ _ _ _ c.in-Some.pending c.loop-pending.invariant.items c.in-Some.ensures.items c.in_ok-put.ensures.items;
-  keyed = c.in_ok-put.ensures.keyed;
-}

@@ -1,5 +1,0 @@
-use Rattle.gix_traverse.proofs.Simple.Alike.{are_alike}
-use Rattle.gix_traverse.proofs.laws.simple.are_alike.Goals as goal
-
-pub returns : goal.returns
-returns g c = λ store predicate accepts tips walk other by_test built. are_alike g.F.Find.objects g.F.Find.faulty g.P.Predicate.answers store predicate accepts tips by_test built

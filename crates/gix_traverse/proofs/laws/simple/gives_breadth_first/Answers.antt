@@ -1,5 +1,0 @@
-use Rattle.gix_traverse.proofs.Simple.FromTips.{made_run}
-use Rattle.gix_traverse.proofs.laws.simple.gives_breadth_first.Goals as goal
-
-pub returns : goal.returns
-returns g c = λ store predicate accepts tips walk list. made_run g.F.Find.objects g.F.Find.faulty g.P.Predicate.answers accepts list store predicate tips walk

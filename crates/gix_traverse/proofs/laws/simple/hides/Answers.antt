@@ -1,5 +1,0 @@
-use Rattle.gix_traverse.proofs.Simple.Alike.{gives_unhidden}
-use Rattle.gix_traverse.proofs.laws.simple.hides.Goals as goal
-
-pub returns : goal.returns
-returns g c = λ walk other accepts hidden shown list longer alike tipless run all. gives_unhidden g.F.Find.objects g.F.Find.faulty g.P.Predicate.answers walk other accepts alike tipless hidden shown list longer run all

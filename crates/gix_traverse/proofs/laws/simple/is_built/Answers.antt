@@ -1,5 +1,0 @@
-use Rattle.gix_traverse.proofs.Simple.Builders.{built}
-use Rattle.gix_traverse.proofs.laws.simple.is_built.Goals as goal
-
-pub returns : goal.returns
-returns g c = λ store predicate accepts tips walk by_test b. built g.F.Find.objects g.F.Find.faulty g.P.Predicate.answers accepts store predicate by_test tips walk b

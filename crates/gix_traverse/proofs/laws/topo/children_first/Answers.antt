@@ -1,5 +1,0 @@
-use Rattle.gix_traverse.proofs.Topo.Run.Corollaries.{before_parents}
-use Rattle.gix_traverse.proofs.laws.topo.children_first.Goals as goal
-
-pub returns : goal.returns
-returns g c = λ plan ids h. before_parents g.F.Find.objects plan ids h

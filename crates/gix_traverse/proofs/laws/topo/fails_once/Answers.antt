@@ -1,6 +1,0 @@
-use Rattle.std.proofs.Common.{refl}
-use Rattle.gix_traverse.proofs.Topo.Run.Ends.{fails}
-use Rattle.gix_traverse.proofs.laws.topo.fails_once.Goals as goal
-
-pub returns : goal.returns
-returns g c = λ walk new e next. fails g.F.Find.objects g.F.Find.faulty g.P.Predicate.answers next e refl

@@ -1,5 +1,0 @@
-use Rattle.gix_traverse.proofs.Topo.Run.Ends.{never_twice}
-use Rattle.gix_traverse.proofs.laws.topo.never_twice.Goals as goal
-
-pub returns : goal.returns
-returns g c = λ walk new list h d. never_twice g.F.Find.objects g.F.Find.faulty g.P.Predicate.answers list walk new h d

@@ -1,5 +1,0 @@
-use Rattle.gix_traverse.proofs.Trees.Theorems.Laws
-use Rattle.gix_traverse.proofs.laws.tree.sound_levels_succeed.Goals as goal
-
-pub returns : goal.returns
-returns g c = Laws.sound_levels_succeed _ _ _

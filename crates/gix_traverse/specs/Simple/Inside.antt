@@ -1,6 +1,0 @@
--- The parts of one step.
-pub mod Steps
--- How pending commits are held, and which comes next.
-pub mod PendingQueue
--- What painting holds while it goes on.
-pub mod Painter

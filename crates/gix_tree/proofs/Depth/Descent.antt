@@ -1,0 +1,61 @@
+-- An entry shown by a walk in depth, by the calls that were made.
+use Rattle.std.proofs.Common.{◌≡◌, Bool, true, false, List, [], ◌∷◌, Some, None, Ok, Err, refl, sym, subst}
+use Rattle.std.specs.declared.ops.ControlFlow.TheVariants.{Continue, Break}
+use Rattle.gix_hash.specs.declared.ObjectId.{ObjectId}
+use Rattle.gix_hash.specs.Id.{is_among}
+use Rattle.gix_object.specs.TreeItems.{TreeEntry, is_tree}
+use Rattle.gix_tree.specs.declared.breadthfirst.Error.{Error}
+use Rattle.gix_tree.specs.declared.breadthfirst.Error.TheVariants as error
+use Rattle.gix_tree.specs.declared.depthfirst.Stop.{Stop}
+use Rattle.gix_tree.specs.declared.depthfirst.Stop.TheVariants as stop
+use Rattle.gix_tree.specs.Delegate.{Call, PushPath, PopPath, PushBack, Refused, RefusedIn, here, later}
+use Rattle.gix_tree.specs.Visits.{Items, Outcome, Enters, Cycles, outcome, outcome_of, visit_call, visit_call_of}
+use Rattle.gix_tree.specs.Script.{depth_calls}
+use Rattle.gix_tree.specs.Inside.ShowsEntry.{visit_below}
+use Rattle.gix_tree.specs.Inside.ShowsBelow as shows
+use Rattle.gix_tree.specs.Inside.ShowsBelow.{ShowsBelow, ShowsUpTo, Descends}
+use Rattle.gix_tree.proofs.Shown.{visit_takes, plain_leaves}
+
+module _ {V : Type 0} (steps : V → Call → V → Type 0) (ids : List ObjectId) (e : TreeEntry) (old : V) where
+  leads : (known : Bool) (o : Outcome) → is_tree e.mode ≡ true → is_among e.id ids ≡ known → outcome_of true (Continue true) known ≡ o → outcome (visit_below ids e (Continue true)) ≡ o
+  leads known o t k h = subst (λ b. outcome_of b (Continue true) (is_among e.id ids) ≡ o) (sym t) (subst (λ b. outcome_of true (Continue true) b ≡ o) (sym k) h)
+
+  pub push_refused : (new : V) → steps old Refused new → ShowsBelow steps ids e old new (Err error.Memory)
+  push_refused new s = shows.refused (Continue false) (here refl) (new, s, refl)
+
+  pub visit_refused : (mid new : V) → steps old (PushPath e.name) mid → steps mid Refused new → ShowsBelow steps ids e old new (Err error.Memory)
+  visit_refused mid new p s = shows.refused (Continue false) (later (here (visit_takes (is_tree e.mode) e (Continue false)))) (mid, p, (new, s, refl))
+
+  pub tree_breaks : (b : Unit {0}) (mid low new : V) → is_tree e.mode ≡ true → steps old (PushPath e.name) mid → steps mid (visit_call_of (is_tree e.mode) e (Break b)) low → steps low PopPath new → ShowsBelow steps ids e old new (Ok (Some stop.Broken))
+  tree_breaks b mid low new t p s q = shows.broke (Break b) refl (rw t (mid, p, (low, rw t at s, (new, q, refl))))
+
+  pub plain_breaks : (b : Unit {0}) (mid new : V) → is_tree e.mode ≡ false → steps old (PushPath e.name) mid → steps mid (visit_call_of (is_tree e.mode) e (Break b)) new → ShowsBelow steps ids e old new (Ok (Some stop.Broken))
+  plain_breaks b mid new t p s = shows.broke (Break b) refl (rw t (mid, p, (new, rw t at s, refl)))
+
+  pub visit_leaves : (into : Bool) (mid low new : V) → (into ≡ true → is_tree e.mode ≡ false) → steps old (PushPath e.name) mid → steps mid (visit_call_of (is_tree e.mode) e (Continue into)) low → steps low PopPath new → ShowsBelow steps ids e old new (Ok None)
+  visit_leaves into mid low new h p s q =
+      let leaves = plain_leaves (is_tree e.mode) into (is_among e.id ids) h in
+      shows.left (Continue into) leaves (rw leaves (mid, p, (low, s, (new, q, refl))))
+
+  -- the entry's tree isn't gone into, and the walk ends
+  pub descent_ends : (mid low deep new : V) (why : Error) → is_tree e.mode ≡ true → steps old (PushPath e.name) mid → steps mid (visit_call_of (is_tree e.mode) e (Continue true)) low → steps low PopPath deep → Descends steps ids e deep new (Err why) → ShowsBelow steps ids e old new (Err why)
+  descent_ends mid low deep new why t p s q (shows.cycled k) =
+      let cycles = leads true Cycles t k refl in
+      shows.cycled (Continue true) cycles (rw cycles (mid, p, (low, s, (deep, q, refl))))
+  descent_ends mid low deep new why t p s q (shows.no_memory k) = shows.no_memory (Continue true) (leads false Enters t k refl) (mid, p, (low, s, (deep, q, refl)))
+  descent_ends mid low deep new why t p s q (shows.refused_first k r) =
+      let enters = leads false Enters t k refl in
+      let made : RefusedIn (depth_calls (visit_below ids e (Continue true))) (PushPath e.name ∷ visit_call (visit_below ids e (Continue true)) ∷ PopPath ∷ Refused ∷ []) = rw enters (later (later (later (here refl)))) in
+      shows.refused (Continue true) made (mid, p, (low, s, (deep, q, (new, r, refl))))
+  descent_ends mid low deep new why t p s q (shows.refused {mid = back} k r z) =
+      let enters = leads false Enters t k refl in
+      let made : RefusedIn (depth_calls (visit_below ids e (Continue true))) (PushPath e.name ∷ visit_call (visit_below ids e (Continue true)) ∷ PopPath ∷ PushBack [] ∷ Refused ∷ []) = rw enters (later (later (later (later (here refl))))) in
+      shows.refused (Continue true) made (mid, p, (low, s, (deep, q, (back, r, (new, z, refl)))))
+
+  pub descent_goes_on : (mid low deep new : V) → is_tree e.mode ≡ true → steps old (PushPath e.name) mid → steps mid (visit_call_of (is_tree e.mode) e (Continue true)) low → steps low PopPath deep → Descends steps ids e deep new (Ok tt) → ShowsBelow steps ids e old new (Ok (Some (stop.Into e.id)))
+  descent_goes_on mid low deep new t p s q (shows.told {mid = back} k r z) =
+      let enters = leads false Enters t k refl in
+      shows.entered (Continue true) enters (rw enters (mid, p, (low, s, (deep, q, (back, r, (new, z, refl))))))
+
+pub stops_at : {V : Type 0} (steps : V → Call → V → Type 0) (ids : List ObjectId) {e : TreeEntry} {items left : Items} {old new : V} {how : Stop} → ShowsBelow steps ids e old new (Ok (Some how)) → items ≡ left → ShowsUpTo steps ids (Ok e ∷ items) old new (Ok how) left
+stops_at steps ids {e = e} {items = items} {old = old} {new = new} {how = how} h same = subst (λ l. ShowsUpTo steps ids (Ok e ∷ items) old new (Ok how) l) same (shows.stops h)

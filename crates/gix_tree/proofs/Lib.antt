@@ -1,0 +1,16 @@
+-- What holds of all of a list holds of its parts.
+pub mod All
+-- Trees with their places, seen by their ids alone.
+pub mod Places
+-- An entry that a walk shows its delegate, by the calls that were made.
+pub mod Shown
+-- The walk breadth first.
+pub mod Levels
+-- The walk depth first.
+pub mod Depth
+-- The recorder as a delegate.
+pub mod Recording
+-- Why the walks end.
+pub mod Work
+-- The laws of both walks.
+pub mod Theorems

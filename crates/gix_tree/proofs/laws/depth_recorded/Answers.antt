@@ -1,0 +1,5 @@
+use Rattle.gix_tree.proofs.Theorems.Laws
+use Rattle.gix_tree.proofs.laws.depth_recorded.Goals as goal
+
+pub returns : goal.returns
+returns g c = Laws.depth_is_recorded _ _

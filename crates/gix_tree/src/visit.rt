@@ -1,0 +1,66 @@
+//! The delegates of walks of trees.
+ghost use Rattle.std.specs.Prelude.{MatchResult};
+ghost use Rattle.bstr.specs.BStr.{bstr_bytes};
+ghost use Rattle.gix_object.specs.TreeItems.{is_tree};
+ghost use Rattle.gix_object.specs.TreeRefIter.{entry_of};
+ghost use Rattle.gix_tree.specs.Delegate.{Call, PushPath, PopPath, PushBack, PopBack, PopFront, VisitTree, VisitNontree, Refused};
+ghost use Rattle.gix_tree.specs.Visits.{visit_call_of};
+
+use bstr::BStr;
+use gix_object::tree::EntryRef;
+use std::alloc::AllocError;
+use std::ops::ControlFlow;
+
+/// What a delegate answers to a visit: `Break` ends the walk, `Continue(true)` goes into the entry's tree, and
+/// `Continue(false)` goes on behind the entry. Where the entry is no tree, the walk goes on behind it at either.
+pub type Action = ControlFlow<(), bool>;
+
+/// Watches a walk of trees. By the calls below a walk shows it each entry, and the names that lead there.
+///
+/// A delegate that follows the names keeps a path, and a queue of the paths of trees whose turn is to come.
+///
+/// # Errors
+/// A call that answers `AllocError` ends the walk with `Memory`. The delegate gets no further call.
+pub trait Visit {
+    /// What a call may leave of the delegate.
+    ghost steps: { Self → Call → Self → Type 0 };
+
+    /// Makes the path that was queued last the current one.
+    fn pop_back_tracked_path_and_set_current(&mut self)
+        ensures { steps self.old PopBack self.new };
+
+    /// Makes the path that was queued first the current one.
+    fn pop_front_tracked_path_and_set_current(&mut self)
+        ensures { steps self.old PopFront self.new };
+
+    /// Takes the last name off the path.
+    fn pop_path_component(&mut self)
+        ensures { steps self.old PopPath self.new };
+
+    /// Puts a name behind the path, and queues the path.
+    fn push_back_tracked_path_component(&mut self, component: &BStr<'_>) -> Result<(), AllocError>
+        ensures { MatchResult result (λ _. steps self.old (PushBack (bstr_bytes component.now)) self.new) (λ _. steps self.old Refused self.new) };
+
+    /// Puts a name behind the path.
+    fn push_path_component(&mut self, component: &BStr<'_>) -> Result<(), AllocError>
+        ensures { MatchResult result (λ _. steps self.old (PushPath (bstr_bytes component.now)) self.new) (λ _. steps self.old Refused self.new) };
+
+    /// Sees the entry of a tree. The current path is the entry's.
+    fn visit_tree(&mut self, entry: &EntryRef<'_>) -> Result<Action, AllocError>
+        ensures { MatchResult result (λ a. steps self.old (VisitTree (entry_of entry.now) a) self.new) (λ _. steps self.old Refused self.new) };
+
+    /// Sees any other entry. The current path is the entry's.
+    fn visit_nontree(&mut self, entry: &EntryRef<'_>) -> Result<Action, AllocError>
+        ensures { MatchResult result (λ a. steps self.old (VisitNontree (entry_of entry.now) a) self.new) (λ _. steps self.old Refused self.new) };
+}
+
+// Shows the entry by the call for what it is.
+pub(crate) fn see<V: Visit>(delegate: &mut V, entry: &EntryRef<'_>) -> Result<Action, AllocError>
+    ensures { MatchResult result (λ a. V.steps delegate.old (visit_call_of (is_tree entry.now.mode.value) (entry_of entry.now) a) delegate.new) (λ _. V.steps delegate.old Refused delegate.new) }
+{
+    if entry.mode.is_tree() {
+        delegate.visit_tree(entry)
+    } else {
+        delegate.visit_nontree(entry)
+    }
+}
