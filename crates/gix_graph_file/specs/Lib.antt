@@ -1,0 +1,3 @@
+pub mod FileTable
+pub mod FileRows
+pub mod PackedParts
