@@ -1,3 +1,4 @@
 pub mod FileTable
 pub mod FileRows
 pub mod PackedParts
+pub mod FileExamples

@@ -8,6 +8,8 @@ ghost use Rattle.gix_graph_file.specs.PackedParts.{fault_of};
 mod error;
 mod packing;
 mod table;
+#[cfg(test)]
+mod tests;
 
 pub use error::{Chunk, Error};
 use gix_parts::graph::{Graph, GraphError, Place};
