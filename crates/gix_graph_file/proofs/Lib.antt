@@ -1,0 +1,12 @@
+-- Entries of a table of chunks.
+pub mod Entries
+-- Rows written one after the other.
+pub mod Written
+-- The parents that words say, in the file and in packed bytes.
+pub mod SameParents
+-- The fields of a row, in the file and in packed bytes.
+pub mod SameFields
+-- The rows, in the file and in packed bytes.
+pub mod SameRows
+-- Whole files and whole packed bytes.
+pub mod SameFile

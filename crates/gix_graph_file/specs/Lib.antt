@@ -1,0 +1,4 @@
+pub mod FileTable
+pub mod FileRows
+pub mod PackedParts
+pub mod FileExamples

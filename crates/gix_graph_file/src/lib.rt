@@ -1,0 +1,52 @@
+//! Git's own commit-graph file, read as the rows of a graph.
+#![tactic(auto)]
+
+ghost use Rattle.std.specs.Prelude.{◌≡◌, ◌≢◌, Ok, Err, IfOk, IfErr};
+ghost use Rattle.gix_graph_file.specs.FileRows.{read_file};
+ghost use Rattle.gix_graph_file.specs.PackedParts.{fault_of};
+
+mod error;
+mod packing;
+mod table;
+#[cfg(test)]
+mod tests;
+
+pub use error::{Chunk, Error};
+use gix_commitgraph::{Graph, GraphError, Place};
+use std::alloc::Global;
+
+/// The rows of a commit-graph file as git writes it into `objects/info/commit-graph`, with ids of 20 or 32 bytes.
+///
+/// A parent that is no position of a row is a fault's place in the graph. The counts of the fan-out but the last, the chunks
+/// that have no name in [`Chunk`], and the trailing hash are not looked at. A layer of a chain is no graph alone.
+///
+/// Time and memory grow with the length of the file, whatever it says.
+///
+/// # Errors
+///
+/// The first thing that is not as it should be, in the order of [`Error`]. `Memory` where memory runs out, which may be
+/// before a fault of a row is found.
+pub fn graph_of(alloc: Global, file: &[u8]) -> Result<Graph, Error>
+    ensures rows { IfOk result (λ rows. read_file file.now ≡ Ok rows) }
+    ensures fault { IfErr result (λ error. error ≢ Error.Memory → read_file file.now ≡ Err error) }
+{
+    let layout = table::layout_of(file)?;
+    let packed = packing::packed_of(alloc, layout)?;
+    match Graph::from_packed(packed) {
+        Ok(graph) => Ok(graph),
+        Err(error) => Err(fault_of(error)),
+    }
+}
+
+/// The fault of a file whose packed rows are refused. Only the faults of rows come: the head of the packed bytes is written here,
+/// and the numbers in it are not too large.
+fn fault_of(error: GraphError) -> Error
+    ensures { result ≡ fault_of error }
+{
+    match error {
+        GraphError::Packed(Place::Order(row)) => Error::Order(row),
+        GraphError::Packed(Place::Parents(row)) => Error::Parents(row),
+        GraphError::Packed(Place::Overflow) => Error::Edges,
+        _ => Error::TooMany,
+    }
+}
