@@ -1,0 +1,4 @@
+pub mod Places
+pub mod SoundRows
+pub mod Marking
+pub mod SoundExamples

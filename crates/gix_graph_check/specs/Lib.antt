@@ -1,0 +1,5 @@
+pub mod Sound
+pub mod SoundAnswers
+pub mod Heads
+pub mod Marks
+pub mod CheckExamples
