@@ -1,0 +1,7 @@
+pub mod Sound
+pub mod SoundAnswers
+pub mod Heads
+pub mod Marks
+pub mod StoredCommits
+pub mod Disagreeing
+pub mod CheckExamples
