@@ -10,3 +10,9 @@ pub mod SameFields
 pub mod SameRows
 -- Whole files and whole packed bytes.
 pub mod SameFile
+-- Parents that are read one after the other.
+pub mod ChainParents
+-- Rows of a layer that are read one after the other.
+pub mod ChainRows
+-- Layers that are read one after the other.
+pub mod ChainLayers
