@@ -16,3 +16,5 @@ pub mod ChainParents
 pub mod ChainRows
 -- Layers that are read one after the other.
 pub mod ChainLayers
+-- The rows of a chain are of one kind, and name rows of the chain.
+pub mod ChainWithin

@@ -3,6 +3,8 @@ use Rattle.std.specs.Prelude.{◌≡◌, ℕ, ◌+◌, ◌-◌, Bool, true, fals
 use Rattle.std.specs.Str.{bytes_eq}
 use Rattle.gix_hash.specs.declared.Kind.{Kind}
 use Rattle.gix_hash.specs.declared.Kind.TheVariants as kind
+use Rattle.gix_commitgraph.specs.declared.GraphError.{GraphError}
+use Rattle.gix_commitgraph.specs.declared.GraphError.TheVariants as refused
 use Rattle.gix_hash.specs.Id.{id_len}
 use Rattle.gix_commitgraph.specs.Rows.{GraphRow}
 use Rattle.gix_commitgraph.specs.PackedReading.{words_of}
@@ -83,8 +85,17 @@ pub record HasChain (files : List (List ℕ)) (graph : List GraphRow) : Type 0 w
   pub sound : AreGraphRows graph
   pub same : HasSameRows rows graph
 
+-- why no graph has the rows of layers that are as they should be
+abbrev pub IsOfRows : GraphError → Type 0
+IsOfRows refused.TooMany = Unit {0}
+IsOfRows refused.DuplicateId = Unit {0}
+IsOfRows refused.MixedKinds = ⊥
+IsOfRows refused.PositionOutOfRange = ⊥
+IsOfRows (refused.Packed place) = ⊥
+IsOfRows refused.Memory = ⊥
+
 -- what an error says of the chain
 abbrev pub RefusesChain : List (List ℕ) → ChainError → Type 0
 RefusesChain files (chain.Layer number e) = read_chain files ≡ Err (chain.Layer number e)
-RefusesChain files (chain.Rows e) = (rows : List GraphRow) × (read_chain files ≡ Ok rows) × Refuses rows e
+RefusesChain files (chain.Rows e) = (rows : List GraphRow) × (read_chain files ≡ Ok rows) × Refuses rows e × IsOfRows e
 RefusesChain files chain.Memory = Unit {0}

@@ -5,6 +5,8 @@ use Rattle.gix_hash.specs.declared.Kind.{Kind}
 use Rattle.gix_hash.specs.declared.ObjectId.{ObjectId}
 use Rattle.gix_hash.specs.Id.{id_len, id_of}
 use Rattle.gix_commitgraph.specs.declared.ParentPlace.{ParentPlace}
+use Rattle.gix_commitgraph.specs.declared.GraphError.{GraphError}
+use Rattle.gix_commitgraph.specs.declared.GraphError.TheVariants as refused
 use Rattle.gix_commitgraph.specs.Rows.{GraphRow}
 use Rattle.gix_commitgraph.specs.PackedReading.{word_at, is_above}
 use Rattle.gix_commitgraph.specs.Renumbering.{rows_seen}
@@ -58,6 +60,12 @@ abbrev pub IsAtLayer : ℕ → Error → ChainError → Type 0
 IsAtLayer number e (chain.Layer n f) = (n ≡ number) × (f ≡ e) × (e ≢ error.Memory)
 IsAtLayer number e (chain.Rows f) = ⊥
 IsAtLayer number e chain.Memory = e ≡ error.Memory
+
+-- what is said where no graph has the rows
+abbrev pub IsForRows : GraphError → ChainError → Type 0
+IsForRows e (chain.Layer n f) = ⊥
+IsForRows e (chain.Rows f) = (f ≡ e) × (e ≢ refused.Memory)
+IsForRows e chain.Memory = e ≡ refused.Memory
 
 -- the first fault of the layers, or that memory ran out
 abbrev pub IsLayerFault : List (List ℕ) → ChainError → Type 0

@@ -6,7 +6,7 @@ ghost use Rattle.gix_commitgraph.specs.PackedReading.{words_of, is_above};
 ghost use Rattle.gix_commitgraph.specs.Renumbering.{row_seen, rows_seen};
 ghost use Rattle.gix_graph_file.specs.FileRows.{place_named, edge_list, long_edge_list, second_said, parents_said};
 ghost use Rattle.gix_graph_file.specs.Chain.{is_kind, layer_rows, with_parts, with_layer, read_chain, HasChain, RefusesChain};
-ghost use Rattle.gix_graph_file.specs.ChainSteps.{HasTable, below_seen, joined, prepended, row_read, files_seen, IsAtLayer, IsLayerFault};
+ghost use Rattle.gix_graph_file.specs.ChainSteps.{HasTable, below_seen, joined, prepended, row_read, files_seen, IsAtLayer, IsForRows, IsLayerFault};
 ghost use Rattle.gix_graph_file.specs.PackedParts.{seen, IsWhole};
 ghost use Rattle.gix_graph_file.specs.FileTable.{most_words};
 
@@ -310,6 +310,16 @@ fn at_layer(number: usize, error: Error) -> ChainError
     }
 }
 
+/// Why no graph has the rows of a chain.
+fn of_rows(error: GraphError) -> ChainError
+    ensures { IsForRows error result }
+{
+    match error {
+        GraphError::Memory => ChainError::Memory,
+        error => ChainError::Rows(error),
+    }
+}
+
 /// The rows of all layers, lowest first.
 fn rows_of(alloc: Global, layers: &[&[u8]]) -> Result<Vec<Row>, ChainError>
     ensures rows { IfOk result (λ rows. read_chain (files_seen layers.now) ≡ Ok (rows_seen rows.items)) }
@@ -352,7 +362,6 @@ pub fn graph_of_chain(alloc: Global, layers: &[&[u8]]) -> Result<Graph, ChainErr
     let rows = rows_of(alloc, layers)?;
     match Graph::new(alloc, rows) {
         Ok(graph) => Ok(graph),
-        Err(GraphError::Memory) => Err(ChainError::Memory),
-        Err(error) => Err(ChainError::Rows(error)),
+        Err(error) => Err(of_rows(error)),
     }
 }
