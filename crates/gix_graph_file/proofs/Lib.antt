@@ -10,3 +10,11 @@ pub mod SameFields
 pub mod SameRows
 -- Whole files and whole packed bytes.
 pub mod SameFile
+-- Parents that are read one after the other.
+pub mod ChainParents
+-- Rows of a layer that are read one after the other.
+pub mod ChainRows
+-- Layers that are read one after the other.
+pub mod ChainLayers
+-- The rows of a chain are of one kind, and name rows of the chain.
+pub mod ChainWithin

@@ -6,8 +6,10 @@ use Rattle.gix_hash.specs.declared.ObjectId.TheVariants as id
 use Rattle.gix_commitgraph.specs.declared.ParentPlace.TheVariants.{At, Fault}
 use Rattle.gix_commitgraph.specs.Rows.{GraphRow}
 use Rattle.gix_graph_file.specs.declared.error.Error.TheVariants as error
+use Rattle.gix_graph_file.specs.declared.error.ChainError.TheVariants as chain
 use Rattle.gix_graph_file.specs.FileTable.{long_at, name_at, offset_at, is_table_from, chunk_from, sized_parts, parts_of}
 use Rattle.gix_graph_file.specs.FileRows.{parents_said, rows_from, read_file}
+use Rattle.gix_graph_file.specs.Chain.{with_layer, chain_from, read_chain}
 
 -- the id of git's empty tree
 abbrev pub tree : List ℕ
@@ -26,6 +28,10 @@ words ns = flat_map (to_be_bytes w32) ns
 abbrev pub entry : List ℕ → ℕ → List ℕ
 entry name at = name ++ words (0 ∷ at ∷ [])
 
+-- the trailing hash
+abbrev pub hash : List ℕ
+hash = 0x0b ∷ 0x41 ∷ 0x2b ∷ 0x65 ∷ 0xb2 ∷ 0xde ∷ 0x45 ∷ 0x74 ∷ 0x03 ∷ 0x1c ∷ 0x19 ∷ 0xa8 ∷ 0xef ∷ 0xfd ∷ 0x58 ∷ 0xda ∷ 0x52 ∷ 0x25 ∷ 0x99 ∷ 0x84 ∷ []
+
 -- a file of two commits, of which the second has the first as its parent
 abbrev pub file : List ℕ
 file =
@@ -35,7 +41,7 @@ file =
     ++ tree ++ words (0x70000000 ∷ 0x70000000 ∷ 4 ∷ 1000000000 ∷ [])
     ++ tree ++ words (0 ∷ 0x70000000 ∷ 8 ∷ 1000000001 ∷ [])
     ++ replicate 8 0
-    ++ 0x0b ∷ 0x41 ∷ 0x2b ∷ 0x65 ∷ 0xb2 ∷ 0xde ∷ 0x45 ∷ 0x74 ∷ 0x03 ∷ 0x1c ∷ 0x19 ∷ 0xa8 ∷ 0xef ∷ 0xfd ∷ 0x58 ∷ 0xda ∷ 0x52 ∷ 0x25 ∷ 0x99 ∷ 0x84 ∷ []
+    ++ hash
 
 abbrev pub first : GraphRow
 first = record { id = id.Sha1 one; tree = id.Sha1 tree; parents = []; generation = 1; time = pos 1000000000 }
@@ -100,3 +106,36 @@ list_without_end = refl
 
 pub list_of_one : parents_said 9 0 1 0x80000000 (0x80000007 ∷ []) ≡ None
 list_of_one = refl
+
+-- ---- a layer of one commit, whose parent is the second commit of the layer below
+
+abbrev pub three : List ℕ
+three = 0x11 ∷ replicate 19 0
+
+abbrev pub upper : List ℕ
+upper =
+    codes "CGPH" ++ (1 ∷ 1 ∷ 4 ∷ 1 ∷ []) ++ entry (codes "OIDF") 0x44 ++ entry (codes "OIDL") 0x444 ++ entry (codes "CDAT") 0x458 ++ entry (codes "BASE") 0x47c ++ entry (replicate 4 0) 0x490
+    ++ words (replicate 0x11 0 ++ replicate 0xef 1)
+    ++ three
+    ++ tree ++ words (1 ∷ 0x70000000 ∷ 12 ∷ 1000000002 ∷ [])
+    ++ hash
+    ++ replicate 20 0
+
+abbrev pub third : GraphRow
+third = record { id = id.Sha1 three; tree = id.Sha1 tree; parents = At 1 ∷ []; generation = 3; time = pos 1000000002 }
+
+pub two_layers : read_chain (file ∷ upper ∷ []) ≡ Ok (first ∷ second ∷ third ∷ [])
+unfolding chain_from with_layer parts_of sized_parts is_table_from chunk_from name_at offset_at long_at rows_from
+two_layers = refl
+
+pub upper_alone : read_chain (upper ∷ []) ≡ Err (chain.Layer 0 error.Layer)
+unfolding chain_from with_layer
+upper_alone = refl
+
+pub layer_twice : read_chain (file ∷ file ∷ []) ≡ Err (chain.Layer 1 error.Layer)
+unfolding chain_from with_layer parts_of sized_parts is_table_from chunk_from name_at offset_at long_at rows_from
+layer_twice = refl
+
+pub no_layers : read_chain [] ≡ Ok []
+unfolding chain_from
+no_layers = refl

@@ -24,16 +24,17 @@ long_at at bytes = from_be_bytes w64 (take 8 (drop at bytes))
 
 -- ---- the head: CGPH, the version, the hash's version, the number of chunks, the number of lower layers
 
-abbrev pub kind_alone : ℕ → Kind → Result Kind Error
-kind_alone layers k = if layers == 0 then Ok k else Err error.Layer
+-- the kind of a file that has this number of lower layers
+abbrev pub kind_placed : ℕ → ℕ → Kind → Result Kind Error
+kind_placed number layers k = if layers == number then Ok k else Err error.Layer
 
-abbrev pub kind_said : List ℕ → Result Kind Error
-kind_said file =
+abbrev pub kind_said : ℕ → List ℕ → Result Kind Error
+kind_said number file =
     if nat_lt (length file) 8 then Err error.Header
     else if not (starts_with nat_eq file (codes "CGPH")) then Err error.Signature
     else if not (slice_index file 4 == 1) then Err error.Version
-    else if slice_index file 5 == 1 then kind_alone (slice_index file 7) kind.Sha1
-    else if slice_index file 5 == 2 then kind_alone (slice_index file 7) kind.Sha256
+    else if slice_index file 5 == 1 then kind_placed number (slice_index file 7) kind.Sha1
+    else if slice_index file 5 == 2 then kind_placed number (slice_index file 7) kind.Sha256
     else Err error.HashVersion
 
 abbrev pub chunk_count : List ℕ → ℕ
@@ -75,6 +76,7 @@ name_of chunk.FanOut = from_be_bytes w32 (codes "OIDF")
 name_of chunk.Ids = from_be_bytes w32 (codes "OIDL")
 name_of chunk.Data = from_be_bytes w32 (codes "CDAT")
 name_of chunk.Edges = from_be_bytes w32 (codes "EDGE")
+name_of chunk.Base = from_be_bytes w32 (codes "BASE")
 
 abbrev pub needed : List ℕ → ℕ → Chunk → Result (List ℕ) Error
 needed file count c = ok_or (chunk_from file (name_of c) count 0) (error.Missing c)
@@ -124,7 +126,12 @@ parts_of k file =
       commits ← needed file count chunk.Data
       sized_parts k fan_out ids commits (unwrap_or (chunk_from file (name_of chunk.Edges) count 0) [])
 
-abbrev pub read_parts : List ℕ → Result Parts Error
-read_parts file = do
-  k ← kind_said file
+-- the parts of a file that has this number of lower layers
+abbrev pub read_layer : ℕ → List ℕ → Result Parts Error
+read_layer number file = do
+  k ← kind_said number file
   parts_of k file
+
+-- the parts of a file that has none
+abbrev pub read_parts : List ℕ → Result Parts Error
+read_parts file = read_layer 0 file

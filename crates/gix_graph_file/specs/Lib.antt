@@ -1,4 +1,6 @@
 pub mod FileTable
 pub mod FileRows
+pub mod Chain
 pub mod PackedParts
+pub mod ChainSteps
 pub mod FileExamples

@@ -2,7 +2,8 @@
 ghost use Rattle.std.specs.Prelude.{◌≡◌};
 ghost use Rattle.gix_graph_file.specs.FileTable.{name_of};
 
-use std::alloc::AllocError;
+use gix_commitgraph::GraphError;
+use std::alloc::{AllocError, AllocFailed};
 use std::fmt;
 use thiserror::Error;
 
@@ -17,6 +18,8 @@ pub enum Chunk {
     Data,
     /// `EDGE`: the second and later parents of commits that have three or more.
     Edges,
+    /// `BASE`: the trailing hashes of the layers below, lowest first.
+    Base,
 }
 
 impl Chunk {
@@ -29,11 +32,12 @@ impl Chunk {
             Chunk::Ids => 0x4F49_444C,
             Chunk::Data => 0x4344_4154,
             Chunk::Edges => 0x4544_4745,
+            Chunk::Base => 0x4241_5345,
         }
     }
 }
 
-/// The chunk's name: `OIDF`, `OIDL`, `CDAT` or `EDGE`.
+/// The chunk's name: `OIDF`, `OIDL`, `CDAT`, `EDGE` or `BASE`.
 impl fmt::Display for Chunk {
     fn fmt<W: fmt::Write>(&self, f: &mut fmt::Formatter<W>) -> fmt::Result {
         f.write_str(match self {
@@ -41,6 +45,7 @@ impl fmt::Display for Chunk {
             Chunk::Ids => "OIDL",
             Chunk::Data => "CDAT",
             Chunk::Edges => "EDGE",
+            Chunk::Base => "BASE",
         })
     }
 }
@@ -61,8 +66,8 @@ pub enum Error {
     /// The version of the hash is neither 1 (SHA-1) nor 2 (SHA-256).
     #[error("the hash is neither SHA-1 nor SHA-256")]
     HashVersion,
-    /// The file is a layer of a chain, and needs the layers below it.
-    #[error("a layer of a chain is no graph alone")]
+    /// The file has another number of lower layers than it has here: a file that is read alone has none.
+    #[error("the file has another number of lower layers")]
     Layer,
     /// The table of chunks and the trailing hash don't fit into the file.
     #[error("the table of chunks doesn't fit")]
@@ -81,6 +86,12 @@ pub enum Error {
     /// There are more than 1,879,048,192 rows, or more than 2,147,483,646 words in `EDGE`.
     #[error("too many commits or parents")]
     TooMany,
+    /// The ids of a layer are of another kind than those of the layers below. No file that is read alone has this fault.
+    #[error("the ids are of another kind than those of the layers below")]
+    Kind,
+    /// `BASE` isn't the trailing hashes of the layers below, lowest first. No file that is read alone has this fault.
+    #[error("the chunk BASE isn't the hashes of the layers below")]
+    Base,
     /// The id of this row isn't above the id of the row before it.
     #[error("the id of row {0} isn't above the one before")]
     Order(u32),
@@ -105,4 +116,30 @@ impl From<AllocError> for Error {
     fn from(_error: AllocError) -> Error {
         Error::Memory
     }
+}
+
+// So that `list.push(row)?` is this error. The value is dropped.
+impl<T: Drop> From<AllocFailed<T>> for Error {
+    ghost use Rattle.std.specs.Prelude.{◌≡◌};
+    ghost use Rattle.gix_graph_file.specs.declared.error.Error.TheVariants.{Memory};
+
+    ghost from_gives = { λ _ error. error ≡ Memory };
+
+    fn from(_error: AllocFailed<T>) -> Error {
+        Error::Memory
+    }
+}
+
+/// The first thing in a chain that is not as it should be.
+#[derive(Clone, Copy, PartialEq, Eq, Debug, Error)]
+pub enum ChainError {
+    /// What is wrong with the layer of this number. The lowest layer has the number 0.
+    #[error("layer {0}: {1}")]
+    Layer(usize, Error),
+    /// Each layer is as it should be, and their rows together are no graph: two layers have one id, or there are too many rows.
+    #[error("the layers together: {0}")]
+    Rows(GraphError),
+    /// Memory ran out.
+    #[error("out of memory")]
+    Memory,
 }

@@ -5,13 +5,15 @@ ghost use Rattle.std.specs.Prelude.{◌≡◌, ◌≢◌, Ok, Err, IfOk, IfErr};
 ghost use Rattle.gix_graph_file.specs.FileRows.{read_file};
 ghost use Rattle.gix_graph_file.specs.PackedParts.{fault_of};
 
+mod chain;
 mod error;
 mod packing;
 mod table;
 #[cfg(test)]
 mod tests;
 
-pub use error::{Chunk, Error};
+pub use chain::graph_of_chain;
+pub use error::{ChainError, Chunk, Error};
 use gix_commitgraph::{Graph, GraphError, Place};
 use std::alloc::Global;
 
@@ -30,7 +32,7 @@ pub fn graph_of(alloc: Global, file: &[u8]) -> Result<Graph, Error>
     ensures rows { IfOk result (λ rows. read_file file.now ≡ Ok rows) }
     ensures fault { IfErr result (λ error. error ≢ Error.Memory → read_file file.now ≡ Err error) }
 {
-    let layout = table::layout_of(file)?;
+    let layout = table::layout_of(0, file)?;
     let packed = packing::packed_of(alloc, layout)?;
     match Graph::from_packed(packed) {
         Ok(graph) => Ok(graph),

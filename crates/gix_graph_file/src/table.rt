@@ -4,8 +4,10 @@ ghost use Rattle.std.specs.Int.{w64, from_be_bytes};
 ghost use Rattle.std.specs.Option.{option_map};
 ghost use Rattle.gix_hash.specs.Id.{id_len};
 ghost use Rattle.gix_commitgraph.specs.PackedReading.{word_at};
-ghost use Rattle.gix_graph_file.specs.FileTable.{long_at, name_of, name_at, offset_at, kind_alone, kind_said, is_last, is_table_from, chunk_from, needed, parts_of, sized_parts, read_parts, table_len};
+ghost use Rattle.gix_graph_file.specs.FileTable.{long_at, name_of, name_at, offset_at, kind_placed, kind_said, is_last, is_table_from, chunk_from, needed, parts_of, sized_parts, read_layer, table_len};
 ghost use Rattle.gix_graph_file.specs.PackedParts.{seen, IsWhole};
+ghost use Rattle.gix_graph_file.specs.Chain.{base_of, hash_of};
+ghost use Rattle.gix_graph_file.specs.ChainSteps.{HasTable};
 
 use crate::{Chunk, Error};
 use gix_hash::Kind;
@@ -51,11 +53,11 @@ pub(super) fn long_at(bytes: &[u8], at: usize) -> u64
     ])
 }
 
-/// The kind of a file that stands on no lower layers.
-fn kind_alone(layers: u8, kind: Kind) -> Result<Kind, Error>
-    ensures { result ≡ kind_alone layers kind }
+/// The kind of a file that has this number of lower layers.
+fn kind_placed(number: usize, layers: u8, kind: Kind) -> Result<Kind, Error>
+    ensures { result ≡ kind_placed number layers kind }
 {
-    if layers == 0 {
+    if layers as usize == number {
         Ok(kind)
     } else {
         Err(Error::Layer)
@@ -63,8 +65,8 @@ fn kind_alone(layers: u8, kind: Kind) -> Result<Kind, Error>
 }
 
 /// The kind that the first eight bytes say.
-fn kind_of(file: &[u8]) -> Result<Kind, Error>
-    ensures { result ≡ kind_said file.now }
+fn kind_of(number: usize, file: &[u8]) -> Result<Kind, Error>
+    ensures { result ≡ kind_said number file.now }
 {
     if file.len() < 8 {
         return Err(Error::Header);
@@ -76,8 +78,8 @@ fn kind_of(file: &[u8]) -> Result<Kind, Error>
         return Err(Error::Version);
     }
     match file[5] {
-        1 => kind_alone(file[7], Kind::Sha1),
-        2 => kind_alone(file[7], Kind::Sha256),
+        1 => kind_placed(number, file[7], Kind::Sha1),
+        2 => kind_placed(number, file[7], Kind::Sha256),
         _ => Err(Error::HashVersion),
     }
 }
@@ -184,6 +186,7 @@ fn sized<'a>(
 ) -> Result<Layout<'a>, Error>
     ensures parts { MatchResult result (λ layout. sized_parts kind fan_out.now ids.now commits.now edges.now ≡ Ok (seen layout)) (λ error. sized_parts kind fan_out.now ids.now commits.now edges.now ≡ Err error) }
     ensures whole { IfOk result (λ layout. IsWhole (seen layout)) }
+    ensures kind { IfOk result (λ layout. layout.kind ≡ kind) }
 {
     if fan_out.len() != 1024 {
         return Err(Error::Size(Chunk::FanOut));
@@ -219,6 +222,7 @@ fn parts_of(kind: Kind, file: &[u8]) -> Result<Layout<'_>, Error>
     requires { 8 ≤ length file.now }
     ensures parts { MatchResult result (λ layout. parts_of kind file.now ≡ Ok (seen layout)) (λ error. parts_of kind file.now ≡ Err error) }
     ensures whole { IfOk result (λ layout. IsWhole (seen layout)) }
+    ensures table { IfOk result (λ layout. HasTable layout.kind file.now) }
 {
     let count = file[6] as usize;
     let end = file.len().saturating_sub(kind.len_in_bytes());
@@ -235,11 +239,31 @@ fn parts_of(kind: Kind, file: &[u8]) -> Result<Layout<'_>, Error>
     sized(kind, fan_out, ids, commits, edges)
 }
 
-/// The parts of a file that say its rows.
-pub(super) fn layout_of(file: &[u8]) -> Result<Layout<'_>, Error>
-    ensures parts { MatchResult result (λ layout. read_parts file.now ≡ Ok (seen layout)) (λ error. read_parts file.now ≡ Err error) }
+/// The parts of a file that say its rows, where it has this number of lower layers.
+pub(super) fn layout_of(number: usize, file: &[u8]) -> Result<Layout<'_>, Error>
+    ensures parts { MatchResult result (λ layout. read_layer number file.now ≡ Ok (seen layout)) (λ error. read_layer number file.now ≡ Err error) }
     ensures whole { IfOk result (λ layout. IsWhole (seen layout)) }
+    ensures table { IfOk result (λ layout. HasTable layout.kind file.now) }
 {
-    let kind = kind_of(file)?;
+    let kind = kind_of(number, file)?;
     parts_of(kind, file)
+}
+
+/// The hashes of the layers below a file, as the file says them: none, where it has no such chunk.
+pub(super) fn base_of(kind: Kind, file: &[u8]) -> &[u8]
+    requires { HasTable kind file.now }
+    ensures { result.now ≡ base_of file.now }
+{
+    let count = file[6] as usize;
+    let end = file.len() - kind.len_in_bytes();
+    chunk_of(file, count, end, Chunk::Base).unwrap_or(&[])
+}
+
+/// The hash of a file, which is behind its chunks.
+pub(super) fn hash_of(kind: Kind, file: &[u8]) -> &[u8]
+    requires { HasTable kind file.now }
+    ensures { result.now ≡ hash_of kind file.now }
+{
+    let end = file.len() - kind.len_in_bytes();
+    file.split_at(end).1
 }
