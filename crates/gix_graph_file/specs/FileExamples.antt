@@ -1,5 +1,5 @@
 -- A whole file as git writes it, and what is read of others.
-use Rattle.std.specs.Prelude.{◌≡◌, ℕ, pos, List, [], ◌∷◌, ◌++◌, replicate, codes, Some, None, Ok, Err, refl}
+use Rattle.std.specs.Prelude.{◌≡◌, ℕ, false, pos, List, [], ◌∷◌, ◌++◌, replicate, codes, Some, None, Ok, Err, refl}
 use Rattle.std.specs.Int.{w32, to_be_bytes}
 use Rattle.std.specs.List.{flat_map}
 use Rattle.gix_hash.specs.declared.ObjectId.TheVariants as id
@@ -9,6 +9,7 @@ use Rattle.gix_graph_file.specs.declared.error.Error.TheVariants as error
 use Rattle.gix_graph_file.specs.declared.error.ChainError.TheVariants as chain
 use Rattle.gix_graph_file.specs.FileTable.{long_at, name_at, offset_at, is_table_from, chunk_from, sized_parts, parts_of}
 use Rattle.gix_graph_file.specs.FileRows.{parents_said, rows_from, read_file}
+use Rattle.gix_graph_file.specs.Trailer.{has_its_hash}
 use Rattle.gix_graph_file.specs.Chain.{with_layer, chain_from, read_chain}
 
 -- the id of git's empty tree
@@ -139,3 +140,12 @@ layer_twice = refl
 pub no_layers : read_chain [] ≡ Ok []
 unfolding chain_from
 no_layers = refl
+
+-- a file that is too short for a head, or whose head says no hash that is known
+pub no_hash : has_its_hash [] ≡ false
+unfolding has_its_hash
+no_hash = refl
+
+pub hash_of_no_kind : has_its_hash (codes "CGPH" ++ (1 ∷ 3 ∷ 0 ∷ 0 ∷ []) ++ hash) ≡ false
+unfolding has_its_hash
+hash_of_no_kind = refl

@@ -1,6 +1,7 @@
 pub mod FileTable
 pub mod FileRows
 pub mod Chain
+pub mod Trailer
 pub mod PackedParts
 pub mod ChainSteps
 pub mod FileExamples

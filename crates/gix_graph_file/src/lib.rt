@@ -11,11 +11,13 @@ mod packing;
 mod table;
 #[cfg(test)]
 mod tests;
+mod trailer;
 
 pub use chain::graph_of_chain;
 pub use error::{ChainError, Chunk, Error};
 use gix_commitgraph::{Graph, GraphError, Place};
 use std::alloc::Global;
+pub use trailer::has_its_hash;
 
 /// The rows of a commit-graph file as git writes it into `objects/info/commit-graph`, with ids of 20 or 32 bytes.
 ///

@@ -1,5 +1,5 @@
 //! Files that git wrote, whole and damaged.
-use crate::{ChainError, Chunk, Error, graph_of, graph_of_chain};
+use crate::{ChainError, Chunk, Error, graph_of, graph_of_chain, has_its_hash};
 use gix_commitgraph::{Graph, GraphError, Position};
 use std::alloc::Global;
 use std::process::Abort;
@@ -378,6 +378,38 @@ fn each_cut_is_a_fault_of_the_head_or_the_table(rt: HostRuntime) -> Result<(), F
             Err(error) => assert_eq!(rt; error, expected),
         }
     }
+    Ok(())
+}
+
+/// Files and layers that git wrote end with their hash. With another byte anywhere, or without their last byte, they don't.
+fn check_hash(rt: &(impl Abort + AllocGlobal), file: &[u8]) -> Result<(), Fail> {
+    assert!(rt; has_its_hash(file));
+    let mut other = Vec::new(rt.alloc());
+    other.extend_from_slice(file)?;
+    for at in (0..file.len()).step_by(7) {
+        let Some(byte) = file.get(at) else {
+            continue;
+        };
+        if let Some(place) = other.get_mut(at) {
+            *place = *byte ^ 64;
+        }
+        assert!(rt; !has_its_hash(other.as_slice()));
+        if let Some(place) = other.get_mut(at) {
+            *place = *byte;
+        }
+    }
+    let (cut, _) = file.split_at(file.len().saturating_sub(1));
+    assert!(rt; !has_its_hash(cut));
+    Ok(())
+}
+
+#[test]
+fn files_end_with_their_hash(rt: HostRuntime) -> Result<(), Fail> {
+    check_hash(&rt, short_file(rt.alloc())?.as_slice())?;
+    check_hash(&rt, long_file(rt.alloc())?.as_slice())?;
+    check_hash(&rt, upper_layer(rt.alloc())?.as_slice())?;
+    assert!(rt; !has_its_hash(&[]));
+    assert!(rt; !has_its_hash(b"CGPH\x01\x01\x00\x00"));
     Ok(())
 }
 
