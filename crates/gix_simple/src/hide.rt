@@ -67,7 +67,7 @@ impl<F: Find + Drop, P: Predicate + Drop> Simple<F, P> {
         paint(
             self.alloc,
             &self.find,
-            self.held_graph(),
+            self.graph(),
             tips,
             self.hidden_tips.as_slice(),
         )

@@ -8,6 +8,7 @@ ghost use Rattle.gix_object.specs.CommitItems.{commit_items};
 ghost use Rattle.gix_object.specs.CommitRefIter.{commit_items_left};
 ghost use Rattle.gix_simple.specs.declared.Sorting.TheVariants as by;
 ghost use Rattle.gix_simple.specs.declared.Error.TheVariants as error;
+ghost use Rattle.gix_revwalk.specs.Agreeing.{rows_in};
 ghost use Rattle.gix_revwalk.specs.Tips.{Draws};
 ghost use Rattle.gix_simple.specs.Walk.{IsMade, Next};
 ghost use Rattle.gix_simple.specs.Building.{IsSortedByTime, FailsAtTip};
@@ -345,6 +346,18 @@ impl<F: Find + Drop, P: Predicate + Drop> Simple<F, P> {
         self.graph = graph;
         self.held = true;
         self
+    }
+
+    /// The commit-graph, as long as its rows are read: none before [`commit_graph`](Simple::commit_graph) and after a corrupt row. The row of
+    /// a commit that was given by its row is `graph.commit_by_id(&commit.id)`; where there is none, its text is in
+    /// [`commit_data`](Simple::commit_data).
+    pub fn graph(&self) -> Option<&Graph>
+        ensures { rows_in result ≡ self.now.rows }
+    {
+        if !self.held {
+            return None;
+        }
+        self.graph.as_ref()
     }
 
     /// The text of the commit last given. It is empty where a row gave the commit, before the first commit and after a fault, and

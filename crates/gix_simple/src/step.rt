@@ -5,7 +5,6 @@ ghost use Rattle.gix_commitgraph.specs.Rows.{row_of};
 ghost use Rattle.gix_object.specs.CommitItems.{commit_items};
 ghost use Rattle.gix_object.specs.CommitRefIter.{commit_items_left};
 ghost use Rattle.gix_hash.specs.declared.ObjectId.{ObjectId};
-ghost use Rattle.gix_revwalk.specs.Agreeing.{rows_in};
 ghost use Rattle.gix_revwalk.specs.Commits.{by_mode, time_of};
 ghost use Rattle.gix_revwalk.specs.Reading.{RowSays};
 ghost use Rattle.gix_simple.specs.declared.step.Stop.TheVariants as stop;
@@ -15,7 +14,6 @@ ghost use Rattle.gix_simple.specs.Walk.{how_ended, failed, time_order, cutoff, i
 ghost use Rattle.gix_simple.specs.Inside.PendingQueue.{TakesOut};
 
 use super::{Error, Simple, Sorting};
-use gix_commitgraph::Graph;
 use gix_hash::ObjectId;
 use gix_object as object;
 use gix_object::commit::CommitRefIter;
@@ -162,20 +160,10 @@ impl<F: Find + Drop, P: Predicate + Drop> Simple<F, P> {
         Ok(signature.seconds())
     }
 
-    // The graph, as long as its rows are held.
-    pub(super) fn held_graph(&self) -> Option<&Graph>
-        ensures { rows_in result ≡ self.now.rows }
-    {
-        if !self.held {
-            return None;
-        }
-        self.graph.as_ref()
-    }
-
     fn row_time(&self, id: &ObjectId) -> i64
         ensures { result ≡ row_time (row_of self.now.rows id.now) }
     {
-        let Some(graph) = self.held_graph() else {
+        let Some(graph) = self.graph() else {
             return 0;
         };
         match graph.commit_by_id(id) {

@@ -8,6 +8,7 @@ mod reader;
 mod ready;
 mod walk;
 
+use gix_commitgraph::Graph;
 use gix_object::decode;
 use gix_object::find::{Find, existing_iter};
 use gix_revwalk::{Info, Predicate};
@@ -138,7 +139,19 @@ impl<F: Find, P> Model for Topo<F, P> {
 }
 
 impl<F: Find + Drop, P: Predicate + Drop> Topo<F, P> {
-    ghost use Rattle.std.specs.Prelude.{◌≡◌};
+    ghost use Rattle.std.specs.Prelude.{◌≡◌, [], if◌then◌else◌};
+    ghost use Rattle.gix_revwalk.specs.Agreeing.{rows_in};
+
+    /// The commit-graph, as long as its rows are read: none where the builder had none, and after a corrupt row.
+    pub fn graph(&self) -> Option<&Graph>
+        ensures { rows_in result ≡ if self.now.counted.standing then self.now.plan.rows else [] }
+    {
+        let reader = &self.walk.counting.reader;
+        if !reader.standing {
+            return None;
+        }
+        reader.graph.as_ref()
+    }
 
     /// The number of different commits whose parents were read to count indegrees, from their rows or from the store.
     ///
