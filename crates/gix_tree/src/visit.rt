@@ -22,7 +22,7 @@ pub type Action = ControlFlow<(), bool>;
 /// # Errors
 /// A call that answers `AllocError` ends the walk with `Memory`. The delegate gets no further call.
 pub trait Visit {
-    /// What a call may leave of the delegate.
+    /// What a call may leave of the delegate. Where nothing is to be proved of it, `ghost steps = { λ _ _ _. Unit {0} };` is enough.
     ghost steps: { Self → Call → Self → Type 0 };
 
     /// Makes the path that was queued last the current one.
