@@ -168,7 +168,7 @@ impl<'a> CommitRefIter<'a> {
     /// Takes the next item, and returns the id where it is the tree.
     ///
     /// # Errors
-    /// The fault, where the item is one. `Missing` where no item is left, or it is another than the tree. The item is taken in each
+    /// The fault, where the next item is one. `Missing` where no item is left, or the next isn't the tree. The item is taken in each
     /// case.
     pub fn tree_id(&mut self) -> Result<ObjectId, Error>
         ensures value { result ≡ first_tree (commit_items_left self.old) }
