@@ -22,7 +22,7 @@ use thiserror::Error;
 /// Where a parent's row is.
 #[derive(Clone, Copy, PartialEq, Eq, Debug)]
 pub enum ParentPlace {
-    /// The row of this number.
+    /// The row of this number: its place in the list of rows that are handed in, from 0.
     At(u32),
     /// No row: the graph is corrupt here.
     Fault,
@@ -37,7 +37,8 @@ pub struct Row {
     pub tree: ObjectId,
     /// The parents in the commit's order; `At` names a row by its place in the list of rows that are handed in.
     pub parents: Vec<ParentPlace>,
-    /// The generation. In a graph that agrees with a store it is greater than that of each parent.
+    /// The generation. In a graph that agrees with a store it is greater than that of each parent, and less than 4294967295, which
+    /// says that none is known.
     pub generation: u32,
     /// The committer's seconds since 1970-01-01 00:00 UTC.
     pub time: i64,
@@ -54,7 +55,7 @@ pub enum Place {
     Order(u32),
     /// The parent words of this row, or the overflow words that they name, are not as they should be.
     Parents(u32),
-    /// There are further words behind the last row's overflow list.
+    /// There are further words after the last row's overflow list.
     Overflow,
 }
 
@@ -76,6 +77,7 @@ pub enum GraphError {
     /// The bytes are not packed rows; the first place where they are not as they should be.
     #[error("not a packed commit-graph: {0:?}")]
     Packed(Place),
+    /// Memory ran out.
     #[error("out of memory")]
     Memory,
 }
@@ -103,16 +105,16 @@ impl<T: Drop> From<AllocFailed<T>> for GraphError {
     }
 }
 
-/// The number of a row, in the rising order of ids.
+/// The number of a row, in the rising order of ids, from 0.
 #[derive(Clone, Copy, PartialEq, Eq, PartialOrd, Ord, Hash, Debug)]
 pub struct Position(pub u32);
 
-/// A parent's place names no row.
+/// Says that a parent's place names no row, so the graph is corrupt there.
 #[derive(Clone, Copy, PartialEq, Eq, Debug, Error)]
 #[error("a parent's place in a commit-graph is corrupt")]
 pub struct ParentFault;
 
-/// The generation of a commit that has no row.
+/// The generation of a commit that has no row: none is known.
 pub const GENERATION_NUMBER_INFINITY: u32 = 0xFFFF_FFFF;
 
 /// The rows of a commit-graph, by their numbers in the rising order of ids.
@@ -179,8 +181,10 @@ impl Graph {
 
     /// The graph of these rows, whatever their order. The rows need not agree with any store.
     ///
-    /// Too many rows are refused first, then ids or trees of more than one kind, then an id of two rows, then a place
-    /// out of range; `Memory` comes where memory runs out.
+    /// # Errors
+    ///
+    /// The first that applies of `TooMany`, `MixedKinds`, `DuplicateId` and `PositionOutOfRange`. `Memory` when out of memory, which
+    /// may be before one of the others is found. The rows are dropped.
     pub fn new(alloc: Global, rows: Vec<Row>) -> Result<Graph, GraphError>
         ensures rows { IfOk result (λ graph. AreGraphRows graph × HasSameRows (rows_seen rows.items) graph) }
         ensures accepted { OnOk result (IsAccepted (rows_seen rows.items)) }
@@ -193,8 +197,11 @@ impl Graph {
         Ok(Graph { packed, layout })
     }
 
-    /// The graph of packed bytes, which it keeps as they are. Other bytes are refused with the first place that is not
-    /// as it should be. No memory is taken.
+    /// The graph of packed bytes, which it keeps as they are. No memory is taken.
+    ///
+    /// # Errors
+    ///
+    /// `Packed` with the first place that is not as it should be, and no other. The bytes are dropped.
     pub fn from_packed(packed: Vec<u8>) -> Result<Graph, GraphError>
         // Bytes that are accepted spell the graph's rows.
         ensures found { IfOk result (λ rows. AreGraphRows rows × (packed.items ≡ spelling rows)) }
@@ -209,14 +216,14 @@ impl Graph {
         }
     }
 
-    /// The one spelling of the rows.
+    /// The packed bytes of the rows: each list of rows has one spelling.
     pub fn packed(&self) -> &[u8]
         ensures { result.now ≡ spelling self.now }
     {
         self.packed.as_slice()
     }
 
-    /// The number of rows.
+    /// The number of rows. Their positions are the numbers below it.
     pub fn num_commits(&self) -> u32
         ensures count { result ≡ length self.now }
         ensures sound { AreGraphRows self.now }
@@ -224,7 +231,7 @@ impl Graph {
         self.layout.rows
     }
 
-    /// The commit of an id, by binary search.
+    /// The row of an id, found by binary search. None where the id has none.
     pub fn commit_by_id(&self, id: &ObjectId) -> Option<Commit<'_>>
         ensures row { option_map row_of_commit result ≡ row_of self.now id.now }
         ensures rows { IfSome result (λ commit. rows_of_commit commit ≡ self.now) }
@@ -242,7 +249,7 @@ impl Graph {
         None
     }
 
-    /// The commit at a position.
+    /// The row at a position, which must be below `num_commits`. The positions that `Commit::iter_parents` gives are.
     pub fn commit_at(&self, position: Position) -> Commit<'_>
         requires { position.0 < length self.now }
         ensures row { slice_get self.now position.0 ≡ Some (row_of_commit result) }

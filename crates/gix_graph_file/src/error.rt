@@ -96,10 +96,10 @@ pub enum Error {
     #[error("the id of row {0} isn't above the one before")]
     Order(u32),
     /// The parents of this row are not as they should be: there is a second and no first one; or the second word names words of `EDGE`
-    /// that aren't those behind the words of the row before, or that have no last one, or only one.
+    /// that aren't those after the words of the row before, or that have no last one, or only one.
     #[error("the parents of row {0} are damaged")]
     Parents(u32),
-    /// There are words in `EDGE` behind those of the last row.
+    /// There are words in `EDGE` after those of the last row.
     #[error("words are left in EDGE")]
     Edges,
     /// Memory ran out.

@@ -21,7 +21,7 @@ pub use trailer::has_its_hash;
 
 /// The rows of a commit-graph file as git writes it into `objects/info/commit-graph`, with ids of 20 or 32 bytes.
 ///
-/// A parent that is no position of a row is a fault's place in the graph. The counts of the fan-out but the last, the chunks
+/// A parent that is no position of a row is a fault's place in the graph. The counts of the fan-out except the last, the chunks
 /// that have no name in [`Chunk`], and the trailing hash are not looked at. A layer of a chain is no graph alone.
 ///
 /// Time and memory grow with the length of the file, whatever it says.

@@ -44,7 +44,11 @@ impl IdSet {
         self.ids.contains(id)
     }
 
-    /// Puts an id in, and says whether it is new. Only a new id takes memory; where memory runs out, the set stays as it was.
+    /// Puts an id in, and says whether it is new. Only a new id takes memory.
+    ///
+    /// # Errors
+    ///
+    /// `AllocError` when out of memory. The set is as it was, without the id.
     pub fn insert(&mut self, id: ObjectId) -> Result<bool, AllocError>
         ensures added { IfOk result (λ added. added ≡ not (set.contains self.old id)) }
         ensures ok { OnOk result (self.new ≡ set.insert self.old id) }
@@ -111,15 +115,18 @@ impl<T> IdMap<T> {
         }
     }
 
-    /// The value of an id.
+    /// The value of an id, and None where it has none.
     pub fn get(&self, id: &ObjectId) -> Option<&T>
         ensures { option_copied result ≡ map.get self.now id.now }
     {
         self.values.get(id)
     }
 
-    /// Gives an id a value, and returns the value that it had. Only a new id takes memory; where memory runs out, the map stays
-    /// as it was.
+    /// Gives an id a value, and returns the value that it had. Only a new id takes memory.
+    ///
+    /// # Errors
+    ///
+    /// `AllocError` when out of memory. The map is as it was, the id has no value, and the value that was handed in is dropped.
     pub fn insert(&mut self, id: ObjectId, value: T) -> Result<Option<T>, AllocError>
     where
         T: Drop,
@@ -146,7 +153,7 @@ impl<T> IdMap<T> {
         Some(mem::replace(place, value))
     }
 
-    /// Takes the value of an id out.
+    /// Takes the value of an id out and returns it. None where the id has none.
     pub fn remove(&mut self, id: &ObjectId) -> Option<T>
         ensures value { result ≡ map.get self.old id.now }
         ensures map { self.new ≡ map.remove self.old id.now }

@@ -16,7 +16,9 @@ pub mod hashtable;
 /// The kind of an id, which decides its length.
 #[derive(Clone, Copy, PartialEq, Eq, PartialOrd, Ord, Hash, Debug)]
 pub enum Kind {
+    /// SHA-1: ids of 20 bytes.
     Sha1,
+    /// SHA-256: ids of 32 bytes.
     Sha256,
 }
 
@@ -42,10 +44,13 @@ impl Kind {
     }
 }
 
-/// The id of an object. Ids are ordered by kind and then by their bytes, and print as hex digits in lower case.
+/// The id of an object. Ids are ordered by kind and then by their bytes, and print as hex digits in lower case. Nothing asks that an id
+/// is the hash of its object.
 #[derive(Clone, Copy, PartialEq, Eq, PartialOrd, Ord, Debug)]
 pub enum ObjectId {
+    /// The bytes of a SHA-1 id, in the order in which they are written.
     Sha1([u8; 20]),
+    /// The bytes of a SHA-256 id, in the order in which they are written.
     Sha256([u8; 32]),
 }
 
@@ -63,7 +68,11 @@ pub enum HexError {
 impl ObjectId {
     ghost use Rattle.gix_hash.specs.Id.{kind_of, bytes_of, id_from_bytes, id_from_hex, id_of_hex, is_same};
 
-    /// Reads an id of 40 or 64 hex digits, in either case. The length is tested before the digits.
+    /// Reads an id of 40 or 64 hex digits, in either case.
+    ///
+    /// # Errors
+    ///
+    /// `Length` where there are neither 40 nor 64 bytes, and otherwise `Digit` where one of them is no hex digit.
     pub fn from_hex(hex: &[u8]) -> Result<ObjectId, HexError>
         ensures { result ≡ id_from_hex hex.now }
     {

@@ -21,8 +21,8 @@ pub struct Signature<'a> {
 }
 
 impl Signature<'_> {
-    /// The seconds since 1970: behind the last `>` spaces, an optional `-` and decimal digits.
-    /// 0 where there is no `>`, no digit behind it, or a number out of the range of 64 bits.
+    /// The seconds since 1970-01-01 00:00 UTC. They come after the last `>`: spaces, an optional `-` and decimal digits.
+    /// 0 where there is no `>`, no digit there, or a number out of the range of 64 bits.
     pub fn seconds(&self) -> i64
         ensures { result ≡ seconds_of self.now.bytes.now }
     {
@@ -165,10 +165,11 @@ impl<'a> CommitRefIter<'a> {
         }
     }
 
-    /// Takes the next item: the id where it is the tree, and its fault where it is one.
+    /// Takes the next item, and returns the id where it is the tree.
     ///
     /// # Errors
-    /// `Missing` where there is no item left, or another than the tree. The item is taken then too.
+    /// The fault, where the next item is one. `Missing` where no item is left, or the next isn't the tree. The item is taken in each
+    /// case.
     pub fn tree_id(&mut self) -> Result<ObjectId, Error>
         ensures value { result ≡ first_tree (commit_items_left self.old) }
         ensures taken { commit_items_left self.new ≡ drop 1 (commit_items_left self.old) }

@@ -22,7 +22,7 @@ pub enum Error {
 }
 
 pub mod existing_iter {
-    //! Look-ups of objects that must be there.
+    //! Look-ups of objects that must exist.
     use crate::Kind;
     use gix_hash::ObjectId;
     use thiserror::Error;
@@ -36,13 +36,17 @@ pub mod existing_iter {
         /// The store has no object of this id.
         #[error("an object with id {oid} could not be found")]
         NotFound {
+            /// The id that was looked up.
             oid: ObjectId,
         },
         /// The store has an object of another kind at this id.
         #[error("expected an object of kind {expected:?} at {oid}, but it is of kind {actual:?}")]
         ObjectKind {
+            /// The id that was looked up.
             oid: ObjectId,
+            /// The kind that was asked for.
             expected: Kind,
+            /// The kind of the object that the store has.
             actual: Kind,
         },
         /// Memory ran out.
@@ -83,12 +87,19 @@ pub trait Find {
     ghost faulty: { Self → ObjectId → Type 0 };
 
     /// Looks an object up, puts its bytes into `buf` in place of what was there, and returns its kind. None says that the
-    /// store has no such object. After None or an error `buf` may hold anything.
+    /// store has no such object. After None `buf` may hold anything.
+    ///
+    /// # Errors
+    /// `Store` where the store fails, which it may at the ids that are `faulty` alone. `Memory` when out of memory. After each
+    /// `buf` may hold anything.
     fn find_into(&self, id: &ObjectId, buf: &mut Vec<u8>) -> Result<Option<Kind>, Error>
         ensures { FindsInto (map.get (objects self.now) id.now) (faulty self.now id.now) result buf.new.items };
 
-    /// Looks an object up, and lends its bytes from `buf`. None says that the store has no such object. After None, an error,
-    /// or the last use of what was lent, `buf` may hold anything.
+    /// Looks an object up, and lends its bytes from `buf`. None says that the store has no such object. After None, or the last
+    /// use of what was lent, `buf` may hold anything.
+    ///
+    /// # Errors
+    /// `Store` where the store fails, and `Memory` when out of memory. After each `buf` may hold anything.
     final fn try_find<'a>(
         &self,
         id: &ObjectId,
@@ -103,8 +114,11 @@ pub trait Find {
         }
     }
 
-    /// Looks an object of this kind up, and puts its bytes into `buf` in place of what was there. After an error `buf` may
-    /// hold anything.
+    /// Looks an object of this kind up, and puts its bytes into `buf` in place of what was there.
+    ///
+    /// # Errors
+    /// `NotFound` where the store has no object of this id, `ObjectKind` where the object is of another kind, `Store` where the
+    /// store fails, and `Memory` when out of memory. After each `buf` may hold anything.
     final fn find_kind_into(
         &self,
         id: &ObjectId,
@@ -127,8 +141,10 @@ pub trait Find {
         }
     }
 
-    /// Looks a commit up, and lends its items from `buf`. After an error, or the last use of what was lent, `buf` may hold
-    /// anything.
+    /// Looks a commit up, and lends its items from `buf`. After the last use of what was lent, `buf` may hold anything.
+    ///
+    /// # Errors
+    /// Those of `find_kind_into`. After each `buf` may hold anything.
     final fn find_commit_iter<'a>(
         &self,
         id: &ObjectId,
@@ -141,8 +157,10 @@ pub trait Find {
         Ok(CommitRefIter::from_bytes(buf, id.kind()))
     }
 
-    /// Looks a tree up, and lends its entries from `buf`. After an error, or the last use of what was lent, `buf` may hold
-    /// anything.
+    /// Looks a tree up, and lends its entries from `buf`. After the last use of what was lent, `buf` may hold anything.
+    ///
+    /// # Errors
+    /// Those of `find_kind_into`. After each `buf` may hold anything.
     final fn find_tree_iter<'a>(
         &self,
         id: &ObjectId,

@@ -11,9 +11,13 @@ pub mod tree;
 /// What an object is.
 #[derive(Clone, Copy, PartialEq, Eq, Debug)]
 pub enum Kind {
+    /// A folder: for each entry a mode, a name and an id.
     Tree,
+    /// The bytes of a file.
     Blob,
+    /// A commit: a tree, parents, an author, a committer and a message.
     Commit,
+    /// A name for another object, with a message. Nothing here reads its bytes.
     Tag,
 }
 

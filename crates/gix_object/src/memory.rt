@@ -15,9 +15,9 @@ use std::marker::Model;
 pub struct Stored {
     /// What the bytes are.
     pub kind: Kind,
-    /// The place of the first byte.
+    /// The place of the first byte, as a number of bytes from the front of the buffer.
     pub start: usize,
-    /// The place behind the last byte.
+    /// The place after the last byte: no less than `start`, and at most the length of the buffer.
     pub end: usize,
 }
 
@@ -71,7 +71,7 @@ impl MemoryStore {
         }
     }
 
-    /// A store of the objects that are at these places of a buffer. No byte is copied.
+    /// A store of the objects that are at these places of a buffer. Each place must be within the buffer. No byte is copied.
     pub fn over(bytes: Vec<u8>, objects: IdMap<Stored>) -> MemoryStore
         requires { AreWithin objects (length bytes.items) }
         ensures { result ≡ objects_at bytes.items objects }
@@ -83,7 +83,7 @@ impl MemoryStore {
     /// the store is dropped.
     ///
     /// # Errors
-    /// Out of memory. The store has the objects that it had.
+    /// `AllocError` when out of memory. The store has the objects that it had.
     pub fn insert(&mut self, id: ObjectId, kind: Kind, bytes: &[u8]) -> Result<(), AllocError>
         ensures ok { OnOk result (self.new ≡ map.insert self.old id (record { kind = kind; bytes = bytes.now })) }
         ensures err { OnErr result (self.new ≡ self.old) }

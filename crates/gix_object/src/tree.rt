@@ -29,6 +29,7 @@ impl EntryMode {
 /// An entry of a tree, borrowed from the tree's bytes.
 #[derive(Clone, Copy, PartialEq, Eq, Debug)]
 pub struct EntryRef<'a> {
+    /// The kind of file and its permissions.
     pub mode: EntryMode,
     /// The name, which holds no NUL. Nothing else is asked of it: it may be empty or hold a `/`.
     pub filename: BStr<'a>,
@@ -54,9 +55,9 @@ impl<'a> TreeRefIter<'a> {
         TreeRefIter { rest: bytes, kind }
     }
 
-    /// Where the entry that comes next begins in `buf`, the bytes that this iterator was made of, or any other bytes
-    /// that end with those that are left. An iterator over the bytes of `buf` from there on gives what this one still
-    /// would.
+    /// Where the next entry begins in `buf`, as a number of bytes from its front. `buf` must be the bytes that this iterator was
+    /// made of, or any other bytes that end with the bytes that are left. An iterator over the bytes of `buf` from there on gives
+    /// what this one still would.
     pub fn offset_to_next_entry(&self, buf: &[u8]) -> usize
         requires { IsEndOf (bytes_left self.now) buf.now }
         ensures offset { result + length (bytes_left self.now) ≡ length buf.now }

@@ -93,7 +93,7 @@ impl Model for HiddenIds {
 }
 
 impl HiddenIds {
-    /// No id.
+    /// An empty set of ids. It takes no memory.
     pub fn new(alloc: Global) -> HiddenIds
         ensures { result ≡ set.empty }
     {
@@ -264,7 +264,8 @@ pub struct Painting {
     pub rows_stand: bool,
 }
 
-/// Marks what the hidden tips reach: the tips themselves, and each parent of a commit that they reach and hidden tips don't.
+/// Marks ids that the hidden tips reach, and no others: all such ids that are tips, or parents of a commit that tips reach and hidden
+/// tips don't.
 /// It stops as soon as the rows say that these marks are whole: below, no row is read, and no commit that has one is looked up.
 ///
 /// # Errors

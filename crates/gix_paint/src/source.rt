@@ -1,4 +1,4 @@
-//! Where painting reads commits: by their rows as long as these are held, and else from the store.
+//! Where painting reads commits: by their rows as long as these are in use, and else from the store.
 ghost use Rattle.std.specs.Prelude.{◌≡◌, ◌∷◌, [], IfOk, IfErr};
 ghost use Rattle.gix_revwalk.specs.Commits.{time_of};
 ghost use Rattle.gix_paint.specs.Inside.Painter.{rows_in, held_graph, FailsAt, FailsAmong, ReadFails, Reads, ReadsParents, GivesParents, Knows};

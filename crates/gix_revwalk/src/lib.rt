@@ -156,7 +156,7 @@ impl<'buf, 'cache> Either<'buf, 'cache> {
 ///
 /// # Errors
 ///
-/// Only where the id has no row:
+/// Only where the id has no row, and after each of them `buf` may hold anything:
 /// - `NotFound` if the store has no object of this id, and `ObjectKind` if the object is no commit,
 /// - `Store` if the store can't read the object,
 /// - `Memory` when out of memory.
@@ -185,7 +185,7 @@ pub trait Predicate {
     /// Holds of a predicate that may be asked.
     ghost can_accept: { Self → Type 0 } = { λ _. Unit {0} };
 
-    /// From the first state, it may give this answer on the id and go on to the second.
+    /// From the first state, it may give this answer about the id and go on to the second.
     ghost answers: { Self → ObjectId → Bool → Self → Type 0 };
 
     /// Whether the commit of this id is given. A walk asks about no id twice.
@@ -195,7 +195,7 @@ pub trait Predicate {
         ensures again { can_accept self.new };
 }
 
-/// The predicate of a walk that walks every commit.
+/// The predicate that accepts every commit.
 #[derive(Clone, Copy, Debug, Default, PartialEq, Eq)]
 pub struct Unfiltered;
 

@@ -97,8 +97,11 @@ impl<K: Ord, T> PriorityQueue<K, T> {
 }
 
 impl<K: Ord + Drop, T: Drop> PriorityQueue<K, T> {
-    /// Puts in a value under a key. Values of equal keys stay. An error says that memory was refused: the queue is then
-    /// as it was, and the key and the value are dropped.
+    /// Puts in a value under a key. Values of equal keys stay.
+    ///
+    /// # Errors
+    ///
+    /// `AllocError` when out of memory. The queue is as it was, and the key and the value are dropped.
     pub fn insert(&mut self, key: K, value: T) -> Result<(), AllocError>
         ensures ok { OnOk result (IsPermutation ((key, value) ∷ self.old) self.new) }
         ensures err { OnErr result (self.new ≡ self.old) }

@@ -22,12 +22,12 @@ use gix_object::decode;
 use gix_object::find::{Find, existing_iter};
 use std::alloc::{AllocError, Global};
 
-/// The parents that a commit's items name, up to the first item behind them, and the fault that ended the reading.
+/// The parents that a commit's items name, up to the first item after them, and the fault that ended the reading.
 #[derive(Drop)]
 pub struct Scanned {
     /// The ids of the parents, in their order.
     pub parent_ids: ParentIds,
-    /// The fault, where no item behind the parents comes before it.
+    /// The fault, where no item after the parents comes before it.
     pub fault: Option<decode::Error>,
 }
 
@@ -69,7 +69,7 @@ pub fn scan(
     })
 }
 
-/// All parents that a commit's items name, up to the first item behind them, and the committer's time.
+/// All parents that a commit's items name, up to the first item after them, and the committer's time.
 #[derive(Drop)]
 pub struct Header {
     /// The ids of the parents, in their order.
@@ -174,12 +174,12 @@ pub struct RowRead {
     pub time: i64,
 }
 
-/// What the row of an id says, where there is one and rows are held. A row with a corrupt place drops the rows for good: they aren't
-/// held from then on. A row of at most one parent takes no memory.
+/// What the row of an id says, where there is one and `held` says that rows are in use. A row with a corrupt place drops the rows for
+/// good: they aren't in use from then on, and the answer is None. A row of at most one parent takes no memory.
 ///
 /// # Errors
 ///
-/// `AllocError` when out of memory. The rows are held if they were.
+/// `AllocError` when out of memory. The rows are in use if they were.
 pub fn read_row(
     alloc: Global,
     graph: Option<&Graph>,

@@ -53,12 +53,15 @@ use thiserror::Error;
 pub enum Sorting {
     /// Commits come in the order in which they are met.
     BreadthFirst,
-    /// Of the commits met, one of best commit time comes next.
+    /// Of the commits met, one of best commit time comes next. A commit without a row is looked up twice: for its time when it
+    /// is met, and for its parents when it is given.
     ByCommitTime(CommitTimeOrder),
-    /// The same without the commits that are older than `seconds` since 1970-01-01 00:00 UTC. No way leads through them.
+    /// The same without the commits that are older than `seconds`. The walk doesn't go on to their parents.
     /// Under `Parents::First` tips alone are tested.
     ByCommitTimeCutoff {
+        /// Which of two times comes first.
         order: CommitTimeOrder,
+        /// The least time that is given, in seconds since 1970-01-01 00:00 UTC.
         seconds: i64,
     },
 }
@@ -71,7 +74,8 @@ impl Default for Sorting {
     }
 }
 
-/// Why a walk gives no commit.
+/// Why a walk gives no commit, or why a call that makes or changes it fails. What is left after each: at [`Simple`] for `next`, else at
+/// the call.
 #[derive(Clone, Copy, Debug, PartialEq, Eq, Error)]
 pub enum Error {
     /// The commit could not be looked up.
@@ -162,13 +166,13 @@ impl<T: Drop> From<AllocFailed<T>> for Error {
 ///
 /// `next` gives an error in the place of a commit:
 /// - `Find` if the store hasn't the commit, or can't read it. In an order by time also `Find(Store)`, if the store fails at a parent that
-///   is asked for its time: the parents behind it aren't walked from this commit. The walk goes on with the other pending commits.
+///   is asked for its time: the parents after it aren't walked from this commit. The walk goes on with the other pending commits.
 /// - `ObjectDecode` if the commit's bytes are broken before its parents end. The walk goes on, also with the parents before the fault.
 /// - `HiddenGraph`, at the first step after `hide`, if a commit can't be read that painting has to read to know what is hidden. Nothing
 ///   follows.
 /// - `Memory` when out of memory. Nothing follows.
 ///
-/// Behind each error `commit_data` is empty.
+/// After each error `commit_data` is empty.
 #[derive(Drop)]
 pub struct Simple<F, P> {
     find: F,
@@ -287,7 +291,8 @@ impl<F: Find + Drop, P: Predicate + Drop> Simple<F, P> {
     }
 
     /// The order of the walk, in place of an earlier one. By time, each pending tip is read from the store for its time, and a
-    /// cutoff takes out those that are older: only if a parent list names such a tip again it may come back.
+    /// cutoff takes out those that are older: only if a parent list names such a tip again it may come back. Under `Parents::First`
+    /// the walk is breadth first in any case.
     ///
     /// # Errors
     ///
@@ -330,7 +335,8 @@ impl<F: Find + Drop, P: Predicate + Drop> Simple<F, P> {
         Ok(self)
     }
 
-    /// Which parents are walked, in place of an earlier choice. Under `First` the walk is breadth first whatever its sorting.
+    /// Which parents are walked, in place of an earlier choice. Under `First` the walk is breadth first whatever its sorting: no commit
+    /// has a time, and a cutoff tests the tips alone.
     pub fn parents(mut self, parents: Parents) -> Self
         ensures { result ≡ record self { parents = parents } }
     {
@@ -368,7 +374,7 @@ impl<F: Find + Drop, P: Predicate + Drop> Simple<F, P> {
         &self.text
     }
 
-    /// The items of that text.
+    /// The items of the text of `commit_data`. An empty text has none, so where a row gave the commit `committer` answers `Missing`.
     pub fn commit_iter(&self) -> CommitRefIter<'_>
         ensures { commit_items_left result ≡ commit_items self.now.text_kind self.now.text }
     {

@@ -17,7 +17,7 @@ use std::marker::Model;
 
 /// What a topological walk is built from: a store, tips and ends, and how it goes.
 ///
-/// A fresh one has no tips, no ends and no commit-graph, walks all parents in date order, and shows all commits.
+/// A fresh one has no tips, no ends and no commit-graph, walks all parents in date order, and gives all commits.
 ///
 /// A walk over what `tip` reaches and `merged` does not, one line of history after the other:
 ///
@@ -89,7 +89,7 @@ impl<F: Find + Drop> Builder<F, Unfiltered> {
     ///
     /// # Errors
     ///
-    /// `AllocError` where memory runs out.
+    /// `AllocError` when out of memory. The store, the tips and the ends are dropped.
     pub fn from_iters<T: IntoIterator<Item = ObjectId>, E: IntoIterator<Item = ObjectId>>(
         alloc: Global,
         find: F,
@@ -111,7 +111,7 @@ impl<F: Find + Drop> Builder<F, Unfiltered> {
         }
     }
 
-    /// The same walks, of which only the commits are shown that a predicate accepts. Commits that it refuses are walked too.
+    /// The same walks, of which only the commits are given that a predicate accepts. Commits that it refuses are walked too.
     pub fn with_predicate<P: Predicate>(self, predicate: P) -> Builder<F, P>
         ensures { result ≡ record { plan = self.plan; predicate = predicate } }
     {
@@ -139,11 +139,11 @@ impl<F: Find + Drop> Builder<F, Unfiltered> {
 }
 
 impl<F: Find + Drop, P: Predicate + Drop> Builder<F, P> {
-    /// More tips, after those given before. Repeated tips count once, at their first place.
+    /// More tips, after those of earlier calls. Repeated tips count once, at their first place.
     ///
     /// # Errors
     ///
-    /// `AllocError` where memory runs out.
+    /// `AllocError` when out of memory. The builder is dropped.
     pub fn with_tips<T: IntoIterator<Item = ObjectId>>(
         mut self,
         tips: T,
@@ -159,11 +159,11 @@ impl<F: Find + Drop, P: Predicate + Drop> Builder<F, P> {
         Ok(self)
     }
 
-    /// More ends, after those given before. An end and all that it reaches, by any parent, is read and not given.
+    /// More ends, after those of earlier calls. An end and all that it reaches, by any parent, is read and not given.
     ///
     /// # Errors
     ///
-    /// `AllocError` where memory runs out.
+    /// `AllocError` when out of memory. The builder is dropped.
     pub fn with_ends<E: IntoIterator<Item = ObjectId>>(
         mut self,
         ends: E,
@@ -205,12 +205,15 @@ impl<F: Find + Drop, P: Predicate + Drop> Builder<F, P> {
     }
 
     /// Reads all that tips and ends reach, as far down as the least generation of these, and makes the tips ready that have no child
-    /// in the walk.
+    /// in the walk. Without a commit-graph it reads the whole history of tips and ends, however few commits are drawn afterwards, and
+    /// keeps an entry in memory for each commit.
     ///
     /// # Errors
     ///
-    /// `Find` and `ObjectDecode` where an object can't be read: tips or ends reach it, or it is a parent of a tip that becomes ready
-    /// (where rows disagree with the store, it may be another object). `Memory`.
+    /// The builder is dropped, and:
+    /// - `Find` and `ObjectDecode` where an object can't be read: tips or ends reach it, or it is a parent of a tip that becomes ready
+    ///   (where rows disagree with the store, it may be another object),
+    /// - `Memory` when out of memory.
     pub fn build(self) -> Result<Topo<F, P>, Error>
         ensures { Built F.objects F.faulty P.answers self result }
     {

@@ -18,12 +18,13 @@ use std::marker::Model;
 use thiserror::Error;
 use walk::Walk;
 
-/// The order of a topological walk. In both no parent comes before all of its children.
+/// The order of a topological walk. In both every child comes before its parents. Among commits of one time the order may not be git's.
 #[derive(Clone, Copy, Debug, PartialEq, Eq)]
 pub enum Sorting {
-    /// Of the commits whose children were all taken, one of greatest commit time comes next.
+    /// Of the commits whose children were all taken, one of greatest commit time comes next, as in `git rev-list --date-order`.
     DateOrder,
-    /// Lines of history aren't intermixed: of those commits the one that became ready last comes next.
+    /// Lines of history aren't intermixed: of the commits whose children were all taken, the one comes next that became so last, as in
+    /// `git rev-list --topo-order`.
     TopoOrder,
 }
 
@@ -54,7 +55,7 @@ pub enum Error {
     /// The commit could not be looked up.
     #[error(transparent)]
     Find(existing_iter::Error),
-    /// The walk ran out of memory.
+    /// Memory ran out.
     #[error("out of memory")]
     Memory,
 }
@@ -113,7 +114,8 @@ impl<T: Drop> From<AllocFailed<T>> for Error {
 ///
 /// `next` answers `Find` or `ObjectDecode` where it can't read an object: tips or ends reach it, or it is a parent, walked or not, of
 /// a commit that becomes ready. Where a commit-graph disagrees with the store, it may be another object. Without a commit-graph it
-/// is a parent that isn't walked, unless the store failed. After an error no commit is given.
+/// is a parent that isn't walked, unless the store failed. `MissingIndegreeUnexpected` comes only where rows disagree, and `Memory`
+/// when out of memory. After an error no commit is given.
 ///
 /// After None and after an error `next` may be called again, whatever the predicate: it gives None, and doesn't ask the predicate.
 #[derive(Drop)]

@@ -25,10 +25,10 @@ pub enum Error {
     /// The delegate answered `Break`. Only `breadthfirst` gives this error; `depthfirst` answers `Ok` there.
     #[error("The delegate cancelled the operation")]
     Cancelled,
-    /// Behind the entries that were shown, a tree's bytes are no entry.
+    /// After the entries that were shown, a tree's bytes are no entry.
     #[error(transparent)]
     ObjectDecode(decode::Error),
-    /// The delegate answered `Continue(true)` at a tree that holds itself: one of the trees above this entry has its id.
+    /// The delegate answered `Continue(true)` at a tree that holds itself: one of the trees above this entry has its id, `oid`.
     #[error("the tree {oid} stands under itself")]
     Cycle { oid: ObjectId },
     /// Memory ran out, in the walk, in a look-up or in the delegate.
@@ -148,7 +148,7 @@ impl Queue {
     }
 }
 
-/// The memory that a walk works in. A later walk can use it again, whatever the walk before answered. It changes no answer.
+/// The memory that a walk works in. A later walk can use it again, whatever the earlier walk answered. It changes no answer.
 #[derive(Drop)]
 pub struct State {
     queue: Queue,
@@ -156,7 +156,7 @@ pub struct State {
 }
 
 impl State {
-    /// Takes no memory until a walk does.
+    /// An unused one. It takes no memory until a walk does.
     pub fn new(alloc: Global) -> State {
         State {
             queue: Queue::new(alloc),
@@ -215,16 +215,16 @@ fn show_all<V: Visit>(
 /// Calls on the delegate:
 /// - at each entry: `push_path_component` with its name, the visit, and, unless the walk ends there, `pop_path_component`;
 /// - then, for a tree to go into: `push_back_tracked_path_component` with the name, and `pop_path_component`;
-/// - when the turn of that tree comes, before it is looked up: `pop_front_tracked_path_and_set_current`.
+/// - when that tree is next, before it is looked up: `pop_front_tracked_path_and_set_current`.
 ///
 /// `root` is what was read of the root. Its id isn't known here, so a tree that has the root's id is entered like any other,
 /// and `Cycle` comes only where it holds itself again. The walk takes memory by the allocator of `state`; the first argument
 /// isn't used, and is there so that both walks are called alike.
 ///
 /// # Errors
-/// - `Find`: a tree whose turn came can't be looked up.
+/// - `Find`: a tree that is next can't be looked up.
 /// - `Cancelled`: the delegate answered `Break`.
-/// - `ObjectDecode`: behind the entries that were shown, the bytes of the root, or of a tree whose turn came, are no entry.
+/// - `ObjectDecode`: after the entries that were shown, the bytes of the root, or of a tree that was looked up, are no entry.
 /// - `Cycle`: the delegate answered `Continue(true)` at a tree, and a tree above the entry has the same id.
 /// - `Memory`: memory ran out, in the walk, in a look-up or in the delegate.
 ///

@@ -1,4 +1,4 @@
-//! A walk of trees in depth: the entries of a tree come right behind the tree's own entry.
+//! A walk of trees in depth: the entries of a tree come right after the tree's own entry.
 ghost use Rattle.std.specs.Prelude.{◌≡◌, ◌≤◌, ◌-◌, ◌∷◌, ◌++◌, [], OnOk, OnErr, take, reverse, length};
 ghost use Rattle.gix_hash.specs.Id.{is_among};
 ghost use Rattle.gix_object.specs.TreeRefIter.{entry_of};
@@ -18,7 +18,7 @@ use std::marker::Model;
 use std::mem;
 use std::ops::ControlFlow;
 
-/// The buffers for the bytes of trees. A later walk can use them again, whatever the walk before answered. They change no
+/// The buffers for the bytes of trees. A later walk can use them again, whatever the earlier walk answered. They change no
 /// answer.
 #[derive(Drop)]
 pub struct State {
@@ -35,7 +35,7 @@ impl Model for State {
 }
 
 impl State {
-    /// No buffers. Takes no memory until a walk does.
+    /// No buffers. It takes no memory until a walk does.
     pub fn new(alloc: Global) -> State
         ensures { result ≡ [] }
     {
@@ -199,7 +199,7 @@ fn keep(above: &mut Vec<Tree>, tree: Tree) -> Result<(), AllocError>
     Ok(())
 }
 
-/// Looks a tree up by its id and shows each of its entries. Behind an entry at which the delegate answered `Continue(true)`,
+/// Looks a tree up by its id and shows each of its entries. After an entry at which the delegate answered `Continue(true)`,
 /// the entry's tree is looked up and shown in the same way. A `Break` ends the walk, and the answer is `Ok`.
 ///
 /// Calls on the delegate:
@@ -212,7 +212,7 @@ fn keep(above: &mut Vec<Tree>, tree: Tree) -> Result<(), AllocError>
 /// # Errors
 /// - `Find`: the root, or a tree at which the delegate answered `Continue(true)`, can't be looked up. The delegate got no call
 ///   where it is the root.
-/// - `ObjectDecode`: behind the entries that were shown, a tree's bytes are no entry.
+/// - `ObjectDecode`: after the entries that were shown, a tree's bytes are no entry.
 /// - `Cycle`: the delegate answered `Continue(true)` at a tree, and a tree above the entry, maybe the root, has the same id.
 /// - `Memory`: memory ran out, in the walk, in a look-up or in the delegate.
 ///

@@ -27,6 +27,7 @@ pub enum Location {
 /// An entry, as it was recorded.
 #[derive(Debug, Drop)]
 pub struct Entry {
+    /// The kind of file and its permissions.
     pub mode: EntryMode,
     /// The entry's path from the root, its name alone, or nothing, as the recorder tracked it.
     pub filepath: BString,
@@ -38,7 +39,7 @@ impl Entry {
     /// An equal value.
     ///
     /// # Errors
-    /// `AllocError` where memory runs out.
+    /// `AllocError` when out of memory. This value is as it was.
     pub fn clone(&self) -> Result<Entry, AllocError>
         ensures { IfOk result (λ e. record_of_entry e ≡ record_of_entry self.now) }
     {
@@ -116,7 +117,7 @@ fn cut(path: &mut Vec<u8>)
 
 /// Records each entry that a walk shows, with its path, and goes into each tree.
 ///
-/// It keeps the current path, and a queue of the paths of trees whose turn is to come. A recorder that has followed a walk can
+/// It keeps the current path, and a queue of the paths of trees that the walk has yet to enter. A recorder that has followed a walk can
 /// follow another, and then keeps the earlier records; `depthfirst` begins with an empty path where the queue is empty, and
 /// `breadthfirst` goes on below the last path.
 ///
@@ -184,7 +185,7 @@ impl Recorder {
     /// A copy of the current path.
     ///
     /// # Errors
-    /// `AllocError` where memory runs out.
+    /// `AllocError` when out of memory. The recorder is as it was.
     pub fn path_clone(&self) -> Result<BString, AllocError>
         ensures { IfOk result (λ path. bstring_bytes path ≡ self.now.held.path) }
     {

@@ -12,17 +12,17 @@ use std::alloc::AllocError;
 use std::ops::ControlFlow;
 
 /// What a delegate answers to a visit: `Break` ends the walk, `Continue(true)` goes into the entry's tree, and
-/// `Continue(false)` goes on behind the entry. Where the entry is no tree, the walk goes on behind it at either.
+/// `Continue(false)` goes on with the next entry. Where the entry is no tree, the walk goes on with the next at either.
 pub type Action = ControlFlow<(), bool>;
 
 /// Watches a walk of trees. By the calls below a walk shows it each entry, and the names that lead there.
 ///
-/// A delegate that follows the names keeps a path, and a queue of the paths of trees whose turn is to come.
+/// A delegate that follows the names keeps a path, and a queue of the paths of trees that the walk has yet to enter.
 ///
 /// # Errors
 /// A call that answers `AllocError` ends the walk with `Memory`. The delegate gets no further call.
 pub trait Visit {
-    /// What a call may leave of the delegate.
+    /// What a call may leave of the delegate. Where nothing is to be proved of it, `ghost steps = { λ _ _ _. Unit {0} };` is enough.
     ghost steps: { Self → Call → Self → Type 0 };
 
     /// Makes the path that was queued last the current one.
@@ -37,11 +37,11 @@ pub trait Visit {
     fn pop_path_component(&mut self)
         ensures { steps self.old PopPath self.new };
 
-    /// Puts a name behind the path, and queues the path.
+    /// Puts a name at the end of the path, and queues the path.
     fn push_back_tracked_path_component(&mut self, component: &BStr<'_>) -> Result<(), AllocError>
         ensures { MatchResult result (λ _. steps self.old (PushBack (bstr_bytes component.now)) self.new) (λ _. steps self.old Refused self.new) };
 
-    /// Puts a name behind the path.
+    /// Puts a name at the end of the path.
     fn push_path_component(&mut self, component: &BStr<'_>) -> Result<(), AllocError>
         ensures { MatchResult result (λ _. steps self.old (PushPath (bstr_bytes component.now)) self.new) (λ _. steps self.old Refused self.new) };
 
