@@ -151,3 +151,9 @@ abbrev pub given_ids : List (Result Info Error) → List ObjectId
 given_ids [] = []
 given_ids (Ok info ∷ list) = info.id ∷ given_ids list
 given_ids (Err e ∷ list) = given_ids list
+
+-- the answers are commits and no faults: exactly the commits that the tips reach and the hidden tips don't, each once
+pub record GivesDifference (objects : Objects) (tips hidden_tips : List ObjectId) (answers : List (Result Info Error)) : Type 0 where
+  pub commits : (e : Error) → Contains answers (Err e) → ⊥
+  pub once : AreDistinct (given_ids answers)
+  pub exact : (i : ObjectId) → Contains (given_ids answers) i ↔ (Reaches (parents_of objects) tips i × (Reaches (parents_of objects) hidden_tips i → ⊥))

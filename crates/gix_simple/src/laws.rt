@@ -1,6 +1,6 @@
 //! Laws of `commit::Simple`, and of the commits that walks give.
 
-ghost use Rattle.gix_simple.specs.Statements.{MakesNewWalks, BuildsFreshWalks, NewWalksGiveBreadthFirst, PlainRunsAreInBreadthOrder, PlainRunsAreInTimeOrder, RunsAreInOrder, GivesEachOnce, info_cmp, BuildsAlike, HidesWhatIsReached, RowsLeaveTheIds, TellsTheGenerations, TimesFall, GivesNeverTwice, AsksNeverTwice, Ends, ReachIsDecided};
+ghost use Rattle.gix_simple.specs.Statements.{MakesNewWalks, BuildsFreshWalks, NewWalksGiveBreadthFirst, PlainRunsAreInBreadthOrder, PlainRunsAreInTimeOrder, RunsAreInOrder, GivesEachOnce, RunsGiveTheDifference, FaultlessRunsGiveTheDifference, info_cmp, BuildsAlike, HidesWhatIsReached, RowsLeaveTheIds, TellsTheGenerations, TimesFall, GivesNeverTwice, AsksNeverTwice, Ends, ReachIsDecided};
 ghost use Rattle.std.specs.Prelude.{◌≡◌};
 ghost use Rattle.gix_revwalk.specs.declared.Info.{Info as InfoRecord};
 
@@ -52,6 +52,19 @@ pub fn in_order<F: Find, P: Predicate>()
 /// the parents that it walks, where tips and parents are left out that are refused, hidden or older than the cutoff.
 pub fn each_once<F: Find, P: Predicate>()
     ensures { GivesEachOnce F.objects F.faulty P.answers }
+{}
+
+/// A walk that was built by any calls, none with a cutoff, goes through all parents, has a predicate that accepts every id, and is
+/// drawn to its end: it gives exactly the commits that its tips reach and its hidden tips don't, by all parents, each once, and no
+/// fault. Memory and the store don't fail, the rows agree with the store, and all that tips and hidden tips reach reads whole.
+pub fn difference<F: Find, P: Predicate>()
+    ensures { RunsGiveTheDifference F.objects F.faulty P.answers }
+{}
+
+/// A walk as `difference` asks, with hidden tips and without rows, and none of whose answers is a fault: it gives what `difference` says.
+/// Nothing more is asked of the store, of memory or of the history, since the first step reads all that tips and hidden tips reach.
+pub fn faultless_difference<F: Find, P: Predicate>()
+    ensures { FaultlessRunsGiveTheDifference F.objects F.faulty P.answers }
 {}
 
 /// Two walks that were built of the same tips by the same calls are alike, whatever rows and hidden tips each was given, where the
