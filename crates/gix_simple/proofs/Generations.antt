@@ -32,19 +32,9 @@ use Rattle.gix_hash.proofs.Ids.Membership.{no_member, Contains-here, Contains-th
 use Rattle.gix_paint.proofs.Invariant.{own_history}
 use Rattle.gix_revwalk.proofs.ReadsWhole.{row_stands, row_parents, corrupt_row}
 use Rattle.gix_revwalk.proofs.TextParents.{text_whole}
+use Rattle.gix_simple.proofs.Ends.{scan_by}
 use Rattle.gix_revwalk.proofs.Reached.{reaches_from}
 use Rattle.gix_hash.proofs.Lists.{only_member}
-
--- the parents that are scanned are those that are walked, of all that are named
-scan_by : (m : Parents) (items : List (Result Item DecodeError)) → (scanned m items).0 ≡ by_mode m (scanned mode.All items).0
-scan_by mode.All items = refl
-scan_by mode.First [] = refl
-scan_by mode.First (Err e ∷ items) = refl
-scan_by mode.First (Ok (Tree i) ∷ items) = scan_by mode.First items
-scan_by mode.First (Ok (Parent i) ∷ items) = refl
-scan_by mode.First (Ok (Author line) ∷ items) = refl
-scan_by mode.First (Ok (Committer signature) ∷ items) = refl
-scan_by mode.First (Ok (Rest bytes) ∷ items) = refl
 
 -- one more becomes pending
 holds_more : (o : Option CommitTimeOrder) (old new : List Pending) (p : Pending) → Holds o (old ++ p ∷ []) new → (i : ObjectId) → Contains (ids_of new) i → Contains (ids_of old) i ⊎ (p.id ≡ i)

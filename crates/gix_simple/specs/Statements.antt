@@ -176,9 +176,8 @@ module _ {F P : Type 0} (objects : F → Objects) (faulty : F → ObjectId → T
   -- whatever faults come, no id is given twice
   abbrev pub GivesNeverTwice : Type 0
   GivesNeverTwice =
-      (walk new : SimpleWalk F P) (list : List (Result Info Error))
-      → AreDistinct (ids_of walk.pending)
-      → ((i : ObjectId) → Contains (ids_of walk.pending) i → set.contains walk.seen i ≡ true)
+      (store : F) (predicate : P) (tips : List ObjectId) (walk new : SimpleWalk F P) (list : List (Result Info Error))
+      → IsBuilt objects faulty answers store predicate tips walk
       → Yields (Next objects faulty answers) walk list new
       → AreDistinct (given_ids list)
 

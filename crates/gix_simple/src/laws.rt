@@ -100,19 +100,19 @@ pub fn times_fall<F: Find, P: Predicate>()
     ensures { TimesFall F.objects F.faulty P.answers }
 {}
 
-/// A walk that was fresh gives no id twice, whatever faults come and wherever the caller stops.
+/// A walk that was built gives no id twice, whatever its predicate answers, whatever faults come, and wherever the caller stops.
 pub fn never_twice<F: Find, P: Predicate>()
     ensures { GivesNeverTwice F.objects F.faulty P.answers }
 {}
 
 /// A walk that was built asks about no id twice, whatever faults come and wherever the caller stops, and only about tips and ids that
-/// rows and stored texts name: the predicate's state is a run of its own steps over such ids.
+/// rows and the texts of stored commits name: the predicate's state is a run of its own steps over such ids.
 pub fn asks_once<F: Find, P: Predicate>()
     ensures { AsksNeverTwice F.objects F.faulty P.answers }
 {}
 
 /// Every walk ends, whatever faults come: however many answers are drawn, there is at most one for each pending commit, and for each
-/// id not seen that rows or stored texts name.
+/// id not seen that rows or the texts of stored commits name.
 pub fn ends<F: Find, P: Predicate>()
     ensures { Ends F.objects F.faulty P.answers }
 {}
