@@ -160,7 +160,7 @@ module _ {F P : Type 0} (objects : F → Objects) (faulty : F → ObjectId → T
   TellsTheGenerations =
       (walk new : SimpleWalk F P) (list : List (Result Info Error))
       → Yields (Next objects faulty answers) walk list new
-      → TellsGenerations objects walk list
+      → TellsGenerations objects faulty walk list
 
   -- newest first, where no parent is newer than its child
   abbrev pub TimesFall : Type 0

@@ -87,9 +87,10 @@ pub fn rows_agree<F: Find, P: Predicate>()
 {}
 
 /// The generations that are given are the generations of the rows, and none for a commit without a row, up to where a corrupt row
-/// drops the rows; from there on none is given. Where the rows agree with the store, either the first answer from there on is about
-/// the commit with the corrupt row, and pending commits reach it by the parents that are walked, as texts name them; or painting read
-/// the corrupt row, and no generation is given at all. It holds of any walk, wherever the caller stops, and whatever faults come.
+/// drops the rows; from there on none is given. Where the rows agree with the store, either the first answer from there on is the
+/// commit with the corrupt row or a fault of it, and pending commits reach it by the parents that are walked, as texts name them; or
+/// painting read the corrupt row, and no generation is given at all. It holds of any walk, wherever the caller stops, and whatever
+/// faults come.
 pub fn tells<F: Find, P: Predicate>()
     ensures { TellsTheGenerations F.objects F.faulty P.answers }
 {}
