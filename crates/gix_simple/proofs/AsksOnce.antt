@@ -14,11 +14,12 @@ use Rattle.gix_hash.specs.Id.{is_same, is_among, kind_of}
 use Rattle.gix_object.specs.Object.{Objects}
 use Rattle.gix_object.specs.CommitItems.{commit_items}
 use Rattle.gix_commitgraph.specs.Rows.{row_of}
+use Rattle.gix_revwalk.specs.Commits.{by_mode}
 use Rattle.gix_revwalk.specs.declared.Info.{Info}
 use Rattle.gix_simple.specs.declared.Error.{Error}
 use Rattle.gix_revwalk.specs.declared.Pending.{Pending}
 use Rattle.gix_simple.specs.Walk.{SimpleWalk, Treated, unrowed, asked, IsNew, Asks, remembers, asks, Treats, hidden, known, refused, accepted, store_fails, no_memory, no_memory_after, TreatsAll, none, more, stops, Concludes, given, broken, Takes, by_row, by_store, not_found, Steps, ended, took, painted, Next, unhidden, paints, faulty_history}
-use Rattle.gix_revwalk.specs.Texts.{scanned}
+use Rattle.gix_revwalk.specs.Texts.{text_parents}
 use Rattle.gix_simple.specs.Building.{outdated, timed, IsBuilt, made, breadth_first, by_time, hides, walks, reads}
 use Rattle.gix_revwalk.specs.Ids.{AreDistinct}
 use Rattle.gix_simple.specs.Laws.{named_in}
@@ -30,6 +31,7 @@ use Rattle.gix_hash.proofs.Ids.Membership.{id_total, among-append, among_from, a
 use Rattle.gix_revwalk.proofs.NewIds.{among_flat}
 use Rattle.gix_revwalk.proofs.Rows.{found_entry, ids_in_rows, kept_either}
 use Rattle.gix_revwalk.proofs.ReadsWhole.{walked_within}
+use Rattle.gix_simple.proofs.Ends.{scan_by}
 use Rattle.gix_hash.proofs.Lists.{only_member}
 
 asks_then : {P : Type 0} {answers : P → ObjectId → Bool → P → Type 0} {p q r : P} {ids : List ObjectId} {i : ObjectId} {answer : Bool} → AsksAll answers p ids q → answers q i answer r → AsksAll answers p (ids ++ i ∷ []) r
@@ -71,10 +73,10 @@ module _ {F P : Type 0} (objects : F → Objects) (faulty : F → ObjectId → T
   names_then {w} {v} s n i m = n i (go s.rows)
     where
       texts : List ObjectId
-      texts = flat_map (λ entry. (scanned w.parents (commit_items (kind_of entry.0) entry.1.bytes)).0) (map_of.entries (objects w.store))
+      texts = flat_map (λ entry. by_mode w.parents (text_parents entry.0 entry.1)) (map_of.entries (objects w.store))
 
       all : is_among i (map (λ row. row.id) v.rows ++ texts) ≡ true
-      all = sym (λ k. is_among i (map (λ row. row.id) v.rows ++ flat_map (λ entry. (scanned (s.parents k) (commit_items (kind_of entry.0) entry.1.bytes)).0) (map_of.entries (objects (s.store k))))) ∙ m
+      all = sym (λ k. is_among i (map (λ row. row.id) v.rows ++ flat_map (λ entry. by_mode (s.parents k) (text_parents entry.0 entry.1)) (map_of.entries (objects (s.store k))))) ∙ m
 
       go : (v.rows ≡ w.rows) ⊎ (v.rows ≡ []) → is_among i (named_in objects w) ≡ true
       go (inl e) = ap (λ rows. is_among i (map (λ row. row.id) rows ++ texts)) (sym e) ∙ all
@@ -140,7 +142,7 @@ module _ {F P : Type 0} (objects : F → Objects) (faulty : F → ObjectId → T
       let found : Contains (map_of.entries (objects w.store)) (p.id, record { kind = object.Commit; bytes = bytes }) = found_entry (map_of.entries (objects w.store)) p.id _ (sym (map_of.get-entries (objects w.store) p.id) ∙ e) in
       let left : SameSource w (unrowed w p.id) = record { store = refl; parents = refl; rows = kept_either w.rows (row_of w.rows p.id) } in
       let k = all_asked false treats (λ i m.
-      n i (among-append i (map (λ row. row.id) w.rows) _ ∙ or_right (is_among i (map (λ row. row.id) w.rows)) _ (among_flat (λ entry. (scanned w.parents (commit_items (kind_of entry.0) entry.1.bytes)).0) (map_of.entries (objects w.store)) _ i found (among_from i _ m)))) (same_asked refl refl refl a) in
+      n i (among-append i (map (λ row. row.id) w.rows) _ ∙ or_right (is_among i (map (λ row. row.id) w.rows)) _ (among_flat (λ entry. by_mode w.parents (text_parents entry.0 entry.1)) (map_of.entries (objects w.store)) _ i found (among_from i _ (subst (λ ids. Contains ids i) (scan_by w.parents (commit_items (kind_of p.id) bytes)) m))))) (same_asked refl refl refl a) in
       let l = concluded p.id _ _ _ _ _ walk concludes k.0 in
       (l.0, source_then left (source_then k.1 l.1))
   takes_asked w p (not_found u fault) n a = (same_asked refl refl refl a, record { store = refl; parents = refl; rows = kept_either w.rows (row_of w.rows p.id) })

@@ -1,8 +1,10 @@
--- A walk that was made of some tips, and whose order was chosen, is fresh.
-use Rattle.std.specs.Prelude.{◌≡◌, ◌⊎◌, ◌≤◌, ℤ, List, [], ◌∷◌, filter, Bool, true, false, not, ◌&&◌, cond, Option, Some, Contains}
+-- A walk that was made of some tips, and whose order was chosen, is fresh, and gives no id twice.
+use Rattle.std.specs.Prelude.{◌≡◌, ◌⊎◌, ◌+◌, ◌≤◌, ℤ, List, [], ◌∷◌, filter, Bool, true, false, not, ◌&&◌, cond, Option, Some, Result, Contains}
 use Rattle.std.proofs.Common.{refl, sym, ap, subst, inl, inr, ⊎_elim, ◌∙◌, arith}
 use Rattle.std.proofs.lemmas.Bool.{false≢true, and_parts, or_cases}
+use Rattle.std.proofs.Math.Bool.{and-true}
 use Rattle.std.specs.FinSet as set
+use Rattle.std.specs.Iterator.{Yields}
 use Rattle.gix_hash.specs.declared.ObjectId.{ObjectId}
 use Rattle.gix_hash.specs.Id.{is_among}
 use Rattle.gix_object.specs.Object.{Objects}
@@ -11,16 +13,18 @@ use Rattle.gix_revwalk.specs.declared.Parents.{Parents}
 use Rattle.gix_revwalk.specs.declared.Parents.TheVariants as mode
 use Rattle.gix_revwalk.specs.declared.CommitTimeOrder.{CommitTimeOrder}
 use Rattle.gix_revwalk.specs.declared.Pending.{Pending}
+use Rattle.gix_revwalk.specs.declared.Info.{Info}
+use Rattle.gix_simple.specs.declared.Error.{Error}
 use Rattle.gix_simple.specs.declared.Sorting.{Sorting}
 use Rattle.gix_simple.specs.declared.Sorting.TheVariants as by
 use Rattle.gix_revwalk.specs.Commits.{time_of}
-use Rattle.gix_simple.specs.Walk.{SimpleWalk, time_order, cutoff, is_older, IsMade}
-use Rattle.gix_revwalk.specs.Ids.{ids_of}
+use Rattle.gix_simple.specs.Walk.{SimpleWalk, time_order, cutoff, is_older, IsMade, Next}
+use Rattle.gix_revwalk.specs.Ids.{ids_of, AreDistinct}
 use Rattle.gix_revwalk.specs.Asking.{AnswersBy}
-use Rattle.gix_simple.specs.Laws.{IsFresh}
+use Rattle.gix_simple.specs.Laws.{IsFresh, given_ids}
 use Rattle.gix_simple.specs.Building.{IsSortedByTime, timed, recent, outdated, IsBuilt, made, breadth_first, by_time, hides, walks, reads}
-use Rattle.gix_revwalk.proofs.NewIds.{times, among-filter, times_once}
-use Rattle.gix_simple.proofs.NeverTwice.{once_times, times-filter}
+use Rattle.gix_revwalk.proofs.NewIds.{times, among-filter, times_none, times_once}
+use Rattle.gix_simple.proofs.NeverTwice.{once_times, times-filter, IsSole, sole_all, drawn_once}
 use Rattle.gix_simple.proofs.MadeOfTips.{is_new_walk, pending_is}
 
 in_force : (m : Parents) (by : Sorting) (order : CommitTimeOrder) → time_order m by ≡ Some order → time_order mode.All by ≡ Some order
@@ -172,3 +176,38 @@ module _ {F P : Type 0} (objects : F → Objects) (faulty : F → ObjectId → T
   -- the law
   pub built : (tips : List ObjectId) (walk : SimpleWalk F P) → IsBuilt objects faulty answers store predicate tips walk → IsFresh objects walk accepts × AnswersBy answers walk.predicate accepts × (walk.store ≡ store)
   built tips walk b = let w = built_all tips b in (fresh_of walk w, w.tested, w.same_store)
+
+module _ {F P : Type 0} (objects : F → Objects) (faulty : F → ObjectId → Type 0) (answers : P → ObjectId → Bool → P → Type 0) where
+  -- whatever the predicate answers, sorting leaves nothing pending twice, and nothing that isn't seen
+  sorted_sole : (old new : SimpleWalk F P) (sorting : Sorting) → IsSole objects faulty answers [] old → IsSortedByTime objects old sorting new → IsSole objects faulty answers [] new
+  sorted_sole old new sorting sole s = λ j. go j (is_older (time_of found j) limit) refl
+    where
+      limit : Option ℤ
+      limit = cutoff mode.All sorting
+
+      found : Objects
+      found = objects old.store
+
+      go : (j : ObjectId) (o : Bool) → is_older (time_of found j) limit ≡ o → times j (ids_of new.pending) + 0 ≤ cond (set.contains new.seen j) 1 0
+      go j true e =
+          let none : times j (ids_of new.pending) ≡ 0 = ap (λ ps. times j (ids_of ps)) s.pending ∙ times_none j (ids_of (recent limit (timed found old.pending))) (recent_among found limit old.pending j ∙ ap (λ o. not o && is_among j (ids_of old.pending)) e) in
+          omega arith
+      go j false e =
+          let f : times j (ids_of (recent limit (timed found old.pending))) ≤ times j (ids_of (timed found old.pending)) = times-filter (λ p. not (is_older p.time limit)) (timed found old.pending) j in
+          let t : times j (ids_of (timed found old.pending)) ≡ times j (ids_of old.pending) = ap (times j) (timed_ids found limit old.pending) in
+          let n : times j (ids_of new.pending) ≡ times j (ids_of (recent limit (timed found old.pending))) = ap (λ ps. times j (ids_of ps)) s.pending in
+          let k : times j (ids_of old.pending) + 0 ≤ cond (set.contains old.seen j) 1 0 = sole j in
+          let seen : set.contains new.seen j ≡ set.contains old.seen j = s.seen j ∙ ap (λ o. set.contains old.seen j && not o) (outdated_among found limit old.pending j ∙ ap (λ o. o && is_among j (ids_of old.pending)) e) ∙ and-true (set.contains old.seen j) in
+          subst (λ b. times j (ids_of new.pending) + 0 ≤ cond b 1 0) (sym seen) (omega arith)
+
+  built_sole : {store : F} {predicate : P} {tips : List ObjectId} {walk : SimpleWalk F P} → IsBuilt objects faulty answers store predicate tips walk → IsSole objects faulty answers [] walk
+  built_sole (made m) = sole_all objects faulty answers [] false m (λ j. omega arith)
+  built_sole (breadth_first b) = built_sole b
+  built_sole (by_time {walk = walk} {new = new} {by = sorting} b s) = sorted_sole walk new sorting (built_sole b) s
+  built_sole (hides b) = built_sole b
+  built_sole (walks b) = built_sole b
+  built_sole (reads b) = built_sole b
+
+  -- the law
+  pub never_twice : (store : F) (predicate : P) (tips : List ObjectId) (walk new : SimpleWalk F P) (list : List (Result Info Error)) → IsBuilt objects faulty answers store predicate tips walk → Yields (Next objects faulty answers) walk list new → AreDistinct (given_ids list)
+  never_twice store predicate tips walk new list b drawn = drawn_once objects faulty answers walk new list (built_sole b) drawn

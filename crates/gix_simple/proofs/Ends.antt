@@ -1,5 +1,5 @@
 -- Every walk ends: each answer lowers how many answers are left.
-use Rattle.std.specs.Prelude.{◌≡◌, ◌≢◌, ◌⊎◌, ◌+◌, ◌≤◌, ℕ, suc, ℤ, List, [], ◌∷◌, ◌++◌, map, filter, length, Bool, true, false, not, ◌||◌, cond, Option, Some, None, Result, Contains}
+use Rattle.std.specs.Prelude.{◌≡◌, ◌≢◌, ◌⊎◌, ◌+◌, ◌≤◌, ℕ, suc, ℤ, List, [], ◌∷◌, ◌++◌, map, filter, length, Bool, true, false, not, ◌||◌, cond, Option, Some, None, Result, Ok, Err, Contains}
 use Rattle.std.proofs.Common.{refl, sym, ap, subst, inl, inr, ⊎_elim, ◌∙◌, arith, length-append}
 use Rattle.std.proofs.lemmas.List.Sorted.{length_permutation}
 use Rattle.std.proofs.lemmas.Bool.{true≢false, or_right, or_left}
@@ -11,20 +11,34 @@ use Rattle.gix_object.specs.declared.Kind.TheVariants as object
 use Rattle.gix_object.specs.declared.decode.Error.{Error as DecodeError}
 use Rattle.gix_hash.specs.Id.{is_same, is_among, kind_of}
 use Rattle.gix_object.specs.Object.{Objects}
-use Rattle.gix_object.specs.CommitItems.{commit_items}
+use Rattle.gix_object.specs.CommitItems.{Item, Tree, Parent, Author, Committer, Rest, commit_items}
 use Rattle.gix_commitgraph.specs.Rows.{GraphRow, row_of}
+use Rattle.gix_revwalk.specs.Commits.{by_mode}
 use Rattle.gix_revwalk.specs.declared.Info.{Info}
+use Rattle.gix_revwalk.specs.declared.Parents.{Parents}
+use Rattle.gix_revwalk.specs.declared.Parents.TheVariants as mode
 use Rattle.gix_revwalk.specs.declared.CommitTimeOrder.{CommitTimeOrder}
 use Rattle.gix_simple.specs.declared.Error.{Error}
 use Rattle.gix_revwalk.specs.declared.Pending.{Pending}
 use Rattle.gix_simple.specs.Walk.{SimpleWalk, Treated, Holds, time_order, cutoff, unrowed, asked, Enqueues, dropped, enqueued, IsNew, Treats, hidden, known, refused, accepted, store_fails, no_memory, no_memory_after, TreatsAll, none, more, stops, Concludes, given, broken, Takes, by_row, by_store, not_found, Chooses, first, best, Steps, took, painted, Next, unhidden, paints, faulty_history}
 use Rattle.gix_revwalk.specs.RowParents.{kept_rows}
-use Rattle.gix_revwalk.specs.Texts.{scanned}
+use Rattle.gix_revwalk.specs.Texts.{scanned, text_parents}
 use Rattle.gix_simple.specs.Laws.{named_in, answers_left}
 use Rattle.gix_hash.proofs.Ids.Membership.{id_total, same_is, among-append, among_from, Contains-here, Contains-there}
 use Rattle.gix_revwalk.proofs.NewIds.{fresh, fresh_agree, new_less, among_flat}
 use Rattle.gix_revwalk.proofs.ReadsWhole.{walked_within}
 use Rattle.gix_revwalk.proofs.Rows.{kept_either, ids_in_rows, found_entry}
+
+-- the parents that are scanned are those that are walked, of all that are named
+pub scan_by : (m : Parents) (items : List (Result Item DecodeError)) → (scanned m items).0 ≡ by_mode m (scanned mode.All items).0
+scan_by mode.All items = refl
+scan_by mode.First [] = refl
+scan_by mode.First (Err e ∷ items) = refl
+scan_by mode.First (Ok (Tree i) ∷ items) = scan_by mode.First items
+scan_by mode.First (Ok (Parent i) ∷ items) = refl
+scan_by mode.First (Ok (Author line) ∷ items) = refl
+scan_by mode.First (Ok (Committer signature) ∷ items) = refl
+scan_by mode.First (Ok (Rest bytes) ∷ items) = refl
 
 -- an id more among the old
 one_less : (s : ObjectId → Bool) (xs : List ObjectId) (i : ObjectId) → s i ≡ false → length (fresh s xs) ≤ suc (length (fresh (λ j. is_same j i || s j) xs))
@@ -147,7 +161,7 @@ module _ {F P : Type 0} (objects : F → Objects) (faulty : F → ObjectId → T
       let named : List ObjectId = named_in objects (record w { rows = rows }) in
       let found : Contains (map_of.entries (objects w.store)) (p.id, record { kind = object.Commit; bytes = bytes }) = found_entry (map_of.entries (objects w.store)) p.id _ (sym (map_of.get-entries (objects w.store) p.id) ∙ e) in
       let a : Spends named (unrowed w p.id) walk = all_spend named false treats (λ i n.
-      among-append i (map (λ row. row.id) rows) _ ∙ or_right (is_among i (map (λ row. row.id) rows)) _ (among_flat (λ entry. (scanned w.parents (commit_items (kind_of entry.0) entry.1.bytes)).0) (map_of.entries (objects w.store)) _ i found (among_from i _ n))) in
+      among-append i (map (λ row. row.id) rows) _ ∙ or_right (is_among i (map (λ row. row.id) rows)) _ (among_flat (λ entry. by_mode w.parents (text_parents entry.0 entry.1)) (map_of.entries (objects w.store)) _ i found (among_from i _ (subst (λ ids. Contains ids i) (scan_by w.parents (commit_items (kind_of p.id) bytes)) n)))) in
       let b : Spends named (unrowed w p.id) new = spends_then named (unrowed w p.id) walk new a (concluded_left named p.id _ _ _ _ _ walk concludes) in
       rows_go w new rows b.store b.parents b.rows (kept_either w.rows (row_of w.rows p.id)) b.less
   takes_left w p (not_found u fault) = rows_go w (record (unrowed w p.id) { text = []; text_kind = kind_of p.id }) (kept_rows w.rows (row_of w.rows p.id)) refl refl refl (kept_either w.rows (row_of w.rows p.id)) (Rattle.std.proofs.Common.le_refl _)

@@ -6,11 +6,14 @@ use Rattle.std.proofs.Math.Path.{transport}
 use Rattle.std.proofs.lemmas.List.{map-append}
 use Rattle.std.proofs.lemmas.List.Sorted.{length_permutation, Contains-permutation, IsPermutation-map, IsPermutation-sym}
 use Rattle.std.proofs.lemmas.List.Elements.{recursion_from_All, All-from_recursion, Contains-append_cases}
+use Rattle.std.specs.FinMap as map_of
 use Rattle.std.specs.FinSet as set
 use Rattle.std.specs.Iterator.{Yields}
 use Rattle.gix_hash.specs.declared.ObjectId.{ObjectId}
+use Rattle.gix_object.specs.declared.Kind.TheVariants as object
 use Rattle.gix_object.specs.declared.decode.Error.{Error as DecodeError}
-use Rattle.gix_object.specs.CommitItems.{Item, Tree, Parent, Author, Committer, Rest, commit_items}
+use Rattle.gix_object.specs.declared.find.existing_iter.Error.TheVariants as existing
+use Rattle.gix_object.specs.CommitItems.{commit_items}
 use Rattle.gix_hash.specs.Id.{kind_of}
 use Rattle.gix_object.specs.Object.{Objects}
 use Rattle.gix_commitgraph.specs.Rows.{GraphRow, row_of}
@@ -19,11 +22,12 @@ use Rattle.gix_revwalk.specs.declared.Parents.{Parents}
 use Rattle.gix_revwalk.specs.declared.Parents.TheVariants as mode
 use Rattle.gix_revwalk.specs.declared.CommitTimeOrder.{CommitTimeOrder}
 use Rattle.gix_simple.specs.declared.Error.{Error}
+use Rattle.gix_simple.specs.declared.Error.TheVariants as error
 use Rattle.gix_revwalk.specs.declared.Pending.{Pending}
 use Rattle.gix_revwalk.specs.Agreeing.{IsAgreeing}
 use Rattle.gix_revwalk.specs.Commits.{ReadsWhole, by_mode}
 use Rattle.gix_hash.specs.Reach.{Reaches, start, step}
-use Rattle.gix_simple.specs.Walk.{SimpleWalk, Treated, Holds, time_order, unrowed, Treats, hidden, known, refused, accepted, dropped, enqueued, store_fails, no_memory, no_memory_after, TreatsAll, none, more, stops, Concludes, given, broken, Takes, by_row, by_store, not_found, Chooses, first, best, Steps, took, painted, Next, unhidden, paints, faulty_history}
+use Rattle.gix_simple.specs.Walk.{SimpleWalk, Treated, StoreFails, Holds, time_order, unrowed, Treats, hidden, known, refused, accepted, dropped, enqueued, store_fails, no_memory, no_memory_after, TreatsAll, none, more, stops, Concludes, given, broken, Takes, by_row, by_store, not_found, Chooses, first, best, Steps, took, painted, Next, unhidden, paints, faulty_history}
 use Rattle.gix_revwalk.specs.Texts.{scanned, text_next, next_in}
 use Rattle.gix_revwalk.specs.RowParents.{ids_at, rows_if, kept_rows, IsUnrowed}
 use Rattle.gix_revwalk.specs.Ids.{ids_of}
@@ -32,19 +36,9 @@ use Rattle.gix_hash.proofs.Ids.Membership.{no_member, Contains-here, Contains-th
 use Rattle.gix_paint.proofs.Invariant.{own_history}
 use Rattle.gix_revwalk.proofs.ReadsWhole.{row_stands, row_parents, corrupt_row}
 use Rattle.gix_revwalk.proofs.TextParents.{text_whole}
+use Rattle.gix_simple.proofs.Ends.{scan_by}
 use Rattle.gix_revwalk.proofs.Reached.{reaches_from}
 use Rattle.gix_hash.proofs.Lists.{only_member}
-
--- the parents that are scanned are those that are walked, of all that are named
-scan_by : (m : Parents) (items : List (Result Item DecodeError)) → (scanned m items).0 ≡ by_mode m (scanned mode.All items).0
-scan_by mode.All items = refl
-scan_by mode.First [] = refl
-scan_by mode.First (Err e ∷ items) = refl
-scan_by mode.First (Ok (Tree i) ∷ items) = scan_by mode.First items
-scan_by mode.First (Ok (Parent i) ∷ items) = refl
-scan_by mode.First (Ok (Author line) ∷ items) = refl
-scan_by mode.First (Ok (Committer signature) ∷ items) = refl
-scan_by mode.First (Ok (Rest bytes) ∷ items) = refl
 
 -- one more becomes pending
 holds_more : (o : Option CommitTimeOrder) (old new : List Pending) (p : Pending) → Holds o (old ++ p ∷ []) new → (i : ObjectId) → Contains (ids_of new) i → Contains (ids_of old) i ⊎ (p.id ≡ i)
@@ -141,9 +135,22 @@ module _ {F P : Type 0} (objects : F → Objects) (faulty : F → ObjectId → T
   failed_untold (Ok info) f = absurd f
   failed_untold (Err e) f = tt
 
-  about_as : (i : ObjectId) (generation : Option ℕ) (answer : Result Info Error) → IsGivenAs i generation answer → IsAbout i answer
-  about_as i generation (Ok info) g = g.0
-  about_as i generation (Err x) g = tt
+  -- the store failed at a parent
+  store_failed_at : (w : SimpleWalk F P) (row : Bool) (i : ObjectId) {how : Treated} {v : SimpleWalk F P} → Treats objects faulty answers w row i how v → how ≡ StoreFails → faulty w.store i
+  store_failed_at w row i (hidden e) f = cc
+  store_failed_at w row i (known e) f = cc
+  store_failed_at w row i (refused is_new b) f = cc
+  store_failed_at w row i (accepted is_new b time queues) f = cc
+  store_failed_at w row i (store_fails is_new b (store_fails o from_store failed)) f = failed
+  store_failed_at w row i no_memory f = cc
+  store_failed_at w row i (no_memory_after is_new b left) f = cc
+
+  store_failed : (row : Bool) {w v : SimpleWalk F P} {ids : List ObjectId} {how : Treated} → TreatsAll objects faulty answers row w ids how v → how ≡ StoreFails → (p : ObjectId) × Contains ids p × faulty w.store p
+  store_failed row none f = cc
+  store_failed row (more {old = w} {i = i} {ids = ids} t ts) f =
+      let k = store_failed row ts f in
+      (k.0, Contains-there k.0 i ids k.1, subst (λ s. faulty s k.0) (one_grows (λ j. Unit {0}) w row i tt t).store k.2)
+  store_failed row (stops {old = w} {i = i} {ids = ids} ne t) f = (i, Contains-here i ids, store_failed_at w row i t f)
 
   -- what is pending afterwards is reached
   record Descends (w new : SimpleWalk F P) : Type 0 where
@@ -154,11 +161,11 @@ module _ {F P : Type 0} (objects : F → Objects) (faulty : F → ObjectId → T
   -- a step keeps the rows and gives their generation, or drops them for a corrupt row, or fails and is the last
   data Tells (w : SimpleWalk F P) (answer : Result Info Error) (new : SimpleWalk F P) : Type 0 where
     keeps : new.store ≡ w.store → new.rows ≡ w.rows → Descends w new → IsTold w.rows answer → Tells w answer new
-    loses : new.store ≡ w.store → new.rows ≡ [] → IsUntold answer → (IsAgreeing (objects w.store) w.rows → HasCorruptRow objects w answer ⊎ PaintingDrops objects w) → Tells w answer new
+    loses : new.store ≡ w.store → new.rows ≡ [] → IsUntold answer → (IsAgreeing (objects w.store) w.rows → HasCorruptRow objects faulty w answer ⊎ PaintingDrops objects w) → Tells w answer new
     ends : new.pending ≡ [] → IsFailed answer → Tells w answer new
 
   -- a row that names no ids is corrupt
-  corrupt : (w : SimpleWalk F P) (i : ObjectId) (row : GraphRow) (answer : Result Info Error) → row_of w.rows i ≡ Some row → ids_at w.rows row.parents ≡ None → Contains (ids_of w.pending) i → IsAbout i answer → IsAgreeing (objects w.store) w.rows → HasCorruptRow objects w answer
+  corrupt : (w : SimpleWalk F P) (i : ObjectId) (row : GraphRow) (answer : Result Info Error) → row_of w.rows i ≡ Some row → ids_at w.rows row.parents ≡ None → Contains (ids_of w.pending) i → IsAbout (objects w.store) (faulty w.store) w.parents i answer → IsAgreeing (objects w.store) w.rows → HasCorruptRow objects faulty w answer
   corrupt w i row answer e n m about agrees =
       let c : Contains w.rows row × (i ≡ row.id) = row_stands w.rows i row e in
       record {
@@ -166,7 +173,7 @@ module _ {F P : Type 0} (objects : F → Objects) (faulty : F → ObjectId → T
         present = subst (λ j. row_of w.rows j ≡ Some row) c.1 e;
         corrupt = corrupt_row (objects w.store) w.rows agrees row c.0 n;
         reached = start (subst (Contains (ids_of w.pending)) c.1 m);
-        about = subst (λ j. IsAbout j answer) c.1 about;
+        about = subst (λ j. IsAbout (objects w.store) (faulty w.store) w.parents j answer) c.1 about;
       }
 
   -- the commit that is taken, and the commits that its text names
@@ -189,17 +196,27 @@ module _ {F P : Type 0} (objects : F → Objects) (faulty : F → ObjectId → T
     }
 
     -- a commit without a row that can be read
-    unrowed_tells : (answer : Result Info Error) {new : SimpleWalk F P} → IsUnrowed w.rows p.id → IsGivenAs p.id None answer → Grows (Reached w) (unrowed (record w { pending = others }) p.id) new → Tells w answer new
-    unrowed_tells answer {new} unread g grows = go (row_of w.rows p.id) refl
+    unrowed_tells : (answer : Result Info Error) {new : SimpleWalk F P} → IsUnrowed w.rows p.id → IsGivenAs p.id None answer → IsAbout (objects w.store) (faulty w.store) w.parents p.id answer → Grows (Reached w) (unrowed (record w { pending = others }) p.id) new → Tells w answer new
+    unrowed_tells answer {new} unread g about grows = go (row_of w.rows p.id) refl
       where
         go : (o : Option GraphRow) → row_of w.rows p.id ≡ o → Tells w answer new
         go None e = keeps grows.store (grows.rows ∙ ap (kept_rows w.rows) e) (descends (unrowed (record w { pending = others }) p.id) refl refl refl grows) (told_as w.rows p.id None answer (ap (option_map (λ row. row.generation)) e) g)
         go (Some row) e =
             let n : ids_at w.rows row.parents ≡ None = unread row e in
-            loses grows.store (grows.rows ∙ ap (kept_rows w.rows) e ∙ ap (rows_if w.rows) n) (untold_as p.id answer g) (λ agrees. inl (corrupt w p.id row answer e n (chosen p.id (Contains-here p.id (ids_of others))) (about_as p.id None answer g) agrees))
+            loses grows.store (grows.rows ∙ ap (kept_rows w.rows) e ∙ ap (rows_if w.rows) n) (untold_as p.id answer g) (λ agrees. inl (corrupt w p.id row answer e n (chosen p.id (Contains-here p.id (ids_of others))) about agrees))
 
     reached_next : (i : ObjectId) → Contains (text_walked w p.id) i → Reached w i
     reached_next i m agrees = step (start (chosen p.id (Contains-here p.id (ids_of others)))) m
+
+    named_by_text : (bytes : List ℕ) → map_of.get (objects w.store) p.id ≡ Some (record { kind = object.Commit; bytes = bytes }) → (scanned w.parents (commit_items (kind_of p.id) bytes)).0 ≡ text_walked w p.id
+    named_by_text bytes e = scan_by w.parents (commit_items (kind_of p.id) bytes) ∙ ap (by_mode w.parents) (sym (ap (next_in p.id) e))
+
+    -- what is pending after the parents that a text names were treated
+    concluded_after : (bytes : List ℕ) → map_of.get (objects w.store) p.id ≡ Some (record { kind = object.Commit; bytes = bytes }) → {how : Treated} {walk new : SimpleWalk F P} {generation : Option ℕ} {time : Option ℤ} {fault : Option DecodeError} {answer : Result Info Error}
+        → TreatsAll objects faulty answers false (unrowed (record w { pending = others }) p.id) (scanned w.parents (commit_items (kind_of p.id) bytes)).0 how walk
+        → Concludes objects faulty answers p.id (scanned w.parents (commit_items (kind_of p.id) bytes)).0 generation time bytes fault walk how answer new → Grows (Reached w) (unrowed (record w { pending = others }) p.id) new
+    concluded_after bytes e {walk = walk} treats concludes =
+        grows_then (all_grow (Reached w) false (λ i m. reached_next i (subst (λ ids. Contains ids i) (named_by_text bytes e) m)) treats) (concluded p.id _ _ _ _ _ walk (Reached w) concludes).1
 
     takes_tells : {answer : Result Info Error} {new : SimpleWalk F P} → Takes objects faulty answers (record w { pending = others }) p answer new → Tells w answer new
     takes_tells {answer} (by_row {row = row} {ids = ids} {walk = walk} r e treats concludes) =
@@ -212,13 +229,13 @@ module _ {F P : Type 0} (objects : F → Objects) (faulty : F → ObjectId → T
             let k : Contains w.rows row × (p.id ≡ row.id) = row_stands w.rows p.id row r in
             let whole : ReadsWhole (objects w.store) p.id = subst (ReadsWhole (objects w.store)) (sym k.1) (agrees row k.0).whole in
             reached_next i (subst (λ those. Contains (by_mode w.parents those) i) (row_parents (objects w.store) w.rows agrees p.id row ids r e ∙ text_whole (objects w.store) p.id whole) m) agrees
-    takes_tells {answer} (by_store {bytes = bytes} {walk = walk} u e treats concludes) =
-        let c = concluded p.id _ _ _ _ _ walk (Reached w) concludes in
-        unrowed_tells answer u c.0 (grows_then (all_grow (Reached w) false named treats) c.1)
-      where
-        named : (i : ObjectId) → Contains (scanned w.parents (commit_items (kind_of p.id) bytes)).0 i → Reached w i
-        named i m = reached_next i (subst (λ ids. Contains ids i) (scan_by w.parents (commit_items (kind_of p.id) bytes) ∙ ap (by_mode w.parents) (sym (ap (next_in p.id) e))) m)
-    takes_tells {answer} (not_found u fault) = unrowed_tells answer u tt (record { store = refl; rows = refl; parents = refl; tips = refl; pending = λ j m. inl m })
+    takes_tells (by_store {bytes = bytes} {walk = walk} u e treats (given {info = info} f is)) = unrowed_tells (Ok info) u (is.same_id, is.same_generation) is.same_id (concluded_after bytes e treats (given f is))
+    takes_tells (by_store {bytes = bytes} {walk = walk} u e treats (broken {e = x} f)) = unrowed_tells (Err (error.ObjectDecode x)) u tt (bytes, e, f) (concluded_after bytes e {generation = None} {time = None} treats (broken f))
+    takes_tells (by_store {bytes = bytes} {walk = walk} u e treats store_fails) =
+        let k = store_failed false treats refl in
+        unrowed_tells (Err (error.Find existing.Store)) u tt (inr (refl, k.0, subst (λ ids. Contains ids k.0) (named_by_text bytes e) k.1, k.2)) (concluded_after bytes e {generation = None} {time = None} {fault = None} treats store_fails)
+    takes_tells (by_store u e treats no_memory) = ends refl tt
+    takes_tells (not_found {e = x} u fault) = unrowed_tells (Err (error.Find x)) u tt (inl fault) (record { store = refl; rows = refl; parents = refl; tips = refl; pending = λ j m. inl m })
     takes_tells (no_memory left) = ends refl tt
 
   steps_tells : (w : SimpleWalk F P) {answer : Result Info Error} {new : SimpleWalk F P} → w.hidden_tips ≡ [] → Steps objects faulty answers w (Some answer) new → Tells w answer new
@@ -237,8 +254,8 @@ module _ {F P : Type 0} (objects : F → Objects) (faulty : F → ObjectId → T
     from_same {answer} (keeps s r d told) = keeps (s ∙ store) (r ∙ rows) (record { parents = d.parents ∙ parents; tips = d.tips; reached = λ agrees i m. reaches i (d.reached (agree agrees) i m) }) (subst (λ rs. IsTold rs answer) rows told)
     from_same {answer} (loses s r untold why) = loses (s ∙ store) r untold (λ agrees. ⊎_elim (λ c. inl (carried c)) (λ d. absurd (d.0 tips)) (why (agree agrees)))
       where
-        carried : HasCorruptRow objects v answer → HasCorruptRow objects w answer
-        carried c = record { row = c.row; present = subst (λ rs. row_of rs c.row.id ≡ Some c.row) rows c.present; corrupt = c.corrupt; reached = reaches c.row.id c.reached; about = c.about }
+        carried : HasCorruptRow objects faulty v answer → HasCorruptRow objects faulty w answer
+        carried c = record { row = c.row; present = subst (λ rs. row_of rs c.row.id ≡ Some c.row) rows c.present; corrupt = c.corrupt; reached = reaches c.row.id c.reached; about = transport (λ k. IsAbout (objects (store k)) (faulty (store k)) (parents k) c.row.id answer) c.about }
     from_same (ends gone failed) = ends gone failed
 
   -- without rows no generation is given
@@ -303,11 +320,11 @@ module _ {F P : Type 0} (objects : F → Objects) (faulty : F → ObjectId → T
       all_with IsUntold answer list k.0 (⊎_elim (λ r. all_untold list d.0 new d.2 r) (λ gone. subst (All IsUntold) (sym (nothing_more list d.0 new d.2 gone)) (All-from_recursion IsUntold [] tt)) k.1)
 
   -- the law
-  pub tells_generations : (list : List (Result Info Error)) (w new : SimpleWalk F P) → Yields (Next objects faulty answers) w list new → TellsGenerations objects w list
+  pub tells_generations : (list : List (Result Info Error)) (w new : SimpleWalk F P) → Yields (Next objects faulty answers) w list new → TellsGenerations objects faulty w list
   tells_generations [] w new d = record { before = []; behind = []; parts = refl; told = All-from_recursion (IsTold w.rows) [] tt; untold = All-from_recursion IsUntold [] tt; dropped = λ a rest e agrees. cc }
   tells_generations (answer ∷ list) w new d = go (next_tells w d.1) (tells_generations list d.0 new d.2)
     where
-      go : Tells w answer d.0 → TellsGenerations objects d.0 list → TellsGenerations objects w (answer ∷ list)
+      go : Tells w answer d.0 → TellsGenerations objects faulty d.0 list → TellsGenerations objects faulty w (answer ∷ list)
       go (keeps store rows below told) rest =
           record {
             before = answer ∷ rest.before;
@@ -318,13 +335,13 @@ module _ {F P : Type 0} (objects : F → Objects) (faulty : F → ObjectId → T
             dropped = λ a more e agrees. inl (⊎_elim (carried agrees a) (λ painting. absurd (painting.1.0 below.tips)) (rest.dropped a more e (transport (λ k. IsAgreeing (objects (sym store k)) (sym rows k)) agrees)));
           }
         where
-          carried : IsAgreeing (objects w.store) w.rows → (a : Result Info Error) → HasCorruptRow objects d.0 a → HasCorruptRow objects w a
+          carried : IsAgreeing (objects w.store) w.rows → (a : Result Info Error) → HasCorruptRow objects faulty d.0 a → HasCorruptRow objects faulty w a
           carried agrees a c = record {
             row = c.row;
             present = subst (λ rs. row_of rs c.row.id ≡ Some c.row) rows c.present;
             corrupt = c.corrupt;
             reached = reaches_from (text_walked w) (ids_of d.0.pending) (ids_of w.pending) (below.reached agrees) c.row.id (transport (λ k. Reaches (λ j. by_mode (below.parents k) (text_next (objects (store k)) j)) (ids_of d.0.pending) c.row.id) c.reached);
-            about = c.about;
+            about = transport (λ k. IsAbout (objects (store k)) (faulty (store k)) (below.parents k) c.row.id a) c.about;
           }
       go (loses store rows untold why) r =
           record {
@@ -333,7 +350,7 @@ module _ {F P : Type 0} (objects : F → Objects) (faulty : F → ObjectId → T
             parts = refl;
             told = All-from_recursion (IsTold w.rows) [] tt;
             untold = all_with IsUntold answer list untold (all_untold list d.0 new d.2 rows);
-            dropped = λ a rest e agrees. ⊎_elim (λ c. inl (subst (HasCorruptRow objects w) (let same : answer ≡ a = cc in same) c)) (λ painting. inr (refl, painting)) (why agrees);
+            dropped = λ a rest e agrees. ⊎_elim (λ c. inl (subst (HasCorruptRow objects faulty w) (let same : answer ≡ a = cc in same) c)) (λ painting. inr (refl, painting)) (why agrees);
           }
       go (ends gone failed) r =
           record {

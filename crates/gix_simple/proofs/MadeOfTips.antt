@@ -26,7 +26,7 @@ fresh_once : (s : ObjectId → Bool) (xs : List ObjectId) → AreDistinct (fresh
 fresh_once s xs = times_once (fresh s xs) (λ i. subst (λ n. n ≤ 1) (sym (times-fresh i s xs)) (once_or_never (not (s i) && is_among i xs)))
 
 -- they are ids of the list
-fresh_among : (i : ObjectId) (s : ObjectId → Bool) (xs : List ObjectId) → Contains (fresh s xs) i → is_among i xs ≡ true
+pub fresh_among : (i : ObjectId) (s : ObjectId → Bool) (xs : List ObjectId) → Contains (fresh s xs) i → is_among i xs ≡ true
 fresh_among i s xs h = go (not (s i)) (is_among i xs) (subst (λ n. 1 ≤ n) (times-fresh i s xs) (among_times i (fresh s xs) (among_from i (fresh s xs) h)))
   where
     go : (a b : Bool) → 1 ≤ cond (a && b) 1 0 → b ≡ true

@@ -36,7 +36,7 @@ times-filter p (x ∷ ps) i = go (p x) (times-filter p ps i)
 
 module _ {F P : Type 0} (objects : F → Objects) (faulty : F → ObjectId → Type 0) (answers : P → ObjectId → Bool → P → Type 0) where
   -- an id is pending or gone at most once, and only if it was seen
-  abbrev IsSole : List ObjectId → SimpleWalk F P → Type 0
+  abbrev pub IsSole : List ObjectId → SimpleWalk F P → Type 0
   IsSole gone w = (i : ObjectId) → times i (ids_of w.pending) + times i gone ≤ cond (set.contains w.seen i) 1 0
 
   sole_asked : (gone : List ObjectId) (w : SimpleWalk F P) (i : ObjectId) (q : P) (ps : List Pending) → IsSole gone w → IsNew objects faulty answers w i → ((j : ObjectId) → times j (ids_of ps) ≤ times j (ids_of w.pending) + cond (is_same j i) 1 0) → IsSole gone (asked objects faulty answers w i q ps)
@@ -71,7 +71,7 @@ module _ {F P : Type 0} (objects : F → Objects) (faulty : F → ObjectId → T
       never : (j : ObjectId) → times j (ids_of ps) ≡ 0 → times j (ids_of ps) ≤ times j (ids_of w.pending) + cond (is_same j i) 1 0
       never j e = omega arith
 
-  sole_all : (gone : List ObjectId) (row : Bool) {w v : SimpleWalk F P} {ids : List ObjectId} {how : Treated} → TreatsAll objects faulty answers row w ids how v → IsSole gone w → IsSole gone v
+  pub sole_all : (gone : List ObjectId) (row : Bool) {w v : SimpleWalk F P} {ids : List ObjectId} {how : Treated} → TreatsAll objects faulty answers row w ids how v → IsSole gone w → IsSole gone v
   sole_all gone row none h = h
   sole_all gone row (more {old = w} {i = i} t ts) h = sole_all gone row ts (sole_one gone w row i h t)
   sole_all gone row (stops {old = w} {i = i} ne t) h = sole_one gone w row i h t
@@ -135,9 +135,6 @@ module _ {F P : Type 0} (objects : F → Objects) (faulty : F → ObjectId → T
       subst (λ xs. times i xs ≤ 1) (append_assoc done (given_ids (answer ∷ [])) (given_ids list) ∙ ap (λ xs. done ++ xs) (sym (given_cons answer list)))
       (drawn_sole list (with_answer done answer) d.0 new d.2 (next_sole done w d.1 h) i)
 
-  pub never_twice : (w new : SimpleWalk F P) (list : List (Result Info Error)) → AreDistinct (ids_of w.pending) → ((i : ObjectId) → Contains (ids_of w.pending) i → set.contains w.seen i ≡ true) → Yields (Next objects faulty answers) w list new → AreDistinct (given_ids list)
-  never_twice w new list distinct seen d = times_once (given_ids list) (λ i. drawn_sole list [] w new d (λ j. go j (is_among j (ids_of w.pending)) refl (once_times (ids_of w.pending) distinct j)) i)
-    where
-      go : (j : ObjectId) (b : Bool) → is_among j (ids_of w.pending) ≡ b → times j (ids_of w.pending) ≤ cond b 1 0 → times j (ids_of w.pending) + 0 ≤ cond (set.contains w.seen j) 1 0
-      go j true e k = subst (λ b. times j (ids_of w.pending) + 0 ≤ cond b 1 0) (sym (seen j (among_is j _ e))) (omega arith)
-      go j false e k = omega arith
+  -- what is given is given once, if nothing is pending twice, and all that is pending was seen
+  pub drawn_once : (w new : SimpleWalk F P) (list : List (Result Info Error)) → IsSole [] w → Yields (Next objects faulty answers) w list new → AreDistinct (given_ids list)
+  drawn_once w new list sole d = times_once (given_ids list) (λ i. drawn_sole list [] w new d sole i)

@@ -1,5 +1,5 @@
 -- What the calls make of a walk that choose its order.
-use Rattle.std.specs.Prelude.{◌≡◌, ℤ, List, [], ◌∷◌, ◌++◌, map, filter, Bool, true, false, not, ◌&&◌, ◌||◌, Option, Result, Ok, Err, All, IsSome}
+use Rattle.std.specs.Prelude.{◌≡◌, ℤ, List, [], ◌∷◌, ◌++◌, map, filter, Bool, true, false, not, ◌&&◌, ◌||◌, Option, None, Result, Ok, Err, All, IsSome}
 use Rattle.std.specs.FinSet as set
 use Rattle.gix_hash.specs.declared.ObjectId.{ObjectId}
 use Rattle.gix_hash.specs.Id.{is_among}
@@ -74,3 +74,12 @@ pub data IsBuilt {F P : Type 0} (objects : F → Objects) (faulty : F → Object
   hides : {walk : SimpleWalk F P} {ids : List ObjectId} → IsBuilt objects faulty answers store predicate tips walk → IsBuilt objects faulty answers store predicate tips (record walk { hidden_tips = ids })
   walks : {walk : SimpleWalk F P} {parents : Parents} → IsBuilt objects faulty answers store predicate tips walk → IsBuilt objects faulty answers store predicate tips (record walk { parents = parents })
   reads : {walk : SimpleWalk F P} {rows : List GraphRow} → IsBuilt objects faulty answers store predicate tips walk → IsBuilt objects faulty answers store predicate tips (record walk { rows = rows })
+
+-- none of these calls had a cutoff
+abbrev pub IsUncut : {F P : Type 0} {objects : F → Objects} {faulty : F → ObjectId → Type 0} {answers : P → ObjectId → Bool → P → Type 0} {store : F} {predicate : P} {tips : List ObjectId} {walk : SimpleWalk F P} → IsBuilt objects faulty answers store predicate tips walk → Type 0
+IsUncut (made m) = Unit {0}
+IsUncut (breadth_first b) = IsUncut b
+IsUncut (by_time {by = by} b s) = IsUncut b × (cutoff mode.All by ≡ None)
+IsUncut (hides b) = IsUncut b
+IsUncut (walks b) = IsUncut b
+IsUncut (reads b) = IsUncut b

@@ -6,8 +6,6 @@ use Rattle.std.specs.FinMap as map_of
 use Rattle.std.specs.FinSet as set
 use Rattle.gix_hash.specs.declared.ObjectId.{ObjectId}
 use Rattle.gix_object.specs.declared.find.existing_iter.Error.TheVariants as existing
-use Rattle.gix_object.specs.CommitItems.{commit_items}
-use Rattle.gix_hash.specs.Id.{kind_of}
 use Rattle.gix_object.specs.Object.{Objects}
 use Rattle.gix_commitgraph.specs.Rows.{GraphRow}
 use Rattle.gix_revwalk.specs.declared.Parents.{Parents}
@@ -22,12 +20,12 @@ use Rattle.gix_revwalk.specs.Agreeing.{IsAgreeing}
 use Rattle.gix_revwalk.specs.BreadthOrder.{IsBreadthOrder}
 use Rattle.gix_revwalk.specs.TimeOrder.{IsTimeOrder}
 use Rattle.gix_hash.specs.Reach.{Reaches, Tells}
-use Rattle.gix_revwalk.specs.Commits.{ReadsWhole, walked_parents, parents_of, time_of}
+use Rattle.gix_revwalk.specs.Commits.{ReadsWhole, by_mode, walked_parents, parents_of, time_of}
 use Rattle.gix_revwalk.specs.declared.Pending.{Pending}
 use Rattle.gix_simple.specs.Walk.{SimpleWalk, time_order, cutoff, is_older, time_if, Next}
 use Rattle.gix_revwalk.specs.Infos.{IsInfo, IsRowGeneration}
 use Rattle.gix_revwalk.specs.Ids.{ids_of, AreDistinct, new_ids}
-use Rattle.gix_revwalk.specs.Texts.{scanned}
+use Rattle.gix_revwalk.specs.Texts.{text_parents}
 use Rattle.gix_revwalk.specs.Asking.{AnswersBy}
 
 -- a walk as it is before its first step
@@ -107,9 +105,9 @@ pub record IsNewWalk {F P : Type 0} (objects : F → Objects) (answers : P → O
   pub rowless : walk.rows ≡ []
   pub open_to : walk.hidden_tips ≡ []
 
--- the ids that the rows and the stored texts name
+-- the ids that the rows and the texts of stored commits name, of these the parents that are walked
 abbrev pub named_in : {F P : Type 0} → (F → Objects) → SimpleWalk F P → List ObjectId
-named_in objects walk = map (λ row. row.id) walk.rows ++ flat_map (λ entry. (scanned walk.parents (commit_items (kind_of entry.0) entry.1.bytes)).0) (map_of.entries (objects walk.store))
+named_in objects walk = map (λ row. row.id) walk.rows ++ flat_map (λ entry. by_mode walk.parents (text_parents entry.0 entry.1)) (map_of.entries (objects walk.store))
 
 -- how many answers a walk can still give
 abbrev pub answers_left : {F P : Type 0} → (F → Objects) → SimpleWalk F P → ℕ
@@ -151,3 +149,9 @@ abbrev pub given_ids : List (Result Info Error) → List ObjectId
 given_ids [] = []
 given_ids (Ok info ∷ list) = info.id ∷ given_ids list
 given_ids (Err e ∷ list) = given_ids list
+
+-- the answers are commits and no faults: exactly the commits that the tips reach and the hidden tips don't, each once
+pub record GivesDifference (objects : Objects) (tips hidden_tips : List ObjectId) (answers : List (Result Info Error)) : Type 0 where
+  pub commits : (e : Error) → Contains answers (Err e) → ⊥
+  pub once : AreDistinct (given_ids answers)
+  pub exact : (i : ObjectId) → Contains (given_ids answers) i ↔ (Reaches (parents_of objects) tips i × (Reaches (parents_of objects) hidden_tips i → ⊥))

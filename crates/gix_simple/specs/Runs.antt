@@ -1,8 +1,14 @@
 -- What holds along the answers that are drawn from a simple walk, and of two walks that were built alike.
-use Rattle.std.specs.Prelude.{◌≡◌, ◌≢◌, ◌⊎◌, ◌↔◌, List, [], ◌∷◌, ◌++◌, Bool, None, Some, Result, Ok, Err, Contains, All}
+use Rattle.std.specs.Prelude.{◌≡◌, ◌≢◌, ◌⊎◌, ◌↔◌, ℕ, List, [], ◌∷◌, ◌++◌, Bool, None, Some, Result, Ok, Err, Contains, All}
 use Rattle.std.specs.Option.{option_map}
 use Rattle.std.specs.List.{AllZip}
+use Rattle.std.specs.FinMap as map_of
 use Rattle.gix_hash.specs.declared.ObjectId.{ObjectId}
+use Rattle.gix_hash.specs.Id.{kind_of}
+use Rattle.gix_object.specs.declared.Kind.TheVariants as object
+use Rattle.gix_object.specs.declared.find.existing_iter.Error.TheVariants as existing
+use Rattle.gix_object.specs.CommitItems.{commit_items}
+use Rattle.gix_object.specs.Find.{IsExistingFault}
 use Rattle.gix_object.specs.Object.{Objects}
 use Rattle.gix_commitgraph.specs.Rows.{GraphRow, row_of}
 use Rattle.gix_revwalk.specs.declared.Parents.{Parents}
@@ -10,6 +16,7 @@ use Rattle.gix_revwalk.specs.declared.Info.{Info}
 use Rattle.gix_simple.specs.declared.Sorting.{Sorting}
 use Rattle.gix_simple.specs.declared.Sorting.TheVariants as sorting
 use Rattle.gix_simple.specs.declared.Error.{Error}
+use Rattle.gix_simple.specs.declared.Error.TheVariants as error
 use Rattle.gix_revwalk.specs.Agreeing.{IsAgreeing, IsCorrupt}
 use Rattle.gix_revwalk.specs.Commits.{parents_of, by_mode}
 use Rattle.gix_hash.specs.Reach.{Reaches}
@@ -19,7 +26,7 @@ use Rattle.gix_simple.specs.Building.{IsSortedByTime}
 use Rattle.gix_paint.specs.Painting.{DropsBy}
 use Rattle.gix_simple.specs.Laws.{IsGiven}
 use Rattle.gix_revwalk.specs.Asking.{AsksAll}
-use Rattle.gix_revwalk.specs.Texts.{text_next}
+use Rattle.gix_revwalk.specs.Texts.{scanned, text_next}
 
 -- a predicate was asked about different ids, each of them among these, and went from one state to another
 pub record AsksOnce {P : Type 0} (answers : P → ObjectId → Bool → P → Type 0) (among : List ObjectId) (first last : P) : Type 0 where
@@ -38,33 +45,41 @@ abbrev pub IsUntold : Result Info Error → Type 0
 IsUntold (Ok info) = info.generation ≡ None
 IsUntold (Err e) = Unit {0}
 
--- the answer is about this commit, unless it is an error
-abbrev pub IsAbout : ObjectId → Result Info Error → Type 0
-IsAbout i (Ok info) = info.id ≡ i
-IsAbout i (Err e) = Unit {0}
+-- the fault is one of this commit: it can't be found, its text is broken, or the store failed at it, or at a parent that its text names
+abbrev pub IsFaultOf : Objects → (ObjectId → Type 0) → Parents → ObjectId → Error → Type 0
+IsFaultOf objects faulty parents i (error.Find e) = IsExistingFault objects faulty i object.Commit e ⊎ ((e ≡ existing.Store) × (p : ObjectId) × Contains (by_mode parents (text_next objects i)) p × faulty p)
+IsFaultOf objects faulty parents i (error.ObjectDecode e) =
+    (bytes : List ℕ) × (map_of.get objects i ≡ Some (record { kind = object.Commit; bytes = bytes })) × ((scanned parents (commit_items (kind_of i) bytes)).1 ≡ Some e)
+IsFaultOf objects faulty parents i (error.HiddenGraph e) = ⊥
+IsFaultOf objects faulty parents i error.Memory = ⊥
 
--- The commit that this answer is about has a corrupt row. Pending commits reach it by the parents that are walked, as the texts of
+-- the answer is this commit, or a fault of it
+abbrev pub IsAbout : Objects → (ObjectId → Type 0) → Parents → ObjectId → Result Info Error → Type 0
+IsAbout objects faulty parents i (Ok info) = info.id ≡ i
+IsAbout objects faulty parents i (Err e) = IsFaultOf objects faulty parents i e
+
+-- The commit that was taken, which this answer is or whose fault it is, has a corrupt row. Pending commits reach it by the parents that are walked, as the texts of
 -- commits name them, also where a text breaks off behind its parents.
-pub record HasCorruptRow {F P : Type 0} (objects : F → Objects) (walk : SimpleWalk F P) (answer : Result Info Error) : Type 0 where
+pub record HasCorruptRow {F P : Type 0} (objects : F → Objects) (faulty : F → ObjectId → Type 0) (walk : SimpleWalk F P) (answer : Result Info Error) : Type 0 where
   pub row : GraphRow
   pub present : row_of walk.rows row.id ≡ Some row
   pub corrupt : IsCorrupt row
   pub reached : Reaches (λ i. by_mode walk.parents (text_next (objects walk.store) i)) (ids_of walk.pending) row.id
-  pub about : IsAbout row.id answer
+  pub about : IsAbout (objects walk.store) (faulty walk.store) walk.parents row.id answer
 
 -- painting drops the rows for a corrupt one
 abbrev pub PaintingDrops : {F P : Type 0} → (F → Objects) → SimpleWalk F P → Type 0
 PaintingDrops objects walk = (walk.hidden_tips ≢ []) × DropsBy (parents_of (objects walk.store)) walk.rows (ids_of walk.pending) walk.hidden_tips
 
--- The answers have the generations of the rows, up to where a corrupt row drops these, and none from there on. The first of these is about
--- the commit of that row, or it is the first of all and painting dropped the rows.
-pub record TellsGenerations {F P : Type 0} (objects : F → Objects) (walk : SimpleWalk F P) (list : List (Result Info Error)) : Type 0 where
+-- The answers have the generations of the rows, up to where a corrupt row drops these, and none from there on. The first of these is
+-- the commit of that row or a fault of it, or it is the first of all and painting dropped the rows.
+pub record TellsGenerations {F P : Type 0} (objects : F → Objects) (faulty : F → ObjectId → Type 0) (walk : SimpleWalk F P) (list : List (Result Info Error)) : Type 0 where
   pub before : List (Result Info Error)
   pub behind : List (Result Info Error)
   pub parts : list ≡ before ++ behind
   pub told : All (IsTold walk.rows) before
   pub untold : All IsUntold behind
-  pub dropped : (answer : Result Info Error) (rest : List (Result Info Error)) → behind ≡ answer ∷ rest → IsAgreeing (objects walk.store) walk.rows → HasCorruptRow objects walk answer ⊎ ((before ≡ []) × PaintingDrops objects walk)
+  pub dropped : (answer : Result Info Error) (rest : List (Result Info Error)) → behind ≡ answer ∷ rest → IsAgreeing (objects walk.store) walk.rows → HasCorruptRow objects faulty walk answer ⊎ ((before ≡ []) × PaintingDrops objects walk)
 
 -- two walks of one store, over the same parents, in the same order, from the same pending commits
 pub record AreAlike {F P : Type 0} (walk other : SimpleWalk F P) : Type 0 where

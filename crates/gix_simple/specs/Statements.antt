@@ -1,5 +1,5 @@
 -- The statements of the laws of simple walks, over any store and predicate.
-use Rattle.std.specs.Prelude.{◌≡◌, ◌≤◌, ◌≤ℤ◌, ◌↔◌, ℕ, suc, List, [], ◌++◌, Bool, false, true, Some, None, Result, All, Contains, length, slice_get, filter}
+use Rattle.std.specs.Prelude.{◌≡◌, ◌≢◌, ◌≤◌, ◌≤ℤ◌, ◌↔◌, ℕ, suc, List, [], ◌++◌, Bool, false, true, Some, None, Result, Err, All, Contains, length, slice_get, filter}
 use Rattle.std.specs.Cmp.Lexicographic.{slice_cmp}
 use Rattle.std.specs.FinSet as set
 use Rattle.std.specs.Iterator.{Drains, Yields}
@@ -18,11 +18,12 @@ use Rattle.gix_simple.specs.declared.Error.{Error}
 use Rattle.gix_revwalk.specs.BreadthOrder.{IsBreadthOrder}
 use Rattle.gix_revwalk.specs.TimeOrder.{IsTimeOrder}
 use Rattle.gix_hash.specs.Reach.{Reaches, Tells}
+use Rattle.gix_revwalk.specs.Agreeing.{IsAgreeing}
 use Rattle.gix_revwalk.specs.Commits.{ReadsWhole, parents_of, time_of}
 use Rattle.gix_simple.specs.Walk.{SimpleWalk, Next, IsMade, time_order, cutoff}
 use Rattle.gix_revwalk.specs.Ids.{ids_of, AreDistinct, new_ids}
-use Rattle.gix_simple.specs.Building.{IsBuilt}
-use Rattle.gix_simple.specs.Laws.{IsFresh, IsWholeRun, IsPlainRun, IsPlain, GivesInOrder, IsNewWalk, IsNoRefusal, GivesBreadthFirst, accepted_parents, recent_parents, next_of, starts_of, named_in, answers_left, given_ids}
+use Rattle.gix_simple.specs.Building.{IsBuilt, IsUncut}
+use Rattle.gix_simple.specs.Laws.{IsFresh, IsWholeRun, IsPlainRun, IsPlain, GivesInOrder, IsNewWalk, IsNoRefusal, GivesBreadthFirst, GivesDifference, accepted_parents, recent_parents, next_of, starts_of, named_in, answers_left, given_ids}
 use Rattle.gix_revwalk.specs.Asking.{AnswersBy}
 use Rattle.gix_simple.specs.Runs.{AsksOnce, TellsGenerations, AreAlike, AreBuiltAlike, GiveTheSame, GivesUnhidden}
 
@@ -99,6 +100,34 @@ module _ {F P : Type 0} (objects : F → Objects) (faulty : F → ObjectId → T
       (walk : SimpleWalk F P) (accepts hidden : ObjectId → Bool) (list : List (Result Info Error)) (gives : GivesInOrder objects walk accepts hidden list)
       → AreDistinct gives.ids × ((i : ObjectId) → Contains gives.ids i ↔ Reaches (next_of objects walk accepts hidden) (starts_of walk hidden) i)
 
+  -- a walk through all parents, without a cutoff, whose predicate accepts all, where all that is reached reads whole
+  abbrev pub RunsGiveTheDifference : Type 0
+  RunsGiveTheDifference =
+      (store : F) (predicate : P) (tips : List ObjectId) (walk : SimpleWalk F P) (list : List (Result Info Error))
+      → AnswersBy answers predicate (λ i. true)
+      → (built : IsBuilt objects faulty answers store predicate tips walk)
+      → IsUncut built
+      → walk.parents ≡ mode.All
+      → IsAgreeing (objects store) walk.rows
+      → ((i : ObjectId) → Reaches (parents_of (objects store)) (tips ++ walk.hidden_tips) i → ReadsWhole (objects store) i)
+      → All IsNoRefusal list
+      → Drains (Next objects faulty answers) walk list
+      → GivesDifference (objects store) tips walk.hidden_tips list
+
+  -- such a walk with hidden tips and without rows, none of whose answers is a fault
+  abbrev pub FaultlessRunsGiveTheDifference : Type 0
+  FaultlessRunsGiveTheDifference =
+      (store : F) (predicate : P) (tips : List ObjectId) (walk : SimpleWalk F P) (list : List (Result Info Error))
+      → AnswersBy answers predicate (λ i. true)
+      → (built : IsBuilt objects faulty answers store predicate tips walk)
+      → IsUncut built
+      → walk.parents ≡ mode.All
+      → walk.rows ≡ []
+      → walk.hidden_tips ≢ []
+      → ((e : Error) → Contains list (Err e) → ⊥)
+      → Drains (Next objects faulty answers) walk list
+      → GivesDifference (objects store) tips walk.hidden_tips list
+
   -- walks that were built by the same calls
   abbrev pub BuildsAlike : Type 0
   BuildsAlike =
@@ -131,7 +160,7 @@ module _ {F P : Type 0} (objects : F → Objects) (faulty : F → ObjectId → T
   TellsTheGenerations =
       (walk new : SimpleWalk F P) (list : List (Result Info Error))
       → Yields (Next objects faulty answers) walk list new
-      → TellsGenerations objects walk list
+      → TellsGenerations objects faulty walk list
 
   -- newest first, where no parent is newer than its child
   abbrev pub TimesFall : Type 0
@@ -147,9 +176,8 @@ module _ {F P : Type 0} (objects : F → Objects) (faulty : F → ObjectId → T
   -- whatever faults come, no id is given twice
   abbrev pub GivesNeverTwice : Type 0
   GivesNeverTwice =
-      (walk new : SimpleWalk F P) (list : List (Result Info Error))
-      → AreDistinct (ids_of walk.pending)
-      → ((i : ObjectId) → Contains (ids_of walk.pending) i → set.contains walk.seen i ≡ true)
+      (store : F) (predicate : P) (tips : List ObjectId) (walk new : SimpleWalk F P) (list : List (Result Info Error))
+      → IsBuilt objects faulty answers store predicate tips walk
       → Yields (Next objects faulty answers) walk list new
       → AreDistinct (given_ids list)
 

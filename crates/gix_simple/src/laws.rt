@@ -1,6 +1,6 @@
 //! Laws of `commit::Simple`, and of the commits that walks give.
 
-ghost use Rattle.gix_simple.specs.Statements.{MakesNewWalks, BuildsFreshWalks, NewWalksGiveBreadthFirst, PlainRunsAreInBreadthOrder, PlainRunsAreInTimeOrder, RunsAreInOrder, GivesEachOnce, info_cmp, BuildsAlike, HidesWhatIsReached, RowsLeaveTheIds, TellsTheGenerations, TimesFall, GivesNeverTwice, AsksNeverTwice, Ends, ReachIsDecided};
+ghost use Rattle.gix_simple.specs.Statements.{MakesNewWalks, BuildsFreshWalks, NewWalksGiveBreadthFirst, PlainRunsAreInBreadthOrder, PlainRunsAreInTimeOrder, RunsAreInOrder, GivesEachOnce, RunsGiveTheDifference, FaultlessRunsGiveTheDifference, info_cmp, BuildsAlike, HidesWhatIsReached, RowsLeaveTheIds, TellsTheGenerations, TimesFall, GivesNeverTwice, AsksNeverTwice, Ends, ReachIsDecided};
 ghost use Rattle.std.specs.Prelude.{◌≡◌};
 ghost use Rattle.gix_revwalk.specs.declared.Info.{Info as InfoRecord};
 
@@ -54,6 +54,19 @@ pub fn each_once<F: Find, P: Predicate>()
     ensures { GivesEachOnce F.objects F.faulty P.answers }
 {}
 
+/// A walk that was built by any calls, none with a cutoff, goes through all parents, has a predicate that accepts every id, and is
+/// drawn to its end: it gives exactly the commits that its tips reach and its hidden tips don't, by all parents, each once, and no
+/// fault. Memory and the store don't fail, the rows agree with the store, and all that tips and hidden tips reach reads whole.
+pub fn difference<F: Find, P: Predicate>()
+    ensures { RunsGiveTheDifference F.objects F.faulty P.answers }
+{}
+
+/// A walk as `difference` asks, with hidden tips and without rows, and none of whose answers is a fault: it gives what `difference` says.
+/// Nothing more is asked of the store, of memory or of the history, since the first step reads all that tips and hidden tips reach.
+pub fn faultless_difference<F: Find, P: Predicate>()
+    ensures { FaultlessRunsGiveTheDifference F.objects F.faulty P.answers }
+{}
+
 /// Two walks that were built of the same tips by the same calls are alike, whatever rows and hidden tips each was given, where the
 /// predicate's answer depends on the id alone: they start from the same commits and walk the same parents in the same order.
 pub fn are_alike<F: Find, P: Predicate>()
@@ -74,9 +87,10 @@ pub fn rows_agree<F: Find, P: Predicate>()
 {}
 
 /// The generations that are given are the generations of the rows, and none for a commit without a row, up to where a corrupt row
-/// drops the rows; from there on none is given. Where the rows agree with the store, either the first answer from there on is about
-/// the commit with the corrupt row, and pending commits reach it by the parents that are walked, as texts name them; or painting read
-/// the corrupt row, and no generation is given at all. It holds of any walk, wherever the caller stops, and whatever faults come.
+/// drops the rows; from there on none is given. Where the rows agree with the store, either the first answer from there on is the
+/// commit with the corrupt row or a fault of it, and pending commits reach it by the parents that are walked, as texts name them; or
+/// painting read the corrupt row, and no generation is given at all. It holds of any walk, wherever the caller stops, and whatever
+/// faults come.
 pub fn tells<F: Find, P: Predicate>()
     ensures { TellsTheGenerations F.objects F.faulty P.answers }
 {}
@@ -87,19 +101,19 @@ pub fn times_fall<F: Find, P: Predicate>()
     ensures { TimesFall F.objects F.faulty P.answers }
 {}
 
-/// A walk that was fresh gives no id twice, whatever faults come and wherever the caller stops.
+/// A walk that was built gives no id twice, whatever its predicate answers, whatever faults come, and wherever the caller stops.
 pub fn never_twice<F: Find, P: Predicate>()
     ensures { GivesNeverTwice F.objects F.faulty P.answers }
 {}
 
 /// A walk that was built asks about no id twice, whatever faults come and wherever the caller stops, and only about tips and ids that
-/// rows and stored texts name: the predicate's state is a run of its own steps over such ids.
+/// rows and the texts of stored commits name: the predicate's state is a run of its own steps over such ids.
 pub fn asks_once<F: Find, P: Predicate>()
     ensures { AsksNeverTwice F.objects F.faulty P.answers }
 {}
 
 /// Every walk ends, whatever faults come: however many answers are drawn, there is at most one for each pending commit, and for each
-/// id not seen that rows or stored texts name.
+/// id not seen that rows or the texts of stored commits name.
 pub fn ends<F: Find, P: Predicate>()
     ensures { Ends F.objects F.faulty P.answers }
 {}

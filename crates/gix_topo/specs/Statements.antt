@@ -1,18 +1,21 @@
 -- The statements of the laws of topological walks, over any store and predicate.
-use Rattle.std.specs.Prelude.{◌≡◌, ◌≤◌, ℕ, List, [], Bool, true, Option, Some, None, Result, Ok, Err, Contains, filter, length, slice_get, take}
+use Rattle.std.specs.Prelude.{◌≡◌, ◌≤◌, ℕ, List, [], ◌++◌, Bool, true, Option, Some, None, Result, Ok, Err, All, Contains, filter, length, slice_get, take}
 use Rattle.std.specs.List.{AllZip}
-use Rattle.std.specs.Iterator.{Yields}
+use Rattle.std.specs.Iterator.{Drains, Yields}
 use Rattle.gix_hash.specs.declared.ObjectId.{ObjectId}
 use Rattle.gix_object.specs.Object.{Objects}
 use Rattle.gix_commitgraph.specs.Rows.{GraphRow, row_of}
 use Rattle.gix_revwalk.specs.declared.Info.{Info}
+use Rattle.gix_revwalk.specs.declared.Parents.TheVariants as mode
 use Rattle.gix_topo.specs.declared.Sorting.TheVariants.{TopoOrder}
 use Rattle.gix_topo.specs.declared.Error.{Error}
-use Rattle.gix_hash.specs.Reach.{IsAcyclic}
+use Rattle.gix_hash.specs.Reach.{Reaches, IsAcyclic}
+use Rattle.gix_revwalk.specs.Agreeing.{IsAgreeing}
+use Rattle.gix_revwalk.specs.Commits.{ReadsWhole, parents_of}
 use Rattle.gix_revwalk.specs.Ids.{AreDistinct}
 use Rattle.gix_topo.specs.Walk.{TopoPlan, TopoWalk, walked_of, row_generation, IsMember, IsStarted, IsWalkable, IsLeft, IsFault, IsLate, IsCounting, IsKnown, Next}
-use Rattle.gix_topo.specs.Laws.{IsTakenInOrder, IsWholeRun, IsGiven, GivesInOrder, answers_left, given_ids}
-use Rattle.gix_revwalk.specs.Asking.{AsksAll}
+use Rattle.gix_topo.specs.Laws.{IsTakenInOrder, IsWholeRun, IsGiven, GivesInOrder, GivesDifference, IsNoRefusal, answers_left, given_ids}
+use Rattle.gix_revwalk.specs.Asking.{AnswersBy, AsksAll}
 
 module _ {F : Type 0} (objects : F → Objects) where
   -- commits that were taken in order
@@ -40,6 +43,20 @@ module _ {F P : Type 0} (objects : F → Objects) (faulty : F → ObjectId → T
       (walk : TopoWalk F P) (accepts : ObjectId → Bool) (list : List (Result Info Error))
       → IsWholeRun objects faulty answers walk accepts list
       → GivesInOrder objects walk.plan accepts list
+
+  -- a walk through all parents whose predicate accepts all, where all that is reached reads whole
+  abbrev pub RunsGiveTheDifference : Type 0
+  RunsGiveTheDifference =
+      (walk : TopoWalk F P) (list : List (Result Info Error))
+      → let store = objects walk.plan.store in
+      AnswersBy answers walk.predicate (λ i. true)
+      → IsStarted objects faulty answers walk
+      → walk.plan.parents ≡ mode.All
+      → IsAgreeing store walk.plan.rows
+      → ((i : ObjectId) → Reaches (parents_of store) (walk.plan.tips ++ walk.plan.ends) i → ReadsWhole store i)
+      → All IsNoRefusal list
+      → Drains (Next objects faulty answers) walk list
+      → GivesDifference store walk.plan.tips walk.plan.ends list
 
   -- two walks, each by rows of its own that agree
   abbrev pub RowsLeaveTheIds : Type 0

@@ -5,7 +5,7 @@
 //! parents of what tips reach read whole. A law that names no premise holds for every store, all rows and every predicate, and over
 //! cycles.
 
-ghost use Rattle.gix_topo.specs.Statements.{RunsAreInOrder, TakesEachOnce, TakesChildrenFirst, RowsLeaveTheIds, Ends, AsksNeverTwice, GivesNeverTwice, FailsForItsReason, StaysEnded, ParentsAreKnown, TellsTheGenerations, CountsDownToTheDepth};
+ghost use Rattle.gix_topo.specs.Statements.{RunsAreInOrder, TakesEachOnce, RunsGiveTheDifference, TakesChildrenFirst, RowsLeaveTheIds, Ends, AsksNeverTwice, GivesNeverTwice, FailsForItsReason, StaysEnded, ParentsAreKnown, TellsTheGenerations, CountsDownToTheDepth};
 
 use gix_object::find::Find;
 use gix_revwalk::Predicate;
@@ -23,7 +23,14 @@ pub fn each_once<F: Find>()
     ensures { TakesEachOnce F.objects }
 {}
 
-/// In such a list a commit comes before each of its walked parents that is in the list.
+/// A walk that was built, goes through all parents, has a predicate that accepts every id, and is drawn to its end: it gives no fault,
+/// no commit twice, and only commits that its tips reach and its ends don't; and all of these, where no commit is its own ancestor.
+/// Memory and the store don't fail, the rows agree with the store, and all that tips and ends reach reads whole.
+pub fn difference<F: Find, P: Predicate>()
+    ensures { RunsGiveTheDifference F.objects F.faulty P.answers }
+{}
+
+/// In a list as of `each_once` a commit comes before each of its walked parents that is in the list.
 pub fn children_first<F: Find>()
     ensures { TakesChildrenFirst F.objects }
 {}

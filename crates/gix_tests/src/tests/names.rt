@@ -86,16 +86,16 @@ pub mod visit {
 
 pub mod laws_of_simple {
     pub use gix_traverse::laws::simple::{
-        are_alike, asks_once, breadth_order, each_once, ends, gives_breadth_first, hides, in_order,
-        infos_are_ordered, is_built, is_made, never_twice, reach_is_decided, rows_agree, tells,
-        time_order, times_fall,
+        are_alike, asks_once, breadth_order, difference, each_once, ends, faultless_difference,
+        gives_breadth_first, hides, in_order, infos_are_ordered, is_built, is_made, never_twice,
+        reach_is_decided, rows_agree, tells, time_order, times_fall,
     };
 }
 
 pub mod laws_of_topo {
     pub use gix_traverse::laws::topo::{
-        asks_once, children_first, counts, each_once, ends, fails_once, in_order, never_twice,
-        parents_known, rows_agree, stays_ended, tells,
+        asks_once, children_first, counts, difference, each_once, ends, fails_once, in_order,
+        never_twice, parents_known, rows_agree, stays_ended, tells,
     };
 }
 

@@ -1,4 +1,4 @@
-use Rattle.gix_simple.proofs.NeverTwice.{never_twice}
+use Rattle.gix_simple.proofs.Builders.{never_twice}
 use Rattle.gix_simple.proofs.laws.never_twice.Goals as goal
 
 pub returns : goal.returns
