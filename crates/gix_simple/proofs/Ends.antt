@@ -164,8 +164,8 @@ module _ {F P : Type 0} (objects : F → Objects) (faulty : F → ObjectId → T
       among-append i (map (λ row. row.id) rows) _ ∙ or_right (is_among i (map (λ row. row.id) rows)) _ (among_flat (λ entry. by_mode w.parents (text_parents entry.0 entry.1)) (map_of.entries (objects w.store)) _ i found (among_from i _ (subst (λ ids. Contains ids i) (scan_by w.parents (commit_items (kind_of p.id) bytes)) n)))) in
       let b : Spends named (unrowed w p.id) new = spends_then named (unrowed w p.id) walk new a (concluded_left named p.id _ _ _ _ _ walk concludes) in
       rows_go w new rows b.store b.parents b.rows (kept_either w.rows (row_of w.rows p.id)) b.less
-  takes_left w p (not_found u fault) = rows_go w (record (unrowed w p.id) { text = []; text_kind = kind_of p.id }) (kept_rows w.rows (row_of w.rows p.id)) refl refl refl (kept_either w.rows (row_of w.rows p.id)) (Rattle.std.proofs.Common.le_refl _)
-  takes_left w p (no_memory {rows = rows} left) = rows_go w (record w { rows = rows; text = []; text_kind = kind_of p.id; pending = [] }) rows refl refl refl (⊎_elim inl (λ e. ⊎_elim (λ k. inl (e ∙ k)) (λ k. inr (e ∙ k)) (kept_either w.rows (row_of w.rows p.id))) left) (omega arith)
+  takes_left w p (not_found u fault) = rows_go w (record (unrowed w p.id) { text = []; current = Some p.id }) (kept_rows w.rows (row_of w.rows p.id)) refl refl refl (kept_either w.rows (row_of w.rows p.id)) (Rattle.std.proofs.Common.le_refl _)
+  takes_left w p (no_memory {rows = rows} left) = rows_go w (record w { rows = rows; text = []; current = Some p.id; pending = [] }) rows refl refl refl (⊎_elim inl (λ e. ⊎_elim (λ k. inl (e ∙ k)) (λ k. inr (e ∙ k)) (kept_either w.rows (row_of w.rows p.id))) left) (omega arith)
 
   chosen_left : (w : SimpleWalk F P) (p : Pending) (others : List Pending) → Chooses objects faulty answers w p others → length w.pending ≡ suc (length others)
   chosen_left w p others (first t e) = ap length e

@@ -37,7 +37,7 @@ module _ {F P : Type 0} (objects : F → Objects) (faulty : F → ObjectId → T
     pub seen : (j : ObjectId) → keep objects faulty answers s j ≡ true → set.contains new.seen j ≡ (is_among j (walked_parents (objects s.store) s.parents i) || set.contains old.seen j)
     pub pending : Joins (order_of objects faulty answers s) (ids_of new.pending) (ids_of old.pending ++ fresh (set.contains old.seen) (next s i))
 
-  stands_read : (s : Setting objects faulty answers) (w : SimpleWalk F P) (text : List ℕ) (i : ObjectId) → Stands objects faulty answers s w → Stands objects faulty answers s (record w { text = text; text_kind = kind_of i })
+  stands_read : (s : Setting objects faulty answers) (w : SimpleWalk F P) (text : List ℕ) (i : ObjectId) → Stands objects faulty answers s w → Stands objects faulty answers s (record w { text = text; current = Some i })
   stands_read s w text i h = record { store = h.store; parents = h.parents; sorting = h.sorting; marks = h.marks; tips = h.tips; rows = h.rows; asked_of = h.asked_of; remembered = h.remembered; timed = h.timed }
 
   stands_unrowed : (s : Setting objects faulty answers) (w : SimpleWalk F P) (i : ObjectId) → Stands objects faulty answers s w → Stands objects faulty answers s (unrowed w i)

@@ -1,7 +1,6 @@
 -- How a walk takes a commit.
 use Rattle.std.specs.Prelude.{◌≡◌, ◌≢◌, ℕ, ℤ, List, [], Bool, true, false, Option, Some, None, Result, Ok, Err}
 use Rattle.std.proofs.Common.{refl, sym, ap, subst, inl, inr, ◌∙◌}
-use Rattle.gix_hash.specs.declared.Kind.{Kind}
 use Rattle.gix_hash.specs.declared.ObjectId.{ObjectId}
 use Rattle.gix_object.specs.declared.Kind.TheVariants as object
 use Rattle.gix_object.specs.declared.decode.Error.{Error as DecodeError}
@@ -32,42 +31,42 @@ use Rattle.gix_simple.proofs.LentText.{with_text, treats_all_with, SameText, tre
 
 module _ {F P : Type 0} (objects : F → Objects) (faulty : F → ObjectId → Type 0) (answers : P → ObjectId → Bool → P → Type 0) (old : SimpleWalk F P) (taken : Pending) where
   -- the text that was read before the parents were treated changes nothing
-  concludes_with : (text : List ℕ) (parents : List ObjectId) (generation : Option ℕ) (fault : Option DecodeError) (walk : SimpleWalk F P) (other : List ℕ) (kind : Kind) (time : Option ℤ) {how : Treated} {answer : Result Info Error} {new : SimpleWalk F P} → Concludes objects faulty answers taken.id parents generation time text fault walk how answer new → Concludes objects faulty answers taken.id parents generation time text fault (with_text walk other kind) how answer new
-  concludes_with text parents generation fault walk other kind time (given f is) = given f is
-  concludes_with text parents generation fault walk other kind time (broken f) = broken f
-  concludes_with text parents generation fault walk other kind time store_fails = store_fails
-  concludes_with text parents generation fault walk other kind time no_memory = no_memory
+  concludes_with : (text : List ℕ) (parents : List ObjectId) (generation : Option ℕ) (fault : Option DecodeError) (walk : SimpleWalk F P) (other : List ℕ) (current : Option ObjectId) (time : Option ℤ) {how : Treated} {answer : Result Info Error} {new : SimpleWalk F P} → Concludes objects faulty answers taken.id parents generation time text fault walk how answer new → Concludes objects faulty answers taken.id parents generation time text fault (with_text walk other current) how answer new
+  concludes_with text parents generation fault walk other current time (given f is) = given f is
+  concludes_with text parents generation fault walk other current time (broken f) = broken f
+  concludes_with text parents generation fault walk other current time store_fails = store_fails
+  concludes_with text parents generation fault walk other current time no_memory = no_memory
 
   given_same : (from to : SimpleWalk F P) → to.parents ≡ from.parents → to.sorting ≡ from.sorting → given_time to taken ≡ given_time from taken
   given_same from to p s = λ j. time_if (time_order (p j) (s j)) taken.time
 
   -- a sound row gives the commit
-  pub takes_by_row : (read : RowRead) (named : List ObjectId) (cleared : SimpleWalk F P) → RowSays old.rows taken.id read → named ≡ by_mode old.parents read.parent_ids.items → cleared ≡ with_text old [] old.text_kind → (ids : List ObjectId) → ids ≡ named → (how : Treated) (walk : SimpleWalk F P) → TreatsAll objects faulty answers true cleared ids how walk
+  pub takes_by_row : (read : RowRead) (named : List ObjectId) (cleared : SimpleWalk F P) → RowSays old.rows taken.id read → named ≡ by_mode old.parents read.parent_ids.items → cleared ≡ with_text old [] old.current → (ids : List ObjectId) → ids ≡ named → (how : Treated) (walk : SimpleWalk F P) → TreatsAll objects faulty answers true cleared ids how walk
       → (answer : Result Info Error) (new : SimpleWalk F P) → Concludes objects faulty answers taken.id named (Some read.generation) (given_time walk taken) walk.text None walk how answer new → Takes objects faulty answers old taken answer new
   takes_by_row read named cleared says is_named is_cleared ids same_ids how walk treats answer new c =
-      let t : TreatsAll objects faulty answers true (with_text old [] old.text_kind) (by_mode old.parents read.parent_ids.items) how walk = subst (λ xs. TreatsAll objects faulty answers true (with_text old [] old.text_kind) xs how walk) (same_ids ∙ is_named) (subst (λ w. TreatsAll objects faulty answers true w ids how walk) is_cleared treats) in
-      let kept : SameText objects faulty answers (with_text old [] old.text_kind) walk = treats_all_same objects faulty answers t in
+      let t : TreatsAll objects faulty answers true (with_text old [] old.current) (by_mode old.parents read.parent_ids.items) how walk = subst (λ xs. TreatsAll objects faulty answers true (with_text old [] old.current) xs how walk) (same_ids ∙ is_named) (subst (λ w. TreatsAll objects faulty answers true w ids how walk) is_cleared treats) in
+      let kept : SameText objects faulty answers (with_text old [] old.current) walk = treats_all_same objects faulty answers t in
       let d : Concludes objects faulty answers taken.id (by_mode old.parents read.parent_ids.items) (Some says.row.generation) (given_time old taken) [] None walk how answer new =
       subst (λ xs. Concludes objects faulty answers taken.id xs (Some says.row.generation) (given_time old taken) [] None walk how answer new) is_named
       (subst (λ g. Concludes objects faulty answers taken.id named (Some g) (given_time old taken) [] None walk how answer new) says.generation
       (subst (λ x. Concludes objects faulty answers taken.id named (Some read.generation) (given_time old taken) x None walk how answer new) kept.text
       (subst (λ x. Concludes objects faulty answers taken.id named (Some read.generation) x walk.text None walk how answer new) (given_same old walk kept.parents kept.sorting) c))) in
-      by_row says.there says.parents (treats_all_with objects faulty answers old.text old.text_kind t) (concludes_with [] (by_mode old.parents read.parent_ids.items) (Some says.row.generation) None walk old.text old.text_kind (given_time old taken) d)
+      by_row says.there says.parents (treats_all_with objects faulty answers old.text old.current t) (concludes_with [] (by_mode old.parents read.parent_ids.items) (Some says.row.generation) None walk old.text old.current (given_time old taken) d)
 
   -- there is no memory to read it
-  pub takes_no_memory : (walk new : SimpleWalk F P) (answer : Error) → walk ≡ with_text old walk.text walk.text_kind → answer ≡ error.Memory → new ≡ failed taken.id error.Memory walk → Takes objects faulty answers old taken (Err answer) new
+  pub takes_no_memory : (walk new : SimpleWalk F P) (answer : Error) → walk ≡ with_text old walk.text walk.current → answer ≡ error.Memory → new ≡ failed taken.id error.Memory walk → Takes objects faulty answers old taken (Err answer) new
   takes_no_memory walk new answer w a n = subst (λ e. Takes objects faulty answers old taken (Err e) new) (sym a) (subst (Takes objects faulty answers old taken (Err error.Memory)) (sym (n ∙ ap (failed taken.id error.Memory) w)) (no_memory (inl refl)))
 
   -- the rows don't say anything of it
-  module _ (rowless : row_of old.rows taken.id ≡ None) (walk : SimpleWalk F P) (is_read : walk ≡ with_text old walk.text walk.text_kind) where
+  module _ (rowless : row_of old.rows taken.id ≡ None) (walk : SimpleWalk F P) (is_read : walk ≡ with_text old walk.text walk.current) where
     unrowed_is : IsUnrowed old.rows taken.id
     unrowed_is = λ row e. cc
 
     stays : unrowed old taken.id ≡ old
     stays = λ j. record old { rows = kept_rows old.rows (rowless j) }
 
-    read_so : walk ≡ with_text (unrowed old taken.id) walk.text walk.text_kind
-    read_so = is_read ∙ ap (λ w. with_text w walk.text walk.text_kind) (sym stays)
+    read_so : walk ≡ with_text (unrowed old taken.id) walk.text walk.current
+    read_so = is_read ∙ ap (λ w. with_text w walk.text walk.current) (sym stays)
 
     -- no commit is found
     pub takes_missing : (fault : ExistingError) → FindsKindInto (objects old.store) (faulty old.store) taken.id object.Commit (Err fault) walk.text → (e answer : Error) (new : SimpleWalk F P) → e ≡ error_of_find fault → answer ≡ e → new ≡ failed taken.id e walk → Takes objects faulty answers old taken (Err answer) new
@@ -89,15 +88,15 @@ module _ {F P : Type 0} (objects : F → Objects) (faulty : F → ObjectId → T
         → (answer : Result Info Error) (new : SimpleWalk F P) → Concludes objects faulty answers taken.id shown None (given_time then taken) then.text fault then how answer new → Takes objects faulty answers old taken answer new
     takes_by_store there ids shown fault same_ids read how then treats answer new c =
         let start : SimpleWalk F P = unrowed old taken.id in
-        let t : TreatsAll objects faulty answers false (with_text start walk.text walk.text_kind) shown how then = subst (λ w. TreatsAll objects faulty answers false w shown how then) read_so (subst (λ xs. TreatsAll objects faulty answers false walk xs how then) same_ids treats) in
-        let kept : SameText objects faulty answers (with_text start walk.text walk.text_kind) then = treats_all_same objects faulty answers t in
-        let back : TreatsAll objects faulty answers false start shown how (with_text then start.text start.text_kind) = treats_all_with objects faulty answers start.text start.text_kind t in
-        let d : Concludes objects faulty answers taken.id shown None (given_time old taken) walk.text fault (with_text then start.text start.text_kind) how answer new =
-        concludes_with walk.text shown None fault then start.text start.text_kind (given_time old taken)
+        let t : TreatsAll objects faulty answers false (with_text start walk.text walk.current) shown how then = subst (λ w. TreatsAll objects faulty answers false w shown how then) read_so (subst (λ xs. TreatsAll objects faulty answers false walk xs how then) same_ids treats) in
+        let kept : SameText objects faulty answers (with_text start walk.text walk.current) then = treats_all_same objects faulty answers t in
+        let back : TreatsAll objects faulty answers false start shown how (with_text then start.text start.current) = treats_all_with objects faulty answers start.text start.current t in
+        let d : Concludes objects faulty answers taken.id shown None (given_time old taken) walk.text fault (with_text then start.text start.current) how answer new =
+        concludes_with walk.text shown None fault then start.text start.current (given_time old taken)
         (subst (λ x. Concludes objects faulty answers taken.id shown None (given_time old taken) x fault then how answer new) kept.text
         (subst (λ x. Concludes objects faulty answers taken.id shown None x then.text fault then how answer new) (given_same start then kept.parents kept.sorting) c)) in
-        by_store unrowed_is there (subst (λ xs. TreatsAll objects faulty answers false start xs how (with_text then start.text start.text_kind)) (ap (λ r. r.0) read) back)
-        (subst (λ r. Concludes objects faulty answers taken.id r.0 None (given_time old taken) walk.text r.1 (with_text then start.text start.text_kind) how answer new) read d)
+        by_store unrowed_is there (subst (λ xs. TreatsAll objects faulty answers false start xs how (with_text then start.text start.current)) (ap (λ r. r.0) read) back)
+        (subst (λ r. Concludes objects faulty answers taken.id r.0 None (given_time old taken) walk.text r.1 (with_text then start.text start.current) how answer new) read d)
 
 module _ {F P : Type 0} (objects : F → Objects) (faulty : F → ObjectId → Type 0) (answers : P → ObjectId → Bool → P → Type 0) (old : SimpleWalk F P) (taken : Pending) where
   -- where the rows were dropped, or have no row of the commit, it is taken as from the walk before
@@ -110,7 +109,7 @@ module _ {F P : Type 0} (objects : F → Objects) (faulty : F → ObjectId → T
         where
           twice : row_of (unrowed old taken.id).rows taken.id ≡ None → unrowed (unrowed old taken.id) taken.id ≡ unrowed old taken.id
           twice n = λ j. record old { rows = kept_rows (unrowed old taken.id).rows (n j) }
-      go none (not_found {e = e} v f) = subst (λ rows. Takes objects faulty answers old taken (Err (error.Find e)) (record old { rows = rows; text = []; text_kind = kind_of taken.id })) (λ j. kept_rows (unrowed old taken.id).rows (sym none j)) (not_found u f)
+      go none (not_found {e = e} v f) = subst (λ rows. Takes objects faulty answers old taken (Err (error.Find e)) (record old { rows = rows; text = []; current = Some taken.id })) (λ j. kept_rows (unrowed old taken.id).rows (sym none j)) (not_found u f)
       go none (no_memory {rows = rows} (inl e)) = no_memory (inr e)
       go none (no_memory {rows = rows} (inr e)) = no_memory (inr (e ∙ (λ j. kept_rows (unrowed old taken.id).rows (none j))))
 
@@ -150,7 +149,7 @@ module _ {F P : Type 0} (objects : F → Objects) (faulty : F → ObjectId → T
   concludes_broken u t e f answer new a n = concluded_so GoesOn (ap how_ended t) (error.ObjectDecode e) answer new a n (broken f)
 
   -- the commit is given
-  pub concludes_given : (u : Unit {0}) → treated ≡ Ok u → fault ≡ None → (info : Info) → IsInfo info id parents generation time → (inside : SimpleWalk F P) (kind : Kind) → inside ≡ old → kind ≡ kind_of id → Concluded (Ok info) (record inside { text_kind = kind })
-  concludes_given u t f info i inside kind is k =
-      subst (λ how. Concludes objects faulty answers id parents generation time old.text fault old how (Ok info) (record inside { text_kind = kind })) (sym (ap how_ended t))
-      (subst (Concludes objects faulty answers id parents generation time old.text fault old GoesOn (Ok info)) (λ j. record (sym is j) { text_kind = sym k j }) (given f i))
+  pub concludes_given : (u : Unit {0}) → treated ≡ Ok u → fault ≡ None → (info : Info) → IsInfo info id parents generation time → (inside : SimpleWalk F P) → inside ≡ old → Concluded (Ok info) (record inside { current = Some id })
+  concludes_given u t f info i inside is =
+      subst (λ how. Concludes objects faulty answers id parents generation time old.text fault old how (Ok info) (record inside { current = Some id })) (sym (ap how_ended t))
+      (subst (Concludes objects faulty answers id parents generation time old.text fault old GoesOn (Ok info)) (λ j. record (sym is j) { current = Some id }) (given f i))

@@ -50,11 +50,17 @@ pub record SimpleWalk (F P : Type 0) : Type 0 where
   pub hidden : set.FinSet id_cmp
   -- the text of the commit last given
   pub text : List ℕ
-  pub text_kind : Kind
+  -- the commit last taken, given or not
+  pub current : Option ObjectId
 
 -- a walk before its tips: over all parents, breadth first, without rows and hidden tips
 abbrev pub bare : {F P : Type 0} → F → P → SimpleWalk F P
-bare store predicate = record { store = store; predicate = predicate; rows = []; parents = mode.All; sorting = sorting.BreadthFirst; pending = []; seen = set.empty; remembered = set.empty; hidden_tips = []; hidden = set.empty; text = []; text_kind = id_kind.Sha1 }
+bare store predicate = record { store = store; predicate = predicate; rows = []; parents = mode.All; sorting = sorting.BreadthFirst; pending = []; seen = set.empty; remembered = set.empty; hidden_tips = []; hidden = set.empty; text = []; current = None }
+
+-- the kind by which the text of the current commit is read
+abbrev pub kind_at : Option ObjectId → Kind
+kind_at None = id_kind.Sha1
+kind_at (Some id) = kind_of id
 
 -- the order by time that is in force, and its cutoff
 abbrev pub time_order : Parents → Sorting → Option CommitTimeOrder
@@ -91,10 +97,10 @@ how_ended (Err stop.Memory) = NoMemory
 
 -- what is left of a walk after a fault in the place of a commit: no text, and where memory ran out no pending commit
 abbrev pub failed : {F P : Type 0} → ObjectId → Error → SimpleWalk F P → SimpleWalk F P
-failed id error.Memory walk = record walk { text = []; text_kind = kind_of id; pending = [] }
-failed id (error.Find e) walk = record walk { text = []; text_kind = kind_of id }
-failed id (error.ObjectDecode e) walk = record walk { text = []; text_kind = kind_of id }
-failed id (error.HiddenGraph e) walk = record walk { text = []; text_kind = kind_of id }
+failed id error.Memory walk = record walk { text = []; current = Some id; pending = [] }
+failed id (error.Find e) walk = record walk { text = []; current = Some id }
+failed id (error.ObjectDecode e) walk = record walk { text = []; current = Some id }
+failed id (error.HiddenGraph e) walk = record walk { text = []; current = Some id }
 
 -- the pending commits are these: in this order, or in any where one by time is in force
 abbrev pub Holds : Option CommitTimeOrder → List Pending → List Pending → Type 0
@@ -163,17 +169,17 @@ module _ {F P : Type 0} (objects : F → Objects) (faulty : F → ObjectId → T
 
   -- the answer after the parents were treated: the commit, the fault that ended its reading, or what failed
   pub data Concludes (id : ObjectId) (parents : List ObjectId) (generation : Option ℕ) (time : Option ℤ) (text : List ℕ) (fault : Option DecodeError) (walk : SimpleWalk F P) : Treated → Result Info Error → SimpleWalk F P → Type 0 where
-    given : {info : Info} → fault ≡ None → IsInfo info id parents generation time → Concludes id parents generation time text fault walk GoesOn (Ok info) (record walk { text = text; text_kind = kind_of id })
-    broken : {e : DecodeError} → fault ≡ Some e → Concludes id parents generation time text fault walk GoesOn (Err (error.ObjectDecode e)) (record walk { text = []; text_kind = kind_of id })
-    store_fails : Concludes id parents generation time text fault walk StoreFails (Err (error.Find existing.Store)) (record walk { text = []; text_kind = kind_of id })
-    no_memory : Concludes id parents generation time text fault walk NoMemory (Err error.Memory) (record walk { text = []; text_kind = kind_of id; pending = [] })
+    given : {info : Info} → fault ≡ None → IsInfo info id parents generation time → Concludes id parents generation time text fault walk GoesOn (Ok info) (record walk { text = text; current = Some id })
+    broken : {e : DecodeError} → fault ≡ Some e → Concludes id parents generation time text fault walk GoesOn (Err (error.ObjectDecode e)) (record walk { text = []; current = Some id })
+    store_fails : Concludes id parents generation time text fault walk StoreFails (Err (error.Find existing.Store)) (record walk { text = []; current = Some id })
+    no_memory : Concludes id parents generation time text fault walk NoMemory (Err error.Memory) (record walk { text = []; current = Some id; pending = [] })
 
   -- the commit of a pending id is read and given, or else a fault in its place
   pub data Takes (old : SimpleWalk F P) (taken : Pending) : Result Info Error → SimpleWalk F P → Type 0 where
     by_row : {row : GraphRow} {ids : List ObjectId} {how : Treated} {answer : Result Info Error} {walk new : SimpleWalk F P} → row_of old.rows taken.id ≡ Some row → ids_at old.rows row.parents ≡ Some ids → TreatsAll true old (by_mode old.parents ids) how walk → Concludes taken.id (by_mode old.parents ids) (Some row.generation) (given_time old taken) [] None walk how answer new → Takes old taken answer new
     by_store : {bytes : List ℕ} {how : Treated} {answer : Result Info Error} {walk new : SimpleWalk F P} → IsUnrowed old.rows taken.id → map_of.get (objects old.store) taken.id ≡ Some (record { kind = object.Commit; bytes = bytes }) → TreatsAll false (unrowed old taken.id) (scanned old.parents (commit_items (kind_of taken.id) bytes)).0 how walk → Concludes taken.id (scanned old.parents (commit_items (kind_of taken.id) bytes)).0 None (given_time old taken) bytes (scanned old.parents (commit_items (kind_of taken.id) bytes)).1 walk how answer new → Takes old taken answer new
-    not_found : {e : ExistingError} → IsUnrowed old.rows taken.id → IsExistingFault (objects old.store) (faulty old.store) taken.id object.Commit e → Takes old taken (Err (error.Find e)) (record (unrowed old taken.id) { text = []; text_kind = kind_of taken.id })
-    no_memory : {rows : List GraphRow} → (rows ≡ old.rows) ⊎ (rows ≡ kept_rows old.rows (row_of old.rows taken.id)) → Takes old taken (Err error.Memory) (record old { rows = rows; text = []; text_kind = kind_of taken.id; pending = [] })
+    not_found : {e : ExistingError} → IsUnrowed old.rows taken.id → IsExistingFault (objects old.store) (faulty old.store) taken.id object.Commit e → Takes old taken (Err (error.Find e)) (record (unrowed old taken.id) { text = []; current = Some taken.id })
+    no_memory : {rows : List GraphRow} → (rows ≡ old.rows) ⊎ (rows ≡ kept_rows old.rows (row_of old.rows taken.id)) → Takes old taken (Err error.Memory) (record old { rows = rows; text = []; current = Some taken.id; pending = [] })
 
   -- the pending commit whose turn it is, and the others
   pub data Chooses (old : SimpleWalk F P) (taken : Pending) (others : List Pending) : Type 0 where

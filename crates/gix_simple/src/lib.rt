@@ -10,7 +10,7 @@ ghost use Rattle.gix_simple.specs.declared.Sorting.TheVariants as by;
 ghost use Rattle.gix_simple.specs.declared.Error.TheVariants as error;
 ghost use Rattle.gix_revwalk.specs.Agreeing.{rows_in};
 ghost use Rattle.gix_revwalk.specs.Tips.{Draws};
-ghost use Rattle.gix_simple.specs.Walk.{IsMade, Next};
+ghost use Rattle.gix_simple.specs.Walk.{kind_at, IsMade, Next};
 ghost use Rattle.gix_simple.specs.Building.{IsSortedByTime, FailsAtTip};
 ghost use Rattle.gix_simple.specs.Inside.Steps.{rows_of};
 ghost use Rattle.gix_simple.specs.Laws.{answers_left};
@@ -191,7 +191,8 @@ pub struct Simple<F, P> {
     hidden: HiddenIds,
     // The text of the commit last given, if it was read from the store.
     text: Vec<u8>,
-    text_kind: Kind,
+    // The commit last taken.
+    current: Option<ObjectId>,
     // Where a parent is read for its time.
     buf: Vec<u8>,
     alloc: Global,
@@ -220,7 +221,7 @@ impl<F, P> Model for Simple<F, P> {
       hidden_tips = w.hidden_tips.items;
       hidden = w.hidden;
       text = w.text.items;
-      text_kind = w.text_kind;
+      current = w.current;
     } };
 }
 
@@ -277,7 +278,7 @@ impl<F: Find + Drop, P: Predicate + Drop> Simple<F, P> {
             hidden_tips: Vec::new(alloc),
             hidden: HiddenIds::new(alloc),
             text: Vec::new(alloc),
-            text_kind: Kind::Sha1,
+            current: None,
             buf: Vec::new(alloc),
             alloc,
         };
@@ -354,6 +355,15 @@ impl<F: Find + Drop, P: Predicate + Drop> Simple<F, P> {
         self
     }
 
+    /// The commit that the last answer was about: the one that was given, or the one that could not be read, or a parent of which had no
+    /// time to be read. None before the first commit; a step that gives `HiddenGraph`, or that runs out of memory before it takes a commit,
+    /// leaves it as it is, and so does the end.
+    pub fn current(&self) -> Option<ObjectId>
+        ensures { result ≡ self.now.current }
+    {
+        self.current
+    }
+
     /// The commit-graph, as long as its rows are read: none before [`commit_graph`](Simple::commit_graph) and after a corrupt row. The row of
     /// a commit that was given by its row is `graph.commit_by_id(&commit.id)`; where there is none, its text is in
     /// [`commit_data`](Simple::commit_data).
@@ -376,9 +386,13 @@ impl<F: Find + Drop, P: Predicate + Drop> Simple<F, P> {
 
     /// The items of the text of `commit_data`. An empty text has none, so where a row gave the commit `committer` answers `Missing`.
     pub fn commit_iter(&self) -> CommitRefIter<'_>
-        ensures { commit_items_left result ≡ commit_items self.now.text_kind self.now.text }
+        ensures { commit_items_left result ≡ commit_items (kind_at self.now.current) self.now.text }
     {
-        CommitRefIter::from_bytes(self.commit_data(), self.text_kind)
+        let kind = match self.current {
+            None => Kind::Sha1,
+            Some(id) => id.kind(),
+        };
+        CommitRefIter::from_bytes(self.commit_data(), kind)
     }
 }
 

@@ -233,7 +233,7 @@ impl<F: Find + Drop, P: Predicate + Drop> Simple<F, P> {
         ensures left { self.new ≡ failed id.now error self.old }
     {
         self.text.clear();
-        self.text_kind = id.kind();
+        self.current = Some(*id);
         if matches!(error, Error::Memory) {
             self.pending.clear();
         }
@@ -259,7 +259,7 @@ impl<F: Find + Drop, P: Predicate + Drop> Simple<F, P> {
             return Err(self.fail(&taken.id, Error::ObjectDecode(fault)));
         }
         let commit_time = self.given_time(taken);
-        self.text_kind = taken.id.kind();
+        self.current = Some(taken.id);
         Ok(Info {
             id: taken.id,
             parent_ids: scanned.parent_ids,

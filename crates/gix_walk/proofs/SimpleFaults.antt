@@ -112,7 +112,7 @@ module _ (objects : Objects) (tips hiders : List ObjectId) (whole : AreWhole obj
   IsGood (Some (Ok info)) new = Stands new
   IsGood (Some (Err e)) new = fault_of_walk e ≢ fault.Internal → IsOutside (fault_of_walk e)
 
-  texted : (w : Walk) (text : List ℕ) (i : ObjectId) → Stands w → Stands (record w { text = text; text_kind = kind_of i })
+  texted : (w : Walk) (text : List ℕ) (i : ObjectId) → Stands w → Stands (record w { text = text; current = Some i })
   texted w text i s = record { store = s.store; rows = s.rows; parents = s.parents; behind = s.behind; met = s.met }
 
   concluded : {i : ObjectId} {ps : List ObjectId} {generation : Option ℕ} {time : Option ℤ} {text : List ℕ} {read : Option DecodeError} {w : Walk} {how : Treated} {answer : Result Info Error} {new : Walk}

@@ -9,4 +9,4 @@ pub returns-in-Some-clause-concludes : goal.returns-in-Some-clause-concludes
 returns-in-Some-clause-concludes g c = concludes_broken g.F.Find.objects g.F.Find.faulty g.P.Predicate.answers _ _ _ _ _ _ _ c.in_default.field-0 c.in_default.is c.in-Some.fault c.in-Some.is _ _ c.fail-in-Some.ensures.same c.fail-in-Some.ensures.left
 
 pub returns-clause-concludes : goal.returns-clause-concludes
-returns-clause-concludes g c = concludes_given g.F.Find.objects g.F.Find.faulty g.P.Predicate.answers _ _ _ _ _ _ _ c.in_default.field-0 c.in_default.is c.in_default-fault.is _ (record { same_id = refl; same_parents = refl; same_generation = refl; same_time = c.given_time-commit_time.ensures }) _ _ c.self.view_is c.kind-self-inside.ensures
+returns-clause-concludes g c = concludes_given g.F.Find.objects g.F.Find.faulty g.P.Predicate.answers _ _ _ _ _ _ _ c.in_default.field-0 c.in_default.is c.in_default-fault.is _ (record { same_id = refl; same_parents = refl; same_generation = refl; same_time = c.given_time-commit_time.ensures }) _ c.self.view_is

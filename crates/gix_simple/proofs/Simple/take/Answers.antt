@@ -10,7 +10,7 @@ use Rattle.gix_simple.proofs.Simple.take.Goals as goal
 pub returns-in-Err-clause-takes : goal.returns-in-Err-clause-takes
 returns-in-Err-clause-takes g c =
     takes_no_memory g.F.Find.objects g.F.Find.faulty g.P.Predicate.answers c.args.self.now c.args.taken _ _ _
-    (λ j. record (c.self.view_is j) { rows = (ap (λ b. if b then rows_of c.self.inside.graph else []) c.in-Err.ensures.err ∙ ap (λ w. w.rows) c.self.view_is) j; text = c.self.inside.text.items; text_kind = c.self.inside.text_kind }) c.fail.ensures.same c.fail.ensures.left
+    (λ j. record (c.self.view_is j) { rows = (ap (λ b. if b then rows_of c.self.inside.graph else []) c.in-Err.ensures.err ∙ ap (λ w. w.rows) c.self.view_is) j; text = c.self.inside.text.items; current = c.self.inside.current }) c.fail.ensures.same c.fail.ensures.left
 
 pub take_by_row-requires-clause-sound : goal.take_by_row-requires-clause-sound
 take_by_row-requires-clause-sound g c = (read_held (subst (λ row. ReadsRow (rows_of c.self.inside.graph) c.self.inside.held c.args.taken.id row c.read_row.new.held) c.in-Some.is (reads_lent _ _ c.as_ref.ensures.value c.in-Ok.ensures.reads))).1
