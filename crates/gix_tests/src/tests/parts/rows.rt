@@ -64,19 +64,19 @@ fn rows_of(alloc: Global, spread: Spread, count: u32) -> Result<Vec<Row>, AllocE
     Ok(rows)
 }
 
-fn ids_of(alloc: Global, rows: &[Row]) -> Result<Vec<ObjectId>, AllocError> {
-    let mut ids = Vec::new(alloc);
-    for row in rows {
-        ids.push(row.id)?;
+fn all_ends(alloc: Global, spread: Spread, count: u32) -> Result<Vec<(u32, u64)>, AllocError> {
+    let mut all = Vec::new(alloc);
+    for number in 0..count {
+        all.push(ends_of(spread, number))?;
     }
-    Ok(ids)
+    Ok(all)
 }
 
-// The time of the row of an id, by going through all ids.
-fn time_among(ids: &[ObjectId], id: &ObjectId) -> Option<i64> {
+// The time of the row whose id begins and ends so, by going through all ids.
+fn time_among(all: &[(u32, u64)], front: u32, end: u64) -> Option<i64> {
     let mut time = 0i64;
-    for other in ids {
-        if other == id {
+    for other in all {
+        if other.0 == front && other.1 == end {
             return Some(time);
         }
         time = time.wrapping_add(1);
@@ -90,16 +90,17 @@ fn time_in(graph: &Graph, id: &ObjectId) -> Option<i64> {
 }
 
 // Each id and its two neighbours have the row that they should have, or none.
-fn check_times(graph: &Graph, ids: &[ObjectId], spread: Spread, count: u32) -> Result<(), Fail> {
-    for number in 0..count {
-        let (front, end) = ends_of(spread, number);
+fn check_times(graph: &Graph, all: &[(u32, u64)], spread: Spread) -> Result<(), Fail> {
+    for (front, end) in all {
         for step in [0, 1, u64::MAX] {
-            let id = id_of(front, end.wrapping_add(step));
+            let end = end.wrapping_add(step);
+            let id = id_of(*front, end);
             let found = time_in(graph, &id);
-            let want = time_among(ids, &id);
+            let want = time_among(all, *front, end);
             if found != want {
                 return Err(Fail::new(format_args!(
-                    "{spread:?}, {count} rows: {id} has {found:?}, and not {want:?}"
+                    "{spread:?}, {} rows: {id} has {found:?}, and not {want:?}",
+                    all.len()
                 )));
             }
         }
@@ -109,11 +110,11 @@ fn check_times(graph: &Graph, ids: &[ObjectId], spread: Spread, count: u32) -> R
 
 fn check_graph(rt: &(impl Abort + AllocGlobal), spread: Spread, count: u32) -> Result<(), Fail> {
     let rows = rows_of(rt.alloc(), spread, count)?;
-    let ids = ids_of(rt.alloc(), rows.as_slice())?;
+    let all = all_ends(rt.alloc(), spread, count)?;
     let graph = Graph::new(rt.alloc(), rows)?;
     let copy = graph.copy()?;
     assert_eq!(rt; copy.packed(), graph.packed());
-    check_times(&copy, ids.as_slice(), spread, count)
+    check_times(&copy, all.as_slice(), spread)
 }
 
 #[test]
