@@ -6,6 +6,8 @@ pub mod Arrangement
 pub mod HandedRows
 -- The row of an id, among rows by rising id.
 pub mod RowSearch
+-- The order of bytes by the first four of them.
+pub mod FirstBytes
 -- The fields of a packed row.
 pub mod Fields
 -- The overflow words that reading a row's parents leaves.

@@ -1,11 +1,14 @@
 //! The fields of packed rows, read in place.
 ghost use Rattle.std.specs.Prelude.{◌≡◌, ◌+◌, ◌*◌, ◌≤◌, length, take, drop};
 ghost use Rattle.std.specs.Int.{w64, from_be_bytes};
-ghost use Rattle.gix_hash.specs.Id.{id_len};
+ghost use Rattle.std.specs.Cmp.Lexicographic.{slice_cmp};
+ghost use Rattle.std.specs.Ordering.{nat_cmp};
+ghost use Rattle.gix_hash.specs.Id.{id_len, id_cmp, bytes_of};
 ghost use Rattle.gix_commitgraph.specs.PackedReading.{word_at, row_len, id_field, tree_field, first_field, second_field, generation_field, time_field};
 
 use super::check::Layout;
 use gix_hash::{Kind, ObjectId};
+use std::cmp::Ordering;
 
 /// The number of bytes of a packed row.
 pub(super) fn row_len(kind: Kind) -> usize
@@ -68,6 +71,51 @@ pub(super) fn id_field(kind: Kind, bytes: &[u8]) -> ObjectId
             id.copy_from_slice(front);
             ObjectId::Sha256(id)
         }
+    }
+}
+
+/// The number in the first four bytes of an id.
+pub(super) fn front(id: &ObjectId) -> u32
+    ensures { result ≡ word_at 0 (bytes_of id.now) }
+{
+    match id {
+        ObjectId::Sha1(bytes) => word_at(bytes, 0),
+        ObjectId::Sha256(bytes) => word_at(bytes, 0),
+    }
+}
+
+/// The order of bytes.
+fn compare_all(a: &[u8], b: &[u8]) -> Ordering
+    ensures { result ≡ slice_cmp nat_cmp a.now b.now }
+{
+    a.cmp(&b)
+}
+
+/// The order of bytes, which the first four tell where they differ.
+fn compare(a: &[u8], b: &[u8]) -> Ordering
+    requires { (4 ≤ length a.now) × (4 ≤ length b.now) }
+    ensures { result ≡ slice_cmp nat_cmp a.now b.now }
+{
+    let (x, y) = (word_at(a, 0), word_at(b, 0));
+    if x < y {
+        return Ordering::Less;
+    }
+    if y < x {
+        return Ordering::Greater;
+    }
+    compare_all(a, b)
+}
+
+/// The order of the id at the front and another, compared where they are.
+pub(super) fn compare_id(kind: Kind, bytes: &[u8], id: &ObjectId) -> Ordering
+    requires { id_len kind ≤ length bytes.now }
+    ensures { result ≡ id_cmp (id_field kind bytes.now) id.now }
+{
+    match (kind, id) {
+        (Kind::Sha1, ObjectId::Sha1(id)) => compare(bytes.split_at(20).0, id),
+        (Kind::Sha1, ObjectId::Sha256(_)) => Ordering::Less,
+        (Kind::Sha256, ObjectId::Sha1(_)) => Ordering::Greater,
+        (Kind::Sha256, ObjectId::Sha256(id)) => compare(bytes.split_at(32).0, id),
     }
 }
 

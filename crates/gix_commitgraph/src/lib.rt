@@ -4,6 +4,7 @@
 mod check;
 mod commit;
 mod fields;
+mod guess;
 pub mod laws;
 mod order;
 mod pack;
@@ -216,6 +217,17 @@ impl Graph {
         }
     }
 
+    /// The same rows again, in memory of their own, of the same allocator. The bytes are copied and not tested again.
+    pub fn copy(&self) -> Result<Graph, AllocError>
+        ensures { IfOk result (λ graph. graph ≡ self.now) }
+    {
+        let packed = Vec::from_slice(*self.packed.allocator(), self.packed.as_slice())?;
+        Ok(Graph {
+            packed,
+            layout: self.layout,
+        })
+    }
+
     /// The packed bytes of the rows: each list of rows has one spelling.
     pub fn packed(&self) -> &[u8]
         ensures { result.now ≡ spelling self.now }
@@ -231,18 +243,30 @@ impl Graph {
         self.layout.rows
     }
 
-    /// The row of an id, found by binary search. None where the id has none.
+    /// The row of an id, or None where the id has none. The search begins with guesses of its place, which suit ids that are spread as those of a hash, and then
+    /// halves what is left, so it never takes more than some forty comparisons.
     pub fn commit_by_id(&self, id: &ObjectId) -> Option<Commit<'_>>
         ensures row { option_map row_of_commit result ≡ row_of self.now id.now }
         ensures rows { IfSome result (λ commit. rows_of_commit commit ≡ self.now) }
     {
         let mut low = 0u32;
         let mut high = self.num_commits();
+        let front = fields::front(id);
+        let mut guess = guess::rows_between(0, front, high);
+        let mut guesses = guess::GUESSES;
         while low < high {
-            let middle = low + (high - low) / 2;
+            let middle = guess::probe(guesses, guess, low, high);
+            guesses = guesses.saturating_sub(1);
+            let away = self.away(middle, front);
             match self.compare_at(middle, id) {
-                Ordering::Less => low = middle + 1,
-                Ordering::Greater => high = middle,
+                Ordering::Less => {
+                    low = middle + 1;
+                    guess = low.saturating_add(away);
+                }
+                Ordering::Greater => {
+                    high = middle;
+                    guess = middle.saturating_sub(away).saturating_sub(1);
+                }
                 Ordering::Equal => return Some(self.commit_at(Position(middle))),
             }
         }
@@ -292,7 +316,14 @@ impl Graph {
         requires { row < length self.now }
         ensures { result ≡ id_cmp (row_at self.now row).id id.now }
     {
-        self.id_at(row).cmp(id)
+        fields::compare_id(self.kind(), self.row(row), id)
+    }
+
+    /// How many rows the row of an id that begins with a number is away from a row, where the ids of rows are spread evenly.
+    fn away(&self, row: u32, front: u32) -> u32
+        requires { row < length self.now }
+    {
+        guess::rows_between(fields::word_at(self.row(row), 0), front, self.layout.rows)
     }
 
     fn tree_at(&self, row: u32) -> ObjectId

@@ -3,6 +3,7 @@ mod commit;
 mod graph;
 mod ids;
 mod queue;
+mod rows;
 mod store;
 mod tables;
 mod tree;

@@ -1,4 +1,4 @@
-use Rattle.std.proofs.Common.{◌≡◌, ◌+◌, ◌-◌, ◌/◌, ◌<◌, length, sym, ◌∙◌, arith, inl, inr}
+use Rattle.std.proofs.Common.{◌≡◌, ◌<◌, length, sym, ◌∙◌, arith, inl, inr}
 use Rattle.std.specs.declared.cmp.Ordering.TheVariants.{Less, Equal, Greater}
 use Rattle.std.proofs.lemmas.Bool.{cases_lt}
 use Rattle.std.proofs.lemmas.Option.{slice_get-get_or}
@@ -10,7 +10,7 @@ use Rattle.gix_commitgraph.proofs.Graph.commit_by_id.Goals as goal
 pub loop-low-preserved-in-Less : goal.loop-low-preserved-in-Less
 loop-low-preserved-in-Less c =
     let rows = c.args.self.now in
-    let middle = c.loop-low.low + (c.loop-low.high - c.loop-low.low) / 2 in
+    let middle = c.probe-middle.result in
     let compared : id_cmp (row_at rows middle).id c.args.id.now ≡ Less = sym c.compare_at.ensures ∙ c.in-Less.is in
     record {
       in_order = omega arith;
@@ -22,7 +22,7 @@ loop-low-preserved-in-Less c =
 pub loop-low-preserved : goal.loop-low-preserved
 loop-low-preserved c =
     let rows = c.args.self.now in
-    let middle = c.loop-low.low + (c.loop-low.high - c.loop-low.low) / 2 in
+    let middle = c.probe-middle.result in
     let compared : id_cmp (row_at rows middle).id c.args.id.now ≡ Greater = sym c.compare_at.ensures ∙ c.in-Greater.is in
     record {
       in_order = omega arith;
@@ -34,7 +34,7 @@ loop-low-preserved c =
 pub returns-in-Equal-clause-row : goal.returns-in-Equal-clause-row
 returns-in-Equal-clause-row c =
     let rows = c.args.self.now in
-    let middle = c.loop-low.low + (c.loop-low.high - c.loop-low.low) / 2 in
+    let middle = c.probe-middle.result in
     let compared : id_cmp (row_at rows middle).id c.args.id.now ≡ Equal = sym c.compare_at.ensures ∙ c.in-Equal.is in
     let within : middle < length rows = omega arith in
     sym c.commit_at.ensures.row ∙ slice_get-get_or rows middle no_row within ∙ sym (row_of-found rows c.args.id.now middle c.num_commits-high.ensures.sound.rising within compared)
