@@ -1,0 +1,3 @@
+pub mod RowText
+pub mod WithRows
+pub mod Laws
