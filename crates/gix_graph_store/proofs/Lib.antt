@@ -8,3 +8,5 @@ pub mod Seconds
 pub mod Texts
 -- Sound rows, and stores that agree with rows.
 pub mod SoundRows
+-- A worked store.
+pub mod StoredExample

@@ -77,7 +77,7 @@ module _ (rows : List GraphRow) (graph : AreGraphRows rows) where
 -- ---- a store with the rows
 
 module _ (rows : List GraphRow) (objects : Objects) (i : ObjectId) where
-  stored-stays : (object : Object) → get objects i ≡ Some object → get (with_rows rows objects) i ≡ Some object
+  pub stored-stays : (object : Object) → get objects i ≡ Some object → get (with_rows rows objects) i ≡ Some object
   stored-stays object e = get-with_rows rows objects i ∙ ap (λ o. option_or o (option_map commit_object (text_at rows i))) e
 
   or-none : (o : Option Object) → option_or o None ≡ o
