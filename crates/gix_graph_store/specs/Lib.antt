@@ -1,0 +1,4 @@
+pub mod RowText
+pub mod WithRows
+pub mod Laws
+pub mod StoreExamples
