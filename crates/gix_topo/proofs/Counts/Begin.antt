@@ -201,6 +201,6 @@ module _ {F : Type 0} (objects : F → Objects) (faulty : F → ObjectId → Typ
     pub fault_from : (e : Error) → IsExploringFault objects faulty low e → IsBuildFault objects faulty (plan_by old sorting tips ends) e
     fault_from e f =
         subst (λ plan. IsBuildFault objects faulty plan e) plans (
-          read_misses_no_count (objects f.so_far.reader.find) (faulty f.so_far.reader.find) f.fault.entry.1.id e f.fault.fault,
+          read_misses_no_count (objects f.so_far.reader.find) (faulty f.so_far.reader.find) f.fault.entry.1.id e f.fault.fault.0,
           exploring_fault objects faulty sorting tips ends (λ i. false) low (λ agrees. fresh_counted (objects low.reader.find) (rows_of low.reader.graph) low.parents tips ends low.frontier (λ i. false) (λ i. refl) start_met.fresh) (IsFirstReady objects (plan_by low sorting tips ends)) e f,
         )

@@ -88,7 +88,7 @@ module _ {F : Type 0} (objects : F → Objects) (faulty : F → ObjectId → Typ
 -- exploring fails
 module _ {F : Type 0} (objects : F → Objects) (faulty : F → ObjectId → Type 0) (sorting : Sorting) (tips ends : List ObjectId) (taken : ObjectId → Bool) (low : Counting F) (counted : IsAgreeing (objects low.reader.find) (rows_of low.reader.graph) → IsCounted (objects low.reader.find) (rows_of low.reader.graph) low.parents tips ends taken low.frontier) where
   pub exploring_fault : (Q : ObjectId → Type 0) (e : Error) → IsExploringFault objects faulty low e → IsFault objects faulty (plan_by low sorting tips ends) Q e
-  exploring_fault Q e f = read_fault objects faulty (plan_by low sorting tips ends) Q f.fault.entry.1.id e (λ a. inl (reached_by objects faulty (plan_by low sorting tips ends) f.fault.entry.1.side f.fault.entry.1.id (within a))) (λ s. reached_whole objects faulty (plan_by low sorting tips ends) s f.fault.entry.1.side f.fault.entry.1.id (within s.agreeing)) (subst (λ x. IsReadFault (objects x) (faulty x) f.fault.entry.1.id e) (explores_same objects faulty f.explored).find f.fault.fault)
+  exploring_fault Q e f = read_fault objects faulty (plan_by low sorting tips ends) Q f.fault.entry.1.id e (λ a. inl (reached_by objects faulty (plan_by low sorting tips ends) f.fault.entry.1.side f.fault.entry.1.id (within a))) (λ s. reached_whole objects faulty (plan_by low sorting tips ends) s f.fault.entry.1.side f.fault.entry.1.id (within s.agreeing)) (subst (λ x. IsReadFault (objects x) (faulty x) f.fault.entry.1.id e) (explores_same objects faulty f.explored).find f.fault.fault.0)
     where
       within : IsAgreeing (objects low.reader.find) (rows_of low.reader.graph) → Reaches (next_by (objects low.reader.find) low.parents f.fault.entry.1.side) (starts_by tips ends f.fault.entry.1.side) f.fault.entry.1.id
       within a =
@@ -98,8 +98,8 @@ module _ {F : Type 0} (objects : F → Objects) (faulty : F → ObjectId → Typ
 module _ {F : Type 0} (objects : F → Objects) (faulty : F → ObjectId → Type 0) where
   -- a commit that tips reach, or a parent of it, can't be read
   pub push_fault : (Q : ObjectId → Type 0) (old : Walk F) (i : ObjectId) (e : Error) → (IsAgreeing (objects (plan_of old).store) (plan_of old).rows → Reaches (next_by (objects (plan_of old).store) (plan_of old).parents Tips) (plan_of old).tips i) → (IsAgreeing (objects (plan_of old).store) (plan_of old).rows → Q i) → IsPushFault objects faulty old i e → IsFault objects faulty (plan_of old) Q e
-  push_fault Q old i e r q (itself f) = read_fault objects faulty (plan_of old) Q i e (λ a. inl (inl (r a))) (λ s. reached_whole objects faulty (plan_of old) s Tips i (r s.agreeing)) f
-  push_fault Q old i e r q (parent {info = info} {p = p} reads m f) = read_fault objects faulty (plan_of old) Q p e (λ a. inr (i, q a, subst (λ ids. Contains ids p) (reads_text_next (objects (plan_of old).store) (faulty (plan_of old).store) (plan_of old).rows a reads) m)) parent_whole f
+  push_fault Q old i e r q (itself f) = read_fault objects faulty (plan_of old) Q i e (λ a. inl (inl (r a))) (λ s. reached_whole objects faulty (plan_of old) s Tips i (r s.agreeing)) f.0
+  push_fault Q old i e r q (parent {info = info} {p = p} reads m f) = read_fault objects faulty (plan_of old) Q p e (λ a. inr (i, q a, subst (λ ids. Contains ids p) (reads_text_next (objects (plan_of old).store) (faulty (plan_of old).store) (plan_of old).rows a reads) m)) parent_whole f.0
     where
       parent_whole : IsSound objects faulty (plan_of old) → ReadsWhole (objects (plan_of old).store) p
       parent_whole s =
@@ -109,5 +109,5 @@ module _ {F : Type 0} (objects : F → Objects) (faulty : F → ObjectId → Typ
 
   -- nor does making a commit ready
   pub push_misses_no_count : (old : Walk F) (i : ObjectId) (e : Error) → IsPushFault objects faulty old i e → e ≢ error.MissingIndegreeUnexpected
-  push_misses_no_count old i e (itself f) = read_misses_no_count (objects old.counting.reader.find) (faulty old.counting.reader.find) i e f
-  push_misses_no_count old i e (parent {p = p} reads m f) = read_misses_no_count (objects old.counting.reader.find) (faulty old.counting.reader.find) p e f
+  push_misses_no_count old i e (itself f) = read_misses_no_count (objects old.counting.reader.find) (faulty old.counting.reader.find) i e f.0
+  push_misses_no_count old i e (parent {p = p} reads m f) = read_misses_no_count (objects old.counting.reader.find) (faulty old.counting.reader.find) p e f.0

@@ -102,8 +102,8 @@ module _ {F : Type 0} (objects : F → Objects) (faulty : F → ObjectId → Typ
   push_fails old Q i e up ready f = (push_fault objects faulty Q old i e up.reach ready f, fails f)
     where
       fails : IsPushFault objects faulty old i e → IsLate objects (plan_of old) Q e
-      fails (pushed f) = late (plan_of old) Q i e (λ n. inl (up.read n i (inl (up.reach (none_agree (objects (plan_of old).store) (plan_of old).rows n))))) f
-      fails (parent {p = p} reads m f) = late (plan_of old) Q p e (λ n. parent_read (plan_of old) Q i p up ready n (subst (λ ids. Contains ids p) (reads_text_next (objects (plan_of old).store) (faulty (plan_of old).store) (plan_of old).rows (none_agree (objects (plan_of old).store) (plan_of old).rows n) reads) m)) f
+      fails (pushed f) = late (plan_of old) Q i e (λ n. inl (up.read n i (inl (up.reach (none_agree (objects (plan_of old).store) (plan_of old).rows n))))) f.0
+      fails (parent {p = p} reads m f) = late (plan_of old) Q p e (λ n. parent_read (plan_of old) Q i p up ready n (subst (λ ids. Contains ids p) (reads_text_next (objects (plan_of old).store) (faulty (plan_of old).store) (plan_of old).rows (none_agree (objects (plan_of old).store) (plan_of old).rows n) reads) m)) f.0
 
   -- the last child of a commit that wasn't ready, and that no end has seen, was taken
   record IsLastChild (f : Frontier) (i : ObjectId) : Type 0 where
@@ -249,7 +249,7 @@ module _ {F : Type 0} (objects : F → Objects) (faulty : F → ObjectId → Typ
     pub taking_fault : (e : Error) → IsTakingFault objects faulty (record w { ready = rest }) r e → IsFault objects faulty (plan_of w) (IsNextReady objects (plan_of w) (taken_of w) r.id) e × IsLate objects (plan_of w) (IsNextReady objects (plan_of w) (taken_of w) r.id) e
     taking_fault e (exploring f) = (
       exploring_fault objects faulty w.ready.sorting w.tips.items w.ends.items (set.contains (taken_of w)) low (λ a. (held.tallied a).counted) (IsNextReady objects (plan_of w) (taken_of w) r.id) e f,
-      late (plan_of w) (IsNextReady objects (plan_of w) (taken_of w) r.id) f.fault.entry.1.id e (λ n. absurd (no_member f.fault.entry (subst (λ queue. Contains queue f.fault.entry) (explores_idle objects faulty f.explored (held.idle n)) f.fault.queued))) (subst (λ x. IsReadFault (objects x) (faulty x) f.fault.entry.1.id e) (explores_same objects faulty f.explored).find f.fault.fault),
+      late (plan_of w) (IsNextReady objects (plan_of w) (taken_of w) r.id) f.fault.entry.1.id e (λ n. absurd (no_member f.fault.entry (subst (λ queue. Contains queue f.fault.entry) (explores_idle objects faulty f.explored (held.idle n)) f.fault.queued))) (subst (λ x. IsReadFault (objects x) (faulty x) f.fault.entry.1.id e) (explores_same objects faulty f.explored).find f.fault.fault.0),
     )
     taking_fault e (releasing {explored = explored} x rests f) =
         among_fails (plan_of w) (IsNextReady objects (plan_of w) (taken_of w) r.id) explored.frontier (last_places named) (last_once named) upcoming (next_ready explored x rests) (plan_taken objects faulty w rest r chosen same explored (explores_same objects faulty x))
