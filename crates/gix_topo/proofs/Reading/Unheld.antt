@@ -1,5 +1,5 @@
 -- A commit is read from the store only where no row of it is in use.
-use Rattle.std.specs.Prelude.{◌≡◌, List, [], Bool, if◌then◌else◌, None, Err}
+use Rattle.std.specs.Prelude.{List, [], Bool, if◌then◌else◌, None, Err}
 use Rattle.std.proofs.Common.{refl, subst}
 use Rattle.gix_hash.specs.declared.ObjectId.{ObjectId}
 use Rattle.gix_object.specs.Object.{Objects}
