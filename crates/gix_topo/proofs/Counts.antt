@@ -32,5 +32,7 @@ pub mod MakesReady
 pub mod IndegreeZero
 -- Which commits were taken, by the table.
 pub mod Taken
+-- Rows are dropped only for a corrupt one, and a commit with a row is read from the store only then.
+pub mod RowsDropped
 -- When a fault of reading comes.
 pub mod ReadFaults

@@ -1,5 +1,5 @@
 -- How a topological walk reads a commit: by its row as long as rows are held, or else from the store.
-use Rattle.std.specs.Prelude.{◌≡◌, ℕ, ℤ, pos, nat_lt, List, Bool, if◌then◌else◌, Option, Some, None, Result, Ok, Err}
+use Rattle.std.specs.Prelude.{◌≡◌, ◌≢◌, ℕ, ℤ, pos, nat_lt, List, Bool, true, if◌then◌else◌, Option, Some, None, Result, Ok, Err}
 use Rattle.std.specs.FinMap as map_of
 use Rattle.gix_hash.specs.declared.ObjectId.{ObjectId}
 use Rattle.gix_object.specs.declared.Kind.TheVariants as object
@@ -19,8 +19,9 @@ use Rattle.gix_topo.specs.declared.Error.TheVariants as error
 use Rattle.gix_revwalk.specs.declared.read.RowRead.{RowRead}
 use Rattle.gix_revwalk.specs.Infos.{IsInfo}
 use Rattle.gix_revwalk.specs.Texts.{scanned}
-use Rattle.gix_topo.specs.Depth.{infinity}
+use Rattle.gix_topo.specs.Depth.{infinity, known_generation}
 use Rattle.gix_revwalk.specs.Reading.{ReadsRow}
+use Rattle.gix_revwalk.specs.RowParents.{IsUnrowed}
 
 -- a row's generation, and none where it is infinity
 abbrev pub told_generation : ℕ → Option ℕ
@@ -44,6 +45,18 @@ IsReadFault objects faulty i error.MissingStateUnexpected = ⊥
 IsReadFault objects faulty i (error.ObjectDecode e) = (bytes : List ℕ) × (map_of.get objects i ≡ Some (record { kind = object.Commit; bytes = bytes })) × (first_committer (commit_items (kind_of i) bytes) ≡ Err e) × (e ≡ fault.Missing → ⊥)
 IsReadFault objects faulty i (error.Find e) = IsExistingFault objects faulty i object.Commit e
 IsReadFault objects faulty i error.Memory = Unit {0}
+
+-- no row of the commit is in use: the rows were dropped, or it has none, or a corrupt one
+abbrev pub IsUnheld : List GraphRow → Bool → ObjectId → Type 0
+IsUnheld rows standing i = standing ≡ true → IsUnrowed rows i
+
+-- why reading a commit fails: the store can't give it, and is asked only where no row of the commit is in use
+abbrev pub ReadFails : Objects → (ObjectId → Type 0) → List GraphRow → Bool → ObjectId → Error → Type 0
+ReadFails objects faulty rows standing i e = IsReadFault objects faulty i e × (e ≢ error.Memory → IsUnheld rows standing i)
+
+-- why looking a parent up fails: the store can't give it, and is asked only where no row in use says a finite generation
+abbrev pub LookUpFails : Objects → (ObjectId → Type 0) → List GraphRow → Bool → ObjectId → Error → Type 0
+LookUpFails objects faulty rows standing i e = IsReadFault objects faulty i e × (standing ≡ true → known_generation rows i ≡ infinity)
 
 -- what reading a commit from the store answers
 abbrev pub ReadsText : Objects → (ObjectId → Type 0) → ObjectId → Result Info Error → Type 0

@@ -23,6 +23,7 @@ use Rattle.gix_topo.specs.declared.Error.TheVariants as error
 use Rattle.gix_revwalk.specs.Agreeing.{IsAgreeing, IsCorrupt}
 use Rattle.gix_topo.specs.Depth.{infinity, known_generation, least}
 use Rattle.gix_hash.specs.Reach.{Reaches}
+use Rattle.gix_revwalk.specs.Reading.{DropsRows}
 use Rattle.gix_topo.specs.Reading.{Reads}
 use Rattle.gix_revwalk.specs.Commits.{ReadsWhole, by_mode, walked_parents, parents_of, time_of}
 use Rattle.gix_topo.specs.WalkSet.{IsInWalk, IsReady, IsChildless}
@@ -204,6 +205,12 @@ module _ {F : Type 0} (objects : F → Objects) (plan : TopoPlan F) where
     pub dropped : counted.standing ≡ false → IsBrokenRow counted.depth
     pub whole : counted.standing ≡ true → IsBrokenRow counted.depth → ⊥
 
+  -- the rows are dropped for the corrupt row of this commit, which tips or ends reach if the rows agree
+  pub record DropsBy : Type 0 where
+    pub id : ObjectId
+    pub corrupt : DropsRows plan.rows id
+    pub reached : IsAgreeing (objects plan.store) plan.rows → IsReached id
+
   -- a parent that isn't the first, of a commit that becomes ready, where only first parents are walked
   pub record IsOtherParent (BecomesReady : ObjectId → Type 0) (i : ObjectId) : Type 0 where
     pub unwalked : plan.parents ≡ mode.First
@@ -248,9 +255,15 @@ module _ {F : Type 0} (objects : F → Objects) (faulty : F → ObjectId → Typ
     pub parents_whole : (c i : ObjectId) → Reaches (walked_of objects plan) plan.tips c → Contains (parents_of (objects plan.store) c) i → ReadsWhole (objects plan.store) i
     pub ends_whole : (i : ObjectId) → Reaches (parents_of (objects plan.store)) plan.ends i → ReadsWhole (objects plan.store) i
 
-  -- with rows that agree it is looked up, and over a sound plan it is the store that fails
-  abbrev pub IsMetFault : (ObjectId → Type 0) → ObjectId → Error → Type 0
-  IsMetFault BecomesReady i e = (IsAgreeing (objects plan.store) plan.rows → IsLookedUp objects plan BecomesReady i) × (IsSound → e ≡ error.Find existing.Store)
+  -- when a commit that the store can't give is met
+  pub record IsMetFault (BecomesReady : ObjectId → Type 0) (i : ObjectId) (e : Error) : Type 0 where
+    -- with rows that agree it is looked up
+    pub looked_up : IsAgreeing (objects plan.store) plan.rows → IsLookedUp objects plan BecomesReady i
+    -- Whatever the store and the rows, one with a row is read from the store only where the rows were dropped, or where the row
+    -- says no finite generation.
+    pub unrowed : (known_generation plan.rows i ≡ infinity) ⊎ DropsBy objects plan
+    -- over a sound plan it is the store that fails
+    pub store_fails : IsSound → e ≡ error.Find existing.Store
 
   -- when each fault comes, where these become ready
   abbrev pub IsFault : (ObjectId → Type 0) → Error → Type 0

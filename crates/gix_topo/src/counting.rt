@@ -5,7 +5,7 @@ ghost use Rattle.gix_topo.specs.Depth.{least};
 ghost use Rattle.gix_revwalk.specs.Commits.{by_mode};
 ghost use Rattle.gix_topo.specs.TopoOrder.{last_places};
 ghost use Rattle.gix_revwalk.specs.Reading.{rows_of};
-ghost use Rattle.gix_topo.specs.Reading.{IsReadFault};
+ghost use Rattle.gix_topo.specs.Reading.{ReadFails, LookUpFails};
 ghost use Rattle.gix_topo.specs.Inside.Exploring.{is_pending, Follows, ReadsParents, Steps, IsStepFault, IsSamePlan, Explores, IsExploringFault, IsRested};
 
 use super::Error;
@@ -135,7 +135,7 @@ impl<F: Find + Drop> Counting<F> {
         ensures frontier { self.new.frontier ≡ self.old.frontier }
         ensures expanded { self.new.expanded ≡ self.old.expanded }
         ensures reads { IfOk result (λ ids. ReadsParents F.objects F.faulty self.old id.now side ids.items self.new.reader.standing) }
-        ensures fault { IfErr result (IsReadFault (F.objects self.old.reader.find) (F.faulty self.old.reader.find) id.now) }
+        ensures fault { IfErr result (ReadFails (F.objects self.old.reader.find) (F.faulty self.old.reader.find) (rows_of self.old.reader.graph) self.old.reader.standing id.now) }
     {
         let info = self.reader.read(id)?;
         let mode = match side {
@@ -159,7 +159,7 @@ impl<F: Find + Drop> Counting<F> {
         ensures depth { self.new.depth ≡ self.old.depth }
         ensures expanded { self.new.expanded ≡ self.old.expanded }
         ensures known { OnOk result (LooksUpParent (F.objects self.old.reader.find) (rows_of self.old.reader.graph) self.old.reader.standing self.old.frontier id.now) }
-        ensures fault { IfErr result (IsReadFault (F.objects self.old.reader.find) (F.faulty self.old.reader.find) id.now) }
+        ensures fault { IfErr result (LookUpFails (F.objects self.old.reader.find) (F.faulty self.old.reader.find) (rows_of self.old.reader.graph) self.old.reader.standing id.now) }
     {
         if self.reader.standing && self.frontier.known(id).is_done() {
             return Ok(());

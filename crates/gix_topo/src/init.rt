@@ -212,7 +212,8 @@ impl<F: Find + Drop, P: Predicate + Drop> Builder<F, P> {
     ///
     /// The builder is dropped, and:
     /// - `Find` and `ObjectDecode` where an object can't be read: tips or ends reach it, or it is a parent of a tip that becomes ready
-    ///   (where rows disagree with the store, it may be another object),
+    ///   (where rows disagree with the store, it may be another object). It has no row, unless a corrupt row has dropped the graph, or
+    ///   its row says generation 4294967295,
     /// - `Memory` when out of memory.
     pub fn build(self) -> Result<Topo<F, P>, Error>
         ensures { Built F.objects F.faulty P.answers self result }

@@ -113,9 +113,10 @@ impl<T: Drop> From<AllocFailed<T>> for Error {
 /// # Errors
 ///
 /// `next` answers `Find` or `ObjectDecode` where it can't read an object: tips or ends reach it, or it is a parent, walked or not, of
-/// a commit that becomes ready. Where a commit-graph disagrees with the store, it may be another object. Without a commit-graph it
-/// is a parent that isn't walked, unless the store failed. `MissingIndegreeUnexpected` comes only where rows disagree, and `Memory`
-/// when out of memory. After an error no commit is given.
+/// a commit that becomes ready. Where a commit-graph disagrees with the store, it may be another object. It has no row, unless a
+/// corrupt row has dropped the graph, or its row says generation 4294967295. Without a commit-graph it is a parent that isn't walked,
+/// unless the store failed. `MissingIndegreeUnexpected` comes only where rows disagree, and `Memory` when out of memory. After an error
+/// no commit is given.
 ///
 /// After None and after an error `next` may be called again, whatever the predicate: it gives None, and doesn't ask the predicate.
 #[derive(Drop)]

@@ -3,7 +3,7 @@ ghost use Rattle.std.specs.Prelude.{◌≡◌, IfOk, IfErr, OnOk, true};
 ghost use Rattle.gix_topo.specs.Depth.{known_generation};
 ghost use Rattle.gix_topo.specs.Walk.{IsKnown};
 ghost use Rattle.gix_revwalk.specs.Reading.{rows_of};
-ghost use Rattle.gix_topo.specs.Reading.{Reads, ReadsText, IsReadFault};
+ghost use Rattle.gix_topo.specs.Reading.{Reads, ReadsText, LookUpFails};
 
 use super::Error;
 use gix_commitgraph::{GENERATION_NUMBER_INFINITY, Graph};
@@ -110,7 +110,7 @@ impl<F: Find + Drop> Reader<F> {
         ensures graph { self.new.graph ≡ self.old.graph }
         ensures standing { self.new.standing ≡ self.old.standing }
         ensures known { OnOk result (IsKnown (F.objects self.old.find) (rows_of self.old.graph) self.old.standing id.now) }
-        ensures fault { IfErr result (IsReadFault (F.objects self.old.find) (F.faulty self.old.find) id.now) }
+        ensures fault { IfErr result (LookUpFails (F.objects self.old.find) (F.faulty self.old.find) (rows_of self.old.graph) self.old.standing id.now) }
     {
         if self.standing && self.generation(id) < GENERATION_NUMBER_INFINITY {
             return Ok(());

@@ -82,9 +82,9 @@ module _ (objects : Objects) (by : Sorting) (tips ends : List ObjectId) (whole :
   outside : (BecomesReady : ObjectId → Type 0) (e : Error) → IsFault objects_of never_faulty (plan_from objects by tips ends) BecomesReady e → IsOutside (fault_of_topo_walk e)
   outside Q error.MissingIndegreeUnexpected h = absurd (h (none_agree objects [] refl))
   outside Q error.MissingStateUnexpected h = absurd h
-  outside Q (error.ObjectDecode e) h = let same : error.ObjectDecode e ≡ error.Find existing.Store = h.2.1 sound in cc
+  outside Q (error.ObjectDecode e) h = let same : error.ObjectDecode e ≡ error.Find existing.Store = h.2.store_fails sound in cc
   outside Q (error.Find e) h =
-      let same : error.Find e ≡ error.Find existing.Store = h.2.1 sound in
+      let same : error.Find e ≡ error.Find existing.Store = h.2.store_fails sound in
       let store : e ≡ existing.Store = cc in
       absurd (subst (IsExistingFault objects (never_faulty objects) h.0 object.Commit) store h.1)
   outside Q error.Memory h = tt

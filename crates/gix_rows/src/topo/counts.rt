@@ -43,7 +43,7 @@ pub fn tables() -> &'static [Table<'static>] {
     &TABLES
 }
 
-static TABLES: [Table<'static>; 14] = [
+static TABLES: [Table<'static>; 15] = [
     Table {
         cases: &[
             (&[8], &[], "1 8:3 7:5 4:7 2:8 6:8 5:8 3:8 1:8"),
@@ -143,6 +143,16 @@ static TABLES: [Table<'static>; 14] = [
         by: BY_ROWS,
         rows: LOW,
         cases: &[(&[8], &[], "8 7 4:3 2:2 6 5:3 3:2 1:1")],
+        ..OF_SAMPLE
+    },
+    // Rows alone.
+    Table {
+        history: EMPTY,
+        by: BY_ROWS,
+        cases: &[
+            (&[8], &[], "8:5 7:4 4:3 2:2 6:4 5:3 3:2 1:1"),
+            (&[8], &[5], "8:5 7:4 4:3 2:2 6:4"),
+        ],
         ..OF_SAMPLE
     },
     // A store that fails.

@@ -37,6 +37,7 @@ use Rattle.gix_topo.proofs.Counts.MeetsStarts.{IsFresh, fresh_empty, fresh_on, f
 use Rattle.gix_topo.proofs.Counts.Children.{follows_named}
 use Rattle.gix_revwalk.proofs.Rows.{none_agree}
 use Rattle.gix_topo.proofs.Counts.Rest.{least_below}
+use Rattle.gix_topo.proofs.Counts.RowsDropped.{explores_dropped}
 use Rattle.gix_topo.proofs.Counts.ReadFaults.{read_misses_no_count, exploring_fault}
 
 -- the least of two lists, one after the other
@@ -182,6 +183,7 @@ module _ {F : Type 0} (objects : F → Objects) (faulty : F → ObjectId → Typ
       counts = λ sound. (counts sound).0;
       counting = λ sound. (counts sound).1;
       all_read = explores_read objects faulty sorting tips ends (λ i. false) explores (λ i d. absurd (undone i d));
+      dropped = explores_dropped objects faulty sorting tips ends (λ i. false) low (λ agrees. counted_low (λ i. false) (λ i. refl)) explores (λ e. absurd (true≢false (sym start.stands ∙ e)));
       idle = idle;
       read = read;
     }
@@ -201,6 +203,6 @@ module _ {F : Type 0} (objects : F → Objects) (faulty : F → ObjectId → Typ
     pub fault_from : (e : Error) → IsExploringFault objects faulty low e → IsBuildFault objects faulty (plan_by old sorting tips ends) e
     fault_from e f =
         subst (λ plan. IsBuildFault objects faulty plan e) plans (
-          read_misses_no_count (objects f.so_far.reader.find) (faulty f.so_far.reader.find) f.fault.entry.1.id e f.fault.fault,
-          exploring_fault objects faulty sorting tips ends (λ i. false) low (λ agrees. fresh_counted (objects low.reader.find) (rows_of low.reader.graph) low.parents tips ends low.frontier (λ i. false) (λ i. refl) start_met.fresh) (IsFirstReady objects (plan_by low sorting tips ends)) e f,
+          read_misses_no_count (objects f.so_far.reader.find) (faulty f.so_far.reader.find) f.fault.entry.1.id e f.fault.fault.0,
+          exploring_fault objects faulty sorting tips ends (λ i. false) low (λ agrees. fresh_counted (objects low.reader.find) (rows_of low.reader.graph) low.parents tips ends low.frontier (λ i. false) (λ i. refl) start_met.fresh) (λ q. absurd (true≢false (sym start_met.stands ∙ q))) (IsFirstReady objects (plan_by low sorting tips ends)) e f,
         )

@@ -1,39 +1,37 @@
 -- When a fault of reading comes: while exploring, and where a commit would become ready.
-use Rattle.std.specs.Prelude.{◌≡◌, ◌≢◌, ◌≤◌, ℕ, List, [], ◌∷◌, Bool, true, ◌&&◌, cond, Some, None, Result, Ok, Err, Contains}
-use Rattle.std.proofs.Common.{refl, sym, ap, subst, ⊎_elim, ◌∙◌, arith, inl, inr}
+use Rattle.std.specs.Prelude.{◌≡◌, ◌≢◌, ◌⊎◌, List, [], ◌∷◌, Bool, Some, None, Result, Ok, Err, Contains}
+use Rattle.std.proofs.Common.{sym, ap, subst, ◌∙◌, inl, inr}
 use Rattle.gix_hash.specs.declared.ObjectId.{ObjectId}
 use Rattle.gix_object.specs.declared.decode.Error.{Error as DecodeError}
 use Rattle.gix_object.specs.declared.decode.Error.TheVariants as fault
-use Rattle.gix_hash.specs.Id.{kind_of, is_same}
+use Rattle.gix_hash.specs.Id.{kind_of}
 use Rattle.gix_object.specs.Object.{Objects}
 use Rattle.gix_object.specs.CommitItems.{Item, Tree, Parent, Author, Committer, Rest, commit_items}
 use Rattle.gix_object.specs.CommitRefIter.{first_committer}
-use Rattle.gix_hash.proofs.Ids.Membership.{same_itself, Contains-here, Contains-there, Contains-cons_cases, no_member}
+use Rattle.gix_hash.proofs.Ids.Membership.{Contains-here, Contains-there}
 use Rattle.gix_topo.specs.declared.Sorting.{Sorting}
 use Rattle.gix_topo.specs.declared.Error.{Error}
 use Rattle.gix_topo.specs.declared.Error.TheVariants as error
 use Rattle.gix_topo.specs.declared.counting.Counting.{Counting}
 use Rattle.gix_frontier.specs.declared.Side.{Side}
 use Rattle.gix_frontier.specs.declared.Side.TheVariants.{Tips, Ends}
-use Rattle.gix_frontier.specs.declared.Progress.{Progress}
-use Rattle.gix_frontier.specs.declared.Progress.TheVariants.{Unseen, Queued, Done}
-use Rattle.gix_frontier.specs.declared.Waiting.{Waiting}
 use Rattle.gix_topo.specs.declared.walk.Walk.{Walk}
 use Rattle.gix_revwalk.specs.Agreeing.{IsAgreeing}
+use Rattle.gix_topo.specs.Depth.{infinity, known_generation}
 use Rattle.gix_topo.specs.Inside.Exploring.{IsExploringFault}
-use Rattle.gix_frontier.specs.Inside.Frontier.{is_side, is_seen, is_queued, reached, waiting}
 use Rattle.gix_revwalk.specs.Commits.{ReadsWhole, parents_of, commit_of_object}
 use Rattle.gix_hash.specs.Reach.{Reaches}
 use Rattle.gix_revwalk.specs.Reading.{rows_of}
-use Rattle.gix_topo.specs.Reading.{IsReadFault}
+use Rattle.gix_topo.specs.Reading.{IsReadFault, IsUnheld}
 use Rattle.gix_topo.specs.Inside.Releasing.{plan_by, plan_of, IsPushFault, itself, parent}
 use Rattle.gix_topo.specs.Inside.Searched.{IsCounted, next_by, starts_by}
-use Rattle.gix_topo.specs.Walk.{TopoPlan, walked_of, IsSound, IsFault, IsReached, IsLookedUp}
+use Rattle.gix_topo.specs.Inside.Steady.{AreDroppedFor}
+use Rattle.gix_topo.specs.Walk.{TopoPlan, walked_of, IsSound, IsFault, IsReached, IsLookedUp, DropsBy}
 use Rattle.gix_topo.proofs.Counts.IndegreeZero.{text_tips, text_ends}
 use Rattle.gix_revwalk.proofs.Committer.{fault_unread}
-use Rattle.gix_topo.proofs.Counts.ExploreKeeps.{explores_keep, explores_same}
+use Rattle.gix_topo.proofs.Counts.ExploreKeeps.{explores_same}
+use Rattle.gix_topo.proofs.Counts.RowsDropped.{reached_by, read_dropped, unrowed_own, unrowed_parent, queued_within, explores_dropped}
 use Rattle.gix_topo.proofs.Reading.ReadsCommit.{reads_text_next}
-use Rattle.gix_topo.proofs.Counts.Frontier.{side_itself}
 use Rattle.gix_revwalk.proofs.ReadsWhole.{no_fault}
 use Rattle.gix_revwalk.proofs.TextParents.{text_whole}
 
@@ -47,18 +45,6 @@ fault_item (Ok (Author line) ∷ items) e h n = Contains-there (Err e) (Ok (Auth
 fault_item (Ok (Committer signature) ∷ items) e h n = cc
 fault_item (Ok (Rest bytes) ∷ items) e h n = Contains-there (Err e) (Ok (Rest bytes)) items (fault_item items e h n)
 
--- an id in the queue is queued
-queue_waits : (queue : List (ℕ × Waiting)) (entry : ℕ × Waiting) → Contains queue entry → 1 ≤ waiting queue entry.1.side entry.1.id
-queue_waits [] entry m = absurd (no_member entry m)
-queue_waits (x ∷ queue) entry m =
-    ⊎_elim (λ s. let one : ◌≡◌ {A = ℕ} (cond (is_same entry.1.id x.1.id && is_side entry.1.side x.1.side) 1 0) 1 = ap (λ y. cond (is_same entry.1.id y.1.id && is_side entry.1.side y.1.side) 1 0) s ∙ ap (λ b. cond (b && is_side entry.1.side entry.1.side) 1 0) (same_itself entry.1.id) ∙ ap (λ b. cond b 1 0) (side_itself entry.1.side) in omega arith)
-    (λ t. let l : 1 ≤ waiting queue entry.1.side entry.1.id = queue_waits queue entry t in omega arith) (Contains-cons_cases entry x queue m)
-
-waits_seen : (p : Progress) (n : ℕ) → n ≡ cond (is_queued p) 1 0 → 1 ≤ n → is_seen p ≡ true
-waits_seen Unseen n e l = absurd (omega arith)
-waits_seen Queued n e l = refl
-waits_seen Done n e l = refl
-
 -- reading never answers that a count is missing
 pub read_misses_no_count : (objects : Objects) (faulty : ObjectId → Type 0) (i : ObjectId) (e : Error) → IsReadFault objects faulty i e → e ≢ error.MissingIndegreeUnexpected
 read_misses_no_count objects faulty i e f = λ q. subst (IsReadFault objects faulty i) q f
@@ -69,37 +55,34 @@ module _ {F : Type 0} (objects : F → Objects) (faulty : F → ObjectId → Typ
   reached_whole s Tips i r = s.tips_whole i (text_tips (objects plan.store) (faulty plan.store) plan.rows plan.parents plan.tips plan.ends s.agreeing s.tips_whole s.ends_whole i r)
   reached_whole s Ends i r = s.ends_whole i (text_ends (objects plan.store) (faulty plan.store) plan.rows plan.parents plan.tips plan.ends s.agreeing s.tips_whole s.ends_whole i r)
 
-  -- what a side reaches by texts
-  reached_by : (side : Side) (i : ObjectId) → Reaches (next_by (objects plan.store) plan.parents side) (starts_by plan.tips plan.ends side) i → IsReached objects plan i
-  reached_by Tips i r = inl r
-  reached_by Ends i r = inr r
-
-  -- a fault at a commit that is looked up with rows that agree, and that reads whole in a sound history
-  pub read_fault : (Q : ObjectId → Type 0) (i : ObjectId) (e : Error) → (IsAgreeing (objects plan.store) plan.rows → IsLookedUp objects plan Q i) → (IsSound objects faulty plan → ReadsWhole (objects plan.store) i) → IsReadFault (objects plan.store) (faulty plan.store) i e → IsFault objects faulty plan Q e
-  read_fault Q i error.MissingIndegreeUnexpected a w f = absurd f
-  read_fault Q i error.MissingStateUnexpected a w f = absurd f
-  read_fault Q i (error.Find e) a w f = (i, f, (a, λ s. ap error.Find (no_fault (objects plan.store) (faulty plan.store) i (w s).commit e (w s).stored f)))
-  read_fault Q i (error.ObjectDecode e) a w f = (i, (f.0, f.1, fault_item (commit_items (kind_of i) f.0) e f.2 f.3), (a, λ s. absurd (unread (w s))))
+  -- a fault at a commit that is looked up with rows that agree, of which no row is in use, and that reads whole in a sound history
+  pub read_fault : (Q : ObjectId → Type 0) (i : ObjectId) (e : Error) → (IsAgreeing (objects plan.store) plan.rows → IsLookedUp objects plan Q i) → (e ≢ error.Memory → (known_generation plan.rows i ≡ infinity) ⊎ DropsBy objects plan) → (IsSound objects faulty plan → ReadsWhole (objects plan.store) i) → IsReadFault (objects plan.store) (faulty plan.store) i e → IsFault objects faulty plan Q e
+  read_fault Q i error.MissingIndegreeUnexpected a u w f = absurd f
+  read_fault Q i error.MissingStateUnexpected a u w f = absurd f
+  read_fault Q i (error.Find e) a u w f = (i, f, record { looked_up = a; unrowed = u (λ q. cc); store_fails = λ s. ap error.Find (no_fault (objects plan.store) (faulty plan.store) i (w s).commit e (w s).stored f) })
+  read_fault Q i (error.ObjectDecode e) a u w f = (i, (f.0, f.1, fault_item (commit_items (kind_of i) f.0) e f.2 f.3), record { looked_up = a; unrowed = u (λ q. cc); store_fails = λ s. absurd (unread (w s)) })
     where
       unread : ReadsWhole (objects plan.store) i → ⊥
       unread w = let n : None ≡ Some w.commit = sym (fault_unread (commit_items (kind_of i) f.0) e f.2) ∙ sym (ap (commit_of_object i) f.1) ∙ w.stored in cc
-  read_fault Q i error.Memory a w f = tt
+  read_fault Q i error.Memory a u w f = tt
 
 -- exploring fails
-module _ {F : Type 0} (objects : F → Objects) (faulty : F → ObjectId → Type 0) (sorting : Sorting) (tips ends : List ObjectId) (taken : ObjectId → Bool) (low : Counting F) (counted : IsAgreeing (objects low.reader.find) (rows_of low.reader.graph) → IsCounted (objects low.reader.find) (rows_of low.reader.graph) low.parents tips ends taken low.frontier) where
+module _ {F : Type 0} (objects : F → Objects) (faulty : F → ObjectId → Type 0) (sorting : Sorting) (tips ends : List ObjectId) (taken : ObjectId → Bool) (low : Counting F) (counted : IsAgreeing (objects low.reader.find) (rows_of low.reader.graph) → IsCounted (objects low.reader.find) (rows_of low.reader.graph) low.parents tips ends taken low.frontier) (dropped : AreDroppedFor objects (plan_by low sorting tips ends) low.reader.standing) where
   pub exploring_fault : (Q : ObjectId → Type 0) (e : Error) → IsExploringFault objects faulty low e → IsFault objects faulty (plan_by low sorting tips ends) Q e
-  exploring_fault Q e f = read_fault objects faulty (plan_by low sorting tips ends) Q f.fault.entry.1.id e (λ a. inl (reached_by objects faulty (plan_by low sorting tips ends) f.fault.entry.1.side f.fault.entry.1.id (within a))) (λ s. reached_whole objects faulty (plan_by low sorting tips ends) s f.fault.entry.1.side f.fault.entry.1.id (within s.agreeing)) (subst (λ x. IsReadFault (objects x) (faulty x) f.fault.entry.1.id e) (explores_same objects faulty f.explored).find f.fault.fault)
+  exploring_fault Q e f =
+      read_fault objects faulty (plan_by low sorting tips ends) Q f.fault.entry.1.id e (λ a. inl (there a))
+      (λ n. unrowed_own objects faulty (plan_by low sorting tips ends) f.so_far.reader.standing f.fault.entry.1.id there (explores_dropped objects faulty sorting tips ends taken low counted f.explored dropped) (subst (λ g. IsUnheld (rows_of g) f.so_far.reader.standing f.fault.entry.1.id) (explores_same objects faulty f.explored).graph (f.fault.fault.1 n)))
+      (λ s. reached_whole objects faulty (plan_by low sorting tips ends) s f.fault.entry.1.side f.fault.entry.1.id (queued_within objects faulty sorting tips ends taken low counted f.explored f.fault.entry f.fault.queued s.agreeing))
+      (subst (λ x. IsReadFault (objects x) (faulty x) f.fault.entry.1.id e) (explores_same objects faulty f.explored).find f.fault.fault.0)
     where
-      within : IsAgreeing (objects low.reader.find) (rows_of low.reader.graph) → Reaches (next_by (objects low.reader.find) low.parents f.fault.entry.1.side) (starts_by tips ends f.fault.entry.1.side) f.fault.entry.1.id
-      within a =
-          let c : IsCounted (objects low.reader.find) (rows_of low.reader.graph) low.parents tips ends taken f.so_far.frontier = explores_keep objects faulty tips ends taken a f.explored (counted a) in
-          (c.searched.search f.fault.entry.1.side).within f.fault.entry.1.id (waits_seen (reached f.so_far.frontier.known f.fault.entry.1.side f.fault.entry.1.id) (waiting f.so_far.frontier.queue f.fault.entry.1.side f.fault.entry.1.id) ((c.searched.search f.fault.entry.1.side).queued f.fault.entry.1.id) (queue_waits f.so_far.frontier.queue f.fault.entry f.fault.queued))
+      there : IsAgreeing (objects low.reader.find) (rows_of low.reader.graph) → IsReached objects (plan_by low sorting tips ends) f.fault.entry.1.id
+      there a = reached_by objects faulty (plan_by low sorting tips ends) f.fault.entry.1.side f.fault.entry.1.id (queued_within objects faulty sorting tips ends taken low counted f.explored f.fault.entry f.fault.queued a)
 
 module _ {F : Type 0} (objects : F → Objects) (faulty : F → ObjectId → Type 0) where
   -- a commit that tips reach, or a parent of it, can't be read
-  pub push_fault : (Q : ObjectId → Type 0) (old : Walk F) (i : ObjectId) (e : Error) → (IsAgreeing (objects (plan_of old).store) (plan_of old).rows → Reaches (next_by (objects (plan_of old).store) (plan_of old).parents Tips) (plan_of old).tips i) → (IsAgreeing (objects (plan_of old).store) (plan_of old).rows → Q i) → IsPushFault objects faulty old i e → IsFault objects faulty (plan_of old) Q e
-  push_fault Q old i e r q (itself f) = read_fault objects faulty (plan_of old) Q i e (λ a. inl (inl (r a))) (λ s. reached_whole objects faulty (plan_of old) s Tips i (r s.agreeing)) f
-  push_fault Q old i e r q (parent {info = info} {p = p} reads m f) = read_fault objects faulty (plan_of old) Q p e (λ a. inr (i, q a, subst (λ ids. Contains ids p) (reads_text_next (objects (plan_of old).store) (faulty (plan_of old).store) (plan_of old).rows a reads) m)) parent_whole f
+  pub push_fault : (Q : ObjectId → Type 0) (old : Walk F) (i : ObjectId) (e : Error) → (IsAgreeing (objects (plan_of old).store) (plan_of old).rows → Reaches (next_by (objects (plan_of old).store) (plan_of old).parents Tips) (plan_of old).tips i) → (IsAgreeing (objects (plan_of old).store) (plan_of old).rows → Q i) → AreDroppedFor objects (plan_of old) old.counting.reader.standing → IsPushFault objects faulty old i e → IsFault objects faulty (plan_of old) Q e
+  push_fault Q old i e r q h (itself f) = read_fault objects faulty (plan_of old) Q i e (λ a. inl (inl (r a))) (λ n. unrowed_own objects faulty (plan_of old) old.counting.reader.standing i (λ a. inl (r a)) h (f.1 n)) (λ s. reached_whole objects faulty (plan_of old) s Tips i (r s.agreeing)) f.0
+  push_fault Q old i e r q h (parent {info = info} {standing = standing} {p = p} reads m f) = read_fault objects faulty (plan_of old) Q p e (λ a. inr (i, q a, subst (λ ids. Contains ids p) (reads_text_next (objects (plan_of old).store) (faulty (plan_of old).store) (plan_of old).rows a reads) m)) (λ n. unrowed_parent objects faulty (plan_of old) standing p (read_dropped objects faulty (plan_of old) (λ a. inl (r a)) reads h) f.1) parent_whole f.0
     where
       parent_whole : IsSound objects faulty (plan_of old) → ReadsWhole (objects (plan_of old).store) p
       parent_whole s =
@@ -109,5 +92,5 @@ module _ {F : Type 0} (objects : F → Objects) (faulty : F → ObjectId → Typ
 
   -- nor does making a commit ready
   pub push_misses_no_count : (old : Walk F) (i : ObjectId) (e : Error) → IsPushFault objects faulty old i e → e ≢ error.MissingIndegreeUnexpected
-  push_misses_no_count old i e (itself f) = read_misses_no_count (objects old.counting.reader.find) (faulty old.counting.reader.find) i e f
-  push_misses_no_count old i e (parent {p = p} reads m f) = read_misses_no_count (objects old.counting.reader.find) (faulty old.counting.reader.find) p e f
+  push_misses_no_count old i e (itself f) = read_misses_no_count (objects old.counting.reader.find) (faulty old.counting.reader.find) i e f.0
+  push_misses_no_count old i e (parent {p = p} reads m f) = read_misses_no_count (objects old.counting.reader.find) (faulty old.counting.reader.find) p e f.0

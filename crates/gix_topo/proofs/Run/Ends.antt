@@ -15,7 +15,7 @@ use Rattle.gix_topo.specs.declared.Error.{Error}
 use Rattle.gix_topo.specs.declared.Error.TheVariants as error
 use Rattle.gix_object.specs.declared.find.existing_iter.Error.TheVariants as existing
 use Rattle.gix_revwalk.specs.Ids.{AreDistinct}
-use Rattle.gix_topo.specs.Walk.{TopoWalk, Ready, Counted, ready_ids, was_ready, named_ids, HoldsReady, Chooses, IsNextReady, IsLeft, IsOtherParent, IsFault, IsLate, IsStarted, Takes, after, Next, ended, given, refused, failed}
+use Rattle.gix_topo.specs.Walk.{TopoWalk, Ready, Counted, ready_ids, was_ready, named_ids, HoldsReady, Chooses, IsNextReady, IsLeft, IsOtherParent, IsMetFault, IsFault, IsLate, IsStarted, Takes, after, Next, ended, given, refused, failed}
 use Rattle.gix_topo.specs.Laws.{left_beside, answers_left, AreApart, given_ids}
 use Rattle.gix_revwalk.specs.Asking.{AsksAll, none, more}
 use Rattle.gix_hash.proofs.Ids.Membership.{id_total, same_is, same_itself, among_from, among_is, Contains-here, Contains-there, Contains-cons_cases, no_member}
@@ -152,11 +152,14 @@ module _ {F P : Type 0} (objects : F → Objects) (faulty : F → ObjectId → T
   ended_ready (failed c others ch f l) s = cc
 
   -- the same fault where more may become ready
+  met_more : (w : TopoWalk F P) (Q R : ObjectId → Type 0) → ((i : ObjectId) → Q i → R i) → (i : ObjectId) (e : Error) → IsMetFault objects faulty w.plan Q i e → IsMetFault objects faulty w.plan R i e
+  met_more w Q R g i e f = record { looked_up = λ a. ⊎_elim (λ r. inl r) (λ k. inr (k.0, g k.0 k.1, k.2)) (f.looked_up a); unrowed = f.unrowed; store_fails = f.store_fails }
+
   fault_more : (w : TopoWalk F P) (Q R : ObjectId → Type 0) → ((i : ObjectId) → Q i → R i) → (e : Error) → IsFault objects faulty w.plan Q e → IsFault objects faulty w.plan R e
   fault_more w Q R g error.MissingIndegreeUnexpected f = f
   fault_more w Q R g error.MissingStateUnexpected f = f
-  fault_more w Q R g (error.Find e) f = (f.0, f.1, (λ a. ⊎_elim (λ r. inl r) (λ k. inr (k.0, g k.0 k.1, k.2)) (f.2.0 a), f.2.1))
-  fault_more w Q R g (error.ObjectDecode e) f = (f.0, f.1, (λ a. ⊎_elim (λ r. inl r) (λ k. inr (k.0, g k.0 k.1, k.2)) (f.2.0 a), f.2.1))
+  fault_more w Q R g (error.Find e) f = (f.0, f.1, met_more w Q R g f.0 _ f.2)
+  fault_more w Q R g (error.ObjectDecode e) f = (f.0, f.1, met_more w Q R g f.0 _ f.2)
   fault_more w Q R g error.Memory f = f
 
   other_more : (w : TopoWalk F P) (Q R : ObjectId → Type 0) → ((i : ObjectId) → Q i → R i) → (i : ObjectId) → IsOtherParent objects w.plan Q i → IsOtherParent objects w.plan R i

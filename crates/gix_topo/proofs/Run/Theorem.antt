@@ -92,8 +92,8 @@ module _ {F P : Type 0} (objects : F → Objects) (faulty : F → ObjectId → T
   sound_fault : (plan : TopoPlan F) (Q : ObjectId → Type 0) (e : Error) → IsSound objects faulty plan → IsFault objects faulty plan Q e → (e ≡ error.Memory) ⊎ (e ≡ error.Find existing.Store)
   sound_fault plan Q error.MissingIndegreeUnexpected s f = absurd (f s.agreeing)
   sound_fault plan Q error.MissingStateUnexpected s f = absurd f
-  sound_fault plan Q (error.Find e) s f = inr (f.2.1 s)
-  sound_fault plan Q (error.ObjectDecode e) s f = inr (f.2.1 s)
+  sound_fault plan Q (error.Find e) s f = inr (f.2.store_fails s)
+  sound_fault plan Q (error.ObjectDecode e) s f = inr (f.2.store_fails s)
   sound_fault plan Q error.Memory s f = inl refl
 
   no_answer : {w new : TopoWalk F P} {o : Option (Result Info Error)} → Next objects faulty answers w o new → o ≡ None → AnswersBy answers w.predicate accepts → (ids : List ObjectId) × Draws w ids []

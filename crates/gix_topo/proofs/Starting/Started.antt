@@ -24,11 +24,12 @@ use Rattle.gix_topo.specs.Inside.Searched.{IsCounted, IsSearched, next_by}
 use Rattle.gix_revwalk.specs.Ids.{AreDistinct}
 use Rattle.gix_topo.specs.Inside.Starting.{HasBegun, IsBegunWalk, by_rising_time}
 use Rattle.gix_topo.specs.TopoOrder.{Keeps, first_places}
-use Rattle.gix_topo.specs.Inside.Steady.{IsDone, AreRead, IsTallied, IsSteady, HasCounted, IsHeld, unasked, unasked_of}
+use Rattle.gix_topo.specs.Inside.Steady.{IsDone, AreRead, AreDroppedFor, IsTallied, IsSteady, HasCounted, IsHeld, unasked, unasked_of}
 use Rattle.gix_topo.specs.Walk.{TopoPlan, Ready, ready_ids, first_depth, HoldsReady, IsNumberOf, IsMet, IsInDepth, IsBrokenRow, IsCounting, IsWalkable, IsStored, IsMember, IsStarted, StartsWith, walked_of, IsFound}
 use Rattle.gix_topo.specs.WalkSet.{IsChildless}
 use Rattle.gix_topo.proofs.Counts.IndegreeZero.{none_left, outside, unseen, all_taken}
 use Rattle.gix_topo.proofs.Counts.Expanded.{number_same, broken}
+use Rattle.gix_topo.proofs.Counts.RowsDropped.{made_dropped}
 use Rattle.gix_revwalk.proofs.NewIds.{times, times_once}
 use Rattle.gix_topo.proofs.Readiness.IsReady.{keeps_from, keeps_times, first_once, among_by, keeps_on}
 use Rattle.gix_topo.proofs.Counts.Rest.{least_within}
@@ -249,6 +250,7 @@ module _ {F : Type 0} (objects : F → Objects) (faulty : F → ObjectId → Typ
     steady = steady;
     counts = counts;
     all_read = all_still objects faulty p old new moved stands begun.all_read;
+    dropped = subst (λ c. AreDroppedFor objects p c.reader.standing) (sym h.counting) (made_dropped objects faulty p first_plan (λ j m a. inl (start m)) all.ready begun.dropped);
     idle = λ e. same_queue ∙ begun.idle e;
     read = begun.read;
   }

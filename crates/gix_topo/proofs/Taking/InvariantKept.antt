@@ -1,6 +1,6 @@
 -- What a walk holds still holds after a commit was taken.
 use Rattle.std.specs.Prelude.{◌≡◌, ◌⊎◌, ◌≤◌, ℕ, ◌+◌, List, ◌∷◌, ◌++◌, Bool, true, false, not, ◌&&◌, ◌||◌, cond, Contains}
-use Rattle.std.proofs.Common.{refl, sym, ap, subst, ⊎_elim, ◌∙◌, arith}
+use Rattle.std.proofs.Common.{refl, sym, ap, subst, inl, ⊎_elim, ◌∙◌, arith}
 use Rattle.std.proofs.lemmas.Bool.{true≢false, false≢true, false_from_ne_true, or_cases, or_left, or_right, or_parts}
 use Rattle.std.specs.FinSet as set
 use Rattle.gix_hash.specs.declared.ObjectId.{ObjectId}
@@ -18,7 +18,7 @@ use Rattle.gix_revwalk.specs.Commits.{by_mode}
 use Rattle.gix_topo.specs.Inside.Releasing.{plan_of, counted_by, lowered, with_counting, taken_of, TakesOne}
 use Rattle.gix_topo.specs.Inside.Searched.{IsCounted, IsExplored, IsTally, next_by, starts_by, IsBegun}
 use Rattle.gix_topo.specs.TopoOrder.{last_places}
-use Rattle.gix_topo.specs.Inside.Steady.{AreRead, IsTallied, IsSteady, HasCounted, IsHeld, unasked, unasked_of, TakesReady}
+use Rattle.gix_topo.specs.Inside.Steady.{AreRead, AreDroppedFor, IsTallied, IsSteady, HasCounted, IsHeld, unasked, unasked_of, TakesReady}
 use Rattle.gix_topo.specs.Walk.{Ready, ready_ids, walked_of, IsMember, IsWalkable, IsTaken, IsCommitRead, HoldsReady, Chooses, Adds, IsReached, IsFound}
 use Rattle.gix_topo.specs.WalkSet.{IsChild, IsReady}
 use Rattle.gix_topo.proofs.Counts.ExploreKeeps.{explores_made, explores_same, explores_still, explores_done, explores_idle}
@@ -30,7 +30,8 @@ use Rattle.gix_topo.proofs.Counts.Children.{children_of, was_ready_of, tally_sam
 use Rattle.gix_topo.proofs.Reading.OnceRead.{found_later}
 use Rattle.gix_topo.proofs.Taking.Added.{read_after}
 use Rattle.gix_topo.proofs.Counts.Taken.{contains-taken}
-use Rattle.gix_topo.proofs.Taking.Setting.{was_ready, plan_taken, named_text, counted_on, explored_on, tally_on}
+use Rattle.gix_topo.proofs.Counts.RowsDropped.{made_dropped, explores_dropped}
+use Rattle.gix_topo.proofs.Taking.Setting.{was_ready, plan_taken, named_text, parents_reached, counted_on, explored_on, tally_on}
 use Rattle.gix_topo.proofs.Readiness.ReadyIds.{ids-append, chosen_times, others_in, holds_in, holds_times, joined_times}
 use Rattle.std.proofs.lemmas.List.Elements.{Contains-append_cases}
 
@@ -197,6 +198,12 @@ module _ {F : Type 0} (objects : F → Objects) (faulty : F → ObjectId → Typ
       still_made : (j : ObjectId) → (is_among j (ready_ids rest.commits) ≡ true) ⊎ (is_among j (ready_ids added) ≡ true) → (is_among j (ready_ids added) || was_ready_of w.counting.frontier j) ≡ true
       still_made j c = ⊎_elim (λ e. or_right (is_among j (ready_ids added)) _ (was_made j (or_right (is_same j r.id) _ e))) (λ e. or_left _ _ e) c
 
+      -- rows that are dropped were dropped for their reason
+      dropped_now : AreDroppedFor objects (plan_of w) new.counting.reader.standing
+      dropped_now =
+          made_dropped objects faulty (plan_of w) (plan_taken objects faulty w rest r chosen same t.explored (explores_same objects faulty t.explores)) (λ j m a. inl (parents_reached objects faulty w rest r chosen held a j (last_from named j m))) rel.ready
+          (explores_dropped objects faulty w.ready.sorting w.tips.items w.ends.items (set.contains (taken_of w)) low (λ a. (held.tallied a).counted) t.explores held.dropped)
+
       found_now : (q : Ready) → Contains new.ready.commits q → IsFound objects faulty (plan_of new) true new.counting.reader.standing q
       found_now q m = ready_cases (IsFound objects faulty (plan_of new) true new.counting.reader.standing q) q of_rest (λ a. subst (λ p. IsFound objects faulty p true new.counting.reader.standing q) (sym plan_is) (found_later objects faulty (plan_of w) (λ e. refl) (λ e. e) (adds.found q a))) m
         where
@@ -235,6 +242,7 @@ module _ {F : Type 0} (objects : F → Objects) (faulty : F → ObjectId → Typ
         steady = λ s. steady_now (subst (IsWalkable objects faulty) plan_is s);
         counts = λ s. subst (λ p. HasCounted objects p new.counting) (sym plan_is) (has (subst (IsWalkable objects faulty) plan_is s));
         all_read = subst (λ p. AreRead objects faulty p new.counting) (sym plan_is) (read_after objects faulty w rest same r chosen added new t held);
+        dropped = subst (λ p. AreDroppedFor objects p new.counting.reader.standing) (sym plan_is) dropped_now;
         idle = λ e. rel.ready.queue ∙ explores_idle objects faulty t.explores (held.idle (sym (ap (λ p. p.rows) plan_is) ∙ e));
         read = λ e i h. subst (λ p. IsCommitRead (objects p.store) i) (sym plan_is) (held.read (sym (ap (λ p. p.rows) plan_is) ∙ e) i (subst (λ p. IsReached objects p i) plan_is h));
       }

@@ -10,7 +10,7 @@ use Rattle.gix_revwalk.specs.declared.Info.{Info}
 use Rattle.gix_topo.specs.declared.Error.{Error}
 use Rattle.gix_topo.specs.declared.walk.Walk.{Walk}
 use Rattle.gix_revwalk.specs.Reading.{rows_of}
-use Rattle.gix_topo.specs.Reading.{Reads, by_row, by_text, IsReadFault}
+use Rattle.gix_topo.specs.Reading.{Reads, by_row, by_text, LookUpFails}
 use Rattle.gix_topo.specs.declared.counting.Counting.{Counting}
 use Rattle.gix_frontier.specs.declared.Frontier.{Frontier}
 use Rattle.gix_topo.specs.Depth.{least}
@@ -38,8 +38,8 @@ reads_timed (by_row r is) = record { id = is.same_id; same_time = timed _ is.sam
 reads_timed (by_text n t) = record { id = t.2.0.same_id; same_time = timed _ t.2.0.same_time }
 
 module _ {F : Type 0} (objects : F → Objects) (faulty : F → ObjectId → Type 0) where
-  pub fault_of_parent : (old : Walk F) (i : ObjectId) (e : Error) (info : Info) (standing : Bool) (find : F) (p : ObjectId) → find ≡ old.counting.reader.find → Reads (objects old.counting.reader.find) (faulty old.counting.reader.find) (rows_of old.counting.reader.graph) old.counting.reader.standing i (Ok info) standing → Contains info.parent_ids.items p → IsReadFault (objects find) (faulty find) p e → IsPushFault objects faulty old i e
-  fault_of_parent old i e info standing find p same r m f = parent r m (subst (λ x. IsReadFault (objects x) (faulty x) p e) same f)
+  pub fault_of_parent : (old : Walk F) (i : ObjectId) (e : Error) (info : Info) (standing now : Bool) (find : F) (graph : Option (List GraphRow)) (p : ObjectId) → find ≡ old.counting.reader.find → graph ≡ old.counting.reader.graph → now ≡ standing → Reads (objects old.counting.reader.find) (faulty old.counting.reader.find) (rows_of old.counting.reader.graph) old.counting.reader.standing i (Ok info) standing → Contains info.parent_ids.items p → LookUpFails (objects find) (faulty find) (rows_of graph) now p e → IsPushFault objects faulty old i e
+  fault_of_parent old i e info standing now find graph p a b c r m f = parent r m (subst (λ x. x) (λ k. LookUpFails (objects (a k)) (faulty (a k)) (rows_of (b k)) (c k) p e) f)
 
 -- an item at an index is in the list
 pub at_index : {X : Type 0} (xs ys : List X) (k : ℕ) (d : X) → ys ≡ xs → k < length ys → Contains xs (get_or ys k d)

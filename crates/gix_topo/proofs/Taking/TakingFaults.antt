@@ -31,7 +31,7 @@ use Rattle.gix_topo.specs.Inside.Releasing.{plan_of, taken_of, IsPushFault, itse
 use Rattle.gix_topo.specs.Inside.Searched.{IsExplored, text_next, next_by}
 use Rattle.gix_revwalk.specs.Ids.{times}
 use Rattle.gix_topo.specs.TopoOrder.{last_places}
-use Rattle.gix_topo.specs.Inside.Steady.{IsTallied, IsHeld}
+use Rattle.gix_topo.specs.Inside.Steady.{AreDroppedFor, IsTallied, IsHeld}
 use Rattle.gix_topo.specs.Walk.{TopoPlan, Ready, ready_ids, Chooses, IsCommitRead, IsNextReady, IsOtherParent, IsLate, IsFault, IsReached}
 use Rattle.gix_topo.proofs.Counts.ExploreKeeps.{explores_same, explores_made, explores_done, explores_idle}
 use Rattle.gix_topo.proofs.Counts.Frontier.{has_seen}
@@ -46,8 +46,10 @@ use Rattle.gix_topo.proofs.Counts.Taken.{made_taken}
 use Rattle.gix_topo.proofs.Taking.Setting.{was_ready, plan_taken, was_untaken, named_text, parents_reached, counted_on, explored_on, tally_on}
 use Rattle.gix_revwalk.proofs.NewIds.{among_times}
 use Rattle.gix_topo.proofs.Readiness.ReadyIds.{in_ids}
+use Rattle.gix_topo.proofs.Counts.RowsDropped.{made_dropped, explores_dropped}
 use Rattle.gix_topo.proofs.Counts.ReadFaults.{fault_item, exploring_fault, push_fault}
 use Rattle.gix_topo.proofs.Counts.MakesReady.{due_parts}
+use Rattle.gix_hash.proofs.Lists.{only_member}
 
 same_object : (a b : Object) → Some a ≡ Some b → a ≡ b
 same_object a b e = cc
@@ -98,12 +100,12 @@ module _ {F : Type 0} (objects : F → Objects) (faulty : F → ObjectId → Typ
       by mode.All e = walked (subst (λ k. Contains (by_mode k (text_next (objects plan.store) i)) p) (sym e) m)
       by mode.First e = first e (text_next (objects plan.store) i) refl m
 
-  push_fails : (old : Walk F) (Q : ObjectId → Type 0) (i : ObjectId) (e : Error) → IsUpcoming (plan_of old) i → (Agree (plan_of old) → Q i) → IsPushFault objects faulty old i e → Fails (plan_of old) Q e
-  push_fails old Q i e up ready f = (push_fault objects faulty Q old i e up.reach ready f, fails f)
+  push_fails : (old : Walk F) (Q : ObjectId → Type 0) (i : ObjectId) (e : Error) → IsUpcoming (plan_of old) i → (Agree (plan_of old) → Q i) → AreDroppedFor objects (plan_of old) old.counting.reader.standing → IsPushFault objects faulty old i e → Fails (plan_of old) Q e
+  push_fails old Q i e up ready dropped f = (push_fault objects faulty Q old i e up.reach ready dropped f, fails f)
     where
       fails : IsPushFault objects faulty old i e → IsLate objects (plan_of old) Q e
-      fails (pushed f) = late (plan_of old) Q i e (λ n. inl (up.read n i (inl (up.reach (none_agree (objects (plan_of old).store) (plan_of old).rows n))))) f
-      fails (parent {p = p} reads m f) = late (plan_of old) Q p e (λ n. parent_read (plan_of old) Q i p up ready n (subst (λ ids. Contains ids p) (reads_text_next (objects (plan_of old).store) (faulty (plan_of old).store) (plan_of old).rows (none_agree (objects (plan_of old).store) (plan_of old).rows n) reads) m)) f
+      fails (pushed f) = late (plan_of old) Q i e (λ n. inl (up.read n i (inl (up.reach (none_agree (objects (plan_of old).store) (plan_of old).rows n))))) f.0
+      fails (parent {p = p} reads m f) = late (plan_of old) Q p e (λ n. parent_read (plan_of old) Q i p up ready n (subst (λ ids. Contains ids p) (reads_text_next (objects (plan_of old).store) (faulty (plan_of old).store) (plan_of old).rows (none_agree (objects (plan_of old).store) (plan_of old).rows n) reads) m)) f.0
 
   -- the last child of a commit that wasn't ready, and that no end has seen, was taken
   record IsLastChild (f : Frontier) (i : ObjectId) : Type 0 where
@@ -111,13 +113,13 @@ module _ {F : Type 0} (objects : F → Objects) (faulty : F → ObjectId → Typ
     outside : has_seen f Ends i ≡ false
     unmade : was_ready_of f i ≡ false
 
-  release_fails : {old : Walk F} {i : ObjectId} {e : Error} (Q : ObjectId → Type 0) → IsUpcoming (plan_of old) i → (Agree (plan_of old) → IsLastChild old.counting.frontier i → Q i) → (Agree (plan_of old) → 1 ≤ children_of old.counting.frontier i) → IsReleaseFault objects faulty old i e → Fails (plan_of old) Q e
-  release_fails Q up ready c (uncounted z) = (λ a. let l : 1 ≤ _ = c a in absurd (omega arith), tt)
-  release_fails {old} {i} {e} Q up ready c (unread {f = f} n k u d p) =
+  release_fails : {old : Walk F} {i : ObjectId} {e : Error} (Q : ObjectId → Type 0) → IsUpcoming (plan_of old) i → AreDroppedFor objects (plan_of old) old.counting.reader.standing → (Agree (plan_of old) → IsLastChild old.counting.frontier i → Q i) → (Agree (plan_of old) → 1 ≤ children_of old.counting.frontier i) → IsReleaseFault objects faulty old i e → Fails (plan_of old) Q e
+  release_fails Q up dropped ready c (uncounted z) = (λ a. let l : 1 ≤ _ = c a in absurd (omega arith), tt)
+  release_fails {old} {i} {e} Q up dropped ready c (unread {f = f} n k u d p) =
       let parts : (n ≡ 0) × (is_seen (known_of f.known i).ends ≡ false) × ((known_of f.known i).was_ready ≡ false) = due_parts objects faulty n (known_of f.known i) d in
       push_fails (with_frontier objects faulty old f) Q i e up
-      (λ a. ready a (record { one = k ∙ ap (λ m. m + 1) parts.0; outside = sym (ap is_seen (uncounted_moved objects faulty old.counting.frontier f i n k u Ends i)) ∙ parts.1; unmade = sym (uncounted_made objects faulty old.counting.frontier f i n k u i) ∙ parts.2 })) p
-  release_fails Q up ready c no_memory = (tt, tt)
+      (λ a. ready a (record { one = k ∙ ap (λ m. m + 1) parts.0; outside = sym (ap is_seen (uncounted_moved objects faulty old.counting.frontier f i n k u Ends i)) ∙ parts.1; unmade = sym (uncounted_made objects faulty old.counting.frontier f i n k u i) ∙ parts.2 })) dropped p
+  release_fails Q up dropped ready c no_memory = (tt, tt)
 
   -- some of the parents were released, and these are left
   record IsPartway (base : Frontier) (all ids : List ObjectId) (f : Frontier) : Type 0 where
@@ -133,9 +135,9 @@ module _ {F : Type 0} (objects : F → Objects) (faulty : F → ObjectId → Typ
       turned p = omega arith
 
   -- each of these is reached, and has a child left for each place
-  among_fails : (plan : TopoPlan F) (Q : ObjectId → Type 0) (base : Frontier) (all : List ObjectId) → ((p : ObjectId) → times p all ≤ 1) → ((i : ObjectId) → Contains all i → IsUpcoming plan i) → (Agree plan → (i : ObjectId) → Contains all i → IsLastChild base i → Q i) → {old : Walk F} {ids : List ObjectId} {e : Error} → plan_of old ≡ plan → IsPartway base all ids old.counting.frontier → (Agree plan → (p : ObjectId) → times p ids ≤ children_of old.counting.frontier p) → IsFaultAmong objects faulty old ids e → Fails plan Q e
-  among_fails plan Q base all once up ready {old} {e = e} same part c (here {i = i} {ids = ids} f) =
-      subst (λ p. Fails p Q e) same (release_fails Q (subst (λ p. IsUpcoming p i) (sym same) (up i there)) (λ a l. ready (on a) i there (first a l)) (λ a. counted (c (on a) i)) f)
+  among_fails : (plan : TopoPlan F) (Q : ObjectId → Type 0) (base : Frontier) (all : List ObjectId) → ((p : ObjectId) → times p all ≤ 1) → ((i : ObjectId) → Contains all i → IsUpcoming plan i) → (Agree plan → (i : ObjectId) → Contains all i → IsLastChild base i → Q i) → {old : Walk F} {ids : List ObjectId} {e : Error} → plan_of old ≡ plan → AreDroppedFor objects plan old.counting.reader.standing → IsPartway base all ids old.counting.frontier → (Agree plan → (p : ObjectId) → times p ids ≤ children_of old.counting.frontier p) → IsFaultAmong objects faulty old ids e → Fails plan Q e
+  among_fails plan Q base all once up ready {old} {e = e} same dropped part c (here {i = i} {ids = ids} f) =
+      subst (λ p. Fails p Q e) same (release_fails Q (subst (λ p. IsUpcoming p i) (sym same) (up i there)) (subst (λ p. AreDroppedFor objects p old.counting.reader.standing) (sym same) dropped) (λ a l. ready (on a) i there (first a l)) (λ a. counted (c (on a) i)) f)
     where
       there : Contains all i
       there = part.among i (Contains-here i ids)
@@ -162,9 +164,10 @@ module _ {F : Type 0} (objects : F → Objects) (faulty : F → ObjectId → Typ
         outside = sym (part.seen i) ∙ l.outside;
         unmade = part.made i l.unmade;
       }
-  among_fails plan Q base all once up ready {old} same part c (later {mid = mid} {i = i} {ids = ids} {first = first} r f) =
+  among_fails plan Q base all once up ready {old} same dropped part c (later {mid = mid} {i = i} {ids = ids} {first = first} r f) =
       let rel : IsReleased objects faulty old (i ∷ []) (first ++ []) mid = released objects faulty (more r none) in
       among_fails plan Q base all once up ready {old = mid} (rel.ready.plan ∙ same)
+      (made_dropped objects faulty plan same (λ j m a. subst (IsReached objects plan) (only_member i j m) (inl ((up i (part.among i (Contains-here i ids))).reach a))) rel.ready dropped)
       (record {
         children = λ p. let s : times p all + children_of old.counting.frontier p ≡ children_of base p + times p (i ∷ ids) = part.children p in let k : (cond (is_same p i) 1 0 + 0) + children_of mid.counting.frontier p ≡ children_of old.counting.frontier p = rel.children p in omega arith;
         seen = λ p. ap is_seen (rel.ready.moved Ends p) ∙ part.seen p;
@@ -248,10 +251,11 @@ module _ {F : Type 0} (objects : F → Objects) (faulty : F → ObjectId → Typ
     -- taking the chosen commit fails for a reason, and a fault found so late without rows is that of another parent
     pub taking_fault : (e : Error) → IsTakingFault objects faulty (record w { ready = rest }) r e → IsFault objects faulty (plan_of w) (IsNextReady objects (plan_of w) (taken_of w) r.id) e × IsLate objects (plan_of w) (IsNextReady objects (plan_of w) (taken_of w) r.id) e
     taking_fault e (exploring f) = (
-      exploring_fault objects faulty w.ready.sorting w.tips.items w.ends.items (set.contains (taken_of w)) low (λ a. (held.tallied a).counted) (IsNextReady objects (plan_of w) (taken_of w) r.id) e f,
-      late (plan_of w) (IsNextReady objects (plan_of w) (taken_of w) r.id) f.fault.entry.1.id e (λ n. absurd (no_member f.fault.entry (subst (λ queue. Contains queue f.fault.entry) (explores_idle objects faulty f.explored (held.idle n)) f.fault.queued))) (subst (λ x. IsReadFault (objects x) (faulty x) f.fault.entry.1.id e) (explores_same objects faulty f.explored).find f.fault.fault),
+      exploring_fault objects faulty w.ready.sorting w.tips.items w.ends.items (set.contains (taken_of w)) low (λ a. (held.tallied a).counted) held.dropped (IsNextReady objects (plan_of w) (taken_of w) r.id) e f,
+      late (plan_of w) (IsNextReady objects (plan_of w) (taken_of w) r.id) f.fault.entry.1.id e (λ n. absurd (no_member f.fault.entry (subst (λ queue. Contains queue f.fault.entry) (explores_idle objects faulty f.explored (held.idle n)) f.fault.queued))) (subst (λ x. IsReadFault (objects x) (faulty x) f.fault.entry.1.id e) (explores_same objects faulty f.explored).find f.fault.fault.0),
     )
     taking_fault e (releasing {explored = explored} x rests f) =
         among_fails (plan_of w) (IsNextReady objects (plan_of w) (taken_of w) r.id) explored.frontier (last_places named) (last_once named) upcoming (next_ready explored x rests) (plan_taken objects faulty w rest r chosen same explored (explores_same objects faulty x))
+        (explores_dropped objects faulty w.ready.sorting w.tips.items w.ends.items (set.contains (taken_of w)) low (λ a. (held.tallied a).counted) x held.dropped)
         (partway_none explored.frontier (last_places named)) (children_left explored x) f
     taking_fault e (short q) = subst (Fails (plan_of w) (IsNextReady objects (plan_of w) (taken_of w) r.id)) (sym q) (tt, tt)

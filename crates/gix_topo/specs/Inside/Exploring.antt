@@ -16,7 +16,7 @@ use Rattle.gix_topo.specs.Depth.{known_generation}
 use Rattle.gix_frontier.specs.Inside.Frontier.{reached, is_done, MeetsParent, Finishes}
 use Rattle.gix_revwalk.specs.Commits.{by_mode}
 use Rattle.gix_revwalk.specs.Reading.{rows_of}
-use Rattle.gix_topo.specs.Reading.{Reads, IsReadFault}
+use Rattle.gix_topo.specs.Reading.{Reads, ReadFails}
 use Rattle.gix_topo.specs.TopoOrder.{last_places}
 
 -- the rows were dropped, or the greatest generation of those that wait isn't below the depth
@@ -70,7 +70,7 @@ module _ {F : Type 0} (objects : F → Objects) (faulty : F → ObjectId → Typ
   pub record IsStepFault (old : Counting F) (e : Error) : Type 0 where
     pub entry : ℕ × Waiting
     pub queued : Contains old.frontier.queue entry
-    pub fault : IsReadFault (objects old.reader.find) (faulty old.reader.find) entry.1.id e
+    pub fault : ReadFails (objects old.reader.find) (faulty old.reader.find) (rows_of old.reader.graph) old.reader.standing entry.1.id e
 
   -- steps, as long as there is need
   pub data Explores (old : Counting F) : Counting F → Type 0 where

@@ -21,7 +21,7 @@ use Rattle.gix_topo.specs.TopoOrder.{last_places}
 use Rattle.gix_frontier.specs.Inside.Known.{Known}
 use Rattle.gix_frontier.specs.Inside.Frontier.{IsDone, known_of, is_due, MarksReady, Uncounts}
 use Rattle.gix_revwalk.specs.Reading.{rows_of}
-use Rattle.gix_topo.specs.Reading.{Reads, IsReadFault}
+use Rattle.gix_topo.specs.Reading.{Reads, ReadFails, LookUpFails}
 use Rattle.gix_topo.specs.declared.Sorting.{Sorting}
 use Rattle.gix_topo.specs.Walk.{TopoPlan, TopoWalk, Counted, Ready, ready_ids, IsKnown, IsOfInfo, HoldsReady}
 
@@ -74,8 +74,8 @@ module _ {F : Type 0} (objects : F → Objects) (faulty : F → ObjectId → Typ
 
   -- why a commit can't become ready: it, or a parent of it, can't be read
   pub data IsPushFault (old : Walk F) (i : ObjectId) (e : Error) : Type 0 where
-    itself : IsReadFault (objects old.counting.reader.find) (faulty old.counting.reader.find) i e → IsPushFault old i e
-    parent : {info : Info} {standing : Bool} {p : ObjectId} → Reads (objects old.counting.reader.find) (faulty old.counting.reader.find) (rows_of old.counting.reader.graph) old.counting.reader.standing i (Ok info) standing → Contains info.parent_ids.items p → IsReadFault (objects old.counting.reader.find) (faulty old.counting.reader.find) p e → IsPushFault old i e
+    itself : ReadFails (objects old.counting.reader.find) (faulty old.counting.reader.find) (rows_of old.counting.reader.graph) old.counting.reader.standing i e → IsPushFault old i e
+    parent : {info : Info} {standing : Bool} {p : ObjectId} → Reads (objects old.counting.reader.find) (faulty old.counting.reader.find) (rows_of old.counting.reader.graph) old.counting.reader.standing i (Ok info) standing → Contains info.parent_ids.items p → LookUpFails (objects old.counting.reader.find) (faulty old.counting.reader.find) (rows_of old.counting.reader.graph) standing p e → IsPushFault old i e
 
   abbrev pub with_frontier : Walk F → Frontier → Walk F
   with_frontier old f = record old { counting = record old.counting { frontier = f } }

@@ -14,7 +14,7 @@ use Rattle.gix_topo.specs.Depth.{known_generation}
 use Rattle.gix_frontier.specs.Inside.Frontier.{is_due, known_of, Meets}
 use Rattle.gix_topo.specs.Inside.Releasing.{plan_by, plan_of, counted_by, Pushes, IsPushFault}
 use Rattle.gix_topo.specs.Inside.Searched.{IsCounted, IsBegun, IsExplored}
-use Rattle.gix_topo.specs.Inside.Steady.{AreRead, HasCounted}
+use Rattle.gix_topo.specs.Inside.Steady.{AreRead, AreDroppedFor, HasCounted}
 use Rattle.gix_topo.specs.TopoOrder.{by_time}
 use Rattle.gix_topo.specs.Walk.{TopoPlan, Ready, HoldsReady, IsReached, first_depth, IsCommitRead, IsCounting, IsWalkable}
 
@@ -40,6 +40,7 @@ module _ {F : Type 0} (objects : F → Objects) (faulty : F → ObjectId → Typ
     pub counts : IsWalkable objects faulty plan → HasCounted objects plan c
     pub counting : IsWalkable objects faulty plan → IsCounting objects plan (counted_by c)
     pub all_read : AreRead objects faulty plan c
+    pub dropped : AreDroppedFor objects plan c.reader.standing
     -- without rows, all that is walked was read
     pub idle : plan.rows ≡ [] → c.frontier.queue ≡ []
     pub read : plan.rows ≡ [] → (i : ObjectId) → IsReached objects plan i → IsCommitRead (objects plan.store) i

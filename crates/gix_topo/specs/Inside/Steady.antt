@@ -18,7 +18,7 @@ use Rattle.gix_topo.specs.Inside.Releasing.{plan_of, counted_by, taken_of, walk_
 use Rattle.gix_topo.specs.Inside.Searched.{IsCounted, IsBegun}
 use Rattle.gix_revwalk.specs.Ids.{AreDistinct}
 use Rattle.gix_revwalk.specs.Infos.{IsInfo}
-use Rattle.gix_topo.specs.Walk.{TopoPlan, TopoWalk, Ready, ready_ids, walked_of, Chooses, IsReached, IsFound, IsMember, IsNumberOf, IsBrokenRow, IsCommitRead, IsWalkable, IsNextReady, IsFault, IsLate, Takes}
+use Rattle.gix_topo.specs.Walk.{TopoPlan, TopoWalk, Ready, ready_ids, walked_of, Chooses, IsReached, IsFound, IsMember, IsNumberOf, IsBrokenRow, DropsBy, IsCommitRead, IsWalkable, IsNextReady, IsFault, IsLate, Takes}
 use Rattle.gix_topo.specs.WalkSet.{IsChild}
 
 module _ {F : Type 0} (objects : F → Objects) (faulty : F → ObjectId → Type 0) (plan : TopoPlan F) where
@@ -35,6 +35,10 @@ module _ {F : Type 0} (objects : F → Objects) (faulty : F → ObjectId → Typ
   AreRead c = (i : ObjectId) → IsDone c.frontier i → IsReadOnce c.reader.standing i
 
 module _ {F : Type 0} (objects : F → Objects) where
+  -- rows are dropped for a corrupt one
+  abbrev pub AreDroppedFor : TopoPlan F → Bool → Type 0
+  AreDroppedFor plan standing = standing ≡ false → DropsBy objects plan
+
   -- both searches and the counts are as they are to be; ready commits are done
   pub record IsTallied (w : Walk F) : Type 0 where
     pub counted : IsCounted (objects (plan_of w).store) (plan_of w).rows (plan_of w).parents (plan_of w).tips (plan_of w).ends (set.contains (taken_of w)) w.counting.frontier
@@ -63,6 +67,7 @@ module _ {F : Type 0} (objects : F → Objects) (faulty : F → ObjectId → Typ
     pub steady : IsWalkable objects faulty (plan_of w) → IsSteady objects w
     pub counts : IsWalkable objects faulty (plan_of w) → HasCounted objects (plan_of w) w.counting
     pub all_read : AreRead objects faulty (plan_of w) w.counting
+    pub dropped : AreDroppedFor objects (plan_of w) w.counting.reader.standing
     -- without rows, all that is walked was read
     pub idle : (plan_of w).rows ≡ [] → w.counting.frontier.queue ≡ []
     pub read : (plan_of w).rows ≡ [] → (i : ObjectId) → IsReached objects (plan_of w) i → IsCommitRead (objects (plan_of w).store) i

@@ -1,4 +1,4 @@
-use Rattle.std.proofs.Common.{◌∙◌, ap, subst}
+use Rattle.std.proofs.Common.{refl, ◌∙◌, ap, subst}
 use Rattle.gix_revwalk.specs.Reading.{rows_of}
 use Rattle.gix_topo.specs.Inside.Exploring.{Follows}
 use Rattle.gix_topo.specs.declared.Error.TheVariants as error
@@ -10,13 +10,13 @@ pub returns-in_err-ids-clause-fault : goal.returns-in_err-ids-clause-fault
 returns-in_err-ids-clause-fault g c = err_from _ c.from_residual.result c.in_err-ids.field-0.0 c.from_residual.ensures.1 (record { entry = (c.in-Some.field-0-0, c.in-Some.field-0-1); queued = first_in _ _ c.in-Some.ensures.first; fault = c.in_err-ids.ensures.fault })
 
 pub returns-in_err-count-clause-fault : goal.returns-in_err-count-clause-fault
-returns-in_err-count-clause-fault g c = err_from _ c.from_residual-in_err-count.result error.Memory c.from_residual-in_err-count.ensures.1 (record { entry = (c.in-Some.field-0-0, c.in-Some.field-0-1); queued = first_in _ _ c.in-Some.ensures.first; fault = tt })
+returns-in_err-count-clause-fault g c = err_from _ c.from_residual-in_err-count.result error.Memory c.from_residual-in_err-count.ensures.1 (record { entry = (c.in-Some.field-0-0, c.in-Some.field-0-1); queued = first_in _ _ c.in-Some.ensures.first; fault = (tt, λ n. absurd (n refl)) })
 
 pub returns-in_err-follow-clause-fault : goal.returns-in_err-follow-clause-fault
-returns-in_err-follow-clause-fault g c = err_from _ c.from_residual-in_err-follow.result error.Memory c.from_residual-in_err-follow.ensures.1 (record { entry = (c.in-Some.field-0-0, c.in-Some.field-0-1); queued = first_in _ _ c.in-Some.ensures.first; fault = tt })
+returns-in_err-follow-clause-fault g c = err_from _ c.from_residual-in_err-follow.result error.Memory c.from_residual-in_err-follow.ensures.1 (record { entry = (c.in-Some.field-0-0, c.in-Some.field-0-1); queued = first_in _ _ c.in-Some.ensures.first; fault = (tt, λ n. absurd (n refl)) })
 
 pub returns-in_err-finish-clause-fault : goal.returns-in_err-finish-clause-fault
-returns-in_err-finish-clause-fault g c = err_from _ c.from_residual-in_err-finish.result error.Memory c.from_residual-in_err-finish.ensures.1 (record { entry = (c.in-Some.field-0-0, c.in-Some.field-0-1); queued = first_in _ _ c.in-Some.ensures.first; fault = tt })
+returns-in_err-finish-clause-fault g c = err_from _ c.from_residual-in_err-finish.result error.Memory c.from_residual-in_err-finish.ensures.1 (record { entry = (c.in-Some.field-0-0, c.in-Some.field-0-1); queued = first_in _ _ c.in-Some.ensures.first; fault = (tt, λ n. absurd (n refl)) })
 
 pub returns-clause-steps : goal.returns-clause-steps
 returns-clause-steps g c =

@@ -6,16 +6,20 @@ use Rattle.gix_revwalk.specs.Reading.{rows_of}
 use Rattle.gix_topo.specs.Reading.{Reads}
 use Rattle.gix_topo.specs.Walk.{HoldsReady}
 use Rattle.gix_frontier.specs.Inside.Frontier.{MarksReady}
-use Rattle.gix_topo.specs.Inside.Releasing.{LooksUpParent}
+use Rattle.gix_topo.specs.Inside.Releasing.{LooksUpParent, itself}
+use Rattle.gix_topo.proofs.Reading.Unheld.{reading_fails}
 use Rattle.gix_topo.proofs.Taking.OneRelease.{looks_up_by, take_more, fault_of_parent, reads_timed, at_index, time_told}
 use Rattle.gix_frontier.proofs.Results.{err_from}
 use Rattle.gix_topo.proofs.walk.Walk.push.Goals as goal
 
+pub returns-in_err-info-clause-fault : goal.returns-in_err-info-clause-fault
+returns-in_err-info-clause-fault g c = err_from _ c.from_residual.result c.in_err-info.field-0.0 c.from_residual.ensures.1 (itself (reading_fails _ c.in_err-info.ensures.reads))
+
 pub returns-in_err-look_up_parent-clause-fault : goal.returns-in_err-look_up_parent-clause-fault
 returns-in_err-look_up_parent-clause-fault g c =
     err_from _ c.from_residual-in_err-look_up_parent.result c.in_err-look_up_parent.field-0.0 c.from_residual-in_err-look_up_parent.ensures.1
-    (fault_of_parent g.F.Find.objects g.F.Find.faulty c.args.self.now c.args.id.now c.in_err-look_up_parent.field-0.0 c.in_ok-info.info c.read.new.self.standing c.loop-parent.self.counting.reader.find _
-    (c.loop-parent.invariant.find ∙ c.in_ok-info.ensures.store) c.in_ok-info.ensures.reads (at_index c.in_ok-info.info.parent_ids.items c.as_slice-parent-items.result.now c.loop-parent.parent-index _ c.as_slice-parent-items.ensures c.loop-parent-test.true) c.in_err-look_up_parent.ensures.fault)
+    (fault_of_parent g.F.Find.objects g.F.Find.faulty c.args.self.now c.args.id.now c.in_err-look_up_parent.field-0.0 c.in_ok-info.info c.read.new.self.standing c.loop-parent.self.counting.reader.standing c.loop-parent.self.counting.reader.find c.loop-parent.self.counting.reader.graph _
+    (c.loop-parent.invariant.find ∙ c.in_ok-info.ensures.store) (c.loop-parent.invariant.graph ∙ c.in_ok-info.ensures.graph) c.loop-parent.invariant.standing c.in_ok-info.ensures.reads (at_index c.in_ok-info.info.parent_ids.items c.as_slice-parent-items.result.now c.loop-parent.parent-index _ c.as_slice-parent-items.ensures c.loop-parent-test.true) c.in_err-look_up_parent.ensures.fault)
 
 fits : (g : _) (c : goal.In_ok-push g) → SFits w64 c.unwrap_or-time.result
 fits g c = search rules

@@ -1,0 +1,6 @@
+use Rattle.gix_frontier.proofs.Results.{err_from}
+use Rattle.gix_topo.proofs.Reading.Unheld.{reading_fails}
+use Rattle.gix_topo.proofs.counting.Counting.read.Goals as goal
+
+pub returns-in_err-info-clause-fault : goal.returns-in_err-info-clause-fault
+returns-in_err-info-clause-fault g c = err_from _ c.from_residual.result c.in_err-info.field-0.0 c.from_residual.ensures.1 (reading_fails _ c.in_err-info.ensures.reads)
