@@ -41,6 +41,11 @@ pub brought_read : {objects : Objects} {rows : List GraphRow} {i : ObjectId} {kn
 brought_read (by_row r k t n) ids e = let none : None ≡ Some ids = sym (ap (option_map (λ ids. ids.items)) n) ∙ e in cc
 brought_read (by_store {ids = those} r k t m s) ids e = let same : ids ≡ those = cc in (s.0, s.1, same ∙ s.2)
 
+-- an entry without a row was read from the store
+unrowed_read : {objects : Objects} {rows : List GraphRow} {i : ObjectId} {known : Known} → Knows objects rows i known → row_of rows i ≡ None → (ids : List ObjectId) × Reads objects i ids
+unrowed_read (by_row {row = row} r k t n) e = let none : None ≡ Some row = sym e ∙ r in cc
+unrowed_read (by_store {ids = ids} r k t m s) e = (ids, s)
+
 pub reads_parents : (objects : Objects) (i : ObjectId) (ids : List ObjectId) → Reads objects i ids → ids ≡ parents_of objects i
 reads_parents objects i ids r = r.2 ∙ sym (ap parents_in r.1)
 
@@ -91,9 +96,7 @@ module _ {F : Type 0} (objects : F → Objects) (store : F) (rows : List GraphRo
     pub either : (rows_in (held_graph p.source) ≡ rows) ⊎ (held_graph p.source ≡ None)
     pub queued : RowsStand p → (q : Key × Entry) → Contains p.queue q → IsQueued (objects store) rows q
     pub brings : (q : Key × Entry) → Contains p.queue q → (ids : List ObjectId) → option_map (λ ids. ids.items) q.1.parent_ids ≡ Some ids → Reads (objects store) q.1.id ids
-
-  pub rowless : {p : Painter F} → IsSafe p → rows ≡ [] → RowsStand p
-  rowless h e = ⊎_elim (λ k. k) (λ n. ap rows_in n ∙ sym e) h.either
+    pub read : (q : Key × Entry) → Contains p.queue q → row_of rows q.1.id ≡ None → (ids : List ObjectId) × Reads (objects store) q.1.id ids
 
   module _ {s : Side} {ids : List ObjectId} {p new : Painter F} (m : Meets objects s ids p new) where
     pub still_stand : RowsStand new → RowsStand p
@@ -108,6 +111,7 @@ module _ {F : Type 0} (objects : F → Objects) (store : F) (rows : List GraphRo
       either = ⊎_elim (λ e. inl (ap rows_in m.graph_stays ∙ e)) (λ e. inr (m.graph_stays ∙ e)) h.either;
       queued = λ r q c. ⊎_elim (λ o. h.queued (still_stand r) q o) (λ a. subst (λ rs. IsQueued (objects store) rs q) (still_stand r) a.2) (added h q c);
       brings = λ q c those e. ⊎_elim (λ o. h.brings q o those e) (λ a. brought_read a.2 those e) (added h q c);
+      read = λ q c e. ⊎_elim (λ o. h.read q o e) (λ a. unrowed_read a.2 (⊎_elim (λ k. ap (λ rs. row_of rs q.1.id) k ∙ e) (λ n. ap (λ g. row_of (rows_in g) q.1.id) n) h.either)) (added h q c);
     }
 
 module _ {F : Type 0} (objects : F → Objects) (store : F) (history : Objects) (rows : List GraphRow) (tips hidden_tips : List ObjectId) where
@@ -143,7 +147,7 @@ module _ {F : Type 0} (objects : F → Objects) (store : F) (history : Objects) 
     pub reached : (q : Key × Entry) → Contains p.queue q → Reaches next (starts_of q.1.side) q.1.id
     pub waits : (q : Key × Entry) → Contains p.queue q → q.1.side ≡ side.Hidden → state_of p q.1.id ≡ Hides
     pub dropped : (Standing p → ⊥) → DropsBy next rows tips hidden_tips
-    pub read : rows ≡ [] → (i : ObjectId) → state_of p i ≢ Unmet → (ids : List ObjectId) × Reads (objects store) i ids
+    pub read : (i : ObjectId) → row_of rows i ≡ None → state_of p i ≢ Unmet → (ids : List ObjectId) × Reads (objects store) i ids
 
   -- the tips and the hidden tips were met
   pub record IsStarted (p : Painter F) : Type 0 where
@@ -169,7 +173,7 @@ module _ {F : Type 0} (objects : F → Objects) (store : F) (history : Objects) 
       reached = λ q c. ⊎_elim (λ o. h.reached q o) (λ a. subst (λ t. Reaches next (starts_of t) q.1.id) (sym a.1) (reach q.1.id a.0)) (m.adds q c);
       waits = λ q c e. ⊎_elim (λ o. hidden_stays (m.states q.1.id) (h.waits q o e)) (λ a. hidden_now (m.states q.1.id) (sym a.1 ∙ e) a.0) (m.adds q c);
       dropped = λ n. h.dropped (λ r. n (ap rows_in m.graph_stays ∙ r));
-      read = λ e i n. was_read e i (m.states i) n refl;
+      read = λ i e n. was_read i e (m.states i) n refl;
     }
       where
         fact : (i : ObjectId) {a b : State} → Becomes s (Contains ids i) (IsWaiting new s i) a b → Fact busy p i a → Fact nobody new i b
@@ -182,17 +186,15 @@ module _ {F : Type 0} (objects : F → Objects) (store : F) (history : Objects) 
         fact i (opens v c w) k = (subst (λ t. Reaches next (starts_of t) i) v (reach i c), subst (λ t. IsWaiting new t i) v w, λ r. border v (still_stand objects store rows m r) i c)
         fact i (covers v c w) k = (subst (λ t. Reaches next (starts_of t) i) v (reach i c), inr (inl (subst (λ t. IsWaiting new t i) v w)))
 
-        whole : rows ≡ [] → (i : ObjectId) → IsWaiting new s i → (ids : List ObjectId) × Reads (objects store) i ids
-        whole e i w = reads_of (subst (λ rs. IsQueued (objects store) rs w.0) e ((safe_meets objects store rows m safe).queued (rowless objects store rows (safe_meets objects store rows m safe) e) w.0 w.1))
-          where
-            reads_of : Knows (objects store) [] w.0.1.id (record { key = w.0.0; parent_ids = w.0.1.parent_ids }) → (ids : List ObjectId) × Reads (objects store) i ids
-            reads_of (by_row r k t n) = cc
-            reads_of (by_store {ids = those} r k t n d) = (those, subst (λ j. Reads (objects store) j those) w.3 d)
+        whole : (i : ObjectId) → row_of rows i ≡ None → IsWaiting new s i → (ids : List ObjectId) × Reads (objects store) i ids
+        whole i e w =
+            let k = (safe_meets objects store rows m safe).read w.0 w.1 (ap (row_of rows) w.3 ∙ e) in
+            (k.0, subst (λ j. Reads (objects store) j k.0) w.3 k.1)
 
-        was_read : rows ≡ [] → (i : ObjectId) {a b : State} → Becomes s (Contains ids i) (IsWaiting new s i) a b → b ≢ Unmet → a ≡ state_of p i → (ids : List ObjectId) × Reads (objects store) i ids
-        was_read e i (stays f) n o = h.read e i (λ u. n (o ∙ u))
-        was_read e i (opens v c w) n o = whole e i w
-        was_read e i (covers v c w) n o = whole e i w
+        was_read : (i : ObjectId) → row_of rows i ≡ None → {a b : State} → Becomes s (Contains ids i) (IsWaiting new s i) a b → b ≢ Unmet → a ≡ state_of p i → (ids : List ObjectId) × Reads (objects store) i ids
+        was_read i e (stays f) n o = h.read i e (λ u. n (o ∙ u))
+        was_read i e (opens v c w) n o = whole i e w
+        was_read i e (covers v c w) n o = whole i e w
 
   -- what became of an id by the turn of an entry: a visible one that was open is read now
   abbrev pub IsTurned : Entry → ObjectId → State → State → Type 0

@@ -20,13 +20,12 @@ use Rattle.gix_paint.specs.Painting.{IsHistory, IsOpenBelow, IsRead, shown_commi
 use Rattle.gix_hash.specs.Reach.{IsAtBoundary, Reaches, start, step}
 use Rattle.gix_paint.specs.Inside.Painter.{hides, hidden_of, State, Unmet, Open, Read, Hides, state_by, state_of, rows_in, held_graph, Knows, IsQueued, IsWaiting, IsSettled, is_told, Meets}
 use Rattle.gix_paint.specs.Inside.Painter as painter
-use Rattle.gix_paint.proofs.Invariant.{contains-hidden, hidden_now, met_now, nobody, next, RowsStand, IsSafe, Fact, Stands, IsStarted, rowless, stands_meets, safe_meets, hidden_stays}
+use Rattle.gix_paint.proofs.Invariant.{contains-hidden, hidden_now, met_now, nobody, next, RowsStand, IsSafe, Fact, Stands, IsStarted, stands_meets, safe_meets, hidden_stays}
 use Rattle.gix_paint.proofs.Meets.{hides_then}
-use Rattle.gix_paint.proofs.KeptByTurn.{HasGeneration, one_generation, row_told, hidden_from, below}
+use Rattle.gix_paint.proofs.KeptByTurn.{HasGeneration, one_generation, row_told, hidden_from, falls, below}
 use Rattle.gix_paint.proofs.Order as order
 use Rattle.gix_paint.proofs.Order.{IsAbove, IsOrdered}
 use Rattle.gix_hash.proofs.Ids.Membership.{no_member, Contains-here}
-use Rattle.gix_revwalk.proofs.Rows.{none_agree}
 use Rattle.gix_revwalk.proofs.ReadsWhole.{row_stands}
 
 hidden_state : (o : Option Side) (waiting : Bool) → state_by o waiting ≡ Hides → hides o ≡ true
@@ -75,6 +74,7 @@ module _ {F : Type 0} (objects : F → Objects) (store : F) (history : Objects) 
       either = inl blank.graph;
       queued = λ r q c. absurd (no_member q (subst (λ qs. Contains qs q) blank.queue c));
       brings = λ q c. absurd (no_member q (subst (λ qs. Contains qs q) blank.queue c));
+      read = λ q c. absurd (no_member q (subst (λ qs. Contains qs q) blank.queue c));
     }
 
     unmet : (i : ObjectId) → state_of p i ≡ Unmet
@@ -87,7 +87,7 @@ module _ {F : Type 0} (objects : F → Objects) (store : F) (history : Objects) 
       reached = λ q c. absurd (no_member q (subst (λ qs. Contains qs q) blank.queue c));
       waits = λ q c. absurd (no_member q (subst (λ qs. Contains qs q) blank.queue c));
       dropped = λ n. absurd (n blank.graph);
-      read = λ e i n. absurd (n (unmet i));
+      read = λ i e n. absurd (n (unmet i));
     }
 
     -- the hidden tips are met first, and then the visible ones
@@ -182,17 +182,29 @@ module _ {F : Type 0} (objects : F → Objects) (store : F) (history : Objects) 
           let f : Fact objects store history rows tips hidden_tips nobody p i Hides = subst (Fact objects store history rows tips hidden_tips nobody p i) e (h.facts i) in
           f.0
 
-      -- without rows the queue is empty, and all is met
-      pub all_read : rows ≡ [] → (i : ObjectId) → Reaches There (tips ++ hidden_tips) i → state_of p i ≢ Unmet
-      all_read e i (start m) = ⊎_elim (λ t. started.shown i t) (λ t. subst (λ s. s ≢ Unmet) (sym (started.hidden i t)) (λ k. cc)) (Contains-append_cases tips hidden_tips i m)
-      all_read e i (step {c = c} r m) = go (state_of p c) refl (all_read e c r)
+      -- what names an id without a row has none itself
+      named_by_none : (c i : ObjectId) → Contains (There c) i → row_of rows i ≡ None → row_of rows c ≡ None
+      named_by_none c i m e = go (row_of rows c) refl
         where
-          nothing_waits : (q : Key × Entry) → Contains p.queue q → ⊥
-          nothing_waits q there = ⊎_elim (λ none. no_member q (subst (λ qs. Contains qs q) none there)) (λ s. unrowed (subst (λ rs. IsQueued (objects store) rs q) e (safe.queued (rowless objects store rows safe e) q there)) (s.2 q there)) settled
-            where
-              unrowed : Knows (objects store) [] q.1.id (record { key = q.0; parent_ids = q.1.parent_ids }) → is_told q.0.generation ≡ true → ⊥
-              unrowed (painter.by_row f k s n) t = cc
-              unrowed (painter.by_store f k s n d) t = let bad : true ≡ false = sym t ∙ ap is_told k in cc
+          go : (o : Option GraphRow) → row_of rows c ≡ o → row_of rows c ≡ None
+          go None f = f
+          go (Some row) f =
+              let k = falls objects store history rows tips hidden_tips known c i row.generation (row, f, refl) m in
+              let bad : None ≡ Some k.1.0 = sym e ∙ k.1.1 in
+              cc
+
+      -- nothing without a row waits, and all of it is met
+      pub all_read : (i : ObjectId) → Reaches There (tips ++ hidden_tips) i → row_of rows i ≡ None → state_of p i ≢ Unmet
+      all_read i (start m) e = ⊎_elim (λ t. started.shown i t) (λ t. subst (λ s. s ≢ Unmet) (sym (started.hidden i t)) (λ k. cc)) (Contains-append_cases tips hidden_tips i m)
+      all_read i (step {c = c} r m) e = go (state_of p c) refl (all_read c r unrowed)
+        where
+          unrowed : row_of rows c ≡ None
+          unrowed = named_by_none c i m e
+
+          none_waits : IsWaiting p side.Hidden c → ⊥
+          none_waits w =
+              ⊎_elim (λ none. no_member w.0 (subst (λ qs. Contains qs w.0) none w.1))
+              (λ s. let k : (row : GraphRow) × (row_of rows c ≡ Some row) = rowed s.0 s.2 c c w (start (Contains-here c [])) in let bad : None ≡ Some k.0 = sym unrowed ∙ k.1 in cc) settled
 
           go : (s : State) → state_of p c ≡ s → state_of p c ≢ Unmet → state_of p i ≢ Unmet
           go Unmet f met = absurd (met f)
@@ -200,7 +212,7 @@ module _ {F : Type 0} (objects : F → Objects) (store : F) (history : Objects) 
           go Read f met = let k : Fact objects store history rows tips hidden_tips nobody p c Read = subst (Fact objects store history rows tips hidden_tips nobody p c) f (h.facts c) in ⊎_elim (λ b. absurd b) (λ all. all i m) k.1
           go Hides f met =
               let k : Fact objects store history rows tips hidden_tips nobody p c Hides = subst (Fact objects store history rows tips hidden_tips nobody p c) f (h.facts c) in
-              ⊎_elim (λ b. absurd b) (λ o. ⊎_elim (λ w. absurd (nothing_waits w.0 w.1)) (λ all. subst (λ s. s ≢ Unmet) (sym (all i m)) (λ k. cc)) o) k.1
+              ⊎_elim (λ b. absurd b) (λ o. ⊎_elim (λ w. absurd (none_waits w)) (λ all. subst (λ s. s ≢ Unmet) (sym (all i m)) (λ k. cc)) o) k.1
 
       -- rows that are left had no corrupt one among those that had to be read
       module _ (ordered : IsOrdered objects store history rows tips hidden_tips p) (stands : RowsStand objects store rows p) where
@@ -252,9 +264,9 @@ module _ {F : Type 0} (objects : F → Objects) (store : F) (rows : List GraphRo
   pub paints : ((history : Objects) → IsHistory (objects store) rows history → HoldsOf history) → Paints (objects store) rows tips hidden_tips (hidden_of p.marks) Left
   paints holds = record {
     rows_left = either_rows (is_some (held_graph p.source));
-    read = λ e i r.
-        let k = holds (objects store) (none_known e) in
-        ap is_some (k.0.read e i (all_read objects store (objects store) rows tips hidden_tips p safe settled (none_known e) k.0 k.1 e i r)).1.1;
+    rowless = λ history known i r e.
+        let k = holds history known in
+        ap is_some (k.0.read i e (all_read objects store history rows tips hidden_tips p safe settled known k.0 k.1 i r e)).1.1;
     marked = λ history known.
         let k = holds history known in
         record {
@@ -265,9 +277,6 @@ module _ {F : Type 0} (objects : F → Objects) (store : F) (rows : List GraphRo
         };
   }
     where
-      none_known : rows ≡ [] → IsHistory (objects store) rows (objects store)
-      none_known e = record { agreeing = none_agree (objects store) rows e; read = λ i commit r. r }
-
       either_rows : (b : Bool) → ((if b then rows else []) ≡ rows) ⊎ ((if b then rows else []) ≡ [])
       either_rows true = inl refl
       either_rows false = inr refl

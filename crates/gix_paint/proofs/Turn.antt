@@ -115,6 +115,7 @@ module _ {F : Type 0} (objects : F → Objects) (store : F) (history : Objects) 
       either = either;
       queued = λ r q c. safe.queued (back r) q (within q c);
       brings = λ q c. safe.brings q (within q c);
+      read = λ q c. safe.read q (within q c);
     }
 
     pub stands_takes : Stands objects store history rows tips hidden_tips nobody w → (Standing mid → Standing w) → ((Standing mid → ⊥) → DropsBy There rows tips hidden_tips)
@@ -126,7 +127,7 @@ module _ {F : Type 0} (objects : F → Objects) (store : F) (history : Objects) 
       reached = λ q c. h.reached q (within q c);
       waits = λ q c e. hidden_still h q.1.id (h.waits q (within q c) e);
       dropped = dropped;
-      read = λ e i n. h.read e i (λ u. was_met i u n (turned h i));
+      read = λ i e n. h.read i e (λ u. was_met i u n (turned h i));
     }
       where
         was_met : (i : ObjectId) → state_of w i ≡ Unmet → state_of mid i ≢ Unmet → IsTurned turn top.1.side (i ≡ top.1.id) (state_of w i) (state_of mid i) → ⊥

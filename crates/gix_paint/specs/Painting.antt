@@ -72,8 +72,8 @@ module _ (parents : ObjectId → List ObjectId) (rows : List GraphRow) (tips hid
 -- which ids a painting marks, and which rows it leaves
 pub record Paints (objects : Objects) (old_rows : List GraphRow) (tips hidden_tips : List ObjectId) (marks : set.FinSet id_cmp) (rows : List GraphRow) : Type 0 where
   pub rows_left : (rows ≡ old_rows) ⊎ (rows ≡ [])
-  -- without rows all of it was read
-  pub read : old_rows ≡ [] → (i : ObjectId) → Reaches (parents_of objects) (tips ++ hidden_tips) i → IsSome (commit_at objects i)
+  -- each commit without a row that tips or hidden tips reach was read: all of them, where there are no rows
+  pub rowless : (history : Objects) → IsHistory objects old_rows history → (i : ObjectId) → Reaches (parents_of history) (tips ++ hidden_tips) i → row_of old_rows i ≡ None → IsSome (commit_at objects i)
   -- where the rows agree with a history, the marks are its
   pub marked : (history : Objects) → IsHistory objects old_rows history → PaintsHistory (parents_of history) old_rows tips hidden_tips marks rows
 

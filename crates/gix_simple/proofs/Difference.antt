@@ -10,7 +10,7 @@ use Rattle.gix_hash.specs.declared.ObjectId.{ObjectId}
 use Rattle.gix_object.specs.CommitText.{Commit}
 use Rattle.gix_object.specs.Object.{Objects}
 use Rattle.gix_object.specs.declared.find.existing_iter.Error.TheVariants as existing
-use Rattle.gix_commitgraph.specs.Rows.{GraphRow}
+use Rattle.gix_commitgraph.specs.Rows.{GraphRow, row_of}
 use Rattle.gix_revwalk.specs.declared.Info.{Info}
 use Rattle.gix_revwalk.specs.declared.Parents.{Parents}
 use Rattle.gix_revwalk.specs.declared.Parents.TheVariants as mode
@@ -29,11 +29,11 @@ use Rattle.gix_simple.specs.Laws.{IsFresh, IsGiven, IsNoRefusal, IsWholeRun, Giv
 use Rattle.gix_simple.specs.Walk.{SimpleWalk, Next, unhidden, paints, faulty_history, no_memory, cutoff, time_order}
 use Rattle.gix_hash.proofs.Ids.Membership.{among_from, among_is, Contains-here, Contains-there, Contains-cons_cases, no_member}
 use Rattle.gix_hash.proofs.Lists.{filter_within, filter_all}
+use Rattle.gix_paint.proofs.Invariant.{own_history}
 use Rattle.gix_revwalk.proofs.Drained.{at_end, at_first}
 use Rattle.gix_revwalk.proofs.NewIds.{times_among, times-fresh}
 use Rattle.gix_revwalk.proofs.Reached.{reach_more}
-use Rattle.gix_revwalk.proofs.ReadsWhole.{walked_within}
-use Rattle.gix_revwalk.proofs.Rows.{none_agree}
+use Rattle.gix_revwalk.proofs.ReadsWhole.{row_stands, walked_within}
 use Rattle.gix_simple.proofs.Builders.{built}
 use Rattle.gix_simple.proofs.Corollaries.{gives, gives_once, shown_reached, reached_shown}
 use Rattle.gix_simple.proofs.MadeOfTips.{is_new_walk, fresh_among}
@@ -88,21 +88,25 @@ no_start next starts i (start s) = λ e. no_member i (subst (λ xs. Contains xs 
 no_start next starts i (step {c = c} r n) = no_start next starts c r
 
 module _ {F P : Type 0} (objects : F → Objects) (faulty : F → ObjectId → Type 0) (answers : P → ObjectId → Bool → P → Type 0) where
-  -- a first step that gives no fault has read all that tips and hidden tips reach
-  painted_whole : (walk : SimpleWalk F P) {o : Option (Result Info Error)} {new : SimpleWalk F P} → walk.rows ≡ [] → walk.pending ≢ [] → walk.hidden_tips ≢ [] → Next objects faulty answers walk o new → ((e : Error) → o ≢ Some (Err e))
-      → (i : ObjectId) → Reaches (parents_of (objects walk.store)) (ids_of walk.pending ++ walk.hidden_tips) i → IsSome (commit_at (objects walk.store) i)
-  painted_whole walk none some behind (unhidden (inl e) s) good i r = absurd (some e)
-  painted_whole walk none some behind (unhidden (inr e) s) good i r = absurd (behind e)
-  painted_whole walk none some behind (paints p h painting s) good i r = painting.read none i r
-  painted_whole walk none some behind (faulty_history {why = why} p h rows fault) good i r = absurd (good (error.HiddenGraph why) refl)
-  painted_whole walk none some behind (no_memory p h rows) good i r = absurd (good error.Memory refl)
+  -- a first step that gives no fault has read all that tips and hidden tips reach, by rows that agree or from the store
+  painted_whole : (walk : SimpleWalk F P) {o : Option (Result Info Error)} {new : SimpleWalk F P} → IsAgreeing (objects walk.store) walk.rows → walk.pending ≢ [] → walk.hidden_tips ≢ [] → Next objects faulty answers walk o new → ((e : Error) → o ≢ Some (Err e))
+      → (i : ObjectId) → Reaches (parents_of (objects walk.store)) (ids_of walk.pending ++ walk.hidden_tips) i → ReadsWhole (objects walk.store) i
+  painted_whole walk agreeing some behind (unhidden (inl e) s) good i r = absurd (some e)
+  painted_whole walk agreeing some behind (unhidden (inr e) s) good i r = absurd (behind e)
+  painted_whole walk agreeing some behind (paints p h painting s) good i r = go (row_of walk.rows i) refl
+    where
+      go : (o : Option GraphRow) → row_of walk.rows i ≡ o → ReadsWhole (objects walk.store) i
+      go None e = whole_from (objects walk.store) i (painting.rowless (objects walk.store) (own_history (objects walk.store) (faulty walk.store) walk.rows agreeing) i r e)
+      go (Some row) e = let k : Contains walk.rows row × (i ≡ row.id) = row_stands walk.rows i row e in subst (ReadsWhole (objects walk.store)) (sym k.1) (agreeing row k.0).whole
+  painted_whole walk agreeing some behind (faulty_history {why = why} p h rows fault) good i r = absurd (good (error.HiddenGraph why) refl)
+  painted_whole walk agreeing some behind (no_memory p h rows) good i r = absurd (good error.Memory refl)
 
   -- so has a walk that gives none
-  pub drawn_whole : (walk : SimpleWalk F P) (list : List (Result Info Error)) → walk.rows ≡ [] → walk.pending ≢ [] → walk.hidden_tips ≢ [] → ((e : Error) → Contains list (Err e) → ⊥) → Drains (Next objects faulty answers) walk list
-      → (i : ObjectId) → Reaches (parents_of (objects walk.store)) (ids_of walk.pending ++ walk.hidden_tips) i → IsSome (commit_at (objects walk.store) i)
-  drawn_whole walk [] none some behind good d = painted_whole walk none some behind (at_end (Next objects faulty answers) walk d).1 (λ e s. cc)
-  drawn_whole walk (answer ∷ list) none some behind good d =
-      painted_whole walk none some behind (at_first (Next objects faulty answers) walk answer list d).1
+  drawn_whole : (walk : SimpleWalk F P) (list : List (Result Info Error)) → IsAgreeing (objects walk.store) walk.rows → walk.pending ≢ [] → walk.hidden_tips ≢ [] → ((e : Error) → Contains list (Err e) → ⊥) → Drains (Next objects faulty answers) walk list
+      → (i : ObjectId) → Reaches (parents_of (objects walk.store)) (ids_of walk.pending ++ walk.hidden_tips) i → ReadsWhole (objects walk.store) i
+  drawn_whole walk [] agreeing some behind good d = painted_whole walk agreeing some behind (at_end (Next objects faulty answers) walk d).1 (λ e s. cc)
+  drawn_whole walk (answer ∷ list) agreeing some behind good d =
+      painted_whole walk agreeing some behind (at_first (Next objects faulty answers) walk answer list d).1
       (λ e s. let same : answer ≡ Err e = cc in good e (subst (λ x. Contains (x ∷ list) (Err e)) (sym same) (Contains-here (Err e) list)))
 
   module _ (store : F) (predicate : P) (tips : List ObjectId) (accepting : AnswersBy answers predicate (λ i. true)) where
@@ -205,7 +209,8 @@ module _ {F P : Type 0} (objects : F → Objects) (faulty : F → ObjectId → T
           (gives_difference list (subst (λ s. IsAgreeing (objects s) walk.rows) (sym is_fresh.2) agreeing) (λ some i r. subst (λ s. ReadsWhole (objects s) i) (sym is_fresh.2) (whole i (tips_more i r))) refuses_none drawn)
 
       -- the law, where no answer is a fault
-      pub faultless_difference : walk.rows ≡ [] → walk.hidden_tips ≢ [] → (list : List (Result Info Error)) → ((e : Error) → Contains list (Err e) → ⊥) → Drains (Next objects faulty answers) walk list → GivesDifference (objects store) tips walk.hidden_tips list
-      faultless_difference none behind list good drawn =
+      pub faultless_difference : IsAgreeing (objects store) walk.rows → walk.hidden_tips ≢ [] → (list : List (Result Info Error)) → ((e : Error) → Contains list (Err e) → ⊥) → Drains (Next objects faulty answers) walk list → GivesDifference (objects store) tips walk.hidden_tips list
+      faultless_difference agreeing behind list good drawn =
+          let agrees : IsAgreeing (objects walk.store) walk.rows = subst (λ s. IsAgreeing (objects s) walk.rows) (sym is_fresh.2) agreeing in
           subst (λ s. GivesDifference (objects s) tips walk.hidden_tips list) is_fresh.2
-          (gives_difference list (none_agree (objects walk.store) walk.rows none) (λ some i r. whole_from (objects walk.store) i (drawn_whole walk list none some behind good drawn i r)) (unrefused list good) drawn)
+          (gives_difference list agrees (λ some i r. drawn_whole walk list agrees some behind good drawn i r) (unrefused list good) drawn)

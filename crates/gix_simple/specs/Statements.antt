@@ -114,7 +114,7 @@ module _ {F P : Type 0} (objects : F → Objects) (faulty : F → ObjectId → T
       → Drains (Next objects faulty answers) walk list
       → GivesDifference (objects store) tips walk.hidden_tips list
 
-  -- such a walk with hidden tips and without rows, none of whose answers is a fault
+  -- such a walk with hidden tips, none of whose answers is a fault
   abbrev pub FaultlessRunsGiveTheDifference : Type 0
   FaultlessRunsGiveTheDifference =
       (store : F) (predicate : P) (tips : List ObjectId) (walk : SimpleWalk F P) (list : List (Result Info Error))
@@ -122,7 +122,7 @@ module _ {F P : Type 0} (objects : F → Objects) (faulty : F → ObjectId → T
       → (built : IsBuilt objects faulty answers store predicate tips walk)
       → IsUncut built
       → walk.parents ≡ mode.All
-      → walk.rows ≡ []
+      → IsAgreeing (objects store) walk.rows
       → walk.hidden_tips ≢ []
       → ((e : Error) → Contains list (Err e) → ⊥)
       → Drains (Next objects faulty answers) walk list

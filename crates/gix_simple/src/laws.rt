@@ -61,8 +61,9 @@ pub fn difference<F: Find, P: Predicate>()
     ensures { RunsGiveTheDifference F.objects F.faulty P.answers }
 {}
 
-/// A walk as `difference` asks, with hidden tips and without rows, and none of whose answers is a fault: it gives what `difference` says.
-/// Nothing more is asked of the store, of memory or of the history, since the first step reads all that tips and hidden tips reach.
+/// A walk as `difference` asks, with hidden tips, over rows that agree or none, and none of whose answers is a fault: it gives what
+/// `difference` says. Nothing more is asked of the store, of memory or of the history, since the first step reads all that tips and
+/// hidden tips reach, by a row or from the store.
 pub fn faultless_difference<F: Find, P: Predicate>()
     ensures { FaultlessRunsGiveTheDifference F.objects F.faulty P.answers }
 {}

@@ -15,23 +15,19 @@ use Rattle.gix_walk.specs.Run.{Serves, counted}
 use Rattle.gix_walk.specs.Walked.{Answers, IsWalkFault, Ends, finished}
 use Rattle.gix_walk.specs.Words.{Ahead}
 use Rattle.gix_walk.proofs.CommitRuns.{served_so}
-use Rattle.gix_walk.proofs.SimpleRuns.{once, exact, all_read}
+use Rattle.gix_walk.proofs.SimpleRuns.{each_unhidden}
 
 length-map : (infos : List Info) → length (map (λ info. info.id) infos) ≡ length infos
 length-map [] = refl
 length-map (info ∷ infos) = ap (λ n. suc n) (length-map infos)
 
 module _ (objects : Objects) (tip hidden : ObjectId) where
-  -- a walk that ended well has read all of it, and gave the difference
+  -- a walk that ended well gave the difference
   difference : (infos : List Info) → Draws objects tip hidden infos (Ok tt) → AreDistinct (map (λ info. info.id) infos) × ((i : ObjectId) → Contains (map (λ info. info.id) infos) i ↔ IsShown objects (tip ∷ []) (hidden ∷ []) i)
   difference infos d = of_ends d.ends
     where
       of_ends : Ends Answers IsWalkFault d.walk infos (Ok tt) → AreDistinct (map (λ info. info.id) infos) × ((i : ObjectId) → Contains (map (λ info. info.id) infos) i ↔ IsShown objects (tip ∷ []) (hidden ∷ []) i)
-      of_ends (finished new h) =
-          let whole = all_read objects tip hidden d.walk d.starts infos h.0 new h.1 h.2 in (
-            once objects sorting.BreadthFirst (tip ∷ []) (hidden ∷ []) d.walk tt d.starts infos h.0 new h.1 h.2 whole,
-            exact objects sorting.BreadthFirst (tip ∷ []) (hidden ∷ []) d.walk tt d.starts infos h.0 new h.1 h.2 whole,
-          )
+      of_ends (finished new h) = each_unhidden objects sorting.BreadthFirst (tip ∷ []) (hidden ∷ []) d.walk tt d.starts infos h.0 new h.1 h.2 (λ e. cc)
 
   number_of : (n : ℕ) → Counts objects tip hidden n → IsNumberOf (IsShown objects (tip ∷ []) (hidden ∷ [])) n
   number_of n c =

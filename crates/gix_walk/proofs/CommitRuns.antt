@@ -14,7 +14,7 @@ use Rattle.gix_walk.specs.Run.{Runs, Serves, walked, without_memory, no_command,
 use Rattle.gix_walk.specs.Walked.{Walk, Answers, IsWalkFault, Ends, StartsFrom, finished, lines_of, line_of}
 use Rattle.gix_walk.specs.Words.{Request, Commits, request_of}
 use Rattle.gix_walk.proofs.RecordFacts.{only_reading, no_bad_record}
-use Rattle.gix_walk.proofs.SimpleRuns.{IsUncut, once, exact, in_order}
+use Rattle.gix_walk.proofs.SimpleRuns.{IsUncut, each_shown, in_order}
 use Rattle.gix_walk.proofs.UncutWords.{uncut}
 
 pub lines_by_ids : (infos : List Info) → lines_of infos ≡ lines_of_ids (map (λ info. info.id) infos)
@@ -42,8 +42,8 @@ ends_well words input records request answer old new asked are well (served othe
 module _ (objects : Objects) (by : Sorting) (tips hidden : List ObjectId) (old new : Option (List ℕ)) (named : IsUncut by) (whole : AreWhole objects (tips ++ hidden)) where
   listed : (walk : Walk) (infos : List Info) → StartsFrom objects by tips hidden walk → Ends Answers IsWalkFault walk infos (Ok tt) → Lists objects by tips hidden (map (λ info. info.id) infos)
   listed walk infos starts (finished last h) = record {
-    once = once objects by tips hidden walk named starts infos h.0 last h.1 h.2 whole;
-    exact = exact objects by tips hidden walk named starts infos h.0 last h.1 h.2 whole;
+    once = (each_shown objects by tips hidden walk named starts infos h.0 last h.1 h.2 whole).0;
+    exact = (each_shown objects by tips hidden walk named starts infos h.0 last h.1 h.2 whole).1;
     in_order = in_order objects by tips hidden walk named starts infos h.0 last h.1 h.2 whole;
   }
 

@@ -48,7 +48,8 @@ use Rattle.gix_walk.specs.Walked.{Walk, Answers, IsWalkFault, StartsFrom, FailsA
 use Rattle.gix_walk.specs.Words.{Commits, Ahead}
 use Rattle.gix_walk.proofs.CommitRuns.{ends_well}
 use Rattle.gix_walk.proofs.InternalFacts.{next_sound}
-use Rattle.gix_walk.proofs.SimpleRuns.{IsUncut, is_tip, same, whole_from}
+use Rattle.gix_simple.proofs.Difference.{whole_from}
+use Rattle.gix_walk.proofs.SimpleRuns.{IsUncut, is_tip, same}
 use Rattle.gix_walk.proofs.UncutWords.{uncut}
 use Rattle.gix_paint.proofs.Invariant.{own_history}
 use Rattle.gix_hash.proofs.Lists.{filter_within, only_member}

@@ -1,34 +1,32 @@
 -- What a simple walk over records gives that is drawn to its end, by what commits reach.
-use Rattle.std.specs.Prelude.{◌≡◌, ◌≢◌, ◌↔◌, ℤ, List, [], ◌∷◌, ◌++◌, map, filter, Bool, true, false, ◌&&◌, cond, Option, Some, None, Result, Ok, Err, Contains, All, IsSome, not}
+use Rattle.std.specs.Prelude.{◌≡◌, ◌≢◌, ◌↔◌, List, [], ◌∷◌, ◌++◌, map, filter, Bool, true, false, ◌&&◌, Option, None, Ok, Err, Contains, All, IsSome, not}
 use Rattle.std.specs.Iterator.{Drains, Yields}
 use Rattle.std.specs.List.{AllZip}
 use Rattle.std.proofs.Math.Path.{transport}
-use Rattle.std.proofs.Common.{refl, sym, ap, subst, ◌∙◌, ⊎_elim, inl, inr}
-use Rattle.std.proofs.lemmas.Bool.{false≢true, true≢false, false_from_ne_true}
+use Rattle.std.proofs.Common.{refl, sym, ap, subst, ◌∙◌, ⊎_elim}
 use Rattle.std.proofs.lemmas.List.Elements.{All-nil, All-cons, Contains-append_left, Contains-append_right, Contains-append_cases}
 use Rattle.std.proofs.Math.Bool.{and-true}
-use Rattle.gix_hash.proofs.Ids.Membership.{among_from, among_is}
+use Rattle.gix_hash.proofs.Ids.Membership.{among_is, Contains-cons_cases, no_member}
 use Rattle.gix_hash.specs.declared.ObjectId.{ObjectId}
-use Rattle.gix_object.specs.CommitText.{Commit}
 use Rattle.gix_object.specs.Object.{Objects}
 use Rattle.gix_revwalk.specs.declared.Info.{Info}
 use Rattle.gix_revwalk.specs.declared.Parents.TheVariants as mode
 use Rattle.gix_simple.specs.declared.Error.{Error}
 use Rattle.gix_simple.specs.declared.Sorting.{Sorting}
 use Rattle.gix_simple.specs.declared.Sorting.TheVariants as sorting
-use Rattle.gix_revwalk.specs.declared.Pending.{Pending}
 use Rattle.gix_revwalk.specs.declared.CommitTimeOrder.{CommitTimeOrder}
-use Rattle.gix_revwalk.specs.Commits.{ReadsWhole, commit_at, parents_of, time_of}
-use Rattle.gix_hash.specs.Reach.{Reaches, start, step, Tells}
-use Rattle.gix_simple.specs.Building.{IsBuilt, made, breadth_first, by_time, hides, recent, timed}
+use Rattle.gix_revwalk.specs.Commits.{commit_at, parents_of, time_of}
+use Rattle.gix_hash.specs.Reach.{Reaches, step, Tells}
+use Rattle.gix_simple.specs.Building.{IsBuilt, made, breadth_first, by_time, hides, IsUncut as IsBuiltUncut}
+use Rattle.gix_revwalk.specs.Agreeing.{IsAgreeing}
 use Rattle.gix_revwalk.specs.Asking.{AnswersBy}
 use Rattle.gix_revwalk.specs.Ids.{AreDistinct, new_ids, ids_of}
-use Rattle.gix_simple.specs.Laws.{IsFresh, IsGiven, IsNoRefusal, IsNewWalk, IsWholeRun, GivesInOrder, kept_parents, next_of, starts_of, IsInOrder}
-use Rattle.gix_simple.specs.Walk.{is_older, unhidden, paints, faulty_history, no_memory, cutoff, time_order}
-use Rattle.gix_revwalk.proofs.NewIds.{times_among, times-fresh}
+use Rattle.gix_simple.specs.Laws.{IsFresh, IsGiven, IsNoRefusal, IsNewWalk, IsWholeRun, GivesInOrder, GivesDifference, given_ids, next_of, IsInOrder}
+use Rattle.gix_simple.specs.Walk.{is_older, cutoff, time_order}
 use Rattle.gix_revwalk.proofs.Rows.{none_agree}
 use Rattle.gix_simple.proofs.Builders.{built}
-use Rattle.gix_simple.proofs.Corollaries.{gives, gives_once, shown_reached, reached_shown}
+use Rattle.gix_simple.proofs.Corollaries.{gives}
+use Rattle.gix_simple.proofs.Difference.{difference, faultless_difference, loosened, recent_all, whole_from}
 use Rattle.gix_simple.proofs.ReachDecided.{reach_test}
 use Rattle.gix_simple.proofs.MadeOfTips.{is_new_walk, pending_is}
 use Rattle.gix_walk.specs.Histories.{IsShown, IsListedSo}
@@ -42,13 +40,17 @@ IsUncut sorting.BreadthFirst = Unit {0}
 IsUncut (sorting.ByCommitTime order) = Unit {0}
 IsUncut (sorting.ByCommitTimeCutoff order seconds) = ⊥
 
-recent_all : (objects : Objects) (ps : List Pending) → ids_of (recent None (timed objects ps)) ≡ ids_of ps
-recent_all objects [] = refl
-recent_all objects (p ∷ ps) = ap (λ is. p.id ∷ is) (recent_all objects ps)
-
 unrefused : (infos : List Info) → All IsNoRefusal (given infos)
 unrefused [] = All-nil IsNoRefusal
 unrefused (info ∷ infos) = All-cons IsNoRefusal (Ok info) (given infos) ((λ e. cc), (λ e. cc), (λ e. cc)) (unrefused infos)
+
+no_faults : (infos : List Info) (e : Error) → Contains (given infos) (Err e) → ⊥
+no_faults [] e c = no_member (Err e) c
+no_faults (info ∷ infos) e c = ⊎_elim (λ s. cc) (no_faults infos e) (Contains-cons_cases (Err e) (Ok info) (given infos) c)
+
+ids_given : (infos : List Info) → given_ids (given infos) ≡ map (λ info. info.id) infos
+ids_given [] = refl
+ids_given (info ∷ infos) = ap (λ ids. info.id ∷ ids) (ids_given infos)
 
 same_ids : (objects : Objects) (order : Option CommitTimeOrder) (infos : List Info) (ids : List ObjectId) → AllZip (IsGiven objects [] mode.All order) (given infos) ids → map (λ info. info.id) infos ≡ ids
 same_ids objects order [] [] h = refl
@@ -56,17 +58,14 @@ same_ids objects order [] (i ∷ ids) h = absurd h
 same_ids objects order (info ∷ infos) [] h = absurd h
 same_ids objects order (info ∷ infos) (i ∷ ids) h = (λ k. h.0.info_is.same_id k ∷ same_ids objects order infos ids h.1 k)
 
-pub whole_from : (objects : Objects) (i : ObjectId) → IsSome (commit_at objects i) → ReadsWhole objects i
-whole_from objects i h = go (commit_at objects i) refl h
-  where
-    go : (o : Option Commit) → commit_at objects i ≡ o → IsSome o → ReadsWhole objects i
-    go None e n = absurd (false≢true n)
-    go (Some commit) e n = record { commit = commit; stored = e }
-
 uncut_none : (by : Sorting) → IsUncut by → cutoff mode.All by ≡ None
 uncut_none sorting.BreadthFirst u = refl
 uncut_none (sorting.ByCommitTime order) u = refl
 uncut_none (sorting.ByCommitTimeCutoff order seconds) u = absurd u
+
+-- each id once, and exactly the ids that the tips reach and the hidden tips don't
+abbrev pub GivesShown : Objects → List ObjectId → List ObjectId → List ObjectId → Type 0
+GivesShown objects tips hidden ids = AreDistinct ids × ((i : ObjectId) → Contains ids i ↔ IsShown objects tips hidden i)
 
 -- what sorting leaves
 record Follows (by : Sorting) (first sorted : Walk) : Type 0 where
@@ -86,32 +85,6 @@ follows (sorting.ByCommitTime order) u first sorted s = record {
   pending = ap ids_of s.pending ∙ recent_all first.store first.pending;
 }
 follows (sorting.ByCommitTimeCutoff order seconds) u first sorted s = absurd u
-
--- an answer that is no fault
-abbrev IsGood : Option (Result Info Error) → Type 0
-IsGood None = Unit {0}
-IsGood (Some (Ok info)) = Unit {0}
-IsGood (Some (Err e)) = ⊥
-
--- a first step that gives no fault has read all that tips and hidden tips reach
-painted_whole : (walk : Walk) {o : Option (Result Info Error)} {new : Walk} → walk.rows ≡ [] → walk.pending ≢ [] → walk.hidden_tips ≢ [] → Answers walk o new → IsGood o
-    → (i : ObjectId) → Reaches (parents_of walk.store) (ids_of walk.pending ++ walk.hidden_tips) i → IsSome (commit_at walk.store i)
-painted_whole walk none some behind (unhidden (inl e) s) good i r = absurd (some e)
-painted_whole walk none some behind (unhidden (inr e) s) good i r = absurd (behind e)
-painted_whole walk none some behind (paints p h painting s) good i r = painting.read none i r
-painted_whole walk none some behind (faulty_history p h rows fault) good i r = absurd good
-painted_whole walk none some behind (no_memory p h rows) good i r = absurd good
-
-module _ (objects : Objects) where
-  -- what is reached through some of the parents is reached
-  loosened : (accepts shows : ObjectId → Bool) (limit : Option ℤ) (xs : List ObjectId) (i : ObjectId) → Reaches (kept_parents objects mode.All accepts shows limit) xs i → Reaches (parents_of objects) xs i
-  loosened accepts shows limit xs i (start s) = start s
-  loosened accepts shows limit xs i (step {c = c} r n) = step (loosened accepts shows limit xs c r) (filter_within _ (parents_of objects c) i n)
-
-  -- through all parents
-  through_all : (xs : List ObjectId) (i : ObjectId) → Reaches (parents_of objects) xs i → Reaches (kept_parents objects mode.All (λ j. true) (λ j. false) None) xs i
-  through_all xs i (start s) = start s
-  through_all xs i (step {c = c} r n) = step (through_all xs c r) (subst (λ ys. Contains ys i) (sym (filter_all (λ i. true) (parents_of objects c) (λ i m. refl))) n)
 
 module _ (objects : Objects) (by : Sorting) (tips hidden : List ObjectId) (walk : Walk) (uncut : IsUncut by) (starts : StartsFrom objects by tips hidden walk) where
   -- the walk before its first step, its options written out
@@ -141,24 +114,47 @@ module _ (objects : Objects) (by : Sorting) (tips hidden : List ObjectId) (walk 
       among_is i tips (pending_is objects_of never_faulty accepts_all objects (record {}) (λ j. true) tips starts.made (λ mid new j answer b h. h.0) starts.makes i
       (subst (λ xs. Contains xs i) (ap (λ w. ids_of w.pending) starts.hides ∙ sorted_so.pending) c)).1
 
-  is_pending : (i : ObjectId) → Contains tips i → Contains (ids_of walk.pending) i
-  is_pending i c = subst (λ xs. Contains xs i) (sym pending) (among_is i (new_ids (λ j. false) tips) (times_among i (new_ids (λ j. false) tips) 0 (times-fresh i (λ j. false) tips ∙ ap (λ b. cond b 1 0) (among_from i tips c))))
+  -- it was built without a cutoff
+  abbrev Uncut : Walk → Type 0
+  Uncut w = (b : IsBuilt objects_of never_faulty accepts_all objects (record {}) tips w) × IsBuiltUncut b
 
-  sorted_built : (order : Sorting) (first sorted : Walk) → IsBuilt objects_of never_faulty accepts_all objects (record {}) tips first → IsSorted first order sorted → IsBuilt objects_of never_faulty accepts_all objects (record {}) tips sorted
-  sorted_built sorting.BreadthFirst first sorted b e = subst (IsBuilt objects_of never_faulty accepts_all objects (record {}) tips) (sym e) (breadth_first b)
-  sorted_built (sorting.ByCommitTime order) first sorted b s = by_time b s
-  sorted_built (sorting.ByCommitTimeCutoff order seconds) first sorted b s = by_time b s
+  sorted_built : (order : Sorting) → IsUncut order → (first sorted : Walk) → Uncut first → IsSorted first order sorted → Uncut sorted
+  sorted_built sorting.BreadthFirst u first sorted b e = subst Uncut (sym e) (breadth_first b.0, b.1)
+  sorted_built (sorting.ByCommitTime order) u first sorted b s = (by_time b.0 s, (b.1, refl))
+  sorted_built (sorting.ByCommitTimeCutoff order seconds) u first sorted b s = absurd u
 
-  is_built : IsBuilt objects_of never_faulty accepts_all objects (record {}) tips walk
-  is_built = subst (IsBuilt objects_of never_faulty accepts_all objects (record {}) tips) (sym starts.hides) (hides (sorted_built by starts.made starts.sorted (made starts.makes) starts.sorts))
+  is_built : Uncut walk
+  is_built = let k : Uncut starts.sorted = sorted_built by uncut starts.made starts.sorted (made starts.makes, tt) starts.sorts in subst Uncut (sym starts.hides) (hides k.0, k.1)
 
   test : (tells : ObjectId → Bool) × Tells tells (Reaches (parents_of objects) hidden)
   test = reach_test objects hidden
 
   is_fresh : IsFresh objects_of walk (λ i. true) × AnswersBy accepts_all walk.predicate (λ i. true) × (walk.store ≡ objects)
-  is_fresh = built objects_of never_faulty accepts_all (λ i. true) objects (record {}) (λ mid new i answer b h. h.0) tips walk is_built
+  is_fresh = built objects_of never_faulty accepts_all (λ i. true) objects (record {}) (λ mid new i answer b h. h.0) tips walk is_built.0
 
   module _ (infos : List Info) (at new : Walk) (drawn : Yields Answers walk (given infos) at) (ended : Answers at None new) where
+    hiders : walk.hidden_tips ≡ hidden
+    hiders = ap (λ w. w.hidden_tips) starts.hides
+
+    no_rows : IsAgreeing objects walk.rows
+    no_rows = none_agree objects walk.rows (ap (λ w. w.rows) same)
+
+    -- in the words of lists
+    said : GivesDifference objects tips walk.hidden_tips (given infos) → GivesShown objects tips hidden (map (λ info. info.id) infos)
+    said g = (subst AreDistinct (ids_given infos) g.once, λ i. subst (λ xs. Contains xs i ↔ IsShown objects tips hidden i) (ids_given infos) (subst (λ hs. Contains (given_ids (given infos)) i ↔ IsShown objects tips hs i) hiders (g.exact i)))
+
+    -- each once, and exactly what the tips reach and the hidden tips don't: where all of it reads whole
+    pub each_shown : ((i : ObjectId) → Reaches (parents_of objects) (tips ++ hidden) i → IsSome (commit_at objects i)) → GivesShown objects tips hidden (map (λ info. info.id) infos)
+    each_shown whole =
+        said (difference objects_of never_faulty accepts_all objects (record {}) tips (λ mid last i answer b h. h.0) walk is_built.0 is_built.1 (ap (λ w. w.parents) same) no_rows
+        (λ i r. whole_from objects i (whole i (subst (λ hs. Reaches (parents_of objects) (tips ++ hs) i) hiders r))) (given infos) (unrefused infos) (new, (at, drawn, ended)))
+
+    -- and with hidden tips in any case
+    pub each_unhidden : hidden ≢ [] → GivesShown objects tips hidden (map (λ info. info.id) infos)
+    each_unhidden behind =
+        said (faultless_difference objects_of never_faulty accepts_all objects (record {}) tips (λ mid last i answer b h. h.0) walk is_built.0 is_built.1 (ap (λ w. w.parents) same) no_rows (λ e. behind (sym hiders ∙ e))
+        (given infos) (no_faults infos) (new, (at, drawn, ended)))
+
     -- all that tips and hidden tips reach reads whole
     module _ (whole : (i : ObjectId) → Reaches (parents_of objects) (tips ++ hidden) i → IsSome (commit_at objects i)) where
       tips_whole : (i : ObjectId) → Reaches (parents_of objects) (ids_of walk.pending) i → IsSome (commit_at objects i)
@@ -170,7 +166,7 @@ module _ (objects : Objects) (by : Sorting) (tips hidden : List ObjectId) (walk 
         fresh = subst (λ w. IsFresh objects_of w (λ i. true)) same is_fresh.0;
         tells = test.1;
         meets = record {
-          given = λ i r. whole_from objects i (tips_whole i (reach_more (parents_of objects) _ (ids_of walk.pending) (λ j c. filter_within _ (ids_of walk.pending) j c) i (loosened objects (λ j. true) test.0 (cutoff mode.All by) _ i r)));
+          given = λ i r. whole_from objects i (tips_whole i (reach_more (parents_of objects) _ (ids_of walk.pending) (λ j c. filter_within _ (ids_of walk.pending) j c) i (loosened objects mode.All (λ j. true) test.0 (cutoff mode.All by) _ i r)));
           painted = λ p h i r. whole_from objects i (whole i (reach_more (parents_of objects) (ids_of walk.pending ++ hidden) (tips ++ hidden) both i r));
         };
         agreeing = none_agree objects [] refl;
@@ -184,30 +180,8 @@ module _ (objects : Objects) (by : Sorting) (tips hidden : List ObjectId) (walk 
       gave : GivesInOrder objects_of opened (λ i. true) test.0 (given infos)
       gave = gives objects_of never_faulty accepts_all opened (λ i. true) test.0 (given infos) run
 
-      each : AreDistinct gave.ids × ((i : ObjectId) → Contains gave.ids i ↔ Reaches (next_of objects_of opened (λ i. true) test.0) (starts_of opened test.0) i)
-      each = gives_once objects_of never_faulty accepts_all opened (λ i. true) test.0 (given infos) gave
-
       ids_are : map (λ info. info.id) infos ≡ gave.ids
       ids_are = same_ids objects (time_order mode.All by) infos gave.ids gave.given
-
-      -- each once
-      pub once : AreDistinct (map (λ info. info.id) infos)
-      once = subst AreDistinct (sym ids_are) each.0
-
-      shown : (i : ObjectId) → Reaches (next_of objects_of opened (λ i. true) test.0) (starts_of opened test.0) i → IsShown objects tips hidden i
-      shown i r =
-          let both = reached_shown objects mode.All (λ j. true) test.0 (cutoff mode.All by) (ids_of walk.pending) hidden test.1 i r in
-          (reach_more (parents_of objects) (ids_of walk.pending) tips is_tip i (loosened objects (λ j. true) (λ j. false) (cutoff mode.All by) (ids_of walk.pending) i both.0), λ h. true≢false (sym ((test.1 i).1 h) ∙ both.1))
-
-      reached : (i : ObjectId) → IsShown objects tips hidden i → Reaches (next_of objects_of opened (λ i. true) test.0) (starts_of opened test.0) i
-      reached i s =
-          shown_reached objects mode.All (λ j. true) test.0 (cutoff mode.All by) (ids_of walk.pending) hidden test.1 i
-          (subst (λ limit. Reaches (kept_parents objects mode.All (λ j. true) (λ j. false) limit) (ids_of walk.pending) i) (sym (uncut_none by uncut)) (through_all objects (ids_of walk.pending) i (reach_more (parents_of objects) tips (ids_of walk.pending) is_pending i s.0)))
-          (false_from_ne_true (test.0 i) (λ e. s.1 ((test.1 i).0 e)))
-
-      -- and exactly what the tips reach and the hidden tips don't
-      pub exact : (i : ObjectId) → Contains (map (λ info. info.id) infos) i ↔ IsShown objects tips hidden i
-      exact i = (λ c. shown i ((each.1 i).0 (subst (λ xs. Contains xs i) ids_are c)), λ s. subst (λ xs. Contains xs i) (sym ids_are) ((each.1 i).1 (reached i s)))
 
       next_is : next_of objects_of opened (λ i. true) test.0 ≡ (λ c. filter (λ i. not (test.0 i)) (parents_of objects c))
       next_is = (λ k c. filter (λ i. not (test.0 i) && not (is_older (time_of objects i) (uncut_none by uncut k))) (parents_of objects c)) ∙ (λ k c. filter (λ i. and-true (not (test.0 i)) k) (parents_of objects c))
@@ -215,24 +189,3 @@ module _ (objects : Objects) (by : Sorting) (tips hidden : List ObjectId) (walk 
       -- in the order that was asked for
       pub in_order : IsListedSo objects by tips hidden (map (λ info. info.id) infos)
       in_order = (test.0, test.1, transport (λ k. IsInOrder (time_order mode.All by) (time_of objects) (next_is k) (filter (λ i. not (test.0 i)) (pending k)) (sym ids_are k)) gave.in_order)
-
--- a walk from one tip, with one hidden tip, that gave no fault has read all that both reach
-pub all_read : (objects : Objects) (tip hider : ObjectId) (walk : Walk) → StartsFrom objects sorting.BreadthFirst (tip ∷ []) (hider ∷ []) walk → (infos : List Info) (at new : Walk) → Yields Answers walk (given infos) at → Answers at None new
-    → (i : ObjectId) → Reaches (parents_of objects) ((tip ∷ []) ++ (hider ∷ [])) i → IsSome (commit_at objects i)
-all_read objects tip hider walk starts infos at new drawn ended i r = first infos drawn
-  where
-    walk_is : walk ≡ opened objects sorting.BreadthFirst (tip ∷ []) (hider ∷ []) walk tt starts
-    walk_is = same objects sorting.BreadthFirst (tip ∷ []) (hider ∷ []) walk tt starts
-
-    tips_are : ids_of walk.pending ≡ tip ∷ []
-    tips_are = pending objects sorting.BreadthFirst (tip ∷ []) (hider ∷ []) walk tt starts
-
-    read : {o : Option (Result Info Error)} {next : Walk} → Answers walk o next → IsGood o → IsSome (commit_at objects i)
-    read {o} {next} s good =
-        painted_whole (opened objects sorting.BreadthFirst (tip ∷ []) (hider ∷ []) walk tt starts) refl
-        (λ e. let n : [] ≡ tip ∷ [] = ap ids_of (sym e) ∙ tips_are in cc) (λ e. cc) (subst (λ w. Answers w o next) walk_is s) good i
-        (subst (λ xs. Reaches (parents_of objects) (xs ++ hider ∷ []) i) (sym tips_are) r)
-
-    first : (infos : List Info) → Yields Answers walk (given infos) at → IsSome (commit_at objects i)
-    first [] h = read (subst (λ w. Answers w None new) (sym h) ended) tt
-    first (info ∷ more) h = read h.1 tt

@@ -33,7 +33,7 @@ use Rattle.gix_walk.specs.TopoWalked.{Walk, Answers, IsWalkFault, IsBuiltFrom, p
 use Rattle.gix_walk.specs.Walked.{Ends, finished, failed as fell, cut_short, objects_of, never_faulty, accepts_all, given as all_given}
 use Rattle.gix_walk.specs.Words.{Commits}
 use Rattle.gix_walk.proofs.CommitRuns.{served_so, ends_well, lines_by_ids}
-use Rattle.gix_walk.proofs.SimpleRuns.{whole_from}
+use Rattle.gix_simple.proofs.Difference.{whole_from}
 use Rattle.gix_revwalk.proofs.Reached.{reach_more}
 
 unrefused : (infos : List Info) → All IsNoRefusal (all_given infos)
