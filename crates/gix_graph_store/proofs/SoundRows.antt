@@ -92,6 +92,7 @@ module _ (rows : List GraphRow) (objects : Objects) (i : ObjectId) where
 
 pub rows-tell : RowsTell
 rows-tell rows objects i graph = record {
+  exact = get-with_rows rows objects i;
   stored = stored-stays rows objects i;
   other = other-stays rows objects i;
   told = told-said rows objects i graph;

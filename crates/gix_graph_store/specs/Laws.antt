@@ -1,7 +1,7 @@
 -- The laws of a store with rows.
 use Rattle.std.specs.Prelude.{◌≡◌, ◌⊎◌, List, Option, Some, None, Contains}
 use Rattle.std.specs.FinMap.{get}
-use Rattle.std.specs.Option.{option_map}
+use Rattle.std.specs.Option.{option_map, option_or}
 use Rattle.gix_hash.specs.declared.ObjectId.{ObjectId}
 use Rattle.gix_object.specs.Object.{Object, Objects}
 use Rattle.gix_object.specs.CommitText.{Commit}
@@ -11,7 +11,8 @@ use Rattle.gix_revwalk.specs.Agreeing.{IsAgreeing}
 use Rattle.gix_revwalk.specs.Commits.{commit_at}
 use Rattle.gix_revwalk.specs.RowParents.{ids_at}
 use Rattle.gix_graph_check.specs.Sound.{AreSound}
-use Rattle.gix_graph_store.specs.WithRows.{with_rows}
+use Rattle.gix_graph_store.specs.RowText.{text_at}
+use Rattle.gix_graph_store.specs.WithRows.{commit_object, with_rows}
 
 -- the commit that a row says, where none of its places is corrupt
 abbrev pub commit_said : List GraphRow → Option GraphRow → Option Commit
@@ -20,9 +21,11 @@ commit_said rows (Some row) = option_map (λ ids. record { tree = row.tree; pare
 
 -- what a store with rows has at an id
 pub record TellsRow (rows : List GraphRow) (objects : Objects) (i : ObjectId) : Type 0 where
-  -- what is stored stays
+  -- the object that is stored, or else the text that the row writes
+  pub exact : get (with_rows rows objects) i ≡ option_or (get objects i) (option_map commit_object (text_at rows i))
+  -- so what is stored stays
   pub stored : (object : Object) → get objects i ≡ Some object → get (with_rows rows objects) i ≡ Some object
-  -- so does what has no row
+  -- and what has no row
   pub other : row_of rows i ≡ None → get (with_rows rows objects) i ≡ get objects i
   -- where nothing is stored, there is the commit that the row says
   pub told : get objects i ≡ None → commit_at (with_rows rows objects) i ≡ commit_said rows (row_of rows i)
