@@ -18,7 +18,7 @@ use Rattle.gix_paint.specs.declared.Painter.{Painter}
 use Rattle.gix_revwalk.specs.Agreeing.{IsCorrupt}
 use Rattle.gix_paint.specs.Painting.{IsHistory, IsOpenBelow, IsRead, shown_commit, hidden_commit, generation_in, Paints}
 use Rattle.gix_hash.specs.Reach.{IsAtBoundary, Reaches, start, step}
-use Rattle.gix_paint.specs.Inside.Painter.{hides, hidden_of, State, Unmet, Open, Read, Hides, state_by, state_of, rows_in, held_graph, Knows, IsQueued, IsWaiting, IsSettled, is_told, Meets}
+use Rattle.gix_paint.specs.Inside.Painter.{hides, hidden_of, State, Unmet, Open, Read, Hides, state_by, state_of, rows_in, held_graph, Knows, IsWaiting, IsSettled, is_told, Meets}
 use Rattle.gix_paint.specs.Inside.Painter as painter
 use Rattle.gix_paint.proofs.Invariant.{contains-hidden, hidden_now, met_now, nobody, next, RowsStand, IsSafe, Fact, Stands, IsStarted, stands_meets, safe_meets, hidden_stays}
 use Rattle.gix_paint.proofs.Meets.{hides_then}

@@ -1,7 +1,6 @@
 -- The statements of the laws of simple walks, over any store and predicate.
 use Rattle.std.specs.Prelude.{◌≡◌, ◌≢◌, ◌≤◌, ◌≤ℤ◌, ◌↔◌, ℕ, suc, List, [], ◌++◌, Bool, false, true, Some, None, Result, Err, All, Contains, length, slice_get, filter}
 use Rattle.std.specs.Cmp.Lexicographic.{slice_cmp}
-use Rattle.std.specs.FinSet as set
 use Rattle.std.specs.Iterator.{Drains, Yields}
 use Rattle.std.specs.List.{AllZip}
 use Rattle.std.specs.Option.{option_cmp}

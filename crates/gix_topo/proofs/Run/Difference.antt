@@ -1,5 +1,5 @@
 -- A walk through all parents, whose predicate accepts all, gives what its tips reach and its ends don't.
-use Rattle.std.specs.Prelude.{◌≡◌, List, [], ◌∷◌, ◌++◌, Bool, true, filter, Result, Ok, Err, Contains, All}
+use Rattle.std.specs.Prelude.{◌≡◌, List, [], ◌∷◌, ◌++◌, Bool, true, Result, Ok, Err, Contains, All}
 use Rattle.std.specs.Iterator.{Drains}
 use Rattle.std.specs.List.{AllZip}
 use Rattle.std.proofs.Common.{refl, sym, subst, ⊎_elim}
