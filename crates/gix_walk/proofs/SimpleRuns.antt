@@ -16,7 +16,7 @@ use Rattle.gix_simple.specs.declared.Sorting.{Sorting}
 use Rattle.gix_simple.specs.declared.Sorting.TheVariants as sorting
 use Rattle.gix_revwalk.specs.declared.CommitTimeOrder.{CommitTimeOrder}
 use Rattle.gix_revwalk.specs.Commits.{commit_at, parents_of, time_of}
-use Rattle.gix_hash.specs.Reach.{Reaches, step, Tells}
+use Rattle.gix_hash.specs.Reach.{Reaches, Tells}
 use Rattle.gix_simple.specs.Building.{IsBuilt, made, breadth_first, by_time, hides, IsUncut as IsBuiltUncut}
 use Rattle.gix_revwalk.specs.Agreeing.{IsAgreeing}
 use Rattle.gix_revwalk.specs.Asking.{AnswersBy}
