@@ -58,6 +58,16 @@ impl From<AllocError> for Error {
 /// # Errors
 /// `Read` where the reader fails, or gives no end in [`READS`] reads. `Record` with the number of the first record that isn't one, once
 /// all is read. `Memory`. The bytes that were read until then are lost.
+///
+/// # Examples
+///
+/// In a program's `main`, under the name that users have for it (the whole is in docs/LIBRARY.md):
+///
+/// ```rust
+///     let store = records::read(alloc, &mut rt.stdin())?;
+///     let newest = Sorting::ByCommitTime(CommitTimeOrder::NewestFirst);
+///     let walk = Simple::new(alloc, tips, store)?.sorting(newest)?;
+/// ```
 pub fn read<R: Read>(alloc: Global, reader: &mut R) -> Result<MemoryStore, Error>
     ensures read { IfOk result (λ store. IsReadFrom (R.remaining reader.old) store) }
     ensures fault { IfErr result (λ e. IsReadFault (R.remaining reader.old) e) }
