@@ -160,6 +160,22 @@ impl<'buf, 'cache> Either<'buf, 'cache> {
 /// - `NotFound` if the store has no object of this id, and `ObjectKind` if the object is no commit,
 /// - `Store` if the store can't read the object,
 /// - `Memory` when out of memory.
+///
+/// # Examples
+///
+/// ```rust
+/// /// The tree of a commit, and its committer's seconds since 1970: of its row where it has one, else of its text in the store.
+/// pub fn tree_and_time<F: Find + Drop>(
+///     alloc: Global,
+///     graph: Option<&Graph>,
+///     store: F,
+///     id: ObjectId,
+/// ) -> Result<(ObjectId, i64), Error> {
+///     let mut buf = Vec::new(alloc);
+///     let commit = commit::find(graph, store, &id, &mut buf)?;
+///     Ok((commit.tree_id()?, commit.commit_time()?))
+/// }
+/// ```
 pub fn find<'cache, 'buf, F: Find + Drop>(
     cache: Option<&'cache Graph>,
     objects: F,
@@ -181,6 +197,26 @@ pub fn find<'cache, 'buf, F: Find + Drop>(
 
 /// Which commits are given. In a `Simple` a refused commit also bars the way to its parents, which come only if another commit names
 /// them; a `Topo` walks on through it.
+///
+/// # Examples
+///
+/// A predicate that says what it answers, for `Simple::filtered` or `with_predicate` of `topo::Builder`:
+///
+/// ```rust
+/// /// Accepts the commits that aren't known, and stays as it is.
+/// #[derive(Drop)]
+/// pub struct Unknown {
+///     pub known: IdSet,
+/// }
+///
+/// impl Predicate for Unknown {
+///     ghost answers = { λ old id answer new. (answer ≡ not (set.contains old.known id)) × (new ≡ old) };
+///
+///     fn accepts(&mut self, id: &ObjectId) -> bool {
+///         !self.known.contains(id)
+///     }
+/// }
+/// ```
 pub trait Predicate {
     /// Holds of a predicate that may be asked.
     ghost can_accept: { Self → Type 0 } = { λ _. Unit {0} };

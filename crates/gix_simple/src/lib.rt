@@ -49,6 +49,26 @@ use thiserror::Error;
 /// ByCommitTime(OldestFirst)                  8 6 5 3 1 7 4 2
 /// ByCommitTimeCutoff of NewestFirst from 4   8 7 6 5 4
 /// ```
+///
+/// A cutoff with first parents alone:
+///
+/// ```rust
+/// /// A walk by first parents alone, from the branches that have a commit since `seconds`. Under `Parents::First` the cutoff takes out
+/// /// tips alone: what the other tips reach is given, however old it is.
+/// pub fn since<F: Find + Drop>(
+///     alloc: Global,
+///     store: F,
+///     branches: Vec<ObjectId>,
+///     seconds: i64,
+/// ) -> Result<Simple<F, Unfiltered>, Error> {
+///     let cutoff = Sorting::ByCommitTimeCutoff {
+///         order: CommitTimeOrder::NewestFirst,
+///         seconds,
+///     };
+///     let walk = Simple::new(alloc, branches, store)?.sorting(cutoff)?;
+///     Ok(walk.parents(Parents::First))
+/// }
+/// ```
 #[derive(Clone, Copy, Debug, PartialEq, Eq)]
 pub enum Sorting {
     /// Commits come in the order in which they are met.

@@ -10,7 +10,7 @@ use Rattle.gix_revwalk.specs.Ids.{AreDistinct}
 use Rattle.gix_topo.specs.Walk.{IsNumberOf}
 use Rattle.gix_walk.specs.Ahead.{Counts, Draws, ahead_line}
 use Rattle.gix_walk.specs.Histories.{IsShown, AheadCounts, DrawsDifference}
-use Rattle.gix_walk.specs.Records.{stored}
+use Rattle.gix_records.specs.Records.{stored}
 use Rattle.gix_walk.specs.Run.{Serves, counted}
 use Rattle.gix_walk.specs.Walked.{Answers, IsWalkFault, Ends, finished}
 use Rattle.gix_walk.specs.Words.{Ahead}

@@ -9,11 +9,11 @@ use Rattle.gix_simple.specs.declared.Sorting.{Sorting}
 use Rattle.gix_walk.specs.declared.fault.Fault.{Fault}
 use Rattle.gix_walk.specs.declared.words.Order.TheVariants.{Simple}
 use Rattle.gix_walk.specs.Histories.{AreWhole, Lists, SimpleLists, EndsWell, lines_of_ids}
-use Rattle.gix_walk.specs.Records.{Record, AreRecords, stored}
+use Rattle.gix_records.specs.Records.{Record, AreRecords, stored}
 use Rattle.gix_walk.specs.Run.{Runs, Serves, walked, without_memory, no_command, not_read, bad_record, served}
 use Rattle.gix_walk.specs.Walked.{Walk, Answers, IsWalkFault, Ends, StartsFrom, finished, lines_of, line_of}
 use Rattle.gix_walk.specs.Words.{Request, Commits, request_of}
-use Rattle.gix_walk.proofs.RecordFacts.{only_reading, no_bad_record}
+use Rattle.gix_records.proofs.RecordFacts.{only_reading, no_bad_record}
 use Rattle.gix_walk.proofs.SimpleRuns.{IsUncut, each_shown, in_order}
 use Rattle.gix_walk.proofs.UncutWords.{uncut}
 

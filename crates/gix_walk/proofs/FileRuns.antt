@@ -23,7 +23,7 @@ use Rattle.gix_walk.specs.Faults.{fault_of_tree_walk}
 use Rattle.gix_walk.specs.Files.{RecordsTree, file_lines}
 use Rattle.gix_walk.specs.Histories.{EndsWell, IsOutside}
 use Rattle.gix_walk.specs.Listings.{Unfolds, FilesLists, FilesSucceeds}
-use Rattle.gix_walk.specs.Records.{stored}
+use Rattle.gix_records.specs.Records.{stored}
 use Rattle.gix_walk.specs.Run.{Serves, listed, not_listed, unserved, not_written}
 use Rattle.gix_walk.specs.Walked.{never_faulty}
 use Rattle.gix_walk.specs.Words.{Files}

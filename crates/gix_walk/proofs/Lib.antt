@@ -1,7 +1,3 @@
-mod RecordFacts
-mod SplitFacts
-mod HexFacts
-mod DecimalFacts
 mod WordFaults
 mod MemoryFaults
 mod OutputFacts

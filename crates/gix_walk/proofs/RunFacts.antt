@@ -1,6 +1,6 @@
 -- What a run may answer.
-use Rattle.std.specs.Prelude.{◌≡◌, ◌≢◌, ◌⊎◌, ℕ, List, [], Option, Some, Result, Ok, Err}
-use Rattle.std.proofs.Common.{sym, subst, ap, ◌∙◌, inl, inr}
+use Rattle.std.specs.Prelude.{◌≡◌, ◌≢◌, ℕ, List, [], Option, Some, Result, Ok, Err}
+use Rattle.std.proofs.Common.{sym, subst, ap, ◌∙◌}
 use Rattle.gix_hash.specs.declared.ObjectId.{ObjectId}
 use Rattle.gix_object.specs.Object.{Objects}
 use Rattle.gix_revwalk.specs.declared.Info.{Info}
@@ -14,16 +14,19 @@ use Rattle.gix_walk.specs.declared.fault.Fault.{Fault}
 use Rattle.gix_walk.specs.declared.fault.Fault.TheVariants as fault
 use Rattle.gix_walk.specs.declared.words.Order.{Order}
 use Rattle.gix_walk.specs.declared.words.Order.TheVariants.{Simple, Topo}
-use Rattle.gix_walk.specs.Faults.{fault_of_walk, fault_of_topo_walk}
-use Rattle.gix_walk.specs.Input.{Tells}
+use Rattle.gix_walk.specs.Faults.{fault_of_records, fault_of_walk, fault_of_topo_walk}
+use Rattle.gix_records.specs.Input.{Tells}
 use Rattle.gix_walk.specs.Output.{WritesAll}
-use Rattle.gix_walk.specs.Records.{Record, AreRecords, IsRecordFault, bad, no_memory, stored}
+use Rattle.gix_records.specs.declared.Error.{Error as RecordsError}
+use Rattle.gix_records.specs.Reading.{IsReadFrom, IsReadFault}
+use Rattle.gix_records.specs.Reading as reading
+use Rattle.gix_records.specs.Records.{Record, AreRecords}
 use Rattle.gix_walk.specs.Run.{Serves, walked, not_walked, walked_down, not_built, listed, not_listed, counted, not_ahead, not_behind, unserved, not_written, Runs, without_memory, no_command, not_read, bad_record, served}
 use Rattle.gix_walk.specs.TopoWalked as topo
 use Rattle.gix_walk.specs.Walked.{Walk, Answers, IsWalkFault, StartsFrom, FailsAtStart, IsStartFault, Ends, finished, failed, cut_short}
 use Rattle.gix_walk.specs.Words.{Request, Commits, request_of}
 use Rattle.gix_walk.proofs.MemoryFaults.{failed_so}
-use Rattle.gix_walk.proofs.RecordFacts.{no_bad_record}
+use Rattle.gix_records.proofs.RecordFacts.{no_bad_record}
 use Rattle.gix_walk.proofs.InternalFacts.{IsSound, next_sound, start_sound}
 use Rattle.gix_walk.proofs.TopoInternalFacts.{drawn_sound, built_rowless, build_sound, topo_unnumbered}
 use Rattle.gix_walk.proofs.TreeFacts.{find_unnumbered, tree_sound, tree_unnumbered}
@@ -110,23 +113,19 @@ module _ (words : List (List ℕ)) (has old : Option (List ℕ)) where
   pub runs_words : (result : Result (Unit {0}) Fault) (e : Fault) → result ≡ Err e → (e ≢ fault.Memory → request_of words ≡ Err e) → Runs words has old result old
   runs_words result e same h = failed_so (λ r. Runs words has old r old) without_memory result e same (λ other. no_command (h other))
 
-  -- the input wasn't read
-  pub runs_input : (request : Request) (result : Result (Unit {0}) Fault) (e : Fault) → request_of words ≡ Ok request → result ≡ Err e → (e ≡ fault.Read) ⊎ (e ≡ fault.Memory) → Runs words has old result old
-  runs_input request result e t same (inl h) = subst (λ (r : Result (Unit {0}) Fault). Runs words has old r old) (sym (same ∙ ap (λ x. Err x) h)) (not_read request t)
-  runs_input request result e t same (inr h) = subst (λ (r : Result (Unit {0}) Fault). Runs words has old r old) (sym (same ∙ ap (λ x. Err x) h)) without_memory
+  of_input : (request : Request) (e : RecordsError) → request_of words ≡ Ok request → IsReadFault has e → Runs words has old (Err (fault_of_records e)) old
+  of_input request e t reading.not_read = not_read request t
+  of_input request e t reading.without_memory = without_memory
+  of_input request e t (reading.bad_record input {n = n} h b) = bad_record request input n t h b
 
-  of_record : (request : Request) (input : List ℕ) (e : Fault) → request_of words ≡ Ok request → Tells has input → IsRecordFault input e → Runs words has old (Err e) old
-  of_record request input e t h (bad {n = n} b) = bad_record request input n t h b
-  of_record request input e t h (no_memory before r rest behind begins is) = without_memory
+  -- the input was no records, or wasn't read
+  pub runs_input : (request : Request) (result : Result (Unit {0}) Fault) (e : RecordsError) (f : Fault) → request_of words ≡ Ok request → result ≡ Err f → f ≡ fault_of_records e → IsReadFault has e → Runs words has old result old
+  runs_input request result e f t same is h = subst (λ (r : Result (Unit {0}) Fault). Runs words has old r old) (sym (same ∙ ap (λ x. Err x) is)) (of_input request e t h)
 
-  -- the input was no records
-  pub runs_records : (request : Request) (input : List ℕ) (result : Result (Unit {0}) Fault) (e : Fault) → request_of words ≡ Ok request → Tells has input → result ≡ Err e → IsRecordFault input e → Runs words has old result old
-  runs_records request input result e t h same f = subst (λ (r : Result (Unit {0}) Fault). Runs words has old r old) (sym same) (of_record request input e t h f)
-
-  module _ (request : Request) (input : List ℕ) (t : request_of words ≡ Ok request) (h : Tells has input) (objects : Objects) (read : (records : List Record) × AreRecords records input × (objects ≡ stored records)) (new : Option (List ℕ)) where
+  module _ (request : Request) (t : request_of words ≡ Ok request) (objects : Objects) (read : IsReadFrom has objects) (new : Option (List ℕ)) where
     -- what was asked for was served
     pub runs_served : (result : Result (Unit {0}) Fault) → Serves objects old request result new → Runs words has old result new
-    runs_served result s = served request input read.0 t h read.1 (subst (λ (o : Objects). Serves o old request result new) read.2 s)
+    runs_served result s = served request read.0 read.1 t read.2 read.3 (subst (λ (o : Objects). Serves o old request result new) read.4 s)
 
 module _ (objects : Objects) (old : Option (List ℕ)) (order : Order) (tips hidden : List ObjectId) where
   -- the walk was drawn

@@ -42,7 +42,7 @@ use Rattle.gix_walk.specs.declared.fault.Fault.TheVariants as fault
 use Rattle.gix_walk.specs.declared.words.Order.TheVariants.{Simple}
 use Rattle.gix_walk.specs.Faults.{fault_of_walk}
 use Rattle.gix_walk.specs.Histories.{AreWhole, EndsWell, IsOutside, SimpleSucceeds, AheadSucceeds}
-use Rattle.gix_walk.specs.Records.{stored}
+use Rattle.gix_records.specs.Records.{stored}
 use Rattle.gix_walk.specs.Run.{Serves, walked, not_walked, counted, not_ahead, not_behind, unserved, not_written}
 use Rattle.gix_walk.specs.Walked.{Walk, Answers, IsWalkFault, StartsFrom, FailsAtStart, Ends, finished, failed, cut_short, objects_of, never_faulty, accepts_all, given as all_given}
 use Rattle.gix_walk.specs.Words.{Commits, Ahead}

@@ -27,7 +27,7 @@ use Rattle.gix_walk.specs.declared.fault.Fault.{Fault}
 use Rattle.gix_walk.specs.declared.words.Order.TheVariants.{Topo}
 use Rattle.gix_walk.specs.Faults.{fault_of_topo_walk}
 use Rattle.gix_walk.specs.Histories.{AreWhole, ListsDown, TopoLists, TopoSucceeds, EndsWell, IsOutside, lines_of_ids}
-use Rattle.gix_walk.specs.Records.{stored}
+use Rattle.gix_records.specs.Records.{stored}
 use Rattle.gix_walk.specs.Run.{Serves, walked_down, not_built, unserved, not_written}
 use Rattle.gix_walk.specs.TopoWalked.{Walk, Answers, IsWalkFault, IsBuiltFrom, plan_from}
 use Rattle.gix_walk.specs.Walked.{Ends, finished, failed as fell, cut_short, objects_of, never_faulty, accepts_all, given as all_given}

@@ -1,8 +1,7 @@
 -- Worked examples of words, numbers and lines.
-use Rattle.std.specs.Prelude.{◌≡◌, ◌∷◌, [], codes, Some, None, Err, refl}
+use Rattle.std.specs.Prelude.{◌≡◌, ◌∷◌, [], codes, Err, refl}
 use Rattle.gix_walk.specs.declared.fault.Fault.TheVariants as fault
 use Rattle.std.specs.Fmt.{digits}
-use Rattle.gix_walk.specs.Decimal.{decimal}
 use Rattle.gix_walk.specs.Files.{six_octal_digits}
 use Rattle.gix_walk.specs.Words.{request_of}
 
@@ -58,15 +57,3 @@ digits_of_tree = refl
 pub digits_of_file : six_octal_digits 0o100644 ≡ codes "100644"
 unfolding digits
 digits_of_file = refl
-
-pub leading_zeros : decimal (codes "0000000096") ≡ Some 96
-leading_zeros = refl
-
-pub no_digits : decimal [] ≡ None
-no_digits = refl
-
-pub eleven_digits : decimal (codes "00000000096") ≡ None
-eleven_digits = refl
-
-pub sign : decimal (codes "-1") ≡ None
-sign = refl

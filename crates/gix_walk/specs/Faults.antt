@@ -1,4 +1,6 @@
--- Which fault of a run a fault of a walk is.
+-- Which fault of a run a fault of its input or of a walk is.
+use Rattle.gix_records.specs.declared.Error.{Error as RecordsError}
+use Rattle.gix_records.specs.declared.Error.TheVariants as records
 use Rattle.gix_object.specs.declared.find.existing_iter.Error.{Error as ExistingError}
 use Rattle.gix_object.specs.declared.find.existing_iter.Error.TheVariants as existing
 use Rattle.gix_simple.specs.declared.Error.{Error}
@@ -10,6 +12,11 @@ use Rattle.gix_tree.specs.declared.breadthfirst.Error.{Error as TreeError}
 use Rattle.gix_tree.specs.declared.breadthfirst.Error.TheVariants as tree_error
 use Rattle.gix_walk.specs.declared.fault.Fault.{Fault}
 use Rattle.gix_walk.specs.declared.fault.Fault.TheVariants as fault
+
+abbrev pub fault_of_records : RecordsError → Fault
+fault_of_records records.Read = fault.Read
+fault_of_records (records.Record n) = fault.Record n
+fault_of_records records.Memory = fault.Memory
 
 abbrev pub fault_of_find : ExistingError → Fault
 fault_of_find existing.Store = fault.Internal

@@ -21,7 +21,7 @@ use Rattle.gix_walk.specs.declared.fault.Fault.TheVariants as fault
 use Rattle.gix_walk.specs.declared.words.Order.{Order}
 use Rattle.gix_walk.specs.declared.words.Order.TheVariants.{Simple, Topo}
 use Rattle.gix_walk.specs.Ahead.{Draws, ahead_line}
-use Rattle.gix_walk.specs.Records.{Record, AreRecords, stored}
+use Rattle.gix_records.specs.Records.{Record, AreRecords, stored}
 use Rattle.gix_walk.specs.Run.{Runs}
 use Rattle.gix_walk.specs.Walked.{line_of}
 use Rattle.gix_walk.specs.Words.{Ahead, Commits, request_of}

@@ -1,8 +1,5 @@
 pub mod Faults
 pub mod Words
-pub mod Decimal
-pub mod Records
-pub mod RecordFront
 pub mod Walked
 pub mod TopoWalked
 pub mod Files
@@ -12,5 +9,4 @@ pub mod Run
 pub mod Histories
 pub mod Listings
 pub mod Output
-pub mod Input
 pub mod Examples

@@ -15,7 +15,7 @@ use Rattle.gix_tree.specs.Walk.{LookUpFails, trees_of}
 use Rattle.gix_walk.specs.declared.fault.Fault.{Fault}
 use Rattle.gix_walk.specs.Files.{file_lines}
 use Rattle.gix_walk.specs.Histories.{EndsWell}
-use Rattle.gix_walk.specs.Records.{Record, AreRecords, stored}
+use Rattle.gix_records.specs.Records.{Record, AreRecords, stored}
 use Rattle.gix_walk.specs.Run.{Runs}
 use Rattle.gix_walk.specs.Walked.{never_faulty}
 use Rattle.gix_walk.specs.Words.{Files, request_of}

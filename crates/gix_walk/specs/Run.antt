@@ -16,8 +16,8 @@ use Rattle.gix_walk.specs.declared.words.Order.TheVariants.{Simple, Topo}
 use Rattle.gix_walk.specs.Ahead.{Counts, FailsToCount, ahead_line}
 use Rattle.gix_walk.specs.Faults.{fault_of_walk, fault_of_topo_walk, fault_of_tree_walk}
 use Rattle.gix_walk.specs.Files.{RecordsTree, file_lines}
-use Rattle.gix_walk.specs.Input.{Tells}
-use Rattle.gix_walk.specs.Records.{Record, AreRecords, IsBadRecord, stored}
+use Rattle.gix_records.specs.Input.{Tells}
+use Rattle.gix_records.specs.Records.{Record, AreRecords, IsBadRecord, stored}
 use Rattle.gix_walk.specs.TopoWalked as topo
 use Rattle.gix_walk.specs.Walked.{Walk, Answers, IsWalkFault, StartsFrom, FailsAtStart, Ends, lines_of}
 use Rattle.gix_walk.specs.Words.{Request, Commits, Files, Ahead, request_of}

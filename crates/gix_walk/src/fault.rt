@@ -3,6 +3,7 @@ ghost use Rattle.std.specs.Prelude.{◌≡◌};
 
 use gix_parts::hash::ObjectId;
 use gix_parts::object::find::existing_iter;
+use gix_parts::records;
 use gix_traverse::commit::{simple, topo};
 use gix_traverse::tree::depthfirst;
 use std::alloc::AllocError;
@@ -54,6 +55,20 @@ impl From<AllocError> for Fault {
 
     fn from(_error: AllocError) -> Fault {
         Fault::Memory
+    }
+}
+
+impl From<records::Error> for Fault {
+    ghost use Rattle.gix_walk.specs.Faults.{fault_of_records};
+
+    ghost from_gives = { λ e r. r ≡ fault_of_records e };
+
+    fn from(error: records::Error) -> Fault {
+        match error {
+            records::Error::Read => Fault::Read,
+            records::Error::Record(number) => Fault::Record(number),
+            records::Error::Memory => Fault::Memory,
+        }
     }
 }
 

@@ -6,10 +6,8 @@ mod commits;
 mod digits;
 mod fault;
 mod files;
-mod input;
 pub mod laws;
 mod output;
-mod records;
 mod run;
 mod words;
 

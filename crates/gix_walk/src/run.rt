@@ -1,6 +1,6 @@
 //! A run of the program.
 ghost use Rattle.std.specs.Prelude.{◌≡◌, ◌≢◌, ℕ, List, map, Some, Err, string_bytes};
-ghost use Rattle.gix_walk.specs.Records.{Record, AreRecords};
+ghost use Rattle.gix_records.specs.Records.{Record, AreRecords};
 ghost use Rattle.gix_walk.specs.Run.{Runs, Serves};
 ghost use Rattle.gix_walk.specs.Words.{Commits, request_of, request_of_command};
 
@@ -8,17 +8,13 @@ use crate::ahead::write_ahead;
 use crate::commits::{topo_walk_from, walk_from};
 use crate::fault::Fault;
 use crate::files::write_files;
-use crate::input::read_to_end;
 use crate::output::write_commits;
-use crate::records::read_records;
 use crate::words::{Command, Order, read_command};
 use gix_parts::hash::ObjectId;
 use gix_parts::object::memory::MemoryStore;
+use gix_parts::records;
 use std::alloc::Global;
 use std::io::{Read, Write};
-
-/// How often a run asks its reader at the most.
-pub const READS: u32 = 1 << 24;
 
 /// Runs the command that the words are over the records that the reader gives. The words are tested first, then the input is read
 /// whole, then the walk runs.
@@ -47,8 +43,7 @@ pub fn run<R: Read, W: Write>(
     ensures sound { result ≢ Err Fault.Internal }
 {
     let command = read_command(alloc, words)?;
-    let input = read_to_end(alloc, reader, READS)?;
-    let store = read_records(alloc, input)?;
+    let store = records::read(alloc, reader)?;
     serve(alloc, command, store, writer)
 }
 

@@ -46,6 +46,10 @@ pub mod queue {
     pub use gix_parts::queue::{IterUnordered, PriorityQueue};
 }
 
+pub mod records {
+    pub use gix_parts::records::{Error, READS, read, records_of};
+}
+
 pub mod laws_of_parts {
     pub use gix_parts::laws::{faults_end, reads_texts, spellings_are_read, spellings_differ};
 }

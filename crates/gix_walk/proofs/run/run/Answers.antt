@@ -1,6 +1,6 @@
 use Rattle.std.proofs.Common.{Err, ◌∙◌, ap}
 use Rattle.std.proofs.lemmas.Result.{err_from_is_err_and}
-use Rattle.gix_walk.proofs.RunFacts.{no_rejection, runs_sound, runs_spelled, runs_words, runs_input, runs_records, runs_served}
+use Rattle.gix_walk.proofs.RunFacts.{no_rejection, runs_sound, runs_spelled, runs_words, runs_input, runs_served}
 use Rattle.gix_walk.proofs.run.run.Goals as goal
 
 pub returns-in_err-command-clause-runs : goal.returns-in_err-command-clause-runs
@@ -11,19 +11,14 @@ returns-in_err-command-clause-runs g c =
 pub returns-in_err-command-clause-sound : goal.returns-in_err-command-clause-sound
 returns-in_err-command-clause-sound g c = runs_sound (returns-in_err-command-clause-runs g c)
 
-pub returns-in_err-input-clause-runs : goal.returns-in_err-input-clause-runs
-returns-in_err-input-clause-runs g c =
-    let p = err_from_is_err_and c.from_residual-in_err-input.result c.from_residual-in_err-input.ensures.1 in
-    runs_input _ _ _ _ _ _ c.in_ok-command.ensures (p.1 ∙ ap (λ f. Err f) p.2) c.in_err-input.ensures.fault
-
 pub returns-in_err-store-clause-runs : goal.returns-in_err-store-clause-runs
 returns-in_err-store-clause-runs g c =
     let p = err_from_is_err_and c.from_residual-in_err-store.result c.from_residual-in_err-store.ensures.1 in
-    runs_records _ _ _ _ _ _ _ c.in_ok-command.ensures c.in_ok-input.ensures.whole (p.1 ∙ ap (λ f. Err f) p.2) c.in_err-store.ensures.fault
+    runs_input _ _ _ _ _ _ _ c.in_ok-command.ensures p.1 p.2 c.in_err-store.ensures.fault
 
 pub returns-clause-runs : goal.returns-clause-runs
 returns-clause-runs g c =
-    runs_served _ _ _ _ _ c.in_ok-command.ensures c.in_ok-input.ensures.whole _ c.in_ok-store.ensures.read _ _ c.serve.ensures
+    runs_served _ _ _ _ c.in_ok-command.ensures _ c.in_ok-store.ensures.read _ _ c.serve.ensures
 
 pub returns-clause-sound : goal.returns-clause-sound
 returns-clause-sound g c = runs_sound (returns-clause-runs g c)
@@ -36,9 +31,6 @@ returns-in_err-store-clause-spelled g c = runs_spelled (returns-in_err-store-cla
 
 pub returns-clause-spelled : goal.returns-clause-spelled
 returns-clause-spelled g c = runs_spelled (returns-clause-runs g c)
-
-pub returns-in_err-input-clause-unread : goal.returns-in_err-input-clause-unread
-returns-in_err-input-clause-unread g c = no_rejection c.in_ok-command.ensures
 
 pub returns-in_err-store-clause-unread : goal.returns-in_err-store-clause-unread
 returns-in_err-store-clause-unread g c = no_rejection c.in_ok-command.ensures

@@ -1,0 +1,10 @@
+-- Numbers in decimal digits.
+mod DecimalFacts
+-- The hex digits of ids.
+mod HexFacts
+-- A text split at the first of a byte.
+mod SplitFacts
+-- Records read from the left, and the grammar of records.
+pub mod RecordFacts
+-- What a reader's bytes were read as.
+mod ReadingFacts

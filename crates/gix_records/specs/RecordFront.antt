@@ -1,0 +1,56 @@
+-- The record at the front of a text, read from the left.
+use Rattle.std.specs.Prelude.{ℕ, ◌==◌, List, [], ◌∷◌, take, drop, Option, Some, None, if◌then◌else◌, codes}
+use Rattle.std.specs.Result.{result_ok}
+use Rattle.std.specs.Str.{bytes_eq}
+use Rattle.gix_object.specs.declared.Kind.{Kind}
+use Rattle.gix_object.specs.declared.Kind.TheVariants as kind
+use Rattle.gix_hash.specs.Id.{id_from_hex}
+use Rattle.gix_records.specs.Decimal.{decimal}
+use Rattle.gix_records.specs.Records.{Record}
+use Rattle.gix_records.specs.declared.front.Front.{Front}
+
+abbrev pub with_byte : ℕ → Option (List ℕ × List ℕ) → Option (List ℕ × List ℕ)
+with_byte b None = None
+with_byte b (Some r) = Some (b ∷ r.0, r.1)
+
+-- the text before the first such byte, and the text after it
+abbrev pub split_at_byte : ℕ → List ℕ → Option (List ℕ × List ℕ)
+split_at_byte byte [] = None
+split_at_byte byte (b ∷ bs) = if b == byte then Some ([], bs) else with_byte b (split_at_byte byte bs)
+
+abbrev pub kind_named : List ℕ → Option Kind
+kind_named word =
+    if bytes_eq word (codes "commit") then Some kind.Commit
+    else if bytes_eq word (codes "tree") then Some kind.Tree
+    else if bytes_eq word (codes "blob") then Some kind.Blob
+    else if bytes_eq word (codes "tag") then Some kind.Tag
+    else None
+
+abbrev pub behind_newline : List ℕ → List ℕ → Option (List ℕ × List ℕ)
+behind_newline bytes [] = None
+behind_newline bytes (b ∷ rest) = if b == 10 then Some (bytes, rest) else None
+
+-- n bytes, if a newline ends them, and the text after it
+abbrev pub body_at : ℕ → List ℕ → Option (List ℕ × List ℕ)
+body_at n text = behind_newline (take n text) (drop n text)
+
+infixl 10 ◌>>=◌
+abbrev pub ◌>>=◌ : {A B : Type 0} → Option A → (A → Option B) → Option B
+None >>= f = None
+(Some x) >>= f = f x
+
+-- the record, and the text after it
+unfoldable pub record_at : List ℕ → Option (Record × List ℕ)
+record_at text = do
+  word ← split_at_byte 32 text
+  kind ← kind_named word.0
+  id_digits ← split_at_byte 32 word.1
+  id ← result_ok (id_from_hex id_digits.0)
+  length_digits ← split_at_byte 10 id_digits.1
+  n ← decimal length_digits.0
+  body ← body_at n length_digits.1
+  Some (record { kind = kind; id = id; bytes = body.0 }, body.1)
+
+-- a record that was found, and the text after it
+abbrev pub front_shown : Front → Record × List ℕ
+front_shown front = (record { kind = front.kind; id = front.id; bytes = front.bytes.now }, front.behind.now)

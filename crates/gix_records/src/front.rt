@@ -1,0 +1,110 @@
+//! The record at the front of a text.
+ghost use Rattle.std.specs.Prelude.{◌≡◌};
+ghost use Rattle.std.specs.Option.{option_map};
+ghost use Rattle.std.specs.Result.{result_ok};
+ghost use Rattle.gix_hash.specs.Id.{id_from_hex};
+ghost use Rattle.gix_records.specs.Decimal.{decimal};
+ghost use Rattle.gix_records.specs.RecordFront.{split_at_byte, kind_named, body_at, record_at, front_shown};
+
+use gix_hash::ObjectId;
+use gix_object::Kind;
+use memchr::memchr;
+
+/// A record at the front of a text, and the text after it.
+#[derive(Clone, Copy)]
+pub struct Front<'a> {
+    /// What the bytes are.
+    pub kind: Kind,
+    /// The id.
+    pub id: ObjectId,
+    /// The bytes.
+    pub bytes: &'a [u8],
+    /// The text after the newline that ends the record.
+    pub behind: &'a [u8],
+}
+
+/// The record at the front: a kind, a space, an id in hex digits, a space, the length in decimal digits, a newline, as many bytes, a
+/// newline.
+#[tactic(auto, unfolding(crate::specs::RecordFront::record_at))]
+pub fn record_at(text: &[u8]) -> Option<Front<'_>>
+    ensures { option_map front_shown result ≡ record_at text.now }
+{
+    let (word, rest) = split_at_byte(text, b' ')?;
+    let kind = kind_named(word)?;
+    let (digits, rest) = split_at_byte(rest, b' ')?;
+    let id = id_spelled(digits)?;
+    let (digits, rest) = split_at_byte(rest, b'\n')?;
+    let len = decimal(digits)?;
+    let (bytes, behind) = body_at(rest, len)?;
+    Some(Front {
+        kind,
+        id,
+        bytes,
+        behind,
+    })
+}
+
+// The text before the first such byte, and the text after it.
+fn split_at_byte(text: &[u8], byte: u8) -> Option<(&[u8], &[u8])>
+    ensures { option_map (λ r. (r.0.now, r.1.now)) result ≡ split_at_byte byte text.now }
+{
+    let end = memchr(byte, text)?;
+    Some((&text[..end], &text[end + 1..]))
+}
+
+// The id that 40 or 64 hex digits spell.
+fn id_spelled(digits: &[u8]) -> Option<ObjectId>
+    ensures { result ≡ result_ok (id_from_hex digits.now) }
+{
+    match digits.len() {
+        40 => ObjectId::from_digits(digits, gix_hash::Kind::Sha1),
+        64 => ObjectId::from_digits(digits, gix_hash::Kind::Sha256),
+        _ => None,
+    }
+}
+
+fn kind_named(word: &[u8]) -> Option<Kind>
+    ensures { result ≡ kind_named word.now }
+{
+    if word == b"commit".as_slice() {
+        return Some(Kind::Commit);
+    }
+    if word == b"tree".as_slice() {
+        return Some(Kind::Tree);
+    }
+    if word == b"blob".as_slice() {
+        return Some(Kind::Blob);
+    }
+    if word == b"tag".as_slice() {
+        return Some(Kind::Tag);
+    }
+    None
+}
+
+// The number that 1 to 10 decimal digits spell.
+fn decimal(digits: &[u8]) -> Option<usize>
+    ensures { result ≡ decimal digits.now }
+{
+    if digits.is_empty() || digits.len() > 10 {
+        return None;
+    }
+    let mut number = 0;
+    for digit in digits {
+        if !digit.is_ascii_digit() {
+            return None;
+        }
+        number = 10 * number + usize::from(digit - b'0');
+    }
+    Some(number)
+}
+
+// So many bytes, if a newline ends them, and the text after it.
+fn body_at(text: &[u8], len: usize) -> Option<(&[u8], &[u8])>
+    ensures { option_map (λ r. (r.0.now, r.1.now)) result ≡ body_at len text.now }
+{
+    let (bytes, rest) = text.split_at_checked(len)?;
+    let [b'\n', behind @ ..] = rest else {
+        return None;
+    };
+    Some((bytes, behind))
+}

@@ -1,0 +1,59 @@
+use super::*;
+use gix_hash::ObjectId;
+use gix_object::Kind;
+use gix_object::find::Find;
+use std::test::Fail;
+
+/// Two records of one id, and the record of another one.
+const RECORDS: &[u8] = b"\
+blob 1111111111111111111111111111111111111111 3\nold\n\
+tag 2222222222222222222222222222222222222222222222222222222222222222 0\n\n\
+tree 1111111111111111111111111111111111111111 4\nn\new\n";
+
+fn check_store(alloc: Global, store: &MemoryStore) -> Result<(), Fail> {
+    let mut buf = Vec::new(alloc);
+    let one = store.find_into(&ObjectId::Sha1([0x11; 20]), &mut buf);
+    if store.len() == 2 && one == Ok(Some(Kind::Tree)) && buf.as_slice() == b"n\new".as_slice() {
+        return Ok(());
+    }
+    Err(Fail::new(format_args!("{one:?} with {buf:?}")))
+}
+
+#[test]
+fn the_later_of_one_id_counts(rt: HostRuntime) -> Result<(), Fail> {
+    let alloc = rt.alloc();
+    check_store(alloc, &read(alloc, &mut { RECORDS })?)
+}
+
+#[test]
+fn bytes_are_read_as_a_reader_is(rt: HostRuntime) -> Result<(), Fail> {
+    let alloc = rt.alloc();
+    let mut input = Vec::new(alloc);
+    input.extend_from_slice(RECORDS)?;
+    check_store(alloc, &records_of(alloc, input)?)
+}
+
+#[test]
+fn the_first_bad_record_is_named(rt: HostRuntime) -> Result<(), Fail> {
+    for (cut, number) in [(48, 1), (51, 1), (53, 2), (123, 2), (125, 3), (176, 3)] {
+        let read = read(rt.alloc(), &mut RECORDS.get(..cut).unwrap_or_default());
+        let Err(error) = read else {
+            return Err(Fail::new(format_args!("{cut} bytes were read")));
+        };
+        assert_eq!(rt; error, Error::Record(number));
+    }
+    Ok(())
+}
+
+#[test]
+fn errors_have_a_text(rt: HostRuntime) -> Result<(), Fail> {
+    for (error, text) in [
+        (Error::Read, "read failed"),
+        (Error::Record(2), "bad record 2"),
+        (Error::Memory, "out of memory"),
+    ] {
+        let printed = error.to_string(rt.alloc())?;
+        assert_eq!(rt; printed.as_str(), text);
+    }
+    Ok(())
+}
