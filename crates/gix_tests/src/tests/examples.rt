@@ -1,17 +1,23 @@
 //! The examples of README.md and of the comments of the library, run.
 use gix_parts::graph::Position;
+use gix_parts::hashtable::IdSet;
 use gix_parts::object::Kind;
 use gix_parts::object::find::Find;
+use gix_rows::examples::files::Files;
+use gix_rows::examples::found::tree_and_time;
 use gix_rows::examples::packed::graph_of_two;
+use gix_rows::examples::recent::since;
 use gix_rows::examples::retry::Retry;
 use gix_rows::examples::stored::store_of_one;
 use gix_rows::examples::topological::lines_of_history;
+use gix_rows::examples::unknown::Unknown;
 use gix_rows::examples::unmerged::unmerged;
 use gix_rows::examples::{depth, levels, names};
-use gix_rows::history::{PLAIN, digit, id};
+use gix_rows::history::{PLAIN, digit, id, ids};
 use gix_rows::topo::{Telling, tell_walk};
-use gix_rows::trees::{SAMPLE, store, write_paths};
+use gix_rows::trees::{Order, SAMPLE, store, walk, write_paths};
 use gix_rows::words::{Stop, space};
+use gix_traverse::commit::Simple;
 use std::alloc::Global;
 use std::test::Fail;
 
@@ -92,5 +98,74 @@ fn the_sample_without_what_7_reaches(rt: HostRuntime) -> Result<(), Fail> {
     let mut told = String::new(rt.alloc());
     write_unmerged(rt.alloc(), &store, &mut told)?;
     assert_eq!(rt; told.as_str(), "8 6 5 3");
+    Ok(())
+}
+
+#[test]
+fn files_are_counted_without_a_folder(rt: HostRuntime) -> Result<(), Fail> {
+    let store = store(rt.alloc(), &SAMPLE)?;
+    for (without, count) in [("d", 2), ("e", 3)] {
+        let mut files = Files {
+            without: without.as_bytes(),
+            count: 0,
+        };
+        walk(rt.alloc(), Order::Depth, &store, id(10), &mut files)?;
+        assert_eq!(rt; files.count, count);
+    }
+    Ok(())
+}
+
+#[test]
+fn a_commit_is_found_with_its_tree_and_time(rt: HostRuntime) -> Result<(), Fail> {
+    let store = store_of_one(rt.alloc(), id(1))?;
+    let (tree, time) = tree_and_time(rt.alloc(), None, &store, id(1))?;
+    let printed = tree.to_string(rt.alloc())?;
+    assert_eq!(rt;
+        printed.as_str(),
+        "4b825dc642cb6eb9a060e54bf8d69288fbee4904"
+    );
+    assert_eq!(rt; time, 200);
+    let graph = graph_of_two(rt.alloc(), id(0), id(7), id(3))?;
+    let (tree, time) = tree_and_time(rt.alloc(), Some(&graph), &store, id(7))?;
+    assert_eq!(rt; tree, id(0));
+    assert_eq!(rt; time, 100);
+    Ok(())
+}
+
+fn write_unknown<F: Find + Drop>(alloc: Global, store: F, told: &mut String) -> Result<(), Stop> {
+    let mut known = IdSet::new(alloc);
+    known.insert(id(7))?;
+    known.insert(id(3))?;
+    for answer in Simple::filtered(alloc, [id(8)], store, Unknown { known })? {
+        space(told)?;
+        write!(told, "{}", digit(&answer?.id))?;
+    }
+    Ok(())
+}
+
+#[test]
+fn the_sample_without_known_commits(rt: HostRuntime) -> Result<(), Fail> {
+    let store = PLAIN.store(rt.alloc())?;
+    let mut told = String::new(rt.alloc());
+    write_unknown(rt.alloc(), &store, &mut told)?;
+    assert_eq!(rt; told.as_str(), "8 6 5");
+    Ok(())
+}
+
+fn write_recent<F: Find + Drop>(alloc: Global, store: F, told: &mut String) -> Result<(), Stop> {
+    let branches = ids(alloc, &[8, 2])?;
+    for answer in since(alloc, store, branches, 4)? {
+        space(told)?;
+        write!(told, "{}", digit(&answer?.id))?;
+    }
+    Ok(())
+}
+
+#[test]
+fn the_first_parents_of_recent_branches(rt: HostRuntime) -> Result<(), Fail> {
+    let store = PLAIN.store(rt.alloc())?;
+    let mut told = String::new(rt.alloc());
+    write_recent(rt.alloc(), &store, &mut told)?;
+    assert_eq!(rt; told.as_str(), "8 6 5 3 1");
     Ok(())
 }
