@@ -3,6 +3,7 @@ use crate::history::digit;
 use gix_parts::graph::GraphError;
 use gix_parts::object::decode;
 use gix_parts::object::find::existing_iter;
+use gix_traverse::commit::{simple, topo};
 use std::alloc::AllocError;
 use thiserror::Error;
 
@@ -33,6 +34,24 @@ impl From<GraphError> for Stop {
     fn from(error: GraphError) -> Stop {
         match error {
             GraphError::Memory => Stop::Memory,
+            _ => Stop::Row,
+        }
+    }
+}
+
+impl From<simple::Error> for Stop {
+    fn from(error: simple::Error) -> Stop {
+        match error {
+            simple::Error::Memory => Stop::Memory,
+            _ => Stop::Row,
+        }
+    }
+}
+
+impl From<topo::Error> for Stop {
+    fn from(error: topo::Error) -> Stop {
+        match error {
+            topo::Error::Memory => Stop::Memory,
             _ => Stop::Row,
         }
     }

@@ -5,10 +5,10 @@
 #[cfg(test)]
 mod tests;
 
+use gix_calls::calls;
 use gix_rows::history::By;
 use gix_rows::table::Table;
 use gix_rows::words::Stop;
-use gix_rows::{calls, simple, topo, trees};
 use std::io;
 
 fn main(rt: HostRuntime) -> io::Result<()> {
@@ -17,19 +17,19 @@ fn main(rt: HostRuntime) -> io::Result<()> {
 
 fn write_all(rt: &HostRuntime) -> io::Result<()> {
     write_all_simple(rt)?;
-    write_walks(rt, "Topo", "orders", topo::orders::tables())?;
-    write_walks(rt, "Topo", "counts", topo::counts::tables())?;
-    write_trees(rt, "calls", trees::calls::tables())?;
-    write_trees(rt, "recorded", trees::recorded::tables())?;
+    write_walks(rt, "Topo", "orders", gix_topo_rows::orders::tables())?;
+    write_walks(rt, "Topo", "counts", gix_topo_rows::counts::tables())?;
+    write_trees(rt, "calls", gix_tree_rows::calls::tables())?;
+    write_trees(rt, "recorded", gix_tree_rows::recorded::tables())?;
     write_calls(rt, &calls::CALLS)
 }
 
 fn write_all_simple(rt: &HostRuntime) -> io::Result<()> {
-    write_walks(rt, "Simple", "breadth", simple::breadth::tables())?;
-    write_walks(rt, "Simple", "faults", simple::faults::tables())?;
-    write_walks(rt, "Simple", "times", simple::times::tables())?;
-    write_walks(rt, "Simple", "hiding", simple::hiding::tables())?;
-    write_walks(rt, "Simple", "graphs", simple::graphs::tables())
+    write_walks(rt, "Simple", "breadth", gix_simple_rows::breadth::tables())?;
+    write_walks(rt, "Simple", "faults", gix_simple_rows::faults::tables())?;
+    write_walks(rt, "Simple", "times", gix_simple_rows::times::tables())?;
+    write_walks(rt, "Simple", "hiding", gix_simple_rows::hiding::tables())?;
+    write_walks(rt, "Simple", "graphs", gix_simple_rows::graphs::tables())
 }
 
 /// Ends a line: the answers, each line of them behind `|`, and why it ends too early.
@@ -67,7 +67,11 @@ fn write_walks<T: Table>(
     Ok(())
 }
 
-fn write_trees(rt: &HostRuntime, name: &str, tables: &[trees::Table<'_>]) -> io::Result<()> {
+fn write_trees(
+    rt: &HostRuntime,
+    name: &str,
+    tables: &[gix_tree_rows::Table<'_>],
+) -> io::Result<()> {
     for (place, table) in tables.iter().enumerate() {
         for (case, row) in table.cases.iter().enumerate() {
             let mut told = String::new(rt.alloc());

@@ -1,8 +1,7 @@
-//! Walks by the tables of `gix_rows`, compared with what is wanted; and the parts of the library, called one by one.
+//! The walks by their tables, compared with what is wanted; and the calls and examples, each made once.
 mod calls;
 mod examples;
 mod names;
-mod parts;
 mod simple;
 mod topo;
 mod trees;

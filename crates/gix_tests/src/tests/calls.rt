@@ -1,9 +1,9 @@
 //! Each call that asks for memory, and builders that are given their choices in parts.
+use gix_calls::calls::{CALLS, Call};
 use gix_parts::object::find::Find;
-use gix_rows::calls::{CALLS, Call};
 use gix_rows::history::{PLAIN, id};
-use gix_rows::topo::{Telling, tell_walk};
 use gix_rows::words::Stop;
+use gix_topo_rows::{Telling, tell_walk};
 use gix_traverse::commit::Parents;
 use gix_traverse::commit::topo::{Builder, Sorting};
 use std::alloc::Global;

@@ -1,23 +1,23 @@
 //! The examples of README.md and of the comments of the library, run.
+use gix_calls::examples::files::Files;
+use gix_calls::examples::found::tree_and_time;
+use gix_calls::examples::packed::graph_of_two;
+use gix_calls::examples::recent::since;
+use gix_calls::examples::retry::Retry;
+use gix_calls::examples::stored::store_of_one;
+use gix_calls::examples::topological::lines_of_history;
+use gix_calls::examples::unknown::Unknown;
+use gix_calls::examples::unmerged::unmerged;
+use gix_calls::examples::{depth, levels, names};
 use gix_parts::graph::Position;
 use gix_parts::hashtable::IdSet;
 use gix_parts::object::Kind;
 use gix_parts::object::find::Find;
-use gix_rows::examples::files::Files;
-use gix_rows::examples::found::tree_and_time;
-use gix_rows::examples::packed::graph_of_two;
-use gix_rows::examples::recent::since;
-use gix_rows::examples::retry::Retry;
-use gix_rows::examples::stored::store_of_one;
-use gix_rows::examples::topological::lines_of_history;
-use gix_rows::examples::unknown::Unknown;
-use gix_rows::examples::unmerged::unmerged;
-use gix_rows::examples::{depth, levels, names};
 use gix_rows::history::{PLAIN, digit, id, ids};
-use gix_rows::topo::{Telling, tell_walk};
-use gix_rows::trees::{Order, SAMPLE, store, walk, write_paths};
 use gix_rows::words::{Stop, space};
+use gix_topo_rows::{Telling, tell_walk};
 use gix_traverse::commit::Simple;
+use gix_tree_rows::{Order, SAMPLE, store, walk, write_paths};
 use std::alloc::Global;
 use std::test::Fail;
 

@@ -4,7 +4,7 @@ mod graphs;
 
 use crate::tests::check;
 use gix_rows::history::{EMPTY, History, id, ids};
-use gix_rows::simple::{ALL, BY_TIME, Wish, breadth, hiding, times};
+use gix_simple_rows::{ALL, BY_TIME, Wish, breadth, hiding, times};
 use gix_traverse::commit::{Info, ParentIds};
 use std::alloc::{AllocError, Global};
 use std::test::Fail;
@@ -12,10 +12,10 @@ use std::test::Fail;
 #[test]
 fn rows(rt: HostRuntime) -> Result<(), Fail> {
     check(rt.alloc(), "breadth", breadth::tables())?;
-    check(rt.alloc(), "faults", gix_rows::simple::faults::tables())?;
+    check(rt.alloc(), "faults", gix_simple_rows::faults::tables())?;
     check(rt.alloc(), "times", times::tables())?;
     check(rt.alloc(), "hiding", hiding::tables())?;
-    check(rt.alloc(), "graphs", gix_rows::simple::graphs::tables())
+    check(rt.alloc(), "graphs", gix_simple_rows::graphs::tables())
 }
 
 /// Commit n with these parents, as it is given.

@@ -5,7 +5,7 @@ use crate::tests::{check, check_print, check_rows};
 use gix_parts::object::decode;
 use gix_parts::object::find::existing_iter;
 use gix_rows::history::PLAIN;
-use gix_rows::topo::{OF_SAMPLE, Table, orders};
+use gix_topo_rows::{OF_SAMPLE, Table, orders};
 use gix_traverse::commit::topo::{Error, Sorting};
 use std::alloc::{AllocError, Global};
 use std::test::Fail;
@@ -13,7 +13,7 @@ use std::test::Fail;
 #[test]
 fn rows(rt: HostRuntime) -> Result<(), Fail> {
     check(rt.alloc(), "orders", orders::tables())?;
-    check(rt.alloc(), "counts", gix_rows::topo::counts::tables())
+    check(rt.alloc(), "counts", gix_topo_rows::counts::tables())
 }
 
 #[test]

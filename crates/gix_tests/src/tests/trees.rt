@@ -5,11 +5,11 @@ use gix_parts::object::find::{Find, existing_iter};
 use gix_parts::object::memory::MemoryStore;
 use gix_parts::object::{Kind, decode};
 use gix_rows::history::{id, long_id};
-use gix_rows::trees::{Order, SAMPLE, calls, recorded, store, walk, write_end, write_paths};
 use gix_traverse::tree::Recorder;
 use gix_traverse::tree::breadthfirst::Error;
 use gix_traverse::tree::depthfirst::{State, depthfirst};
 use gix_traverse::tree::recorder::Location;
+use gix_tree_rows::{Order, SAMPLE, calls, recorded, store, walk, write_end, write_paths};
 use std::alloc::{AllocError, Global};
 use std::test::Fail;
 

@@ -4,7 +4,7 @@ use gix_parts::object::find::existing_iter;
 use gix_parts::object::memory::MemoryStore;
 use gix_parts::object::{Kind, decode};
 use gix_rows::history::{EMPTY, History, TREE, id, text};
-use gix_rows::simple::{ALL, Detail, Wish};
+use gix_simple_rows::{ALL, Detail, Wish};
 use gix_traverse::commit::Parents;
 use gix_traverse::commit::simple::{CommitTimeOrder, Error, Hidden, Sorting};
 use std::alloc::Global;

@@ -1,9 +1,9 @@
 //! How far topological walks count by rows with a fault in each place, and by rows that don't agree with the store.
 use gix_rows::history::{By, FULL, Rows};
-use gix_rows::simple::graphs::{PLACES, WRONG};
 use gix_rows::table::Table as _;
-use gix_rows::topo::counts::{COUNTED_DATES, COUNTED_LINES};
-use gix_rows::topo::{Case, DATES, FIRST, LINES, OF_SAMPLE, Table, Way};
+use gix_simple_rows::graphs::{PLACES, WRONG};
+use gix_topo_rows::counts::{COUNTED_DATES, COUNTED_LINES};
+use gix_topo_rows::{Case, DATES, FIRST, LINES, OF_SAMPLE, Table, Way};
 use std::alloc::Global;
 use std::test::Fail;
 

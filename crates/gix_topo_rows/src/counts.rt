@@ -1,6 +1,6 @@
 //! Topological walks by the rows of a commit-graph: how far down they count, and what they tell.
-use crate::history::{BY_ROWS, EMPTY, FULL, History, Rows, SKEWED, SKEWED_COMMITS};
-use crate::topo::{DATES, FIRST, LINES, OF_SAMPLE, Table, Telling, Way};
+use crate::{DATES, FIRST, LINES, OF_SAMPLE, Table, Telling, Way};
+use gix_rows::history::{BY_ROWS, EMPTY, FULL, History, Rows, SKEWED, SKEWED_COMMITS};
 
 /// Rows of the lower commits of the sample.
 const LOW: Rows<'static> = Rows {

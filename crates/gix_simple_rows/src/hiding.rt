@@ -1,6 +1,6 @@
 //! Walks with hidden tips.
-use crate::history::{BY_ALL, EMPTY, History, Odd, PLAIN, SKEWED, SKEWED_COMMITS};
-use crate::simple::{ALL, AS_MET, Asked, BREADTH, BY_TIME, OF_SAMPLE, SINCE_4, Table, Wish};
+use crate::{ALL, AS_MET, Asked, BREADTH, BY_TIME, OF_SAMPLE, SINCE_4, Table, Wish};
+use gix_rows::history::{BY_ALL, EMPTY, History, Odd, PLAIN, SKEWED, SKEWED_COMMITS};
 use gix_traverse::commit::Parents;
 
 /// The tables. A caller's proof sees nothing of what is in them.

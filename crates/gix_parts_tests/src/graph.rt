@@ -2,10 +2,19 @@
 use ParentPlace::{At, Fault};
 use gix_parts::graph::{Graph, GraphError, ParentFault, ParentPlace, Place, Row};
 use gix_parts::hash::ObjectId;
-use gix_rows::history::{id, long_id};
 use std::alloc::Global;
 use std::process::Abort;
 use std::test::Fail;
+
+/// The id of this hex digit, forty times.
+fn id(digit: u8) -> ObjectId {
+    ObjectId::Sha1([digit.wrapping_mul(17); 20])
+}
+
+/// The id of this hex digit, sixty-four times.
+fn long_id(digit: u8) -> ObjectId {
+    ObjectId::Sha256([digit.wrapping_mul(17); 32])
+}
 
 /// A row: the digit of its id, its generation, which is its time, and its parents.
 type Line<'a> = (u8, u32, &'a [ParentPlace]);

@@ -1,16 +1,18 @@
 //! Trees to walk, their walks, and a delegate that writes its calls down.
+#![tactic(auto)]
+
 pub mod calls;
 pub mod recorded;
 
-use crate::history::{BY_STORE, By, Failing, ROOM, digit, id};
-use crate::table;
-use crate::words::{Stop, write_broken, write_not_found};
 use bstr::BStr;
 use gix_parts::hash::ObjectId;
 use gix_parts::object::Kind;
 use gix_parts::object::find::Find;
 use gix_parts::object::memory::MemoryStore;
 use gix_parts::object::tree::EntryRef;
+use gix_rows::history::{BY_STORE, By, Failing, ROOM, digit, id};
+use gix_rows::table;
+use gix_rows::words::{Stop, write_broken, write_not_found};
 use gix_traverse::tree::Recorder;
 use gix_traverse::tree::breadthfirst::{self, Error, breadthfirst};
 use gix_traverse::tree::depthfirst::{State, depthfirst};

@@ -1,7 +1,7 @@
 //! The calls of the walks of trees on a delegate.
-use crate::trees::Order::{Depth, Levels};
-use crate::trees::Teller::Calls;
-use crate::trees::{OF_SAMPLE, ROOT, Table};
+use crate::Order::{Depth, Levels};
+use crate::Teller::Calls;
+use crate::{OF_SAMPLE, ROOT, Table};
 use gix_parts::object::Kind;
 use gix_traverse::tree::visit::Action;
 use std::ops::ControlFlow;

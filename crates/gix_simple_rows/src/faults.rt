@@ -1,6 +1,6 @@
 //! Breadth-first walks that meet faults.
-use crate::history::{EMPTY, History, Odd, PLAIN};
-use crate::simple::{ALL, AS_MET, OF_SAMPLE, Table, Wish};
+use crate::{ALL, AS_MET, OF_SAMPLE, Table, Wish};
+use gix_rows::history::{EMPTY, History, Odd, PLAIN};
 
 /// The tables. A caller's proof sees nothing of what is in them.
 pub fn tables() -> &'static [Table<'static>] {

@@ -1,20 +1,22 @@
 //! Walks by parent links, written as text: a word for each answer.
+#![tactic(auto)]
+
 pub mod breadth;
 pub mod faults;
 pub mod graphs;
 pub mod hiding;
 pub mod times;
 
-use crate::history::{
-    BY_STORE, By, FULL, Failing, History, PLAIN, ROOM, Rows, TREE, digit, id, ids, long_id, text,
-};
-use crate::table;
-use crate::words::{Stop, space, write_broken, write_not_found};
 use gix_parts::graph::Graph;
 use gix_parts::hash::ObjectId;
 use gix_parts::object::commit::Token;
 use gix_parts::object::decode;
 use gix_parts::object::find::Find;
+use gix_rows::history::{
+    BY_STORE, By, FULL, Failing, History, PLAIN, ROOM, Rows, TREE, digit, id, ids, long_id, text,
+};
+use gix_rows::table;
+use gix_rows::words::{Stop, space, write_broken, write_not_found};
 use gix_traverse::commit::simple::{CommitTimeOrder, Error, Hidden, Sorting};
 use gix_traverse::commit::{Filter, Info, Parents, Predicate, Simple, Unfiltered};
 use std::alloc::{AllocError, Global};
@@ -114,15 +116,6 @@ pub const AS_MET: [Sorting; 2] = [BREADTH, BREADTH];
 
 /// Newest first.
 pub const BY_TIME: [Sorting; 2] = [BREADTH, NEWEST];
-
-impl From<Error> for Stop {
-    fn from(error: Error) -> Stop {
-        match error {
-            Error::Memory => Stop::Memory,
-            _ => Stop::Row,
-        }
-    }
-}
 
 /// Writes a fault as a word. One in what hidden tips reach begins with `hidden`. Out of memory stays out of memory.
 fn write_fault(told: &mut String, error: &Error) -> Result<(), AllocError> {

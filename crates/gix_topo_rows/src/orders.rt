@@ -1,6 +1,6 @@
 //! Topological walks without a commit-graph: their orders, and their faults.
-use crate::history::{BY_ROWS, EMPTY, History, Odd, PLAIN};
-use crate::topo::{Asked, DATES, FIRST, LINES, OF_SAMPLE, Table, Telling, Way};
+use crate::{Asked, DATES, FIRST, LINES, OF_SAMPLE, Table, Telling, Way};
+use gix_rows::history::{BY_ROWS, EMPTY, History, Odd, PLAIN};
 use gix_traverse::commit::Parents;
 use gix_traverse::commit::topo::Sorting;
 

@@ -1,13 +1,15 @@
 //! Topological walks, written in words; and their faults.
+#![tactic(auto)]
+
 pub mod counts;
 pub mod orders;
 
-use crate::history::{BY_STORE, By, FULL, Failing, History, PLAIN, ROOM, Rows, digit, id, ids};
-use crate::table;
-use crate::words::{Stop, space, write_broken, write_not_found};
 use gix_parts::graph::Graph;
 use gix_parts::hash::ObjectId;
 use gix_parts::object::find::Find;
+use gix_rows::history::{BY_STORE, By, FULL, Failing, History, PLAIN, ROOM, Rows, digit, id, ids};
+use gix_rows::table;
+use gix_rows::words::{Stop, space, write_broken, write_not_found};
 use gix_traverse::commit::topo::{Builder, Error, Sorting, Topo};
 use gix_traverse::commit::{Filter, Info, Parents, Predicate, Unfiltered};
 use std::alloc::{AllocError, Global};
@@ -85,15 +87,6 @@ pub const OF_SAMPLE: Table<'static> = Table {
     way: LINES,
     cases: &[],
 };
-
-impl From<Error> for Stop {
-    fn from(error: Error) -> Stop {
-        match error {
-            Error::Memory => Stop::Memory,
-            _ => Stop::Row,
-        }
-    }
-}
 
 impl Way {
     /// A builder of this way from the tips to the ends.

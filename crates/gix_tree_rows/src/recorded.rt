@@ -1,7 +1,7 @@
 //! What a recorder holds behind a walk of trees.
-use crate::trees::Order::{Depth, Levels};
-use crate::trees::Teller::Paths;
-use crate::trees::{D, OF_SAMPLE, PATHS, ROOT, Table};
+use crate::Order::{Depth, Levels};
+use crate::Teller::Paths;
+use crate::{D, OF_SAMPLE, PATHS, ROOT, Table};
 use gix_parts::object::Kind;
 use gix_traverse::tree::recorder::Location;
 

@@ -1,6 +1,6 @@
 //! Breadth-first walks over sound histories.
-use crate::history::{BY_ALL, EMPTY, History, PLAIN};
-use crate::simple::{ALL, AS_MET, Asked, Detail, OF_SAMPLE, Table, Wish};
+use crate::{ALL, AS_MET, Asked, Detail, OF_SAMPLE, Table, Wish};
+use gix_rows::history::{BY_ALL, EMPTY, History, PLAIN};
 
 /// The tables. A caller's proof sees nothing of what is in them.
 pub fn tables() -> &'static [Table<'static>] {

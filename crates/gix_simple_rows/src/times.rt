@@ -1,8 +1,8 @@
 //! Walks by commit time, cutoffs, first parents, and the text of the commit last given.
-use crate::history::{EMPTY, History, Odd, PLAIN};
-use crate::simple::{
+use crate::{
     ALL, AS_MET, Asked, BREADTH, BY_TIME, Detail, NEWEST, OF_SAMPLE, OLDEST, SINCE_4, Table, Wish,
 };
+use gix_rows::history::{EMPTY, History, Odd, PLAIN};
 use gix_traverse::commit::Parents;
 use gix_traverse::commit::simple::{CommitTimeOrder, Sorting};
 

@@ -1,6 +1,6 @@
 //! Walks by the rows of a commit-graph, made of rows and read from their bytes.
-use crate::history::{BY_ROWS, EMPTY, FULL, History, PLAIN, Rows};
-use crate::simple::{ALL, AS_MET, BY_TIME, Detail, OF_SAMPLE, Table, Wish};
+use crate::{ALL, AS_MET, BY_TIME, Detail, OF_SAMPLE, Table, Wish};
+use gix_rows::history::{BY_ROWS, EMPTY, FULL, History, PLAIN, Rows};
 use gix_traverse::commit::Parents;
 
 /// Rows of some commits of the sample.

@@ -1,8 +1,4 @@
 //! Each call that asks for memory, made once; where it is refused, what was there before is looked at.
-use crate::history::{By, EMPTY, FULL, History, PLAIN, ROOM, digit, id, ids};
-use crate::topo::{Telling, tell_walk};
-use crate::trees::{D, ROOT, store};
-use crate::words::{Stop, space, write_broken, write_not_found};
 use bstr::{BStr, BString};
 use gix_parts::hashtable::{IdMap, IdSet};
 use gix_parts::object::Kind;
@@ -11,12 +7,16 @@ use gix_parts::object::find::{self, Find};
 use gix_parts::object::memory::MemoryStore;
 use gix_parts::object::tree::{EntryMode, EntryRef};
 use gix_parts::queue::PriorityQueue;
+use gix_rows::history::{By, EMPTY, FULL, History, PLAIN, ROOM, digit, id, ids};
+use gix_rows::words::{Stop, space, write_broken, write_not_found};
+use gix_topo_rows::{Telling, tell_walk};
 use gix_traverse::commit::topo::Builder;
 use gix_traverse::commit::{self, Either, Info, ParentIds};
 use gix_traverse::tree::Recorder;
 use gix_traverse::tree::depthfirst::State;
 use gix_traverse::tree::recorder::Entry;
 use gix_traverse::tree::visit::Visit;
+use gix_tree_rows::{D, ROOT, store};
 use std::alloc::{AllocError, Global};
 
 /// A call that asks for memory.
