@@ -1,17 +1,7 @@
 //! Lists the commits that some commits reach, or the files of a tree, from a stream of a repository's objects.
 #![tactic(auto)]
 
-mod ahead;
-mod commits;
-mod digits;
-mod fault;
-mod files;
-pub mod laws;
-mod output;
-mod run;
-mod words;
-
-use fault::Fault;
+use gix_commands::{Fault, run};
 use std::process::ExitCode;
 use std::{env, io};
 
@@ -30,7 +20,7 @@ fn answer(rt: &HostRuntime) -> Result<(), Fault> {
     let mut arguments = env::args(rt).map_err(fault_of_arguments)?;
     let _name = arguments.next();
     let words: Vec<String> = arguments.collect(rt.alloc())?;
-    run::run(rt.alloc(), &words, &mut rt.stdin(), &mut rt.stdout())
+    run(rt.alloc(), &words, &mut rt.stdin(), &mut rt.stdout())
 }
 
 // Arguments that aren't UTF-8 are no command.

@@ -1,0 +1,45 @@
+-- What a run of `ahead` writes, by what commits reach.
+use Rattle.std.specs.Prelude.{◌≡◌, ℕ, suc, List, [], ◌∷◌, map, length, Option, Ok, Contains, ◌↔◌}
+use Rattle.std.specs.Io.KnownBytes.{Appends}
+use Rattle.std.proofs.Common.{refl, sym, ap, ◌∙◌}
+use Rattle.gix_hash.specs.declared.ObjectId.{ObjectId}
+use Rattle.gix_object.specs.Object.{Objects}
+use Rattle.gix_revwalk.specs.declared.Info.{Info}
+use Rattle.gix_simple.specs.declared.Sorting.TheVariants as sorting
+use Rattle.gix_revwalk.specs.Ids.{AreDistinct}
+use Rattle.gix_topo.specs.Walk.{IsNumberOf}
+use Rattle.gix_commands.specs.Ahead.{Counts, Draws, ahead_line}
+use Rattle.gix_commands.specs.Histories.{IsShown, AheadCounts, DrawsDifference}
+use Rattle.gix_records.specs.Records.{stored}
+use Rattle.gix_commands.specs.Run.{Serves, counted}
+use Rattle.gix_commands.specs.Walked.{Answers, IsWalkFault, Ends, finished}
+use Rattle.gix_commands.specs.Words.{Ahead}
+use Rattle.gix_commands.proofs.CommitRuns.{served_so}
+use Rattle.gix_commands.proofs.SimpleRuns.{each_unhidden}
+
+length-map : (infos : List Info) → length (map (λ info. info.id) infos) ≡ length infos
+length-map [] = refl
+length-map (info ∷ infos) = ap (λ n. suc n) (length-map infos)
+
+module _ (objects : Objects) (tip hidden : ObjectId) where
+  -- a walk that ended well gave the difference
+  difference : (infos : List Info) → Draws objects tip hidden infos (Ok tt) → AreDistinct (map (λ info. info.id) infos) × ((i : ObjectId) → Contains (map (λ info. info.id) infos) i ↔ IsShown objects (tip ∷ []) (hidden ∷ []) i)
+  difference infos d = of_ends d.ends
+    where
+      of_ends : Ends Answers IsWalkFault d.walk infos (Ok tt) → AreDistinct (map (λ info. info.id) infos) × ((i : ObjectId) → Contains (map (λ info. info.id) infos) i ↔ IsShown objects (tip ∷ []) (hidden ∷ []) i)
+      of_ends (finished new h) = each_unhidden objects sorting.BreadthFirst (tip ∷ []) (hidden ∷ []) d.walk tt d.starts infos h.0 new h.1 h.2 (λ e. cc)
+
+  number_of : (n : ℕ) → Counts objects tip hidden n → IsNumberOf (IsShown objects (tip ∷ []) (hidden ∷ [])) n
+  number_of n c =
+      let d = difference c.0 c.1 in
+      record { ids = map (λ info. info.id) c.0; distinct = d.0; each = λ i m. (d.1 i).0 m; all = λ i s. (d.1 i).1 s; number = length-map c.0 ∙ sym c.2 }
+
+pub draws_difference : DrawsDifference
+draws_difference = difference
+
+counted_so : (objects : Objects) (one other : ObjectId) (old new : Option (List ℕ)) → Serves objects old (Ahead one other) (Ok tt) new
+    → (ahead behind : ℕ) × IsNumberOf (IsShown objects (one ∷ []) (other ∷ [])) ahead × IsNumberOf (IsShown objects (other ∷ []) (one ∷ [])) behind × Appends old new (ahead_line ahead behind)
+counted_so objects one other old new (counted ahead behind a b written) = (ahead, behind, number_of objects one other ahead a, number_of objects other one behind b, written)
+
+pub ahead_counts : AheadCounts
+ahead_counts words input records one other old new asked are runs = counted_so (stored records) one other old new (served_so words input records (Ahead one other) old new asked are runs)

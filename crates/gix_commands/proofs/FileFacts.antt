@@ -1,0 +1,49 @@
+-- The lines of the entries of a tree.
+use Rattle.std.specs.Prelude.{◌≡◌, ℕ, ◌-◌, ◌^◌, List, [], ◌∷◌, ◌++◌, false, Option, Some, Result, Ok, Err, IfSome, IfErr, OnOk}
+use Rattle.std.specs.Fmt.{digits, padded_integral, char_count, format_spec, ◌++?◌}
+use Rattle.std.specs.Io.KnownBytes.{Appends}
+use Rattle.std.proofs.Common.{sym, ap, subst, ◌∙◌, append_assoc}
+use Rattle.std.proofs.Math.Nat.{sub-zero}
+use Rattle.std.proofs.lemmas.List.{append-nil}
+use Rattle.gix_hash.specs.declared.ObjectId.{ObjectId}
+use Rattle.gix_hash.specs.Id.{hex_of}
+use Rattle.gix_object.specs.Object.{Objects}
+use Rattle.gix_tree.specs.declared.breadthfirst.Error.{Error}
+use Rattle.gix_tree.specs.Recorder.{Record}
+use Rattle.gix_tree.specs.Tracked.{Tracked}
+use Rattle.gix_commands.specs.declared.fault.Fault.{Fault}
+use Rattle.gix_commands.specs.declared.fault.Fault.TheVariants as fault
+use Rattle.gix_commands.specs.Faults.{fault_of_tree_walk}
+use Rattle.gix_commands.specs.Files.{RecordsTree, six_octal_digits, file_line, AreLinesOf, IsTreeFault}
+use Rattle.gix_commands.specs.Run.{Serves, listed, not_listed, unserved, not_written}
+use Rattle.gix_commands.specs.Words.{Files}
+use Rattle.gix_commands.proofs.MemoryFaults.{failed_so}
+
+-- six places, filled up with zeros
+abbrev pub in_octal : ℕ → List ℕ
+in_octal n = padded_integral (format_spec 32 0 4 6 (2 ^ 64 - 1)) false [] (digits 8 false n)
+
+in_octal_is : (n : ℕ) → in_octal n ≡ six_octal_digits n
+unfolding padded_integral char_count
+in_octal_is n = simp (sub-zero, append-nil)
+
+-- a mode and a space
+pub mode_text : (shown : Option (List ℕ)) (n : ℕ) (text : List ℕ) → shown ≡ Some (in_octal n) → IfSome (shown ++? Some (32 ∷ [])) (λ bs. text ≡ bs) → text ≡ six_octal_digits n ++ 32 ∷ []
+mode_text shown n text is h = subst (λ (o : Option (List ℕ)). IfSome (o ++? Some (32 ∷ [])) (λ bs. text ≡ bs)) (is ∙ ap (λ x. Some x) (in_octal_is n)) h
+
+-- the mode, the id, the path and a newline were added
+pub line_added : (r : Record) (old first second third new : List ℕ) → first ≡ old ++ (six_octal_digits r.mode ++ 32 ∷ []) → second ≡ first ++ (hex_of r.id ++ 32 ∷ []) → third ≡ second ++ r.path → new ≡ third ++ 10 ∷ [] → new ≡ old ++ file_line r
+line_added r old first second third new a b c d = rw (d, c, b, a) (simp append_assoc)
+
+module _ (objects : Objects) (old : Option (List ℕ)) (tree : ObjectId) where
+  walk_failed : (e : Fault) → (recorder : Tracked) × (why : Error) × RecordsTree objects tree recorder (Err why) × (e ≡ fault_of_tree_walk why) → Serves objects old (Files tree) (Err e) old
+  walk_failed e h = subst (λ (f : Fault). Serves objects old (Files tree) (Err f) old) (sym h.3) (not_listed h.0 h.1 h.2)
+
+  -- nothing was written
+  pub files_failed : (result : Result (Unit {0}) Fault) (e : Fault) → result ≡ Err e → IsTreeFault objects tree e → Serves objects old (Files tree) result old
+  files_failed result e same h = failed_so (λ r. Serves objects old (Files tree) r old) unserved result e same (λ other. walk_failed e (h other))
+
+  -- the lines were written, or the writer failed
+  pub files_written : (new : Option (List ℕ)) (lines : List ℕ) (result : Result (Unit {0}) Fault) → AreLinesOf objects tree lines → OnOk result (Appends old new lines) → IfErr result (λ e. e ≡ fault.Write) → Serves objects old (Files tree) result new
+  files_written new lines (Ok done) are h k = listed are.0 are.1 (subst (Appends old new) are.2 h)
+  files_written new lines (Err e) are h k = subst (λ (f : Fault). Serves objects old (Files tree) (Err f) new) (sym k) not_written

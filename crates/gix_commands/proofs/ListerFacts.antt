@@ -1,0 +1,105 @@
+-- A lister adds the lines of what a recorder would record.
+use Rattle.std.specs.Prelude.{◌≡◌, ℕ, List, [], ◌∷◌, ◌++◌, Option, Some, None, Result, Ok, Err, IfErr}
+use Rattle.std.proofs.Common.{refl, sym, ap, subst, ◌∙◌}
+use Rattle.std.proofs.lemmas.List.{append-nil}
+use Rattle.std.proofs.lemmas.Grind.{flat_map-append}
+use Rattle.gix_hash.specs.declared.ObjectId.{ObjectId}
+use Rattle.gix_object.specs.Object.{Objects}
+use Rattle.gix_object.specs.TreeItems.{TreeEntry}
+use Rattle.gix_tree.specs.declared.breadthfirst.Error.{Error}
+use Rattle.gix_tree.specs.declared.recorder.Location.{Location}
+use Rattle.gix_tree.specs.declared.recorder.Location.TheVariants.{Path, FileName}
+use Rattle.gix_tree.specs.Delegate.{Action, Call, PushPath, PopPath, PushBack, PopBack, PopFront, VisitTree, VisitNontree, Refused, Run}
+use Rattle.gix_tree.specs.Recorder.{Record, Recorded, IsRecorderAnswer, recorded, with_record}
+use Rattle.gix_tree.specs.Tracked.{Tracked, Tracks, fresh_recorder}
+use Rattle.gix_tree.specs.Walk.{DepthFirst}
+use Rattle.gix_commands.specs.declared.fault.Fault.{Fault}
+use Rattle.gix_commands.specs.Faults.{fault_of_tree_walk}
+use Rattle.gix_commands.specs.Files.{RecordsTree, file_line, file_lines, AreLinesOf, IsTreeFault}
+use Rattle.gix_commands.specs.Lister.{Listed, Moves, AddsLine, Lists, fresh_lister}
+use Rattle.gix_commands.specs.Walked.{never_faulty}
+
+abbrev holding : Recorded → List Record → Recorded
+holding r records = record r { records = records }
+
+-- the recorder, with these records
+abbrev tracking : Tracked → List Record → Tracked
+tracking t records = record t { held = holding t.held records }
+
+by_location : (P : Option Location → Type 0) → P (Some Path) → P (Some FileName) → P None → (l : Option Location) → P l
+by_location P a b c (Some Path) = a
+by_location P a b c (Some FileName) = b
+by_location P a b c None = c
+
+lines_last : (records : List Record) (r : Record) → file_lines (records ++ r ∷ []) ≡ file_lines records ++ file_line r
+lines_last records r = flat_map-append file_line records (r ∷ []) ∙ ap (λ x. file_lines records ++ x) (append-nil (file_line r))
+
+-- a recorder with these records does what the lister does, and holds the records of its lines
+abbrev Follows : Listed → List Record → Call → Listed → Type 0
+Follows old records call new = (more : List Record) × Tracks (tracking old.recorder records) call (tracking new.recorder more) × (new.lines ≡ file_lines more)
+
+module _ (old : Listed) (records : List Record) (lines : old.lines ≡ file_lines records) (new : Listed) where
+  abbrev held : Recorded
+  held = old.recorder.held
+
+  abbrev location : Option Location
+  location = old.recorder.location
+
+  -- whatever it tracks, a call that follows the path leaves any records
+  moves : (call : Call) → ((l : Option Location) → holding (recorded l held call) records ≡ recorded l (holding held records) call) → Moves old call new → Follows old records call new
+  moves call keeps h = (records, (h.0.0, (h.0.1.0, ap (λ r. holding r records) h.0.1.1 ∙ keeps location)), h.1 ∙ lines)
+
+  -- and a visit adds one
+  adds : (call : Call) (e : TreeEntry) (answer : Action) → ((l : Option Location) → with_record (holding held records) e ≡ recorded l (holding held records) call) → IsRecorderAnswer call → AddsLine old e answer new → Follows old records call new
+  adds call e answer shows answered h =
+      let one : Record = record { mode = e.mode; path = held.path; id = e.id } in (
+        records ++ one ∷ [],
+        (ap (λ l. l.recorder.location) h.1, (answered, ap (λ l. holding l.recorder.held (records ++ one ∷ [])) h.1 ∙ shows location)),
+        ap (λ l. l.lines) h.1 ∙ ap (λ x. x ++ file_line one) lines ∙ sym (lines_last records one),
+      )
+
+  follow : (call : Call) → Lists old call new → Follows old records call new
+  follow (PushPath name) h = moves (PushPath name) (by_location _ refl refl refl) h
+  follow PopPath h = moves PopPath (by_location _ refl refl refl) h
+  follow (PushBack name) h = moves (PushBack name) (by_location _ refl refl refl) h
+  follow PopBack h = moves PopBack (by_location _ refl refl refl) h
+  follow PopFront h = moves PopFront (by_location _ refl refl refl) h
+  follow Refused h = moves Refused (by_location _ refl refl refl) h
+  follow (VisitTree e answer) h = adds (VisitTree e answer) e answer (by_location _ refl refl refl) h.0 h
+  follow (VisitNontree e answer) h = adds (VisitNontree e answer) e answer (by_location _ refl refl refl) h.0 h
+
+follow_all : (old : Listed) (records : List Record) → old.lines ≡ file_lines records → (calls : List Call) (new : Listed) → Run Lists old calls new
+    → (more : List Record) × Run Tracks (tracking old.recorder records) calls (tracking new.recorder more) × (new.lines ≡ file_lines more)
+follow_all old records lines [] new h = (records, ap (λ l. tracking l.recorder records) h, ap (λ l. l.lines) h ∙ lines)
+follow_all old records lines (call ∷ calls) new h =
+    let one : Follows old records call h.0 = follow old records lines h.0 call h.1 in
+    let rest : (more : List Record) × Run Tracks (tracking h.0.recorder one.0) calls (tracking new.recorder more) × (new.lines ≡ file_lines more) = follow_all h.0 one.0 one.2 calls new h.2 in
+    (rest.0, (tracking h.0.recorder one.0, one.1, rest.1), rest.2)
+
+-- what a walk made of a lister says what it makes of a recorder
+pub recorded_so : (objects : Objects) (tree : ObjectId) (new : Listed) (answer : Result (Unit {0}) Error) → DepthFirst objects (never_faulty objects) Lists tree fresh_lister new answer
+    → (recorder : Tracked) × RecordsTree objects tree recorder answer × (new.lines ≡ file_lines recorder.held.records)
+recorded_so objects tree new answer walk =
+    let all : (more : List Record) × Run Tracks (tracking fresh_lister.recorder []) walk.calls (tracking new.recorder more) × (new.lines ≡ file_lines more) = follow_all fresh_lister [] refl walk.calls new walk.run in (
+      tracking new.recorder all.0,
+      record { calls = walk.calls; visits = walk.visits; end = walk.end; script = walk.script; run = all.1; answered = walk.answered },
+      all.2,
+    )
+
+-- what a walk made of a lister that was just made
+module _ (objects : Objects) (tree : ObjectId) (recorder : Tracked) (none : List ℕ) (new : Listed) (answer : Result (Unit {0}) Error) (made : recorder ≡ fresh_recorder) (empty : none ≡ [])
+    (walk : DepthFirst objects (never_faulty objects) Lists tree (record { recorder = recorder; lines = none }) new answer) where
+  from_fresh : DepthFirst objects (never_faulty objects) Lists tree fresh_lister new answer
+  from_fresh = subst (λ (r : Tracked). DepthFirst objects (never_faulty objects) Lists tree (record { recorder = r; lines = [] }) new answer) made (subst (λ (x : List ℕ). DepthFirst objects (never_faulty objects) Lists tree (record { recorder = recorder; lines = x }) new answer) empty walk)
+
+  -- these are the lines, where it ended well
+  pub lines_listed : answer ≡ Ok tt → (lines : List ℕ) → lines ≡ new.lines → AreLinesOf objects tree lines
+  lines_listed well lines same =
+      let all : (recorder : Tracked) × RecordsTree objects tree recorder answer × (new.lines ≡ file_lines recorder.held.records) = recorded_so objects tree new answer from_fresh in
+      (all.0, subst (λ (a : Result (Unit {0}) Error). RecordsTree objects tree all.0 a) well all.1, same ∙ all.2)
+
+  -- its fault is one of the walk
+  pub list_failed : {A : Type 0} (result : Result A Fault) (f : Fault) (e : Error) → result ≡ Err f → f ≡ fault_of_tree_walk e → answer ≡ Err e → IfErr result (IsTreeFault objects tree)
+  list_failed result f e is told failed =
+      let all : (recorder : Tracked) × RecordsTree objects tree recorder answer × (new.lines ≡ file_lines recorder.held.records) = recorded_so objects tree new answer from_fresh in
+      rw is (λ other. (all.0, e, subst (λ (a : Result (Unit {0}) Error). RecordsTree objects tree all.0 a) failed all.1, told))

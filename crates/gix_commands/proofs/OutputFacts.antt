@@ -1,0 +1,85 @@
+-- Lines that are buffered, and lines that were written.
+use Rattle.std.specs.Prelude.{◌≡◌, ℕ, List, [], ◌∷◌, ◌++◌, Option, Some, None, Result, Ok, Err, ◌⊎◌}
+use Rattle.std.specs.Io.KnownBytes.{Appends}
+use Rattle.std.specs.Iterator.{Yields}
+use Rattle.std.proofs.Common.{refl, sym, ap, subst, ◌∙◌, append_assoc, inl, inr}
+use Rattle.std.proofs.lemmas.List.{append-nil, map-append}
+use Rattle.std.proofs.lemmas.Grind.{flat_map-append}
+use Rattle.std.proofs.KnownBytes.{Appends-nil, Appends-trans}
+use Rattle.gix_revwalk.specs.declared.Info.{Info}
+use Rattle.gix_commands.specs.declared.fault.Fault.{Fault}
+use Rattle.gix_commands.specs.declared.fault.Fault.TheVariants as fault
+use Rattle.gix_commands.specs.Output.{Grows, Adds, WritesAll}
+use Rattle.gix_commands.specs.Walked.{given, Ends, finished, failed, cut_short, line_of, lines_of}
+
+-- nothing was written
+pub grows_waiting : (old : Option (List ℕ)) (waiting waits bytes : List ℕ) → waits ≡ waiting ++ bytes → Grows old waiting old waits bytes
+grows_waiting old waiting waits bytes e = ([], Appends-nil old, sym e)
+
+pub grows_more : (a b c : Option (List ℕ)) (x y z p q : List ℕ) → Grows a x b y p → Grows b y c z q → Grows a x c z (p ++ q)
+grows_more a b c x y z p q h k = (
+  h.0 ++ k.0,
+  Appends-trans a b c h.0 k.0 h.1 k.1,
+  sym (append_assoc x p q) ∙ ap (λ w. w ++ q) h.2 ∙ append_assoc h.0 y q ∙ ap (λ w. h.0 ++ w) k.2 ∙ sym (append_assoc h.0 k.0 z),
+)
+
+-- all that is buffered is written
+pub grows_end : (old mid new : Option (List ℕ)) (waits bytes : List ℕ) → Grows old [] mid waits bytes → Appends mid new waits → Appends old new bytes
+grows_end old mid new waits bytes h k = subst (Appends old new) (sym h.2) (Appends-trans old mid new h.0 waits h.1 k)
+
+pub lines_last : (infos : List Info) (info : Info) → lines_of (infos ++ info ∷ []) ≡ lines_of infos ++ line_of info.id
+lines_last infos info = flat_map-append (λ (i : Info). line_of i.id) infos (info ∷ []) ∙ ap (λ x. lines_of infos ++ x) (append-nil (line_of info.id))
+
+pub grows_one : (a b c : Option (List ℕ)) (x y z : List ℕ) (infos : List Info) (info : Info) → Grows a x b y (lines_of infos) → Grows b y c z (line_of info.id) → Grows a x c z (lines_of (infos ++ info ∷ []))
+grows_one a b c x y z infos info h k = subst (Grows a x c z) (sym (lines_last infos info)) (grows_more a b c x y z (lines_of infos) (line_of info.id) h k)
+
+given_last : {E : Type 0} (infos : List Info) (info : Info) → given {E = E} (infos ++ info ∷ []) ≡ given infos ++ Ok info ∷ []
+given_last infos info = map-append (λ (i : Info). Ok i) infos (info ∷ [])
+
+module _ {W E : Type 0} where
+  module _ (Steps : W → Option (Result Info E) → W → Type 0) where
+    yields_last : (walk at new : W) (list : List (Result Info E)) (answer : Result Info E) → Yields Steps walk list at → Steps at (Some answer) new → Yields Steps walk (list ++ answer ∷ []) new
+    yields_last walk at new [] answer h step = (new, subst (λ (w : W). Steps w (Some answer) new) (sym h) step, refl)
+    yields_last walk at new (first ∷ list) answer h step = (h.0, h.1, yields_last h.0 at new list answer h.2 step)
+
+    -- one more commit was drawn
+    pub drawn_one : (walk at new : W) (infos : List Info) (answer : Result Info E) (info : Info) → Yields Steps walk (given infos) at → Steps at (Some answer) new → answer ≡ Ok info → Yields Steps walk (given (infos ++ info ∷ [])) new
+    drawn_one walk at new infos answer info h step is =
+        subst (λ (list : List (Result Info E)). Yields Steps walk list new) (sym (given_last infos info))
+        (yields_last walk at new (given infos) (Ok info) h (subst (λ (a : Result Info E). Steps at (Some a) new) is step))
+
+    module _ (Tells : E → Fault → Type 0) where
+      -- the walk's answer was a fault
+      pub adds_failed : (walk at drawn : W) (infos : List Info) (answer : Result Info E) (e : E) (f : Fault) (old new : Option (List ℕ)) (waiting waits : List ℕ)
+          → Yields Steps walk (given infos) at → Steps at (Some answer) drawn → answer ≡ Err e → Tells e f → Grows old waiting new waits (lines_of infos) → Adds Steps Tells walk old waiting (Err f) new waits
+      adds_failed walk at drawn infos answer e f old new waiting waits h step is tells grows = record {
+        infos = infos;
+        ends = failed e f drawn (at, h, subst (λ (a : Result Info E). Steps at (Some a) drawn) is step) tells;
+        grows = grows;
+      }
+
+      -- a line couldn't be added
+      pub adds_cut : (walk at drawn : W) (infos : List Info) (next : Result Info E) (info : Info) (e : Fault) (result : Result (Unit {0}) Fault) (a b c : Option (List ℕ)) (x y z : List ℕ)
+          → Yields Steps walk (given infos) at → Steps at (Some next) drawn → next ≡ Ok info → Grows a x b y (lines_of infos) → result ≡ Err e → (result ≡ Err fault.Write → ⊥) → (e ≡ fault.Write) ⊎ ((e ≡ fault.Memory) × Grows b y c z []) → Adds Steps Tells walk a x result c z
+      adds_cut walk at drawn infos next info e result a b c x y z h step is grows same other (inl w) = absurd (other (same ∙ ap (λ f. Err f) w))
+      adds_cut walk at drawn infos next info e result a b c x y z h step is grows same other (inr (m, more)) = record {
+        infos = infos;
+        ends = subst (Ends Steps Tells walk infos) (sym (same ∙ ap (λ f. Err f) m)) (cut_short info drawn (at, h, subst (λ (a : Result Info E). Steps at (Some a) drawn) is step));
+        grows = subst (Grows a x c z) (append-nil (lines_of infos)) (grows_more a b c x y z (lines_of infos) [] grows more);
+      }
+
+      -- the walk ended
+      pub adds_all : (walk at drawn : W) (infos : List Info) (old new : Option (List ℕ)) (waiting waits : List ℕ) → Yields Steps walk (given infos) at → Steps at None drawn → Grows old waiting new waits (lines_of infos) → Adds Steps Tells walk old waiting (Ok tt) new waits
+      adds_all walk at drawn infos old new waiting waits h step grows = record {
+        infos = infos;
+        ends = finished drawn (at, h, step);
+        grows = grows;
+      }
+
+      -- what was buffered was written
+      pub all_written : (walk : W) (old mid new : Option (List ℕ)) (waiting waits : List ℕ) (answer : Result (Unit {0}) Fault) → Adds Steps Tells walk old waiting answer mid waits → waiting ≡ [] → Appends mid new waits → WritesAll Steps Tells walk old answer new
+      all_written walk old mid new waiting waits answer h none k = record {
+        infos = h.infos;
+        ends = h.ends;
+        appends = grows_end old mid new waits (lines_of h.infos) (subst (λ (w : List ℕ). Grows old w mid waits (lines_of h.infos)) none h.grows) k;
+      }

@@ -1,0 +1,227 @@
+-- A simple walk that reaches whole commits alone fails for memory alone.
+use Rattle.std.specs.Prelude.{◌≡◌, ◌≢◌, ℕ, ℤ, List, [], ◌∷◌, ◌++◌, true, false, Option, Some, None, Result, Ok, Err, Contains}
+use Rattle.std.specs.Iterator.{Yields}
+use Rattle.std.proofs.Common.{refl, sym, ap, subst, ◌∙◌, ⊎_elim}
+use Rattle.std.proofs.lemmas.List.Elements.{Contains-append_left, Contains-append_right, Contains-append_cases}
+use Rattle.std.proofs.lemmas.List.Sorted.{Contains-permutation, IsPermutation-sym}
+use Rattle.gix_hash.specs.declared.ObjectId.{ObjectId}
+use Rattle.gix_object.specs.declared.Kind.TheVariants as object
+use Rattle.gix_object.specs.declared.decode.Error.{Error as DecodeError}
+use Rattle.gix_object.specs.declared.find.existing_iter.Error.{Error as ExistingError}
+use Rattle.gix_object.specs.CommitItems.{commit_items}
+use Rattle.gix_object.specs.CommitText.{read_commit}
+use Rattle.gix_object.specs.Find.{IsExistingFault}
+use Rattle.gix_hash.specs.Id.{kind_of}
+use Rattle.gix_object.specs.Object.{Objects}
+use Rattle.gix_commitgraph.specs.Rows.{row_of}
+use Rattle.gix_hash.proofs.Ids.Membership.{among_is, Contains-here, Contains-there, Contains-cons_cases, no_member}
+use Rattle.gix_revwalk.specs.declared.Info.{Info}
+use Rattle.gix_revwalk.specs.declared.Parents.TheVariants as mode
+use Rattle.gix_revwalk.specs.declared.CommitTimeOrder.{CommitTimeOrder}
+use Rattle.gix_simple.specs.declared.Error.{Error}
+use Rattle.gix_simple.specs.declared.Error.TheVariants as error
+use Rattle.gix_paint.specs.declared.Hidden.{Hidden}
+use Rattle.gix_paint.specs.declared.Hidden.TheVariants as hidden_by
+use Rattle.gix_simple.specs.declared.Sorting.{Sorting}
+use Rattle.gix_simple.specs.declared.Sorting.TheVariants as sorting
+use Rattle.gix_revwalk.specs.declared.Pending.{Pending}
+use Rattle.gix_revwalk.specs.Commits.{ReadsWhole, by_mode, commit_at, commit_of_object, parents_in, parents_of}
+use Rattle.gix_hash.specs.Reach.{Reaches, start, step}
+use Rattle.gix_simple.specs.Building.{IsTipFault}
+use Rattle.gix_paint.specs.Painting.{IsFaultAt}
+use Rattle.gix_simple.specs.Walk.{Treated, Enqueues, dropped, enqueued, Treats, hidden, known, refused, accepted, store_fails, no_memory, no_memory_after, TreatsAll, none, more, stops, Concludes, given, broken, Takes, by_row, by_store, not_found, Chooses, first, best, Steps, ended, took, unhidden, paints, faulty_history, unrowed}
+use Rattle.gix_revwalk.specs.Ids.{ids_of}
+use Rattle.gix_revwalk.specs.RowParents.{kept_rows}
+use Rattle.gix_revwalk.specs.Texts.{scanned}
+use Rattle.gix_revwalk.proofs.Committer.{fault_unread}
+use Rattle.gix_revwalk.proofs.ReadsWhole.{scan_is, no_fault}
+use Rattle.gix_revwalk.proofs.Rows.{none_agree}
+use Rattle.gix_simple.proofs.MadeOfTips.{is_new_walk, pending_is}
+use Rattle.gix_commands.specs.declared.fault.Fault.{Fault}
+use Rattle.gix_commands.specs.declared.fault.Fault.TheVariants as fault
+use Rattle.gix_commands.specs.declared.words.Order.TheVariants.{Simple}
+use Rattle.gix_commands.specs.Faults.{fault_of_walk}
+use Rattle.gix_commands.specs.Histories.{AreWhole, EndsWell, IsOutside, SimpleSucceeds, AheadSucceeds}
+use Rattle.gix_records.specs.Records.{stored}
+use Rattle.gix_commands.specs.Run.{Serves, walked, not_walked, counted, not_ahead, not_behind, unserved, not_written}
+use Rattle.gix_commands.specs.Walked.{Walk, Answers, IsWalkFault, StartsFrom, FailsAtStart, Ends, finished, failed, cut_short, objects_of, never_faulty, accepts_all, given as all_given}
+use Rattle.gix_commands.specs.Words.{Commits, Ahead}
+use Rattle.gix_commands.proofs.CommitRuns.{ends_well}
+use Rattle.gix_commands.proofs.InternalFacts.{next_sound}
+use Rattle.gix_simple.proofs.Difference.{whole_from}
+use Rattle.gix_commands.proofs.SimpleRuns.{IsUncut, is_tip, same}
+use Rattle.gix_commands.proofs.UncutWords.{uncut}
+use Rattle.gix_paint.proofs.Invariant.{own_history}
+use Rattle.gix_hash.proofs.Lists.{filter_within, only_member}
+use Rattle.gix_revwalk.proofs.Reached.{reaches_from, reach_more}
+use Rattle.gix_simple.proofs.Treated.{Contains-holds}
+
+in_ids : (ps : List Pending) (p : Pending) → Contains ps p → Contains (ids_of ps) p.id
+in_ids [] p c = absurd (no_member p c)
+in_ids (q ∷ ps) p c = ⊎_elim (λ e. subst (λ i. Contains (q.id ∷ ids_of ps) i) (ap (λ x. x.id) e) (Contains-here q.id (ids_of ps))) (λ m. Contains-there p.id q.id (ids_of ps) (in_ids ps p m)) (Contains-cons_cases p q ps c)
+
+each_id : (P : ObjectId → Type 0) (ps : List Pending) → ((p : Pending) → Contains ps p → P p.id) → (i : ObjectId) → Contains (ids_of ps) i → P i
+each_id P [] f i c = absurd (no_member i c)
+each_id P (q ∷ ps) f i c = ⊎_elim (λ e. subst P e (f q (Contains-here q ps))) (λ m. each_id P ps (λ p n. f p (Contains-there p q ps n)) i m) (Contains-cons_cases i q.id (ids_of ps) c)
+
+module _ (objects : Objects) (tips hiders : List ObjectId) (whole : AreWhole objects (tips ++ hiders)) where
+  abbrev IsMet : ObjectId → Type 0
+  IsMet i = Reaches (parents_of objects) tips i
+
+  met_whole : (i : ObjectId) → IsMet i → ReadsWhole objects i
+  met_whole i r = whole_from objects i (whole i (reach_more (parents_of objects) tips (tips ++ hiders) (λ j c. Contains-append_left tips hiders j c) i r))
+
+  -- what a walk keeps, whose history is whole
+  record Stands (w : Walk) : Type 0 where
+    store : w.store ≡ objects
+    rows : w.rows ≡ []
+    parents : w.parents ≡ mode.All
+    behind : (i : ObjectId) → Contains w.hidden_tips i → Contains hiders i
+    met : (p : Pending) → Contains w.pending p → IsMet p.id
+
+  no_find : (i : ObjectId) (e : ExistingError) → ReadsWhole objects i → IsExistingFault objects (never_faulty objects) i object.Commit e → ⊥
+  no_find i e reads f = subst (IsExistingFault objects (never_faulty objects) i object.Commit) (no_fault objects (never_faulty objects) i reads.commit e reads.stored f) f
+
+  no_fault_at : (i : ObjectId) (why : Hidden) → ReadsWhole objects i → IsFaultAt objects (never_faulty objects) i why → ⊥
+  no_fault_at i (hidden_by.Find e) reads f = no_find i e reads f
+  no_fault_at i (hidden_by.ObjectDecode e) reads f =
+      let n : None ≡ Some reads.commit = sym (ap (commit_of_object i) f.1 ∙ fault_unread (commit_items (kind_of i) f.0) e f.2) ∙ reads.stored in cc
+
+  joined : (w : Walk) (i : ObjectId) (time : ℤ) (pending : List Pending) (o : Option CommitTimeOrder) (limit : Option ℤ) → Stands w → IsMet i → Enqueues objects_of never_faulty accepts_all o limit w.pending i time pending → (p : Pending) → Contains pending p → IsMet p.id
+  joined w i time pending o limit s m (dropped old) p c = s.met p c
+  joined w i time pending o limit s m (enqueued new holds) p c =
+      ⊎_elim (s.met p) (λ n. subst IsMet (ap (λ x. x.id) (only_member _ p n)) m) (Contains-append_cases w.pending _ p (Contains-holds o _ pending holds p c))
+
+  -- one parent is treated, and all of them
+  treated : {w : Walk} {i : ObjectId} {how : Treated} {v : Walk} → Treats objects_of never_faulty accepts_all w false i how v → Stands w → IsMet i → Stands v
+  treated (hidden h) s m = s
+  treated (known h) s m = s
+  treated (refused n a) s m = record { store = s.store; rows = s.rows; parents = s.parents; behind = s.behind; met = s.met }
+  treated {w} {i} (accepted {time = time} {pending = pending} n a r q) s m = record { store = s.store; rows = s.rows; parents = s.parents; behind = s.behind; met = joined w i time pending _ _ s m q }
+  treated (store_fails n a r) s m = record { store = s.store; rows = s.rows; parents = s.parents; behind = s.behind; met = s.met }
+  treated no_memory s m = s
+  treated (no_memory_after n a p) s m = record { store = s.store; rows = s.rows; parents = s.parents; behind = s.behind; met = λ q c. ⊎_elim (λ e. s.met q (subst (λ ps. Contains ps q) e c)) (λ e. absurd (no_member q (subst (λ ps. Contains ps q) e c))) p }
+
+  all_treated : {w v : Walk} {ids : List ObjectId} {how : Treated} → TreatsAll objects_of never_faulty accepts_all false w ids how v → Stands w → ((i : ObjectId) → Contains ids i → IsMet i) → Stands v
+  all_treated none s m = s
+  all_treated (more {i = i} {ids = ids} t h) s m = all_treated h (treated t s (m i (Contains-here i ids))) (λ j c. m j (Contains-there j i ids c))
+  all_treated (stops {i = i} {ids = ids} n t) s m = treated t s (m i (Contains-here i ids))
+
+  -- what follows of an answer
+  abbrev IsGood : Option (Result Info Error) → Walk → Type 0
+  IsGood None new = Unit {0}
+  IsGood (Some (Ok info)) new = Stands new
+  IsGood (Some (Err e)) new = fault_of_walk e ≢ fault.Internal → IsOutside (fault_of_walk e)
+
+  texted : (w : Walk) (text : List ℕ) (i : ObjectId) → Stands w → Stands (record w { text = text; current = Some i })
+  texted w text i s = record { store = s.store; rows = s.rows; parents = s.parents; behind = s.behind; met = s.met }
+
+  concluded : {i : ObjectId} {ps : List ObjectId} {generation : Option ℕ} {time : Option ℤ} {text : List ℕ} {read : Option DecodeError} {w : Walk} {how : Treated} {answer : Result Info Error} {new : Walk}
+      → Concludes objects_of never_faulty accepts_all i ps generation time text read w how answer new → read ≡ None → Stands w → IsGood (Some answer) new
+  concluded {i} {text = text} {w = w} (given f is) e s = texted w text i s
+  concluded (broken f) e s = let n : None ≡ Some _ = sym e ∙ f in cc
+  concluded store_fails e s = λ ne. absurd (ne refl)
+  concluded no_memory e s = λ ne. tt
+
+  taken : {w : Walk} {p : Pending} {answer : Result Info Error} {new : Walk} → Takes objects_of never_faulty accepts_all w p answer new → Stands w → IsMet p.id → IsGood (Some answer) new
+  taken {w} {p} (by_row {row = row} r e t c) s m = let n : None ≡ Some row = ap (λ rows. row_of rows p.id) (sym s.rows) ∙ r in cc
+  taken {w} {p} (by_store {bytes = bytes} u e t c) s m =
+      let reads : ReadsWhole objects p.id = met_whole p.id m in
+      let text : read_commit (kind_of p.id) bytes ≡ Some reads.commit = sym (ap (commit_of_object p.id) e) ∙ ap (λ o. commit_at o p.id) s.store ∙ reads.stored in
+      let scan = scan_is (kind_of p.id) bytes reads.commit text w.parents in
+      let parents : (scanned w.parents (commit_items (kind_of p.id) bytes)).0 ≡ parents_of objects p.id = ap (λ x. x.0) scan ∙ ap (λ k. by_mode k reads.commit.parents) s.parents ∙ sym (ap parents_in reads.stored) in
+      let left : Stands (unrowed w p.id) = record { store = s.store; rows = (λ k. kept_rows (s.rows k) (row_of (s.rows k) p.id)); parents = s.parents; behind = s.behind; met = s.met } in
+      concluded c (ap (λ x. x.1) scan) (all_treated t left (λ i n. step m (subst (λ xs. Contains xs i) parents n)))
+  taken {w} {p} (not_found {e = e} u f) s m = absurd (no_find p.id e (met_whole p.id m) (subst (λ o. IsExistingFault o (never_faulty o) p.id object.Commit e) s.store f))
+  taken (no_memory r) s m = λ ne. tt
+
+  chosen : {w : Walk} {p : Pending} {others : List Pending} → Chooses objects_of never_faulty accepts_all w p others → (q : Pending) → Contains (p ∷ others) q → Contains w.pending q
+  chosen (first t is) q c = subst (λ ps. Contains ps q) (sym is) c
+  chosen {w} {p} {others} (best t perm no_worse) q c = Contains-permutation (p ∷ others) w.pending q (IsPermutation-sym w.pending (p ∷ others) perm) c
+
+  stepped : {w : Walk} {o : Option (Result Info Error)} {new : Walk} → Steps objects_of never_faulty accepts_all w o new → Stands w → IsGood o new
+  stepped (ended e) s = tt
+  stepped (no_memory some) s = λ ne. tt
+  stepped {w} (took {taken = p} {others = others} c t) s =
+      taken t (record { store = s.store; rows = s.rows; parents = s.parents; behind = s.behind; met = λ q m. s.met q (chosen c q (Contains-there q p others m)) }) (s.met p (chosen c p (Contains-here p others)))
+
+  -- one call
+  called : {w : Walk} {o : Option (Result Info Error)} {new : Walk} → Answers w o new → Stands w → IsGood o new
+  called (unhidden e steps) s = stepped steps (record { store = s.store; rows = s.rows; parents = s.parents; behind = λ i c. absurd (no_member i c); met = s.met })
+  called {w} (paints {marks = marks} {rows = rows} some hides paint steps) s =
+      stepped steps (record { store = s.store; rows = ⊎_elim (λ e. e ∙ s.rows) (λ e. e) paint.rows_left; parents = s.parents; behind = λ i c. absurd (no_member i c); met = λ p c. s.met p (filter_within _ w.pending p c) })
+  called {w} (faulty_history {why = why} some hides left f) s = λ ne. absurd (no_fault_at f.id why (whole_from objects f.id (whole f.id reached)) (subst (λ o. IsFaultAt o (never_faulty o) f.id why) s.store f.fault))
+    where
+      both : (i : ObjectId) → Contains (ids_of w.pending ++ w.hidden_tips) i → Reaches (parents_of objects) (tips ++ hiders) i
+      both i c =
+          ⊎_elim
+          (λ m. reach_more (parents_of objects) tips (tips ++ hiders) (λ j n. Contains-append_left tips hiders j n) i (each_id IsMet w.pending s.met i m))
+          (λ m. start (Contains-append_right tips hiders i (s.behind i m)))
+          (Contains-append_cases (ids_of w.pending) w.hidden_tips i c)
+
+      reached : Reaches (parents_of objects) (tips ++ hiders) f.id
+      reached = reaches_from (parents_of objects) (ids_of w.pending ++ w.hidden_tips) (tips ++ hiders) both f.id (subst (λ o. Reaches (parents_of o) (ids_of w.pending ++ w.hidden_tips) f.id) s.store (f.reached w.store (own_history w.store (never_faulty w.store) w.rows (none_agree w.store w.rows s.rows))))
+  called (no_memory some hides left) s = λ ne. tt
+
+  drawn : (infos : List Info) (w at : Walk) → Yields Answers w (all_given infos) at → Stands w → Stands at
+  drawn [] w at h s = subst Stands h s
+  drawn (info ∷ infos) w at h s = drawn infos h.0 at h.2 (called h.1 s)
+
+  -- a walk that was started so
+  pub drawn_well : (by : Sorting) (walk : Walk) → IsUncut by → StartsFrom objects by tips hiders walk → (infos : List Info) (answer : Result (Unit {0}) Fault) → Ends Answers IsWalkFault walk infos answer → EndsWell answer
+  drawn_well by walk named starts infos answer (finished new h) = tt
+  drawn_well by walk named starts infos answer (failed e f new h is) = subst IsOutside (sym is) (called h.2 (drawn infos walk h.0 h.1 begins) (next_sound h.2))
+    where
+      begins : Stands walk
+      begins =
+          let is = same objects by tips hiders walk named starts in
+          record {
+            store = ap (λ w. w.store) is;
+            rows = ap (λ w. w.rows) is;
+            parents = ap (λ w. w.parents) is;
+            behind = λ i c. subst (λ xs. Contains xs i) (ap (λ w. w.hidden_tips) is) c;
+            met = λ p c. start (is_tip objects by tips hiders walk named starts p.id (in_ids walk.pending p c));
+          }
+  drawn_well by walk named starts infos answer (cut_short info new h) = tt
+
+  pub started_well : (by : Sorting) (e : Error) → FailsAtStart objects by tips e → IsOutside (fault_of_walk e)
+  started_well by e f = go e f.fails.fault
+    where
+      stored_so : f.made.store ≡ objects
+      stored_so = (is_new_walk objects_of never_faulty accepts_all objects (record {}) (λ i. true) tips f.made (λ mid last i answer b h. h.0) f.makes).same_store
+
+      among : Contains f.made.pending f.fails.tip
+      among = subst (λ ps. Contains ps f.fails.tip) (sym f.fails.place) (Contains-append_right f.fails.before (f.fails.tip ∷ f.fails.behind) f.fails.tip (Contains-here f.fails.tip f.fails.behind))
+
+      reads : ReadsWhole objects f.fails.tip.id
+      reads = met_whole f.fails.tip.id (start (among_is f.fails.tip.id tips (pending_is objects_of never_faulty accepts_all objects (record {}) (λ i. true) tips f.made (λ mid last i answer b h. h.0) f.makes f.fails.tip.id (in_ids f.made.pending f.fails.tip among)).1))
+
+      go : (e : Error) → IsTipFault f.made.store (never_faulty f.made.store) f.fails.tip.id e → IsOutside (fault_of_walk e)
+      go (error.Find x) h = absurd (no_fault_at f.fails.tip.id (hidden_by.Find x) reads (subst (λ o. IsFaultAt o (never_faulty o) f.fails.tip.id (hidden_by.Find x)) stored_so h))
+      go (error.ObjectDecode x) h = absurd (no_fault_at f.fails.tip.id (hidden_by.ObjectDecode x) reads (subst (λ o. IsFaultAt o (never_faulty o) f.fails.tip.id (hidden_by.ObjectDecode x)) stored_so h))
+      go (error.HiddenGraph x) h = absurd h
+      go error.Memory h = tt
+
+module _ (objects : Objects) (old : Option (List ℕ)) where
+  well : (by : Sorting) (tips hiders : List ObjectId) → IsUncut by → AreWhole objects (tips ++ hiders) → (answer : Result (Unit {0}) Fault) (new : Option (List ℕ)) → Serves objects old (Commits (Simple by) tips hiders) answer new → EndsWell answer
+  well by tips hiders named whole answer new (walked walk infos starts ends written) = drawn_well objects tips hiders whole by walk named starts infos answer ends
+  well by tips hiders named whole answer new (not_walked e f) = started_well objects tips hiders whole by e f
+  well by tips hiders named whole answer new unserved = tt
+  well by tips hiders named whole answer new not_written = tt
+
+  ahead_well : (one other : ObjectId) → AreWhole objects (one ∷ other ∷ []) → (answer : Result (Unit {0}) Fault) (new : Option (List ℕ)) → Serves objects old (Ahead one other) answer new → EndsWell answer
+  ahead_well one other whole answer new (counted ahead behind a b written) = tt
+  ahead_well one other whole answer new (not_ahead f) = drawn_well objects (one ∷ []) (other ∷ []) whole sorting.BreadthFirst f.1.walk tt f.1.starts f.0 answer f.1.ends
+  ahead_well one other whole answer new (not_behind n a f) = drawn_well objects (other ∷ []) (one ∷ []) turned sorting.BreadthFirst f.1.walk tt f.1.starts f.0 answer f.1.ends
+    where
+      turned : AreWhole objects (other ∷ one ∷ [])
+      turned i r = whole i (reach_more (parents_of objects) (other ∷ one ∷ []) (one ∷ other ∷ []) (λ j c. ⊎_elim (λ e. Contains-there j one (other ∷ []) (subst (λ k. Contains (other ∷ []) k) e (Contains-here other []))) (λ m. ⊎_elim (λ e. subst (λ k. Contains (one ∷ other ∷ []) k) e (Contains-here one (other ∷ []))) (λ n. absurd (no_member j n)) (Contains-cons_cases j one [] m)) (Contains-cons_cases j other (one ∷ []) c)) i r)
+  ahead_well one other whole answer new unserved = tt
+  ahead_well one other whole answer new not_written = tt
+
+pub simple_succeeds : SimpleSucceeds
+simple_succeeds words input records by tips hiders answer old new asked are whole runs =
+    ends_well words input records (Commits (Simple by) tips hiders) answer old new asked are (well (stored records) old by tips hiders (uncut words by tips hiders asked) whole) runs
+
+pub ahead_succeeds : AheadSucceeds
+ahead_succeeds words input records one other answer old new asked are whole runs = ends_well words input records (Ahead one other) answer old new asked are (ahead_well (stored records) old one other whole) runs

@@ -1,0 +1,191 @@
+-- What a simple walk over records gives that is drawn to its end, by what commits reach.
+use Rattle.std.specs.Prelude.{◌≡◌, ◌≢◌, ◌↔◌, List, [], ◌∷◌, ◌++◌, map, filter, Bool, true, false, ◌&&◌, Option, None, Ok, Err, Contains, All, IsSome, not}
+use Rattle.std.specs.Iterator.{Drains, Yields}
+use Rattle.std.specs.List.{AllZip}
+use Rattle.std.proofs.Math.Path.{transport}
+use Rattle.std.proofs.Common.{refl, sym, ap, subst, ◌∙◌, ⊎_elim}
+use Rattle.std.proofs.lemmas.List.Elements.{All-nil, All-cons, Contains-append_left, Contains-append_right, Contains-append_cases}
+use Rattle.std.proofs.Math.Bool.{and-true}
+use Rattle.gix_hash.proofs.Ids.Membership.{among_is, Contains-cons_cases, no_member}
+use Rattle.gix_hash.specs.declared.ObjectId.{ObjectId}
+use Rattle.gix_object.specs.Object.{Objects}
+use Rattle.gix_revwalk.specs.declared.Info.{Info}
+use Rattle.gix_revwalk.specs.declared.Parents.TheVariants as mode
+use Rattle.gix_simple.specs.declared.Error.{Error}
+use Rattle.gix_simple.specs.declared.Sorting.{Sorting}
+use Rattle.gix_simple.specs.declared.Sorting.TheVariants as sorting
+use Rattle.gix_revwalk.specs.declared.CommitTimeOrder.{CommitTimeOrder}
+use Rattle.gix_revwalk.specs.Commits.{commit_at, parents_of, time_of}
+use Rattle.gix_hash.specs.Reach.{Reaches, Tells}
+use Rattle.gix_simple.specs.Building.{IsBuilt, made, breadth_first, by_time, hides, IsUncut as IsBuiltUncut}
+use Rattle.gix_revwalk.specs.Agreeing.{IsAgreeing}
+use Rattle.gix_revwalk.specs.Asking.{AnswersBy}
+use Rattle.gix_revwalk.specs.Ids.{AreDistinct, new_ids, ids_of}
+use Rattle.gix_simple.specs.Laws.{IsFresh, IsGiven, IsNoRefusal, IsNewWalk, IsWholeRun, GivesInOrder, GivesDifference, given_ids, next_of, IsInOrder}
+use Rattle.gix_simple.specs.Walk.{is_older, cutoff, time_order}
+use Rattle.gix_revwalk.proofs.Rows.{none_agree}
+use Rattle.gix_simple.proofs.Builders.{built}
+use Rattle.gix_simple.proofs.Corollaries.{gives}
+use Rattle.gix_simple.proofs.Difference.{difference, faultless_difference, loosened, recent_all, whole_from}
+use Rattle.gix_simple.proofs.ReachDecided.{reach_test}
+use Rattle.gix_simple.proofs.MadeOfTips.{is_new_walk, pending_is}
+use Rattle.gix_commands.specs.Histories.{IsShown, IsListedSo}
+use Rattle.gix_commands.specs.Walked.{Walk, Answers, IsSorted, StartsFrom, objects_of, never_faulty, accepts_all, given}
+use Rattle.gix_hash.proofs.Lists.{filter_within, filter_all}
+use Rattle.gix_revwalk.proofs.Reached.{reach_more}
+
+-- the orders that a command names
+abbrev pub IsUncut : Sorting → Type 0
+IsUncut sorting.BreadthFirst = Unit {0}
+IsUncut (sorting.ByCommitTime order) = Unit {0}
+IsUncut (sorting.ByCommitTimeCutoff order seconds) = ⊥
+
+unrefused : (infos : List Info) → All IsNoRefusal (given infos)
+unrefused [] = All-nil IsNoRefusal
+unrefused (info ∷ infos) = All-cons IsNoRefusal (Ok info) (given infos) ((λ e. cc), (λ e. cc), (λ e. cc)) (unrefused infos)
+
+no_faults : (infos : List Info) (e : Error) → Contains (given infos) (Err e) → ⊥
+no_faults [] e c = no_member (Err e) c
+no_faults (info ∷ infos) e c = ⊎_elim (λ s. cc) (no_faults infos e) (Contains-cons_cases (Err e) (Ok info) (given infos) c)
+
+ids_given : (infos : List Info) → given_ids (given infos) ≡ map (λ info. info.id) infos
+ids_given [] = refl
+ids_given (info ∷ infos) = ap (λ ids. info.id ∷ ids) (ids_given infos)
+
+same_ids : (objects : Objects) (order : Option CommitTimeOrder) (infos : List Info) (ids : List ObjectId) → AllZip (IsGiven objects [] mode.All order) (given infos) ids → map (λ info. info.id) infos ≡ ids
+same_ids objects order [] [] h = refl
+same_ids objects order [] (i ∷ ids) h = absurd h
+same_ids objects order (info ∷ infos) [] h = absurd h
+same_ids objects order (info ∷ infos) (i ∷ ids) h = (λ k. h.0.info_is.same_id k ∷ same_ids objects order infos ids h.1 k)
+
+uncut_none : (by : Sorting) → IsUncut by → cutoff mode.All by ≡ None
+uncut_none sorting.BreadthFirst u = refl
+uncut_none (sorting.ByCommitTime order) u = refl
+uncut_none (sorting.ByCommitTimeCutoff order seconds) u = absurd u
+
+-- each id once, and exactly the ids that the tips reach and the hidden tips don't
+abbrev pub GivesShown : Objects → List ObjectId → List ObjectId → List ObjectId → Type 0
+GivesShown objects tips hidden ids = AreDistinct ids × ((i : ObjectId) → Contains ids i ↔ IsShown objects tips hidden i)
+
+-- what sorting leaves
+record Follows (by : Sorting) (first sorted : Walk) : Type 0 where
+  store : sorted.store ≡ first.store
+  rows : sorted.rows ≡ first.rows
+  parents : sorted.parents ≡ first.parents
+  sorting : sorted.sorting ≡ by
+  pending : ids_of sorted.pending ≡ ids_of first.pending
+
+follows : (by : Sorting) → IsUncut by → (first sorted : Walk) → IsSorted first by sorted → Follows by first sorted
+follows sorting.BreadthFirst u first sorted e = record { store = ap (λ w. w.store) e; rows = ap (λ w. w.rows) e; parents = ap (λ w. w.parents) e; sorting = ap (λ w. w.sorting) e; pending = ap (λ w. ids_of w.pending) e }
+follows (sorting.ByCommitTime order) u first sorted s = record {
+  store = ap (λ w. w.store) s.others;
+  rows = ap (λ w. w.rows) s.others;
+  parents = ap (λ w. w.parents) s.others;
+  sorting = ap (λ w. w.sorting) s.others;
+  pending = ap ids_of s.pending ∙ recent_all first.store first.pending;
+}
+follows (sorting.ByCommitTimeCutoff order seconds) u first sorted s = absurd u
+
+module _ (objects : Objects) (by : Sorting) (tips hidden : List ObjectId) (walk : Walk) (uncut : IsUncut by) (starts : StartsFrom objects by tips hidden walk) where
+  -- the walk before its first step, its options written out
+  abbrev pub opened : Walk
+  opened = record walk { store = objects; rows = []; parents = mode.All; sorting = by; hidden_tips = hidden }
+
+  new_walk : IsNewWalk objects_of accepts_all objects (λ i. true) tips starts.made
+  new_walk = is_new_walk objects_of never_faulty accepts_all objects (record {}) (λ i. true) tips starts.made (λ mid new i answer b h. h.0) starts.makes
+
+  sorted_so : Follows by starts.made starts.sorted
+  sorted_so = follows by uncut starts.made starts.sorted starts.sorts
+
+  pub same : walk ≡ opened
+  same =
+      let s : walk.store ≡ objects = ap (λ w. w.store) starts.hides ∙ sorted_so.store ∙ new_walk.same_store in
+      let r : walk.rows ≡ [] = ap (λ w. w.rows) starts.hides ∙ sorted_so.rows ∙ new_walk.rowless in
+      let p : walk.parents ≡ mode.All = ap (λ w. w.parents) starts.hides ∙ sorted_so.parents ∙ new_walk.all_parents in
+      let b : walk.sorting ≡ by = ap (λ w. w.sorting) starts.hides ∙ sorted_so.sorting in
+      let h : walk.hidden_tips ≡ hidden = ap (λ w. w.hidden_tips) starts.hides in
+      (λ k. record walk { store = s k; rows = r k; parents = p k; sorting = b k; hidden_tips = h k })
+
+  pending : ids_of walk.pending ≡ new_ids (λ i. false) tips
+  pending = ap (λ w. ids_of w.pending) starts.hides ∙ sorted_so.pending ∙ new_walk.pending ∙ ap (new_ids (λ i. false)) (filter_all (λ i. true) tips (λ i m. refl))
+
+  pub is_tip : (i : ObjectId) → Contains (ids_of walk.pending) i → Contains tips i
+  is_tip i c =
+      among_is i tips (pending_is objects_of never_faulty accepts_all objects (record {}) (λ j. true) tips starts.made (λ mid new j answer b h. h.0) starts.makes i
+      (subst (λ xs. Contains xs i) (ap (λ w. ids_of w.pending) starts.hides ∙ sorted_so.pending) c)).1
+
+  -- it was built without a cutoff
+  abbrev Uncut : Walk → Type 0
+  Uncut w = (b : IsBuilt objects_of never_faulty accepts_all objects (record {}) tips w) × IsBuiltUncut b
+
+  sorted_built : (order : Sorting) → IsUncut order → (first sorted : Walk) → Uncut first → IsSorted first order sorted → Uncut sorted
+  sorted_built sorting.BreadthFirst u first sorted b e = subst Uncut (sym e) (breadth_first b.0, b.1)
+  sorted_built (sorting.ByCommitTime order) u first sorted b s = (by_time b.0 s, (b.1, refl))
+  sorted_built (sorting.ByCommitTimeCutoff order seconds) u first sorted b s = absurd u
+
+  is_built : Uncut walk
+  is_built = let k : Uncut starts.sorted = sorted_built by uncut starts.made starts.sorted (made starts.makes, tt) starts.sorts in subst Uncut (sym starts.hides) (hides k.0, k.1)
+
+  test : (tells : ObjectId → Bool) × Tells tells (Reaches (parents_of objects) hidden)
+  test = reach_test objects hidden
+
+  is_fresh : IsFresh objects_of walk (λ i. true) × AnswersBy accepts_all walk.predicate (λ i. true) × (walk.store ≡ objects)
+  is_fresh = built objects_of never_faulty accepts_all (λ i. true) objects (record {}) (λ mid new i answer b h. h.0) tips walk is_built.0
+
+  module _ (infos : List Info) (at new : Walk) (drawn : Yields Answers walk (given infos) at) (ended : Answers at None new) where
+    hiders : walk.hidden_tips ≡ hidden
+    hiders = ap (λ w. w.hidden_tips) starts.hides
+
+    no_rows : IsAgreeing objects walk.rows
+    no_rows = none_agree objects walk.rows (ap (λ w. w.rows) same)
+
+    -- in the words of lists
+    said : GivesDifference objects tips walk.hidden_tips (given infos) → GivesShown objects tips hidden (map (λ info. info.id) infos)
+    said g = (subst AreDistinct (ids_given infos) g.once, λ i. subst (λ xs. Contains xs i ↔ IsShown objects tips hidden i) (ids_given infos) (subst (λ hs. Contains (given_ids (given infos)) i ↔ IsShown objects tips hs i) hiders (g.exact i)))
+
+    -- each once, and exactly what the tips reach and the hidden tips don't: where all of it reads whole
+    pub each_shown : ((i : ObjectId) → Reaches (parents_of objects) (tips ++ hidden) i → IsSome (commit_at objects i)) → GivesShown objects tips hidden (map (λ info. info.id) infos)
+    each_shown whole =
+        said (difference objects_of never_faulty accepts_all objects (record {}) tips (λ mid last i answer b h. h.0) walk is_built.0 is_built.1 (ap (λ w. w.parents) same) no_rows
+        (λ i r. whole_from objects i (whole i (subst (λ hs. Reaches (parents_of objects) (tips ++ hs) i) hiders r))) (given infos) (unrefused infos) (new, (at, drawn, ended)))
+
+    -- and with hidden tips in any case
+    pub each_unhidden : hidden ≢ [] → GivesShown objects tips hidden (map (λ info. info.id) infos)
+    each_unhidden behind =
+        said (faultless_difference objects_of never_faulty accepts_all objects (record {}) tips (λ mid last i answer b h. h.0) walk is_built.0 is_built.1 (ap (λ w. w.parents) same) no_rows (λ e. behind (sym hiders ∙ e))
+        (given infos) (no_faults infos) (new, (at, drawn, ended)))
+
+    -- all that tips and hidden tips reach reads whole
+    module _ (whole : (i : ObjectId) → Reaches (parents_of objects) (tips ++ hidden) i → IsSome (commit_at objects i)) where
+      tips_whole : (i : ObjectId) → Reaches (parents_of objects) (ids_of walk.pending) i → IsSome (commit_at objects i)
+      tips_whole i r = whole i (reach_more (parents_of objects) (ids_of walk.pending) (tips ++ hidden) (λ j c. Contains-append_left tips hidden j (is_tip j c)) i r)
+
+      run : IsWholeRun objects_of never_faulty accepts_all opened (λ i. true) test.0 (given infos)
+      run = record {
+        by_test = is_fresh.1;
+        fresh = subst (λ w. IsFresh objects_of w (λ i. true)) same is_fresh.0;
+        tells = test.1;
+        meets = record {
+          given = λ i r. whole_from objects i (tips_whole i (reach_more (parents_of objects) _ (ids_of walk.pending) (λ j c. filter_within _ (ids_of walk.pending) j c) i (loosened objects mode.All (λ j. true) test.0 (cutoff mode.All by) _ i r)));
+          painted = λ p h i r. whole_from objects i (whole i (reach_more (parents_of objects) (ids_of walk.pending ++ hidden) (tips ++ hidden) both i r));
+        };
+        agreeing = none_agree objects [] refl;
+        unrefused = unrefused infos;
+        drawn = subst (λ w. Drains Answers w (given infos)) same (new, (at, drawn, ended));
+      }
+        where
+          both : (j : ObjectId) → Contains (ids_of walk.pending ++ hidden) j → Contains (tips ++ hidden) j
+          both j c = ⊎_elim (λ t. Contains-append_left tips hidden j (is_tip j t)) (λ t. Contains-append_right tips hidden j t) (Contains-append_cases (ids_of walk.pending) hidden j c)
+
+      gave : GivesInOrder objects_of opened (λ i. true) test.0 (given infos)
+      gave = gives objects_of never_faulty accepts_all opened (λ i. true) test.0 (given infos) run
+
+      ids_are : map (λ info. info.id) infos ≡ gave.ids
+      ids_are = same_ids objects (time_order mode.All by) infos gave.ids gave.given
+
+      next_is : next_of objects_of opened (λ i. true) test.0 ≡ (λ c. filter (λ i. not (test.0 i)) (parents_of objects c))
+      next_is = (λ k c. filter (λ i. not (test.0 i) && not (is_older (time_of objects i) (uncut_none by uncut k))) (parents_of objects c)) ∙ (λ k c. filter (λ i. and-true (not (test.0 i)) k) (parents_of objects c))
+
+      -- in the order that was asked for
+      pub in_order : IsListedSo objects by tips hidden (map (λ info. info.id) infos)
+      in_order = (test.0, test.1, transport (λ k. IsInOrder (time_order mode.All by) (time_of objects) (next_is k) (filter (λ i. not (test.0 i)) (pending k)) (sym ids_are k)) gave.in_order)

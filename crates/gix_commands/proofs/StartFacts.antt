@@ -1,0 +1,74 @@
+-- How walks over stored commits start.
+use Rattle.std.specs.Prelude.{◌≡◌, ◌≢◌, List, [], ◌++◌, length, Result, Ok, Err, IfErr}
+use Rattle.std.specs.Iterator.{Drains}
+use Rattle.std.specs.declared.vec.IntoIter.{IntoIter}
+use Rattle.std.specs.Vec.Iter.{into_iter_items, into_iter_len, into_iter_steps}
+use Rattle.std.proofs.Common.{refl, sym, ap, subst, ◌∙◌}
+use Rattle.std.proofs.lemmas.Iterator.{items_from_drains}
+use Rattle.std.proofs.lemmas.Iterator.Adapters.{YieldsList-from_vec}
+use Rattle.std.proofs.lemmas.List.{map-id}
+use Rattle.gix_hash.specs.declared.ObjectId.{ObjectId}
+use Rattle.gix_object.specs.Object.{Objects}
+use Rattle.gix_simple.specs.declared.Error.{Error}
+use Rattle.gix_simple.specs.declared.Error.TheVariants as error
+use Rattle.gix_simple.specs.declared.Sorting.{Sorting}
+use Rattle.gix_simple.specs.declared.Sorting.TheVariants as sorting
+use Rattle.gix_revwalk.specs.declared.Unfiltered.{Unfiltered}
+use Rattle.gix_topo.specs.declared.Error.{Error as TopoError}
+use Rattle.gix_topo.specs.declared.Sorting.{Sorting as TopoSorting}
+use Rattle.gix_topo.specs.Walk.{TopoBuilder, Built, fresh_builder}
+use Rattle.gix_simple.specs.Building.{IsSortedByTime, FailsAtTip}
+use Rattle.gix_commands.specs.declared.fault.Fault.{Fault}
+use Rattle.gix_commands.specs.Faults.{fault_of_walk, fault_of_topo_walk}
+use Rattle.gix_commands.specs.TopoWalked as topo
+use Rattle.gix_commands.specs.Walked.{Walk, objects_of, never_faulty, accepts_all, IsMadeOf, IsSorted, IsStartFault}
+
+-- the ids that came out of a vector are the ids that it held
+pub drained : {Z : Type 0} (tips ids : List ObjectId) (it : IntoIter ObjectId Z) → into_iter_items it ≡ tips → into_iter_len it ≡ length tips → Drains into_iter_steps it ids → ids ≡ tips
+drained tips ids it items len d = sym (map-id ids) ∙ items_from_drains ids (d.1.0, d.1.1, λ _. (d.0, d.1.2)) (YieldsList-from_vec tips items len)
+
+ok_same : {a b : Walk} → ◌≡◌ {A = Result Walk Error} (Ok a) (Ok b) → a ≡ b
+ok_same same = cc
+
+-- what sorting says of a walk that it gave
+pub is_sorted : (made sorted : Walk) (by : Sorting) → (by ≡ sorting.BreadthFirst → ◌≡◌ {A = Result Walk Error} (Ok sorted) (Ok (record made { sorting = by }))) → (by ≢ sorting.BreadthFirst → IsSortedByTime objects_of made by sorted) → IsSorted made by sorted
+is_sorted made sorted sorting.BreadthFirst plain timed = ok_same (plain refl)
+is_sorted made sorted (sorting.ByCommitTime order) plain timed = timed (λ e. cc)
+is_sorted made sorted (sorting.ByCommitTimeCutoff order seconds) plain timed = timed (λ e. cc)
+
+-- the time of a tip couldn't be read, or memory ran out
+pub start_failed : (objects : Objects) (by : Sorting) (tips : List ObjectId) (made : Walk) → IsMadeOf objects tips made → (why : Error) (result : Result Walk Fault) (e : Fault) → result ≡ Err e → e ≡ fault_of_walk why
+    → (by ≡ sorting.BreadthFirst → ◌≡◌ {A = Result Walk Error} (Err why) (Ok (record made { sorting = by }))) → (why ≢ error.Memory → FailsAtTip made.store (never_faulty made.store) made.pending why) → IfErr result (IsStartFault objects by tips)
+start_failed objects by tips made makes why result e same is plain h =
+    subst (λ (r : Result Walk Fault). IfErr r (IsStartFault objects by tips)) (sym same)
+    (λ other. (why, record { by_time = λ b. cc (plain b); made = made; makes = makes; fails = h (λ m. other (is ∙ ap fault_of_walk m)) }, is))
+
+abbrev Builder : Type 0
+Builder = TopoBuilder Objects Unfiltered
+
+abbrev with_more_tips : Builder → List ObjectId → Builder
+with_more_tips b ids = record b { plan = record b.plan { tips = b.plan.tips ++ ids } }
+
+abbrev with_more_ends : Builder → List ObjectId → Builder
+with_more_ends b ids = record b { plan = record b.plan { ends = b.plan.ends ++ ids } }
+
+abbrev in_order : TopoSorting → Builder → Builder
+in_order by b = record b { plan = record b.plan { sorting = by } }
+
+abbrev pub builder_from : Objects → TopoSorting → List ObjectId → List ObjectId → Builder
+builder_from objects by tips ends = record { plan = topo.plan_from objects by tips ends; predicate = record {} }
+
+-- the calls that choose make this builder
+pub chosen : (objects : Objects) (by : TopoSorting) (tips ends those others : List ObjectId) (fresh from_tips builder sorted : Builder)
+    → fresh ≡ fresh_builder objects (record {}) [] → from_tips ≡ record fresh { plan = record fresh.plan { tips = fresh.plan.tips ++ those } } → those ≡ tips
+    → builder ≡ record from_tips { plan = record from_tips.plan { ends = from_tips.plan.ends ++ others } } → others ≡ ends → sorted ≡ record builder { plan = record builder.plan { sorting = by } } → sorted ≡ builder_from objects by tips ends
+chosen objects by tips ends those others fresh from_tips builder sorted f t those_are e others_are s =
+    s ∙ ap (in_order by) (e ∙ ap (with_more_ends from_tips) others_are ∙ ap (λ b. with_more_ends b ends) (t ∙ ap (with_more_tips fresh) those_are ∙ ap (λ b. with_more_tips b tips) f))
+
+module _ (objects : Objects) (by : TopoSorting) (tips ends : List ObjectId) (builder : Builder) (same : builder ≡ builder_from objects by tips ends) where
+  pub built_from : (answer : Result topo.Walk TopoError) → Built objects_of never_faulty accepts_all builder answer → topo.IsBuiltFrom objects by tips ends answer
+  built_from answer h = subst (λ (b : Builder). Built objects_of never_faulty accepts_all b answer) same h
+
+  -- the walk couldn't be built
+  pub build_failed : (why : TopoError) (result : Result topo.Walk Fault) (e : Fault) → result ≡ Err e → e ≡ fault_of_topo_walk why → Built objects_of never_faulty accepts_all builder (Err why) → IfErr result (topo.IsStartFault objects by tips ends)
+  build_failed why result e is fault h = subst (λ (r : Result topo.Walk Fault). IfErr r (topo.IsStartFault objects by tips ends)) (sym is) (λ other. (why, built_from (Err why) h, fault))

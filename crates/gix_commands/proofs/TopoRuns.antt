@@ -1,0 +1,135 @@
+-- What a run of `topo` or `date` writes, by what commits reach.
+use Rattle.std.specs.Prelude.{◌≡◌, ℕ, List, [], ◌∷◌, ◌++◌, map, filter, true, Option, Some, None, Result, Ok, Err, All}
+use Rattle.std.specs.Io.KnownBytes.{Appends}
+use Rattle.std.specs.Iterator.{Yields}
+use Rattle.std.specs.List.{AllZip}
+use Rattle.std.proofs.Common.{refl, sym, ap, subst, ◌∙◌}
+use Rattle.std.proofs.lemmas.List.Elements.{All-nil, All-cons, Contains-append_left, Contains-append_right}
+use Rattle.std.specs.FinSet as set
+use Rattle.gix_hash.specs.declared.ObjectId.{ObjectId}
+use Rattle.gix_object.specs.declared.Kind.TheVariants as object
+use Rattle.gix_object.specs.declared.find.existing_iter.Error.TheVariants as existing
+use Rattle.gix_object.specs.Find.{IsExistingFault}
+use Rattle.gix_hash.specs.Id.{id_cmp}
+use Rattle.gix_object.specs.Object.{Objects}
+use Rattle.gix_revwalk.specs.declared.Info.{Info}
+use Rattle.gix_topo.specs.declared.Error.{Error}
+use Rattle.gix_topo.specs.declared.Error.TheVariants as error
+use Rattle.gix_topo.specs.declared.Sorting.{Sorting}
+use Rattle.gix_revwalk.specs.Commits.{parents_of}
+use Rattle.gix_hash.specs.Reach.{step}
+use Rattle.gix_topo.specs.Laws.{IsNoRefusal, IsTakenInOrder, IsGiven, IsWholeRun, GivesInOrder}
+use Rattle.gix_topo.specs.Walk.{TopoPlan, IsFault, IsFirstReady, IsNextReady, IsSound, ended, given, refused, failed}
+use Rattle.gix_revwalk.proofs.Rows.{none_agree}
+use Rattle.gix_topo.proofs.Run.Corollaries.{once}
+use Rattle.gix_topo.proofs.Run.Theorem.{gives}
+use Rattle.gix_commands.specs.declared.fault.Fault.{Fault}
+use Rattle.gix_commands.specs.declared.words.Order.TheVariants.{Topo}
+use Rattle.gix_commands.specs.Faults.{fault_of_topo_walk}
+use Rattle.gix_commands.specs.Histories.{AreWhole, ListsDown, TopoLists, TopoSucceeds, EndsWell, IsOutside, lines_of_ids}
+use Rattle.gix_records.specs.Records.{stored}
+use Rattle.gix_commands.specs.Run.{Serves, walked_down, not_built, unserved, not_written}
+use Rattle.gix_commands.specs.TopoWalked.{Walk, Answers, IsWalkFault, IsBuiltFrom, plan_from}
+use Rattle.gix_commands.specs.Walked.{Ends, finished, failed as fell, cut_short, objects_of, never_faulty, accepts_all, given as all_given}
+use Rattle.gix_commands.specs.Words.{Commits}
+use Rattle.gix_commands.proofs.CommitRuns.{served_so, ends_well, lines_by_ids}
+use Rattle.gix_simple.proofs.Difference.{whole_from}
+use Rattle.gix_revwalk.proofs.Reached.{reach_more}
+
+unrefused : (infos : List Info) → All IsNoRefusal (all_given infos)
+unrefused [] = All-nil IsNoRefusal
+unrefused (info ∷ infos) = All-cons IsNoRefusal (Ok info) (all_given infos) ((λ e. cc), (λ e. cc)) (unrefused infos)
+
+same_ids : (plan : TopoPlan Objects) (infos : List Info) (ids : List ObjectId) → AllZip (IsGiven objects_of plan) (all_given infos) (filter (λ i. true) ids) → map (λ info. info.id) infos ≡ ids
+same_ids plan [] [] h = refl
+same_ids plan [] (i ∷ ids) h = absurd h
+same_ids plan (info ∷ infos) [] h = absurd h
+same_ids plan (info ∷ infos) (i ∷ ids) h = (λ k. h.0.info_is.same_id k ∷ same_ids plan infos ids h.1 k)
+
+-- the plan stays
+next_plan : {old new : Walk} {answer : Option (Result Info Error)} → Answers old answer new → new.plan ≡ old.plan
+next_plan (ended e) = refl
+next_plan (given t a i) = refl
+next_plan (refused t a h) = next_plan h
+next_plan (failed c others h f late) = refl
+
+yields_plan : (walk at : Walk) (list : List (Result Info Error)) → Yields Answers walk list at → at.plan ≡ walk.plan
+yields_plan walk at [] h = ap (λ w. w.plan) (sym h)
+yields_plan walk at (answer ∷ list) h = yields_plan h.0 at list h.2 ∙ next_plan h.1
+
+-- what an answer says of the plan
+abbrev Says : TopoPlan Objects → Option (Result Info Error) → Type 0
+Says plan None = Unit {0}
+Says plan (Some (Ok info)) = Unit {0}
+Says plan (Some (Err e)) = (taken : set.FinSet id_cmp) × (c : ObjectId) × IsFault objects_of never_faulty plan (IsNextReady objects_of plan taken c) e
+
+next_says : {old new : Walk} {answer : Option (Result Info Error)} → Answers old answer new → Says old.plan answer
+next_says (ended e) = tt
+next_says (given t a i) = tt
+next_says (refused t a h) = next_says h
+next_says (failed {old = old} c others h f late) = (old.taken, c.id, f)
+
+module _ (objects : Objects) (by : Sorting) (tips ends : List ObjectId) (whole : AreWhole objects (tips ++ ends)) where
+  sound : IsSound objects_of never_faulty (plan_from objects by tips ends)
+  sound = record {
+    agreeing = none_agree objects [] refl;
+    tips_whole = λ i r. whole_from objects i (whole i (reach_more (parents_of objects) tips (tips ++ ends) (λ j c. Contains-append_left tips ends j c) i r));
+    parents_whole = λ c i r n. whole_from objects i (whole i (reach_more (parents_of objects) tips (tips ++ ends) (λ j m. Contains-append_left tips ends j m) i (step r n)));
+    ends_whole = λ i r. whole_from objects i (whole i (reach_more (parents_of objects) ends (tips ++ ends) (λ j c. Contains-append_right tips ends j c) i r));
+  }
+
+  -- over whole commits the only fault is out of memory
+  outside : (BecomesReady : ObjectId → Type 0) (e : Error) → IsFault objects_of never_faulty (plan_from objects by tips ends) BecomesReady e → IsOutside (fault_of_topo_walk e)
+  outside Q error.MissingIndegreeUnexpected h = absurd (h (none_agree objects [] refl))
+  outside Q error.MissingStateUnexpected h = absurd h
+  outside Q (error.ObjectDecode e) h = let same : error.ObjectDecode e ≡ error.Find existing.Store = h.2.store_fails sound in cc
+  outside Q (error.Find e) h =
+      let same : error.Find e ≡ error.Find existing.Store = h.2.store_fails sound in
+      let store : e ≡ existing.Store = cc in
+      absurd (subst (IsExistingFault objects (never_faulty objects) h.0 object.Commit) store h.1)
+  outside Q error.Memory h = tt
+
+  module _ (walk : Walk) (built : IsBuiltFrom objects by tips ends (Ok walk)) where
+    drawn_outside : (infos : List Info) (answer : Result (Unit {0}) Fault) → Ends Answers IsWalkFault walk infos answer → EndsWell answer
+    drawn_outside infos answer (finished new h) = tt
+    drawn_outside infos answer (fell e f new h is) =
+        let says : (taken : set.FinSet id_cmp) × (c : ObjectId) × IsFault objects_of never_faulty (plan_from objects by tips ends) (IsNextReady objects_of (plan_from objects by tips ends) taken c) e =
+        subst (λ plan. (taken : set.FinSet id_cmp) × (c : ObjectId) × IsFault objects_of never_faulty plan (IsNextReady objects_of plan taken c) e) (yields_plan walk h.0 (all_given infos) h.1 ∙ built.0.plan) (next_says h.2) in
+        subst IsOutside (sym is) (outside (IsNextReady objects_of (plan_from objects by tips ends) says.0 says.1) e says.2)
+    drawn_outside infos answer (cut_short info new h) = tt
+
+    listed : (infos : List Info) → Ends Answers IsWalkFault walk infos (Ok tt) → ListsDown objects by tips ends (map (λ info. info.id) infos)
+    listed infos (finished new h) =
+        let run : IsWholeRun objects_of never_faulty accepts_all walk (λ i. true) (all_given infos) =
+        record {
+          by_test = λ mid last i answer b a. a.0;
+          started = built.1;
+          sound = subst (IsSound objects_of never_faulty) (sym built.0.plan) sound;
+          unrefused = unrefused infos;
+          drawn = (new, h);
+        } in
+        let g : GivesInOrder objects_of walk.plan (λ i. true) (all_given infos) = gives objects_of never_faulty accepts_all (λ i. true) walk (all_given infos) run in
+        let order : IsTakenInOrder objects_of (plan_from objects by tips ends) g.ids = subst (λ plan. IsTakenInOrder objects_of plan g.ids) built.0.plan g.in_order in
+        let each = once objects_of (plan_from objects by tips ends) g.ids order in
+        subst (ListsDown objects by tips ends) (sym (same_ids walk.plan infos g.ids g.given)) (record {
+          once = each.0;
+          shown = λ i c. let m = each.1 i c in (m.reached, m.outside);
+          all = λ acyclic i s. each.2 acyclic i (record { reached = s.0; outside = s.1 });
+          in_order = order;
+        })
+
+  module _ (old : Option (List ℕ)) where
+    lists : (new : Option (List ℕ)) → Serves objects old (Commits (Topo by) tips ends) (Ok tt) new → (ids : List ObjectId) × ListsDown objects by tips ends ids × Appends old new (lines_of_ids ids)
+    lists new (walked_down walk infos built ends written) = (map (λ info. info.id) infos, listed walk built infos ends, subst (Appends old new) (lines_by_ids infos) written)
+
+    well : (answer : Result (Unit {0}) Fault) (new : Option (List ℕ)) → Serves objects old (Commits (Topo by) tips ends) answer new → EndsWell answer
+    well answer new (walked_down walk infos built ends written) = drawn_outside walk built infos answer ends
+    well answer new (not_built e h) = outside (IsFirstReady objects_of (plan_from objects by tips ends)) e h.1
+    well answer new unserved = tt
+    well answer new not_written = tt
+
+pub topo_lists : TopoLists
+topo_lists words input records by tips ends old new asked are whole runs = lists (stored records) by tips ends whole old new (served_so words input records (Commits (Topo by) tips ends) old new asked are runs)
+
+pub topo_succeeds : TopoSucceeds
+topo_succeeds words input records by tips ends answer old new asked are whole runs = ends_well words input records (Commits (Topo by) tips ends) answer old new asked are (well (stored records) by tips ends whole old) runs

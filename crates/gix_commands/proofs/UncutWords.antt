@@ -1,0 +1,44 @@
+-- No command names a cutoff.
+use Rattle.std.specs.Prelude.{◌≡◌, ℕ, List, Bool, true, false, cond, Option, Some, None, Result, Ok, Err, codes}
+use Rattle.std.specs.Str.{bytes_eq}
+use Rattle.std.proofs.Common.{subst}
+use Rattle.gix_hash.specs.declared.ObjectId.{ObjectId}
+use Rattle.gix_revwalk.specs.declared.CommitTimeOrder.TheVariants as order
+use Rattle.gix_simple.specs.declared.Sorting.{Sorting}
+use Rattle.gix_simple.specs.declared.Sorting.TheVariants as sorting
+use Rattle.gix_topo.specs.declared.Sorting.TheVariants as topo
+use Rattle.gix_commands.specs.declared.fault.Fault.{Fault}
+use Rattle.gix_commands.specs.declared.words.Order.{Order}
+use Rattle.gix_commands.specs.declared.words.Order.TheVariants.{Simple, Topo}
+use Rattle.gix_commands.specs.Words.{Request, Commits, Files, Ahead, Ids, ids_from, order_named, commits_from, request_of}
+use Rattle.gix_commands.proofs.SimpleRuns.{IsUncut}
+use Rattle.gix_commands.proofs.WordFaults.{each_request}
+
+abbrev UncutOrder : Option Order → Type 0
+UncutOrder None = Unit {0}
+UncutOrder (Some (Simple by)) = IsUncut by
+UncutOrder (Some (Topo by)) = Unit {0}
+
+abbrev UncutRequest : Result Request Fault → Type 0
+UncutRequest (Ok (Commits by tips hidden)) = UncutOrder (Some by)
+UncutRequest (Ok (Files tree)) = Unit {0}
+UncutRequest (Ok (Ahead one other)) = Unit {0}
+UncutRequest (Err e) = Unit {0}
+
+uncut_order : (name : List ℕ) → UncutOrder (order_named name)
+uncut_order name = go (bytes_eq name (codes "breadth")) (bytes_eq name (codes "newest")) (bytes_eq name (codes "oldest")) (bytes_eq name (codes "topo")) (bytes_eq name (codes "date"))
+  where
+    go : (a b c d e : Bool) → UncutOrder (cond a (Some (Simple sorting.BreadthFirst)) (cond b (Some (Simple (sorting.ByCommitTime order.NewestFirst))) (cond c (Some (Simple (sorting.ByCommitTime order.OldestFirst))) (cond d (Some (Topo topo.TopoOrder)) (cond e (Some (Topo topo.DateOrder)) None)))))
+    go true b c d e = tt
+    go false true c d e = tt
+    go false false true d e = tt
+    go false false false true e = tt
+    go false false false false true = tt
+    go false false false false false = tt
+
+from_ids : (by : Order) (r : Result Ids Fault) → UncutOrder (Some by) → UncutRequest (commits_from by r)
+from_ids by (Ok ids) h = h
+from_ids by (Err e) h = tt
+
+pub uncut : (words : List (List ℕ)) (by : Sorting) (tips hidden : List ObjectId) → request_of words ≡ Ok (Commits (Simple by) tips hidden) → IsUncut by
+uncut words by tips hidden e = subst UncutRequest e (each_request UncutRequest tt (λ n. tt) (λ i. tt) (λ i j. tt) (λ name by named ids. from_ids by (ids_from 2 ids) (subst UncutOrder named (uncut_order name))) words)

@@ -1,0 +1,80 @@
+-- What is so of each request that words spell, and which faults words may have.
+use Rattle.std.specs.Prelude.{◌≡◌, ℕ, ◌+◌, List, [], ◌∷◌, Bool, true, false, ◌||◌, Option, Some, None, Result, Ok, Err, codes}
+use Rattle.std.specs.List.{list_all}
+use Rattle.std.specs.Str.{bytes_eq}
+use Rattle.std.proofs.Common.{refl, cond}
+use Rattle.gix_hash.specs.declared.ObjectId.{ObjectId}
+use Rattle.gix_hash.specs.declared.HexError.{HexError}
+use Rattle.gix_hash.specs.Id.{id_from_hex}
+use Rattle.gix_commands.specs.declared.fault.Fault.{Fault}
+use Rattle.gix_commands.specs.declared.fault.Fault.TheVariants as fault
+use Rattle.gix_commands.specs.declared.words.Order.{Order}
+use Rattle.gix_commands.specs.Words.{Request, Files, Ahead, Ids, begins_with_caret, without_caret, with_word, ids_from, order_named, commits_from, files_from, files_of, ahead_from, ahead_of, request_named, request_of}
+
+-- what is so of a wrong use, of a word that spells no id, of a tree, of two commits to compare and of what an order's words ask for
+module _ (P : Result Request Fault → Type 0) (usage : P (Err fault.Usage)) (no_id : (n : ℕ) → P (Err (fault.Id n))) (tree : (i : ObjectId) → P (Ok (Files i))) (pair : (i j : ObjectId) → P (Ok (Ahead i j))) where
+  either : (t : Bool) (a b : Result Request Fault) → P a → P b → P (cond t a b)
+  either true a b h k = h
+  either false a b h k = k
+
+  from_tree : (r : Result ObjectId HexError) → P (files_from r)
+  from_tree (Ok i) = tree i
+  from_tree (Err e) = no_id 2
+
+  from_trees : (ids : List (List ℕ)) → P (files_of ids)
+  from_trees [] = usage
+  from_trees (id ∷ []) = either (begins_with_caret id) (Err fault.Usage) (files_from (id_from_hex id)) usage (from_tree (id_from_hex id))
+  from_trees (id ∷ next ∷ ids) = usage
+
+  from_pair : (one other : Result ObjectId HexError) → P (ahead_from one other)
+  from_pair (Ok one) (Ok other) = pair one other
+  from_pair (Ok one) (Err e) = no_id 3
+  from_pair (Err e) other = no_id 2
+
+  from_pairs : (ids : List (List ℕ)) → P (ahead_of ids)
+  from_pairs [] = usage
+  from_pairs (one ∷ []) = usage
+  from_pairs (one ∷ other ∷ []) = either (begins_with_caret one || begins_with_caret other) (Err fault.Usage) (ahead_from (id_from_hex one) (id_from_hex other)) usage (from_pair (id_from_hex one) (id_from_hex other))
+  from_pairs (one ∷ other ∷ next ∷ ids) = usage
+
+  from_name : (name : List ℕ) (o : Option Order) (ids : List (List ℕ)) → ((by : Order) → o ≡ Some by → P (commits_from by (ids_from 2 ids))) → P (request_named name o ids)
+  from_name name (Some by) ids h = either (list_all begins_with_caret ids) (Err fault.Usage) (commits_from by (ids_from 2 ids)) usage (h by refl)
+  from_name name None ids h = either (bytes_eq name (codes "files")) (files_of ids) _ (from_trees ids) (either (bytes_eq name (codes "ahead")) (ahead_of ids) (Err fault.Usage) (from_pairs ids) usage)
+
+  -- is so of each request
+  pub each_request : ((name : List ℕ) (by : Order) → order_named name ≡ Some by → (ids : List (List ℕ)) → P (commits_from by (ids_from 2 ids))) → (words : List (List ℕ)) → P (request_of words)
+  each_request h [] = usage
+  each_request h (name ∷ ids) = from_name name (order_named name) ids (λ by e. h name by e ids)
+
+abbrev pub IsOfWords : Fault → Type 0
+IsOfWords fault.Usage = Unit {0}
+IsOfWords (fault.Id n) = Unit {0}
+IsOfWords (fault.Record n) = ⊥
+IsOfWords (fault.Missing i) = ⊥
+IsOfWords (fault.WrongKind i) = ⊥
+IsOfWords fault.Broken = ⊥
+IsOfWords (fault.Cycle i) = ⊥
+IsOfWords fault.Memory = ⊥
+IsOfWords fault.Read = ⊥
+IsOfWords fault.Write = ⊥
+IsOfWords fault.Internal = ⊥
+
+abbrev pub OfWords : {X : Type 0} → Result X Fault → Type 0
+OfWords (Ok x) = Unit {0}
+OfWords (Err e) = IsOfWords e
+
+with_words : (hidden : Bool) (n : ℕ) (r : Result ObjectId HexError) (rest : Result Ids Fault) → OfWords rest → OfWords (with_word hidden n r rest)
+with_words hidden n (Err e) rest h = tt
+with_words hidden n (Ok i) (Err f) h = h
+with_words hidden n (Ok i) (Ok ids) h = tt
+
+ids_words : (n : ℕ) (words : List (List ℕ)) → OfWords (ids_from n words)
+ids_words n [] = tt
+ids_words n (word ∷ words) = with_words (begins_with_caret word) n (id_from_hex (without_caret word)) (ids_from (n + 1) words) (ids_words (n + 1) words)
+
+commits_words : (by : Order) (r : Result Ids Fault) → OfWords r → OfWords (commits_from by r)
+commits_words by (Ok ids) h = tt
+commits_words by (Err e) h = h
+
+pub request_words : (words : List (List ℕ)) → OfWords (request_of words)
+request_words = each_request OfWords tt (λ n. tt) (λ i. tt) (λ i j. tt) (λ name by e ids. commits_words by (ids_from 2 ids) (ids_words 2 ids))

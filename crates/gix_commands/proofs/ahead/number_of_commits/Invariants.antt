@@ -1,0 +1,13 @@
+use Rattle.std.proofs.Common.{◌≡◌, length, List}
+use Rattle.std.specs.Iterator.{Yields}
+use Rattle.gix_revwalk.specs.declared.Info.{Info}
+use Rattle.gix_commands.specs.Walked.{given}
+use Rattle.gix_commands.proofs.ahead.number_of_commits.Given as goal
+
+-- the walk gave commits, and they were counted
+abbrev pub invariant-loop-answer : goal.invariant-loop-answer
+invariant-loop-answer g l = record {
+  infos : List Info;
+  drawn : Yields g.I.Iterator.next_gives l.fn.walk (given infos) l.answer-iterator;
+  counted : l.number ≡ length infos;
+}

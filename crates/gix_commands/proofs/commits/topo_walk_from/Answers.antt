@@ -1,0 +1,26 @@
+use Rattle.std.proofs.Common.{List, Ok, ◌∙◌}
+use Rattle.std.proofs.lemmas.Result.{err_from_is_err_and}
+use Rattle.gix_hash.specs.declared.ObjectId.{ObjectId}
+use Rattle.gix_commands.proofs.StartFacts.{drained, chosen, built_from, build_failed}
+use Rattle.gix_commands.proofs.commits.topo_walk_from.Goals as goal
+
+pub returns-in_err-walk-clause-err : goal.returns-in_err-walk-clause-err
+returns-in_err-walk-clause-err c =
+    let p = err_from_is_err_and c.from_residual-in_err-walk.result c.from_residual-in_err-walk.ensures.1 in
+    let t = c.in_ok-from_tips.ensures in
+    let e = c.in_ok-builder.ensures in
+    let tips : List ObjectId = c.args.tips.items in
+    let ends : List ObjectId = c.args.ends.items in
+    build_failed _ _ tips ends c.sorting.result
+    (chosen c.args.store c.args.sorting tips ends t.1 e.1 _ _ _ _ c.new.ensures t.4 (drained tips t.1 t.0 t.2.0 (t.2.1 ∙ c.args.tips.ok.0) t.3) e.4 (drained ends e.1 e.0 e.2.0 (e.2.1 ∙ c.args.ends.ok.0) e.3) c.sorting.ensures)
+    _ _ _ p.1 p.2 c.in_err-walk.ensures
+
+pub returns-clause-ok : goal.returns-clause-ok
+returns-clause-ok c =
+    let t = c.in_ok-from_tips.ensures in
+    let e = c.in_ok-builder.ensures in
+    let tips : List ObjectId = c.args.tips.items in
+    let ends : List ObjectId = c.args.ends.items in
+    built_from c.args.store c.args.sorting tips ends c.sorting.result
+    (chosen c.args.store c.args.sorting tips ends t.1 e.1 _ _ _ _ c.new.ensures t.4 (drained tips t.1 t.0 t.2.0 (t.2.1 ∙ c.args.tips.ok.0) t.3) e.4 (drained ends e.1 e.0 e.2.0 (e.2.1 ∙ c.args.ends.ok.0) e.3) c.sorting.ensures)
+    (Ok c.in_ok-walk.walk) c.in_ok-walk.ensures

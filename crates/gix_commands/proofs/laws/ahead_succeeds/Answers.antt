@@ -1,0 +1,5 @@
+use Rattle.gix_commands.proofs.SimpleFaults.{ahead_succeeds}
+use Rattle.gix_commands.proofs.laws.ahead_succeeds.Goals as goal
+
+pub returns : goal.returns
+returns c = ahead_succeeds

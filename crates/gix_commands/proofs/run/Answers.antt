@@ -1,0 +1,39 @@
+use Rattle.std.proofs.Common.{Err, ◌∙◌, ap}
+use Rattle.std.proofs.lemmas.Result.{err_from_is_err_and}
+use Rattle.gix_commands.proofs.RunFacts.{no_rejection, runs_sound, runs_spelled, runs_words, runs_input, runs_served}
+use Rattle.gix_commands.proofs.run.Goals as goal
+
+pub returns-in_err-command-clause-runs : goal.returns-in_err-command-clause-runs
+returns-in_err-command-clause-runs g c =
+    let p = err_from_is_err_and c.from_residual.result c.from_residual.ensures.1 in
+    runs_words _ _ _ _ _ (p.1 ∙ ap (λ f. Err f) p.2) c.in_err-command.ensures
+
+pub returns-in_err-command-clause-sound : goal.returns-in_err-command-clause-sound
+returns-in_err-command-clause-sound g c = runs_sound (returns-in_err-command-clause-runs g c)
+
+pub returns-in_err-store-clause-runs : goal.returns-in_err-store-clause-runs
+returns-in_err-store-clause-runs g c =
+    let p = err_from_is_err_and c.from_residual-in_err-store.result c.from_residual-in_err-store.ensures.1 in
+    runs_input _ _ _ _ _ _ _ c.in_ok-command.ensures p.1 p.2 c.in_err-store.ensures.fault
+
+pub returns-clause-runs : goal.returns-clause-runs
+returns-clause-runs g c =
+    runs_served _ _ _ _ c.in_ok-command.ensures _ c.in_ok-store.ensures.read _ _ c.serve.ensures
+
+pub returns-clause-sound : goal.returns-clause-sound
+returns-clause-sound g c = runs_sound (returns-clause-runs g c)
+
+pub returns-in_err-command-clause-spelled : goal.returns-in_err-command-clause-spelled
+returns-in_err-command-clause-spelled g c = runs_spelled (returns-in_err-command-clause-runs g c)
+
+pub returns-in_err-store-clause-spelled : goal.returns-in_err-store-clause-spelled
+returns-in_err-store-clause-spelled g c = runs_spelled (returns-in_err-store-clause-runs g c)
+
+pub returns-clause-spelled : goal.returns-clause-spelled
+returns-clause-spelled g c = runs_spelled (returns-clause-runs g c)
+
+pub returns-in_err-store-clause-unread : goal.returns-in_err-store-clause-unread
+returns-in_err-store-clause-unread g c = no_rejection c.in_ok-command.ensures
+
+pub returns-clause-unread : goal.returns-clause-unread
+returns-clause-unread g c = no_rejection c.in_ok-command.ensures

@@ -1,0 +1,39 @@
+-- The entries of a tree and of the trees in it, and the lines that they are written as.
+use Rattle.std.specs.Prelude.{◌≡◌, ◌≢◌, ℕ, ◌-◌, List, [], ◌∷◌, ◌++◌, length, replicate, false, Result, Ok, Err}
+use Rattle.std.specs.Fmt.{digits}
+use Rattle.std.specs.List.{flat_map}
+use Rattle.gix_hash.specs.declared.ObjectId.{ObjectId}
+use Rattle.gix_hash.specs.Id.{hex_of}
+use Rattle.gix_object.specs.Object.{Objects}
+use Rattle.gix_tree.specs.declared.breadthfirst.Error.{Error}
+use Rattle.gix_tree.specs.Recorder.{Record}
+use Rattle.gix_tree.specs.Tracked.{Tracked, Tracks, fresh_recorder}
+use Rattle.gix_tree.specs.Walk.{DepthFirst}
+use Rattle.gix_commands.specs.declared.fault.Fault.{Fault}
+use Rattle.gix_commands.specs.declared.fault.Fault.TheVariants as fault
+use Rattle.gix_commands.specs.Faults.{fault_of_tree_walk}
+use Rattle.gix_commands.specs.Walked.{never_faulty}
+
+-- a walk in depth over stored objects, whose look-ups don't fail, answers this and leaves a fresh recorder so
+abbrev pub RecordsTree : Objects → ObjectId → Tracked → Result (Unit {0}) Error → Type 0
+RecordsTree objects tree recorder answer = DepthFirst objects (never_faulty objects) Tracks tree fresh_recorder recorder answer
+
+-- a number in octal digits, with zeros before them up to six
+abbrev pub six_octal_digits : ℕ → List ℕ
+six_octal_digits n = let shown = digits 8 false n in replicate (6 - length shown) 48 ++ shown
+
+-- an entry's mode, a space, its id, a space, its path and a newline
+abbrev pub file_line : Record → List ℕ
+file_line r = six_octal_digits r.mode ++ 32 ∷ (hex_of r.id ++ 32 ∷ (r.path ++ 10 ∷ []))
+
+-- entries, one a line
+abbrev pub file_lines : List Record → List ℕ
+file_lines records = flat_map file_line records
+
+-- these are the lines of the entries of a tree and of the trees in it
+abbrev pub AreLinesOf : Objects → ObjectId → List ℕ → Type 0
+AreLinesOf objects tree lines = (recorder : Tracked) × RecordsTree objects tree recorder (Ok tt) × (lines ≡ file_lines recorder.held.records)
+
+-- a walk through a tree may fail so, unless memory ran out
+abbrev pub IsTreeFault : Objects → ObjectId → Fault → Type 0
+IsTreeFault objects tree e = e ≢ fault.Memory → (recorder : Tracked) × (why : Error) × RecordsTree objects tree recorder (Err why) × (e ≡ fault_of_tree_walk why)

@@ -1,0 +1,135 @@
+-- What a run writes of a history, by what commits reach alone.
+use Rattle.std.specs.Prelude.{◌≡◌, ◌≢◌, ◌↔◌, ℕ, List, [], ◌∷◌, ◌++◌, map, filter, Bool, false, not, Contains, Option, Some, Result, Ok, Err, IsSome}
+use Rattle.std.specs.Io.KnownBytes.{Appends}
+use Rattle.std.specs.List.{flat_map}
+use Rattle.gix_hash.specs.declared.ObjectId.{ObjectId}
+use Rattle.gix_object.specs.Object.{Objects}
+use Rattle.gix_revwalk.specs.declared.Info.{Info}
+use Rattle.gix_revwalk.specs.declared.Parents.TheVariants as mode
+use Rattle.gix_simple.specs.declared.Sorting.{Sorting}
+use Rattle.gix_topo.specs.declared.Sorting.{Sorting as TopoSorting}
+use Rattle.gix_revwalk.specs.Commits.{parents_of, commit_at, time_of}
+use Rattle.gix_hash.specs.Reach.{Reaches, Tells, IsAcyclic}
+use Rattle.gix_topo.specs.WalkSet.{IsInWalk}
+use Rattle.gix_revwalk.specs.Ids.{AreDistinct, new_ids}
+use Rattle.gix_simple.specs.Laws.{IsInOrder}
+use Rattle.gix_simple.specs.Walk.{time_order}
+use Rattle.gix_topo.specs.Laws.{IsSorted}
+use Rattle.gix_topo.specs.Walk.{IsNumberOf}
+use Rattle.gix_commands.specs.declared.fault.Fault.{Fault}
+use Rattle.gix_commands.specs.declared.fault.Fault.TheVariants as fault
+use Rattle.gix_commands.specs.declared.words.Order.{Order}
+use Rattle.gix_commands.specs.declared.words.Order.TheVariants.{Simple, Topo}
+use Rattle.gix_commands.specs.Ahead.{Draws, ahead_line}
+use Rattle.gix_records.specs.Records.{Record, AreRecords, stored}
+use Rattle.gix_commands.specs.Run.{Runs}
+use Rattle.gix_commands.specs.Walked.{line_of}
+use Rattle.gix_commands.specs.Words.{Ahead, Commits, request_of}
+
+-- the tips reach the commit, and the hidden tips don't
+abbrev pub IsShown : Objects → List ObjectId → List ObjectId → ObjectId → Type 0
+IsShown objects tips hidden i = Reaches (parents_of objects) tips i × (Reaches (parents_of objects) hidden i → ⊥)
+
+-- all that the ids reach are whole commits
+abbrev pub AreWhole : Objects → List ObjectId → Type 0
+AreWhole objects ids = (i : ObjectId) → Reaches (parents_of objects) ids i → IsSome (commit_at objects i)
+
+-- in breadth order or in one by time, from the tips through parents, without what the hidden tips reach
+abbrev pub IsListedSo : Objects → Sorting → List ObjectId → List ObjectId → List ObjectId → Type 0
+IsListedSo objects by tips hidden ids =
+    (hides : ObjectId → Bool) × Tells hides (Reaches (parents_of objects) hidden)
+    × IsInOrder (time_order mode.All by) (time_of objects) (λ c. filter (λ i. not (hides i)) (parents_of objects c)) (filter (λ i. not (hides i)) (new_ids (λ i. false) tips)) ids
+
+-- each commit that the tips reach and the hidden tips don't is there once, and no other, in the order that was asked for
+pub record Lists (objects : Objects) (by : Sorting) (tips hidden ids : List ObjectId) : Type 0 where
+  pub once : AreDistinct ids
+  pub exact : (i : ObjectId) → Contains ids i ↔ IsShown objects tips hidden i
+  pub in_order : IsListedSo objects by tips hidden ids
+
+-- ids, one a line
+abbrev pub lines_of_ids : List ObjectId → List ℕ
+lines_of_ids ids = flat_map line_of ids
+
+-- Over words that ask for `breadth`, `newest` or `oldest` and records, where all that tips and hidden tips reach are whole commits, a
+-- run that ends well writes such a list.
+abbrev pub SimpleLists : Type 0
+SimpleLists =
+    (words : List (List ℕ)) (input : List ℕ) (records : List Record) (by : Sorting) (tips hidden : List ObjectId) (old new : Option (List ℕ)) →
+    request_of words ≡ Ok (Commits (Simple by) tips hidden) → AreRecords records input → AreWhole (stored records) (tips ++ hidden) → Runs words (Some input) old (Ok tt) new →
+    (ids : List ObjectId) × Lists (stored records) by tips hidden ids × Appends old new (lines_of_ids ids)
+
+-- No id is there twice, and each is one that the tips reach and the ends don't. Where no commit is its own ancestor, all of these are
+-- there. They are in the order that was asked for.
+pub record ListsDown (objects : Objects) (by : TopoSorting) (tips ends ids : List ObjectId) : Type 0 where
+  pub once : AreDistinct ids
+  pub shown : (i : ObjectId) → Contains ids i → IsShown objects tips ends i
+  pub all : IsAcyclic (parents_of objects) → (i : ObjectId) → IsShown objects tips ends i → Contains ids i
+  pub in_order : IsSorted by (time_of objects) (parents_of objects) (IsInWalk (parents_of objects) (parents_of objects) tips ends) tips ids
+
+-- The same of `topo` and `date`.
+abbrev pub TopoLists : Type 0
+TopoLists =
+    (words : List (List ℕ)) (input : List ℕ) (records : List Record) (by : TopoSorting) (tips ends : List ObjectId) (old new : Option (List ℕ)) →
+    request_of words ≡ Ok (Commits (Topo by) tips ends) → AreRecords records input → AreWhole (stored records) (tips ++ ends) → Runs words (Some input) old (Ok tt) new →
+    (ids : List ObjectId) × ListsDown (stored records) by tips ends ids × Appends old new (lines_of_ids ids)
+
+-- out of memory, or the input or the output failed
+abbrev pub IsOutside : Fault → Type 0
+IsOutside fault.Memory = Unit {0}
+IsOutside fault.Read = Unit {0}
+IsOutside fault.Write = Unit {0}
+IsOutside fault.Usage = ⊥
+IsOutside (fault.Id n) = ⊥
+IsOutside (fault.Record n) = ⊥
+IsOutside (fault.Missing i) = ⊥
+IsOutside (fault.WrongKind i) = ⊥
+IsOutside fault.Broken = ⊥
+IsOutside (fault.Cycle i) = ⊥
+IsOutside fault.Internal = ⊥
+
+-- nothing in the words and the input was at fault
+abbrev pub EndsWell : Result (Unit {0}) Fault → Type 0
+EndsWell (Ok done) = Unit {0}
+EndsWell (Err e) = IsOutside e
+
+-- A run of `breadth`, `newest` or `oldest` over whole commits ends well.
+abbrev pub SimpleSucceeds : Type 0
+SimpleSucceeds =
+    (words : List (List ℕ)) (input : List ℕ) (records : List Record) (by : Sorting) (tips hidden : List ObjectId) (answer : Result (Unit {0}) Fault) (old new : Option (List ℕ)) →
+    request_of words ≡ Ok (Commits (Simple by) tips hidden) → AreRecords records input → AreWhole (stored records) (tips ++ hidden) → Runs words (Some input) old answer new → EndsWell answer
+
+-- The same of `ahead`.
+abbrev pub AheadSucceeds : Type 0
+AheadSucceeds =
+    (words : List (List ℕ)) (input : List ℕ) (records : List Record) (one other : ObjectId) (answer : Result (Unit {0}) Fault) (old new : Option (List ℕ)) →
+    request_of words ≡ Ok (Ahead one other) → AreRecords records input → AreWhole (stored records) (one ∷ other ∷ []) → Runs words (Some input) old answer new → EndsWell answer
+
+-- A run of `topo` or `date` over whole commits ends well.
+abbrev pub TopoSucceeds : Type 0
+TopoSucceeds =
+    (words : List (List ℕ)) (input : List ℕ) (records : List Record) (by : TopoSorting) (tips ends : List ObjectId) (answer : Result (Unit {0}) Fault) (old new : Option (List ℕ)) →
+    request_of words ≡ Ok (Commits (Topo by) tips ends) → AreRecords records input → AreWhole (stored records) (tips ++ ends) → Runs words (Some input) old answer new → EndsWell answer
+
+-- A walk breadth first from a tip through all parents, which hides what another commit reaches and ends well, gives exactly the commits
+-- that the tip reaches and the other doesn't, each once.
+abbrev pub DrawsDifference : Type 0
+DrawsDifference =
+    (objects : Objects) (tip hidden : ObjectId) (infos : List Info) → Draws objects tip hidden infos (Ok tt) →
+    AreDistinct (map (λ info. info.id) infos) × ((i : ObjectId) → Contains (map (λ info. info.id) infos) i ↔ IsShown objects (tip ∷ []) (hidden ∷ []) i)
+
+-- Over words that ask for it and records, a run of `ahead` that ends well writes how many commits the one reaches and the other
+-- doesn't, and how many the other reaches and the one doesn't.
+abbrev pub AheadCounts : Type 0
+AheadCounts =
+    (words : List (List ℕ)) (input : List ℕ) (records : List Record) (one other : ObjectId) (old new : Option (List ℕ)) →
+    request_of words ≡ Ok (Ahead one other) → AreRecords records input → Runs words (Some input) old (Ok tt) new →
+    (ahead behind : ℕ)
+    × IsNumberOf (IsShown (stored records) (one ∷ []) (other ∷ [])) ahead
+    × IsNumberOf (IsShown (stored records) (other ∷ []) (one ∷ [])) behind
+    × Appends old new (ahead_line ahead behind)
+
+-- A run that fails, and not by the writer, writes nothing, unless the words ask for a list of commits.
+abbrev pub FailsSilently : Type 0
+FailsSilently =
+    (words : List (List ℕ)) (has old new : Option (List ℕ)) (e : Fault) → Runs words has old (Err e) new → e ≢ fault.Write →
+    ((by : Order) (tips hidden : List ObjectId) → request_of words ≢ Ok (Commits by tips hidden)) → new ≡ old

@@ -1,0 +1,40 @@
+-- What a run writes of a tree, by its entries and the trees in it.
+use Rattle.std.specs.Prelude.{◌≡◌, ℕ, List, [], ◌∷◌, map, true, false, Option, Some, Result, Ok}
+use Rattle.std.specs.declared.ops.ControlFlow.TheVariants.{Continue}
+use Rattle.std.specs.Io.KnownBytes.{Appends}
+use Rattle.std.specs.List.{AllByRecursion}
+use Rattle.gix_hash.specs.declared.ObjectId.{ObjectId}
+use Rattle.gix_object.specs.Object.{Objects}
+use Rattle.gix_tree.specs.Preorder.{IsPreorder}
+use Rattle.gix_tree.specs.Laws.{AreSound}
+use Rattle.gix_tree.specs.Paths.{HaveNames, known_root}
+use Rattle.gix_tree.specs.Recorder.{record_of}
+use Rattle.gix_tree.specs.Script.{entries_at}
+use Rattle.gix_tree.specs.Visits.{Visit}
+use Rattle.gix_tree.specs.Walk.{LookUpFails, trees_of}
+use Rattle.gix_commands.specs.declared.fault.Fault.{Fault}
+use Rattle.gix_commands.specs.Files.{file_lines}
+use Rattle.gix_commands.specs.Histories.{EndsWell}
+use Rattle.gix_records.specs.Records.{Record, AreRecords, stored}
+use Rattle.gix_commands.specs.Run.{Runs}
+use Rattle.gix_commands.specs.Walked.{never_faulty}
+use Rattle.gix_commands.specs.Words.{Files, request_of}
+
+-- the entries of a tree and of all trees in it, in preorder, each with its place
+pub record Unfolds (objects : Objects) (tree : ObjectId) (visits : List Visit) : Type 0 where
+  pub in_order : IsPreorder (entries_at (trees_of objects)) (known_root tree) (entries_at (trees_of objects) tree) visits false
+  pub all : AllByRecursion (λ v. v.answer ≡ Continue true) visits
+
+-- Over words that ask for it and records, a run of `files` that ends well writes a line for each entry of the tree and of the trees in
+-- it, in preorder, with its path, where each name can be a part of a path.
+abbrev pub FilesLists : Type 0
+FilesLists =
+    (words : List (List ℕ)) (input : List ℕ) (records : List Record) (tree : ObjectId) (old new : Option (List ℕ)) →
+    request_of words ≡ Ok (Files tree) → AreRecords records input → Runs words (Some input) old (Ok tt) new →
+    (visits : List Visit) × Unfolds (stored records) tree visits × (HaveNames visits → Appends old new (file_lines (map record_of visits)))
+
+-- Where each tree in it reads whole, and none is under itself, it ends well.
+abbrev pub FilesSucceeds : Type 0
+FilesSucceeds =
+    (words : List (List ℕ)) (input : List ℕ) (records : List Record) (tree : ObjectId) (answer : Result (Unit {0}) Fault) (old new : Option (List ℕ)) →
+    request_of words ≡ Ok (Files tree) → AreRecords records input → AreSound (trees_of (stored records)) (LookUpFails (stored records) (never_faulty (stored records))) (λ e. true) (tree ∷ []) → Runs words (Some input) old answer new → EndsWell answer

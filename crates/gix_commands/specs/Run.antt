@@ -1,0 +1,57 @@
+-- What a run of the program may answer and write.
+use Rattle.std.specs.Prelude.{◌≡◌, ℕ, List, Option, Result, Ok, Err}
+use Rattle.std.specs.Io.KnownBytes.{Appends}
+use Rattle.gix_hash.specs.declared.ObjectId.{ObjectId}
+use Rattle.gix_object.specs.Object.{Objects}
+use Rattle.gix_revwalk.specs.declared.Info.{Info}
+use Rattle.gix_simple.specs.declared.Error.{Error}
+use Rattle.gix_simple.specs.declared.Sorting.{Sorting}
+use Rattle.gix_topo.specs.declared.Error.{Error as TopoError}
+use Rattle.gix_topo.specs.declared.Sorting.{Sorting as TopoSorting}
+use Rattle.gix_tree.specs.declared.breadthfirst.Error.{Error as TreeError}
+use Rattle.gix_tree.specs.Tracked.{Tracked}
+use Rattle.gix_commands.specs.declared.fault.Fault.{Fault}
+use Rattle.gix_commands.specs.declared.fault.Fault.TheVariants as fault
+use Rattle.gix_commands.specs.declared.words.Order.TheVariants.{Simple, Topo}
+use Rattle.gix_commands.specs.Ahead.{Counts, FailsToCount, ahead_line}
+use Rattle.gix_commands.specs.Faults.{fault_of_walk, fault_of_topo_walk, fault_of_tree_walk}
+use Rattle.gix_commands.specs.Files.{RecordsTree, file_lines}
+use Rattle.gix_records.specs.Input.{Tells}
+use Rattle.gix_records.specs.Records.{Record, AreRecords, IsBadRecord, stored}
+use Rattle.gix_commands.specs.TopoWalked as topo
+use Rattle.gix_commands.specs.Walked.{Walk, Answers, IsWalkFault, StartsFrom, FailsAtStart, Ends, lines_of}
+use Rattle.gix_commands.specs.Words.{Request, Commits, Files, Ahead, request_of}
+
+-- Over stored objects and a writer that has the bytes `old`: which answers a request may get, and which bytes the writer then has.
+pub data Serves (objects : Objects) (old : Option (List ℕ)) : Request → Result (Unit {0}) Fault → Option (List ℕ) → Type 0 where
+  -- the lines of the commits before a fault are written
+  walked : {by : Sorting} {tips hidden : List ObjectId} (walk : Walk) (infos : List Info) {answer : Result (Unit {0}) Fault} {new : Option (List ℕ)}
+      → StartsFrom objects by tips hidden walk → Ends Answers IsWalkFault walk infos answer → Appends old new (lines_of infos) → Serves objects old (Commits (Simple by) tips hidden) answer new
+  not_walked : {by : Sorting} {tips hidden : List ObjectId} (e : Error) → FailsAtStart objects by tips e → Serves objects old (Commits (Simple by) tips hidden) (Err (fault_of_walk e)) old
+  walked_down : {by : TopoSorting} {tips ends : List ObjectId} (walk : topo.Walk) (infos : List Info) {answer : Result (Unit {0}) Fault} {new : Option (List ℕ)}
+      → topo.IsBuiltFrom objects by tips ends (Ok walk) → Ends topo.Answers topo.IsWalkFault walk infos answer → Appends old new (lines_of infos) → Serves objects old (Commits (Topo by) tips ends) answer new
+  not_built : {by : TopoSorting} {tips ends : List ObjectId} (e : TopoError) → topo.IsBuiltFrom objects by tips ends (Err e) → Serves objects old (Commits (Topo by) tips ends) (Err (fault_of_topo_walk e)) old
+  listed : {tree : ObjectId} (recorder : Tracked) {new : Option (List ℕ)}
+      → RecordsTree objects tree recorder (Ok tt) → Appends old new (file_lines recorder.held.records) → Serves objects old (Files tree) (Ok tt) new
+  -- of a tree whose walk failed no line is written
+  not_listed : {tree : ObjectId} (recorder : Tracked) (e : TreeError) → RecordsTree objects tree recorder (Err e) → Serves objects old (Files tree) (Err (fault_of_tree_walk e)) old
+  counted : {one other : ObjectId} (ahead behind : ℕ) {new : Option (List ℕ)}
+      → Counts objects one other ahead → Counts objects other one behind → Appends old new (ahead_line ahead behind) → Serves objects old (Ahead one other) (Ok tt) new
+  -- of two commits one of whose walks failed nothing is written: the second walk is drawn once the first has ended well
+  not_ahead : {one other : ObjectId} {e : Fault} → FailsToCount objects one other e → Serves objects old (Ahead one other) (Err e) old
+  not_behind : {one other : ObjectId} {e : Fault} (ahead : ℕ) → Counts objects one other ahead → FailsToCount objects other one e → Serves objects old (Ahead one other) (Err e) old
+  -- memory ran out before anything was written
+  unserved : {request : Request} → Serves objects old request (Err fault.Memory) old
+  -- of what was written nothing is said
+  not_written : {request : Request} {new : Option (List ℕ)} → Serves objects old request (Err fault.Write) new
+
+-- Over these words, a reader that has the bytes `has` and a writer that has the bytes `old`: which answers a run may give, and which bytes
+-- the writer then has.
+pub data Runs (words : List (List ℕ)) (has old : Option (List ℕ)) : Result (Unit {0}) Fault → Option (List ℕ) → Type 0 where
+  -- memory ran out for the words or the input
+  without_memory : Runs words has old (Err fault.Memory) old
+  no_command : {e : Fault} → request_of words ≡ Err e → Runs words has old (Err e) old
+  not_read : (request : Request) → request_of words ≡ Ok request → Runs words has old (Err fault.Read) old
+  bad_record : (request : Request) (input : List ℕ) (n : ℕ) → request_of words ≡ Ok request → Tells has input → IsBadRecord n input → Runs words has old (Err (fault.Record n)) old
+  served : (request : Request) (input : List ℕ) (records : List Record) {answer : Result (Unit {0}) Fault} {new : Option (List ℕ)}
+      → request_of words ≡ Ok request → Tells has input → AreRecords records input → Serves (stored records) old request answer new → Runs words has old answer new

@@ -1,0 +1,125 @@
+-- What the words of a command ask for.
+use Rattle.std.specs.Prelude.{◌≡◌, ◌≢◌, ℕ, ◌+◌, ◌==◌, List, [], ◌∷◌, ◌++◌, Bool, true, false, ◌||◌, if◌then◌else◌, Option, Some, None, Result, Ok, Err, codes}
+use Rattle.std.specs.List.{list_all}
+use Rattle.std.specs.Str.{bytes_eq}
+use Rattle.gix_hash.specs.declared.ObjectId.{ObjectId}
+use Rattle.gix_hash.specs.declared.HexError.{HexError}
+use Rattle.gix_hash.specs.Id.{id_from_hex}
+use Rattle.gix_revwalk.specs.declared.CommitTimeOrder.TheVariants as order
+use Rattle.gix_simple.specs.declared.Sorting.TheVariants as sorting
+use Rattle.gix_topo.specs.declared.Sorting.TheVariants as topo
+use Rattle.gix_commands.specs.declared.fault.Fault.{Fault}
+use Rattle.gix_commands.specs.declared.fault.Fault.TheVariants as fault
+use Rattle.gix_commands.specs.declared.words.Command.{Command}
+use Rattle.gix_commands.specs.declared.words.Command.TheVariants as command
+use Rattle.gix_commands.specs.declared.words.Order.{Order}
+use Rattle.gix_commands.specs.declared.words.Order.TheVariants.{Simple, Topo}
+
+pub data Request : Type 0 where
+  -- the commits that the tips reach and the hidden ones don't, in an order
+  Commits : (order : Order) (tips hidden : List ObjectId) → Request
+  -- the entries of the tree of this id, and of the trees in it
+  Files : (tree : ObjectId) → Request
+  -- how many commits the one reaches and the other doesn't, and the other way round
+  Ahead : (one other : ObjectId) → Request
+
+abbrev pub request_of_command : Command → Request
+request_of_command (command.Commits order tips hidden) = Commits order tips.items hidden.items
+request_of_command (command.Files tree) = Files tree
+request_of_command (command.Ahead one other) = Ahead one other
+
+-- what a function returned, seen by view, is what it was to be, unless memory ran out
+abbrev pub Gives : {X Y : Type 0} → (X → Y) → Result X Fault → Result Y Fault → Type 0
+Gives view (Ok x) wanted = wanted ≡ Ok (view x)
+Gives view (Err e) wanted = e ≢ fault.Memory → wanted ≡ Err e
+
+-- what a function that takes no memory returned, seen by view, is what it was to be
+abbrev pub Tells : {X Y : Type 0} → (X → Y) → Result X Fault → Result Y Fault → Type 0
+Tells view (Ok x) wanted = wanted ≡ Ok (view x)
+Tells view (Err e) wanted = wanted ≡ Err e
+
+-- whether the word asks for a commit to be hidden
+abbrev pub begins_with_caret : List ℕ → Bool
+begins_with_caret [] = false
+begins_with_caret (b ∷ bs) = b == 94
+
+abbrev pub without_caret : List ℕ → List ℕ
+without_caret [] = []
+without_caret (b ∷ bs) = if b == 94 then bs else b ∷ bs
+
+-- ids of tips, and of commits to be hidden
+abbrev pub Ids : Type 0
+Ids = List ObjectId × List ObjectId
+
+abbrev pub with_id : Bool → ObjectId → Ids → Ids
+with_id true i ids = (ids.0, i ∷ ids.1)
+with_id false i ids = (i ∷ ids.0, ids.1)
+
+-- the id of a word before the ids of other words, or the number of the word, where it spells no id
+abbrev pub with_word : Bool → ℕ → Result ObjectId HexError → Result Ids Fault → Result Ids Fault
+with_word hidden n (Err e) others = Err (fault.Id n)
+with_word hidden n (Ok i) (Err e) = Err e
+with_word hidden n (Ok i) (Ok ids) = Ok (with_id hidden i ids)
+
+-- the ids that words spell, the first of them word n
+abbrev pub ids_from : ℕ → List (List ℕ) → Result Ids Fault
+ids_from n [] = Ok ([], [])
+ids_from n (word ∷ words) = with_word (begins_with_caret word) n (id_from_hex (without_caret word)) (ids_from (n + 1) words)
+
+-- the id that the digits of word n spell was added after other ids, unless memory ran out
+abbrev pub AddsId : List ℕ → ℕ → List ObjectId → Result (Unit {0}) Fault → List ObjectId → Type 0
+AddsId digits n old (Ok done) new = (i : ObjectId) × (id_from_hex digits ≡ Ok i) × (new ≡ old ++ i ∷ [])
+AddsId digits n old (Err e) new = e ≢ fault.Memory → (why : HexError) × (id_from_hex digits ≡ Err why) × (e ≡ fault.Id n)
+
+-- the order of the walk over commits that a command names
+abbrev pub order_named : List ℕ → Option Order
+order_named name =
+    if bytes_eq name (codes "breadth") then Some (Simple sorting.BreadthFirst)
+    else if bytes_eq name (codes "newest") then Some (Simple (sorting.ByCommitTime order.NewestFirst))
+    else if bytes_eq name (codes "oldest") then Some (Simple (sorting.ByCommitTime order.OldestFirst))
+    else if bytes_eq name (codes "topo") then Some (Topo topo.TopoOrder)
+    else if bytes_eq name (codes "date") then Some (Topo topo.DateOrder)
+    else None
+
+abbrev pub commits_from : Order → Result Ids Fault → Result Request Fault
+commits_from by (Ok ids) = Ok (Commits by ids.0 ids.1)
+commits_from by (Err e) = Err e
+
+abbrev pub files_from : Result ObjectId HexError → Result Request Fault
+files_from (Ok tree) = Ok (Files tree)
+files_from (Err e) = Err (fault.Id 2)
+
+-- one tip at least: this is judged of all words before any is judged as an id
+abbrev pub commits_of : Order → List (List ℕ) → Result Request Fault
+commits_of by ids = if list_all begins_with_caret ids then Err fault.Usage else commits_from by (ids_from 2 ids)
+
+-- one id
+abbrev pub files_of : List (List ℕ) → Result Request Fault
+files_of [] = Err fault.Usage
+files_of (id ∷ []) = if begins_with_caret id then Err fault.Usage else files_from (id_from_hex id)
+files_of (id ∷ next ∷ ids) = Err fault.Usage
+
+abbrev pub ahead_from : Result ObjectId HexError → Result ObjectId HexError → Result Request Fault
+ahead_from (Ok one) (Ok other) = Ok (Ahead one other)
+ahead_from (Ok one) (Err e) = Err (fault.Id 3)
+ahead_from (Err e) other = Err (fault.Id 2)
+
+-- two ids
+abbrev pub ahead_of : List (List ℕ) → Result Request Fault
+ahead_of [] = Err fault.Usage
+ahead_of (one ∷ []) = Err fault.Usage
+ahead_of (one ∷ other ∷ []) = if begins_with_caret one || begins_with_caret other then Err fault.Usage else ahead_from (id_from_hex one) (id_from_hex other)
+ahead_of (one ∷ other ∷ next ∷ ids) = Err fault.Usage
+
+-- what words ask for by this name, which may be that of an order
+abbrev pub request_named : List ℕ → Option Order → List (List ℕ) → Result Request Fault
+request_named name (Some by) ids = commits_of by ids
+request_named name None ids =
+    if bytes_eq name (codes "files") then files_of ids
+    else if bytes_eq name (codes "ahead") then ahead_of ids
+    else Err fault.Usage
+
+-- what words ask for, or why they are no command
+abbrev pub request_of : List (List ℕ) → Result Request Fault
+request_of [] = Err fault.Usage
+request_of (name ∷ ids) = request_named name (order_named name) ids

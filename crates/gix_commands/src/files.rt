@@ -1,0 +1,172 @@
+//! The lines of the entries of a tree.
+ghost use Rattle.std.specs.Prelude.{◌≡◌, ◌++◌, ◌∷◌, [], length, take, IfErr, IfOk, IfSome, OnErr, OnOk};
+ghost use Rattle.gix_object.specs.TreeRefIter.{entry_of};
+ghost use Rattle.gix_commands.specs.Files.{AreLinesOf, IsTreeFault, file_line, six_octal_digits};
+ghost use Rattle.gix_commands.specs.Lister.{line_at};
+ghost use Rattle.gix_commands.specs.Run.{Serves};
+ghost use Rattle.gix_commands.specs.Words.{Files};
+
+use crate::digits::add_id;
+use crate::fault::Fault;
+use crate::output::write_out;
+use bstr::BStr;
+use gix_parts::hash::ObjectId;
+use gix_parts::object::memory::MemoryStore;
+use gix_parts::object::tree::EntryRef;
+use gix_traverse::tree::Recorder;
+use gix_traverse::tree::depthfirst::{State, depthfirst};
+use gix_traverse::tree::visit::{Action, Visit};
+use std::alloc::{AllocError, Global};
+use std::io::Write;
+use std::marker::Model;
+use std::ops::ControlFlow;
+
+/// Walks through the tree of this id in depth, and writes a line for each entry once the walk has ended well.
+///
+/// # Errors
+/// The fault of the walk, and `Memory`: nothing is written. `Write` where the writer failed.
+pub fn write_files<W: Write>(
+    alloc: Global,
+    tree: ObjectId,
+    store: MemoryStore,
+    writer: &mut W,
+) -> Result<(), Fault>
+    ensures { Serves store (W.contents writer.old) (Files tree) result (W.contents writer.new) }
+{
+    let mut lines = lines_of_tree(alloc, tree, store)?;
+    write_out(&mut lines, writer)
+}
+
+// A line for each entry of the tree of this id and of the trees in it.
+fn lines_of_tree(alloc: Global, tree: ObjectId, store: MemoryStore) -> Result<Vec<u8>, Fault>
+    ensures ok { IfOk result (λ lines. AreLinesOf store tree lines.items) }
+    ensures err { IfErr result (IsTreeFault store tree) }
+{
+    let mut lister = Lister {
+        recorder: Recorder::new(alloc),
+        lines: Vec::new(alloc),
+        alloc,
+    };
+    depthfirst(alloc, tree, &mut State::new(alloc), store, &mut lister)?;
+    Ok(lister.lines)
+}
+
+// Adds a line for each entry that a walk shows, and goes into each tree. The recorder follows the path, and records nothing.
+#[derive(Drop)]
+struct Lister {
+    recorder: Recorder,
+    lines: Vec<u8>,
+    alloc: Global,
+}
+
+impl Model for Lister {
+    ghost use Rattle.gix_commands.specs.Lister.{Listed};
+
+    ghost Value = { Listed };
+
+    ghost view = { λ l. record { recorder = l.recorder; lines = l.lines.items } };
+}
+
+impl Lister {
+    // Adds the line of the entry at the current path.
+    fn list(&mut self, entry: &EntryRef<'_>) -> Result<(), AllocError>
+        ensures ok { OnOk result (self.new ≡ record self.old { lines = self.old.lines ++ line_at self.old (entry_of entry.now) }) }
+        ensures err { OnErr result (self.new ≡ self.old) }
+    {
+        let len = self.lines.len();
+        let path = self.recorder.path();
+        match add_line(
+            self.alloc,
+            &mut self.lines,
+            entry.mode.value,
+            &entry.oid,
+            path.as_bytes(),
+        ) {
+            Ok(()) => Ok(()),
+            Err(e) => {
+                self.lines.truncate(len);
+                Err(e)
+            }
+        }
+    }
+}
+
+impl Visit for Lister {
+    ghost use Rattle.gix_commands.specs.Lister.{Lists};
+
+    ghost steps = { Lists };
+
+    fn pop_back_tracked_path_and_set_current(&mut self) {
+        self.recorder.pop_back_tracked_path_and_set_current();
+    }
+
+    fn pop_front_tracked_path_and_set_current(&mut self) {
+        self.recorder.pop_front_tracked_path_and_set_current();
+    }
+
+    fn pop_path_component(&mut self) {
+        self.recorder.pop_path_component();
+    }
+
+    fn push_back_tracked_path_component(&mut self, component: &BStr<'_>) -> Result<(), AllocError> {
+        self.recorder.push_back_tracked_path_component(component)
+    }
+
+    fn push_path_component(&mut self, component: &BStr<'_>) -> Result<(), AllocError> {
+        self.recorder.push_path_component(component)
+    }
+
+    fn visit_tree(&mut self, entry: &EntryRef<'_>) -> Result<Action, AllocError> {
+        self.list(entry)?;
+        Ok(ControlFlow::Continue(true))
+    }
+
+    fn visit_nontree(&mut self, entry: &EntryRef<'_>) -> Result<Action, AllocError> {
+        self.list(entry)?;
+        Ok(ControlFlow::Continue(true))
+    }
+}
+
+// Adds the mode in six octal digits, the id and the path. Where memory runs out, some of them may be added.
+fn add_line(
+    alloc: Global,
+    lines: &mut Vec<u8>,
+    mode: u32,
+    id: &ObjectId,
+    path: &[u8],
+) -> Result<(), AllocError>
+    ensures ok { OnOk result (lines.new.items ≡ lines.old.items ++ file_line (record { mode = mode; path = path.now; id = id.now })) }
+    ensures err { OnErr result (take (length lines.old.items) lines.new.items ≡ lines.old.items) }
+{
+    add_mode(alloc, lines, mode)?;
+    add_id(lines, id, b' ')?;
+    lines.extend_from_slice(path)?;
+    lines.push(b'\n')?;
+    Ok(())
+}
+
+// Adds a mode and a space.
+fn add_mode(alloc: Global, lines: &mut Vec<u8>, mode: u32) -> Result<(), AllocError>
+    ensures ok { OnOk result (lines.new.items ≡ lines.old.items ++ (six_octal_digits mode ++ 32 ∷ [])) }
+    ensures err { OnErr result (lines.new.items ≡ lines.old.items) }
+{
+    if let Some(text) = usual_mode(mode) {
+        return lines.extend_from_slice(text);
+    }
+    let text = format!(in alloc; "{mode:06o} ")?;
+    lines.extend_from_slice(text.as_bytes())
+}
+
+// A mode that Git writes, in six digits, and a space.
+fn usual_mode(mode: u32) -> Option<&'static [u8; 7]>
+    ensures { IfSome result (λ text. text.now ≡ six_octal_digits mode ++ 32 ∷ []) }
+{
+    match mode {
+        0o100644 => Some(b"100644 "),
+        0o040000 => Some(b"040000 "),
+        0o100755 => Some(b"100755 "),
+        0o120000 => Some(b"120000 "),
+        0o160000 => Some(b"160000 "),
+        _ => None,
+    }
+}

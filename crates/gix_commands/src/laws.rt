@@ -1,0 +1,59 @@
+//! What a run of the program writes, as laws over the definitions: functions that do nothing, and whose contracts are proved.
+
+ghost use Rattle.gix_commands.specs.Histories.{AheadCounts, AheadSucceeds, DrawsDifference, FailsSilently, SimpleLists, SimpleSucceeds, TopoLists, TopoSucceeds};
+ghost use Rattle.gix_commands.specs.Listings.{FilesLists, FilesSucceeds};
+
+/// `breadth`, `newest` and `oldest` write, where all that is reached are whole commits, the ids of exactly the commits that the tips
+/// reach and the hidden ones don't, each once, in their order.
+pub fn simple_lists()
+    ensures { SimpleLists }
+{}
+
+/// Where all that is reached are whole commits, `breadth`, `newest` and `oldest` fail for memory, reading or writing alone.
+pub fn simple_succeeds()
+    ensures { SimpleSucceeds }
+{}
+
+/// `topo` and `date` write, where all that is reached are whole commits, the ids of commits that the tips reach and the ends don't, each
+/// once, in their order; and all of them, where no commit is its own ancestor.
+pub fn topo_lists()
+    ensures { TopoLists }
+{}
+
+/// Where all that is reached are whole commits, `topo` and `date` fail for memory, reading or writing alone.
+pub fn topo_succeeds()
+    ensures { TopoSucceeds }
+{}
+
+/// `files` writes a line for each entry of the tree and of the trees in it, in preorder; with its path, where no name is empty or holds
+/// `/`.
+pub fn files_lists()
+    ensures { FilesLists }
+{}
+
+/// Where each of these trees reads whole and none is under itself, `files` fails for memory, reading or writing alone.
+pub fn files_succeeds()
+    ensures { FilesSucceeds }
+{}
+
+/// A walk breadth first from one tip, which hides what another commit reaches and is drawn to its end, gives exactly the commits that
+/// the tip reaches and the other doesn't, each once.
+pub fn draws_difference()
+    ensures { DrawsDifference }
+{}
+
+/// `ahead` writes the number of commits that the first id reaches and the second doesn't, and the number of commits that the second
+/// reaches and the first doesn't.
+pub fn ahead_counts()
+    ensures { AheadCounts }
+{}
+
+/// Where all that the two ids reach are whole commits, `ahead` fails for memory, reading or writing alone.
+pub fn ahead_succeeds()
+    ensures { AheadSucceeds }
+{}
+
+/// A run that fails, and not by the writer, writes nothing, unless the words ask for a list of commits.
+pub fn fails_silently()
+    ensures { FailsSilently }
+{}

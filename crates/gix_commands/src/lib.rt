@@ -1,0 +1,105 @@
+//! The commands of the program: which commits some commits reach, and which files a tree holds, from a stream of a repository's objects
+//! to a line for each.
+//!
+//! [`run`] takes the words of a command, a reader of records and a writer. What it writes is stated by the laws of [`laws`].
+#![tactic(auto)]
+
+ghost use Rattle.std.specs.Prelude.{◌≡◌, ◌≢◌, ℕ, List, map, Some, Err, string_bytes};
+ghost use Rattle.gix_records.specs.Records.{Record, AreRecords};
+ghost use Rattle.gix_commands.specs.Run.{Runs, Serves};
+ghost use Rattle.gix_commands.specs.Words.{Commits, request_of, request_of_command};
+
+mod ahead;
+mod commits;
+mod digits;
+mod fault;
+mod files;
+pub mod laws;
+mod output;
+mod words;
+
+use ahead::write_ahead;
+use commits::{topo_walk_from, walk_from};
+pub use fault::Fault;
+use files::write_files;
+use gix_parts::hash::ObjectId;
+use gix_parts::object::memory::MemoryStore;
+use gix_parts::records;
+use output::write_commits;
+use std::alloc::Global;
+use std::io::{Read, Write};
+use words::{Command, Order, read_command};
+
+/// Runs the command that the words are over the records that the reader gives. The words are tested first, then the input is read
+/// whole, then the walk runs.
+///
+/// `breadth`, `newest` and `oldest` write the id of each commit that the tips reach and the hidden tips don't, one a line: in the order
+/// in which commits are met, or in one by time. `topo` and `date` do this in an order in which no commit comes before its children.
+/// `files` writes the mode, the id and the path of each entry of the tree and of the trees in it, one a line. `ahead` writes how many
+/// commits the first id reaches and the second doesn't, a space, and how many the second reaches and the first doesn't.
+///
+/// # Errors
+/// `Usage` and `Id` where the words are no command, `Read` where the reader fails or gives no end when it is asked for the last time,
+/// `Record` where the input isn't records: nothing is written. `Missing`, `WrongKind` and `Broken` where the walk meets such an object,
+/// `Cycle` where it meets a tree that is under itself, and `Memory`: the lines of the commits before are written, and nothing of
+/// `files` and `ahead`. `Write` where the writer fails: what was written is not stated.
+pub fn run<R: Read, W: Write>(
+    alloc: Global,
+    words: &[String],
+    reader: &mut R,
+    writer: &mut W,
+) -> Result<(), Fault>
+    ensures runs { Runs (map string_bytes words.now) (R.remaining reader.old) (W.contents writer.old) result (W.contents writer.new) }
+    // Words that are no command are rejected before anything is read.
+    ensures unread { (e : Fault) → request_of (map string_bytes words.now) ≡ Err e → reader.new ≡ reader.old }
+    // Input that is records is never rejected.
+    ensures spelled { (input : List ℕ) (records : List Record) (n : ℕ) → R.remaining reader.old ≡ Some input → AreRecords records input → result ≢ Err (Fault.Record n) }
+    ensures sound { result ≢ Err Fault.Internal }
+{
+    let command = read_command(alloc, words)?;
+    let store = records::read(alloc, reader)?;
+    serve(alloc, command, store, writer)
+}
+
+// Writes what a command asks for.
+fn serve<W: Write>(
+    alloc: Global,
+    command: Command,
+    store: MemoryStore,
+    writer: &mut W,
+) -> Result<(), Fault>
+    ensures { Serves store (W.contents writer.old) (request_of_command command) result (W.contents writer.new) }
+{
+    match command {
+        Command::Commits {
+            order,
+            tips,
+            hidden,
+        } => serve_commits(alloc, order, tips, hidden, store, writer),
+        Command::Files(tree) => write_files(alloc, tree, store, writer),
+        Command::Ahead { one, other } => write_ahead(alloc, one, other, &store, writer),
+    }
+}
+
+// Writes the commits that the tips reach and the hidden tips don't.
+fn serve_commits<W: Write>(
+    alloc: Global,
+    order: Order,
+    tips: Vec<ObjectId>,
+    hidden: Vec<ObjectId>,
+    store: MemoryStore,
+    writer: &mut W,
+) -> Result<(), Fault>
+    ensures { Serves store (W.contents writer.old) (Commits order tips.items hidden.items) result (W.contents writer.new) }
+{
+    match order {
+        Order::Simple(sorting) => {
+            let walk = walk_from(alloc, sorting, tips, hidden, &store)?;
+            write_commits(alloc, walk, writer)
+        }
+        Order::Topo(sorting) => {
+            let walk = topo_walk_from(alloc, sorting, tips, hidden, store)?;
+            write_commits(alloc, walk, writer)
+        }
+    }
+}

@@ -1,0 +1,98 @@
+//! The lines of a walk over commits.
+ghost use Rattle.std.specs.Prelude.{◌≡◌, ◌≢◌, ◌⊎◌, [], Err, OnOk, OnErr, IfErr};
+ghost use Rattle.std.specs.Io.KnownBytes.{Appends};
+ghost use Rattle.std.specs.Iterator.{IsFinite};
+ghost use Rattle.gix_commands.specs.Output.{Grows, Adds, WritesAll};
+ghost use Rattle.gix_commands.specs.Walked.{line_of};
+
+use crate::digits::add_id;
+use crate::fault::Fault;
+use gix_parts::hash::ObjectId;
+use gix_traverse::commit::Info;
+use std::alloc::Global;
+use std::io::Write;
+
+// How many bytes are buffered before they are written.
+const MANY: usize = 1 << 16;
+
+/// Draws a walk to its end or to its first fault, and writes the id of each commit that it gives, one a line.
+///
+/// # Errors
+/// The fault of the walk; the lines of the commits before it are written. `Write` where the writer failed. `Memory`.
+pub fn write_commits<I, E, W>(alloc: Global, walk: I, writer: &mut W) -> Result<(), Fault>
+where
+    I: Iterator<Item = Result<Info, E>> + Drop,
+    E: Into<Fault> + Drop,
+    W: Write,
+    requires can { I.can_next walk }
+    requires finite { IsFinite (I.remaining walk) }
+    ensures { result ≢ Err Fault.Write → WritesAll I.next_gives E.converts walk (W.contents writer.old) result (W.contents writer.new) }
+{
+    let mut lines = Vec::new(alloc);
+    let drawn = add_commits(walk, &mut lines, writer);
+    write_out(&mut lines, writer)?;
+    drawn
+}
+
+/// Writes the buffered lines, and flushes the writer.
+///
+/// # Errors
+/// `Write` where the writer failed.
+pub fn write_out<W: Write>(lines: &mut Vec<u8>, writer: &mut W) -> Result<(), Fault>
+    ensures ok { OnOk result (Appends (W.contents writer.old) (W.contents writer.new) lines.old.items) }
+    ensures fault { IfErr result (λ e. e ≡ Fault.Write) }
+{
+    write_lines(lines, writer)?;
+    writer.flush().map_err(|_| Fault::Write)
+}
+
+// Adds a line for each commit to the buffered lines, up to the walk's first fault.
+fn add_commits<I, E, W>(walk: I, lines: &mut Vec<u8>, writer: &mut W) -> Result<(), Fault>
+where
+    I: Iterator<Item = Result<Info, E>> + Drop,
+    E: Into<Fault> + Drop,
+    W: Write,
+    requires can { I.can_next walk }
+    requires finite { IsFinite (I.remaining walk) }
+    ensures { result ≢ Err Fault.Write → Adds I.next_gives E.converts walk (W.contents writer.old) lines.old.items result (W.contents writer.new) lines.new.items }
+{
+    for answer in walk {
+        let info = match answer {
+            Ok(info) => info,
+            Err(fault) => return Err(fault.into()),
+        };
+        add_line(lines, writer, info.id)?;
+    }
+    Ok(())
+}
+
+// Adds a line to the buffered lines.
+fn add_line<W: Write>(lines: &mut Vec<u8>, writer: &mut W, id: ObjectId) -> Result<(), Fault>
+    ensures ok { OnOk result (Grows (W.contents writer.old) lines.old.items (W.contents writer.new) lines.new.items (line_of id)) }
+    ensures err { IfErr result (λ e. (e ≡ Fault.Write) ⊎ ((e ≡ Fault.Memory) × Grows (W.contents writer.old) lines.old.items (W.contents writer.new) lines.new.items [])) }
+{
+    make_room(lines, writer)?;
+    Ok(add_id(lines, &id, b'\n')?)
+}
+
+// Writes the buffered lines, where they are many.
+fn make_room<W: Write>(lines: &mut Vec<u8>, writer: &mut W) -> Result<(), Fault>
+    ensures ok { OnOk result (Grows (W.contents writer.old) lines.old.items (W.contents writer.new) lines.new.items []) }
+    ensures fault { IfErr result (λ e. e ≡ Fault.Write) }
+{
+    if lines.len() < MANY {
+        return Ok(());
+    }
+    write_lines(lines, writer)
+}
+
+// Writes the buffered lines. After a failure too, none is buffered.
+fn write_lines<W: Write>(lines: &mut Vec<u8>, writer: &mut W) -> Result<(), Fault>
+    ensures ok { OnOk result (Appends (W.contents writer.old) (W.contents writer.new) lines.old.items) }
+    ensures fault { IfErr result (λ e. e ≡ Fault.Write) }
+    ensures empty { lines.new.items ≡ [] }
+{
+    let written = writer.write_all(lines.as_slice());
+    lines.clear();
+    written.map_err(|_| Fault::Write)
+}

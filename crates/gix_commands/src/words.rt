@@ -1,0 +1,179 @@
+//! The words of a command.
+ghost use Rattle.std.specs.Prelude.{◌≡◌, map, string_bytes};
+ghost use Rattle.std.specs.List.{list_all};
+ghost use Rattle.gix_commands.specs.Words.{Gives, Tells, AddsId, begins_with_caret, request_of_command, request_of, order_named, ids_from, commits_of, files_of, ahead_of};
+
+use crate::fault::Fault;
+use gix_parts::hash::ObjectId;
+use gix_traverse::commit::simple::{CommitTimeOrder, Sorting};
+use gix_traverse::commit::topo;
+use std::alloc::{AllocError, Global};
+
+/// The order of a walk over commits.
+#[derive(Clone, Copy)]
+pub enum Order {
+    /// In the order in which commits are met, or in one by time.
+    Simple(Sorting),
+    /// No commit before its children.
+    Topo(topo::Sorting),
+}
+
+/// What the words ask for.
+#[derive(Drop)]
+pub enum Command {
+    /// The commits that the tips reach and the hidden ones don't, in an order.
+    Commits {
+        order: Order,
+        tips: Vec<ObjectId>,
+        hidden: Vec<ObjectId>,
+    },
+    /// The entries of the tree of this id, and of the trees in it.
+    Files(ObjectId),
+    /// How many commits the one reaches and the other doesn't, and how many the other reaches and the one doesn't.
+    Ahead {
+        one: ObjectId,
+        other: ObjectId,
+    },
+}
+
+/// The command that the words are: `breadth`, `newest`, `oldest`, `topo` or `date`, ids of tips, one at least, and ids of commits to be
+/// hidden, each after a `^`; or `files` and one id; or `ahead` and two ids. An id is 40 or 64 hex digits.
+///
+/// # Errors
+/// `Usage` where the words are no command, `Id` at the first word that has to be an id and is none, `Memory`.
+pub fn read_command(alloc: Global, words: &[String]) -> Result<Command, Fault>
+    ensures { Gives request_of_command result (request_of (map string_bytes words.now)) }
+{
+    let Some((name, ids)) = words.split_first() else {
+        return Err(Fault::Usage);
+    };
+    if let Some(order) = order_named(name) {
+        return commits(alloc, order, ids);
+    }
+    if name.as_str() == "files" {
+        return files(ids);
+    }
+    if name.as_str() == "ahead" {
+        return ahead(ids);
+    }
+    Err(Fault::Usage)
+}
+
+// The order of the walk over commits that this is the name of.
+fn order_named(name: &String) -> Option<Order>
+    ensures { result ≡ order_named (string_bytes name.now) }
+{
+    if name.as_str() == "breadth" {
+        return Some(Order::Simple(Sorting::BreadthFirst));
+    }
+    if name.as_str() == "newest" {
+        let newest = Sorting::ByCommitTime(CommitTimeOrder::NewestFirst);
+        return Some(Order::Simple(newest));
+    }
+    if name.as_str() == "oldest" {
+        let oldest = Sorting::ByCommitTime(CommitTimeOrder::OldestFirst);
+        return Some(Order::Simple(oldest));
+    }
+    if name.as_str() == "topo" {
+        return Some(Order::Topo(topo::Sorting::TopoOrder));
+    }
+    if name.as_str() == "date" {
+        return Some(Order::Topo(topo::Sorting::DateOrder));
+    }
+    None
+}
+
+// The walk over commits from these ids, of which one at least must be a tip.
+fn commits(alloc: Global, order: Order, ids: &[String]) -> Result<Command, Fault>
+    ensures { Gives request_of_command result (commits_of order (map string_bytes ids.now)) }
+{
+    if are_hidden(ids) {
+        return Err(Fault::Usage);
+    }
+    let (tips, hidden) = read_ids(alloc, ids)?;
+    Ok(Command::Commits {
+        order,
+        tips,
+        hidden,
+    })
+}
+
+// The tree of this id, which must be alone.
+fn files(ids: &[String]) -> Result<Command, Fault>
+    ensures { Tells request_of_command result (files_of (map string_bytes ids.now)) }
+{
+    let [tree] = ids else {
+        return Err(Fault::Usage);
+    };
+    if begins_with_caret(tree) {
+        return Err(Fault::Usage);
+    }
+    match ObjectId::from_hex(tree.as_bytes()) {
+        Ok(tree) => Ok(Command::Files(tree)),
+        Err(_) => Err(Fault::Id(2)),
+    }
+}
+
+// The two commits of these ids, which must be alone.
+fn ahead(ids: &[String]) -> Result<Command, Fault>
+    ensures { Tells request_of_command result (ahead_of (map string_bytes ids.now)) }
+{
+    let [one, other] = ids else {
+        return Err(Fault::Usage);
+    };
+    if begins_with_caret(one) || begins_with_caret(other) {
+        return Err(Fault::Usage);
+    }
+    let Ok(one) = ObjectId::from_hex(one.as_bytes()) else {
+        return Err(Fault::Id(2));
+    };
+    let Ok(other) = ObjectId::from_hex(other.as_bytes()) else {
+        return Err(Fault::Id(3));
+    };
+    Ok(Command::Ahead { one, other })
+}
+
+// Whether each word names a commit that is to be hidden.
+fn are_hidden(ids: &[String]) -> bool
+    ensures { result ≡ list_all begins_with_caret (map string_bytes ids.now) }
+{
+    for id in ids {
+        if !begins_with_caret(id) {
+            return false;
+        }
+    }
+    true
+}
+
+// Whether the word names a commit that is to be hidden.
+fn begins_with_caret(word: &String) -> bool
+    ensures { result ≡ begins_with_caret (string_bytes word.now) }
+{
+    matches!(word.as_bytes(), [b'^', ..])
+}
+
+// The ids of tips that the words after the command spell, and the ids of commits to be hidden. The first of these words is word 2.
+fn read_ids(alloc: Global, words: &[String]) -> Result<(Vec<ObjectId>, Vec<ObjectId>), Fault>
+    ensures { Gives (λ ids. (ids.0.items, ids.1.items)) result (ids_from 2 (map string_bytes words.now)) }
+{
+    let mut tips = Vec::new(alloc);
+    let mut hidden = Vec::new(alloc);
+    for (i, word) in words.iter().enumerate() {
+        match word.as_bytes() {
+            [b'^', digits @ ..] => add_id(&mut hidden, digits, i + 2)?,
+            digits => add_id(&mut tips, digits, i + 2)?,
+        }
+    }
+    Ok((tips, hidden))
+}
+
+// Adds the id that the digits of the word of this number spell.
+fn add_id(ids: &mut Vec<ObjectId>, digits: &[u8], number: usize) -> Result<(), Fault>
+    ensures { AddsId digits.now number ids.old.items result ids.new.items }
+{
+    let Ok(id) = ObjectId::from_hex(digits) else {
+        return Err(Fault::Id(number));
+    };
+    ids.push(id).map_err(AllocError::from)?;
+    Ok(())
+}

@@ -1,0 +1,5 @@
+//! Tests of the program's commands.
+#![tactic(auto)]
+
+#[cfg(test)]
+mod runs;

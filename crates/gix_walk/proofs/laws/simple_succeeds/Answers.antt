@@ -1,5 +1,0 @@
-use Rattle.gix_walk.proofs.SimpleFaults.{simple_succeeds}
-use Rattle.gix_walk.proofs.laws.simple_succeeds.Goals as goal
-
-pub returns : goal.returns
-returns c = simple_succeeds
