@@ -22,7 +22,7 @@ use Rattle.gix_revwalk.specs.Commits.{ReadsWhole, parents_of, time_of}
 use Rattle.gix_simple.specs.Walk.{SimpleWalk, Next, IsMade, time_order, cutoff}
 use Rattle.gix_revwalk.specs.Ids.{ids_of, AreDistinct, new_ids}
 use Rattle.gix_simple.specs.Building.{IsBuilt, IsUncut}
-use Rattle.gix_simple.specs.Laws.{IsFresh, IsWholeRun, IsPlainRun, IsPlain, GivesInOrder, IsNewWalk, IsNoRefusal, GivesBreadthFirst, GivesDifference, accepted_parents, recent_parents, next_of, starts_of, named_in, answers_left, given_ids}
+use Rattle.gix_simple.specs.Laws.{IsFresh, IsWholeRun, IsBegunRun, IsPlainRun, IsPlain, GivesInOrder, GivesBeginning, IsNewWalk, IsNoRefusal, GivesBreadthFirst, GivesDifference, accepted_parents, recent_parents, next_of, starts_of, named_in, answers_left, given_ids}
 use Rattle.gix_revwalk.specs.Asking.{AnswersBy}
 use Rattle.gix_simple.specs.Runs.{AsksOnce, TellsGenerations, AreAlike, AreBuiltAlike, GiveTheSame, GivesUnhidden}
 
@@ -98,6 +98,19 @@ module _ {F P : Type 0} (objects : F → Objects) (faulty : F → ObjectId → T
   GivesEachOnce =
       (walk : SimpleWalk F P) (accepts hidden : ObjectId → Bool) (list : List (Result Info Error)) (gives : GivesInOrder objects walk accepts hidden list)
       → AreDistinct gives.ids × ((i : ObjectId) → Contains gives.ids i ↔ Reaches (next_of objects walk accepts hidden) (starts_of walk hidden) i)
+
+  -- any walk, drawn as far as one likes
+  abbrev pub RunsBeginInOrder : Type 0
+  RunsBeginInOrder =
+      (walk left : SimpleWalk F P) (accepts hidden : ObjectId → Bool) (list : List (Result Info Error))
+      → IsBegunRun objects faulty answers walk accepts hidden list left
+      → GivesBeginning objects walk accepts hidden list
+
+  -- of what it has given, no id twice, and only what is reached
+  abbrev pub BeginsOnce : Type 0
+  BeginsOnce =
+      (walk : SimpleWalk F P) (accepts hidden : ObjectId → Bool) (list : List (Result Info Error)) (gives : GivesBeginning objects walk accepts hidden list)
+      → AreDistinct gives.ids × ((i : ObjectId) → Contains gives.ids i → Reaches (next_of objects walk accepts hidden) (starts_of walk hidden) i)
 
   -- a walk through all parents, without a cutoff, whose predicate accepts all, where all that is reached reads whole
   abbrev pub RunsGiveTheDifference : Type 0
