@@ -13,7 +13,7 @@ use Rattle.gix_revwalk.specs.declared.Info.{Info}
 use Rattle.gix_revwalk.specs.declared.CommitTimeOrder.{CommitTimeOrder}
 use Rattle.gix_revwalk.specs.declared.CommitTimeOrder.TheVariants.{NewestFirst}
 use Rattle.gix_simple.specs.declared.Error.{Error}
-use Rattle.gix_revwalk.specs.BreadthOrder.{named_by, first_new, IsBreadthOrder}
+use Rattle.gix_revwalk.specs.BreadthOrder.{named_by, IsBreadthOrder}
 use Rattle.gix_revwalk.specs.TimeOrder.{IsTimeOrder, IsPending, IsBest}
 use Rattle.gix_hash.specs.Reach.{Reaches, start, step, Tells}
 use Rattle.gix_revwalk.specs.Agreeing.{IsAgreeing}
@@ -60,29 +60,6 @@ begun_once : (o : Option CommitTimeOrder) (time : ObjectId → ℤ) (next : Obje
 begun_once o time next starts ids h =
     let b : IsWorkBeginning next starts ids = work_beginning o time next starts ids h in
     ((distinct_is [] ids (given_once next starts ids b)).0, given_is_reached next starts ids b)
-
--- there is one list in breadth order
-module _ (next : ObjectId → List ObjectId) (starts : List ObjectId) where
-  abbrev pub BreadthFrom : List ObjectId → List ObjectId → Type 0
-  BreadthFrom taken ids = (k : ℕ) → k ≤ length ids → slice_get ids k ≡ first_new (named_by next starts (taken ++ take k ids)) (taken ++ take k ids)
-
-  breadth_here : (taken ids : List ObjectId) → BreadthFrom taken ids → slice_get ids zero ≡ first_new (named_by next starts taken) taken
-  breadth_here taken ids h = rw append-nil at (h zero Prim.Native.Nat.zero-le)
-
-  breadth_on : (taken ids : List ObjectId) (i : ObjectId) → BreadthFrom taken (i ∷ ids) → BreadthFrom (taken ++ i ∷ []) ids
-  breadth_on taken ids i h k b = rw append_assoc (h (suc k) (omega arith))
-
-  one_breadth : (taken xs ys : List ObjectId) → BreadthFrom taken xs → BreadthFrom taken ys → xs ≡ ys
-  one_breadth taken [] [] h k = refl
-  one_breadth taken [] (y ∷ ys) h k = let e : None ≡ Some y = breadth_here taken [] h ∙ sym (breadth_here taken (y ∷ ys) k) in cc
-  one_breadth taken (x ∷ xs) [] h k = let e : Some x ≡ None = breadth_here taken (x ∷ xs) h ∙ sym (breadth_here taken [] k) in cc
-  one_breadth taken (x ∷ xs) (y ∷ ys) h k =
-      let e : x ≡ y = let s : Some x ≡ Some y = breadth_here taken (x ∷ xs) h ∙ sym (breadth_here taken (y ∷ ys) k) in cc in
-      let r : xs ≡ ys = one_breadth (taken ++ x ∷ []) xs ys (breadth_on taken xs x h) (subst (λ z. BreadthFrom (taken ++ z ∷ []) ys) (sym e) (breadth_on taken ys y k)) in
-      cc
-
-pub same_breadth : (next : ObjectId → List ObjectId) (starts xs ys : List ObjectId) → IsBreadthOrder next starts xs → IsBreadthOrder next starts ys → xs ≡ ys
-same_breadth next starts xs ys h k = one_breadth next starts [] xs ys h k
 
 -- what hidden tips cut away
 module _ (objects : Objects) (m : Parents) (accepts hides : ObjectId → Bool) (limit : Option ℤ) (tips hidden_tips : List ObjectId) (tells : Tells hides (Reaches (parents_of objects) hidden_tips)) where
