@@ -39,7 +39,7 @@ ends_well words input records request answer old new asked are well (bad_record 
 ends_well words input records request answer old new asked are well (served other there read t same is s) =
     well answer new (subst (λ r. Serves (stored records) old r answer new) (ok_same (sym t ∙ asked)) (subst (λ rs. Serves (stored rs) old other answer new) (only_reading read records input (subst (AreRecords read) same is) are) s))
 
-module _ (objects : Objects) (by : Sorting) (tips hidden : List ObjectId) (old new : Option (List ℕ)) (named : IsUncut by) (whole : AreWhole objects (tips ++ hidden)) where
+module _ (objects : Objects) (by : Sorting) (tips hidden : List ObjectId) (old new : Option (List ℕ)) (named : IsUncut by) (whole : hidden ≡ [] → AreWhole objects tips) where
   listed : (walk : Walk) (infos : List Info) → StartsFrom objects by tips hidden walk → Ends Answers IsWalkFault walk infos (Ok tt) → Lists objects by tips hidden (map (λ info. info.id) infos)
   listed walk infos starts (finished last h) = record {
     once = (each_shown objects by tips hidden walk named starts infos h.0 last h.1 h.2 whole).0;

@@ -3,8 +3,8 @@ use Rattle.std.specs.Prelude.{◌≡◌, ◌≢◌, ◌↔◌, List, [], ◌∷�
 use Rattle.std.specs.Iterator.{Drains, Yields}
 use Rattle.std.specs.List.{AllZip}
 use Rattle.std.proofs.Math.Path.{transport}
-use Rattle.std.proofs.Common.{refl, sym, ap, subst, ◌∙◌, ⊎_elim}
-use Rattle.std.proofs.lemmas.List.Elements.{All-nil, All-cons, Contains-append_left, Contains-append_right, Contains-append_cases}
+use Rattle.std.proofs.Common.{refl, sym, ap, subst, ◌∙◌, ⊎_elim, append-nil}
+use Rattle.std.proofs.lemmas.List.Elements.{All-nil, All-cons, Contains-append_left}
 use Rattle.std.proofs.Math.Bool.{and-true}
 use Rattle.gix_hash.proofs.Ids.Membership.{among_is, Contains-cons_cases, no_member}
 use Rattle.gix_hash.specs.declared.ObjectId.{ObjectId}
@@ -15,7 +15,7 @@ use Rattle.gix_simple.specs.declared.Error.{Error}
 use Rattle.gix_simple.specs.declared.Sorting.{Sorting}
 use Rattle.gix_simple.specs.declared.Sorting.TheVariants as sorting
 use Rattle.gix_revwalk.specs.declared.CommitTimeOrder.{CommitTimeOrder}
-use Rattle.gix_revwalk.specs.Commits.{commit_at, parents_of, time_of}
+use Rattle.gix_revwalk.specs.Commits.{ReadsWhole, commit_at, parents_of, time_of}
 use Rattle.gix_hash.specs.Reach.{Reaches, Tells}
 use Rattle.gix_simple.specs.Building.{IsBuilt, made, breadth_first, by_time, hides, IsUncut as IsBuiltUncut}
 use Rattle.gix_revwalk.specs.Agreeing.{IsAgreeing}
@@ -26,7 +26,7 @@ use Rattle.gix_simple.specs.Walk.{is_older, cutoff, time_order}
 use Rattle.gix_revwalk.proofs.Rows.{none_agree}
 use Rattle.gix_simple.proofs.Builders.{built}
 use Rattle.gix_simple.proofs.Corollaries.{gives}
-use Rattle.gix_simple.proofs.Difference.{difference, faultless_difference, loosened, recent_all, whole_from}
+use Rattle.gix_simple.proofs.Difference.{difference, faultless_difference, drawn_whole, loosened, no_start, recent_all, whole_from}
 use Rattle.gix_simple.proofs.ReachDecided.{reach_test}
 use Rattle.gix_simple.proofs.MadeOfTips.{is_new_walk, pending_is}
 use Rattle.gix_commands.specs.Histories.{IsShown, IsListedSo}
@@ -144,8 +144,8 @@ module _ (objects : Objects) (by : Sorting) (tips hidden : List ObjectId) (walk 
     said g = (subst AreDistinct (ids_given infos) g.once, λ i. subst (λ xs. Contains xs i ↔ IsShown objects tips hidden i) (ids_given infos) (subst (λ hs. Contains (given_ids (given infos)) i ↔ IsShown objects tips hs i) hiders (g.exact i)))
 
     -- each once, and exactly what the tips reach and the hidden tips don't: where all of it reads whole
-    pub each_shown : ((i : ObjectId) → Reaches (parents_of objects) (tips ++ hidden) i → IsSome (commit_at objects i)) → GivesShown objects tips hidden (map (λ info. info.id) infos)
-    each_shown whole =
+    each_known : ((i : ObjectId) → Reaches (parents_of objects) (tips ++ hidden) i → IsSome (commit_at objects i)) → GivesShown objects tips hidden (map (λ info. info.id) infos)
+    each_known whole =
         said (difference objects_of never_faulty accepts_all objects (record {}) tips (λ mid last i answer b h. h.0) walk is_built.0 is_built.1 (ap (λ w. w.parents) same) no_rows
         (λ i r. whole_from objects i (whole i (subst (λ hs. Reaches (parents_of objects) (tips ++ hs) i) hiders r))) (given infos) (unrefused infos) (new, (at, drawn, ended)))
 
@@ -155,10 +155,28 @@ module _ (objects : Objects) (by : Sorting) (tips hidden : List ObjectId) (walk 
         said (faultless_difference objects_of never_faulty accepts_all objects (record {}) tips (λ mid last i answer b h. h.0) walk is_built.0 is_built.1 (ap (λ w. w.parents) same) no_rows (λ e. behind (sym hiders ∙ e))
         (given infos) (no_faults infos) (new, (at, drawn, ended)))
 
-    -- all that tips and hidden tips reach reads whole
-    module _ (whole : (i : ObjectId) → Reaches (parents_of objects) (tips ++ hidden) i → IsSome (commit_at objects i)) where
-      tips_whole : (i : ObjectId) → Reaches (parents_of objects) (ids_of walk.pending) i → IsSome (commit_at objects i)
-      tips_whole i r = whole i (reach_more (parents_of objects) (ids_of walk.pending) (tips ++ hidden) (λ j c. Contains-append_left tips hidden j (is_tip j c)) i r)
+    drained : Drains Answers opened (given infos)
+    drained = subst (λ w. Drains Answers w (given infos)) same (new, (at, drawn, ended))
+
+    -- Without hidden tips all that the tips reach is known to read whole. With hidden tips it was read.
+    module _ (whole : hidden ≡ [] → (i : ObjectId) → Reaches (parents_of objects) tips i → IsSome (commit_at objects i)) where
+      pub each_shown : GivesShown objects tips hidden (map (λ info. info.id) infos)
+      each_shown = go hidden refl
+        where
+          go : (ids : List ObjectId) → hidden ≡ ids → GivesShown objects tips hidden (map (λ info. info.id) infos)
+          go [] e = each_known (λ i r. whole e i (subst (λ xs. Reaches (parents_of objects) xs i) (append-nil tips) (subst (λ hs. Reaches (parents_of objects) (tips ++ hs) i) e r)))
+          go (id ∷ ids) e = each_unhidden (λ n. let c : [] ≡ id ∷ ids = sym n ∙ e in cc)
+
+      -- what is met reads whole
+      met : walk.pending ≢ [] → (i : ObjectId) → Reaches (parents_of objects) (ids_of walk.pending ++ hidden) i → ReadsWhole objects i
+      met some i r = go hidden refl
+        where
+          go : (ids : List ObjectId) → hidden ≡ ids → ReadsWhole objects i
+          go [] e =
+              whole_from objects i
+              (whole e i (reach_more (parents_of objects) (ids_of walk.pending) tips is_tip i (subst (λ xs. Reaches (parents_of objects) xs i) (append-nil (ids_of walk.pending)) (subst (λ hs. Reaches (parents_of objects) (ids_of walk.pending ++ hs) i) e r))))
+          go (id ∷ ids) e =
+              drawn_whole objects_of never_faulty accepts_all opened (given infos) (none_agree objects [] refl) some (λ n. let c : [] ≡ id ∷ ids = sym n ∙ e in cc) (no_faults infos) drained i r
 
       run : IsWholeRun objects_of never_faulty accepts_all opened (λ i. true) test.0 (given infos)
       run = record {
@@ -166,16 +184,15 @@ module _ (objects : Objects) (by : Sorting) (tips hidden : List ObjectId) (walk 
         fresh = subst (λ w. IsFresh objects_of w (λ i. true)) same is_fresh.0;
         tells = test.1;
         meets = record {
-          given = λ i r. whole_from objects i (tips_whole i (reach_more (parents_of objects) _ (ids_of walk.pending) (λ j c. filter_within _ (ids_of walk.pending) j c) i (loosened objects mode.All (λ j. true) test.0 (cutoff mode.All by) _ i r)));
-          painted = λ p h i r. whole_from objects i (whole i (reach_more (parents_of objects) (ids_of walk.pending ++ hidden) (tips ++ hidden) both i r));
+          given = λ i r.
+              let p : Reaches (parents_of objects) (ids_of walk.pending) i = reach_more (parents_of objects) _ (ids_of walk.pending) (λ j c. filter_within _ (ids_of walk.pending) j c) i (loosened objects mode.All (λ j. true) test.0 (cutoff mode.All by) _ i r) in
+              met (λ e. no_start (parents_of objects) (ids_of walk.pending) i p (ap ids_of e)) i (reach_more (parents_of objects) (ids_of walk.pending) (ids_of walk.pending ++ hidden) (λ j c. Contains-append_left (ids_of walk.pending) hidden j c) i p);
+          painted = λ some behind i r. met some i r;
         };
         agreeing = none_agree objects [] refl;
         unrefused = unrefused infos;
-        drawn = subst (λ w. Drains Answers w (given infos)) same (new, (at, drawn, ended));
+        drawn = drained;
       }
-        where
-          both : (j : ObjectId) → Contains (ids_of walk.pending ++ hidden) j → Contains (tips ++ hidden) j
-          both j c = ⊎_elim (λ t. Contains-append_left tips hidden j (is_tip j t)) (λ t. Contains-append_right tips hidden j t) (Contains-append_cases (ids_of walk.pending) hidden j c)
 
       gave : GivesInOrder objects_of opened (λ i. true) test.0 (given infos)
       gave = gives objects_of never_faulty accepts_all opened (λ i. true) test.0 (given infos) run

@@ -50,12 +50,13 @@ pub record Lists (objects : Objects) (by : Sorting) (tips hidden ids : List Obje
 abbrev pub lines_of_ids : List ObjectId → List ℕ
 lines_of_ids ids = flat_map line_of ids
 
--- Over words that ask for `breadth`, `newest` or `oldest` and records, where all that tips and hidden tips reach are whole commits, a
--- run that ends well writes such a list.
+-- Over words that ask for `breadth`, `newest` or `oldest` and records, a run that ends well writes such a list. Without hidden tips
+-- this asks that all that the tips reach are whole commits. With one the run has read all that tips and hidden tips reach.
 abbrev pub SimpleLists : Type 0
 SimpleLists =
     (words : List (List ℕ)) (input : List ℕ) (records : List Record) (by : Sorting) (tips hidden : List ObjectId) (old new : Option (List ℕ)) →
-    request_of words ≡ Ok (Commits (Simple by) tips hidden) → AreRecords records input → AreWhole (stored records) (tips ++ hidden) → Runs words (Some input) old (Ok tt) new →
+    request_of words ≡ Ok (Commits (Simple by) tips hidden) → AreRecords records input →
+    (hidden ≡ [] → AreWhole (stored records) tips) → Runs words (Some input) old (Ok tt) new →
     (ids : List ObjectId) × Lists (stored records) by tips hidden ids × Appends old new (lines_of_ids ids)
 
 -- No id is there twice, and each is one that the tips reach and the ends don't. Where no commit is its own ancestor, all of these are

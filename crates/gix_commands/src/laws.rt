@@ -3,8 +3,9 @@
 ghost use Rattle.gix_commands.specs.Histories.{AheadCounts, AheadSucceeds, DrawsDifference, FailsSilently, SimpleLists, SimpleSucceeds, TopoLists, TopoSucceeds};
 ghost use Rattle.gix_commands.specs.Listings.{FilesLists, FilesSucceeds};
 
-/// `breadth`, `newest` and `oldest` write, where all that is reached are whole commits, the ids of exactly the commits that the tips
-/// reach and the hidden ones don't, each once, in their order.
+/// `breadth`, `newest` and `oldest` write the ids of exactly the commits that the tips reach and the hidden ones don't, each once, in
+/// their order. Without hidden tips this asks that all that the tips reach are whole commits. With one nothing is asked: a run that ends
+/// well has read all that tips and hidden tips reach.
 pub fn simple_lists()
     ensures { SimpleLists }
 {}

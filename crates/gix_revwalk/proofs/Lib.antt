@@ -4,8 +4,10 @@ pub mod QueueItems
 pub mod NewIds
 -- The ids that a row's places name, what a row with a fault is, which rows are held after a row was read, and what drops them.
 pub mod Rows
--- What a list in order has: no id twice, and exactly what is reached.
+-- What a list in order has: no id twice, and exactly what is reached; and what a beginning of one has.
 pub mod Orders
+-- There is at most one list in breadth order; and one in an order by time, where different commits have different times.
+pub mod OneOrder
 -- A commit that reads whole gives the same parents by its items and by its row.
 pub mod ReadsWhole
 -- A commit that reads whole has the parents that its text names.

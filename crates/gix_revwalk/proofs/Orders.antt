@@ -1,14 +1,15 @@
--- What a list in order has: no id twice, and exactly what is reached.
-use Rattle.std.specs.Prelude.{ℕ, zero, suc, ℤ, ◌≡◌, ◌≤◌, ◌⊎◌, List, [], ◌∷◌, ◌++◌, Bool, true, false, not, cond, length, take, slice_get, Contains, find, Option, Some, None, MatchOption}
+-- What a list in order has: no id twice, and exactly what is reached. A beginning of one has no id twice, and only what is reached.
+use Rattle.std.specs.Prelude.{ℕ, zero, suc, ℤ, ◌≡◌, ◌≤◌, ◌<◌, ◌⊎◌, List, [], ◌∷◌, ◌++◌, Bool, true, false, not, cond, length, take, slice_get, Contains, find, Option, Some, None, MatchOption}
 use Rattle.std.proofs.Common.{refl, sym, subst, inl, inr, ⊎_elim, ◌∙◌, arith, append_assoc, append-nil, take_all, le_refl}
 use Rattle.std.proofs.lemmas.Bool.{true≢false, not-true, not-false}
 use Rattle.std.specs.List.{flat_map}
+use Rattle.std.proofs.lemmas.Option.{slice_get_within}
 use Rattle.std.proofs.lemmas.List.Elements.{Contains-append_left, Contains-append_right, Contains-append_cases}
 use Rattle.gix_hash.specs.declared.ObjectId.{ObjectId}
 use Rattle.gix_hash.specs.Id.{is_among}
 use Rattle.gix_revwalk.specs.declared.CommitTimeOrder.{CommitTimeOrder}
-use Rattle.gix_revwalk.specs.BreadthOrder.{first_new, named_by, IsBreadthOrder}
-use Rattle.gix_revwalk.specs.TimeOrder.{IsTimeOrder, IsPending, IsBest}
+use Rattle.gix_revwalk.specs.BreadthOrder.{first_new, named_by, IsBreadthOrder, IsBreadthBeginning}
+use Rattle.gix_revwalk.specs.TimeOrder.{IsTimeOrder, IsTimeBeginning, IsPending, IsBest}
 use Rattle.gix_hash.specs.Reach.{Reaches, start, step}
 use Rattle.gix_hash.proofs.Ids.Membership.{among_from, among_is, Contains-here, Contains-there, Contains-cons_cases, no_member}
 use Rattle.gix_hash.proofs.Lists.{past_end, only_member}
@@ -17,6 +18,10 @@ use Rattle.gix_hash.proofs.Lists.{past_end, only_member}
 abbrev pub IsWorkOrder : (ObjectId → List ObjectId) → List ObjectId → List ObjectId → Type 0
 IsWorkOrder next starts ids =
     (k : ℕ) → k ≤ length ids → MatchOption (slice_get ids k) ((i : ObjectId) → IsPending next starts (take k ids) i → ⊥) (IsPending next starts (take k ids))
+
+-- Each id is a pending one, up to any place.
+abbrev pub IsWorkBeginning : (ObjectId → List ObjectId) → List ObjectId → List ObjectId → Type 0
+IsWorkBeginning next starts ids = (k : ℕ) (i : ObjectId) → slice_get ids k ≡ Some i → IsPending next starts (take k ids) i
 
 pub found_passes : (p : ObjectId → Bool) (xs : List ObjectId) (i : ObjectId) → find p xs ≡ Some i → Contains xs i × (p i ≡ true)
 found_passes p [] i e = cc
@@ -50,21 +55,41 @@ best_is_pending order time P (Some i) h = h.among
 pub work_from_time : (order : CommitTimeOrder) (time : ObjectId → ℤ) (next : ObjectId → List ObjectId) (starts ids : List ObjectId) → IsTimeOrder order time next starts ids → IsWorkOrder next starts ids
 work_from_time order time next starts ids h k b = best_is_pending order time (IsPending next starts (take k ids)) (slice_get ids k) (h k b)
 
+-- what holds of each place, at a place within the list
+at_place : {X : Type 0} (ids : List X) (Ends : ℕ → Type 0) (Holds : ℕ → X → Type 0) → ((k : ℕ) → k ≤ length ids → MatchOption (slice_get ids k) (Ends k) (Holds k)) → (k : ℕ) (i : X) → slice_get ids k ≡ Some i → Holds k i
+at_place ids Ends Holds h k i e = subst (λ o. MatchOption o (Ends k) (Holds k)) e (h k (let w : k < length ids = slice_get_within ids k i e in omega arith))
+
+-- a whole list in an order is a beginning in this order
+pub work_begins : (next : ObjectId → List ObjectId) (starts ids : List ObjectId) → IsWorkOrder next starts ids → IsWorkBeginning next starts ids
+work_begins next starts ids = at_place ids (λ k. (i : ObjectId) → IsPending next starts (take k ids) i → ⊥) (λ k. IsPending next starts (take k ids))
+
+pub breadth_begins : (next : ObjectId → List ObjectId) (starts ids : List ObjectId) → IsBreadthOrder next starts ids → IsBreadthBeginning next starts ids
+breadth_begins next starts ids h k b = h k (omega arith)
+
+pub time_begins : (order : CommitTimeOrder) (time : ObjectId → ℤ) (next : ObjectId → List ObjectId) (starts ids : List ObjectId) → IsTimeOrder order time next starts ids → IsTimeBeginning order time next starts ids
+time_begins order time next starts ids = at_place ids (λ k. (i : ObjectId) → IsPending next starts (take k ids) i → ⊥) (λ k. IsBest order time (IsPending next starts (take k ids)))
+
+pub work_from_breadth_beginning : (next : ObjectId → List ObjectId) (starts ids : List ObjectId) → IsBreadthBeginning next starts ids → IsWorkBeginning next starts ids
+work_from_breadth_beginning next starts ids h k i e = first_is_pending next starts (take k ids) (Some i) (sym e ∙ h k (slice_get_within ids k i e))
+
+pub work_from_time_beginning : (order : CommitTimeOrder) (time : ObjectId → ℤ) (next : ObjectId → List ObjectId) (starts ids : List ObjectId) → IsTimeBeginning order time next starts ids → IsWorkBeginning next starts ids
+work_from_time_beginning order time next starts ids h k i e = (h k i e).among
+
 -- no id is among those before it
 abbrev pub IsDistinctFrom : List ObjectId → List ObjectId → Type 0
 IsDistinctFrom taken [] = Unit {0}
 IsDistinctFrom taken (i ∷ ids) = (Contains taken i → ⊥) × IsDistinctFrom (taken ++ i ∷ []) ids
 
 module _ (next : ObjectId → List ObjectId) (starts : List ObjectId) where
-  -- the order of what is left
+  -- the order of what is left, up to any place
   abbrev pub WorksFrom : List ObjectId → List ObjectId → Type 0
-  WorksFrom taken ids = (k : ℕ) → k ≤ length ids → MatchOption (slice_get ids k) ((i : ObjectId) → IsPending next starts (taken ++ take k ids) i → ⊥) (IsPending next starts (taken ++ take k ids))
+  WorksFrom taken ids = (k : ℕ) (i : ObjectId) → slice_get ids k ≡ Some i → IsPending next starts (taken ++ take k ids) i
 
-  pub works_on : (taken ids : List ObjectId) (i : ObjectId) → WorksFrom taken (i ∷ ids) → WorksFrom (taken ++ i ∷ []) ids
-  works_on taken ids i h k b = rw append_assoc (h (suc k) (omega arith))
+  works_on : (taken ids : List ObjectId) (i : ObjectId) → WorksFrom taken (i ∷ ids) → WorksFrom (taken ++ i ∷ []) ids
+  works_on taken ids i h k j e = rw append_assoc (h (suc k) j e)
 
-  pub first_is : (taken ids : List ObjectId) (i : ObjectId) → WorksFrom taken (i ∷ ids) → IsPending next starts taken i
-  first_is taken ids i h = rw append-nil at (h zero (omega arith))
+  first_is : (taken ids : List ObjectId) (i : ObjectId) → WorksFrom taken (i ∷ ids) → IsPending next starts taken i
+  first_is taken ids i h = rw append-nil at (h zero i refl)
 
   reached_by_all : (taken : List ObjectId) → ((c : ObjectId) → Contains taken c → Reaches next starts c) → (i : ObjectId) → Contains (flat_map next taken) i → Reaches next starts i
   reached_by_all [] all i h = absurd (no_member i h)
@@ -76,7 +101,7 @@ module _ (next : ObjectId → List ObjectId) (starts : List ObjectId) where
   pub Contains-push : (taken : List ObjectId) (i c : ObjectId) → Contains (taken ++ i ∷ []) c → Contains taken c ⊎ (i ≡ c)
   Contains-push taken i c h = ⊎_elim (λ t. inl t) (λ t. inr (only_member i c t)) (Contains-append_cases taken (i ∷ []) c h)
 
-  pub all_reached : (taken ids : List ObjectId) → WorksFrom taken ids → ((c : ObjectId) → Contains taken c → Reaches next starts c) → (c : ObjectId) → Contains ids c → Reaches next starts c
+  all_reached : (taken ids : List ObjectId) → WorksFrom taken ids → ((c : ObjectId) → Contains taken c → Reaches next starts c) → (c : ObjectId) → Contains ids c → Reaches next starts c
   all_reached taken [] h all c k = absurd (no_member c k)
   all_reached taken (i ∷ ids) h all c k =
       let here : Reaches next starts i = reached_by_named taken all i (first_is taken ids i h).0 in
@@ -105,8 +130,8 @@ module _ (next : ObjectId → List ObjectId) (starts : List ObjectId) where
       go i (start s) = given i (Contains-append_left starts (flat_map next ids) i s)
       go i (step {c = c} r n) = given i (Contains-append_right starts (flat_map next ids) i (in_all c ids i (go c r) n))
 
-  pub given_is_reached : (ids : List ObjectId) → IsWorkOrder next starts ids → (i : ObjectId) → Contains ids i → Reaches next starts i
+  pub given_is_reached : (ids : List ObjectId) → IsWorkBeginning next starts ids → (i : ObjectId) → Contains ids i → Reaches next starts i
   given_is_reached ids h = all_reached [] ids h (λ c n. absurd (no_member c n))
 
-  pub given_once : (ids : List ObjectId) → IsWorkOrder next starts ids → IsDistinctFrom [] ids
+  pub given_once : (ids : List ObjectId) → IsWorkBeginning next starts ids → IsDistinctFrom [] ids
   given_once ids h = distinct_from [] ids h

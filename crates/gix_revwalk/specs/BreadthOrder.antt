@@ -1,5 +1,5 @@
 -- The order of a walk that takes what came first. Each commit of the list is defined by the commits before it.
-use Rattle.std.specs.Prelude.{◌≡◌, ◌≤◌, ℕ, List, ◌++◌, not, Option, length, take, find, slice_get}
+use Rattle.std.specs.Prelude.{◌≡◌, ◌≤◌, ◌<◌, ℕ, List, ◌++◌, not, Option, length, take, find, slice_get}
 use Rattle.std.specs.List.{flat_map}
 use Rattle.gix_hash.specs.declared.ObjectId.{ObjectId}
 use Rattle.gix_hash.specs.Id.{is_among}
@@ -17,3 +17,9 @@ named_by next starts taken = starts ++ flat_map next taken
 abbrev pub IsBreadthOrder : (ObjectId → List ObjectId) → List ObjectId → List ObjectId → Type 0
 IsBreadthOrder next starts ids =
     (k : ℕ) → k ≤ length ids → slice_get ids k ≡ first_new (named_by next starts (take k ids)) (take k ids)
+
+-- The beginning of such a list, up to any place: each commit is the first, of the starts and then of what the commits before it name,
+-- that isn't among these.
+abbrev pub IsBreadthBeginning : (ObjectId → List ObjectId) → List ObjectId → List ObjectId → Type 0
+IsBreadthBeginning next starts ids =
+    (k : ℕ) → k < length ids → slice_get ids k ≡ first_new (named_by next starts (take k ids)) (take k ids)

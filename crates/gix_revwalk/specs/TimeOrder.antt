@@ -1,5 +1,5 @@
 -- The order of a walk that takes the best time.
-use Rattle.std.specs.Prelude.{◌≤◌, ◌≤ℤ◌, ℕ, ℤ, List, MatchOption, length, take, slice_get, Contains}
+use Rattle.std.specs.Prelude.{◌≡◌, ◌≤◌, ◌≤ℤ◌, ℕ, ℤ, List, Some, MatchOption, length, take, slice_get, Contains}
 use Rattle.gix_hash.specs.declared.ObjectId.{ObjectId}
 use Rattle.gix_revwalk.specs.declared.CommitTimeOrder.{CommitTimeOrder}
 use Rattle.gix_revwalk.specs.declared.CommitTimeOrder.TheVariants.{NewestFirst, OldestFirst}
@@ -24,3 +24,8 @@ abbrev pub IsTimeOrder : CommitTimeOrder → (ObjectId → ℤ) → (ObjectId �
 IsTimeOrder order time next starts ids =
     (k : ℕ) → k ≤ length ids →
     MatchOption (slice_get ids k) ((i : ObjectId) → IsPending next starts (take k ids) i → ⊥) (IsBest order time (IsPending next starts (take k ids)))
+
+-- The beginning of such a list, up to any place: each commit is a pending one of best time.
+abbrev pub IsTimeBeginning : CommitTimeOrder → (ObjectId → ℤ) → (ObjectId → List ObjectId) → List ObjectId → List ObjectId → Type 0
+IsTimeBeginning order time next starts ids =
+    (k : ℕ) (i : ObjectId) → slice_get ids k ≡ Some i → IsBest order time (IsPending next starts (take k ids)) i

@@ -15,8 +15,9 @@ use Rattle.gix_revwalk.specs.Ids.{ids_of}
 use Rattle.gix_revwalk.specs.Asking.{AnswersBy}
 use Rattle.gix_simple.specs.Laws.{IsWholeRun, IsInOrder, GivesInOrder, kept_parents, next_of, starts_of}
 use Rattle.gix_simple.specs.Runs.{AreAlike, GiveTheSame, GivesUnhidden, AreBuiltAlike, made, breadth_first, by_time, walks, hides, reads}
+use Rattle.gix_revwalk.proofs.OneOrder.{one_breadth}
 use Rattle.gix_simple.proofs.Builders.{recent_ids}
-use Rattle.gix_simple.proofs.Corollaries.{gives, gives_once, same_breadth, no_tips, all_kept, shown_reached, reached_shown}
+use Rattle.gix_simple.proofs.Corollaries.{gives, gives_once, no_tips, all_kept, shown_reached, reached_shown}
 use Rattle.gix_simple.proofs.MadeOfTips.{is_new_walk}
 
 module _ {F P : Type 0} (objects : F → Objects) (faulty : F → ObjectId → Type 0) (answers : P → ObjectId → Bool → P → Type 0) where
@@ -64,7 +65,7 @@ module _ {F P : Type 0} (objects : F → Objects) (faulty : F → ObjectId → T
           given_there = h.given;
           same = λ i. (λ c. (in_h i).1 ((in_g i).0 c), λ c. (in_g i).1 ((in_h i).0 c));
           in_order = λ e.
-              same_breadth (next_of objects walk accepts hidden) (starts_of walk hidden) g.ids h.ids
+              one_breadth (next_of objects walk accepts hidden) (starts_of walk hidden) g.ids h.ids
               (transport (λ k. IsInOrder (e k) (time_of (objects walk.store)) (next_of objects walk accepts hidden) (starts_of walk hidden) g.ids) g.in_order)
               (transport (λ k. IsInOrder (e k) (time_of (objects walk.store)) (next_of objects walk accepts hidden) (starts_of walk hidden) h.ids) other_order);
         }

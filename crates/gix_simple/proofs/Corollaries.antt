@@ -13,7 +13,7 @@ use Rattle.gix_revwalk.specs.declared.Info.{Info}
 use Rattle.gix_revwalk.specs.declared.CommitTimeOrder.{CommitTimeOrder}
 use Rattle.gix_revwalk.specs.declared.CommitTimeOrder.TheVariants.{NewestFirst}
 use Rattle.gix_simple.specs.declared.Error.{Error}
-use Rattle.gix_revwalk.specs.BreadthOrder.{named_by, first_new, IsBreadthOrder}
+use Rattle.gix_revwalk.specs.BreadthOrder.{named_by, IsBreadthOrder}
 use Rattle.gix_revwalk.specs.TimeOrder.{IsTimeOrder, IsPending, IsBest}
 use Rattle.gix_hash.specs.Reach.{Reaches, start, step, Tells}
 use Rattle.gix_revwalk.specs.Agreeing.{IsAgreeing}
@@ -21,14 +21,14 @@ use Rattle.gix_revwalk.specs.Commits.{time_of, parents_of, walked_parents}
 use Rattle.gix_simple.specs.Walk.{SimpleWalk, time_order, cutoff, is_older}
 use Rattle.gix_revwalk.specs.Infos.{IsInfo, IsRowGeneration}
 use Rattle.gix_revwalk.specs.Ids.{ids_of, AreDistinct}
-use Rattle.gix_simple.specs.Laws.{IsGiven, IsInOrder, GivesInOrder, IsWholeRun, starts_of, next_of, is_kept, kept_parents, accepted_parents, recent_parents, IsPlain, IsPlainRun}
+use Rattle.gix_simple.specs.Laws.{IsGiven, IsInOrder, IsBeginning, GivesInOrder, GivesBeginning, IsWholeRun, IsBegunRun, starts_of, next_of, is_kept, kept_parents, accepted_parents, recent_parents, IsPlain, IsPlainRun}
 use Rattle.gix_hash.proofs.Ids.Membership.{among_from, among_is, Contains-here, Contains-cons_cases, no_member}
 use Rattle.gix_revwalk.proofs.NewIds.{among-filter, named-push}
-use Rattle.gix_revwalk.proofs.Orders.{IsWorkOrder, IsDistinctFrom, work_from_breadth, work_from_time, reached_is_given, given_is_reached, given_once}
+use Rattle.gix_revwalk.proofs.Orders.{IsWorkOrder, IsWorkBeginning, IsDistinctFrom, work_from_breadth, work_from_time, work_begins, work_from_breadth_beginning, work_from_time_beginning, reached_is_given, given_is_reached, given_once}
 use Rattle.std.proofs.Math.Path.{transport}
 use Rattle.std.proofs.Math.Bool.{and-true}
 use Rattle.gix_simple.proofs.Treated.{no_cutoff}
-use Rattle.gix_simple.proofs.Theorem.{gives_in_order}
+use Rattle.gix_simple.proofs.Theorem.{gives_in_order, gives_beginning}
 use Rattle.gix_revwalk.proofs.ReadsWhole.{walked_within}
 
 -- one and all
@@ -48,30 +48,18 @@ work_of (Some order) time next starts ids h = work_from_time order time next sta
 pub each_once : (o : Option CommitTimeOrder) (time : ObjectId → ℤ) (next : ObjectId → List ObjectId) (starts ids : List ObjectId) → IsInOrder o time next starts ids → AreDistinct ids × ((i : ObjectId) → Contains ids i ↔ Reaches next starts i)
 each_once o time next starts ids h =
     let w : IsWorkOrder next starts ids = work_of o time next starts ids h in
-    ((distinct_is [] ids (given_once next starts ids w)).0, λ i. (given_is_reached next starts ids w i, reached_is_given next starts ids w i))
+    let b : IsWorkBeginning next starts ids = work_begins next starts ids w in
+    ((distinct_is [] ids (given_once next starts ids b)).0, λ i. (given_is_reached next starts ids b i, reached_is_given next starts ids w i))
 
--- there is one list in breadth order
-module _ (next : ObjectId → List ObjectId) (starts : List ObjectId) where
-  abbrev pub BreadthFrom : List ObjectId → List ObjectId → Type 0
-  BreadthFrom taken ids = (k : ℕ) → k ≤ length ids → slice_get ids k ≡ first_new (named_by next starts (taken ++ take k ids)) (taken ++ take k ids)
+work_beginning : (o : Option CommitTimeOrder) (time : ObjectId → ℤ) (next : ObjectId → List ObjectId) (starts ids : List ObjectId) → IsBeginning o time next starts ids → IsWorkBeginning next starts ids
+work_beginning None time next starts ids h = work_from_breadth_beginning next starts ids h
+work_beginning (Some order) time next starts ids h = work_from_time_beginning order time next starts ids h
 
-  breadth_here : (taken ids : List ObjectId) → BreadthFrom taken ids → slice_get ids zero ≡ first_new (named_by next starts taken) taken
-  breadth_here taken ids h = rw append-nil at (h zero Prim.Native.Nat.zero-le)
-
-  breadth_on : (taken ids : List ObjectId) (i : ObjectId) → BreadthFrom taken (i ∷ ids) → BreadthFrom (taken ++ i ∷ []) ids
-  breadth_on taken ids i h k b = rw append_assoc (h (suc k) (omega arith))
-
-  one_breadth : (taken xs ys : List ObjectId) → BreadthFrom taken xs → BreadthFrom taken ys → xs ≡ ys
-  one_breadth taken [] [] h k = refl
-  one_breadth taken [] (y ∷ ys) h k = let e : None ≡ Some y = breadth_here taken [] h ∙ sym (breadth_here taken (y ∷ ys) k) in cc
-  one_breadth taken (x ∷ xs) [] h k = let e : Some x ≡ None = breadth_here taken (x ∷ xs) h ∙ sym (breadth_here taken [] k) in cc
-  one_breadth taken (x ∷ xs) (y ∷ ys) h k =
-      let e : x ≡ y = let s : Some x ≡ Some y = breadth_here taken (x ∷ xs) h ∙ sym (breadth_here taken (y ∷ ys) k) in cc in
-      let r : xs ≡ ys = one_breadth (taken ++ x ∷ []) xs ys (breadth_on taken xs x h) (subst (λ z. BreadthFrom (taken ++ z ∷ []) ys) (sym e) (breadth_on taken ys y k)) in
-      cc
-
-pub same_breadth : (next : ObjectId → List ObjectId) (starts xs ys : List ObjectId) → IsBreadthOrder next starts xs → IsBreadthOrder next starts ys → xs ≡ ys
-same_breadth next starts xs ys h k = one_breadth next starts [] xs ys h k
+-- a beginning has no id twice, and only what is reached
+begun_once : (o : Option CommitTimeOrder) (time : ObjectId → ℤ) (next : ObjectId → List ObjectId) (starts ids : List ObjectId) → IsBeginning o time next starts ids → AreDistinct ids × ((i : ObjectId) → Contains ids i → Reaches next starts i)
+begun_once o time next starts ids h =
+    let b : IsWorkBeginning next starts ids = work_beginning o time next starts ids h in
+    ((distinct_is [] ids (given_once next starts ids b)).0, given_is_reached next starts ids b)
 
 -- what hidden tips cut away
 module _ (objects : Objects) (m : Parents) (accepts hides : ObjectId → Bool) (limit : Option ℤ) (tips hidden_tips : List ObjectId) (tells : Tells hides (Reaches (parents_of objects) hidden_tips)) where
@@ -194,6 +182,12 @@ module _ {F P : Type 0} (objects : F → Objects) (faulty : F → ObjectId → T
 
   pub gives_once : (hides : ObjectId → Bool) (list : List (Result Info Error)) (g : GivesInOrder objects walk accepts hides list) → AreDistinct g.ids × ((i : ObjectId) → Contains g.ids i ↔ Reaches (next_of objects walk accepts hides) (starts_of walk hides) i)
   gives_once hides list g = each_once (time_order walk.parents walk.sorting) (time_of (objects walk.store)) (next_of objects walk accepts hides) (starts_of walk hides) g.ids g.in_order
+
+  pub begins : (hides : ObjectId → Bool) (list : List (Result Info Error)) (left : SimpleWalk F P) → IsBegunRun objects faulty answers walk accepts hides list left → GivesBeginning objects walk accepts hides list
+  begins hides list left run = gives_beginning objects faulty answers walk accepts hides run.by_test run.fresh run.tells run.meets run.agreeing list left run.unrefused run.drawn
+
+  pub begins_once : (hides : ObjectId → Bool) (list : List (Result Info Error)) (g : GivesBeginning objects walk accepts hides list) → AreDistinct g.ids × ((i : ObjectId) → Contains g.ids i → Reaches (next_of objects walk accepts hides) (starts_of walk hides) i)
+  begins_once hides list g = begun_once (time_order walk.parents walk.sorting) (time_of (objects walk.store)) (next_of objects walk accepts hides) (starts_of walk hides) g.ids g.begins
 
   pub rising : (hides : ObjectId → Bool) (list : List (Result Info Error)) → time_order walk.parents walk.sorting ≡ Some NewestFirst → ((c i : ObjectId) → Contains (parents_of (objects walk.store) c) i → time_of (objects walk.store) i ≤ℤ time_of (objects walk.store) c) → (g : GivesInOrder objects walk accepts hides list) (k : ℕ) (a b : ObjectId) → slice_get g.ids k ≡ Some a → slice_get g.ids (suc k) ≡ Some b → time_of (objects walk.store) b ≤ℤ time_of (objects walk.store) a
   rising hides list e older g = times_fall (time_of (objects walk.store)) (next_of objects walk accepts hides) (starts_of walk hides) g.ids

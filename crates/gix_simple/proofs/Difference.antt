@@ -83,7 +83,7 @@ unrefused (answer ∷ list) h = All-cons IsNoRefusal answer list (here error.Mem
     here : (e : Error) → answer ≢ Err e
     here e s = h e (subst (λ x. Contains (x ∷ list) (Err e)) (sym s) (Contains-here (Err e) list))
 
-no_start : (next : ObjectId → List ObjectId) (starts : List ObjectId) (i : ObjectId) → Reaches next starts i → starts ≢ []
+pub no_start : (next : ObjectId → List ObjectId) (starts : List ObjectId) (i : ObjectId) → Reaches next starts i → starts ≢ []
 no_start next starts i (start s) = λ e. no_member i (subst (λ xs. Contains xs i) e s)
 no_start next starts i (step {c = c} r n) = no_start next starts c r
 
@@ -102,7 +102,7 @@ module _ {F P : Type 0} (objects : F → Objects) (faulty : F → ObjectId → T
   painted_whole walk agreeing some behind (no_memory p h rows) good i r = absurd (good error.Memory refl)
 
   -- so has a walk that gives none
-  drawn_whole : (walk : SimpleWalk F P) (list : List (Result Info Error)) → IsAgreeing (objects walk.store) walk.rows → walk.pending ≢ [] → walk.hidden_tips ≢ [] → ((e : Error) → Contains list (Err e) → ⊥) → Drains (Next objects faulty answers) walk list
+  pub drawn_whole : (walk : SimpleWalk F P) (list : List (Result Info Error)) → IsAgreeing (objects walk.store) walk.rows → walk.pending ≢ [] → walk.hidden_tips ≢ [] → ((e : Error) → Contains list (Err e) → ⊥) → Drains (Next objects faulty answers) walk list
       → (i : ObjectId) → Reaches (parents_of (objects walk.store)) (ids_of walk.pending ++ walk.hidden_tips) i → ReadsWhole (objects walk.store) i
   drawn_whole walk [] agreeing some behind good d = painted_whole walk agreeing some behind (at_end (Next objects faulty answers) walk d).1 (λ e s. cc)
   drawn_whole walk (answer ∷ list) agreeing some behind good d =

@@ -1,10 +1,10 @@
--- The first step, which paints; and the theorem over a whole walk.
-use Rattle.std.specs.Prelude.{◌≡◌, ◌≢◌, ◌⊎◌, ◌≤◌, ℕ, ℤ, List, [], ◌∷◌, ◌++◌, filter, length, take, slice_get, Bool, true, false, not, ◌&&◌, ◌||◌, cond, Option, Some, None, Result, Err, Contains, All}
-use Rattle.std.proofs.Common.{refl, sym, ap, subst, inl, inr, ⊎_elim, ◌∙◌, append-nil}
+-- The first step, which paints; and the theorem over a whole walk, and over one drawn as far as one likes.
+use Rattle.std.specs.Prelude.{◌≡◌, ◌≢◌, ◌⊎◌, ◌≤◌, ◌<◌, ℕ, zero, suc, ℤ, List, [], ◌∷◌, ◌++◌, filter, length, take, slice_get, Bool, true, false, not, ◌&&◌, ◌||◌, cond, Option, Some, None, Result, Err, Contains, All}
+use Rattle.std.proofs.Common.{refl, sym, ap, subst, inl, inr, ⊎_elim, ◌∙◌, append-nil, arith}
 use Rattle.std.proofs.lemmas.List.Elements.{All-head}
 use Rattle.std.proofs.lemmas.Bool.{false≢true, true≢false, false_from_ne_true, and_from, and_parts, not-true}
 use Rattle.std.specs.FinSet as set
-use Rattle.std.specs.Iterator.{Drains}
+use Rattle.std.specs.Iterator.{Drains, Yields}
 use Rattle.gix_hash.specs.declared.ObjectId.{ObjectId}
 use Rattle.gix_hash.specs.Id.{id_cmp, is_same, is_among, kind_of}
 use Rattle.gix_object.specs.Object.{Objects}
@@ -23,7 +23,7 @@ use Rattle.gix_revwalk.specs.declared.Pending.{Pending}
 use Rattle.gix_simple.specs.Walk.{SimpleWalk, time_order, cutoff, Steps, painted, Next, unhidden, paints, faulty_history, no_memory}
 use Rattle.gix_revwalk.specs.Ids.{ids_of, AreDistinct}
 use Rattle.gix_revwalk.specs.Asking.{itself, AnswersBy}
-use Rattle.gix_simple.specs.Laws.{IsFresh, IsNoRefusal, IsInOrder, MeetsWhole, GivesInOrder, starts_of, next_of, is_kept}
+use Rattle.gix_simple.specs.Laws.{IsFresh, IsNoRefusal, IsInOrder, IsBeginning, MeetsWhole, GivesInOrder, GivesBeginning, starts_of, next_of, is_kept}
 use Rattle.gix_object.specs.CommitItems.{commit_items}
 use Rattle.gix_revwalk.proofs.Drained.{at_end, at_first}
 use Rattle.gix_revwalk.proofs.Committer.{fault_unread}
@@ -33,7 +33,7 @@ use Rattle.gix_revwalk.proofs.NewIds.{fresh, times, times-fresh, among-filter}
 use Rattle.gix_simple.proofs.Treated.{Setting, Stands}
 use Rattle.gix_simple.proofs.OneStep.{next}
 use Rattle.gix_simple.proofs.PendingIs.{IsQueue, IsNextOne}
-use Rattle.gix_simple.proofs.WholeWalk.{Known, Runs, RunOf, run}
+use Rattle.gix_simple.proofs.WholeWalk.{Known, Runs, RunOf, run, BegunOf, begun_run}
 use Rattle.gix_revwalk.proofs.ReadsWhole.{walked_within, no_fault}
 use Rattle.gix_hash.proofs.Lists.{filter_within}
 
@@ -65,6 +65,11 @@ queue_starts (Some order) starts d = λ j. ap (times j) (fresh_distinct (λ k. f
     padded true = refl
     padded false = refl
 
+in_place : {X : Type 0} (xs : List X) (k : ℕ) → k < length xs → (x : X) × (slice_get xs k ≡ Some x)
+in_place [] k b = absurd (omega arith)
+in_place (x ∷ xs) zero b = (x, refl)
+in_place (x ∷ xs) (suc k) b = in_place xs k (omega arith)
+
 nothing_reached : (next : ObjectId → List ObjectId) (starts : List ObjectId) → ((i : ObjectId) → Contains starts i → ⊥) → (i : ObjectId) → Reaches next starts i → ⊥
 nothing_reached next starts none i (start s) = none i s
 nothing_reached next starts none i (step {c = c} r n) = nothing_reached next starts none c r
@@ -80,6 +85,10 @@ ids-filter p q (x ∷ ps) h = go (q x.id) (h x.id (Contains-here x.id (ids_of ps
 in_order_from : (o : Option CommitTimeOrder) (time : ObjectId → ℤ) (next : ObjectId → List ObjectId) (starts ids : List ObjectId) → ((k : ℕ) → k ≤ length ids → IsNextOne o time next starts (take k ids) (slice_get ids k)) → IsInOrder o time next starts ids
 in_order_from None time next starts ids h = h
 in_order_from (Some order) time next starts ids h = h
+
+begins_from : (o : Option CommitTimeOrder) (time : ObjectId → ℤ) (next : ObjectId → List ObjectId) (starts ids : List ObjectId) → ((k : ℕ) (i : ObjectId) → slice_get ids k ≡ Some i → IsNextOne o time next starts (take k ids) (Some i)) → IsBeginning o time next starts ids
+begins_from None time next starts ids h = λ k b. let e : (i : ObjectId) × (slice_get ids k ≡ Some i) = in_place ids k b in e.1 ∙ h k e.0 e.1
+begins_from (Some order) time next starts ids h = h
 
 module _ {F P : Type 0} (objects : F → Objects) (faulty : F → ObjectId → Type 0) (answers : P → ObjectId → Bool → P → Type 0) (w : SimpleWalk F P) (accepts hides : ObjectId → Bool)
     (by_test : AnswersBy answers w.predicate accepts) (is_fresh : IsFresh objects w accepts) (tells : Tells hides (Reaches (parents_of (objects w.store)) w.hidden_tips))
@@ -215,3 +224,11 @@ module _ {F P : Type 0} (objects : F → Objects) (faulty : F → ObjectId → T
       let first = at_first (Next objects faulty answers) w answer left drawn in
       let b : Begins (Some answer) first.0 = begins (λ a e. let same : answer ≡ a = cc in subst IsNoRefusal same (All-head IsNoRefusal answer left ok)) first.1 in
       ran b.marks (answer ∷ left) (run objects faulty answers (setting b.marks) b.known (answer ∷ left) b.mid [] b.runs ok (first.0, b.steps, first.2))
+
+  -- and over a walk that is drawn as far as one likes
+  pub gives_beginning : (list : List (Result Info Error)) (last : SimpleWalk F P) → All IsNoRefusal list → Yields (Next objects faulty answers) w list last → GivesBeginning objects w accepts hides list
+  gives_beginning [] last ok drawn = record { ids = []; given = tt; begins = begins_from (time_order w.parents w.sorting) (time_of (objects w.store)) next_ids (starts_of w hides) [] (λ k i e. cc) }
+  gives_beginning (answer ∷ left) last ok drawn =
+      let b : Begins (Some answer) drawn.0 = begins (λ a e. let same : answer ≡ a = cc in subst IsNoRefusal same (All-head IsNoRefusal answer left ok)) drawn.1 in
+      let r : BegunOf objects faulty answers (setting b.marks) [] (answer ∷ left) = begun_run objects faulty answers (setting b.marks) b.known answer left b.mid drawn.0 last [] b.runs ok b.steps drawn.2 in
+      record { ids = r.ids; given = r.given_as; begins = begins_from (time_order w.parents w.sorting) (time_of (objects w.store)) next_ids (starts_of w hides) r.ids r.begins }

@@ -1,8 +1,8 @@
--- A whole walk gives what the definitions say.
+-- A walk gives what the definitions say, drawn to its end or as far as one likes.
 use Rattle.std.specs.Prelude.{◌≡◌, ◌≤◌, ℕ, zero, suc, ℤ, List, [], ◌∷◌, ◌++◌, length, take, slice_get, Bool, true, ◌&&◌, ◌||◌, Option, Some, None, Result, Err, Contains, All}
 use Rattle.std.proofs.Common.{refl, sym, ap, subst, ⊎_elim, ◌∙◌, arith, append_assoc, append-nil}
 use Rattle.std.proofs.Math.Bool.{or_comm}
-use Rattle.std.specs.Iterator.{Drains}
+use Rattle.std.specs.Iterator.{Drains, Yields}
 use Rattle.std.specs.List.{AllZip}
 use Rattle.std.proofs.lemmas.List.Sorted.{Contains-permutation, IsPermutation-sym}
 use Rattle.std.proofs.lemmas.List.Elements.{All-head, All-tail}
@@ -162,3 +162,33 @@ module _ {F P : Type 0} (objects : F → Objects) (faulty : F → ObjectId → T
       let t : Stepped s done answer may.0 = stepped s known w done h may.1 (All-head IsNoRefusal answer left ok) in
       let r : RunOf s (done ++ t.i ∷ []) left = run s known left may.0 (done ++ t.i ∷ []) t.runs (All-tail IsNoRefusal answer left ok) (then_steps may.0 left t.runs.rest.tips (All-tail IsNoRefusal answer left ok) may.2) in
       record { ids = t.i ∷ r.ids; given_as = (t.given_as, r.given_as); order = order_more s done r.ids t.i t.turn r.order }
+
+  -- each of the ids is the next one where it comes, up to any place
+  abbrev pub BeginsFrom : Setting objects faulty answers → List ObjectId → List ObjectId → Type 0
+  BeginsFrom s done ids = (k : ℕ) (i : ObjectId) → slice_get ids k ≡ Some i → is_next s (done ++ take k ids) (Some i)
+
+  begins_more : (s : Setting objects faulty answers) (done ids : List ObjectId) (i : ObjectId) → is_next s done (Some i) → BeginsFrom s (done ++ i ∷ []) ids → BeginsFrom s done (i ∷ ids)
+  begins_more s done ids i h r zero j e = rw append-nil (let same : i ≡ j = cc in subst (λ x. is_next s done (Some x)) same h)
+  begins_more s done ids i h r (suc k) j e = rw append_assoc at (r k j e)
+
+  pub record BegunOf (s : Setting objects faulty answers) (done : List ObjectId) (list : List (Result Info Error)) : Type 0 where
+    pub ids : List ObjectId
+    pub given_as : AllZip (given s) list ids
+    pub begins : BeginsFrom s done ids
+
+  one_more : (s : Setting objects faulty answers) (done : List ObjectId) {answer : Result Info Error} {left : List (Result Info Error)} {new : SimpleWalk F P} (t : Stepped s done answer new) → BegunOf s (done ++ t.i ∷ []) left → BegunOf s done (answer ∷ left)
+  one_more s done t r = record { ids = t.i ∷ r.ids; given_as = (t.given_as, r.given_as); begins = begins_more s done r.ids t.i t.turn r.begins }
+
+  -- drawn as far as one likes
+  begun : (s : Setting objects faulty answers) → Known s → (list : List (Result Info Error)) (w last : SimpleWalk F P) (done : List ObjectId) → Runs s w done → All IsNoRefusal list → Yields (Next objects faulty answers) w list last → BegunOf s done list
+  begun s known [] w last done h ok drawn = record { ids = []; given_as = tt; begins = λ k i e. cc }
+  begun s known (answer ∷ left) w last done h ok drawn =
+      let here : IsNoRefusal answer = All-head IsNoRefusal answer left ok in
+      let t : Stepped s done answer drawn.0 = stepped s known w done h (next_steps w h.rest.tips (λ a e. let same : answer ≡ a = cc in subst IsNoRefusal same here) drawn.1) here in
+      one_more s done t (begun s known left drawn.0 last (done ++ t.i ∷ []) t.runs (All-tail IsNoRefusal answer left ok) drawn.2)
+
+  -- from a walk whose hidden tips are painted
+  pub begun_run : (s : Setting objects faulty answers) → Known s → (answer : Result Info Error) (left : List (Result Info Error)) (w new last : SimpleWalk F P) (done : List ObjectId) → Runs s w done → All IsNoRefusal (answer ∷ left) → Steps objects faulty answers w (Some answer) new → Yields (Next objects faulty answers) new left last → BegunOf s done (answer ∷ left)
+  begun_run s known answer left w new last done h ok steps drawn =
+      let t : Stepped s done answer new = stepped s known w done h steps (All-head IsNoRefusal answer left ok) in
+      one_more s done t (begun s known left new last (done ++ t.i ∷ []) t.runs (All-tail IsNoRefusal answer left ok) drawn)

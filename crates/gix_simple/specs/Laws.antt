@@ -1,7 +1,7 @@
 -- What a simple walk gives, over the definitions alone: the words of its laws.
 use Rattle.std.specs.Prelude.{◌≡◌, ◌≢◌, ◌⊎◌, ◌↔◌, ℕ, ℤ, List, [], ◌∷◌, ◌++◌, filter, Bool, true, false, not, ◌&&◌, ◌+◌, map, length, Option, Some, None, Result, Ok, Err, Contains, All}
 use Rattle.std.specs.List.{AllZip, flat_map}
-use Rattle.std.specs.Iterator.{Drains}
+use Rattle.std.specs.Iterator.{Drains, Yields}
 use Rattle.std.specs.FinMap as map_of
 use Rattle.std.specs.FinSet as set
 use Rattle.gix_hash.specs.declared.ObjectId.{ObjectId}
@@ -17,8 +17,8 @@ use Rattle.gix_simple.specs.declared.Error.{Error}
 use Rattle.gix_simple.specs.declared.Error.TheVariants as error
 use Rattle.gix_paint.specs.declared.Hidden.TheVariants as hidden_by
 use Rattle.gix_revwalk.specs.Agreeing.{IsAgreeing}
-use Rattle.gix_revwalk.specs.BreadthOrder.{IsBreadthOrder}
-use Rattle.gix_revwalk.specs.TimeOrder.{IsTimeOrder}
+use Rattle.gix_revwalk.specs.BreadthOrder.{IsBreadthOrder, IsBreadthBeginning}
+use Rattle.gix_revwalk.specs.TimeOrder.{IsTimeOrder, IsTimeBeginning}
 use Rattle.gix_hash.specs.Reach.{Reaches, Tells}
 use Rattle.gix_revwalk.specs.Commits.{ReadsWhole, by_mode, walked_parents, parents_of, time_of}
 use Rattle.gix_revwalk.specs.declared.Pending.{Pending}
@@ -73,6 +73,11 @@ abbrev pub IsInOrder : Option CommitTimeOrder → (ObjectId → ℤ) → (Object
 IsInOrder None time next starts ids = IsBreadthOrder next starts ids
 IsInOrder (Some order) time next starts ids = IsTimeOrder order time next starts ids
 
+-- the beginning of such a list, up to any place
+abbrev pub IsBeginning : Option CommitTimeOrder → (ObjectId → ℤ) → (ObjectId → List ObjectId) → List ObjectId → List ObjectId → Type 0
+IsBeginning None time next starts ids = IsBreadthBeginning next starts ids
+IsBeginning (Some order) time next starts ids = IsTimeBeginning order time next starts ids
+
 -- what a walk meets reads whole: with hidden tips, all that tips and hidden tips reach
 pub record MeetsWhole {F P : Type 0} (objects : F → Objects) (faulty : F → ObjectId → Type 0) (walk : SimpleWalk F P) (accepts hidden : ObjectId → Bool) : Type 0 where
   pub given : (i : ObjectId) → Reaches (next_of objects walk accepts hidden) (starts_of walk hidden) i → ReadsWhole (objects walk.store) i
@@ -93,6 +98,26 @@ pub record IsWholeRun {F P : Type 0} (objects : F → Objects) (faulty : F → O
   pub agreeing : IsAgreeing (objects walk.store) walk.rows
   pub unrefused : All IsNoRefusal list
   pub drawn : Drains (Next objects faulty answers) walk list
+
+-- the answers are these commits, the beginning of a list in order
+pub record GivesBeginning {F P : Type 0} (objects : F → Objects) (walk : SimpleWalk F P)
+    (accepts hidden : ObjectId → Bool) (answers : List (Result Info Error)) : Type 0 where
+  pub ids : List ObjectId
+  pub given : AllZip (IsGiven (objects walk.store) walk.rows walk.parents (time_order walk.parents walk.sorting)) answers ids
+  pub begins :
+      IsBeginning (time_order walk.parents walk.sorting) (time_of (objects walk.store))
+      (next_of objects walk accepts hidden) (starts_of walk hidden) ids
+
+-- a walk drawn as far as one likes, what is left of it, and what is known of its history
+pub record IsBegunRun {F P : Type 0} (objects : F → Objects) (faulty : F → ObjectId → Type 0) (answers : P → ObjectId → Bool → P → Type 0)
+    (walk : SimpleWalk F P) (accepts hidden : ObjectId → Bool) (list : List (Result Info Error)) (left : SimpleWalk F P) : Type 0 where
+  pub by_test : AnswersBy answers walk.predicate accepts
+  pub fresh : IsFresh objects walk accepts
+  pub tells : Tells hidden (Reaches (parents_of (objects walk.store)) walk.hidden_tips)
+  pub meets : MeetsWhole objects faulty walk accepts hidden
+  pub agreeing : IsAgreeing (objects walk.store) walk.rows
+  pub unrefused : All IsNoRefusal list
+  pub drawn : Yields (Next objects faulty answers) walk list left
 
 -- a walk that was just made of some tips: the accepted ones are pending, each at its first place
 pub record IsNewWalk {F P : Type 0} (objects : F → Objects) (answers : P → ObjectId → Bool → P → Type 0) (store : F) (accepts : ObjectId → Bool) (tips : List ObjectId) (walk : SimpleWalk F P) : Type 0 where

@@ -1,5 +1,5 @@
 -- The statements of the laws of simple walks, over any store and predicate.
-use Rattle.std.specs.Prelude.{◌≡◌, ◌≢◌, ◌≤◌, ◌≤ℤ◌, ◌↔◌, ℕ, suc, List, [], ◌++◌, Bool, false, true, Some, None, Result, Err, All, Contains, length, slice_get, filter}
+use Rattle.std.specs.Prelude.{◌≡◌, ◌≢◌, ◌≤◌, ◌≤ℤ◌, ◌↔◌, ℕ, ℤ, suc, List, [], ◌++◌, Bool, false, true, Some, None, Result, Err, All, Contains, length, take, slice_get, filter}
 use Rattle.std.specs.Cmp.Lexicographic.{slice_cmp}
 use Rattle.std.specs.Iterator.{Drains, Yields}
 use Rattle.std.specs.List.{AllZip}
@@ -14,15 +14,15 @@ use Rattle.gix_revwalk.specs.declared.Parents.TheVariants as mode
 use Rattle.gix_revwalk.specs.declared.CommitTimeOrder.{CommitTimeOrder}
 use Rattle.gix_revwalk.specs.declared.CommitTimeOrder.TheVariants.{NewestFirst}
 use Rattle.gix_simple.specs.declared.Error.{Error}
-use Rattle.gix_revwalk.specs.BreadthOrder.{IsBreadthOrder}
-use Rattle.gix_revwalk.specs.TimeOrder.{IsTimeOrder}
+use Rattle.gix_revwalk.specs.BreadthOrder.{IsBreadthOrder, IsBreadthBeginning}
+use Rattle.gix_revwalk.specs.TimeOrder.{IsTimeOrder, IsTimeBeginning}
 use Rattle.gix_hash.specs.Reach.{Reaches, Tells}
 use Rattle.gix_revwalk.specs.Agreeing.{IsAgreeing}
 use Rattle.gix_revwalk.specs.Commits.{ReadsWhole, parents_of, time_of}
 use Rattle.gix_simple.specs.Walk.{SimpleWalk, Next, IsMade, time_order, cutoff}
 use Rattle.gix_revwalk.specs.Ids.{ids_of, AreDistinct, new_ids}
 use Rattle.gix_simple.specs.Building.{IsBuilt, IsUncut}
-use Rattle.gix_simple.specs.Laws.{IsFresh, IsWholeRun, IsPlainRun, IsPlain, GivesInOrder, IsNewWalk, IsNoRefusal, GivesBreadthFirst, GivesDifference, accepted_parents, recent_parents, next_of, starts_of, named_in, answers_left, given_ids}
+use Rattle.gix_simple.specs.Laws.{IsFresh, IsWholeRun, IsBegunRun, IsPlainRun, IsPlain, GivesInOrder, GivesBeginning, IsNewWalk, IsNoRefusal, GivesBreadthFirst, GivesDifference, accepted_parents, recent_parents, next_of, starts_of, named_in, answers_left, given_ids}
 use Rattle.gix_revwalk.specs.Asking.{AnswersBy}
 use Rattle.gix_simple.specs.Runs.{AsksOnce, TellsGenerations, AreAlike, AreBuiltAlike, GiveTheSame, GivesUnhidden}
 
@@ -36,6 +36,40 @@ info_cmp a b =
 -- there is a test of what ids reach
 abbrev pub ReachIsDecided : Type 0
 ReachIsDecided = (objects : Objects) (ids : List ObjectId) → (test : ObjectId → Bool) × Tells test (Reaches (parents_of objects) ids)
+
+-- there is at most one list in breadth order
+abbrev pub OneBreadthOrder : Type 0
+OneBreadthOrder =
+    (next : ObjectId → List ObjectId) (starts ids those : List ObjectId)
+    → IsBreadthOrder next starts ids
+    → IsBreadthOrder next starts those
+    → ids ≡ those
+
+-- a beginning in breadth order is the first ids of the whole list
+abbrev pub OneBreadthBeginning : Type 0
+OneBreadthBeginning =
+    (next : ObjectId → List ObjectId) (starts ids whole : List ObjectId)
+    → IsBreadthBeginning next starts ids
+    → IsBreadthOrder next starts whole
+    → ids ≡ take (length ids) whole
+
+-- there is at most one list in an order by time, where different ids that are reached have different times
+abbrev pub OneTimeOrder : Type 0
+OneTimeOrder =
+    (order : CommitTimeOrder) (time : ObjectId → ℤ) (next : ObjectId → List ObjectId) (starts ids those : List ObjectId)
+    → ((i j : ObjectId) → Reaches next starts i → Reaches next starts j → time i ≡ time j → i ≡ j)
+    → IsTimeOrder order time next starts ids
+    → IsTimeOrder order time next starts those
+    → ids ≡ those
+
+-- a beginning in an order by time is then the first ids of the whole list
+abbrev pub OneTimeBeginning : Type 0
+OneTimeBeginning =
+    (order : CommitTimeOrder) (time : ObjectId → ℤ) (next : ObjectId → List ObjectId) (starts ids whole : List ObjectId)
+    → ((i j : ObjectId) → Reaches next starts i → Reaches next starts j → time i ≡ time j → i ≡ j)
+    → IsTimeBeginning order time next starts ids
+    → IsTimeOrder order time next starts whole
+    → ids ≡ take (length ids) whole
 
 module _ {F P : Type 0} (objects : F → Objects) (faulty : F → ObjectId → Type 0) (answers : P → ObjectId → Bool → P → Type 0) where
   -- a walk that was made of some tips
@@ -98,6 +132,19 @@ module _ {F P : Type 0} (objects : F → Objects) (faulty : F → ObjectId → T
   GivesEachOnce =
       (walk : SimpleWalk F P) (accepts hidden : ObjectId → Bool) (list : List (Result Info Error)) (gives : GivesInOrder objects walk accepts hidden list)
       → AreDistinct gives.ids × ((i : ObjectId) → Contains gives.ids i ↔ Reaches (next_of objects walk accepts hidden) (starts_of walk hidden) i)
+
+  -- any walk, drawn as far as one likes
+  abbrev pub RunsBeginInOrder : Type 0
+  RunsBeginInOrder =
+      (walk left : SimpleWalk F P) (accepts hidden : ObjectId → Bool) (list : List (Result Info Error))
+      → IsBegunRun objects faulty answers walk accepts hidden list left
+      → GivesBeginning objects walk accepts hidden list
+
+  -- of what it has given, no id twice, and only what is reached
+  abbrev pub BeginsOnce : Type 0
+  BeginsOnce =
+      (walk : SimpleWalk F P) (accepts hidden : ObjectId → Bool) (list : List (Result Info Error)) (gives : GivesBeginning objects walk accepts hidden list)
+      → AreDistinct gives.ids × ((i : ObjectId) → Contains gives.ids i → Reaches (next_of objects walk accepts hidden) (starts_of walk hidden) i)
 
   -- a walk through all parents, without a cutoff, whose predicate accepts all, where all that is reached reads whole
   abbrev pub RunsGiveTheDifference : Type 0

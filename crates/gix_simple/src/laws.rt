@@ -1,6 +1,6 @@
 //! Laws of `commit::Simple`, and of the commits that walks give.
 
-ghost use Rattle.gix_simple.specs.Statements.{MakesNewWalks, BuildsFreshWalks, NewWalksGiveBreadthFirst, PlainRunsAreInBreadthOrder, PlainRunsAreInTimeOrder, RunsAreInOrder, GivesEachOnce, RunsGiveTheDifference, FaultlessRunsGiveTheDifference, info_cmp, BuildsAlike, HidesWhatIsReached, RowsLeaveTheIds, TellsTheGenerations, TimesFall, GivesNeverTwice, AsksNeverTwice, Ends, ReachIsDecided};
+ghost use Rattle.gix_simple.specs.Statements.{MakesNewWalks, BuildsFreshWalks, NewWalksGiveBreadthFirst, PlainRunsAreInBreadthOrder, PlainRunsAreInTimeOrder, RunsAreInOrder, GivesEachOnce, RunsBeginInOrder, BeginsOnce, RunsGiveTheDifference, FaultlessRunsGiveTheDifference, info_cmp, BuildsAlike, HidesWhatIsReached, RowsLeaveTheIds, TellsTheGenerations, TimesFall, GivesNeverTwice, AsksNeverTwice, Ends, ReachIsDecided, OneBreadthOrder, OneBreadthBeginning, OneTimeOrder, OneTimeBeginning};
 ghost use Rattle.std.specs.Prelude.{◌≡◌};
 ghost use Rattle.gix_revwalk.specs.declared.Info.{Info as InfoRecord};
 
@@ -52,6 +52,18 @@ pub fn in_order<F: Find, P: Predicate>()
 /// the parents that it walks, where tips and parents are left out that are refused, hidden or older than the cutoff.
 pub fn each_once<F: Find, P: Predicate>()
     ensures { GivesEachOnce F.objects F.faulty P.answers }
+{}
+
+/// Any fresh walk that is drawn as far as one likes, to its tenth answer or to its end, has given the beginning of a list in the order
+/// in force. The premises are those of `in_order`, except that the walk is drawn to its end.
+pub fn begins_in_order<F: Find, P: Predicate>()
+    ensures { RunsBeginInOrder F.objects F.faulty P.answers }
+{}
+
+/// A walk that gives the beginning of a list in order, as `begins_in_order` says, gives no id twice, and only ids that its tips reach
+/// through the parents that it walks, where tips and parents are left out that are refused, hidden or older than the cutoff.
+pub fn begins_once<F: Find, P: Predicate>()
+    ensures { BeginsOnce F.objects F.faulty P.answers }
 {}
 
 /// A walk that was built by any calls, none with a cutoff, goes through all parents, has a predicate that accepts every id, and is
@@ -122,6 +134,27 @@ pub fn ends<F: Find, P: Predicate>()
 /// Over any store, and for any ids, there is a test of which ids these reach by their parents.
 pub fn reach_is_decided()
     ensures { ReachIsDecided }
+{}
+
+/// Whatever the starts are, and whatever each id names next, there is at most one list in breadth order.
+pub fn one_breadth_order()
+    ensures { OneBreadthOrder }
+{}
+
+/// The beginning of a list in breadth order, up to any place, is the first ids of the whole list.
+pub fn one_breadth_beginning()
+    ensures { OneBreadthBeginning }
+{}
+
+/// Newest first or oldest first there is at most one list, where different ids that the starts reach have different times.
+pub fn one_time_order()
+    ensures { OneTimeOrder }
+{}
+
+/// The beginning of a list newest first or oldest first, up to any place, is the first ids of the whole list, where different ids that
+/// the starts reach have different times.
+pub fn one_time_beginning()
+    ensures { OneTimeBeginning }
 {}
 
 /// Commits are compared by their ids, then by their parents, then by their generations, and then by their times.

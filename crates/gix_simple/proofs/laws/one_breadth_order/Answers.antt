@@ -1,0 +1,5 @@
+use Rattle.gix_revwalk.proofs.OneOrder.{one_breadth}
+use Rattle.gix_simple.proofs.laws.one_breadth_order.Goals as goal
+
+pub returns : goal.returns
+returns c = one_breadth
