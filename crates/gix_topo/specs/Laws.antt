@@ -12,8 +12,8 @@ use Rattle.gix_topo.specs.declared.Sorting.TheVariants as order
 use Rattle.gix_topo.specs.declared.Error.{Error}
 use Rattle.gix_topo.specs.declared.Error.TheVariants as error
 use Rattle.gix_hash.specs.Reach.{Reaches, IsAcyclic}
-use Rattle.gix_topo.specs.DateOrder.{IsDateOrder}
-use Rattle.gix_topo.specs.TopoOrder.{IsTopoOrder}
+use Rattle.gix_topo.specs.DateOrder.{IsDateOrder, IsDateBeginning}
+use Rattle.gix_topo.specs.TopoOrder.{IsTopoOrder, IsTopoBeginning}
 use Rattle.gix_revwalk.specs.Commits.{parents_of, time_of}
 use Rattle.gix_revwalk.specs.Infos.{IsInfo, IsRowGeneration}
 use Rattle.gix_revwalk.specs.Asking.{AnswersBy}
@@ -25,9 +25,19 @@ abbrev pub IsSorted : Sorting → (ObjectId → ℤ) → (ObjectId → List Obje
 IsSorted order.DateOrder time walked In tips ids = IsDateOrder time walked In ids
 IsSorted order.TopoOrder time walked In tips ids = IsTopoOrder time walked In tips ids
 
+-- a beginning in that order
+abbrev pub IsSortedBeginning :
+    Sorting → (ObjectId → ℤ) → (ObjectId → List ObjectId) → (ObjectId → Type 0) → List ObjectId → List ObjectId → Type 0
+IsSortedBeginning order.DateOrder time walked In tips ids = IsDateBeginning time walked In ids
+IsSortedBeginning order.TopoOrder time walked In tips ids = IsTopoBeginning time walked In tips ids
+
 -- these commits are taken, in order
 abbrev pub IsTakenInOrder : {F : Type 0} → (F → Objects) → TopoPlan F → List ObjectId → Type 0
 IsTakenInOrder objects plan ids = IsSorted plan.sorting (time_of (objects plan.store)) (walked_of objects plan) (IsMember objects plan) plan.tips ids
+
+-- these commits are the first that are taken, in order
+abbrev pub IsTakenFirst : {F : Type 0} → (F → Objects) → TopoPlan F → List ObjectId → Type 0
+IsTakenFirst objects plan ids = IsSortedBeginning plan.sorting (time_of (objects plan.store)) (walked_of objects plan) (IsMember objects plan) plan.tips ids
 
 -- the answer is this commit, with all its parents
 pub record IsCommitInfo {F : Type 0} (objects : F → Objects) (plan : TopoPlan F) (info : Info) (i : ObjectId) : Type 0 where
@@ -43,6 +53,13 @@ IsGiven objects plan (Err e) i = ⊥
 pub record GivesInOrder {F : Type 0} (objects : F → Objects) (plan : TopoPlan F) (accepts : ObjectId → Bool) (list : List (Result Info Error)) : Type 0 where
   pub ids : List ObjectId
   pub in_order : IsTakenInOrder objects plan ids
+  pub given : AllZip (IsGiven objects plan) list (filter accepts ids)
+
+-- the answers are the first commits in order, without the commits that the predicate refuses
+pub record BeginsInOrder {F : Type 0} (objects : F → Objects) (plan : TopoPlan F) (accepts : ObjectId → Bool)
+    (list : List (Result Info Error)) : Type 0 where
+  pub ids : List ObjectId
+  pub in_order : IsTakenFirst objects plan ids
   pub given : AllZip (IsGiven objects plan) list (filter accepts ids)
 
 -- neither memory nor the store failed

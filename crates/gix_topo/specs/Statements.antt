@@ -13,8 +13,8 @@ use Rattle.gix_hash.specs.Reach.{Reaches, IsAcyclic}
 use Rattle.gix_revwalk.specs.Agreeing.{IsAgreeing}
 use Rattle.gix_revwalk.specs.Commits.{ReadsWhole, parents_of}
 use Rattle.gix_revwalk.specs.Ids.{AreDistinct}
-use Rattle.gix_topo.specs.Walk.{TopoPlan, TopoWalk, walked_of, row_generation, IsMember, IsStarted, IsWalkable, IsLeft, IsFault, IsLate, IsCounting, IsKnown, Next}
-use Rattle.gix_topo.specs.Laws.{IsTakenInOrder, IsWholeRun, IsGiven, GivesInOrder, GivesDifference, IsNoRefusal, answers_left, given_ids}
+use Rattle.gix_topo.specs.Walk.{TopoPlan, TopoWalk, walked_of, row_generation, IsMember, IsStarted, IsSound, IsWalkable, IsLeft, IsFault, IsLate, IsCounting, IsKnown, Next}
+use Rattle.gix_topo.specs.Laws.{IsTakenInOrder, IsWholeRun, IsGiven, GivesInOrder, BeginsInOrder, GivesDifference, IsNoRefusal, answers_left, given_ids}
 use Rattle.gix_revwalk.specs.Asking.{AnswersBy, AsksAll}
 
 module _ {F : Type 0} (objects : F → Objects) where
@@ -43,6 +43,17 @@ module _ {F P : Type 0} (objects : F → Objects) (faulty : F → ObjectId → T
       (walk : TopoWalk F P) (accepts : ObjectId → Bool) (list : List (Result Info Error))
       → IsWholeRun objects faulty answers walk accepts list
       → GivesInOrder objects walk.plan accepts list
+
+  -- a built walk that is drawn as far as one likes
+  abbrev pub RunsBeginInOrder : Type 0
+  RunsBeginInOrder =
+      (walk new : TopoWalk F P) (accepts : ObjectId → Bool) (list : List (Result Info Error))
+      → AnswersBy answers walk.predicate accepts
+      → IsStarted objects faulty answers walk
+      → IsSound objects faulty walk.plan
+      → All IsNoRefusal list
+      → Yields (Next objects faulty answers) walk list new
+      → BeginsInOrder objects walk.plan accepts list
 
   -- a walk through all parents whose predicate accepts all, where all that is reached reads whole
   abbrev pub RunsGiveTheDifference : Type 0

@@ -5,7 +5,7 @@
 //! parents of what tips reach read whole. A law that names no premise holds for every store, all rows and every predicate, and over
 //! cycles.
 
-ghost use Rattle.gix_topo.specs.Statements.{RunsAreInOrder, TakesEachOnce, RunsGiveTheDifference, TakesChildrenFirst, RowsLeaveTheIds, Ends, AsksNeverTwice, GivesNeverTwice, FailsForItsReason, StaysEnded, ParentsAreKnown, TellsTheGenerations, CountsDownToTheDepth};
+ghost use Rattle.gix_topo.specs.Statements.{RunsAreInOrder, RunsBeginInOrder, TakesEachOnce, RunsGiveTheDifference, TakesChildrenFirst, RowsLeaveTheIds, Ends, AsksNeverTwice, GivesNeverTwice, FailsForItsReason, StaysEnded, ParentsAreKnown, TellsTheGenerations, CountsDownToTheDepth};
 
 use gix_object::find::Find;
 use gix_revwalk::Predicate;
@@ -15,6 +15,12 @@ use gix_revwalk::Predicate;
 /// predicate accepts.
 pub fn in_order<F: Find, P: Predicate>()
     ensures { RunsAreInOrder F.objects F.faulty P.answers }
+{}
+
+/// A walk as of `in_order`, except that it is drawn as far as one likes: the commits taken, up to the last one given, are a beginning in
+/// the order that was asked for, and it gives those that the predicate accepts.
+pub fn begins_in_order<F: Find, P: Predicate>()
+    ensures { RunsBeginInOrder F.objects F.faulty P.answers }
 {}
 
 /// Commits that are taken in the order that was asked for: none is taken twice, and none outside of the walk set; and the whole set

@@ -43,6 +43,12 @@ module _ (Q : List ObjectId → Option ObjectId → Type 0) where
   pub turn_on : (done ids : List ObjectId) (i : ObjectId) → TurnsFrom done (i ∷ ids) → TurnsFrom (done ++ i ∷ []) ids
   turn_on done ids i h k b = rw append_assoc (h (suc k) (omega arith))
 
+  -- an entry of the list, by the entries before it
+  pub turn_at : (ids : List ObjectId) → TurnsFrom [] ids → (k : ℕ) (i : ObjectId) → slice_get ids k ≡ Some i → Q (take k ids) (Some i)
+  turn_at ids h k i e =
+      let w : suc k ≤ length ids = Rattle.std.proofs.lemmas.Option.slice_get_within ids k i e in
+      subst (Q (take k ids)) e (h k (omega arith))
+
 through : (walked : ObjectId → List ObjectId) (d i v : ObjectId) → Contains (walked d) i → Reaches walked (walked i) v → Reaches walked (walked d) v
 through walked d i v n (start s) = step (start n) s
 through walked d i v n (step r m) = step (through walked d i _ n r) m
@@ -77,8 +83,7 @@ module _ (walked : ObjectId → List ObjectId) (In : ObjectId → Type 0) where
     -- a child comes before its parents
     pub children_first : (k : ℕ) (d p : ObjectId) → slice_get ids k ≡ Some p → Contains ids d → Contains (walked d) p → Contains (take k ids) d
     children_first k d p e c n =
-        let w : suc k ≤ length ids = Rattle.std.proofs.lemmas.Option.slice_get_within ids k p e in
-        let r : IsReady walked In (Contains (take k ids)) p = subst (IsReadyNext (take k ids)) e (turns k (omega arith)) in
+        let r : IsReady walked In (Contains (take k ids)) p = turn_at IsReadyNext ids turns k p e in
         r.children d (record { child = each_member d c; parent = r.member; named = n })
 
     none_left : (i : ObjectId) → IsReady walked In (Contains ids) i → ⊥
