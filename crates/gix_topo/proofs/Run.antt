@@ -1,5 +1,7 @@
 -- A list in which each commit is ready at its place: no id twice, children first, all of the set.
 pub mod ReadyInTurn
+-- Each order is one list.
+pub mod OneList
 -- A whole walk takes what the definitions say, in their order.
 pub mod Theorem
 -- Every walk ends, asks about each commit once, and gives nothing after a fault.

@@ -1,5 +1,5 @@
 -- The statements of the laws of topological walks, over any store and predicate.
-use Rattle.std.specs.Prelude.{◌≡◌, ◌≤◌, ℕ, List, [], ◌++◌, Bool, true, Option, Some, None, Result, Ok, Err, All, Contains, filter, length, slice_get, take}
+use Rattle.std.specs.Prelude.{◌≡◌, ◌≤◌, ℕ, ℤ, List, [], ◌++◌, Bool, true, Option, Some, None, Result, Ok, Err, All, Contains, filter, length, slice_get, take}
 use Rattle.std.specs.List.{AllZip}
 use Rattle.std.specs.Iterator.{Drains, Yields}
 use Rattle.gix_hash.specs.declared.ObjectId.{ObjectId}
@@ -13,9 +13,29 @@ use Rattle.gix_hash.specs.Reach.{Reaches, IsAcyclic}
 use Rattle.gix_revwalk.specs.Agreeing.{IsAgreeing}
 use Rattle.gix_revwalk.specs.Commits.{ReadsWhole, parents_of}
 use Rattle.gix_revwalk.specs.Ids.{AreDistinct}
+use Rattle.gix_topo.specs.WalkSet.{IsInWalk}
+use Rattle.gix_topo.specs.DateOrder.{IsDateOrder}
+use Rattle.gix_topo.specs.TopoOrder.{IsTopoOrder}
 use Rattle.gix_topo.specs.Walk.{TopoPlan, TopoWalk, walked_of, row_generation, IsMember, IsStarted, IsSound, IsWalkable, IsLeft, IsFault, IsLate, IsCounting, IsKnown, Next}
 use Rattle.gix_topo.specs.Laws.{IsTakenInOrder, IsWholeRun, IsGiven, GivesInOrder, BeginsInOrder, GivesDifference, IsNoRefusal, answers_left, given_ids}
 use Rattle.gix_revwalk.specs.Asking.{AnswersBy, AsksAll}
+
+-- the members of a walk in topological order are one list
+abbrev pub TopoOrderIsOne : Type 0
+TopoOrderIsOne =
+    (time : ObjectId → ℤ) (walked all : ObjectId → List ObjectId) (tips ends ids others : List ObjectId)
+    → IsTopoOrder time walked (IsInWalk walked all tips ends) tips ids
+    → IsTopoOrder time walked (IsInWalk walked all tips ends) tips others
+    → ids ≡ others
+
+-- the members of a walk in date order are one list, where no two of them have the same time
+abbrev pub DateOrderIsOne : Type 0
+DateOrderIsOne =
+    (time : ObjectId → ℤ) (walked all : ObjectId → List ObjectId) (tips ends ids others : List ObjectId)
+    → ((i j : ObjectId) → IsInWalk walked all tips ends i → IsInWalk walked all tips ends j → time i ≡ time j → i ≡ j)
+    → IsDateOrder time walked (IsInWalk walked all tips ends) ids
+    → IsDateOrder time walked (IsInWalk walked all tips ends) others
+    → ids ≡ others
 
 module _ {F : Type 0} (objects : F → Objects) where
   -- commits that were taken in order

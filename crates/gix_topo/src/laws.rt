@@ -5,7 +5,7 @@
 //! parents of what tips reach read whole. A law that names no premise holds for every store, all rows and every predicate, and over
 //! cycles.
 
-ghost use Rattle.gix_topo.specs.Statements.{RunsAreInOrder, RunsBeginInOrder, TakesEachOnce, RunsGiveTheDifference, TakesChildrenFirst, RowsLeaveTheIds, Ends, AsksNeverTwice, GivesNeverTwice, FailsForItsReason, StaysEnded, ParentsAreKnown, TellsTheGenerations, CountsDownToTheDepth};
+ghost use Rattle.gix_topo.specs.Statements.{RunsAreInOrder, RunsBeginInOrder, TopoOrderIsOne, DateOrderIsOne, TakesEachOnce, RunsGiveTheDifference, TakesChildrenFirst, RowsLeaveTheIds, Ends, AsksNeverTwice, GivesNeverTwice, FailsForItsReason, StaysEnded, ParentsAreKnown, TellsTheGenerations, CountsDownToTheDepth};
 
 use gix_object::find::Find;
 use gix_revwalk::Predicate;
@@ -21,6 +21,16 @@ pub fn in_order<F: Find, P: Predicate>()
 /// the order that was asked for, and it gives those that the predicate accepts.
 pub fn begins_in_order<F: Find, P: Predicate>()
     ensures { RunsBeginInOrder F.objects F.faulty P.answers }
+{}
+
+/// Over any parents, tips and ends, two lists in topological order are equal.
+pub fn one_topo_order()
+    ensures { TopoOrderIsOne }
+{}
+
+/// Over any parents, tips and ends, two lists in date order are equal, where no two commits of the walk have the same time.
+pub fn one_date_order()
+    ensures { DateOrderIsOne }
 {}
 
 /// Commits that are taken in the order that was asked for: none is taken twice, and none outside of the walk set; and the whole set

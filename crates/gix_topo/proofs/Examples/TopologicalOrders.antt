@@ -18,7 +18,8 @@ use Rattle.gix_hash.proofs.Ids.Membership.{same_is, among_from, among_is, Contai
 use Rattle.gix_revwalk.proofs.Orders.{reached_by_named}
 use Rattle.gix_topo.proofs.Readiness.IsReady.{keeps_alike, ready_alike}
 use Rattle.gix_topo.proofs.Examples.Decided.{all_of, all_is, given, is_ready as is_ready_of, ready_is as ready_of, is_ready_by as of_ready, keeps as keeps_of}
-use Rattle.gix_topo.proofs.Run.ReadyInTurn.{TurnsFrom, turn_none, turn_more, IsLastMade, same_topo}
+use Rattle.gix_topo.proofs.Run.ReadyInTurn.{TurnsFrom, turn_none, turn_more, IsLastMade}
+use Rattle.gix_topo.proofs.Run.OneList.{same_topo}
 
 -- the list is what the starts reach: it is closed, and each id of it is named by those before
 module _ (next : ObjectId → List ObjectId) (starts : List ObjectId) where

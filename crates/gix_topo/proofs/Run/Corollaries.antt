@@ -23,7 +23,8 @@ use Rattle.gix_topo.specs.Walk.{TopoPlan, TopoWalk, walked_of, IsMember}
 use Rattle.gix_topo.specs.Laws.{IsSorted, IsTakenInOrder, IsGiven, GivesInOrder, IsWholeRun}
 use Rattle.gix_hash.proofs.Ids.Membership.{among-append, among_from, Contains-cons_cases, no_member}
 use Rattle.gix_topo.proofs.Readiness.IsReady.{in_walk_top}
-use Rattle.gix_topo.proofs.Run.ReadyInTurn.{TurnsFrom, IsReadyNext, date_turns, topo_turns, same_topo, each_once, each_member, children_first, all_given}
+use Rattle.gix_topo.proofs.Run.ReadyInTurn.{TurnsFrom, IsReadyNext, date_turns, topo_turns, each_once, each_member, children_first, all_given}
+use Rattle.gix_topo.proofs.Run.OneList.{same_topo}
 use Rattle.gix_topo.proofs.Run.Theorem.{gives}
 use Rattle.gix_revwalk.proofs.ReadsWhole.{walked_within}
 use Rattle.gix_revwalk.proofs.Rows.{found_entry}

@@ -137,28 +137,6 @@ module _ (time : ObjectId → ℤ) (walked : ObjectId → List ObjectId) (In : O
       let f : h.1 ≡ k.1 = keeps_one (IsReady walked In (Contains (c ∷ taken))) h.3 k.1 k.3 in
       h.4 ∙ (λ j. e j ++ f j) ∙ sym k.4
 
-  -- so there is one list in this order
-  one_topo : (done xs ys : List ObjectId) → TurnsFrom IsLastMade done xs → TurnsFrom IsLastMade done ys → xs ≡ ys
-  one_topo done [] [] h k = refl
-  one_topo done [] (y ∷ ys) h k = absurd (let e : None ≡ Some y = same_turn None (Some y) (turn_ended IsLastMade done h) (turn_now IsLastMade done ys y k) in cc)
-    where
-      same_turn : (o p : Option ObjectId) → IsLastMade done o → IsLastMade done p → o ≡ p
-      same_turn o p a b = a.2 ∙ ap (λ r. first_new (reverse r) done) (made_one (reverse done) a.0 b.0 a.1 b.1) ∙ sym b.2
-  one_topo done (x ∷ xs) [] h k = absurd (let e : None ≡ Some x = same_turn None (Some x) (turn_ended IsLastMade done k) (turn_now IsLastMade done xs x h) in cc)
-    where
-      same_turn : (o p : Option ObjectId) → IsLastMade done o → IsLastMade done p → o ≡ p
-      same_turn o p a b = a.2 ∙ ap (λ r. first_new (reverse r) done) (made_one (reverse done) a.0 b.0 a.1 b.1) ∙ sym b.2
-  one_topo done (x ∷ xs) (y ∷ ys) h k =
-      let a : IsLastMade done (Some x) = turn_now IsLastMade done xs x h in
-      let b : IsLastMade done (Some y) = turn_now IsLastMade done ys y k in
-      let s : Some x ≡ Some y = a.2 ∙ ap (λ r. first_new (reverse r) done) (made_one (reverse done) a.0 b.0 a.1 b.1) ∙ sym b.2 in
-      let e : x ≡ y = cc in
-      let r : xs ≡ ys = one_topo (done ++ x ∷ []) xs ys (turn_on IsLastMade done xs x h) (subst (λ z. TurnsFrom IsLastMade (done ++ z ∷ []) ys) (sym e) (turn_on IsLastMade done ys y k)) in
-      cc
-
-  pub same_topo : (xs ys : List ObjectId) → IsTopoOrder time walked In tips xs → IsTopoOrder time walked In tips ys → xs ≡ ys
-  same_topo xs ys h k = one_topo [] xs ys h k
-
   -- each was the last of those made ready, when it was taken
   abbrev WereTaken : List ObjectId → Type 0
   WereTaken [] = Unit {0}

@@ -1,0 +1,48 @@
+-- Each order is one list: topological order over any commits, date order over commits of different times.
+use Rattle.std.specs.Prelude.{◌≡◌, ◌≤ℤ◌, ℤ, List, [], ◌∷◌, ◌++◌, reverse, Option, Some, None, Contains, MatchOption}
+use Rattle.std.proofs.Common.{refl, sym, ap, subst, ◌∙◌, arith}
+use Rattle.std.proofs.lemmas.Int.{ints}
+use Rattle.gix_hash.specs.declared.ObjectId.{ObjectId}
+use Rattle.gix_revwalk.specs.declared.CommitTimeOrder.TheVariants.{NewestFirst}
+use Rattle.gix_revwalk.specs.BreadthOrder.{first_new}
+use Rattle.gix_revwalk.specs.TimeOrder.{IsBest}
+use Rattle.gix_topo.specs.WalkSet.{IsReady}
+use Rattle.gix_topo.specs.DateOrder.{IsDateOrder}
+use Rattle.gix_topo.specs.TopoOrder.{IsTopoOrder}
+use Rattle.gix_topo.proofs.Run.ReadyInTurn.{TurnsFrom, turn_ended, turn_now, turn_on, IsLastMade, made_one}
+
+-- the next one is decided by those before, so the list is
+module _ (Q : List ObjectId → Option ObjectId → Type 0) (decided : (done : List ObjectId) (o p : Option ObjectId) → Q done o → Q done p → o ≡ p) where
+  one_list : (done xs ys : List ObjectId) → TurnsFrom Q done xs → TurnsFrom Q done ys → xs ≡ ys
+  one_list done [] [] h k = refl
+  one_list done [] (y ∷ ys) h k = let e : None ≡ Some y = decided done None (Some y) (turn_ended Q done h) (turn_now Q done ys y k) in cc
+  one_list done (x ∷ xs) [] h k = let e : None ≡ Some x = decided done None (Some x) (turn_ended Q done k) (turn_now Q done xs x h) in cc
+  one_list done (x ∷ xs) (y ∷ ys) h k =
+      let s : Some x ≡ Some y = decided done (Some x) (Some y) (turn_now Q done xs x h) (turn_now Q done ys y k) in
+      let e : x ≡ y = cc in
+      let r : xs ≡ ys = one_list (done ++ x ∷ []) xs ys (turn_on Q done xs x h) (subst (λ z. TurnsFrom Q (done ++ z ∷ []) ys) (sym e) (turn_on Q done ys y k)) in
+      cc
+
+module _ (time : ObjectId → ℤ) (walked : ObjectId → List ObjectId) (In : ObjectId → Type 0) where
+  last_decided : (tips done : List ObjectId) (o p : Option ObjectId) → IsLastMade time walked In tips done o → IsLastMade time walked In tips done p → o ≡ p
+  last_decided tips done o p a b = a.2 ∙ ap (λ r. first_new (reverse r) done) (made_one time walked In tips (reverse done) a.0 b.0 a.1 b.1) ∙ sym b.2
+
+  pub same_topo : (tips xs ys : List ObjectId) → IsTopoOrder time walked In tips xs → IsTopoOrder time walked In tips ys → xs ≡ ys
+  same_topo tips xs ys h k = one_list (IsLastMade time walked In tips) (last_decided tips) [] xs ys h k
+
+  abbrev IsBestNext : List ObjectId → Option ObjectId → Type 0
+  IsBestNext done o = MatchOption o ((i : ObjectId) → IsReady walked In (Contains done) i → ⊥) (IsBest NewestFirst time (IsReady walked In (Contains done)))
+
+  module _ (apart : (i j : ObjectId) → In i → In j → time i ≡ time j → i ≡ j) where
+    best_decided : (done : List ObjectId) (o p : Option ObjectId) → IsBestNext done o → IsBestNext done p → o ≡ p
+    best_decided done None None a b = refl
+    best_decided done None (Some y) a b = absurd (a y b.among)
+    best_decided done (Some x) None a b = absurd (b x a.among)
+    best_decided done (Some x) (Some y) a b =
+        let l : time y ≤ℤ time x = a.best y b.among in
+        let g : time x ≤ℤ time y = b.best x a.among in
+        let t : time x ≡ time y = omega (arith, ints) in
+        ap Some (apart x y a.among.member b.among.member t)
+
+    pub same_date : (xs ys : List ObjectId) → IsDateOrder time walked In xs → IsDateOrder time walked In ys → xs ≡ ys
+    same_date xs ys h k = one_list IsBestNext best_decided [] xs ys h k
