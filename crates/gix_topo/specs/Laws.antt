@@ -11,7 +11,8 @@ use Rattle.gix_topo.specs.declared.Sorting.{Sorting}
 use Rattle.gix_topo.specs.declared.Sorting.TheVariants as order
 use Rattle.gix_topo.specs.declared.Error.{Error}
 use Rattle.gix_topo.specs.declared.Error.TheVariants as error
-use Rattle.gix_hash.specs.Reach.{Reaches, IsAcyclic}
+use Rattle.gix_hash.specs.Reach.{Reaches}
+use Rattle.gix_topo.specs.WalkSet.{IsInWalk, IsAcyclicIn}
 use Rattle.gix_topo.specs.DateOrder.{IsDateOrder, IsDateBeginning}
 use Rattle.gix_topo.specs.TopoOrder.{IsTopoOrder, IsTopoBeginning}
 use Rattle.gix_revwalk.specs.Commits.{parents_of, time_of}
@@ -94,10 +95,15 @@ given_ids [] = []
 given_ids (Ok info ∷ list) = info.id ∷ given_ids list
 given_ids (Err e ∷ list) = given_ids list
 
--- the answers are commits and no faults, each once, and only commits that the tips reach and the ends don't; and all of these, where no
--- commit is its own ancestor
+-- the answers are commits and no faults, each once, and only commits that the tips reach and the ends don't; and all of these, where none
+-- of them is its own ancestor
 pub record GivesDifference (objects : Objects) (tips ends : List ObjectId) (answers : List (Result Info Error)) : Type 0 where
   pub commits : (e : Error) → Contains answers (Err e) → ⊥
   pub once : AreDistinct (given_ids answers)
   pub shown : (i : ObjectId) → Contains (given_ids answers) i → Reaches (parents_of objects) tips i × (Reaches (parents_of objects) ends i → ⊥)
-  pub all : IsAcyclic (parents_of objects) → (i : ObjectId) → Reaches (parents_of objects) tips i → (Reaches (parents_of objects) ends i → ⊥) → Contains (given_ids answers) i
+  pub all :
+      IsAcyclicIn (parents_of objects) (IsInWalk (parents_of objects) (parents_of objects) tips ends)
+      → (i : ObjectId)
+      → Reaches (parents_of objects) tips i
+      → (Reaches (parents_of objects) ends i → ⊥)
+      → Contains (given_ids answers) i

@@ -9,11 +9,11 @@ use Rattle.gix_revwalk.specs.declared.Info.{Info}
 use Rattle.gix_revwalk.specs.declared.Parents.TheVariants as mode
 use Rattle.gix_topo.specs.declared.Sorting.TheVariants.{TopoOrder}
 use Rattle.gix_topo.specs.declared.Error.{Error}
-use Rattle.gix_hash.specs.Reach.{Reaches, IsAcyclic}
+use Rattle.gix_hash.specs.Reach.{Reaches}
 use Rattle.gix_revwalk.specs.Agreeing.{IsAgreeing}
 use Rattle.gix_revwalk.specs.Commits.{ReadsWhole, parents_of}
 use Rattle.gix_revwalk.specs.Ids.{AreDistinct}
-use Rattle.gix_topo.specs.WalkSet.{IsInWalk}
+use Rattle.gix_topo.specs.WalkSet.{IsInWalk, IsAcyclicIn}
 use Rattle.gix_topo.specs.DateOrder.{IsDateOrder}
 use Rattle.gix_topo.specs.TopoOrder.{IsTopoOrder}
 use Rattle.gix_topo.specs.Walk.{TopoPlan, TopoWalk, walked_of, row_generation, IsMember, IsStarted, IsSound, IsWalkable, IsLeft, IsFault, IsLate, IsCounting, IsKnown, Next}
@@ -43,7 +43,9 @@ module _ {F : Type 0} (objects : F → Objects) where
   TakesEachOnce =
       (plan : TopoPlan F) (ids : List ObjectId)
       → IsTakenInOrder objects plan ids
-      → AreDistinct ids × ((i : ObjectId) → Contains ids i → IsMember objects plan i) × (IsAcyclic (walked_of objects plan) → (i : ObjectId) → IsMember objects plan i → Contains ids i)
+      → AreDistinct ids
+      × ((i : ObjectId) → Contains ids i → IsMember objects plan i)
+      × (IsAcyclicIn (walked_of objects plan) (IsMember objects plan) → (i : ObjectId) → IsMember objects plan i → Contains ids i)
 
   -- every child comes before its parents
   abbrev pub TakesChildrenFirst : Type 0

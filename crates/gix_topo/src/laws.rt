@@ -34,13 +34,13 @@ pub fn one_date_order()
 {}
 
 /// Commits that are taken in the order that was asked for: none is taken twice, and none outside of the walk set; and the whole set
-/// is taken, where no commit is its own ancestor by the walked parents.
+/// is taken, where no commit of it is its own ancestor by the walked parents.
 pub fn each_once<F: Find>()
     ensures { TakesEachOnce F.objects }
 {}
 
 /// A walk that was built, goes through all parents, has a predicate that accepts every id, and is drawn to its end: it gives no fault,
-/// no commit twice, and only commits that its tips reach and its ends don't; and all of these, where no commit is its own ancestor.
+/// no commit twice, and only commits that its tips reach and its ends don't; and all of these, where none of them is its own ancestor.
 /// Memory and the store don't fail, the rows agree with the store, and all that tips and ends reach reads whole.
 pub fn difference<F: Find, P: Predicate>()
     ensures { RunsGiveTheDifference F.objects F.faulty P.answers }

@@ -15,8 +15,9 @@ use Rattle.gix_revwalk.specs.declared.Info.{Info}
 use Rattle.gix_topo.specs.declared.Sorting.{Sorting}
 use Rattle.gix_topo.specs.declared.Sorting.TheVariants as order
 use Rattle.gix_topo.specs.declared.Error.{Error}
-use Rattle.gix_hash.specs.Reach.{Reaches, start, step, IsAcyclic}
+use Rattle.gix_hash.specs.Reach.{Reaches, start, step}
 use Rattle.gix_revwalk.specs.Commits.{parents_in, parents_of, time_of, commit_of_object, walked_parents}
+use Rattle.gix_topo.specs.WalkSet.{IsAcyclicIn}
 use Rattle.gix_topo.specs.TopoOrder.{IsTopoOrder}
 use Rattle.gix_revwalk.specs.Ids.{AreDistinct}
 use Rattle.gix_topo.specs.Walk.{TopoPlan, TopoWalk, walked_of, IsMember}
@@ -54,7 +55,7 @@ module _ {F : Type 0} (objects : F → Objects) (plan : TopoPlan F) (ids : List 
   turns order.TopoOrder h = topo_turns (time_of (objects plan.store)) (walked_of objects plan) (IsMember objects plan) plan.tips
       (in_walk_top (walked_of objects plan) (parents_of (objects plan.store)) plan.tips plan.ends (λ c i n. walked_within plan.parents _ i n)) ids h
 
-  pub once : IsTakenInOrder objects plan ids → AreDistinct ids × ((i : ObjectId) → Contains ids i → IsMember objects plan i) × (IsAcyclic (walked_of objects plan) → (i : ObjectId) → IsMember objects plan i → Contains ids i)
+  pub once : IsTakenInOrder objects plan ids → AreDistinct ids × ((i : ObjectId) → Contains ids i → IsMember objects plan i) × (IsAcyclicIn (walked_of objects plan) (IsMember objects plan) → (i : ObjectId) → IsMember objects plan i → Contains ids i)
   once h =
       let t : TurnsFrom (IsReadyNext (walked_of objects plan) (IsMember objects plan)) [] ids = turns plan.sorting h in (
         each_once (walked_of objects plan) (IsMember objects plan) ids t,

@@ -1,4 +1,4 @@
--- What a list has in which each commit is ready when it comes: no id twice, children first, and all of the set where none is its own ancestor.
+-- What a list has in which each commit is ready when it comes: no id twice, children first, and all of the set where no member is its own ancestor.
 use Rattle.std.specs.Prelude.{◌≡◌, ◌⊎◌, ◌+◌, ◌≤◌, ℕ, zero, suc, ℤ, List, [], ◌∷◌, ◌++◌, Bool, true, false, not, ◌||◌, cond, filter, reverse, length, take, slice_get, Option, Some, None, Contains, MatchOption}
 use Rattle.std.proofs.Common.{refl, sym, ap, subst, inl, inr, ⊎_elim, ◌∙◌, arith, append_assoc, append-nil, take_all, le_refl}
 use Rattle.std.proofs.lemmas.Bool.{true≢false, false_from_ne_true, true_from_ne_false, and_parts, and_from, not-true}
@@ -10,8 +10,8 @@ use Rattle.gix_hash.specs.Id.{is_same, is_among}
 use Rattle.gix_revwalk.specs.declared.CommitTimeOrder.TheVariants.{NewestFirst}
 use Rattle.gix_revwalk.specs.BreadthOrder.{first_new}
 use Rattle.gix_revwalk.specs.TimeOrder.{IsBest}
-use Rattle.gix_hash.specs.Reach.{Reaches, start, step, IsAcyclic}
-use Rattle.gix_topo.specs.WalkSet.{IsChild, IsChildless, IsReady}
+use Rattle.gix_hash.specs.Reach.{Reaches, start, step}
+use Rattle.gix_topo.specs.WalkSet.{IsAcyclicIn, IsChild, IsChildless, IsReady}
 use Rattle.gix_topo.specs.DateOrder.{IsDateOrder}
 use Rattle.gix_topo.specs.TopoOrder.{by_time, IsMadeReady, IsTopoOrder}
 use Rattle.gix_revwalk.specs.Ids.{AreDistinct}
@@ -90,12 +90,12 @@ module _ (walked : ObjectId → List ObjectId) (In : ObjectId → Type 0) where
     none_left = rw (past_end ids, take_all (length ids) ids (le_refl _)) at (turns (length ids) (le_refl _))
 
     -- a member that is missing has a child that is missing, which isn't among those seen on the way
-    missing : (finite : List ObjectId) → ((i : ObjectId) → In i → is_among i finite ≡ true) → IsAcyclic walked → (n : ℕ) (seen : List ObjectId) (i : ObjectId) → length (fresh (λ j. is_among j seen) finite) ≤ n → ((v : ObjectId) → Contains seen v → Reaches walked (walked i) v) → In i → is_among i ids ≡ false → ⊥
+    missing : (finite : List ObjectId) → ((i : ObjectId) → In i → is_among i finite ≡ true) → IsAcyclicIn walked In → (n : ℕ) (seen : List ObjectId) (i : ObjectId) → length (fresh (λ j. is_among j seen) finite) ≤ n → ((v : ObjectId) → Contains seen v → Reaches walked (walked i) v) → In i → is_among i ids ≡ false → ⊥
     missing finite within acyclic zero seen i b above m f =
-        let e : suc (length (fresh (λ j. is_same j i || is_among j seen) finite)) ≡ length (fresh (λ j. is_among j seen) finite) = new_less (λ j. is_among j seen) finite i (within i m) (false_from_ne_true _ (λ t. acyclic i (above i (among_is i seen t)))) in
+        let e : suc (length (fresh (λ j. is_same j i || is_among j seen) finite)) ≡ length (fresh (λ j. is_among j seen) finite) = new_less (λ j. is_among j seen) finite i (within i m) (false_from_ne_true _ (λ t. acyclic i m (above i (among_is i seen t)))) in
         omega arith
     missing finite within acyclic (suc n) seen i b above m f =
-        let e : suc (length (fresh (λ j. is_same j i || is_among j seen) finite)) ≡ length (fresh (λ j. is_among j seen) finite) = new_less (λ j. is_among j seen) finite i (within i m) (false_from_ne_true _ (λ t. acyclic i (above i (among_is i seen t)))) in
+        let e : suc (length (fresh (λ j. is_same j i || is_among j seen) finite)) ≡ length (fresh (λ j. is_among j seen) finite) = new_less (λ j. is_among j seen) finite i (within i m) (false_from_ne_true _ (λ t. acyclic i m (above i (among_is i seen t)))) in
         none_left i (record {
           member = m;
           left = λ c. true≢false (sym (among_from i ids c) ∙ f);
@@ -105,7 +105,7 @@ module _ (walked : ObjectId → List ObjectId) (In : ObjectId → Type 0) where
               c.child g));
         })
 
-    pub all_given : (finite : List ObjectId) → ((i : ObjectId) → In i → is_among i finite ≡ true) → IsAcyclic walked → (i : ObjectId) → In i → Contains ids i
+    pub all_given : (finite : List ObjectId) → ((i : ObjectId) → In i → is_among i finite ≡ true) → IsAcyclicIn walked In → (i : ObjectId) → In i → Contains ids i
     all_given finite within acyclic i m = among_is i ids (true_from_ne_false _ (λ f. missing finite within acyclic (length (fresh (λ j. is_among j []) finite)) [] i (le_refl _) (λ v h. absurd (no_member v h)) m f))
 
 best_is_ready : (time : ObjectId → ℤ) (P : ObjectId → Type 0) (o : Option ObjectId) → MatchOption o ((i : ObjectId) → P i → ⊥) (IsBest NewestFirst time P) → MatchOption o ((i : ObjectId) → P i → ⊥) P
