@@ -1,5 +1,5 @@
 -- The statements of the laws of topological walks, over any store and predicate.
-use Rattle.std.specs.Prelude.{◌≡◌, ◌≤◌, ℕ, ℤ, List, [], ◌++◌, Bool, true, Option, Some, None, Result, Ok, Err, All, Contains, filter, length, slice_get, take}
+use Rattle.std.specs.Prelude.{◌≡◌, ◌↔◌, ◌≤◌, ℕ, ℤ, List, [], ◌++◌, Bool, true, Option, Some, None, Result, Ok, Err, All, Contains, filter, length, slice_get, take}
 use Rattle.std.specs.List.{AllZip}
 use Rattle.std.specs.Iterator.{Drains, Yields}
 use Rattle.gix_hash.specs.declared.ObjectId.{ObjectId}
@@ -7,6 +7,7 @@ use Rattle.gix_object.specs.Object.{Objects}
 use Rattle.gix_commitgraph.specs.Rows.{GraphRow, row_of}
 use Rattle.gix_revwalk.specs.declared.Info.{Info}
 use Rattle.gix_revwalk.specs.declared.Parents.TheVariants as mode
+use Rattle.gix_topo.specs.declared.Sorting.{Sorting}
 use Rattle.gix_topo.specs.declared.Sorting.TheVariants.{TopoOrder}
 use Rattle.gix_topo.specs.declared.Error.{Error}
 use Rattle.gix_hash.specs.Reach.{Reaches}
@@ -100,6 +101,17 @@ module _ {F P : Type 0} (objects : F → Objects) (faulty : F → ObjectId → T
       → IsWholeRun objects faulty answers walk accepts list
       → IsWholeRun objects faulty answers other accepts longer
       → (ids : List ObjectId) × AllZip (IsGiven objects walk.plan) list (filter accepts ids) × AllZip (IsGiven objects other.plan) longer (filter accepts ids)
+
+  -- two walks, each by rows of its own that agree, and in an order of its own
+  abbrev pub RowsLeaveTheSet : Type 0
+  RowsLeaveTheSet =
+      (walk other : TopoWalk F P) (rows : List GraphRow) (sorting : Sorting) (accepts : ObjectId → Bool) (list longer : List (Result Info Error))
+      → other.plan ≡ record walk.plan { rows = rows; sorting = sorting }
+      → IsWholeRun objects faulty answers walk accepts list
+      → IsWholeRun objects faulty answers other accepts longer
+      → (one : GivesInOrder objects walk.plan accepts list)
+      × (two : GivesInOrder objects other.plan accepts longer)
+      × ((i : ObjectId) → Contains one.ids i ↔ Contains two.ids i)
 
   -- an answer for each ready commit and each named id, at most
   abbrev pub Ends : Type 0

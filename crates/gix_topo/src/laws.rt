@@ -5,7 +5,7 @@
 //! parents of what tips reach read whole. A law that names no premise holds for every store, all rows and every predicate, and over
 //! cycles.
 
-ghost use Rattle.gix_topo.specs.Statements.{RunsAreInOrder, RunsBeginInOrder, TopoOrderIsOne, DateOrderIsOne, TakesEachOnce, RunsGiveTheDifference, TakesChildrenFirst, RowsLeaveTheIds, Ends, AsksNeverTwice, GivesNeverTwice, FailsForItsReason, StaysEnded, ParentsAreKnown, TellsTheGenerations, CountsDownToTheDepth};
+ghost use Rattle.gix_topo.specs.Statements.{RunsAreInOrder, RunsBeginInOrder, TopoOrderIsOne, DateOrderIsOne, TakesEachOnce, RunsGiveTheDifference, TakesChildrenFirst, RowsLeaveTheIds, RowsLeaveTheSet, Ends, AsksNeverTwice, GivesNeverTwice, FailsForItsReason, StaysEnded, ParentsAreKnown, TellsTheGenerations, CountsDownToTheDepth};
 
 use gix_object::find::Find;
 use gix_revwalk::Predicate;
@@ -55,6 +55,12 @@ pub fn children_first<F: Find>()
 /// the premises of `in_order` hold for both, and both predicates answer alike.
 pub fn rows_agree<F: Find, P: Predicate>()
     ensures { RowsLeaveTheIds F.objects F.faulty P.answers }
+{}
+
+/// Two walks that were built alike, except that each has rows of its own or none, and an order of its own: they take the same commits,
+/// where the premises of `in_order` hold for both, and both predicates answer alike. The history may have cycles.
+pub fn rows_agree_on_ids<F: Find, P: Predicate>()
+    ensures { RowsLeaveTheSet F.objects F.faulty P.answers }
 {}
 
 /// Every topological walk ends: it gives at most an answer for each ready commit, and for each id not taken or ready that rows

@@ -1,10 +1,10 @@
 -- What a list has in which each commit is ready when it comes: no id twice, children first, and all of the set where no member is its own ancestor.
-use Rattle.std.specs.Prelude.{◌≡◌, ◌⊎◌, ◌+◌, ◌≤◌, ℕ, zero, suc, ℤ, List, [], ◌∷◌, ◌++◌, Bool, true, false, not, ◌||◌, cond, filter, reverse, length, take, slice_get, Option, Some, None, Contains, MatchOption}
+use Rattle.std.specs.Prelude.{◌≡◌, ◌↔◌, ◌⊎◌, ◌+◌, ◌≤◌, ℕ, zero, suc, ℤ, List, [], ◌∷◌, ◌++◌, Bool, true, false, not, ◌||◌, cond, filter, reverse, length, take, slice_get, Option, Some, None, Contains, MatchOption}
 use Rattle.std.proofs.Common.{refl, sym, ap, subst, inl, inr, ⊎_elim, ◌∙◌, arith, append_assoc, append-nil, take_all, le_refl}
 use Rattle.std.proofs.lemmas.Bool.{true≢false, false_from_ne_true, true_from_ne_false, and_parts, and_from, not-true}
 use Rattle.std.proofs.lemmas.List.{reverse-append}
 use Rattle.std.proofs.lemmas.List.Sorted.{list_any-IsPermutation, IsPermutation-reverse}
-use Rattle.std.proofs.lemmas.List.Elements.{Contains-append_left, Contains-push}
+use Rattle.std.proofs.lemmas.List.Elements.{Contains-append_left, Contains-push, Contains-push_cases}
 use Rattle.gix_hash.specs.declared.ObjectId.{ObjectId}
 use Rattle.gix_hash.specs.Id.{is_same, is_among}
 use Rattle.gix_revwalk.specs.declared.CommitTimeOrder.TheVariants.{NewestFirst}
@@ -73,6 +73,16 @@ module _ (walked : ObjectId → List ObjectId) (In : ObjectId → Type 0) where
       let now : IsReady walked In (Contains done) x = turn_now IsReadyNext done ids x h in
       ⊎_elim (λ e. subst In e now.member) (λ t. members_from ids (done ++ x ∷ []) (turn_on IsReadyNext done ids x h) i t) (Contains-cons_cases i x ids c)
 
+  -- What became ready stays so until it is taken: each commit of a list is in any list that ends where nothing is ready.
+  also_taken : (others : List ObjectId) → ((i : ObjectId) → IsReady walked In (Contains others) i → ⊥) → (ids done : List ObjectId) → ((i : ObjectId) → Contains done i → Contains others i) → TurnsFrom IsReadyNext done ids → (i : ObjectId) → Contains ids i → Contains others i
+  also_taken others none [] done before h i c = absurd (no_member i c)
+  also_taken others none (x ∷ ids) done before h i c =
+      let now : IsReady walked In (Contains done) x = turn_now IsReadyNext done ids x h in
+      let here : Contains others x = among_is x others (true_from_ne_false _ (λ f. none x (record { member = now.member; left = λ t. true≢false (sym (among_from x others t) ∙ f); children = λ d k. before d (now.children d k) }))) in
+      ⊎_elim (λ e. subst (Contains others) e here)
+      (λ t. also_taken others none ids (done ++ x ∷ []) (λ j m. ⊎_elim (λ d. before j d) (λ e. subst (Contains others) e here) (Contains-push_cases done x j m)) (turn_on IsReadyNext done ids x h) i t)
+      (Contains-cons_cases i x ids c)
+
   module _ (ids : List ObjectId) (turns : TurnsFrom IsReadyNext [] ids) where
     pub each_once : AreDistinct ids
     each_once = (once_from ids [] turns).0
@@ -86,7 +96,7 @@ module _ (walked : ObjectId → List ObjectId) (In : ObjectId → Type 0) where
         let r : IsReady walked In (Contains (take k ids)) p = turn_at IsReadyNext ids turns k p e in
         r.children d (record { child = each_member d c; parent = r.member; named = n })
 
-    none_left : (i : ObjectId) → IsReady walked In (Contains ids) i → ⊥
+    pub none_left : (i : ObjectId) → IsReady walked In (Contains ids) i → ⊥
     none_left = rw (past_end ids, take_all (length ids) ids (le_refl _)) at (turns (length ids) (le_refl _))
 
     -- a member that is missing has a child that is missing, which isn't among those seen on the way
@@ -107,6 +117,11 @@ module _ (walked : ObjectId → List ObjectId) (In : ObjectId → Type 0) where
 
     pub all_given : (finite : List ObjectId) → ((i : ObjectId) → In i → is_among i finite ≡ true) → IsAcyclicIn walked In → (i : ObjectId) → In i → Contains ids i
     all_given finite within acyclic i m = among_is i ids (true_from_ne_false _ (λ f. missing finite within acyclic (length (fresh (λ j. is_among j []) finite)) [] i (le_refl _) (λ v h. absurd (no_member v h)) m f))
+
+  -- two such lists hold the same
+  pub same_set : (ids others : List ObjectId) → TurnsFrom IsReadyNext [] ids → TurnsFrom IsReadyNext [] others → (i : ObjectId) → Contains ids i ↔ Contains others i
+  same_set ids others h k i =
+      (λ c. also_taken others (none_left others k) ids [] (λ j d. absurd (no_member j d)) h i c, λ c. also_taken ids (none_left ids h) others [] (λ j d. absurd (no_member j d)) k i c)
 
 best_is_ready : (time : ObjectId → ℤ) (P : ObjectId → Type 0) (o : Option ObjectId) → MatchOption o ((i : ObjectId) → P i → ⊥) (IsBest NewestFirst time P) → MatchOption o ((i : ObjectId) → P i → ⊥) P
 best_is_ready time P None h = h
