@@ -24,17 +24,18 @@ module _ (Q : List ObjectId → Option ObjectId → Type 0) (decided : (done : L
       cc
 
 module _ (time : ObjectId → ℤ) (walked : ObjectId → List ObjectId) (In : ObjectId → Type 0) where
-  last_decided : (tips done : List ObjectId) (o p : Option ObjectId) → IsLastMade time walked In tips done o → IsLastMade time walked In tips done p → o ≡ p
+  pub last_decided : (tips done : List ObjectId) (o p : Option ObjectId) → IsLastMade time walked In tips done o → IsLastMade time walked In tips done p → o ≡ p
   last_decided tips done o p a b = a.2 ∙ ap (λ r. first_new (reverse r) done) (made_one time walked In tips (reverse done) a.0 b.0 a.1 b.1) ∙ sym b.2
 
   pub same_topo : (tips xs ys : List ObjectId) → IsTopoOrder time walked In tips xs → IsTopoOrder time walked In tips ys → xs ≡ ys
   same_topo tips xs ys h k = one_list (IsLastMade time walked In tips) (last_decided tips) [] xs ys h k
 
-  abbrev IsBestNext : List ObjectId → Option ObjectId → Type 0
+  -- a ready one of greatest time; there is none only where none is ready
+  abbrev pub IsBestNext : List ObjectId → Option ObjectId → Type 0
   IsBestNext done o = MatchOption o ((i : ObjectId) → IsReady walked In (Contains done) i → ⊥) (IsBest NewestFirst time (IsReady walked In (Contains done)))
 
   module _ (apart : (i j : ObjectId) → In i → In j → time i ≡ time j → i ≡ j) where
-    best_decided : (done : List ObjectId) (o p : Option ObjectId) → IsBestNext done o → IsBestNext done p → o ≡ p
+    pub best_decided : (done : List ObjectId) (o p : Option ObjectId) → IsBestNext done o → IsBestNext done p → o ≡ p
     best_decided done None None a b = refl
     best_decided done None (Some y) a b = absurd (a y b.among)
     best_decided done (Some x) None a b = absurd (b x a.among)
