@@ -4,5 +4,5 @@ pub mod Decided
 pub mod TopologicalOrders
 -- The order by time, newest first and oldest first.
 pub mod TimeOrder
--- A list in order that is cut anywhere is a beginning, and each beginning is such a list, cut.
+-- A list in order that is cut anywhere is a beginning.
 pub mod Beginnings

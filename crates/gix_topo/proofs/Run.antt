@@ -8,6 +8,8 @@ pub mod Theorem
 pub mod Ends
 -- Laws that follow from the order alone.
 pub mod Corollaries
+-- What the first commits that are taken have.
+pub mod Begun
 -- A walk through all parents gives what its tips reach and its ends don't.
 pub mod Difference
 -- With agreeing rows each commit is given with its row's generation.

@@ -14,14 +14,14 @@ use Rattle.gix_hash.specs.Reach.{Reaches}
 use Rattle.gix_revwalk.specs.Agreeing.{IsAgreeing}
 use Rattle.gix_revwalk.specs.Commits.{ReadsWhole, parents_of}
 use Rattle.gix_revwalk.specs.Ids.{AreDistinct}
-use Rattle.gix_topo.specs.WalkSet.{IsInWalk, IsAcyclicIn}
-use Rattle.gix_topo.specs.DateOrder.{IsDateOrder}
-use Rattle.gix_topo.specs.TopoOrder.{IsTopoOrder}
+use Rattle.gix_topo.specs.WalkSet.{IsInWalk, IsAcyclicIn, IsChild}
+use Rattle.gix_topo.specs.DateOrder.{IsDateOrder, IsDateBeginning}
+use Rattle.gix_topo.specs.TopoOrder.{IsTopoOrder, IsTopoBeginning}
 use Rattle.gix_topo.specs.Walk.{TopoPlan, TopoWalk, walked_of, row_generation, IsMember, IsStarted, IsSound, IsWalkable, IsLeft, IsFault, IsLate, IsCounting, IsKnown, Next}
-use Rattle.gix_topo.specs.Laws.{IsTakenInOrder, IsWholeRun, IsGiven, GivesInOrder, BeginsInOrder, GivesDifference, IsNoRefusal, answers_left, given_ids}
+use Rattle.gix_topo.specs.Laws.{IsTakenInOrder, IsTakenFirst, IsWholeRun, IsGiven, GivesInOrder, BeginsInOrder, GivesDifference, IsNoRefusal, answers_left, given_ids}
 use Rattle.gix_revwalk.specs.Asking.{AnswersBy, AsksAll}
 
--- the members of a walk in topological order are one list
+-- there is at most one list of the members of a walk in topological order
 abbrev pub TopoOrderIsOne : Type 0
 TopoOrderIsOne =
     (time : ObjectId → ℤ) (walked all : ObjectId → List ObjectId) (tips ends ids others : List ObjectId)
@@ -29,7 +29,7 @@ TopoOrderIsOne =
     → IsTopoOrder time walked (IsInWalk walked all tips ends) tips others
     → ids ≡ others
 
--- the members of a walk in date order are one list, where no two of them have the same time
+-- and at most one in date order, where no two of them have the same time
 abbrev pub DateOrderIsOne : Type 0
 DateOrderIsOne =
     (time : ObjectId → ℤ) (walked all : ObjectId → List ObjectId) (tips ends ids others : List ObjectId)
@@ -37,6 +37,23 @@ DateOrderIsOne =
     → IsDateOrder time walked (IsInWalk walked all tips ends) ids
     → IsDateOrder time walked (IsInWalk walked all tips ends) others
     → ids ≡ others
+
+-- a beginning in topological order is the first ids of the whole list
+abbrev pub TopoBeginningIsOne : Type 0
+TopoBeginningIsOne =
+    (time : ObjectId → ℤ) (walked all : ObjectId → List ObjectId) (tips ends ids whole : List ObjectId)
+    → IsTopoBeginning time walked (IsInWalk walked all tips ends) tips ids
+    → IsTopoOrder time walked (IsInWalk walked all tips ends) tips whole
+    → ids ≡ take (length ids) whole
+
+-- and so is one in date order, where no two members have the same time
+abbrev pub DateBeginningIsOne : Type 0
+DateBeginningIsOne =
+    (time : ObjectId → ℤ) (walked all : ObjectId → List ObjectId) (tips ends ids whole : List ObjectId)
+    → ((i j : ObjectId) → IsInWalk walked all tips ends i → IsInWalk walked all tips ends j → time i ≡ time j → i ≡ j)
+    → IsDateBeginning time walked (IsInWalk walked all tips ends) ids
+    → IsDateOrder time walked (IsInWalk walked all tips ends) whole
+    → ids ≡ take (length ids) whole
 
 module _ {F : Type 0} (objects : F → Objects) where
   -- commits that were taken in order
@@ -47,6 +64,15 @@ module _ {F : Type 0} (objects : F → Objects) where
       → AreDistinct ids
       × ((i : ObjectId) → Contains ids i → IsMember objects plan i)
       × (IsAcyclicIn (walked_of objects plan) (IsMember objects plan) → (i : ObjectId) → IsMember objects plan i → Contains ids i)
+
+  -- the first commits that are taken in order
+  abbrev pub BeginsEachOnce : Type 0
+  BeginsEachOnce =
+      (plan : TopoPlan F) (ids : List ObjectId)
+      → IsTakenFirst objects plan ids
+      → AreDistinct ids
+      × ((i : ObjectId) → Contains ids i → IsMember objects plan i)
+      × ((k : ℕ) (d p : ObjectId) → slice_get ids k ≡ Some p → IsChild (walked_of objects plan) (IsMember objects plan) d p → Contains (take k ids) d)
 
   -- every child comes before its parents
   abbrev pub TakesChildrenFirst : Type 0

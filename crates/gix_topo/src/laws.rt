@@ -5,7 +5,7 @@
 //! parents of what tips reach read whole. A law that names no premise holds for every store, all rows and every predicate, and over
 //! cycles.
 
-ghost use Rattle.gix_topo.specs.Statements.{RunsAreInOrder, RunsBeginInOrder, TopoOrderIsOne, DateOrderIsOne, TakesEachOnce, RunsGiveTheDifference, TakesChildrenFirst, RowsLeaveTheIds, RowsLeaveTheSet, Ends, AsksNeverTwice, GivesNeverTwice, FailsForItsReason, StaysEnded, ParentsAreKnown, TellsTheGenerations, CountsDownToTheDepth};
+ghost use Rattle.gix_topo.specs.Statements.{RunsAreInOrder, RunsBeginInOrder, BeginsEachOnce, TopoOrderIsOne, DateOrderIsOne, TopoBeginningIsOne, DateBeginningIsOne, TakesEachOnce, RunsGiveTheDifference, TakesChildrenFirst, RowsLeaveTheIds, RowsLeaveTheSet, Ends, AsksNeverTwice, GivesNeverTwice, FailsForItsReason, StaysEnded, ParentsAreKnown, TellsTheGenerations, CountsDownToTheDepth};
 
 use gix_object::find::Find;
 use gix_revwalk::Predicate;
@@ -23,6 +23,12 @@ pub fn begins_in_order<F: Find, P: Predicate>()
     ensures { RunsBeginInOrder F.objects F.faulty P.answers }
 {}
 
+/// The first commits that are taken, as `begins_in_order` says: none is taken twice, none outside of the walk set, and each after all of
+/// its children in that set.
+pub fn begins_once<F: Find>()
+    ensures { BeginsEachOnce F.objects }
+{}
+
 /// Over any parents, tips and ends, two lists in topological order are equal.
 pub fn one_topo_order()
     ensures { TopoOrderIsOne }
@@ -31,6 +37,16 @@ pub fn one_topo_order()
 /// Over any parents, tips and ends, two lists in date order are equal, where no two commits of the walk have the same time.
 pub fn one_date_order()
     ensures { DateOrderIsOne }
+{}
+
+/// A beginning in topological order is the first ids of the whole list in that order.
+pub fn one_topo_beginning()
+    ensures { TopoBeginningIsOne }
+{}
+
+/// A beginning in date order is the first ids of the whole list in that order, where no two commits of the walk have the same time.
+pub fn one_date_beginning()
+    ensures { DateBeginningIsOne }
 {}
 
 /// Commits that are taken in the order that was asked for: none is taken twice, and none outside of the walk set; and the whole set
