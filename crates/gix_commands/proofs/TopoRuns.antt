@@ -114,7 +114,7 @@ module _ (objects : Objects) (by : Sorting) (tips ends : List ObjectId) (whole :
         subst (ListsDown objects by tips ends) (sym (same_ids walk.plan infos g.ids g.given)) (record {
           once = each.0;
           shown = λ i c. let m = each.1 i c in (m.reached, m.outside);
-          all = λ acyclic i s. each.2 acyclic i (record { reached = s.0; outside = s.1 });
+          all = λ acyclic i s. each.2 (λ j m. acyclic j (m.reached, m.outside)) i (record { reached = s.0; outside = s.1 });
           in_order = order;
         })
 

@@ -9,8 +9,8 @@ use Rattle.gix_revwalk.specs.declared.Parents.TheVariants as mode
 use Rattle.gix_simple.specs.declared.Sorting.{Sorting}
 use Rattle.gix_topo.specs.declared.Sorting.{Sorting as TopoSorting}
 use Rattle.gix_revwalk.specs.Commits.{parents_of, commit_at, time_of}
-use Rattle.gix_hash.specs.Reach.{Reaches, Tells, IsAcyclic}
-use Rattle.gix_topo.specs.WalkSet.{IsInWalk}
+use Rattle.gix_hash.specs.Reach.{Reaches, Tells}
+use Rattle.gix_topo.specs.WalkSet.{IsInWalk, IsAcyclicIn}
 use Rattle.gix_revwalk.specs.Ids.{AreDistinct, new_ids}
 use Rattle.gix_simple.specs.Laws.{IsInOrder}
 use Rattle.gix_simple.specs.Walk.{time_order}
@@ -59,12 +59,12 @@ SimpleLists =
     (hidden ≡ [] → AreWhole (stored records) tips) → Runs words (Some input) old (Ok tt) new →
     (ids : List ObjectId) × Lists (stored records) by tips hidden ids × Appends old new (lines_of_ids ids)
 
--- No id is there twice, and each is one that the tips reach and the ends don't. Where no commit is its own ancestor, all of these are
--- there. They are in the order that was asked for.
+-- No id is there twice, and each is one that the tips reach and the ends don't. All of these are there, where none of them is its own
+-- ancestor. They are in the order that was asked for.
 pub record ListsDown (objects : Objects) (by : TopoSorting) (tips ends ids : List ObjectId) : Type 0 where
   pub once : AreDistinct ids
   pub shown : (i : ObjectId) → Contains ids i → IsShown objects tips ends i
-  pub all : IsAcyclic (parents_of objects) → (i : ObjectId) → IsShown objects tips ends i → Contains ids i
+  pub all : IsAcyclicIn (parents_of objects) (IsShown objects tips ends) → (i : ObjectId) → IsShown objects tips ends i → Contains ids i
   pub in_order : IsSorted by (time_of objects) (parents_of objects) (IsInWalk (parents_of objects) (parents_of objects) tips ends) tips ids
 
 -- The same of `topo` and `date`.

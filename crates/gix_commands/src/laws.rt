@@ -16,7 +16,7 @@ pub fn simple_succeeds()
 {}
 
 /// `topo` and `date` write, where all that is reached are whole commits, the ids of commits that the tips reach and the ends don't, each
-/// once, in their order; and all of them, where no commit is its own ancestor.
+/// once, in their order; and all of these commits, where none of them is its own ancestor.
 pub fn topo_lists()
     ensures { TopoLists }
 {}

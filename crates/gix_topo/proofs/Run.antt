@@ -1,11 +1,15 @@
 -- A list in which each commit is ready at its place: no id twice, children first, all of the set.
 pub mod ReadyInTurn
+-- Each order is one list.
+pub mod OneList
 -- A whole walk takes what the definitions say, in their order.
 pub mod Theorem
 -- Every walk ends, asks about each commit once, and gives nothing after a fault.
 pub mod Ends
 -- Laws that follow from the order alone.
 pub mod Corollaries
+-- What the first commits that are taken have.
+pub mod Begun
 -- A walk through all parents gives what its tips reach and its ends don't.
 pub mod Difference
 -- With agreeing rows each commit is given with its row's generation.

@@ -11,9 +11,10 @@ use Rattle.gix_topo.specs.declared.Sorting.{Sorting}
 use Rattle.gix_topo.specs.declared.Sorting.TheVariants as order
 use Rattle.gix_topo.specs.declared.Error.{Error}
 use Rattle.gix_topo.specs.declared.Error.TheVariants as error
-use Rattle.gix_hash.specs.Reach.{Reaches, IsAcyclic}
-use Rattle.gix_topo.specs.DateOrder.{IsDateOrder}
-use Rattle.gix_topo.specs.TopoOrder.{IsTopoOrder}
+use Rattle.gix_hash.specs.Reach.{Reaches}
+use Rattle.gix_topo.specs.WalkSet.{IsInWalk, IsAcyclicIn}
+use Rattle.gix_topo.specs.DateOrder.{IsDateOrder, IsDateBeginning}
+use Rattle.gix_topo.specs.TopoOrder.{IsTopoOrder, IsTopoBeginning}
 use Rattle.gix_revwalk.specs.Commits.{parents_of, time_of}
 use Rattle.gix_revwalk.specs.Infos.{IsInfo, IsRowGeneration}
 use Rattle.gix_revwalk.specs.Asking.{AnswersBy}
@@ -25,9 +26,19 @@ abbrev pub IsSorted : Sorting → (ObjectId → ℤ) → (ObjectId → List Obje
 IsSorted order.DateOrder time walked In tips ids = IsDateOrder time walked In ids
 IsSorted order.TopoOrder time walked In tips ids = IsTopoOrder time walked In tips ids
 
+-- a beginning in that order
+abbrev pub IsSortedBeginning :
+    Sorting → (ObjectId → ℤ) → (ObjectId → List ObjectId) → (ObjectId → Type 0) → List ObjectId → List ObjectId → Type 0
+IsSortedBeginning order.DateOrder time walked In tips ids = IsDateBeginning time walked In ids
+IsSortedBeginning order.TopoOrder time walked In tips ids = IsTopoBeginning time walked In tips ids
+
 -- these commits are taken, in order
 abbrev pub IsTakenInOrder : {F : Type 0} → (F → Objects) → TopoPlan F → List ObjectId → Type 0
 IsTakenInOrder objects plan ids = IsSorted plan.sorting (time_of (objects plan.store)) (walked_of objects plan) (IsMember objects plan) plan.tips ids
+
+-- these commits are the first that are taken, in order
+abbrev pub IsTakenFirst : {F : Type 0} → (F → Objects) → TopoPlan F → List ObjectId → Type 0
+IsTakenFirst objects plan ids = IsSortedBeginning plan.sorting (time_of (objects plan.store)) (walked_of objects plan) (IsMember objects plan) plan.tips ids
 
 -- the answer is this commit, with all its parents
 pub record IsCommitInfo {F : Type 0} (objects : F → Objects) (plan : TopoPlan F) (info : Info) (i : ObjectId) : Type 0 where
@@ -43,6 +54,13 @@ IsGiven objects plan (Err e) i = ⊥
 pub record GivesInOrder {F : Type 0} (objects : F → Objects) (plan : TopoPlan F) (accepts : ObjectId → Bool) (list : List (Result Info Error)) : Type 0 where
   pub ids : List ObjectId
   pub in_order : IsTakenInOrder objects plan ids
+  pub given : AllZip (IsGiven objects plan) list (filter accepts ids)
+
+-- the answers are the first commits in order, without the commits that the predicate refuses
+pub record BeginsInOrder {F : Type 0} (objects : F → Objects) (plan : TopoPlan F) (accepts : ObjectId → Bool)
+    (list : List (Result Info Error)) : Type 0 where
+  pub ids : List ObjectId
+  pub in_order : IsTakenFirst objects plan ids
   pub given : AllZip (IsGiven objects plan) list (filter accepts ids)
 
 -- neither memory nor the store failed
@@ -77,10 +95,15 @@ given_ids [] = []
 given_ids (Ok info ∷ list) = info.id ∷ given_ids list
 given_ids (Err e ∷ list) = given_ids list
 
--- the answers are commits and no faults, each once, and only commits that the tips reach and the ends don't; and all of these, where no
--- commit is its own ancestor
+-- the answers are commits and no faults, each once, and only commits that the tips reach and the ends don't; and all of these, where none
+-- of them is its own ancestor
 pub record GivesDifference (objects : Objects) (tips ends : List ObjectId) (answers : List (Result Info Error)) : Type 0 where
   pub commits : (e : Error) → Contains answers (Err e) → ⊥
   pub once : AreDistinct (given_ids answers)
   pub shown : (i : ObjectId) → Contains (given_ids answers) i → Reaches (parents_of objects) tips i × (Reaches (parents_of objects) ends i → ⊥)
-  pub all : IsAcyclic (parents_of objects) → (i : ObjectId) → Reaches (parents_of objects) tips i → (Reaches (parents_of objects) ends i → ⊥) → Contains (given_ids answers) i
+  pub all :
+      IsAcyclicIn (parents_of objects) (IsInWalk (parents_of objects) (parents_of objects) tips ends)
+      → (i : ObjectId)
+      → Reaches (parents_of objects) tips i
+      → (Reaches (parents_of objects) ends i → ⊥)
+      → Contains (given_ids answers) i

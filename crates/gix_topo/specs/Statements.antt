@@ -1,5 +1,5 @@
 -- The statements of the laws of topological walks, over any store and predicate.
-use Rattle.std.specs.Prelude.{◌≡◌, ◌≤◌, ℕ, List, [], ◌++◌, Bool, true, Option, Some, None, Result, Ok, Err, All, Contains, filter, length, slice_get, take}
+use Rattle.std.specs.Prelude.{◌≡◌, ◌↔◌, ◌≤◌, ℕ, ℤ, List, [], ◌++◌, Bool, true, Option, Some, None, Result, Ok, Err, All, Contains, filter, length, slice_get, take}
 use Rattle.std.specs.List.{AllZip}
 use Rattle.std.specs.Iterator.{Drains, Yields}
 use Rattle.gix_hash.specs.declared.ObjectId.{ObjectId}
@@ -7,15 +7,53 @@ use Rattle.gix_object.specs.Object.{Objects}
 use Rattle.gix_commitgraph.specs.Rows.{GraphRow, row_of}
 use Rattle.gix_revwalk.specs.declared.Info.{Info}
 use Rattle.gix_revwalk.specs.declared.Parents.TheVariants as mode
+use Rattle.gix_topo.specs.declared.Sorting.{Sorting}
 use Rattle.gix_topo.specs.declared.Sorting.TheVariants.{TopoOrder}
 use Rattle.gix_topo.specs.declared.Error.{Error}
-use Rattle.gix_hash.specs.Reach.{Reaches, IsAcyclic}
+use Rattle.gix_hash.specs.Reach.{Reaches}
 use Rattle.gix_revwalk.specs.Agreeing.{IsAgreeing}
 use Rattle.gix_revwalk.specs.Commits.{ReadsWhole, parents_of}
 use Rattle.gix_revwalk.specs.Ids.{AreDistinct}
-use Rattle.gix_topo.specs.Walk.{TopoPlan, TopoWalk, walked_of, row_generation, IsMember, IsStarted, IsWalkable, IsLeft, IsFault, IsLate, IsCounting, IsKnown, Next}
-use Rattle.gix_topo.specs.Laws.{IsTakenInOrder, IsWholeRun, IsGiven, GivesInOrder, GivesDifference, IsNoRefusal, answers_left, given_ids}
+use Rattle.gix_topo.specs.WalkSet.{IsInWalk, IsAcyclicIn, IsChild}
+use Rattle.gix_topo.specs.DateOrder.{IsDateOrder, IsDateBeginning}
+use Rattle.gix_topo.specs.TopoOrder.{IsTopoOrder, IsTopoBeginning}
+use Rattle.gix_topo.specs.Walk.{TopoPlan, TopoWalk, walked_of, row_generation, IsMember, IsStarted, IsSound, IsWalkable, IsLeft, IsFault, IsLate, IsCounting, IsKnown, Next}
+use Rattle.gix_topo.specs.Laws.{IsTakenInOrder, IsTakenFirst, IsWholeRun, IsGiven, GivesInOrder, BeginsInOrder, GivesDifference, IsNoRefusal, answers_left, given_ids}
 use Rattle.gix_revwalk.specs.Asking.{AnswersBy, AsksAll}
+
+-- there is at most one list of the members of a walk in topological order
+abbrev pub TopoOrderIsOne : Type 0
+TopoOrderIsOne =
+    (time : ObjectId → ℤ) (walked all : ObjectId → List ObjectId) (tips ends ids others : List ObjectId)
+    → IsTopoOrder time walked (IsInWalk walked all tips ends) tips ids
+    → IsTopoOrder time walked (IsInWalk walked all tips ends) tips others
+    → ids ≡ others
+
+-- and at most one in date order, where no two of them have the same time
+abbrev pub DateOrderIsOne : Type 0
+DateOrderIsOne =
+    (time : ObjectId → ℤ) (walked all : ObjectId → List ObjectId) (tips ends ids others : List ObjectId)
+    → ((i j : ObjectId) → IsInWalk walked all tips ends i → IsInWalk walked all tips ends j → time i ≡ time j → i ≡ j)
+    → IsDateOrder time walked (IsInWalk walked all tips ends) ids
+    → IsDateOrder time walked (IsInWalk walked all tips ends) others
+    → ids ≡ others
+
+-- a beginning in topological order is the first ids of the whole list
+abbrev pub TopoBeginningIsOne : Type 0
+TopoBeginningIsOne =
+    (time : ObjectId → ℤ) (walked all : ObjectId → List ObjectId) (tips ends ids whole : List ObjectId)
+    → IsTopoBeginning time walked (IsInWalk walked all tips ends) tips ids
+    → IsTopoOrder time walked (IsInWalk walked all tips ends) tips whole
+    → ids ≡ take (length ids) whole
+
+-- and so is one in date order, where no two members have the same time
+abbrev pub DateBeginningIsOne : Type 0
+DateBeginningIsOne =
+    (time : ObjectId → ℤ) (walked all : ObjectId → List ObjectId) (tips ends ids whole : List ObjectId)
+    → ((i j : ObjectId) → IsInWalk walked all tips ends i → IsInWalk walked all tips ends j → time i ≡ time j → i ≡ j)
+    → IsDateBeginning time walked (IsInWalk walked all tips ends) ids
+    → IsDateOrder time walked (IsInWalk walked all tips ends) whole
+    → ids ≡ take (length ids) whole
 
 module _ {F : Type 0} (objects : F → Objects) where
   -- commits that were taken in order
@@ -23,7 +61,18 @@ module _ {F : Type 0} (objects : F → Objects) where
   TakesEachOnce =
       (plan : TopoPlan F) (ids : List ObjectId)
       → IsTakenInOrder objects plan ids
-      → AreDistinct ids × ((i : ObjectId) → Contains ids i → IsMember objects plan i) × (IsAcyclic (walked_of objects plan) → (i : ObjectId) → IsMember objects plan i → Contains ids i)
+      → AreDistinct ids
+      × ((i : ObjectId) → Contains ids i → IsMember objects plan i)
+      × (IsAcyclicIn (walked_of objects plan) (IsMember objects plan) → (i : ObjectId) → IsMember objects plan i → Contains ids i)
+
+  -- the first commits that are taken in order
+  abbrev pub BeginsEachOnce : Type 0
+  BeginsEachOnce =
+      (plan : TopoPlan F) (ids : List ObjectId)
+      → IsTakenFirst objects plan ids
+      → AreDistinct ids
+      × ((i : ObjectId) → Contains ids i → IsMember objects plan i)
+      × ((k : ℕ) (d p : ObjectId) → slice_get ids k ≡ Some p → IsChild (walked_of objects plan) (IsMember objects plan) d p → Contains (take k ids) d)
 
   -- every child comes before its parents
   abbrev pub TakesChildrenFirst : Type 0
@@ -43,6 +92,17 @@ module _ {F P : Type 0} (objects : F → Objects) (faulty : F → ObjectId → T
       (walk : TopoWalk F P) (accepts : ObjectId → Bool) (list : List (Result Info Error))
       → IsWholeRun objects faulty answers walk accepts list
       → GivesInOrder objects walk.plan accepts list
+
+  -- a built walk that is drawn as far as one likes
+  abbrev pub RunsBeginInOrder : Type 0
+  RunsBeginInOrder =
+      (walk new : TopoWalk F P) (accepts : ObjectId → Bool) (list : List (Result Info Error))
+      → AnswersBy answers walk.predicate accepts
+      → IsStarted objects faulty answers walk
+      → IsSound objects faulty walk.plan
+      → All IsNoRefusal list
+      → Yields (Next objects faulty answers) walk list new
+      → BeginsInOrder objects walk.plan accepts list
 
   -- a walk through all parents whose predicate accepts all, where all that is reached reads whole
   abbrev pub RunsGiveTheDifference : Type 0
@@ -67,6 +127,17 @@ module _ {F P : Type 0} (objects : F → Objects) (faulty : F → ObjectId → T
       → IsWholeRun objects faulty answers walk accepts list
       → IsWholeRun objects faulty answers other accepts longer
       → (ids : List ObjectId) × AllZip (IsGiven objects walk.plan) list (filter accepts ids) × AllZip (IsGiven objects other.plan) longer (filter accepts ids)
+
+  -- two walks, each by rows of its own that agree, and in an order of its own
+  abbrev pub RowsLeaveTheSet : Type 0
+  RowsLeaveTheSet =
+      (walk other : TopoWalk F P) (rows : List GraphRow) (sorting : Sorting) (accepts : ObjectId → Bool) (list longer : List (Result Info Error))
+      → other.plan ≡ record walk.plan { rows = rows; sorting = sorting }
+      → IsWholeRun objects faulty answers walk accepts list
+      → IsWholeRun objects faulty answers other accepts longer
+      → (one : GivesInOrder objects walk.plan accepts list)
+      × (two : GivesInOrder objects other.plan accepts longer)
+      × ((i : ObjectId) → Contains one.ids i ↔ Contains two.ids i)
 
   -- an answer for each ready commit and each named id, at most
   abbrev pub Ends : Type 0

@@ -1,5 +1,5 @@
 -- `git rev-list --topo-order`: no parent before all of its children, and no lines of history intermixed.
-use Rattle.std.specs.Prelude.{◌≡◌, ◌≤◌, ℕ, ℤ, int_le, List, [], ◌∷◌, ◌++◌, length, take, reverse, slice_get, Contains, if◌then◌else◌}
+use Rattle.std.specs.Prelude.{◌≡◌, ◌≤◌, ℕ, ℤ, int_le, List, [], ◌∷◌, ◌++◌, length, take, reverse, slice_get, Some, Contains, if◌then◌else◌}
 use Rattle.gix_hash.specs.declared.ObjectId.{ObjectId}
 use Rattle.gix_hash.specs.Id.{is_among}
 use Rattle.gix_revwalk.specs.BreadthOrder.{first_new}
@@ -47,3 +47,9 @@ module _ (time : ObjectId → ℤ) (walked : ObjectId → List ObjectId) (In : O
   abbrev pub IsTopoOrder : List ObjectId → Type 0
   IsTopoOrder ids =
       (k : ℕ) → k ≤ length ids → (ready : List ObjectId) × IsMadeReady (reverse (take k ids)) ready × (slice_get ids k ≡ first_new (reverse ready) (take k ids))
+
+  -- A beginning of such a list: each commit is the last of the commits made ready that isn't taken. Nothing is said of the end.
+  abbrev pub IsTopoBeginning : List ObjectId → Type 0
+  IsTopoBeginning ids =
+      (k : ℕ) (i : ObjectId) → slice_get ids k ≡ Some i →
+      (ready : List ObjectId) × IsMadeReady (reverse (take k ids)) ready × (first_new (reverse ready) (take k ids) ≡ Some i)

@@ -8,6 +8,10 @@ pub record IsInWalk (walked all : ObjectId → List ObjectId) (tips ends : List 
   pub reached : Reaches walked tips i
   pub outside : Reaches all ends i → ⊥
 
+-- no member is its own ancestor
+abbrev pub IsAcyclicIn : (ObjectId → List ObjectId) → (ObjectId → Type 0) → Type 0
+IsAcyclicIn walked In = (i : ObjectId) → In i → Reaches walked (walked i) i → ⊥
+
 -- d is a child of p
 pub record IsChild (walked : ObjectId → List ObjectId) (In : ObjectId → Type 0) (d p : ObjectId) : Type 0 where
   pub child : In d

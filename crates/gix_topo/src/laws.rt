@@ -5,7 +5,7 @@
 //! parents of what tips reach read whole. A law that names no premise holds for every store, all rows and every predicate, and over
 //! cycles.
 
-ghost use Rattle.gix_topo.specs.Statements.{RunsAreInOrder, TakesEachOnce, RunsGiveTheDifference, TakesChildrenFirst, RowsLeaveTheIds, Ends, AsksNeverTwice, GivesNeverTwice, FailsForItsReason, StaysEnded, ParentsAreKnown, TellsTheGenerations, CountsDownToTheDepth};
+ghost use Rattle.gix_topo.specs.Statements.{RunsAreInOrder, RunsBeginInOrder, BeginsEachOnce, TopoOrderIsOne, DateOrderIsOne, TopoBeginningIsOne, DateBeginningIsOne, TakesEachOnce, RunsGiveTheDifference, TakesChildrenFirst, RowsLeaveTheIds, RowsLeaveTheSet, Ends, AsksNeverTwice, GivesNeverTwice, FailsForItsReason, StaysEnded, ParentsAreKnown, TellsTheGenerations, CountsDownToTheDepth};
 
 use gix_object::find::Find;
 use gix_revwalk::Predicate;
@@ -17,14 +17,46 @@ pub fn in_order<F: Find, P: Predicate>()
     ensures { RunsAreInOrder F.objects F.faulty P.answers }
 {}
 
+/// A walk as of `in_order`, except that it is drawn as far as one likes: the commits taken, up to the last one given, are a beginning in
+/// the order that was asked for, and it gives those that the predicate accepts.
+pub fn begins_in_order<F: Find, P: Predicate>()
+    ensures { RunsBeginInOrder F.objects F.faulty P.answers }
+{}
+
+/// The first commits that are taken, as `begins_in_order` says: none is taken twice, none outside of the walk set, and each after all of
+/// its children in that set.
+pub fn begins_once<F: Find>()
+    ensures { BeginsEachOnce F.objects }
+{}
+
+/// Over any parents, tips and ends, two lists in topological order are equal.
+pub fn one_topo_order()
+    ensures { TopoOrderIsOne }
+{}
+
+/// Over any parents, tips and ends, two lists in date order are equal, where no two commits of the walk have the same time.
+pub fn one_date_order()
+    ensures { DateOrderIsOne }
+{}
+
+/// A beginning in topological order is the first ids of the whole list in that order.
+pub fn one_topo_beginning()
+    ensures { TopoBeginningIsOne }
+{}
+
+/// A beginning in date order is the first ids of the whole list in that order, where no two commits of the walk have the same time.
+pub fn one_date_beginning()
+    ensures { DateBeginningIsOne }
+{}
+
 /// Commits that are taken in the order that was asked for: none is taken twice, and none outside of the walk set; and the whole set
-/// is taken, where no commit is its own ancestor by the walked parents.
+/// is taken, where no commit of it is its own ancestor by the walked parents.
 pub fn each_once<F: Find>()
     ensures { TakesEachOnce F.objects }
 {}
 
 /// A walk that was built, goes through all parents, has a predicate that accepts every id, and is drawn to its end: it gives no fault,
-/// no commit twice, and only commits that its tips reach and its ends don't; and all of these, where no commit is its own ancestor.
+/// no commit twice, and only commits that its tips reach and its ends don't; and all of these, where none of them is its own ancestor.
 /// Memory and the store don't fail, the rows agree with the store, and all that tips and ends reach reads whole.
 pub fn difference<F: Find, P: Predicate>()
     ensures { RunsGiveTheDifference F.objects F.faulty P.answers }
@@ -39,6 +71,12 @@ pub fn children_first<F: Find>()
 /// the premises of `in_order` hold for both, and both predicates answer alike.
 pub fn rows_agree<F: Find, P: Predicate>()
     ensures { RowsLeaveTheIds F.objects F.faulty P.answers }
+{}
+
+/// Two walks that were built alike, except that each has rows of its own or none, and an order of its own: they take the same commits,
+/// where the premises of `in_order` hold for both, and both predicates answer alike. The history may have cycles.
+pub fn rows_agree_on_ids<F: Find, P: Predicate>()
+    ensures { RowsLeaveTheSet F.objects F.faulty P.answers }
 {}
 
 /// Every topological walk ends: it gives at most an answer for each ready commit, and for each id not taken or ready that rows

@@ -1,5 +1,5 @@
 -- Worked examples: over a finite history, lists in the orders of topological walks are found by computing.
-use Rattle.std.specs.Prelude.{◌≡◌, ◌≤◌, ℕ, ℤ, pos, List, [], ◌∷◌, ◌++◌, Bool, true, false, not, ◌&&◌, ◌||◌, cond, filter, reverse, take, Option, Some, None, Contains, MatchOption}
+use Rattle.std.specs.Prelude.{◌≡◌, ◌≤◌, ℕ, suc, ℤ, pos, List, [], ◌∷◌, ◌++◌, Bool, true, false, not, ◌&&◌, ◌||◌, cond, filter, reverse, take, Option, Some, None, Contains, MatchOption}
 use Rattle.std.proofs.Common.{refl, sym, ap, subst, inr, ⊎_elim, ◌∙◌, arith}
 use Rattle.std.proofs.Math.Dec.{leb}
 use Rattle.std.proofs.lemmas.Int.{ints}
@@ -10,15 +10,16 @@ use Rattle.gix_revwalk.specs.BreadthOrder.{first_new, named_by}
 use Rattle.gix_revwalk.specs.TimeOrder.{IsBest}
 use Rattle.gix_revwalk.specs.declared.CommitTimeOrder.TheVariants.{NewestFirst}
 use Rattle.gix_topo.specs.DateOrder.{IsDateOrder}
-use Rattle.gix_hash.specs.Reach.{Reaches, start, step, IsAtBoundary}
-use Rattle.gix_topo.specs.WalkSet.{IsInWalk, IsChildless, IsReady}
+use Rattle.gix_hash.specs.Reach.{Reaches, start, step, IsAcyclic, IsAtBoundary}
+use Rattle.gix_topo.specs.WalkSet.{IsInWalk, IsAcyclicIn, IsChildless, IsReady}
 use Rattle.gix_topo.specs.TopoOrder.{Keeps, first_places, last_places, by_time, IsMadeReady, IsTopoOrder}
 use Rattle.gix_revwalk.specs.Examples.{n, ids, history, sample_in}
 use Rattle.gix_hash.proofs.Ids.Membership.{same_is, among_from, among_is, Contains-cons_cases, no_member}
 use Rattle.gix_revwalk.proofs.Orders.{reached_by_named}
 use Rattle.gix_topo.proofs.Readiness.IsReady.{keeps_alike, ready_alike}
 use Rattle.gix_topo.proofs.Examples.Decided.{all_of, all_is, given, is_ready as is_ready_of, ready_is as ready_of, is_ready_by as of_ready, keeps as keeps_of}
-use Rattle.gix_topo.proofs.Run.ReadyInTurn.{TurnsFrom, turn_none, turn_more, IsLastMade, same_topo}
+use Rattle.gix_topo.proofs.Run.ReadyInTurn.{TurnsFrom, turn_none, turn_more, IsLastMade}
+use Rattle.gix_topo.proofs.Run.OneList.{same_topo}
 
 -- the list is what the starts reach: it is closed, and each id of it is named by those before
 module _ (next : ObjectId → List ObjectId) (starts : List ObjectId) where
@@ -240,6 +241,40 @@ first_place_refused h =
     let e : ids (9 ∷ 7 ∷ 4 ∷ 2 ∷ 6 ∷ 5 ∷ 3 ∷ 1 ∷ []) ≡ ids (9 ∷ 6 ∷ 5 ∷ 3 ∷ 7 ∷ 4 ∷ 2 ∷ 1 ∷ []) =
     same_topo (λ i. pos (sample_seconds repeated i)) (sample_in repeated) (SampleSet repeated (9 ∷ []) []) (ids (9 ∷ [])) _ _ h parent_repeated in
     false≢true (ap (λ xs. is_among (n 7) (take 2 xs)) (sym e))
+
+-- where each parent is one of these and has a lesser number, so has each ancestor
+module _ (walked : ObjectId → List ObjectId) (number : ObjectId → ℕ) (those : List ObjectId) where
+  abbrev is_below : ObjectId → ObjectId → Bool
+  is_below c p = is_among p those && leb (suc (number p)) (number c)
+
+  abbrev is_falling : Bool
+  is_falling = all_of (λ c. all_of (is_below c) (walked c)) those
+
+  parent_below : is_falling ≡ true → (c p : ObjectId) → is_among c those ≡ true → Contains (walked c) p → (is_among p those ≡ true) × (suc (number p) ≤ number c)
+  parent_below e c p m named =
+      let a : (is_among p those ≡ true) × (leb (suc (number p)) (number c) ≡ true) = and_parts _ _ (all_is (is_below c) (walked c) (all_is (λ d. all_of (is_below d) (walked d)) those e c (among_is c those m)) p named) in
+      (a.0, leb-true _ _ a.1)
+
+  ancestor_below : is_falling ≡ true → (i v : ObjectId) → is_among i those ≡ true → Reaches walked (walked i) v → (is_among v those ≡ true) × (suc (number v) ≤ number i)
+  ancestor_below e i v m (start named) = parent_below e i v m named
+  ancestor_below e i v m (step {c = c} r named) =
+      let b : (is_among c those ≡ true) × (suc (number c) ≤ number i) = ancestor_below e i c m r in
+      let a : (is_among v those ≡ true) × (suc (number v) ≤ number c) = parent_below e c v b.0 named in
+      (a.0, omega (arith, a.1, b.1))
+
+-- with two commits elsewhere, each the other's parent
+abbrev pub round_elsewhere : List (ℕ × List ℕ)
+round_elsewhere = (21, 22 ∷ []) ∷ (22, 21 ∷ []) ∷ history
+
+-- no commit of the walk from 8 is its own ancestor, though 21 is
+pub acyclic_members : IsAcyclicIn (sample_in round_elsewhere) (SampleSet round_elsewhere (8 ∷ []) []) × (IsAcyclic (sample_in round_elsewhere) → ⊥)
+acyclic_members = (
+  λ i m r.
+      let l : (is_among i (ids all_eight) ≡ true) × (suc (sample_seconds round_elsewhere i) ≤ sample_seconds round_elsewhere i) =
+      ancestor_below (sample_in round_elsewhere) (sample_seconds round_elsewhere) (ids all_eight) refl i i (reach_in (sample_in round_elsewhere) (ids (8 ∷ [])) (ids all_eight) refl i m.reached) r in
+      omega (arith, l.1),
+  λ h. h (n 21) (step (start (among_is (n 22) (sample_in round_elsewhere (n 21)) refl)) (among_is (n 21) (sample_in round_elsewhere (n 22)) refl)),
+)
 
 -- 6 is in the walk from 8 with the end 5; 3 is reached by the end
 pub above_an_end : SampleSet history (8 ∷ []) (5 ∷ []) (n 6) × (SampleSet history (8 ∷ []) (5 ∷ []) (n 3) → ⊥)

@@ -1,5 +1,5 @@
 -- The laws of topological walks that follow from the order alone.
-use Rattle.std.specs.Prelude.{◌≡◌, ◌++◌, ℕ, List, [], ◌∷◌, Bool, true, filter, take, slice_get, Option, Some, None, Result, Contains}
+use Rattle.std.specs.Prelude.{◌≡◌, ◌↔◌, ◌++◌, ℕ, List, [], ◌∷◌, Bool, true, filter, take, slice_get, Option, Some, None, Result, Contains}
 use Rattle.std.proofs.Common.{refl, sym, subst, ⊎_elim, ◌∙◌}
 use Rattle.std.specs.List.{AllZip, flat_map}
 use Rattle.std.proofs.Math.Path.{transport}
@@ -15,15 +15,17 @@ use Rattle.gix_revwalk.specs.declared.Info.{Info}
 use Rattle.gix_topo.specs.declared.Sorting.{Sorting}
 use Rattle.gix_topo.specs.declared.Sorting.TheVariants as order
 use Rattle.gix_topo.specs.declared.Error.{Error}
-use Rattle.gix_hash.specs.Reach.{Reaches, start, step, IsAcyclic}
+use Rattle.gix_hash.specs.Reach.{Reaches, start, step}
 use Rattle.gix_revwalk.specs.Commits.{parents_in, parents_of, time_of, commit_of_object, walked_parents}
+use Rattle.gix_topo.specs.WalkSet.{IsAcyclicIn}
 use Rattle.gix_topo.specs.TopoOrder.{IsTopoOrder}
 use Rattle.gix_revwalk.specs.Ids.{AreDistinct}
 use Rattle.gix_topo.specs.Walk.{TopoPlan, TopoWalk, walked_of, IsMember}
 use Rattle.gix_topo.specs.Laws.{IsSorted, IsTakenInOrder, IsGiven, GivesInOrder, IsWholeRun}
 use Rattle.gix_hash.proofs.Ids.Membership.{among-append, among_from, Contains-cons_cases, no_member}
 use Rattle.gix_topo.proofs.Readiness.IsReady.{in_walk_top}
-use Rattle.gix_topo.proofs.Run.ReadyInTurn.{TurnsFrom, IsReadyNext, date_turns, topo_turns, same_topo, each_once, each_member, children_first, all_given}
+use Rattle.gix_topo.proofs.Run.ReadyInTurn.{TurnsFrom, IsReadyNext, date_turns, topo_turns, each_once, each_member, children_first, all_given, same_set}
+use Rattle.gix_topo.proofs.Run.OneList.{same_topo}
 use Rattle.gix_topo.proofs.Run.Theorem.{gives}
 use Rattle.gix_revwalk.proofs.ReadsWhole.{walked_within}
 use Rattle.gix_revwalk.proofs.Rows.{found_entry}
@@ -53,7 +55,7 @@ module _ {F : Type 0} (objects : F → Objects) (plan : TopoPlan F) (ids : List 
   turns order.TopoOrder h = topo_turns (time_of (objects plan.store)) (walked_of objects plan) (IsMember objects plan) plan.tips
       (in_walk_top (walked_of objects plan) (parents_of (objects plan.store)) plan.tips plan.ends (λ c i n. walked_within plan.parents _ i n)) ids h
 
-  pub once : IsTakenInOrder objects plan ids → AreDistinct ids × ((i : ObjectId) → Contains ids i → IsMember objects plan i) × (IsAcyclic (walked_of objects plan) → (i : ObjectId) → IsMember objects plan i → Contains ids i)
+  pub once : IsTakenInOrder objects plan ids → AreDistinct ids × ((i : ObjectId) → Contains ids i → IsMember objects plan i) × (IsAcyclicIn (walked_of objects plan) (IsMember objects plan) → (i : ObjectId) → IsMember objects plan i → Contains ids i)
   once h =
       let t : TurnsFrom (IsReadyNext (walked_of objects plan) (IsMember objects plan)) [] ids = turns plan.sorting h in (
         each_once (walked_of objects plan) (IsMember objects plan) ids t,
@@ -76,3 +78,14 @@ with_rows {F} objects faulty answers walk other rows accepts list longer sorted 
     let c : IsTopoOrder (time_of (objects plan.store)) (walked_of objects plan) (IsMember objects plan) plan.tips h.ids = transport (λ k. IsSorted (sorted k) (time_of (objects plan.store)) (walked_of objects plan) (IsMember objects plan) plan.tips h.ids) b in
     let e : h.ids ≡ g.ids = same_topo (time_of (objects plan.store)) (walked_of objects plan) (IsMember objects plan) plan.tips h.ids g.ids c a in
     (g.ids, g.given, subst (λ ids. AllZip (IsGiven objects other.plan) longer (filter accepts ids)) e h.given)
+
+-- whatever the rows and the order: the same commits are taken
+pub same_ids : {F P : Type 0} (objects : F → Objects) (faulty : F → ObjectId → Type 0) (answers : P → ObjectId → Bool → P → Type 0) (walk other : TopoWalk F P) (rows : List GraphRow) (sorting : Sorting) (accepts : ObjectId → Bool) (list longer : List (Result Info Error)) → other.plan ≡ record walk.plan { rows = rows; sorting = sorting } →
+    IsWholeRun objects faulty answers walk accepts list → IsWholeRun objects faulty answers other accepts longer →
+    (one : GivesInOrder objects walk.plan accepts list) × (two : GivesInOrder objects other.plan accepts longer) × ((i : ObjectId) → Contains one.ids i ↔ Contains two.ids i)
+same_ids {F} objects faulty answers walk other rows sorting accepts list longer same run run_other =
+    let plan : TopoPlan F = walk.plan in
+    let g : GivesInOrder objects walk.plan accepts list = gives objects faulty answers accepts walk list run in
+    let h : GivesInOrder objects other.plan accepts longer = gives objects faulty answers accepts other longer run_other in
+    let b : IsTakenInOrder objects (record plan { rows = rows; sorting = sorting }) h.ids = subst (λ p. IsTakenInOrder objects p h.ids) same h.in_order in
+    (g, h, same_set (walked_of objects plan) (IsMember objects plan) g.ids h.ids (turns objects plan g.ids plan.sorting g.in_order) (turns objects plan h.ids sorting b))

@@ -9,11 +9,12 @@ use Rattle.gix_object.specs.Object.{Objects}
 use Rattle.gix_revwalk.specs.declared.Info.{Info}
 use Rattle.gix_revwalk.specs.declared.Parents.TheVariants as mode
 use Rattle.gix_topo.specs.declared.Error.{Error}
-use Rattle.gix_hash.specs.Reach.{Reaches, step, IsAcyclic}
+use Rattle.gix_hash.specs.Reach.{Reaches, step}
 use Rattle.gix_revwalk.specs.Agreeing.{IsAgreeing}
 use Rattle.gix_revwalk.specs.Asking.{AnswersBy}
 use Rattle.gix_revwalk.specs.Commits.{ReadsWhole, parents_of, walked_parents}
 use Rattle.gix_revwalk.specs.Ids.{AreDistinct}
+use Rattle.gix_topo.specs.WalkSet.{IsInWalk, IsAcyclicIn}
 use Rattle.gix_topo.specs.Walk.{TopoPlan, TopoWalk, walked_of, IsMember, IsStarted, Next}
 use Rattle.gix_topo.specs.Laws.{IsNoRefusal, IsGiven, IsWholeRun, GivesInOrder, GivesDifference, given_ids}
 use Rattle.gix_hash.proofs.Ids.Membership.{Contains-cons_cases, no_member}
@@ -69,7 +70,7 @@ module _ {F P : Type 0} (objects : F → Objects) (faulty : F → ObjectId → T
   gave : GivesInOrder objects walk.plan (λ i. true) list
   gave = gives objects faulty answers (λ i. true) walk list run
 
-  each : AreDistinct gave.ids × ((i : ObjectId) → Contains gave.ids i → IsMember objects walk.plan i) × (IsAcyclic (walked_of objects walk.plan) → (i : ObjectId) → IsMember objects walk.plan i → Contains gave.ids i)
+  each : AreDistinct gave.ids × ((i : ObjectId) → Contains gave.ids i → IsMember objects walk.plan i) × (IsAcyclicIn (walked_of objects walk.plan) (IsMember objects walk.plan) → (i : ObjectId) → IsMember objects walk.plan i → Contains gave.ids i)
   each = once objects walk.plan gave.ids gave.in_order
 
   given : AllZip (IsGiven objects walk.plan) list gave.ids
@@ -84,5 +85,5 @@ module _ {F P : Type 0} (objects : F → Objects) (faulty : F → ObjectId → T
     commits = all_commits objects walk.plan list gave.ids given;
     once = subst AreDistinct (sym ids_are) each.0;
     shown = λ i c. let m = each.1 i (subst (λ xs. Contains xs i) ids_are c) in (through_all i m.reached, m.outside);
-    all = λ acyclic i r o. subst (λ xs. Contains xs i) (sym ids_are) (each.2 (subst (λ m. IsAcyclic (walked_parents (objects walk.plan.store) m)) (sym all) acyclic) i (record { reached = through_walked i r; outside = o }));
+    all = λ acyclic i r o. subst (λ xs. Contains xs i) (sym ids_are) (each.2 (subst (λ m. IsAcyclicIn (walked_parents (objects walk.plan.store) m) (IsInWalk (walked_parents (objects walk.plan.store) m) parents walk.plan.tips walk.plan.ends)) (sym all) acyclic) i (record { reached = through_walked i r; outside = o }));
   }

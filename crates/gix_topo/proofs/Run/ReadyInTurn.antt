@@ -1,19 +1,19 @@
--- What a list has in which each commit is ready when it comes: no id twice, children first, and all of the set where none is its own ancestor.
-use Rattle.std.specs.Prelude.{◌≡◌, ◌⊎◌, ◌+◌, ◌≤◌, ℕ, zero, suc, ℤ, List, [], ◌∷◌, ◌++◌, Bool, true, false, not, ◌||◌, cond, filter, reverse, length, take, slice_get, Option, Some, None, Contains, MatchOption}
+-- What a list has in which each commit is ready when it comes: no id twice, children first, and all of the set where no member is its own ancestor.
+use Rattle.std.specs.Prelude.{◌≡◌, ◌↔◌, ◌⊎◌, ◌+◌, ◌≤◌, ℕ, zero, suc, ℤ, List, [], ◌∷◌, ◌++◌, Bool, true, false, not, ◌||◌, cond, filter, reverse, length, take, slice_get, Option, Some, None, Contains, MatchOption}
 use Rattle.std.proofs.Common.{refl, sym, ap, subst, inl, inr, ⊎_elim, ◌∙◌, arith, append_assoc, append-nil, take_all, le_refl}
 use Rattle.std.proofs.lemmas.Bool.{true≢false, false_from_ne_true, true_from_ne_false, and_parts, and_from, not-true}
 use Rattle.std.proofs.lemmas.List.{reverse-append}
 use Rattle.std.proofs.lemmas.List.Sorted.{list_any-IsPermutation, IsPermutation-reverse}
-use Rattle.std.proofs.lemmas.List.Elements.{Contains-append_left, Contains-push}
+use Rattle.std.proofs.lemmas.List.Elements.{Contains-append_left, Contains-push, Contains-push_cases}
 use Rattle.gix_hash.specs.declared.ObjectId.{ObjectId}
 use Rattle.gix_hash.specs.Id.{is_same, is_among}
 use Rattle.gix_revwalk.specs.declared.CommitTimeOrder.TheVariants.{NewestFirst}
 use Rattle.gix_revwalk.specs.BreadthOrder.{first_new}
 use Rattle.gix_revwalk.specs.TimeOrder.{IsBest}
-use Rattle.gix_hash.specs.Reach.{Reaches, start, step, IsAcyclic}
-use Rattle.gix_topo.specs.WalkSet.{IsChild, IsChildless, IsReady}
-use Rattle.gix_topo.specs.DateOrder.{IsDateOrder}
-use Rattle.gix_topo.specs.TopoOrder.{by_time, IsMadeReady, IsTopoOrder}
+use Rattle.gix_hash.specs.Reach.{Reaches, start, step}
+use Rattle.gix_topo.specs.WalkSet.{IsAcyclicIn, IsChild, IsChildless, IsReady}
+use Rattle.gix_topo.specs.DateOrder.{IsDateOrder, IsDateBeginning}
+use Rattle.gix_topo.specs.TopoOrder.{by_time, IsMadeReady, IsTopoOrder, IsTopoBeginning}
 use Rattle.gix_revwalk.specs.Ids.{AreDistinct}
 use Rattle.gix_hash.proofs.Ids.Membership.{same_is, among_from, among_is, Contains-here, Contains-there, Contains-cons_cases, no_member}
 use Rattle.gix_revwalk.proofs.NewIds.{fresh, times, times-append, times_none, among-filter, new_less, among_times}
@@ -43,6 +43,30 @@ module _ (Q : List ObjectId → Option ObjectId → Type 0) where
   pub turn_on : (done ids : List ObjectId) (i : ObjectId) → TurnsFrom done (i ∷ ids) → TurnsFrom (done ++ i ∷ []) ids
   turn_on done ids i h k b = rw append_assoc (h (suc k) (omega arith))
 
+  -- an entry of the list, by the entries before it
+  pub turn_at : (ids : List ObjectId) → TurnsFrom [] ids → (k : ℕ) (i : ObjectId) → slice_get ids k ≡ Some i → Q (take k ids) (Some i)
+  turn_at ids h k i e =
+      let w : suc k ≤ length ids = Rattle.std.proofs.lemmas.Option.slice_get_within ids k i e in
+      subst (Q (take k ids)) e (h k (omega arith))
+
+  -- Q of the next one, if there is one: nothing is said of the end of the list
+  abbrev pub IfOne : List ObjectId → Option ObjectId → Type 0
+  IfOne done o = MatchOption o (Unit {0}) (λ i. Q done (Some i))
+
+pub turns_begin : (Q : List ObjectId → Option ObjectId → Type 0) (done ids : List ObjectId) → TurnsFrom Q done ids → TurnsFrom (IfOne Q) done ids
+turns_begin Q done ids h k b = go (slice_get ids k) (h k b)
+  where
+    go : (o : Option ObjectId) → Q (done ++ take k ids) o → IfOne Q (done ++ take k ids) o
+    go None q = tt
+    go (Some i) q = q
+
+pub turns_by : (Q : List ObjectId → Option ObjectId → Type 0) (ids : List ObjectId) → ((k : ℕ) (i : ObjectId) → slice_get ids k ≡ Some i → Q (take k ids) (Some i)) → TurnsFrom (IfOne Q) [] ids
+turns_by Q ids h k b = go (slice_get ids k) refl
+  where
+    go : (o : Option ObjectId) → slice_get ids k ≡ o → IfOne Q (take k ids) o
+    go None e = tt
+    go (Some i) e = h k i e
+
 through : (walked : ObjectId → List ObjectId) (d i v : ObjectId) → Contains (walked d) i → Reaches walked (walked i) v → Reaches walked (walked d) v
 through walked d i v n (start s) = step (start n) s
 through walked d i v n (step r m) = step (through walked d i _ n r) m
@@ -52,45 +76,67 @@ module _ (walked : ObjectId → List ObjectId) (In : ObjectId → Type 0) where
   abbrev pub IsReadyNext : List ObjectId → Option ObjectId → Type 0
   IsReadyNext done o = MatchOption o ((i : ObjectId) → IsReady walked In (Contains done) i → ⊥) (IsReady walked In (Contains done))
 
-  once_from : (ids done : List ObjectId) → TurnsFrom IsReadyNext done ids → AreDistinct ids × ((i : ObjectId) → Contains done i → Contains ids i → ⊥)
+  once_from : (ids done : List ObjectId) → TurnsFrom (IfOne IsReadyNext) done ids → AreDistinct ids × ((i : ObjectId) → Contains done i → Contains ids i → ⊥)
   once_from [] done h = (tt, λ i d c. no_member i c)
   once_from (x ∷ ids) done h =
-      let now : IsReady walked In (Contains done) x = turn_now IsReadyNext done ids x h in
-      let r : AreDistinct ids × ((i : ObjectId) → Contains (done ++ x ∷ []) i → Contains ids i → ⊥) = once_from ids (done ++ x ∷ []) (turn_on IsReadyNext done ids x h) in (
+      let now : IsReady walked In (Contains done) x = turn_now (IfOne IsReadyNext) done ids x h in
+      let r : AreDistinct ids × ((i : ObjectId) → Contains (done ++ x ∷ []) i → Contains ids i → ⊥) = once_from ids (done ++ x ∷ []) (turn_on (IfOne IsReadyNext) done ids x h) in (
         (λ c. r.1 x (Contains-push done x) c, r.0),
         λ i d c. ⊎_elim (λ e. now.left (subst (λ y. Contains done y) (sym e) d)) (λ t. r.1 i (Contains-append_left done (x ∷ []) i d) t) (Contains-cons_cases i x ids c),
       )
 
-  members_from : (ids done : List ObjectId) → TurnsFrom IsReadyNext done ids → (i : ObjectId) → Contains ids i → In i
+  members_from : (ids done : List ObjectId) → TurnsFrom (IfOne IsReadyNext) done ids → (i : ObjectId) → Contains ids i → In i
   members_from [] done h i c = absurd (no_member i c)
   members_from (x ∷ ids) done h i c =
-      let now : IsReady walked In (Contains done) x = turn_now IsReadyNext done ids x h in
-      ⊎_elim (λ e. subst In e now.member) (λ t. members_from ids (done ++ x ∷ []) (turn_on IsReadyNext done ids x h) i t) (Contains-cons_cases i x ids c)
+      let now : IsReady walked In (Contains done) x = turn_now (IfOne IsReadyNext) done ids x h in
+      ⊎_elim (λ e. subst In e now.member) (λ t. members_from ids (done ++ x ∷ []) (turn_on (IfOne IsReadyNext) done ids x h) i t) (Contains-cons_cases i x ids c)
 
-  module _ (ids : List ObjectId) (turns : TurnsFrom IsReadyNext [] ids) where
-    pub each_once : AreDistinct ids
-    each_once = (once_from ids [] turns).0
+  -- What became ready stays so until it is taken: each commit of a list is in any list that ends where nothing is ready.
+  also_taken : (others : List ObjectId) → ((i : ObjectId) → IsReady walked In (Contains others) i → ⊥) → (ids done : List ObjectId) → ((i : ObjectId) → Contains done i → Contains others i) → TurnsFrom (IfOne IsReadyNext) done ids → (i : ObjectId) → Contains ids i → Contains others i
+  also_taken others none [] done before h i c = absurd (no_member i c)
+  also_taken others none (x ∷ ids) done before h i c =
+      let now : IsReady walked In (Contains done) x = turn_now (IfOne IsReadyNext) done ids x h in
+      let here : Contains others x = among_is x others (true_from_ne_false _ (λ f. none x (record { member = now.member; left = λ t. true≢false (sym (among_from x others t) ∙ f); children = λ d k. before d (now.children d k) }))) in
+      ⊎_elim (λ e. subst (Contains others) e here)
+      (λ t. also_taken others none ids (done ++ x ∷ []) (λ j m. ⊎_elim (λ d. before j d) (λ e. subst (Contains others) e here) (Contains-push_cases done x j m)) (turn_on (IfOne IsReadyNext) done ids x h) i t)
+      (Contains-cons_cases i x ids c)
 
-    pub each_member : (i : ObjectId) → Contains ids i → In i
-    each_member = members_from ids [] turns
+  module _ (ids : List ObjectId) (turns : TurnsFrom (IfOne IsReadyNext) [] ids) where
+    pub begun_once : AreDistinct ids
+    begun_once = (once_from ids [] turns).0
+
+    pub begun_members : (i : ObjectId) → Contains ids i → In i
+    begun_members = members_from ids [] turns
 
     -- a child comes before its parents
+    pub begun_children : (k : ℕ) (d p : ObjectId) → slice_get ids k ≡ Some p → IsChild walked In d p → Contains (take k ids) d
+    begun_children k d p e c = (let r : IsReady walked In (Contains (take k ids)) p = turn_at (IfOne IsReadyNext) ids turns k p e in r).children d c
+
+  module _ (ids : List ObjectId) (turns : TurnsFrom IsReadyNext [] ids) where
+    begun : TurnsFrom (IfOne IsReadyNext) [] ids
+    begun = turns_begin IsReadyNext [] ids turns
+
+    pub each_once : AreDistinct ids
+    each_once = begun_once ids begun
+
+    pub each_member : (i : ObjectId) → Contains ids i → In i
+    each_member = begun_members ids begun
+
     pub children_first : (k : ℕ) (d p : ObjectId) → slice_get ids k ≡ Some p → Contains ids d → Contains (walked d) p → Contains (take k ids) d
     children_first k d p e c n =
-        let w : suc k ≤ length ids = Rattle.std.proofs.lemmas.Option.slice_get_within ids k p e in
-        let r : IsReady walked In (Contains (take k ids)) p = subst (IsReadyNext (take k ids)) e (turns k (omega arith)) in
+        let r : IsReady walked In (Contains (take k ids)) p = turn_at IsReadyNext ids turns k p e in
         r.children d (record { child = each_member d c; parent = r.member; named = n })
 
-    none_left : (i : ObjectId) → IsReady walked In (Contains ids) i → ⊥
+    pub none_left : (i : ObjectId) → IsReady walked In (Contains ids) i → ⊥
     none_left = rw (past_end ids, take_all (length ids) ids (le_refl _)) at (turns (length ids) (le_refl _))
 
     -- a member that is missing has a child that is missing, which isn't among those seen on the way
-    missing : (finite : List ObjectId) → ((i : ObjectId) → In i → is_among i finite ≡ true) → IsAcyclic walked → (n : ℕ) (seen : List ObjectId) (i : ObjectId) → length (fresh (λ j. is_among j seen) finite) ≤ n → ((v : ObjectId) → Contains seen v → Reaches walked (walked i) v) → In i → is_among i ids ≡ false → ⊥
+    missing : (finite : List ObjectId) → ((i : ObjectId) → In i → is_among i finite ≡ true) → IsAcyclicIn walked In → (n : ℕ) (seen : List ObjectId) (i : ObjectId) → length (fresh (λ j. is_among j seen) finite) ≤ n → ((v : ObjectId) → Contains seen v → Reaches walked (walked i) v) → In i → is_among i ids ≡ false → ⊥
     missing finite within acyclic zero seen i b above m f =
-        let e : suc (length (fresh (λ j. is_same j i || is_among j seen) finite)) ≡ length (fresh (λ j. is_among j seen) finite) = new_less (λ j. is_among j seen) finite i (within i m) (false_from_ne_true _ (λ t. acyclic i (above i (among_is i seen t)))) in
+        let e : suc (length (fresh (λ j. is_same j i || is_among j seen) finite)) ≡ length (fresh (λ j. is_among j seen) finite) = new_less (λ j. is_among j seen) finite i (within i m) (false_from_ne_true _ (λ t. acyclic i m (above i (among_is i seen t)))) in
         omega arith
     missing finite within acyclic (suc n) seen i b above m f =
-        let e : suc (length (fresh (λ j. is_same j i || is_among j seen) finite)) ≡ length (fresh (λ j. is_among j seen) finite) = new_less (λ j. is_among j seen) finite i (within i m) (false_from_ne_true _ (λ t. acyclic i (above i (among_is i seen t)))) in
+        let e : suc (length (fresh (λ j. is_same j i || is_among j seen) finite)) ≡ length (fresh (λ j. is_among j seen) finite) = new_less (λ j. is_among j seen) finite i (within i m) (false_from_ne_true _ (λ t. acyclic i m (above i (among_is i seen t)))) in
         none_left i (record {
           member = m;
           left = λ c. true≢false (sym (among_from i ids c) ∙ f);
@@ -100,8 +146,13 @@ module _ (walked : ObjectId → List ObjectId) (In : ObjectId → Type 0) where
               c.child g));
         })
 
-    pub all_given : (finite : List ObjectId) → ((i : ObjectId) → In i → is_among i finite ≡ true) → IsAcyclic walked → (i : ObjectId) → In i → Contains ids i
+    pub all_given : (finite : List ObjectId) → ((i : ObjectId) → In i → is_among i finite ≡ true) → IsAcyclicIn walked In → (i : ObjectId) → In i → Contains ids i
     all_given finite within acyclic i m = among_is i ids (true_from_ne_false _ (λ f. missing finite within acyclic (length (fresh (λ j. is_among j []) finite)) [] i (le_refl _) (λ v h. absurd (no_member v h)) m f))
+
+  -- two such lists hold the same
+  pub same_set : (ids others : List ObjectId) → TurnsFrom IsReadyNext [] ids → TurnsFrom IsReadyNext [] others → (i : ObjectId) → Contains ids i ↔ Contains others i
+  same_set ids others h k i =
+      (λ c. also_taken others (none_left others k) ids [] (λ j d. absurd (no_member j d)) (turns_begin IsReadyNext [] ids h) i c, λ c. also_taken ids (none_left ids h) others [] (λ j d. absurd (no_member j d)) (turns_begin IsReadyNext [] others k) i c)
 
 best_is_ready : (time : ObjectId → ℤ) (P : ObjectId → Type 0) (o : Option ObjectId) → MatchOption o ((i : ObjectId) → P i → ⊥) (IsBest NewestFirst time P) → MatchOption o ((i : ObjectId) → P i → ⊥) P
 best_is_ready time P None h = h
@@ -109,6 +160,9 @@ best_is_ready time P (Some i) h = h.among
 
 pub date_turns : (time : ObjectId → ℤ) (walked : ObjectId → List ObjectId) (In : ObjectId → Type 0) (ids : List ObjectId) → IsDateOrder time walked In ids → TurnsFrom (IsReadyNext walked In) [] ids
 date_turns time walked In ids h k b = best_is_ready time (IsReady walked In (Contains (take k ids))) (slice_get ids k) (h k b)
+
+pub date_begins : (time : ObjectId → ℤ) (walked : ObjectId → List ObjectId) (In : ObjectId → Type 0) (ids : List ObjectId) → IsDateBeginning time walked In ids → TurnsFrom (IfOne (IsReadyNext walked In)) [] ids
+date_begins time walked In ids h = turns_by (IsReadyNext walked In) ids (λ k i e. (h k i e).among)
 
 pub among-reverse : (i : ObjectId) (xs : List ObjectId) → is_among i (reverse xs) ≡ is_among i xs
 among-reverse i xs = sym (list_any-IsPermutation (is_same i) xs (reverse xs) (IsPermutation-reverse xs))
@@ -131,28 +185,6 @@ module _ (time : ObjectId → ℤ) (walked : ObjectId → List ObjectId) (In : O
       let e : h.0 ≡ k.0 = made_one taken h.0 k.0 h.2 k.2 in
       let f : h.1 ≡ k.1 = keeps_one (IsReady walked In (Contains (c ∷ taken))) h.3 k.1 k.3 in
       h.4 ∙ (λ j. e j ++ f j) ∙ sym k.4
-
-  -- so there is one list in this order
-  one_topo : (done xs ys : List ObjectId) → TurnsFrom IsLastMade done xs → TurnsFrom IsLastMade done ys → xs ≡ ys
-  one_topo done [] [] h k = refl
-  one_topo done [] (y ∷ ys) h k = absurd (let e : None ≡ Some y = same_turn None (Some y) (turn_ended IsLastMade done h) (turn_now IsLastMade done ys y k) in cc)
-    where
-      same_turn : (o p : Option ObjectId) → IsLastMade done o → IsLastMade done p → o ≡ p
-      same_turn o p a b = a.2 ∙ ap (λ r. first_new (reverse r) done) (made_one (reverse done) a.0 b.0 a.1 b.1) ∙ sym b.2
-  one_topo done (x ∷ xs) [] h k = absurd (let e : None ≡ Some x = same_turn None (Some x) (turn_ended IsLastMade done k) (turn_now IsLastMade done xs x h) in cc)
-    where
-      same_turn : (o p : Option ObjectId) → IsLastMade done o → IsLastMade done p → o ≡ p
-      same_turn o p a b = a.2 ∙ ap (λ r. first_new (reverse r) done) (made_one (reverse done) a.0 b.0 a.1 b.1) ∙ sym b.2
-  one_topo done (x ∷ xs) (y ∷ ys) h k =
-      let a : IsLastMade done (Some x) = turn_now IsLastMade done xs x h in
-      let b : IsLastMade done (Some y) = turn_now IsLastMade done ys y k in
-      let s : Some x ≡ Some y = a.2 ∙ ap (λ r. first_new (reverse r) done) (made_one (reverse done) a.0 b.0 a.1 b.1) ∙ sym b.2 in
-      let e : x ≡ y = cc in
-      let r : xs ≡ ys = one_topo (done ++ x ∷ []) xs ys (turn_on IsLastMade done xs x h) (subst (λ z. TurnsFrom IsLastMade (done ++ z ∷ []) ys) (sym e) (turn_on IsLastMade done ys y k)) in
-      cc
-
-  pub same_topo : (xs ys : List ObjectId) → IsTopoOrder time walked In tips xs → IsTopoOrder time walked In tips ys → xs ≡ ys
-  same_topo xs ys h k = one_topo [] xs ys h k
 
   -- each was the last of those made ready, when it was taken
   abbrev WereTaken : List ObjectId → Type 0
@@ -233,3 +265,12 @@ module _ (time : ObjectId → ℤ) (walked : ObjectId → List ObjectId) (In : O
 
     pub topo_turns : (ids : List ObjectId) → IsTopoOrder time walked In tips ids → TurnsFrom (IsReadyNext walked In) [] ids
     topo_turns ids h = turns_from ids [] tt h
+
+    begins_from : (ids done : List ObjectId) → WereTaken (reverse done) → TurnsFrom (IfOne IsLastMade) done ids → TurnsFrom (IfOne (IsReadyNext walked In)) done ids
+    begins_from [] done were h = turn_none (IfOne (IsReadyNext walked In)) done tt
+    begins_from (i ∷ ids) done were h =
+        let now : IsLastMade done (Some i) = turn_now (IfOne IsLastMade) done ids i h in
+        turn_more (IfOne (IsReadyNext walked In)) done ids i (last_is_ready done (Some i) were now) (begins_from ids (done ++ i ∷ []) (taken_on done i were now) (turn_on (IfOne IsLastMade) done ids i h))
+
+    pub topo_begins : (ids : List ObjectId) → IsTopoBeginning time walked In tips ids → TurnsFrom (IfOne (IsReadyNext walked In)) [] ids
+    topo_begins ids h = begins_from ids [] tt (turns_by IsLastMade ids (λ k i e. let b = h k i e in (b.0, b.1, sym b.2)))

@@ -1,5 +1,5 @@
--- A whole topological walk takes what the definitions say, in their order.
-use Rattle.std.specs.Prelude.{◌≡◌, ◌⊎◌, ◌+◌, ◌≤◌, ◌≤ℤ◌, ℕ, List, [], ◌∷◌, ◌++◌, Bool, true, false, not, ◌&&◌, ◌||◌, cond, filter, find, reverse, Option, Some, None, Result, Ok, Err, Contains, MatchOption, All}
+-- A topological walk takes what the definitions say, in their order: all of it where it is drawn to its end.
+use Rattle.std.specs.Prelude.{◌≡◌, ◌⊎◌, ◌+◌, ◌≤◌, ◌≤ℤ◌, ℕ, List, [], ◌∷◌, ◌++◌, Bool, true, false, not, ◌&&◌, ◌||◌, cond, filter, find, take, reverse, Option, Some, None, Result, Ok, Err, Contains, MatchOption, All}
 use Rattle.std.proofs.Common.{refl, sym, ap, subst, ⊎_elim, inl, inr, ◌∙◌, arith, append-nil}
 use Rattle.std.proofs.Math.Bool.{or_comm}
 use Rattle.std.specs.List.{AllZip}
@@ -9,7 +9,7 @@ use Rattle.std.proofs.lemmas.List.{map-append, reverse-append}
 use Rattle.std.proofs.lemmas.List.Sorted.{Contains-permutation}
 use Rattle.std.proofs.lemmas.List.Elements.{Contains-append_left, Contains-append_cases, Contains-push, Contains-push_cases, All-head, All-tail, filter-append, filter_agree}
 use Rattle.std.specs.FinSet as set
-use Rattle.std.specs.Iterator.{Drains}
+use Rattle.std.specs.Iterator.{Drains, Yields}
 use Rattle.gix_hash.specs.declared.ObjectId.{ObjectId}
 use Rattle.gix_hash.specs.Id.{id_cmp, is_same, is_among}
 use Rattle.gix_object.specs.declared.find.existing_iter.Error.TheVariants as existing
@@ -27,12 +27,12 @@ use Rattle.gix_topo.specs.TopoOrder.{Keeps, last_places, IsMadeReady}
 use Rattle.gix_revwalk.specs.Infos.{IsInfo}
 use Rattle.gix_revwalk.specs.Asking.{Becomes, itself, further, AnswersBy}
 use Rattle.gix_topo.specs.Walk.{TopoPlan, TopoWalk, Ready, Counted, ready_ids, IsTaken, HoldsReady, Chooses, walked_of, IsMember, IsStored, IsSound, IsWalkable, IsFault, StartsWith, IsStarted, Takes, after, Next, ended, given, refused, failed}
-use Rattle.gix_topo.specs.Laws.{IsNoRefusal, IsSorted, IsGiven, GivesInOrder, IsWholeRun}
+use Rattle.gix_topo.specs.Laws.{IsNoRefusal, IsSorted, IsSortedBeginning, IsGiven, GivesInOrder, BeginsInOrder, IsWholeRun}
 use Rattle.gix_hash.proofs.Ids.Membership.{id_total, same_from, among-append, among-one, among_from, among_is, Contains-here, Contains-there, Contains-cons_cases, no_member}
 use Rattle.gix_revwalk.proofs.Drained.{at_end, at_first}
 use Rattle.gix_revwalk.proofs.NewIds.{times, times_is_among, among_times}
 use Rattle.gix_topo.proofs.Readiness.IsReady.{times-by_time, keeps_from, keeps_alike, AreReady, ready_alike, takes_ready, starts_ready, in_walk_top}
-use Rattle.gix_topo.proofs.Run.ReadyInTurn.{TurnsFrom, turn_none, turn_more, IsLastMade, reverse_in, in_reverse}
+use Rattle.gix_topo.proofs.Run.ReadyInTurn.{TurnsFrom, turn_none, turn_more, turn_at, IsLastMade, reverse_in, in_reverse}
 use Rattle.gix_revwalk.proofs.ReadsWhole.{walked_within}
 use Rattle.gix_topo.proofs.Readiness.ReadyIds.{from_ids, holds_times, holds_in, joined_times, chosen_times, chosen_in, others_in}
 use Rattle.gix_hash.proofs.Lists.{filter_all}
@@ -83,11 +83,19 @@ module _ {P : Type 0} (answers : P → ObjectId → Bool → P → Type 0) where
   answers_on accepts old mid i b a by = λ m n j c h s. by m n j c (becomes_on old mid i b a m h) s
 
 module _ {F P : Type 0} (objects : F → Objects) (faulty : F → ObjectId → Type 0) (answers : P → ObjectId → Bool → P → Type 0) (accepts : ObjectId → Bool) where
-  -- the commits that are taken while these answers are drawn
-  data Draws : TopoWalk F P → List ObjectId → List (Result Info Error) → Type 0 where
-    stops : {w : TopoWalk F P} → w.ready ≡ [] → Draws w [] []
-    shows : {w : TopoWalk F P} {c : Ready} {counted : Counted} {ready : List Ready} {predicate : P} {info : Info} {ids : List ObjectId} {list : List (Result Info Error)} → Takes objects faulty answers w c counted ready → accepts c.id ≡ true → IsInfo info c.id c.parents c.generation (Some c.time) → Draws (after objects faulty answers w c counted ready predicate) ids list → Draws w (c.id ∷ ids) (Ok info ∷ list)
-    hides : {w : TopoWalk F P} {c : Ready} {counted : Counted} {ready : List Ready} {predicate : P} {ids : List ObjectId} {list : List (Result Info Error)} → Takes objects faulty answers w c counted ready → accepts c.id ≡ false → Draws (after objects faulty answers w c counted ready predicate) ids list → Draws w (c.id ∷ ids) list
+  -- the commits that are taken while these answers are drawn, up to a walk that may be the last
+  data Draws (Stops : TopoWalk F P → Type 0) : TopoWalk F P → List ObjectId → List (Result Info Error) → Type 0 where
+    stops : {w : TopoWalk F P} → Stops w → Draws Stops w [] []
+    shows : {w : TopoWalk F P} {c : Ready} {counted : Counted} {ready : List Ready} {predicate : P} {info : Info} {ids : List ObjectId} {list : List (Result Info Error)} → Takes objects faulty answers w c counted ready → accepts c.id ≡ true → IsInfo info c.id c.parents c.generation (Some c.time) → Draws Stops (after objects faulty answers w c counted ready predicate) ids list → Draws Stops w (c.id ∷ ids) (Ok info ∷ list)
+    hides : {w : TopoWalk F P} {c : Ready} {counted : Counted} {ready : List Ready} {predicate : P} {ids : List ObjectId} {list : List (Result Info Error)} → Takes objects faulty answers w c counted ready → accepts c.id ≡ false → Draws Stops (after objects faulty answers w c counted ready predicate) ids list → Draws Stops w (c.id ∷ ids) list
+
+  -- drawn to its end
+  abbrev HasEnded : TopoWalk F P → Type 0
+  HasEnded w = w.ready ≡ []
+
+  -- drawn as far as one likes
+  abbrev IsAnywhere : TopoWalk F P → Type 0
+  IsAnywhere w = Unit {0}
 
   sound_fault : (plan : TopoPlan F) (Q : ObjectId → Type 0) (e : Error) → IsSound objects faulty plan → IsFault objects faulty plan Q e → (e ≡ error.Memory) ⊎ (e ≡ error.Find existing.Store)
   sound_fault plan Q error.MissingIndegreeUnexpected s f = absurd (f s.agreeing)
@@ -96,34 +104,40 @@ module _ {F P : Type 0} (objects : F → Objects) (faulty : F → ObjectId → T
   sound_fault plan Q (error.ObjectDecode e) s f = inr (f.2.store_fails s)
   sound_fault plan Q error.Memory s f = inl refl
 
-  no_answer : {w new : TopoWalk F P} {o : Option (Result Info Error)} → Next objects faulty answers w o new → o ≡ None → AnswersBy answers w.predicate accepts → (ids : List ObjectId) × Draws w ids []
+  no_answer : {w new : TopoWalk F P} {o : Option (Result Info Error)} → Next objects faulty answers w o new → o ≡ None → AnswersBy answers w.predicate accepts → (ids : List ObjectId) × Draws HasEnded w ids []
   no_answer (ended e) n by = ([], stops e)
   no_answer (given t a is) n by = cc
   no_answer (refused {old = w} {c = c} {predicate = q} t a next) n by =
-      let r : (ids : List ObjectId) × Draws (after objects faulty answers w c _ _ q) ids [] = no_answer next n (answers_on answers accepts w.predicate q c.id false a by) in
+      let r : (ids : List ObjectId) × Draws HasEnded (after objects faulty answers w c _ _ q) ids [] = no_answer next n (answers_on answers accepts w.predicate q c.id false a by) in
       (c.id ∷ r.0, hides t (sym (by w.predicate q c.id false itself a)) r.1)
   no_answer (failed c others ch f l) n by = cc
 
-  one_answer : {w new : TopoWalk F P} {o : Option (Result Info Error)} → Next objects faulty answers w o new → (answer : Result Info Error) (list : List (Result Info Error)) → o ≡ Some answer → IsNoRefusal answer → IsSound objects faulty w.plan → AnswersBy answers w.predicate accepts →
-      (IsSound objects faulty new.plan → AnswersBy answers new.predicate accepts → (ids : List ObjectId) × Draws new ids list) → (ids : List ObjectId) × Draws w ids (answer ∷ list)
-  one_answer (ended e) answer list n ok s by rest = cc
-  one_answer (given {old = w} {c = c} {predicate = q} {info = info} t a is) answer list n ok s by rest =
+  one_answer : {Stops : TopoWalk F P → Type 0} {w new : TopoWalk F P} {o : Option (Result Info Error)} → Next objects faulty answers w o new → (answer : Result Info Error) (list : List (Result Info Error)) → o ≡ Some answer → IsNoRefusal answer → IsSound objects faulty w.plan → AnswersBy answers w.predicate accepts →
+      (IsSound objects faulty new.plan → AnswersBy answers new.predicate accepts → (ids : List ObjectId) × Draws Stops new ids list) → (ids : List ObjectId) × Draws Stops w ids (answer ∷ list)
+  one_answer {Stops} (ended e) answer list n ok s by rest = cc
+  one_answer {Stops} (given {old = w} {c = c} {predicate = q} {info = info} t a is) answer list n ok s by rest =
       let same : Ok info ≡ answer = cc in
-      let r : (ids : List ObjectId) × Draws (after objects faulty answers w c _ _ q) ids list = rest s (answers_on answers accepts w.predicate q c.id true a by) in
-      (c.id ∷ r.0, subst (λ x. Draws w (c.id ∷ r.0) (x ∷ list)) same (shows t (sym (by w.predicate q c.id true itself a)) is r.1))
-  one_answer (refused {old = w} {c = c} {predicate = q} t a next) answer list n ok s by rest =
-      let r : (ids : List ObjectId) × Draws (after objects faulty answers w c _ _ q) ids (answer ∷ list) = one_answer next answer list n ok s (answers_on answers accepts w.predicate q c.id false a by) rest in
+      let r : (ids : List ObjectId) × Draws Stops (after objects faulty answers w c _ _ q) ids list = rest s (answers_on answers accepts w.predicate q c.id true a by) in
+      (c.id ∷ r.0, subst (λ x. Draws Stops w (c.id ∷ r.0) (x ∷ list)) same (shows t (sym (by w.predicate q c.id true itself a)) is r.1))
+  one_answer {Stops} (refused {old = w} {c = c} {predicate = q} t a next) answer list n ok s by rest =
+      let r : (ids : List ObjectId) × Draws Stops (after objects faulty answers w c _ _ q) ids (answer ∷ list) = one_answer next answer list n ok s (answers_on answers accepts w.predicate q c.id false a by) rest in
       (c.id ∷ r.0, hides t (sym (by w.predicate q c.id false itself a)) r.1)
-  one_answer (failed {old = w} c others {e = e} ch f l) answer list n ok s by rest =
+  one_answer {Stops} (failed {old = w} c others {e = e} ch f l) answer list n ok s by rest =
       let same : Err e ≡ answer = cc in
       absurd (⊎_elim (λ m. ok.0 (sym same ∙ ap Err m)) (λ m. ok.1 (sym same ∙ ap Err m)) (sound_fault w.plan _ e s f))
 
-  all_drawn : (list : List (Result Info Error)) (w : TopoWalk F P) → IsSound objects faulty w.plan → AnswersBy answers w.predicate accepts → All IsNoRefusal list → Drains (Next objects faulty answers) w list → (ids : List ObjectId) × Draws w ids list
+  all_drawn : (list : List (Result Info Error)) (w : TopoWalk F P) → IsSound objects faulty w.plan → AnswersBy answers w.predicate accepts → All IsNoRefusal list → Drains (Next objects faulty answers) w list → (ids : List ObjectId) × Draws HasEnded w ids list
   all_drawn [] w s by ok drawn = no_answer (at_end (Next objects faulty answers) w drawn).1 refl by
   all_drawn (answer ∷ list) w s by ok drawn =
       let first = at_first (Next objects faulty answers) w answer list drawn in
       one_answer first.1 answer list refl (All-head IsNoRefusal answer list ok) s by
       (λ t b. all_drawn list first.0 t b (All-tail IsNoRefusal answer list ok) first.2)
+
+  all_begun : (list : List (Result Info Error)) (w new : TopoWalk F P) → IsSound objects faulty w.plan → AnswersBy answers w.predicate accepts → All IsNoRefusal list → Yields (Next objects faulty answers) w list new → (ids : List ObjectId) × Draws IsAnywhere w ids list
+  all_begun [] w new s by ok drawn = ([], stops tt)
+  all_begun (answer ∷ list) w new s by ok drawn =
+      one_answer drawn.1 answer list refl (All-head IsNoRefusal answer list ok) s by
+      (λ t b. all_begun list drawn.0 new t b (All-tail IsNoRefusal answer list ok) drawn.2)
 
   stored_still : (plan : TopoPlan F) (s t : Bool) (r : Ready) → (t ≡ true → s ≡ true) → IsStored objects plan s r → IsStored objects plan t r
   stored_still plan s t r f h = record { parents = h.parents; time = h.time; by_row = h.by_row; told = λ e. h.told (f e) }
@@ -158,7 +172,7 @@ module _ {F P : Type 0} (objects : F → Objects) (faulty : F → ObjectId → T
     }
 
   -- what is given
-  draws_given : {w : TopoWalk F P} {ids : List ObjectId} {list : List (Result Info Error)} → Draws w ids list → (done : List ObjectId) → IsWalkable objects faulty w.plan → Stands w done → AllZip (IsGiven objects w.plan) list (filter accepts ids)
+  draws_given : {Stops : TopoWalk F P → Type 0} {w : TopoWalk F P} {ids : List ObjectId} {list : List (Result Info Error)} → Draws Stops w ids list → (done : List ObjectId) → IsWalkable objects faulty w.plan → Stands w done → AllZip (IsGiven objects w.plan) list (filter accepts ids)
   draws_given (stops e) done s h = tt
   draws_given (shows {w = w} {c = c} {counted = counted} {ready = ready} {predicate = q} {info = info} {ids = ids} {list = list} t a is d) done s h =
       let r : IsStored objects w.plan w.counted.standing c = h.stored c (chosen_in w.plan.sorting w.ready c t.others t.chosen) in
@@ -168,6 +182,22 @@ module _ {F P : Type 0} (objects : F → Objects) (faulty : F → ObjectId → T
       )
   draws_given (hides {w = w} {c = c} {counted = counted} {ready = ready} {predicate = q} {ids = ids} {list = list} t a d) done s h =
       subst (λ b. AllZip (IsGiven objects w.plan) list (cond b (c.id ∷ filter accepts ids) (filter accepts ids))) (sym a) (draws_given d (done ++ c.id ∷ []) s (stands_on w done s c counted ready t h q))
+
+  -- what is so of each commit as it is taken, and where the walk may stop
+  module _ (Stops : TopoWalk F P → Type 0) (Holds : TopoWalk F P → List ObjectId → Type 0) (Q : TopoPlan F → List ObjectId → Option ObjectId → Type 0)
+      (last : (w : TopoWalk F P) (done : List ObjectId) → Holds w done → Stops w → Q w.plan done None)
+      (now : (w : TopoWalk F P) (done : List ObjectId) (c : Ready) (counted : Counted) (ready : List Ready) → Takes objects faulty answers w c counted ready → Holds w done → Q w.plan done (Some c.id))
+      (on : (w : TopoWalk F P) (done : List ObjectId) (c : Ready) (counted : Counted) (ready : List Ready) (predicate : P) → Takes objects faulty answers w c counted ready → Holds w done → Holds (after objects faulty answers w c counted ready predicate) (done ++ c.id ∷ [])) where
+    draws_turns : {w : TopoWalk F P} {ids : List ObjectId} {list : List (Result Info Error)} → Draws Stops w ids list → (done : List ObjectId) → Holds w done → TurnsFrom (Q w.plan) done ids
+    draws_turns (stops {w = w} e) done h = turn_none (Q w.plan) done (last w done h e)
+    draws_turns (shows {w = w} {c = c} {counted = counted} {ready = ready} {predicate = q} {ids = ids} t a is d) done h =
+        turn_more (Q w.plan) done ids c.id (now w done c counted ready t h) (draws_turns d (done ++ c.id ∷ []) (on w done c counted ready q t h))
+    draws_turns (hides {w = w} {c = c} {counted = counted} {ready = ready} {predicate = q} {ids = ids} t a d) done h =
+        turn_more (Q w.plan) done ids c.id (now w done c counted ready t h) (draws_turns d (done ++ c.id ∷ []) (on w done c counted ready q t h))
+
+  -- Q of the next one, if there is one
+  abbrev IfOne : (List ObjectId → Option ObjectId → Type 0) → List ObjectId → Option ObjectId → Type 0
+  IfOne Q done o = MatchOption o (Unit {0}) (λ i. Q done (Some i))
 
   -- a ready one of greatest time
   abbrev IsBestNext : TopoPlan F → List ObjectId → Option ObjectId → Type 0
@@ -190,12 +220,22 @@ module _ {F P : Type 0} (objects : F → Objects) (faulty : F → ObjectId → T
             (Contains-cons_cases k.0 c others (Contains-permutation w.ready (c ∷ others) k.0 ch.0 k.1));
       }
 
-  draws_date : {w : TopoWalk F P} {ids : List ObjectId} {list : List (Result Info Error)} → Draws w ids list → (done : List ObjectId) → IsWalkable objects faulty w.plan → Stands w done → w.plan.sorting ≡ order.DateOrder → TurnsFrom (IsBestNext w.plan) done ids
-  draws_date (stops {w = w} e) done s h o = turn_none (IsBestNext w.plan) done (none_best w done h e)
-  draws_date (shows {w = w} {c = c} {counted = counted} {ready = ready} {predicate = q} {ids = ids} t a is d) done s h o =
-      turn_more (IsBestNext w.plan) done ids c.id (best_next w done h c t.others (subst (λ x. Chooses x w.ready c t.others) o t.chosen)) (draws_date d (done ++ c.id ∷ []) s (stands_on w done s c counted ready t h q) o)
-  draws_date (hides {w = w} {c = c} {counted = counted} {ready = ready} {predicate = q} {ids = ids} t a d) done s h o =
-      turn_more (IsBestNext w.plan) done ids c.id (best_next w done h c t.others (subst (λ x. Chooses x w.ready c t.others) o t.chosen)) (draws_date d (done ++ c.id ∷ []) s (stands_on w done s c counted ready t h q) o)
+  record GoesByDate (w : TopoWalk F P) (done : List ObjectId) : Type 0 where
+    walkable : IsWalkable objects faulty w.plan
+    stands : Stands w done
+    by_date : w.plan.sorting ≡ order.DateOrder
+
+  date_now : (w : TopoWalk F P) (done : List ObjectId) (c : Ready) (counted : Counted) (ready : List Ready) → Takes objects faulty answers w c counted ready → GoesByDate w done → IsBestNext w.plan done (Some c.id)
+  date_now w done c counted ready t h = best_next w done h.stands c t.others (subst (λ x. Chooses x w.ready c t.others) h.by_date t.chosen)
+
+  date_on : (w : TopoWalk F P) (done : List ObjectId) (c : Ready) (counted : Counted) (ready : List Ready) (predicate : P) → Takes objects faulty answers w c counted ready → GoesByDate w done → GoesByDate (after objects faulty answers w c counted ready predicate) (done ++ c.id ∷ [])
+  date_on w done c counted ready predicate t h = record { walkable = h.walkable; stands = stands_on w done h.walkable c counted ready t h.stands predicate; by_date = h.by_date }
+
+  draws_date : {w : TopoWalk F P} {ids : List ObjectId} {list : List (Result Info Error)} → Draws HasEnded w ids list → (done : List ObjectId) → GoesByDate w done → TurnsFrom (IsBestNext w.plan) done ids
+  draws_date = draws_turns HasEnded GoesByDate IsBestNext (λ w done h e. none_best w done h.stands e) date_now date_on
+
+  begins_date : {w : TopoWalk F P} {ids : List ObjectId} {list : List (Result Info Error)} → Draws IsAnywhere w ids list → (done : List ObjectId) → GoesByDate w done → TurnsFrom (IfOne (IsBestNext w.plan)) done ids
+  begins_date = draws_turns IsAnywhere GoesByDate (λ plan. IfOne (IsBestNext plan)) (λ w done h e. tt) date_now date_on
 
   -- the ready ones are those made ready and not taken, in their order
   abbrev made_of : TopoPlan F → List ObjectId → List ObjectId → Type 0
@@ -273,12 +313,23 @@ module _ {F P : Type 0} (objects : F → Objects) (faulty : F → ObjectId → T
           both true b = refl
           both false b = refl
 
-  draws_topo : {w : TopoWalk F P} {ids : List ObjectId} {list : List (Result Info Error)} → Draws w ids list → (done : List ObjectId) → IsWalkable objects faulty w.plan → Stands w done → Stacks w done → w.plan.sorting ≡ order.TopoOrder → TurnsFrom (IsLastNext w.plan) done ids
-  draws_topo (stops {w = w} e) done s h k o = turn_none (IsLastNext w.plan) done (none_last w done k e)
-  draws_topo (shows {w = w} {c = c} {counted = counted} {ready = ready} {predicate = q} {ids = ids} t a is d) done s h k o =
-      turn_more (IsLastNext w.plan) done ids c.id (last_next w done c t.others k (subst (λ x. Chooses x w.ready c t.others) o t.chosen)) (draws_topo d (done ++ c.id ∷ []) s (stands_on w done s c counted ready t h q) (stacks_on w done s c counted ready t h k o q) o)
-  draws_topo (hides {w = w} {c = c} {counted = counted} {ready = ready} {predicate = q} {ids = ids} t a d) done s h k o =
-      turn_more (IsLastNext w.plan) done ids c.id (last_next w done c t.others k (subst (λ x. Chooses x w.ready c t.others) o t.chosen)) (draws_topo d (done ++ c.id ∷ []) s (stands_on w done s c counted ready t h q) (stacks_on w done s c counted ready t h k o q) o)
+  record GoesByStack (w : TopoWalk F P) (done : List ObjectId) : Type 0 where
+    walkable : IsWalkable objects faulty w.plan
+    stands : Stands w done
+    stacks : Stacks w done
+    by_topo : w.plan.sorting ≡ order.TopoOrder
+
+  topo_now : (w : TopoWalk F P) (done : List ObjectId) (c : Ready) (counted : Counted) (ready : List Ready) → Takes objects faulty answers w c counted ready → GoesByStack w done → IsLastNext w.plan done (Some c.id)
+  topo_now w done c counted ready t h = last_next w done c t.others h.stacks (subst (λ x. Chooses x w.ready c t.others) h.by_topo t.chosen)
+
+  topo_on : (w : TopoWalk F P) (done : List ObjectId) (c : Ready) (counted : Counted) (ready : List Ready) (predicate : P) → Takes objects faulty answers w c counted ready → GoesByStack w done → GoesByStack (after objects faulty answers w c counted ready predicate) (done ++ c.id ∷ [])
+  topo_on w done c counted ready predicate t h = record { walkable = h.walkable; stands = stands_on w done h.walkable c counted ready t h.stands predicate; stacks = stacks_on w done h.walkable c counted ready t h.stands h.stacks h.by_topo predicate; by_topo = h.by_topo }
+
+  draws_topo : {w : TopoWalk F P} {ids : List ObjectId} {list : List (Result Info Error)} → Draws HasEnded w ids list → (done : List ObjectId) → GoesByStack w done → TurnsFrom (IsLastNext w.plan) done ids
+  draws_topo = draws_turns HasEnded GoesByStack IsLastNext (λ w done h e. none_last w done h.stacks e) topo_now topo_on
+
+  begins_topo : {w : TopoWalk F P} {ids : List ObjectId} {list : List (Result Info Error)} → Draws IsAnywhere w ids list → (done : List ObjectId) → GoesByStack w done → TurnsFrom (IfOne (IsLastNext w.plan)) done ids
+  begins_topo = draws_turns IsAnywhere GoesByStack (λ plan. IfOne (IsLastNext plan)) (λ w done h e. tt) topo_now topo_on
 
   -- a walk that was built
   pub starts_stands : (w : TopoWalk F P) → IsWalkable objects faulty w.plan → IsStarted objects faulty answers w → Stands w []
@@ -298,12 +349,30 @@ module _ {F P : Type 0} (objects : F → Objects) (faulty : F → ObjectId → T
       let held : w.ready ≡ st.starts = subst (λ x. HoldsReady x st.starts w.ready) o st.holds in
       record { made = ready_ids st.starts; is_made = (st.childless, st.kept, st.sorted); left = ap ready_ids held ∙ sym (filter_all (λ i. not false) (ready_ids st.starts) (λ i c. refl)) }
 
-  in_order : (w : TopoWalk F P) (ids : List ObjectId) (list : List (Result Info Error)) → Draws w ids list → IsWalkable objects faulty w.plan → IsStarted objects faulty answers w → (s : Sorting) → w.plan.sorting ≡ s → IsSorted s (time_of (objects w.plan.store)) (walked_of objects w.plan) (IsMember objects w.plan) w.plan.tips ids
-  in_order w ids list d sound st order.DateOrder e = draws_date d [] sound (starts_stands w sound st) e
-  in_order w ids list d sound st order.TopoOrder e = draws_topo d [] sound (starts_stands w sound st) (starts_stacks w sound st e) e
+  starts_date : (w : TopoWalk F P) → IsWalkable objects faulty w.plan → IsStarted objects faulty answers w → w.plan.sorting ≡ order.DateOrder → GoesByDate w []
+  starts_date w sound h o = record { walkable = sound; stands = starts_stands w sound h; by_date = o }
+
+  starts_topo : (w : TopoWalk F P) → IsWalkable objects faulty w.plan → IsStarted objects faulty answers w → w.plan.sorting ≡ order.TopoOrder → GoesByStack w []
+  starts_topo w sound h o = record { walkable = sound; stands = starts_stands w sound h; stacks = starts_stacks w sound h o; by_topo = o }
+
+  in_order : (w : TopoWalk F P) (ids : List ObjectId) (list : List (Result Info Error)) → Draws HasEnded w ids list → IsWalkable objects faulty w.plan → IsStarted objects faulty answers w → (s : Sorting) → w.plan.sorting ≡ s → IsSorted s (time_of (objects w.plan.store)) (walked_of objects w.plan) (IsMember objects w.plan) w.plan.tips ids
+  in_order w ids list d sound st order.DateOrder e = draws_date d [] (starts_date w sound st e)
+  in_order w ids list d sound st order.TopoOrder e = draws_topo d [] (starts_topo w sound st e)
 
   -- a whole run
   pub gives : (w : TopoWalk F P) (list : List (Result Info Error)) → IsWholeRun objects faulty answers w accepts list → GivesInOrder objects w.plan accepts list
   gives w list run =
-      let d : (ids : List ObjectId) × Draws w ids list = all_drawn list w run.sound run.by_test run.unrefused run.drawn in
+      let d : (ids : List ObjectId) × Draws HasEnded w ids list = all_drawn list w run.sound run.by_test run.unrefused run.drawn in
       record { ids = d.0; in_order = in_order w d.0 list d.1 (walkable objects faulty w.plan run.sound) run.started w.plan.sorting refl; given = draws_given d.1 [] (walkable objects faulty w.plan run.sound) (starts_stands w (walkable objects faulty w.plan run.sound) run.started) }
+
+  begins_sorted : (w : TopoWalk F P) (ids : List ObjectId) (list : List (Result Info Error)) → Draws IsAnywhere w ids list → IsWalkable objects faulty w.plan → IsStarted objects faulty answers w → (s : Sorting) → w.plan.sorting ≡ s → IsSortedBeginning s (time_of (objects w.plan.store)) (walked_of objects w.plan) (IsMember objects w.plan) w.plan.tips ids
+  begins_sorted w ids list d sound st order.DateOrder e = turn_at (IfOne (IsBestNext w.plan)) ids (begins_date d [] (starts_date w sound st e))
+  begins_sorted w ids list d sound st order.TopoOrder e = λ k i at.
+      let h : IsLastNext w.plan (take k ids) (Some i) = turn_at (IfOne (IsLastNext w.plan)) ids (begins_topo d [] (starts_topo w sound st e)) k i at in
+      (h.0, h.1, sym h.2)
+
+  -- a beginning of a run
+  pub begins : (w new : TopoWalk F P) (list : List (Result Info Error)) → AnswersBy answers w.predicate accepts → IsStarted objects faulty answers w → IsSound objects faulty w.plan → All IsNoRefusal list → Yields (Next objects faulty answers) w list new → BeginsInOrder objects w.plan accepts list
+  begins w new list by st sound ok drawn =
+      let d : (ids : List ObjectId) × Draws IsAnywhere w ids list = all_begun list w new sound by ok drawn in
+      record { ids = d.0; in_order = begins_sorted w d.0 list d.1 (walkable objects faulty w.plan sound) st w.plan.sorting refl; given = draws_given d.1 [] (walkable objects faulty w.plan sound) (starts_stands w (walkable objects faulty w.plan sound) st) }

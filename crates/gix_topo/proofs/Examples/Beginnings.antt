@@ -1,0 +1,20 @@
+-- Beginnings in the orders of topological walks: a list in order that is cut anywhere is one.
+use Rattle.std.specs.Prelude.{◌≡◌, ◌≤◌, ℕ, zero, suc, ℤ, List, [], ◌∷◌, ◌++◌, take, slice_get, Option, Some}
+use Rattle.std.proofs.Common.{refl, sym, subst, arith, append_assoc, append-nil}
+use Rattle.gix_hash.specs.declared.ObjectId.{ObjectId}
+use Rattle.gix_topo.specs.DateOrder.{IsDateOrder, IsDateBeginning}
+use Rattle.gix_topo.specs.TopoOrder.{IsTopoOrder, IsTopoBeginning}
+use Rattle.gix_topo.proofs.Run.ReadyInTurn.{TurnsFrom, turn_now, turn_on, IsLastMade}
+use Rattle.gix_topo.proofs.Run.OneList.{IsBestNext}
+
+cut_short : (Q : List ObjectId → Option ObjectId → Type 0) (ids rest done : List ObjectId) → TurnsFrom Q done (ids ++ rest) → (k : ℕ) (i : ObjectId) → slice_get ids k ≡ Some i → Q (done ++ take k ids) (Some i)
+cut_short Q [] rest done h k i e = let w : suc k ≤ 0 = Rattle.std.proofs.lemmas.Option.slice_get_within [] k i e in absurd (omega arith)
+cut_short Q (x ∷ ids) rest done h zero i e = rw append-nil (subst (λ o. Q done o) e (turn_now Q done (ids ++ rest) x h))
+cut_short Q (x ∷ ids) rest done h (suc k) i e = rw append_assoc at (cut_short Q ids rest (done ++ x ∷ []) (turn_on Q done (ids ++ rest) x h) k i e)
+
+module _ (time : ObjectId → ℤ) (walked : ObjectId → List ObjectId) (In : ObjectId → Type 0) where
+  pub date_cut : (ids rest : List ObjectId) → IsDateOrder time walked In (ids ++ rest) → IsDateBeginning time walked In ids
+  date_cut ids rest h = cut_short (IsBestNext time walked In) ids rest [] h
+
+  pub topo_cut : (tips ids rest : List ObjectId) → IsTopoOrder time walked In tips (ids ++ rest) → IsTopoBeginning time walked In tips ids
+  topo_cut tips ids rest h = λ k i e. let l : IsLastMade time walked In tips (take k ids) (Some i) = cut_short (IsLastMade time walked In tips) ids rest [] h k i e in (l.0, l.1, sym l.2)
