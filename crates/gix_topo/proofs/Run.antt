@@ -2,7 +2,9 @@
 pub mod ReadyInTurn
 -- Each order is one list.
 pub mod OneList
--- A whole walk takes what the definitions say, in their order.
+-- Parents and members that are said in two ways which agree give the same orders.
+pub mod SameOrder
+-- A whole walk takes what the definitions say, in their order: by the texts, and, over a sound history, by the store.
 pub mod Theorem
 -- Every walk ends, asks about each commit once, and gives nothing after a fault.
 pub mod Ends

@@ -17,7 +17,7 @@ use Rattle.gix_revwalk.specs.Ids.{AreDistinct}
 use Rattle.gix_topo.specs.WalkSet.{IsInWalk, IsAcyclicIn}
 use Rattle.gix_topo.specs.DateOrder.{IsDateOrder}
 use Rattle.gix_topo.specs.TopoOrder.{IsTopoOrder}
-use Rattle.gix_topo.specs.Walk.{TopoPlan, TopoWalk, walked_of, row_generation, IsMember, IsStarted, IsSound, IsWalkable, IsLeft, IsFault, IsLate, IsCounting, IsKnown, Next}
+use Rattle.gix_topo.specs.Walk.{TopoPlan, TopoWalk, walked_of, row_generation, IsMember, IsStarted, IsSound, IsLeft, IsFault, IsLate, IsCounting, IsKnown, Next}
 use Rattle.gix_topo.specs.Laws.{IsTakenInOrder, IsWholeRun, IsGiven, GivesInOrder, BeginsInOrder, GivesDifference, IsNoRefusal, answers_left, given_ids}
 use Rattle.gix_revwalk.specs.Asking.{AnswersBy, AsksAll}
 
@@ -166,7 +166,7 @@ module _ {F P : Type 0} (objects : F → Objects) (faulty : F → ObjectId → T
   TellsTheGenerations =
       (walk mid new : TopoWalk F P) (list : List (Result Info Error)) (info : Info)
       → IsStarted objects faulty answers walk
-      → IsWalkable objects faulty walk.plan
+      → IsAgreeing (objects walk.plan.store) walk.plan.rows
       → Yields (Next objects faulty answers) walk list mid
       → Next objects faulty answers mid (Some (Ok info)) new
       → new.counted.standing ≡ true
@@ -177,7 +177,7 @@ module _ {F P : Type 0} (objects : F → Objects) (faulty : F → ObjectId → T
   CountsDownToTheDepth =
       (walk new : TopoWalk F P) (list : List (Result Info Error))
       → IsStarted objects faulty answers walk
-      → IsWalkable objects faulty walk.plan
+      → IsAgreeing (objects walk.plan.store) walk.plan.rows
       → Yields (Next objects faulty answers) walk list new
       → ((e : Error) → Contains list (Err e) → ⊥)
       → IsCounting objects walk.plan new.counted

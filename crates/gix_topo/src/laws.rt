@@ -97,15 +97,15 @@ pub fn parents_known<F: Find, P: Predicate>()
     ensures { ParentsAreKnown F.objects F.faulty P.answers }
 {}
 
-/// A walk that was built, where the rows agree and all that is walked reads whole: as long as the rows are in use, a commit is given
-/// with the generation of its row, and with none where it has no row.
+/// A walk that was built, where the rows agree or there are none: as long as the rows are in use, a commit is given with the generation
+/// of its row, and with none where it has no row.
 pub fn tells<F: Find, P: Predicate>()
     ensures { TellsTheGenerations F.objects F.faulty P.answers }
 {}
 
-/// A walk that was built, where the rows agree and all that is walked reads whole, and that gave no fault: as long as the rows are in
-/// use, counting has read the parents of exactly the commits that tips or ends reach and that aren't below its depth, and no such
-/// commit has a corrupt row. The rows are dropped only for one; then it has read the parents of all that tips or ends reach.
+/// A walk that was built, where the rows agree or there are none, and that gave no fault: as long as the rows are in use, counting has
+/// read the parents of exactly the commits that tips or ends reach, by the parents that texts name, and that aren't below its depth,
+/// and no such commit has a corrupt row. The rows are dropped only for one; then it has read the parents of all that tips or ends reach.
 pub fn counts<F: Find, P: Predicate>()
     ensures { CountsDownToTheDepth F.objects F.faulty P.answers }
 {}

@@ -27,7 +27,7 @@ use Rattle.gix_topo.specs.Inside.Searched.{IsCounted, IsBegun, IsExplored, next_
 use Rattle.gix_hash.specs.Reach.{Reaches}
 use Rattle.gix_topo.specs.Inside.Starting.{HasBegun, MeetsAll}
 use Rattle.gix_topo.specs.Inside.Steady.{IsDone, HasCounted}
-use Rattle.gix_topo.specs.Walk.{IsFirstReady, IsBuildFault, IsCommitRead, IsCounting, IsWalkable, IsReached}
+use Rattle.gix_topo.specs.Walk.{IsFirstReady, IsBuildFault, IsCommitRead, IsCounting, IsReached}
 use Rattle.gix_topo.proofs.Counts.ExploreKeeps.{explores_keep, explores_made, explores_same, explores_still}
 use Rattle.gix_topo.proofs.Counts.Expanded.{counts_on, explores_read}
 use Rattle.gix_topo.proofs.Counts.AllDownToDepth.{exact_there}
@@ -142,7 +142,7 @@ module _ {F : Type 0} (objects : F → Objects) (faulty : F → ObjectId → Typ
       dropped = λ f. absurd (true≢false (sym start.stands ∙ f));
     }
 
-    counts : IsWalkable objects faulty (plan_by low sorting tips ends) → HasCounted objects (plan_by low sorting tips ends) explored × IsCounting objects (plan_by low sorting tips ends) (counted_by explored)
+    counts : IsAgreeing (objects (plan_by low sorting tips ends).store) (plan_by low sorting tips ends).rows → HasCounted objects (plan_by low sorting tips ends) explored × IsCounting objects (plan_by low sorting tips ends) (counted_by explored)
     counts sound = counts_on objects faulty sorting tips ends (λ i. false) low explored sound (counted_low (λ i. false) (λ i. refl)) start.begun counts_low (λ i d. absurd (undone i d)) explores rested
 
     low_depth : Rows ≡ [] → low.depth ≤ infinity
