@@ -126,7 +126,7 @@ module _ {F : Type 0} (objects : F → Objects) (faulty : F → ObjectId → Typ
 
     -- a step keeps what holds of the done commits
     steps_counts : (old new : Counting F) → IsAgreeing (objects (Plan old).store) (Plan old).rows → Told (Plan old) old.frontier → is_pending old.reader.standing old.depth old.frontier.queue ≡ true → Steps objects faulty old new → HasCounted objects (Plan old) old → HasCounted objects (Plan old) new
-    steps_counts old new sound counted pending s h = record {
+    steps_counts old new agrees counted pending s h = record {
       number = steps_number old new s h.number;
       high = λ e i d. subst (λ n. n ≤ known_generation (Plan old).rows i) (sym s.same.depth) (⊎_elim (λ q. subst (λ j. old.depth ≤ known_generation (Plan old).rows j) q (high (reads_stands objects faulty s.reads.reads e))) (λ o. h.high (reads_stands objects faulty s.reads.reads e) i o) (steps_to old new s i d));
       dropped = λ e. subst (IsBrokenRow objects (Plan old)) (sym s.same.depth) (drops old.reader.standing refl e);
@@ -139,22 +139,22 @@ module _ {F : Type 0} (objects : F → Objects) (faulty : F → ObjectId → Typ
         high e = subst (λ n. old.depth ≤ n) (counted.searched.keyed s.entry queued) (top_high old.reader.standing old.depth old.frontier.queue s.entry s.first pending e)
 
         is_reached : IsReached objects (Plan old) s.entry.1.id
-        is_reached = done_reached (Plan old) new.frontier (steps_keep objects faulty tips ends taken old new sound s counted).searched s.entry.1.id (steps_here old new s)
+        is_reached = done_reached (Plan old) new.frontier (steps_keep objects faulty tips ends taken old new agrees s counted).searched s.entry.1.id (steps_here old new s)
 
         drops : (b : Bool) → old.reader.standing ≡ b → new.reader.standing ≡ false → IsBrokenRow objects (Plan old) old.depth
-        drops true q e = broken (Plan old) sound old.depth s.entry.1.id is_reached (high q) (reads_drops objects faulty s.reads.reads q e)
+        drops true q e = broken (Plan old) agrees old.depth s.entry.1.id is_reached (high q) (reads_drops objects faulty s.reads.reads q e)
         drops false q e = h.dropped q
 
     same_plan : {old new : Counting F} → IsSamePlan objects faulty old new → Plan new ≡ Plan old
     same_plan s k = record { store = s.find k; rows = rows_of (s.graph k); parents = s.parents k; sorting = sorting; tips = tips; ends = ends }
 
     explores_counts : {old new : Counting F} → IsAgreeing (objects (Plan old).store) (Plan old).rows → Told (Plan old) old.frontier → Explores objects faulty old new → HasCounted objects (Plan old) old → HasCounted objects (Plan old) new
-    explores_counts sound counted itself h = h
-    explores_counts {old = old} sound counted (further {mid = mid} {new = new} e p s) h =
+    explores_counts agrees counted itself h = h
+    explores_counts {old = old} agrees counted (further {mid = mid} {new = new} e p s) h =
         let same : Plan mid ≡ Plan old = same_plan (explores_same objects faulty e) in
-        let there : Told (Plan old) mid.frontier = explores_keep objects faulty tips ends taken sound e counted in
-        let before : HasCounted objects (Plan old) mid = explores_counts sound counted e h in
-        subst (λ plan. HasCounted objects plan new) same (steps_counts mid new (subst (λ plan. IsAgreeing (objects plan.store) plan.rows) (sym same) sound) (subst (λ plan. Told plan mid.frontier) (sym same) there) p s (subst (λ plan. HasCounted objects plan mid) (sym same) before))
+        let there : Told (Plan old) mid.frontier = explores_keep objects faulty tips ends taken agrees e counted in
+        let before : HasCounted objects (Plan old) mid = explores_counts agrees counted e h in
+        subst (λ plan. HasCounted objects plan new) same (steps_counts mid new (subst (λ plan. IsAgreeing (objects plan.store) plan.rows) (sym same) agrees) (subst (λ plan. Told plan mid.frontier) (sym same) there) p s (subst (λ plan. HasCounted objects plan mid) (sym same) before))
 
     -- what is done after exploring was read
     pub explores_read : {old new : Counting F} → Explores objects faulty old new → AreRead objects faulty (Plan old) old → AreRead objects faulty (Plan old) new
@@ -167,19 +167,19 @@ module _ {F : Type 0} (objects : F → Objects) (faulty : F → ObjectId → Typ
 
     -- after exploring, what holds of the done commits holds of all that is reached down to the depth
     pub counts_on : (low explored : Counting F) → IsAgreeing (objects (Plan low).store) (Plan low).rows → Told (Plan low) low.frontier → ((side : Side) → IsBegun tips ends side low.frontier) → HasCounted objects (Plan low) low → AreRead objects faulty (Plan low) low → Explores objects faulty low explored → IsRested explored.reader.standing explored.depth explored.frontier.queue → HasCounted objects (Plan low) explored × IsCounting objects (Plan low) (counted_by explored)
-    counts_on low explored sound counted begun h reads e rested = (counts, record { exact = exact; all = all; dropped = counts.dropped; whole = whole })
+    counts_on low explored agrees counted begun h reads e rested = (counts, record { exact = exact; all = all; dropped = counts.dropped; whole = whole })
       where
         counts : HasCounted objects (Plan low) explored
-        counts = explores_counts sound counted e h
+        counts = explores_counts agrees counted e h
 
         there : Told (Plan low) explored.frontier
-        there = explores_keep objects faulty tips ends taken sound e counted
+        there = explores_keep objects faulty tips ends taken agrees e counted
 
         -- what is reached, and isn't below a depth to which exploring rests, is done
         done_down : (depth : ℕ) → IsRested explored.reader.standing depth explored.frontier.queue → (i : ObjectId) → IsInDepth objects (Plan low) depth i → IsDone explored.frontier i
         done_down depth rests i d =
             let there_by : (side : Side) → Reaches (next_by (objects low.reader.find) low.parents side) (starts_by tips ends side) i → is_done (reached explored.frontier.known side i) ≡ true =
-            λ side r. exact_down (objects low.reader.find) (faulty low.reader.find) (Plan low).rows low.parents tips ends sound explored.frontier explored.reader.standing depth there.searched rests side (λ j m. explores_still objects faulty e side j (begun side j m)) i r d.high in
+            λ side r. exact_down (objects low.reader.find) (faulty low.reader.find) (Plan low).rows low.parents tips ends agrees explored.frontier explored.reader.standing depth there.searched rests side (λ j m. explores_still objects faulty e side j (begun side j m)) i r d.high in
             ⊎_elim (λ a. inl (there_by Tips a))
             (λ b. inr (there_by Ends b)) d.reached
 

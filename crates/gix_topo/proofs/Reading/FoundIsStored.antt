@@ -60,9 +60,9 @@ module _ {F : Type 0} (objects : F → Objects) (faulty : F → ObjectId → Typ
 
   -- with rows that agree, it is as its text and the rows say
   pub found_stored : {stood standing : Bool} {r : Ready} → IsAgreeing (objects plan.store) plan.rows → IsFound objects faulty plan stood standing r → IsStored objects plan standing r
-  found_stored {r = r} sound f = record {
-    parents = found_text sound f;
-    time = let same : Some r.time ≡ Some (time_of (objects plan.store) r.id) = sym f.is.same_time ∙ reads_time (objects plan.store) (faulty plan.store) plan.rows sound f.reads in cc;
-    by_row = subst (IsRowGeneration plan.rows r.id) f.is.same_generation (reads_row (objects plan.store) (faulty plan.store) plan.rows sound f.reads);
-    told = λ e. sym f.is.same_generation ∙ reads_told (objects plan.store) (faulty plan.store) plan.rows sound f.reads (f.later e);
+  found_stored {r = r} agrees f = record {
+    parents = found_text agrees f;
+    time = let same : Some r.time ≡ Some (time_of (objects plan.store) r.id) = sym f.is.same_time ∙ reads_time (objects plan.store) (faulty plan.store) plan.rows agrees f.reads in cc;
+    by_row = subst (IsRowGeneration plan.rows r.id) f.is.same_generation (reads_row (objects plan.store) (faulty plan.store) plan.rows agrees f.reads);
+    told = λ e. sym f.is.same_generation ∙ reads_told (objects plan.store) (faulty plan.store) plan.rows agrees f.reads (f.later e);
   }

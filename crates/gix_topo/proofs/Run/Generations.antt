@@ -19,7 +19,7 @@ module _ {F P : Type 0} (objects : F → Objects) (faulty : F → ObjectId → T
   Tells w = w.counted.standing ≡ true → (r : Ready) → Contains w.ready r → r.generation ≡ row_generation (row_of w.plan.rows r.id)
 
   tells_on : (w : TopoWalk F P) (c : Ready) (counted : Counted) (ready : List Ready) (predicate : P) → Takes objects faulty answers w c counted ready → IsAgreeing (objects w.plan.store) w.plan.rows → Tells w → Tells (after objects faulty answers w c counted ready predicate)
-  tells_on w c counted ready predicate t sound h = λ e r m. ⊎_elim (λ o. h (t.adds.stands e) r (others_in w.plan.sorting w.ready c t.others t.chosen r o)) (λ a. (t.adds.stored sound r a).told e)
+  tells_on w c counted ready predicate t agrees h = λ e r m. ⊎_elim (λ o. h (t.adds.stands e) r (others_in w.plan.sorting w.ready c t.others t.chosen r o)) (λ a. (t.adds.stored agrees r a).told e)
       (Contains-append_cases t.others t.added r (holds_in w.plan.sorting (t.others ++ t.added) ready t.holds r m))
 
   record Told (w new : TopoWalk F P) (o : Option (Result Info Error)) : Type 0 where

@@ -147,7 +147,7 @@ module _ {F P : Type 0} (objects : F → Objects) (faulty : F → ObjectId → T
     pub ready : AreReady (text_walked objects w.plan) (IsTextMember objects w.plan) (Contains done) (ready_ids w.ready)
     pub stored : (r : Ready) → Contains w.ready r → IsStored objects w.plan w.counted.standing r
 
-  module _ (w : TopoWalk F P) (done : List ObjectId) (sound : IsAgreeing (objects w.plan.store) w.plan.rows) (c : Ready) (counted : Counted) (ready : List Ready) (t : Takes objects faulty answers w c counted ready) (h : Stands w done) where
+  module _ (w : TopoWalk F P) (done : List ObjectId) (agrees : IsAgreeing (objects w.plan.store) w.plan.rows) (c : Ready) (counted : Counted) (ready : List Ready) (t : Takes objects faulty answers w c counted ready) (h : Stands w done) where
     taken_now : (i : ObjectId) → set.contains (set.insert w.taken c.id) i ≡ is_among i (done ++ c.id ∷ [])
     taken_now i = set.contains-insert id_total w.taken c.id i ∙ or_comm (is_same i c.id) (set.contains w.taken i) ∙ ap (λ b. b || is_same i c.id) (h.taken i) ∙ sym (among-append i done (c.id ∷ []) ∙ ap (λ b. is_among i done || b) (among-one i c.id))
 
@@ -157,7 +157,7 @@ module _ {F P : Type 0} (objects : F → Objects) (faulty : F → ObjectId → T
         let g : (i : ObjectId) → Contains (done ++ c.id ∷ []) i → IsTaken (set.insert w.taken c.id) i = λ i e. taken_now i ∙ among_from i _ e in
         keeps_alike _ (IsReady (text_walked objects w.plan) (IsTextMember objects w.plan) (Contains (done ++ c.id ∷ [])))
         (ready_alike (text_walked objects w.plan) (IsTextMember objects w.plan) (IsTaken (set.insert w.taken c.id)) (Contains (done ++ c.id ∷ [])) f g)
-        (ready_alike (text_walked objects w.plan) (IsTextMember objects w.plan) (Contains (done ++ c.id ∷ [])) (IsTaken (set.insert w.taken c.id)) g f) (t.adds.became sound)
+        (ready_alike (text_walked objects w.plan) (IsTextMember objects w.plan) (Contains (done ++ c.id ∷ [])) (IsTaken (set.insert w.taken c.id)) g f) (t.adds.became agrees)
 
     pub stands_on : (predicate : P) → Stands (after objects faulty answers w c counted ready predicate) (done ++ c.id ∷ [])
     stands_on predicate = record {
@@ -166,7 +166,7 @@ module _ {F P : Type 0} (objects : F → Objects) (faulty : F → ObjectId → T
           (record { before = λ i m. Contains-append_left done (c.id ∷ []) i m; now = Contains-push done c.id; either = λ i m. Contains-push_cases done c.id i m })
           h.ready (chosen_times w.plan.sorting w.ready c t.others t.chosen) became
           (λ i. holds_times w.plan.sorting (t.others ++ t.added) ready t.holds i ∙ joined_times i t.others t.added);
-      stored = λ r m. ⊎_elim (λ o. stored_still w.plan w.counted.standing counted.standing r t.adds.stands (h.stored r (others_in w.plan.sorting w.ready c t.others t.chosen r o))) (λ a. t.adds.stored sound r a)
+      stored = λ r m. ⊎_elim (λ o. stored_still w.plan w.counted.standing counted.standing r t.adds.stands (h.stored r (others_in w.plan.sorting w.ready c t.others t.chosen r o))) (λ a. t.adds.stored agrees r a)
           (Contains-append_cases t.others t.added r (holds_in w.plan.sorting (t.others ++ t.added) ready t.holds r m));
     }
 
@@ -269,8 +269,8 @@ module _ {F P : Type 0} (objects : F → Objects) (faulty : F → ObjectId → T
     last_next : IsLastNext w.plan done (Some c.id)
     last_next = (h.made, h.is_made, sym (found_first (λ i. not (is_among i done)) (reverse h.made) c.id (reverse (ready_ids others)) (filter-reverse _ h.made ∙ ap reverse stack_is ∙ reverse-append (ready_ids others) (c.id ∷ []))))
 
-  stacks_on : (w : TopoWalk F P) (done : List ObjectId) (sound : IsAgreeing (objects w.plan.store) w.plan.rows) (c : Ready) (counted : Counted) (ready : List Ready) (t : Takes objects faulty answers w c counted ready) → Stands w done → Stacks w done → w.plan.sorting ≡ order.TopoOrder → (predicate : P) → Stacks (after objects faulty answers w c counted ready predicate) (done ++ c.id ∷ [])
-  stacks_on w done sound c counted ready t st h o predicate =
+  stacks_on : (w : TopoWalk F P) (done : List ObjectId) (agrees : IsAgreeing (objects w.plan.store) w.plan.rows) (c : Ready) (counted : Counted) (ready : List Ready) (t : Takes objects faulty answers w c counted ready) → Stands w done → Stacks w done → w.plan.sorting ≡ order.TopoOrder → (predicate : P) → Stacks (after objects faulty answers w c counted ready predicate) (done ++ c.id ∷ [])
+  stacks_on w done agrees c counted ready t st h o predicate =
       record {
         made = h.made ++ ready_ids t.added;
         is_made = subst (λ r. made_of w.plan r (h.made ++ ready_ids t.added)) (sym (reverse-append done (c.id ∷ []))) (h.made, ready_ids t.added, h.is_made, keeps, refl);
@@ -284,7 +284,7 @@ module _ {F P : Type 0} (objects : F → Objects) (faulty : F → ObjectId → T
       held = subst (λ x. HoldsReady x (t.others ++ t.added) ready) o t.holds
 
       became_now : Keeps (IsReady (text_walked objects w.plan) (IsTextMember objects w.plan) (Contains (done ++ c.id ∷ []))) (last_places (text_walked objects w.plan c.id)) (ready_ids t.added)
-      became_now = became w done sound c counted ready t st
+      became_now = became w done agrees c counted ready t st
 
       to : (i : ObjectId) → Contains (done ++ c.id ∷ []) i → Contains (c.id ∷ reverse done) i
       to i m = ⊎_elim (λ n. Contains-there i c.id (reverse done) (in_reverse i done n)) (λ e. subst (λ y. Contains (c.id ∷ reverse done) y) e (Contains-here c.id (reverse done))) (Contains-push_cases done c.id i m)
@@ -343,31 +343,31 @@ module _ {F P : Type 0} (objects : F → Objects) (faulty : F → ObjectId → T
 
   -- a walk that was built
   pub starts_stands : (w : TopoWalk F P) → IsAgreeing (objects w.plan.store) w.plan.rows → IsStarted objects faulty answers w → Stands w []
-  starts_stands w sound h =
-      let st : StartsWith objects faulty answers w.plan w.ready = h.starts sound in
+  starts_stands w agrees h =
+      let st : StartsWith objects faulty answers w.plan w.ready = h.starts agrees in
       record {
         taken = λ i. ap (λ s. set.contains s i) h.untaken ∙ set.contains-empty id_cmp i;
         ready = starts_ready (text_walked objects w.plan) (IsTextMember objects w.plan) (Contains []) w.plan.tips st.childless (ready_ids w.ready) (λ i c. no_member i c)
             (in_walk_top (text_walked objects w.plan) (text_next (objects w.plan.store)) w.plan.tips w.plan.ends (λ c i n. walked_within w.plan.parents _ i n)) st.kept
             (λ i. holds_times w.plan.sorting st.starts w.ready st.holds i ∙ ap (times i) st.sorted ∙ times-by_time (time_of (objects w.plan.store)) i st.childless);
-        stored = h.stored sound;
+        stored = h.stored agrees;
       }
 
   starts_stacks : (w : TopoWalk F P) → IsAgreeing (objects w.plan.store) w.plan.rows → IsStarted objects faulty answers w → w.plan.sorting ≡ order.TopoOrder → Stacks w []
-  starts_stacks w sound h o =
-      let st : StartsWith objects faulty answers w.plan w.ready = h.starts sound in
+  starts_stacks w agrees h o =
+      let st : StartsWith objects faulty answers w.plan w.ready = h.starts agrees in
       let held : w.ready ≡ st.starts = subst (λ x. HoldsReady x st.starts w.ready) o st.holds in
       record { made = ready_ids st.starts; is_made = (st.childless, st.kept, st.sorted); left = ap ready_ids held ∙ sym (filter_all (λ i. not false) (ready_ids st.starts) (λ i c. refl)) }
 
   starts_date : (w : TopoWalk F P) → IsAgreeing (objects w.plan.store) w.plan.rows → IsStarted objects faulty answers w → w.plan.sorting ≡ order.DateOrder → GoesByDate w []
-  starts_date w sound h o = record { agrees = sound; stands = starts_stands w sound h; by_date = o }
+  starts_date w agrees h o = record { agrees = agrees; stands = starts_stands w agrees h; by_date = o }
 
   starts_topo : (w : TopoWalk F P) → IsAgreeing (objects w.plan.store) w.plan.rows → IsStarted objects faulty answers w → w.plan.sorting ≡ order.TopoOrder → GoesByStack w []
-  starts_topo w sound h o = record { agrees = sound; stands = starts_stands w sound h; stacks = starts_stacks w sound h o; by_topo = o }
+  starts_topo w agrees h o = record { agrees = agrees; stands = starts_stands w agrees h; stacks = starts_stacks w agrees h o; by_topo = o }
 
   in_order : (w : TopoWalk F P) (ids : List ObjectId) (list : List (Result Info Error)) → Draws HasEnded w ids list → IsAgreeing (objects w.plan.store) w.plan.rows → IsStarted objects faulty answers w → (s : Sorting) → w.plan.sorting ≡ s → IsSorted s (time_of (objects w.plan.store)) (text_walked objects w.plan) (IsTextMember objects w.plan) w.plan.tips ids
-  in_order w ids list d sound st order.DateOrder e = draws_date d [] (starts_date w sound st e)
-  in_order w ids list d sound st order.TopoOrder e = draws_topo d [] (starts_topo w sound st e)
+  in_order w ids list d agrees st order.DateOrder e = draws_date d [] (starts_date w agrees st e)
+  in_order w ids list d agrees st order.TopoOrder e = draws_topo d [] (starts_topo w agrees st e)
 
   -- a whole run without a fault
   pub gives_text : (w : TopoWalk F P) (list : List (Result Info Error)) → AnswersBy answers w.predicate accepts → IsStarted objects faulty answers w → IsAgreeing (objects w.plan.store) w.plan.rows → IsFaultless list → Drains (Next objects faulty answers) w list → GivesTextOrder objects w.plan accepts list
@@ -376,9 +376,9 @@ module _ {F P : Type 0} (objects : F → Objects) (faulty : F → ObjectId → T
       record { ids = d.0; in_order = in_order w d.0 list d.1 agrees st w.plan.sorting refl; given = draws_given d.1 [] agrees (starts_stands w agrees st) }
 
   begins_sorted : (w : TopoWalk F P) (ids : List ObjectId) (list : List (Result Info Error)) → Draws IsAnywhere w ids list → IsAgreeing (objects w.plan.store) w.plan.rows → IsStarted objects faulty answers w → (s : Sorting) → w.plan.sorting ≡ s → IsSortedBeginning s (time_of (objects w.plan.store)) (text_walked objects w.plan) (IsTextMember objects w.plan) w.plan.tips ids
-  begins_sorted w ids list d sound st order.DateOrder e = turn_at (IfOne (IsBestNext w.plan)) ids (begins_date d [] (starts_date w sound st e))
-  begins_sorted w ids list d sound st order.TopoOrder e = λ k i at.
-      let h : IsLastNext w.plan (take k ids) (Some i) = turn_at (IfOne (IsLastNext w.plan)) ids (begins_topo d [] (starts_topo w sound st e)) k i at in
+  begins_sorted w ids list d agrees st order.DateOrder e = turn_at (IfOne (IsBestNext w.plan)) ids (begins_date d [] (starts_date w agrees st e))
+  begins_sorted w ids list d agrees st order.TopoOrder e = λ k i at.
+      let h : IsLastNext w.plan (take k ids) (Some i) = turn_at (IfOne (IsLastNext w.plan)) ids (begins_topo d [] (starts_topo w agrees st e)) k i at in
       (h.0, h.1, sym h.2)
 
   -- a beginning of one

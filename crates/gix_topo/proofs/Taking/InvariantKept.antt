@@ -210,13 +210,13 @@ module _ {F : Type 0} (objects : F → Objects) (faulty : F → ObjectId → Typ
           of_rest : Contains rest.commits q → IsFound objects faulty (plan_of new) true new.counting.reader.standing q
           of_rest o = subst (λ p. IsFound objects faulty p true new.counting.reader.standing q) (sym plan_is) (found_later objects faulty (plan_of w) (λ e. e) adds.stands (held.found q (others_ready q o)))
 
-      -- where all that is walked reads whole
-      module _ (sound : IsAgreeing (objects (plan_of w).store) (plan_of w).rows) where
+      -- with rows that agree
+      module _ (agrees : IsAgreeing (objects (plan_of w).store) (plan_of w).rows) where
         steady : IsSteady objects w
-        steady = held.steady sound
+        steady = held.steady agrees
 
         now_ready : (i : ObjectId) → is_among i (ready_ids added) ≡ true → IsReady walked Member (IsTaken (set.insert (taken_of w) r.id)) i
-        now_ready i e = (keeps_from (IsReady walked Member (IsTaken (set.insert (taken_of w) r.id))) (adds.became sound) i (among_is i (ready_ids added) e)).1
+        now_ready i e = (keeps_from (IsReady walked Member (IsTaken (set.insert (taken_of w) r.id))) (adds.became agrees) i (among_is i (ready_ids added) e)).1
 
         member_now : (i : ObjectId) → was_ready_of new.counting.frontier i ≡ true → Member i
         member_now i e = ⊎_elim (λ a. (now_ready i a).member) (λ o. steady.member i o) (or_cases (is_among i (ready_ids added)) (was_ready_of w.counting.frontier i) (sym (made_now i) ∙ e))

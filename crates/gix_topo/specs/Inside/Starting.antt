@@ -34,7 +34,7 @@ module _ {F : Type 0} (objects : F → Objects) (faulty : F → ObjectId → Typ
     pub depth : c.depth ≡ first_depth plan
     pub unmade : (i : ObjectId) → (known_of c.frontier.known i).was_ready ≡ false
     pub begun : (side : Side) → IsBegun plan.tips plan.ends side c.frontier
-    -- with rows that agree, and where all that is walked reads whole
+    -- with rows that agree
     pub counted : (taken : ObjectId → Bool) → ((i : ObjectId) → taken i ≡ false) → IsAgreeing (objects plan.store) plan.rows → IsCounted (objects plan.store) plan.rows plan.parents plan.tips plan.ends taken c.frontier
     pub explored : IsAgreeing (objects plan.store) plan.rows → (side : Side) → IsExplored (objects plan.store) plan.rows plan.parents plan.tips plan.ends c.depth side c.frontier
     pub counts : IsAgreeing (objects plan.store) plan.rows → HasCounted objects plan c

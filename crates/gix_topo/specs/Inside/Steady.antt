@@ -62,7 +62,7 @@ module _ {F : Type 0} (objects : F → Objects) (faulty : F → ObjectId → Typ
     pub made : (i : ObjectId) → Contains (ready_ids w.ready.commits) i → (known_of w.counting.frontier.known i).was_ready ≡ true
     pub distinct : AreDistinct (ready_ids w.ready.commits)
     pub found : (r : Ready) → Contains w.ready.commits r → IsFound objects faulty (plan_of w) true w.counting.reader.standing r
-    -- with rows that agree, and where all that is walked reads whole
+    -- with rows that agree
     pub tallied : IsAgreeing (objects (plan_of w).store) (plan_of w).rows → IsTallied objects w
     pub steady : IsAgreeing (objects (plan_of w).store) (plan_of w).rows → IsSteady objects w
     pub counts : IsAgreeing (objects (plan_of w).store) (plan_of w).rows → HasCounted objects (plan_of w) w.counting
