@@ -12,6 +12,8 @@ pub mod Ends
 pub mod Corollaries
 -- A walk through all parents gives what its tips reach and its ends don't.
 pub mod Difference
+-- The same by the texts alone, of a walk that gives no fault.
+pub mod TextDifference
 -- With agreeing rows each commit is given with its row's generation.
 pub mod Generations
 -- Each parent of a commit that is given was known.

@@ -142,3 +142,18 @@ pub record GivesDifference (objects : Objects) (tips ends : List ObjectId) (answ
       → Reaches (parents_of objects) tips i
       → (Reaches (parents_of objects) ends i → ⊥)
       → Contains (given_ids answers) i
+
+-- the answers have each commit once, and only commits that the tips reach and the ends don't, by the parents that texts name; and all of
+-- these, where none of them is its own ancestor
+pub record GivesTextDifference (objects : Objects) (tips ends : List ObjectId) (answers : List (Result Info Error)) : Type 0 where
+  pub once : AreDistinct (given_ids answers)
+  pub shown :
+      (i : ObjectId)
+      → Contains (given_ids answers) i
+      → Reaches (text_next objects) tips i × (Reaches (text_next objects) ends i → ⊥)
+  pub all :
+      IsAcyclicIn (text_next objects) (IsInWalk (text_next objects) (text_next objects) tips ends)
+      → (i : ObjectId)
+      → Reaches (text_next objects) tips i
+      → (Reaches (text_next objects) ends i → ⊥)
+      → Contains (given_ids answers) i

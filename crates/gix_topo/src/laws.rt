@@ -5,7 +5,7 @@
 //! parents of what tips reach read whole. A law that names no premise holds for every store, all rows and every predicate, and over
 //! cycles.
 
-ghost use Rattle.gix_topo.specs.Statements.{RunsAreInOrder, RunsBeginInOrder, TopoOrderIsOne, DateOrderIsOne, TakesEachOnce, RunsGiveTheDifference, TakesChildrenFirst, RowsLeaveTheIds, RowsLeaveTheSet, Ends, AsksNeverTwice, GivesNeverTwice, FailsForItsReason, StaysEnded, ParentsAreKnown, TellsTheGenerations, CountsDownToTheDepth};
+ghost use Rattle.gix_topo.specs.Statements.{RunsAreInOrder, RunsBeginInOrder, TopoOrderIsOne, DateOrderIsOne, TakesEachOnce, RunsGiveTheDifference, TakesChildrenFirst, RowsLeaveTheIds, RowsLeaveTheSet, Ends, AsksNeverTwice, GivesNeverTwice, FailsForItsReason, StaysEnded, ParentsAreKnown, TellsTheGenerations, CountsDownToTheDepth, FaultlessRunsAreInOrder, FaultlessRunsBeginInOrder, TakesEachByText, FaultlessRunsGiveTheDifference};
 
 use gix_object::find::Find;
 use gix_revwalk::Predicate;
@@ -44,6 +44,33 @@ pub fn each_once<F: Find>()
 /// Memory and the store don't fail, the rows agree with the store, and all that tips and ends reach reads whole.
 pub fn difference<F: Find, P: Predicate>()
     ensures { RunsGiveTheDifference F.objects F.faulty P.answers }
+{}
+
+/// A walk that was built over rows that agree or none, and is drawn to its end, none of whose answers is a fault, and whose predicate's
+/// answer depends on the id alone: it takes the commits of its set in the order that was asked for, and gives those that the predicate
+/// accepts. Parents are those that the texts of commits name, and so is the set; a commit whose text breaks off before its committer
+/// has the time 0. Nothing else is asked of the history.
+pub fn faultless<F: Find, P: Predicate>()
+    ensures { FaultlessRunsAreInOrder F.objects F.faulty P.answers }
+{}
+
+/// Such a walk that is drawn as far as one likes, as long as it gives no fault: the commits that it has taken up to the last that it
+/// gave are a beginning in that order, and it gave those that the predicate accepts.
+pub fn faultless_begins<F: Find, P: Predicate>()
+    ensures { FaultlessRunsBeginInOrder F.objects F.faulty P.answers }
+{}
+
+/// Commits that are taken in order by the texts, as in `faultless`: none is taken twice, none outside of the set, and each before its
+/// walked parents; and the whole set is taken, where no commit of it is its own ancestor by the walked parents.
+pub fn faultless_once<F: Find>()
+    ensures { TakesEachByText F.objects }
+{}
+
+/// A walk as in `faultless` that goes through all parents and whose predicate accepts every id: it gives no commit twice, and only
+/// commits that its tips reach and its ends don't, by the parents that texts name; and all of these, where none of them is its own
+/// ancestor.
+pub fn faultless_difference<F: Find, P: Predicate>()
+    ensures { FaultlessRunsGiveTheDifference F.objects F.faulty P.answers }
 {}
 
 /// In a list as of `each_once` a commit comes before each of its walked parents that is in the list.
