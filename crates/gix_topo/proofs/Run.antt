@@ -4,6 +4,8 @@ pub mod ReadyInTurn
 pub mod OneList
 -- Parents and members that are said in two ways which agree give the same orders.
 pub mod SameOrder
+-- What a list in either order has, whatever says the parents.
+pub mod EachOnce
 -- A whole walk takes what the definitions say, in their order: by the texts, and, over a sound history, by the store.
 pub mod Theorem
 -- Every walk ends, asks about each commit once, and gives nothing after a fault.

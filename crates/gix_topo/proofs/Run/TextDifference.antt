@@ -1,69 +1,33 @@
 -- The same by the texts alone, of a walk that gives no fault: what follows from the order, and what a walk through all parents gives.
-use Rattle.std.specs.Prelude.{◌≡◌, ℕ, List, [], ◌∷◌, ◌++◌, Bool, true, take, slice_get, Option, Some, None, Result, Ok, Err, Contains}
-use Rattle.std.specs.FinMap as map_of
+use Rattle.std.specs.Prelude.{◌≡◌, ℕ, List, [], ◌∷◌, Bool, true, take, slice_get, Some, Result, Ok, Err, Contains}
 use Rattle.std.specs.Iterator.{Drains}
-use Rattle.std.specs.List.{AllZip, flat_map}
-use Rattle.std.proofs.Common.{refl, sym, subst, ◌∙◌}
-use Rattle.std.proofs.lemmas.Bool.{or_left, or_right}
+use Rattle.std.specs.List.{AllZip}
+use Rattle.std.proofs.Common.{refl, sym, subst}
 use Rattle.gix_hash.specs.declared.ObjectId.{ObjectId}
-use Rattle.gix_hash.specs.Id.{is_among}
-use Rattle.gix_hash.specs.Reach.{Reaches, start, step}
-use Rattle.gix_object.specs.Object.{Object, Objects}
+use Rattle.gix_hash.specs.Reach.{Reaches}
+use Rattle.gix_object.specs.Object.{Objects}
 use Rattle.gix_revwalk.specs.declared.Info.{Info}
 use Rattle.gix_revwalk.specs.declared.Parents.{Parents}
 use Rattle.gix_revwalk.specs.declared.Parents.TheVariants as mode
 use Rattle.gix_topo.specs.declared.Error.{Error}
-use Rattle.gix_topo.specs.declared.Sorting.{Sorting}
-use Rattle.gix_topo.specs.declared.Sorting.TheVariants as order
 use Rattle.gix_revwalk.specs.Agreeing.{IsAgreeing}
 use Rattle.gix_revwalk.specs.Asking.{AnswersBy}
 use Rattle.gix_revwalk.specs.Commits.{by_mode, time_of}
 use Rattle.gix_revwalk.specs.Ids.{AreDistinct}
-use Rattle.gix_revwalk.specs.Texts.{text_parents, next_in, text_next}
+use Rattle.gix_revwalk.specs.Texts.{text_next}
 use Rattle.gix_topo.specs.WalkSet.{IsInWalk, IsAcyclicIn}
 use Rattle.gix_topo.specs.Walk.{TopoPlan, TopoWalk, text_walked, IsTextMember, IsStarted, Next}
-use Rattle.gix_topo.specs.Laws.{IsSorted, IsTakenByText, IsTextGiven, GivesTextOrder, GivesTextDifference, given_ids}
-use Rattle.gix_hash.proofs.Ids.Membership.{among-append, among_from, no_member}
+use Rattle.gix_topo.specs.Laws.{IsTakenByText, IsTextGiven, GivesTextOrder, GivesTextDifference, given_ids}
 use Rattle.gix_hash.proofs.Lists.{filter_all}
-use Rattle.gix_revwalk.proofs.ReadsWhole.{walked_within}
-use Rattle.gix_revwalk.proofs.Rows.{found_entry}
-use Rattle.gix_topo.proofs.Readiness.IsReady.{in_walk_top}
-use Rattle.gix_topo.proofs.Run.ReadyInTurn.{TurnsFrom, IsReadyNext, date_turns, topo_turns, each_once, each_member, children_first, all_given}
 use Rattle.gix_topo.proofs.Run.Theorem.{gives_text}
-use Rattle.gix_topo.proofs.Run.Corollaries.{in_all}
-
--- what the texts of stored commits name is finite
-abbrev named_all : Objects → List ObjectId
-named_all objects = flat_map (λ entry. text_parents entry.0 entry.1) (map_of.entries objects)
-
-texts_named : (objects : Objects) (c i : ObjectId) → Contains (text_next objects c) i → Contains (named_all objects) i
-texts_named objects c i n = go (map_of.get objects c) refl
-  where
-    go : (o : Option Object) → map_of.get objects c ≡ o → Contains (named_all objects) i
-    go None e = absurd (no_member i (subst (λ o. Contains (next_in c o) i) e n))
-    go (Some object) e = in_all (λ entry. text_parents entry.0 entry.1) (map_of.entries objects) (c, object) i (found_entry (map_of.entries objects) c object (sym (map_of.get-entries objects c) ∙ e)) (subst (λ o. Contains (next_in c o) i) e n)
-
-reached_named : (objects : Objects) (m : Parents) (tips : List ObjectId) (i : ObjectId) → Reaches (λ c. by_mode m (text_next objects c)) tips i → is_among i (tips ++ named_all objects) ≡ true
-reached_named objects m tips i (start s) = among-append i tips (named_all objects) ∙ or_left _ _ (among_from i tips s)
-reached_named objects m tips i (step {c = c} r n) = among-append i tips (named_all objects) ∙ or_right (is_among i tips) _ (among_from i (named_all objects) (texts_named objects c i (walked_within m (text_next objects c) i n)))
+use Rattle.gix_topo.proofs.Run.EachOnce.{each_by}
 
 module _ {F : Type 0} (objects : F → Objects) (plan : TopoPlan F) (ids : List ObjectId) where
-  turns : (s : Sorting) → IsSorted s (time_of (objects plan.store)) (text_walked objects plan) (IsTextMember objects plan) plan.tips ids → TurnsFrom (IsReadyNext (text_walked objects plan) (IsTextMember objects plan)) [] ids
-  turns order.DateOrder h = date_turns (time_of (objects plan.store)) (text_walked objects plan) (IsTextMember objects plan) ids h
-  turns order.TopoOrder h = topo_turns (time_of (objects plan.store)) (text_walked objects plan) (IsTextMember objects plan) plan.tips
-      (in_walk_top (text_walked objects plan) (text_next (objects plan.store)) plan.tips plan.ends (λ c i n. walked_within plan.parents _ i n)) ids h
-
   -- each once, members alone, all of these, and every child before its parents
   pub each_by_text : IsTakenByText objects plan ids
       → AreDistinct ids × ((i : ObjectId) → Contains ids i → IsTextMember objects plan i) × (IsAcyclicIn (text_walked objects plan) (IsTextMember objects plan) → (i : ObjectId) → IsTextMember objects plan i → Contains ids i)
       × ((k : ℕ) (child parent : ObjectId) → slice_get ids k ≡ Some parent → Contains ids child → Contains (text_walked objects plan child) parent → Contains (take k ids) child)
-  each_by_text h =
-      let t : TurnsFrom (IsReadyNext (text_walked objects plan) (IsTextMember objects plan)) [] ids = turns plan.sorting h in (
-        each_once (text_walked objects plan) (IsTextMember objects plan) ids t,
-        each_member (text_walked objects plan) (IsTextMember objects plan) ids t,
-        λ acyclic i m. all_given (text_walked objects plan) (IsTextMember objects plan) ids t (plan.tips ++ named_all (objects plan.store)) (λ j k. reached_named (objects plan.store) plan.parents plan.tips j k.reached) acyclic i m,
-        children_first (text_walked objects plan) (IsTextMember objects plan) ids t,
-      )
+  each_by_text h = each_by (objects plan.store) (text_next (objects plan.store)) (λ c i n. n) plan.parents (time_of (objects plan.store)) plan.tips plan.ends ids plan.sorting h
 
 -- the ids of the answers
 module _ {F : Type 0} (objects : F → Objects) (plan : TopoPlan F) where
