@@ -2,7 +2,11 @@
 pub mod ReadyInTurn
 -- Each order is one list.
 pub mod OneList
--- A whole walk takes what the definitions say, in their order.
+-- Parents and members that are said in two ways which agree give the same orders.
+pub mod SameOrder
+-- What a list in either order has, whatever says the parents.
+pub mod EachOnce
+-- A whole walk takes what the definitions say, in their order: by the texts, and, over a sound history, by the store.
 pub mod Theorem
 -- Every walk ends, asks about each commit once, and gives nothing after a fault.
 pub mod Ends
@@ -12,6 +16,8 @@ pub mod Corollaries
 pub mod Begun
 -- A walk through all parents gives what its tips reach and its ends don't.
 pub mod Difference
+-- The same by the texts alone, of a walk that gives no fault.
+pub mod TextDifference
 -- With agreeing rows each commit is given with its row's generation.
 pub mod Generations
 -- Each parent of a commit that is given was known.

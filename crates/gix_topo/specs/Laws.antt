@@ -18,8 +18,9 @@ use Rattle.gix_topo.specs.TopoOrder.{IsTopoOrder, IsTopoBeginning}
 use Rattle.gix_revwalk.specs.Commits.{parents_of, time_of}
 use Rattle.gix_revwalk.specs.Infos.{IsInfo, IsRowGeneration}
 use Rattle.gix_revwalk.specs.Asking.{AnswersBy}
+use Rattle.gix_revwalk.specs.Texts.{text_next}
 use Rattle.gix_revwalk.specs.Ids.{AreDistinct, new_ids}
-use Rattle.gix_topo.specs.Walk.{TopoPlan, TopoWalk, Ready, walked_of, IsMember, IsSound, IsStarted, Next, ready_ids, was_ready, named_ids}
+use Rattle.gix_topo.specs.Walk.{TopoPlan, TopoWalk, Ready, walked_of, text_walked, IsMember, IsTextMember, IsSound, IsStarted, Next, ready_ids, was_ready, named_ids}
 
 -- the order that was asked for
 abbrev pub IsSorted : Sorting → (ObjectId → ℤ) → (ObjectId → List ObjectId) → (ObjectId → Type 0) → List ObjectId → List ObjectId → Type 0
@@ -62,6 +63,40 @@ pub record BeginsInOrder {F : Type 0} (objects : F → Objects) (plan : TopoPlan
   pub ids : List ObjectId
   pub in_order : IsTakenFirst objects plan ids
   pub given : AllZip (IsGiven objects plan) list (filter accepts ids)
+
+-- these commits are taken, in order, by the parents that their texts name
+abbrev pub IsTakenByText : {F : Type 0} → (F → Objects) → TopoPlan F → List ObjectId → Type 0
+IsTakenByText objects plan ids =
+    IsSorted plan.sorting (time_of (objects plan.store)) (text_walked objects plan) (IsTextMember objects plan) plan.tips ids
+
+-- these commits are the first that are taken, in order, by the parents that their texts name
+abbrev pub IsTakenFirstByText : {F : Type 0} → (F → Objects) → TopoPlan F → List ObjectId → Type 0
+IsTakenFirstByText objects plan ids =
+    IsSortedBeginning plan.sorting (time_of (objects plan.store)) (text_walked objects plan) (IsTextMember objects plan) plan.tips ids
+
+-- the answer is this commit, with all the parents that its text names, and with its committer's time, or 0 where it has no committer
+pub record IsTextInfo {F : Type 0} (objects : F → Objects) (plan : TopoPlan F) (info : Info) (i : ObjectId) : Type 0 where
+  pub generation : Option ℕ
+  pub by_row : IsRowGeneration plan.rows i generation
+  pub info_is : IsInfo info i (text_next (objects plan.store) i) generation (Some (time_of (objects plan.store) i))
+
+abbrev pub IsTextGiven : {F : Type 0} → (F → Objects) → TopoPlan F → Result Info Error → ObjectId → Type 0
+IsTextGiven objects plan (Ok info) i = IsTextInfo objects plan info i
+IsTextGiven objects plan (Err e) i = ⊥
+
+-- the answers are the commits in order by the texts, without the commits that the predicate refuses
+pub record GivesTextOrder {F : Type 0} (objects : F → Objects) (plan : TopoPlan F) (accepts : ObjectId → Bool)
+    (list : List (Result Info Error)) : Type 0 where
+  pub ids : List ObjectId
+  pub in_order : IsTakenByText objects plan ids
+  pub given : AllZip (IsTextGiven objects plan) list (filter accepts ids)
+
+-- the answers are the first commits in order by the texts, without the commits that the predicate refuses
+pub record BeginsTextOrder {F : Type 0} (objects : F → Objects) (plan : TopoPlan F) (accepts : ObjectId → Bool)
+    (list : List (Result Info Error)) : Type 0 where
+  pub ids : List ObjectId
+  pub in_order : IsTakenFirstByText objects plan ids
+  pub given : AllZip (IsTextGiven objects plan) list (filter accepts ids)
 
 -- neither memory nor the store failed
 abbrev pub IsNoRefusal : Result Info Error → Type 0
@@ -106,4 +141,19 @@ pub record GivesDifference (objects : Objects) (tips ends : List ObjectId) (answ
       → (i : ObjectId)
       → Reaches (parents_of objects) tips i
       → (Reaches (parents_of objects) ends i → ⊥)
+      → Contains (given_ids answers) i
+
+-- the answers have each commit once, and only commits that the tips reach and the ends don't, by the parents that texts name; and all of
+-- these, where none of them is its own ancestor
+pub record GivesTextDifference (objects : Objects) (tips ends : List ObjectId) (answers : List (Result Info Error)) : Type 0 where
+  pub once : AreDistinct (given_ids answers)
+  pub shown :
+      (i : ObjectId)
+      → Contains (given_ids answers) i
+      → Reaches (text_next objects) tips i × (Reaches (text_next objects) ends i → ⊥)
+  pub all :
+      IsAcyclicIn (text_next objects) (IsInWalk (text_next objects) (text_next objects) tips ends)
+      → (i : ObjectId)
+      → Reaches (text_next objects) tips i
+      → (Reaches (text_next objects) ends i → ⊥)
       → Contains (given_ids answers) i

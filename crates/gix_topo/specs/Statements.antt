@@ -17,8 +17,8 @@ use Rattle.gix_revwalk.specs.Ids.{AreDistinct}
 use Rattle.gix_topo.specs.WalkSet.{IsInWalk, IsAcyclicIn, IsChild}
 use Rattle.gix_topo.specs.DateOrder.{IsDateOrder, IsDateBeginning}
 use Rattle.gix_topo.specs.TopoOrder.{IsTopoOrder, IsTopoBeginning}
-use Rattle.gix_topo.specs.Walk.{TopoPlan, TopoWalk, walked_of, row_generation, IsMember, IsStarted, IsSound, IsWalkable, IsLeft, IsFault, IsLate, IsCounting, IsKnown, Next}
-use Rattle.gix_topo.specs.Laws.{IsTakenInOrder, IsTakenFirst, IsWholeRun, IsGiven, GivesInOrder, BeginsInOrder, GivesDifference, IsNoRefusal, answers_left, given_ids}
+use Rattle.gix_topo.specs.Walk.{TopoPlan, TopoWalk, walked_of, row_generation, IsMember, IsStarted, IsSound, IsLeft, IsFault, IsLate, IsCounting, IsKnown, Next, text_walked, IsTextMember}
+use Rattle.gix_topo.specs.Laws.{IsTakenInOrder, IsTakenFirst, IsWholeRun, IsGiven, GivesInOrder, BeginsInOrder, GivesDifference, IsNoRefusal, answers_left, given_ids, IsTakenByText, GivesTextOrder, BeginsTextOrder, GivesTextDifference}
 use Rattle.gix_revwalk.specs.Asking.{AnswersBy, AsksAll}
 
 -- there is at most one list of the members of a walk in topological order
@@ -84,6 +84,20 @@ module _ {F : Type 0} (objects : F → Objects) where
       → Contains ids child
       → Contains (walked_of objects plan child) parent
       → Contains (take k ids) child
+
+  -- commits that were taken in order by the texts: each once, members alone, all of these, and every child before its parents
+  abbrev pub TakesEachByText : Type 0
+  TakesEachByText =
+      (plan : TopoPlan F) (ids : List ObjectId)
+      → IsTakenByText objects plan ids
+      → AreDistinct ids
+      × ((i : ObjectId) → Contains ids i → IsTextMember objects plan i)
+      × (IsAcyclicIn (text_walked objects plan) (IsTextMember objects plan) → (i : ObjectId) → IsTextMember objects plan i → Contains ids i)
+      × ((k : ℕ) (child parent : ObjectId)
+      → slice_get ids k ≡ Some parent
+      → Contains ids child
+      → Contains (text_walked objects plan child) parent
+      → Contains (take k ids) child)
 
 module _ {F P : Type 0} (objects : F → Objects) (faulty : F → ObjectId → Type 0) (answers : P → ObjectId → Bool → P → Type 0) where
   -- a built walk that is drawn to its end
@@ -192,7 +206,7 @@ module _ {F P : Type 0} (objects : F → Objects) (faulty : F → ObjectId → T
   TellsTheGenerations =
       (walk mid new : TopoWalk F P) (list : List (Result Info Error)) (info : Info)
       → IsStarted objects faulty answers walk
-      → IsWalkable objects faulty walk.plan
+      → IsAgreeing (objects walk.plan.store) walk.plan.rows
       → Yields (Next objects faulty answers) walk list mid
       → Next objects faulty answers mid (Some (Ok info)) new
       → new.counted.standing ≡ true
@@ -203,7 +217,41 @@ module _ {F P : Type 0} (objects : F → Objects) (faulty : F → ObjectId → T
   CountsDownToTheDepth =
       (walk new : TopoWalk F P) (list : List (Result Info Error))
       → IsStarted objects faulty answers walk
-      → IsWalkable objects faulty walk.plan
+      → IsAgreeing (objects walk.plan.store) walk.plan.rows
       → Yields (Next objects faulty answers) walk list new
       → ((e : Error) → Contains list (Err e) → ⊥)
       → IsCounting objects walk.plan new.counted
+
+  -- a built walk over rows that agree, or none, that is drawn to its end and gives no fault
+  abbrev pub FaultlessRunsAreInOrder : Type 0
+  FaultlessRunsAreInOrder =
+      (walk : TopoWalk F P) (accepts : ObjectId → Bool) (list : List (Result Info Error))
+      → AnswersBy answers walk.predicate accepts
+      → IsStarted objects faulty answers walk
+      → IsAgreeing (objects walk.plan.store) walk.plan.rows
+      → ((e : Error) → Contains list (Err e) → ⊥)
+      → Drains (Next objects faulty answers) walk list
+      → GivesTextOrder objects walk.plan accepts list
+
+  -- such a walk that is drawn as far as one likes
+  abbrev pub FaultlessRunsBeginInOrder : Type 0
+  FaultlessRunsBeginInOrder =
+      (walk new : TopoWalk F P) (accepts : ObjectId → Bool) (list : List (Result Info Error))
+      → AnswersBy answers walk.predicate accepts
+      → IsStarted objects faulty answers walk
+      → IsAgreeing (objects walk.plan.store) walk.plan.rows
+      → ((e : Error) → Contains list (Err e) → ⊥)
+      → Yields (Next objects faulty answers) walk list new
+      → BeginsTextOrder objects walk.plan accepts list
+
+  -- such a walk through all parents whose predicate accepts all, drawn to its end
+  abbrev pub FaultlessRunsGiveTheDifference : Type 0
+  FaultlessRunsGiveTheDifference =
+      (walk : TopoWalk F P) (list : List (Result Info Error))
+      → AnswersBy answers walk.predicate (λ i. true)
+      → IsStarted objects faulty answers walk
+      → walk.plan.parents ≡ mode.All
+      → IsAgreeing (objects walk.plan.store) walk.plan.rows
+      → ((e : Error) → Contains list (Err e) → ⊥)
+      → Drains (Next objects faulty answers) walk list
+      → GivesTextDifference (objects walk.plan.store) walk.plan.tips walk.plan.ends list

@@ -172,21 +172,17 @@ module _ {F : Type 0} (objects : F → Objects) (plan : TopoPlan F) where
   abbrev pub IsMember : ObjectId → Type 0
   IsMember = IsInWalk walked_of (parents_of (objects plan.store)) plan.tips plan.ends
 
-  -- a ready commit is as the store and the rows say
+  -- a ready commit is as its text and the rows say
   pub record IsStored (standing : Bool) (r : Ready) : Type 0 where
-    pub parents : r.parents ≡ parents_of (objects plan.store) r.id
+    pub parents : r.parents ≡ text_next (objects plan.store) r.id
     pub time : r.time ≡ time_of (objects plan.store) r.id
     -- none, or the row's; and the row's as long as the rows are held
     pub by_row : IsRowGeneration plan.rows r.id r.generation
     pub told : standing ≡ true → r.generation ≡ row_generation (row_of plan.rows r.id)
 
-  -- reached by the tips through the parents that are walked, or by the ends through any
-  abbrev pub IsMet : ObjectId → Type 0
-  IsMet i = Reaches walked_of plan.tips i ⊎ Reaches (parents_of (objects plan.store)) plan.ends i
-
-  -- met, and not below the depth
+  -- reached, and not below the depth
   pub record IsInDepth (depth : ℕ) (i : ObjectId) : Type 0 where
-    pub reached : IsMet i
+    pub reached : IsReached i
     pub high : depth ≤ known_generation plan.rows i
 
   -- a corrupt row of a commit that is counted: for it the rows are dropped
@@ -201,7 +197,7 @@ module _ {F : Type 0} (objects : F → Objects) (plan : TopoPlan F) where
   -- are dropped. They are dropped exactly for a corrupt row.
   pub record IsCounting (counted : Counted) : Type 0 where
     pub exact : counted.standing ≡ true → IsNumberOf (IsInDepth counted.depth) counted.expanded
-    pub all : counted.standing ≡ false → IsNumberOf IsMet counted.expanded
+    pub all : counted.standing ≡ false → IsNumberOf IsReached counted.expanded
     pub dropped : counted.standing ≡ false → IsBrokenRow counted.depth
     pub whole : counted.standing ≡ true → IsBrokenRow counted.depth → ⊥
 
@@ -242,13 +238,8 @@ module _ {F : Type 0} (objects : F → Objects) (faulty : F → ObjectId → Typ
     -- and each of its parents was known, walked or not
     pub known : (p : ObjectId) → Contains r.parents p → IsKnown (objects plan.store) plan.rows after p
 
-  -- the rows agree, and all that is walked reads whole: what tips reach, and what ends reach
-  pub record IsWalkable : Type 0 where
-    pub agreeing : IsAgreeing (objects plan.store) plan.rows
-    pub tips_whole : (i : ObjectId) → Reaches (walked_of objects plan) plan.tips i → ReadsWhole (objects plan.store) i
-    pub ends_whole : (i : ObjectId) → Reaches (parents_of (objects plan.store)) plan.ends i → ReadsWhole (objects plan.store) i
-
-  -- and so do all parents of what tips reach, also the parents that aren't walked
+  -- the rows agree, and all that is walked reads whole: what tips reach, and what ends reach; and so do all parents of what tips reach,
+  -- also the parents that aren't walked
   pub record IsSound : Type 0 where
     pub agreeing : IsAgreeing (objects plan.store) plan.rows
     pub tips_whole : (i : ObjectId) → Reaches (walked_of objects plan) plan.tips i → ReadsWhole (objects plan.store) i
@@ -278,11 +269,11 @@ module _ {F : Type 0} (objects : F → Objects) (faulty : F → ObjectId → Typ
   IsBuildFault e = (e ≢ error.MissingIndegreeUnexpected) × IsFault (IsFirstReady objects plan) e
 
 module _ {F P : Type 0} (objects : F → Objects) (faulty : F → ObjectId → Type 0) (answers : P → ObjectId → Bool → P → Type 0) where
-  -- the ready tips, where all that is walked reads whole: the tips without children, by rising time
+  -- the ready tips, where the rows agree: the tips without children, by rising time
   pub record StartsWith (plan : TopoPlan F) (ready : List Ready) : Type 0 where
     pub childless : List ObjectId
     pub starts : List Ready
-    pub kept : Keeps (IsChildless (walked_of objects plan) (IsMember objects plan)) (first_places plan.tips) childless
+    pub kept : Keeps (IsChildless (text_walked objects plan) (IsTextMember objects plan)) (first_places plan.tips) childless
     pub sorted : ready_ids starts ≡ by_time (time_of (objects plan.store)) childless
     pub holds : HoldsReady plan.sorting starts ready
 
@@ -291,12 +282,12 @@ module _ {F P : Type 0} (objects : F → Objects) (faulty : F → ObjectId → T
     pub untaken : walk.taken ≡ set.empty
     pub distinct : AreDistinct (ready_ids walk.ready)
     pub tips : (i : ObjectId) → Contains (ready_ids walk.ready) i → Contains walk.plan.tips i
-    pub starts : IsWalkable objects faulty walk.plan → StartsWith walk.plan walk.ready
+    pub starts : IsAgreeing (objects walk.plan.store) walk.plan.rows → StartsWith walk.plan walk.ready
     -- each was read, whatever the store and the rows
     pub found : (r : Ready) → Contains walk.ready r → IsFound objects faulty walk.plan true walk.counted.standing r
-    pub stored : IsWalkable objects faulty walk.plan → (r : Ready) → Contains walk.ready r → IsStored objects walk.plan walk.counted.standing r
+    pub stored : IsAgreeing (objects walk.plan.store) walk.plan.rows → (r : Ready) → Contains walk.ready r → IsStored objects walk.plan walk.counted.standing r
     pub depth : walk.counted.depth ≡ first_depth walk.plan
-    pub counting : IsWalkable objects faulty walk.plan → IsCounting objects walk.plan walk.counted
+    pub counting : IsAgreeing (objects walk.plan.store) walk.plan.rows → IsCounting objects walk.plan walk.counted
     -- without rows, all that is reached was read
     pub read : walk.plan.rows ≡ [] → (i : ObjectId) → IsReached objects walk.plan i → IsCommitRead (objects walk.plan.store) i
 
@@ -318,14 +309,17 @@ module _ {F P : Type 0} (objects : F → Objects) (faulty : F → ObjectId → T
     pub named : (i : ObjectId) → Contains (ready_ids added) i → is_among i (named_ids (objects old.plan.store) old.plan.rows) ≡ true
     -- and was read, whatever the store and the rows
     pub found : (r : Ready) → Contains added r → IsFound objects faulty old.plan old.counted.standing counted.standing r
-    -- where all that is walked reads whole: the walked parents that became ready, each at its last place
-    pub became : IsWalkable objects faulty old.plan → Keeps (IsReady (walked_of objects old.plan) (IsMember objects old.plan) (IsTaken (set.insert old.taken c.id))) (last_places (walked_of objects old.plan c.id)) (ready_ids added)
-    pub stored : IsWalkable objects faulty old.plan → (r : Ready) → Contains added r → IsStored objects old.plan counted.standing r
+    -- where the rows agree: the walked parents that became ready, each at its last place
+    pub became :
+        IsAgreeing (objects old.plan.store) old.plan.rows
+        → Keeps (IsReady (text_walked objects old.plan) (IsTextMember objects old.plan) (IsTaken (set.insert old.taken c.id)))
+        (last_places (text_walked objects old.plan c.id)) (ready_ids added)
+    pub stored : IsAgreeing (objects old.plan.store) old.plan.rows → (r : Ready) → Contains added r → IsStored objects old.plan counted.standing r
     -- dropped rows don't come back
     pub stands : counted.standing ≡ true → old.counted.standing ≡ true
     -- lowered to the least generation of the walked parents
     pub depth : counted.depth ≡ least old.plan.rows old.counted.depth (by_mode old.plan.parents c.parents)
-    pub counting : IsWalkable objects faulty old.plan → IsCounting objects old.plan counted
+    pub counting : IsAgreeing (objects old.plan.store) old.plan.rows → IsCounting objects old.plan counted
 
   -- a ready commit is taken
   pub record Takes (old : TopoWalk F P) (c : Ready) (counted : Counted) (ready : List Ready) : Type 0 where

@@ -5,7 +5,7 @@
 //! parents of what tips reach read whole. A law that names no premise holds for every store, all rows and every predicate, and over
 //! cycles.
 
-ghost use Rattle.gix_topo.specs.Statements.{RunsAreInOrder, RunsBeginInOrder, BeginsEachOnce, TopoOrderIsOne, DateOrderIsOne, TopoBeginningIsOne, DateBeginningIsOne, TakesEachOnce, RunsGiveTheDifference, TakesChildrenFirst, RowsLeaveTheIds, RowsLeaveTheSet, Ends, AsksNeverTwice, GivesNeverTwice, FailsForItsReason, StaysEnded, ParentsAreKnown, TellsTheGenerations, CountsDownToTheDepth};
+ghost use Rattle.gix_topo.specs.Statements.{RunsAreInOrder, RunsBeginInOrder, BeginsEachOnce, TopoOrderIsOne, DateOrderIsOne, TopoBeginningIsOne, DateBeginningIsOne, TakesEachOnce, RunsGiveTheDifference, TakesChildrenFirst, RowsLeaveTheIds, RowsLeaveTheSet, Ends, AsksNeverTwice, GivesNeverTwice, FailsForItsReason, StaysEnded, ParentsAreKnown, TellsTheGenerations, CountsDownToTheDepth, FaultlessRunsAreInOrder, FaultlessRunsBeginInOrder, TakesEachByText, FaultlessRunsGiveTheDifference};
 
 use gix_object::find::Find;
 use gix_revwalk::Predicate;
@@ -62,6 +62,33 @@ pub fn difference<F: Find, P: Predicate>()
     ensures { RunsGiveTheDifference F.objects F.faulty P.answers }
 {}
 
+/// A walk that was built over rows that agree or none, and is drawn to its end, none of whose answers is a fault, and whose predicate's
+/// answer depends on the id alone: it takes the commits of its set in the order that was asked for, and gives those that the predicate
+/// accepts. Parents are those that the texts of commits name, and so is the set; a commit whose text breaks off before its committer
+/// has the time 0. Nothing else is asked of the history.
+pub fn faultless<F: Find, P: Predicate>()
+    ensures { FaultlessRunsAreInOrder F.objects F.faulty P.answers }
+{}
+
+/// Such a walk that is drawn as far as one likes, as long as it gives no fault: the commits that it has taken up to the last that it
+/// gave are a beginning in that order, and it gave those that the predicate accepts.
+pub fn faultless_begins<F: Find, P: Predicate>()
+    ensures { FaultlessRunsBeginInOrder F.objects F.faulty P.answers }
+{}
+
+/// Commits that are taken in order by the texts, as in `faultless`: none is taken twice, none outside of the set, and each before its
+/// walked parents; and the whole set is taken, where no commit of it is its own ancestor by the walked parents.
+pub fn faultless_once<F: Find>()
+    ensures { TakesEachByText F.objects }
+{}
+
+/// A walk as in `faultless` that goes through all parents and whose predicate accepts every id: it gives no commit twice, and only
+/// commits that its tips reach and its ends don't, by the parents that texts name; and all of these, where none of them is its own
+/// ancestor.
+pub fn faultless_difference<F: Find, P: Predicate>()
+    ensures { FaultlessRunsGiveTheDifference F.objects F.faulty P.answers }
+{}
+
 /// In a list as of `each_once` a commit comes before each of its walked parents that is in the list.
 pub fn children_first<F: Find>()
     ensures { TakesChildrenFirst F.objects }
@@ -113,15 +140,15 @@ pub fn parents_known<F: Find, P: Predicate>()
     ensures { ParentsAreKnown F.objects F.faulty P.answers }
 {}
 
-/// A walk that was built, where the rows agree and all that is walked reads whole: as long as the rows are in use, a commit is given
-/// with the generation of its row, and with none where it has no row.
+/// A walk that was built, where the rows agree or there are none: as long as the rows are in use, a commit is given with the generation
+/// of its row, and with none where it has no row.
 pub fn tells<F: Find, P: Predicate>()
     ensures { TellsTheGenerations F.objects F.faulty P.answers }
 {}
 
-/// A walk that was built, where the rows agree and all that is walked reads whole, and that gave no fault: as long as the rows are in
-/// use, counting has read the parents of exactly the commits that tips or ends reach and that aren't below its depth, and no such
-/// commit has a corrupt row. The rows are dropped only for one; then it has read the parents of all that tips or ends reach.
+/// A walk that was built, where the rows agree or there are none, and that gave no fault: as long as the rows are in use, counting has
+/// read the parents of exactly the commits that tips or ends reach, by the parents that texts name, and that aren't below its depth,
+/// and no such commit has a corrupt row. The rows are dropped only for one; then it has read the parents of all that tips or ends reach.
 pub fn counts<F: Find, P: Predicate>()
     ensures { CountsDownToTheDepth F.objects F.faulty P.answers }
 {}

@@ -158,9 +158,9 @@ impl<F: Find + Drop, P: Predicate + Drop> Topo<F, P> {
 
     /// The number of different commits whose parents were read to count indegrees, from their rows or from the store.
     ///
-    /// Where the rows agree, all that is walked reads whole and no fault was given, these are all that tips reach by the walked
-    /// parents and all that ends reach, without a commit-graph and once it was dropped. As long as it is in use, they are those of
-    /// these commits that aren't below the least generation of tips, ends and the walked parents of the commits taken.
+    /// Where the rows agree or there are none, and no fault was given, these are all that tips reach by the walked parents and all
+    /// that ends reach, by the parents that texts name, without a commit-graph and once it was dropped. As long as it is in use, they
+    /// are those of these commits that aren't below the least generation of tips, ends and the walked parents of the commits taken.
     pub fn expanded(&self) -> usize
         ensures { result ≡ self.now.counted.expanded }
     {

@@ -27,7 +27,7 @@ use Rattle.gix_topo.specs.Inside.Searched.{IsCounted, IsBegun, IsExplored, next_
 use Rattle.gix_hash.specs.Reach.{Reaches}
 use Rattle.gix_topo.specs.Inside.Starting.{HasBegun, MeetsAll}
 use Rattle.gix_topo.specs.Inside.Steady.{IsDone, HasCounted}
-use Rattle.gix_topo.specs.Walk.{IsFirstReady, IsBuildFault, IsCommitRead, IsCounting, IsWalkable, IsReached}
+use Rattle.gix_topo.specs.Walk.{IsFirstReady, IsBuildFault, IsCommitRead, IsCounting, IsReached}
 use Rattle.gix_topo.proofs.Counts.ExploreKeeps.{explores_keep, explores_made, explores_same, explores_still}
 use Rattle.gix_topo.proofs.Counts.Expanded.{counts_on, explores_read}
 use Rattle.gix_topo.proofs.Counts.AllDownToDepth.{exact_there}
@@ -142,8 +142,8 @@ module _ {F : Type 0} (objects : F → Objects) (faulty : F → ObjectId → Typ
       dropped = λ f. absurd (true≢false (sym start.stands ∙ f));
     }
 
-    counts : IsWalkable objects faulty (plan_by low sorting tips ends) → HasCounted objects (plan_by low sorting tips ends) explored × IsCounting objects (plan_by low sorting tips ends) (counted_by explored)
-    counts sound = counts_on objects faulty sorting tips ends (λ i. false) low explored sound (counted_low (λ i. false) (λ i. refl)) start.begun counts_low (λ i d. absurd (undone i d)) explores rested
+    counts : IsAgreeing (objects (plan_by low sorting tips ends).store) (plan_by low sorting tips ends).rows → HasCounted objects (plan_by low sorting tips ends) explored × IsCounting objects (plan_by low sorting tips ends) (counted_by explored)
+    counts agrees = counts_on objects faulty sorting tips ends (λ i. false) low explored agrees (counted_low (λ i. false) (λ i. refl)) start.begun counts_low (λ i d. absurd (undone i d)) explores rested
 
     low_depth : Rows ≡ [] → low.depth ≤ infinity
     low_depth none = subst (λ d. d ≤ infinity) (sym start.depth) (least_below Rows infinity (tips ++ ends))
@@ -180,8 +180,8 @@ module _ {F : Type 0} (objects : F → Objects) (faulty : F → ObjectId → Typ
       begun = λ side i m. explores_still objects faulty explores side i (start.begun side i m);
       counted = λ taken untaken agrees. explores_keep objects faulty tips ends taken agrees explores (counted_low taken untaken);
       explored = λ agrees side. subst (λ d. IsExplored (objects low.reader.find) Rows low.parents tips ends d side explored.frontier) (sym same.depth) (there agrees side);
-      counts = λ sound. (counts sound).0;
-      counting = λ sound. (counts sound).1;
+      counts = λ agrees. (counts agrees).0;
+      counting = λ agrees. (counts agrees).1;
       all_read = explores_read objects faulty sorting tips ends (λ i. false) explores (λ i d. absurd (undone i d));
       dropped = explores_dropped objects faulty sorting tips ends (λ i. false) low (λ agrees. counted_low (λ i. false) (λ i. refl)) explores (λ e. absurd (true≢false (sym start.stands ∙ e)));
       idle = idle;

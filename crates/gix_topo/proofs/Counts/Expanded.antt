@@ -23,8 +23,8 @@ use Rattle.gix_revwalk.specs.Reading.{rows_of, DropsRows}
 use Rattle.gix_topo.specs.Inside.Releasing.{plan_by, counted_by}
 use Rattle.gix_topo.specs.Inside.Searched.{IsCounted, IsSearched, IsBegun, next_by, starts_by}
 use Rattle.gix_topo.specs.Inside.Steady.{IsDone, IsReadOnce, AreRead, HasCounted}
-use Rattle.gix_topo.specs.Walk.{TopoPlan, IsNumberOf, IsMet, IsInDepth, IsBrokenRow, IsCounting, IsWalkable}
-use Rattle.gix_topo.proofs.Counts.IndegreeZero.{done_seen, tips_text, text_tips, ends_text, text_ends}
+use Rattle.gix_topo.specs.Walk.{TopoPlan, IsNumberOf, IsInDepth, IsBrokenRow, IsCounting, IsReached}
+use Rattle.gix_topo.proofs.Counts.IndegreeZero.{done_seen}
 use Rattle.gix_topo.proofs.Counts.ExploreKeeps.{steps_keep, explores_keep, explores_same, explores_still, done_now}
 use Rattle.gix_topo.proofs.Counts.AllDownToDepth.{exact as exact_down}
 use Rattle.gix_revwalk.proofs.ReadsWhole.{row_stands, corrupt_row}
@@ -55,7 +55,7 @@ top_high standing depth (x ∷ queue) entry f p e =
 
 module _ {F : Type 0} (objects : F → Objects) (faulty : F → ObjectId → Type 0) where
   -- a row that isn't whole has a fault, where the rows agree
-  pub broken : (plan : TopoPlan F) → IsAgreeing (objects plan.store) plan.rows → (depth : ℕ) (i : ObjectId) → IsMet objects plan i → depth ≤ known_generation plan.rows i → DropsRows plan.rows i → IsBrokenRow objects plan depth
+  pub broken : (plan : TopoPlan F) → IsAgreeing (objects plan.store) plan.rows → (depth : ℕ) (i : ObjectId) → IsReached objects plan i → depth ≤ known_generation plan.rows i → DropsRows plan.rows i → IsBrokenRow objects plan depth
   broken plan agrees depth i r high d = record {
     id = i;
     row = d.0;
@@ -65,10 +65,8 @@ module _ {F : Type 0} (objects : F → Objects) (faulty : F → ObjectId → Typ
   }
 
   -- what is done is reached
-  pub done_reached : (plan : TopoPlan F) → IsWalkable objects faulty plan → (f : Frontier) → IsSearched (objects plan.store) plan.rows plan.parents plan.tips plan.ends f.queue f.known → (i : ObjectId) → IsDone f i → IsMet objects plan i
-  done_reached plan sound f h i d =
-      ⊎_elim (λ a. inl (text_tips (objects plan.store) (faulty plan.store) plan.rows plan.parents plan.tips plan.ends sound.agreeing sound.tips_whole sound.ends_whole i ((h.search Tips).within i (done_seen (reached f.known Tips i) a))))
-      (λ b. inr (text_ends (objects plan.store) (faulty plan.store) plan.rows plan.parents plan.tips plan.ends sound.agreeing sound.tips_whole sound.ends_whole i ((h.search Ends).within i (done_seen (reached f.known Ends i) b)))) d
+  pub done_reached : (plan : TopoPlan F) (f : Frontier) → IsSearched (objects plan.store) plan.rows plan.parents plan.tips plan.ends f.queue f.known → (i : ObjectId) → IsDone f i → IsReached objects plan i
+  done_reached plan f h i d = ⊎_elim (λ a. inl ((h.search Tips).within i (done_seen (reached f.known Tips i) a))) (λ b. inr ((h.search Ends).within i (done_seen (reached f.known Ends i) b))) d
 
   -- a step is done with one id
   module _ (old new : Counting F) (s : Steps objects faulty old new) where
@@ -127,8 +125,8 @@ module _ {F : Type 0} (objects : F → Objects) (faulty : F → ObjectId → Typ
     Told plan f = IsCounted (objects plan.store) plan.rows plan.parents plan.tips plan.ends taken f
 
     -- a step keeps what holds of the done commits
-    steps_counts : (old new : Counting F) → IsWalkable objects faulty (Plan old) → Told (Plan old) old.frontier → is_pending old.reader.standing old.depth old.frontier.queue ≡ true → Steps objects faulty old new → HasCounted objects (Plan old) old → HasCounted objects (Plan old) new
-    steps_counts old new sound counted pending s h = record {
+    steps_counts : (old new : Counting F) → IsAgreeing (objects (Plan old).store) (Plan old).rows → Told (Plan old) old.frontier → is_pending old.reader.standing old.depth old.frontier.queue ≡ true → Steps objects faulty old new → HasCounted objects (Plan old) old → HasCounted objects (Plan old) new
+    steps_counts old new agrees counted pending s h = record {
       number = steps_number old new s h.number;
       high = λ e i d. subst (λ n. n ≤ known_generation (Plan old).rows i) (sym s.same.depth) (⊎_elim (λ q. subst (λ j. old.depth ≤ known_generation (Plan old).rows j) q (high (reads_stands objects faulty s.reads.reads e))) (λ o. h.high (reads_stands objects faulty s.reads.reads e) i o) (steps_to old new s i d));
       dropped = λ e. subst (IsBrokenRow objects (Plan old)) (sym s.same.depth) (drops old.reader.standing refl e);
@@ -140,23 +138,23 @@ module _ {F : Type 0} (objects : F → Objects) (faulty : F → ObjectId → Typ
         high : old.reader.standing ≡ true → old.depth ≤ known_generation (Plan old).rows s.entry.1.id
         high e = subst (λ n. old.depth ≤ n) (counted.searched.keyed s.entry queued) (top_high old.reader.standing old.depth old.frontier.queue s.entry s.first pending e)
 
-        is_reached : IsMet objects (Plan old) s.entry.1.id
-        is_reached = done_reached (Plan old) sound new.frontier (steps_keep objects faulty tips ends taken old new sound.agreeing s counted).searched s.entry.1.id (steps_here old new s)
+        is_reached : IsReached objects (Plan old) s.entry.1.id
+        is_reached = done_reached (Plan old) new.frontier (steps_keep objects faulty tips ends taken old new agrees s counted).searched s.entry.1.id (steps_here old new s)
 
         drops : (b : Bool) → old.reader.standing ≡ b → new.reader.standing ≡ false → IsBrokenRow objects (Plan old) old.depth
-        drops true q e = broken (Plan old) sound.agreeing old.depth s.entry.1.id is_reached (high q) (reads_drops objects faulty s.reads.reads q e)
+        drops true q e = broken (Plan old) agrees old.depth s.entry.1.id is_reached (high q) (reads_drops objects faulty s.reads.reads q e)
         drops false q e = h.dropped q
 
     same_plan : {old new : Counting F} → IsSamePlan objects faulty old new → Plan new ≡ Plan old
     same_plan s k = record { store = s.find k; rows = rows_of (s.graph k); parents = s.parents k; sorting = sorting; tips = tips; ends = ends }
 
-    explores_counts : {old new : Counting F} → IsWalkable objects faulty (Plan old) → Told (Plan old) old.frontier → Explores objects faulty old new → HasCounted objects (Plan old) old → HasCounted objects (Plan old) new
-    explores_counts sound counted itself h = h
-    explores_counts {old = old} sound counted (further {mid = mid} {new = new} e p s) h =
+    explores_counts : {old new : Counting F} → IsAgreeing (objects (Plan old).store) (Plan old).rows → Told (Plan old) old.frontier → Explores objects faulty old new → HasCounted objects (Plan old) old → HasCounted objects (Plan old) new
+    explores_counts agrees counted itself h = h
+    explores_counts {old = old} agrees counted (further {mid = mid} {new = new} e p s) h =
         let same : Plan mid ≡ Plan old = same_plan (explores_same objects faulty e) in
-        let there : Told (Plan old) mid.frontier = explores_keep objects faulty tips ends taken sound.agreeing e counted in
-        let before : HasCounted objects (Plan old) mid = explores_counts sound counted e h in
-        subst (λ plan. HasCounted objects plan new) same (steps_counts mid new (subst (IsWalkable objects faulty) (sym same) sound) (subst (λ plan. Told plan mid.frontier) (sym same) there) p s (subst (λ plan. HasCounted objects plan mid) (sym same) before))
+        let there : Told (Plan old) mid.frontier = explores_keep objects faulty tips ends taken agrees e counted in
+        let before : HasCounted objects (Plan old) mid = explores_counts agrees counted e h in
+        subst (λ plan. HasCounted objects plan new) same (steps_counts mid new (subst (λ plan. IsAgreeing (objects plan.store) plan.rows) (sym same) agrees) (subst (λ plan. Told plan mid.frontier) (sym same) there) p s (subst (λ plan. HasCounted objects plan mid) (sym same) before))
 
     -- what is done after exploring was read
     pub explores_read : {old new : Counting F} → Explores objects faulty old new → AreRead objects faulty (Plan old) old → AreRead objects faulty (Plan old) new
@@ -168,25 +166,25 @@ module _ {F : Type 0} (objects : F → Objects) (faulty : F → ObjectId → Typ
         here = subst (λ plan. IsReadOnce objects faulty plan new.reader.standing s.entry.1.id) (same_plan (explores_same objects faulty e)) (record { info = s.reads.info; before = mid.reader.standing; after = new.reader.standing; reads = s.reads.reads; later = λ k. k })
 
     -- after exploring, what holds of the done commits holds of all that is reached down to the depth
-    pub counts_on : (low explored : Counting F) → IsWalkable objects faulty (Plan low) → Told (Plan low) low.frontier → ((side : Side) → IsBegun tips ends side low.frontier) → HasCounted objects (Plan low) low → AreRead objects faulty (Plan low) low → Explores objects faulty low explored → IsRested explored.reader.standing explored.depth explored.frontier.queue → HasCounted objects (Plan low) explored × IsCounting objects (Plan low) (counted_by explored)
-    counts_on low explored sound counted begun h reads e rested = (counts, record { exact = exact; all = all; dropped = counts.dropped; whole = whole })
+    pub counts_on : (low explored : Counting F) → IsAgreeing (objects (Plan low).store) (Plan low).rows → Told (Plan low) low.frontier → ((side : Side) → IsBegun tips ends side low.frontier) → HasCounted objects (Plan low) low → AreRead objects faulty (Plan low) low → Explores objects faulty low explored → IsRested explored.reader.standing explored.depth explored.frontier.queue → HasCounted objects (Plan low) explored × IsCounting objects (Plan low) (counted_by explored)
+    counts_on low explored agrees counted begun h reads e rested = (counts, record { exact = exact; all = all; dropped = counts.dropped; whole = whole })
       where
         counts : HasCounted objects (Plan low) explored
-        counts = explores_counts sound counted e h
+        counts = explores_counts agrees counted e h
 
         there : Told (Plan low) explored.frontier
-        there = explores_keep objects faulty tips ends taken sound.agreeing e counted
+        there = explores_keep objects faulty tips ends taken agrees e counted
 
         -- what is reached, and isn't below a depth to which exploring rests, is done
         done_down : (depth : ℕ) → IsRested explored.reader.standing depth explored.frontier.queue → (i : ObjectId) → IsInDepth objects (Plan low) depth i → IsDone explored.frontier i
         done_down depth rests i d =
             let there_by : (side : Side) → Reaches (next_by (objects low.reader.find) low.parents side) (starts_by tips ends side) i → is_done (reached explored.frontier.known side i) ≡ true =
-            λ side r. exact_down (objects low.reader.find) (faulty low.reader.find) (Plan low).rows low.parents tips ends sound.agreeing explored.frontier explored.reader.standing depth there.searched rests side (λ j m. explores_still objects faulty e side j (begun side j m)) i r d.high in
-            ⊎_elim (λ a. inl (there_by Tips (tips_text (objects low.reader.find) (faulty low.reader.find) (Plan low).rows low.parents tips ends sound.agreeing sound.tips_whole sound.ends_whole i a)))
-            (λ b. inr (there_by Ends (ends_text (objects low.reader.find) (faulty low.reader.find) (Plan low).rows low.parents tips ends sound.agreeing sound.tips_whole sound.ends_whole i b))) d.reached
+            λ side r. exact_down (objects low.reader.find) (faulty low.reader.find) (Plan low).rows low.parents tips ends agrees explored.frontier explored.reader.standing depth there.searched rests side (λ j m. explores_still objects faulty e side j (begun side j m)) i r d.high in
+            ⊎_elim (λ a. inl (there_by Tips a))
+            (λ b. inr (there_by Ends b)) d.reached
 
-        done_met : (i : ObjectId) → IsDone explored.frontier i → IsMet objects (Plan low) i
-        done_met = done_reached (Plan low) sound explored.frontier there.searched
+        done_met : (i : ObjectId) → IsDone explored.frontier i → IsReached objects (Plan low) i
+        done_met = done_reached (Plan low) explored.frontier there.searched
 
         whole : explored.reader.standing ≡ true → IsBrokenRow objects (Plan low) explored.depth → ⊥
         whole stands b = once_whole objects faulty (Plan low) (explores_read e reads b.id (done_down explored.depth rested b.id b.in_depth)) stands b.row b.by_row b.corrupt
@@ -197,7 +195,7 @@ module _ {F : Type 0} (objects : F → Objects) (faulty : F → ObjectId → Typ
             (λ i d. record { reached = done_met i d; high = counts.high stands i d }) (done_down explored.depth rested) counts.number
 
         -- with the rows dropped nothing waits
-        all : explored.reader.standing ≡ false → IsNumberOf (IsMet objects (Plan low)) explored.expanded
+        all : explored.reader.standing ≡ false → IsNumberOf (IsReached objects (Plan low)) explored.expanded
         all dropped =
-            number_same (IsDone explored.frontier) (IsMet objects (Plan low)) explored.expanded explored.expanded refl done_met
+            number_same (IsDone explored.frontier) (IsReached objects (Plan low)) explored.expanded explored.expanded refl done_met
             (λ i r. done_down 0 (⊎_elim (λ q. inl q) (λ held. absurd (true≢false (sym held.0 ∙ dropped))) rested) i (record { reached = r; high = omega arith })) counts.number

@@ -1,6 +1,6 @@
 -- What indegree 0 means after exploring: no child is left that wasn't taken; and what the ends reach was seen.
 use Rattle.std.specs.Prelude.{◌≡◌, ◌≤◌, ℕ, zero, suc, List, Bool, true, false, Contains}
-use Rattle.std.proofs.Common.{refl, sym, subst, ◌∙◌, arith}
+use Rattle.std.proofs.Common.{refl, sym, ◌∙◌, arith}
 use Rattle.std.proofs.lemmas.Bool.{true≢false}
 use Rattle.gix_hash.specs.declared.ObjectId.{ObjectId}
 use Rattle.gix_object.specs.Object.{Objects}
@@ -15,14 +15,13 @@ use Rattle.gix_frontier.specs.declared.Frontier.{Frontier}
 use Rattle.gix_revwalk.specs.Agreeing.{IsAgreeing}
 use Rattle.gix_topo.specs.Depth.{known_generation}
 use Rattle.gix_frontier.specs.Inside.Frontier.{is_seen, is_done, reached}
-use Rattle.gix_revwalk.specs.Commits.{ReadsWhole, by_mode, parents_of, walked_parents}
-use Rattle.gix_hash.specs.Reach.{Reaches, start, step}
+use Rattle.gix_revwalk.specs.Commits.{by_mode}
+use Rattle.gix_hash.specs.Reach.{Reaches, step}
 use Rattle.gix_topo.specs.Inside.Searched.{IsExplored, IsTally, text_next, next_by, starts_by}
 use Rattle.gix_topo.specs.WalkSet.{IsInWalk, IsChild}
 use Rattle.gix_topo.proofs.Counts.Children.{tally_counts, tally_child, IsOpenChild}
-use Rattle.gix_topo.proofs.Reading.ReadsCommit.{text_has, parents_lower}
+use Rattle.gix_topo.proofs.Reading.ReadsCommit.{parents_lower}
 use Rattle.gix_revwalk.proofs.ReadsWhole.{walked_within}
-use Rattle.gix_revwalk.proofs.TextParents.{text_whole}
 
 pub done_seen : (p : Progress) → is_done p ≡ true → is_seen p ≡ true
 done_seen Unseen e = cc
@@ -51,60 +50,38 @@ module _ (objects : Objects) (faulty : ObjectId → Type 0) (rows : List GraphRo
 
 module _ (objects : Objects) (faulty : ObjectId → Type 0) (rows : List GraphRow) (parents : Parents) (tips ends : List ObjectId) where
   abbrev walked : ObjectId → List ObjectId
-  walked = walked_parents objects parents
+  walked i = by_mode parents (text_next objects i)
 
   abbrev In : ObjectId → Type 0
-  In = IsInWalk walked (parents_of objects) tips ends
+  In = IsInWalk walked (text_next objects) tips ends
 
-  module _ (agrees : IsAgreeing objects rows) (tips_whole : (i : ObjectId) → Reaches walked tips i → ReadsWhole objects i) (ends_whole : (i : ObjectId) → Reaches (parents_of objects) ends i → ReadsWhole objects i) where
-    -- over a sound history, what texts name is what is reached
-    pub tips_text : (i : ObjectId) → Reaches walked tips i → Reaches (next_by objects parents Tips) tips i
-    tips_text i (start m) = start m
-    tips_text i (step {c = c} r m) = step (tips_text c r) (subst (λ ids. Contains (by_mode parents ids) i) (text_whole objects c (tips_whole c r)) m)
+  -- after exploring, and after one commit more was taken
+  module _ (agrees : IsAgreeing objects rows) (f : Frontier) (depth : ℕ) (explored : (side : Side) → IsExplored objects rows parents tips ends depth side f)
+      (within : (side : Side) (i : ObjectId) → is_seen (reached f.known side i) ≡ true → Reaches (next_by objects parents side) (starts_by tips ends side) i)
+      (taken : ObjectId → Bool) (children : ObjectId → ℕ) (tally : IsTally (next_by objects parents Tips) (λ i. is_done (reached f.known Tips i)) taken children) where
+    -- no child is left that wasn't taken
+    pub none_left : (p : ObjectId) → children p ≡ 0 → depth ≤ known_generation rows p → (d : ObjectId) → IsChild walked In d p → taken d ≡ true
+    none_left p z high d c = text_left objects faulty rows parents tips ends agrees f depth explored taken children tally p z high d c.child.reached c.named
 
-    pub text_tips : (i : ObjectId) → Reaches (next_by objects parents Tips) tips i → Reaches walked tips i
-    text_tips i (start m) = start m
-    text_tips i (step {c = c} r m) = let h : Reaches walked tips c = text_tips c r in step h (subst (λ ids. Contains (by_mode parents ids) i) (sym (text_whole objects c (tips_whole c h))) m)
+    -- what ends reach was seen by their side
+    pub outside : (p : ObjectId) → is_seen (reached f.known Ends p) ≡ false → depth ≤ known_generation rows p → Reaches (text_next objects) ends p → ⊥
+    outside p e high r = text_outside objects faulty rows parents tips ends agrees f depth explored p e high r
 
-    pub ends_text : (i : ObjectId) → Reaches (parents_of objects) ends i → Reaches (next_by objects parents Ends) ends i
-    ends_text i (start m) = start m
-    ends_text i (step {c = c} r m) = step (ends_text c r) (text_has objects c i m)
+    pub unseen : (p : ObjectId) → In p → is_seen (reached f.known Ends p) ≡ false
+    unseen p m = go (is_seen (reached f.known Ends p)) refl
+      where
+        go : (b : Bool) → is_seen (reached f.known Ends p) ≡ b → b ≡ false
+        go true e = absurd (m.outside (within Ends p e))
+        go false e = refl
 
-    pub text_ends : (i : ObjectId) → Reaches (next_by objects parents Ends) ends i → Reaches (parents_of objects) ends i
-    text_ends i (start m) = start m
-    text_ends i (step {c = c} r m) = let h : Reaches (parents_of objects) ends c = text_ends c r in step h (subst (λ ids. Contains ids i) (sym (text_whole objects c (ends_whole c h))) m)
-
-    -- after exploring, and after one commit more was taken
-    module _ (f : Frontier) (depth : ℕ) (explored : (side : Side) → IsExplored objects rows parents tips ends depth side f)
-        (within : (side : Side) (i : ObjectId) → is_seen (reached f.known side i) ≡ true → Reaches (next_by objects parents side) (starts_by tips ends side) i)
-        (taken : ObjectId → Bool) (children : ObjectId → ℕ) (tally : IsTally (next_by objects parents Tips) (λ i. is_done (reached f.known Tips i)) taken children) where
-      named_text : (d p : ObjectId) → Reaches walked tips d → Contains (walked d) p → Contains (next_by objects parents Tips d) p
-      named_text d p r m = subst (λ ids. Contains (by_mode parents ids) p) (text_whole objects d (tips_whole d r)) m
-
-      -- no child is left that wasn't taken
-      pub none_left : (p : ObjectId) → children p ≡ 0 → depth ≤ known_generation rows p → (d : ObjectId) → IsChild walked In d p → taken d ≡ true
-      none_left p z high d c = text_left objects faulty rows parents tips ends agrees f depth explored taken children tally p z high d (tips_text d c.child.reached) (named_text d p c.child.reached c.named)
-
-      -- what ends reach was seen by their side
-      pub outside : (p : ObjectId) → is_seen (reached f.known Ends p) ≡ false → depth ≤ known_generation rows p → Reaches (parents_of objects) ends p → ⊥
-      outside p e high r = text_outside objects faulty rows parents tips ends agrees f depth explored p e high (ends_text p r)
-
-      pub unseen : (p : ObjectId) → In p → is_seen (reached f.known Ends p) ≡ false
-      unseen p m = go (is_seen (reached f.known Ends p)) refl
-        where
-          go : (b : Bool) → is_seen (reached f.known Ends p) ≡ b → b ≡ false
-          go true e = absurd (m.outside (text_ends p (within Ends p e)))
-          go false e = refl
-
-      -- where all children were taken, none is left
-      pub all_taken : (p : ObjectId) → In p → ((d : ObjectId) → IsChild walked In d p → taken d ≡ true) → children p ≡ 0
-      all_taken p m all = go (children p) refl
-        where
-          go : (n : ℕ) → children p ≡ n → n ≡ 0
-          go zero e = refl
-          go (suc n) e =
-              let k : IsOpenChild (next_by objects parents Tips) (λ i. is_done (reached f.known Tips i)) taken p = tally_child (next_by objects parents Tips) (λ i. is_done (reached f.known Tips i)) taken children tally p (omega arith) in
-              let r : Reaches walked tips k.id = text_tips k.id (within Tips k.id (done_seen (reached f.known Tips k.id) k.done_now)) in
-              let w : Contains (walked k.id) p = subst (λ ids. Contains (by_mode parents ids) p) (sym (text_whole objects k.id (tips_whole k.id r))) k.names in
-              let c : IsChild walked In k.id p = record { child = record { reached = r; outside = λ e. m.outside (step e (walked_within parents (parents_of objects k.id) p w)) }; parent = m; named = w } in
-              absurd (true≢false (sym (all k.id c) ∙ k.untaken))
+    -- where all children were taken, none is left
+    pub all_taken : (p : ObjectId) → In p → ((d : ObjectId) → IsChild walked In d p → taken d ≡ true) → children p ≡ 0
+    all_taken p m all = go (children p) refl
+      where
+        go : (n : ℕ) → children p ≡ n → n ≡ 0
+        go zero e = refl
+        go (suc n) e =
+            let k : IsOpenChild (next_by objects parents Tips) (λ i. is_done (reached f.known Tips i)) taken p = tally_child (next_by objects parents Tips) (λ i. is_done (reached f.known Tips i)) taken children tally p (omega arith) in
+            let r : Reaches walked tips k.id = within Tips k.id (done_seen (reached f.known Tips k.id) k.done_now) in
+            let c : IsChild walked In k.id p = record { child = record { reached = r; outside = λ e. m.outside (step e (walked_within parents (text_next objects k.id) p k.names)) }; parent = m; named = k.names } in
+            absurd (true≢false (sym (all k.id c) ∙ k.untaken))

@@ -27,7 +27,7 @@ use Rattle.gix_topo.specs.Inside.Releasing.{plan_by, plan_of, IsPushFault, itsel
 use Rattle.gix_topo.specs.Inside.Searched.{IsCounted, next_by, starts_by}
 use Rattle.gix_topo.specs.Inside.Steady.{AreDroppedFor}
 use Rattle.gix_topo.specs.Walk.{TopoPlan, walked_of, IsSound, IsFault, IsReached, IsLookedUp, DropsBy}
-use Rattle.gix_topo.proofs.Counts.IndegreeZero.{text_tips, text_ends}
+use Rattle.gix_topo.proofs.Reading.WholeTexts.{text_tips, text_ends}
 use Rattle.gix_revwalk.proofs.Committer.{fault_unread}
 use Rattle.gix_topo.proofs.Counts.ExploreKeeps.{explores_same}
 use Rattle.gix_topo.proofs.Counts.RowsDropped.{reached_by, read_dropped, unrowed_own, unrowed_parent, queued_within, explores_dropped}
@@ -52,8 +52,8 @@ read_misses_no_count objects faulty i e f = λ q. subst (IsReadFault objects fau
 module _ {F : Type 0} (objects : F → Objects) (faulty : F → ObjectId → Type 0) (plan : TopoPlan F) where
   -- what is reached reads whole then
   pub reached_whole : IsSound objects faulty plan → (side : Side) (i : ObjectId) → Reaches (next_by (objects plan.store) plan.parents side) (starts_by plan.tips plan.ends side) i → ReadsWhole (objects plan.store) i
-  reached_whole s Tips i r = s.tips_whole i (text_tips (objects plan.store) (faulty plan.store) plan.rows plan.parents plan.tips plan.ends s.agreeing s.tips_whole s.ends_whole i r)
-  reached_whole s Ends i r = s.ends_whole i (text_ends (objects plan.store) (faulty plan.store) plan.rows plan.parents plan.tips plan.ends s.agreeing s.tips_whole s.ends_whole i r)
+  reached_whole s Tips i r = s.tips_whole i (text_tips (objects plan.store) plan.parents plan.tips plan.ends s.tips_whole i r)
+  reached_whole s Ends i r = s.ends_whole i (text_ends (objects plan.store) plan.parents plan.tips plan.ends s.ends_whole i r)
 
   -- a fault at a commit that is looked up with rows that agree, of which no row is in use, and that reads whole in a sound history
   pub read_fault : (Q : ObjectId → Type 0) (i : ObjectId) (e : Error) → (IsAgreeing (objects plan.store) plan.rows → IsLookedUp objects plan Q i) → (e ≢ error.Memory → (known_generation plan.rows i ≡ infinity) ⊎ DropsBy objects plan) → (IsSound objects faulty plan → ReadsWhole (objects plan.store) i) → IsReadFault (objects plan.store) (faulty plan.store) i e → IsFault objects faulty plan Q e
@@ -86,7 +86,7 @@ module _ {F : Type 0} (objects : F → Objects) (faulty : F → ObjectId → Typ
     where
       parent_whole : IsSound objects faulty (plan_of old) → ReadsWhole (objects (plan_of old).store) p
       parent_whole s =
-          let reach : Reaches (walked_of objects (plan_of old)) (plan_of old).tips i = text_tips (objects (plan_of old).store) (faulty (plan_of old).store) (plan_of old).rows (plan_of old).parents (plan_of old).tips (plan_of old).ends s.agreeing s.tips_whole s.ends_whole i (r s.agreeing) in
+          let reach : Reaches (walked_of objects (plan_of old)) (plan_of old).tips i = text_tips (objects (plan_of old).store) (plan_of old).parents (plan_of old).tips (plan_of old).ends s.tips_whole i (r s.agreeing) in
           let same : info.parent_ids.items ≡ parents_of (objects (plan_of old).store) i = reads_text_next (objects (plan_of old).store) (faulty (plan_of old).store) (plan_of old).rows s.agreeing reads ∙ sym (text_whole (objects (plan_of old).store) i (s.tips_whole i reach)) in
           s.parents_whole i p reach (subst (λ ids. Contains ids p) same m)
 

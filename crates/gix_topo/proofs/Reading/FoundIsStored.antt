@@ -14,16 +14,15 @@ use Rattle.gix_revwalk.specs.declared.Info.{Info}
 use Rattle.gix_revwalk.specs.declared.read.RowRead.{RowRead}
 use Rattle.gix_revwalk.specs.Agreeing.{IsAgreeing}
 use Rattle.gix_topo.specs.Depth.{infinity}
-use Rattle.gix_revwalk.specs.Commits.{ReadsWhole, time_of, time_in, commit_of_object}
+use Rattle.gix_revwalk.specs.Commits.{time_of, time_in, commit_of_object}
 use Rattle.gix_revwalk.specs.Reading.{RowSays, is_read}
 use Rattle.gix_topo.specs.Reading.{Reads, by_row, by_text, told_generation, time_of_committer}
 use Rattle.gix_topo.specs.Inside.Searched.{text_next}
 use Rattle.gix_revwalk.specs.Infos.{IsRowGeneration}
-use Rattle.gix_topo.specs.Walk.{TopoPlan, Ready, IsWalkable, IsStored, named_ids, row_generation, IsFound}
+use Rattle.gix_topo.specs.Walk.{TopoPlan, Ready, IsStored, named_ids, row_generation, IsFound}
 use Rattle.gix_revwalk.proofs.Rows.{passed_over}
 use Rattle.gix_revwalk.proofs.CommitterTime.{TellsTime, tells}
 use Rattle.gix_revwalk.proofs.ReadsWhole.{row_stands, row_says_time}
-use Rattle.gix_revwalk.proofs.TextParents.{text_whole}
 use Rattle.gix_topo.proofs.Reading.ReadsCommit.{reads_named, reads_text_next}
 
 committer_time : (o : Option Commit) (q : Result (List ℕ) DecodeError) → TellsTime o q → time_of_committer q ≡ time_in o
@@ -59,11 +58,11 @@ module _ {F : Type 0} (objects : F → Objects) (faulty : F → ObjectId → Typ
   pub found_named : {stood standing : Bool} {r : Ready} → IsFound objects faulty plan stood standing r → (p : ObjectId) → Contains r.parents p → is_among p (named_ids (objects plan.store) plan.rows) ≡ true
   found_named f p m = reads_named (objects plan.store) (faulty plan.store) plan.rows f.reads p (subst (λ ids. Contains ids p) (sym f.is.same_parents) m)
 
-  -- of a sound walk, it is as the store and the rows say
-  pub found_stored : {stood standing : Bool} {r : Ready} → IsWalkable objects faulty plan → IsFound objects faulty plan stood standing r → ReadsWhole (objects plan.store) r.id → IsStored objects plan standing r
-  found_stored {r = r} sound f whole = record {
-    parents = found_text sound.agreeing f ∙ sym (text_whole (objects plan.store) r.id whole);
-    time = let same : Some r.time ≡ Some (time_of (objects plan.store) r.id) = sym f.is.same_time ∙ reads_time (objects plan.store) (faulty plan.store) plan.rows sound.agreeing f.reads in cc;
-    by_row = subst (IsRowGeneration plan.rows r.id) f.is.same_generation (reads_row (objects plan.store) (faulty plan.store) plan.rows sound.agreeing f.reads);
-    told = λ e. sym f.is.same_generation ∙ reads_told (objects plan.store) (faulty plan.store) plan.rows sound.agreeing f.reads (f.later e);
+  -- with rows that agree, it is as its text and the rows say
+  pub found_stored : {stood standing : Bool} {r : Ready} → IsAgreeing (objects plan.store) plan.rows → IsFound objects faulty plan stood standing r → IsStored objects plan standing r
+  found_stored {r = r} agrees f = record {
+    parents = found_text agrees f;
+    time = let same : Some r.time ≡ Some (time_of (objects plan.store) r.id) = sym f.is.same_time ∙ reads_time (objects plan.store) (faulty plan.store) plan.rows agrees f.reads in cc;
+    by_row = subst (IsRowGeneration plan.rows r.id) f.is.same_generation (reads_row (objects plan.store) (faulty plan.store) plan.rows agrees f.reads);
+    told = λ e. sym f.is.same_generation ∙ reads_told (objects plan.store) (faulty plan.store) plan.rows agrees f.reads (f.later e);
   }

@@ -21,25 +21,25 @@ use Rattle.gix_topo.specs.declared.Sorting.TheVariants as order
 use Rattle.gix_topo.specs.declared.Error.{Error}
 use Rattle.gix_topo.specs.declared.Error.TheVariants as error
 use Rattle.gix_revwalk.specs.TimeOrder.{IsBest}
-use Rattle.gix_revwalk.specs.Commits.{time_of, parents_of}
+use Rattle.gix_revwalk.specs.Commits.{time_of}
+use Rattle.gix_revwalk.specs.Texts.{text_next}
 use Rattle.gix_topo.specs.WalkSet.{IsReady}
 use Rattle.gix_topo.specs.TopoOrder.{Keeps, last_places, IsMadeReady}
 use Rattle.gix_revwalk.specs.Infos.{IsInfo}
 use Rattle.gix_revwalk.specs.Asking.{Becomes, itself, further, AnswersBy}
-use Rattle.gix_topo.specs.Walk.{TopoPlan, TopoWalk, Ready, Counted, ready_ids, IsTaken, HoldsReady, Chooses, walked_of, IsMember, IsStored, IsSound, IsWalkable, IsFault, StartsWith, IsStarted, Takes, after, Next, ended, given, refused, failed}
-use Rattle.gix_topo.specs.Laws.{IsNoRefusal, IsSorted, IsSortedBeginning, IsGiven, GivesInOrder, BeginsInOrder, IsWholeRun}
+use Rattle.gix_revwalk.specs.Agreeing.{IsAgreeing}
+use Rattle.gix_topo.specs.Walk.{TopoPlan, TopoWalk, Ready, Counted, ready_ids, IsTaken, HoldsReady, Chooses, IsStored, IsSound, IsFault, StartsWith, IsStarted, Takes, after, Next, ended, given, refused, failed, text_walked, IsTextMember, walked_of, IsMember}
+use Rattle.gix_topo.specs.Laws.{IsNoRefusal, IsSorted, IsSortedBeginning, IsGiven, IsTextGiven, GivesInOrder, BeginsInOrder, GivesTextOrder, BeginsTextOrder, IsWholeRun}
 use Rattle.gix_hash.proofs.Ids.Membership.{id_total, same_from, among-append, among-one, among_from, among_is, Contains-here, Contains-there, Contains-cons_cases, no_member}
 use Rattle.gix_revwalk.proofs.Drained.{at_end, at_first}
 use Rattle.gix_revwalk.proofs.NewIds.{times, times_is_among, among_times}
 use Rattle.gix_topo.proofs.Readiness.IsReady.{times-by_time, keeps_from, keeps_alike, AreReady, ready_alike, takes_ready, starts_ready, in_walk_top}
 use Rattle.gix_topo.proofs.Run.ReadyInTurn.{TurnsFrom, turn_none, turn_more, turn_at, IsLastMade, reverse_in, in_reverse}
 use Rattle.gix_revwalk.proofs.ReadsWhole.{walked_within}
-use Rattle.gix_topo.proofs.Readiness.ReadyIds.{from_ids, holds_times, holds_in, joined_times, chosen_times, chosen_in, others_in}
-use Rattle.gix_hash.proofs.Lists.{filter_all}
-
--- where all that may be looked up reads whole, all that is walked does
-walkable : {F : Type 0} (objects : F → Objects) (faulty : F → ObjectId → Type 0) (plan : TopoPlan F) → IsSound objects faulty plan → IsWalkable objects faulty plan
-walkable objects faulty plan s = record { agreeing = s.agreeing; tips_whole = s.tips_whole; ends_whole = s.ends_whole }
+use Rattle.gix_topo.proofs.Reading.WholeTexts.{member_text, text_member, member_names, member_walks}
+use Rattle.gix_topo.proofs.Run.SameOrder.{sorted_to, begins_to}
+use Rattle.gix_topo.proofs.Readiness.ReadyIds.{in_ids, from_ids, holds_times, holds_in, joined_times, chosen_times, chosen_in, others_in}
+use Rattle.gix_hash.proofs.Lists.{filter_all, filter_within}
 
 -- filters
 filter-reverse : (p : ObjectId → Bool) (xs : List ObjectId) → filter p (reverse xs) ≡ reverse (filter p xs)
@@ -97,13 +97,6 @@ module _ {F P : Type 0} (objects : F → Objects) (faulty : F → ObjectId → T
   abbrev IsAnywhere : TopoWalk F P → Type 0
   IsAnywhere w = Unit {0}
 
-  sound_fault : (plan : TopoPlan F) (Q : ObjectId → Type 0) (e : Error) → IsSound objects faulty plan → IsFault objects faulty plan Q e → (e ≡ error.Memory) ⊎ (e ≡ error.Find existing.Store)
-  sound_fault plan Q error.MissingIndegreeUnexpected s f = absurd (f s.agreeing)
-  sound_fault plan Q error.MissingStateUnexpected s f = absurd f
-  sound_fault plan Q (error.Find e) s f = inr (f.2.store_fails s)
-  sound_fault plan Q (error.ObjectDecode e) s f = inr (f.2.store_fails s)
-  sound_fault plan Q error.Memory s f = inl refl
-
   no_answer : {w new : TopoWalk F P} {o : Option (Result Info Error)} → Next objects faulty answers w o new → o ≡ None → AnswersBy answers w.predicate accepts → (ids : List ObjectId) × Draws HasEnded w ids []
   no_answer (ended e) n by = ([], stops e)
   no_answer (given t a is) n by = cc
@@ -112,76 +105,93 @@ module _ {F P : Type 0} (objects : F → Objects) (faulty : F → ObjectId → T
       (c.id ∷ r.0, hides t (sym (by w.predicate q c.id false itself a)) r.1)
   no_answer (failed c others ch f l) n by = cc
 
-  one_answer : {Stops : TopoWalk F P → Type 0} {w new : TopoWalk F P} {o : Option (Result Info Error)} → Next objects faulty answers w o new → (answer : Result Info Error) (list : List (Result Info Error)) → o ≡ Some answer → IsNoRefusal answer → IsSound objects faulty w.plan → AnswersBy answers w.predicate accepts →
-      (IsSound objects faulty new.plan → AnswersBy answers new.predicate accepts → (ids : List ObjectId) × Draws Stops new ids list) → (ids : List ObjectId) × Draws Stops w ids (answer ∷ list)
-  one_answer {Stops} (ended e) answer list n ok s by rest = cc
-  one_answer {Stops} (given {old = w} {c = c} {predicate = q} {info = info} t a is) answer list n ok s by rest =
+  -- no answer is a fault
+  abbrev IsFaultless : List (Result Info Error) → Type 0
+  IsFaultless list = (e : Error) → Contains list (Err e) → ⊥
+
+  one_answer : {Stops : TopoWalk F P → Type 0} {w new : TopoWalk F P} {o : Option (Result Info Error)} → Next objects faulty answers w o new → (answer : Result Info Error) (list : List (Result Info Error)) → o ≡ Some answer → ((e : Error) → answer ≡ Err e → ⊥) → AnswersBy answers w.predicate accepts →
+      (AnswersBy answers new.predicate accepts → (ids : List ObjectId) × Draws Stops new ids list) → (ids : List ObjectId) × Draws Stops w ids (answer ∷ list)
+  one_answer {Stops} (ended e) answer list n ok by rest = cc
+  one_answer {Stops} (given {old = w} {c = c} {predicate = q} {info = info} t a is) answer list n ok by rest =
       let same : Ok info ≡ answer = cc in
-      let r : (ids : List ObjectId) × Draws Stops (after objects faulty answers w c _ _ q) ids list = rest s (answers_on answers accepts w.predicate q c.id true a by) in
+      let r : (ids : List ObjectId) × Draws Stops (after objects faulty answers w c _ _ q) ids list = rest (answers_on answers accepts w.predicate q c.id true a by) in
       (c.id ∷ r.0, subst (λ x. Draws Stops w (c.id ∷ r.0) (x ∷ list)) same (shows t (sym (by w.predicate q c.id true itself a)) is r.1))
-  one_answer {Stops} (refused {old = w} {c = c} {predicate = q} t a next) answer list n ok s by rest =
-      let r : (ids : List ObjectId) × Draws Stops (after objects faulty answers w c _ _ q) ids (answer ∷ list) = one_answer next answer list n ok s (answers_on answers accepts w.predicate q c.id false a by) rest in
+  one_answer {Stops} (refused {old = w} {c = c} {predicate = q} t a next) answer list n ok by rest =
+      let r : (ids : List ObjectId) × Draws Stops (after objects faulty answers w c _ _ q) ids (answer ∷ list) = one_answer next answer list n ok (answers_on answers accepts w.predicate q c.id false a by) rest in
       (c.id ∷ r.0, hides t (sym (by w.predicate q c.id false itself a)) r.1)
-  one_answer {Stops} (failed {old = w} c others {e = e} ch f l) answer list n ok s by rest =
-      let same : Err e ≡ answer = cc in
-      absurd (⊎_elim (λ m. ok.0 (sym same ∙ ap Err m)) (λ m. ok.1 (sym same ∙ ap Err m)) (sound_fault w.plan _ e s f))
+  one_answer {Stops} (failed {old = w} c others {e = e} ch f l) answer list n ok by rest = absurd (ok e cc)
 
-  all_drawn : (list : List (Result Info Error)) (w : TopoWalk F P) → IsSound objects faulty w.plan → AnswersBy answers w.predicate accepts → All IsNoRefusal list → Drains (Next objects faulty answers) w list → (ids : List ObjectId) × Draws HasEnded w ids list
-  all_drawn [] w s by ok drawn = no_answer (at_end (Next objects faulty answers) w drawn).1 refl by
-  all_drawn (answer ∷ list) w s by ok drawn =
+  first_faultless : (answer : Result Info Error) (list : List (Result Info Error)) → IsFaultless (answer ∷ list) → (e : Error) → answer ≡ Err e → ⊥
+  first_faultless answer list ok e s = ok e (subst (λ x. Contains (x ∷ list) (Err e)) (sym s) (Contains-here (Err e) list))
+
+  rest_faultless : (answer : Result Info Error) (list : List (Result Info Error)) → IsFaultless (answer ∷ list) → IsFaultless list
+  rest_faultless answer list ok e m = ok e (Contains-there (Err e) answer list m)
+
+  all_drawn : (list : List (Result Info Error)) (w : TopoWalk F P) → AnswersBy answers w.predicate accepts → IsFaultless list → Drains (Next objects faulty answers) w list → (ids : List ObjectId) × Draws HasEnded w ids list
+  all_drawn [] w by ok drawn = no_answer (at_end (Next objects faulty answers) w drawn).1 refl by
+  all_drawn (answer ∷ list) w by ok drawn =
       let first = at_first (Next objects faulty answers) w answer list drawn in
-      one_answer first.1 answer list refl (All-head IsNoRefusal answer list ok) s by
-      (λ t b. all_drawn list first.0 t b (All-tail IsNoRefusal answer list ok) first.2)
+      one_answer first.1 answer list refl (first_faultless answer list ok) by (λ b. all_drawn list first.0 b (rest_faultless answer list ok) first.2)
 
-  all_begun : (list : List (Result Info Error)) (w new : TopoWalk F P) → IsSound objects faulty w.plan → AnswersBy answers w.predicate accepts → All IsNoRefusal list → Yields (Next objects faulty answers) w list new → (ids : List ObjectId) × Draws IsAnywhere w ids list
-  all_begun [] w new s by ok drawn = ([], stops tt)
-  all_begun (answer ∷ list) w new s by ok drawn =
-      one_answer drawn.1 answer list refl (All-head IsNoRefusal answer list ok) s by
-      (λ t b. all_begun list drawn.0 new t b (All-tail IsNoRefusal answer list ok) drawn.2)
+  all_begun : (list : List (Result Info Error)) (w new : TopoWalk F P) → AnswersBy answers w.predicate accepts → IsFaultless list → Yields (Next objects faulty answers) w list new → (ids : List ObjectId) × Draws IsAnywhere w ids list
+  all_begun [] w new by ok drawn = ([], stops tt)
+  all_begun (answer ∷ list) w new by ok drawn =
+      one_answer drawn.1 answer list refl (first_faultless answer list ok) by (λ b. all_begun list drawn.0 new b (rest_faultless answer list ok) drawn.2)
 
   stored_still : (plan : TopoPlan F) (s t : Bool) (r : Ready) → (t ≡ true → s ≡ true) → IsStored objects plan s r → IsStored objects plan t r
   stored_still plan s t r f h = record { parents = h.parents; time = h.time; by_row = h.by_row; told = λ e. h.told (f e) }
 
-  -- the invariant, where all that is walked reads whole
+  -- the invariant, where the rows agree
   pub record Stands (w : TopoWalk F P) (done : List ObjectId) : Type 0 where
     pub taken : (i : ObjectId) → set.contains w.taken i ≡ is_among i done
-    pub ready : AreReady (walked_of objects w.plan) (IsMember objects w.plan) (Contains done) (ready_ids w.ready)
+    pub ready : AreReady (text_walked objects w.plan) (IsTextMember objects w.plan) (Contains done) (ready_ids w.ready)
     pub stored : (r : Ready) → Contains w.ready r → IsStored objects w.plan w.counted.standing r
 
-  module _ (w : TopoWalk F P) (done : List ObjectId) (sound : IsWalkable objects faulty w.plan) (c : Ready) (counted : Counted) (ready : List Ready) (t : Takes objects faulty answers w c counted ready) (h : Stands w done) where
+  module _ (w : TopoWalk F P) (done : List ObjectId) (agrees : IsAgreeing (objects w.plan.store) w.plan.rows) (c : Ready) (counted : Counted) (ready : List Ready) (t : Takes objects faulty answers w c counted ready) (h : Stands w done) where
     taken_now : (i : ObjectId) → set.contains (set.insert w.taken c.id) i ≡ is_among i (done ++ c.id ∷ [])
     taken_now i = set.contains-insert id_total w.taken c.id i ∙ or_comm (is_same i c.id) (set.contains w.taken i) ∙ ap (λ b. b || is_same i c.id) (h.taken i) ∙ sym (among-append i done (c.id ∷ []) ∙ ap (λ b. is_among i done || b) (among-one i c.id))
 
-    became : Keeps (IsReady (walked_of objects w.plan) (IsMember objects w.plan) (Contains (done ++ c.id ∷ []))) (last_places (walked_of objects w.plan c.id)) (ready_ids t.added)
+    became : Keeps (IsReady (text_walked objects w.plan) (IsTextMember objects w.plan) (Contains (done ++ c.id ∷ []))) (last_places (text_walked objects w.plan c.id)) (ready_ids t.added)
     became =
         let f : (i : ObjectId) → IsTaken (set.insert w.taken c.id) i → Contains (done ++ c.id ∷ []) i = λ i e. among_is i _ (sym (taken_now i) ∙ e) in
         let g : (i : ObjectId) → Contains (done ++ c.id ∷ []) i → IsTaken (set.insert w.taken c.id) i = λ i e. taken_now i ∙ among_from i _ e in
-        keeps_alike _ (IsReady (walked_of objects w.plan) (IsMember objects w.plan) (Contains (done ++ c.id ∷ [])))
-        (ready_alike (walked_of objects w.plan) (IsMember objects w.plan) (IsTaken (set.insert w.taken c.id)) (Contains (done ++ c.id ∷ [])) f g)
-        (ready_alike (walked_of objects w.plan) (IsMember objects w.plan) (Contains (done ++ c.id ∷ [])) (IsTaken (set.insert w.taken c.id)) g f) (t.adds.became sound)
+        keeps_alike _ (IsReady (text_walked objects w.plan) (IsTextMember objects w.plan) (Contains (done ++ c.id ∷ [])))
+        (ready_alike (text_walked objects w.plan) (IsTextMember objects w.plan) (IsTaken (set.insert w.taken c.id)) (Contains (done ++ c.id ∷ [])) f g)
+        (ready_alike (text_walked objects w.plan) (IsTextMember objects w.plan) (Contains (done ++ c.id ∷ [])) (IsTaken (set.insert w.taken c.id)) g f) (t.adds.became agrees)
 
     pub stands_on : (predicate : P) → Stands (after objects faulty answers w c counted ready predicate) (done ++ c.id ∷ [])
     stands_on predicate = record {
       taken = taken_now;
-      ready = takes_ready (walked_of objects w.plan) (IsMember objects w.plan) (Contains done) (Contains (done ++ c.id ∷ [])) c.id (ready_ids w.ready) (ready_ids t.others) (ready_ids t.added) (ready_ids ready)
+      ready = takes_ready (text_walked objects w.plan) (IsTextMember objects w.plan) (Contains done) (Contains (done ++ c.id ∷ [])) c.id (ready_ids w.ready) (ready_ids t.others) (ready_ids t.added) (ready_ids ready)
           (record { before = λ i m. Contains-append_left done (c.id ∷ []) i m; now = Contains-push done c.id; either = λ i m. Contains-push_cases done c.id i m })
           h.ready (chosen_times w.plan.sorting w.ready c t.others t.chosen) became
           (λ i. holds_times w.plan.sorting (t.others ++ t.added) ready t.holds i ∙ joined_times i t.others t.added);
-      stored = λ r m. ⊎_elim (λ o. stored_still w.plan w.counted.standing counted.standing r t.adds.stands (h.stored r (others_in w.plan.sorting w.ready c t.others t.chosen r o))) (λ a. t.adds.stored sound r a)
+      stored = λ r m. ⊎_elim (λ o. stored_still w.plan w.counted.standing counted.standing r t.adds.stands (h.stored r (others_in w.plan.sorting w.ready c t.others t.chosen r o))) (λ a. t.adds.stored agrees r a)
           (Contains-append_cases t.others t.added r (holds_in w.plan.sorting (t.others ++ t.added) ready t.holds r m));
     }
 
+  chosen_member : (w : TopoWalk F P) (done : List ObjectId) → Stands w done → (c : Ready) (others : List Ready) → Chooses w.plan.sorting w.ready c others → IsTextMember objects w.plan c.id
+  chosen_member w done h c others ch = (h.ready.each c.id (among_from c.id (ready_ids w.ready) (in_ids w.ready c (chosen_in w.plan.sorting w.ready c others ch)))).member
+
   -- what is given
-  draws_given : {Stops : TopoWalk F P → Type 0} {w : TopoWalk F P} {ids : List ObjectId} {list : List (Result Info Error)} → Draws Stops w ids list → (done : List ObjectId) → IsWalkable objects faulty w.plan → Stands w done → AllZip (IsGiven objects w.plan) list (filter accepts ids)
+  draws_given : {Stops : TopoWalk F P → Type 0} {w : TopoWalk F P} {ids : List ObjectId} {list : List (Result Info Error)} → Draws Stops w ids list → (done : List ObjectId) → IsAgreeing (objects w.plan.store) w.plan.rows → Stands w done → AllZip (IsTextGiven objects w.plan) list (filter accepts ids)
   draws_given (stops e) done s h = tt
   draws_given (shows {w = w} {c = c} {counted = counted} {ready = ready} {predicate = q} {info = info} {ids = ids} {list = list} t a is d) done s h =
       let r : IsStored objects w.plan w.counted.standing c = h.stored c (chosen_in w.plan.sorting w.ready c t.others t.chosen) in
-      subst (λ b. AllZip (IsGiven objects w.plan) (Ok info ∷ list) (cond b (c.id ∷ filter accepts ids) (filter accepts ids))) (sym a) (
+      subst (λ b. AllZip (IsTextGiven objects w.plan) (Ok info ∷ list) (cond b (c.id ∷ filter accepts ids) (filter accepts ids))) (sym a) (
         record { generation = c.generation; by_row = r.by_row; info_is = record { same_id = is.same_id; same_parents = is.same_parents ∙ r.parents; same_generation = is.same_generation; same_time = is.same_time ∙ ap Some r.time } },
         draws_given d (done ++ c.id ∷ []) s (stands_on w done s c counted ready t h q),
       )
   draws_given (hides {w = w} {c = c} {counted = counted} {ready = ready} {predicate = q} {ids = ids} {list = list} t a d) done s h =
-      subst (λ b. AllZip (IsGiven objects w.plan) list (cond b (c.id ∷ filter accepts ids) (filter accepts ids))) (sym a) (draws_given d (done ++ c.id ∷ []) s (stands_on w done s c counted ready t h q))
+      subst (λ b. AllZip (IsTextGiven objects w.plan) list (cond b (c.id ∷ filter accepts ids) (filter accepts ids))) (sym a) (draws_given d (done ++ c.id ∷ []) s (stands_on w done s c counted ready t h q))
+
+  -- what is taken is a member
+  draws_members : {Stops : TopoWalk F P → Type 0} {w : TopoWalk F P} {ids : List ObjectId} {list : List (Result Info Error)} → Draws Stops w ids list → (done : List ObjectId) → IsAgreeing (objects w.plan.store) w.plan.rows → Stands w done → (i : ObjectId) → Contains ids i → IsTextMember objects w.plan i
+  draws_members (stops e) done s h i m = absurd (no_member i m)
+  draws_members (shows {w = w} {c = c} {counted = counted} {ready = ready} {predicate = q} {ids = ids} t a is d) done s h i m =
+      ⊎_elim (λ e. subst (IsTextMember objects w.plan) e (chosen_member w done h c t.others t.chosen)) (draws_members d (done ++ c.id ∷ []) s (stands_on w done s c counted ready t h q) i) (Contains-cons_cases i c.id ids m)
+  draws_members (hides {w = w} {c = c} {counted = counted} {ready = ready} {predicate = q} {ids = ids} t a d) done s h i m =
+      ⊎_elim (λ e. subst (IsTextMember objects w.plan) e (chosen_member w done h c t.others t.chosen)) (draws_members d (done ++ c.id ∷ []) s (stands_on w done s c counted ready t h q) i) (Contains-cons_cases i c.id ids m)
 
   -- what is so of each commit as it is taken, and where the walk may stop
   module _ (Stops : TopoWalk F P → Type 0) (Holds : TopoWalk F P → List ObjectId → Type 0) (Q : TopoPlan F → List ObjectId → Option ObjectId → Type 0)
@@ -201,7 +211,7 @@ module _ {F P : Type 0} (objects : F → Objects) (faulty : F → ObjectId → T
 
   -- a ready one of greatest time
   abbrev IsBestNext : TopoPlan F → List ObjectId → Option ObjectId → Type 0
-  IsBestNext plan done o = let Next-ready = IsReady (walked_of objects plan) (IsMember objects plan) (Contains done) in MatchOption o ((i : ObjectId) → Next-ready i → ⊥) (IsBest NewestFirst (time_of (objects plan.store)) Next-ready)
+  IsBestNext plan done o = let Next-ready = IsReady (text_walked objects plan) (IsTextMember objects plan) (Contains done) in MatchOption o ((i : ObjectId) → Next-ready i → ⊥) (IsBest NewestFirst (time_of (objects plan.store)) Next-ready)
 
   none_best : (w : TopoWalk F P) (done : List ObjectId) → Stands w done → w.ready ≡ [] → IsBestNext w.plan done None
   none_best w done h e = λ i r. false≢true (sym (ap (λ rs. is_among i (ready_ids rs)) e) ∙ h.ready.all i r)
@@ -221,7 +231,7 @@ module _ {F P : Type 0} (objects : F → Objects) (faulty : F → ObjectId → T
       }
 
   record GoesByDate (w : TopoWalk F P) (done : List ObjectId) : Type 0 where
-    walkable : IsWalkable objects faulty w.plan
+    agrees : IsAgreeing (objects w.plan.store) w.plan.rows
     stands : Stands w done
     by_date : w.plan.sorting ≡ order.DateOrder
 
@@ -229,7 +239,7 @@ module _ {F P : Type 0} (objects : F → Objects) (faulty : F → ObjectId → T
   date_now w done c counted ready t h = best_next w done h.stands c t.others (subst (λ x. Chooses x w.ready c t.others) h.by_date t.chosen)
 
   date_on : (w : TopoWalk F P) (done : List ObjectId) (c : Ready) (counted : Counted) (ready : List Ready) (predicate : P) → Takes objects faulty answers w c counted ready → GoesByDate w done → GoesByDate (after objects faulty answers w c counted ready predicate) (done ++ c.id ∷ [])
-  date_on w done c counted ready predicate t h = record { walkable = h.walkable; stands = stands_on w done h.walkable c counted ready t h.stands predicate; by_date = h.by_date }
+  date_on w done c counted ready predicate t h = record { agrees = h.agrees; stands = stands_on w done h.agrees c counted ready t h.stands predicate; by_date = h.by_date }
 
   draws_date : {w : TopoWalk F P} {ids : List ObjectId} {list : List (Result Info Error)} → Draws HasEnded w ids list → (done : List ObjectId) → GoesByDate w done → TurnsFrom (IsBestNext w.plan) done ids
   draws_date = draws_turns HasEnded GoesByDate IsBestNext (λ w done h e. none_best w done h.stands e) date_now date_on
@@ -239,7 +249,7 @@ module _ {F P : Type 0} (objects : F → Objects) (faulty : F → ObjectId → T
 
   -- the ready ones are those made ready and not taken, in their order
   abbrev made_of : TopoPlan F → List ObjectId → List ObjectId → Type 0
-  made_of plan taken ready = IsMadeReady (time_of (objects plan.store)) (walked_of objects plan) (IsMember objects plan) plan.tips taken ready
+  made_of plan taken ready = IsMadeReady (time_of (objects plan.store)) (text_walked objects plan) (IsTextMember objects plan) plan.tips taken ready
 
   record Stacks (w : TopoWalk F P) (done : List ObjectId) : Type 0 where
     made : List ObjectId
@@ -247,7 +257,7 @@ module _ {F P : Type 0} (objects : F → Objects) (faulty : F → ObjectId → T
     left : ready_ids w.ready ≡ filter (λ i. not (is_among i done)) made
 
   abbrev IsLastNext : TopoPlan F → List ObjectId → Option ObjectId → Type 0
-  IsLastNext plan = IsLastMade (time_of (objects plan.store)) (walked_of objects plan) (IsMember objects plan) plan.tips
+  IsLastNext plan = IsLastMade (time_of (objects plan.store)) (text_walked objects plan) (IsTextMember objects plan) plan.tips
 
   none_last : (w : TopoWalk F P) (done : List ObjectId) → Stacks w done → w.ready ≡ [] → IsLastNext w.plan done None
   none_last w done h e = (h.made, h.is_made, sym (found_none (λ i. not (is_among i done)) (reverse h.made) (filter-reverse _ h.made ∙ ap reverse (sym h.left ∙ ap ready_ids e))))
@@ -259,8 +269,8 @@ module _ {F P : Type 0} (objects : F → Objects) (faulty : F → ObjectId → T
     last_next : IsLastNext w.plan done (Some c.id)
     last_next = (h.made, h.is_made, sym (found_first (λ i. not (is_among i done)) (reverse h.made) c.id (reverse (ready_ids others)) (filter-reverse _ h.made ∙ ap reverse stack_is ∙ reverse-append (ready_ids others) (c.id ∷ []))))
 
-  stacks_on : (w : TopoWalk F P) (done : List ObjectId) (sound : IsWalkable objects faulty w.plan) (c : Ready) (counted : Counted) (ready : List Ready) (t : Takes objects faulty answers w c counted ready) → Stands w done → Stacks w done → w.plan.sorting ≡ order.TopoOrder → (predicate : P) → Stacks (after objects faulty answers w c counted ready predicate) (done ++ c.id ∷ [])
-  stacks_on w done sound c counted ready t st h o predicate =
+  stacks_on : (w : TopoWalk F P) (done : List ObjectId) (agrees : IsAgreeing (objects w.plan.store) w.plan.rows) (c : Ready) (counted : Counted) (ready : List Ready) (t : Takes objects faulty answers w c counted ready) → Stands w done → Stacks w done → w.plan.sorting ≡ order.TopoOrder → (predicate : P) → Stacks (after objects faulty answers w c counted ready predicate) (done ++ c.id ∷ [])
+  stacks_on w done agrees c counted ready t st h o predicate =
       record {
         made = h.made ++ ready_ids t.added;
         is_made = subst (λ r. made_of w.plan r (h.made ++ ready_ids t.added)) (sym (reverse-append done (c.id ∷ []))) (h.made, ready_ids t.added, h.is_made, keeps, refl);
@@ -273,8 +283,8 @@ module _ {F P : Type 0} (objects : F → Objects) (faulty : F → ObjectId → T
       held : ready ≡ t.others ++ t.added
       held = subst (λ x. HoldsReady x (t.others ++ t.added) ready) o t.holds
 
-      became_now : Keeps (IsReady (walked_of objects w.plan) (IsMember objects w.plan) (Contains (done ++ c.id ∷ []))) (last_places (walked_of objects w.plan c.id)) (ready_ids t.added)
-      became_now = became w done sound c counted ready t st
+      became_now : Keeps (IsReady (text_walked objects w.plan) (IsTextMember objects w.plan) (Contains (done ++ c.id ∷ []))) (last_places (text_walked objects w.plan c.id)) (ready_ids t.added)
+      became_now = became w done agrees c counted ready t st
 
       to : (i : ObjectId) → Contains (done ++ c.id ∷ []) i → Contains (c.id ∷ reverse done) i
       to i m = ⊎_elim (λ n. Contains-there i c.id (reverse done) (in_reverse i done n)) (λ e. subst (λ y. Contains (c.id ∷ reverse done) y) e (Contains-here c.id (reverse done))) (Contains-push_cases done c.id i m)
@@ -282,10 +292,10 @@ module _ {F P : Type 0} (objects : F → Objects) (faulty : F → ObjectId → T
       from : (i : ObjectId) → Contains (c.id ∷ reverse done) i → Contains (done ++ c.id ∷ []) i
       from i m = ⊎_elim (λ e. subst (λ y. Contains (done ++ c.id ∷ []) y) e (Contains-push done c.id)) (λ n. Contains-append_left done (c.id ∷ []) i (reverse_in i done n)) (Contains-cons_cases i c.id (reverse done) m)
 
-      keeps : Keeps (IsReady (walked_of objects w.plan) (IsMember objects w.plan) (Contains (c.id ∷ reverse done))) (last_places (walked_of objects w.plan c.id)) (ready_ids t.added)
-      keeps = keeps_alike _ (IsReady (walked_of objects w.plan) (IsMember objects w.plan) (Contains (c.id ∷ reverse done)))
-          (ready_alike (walked_of objects w.plan) (IsMember objects w.plan) (Contains (done ++ c.id ∷ [])) (Contains (c.id ∷ reverse done)) to from)
-          (ready_alike (walked_of objects w.plan) (IsMember objects w.plan) (Contains (c.id ∷ reverse done)) (Contains (done ++ c.id ∷ [])) from to) became_now
+      keeps : Keeps (IsReady (text_walked objects w.plan) (IsTextMember objects w.plan) (Contains (c.id ∷ reverse done))) (last_places (text_walked objects w.plan c.id)) (ready_ids t.added)
+      keeps = keeps_alike _ (IsReady (text_walked objects w.plan) (IsTextMember objects w.plan) (Contains (c.id ∷ reverse done)))
+          (ready_alike (text_walked objects w.plan) (IsTextMember objects w.plan) (Contains (done ++ c.id ∷ [])) (Contains (c.id ∷ reverse done)) to from)
+          (ready_alike (text_walked objects w.plan) (IsTextMember objects w.plan) (Contains (c.id ∷ reverse done)) (Contains (done ++ c.id ∷ [])) from to) became_now
 
       added_left : ready_ids t.added ≡ filter (λ i. not (is_among i (done ++ c.id ∷ []))) (ready_ids t.added)
       added_left = sym (filter_all (λ i. not (is_among i (done ++ c.id ∷ []))) (ready_ids t.added) (λ i m. not_from_false _ (false_from_ne_true _ (λ e. (keeps_from _ became_now i m).1.left (among_is i _ e)))))
@@ -314,7 +324,7 @@ module _ {F P : Type 0} (objects : F → Objects) (faulty : F → ObjectId → T
           both false b = refl
 
   record GoesByStack (w : TopoWalk F P) (done : List ObjectId) : Type 0 where
-    walkable : IsWalkable objects faulty w.plan
+    agrees : IsAgreeing (objects w.plan.store) w.plan.rows
     stands : Stands w done
     stacks : Stacks w done
     by_topo : w.plan.sorting ≡ order.TopoOrder
@@ -323,7 +333,7 @@ module _ {F P : Type 0} (objects : F → Objects) (faulty : F → ObjectId → T
   topo_now w done c counted ready t h = last_next w done c t.others h.stacks (subst (λ x. Chooses x w.ready c t.others) h.by_topo t.chosen)
 
   topo_on : (w : TopoWalk F P) (done : List ObjectId) (c : Ready) (counted : Counted) (ready : List Ready) (predicate : P) → Takes objects faulty answers w c counted ready → GoesByStack w done → GoesByStack (after objects faulty answers w c counted ready predicate) (done ++ c.id ∷ [])
-  topo_on w done c counted ready predicate t h = record { walkable = h.walkable; stands = stands_on w done h.walkable c counted ready t h.stands predicate; stacks = stacks_on w done h.walkable c counted ready t h.stands h.stacks h.by_topo predicate; by_topo = h.by_topo }
+  topo_on w done c counted ready predicate t h = record { agrees = h.agrees; stands = stands_on w done h.agrees c counted ready t h.stands predicate; stacks = stacks_on w done h.agrees c counted ready t h.stands h.stacks h.by_topo predicate; by_topo = h.by_topo }
 
   draws_topo : {w : TopoWalk F P} {ids : List ObjectId} {list : List (Result Info Error)} → Draws HasEnded w ids list → (done : List ObjectId) → GoesByStack w done → TurnsFrom (IsLastNext w.plan) done ids
   draws_topo = draws_turns HasEnded GoesByStack IsLastNext (λ w done h e. none_last w done h.stacks e) topo_now topo_on
@@ -332,47 +342,119 @@ module _ {F P : Type 0} (objects : F → Objects) (faulty : F → ObjectId → T
   begins_topo = draws_turns IsAnywhere GoesByStack (λ plan. IfOne (IsLastNext plan)) (λ w done h e. tt) topo_now topo_on
 
   -- a walk that was built
-  pub starts_stands : (w : TopoWalk F P) → IsWalkable objects faulty w.plan → IsStarted objects faulty answers w → Stands w []
-  starts_stands w sound h =
-      let st : StartsWith objects faulty answers w.plan w.ready = h.starts sound in
+  pub starts_stands : (w : TopoWalk F P) → IsAgreeing (objects w.plan.store) w.plan.rows → IsStarted objects faulty answers w → Stands w []
+  starts_stands w agrees h =
+      let st : StartsWith objects faulty answers w.plan w.ready = h.starts agrees in
       record {
         taken = λ i. ap (λ s. set.contains s i) h.untaken ∙ set.contains-empty id_cmp i;
-        ready = starts_ready (walked_of objects w.plan) (IsMember objects w.plan) (Contains []) w.plan.tips st.childless (ready_ids w.ready) (λ i c. no_member i c)
-            (in_walk_top (walked_of objects w.plan) (parents_of (objects w.plan.store)) w.plan.tips w.plan.ends (λ c i n. walked_within w.plan.parents _ i n)) st.kept
+        ready = starts_ready (text_walked objects w.plan) (IsTextMember objects w.plan) (Contains []) w.plan.tips st.childless (ready_ids w.ready) (λ i c. no_member i c)
+            (in_walk_top (text_walked objects w.plan) (text_next (objects w.plan.store)) w.plan.tips w.plan.ends (λ c i n. walked_within w.plan.parents _ i n)) st.kept
             (λ i. holds_times w.plan.sorting st.starts w.ready st.holds i ∙ ap (times i) st.sorted ∙ times-by_time (time_of (objects w.plan.store)) i st.childless);
-        stored = h.stored sound;
+        stored = h.stored agrees;
       }
 
-  starts_stacks : (w : TopoWalk F P) → IsWalkable objects faulty w.plan → IsStarted objects faulty answers w → w.plan.sorting ≡ order.TopoOrder → Stacks w []
-  starts_stacks w sound h o =
-      let st : StartsWith objects faulty answers w.plan w.ready = h.starts sound in
+  starts_stacks : (w : TopoWalk F P) → IsAgreeing (objects w.plan.store) w.plan.rows → IsStarted objects faulty answers w → w.plan.sorting ≡ order.TopoOrder → Stacks w []
+  starts_stacks w agrees h o =
+      let st : StartsWith objects faulty answers w.plan w.ready = h.starts agrees in
       let held : w.ready ≡ st.starts = subst (λ x. HoldsReady x st.starts w.ready) o st.holds in
       record { made = ready_ids st.starts; is_made = (st.childless, st.kept, st.sorted); left = ap ready_ids held ∙ sym (filter_all (λ i. not false) (ready_ids st.starts) (λ i c. refl)) }
 
-  starts_date : (w : TopoWalk F P) → IsWalkable objects faulty w.plan → IsStarted objects faulty answers w → w.plan.sorting ≡ order.DateOrder → GoesByDate w []
-  starts_date w sound h o = record { walkable = sound; stands = starts_stands w sound h; by_date = o }
+  starts_date : (w : TopoWalk F P) → IsAgreeing (objects w.plan.store) w.plan.rows → IsStarted objects faulty answers w → w.plan.sorting ≡ order.DateOrder → GoesByDate w []
+  starts_date w agrees h o = record { agrees = agrees; stands = starts_stands w agrees h; by_date = o }
 
-  starts_topo : (w : TopoWalk F P) → IsWalkable objects faulty w.plan → IsStarted objects faulty answers w → w.plan.sorting ≡ order.TopoOrder → GoesByStack w []
-  starts_topo w sound h o = record { walkable = sound; stands = starts_stands w sound h; stacks = starts_stacks w sound h o; by_topo = o }
+  starts_topo : (w : TopoWalk F P) → IsAgreeing (objects w.plan.store) w.plan.rows → IsStarted objects faulty answers w → w.plan.sorting ≡ order.TopoOrder → GoesByStack w []
+  starts_topo w agrees h o = record { agrees = agrees; stands = starts_stands w agrees h; stacks = starts_stacks w agrees h o; by_topo = o }
 
-  in_order : (w : TopoWalk F P) (ids : List ObjectId) (list : List (Result Info Error)) → Draws HasEnded w ids list → IsWalkable objects faulty w.plan → IsStarted objects faulty answers w → (s : Sorting) → w.plan.sorting ≡ s → IsSorted s (time_of (objects w.plan.store)) (walked_of objects w.plan) (IsMember objects w.plan) w.plan.tips ids
-  in_order w ids list d sound st order.DateOrder e = draws_date d [] (starts_date w sound st e)
-  in_order w ids list d sound st order.TopoOrder e = draws_topo d [] (starts_topo w sound st e)
+  in_order : (w : TopoWalk F P) (ids : List ObjectId) (list : List (Result Info Error)) → Draws HasEnded w ids list → IsAgreeing (objects w.plan.store) w.plan.rows → IsStarted objects faulty answers w → (s : Sorting) → w.plan.sorting ≡ s → IsSorted s (time_of (objects w.plan.store)) (text_walked objects w.plan) (IsTextMember objects w.plan) w.plan.tips ids
+  in_order w ids list d agrees st order.DateOrder e = draws_date d [] (starts_date w agrees st e)
+  in_order w ids list d agrees st order.TopoOrder e = draws_topo d [] (starts_topo w agrees st e)
+
+  -- a whole run without a fault
+  pub gives_text : (w : TopoWalk F P) (list : List (Result Info Error)) → AnswersBy answers w.predicate accepts → IsStarted objects faulty answers w → IsAgreeing (objects w.plan.store) w.plan.rows → IsFaultless list → Drains (Next objects faulty answers) w list → GivesTextOrder objects w.plan accepts list
+  gives_text w list by st agrees ok drawn =
+      let d : (ids : List ObjectId) × Draws HasEnded w ids list = all_drawn list w by ok drawn in
+      record { ids = d.0; in_order = in_order w d.0 list d.1 agrees st w.plan.sorting refl; given = draws_given d.1 [] agrees (starts_stands w agrees st) }
+
+  begins_sorted : (w : TopoWalk F P) (ids : List ObjectId) (list : List (Result Info Error)) → Draws IsAnywhere w ids list → IsAgreeing (objects w.plan.store) w.plan.rows → IsStarted objects faulty answers w → (s : Sorting) → w.plan.sorting ≡ s → IsSortedBeginning s (time_of (objects w.plan.store)) (text_walked objects w.plan) (IsTextMember objects w.plan) w.plan.tips ids
+  begins_sorted w ids list d agrees st order.DateOrder e = turn_at (IfOne (IsBestNext w.plan)) ids (begins_date d [] (starts_date w agrees st e))
+  begins_sorted w ids list d agrees st order.TopoOrder e = λ k i at.
+      let h : IsLastNext w.plan (take k ids) (Some i) = turn_at (IfOne (IsLastNext w.plan)) ids (begins_topo d [] (starts_topo w agrees st e)) k i at in
+      (h.0, h.1, sym h.2)
+
+  -- a beginning of one
+  pub begins_text : (w new : TopoWalk F P) (list : List (Result Info Error)) → AnswersBy answers w.predicate accepts → IsStarted objects faulty answers w → IsAgreeing (objects w.plan.store) w.plan.rows → IsFaultless list → Yields (Next objects faulty answers) w list new → BeginsTextOrder objects w.plan accepts list
+  begins_text w new list by st agrees ok drawn =
+      let d : (ids : List ObjectId) × Draws IsAnywhere w ids list = all_begun list w new by ok drawn in
+      record { ids = d.0; in_order = begins_sorted w d.0 list d.1 agrees st w.plan.sorting refl; given = draws_given d.1 [] agrees (starts_stands w agrees st) }
+
+  -- over a sound history no fault comes, where neither memory nor the store fails
+  sound_fault : (plan : TopoPlan F) (Q : ObjectId → Type 0) (e : Error) → IsSound objects faulty plan → IsFault objects faulty plan Q e → (e ≡ error.Memory) ⊎ (e ≡ error.Find existing.Store)
+  sound_fault plan Q error.MissingIndegreeUnexpected s f = absurd (f s.agreeing)
+  sound_fault plan Q error.MissingStateUnexpected s f = absurd f
+  sound_fault plan Q (error.Find e) s f = inr (f.2.store_fails s)
+  sound_fault plan Q (error.ObjectDecode e) s f = inr (f.2.store_fails s)
+  sound_fault plan Q error.Memory s f = inl refl
+
+  answer_faultless : {w new : TopoWalk F P} {o : Option (Result Info Error)} → Next objects faulty answers w o new → (answer : Result Info Error) → o ≡ Some answer → IsNoRefusal answer → IsSound objects faulty w.plan → ((e : Error) → answer ≡ Err e → ⊥) × IsSound objects faulty new.plan
+  answer_faultless (ended e) answer n ok s = cc
+  answer_faultless (given {info = info} t a is) answer n ok s = (λ e h. cc, s)
+  answer_faultless (refused t a next) answer n ok s = answer_faultless next answer n ok s
+  answer_faultless (failed {old = w} c others {e = e} ch f l) answer n ok s =
+      let same : Err e ≡ answer = cc in
+      absurd (⊎_elim (λ m. ok.0 (sym same ∙ ap Err m)) (λ m. ok.1 (sym same ∙ ap Err m)) (sound_fault w.plan _ e s f))
+
+  answers_faultless : (answer : Result Info Error) (list : List (Result Info Error)) → ((e : Error) → answer ≡ Err e → ⊥) → IsFaultless list → IsFaultless (answer ∷ list)
+  answers_faultless answer list first rest e m = ⊎_elim (λ s. first e s) (rest e) (Contains-cons_cases (Err e) answer list m)
+
+  drawn_faultless : (list : List (Result Info Error)) (w : TopoWalk F P) → IsSound objects faulty w.plan → All IsNoRefusal list → Drains (Next objects faulty answers) w list → IsFaultless list
+  drawn_faultless [] w s ok drawn = λ e m. no_member (Err e) m
+  drawn_faultless (answer ∷ list) w s ok drawn =
+      let first = at_first (Next objects faulty answers) w answer list drawn in
+      let r : ((e : Error) → answer ≡ Err e → ⊥) × IsSound objects faulty first.0.plan = answer_faultless first.1 answer refl (All-head IsNoRefusal answer list ok) s in
+      answers_faultless answer list r.0 (drawn_faultless list first.0 r.1 (All-tail IsNoRefusal answer list ok) first.2)
+
+  begun_faultless : (list : List (Result Info Error)) (w new : TopoWalk F P) → IsSound objects faulty w.plan → All IsNoRefusal list → Yields (Next objects faulty answers) w list new → IsFaultless list
+  begun_faultless [] w new s ok drawn = λ e m. no_member (Err e) m
+  begun_faultless (answer ∷ list) w new s ok drawn =
+      let r : ((e : Error) → answer ≡ Err e → ⊥) × IsSound objects faulty drawn.0.plan = answer_faultless drawn.1 answer refl (All-head IsNoRefusal answer list ok) s in
+      answers_faultless answer list r.0 (begun_faultless list drawn.0 new r.1 (All-tail IsNoRefusal answer list ok) drawn.2)
+
+  -- there, a commit is given as the store says
+  given_whole : (plan : TopoPlan F) → IsSound objects faulty plan → (list : List (Result Info Error)) (ids : List ObjectId) → ((i : ObjectId) → Contains ids i → IsTextMember objects plan i) → AllZip (IsTextGiven objects plan) list ids → AllZip (IsGiven objects plan) list ids
+  given_whole plan s [] [] members h = tt
+  given_whole plan s [] (i ∷ ids) members h = absurd h
+  given_whole plan s (answer ∷ list) [] members h = absurd h
+  given_whole plan s (Err e ∷ list) (i ∷ ids) members h = absurd h.0
+  given_whole plan s (Ok info ∷ list) (i ∷ ids) members h = (
+    record {
+      generation = h.0.generation;
+      by_row = h.0.by_row;
+      info_is = record { same_id = h.0.info_is.same_id; same_parents = h.0.info_is.same_parents ∙ sym (member_names objects faulty plan s i (members i (Contains-here i ids))); same_generation = h.0.info_is.same_generation; same_time = h.0.info_is.same_time };
+    },
+    given_whole plan s list ids (λ j m. members j (Contains-there j i ids m)) h.1,
+  )
 
   -- a whole run
   pub gives : (w : TopoWalk F P) (list : List (Result Info Error)) → IsWholeRun objects faulty answers w accepts list → GivesInOrder objects w.plan accepts list
   gives w list run =
-      let d : (ids : List ObjectId) × Draws HasEnded w ids list = all_drawn list w run.sound run.by_test run.unrefused run.drawn in
-      record { ids = d.0; in_order = in_order w d.0 list d.1 (walkable objects faulty w.plan run.sound) run.started w.plan.sorting refl; given = draws_given d.1 [] (walkable objects faulty w.plan run.sound) (starts_stands w (walkable objects faulty w.plan run.sound) run.started) }
-
-  begins_sorted : (w : TopoWalk F P) (ids : List ObjectId) (list : List (Result Info Error)) → Draws IsAnywhere w ids list → IsWalkable objects faulty w.plan → IsStarted objects faulty answers w → (s : Sorting) → w.plan.sorting ≡ s → IsSortedBeginning s (time_of (objects w.plan.store)) (walked_of objects w.plan) (IsMember objects w.plan) w.plan.tips ids
-  begins_sorted w ids list d sound st order.DateOrder e = turn_at (IfOne (IsBestNext w.plan)) ids (begins_date d [] (starts_date w sound st e))
-  begins_sorted w ids list d sound st order.TopoOrder e = λ k i at.
-      let h : IsLastNext w.plan (take k ids) (Some i) = turn_at (IfOne (IsLastNext w.plan)) ids (begins_topo d [] (starts_topo w sound st e)) k i at in
-      (h.0, h.1, sym h.2)
+      let s : IsSound objects faulty w.plan = run.sound in
+      let d : (ids : List ObjectId) × Draws HasEnded w ids list = all_drawn list w run.by_test (drawn_faultless list w s run.unrefused run.drawn) run.drawn in
+      let members : (i : ObjectId) → Contains d.0 i → IsTextMember objects w.plan i = draws_members d.1 [] s.agreeing (starts_stands w s.agreeing run.started) in
+      record {
+        ids = d.0;
+        in_order = sorted_to (time_of (objects w.plan.store)) (text_walked objects w.plan) (walked_of objects w.plan) (IsTextMember objects w.plan) (IsMember objects w.plan) (text_member objects faulty w.plan s) (member_text objects faulty w.plan s) (member_walks objects faulty w.plan s) w.plan.tips d.0 members w.plan.sorting
+            (in_order w d.0 list d.1 s.agreeing run.started w.plan.sorting refl);
+        given = given_whole w.plan s list (filter accepts d.0) (λ i m. members i (filter_within accepts d.0 i m)) (draws_given d.1 [] s.agreeing (starts_stands w s.agreeing run.started));
+      }
 
   -- a beginning of a run
   pub begins : (w new : TopoWalk F P) (list : List (Result Info Error)) → AnswersBy answers w.predicate accepts → IsStarted objects faulty answers w → IsSound objects faulty w.plan → All IsNoRefusal list → Yields (Next objects faulty answers) w list new → BeginsInOrder objects w.plan accepts list
-  begins w new list by st sound ok drawn =
-      let d : (ids : List ObjectId) × Draws IsAnywhere w ids list = all_begun list w new sound by ok drawn in
-      record { ids = d.0; in_order = begins_sorted w d.0 list d.1 (walkable objects faulty w.plan sound) st w.plan.sorting refl; given = draws_given d.1 [] (walkable objects faulty w.plan sound) (starts_stands w (walkable objects faulty w.plan sound) st) }
+  begins w new list by st s ok drawn =
+      let d : (ids : List ObjectId) × Draws IsAnywhere w ids list = all_begun list w new by (begun_faultless list w new s ok drawn) drawn in
+      let members : (i : ObjectId) → Contains d.0 i → IsTextMember objects w.plan i = draws_members d.1 [] s.agreeing (starts_stands w s.agreeing st) in
+      record {
+        ids = d.0;
+        in_order = begins_to (time_of (objects w.plan.store)) (text_walked objects w.plan) (walked_of objects w.plan) (IsTextMember objects w.plan) (IsMember objects w.plan) (text_member objects faulty w.plan s) (member_text objects faulty w.plan s) (member_walks objects faulty w.plan s) w.plan.tips d.0 members w.plan.sorting
+            (begins_sorted w d.0 list d.1 s.agreeing st w.plan.sorting refl);
+        given = given_whole w.plan s list (filter accepts d.0) (λ i m. members i (filter_within accepts d.0 i m)) (draws_given d.1 [] s.agreeing (starts_stands w s.agreeing st));
+      }

@@ -25,7 +25,7 @@ use Rattle.gix_revwalk.specs.Ids.{AreDistinct}
 use Rattle.gix_topo.specs.Inside.Starting.{HasBegun, IsBegunWalk, by_rising_time}
 use Rattle.gix_topo.specs.TopoOrder.{Keeps, first_places}
 use Rattle.gix_topo.specs.Inside.Steady.{IsDone, AreRead, AreDroppedFor, IsTallied, IsSteady, HasCounted, IsHeld, unasked, unasked_of}
-use Rattle.gix_topo.specs.Walk.{TopoPlan, Ready, ready_ids, first_depth, HoldsReady, IsNumberOf, IsMet, IsInDepth, IsBrokenRow, IsCounting, IsWalkable, IsStored, IsMember, IsStarted, StartsWith, walked_of, IsFound}
+use Rattle.gix_topo.specs.Walk.{TopoPlan, Ready, ready_ids, first_depth, HoldsReady, IsNumberOf, IsInDepth, IsBrokenRow, IsCounting, IsStored, IsStarted, StartsWith, IsFound, text_walked, IsTextMember, IsReached}
 use Rattle.gix_topo.specs.WalkSet.{IsChildless}
 use Rattle.gix_topo.proofs.Counts.IndegreeZero.{none_left, outside, unseen, all_taken}
 use Rattle.gix_topo.proofs.Counts.Expanded.{number_same, broken}
@@ -53,7 +53,7 @@ module _ {F : Type 0} (objects : F → Objects) (faulty : F → ObjectId → Typ
   new = w.counting
 
   abbrev Member : ObjectId → Type 0
-  Member = IsMember objects (plan_of w)
+  Member = IsTextMember objects (plan_of w)
 
   begun : HasBegun objects faulty p old
   begun = subst (λ q. HasBegun objects faulty q old) (sym h.same) h.begun
@@ -157,34 +157,34 @@ module _ {F : Type 0} (objects : F → Objects) (faulty : F → ObjectId → Typ
       done = λ r m. let tip : Contains p.tips r.id = all.ready.among r (in_starts r m) in ap is_done (moved Tips r.id) ∙ begun.explored agrees Tips r.id (start tip) (tip_high r.id tip);
     }
 
-  module _ (sound : IsWalkable objects faulty p) where
+  module _ (agrees : IsAgreeing (objects p.store) p.rows) where
     counted : IsCounted (objects p.store) p.rows p.parents p.tips p.ends (set.contains (taken_of w)) old.frontier
-    counted = before sound.agreeing
+    counted = before agrees
 
-    due_childless : (i : ObjectId) → Contains p.tips i → IsTipDue old.frontier i → IsChildless (walked_of objects p) Member i
+    due_childless : (i : ObjectId) → Contains p.tips i → IsTipDue old.frontier i → IsChildless (text_walked objects p) Member i
     due_childless i m d = record {
       member = record {
         reached = start m;
-        outside = outside (objects p.store) (faulty p.store) p.rows p.parents p.tips p.ends sound.agreeing sound.tips_whole sound.ends_whole old.frontier old.depth (begun.explored sound.agreeing) (λ side. (counted.searched.search side).within) (set.contains (taken_of w)) (children_of old.frontier) counted.tally i d.outside (tip_high i m);
+        outside = outside (objects p.store) (faulty p.store) p.rows p.parents p.tips p.ends agrees old.frontier old.depth (begun.explored agrees) (λ side. (counted.searched.search side).within) (set.contains (taken_of w)) (children_of old.frontier) counted.tally i d.outside (tip_high i m);
       };
-      alone = λ c k. true≢false (sym (none_left (objects p.store) (faulty p.store) p.rows p.parents p.tips p.ends sound.agreeing sound.tips_whole sound.ends_whole old.frontier old.depth (begun.explored sound.agreeing) (λ side. (counted.searched.search side).within) (set.contains (taken_of w)) (children_of old.frontier) counted.tally i d.none_left (tip_high i m) c k) ∙ untaken c);
+      alone = λ c k. true≢false (sym (none_left (objects p.store) (faulty p.store) p.rows p.parents p.tips p.ends agrees old.frontier old.depth (begun.explored agrees) (λ side. (counted.searched.search side).within) (set.contains (taken_of w)) (children_of old.frontier) counted.tally i d.none_left (tip_high i m) c k) ∙ untaken c);
     }
 
-    childless_due : (i : ObjectId) → IsChildless (walked_of objects p) Member i → IsTipDue old.frontier i
+    childless_due : (i : ObjectId) → IsChildless (text_walked objects p) Member i → IsTipDue old.frontier i
     childless_due i q = record {
-      none_left = all_taken (objects p.store) (faulty p.store) p.rows p.parents p.tips p.ends sound.agreeing sound.tips_whole sound.ends_whole old.frontier old.depth (begun.explored sound.agreeing) (λ side. (counted.searched.search side).within) (set.contains (taken_of w)) (children_of old.frontier) counted.tally i q.member (λ c k. absurd (q.alone c k));
-      outside = unseen (objects p.store) (faulty p.store) p.rows p.parents p.tips p.ends sound.agreeing sound.tips_whole sound.ends_whole old.frontier old.depth (begun.explored sound.agreeing) (λ side. (counted.searched.search side).within) (set.contains (taken_of w)) (children_of old.frontier) counted.tally i q.member;
+      none_left = all_taken (objects p.store) (faulty p.store) p.rows p.parents p.tips p.ends agrees old.frontier old.depth (begun.explored agrees) (λ side. (counted.searched.search side).within) (set.contains (taken_of w)) (children_of old.frontier) counted.tally i q.member (λ c k. absurd (q.alone c k));
+      outside = unseen (objects p.store) (faulty p.store) p.rows p.parents p.tips p.ends agrees old.frontier old.depth (begun.explored agrees) (λ side. (counted.searched.search side).within) (set.contains (taken_of w)) (children_of old.frontier) counted.tally i q.member;
       unmade = begun.unmade i;
     }
 
-    kept_childless : Keeps (IsChildless (walked_of objects p) Member) (first_places p.tips) (ready_ids h.starts)
+    kept_childless : Keeps (IsChildless (text_walked objects p) Member) (first_places p.tips) (ready_ids h.starts)
     kept_childless = keeps_on (λ i m d. due_childless i (first_from [] p.tips i m) d) (λ i m q. childless_due i q) kept
 
     stored : (r : Ready) → Contains w.ready.commits r → IsStored objects p new.reader.standing r
-    stored r m = found_stored objects faulty p sound (found r m) (sound.tips_whole r.id (start (all.ready.among r (in_starts r m))))
+    stored r m = found_stored objects faulty p agrees (found r m)
 
     start_time : (r : Ready) → Contains h.starts r → r.time ≡ time_of (objects p.store) r.id
-    start_time r m = (found_stored objects faulty p sound (subst (λ q. IsFound objects faulty q old.reader.standing h.mid.counting.reader.standing r) first_plan (all.ready.each first_read r m)) (sound.tips_whole r.id (start (all.ready.among r m)))).time
+    start_time r m = (found_stored objects faulty p agrees (subst (λ q. IsFound objects faulty q old.reader.standing h.mid.counting.reader.standing r) first_plan (all.ready.each first_read r m))).time
 
     starts : StartsWith objects faulty (unasked objects faulty) p w.ready.commits
     starts = record {
@@ -203,25 +203,25 @@ module _ {F : Type 0} (objects : F → Objects) (faulty : F → ObjectId → Typ
         go false d = refl
         go true d =
             let k : (i : ObjectId) × Contains p.tips i × DropsRows (plan_of h.first).rows i = all.ready.dropped d (sym (ap (λ c. c.reader.standing) h.counting) ∙ e) in
-            absurd ((begun.counting sound).whole d (broken objects faulty p sound.agreeing old.depth k.0 (inl (start k.1)) (tip_high k.0 k.1) (subst (λ q. DropsRows q.rows k.0) first_plan k.2)))
+            absurd ((begun.counting agrees).whole d (broken objects faulty p agrees old.depth k.0 (inl (start k.1)) (tip_high k.0 k.1) (subst (λ q. DropsRows q.rows k.0) first_plan k.2)))
 
     counts : HasCounted objects p new
-    counts = let c : HasCounted objects p old = begun.counts sound in record {
+    counts = let c : HasCounted objects p old = begun.counts agrees in record {
       number = number_same (IsDone old.frontier) (IsDone new.frontier) old.expanded new.expanded (sym same_expanded) from_done to_done c.number;
       high = λ e i d. subst (λ n. n ≤ known_generation p.rows i) (sym same_depth) (c.high (stands e) i (to_done i d));
       dropped = λ e. subst (IsBrokenRow objects p) (sym same_depth) (c.dropped (stays e));
     }
 
     counting : IsCounting objects p (counted_by new)
-    counting = let c : IsCounting objects p (counted_by old) = begun.counting sound in record {
+    counting = let c : IsCounting objects p (counted_by old) = begun.counting agrees in record {
       exact = λ e. subst (λ d. IsNumberOf (IsInDepth objects p d) new.expanded) (sym same_depth) (subst (λ n. IsNumberOf (IsInDepth objects p old.depth) n) (sym same_expanded) (c.exact (stands e)));
-      all = λ e. subst (IsNumberOf (IsMet objects p)) (sym same_expanded) (c.all (stays e));
+      all = λ e. subst (IsNumberOf (IsReached objects p)) (sym same_expanded) (c.all (stays e));
       dropped = counts.dropped;
       whole = λ e b. c.whole (stands e) (subst (IsBrokenRow objects p) same_depth b);
     }
 
-    made_childless : (i : ObjectId) → was_ready_of new.frontier i ≡ true → IsChildless (walked_of objects p) Member i
-    made_childless i e = (keeps_from (IsChildless (walked_of objects p) Member) kept_childless i (among_is i (ready_ids h.starts) (sym (made_is i) ∙ e))).1
+    made_childless : (i : ObjectId) → was_ready_of new.frontier i ≡ true → IsChildless (text_walked objects p) Member i
+    made_childless i e = (keeps_from (IsChildless (text_walked objects p) Member) kept_childless i (among_is i (ready_ids h.starts) (sym (made_is i) ∙ e))).1
 
     steady : IsSteady objects w
     steady = record { member = λ i e. (made_childless i e).member; children = λ i d e k. absurd ((made_childless i e).alone d k) }
@@ -261,7 +261,7 @@ started_as objects faulty answers w p h = record {
   untaken = h.untaken;
   distinct = h.distinct;
   tips = h.tips;
-  starts = λ sound. let s : StartsWith objects faulty (unasked objects faulty) (plan_of w) w.ready.commits = h.starts sound in record { childless = s.childless; starts = s.starts; kept = s.kept; sorted = s.sorted; holds = s.holds };
+  starts = λ agrees. let s : StartsWith objects faulty (unasked objects faulty) (plan_of w) w.ready.commits = h.starts agrees in record { childless = s.childless; starts = s.starts; kept = s.kept; sorted = s.sorted; holds = s.holds };
   found = h.found;
   stored = h.stored;
   depth = h.depth;

@@ -20,7 +20,8 @@ use Rattle.gix_topo.specs.Inside.Releasing.{plan_of, counted_by, lowered, with_c
 use Rattle.gix_topo.specs.Inside.Searched.{IsCounted, IsExplored, IsTally, next_by}
 use Rattle.gix_topo.specs.TopoOrder.{Keeps, last_places}
 use Rattle.gix_topo.specs.Inside.Steady.{AreRead, IsSteady, IsHeld, unasked, unasked_of}
-use Rattle.gix_topo.specs.Walk.{Ready, ready_ids, walked_of, Chooses, IsMember, IsStored, IsCounting, IsWalkable, IsTaken, Adds, IsFound}
+use Rattle.gix_revwalk.specs.Agreeing.{IsAgreeing}
+use Rattle.gix_topo.specs.Walk.{Ready, ready_ids, Chooses, IsStored, IsCounting, IsTaken, Adds, IsFound, text_walked, IsTextMember}
 use Rattle.gix_topo.specs.WalkSet.{IsChild, IsReady}
 use Rattle.gix_hash.specs.Reach.{Reaches, step}
 use Rattle.gix_topo.proofs.Counts.IndegreeZero.{none_left, outside, unseen, all_taken}
@@ -37,7 +38,6 @@ use Rattle.gix_topo.proofs.Reading.FoundIsStored.{found_named, found_stored}
 use Rattle.gix_topo.proofs.Counts.Taken.{made_taken}
 use Rattle.gix_topo.proofs.Taking.Setting.{was_ready, plan_taken, was_untaken, named_text, counted_on, explored_on, tally_on}
 use Rattle.gix_revwalk.proofs.ReadsWhole.{walked_within}
-use Rattle.gix_revwalk.proofs.TextParents.{text_whole}
 use Rattle.gix_topo.proofs.Readiness.ReadyIds.{in_ids}
 use Rattle.gix_topo.proofs.Counts.MakesReady.{reads_stands}
 
@@ -58,10 +58,10 @@ module _ {F : Type 0} (objects : F → Objects) (faulty : F → ObjectId → Typ
   between = with_counting objects faulty (record w { ready = rest }) t.explored
 
   abbrev walked : ObjectId → List ObjectId
-  walked = walked_of objects (plan_of w)
+  walked = text_walked objects (plan_of w)
 
   abbrev Member : ObjectId → Type 0
-  Member = IsMember objects (plan_of w)
+  Member = IsTextMember objects (plan_of w)
 
   abbrev next : Side → ObjectId → List ObjectId
   next = next_by those w.counting.parents
@@ -114,24 +114,24 @@ module _ {F : Type 0} (objects : F → Objects) (faulty : F → ObjectId → Typ
     made_before : (p : ObjectId) → was_ready_of t.explored.frontier p ≡ (set.contains (taken_of w) p || is_among p (ready_ids w.ready.commits))
     made_before p = explores_made objects faulty t.explores p ∙ made_taken w held.made p
 
-    module _ (sound : IsWalkable objects faulty (plan_of w)) where
+    module _ (agrees : IsAgreeing (objects (plan_of w).store) (plan_of w).rows) where
       steady : IsSteady objects w
-      steady = held.steady sound
+      steady = held.steady agrees
 
       counted : IsCounted those (plan_of w).rows w.counting.parents (plan_of w).tips (plan_of w).ends (set.contains (taken_of w)) t.explored.frontier
-      counted = counted_on objects faulty w rest r chosen held sound.agreeing t.explored t.explores
+      counted = counted_on objects faulty w rest r chosen held agrees t.explored t.explores
 
       explored : (side : Side) → IsExplored those (plan_of w).rows w.counting.parents (plan_of w).tips (plan_of w).ends low.depth side t.explored.frontier
-      explored = explored_on objects faulty w rest r chosen held sound.agreeing t.explored t.explores t.rested
+      explored = explored_on objects faulty w rest r chosen held agrees t.explored t.explores t.rested
 
       is_member : Member r.id
       is_member = steady.member r.id (made_taken w held.made r.id ∙ or_right (set.contains (taken_of w) r.id) _ among_ready)
 
       walked_is : named ≡ walked r.id
-      walked_is = named_text objects faulty w rest r chosen held sound.agreeing ∙ ap (by_mode w.counting.parents) (sym (text_whole those r.id (sound.tips_whole r.id is_member.reached)))
+      walked_is = named_text objects faulty w rest r chosen held agrees
 
       tally : IsTally (next Tips) (λ i. is_done (reached t.explored.frontier.known Tips i)) now_taken (children_of new.counting.frontier)
-      tally = tally_on objects faulty w rest r chosen held sound.agreeing t.explored t.explores (children_of new.counting.frontier) rel.children
+      tally = tally_on objects faulty w rest r chosen held agrees t.explored t.explores (children_of new.counting.frontier) rel.children
 
       seen_there : (p : ObjectId) → has_seen new.counting.frontier Ends p ≡ has_seen t.explored.frontier Ends p
       seen_there p = ap is_seen (rel.ready.moved Ends p)
@@ -146,10 +146,10 @@ module _ {F : Type 0} (objects : F → Objects) (faulty : F → ObjectId → Typ
       due_ready p m d = record {
         member = record {
           reached = reached_named p here;
-          outside = outside those (faulty w.counting.reader.find) (plan_of w).rows w.counting.parents (plan_of w).tips (plan_of w).ends sound.agreeing sound.tips_whole sound.ends_whole t.explored.frontier low.depth explored (λ side. (counted.searched.search side).within) now_taken (children_of new.counting.frontier) tally p (sym (seen_there p) ∙ d.outside) (high p here);
+          outside = outside those (faulty w.counting.reader.find) (plan_of w).rows w.counting.parents (plan_of w).tips (plan_of w).ends agrees t.explored.frontier low.depth explored (λ side. (counted.searched.search side).within) now_taken (children_of new.counting.frontier) tally p (sym (seen_there p) ∙ d.outside) (high p here);
         };
         left = λ e. ⊎_elim (λ s. unmade (subst (λ j. (set.contains (taken_of w) j || is_among j (ready_ids w.ready.commits)) ≡ true) (sym (same_is p r.id s)) (or_right (set.contains (taken_of w) r.id) _ among_ready))) (λ k. unmade (or_left _ _ k)) (or_cases (is_same p r.id) (set.contains (taken_of w) p) (sym (set.contains-insert id_total (taken_of w) r.id p) ∙ e));
-        children = λ c k. none_left those (faulty w.counting.reader.find) (plan_of w).rows w.counting.parents (plan_of w).tips (plan_of w).ends sound.agreeing sound.tips_whole sound.ends_whole t.explored.frontier low.depth explored (λ side. (counted.searched.search side).within) now_taken (children_of new.counting.frontier) tally p d.none_left (high p here) c k;
+        children = λ c k. none_left those (faulty w.counting.reader.find) (plan_of w).rows w.counting.parents (plan_of w).tips (plan_of w).ends agrees t.explored.frontier low.depth explored (λ side. (counted.searched.search side).within) now_taken (children_of new.counting.frontier) tally p d.none_left (high p here) c k;
       }
         where
           here : Contains named p
@@ -160,8 +160,8 @@ module _ {F : Type 0} (objects : F → Objects) (faulty : F → ObjectId → Typ
 
       ready_due : (p : ObjectId) → Contains (last_places named) p → IsReady walked Member (IsTaken (set.insert (taken_of w) r.id)) p → IsDue objects faulty between new p
       ready_due p m q = record {
-        none_left = all_taken those (faulty w.counting.reader.find) (plan_of w).rows w.counting.parents (plan_of w).tips (plan_of w).ends sound.agreeing sound.tips_whole sound.ends_whole t.explored.frontier low.depth explored (λ side. (counted.searched.search side).within) now_taken (children_of new.counting.frontier) tally p q.member q.children;
-        outside = seen_there p ∙ unseen those (faulty w.counting.reader.find) (plan_of w).rows w.counting.parents (plan_of w).tips (plan_of w).ends sound.agreeing sound.tips_whole sound.ends_whole t.explored.frontier low.depth explored (λ side. (counted.searched.search side).within) now_taken (children_of new.counting.frontier) tally p q.member;
+        none_left = all_taken those (faulty w.counting.reader.find) (plan_of w).rows w.counting.parents (plan_of w).tips (plan_of w).ends agrees t.explored.frontier low.depth explored (λ side. (counted.searched.search side).within) now_taken (children_of new.counting.frontier) tally p q.member q.children;
+        outside = seen_there p ∙ unseen those (faulty w.counting.reader.find) (plan_of w).rows w.counting.parents (plan_of w).tips (plan_of w).ends agrees t.explored.frontier low.depth explored (λ side. (counted.searched.search side).within) now_taken (children_of new.counting.frontier) tally p q.member;
         unmade = go (was_ready_of t.explored.frontier p) refl;
       }
         where
@@ -177,17 +177,17 @@ module _ {F : Type 0} (objects : F → Objects) (faulty : F → ObjectId → Typ
       became = subst (λ ids. Keeps (IsReady walked Member (IsTaken (set.insert (taken_of w) r.id))) (last_places ids) (ready_ids added)) walked_is (keeps_on due_ready ready_due due)
 
       stored : (a : Ready) → Contains added a → IsStored objects (plan_of w) new.counting.reader.standing a
-      stored a m = found_stored objects faulty (plan_of w) sound (found_added a m) (sound.tips_whole a.id (reached_named a.id (added_named a.id (in_ids added a m))))
+      stored a m = found_stored objects faulty (plan_of w) agrees (found_added a m)
 
     -- what is added to a walk that may go on
-    pub adds_on : (IsWalkable objects faulty (plan_of w) → IsCounting objects (plan_of w) (counted_by new.counting)) → Adds objects faulty (unasked objects faulty) (unasked_of objects faulty w) r (counted_by new.counting) added
+    pub adds_on : (IsAgreeing (objects (plan_of w).store) (plan_of w).rows → IsCounting objects (plan_of w) (counted_by new.counting)) → Adds objects faulty (unasked objects faulty) (unasked_of objects faulty w) r (counted_by new.counting) added
     adds_on counting = record {
       distinct = times_once (ready_ids added) (λ i. let a : times i (ready_ids added) ≤ times i (last_places named) = keeps_times (IsDue objects faulty between new) due i in let b : times i (last_places named) ≤ 1 = last_once named i in omega arith);
       unmade = λ i m. sym (made_before i) ∙ (keeps_from (IsDue objects faulty between new) due i m).1.unmade;
       named = λ i m. found_named objects faulty (plan_of w) found i (walked_within w.counting.parents r.parents i (added_named i m));
-      became = λ sound. became sound;
+      became = λ agrees. became agrees;
       found = found_added;
-      stored = λ sound a m. stored sound a m;
+      stored = λ agrees a m. stored agrees a m;
       stands = stands_before;
       depth = rel.ready.depth ∙ kept_plan.depth;
       counting = counting;

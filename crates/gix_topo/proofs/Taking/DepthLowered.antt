@@ -16,8 +16,8 @@ use Rattle.gix_revwalk.specs.Reading.{rows_of, DropsRows}
 use Rattle.gix_topo.specs.Inside.Releasing.{plan_of, counted_by, lowered, with_counting, taken_of, TakesOne}
 use Rattle.gix_topo.specs.TopoOrder.{last_places}
 use Rattle.gix_topo.specs.Inside.Steady.{IsDone, IsTallied, HasCounted, IsHeld}
-use Rattle.gix_topo.specs.Walk.{TopoPlan, Ready, walked_of, Chooses, IsMet, IsInDepth, IsBrokenRow, IsNumberOf, IsCounting, IsWalkable}
-use Rattle.gix_topo.proofs.Counts.IndegreeZero.{text_tips}
+use Rattle.gix_revwalk.specs.Agreeing.{IsAgreeing}
+use Rattle.gix_topo.specs.Walk.{TopoPlan, Ready, Chooses, IsInDepth, IsBrokenRow, IsNumberOf, IsCounting, text_walked, IsReached}
 use Rattle.gix_topo.proofs.Counts.ExploreKeeps.{explores_same}
 use Rattle.gix_topo.proofs.Counts.Expanded.{number_same, broken, counts_on}
 use Rattle.gix_topo.proofs.Readiness.IsReady.{last_from}
@@ -43,7 +43,7 @@ module _ {F : Type 0} (objects : F → Objects) (faulty : F → ObjectId → Typ
     dropped = λ e. broken_lower objects plan new.depth old.depth l (h.dropped (sym (ap (λ x. x.standing) s) ∙ e));
   }
 
-  module _ (w : Walk F) (rest : ReadySet) (same : rest.sorting ≡ w.ready.sorting) (r : Ready) (chosen : Chooses w.ready.sorting w.ready.commits r rest.commits) (added : List Ready) (new : Walk F) (t : TakesOne objects faulty (record w { ready = rest }) r added new) (held : IsHeld objects faulty w) (sound : IsWalkable objects faulty (plan_of w)) where
+  module _ (w : Walk F) (rest : ReadySet) (same : rest.sorting ≡ w.ready.sorting) (r : Ready) (chosen : Chooses w.ready.sorting w.ready.commits r rest.commits) (added : List Ready) (new : Walk F) (t : TakesOne objects faulty (record w { ready = rest }) r added new) (held : IsHeld objects faulty w) (agrees : IsAgreeing (objects (plan_of w).store) (plan_of w).rows) where
     abbrev low : Counting F
     low = lowered objects faulty (record w { ready = rest }) r
 
@@ -54,17 +54,16 @@ module _ {F : Type 0} (objects : F → Objects) (faulty : F → ObjectId → Typ
     rel = released objects faulty t.releases
 
     tallied : IsTallied objects w
-    tallied = held.tallied sound.agreeing
+    tallied = held.tallied agrees
 
     low_counts : HasCounted objects (plan_of w) low
-    low_counts = counts_lower (plan_of w) w.counting low refl refl refl (least_below (plan_of w).rows w.counting.depth named) (held.counts sound)
+    low_counts = counts_lower (plan_of w) w.counting low refl refl refl (least_below (plan_of w).rows w.counting.depth named) (held.counts agrees)
 
     explored_counts : HasCounted objects (plan_of w) t.explored × IsCounting objects (plan_of w) (counted_by t.explored)
-    explored_counts = counts_on objects faulty w.ready.sorting w.tips.items w.ends.items (set.contains (taken_of w)) low t.explored sound tallied.counted tallied.begun low_counts held.all_read t.explores t.rested
+    explored_counts = counts_on objects faulty w.ready.sorting w.tips.items w.ends.items (set.contains (taken_of w)) low t.explored agrees tallied.counted tallied.begun low_counts held.all_read t.explores t.rested
 
-    named_reached : (i : ObjectId) → Contains named i → Reaches (walked_of objects (plan_of w)) (plan_of w).tips i
-    named_reached i m =
-        text_tips (objects w.counting.reader.find) (faulty w.counting.reader.find) (plan_of w).rows w.counting.parents (plan_of w).tips (plan_of w).ends sound.agreeing sound.tips_whole sound.ends_whole i (parents_reached objects faulty w rest r chosen held sound.agreeing i m)
+    named_reached : (i : ObjectId) → Contains named i → Reaches (text_walked objects (plan_of w)) (plan_of w).tips i
+    named_reached i m = parents_reached objects faulty w rest r chosen held agrees i m
 
     done_on : (i : ObjectId) → IsDone t.explored.frontier i → IsDone new.counting.frontier i
     done_on i d = ⊎_elim (λ a. inl (ap is_done (rel.ready.moved Tips i) ∙ a)) (λ b. inr (ap is_done (rel.ready.moved Ends i) ∙ b)) d
@@ -82,7 +81,7 @@ module _ {F : Type 0} (objects : F → Objects) (faulty : F → ObjectId → Typ
             let h : (i : ObjectId) × Contains (last_places named) i × DropsRows (rows_of t.explored.reader.graph) i = rel.ready.dropped q e in
             let m : Contains named h.0 = last_from named h.0 h.1 in
             absurd (explored_counts.1.whole q
-            (broken objects faulty (plan_of w) sound.agreeing t.explored.depth h.0 (inl (named_reached h.0 m)) (subst (λ n. n ≤ known_generation (plan_of w).rows h.0) (sym (explores_same objects faulty t.explores).depth) (least_within (plan_of w).rows w.counting.depth named h.0 m))
+            (broken objects faulty (plan_of w) agrees t.explored.depth h.0 (inl (named_reached h.0 m)) (subst (λ n. n ≤ known_generation (plan_of w).rows h.0) (sym (explores_same objects faulty t.explores).depth) (least_within (plan_of w).rows w.counting.depth named h.0 m))
             (subst (λ g. DropsRows (rows_of g) h.0) (explores_same objects faulty t.explores).graph h.2)))
 
     taken_counts : HasCounted objects (plan_of w) new.counting
@@ -98,7 +97,7 @@ module _ {F : Type 0} (objects : F → Objects) (faulty : F → ObjectId → Typ
       taken_counts,
       record {
         exact = λ e. subst (λ d. IsNumberOf (IsInDepth objects (plan_of w) d) new.counting.expanded) (sym rel.ready.depth) (subst (IsNumberOf (IsInDepth objects (plan_of w) t.explored.depth)) (sym rel.ready.expanded) (explored_counts.1.exact (rel.ready.stands e)));
-        all = λ e. subst (IsNumberOf (IsMet objects (plan_of w))) (sym rel.ready.expanded) (explored_counts.1.all (stays e));
+        all = λ e. subst (IsNumberOf (IsReached objects (plan_of w))) (sym rel.ready.expanded) (explored_counts.1.all (stays e));
         dropped = taken_counts.dropped;
         whole = λ e b. explored_counts.1.whole (rel.ready.stands e) (subst (IsBrokenRow objects (plan_of w)) rel.ready.depth b);
       },

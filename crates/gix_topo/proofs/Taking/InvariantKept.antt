@@ -19,7 +19,7 @@ use Rattle.gix_topo.specs.Inside.Releasing.{plan_of, counted_by, lowered, with_c
 use Rattle.gix_topo.specs.Inside.Searched.{IsCounted, IsExplored, IsTally, next_by, starts_by, IsBegun}
 use Rattle.gix_topo.specs.TopoOrder.{last_places}
 use Rattle.gix_topo.specs.Inside.Steady.{AreRead, AreDroppedFor, IsTallied, IsSteady, HasCounted, IsHeld, unasked, unasked_of, TakesReady}
-use Rattle.gix_topo.specs.Walk.{Ready, ready_ids, walked_of, IsMember, IsWalkable, IsTaken, IsCommitRead, HoldsReady, Chooses, Adds, IsReached, IsFound}
+use Rattle.gix_topo.specs.Walk.{Ready, ready_ids, IsTaken, IsCommitRead, HoldsReady, Chooses, Adds, IsReached, IsFound, text_walked, IsTextMember}
 use Rattle.gix_topo.specs.WalkSet.{IsChild, IsReady}
 use Rattle.gix_topo.proofs.Counts.ExploreKeeps.{explores_made, explores_same, explores_still, explores_done, explores_idle}
 use Rattle.gix_revwalk.proofs.NewIds.{times, times_none, among_times, times_once}
@@ -57,10 +57,10 @@ module _ {F : Type 0} (objects : F → Objects) (faulty : F → ObjectId → Typ
   low = lowered objects faulty (record w { ready = rest }) r
 
   abbrev walked : ObjectId → List ObjectId
-  walked = walked_of objects (plan_of w)
+  walked = text_walked objects (plan_of w)
 
   abbrev Member : ObjectId → Type 0
-  Member = IsMember objects (plan_of w)
+  Member = IsTextMember objects (plan_of w)
 
   abbrev next : Side → ObjectId → List ObjectId
   next = next_by those w.counting.parents
@@ -174,7 +174,7 @@ module _ {F : Type 0} (objects : F → Objects) (faulty : F → ObjectId → Typ
         done = done_now;
       }
 
-    module _ (has : IsWalkable objects faulty (plan_of w) → HasCounted objects (plan_of w) new.counting) (adds : Adds objects faulty (unasked objects faulty) (unasked_of objects faulty w) r (counted_by new.counting) added) where
+    module _ (has : IsAgreeing (objects (plan_of w).store) (plan_of w).rows → HasCounted objects (plan_of w) new.counting) (adds : Adds objects faulty (unasked objects faulty) (unasked_of objects faulty w) r (counted_by new.counting) added) where
       fresh : (i : ObjectId) → is_among i (ready_ids added) ≡ true → (set.contains (taken_of w) i ≡ false) × (is_among i (ready_ids w.ready.commits) ≡ false)
       fresh i e = or_parts (set.contains (taken_of w) i) (is_among i (ready_ids w.ready.commits)) (adds.unmade i (among_is i (ready_ids added) e))
 
@@ -210,13 +210,13 @@ module _ {F : Type 0} (objects : F → Objects) (faulty : F → ObjectId → Typ
           of_rest : Contains rest.commits q → IsFound objects faulty (plan_of new) true new.counting.reader.standing q
           of_rest o = subst (λ p. IsFound objects faulty p true new.counting.reader.standing q) (sym plan_is) (found_later objects faulty (plan_of w) (λ e. e) adds.stands (held.found q (others_ready q o)))
 
-      -- where all that is walked reads whole
-      module _ (sound : IsWalkable objects faulty (plan_of w)) where
+      -- with rows that agree
+      module _ (agrees : IsAgreeing (objects (plan_of w).store) (plan_of w).rows) where
         steady : IsSteady objects w
-        steady = held.steady sound
+        steady = held.steady agrees
 
         now_ready : (i : ObjectId) → is_among i (ready_ids added) ≡ true → IsReady walked Member (IsTaken (set.insert (taken_of w) r.id)) i
-        now_ready i e = (keeps_from (IsReady walked Member (IsTaken (set.insert (taken_of w) r.id))) (adds.became sound) i (among_is i (ready_ids added) e)).1
+        now_ready i e = (keeps_from (IsReady walked Member (IsTaken (set.insert (taken_of w) r.id))) (adds.became agrees) i (among_is i (ready_ids added) e)).1
 
         member_now : (i : ObjectId) → was_ready_of new.counting.frontier i ≡ true → Member i
         member_now i e = ⊎_elim (λ a. (now_ready i a).member) (λ o. steady.member i o) (or_cases (is_among i (ready_ids added)) (was_ready_of w.counting.frontier i) (sym (made_now i) ∙ e))
@@ -228,8 +228,8 @@ module _ {F : Type 0} (objects : F → Objects) (faulty : F → ObjectId → Typ
 
         steady_now : IsSteady objects new
         steady_now = record {
-          member = λ i e. subst (λ p. IsMember objects p i) (sym plan_is) (member_now i e);
-          children = λ i d e c. children_now i d e (subst (λ p. IsChild (walked_of objects p) (IsMember objects p) d i) plan_is c);
+          member = λ i e. subst (λ p. IsTextMember objects p i) (sym plan_is) (member_now i e);
+          children = λ i d e c. children_now i d e (subst (λ p. IsChild (text_walked objects p) (IsTextMember objects p) d i) plan_is c);
         }
 
       -- what a walk holds, after a ready commit was taken
@@ -239,8 +239,8 @@ module _ {F : Type 0} (objects : F → Objects) (faulty : F → ObjectId → Typ
         distinct = times_once (ready_ids new.ready.commits) once;
         found = found_now;
         tallied = λ a. tallied_now (subst (λ p. IsAgreeing (objects p.store) p.rows) plan_is a);
-        steady = λ s. steady_now (subst (IsWalkable objects faulty) plan_is s);
-        counts = λ s. subst (λ p. HasCounted objects p new.counting) (sym plan_is) (has (subst (IsWalkable objects faulty) plan_is s));
+        steady = λ s. steady_now (subst (λ plan. IsAgreeing (objects plan.store) plan.rows) plan_is s);
+        counts = λ s. subst (λ p. HasCounted objects p new.counting) (sym plan_is) (has (subst (λ plan. IsAgreeing (objects plan.store) plan.rows) plan_is s));
         all_read = subst (λ p. AreRead objects faulty p new.counting) (sym plan_is) (read_after objects faulty w rest same r chosen added new t held);
         dropped = subst (λ p. AreDroppedFor objects p new.counting.reader.standing) (sym plan_is) dropped_now;
         idle = λ e. rel.ready.queue ∙ explores_idle objects faulty t.explores (held.idle (sym (ap (λ p. p.rows) plan_is) ∙ e));

@@ -16,7 +16,7 @@ use Rattle.gix_topo.specs.Inside.Releasing.{plan_by, plan_of, counted_by, Pushes
 use Rattle.gix_topo.specs.Inside.Searched.{IsCounted, IsBegun, IsExplored}
 use Rattle.gix_topo.specs.Inside.Steady.{AreRead, AreDroppedFor, HasCounted}
 use Rattle.gix_topo.specs.TopoOrder.{by_time}
-use Rattle.gix_topo.specs.Walk.{TopoPlan, Ready, HoldsReady, IsReached, first_depth, IsCommitRead, IsCounting, IsWalkable}
+use Rattle.gix_topo.specs.Walk.{TopoPlan, Ready, HoldsReady, IsReached, first_depth, IsCommitRead, IsCounting}
 
 -- by rising time, and at one time in the order given
 abbrev pub by_rising_time : List Ready → List Ready
@@ -34,11 +34,11 @@ module _ {F : Type 0} (objects : F → Objects) (faulty : F → ObjectId → Typ
     pub depth : c.depth ≡ first_depth plan
     pub unmade : (i : ObjectId) → (known_of c.frontier.known i).was_ready ≡ false
     pub begun : (side : Side) → IsBegun plan.tips plan.ends side c.frontier
-    -- with rows that agree, and where all that is walked reads whole
+    -- with rows that agree
     pub counted : (taken : ObjectId → Bool) → ((i : ObjectId) → taken i ≡ false) → IsAgreeing (objects plan.store) plan.rows → IsCounted (objects plan.store) plan.rows plan.parents plan.tips plan.ends taken c.frontier
     pub explored : IsAgreeing (objects plan.store) plan.rows → (side : Side) → IsExplored (objects plan.store) plan.rows plan.parents plan.tips plan.ends c.depth side c.frontier
-    pub counts : IsWalkable objects faulty plan → HasCounted objects plan c
-    pub counting : IsWalkable objects faulty plan → IsCounting objects plan (counted_by c)
+    pub counts : IsAgreeing (objects plan.store) plan.rows → HasCounted objects plan c
+    pub counting : IsAgreeing (objects plan.store) plan.rows → IsCounting objects plan (counted_by c)
     pub all_read : AreRead objects faulty plan c
     pub dropped : AreDroppedFor objects plan c.reader.standing
     -- without rows, all that is walked was read

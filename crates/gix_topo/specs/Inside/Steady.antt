@@ -18,7 +18,7 @@ use Rattle.gix_topo.specs.Inside.Releasing.{plan_of, counted_by, taken_of, walk_
 use Rattle.gix_topo.specs.Inside.Searched.{IsCounted, IsBegun}
 use Rattle.gix_revwalk.specs.Ids.{AreDistinct}
 use Rattle.gix_revwalk.specs.Infos.{IsInfo}
-use Rattle.gix_topo.specs.Walk.{TopoPlan, TopoWalk, Ready, ready_ids, walked_of, Chooses, IsReached, IsFound, IsMember, IsNumberOf, IsBrokenRow, DropsBy, IsCommitRead, IsWalkable, IsNextReady, IsFault, IsLate, Takes}
+use Rattle.gix_topo.specs.Walk.{TopoPlan, TopoWalk, Ready, ready_ids, Chooses, IsReached, IsFound, IsNumberOf, IsBrokenRow, DropsBy, IsCommitRead, IsNextReady, IsFault, IsLate, Takes, text_walked, IsTextMember}
 use Rattle.gix_topo.specs.WalkSet.{IsChild}
 
 module _ {F : Type 0} (objects : F → Objects) (faulty : F → ObjectId → Type 0) (plan : TopoPlan F) where
@@ -47,8 +47,8 @@ module _ {F : Type 0} (objects : F → Objects) where
 
   -- each commit that was ready once is a member, and all its children were taken
   pub record IsSteady (w : Walk F) : Type 0 where
-    pub member : (i : ObjectId) → (known_of w.counting.frontier.known i).was_ready ≡ true → IsMember objects (plan_of w) i
-    pub children : (i d : ObjectId) → (known_of w.counting.frontier.known i).was_ready ≡ true → IsChild (walked_of objects (plan_of w)) (IsMember objects (plan_of w)) d i → set.contains (taken_of w) d ≡ true
+    pub member : (i : ObjectId) → (known_of w.counting.frontier.known i).was_ready ≡ true → IsTextMember objects (plan_of w) i
+    pub children : (i d : ObjectId) → (known_of w.counting.frontier.known i).was_ready ≡ true → IsChild (text_walked objects (plan_of w)) (IsTextMember objects (plan_of w)) d i → set.contains (taken_of w) d ≡ true
 
   -- the number of commits that are done, none of which is below the depth as long as the rows are held
   pub record HasCounted (plan : TopoPlan F) (c : Counting F) : Type 0 where
@@ -62,10 +62,10 @@ module _ {F : Type 0} (objects : F → Objects) (faulty : F → ObjectId → Typ
     pub made : (i : ObjectId) → Contains (ready_ids w.ready.commits) i → (known_of w.counting.frontier.known i).was_ready ≡ true
     pub distinct : AreDistinct (ready_ids w.ready.commits)
     pub found : (r : Ready) → Contains w.ready.commits r → IsFound objects faulty (plan_of w) true w.counting.reader.standing r
-    -- with rows that agree, and where all that is walked reads whole
+    -- with rows that agree
     pub tallied : IsAgreeing (objects (plan_of w).store) (plan_of w).rows → IsTallied objects w
-    pub steady : IsWalkable objects faulty (plan_of w) → IsSteady objects w
-    pub counts : IsWalkable objects faulty (plan_of w) → HasCounted objects (plan_of w) w.counting
+    pub steady : IsAgreeing (objects (plan_of w).store) (plan_of w).rows → IsSteady objects w
+    pub counts : IsAgreeing (objects (plan_of w).store) (plan_of w).rows → HasCounted objects (plan_of w) w.counting
     pub all_read : AreRead objects faulty (plan_of w) w.counting
     pub dropped : AreDroppedFor objects (plan_of w) w.counting.reader.standing
     -- without rows, all that is walked was read

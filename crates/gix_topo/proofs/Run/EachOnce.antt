@@ -1,0 +1,65 @@
+-- What a list in either order has, over parents that texts name: each once, members alone, children first, and all where no member is its own ancestor.
+use Rattle.std.specs.Prelude.{◌≡◌, ◌++◌, ℕ, List, [], ◌∷◌, true, take, slice_get, ℤ, Option, Some, None, Contains}
+use Rattle.std.proofs.Common.{refl, sym, subst, ⊎_elim, ◌∙◌}
+use Rattle.std.specs.List.{flat_map}
+use Rattle.std.proofs.lemmas.Bool.{or_right, or_left}
+use Rattle.std.proofs.lemmas.List.Elements.{Contains-append_left, Contains-append_right}
+use Rattle.std.specs.FinMap as map_of
+use Rattle.gix_hash.specs.declared.ObjectId.{ObjectId}
+use Rattle.gix_hash.specs.Id.{is_among}
+use Rattle.gix_hash.specs.Reach.{Reaches, start, step}
+use Rattle.gix_object.specs.Object.{Object, Objects}
+use Rattle.gix_revwalk.specs.declared.Parents.{Parents}
+use Rattle.gix_topo.specs.declared.Sorting.{Sorting}
+use Rattle.gix_topo.specs.declared.Sorting.TheVariants as order
+use Rattle.gix_revwalk.specs.Commits.{by_mode}
+use Rattle.gix_revwalk.specs.Ids.{AreDistinct}
+use Rattle.gix_revwalk.specs.Texts.{text_parents, next_in, text_next}
+use Rattle.gix_topo.specs.WalkSet.{IsInWalk, IsAcyclicIn}
+use Rattle.gix_topo.specs.Laws.{IsSorted}
+use Rattle.gix_hash.proofs.Ids.Membership.{among-append, among_from, Contains-cons_cases, no_member}
+use Rattle.gix_revwalk.proofs.ReadsWhole.{walked_within}
+use Rattle.gix_revwalk.proofs.Rows.{found_entry}
+use Rattle.gix_topo.proofs.Readiness.IsReady.{in_walk_top}
+use Rattle.gix_topo.proofs.Run.ReadyInTurn.{TurnsFrom, IsReadyNext, date_turns, topo_turns, each_once, each_member, children_first, all_given}
+
+-- what the texts of stored commits name is finite
+in_all : {X : Type 0} (f : X → List ObjectId) (es : List X) (e : X) (i : ObjectId) → Contains es e → Contains (f e) i → Contains (flat_map f es) i
+in_all f [] e i h n = absurd (no_member e h)
+in_all f (x ∷ es) e i h n = ⊎_elim (λ s. Contains-append_left (f x) (flat_map f es) i (subst (λ y. Contains (f y) i) (sym s) n)) (λ t. Contains-append_right (f x) (flat_map f es) i (in_all f es e i t n)) (Contains-cons_cases e x es h)
+
+abbrev named_all : Objects → List ObjectId
+named_all objects = flat_map (λ entry. text_parents entry.0 entry.1) (map_of.entries objects)
+
+texts_named : (objects : Objects) (c i : ObjectId) → Contains (text_next objects c) i → Contains (named_all objects) i
+texts_named objects c i n = go (map_of.get objects c) refl
+  where
+    go : (o : Option Object) → map_of.get objects c ≡ o → Contains (named_all objects) i
+    go None e = absurd (no_member i (subst (λ o. Contains (next_in c o) i) e n))
+    go (Some object) e = in_all (λ entry. text_parents entry.0 entry.1) (map_of.entries objects) (c, object) i (found_entry (map_of.entries objects) c object (sym (map_of.get-entries objects c) ∙ e)) (subst (λ o. Contains (next_in c o) i) e n)
+
+module _ (objects : Objects) (next : ObjectId → List ObjectId) (named : (c i : ObjectId) → Contains (next c) i → Contains (text_next objects c) i) (m : Parents) (time : ObjectId → ℤ) (tips ends ids : List ObjectId) where
+  abbrev walked : ObjectId → List ObjectId
+  walked i = by_mode m (next i)
+
+  abbrev In : ObjectId → Type 0
+  In = IsInWalk walked next tips ends
+
+  reached_named : (i : ObjectId) → Reaches walked tips i → is_among i (tips ++ named_all objects) ≡ true
+  reached_named i (start s) = among-append i tips (named_all objects) ∙ or_left _ _ (among_from i tips s)
+  reached_named i (step {c = c} r n) = among-append i tips (named_all objects) ∙ or_right (is_among i tips) _ (among_from i (named_all objects) (texts_named objects c i (named c i (walked_within m (next c) i n))))
+
+  pub turns_by : (s : Sorting) → IsSorted s time walked In tips ids → TurnsFrom (IsReadyNext walked In) [] ids
+  turns_by order.DateOrder h = date_turns time walked In ids h
+  turns_by order.TopoOrder h = topo_turns time walked In tips (in_walk_top walked next tips ends (λ c i n. walked_within m (next c) i n)) ids h
+
+  pub each_by : (s : Sorting) → IsSorted s time walked In tips ids
+      → AreDistinct ids × ((i : ObjectId) → Contains ids i → In i) × (IsAcyclicIn walked In → (i : ObjectId) → In i → Contains ids i)
+      × ((k : ℕ) (child parent : ObjectId) → slice_get ids k ≡ Some parent → Contains ids child → Contains (walked child) parent → Contains (take k ids) child)
+  each_by s h =
+      let t : TurnsFrom (IsReadyNext walked In) [] ids = turns_by s h in (
+        each_once walked In ids t,
+        each_member walked In ids t,
+        λ acyclic i m. all_given walked In ids t (tips ++ named_all objects) (λ j k. reached_named j k.reached) acyclic i m,
+        children_first walked In ids t,
+      )
