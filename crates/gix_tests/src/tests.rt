@@ -1,6 +1,7 @@
 //! The walks by their tables, compared with what is wanted; and the calls and examples, each made once.
 mod calls;
 mod examples;
+mod lookups;
 mod names;
 mod simple;
 mod topo;
