@@ -11,6 +11,7 @@ mod StartFacts
 mod RunFacts
 mod SimpleRuns
 mod UncutWords
+mod Parts
 mod CommitRuns
 mod TopoRuns
 mod FileRuns

@@ -1,9 +1,10 @@
 -- What a run writes of a history, by what commits reach alone.
 use Rattle.std.specs.Prelude.{◌≡◌, ◌≢◌, ◌↔◌, ℕ, List, [], ◌∷◌, ◌++◌, map, filter, Bool, false, not, Contains, Option, Some, Result, Ok, Err, IsSome}
 use Rattle.std.specs.Io.KnownBytes.{Appends}
+use Rattle.std.specs.FinMap.{get}
 use Rattle.std.specs.List.{flat_map}
 use Rattle.gix_hash.specs.declared.ObjectId.{ObjectId}
-use Rattle.gix_object.specs.Object.{Objects}
+use Rattle.gix_object.specs.Object.{Object, Objects}
 use Rattle.gix_revwalk.specs.declared.Info.{Info}
 use Rattle.gix_revwalk.specs.declared.Parents.TheVariants as mode
 use Rattle.gix_simple.specs.declared.Sorting.{Sorting}
@@ -34,6 +35,10 @@ IsShown objects tips hidden i = Reaches (parents_of objects) tips i × (Reaches 
 abbrev pub AreWhole : Objects → List ObjectId → Type 0
 AreWhole objects ids = (i : ObjectId) → Reaches (parents_of objects) ids i → IsSome (commit_at objects i)
 
+-- each object of the one store is in the other, under the same id, with the same kind and the same bytes
+abbrev pub IsPartOf : Objects → Objects → Type 0
+IsPartOf some all = (i : ObjectId) (object : Object) → get some i ≡ Some object → get all i ≡ Some object
+
 -- in breadth order or in one by time, from the tips through parents, without what the hidden tips reach
 abbrev pub IsListedSo : Objects → Sorting → List ObjectId → List ObjectId → List ObjectId → Type 0
 IsListedSo objects by tips hidden ids =
@@ -58,6 +63,15 @@ SimpleLists =
     request_of words ≡ Ok (Commits (Simple by) tips hidden) → AreRecords records input →
     (hidden ≡ [] → AreWhole (stored records) tips) → Runs words (Some input) old (Ok tt) new →
     (ids : List ObjectId) × Lists (stored records) by tips hidden ids × Appends old new (lines_of_ids ids)
+
+-- Where the records are a part of a store, this list is right of the whole store, whatever else is in it.
+abbrev pub SimpleListsOfPart : Type 0
+SimpleListsOfPart =
+    (words : List (List ℕ)) (input : List ℕ) (records : List Record) (by : Sorting) (tips hidden : List ObjectId) (old new : Option (List ℕ)) →
+    request_of words ≡ Ok (Commits (Simple by) tips hidden) → AreRecords records input →
+    (hidden ≡ [] → AreWhole (stored records) tips) → Runs words (Some input) old (Ok tt) new →
+    (objects : Objects) → IsPartOf (stored records) objects →
+    (ids : List ObjectId) × Lists objects by tips hidden ids × Appends old new (lines_of_ids ids)
 
 -- No id is there twice, and each is one that the tips reach and the ends don't. Where no commit is its own ancestor, all of these are
 -- there. They are in the order that was asked for.
@@ -127,6 +141,18 @@ AheadCounts =
     (ahead behind : ℕ)
     × IsNumberOf (IsShown (stored records) (one ∷ []) (other ∷ [])) ahead
     × IsNumberOf (IsShown (stored records) (other ∷ []) (one ∷ [])) behind
+    × Appends old new (ahead_line ahead behind)
+
+-- Where the records are a part of a store, these are the numbers of the whole store, whatever else is in it: a run that ends well has
+-- read all that both ids reach.
+abbrev pub AheadCountsOfPart : Type 0
+AheadCountsOfPart =
+    (words : List (List ℕ)) (input : List ℕ) (records : List Record) (one other : ObjectId) (old new : Option (List ℕ)) →
+    request_of words ≡ Ok (Ahead one other) → AreRecords records input → Runs words (Some input) old (Ok tt) new →
+    (objects : Objects) → IsPartOf (stored records) objects →
+    (ahead behind : ℕ)
+    × IsNumberOf (IsShown objects (one ∷ []) (other ∷ [])) ahead
+    × IsNumberOf (IsShown objects (other ∷ []) (one ∷ [])) behind
     × Appends old new (ahead_line ahead behind)
 
 -- A run that fails, and not by the writer, writes nothing, unless the words ask for a list of commits.

@@ -1,6 +1,7 @@
 //! What a run of the program writes, as laws over the definitions: functions that do nothing, and whose contracts are proved.
 
-ghost use Rattle.gix_commands.specs.Histories.{AheadCounts, AheadSucceeds, DrawsDifference, FailsSilently, SimpleLists, SimpleSucceeds, TopoLists, TopoSucceeds};
+ghost use Rattle.gix_commands.specs.Histories.{AheadCounts, AheadCountsOfPart, AheadSucceeds, DrawsDifference, FailsSilently};
+ghost use Rattle.gix_commands.specs.Histories.{SimpleLists, SimpleListsOfPart, SimpleSucceeds, TopoLists, TopoSucceeds};
 ghost use Rattle.gix_commands.specs.Listings.{FilesLists, FilesSucceeds};
 
 /// `breadth`, `newest` and `oldest` write the ids of exactly the commits that the tips reach and the hidden ones don't, each once, in
@@ -8,6 +9,11 @@ ghost use Rattle.gix_commands.specs.Listings.{FilesLists, FilesSucceeds};
 /// well has read all that tips and hidden tips reach.
 pub fn simple_lists()
     ensures { SimpleLists }
+{}
+
+/// Such a list is right of each store that has the records' objects, whatever else is in it.
+pub fn simple_lists_of_part()
+    ensures { SimpleListsOfPart }
 {}
 
 /// Where all that is reached are whole commits, `breadth`, `newest` and `oldest` fail for memory, reading or writing alone.
@@ -47,6 +53,12 @@ pub fn draws_difference()
 /// reaches and the first doesn't.
 pub fn ahead_counts()
     ensures { AheadCounts }
+{}
+
+/// These numbers are right of each store that has the records' objects, whatever else is in it: a run that ends well has read all that
+/// both ids reach.
+pub fn ahead_counts_of_part()
+    ensures { AheadCountsOfPart }
 {}
 
 /// Where all that the two ids reach are whole commits, `ahead` fails for memory, reading or writing alone.
