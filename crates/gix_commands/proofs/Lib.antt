@@ -14,6 +14,7 @@ mod UncutWords
 mod Parts
 mod CommitRuns
 mod TopoRuns
+mod TreeParts
 mod FileRuns
 mod SimpleFaults
 mod SilentRuns

@@ -2,7 +2,7 @@
 
 ghost use Rattle.gix_commands.specs.Histories.{AheadCounts, AheadCountsOfPart, AheadSucceeds, DrawsDifference, FailsSilently};
 ghost use Rattle.gix_commands.specs.Histories.{SimpleLists, SimpleListsOfPart, SimpleSucceeds, TopoLists, TopoSucceeds};
-ghost use Rattle.gix_commands.specs.Listings.{FilesLists, FilesSucceeds};
+ghost use Rattle.gix_commands.specs.Listings.{FilesLists, FilesListsOfPart, FilesSucceeds};
 
 /// `breadth`, `newest` and `oldest` write the ids of exactly the commits that the tips reach and the hidden ones don't, each once, in
 /// their order. Without hidden tips this asks that all that the tips reach are whole commits. With one nothing is asked: a run that ends
@@ -36,6 +36,11 @@ pub fn topo_succeeds()
 /// `/`.
 pub fn files_lists()
     ensures { FilesLists }
+{}
+
+/// These lines are right of each store that has the records' objects, whatever else is in it.
+pub fn files_lists_of_part()
+    ensures { FilesListsOfPart }
 {}
 
 /// Where each of these trees reads whole and none is under itself, `files` fails for memory, reading or writing alone.
