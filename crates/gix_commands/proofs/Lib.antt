@@ -13,6 +13,7 @@ mod SimpleRuns
 mod UncutWords
 mod Parts
 mod CommitRuns
+mod TopoParts
 mod TopoRuns
 mod TreeParts
 mod FileRuns

@@ -84,14 +84,22 @@ module _ (some all : Objects) (part : IsPartOf some all) where
   pub same_time : (i : ObjectId) → IsSome (commit_at some i) → time_of some i ≡ time_of all i
   same_time i h = ap time_in (same_commit i h)
 
-  module _ (ids : List ObjectId) (whole : AreWhole some ids) where
-    pub reached_in_all : (i : ObjectId) → Reaches (parents_of some) ids i → Reaches (parents_of all) ids i
-    reached_in_all i (start s) = start s
-    reached_in_all i (step {c = c} r n) = step (reached_in_all c r) (subst (λ xs. Contains xs i) (same_parents c (whole c r)) n)
+  pub parents_more : (c i : ObjectId) → Contains (parents_of some c) i → Contains (parents_of all c) i
+  parents_more c i m = go (get some c) refl m
+    where
+      go : (o : Option Object) → get some c ≡ o → Contains (parents_in (commit_of_object c o)) i → Contains (parents_of all c) i
+      go None e n = absurd (no_member i n)
+      go (Some object) e n = subst (λ o. Contains (parents_in (commit_of_object c o)) i) (sym (part c object e)) n
 
-    pub reached_in_part : (i : ObjectId) → Reaches (parents_of all) ids i → Reaches (parents_of some) ids i
-    reached_in_part i (start s) = start s
-    reached_in_part i (step {c = c} r n) = let p : Reaches (parents_of some) ids c = reached_in_part c r in step p (subst (λ xs. Contains xs i) (sym (same_parents c (whole c p))) n)
+  -- what is reached in the part is reached in the whole
+  pub reached_in_all : (ids : List ObjectId) (i : ObjectId) → Reaches (parents_of some) ids i → Reaches (parents_of all) ids i
+  reached_in_all ids i (start s) = start s
+  reached_in_all ids i (step {c = c} r n) = step (reached_in_all ids c r) (parents_more c i n)
+
+  -- and the other way round, where all that is reached in the part is whole there
+  pub reached_in_part : (ids : List ObjectId) → AreWhole some ids → (i : ObjectId) → Reaches (parents_of all) ids i → Reaches (parents_of some) ids i
+  reached_in_part ids whole i (start s) = start s
+  reached_in_part ids whole i (step {c = c} r n) = let p : Reaches (parents_of some) ids c = reached_in_part ids whole c r in step p (subst (λ xs. Contains xs i) (sym (same_parents c (whole c p))) n)
 
   module _ (tips hidden : List ObjectId) (whole : AreWhole some (tips ++ hidden)) where
     pub tips_whole : AreWhole some tips
@@ -101,10 +109,10 @@ module _ (some all : Objects) (part : IsPartOf some all) where
     hidden_whole i r = whole i (reach_more (parents_of some) hidden (tips ++ hidden) (λ j c. Contains-append_right tips hidden j c) i r)
 
     pub shown_in_all : (i : ObjectId) → IsShown some tips hidden i → IsShown all tips hidden i
-    shown_in_all i s = (reached_in_all tips tips_whole i s.0, λ h. s.1 (reached_in_part hidden hidden_whole i h))
+    shown_in_all i s = (reached_in_all tips i s.0, λ h. s.1 (reached_in_part hidden hidden_whole i h))
 
     pub shown_in_part : (i : ObjectId) → IsShown all tips hidden i → IsShown some tips hidden i
-    shown_in_part i s = (reached_in_part tips tips_whole i s.0, λ h. s.1 (reached_in_all hidden hidden_whole i h))
+    shown_in_part i s = (reached_in_part tips tips_whole i s.0, λ h. s.1 (reached_in_all hidden i h))
 
     pub number_in_all : (n : ℕ) → IsNumberOf (IsShown some tips hidden) n → IsNumberOf (IsShown all tips hidden) n
     number_in_all n k = record { ids = k.ids; distinct = k.distinct; each = λ i c. shown_in_all i (k.each i c); all = λ i s. k.all i (shown_in_part i s); number = k.number }
@@ -129,7 +137,7 @@ module _ (some all : Objects) (part : IsPartOf some all) where
       exact = λ i. (λ c. shown_in_all i ((l.exact i).0 c), λ s. (l.exact i).1 (shown_in_part i s));
       in_order = (
         l.in_order.0,
-        λ i. (λ e. reached_in_all hidden hidden_whole i ((l.in_order.1 i).0 e), λ r. (l.in_order.1 i).1 (reached_in_part hidden hidden_whole i r)),
+        λ i. (λ e. reached_in_all hidden i ((l.in_order.1 i).0 e), λ r. (l.in_order.1 i).1 (reached_in_part hidden hidden_whole i r)),
         listed_in_all l.in_order.0 (time_order mode.All by) ids (λ i c. ((l.exact i).0 c).0) l.in_order.2,
       );
     }

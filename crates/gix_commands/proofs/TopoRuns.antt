@@ -26,13 +26,14 @@ use Rattle.gix_topo.proofs.Run.Theorem.{gives}
 use Rattle.gix_commands.specs.declared.fault.Fault.{Fault}
 use Rattle.gix_commands.specs.declared.words.Order.TheVariants.{Topo}
 use Rattle.gix_commands.specs.Faults.{fault_of_topo_walk}
-use Rattle.gix_commands.specs.Histories.{AreWhole, ListsDown, TopoLists, TopoSucceeds, EndsWell, IsOutside, lines_of_ids}
+use Rattle.gix_commands.specs.Histories.{AreWhole, ListsDown, TopoLists, TopoListsOfPart, TopoSucceeds, EndsWell, IsOutside, lines_of_ids}
 use Rattle.gix_records.specs.Records.{stored}
 use Rattle.gix_commands.specs.Run.{Serves, walked_down, not_built, unserved, not_written}
 use Rattle.gix_commands.specs.TopoWalked.{Walk, Answers, IsWalkFault, IsBuiltFrom, plan_from}
 use Rattle.gix_commands.specs.Walked.{Ends, finished, failed as fell, cut_short, objects_of, never_faulty, accepts_all, given as all_given}
 use Rattle.gix_commands.specs.Words.{Commits}
 use Rattle.gix_commands.proofs.CommitRuns.{served_so, ends_well, lines_by_ids}
+use Rattle.gix_commands.proofs.TopoParts.{lists_down_of_part}
 use Rattle.gix_simple.proofs.Difference.{whole_from}
 use Rattle.gix_revwalk.proofs.Reached.{reach_more}
 
@@ -130,6 +131,10 @@ module _ (objects : Objects) (by : Sorting) (tips ends : List ObjectId) (whole :
 
 pub topo_lists : TopoLists
 topo_lists words input records by tips ends old new asked are whole runs = lists (stored records) by tips ends whole old new (served_so words input records (Commits (Topo by) tips ends) old new asked are runs)
+
+pub topo_lists_of_part : TopoListsOfPart
+topo_lists_of_part words input records by tips ends old new asked are whole runs all part =
+    let l = topo_lists words input records by tips ends old new asked are whole runs in (l.0, lists_down_of_part (stored records) all part tips ends whole by l.0 l.1, l.2)
 
 pub topo_succeeds : TopoSucceeds
 topo_succeeds words input records by tips ends answer old new asked are whole runs = ends_well words input records (Commits (Topo by) tips ends) answer old new asked are (well (stored records) by tips ends whole old) runs

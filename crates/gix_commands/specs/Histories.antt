@@ -88,6 +88,15 @@ TopoLists =
     request_of words ≡ Ok (Commits (Topo by) tips ends) → AreRecords records input → AreWhole (stored records) (tips ++ ends) → Runs words (Some input) old (Ok tt) new →
     (ids : List ObjectId) × ListsDown (stored records) by tips ends ids × Appends old new (lines_of_ids ids)
 
+-- Where the records are a part of a store, this list is right of the whole store, whatever else is in it.
+abbrev pub TopoListsOfPart : Type 0
+TopoListsOfPart =
+    (words : List (List ℕ)) (input : List ℕ) (records : List Record) (by : TopoSorting) (tips ends : List ObjectId) (old new : Option (List ℕ)) →
+    request_of words ≡ Ok (Commits (Topo by) tips ends) → AreRecords records input →
+    AreWhole (stored records) (tips ++ ends) → Runs words (Some input) old (Ok tt) new →
+    (objects : Objects) → IsPartOf (stored records) objects →
+    (ids : List ObjectId) × ListsDown objects by tips ends ids × Appends old new (lines_of_ids ids)
+
 -- out of memory, or the input or the output failed
 abbrev pub IsOutside : Fault → Type 0
 IsOutside fault.Memory = Unit {0}

@@ -1,7 +1,7 @@
 //! What a run of the program writes, as laws over the definitions: functions that do nothing, and whose contracts are proved.
 
 ghost use Rattle.gix_commands.specs.Histories.{AheadCounts, AheadCountsOfPart, AheadSucceeds, DrawsDifference, FailsSilently};
-ghost use Rattle.gix_commands.specs.Histories.{SimpleLists, SimpleListsOfPart, SimpleSucceeds, TopoLists, TopoSucceeds};
+ghost use Rattle.gix_commands.specs.Histories.{SimpleLists, SimpleListsOfPart, SimpleSucceeds, TopoLists, TopoListsOfPart, TopoSucceeds};
 ghost use Rattle.gix_commands.specs.Listings.{FilesLists, FilesListsOfPart, FilesSucceeds};
 
 /// `breadth`, `newest` and `oldest` write the ids of exactly the commits that the tips reach and the hidden ones don't, each once, in
@@ -25,6 +25,11 @@ pub fn simple_succeeds()
 /// once, in their order; and all of them, where no commit is its own ancestor.
 pub fn topo_lists()
     ensures { TopoLists }
+{}
+
+/// Such a list is right of each store that has the records' objects, whatever else is in it.
+pub fn topo_lists_of_part()
+    ensures { TopoListsOfPart }
 {}
 
 /// Where all that is reached are whole commits, `topo` and `date` fail for memory, reading or writing alone.
