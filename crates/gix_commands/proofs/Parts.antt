@@ -1,5 +1,5 @@
 -- What holds of a part of a store holds of the whole store, where all that is reached in the part is whole there.
-use Rattle.std.specs.Prelude.{◌≡◌, ◌≢◌, ◌≤◌, ◌↔◌, ℕ, zero, suc, ℤ, List, [], ◌∷◌, ◌++◌, filter, take, length, slice_get, Bool, false, not, Option, None, Some, Contains, IsSome, MatchOption}
+use Rattle.std.specs.Prelude.{◌≡◌, ◌≢◌, ℕ, zero, suc, ℤ, List, [], ◌∷◌, ◌++◌, filter, take, slice_get, Bool, false, not, Option, None, Some, Contains, IsSome, MatchOption}
 use Rattle.std.specs.FinMap.{get}
 use Rattle.std.specs.List.{flat_map}
 use Rattle.std.proofs.Math.Path.{transport}
@@ -12,7 +12,7 @@ use Rattle.gix_revwalk.specs.declared.CommitTimeOrder.{CommitTimeOrder}
 use Rattle.gix_revwalk.specs.declared.Parents.TheVariants as mode
 use Rattle.gix_simple.specs.declared.Sorting.{Sorting}
 use Rattle.gix_hash.specs.Reach.{Reaches, start, step, Tells}
-use Rattle.gix_revwalk.specs.BreadthOrder.{IsBreadthOrder, named_by, first_new}
+use Rattle.gix_revwalk.specs.BreadthOrder.{IsBreadthOrder, first_new}
 use Rattle.gix_revwalk.specs.Commits.{commit_at, commit_of_object, parents_in, parents_of, time_in, time_of}
 use Rattle.gix_revwalk.specs.Ids.{new_ids}
 use Rattle.gix_revwalk.specs.TimeOrder.{IsTimeOrder, IsPending, IsBest, IsNoWorse}
@@ -25,7 +25,7 @@ use Rattle.gix_revwalk.proofs.Reached.{reach_more}
 use Rattle.gix_simple.proofs.Difference.{no_start}
 use Rattle.gix_simple.proofs.MadeOfTips.{fresh_among}
 use Rattle.gix_simple.proofs.ReachDecided.{reach_test}
-use Rattle.gix_commands.specs.Histories.{IsPartOf, IsShown, AreWhole, IsListedSo, Lists}
+use Rattle.gix_commands.specs.Histories.{IsPartOf, IsShown, AreWhole, Lists}
 
 pub take_within : (k : ℕ) (xs : List ObjectId) (i : ObjectId) → Contains (take k xs) i → Contains xs i
 take_within zero xs i c = absurd (no_member i c)

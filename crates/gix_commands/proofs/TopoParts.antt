@@ -1,5 +1,5 @@
 -- A list of `topo` or `date` over a part of a store is one over the whole store, where all that is reached in the part is whole there.
-use Rattle.std.specs.Prelude.{◌≡◌, ◌≤◌, ℕ, ℤ, int_le, List, [], ◌∷◌, ◌++◌, Bool, true, false, if◌then◌else◌, reverse, take, length, slice_get, Option, None, Some, Contains, IsSome, MatchOption}
+use Rattle.std.specs.Prelude.{◌≡◌, ℤ, int_le, List, [], ◌∷◌, ◌++◌, Bool, true, false, if◌then◌else◌, reverse, take, slice_get, Option, None, Some, Contains, MatchOption}
 use Rattle.std.proofs.Math.Path.{transport}
 use Rattle.std.proofs.Common.{refl, sym, ap, subst, ⊎_elim, ◌∙◌}
 use Rattle.gix_hash.specs.declared.ObjectId.{ObjectId}
@@ -7,7 +7,7 @@ use Rattle.gix_object.specs.Object.{Objects}
 use Rattle.gix_revwalk.specs.declared.CommitTimeOrder.TheVariants.{NewestFirst}
 use Rattle.gix_topo.specs.declared.Sorting.{Sorting}
 use Rattle.gix_topo.specs.declared.Sorting.TheVariants as order
-use Rattle.gix_hash.specs.Reach.{Reaches, IsAcyclic}
+use Rattle.gix_hash.specs.Reach.{Reaches}
 use Rattle.gix_revwalk.specs.Commits.{parents_of, time_of}
 use Rattle.gix_revwalk.specs.TimeOrder.{IsBest, IsNoWorse}
 use Rattle.gix_topo.specs.DateOrder.{IsDateOrder}
@@ -96,7 +96,7 @@ module _ (In Within : ObjectId → Type 0) (walked other : ObjectId → List Obj
       m.1,
       made_same taken m.0 (λ j t. h j (Contains-there j c taken t)) m.2,
       subst (λ xs. Keeps (IsReady other Within (Contains (c ∷ taken))) (last_places xs) m.1) (same_walked c (h c (Contains-here c taken)))
-      (keeps_alike (IsReady walked In (Contains (c ∷ taken))) (IsReady other Within (Contains (c ∷ taken))) (ready_fore (Contains (c ∷ taken))) (ready_back (Contains (c ∷ taken))) m.3),
+          (keeps_alike (IsReady walked In (Contains (c ∷ taken))) (IsReady other Within (Contains (c ∷ taken))) (ready_fore (Contains (c ∷ taken))) (ready_back (Contains (c ∷ taken))) m.3),
       m.4,
     )
 
