@@ -60,5 +60,5 @@ counted_of_all : (objects all : Objects) → IsPartOf objects all → (one other
 counted_of_all objects all part one other old new (counted ahead behind a b written) = (ahead, behind, number_of_all objects one other all part ahead a, number_of_all objects other one all part behind b, written)
 
 pub ahead_counts_of_part : AheadCountsOfPart
-ahead_counts_of_part words input records one other old new asked are runs all part =
+ahead_counts_of_part words input records one other old new all asked are part runs =
     counted_of_all (stored records) all part one other old new (served_so words input records (Ahead one other) old new asked are runs)

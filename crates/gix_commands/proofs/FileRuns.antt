@@ -83,7 +83,7 @@ of_all : (objects all : Objects) → IsPartOf objects all → (tree : ObjectId) 
 of_all objects all part tree old new (listed recorder walk written) = listed recorder (records_all objects all part tree recorder walk) written
 
 pub files_lists_of_part : FilesListsOfPart
-files_lists_of_part words input records tree old new asked are runs all part =
+files_lists_of_part words input records tree old new all asked are part runs =
     lists all tree old new (of_all (stored records) all part tree old new (served_so words input records (Files tree) old new asked are runs))
 
 pub files_succeeds : FilesSucceeds

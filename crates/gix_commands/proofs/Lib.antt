@@ -9,6 +9,7 @@ mod ListerFacts
 mod AheadFacts
 mod StartFacts
 mod RunFacts
+mod FoundCommits
 mod SimpleRuns
 mod UncutWords
 mod Parts

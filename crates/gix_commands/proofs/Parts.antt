@@ -91,6 +91,10 @@ module _ (some all : Objects) (part : IsPartOf some all) where
       go None e n = absurd (no_member i n)
       go (Some object) e n = subst (λ o. Contains (parents_in (commit_of_object c o)) i) (sym (part c object e)) n
 
+  -- what is stored in the part reads whole there, where it does in the whole
+  pub stored_whole : (i : ObjectId) → IsSome (commit_at all i) → (object : Object) → get some i ≡ Some object → IsSome (commit_at some i)
+  stored_whole i h object e = subst IsSome (ap (commit_of_object i) (part i object e ∙ sym e)) h
+
   -- what is reached in the part is reached in the whole
   pub reached_in_all : (ids : List ObjectId) (i : ObjectId) → Reaches (parents_of some) ids i → Reaches (parents_of all) ids i
   reached_in_all ids i (start s) = start s

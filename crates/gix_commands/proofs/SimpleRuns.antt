@@ -1,5 +1,5 @@
 -- What a simple walk over records gives that is drawn to its end, by what commits reach.
-use Rattle.std.specs.Prelude.{◌≡◌, ◌≢◌, ◌↔◌, List, [], ◌∷◌, ◌++◌, map, filter, Bool, true, false, ◌&&◌, Option, None, Ok, Err, Contains, All, IsSome, cond, not}
+use Rattle.std.specs.Prelude.{◌≡◌, ◌≢◌, ◌↔◌, List, [], ◌∷◌, ◌++◌, map, filter, Bool, true, false, ◌&&◌, Option, None, Some, Ok, Err, Contains, All, IsSome, cond, not}
 use Rattle.std.specs.Iterator.{Drains, Yields}
 use Rattle.std.specs.List.{AllZip}
 use Rattle.std.proofs.Math.Path.{transport}
@@ -8,7 +8,8 @@ use Rattle.std.proofs.lemmas.List.Elements.{All-nil, All-cons, Contains-append_l
 use Rattle.std.proofs.Math.Bool.{and-true}
 use Rattle.gix_hash.proofs.Ids.Membership.{among_from, among_is, Contains-here, Contains-cons_cases, no_member}
 use Rattle.gix_hash.specs.declared.ObjectId.{ObjectId}
-use Rattle.gix_object.specs.Object.{Objects}
+use Rattle.std.specs.FinMap.{get}
+use Rattle.gix_object.specs.Object.{Object, Objects}
 use Rattle.gix_revwalk.specs.declared.Info.{Info}
 use Rattle.gix_revwalk.specs.declared.Parents.TheVariants as mode
 use Rattle.gix_simple.specs.declared.Error.{Error}
@@ -31,6 +32,7 @@ use Rattle.gix_simple.proofs.Difference.{difference, faultless_difference, drawn
 use Rattle.gix_simple.proofs.ReachDecided.{reach_test}
 use Rattle.gix_simple.proofs.MadeOfTips.{is_new_walk, pending_is}
 use Rattle.gix_commands.specs.Histories.{IsShown, IsListedSo}
+use Rattle.gix_commands.proofs.FoundCommits.{all_found, goes}
 use Rattle.gix_commands.specs.Walked.{Walk, Answers, IsSorted, StartsFrom, objects_of, never_faulty, accepts_all, given}
 use Rattle.gix_hash.proofs.Lists.{filter_within, filter_all}
 use Rattle.gix_revwalk.proofs.Reached.{reach_more}
@@ -119,6 +121,9 @@ module _ (objects : Objects) (by : Sorting) (tips hidden : List ObjectId) (walk 
       among_is i tips (pending_is objects_of never_faulty accepts_all objects (record {}) (λ j. true) tips starts.made (λ mid new j answer b h. h.0) starts.makes i
       (subst (λ xs. Contains xs i) (ap (λ w. ids_of w.pending) starts.hides ∙ sorted_so.pending) c)).1
 
+  pub is_pending : (i : ObjectId) → Contains tips i → Contains (ids_of walk.pending) i
+  is_pending i c = subst (λ xs. Contains xs i) (sym pending) (among_is i (new_ids (λ j. false) tips) (times_among i (new_ids (λ j. false) tips) 0 (times-fresh i (λ j. false) tips ∙ ap (λ b. cond b 1 0) (among_from i tips c))))
+
   -- it was built without a cutoff
   abbrev Uncut : Walk → Type 0
   Uncut w = (b : IsBuilt objects_of never_faulty accepts_all objects (record {}) tips w) × IsBuiltUncut b
@@ -163,6 +168,12 @@ module _ (objects : Objects) (by : Sorting) (tips hidden : List ObjectId) (walk 
     drained : Drains Answers opened (given infos)
     drained = subst (λ w. Drains Answers w (given infos)) same (new, (at, drawn, ended))
 
+    -- without hidden tips all that the tips reach was read, where of that each commit that is stored reads whole
+    pub all_met : hidden ≡ [] → ((i : ObjectId) → Reaches (parents_of objects) tips i → (object : Object) → get objects i ≡ Some object → IsSome (commit_at objects i)) → (i : ObjectId) → Reaches (parents_of objects) tips i → IsSome (commit_at objects i)
+    all_met none sound =
+        all_found objects tips sound infos opened
+        (goes objects tips sound opened refl refl refl none (uncut_none by uncut) (subst (λ w. IsFresh objects_of w (λ i. true)) same is_fresh.0) is_tip is_pending) drained
+
     -- with hidden tips all that tips and hidden tips reach was read
     pub all_read : tips ≢ [] → hidden ≢ [] → (i : ObjectId) → Reaches (parents_of objects) (tips ++ hidden) i → IsSome (commit_at objects i)
     all_read some behind i r =
@@ -170,9 +181,6 @@ module _ (objects : Objects) (by : Sorting) (tips hidden : List ObjectId) (walk 
         drawn_whole objects_of never_faulty accepts_all opened (given infos) (none_agree objects [] refl) left behind (no_faults infos) drained i (reach_more (parents_of objects) (tips ++ hidden) (ids_of walk.pending ++ hidden) more i r) in
         subst IsSome (sym w.stored) refl
       where
-        is_pending : (j : ObjectId) → Contains tips j → Contains (ids_of walk.pending) j
-        is_pending j c = subst (λ xs. Contains xs j) (sym pending) (among_is j (new_ids (λ k. false) tips) (times_among j (new_ids (λ k. false) tips) 0 (times-fresh j (λ k. false) tips ∙ ap (λ b. cond b 1 0) (among_from j tips c))))
-
         left : walk.pending ≢ []
         left e = none_left tips some (λ j c. no_member j (subst (λ xs. Contains (ids_of xs) j) e (is_pending j c)))
 

@@ -133,7 +133,7 @@ pub topo_lists : TopoLists
 topo_lists words input records by tips ends old new asked are whole runs = lists (stored records) by tips ends whole old new (served_so words input records (Commits (Topo by) tips ends) old new asked are runs)
 
 pub topo_lists_of_part : TopoListsOfPart
-topo_lists_of_part words input records by tips ends old new asked are whole runs all part =
+topo_lists_of_part words input records by tips ends old new all asked are part whole runs =
     let l = topo_lists words input records by tips ends old new asked are whole runs in (l.0, lists_down_of_part (stored records) all part tips ends whole by l.0 l.1, l.2)
 
 pub topo_succeeds : TopoSucceeds

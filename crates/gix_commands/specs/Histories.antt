@@ -64,13 +64,14 @@ SimpleLists =
     (hidden ≡ [] → AreWhole (stored records) tips) → Runs words (Some input) old (Ok tt) new →
     (ids : List ObjectId) × Lists (stored records) by tips hidden ids × Appends old new (lines_of_ids ids)
 
--- Where the records are a part of a store, this list is right of the whole store, whatever else is in it.
+-- Where the records are a part of a store, a run that ends well writes such a list of the whole store, whatever else is in it. Without
+-- hidden tips this asks that all that the tips reach are whole commits of that store, and of the records nothing: each that they lack
+-- makes the run fail.
 abbrev pub SimpleListsOfPart : Type 0
 SimpleListsOfPart =
-    (words : List (List ℕ)) (input : List ℕ) (records : List Record) (by : Sorting) (tips hidden : List ObjectId) (old new : Option (List ℕ)) →
-    request_of words ≡ Ok (Commits (Simple by) tips hidden) → AreRecords records input →
-    (hidden ≡ [] → AreWhole (stored records) tips) → Runs words (Some input) old (Ok tt) new →
-    (objects : Objects) → IsPartOf (stored records) objects →
+    (words : List (List ℕ)) (input : List ℕ) (records : List Record) (by : Sorting) (tips hidden : List ObjectId) (old new : Option (List ℕ)) (objects : Objects) →
+    request_of words ≡ Ok (Commits (Simple by) tips hidden) → AreRecords records input → IsPartOf (stored records) objects →
+    (hidden ≡ [] → AreWhole objects tips) → Runs words (Some input) old (Ok tt) new →
     (ids : List ObjectId) × Lists objects by tips hidden ids × Appends old new (lines_of_ids ids)
 
 -- No id is there twice, and each is one that the tips reach and the ends don't. Where no commit is its own ancestor, all of these are
@@ -91,10 +92,9 @@ TopoLists =
 -- Where the records are a part of a store, this list is right of the whole store, whatever else is in it.
 abbrev pub TopoListsOfPart : Type 0
 TopoListsOfPart =
-    (words : List (List ℕ)) (input : List ℕ) (records : List Record) (by : TopoSorting) (tips ends : List ObjectId) (old new : Option (List ℕ)) →
-    request_of words ≡ Ok (Commits (Topo by) tips ends) → AreRecords records input →
+    (words : List (List ℕ)) (input : List ℕ) (records : List Record) (by : TopoSorting) (tips ends : List ObjectId) (old new : Option (List ℕ)) (objects : Objects) →
+    request_of words ≡ Ok (Commits (Topo by) tips ends) → AreRecords records input → IsPartOf (stored records) objects →
     AreWhole (stored records) (tips ++ ends) → Runs words (Some input) old (Ok tt) new →
-    (objects : Objects) → IsPartOf (stored records) objects →
     (ids : List ObjectId) × ListsDown objects by tips ends ids × Appends old new (lines_of_ids ids)
 
 -- out of memory, or the input or the output failed
@@ -156,9 +156,8 @@ AheadCounts =
 -- read all that both ids reach.
 abbrev pub AheadCountsOfPart : Type 0
 AheadCountsOfPart =
-    (words : List (List ℕ)) (input : List ℕ) (records : List Record) (one other : ObjectId) (old new : Option (List ℕ)) →
-    request_of words ≡ Ok (Ahead one other) → AreRecords records input → Runs words (Some input) old (Ok tt) new →
-    (objects : Objects) → IsPartOf (stored records) objects →
+    (words : List (List ℕ)) (input : List ℕ) (records : List Record) (one other : ObjectId) (old new : Option (List ℕ)) (objects : Objects) →
+    request_of words ≡ Ok (Ahead one other) → AreRecords records input → IsPartOf (stored records) objects → Runs words (Some input) old (Ok tt) new →
     (ahead behind : ℕ)
     × IsNumberOf (IsShown objects (one ∷ []) (other ∷ [])) ahead
     × IsNumberOf (IsShown objects (other ∷ []) (one ∷ [])) behind
