@@ -89,12 +89,13 @@ TopoLists =
     request_of words ≡ Ok (Commits (Topo by) tips ends) → AreRecords records input → AreWhole (stored records) (tips ++ ends) → Runs words (Some input) old (Ok tt) new →
     (ids : List ObjectId) × ListsDown (stored records) by tips ends ids × Appends old new (lines_of_ids ids)
 
--- Where the records are a part of a store, this list is right of the whole store, whatever else is in it.
+-- Where the records are a part of a store, it writes such a list of the whole store, whatever else is in it. This asks that all that
+-- tips and ends reach are whole commits of that store, and of the records nothing.
 abbrev pub TopoListsOfPart : Type 0
 TopoListsOfPart =
     (words : List (List ℕ)) (input : List ℕ) (records : List Record) (by : TopoSorting) (tips ends : List ObjectId) (old new : Option (List ℕ)) (objects : Objects) →
     request_of words ≡ Ok (Commits (Topo by) tips ends) → AreRecords records input → IsPartOf (stored records) objects →
-    AreWhole (stored records) (tips ++ ends) → Runs words (Some input) old (Ok tt) new →
+    AreWhole objects (tips ++ ends) → Runs words (Some input) old (Ok tt) new →
     (ids : List ObjectId) × ListsDown objects by tips ends ids × Appends old new (lines_of_ids ids)
 
 -- out of memory, or the input or the output failed
