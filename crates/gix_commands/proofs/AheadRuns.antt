@@ -9,13 +9,14 @@ use Rattle.gix_simple.specs.declared.Sorting.TheVariants as sorting
 use Rattle.gix_revwalk.specs.Ids.{AreDistinct}
 use Rattle.gix_topo.specs.Walk.{IsNumberOf}
 use Rattle.gix_commands.specs.Ahead.{Counts, Draws, ahead_line}
-use Rattle.gix_commands.specs.Histories.{IsShown, AheadCounts, DrawsDifference}
+use Rattle.gix_commands.specs.Histories.{AreWhole, IsPartOf, IsShown, AheadCounts, AheadCountsOfPart, DrawsDifference}
 use Rattle.gix_records.specs.Records.{stored}
 use Rattle.gix_commands.specs.Run.{Serves, counted}
 use Rattle.gix_commands.specs.Walked.{Answers, IsWalkFault, Ends, finished}
 use Rattle.gix_commands.specs.Words.{Ahead}
 use Rattle.gix_commands.proofs.CommitRuns.{served_so}
-use Rattle.gix_commands.proofs.SimpleRuns.{each_unhidden}
+use Rattle.gix_commands.proofs.SimpleRuns.{all_read, each_unhidden}
+use Rattle.gix_commands.proofs.Parts.{number_in_all}
 
 length-map : (infos : List Info) → length (map (λ info. info.id) infos) ≡ length infos
 length-map [] = refl
@@ -34,6 +35,16 @@ module _ (objects : Objects) (tip hidden : ObjectId) where
       let d = difference c.0 c.1 in
       record { ids = map (λ info. info.id) c.0; distinct = d.0; each = λ i m. (d.1 i).0 m; all = λ i s. (d.1 i).1 s; number = length-map c.0 ∙ sym c.2 }
 
+  -- a walk that ended well has read all that both ids reach
+  read_whole : (infos : List Info) → Draws objects tip hidden infos (Ok tt) → AreWhole objects (tip ∷ hidden ∷ [])
+  read_whole infos d = of_ends d.ends
+    where
+      of_ends : Ends Answers IsWalkFault d.walk infos (Ok tt) → AreWhole objects (tip ∷ hidden ∷ [])
+      of_ends (finished new h) = all_read objects sorting.BreadthFirst (tip ∷ []) (hidden ∷ []) d.walk tt d.starts infos h.0 new h.1 h.2 (λ e. cc) (λ e. cc)
+
+  number_of_all : (all : Objects) → IsPartOf objects all → (n : ℕ) → Counts objects tip hidden n → IsNumberOf (IsShown all (tip ∷ []) (hidden ∷ [])) n
+  number_of_all all part n c = number_in_all objects all part (tip ∷ []) (hidden ∷ []) (read_whole c.0 c.1) n (number_of n c)
+
 pub draws_difference : DrawsDifference
 draws_difference = difference
 
@@ -43,3 +54,11 @@ counted_so objects one other old new (counted ahead behind a b written) = (ahead
 
 pub ahead_counts : AheadCounts
 ahead_counts words input records one other old new asked are runs = counted_so (stored records) one other old new (served_so words input records (Ahead one other) old new asked are runs)
+
+counted_of_all : (objects all : Objects) → IsPartOf objects all → (one other : ObjectId) (old new : Option (List ℕ)) → Serves objects old (Ahead one other) (Ok tt) new
+    → (ahead behind : ℕ) × IsNumberOf (IsShown all (one ∷ []) (other ∷ [])) ahead × IsNumberOf (IsShown all (other ∷ []) (one ∷ [])) behind × Appends old new (ahead_line ahead behind)
+counted_of_all objects all part one other old new (counted ahead behind a b written) = (ahead, behind, number_of_all objects one other all part ahead a, number_of_all objects other one all part behind b, written)
+
+pub ahead_counts_of_part : AheadCountsOfPart
+ahead_counts_of_part words input records one other old new all asked are part runs =
+    counted_of_all (stored records) all part one other old new (served_so words input records (Ahead one other) old new asked are runs)

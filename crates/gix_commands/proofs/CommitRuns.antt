@@ -1,21 +1,24 @@
 -- What a run of `breadth`, `newest` or `oldest` writes, by what commits reach.
-use Rattle.std.specs.Prelude.{◌≡◌, ℕ, List, [], ◌∷◌, ◌++◌, map, Option, Some, Result, Ok, Err}
+use Rattle.std.specs.Prelude.{◌≡◌, ◌≢◌, ℕ, List, [], ◌∷◌, ◌++◌, map, Option, Some, Result, Ok, Err}
 use Rattle.std.specs.Io.KnownBytes.{Appends}
-use Rattle.std.proofs.Common.{refl, sym, ap, subst, ◌∙◌}
+use Rattle.std.proofs.Common.{refl, sym, ap, subst, ◌∙◌, append-nil}
 use Rattle.gix_hash.specs.declared.ObjectId.{ObjectId}
 use Rattle.gix_object.specs.Object.{Objects}
 use Rattle.gix_revwalk.specs.declared.Info.{Info}
 use Rattle.gix_simple.specs.declared.Sorting.{Sorting}
+use Rattle.gix_hash.specs.Reach.{Reaches}
+use Rattle.gix_revwalk.specs.Commits.{parents_of}
 use Rattle.gix_commands.specs.declared.fault.Fault.{Fault}
 use Rattle.gix_commands.specs.declared.words.Order.TheVariants.{Simple}
-use Rattle.gix_commands.specs.Histories.{AreWhole, Lists, SimpleLists, EndsWell, lines_of_ids}
+use Rattle.gix_commands.specs.Histories.{AreWhole, IsPartOf, Lists, SimpleLists, SimpleListsOfPart, EndsWell, lines_of_ids}
 use Rattle.gix_records.specs.Records.{Record, AreRecords, stored}
 use Rattle.gix_commands.specs.Run.{Runs, Serves, walked, without_memory, no_command, not_read, bad_record, served}
 use Rattle.gix_commands.specs.Walked.{Walk, Answers, IsWalkFault, Ends, StartsFrom, finished, lines_of, line_of}
 use Rattle.gix_commands.specs.Words.{Request, Commits, request_of}
 use Rattle.gix_records.proofs.RecordFacts.{only_reading, no_bad_record}
-use Rattle.gix_commands.proofs.SimpleRuns.{IsUncut, each_shown, in_order}
+use Rattle.gix_commands.proofs.SimpleRuns.{IsUncut, all_met, all_read, each_shown, in_order}
 use Rattle.gix_commands.proofs.UncutWords.{uncut}
+use Rattle.gix_commands.proofs.Parts.{lists_of_part, reached_in_all, stored_whole}
 
 pub lines_by_ids : (infos : List Info) → lines_of infos ≡ lines_of_ids (map (λ info. info.id) infos)
 lines_by_ids [] = refl
@@ -50,6 +53,34 @@ module _ (objects : Objects) (by : Sorting) (tips hidden : List ObjectId) (old n
   lists : Serves objects old (Commits (Simple by) tips hidden) (Ok tt) new → (ids : List ObjectId) × Lists objects by tips hidden ids × Appends old new (lines_of_ids ids)
   lists (walked walk infos starts ends written) = (map (λ info. info.id) infos, listed walk infos starts ends, subst (Appends old new) (lines_by_ids infos) written)
 
+  -- all that tips and hidden tips reach is known to read whole, or was read
+  read_whole : (walk : Walk) (infos : List Info) → StartsFrom objects by tips hidden walk → Ends Answers IsWalkFault walk infos (Ok tt) → tips ≢ [] → AreWhole objects (tips ++ hidden)
+  read_whole walk infos starts (finished last h) some = go hidden refl
+    where
+      go : (ids : List ObjectId) → hidden ≡ ids → AreWhole objects (tips ++ hidden)
+      go [] e i r = whole e i (subst (λ xs. Reaches (parents_of objects) xs i) (append-nil tips) (subst (λ hs. Reaches (parents_of objects) (tips ++ hs) i) e r))
+      go (id ∷ ids) e i r = all_read objects by tips hidden walk named starts infos h.0 last h.1 h.2 some (λ n. let c : [] ≡ id ∷ ids = sym n ∙ e in cc) i r
+
+module _ (some all : Objects) (part : IsPartOf some all) (by : Sorting) (tips hidden : List ObjectId) (named : IsUncut by) (whole : hidden ≡ [] → AreWhole all tips) where
+  -- without hidden tips all that the tips reach was found
+  met_whole : (walk : Walk) (infos : List Info) → StartsFrom some by tips hidden walk → Ends Answers IsWalkFault walk infos (Ok tt) → hidden ≡ [] → AreWhole some tips
+  met_whole walk infos starts (finished last h) e =
+      all_met some by tips hidden walk named starts infos h.0 last h.1 h.2 e (λ i r object stored. stored_whole some all part i (whole e i (reached_in_all some all part tips i r)) object stored)
+
+  lists_of_all : (old new : Option (List ℕ)) → Serves some old (Commits (Simple by) tips hidden) (Ok tt) new → (ids : List ObjectId) × Lists all by tips hidden ids × Appends old new (lines_of_ids ids)
+  lists_of_all old new (walked walk infos starts ends written) =
+      let met : hidden ≡ [] → AreWhole some tips = met_whole walk infos starts ends in
+      let l : Lists some by tips hidden (map (λ info. info.id) infos) = listed some by tips hidden old new named met walk infos starts ends in
+      (
+        map (λ info. info.id) infos,
+        lists_of_part some all part by tips hidden (map (λ info. info.id) infos) (read_whole some by tips hidden old new named met walk infos starts ends) l,
+        subst (Appends old new) (lines_by_ids infos) written,
+      )
+
 pub simple_lists : SimpleLists
 simple_lists words input records by tips hidden old new asked are whole runs =
     lists (stored records) by tips hidden old new (uncut words by tips hidden asked) whole (served_so words input records (Commits (Simple by) tips hidden) old new asked are runs)
+
+pub simple_lists_of_part : SimpleListsOfPart
+simple_lists_of_part words input records by tips hidden old new all asked are part whole runs =
+    lists_of_all (stored records) all part by tips hidden (uncut words by tips hidden asked) whole old new (served_so words input records (Commits (Simple by) tips hidden) old new asked are runs)

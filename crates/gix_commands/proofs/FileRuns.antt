@@ -21,13 +21,14 @@ use Rattle.gix_tree.proofs.Theorems.SameRecords.{unbroken}
 use Rattle.gix_commands.specs.declared.fault.Fault.{Fault}
 use Rattle.gix_commands.specs.Faults.{fault_of_tree_walk}
 use Rattle.gix_commands.specs.Files.{RecordsTree, file_lines}
-use Rattle.gix_commands.specs.Histories.{EndsWell, IsOutside}
-use Rattle.gix_commands.specs.Listings.{Unfolds, FilesLists, FilesSucceeds}
+use Rattle.gix_commands.specs.Histories.{EndsWell, IsOutside, IsPartOf}
+use Rattle.gix_commands.specs.Listings.{Unfolds, FilesLists, FilesListsOfPart, FilesSucceeds}
 use Rattle.gix_records.specs.Records.{stored}
 use Rattle.gix_commands.specs.Run.{Serves, listed, not_listed, unserved, not_written}
 use Rattle.gix_commands.specs.Walked.{never_faulty}
 use Rattle.gix_commands.specs.Words.{Files}
 use Rattle.gix_commands.proofs.CommitRuns.{served_so, ends_well}
+use Rattle.gix_commands.proofs.TreeParts.{records_all}
 
 -- a recorder answers each call so
 answers_of : (old : Tracked) (calls : List Call) (new : Tracked) → Run Tracks old calls new → AllByRecursion IsRecorderAnswer calls
@@ -76,6 +77,14 @@ module _ (objects : Objects) (tree : ObjectId) where
 
 pub files_lists : FilesLists
 files_lists words input records tree old new asked are runs = lists (stored records) tree old new (served_so words input records (Files tree) old new asked are runs)
+
+-- a walk over a part is one over the whole
+of_all : (objects all : Objects) → IsPartOf objects all → (tree : ObjectId) (old new : Option (List ℕ)) → Serves objects old (Files tree) (Ok tt) new → Serves all old (Files tree) (Ok tt) new
+of_all objects all part tree old new (listed recorder walk written) = listed recorder (records_all objects all part tree recorder walk) written
+
+pub files_lists_of_part : FilesListsOfPart
+files_lists_of_part words input records tree old new all asked are part runs =
+    lists all tree old new (of_all (stored records) all part tree old new (served_so words input records (Files tree) old new asked are runs))
 
 pub files_succeeds : FilesSucceeds
 files_succeeds words input records tree answer old new asked are sound runs = ends_well words input records (Files tree) answer old new asked are (well (stored records) tree sound old) runs

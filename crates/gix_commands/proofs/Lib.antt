@@ -9,10 +9,14 @@ mod ListerFacts
 mod AheadFacts
 mod StartFacts
 mod RunFacts
+mod FoundCommits
 mod SimpleRuns
 mod UncutWords
+mod Parts
 mod CommitRuns
+mod TopoParts
 mod TopoRuns
+mod TreeParts
 mod FileRuns
 mod SimpleFaults
 mod SilentRuns

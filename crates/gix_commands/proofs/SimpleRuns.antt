@@ -1,14 +1,15 @@
 -- What a simple walk over records gives that is drawn to its end, by what commits reach.
-use Rattle.std.specs.Prelude.{◌≡◌, ◌≢◌, ◌↔◌, List, [], ◌∷◌, ◌++◌, map, filter, Bool, true, false, ◌&&◌, Option, None, Ok, Err, Contains, All, IsSome, not}
+use Rattle.std.specs.Prelude.{◌≡◌, ◌≢◌, ◌↔◌, List, [], ◌∷◌, ◌++◌, map, filter, Bool, true, false, ◌&&◌, Option, None, Some, Ok, Err, Contains, All, IsSome, cond, not}
 use Rattle.std.specs.Iterator.{Drains, Yields}
 use Rattle.std.specs.List.{AllZip}
 use Rattle.std.proofs.Math.Path.{transport}
 use Rattle.std.proofs.Common.{refl, sym, ap, subst, ◌∙◌, ⊎_elim, append-nil}
-use Rattle.std.proofs.lemmas.List.Elements.{All-nil, All-cons, Contains-append_left}
+use Rattle.std.proofs.lemmas.List.Elements.{All-nil, All-cons, Contains-append_left, Contains-append_right, Contains-append_cases}
 use Rattle.std.proofs.Math.Bool.{and-true}
-use Rattle.gix_hash.proofs.Ids.Membership.{among_is, Contains-cons_cases, no_member}
+use Rattle.gix_hash.proofs.Ids.Membership.{among_from, among_is, Contains-here, Contains-cons_cases, no_member}
 use Rattle.gix_hash.specs.declared.ObjectId.{ObjectId}
-use Rattle.gix_object.specs.Object.{Objects}
+use Rattle.std.specs.FinMap.{get}
+use Rattle.gix_object.specs.Object.{Object, Objects}
 use Rattle.gix_revwalk.specs.declared.Info.{Info}
 use Rattle.gix_revwalk.specs.declared.Parents.TheVariants as mode
 use Rattle.gix_simple.specs.declared.Error.{Error}
@@ -23,6 +24,7 @@ use Rattle.gix_revwalk.specs.Asking.{AnswersBy}
 use Rattle.gix_revwalk.specs.Ids.{AreDistinct, new_ids, ids_of}
 use Rattle.gix_simple.specs.Laws.{IsFresh, IsGiven, IsNoRefusal, IsNewWalk, IsWholeRun, GivesInOrder, GivesDifference, given_ids, next_of, IsInOrder}
 use Rattle.gix_simple.specs.Walk.{is_older, cutoff, time_order}
+use Rattle.gix_revwalk.proofs.NewIds.{times_among, times-fresh}
 use Rattle.gix_revwalk.proofs.Rows.{none_agree}
 use Rattle.gix_simple.proofs.Builders.{built}
 use Rattle.gix_simple.proofs.Corollaries.{gives}
@@ -30,6 +32,7 @@ use Rattle.gix_simple.proofs.Difference.{difference, faultless_difference, drawn
 use Rattle.gix_simple.proofs.ReachDecided.{reach_test}
 use Rattle.gix_simple.proofs.MadeOfTips.{is_new_walk, pending_is}
 use Rattle.gix_commands.specs.Histories.{IsShown, IsListedSo}
+use Rattle.gix_commands.proofs.FoundCommits.{all_found, goes}
 use Rattle.gix_commands.specs.Walked.{Walk, Answers, IsSorted, StartsFrom, objects_of, never_faulty, accepts_all, given}
 use Rattle.gix_hash.proofs.Lists.{filter_within, filter_all}
 use Rattle.gix_revwalk.proofs.Reached.{reach_more}
@@ -86,6 +89,10 @@ follows (sorting.ByCommitTime order) u first sorted s = record {
 }
 follows (sorting.ByCommitTimeCutoff order seconds) u first sorted s = absurd u
 
+none_left : (ids : List ObjectId) → ids ≢ [] → ((i : ObjectId) → Contains ids i → ⊥) → ⊥
+none_left [] some none = some refl
+none_left (i ∷ ids) some none = none i (Contains-here i ids)
+
 module _ (objects : Objects) (by : Sorting) (tips hidden : List ObjectId) (walk : Walk) (uncut : IsUncut by) (starts : StartsFrom objects by tips hidden walk) where
   -- the walk before its first step, its options written out
   abbrev pub opened : Walk
@@ -113,6 +120,9 @@ module _ (objects : Objects) (by : Sorting) (tips hidden : List ObjectId) (walk 
   is_tip i c =
       among_is i tips (pending_is objects_of never_faulty accepts_all objects (record {}) (λ j. true) tips starts.made (λ mid new j answer b h. h.0) starts.makes i
       (subst (λ xs. Contains xs i) (ap (λ w. ids_of w.pending) starts.hides ∙ sorted_so.pending) c)).1
+
+  pub is_pending : (i : ObjectId) → Contains tips i → Contains (ids_of walk.pending) i
+  is_pending i c = subst (λ xs. Contains xs i) (sym pending) (among_is i (new_ids (λ j. false) tips) (times_among i (new_ids (λ j. false) tips) 0 (times-fresh i (λ j. false) tips ∙ ap (λ b. cond b 1 0) (among_from i tips c))))
 
   -- it was built without a cutoff
   abbrev Uncut : Walk → Type 0
@@ -157,6 +167,25 @@ module _ (objects : Objects) (by : Sorting) (tips hidden : List ObjectId) (walk 
 
     drained : Drains Answers opened (given infos)
     drained = subst (λ w. Drains Answers w (given infos)) same (new, (at, drawn, ended))
+
+    -- without hidden tips all that the tips reach was read, where of that each commit that is stored reads whole
+    pub all_met : hidden ≡ [] → ((i : ObjectId) → Reaches (parents_of objects) tips i → (object : Object) → get objects i ≡ Some object → IsSome (commit_at objects i)) → (i : ObjectId) → Reaches (parents_of objects) tips i → IsSome (commit_at objects i)
+    all_met none sound =
+        all_found objects tips sound infos opened
+        (goes objects tips sound opened refl refl refl none (uncut_none by uncut) (subst (λ w. IsFresh objects_of w (λ i. true)) same is_fresh.0) is_tip is_pending) drained
+
+    -- with hidden tips all that tips and hidden tips reach was read
+    pub all_read : tips ≢ [] → hidden ≢ [] → (i : ObjectId) → Reaches (parents_of objects) (tips ++ hidden) i → IsSome (commit_at objects i)
+    all_read some behind i r =
+        let w : ReadsWhole objects i =
+        drawn_whole objects_of never_faulty accepts_all opened (given infos) (none_agree objects [] refl) left behind (no_faults infos) drained i (reach_more (parents_of objects) (tips ++ hidden) (ids_of walk.pending ++ hidden) more i r) in
+        subst IsSome (sym w.stored) refl
+      where
+        left : walk.pending ≢ []
+        left e = none_left tips some (λ j c. no_member j (subst (λ xs. Contains (ids_of xs) j) e (is_pending j c)))
+
+        more : (j : ObjectId) → Contains (tips ++ hidden) j → Contains (ids_of walk.pending ++ hidden) j
+        more j c = ⊎_elim (λ t. Contains-append_left (ids_of walk.pending) hidden j (is_pending j t)) (λ t. Contains-append_right (ids_of walk.pending) hidden j t) (Contains-append_cases tips hidden j c)
 
     -- Without hidden tips all that the tips reach is known to read whole. With hidden tips it was read.
     module _ (whole : hidden ≡ [] → (i : ObjectId) → Reaches (parents_of objects) tips i → IsSome (commit_at objects i)) where

@@ -1,10 +1,10 @@
 -- What a run of `topo` or `date` writes, by what commits reach.
-use Rattle.std.specs.Prelude.{◌≡◌, ℕ, List, [], ◌∷◌, ◌++◌, map, filter, true, Option, Some, None, Result, Ok, Err, All}
+use Rattle.std.specs.Prelude.{◌≡◌, ℕ, List, [], ◌∷◌, ◌++◌, map, filter, true, Option, Some, None, Result, Ok, Err, All, Contains, IsSome, ◌⊎◌}
 use Rattle.std.specs.Io.KnownBytes.{Appends}
 use Rattle.std.specs.Iterator.{Yields}
 use Rattle.std.specs.List.{AllZip}
-use Rattle.std.proofs.Common.{refl, sym, ap, subst, ◌∙◌}
-use Rattle.std.proofs.lemmas.List.Elements.{All-nil, All-cons, Contains-append_left, Contains-append_right}
+use Rattle.std.proofs.Common.{refl, sym, ap, subst, inl, inr, ⊎_elim, ◌∙◌}
+use Rattle.std.proofs.lemmas.List.Elements.{All-nil, All-cons, Contains-append_left, Contains-append_right, Contains-append_cases}
 use Rattle.std.specs.FinSet as set
 use Rattle.gix_hash.specs.declared.ObjectId.{ObjectId}
 use Rattle.gix_object.specs.declared.Kind.TheVariants as object
@@ -16,23 +16,29 @@ use Rattle.gix_revwalk.specs.declared.Info.{Info}
 use Rattle.gix_topo.specs.declared.Error.{Error}
 use Rattle.gix_topo.specs.declared.Error.TheVariants as error
 use Rattle.gix_topo.specs.declared.Sorting.{Sorting}
-use Rattle.gix_revwalk.specs.Commits.{parents_of}
-use Rattle.gix_hash.specs.Reach.{step}
+use Rattle.gix_object.specs.CommitText.{Commit}
+use Rattle.gix_revwalk.specs.Commits.{commit_at, parents_in, parents_of}
+use Rattle.gix_revwalk.specs.Texts.{text_next}
+use Rattle.gix_hash.specs.Reach.{Reaches, start, step}
+use Rattle.gix_hash.proofs.Ids.Membership.{no_member}
+use Rattle.gix_revwalk.proofs.TextParents.{text_whole}
 use Rattle.gix_topo.specs.Laws.{IsNoRefusal, IsTakenInOrder, IsGiven, IsWholeRun, GivesInOrder}
-use Rattle.gix_topo.specs.Walk.{TopoPlan, IsFault, IsFirstReady, IsNextReady, IsSound, ended, given, refused, failed}
+use Rattle.gix_topo.specs.Walk.{TopoPlan, IsCommitRead, IsReached, IsFault, IsFirstReady, IsNextReady, IsSound, ended, given, refused, failed}
 use Rattle.gix_revwalk.proofs.Rows.{none_agree}
 use Rattle.gix_topo.proofs.Run.Corollaries.{once}
 use Rattle.gix_topo.proofs.Run.Theorem.{gives}
 use Rattle.gix_commands.specs.declared.fault.Fault.{Fault}
 use Rattle.gix_commands.specs.declared.words.Order.TheVariants.{Topo}
 use Rattle.gix_commands.specs.Faults.{fault_of_topo_walk}
-use Rattle.gix_commands.specs.Histories.{AreWhole, ListsDown, TopoLists, TopoSucceeds, EndsWell, IsOutside, lines_of_ids}
+use Rattle.gix_commands.specs.Histories.{AreWhole, IsPartOf, ListsDown, TopoLists, TopoListsOfPart, TopoSucceeds, EndsWell, IsOutside, lines_of_ids}
 use Rattle.gix_records.specs.Records.{stored}
 use Rattle.gix_commands.specs.Run.{Serves, walked_down, not_built, unserved, not_written}
 use Rattle.gix_commands.specs.TopoWalked.{Walk, Answers, IsWalkFault, IsBuiltFrom, plan_from}
 use Rattle.gix_commands.specs.Walked.{Ends, finished, failed as fell, cut_short, objects_of, never_faulty, accepts_all, given as all_given}
 use Rattle.gix_commands.specs.Words.{Commits}
 use Rattle.gix_commands.proofs.CommitRuns.{served_so, ends_well, lines_by_ids}
+use Rattle.gix_commands.proofs.Parts.{reached_in_all, stored_whole}
+use Rattle.gix_commands.proofs.TopoParts.{lists_down_of_part}
 use Rattle.gix_simple.proofs.Difference.{whole_from}
 use Rattle.gix_revwalk.proofs.Reached.{reach_more}
 
@@ -130,6 +136,40 @@ module _ (objects : Objects) (by : Sorting) (tips ends : List ObjectId) (whole :
 
 pub topo_lists : TopoLists
 topo_lists words input records by tips ends old new asked are whole runs = lists (stored records) by tips ends whole old new (served_so words input records (Commits (Topo by) tips ends) old new asked are runs)
+
+named_whole : (objects : Objects) (c i : ObjectId) → Contains (parents_of objects c) i → IsSome (commit_at objects c)
+named_whole objects c i n = go (commit_at objects c) n
+  where
+    go : (o : Option Commit) → Contains (parents_in o) i → IsSome o
+    go None n = absurd (no_member i n)
+    go (Some commit) n = refl
+
+by_texts : (objects : Objects) (ids : List ObjectId) (i : ObjectId) → Reaches (parents_of objects) ids i → Reaches (text_next objects) ids i
+by_texts objects ids i (start s) = start s
+by_texts objects ids i (step {c = c} r n) = step (by_texts objects ids c r) (subst (λ xs. Contains xs i) (text_whole objects c (whole_from objects c (named_whole objects c i n))) n)
+
+from_either : (next : ObjectId → List ObjectId) (xs ys : List ObjectId) (i : ObjectId) → Reaches next (xs ++ ys) i → Reaches next xs i ⊎ Reaches next ys i
+from_either next xs ys i (start s) = ⊎_elim (λ c. inl (start c)) (λ c. inr (start c)) (Contains-append_cases xs ys i s)
+from_either next xs ys i (step {c = c} r n) = ⊎_elim (λ r. inl (step r n)) (λ r. inr (step r n)) (from_either next xs ys c r)
+
+module _ (some all : Objects) (part : IsPartOf some all) (by : Sorting) (tips ends : List ObjectId) (whole : AreWhole all (tips ++ ends)) where
+  -- a walk that was built has read all that tips and ends reach
+  met_whole : (walk : Walk) → IsBuiltFrom some by tips ends (Ok walk) → AreWhole some (tips ++ ends)
+  met_whole walk built i r =
+      let reads : (j : ObjectId) → IsReached objects_of (plan_from some by tips ends) j → IsCommitRead some j =
+      subst (λ plan. plan.rows ≡ [] → (j : ObjectId) → IsReached objects_of plan j → IsCommitRead plan.store j) built.0.plan built.1.read refl in
+      let c : IsCommitRead some i = reads i (from_either (text_next some) tips ends i (by_texts some (tips ++ ends) i r)) in
+      stored_whole some all part i (whole i (reached_in_all some all part (tips ++ ends) i r)) (record { kind = object.Commit; bytes = c.bytes }) c.stored
+
+  lists_of_all : (old new : Option (List ℕ)) → Serves some old (Commits (Topo by) tips ends) (Ok tt) new → (ids : List ObjectId) × ListsDown all by tips ends ids × Appends old new (lines_of_ids ids)
+  lists_of_all old new (walked_down walk infos built drawn written) =
+      let met : AreWhole some (tips ++ ends) = met_whole walk built in
+      let l = lists some by tips ends met old new (walked_down walk infos built drawn written) in
+      (l.0, lists_down_of_part some all part tips ends met by l.0 l.1, l.2)
+
+pub topo_lists_of_part : TopoListsOfPart
+topo_lists_of_part words input records by tips ends old new all asked are part whole runs =
+    lists_of_all (stored records) all part by tips ends whole old new (served_so words input records (Commits (Topo by) tips ends) old new asked are runs)
 
 pub topo_succeeds : TopoSucceeds
 topo_succeeds words input records by tips ends answer old new asked are whole runs = ends_well words input records (Commits (Topo by) tips ends) answer old new asked are (well (stored records) by tips ends whole old) runs

@@ -1,9 +1,10 @@
 -- What a run writes of a history, by what commits reach alone.
 use Rattle.std.specs.Prelude.{◌≡◌, ◌≢◌, ◌↔◌, ℕ, List, [], ◌∷◌, ◌++◌, map, filter, Bool, false, not, Contains, Option, Some, Result, Ok, Err, IsSome}
 use Rattle.std.specs.Io.KnownBytes.{Appends}
+use Rattle.std.specs.FinMap.{get}
 use Rattle.std.specs.List.{flat_map}
 use Rattle.gix_hash.specs.declared.ObjectId.{ObjectId}
-use Rattle.gix_object.specs.Object.{Objects}
+use Rattle.gix_object.specs.Object.{Object, Objects}
 use Rattle.gix_revwalk.specs.declared.Info.{Info}
 use Rattle.gix_revwalk.specs.declared.Parents.TheVariants as mode
 use Rattle.gix_simple.specs.declared.Sorting.{Sorting}
@@ -34,6 +35,10 @@ IsShown objects tips hidden i = Reaches (parents_of objects) tips i × (Reaches 
 abbrev pub AreWhole : Objects → List ObjectId → Type 0
 AreWhole objects ids = (i : ObjectId) → Reaches (parents_of objects) ids i → IsSome (commit_at objects i)
 
+-- each object of the one store is in the other, under the same id, with the same kind and the same bytes
+abbrev pub IsPartOf : Objects → Objects → Type 0
+IsPartOf some all = (i : ObjectId) (object : Object) → get some i ≡ Some object → get all i ≡ Some object
+
 -- in breadth order or in one by time, from the tips through parents, without what the hidden tips reach
 abbrev pub IsListedSo : Objects → Sorting → List ObjectId → List ObjectId → List ObjectId → Type 0
 IsListedSo objects by tips hidden ids =
@@ -59,6 +64,16 @@ SimpleLists =
     (hidden ≡ [] → AreWhole (stored records) tips) → Runs words (Some input) old (Ok tt) new →
     (ids : List ObjectId) × Lists (stored records) by tips hidden ids × Appends old new (lines_of_ids ids)
 
+-- Where the records are a part of a store, a run that ends well writes such a list of the whole store, whatever else is in it. Without
+-- hidden tips this asks that all that the tips reach are whole commits of that store, and of the records nothing: each that they lack
+-- makes the run fail.
+abbrev pub SimpleListsOfPart : Type 0
+SimpleListsOfPart =
+    (words : List (List ℕ)) (input : List ℕ) (records : List Record) (by : Sorting) (tips hidden : List ObjectId) (old new : Option (List ℕ)) (objects : Objects) →
+    request_of words ≡ Ok (Commits (Simple by) tips hidden) → AreRecords records input → IsPartOf (stored records) objects →
+    (hidden ≡ [] → AreWhole objects tips) → Runs words (Some input) old (Ok tt) new →
+    (ids : List ObjectId) × Lists objects by tips hidden ids × Appends old new (lines_of_ids ids)
+
 -- No id is there twice, and each is one that the tips reach and the ends don't. All of these are there, where none of them is its own
 -- ancestor. They are in the order that was asked for.
 pub record ListsDown (objects : Objects) (by : TopoSorting) (tips ends ids : List ObjectId) : Type 0 where
@@ -73,6 +88,15 @@ TopoLists =
     (words : List (List ℕ)) (input : List ℕ) (records : List Record) (by : TopoSorting) (tips ends : List ObjectId) (old new : Option (List ℕ)) →
     request_of words ≡ Ok (Commits (Topo by) tips ends) → AreRecords records input → AreWhole (stored records) (tips ++ ends) → Runs words (Some input) old (Ok tt) new →
     (ids : List ObjectId) × ListsDown (stored records) by tips ends ids × Appends old new (lines_of_ids ids)
+
+-- Where the records are a part of a store, it writes such a list of the whole store, whatever else is in it. This asks that all that
+-- tips and ends reach are whole commits of that store, and of the records nothing.
+abbrev pub TopoListsOfPart : Type 0
+TopoListsOfPart =
+    (words : List (List ℕ)) (input : List ℕ) (records : List Record) (by : TopoSorting) (tips ends : List ObjectId) (old new : Option (List ℕ)) (objects : Objects) →
+    request_of words ≡ Ok (Commits (Topo by) tips ends) → AreRecords records input → IsPartOf (stored records) objects →
+    AreWhole objects (tips ++ ends) → Runs words (Some input) old (Ok tt) new →
+    (ids : List ObjectId) × ListsDown objects by tips ends ids × Appends old new (lines_of_ids ids)
 
 -- out of memory, or the input or the output failed
 abbrev pub IsOutside : Fault → Type 0
@@ -127,6 +151,17 @@ AheadCounts =
     (ahead behind : ℕ)
     × IsNumberOf (IsShown (stored records) (one ∷ []) (other ∷ [])) ahead
     × IsNumberOf (IsShown (stored records) (other ∷ []) (one ∷ [])) behind
+    × Appends old new (ahead_line ahead behind)
+
+-- Where the records are a part of a store, these are the numbers of the whole store, whatever else is in it: a run that ends well has
+-- read all that both ids reach.
+abbrev pub AheadCountsOfPart : Type 0
+AheadCountsOfPart =
+    (words : List (List ℕ)) (input : List ℕ) (records : List Record) (one other : ObjectId) (old new : Option (List ℕ)) (objects : Objects) →
+    request_of words ≡ Ok (Ahead one other) → AreRecords records input → IsPartOf (stored records) objects → Runs words (Some input) old (Ok tt) new →
+    (ahead behind : ℕ)
+    × IsNumberOf (IsShown objects (one ∷ []) (other ∷ [])) ahead
+    × IsNumberOf (IsShown objects (other ∷ []) (one ∷ [])) behind
     × Appends old new (ahead_line ahead behind)
 
 -- A run that fails, and not by the writer, writes nothing, unless the words ask for a list of commits.

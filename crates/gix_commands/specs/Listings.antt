@@ -14,7 +14,7 @@ use Rattle.gix_tree.specs.Visits.{Visit}
 use Rattle.gix_tree.specs.Walk.{LookUpFails, trees_of}
 use Rattle.gix_commands.specs.declared.fault.Fault.{Fault}
 use Rattle.gix_commands.specs.Files.{file_lines}
-use Rattle.gix_commands.specs.Histories.{EndsWell}
+use Rattle.gix_commands.specs.Histories.{EndsWell, IsPartOf}
 use Rattle.gix_records.specs.Records.{Record, AreRecords, stored}
 use Rattle.gix_commands.specs.Run.{Runs}
 use Rattle.gix_commands.specs.Walked.{never_faulty}
@@ -32,6 +32,13 @@ FilesLists =
     (words : List (List ℕ)) (input : List ℕ) (records : List Record) (tree : ObjectId) (old new : Option (List ℕ)) →
     request_of words ≡ Ok (Files tree) → AreRecords records input → Runs words (Some input) old (Ok tt) new →
     (visits : List Visit) × Unfolds (stored records) tree visits × (HaveNames visits → Appends old new (file_lines (map record_of visits)))
+
+-- Where the records are a part of a store, these are the lines of the whole store, whatever else is in it.
+abbrev pub FilesListsOfPart : Type 0
+FilesListsOfPart =
+    (words : List (List ℕ)) (input : List ℕ) (records : List Record) (tree : ObjectId) (old new : Option (List ℕ)) (objects : Objects) →
+    request_of words ≡ Ok (Files tree) → AreRecords records input → IsPartOf (stored records) objects → Runs words (Some input) old (Ok tt) new →
+    (visits : List Visit) × Unfolds objects tree visits × (HaveNames visits → Appends old new (file_lines (map record_of visits)))
 
 -- Where each tree in it reads whole, and none is under itself, it ends well.
 abbrev pub FilesSucceeds : Type 0

@@ -1,13 +1,19 @@
 //! What a run of the program writes, as laws over the definitions: functions that do nothing, and whose contracts are proved.
 
-ghost use Rattle.gix_commands.specs.Histories.{AheadCounts, AheadSucceeds, DrawsDifference, FailsSilently, SimpleLists, SimpleSucceeds, TopoLists, TopoSucceeds};
-ghost use Rattle.gix_commands.specs.Listings.{FilesLists, FilesSucceeds};
+ghost use Rattle.gix_commands.specs.Histories.{AheadCounts, AheadCountsOfPart, AheadSucceeds, DrawsDifference, FailsSilently};
+ghost use Rattle.gix_commands.specs.Histories.{SimpleLists, SimpleListsOfPart, SimpleSucceeds, TopoLists, TopoListsOfPart, TopoSucceeds};
+ghost use Rattle.gix_commands.specs.Listings.{FilesLists, FilesListsOfPart, FilesSucceeds};
 
 /// `breadth`, `newest` and `oldest` write the ids of exactly the commits that the tips reach and the hidden ones don't, each once, in
 /// their order. Without hidden tips this asks that all that the tips reach are whole commits. With one nothing is asked: a run that ends
 /// well has read all that tips and hidden tips reach.
 pub fn simple_lists()
     ensures { SimpleLists }
+{}
+
+/// Such a list is right of each store that has the records' objects, whatever else is in it.
+pub fn simple_lists_of_part()
+    ensures { SimpleListsOfPart }
 {}
 
 /// Where all that is reached are whole commits, `breadth`, `newest` and `oldest` fail for memory, reading or writing alone.
@@ -21,6 +27,11 @@ pub fn topo_lists()
     ensures { TopoLists }
 {}
 
+/// Such a list is right of each store that has the records' objects, whatever else is in it.
+pub fn topo_lists_of_part()
+    ensures { TopoListsOfPart }
+{}
+
 /// Where all that is reached are whole commits, `topo` and `date` fail for memory, reading or writing alone.
 pub fn topo_succeeds()
     ensures { TopoSucceeds }
@@ -30,6 +41,11 @@ pub fn topo_succeeds()
 /// `/`.
 pub fn files_lists()
     ensures { FilesLists }
+{}
+
+/// These lines are right of each store that has the records' objects, whatever else is in it.
+pub fn files_lists_of_part()
+    ensures { FilesListsOfPart }
 {}
 
 /// Where each of these trees reads whole and none is under itself, `files` fails for memory, reading or writing alone.
@@ -47,6 +63,12 @@ pub fn draws_difference()
 /// reaches and the first doesn't.
 pub fn ahead_counts()
     ensures { AheadCounts }
+{}
+
+/// These numbers are right of each store that has the records' objects, whatever else is in it: a run that ends well has read all that
+/// both ids reach.
+pub fn ahead_counts_of_part()
+    ensures { AheadCountsOfPart }
 {}
 
 /// Where all that the two ids reach are whole commits, `ahead` fails for memory, reading or writing alone.

@@ -1,0 +1,163 @@
+-- What holds of a part of a store holds of the whole store, where all that is reached in the part is whole there.
+use Rattle.std.specs.Prelude.{◌≡◌, ◌≢◌, ℕ, zero, suc, ℤ, List, [], ◌∷◌, ◌++◌, filter, take, slice_get, Bool, false, not, Option, None, Some, Contains, IsSome, MatchOption}
+use Rattle.std.specs.FinMap.{get}
+use Rattle.std.specs.List.{flat_map}
+use Rattle.std.proofs.Math.Path.{transport}
+use Rattle.std.proofs.Common.{refl, sym, ap, subst, ⊎_elim, ◌∙◌}
+use Rattle.std.proofs.lemmas.Bool.{false≢true}
+use Rattle.std.proofs.lemmas.List.Elements.{Contains-append_left, Contains-append_right, Contains-append_cases}
+use Rattle.gix_hash.specs.declared.ObjectId.{ObjectId}
+use Rattle.gix_object.specs.Object.{Object, Objects}
+use Rattle.gix_revwalk.specs.declared.CommitTimeOrder.{CommitTimeOrder}
+use Rattle.gix_revwalk.specs.declared.Parents.TheVariants as mode
+use Rattle.gix_simple.specs.declared.Sorting.{Sorting}
+use Rattle.gix_hash.specs.Reach.{Reaches, start, step, Tells}
+use Rattle.gix_revwalk.specs.BreadthOrder.{IsBreadthOrder, first_new}
+use Rattle.gix_revwalk.specs.Commits.{commit_at, commit_of_object, parents_in, parents_of, time_in, time_of}
+use Rattle.gix_revwalk.specs.Ids.{new_ids}
+use Rattle.gix_revwalk.specs.TimeOrder.{IsTimeOrder, IsPending, IsBest, IsNoWorse}
+use Rattle.gix_simple.specs.Laws.{IsInOrder}
+use Rattle.gix_simple.specs.Walk.{time_order}
+use Rattle.gix_topo.specs.Walk.{IsNumberOf}
+use Rattle.gix_hash.proofs.Ids.Membership.{among_is, Contains-here, Contains-there, Contains-cons_cases, no_member}
+use Rattle.gix_hash.proofs.Lists.{filter_within}
+use Rattle.gix_revwalk.proofs.Reached.{reach_more}
+use Rattle.gix_simple.proofs.Difference.{no_start}
+use Rattle.gix_simple.proofs.MadeOfTips.{fresh_among}
+use Rattle.gix_simple.proofs.ReachDecided.{reach_test}
+use Rattle.gix_commands.specs.Histories.{IsPartOf, IsShown, AreWhole, Lists}
+
+pub take_within : (k : ℕ) (xs : List ObjectId) (i : ObjectId) → Contains (take k xs) i → Contains xs i
+take_within zero xs i c = absurd (no_member i c)
+take_within (suc k) [] i c = c
+take_within (suc k) (x ∷ xs) i c = ⊎_elim (λ e. subst (λ y. Contains (x ∷ xs) y) e (Contains-here x xs)) (λ t. Contains-there i x xs (take_within k xs i t)) (Contains-cons_cases i x (take k xs) c)
+
+pub retimed : (order : CommitTimeOrder) (time clock : ObjectId → ℤ) (Ends : Type 0) (P : ObjectId → Type 0) → ((i : ObjectId) → P i → time i ≡ clock i) → (o : Option ObjectId) → MatchOption o Ends (IsBest order time P) → MatchOption o Ends (IsBest order clock P)
+retimed order time clock Ends P same None h = h
+retimed order time clock Ends P same (Some i) h = record { among = h.among; best = λ j p. transport (λ k. IsNoWorse order (same i h.among k) (same j p k)) (h.best j p) }
+
+-- an order goes by what is named next and by times, of the listed commits and of what they name alone
+module _ (In : ObjectId → Type 0) (next other : ObjectId → List ObjectId) (time clock : ObjectId → ℤ) (starts ids : List ObjectId)
+    (in_starts : (i : ObjectId) → Contains starts i → In i) (in_next : (c i : ObjectId) → In c → Contains (next c) i → In i) (in_ids : (i : ObjectId) → Contains ids i → In i)
+    (same_next : (c : ObjectId) → In c → next c ≡ other c) (same_time : (i : ObjectId) → In i → time i ≡ clock i) where
+  named_same : (taken : List ObjectId) → ((c : ObjectId) → Contains taken c → In c) → flat_map next taken ≡ flat_map other taken
+  named_same [] h = refl
+  named_same (c ∷ taken) h = (λ k. same_next c (h c (Contains-here c taken)) k ++ named_same taken (λ j m. h j (Contains-there j c taken m)) k)
+
+  named_in : (taken : List ObjectId) → ((c : ObjectId) → Contains taken c → In c) → (i : ObjectId) → Contains (flat_map next taken) i → In i
+  named_in [] h i m = absurd (no_member i m)
+  named_in (c ∷ taken) h i m =
+      ⊎_elim (λ n. in_next c i (h c (Contains-here c taken)) n) (λ n. named_in taken (λ j t. h j (Contains-there j c taken t)) i n) (Contains-append_cases (next c) (flat_map next taken) i m)
+
+  taken_in : (k : ℕ) (c : ObjectId) → Contains (take k ids) c → In c
+  taken_in k c m = in_ids c (take_within k ids c m)
+
+  breadth_same : IsBreadthOrder next starts ids → IsBreadthOrder other starts ids
+  breadth_same h k b = h k b ∙ ap (λ xs. first_new (starts ++ xs) (take k ids)) (named_same (take k ids) (taken_in k))
+
+  abbrev Among : List ObjectId → List ObjectId → ObjectId → Type 0
+  Among named taken i = Contains named i × (Contains taken i → ⊥)
+
+  time_same : (order : CommitTimeOrder) → IsTimeOrder order time next starts ids → IsTimeOrder order clock other starts ids
+  time_same order h k b =
+      subst (λ xs. MatchOption (slice_get ids k) ((i : ObjectId) → Among (starts ++ xs) (take k ids) i → ⊥) (IsBest order clock (Among (starts ++ xs) (take k ids)))) (named_same (take k ids) (taken_in k))
+      (retimed order time clock ((i : ObjectId) → IsPending next starts (take k ids) i → ⊥) (IsPending next starts (take k ids)) pending_same (slice_get ids k) (h k b))
+    where
+      pending_same : (i : ObjectId) → IsPending next starts (take k ids) i → time i ≡ clock i
+      pending_same i p = same_time i (⊎_elim (in_starts i) (named_in (take k ids) (taken_in k) i) (Contains-append_cases starts (flat_map next (take k ids)) i p.0))
+
+  order_same : (o : Option CommitTimeOrder) → IsInOrder o time next starts ids → IsInOrder o clock other starts ids
+  order_same None h = breadth_same h
+  order_same (Some order) h = time_same order h
+
+module _ (some all : Objects) (part : IsPartOf some all) where
+  same_commit : (i : ObjectId) → IsSome (commit_at some i) → commit_at some i ≡ commit_at all i
+  same_commit i h = go (get some i) refl h
+    where
+      go : (o : Option Object) → get some i ≡ o → IsSome (commit_of_object i o) → commit_at some i ≡ commit_at all i
+      go None e n = absurd (false≢true n)
+      go (Some object) e n = ap (commit_of_object i) (e ∙ sym (part i object e))
+
+  pub same_parents : (i : ObjectId) → IsSome (commit_at some i) → parents_of some i ≡ parents_of all i
+  same_parents i h = ap parents_in (same_commit i h)
+
+  pub same_time : (i : ObjectId) → IsSome (commit_at some i) → time_of some i ≡ time_of all i
+  same_time i h = ap time_in (same_commit i h)
+
+  pub parents_more : (c i : ObjectId) → Contains (parents_of some c) i → Contains (parents_of all c) i
+  parents_more c i m = go (get some c) refl m
+    where
+      go : (o : Option Object) → get some c ≡ o → Contains (parents_in (commit_of_object c o)) i → Contains (parents_of all c) i
+      go None e n = absurd (no_member i n)
+      go (Some object) e n = subst (λ o. Contains (parents_in (commit_of_object c o)) i) (sym (part c object e)) n
+
+  -- what is stored in the part reads whole there, where it does in the whole
+  pub stored_whole : (i : ObjectId) → IsSome (commit_at all i) → (object : Object) → get some i ≡ Some object → IsSome (commit_at some i)
+  stored_whole i h object e = subst IsSome (ap (commit_of_object i) (part i object e ∙ sym e)) h
+
+  -- what is reached in the part is reached in the whole
+  pub reached_in_all : (ids : List ObjectId) (i : ObjectId) → Reaches (parents_of some) ids i → Reaches (parents_of all) ids i
+  reached_in_all ids i (start s) = start s
+  reached_in_all ids i (step {c = c} r n) = step (reached_in_all ids c r) (parents_more c i n)
+
+  -- and the other way round, where all that is reached in the part is whole there
+  pub reached_in_part : (ids : List ObjectId) → AreWhole some ids → (i : ObjectId) → Reaches (parents_of all) ids i → Reaches (parents_of some) ids i
+  reached_in_part ids whole i (start s) = start s
+  reached_in_part ids whole i (step {c = c} r n) = let p : Reaches (parents_of some) ids c = reached_in_part ids whole c r in step p (subst (λ xs. Contains xs i) (sym (same_parents c (whole c p))) n)
+
+  module _ (tips hidden : List ObjectId) (whole : AreWhole some (tips ++ hidden)) where
+    pub tips_whole : AreWhole some tips
+    tips_whole i r = whole i (reach_more (parents_of some) tips (tips ++ hidden) (λ j c. Contains-append_left tips hidden j c) i r)
+
+    hidden_whole : AreWhole some hidden
+    hidden_whole i r = whole i (reach_more (parents_of some) hidden (tips ++ hidden) (λ j c. Contains-append_right tips hidden j c) i r)
+
+    pub shown_in_all : (i : ObjectId) → IsShown some tips hidden i → IsShown all tips hidden i
+    shown_in_all i s = (reached_in_all tips i s.0, λ h. s.1 (reached_in_part hidden hidden_whole i h))
+
+    pub shown_in_part : (i : ObjectId) → IsShown all tips hidden i → IsShown some tips hidden i
+    shown_in_part i s = (reached_in_part tips tips_whole i s.0, λ h. s.1 (reached_in_all hidden i h))
+
+    pub number_in_all : (n : ℕ) → IsNumberOf (IsShown some tips hidden) n → IsNumberOf (IsShown all tips hidden) n
+    number_in_all n k = record { ids = k.ids; distinct = k.distinct; each = λ i c. shown_in_all i (k.each i c); all = λ i s. k.all i (shown_in_part i s); number = k.number }
+
+    module _ (hides : ObjectId → Bool) where
+      abbrev starts_so : List ObjectId
+      starts_so = filter (λ i. not (hides i)) (new_ids (λ i. false) tips)
+
+      abbrev next_in : Objects → ObjectId → List ObjectId
+      next_in objects c = filter (λ i. not (hides i)) (parents_of objects c)
+
+      listed_in_all : (o : Option CommitTimeOrder) (ids : List ObjectId) → ((i : ObjectId) → Contains ids i → Reaches (parents_of some) tips i) → IsInOrder o (time_of some) (next_in some) starts_so ids → IsInOrder o (time_of all) (next_in all) starts_so ids
+      listed_in_all o ids in_ids =
+          order_same (Reaches (parents_of some) tips) (next_in some) (next_in all) (time_of some) (time_of all) starts_so ids
+          (λ i c. start (among_is i tips (fresh_among i (λ j. false) tips (filter_within _ (new_ids (λ j. false) tips) i c))))
+          (λ c i r n. step r (filter_within _ (parents_of some c) i n)) in_ids (λ c r. ap (filter (λ i. not (hides i))) (same_parents c (tips_whole c r)))
+          (λ i r. same_time i (tips_whole i r)) o
+
+    lists_in_all : (by : Sorting) (ids : List ObjectId) → Lists some by tips hidden ids → Lists all by tips hidden ids
+    lists_in_all by ids l = record {
+      once = l.once;
+      exact = λ i. (λ c. shown_in_all i ((l.exact i).0 c), λ s. (l.exact i).1 (shown_in_part i s));
+      in_order = (
+        l.in_order.0,
+        λ i. (λ e. reached_in_all hidden i ((l.in_order.1 i).0 e), λ r. (l.in_order.1 i).1 (reached_in_part hidden hidden_whole i r)),
+        listed_in_all l.in_order.0 (time_order mode.All by) ids (λ i c. ((l.exact i).0 c).0) l.in_order.2,
+      );
+    }
+
+  -- where there are tips at all
+  pub lists_of_part : (by : Sorting) (tips hidden ids : List ObjectId) → (tips ≢ [] → AreWhole some (tips ++ hidden)) → Lists some by tips hidden ids → Lists all by tips hidden ids
+  lists_of_part by [] hidden ids whole l = of_none ids l
+    where
+      of_none : (ids : List ObjectId) → Lists some by [] hidden ids → Lists all by [] hidden ids
+      of_none [] l = record {
+        once = tt;
+        exact = λ i. (λ c. absurd (no_member i c), λ s. absurd (no_start (parents_of all) [] i s.0 refl));
+        in_order = (test.0, test.1, order_same (λ i. ⊥) _ _ (time_of some) (time_of all) [] [] (λ i c. no_member i c) (λ c i n. absurd n) (λ i c. no_member i c) (λ c n. absurd n) (λ i n. absurd n) (time_order mode.All by) l.in_order.2);
+      }
+        where
+          test : (tells : ObjectId → Bool) × Tells tells (Reaches (parents_of all) hidden)
+          test = reach_test all hidden
+      of_none (i ∷ ids) l = absurd (no_start (parents_of some) [] i ((l.exact i).0 (Contains-here i ids)).0 refl)
+  lists_of_part by (tip ∷ tips) hidden ids whole l = lists_in_all (tip ∷ tips) hidden (whole (λ e. cc)) by ids l

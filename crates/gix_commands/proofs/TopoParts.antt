@@ -1,0 +1,127 @@
+-- A list of `topo` or `date` over a part of a store is one over the whole store, where all that is reached in the part is whole there.
+use Rattle.std.specs.Prelude.{◌≡◌, ℤ, int_le, List, [], ◌∷◌, ◌++◌, Bool, true, false, if◌then◌else◌, reverse, take, slice_get, Option, None, Some, Contains, MatchOption}
+use Rattle.std.proofs.Math.Path.{transport}
+use Rattle.std.proofs.Common.{refl, sym, ap, subst, ⊎_elim, ◌∙◌}
+use Rattle.gix_hash.specs.declared.ObjectId.{ObjectId}
+use Rattle.gix_object.specs.Object.{Objects}
+use Rattle.gix_revwalk.specs.declared.CommitTimeOrder.TheVariants.{NewestFirst}
+use Rattle.gix_topo.specs.declared.Sorting.{Sorting}
+use Rattle.gix_topo.specs.declared.Sorting.TheVariants as order
+use Rattle.gix_hash.specs.Reach.{Reaches}
+use Rattle.gix_revwalk.specs.Commits.{parents_of, time_of}
+use Rattle.gix_revwalk.specs.TimeOrder.{IsBest, IsNoWorse}
+use Rattle.gix_topo.specs.DateOrder.{IsDateOrder}
+use Rattle.gix_topo.specs.Laws.{IsSorted}
+use Rattle.gix_topo.specs.TopoOrder.{Keeps, by_time, insert_by_time, last_places, IsMadeReady, IsTopoOrder}
+use Rattle.gix_topo.specs.WalkSet.{IsInWalk, IsChild, IsChildless, IsReady}
+use Rattle.gix_hash.proofs.Ids.Membership.{Contains-here, Contains-there, Contains-cons_cases}
+use Rattle.gix_revwalk.proofs.Reached.{reach_more}
+use Rattle.gix_topo.proofs.Readiness.IsReady.{keeps_alike, keeps_from}
+use Rattle.gix_topo.proofs.Run.ReadyInTurn.{reverse_in}
+use Rattle.gix_commands.specs.Histories.{IsPartOf, AreWhole, ListsDown}
+use Rattle.gix_commands.proofs.Parts.{parents_more, reached_in_all, same_parents, same_time, shown_in_all, shown_in_part, take_within, tips_whole}
+
+-- a list sorted by times goes by the times of its ids alone
+module _ (time clock : ObjectId → ℤ) where
+  insert_same : (x : ObjectId) (ys : List ObjectId) → time x ≡ clock x → ((i : ObjectId) → Contains ys i → time i ≡ clock i) → insert_by_time time x ys ≡ insert_by_time clock x ys
+  insert_same x [] e h = refl
+  insert_same x (y ∷ ys) e h = λ k. if int_le (e k) (h y (Contains-here y ys) k) then x ∷ y ∷ ys else y ∷ insert_same x ys e (λ i c. h i (Contains-there i y ys c)) k
+
+  insert_has : (x i : ObjectId) (ys : List ObjectId) → Contains (insert_by_time clock x ys) i → Contains (x ∷ ys) i
+  insert_has x i [] c = c
+  insert_has x i (y ∷ ys) c = go (insert_has x i ys) (int_le (clock x) (clock y)) c
+    where
+      behind : Contains (x ∷ ys) i → Contains (x ∷ y ∷ ys) i
+      behind t = ⊎_elim (λ e. subst (λ z. Contains (x ∷ y ∷ ys) z) e (Contains-here x (y ∷ ys))) (λ u. Contains-there i x (y ∷ ys) (Contains-there i y ys u)) (Contains-cons_cases i x ys t)
+
+      go : (Contains (insert_by_time clock x ys) i → Contains (x ∷ ys) i) → (b : Bool) → Contains (if b then x ∷ y ∷ ys else y ∷ insert_by_time clock x ys) i → Contains (x ∷ y ∷ ys) i
+      go more true c = c
+      go more false c =
+          ⊎_elim (λ e. subst (λ z. Contains (x ∷ y ∷ ys) z) e (Contains-there y x (y ∷ ys) (Contains-here y ys))) (λ t. behind (more t))
+          (Contains-cons_cases i y (insert_by_time clock x ys) c)
+
+  sorted_has : (i : ObjectId) (xs : List ObjectId) → Contains (by_time clock xs) i → Contains xs i
+  sorted_has i [] c = c
+  sorted_has i (x ∷ xs) c = ⊎_elim (λ e. subst (λ z. Contains (x ∷ xs) z) e (Contains-here x xs)) (λ t. Contains-there i x xs (sorted_has i xs t)) (Contains-cons_cases i x (by_time clock xs) (insert_has x i (by_time clock xs) c))
+
+  sorted_same : (xs : List ObjectId) → ((i : ObjectId) → Contains xs i → time i ≡ clock i) → by_time time xs ≡ by_time clock xs
+  sorted_same [] h = refl
+  sorted_same (x ∷ xs) h =
+      ap (insert_by_time time x) (sorted_same xs (λ i c. h i (Contains-there i x xs c)))
+      ∙ insert_same x (by_time clock xs) (h x (Contains-here x xs)) (λ i c. h i (Contains-there i x xs (sorted_has i xs c)))
+
+-- these orders go by the parents that are walked and by the times, of the members alone
+module _ (In Within : ObjectId → Type 0) (walked other : ObjectId → List ObjectId) (time clock : ObjectId → ℤ)
+    (fore : (i : ObjectId) → In i → Within i) (back : (i : ObjectId) → Within i → In i)
+    (same_walked : (c : ObjectId) → In c → walked c ≡ other c) (same_clock : (i : ObjectId) → In i → time i ≡ clock i) where
+  child_fore : (d p : ObjectId) → IsChild walked In d p → IsChild other Within d p
+  child_fore d p c = record { child = fore d c.child; parent = fore p c.parent; named = subst (λ xs. Contains xs p) (same_walked d c.child) c.named }
+
+  child_back : (d p : ObjectId) → IsChild other Within d p → IsChild walked In d p
+  child_back d p c = record { child = back d c.child; parent = back p c.parent; named = subst (λ xs. Contains xs p) (sym (same_walked d (back d c.child))) c.named }
+
+  childless_fore : (p : ObjectId) → IsChildless walked In p → IsChildless other Within p
+  childless_fore p h = record { member = fore p h.member; alone = λ d c. h.alone d (child_back d p c) }
+
+  childless_back : (p : ObjectId) → IsChildless other Within p → IsChildless walked In p
+  childless_back p h = record { member = back p h.member; alone = λ d c. h.alone d (child_fore d p c) }
+
+  module _ (Taken : ObjectId → Type 0) where
+    ready_fore : (p : ObjectId) → IsReady walked In Taken p → IsReady other Within Taken p
+    ready_fore p r = record { member = fore p r.member; left = r.left; children = λ d c. r.children d (child_back d p c) }
+
+    ready_back : (p : ObjectId) → IsReady other Within Taken p → IsReady walked In Taken p
+    ready_back p r = record { member = back p r.member; left = r.left; children = λ d c. r.children d (child_fore d p c) }
+
+    best_same : (o : Option ObjectId) → MatchOption o ((i : ObjectId) → IsReady walked In Taken i → ⊥) (IsBest NewestFirst time (IsReady walked In Taken))
+        → MatchOption o ((i : ObjectId) → IsReady other Within Taken i → ⊥) (IsBest NewestFirst clock (IsReady other Within Taken))
+    best_same None h = λ i r. h i (ready_back i r)
+    best_same (Some i) h = record {
+      among = ready_fore i h.among;
+      best = λ j r. transport (λ k. IsNoWorse NewestFirst (same_clock i h.among.member k) (same_clock j (ready_back j r).member k)) (h.best j (ready_back j r));
+    }
+
+  date_same : (ids : List ObjectId) → IsDateOrder time walked In ids → IsDateOrder clock other Within ids
+  date_same ids h k b = best_same (Contains (take k ids)) (slice_get ids k) (h k b)
+
+  module _ (tips : List ObjectId) where
+    made_same : (taken ready : List ObjectId) → ((c : ObjectId) → Contains taken c → In c) → IsMadeReady time walked In tips taken ready → IsMadeReady clock other Within tips taken ready
+    made_same [] ready h m = (
+      m.0,
+      keeps_alike (IsChildless walked In) (IsChildless other Within) childless_fore childless_back m.1,
+      m.2 ∙ sorted_same time clock m.0 (λ i c. same_clock i (keeps_from (IsChildless walked In) m.1 i c).1.member),
+    )
+    made_same (c ∷ taken) ready h m = (
+      m.0,
+      m.1,
+      made_same taken m.0 (λ j t. h j (Contains-there j c taken t)) m.2,
+      subst (λ xs. Keeps (IsReady other Within (Contains (c ∷ taken))) (last_places xs) m.1) (same_walked c (h c (Contains-here c taken)))
+          (keeps_alike (IsReady walked In (Contains (c ∷ taken))) (IsReady other Within (Contains (c ∷ taken))) (ready_fore (Contains (c ∷ taken))) (ready_back (Contains (c ∷ taken))) m.3),
+      m.4,
+    )
+
+    topo_same : (ids : List ObjectId) → ((c : ObjectId) → Contains ids c → In c) → IsTopoOrder time walked In tips ids → IsTopoOrder clock other Within tips ids
+    topo_same ids h order k b =
+        let o = order k b in
+        (o.0, made_same (reverse (take k ids)) o.0 (λ c m. h c (take_within k ids c (reverse_in c (take k ids) m))) o.1, o.2)
+
+    order_same : (by : Sorting) (ids : List ObjectId) → ((c : ObjectId) → Contains ids c → In c) → IsSorted by time walked In tips ids → IsSorted by clock other Within tips ids
+    order_same order.DateOrder ids h = date_same ids
+    order_same order.TopoOrder ids h = topo_same ids h
+
+module _ (some all : Objects) (part : IsPartOf some all) (tips ends : List ObjectId) (whole : AreWhole some (tips ++ ends)) where
+  pub lists_down_of_part : (by : Sorting) (ids : List ObjectId) → ListsDown some by tips ends ids → ListsDown all by tips ends ids
+  lists_down_of_part by ids l = record {
+    once = l.once;
+    shown = λ i c. shown_in_all some all part tips ends whole i (l.shown i c);
+    all = λ acyclic i s. l.all (λ j r. acyclic j (more j r)) i (shown_in_part some all part tips ends whole i s);
+    in_order =
+        order_same (IsInWalk (parents_of some) (parents_of some) tips ends) (IsInWalk (parents_of all) (parents_of all) tips ends) (parents_of some) (parents_of all) (time_of some) (time_of all)
+        (λ i m. let s = shown_in_all some all part tips ends whole i (m.reached, m.outside) in record { reached = s.0; outside = s.1 })
+        (λ i m. let s = shown_in_part some all part tips ends whole i (m.reached, m.outside) in record { reached = s.0; outside = s.1 })
+        (λ c m. same_parents some all part c (tips_whole some all part tips ends whole c m.reached)) (λ i m. same_time some all part i (tips_whole some all part tips ends whole i m.reached))
+        tips by ids (λ c m. let s = l.shown c m in record { reached = s.0; outside = s.1 }) l.in_order;
+  }
+    where
+      more : (j : ObjectId) → Reaches (parents_of some) (parents_of some j) j → Reaches (parents_of all) (parents_of all j) j
+      more j r = reach_more (parents_of all) (parents_of some j) (parents_of all j) (λ i c. parents_more some all part j i c) j (reached_in_all some all part (parents_of some j) j r)
