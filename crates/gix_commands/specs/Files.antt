@@ -36,4 +36,5 @@ AreLinesOf objects tree lines = (recorder : Tracked) × RecordsTree objects tree
 
 -- a walk through a tree may fail so, unless memory ran out
 abbrev pub IsTreeFault : Objects → ObjectId → Fault → Type 0
-IsTreeFault objects tree e = e ≢ fault.Memory → (recorder : Tracked) × (why : Error) × RecordsTree objects tree recorder (Err why) × (e ≡ fault_of_tree_walk why)
+IsTreeFault objects tree e =
+    e ≢ fault.Memory → (recorder : Tracked) × (why : Error) × RecordsTree objects tree recorder (Err why) × (e ≡ fault_of_tree_walk why)

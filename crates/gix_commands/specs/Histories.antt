@@ -43,7 +43,8 @@ IsPartOf some all = (i : ObjectId) (object : Object) → get some i ≡ Some obj
 abbrev pub IsListedSo : Objects → Sorting → List ObjectId → List ObjectId → List ObjectId → Type 0
 IsListedSo objects by tips hidden ids =
     (hides : ObjectId → Bool) × Tells hides (Reaches (parents_of objects) hidden)
-    × IsInOrder (time_order mode.All by) (time_of objects) (λ c. filter (λ i. not (hides i)) (parents_of objects c)) (filter (λ i. not (hides i)) (new_ids (λ i. false) tips)) ids
+    × IsInOrder (time_order mode.All by) (time_of objects) (λ c. filter (λ i. not (hides i)) (parents_of objects c))
+    (filter (λ i. not (hides i)) (new_ids (λ i. false) tips)) ids
 
 -- each commit that the tips reach and the hidden tips don't is there once, and no other, in the order that was asked for
 pub record Lists (objects : Objects) (by : Sorting) (tips hidden ids : List ObjectId) : Type 0 where
@@ -69,7 +70,8 @@ SimpleLists =
 -- makes the run fail.
 abbrev pub SimpleListsOfPart : Type 0
 SimpleListsOfPart =
-    (words : List (List ℕ)) (input : List ℕ) (records : List Record) (by : Sorting) (tips hidden : List ObjectId) (old new : Option (List ℕ)) (objects : Objects) →
+    (words : List (List ℕ)) (input : List ℕ) (records : List Record) (by : Sorting) (tips hidden : List ObjectId) (old new : Option (List ℕ))
+    (objects : Objects) →
     request_of words ≡ Ok (Commits (Simple by) tips hidden) → AreRecords records input → IsPartOf (stored records) objects →
     (hidden ≡ [] → AreWhole objects tips) → Runs words (Some input) old (Ok tt) new →
     (ids : List ObjectId) × Lists objects by tips hidden ids × Appends old new (lines_of_ids ids)
@@ -86,14 +88,16 @@ pub record ListsDown (objects : Objects) (by : TopoSorting) (tips ends ids : Lis
 abbrev pub TopoLists : Type 0
 TopoLists =
     (words : List (List ℕ)) (input : List ℕ) (records : List Record) (by : TopoSorting) (tips ends : List ObjectId) (old new : Option (List ℕ)) →
-    request_of words ≡ Ok (Commits (Topo by) tips ends) → AreRecords records input → AreWhole (stored records) (tips ++ ends) → Runs words (Some input) old (Ok tt) new →
+    request_of words ≡ Ok (Commits (Topo by) tips ends) → AreRecords records input → AreWhole (stored records) (tips ++ ends) →
+    Runs words (Some input) old (Ok tt) new →
     (ids : List ObjectId) × ListsDown (stored records) by tips ends ids × Appends old new (lines_of_ids ids)
 
 -- Where the records are a part of a store, it writes such a list of the whole store, whatever else is in it. This asks that all that
 -- tips and ends reach are whole commits of that store, and of the records nothing.
 abbrev pub TopoListsOfPart : Type 0
 TopoListsOfPart =
-    (words : List (List ℕ)) (input : List ℕ) (records : List Record) (by : TopoSorting) (tips ends : List ObjectId) (old new : Option (List ℕ)) (objects : Objects) →
+    (words : List (List ℕ)) (input : List ℕ) (records : List Record) (by : TopoSorting) (tips ends : List ObjectId) (old new : Option (List ℕ))
+    (objects : Objects) →
     request_of words ≡ Ok (Commits (Topo by) tips ends) → AreRecords records input → IsPartOf (stored records) objects →
     AreWhole objects (tips ++ ends) → Runs words (Some input) old (Ok tt) new →
     (ids : List ObjectId) × ListsDown objects by tips ends ids × Appends old new (lines_of_ids ids)
@@ -120,20 +124,25 @@ EndsWell (Err e) = IsOutside e
 -- A run of `breadth`, `newest` or `oldest` over whole commits ends well.
 abbrev pub SimpleSucceeds : Type 0
 SimpleSucceeds =
-    (words : List (List ℕ)) (input : List ℕ) (records : List Record) (by : Sorting) (tips hidden : List ObjectId) (answer : Result (Unit {0}) Fault) (old new : Option (List ℕ)) →
-    request_of words ≡ Ok (Commits (Simple by) tips hidden) → AreRecords records input → AreWhole (stored records) (tips ++ hidden) → Runs words (Some input) old answer new → EndsWell answer
+    (words : List (List ℕ)) (input : List ℕ) (records : List Record) (by : Sorting) (tips hidden : List ObjectId) (answer : Result (Unit {0}) Fault)
+    (old new : Option (List ℕ)) →
+    request_of words ≡ Ok (Commits (Simple by) tips hidden) → AreRecords records input → AreWhole (stored records) (tips ++ hidden) →
+    Runs words (Some input) old answer new → EndsWell answer
 
 -- The same of `ahead`.
 abbrev pub AheadSucceeds : Type 0
 AheadSucceeds =
     (words : List (List ℕ)) (input : List ℕ) (records : List Record) (one other : ObjectId) (answer : Result (Unit {0}) Fault) (old new : Option (List ℕ)) →
-    request_of words ≡ Ok (Ahead one other) → AreRecords records input → AreWhole (stored records) (one ∷ other ∷ []) → Runs words (Some input) old answer new → EndsWell answer
+    request_of words ≡ Ok (Ahead one other) → AreRecords records input → AreWhole (stored records) (one ∷ other ∷ []) →
+    Runs words (Some input) old answer new → EndsWell answer
 
 -- A run of `topo` or `date` over whole commits ends well.
 abbrev pub TopoSucceeds : Type 0
 TopoSucceeds =
-    (words : List (List ℕ)) (input : List ℕ) (records : List Record) (by : TopoSorting) (tips ends : List ObjectId) (answer : Result (Unit {0}) Fault) (old new : Option (List ℕ)) →
-    request_of words ≡ Ok (Commits (Topo by) tips ends) → AreRecords records input → AreWhole (stored records) (tips ++ ends) → Runs words (Some input) old answer new → EndsWell answer
+    (words : List (List ℕ)) (input : List ℕ) (records : List Record) (by : TopoSorting) (tips ends : List ObjectId) (answer : Result (Unit {0}) Fault)
+    (old new : Option (List ℕ)) →
+    request_of words ≡ Ok (Commits (Topo by) tips ends) → AreRecords records input → AreWhole (stored records) (tips ++ ends) →
+    Runs words (Some input) old answer new → EndsWell answer
 
 -- A walk breadth first from a tip through all parents, which hides what another commit reaches and ends well, gives exactly the commits
 -- that the tip reaches and the other doesn't, each once.

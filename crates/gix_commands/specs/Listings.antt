@@ -44,4 +44,6 @@ FilesListsOfPart =
 abbrev pub FilesSucceeds : Type 0
 FilesSucceeds =
     (words : List (List ℕ)) (input : List ℕ) (records : List Record) (tree : ObjectId) (answer : Result (Unit {0}) Fault) (old new : Option (List ℕ)) →
-    request_of words ≡ Ok (Files tree) → AreRecords records input → AreSound (trees_of (stored records)) (LookUpFails (stored records) (never_faulty (stored records))) (λ e. true) (tree ∷ []) → Runs words (Some input) old answer new → EndsWell answer
+    request_of words ≡ Ok (Files tree) → AreRecords records input →
+    AreSound (trees_of (stored records)) (LookUpFails (stored records) (never_faulty (stored records))) (λ e. true) (tree ∷ []) →
+    Runs words (Some input) old answer new → EndsWell answer

@@ -10,13 +10,15 @@ abbrev pub Grows : Option (List ℕ) → List ℕ → Option (List ℕ) → List
 Grows old waiting new waits bytes = (written : List ℕ) × Appends old new written × (waiting ++ bytes ≡ written ++ waits)
 
 -- the lines of the commits that a walk gave were written or are buffered
-pub record Adds {W E : Type 0} (Steps : W → Option (Result Info E) → W → Type 0) (Tells : E → Fault → Type 0) (walk : W) (old : Option (List ℕ)) (waiting : List ℕ) (answer : Result (Unit {0}) Fault) (new : Option (List ℕ)) (waits : List ℕ) : Type 0 where
+pub record Adds {W E : Type 0} (Steps : W → Option (Result Info E) → W → Type 0) (Tells : E → Fault → Type 0) (walk : W) (old : Option (List ℕ))
+    (waiting : List ℕ) (answer : Result (Unit {0}) Fault) (new : Option (List ℕ)) (waits : List ℕ) : Type 0 where
   pub infos : List Info
   pub ends : Ends Steps Tells walk infos answer
   pub grows : Grows old waiting new waits (lines_of infos)
 
 -- the lines of the commits that a walk gave were written
-pub record WritesAll {W E : Type 0} (Steps : W → Option (Result Info E) → W → Type 0) (Tells : E → Fault → Type 0) (walk : W) (old : Option (List ℕ)) (answer : Result (Unit {0}) Fault) (new : Option (List ℕ)) : Type 0 where
+pub record WritesAll {W E : Type 0} (Steps : W → Option (Result Info E) → W → Type 0) (Tells : E → Fault → Type 0) (walk : W) (old : Option (List ℕ))
+    (answer : Result (Unit {0}) Fault) (new : Option (List ℕ)) : Type 0 where
   pub infos : List Info
   pub ends : Ends Steps Tells walk infos answer
   pub appends : Appends old new (lines_of infos)

@@ -26,20 +26,27 @@ use Rattle.gix_commands.specs.Words.{Request, Commits, Files, Ahead, request_of}
 pub data Serves (objects : Objects) (old : Option (List ℕ)) : Request → Result (Unit {0}) Fault → Option (List ℕ) → Type 0 where
   -- the lines of the commits before a fault are written
   walked : {by : Sorting} {tips hidden : List ObjectId} (walk : Walk) (infos : List Info) {answer : Result (Unit {0}) Fault} {new : Option (List ℕ)}
-      → StartsFrom objects by tips hidden walk → Ends Answers IsWalkFault walk infos answer → Appends old new (lines_of infos) → Serves objects old (Commits (Simple by) tips hidden) answer new
-  not_walked : {by : Sorting} {tips hidden : List ObjectId} (e : Error) → FailsAtStart objects by tips e → Serves objects old (Commits (Simple by) tips hidden) (Err (fault_of_walk e)) old
+      → StartsFrom objects by tips hidden walk → Ends Answers IsWalkFault walk infos answer → Appends old new (lines_of infos)
+      → Serves objects old (Commits (Simple by) tips hidden) answer new
+  not_walked : {by : Sorting} {tips hidden : List ObjectId} (e : Error) → FailsAtStart objects by tips e
+      → Serves objects old (Commits (Simple by) tips hidden) (Err (fault_of_walk e)) old
   walked_down : {by : TopoSorting} {tips ends : List ObjectId} (walk : topo.Walk) (infos : List Info) {answer : Result (Unit {0}) Fault} {new : Option (List ℕ)}
-      → topo.IsBuiltFrom objects by tips ends (Ok walk) → Ends topo.Answers topo.IsWalkFault walk infos answer → Appends old new (lines_of infos) → Serves objects old (Commits (Topo by) tips ends) answer new
-  not_built : {by : TopoSorting} {tips ends : List ObjectId} (e : TopoError) → topo.IsBuiltFrom objects by tips ends (Err e) → Serves objects old (Commits (Topo by) tips ends) (Err (fault_of_topo_walk e)) old
+      → topo.IsBuiltFrom objects by tips ends (Ok walk) → Ends topo.Answers topo.IsWalkFault walk infos answer → Appends old new (lines_of infos)
+      → Serves objects old (Commits (Topo by) tips ends) answer new
+  not_built : {by : TopoSorting} {tips ends : List ObjectId} (e : TopoError) → topo.IsBuiltFrom objects by tips ends (Err e)
+      → Serves objects old (Commits (Topo by) tips ends) (Err (fault_of_topo_walk e)) old
   listed : {tree : ObjectId} (recorder : Tracked) {new : Option (List ℕ)}
       → RecordsTree objects tree recorder (Ok tt) → Appends old new (file_lines recorder.held.records) → Serves objects old (Files tree) (Ok tt) new
   -- of a tree whose walk failed no line is written
-  not_listed : {tree : ObjectId} (recorder : Tracked) (e : TreeError) → RecordsTree objects tree recorder (Err e) → Serves objects old (Files tree) (Err (fault_of_tree_walk e)) old
+  not_listed : {tree : ObjectId} (recorder : Tracked) (e : TreeError) → RecordsTree objects tree recorder (Err e)
+      → Serves objects old (Files tree) (Err (fault_of_tree_walk e)) old
   counted : {one other : ObjectId} (ahead behind : ℕ) {new : Option (List ℕ)}
-      → Counts objects one other ahead → Counts objects other one behind → Appends old new (ahead_line ahead behind) → Serves objects old (Ahead one other) (Ok tt) new
+      → Counts objects one other ahead → Counts objects other one behind → Appends old new (ahead_line ahead behind)
+      → Serves objects old (Ahead one other) (Ok tt) new
   -- of two commits one of whose walks failed nothing is written: the second walk is drawn once the first has ended well
   not_ahead : {one other : ObjectId} {e : Fault} → FailsToCount objects one other e → Serves objects old (Ahead one other) (Err e) old
-  not_behind : {one other : ObjectId} {e : Fault} (ahead : ℕ) → Counts objects one other ahead → FailsToCount objects other one e → Serves objects old (Ahead one other) (Err e) old
+  not_behind : {one other : ObjectId} {e : Fault} (ahead : ℕ) → Counts objects one other ahead → FailsToCount objects other one e
+      → Serves objects old (Ahead one other) (Err e) old
   -- memory ran out before anything was written
   unserved : {request : Request} → Serves objects old request (Err fault.Memory) old
   -- of what was written nothing is said
@@ -52,6 +59,8 @@ pub data Runs (words : List (List ℕ)) (has old : Option (List ℕ)) : Result (
   without_memory : Runs words has old (Err fault.Memory) old
   no_command : {e : Fault} → request_of words ≡ Err e → Runs words has old (Err e) old
   not_read : (request : Request) → request_of words ≡ Ok request → Runs words has old (Err fault.Read) old
-  bad_record : (request : Request) (input : List ℕ) (n : ℕ) → request_of words ≡ Ok request → Tells has input → IsBadRecord n input → Runs words has old (Err (fault.Record n)) old
+  bad_record : (request : Request) (input : List ℕ) (n : ℕ) → request_of words ≡ Ok request → Tells has input → IsBadRecord n input
+      → Runs words has old (Err (fault.Record n)) old
   served : (request : Request) (input : List ℕ) (records : List Record) {answer : Result (Unit {0}) Fault} {new : Option (List ℕ)}
-      → request_of words ≡ Ok request → Tells has input → AreRecords records input → Serves (stored records) old request answer new → Runs words has old answer new
+      → request_of words ≡ Ok request → Tells has input → AreRecords records input → Serves (stored records) old request answer new
+      → Runs words has old answer new

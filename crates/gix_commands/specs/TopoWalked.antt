@@ -27,7 +27,8 @@ plan_from objects by tips ends = record { store = objects; rows = []; parents = 
 
 -- what building a walk so answers
 abbrev pub IsBuiltFrom : Objects → Sorting → List ObjectId → List ObjectId → Result Walk Error → Type 0
-IsBuiltFrom objects by tips ends answer = Built objects_of never_faulty accepts_all (record { plan = plan_from objects by tips ends; predicate = record {} }) answer
+IsBuiltFrom objects by tips ends answer =
+    Built objects_of never_faulty accepts_all (record { plan = plan_from objects by tips ends; predicate = record {} }) answer
 
 -- which fault of a run its fault is
 abbrev pub IsWalkFault : Error → Fault → Type 0

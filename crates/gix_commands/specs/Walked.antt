@@ -71,7 +71,8 @@ given infos = map Ok infos
 
 -- How a walk ended that gave these commits, by its steps and the meaning of its faults: it has no more commits, its next answer is a
 -- fault, or its next answer is a commit for which there was no memory.
-pub data Ends {W E : Type 0} (Steps : W → Option (Result Info E) → W → Type 0) (Tells : E → Fault → Type 0) (walk : W) (infos : List Info) : Result (Unit {0}) Fault → Type 0 where
+pub data Ends {W E : Type 0} (Steps : W → Option (Result Info E) → W → Type 0) (Tells : E → Fault → Type 0) (walk : W) (infos : List Info)
+    : Result (Unit {0}) Fault → Type 0 where
   finished : (new : W) → YieldsThen Steps walk (given infos) None new → Ends Steps Tells walk infos (Ok tt)
   failed : (e : E) (f : Fault) (new : W) → YieldsThen Steps walk (given infos) (Some (Err e)) new → Tells e f → Ends Steps Tells walk infos (Err f)
   cut_short : (info : Info) (new : W) → YieldsThen Steps walk (given infos) (Some (Ok info)) new → Ends Steps Tells walk infos (Err fault.Memory)

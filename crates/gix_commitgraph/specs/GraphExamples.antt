@@ -9,7 +9,8 @@ use Rattle.gix_commitgraph.specs.PackedReading.{rows_at, read_packed}
 
 -- the id of git's empty tree
 abbrev pub empty_tree_bytes : List ℕ
-empty_tree_bytes = 0x4b ∷ 0x82 ∷ 0x5d ∷ 0xc6 ∷ 0x42 ∷ 0xcb ∷ 0x6e ∷ 0xb9 ∷ 0xa0 ∷ 0x60 ∷ 0xe5 ∷ 0x4b ∷ 0xf8 ∷ 0xd6 ∷ 0x92 ∷ 0x88 ∷ 0xfb ∷ 0xee ∷ 0x49 ∷ 0x04 ∷ []
+empty_tree_bytes =
+    0x4b ∷ 0x82 ∷ 0x5d ∷ 0xc6 ∷ 0x42 ∷ 0xcb ∷ 0x6e ∷ 0xb9 ∷ 0xa0 ∷ 0x60 ∷ 0xe5 ∷ 0x4b ∷ 0xf8 ∷ 0xd6 ∷ 0x92 ∷ 0x88 ∷ 0xfb ∷ 0xee ∷ 0x49 ∷ 0x04 ∷ []
 
 -- a row of the id of one digit, forty times, without parents
 abbrev pub first : GraphRow
@@ -20,7 +21,8 @@ abbrev pub second : GraphRow
 second = record { id = id.Sha1 (replicate 20 0x22); tree = id.Sha1 empty_tree_bytes; parents = At 0 ∷ []; generation = 2; time = pos 2 }
 
 abbrev pub first_bytes : List ℕ
-first_bytes = replicate 20 0x11 ++ (empty_tree_bytes ++ (0x7f ∷ 0xff ∷ 0xff ∷ 0xff ∷ 0x7f ∷ 0xff ∷ 0xff ∷ 0xff ∷ 0 ∷ 0 ∷ 0 ∷ 1 ∷ 0 ∷ 0 ∷ 0 ∷ 0 ∷ 0 ∷ 0 ∷ 0 ∷ 1 ∷ []))
+first_bytes =
+    replicate 20 0x11 ++ (empty_tree_bytes ++ (0x7f ∷ 0xff ∷ 0xff ∷ 0xff ∷ 0x7f ∷ 0xff ∷ 0xff ∷ 0xff ∷ 0 ∷ 0 ∷ 0 ∷ 1 ∷ 0 ∷ 0 ∷ 0 ∷ 0 ∷ 0 ∷ 0 ∷ 0 ∷ 1 ∷ []))
 
 abbrev pub second_bytes : List ℕ
 second_bytes = replicate 20 0x22 ++ (empty_tree_bytes ++ (0 ∷ 0 ∷ 0 ∷ 0 ∷ 0x7f ∷ 0xff ∷ 0xff ∷ 0xff ∷ 0 ∷ 0 ∷ 0 ∷ 2 ∷ 0 ∷ 0 ∷ 0 ∷ 0 ∷ 0 ∷ 0 ∷ 0 ∷ 2 ∷ []))

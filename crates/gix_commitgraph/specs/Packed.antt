@@ -57,7 +57,8 @@ second_word k (p ∷ q ∷ r ∷ ps) = flag + k
 -- id, tree, two parent words, generation, and the time as two's complement
 unfoldable pub row_bytes : ℕ → GraphRow → List ℕ
 row_bytes k row =
-    bytes_of row.id ++ (bytes_of row.tree ++ (to_be_bytes w32 (first_word row.parents) ++ (to_be_bytes w32 (second_word k row.parents) ++ (to_be_bytes w32 row.generation ++ to_be_bytes w64 (cast_unsigned w64 row.time)))))
+    bytes_of row.id ++ (bytes_of row.tree ++ (to_be_bytes w32 (first_word row.parents)
+        ++ (to_be_bytes w32 (second_word k row.parents) ++ (to_be_bytes w32 row.generation ++ to_be_bytes w64 (cast_unsigned w64 row.time)))))
 
 -- the rows, each with its overflow list behind the overflow lists of the rows before it
 unfoldable pub rows_bytes : ℕ → List GraphRow → List ℕ
@@ -80,7 +81,8 @@ kind_of_rows (row ∷ rows) = kind_of row.id
 -- the layout's name, the number of rows, the number of overflow words, the rows, the overflow words
 unfoldable pub spelling : List GraphRow → List ℕ
 spelling rows =
-    layout_name (kind_of_rows rows) ++ (to_be_bytes w32 (length rows) ++ (to_be_bytes w32 (length (overflow_words rows)) ++ (rows_bytes 0 rows ++ flat_map (to_be_bytes w32) (overflow_words rows))))
+    layout_name (kind_of_rows rows) ++ (to_be_bytes w32 (length rows)
+        ++ (to_be_bytes w32 (length (overflow_words rows)) ++ (rows_bytes 0 rows ++ flat_map (to_be_bytes w32) (overflow_words rows))))
 
 abbrev pub AreBytes : List ℕ → Type 0
 AreBytes bytes = (i : ℕ) → slice_index bytes i < 256

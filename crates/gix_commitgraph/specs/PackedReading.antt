@@ -1,5 +1,6 @@
 -- Packed bytes read from the front: the rows that they spell, or the first place that is not as in a spelling.
-use Rattle.std.specs.Prelude.{ℕ, zero, suc, ◌+◌, ◌-◌, ◌*◌, ◌==◌, ◌&&◌, nat_lt, nat_le, nat_eq, Bool, true, ℤ, List, [], ◌∷◌, length, take, drop, codes, Option, Some, None, Result, Ok, Err, if◌then◌else◌}
+use Rattle.std.specs.Prelude.{ℕ, zero, suc, ◌+◌, ◌-◌, ◌*◌, ◌==◌, ◌&&◌, nat_lt, nat_le, nat_eq, Bool, true, ℤ, List, [], ◌∷◌, length, take,
+    drop, codes, Option, Some, None, Result, Ok, Err, if◌then◌else◌}
 use Rattle.std.specs.Int.{w32, w64, from_be_bytes, cast_signed}
 use Rattle.std.specs.Ordering.{is_lt}
 use Rattle.std.specs.List.{starts_with}
@@ -116,7 +117,8 @@ rows_at k n m (suc left) r before bytes words =
 
 -- the layout's kind of ids
 abbrev pub kind_named : List ℕ → Option Kind
-kind_named bytes = if starts_with nat_eq bytes (codes "GTR1") then Some kind.Sha1 else if starts_with nat_eq bytes (codes "GTR2") then Some kind.Sha256 else None
+kind_named bytes =
+    if starts_with nat_eq bytes (codes "GTR1") then Some kind.Sha1 else if starts_with nat_eq bytes (codes "GTR2") then Some kind.Sha256 else None
 
 -- no rows are written in the first layout alone
 abbrev pub may_have : Kind → ℕ → Bool

@@ -33,4 +33,5 @@ answers_of_list (word ∷ words) = if nat_lt word flag then answer_of_word word 
 unfoldable pub answers_of_words : ℕ → ℕ → List ℕ → List Answer
 answers_of_words first second words =
     (if first == no_parent then [] else answer_of_word first ∷ [])
-    ++ ((if nat_lt second no_parent then answer_of_word second ∷ [] else []) ++ (if nat_lt second flag then [] else answers_of_list (drop (second - flag) words)))
+    ++ ((if nat_lt second no_parent then answer_of_word second ∷ [] else [])
+    ++ (if nat_lt second flag then [] else answers_of_list (drop (second - flag) words)))

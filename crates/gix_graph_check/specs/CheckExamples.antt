@@ -8,7 +8,8 @@ use Rattle.gix_graph_check.specs.Heads.{heads_of}
 
 -- a row whose id has this byte twenty times
 abbrev pub example_row : ℕ → ℕ → List ParentPlace → GraphRow
-example_row byte generation parents = record { id = id.Sha1 (replicate 20 byte); tree = id.Sha1 (replicate 20 0x4b); parents = parents; generation = generation; time = pos 1 }
+example_row byte generation parents =
+    record { id = id.Sha1 (replicate 20 byte); tree = id.Sha1 (replicate 20 0x4b); parents = parents; generation = generation; time = pos 1 }
 
 -- the second row is a merge of the first and third, and the fourth has a corrupt parent
 abbrev pub four_rows : List GraphRow

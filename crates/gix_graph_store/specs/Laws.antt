@@ -31,18 +31,21 @@ pub record TellsRow (rows : List GraphRow) (objects : Objects) (i : ObjectId) : 
   pub told : get objects i ≡ None → commit_at (with_rows rows objects) i ≡ commit_said rows (row_of rows i)
   -- each sound row says one
   pub whole : AreSound rows → (row : GraphRow) → row_of rows i ≡ Some row
-      → (ids : List ObjectId) × (commit_said rows (row_of rows i) ≡ Some (record { tree = row.tree; parents = ids; time = row.time })) × (ids_at rows row.parents ≡ Some ids)
+      → (ids : List ObjectId) × (commit_said rows (row_of rows i) ≡ Some (record { tree = row.tree; parents = ids; time = row.time }))
+      × (ids_at rows row.parents ≡ Some ids)
 
 abbrev pub RowsTell : Type 0
 RowsTell = (rows : List GraphRow) (objects : Objects) (i : ObjectId) → AreGraphRows rows → TellsRow rows objects i
 
 -- what is stored at the id of a row is the commit that the row says
 abbrev pub StoredAgree : List GraphRow → Objects → Type 0
-StoredAgree rows objects = (row : GraphRow) (object : Object) → Contains rows row → get objects row.id ≡ Some object → commit_at objects row.id ≡ commit_said rows (Some row)
+StoredAgree rows objects = (row : GraphRow) (object : Object) → Contains rows row → get objects row.id ≡ Some object
+    → commit_at objects row.id ≡ commit_said rows (Some row)
 
 -- rows agree with a store that has them, so each law of walks with rows applies
 abbrev pub ToldRowsAgree : Type 0
-ToldRowsAgree = (rows : List GraphRow) (objects : Objects) → AreGraphRows rows → AreSound rows → StoredAgree rows objects → IsAgreeing (with_rows rows objects) rows
+ToldRowsAgree = (rows : List GraphRow) (objects : Objects) → AreGraphRows rows → AreSound rows → StoredAgree rows objects
+    → IsAgreeing (with_rows rows objects) rows
 
 -- all objects are from a store
 abbrev pub AreFrom : Objects → Objects → Type 0

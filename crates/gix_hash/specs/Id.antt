@@ -1,5 +1,6 @@
 -- Ids of objects: 20 bytes (SHA-1) or 32 (SHA-256), written as hex digits.
-use Rattle.std.specs.Prelude.{ℕ, ◌+◌, ◌*◌, ◌%◌, ◌^◌, List, [], ◌∷◌, Bool, true, false, if◌then◌else◌, ◌==◌, length, slice_index, Option, Some, None, Result, Ok, Err, refl}
+use Rattle.std.specs.Prelude.{ℕ, ◌+◌, ◌*◌, ◌%◌, ◌^◌, List, [], ◌∷◌, Bool, true, false, if◌then◌else◌, ◌==◌, length, slice_index, Option,
+    Some, None, Result, Ok, Err, refl}
 use Rattle.std.specs.Int.{w64, from_le_bytes}
 use Rattle.std.specs.Ordering.{nat_cmp}
 use Rattle.std.specs.declared.cmp.Ordering.{Ordering}
@@ -91,7 +92,8 @@ is_long (id.Sha1 bytes) = false
 is_long (id.Sha256 bytes) = true
 
 abbrev pub id_code : Coded ObjectId
-id_code = code_by (Bool × List ℕ) (coded× coded_bool (coded_list coded_ℕ)) (λ i. (is_long i, bytes_of i)) (λ p. if p.0 then id.Sha256 p.1 else id.Sha1 p.1) (elim [ id.Sha1 bytes ↦ refl | id.Sha256 bytes ↦ refl ])
+id_code = code_by (Bool × List ℕ) (coded× coded_bool (coded_list coded_ℕ)) (λ i. (is_long i, bytes_of i))
+    (λ p. if p.0 then id.Sha256 p.1 else id.Sha1 p.1) (elim [ id.Sha1 bytes ↦ refl | id.Sha256 bytes ↦ refl ])
 
 abbrev pub id_set_code : Coded (FinSet id_cmp)
 id_set_code = code id_code

@@ -22,23 +22,28 @@ pub short_tree : commit_items kind.Sha1 (codes "tree " ++ replicate 39 49 ++ 10 
 unfolding hex_on_literals
 short_tree = refl
 
-pub short_parent : commit_items kind.Sha1 (codes "tree " ++ digits 49 ++ 10 ∷ codes "parent " ++ replicate 39 49 ++ 10 ∷ []) ≡ Ok (Tree id_of_ones) ∷ Err fault.Parent ∷ []
+pub short_parent : commit_items kind.Sha1 (codes "tree " ++ digits 49 ++ 10 ∷ codes "parent " ++ replicate 39 49 ++ 10 ∷ [])
+    ≡ Ok (Tree id_of_ones) ∷ Err fault.Parent ∷ []
 unfolding hex_on_literals
 short_parent = refl
 
-pub tree_and_parent : commit_items kind.Sha1 (codes "tree " ++ digits 49 ++ 10 ∷ codes "parent " ++ digits 49 ++ 10 ∷ []) ≡ Ok (Tree id_of_ones) ∷ Ok (Parent id_of_ones) ∷ []
+pub tree_and_parent : commit_items kind.Sha1 (codes "tree " ++ digits 49 ++ 10 ∷ codes "parent " ++ digits 49 ++ 10 ∷ [])
+    ≡ Ok (Tree id_of_ones) ∷ Ok (Parent id_of_ones) ∷ []
 unfolding hex_on_literals
 tree_and_parent = refl
 
-pub all_items : commit_items kind.Sha1 (codes "tree " ++ digits 49 ++ 10 ∷ codes "author A" ++ 10 ∷ codes "committer B" ++ 10 ∷ 10 ∷ codes "text") ≡ Ok (Tree id_of_ones) ∷ Ok (Author (codes "A")) ∷ Ok (Committer (codes "B")) ∷ Ok (Rest (10 ∷ codes "text")) ∷ []
+pub all_items : commit_items kind.Sha1 (codes "tree " ++ digits 49 ++ 10 ∷ codes "author A" ++ 10 ∷ codes "committer B" ++ 10 ∷ 10 ∷ codes "text")
+    ≡ Ok (Tree id_of_ones) ∷ Ok (Author (codes "A")) ∷ Ok (Committer (codes "B")) ∷ Ok (Rest (10 ∷ codes "text")) ∷ []
 unfolding hex_on_literals
 all_items = refl
 
-pub no_newline : commit_items kind.Sha1 (codes "tree " ++ digits 49 ++ 10 ∷ codes "author A" ++ 10 ∷ codes "committer B") ≡ Ok (Tree id_of_ones) ∷ Ok (Author (codes "A")) ∷ Err fault.Committer ∷ []
+pub no_newline : commit_items kind.Sha1 (codes "tree " ++ digits 49 ++ 10 ∷ codes "author A" ++ 10 ∷ codes "committer B")
+    ≡ Ok (Tree id_of_ones) ∷ Ok (Author (codes "A")) ∷ Err fault.Committer ∷ []
 unfolding hex_on_literals
 no_newline = refl
 
-pub whole : read_commit kind.Sha1 (codes "tree " ++ digits 49 ++ 10 ∷ codes "parent " ++ digits 49 ++ 10 ∷ codes "author A <a@b> 2 +0000" ++ 10 ∷ codes "committer A <a@b> 2 +0000" ++ 10 ∷ 10 ∷ []) ≡ Some (record { tree = id_of_ones; parents = id_of_ones ∷ []; time = pos 2 })
+pub whole : read_commit kind.Sha1 (codes "tree " ++ digits 49 ++ 10 ∷ codes "parent " ++ digits 49 ++ 10 ∷ codes "author A <a@b> 2 +0000" ++ 10
+    ∷ codes "committer A <a@b> 2 +0000" ++ 10 ∷ 10 ∷ []) ≡ Some (record { tree = id_of_ones; parents = id_of_ones ∷ []; time = pos 2 })
 unfolding hex_on_literals
 whole = refl
 

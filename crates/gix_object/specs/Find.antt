@@ -47,10 +47,13 @@ FindsKindInto objects faulty i expected (Err e) held = e ≢ existing.Memory →
 
 -- what a look-up of a commit answers: the items of its bytes, or why not
 abbrev pub FindsCommit : Objects → (ObjectId → Type 0) → ObjectId → Result CommitRefIter ExistingError → Type 0
-FindsCommit objects faulty i (Ok it) = (bytes : List ℕ) × (get objects i ≡ Some (record { kind = kind.Commit; bytes = bytes })) × (commit_items_left it ≡ commit_items (kind_of i) bytes)
+FindsCommit objects faulty i (Ok it) =
+    (bytes : List ℕ) × (get objects i ≡ Some (record { kind = kind.Commit; bytes = bytes })) × (commit_items_left it ≡ commit_items (kind_of i) bytes)
 FindsCommit objects faulty i (Err e) = e ≢ existing.Memory → IsExistingFault objects faulty i kind.Commit e
 
 -- what a look-up of a tree answers: its bytes, whose entries are still to come, or why not
 abbrev pub FindsTree : Objects → (ObjectId → Type 0) → ObjectId → Result TreeRefIter ExistingError → Type 0
-FindsTree objects faulty i (Ok it) = (get objects i ≡ Some (record { kind = kind.Tree; bytes = bytes_left it })) × (id_kind it ≡ kind_of i) × (items_left it ≡ tree_items (kind_of i) (bytes_left it))
+FindsTree objects faulty i (Ok it) =
+    (get objects i ≡ Some (record { kind = kind.Tree; bytes = bytes_left it })) × (id_kind it ≡ kind_of i)
+    × (items_left it ≡ tree_items (kind_of i) (bytes_left it))
 FindsTree objects faulty i (Err e) = e ≢ existing.Memory → IsExistingFault objects faulty i kind.Tree e

@@ -38,7 +38,9 @@ pub mode_too_long : tree_items kind.Sha1 (codes "1006444 x") ≡ Err fault.Entry
 mode_too_long = refl
 
 -- a name may be empty or hold a `/`, and a mode may begin with zeros
-pub lenient : tree_items kind.Sha1 (codes "040000 a/b" ++ 0 ∷ replicate 20 2 ++ codes "7 " ++ 0 ∷ replicate 20 2) ≡ Ok (record { mode = 0o40000; name = codes "a/b"; id = id.Sha1 (replicate 20 2) }) ∷ Ok (record { mode = 7; name = []; id = id.Sha1 (replicate 20 2) }) ∷ []
+pub lenient : tree_items kind.Sha1 (codes "040000 a/b" ++ 0 ∷ replicate 20 2 ++ codes "7 " ++ 0 ∷ replicate 20 2)
+    ≡ Ok (record { mode = 0o40000; name = codes "a/b"; id = id.Sha1 (replicate 20 2) })
+    ∷ Ok (record { mode = 7; name = []; id = id.Sha1 (replicate 20 2) }) ∷ []
 lenient = refl
 
 pub directory_is_tree : is_tree 0o040000 ≡ true

@@ -21,7 +21,8 @@ use Rattle.gix_hash.specs.Reach.{Reaches, IsAtBoundary}
 abbrev pub IsFaultAt : Objects → (ObjectId → Type 0) → ObjectId → Hidden → Type 0
 IsFaultAt objects faulty i (hidden_by.Find e) = IsExistingFault objects faulty i object.Commit e
 IsFaultAt objects faulty i (hidden_by.ObjectDecode e) =
-    (bytes : List ℕ) × (map_of.get objects i ≡ Some (record { kind = object.Commit; bytes = bytes })) × (first_committer (commit_items (kind_of i) bytes) ≡ Err e)
+    (bytes : List ℕ) × (map_of.get objects i ≡ Some (record { kind = object.Commit; bytes = bytes }))
+    × (first_committer (commit_items (kind_of i) bytes) ≡ Err e)
 
 -- Commits that the rows agree with, and of which the store says nothing else. A store that agrees with its rows is a history itself. It
 -- may also lack commits of the history, have them broken, or fail at them.
@@ -70,16 +71,19 @@ module _ (parents : ObjectId → List ObjectId) (rows : List GraphRow) (tips hid
     pub keeps : left ≡ rows → (i : ObjectId) (row : GraphRow) → row_of rows i ≡ Some row → IsRead i row.generation → IsCorrupt row → ⊥
 
 -- which ids a painting marks, and which rows it leaves
-pub record Paints (objects : Objects) (old_rows : List GraphRow) (tips hidden_tips : List ObjectId) (marks : set.FinSet id_cmp) (rows : List GraphRow) : Type 0 where
+pub record Paints (objects : Objects) (old_rows : List GraphRow) (tips hidden_tips : List ObjectId) (marks : set.FinSet id_cmp) (rows : List GraphRow)
+    : Type 0 where
   pub rows_left : (rows ≡ old_rows) ⊎ (rows ≡ [])
   -- each commit without a row that tips or hidden tips reach was read: all of them, where there are no rows
-  pub rowless : (history : Objects) → IsHistory objects old_rows history → (i : ObjectId) → Reaches (parents_of history) (tips ++ hidden_tips) i → row_of old_rows i ≡ None → IsSome (commit_at objects i)
+  pub rowless : (history : Objects) → IsHistory objects old_rows history → (i : ObjectId) → Reaches (parents_of history) (tips ++ hidden_tips) i
+      → row_of old_rows i ≡ None → IsSome (commit_at objects i)
   -- where the rows agree with a history, the marks are its
   pub marked : (history : Objects) → IsHistory objects old_rows history → PaintsHistory (parents_of history) old_rows tips hidden_tips marks rows
 
 -- A commit in the history of tips and hidden tips can't be read. One with a row is read from the store only if the rows were dropped, so
 -- no commit is a fault that lies below what painting has to read.
-pub record IsHiddenFault (objects : Objects) (faulty : ObjectId → Type 0) (rows : List GraphRow) (tips hidden_tips : List ObjectId) (why : Hidden) : Type 0 where
+pub record IsHiddenFault (objects : Objects) (faulty : ObjectId → Type 0) (rows : List GraphRow) (tips hidden_tips : List ObjectId) (why : Hidden)
+    : Type 0 where
   pub id : ObjectId
   pub fault : IsFaultAt objects faulty id why
   pub reached : (history : Objects) → IsHistory objects rows history → Reaches (parents_of history) (tips ++ hidden_tips) id

@@ -59,4 +59,5 @@ stored records = put_in map_of.empty records
 -- why an input isn't stored: it has a bad record, or memory ran out for the place of a record
 pub data IsRecordFault (text : List ℕ) : Error → Type 0 where
   bad : {n : ℕ} → IsBadRecord n text → IsRecordFault text (error.Record n)
-  no_memory : (before : List Record) (r : Record) (rest behind : List ℕ) → BeginsWith before text rest → IsRecord r rest behind → IsRecordFault text error.Memory
+  no_memory : (before : List Record) (r : Record) (rest behind : List ℕ) → BeginsWith before text rest → IsRecord r rest behind
+      → IsRecordFault text error.Memory

@@ -29,7 +29,8 @@ pub record RowAgrees (objects : Objects) (rows : List GraphRow) (row : GraphRow)
   pub tree : whole.commit.tree ≡ row.tree
   pub time : whole.commit.time ≡ row.time
   pub places : length row.parents ≡ length whole.commit.parents
-  pub parents : (k : ℕ) (i : ObjectId) (place : ParentPlace) → slice_get whole.commit.parents k ≡ Some i → slice_get row.parents k ≡ Some place → PlaceAgrees rows row.generation i place
+  pub parents : (k : ℕ) (i : ObjectId) (place : ParentPlace) → slice_get whole.commit.parents k ≡ Some i → slice_get row.parents k ≡ Some place
+      → PlaceAgrees rows row.generation i place
   pub finite : row.generation < 2 ^ 32 - 1
 
 abbrev pub IsAgreeing : Objects → List GraphRow → Type 0

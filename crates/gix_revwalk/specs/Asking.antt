@@ -9,7 +9,8 @@ pub data Becomes {P : Type 0} (answers : P → ObjectId → Bool → P → Type 
 
 -- whatever it is asked, and whenever, the predicate answers this test
 abbrev pub AnswersBy : {P : Type 0} → (P → ObjectId → Bool → P → Type 0) → P → (ObjectId → Bool) → Type 0
-AnswersBy {P} answers predicate accepts = (mid new : P) (i : ObjectId) (answer : Bool) → Becomes answers predicate mid → answers mid i answer new → answer ≡ accepts i
+AnswersBy {P} answers predicate accepts = (mid new : P) (i : ObjectId) (answer : Bool) → Becomes answers predicate mid → answers mid i answer new
+    → answer ≡ accepts i
 
 -- asked about these ids, in order, the predicate goes from one state to another
 pub data AsksAll {P : Type 0} (answers : P → ObjectId → Bool → P → Type 0) : P → List ObjectId → P → Type 0 where

@@ -33,8 +33,10 @@ outdated limit pending = ids_of (filter (λ p. is_older p.time limit) pending)
 pub record IsSortedByTime {F P : Type 0} (objects : F → Objects) (old : SimpleWalk F P) (by : Sorting) (new : SimpleWalk F P) : Type 0 where
   pub read : All (λ p. IsSome (commit_at (objects old.store) p.id)) old.pending
   pub pending : new.pending ≡ recent (cutoff mode.All by) (timed (objects old.store) old.pending)
-  pub seen : (i : ObjectId) → set.contains new.seen i ≡ (set.contains old.seen i && not (is_among i (outdated (cutoff mode.All by) (timed (objects old.store) old.pending))))
-  pub remembered : (i : ObjectId) → set.contains new.remembered i ≡ (set.contains old.remembered i || is_among i (outdated (cutoff mode.All by) (timed (objects old.store) old.pending)))
+  pub seen : (i : ObjectId) → set.contains new.seen i
+      ≡ (set.contains old.seen i && not (is_among i (outdated (cutoff mode.All by) (timed (objects old.store) old.pending))))
+  pub remembered : (i : ObjectId) → set.contains new.remembered i
+      ≡ (set.contains old.remembered i || is_among i (outdated (cutoff mode.All by) (timed (objects old.store) old.pending)))
   pub others : new ≡ record old { sorting = by; pending = new.pending; seen = new.seen; remembered = new.remembered }
 
 -- the fault of the first pending commit whose time can't be read
@@ -57,26 +59,36 @@ IsSortedIn old i time true new = new ≡ record old { seen = set.remove old.seen
 IsSortedIn old i time false new = new ≡ record old { pending = old.pending ++ record { id = i; time = time } ∷ [] }
 
 -- one pending commit is read, and taken out where it is older than the cutoff
-abbrev pub SortsIn : {F P : Type 0} → (F → Objects) → (F → ObjectId → Type 0) → Option ℤ → SimpleWalk F P → ObjectId → Result (Unit {0}) Error → SimpleWalk F P → Type 0
+abbrev pub SortsIn : {F P : Type 0} → (F → Objects) → (F → ObjectId → Type 0) → Option ℤ → SimpleWalk F P → ObjectId → Result (Unit {0}) Error
+    → SimpleWalk F P → Type 0
 SortsIn objects faulty limit old i (Ok done) new = (time : ℤ) × HasTime (objects old.store) i time × IsSortedIn old i time (is_older time limit) new
 SortsIn objects faulty limit old i (Err e) new = IsTipFault (objects old.store) (faulty old.store) i e
 
 -- the pending commits are read one after the other
-pub data SortsAll {F P : Type 0} (objects : F → Objects) (faulty : F → ObjectId → Type 0) (limit : Option ℤ) : SimpleWalk F P → List Pending → SimpleWalk F P → Type 0 where
+pub data SortsAll {F P : Type 0} (objects : F → Objects) (faulty : F → ObjectId → Type 0) (limit : Option ℤ) : SimpleWalk F P → List Pending
+    → SimpleWalk F P → Type 0 where
   none : {old : SimpleWalk F P} → SortsAll objects faulty limit old [] old
-  more : {old mid new : SimpleWalk F P} {tip : Pending} {tips : List Pending} → SortsIn objects faulty limit old tip.id (Ok tt) mid → SortsAll objects faulty limit mid tips new → SortsAll objects faulty limit old (tip ∷ tips) new
+  more : {old mid new : SimpleWalk F P} {tip : Pending} {tips : List Pending} → SortsIn objects faulty limit old tip.id (Ok tt) mid
+      → SortsAll objects faulty limit mid tips new → SortsAll objects faulty limit old (tip ∷ tips) new
 
 -- a walk that was made of some tips, after any calls that choose its order, and before its first step
-pub data IsBuilt {F P : Type 0} (objects : F → Objects) (faulty : F → ObjectId → Type 0) (answers : P → ObjectId → Bool → P → Type 0) (store : F) (predicate : P) (tips : List ObjectId) : SimpleWalk F P → Type 0 where
+pub data IsBuilt {F P : Type 0} (objects : F → Objects) (faulty : F → ObjectId → Type 0) (answers : P → ObjectId → Bool → P → Type 0) (store : F)
+    (predicate : P) (tips : List ObjectId) : SimpleWalk F P → Type 0 where
   made : {walk : SimpleWalk F P} → IsMade objects faulty answers store predicate tips walk → IsBuilt objects faulty answers store predicate tips walk
-  breadth_first : {walk : SimpleWalk F P} → IsBuilt objects faulty answers store predicate tips walk → IsBuilt objects faulty answers store predicate tips (record walk { sorting = sorting.BreadthFirst })
-  by_time : {walk new : SimpleWalk F P} {by : Sorting} → IsBuilt objects faulty answers store predicate tips walk → IsSortedByTime objects walk by new → IsBuilt objects faulty answers store predicate tips new
-  hides : {walk : SimpleWalk F P} {ids : List ObjectId} → IsBuilt objects faulty answers store predicate tips walk → IsBuilt objects faulty answers store predicate tips (record walk { hidden_tips = ids })
-  walks : {walk : SimpleWalk F P} {parents : Parents} → IsBuilt objects faulty answers store predicate tips walk → IsBuilt objects faulty answers store predicate tips (record walk { parents = parents })
-  reads : {walk : SimpleWalk F P} {rows : List GraphRow} → IsBuilt objects faulty answers store predicate tips walk → IsBuilt objects faulty answers store predicate tips (record walk { rows = rows })
+  breadth_first : {walk : SimpleWalk F P} → IsBuilt objects faulty answers store predicate tips walk
+      → IsBuilt objects faulty answers store predicate tips (record walk { sorting = sorting.BreadthFirst })
+  by_time : {walk new : SimpleWalk F P} {by : Sorting} → IsBuilt objects faulty answers store predicate tips walk → IsSortedByTime objects walk by new
+      → IsBuilt objects faulty answers store predicate tips new
+  hides : {walk : SimpleWalk F P} {ids : List ObjectId} → IsBuilt objects faulty answers store predicate tips walk
+      → IsBuilt objects faulty answers store predicate tips (record walk { hidden_tips = ids })
+  walks : {walk : SimpleWalk F P} {parents : Parents} → IsBuilt objects faulty answers store predicate tips walk
+      → IsBuilt objects faulty answers store predicate tips (record walk { parents = parents })
+  reads : {walk : SimpleWalk F P} {rows : List GraphRow} → IsBuilt objects faulty answers store predicate tips walk
+      → IsBuilt objects faulty answers store predicate tips (record walk { rows = rows })
 
 -- none of these calls had a cutoff
-abbrev pub IsUncut : {F P : Type 0} {objects : F → Objects} {faulty : F → ObjectId → Type 0} {answers : P → ObjectId → Bool → P → Type 0} {store : F} {predicate : P} {tips : List ObjectId} {walk : SimpleWalk F P} → IsBuilt objects faulty answers store predicate tips walk → Type 0
+abbrev pub IsUncut : {F P : Type 0} {objects : F → Objects} {faulty : F → ObjectId → Type 0} {answers : P → ObjectId → Bool → P → Type 0} {store : F}
+    {predicate : P} {tips : List ObjectId} {walk : SimpleWalk F P} → IsBuilt objects faulty answers store predicate tips walk → Type 0
 IsUncut (made m) = Unit {0}
 IsUncut (breadth_first b) = IsUncut b
 IsUncut (by_time {by = by} b s) = IsUncut b × (cutoff mode.All by ≡ None)

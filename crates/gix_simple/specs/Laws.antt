@@ -1,5 +1,6 @@
 -- What a simple walk gives, over the definitions alone: the words of its laws.
-use Rattle.std.specs.Prelude.{◌≡◌, ◌≢◌, ◌⊎◌, ◌↔◌, ℕ, ℤ, List, [], ◌∷◌, ◌++◌, filter, Bool, true, false, not, ◌&&◌, ◌+◌, map, length, Option, Some, None, Result, Ok, Err, Contains, All}
+use Rattle.std.specs.Prelude.{◌≡◌, ◌≢◌, ◌⊎◌, ◌↔◌, ℕ, ℤ, List, [], ◌∷◌, ◌++◌, filter, Bool, true, false, not, ◌&&◌, ◌+◌, map, length, Option,
+    Some, None, Result, Ok, Err, Contains, All}
 use Rattle.std.specs.List.{AllZip, flat_map}
 use Rattle.std.specs.Iterator.{Drains, Yields}
 use Rattle.std.specs.FinMap as map_of
@@ -36,11 +37,13 @@ pub record IsFresh {F P : Type 0} (objects : F → Objects) (walk : SimpleWalk F
   pub remembered : (i : ObjectId) → set.contains walk.remembered i ≡ true → accepts i ≡ true
   pub shown : (i : ObjectId) → set.contains walk.hidden i ≡ false
   -- where an order by time is in force, each pending commit has its own time
-  pub timed : (order : CommitTimeOrder) → time_order walk.parents walk.sorting ≡ Some order → (p : Pending) → Contains walk.pending p → p.time ≡ time_of (objects walk.store) p.id
+  pub timed : (order : CommitTimeOrder) → time_order walk.parents walk.sorting ≡ Some order → (p : Pending) → Contains walk.pending p
+      → p.time ≡ time_of (objects walk.store) p.id
 
 -- neither memory nor the store failed
 abbrev pub IsNoRefusal : Result Info Error → Type 0
-IsNoRefusal answer = (answer ≢ Err error.Memory) × (answer ≢ Err (error.Find existing.Store)) × (answer ≢ Err (error.HiddenGraph (hidden_by.Find existing.Store)))
+IsNoRefusal answer =
+    (answer ≢ Err error.Memory) × (answer ≢ Err (error.Find existing.Store)) × (answer ≢ Err (error.HiddenGraph (hidden_by.Find existing.Store)))
 
 -- accepted, not hidden, and not older than the cutoff
 abbrev pub is_kept : Objects → (ObjectId → Bool) → (ObjectId → Bool) → Option ℤ → ObjectId → Bool
@@ -59,7 +62,8 @@ abbrev pub starts_of : {F P : Type 0} → SimpleWalk F P → (ObjectId → Bool)
 starts_of walk hidden = filter (λ i. not (hidden i)) (ids_of walk.pending)
 
 -- the answer is this commit
-pub record IsCommitInfo (objects : Objects) (rows : List GraphRow) (parents : Parents) (order : Option CommitTimeOrder) (info : Info) (i : ObjectId) : Type 0 where
+pub record IsCommitInfo (objects : Objects) (rows : List GraphRow) (parents : Parents) (order : Option CommitTimeOrder) (info : Info) (i : ObjectId)
+    : Type 0 where
   pub generation : Option ℕ
   pub by_row : IsRowGeneration rows i generation
   pub info_is : IsInfo info i (walked_parents objects parents i) generation (time_if order (time_of objects i))
@@ -79,18 +83,23 @@ IsBeginning None time next starts ids = IsBreadthBeginning next starts ids
 IsBeginning (Some order) time next starts ids = IsTimeBeginning order time next starts ids
 
 -- what a walk meets reads whole: with hidden tips, all that tips and hidden tips reach
-pub record MeetsWhole {F P : Type 0} (objects : F → Objects) (faulty : F → ObjectId → Type 0) (walk : SimpleWalk F P) (accepts hidden : ObjectId → Bool) : Type 0 where
+pub record MeetsWhole {F P : Type 0} (objects : F → Objects) (faulty : F → ObjectId → Type 0) (walk : SimpleWalk F P)
+    (accepts hidden : ObjectId → Bool) : Type 0 where
   pub given : (i : ObjectId) → Reaches (next_of objects walk accepts hidden) (starts_of walk hidden) i → ReadsWhole (objects walk.store) i
-  pub painted : walk.pending ≢ [] → walk.hidden_tips ≢ [] → (i : ObjectId) → Reaches (parents_of (objects walk.store)) (ids_of walk.pending ++ walk.hidden_tips) i → ReadsWhole (objects walk.store) i
+  pub painted : walk.pending ≢ [] → walk.hidden_tips ≢ [] → (i : ObjectId)
+      → Reaches (parents_of (objects walk.store)) (ids_of walk.pending ++ walk.hidden_tips) i → ReadsWhole (objects walk.store) i
 
 -- the answers are these commits in order
-pub record GivesInOrder {F P : Type 0} (objects : F → Objects) (walk : SimpleWalk F P) (accepts hidden : ObjectId → Bool) (answers : List (Result Info Error)) : Type 0 where
+pub record GivesInOrder {F P : Type 0} (objects : F → Objects) (walk : SimpleWalk F P) (accepts hidden : ObjectId → Bool)
+    (answers : List (Result Info Error)) : Type 0 where
   pub ids : List ObjectId
   pub given : AllZip (IsGiven (objects walk.store) walk.rows walk.parents (time_order walk.parents walk.sorting)) answers ids
-  pub in_order : IsInOrder (time_order walk.parents walk.sorting) (time_of (objects walk.store)) (next_of objects walk accepts hidden) (starts_of walk hidden) ids
+  pub in_order : IsInOrder (time_order walk.parents walk.sorting) (time_of (objects walk.store)) (next_of objects walk accepts hidden)
+      (starts_of walk hidden) ids
 
 -- a walk drawn to its end, and what is known of its history
-pub record IsWholeRun {F P : Type 0} (objects : F → Objects) (faulty : F → ObjectId → Type 0) (answers : P → ObjectId → Bool → P → Type 0) (walk : SimpleWalk F P) (accepts hidden : ObjectId → Bool) (list : List (Result Info Error)) : Type 0 where
+pub record IsWholeRun {F P : Type 0} (objects : F → Objects) (faulty : F → ObjectId → Type 0) (answers : P → ObjectId → Bool → P → Type 0)
+    (walk : SimpleWalk F P) (accepts hidden : ObjectId → Bool) (list : List (Result Info Error)) : Type 0 where
   pub by_test : AnswersBy answers walk.predicate accepts
   pub fresh : IsFresh objects walk accepts
   pub tells : Tells hidden (Reaches (parents_of (objects walk.store)) walk.hidden_tips)
@@ -120,7 +129,8 @@ pub record IsBegunRun {F P : Type 0} (objects : F → Objects) (faulty : F → O
   pub drawn : Yields (Next objects faulty answers) walk list left
 
 -- a walk that was just made of some tips: the accepted ones are pending, each at its first place
-pub record IsNewWalk {F P : Type 0} (objects : F → Objects) (answers : P → ObjectId → Bool → P → Type 0) (store : F) (accepts : ObjectId → Bool) (tips : List ObjectId) (walk : SimpleWalk F P) : Type 0 where
+pub record IsNewWalk {F P : Type 0} (objects : F → Objects) (answers : P → ObjectId → Bool → P → Type 0) (store : F) (accepts : ObjectId → Bool)
+    (tips : List ObjectId) (walk : SimpleWalk F P) : Type 0 where
   pub pending : ids_of walk.pending ≡ new_ids (λ i. false) (filter accepts tips)
   pub fresh : IsFresh objects walk accepts
   pub by_test : AnswersBy answers walk.predicate accepts
@@ -132,7 +142,8 @@ pub record IsNewWalk {F P : Type 0} (objects : F → Objects) (answers : P → O
 
 -- the ids that the rows and the texts of stored commits name, of these the parents that are walked
 abbrev pub named_in : {F P : Type 0} → (F → Objects) → SimpleWalk F P → List ObjectId
-named_in objects walk = map (λ row. row.id) walk.rows ++ flat_map (λ entry. by_mode walk.parents (text_parents entry.0 entry.1)) (map_of.entries (objects walk.store))
+named_in objects walk =
+    map (λ row. row.id) walk.rows ++ flat_map (λ entry. by_mode walk.parents (text_parents entry.0 entry.1)) (map_of.entries (objects walk.store))
 
 -- how many answers a walk can still give
 abbrev pub answers_left : {F P : Type 0} → (F → Objects) → SimpleWalk F P → ℕ
@@ -152,7 +163,8 @@ IsPlain objects parents order (Ok info) i = IsInfo info i (walked_parents object
 IsPlain objects parents order (Err e) i = ⊥
 
 -- a walk without hidden tips and rows, drawn to its end, and what is known of its history
-pub record IsPlainRun {F P : Type 0} (objects : F → Objects) (faulty : F → ObjectId → Type 0) (answers : P → ObjectId → Bool → P → Type 0) (walk : SimpleWalk F P) (accepts : ObjectId → Bool) (next : ObjectId → List ObjectId) (list : List (Result Info Error)) : Type 0 where
+pub record IsPlainRun {F P : Type 0} (objects : F → Objects) (faulty : F → ObjectId → Type 0) (answers : P → ObjectId → Bool → P → Type 0)
+    (walk : SimpleWalk F P) (accepts : ObjectId → Bool) (next : ObjectId → List ObjectId) (list : List (Result Info Error)) : Type 0 where
   pub by_test : AnswersBy answers walk.predicate accepts
   pub fresh : IsFresh objects walk accepts
   pub open_to : walk.hidden_tips ≡ []

@@ -47,9 +47,11 @@ IsUntold (Err e) = Unit {0}
 
 -- the fault is one of this commit: it can't be found, its text is broken, or the store failed at it, or at a parent that its text names
 abbrev pub IsFaultOf : Objects → (ObjectId → Type 0) → Parents → ObjectId → Error → Type 0
-IsFaultOf objects faulty parents i (error.Find e) = IsExistingFault objects faulty i object.Commit e ⊎ ((e ≡ existing.Store) × (p : ObjectId) × Contains (by_mode parents (text_next objects i)) p × faulty p)
+IsFaultOf objects faulty parents i (error.Find e) =
+    IsExistingFault objects faulty i object.Commit e ⊎ ((e ≡ existing.Store) × (p : ObjectId) × Contains (by_mode parents (text_next objects i)) p × faulty p)
 IsFaultOf objects faulty parents i (error.ObjectDecode e) =
-    (bytes : List ℕ) × (map_of.get objects i ≡ Some (record { kind = object.Commit; bytes = bytes })) × ((scanned parents (commit_items (kind_of i) bytes)).1 ≡ Some e)
+    (bytes : List ℕ) × (map_of.get objects i ≡ Some (record { kind = object.Commit; bytes = bytes }))
+    × ((scanned parents (commit_items (kind_of i) bytes)).1 ≡ Some e)
 IsFaultOf objects faulty parents i (error.HiddenGraph e) = ⊥
 IsFaultOf objects faulty parents i error.Memory = ⊥
 
@@ -58,9 +60,10 @@ abbrev pub IsAbout : Objects → (ObjectId → Type 0) → Parents → ObjectId 
 IsAbout objects faulty parents i (Ok info) = info.id ≡ i
 IsAbout objects faulty parents i (Err e) = IsFaultOf objects faulty parents i e
 
--- The commit that was taken, which this answer is or whose fault it is, has a corrupt row. Pending commits reach it by the parents that are walked, as the texts of
--- commits name them, also where a text breaks off behind its parents.
-pub record HasCorruptRow {F P : Type 0} (objects : F → Objects) (faulty : F → ObjectId → Type 0) (walk : SimpleWalk F P) (answer : Result Info Error) : Type 0 where
+-- The commit that was taken, which this answer is or whose fault it is, has a corrupt row. Pending commits reach it by the parents that are
+-- walked, as the texts of commits name them, also where a text breaks off behind its parents.
+pub record HasCorruptRow {F P : Type 0} (objects : F → Objects) (faulty : F → ObjectId → Type 0) (walk : SimpleWalk F P) (answer : Result Info Error)
+    : Type 0 where
   pub row : GraphRow
   pub present : row_of walk.rows row.id ≡ Some row
   pub corrupt : IsCorrupt row
@@ -73,13 +76,15 @@ PaintingDrops objects walk = (walk.hidden_tips ≢ []) × DropsBy (parents_of (o
 
 -- The answers have the generations of the rows, up to where a corrupt row drops these, and none from there on. The first of these is
 -- the commit of that row or a fault of it, or it is the first of all and painting dropped the rows.
-pub record TellsGenerations {F P : Type 0} (objects : F → Objects) (faulty : F → ObjectId → Type 0) (walk : SimpleWalk F P) (list : List (Result Info Error)) : Type 0 where
+pub record TellsGenerations {F P : Type 0} (objects : F → Objects) (faulty : F → ObjectId → Type 0) (walk : SimpleWalk F P)
+    (list : List (Result Info Error)) : Type 0 where
   pub before : List (Result Info Error)
   pub behind : List (Result Info Error)
   pub parts : list ≡ before ++ behind
   pub told : All (IsTold walk.rows) before
   pub untold : All IsUntold behind
-  pub dropped : (answer : Result Info Error) (rest : List (Result Info Error)) → behind ≡ answer ∷ rest → IsAgreeing (objects walk.store) walk.rows → HasCorruptRow objects faulty walk answer ⊎ ((before ≡ []) × PaintingDrops objects walk)
+  pub dropped : (answer : Result Info Error) (rest : List (Result Info Error)) → behind ≡ answer ∷ rest → IsAgreeing (objects walk.store) walk.rows
+      → HasCorruptRow objects faulty walk answer ⊎ ((before ≡ []) × PaintingDrops objects walk)
 
 -- two walks of one store, over the same parents, in the same order, from the same pending commits
 pub record AreAlike {F P : Type 0} (walk other : SimpleWalk F P) : Type 0 where
@@ -89,13 +94,20 @@ pub record AreAlike {F P : Type 0} (walk other : SimpleWalk F P) : Type 0 where
   pub same_pending : ids_of other.pending ≡ ids_of walk.pending
 
 -- two walks that were built of the same tips by the same calls; rows and hidden tips may differ
-pub data AreBuiltAlike {F P : Type 0} (objects : F → Objects) (faulty : F → ObjectId → Type 0) (answers : P → ObjectId → Bool → P → Type 0) (store : F) (predicate : P) (tips : List ObjectId) : SimpleWalk F P → SimpleWalk F P → Type 0 where
-  made : {a b : SimpleWalk F P} → IsMade objects faulty answers store predicate tips a → IsMade objects faulty answers store predicate tips b → AreBuiltAlike objects faulty answers store predicate tips a b
-  breadth_first : {a b : SimpleWalk F P} → AreBuiltAlike objects faulty answers store predicate tips a b → AreBuiltAlike objects faulty answers store predicate tips (record a { sorting = sorting.BreadthFirst }) (record b { sorting = sorting.BreadthFirst })
-  by_time : {a b c d : SimpleWalk F P} {by : Sorting} → AreBuiltAlike objects faulty answers store predicate tips a b → IsSortedByTime objects a by c → IsSortedByTime objects b by d → AreBuiltAlike objects faulty answers store predicate tips c d
-  walks : {a b : SimpleWalk F P} {parents : Parents} → AreBuiltAlike objects faulty answers store predicate tips a b → AreBuiltAlike objects faulty answers store predicate tips (record a { parents = parents }) (record b { parents = parents })
-  hides : {a b : SimpleWalk F P} {ids those : List ObjectId} → AreBuiltAlike objects faulty answers store predicate tips a b → AreBuiltAlike objects faulty answers store predicate tips (record a { hidden_tips = ids }) (record b { hidden_tips = those })
-  reads : {a b : SimpleWalk F P} {rows those : List GraphRow} → AreBuiltAlike objects faulty answers store predicate tips a b → AreBuiltAlike objects faulty answers store predicate tips (record a { rows = rows }) (record b { rows = those })
+pub data AreBuiltAlike {F P : Type 0} (objects : F → Objects) (faulty : F → ObjectId → Type 0) (answers : P → ObjectId → Bool → P → Type 0)
+    (store : F) (predicate : P) (tips : List ObjectId) : SimpleWalk F P → SimpleWalk F P → Type 0 where
+  made : {a b : SimpleWalk F P} → IsMade objects faulty answers store predicate tips a → IsMade objects faulty answers store predicate tips b
+      → AreBuiltAlike objects faulty answers store predicate tips a b
+  breadth_first : {a b : SimpleWalk F P} → AreBuiltAlike objects faulty answers store predicate tips a b
+      → AreBuiltAlike objects faulty answers store predicate tips (record a { sorting = sorting.BreadthFirst }) (record b { sorting = sorting.BreadthFirst })
+  by_time : {a b c d : SimpleWalk F P} {by : Sorting} → AreBuiltAlike objects faulty answers store predicate tips a b → IsSortedByTime objects a by c
+      → IsSortedByTime objects b by d → AreBuiltAlike objects faulty answers store predicate tips c d
+  walks : {a b : SimpleWalk F P} {parents : Parents} → AreBuiltAlike objects faulty answers store predicate tips a b
+      → AreBuiltAlike objects faulty answers store predicate tips (record a { parents = parents }) (record b { parents = parents })
+  hides : {a b : SimpleWalk F P} {ids those : List ObjectId} → AreBuiltAlike objects faulty answers store predicate tips a b
+      → AreBuiltAlike objects faulty answers store predicate tips (record a { hidden_tips = ids }) (record b { hidden_tips = those })
+  reads : {a b : SimpleWalk F P} {rows those : List GraphRow} → AreBuiltAlike objects faulty answers store predicate tips a b
+      → AreBuiltAlike objects faulty answers store predicate tips (record a { rows = rows }) (record b { rows = those })
 
 -- the answers of two walks are the same commits: in the same order where no order by time is in force, otherwise in any
 pub record GiveTheSame {F P : Type 0} (objects : F → Objects) (walk other : SimpleWalk F P) (list those_given : List (Result Info Error)) : Type 0 where

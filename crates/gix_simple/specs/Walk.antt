@@ -1,5 +1,6 @@
 -- What a simple walk holds, and what one step of it may do.
-use Rattle.std.specs.Prelude.{◌≡◌, ◌≢◌, ◌⊎◌, ℕ, ℤ, pos, int_lt, List, [], ◌∷◌, ◌++◌, filter, Bool, true, false, not, Option, Some, None, Result, Ok, Err, Contains, IsPermutation}
+use Rattle.std.specs.Prelude.{◌≡◌, ◌≢◌, ◌⊎◌, ℕ, ℤ, pos, int_lt, List, [], ◌∷◌, ◌++◌, filter, Bool, true, false, not, Option, Some, None,
+    Result, Ok, Err, Contains, IsPermutation}
 use Rattle.std.specs.FinMap as map_of
 use Rattle.std.specs.FinSet as set
 use Rattle.gix_hash.specs.declared.Kind.{Kind}
@@ -55,7 +56,9 @@ pub record SimpleWalk (F P : Type 0) : Type 0 where
 
 -- a walk before its tips: over all parents, breadth first, without rows and hidden tips
 abbrev pub bare : {F P : Type 0} → F → P → SimpleWalk F P
-bare store predicate = record { store = store; predicate = predicate; rows = []; parents = mode.All; sorting = sorting.BreadthFirst; pending = []; seen = set.empty; remembered = set.empty; hidden_tips = []; hidden = set.empty; text = []; current = None }
+bare store predicate = record {
+    store = store; predicate = predicate; rows = []; parents = mode.All; sorting = sorting.BreadthFirst; pending = []; seen = set.empty;
+    remembered = set.empty; hidden_tips = []; hidden = set.empty; text = []; current = None }
 
 -- the kind by which the text of the current commit is read
 abbrev pub kind_at : Option ObjectId → Kind
@@ -128,14 +131,18 @@ module _ {F P : Type 0} (objects : F → Objects) (faulty : F → ObjectId → T
   -- the time by which a parent would be taken, or the store's refusal to say it
   pub data ReadsTime (old : SimpleWalk F P) (by_row : Bool) (i : ObjectId) : Result ℤ Treated → Type 0 where
     unasked : time_order old.parents old.sorting ≡ None → ReadsTime old by_row i (Ok (pos 0))
-    from_row : {order : CommitTimeOrder} → time_order old.parents old.sorting ≡ Some order → by_row ≡ true → ReadsTime old by_row i (Ok (row_time (row_of old.rows i)))
-    from_store : {order : CommitTimeOrder} → time_order old.parents old.sorting ≡ Some order → by_row ≡ false → ReadsTime old by_row i (Ok (time_of (objects old.store) i))
-    store_fails : {order : CommitTimeOrder} → time_order old.parents old.sorting ≡ Some order → by_row ≡ false → faulty old.store i → ReadsTime old by_row i (Err StoreFails)
+    from_row : {order : CommitTimeOrder} → time_order old.parents old.sorting ≡ Some order → by_row ≡ true
+        → ReadsTime old by_row i (Ok (row_time (row_of old.rows i)))
+    from_store : {order : CommitTimeOrder} → time_order old.parents old.sorting ≡ Some order → by_row ≡ false
+        → ReadsTime old by_row i (Ok (time_of (objects old.store) i))
+    store_fails : {order : CommitTimeOrder} → time_order old.parents old.sorting ≡ Some order → by_row ≡ false → faulty old.store i
+        → ReadsTime old by_row i (Err StoreFails)
 
   -- an accepted parent becomes pending, unless it is older than the cutoff
   pub data Enqueues (order : Option CommitTimeOrder) (limit : Option ℤ) (old : List Pending) (i : ObjectId) (time : ℤ) : List Pending → Type 0 where
     dropped : is_older time limit ≡ true → Enqueues order limit old i time old
-    enqueued : {new : List Pending} → is_older time limit ≡ false → Holds order (old ++ record { id = i; time = time } ∷ []) new → Enqueues order limit old i time new
+    enqueued : {new : List Pending} → is_older time limit ≡ false → Holds order (old ++ record { id = i; time = time } ∷ []) new
+        → Enqueues order limit old i time new
 
   -- what is seen of a walk after a parent was asked about
   abbrev pub asked : SimpleWalk F P → ObjectId → P → List Pending → SimpleWalk F P
@@ -152,45 +159,66 @@ module _ {F P : Type 0} (objects : F → Objects) (faulty : F → ObjectId → T
     hidden : set.contains old.hidden i ≡ true → Treats old by_row i GoesOn old
     known : set.contains old.seen i ≡ true → Treats old by_row i GoesOn old
     refused : {predicate : P} → IsNew old i → Asks old i false predicate → Treats old by_row i GoesOn (asked old i predicate old.pending)
-    accepted : {predicate : P} {time : ℤ} {pending : List Pending} → IsNew old i → Asks old i true predicate → ReadsTime old by_row i (Ok time) → Enqueues (time_order old.parents old.sorting) (cutoff old.parents old.sorting) old.pending i time pending → Treats old by_row i GoesOn (asked old i predicate pending)
-    store_fails : {predicate : P} → IsNew old i → Asks old i true predicate → ReadsTime old by_row i (Err StoreFails) → Treats old by_row i StoreFails (asked old i predicate old.pending)
+    accepted : {predicate : P} {time : ℤ} {pending : List Pending} → IsNew old i → Asks old i true predicate → ReadsTime old by_row i (Ok time)
+        → Enqueues (time_order old.parents old.sorting) (cutoff old.parents old.sorting) old.pending i time pending
+        → Treats old by_row i GoesOn (asked old i predicate pending)
+    store_fails : {predicate : P} → IsNew old i → Asks old i true predicate → ReadsTime old by_row i (Err StoreFails)
+        → Treats old by_row i StoreFails (asked old i predicate old.pending)
     no_memory : Treats old by_row i NoMemory old
-    no_memory_after : {answer : Bool} {predicate : P} {pending : List Pending} → IsNew old i → Asks old i answer predicate → (pending ≡ old.pending) ⊎ (pending ≡ []) → Treats old by_row i NoMemory (asked old i predicate pending)
+    no_memory_after : {answer : Bool} {predicate : P} {pending : List Pending} → IsNew old i → Asks old i answer predicate
+        → (pending ≡ old.pending) ⊎ (pending ≡ []) → Treats old by_row i NoMemory (asked old i predicate pending)
 
   -- the parents of a commit are treated in order, up to the first that fails
   pub data TreatsAll (by_row : Bool) : SimpleWalk F P → List ObjectId → Treated → SimpleWalk F P → Type 0 where
     none : {old : SimpleWalk F P} → TreatsAll by_row old [] GoesOn old
-    more : {old mid new : SimpleWalk F P} {i : ObjectId} {ids : List ObjectId} {how : Treated} → Treats old by_row i GoesOn mid → TreatsAll by_row mid ids how new → TreatsAll by_row old (i ∷ ids) how new
-    stops : {old new : SimpleWalk F P} {i : ObjectId} {ids : List ObjectId} {how : Treated} → how ≢ GoesOn → Treats old by_row i how new → TreatsAll by_row old (i ∷ ids) how new
+    more : {old mid new : SimpleWalk F P} {i : ObjectId} {ids : List ObjectId} {how : Treated} → Treats old by_row i GoesOn mid
+        → TreatsAll by_row mid ids how new → TreatsAll by_row old (i ∷ ids) how new
+    stops : {old new : SimpleWalk F P} {i : ObjectId} {ids : List ObjectId} {how : Treated} → how ≢ GoesOn → Treats old by_row i how new
+        → TreatsAll by_row old (i ∷ ids) how new
 
   -- what making a walk of some tips gives: each is treated as if a parent named it
   abbrev pub IsMade : F → P → List ObjectId → SimpleWalk F P → Type 0
   IsMade store predicate tips walk = TreatsAll false (bare store predicate) tips GoesOn walk
 
   -- the answer after the parents were treated: the commit, the fault that ended its reading, or what failed
-  pub data Concludes (id : ObjectId) (parents : List ObjectId) (generation : Option ℕ) (time : Option ℤ) (text : List ℕ) (fault : Option DecodeError) (walk : SimpleWalk F P) : Treated → Result Info Error → SimpleWalk F P → Type 0 where
-    given : {info : Info} → fault ≡ None → IsInfo info id parents generation time → Concludes id parents generation time text fault walk GoesOn (Ok info) (record walk { text = text; current = Some id })
-    broken : {e : DecodeError} → fault ≡ Some e → Concludes id parents generation time text fault walk GoesOn (Err (error.ObjectDecode e)) (record walk { text = []; current = Some id })
-    store_fails : Concludes id parents generation time text fault walk StoreFails (Err (error.Find existing.Store)) (record walk { text = []; current = Some id })
+  pub data Concludes (id : ObjectId) (parents : List ObjectId) (generation : Option ℕ) (time : Option ℤ) (text : List ℕ) (fault : Option DecodeError)
+      (walk : SimpleWalk F P) : Treated → Result Info Error → SimpleWalk F P → Type 0 where
+    given : {info : Info} → fault ≡ None → IsInfo info id parents generation time
+        → Concludes id parents generation time text fault walk GoesOn (Ok info) (record walk { text = text; current = Some id })
+    broken : {e : DecodeError} → fault ≡ Some e → Concludes id parents generation time text fault walk GoesOn (Err (error.ObjectDecode e))
+        (record walk { text = []; current = Some id })
+    store_fails : Concludes id parents generation time text fault walk StoreFails (Err (error.Find existing.Store))
+        (record walk { text = []; current = Some id })
     no_memory : Concludes id parents generation time text fault walk NoMemory (Err error.Memory) (record walk { text = []; current = Some id; pending = [] })
 
   -- the commit of a pending id is read and given, or else a fault in its place
   pub data Takes (old : SimpleWalk F P) (taken : Pending) : Result Info Error → SimpleWalk F P → Type 0 where
-    by_row : {row : GraphRow} {ids : List ObjectId} {how : Treated} {answer : Result Info Error} {walk new : SimpleWalk F P} → row_of old.rows taken.id ≡ Some row → ids_at old.rows row.parents ≡ Some ids → TreatsAll true old (by_mode old.parents ids) how walk → Concludes taken.id (by_mode old.parents ids) (Some row.generation) (given_time old taken) [] None walk how answer new → Takes old taken answer new
-    by_store : {bytes : List ℕ} {how : Treated} {answer : Result Info Error} {walk new : SimpleWalk F P} → IsUnrowed old.rows taken.id → map_of.get (objects old.store) taken.id ≡ Some (record { kind = object.Commit; bytes = bytes }) → TreatsAll false (unrowed old taken.id) (scanned old.parents (commit_items (kind_of taken.id) bytes)).0 how walk → Concludes taken.id (scanned old.parents (commit_items (kind_of taken.id) bytes)).0 None (given_time old taken) bytes (scanned old.parents (commit_items (kind_of taken.id) bytes)).1 walk how answer new → Takes old taken answer new
-    not_found : {e : ExistingError} → IsUnrowed old.rows taken.id → IsExistingFault (objects old.store) (faulty old.store) taken.id object.Commit e → Takes old taken (Err (error.Find e)) (record (unrowed old taken.id) { text = []; current = Some taken.id })
-    no_memory : {rows : List GraphRow} → (rows ≡ old.rows) ⊎ (rows ≡ kept_rows old.rows (row_of old.rows taken.id)) → Takes old taken (Err error.Memory) (record old { rows = rows; text = []; current = Some taken.id; pending = [] })
+    by_row : {row : GraphRow} {ids : List ObjectId} {how : Treated} {answer : Result Info Error} {walk new : SimpleWalk F P}
+        → row_of old.rows taken.id ≡ Some row → ids_at old.rows row.parents ≡ Some ids → TreatsAll true old (by_mode old.parents ids) how walk
+        → Concludes taken.id (by_mode old.parents ids) (Some row.generation) (given_time old taken) [] None walk how answer new → Takes old taken answer new
+    by_store : {bytes : List ℕ} {how : Treated} {answer : Result Info Error} {walk new : SimpleWalk F P} → IsUnrowed old.rows taken.id
+        → map_of.get (objects old.store) taken.id ≡ Some (record { kind = object.Commit; bytes = bytes })
+        → TreatsAll false (unrowed old taken.id) (scanned old.parents (commit_items (kind_of taken.id) bytes)).0 how walk
+        → Concludes taken.id (scanned old.parents (commit_items (kind_of taken.id) bytes)).0 None (given_time old taken) bytes
+            (scanned old.parents (commit_items (kind_of taken.id) bytes)).1 walk how answer new
+        → Takes old taken answer new
+    not_found : {e : ExistingError} → IsUnrowed old.rows taken.id → IsExistingFault (objects old.store) (faulty old.store) taken.id object.Commit e
+        → Takes old taken (Err (error.Find e)) (record (unrowed old taken.id) { text = []; current = Some taken.id })
+    no_memory : {rows : List GraphRow} → (rows ≡ old.rows) ⊎ (rows ≡ kept_rows old.rows (row_of old.rows taken.id))
+        → Takes old taken (Err error.Memory) (record old { rows = rows; text = []; current = Some taken.id; pending = [] })
 
   -- the pending commit whose turn it is, and the others
   pub data Chooses (old : SimpleWalk F P) (taken : Pending) (others : List Pending) : Type 0 where
     first : time_order old.parents old.sorting ≡ None → old.pending ≡ taken ∷ others → Chooses old taken others
-    best : {order : CommitTimeOrder} → time_order old.parents old.sorting ≡ Some order → IsPermutation old.pending (taken ∷ others) → ((other : Pending) → Contains others other → IsNoWorse order taken.time other.time) → Chooses old taken others
+    best : {order : CommitTimeOrder} → time_order old.parents old.sorting ≡ Some order → IsPermutation old.pending (taken ∷ others)
+        → ((other : Pending) → Contains others other → IsNoWorse order taken.time other.time) → Chooses old taken others
 
   -- one step of a walk whose hidden tips are painted
   pub data Steps (old : SimpleWalk F P) : Option (Result Info Error) → SimpleWalk F P → Type 0 where
     ended : old.pending ≡ [] → Steps old None old
     no_memory : old.pending ≢ [] → Steps old (Some (Err error.Memory)) (record old { text = []; pending = [] })
-    took : {taken : Pending} {others : List Pending} {answer : Result Info Error} {new : SimpleWalk F P} → Chooses old taken others → Takes (record old { pending = others }) taken answer new → Steps old (Some answer) new
+    took : {taken : Pending} {others : List Pending} {answer : Result Info Error} {new : SimpleWalk F P} → Chooses old taken others
+        → Takes (record old { pending = others }) taken answer new → Steps old (Some answer) new
 
   -- what painting leaves of a walk
   abbrev pub painted : SimpleWalk F P → set.FinSet id_cmp → List GraphRow → SimpleWalk F P
@@ -198,7 +226,13 @@ module _ {F P : Type 0} (objects : F → Objects) (faulty : F → ObjectId → T
 
   -- one call of `next`
   pub data Next (old : SimpleWalk F P) : Option (Result Info Error) → SimpleWalk F P → Type 0 where
-    unhidden : {answer : Option (Result Info Error)} {new : SimpleWalk F P} → (old.pending ≡ []) ⊎ (old.hidden_tips ≡ []) → Steps (record old { hidden_tips = [] }) answer new → Next old answer new
-    paints : {marks : set.FinSet id_cmp} {rows : List GraphRow} {answer : Option (Result Info Error)} {new : SimpleWalk F P} → old.pending ≢ [] → old.hidden_tips ≢ [] → Paints (objects old.store) old.rows (ids_of old.pending) old.hidden_tips marks rows → Steps (painted old marks rows) answer new → Next old answer new
-    faulty_history : {why : Hidden} {rows : List GraphRow} → old.pending ≢ [] → old.hidden_tips ≢ [] → (rows ≡ old.rows) ⊎ (rows ≡ []) → IsHiddenFault (objects old.store) (faulty old.store) old.rows (ids_of old.pending) old.hidden_tips why → Next old (Some (Err (error.HiddenGraph why))) (record old { rows = rows; hidden_tips = []; pending = []; text = [] })
-    no_memory : {rows : List GraphRow} → old.pending ≢ [] → old.hidden_tips ≢ [] → (rows ≡ old.rows) ⊎ (rows ≡ []) → Next old (Some (Err error.Memory)) (record old { rows = rows; hidden_tips = []; pending = []; text = [] })
+    unhidden : {answer : Option (Result Info Error)} {new : SimpleWalk F P} → (old.pending ≡ []) ⊎ (old.hidden_tips ≡ [])
+        → Steps (record old { hidden_tips = [] }) answer new → Next old answer new
+    paints : {marks : set.FinSet id_cmp} {rows : List GraphRow} {answer : Option (Result Info Error)} {new : SimpleWalk F P} → old.pending ≢ []
+        → old.hidden_tips ≢ [] → Paints (objects old.store) old.rows (ids_of old.pending) old.hidden_tips marks rows
+        → Steps (painted old marks rows) answer new → Next old answer new
+    faulty_history : {why : Hidden} {rows : List GraphRow} → old.pending ≢ [] → old.hidden_tips ≢ [] → (rows ≡ old.rows) ⊎ (rows ≡ [])
+        → IsHiddenFault (objects old.store) (faulty old.store) old.rows (ids_of old.pending) old.hidden_tips why
+        → Next old (Some (Err (error.HiddenGraph why))) (record old { rows = rows; hidden_tips = []; pending = []; text = [] })
+    no_memory : {rows : List GraphRow} → old.pending ≢ [] → old.hidden_tips ≢ [] → (rows ≡ old.rows) ⊎ (rows ≡ [])
+        → Next old (Some (Err error.Memory)) (record old { rows = rows; hidden_tips = []; pending = []; text = [] })

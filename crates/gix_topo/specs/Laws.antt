@@ -20,7 +20,8 @@ use Rattle.gix_revwalk.specs.Infos.{IsInfo, IsRowGeneration}
 use Rattle.gix_revwalk.specs.Asking.{AnswersBy}
 use Rattle.gix_revwalk.specs.Texts.{text_next}
 use Rattle.gix_revwalk.specs.Ids.{AreDistinct, new_ids}
-use Rattle.gix_topo.specs.Walk.{TopoPlan, TopoWalk, Ready, walked_of, text_walked, IsMember, IsTextMember, IsSound, IsStarted, Next, ready_ids, was_ready, named_ids}
+use Rattle.gix_topo.specs.Walk.{TopoPlan, TopoWalk, Ready, walked_of, text_walked, IsMember, IsTextMember, IsSound, IsStarted, Next,
+    ready_ids, was_ready, named_ids}
 
 -- the order that was asked for
 abbrev pub IsSorted : Sorting → (ObjectId → ℤ) → (ObjectId → List ObjectId) → (ObjectId → Type 0) → List ObjectId → List ObjectId → Type 0
@@ -103,7 +104,8 @@ abbrev pub IsNoRefusal : Result Info Error → Type 0
 IsNoRefusal answer = (answer ≢ Err error.Memory) × (answer ≢ Err (error.Find existing.Store))
 
 -- a built walk drawn to its end, and what is known of its history
-pub record IsWholeRun {F P : Type 0} (objects : F → Objects) (faulty : F → ObjectId → Type 0) (answers : P → ObjectId → Bool → P → Type 0) (walk : TopoWalk F P) (accepts : ObjectId → Bool) (list : List (Result Info Error)) : Type 0 where
+pub record IsWholeRun {F P : Type 0} (objects : F → Objects) (faulty : F → ObjectId → Type 0) (answers : P → ObjectId → Bool → P → Type 0)
+    (walk : TopoWalk F P) (accepts : ObjectId → Bool) (list : List (Result Info Error)) : Type 0 where
   pub by_test : AnswersBy answers walk.predicate accepts
   pub started : IsStarted objects faulty answers walk
   pub sound : IsSound objects faulty walk.plan

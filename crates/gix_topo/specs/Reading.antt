@@ -42,7 +42,9 @@ IsOfItems i items info =
 abbrev pub IsReadFault : Objects → (ObjectId → Type 0) → ObjectId → Error → Type 0
 IsReadFault objects faulty i error.MissingIndegreeUnexpected = ⊥
 IsReadFault objects faulty i error.MissingStateUnexpected = ⊥
-IsReadFault objects faulty i (error.ObjectDecode e) = (bytes : List ℕ) × (map_of.get objects i ≡ Some (record { kind = object.Commit; bytes = bytes })) × (first_committer (commit_items (kind_of i) bytes) ≡ Err e) × (e ≡ fault.Missing → ⊥)
+IsReadFault objects faulty i (error.ObjectDecode e) =
+    (bytes : List ℕ) × (map_of.get objects i ≡ Some (record { kind = object.Commit; bytes = bytes }))
+    × (first_committer (commit_items (kind_of i) bytes) ≡ Err e) × (e ≡ fault.Missing → ⊥)
 IsReadFault objects faulty i (error.Find e) = IsExistingFault objects faulty i object.Commit e
 IsReadFault objects faulty i error.Memory = Unit {0}
 
@@ -60,11 +62,15 @@ LookUpFails objects faulty rows standing i e = IsReadFault objects faulty i e ×
 
 -- what reading a commit from the store answers
 abbrev pub ReadsText : Objects → (ObjectId → Type 0) → ObjectId → Result Info Error → Type 0
-ReadsText objects faulty i (Ok info) = (bytes : List ℕ) × (map_of.get objects i ≡ Some (record { kind = object.Commit; bytes = bytes })) × IsOfItems i (commit_items (kind_of i) bytes) info
+ReadsText objects faulty i (Ok info) =
+    (bytes : List ℕ) × (map_of.get objects i ≡ Some (record { kind = object.Commit; bytes = bytes })) × IsOfItems i (commit_items (kind_of i) bytes) info
 ReadsText objects faulty i (Err e) = IsReadFault objects faulty i e
 
 -- what reading a commit answers, and whether the rows are held then
-pub data Reads (objects : Objects) (faulty : ObjectId → Type 0) (rows : List GraphRow) (standing : Bool) (i : ObjectId) : Result Info Error → Bool → Type 0 where
-  by_row : {read : RowRead} {info : Info} {new : Bool} → ReadsRow rows standing i (Some read) new → IsInfo info i read.parent_ids.items (told_generation read.generation) (Some read.time) → Reads objects faulty rows standing i (Ok info) new
-  by_text : {answer : Result Info Error} {new : Bool} → ReadsRow rows standing i None new → ReadsText objects faulty i answer → Reads objects faulty rows standing i answer new
+pub data Reads (objects : Objects) (faulty : ObjectId → Type 0) (rows : List GraphRow) (standing : Bool) (i : ObjectId) : Result Info Error → Bool
+    → Type 0 where
+  by_row : {read : RowRead} {info : Info} {new : Bool} → ReadsRow rows standing i (Some read) new
+      → IsInfo info i read.parent_ids.items (told_generation read.generation) (Some read.time) → Reads objects faulty rows standing i (Ok info) new
+  by_text : {answer : Result Info Error} {new : Bool} → ReadsRow rows standing i None new → ReadsText objects faulty i answer
+      → Reads objects faulty rows standing i answer new
   no_memory : {new : Bool} → Reads objects faulty rows standing i (Err error.Memory) new

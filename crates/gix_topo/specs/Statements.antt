@@ -1,5 +1,6 @@
 -- The statements of the laws of topological walks, over any store and predicate.
-use Rattle.std.specs.Prelude.{◌≡◌, ◌↔◌, ◌≤◌, ℕ, ℤ, List, [], ◌++◌, Bool, true, Option, Some, None, Result, Ok, Err, All, Contains, filter, length, slice_get, take}
+use Rattle.std.specs.Prelude.{◌≡◌, ◌↔◌, ◌≤◌, ℕ, ℤ, List, [], ◌++◌, Bool, true, Option, Some, None, Result, Ok, Err, All, Contains, filter,
+    length, slice_get, take}
 use Rattle.std.specs.List.{AllZip}
 use Rattle.std.specs.Iterator.{Drains, Yields}
 use Rattle.gix_hash.specs.declared.ObjectId.{ObjectId}
@@ -17,8 +18,10 @@ use Rattle.gix_revwalk.specs.Ids.{AreDistinct}
 use Rattle.gix_topo.specs.WalkSet.{IsInWalk, IsAcyclicIn, IsChild}
 use Rattle.gix_topo.specs.DateOrder.{IsDateOrder, IsDateBeginning}
 use Rattle.gix_topo.specs.TopoOrder.{IsTopoOrder, IsTopoBeginning}
-use Rattle.gix_topo.specs.Walk.{TopoPlan, TopoWalk, walked_of, row_generation, IsMember, IsStarted, IsSound, IsLeft, IsFault, IsLate, IsCounting, IsKnown, Next, text_walked, IsTextMember}
-use Rattle.gix_topo.specs.Laws.{IsTakenInOrder, IsTakenFirst, IsWholeRun, IsGiven, GivesInOrder, BeginsInOrder, GivesDifference, IsNoRefusal, answers_left, given_ids, IsTakenByText, GivesTextOrder, BeginsTextOrder, GivesTextDifference}
+use Rattle.gix_topo.specs.Walk.{TopoPlan, TopoWalk, walked_of, row_generation, IsMember, IsStarted, IsSound, IsLeft, IsFault, IsLate,
+    IsCounting, IsKnown, Next, text_walked, IsTextMember}
+use Rattle.gix_topo.specs.Laws.{IsTakenInOrder, IsTakenFirst, IsWholeRun, IsGiven, GivesInOrder, BeginsInOrder, GivesDifference,
+    IsNoRefusal, answers_left, given_ids, IsTakenByText, GivesTextOrder, BeginsTextOrder, GivesTextDifference}
 use Rattle.gix_revwalk.specs.Asking.{AnswersBy, AsksAll}
 
 -- there is at most one list of the members of a walk in topological order
@@ -181,7 +184,8 @@ module _ {F P : Type 0} (objects : F → Objects) (faulty : F → ObjectId → T
   FailsForItsReason =
       (walk new : TopoWalk F P) (e : Error)
       → Next objects faulty answers walk (Some (Err e)) new
-      → IsFault objects faulty walk.plan (IsLeft objects walk.plan walk.taken) e × IsLate objects walk.plan (IsLeft objects walk.plan walk.taken) e × ((answer : Option (Result Info Error)) (later : TopoWalk F P) → Next objects faulty answers new answer later → answer ≡ None)
+      → IsFault objects faulty walk.plan (IsLeft objects walk.plan walk.taken) e × IsLate objects walk.plan (IsLeft objects walk.plan walk.taken) e
+      × ((answer : Option (Result Info Error)) (later : TopoWalk F P) → Next objects faulty answers new answer later → answer ≡ None)
 
   -- after the end nothing is ready, and nothing follows
   abbrev pub StaysEnded : Type 0

@@ -1,5 +1,6 @@
 -- What a topological walk holds, as its callers see it, and what one call of it may do.
-use Rattle.std.specs.Prelude.{◌≡◌, ◌≢◌, ◌⊎◌, ◌≤◌, ◌≤ℤ◌, ℕ, ℤ, List, [], ◌∷◌, ◌++◌, map, drop, length, Bool, true, false, ◌||◌, Option, Some, None, Result, Ok, Err, Contains, IsPermutation}
+use Rattle.std.specs.Prelude.{◌≡◌, ◌≢◌, ◌⊎◌, ◌≤◌, ◌≤ℤ◌, ℕ, ℤ, List, [], ◌∷◌, ◌++◌, map, drop, length, Bool, true, false, ◌||◌, Option, Some,
+    None, Result, Ok, Err, Contains, IsPermutation}
 use Rattle.std.specs.List.{flat_map}
 use Rattle.std.specs.FinMap as map_of
 use Rattle.std.specs.Iterator.{Drains}
@@ -243,7 +244,8 @@ module _ {F : Type 0} (objects : F → Objects) (faulty : F → ObjectId → Typ
   pub record IsSound : Type 0 where
     pub agreeing : IsAgreeing (objects plan.store) plan.rows
     pub tips_whole : (i : ObjectId) → Reaches (walked_of objects plan) plan.tips i → ReadsWhole (objects plan.store) i
-    pub parents_whole : (c i : ObjectId) → Reaches (walked_of objects plan) plan.tips c → Contains (parents_of (objects plan.store) c) i → ReadsWhole (objects plan.store) i
+    pub parents_whole : (c i : ObjectId) → Reaches (walked_of objects plan) plan.tips c → Contains (parents_of (objects plan.store) c) i
+        → ReadsWhole (objects plan.store) i
     pub ends_whole : (i : ObjectId) → Reaches (parents_of (objects plan.store)) plan.ends i → ReadsWhole (objects plan.store) i
 
   -- when a commit that the store can't give is met
@@ -260,7 +262,8 @@ module _ {F : Type 0} (objects : F → Objects) (faulty : F → ObjectId → Typ
   abbrev pub IsFault : (ObjectId → Type 0) → Error → Type 0
   IsFault BecomesReady error.MissingIndegreeUnexpected = IsAgreeing (objects plan.store) plan.rows → ⊥
   IsFault BecomesReady error.MissingStateUnexpected = ⊥
-  IsFault BecomesReady (error.Find e) = (i : ObjectId) × IsExistingFault (objects plan.store) (faulty plan.store) i object.Commit e × IsMetFault BecomesReady i (error.Find e)
+  IsFault BecomesReady (error.Find e) =
+      (i : ObjectId) × IsExistingFault (objects plan.store) (faulty plan.store) i object.Commit e × IsMetFault BecomesReady i (error.Find e)
   IsFault BecomesReady (error.ObjectDecode e) = (i : ObjectId) × IsTextFault (objects plan.store) i e × IsMetFault BecomesReady i (error.ObjectDecode e)
   IsFault BecomesReady error.Memory = Unit {0}
 
@@ -336,16 +339,24 @@ module _ {F P : Type 0} (objects : F → Objects) (faulty : F → ObjectId → T
   -- one call of `next`: refused commits are taken too, and the call goes on
   pub data Next : TopoWalk F P → Option (Result Info Error) → TopoWalk F P → Type 0 where
     ended : {old : TopoWalk F P} → old.ready ≡ [] → Next old None old
-    given : {old : TopoWalk F P} {c : Ready} {counted : Counted} {ready : List Ready} {predicate : P} {info : Info} → Takes old c counted ready → answers old.predicate c.id true predicate → IsInfo info c.id c.parents c.generation (Some c.time) → Next old (Some (Ok info)) (after old c counted ready predicate)
-    refused : {old new : TopoWalk F P} {c : Ready} {counted : Counted} {ready : List Ready} {predicate : P} {answer : Option (Result Info Error)} → Takes old c counted ready → answers old.predicate c.id false predicate → Next (after old c counted ready predicate) answer new → Next old answer new
-    failed : {old : TopoWalk F P} (c : Ready) (others : List Ready) {counted : Counted} {taken : set.FinSet id_cmp} {e : Error} → Chooses old.plan.sorting old.ready c others → IsFault objects faulty old.plan (IsNextReady objects old.plan old.taken c.id) e → IsLate objects old.plan (IsNextReady objects old.plan old.taken c.id) e → Next old (Some (Err e)) (record old { counted = counted; ready = []; taken = taken })
+    given : {old : TopoWalk F P} {c : Ready} {counted : Counted} {ready : List Ready} {predicate : P} {info : Info} → Takes old c counted ready
+        → answers old.predicate c.id true predicate → IsInfo info c.id c.parents c.generation (Some c.time)
+        → Next old (Some (Ok info)) (after old c counted ready predicate)
+    refused : {old new : TopoWalk F P} {c : Ready} {counted : Counted} {ready : List Ready} {predicate : P} {answer : Option (Result Info Error)}
+        → Takes old c counted ready → answers old.predicate c.id false predicate → Next (after old c counted ready predicate) answer new → Next old answer new
+    failed : {old : TopoWalk F P} (c : Ready) (others : List Ready) {counted : Counted} {taken : set.FinSet id_cmp} {e : Error}
+        → Chooses old.plan.sorting old.ready c others → IsFault objects faulty old.plan (IsNextReady objects old.plan old.taken c.id) e
+        → IsLate objects old.plan (IsNextReady objects old.plan old.taken c.id) e
+        → Next old (Some (Err e)) (record old { counted = counted; ready = []; taken = taken })
 
 -- a fresh builder over a store, with these tips
 abbrev pub fresh_builder : {F P : Type 0} → F → P → List ObjectId → TopoBuilder F P
-fresh_builder store predicate tips = record { plan = record { store = store; rows = []; parents = mode.All; sorting = order.DateOrder; tips = tips; ends = [] }; predicate = predicate }
+fresh_builder store predicate tips =
+    record { plan = record { store = store; rows = []; parents = mode.All; sorting = order.DateOrder; tips = tips; ends = [] }; predicate = predicate }
 
 -- and with the ends that an iterator gives, if there is one
 abbrev pub IsFromEnds : {F P E I : Type 0} → (E → I → Type 0) → (I → Option ObjectId → I → Type 0) → F → P → List ObjectId → Option E → TopoBuilder F P → Type 0
 IsFromEnds gives next store predicate tips None builder = builder ≡ fresh_builder store predicate tips
 IsFromEnds {I = I} gives next store predicate tips (Some ends) builder =
-    (it : I) × (ids : List ObjectId) × gives ends it × Drains next it ids × (builder ≡ (let b = fresh_builder store predicate tips in record b { plan = record b.plan { ends = ids } }))
+    (it : I) × (ids : List ObjectId) × gives ends it × Drains next it ids
+    × (builder ≡ (let b = fresh_builder store predicate tips in record b { plan = record b.plan { ends = ids } }))

@@ -67,7 +67,8 @@ calls_at_level =
 -- `breadthfirst` over the root
 pub levels : IsLevelScript sample NotFound unknown_root root
     (calls_at_level ++ PushPath (codes "x") ∷ VisitNontree (file (codes "x") 2) yes ∷ PopPath ∷ [])
-    (visit unknown_root (file (codes "a") 1) yes ∷ visit unknown_root (tree (codes "d") 13) yes ∷ visit unknown_root (file (codes "e") 3) yes ∷ visit at_d (file (codes "x") 2) yes ∷ []) Whole
+    (visit unknown_root (file (codes "a") 1) yes ∷ visit unknown_root (tree (codes "d") 13) yes ∷ visit unknown_root (file (codes "e") 3) yes
+    ∷ visit at_d (file (codes "x") 2) yes ∷ []) Whole
 levels = script.leaves refl refl (script.enters refl refl (script.leaves refl refl (script.turn refl refl (script.leaves refl refl (script.whole refl)))))
 
 -- where the tree `d` is skipped
@@ -79,17 +80,20 @@ pub levels_skipped : IsLevelScript sample NotFound unknown_root root
 levels_skipped = script.leaves refl refl (script.leaves refl refl (script.leaves refl refl (script.whole refl)))
 
 -- where the first visit breaks
-pub levels_broken : IsLevelScript sample NotFound unknown_root root (PushPath (codes "a") ∷ VisitNontree (file (codes "a") 1) (Break tt) ∷ []) (visit unknown_root (file (codes "a") 1) (Break tt) ∷ []) Broken
+pub levels_broken : IsLevelScript sample NotFound unknown_root root (PushPath (codes "a") ∷ VisitNontree (file (codes "a") 1) (Break tt) ∷ [])
+    (visit unknown_root (file (codes "a") 1) (Break tt) ∷ []) Broken
 levels_broken = script.breaks refl refl
 
 -- where the tree `d` isn't stored
 pub levels_torn : IsLevelScript torn NotFound unknown_root root calls_at_level
-    (visit unknown_root (file (codes "a") 1) yes ∷ visit unknown_root (tree (codes "d") 13) yes ∷ visit unknown_root (file (codes "e") 3) yes ∷ []) (Failed (error.Find (existing.NotFound (n 13))))
+    (visit unknown_root (file (codes "a") 1) yes ∷ visit unknown_root (tree (codes "d") 13) yes ∷ visit unknown_root (file (codes "e") 3) yes ∷ [])
+    (Failed (error.Find (existing.NotFound (n 13))))
 levels_torn = script.leaves refl refl (script.enters refl refl (script.leaves refl refl (script.not_found refl refl)))
 
 -- `breadthfirst` over the tree under itself
 pub levels_cycle : IsLevelScript sample NotFound unknown_root itself
-    (PushPath (codes "d") ∷ VisitTree (tree (codes "d") 7) yes ∷ PopPath ∷ PushBack (codes "d") ∷ PopPath ∷ PopFront ∷ PushPath (codes "d") ∷ VisitTree (tree (codes "d") 7) yes ∷ [])
+    (PushPath (codes "d") ∷ VisitTree (tree (codes "d") 7) yes ∷ PopPath ∷ PushBack (codes "d") ∷ PopPath ∷ PopFront ∷ PushPath (codes "d")
+    ∷ VisitTree (tree (codes "d") 7) yes ∷ [])
     (visit unknown_root (tree (codes "d") 7) yes ∷ visit (inside unknown_root (tree (codes "d") 7)) (tree (codes "d") 7) yes ∷ []) (Failed (error.Cycle (n 7)))
 levels_cycle = script.enters refl refl (script.turn refl refl (script.cycles refl refl))
 
@@ -99,18 +103,23 @@ pub depth : IsDepthScript sample NotFound (n 10)
     ∷ PushPath (codes "d") ∷ VisitTree (tree (codes "d") 13) yes ∷ PopPath ∷ PushBack [] ∷ PushBack (codes "d")
     ∷ PopBack ∷ PushPath (codes "x") ∷ VisitNontree (file (codes "x") 2) yes ∷ PopPath
     ∷ PopBack ∷ PushPath (codes "e") ∷ VisitNontree (file (codes "e") 3) yes ∷ PopPath ∷ [])
-    (visit (known_root (n 10)) (file (codes "a") 1) yes ∷ visit (known_root (n 10)) (tree (codes "d") 13) yes ∷ visit (inside (known_root (n 10)) (tree (codes "d") 13)) (file (codes "x") 2) yes ∷ visit (known_root (n 10)) (file (codes "e") 3) yes ∷ []) Whole
+    (visit (known_root (n 10)) (file (codes "a") 1) yes ∷ visit (known_root (n 10)) (tree (codes "d") 13) yes
+    ∷ visit (inside (known_root (n 10)) (tree (codes "d") 13)) (file (codes "x") 2) yes ∷ visit (known_root (n 10)) (file (codes "e") 3) yes ∷ []) Whole
 depth = script.found refl (script.leaves refl (script.enters refl refl (script.leaves refl script.whole) (script.leaves refl script.whole)))
 
 -- `depthfirst` over the tree under itself
-pub depth_cycle : IsDepthScript sample NotFound (n 7) (PopBack ∷ PushPath (codes "d") ∷ VisitTree (tree (codes "d") 7) yes ∷ PopPath ∷ []) (visit (known_root (n 7)) (tree (codes "d") 7) yes ∷ []) (Failed (error.Cycle (n 7)))
+pub depth_cycle : IsDepthScript sample NotFound (n 7) (PopBack ∷ PushPath (codes "d") ∷ VisitTree (tree (codes "d") 7) yes ∷ PopPath ∷ [])
+    (visit (known_root (n 7)) (tree (codes "d") 7) yes ∷ []) (Failed (error.Cycle (n 7)))
 depth_cycle = script.found refl (script.cycles refl)
 
 -- `Break` at a tree: `depthfirst` takes the name away again, and at another entry it doesn't
-pub depth_broken_at_tree : IsDepthScript sample NotFound (n 7) (PopBack ∷ PushPath (codes "d") ∷ VisitTree (tree (codes "d") 7) (Break tt) ∷ PopPath ∷ []) (visit (known_root (n 7)) (tree (codes "d") 7) (Break tt) ∷ []) Broken
+pub depth_broken_at_tree : IsDepthScript sample NotFound (n 7)
+    (PopBack ∷ PushPath (codes "d") ∷ VisitTree (tree (codes "d") 7) (Break tt) ∷ PopPath ∷ [])
+    (visit (known_root (n 7)) (tree (codes "d") 7) (Break tt) ∷ []) Broken
 depth_broken_at_tree = script.found refl (script.breaks refl)
 
-pub depth_broken_at_file : IsDepthScript sample NotFound (n 10) (PopBack ∷ PushPath (codes "a") ∷ VisitNontree (file (codes "a") 1) (Break tt) ∷ []) (visit (known_root (n 10)) (file (codes "a") 1) (Break tt) ∷ []) Broken
+pub depth_broken_at_file : IsDepthScript sample NotFound (n 10) (PopBack ∷ PushPath (codes "a") ∷ VisitNontree (file (codes "a") 1) (Break tt) ∷ [])
+    (visit (known_root (n 10)) (file (codes "a") 1) (Break tt) ∷ []) Broken
 depth_broken_at_file = script.found refl (script.breaks refl)
 
 -- RECORDERS
@@ -144,7 +153,8 @@ pub no_paths : paths (recorded_all None fresh calls_in_depth) ≡ [] ∷ [] ∷ 
 no_paths = refl
 
 -- a recorder that is used again starts below its last path
-pub used_again : paths (recorded_all (Some Path) (recorded_all (Some Path) fresh calls_by_level) calls_by_level) ≡ codes "a" ∷ codes "d" ∷ codes "e" ∷ codes "d/x" ∷ codes "d/a" ∷ codes "d/d" ∷ codes "d/e" ∷ codes "d/d/x" ∷ []
+pub used_again : paths (recorded_all (Some Path) (recorded_all (Some Path) fresh calls_by_level) calls_by_level)
+    ≡ codes "a" ∷ codes "d" ∷ codes "e" ∷ codes "d/x" ∷ codes "d/a" ∷ codes "d/d" ∷ codes "d/e" ∷ codes "d/d/x" ∷ []
 used_again = refl
 
 -- TWO TREES OF ONE ID: each is shown
@@ -163,9 +173,13 @@ pub twin_levels : IsLevelScript sample NotFound unknown_root twins
     ∷ PushPath (codes "e") ∷ VisitTree (tree (codes "e") 13) yes ∷ PopPath ∷ PushBack (codes "e") ∷ PopPath
     ∷ PopFront ∷ PushPath (codes "x") ∷ VisitNontree (file (codes "x") 2) yes ∷ PopPath
     ∷ PopFront ∷ PushPath (codes "x") ∷ VisitNontree (file (codes "x") 2) yes ∷ PopPath ∷ [])
-    (at_root (tree (codes "d") 13) ∷ at_root (tree (codes "e") 13) ∷ below_root (tree (codes "d") 13) (file (codes "x") 2) ∷ below_root (tree (codes "e") 13) (file (codes "x") 2) ∷ []) Whole
-twin_levels = script.enters refl refl (script.enters refl refl (script.turn refl refl (script.leaves refl refl (script.turn refl refl (script.leaves refl refl (script.whole refl))))))
+    (at_root (tree (codes "d") 13) ∷ at_root (tree (codes "e") 13)
+    ∷ below_root (tree (codes "d") 13) (file (codes "x") 2) ∷ below_root (tree (codes "e") 13) (file (codes "x") 2) ∷ []) Whole
+twin_levels =
+    script.enters refl refl (script.enters refl refl
+    (script.turn refl refl (script.leaves refl refl (script.turn refl refl (script.leaves refl refl (script.whole refl))))))
 
 -- the visits of the root's walk are in level order
-pub levels_are_in_order : IsLevelOrder (entries_at sample) unknown_root (entries_in root) (at_root (file (codes "a") 1) ∷ at_root (tree (codes "d") 13) ∷ at_root (file (codes "e") 3) ∷ below_root (tree (codes "d") 13) (file (codes "x") 2) ∷ [])
+pub levels_are_in_order : IsLevelOrder (entries_at sample) unknown_root (entries_in root)
+    (at_root (file (codes "a") 1) ∷ at_root (tree (codes "d") 13) ∷ at_root (file (codes "e") 3) ∷ below_root (tree (codes "d") 13) (file (codes "x") 2) ∷ [])
 levels_are_in_order = (refl, (refl, (refl, (refl, refl))))

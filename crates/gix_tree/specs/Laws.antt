@@ -76,7 +76,8 @@ pub record EndsAtBreak (calls_of : Visit → List Call) (calls : List Call) (vis
 
 -- whatever calls a delegate has had, it answers `Continue(true)` only at trees of which `into` is true
 abbrev pub GoesOnlyInto : {V : Type 0} → (V → Call → V → Type 0) → V → (TreeEntry → Bool) → Type 0
-GoesOnlyInto {V} steps old into = (calls : List Call) (mid new : V) (e : TreeEntry) → Run steps old calls mid → steps mid (VisitTree e (Continue true)) new → into e ≡ true
+GoesOnlyInto {V} steps old into = (calls : List Call) (mid new : V) (e : TreeEntry) → Run steps old calls mid
+    → steps mid (VisitTree e (Continue true)) new → into e ≡ true
 
 module _ (objects : Objects) (faulty : ObjectId → Type 0) where
   -- A fresh recorder holds one record for each visit of a walk by levels, with its path, in the order of the visits.
@@ -132,13 +133,16 @@ module _ {V : Type 0} (objects : Objects) (faulty : ObjectId → Type 0) (steps 
   abbrev pub MetLevelsSucceed : Type 0
   MetLevelsSucceed =
       (root : Items) (old new : V) (answer : Result (Unit {0}) Error) (walk : BreadthFirst objects faulty steps root old new answer) →
-      (NoneBreaks walk.visits → IsWhole root) → (NoneBreaks walk.visits → AllEnterWhole (trees_of objects) (LookUpFailed objects faulty answer) walk.visits) → answer ≢ Err error.Memory → IsUnfailed walk.end
+      (NoneBreaks walk.visits → IsWhole root) → (NoneBreaks walk.visits
+      → AllEnterWhole (trees_of objects) (LookUpFailed objects faulty answer) walk.visits) → answer ≢ Err error.Memory → IsUnfailed walk.end
 
   -- The same of a walk in depth.
   abbrev pub MetDepthSucceeds : Type 0
   MetDepthSucceeds =
       (root : ObjectId) (old new : V) (answer : Result (Unit {0}) Error) (walk : DepthFirst objects faulty steps root old new answer) →
-      (NoneBreaks walk.visits → IsWholeTree (trees_of objects) (LookUpFailed objects faulty answer) root) → (NoneBreaks walk.visits → AllEnterWhole (trees_of objects) (LookUpFailed objects faulty answer) walk.visits) → answer ≢ Err error.Memory → IsUnfailed walk.end
+      (NoneBreaks walk.visits → IsWholeTree (trees_of objects) (LookUpFailed objects faulty answer) root)
+      → (NoneBreaks walk.visits → AllEnterWhole (trees_of objects) (LookUpFailed objects faulty answer) walk.visits) → answer ≢ Err error.Memory
+      → IsUnfailed walk.end
 
   -- The same by premises on the delegate and the store, and on the answer only where look-ups may fail: a walk by levels fails
   -- only for memory, where the trees that the delegate may go into are stored, read whole and don't hold themselves. What it
@@ -146,13 +150,16 @@ module _ {V : Type 0} (objects : Objects) (faulty : ObjectId → Type 0) (steps 
   abbrev pub SoundLevelsSucceed : Type 0
   SoundLevelsSucceed =
       (root : Items) (old new : V) (answer : Result (Unit {0}) Error) (walk : BreadthFirst objects faulty steps root old new answer)
-      (into : TreeEntry → Bool) → GoesOnlyInto steps old into → IsWhole root → AreSound (trees_of objects) (LookUpFailed objects faulty answer) into (subtrees into (entries_in root)) → answer ≢ Err error.Memory → IsUnfailed walk.end
+      (into : TreeEntry → Bool) → GoesOnlyInto steps old into → IsWhole root
+      → AreSound (trees_of objects) (LookUpFailed objects faulty answer) into (subtrees into (entries_in root)) → answer ≢ Err error.Memory
+      → IsUnfailed walk.end
 
   -- The same of a walk in depth.
   abbrev pub SoundDepthSucceeds : Type 0
   SoundDepthSucceeds =
       (root : ObjectId) (old new : V) (answer : Result (Unit {0}) Error) (walk : DepthFirst objects faulty steps root old new answer)
-      (into : TreeEntry → Bool) → GoesOnlyInto steps old into → AreSound (trees_of objects) (LookUpFailed objects faulty answer) into (root ∷ []) → answer ≢ Err error.Memory → IsUnfailed walk.end
+      (into : TreeEntry → Bool) → GoesOnlyInto steps old into → AreSound (trees_of objects) (LookUpFailed objects faulty answer) into (root ∷ [])
+      → answer ≢ Err error.Memory → IsUnfailed walk.end
 
   -- A walk by levels in which a visit was answered `Break` ended there: its calls are the calls up to that visit, and the answer
   -- is `Cancelled`.

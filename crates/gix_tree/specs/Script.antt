@@ -7,7 +7,8 @@ use Rattle.gix_object.specs.declared.find.existing_iter.Error.{Error as Existing
 use Rattle.gix_object.specs.TreeItems.{TreeEntry, is_tree}
 use Rattle.gix_tree.specs.declared.breadthfirst.Error.TheVariants as error
 use Rattle.gix_tree.specs.Delegate.{Action, Call, PushPath, PopPath, PushBack, PopBack, PopFront, RefusedIn}
-use Rattle.gix_tree.specs.Visits.{Items, Place, Visit, visit, inside, Outcome, Leaves, Enters, Cycles, Breaks, outcome, visit_call, Ending, Whole, Broken, Failed, Task, Turn, Show, Fault, shows}
+use Rattle.gix_tree.specs.Visits.{Items, Place, Visit, visit, inside, Outcome, Leaves, Enters, Cycles, Breaks, outcome, visit_call, Ending,
+    Whole, Broken, Failed, Task, Turn, Show, Fault, shows}
 use Rattle.gix_tree.specs.Paths.{known_root}
 
 -- the calls of `breadthfirst` behind a visit, by what it leads to
@@ -79,18 +80,28 @@ module _ (trees : ObjectId → Option Items) (fails : ObjectId → ExistingError
   -- The calls, the visits and the ending of a walk by levels, from a state on. The state says what is to be done next.
   pub data LevelScript {S : Type 0} (next : S → Option Task) (after : S → Step → S) : S → List Call → List Visit → Ending → Type 0 where
     whole : {s : S} → next s ≡ None → LevelScript next after s [] [] Whole
-    leaves : {s : S} {p : Place} {e : TreeEntry} {a : Action} {calls : List Call} {visits : List Visit} {end : Ending} → next s ≡ Some (Show p e) → outcome (visit p e a) ≡ Leaves → LevelScript next after (after s (Visited (visit p e a))) calls visits end → LevelScript next after s (level_calls (visit p e a) ++ calls) (visit p e a ∷ visits) end
-    enters : {s : S} {p : Place} {e : TreeEntry} {a : Action} {calls : List Call} {visits : List Visit} {end : Ending} → next s ≡ Some (Show p e) → outcome (visit p e a) ≡ Enters → LevelScript next after (after s (Visited (visit p e a))) calls visits end → LevelScript next after s (level_calls (visit p e a) ++ calls) (visit p e a ∷ visits) end
-    breaks : {s : S} {p : Place} {e : TreeEntry} {a : Action} → next s ≡ Some (Show p e) → outcome (visit p e a) ≡ Breaks → LevelScript next after s (level_calls (visit p e a)) (visit p e a ∷ []) Broken
-    cycles : {s : S} {p : Place} {e : TreeEntry} {a : Action} → next s ≡ Some (Show p e) → outcome (visit p e a) ≡ Cycles → LevelScript next after s (level_calls (visit p e a)) (visit p e a ∷ []) (Failed (error.Cycle e.id))
-    turn : {s : S} {p : Place} {i : ObjectId} {items : Items} {calls : List Call} {visits : List Visit} {end : Ending} → next s ≡ Some (Turn p i) → trees i ≡ Some items → LevelScript next after (after s Entered) calls visits end → LevelScript next after s (PopFront ∷ calls) visits end
-    not_found : {s : S} {p : Place} {i : ObjectId} {why : ExistingError} → next s ≡ Some (Turn p i) → fails i why → LevelScript next after s (PopFront ∷ []) [] (Failed (error.Find why))
+    leaves : {s : S} {p : Place} {e : TreeEntry} {a : Action} {calls : List Call} {visits : List Visit} {end : Ending} → next s ≡ Some (Show p e)
+        → outcome (visit p e a) ≡ Leaves → LevelScript next after (after s (Visited (visit p e a))) calls visits end
+        → LevelScript next after s (level_calls (visit p e a) ++ calls) (visit p e a ∷ visits) end
+    enters : {s : S} {p : Place} {e : TreeEntry} {a : Action} {calls : List Call} {visits : List Visit} {end : Ending} → next s ≡ Some (Show p e)
+        → outcome (visit p e a) ≡ Enters → LevelScript next after (after s (Visited (visit p e a))) calls visits end
+        → LevelScript next after s (level_calls (visit p e a) ++ calls) (visit p e a ∷ visits) end
+    breaks : {s : S} {p : Place} {e : TreeEntry} {a : Action} → next s ≡ Some (Show p e) → outcome (visit p e a) ≡ Breaks
+        → LevelScript next after s (level_calls (visit p e a)) (visit p e a ∷ []) Broken
+    cycles : {s : S} {p : Place} {e : TreeEntry} {a : Action} → next s ≡ Some (Show p e) → outcome (visit p e a) ≡ Cycles
+        → LevelScript next after s (level_calls (visit p e a)) (visit p e a ∷ []) (Failed (error.Cycle e.id))
+    turn : {s : S} {p : Place} {i : ObjectId} {items : Items} {calls : List Call} {visits : List Visit} {end : Ending} → next s ≡ Some (Turn p i)
+        → trees i ≡ Some items → LevelScript next after (after s Entered) calls visits end → LevelScript next after s (PopFront ∷ calls) visits end
+    not_found : {s : S} {p : Place} {i : ObjectId} {why : ExistingError} → next s ≡ Some (Turn p i) → fails i why
+        → LevelScript next after s (PopFront ∷ []) [] (Failed (error.Find why))
     fault : {s : S} {why : DecodeError} → next s ≡ Some (Fault why) → LevelScript next after s [] [] (Failed (error.ObjectDecode why))
     -- a growth of the walk's own was refused, at a look-up or for a descent
     no_memory_in_turn : {s : S} {p : Place} {i : ObjectId} → next s ≡ Some (Turn p i) → LevelScript next after s (PopFront ∷ []) [] (Failed error.Memory)
-    no_memory_for_descent : {s : S} {p : Place} {e : TreeEntry} (a : Action) → next s ≡ Some (Show p e) → outcome (visit p e a) ≡ Enters → LevelScript next after s (PushPath e.name ∷ visit_call (visit p e a) ∷ []) [] (Failed error.Memory)
+    no_memory_for_descent : {s : S} {p : Place} {e : TreeEntry} (a : Action) → next s ≡ Some (Show p e) → outcome (visit p e a) ≡ Enters
+        → LevelScript next after s (PushPath e.name ∷ visit_call (visit p e a) ∷ []) [] (Failed error.Memory)
     -- a call on the delegate was refused; the visit that it belongs to isn't counted
-    refused : {s : S} {p : Place} {e : TreeEntry} {made : List Call} (a : Action) → next s ≡ Some (Show p e) → RefusedIn (level_calls (visit p e a)) made → LevelScript next after s made [] (Failed error.Memory)
+    refused : {s : S} {p : Place} {e : TreeEntry} {made : List Call} (a : Action) → next s ≡ Some (Show p e)
+        → RefusedIn (level_calls (visit p e a)) made → LevelScript next after s made [] (Failed error.Memory)
 
   -- the walk by levels over what is read of a root
   abbrev pub IsLevelScript : Place → Items → List Call → List Visit → Ending → Type 0
@@ -99,23 +110,37 @@ module _ (trees : ObjectId → Option Items) (fails : ObjectId → ExistingError
   -- The calls, the visits and the ending of a walk in depth, over what is read of one tree from some entry on.
   pub data DepthScript : Place → Items → List Call → List Visit → Ending → Type 0 where
     whole : {p : Place} → DepthScript p [] [] [] Whole
-    leaves : {p : Place} {e : TreeEntry} {a : Action} {items : Items} {calls : List Call} {visits : List Visit} {end : Ending} → outcome (visit p e a) ≡ Leaves → DepthScript p items calls visits end → DepthScript p (Ok e ∷ items) (depth_calls (visit p e a) ++ calls) (visit p e a ∷ visits) end
+    leaves : {p : Place} {e : TreeEntry} {a : Action} {items : Items} {calls : List Call} {visits : List Visit} {end : Ending}
+        → outcome (visit p e a) ≡ Leaves → DepthScript p items calls visits end
+        → DepthScript p (Ok e ∷ items) (depth_calls (visit p e a) ++ calls) (visit p e a ∷ visits) end
     -- the entry's tree is shown whole, and then what follows the entry
-    enters : {p : Place} {e : TreeEntry} {a : Action} {sub items : Items} {calls more : List Call} {visits others : List Visit} {end : Ending} → outcome (visit p e a) ≡ Enters → trees e.id ≡ Some sub → DepthScript (inside p e) sub calls visits Whole → DepthScript p items more others end → DepthScript p (Ok e ∷ items) (depth_calls (visit p e a) ++ (PopBack ∷ calls ++ PopBack ∷ more)) (visit p e a ∷ (visits ++ others)) end
+    enters : {p : Place} {e : TreeEntry} {a : Action} {sub items : Items} {calls more : List Call} {visits others : List Visit} {end : Ending}
+        → outcome (visit p e a) ≡ Enters → trees e.id ≡ Some sub → DepthScript (inside p e) sub calls visits Whole
+        → DepthScript p items more others end → DepthScript p (Ok e ∷ items) (depth_calls (visit p e a) ++ (PopBack ∷ calls ++ PopBack ∷ more))
+        (visit p e a ∷ (visits ++ others)) end
     -- the walk ends in the entry's tree
-    ends_inside : {p : Place} {e : TreeEntry} {a : Action} {sub items : Items} {calls : List Call} {visits : List Visit} {end : Ending} → outcome (visit p e a) ≡ Enters → trees e.id ≡ Some sub → DepthScript (inside p e) sub calls visits end → end ≢ Whole → DepthScript p (Ok e ∷ items) (depth_calls (visit p e a) ++ PopBack ∷ calls) (visit p e a ∷ visits) end
-    not_found : {p : Place} {e : TreeEntry} {a : Action} {items : Items} {why : ExistingError} → outcome (visit p e a) ≡ Enters → fails e.id why → DepthScript p (Ok e ∷ items) (depth_calls (visit p e a)) (visit p e a ∷ []) (Failed (error.Find why))
-    breaks : {p : Place} {e : TreeEntry} {a : Action} {items : Items} → outcome (visit p e a) ≡ Breaks → DepthScript p (Ok e ∷ items) (depth_calls (visit p e a)) (visit p e a ∷ []) Broken
-    cycles : {p : Place} {e : TreeEntry} {a : Action} {items : Items} → outcome (visit p e a) ≡ Cycles → DepthScript p (Ok e ∷ items) (depth_calls (visit p e a)) (visit p e a ∷ []) (Failed (error.Cycle e.id))
+    ends_inside : {p : Place} {e : TreeEntry} {a : Action} {sub items : Items} {calls : List Call} {visits : List Visit} {end : Ending}
+        → outcome (visit p e a) ≡ Enters → trees e.id ≡ Some sub → DepthScript (inside p e) sub calls visits end → end ≢ Whole
+        → DepthScript p (Ok e ∷ items) (depth_calls (visit p e a) ++ PopBack ∷ calls) (visit p e a ∷ visits) end
+    not_found : {p : Place} {e : TreeEntry} {a : Action} {items : Items} {why : ExistingError} → outcome (visit p e a) ≡ Enters → fails e.id why
+        → DepthScript p (Ok e ∷ items) (depth_calls (visit p e a)) (visit p e a ∷ []) (Failed (error.Find why))
+    breaks : {p : Place} {e : TreeEntry} {a : Action} {items : Items} → outcome (visit p e a) ≡ Breaks
+        → DepthScript p (Ok e ∷ items) (depth_calls (visit p e a)) (visit p e a ∷ []) Broken
+    cycles : {p : Place} {e : TreeEntry} {a : Action} {items : Items} → outcome (visit p e a) ≡ Cycles
+        → DepthScript p (Ok e ∷ items) (depth_calls (visit p e a)) (visit p e a ∷ []) (Failed (error.Cycle e.id))
     fault : {p : Place} {why : DecodeError} {items : Items} → DepthScript p (Err why ∷ items) [] [] (Failed (error.ObjectDecode why))
     -- a growth of the walk's own was refused, at a look-up or for a descent
-    no_memory_at_look_up : {p : Place} {e : TreeEntry} {a : Action} {items : Items} → outcome (visit p e a) ≡ Enters → DepthScript p (Ok e ∷ items) (depth_calls (visit p e a)) (visit p e a ∷ []) (Failed error.Memory)
-    no_memory_for_descent : {p : Place} {e : TreeEntry} {items : Items} (a : Action) → outcome (visit p e a) ≡ Enters → DepthScript p (Ok e ∷ items) (PushPath e.name ∷ visit_call (visit p e a) ∷ PopPath ∷ []) [] (Failed error.Memory)
+    no_memory_at_look_up : {p : Place} {e : TreeEntry} {a : Action} {items : Items} → outcome (visit p e a) ≡ Enters
+        → DepthScript p (Ok e ∷ items) (depth_calls (visit p e a)) (visit p e a ∷ []) (Failed error.Memory)
+    no_memory_for_descent : {p : Place} {e : TreeEntry} {items : Items} (a : Action) → outcome (visit p e a) ≡ Enters
+        → DepthScript p (Ok e ∷ items) (PushPath e.name ∷ visit_call (visit p e a) ∷ PopPath ∷ []) [] (Failed error.Memory)
     -- a call on the delegate was refused; the visit that it belongs to isn't counted
-    refused : {p : Place} {e : TreeEntry} {items : Items} {made : List Call} (a : Action) → RefusedIn (depth_calls (visit p e a)) made → DepthScript p (Ok e ∷ items) made [] (Failed error.Memory)
+    refused : {p : Place} {e : TreeEntry} {items : Items} {made : List Call} (a : Action) → RefusedIn (depth_calls (visit p e a)) made
+        → DepthScript p (Ok e ∷ items) made [] (Failed error.Memory)
 
   -- the walk in depth from the id of its root, which is looked up first
   pub data IsDepthScript (root : ObjectId) : List Call → List Visit → Ending → Type 0 where
-    found : {items : Items} {calls : List Call} {visits : List Visit} {end : Ending} → trees root ≡ Some items → DepthScript (known_root root) items calls visits end → IsDepthScript root (PopBack ∷ calls) visits end
+    found : {items : Items} {calls : List Call} {visits : List Visit} {end : Ending} → trees root ≡ Some items
+        → DepthScript (known_root root) items calls visits end → IsDepthScript root (PopBack ∷ calls) visits end
     not_found : {why : ExistingError} → fails root why → IsDepthScript root [] [] (Failed (error.Find why))
     no_memory : IsDepthScript root [] [] (Failed error.Memory)
