@@ -1,13 +1,13 @@
 -- A simple walk without hidden tips that ends well has found each commit that its tips reach, where those that are stored read whole.
-use Rattle.std.specs.Prelude.{◌≡◌, ◌≢◌, ◌⊎◌, ◌≤◌, ℕ, ℤ, List, [], ◌∷◌, ◌++◌, map, Bool, true, false, ◌||◌, Option, None, Some, Result, Ok, Err, Contains, IsSome, cond}
+use Rattle.std.specs.Prelude.{◌≡◌, ◌⊎◌, ◌≤◌, ℕ, List, [], ◌∷◌, ◌++◌, Bool, true, false, ◌||◌, None, Some, Ok, Contains, IsSome}
 use Rattle.std.specs.FinMap as map_of
 use Rattle.std.specs.FinSet as set
 use Rattle.std.specs.Iterator.{Drains}
 use Rattle.std.proofs.Common.{refl, sym, ap, subst, inl, inr, ⊎_elim, ◌∙◌, arith}
-use Rattle.std.proofs.lemmas.Bool.{true≢false, false≢true, true_from_ne_false, or_left, or_right, or_cases}
+use Rattle.std.proofs.lemmas.Bool.{true≢false, false≢true, true_from_ne_false, or_cases}
 use Rattle.std.proofs.lemmas.List.Elements.{Contains-append_left, Contains-append_right, Contains-append_cases}
 use Rattle.gix_hash.specs.declared.ObjectId.{ObjectId}
-use Rattle.gix_hash.specs.Id.{id_cmp, is_same, is_among, kind_of}
+use Rattle.gix_hash.specs.Id.{id_cmp, is_same, kind_of}
 use Rattle.gix_object.specs.declared.Kind.TheVariants as object
 use Rattle.gix_object.specs.CommitItems.{commit_items}
 use Rattle.gix_object.specs.CommitText.{read_commit}
@@ -20,8 +20,7 @@ use Rattle.gix_revwalk.specs.declared.Pending.{Pending}
 use Rattle.gix_revwalk.specs.Commits.{ReadsWhole, by_mode, commit_at, commit_of_object, parents_in, parents_of}
 use Rattle.gix_revwalk.specs.Ids.{ids_of, times}
 use Rattle.gix_revwalk.specs.Texts.{scanned}
-use Rattle.gix_simple.specs.declared.Sorting.{Sorting}
-use Rattle.gix_simple.specs.Walk.{Treated, GoesOn, time_order, cutoff, is_older, asked, unrowed, Asks, asks, Enqueues, dropped, enqueued, Treats, hidden, known, refused, accepted, TreatsAll, none, more, stops, Concludes, given, Takes, by_row, by_store, Chooses, first, best, Steps, ended, took, Next, unhidden, paints}
+use Rattle.gix_simple.specs.Walk.{Treated, GoesOn, time_order, cutoff, is_older, asked, unrowed, asks, dropped, enqueued, Treats, hidden, known, refused, accepted, TreatsAll, none, more, stops, given, Takes, by_row, by_store, Chooses, first, best, Steps, ended, took, unhidden, paints}
 use Rattle.gix_hash.proofs.Ids.Membership.{id_total, among_from, among_is, same_is, same_itself, Contains-here, Contains-there, Contains-cons_cases, no_member}
 use Rattle.gix_revwalk.proofs.Drained.{at_end, at_first}
 use Rattle.gix_revwalk.proofs.NewIds.{among_times, times_none}
