@@ -65,7 +65,7 @@ SimpleLists =
     (ids : List ObjectId) × Lists (stored records) by tips hidden ids × Appends old new (lines_of_ids ids)
 
 -- Where the records are a part of a store, a run that ends well writes such a list of the whole store, whatever else is in it. Without
--- hidden tips this asks that all that the tips reach are whole commits of that store, and nothing of what the records lack.
+-- hidden tips this asks that all that the tips reach are whole commits of that store. Of the records it asks nothing more.
 abbrev pub SimpleListsOfPart : Type 0
 SimpleListsOfPart =
     (words : List (List ℕ)) (input : List ℕ) (records : List Record) (by : Sorting) (tips hidden : List ObjectId)
@@ -90,7 +90,7 @@ TopoLists =
     (ids : List ObjectId) × ListsDown (stored records) by tips ends ids × Appends old new (lines_of_ids ids)
 
 -- Where the records are a part of a store, a run of `topo` or `date` that ends well writes such a list of the whole store, whatever else is
--- in it. This asks that all that tips and ends reach are whole commits of that store, and nothing of what the records lack.
+-- in it. This asks that all that tips and ends reach are whole commits of that store. Of the records it asks nothing more.
 abbrev pub TopoListsOfPart : Type 0
 TopoListsOfPart =
     (words : List (List ℕ)) (input : List ℕ) (records : List Record) (by : TopoSorting) (tips ends : List ObjectId)

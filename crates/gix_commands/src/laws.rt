@@ -12,7 +12,7 @@ pub fn simple_lists()
 {}
 
 /// Where the records are a part of a repository, such a list is right of the whole repository, whatever else is in it. Without hidden
-/// tips this asks that all that the tips reach are whole commits of the repository, and nothing of what the records lack.
+/// tips this asks that all that the tips reach are whole commits of the repository. Of the records it asks nothing more.
 pub fn simple_lists_of_part()
     ensures { SimpleListsOfPart }
 {}
@@ -29,7 +29,7 @@ pub fn topo_lists()
 {}
 
 /// Where the records are a part of a repository, such a list of `topo` or `date` is right of the whole repository, whatever else is in it.
-/// This asks that all that tips and ends reach are whole commits of the repository, and nothing of what the records lack.
+/// This asks that all that tips and ends reach are whole commits of the repository. Of the records it asks nothing more.
 pub fn topo_lists_of_part()
     ensures { TopoListsOfPart }
 {}
