@@ -45,7 +45,7 @@ abbrev pub IsPending : Walk → ObjectId → Type 0
 IsPending w i = Contains (ids_of w.pending) i
 
 -- what the treatment of ids changes
-record Treated_so (ids : List ObjectId) (old new : Walk) : Type 0 where
+record TreatedSo (ids : List ObjectId) (old new : Walk) : Type 0 where
   others : new ≡ record old { predicate = new.predicate; pending = new.pending; seen = new.seen; remembered = new.remembered }
   seen_still : (i : ObjectId) → IsSeen old i → IsSeen new i
   all_seen : (i : ObjectId) → Contains ids i → IsSeen new i
@@ -58,13 +58,13 @@ pub record IsOpen (w : Walk) : Type 0 where
   shown : (i : ObjectId) → set.contains w.hidden i ≡ false
   uncut : cutoff w.parents w.sorting ≡ None
 
-open_on : {ids : List ObjectId} {old new : Walk} → Treated_so ids old new → IsOpen old → IsOpen new
+open_on : {ids : List ObjectId} {old new : Walk} → TreatedSo ids old new → IsOpen old → IsOpen new
 open_on t o = record {
   shown = λ i. ap (λ w. set.contains w.hidden i) t.others ∙ o.shown i;
   uncut = ap (λ w. cutoff w.parents w.sorting) t.others ∙ o.uncut;
 }
 
-one_treated : (old : Walk) (i : ObjectId) {new : Walk} → IsOpen old → Treats objects_of never_faulty accepts_all old false i GoesOn new → Treated_so (i ∷ []) old new
+one_treated : (old : Walk) (i : ObjectId) {new : Walk} → IsOpen old → Treats objects_of never_faulty accepts_all old false i GoesOn new → TreatedSo (i ∷ []) old new
 one_treated old i o (hidden e) = absurd (true≢false (sym e ∙ o.shown i))
 one_treated old i o (known e) = record {
   others = refl;
@@ -101,11 +101,11 @@ one_treated old i o (accepted {predicate = q} {time = time} is_new a reads (enqu
     here : Contains (ids_of ps) i
     here = same_members i (ids_of old.pending ++ i ∷ []) (ids_of ps) (sym (counts i)) (Contains-append_right (ids_of old.pending) (i ∷ []) i (Contains-here i []))
 
-all_treated : {ids : List ObjectId} {old new : Walk} {how : Treated} → IsOpen old → how ≡ GoesOn → TreatsAll objects_of never_faulty accepts_all false old ids how new → Treated_so ids old new
+all_treated : {ids : List ObjectId} {old new : Walk} {how : Treated} → IsOpen old → how ≡ GoesOn → TreatsAll objects_of never_faulty accepts_all false old ids how new → TreatedSo ids old new
 all_treated o on none = record { others = refl; seen_still = λ j s. s; all_seen = λ j c. absurd (no_member j c); pending_still = λ j p. p; seen_new = λ j s. inl s; pending_new = λ j p. inl p }
 all_treated o on (more {old = old} {mid = mid} {new = new} {i = i} {ids = ids} t ts) =
-    let a : Treated_so (i ∷ []) old mid = one_treated old i o t in
-    let b : Treated_so ids mid new = all_treated (open_on a o) on ts in
+    let a : TreatedSo (i ∷ []) old mid = one_treated old i o t in
+    let b : TreatedSo ids mid new = all_treated (open_on a o) on ts in
     record {
       others = b.others ∙ ap {A = Walk} {B = Walk} (λ w. record w { predicate = new.predicate; pending = new.pending; seen = new.seen; remembered = new.remembered }) a.others;
       seen_still = λ j s. b.seen_still j (a.seen_still j s);
@@ -163,7 +163,7 @@ module _ (objects : Objects) (tips : List ObjectId) (sound : (i : ObjectId) → 
           let is : whole.commit.parents ≡ parents_of objects p.id = sym (ap parents_in whole.stored) in
           ap (λ t. t.0) (scan_is (kind_of p.id) bytes whole.commit reads w.parents) ∙ (λ k. by_mode (g.all_parents k) (is k))
 
-      module _ (walk : Walk) (t : Treated_so (scanned w.parents (commit_items (kind_of p.id) bytes)).0 (unrowed left p.id) walk) where
+      module _ (walk : Walk) (t : TreatedSo (scanned w.parents (commit_items (kind_of p.id) bytes)).0 (unrowed left p.id) walk) where
         done_now : IsDone walk.seen p.id
         done_now = record { whole = whole; parents_seen = λ j m. t.all_seen j (subst (λ xs. Contains xs j) (sym named) m) }
 
