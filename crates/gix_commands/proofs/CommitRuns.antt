@@ -70,8 +70,7 @@ module _ (some all : Objects) (part : IsPartOf some all) (by : Sorting) (tips hi
   lists_of_all : (old new : Option (List ℕ)) → Serves some old (Commits (Simple by) tips hidden) (Ok tt) new → (ids : List ObjectId) × Lists all by tips hidden ids × Appends old new (lines_of_ids ids)
   lists_of_all old new (walked walk infos starts ends written) =
       let met : hidden ≡ [] → AreWhole some tips = met_whole walk infos starts ends in
-      let l : Lists some by tips hidden (map (λ info. info.id) infos) = listed some by tips hidden old new named met walk infos starts ends in
-      (
+      let l : Lists some by tips hidden (map (λ info. info.id) infos) = listed some by tips hidden old new named met walk infos starts ends in (
         map (λ info. info.id) infos,
         lists_of_part some all part by tips hidden (map (λ info. info.id) infos) (read_whole some by tips hidden old new named met walk infos starts ends) l,
         subst (Appends old new) (lines_by_ids infos) written,

@@ -1,13 +1,13 @@
 -- A simple walk without hidden tips that ends well has found each commit that its tips reach, where those that are stored read whole.
-use Rattle.std.specs.Prelude.{◌≡◌, ◌≢◌, ◌⊎◌, ◌≤◌, ℕ, ℤ, List, [], ◌∷◌, ◌++◌, map, Bool, true, false, ◌||◌, Option, None, Some, Result, Ok, Err, Contains, IsSome, cond}
+use Rattle.std.specs.Prelude.{◌≡◌, ◌⊎◌, ◌≤◌, ℕ, List, [], ◌∷◌, ◌++◌, Bool, true, false, ◌||◌, None, Some, Ok, Contains, IsSome}
 use Rattle.std.specs.FinMap as map_of
 use Rattle.std.specs.FinSet as set
 use Rattle.std.specs.Iterator.{Drains}
 use Rattle.std.proofs.Common.{refl, sym, ap, subst, inl, inr, ⊎_elim, ◌∙◌, arith}
-use Rattle.std.proofs.lemmas.Bool.{true≢false, false≢true, true_from_ne_false, or_left, or_right, or_cases}
+use Rattle.std.proofs.lemmas.Bool.{true≢false, false≢true, true_from_ne_false, or_cases}
 use Rattle.std.proofs.lemmas.List.Elements.{Contains-append_left, Contains-append_right, Contains-append_cases}
 use Rattle.gix_hash.specs.declared.ObjectId.{ObjectId}
-use Rattle.gix_hash.specs.Id.{id_cmp, is_same, is_among, kind_of}
+use Rattle.gix_hash.specs.Id.{id_cmp, is_same, kind_of}
 use Rattle.gix_object.specs.declared.Kind.TheVariants as object
 use Rattle.gix_object.specs.CommitItems.{commit_items}
 use Rattle.gix_object.specs.CommitText.{read_commit}
@@ -20,8 +20,7 @@ use Rattle.gix_revwalk.specs.declared.Pending.{Pending}
 use Rattle.gix_revwalk.specs.Commits.{ReadsWhole, by_mode, commit_at, commit_of_object, parents_in, parents_of}
 use Rattle.gix_revwalk.specs.Ids.{ids_of, times}
 use Rattle.gix_revwalk.specs.Texts.{scanned}
-use Rattle.gix_simple.specs.declared.Sorting.{Sorting}
-use Rattle.gix_simple.specs.Walk.{Treated, GoesOn, time_order, cutoff, is_older, asked, unrowed, Asks, asks, Enqueues, dropped, enqueued, Treats, hidden, known, refused, accepted, TreatsAll, none, more, stops, Concludes, given, Takes, by_row, by_store, Chooses, first, best, Steps, ended, took, Next, unhidden, paints}
+use Rattle.gix_simple.specs.Walk.{Treated, GoesOn, time_order, cutoff, is_older, asked, unrowed, asks, dropped, enqueued, Treats, hidden, known, refused, accepted, TreatsAll, none, more, stops, given, Takes, by_row, by_store, Chooses, first, best, Steps, ended, took, unhidden, paints}
 use Rattle.gix_hash.proofs.Ids.Membership.{id_total, among_from, among_is, same_is, same_itself, Contains-here, Contains-there, Contains-cons_cases, no_member}
 use Rattle.gix_revwalk.proofs.Drained.{at_end, at_first}
 use Rattle.gix_revwalk.proofs.NewIds.{among_times, times_none}
@@ -46,7 +45,7 @@ abbrev pub IsPending : Walk → ObjectId → Type 0
 IsPending w i = Contains (ids_of w.pending) i
 
 -- what the treatment of ids changes
-record Treated_so (ids : List ObjectId) (old new : Walk) : Type 0 where
+record TreatedSo (ids : List ObjectId) (old new : Walk) : Type 0 where
   others : new ≡ record old { predicate = new.predicate; pending = new.pending; seen = new.seen; remembered = new.remembered }
   seen_still : (i : ObjectId) → IsSeen old i → IsSeen new i
   all_seen : (i : ObjectId) → Contains ids i → IsSeen new i
@@ -59,13 +58,13 @@ pub record IsOpen (w : Walk) : Type 0 where
   shown : (i : ObjectId) → set.contains w.hidden i ≡ false
   uncut : cutoff w.parents w.sorting ≡ None
 
-open_on : {ids : List ObjectId} {old new : Walk} → Treated_so ids old new → IsOpen old → IsOpen new
+open_on : {ids : List ObjectId} {old new : Walk} → TreatedSo ids old new → IsOpen old → IsOpen new
 open_on t o = record {
   shown = λ i. ap (λ w. set.contains w.hidden i) t.others ∙ o.shown i;
   uncut = ap (λ w. cutoff w.parents w.sorting) t.others ∙ o.uncut;
 }
 
-one_treated : (old : Walk) (i : ObjectId) {new : Walk} → IsOpen old → Treats objects_of never_faulty accepts_all old false i GoesOn new → Treated_so (i ∷ []) old new
+one_treated : (old : Walk) (i : ObjectId) {new : Walk} → IsOpen old → Treats objects_of never_faulty accepts_all old false i GoesOn new → TreatedSo (i ∷ []) old new
 one_treated old i o (hidden e) = absurd (true≢false (sym e ∙ o.shown i))
 one_treated old i o (known e) = record {
   others = refl;
@@ -102,11 +101,11 @@ one_treated old i o (accepted {predicate = q} {time = time} is_new a reads (enqu
     here : Contains (ids_of ps) i
     here = same_members i (ids_of old.pending ++ i ∷ []) (ids_of ps) (sym (counts i)) (Contains-append_right (ids_of old.pending) (i ∷ []) i (Contains-here i []))
 
-all_treated : {ids : List ObjectId} {old new : Walk} {how : Treated} → IsOpen old → how ≡ GoesOn → TreatsAll objects_of never_faulty accepts_all false old ids how new → Treated_so ids old new
+all_treated : {ids : List ObjectId} {old new : Walk} {how : Treated} → IsOpen old → how ≡ GoesOn → TreatsAll objects_of never_faulty accepts_all false old ids how new → TreatedSo ids old new
 all_treated o on none = record { others = refl; seen_still = λ j s. s; all_seen = λ j c. absurd (no_member j c); pending_still = λ j p. p; seen_new = λ j s. inl s; pending_new = λ j p. inl p }
 all_treated o on (more {old = old} {mid = mid} {new = new} {i = i} {ids = ids} t ts) =
-    let a : Treated_so (i ∷ []) old mid = one_treated old i o t in
-    let b : Treated_so ids mid new = all_treated (open_on a o) on ts in
+    let a : TreatedSo (i ∷ []) old mid = one_treated old i o t in
+    let b : TreatedSo ids mid new = all_treated (open_on a o) on ts in
     record {
       others = b.others ∙ ap {A = Walk} {B = Walk} (λ w. record w { predicate = new.predicate; pending = new.pending; seen = new.seen; remembered = new.remembered }) a.others;
       seen_still = λ j s. b.seen_still j (a.seen_still j s);
@@ -164,7 +163,7 @@ module _ (objects : Objects) (tips : List ObjectId) (sound : (i : ObjectId) → 
           let is : whole.commit.parents ≡ parents_of objects p.id = sym (ap parents_in whole.stored) in
           ap (λ t. t.0) (scan_is (kind_of p.id) bytes whole.commit reads w.parents) ∙ (λ k. by_mode (g.all_parents k) (is k))
 
-      module _ (walk : Walk) (t : Treated_so (scanned w.parents (commit_items (kind_of p.id) bytes)).0 (unrowed left p.id) walk) where
+      module _ (walk : Walk) (t : TreatedSo (scanned w.parents (commit_items (kind_of p.id) bytes)).0 (unrowed left p.id) walk) where
         done_now : IsDone walk.seen p.id
         done_now = record { whole = whole; parents_seen = λ j m. t.all_seen j (subst (λ xs. Contains xs j) (sym named) m) }
 

@@ -114,7 +114,7 @@ module _ (some all : Objects) (part : IsPartOf some all) (tips ends : List Objec
   lists_down_of_part by ids l = record {
     once = l.once;
     shown = λ i c. shown_in_all some all part tips ends whole i (l.shown i c);
-    all = λ acyclic i s. l.all (λ j r. acyclic j (more j r)) i (shown_in_part some all part tips ends whole i s);
+    all = λ acyclic i s. l.all (λ j m r. acyclic j (shown_in_all some all part tips ends whole j m) (more j r)) i (shown_in_part some all part tips ends whole i s);
     in_order =
         order_same (IsInWalk (parents_of some) (parents_of some) tips ends) (IsInWalk (parents_of all) (parents_of all) tips ends) (parents_of some) (parents_of all) (time_of some) (time_of all)
         (λ i m. let s = shown_in_all some all part tips ends whole i (m.reached, m.outside) in record { reached = s.0; outside = s.1 })

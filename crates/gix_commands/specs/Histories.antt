@@ -66,12 +66,11 @@ SimpleLists =
     (ids : List ObjectId) × Lists (stored records) by tips hidden ids × Appends old new (lines_of_ids ids)
 
 -- Where the records are a part of a store, a run that ends well writes such a list of the whole store, whatever else is in it. Without
--- hidden tips this asks that all that the tips reach are whole commits of that store, and of the records nothing: each that they lack
--- makes the run fail.
+-- hidden tips this asks that all that the tips reach are whole commits of that store. Of the records it asks nothing more.
 abbrev pub SimpleListsOfPart : Type 0
 SimpleListsOfPart =
-    (words : List (List ℕ)) (input : List ℕ) (records : List Record) (by : Sorting) (tips hidden : List ObjectId) (old new : Option (List ℕ))
-    (objects : Objects) →
+    (words : List (List ℕ)) (input : List ℕ) (records : List Record) (by : Sorting) (tips hidden : List ObjectId)
+    (old new : Option (List ℕ)) (objects : Objects) →
     request_of words ≡ Ok (Commits (Simple by) tips hidden) → AreRecords records input → IsPartOf (stored records) objects →
     (hidden ≡ [] → AreWhole objects tips) → Runs words (Some input) old (Ok tt) new →
     (ids : List ObjectId) × Lists objects by tips hidden ids × Appends old new (lines_of_ids ids)
@@ -92,12 +91,12 @@ TopoLists =
     Runs words (Some input) old (Ok tt) new →
     (ids : List ObjectId) × ListsDown (stored records) by tips ends ids × Appends old new (lines_of_ids ids)
 
--- Where the records are a part of a store, it writes such a list of the whole store, whatever else is in it. This asks that all that
--- tips and ends reach are whole commits of that store, and of the records nothing.
+-- Where the records are a part of a store, a run of `topo` or `date` that ends well writes such a list of the whole store, whatever else is
+-- in it. This asks that all that tips and ends reach are whole commits of that store. Of the records it asks nothing more.
 abbrev pub TopoListsOfPart : Type 0
 TopoListsOfPart =
-    (words : List (List ℕ)) (input : List ℕ) (records : List Record) (by : TopoSorting) (tips ends : List ObjectId) (old new : Option (List ℕ))
-    (objects : Objects) →
+    (words : List (List ℕ)) (input : List ℕ) (records : List Record) (by : TopoSorting) (tips ends : List ObjectId)
+    (old new : Option (List ℕ)) (objects : Objects) →
     request_of words ≡ Ok (Commits (Topo by) tips ends) → AreRecords records input → IsPartOf (stored records) objects →
     AreWhole objects (tips ++ ends) → Runs words (Some input) old (Ok tt) new →
     (ids : List ObjectId) × ListsDown objects by tips ends ids × Appends old new (lines_of_ids ids)
@@ -162,12 +161,13 @@ AheadCounts =
     × IsNumberOf (IsShown (stored records) (other ∷ []) (one ∷ [])) behind
     × Appends old new (ahead_line ahead behind)
 
--- Where the records are a part of a store, these are the numbers of the whole store, whatever else is in it: a run that ends well has
--- read all that both ids reach.
+-- Where the records are a part of a store, these are the numbers of the whole store, whatever else is in it.
 abbrev pub AheadCountsOfPart : Type 0
 AheadCountsOfPart =
-    (words : List (List ℕ)) (input : List ℕ) (records : List Record) (one other : ObjectId) (old new : Option (List ℕ)) (objects : Objects) →
-    request_of words ≡ Ok (Ahead one other) → AreRecords records input → IsPartOf (stored records) objects → Runs words (Some input) old (Ok tt) new →
+    (words : List (List ℕ)) (input : List ℕ) (records : List Record) (one other : ObjectId)
+    (old new : Option (List ℕ)) (objects : Objects) →
+    request_of words ≡ Ok (Ahead one other) → AreRecords records input → IsPartOf (stored records) objects →
+    Runs words (Some input) old (Ok tt) new →
     (ahead behind : ℕ)
     × IsNumberOf (IsShown objects (one ∷ []) (other ∷ [])) ahead
     × IsNumberOf (IsShown objects (other ∷ []) (one ∷ [])) behind

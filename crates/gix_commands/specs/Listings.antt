@@ -36,8 +36,10 @@ FilesLists =
 -- Where the records are a part of a store, these are the lines of the whole store, whatever else is in it.
 abbrev pub FilesListsOfPart : Type 0
 FilesListsOfPart =
-    (words : List (List ℕ)) (input : List ℕ) (records : List Record) (tree : ObjectId) (old new : Option (List ℕ)) (objects : Objects) →
-    request_of words ≡ Ok (Files tree) → AreRecords records input → IsPartOf (stored records) objects → Runs words (Some input) old (Ok tt) new →
+    (words : List (List ℕ)) (input : List ℕ) (records : List Record) (tree : ObjectId)
+    (old new : Option (List ℕ)) (objects : Objects) →
+    request_of words ≡ Ok (Files tree) → AreRecords records input → IsPartOf (stored records) objects →
+    Runs words (Some input) old (Ok tt) new →
     (visits : List Visit) × Unfolds objects tree visits × (HaveNames visits → Appends old new (file_lines (map record_of visits)))
 
 -- Where each tree in it reads whole, and none is under itself, it ends well.

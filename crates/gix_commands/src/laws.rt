@@ -11,7 +11,8 @@ pub fn simple_lists()
     ensures { SimpleLists }
 {}
 
-/// Such a list is right of each store that has the records' objects, whatever else is in it.
+/// Where the records are a part of a repository, such a list is right of the whole repository, whatever else is in it. Without hidden
+/// tips this asks that all that the tips reach are whole commits of the repository. Of the records it asks nothing more.
 pub fn simple_lists_of_part()
     ensures { SimpleListsOfPart }
 {}
@@ -27,7 +28,8 @@ pub fn topo_lists()
     ensures { TopoLists }
 {}
 
-/// Such a list is right of each store that has the records' objects, whatever else is in it.
+/// Where the records are a part of a repository, such a list of `topo` or `date` is right of the whole repository, whatever else is in it.
+/// This asks that all that tips and ends reach are whole commits of the repository. Of the records it asks nothing more.
 pub fn topo_lists_of_part()
     ensures { TopoListsOfPart }
 {}
@@ -43,7 +45,7 @@ pub fn files_lists()
     ensures { FilesLists }
 {}
 
-/// These lines are right of each store that has the records' objects, whatever else is in it.
+/// Where the records are a part of a repository, these lines are right of the whole repository, whatever else is in it.
 pub fn files_lists_of_part()
     ensures { FilesListsOfPart }
 {}
@@ -65,8 +67,8 @@ pub fn ahead_counts()
     ensures { AheadCounts }
 {}
 
-/// These numbers are right of each store that has the records' objects, whatever else is in it: a run that ends well has read all that
-/// both ids reach.
+/// Where the records are a part of a repository, these numbers are right of the whole repository, whatever else is in it: a run that
+/// ends well has read all that both ids reach.
 pub fn ahead_counts_of_part()
     ensures { AheadCountsOfPart }
 {}
