@@ -1,4 +1,4 @@
-//! What tables of walks have in common: histories to walk, a store that fails, what a table is, and faults in short words.
+//! What tables of walks have in common: histories to walk, a store that fails and one that counts, what a table is, and faults in short words.
 #![tactic(auto)]
 
 pub mod counted;
