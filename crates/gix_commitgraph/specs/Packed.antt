@@ -58,7 +58,7 @@ second_word k (p ∷ q ∷ r ∷ ps) = flag + k
 unfoldable pub row_bytes : ℕ → GraphRow → List ℕ
 row_bytes k row =
     bytes_of row.id ++ (bytes_of row.tree ++ (to_be_bytes w32 (first_word row.parents)
-        ++ (to_be_bytes w32 (second_word k row.parents) ++ (to_be_bytes w32 row.generation ++ to_be_bytes w64 (cast_unsigned w64 row.time)))))
+    ++ (to_be_bytes w32 (second_word k row.parents) ++ (to_be_bytes w32 row.generation ++ to_be_bytes w64 (cast_unsigned w64 row.time)))))
 
 -- the rows, each with its overflow list behind the overflow lists of the rows before it
 unfoldable pub rows_bytes : ℕ → List GraphRow → List ℕ
@@ -82,7 +82,7 @@ kind_of_rows (row ∷ rows) = kind_of row.id
 unfoldable pub spelling : List GraphRow → List ℕ
 spelling rows =
     layout_name (kind_of_rows rows) ++ (to_be_bytes w32 (length rows)
-        ++ (to_be_bytes w32 (length (overflow_words rows)) ++ (rows_bytes 0 rows ++ flat_map (to_be_bytes w32) (overflow_words rows))))
+    ++ (to_be_bytes w32 (length (overflow_words rows)) ++ (rows_bytes 0 rows ++ flat_map (to_be_bytes w32) (overflow_words rows))))
 
 abbrev pub AreBytes : List ℕ → Type 0
 AreBytes bytes = (i : ℕ) → slice_index bytes i < 256

@@ -8,8 +8,7 @@ use Rattle.gix_commitgraph.specs.Rows.{GraphRow, row_at}
 use Rattle.gix_commitgraph.specs.Renumbering.{AreFew, HasSameRows, IsRowOf}
 use Rattle.gix_commitgraph.specs.Parents.{answers_of, answers_of_words}
 use Rattle.gix_commitgraph.specs.Packed.{most, AreGraphRows, IsPlaceAmong, spelling, kind_of_rows, overflow_words}
-use Rattle.gix_commitgraph.specs.PackedReading.{word_at, words_of, row_len, id_field, tree_field, first_field, second_field,
-    generation_field, time_field, kind_named, may_have, rows_at, read_packed}
+use Rattle.gix_commitgraph.specs.PackedReading.{word_at, words_of, row_len, id_field, tree_field, first_field, second_field, generation_field, time_field, kind_named, may_have, rows_at, read_packed}
 
 -- reading so many rows more
 abbrev pub rows_left : Layout → ℕ → ℕ → Option ObjectId → List ℕ → List ℕ → Result (List GraphRow) Place

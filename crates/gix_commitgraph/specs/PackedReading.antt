@@ -1,6 +1,5 @@
 -- Packed bytes read from the front: the rows that they spell, or the first place that is not as in a spelling.
-use Rattle.std.specs.Prelude.{ℕ, zero, suc, ◌+◌, ◌-◌, ◌*◌, ◌==◌, ◌&&◌, nat_lt, nat_le, nat_eq, Bool, true, ℤ, List, [], ◌∷◌, length, take,
-    drop, codes, Option, Some, None, Result, Ok, Err, if◌then◌else◌}
+use Rattle.std.specs.Prelude.{ℕ, zero, suc, ◌+◌, ◌-◌, ◌*◌, ◌==◌, ◌&&◌, nat_lt, nat_le, nat_eq, Bool, true, ℤ, List, [], ◌∷◌, length, take, drop, codes, Option, Some, None, Result, Ok, Err, if◌then◌else◌}
 use Rattle.std.specs.Int.{w32, w64, from_be_bytes, cast_signed}
 use Rattle.std.specs.Ordering.{is_lt}
 use Rattle.std.specs.List.{starts_with}

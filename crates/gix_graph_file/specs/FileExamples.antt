@@ -37,7 +37,7 @@ hash = 0x0b ∷ 0x41 ∷ 0x2b ∷ 0x65 ∷ 0xb2 ∷ 0xde ∷ 0x45 ∷ 0x74 ∷ 0
 abbrev pub file : List ℕ
 file =
     codes "CGPH" ++ (1 ∷ 1 ∷ 4 ∷ 0 ∷ []) ++ entry (codes "OIDF") 0x44 ++ entry (codes "OIDL") 0x444 ++ entry (codes "CDAT") 0x46c
-        ++ entry (codes "GDA2") 0x4b4 ++ entry (replicate 4 0) 0x4bc
+    ++ entry (codes "GDA2") 0x4b4 ++ entry (replicate 4 0) 0x4bc
     ++ words (replicate 0x36 0 ++ replicate 0x26 1 ++ replicate 0xa4 2)
     ++ one ++ two
     ++ tree ++ words (0x70000000 ∷ 0x70000000 ∷ 4 ∷ 1000000000 ∷ [])
@@ -117,7 +117,7 @@ three = 0x11 ∷ replicate 19 0
 abbrev pub upper : List ℕ
 upper =
     codes "CGPH" ++ (1 ∷ 1 ∷ 4 ∷ 1 ∷ []) ++ entry (codes "OIDF") 0x44 ++ entry (codes "OIDL") 0x444 ++ entry (codes "CDAT") 0x458
-        ++ entry (codes "BASE") 0x47c ++ entry (replicate 4 0) 0x490
+    ++ entry (codes "BASE") 0x47c ++ entry (replicate 4 0) 0x490
     ++ words (replicate 0x11 0 ++ replicate 0xef 1)
     ++ three
     ++ tree ++ words (1 ∷ 0x70000000 ∷ 12 ∷ 1000000002 ∷ [])

@@ -1,6 +1,5 @@
 -- Git's commit-graph file: its rows, or the first thing that is not as it should be.
-use Rattle.std.specs.Prelude.{ℕ, zero, suc, ◌+◌, ◌-◌, ◌/◌, ◌%◌, ◌^◌, ◌==◌, nat_lt, pos, List, [], ◌∷◌, length, take, drop, Option, Some,
-    None, Result, Ok, Err, if◌then◌else◌}
+use Rattle.std.specs.Prelude.{ℕ, zero, suc, ◌+◌, ◌-◌, ◌/◌, ◌%◌, ◌^◌, ◌==◌, nat_lt, pos, List, [], ◌∷◌, length, take, drop, Option, Some, None, Result, Ok, Err, if◌then◌else◌}
 use Rattle.gix_hash.specs.declared.Kind.{Kind}
 use Rattle.gix_hash.specs.declared.ObjectId.{ObjectId}
 use Rattle.gix_commitgraph.specs.declared.ParentPlace.{ParentPlace}

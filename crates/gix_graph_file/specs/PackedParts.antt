@@ -45,15 +45,15 @@ edge_packed n word = if nat_lt word flag then place_packed n word else flag + pl
 unfoldable pub row_packed : ℕ → List ℕ → List ℕ → List ℕ → List ℕ
 row_packed n id tree numbers =
     id ++ (tree ++ (to_be_bytes w32 (first_packed n (word_at 0 numbers))
-        ++ (to_be_bytes w32 (second_packed n (word_at 4 numbers))
-        ++ (to_be_bytes w32 (long_at 8 numbers / 2 ^ 34) ++ to_be_bytes w64 (long_at 8 numbers % 2 ^ 34)))))
+    ++ (to_be_bytes w32 (second_packed n (word_at 4 numbers))
+    ++ (to_be_bytes w32 (long_at 8 numbers / 2 ^ 34) ++ to_be_bytes w64 (long_at 8 numbers % 2 ^ 34)))))
 
 -- `left` rows of n
 unfoldable pub rows_packed : Kind → ℕ → ℕ → List ℕ → List ℕ → List ℕ
 rows_packed k n zero ids commits = []
 rows_packed k n (suc left) ids commits =
     row_packed n (take (id_len k) ids) (take (id_len k) commits) (take 16 (drop (id_len k) commits)) ++ rows_packed k n left (drop (id_len k) ids)
-        (drop 16 (drop (id_len k) commits))
+    (drop 16 (drop (id_len k) commits))
 
 -- the kind that the head of so many rows says
 abbrev pub kind_packed : Kind → ℕ → Kind
@@ -68,8 +68,8 @@ words_packed n edges = map (edge_packed n) (words_of edges)
 unfoldable pub parts_packed : Parts → List ℕ
 parts_packed p =
     layout_name (kind_packed p.kind p.count) ++ (to_be_bytes w32 p.count
-        ++ (to_be_bytes w32 (length p.edges / 4) ++ (rows_packed p.kind p.count p.count p.ids p.commits ++ flat_map (to_be_bytes w32)
-        (words_packed p.count p.edges))))
+    ++ (to_be_bytes w32 (length p.edges / 4) ++ (rows_packed p.kind p.count p.count p.ids p.commits ++ flat_map (to_be_bytes w32)
+    (words_packed p.count p.edges))))
 
 -- the fault of a file whose packed rows are refused; only the faults of rows come
 abbrev pub fault_of : GraphError → Error

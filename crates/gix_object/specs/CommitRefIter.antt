@@ -9,8 +9,7 @@ use Rattle.gix_object.specs.declared.commit.Token.{Token}
 use Rattle.gix_object.specs.declared.commit.Token.TheVariants as token
 use Rattle.gix_object.specs.declared.commit.Signature.{Signature}
 use Rattle.gix_object.specs.declared.commit.CommitRefIter.{CommitRefIter}
-use Rattle.gix_object.specs.CommitItems.{Item, Tree, Parent, Author, Committer, Rest, Place, AtTree, AtParents, AtCommitter, AtRest, AtEnd,
-    Front, Found, Faulty, Ended, items_from}
+use Rattle.gix_object.specs.CommitItems.{Item, Tree, Parent, Author, Committer, Rest, Place, AtTree, AtParents, AtCommitter, AtRest, AtEnd, Front, Found, Faulty, Ended, items_from}
 
 abbrev pub place_of : State → Place
 place_of state.Tree = AtTree

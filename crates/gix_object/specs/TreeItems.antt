@@ -1,6 +1,5 @@
 -- The entries of a tree object, read from the front of any bytes (a mode in octal digits, a space, a name, a NUL, an id).
-use Rattle.std.specs.Prelude.{ℕ, suc, zero, ◌+◌, ◌*◌, ◌-◌, ◌==◌, ◌&&◌, nat_le, nat_lt, List, [], ◌∷◌, length, take, drop, position, Bool,
-    Option, Some, None, Result, Ok, Err, if◌then◌else◌, bit_and}
+use Rattle.std.specs.Prelude.{ℕ, suc, zero, ◌+◌, ◌*◌, ◌-◌, ◌==◌, ◌&&◌, nat_le, nat_lt, List, [], ◌∷◌, length, take, drop, position, Bool, Option, Some, None, Result, Ok, Err, if◌then◌else◌, bit_and}
 use Rattle.gix_hash.specs.declared.Kind.{Kind}
 use Rattle.gix_hash.specs.declared.ObjectId.{ObjectId}
 use Rattle.gix_object.specs.declared.decode.Error.{Error}

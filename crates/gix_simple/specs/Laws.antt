@@ -1,6 +1,5 @@
 -- What a simple walk gives, over the definitions alone: the words of its laws.
-use Rattle.std.specs.Prelude.{◌≡◌, ◌≢◌, ◌⊎◌, ◌↔◌, ℕ, ℤ, List, [], ◌∷◌, ◌++◌, filter, Bool, true, false, not, ◌&&◌, ◌+◌, map, length, Option,
-    Some, None, Result, Ok, Err, Contains, All}
+use Rattle.std.specs.Prelude.{◌≡◌, ◌≢◌, ◌⊎◌, ◌↔◌, ℕ, ℤ, List, [], ◌∷◌, ◌++◌, filter, Bool, true, false, not, ◌&&◌, ◌+◌, map, length, Option, Some, None, Result, Ok, Err, Contains, All}
 use Rattle.std.specs.List.{AllZip, flat_map}
 use Rattle.std.specs.Iterator.{Drains, Yields}
 use Rattle.std.specs.FinMap as map_of

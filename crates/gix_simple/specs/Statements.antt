@@ -1,6 +1,5 @@
 -- The statements of the laws of simple walks, over any store and predicate.
-use Rattle.std.specs.Prelude.{◌≡◌, ◌≢◌, ◌≤◌, ◌≤ℤ◌, ◌↔◌, ℕ, ℤ, suc, List, [], ◌++◌, Bool, false, true, Some, None, Result, Err, All,
-    Contains, length, take, slice_get, filter}
+use Rattle.std.specs.Prelude.{◌≡◌, ◌≢◌, ◌≤◌, ◌≤ℤ◌, ◌↔◌, ℕ, ℤ, suc, List, [], ◌++◌, Bool, false, true, Some, None, Result, Err, All, Contains, length, take, slice_get, filter}
 use Rattle.std.specs.Cmp.Lexicographic.{slice_cmp}
 use Rattle.std.specs.Iterator.{Drains, Yields}
 use Rattle.std.specs.List.{AllZip}
@@ -23,9 +22,7 @@ use Rattle.gix_revwalk.specs.Commits.{ReadsWhole, parents_of, time_of}
 use Rattle.gix_simple.specs.Walk.{SimpleWalk, Next, IsMade, time_order, cutoff}
 use Rattle.gix_revwalk.specs.Ids.{ids_of, AreDistinct, new_ids}
 use Rattle.gix_simple.specs.Building.{IsBuilt, IsUncut}
-use Rattle.gix_simple.specs.Laws.{IsFresh, IsWholeRun, IsBegunRun, IsPlainRun, IsPlain, GivesInOrder, GivesBeginning, IsNewWalk,
-    IsNoRefusal, GivesBreadthFirst, GivesDifference, accepted_parents, recent_parents, next_of, starts_of, named_in, answers_left,
-    given_ids}
+use Rattle.gix_simple.specs.Laws.{IsFresh, IsWholeRun, IsBegunRun, IsPlainRun, IsPlain, GivesInOrder, GivesBeginning, IsNewWalk, IsNoRefusal, GivesBreadthFirst, GivesDifference, accepted_parents, recent_parents, next_of, starts_of, named_in, answers_left, given_ids}
 use Rattle.gix_revwalk.specs.Asking.{AnswersBy}
 use Rattle.gix_simple.specs.Runs.{AsksOnce, TellsGenerations, AreAlike, AreBuiltAlike, GiveTheSame, GivesUnhidden}
 

@@ -1,6 +1,5 @@
 -- What a simple walk holds, and what one step of it may do.
-use Rattle.std.specs.Prelude.{◌≡◌, ◌≢◌, ◌⊎◌, ℕ, ℤ, pos, int_lt, List, [], ◌∷◌, ◌++◌, filter, Bool, true, false, not, Option, Some, None,
-    Result, Ok, Err, Contains, IsPermutation}
+use Rattle.std.specs.Prelude.{◌≡◌, ◌≢◌, ◌⊎◌, ℕ, ℤ, pos, int_lt, List, [], ◌∷◌, ◌++◌, filter, Bool, true, false, not, Option, Some, None, Result, Ok, Err, Contains, IsPermutation}
 use Rattle.std.specs.FinMap as map_of
 use Rattle.std.specs.FinSet as set
 use Rattle.gix_hash.specs.declared.Kind.{Kind}
@@ -57,8 +56,19 @@ pub record SimpleWalk (F P : Type 0) : Type 0 where
 -- a walk before its tips: over all parents, breadth first, without rows and hidden tips
 abbrev pub bare : {F P : Type 0} → F → P → SimpleWalk F P
 bare store predicate = record {
-    store = store; predicate = predicate; rows = []; parents = mode.All; sorting = sorting.BreadthFirst; pending = []; seen = set.empty;
-    remembered = set.empty; hidden_tips = []; hidden = set.empty; text = []; current = None }
+  store = store;
+  predicate = predicate;
+  rows = [];
+  parents = mode.All;
+  sorting = sorting.BreadthFirst;
+  pending = [];
+  seen = set.empty;
+  remembered = set.empty;
+  hidden_tips = [];
+  hidden = set.empty;
+  text = [];
+  current = None;
+}
 
 -- the kind by which the text of the current commit is read
 abbrev pub kind_at : Option ObjectId → Kind
@@ -200,7 +210,7 @@ module _ {F P : Type 0} (objects : F → Objects) (faulty : F → ObjectId → T
         → map_of.get (objects old.store) taken.id ≡ Some (record { kind = object.Commit; bytes = bytes })
         → TreatsAll false (unrowed old taken.id) (scanned old.parents (commit_items (kind_of taken.id) bytes)).0 how walk
         → Concludes taken.id (scanned old.parents (commit_items (kind_of taken.id) bytes)).0 None (given_time old taken) bytes
-            (scanned old.parents (commit_items (kind_of taken.id) bytes)).1 walk how answer new
+        (scanned old.parents (commit_items (kind_of taken.id) bytes)).1 walk how answer new
         → Takes old taken answer new
     not_found : {e : ExistingError} → IsUnrowed old.rows taken.id → IsExistingFault (objects old.store) (faulty old.store) taken.id object.Commit e
         → Takes old taken (Err (error.Find e)) (record (unrowed old taken.id) { text = []; current = Some taken.id })

@@ -10,7 +10,7 @@ abbrev pub IsDateOrder : (ObjectId → ℤ) → (ObjectId → List ObjectId) →
 IsDateOrder time walked In ids =
     (k : ℕ) → k ≤ length ids →
     MatchOption (slice_get ids k) ((i : ObjectId) → IsReady walked In (Contains (take k ids)) i → ⊥)
-        (IsBest NewestFirst time (IsReady walked In (Contains (take k ids))))
+    (IsBest NewestFirst time (IsReady walked In (Contains (take k ids))))
 
 -- A beginning of such a list: each commit is a ready one of greatest time. Nothing is said of the end.
 abbrev pub IsDateBeginning : (ObjectId → ℤ) → (ObjectId → List ObjectId) → (ObjectId → Type 0) → List ObjectId → Type 0

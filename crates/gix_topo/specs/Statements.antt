@@ -1,6 +1,5 @@
 -- The statements of the laws of topological walks, over any store and predicate.
-use Rattle.std.specs.Prelude.{◌≡◌, ◌↔◌, ◌≤◌, ℕ, ℤ, List, [], ◌++◌, Bool, true, Option, Some, None, Result, Ok, Err, All, Contains, filter,
-    length, slice_get, take}
+use Rattle.std.specs.Prelude.{◌≡◌, ◌↔◌, ◌≤◌, ℕ, ℤ, List, [], ◌++◌, Bool, true, Option, Some, None, Result, Ok, Err, All, Contains, filter, length, slice_get, take}
 use Rattle.std.specs.List.{AllZip}
 use Rattle.std.specs.Iterator.{Drains, Yields}
 use Rattle.gix_hash.specs.declared.ObjectId.{ObjectId}
@@ -18,10 +17,8 @@ use Rattle.gix_revwalk.specs.Ids.{AreDistinct}
 use Rattle.gix_topo.specs.WalkSet.{IsInWalk, IsAcyclicIn, IsChild}
 use Rattle.gix_topo.specs.DateOrder.{IsDateOrder, IsDateBeginning}
 use Rattle.gix_topo.specs.TopoOrder.{IsTopoOrder, IsTopoBeginning}
-use Rattle.gix_topo.specs.Walk.{TopoPlan, TopoWalk, walked_of, row_generation, IsMember, IsStarted, IsSound, IsLeft, IsFault, IsLate,
-    IsCounting, IsKnown, Next, text_walked, IsTextMember}
-use Rattle.gix_topo.specs.Laws.{IsTakenInOrder, IsTakenFirst, IsWholeRun, IsGiven, GivesInOrder, BeginsInOrder, GivesDifference,
-    IsNoRefusal, answers_left, given_ids, IsTakenByText, GivesTextOrder, BeginsTextOrder, GivesTextDifference}
+use Rattle.gix_topo.specs.Walk.{TopoPlan, TopoWalk, walked_of, row_generation, IsMember, IsStarted, IsSound, IsLeft, IsFault, IsLate, IsCounting, IsKnown, Next, text_walked, IsTextMember}
+use Rattle.gix_topo.specs.Laws.{IsTakenInOrder, IsTakenFirst, IsWholeRun, IsGiven, GivesInOrder, BeginsInOrder, GivesDifference, IsNoRefusal, answers_left, given_ids, IsTakenByText, GivesTextOrder, BeginsTextOrder, GivesTextDifference}
 use Rattle.gix_revwalk.specs.Asking.{AnswersBy, AsksAll}
 
 -- there is at most one list of the members of a walk in topological order

@@ -1,6 +1,5 @@
 -- What a topological walk holds, as its callers see it, and what one call of it may do.
-use Rattle.std.specs.Prelude.{◌≡◌, ◌≢◌, ◌⊎◌, ◌≤◌, ◌≤ℤ◌, ℕ, ℤ, List, [], ◌∷◌, ◌++◌, map, drop, length, Bool, true, false, ◌||◌, Option, Some,
-    None, Result, Ok, Err, Contains, IsPermutation}
+use Rattle.std.specs.Prelude.{◌≡◌, ◌≢◌, ◌⊎◌, ◌≤◌, ◌≤ℤ◌, ℕ, ℤ, List, [], ◌∷◌, ◌++◌, map, drop, length, Bool, true, false, ◌||◌, Option, Some, None, Result, Ok, Err, Contains, IsPermutation}
 use Rattle.std.specs.List.{flat_map}
 use Rattle.std.specs.FinMap as map_of
 use Rattle.std.specs.Iterator.{Drains}

@@ -7,8 +7,7 @@ use Rattle.gix_object.specs.declared.find.existing_iter.Error.{Error as Existing
 use Rattle.gix_object.specs.TreeItems.{TreeEntry, is_tree}
 use Rattle.gix_tree.specs.declared.breadthfirst.Error.TheVariants as error
 use Rattle.gix_tree.specs.Delegate.{Action, Call, PushPath, PopPath, PushBack, PopBack, PopFront, RefusedIn}
-use Rattle.gix_tree.specs.Visits.{Items, Place, Visit, visit, inside, Outcome, Leaves, Enters, Cycles, Breaks, outcome, visit_call, Ending,
-    Whole, Broken, Failed, Task, Turn, Show, Fault, shows}
+use Rattle.gix_tree.specs.Visits.{Items, Place, Visit, visit, inside, Outcome, Leaves, Enters, Cycles, Breaks, outcome, visit_call, Ending, Whole, Broken, Failed, Task, Turn, Show, Fault, shows}
 use Rattle.gix_tree.specs.Paths.{known_root}
 
 -- the calls of `breadthfirst` behind a visit, by what it leads to
