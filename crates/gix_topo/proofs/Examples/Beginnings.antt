@@ -1,6 +1,6 @@
 -- Beginnings in the orders of topological walks: a list in order that is cut anywhere is one.
 use Rattle.std.specs.Prelude.{◌≡◌, ◌≤◌, ℕ, zero, suc, ℤ, List, [], ◌∷◌, ◌++◌, take, slice_get, Option, Some}
-use Rattle.std.proofs.Common.{refl, sym, subst, arith, append_assoc, append-nil}
+use Rattle.std.proofs.Common.{sym, subst, arith, append_assoc, append-nil}
 use Rattle.gix_hash.specs.declared.ObjectId.{ObjectId}
 use Rattle.gix_topo.specs.DateOrder.{IsDateOrder, IsDateBeginning}
 use Rattle.gix_topo.specs.TopoOrder.{IsTopoOrder, IsTopoBeginning}
