@@ -8,6 +8,10 @@ pub mod Rows
 pub mod Orders
 -- There is at most one list in breadth order; and one in an order by time, where different commits have different times.
 pub mod OneOrder
+-- Lists that go on by a step that names one new id of finitely many.
+pub mod Greedy
+-- Over finitely many ids there is a list in breadth order, and one in an order by time.
+pub mod SomeOrder
 -- A commit that reads whole gives the same parents by its items and by its row.
 pub mod ReadsWhole
 -- A commit that reads whole has the parents that its text names.

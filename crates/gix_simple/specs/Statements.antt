@@ -37,6 +37,21 @@ info_cmp a b =
 abbrev pub ReachIsDecided : Type 0
 ReachIsDecided = (objects : Objects) (ids : List ObjectId) → (test : ObjectId → Bool) × Tells test (Reaches (parents_of objects) ids)
 
+-- There is a list in breadth order, whatever the starts are, where each id names next some parents of its commit in a store. In a
+-- store are finitely many.
+abbrev pub SomeBreadthOrder : Type 0
+SomeBreadthOrder =
+    (objects : Objects) (next : ObjectId → List ObjectId) (starts : List ObjectId)
+    → ((c i : ObjectId) → Contains (next c) i → Contains (parents_of objects c) i)
+    → (ids : List ObjectId) × IsBreadthOrder next starts ids
+
+-- and one in each order by time
+abbrev pub SomeTimeOrder : Type 0
+SomeTimeOrder =
+    (order : CommitTimeOrder) (time : ObjectId → ℤ) (objects : Objects) (next : ObjectId → List ObjectId) (starts : List ObjectId)
+    → ((c i : ObjectId) → Contains (next c) i → Contains (parents_of objects c) i)
+    → (ids : List ObjectId) × IsTimeOrder order time next starts ids
+
 -- there is at most one list in breadth order
 abbrev pub OneBreadthOrder : Type 0
 OneBreadthOrder =

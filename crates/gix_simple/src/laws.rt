@@ -1,6 +1,6 @@
 //! Laws of `commit::Simple`, and of the commits that walks give.
 
-ghost use Rattle.gix_simple.specs.Statements.{MakesNewWalks, BuildsFreshWalks, NewWalksGiveBreadthFirst, PlainRunsAreInBreadthOrder, PlainRunsAreInTimeOrder, RunsAreInOrder, GivesEachOnce, RunsBeginInOrder, BeginsOnce, RunsGiveTheDifference, FaultlessRunsGiveTheDifference, info_cmp, BuildsAlike, HidesWhatIsReached, RowsLeaveTheIds, TellsTheGenerations, TimesFall, GivesNeverTwice, AsksNeverTwice, Ends, ReachIsDecided, OneBreadthOrder, OneBreadthBeginning, OneTimeOrder, OneTimeBeginning};
+ghost use Rattle.gix_simple.specs.Statements.{MakesNewWalks, BuildsFreshWalks, NewWalksGiveBreadthFirst, PlainRunsAreInBreadthOrder, PlainRunsAreInTimeOrder, RunsAreInOrder, GivesEachOnce, RunsBeginInOrder, BeginsOnce, RunsGiveTheDifference, FaultlessRunsGiveTheDifference, info_cmp, BuildsAlike, HidesWhatIsReached, RowsLeaveTheIds, TellsTheGenerations, TimesFall, GivesNeverTwice, AsksNeverTwice, Ends, ReachIsDecided, SomeBreadthOrder, SomeTimeOrder, OneBreadthOrder, OneBreadthBeginning, OneTimeOrder, OneTimeBeginning};
 ghost use Rattle.std.specs.Prelude.{◌≡◌};
 ghost use Rattle.gix_revwalk.specs.declared.Info.{Info as InfoRecord};
 
@@ -134,6 +134,17 @@ pub fn ends<F: Find, P: Predicate>()
 /// Over any store, and for any ids, there is a test of which ids these reach by their parents.
 pub fn reach_is_decided()
     ensures { ReachIsDecided }
+{}
+
+/// There is a list in breadth order, whatever the starts are, where each id names next some of the parents that its commit has in a
+/// store.
+pub fn some_breadth_order()
+    ensures { SomeBreadthOrder }
+{}
+
+/// There is then a list in each order by time, too.
+pub fn some_time_order()
+    ensures { SomeTimeOrder }
 {}
 
 /// Whatever the starts are, and whatever each id names next, there is at most one list in breadth order.

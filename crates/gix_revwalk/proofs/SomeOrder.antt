@@ -1,0 +1,153 @@
+-- Where finitely many ids are reached, there is a list in breadth order, one in each order by time, and a list of what is reached.
+use Rattle.std.specs.Prelude.{◌≡◌, ◌↔◌, ◌≤◌, ◌≤ℤ◌, ℕ, ℤ, int_le, List, [], ◌∷◌, ◌++◌, length, take, slice_get, Bool, true, false, not, ◌&&◌, cond, filter, Option, Some, None, MatchOption, Contains}
+use Rattle.std.proofs.Common.{refl, sym, subst, ⊎_elim, ◌∙◌, arith}
+use Rattle.std.specs.FinMap as map_of
+use Rattle.std.specs.List.{flat_map}
+use Rattle.std.proofs.lemmas.Bool.{true≢false, not-true, not_from_false, false_from_ne_true, and_parts, and_from}
+use Rattle.std.proofs.lemmas.Int.{ints}
+use Rattle.std.proofs.lemmas.List.Elements.{Contains-append_left, Contains-append_right}
+use Rattle.gix_hash.specs.declared.ObjectId.{ObjectId}
+use Rattle.gix_hash.specs.Id.{is_among}
+use Rattle.gix_hash.specs.Reach.{Reaches, start, step}
+use Rattle.gix_hash.proofs.Ids.Membership.{among_from, among_is, Contains-here, Contains-there, Contains-cons_cases, no_member}
+use Rattle.gix_object.specs.Object.{Object, Objects}
+use Rattle.gix_revwalk.specs.declared.CommitTimeOrder.{CommitTimeOrder}
+use Rattle.gix_revwalk.specs.declared.CommitTimeOrder.TheVariants.{NewestFirst, OldestFirst}
+use Rattle.gix_revwalk.specs.BreadthOrder.{named_by, first_new, IsBreadthOrder}
+use Rattle.gix_revwalk.specs.TimeOrder.{IsTimeOrder, IsPending, IsBest, IsNoWorse}
+use Rattle.gix_revwalk.specs.Commits.{parents_of, parents_in, commit_of_object}
+use Rattle.gix_revwalk.proofs.Greedy.{GoesOn, steps_exist}
+use Rattle.gix_revwalk.proofs.NewIds.{among_flat, among-filter}
+use Rattle.gix_revwalk.proofs.Orders.{found_passes, reached_by_named, reached_is_given, given_is_reached, Contains-push, work_from_breadth, work_begins}
+use Rattle.gix_revwalk.proofs.Rows.{found_entry}
+
+-- the time is as good
+abbrev no_worse : CommitTimeOrder → ℤ → ℤ → Bool
+no_worse NewestFirst a b = int_le b a
+no_worse OldestFirst a b = int_le a b
+
+no_worse_is : (order : CommitTimeOrder) (a b : ℤ) → no_worse order a b ≡ true → IsNoWorse order a b
+no_worse_is NewestFirst a b e = grind (arith, ints)
+no_worse_is OldestFirst a b e = grind (arith, ints)
+
+worse_is : (order : CommitTimeOrder) (a b : ℤ) → no_worse order a b ≡ false → IsNoWorse order b a
+worse_is NewestFirst a b e = grind (arith, ints)
+worse_is OldestFirst a b e = grind (arith, ints)
+
+itself_no_worse : (order : CommitTimeOrder) (a : ℤ) → IsNoWorse order a a
+itself_no_worse NewestFirst a = omega (arith, ints)
+itself_no_worse OldestFirst a = omega (arith, ints)
+
+no_worse_through : (order : CommitTimeOrder) (a b c : ℤ) → IsNoWorse order a b → IsNoWorse order b c → IsNoWorse order a c
+no_worse_through NewestFirst a b c h k = omega (arith, ints)
+no_worse_through OldestFirst a b c h k = omega (arith, ints)
+
+module _ (order : CommitTimeOrder) (time : ObjectId → ℤ) where
+  abbrev better : ObjectId → Option ObjectId → Option ObjectId
+  better x None = Some x
+  better x (Some y) = Some (cond (no_worse order (time x) (time y)) x y)
+
+  -- one of best time of a list
+  abbrev pub best : List ObjectId → Option ObjectId
+  best [] = None
+  best (x ∷ xs) = better x (best xs)
+
+  abbrev pub IsBestOf : List ObjectId → Option ObjectId → Type 0
+  IsBestOf xs o = MatchOption o ((i : ObjectId) → Contains xs i → ⊥) (IsBest order time (Contains xs))
+
+  pub best_is : (xs : List ObjectId) → IsBestOf xs (best xs)
+  best_is [] = λ i c. no_member i c
+  best_is (x ∷ xs) = go (best xs) (best_is xs)
+    where
+      go : (o : Option ObjectId) → IsBestOf xs o → IsBestOf (x ∷ xs) (better x o)
+      go None h = record { among = Contains-here x xs; best = λ other c. ⊎_elim (λ s. subst (λ y. IsNoWorse order (time x) (time y)) s (itself_no_worse order (time x))) (λ t. absurd (h other t)) (Contains-cons_cases other x xs c) }
+      go (Some y) h = pick (no_worse order (time x) (time y)) refl
+        where
+          pick : (b : Bool) → no_worse order (time x) (time y) ≡ b → IsBest order time (Contains (x ∷ xs)) (cond b x y)
+          pick true e = record {
+            among = Contains-here x xs;
+            best = λ other c. ⊎_elim (λ s. subst (λ z. IsNoWorse order (time x) (time z)) s (itself_no_worse order (time x))) (λ t. no_worse_through order (time x) (time y) (time other) (no_worse_is order (time x) (time y) e) (h.best other t)) (Contains-cons_cases other x xs c);
+          }
+          pick false e = record {
+            among = Contains-there y x xs h.among;
+            best = λ other c. ⊎_elim (λ s. subst (λ z. IsNoWorse order (time y) (time z)) s (worse_is order (time x) (time y) e)) (λ t. h.best other t) (Contains-cons_cases other x xs c);
+          }
+
+  -- of a list that has exactly the ids of P
+  pub best_of : (P : ObjectId → Type 0) (xs : List ObjectId) → ((i : ObjectId) → Contains xs i ↔ P i) → (o : Option ObjectId) → o ≡ best xs → MatchOption o ((i : ObjectId) → P i → ⊥) (IsBest order time P)
+  best_of P xs same None e = let h : IsBestOf xs None = subst (IsBestOf xs) (sym e) (best_is xs) in λ i p. h i ((same i).1 p)
+  best_of P xs same (Some i) e =
+      let h : IsBestOf xs (Some i) = subst (IsBestOf xs) (sym e) (best_is xs) in
+      record { among = (same i).0 h.among; best = λ other p. h.best other ((same other).1 p) }
+
+-- what starts reach is among finitely many ids
+module _ (next : ObjectId → List ObjectId) (starts all : List ObjectId) (finite : (i : ObjectId) → Reaches next starts i → Contains all i) where
+  abbrev pub AreReached : List ObjectId → Type 0
+  AreReached taken = (c : ObjectId) → Contains taken c → Reaches next starts c
+
+  goes_on : (taken : List ObjectId) (i : ObjectId) → AreReached taken → IsPending next starts taken i → GoesOn all AreReached taken i
+  goes_on taken i reached p =
+      let here : Reaches next starts i = reached_by_named next starts taken reached i p.0 in
+      record {
+        known = among_from i all (finite i here);
+        is_new = false_from_ne_true _ (λ e. p.1 (among_is i taken e));
+        fits = λ c m. ⊎_elim (λ n. reached c n) (λ e. subst (Reaches next starts) e here) (Contains-push next starts taken i c m);
+      }
+
+  pub breadth_exists : (ids : List ObjectId) × IsBreadthOrder next starts ids
+  breadth_exists =
+      steps_exist all (λ taken. first_new (named_by next starts taken) taken) AreReached
+      (λ taken i reached e.
+      let h : Contains (named_by next starts taken) i × (not (is_among i taken) ≡ true) = found_passes (λ j. not (is_among j taken)) (named_by next starts taken) i (sym e) in
+      goes_on taken i reached (h.0, λ c. true≢false (sym (among_from i taken c) ∙ not-true _ h.1))) (λ c m. absurd (no_member c m))
+
+  -- what is reached, in a list
+  pub reached_list : (list : List ObjectId) × ((i : ObjectId) → Contains list i ↔ Reaches next starts i)
+  reached_list =
+      let order : (ids : List ObjectId) × IsBreadthOrder next starts ids = breadth_exists in
+      (order.0, λ i. (given_is_reached next starts order.0 (work_begins next starts order.0 (work_from_breadth next starts order.0 order.1)) i, reached_is_given next starts order.0 (work_from_breadth next starts order.0 order.1) i))
+
+  module _ (order : CommitTimeOrder) (time : ObjectId → ℤ) where
+    abbrev pending : List ObjectId → List ObjectId
+    pending taken = filter (λ j. not (is_among j taken)) (named_by next starts taken)
+
+    pending_is : (taken : List ObjectId) (i : ObjectId) → Contains (pending taken) i ↔ IsPending next starts taken i
+    pending_is taken i = (
+      λ c.
+      let e : (not (is_among i taken) && is_among i (named_by next starts taken)) ≡ true = sym (among-filter i (λ j. not (is_among j taken)) (named_by next starts taken)) ∙ among_from i (pending taken) c in
+      (among_is i (named_by next starts taken) (and_parts _ _ e).1, λ t. true≢false (sym (among_from i taken t) ∙ not-true _ (and_parts _ _ e).0)),
+      λ p. among_is i (pending taken) (among-filter i (λ j. not (is_among j taken)) (named_by next starts taken) ∙ and_from _ _ (not_from_false _ (false_from_ne_true _ (λ e. p.1 (among_is i taken e)))) (among_from i _ p.0)),
+    )
+
+    pub time_exists : (ids : List ObjectId) × IsTimeOrder order time next starts ids
+    time_exists =
+        let steps : (ids : List ObjectId) × ((k : ℕ) → k ≤ length ids → slice_get ids k ≡ best order time (pending (take k ids))) =
+        steps_exist all (λ taken. best order time (pending taken)) AreReached
+        (λ taken i reached e. goes_on taken i reached (best_of order time (IsPending next starts taken) (pending taken) (pending_is taken) (Some i) e).among) (λ c m. absurd (no_member c m)) in
+        (steps.0, λ k b. best_of order time (IsPending next starts (take k steps.0)) (pending (take k steps.0)) (pending_is (take k steps.0)) (slice_get steps.0 k) (steps.1 k b))
+
+-- all parents that the store names
+abbrev all_parents : Objects → List ObjectId
+all_parents objects = flat_map (λ e. parents_in (commit_of_object e.0 (Some e.1))) (map_of.entries objects)
+
+parents_named : (objects : Objects) (c i : ObjectId) → Contains (parents_of objects c) i → is_among i (all_parents objects) ≡ true
+parents_named objects c i h = go (map_of.get objects c) refl
+  where
+    go : (o : Option Object) → map_of.get objects c ≡ o → is_among i (all_parents objects) ≡ true
+    go None e = absurd (no_member i (subst (λ x. Contains (parents_in (commit_of_object c x)) i) e h))
+    go (Some object) e =
+        among_flat (λ x. parents_in (commit_of_object x.0 (Some x.1))) (map_of.entries objects) (c, object) i
+        (found_entry (map_of.entries objects) c object (sym (map_of.get-entries objects c) ∙ e))
+        (among_from i _ (subst (λ x. Contains (parents_in (commit_of_object c x)) i) e h))
+
+-- each id that is named next is a parent
+abbrev pub AreParents : Objects → (ObjectId → List ObjectId) → Type 0
+AreParents objects next = (c i : ObjectId) → Contains (next c) i → Contains (parents_of objects c) i
+
+-- the starts and all parents that the store names, among which is all that the starts reach through parents
+abbrev pub known_ids : Objects → List ObjectId → List ObjectId
+known_ids objects starts = starts ++ all_parents objects
+
+pub known : (objects : Objects) (next : ObjectId → List ObjectId) (starts : List ObjectId) → AreParents objects next → (i : ObjectId) → Reaches next starts i → Contains (known_ids objects starts) i
+known objects next starts parents i (start s) = Contains-append_left starts (all_parents objects) i s
+known objects next starts parents i (step {c = c} r n) = Contains-append_right starts (all_parents objects) i (among_is i (all_parents objects) (parents_named objects c i (parents c i n)))
