@@ -5,8 +5,6 @@ mod agreeing;
 mod named;
 mod sound;
 mod stored;
-#[cfg(test)]
-mod tests;
 
 pub use agreeing::check;
 use gix_hash::ObjectId;

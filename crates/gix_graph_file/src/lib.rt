@@ -9,8 +9,6 @@ mod chain;
 mod error;
 mod packing;
 mod table;
-#[cfg(test)]
-mod tests;
 mod trailer;
 
 pub use chain::graph_of_chain;

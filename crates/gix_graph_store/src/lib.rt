@@ -6,8 +6,6 @@ ghost use Rattle.gix_revwalk.specs.Agreeing.{rows_in};
 ghost use Rattle.gix_graph_store.specs.WithRows.{with_rows, objects_with};
 
 pub mod laws;
-#[cfg(test)]
-mod tests;
 mod text;
 
 use gix_commitgraph::Graph;

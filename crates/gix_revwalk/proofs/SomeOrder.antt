@@ -114,8 +114,8 @@ module _ (next : ObjectId → List ObjectId) (starts all : List ObjectId) (finit
     pending_is : (taken : List ObjectId) (i : ObjectId) → Contains (pending taken) i ↔ IsPending next starts taken i
     pending_is taken i = (
       λ c.
-      let e : (not (is_among i taken) && is_among i (named_by next starts taken)) ≡ true = sym (among-filter i (λ j. not (is_among j taken)) (named_by next starts taken)) ∙ among_from i (pending taken) c in
-      (among_is i (named_by next starts taken) (and_parts _ _ e).1, λ t. true≢false (sym (among_from i taken t) ∙ not-true _ (and_parts _ _ e).0)),
+          let e : (not (is_among i taken) && is_among i (named_by next starts taken)) ≡ true = sym (among-filter i (λ j. not (is_among j taken)) (named_by next starts taken)) ∙ among_from i (pending taken) c in
+          (among_is i (named_by next starts taken) (and_parts _ _ e).1, λ t. true≢false (sym (among_from i taken t) ∙ not-true _ (and_parts _ _ e).0)),
       λ p. among_is i (pending taken) (among-filter i (λ j. not (is_among j taken)) (named_by next starts taken) ∙ and_from _ _ (not_from_false _ (false_from_ne_true _ (λ e. p.1 (among_is i taken e)))) (among_from i _ p.0)),
     )
 

@@ -1,6 +1,6 @@
 //! Files that git wrote, whole and damaged.
-use crate::{ChainError, Chunk, Error, graph_of, graph_of_chain, has_its_hash};
 use gix_commitgraph::{Graph, GraphError, Position};
+use gix_graph_file::{ChainError, Chunk, Error, graph_of, graph_of_chain, has_its_hash};
 use std::alloc::Global;
 use std::process::Abort;
 use std::test::Fail;

@@ -1,8 +1,8 @@
 //! Each call on small graphs.
-use crate::WithRows;
 use ParentPlace::{At, Fault};
 use gix_commitgraph::{Graph, ParentPlace, Row};
 use gix_graph_check::{Disagreement, check};
+use gix_graph_store::WithRows;
 use gix_hash::ObjectId;
 use gix_object::Kind;
 use gix_object::find::Find;

@@ -1,7 +1,7 @@
 //! Each call on a small graph.
-use crate::{Disagreement, check, first_unsound, heads};
 use ParentPlace::{At, Fault};
 use gix_commitgraph::{GENERATION_NUMBER_INFINITY, Graph, ParentPlace, Row};
+use gix_graph_check::{Disagreement, check, first_unsound, heads};
 use gix_hash::ObjectId;
 use gix_object::Kind;
 use gix_object::memory::MemoryStore;

@@ -1,0 +1,35 @@
+//! The texts of all faults.
+use gix_commands::Fault;
+use gix_parts::hash::ObjectId;
+use std::test::Fail;
+
+#[test]
+fn prints_its_text(rt: HostRuntime) -> Result<(), Fail> {
+    let id = ObjectId::Sha1([0x11; 20]);
+    for (fault, text) in [
+        (Fault::Usage, "usage"),
+        (Fault::Id(2), "bad id in word 2"),
+        (Fault::Record(1), "bad record 1"),
+        (
+            Fault::Missing(id),
+            "missing 1111111111111111111111111111111111111111",
+        ),
+        (
+            Fault::WrongKind(id),
+            "wrong kind 1111111111111111111111111111111111111111",
+        ),
+        (Fault::Broken, "broken object"),
+        (
+            Fault::Cycle(id),
+            "cycle 1111111111111111111111111111111111111111",
+        ),
+        (Fault::Memory, "out of memory"),
+        (Fault::Read, "read failed"),
+        (Fault::Write, "write failed"),
+        (Fault::Internal, "internal fault"),
+    ] {
+        let printed = fault.to_string(rt.alloc())?;
+        assert_eq!(rt; printed.as_str(), text);
+    }
+    Ok(())
+}

@@ -1,0 +1,9 @@
+//! Tests of rows from git's commit-graph files: read, tested, and put beside a store.
+#![tactic(auto)]
+
+#[cfg(test)]
+mod checks;
+#[cfg(test)]
+mod files;
+#[cfg(test)]
+mod stores;
