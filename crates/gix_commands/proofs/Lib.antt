@@ -15,6 +15,7 @@ mod UncutWords
 mod Parts
 mod CommitRuns
 mod TopoParts
+mod TextParts
 mod TopoRuns
 mod TreeParts
 mod FileRuns

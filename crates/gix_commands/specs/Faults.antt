@@ -32,7 +32,7 @@ fault_of_walk (error.HiddenGraph (hidden_by.Find e)) = fault_of_find e
 fault_of_walk (error.HiddenGraph (hidden_by.ObjectDecode e)) = fault.Broken
 fault_of_walk error.Memory = fault.Memory
 
--- without rows none is missing
+-- without rows, and with rows that agree with the store, none is missing
 abbrev pub fault_of_topo_walk : TopoError → Fault
 fault_of_topo_walk topo_error.MissingIndegreeUnexpected = fault.Internal
 fault_of_topo_walk topo_error.MissingStateUnexpected = fault.Internal

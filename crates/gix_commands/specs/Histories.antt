@@ -10,6 +10,7 @@ use Rattle.gix_revwalk.specs.declared.Parents.TheVariants as mode
 use Rattle.gix_simple.specs.declared.Sorting.{Sorting}
 use Rattle.gix_topo.specs.declared.Sorting.{Sorting as TopoSorting}
 use Rattle.gix_revwalk.specs.Commits.{parents_of, commit_at, time_of}
+use Rattle.gix_revwalk.specs.Texts.{text_next}
 use Rattle.gix_hash.specs.Reach.{Reaches, Tells}
 use Rattle.gix_topo.specs.WalkSet.{IsInWalk, IsAcyclicIn}
 use Rattle.gix_revwalk.specs.Ids.{AreDistinct, new_ids}
@@ -27,9 +28,13 @@ use Rattle.gix_commands.specs.Run.{Runs}
 use Rattle.gix_commands.specs.Walked.{line_of}
 use Rattle.gix_commands.specs.Words.{Ahead, Commits, request_of}
 
+-- the tips reach the commit through these parents, and the hidden tips don't
+abbrev pub IsShownBy : (ObjectId → List ObjectId) → List ObjectId → List ObjectId → ObjectId → Type 0
+IsShownBy next tips hidden i = Reaches next tips i × (Reaches next hidden i → ⊥)
+
 -- the tips reach the commit, and the hidden tips don't
 abbrev pub IsShown : Objects → List ObjectId → List ObjectId → ObjectId → Type 0
-IsShown objects tips hidden i = Reaches (parents_of objects) tips i × (Reaches (parents_of objects) hidden i → ⊥)
+IsShown objects = IsShownBy (parents_of objects)
 
 -- all that the ids reach are whole commits
 abbrev pub AreWhole : Objects → List ObjectId → Type 0
@@ -75,31 +80,36 @@ SimpleListsOfPart =
     (hidden ≡ [] → AreWhole objects tips) → Runs words (Some input) old (Ok tt) new →
     (ids : List ObjectId) × Lists objects by tips hidden ids × Appends old new (lines_of_ids ids)
 
--- No id is there twice, and each is one that the tips reach and the ends don't. All of these are there, where none of them is its own
--- ancestor. They are in the order that was asked for.
-pub record ListsDown (objects : Objects) (by : TopoSorting) (tips ends ids : List ObjectId) : Type 0 where
+-- No id is there twice, and each is one that the tips reach through these parents and the ends don't. All of these are there, where none of
+-- them is its own ancestor. They are in the order that was asked for.
+pub record ListsDown (objects : Objects) (next : ObjectId → List ObjectId) (by : TopoSorting) (tips ends ids : List ObjectId) : Type 0 where
   pub once : AreDistinct ids
-  pub shown : (i : ObjectId) → Contains ids i → IsShown objects tips ends i
-  pub all : IsAcyclicIn (parents_of objects) (IsShown objects tips ends) → (i : ObjectId) → IsShown objects tips ends i → Contains ids i
-  pub in_order : IsSorted by (time_of objects) (parents_of objects) (IsInWalk (parents_of objects) (parents_of objects) tips ends) tips ids
+  pub shown : (i : ObjectId) → Contains ids i → IsShownBy next tips ends i
+  pub all : IsAcyclicIn next (IsShownBy next tips ends) → (i : ObjectId) → IsShownBy next tips ends i → Contains ids i
+  pub in_order : IsSorted by (time_of objects) next (IsInWalk next next tips ends) tips ids
 
--- The same of `topo` and `date`.
+-- Parents are those that the texts of commits name, also where a text breaks off behind them. Where all that tips and ends reach are whole
+-- commits, these are their parents.
+pub record ListsRead (objects : Objects) (by : TopoSorting) (tips ends ids : List ObjectId) : Type 0 where
+  pub read : ListsDown objects (text_next objects) by tips ends ids
+  pub whole : AreWhole objects (tips ++ ends) → ListsDown objects (parents_of objects) by tips ends ids
+
+-- The same of `topo` and `date`, of which nothing is asked: a run that ends well has read all that it needs of what tips and ends reach.
 abbrev pub TopoLists : Type 0
 TopoLists =
     (words : List (List ℕ)) (input : List ℕ) (records : List Record) (by : TopoSorting) (tips ends : List ObjectId) (old new : Option (List ℕ)) →
-    request_of words ≡ Ok (Commits (Topo by) tips ends) → AreRecords records input → AreWhole (stored records) (tips ++ ends) →
-    Runs words (Some input) old (Ok tt) new →
-    (ids : List ObjectId) × ListsDown (stored records) by tips ends ids × Appends old new (lines_of_ids ids)
+    request_of words ≡ Ok (Commits (Topo by) tips ends) → AreRecords records input → Runs words (Some input) old (Ok tt) new →
+    (ids : List ObjectId) × ListsRead (stored records) by tips ends ids × Appends old new (lines_of_ids ids)
 
 -- Where the records are a part of a store, a run of `topo` or `date` that ends well writes such a list of the whole store, whatever else is
--- in it. This asks that all that tips and ends reach are whole commits of that store. Of the records it asks nothing more.
+-- in it.
 abbrev pub TopoListsOfPart : Type 0
 TopoListsOfPart =
     (words : List (List ℕ)) (input : List ℕ) (records : List Record) (by : TopoSorting) (tips ends : List ObjectId)
     (old new : Option (List ℕ)) (objects : Objects) →
     request_of words ≡ Ok (Commits (Topo by) tips ends) → AreRecords records input → IsPartOf (stored records) objects →
-    AreWhole objects (tips ++ ends) → Runs words (Some input) old (Ok tt) new →
-    (ids : List ObjectId) × ListsDown objects by tips ends ids × Appends old new (lines_of_ids ids)
+    Runs words (Some input) old (Ok tt) new →
+    (ids : List ObjectId) × ListsRead objects by tips ends ids × Appends old new (lines_of_ids ids)
 
 -- out of memory, or the input or the output failed
 abbrev pub IsOutside : Fault → Type 0
@@ -147,7 +157,7 @@ TopoSucceeds =
 -- that the tip reaches and the other doesn't, each once.
 abbrev pub DrawsDifference : Type 0
 DrawsDifference =
-    (objects : Objects) (tip hidden : ObjectId) (infos : List Info) → Draws objects tip hidden infos (Ok tt) →
+    (objects : Objects) (tip hidden : ObjectId) (infos : List Info) → Draws objects [] tip hidden infos (Ok tt) →
     AreDistinct (map (λ info. info.id) infos) × ((i : ObjectId) → Contains (map (λ info. info.id) infos) i ↔ IsShown objects (tip ∷ []) (hidden ∷ []) i)
 
 -- Over words that ask for it and records, a run of `ahead` that ends well writes how many commits the one reaches and the other

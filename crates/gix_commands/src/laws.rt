@@ -22,14 +22,15 @@ pub fn simple_succeeds()
     ensures { SimpleSucceeds }
 {}
 
-/// `topo` and `date` write, where all that is reached are whole commits, the ids of commits that the tips reach and the ends don't, each
-/// once, in their order; and all of these commits, where none of them is its own ancestor.
+/// `topo` and `date` write the ids of commits that the tips reach and the ends don't, each once, in their order; and all of these commits,
+/// where none of them is its own ancestor. Nothing is asked of the records. Parents are those that the texts of commits name, and a commit
+/// whose text breaks off before its committer has the time 0; where all that is reached are whole commits, these are their parents.
 pub fn topo_lists()
     ensures { TopoLists }
 {}
 
 /// Where the records are a part of a repository, such a list of `topo` or `date` is right of the whole repository, whatever else is in it.
-/// This asks that all that tips and ends reach are whole commits of the repository. Of the records it asks nothing more.
+/// Nothing more is asked, of the records or of the repository.
 pub fn topo_lists_of_part()
     ensures { TopoListsOfPart }
 {}
