@@ -13,6 +13,7 @@ use gix_hash::ObjectId;
 pub use named::heads;
 pub use sound::first_unsound;
 use std::alloc::AllocError;
+pub use stored::{StoredCommit, read_whole};
 use thiserror::Error;
 
 /// Why rows aren't known to agree with a store.

@@ -11,17 +11,21 @@ use std::alloc::{AllocError, Global};
 
 /// What the text of a commit says.
 #[derive(Drop)]
-pub(crate) struct StoredCommit {
-    // The id of the tree.
+pub struct StoredCommit {
+    /// The id of the tree.
     pub tree: ObjectId,
-    // The ids of the parents, in their order.
+    /// The ids of the parents, in their order.
     pub parent_ids: Vec<ObjectId>,
-    // The committer's seconds.
+    /// The committer's seconds.
     pub time: i64,
 }
 
-/// The commit that the items say, where they reach a committer.
-pub(crate) fn read_whole(
+/// The commit that the items say, where they reach a committer, and None where they don't.
+///
+/// # Errors
+///
+/// `AllocError` when out of memory.
+pub fn read_whole(
     alloc: Global,
     mut items: CommitRefIter<'_>,
 ) -> Result<Option<StoredCommit>, AllocError>

@@ -10,3 +10,5 @@ pub mod Texts
 pub mod SoundRows
 -- A worked store.
 pub mod StoredExample
+-- Rows that say what is stored.
+pub mod StoredCommits

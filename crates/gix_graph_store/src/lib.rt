@@ -6,6 +6,7 @@ ghost use Rattle.gix_revwalk.specs.Agreeing.{rows_in};
 ghost use Rattle.gix_graph_store.specs.WithRows.{with_rows, objects_with};
 
 pub mod laws;
+mod stored;
 #[cfg(test)]
 mod tests;
 mod text;
@@ -14,6 +15,7 @@ use gix_commitgraph::Graph;
 use gix_hash::ObjectId;
 use gix_object::Kind;
 use gix_object::find::{Error, Find};
+pub use stored::check_stored;
 
 /// A store that has a commit for each row beside its own objects. Where the store has no object of a row's id, there is a text written
 /// from the row: its tree, its parents and the committer's seconds. A row with a corrupt place has no text.

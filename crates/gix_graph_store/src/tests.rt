@@ -1,5 +1,5 @@
 //! Each call on small graphs.
-use crate::WithRows;
+use crate::{WithRows, check_stored};
 use ParentPlace::{At, Fault};
 use gix_commitgraph::{Graph, ParentPlace, Row};
 use gix_graph_check::{Disagreement, check};
@@ -124,5 +124,81 @@ fn rows_of_long_ids_agree_with_their_texts(rt: HostRuntime) -> Result<(), Fail> 
     let graph = Graph::new(rt.alloc(), rows)?;
     let store = WithRows::new(MemoryStore::new(rt.alloc()), Some(&graph));
     assert_eq!(rt; check(rt.alloc(), &graph, &store).err(), None);
+    Ok(())
+}
+
+/// What the check of what is stored says, where these objects are.
+fn stored_check(
+    alloc: Global,
+    objects: &[(u8, Kind, &[u8])],
+) -> Result<Option<Disagreement>, Fail> {
+    let graph = graph_of(alloc, &LINES)?;
+    let mut store = MemoryStore::new(alloc);
+    for (byte, kind, text) in objects {
+        store.insert(id(*byte), *kind, text)?;
+    }
+    Ok(check_stored(alloc, &graph, &store).err())
+}
+
+/// A commit of the row of 7 in other words, and commits that differ from it in the tree, in the parents, in the seconds.
+const SEVEN: &[u8] = b"tree 4b4b4b4b4b4b4b4b4b4b4b4b4b4b4b4b4b4b4b4b
+parent 0606060606060606060606060606060606060606
+author A <a@b> 1 +0000
+committer C <c@d> 1700000000 +0200
+
+seven";
+
+const OTHERS: [&[u8]; 4] = [
+    b"tree 4c4b4b4b4b4b4b4b4b4b4b4b4b4b4b4b4b4b4b4b
+parent 0606060606060606060606060606060606060606
+author <> 0 +0000
+committer <> 1700000000 +0000
+
+",
+    b"tree 4b4b4b4b4b4b4b4b4b4b4b4b4b4b4b4b4b4b4b4b
+parent 0808080808080808080808080808080808080808
+author <> 0 +0000
+committer <> 1700000000 +0000
+
+",
+    b"tree 4b4b4b4b4b4b4b4b4b4b4b4b4b4b4b4b4b4b4b4b
+author <> 0 +0000
+committer <> 1700000000 +0000
+
+",
+    b"tree 4b4b4b4b4b4b4b4b4b4b4b4b4b4b4b4b4b4b4b4b
+parent 0606060606060606060606060606060606060606
+author <> 0 +0000
+committer <> 1700000001 +0000
+
+",
+];
+
+#[test]
+fn what_is_stored_is_as_the_rows_say(rt: HostRuntime) -> Result<(), Fail> {
+    assert_eq!(rt; stored_check(rt.alloc(), &[])?, None);
+    let stored = [
+        (5, Kind::Tag, b"five".as_slice()),
+        (7, Kind::Commit, SEVEN),
+        (8, Kind::Commit, EIGHT),
+    ];
+    assert_eq!(rt; stored_check(rt.alloc(), &stored)?, None);
+    Ok(())
+}
+
+#[test]
+fn what_is_stored_is_not_as_a_row_says(rt: HostRuntime) -> Result<(), Fail> {
+    let seven = Some(Disagreement::Row(id(7)));
+    for text in OTHERS {
+        let stored = [(8, Kind::Commit, EIGHT), (7, Kind::Commit, text)];
+        assert_eq!(rt; stored_check(rt.alloc(), &stored)?, seven);
+    }
+    let stored = [(8, Kind::Blob, b"".as_slice()), (7, Kind::Tag, SEVEN)];
+    assert_eq!(rt; stored_check(rt.alloc(), &stored)?, seven);
+    let stored = [(9, Kind::Commit, SEVEN)];
+    assert_eq!(rt;
+        stored_check(rt.alloc(), &stored)?,
+        Some(Disagreement::Row(id(9)))
+    );
     Ok(())
 }

@@ -1,0 +1,29 @@
+-- What is stored at the ids of rows, and what the rows say.
+use Rattle.std.specs.Prelude.{◌≡◌, ◌<◌, ℕ, List, Some, length}
+use Rattle.std.specs.FinMap.{get}
+use Rattle.gix_hash.specs.declared.ObjectId.{ObjectId}
+use Rattle.gix_object.specs.Object.{Object, Objects}
+use Rattle.gix_object.specs.CommitText.{Commit}
+use Rattle.gix_commitgraph.specs.Rows.{GraphRow, row_at}
+use Rattle.gix_revwalk.specs.Commits.{commit_at}
+use Rattle.gix_graph_check.specs.declared.Disagreement.{Disagreement}
+use Rattle.gix_graph_check.specs.declared.Disagreement.TheVariants.{Row, Store, Memory}
+use Rattle.gix_graph_store.specs.Laws.{commit_said}
+
+-- what is stored at the row's id, if anything is, is a commit, and the one that the row says
+abbrev pub IsStoredSo : List GraphRow → Objects → GraphRow → Type 0
+IsStoredSo rows objects row = (object : Object) → get objects row.id ≡ Some object
+    → (commit : Commit) × (commit_at objects row.id ≡ Some commit) × (commit_said rows (Some row) ≡ Some commit)
+
+-- why it isn't known of the row of this number
+abbrev pub IsNotStoredSo : Objects → (ObjectId → Type 0) → List GraphRow → ℕ → Disagreement → Type 0
+IsNotStoredSo objects faulty rows n (Row i) = ((row_at rows n).id ≡ i) × ¬ IsStoredSo rows objects (row_at rows n)
+IsNotStoredSo objects faulty rows n (Store i) = ((row_at rows n).id ≡ i) × faulty i
+IsNotStoredSo objects faulty rows n Memory = Unit {0}
+
+-- the first row of which it isn't known, and why
+pub record StoredDisagrees (objects : Objects) (faulty : ObjectId → Type 0) (rows : List GraphRow) (why : Disagreement) : Type 0 where
+  pub number : ℕ
+  pub within : number < length rows
+  pub disagrees : IsNotStoredSo objects faulty rows number why
+  pub before : (n : ℕ) → n < number → IsStoredSo rows objects (row_at rows n)

@@ -1,0 +1,130 @@
+//! Whether what is stored at the ids of rows is what the rows say.
+ghost use Rattle.std.specs.Prelude.{◌≡◌, ◌≢◌, ◌<◌, length, Some, IfOk, IfErr, OnOk, MatchBool, MatchResult};
+ghost use Rattle.gix_hash.specs.Id.{is_same};
+ghost use Rattle.gix_commitgraph.specs.Rows.{row_at};
+ghost use Rattle.gix_commitgraph.specs.GraphCommit.{rows_of_commit, row_of_commit};
+ghost use Rattle.gix_revwalk.specs.RowParents.{ids_at};
+ghost use Rattle.gix_graph_check.specs.StoredCommits.{commit_shown};
+ghost use Rattle.gix_graph_store.specs.Laws.{StoredAgree};
+ghost use Rattle.gix_graph_store.specs.Saying.{Says, IsSaid};
+ghost use Rattle.gix_graph_store.specs.StoredRows.{IsStoredSo, IsNotStoredSo, StoredDisagrees};
+
+use gix_commitgraph::{Commit, Graph, Position};
+use gix_graph_check::{Disagreement, StoredCommit, read_whole};
+use gix_hash::ObjectId;
+use gix_object::Kind;
+use gix_object::commit::CommitRefIter;
+use gix_object::find::{Error, Find};
+use std::alloc::{AllocError, Global};
+
+/// Whether two ids are one.
+fn is_id(id: ObjectId, other: &ObjectId) -> bool
+    ensures { result ≡ is_same id other.now }
+{
+    id.cmp(other).is_eq()
+}
+
+/// Whether the places of the commit are rows of these ids, in their order.
+fn are_parents(graph: &Graph, commit: Commit<'_>, ids: &[ObjectId]) -> bool
+    requires { rows_of_commit commit ≡ graph.now }
+    ensures { MatchBool result (ids_at graph.now (row_of_commit commit.entry).parents ≡ Some ids.now) (ids_at graph.now (row_of_commit commit.entry).parents ≢ Some ids.now) }
+{
+    let mut places = commit.iter_parents();
+    for id in ids {
+        let Some(place) = places.next() else {
+            return false;
+        };
+        let Ok(position) = place else {
+            return false;
+        };
+        if !is_id(graph.commit_at(position).id(), id) {
+            return false;
+        }
+    }
+    places.next().is_none()
+}
+
+/// Whether the row of the commit says what its text says.
+fn says(graph: &Graph, commit: Commit<'_>, stored: &StoredCommit) -> bool
+    requires { rows_of_commit commit ≡ graph.now }
+    ensures { MatchBool result (Says graph.now (row_of_commit commit.entry) (commit_shown stored.now)) (¬ Says graph.now (row_of_commit commit.entry) (commit_shown stored.now)) }
+{
+    if stored.time != commit.committer_timestamp() {
+        return false;
+    }
+    if !is_id(stored.tree, &commit.root_tree_id()) {
+        return false;
+    }
+    are_parents(graph, commit, stored.parent_ids.as_slice())
+}
+
+/// Whether an object of the commit's id is the commit that the row says.
+fn is_said(
+    alloc: Global,
+    graph: &Graph,
+    commit: Commit<'_>,
+    id: ObjectId,
+    kind: Kind,
+    text: &[u8],
+) -> Result<bool, AllocError>
+    requires { rows_of_commit commit ≡ graph.now }
+    ensures { IfOk result (λ said. MatchBool said (IsSaid graph.now (row_of_commit commit.entry) id kind text.now) (¬ IsSaid graph.now (row_of_commit commit.entry) id kind text.now)) }
+{
+    match kind {
+        Kind::Commit => {}
+        Kind::Tree | Kind::Blob | Kind::Tag => return Ok(false),
+    }
+    match read_whole(alloc, CommitRefIter::from_bytes(text, id.kind()))? {
+        Some(stored) => Ok(says(graph, commit, &stored)),
+        None => Ok(false),
+    }
+}
+
+/// Tests what is stored at the id of the row of this number.
+fn check_row<F: Find>(
+    alloc: Global,
+    graph: &Graph,
+    store: &F,
+    number: u32,
+    text: &mut Vec<u8>,
+) -> Result<(), Disagreement>
+    requires { number < length graph.now }
+    ensures { MatchResult result (λ _. IsStoredSo graph.now (F.objects store.now) (row_at graph.now number)) (IsNotStoredSo (F.objects store.now) (F.faulty store.now) graph.now number) }
+{
+    let commit = graph.commit_at(Position(number));
+    let id = commit.id();
+    let kind = match store.find_into(&id, text) {
+        Ok(Some(kind)) => kind,
+        Ok(None) => return Ok(()),
+        Err(Error::Store) => return Err(Disagreement::Store(id)),
+        Err(Error::Memory) => return Err(Disagreement::Memory),
+    };
+    if is_said(alloc, graph, commit, id, kind, text.as_slice())? {
+        Ok(())
+    } else {
+        Err(Disagreement::Row(id))
+    }
+}
+
+/// Tests that each object that is stored at the id of a row is the commit that the row says: its bytes can be read to the committer,
+/// and have the row's tree, the ids at the row's places and the row's seconds. So Ok is what `told_rows_agree` of [`laws`](crate::laws)
+/// asks for.
+///
+/// Each id is looked up once, in rising order. Where nothing is stored, nothing is read.
+///
+/// # Errors
+///
+/// Of the first row, in this order, of which this isn't known:
+/// - `Row` with its id, where another object is stored there, or the row has a corrupt place and so says no commit,
+/// - `Store` with its id, where the store failed,
+/// - `Memory` when out of memory.
+pub fn check_stored<F: Find>(alloc: Global, graph: &Graph, store: &F) -> Result<(), Disagreement>
+    ensures agrees { OnOk result (StoredAgree graph.now (F.objects store.now)) }
+    ensures disagrees { IfErr result (StoredDisagrees (F.objects store.now) (F.faulty store.now) graph.now) }
+{
+    let mut text = Vec::new(alloc);
+    for number in 0..graph.num_commits() {
+        check_row(alloc, graph, store, number, &mut text)?;
+    }
+    Ok(())
+}
