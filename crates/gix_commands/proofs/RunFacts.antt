@@ -141,6 +141,9 @@ module _ (objects : Objects) (old : Option (List ℕ)) (order : Order) (tips hid
     serves_drawn (Err (fault.WrongKind i)) w = serves _ (w (λ e. cc))
     serves_drawn (Err fault.Broken) w = serves _ (w (λ e. cc))
     serves_drawn (Err (fault.Cycle i)) w = serves _ (w (λ e. cc))
+    serves_drawn (Err (fault.Graph e)) w = serves _ (w (λ e. cc))
+    serves_drawn (Err (fault.Row i)) w = serves _ (w (λ e. cc))
+    serves_drawn (Err (fault.Disagrees i)) w = serves _ (w (λ e. cc))
     serves_drawn (Err fault.Read) w = serves _ (w (λ e. cc))
     serves_drawn (Err fault.Internal) w = serves _ (w (λ e. cc))
 
