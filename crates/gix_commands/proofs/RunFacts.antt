@@ -157,6 +157,9 @@ module _ (objects : Objects) (rows : List GraphRow) (old : Option (List ℕ)) (o
     serves_drawn (Err (fault.WrongKind i)) w = serves _ (w (λ e. cc))
     serves_drawn (Err fault.Broken) w = serves _ (w (λ e. cc))
     serves_drawn (Err (fault.Cycle i)) w = serves _ (w (λ e. cc))
+    serves_drawn (Err (fault.Graph e)) w = serves _ (w (λ e. cc))
+    serves_drawn (Err (fault.Row i)) w = serves _ (w (λ e. cc))
+    serves_drawn (Err (fault.Disagrees i)) w = serves _ (w (λ e. cc))
     serves_drawn (Err fault.Read) w = serves _ (w (λ e. cc))
     serves_drawn (Err fault.Internal) w = serves _ (w (λ e. cc))
 

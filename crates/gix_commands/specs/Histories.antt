@@ -123,6 +123,9 @@ IsOutside (fault.Missing i) = ⊥
 IsOutside (fault.WrongKind i) = ⊥
 IsOutside fault.Broken = ⊥
 IsOutside (fault.Cycle i) = ⊥
+IsOutside (fault.Graph e) = ⊥
+IsOutside (fault.Row i) = ⊥
+IsOutside (fault.Disagrees i) = ⊥
 IsOutside fault.Internal = ⊥
 
 -- nothing in the words and the input was at fault

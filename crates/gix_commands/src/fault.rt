@@ -1,6 +1,7 @@
 //! Why a run failed.
 ghost use Rattle.std.specs.Prelude.{◌≡◌};
 
+use gix_graph_file::ChainError;
 use gix_parts::hash::ObjectId;
 use gix_parts::object::find::existing_iter;
 use gix_parts::records;
@@ -33,6 +34,17 @@ pub enum Fault {
     /// The tree of this id is under itself.
     #[error("cycle {0}")]
     Cycle(ObjectId),
+    /// The layers are no commit-graph that can be read. Nothing is written, and of the input nothing is read.
+    #[error("bad commit-graph: {0}")]
+    Graph(ChainError),
+    /// The row of this id can't be used without a store: it is the first, in rising order of ids, that has a parent without a row or
+    /// of no lesser generation, or that has the generation 4294967295. Nothing is written, and of the input nothing is read.
+    #[error("bad row {0} in the commit-graph")]
+    Row(ObjectId),
+    /// The input has an object of this id that isn't the commit that the row of the id says: it is no commit that can be read to its
+    /// committer, or has another tree, time or list of parents. It is the first such row, in rising order of ids. Nothing is written.
+    #[error("commit-graph disagrees with {0}")]
+    Disagrees(ObjectId),
     /// Memory ran out.
     #[error("out of memory")]
     Memory,
@@ -139,6 +151,7 @@ impl From<depthfirst::Error> for Fault {
 #[cfg(test)]
 mod tests {
     use super::*;
+    use gix_graph_file::Error;
     use std::test::Fail;
 
     #[test]
@@ -160,6 +173,18 @@ mod tests {
             (
                 Fault::Cycle(id),
                 "cycle 1111111111111111111111111111111111111111",
+            ),
+            (
+                Fault::Graph(ChainError::Layer(1, Error::Base)),
+                "bad commit-graph: layer 1: the chunk BASE isn't the hashes of the layers below",
+            ),
+            (
+                Fault::Row(id),
+                "bad row 1111111111111111111111111111111111111111 in the commit-graph",
+            ),
+            (
+                Fault::Disagrees(id),
+                "commit-graph disagrees with 1111111111111111111111111111111111111111",
             ),
             (Fault::Memory, "out of memory"),
             (Fault::Read, "read failed"),
