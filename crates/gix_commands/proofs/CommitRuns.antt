@@ -27,7 +27,7 @@ pub lines_by_ids : (infos : List Info) → lines_of infos ≡ lines_of_ids (map 
 lines_by_ids [] = refl
 lines_by_ids (info ∷ infos) = ap (λ bs. line_of info.id ++ bs) (lines_by_ids infos)
 
-ok_same : {a b : Request} → ◌≡◌ {A = Result Request Fault} (Ok a) (Ok b) → a ≡ b
+pub ok_same : {a b : Request} → ◌≡◌ {A = Result Request Fault} (Ok a) (Ok b) → a ≡ b
 ok_same e = cc
 
 -- what was asked for of these records was served

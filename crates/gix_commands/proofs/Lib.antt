@@ -22,3 +22,5 @@ mod FileRuns
 mod SimpleFaults
 mod SilentRuns
 mod AheadRuns
+mod OverGraphs
+mod ToldRuns

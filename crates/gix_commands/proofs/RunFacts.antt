@@ -40,7 +40,7 @@ use Rattle.gix_commands.proofs.TopoInternalFacts.{drawn_sound, built_agreeing, b
 use Rattle.gix_commands.proofs.TreeFacts.{find_unnumbered, tree_sound, tree_unnumbered}
 use Rattle.gix_commands.proofs.WordFaults.{OfWords, request_words}
 
-err_same : {e f : Fault} → ◌≡◌ {A = Result (Unit {0}) Fault} (Err e) (Err f) → e ≡ f
+pub err_same : {e f : Fault} → ◌≡◌ {A = Result (Unit {0}) Fault} (Err e) (Err f) → e ≡ f
 err_same same = cc
 
 -- without rows a store has its own objects alone
@@ -99,7 +99,7 @@ topo_ends_unnumbered n (finished new h) = λ e. cc
 topo_ends_unnumbered n (failed e f new h is) = λ same. topo_unnumbered n e (sym is ∙ err_same same)
 topo_ends_unnumbered n (cut_short info new h) = λ e. cc
 
-serves_unnumbered : {objects : Objects} {rows : List GraphRow} {old new : Option (List ℕ)} {request : Request} {answer : Result (Unit {0}) Fault} (n : ℕ) → Serves objects rows old request answer new → answer ≢ Err (fault.Record n)
+pub serves_unnumbered : {objects : Objects} {rows : List GraphRow} {old new : Option (List ℕ)} {request : Request} {answer : Result (Unit {0}) Fault} (n : ℕ) → Serves objects rows old request answer new → answer ≢ Err (fault.Record n)
 serves_unnumbered n (walked walk infos s ends a) = ends_unnumbered n ends
 serves_unnumbered n (not_walked why f) = λ same. walk_unnumbered n why (err_same same)
 serves_unnumbered n (walked_down walk infos built ends a) = topo_ends_unnumbered n ends
@@ -112,7 +112,7 @@ serves_unnumbered n (not_behind m a f) = ends_unnumbered n f.1.ends
 serves_unnumbered n unserved = λ e. cc
 serves_unnumbered n not_written = λ e. cc
 
-told_same : (bytes input : List ℕ) (has : Option (List ℕ)) → has ≡ Some bytes → Tells has input → input ≡ bytes
+pub told_same : (bytes input : List ℕ) (has : Option (List ℕ)) → has ≡ Some bytes → Tells has input → input ≡ bytes
 told_same bytes input has is h = subst (λ (o : Option (List ℕ)). Tells o input) is h
 
 -- where the reader has records, none is reported as bad

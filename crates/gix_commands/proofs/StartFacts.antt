@@ -80,7 +80,7 @@ pub chosen : (objects : Objects) (rows : List GraphRow) (by : TopoSorting) (tips
     → builder ≡ record from_tips { plan = record from_tips.plan { ends = from_tips.plan.ends ++ others } } → others ≡ ends → sorted ≡ record builder { plan = record builder.plan { sorting = by } }
     → given ≡ record sorted { plan = record sorted.plan { rows = copy } } → copy ≡ rows → given ≡ builder_from objects rows by tips ends
 chosen objects rows by tips ends those others fresh from_tips builder sorted given copy f t those_are e others_are s g same =
-    g ∙ ap (λ held. with_these held sorted) same ∙ ap (with_these rows) (s ∙ ap (in_order by) (e ∙ ap (with_more_ends from_tips) others_are ∙ ap (λ b. with_more_ends b ends) (t ∙ ap (with_more_tips fresh) those_are ∙ ap (λ b. with_more_tips b tips) f)))
+    g ∙ ap (λ those. with_these those sorted) same ∙ ap (with_these rows) (s ∙ ap (in_order by) (e ∙ ap (with_more_ends from_tips) others_are ∙ ap (λ b. with_more_ends b ends) (t ∙ ap (with_more_tips fresh) those_are ∙ ap (λ b. with_more_tips b tips) f)))
 
 module _ (objects : Objects) (rows : List GraphRow) (by : TopoSorting) (tips ends : List ObjectId) (builder : Builder) (same : builder ≡ builder_from objects rows by tips ends) where
   pub built_from : (answer : Result topo.Walk TopoError) → Built objects_of never_faulty accepts_all builder answer → topo.IsBuiltFrom objects rows by tips ends answer

@@ -1,4 +1,6 @@
 -- Which fault of a run a fault of its input or of a walk is.
+use Rattle.gix_graph_check.specs.declared.Disagreement.{Disagreement}
+use Rattle.gix_graph_check.specs.declared.Disagreement.TheVariants as disagreement
 use Rattle.gix_records.specs.declared.Error.{Error as RecordsError}
 use Rattle.gix_records.specs.declared.Error.TheVariants as records
 use Rattle.gix_object.specs.declared.find.existing_iter.Error.{Error as ExistingError}
@@ -17,6 +19,11 @@ abbrev pub fault_of_records : RecordsError → Fault
 fault_of_records records.Read = fault.Read
 fault_of_records (records.Record n) = fault.Record n
 fault_of_records records.Memory = fault.Memory
+
+abbrev pub fault_of_disagreement : Disagreement → Fault
+fault_of_disagreement (disagreement.Row i) = fault.Disagrees i
+fault_of_disagreement (disagreement.Store i) = fault.Internal
+fault_of_disagreement disagreement.Memory = fault.Memory
 
 abbrev pub fault_of_find : ExistingError → Fault
 fault_of_find existing.Store = fault.Internal

@@ -5,6 +5,9 @@ use Rattle.std.specs.FinMap.{get}
 use Rattle.std.specs.List.{flat_map}
 use Rattle.gix_hash.specs.declared.ObjectId.{ObjectId}
 use Rattle.gix_object.specs.Object.{Object, Objects}
+use Rattle.gix_commitgraph.specs.Rows.{GraphRow}
+use Rattle.gix_graph_store.specs.Laws.{StoredAgree}
+use Rattle.gix_graph_store.specs.WithRows.{with_rows}
 use Rattle.gix_revwalk.specs.declared.Info.{Info}
 use Rattle.gix_revwalk.specs.declared.Parents.TheVariants as mode
 use Rattle.gix_simple.specs.declared.Sorting.{Sorting}
@@ -24,7 +27,8 @@ use Rattle.gix_commands.specs.declared.words.Order.{Order}
 use Rattle.gix_commands.specs.declared.words.Order.TheVariants.{Simple, Topo}
 use Rattle.gix_commands.specs.Ahead.{Draws, ahead_line}
 use Rattle.gix_records.specs.Records.{Record, AreRecords, stored}
-use Rattle.gix_commands.specs.Run.{Runs}
+use Rattle.gix_commands.specs.Opening.{Opens}
+use Rattle.gix_commands.specs.Run.{Runs, RunsOver}
 use Rattle.gix_commands.specs.Walked.{line_of}
 use Rattle.gix_commands.specs.Words.{Ahead, Commits, request_of}
 
@@ -184,6 +188,46 @@ AheadCountsOfPart =
     (ahead behind : ℕ)
     × IsNumberOf (IsShown objects (one ∷ []) (other ∷ [])) ahead
     × IsNumberOf (IsShown objects (other ∷ []) (one ∷ [])) behind
+    × Appends old new (ahead_line ahead behind)
+
+-- The layers of a commit-graph are these rows, which can be used without a store, and what is stored at the id of one is the commit that
+-- it says.
+pub record AreTold (layers : List (List ℕ)) (records : List Record) (rows : List GraphRow) : Type 0 where
+  pub opens : Opens layers rows
+  pub agree : StoredAgree rows (stored records)
+
+-- what records and rows say of a history: the objects of the records, and where there is none at the id of a row the commit that the row says
+abbrev pub told : List GraphRow → List Record → Objects
+told rows records = with_rows rows (stored records)
+
+-- Over words that ask for `breadth`, `newest` or `oldest`, the layers of a commit-graph, and records, a run that ends well writes such a list
+-- of the history that rows and records say. Of the layers nothing is asked. Without hidden tips this asks that all that the tips reach
+-- in that history are whole commits.
+abbrev pub ToldSimpleLists : Type 0
+ToldSimpleLists =
+    (words layers : List (List ℕ)) (input : List ℕ) (records : List Record) (by : Sorting) (tips hidden : List ObjectId) (old new : Option (List ℕ)) →
+    request_of words ≡ Ok (Commits (Simple by) tips hidden) → AreRecords records input → RunsOver words layers (Some input) old (Ok tt) new →
+    (rows : List GraphRow) × AreTold layers records rows
+    × ((hidden ≡ [] → AreWhole (told rows records) tips)
+    → (ids : List ObjectId) × Lists (told rows records) by tips hidden ids × Appends old new (lines_of_ids ids))
+
+-- The same of `topo` and `date`, of which nothing is asked.
+abbrev pub ToldTopoLists : Type 0
+ToldTopoLists =
+    (words layers : List (List ℕ)) (input : List ℕ) (records : List Record) (by : TopoSorting) (tips ends : List ObjectId) (old new : Option (List ℕ)) →
+    request_of words ≡ Ok (Commits (Topo by) tips ends) → AreRecords records input → RunsOver words layers (Some input) old (Ok tt) new →
+    (rows : List GraphRow) × AreTold layers records rows
+    × (ids : List ObjectId) × ListsRead (told rows records) by tips ends ids × Appends old new (lines_of_ids ids)
+
+-- The same of `ahead`, of which nothing is asked.
+abbrev pub ToldAheadCounts : Type 0
+ToldAheadCounts =
+    (words layers : List (List ℕ)) (input : List ℕ) (records : List Record) (one other : ObjectId) (old new : Option (List ℕ)) →
+    request_of words ≡ Ok (Ahead one other) → AreRecords records input → RunsOver words layers (Some input) old (Ok tt) new →
+    (rows : List GraphRow) × AreTold layers records rows
+    × (ahead behind : ℕ)
+    × IsNumberOf (IsShown (told rows records) (one ∷ []) (other ∷ [])) ahead
+    × IsNumberOf (IsShown (told rows records) (other ∷ []) (one ∷ [])) behind
     × Appends old new (ahead_line ahead behind)
 
 -- A run that fails, and not by the writer, writes nothing, unless the words ask for a list of commits.

@@ -17,10 +17,15 @@ use Rattle.gix_commands.specs.declared.words.Order.TheVariants.{Simple, Topo}
 use Rattle.gix_commands.specs.Ahead.{Counts, FailsToCount, ahead_line}
 use Rattle.gix_commands.specs.Faults.{fault_of_walk, fault_of_topo_walk, fault_of_tree_walk}
 use Rattle.gix_commands.specs.Files.{RecordsTree, file_lines}
+use Rattle.gix_graph_check.specs.declared.Disagreement.TheVariants.{Row}
+use Rattle.gix_graph_store.specs.Laws.{StoredAgree}
+use Rattle.gix_graph_store.specs.StoredRows.{StoredDisagrees}
+use Rattle.gix_graph_store.specs.WithRows.{with_rows}
 use Rattle.gix_records.specs.Input.{Tells}
 use Rattle.gix_records.specs.Records.{Record, AreRecords, IsBadRecord, stored}
+use Rattle.gix_commands.specs.Opening.{Opens, FailsToOpen}
 use Rattle.gix_commands.specs.TopoWalked as topo
-use Rattle.gix_commands.specs.Walked.{Walk, Answers, IsWalkFault, StartsFrom, FailsAtStart, Ends, lines_of}
+use Rattle.gix_commands.specs.Walked.{Walk, Answers, IsWalkFault, StartsFrom, FailsAtStart, Ends, lines_of, never_faulty}
 use Rattle.gix_commands.specs.Words.{Request, Commits, Files, Ahead, request_of}
 
 -- Over objects, rows for the walks of commits and a writer that has the bytes `old`: which answers a request may get, and which bytes the writer then has.
@@ -65,3 +70,22 @@ pub data Runs (words : List (List ℕ)) (has old : Option (List ℕ)) : Result (
   served : (request : Request) (input : List ℕ) (records : List Record) {answer : Result (Unit {0}) Fault} {new : Option (List ℕ)}
       → request_of words ≡ Ok request → Tells has input → AreRecords records input → Serves (stored records) [] old request answer new
       → Runs words has old answer new
+
+-- The same over the files of a commit-graph, lowest layer first: walks have its rows, and where nothing is stored at the id of a row there is
+-- the commit that the row says. Words are tested first, then the layers are opened, then the input is read, and then what is stored is
+-- compared with the rows.
+pub data RunsOver (words layers : List (List ℕ)) (has old : Option (List ℕ)) : Result (Unit {0}) Fault → Option (List ℕ) → Type 0 where
+  -- memory ran out before a walk was begun
+  without_memory : RunsOver words layers has old (Err fault.Memory) old
+  no_command : {e : Fault} → request_of words ≡ Err e → RunsOver words layers has old (Err e) old
+  not_opened : (request : Request) {e : Fault} → request_of words ≡ Ok request → FailsToOpen layers e → RunsOver words layers has old (Err e) old
+  not_read : (request : Request) (rows : List GraphRow) → request_of words ≡ Ok request → Opens layers rows
+      → RunsOver words layers has old (Err fault.Read) old
+  bad_record : (request : Request) (rows : List GraphRow) (input : List ℕ) (n : ℕ) → request_of words ≡ Ok request → Opens layers rows
+      → Tells has input → IsBadRecord n input → RunsOver words layers has old (Err (fault.Record n)) old
+  disagrees : (request : Request) (rows : List GraphRow) (input : List ℕ) (records : List Record) (i : ObjectId)
+      → request_of words ≡ Ok request → Opens layers rows → Tells has input → AreRecords records input
+      → StoredDisagrees (stored records) (never_faulty (stored records)) rows (Row i) → RunsOver words layers has old (Err (fault.Disagrees i)) old
+  served : (request : Request) (rows : List GraphRow) (input : List ℕ) (records : List Record) {answer : Result (Unit {0}) Fault} {new : Option (List ℕ)}
+      → request_of words ≡ Ok request → Opens layers rows → Tells has input → AreRecords records input → StoredAgree rows (stored records)
+      → Serves (with_rows rows (stored records)) rows old request answer new → RunsOver words layers has old answer new

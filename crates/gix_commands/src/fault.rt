@@ -1,6 +1,7 @@
 //! Why a run failed.
 ghost use Rattle.std.specs.Prelude.{◌≡◌};
 
+use gix_graph_check::Disagreement;
 use gix_graph_file::ChainError;
 use gix_parts::hash::ObjectId;
 use gix_parts::object::find::existing_iter;
@@ -80,6 +81,20 @@ impl From<records::Error> for Fault {
             records::Error::Read => Fault::Read,
             records::Error::Record(number) => Fault::Record(number),
             records::Error::Memory => Fault::Memory,
+        }
+    }
+}
+
+impl From<Disagreement> for Fault {
+    ghost use Rattle.gix_commands.specs.Faults.{fault_of_disagreement};
+
+    ghost from_gives = { λ e r. r ≡ fault_of_disagreement e };
+
+    fn from(error: Disagreement) -> Fault {
+        match error {
+            Disagreement::Row(id) => Fault::Disagrees(id),
+            Disagreement::Store(_) => Fault::Internal,
+            Disagreement::Memory => Fault::Memory,
         }
     }
 }

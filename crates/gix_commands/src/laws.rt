@@ -2,6 +2,7 @@
 
 ghost use Rattle.gix_commands.specs.Histories.{AheadCounts, AheadCountsOfPart, AheadSucceeds, DrawsDifference, FailsSilently};
 ghost use Rattle.gix_commands.specs.Histories.{SimpleLists, SimpleListsOfPart, SimpleSucceeds, TopoLists, TopoListsOfPart, TopoSucceeds};
+ghost use Rattle.gix_commands.specs.Histories.{ToldAheadCounts, ToldSimpleLists, ToldTopoLists};
 ghost use Rattle.gix_commands.specs.Listings.{FilesLists, FilesListsOfPart, FilesSucceeds};
 
 /// `breadth`, `newest` and `oldest` write the ids of exactly the commits that the tips reach and the hidden ones don't, each once, in
@@ -77,6 +78,23 @@ pub fn ahead_counts_of_part()
 /// Where all that the two ids reach are whole commits, `ahead` fails for memory, reading or writing alone.
 pub fn ahead_succeeds()
     ensures { AheadSucceeds }
+{}
+
+/// Over a commit-graph, `breadth`, `newest` and `oldest` write such a list of the history that the rows and the records say. Of the
+/// commit-graph nothing is asked: a run that ends well has read it, its rows can be used without a store, and they say what the records
+/// say. Without hidden tips this asks that all that the tips reach in that history are whole commits.
+pub fn told_simple_lists()
+    ensures { ToldSimpleLists }
+{}
+
+/// Over a commit-graph, so do `topo` and `date`, of which nothing is asked at all.
+pub fn told_topo_lists()
+    ensures { ToldTopoLists }
+{}
+
+/// Over a commit-graph, `ahead` writes the numbers of commits that one id reaches in that history and the other doesn't.
+pub fn told_ahead_counts()
+    ensures { ToldAheadCounts }
 {}
 
 /// A run that fails, and not by the writer, writes nothing, unless the words ask for a list of commits.

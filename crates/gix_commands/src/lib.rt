@@ -1,7 +1,8 @@
 //! The commands of the program: which commits some commits reach, and which files a tree holds, from a stream of a repository's objects
 //! to a line for each.
 //!
-//! [`run`] takes the words of a command, a reader of records and a writer. What it writes is stated by the laws of [`laws`].
+//! [`run`] takes the words of a command, a reader of records and a writer; [`run_over`] also takes the files of a commit-graph. What they
+//! write is stated by the laws of [`laws`].
 #![tactic(auto)]
 
 ghost use Rattle.std.specs.Prelude.{◌≡◌, ◌≢◌, ℕ, List, map, Some, Err, string_bytes};
@@ -19,6 +20,7 @@ mod files;
 mod graph;
 pub mod laws;
 mod output;
+mod over;
 mod words;
 
 use ahead::write_ahead;
@@ -31,6 +33,7 @@ use gix_parts::object::memory::MemoryStore;
 use gix_parts::records;
 pub use graph::write_heads;
 use output::write_commits;
+pub use over::run_over;
 use std::alloc::Global;
 use std::io::{Read, Write};
 use words::{Command, Order, read_command};
