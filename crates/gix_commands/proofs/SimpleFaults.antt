@@ -29,7 +29,7 @@ use Rattle.gix_revwalk.specs.Commits.{ReadsWhole, by_mode, commit_at, commit_of_
 use Rattle.gix_hash.specs.Reach.{Reaches, start, step}
 use Rattle.gix_simple.specs.Building.{IsTipFault}
 use Rattle.gix_paint.specs.Painting.{IsFaultAt}
-use Rattle.gix_simple.specs.Walk.{Treated, Enqueues, dropped, enqueued, Treats, hidden, known, refused, accepted, store_fails, no_memory, no_memory_after, TreatsAll, none, more, stops, Concludes, given, broken, Takes, by_row, by_store, not_found, Chooses, first, best, Steps, ended, took, unhidden, paints, faulty_history, unrowed}
+use Rattle.gix_simple.specs.Walk.{Treated, Enqueues, dropped, enqueued, Treats, hidden, known, refused, accepted, store_fails, no_memory, no_memory_after, TreatsAll, none, more, stops, Concludes, given, broken, Takes, by_row, by_store, not_found, Chooses, first, best, Steps, ended, took, FirstStep, unhidden, paints, faulty_history, initial, later, unrowed}
 use Rattle.gix_revwalk.specs.Ids.{ids_of}
 use Rattle.gix_revwalk.specs.RowParents.{kept_rows}
 use Rattle.gix_revwalk.specs.Texts.{scanned}
@@ -145,12 +145,12 @@ module _ (objects : Objects) (tips hiders : List ObjectId) (whole : AreWhole obj
   stepped {w} (took {taken = p} {others = others} c t) s =
       taken t (record { store = s.store; rows = s.rows; parents = s.parents; behind = s.behind; met = λ q m. s.met q (chosen c q (Contains-there q p others m)) }) (s.met p (chosen c p (Contains-here p others)))
 
-  -- one call
-  called : {w : Walk} {o : Option (Result Info Error)} {new : Walk} → Answers w o new → Stands w → IsGood o new
-  called (unhidden e steps) s = stepped steps (record { store = s.store; rows = s.rows; parents = s.parents; behind = λ i c. absurd (no_member i c); met = s.met })
-  called {w} (paints {marks = marks} {rows = rows} some hides paint steps) s =
+  -- the first call, and any call
+  first_called : {w : Walk} {o : Option (Result Info Error)} {new : Walk} → FirstStep objects_of never_faulty accepts_all w o new → Stands w → IsGood o new
+  first_called (unhidden e steps) s = stepped steps (record { store = s.store; rows = s.rows; parents = s.parents; behind = λ i c. absurd (no_member i c); met = s.met })
+  first_called {w} (paints {marks = marks} {rows = rows} some hides paint steps) s =
       stepped steps (record { store = s.store; rows = ⊎_elim (λ e. e ∙ s.rows) (λ e. e) paint.rows_left; parents = s.parents; behind = λ i c. absurd (no_member i c); met = λ p c. s.met p (filter_within _ w.pending p c) })
-  called {w} (faulty_history {why = why} some hides left f) s = λ ne. absurd (no_fault_at f.id why (whole_from objects f.id (whole f.id reached)) (subst (λ o. IsFaultAt o (never_faulty o) f.id why) s.store f.fault))
+  first_called {w} (faulty_history {why = why} some hides left f) s = λ ne. absurd (no_fault_at f.id why (whole_from objects f.id (whole f.id reached)) (subst (λ o. IsFaultAt o (never_faulty o) f.id why) s.store f.fault))
     where
       both : (i : ObjectId) → Contains (ids_of w.pending ++ w.hidden_tips) i → Reaches (parents_of objects) (tips ++ hiders) i
       both i c =
@@ -161,7 +161,11 @@ module _ (objects : Objects) (tips hiders : List ObjectId) (whole : AreWhole obj
 
       reached : Reaches (parents_of objects) (tips ++ hiders) f.id
       reached = reaches_from (parents_of objects) (ids_of w.pending ++ w.hidden_tips) (tips ++ hiders) both f.id (subst (λ o. Reaches (parents_of o) (ids_of w.pending ++ w.hidden_tips) f.id) s.store (f.reached w.store (own_history w.store (never_faulty w.store) w.rows (none_agree w.store w.rows s.rows))))
-  called (no_memory some hides left) s = λ ne. tt
+  first_called (no_memory some hides left) s = λ ne. tt
+
+  called : {w : Walk} {o : Option (Result Info Error)} {new : Walk} → Answers w o new → Stands w → IsGood o new
+  called (initial b step) s = first_called step (record { store = s.store; rows = s.rows; parents = s.parents; behind = s.behind; met = s.met })
+  called (later b step) s = stepped step s
 
   drawn : (infos : List Info) (w at : Walk) → Yields Answers w (all_given infos) at → Stands w → Stands at
   drawn [] w at h s = subst Stands h s

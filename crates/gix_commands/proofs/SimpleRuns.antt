@@ -178,7 +178,7 @@ module _ (objects : Objects) (by : Sorting) (tips hidden : List ObjectId) (walk 
     pub all_read : tips ≢ [] → hidden ≢ [] → (i : ObjectId) → Reaches (parents_of objects) (tips ++ hidden) i → IsSome (commit_at objects i)
     all_read some behind i r =
         let w : ReadsWhole objects i =
-        drawn_whole objects_of never_faulty accepts_all opened (given infos) (none_agree objects [] refl) left behind (no_faults infos) drained i (reach_more (parents_of objects) (tips ++ hidden) (ids_of walk.pending ++ hidden) more i r) in
+        drawn_whole objects_of never_faulty accepts_all opened (given infos) is_fresh.0.unbegun (none_agree objects [] refl) left behind (no_faults infos) drained i (reach_more (parents_of objects) (tips ++ hidden) (ids_of walk.pending ++ hidden) more i r) in
         subst IsSome (sym w.stored) refl
       where
         left : walk.pending ≢ []
@@ -205,7 +205,7 @@ module _ (objects : Objects) (by : Sorting) (tips hidden : List ObjectId) (walk 
               whole_from objects i
               (whole e i (reach_more (parents_of objects) (ids_of walk.pending) tips is_tip i (subst (λ xs. Reaches (parents_of objects) xs i) (append-nil (ids_of walk.pending)) (subst (λ hs. Reaches (parents_of objects) (ids_of walk.pending ++ hs) i) e r))))
           go (id ∷ ids) e =
-              drawn_whole objects_of never_faulty accepts_all opened (given infos) (none_agree objects [] refl) some (λ n. let c : [] ≡ id ∷ ids = sym n ∙ e in cc) (no_faults infos) drained i r
+              drawn_whole objects_of never_faulty accepts_all opened (given infos) is_fresh.0.unbegun (none_agree objects [] refl) some (λ n. let c : [] ≡ id ∷ ids = sym n ∙ e in cc) (no_faults infos) drained i r
 
       run : IsWholeRun objects_of never_faulty accepts_all opened (λ i. true) test.0 (given infos)
       run = record {
