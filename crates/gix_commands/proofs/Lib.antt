@@ -21,3 +21,8 @@ mod FileRuns
 mod SimpleFaults
 mod SilentRuns
 mod AheadRuns
+mod SameNumbers
+mod SameCommits
+mod SameHistory
+mod SameOrders
+mod SameDescents

@@ -9,4 +9,5 @@ pub mod Run
 pub mod Histories
 pub mod Listings
 pub mod Output
+pub mod WholeStatement
 pub mod Examples
