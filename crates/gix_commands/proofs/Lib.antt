@@ -26,3 +26,4 @@ mod SameCommits
 mod SameHistory
 mod SameOrders
 mod SameDescents
+mod SameTrees
