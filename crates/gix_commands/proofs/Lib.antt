@@ -27,3 +27,6 @@ mod SameHistory
 mod SameOrders
 mod SameDescents
 mod SameTrees
+mod SameWords
+mod SameLists
+mod WholeRuns

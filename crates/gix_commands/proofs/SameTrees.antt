@@ -199,7 +199,7 @@ before_more : (names : List (List ℕ)) (name : List ℕ) → before (names ++ n
 before_more [] name = append-nil (name ++ 47 ∷ [])
 before_more (n ∷ names) name = ap (λ xs. n ++ 47 ∷ [] ++ xs) (before_more names name) ∙ sym (append_assoc (n ++ 47 ∷ []) (before names ++ name) (47 ∷ [])) ∙ ap (λ xs. xs ++ 47 ∷ []) (sym (append_assoc (n ++ 47 ∷ []) (before names) name))
 
-joined_behind : (names : List (List ℕ)) (name : List ℕ) → joined (names ++ name ∷ []) ≡ before names ++ name
+pub joined_behind : (names : List (List ℕ)) (name : List ℕ) → joined (names ++ name ∷ []) ≡ before names ++ name
 joined_behind [] name = refl
 joined_behind (n ∷ []) name = sym (append_assoc n (47 ∷ []) name) ∙ ap (λ xs. xs ++ name) (sym (append-nil (n ++ 47 ∷ [])))
 joined_behind (n ∷ m ∷ names) name = ap (λ xs. n ++ 47 ∷ xs) (joined_behind (m ∷ names) name) ∙ sym (append_assoc n (47 ∷ []) (before (m ∷ names) ++ name)) ∙ sym (append_assoc (n ++ 47 ∷ []) (before (m ∷ names)) name)
@@ -240,7 +240,7 @@ module _ (rs : List Record) (fails : ObjectId → ExistingError → Type 0) wher
       → (entries : List Entry) × IsTree (map worded rs) root entries × Unfolds (map worded rs) [] entries (map placed_by visits)
   unfolds_walk {root} (script.found {items = items} found walk) h = let w = unfolds_script walk h in (map entry_of (entries_in items), is_tree_at rs root items found w.0, w.1)
 
-same_bytes : (i : ObjectId) → bytes_of i ≡ bytes_in i
+pub same_bytes : (i : ObjectId) → bytes_of i ≡ bytes_in i
 same_bytes (id.Sha1 bytes) = refl
 same_bytes (id.Sha256 bytes) = refl
 

@@ -7,6 +7,7 @@
 ghost use Rattle.std.specs.Prelude.{◌≡◌, ◌≢◌, ℕ, List, map, Some, Err, string_bytes};
 ghost use Rattle.gix_records.specs.Records.{Record, AreRecords};
 ghost use Rattle.gix_commands.specs.Run.{Runs, Serves};
+ghost use Rattle.gix_commands.specs.WholeStatement.{Promises};
 ghost use Rattle.gix_commands.specs.Words.{Commits, request_of, request_of_command};
 
 mod ahead;
@@ -55,6 +56,8 @@ pub fn run<R: Read, W: Write>(
     // Input that is records is never rejected.
     ensures spelled { (input : List ℕ) (records : List Record) (n : ℕ) → R.remaining reader.old ≡ Some input → AreRecords records input → result ≢ Err (Fault.Record n) }
     ensures sound { result ≢ Err Fault.Internal }
+    // What was written by a run that ended well, from lists of bytes up: this is all that a reader has to believe of such a run.
+    ensures whole { Promises (map string_bytes words.now) (R.remaining reader.old) (W.contents writer.old) result (W.contents writer.new) }
 {
     let command = read_command(alloc, words)?;
     let store = records::read(alloc, reader)?;
