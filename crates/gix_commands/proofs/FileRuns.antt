@@ -41,7 +41,7 @@ not_failed why Broken e u = cc
 not_failed why (Failed other) e u = u
 
 module _ (objects : Objects) (tree : ObjectId) where
-  unfolds : (recorder : Tracked) (walk : RecordsTree objects tree recorder (Ok tt)) → Unfolds objects tree walk.visits
+  pub unfolds : (recorder : Tracked) (walk : RecordsTree objects tree recorder (Ok tt)) → Unfolds objects tree walk.visits
   unfolds recorder walk =
       let all = go_on walk.visits (root_called (trees_of objects) (LookUpFails objects (never_faulty objects)) IsRecorderAnswer walk.script (answers_of fresh_recorder walk.calls recorder walk.run)) in
       let order = depth_is_in_order objects (never_faulty objects) Tracks tree fresh_recorder recorder (Ok tt) walk (depth_ok walk.end walk.answered) in

@@ -1,8 +1,8 @@
 -- The records, the texts of commits and the times that are read are those of the statement.
-use Rattle.std.specs.Prelude.{◌≡◌, ◌≢◌, ◌⊎◌, ◌==◌, ℕ, suc, List, [], ◌∷◌, ◌++◌, map, length, replicate, Bool, true, false, cond, Option, Some, None, All, Contains, codes}
+use Rattle.std.specs.Prelude.{◌≡◌, ◌≢◌, ◌⊎◌, ◌==◌, ℕ, suc, List, [], ◌∷◌, ◌++◌, map, length, take, replicate, Bool, true, false, cond, Option, Some, None, All, Contains, codes}
 use Rattle.std.specs.FinMap as map_of
 use Rattle.std.specs.FinMap.{get}
-use Rattle.std.proofs.Common.{refl, sym, ap, subst, ◌∙◌, inl, inr, ⊎_elim, arith}
+use Rattle.std.proofs.Common.{refl, sym, ap, subst, ◌∙◌, inl, inr, ⊎_elim, arith, append_assoc}
 use Rattle.std.proofs.lemmas.Bool.{eqb-true, eq-eqb, cond-true, cond-false, false≢true}
 use Rattle.std.proofs.lemmas.List.Elements.{All-nil, All-cons, All-contains, Contains-append_right}
 use Rattle.std.proofs.lemmas.Option.{same_Some, none-some}
@@ -17,7 +17,7 @@ use Rattle.gix_object.specs.CommitText.{behind_last, without_spaces, digits_from
 use Rattle.gix_object.specs.Object.{Object, Objects}
 use Rattle.gix_records.specs.Records as records
 use Rattle.gix_records.specs.Records.{kind_word, put_in, stored}
-use Rattle.gix_commands.specs.WholeStatement.{Record, AreRecords, Holds, IsIdLine, AreParentLines, IsCommitText, BeginsWithNo, IsTime, unsigned, positive, negative}
+use Rattle.gix_commands.specs.WholeStatement.{Record, AreRecords, Holds, Spells, AreParentLines, IsTime, unsigned, positive, negative}
 use Rattle.gix_commands.proofs.SameNumbers.{hex_spelled, spelled, spells_again, is_decimal, counts, width_of}
 
 -- a record, with the word of its kind
@@ -98,51 +98,56 @@ pub held_back : (rs : List records.Record) (i : ObjectId) (word bytes : List ℕ
 held_back rs i word bytes h = back rs map_of.empty h.0 h.1 i word bytes h.2 h.3
 
 -- lines
-id_line : (k : Kind) (word : List ℕ) (i : ObjectId) (line : List ℕ) → text.IsIdLine word k i line → IsIdLine (width_of k) word i line
-id_line k word i line (digits, is, whole) = (digits, (spelled k digits i is).0, whole)
-
-id_line_back : (k : Kind) (word : List ℕ) (i : ObjectId) (line : List ℕ) → IsIdLine (width_of k) word i line → text.IsIdLine word k i line
-id_line_back k word i line (digits, is, whole) = (digits, spells_again k digits i is, whole)
-
 parent_lines : (k : Kind) (ps : List ObjectId) (lines : List ℕ) → text.AreParentLines k ps lines → AreParentLines (width_of k) ps lines
 parent_lines k [] lines h = h
-parent_lines k (p ∷ ps) lines (first, rest, is, are, whole) = (first, rest, id_line k (codes "parent ") p first is, parent_lines k ps rest are, whole)
+parent_lines k (p ∷ ps) lines (first, rest, (digits, is, line), are, whole) =
+    (digits, rest, (spelled k digits p is).0, parent_lines k ps rest are, whole ∙ ap (λ xs. xs ++ rest) line ∙ append_assoc (codes "parent " ++ digits) (10 ∷ []) rest)
 
 parent_lines_back : (k : Kind) (ps : List ObjectId) (lines : List ℕ) → AreParentLines (width_of k) ps lines → text.AreParentLines k ps lines
 parent_lines_back k [] lines h = h
-parent_lines_back k (p ∷ ps) lines (first, rest, is, are, whole) = (first, rest, id_line_back k (codes "parent ") p first is, parent_lines_back k ps rest are, whole)
+parent_lines_back k (p ∷ ps) lines (digits, rest, is, are, whole) =
+    (codes "parent " ++ digits ++ 10 ∷ [], rest, (digits, spells_again k digits p is, refl), parent_lines_back k ps rest are, whole ∙ sym (append_assoc (codes "parent " ++ digits) (10 ∷ []) rest))
 
-pub commit_text : (k : Kind) (bytes : List ℕ) (tree : ObjectId) (parents : List ObjectId) (signature : List ℕ) → text.IsCommitText k bytes tree parents signature → IsCommitText (width_of k) bytes parents signature
+-- what the statement says of the text of a commit
+abbrev pub IsText : ℕ → List ℕ → List ObjectId → List ℕ → Type 0
+IsText width bytes parents signature =
+    (tree : ObjectId) × (id lines author rest : List ℕ) × Spells width id tree × AreParentLines width parents lines × All (λ b. b ≢ 10) author × All (λ b. b ≢ 10) signature
+    × (bytes ≡ codes "tree " ++ id ++ 10 ∷ (lines ++ codes "author " ++ author ++ 10 ∷ (codes "committer " ++ signature ++ 10 ∷ rest)))
+
+-- four lines, one after the other
+four_lines : (a b lines c d e f rest : List ℕ) → (a ++ b ++ 10 ∷ []) ++ lines ++ (c ++ d ++ 10 ∷ []) ++ (e ++ f ++ 10 ∷ []) ++ rest ≡ a ++ b ++ 10 ∷ (lines ++ c ++ d ++ 10 ∷ (e ++ f ++ 10 ∷ rest))
+four_lines a b lines c d e f rest = simp append_assoc refl
+
+pub commit_text : (k : Kind) (bytes : List ℕ) (tree : ObjectId) (parents : List ObjectId) (signature : List ℕ) → text.IsCommitText k bytes tree parents signature → IsText (width_of k) bytes parents signature
 commit_text k bytes tree parents signature t = (
   tree,
-  t.author,
-  t.tree_line,
+  t.is_tree_line.0,
   t.parent_lines,
-  t.author_line,
-  t.committer_line,
+  t.author,
   t.rest,
-  id_line k (codes "tree ") tree t.tree_line t.is_tree_line,
+  (spelled k t.is_tree_line.0 tree t.is_tree_line.1).0,
   parent_lines k parents t.parent_lines t.are_parent_lines,
-  t.is_author_line,
-  t.is_committer_line,
-  t.whole,
+  t.is_author_line.0,
+  t.is_committer_line.0,
+  t.whole ∙ (λ n. t.is_tree_line.2 n ++ t.parent_lines ++ t.is_author_line.1 n ++ t.is_committer_line.1 n ++ t.rest)
+      ∙ four_lines (codes "tree ") t.is_tree_line.0 t.parent_lines (codes "author ") t.author (codes "committer ") signature t.rest,
 )
 
-pub commit_text_back : (k : Kind) (bytes : List ℕ) (parents : List ObjectId) (signature : List ℕ) → IsCommitText (width_of k) bytes parents signature → (tree : ObjectId) × text.IsCommitText k bytes tree parents signature
-commit_text_back k bytes parents signature (tree, author, tree_line, lines, author_line, committer_line, rest, is_tree, are, is_author, is_committer, whole) = (
+pub commit_text_back : (k : Kind) (bytes : List ℕ) (parents : List ObjectId) (signature : List ℕ) → IsText (width_of k) bytes parents signature → (tree : ObjectId) × text.IsCommitText k bytes tree parents signature
+commit_text_back k bytes parents signature (tree, id, lines, author, rest, spells, are, named, signed, whole) = (
   tree,
   record {
-    tree_line = tree_line;
+    tree_line = codes "tree " ++ id ++ 10 ∷ [];
     parent_lines = lines;
     author = author;
-    author_line = author_line;
-    committer_line = committer_line;
+    author_line = codes "author " ++ author ++ 10 ∷ [];
+    committer_line = codes "committer " ++ signature ++ 10 ∷ [];
     rest = rest;
-    is_tree_line = id_line_back k (codes "tree ") tree tree_line is_tree;
+    is_tree_line = (id, spells_again k id tree spells, refl);
     are_parent_lines = parent_lines_back k parents lines are;
-    is_author_line = is_author;
-    is_committer_line = is_committer;
-    whole = whole;
+    is_author_line = (named, refl);
+    is_committer_line = (signed, refl);
+    whole = whole ∙ sym (four_lines (codes "tree ") id lines (codes "author ") author (codes "committer ") signature rest);
   },
 )
 
@@ -168,19 +173,19 @@ behind found (b ∷ bs) = go (behind (cond (b == 62) (Some bs) found) bs) (b == 
 record Spaced (bytes : List ℕ) : Type 0 where
   spaces : ℕ
   whole : bytes ≡ replicate spaces 32 ++ without_spaces bytes
-  stops : BeginsWithNo (λ b. b ≡ 32) (without_spaces bytes)
+  stops : take 1 (without_spaces bytes) ≢ 32 ∷ []
 
 spaced : (bytes : List ℕ) → Spaced bytes
-spaced [] = record { spaces = 0; whole = refl; stops = tt }
+spaced [] = record { spaces = 0; whole = refl; stops = λ e. cc }
 spaced (b ∷ bs) = go (spaced bs) (b == 32) refl
   where
     go : Spaced bs → (t : Bool) → (b == 32) ≡ t → Spaced (b ∷ bs)
     go s true same =
         let left : without_spaces (b ∷ bs) ≡ without_spaces bs = cond-true (b == 32) _ _ same in
-        record { spaces = suc s.spaces; whole = ap (λ c. c ∷ bs) (eqb-true b 32 same) ∙ ap (λ xs. 32 ∷ xs) (s.whole ∙ ap (λ xs. replicate s.spaces 32 ++ xs) (sym left)); stops = subst (BeginsWithNo (λ c. c ≡ 32)) (sym left) s.stops }
+        record { spaces = suc s.spaces; whole = ap (λ c. c ∷ bs) (eqb-true b 32 same) ∙ ap (λ xs. 32 ∷ xs) (s.whole ∙ ap (λ xs. replicate s.spaces 32 ++ xs) (sym left)); stops = subst (λ xs. take 1 xs ≢ 32 ∷ []) (sym left) s.stops }
     go s false same =
         let left : without_spaces (b ∷ bs) ≡ b ∷ bs = cond-false (b == 32) _ _ same in
-        record { spaces = 0; whole = sym left; stops = subst (BeginsWithNo (λ c. c ≡ 32)) (sym left) (λ e. false≢true (sym same ∙ eq-eqb b 32 e)) }
+        record { spaces = 0; whole = sym left; stops = subst (λ xs. take 1 xs ≢ 32 ∷ []) (sym left) (λ e. let is : b ≡ 32 = cc in false≢true (sym same ∙ eq-eqb b 32 is)) }
 
 -- a part behind others has what the whole has
 behind_part : (P : ℕ → Type 0) (before rest : List ℕ) → All P (before ++ rest) → (b : ℕ) → Contains rest b → P b
@@ -190,8 +195,8 @@ all_of : (P : ℕ → Type 0) (bytes : List ℕ) → ((b : ℕ) → Contains byt
 all_of P [] h = All-nil P
 all_of P (b ∷ bytes) h = All-cons P b bytes (h b (Contains-here b bytes)) (all_of P bytes (λ c m. h c (Contains-there c b bytes m)))
 
-signed : (signature rest bytes : List ℕ) (spaces : ℕ) → Behind signature rest → rest ≡ replicate spaces 32 ++ bytes → BeginsWithNo (λ b. b ≡ 32) bytes → IsTime signature (signed_seconds bytes)
-signed signature rest [] spaces is whole stops = positive is.before [] spaces 0 (is.whole ∙ ap (λ xs. is.before ++ 62 ∷ xs) whole) (All-nil _) tt (counts [])
+signed : (signature rest bytes : List ℕ) (spaces : ℕ) → Behind signature rest → rest ≡ replicate spaces 32 ++ bytes → take 1 bytes ≢ 32 ∷ [] → IsTime signature (signed_seconds bytes)
+signed signature rest [] spaces is whole stops = positive is.before [] spaces 0 (is.whole ∙ ap (λ xs. is.before ++ 62 ∷ xs) whole) (All-nil _) (counts []) (λ e. cc) (λ e. cc)
 signed signature rest (b ∷ bs) spaces is whole stops = go (b == 45) refl
   where
     at : signature ≡ is.before ++ 62 ∷ (replicate spaces 32 ++ b ∷ bs)
@@ -202,7 +207,7 @@ signed signature rest (b ∷ bs) spaces is whole stops = go (b == 45) refl
 
     go : (t : Bool) → (b == 45) ≡ t → IsTime signature (cond t (text.negative_seconds (digits_from 0 bs)) (text.positive_seconds (digits_from 0 (b ∷ bs))))
     go true same = negative is.before bs spaces (digits_from 0 bs) (at ∙ ap (λ c. is.before ++ 62 ∷ (replicate spaces 32 ++ c ∷ bs)) (eqb-true b 45 same)) (all_of _ bs (λ c m. All-contains (λ c. c ≢ 62) (b ∷ bs) c none (Contains-there c b bs m))) (counts bs)
-    go false same = positive is.before (b ∷ bs) spaces (digits_from 0 (b ∷ bs)) at none (⊎_elim stops (λ e. false≢true (sym same ∙ eq-eqb b 45 e))) (counts (b ∷ bs))
+    go false same = positive is.before (b ∷ bs) spaces (digits_from 0 (b ∷ bs)) at none (counts (b ∷ bs)) stops (λ e. let is : b ≡ 45 = cc in false≢true (sym same ∙ eq-eqb b 45 is))
 
 pub is_time : (signature : List ℕ) → IsTime signature (seconds_of signature)
 is_time signature = ⊎_elim

@@ -22,7 +22,7 @@ use Rattle.gix_commands.specs.declared.words.Order.TheVariants.{Simple, Topo}
 use Rattle.gix_commands.specs.Files.{file_lines, six_octal_digits}
 use Rattle.gix_commands.specs.Histories.{IsShown, IsListedSo, Lists, ListsDown, lines_of_ids}
 use Rattle.gix_commands.specs.WholeStatement as page
-use Rattle.gix_commands.specs.WholeStatement.{IsInOrder, IsNumberShown, id_line, entry_line}
+use Rattle.gix_commands.specs.WholeStatement.{IsInOrder, IsNumberShown, bytes_in, entry_line}
 use Rattle.gix_commands.proofs.SameOrders.{reaches, reaches_back, are_distinct, in_breadth_order, in_time_order}
 use Rattle.gix_commands.proofs.SameDescents.{in_date_order, in_topo_order}
 use Rattle.gix_commands.proofs.SameTrees.{before, joined_behind, placed_by, same_bytes}
@@ -42,14 +42,32 @@ pub is_topological : (name : List ℕ) (by : TopoSorting) → IsNameOf name (Top
 is_topological name topo.TopoOrder e = subst IsTopological (sym e) topo_is
 is_topological name topo.DateOrder e = subst IsTopological (sym e) date_is
 
-pub topo_named : (name : List ℕ) (by : TopoSorting) → IsNameOf name (Topo by) → Contains page.orders name
-topo_named name topo.TopoOrder e = subst (Contains page.orders) (sym e) (3, omega arith, refl)
-topo_named name topo.DateOrder e = subst (Contains page.orders) (sym e) (4, omega arith, refl)
+abbrev pub IsOrder : List ℕ → Type 0
+IsOrder name = Contains (codes "breadth" ∷ codes "newest" ∷ codes "oldest" ∷ page.topological) name
 
-pub simple_named : (name : List ℕ) (by : Sorting) → IsNameOf name (Simple by) → Contains page.orders name
-simple_named name sorting.BreadthFirst e = subst (Contains page.orders) (sym e) (0, omega arith, refl)
-simple_named name (sorting.ByCommitTime order.NewestFirst) e = subst (Contains page.orders) (sym e) (1, omega arith, refl)
-simple_named name (sorting.ByCommitTime order.OldestFirst) e = subst (Contains page.orders) (sym e) (2, omega arith, refl)
+breadth_is : IsOrder (codes "breadth")
+breadth_is = (0, omega arith, refl)
+
+newest_is : IsOrder (codes "newest")
+newest_is = (1, omega arith, refl)
+
+oldest_is : IsOrder (codes "oldest")
+oldest_is = (2, omega arith, refl)
+
+topo_is_order : IsOrder (codes "topo")
+topo_is_order = (3, omega arith, refl)
+
+date_is_order : IsOrder (codes "date")
+date_is_order = (4, omega arith, refl)
+
+pub topo_named : (name : List ℕ) (by : TopoSorting) → IsNameOf name (Topo by) → IsOrder name
+topo_named name topo.TopoOrder e = subst IsOrder (sym e) topo_is_order
+topo_named name topo.DateOrder e = subst IsOrder (sym e) date_is_order
+
+pub simple_named : (name : List ℕ) (by : Sorting) → IsNameOf name (Simple by) → IsOrder name
+simple_named name sorting.BreadthFirst e = subst IsOrder (sym e) breadth_is
+simple_named name (sorting.ByCommitTime order.NewestFirst) e = subst IsOrder (sym e) newest_is
+simple_named name (sorting.ByCommitTime order.OldestFirst) e = subst IsOrder (sym e) oldest_is
 simple_named name (sorting.ByCommitTimeCutoff by seconds) e = absurd e
 
 module _ (objects : Objects) where
@@ -72,24 +90,24 @@ module _ (objects : Objects) where
   in_order name (sorting.ByCommitTimeCutoff by seconds) e tips hidden ids l = absurd e
 
   pub listed : (name : List ℕ) (by : Sorting) → IsNameOf name (Simple by) → (tips hidden ids : List ObjectId) → Lists objects by tips hidden ids → page.Lists parents time tips hidden name ids
-  listed name by named tips hidden ids l = record {
-    once = are_distinct ids l.once;
-    shown = λ i m. shown tips hidden i ((l.exact i).0 m);
-    all = λ acyclic i s. (l.exact i).1 (shown_back tips hidden i s);
-    in_order = in_order name by named tips hidden ids l.in_order;
-  }
+  listed name by named tips hidden ids l = (
+    are_distinct ids l.once,
+    λ i m. shown tips hidden i ((l.exact i).0 m),
+    in_order name by named tips hidden ids l.in_order,
+    λ acyclic i s. (l.exact i).1 (shown_back tips hidden i s),
+  )
 
   in_order_down : (name : List ℕ) (by : TopoSorting) → IsNameOf name (Topo by) → (tips ends ids : List ObjectId) → IsSorted by time parents (IsInWalk parents parents tips ends) tips ids → IsInOrder parents time tips ends ids name
   in_order_down name topo.DateOrder e tips ends ids l = subst (IsInOrder parents time tips ends ids) (sym e) (page.date (in_date_order parents time tips ends ids l))
   in_order_down name topo.TopoOrder e tips ends ids l = subst (IsInOrder parents time tips ends ids) (sym e) (page.topo (in_topo_order parents time tips ends ids l))
 
   pub listed_down : (name : List ℕ) (by : TopoSorting) → IsNameOf name (Topo by) → (tips ends ids : List ObjectId) → ListsDown objects by tips ends ids → page.Lists parents time tips ends name ids
-  listed_down name by named tips ends ids l = record {
-    once = are_distinct ids l.once;
-    shown = λ i m. shown tips ends i (l.shown i m);
-    all = λ acyclic i s. l.all (λ j m r. acyclic (is_topological name by named) j (shown tips ends j m) (reaches parents (parents j) j r)) i (shown_back tips ends i s);
-    in_order = in_order_down name by named tips ends ids l.in_order;
-  }
+  listed_down name by named tips ends ids l = (
+    are_distinct ids l.once,
+    λ i m. shown tips ends i (l.shown i m),
+    in_order_down name by named tips ends ids l.in_order,
+    λ acyclic i s. l.all (λ j m r. acyclic (is_topological name by named) j (shown tips ends j m) (reaches parents (parents j) j r)) i (shown_back tips ends i s),
+  )
 
   pub number_shown : (tip hidden : ObjectId) (n : ℕ) → IsNumberOf (IsShown objects (tip ∷ []) (hidden ∷ [])) n → IsNumberShown parents time (tip ∷ []) (hidden ∷ []) n
   number_shown tip hidden n c = (
@@ -99,7 +117,10 @@ module _ (objects : Objects) where
     c.number,
   )
 
--- the lines of ids
+-- the line of an id
+abbrev pub id_line : ObjectId → List ℕ
+id_line i = encode_lower (bytes_in i) ++ 10 ∷ []
+
 pub id_lines : (ids : List ObjectId) → lines_of_ids ids ≡ flat_map id_line ids
 id_lines [] = refl
 id_lines (i ∷ ids) = (λ k. encode_lower (same_bytes i k) ++ 10 ∷ [] ++ id_lines ids k)

@@ -1,5 +1,5 @@
 -- Numbers and ids that are read are those that digits write.
-use Rattle.std.specs.Prelude.{◌≡◌, ◌≤◌, ◌<◌, ◌+◌, ◌-◌, ◌*◌, ◌==◌, nat_lt, nat_le, ◌&&◌, ℕ, List, [], ◌∷◌, ◌++◌, length, Bool, true, false, cond, Option, Some, None, Result, Ok, Err}
+use Rattle.std.specs.Prelude.{◌≡◌, ◌≤◌, ◌<◌, ◌+◌, ◌-◌, ◌*◌, ◌==◌, nat_lt, nat_le, ◌&&◌, ℕ, List, [], ◌∷◌, ◌++◌, length, take, Bool, true, false, cond, Option, Some, None, Result, Ok, Err}
 use Rattle.std.specs.Char.{is_ascii_digit, digit_value}
 use Rattle.std.specs.Str.Parse.{AllDigits, digits_value_after}
 use Rattle.std.proofs.Common.{refl, sym, ap, ◌∙◌, arith}
@@ -19,7 +19,7 @@ use Rattle.gix_hash.specs.Id.{id_len, kind_of, id_of_decoded, id_of_hex, id_from
 use Rattle.gix_object.specs.CommitText.{digits_from}
 use Rattle.gix_object.specs.TreeItems.{is_octal, octal_from, mode_of}
 use Rattle.gix_records.specs.Decimal.{digits_behind, decimal}
-use Rattle.gix_commands.specs.WholeStatement.{IsNumber, Spells, Counts, BeginsWithNo, bytes_in, digits_in}
+use Rattle.gix_commands.specs.WholeStatement.{IsNumber, Spells, Counts, bytes_in, digits_in}
 
 -- how many digits an id of a kind has
 abbrev pub width_of : Kind → ℕ
@@ -135,11 +135,11 @@ record Front (n : ℕ) (text : List ℕ) : Type 0 where
   rest : List ℕ
   whole : text ≡ number ++ rest
   all : AllDigits 10 number
-  stops : BeginsWithNo (λ b. AllDigits 10 (b ∷ [])) rest
+  stops : AllDigits 10 (take 1 rest) → rest ≡ []
   value : digits_from n text ≡ digits_value_after 10 n number
 
 front : (n : ℕ) (text : List ℕ) → Front n text
-front n [] = record { number = []; rest = []; whole = refl; all = tt; stops = tt; value = refl }
+front n [] = record { number = []; rest = []; whole = refl; all = tt; stops = λ h. refl; value = refl }
 front n (b ∷ text) = go (front (10 * n + (b - 48)) text) (is_ascii_digit b) refl
   where
     go : Front (10 * n + (b - 48)) text → (t : Bool) → is_ascii_digit b ≡ t → Front n (b ∷ text)
@@ -159,7 +159,7 @@ front n (b ∷ text) = go (front (10 * n + (b - 48)) text) (is_ascii_digit b) re
       rest = b ∷ text;
       whole = refl;
       all = tt;
-      stops = λ h. let r = digit_from_value b h.0 in false≢true (sym d ∙ and_from _ _ (le-leb 48 b r.0) (le-leb b 57 r.1));
+      stops = λ h. let r = digit_from_value b h.0 in absurd (false≢true (sym d ∙ and_from _ _ (le-leb 48 b r.0) (le-leb b 57 r.1)));
       value = cond-false (is_ascii_digit b) _ _ d;
     }
 

@@ -1,9 +1,10 @@
 -- What commits reach, breadth order and time order are those of the statement.
-use Rattle.std.specs.Prelude.{◌≡◌, ◌≤◌, ℕ, ℤ, List, [], ◌∷◌, ◌++◌, length, take, slice_get, find, filter, Bool, true, false, cond, not, ◌&&◌, ◌||◌, ◌⊎◌, Option, Some, None, MatchOption, Contains}
+use Rattle.std.specs.Prelude.{◌≡◌, ◌≢◌, ◌≤◌, ℕ, ℤ, List, [], ◌∷◌, ◌++◌, length, take, slice_get, find, filter, Bool, true, false, cond, not, ◌&&◌, ◌||◌, ◌⊎◌, Option, Some, None, MatchOption, All, AllPairs, Contains}
 use Rattle.std.specs.List.{flat_map}
 use Rattle.std.proofs.Common.{refl, sym, ap, subst, ◌∙◌, inl, inr, ⊎_elim, arith, length-append}
 use Rattle.std.proofs.lemmas.Bool.{false≢true, cond-true, cond-false, or_cases}
-use Rattle.std.proofs.lemmas.List.Elements.{Contains-append_left, Contains-append_right, Contains-append_cases}
+use Rattle.std.proofs.lemmas.List.Elements.{All-nil, All-cons, Contains-append_left, Contains-append_right, Contains-append_cases, Contains-get_or}
+use Rattle.std.proofs.lemmas.List.Kept.{AllPairs-cons}
 use Rattle.std.proofs.lemmas.Option.{same_Some, none-some}
 use Rattle.std.proofs.Math.Seq.{take-append_seam}
 use Rattle.gix_hash.specs.declared.ObjectId.{ObjectId}
@@ -17,7 +18,7 @@ use Rattle.gix_revwalk.specs.Ids.{new_ids, AreDistinct as AreApart}
 use Rattle.gix_revwalk.specs.TimeOrder as times
 use Rattle.gix_revwalk.specs.TimeOrder.{IsTimeOrder, IsNoWorse}
 use Rattle.gix_revwalk.proofs.NewIds.{times_among, times-fresh}
-use Rattle.gix_commands.specs.WholeStatement.{Reaches, start, parent, Throughout, IsFirst, nothing, here, later, IsBest, named, IsPending}
+use Rattle.gix_commands.specs.WholeStatement.{Reaches, start, parent, Throughout, IsFirst, IsBest, IsPending}
 
 pub reaches : (parents : ObjectId → List ObjectId) (starts : List ObjectId) (i : ObjectId) → reach.Reaches parents starts i → Reaches parents starts i
 reaches parents starts i (reach.start s) = start s
@@ -38,26 +39,22 @@ cut P ids h taken rest e =
     let at : P (take (length taken) (taken ++ rest)) (slice_get (taken ++ rest) (length taken)) = subst (λ xs. P (take (length taken) xs) (slice_get xs (length taken))) e (h (length taken) (subst (λ xs. length taken ≤ length xs) (sym e) within)) in
     subst (P taken) (at_seam taken rest) (subst (λ xs. P xs (slice_get (taken ++ rest) (length taken))) (take-append_seam taken rest) at)
 
-pub are_distinct : (ids : List ObjectId) → AreApart ids → Throughout (λ taken rest. (i : ObjectId) → Contains taken i → Contains rest i → ⊥) ids
-are_distinct ids apart [] rest e i c r = no_member i c
-are_distinct [] apart (x ∷ taken) rest e i c r = let no : [] ≡ x ∷ (taken ++ rest) = e in cc
-are_distinct (y ∷ ids) apart (x ∷ taken) rest e i c r =
-    let first : y ≡ x = cc in
-    let others : ids ≡ taken ++ rest = cc in
-    ⊎_elim (λ s. apart.0 (subst (Contains ids) (sym (first ∙ s)) (subst (λ xs. Contains xs i) (sym others) (Contains-append_right taken rest i r)))) (λ t. are_distinct ids apart.1 taken rest others i t r)
-    (Contains-cons_cases i x taken c)
+pub are_distinct : (ids : List ObjectId) → AreApart ids → AllPairs (λ i j. i ≢ j) ids
+are_distinct [] apart = λ i j d l m. absurd (omega (arith, m))
+are_distinct (x ∷ ids) apart = AllPairs-cons (λ i j. i ≢ j) x ids (λ k d l e. apart.0 (subst (Contains ids) (sym e) (Contains-get_or ids k d l))) (are_distinct ids apart.1)
 
--- the first that passes a test is the first that isn't left out
-pub is_first : (test : ObjectId → Bool) (LeftOut : ObjectId → Type 0) → ((i : ObjectId) → test i ≡ true → LeftOut i → ⊥) → ((i : ObjectId) → test i ≡ false → LeftOut i)
-    → (names rest : List ObjectId) → slice_get rest 0 ≡ find test names → IsFirst LeftOut names rest
-is_first test LeftOut passes fails [] [] e = nothing
-is_first test LeftOut passes fails [] (i ∷ rest) e = absurd (none-some i (sym e))
-is_first test LeftOut passes fails (j ∷ names) rest e = go rest (is_first test LeftOut passes fails names rest) (test j) refl e
+-- the first that passes a test is the first that has P
+pub is_first : (test : ObjectId → Bool) (P : ObjectId → Type 0) (names : List ObjectId) → ((i : ObjectId) → Contains names i → test i ≡ true → P i) → ((i : ObjectId) → test i ≡ false → P i → ⊥)
+    → (rest : List ObjectId) → slice_get rest 0 ≡ find test names → IsFirst P names rest
+is_first test P [] passes fails [] e = All-nil (λ i. P i → ⊥)
+is_first test P [] passes fails (i ∷ rest) e = absurd (none-some i (sym e))
+is_first test P (j ∷ names) passes fails rest e = go rest (is_first test P names (λ i c. passes i (Contains-there i j names c)) fails rest) (test j) refl e
   where
-    go : (those : List ObjectId) → (slice_get those 0 ≡ find test names → IsFirst LeftOut names those) → (t : Bool) → test j ≡ t → slice_get those 0 ≡ cond t (Some j) (find test names) → IsFirst LeftOut (j ∷ names) those
-    go those more false f e = later (fails j f) (more e)
+    go : (those : List ObjectId) → (slice_get those 0 ≡ find test names → IsFirst P names those) → (t : Bool) → test j ≡ t → slice_get those 0 ≡ cond t (Some j) (find test names) → IsFirst P (j ∷ names) those
+    go [] more false f e = All-cons (λ i. P i → ⊥) j names (fails j f) (more e)
+    go (i ∷ those) more false f e = let r = more e in (j ∷ r.0, r.1, ap (λ xs. j ∷ xs) r.2, All-cons (λ k. P k → ⊥) j r.0 (fails j f) r.3, r.4)
     go [] more true y e = absurd (none-some j e)
-    go (i ∷ those) more true y e = subst (λ x. IsFirst LeftOut (j ∷ names) (x ∷ those)) (sym (same_Some i j e)) (here (passes j y))
+    go (i ∷ those) more true y e = subst (λ x. IsFirst P (j ∷ names) (x ∷ those)) (sym (same_Some i j e)) ([], names, refl, All-nil (λ k. P k → ⊥), passes j (Contains-here j names) y)
 
 module _ (test pass : ObjectId → Bool) where
   -- a search among what passes is one for what passes both
@@ -170,20 +167,20 @@ module _ (parents : ObjectId → List ObjectId) (time : ObjectId → ℤ) (tips 
   find_next taken [] = refl
   find_next taken (c ∷ those) = find-both _ _ (next c) (flat_map next those) (parents c) (flat_map parents those) (find-filter (λ i. not (is_among i taken)) (λ i. not (hides i)) (parents c)) (find_next taken those)
 
-  find_named : (taken : List ObjectId) → find (λ i. not (is_among i taken)) (named_by next starts taken) ≡ find (is_left taken) (named parents time tips hidden taken)
+  find_named : (taken : List ObjectId) → find (λ i. not (is_among i taken)) (named_by next starts taken) ≡ find (is_left taken) (tips ++ flat_map parents taken)
   find_named taken =
       find-both _ _ starts (flat_map next taken) tips (flat_map parents taken)
       (find-filter (λ i. not (is_among i taken)) (λ i. not (hides i)) (new_ids (λ i. false) tips) ∙ find-new (is_left taken) (λ i. false) tips (λ i e. absurd (false≢true e))) (find_next taken taken)
 
-  pub in_breadth_order : (ids : List ObjectId) → IsBreadthOrder next starts ids → Throughout (λ taken. IsFirst (λ i. Contains taken i ⊎ Reaches parents hidden i) (named parents time tips hidden taken)) ids
+  pub in_breadth_order : (ids : List ObjectId) → IsBreadthOrder next starts ids → Throughout (λ taken. IsFirst (IsPending parents time tips hidden taken) (tips ++ flat_map parents taken)) ids
   in_breadth_order ids h taken rest e =
-      is_first (is_left taken) (λ i. Contains taken i ⊎ Reaches parents hidden i) yes no (named parents time tips hidden taken) rest (cut (λ before o. o ≡ find (λ i. not (is_among i before)) (named_by next starts before)) ids h taken rest e ∙ find_named taken)
+      is_first (is_left taken) (IsPending parents time tips hidden taken) (tips ++ flat_map parents taken) yes no rest (cut (λ before o. o ≡ find (λ i. not (is_among i before)) (named_by next starts before)) ids h taken rest e ∙ find_named taken)
     where
-      yes : (i : ObjectId) → is_left taken i ≡ true → Contains taken i ⊎ Reaches parents hidden i → ⊥
-      yes i o left = let both = and_parts (not (hides i)) (not (is_among i taken)) o in ⊎_elim (λ c. false≢true (sym (not_true (is_among i taken) both.1) ∙ among_from i taken c)) (not_hidden i both.0) left
+      yes : (i : ObjectId) → Contains (tips ++ flat_map parents taken) i → is_left taken i ≡ true → IsPending parents time tips hidden taken i
+      yes i named o = let both = and_parts (not (hides i)) (not (is_among i taken)) o in (named, λ c. false≢true (sym (not_true (is_among i taken) both.1) ∙ among_from i taken c), not_hidden i both.0)
 
-      no : (i : ObjectId) → is_left taken i ≡ false → Contains taken i ⊎ Reaches parents hidden i
-      no i o = ⊎_elim (λ f. inr (hidden_is i (not_false (hides i) f))) (λ f. inl (among_is i taken (not_false (is_among i taken) f))) (and_fails (not (hides i)) (not (is_among i taken)) o)
+      no : (i : ObjectId) → is_left taken i ≡ false → IsPending parents time tips hidden taken i → ⊥
+      no i o p = ⊎_elim (λ f. p.2 (hidden_is i (not_false (hides i) f))) (λ f. p.1 (among_is i taken (not_false (is_among i taken) f))) (and_fails (not (hides i)) (not (is_among i taken)) o)
 
   named_next : (those : List ObjectId) (i : ObjectId) → Contains (flat_map next those) i → Contains (flat_map parents those) i × (not (hides i) ≡ true)
   named_next [] i c = absurd (no_member i c)

@@ -1,8 +1,8 @@
 -- What words ask for is what the statement says that they ask for.
-use Rattle.std.specs.Prelude.{◌≡◌, ◌≢◌, ◌+◌, ◌==◌, ◌||◌, ℕ, List, [], ◌∷◌, Bool, true, false, cond, Option, Some, None, Result, Ok, Err, codes}
+use Rattle.std.specs.Prelude.{◌≡◌, ◌≢◌, ◌+◌, ◌==◌, ◌||◌, ◌&&◌, ◌⊎◌, ℕ, List, [], ◌∷◌, Bool, true, false, cond, Option, Some, None, Result, Ok, Err, codes}
 use Rattle.std.specs.List.{list_all}
 use Rattle.std.specs.Str.{bytes_eq}
-use Rattle.std.proofs.Common.{refl, sym, ap, subst, ◌∙◌}
+use Rattle.std.proofs.Common.{refl, sym, ap, subst, ◌∙◌, inl, inr}
 use Rattle.std.proofs.lemmas.Bool.{eqb-true, false≢true}
 use Rattle.std.proofs.lemmas.Option.{same_Some}
 use Rattle.std.proofs.lemmas.Slice.Eq.{bytes_eq-Decides}
@@ -17,7 +17,7 @@ use Rattle.gix_commands.specs.declared.fault.Fault.TheVariants as fault
 use Rattle.gix_commands.specs.declared.words.Order.{Order}
 use Rattle.gix_commands.specs.declared.words.Order.TheVariants.{Simple, Topo}
 use Rattle.gix_commands.specs.Words.{Request, Commits, Files, Ahead, Ids, begins_with_caret, without_caret, with_id, with_word, ids_from, order_named, commits_from, commits_of, files_from, files_of, ahead_from, ahead_of, request_named, request_of}
-use Rattle.gix_commands.specs.WholeStatement.{Spells, AreTips, no_more, tip, hide, digits_in}
+use Rattle.gix_commands.specs.WholeStatement.{Spells, AreTips, digits_in}
 use Rattle.gix_commands.proofs.SameNumbers.{hex_spelled}
 
 -- the name of an order
@@ -76,7 +76,7 @@ one_word word words n (Err e) h = go (id_from_hex (without_caret word))
 one_word [] words n (Ok ids) h = go (id_from_hex []) refl
   where
     go : (r : Result ObjectId HexError) → id_from_hex [] ≡ r → AreIdsOf ([] ∷ words) (with_word false n r (Ok ids))
-    go (Ok i) e = tip (hex_spelled [] i e) h
+    go (Ok i) e = inl (i, ids.0, refl, hex_spelled [] i e, h)
     go (Err why) e = tt
 one_word (b ∷ word) words n (Ok ids) h = caret (b == 94) refl
   where
@@ -85,18 +85,18 @@ one_word (b ∷ word) words n (Ok ids) h = caret (b == 94) refl
     go t text with (Err why) e = tt
 
     caret : (t : Bool) → (b == 94) ≡ t → AreIdsOf ((b ∷ word) ∷ words) (with_word t n (id_from_hex (cond t word (b ∷ word))) (Ok ids))
-    caret true e = go true word (λ i s. subst (λ c. AreTips ((c ∷ word) ∷ words) ids.0 (i ∷ ids.1)) (sym (eqb-true b 94 e)) (hide s h)) (id_from_hex word) refl
-    caret false e = go false (b ∷ word) (λ i s. tip s h) (id_from_hex (b ∷ word)) refl
+    caret true e = go true word (λ i s. inr (i, ids.1, refl, word, ap (λ c. c ∷ word) (eqb-true b 94 e), s, h)) (id_from_hex word) refl
+    caret false e = go false (b ∷ word) (λ i s. inl (i, ids.0, refl, s, h)) (id_from_hex (b ∷ word)) refl
 
 ids_are : (n : ℕ) (words : List (List ℕ)) → AreIdsOf words (ids_from n words)
-ids_are n [] = no_more
+ids_are n [] = (refl, refl)
 ids_are n (word ∷ words) = one_word word words n (ids_from (n + 1) words) (ids_are (n + 1) words)
 
 -- without a tip each word begins with a caret
 all_hidden : (words : List (List ℕ)) (tips hidden : List ObjectId) → AreTips words tips hidden → tips ≡ [] → list_all begins_with_caret words ≡ true
-all_hidden words tips hidden no_more e = refl
-all_hidden words tips hidden (tip s h) e = cc
-all_hidden words tips hidden (hide s h) e = all_hidden _ tips _ h e
+all_hidden [] tips hidden h e = refl
+all_hidden (word ∷ words) tips hidden (inl (i, rest, is, s, h)) e = let no : [] ≡ i ∷ rest = sym e ∙ is in cc
+all_hidden (word ∷ words) tips hidden (inr (i, rest, is, id, begins, s, h)) e = ap (λ w. begins_with_caret w && list_all begins_with_caret words) begins ∙ all_hidden words tips rest h e
 
 -- what the words of a request are
 abbrev pub AreWordsOf : List (List ℕ) → Result Request Fault → Type 0

@@ -1,5 +1,5 @@
 -- A run that ended well has written what the statement promises.
-use Rattle.std.specs.Prelude.{◌≡◌, ◌⊎◌, ℕ, ℤ, List, [], ◌∷◌, ◌++◌, map, Option, Some, Result, Ok, Err, All, Contains, IsSome, codes}
+use Rattle.std.specs.Prelude.{◌≡◌, ◌⊎◌, ℕ, ℤ, List, [], ◌∷◌, ◌++◌, map, false, Option, Some, Result, Ok, Err, All, Contains, IsSome, codes}
 use Rattle.std.specs.Io.KnownBytes.{Appends}
 use Rattle.std.specs.List.{flat_map}
 use Rattle.std.proofs.Common.{refl, sym, ap, subst, ◌∙◌, append-nil, inl, inr}
@@ -21,14 +21,14 @@ use Rattle.gix_commands.specs.Run.{Runs, Serves, served, listed}
 use Rattle.gix_commands.specs.Walked.{never_faulty}
 use Rattle.gix_commands.specs.Words.{Request, Commits, Files, Ahead, request_of}
 use Rattle.gix_commands.specs.WholeStatement as page
-use Rattle.gix_commands.specs.WholeStatement.{Entry, IsCommit, IsTree, Unfolds, Reaches, Promises, id_line, entry_line}
+use Rattle.gix_commands.specs.WholeStatement.{Entry, IsCommit, IsTree, Unfolds, Reaches, Promises, entry_line}
 use Rattle.gix_commands.proofs.AheadRuns.{ahead_counts}
 use Rattle.gix_commands.proofs.CommitRuns.{served_so, simple_lists}
 use Rattle.gix_commands.proofs.FileRuns.{unfolds}
 use Rattle.gix_commands.proofs.TopoRuns.{topo_lists}
 use Rattle.gix_commands.proofs.SameCommits.{worded, are_records}
 use Rattle.gix_commands.proofs.SameHistory.{history, is_commit_back}
-use Rattle.gix_commands.proofs.SameLists.{listed as is_list, listed_down, number_shown, simple_named, topo_named, is_topological, id_lines, entry_lines}
+use Rattle.gix_commands.proofs.SameLists.{listed as is_list, listed_down, number_shown, simple_named, topo_named, is_topological, id_line, id_lines, entry_lines}
 use Rattle.gix_commands.proofs.SameOrders.{reaches}
 use Rattle.gix_commands.proofs.SameTrees.{IsNamed, have_names, placed_by, unfolds_walk}
 use Rattle.gix_commands.proofs.SameWords.{AreWordsOf, are_words}
@@ -50,12 +50,11 @@ module _ (words : List (List ℕ)) (input : List ℕ) (rs : List Record) (old ne
 
   -- all that ids reach are commits
   abbrev AreCommits : List ObjectId → Type 0
-  AreCommits ids = (i : ObjectId) → Reaches parents ids i → (ps : List ObjectId) × (t : ℤ) × IsCommit all i ps t
+  AreCommits ids = (i : ObjectId) → Reaches parents ids i → IsCommit all i (parents i) (time i)
 
   whole : (ids : List ObjectId) → AreCommits ids → AreWhole (stored rs) ids
   whole ids commits i r =
-      let c = commits i (reaches parents ids i r) in
-      let b = is_commit_back rs i c.0 c.1 c.2 in
+      let b = is_commit_back rs i (parents i) (time i) (commits i (reaches parents ids i r)) in
       subst IsSome (sym b.1) refl
 
   abbrev ServesSo : List (List ℕ) → Type 0
