@@ -51,10 +51,10 @@ parted_whole b bytes p e = go (position (λ c. c == b) bytes) refl e
         let next : i + 1 ≡ suc i = omega arith in
         let cut : bytes ≡ take i bytes ++ b ∷ drop (i + 1) bytes = sym (take-append-drop i bytes) ∙ ap (λ xs. take i bytes ++ xs) (drop-cons bytes i 0 at.0 ∙ (λ k. eqb-true (get_or bytes i 0) b at.1 k ∷ drop (sym next k) bytes)) in
         let none : All (λ c. c ≢ b) (take i bytes) =
-            (λ k d l s.
-            let few : k < i = omega (arith, l, length-take-le i bytes (omega (arith, at.0))) in
-            let other = position-Some (λ c. c == b) bytes i d h in
-            false≢true (sym (other.2 k few) ∙ eq-eqb (get_or bytes k d) b (sym (get_or-take i bytes k d few) ∙ s)))
+        (λ k d l s.
+        let few : k < i = omega (arith, l, length-take-le i bytes (omega (arith, at.0))) in
+        let other = position-Some (λ c. c == b) bytes i d h in
+        false≢true (sym (other.2 k few) ∙ eq-eqb (get_or bytes k d) b (sym (get_or-take i bytes k d few) ∙ s)))
         in
         subst (λ q. (bytes ≡ q.0 ++ b ∷ q.1) × All (λ c. c ≢ b) q.0) (same_Some (take i bytes, drop (i + 1) bytes) p e) (cut, none)
 
@@ -119,13 +119,13 @@ entry_split k bytes e rest f = go (mode_at bytes) refl f
         let name = parted_whole 0 m.1 n hn in
         let last = id_split k n.1 r hi in
         let first : IsEntryBefore k bytes (record { mode = m.0; name = n.0; id = r.0 }) r.1 = record {
-              mode = mode.0;
-              is_mode = mode.1;
-              named = name.1;
-              digits = last.digits;
-              size = last.size;
-              whole = mode.2 ∙ ap (λ xs. mode.0 ++ 32 ∷ xs) (name.0 ∙ ap (λ xs. n.0 ++ 0 ∷ xs) last.whole);
-            }
+          mode = mode.0;
+          is_mode = mode.1;
+          named = name.1;
+          digits = last.digits;
+          size = last.size;
+          whole = mode.2 ∙ ap (λ xs. mode.0 ++ 32 ∷ xs) (name.0 ∙ ap (λ xs. n.0 ++ 0 ∷ xs) last.whole);
+        }
         in
         let same = found_same f in
         subst (λ ys. IsEntryBefore k bytes e ys) same.1 (subst (λ g. IsEntryBefore k bytes g r.1) same.0 first)
@@ -230,9 +230,11 @@ module _ (rs : List Record) (fails : ObjectId → ExistingError → Type 0) wher
   unfolds_script (script.enters {p = p} {e = e} {a = a} {sub = sub} {items = items} {visits = visits} {others = others} o found inner rest) h =
       let i = unfolds_script inner (all_left (λ v. v.answer ≡ Continue true) visits others h.1) in
       let r = unfolds_script rest (all_right (λ v. v.answer ≡ Continue true) visits others h.1) in
-      let mode : bit_and e.mode 0o170000 ≡ 0o040000 = eqb-true (bit_and e.mode 0o170000) 0o040000 (enters_mode (is_tree e.mode) a (is_among e.id p.ids) h.0 o) in
-      (r.0, subst (λ those. Unfolds (map worded rs) (before p.names) (map entry_of (e ∷ entries_in items)) (placed_by (visit p e a) ∷ those)) (sym (map-append placed_by visits others))
-          (page.tree mode (is_tree_at rs e.id sub found i.0) (subst (λ path. Unfolds (map worded rs) path (map entry_of (entries_in sub)) (map placed_by visits)) (before_more p.names e.name) i.1) r.1))
+      let mode : bit_and e.mode 0o170000 ≡ 0o040000 = eqb-true (bit_and e.mode 0o170000) 0o040000 (enters_mode (is_tree e.mode) a (is_among e.id p.ids) h.0 o) in (
+        r.0,
+        subst (λ those. Unfolds (map worded rs) (before p.names) (map entry_of (e ∷ entries_in items)) (placed_by (visit p e a) ∷ those)) (sym (map-append placed_by visits others))
+            (page.tree mode (is_tree_at rs e.id sub found i.0) (subst (λ path. Unfolds (map worded rs) path (map entry_of (entries_in sub)) (map placed_by visits)) (before_more p.names e.name) i.1) r.1),
+      )
   unfolds_script (script.ends_inside o found inner other) h = absurd (other refl)
 
   -- a walk in depth that showed all, and in which each visit goes on
