@@ -1,14 +1,12 @@
 -- The lists of commits, the numbers of commits and the lines are those of the statement.
-use Rattle.std.specs.Prelude.{◌≡◌, ◌↔◌, ◌-◌, ℕ, ℤ, List, [], ◌∷◌, ◌++◌, map, length, false, Option, Some, None, Contains, codes}
+use Rattle.std.specs.Prelude.{◌≡◌, ℕ, ℤ, List, [], ◌∷◌, ◌++◌, map, Contains, codes}
 use Rattle.std.specs.List.{flat_map}
-use Rattle.std.proofs.Common.{refl, sym, ap, subst, ◌∙◌, arith}
+use Rattle.std.proofs.Common.{refl, sym, subst, arith}
 use Rattle.hex.specs.Hex.{encode_lower}
 use Rattle.gix_hash.specs.declared.ObjectId.{ObjectId}
 use Rattle.gix_object.specs.Object.{Objects}
-use Rattle.gix_hash.specs.Reach.{Reaches}
 use Rattle.gix_revwalk.specs.declared.CommitTimeOrder.TheVariants as order
 use Rattle.gix_revwalk.specs.Commits.{parents_of, time_of}
-use Rattle.gix_revwalk.specs.Ids.{AreDistinct}
 use Rattle.gix_simple.specs.declared.Sorting.{Sorting}
 use Rattle.gix_simple.specs.declared.Sorting.TheVariants as sorting
 use Rattle.gix_topo.specs.declared.Sorting.{Sorting as TopoSorting}
@@ -25,7 +23,7 @@ use Rattle.gix_commands.specs.WholeStatement as page
 use Rattle.gix_commands.specs.WholeStatement.{IsInOrder, IsNumberShown, bytes_in, entry_line}
 use Rattle.gix_commands.proofs.SameOrders.{reaches, reaches_back, are_distinct, in_breadth_order, in_time_order}
 use Rattle.gix_commands.proofs.SameDescents.{in_date_order, in_topo_order}
-use Rattle.gix_commands.proofs.SameTrees.{before, joined_behind, placed_by, same_bytes}
+use Rattle.gix_commands.proofs.SameTrees.{joined_behind, placed_by, same_bytes}
 use Rattle.gix_commands.proofs.SameWords.{IsNameOf}
 
 -- an order by its name

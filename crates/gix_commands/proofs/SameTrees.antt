@@ -1,5 +1,5 @@
 -- The entries of trees, the trees in them and the lines of entries are those of the statement.
-use Rattle.std.specs.Prelude.{◌≡◌, ◌≢◌, ◌≤◌, ◌<◌, ◌+◌, ◌*◌, ◌==◌, nat_lt, ℕ, zero, suc, List, [], ◌∷◌, ◌++◌, map, length, take, drop, Bool, true, false, cond, Option, Some, None, Ok, Err, All, bit_and}
+use Rattle.std.specs.Prelude.{◌≡◌, ◌≢◌, ◌≤◌, ◌<◌, ◌+◌, ◌*◌, ◌==◌, nat_lt, ℕ, zero, suc, List, [], ◌∷◌, ◌++◌, map, length, take, drop, Bool, true, false, cond, Option, Some, None, All, bit_and}
 use Rattle.std.specs.declared.ops.ControlFlow.TheVariants.{Continue}
 use Rattle.std.specs.FinMap.{get}
 use Rattle.std.specs.List.{AllByRecursion, flat_map, position}
@@ -23,10 +23,9 @@ use Rattle.gix_records.specs.Records.{Record, kind_word, stored}
 use Rattle.gix_tree.specs.Delegate.{Action, Call}
 use Rattle.gix_tree.specs.Laws.{IsWhole}
 use Rattle.gix_tree.specs.Paths.{HaveNames, joined, path_of}
-use Rattle.gix_tree.specs.Recorder.{record_of}
 use Rattle.gix_tree.specs.Script as script
 use Rattle.gix_tree.specs.Script.{DepthScript, IsDepthScript, entries_in}
-use Rattle.gix_tree.specs.Visits.{Items, Place, Visit, visit, inside, Leaves, Enters, outcome, outcome_of, descent, Whole}
+use Rattle.gix_tree.specs.Visits.{Items, Place, Visit, visit, Leaves, Enters, outcome_of, descent, Whole}
 use Rattle.gix_tree.specs.Walk.{items_of_object, items_of_kind, trees_of}
 use Rattle.gix_tree.proofs.All.{all_left, all_right}
 use Rattle.gix_tree.proofs.Theorems.SameRecords.{GoOn}

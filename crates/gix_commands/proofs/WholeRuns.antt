@@ -1,21 +1,20 @@
 -- A run that ended well has written what the statement promises.
-use Rattle.std.specs.Prelude.{◌≡◌, ◌⊎◌, ℕ, ℤ, List, [], ◌∷◌, ◌++◌, map, false, Option, Some, Result, Ok, Err, All, Contains, IsSome, codes}
+use Rattle.std.specs.Prelude.{◌≡◌, ◌⊎◌, ℕ, ℤ, List, [], ◌++◌, map, false, Option, Some, Result, Ok, All, Contains, IsSome}
 use Rattle.std.specs.Io.KnownBytes.{Appends}
 use Rattle.std.specs.List.{flat_map}
 use Rattle.std.proofs.Common.{refl, sym, ap, subst, ◌∙◌, append-nil, inl, inr}
 use Rattle.gix_hash.specs.declared.ObjectId.{ObjectId}
-use Rattle.gix_object.specs.declared.find.existing_iter.Error.{Error as ExistingError}
 use Rattle.gix_revwalk.specs.Commits.{parents_of, time_of}
 use Rattle.gix_records.specs.Records.{Record, AreRecords, stored}
 use Rattle.gix_tree.specs.Script.{IsDepthScript, entries_at}
-use Rattle.gix_tree.specs.Tracked.{Tracked, Tracks, fresh_recorder}
-use Rattle.gix_tree.specs.Visits.{Visit, Ending, Whole, Broken, Failed, IsUnfailed, is_broken}
-use Rattle.gix_tree.specs.Walk.{LookUpFails, depth_answer, trees_of}
+use Rattle.gix_tree.specs.Tracked.{Tracks, fresh_recorder}
+use Rattle.gix_tree.specs.Visits.{Ending, Whole, Broken, Failed, IsUnfailed, is_broken}
+use Rattle.gix_tree.specs.Walk.{LookUpFails, trees_of}
 use Rattle.gix_tree.proofs.Theorems.Laws.{depth_ok, depth_is_in_order, depth_is_recorded}
-use Rattle.gix_tree.proofs.Theorems.SameRecords.{GoOn, unbroken}
+use Rattle.gix_tree.proofs.Theorems.SameRecords.{unbroken}
 use Rattle.gix_commands.specs.declared.fault.Fault.{Fault}
 use Rattle.gix_commands.specs.declared.words.Order.TheVariants.{Simple, Topo}
-use Rattle.gix_commands.specs.Files.{RecordsTree, file_lines}
+use Rattle.gix_commands.specs.Files.{file_lines}
 use Rattle.gix_commands.specs.Histories.{AreWhole}
 use Rattle.gix_commands.specs.Run.{Runs, Serves, served, listed}
 use Rattle.gix_commands.specs.Walked.{never_faulty}

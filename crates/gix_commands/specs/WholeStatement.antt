@@ -1,6 +1,6 @@
 -- What a run that ended well has written, from lists of bytes up: `Promises`, at the end. This page says all of it; README says what else is
 -- to be believed. A text is a list of bytes: 10 is a newline, 32 a space, 45 `-`, 47 `/`, 48 `0`, 62 `>`, 94 `^`.
-use Rattle.std.specs.Prelude.{◌≡◌, ◌≢◌, ◌↔◌, ◌⊎◌, ℕ, ◌-◌, ◌*◌, ◌^◌, ◌≤◌, nat_lt, nat_le, bit_and, ℤ, pos, neg_ℤ, ◌≤ℤ◌, int_le, List, [], ◌∷◌, ◌++◌, length, take, replicate, reverse, filter, Bool, not, false, if◌then◌else◌, Option, Some, Result, Ok, All, AllPairs, Contains, codes}
+use Rattle.std.specs.Prelude.{◌≡◌, ◌≢◌, ◌↔◌, ◌⊎◌, ℕ, ◌-◌, ◌*◌, ◌^◌, ◌≤◌, nat_lt, nat_le, bit_and, ℤ, pos, neg_ℤ, ◌≤ℤ◌, int_le, List, [], ◌∷◌, ◌++◌, length, take, replicate, reverse, filter, not, false, if◌then◌else◌, Option, Some, Result, Ok, All, AllPairs, Contains, codes}
 use Rattle.std.specs.Fmt.{digits}
 use Rattle.std.specs.Io.KnownBytes.{Appends}
 use Rattle.std.specs.List.{flat_map}
