@@ -1,5 +1,5 @@
 -- What a call answers, and what it leaves in the room for lines.
-use Rattle.std.specs.Prelude.{◌≡◌, ◌≢◌, ℕ, ◌-◌, nat_eq, nat_le, List, [], ◌++◌, map, length, drop, replicate, Option, Some, None, Result, Ok, Err, if◌then◌else◌, codes}
+use Rattle.std.specs.Prelude.{◌≢◌, ℕ, ◌-◌, nat_eq, nat_le, List, [], ◌++◌, map, length, drop, replicate, Some, Result, Ok, Err, if◌then◌else◌, codes}
 use Rattle.std.specs.Str.Lossy.{utf8_lossy}
 use Rattle.gix_hash.specs.declared.ObjectId.{ObjectId}
 use Rattle.gix_hash.specs.Id.{bytes_of, id_len, kind_of}

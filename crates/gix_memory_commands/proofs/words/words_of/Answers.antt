@@ -1,4 +1,4 @@
-use Rattle.std.proofs.Common.{ℕ, List, [], ◌∷◌, ◌++◌, ◌≡◌, ◌+◌, suc, sym, ap, subst, refl, ◌∙◌, arith, map, string_bytes, take, drop, length}
+use Rattle.std.proofs.Common.{ℕ, List, [], ◌++◌, ◌≡◌, ◌+◌, suc, sym, ap, ◌∙◌, arith, map, string_bytes, take, drop, length}
 use Rattle.std.specs.Str.Lossy.{utf8_lossy}
 use Rattle.std.proofs.lemmas.List.{append-nil, take_rest, length-drop}
 use Rattle.gix_memory_commands.specs.WordsOf.{words_of}
