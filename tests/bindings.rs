@@ -12,6 +12,7 @@ fn main() -> io::Result<()> {
         let words_length = take_number(&mut rest);
         let records_length = take_number(&mut rest);
         let mut room = vec![0xa5; take_number(&mut rest)];
+        let _refuses = take_number(&mut rest);
         let words = std::str::from_utf8(take(&mut rest, words_length)).expect("words are text");
         let words: Vec<&str> = words.split(' ').collect();
         let records = take(&mut rest, records_length);
