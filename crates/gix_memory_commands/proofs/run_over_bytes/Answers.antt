@@ -9,7 +9,7 @@ returns-in-Ok c =
     let runs = subst (RunsOver c.args.words.now c.args.records.now (Ok tt)) (sym c.as_slice.ensures.value) c.in-Ok.ensures.ok in
     let told = Answers c.args.words.now c.args.records.now c.args.room.now in
     subst (λ answer. told answer c.put_lines.new.room) (sym c.put_lines.ensures.answer)
-        (subst (told (answer_to lines c.args.room.now)) (sym c.put_lines.ensures.room) (ran lines runs))
+    (subst (told (answer_to lines c.args.room.now)) (sym c.put_lines.ensures.room) (ran lines runs))
 
 pub returns-in-Err : goal.returns-in-Err
 returns-in-Err c =
