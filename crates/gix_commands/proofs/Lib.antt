@@ -30,3 +30,4 @@ mod SameTrees
 mod SameWords
 mod SameLists
 mod WholeRuns
+mod WholeExamples

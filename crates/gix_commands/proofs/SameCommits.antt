@@ -48,7 +48,7 @@ object_of r = record { kind = r.kind; bytes = r.bytes }
 abbrev put : Objects → records.Record → Objects
 put objects r = map_of.insert objects r.id (object_of r)
 
-get_put : (objects : Objects) (r : records.Record) (i : ObjectId) → get (put objects r) i ≡ cond (is_same i r.id) (Some (object_of r)) (get objects i)
+pub get_put : (objects : Objects) (r : records.Record) (i : ObjectId) → get (put objects r) i ≡ cond (is_same i r.id) (Some (object_of r)) (get objects i)
 get_put objects r i = map_of.get-insert id_total objects r.id (object_of r) i
 
 -- what was in a store before stays there where no record has its id
