@@ -15,9 +15,12 @@ mod UncutWords
 mod Parts
 mod CommitRuns
 mod TopoParts
+mod TextParts
 mod TopoRuns
 mod TreeParts
 mod FileRuns
 mod SimpleFaults
 mod SilentRuns
 mod AheadRuns
+mod OverGraphs
+mod ToldRuns
