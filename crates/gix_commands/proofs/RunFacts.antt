@@ -5,7 +5,7 @@ use Rattle.std.specs.Option.{option_or}
 use Rattle.std.proofs.Common.{refl, sym, subst, ap, ◌∙◌}
 use Rattle.gix_hash.specs.declared.ObjectId.{ObjectId}
 use Rattle.gix_object.specs.Object.{Object, Objects}
-use Rattle.gix_hash.proofs.Ids.Membership.{id_apart}
+use Rattle.gix_hash.proofs.Ids.Membership.{id_total, id_apart}
 use Rattle.gix_graph_store.specs.WithRows.{with_rows}
 use Rattle.gix_graph_store.proofs.ToldObjects.{get-with_rows}
 use Rattle.gix_commitgraph.specs.Rows.{GraphRow}
@@ -45,7 +45,7 @@ err_same same = cc
 
 -- without rows a store has its own objects alone
 pub without_rows : (objects : Objects) → with_rows [] objects ≡ objects
-without_rows objects = same_map id_apart _ _ (λ i. get-with_rows [] objects i ∙ alone (get objects i))
+without_rows objects = same_map id_total id_apart _ _ (λ i. get-with_rows [] objects i ∙ alone (get objects i))
   where
     alone : (o : Option Object) → option_or o None ≡ o
     alone None = refl

@@ -170,8 +170,8 @@ module _ (objects : Objects) (tips hiders : List ObjectId) (whole : AreWhole obj
   first_called (no_memory some hides left) s = λ ne. tt
 
   called : {w : Walk} {o : Option (Result Info Error)} {new : Walk} → Answers w o new → Stands w → IsGood o new
-  called (initial b step) s = first_called step (record { store = s.store; rows = s.rows; parents = s.parents; behind = s.behind; met = s.met })
-  called (later b step) s = stepped step s
+  called (initial b made) s = first_called made (record { store = s.store; rows = s.rows; parents = s.parents; behind = s.behind; met = s.met })
+  called (later b made) s = stepped made s
 
   drawn : (infos : List Info) (w at : Walk) → Yields Answers w (all_given infos) at → Stands w → Stands at
   drawn [] w at h s = subst Stands h s

@@ -38,10 +38,10 @@ pub told_topo_lists : ToldTopoLists
 told_topo_lists words layers input records by tips ends old new asked are runs =
     let k = told_served words layers input records (Commits (Topo by) tips ends) old new asked are runs in
     let l = topo.lists (told k.0 records) k.0 (told_agree k.1) by tips ends old new k.2 in
-    (k.0, k.1, l)
+    (k.0, k.1, l.0, l.1, l.2)
 
 pub told_ahead_counts : ToldAheadCounts
 told_ahead_counts words layers input records one other old new asked are runs =
     let k = told_served words layers input records (Ahead one other) old new asked are runs in
     let c = counted_so (told k.0 records) k.0 (told_agree k.1) one other old new k.2 in
-    (k.0, k.1, c)
+    (k.0, k.1, c.0, c.1, c.2, c.3, c.4)

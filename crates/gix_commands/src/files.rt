@@ -44,8 +44,8 @@ pub fn write_files<W: Write>(
 
 // A line for each entry of the tree of this id and of the trees in it.
 fn lines_of_tree(alloc: Global, tree: ObjectId, store: Lent<'_>) -> Result<Vec<u8>, Fault>
-    ensures ok { IfOk result (λ lines. AreLinesOf store tree lines.items) }
-    ensures err { IfErr result (IsTreeFault store tree) }
+    ensures ok { IfOk result (λ lines. AreLinesOf store.entry tree lines.items) }
+    ensures err { IfErr result (IsTreeFault store.entry tree) }
 {
     let mut lister = Lister {
         recorder: Recorder::new(alloc),
