@@ -1,6 +1,6 @@
 -- A topological walk over records ends by no internal fault: its store doesn't fail, and with rows that agree, or agreeing, nothing that it
 -- counted is missing.
-use Rattle.std.specs.Prelude.{◌≡◌, ◌≢◌, ℕ, List, [], ◌∷◌, Option, Some, None, Result, Ok, Err}
+use Rattle.std.specs.Prelude.{◌≢◌, ℕ, List, [], ◌∷◌, Option, Some, None, Result, Ok, Err}
 use Rattle.std.specs.Iterator.{Yields, YieldsThen}
 use Rattle.std.proofs.Common.{sym, subst}
 use Rattle.gix_hash.specs.declared.ObjectId.{ObjectId}

@@ -1,11 +1,11 @@
-use Rattle.std.specs.Prelude.{◌≡◌, ◌≢◌, nat_lt, ℕ, ◌+◌, ◌-◌, ◌<◌, ◌==◌, List, [], ◌∷◌, ◌++◌, length, map, take, drop, Bool, true, false, if◌then◌else◌, Result, Ok, Err, string_bytes}
+use Rattle.std.specs.Prelude.{◌≡◌, ◌≢◌, nat_lt, ℕ, ◌+◌, ◌-◌, ◌<◌, List, [], ◌∷◌, ◌++◌, length, map, take, drop, Bool, true, false, if◌then◌else◌, Result, Ok, Err, string_bytes}
 use Rattle.std.proofs.Common.{Vec, Global, add-one, arith, rules, refl, sym, ap, subst, ◌∙◌, append_assoc, get_or, drop-cons}
 use Rattle.std.proofs.lemmas.List.{take_all}
 use Rattle.gix_hash.specs.declared.HexError.{HexError}
 use Rattle.gix_hash.specs.declared.ObjectId.{ObjectId}
 use Rattle.gix_hash.specs.Id.{id_from_hex}
 use Rattle.gix_commands.specs.declared.fault.Fault.{Fault}
-use Rattle.gix_commands.specs.Words.{Ids, begins_with_caret, ids_from, with_word, without_caret}
+use Rattle.gix_commands.specs.Words.{Ids, begins_with_caret, ids_from, with_word}
 use Rattle.gix_commands.proofs.words.read_ids.Invariants.{behind}
 use Rattle.gix_commands.proofs.words.read_ids.Goals as goal
 use Rattle.gix_commands.proofs.words.read_ids.Goals.{in-94+in_ok-add_id-in-94, in_default+in_ok-add_id-in_default, in_default-via-then-as_bytes-lt1, in_default-via-else-as_bytes-lt1+in_default-1}
@@ -73,9 +73,9 @@ loop-i-preserved c =
       | in_default+in_ok-add_id-in_default w ↦
           let k = w.in_ok-add_id-in_default.ensures in
           let plain : begins_with_caret bytes ≡ false = elim w.in_default-1.branch [
-              | in_default-via-then-as_bytes-lt1 w' ↦ short_plain bytes (search rules)
-              | in_default-via-else-as_bytes-lt1+in_default-1 w' ↦ other_plain bytes (search rules)
-            ] in
+            | in_default-via-then-as_bytes-lt1 w' ↦ short_plain bytes (search rules)
+            | in_default-via-else-as_bytes-lt1+in_default-1 w' ↦ other_plain bytes (search rules)
+          ] in
           next string_bytes words i c.index-words-i.result c.loop-i-test.true c.index-words-i.is bytes c.as_bytes.ensures.value tips hidden _ _ (tips ++ k.0 ∷ []) hidden c.loop-i.invariant
           (ap (λ (v : Vec ObjectId Global). v.items) w.tips-is ∙ k.2) (ap (λ (v : Vec ObjectId Global). v.items) w.hidden-is) (plain_word tips hidden k.0 (i + 2) rest bytes plain k.1)
     ]
