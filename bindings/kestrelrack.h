@@ -30,7 +30,10 @@ enum {
     KESTRELRACK_MEMORY = 9,     /* malloc or realloc gave NULL */
     KESTRELRACK_READ = 10,      /* the records are more than 2^40 bytes */
     KESTRELRACK_WRITE = 11,     /* never answered */
-    KESTRELRACK_INTERNAL = 12   /* never answered */
+    KESTRELRACK_INTERNAL = 12,  /* never answered */
+    KESTRELRACK_GRAPH = 13,     /* never answered: only the program takes a commit-graph */
+    KESTRELRACK_ROW = 14,       /* never answered */
+    KESTRELRACK_DISAGREES = 15  /* never answered */
 };
 
 struct kestrelrack_answer {

@@ -15,12 +15,15 @@ mod UncutWords
 mod Parts
 mod CommitRuns
 mod TopoParts
+mod TextParts
 mod TopoRuns
 mod TreeParts
 mod FileRuns
 mod SimpleFaults
 mod SilentRuns
 mod AheadRuns
+mod OverGraphs
+mod ToldRuns
 mod SameNumbers
 mod SameCommits
 mod SameHistory

@@ -2,6 +2,7 @@ pub mod Faults
 pub mod Words
 pub mod Walked
 pub mod TopoWalked
+pub mod Opening
 pub mod Files
 pub mod Lister
 pub mod Ahead

@@ -40,6 +40,9 @@ of_fault fault.Memory = of_length 9 0
 of_fault fault.Read = of_length 10 0
 of_fault fault.Write = of_length 11 0
 of_fault fault.Internal = of_length 12 0
+of_fault (fault.Graph e) = of_length 13 0
+of_fault (fault.Row i) = of_id 14 i
+of_fault (fault.Disagrees i) = of_id 15 i
 
 -- what a run of the commands answers and writes over a text of words and the bytes of records
 abbrev pub RunsOver : List ℕ → List ℕ → Result (Unit {0}) Fault → List ℕ → Type 0
@@ -81,4 +84,7 @@ text_of n =
     else if nat_eq n 10 then codes "read failed"
     else if nat_eq n 11 then codes "write failed"
     else if nat_eq n 12 then codes "internal fault"
+    else if nat_eq n 13 then codes "bad commit-graph"
+    else if nat_eq n 14 then codes "bad row in the commit-graph"
+    else if nat_eq n 15 then codes "commit-graph disagrees"
     else codes "unknown fault"

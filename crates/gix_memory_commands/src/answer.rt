@@ -53,6 +53,9 @@ impl Answer {
             Fault::Read => Answer::of_length(10, 0),
             Fault::Write => Answer::of_length(11, 0),
             Fault::Internal => Answer::of_length(12, 0),
+            Fault::Graph(_) => Answer::of_length(13, 0),
+            Fault::Row(id) => Answer::of_id(14, id),
+            Fault::Disagrees(id) => Answer::of_id(15, id),
         }
     }
 
@@ -127,6 +130,9 @@ pub fn text_of(number: u32) -> &'static str
         10 => "read failed",
         11 => "write failed",
         12 => "internal fault",
+        13 => "bad commit-graph",
+        14 => "bad row in the commit-graph",
+        15 => "commit-graph disagrees",
         _ => "unknown fault",
     }
 }
