@@ -14,7 +14,7 @@ def contains(release, fix, repository="."):
     def git(*words, **more):
         return subprocess.run(["git", "--no-replace-objects", "-C", repository, *words], check=True, capture_output=True, **more).stdout
 
-    ids = git("rev-parse", "--verify", "--end-of-options", release + "^{commit}") + git("rev-parse", "--verify", "--end-of-options", fix + "^{commit}")
+    ids = b"".join(git("rev-parse", "--verify", "--end-of-options", name + "^{commit}") for name in (release, fix))
     reached = git("rev-list", "--stdin", input=ids)
     records = git("cat-file", "--batch=%(objecttype) %(objectname) %(objectsize)", input=reached)
     release, fix = ids.decode().split()

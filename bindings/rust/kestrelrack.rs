@@ -1,7 +1,7 @@
 //! Safe Rust over `libkestrelrack.a`. Nothing compares the two declarations here with `kestrelrack.h`, except for the tests.
 //!
 //!     rustc --edition=2024 --crate-type=rlib -L native=dist -l static=kestrelrack dist/kestrelrack.rs
-//!     rustc --edition=2024 --extern kestrelrack=libkestrelrack.rlib -L native=dist bindings/rust/contains.rs
+//!     rustc --edition=2024 --extern kestrelrack=libkestrelrack.rlib -L native=dist dist/contains.rs
 
 use std::fmt;
 
