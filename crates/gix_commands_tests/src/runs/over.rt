@@ -6,7 +6,7 @@ use gix_commands::{run_over, write_heads};
 type Line = (u8, [u32; 4]);
 
 /// The word where there is no parent.
-const NONE: u32 = 0x7000_0000;
+const NONE: u32 = 0x70000000;
 
 /// The rows of the sample.
 const LINES: [Line; 8] = [
@@ -25,30 +25,31 @@ const BACKWARD: [Line; 2] = [(0x11, [NONE, NONE, 4, 1]), (0x22, [0, NONE, 4, 2])
 
 /// What is before the fan-out of a layer of eight rows: the signature, the versions, and the chunks OIDF, OIDL and CDAT by where each begins.
 const EIGHT: &[u32] = &[
-    0x4347_5048, 0x0101_0300, 0x4f49_4446, 0, 0x38, 0x4f49_444c, 0, 0x438, 0x4344_4154, 0, 0x4d8,
-    0, 0, 0x5f8,
+    0x43475048, 0x01010300, 0x4f494446, 0, 0x38, 0x4f49444c, 0, 0x438, 0x43444154, 0, 0x4d8, 0, 0,
+    0x5f8,
 ];
 
 /// The same of seven rows.
 const SEVEN: &[u32] = &[
-    0x4347_5048, 0x0101_0300, 0x4f49_4446, 0, 0x38, 0x4f49_444c, 0, 0x438, 0x4344_4154, 0, 0x4c4,
-    0, 0, 0x5c0,
+    0x43475048, 0x01010300, 0x4f494446, 0, 0x38, 0x4f49444c, 0, 0x438, 0x43444154, 0, 0x4c4, 0, 0,
+    0x5c0,
 ];
 
 /// The same of two rows.
 const TWO: &[u32] = &[
-    0x4347_5048, 0x0101_0300, 0x4f49_4446, 0, 0x38, 0x4f49_444c, 0, 0x438, 0x4344_4154, 0, 0x460,
-    0, 0, 0x4a8,
+    0x43475048, 0x01010300, 0x4f494446, 0, 0x38, 0x4f49444c, 0, 0x438, 0x43444154, 0, 0x460, 0, 0,
+    0x4a8,
 ];
 
 /// The same of one row above another layer, with the chunk BASE.
 const UPPER: &[u32] = &[
-    0x4347_5048, 0x0101_0401, 0x4f49_4446, 0, 0x44, 0x4f49_444c, 0, 0x444, 0x4344_4154, 0, 0x458,
-    0x4241_5345, 0, 0x47c, 0, 0, 0x490,
+    0x43475048, 0x01010401, 0x4f494446, 0, 0x44, 0x4f49444c, 0, 0x444, 0x43444154, 0, 0x458,
+    0x42415345, 0, 0x47c, 0, 0, 0x490,
 ];
 
 /// The record of the last commit of the sample.
-const LAST: &str = "commit #8 192\ntree #0\nparent #6\nparent #7\nauthor A <a@b> 8 +0000\ncommitter A <a@b> 8 +0000\n\n\n";
+const LAST: &str =
+    "commit #8 192\ntree #0\nparent #6\nparent #7\nauthor A <a@b> 8 +0000\ncommitter A <a@b> 8 +0000\n\n\n";
 
 fn push_words(layer: &mut Vec<u8>, words: &[u32]) -> Result<(), AllocError> {
     for word in words {
@@ -80,7 +81,11 @@ fn layer_of(alloc: Global, head: &[u32], lines: &[Line]) -> Result<Vec<u8>, Allo
     layer.push(u8::try_from(lines.len()).unwrap_or(0))?;
     push_ids(&mut layer, lines)?;
     push_rows(&mut layer, lines)?;
-    push_times(&mut layer, 0, if head.len() == UPPER.len() { 40 } else { 20 })?;
+    push_times(
+        &mut layer,
+        0,
+        if head.len() == UPPER.len() { 40 } else { 20 },
+    )?;
     Ok(layer)
 }
 
@@ -252,11 +257,7 @@ fn heads_are_rows_that_no_row_names(rt: HostRuntime) -> Result<(), Fail> {
     check_heads(alloc, &[], "")?;
     check_heads(alloc, &[(EIGHT, &LINES)], "#8\n")?;
     check_heads(alloc, &[(SEVEN, &LINES[..7])], "#6\n#7\n")?;
-    check_heads(
-        alloc,
-        &[(SEVEN, &LINES[..7]), (UPPER, &LINES[7..])],
-        "#8\n",
-    )?;
+    check_heads(alloc, &[(SEVEN, &LINES[..7]), (UPPER, &LINES[7..])], "#8\n")?;
     check_heads(
         alloc,
         &[(TWO, &BACKWARD)],
