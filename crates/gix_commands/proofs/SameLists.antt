@@ -99,7 +99,7 @@ module _ (objects : Objects) where
   in_order_down name topo.DateOrder e tips ends ids l = subst (IsInOrder parents time tips ends ids) (sym e) (page.date (in_date_order parents time tips ends ids l))
   in_order_down name topo.TopoOrder e tips ends ids l = subst (IsInOrder parents time tips ends ids) (sym e) (page.topo (in_topo_order parents time tips ends ids l))
 
-  pub listed_down : (name : List ℕ) (by : TopoSorting) → IsNameOf name (Topo by) → (tips ends ids : List ObjectId) → ListsDown objects by tips ends ids → page.Lists parents time tips ends name ids
+  pub listed_down : (name : List ℕ) (by : TopoSorting) → IsNameOf name (Topo by) → (tips ends ids : List ObjectId) → ListsDown objects (parents_of objects) by tips ends ids → page.Lists parents time tips ends name ids
   listed_down name by named tips ends ids l = (
     are_distinct ids l.once,
     λ i m. shown tips ends i (l.shown i m),

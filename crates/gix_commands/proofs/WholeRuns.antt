@@ -63,7 +63,7 @@ module _ (words : List (List ℕ)) (input : List ℕ) (rs : List Record) (old ne
   abbrev Writes : List ℕ → List ObjectId → List ObjectId → Type 0
   Writes by tips hidden = (ids : List ObjectId) × page.Lists parents time tips hidden by ids × Appends old new (flat_map id_line ids)
 
-  tree_written : (tree : ObjectId) → Serves (stored rs) old (Files tree) (Ok tt) new
+  tree_written : (tree : ObjectId) → Serves (stored rs) [] old (Files tree) (Ok tt) new
       → (entries : List Entry) × (placed : List (List ℕ × Entry)) × IsTree all tree entries × Unfolds all [] entries placed × (All IsNamed placed → Appends old new (flat_map entry_line placed))
   tree_written tree (listed recorder walk written) =
       let u = unfolds (stored rs) tree recorder walk in
@@ -90,8 +90,8 @@ module _ (words : List (List ℕ)) (input : List ℕ) (rs : List Record) (old ne
     where
       written : (Contains page.topological name ⊎ (ends ≡ []) → AreCommits (tips ++ ends)) → Writes name tips ends
       written commits =
-          let l = topo_lists words input rs by tips ends old new asked are (whole (tips ++ ends) (commits (inl (is_topological name by named)))) runs in
-          (l.0, listed_down (stored rs) name by named tips ends l.0 l.1, subst (Appends old new) (id_lines l.0) l.2)
+          let l = topo_lists words input rs by tips ends old new asked are runs in
+          (l.0, listed_down (stored rs) name by named tips ends l.0 (l.1.whole (whole (tips ++ ends) (commits (inl (is_topological name by named))))), subst (Appends old new) (id_lines l.0) l.2)
   serves (Files tree) asked (text, is, spells) =
       let t = tree_written tree (served_so words input rs (Files tree) old new asked are runs) in
       subst ServesSo (sym is) (page.files spells t.2 t.3 t.4)
