@@ -1,5 +1,5 @@
 -- A walk without hidden tips, none of whose answers is a fault, gives the commits in order by the parents that texts name.
-use Rattle.std.specs.Prelude.{◌≡◌, ◌&&◌, not, List, [], ◌∷◌, filter, Bool, false, Option, Result, Err, Contains, All}
+use Rattle.std.specs.Prelude.{◌≡◌, ◌&&◌, not, List, [], ◌∷◌, filter, Bool, true, false, Option, Result, Err, Contains, All}
 use Rattle.std.specs.Iterator.{Drains}
 use Rattle.std.proofs.Common.{refl, sym, subst, inl, ◌∙◌}
 use Rattle.std.proofs.Math.Bool.{and-true}
