@@ -22,10 +22,12 @@ mod FileRuns
 mod SimpleFaults
 mod SilentRuns
 mod AheadRuns
+mod TextNumbers
 mod OverGraphs
 mod ToldRuns
 mod SameNumbers
 mod SameCommits
+mod SameTexts
 mod SameHistory
 mod SameOrders
 mod SameDescents
