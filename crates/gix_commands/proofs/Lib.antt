@@ -1,4 +1,5 @@
 mod WordFaults
+mod WalkFaults
 mod MemoryFaults
 mod OutputFacts
 mod InternalFacts
@@ -9,6 +10,7 @@ mod ListerFacts
 mod AheadFacts
 mod StartFacts
 mod RunFacts
+mod GivenRuns
 mod FoundCommits
 mod SimpleRuns
 mod UncutWords
