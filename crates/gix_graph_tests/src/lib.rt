@@ -4,8 +4,6 @@
 #[cfg(test)]
 mod checks;
 #[cfg(test)]
-mod errors;
-#[cfg(test)]
 mod files;
 #[cfg(test)]
 mod stores;

@@ -1,6 +1,5 @@
 //! The walks by their tables, compared with what is wanted; and the calls and examples, each made once.
 mod calls;
-mod errors;
 mod examples;
 mod lookups;
 mod names;
