@@ -5,6 +5,7 @@ use Rattle.std.specs.Iterator.{Yields}
 use Rattle.std.proofs.Common.{sym, ap, subst, ◌∙◌, length-append}
 use Rattle.gix_hash.specs.declared.ObjectId.{ObjectId}
 use Rattle.gix_object.specs.Object.{Objects}
+use Rattle.gix_commitgraph.specs.Rows.{GraphRow}
 use Rattle.gix_revwalk.specs.declared.Info.{Info}
 use Rattle.gix_simple.specs.declared.Sorting.TheVariants as sorting
 use Rattle.gix_commands.specs.declared.fault.Fault.{Fault}
@@ -31,26 +32,26 @@ module _ {W E : Type 0} (Steps : W → Option (Result Info E) → W → Type 0) 
 pub one_more : (infos : List Info) (info : Info) (n m : ℕ) → n ≡ length infos → m ≡ n + 1 → m ≡ length (infos ++ info ∷ [])
 one_more infos info n m is more = more ∙ ap (λ k. k + 1) is ∙ sym (length-append infos (info ∷ []))
 
-pub starts_alone : (objects : Objects) (tip hidden : ObjectId) (tips others : List ObjectId) (walk : Walk) → tips ≡ tip ∷ [] → others ≡ hidden ∷ [] → StartsFrom objects sorting.BreadthFirst tips others walk → StartsFrom objects sorting.BreadthFirst (tip ∷ []) (hidden ∷ []) walk
-starts_alone objects tip hidden tips others walk e f h = subst (λ (ids : List ObjectId). StartsFrom objects sorting.BreadthFirst (tip ∷ []) ids walk) f (subst (λ (ids : List ObjectId). StartsFrom objects sorting.BreadthFirst ids others walk) e h)
+pub starts_alone : (objects : Objects) (rows : List GraphRow) (tip hidden : ObjectId) (tips others : List ObjectId) (walk : Walk) → tips ≡ tip ∷ [] → others ≡ hidden ∷ [] → StartsFrom objects rows sorting.BreadthFirst tips others walk → StartsFrom objects rows sorting.BreadthFirst (tip ∷ []) (hidden ∷ []) walk
+starts_alone objects rows tip hidden tips others walk e f h = subst (λ (ids : List ObjectId). StartsFrom objects rows sorting.BreadthFirst (tip ∷ []) ids walk) f (subst (λ (ids : List ObjectId). StartsFrom objects rows sorting.BreadthFirst ids others walk) e h)
 
 -- a walk that starts so was counted
-module _ (objects : Objects) (tip hidden : ObjectId) (walk : Walk) (starts : StartsFrom objects sorting.BreadthFirst (tip ∷ []) (hidden ∷ []) walk) where
-  pub counts : (result : Result ℕ Fault) → Numbers Answers IsWalkFault walk result → IfOk result (Counts objects tip hidden)
+module _ (objects : Objects) (rows : List GraphRow) (tip hidden : ObjectId) (walk : Walk) (starts : StartsFrom objects rows sorting.BreadthFirst (tip ∷ []) (hidden ∷ []) walk) where
+  pub counts : (result : Result ℕ Fault) → Numbers Answers IsWalkFault walk result → IfOk result (Counts objects rows tip hidden)
   counts (Ok n) h = (h.0, record { walk = walk; starts = starts; ends = h.1 }, h.2)
   counts (Err e) h = tt
 
-  pub fails_to_count : (result : Result ℕ Fault) → Numbers Answers IsWalkFault walk result → IfErr result (λ e. e ≢ fault.Memory → FailsToCount objects tip hidden e)
+  pub fails_to_count : (result : Result ℕ Fault) → Numbers Answers IsWalkFault walk result → IfErr result (λ e. e ≢ fault.Memory → FailsToCount objects rows tip hidden e)
   fails_to_count (Ok n) h = tt
   fails_to_count (Err e) h = λ other. (h.0, record { walk = walk; starts = starts; ends = h.1 })
 
-module _ (objects : Objects) (old : Option (List ℕ)) (one other : ObjectId) where
+module _ (objects : Objects) (rows : List GraphRow) (old : Option (List ℕ)) (one other : ObjectId) where
   -- nothing was written
-  pub ahead_failed : (result : Result (Unit {0}) Fault) (e : Fault) → result ≡ Err e → (e ≢ fault.Memory → Serves objects old (Ahead one other) (Err e) old) → Serves objects old (Ahead one other) result old
-  ahead_failed result e same h = failed_so (λ r. Serves objects old (Ahead one other) r old) unserved result e same h
+  pub ahead_failed : (result : Result (Unit {0}) Fault) (e : Fault) → result ≡ Err e → (e ≢ fault.Memory → Serves objects rows old (Ahead one other) (Err e) old) → Serves objects rows old (Ahead one other) result old
+  ahead_failed result e same h = failed_so (λ r. Serves objects rows old (Ahead one other) r old) unserved result e same h
 
   -- the line was written, or the writer failed
-  pub ahead_written : (new : Option (List ℕ)) (ahead behind : ℕ) (line : List ℕ) (result : Result (Unit {0}) Fault) → Counts objects one other ahead → Counts objects other one behind → line ≡ ahead_line ahead behind
-      → OnOk result (Appends old new line) → IfErr result (λ e. e ≡ fault.Write) → Serves objects old (Ahead one other) result new
+  pub ahead_written : (new : Option (List ℕ)) (ahead behind : ℕ) (line : List ℕ) (result : Result (Unit {0}) Fault) → Counts objects rows one other ahead → Counts objects rows other one behind → line ≡ ahead_line ahead behind
+      → OnOk result (Appends old new line) → IfErr result (λ e. e ≡ fault.Write) → Serves objects rows old (Ahead one other) result new
   ahead_written new ahead behind line (Ok done) a b is h k = counted ahead behind a b (subst (Appends old new) is h)
-  ahead_written new ahead behind line (Err e) a b is h k = subst (λ (f : Fault). Serves objects old (Ahead one other) (Err f) new) (sym k) not_written
+  ahead_written new ahead behind line (Err e) a b is h k = subst (λ (f : Fault). Serves objects rows old (Ahead one other) (Err f) new) (sym k) not_written

@@ -4,6 +4,8 @@ use Rattle.std.specs.Io.KnownBytes.{Appends}
 use Rattle.std.proofs.Common.{refl, sym, ap, ◌∙◌}
 use Rattle.gix_hash.specs.declared.ObjectId.{ObjectId}
 use Rattle.gix_object.specs.Object.{Objects}
+use Rattle.gix_commitgraph.specs.Rows.{GraphRow}
+use Rattle.gix_revwalk.specs.Agreeing.{IsAgreeing}
 use Rattle.gix_revwalk.specs.declared.Info.{Info}
 use Rattle.gix_simple.specs.declared.Sorting.TheVariants as sorting
 use Rattle.gix_revwalk.specs.Ids.{AreDistinct}
@@ -14,6 +16,7 @@ use Rattle.gix_records.specs.Records.{stored}
 use Rattle.gix_commands.specs.Run.{Serves, counted}
 use Rattle.gix_commands.specs.Walked.{Answers, IsWalkFault, Ends, finished}
 use Rattle.gix_commands.specs.Words.{Ahead}
+use Rattle.gix_revwalk.proofs.Rows.{none_agree}
 use Rattle.gix_commands.proofs.CommitRuns.{served_so}
 use Rattle.gix_commands.proofs.SimpleRuns.{all_read, each_unhidden}
 use Rattle.gix_commands.proofs.Parts.{number_in_all}
@@ -22,42 +25,42 @@ length-map : (infos : List Info) → length (map (λ info. info.id) infos) ≡ l
 length-map [] = refl
 length-map (info ∷ infos) = ap (λ n. suc n) (length-map infos)
 
-module _ (objects : Objects) (tip hidden : ObjectId) where
+module _ (objects : Objects) (rows : List GraphRow) (agreeing : IsAgreeing objects rows) (tip hidden : ObjectId) where
   -- a walk that ended well gave the difference
-  difference : (infos : List Info) → Draws objects tip hidden infos (Ok tt) → AreDistinct (map (λ info. info.id) infos) × ((i : ObjectId) → Contains (map (λ info. info.id) infos) i ↔ IsShown objects (tip ∷ []) (hidden ∷ []) i)
+  difference : (infos : List Info) → Draws objects rows tip hidden infos (Ok tt) → AreDistinct (map (λ info. info.id) infos) × ((i : ObjectId) → Contains (map (λ info. info.id) infos) i ↔ IsShown objects (tip ∷ []) (hidden ∷ []) i)
   difference infos d = of_ends d.ends
     where
       of_ends : Ends Answers IsWalkFault d.walk infos (Ok tt) → AreDistinct (map (λ info. info.id) infos) × ((i : ObjectId) → Contains (map (λ info. info.id) infos) i ↔ IsShown objects (tip ∷ []) (hidden ∷ []) i)
-      of_ends (finished new h) = each_unhidden objects sorting.BreadthFirst (tip ∷ []) (hidden ∷ []) d.walk tt d.starts infos h.0 new h.1 h.2 (λ e. cc)
+      of_ends (finished new h) = each_unhidden objects rows sorting.BreadthFirst (tip ∷ []) (hidden ∷ []) d.walk tt d.starts agreeing infos h.0 new h.1 h.2 (λ e. cc)
 
-  number_of : (n : ℕ) → Counts objects tip hidden n → IsNumberOf (IsShown objects (tip ∷ []) (hidden ∷ [])) n
+  number_of : (n : ℕ) → Counts objects rows tip hidden n → IsNumberOf (IsShown objects (tip ∷ []) (hidden ∷ [])) n
   number_of n c =
       let d = difference c.0 c.1 in
       record { ids = map (λ info. info.id) c.0; distinct = d.0; each = λ i m. (d.1 i).0 m; all = λ i s. (d.1 i).1 s; number = length-map c.0 ∙ sym c.2 }
 
   -- a walk that ended well has read all that both ids reach
-  read_whole : (infos : List Info) → Draws objects tip hidden infos (Ok tt) → AreWhole objects (tip ∷ hidden ∷ [])
+  read_whole : (infos : List Info) → Draws objects rows tip hidden infos (Ok tt) → AreWhole objects (tip ∷ hidden ∷ [])
   read_whole infos d = of_ends d.ends
     where
       of_ends : Ends Answers IsWalkFault d.walk infos (Ok tt) → AreWhole objects (tip ∷ hidden ∷ [])
-      of_ends (finished new h) = all_read objects sorting.BreadthFirst (tip ∷ []) (hidden ∷ []) d.walk tt d.starts infos h.0 new h.1 h.2 (λ e. cc) (λ e. cc)
+      of_ends (finished new h) = all_read objects rows sorting.BreadthFirst (tip ∷ []) (hidden ∷ []) d.walk tt d.starts agreeing infos h.0 new h.1 h.2 (λ e. cc) (λ e. cc)
 
-  number_of_all : (all : Objects) → IsPartOf objects all → (n : ℕ) → Counts objects tip hidden n → IsNumberOf (IsShown all (tip ∷ []) (hidden ∷ [])) n
+  number_of_all : (all : Objects) → IsPartOf objects all → (n : ℕ) → Counts objects rows tip hidden n → IsNumberOf (IsShown all (tip ∷ []) (hidden ∷ [])) n
   number_of_all all part n c = number_in_all objects all part (tip ∷ []) (hidden ∷ []) (read_whole c.0 c.1) n (number_of n c)
 
 pub draws_difference : DrawsDifference
-draws_difference = difference
+draws_difference objects = difference objects [] (none_agree objects [] refl)
 
-counted_so : (objects : Objects) (one other : ObjectId) (old new : Option (List ℕ)) → Serves objects old (Ahead one other) (Ok tt) new
+pub counted_so : (objects : Objects) (rows : List GraphRow) → IsAgreeing objects rows → (one other : ObjectId) (old new : Option (List ℕ)) → Serves objects rows old (Ahead one other) (Ok tt) new
     → (ahead behind : ℕ) × IsNumberOf (IsShown objects (one ∷ []) (other ∷ [])) ahead × IsNumberOf (IsShown objects (other ∷ []) (one ∷ [])) behind × Appends old new (ahead_line ahead behind)
-counted_so objects one other old new (counted ahead behind a b written) = (ahead, behind, number_of objects one other ahead a, number_of objects other one behind b, written)
+counted_so objects rows agreeing one other old new (counted ahead behind a b written) = (ahead, behind, number_of objects rows agreeing one other ahead a, number_of objects rows agreeing other one behind b, written)
 
 pub ahead_counts : AheadCounts
-ahead_counts words input records one other old new asked are runs = counted_so (stored records) one other old new (served_so words input records (Ahead one other) old new asked are runs)
+ahead_counts words input records one other old new asked are runs = counted_so (stored records) [] (none_agree (stored records) [] refl) one other old new (served_so words input records (Ahead one other) old new asked are runs)
 
-counted_of_all : (objects all : Objects) → IsPartOf objects all → (one other : ObjectId) (old new : Option (List ℕ)) → Serves objects old (Ahead one other) (Ok tt) new
+counted_of_all : (objects all : Objects) → IsPartOf objects all → (one other : ObjectId) (old new : Option (List ℕ)) → Serves objects [] old (Ahead one other) (Ok tt) new
     → (ahead behind : ℕ) × IsNumberOf (IsShown all (one ∷ []) (other ∷ [])) ahead × IsNumberOf (IsShown all (other ∷ []) (one ∷ [])) behind × Appends old new (ahead_line ahead behind)
-counted_of_all objects all part one other old new (counted ahead behind a b written) = (ahead, behind, number_of_all objects one other all part ahead a, number_of_all objects other one all part behind b, written)
+counted_of_all objects all part one other old new (counted ahead behind a b written) = (ahead, behind, number_of_all objects [] (none_agree objects [] refl) one other all part ahead a, number_of_all objects [] (none_agree objects [] refl) other one all part behind b, written)
 
 pub ahead_counts_of_part : AheadCountsOfPart
 ahead_counts_of_part words input records one other old new all asked are part runs =

@@ -8,6 +8,7 @@ use Rattle.std.proofs.lemmas.List.{append-nil}
 use Rattle.gix_hash.specs.declared.ObjectId.{ObjectId}
 use Rattle.gix_hash.specs.Id.{hex_of}
 use Rattle.gix_object.specs.Object.{Objects}
+use Rattle.gix_commitgraph.specs.Rows.{GraphRow}
 use Rattle.gix_tree.specs.declared.breadthfirst.Error.{Error}
 use Rattle.gix_tree.specs.Recorder.{Record}
 use Rattle.gix_tree.specs.Tracked.{Tracked}
@@ -35,15 +36,15 @@ mode_text shown n text is h = subst (λ (o : Option (List ℕ)). IfSome (o ++? S
 pub line_added : (r : Record) (old first second third new : List ℕ) → first ≡ old ++ (six_octal_digits r.mode ++ 32 ∷ []) → second ≡ first ++ (hex_of r.id ++ 32 ∷ []) → third ≡ second ++ r.path → new ≡ third ++ 10 ∷ [] → new ≡ old ++ file_line r
 line_added r old first second third new a b c d = rw (d, c, b, a) (simp append_assoc)
 
-module _ (objects : Objects) (old : Option (List ℕ)) (tree : ObjectId) where
-  walk_failed : (e : Fault) → (recorder : Tracked) × (why : Error) × RecordsTree objects tree recorder (Err why) × (e ≡ fault_of_tree_walk why) → Serves objects old (Files tree) (Err e) old
-  walk_failed e h = subst (λ (f : Fault). Serves objects old (Files tree) (Err f) old) (sym h.3) (not_listed h.0 h.1 h.2)
+module _ (objects : Objects) (rows : List GraphRow) (old : Option (List ℕ)) (tree : ObjectId) where
+  walk_failed : (e : Fault) → (recorder : Tracked) × (why : Error) × RecordsTree objects tree recorder (Err why) × (e ≡ fault_of_tree_walk why) → Serves objects rows old (Files tree) (Err e) old
+  walk_failed e h = subst (λ (f : Fault). Serves objects rows old (Files tree) (Err f) old) (sym h.3) (not_listed h.0 h.1 h.2)
 
   -- nothing was written
-  pub files_failed : (result : Result (Unit {0}) Fault) (e : Fault) → result ≡ Err e → IsTreeFault objects tree e → Serves objects old (Files tree) result old
-  files_failed result e same h = failed_so (λ r. Serves objects old (Files tree) r old) unserved result e same (λ other. walk_failed e (h other))
+  pub files_failed : (store : Objects) → store ≡ objects → (result : Result (Unit {0}) Fault) (e : Fault) → result ≡ Err e → IsTreeFault store tree e → Serves objects rows old (Files tree) result old
+  files_failed store is result e same h = failed_so (λ r. Serves objects rows old (Files tree) r old) unserved result e same (λ other. walk_failed e (subst (λ o. IsTreeFault o tree e) is h other))
 
   -- the lines were written, or the writer failed
-  pub files_written : (new : Option (List ℕ)) (lines : List ℕ) (result : Result (Unit {0}) Fault) → AreLinesOf objects tree lines → OnOk result (Appends old new lines) → IfErr result (λ e. e ≡ fault.Write) → Serves objects old (Files tree) result new
-  files_written new lines (Ok done) are h k = listed are.0 are.1 (subst (Appends old new) are.2 h)
-  files_written new lines (Err e) are h k = subst (λ (f : Fault). Serves objects old (Files tree) (Err f) new) (sym k) not_written
+  pub files_written : (store : Objects) → store ≡ objects → (new : Option (List ℕ)) (lines : List ℕ) (result : Result (Unit {0}) Fault) → AreLinesOf store tree lines → OnOk result (Appends old new lines) → IfErr result (λ e. e ≡ fault.Write) → Serves objects rows old (Files tree) result new
+  files_written store is new lines (Ok done) are h k = let so : AreLinesOf objects tree lines = subst (λ o. AreLinesOf o tree lines) is are in listed so.0 so.1 (subst (Appends old new) so.2 h)
+  files_written store is new lines (Err e) are h k = subst (λ (f : Fault). Serves objects rows old (Files tree) (Err f) new) (sym k) not_written

@@ -41,13 +41,13 @@ not_failed why Broken e u = cc
 not_failed why (Failed other) e u = u
 
 module _ (objects : Objects) (tree : ObjectId) where
-  unfolds : (recorder : Tracked) (walk : RecordsTree objects tree recorder (Ok tt)) → Unfolds objects tree walk.visits
+  pub unfolds : (recorder : Tracked) (walk : RecordsTree objects tree recorder (Ok tt)) → Unfolds objects tree walk.visits
   unfolds recorder walk =
       let all = go_on walk.visits (root_called (trees_of objects) (LookUpFails objects (never_faulty objects)) IsRecorderAnswer walk.script (answers_of fresh_recorder walk.calls recorder walk.run)) in
       let order = depth_is_in_order objects (never_faulty objects) Tracks tree fresh_recorder recorder (Ok tt) walk (depth_ok walk.end walk.answered) in
       record { in_order = subst (Rattle.gix_tree.specs.Preorder.IsPreorder (entries_at (trees_of objects)) (Rattle.gix_tree.specs.Paths.known_root tree) (entries_at (trees_of objects) tree) walk.visits) (unbroken (entries_at (trees_of objects)) order all) order; all = all }
 
-  lists : (old new : Option (List ℕ)) → Serves objects old (Files tree) (Ok tt) new → (visits : List Visit) × Unfolds objects tree visits × (HaveNames visits → Appends old new (file_lines (map record_of visits)))
+  lists : (old new : Option (List ℕ)) → Serves objects [] old (Files tree) (Ok tt) new → (visits : List Visit) × Unfolds objects tree visits × (HaveNames visits → Appends old new (file_lines (map record_of visits)))
   lists old new (listed recorder walk written) = (
     walk.visits,
     unfolds recorder walk,
@@ -69,7 +69,7 @@ module _ (objects : Objects) (tree : ObjectId) where
     outside (error.ObjectDecode e) recorder walk = absurd (no_other (error.ObjectDecode e) recorder walk (λ e. cc))
     outside (error.Cycle i) recorder walk = absurd (no_other (error.Cycle i) recorder walk (λ e. cc))
 
-    well : (old : Option (List ℕ)) (answer : Result (Unit {0}) Fault) (new : Option (List ℕ)) → Serves objects old (Files tree) answer new → EndsWell answer
+    well : (old : Option (List ℕ)) (answer : Result (Unit {0}) Fault) (new : Option (List ℕ)) → Serves objects [] old (Files tree) answer new → EndsWell answer
     well old answer new (listed recorder walk written) = tt
     well old answer new (not_listed recorder why walk) = outside why recorder walk
     well old answer new unserved = tt
@@ -79,7 +79,7 @@ pub files_lists : FilesLists
 files_lists words input records tree old new asked are runs = lists (stored records) tree old new (served_so words input records (Files tree) old new asked are runs)
 
 -- a walk over a part is one over the whole
-of_all : (objects all : Objects) → IsPartOf objects all → (tree : ObjectId) (old new : Option (List ℕ)) → Serves objects old (Files tree) (Ok tt) new → Serves all old (Files tree) (Ok tt) new
+of_all : (objects all : Objects) → IsPartOf objects all → (tree : ObjectId) (old new : Option (List ℕ)) → Serves objects [] old (Files tree) (Ok tt) new → Serves all [] old (Files tree) (Ok tt) new
 of_all objects all part tree old new (listed recorder walk written) = listed recorder (records_all objects all part tree recorder walk) written
 
 pub files_lists_of_part : FilesListsOfPart

@@ -20,7 +20,7 @@ use Rattle.gix_revwalk.specs.declared.Pending.{Pending}
 use Rattle.gix_revwalk.specs.Commits.{ReadsWhole, by_mode, commit_at, commit_of_object, parents_in, parents_of}
 use Rattle.gix_revwalk.specs.Ids.{ids_of, times}
 use Rattle.gix_revwalk.specs.Texts.{scanned}
-use Rattle.gix_simple.specs.Walk.{Treated, GoesOn, time_order, cutoff, is_older, asked, unrowed, asks, dropped, enqueued, Treats, hidden, known, refused, accepted, TreatsAll, none, more, stops, given, Takes, by_row, by_store, Chooses, first, best, Steps, ended, took, unhidden, paints}
+use Rattle.gix_simple.specs.Walk.{Treated, GoesOn, time_order, cutoff, is_older, asked, unrowed, asks, dropped, enqueued, Treats, hidden, known, refused, accepted, TreatsAll, none, more, stops, given, Takes, by_row, by_store, Chooses, first, best, Steps, ended, took, unhidden, paints, initial, later}
 use Rattle.gix_hash.proofs.Ids.Membership.{id_total, among_from, among_is, same_is, same_itself, Contains-here, Contains-there, Contains-cons_cases, no_member}
 use Rattle.gix_revwalk.proofs.Drained.{at_end, at_first}
 use Rattle.gix_revwalk.proofs.NewIds.{among_times, times_none}
@@ -28,7 +28,6 @@ use Rattle.gix_revwalk.proofs.ReadsWhole.{scan_is}
 use Rattle.gix_revwalk.proofs.Rows.{kept_either}
 use Rattle.gix_simple.proofs.Difference.{whole_from}
 use Rattle.gix_simple.specs.Laws.{IsFresh}
-use Rattle.gix_simple.proofs.WholeWalk.{unchanged}
 use Rattle.gix_simple.proofs.Treated.{times-permutation, times_holds}
 use Rattle.gix_commands.specs.Walked.{Walk, Answers, objects_of, never_faulty, accepts_all, given as all_given}
 
@@ -190,16 +189,31 @@ module _ (objects : Objects) (tips : List ObjectId) (sound : (i : ObjectId) → 
   steps_on : (w : Walk) (info : Info) {new : Walk} → Goes w → Steps objects_of never_faulty accepts_all w (Some (Ok info)) new → Goes new
   steps_on w info g (took {taken = p} {others = others} chooses takes) = takes_on w p others g (chosen_counts w p others chooses) info takes
 
+  -- the first step hides nothing
+  unhidden_on : (w : Walk) → Goes w → Goes (record w { begun = true; hidden_tips = [] })
+  unhidden_on w g = record {
+    store = g.store;
+    rows = g.rows;
+    all_parents = g.all_parents;
+    hides_none = refl;
+    is_open = record { shown = g.is_open.shown; uncut = g.is_open.uncut };
+    begun = g.begun;
+    reached = g.reached;
+    closed = g.closed;
+  }
+
   next_on : (w : Walk) (info : Info) {new : Walk} → Goes w → Answers w (Some (Ok info)) new → Goes new
-  next_on w info {new} g (unhidden either steps) = steps_on w info g (subst (λ x. Steps objects_of never_faulty accepts_all x (Some (Ok info)) new) (unchanged objects_of never_faulty accepts_all w g.hides_none) steps)
-  next_on w info g (paints pending hides painting steps) = absurd (hides g.hides_none)
+  next_on w info g (initial fresh (unhidden either steps)) = steps_on (record w { begun = true; hidden_tips = [] }) info (unhidden_on w g) steps
+  next_on w info g (initial fresh (paints pending hides painting steps)) = absurd (hides g.hides_none)
+  next_on w info g (later begun steps) = steps_on w info g steps
 
   ended_so : (w : Walk) {new : Walk} → Steps objects_of never_faulty accepts_all w None new → w.pending ≡ []
   ended_so w (ended e) = e
 
   next_ended : (w : Walk) {new : Walk} → Goes w → Answers w None new → w.pending ≡ []
-  next_ended w {new} g (unhidden either steps) = ended_so (record w { hidden_tips = [] }) steps
-  next_ended w g (paints pending hides painting steps) = absurd (hides g.hides_none)
+  next_ended w g (initial fresh (unhidden either steps)) = ended_so (record w { begun = true; hidden_tips = [] }) steps
+  next_ended w g (initial fresh (paints pending hides painting steps)) = absurd (hides g.hides_none)
+  next_ended w g (later begun steps) = ended_so w steps
 
   seen_at_end : (w : Walk) → Goes w → w.pending ≡ [] → (i : ObjectId) → Reaches (parents_of objects) tips i → IsSeen w i × IsDone w.seen i
   seen_at_end w g e i (start s) = (g.begun i s, done i (g.begun i s))

@@ -16,7 +16,7 @@ use Rattle.gix_paint.specs.declared.Hidden.{Hidden}
 use Rattle.gix_paint.specs.declared.Hidden.TheVariants as hidden_by
 use Rattle.gix_simple.specs.declared.Sorting.{Sorting}
 use Rattle.gix_revwalk.specs.declared.Pending.{Pending}
-use Rattle.gix_simple.specs.Walk.{Treated, GoesOn, StoreFails, NoMemory, ReadsTime, unasked, from_row, from_store, store_fails, Treats, hidden, known, refused, accepted, no_memory, no_memory_after, TreatsAll, none, more, stops, Concludes, given, broken, Takes, by_row, by_store, not_found, Steps, ended, took, unhidden, paints, faulty_history}
+use Rattle.gix_simple.specs.Walk.{Treated, GoesOn, StoreFails, NoMemory, ReadsTime, unasked, from_row, from_store, store_fails, Treats, hidden, known, refused, accepted, no_memory, no_memory_after, TreatsAll, none, more, stops, Concludes, given, broken, Takes, by_row, by_store, not_found, Steps, ended, took, FirstStep, unhidden, paints, faulty_history, initial, later}
 use Rattle.gix_paint.specs.Painting.{IsHiddenFault}
 use Rattle.gix_simple.specs.Building.{IsTipFault}
 use Rattle.gix_commands.specs.declared.fault.Fault.TheVariants as fault
@@ -86,12 +86,16 @@ history_sound : (objects : Objects) (rows : List GraphRow) (tips hidden_tips : L
 history_sound objects rows tips hidden_tips (hidden_by.Find e) h = find_sound objects h.id object.Commit e h.fault
 history_sound objects rows tips hidden_tips (hidden_by.ObjectDecode e) h = λ e. cc
 
+first_sound : {old : Walk} {answer : Option (Result Info Error)} {new : Walk} → FirstStep objects_of never_faulty accepts_all old answer new → IsSound answer
+first_sound (unhidden h s) = steps_sound s
+first_sound (paints p t m s) = steps_sound s
+first_sound {old} (faulty_history {why = why} p t r f) = history_sound old.store old.rows _ _ why f
+first_sound (no_memory p t r) = λ e. cc
+
 -- no answer of a walk reports a failing store
 pub next_sound : {old : Walk} {answer : Option (Result Info Error)} {new : Walk} → Answers old answer new → IsSound answer
-next_sound (unhidden h s) = steps_sound s
-next_sound (paints p t m s) = steps_sound s
-next_sound {old} (faulty_history {why = why} p t r f) = history_sound old.store old.rows _ _ why f
-next_sound (no_memory p t r) = λ e. cc
+next_sound (initial b s) = first_sound s
+next_sound (later b s) = steps_sound s
 
 tip_sound : (objects : Objects) (i : ObjectId) (e : Error) → IsTipFault objects (never_faulty objects) i e → fault_of_walk e ≢ fault.Internal
 tip_sound objects i (error.Find e) h = find_sound objects i object.Commit e h

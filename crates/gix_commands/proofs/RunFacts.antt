@@ -1,8 +1,16 @@
 -- What a run may answer.
-use Rattle.std.specs.Prelude.{◌≡◌, ◌≢◌, ℕ, List, [], Option, Some, Result, Ok, Err}
-use Rattle.std.proofs.Common.{sym, subst, ap, ◌∙◌}
+use Rattle.std.specs.Prelude.{◌≡◌, ◌≢◌, ℕ, List, [], Option, Some, None, Result, Ok, Err}
+use Rattle.std.specs.FinMap.{get, same_map}
+use Rattle.std.specs.Option.{option_or}
+use Rattle.std.proofs.Common.{refl, sym, subst, ap, ◌∙◌}
 use Rattle.gix_hash.specs.declared.ObjectId.{ObjectId}
-use Rattle.gix_object.specs.Object.{Objects}
+use Rattle.gix_object.specs.Object.{Object, Objects}
+use Rattle.gix_hash.proofs.Ids.Membership.{id_total, id_apart}
+use Rattle.gix_graph_store.specs.WithRows.{with_rows}
+use Rattle.gix_graph_store.proofs.ToldObjects.{get-with_rows}
+use Rattle.gix_commitgraph.specs.Rows.{GraphRow}
+use Rattle.gix_revwalk.specs.Agreeing.{IsAgreeing}
+use Rattle.gix_revwalk.proofs.Rows.{none_agree}
 use Rattle.gix_revwalk.specs.declared.Info.{Info}
 use Rattle.gix_simple.specs.declared.Error.{Error}
 use Rattle.gix_simple.specs.declared.Error.TheVariants as error
@@ -20,7 +28,7 @@ use Rattle.gix_commands.specs.Output.{WritesAll}
 use Rattle.gix_records.specs.declared.Error.{Error as RecordsError}
 use Rattle.gix_records.specs.Reading.{IsReadFrom, IsReadFault}
 use Rattle.gix_records.specs.Reading as reading
-use Rattle.gix_records.specs.Records.{Record, AreRecords}
+use Rattle.gix_records.specs.Records.{Record, AreRecords, stored}
 use Rattle.gix_commands.specs.Run.{Serves, walked, not_walked, walked_down, not_built, listed, not_listed, counted, not_ahead, not_behind, unserved, not_written, Runs, without_memory, no_command, not_read, bad_record, served}
 use Rattle.gix_commands.specs.TopoWalked as topo
 use Rattle.gix_commands.specs.Walked.{Walk, Answers, IsWalkFault, StartsFrom, FailsAtStart, IsStartFault, Ends, finished, failed, cut_short}
@@ -28,12 +36,20 @@ use Rattle.gix_commands.specs.Words.{Request, Commits, request_of}
 use Rattle.gix_commands.proofs.MemoryFaults.{failed_so}
 use Rattle.gix_records.proofs.RecordFacts.{no_bad_record}
 use Rattle.gix_commands.proofs.InternalFacts.{IsSound, next_sound, start_sound}
-use Rattle.gix_commands.proofs.TopoInternalFacts.{drawn_sound, built_rowless, build_sound, topo_unnumbered}
+use Rattle.gix_commands.proofs.TopoInternalFacts.{drawn_sound, built_agreeing, build_sound, topo_unnumbered}
 use Rattle.gix_commands.proofs.TreeFacts.{find_unnumbered, tree_sound, tree_unnumbered}
 use Rattle.gix_commands.proofs.WordFaults.{OfWords, request_words}
 
-err_same : {e f : Fault} → ◌≡◌ {A = Result (Unit {0}) Fault} (Err e) (Err f) → e ≡ f
+pub err_same : {e f : Fault} → ◌≡◌ {A = Result (Unit {0}) Fault} (Err e) (Err f) → e ≡ f
 err_same same = cc
+
+-- without rows a store has its own objects alone
+pub without_rows : (objects : Objects) → with_rows [] objects ≡ objects
+without_rows objects = same_map id_total id_apart _ _ (λ i. get-with_rows [] objects i ∙ alone (get objects i))
+  where
+    alone : (o : Option Object) → option_or o None ≡ o
+    alone None = refl
+    alone (Some object) = refl
 
 -- no walk over records ends by an internal fault
 ends_sound : {walk : Walk} {infos : List Info} {answer : Result (Unit {0}) Fault} → Ends Answers IsWalkFault walk infos answer → answer ≢ Err fault.Internal
@@ -41,30 +57,30 @@ ends_sound (finished new h) = λ e. cc
 ends_sound (failed e f new h is) = λ same. let sound : IsSound (Some (Err e)) = next_sound h.2 in sound (sym is ∙ err_same same)
 ends_sound (cut_short info new h) = λ e. cc
 
-topo_ends_sound : {walk : topo.Walk} {infos : List Info} {answer : Result (Unit {0}) Fault} → walk.plan.rows ≡ [] → Ends topo.Answers topo.IsWalkFault walk infos answer → answer ≢ Err fault.Internal
-topo_ends_sound none (finished new h) = λ e. cc
-topo_ends_sound {walk} none (failed e f new h is) = λ same. drawn_sound walk new _ e none h (sym is ∙ err_same same)
-topo_ends_sound none (cut_short info new h) = λ e. cc
+topo_ends_sound : {walk : topo.Walk} {infos : List Info} {answer : Result (Unit {0}) Fault} → IsAgreeing walk.plan.store walk.plan.rows → Ends topo.Answers topo.IsWalkFault walk infos answer → answer ≢ Err fault.Internal
+topo_ends_sound agreeing (finished new h) = λ e. cc
+topo_ends_sound {walk} agreeing (failed e f new h is) = λ same. drawn_sound walk new _ e agreeing h (sym is ∙ err_same same)
+topo_ends_sound agreeing (cut_short info new h) = λ e. cc
 
-serves_sound : {objects : Objects} {old new : Option (List ℕ)} {request : Request} {answer : Result (Unit {0}) Fault} → Serves objects old request answer new → answer ≢ Err fault.Internal
-serves_sound (walked walk infos s ends a) = ends_sound ends
-serves_sound (not_walked why f) = λ same. start_sound f (err_same same)
-serves_sound (walked_down walk infos built ends a) = topo_ends_sound (built_rowless built) ends
-serves_sound {objects} (not_built {by = by} {tips = tips} {ends = ends} why h) = λ same. build_sound objects by tips ends why h (err_same same)
-serves_sound (listed recorder r a) = λ e. cc
-serves_sound {objects} (not_listed recorder why r) = λ same. tree_sound objects r (err_same same)
-serves_sound (counted ahead behind c d a) = λ e. cc
-serves_sound (not_ahead f) = ends_sound f.1.ends
-serves_sound (not_behind n a f) = ends_sound f.1.ends
-serves_sound unserved = λ e. cc
-serves_sound not_written = λ e. cc
+pub serves_sound : {objects : Objects} {rows : List GraphRow} {old new : Option (List ℕ)} {request : Request} {answer : Result (Unit {0}) Fault} → IsAgreeing objects rows → Serves objects rows old request answer new → answer ≢ Err fault.Internal
+serves_sound agreeing (walked walk infos s ends a) = ends_sound ends
+serves_sound agreeing (not_walked why f) = λ same. start_sound f (err_same same)
+serves_sound agreeing (walked_down walk infos built ends a) = topo_ends_sound (built_agreeing built agreeing) ends
+serves_sound {objects} {rows} agreeing (not_built {by = by} {tips = tips} {ends = ends} why h) = λ same. build_sound objects rows agreeing by tips ends why h (err_same same)
+serves_sound agreeing (listed recorder r a) = λ e. cc
+serves_sound {objects} agreeing (not_listed recorder why r) = λ same. tree_sound objects r (err_same same)
+serves_sound agreeing (counted ahead behind c d a) = λ e. cc
+serves_sound agreeing (not_ahead f) = ends_sound f.1.ends
+serves_sound agreeing (not_behind n a f) = ends_sound f.1.ends
+serves_sound agreeing unserved = λ e. cc
+serves_sound agreeing not_written = λ e. cc
 
 pub runs_sound : {words : List (List ℕ)} {has old : Option (List ℕ)} {answer : Result (Unit {0}) Fault} {new : Option (List ℕ)} → Runs words has old answer new → answer ≢ Err fault.Internal
 runs_sound without_memory = λ e. cc
 runs_sound {words} (no_command t) = λ same. subst OfWords (t ∙ ap (λ x. Err x) (err_same same)) (request_words words)
 runs_sound (not_read request t) = λ e. cc
 runs_sound (bad_record request input n t i b) = λ e. cc
-runs_sound (served request input records t i r s) = serves_sound s
+runs_sound (served request input records t i r s) = serves_sound (none_agree (stored records) [] refl) s
 
 walk_unnumbered : (n : ℕ) (e : Error) → fault_of_walk e ≢ fault.Record n
 walk_unnumbered n (error.Find e) = find_unnumbered n e
@@ -83,7 +99,7 @@ topo_ends_unnumbered n (finished new h) = λ e. cc
 topo_ends_unnumbered n (failed e f new h is) = λ same. topo_unnumbered n e (sym is ∙ err_same same)
 topo_ends_unnumbered n (cut_short info new h) = λ e. cc
 
-serves_unnumbered : {objects : Objects} {old new : Option (List ℕ)} {request : Request} {answer : Result (Unit {0}) Fault} (n : ℕ) → Serves objects old request answer new → answer ≢ Err (fault.Record n)
+pub serves_unnumbered : {objects : Objects} {rows : List GraphRow} {old new : Option (List ℕ)} {request : Request} {answer : Result (Unit {0}) Fault} (n : ℕ) → Serves objects rows old request answer new → answer ≢ Err (fault.Record n)
 serves_unnumbered n (walked walk infos s ends a) = ends_unnumbered n ends
 serves_unnumbered n (not_walked why f) = λ same. walk_unnumbered n why (err_same same)
 serves_unnumbered n (walked_down walk infos built ends a) = topo_ends_unnumbered n ends
@@ -96,7 +112,7 @@ serves_unnumbered n (not_behind m a f) = ends_unnumbered n f.1.ends
 serves_unnumbered n unserved = λ e. cc
 serves_unnumbered n not_written = λ e. cc
 
-told_same : (bytes input : List ℕ) (has : Option (List ℕ)) → has ≡ Some bytes → Tells has input → input ≡ bytes
+pub told_same : (bytes input : List ℕ) (has : Option (List ℕ)) → has ≡ Some bytes → Tells has input → input ≡ bytes
 told_same bytes input has is h = subst (λ (o : Option (List ℕ)). Tells o input) is h
 
 -- where the reader has records, none is reported as bad
@@ -124,13 +140,13 @@ module _ (words : List (List ℕ)) (has old : Option (List ℕ)) where
 
   module _ (request : Request) (t : request_of words ≡ Ok request) (objects : Objects) (read : IsReadFrom has objects) (new : Option (List ℕ)) where
     -- what was asked for was served
-    pub runs_served : (result : Result (Unit {0}) Fault) → Serves objects old request result new → Runs words has old result new
-    runs_served result s = served request read.0 read.1 t read.2 read.3 (subst (λ (o : Objects). Serves o old request result new) read.4 s)
+    pub runs_served : (result : Result (Unit {0}) Fault) → Serves (with_rows [] objects) [] old request result new → Runs words has old result new
+    runs_served result s = served request read.0 read.1 t read.2 read.3 (subst (λ (o : Objects). Serves o [] old request result new) (without_rows objects ∙ read.4) s)
 
-module _ (objects : Objects) (old : Option (List ℕ)) (order : Order) (tips hidden : List ObjectId) where
+module _ (objects : Objects) (rows : List GraphRow) (old : Option (List ℕ)) (order : Order) (tips hidden : List ObjectId) where
   -- the walk was drawn
-  module _ {W E : Type 0} (Steps : W → Option (Result Info E) → W → Type 0) (Tells : E → Fault → Type 0) (new : Option (List ℕ)) (walk : W) (serves : (result : Result (Unit {0}) Fault) → WritesAll Steps Tells walk old result new → Serves objects old (Commits order tips hidden) result new) where
-    serves_drawn : (result : Result (Unit {0}) Fault) → (result ≢ Err fault.Write → WritesAll Steps Tells walk old result new) → Serves objects old (Commits order tips hidden) result new
+  module _ {W E : Type 0} (Steps : W → Option (Result Info E) → W → Type 0) (Tells : E → Fault → Type 0) (new : Option (List ℕ)) (walk : W) (serves : (result : Result (Unit {0}) Fault) → WritesAll Steps Tells walk old result new → Serves objects rows old (Commits order tips hidden) result new) where
+    serves_drawn : (result : Result (Unit {0}) Fault) → (result ≢ Err fault.Write → WritesAll Steps Tells walk old result new) → Serves objects rows old (Commits order tips hidden) result new
     serves_drawn (Err fault.Write) w = not_written
     serves_drawn (Ok done) w = serves _ (w (λ e. cc))
     serves_drawn (Err fault.Memory) w = serves _ (w (λ e. cc))
@@ -141,30 +157,33 @@ module _ (objects : Objects) (old : Option (List ℕ)) (order : Order) (tips hid
     serves_drawn (Err (fault.WrongKind i)) w = serves _ (w (λ e. cc))
     serves_drawn (Err fault.Broken) w = serves _ (w (λ e. cc))
     serves_drawn (Err (fault.Cycle i)) w = serves _ (w (λ e. cc))
+    serves_drawn (Err (fault.Graph e)) w = serves _ (w (λ e. cc))
+    serves_drawn (Err (fault.Row i)) w = serves _ (w (λ e. cc))
+    serves_drawn (Err (fault.Disagrees i)) w = serves _ (w (λ e. cc))
     serves_drawn (Err fault.Read) w = serves _ (w (λ e. cc))
     serves_drawn (Err fault.Internal) w = serves _ (w (λ e. cc))
 
-module _ (objects : Objects) (old : Option (List ℕ)) (by : Sorting) (tips hidden : List ObjectId) where
-  pub serves_walk : (new : Option (List ℕ)) (walk : Walk) → StartsFrom objects by tips hidden walk → (result : Result (Unit {0}) Fault) → (result ≢ Err fault.Write → WritesAll Answers IsWalkFault walk old result new) → Serves objects old (Commits (Simple by) tips hidden) result new
-  serves_walk new walk starts = serves_drawn objects old (Simple by) tips hidden Answers IsWalkFault new walk (λ _ w. walked walk w.infos starts w.ends w.appends)
+module _ (objects : Objects) (rows : List GraphRow) (old : Option (List ℕ)) (by : Sorting) (tips hidden : List ObjectId) where
+  pub serves_walk : (new : Option (List ℕ)) (walk : Walk) → StartsFrom objects rows by tips hidden walk → (result : Result (Unit {0}) Fault) → (result ≢ Err fault.Write → WritesAll Answers IsWalkFault walk old result new) → Serves objects rows old (Commits (Simple by) tips hidden) result new
+  serves_walk new walk starts = serves_drawn objects rows old (Simple by) tips hidden Answers IsWalkFault new walk (λ _ w. walked walk w.infos starts w.ends w.appends)
 
-  not_started : (e : Fault) → (why : Error) × FailsAtStart objects by tips why × (e ≡ fault_of_walk why) → Serves objects old (Commits (Simple by) tips hidden) (Err e) old
-  not_started e h = subst (λ (f : Fault). Serves objects old (Commits (Simple by) tips hidden) (Err f) old) (sym h.2) (not_walked h.0 h.1)
+  not_started : (e : Fault) → (why : Error) × FailsAtStart objects by tips why × (e ≡ fault_of_walk why) → Serves objects rows old (Commits (Simple by) tips hidden) (Err e) old
+  not_started e h = subst (λ (f : Fault). Serves objects rows old (Commits (Simple by) tips hidden) (Err f) old) (sym h.2) (not_walked h.0 h.1)
 
   -- the walk couldn't start
-  pub serves_no_walk : (result : Result (Unit {0}) Fault) (e : Fault) → result ≡ Err e → IsStartFault objects by tips e → Serves objects old (Commits (Simple by) tips hidden) result old
-  serves_no_walk result e same h = failed_so (λ r. Serves objects old (Commits (Simple by) tips hidden) r old) unserved result e same (λ other. not_started e (h other))
+  pub serves_no_walk : (result : Result (Unit {0}) Fault) (e : Fault) → result ≡ Err e → IsStartFault objects by tips e → Serves objects rows old (Commits (Simple by) tips hidden) result old
+  serves_no_walk result e same h = failed_so (λ r. Serves objects rows old (Commits (Simple by) tips hidden) r old) unserved result e same (λ other. not_started e (h other))
 
-module _ (objects : Objects) (old : Option (List ℕ)) (by : TopoSorting) (tips ends : List ObjectId) where
-  pub serves_topo : (new : Option (List ℕ)) (walk : topo.Walk) → topo.IsBuiltFrom objects by tips ends (Ok walk) → (result : Result (Unit {0}) Fault) → (result ≢ Err fault.Write → WritesAll topo.Answers topo.IsWalkFault walk old result new) → Serves objects old (Commits (Topo by) tips ends) result new
-  serves_topo new walk built = serves_drawn objects old (Topo by) tips ends topo.Answers topo.IsWalkFault new walk (λ _ w. walked_down walk w.infos built w.ends w.appends)
+module _ (objects : Objects) (rows : List GraphRow) (old : Option (List ℕ)) (by : TopoSorting) (tips ends : List ObjectId) where
+  pub serves_topo : (new : Option (List ℕ)) (walk : topo.Walk) → topo.IsBuiltFrom objects rows by tips ends (Ok walk) → (result : Result (Unit {0}) Fault) → (result ≢ Err fault.Write → WritesAll topo.Answers topo.IsWalkFault walk old result new) → Serves objects rows old (Commits (Topo by) tips ends) result new
+  serves_topo new walk built = serves_drawn objects rows old (Topo by) tips ends topo.Answers topo.IsWalkFault new walk (λ _ w. walked_down walk w.infos built w.ends w.appends)
 
-  topo_not_built : (e : Fault) → (why : TopoError) × topo.IsBuiltFrom objects by tips ends (Err why) × (e ≡ fault_of_topo_walk why) → Serves objects old (Commits (Topo by) tips ends) (Err e) old
-  topo_not_built e h = subst (λ (f : Fault). Serves objects old (Commits (Topo by) tips ends) (Err f) old) (sym h.2) (not_built h.0 h.1)
+  topo_not_built : (e : Fault) → (why : TopoError) × topo.IsBuiltFrom objects rows by tips ends (Err why) × (e ≡ fault_of_topo_walk why) → Serves objects rows old (Commits (Topo by) tips ends) (Err e) old
+  topo_not_built e h = subst (λ (f : Fault). Serves objects rows old (Commits (Topo by) tips ends) (Err f) old) (sym h.2) (not_built h.0 h.1)
 
   -- the walk couldn't be built
-  pub serves_no_topo : (result : Result (Unit {0}) Fault) (e : Fault) → result ≡ Err e → topo.IsStartFault objects by tips ends e → Serves objects old (Commits (Topo by) tips ends) result old
-  serves_no_topo result e same h = failed_so (λ r. Serves objects old (Commits (Topo by) tips ends) r old) unserved result e same (λ other. topo_not_built e (h other))
+  pub serves_no_topo : (result : Result (Unit {0}) Fault) (e : Fault) → result ≡ Err e → topo.IsStartFault objects rows by tips ends e → Serves objects rows old (Commits (Topo by) tips ends) result old
+  serves_no_topo result e same h = failed_so (λ r. Serves objects rows old (Commits (Topo by) tips ends) r old) unserved result e same (λ other. topo_not_built e (h other))
 
 -- words that are a command aren't rejected
 pub no_rejection : {command : Result Request Fault} {request : Request} {A : Type 0} → command ≡ Ok request → (e : Fault) → command ≡ Err e → A

@@ -10,6 +10,7 @@ use Rattle.gix_hash.proofs.Ids.Membership.{among_from, among_is, Contains-here, 
 use Rattle.gix_hash.specs.declared.ObjectId.{ObjectId}
 use Rattle.std.specs.FinMap.{get}
 use Rattle.gix_object.specs.Object.{Object, Objects}
+use Rattle.gix_commitgraph.specs.Rows.{GraphRow}
 use Rattle.gix_revwalk.specs.declared.Info.{Info}
 use Rattle.gix_revwalk.specs.declared.Parents.TheVariants as mode
 use Rattle.gix_simple.specs.declared.Error.{Error}
@@ -18,14 +19,13 @@ use Rattle.gix_simple.specs.declared.Sorting.TheVariants as sorting
 use Rattle.gix_revwalk.specs.declared.CommitTimeOrder.{CommitTimeOrder}
 use Rattle.gix_revwalk.specs.Commits.{ReadsWhole, commit_at, parents_of, time_of}
 use Rattle.gix_hash.specs.Reach.{Reaches, Tells}
-use Rattle.gix_simple.specs.Building.{IsBuilt, made, breadth_first, by_time, hides, IsUncut as IsBuiltUncut}
+use Rattle.gix_simple.specs.Building.{IsBuilt, made, breadth_first, by_time, hides, reads, IsUncut as IsBuiltUncut}
 use Rattle.gix_revwalk.specs.Agreeing.{IsAgreeing}
 use Rattle.gix_revwalk.specs.Asking.{AnswersBy}
 use Rattle.gix_revwalk.specs.Ids.{AreDistinct, new_ids, ids_of}
 use Rattle.gix_simple.specs.Laws.{IsFresh, IsGiven, IsNoRefusal, IsNewWalk, IsWholeRun, GivesInOrder, GivesDifference, given_ids, next_of, IsInOrder}
 use Rattle.gix_simple.specs.Walk.{is_older, cutoff, time_order}
 use Rattle.gix_revwalk.proofs.NewIds.{times_among, times-fresh}
-use Rattle.gix_revwalk.proofs.Rows.{none_agree}
 use Rattle.gix_simple.proofs.Builders.{built}
 use Rattle.gix_simple.proofs.Corollaries.{gives}
 use Rattle.gix_simple.proofs.Difference.{difference, faultless_difference, drawn_whole, loosened, no_start, recent_all, whole_from}
@@ -55,11 +55,11 @@ ids_given : (infos : List Info) → given_ids (given infos) ≡ map (λ info. in
 ids_given [] = refl
 ids_given (info ∷ infos) = ap (λ ids. info.id ∷ ids) (ids_given infos)
 
-same_ids : (objects : Objects) (order : Option CommitTimeOrder) (infos : List Info) (ids : List ObjectId) → AllZip (IsGiven objects [] mode.All order) (given infos) ids → map (λ info. info.id) infos ≡ ids
-same_ids objects order [] [] h = refl
-same_ids objects order [] (i ∷ ids) h = absurd h
-same_ids objects order (info ∷ infos) [] h = absurd h
-same_ids objects order (info ∷ infos) (i ∷ ids) h = (λ k. h.0.info_is.same_id k ∷ same_ids objects order infos ids h.1 k)
+same_ids : (objects : Objects) (rows : List GraphRow) (order : Option CommitTimeOrder) (infos : List Info) (ids : List ObjectId) → AllZip (IsGiven objects rows mode.All order) (given infos) ids → map (λ info. info.id) infos ≡ ids
+same_ids objects rows order [] [] h = refl
+same_ids objects rows order [] (i ∷ ids) h = absurd h
+same_ids objects rows order (info ∷ infos) [] h = absurd h
+same_ids objects rows order (info ∷ infos) (i ∷ ids) h = (λ k. h.0.info_is.same_id k ∷ same_ids objects rows order infos ids h.1 k)
 
 uncut_none : (by : Sorting) → IsUncut by → cutoff mode.All by ≡ None
 uncut_none sorting.BreadthFirst u = refl
@@ -73,16 +73,14 @@ GivesShown objects tips hidden ids = AreDistinct ids × ((i : ObjectId) → Cont
 -- what sorting leaves
 record Follows (by : Sorting) (first sorted : Walk) : Type 0 where
   store : sorted.store ≡ first.store
-  rows : sorted.rows ≡ first.rows
   parents : sorted.parents ≡ first.parents
   sorting : sorted.sorting ≡ by
   pending : ids_of sorted.pending ≡ ids_of first.pending
 
 follows : (by : Sorting) → IsUncut by → (first sorted : Walk) → IsSorted first by sorted → Follows by first sorted
-follows sorting.BreadthFirst u first sorted e = record { store = ap (λ w. w.store) e; rows = ap (λ w. w.rows) e; parents = ap (λ w. w.parents) e; sorting = ap (λ w. w.sorting) e; pending = ap (λ w. ids_of w.pending) e }
+follows sorting.BreadthFirst u first sorted e = record { store = ap (λ w. w.store) e; parents = ap (λ w. w.parents) e; sorting = ap (λ w. w.sorting) e; pending = ap (λ w. ids_of w.pending) e }
 follows (sorting.ByCommitTime order) u first sorted s = record {
   store = ap (λ w. w.store) s.others;
-  rows = ap (λ w. w.rows) s.others;
   parents = ap (λ w. w.parents) s.others;
   sorting = ap (λ w. w.sorting) s.others;
   pending = ap ids_of s.pending ∙ recent_all first.store first.pending;
@@ -93,10 +91,10 @@ none_left : (ids : List ObjectId) → ids ≢ [] → ((i : ObjectId) → Contain
 none_left [] some none = some refl
 none_left (i ∷ ids) some none = none i (Contains-here i ids)
 
-module _ (objects : Objects) (by : Sorting) (tips hidden : List ObjectId) (walk : Walk) (uncut : IsUncut by) (starts : StartsFrom objects by tips hidden walk) where
+module _ (objects : Objects) (rows : List GraphRow) (by : Sorting) (tips hidden : List ObjectId) (walk : Walk) (uncut : IsUncut by) (starts : StartsFrom objects rows by tips hidden walk) where
   -- the walk before its first step, its options written out
   abbrev pub opened : Walk
-  opened = record walk { store = objects; rows = []; parents = mode.All; sorting = by; hidden_tips = hidden }
+  opened = record walk { store = objects; rows = rows; parents = mode.All; sorting = by; hidden_tips = hidden }
 
   new_walk : IsNewWalk objects_of accepts_all objects (λ i. true) tips starts.made
   new_walk = is_new_walk objects_of never_faulty accepts_all objects (record {}) (λ i. true) tips starts.made (λ mid new i answer b h. h.0) starts.makes
@@ -107,7 +105,7 @@ module _ (objects : Objects) (by : Sorting) (tips hidden : List ObjectId) (walk 
   pub same : walk ≡ opened
   same =
       let s : walk.store ≡ objects = ap (λ w. w.store) starts.hides ∙ sorted_so.store ∙ new_walk.same_store in
-      let r : walk.rows ≡ [] = ap (λ w. w.rows) starts.hides ∙ sorted_so.rows ∙ new_walk.rowless in
+      let r : walk.rows ≡ rows = ap (λ w. w.rows) starts.hides in
       let p : walk.parents ≡ mode.All = ap (λ w. w.parents) starts.hides ∙ sorted_so.parents ∙ new_walk.all_parents in
       let b : walk.sorting ≡ by = ap (λ w. w.sorting) starts.hides ∙ sorted_so.sorting in
       let h : walk.hidden_tips ≡ hidden = ap (λ w. w.hidden_tips) starts.hides in
@@ -134,7 +132,7 @@ module _ (objects : Objects) (by : Sorting) (tips hidden : List ObjectId) (walk 
   sorted_built (sorting.ByCommitTimeCutoff order seconds) u first sorted b s = absurd u
 
   is_built : Uncut walk
-  is_built = let k : Uncut starts.sorted = sorted_built by uncut starts.made starts.sorted (made starts.makes, tt) starts.sorts in subst Uncut (sym starts.hides) (hides k.0, k.1)
+  is_built = let k : Uncut starts.sorted = sorted_built by uncut starts.made starts.sorted (made starts.makes, tt) starts.sorts in subst Uncut (sym starts.hides) (reads {rows = rows} (hides {ids = hidden} k.0), k.1)
 
   test : (tells : ObjectId → Bool) × Tells tells (Reaches (parents_of objects) hidden)
   test = reach_test objects hidden
@@ -142,12 +140,12 @@ module _ (objects : Objects) (by : Sorting) (tips hidden : List ObjectId) (walk 
   is_fresh : IsFresh objects_of walk (λ i. true) × AnswersBy accepts_all walk.predicate (λ i. true) × (walk.store ≡ objects)
   is_fresh = built objects_of never_faulty accepts_all (λ i. true) objects (record {}) (λ mid new i answer b h. h.0) tips walk is_built.0
 
-  module _ (infos : List Info) (at new : Walk) (drawn : Yields Answers walk (given infos) at) (ended : Answers at None new) where
+  module _ (agreeing : IsAgreeing objects rows) (infos : List Info) (at new : Walk) (drawn : Yields Answers walk (given infos) at) (ended : Answers at None new) where
     hiders : walk.hidden_tips ≡ hidden
     hiders = ap (λ w. w.hidden_tips) starts.hides
 
-    no_rows : IsAgreeing objects walk.rows
-    no_rows = none_agree objects walk.rows (ap (λ w. w.rows) same)
+    rows_agree : IsAgreeing objects walk.rows
+    rows_agree = subst (IsAgreeing objects) (sym (ap (λ w. w.rows) same)) agreeing
 
     -- in the words of lists
     said : GivesDifference objects tips walk.hidden_tips (given infos) → GivesShown objects tips hidden (map (λ info. info.id) infos)
@@ -156,29 +154,29 @@ module _ (objects : Objects) (by : Sorting) (tips hidden : List ObjectId) (walk 
     -- each once, and exactly what the tips reach and the hidden tips don't: where all of it reads whole
     each_known : ((i : ObjectId) → Reaches (parents_of objects) (tips ++ hidden) i → IsSome (commit_at objects i)) → GivesShown objects tips hidden (map (λ info. info.id) infos)
     each_known whole =
-        said (difference objects_of never_faulty accepts_all objects (record {}) tips (λ mid last i answer b h. h.0) walk is_built.0 is_built.1 (ap (λ w. w.parents) same) no_rows
+        said (difference objects_of never_faulty accepts_all objects (record {}) tips (λ mid last i answer b h. h.0) walk is_built.0 is_built.1 (ap (λ w. w.parents) same) rows_agree
         (λ i r. whole_from objects i (whole i (subst (λ hs. Reaches (parents_of objects) (tips ++ hs) i) hiders r))) (given infos) (unrefused infos) (new, (at, drawn, ended)))
 
     -- and with hidden tips in any case
     pub each_unhidden : hidden ≢ [] → GivesShown objects tips hidden (map (λ info. info.id) infos)
     each_unhidden behind =
-        said (faultless_difference objects_of never_faulty accepts_all objects (record {}) tips (λ mid last i answer b h. h.0) walk is_built.0 is_built.1 (ap (λ w. w.parents) same) no_rows (λ e. behind (sym hiders ∙ e))
+        said (faultless_difference objects_of never_faulty accepts_all objects (record {}) tips (λ mid last i answer b h. h.0) walk is_built.0 is_built.1 (ap (λ w. w.parents) same) rows_agree (λ e. behind (sym hiders ∙ e))
         (given infos) (no_faults infos) (new, (at, drawn, ended)))
 
     drained : Drains Answers opened (given infos)
     drained = subst (λ w. Drains Answers w (given infos)) same (new, (at, drawn, ended))
 
     -- without hidden tips all that the tips reach was read, where of that each commit that is stored reads whole
-    pub all_met : hidden ≡ [] → ((i : ObjectId) → Reaches (parents_of objects) tips i → (object : Object) → get objects i ≡ Some object → IsSome (commit_at objects i)) → (i : ObjectId) → Reaches (parents_of objects) tips i → IsSome (commit_at objects i)
-    all_met none sound =
+    pub all_met : rows ≡ [] → hidden ≡ [] → ((i : ObjectId) → Reaches (parents_of objects) tips i → (object : Object) → get objects i ≡ Some object → IsSome (commit_at objects i)) → (i : ObjectId) → Reaches (parents_of objects) tips i → IsSome (commit_at objects i)
+    all_met rowless none sound =
         all_found objects tips sound infos opened
-        (goes objects tips sound opened refl refl refl none (uncut_none by uncut) (subst (λ w. IsFresh objects_of w (λ i. true)) same is_fresh.0) is_tip is_pending) drained
+        (goes objects tips sound opened refl rowless refl none (uncut_none by uncut) (subst (λ w. IsFresh objects_of w (λ i. true)) same is_fresh.0) is_tip is_pending) drained
 
     -- with hidden tips all that tips and hidden tips reach was read
     pub all_read : tips ≢ [] → hidden ≢ [] → (i : ObjectId) → Reaches (parents_of objects) (tips ++ hidden) i → IsSome (commit_at objects i)
     all_read some behind i r =
         let w : ReadsWhole objects i =
-        drawn_whole objects_of never_faulty accepts_all opened (given infos) (none_agree objects [] refl) left behind (no_faults infos) drained i (reach_more (parents_of objects) (tips ++ hidden) (ids_of walk.pending ++ hidden) more i r) in
+        drawn_whole objects_of never_faulty accepts_all opened (given infos) is_fresh.0.unbegun agreeing left behind (no_faults infos) drained i (reach_more (parents_of objects) (tips ++ hidden) (ids_of walk.pending ++ hidden) more i r) in
         subst IsSome (sym w.stored) refl
       where
         left : walk.pending ≢ []
@@ -205,7 +203,7 @@ module _ (objects : Objects) (by : Sorting) (tips hidden : List ObjectId) (walk 
               whole_from objects i
               (whole e i (reach_more (parents_of objects) (ids_of walk.pending) tips is_tip i (subst (λ xs. Reaches (parents_of objects) xs i) (append-nil (ids_of walk.pending)) (subst (λ hs. Reaches (parents_of objects) (ids_of walk.pending ++ hs) i) e r))))
           go (id ∷ ids) e =
-              drawn_whole objects_of never_faulty accepts_all opened (given infos) (none_agree objects [] refl) some (λ n. let c : [] ≡ id ∷ ids = sym n ∙ e in cc) (no_faults infos) drained i r
+              drawn_whole objects_of never_faulty accepts_all opened (given infos) is_fresh.0.unbegun agreeing some (λ n. let c : [] ≡ id ∷ ids = sym n ∙ e in cc) (no_faults infos) drained i r
 
       run : IsWholeRun objects_of never_faulty accepts_all opened (λ i. true) test.0 (given infos)
       run = record {
@@ -218,7 +216,7 @@ module _ (objects : Objects) (by : Sorting) (tips hidden : List ObjectId) (walk 
               met (λ e. no_start (parents_of objects) (ids_of walk.pending) i p (ap ids_of e)) i (reach_more (parents_of objects) (ids_of walk.pending) (ids_of walk.pending ++ hidden) (λ j c. Contains-append_left (ids_of walk.pending) hidden j c) i p);
           painted = λ some behind i r. met some i r;
         };
-        agreeing = none_agree objects [] refl;
+        agreeing = agreeing;
         unrefused = unrefused infos;
         drawn = drained;
       }
@@ -227,7 +225,7 @@ module _ (objects : Objects) (by : Sorting) (tips hidden : List ObjectId) (walk 
       gave = gives objects_of never_faulty accepts_all opened (λ i. true) test.0 (given infos) run
 
       ids_are : map (λ info. info.id) infos ≡ gave.ids
-      ids_are = same_ids objects (time_order mode.All by) infos gave.ids gave.given
+      ids_are = same_ids objects rows (time_order mode.All by) infos gave.ids gave.given
 
       next_is : next_of objects_of opened (λ i. true) test.0 ≡ (λ c. filter (λ i. not (test.0 i)) (parents_of objects c))
       next_is = (λ k c. filter (λ i. not (test.0 i) && not (is_older (time_of objects i) (uncut_none by uncut k))) (parents_of objects c)) ∙ (λ k c. filter (λ i. and-true (not (test.0 i)) k) (parents_of objects c))

@@ -9,6 +9,7 @@ use Rattle.std.proofs.lemmas.Iterator.Adapters.{YieldsList-from_vec}
 use Rattle.std.proofs.lemmas.List.{map-id}
 use Rattle.gix_hash.specs.declared.ObjectId.{ObjectId}
 use Rattle.gix_object.specs.Object.{Objects}
+use Rattle.gix_commitgraph.specs.Rows.{GraphRow}
 use Rattle.gix_simple.specs.declared.Error.{Error}
 use Rattle.gix_simple.specs.declared.Error.TheVariants as error
 use Rattle.gix_simple.specs.declared.Sorting.{Sorting}
@@ -23,12 +24,27 @@ use Rattle.gix_commands.specs.Faults.{fault_of_walk, fault_of_topo_walk}
 use Rattle.gix_commands.specs.TopoWalked as topo
 use Rattle.gix_commands.specs.Walked.{Walk, objects_of, never_faulty, accepts_all, IsMadeOf, IsSorted, IsStartFault}
 
+abbrev Builder : Type 0
+Builder = TopoBuilder Objects Unfiltered
+
 -- the ids that came out of a vector are the ids that it held
 pub drained : {Z : Type 0} (tips ids : List ObjectId) (it : IntoIter ObjectId Z) → into_iter_items it ≡ tips → into_iter_len it ≡ length tips → Drains into_iter_steps it ids → ids ≡ tips
 drained tips ids it items len d = sym (map-id ids) ∙ items_from_drains ids (d.1.0, d.1.1, λ _. (d.0, d.1.2)) (YieldsList-from_vec tips items len)
 
 ok_same : {a b : Walk} → ◌≡◌ {A = Result Walk Error} (Ok a) (Ok b) → a ≡ b
 ok_same same = cc
+
+-- what the calls leave that hide and that give rows
+pub held : (sorted hides last : Walk) (ids hidden : List ObjectId) (copy rows : List GraphRow) → hides ≡ record sorted { hidden_tips = ids } → ids ≡ hidden → last ≡ record hides { rows = copy } → copy ≡ rows → last ≡ record sorted { rows = rows; hidden_tips = hidden }
+held sorted hides last ids hidden copy rows h is l same = l ∙ (λ k. record (h k) { rows = same k }) ∙ ap (λ those. record sorted { rows = rows; hidden_tips = those }) is
+
+-- the walk was made over this store, of these tips
+pub made_of : (store objects : Objects) (ids tips : List ObjectId) (made : Walk) → store ≡ objects → ids ≡ tips → IsMadeOf store ids made → IsMadeOf objects tips made
+made_of store objects ids tips made same is h = subst (λ those. IsMadeOf objects those made) is (subst (λ o. IsMadeOf o ids made) same h)
+
+-- the builder has this store
+pub fresh_over : (store objects : Objects) (fresh : Builder) → store ≡ objects → fresh ≡ fresh_builder store (record {}) [] → fresh ≡ fresh_builder objects (record {}) []
+fresh_over store objects fresh same is = is ∙ ap (λ o. fresh_builder o (record {}) []) same
 
 -- what sorting says of a walk that it gave
 pub is_sorted : (made sorted : Walk) (by : Sorting) → (by ≡ sorting.BreadthFirst → ◌≡◌ {A = Result Walk Error} (Ok sorted) (Ok (record made { sorting = by }))) → (by ≢ sorting.BreadthFirst → IsSortedByTime objects_of made by sorted) → IsSorted made by sorted
@@ -43,9 +59,6 @@ start_failed objects by tips made makes why result e same is plain h =
     subst (λ (r : Result Walk Fault). IfErr r (IsStartFault objects by tips)) (sym same)
     (λ other. (why, record { by_time = λ b. cc (plain b); made = made; makes = makes; fails = h (λ m. other (is ∙ ap fault_of_walk m)) }, is))
 
-abbrev Builder : Type 0
-Builder = TopoBuilder Objects Unfiltered
-
 abbrev with_more_tips : Builder → List ObjectId → Builder
 with_more_tips b ids = record b { plan = record b.plan { tips = b.plan.tips ++ ids } }
 
@@ -55,20 +68,24 @@ with_more_ends b ids = record b { plan = record b.plan { ends = b.plan.ends ++ i
 abbrev in_order : TopoSorting → Builder → Builder
 in_order by b = record b { plan = record b.plan { sorting = by } }
 
-abbrev pub builder_from : Objects → TopoSorting → List ObjectId → List ObjectId → Builder
-builder_from objects by tips ends = record { plan = topo.plan_from objects by tips ends; predicate = record {} }
+abbrev with_these : List GraphRow → Builder → Builder
+with_these rows b = record b { plan = record b.plan { rows = rows } }
+
+abbrev pub builder_from : Objects → List GraphRow → TopoSorting → List ObjectId → List ObjectId → Builder
+builder_from objects rows by tips ends = record { plan = topo.plan_from objects rows by tips ends; predicate = record {} }
 
 -- the calls that choose make this builder
-pub chosen : (objects : Objects) (by : TopoSorting) (tips ends those others : List ObjectId) (fresh from_tips builder sorted : Builder)
+pub chosen : (objects : Objects) (rows : List GraphRow) (by : TopoSorting) (tips ends those others : List ObjectId) (fresh from_tips builder sorted given : Builder) (copy : List GraphRow)
     → fresh ≡ fresh_builder objects (record {}) [] → from_tips ≡ record fresh { plan = record fresh.plan { tips = fresh.plan.tips ++ those } } → those ≡ tips
-    → builder ≡ record from_tips { plan = record from_tips.plan { ends = from_tips.plan.ends ++ others } } → others ≡ ends → sorted ≡ record builder { plan = record builder.plan { sorting = by } } → sorted ≡ builder_from objects by tips ends
-chosen objects by tips ends those others fresh from_tips builder sorted f t those_are e others_are s =
-    s ∙ ap (in_order by) (e ∙ ap (with_more_ends from_tips) others_are ∙ ap (λ b. with_more_ends b ends) (t ∙ ap (with_more_tips fresh) those_are ∙ ap (λ b. with_more_tips b tips) f))
+    → builder ≡ record from_tips { plan = record from_tips.plan { ends = from_tips.plan.ends ++ others } } → others ≡ ends → sorted ≡ record builder { plan = record builder.plan { sorting = by } }
+    → given ≡ record sorted { plan = record sorted.plan { rows = copy } } → copy ≡ rows → given ≡ builder_from objects rows by tips ends
+chosen objects rows by tips ends those others fresh from_tips builder sorted given copy f t those_are e others_are s g same =
+    g ∙ ap (λ those. with_these those sorted) same ∙ ap (with_these rows) (s ∙ ap (in_order by) (e ∙ ap (with_more_ends from_tips) others_are ∙ ap (λ b. with_more_ends b ends) (t ∙ ap (with_more_tips fresh) those_are ∙ ap (λ b. with_more_tips b tips) f)))
 
-module _ (objects : Objects) (by : TopoSorting) (tips ends : List ObjectId) (builder : Builder) (same : builder ≡ builder_from objects by tips ends) where
-  pub built_from : (answer : Result topo.Walk TopoError) → Built objects_of never_faulty accepts_all builder answer → topo.IsBuiltFrom objects by tips ends answer
+module _ (objects : Objects) (rows : List GraphRow) (by : TopoSorting) (tips ends : List ObjectId) (builder : Builder) (same : builder ≡ builder_from objects rows by tips ends) where
+  pub built_from : (answer : Result topo.Walk TopoError) → Built objects_of never_faulty accepts_all builder answer → topo.IsBuiltFrom objects rows by tips ends answer
   built_from answer h = subst (λ (b : Builder). Built objects_of never_faulty accepts_all b answer) same h
 
   -- the walk couldn't be built
-  pub build_failed : (why : TopoError) (result : Result topo.Walk Fault) (e : Fault) → result ≡ Err e → e ≡ fault_of_topo_walk why → Built objects_of never_faulty accepts_all builder (Err why) → IfErr result (topo.IsStartFault objects by tips ends)
-  build_failed why result e is fault h = subst (λ (r : Result topo.Walk Fault). IfErr r (topo.IsStartFault objects by tips ends)) (sym is) (λ other. (why, built_from (Err why) h, fault))
+  pub build_failed : (why : TopoError) (result : Result topo.Walk Fault) (e : Fault) → result ≡ Err e → e ≡ fault_of_topo_walk why → Built objects_of never_faulty accepts_all builder (Err why) → IfErr result (topo.IsStartFault objects rows by tips ends)
+  build_failed why result e is fault h = subst (λ (r : Result topo.Walk Fault). IfErr r (topo.IsStartFault objects rows by tips ends)) (sym is) (λ other. (why, built_from (Err why) h, fault))

@@ -105,12 +105,12 @@ module _ (In Within : ObjectId → Type 0) (walked other : ObjectId → List Obj
         let o = order k b in
         (o.0, made_same (reverse (take k ids)) o.0 (λ c m. h c (take_within k ids c (reverse_in c (take k ids) m))) o.1, o.2)
 
-    order_same : (by : Sorting) (ids : List ObjectId) → ((c : ObjectId) → Contains ids c → In c) → IsSorted by time walked In tips ids → IsSorted by clock other Within tips ids
+    pub order_same : (by : Sorting) (ids : List ObjectId) → ((c : ObjectId) → Contains ids c → In c) → IsSorted by time walked In tips ids → IsSorted by clock other Within tips ids
     order_same order.DateOrder ids h = date_same ids
     order_same order.TopoOrder ids h = topo_same ids h
 
 module _ (some all : Objects) (part : IsPartOf some all) (tips ends : List ObjectId) (whole : AreWhole some (tips ++ ends)) where
-  pub lists_down_of_part : (by : Sorting) (ids : List ObjectId) → ListsDown some by tips ends ids → ListsDown all by tips ends ids
+  pub lists_down_of_part : (by : Sorting) (ids : List ObjectId) → ListsDown some (parents_of some) by tips ends ids → ListsDown all (parents_of all) by tips ends ids
   lists_down_of_part by ids l = record {
     once = l.once;
     shown = λ i c. shown_in_all some all part tips ends whole i (l.shown i c);

@@ -11,7 +11,9 @@ use Rattle.gix_object.specs.declared.Kind.TheVariants as object
 use Rattle.gix_object.specs.declared.find.existing_iter.Error.TheVariants as existing
 use Rattle.gix_object.specs.Find.{IsExistingFault}
 use Rattle.gix_hash.specs.Id.{id_cmp}
-use Rattle.gix_object.specs.Object.{Objects}
+use Rattle.gix_object.specs.Object.{Object, Objects}
+use Rattle.std.specs.FinMap.{get}
+use Rattle.gix_commitgraph.specs.Rows.{GraphRow}
 use Rattle.gix_revwalk.specs.declared.Info.{Info}
 use Rattle.gix_topo.specs.declared.Error.{Error}
 use Rattle.gix_topo.specs.declared.Error.TheVariants as error
@@ -20,17 +22,19 @@ use Rattle.gix_object.specs.CommitText.{Commit}
 use Rattle.gix_revwalk.specs.Commits.{commit_at, parents_in, parents_of}
 use Rattle.gix_revwalk.specs.Texts.{text_next}
 use Rattle.gix_hash.specs.Reach.{Reaches, start, step}
-use Rattle.gix_hash.proofs.Ids.Membership.{no_member}
+use Rattle.gix_hash.proofs.Ids.Membership.{no_member, Contains-cons_cases}
 use Rattle.gix_revwalk.proofs.TextParents.{text_whole}
-use Rattle.gix_topo.specs.Laws.{IsNoRefusal, IsTakenInOrder, IsGiven, IsWholeRun, GivesInOrder}
+use Rattle.gix_topo.specs.Laws.{IsNoRefusal, IsTakenInOrder, IsTakenByText, IsGiven, IsTextGiven, IsWholeRun, GivesInOrder, GivesTextOrder}
 use Rattle.gix_topo.specs.Walk.{TopoPlan, IsCommitRead, IsReached, IsFault, IsFirstReady, IsNextReady, IsSound, ended, given, refused, failed}
+use Rattle.gix_revwalk.specs.Agreeing.{IsAgreeing}
 use Rattle.gix_revwalk.proofs.Rows.{none_agree}
 use Rattle.gix_topo.proofs.Run.Corollaries.{once}
-use Rattle.gix_topo.proofs.Run.Theorem.{gives}
+use Rattle.gix_topo.proofs.Run.TextDifference.{each_by_text}
+use Rattle.gix_topo.proofs.Run.Theorem.{gives, gives_text}
 use Rattle.gix_commands.specs.declared.fault.Fault.{Fault}
 use Rattle.gix_commands.specs.declared.words.Order.TheVariants.{Topo}
 use Rattle.gix_commands.specs.Faults.{fault_of_topo_walk}
-use Rattle.gix_commands.specs.Histories.{AreWhole, IsPartOf, ListsDown, TopoLists, TopoListsOfPart, TopoSucceeds, EndsWell, IsOutside, lines_of_ids}
+use Rattle.gix_commands.specs.Histories.{AreWhole, IsPartOf, ListsDown, ListsRead, TopoLists, TopoListsOfPart, TopoSucceeds, EndsWell, IsOutside, lines_of_ids}
 use Rattle.gix_records.specs.Records.{stored}
 use Rattle.gix_commands.specs.Run.{Serves, walked_down, not_built, unserved, not_written}
 use Rattle.gix_commands.specs.TopoWalked.{Walk, Answers, IsWalkFault, IsBuiltFrom, plan_from}
@@ -38,6 +42,7 @@ use Rattle.gix_commands.specs.Walked.{Ends, finished, failed as fell, cut_short,
 use Rattle.gix_commands.specs.Words.{Commits}
 use Rattle.gix_commands.proofs.CommitRuns.{served_so, ends_well, lines_by_ids}
 use Rattle.gix_commands.proofs.Parts.{reached_in_all, stored_whole}
+use Rattle.gix_commands.proofs.TextParts.{lists_read_of_part}
 use Rattle.gix_commands.proofs.TopoParts.{lists_down_of_part}
 use Rattle.gix_simple.proofs.Difference.{whole_from}
 use Rattle.gix_revwalk.proofs.Reached.{reach_more}
@@ -75,18 +80,43 @@ next_says (given t a i) = tt
 next_says (refused t a h) = next_says h
 next_says (failed {old = old} c others h f late) = (old.taken, c.id, f)
 
-module _ (objects : Objects) (by : Sorting) (tips ends : List ObjectId) (whole : AreWhole objects (tips ++ ends)) where
-  sound : IsSound objects_of never_faulty (plan_from objects by tips ends)
+no_faults : (infos : List Info) (e : Error) → Contains (all_given infos) (Err e) → ⊥
+no_faults [] e c = no_member (Err e) c
+no_faults (info ∷ infos) e c = ⊎_elim (λ s. cc) (no_faults infos e) (Contains-cons_cases (Err e) (Ok info) (all_given infos) c)
+
+same_read : (plan : TopoPlan Objects) (infos : List Info) (ids : List ObjectId) → AllZip (IsTextGiven objects_of plan) (all_given infos) (filter (λ i. true) ids) → map (λ info. info.id) infos ≡ ids
+same_read plan [] [] h = refl
+same_read plan [] (i ∷ ids) h = absurd h
+same_read plan (info ∷ infos) [] h = absurd h
+same_read plan (info ∷ infos) (i ∷ ids) h = (λ k. h.0.info_is.same_id k ∷ same_read plan infos ids h.1 k)
+
+-- a walk that ended well, by the parents that texts name
+module _ (objects : Objects) (rows : List GraphRow) (agree : IsAgreeing objects rows) (by : Sorting) (tips ends : List ObjectId) (walk : Walk) (built : IsBuiltFrom objects rows by tips ends (Ok walk)) where
+  listed_read : (infos : List Info) → Ends Answers IsWalkFault walk infos (Ok tt) → ListsDown objects (text_next objects) by tips ends (map (λ info. info.id) infos)
+  listed_read infos (finished new h) =
+      let g : GivesTextOrder objects_of walk.plan (λ i. true) (all_given infos) =
+      gives_text objects_of never_faulty accepts_all (λ i. true) walk (all_given infos) (λ mid last i answer b a. a.0) built.1 (subst (λ (plan : TopoPlan Objects). IsAgreeing plan.store plan.rows) (sym built.0.plan) agree) (no_faults infos) (new, h) in
+      let order : IsTakenByText objects_of (plan_from objects rows by tips ends) g.ids = subst (λ plan. IsTakenByText objects_of plan g.ids) built.0.plan g.in_order in
+      let each = each_by_text objects_of (plan_from objects rows by tips ends) g.ids order in
+      subst (ListsDown objects (text_next objects) by tips ends) (sym (same_read walk.plan infos g.ids g.given)) (record {
+        once = each.0;
+        shown = λ i c. let m = each.1 i c in (m.reached, m.outside);
+        all = λ acyclic i s. each.2 (λ j m. acyclic j (m.reached, m.outside)) i (record { reached = s.0; outside = s.1 });
+        in_order = order;
+      })
+
+module _ (objects : Objects) (rows : List GraphRow) (agree : IsAgreeing objects rows) (by : Sorting) (tips ends : List ObjectId) (whole : AreWhole objects (tips ++ ends)) where
+  sound : IsSound objects_of never_faulty (plan_from objects rows by tips ends)
   sound = record {
-    agreeing = none_agree objects [] refl;
+    agreeing = agree;
     tips_whole = λ i r. whole_from objects i (whole i (reach_more (parents_of objects) tips (tips ++ ends) (λ j c. Contains-append_left tips ends j c) i r));
     parents_whole = λ c i r n. whole_from objects i (whole i (reach_more (parents_of objects) tips (tips ++ ends) (λ j m. Contains-append_left tips ends j m) i (step r n)));
     ends_whole = λ i r. whole_from objects i (whole i (reach_more (parents_of objects) ends (tips ++ ends) (λ j c. Contains-append_right tips ends j c) i r));
   }
 
   -- over whole commits the only fault is out of memory
-  outside : (BecomesReady : ObjectId → Type 0) (e : Error) → IsFault objects_of never_faulty (plan_from objects by tips ends) BecomesReady e → IsOutside (fault_of_topo_walk e)
-  outside Q error.MissingIndegreeUnexpected h = absurd (h (none_agree objects [] refl))
+  outside : (BecomesReady : ObjectId → Type 0) (e : Error) → IsFault objects_of never_faulty (plan_from objects rows by tips ends) BecomesReady e → IsOutside (fault_of_topo_walk e)
+  outside Q error.MissingIndegreeUnexpected h = absurd (h agree)
   outside Q error.MissingStateUnexpected h = absurd h
   outside Q (error.ObjectDecode e) h = let same : error.ObjectDecode e ≡ error.Find existing.Store = h.2.store_fails sound in cc
   outside Q (error.Find e) h =
@@ -95,16 +125,16 @@ module _ (objects : Objects) (by : Sorting) (tips ends : List ObjectId) (whole :
       absurd (subst (IsExistingFault objects (never_faulty objects) h.0 object.Commit) store h.1)
   outside Q error.Memory h = tt
 
-  module _ (walk : Walk) (built : IsBuiltFrom objects by tips ends (Ok walk)) where
+  module _ (walk : Walk) (built : IsBuiltFrom objects rows by tips ends (Ok walk)) where
     drawn_outside : (infos : List Info) (answer : Result (Unit {0}) Fault) → Ends Answers IsWalkFault walk infos answer → EndsWell answer
     drawn_outside infos answer (finished new h) = tt
     drawn_outside infos answer (fell e f new h is) =
-        let says : (taken : set.FinSet id_cmp) × (c : ObjectId) × IsFault objects_of never_faulty (plan_from objects by tips ends) (IsNextReady objects_of (plan_from objects by tips ends) taken c) e =
+        let says : (taken : set.FinSet id_cmp) × (c : ObjectId) × IsFault objects_of never_faulty (plan_from objects rows by tips ends) (IsNextReady objects_of (plan_from objects rows by tips ends) taken c) e =
         subst (λ plan. (taken : set.FinSet id_cmp) × (c : ObjectId) × IsFault objects_of never_faulty plan (IsNextReady objects_of plan taken c) e) (yields_plan walk h.0 (all_given infos) h.1 ∙ built.0.plan) (next_says h.2) in
-        subst IsOutside (sym is) (outside (IsNextReady objects_of (plan_from objects by tips ends) says.0 says.1) e says.2)
+        subst IsOutside (sym is) (outside (IsNextReady objects_of (plan_from objects rows by tips ends) says.0 says.1) e says.2)
     drawn_outside infos answer (cut_short info new h) = tt
 
-    listed : (infos : List Info) → Ends Answers IsWalkFault walk infos (Ok tt) → ListsDown objects by tips ends (map (λ info. info.id) infos)
+    listed : (infos : List Info) → Ends Answers IsWalkFault walk infos (Ok tt) → ListsDown objects (parents_of objects) by tips ends (map (λ info. info.id) infos)
     listed infos (finished new h) =
         let run : IsWholeRun objects_of never_faulty accepts_all walk (λ i. true) (all_given infos) =
         record {
@@ -115,9 +145,9 @@ module _ (objects : Objects) (by : Sorting) (tips ends : List ObjectId) (whole :
           drawn = (new, h);
         } in
         let g : GivesInOrder objects_of walk.plan (λ i. true) (all_given infos) = gives objects_of never_faulty accepts_all (λ i. true) walk (all_given infos) run in
-        let order : IsTakenInOrder objects_of (plan_from objects by tips ends) g.ids = subst (λ plan. IsTakenInOrder objects_of plan g.ids) built.0.plan g.in_order in
-        let each = once objects_of (plan_from objects by tips ends) g.ids order in
-        subst (ListsDown objects by tips ends) (sym (same_ids walk.plan infos g.ids g.given)) (record {
+        let order : IsTakenInOrder objects_of (plan_from objects rows by tips ends) g.ids = subst (λ plan. IsTakenInOrder objects_of plan g.ids) built.0.plan g.in_order in
+        let each = once objects_of (plan_from objects rows by tips ends) g.ids order in
+        subst (ListsDown objects (parents_of objects) by tips ends) (sym (same_ids walk.plan infos g.ids g.given)) (record {
           once = each.0;
           shown = λ i c. let m = each.1 i c in (m.reached, m.outside);
           all = λ acyclic i s. each.2 (λ j m. acyclic j (m.reached, m.outside)) i (record { reached = s.0; outside = s.1 });
@@ -125,17 +155,24 @@ module _ (objects : Objects) (by : Sorting) (tips ends : List ObjectId) (whole :
         })
 
   module _ (old : Option (List ℕ)) where
-    lists : (new : Option (List ℕ)) → Serves objects old (Commits (Topo by) tips ends) (Ok tt) new → (ids : List ObjectId) × ListsDown objects by tips ends ids × Appends old new (lines_of_ids ids)
-    lists new (walked_down walk infos built ends written) = (map (λ info. info.id) infos, listed walk built infos ends, subst (Appends old new) (lines_by_ids infos) written)
-
-    well : (answer : Result (Unit {0}) Fault) (new : Option (List ℕ)) → Serves objects old (Commits (Topo by) tips ends) answer new → EndsWell answer
+    pub well : (answer : Result (Unit {0}) Fault) (new : Option (List ℕ)) → Serves objects rows old (Commits (Topo by) tips ends) answer new → EndsWell answer
     well answer new (walked_down walk infos built ends written) = drawn_outside walk built infos answer ends
-    well answer new (not_built e h) = outside (IsFirstReady objects_of (plan_from objects by tips ends)) e h.1
+    well answer new (not_built e h) = outside (IsFirstReady objects_of (plan_from objects rows by tips ends)) e h.1
     well answer new unserved = tt
     well answer new not_written = tt
 
+-- and by the parents of commits that are whole
+module _ (objects : Objects) (rows : List GraphRow) (agree : IsAgreeing objects rows) (by : Sorting) (tips ends : List ObjectId) where
+  pub lists : (old new : Option (List ℕ)) → Serves objects rows old (Commits (Topo by) tips ends) (Ok tt) new → (ids : List ObjectId) × ListsRead objects by tips ends ids × Appends old new (lines_of_ids ids)
+  lists old new (walked_down walk infos built drawn written) = (
+    map (λ info. info.id) infos,
+    record { read = listed_read objects rows agree by tips ends walk built infos drawn; whole = λ whole. listed objects rows agree by tips ends whole walk built infos drawn },
+    subst (Appends old new) (lines_by_ids infos) written,
+  )
+
 pub topo_lists : TopoLists
-topo_lists words input records by tips ends old new asked are whole runs = lists (stored records) by tips ends whole old new (served_so words input records (Commits (Topo by) tips ends) old new asked are runs)
+topo_lists words input records by tips ends old new asked are runs =
+    lists (stored records) [] (none_agree (stored records) [] refl) by tips ends old new (served_so words input records (Commits (Topo by) tips ends) old new asked are runs)
 
 named_whole : (objects : Objects) (c i : ObjectId) → Contains (parents_of objects c) i → IsSome (commit_at objects c)
 named_whole objects c i n = go (commit_at objects c) n
@@ -152,24 +189,35 @@ from_either : (next : ObjectId → List ObjectId) (xs ys : List ObjectId) (i : O
 from_either next xs ys i (start s) = ⊎_elim (λ c. inl (start c)) (λ c. inr (start c)) (Contains-append_cases xs ys i s)
 from_either next xs ys i (step {c = c} r n) = ⊎_elim (λ r. inl (step r n)) (λ r. inr (step r n)) (from_either next xs ys c r)
 
-module _ (some all : Objects) (part : IsPartOf some all) (by : Sorting) (tips ends : List ObjectId) (whole : AreWhole all (tips ++ ends)) where
-  -- a walk that was built has read all that tips and ends reach
-  met_whole : (walk : Walk) → IsBuiltFrom some by tips ends (Ok walk) → AreWhole some (tips ++ ends)
-  met_whole walk built i r =
-      let reads : (j : ObjectId) → IsReached objects_of (plan_from some by tips ends) j → IsCommitRead some j =
-      subst (λ plan. plan.rows ≡ [] → (j : ObjectId) → IsReached objects_of plan j → IsCommitRead plan.store j) built.0.plan built.1.read refl in
-      let c : IsCommitRead some i = reads i (from_either (text_next some) tips ends i (by_texts some (tips ++ ends) i r)) in
+module _ (some all : Objects) (part : IsPartOf some all) (by : Sorting) (tips ends : List ObjectId) where
+  -- a walk that was built without rows has read all that tips and ends reach
+  was_read : (walk : Walk) → IsBuiltFrom some [] by tips ends (Ok walk) → (i : ObjectId) → IsReached objects_of (plan_from some [] by tips ends) i → IsCommitRead some i
+  was_read walk built = subst (λ plan. plan.rows ≡ [] → (i : ObjectId) → IsReached objects_of plan i → IsCommitRead plan.store i) built.0.plan built.1.read refl
+
+  read_stored : (i : ObjectId) → IsCommitRead some i → (object : Object) × (get some i ≡ Some object)
+  read_stored i c = (record { kind = object.Commit; bytes = c.bytes }, c.stored)
+
+  met_whole : AreWhole all (tips ++ ends) → (walk : Walk) → IsBuiltFrom some [] by tips ends (Ok walk) → AreWhole some (tips ++ ends)
+  met_whole whole walk built i r =
+      let c : IsCommitRead some i = was_read walk built i (from_either (text_next some) tips ends i (by_texts some (tips ++ ends) i r)) in
       stored_whole some all part i (whole i (reached_in_all some all part (tips ++ ends) i r)) (record { kind = object.Commit; bytes = c.bytes }) c.stored
 
-  lists_of_all : (old new : Option (List ℕ)) → Serves some old (Commits (Topo by) tips ends) (Ok tt) new → (ids : List ObjectId) × ListsDown all by tips ends ids × Appends old new (lines_of_ids ids)
+  lists_of_all : (old new : Option (List ℕ)) → Serves some [] old (Commits (Topo by) tips ends) (Ok tt) new → (ids : List ObjectId) × ListsRead all by tips ends ids × Appends old new (lines_of_ids ids)
   lists_of_all old new (walked_down walk infos built drawn written) =
-      let met : AreWhole some (tips ++ ends) = met_whole walk built in
-      let l = lists some by tips ends met old new (walked_down walk infos built drawn written) in
-      (l.0, lists_down_of_part some all part tips ends met by l.0 l.1, l.2)
+      let ids : List ObjectId = map (λ info. info.id) infos in (
+        ids,
+        record {
+          read =
+              lists_read_of_part some all part tips ends (λ i r. read_stored i (was_read walk built i (inl r))) (λ i r. read_stored i (was_read walk built i (inr r))) by ids
+              (listed_read some [] (none_agree some [] refl) by tips ends walk built infos drawn);
+          whole = λ whole. let met : AreWhole some (tips ++ ends) = met_whole whole walk built in lists_down_of_part some all part tips ends met by ids (listed some [] (none_agree some [] refl) by tips ends met walk built infos drawn);
+        },
+        subst (Appends old new) (lines_by_ids infos) written,
+      )
 
 pub topo_lists_of_part : TopoListsOfPart
-topo_lists_of_part words input records by tips ends old new all asked are part whole runs =
-    lists_of_all (stored records) all part by tips ends whole old new (served_so words input records (Commits (Topo by) tips ends) old new asked are runs)
+topo_lists_of_part words input records by tips ends old new all asked are part runs =
+    lists_of_all (stored records) all part by tips ends old new (served_so words input records (Commits (Topo by) tips ends) old new asked are runs)
 
 pub topo_succeeds : TopoSucceeds
-topo_succeeds words input records by tips ends answer old new asked are whole runs = ends_well words input records (Commits (Topo by) tips ends) answer old new asked are (well (stored records) by tips ends whole old) runs
+topo_succeeds words input records by tips ends answer old new asked are whole runs = ends_well words input records (Commits (Topo by) tips ends) answer old new asked are (well (stored records) [] (none_agree (stored records) [] refl) by tips ends whole old) runs

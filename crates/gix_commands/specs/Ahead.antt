@@ -3,24 +3,25 @@ use Rattle.std.specs.Prelude.{◌≡◌, ℕ, List, [], ◌∷◌, ◌++◌, len
 use Rattle.std.specs.Fmt.{digits}
 use Rattle.gix_hash.specs.declared.ObjectId.{ObjectId}
 use Rattle.gix_object.specs.Object.{Objects}
+use Rattle.gix_commitgraph.specs.Rows.{GraphRow}
 use Rattle.gix_revwalk.specs.declared.Info.{Info}
 use Rattle.gix_simple.specs.declared.Sorting.TheVariants as sorting
 use Rattle.gix_commands.specs.declared.fault.Fault.{Fault}
 use Rattle.gix_commands.specs.Walked.{Walk, Answers, IsWalkFault, StartsFrom, Ends}
 
 -- a walk breadth first from a tip, which hides what another commit reaches, gave commits and ended so
-pub record Draws (objects : Objects) (tip hidden : ObjectId) (infos : List Info) (answer : Result (Unit {0}) Fault) : Type 0 where
+pub record Draws (objects : Objects) (rows : List GraphRow) (tip hidden : ObjectId) (infos : List Info) (answer : Result (Unit {0}) Fault) : Type 0 where
   pub walk : Walk
-  pub starts : StartsFrom objects sorting.BreadthFirst (tip ∷ []) (hidden ∷ []) walk
+  pub starts : StartsFrom objects rows sorting.BreadthFirst (tip ∷ []) (hidden ∷ []) walk
   pub ends : Ends Answers IsWalkFault walk infos answer
 
 -- such a walk was drawn to its end, and gave so many commits
-abbrev pub Counts : Objects → ObjectId → ObjectId → ℕ → Type 0
-Counts objects tip hidden n = (infos : List Info) × Draws objects tip hidden infos (Ok tt) × (n ≡ length infos)
+abbrev pub Counts : Objects → List GraphRow → ObjectId → ObjectId → ℕ → Type 0
+Counts objects rows tip hidden n = (infos : List Info) × Draws objects rows tip hidden infos (Ok tt) × (n ≡ length infos)
 
 -- it ended by this fault
-abbrev pub FailsToCount : Objects → ObjectId → ObjectId → Fault → Type 0
-FailsToCount objects tip hidden e = (infos : List Info) × Draws objects tip hidden infos (Err e)
+abbrev pub FailsToCount : Objects → List GraphRow → ObjectId → ObjectId → Fault → Type 0
+FailsToCount objects rows tip hidden e = (infos : List Info) × Draws objects rows tip hidden infos (Err e)
 
 -- two numbers in decimal digits with a space between them, and a newline
 abbrev pub ahead_line : ℕ → ℕ → List ℕ

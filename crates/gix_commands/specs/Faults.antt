@@ -1,4 +1,6 @@
 -- Which fault of a run a fault of its input or of a walk is.
+use Rattle.gix_graph_check.specs.declared.Disagreement.{Disagreement}
+use Rattle.gix_graph_check.specs.declared.Disagreement.TheVariants as disagreement
 use Rattle.gix_records.specs.declared.Error.{Error as RecordsError}
 use Rattle.gix_records.specs.declared.Error.TheVariants as records
 use Rattle.gix_object.specs.declared.find.existing_iter.Error.{Error as ExistingError}
@@ -18,6 +20,11 @@ fault_of_records records.Read = fault.Read
 fault_of_records (records.Record n) = fault.Record n
 fault_of_records records.Memory = fault.Memory
 
+abbrev pub fault_of_disagreement : Disagreement → Fault
+fault_of_disagreement (disagreement.Row i) = fault.Disagrees i
+fault_of_disagreement (disagreement.Store i) = fault.Internal
+fault_of_disagreement disagreement.Memory = fault.Memory
+
 abbrev pub fault_of_find : ExistingError → Fault
 fault_of_find existing.Store = fault.Internal
 fault_of_find (existing.NotFound oid) = fault.Missing oid
@@ -32,7 +39,7 @@ fault_of_walk (error.HiddenGraph (hidden_by.Find e)) = fault_of_find e
 fault_of_walk (error.HiddenGraph (hidden_by.ObjectDecode e)) = fault.Broken
 fault_of_walk error.Memory = fault.Memory
 
--- without rows none is missing
+-- without rows, and with rows that agree with the store, none is missing
 abbrev pub fault_of_topo_walk : TopoError → Fault
 fault_of_topo_walk topo_error.MissingIndegreeUnexpected = fault.Internal
 fault_of_topo_walk topo_error.MissingStateUnexpected = fault.Internal

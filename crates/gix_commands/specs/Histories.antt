@@ -5,11 +5,15 @@ use Rattle.std.specs.FinMap.{get}
 use Rattle.std.specs.List.{flat_map}
 use Rattle.gix_hash.specs.declared.ObjectId.{ObjectId}
 use Rattle.gix_object.specs.Object.{Object, Objects}
+use Rattle.gix_commitgraph.specs.Rows.{GraphRow}
+use Rattle.gix_graph_store.specs.Laws.{StoredAgree}
+use Rattle.gix_graph_store.specs.WithRows.{with_rows}
 use Rattle.gix_revwalk.specs.declared.Info.{Info}
 use Rattle.gix_revwalk.specs.declared.Parents.TheVariants as mode
 use Rattle.gix_simple.specs.declared.Sorting.{Sorting}
 use Rattle.gix_topo.specs.declared.Sorting.{Sorting as TopoSorting}
 use Rattle.gix_revwalk.specs.Commits.{parents_of, commit_at, time_of}
+use Rattle.gix_revwalk.specs.Texts.{text_next}
 use Rattle.gix_hash.specs.Reach.{Reaches, Tells}
 use Rattle.gix_topo.specs.WalkSet.{IsInWalk, IsAcyclicIn}
 use Rattle.gix_revwalk.specs.Ids.{AreDistinct, new_ids}
@@ -23,13 +27,18 @@ use Rattle.gix_commands.specs.declared.words.Order.{Order}
 use Rattle.gix_commands.specs.declared.words.Order.TheVariants.{Simple, Topo}
 use Rattle.gix_commands.specs.Ahead.{Draws, ahead_line}
 use Rattle.gix_records.specs.Records.{Record, AreRecords, stored}
-use Rattle.gix_commands.specs.Run.{Runs}
+use Rattle.gix_commands.specs.Opening.{Opens}
+use Rattle.gix_commands.specs.Run.{Runs, RunsOver}
 use Rattle.gix_commands.specs.Walked.{line_of}
 use Rattle.gix_commands.specs.Words.{Ahead, Commits, request_of}
 
+-- the tips reach the commit through these parents, and the hidden tips don't
+abbrev pub IsShownBy : (ObjectId → List ObjectId) → List ObjectId → List ObjectId → ObjectId → Type 0
+IsShownBy next tips hidden i = Reaches next tips i × (Reaches next hidden i → ⊥)
+
 -- the tips reach the commit, and the hidden tips don't
 abbrev pub IsShown : Objects → List ObjectId → List ObjectId → ObjectId → Type 0
-IsShown objects tips hidden i = Reaches (parents_of objects) tips i × (Reaches (parents_of objects) hidden i → ⊥)
+IsShown objects = IsShownBy (parents_of objects)
 
 -- all that the ids reach are whole commits
 abbrev pub AreWhole : Objects → List ObjectId → Type 0
@@ -75,31 +84,36 @@ SimpleListsOfPart =
     (hidden ≡ [] → AreWhole objects tips) → Runs words (Some input) old (Ok tt) new →
     (ids : List ObjectId) × Lists objects by tips hidden ids × Appends old new (lines_of_ids ids)
 
--- No id is there twice, and each is one that the tips reach and the ends don't. All of these are there, where none of them is its own
--- ancestor. They are in the order that was asked for.
-pub record ListsDown (objects : Objects) (by : TopoSorting) (tips ends ids : List ObjectId) : Type 0 where
+-- No id is there twice, and each is one that the tips reach through these parents and the ends don't. All of these are there, where none of
+-- them is its own ancestor. They are in the order that was asked for.
+pub record ListsDown (objects : Objects) (next : ObjectId → List ObjectId) (by : TopoSorting) (tips ends ids : List ObjectId) : Type 0 where
   pub once : AreDistinct ids
-  pub shown : (i : ObjectId) → Contains ids i → IsShown objects tips ends i
-  pub all : IsAcyclicIn (parents_of objects) (IsShown objects tips ends) → (i : ObjectId) → IsShown objects tips ends i → Contains ids i
-  pub in_order : IsSorted by (time_of objects) (parents_of objects) (IsInWalk (parents_of objects) (parents_of objects) tips ends) tips ids
+  pub shown : (i : ObjectId) → Contains ids i → IsShownBy next tips ends i
+  pub all : IsAcyclicIn next (IsShownBy next tips ends) → (i : ObjectId) → IsShownBy next tips ends i → Contains ids i
+  pub in_order : IsSorted by (time_of objects) next (IsInWalk next next tips ends) tips ids
 
--- The same of `topo` and `date`.
+-- Parents are those that the texts of commits name, also where a text breaks off behind them. Where all that tips and ends reach are whole
+-- commits, these are their parents.
+pub record ListsRead (objects : Objects) (by : TopoSorting) (tips ends ids : List ObjectId) : Type 0 where
+  pub read : ListsDown objects (text_next objects) by tips ends ids
+  pub whole : AreWhole objects (tips ++ ends) → ListsDown objects (parents_of objects) by tips ends ids
+
+-- The same of `topo` and `date`, of which nothing is asked: a run that ends well has read all that it needs of what tips and ends reach.
 abbrev pub TopoLists : Type 0
 TopoLists =
     (words : List (List ℕ)) (input : List ℕ) (records : List Record) (by : TopoSorting) (tips ends : List ObjectId) (old new : Option (List ℕ)) →
-    request_of words ≡ Ok (Commits (Topo by) tips ends) → AreRecords records input → AreWhole (stored records) (tips ++ ends) →
-    Runs words (Some input) old (Ok tt) new →
-    (ids : List ObjectId) × ListsDown (stored records) by tips ends ids × Appends old new (lines_of_ids ids)
+    request_of words ≡ Ok (Commits (Topo by) tips ends) → AreRecords records input → Runs words (Some input) old (Ok tt) new →
+    (ids : List ObjectId) × ListsRead (stored records) by tips ends ids × Appends old new (lines_of_ids ids)
 
 -- Where the records are a part of a store, a run of `topo` or `date` that ends well writes such a list of the whole store, whatever else is
--- in it. This asks that all that tips and ends reach are whole commits of that store. Of the records it asks nothing more.
+-- in it.
 abbrev pub TopoListsOfPart : Type 0
 TopoListsOfPart =
     (words : List (List ℕ)) (input : List ℕ) (records : List Record) (by : TopoSorting) (tips ends : List ObjectId)
     (old new : Option (List ℕ)) (objects : Objects) →
     request_of words ≡ Ok (Commits (Topo by) tips ends) → AreRecords records input → IsPartOf (stored records) objects →
-    AreWhole objects (tips ++ ends) → Runs words (Some input) old (Ok tt) new →
-    (ids : List ObjectId) × ListsDown objects by tips ends ids × Appends old new (lines_of_ids ids)
+    Runs words (Some input) old (Ok tt) new →
+    (ids : List ObjectId) × ListsRead objects by tips ends ids × Appends old new (lines_of_ids ids)
 
 -- out of memory, or the input or the output failed
 abbrev pub IsOutside : Fault → Type 0
@@ -113,6 +127,9 @@ IsOutside (fault.Missing i) = ⊥
 IsOutside (fault.WrongKind i) = ⊥
 IsOutside fault.Broken = ⊥
 IsOutside (fault.Cycle i) = ⊥
+IsOutside (fault.Graph e) = ⊥
+IsOutside (fault.Row i) = ⊥
+IsOutside (fault.Disagrees i) = ⊥
 IsOutside fault.Internal = ⊥
 
 -- nothing in the words and the input was at fault
@@ -147,7 +164,7 @@ TopoSucceeds =
 -- that the tip reaches and the other doesn't, each once.
 abbrev pub DrawsDifference : Type 0
 DrawsDifference =
-    (objects : Objects) (tip hidden : ObjectId) (infos : List Info) → Draws objects tip hidden infos (Ok tt) →
+    (objects : Objects) (tip hidden : ObjectId) (infos : List Info) → Draws objects [] tip hidden infos (Ok tt) →
     AreDistinct (map (λ info. info.id) infos) × ((i : ObjectId) → Contains (map (λ info. info.id) infos) i ↔ IsShown objects (tip ∷ []) (hidden ∷ []) i)
 
 -- Over words that ask for it and records, a run of `ahead` that ends well writes how many commits the one reaches and the other
@@ -171,6 +188,46 @@ AheadCountsOfPart =
     (ahead behind : ℕ)
     × IsNumberOf (IsShown objects (one ∷ []) (other ∷ [])) ahead
     × IsNumberOf (IsShown objects (other ∷ []) (one ∷ [])) behind
+    × Appends old new (ahead_line ahead behind)
+
+-- The layers of a commit-graph are these rows, which can be used without a store, and what is stored at the id of one is the commit that
+-- it says.
+pub record AreTold (layers : List (List ℕ)) (records : List Record) (rows : List GraphRow) : Type 0 where
+  pub opens : Opens layers rows
+  pub agree : StoredAgree rows (stored records)
+
+-- what records and rows say of a history: the objects of the records, and where there is none at the id of a row the commit that the row says
+abbrev pub told : List GraphRow → List Record → Objects
+told rows records = with_rows rows (stored records)
+
+-- Over words that ask for `breadth`, `newest` or `oldest`, the layers of a commit-graph, and records, a run that ends well writes such a list
+-- of the history that rows and records say. Of the layers nothing is asked. Without hidden tips this asks that all that the tips reach
+-- in that history are whole commits.
+abbrev pub ToldSimpleLists : Type 0
+ToldSimpleLists =
+    (words layers : List (List ℕ)) (input : List ℕ) (records : List Record) (by : Sorting) (tips hidden : List ObjectId) (old new : Option (List ℕ)) →
+    request_of words ≡ Ok (Commits (Simple by) tips hidden) → AreRecords records input → RunsOver words layers (Some input) old (Ok tt) new →
+    (rows : List GraphRow) × AreTold layers records rows
+    × ((hidden ≡ [] → AreWhole (told rows records) tips)
+    → (ids : List ObjectId) × Lists (told rows records) by tips hidden ids × Appends old new (lines_of_ids ids))
+
+-- The same of `topo` and `date`, of which nothing is asked.
+abbrev pub ToldTopoLists : Type 0
+ToldTopoLists =
+    (words layers : List (List ℕ)) (input : List ℕ) (records : List Record) (by : TopoSorting) (tips ends : List ObjectId) (old new : Option (List ℕ)) →
+    request_of words ≡ Ok (Commits (Topo by) tips ends) → AreRecords records input → RunsOver words layers (Some input) old (Ok tt) new →
+    (rows : List GraphRow) × AreTold layers records rows
+    × (ids : List ObjectId) × ListsRead (told rows records) by tips ends ids × Appends old new (lines_of_ids ids)
+
+-- The same of `ahead`, of which nothing is asked.
+abbrev pub ToldAheadCounts : Type 0
+ToldAheadCounts =
+    (words layers : List (List ℕ)) (input : List ℕ) (records : List Record) (one other : ObjectId) (old new : Option (List ℕ)) →
+    request_of words ≡ Ok (Ahead one other) → AreRecords records input → RunsOver words layers (Some input) old (Ok tt) new →
+    (rows : List GraphRow) × AreTold layers records rows
+    × (ahead behind : ℕ)
+    × IsNumberOf (IsShown (told rows records) (one ∷ []) (other ∷ [])) ahead
+    × IsNumberOf (IsShown (told rows records) (other ∷ []) (one ∷ [])) behind
     × Appends old new (ahead_line ahead behind)
 
 -- A run that fails, and not by the writer, writes nothing, unless the words ask for a list of commits.

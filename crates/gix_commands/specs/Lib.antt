@@ -2,6 +2,7 @@ pub mod Faults
 pub mod Words
 pub mod Walked
 pub mod TopoWalked
+pub mod Opening
 pub mod Files
 pub mod Lister
 pub mod Ahead
@@ -9,4 +10,5 @@ pub mod Run
 pub mod Histories
 pub mod Listings
 pub mod Output
+pub mod WholeStatement
 pub mod Examples

@@ -1,8 +1,9 @@
 -- What a run of the program may answer and write.
-use Rattle.std.specs.Prelude.{◌≡◌, ℕ, List, Option, Result, Ok, Err}
+use Rattle.std.specs.Prelude.{◌≡◌, ℕ, List, [], Option, Result, Ok, Err}
 use Rattle.std.specs.Io.KnownBytes.{Appends}
 use Rattle.gix_hash.specs.declared.ObjectId.{ObjectId}
 use Rattle.gix_object.specs.Object.{Objects}
+use Rattle.gix_commitgraph.specs.Rows.{GraphRow}
 use Rattle.gix_revwalk.specs.declared.Info.{Info}
 use Rattle.gix_simple.specs.declared.Error.{Error}
 use Rattle.gix_simple.specs.declared.Sorting.{Sorting}
@@ -16,41 +17,46 @@ use Rattle.gix_commands.specs.declared.words.Order.TheVariants.{Simple, Topo}
 use Rattle.gix_commands.specs.Ahead.{Counts, FailsToCount, ahead_line}
 use Rattle.gix_commands.specs.Faults.{fault_of_walk, fault_of_topo_walk, fault_of_tree_walk}
 use Rattle.gix_commands.specs.Files.{RecordsTree, file_lines}
+use Rattle.gix_graph_check.specs.declared.Disagreement.TheVariants.{Row}
+use Rattle.gix_graph_store.specs.Laws.{StoredAgree}
+use Rattle.gix_graph_store.specs.StoredRows.{StoredDisagrees}
+use Rattle.gix_graph_store.specs.WithRows.{with_rows}
 use Rattle.gix_records.specs.Input.{Tells}
 use Rattle.gix_records.specs.Records.{Record, AreRecords, IsBadRecord, stored}
+use Rattle.gix_commands.specs.Opening.{Opens, FailsToOpen}
 use Rattle.gix_commands.specs.TopoWalked as topo
-use Rattle.gix_commands.specs.Walked.{Walk, Answers, IsWalkFault, StartsFrom, FailsAtStart, Ends, lines_of}
+use Rattle.gix_commands.specs.Walked.{Walk, Answers, IsWalkFault, StartsFrom, FailsAtStart, Ends, lines_of, never_faulty}
 use Rattle.gix_commands.specs.Words.{Request, Commits, Files, Ahead, request_of}
 
--- Over stored objects and a writer that has the bytes `old`: which answers a request may get, and which bytes the writer then has.
-pub data Serves (objects : Objects) (old : Option (List ℕ)) : Request → Result (Unit {0}) Fault → Option (List ℕ) → Type 0 where
+-- Over objects, rows for the walks of commits and a writer that has the bytes `old`: which answers a request may get, and which bytes the writer then has.
+pub data Serves (objects : Objects) (rows : List GraphRow) (old : Option (List ℕ)) : Request → Result (Unit {0}) Fault → Option (List ℕ) → Type 0 where
   -- the lines of the commits before a fault are written
   walked : {by : Sorting} {tips hidden : List ObjectId} (walk : Walk) (infos : List Info) {answer : Result (Unit {0}) Fault} {new : Option (List ℕ)}
-      → StartsFrom objects by tips hidden walk → Ends Answers IsWalkFault walk infos answer → Appends old new (lines_of infos)
-      → Serves objects old (Commits (Simple by) tips hidden) answer new
+      → StartsFrom objects rows by tips hidden walk → Ends Answers IsWalkFault walk infos answer → Appends old new (lines_of infos)
+      → Serves objects rows old (Commits (Simple by) tips hidden) answer new
   not_walked : {by : Sorting} {tips hidden : List ObjectId} (e : Error) → FailsAtStart objects by tips e
-      → Serves objects old (Commits (Simple by) tips hidden) (Err (fault_of_walk e)) old
+      → Serves objects rows old (Commits (Simple by) tips hidden) (Err (fault_of_walk e)) old
   walked_down : {by : TopoSorting} {tips ends : List ObjectId} (walk : topo.Walk) (infos : List Info) {answer : Result (Unit {0}) Fault} {new : Option (List ℕ)}
-      → topo.IsBuiltFrom objects by tips ends (Ok walk) → Ends topo.Answers topo.IsWalkFault walk infos answer → Appends old new (lines_of infos)
-      → Serves objects old (Commits (Topo by) tips ends) answer new
-  not_built : {by : TopoSorting} {tips ends : List ObjectId} (e : TopoError) → topo.IsBuiltFrom objects by tips ends (Err e)
-      → Serves objects old (Commits (Topo by) tips ends) (Err (fault_of_topo_walk e)) old
+      → topo.IsBuiltFrom objects rows by tips ends (Ok walk) → Ends topo.Answers topo.IsWalkFault walk infos answer → Appends old new (lines_of infos)
+      → Serves objects rows old (Commits (Topo by) tips ends) answer new
+  not_built : {by : TopoSorting} {tips ends : List ObjectId} (e : TopoError) → topo.IsBuiltFrom objects rows by tips ends (Err e)
+      → Serves objects rows old (Commits (Topo by) tips ends) (Err (fault_of_topo_walk e)) old
   listed : {tree : ObjectId} (recorder : Tracked) {new : Option (List ℕ)}
-      → RecordsTree objects tree recorder (Ok tt) → Appends old new (file_lines recorder.held.records) → Serves objects old (Files tree) (Ok tt) new
+      → RecordsTree objects tree recorder (Ok tt) → Appends old new (file_lines recorder.held.records) → Serves objects rows old (Files tree) (Ok tt) new
   -- of a tree whose walk failed no line is written
   not_listed : {tree : ObjectId} (recorder : Tracked) (e : TreeError) → RecordsTree objects tree recorder (Err e)
-      → Serves objects old (Files tree) (Err (fault_of_tree_walk e)) old
+      → Serves objects rows old (Files tree) (Err (fault_of_tree_walk e)) old
   counted : {one other : ObjectId} (ahead behind : ℕ) {new : Option (List ℕ)}
-      → Counts objects one other ahead → Counts objects other one behind → Appends old new (ahead_line ahead behind)
-      → Serves objects old (Ahead one other) (Ok tt) new
+      → Counts objects rows one other ahead → Counts objects rows other one behind → Appends old new (ahead_line ahead behind)
+      → Serves objects rows old (Ahead one other) (Ok tt) new
   -- of two commits one of whose walks failed nothing is written: the second walk is drawn once the first has ended well
-  not_ahead : {one other : ObjectId} {e : Fault} → FailsToCount objects one other e → Serves objects old (Ahead one other) (Err e) old
-  not_behind : {one other : ObjectId} {e : Fault} (ahead : ℕ) → Counts objects one other ahead → FailsToCount objects other one e
-      → Serves objects old (Ahead one other) (Err e) old
+  not_ahead : {one other : ObjectId} {e : Fault} → FailsToCount objects rows one other e → Serves objects rows old (Ahead one other) (Err e) old
+  not_behind : {one other : ObjectId} {e : Fault} (ahead : ℕ) → Counts objects rows one other ahead → FailsToCount objects rows other one e
+      → Serves objects rows old (Ahead one other) (Err e) old
   -- memory ran out before anything was written
-  unserved : {request : Request} → Serves objects old request (Err fault.Memory) old
+  unserved : {request : Request} → Serves objects rows old request (Err fault.Memory) old
   -- of what was written nothing is said
-  not_written : {request : Request} {new : Option (List ℕ)} → Serves objects old request (Err fault.Write) new
+  not_written : {request : Request} {new : Option (List ℕ)} → Serves objects rows old request (Err fault.Write) new
 
 -- Over these words, a reader that has the bytes `has` and a writer that has the bytes `old`: which answers a run may give, and which bytes
 -- the writer then has.
@@ -62,5 +68,24 @@ pub data Runs (words : List (List ℕ)) (has old : Option (List ℕ)) : Result (
   bad_record : (request : Request) (input : List ℕ) (n : ℕ) → request_of words ≡ Ok request → Tells has input → IsBadRecord n input
       → Runs words has old (Err (fault.Record n)) old
   served : (request : Request) (input : List ℕ) (records : List Record) {answer : Result (Unit {0}) Fault} {new : Option (List ℕ)}
-      → request_of words ≡ Ok request → Tells has input → AreRecords records input → Serves (stored records) old request answer new
+      → request_of words ≡ Ok request → Tells has input → AreRecords records input → Serves (stored records) [] old request answer new
       → Runs words has old answer new
+
+-- The same over the files of a commit-graph, lowest layer first: walks have its rows, and where nothing is stored at the id of a row there is
+-- the commit that the row says. Words are tested first, then the layers are opened, then the input is read, and then what is stored is
+-- compared with the rows.
+pub data RunsOver (words layers : List (List ℕ)) (has old : Option (List ℕ)) : Result (Unit {0}) Fault → Option (List ℕ) → Type 0 where
+  -- memory ran out before a walk was begun
+  without_memory : RunsOver words layers has old (Err fault.Memory) old
+  no_command : {e : Fault} → request_of words ≡ Err e → RunsOver words layers has old (Err e) old
+  not_opened : (request : Request) {e : Fault} → request_of words ≡ Ok request → FailsToOpen layers e → RunsOver words layers has old (Err e) old
+  not_read : (request : Request) (rows : List GraphRow) → request_of words ≡ Ok request → Opens layers rows
+      → RunsOver words layers has old (Err fault.Read) old
+  bad_record : (request : Request) (rows : List GraphRow) (input : List ℕ) (n : ℕ) → request_of words ≡ Ok request → Opens layers rows
+      → Tells has input → IsBadRecord n input → RunsOver words layers has old (Err (fault.Record n)) old
+  disagrees : (request : Request) (rows : List GraphRow) (input : List ℕ) (records : List Record) (i : ObjectId)
+      → request_of words ≡ Ok request → Opens layers rows → Tells has input → AreRecords records input
+      → StoredDisagrees (stored records) (never_faulty (stored records)) rows (Row i) → RunsOver words layers has old (Err (fault.Disagrees i)) old
+  served : (request : Request) (rows : List GraphRow) (input : List ℕ) (records : List Record) {answer : Result (Unit {0}) Fault} {new : Option (List ℕ)}
+      → request_of words ≡ Ok request → Opens layers rows → Tells has input → AreRecords records input → StoredAgree rows (stored records)
+      → Serves (with_rows rows (stored records)) rows old request answer new → RunsOver words layers has old answer new

@@ -4,10 +4,13 @@ ghost use Rattle.std.specs.Iterator.{IsFinite};
 ghost use Rattle.gix_commands.specs.Ahead.{Counts, FailsToCount, Numbers, ahead_line};
 ghost use Rattle.gix_commands.specs.Run.{Serves};
 ghost use Rattle.gix_commands.specs.Words.{Ahead};
+ghost use Rattle.gix_graph_store.specs.WithRows.{with_rows};
+ghost use Rattle.gix_revwalk.specs.Agreeing.{rows_in};
 
 use crate::commits::walk_from;
 use crate::fault::Fault;
 use crate::output::write_out;
+use gix_parts::graph::Graph;
 use gix_parts::hash::ObjectId;
 use gix_parts::object::memory::MemoryStore;
 use gix_traverse::commit::Info;
@@ -25,12 +28,13 @@ pub fn write_ahead<W: Write>(
     one: ObjectId,
     other: ObjectId,
     store: &MemoryStore,
+    graph: Option<&Graph>,
     writer: &mut W,
 ) -> Result<(), Fault>
-    ensures { Serves store.now (W.contents writer.old) (Ahead one other) result (W.contents writer.new) }
+    ensures { Serves (with_rows (rows_in graph.entry) store.now) (rows_in graph.entry) (W.contents writer.old) (Ahead one other) result (W.contents writer.new) }
 {
-    let ahead = count(alloc, one, other, store)?;
-    let behind = count(alloc, other, one, store)?;
+    let ahead = count(alloc, one, other, store, graph)?;
+    let behind = count(alloc, other, one, store, graph)?;
     let mut line = line_of(alloc, ahead, behind)?;
     write_out(&mut line, writer)
 }
@@ -41,13 +45,14 @@ fn count(
     tip: ObjectId,
     hidden: ObjectId,
     store: &MemoryStore,
+    graph: Option<&Graph>,
 ) -> Result<usize, Fault>
-    ensures ok { IfOk result (Counts store.now tip hidden) }
-    ensures err { IfErr result (λ e. e ≢ Fault.Memory → FailsToCount store.now tip hidden e) }
+    ensures ok { IfOk result (Counts (with_rows (rows_in graph.entry) store.now) (rows_in graph.entry) tip hidden) }
+    ensures err { IfErr result (λ e. e ≢ Fault.Memory → FailsToCount (with_rows (rows_in graph.entry) store.now) (rows_in graph.entry) tip hidden e) }
 {
     let tips = alone(alloc, tip)?;
     let hidden = alone(alloc, hidden)?;
-    let walk = walk_from(alloc, Sorting::BreadthFirst, tips, hidden, store)?;
+    let walk = walk_from(alloc, Sorting::BreadthFirst, tips, hidden, store, graph)?;
     number_of_commits(walk)
 }
 

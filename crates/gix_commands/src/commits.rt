@@ -1,9 +1,13 @@
 //! Walks over stored commits.
-ghost use Rattle.std.specs.Prelude.{Ok, IfErr, IfOk};
+ghost use Rattle.std.specs.Prelude.{◌≡◌, Ok, IfErr, IfOk};
+ghost use Rattle.gix_revwalk.specs.Agreeing.{rows_in, rows_of};
+ghost use Rattle.gix_graph_store.specs.WithRows.{with_rows};
 ghost use Rattle.gix_commands.specs.TopoWalked as topo_walk;
 ghost use Rattle.gix_commands.specs.Walked.{IsStartFault, StartsFrom};
 
 use crate::fault::Fault;
+use gix_graph_store::WithRows;
+use gix_parts::graph::Graph;
 use gix_parts::hash::ObjectId;
 use gix_parts::object::Kind;
 use gix_parts::object::find::{self, Find};
@@ -11,25 +15,38 @@ use gix_parts::object::memory::MemoryStore;
 use gix_traverse::commit::simple::Sorting;
 use gix_traverse::commit::topo::{self, Builder, Topo};
 use gix_traverse::commit::{Simple, Unfiltered};
-use std::alloc::Global;
+use std::alloc::{AllocError, Global};
 use std::marker::Model;
 
-/// A store that several walks read, one after another. The model of it is the objects that it holds.
+/// A store that several walks read, one after another, and that has a commit for each row of a commit-graph beside its objects, if there
+/// is one. The model of it is what it has.
 #[derive(Drop)]
 pub struct Lent<'a> {
-    store: &'a MemoryStore,
+    store: WithRows<'a, &'a MemoryStore>,
 }
 
 impl<'a> Model for Lent<'a> {
     ghost use Rattle.std.specs.FinMap as map;
     ghost use Rattle.gix_hash.specs.Id.{id_code};
     ghost use Rattle.gix_object.specs.Object.{Objects, object_code};
+    ghost use Rattle.gix_graph_store.specs.WithRows.{objects_with};
 
     ghost Value = { Objects };
 
     ghost coded = { map.code id_code object_code };
 
-    ghost view = { λ s. s.store.now };
+    ghost view = { λ s. objects_with (λ store. store.now) s.store };
+}
+
+impl<'a> Lent<'a> {
+    /// The store with these rows, if there are any.
+    pub fn over(store: &'a MemoryStore, graph: Option<&'a Graph>) -> Lent<'a>
+        ensures { result ≡ with_rows (rows_in graph.entry) store.now }
+    {
+        Lent {
+            store: WithRows::new(store, graph),
+        }
+    }
 }
 
 impl Find for Lent<'_> {
@@ -42,7 +59,17 @@ impl Find for Lent<'_> {
     }
 }
 
-/// A walk in this order from these tips, which hides what the hidden ones reach.
+// The rows again, for a walk to hold.
+fn copy_of(graph: Option<&Graph>) -> Result<Option<Graph>, AllocError>
+    ensures { IfOk result (λ copy. rows_of copy ≡ rows_in graph.entry) }
+{
+    match graph {
+        Some(graph) => Ok(Some(graph.copy()?)),
+        None => Ok(None),
+    }
+}
+
+/// A walk in this order from these tips, which hides what the hidden ones reach, over a store and rows.
 ///
 /// # Errors
 /// The fault of the first tip whose time can't be read, in an order by time. `Memory`.
@@ -52,32 +79,37 @@ pub fn walk_from<'a>(
     tips: Vec<ObjectId>,
     hidden: Vec<ObjectId>,
     store: &'a MemoryStore,
+    graph: Option<&'a Graph>,
 ) -> Result<Simple<Lent<'a>, Unfiltered>, Fault>
-    ensures ok { IfOk result (StartsFrom store.now sorting tips.items hidden.items) }
-    ensures err { IfErr result (IsStartFault store.now sorting tips.items) }
+    ensures ok { IfOk result (StartsFrom (with_rows (rows_in graph.entry) store.now) (rows_in graph.entry) sorting tips.items hidden.items) }
+    ensures err { IfErr result (IsStartFault (with_rows (rows_in graph.entry) store.now) sorting tips.items) }
 {
-    let made = Simple::new(alloc, tips, Lent { store })?;
+    let rows = copy_of(graph)?;
+    let made = Simple::new(alloc, tips, Lent::over(store, graph))?;
     let sorted = made.sorting(sorting)?;
     let walk = sorted.hide(hidden)?;
-    Ok(walk)
+    Ok(walk.commit_graph(rows))
 }
 
-/// A walk from these tips in which no commit comes before its children, without what the ends reach.
+/// A walk from these tips in which no commit comes before its children, without what the ends reach, over a store and rows.
 ///
 /// # Errors
 /// The fault of the first object that can't be read of what tips or ends reach. `Memory`.
-pub fn topo_walk_from(
+pub fn topo_walk_from<'a>(
     alloc: Global,
     sorting: topo::Sorting,
     tips: Vec<ObjectId>,
     ends: Vec<ObjectId>,
-    store: MemoryStore,
-) -> Result<Topo<MemoryStore, Unfiltered>, Fault>
-    ensures ok { IfOk result (λ walk. topo_walk.IsBuiltFrom store sorting tips.items ends.items (Ok walk)) }
-    ensures err { IfErr result (topo_walk.IsStartFault store sorting tips.items ends.items) }
+    store: &'a MemoryStore,
+    graph: Option<&'a Graph>,
+) -> Result<Topo<Lent<'a>, Unfiltered>, Fault>
+    ensures ok { IfOk result (λ walk. topo_walk.IsBuiltFrom (with_rows (rows_in graph.entry) store.now) (rows_in graph.entry) sorting tips.items ends.items (Ok walk)) }
+    ensures err { IfErr result (topo_walk.IsStartFault (with_rows (rows_in graph.entry) store.now) (rows_in graph.entry) sorting tips.items ends.items) }
 {
-    let from_tips = Builder::new(alloc, store).with_tips(tips)?;
+    let rows = copy_of(graph)?;
+    let from_tips = Builder::new(alloc, Lent::over(store, graph)).with_tips(tips)?;
     let builder = from_tips.with_ends(ends)?;
-    let walk = builder.sorting(sorting).build()?;
+    let ordered = builder.sorting(sorting);
+    let walk = ordered.with_commit_graph(rows).build()?;
     Ok(walk)
 }

@@ -1,6 +1,8 @@
 //! Why a run failed.
 ghost use Rattle.std.specs.Prelude.{◌≡◌};
 
+use gix_graph_check::Disagreement;
+use gix_graph_file::ChainError;
 use gix_parts::hash::ObjectId;
 use gix_parts::object::find::existing_iter;
 use gix_parts::records;
@@ -33,6 +35,17 @@ pub enum Fault {
     /// The tree of this id is under itself.
     #[error("cycle {0}")]
     Cycle(ObjectId),
+    /// The layers are no commit-graph that can be read. Nothing is written, and of the input nothing is read.
+    #[error("bad commit-graph: {0}")]
+    Graph(ChainError),
+    /// The row of this id can't be used without a store: it is the first, in rising order of ids, that has a parent without a row or
+    /// of no lesser generation, or that has the generation 4294967295. Nothing is written, and of the input nothing is read.
+    #[error("bad row {0} in the commit-graph")]
+    Row(ObjectId),
+    /// The input has an object of this id that isn't the commit that the row of the id says: it is no commit that can be read to its
+    /// committer, or has another tree, time or list of parents. It is the first such row, in rising order of ids. Nothing is written.
+    #[error("commit-graph disagrees with {0}")]
+    Disagrees(ObjectId),
     /// Memory ran out.
     #[error("out of memory")]
     Memory,
@@ -68,6 +81,20 @@ impl From<records::Error> for Fault {
             records::Error::Read => Fault::Read,
             records::Error::Record(number) => Fault::Record(number),
             records::Error::Memory => Fault::Memory,
+        }
+    }
+}
+
+impl From<Disagreement> for Fault {
+    ghost use Rattle.gix_commands.specs.Faults.{fault_of_disagreement};
+
+    ghost from_gives = { λ e r. r ≡ fault_of_disagreement e };
+
+    fn from(error: Disagreement) -> Fault {
+        match error {
+            Disagreement::Row(id) => Fault::Disagrees(id),
+            Disagreement::Store(_) => Fault::Internal,
+            Disagreement::Memory => Fault::Memory,
         }
     }
 }

@@ -5,11 +5,15 @@ ghost use Rattle.gix_commands.specs.Files.{AreLinesOf, IsTreeFault, file_line, s
 ghost use Rattle.gix_commands.specs.Lister.{line_at};
 ghost use Rattle.gix_commands.specs.Run.{Serves};
 ghost use Rattle.gix_commands.specs.Words.{Files};
+ghost use Rattle.gix_graph_store.specs.WithRows.{with_rows};
+ghost use Rattle.gix_revwalk.specs.Agreeing.{rows_in};
 
+use crate::commits::Lent;
 use crate::digits::add_id;
 use crate::fault::Fault;
 use crate::output::write_out;
 use bstr::BStr;
+use gix_parts::graph::Graph;
 use gix_parts::hash::ObjectId;
 use gix_parts::object::memory::MemoryStore;
 use gix_parts::object::tree::EntryRef;
@@ -28,19 +32,20 @@ use std::ops::ControlFlow;
 pub fn write_files<W: Write>(
     alloc: Global,
     tree: ObjectId,
-    store: MemoryStore,
+    store: &MemoryStore,
+    graph: Option<&Graph>,
     writer: &mut W,
 ) -> Result<(), Fault>
-    ensures { Serves store (W.contents writer.old) (Files tree) result (W.contents writer.new) }
+    ensures { Serves (with_rows (rows_in graph.entry) store.now) (rows_in graph.entry) (W.contents writer.old) (Files tree) result (W.contents writer.new) }
 {
-    let mut lines = lines_of_tree(alloc, tree, store)?;
+    let mut lines = lines_of_tree(alloc, tree, Lent::over(store, graph))?;
     write_out(&mut lines, writer)
 }
 
 // A line for each entry of the tree of this id and of the trees in it.
-fn lines_of_tree(alloc: Global, tree: ObjectId, store: MemoryStore) -> Result<Vec<u8>, Fault>
-    ensures ok { IfOk result (λ lines. AreLinesOf store tree lines.items) }
-    ensures err { IfErr result (IsTreeFault store tree) }
+fn lines_of_tree(alloc: Global, tree: ObjectId, store: Lent<'_>) -> Result<Vec<u8>, Fault>
+    ensures ok { IfOk result (λ lines. AreLinesOf store.entry tree lines.items) }
+    ensures err { IfErr result (IsTreeFault store.entry tree) }
 {
     let mut lister = Lister {
         recorder: Recorder::new(alloc),

@@ -2,6 +2,7 @@
 
 ghost use Rattle.gix_commands.specs.Histories.{AheadCounts, AheadCountsOfPart, AheadSucceeds, DrawsDifference, FailsSilently};
 ghost use Rattle.gix_commands.specs.Histories.{SimpleLists, SimpleListsOfPart, SimpleSucceeds, TopoLists, TopoListsOfPart, TopoSucceeds};
+ghost use Rattle.gix_commands.specs.Histories.{ToldAheadCounts, ToldSimpleLists, ToldTopoLists};
 ghost use Rattle.gix_commands.specs.Listings.{FilesLists, FilesListsOfPart, FilesSucceeds};
 
 /// `breadth`, `newest` and `oldest` write the ids of exactly the commits that the tips reach and the hidden ones don't, each once, in
@@ -22,14 +23,15 @@ pub fn simple_succeeds()
     ensures { SimpleSucceeds }
 {}
 
-/// `topo` and `date` write, where all that is reached are whole commits, the ids of commits that the tips reach and the ends don't, each
-/// once, in their order; and all of these commits, where none of them is its own ancestor.
+/// `topo` and `date` write the ids of commits that the tips reach and the ends don't, each once, in their order; and all of these commits,
+/// where none of them is its own ancestor. Nothing is asked of the records. Parents are those that the texts of commits name, and a commit
+/// whose text breaks off before its committer has the time 0; where all that is reached are whole commits, these are their parents.
 pub fn topo_lists()
     ensures { TopoLists }
 {}
 
 /// Where the records are a part of a repository, such a list of `topo` or `date` is right of the whole repository, whatever else is in it.
-/// This asks that all that tips and ends reach are whole commits of the repository. Of the records it asks nothing more.
+/// Nothing more is asked, of the records or of the repository.
 pub fn topo_lists_of_part()
     ensures { TopoListsOfPart }
 {}
@@ -76,6 +78,23 @@ pub fn ahead_counts_of_part()
 /// Where all that the two ids reach are whole commits, `ahead` fails for memory, reading or writing alone.
 pub fn ahead_succeeds()
     ensures { AheadSucceeds }
+{}
+
+/// Over a commit-graph, `breadth`, `newest` and `oldest` write such a list of the history that the rows and the records say. Of the
+/// commit-graph nothing is asked: a run that ends well has read it, its rows can be used without a store, and they say what the records
+/// say. Without hidden tips this asks that all that the tips reach in that history are whole commits.
+pub fn told_simple_lists()
+    ensures { ToldSimpleLists }
+{}
+
+/// Over a commit-graph, so do `topo` and `date`, of which nothing is asked at all.
+pub fn told_topo_lists()
+    ensures { ToldTopoLists }
+{}
+
+/// Over a commit-graph, `ahead` writes the numbers of commits that one id reaches in that history and the other doesn't.
+pub fn told_ahead_counts()
+    ensures { ToldAheadCounts }
 {}
 
 /// A run that fails, and not by the writer, writes nothing, unless the words ask for a list of commits.

@@ -1,31 +1,40 @@
 //! The commands of the program: which commits some commits reach, and which files a tree holds, from a stream of a repository's objects
 //! to a line for each.
 //!
-//! [`run`] takes the words of a command, a reader of records and a writer. What it writes is stated by the laws of [`laws`].
+//! [`run`] takes the words of a command, a reader of records and a writer; [`run_over`] also takes the files of a commit-graph. What they
+//! write is stated by the laws of [`laws`].
 #![tactic(auto)]
 
 ghost use Rattle.std.specs.Prelude.{◌≡◌, ◌≢◌, ℕ, List, map, Some, Err, string_bytes};
 ghost use Rattle.gix_records.specs.Records.{Record, AreRecords};
 ghost use Rattle.gix_commands.specs.Run.{Runs, Serves};
+ghost use Rattle.gix_commands.specs.WholeStatement.{Promises};
 ghost use Rattle.gix_commands.specs.Words.{Commits, request_of, request_of_command};
+ghost use Rattle.gix_graph_store.specs.WithRows.{with_rows};
+ghost use Rattle.gix_revwalk.specs.Agreeing.{rows_in};
 
 mod ahead;
 mod commits;
 mod digits;
 mod fault;
 mod files;
+mod graph;
 pub mod laws;
 mod output;
+mod over;
 mod words;
 
 use ahead::write_ahead;
 use commits::{topo_walk_from, walk_from};
 pub use fault::Fault;
 use files::write_files;
+use gix_parts::graph::Graph;
 use gix_parts::hash::ObjectId;
 use gix_parts::object::memory::MemoryStore;
 use gix_parts::records;
+pub use graph::write_heads;
 use output::write_commits;
+pub use over::run_over;
 use std::alloc::Global;
 use std::io::{Read, Write};
 use words::{Command, Order, read_command};
@@ -55,29 +64,32 @@ pub fn run<R: Read, W: Write>(
     // Input that is records is never rejected.
     ensures spelled { (input : List ℕ) (records : List Record) (n : ℕ) → R.remaining reader.old ≡ Some input → AreRecords records input → result ≢ Err (Fault.Record n) }
     ensures sound { result ≢ Err Fault.Internal }
+    // What was written by a run that ended well, from lists of bytes up: this is all that a reader has to believe of such a run.
+    ensures whole { Promises (map string_bytes words.now) (R.remaining reader.old) (W.contents writer.old) result (W.contents writer.new) }
 {
     let command = read_command(alloc, words)?;
     let store = records::read(alloc, reader)?;
-    serve(alloc, command, store, writer)
+    serve(alloc, command, &store, None, writer)
 }
 
 // Writes what a command asks for.
 fn serve<W: Write>(
     alloc: Global,
     command: Command,
-    store: MemoryStore,
+    store: &MemoryStore,
+    graph: Option<&Graph>,
     writer: &mut W,
 ) -> Result<(), Fault>
-    ensures { Serves store (W.contents writer.old) (request_of_command command) result (W.contents writer.new) }
+    ensures { Serves (with_rows (rows_in graph.entry) store.now) (rows_in graph.entry) (W.contents writer.old) (request_of_command command) result (W.contents writer.new) }
 {
     match command {
         Command::Commits {
             order,
             tips,
             hidden,
-        } => serve_commits(alloc, order, tips, hidden, store, writer),
-        Command::Files(tree) => write_files(alloc, tree, store, writer),
-        Command::Ahead { one, other } => write_ahead(alloc, one, other, &store, writer),
+        } => serve_commits(alloc, order, tips, hidden, store, graph, writer),
+        Command::Files(tree) => write_files(alloc, tree, store, graph, writer),
+        Command::Ahead { one, other } => write_ahead(alloc, one, other, store, graph, writer),
     }
 }
 
@@ -87,18 +99,19 @@ fn serve_commits<W: Write>(
     order: Order,
     tips: Vec<ObjectId>,
     hidden: Vec<ObjectId>,
-    store: MemoryStore,
+    store: &MemoryStore,
+    graph: Option<&Graph>,
     writer: &mut W,
 ) -> Result<(), Fault>
-    ensures { Serves store (W.contents writer.old) (Commits order tips.items hidden.items) result (W.contents writer.new) }
+    ensures { Serves (with_rows (rows_in graph.entry) store.now) (rows_in graph.entry) (W.contents writer.old) (Commits order tips.items hidden.items) result (W.contents writer.new) }
 {
     match order {
         Order::Simple(sorting) => {
-            let walk = walk_from(alloc, sorting, tips, hidden, &store)?;
+            let walk = walk_from(alloc, sorting, tips, hidden, store, graph)?;
             write_commits(alloc, walk, writer)
         }
         Order::Topo(sorting) => {
-            let walk = topo_walk_from(alloc, sorting, tips, hidden, store)?;
+            let walk = topo_walk_from(alloc, sorting, tips, hidden, store, graph)?;
             write_commits(alloc, walk, writer)
         }
     }

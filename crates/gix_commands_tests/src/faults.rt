@@ -1,5 +1,6 @@
 //! The texts of all faults.
 use gix_commands::Fault;
+use gix_graph_file::{ChainError, Error};
 use gix_parts::hash::ObjectId;
 use std::test::Fail;
 
@@ -22,6 +23,18 @@ fn prints_its_text(rt: HostRuntime) -> Result<(), Fail> {
         (
             Fault::Cycle(id),
             "cycle 1111111111111111111111111111111111111111",
+        ),
+        (
+            Fault::Graph(ChainError::Layer(1, Error::Base)),
+            "bad commit-graph: layer 1: the chunk BASE isn't the hashes of the layers below",
+        ),
+        (
+            Fault::Row(id),
+            "bad row 1111111111111111111111111111111111111111 in the commit-graph",
+        ),
+        (
+            Fault::Disagrees(id),
+            "commit-graph disagrees with 1111111111111111111111111111111111111111",
         ),
         (Fault::Memory, "out of memory"),
         (Fault::Read, "read failed"),

@@ -122,6 +122,7 @@ mod breadth;
 mod by_time;
 mod files;
 mod hidden;
+mod over;
 mod records;
 mod streams;
 mod topo;

@@ -18,7 +18,7 @@ use Rattle.gix_revwalk.specs.Commits.{by_mode}
 use Rattle.gix_revwalk.specs.declared.Info.{Info}
 use Rattle.gix_simple.specs.declared.Error.{Error}
 use Rattle.gix_revwalk.specs.declared.Pending.{Pending}
-use Rattle.gix_simple.specs.Walk.{SimpleWalk, Treated, unrowed, asked, IsNew, Asks, remembers, asks, Treats, hidden, known, refused, accepted, store_fails, no_memory, no_memory_after, TreatsAll, none, more, stops, Concludes, given, broken, Takes, by_row, by_store, not_found, Steps, ended, took, painted, Next, unhidden, paints, faulty_history}
+use Rattle.gix_simple.specs.Walk.{SimpleWalk, Treated, unrowed, asked, IsNew, Asks, remembers, asks, Treats, hidden, known, refused, accepted, store_fails, no_memory, no_memory_after, TreatsAll, none, more, stops, Concludes, given, broken, Takes, by_row, by_store, not_found, Steps, ended, took, painted, FirstStep, unhidden, paints, faulty_history, Next, initial, later}
 use Rattle.gix_revwalk.specs.Texts.{text_parents}
 use Rattle.gix_simple.specs.Building.{outdated, timed, IsBuilt, made, breadth_first, by_time, hides, walks, reads}
 use Rattle.gix_revwalk.specs.Ids.{AreDistinct}
@@ -153,14 +153,18 @@ module _ {F P : Type 0} (objects : F → Objects) (faulty : F → ObjectId → T
   steps_asked w (no_memory some) n a = (same_asked refl refl refl a, same_source refl refl refl)
   steps_asked w (took {taken = p} {others = others} chooses takes) n a = let k = takes_asked (record w { pending = others }) p takes n (same_asked refl refl refl a) in (k.0, record { store = k.1.store; parents = k.1.parents; rows = k.1.rows })
 
-  next_asked : (w : SimpleWalk F P) {o : Option (Result Info Error)} {new : SimpleWalk F P} → Next objects faulty answers w o new → Names w → Asked w → Asked new × SameSource w new
-  next_asked w (unhidden unpainted steps) n a = let k = steps_asked (record w { hidden_tips = [] }) steps n (same_asked refl refl refl a) in (k.0, record { store = k.1.store; parents = k.1.parents; rows = k.1.rows })
-  next_asked w (paints {marks = marks} {rows = rows} some tips_given paint steps) n a =
+  first_asked : (w : SimpleWalk F P) {o : Option (Result Info Error)} {new : SimpleWalk F P} → FirstStep objects faulty answers w o new → Names w → Asked w → Asked new × SameSource w new
+  first_asked w (unhidden unpainted steps) n a = let k = steps_asked (record w { hidden_tips = [] }) steps n (same_asked refl refl refl a) in (k.0, record { store = k.1.store; parents = k.1.parents; rows = k.1.rows })
+  first_asked w (paints {marks = marks} {rows = rows} some tips_given paint steps) n a =
       let left : SameSource w (painted objects faulty answers w marks rows) = record { store = refl; parents = refl; rows = paint.rows_left } in
       let k = steps_asked (painted objects faulty answers w marks rows) steps (names_then left n) (same_asked refl refl refl a) in
       (k.0, source_then left k.1)
-  next_asked w (faulty_history some tips_given left fault) n a = (same_asked refl refl refl a, record { store = refl; parents = refl; rows = left })
-  next_asked w (no_memory some tips_given left) n a = (same_asked refl refl refl a, record { store = refl; parents = refl; rows = left })
+  first_asked w (faulty_history some tips_given left fault) n a = (same_asked refl refl refl a, record { store = refl; parents = refl; rows = left })
+  first_asked w (no_memory some tips_given left) n a = (same_asked refl refl refl a, record { store = refl; parents = refl; rows = left })
+
+  next_asked : (w : SimpleWalk F P) {o : Option (Result Info Error)} {new : SimpleWalk F P} → Next objects faulty answers w o new → Names w → Asked w → Asked new × SameSource w new
+  next_asked w (initial fresh s) n a = let k = first_asked (record w { begun = true }) s n (same_asked refl refl refl a) in (k.0, record { store = k.1.store; parents = k.1.parents; rows = k.1.rows })
+  next_asked w (later begun s) n a = steps_asked w s n a
 
   drawn_asked : (list : List (Result Info Error)) (w new : SimpleWalk F P) → Yields (Next objects faulty answers) w list new → Names w → Asked w → Asked new
   drawn_asked [] w new d n a = subst Asked d a

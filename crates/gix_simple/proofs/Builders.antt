@@ -83,6 +83,7 @@ module _ {F P : Type 0} (objects : F → Objects) (faulty : F → ObjectId → T
     seen : (i : ObjectId) → set.contains walk.seen i ≡ true → (is_among i (ids_of walk.pending) ≡ true) ⊎ (accepts i ≡ false)
     remembered : (i : ObjectId) → set.contains walk.remembered i ≡ true → accepts i ≡ true
     shown : (i : ObjectId) → set.contains walk.hidden i ≡ false
+    unbegun : walk.begun ≡ false
     timely : (order : CommitTimeOrder) → time_order mode.All walk.sorting ≡ Some order → (p : Pending) → Contains walk.pending p → p.time ≡ time_of (objects walk.store) p.id
 
   made_built : (tips : List ObjectId) (walk : SimpleWalk F P) → IsMade objects faulty answers store predicate tips walk → Built walk
@@ -97,6 +98,7 @@ module _ {F P : Type 0} (objects : F → Objects) (faulty : F → ObjectId → T
         seen = λ i h. ⊎_elim (λ c. inl (among_from i (ids_of walk.pending) c)) inr (new.fresh.seen i h);
         remembered = new.fresh.remembered;
         shown = new.fresh.shown;
+        unbegun = new.fresh.unbegun;
         timely = λ order e. timeless new.breadth_first e;
       }
     where
@@ -120,6 +122,7 @@ module _ {F P : Type 0} (objects : F → Objects) (faulty : F → ObjectId → T
         ⊎_elim (λ there. inl (is_kept i there both.1)) inr (b.seen i both.0);
     remembered = λ i h. ⊎_elim (b.remembered i) (λ o. b.accepted i (and_parts _ _ (sym (outdated_among found limit old.pending i) ∙ o)).1) (or_cases _ _ (sym (s.remembered i) ∙ h));
     shown = λ i. ap (λ w. set.contains w.hidden i) s.others ∙ b.shown i;
+    unbegun = ap (λ w. w.begun) s.others ∙ b.unbegun;
     timely = λ order e p c. recent_timed found limit old.pending p (subst (λ ps. Contains ps p) s.pending c) ∙ ap (λ f. time_of (objects f) p.id) (sym stored);
   }
     where
@@ -154,6 +157,7 @@ module _ {F P : Type 0} (objects : F → Objects) (faulty : F → ObjectId → T
     seen = λ i h. ⊎_elim (λ e. inl (among_is i (ids_of walk.pending) e)) inr (b.seen i h);
     remembered = b.remembered;
     shown = b.shown;
+    unbegun = b.unbegun;
     timed = λ order e. b.timely order (in_force walk.parents walk.sorting order e);
   }
 
@@ -161,17 +165,17 @@ module _ {F P : Type 0} (objects : F → Objects) (faulty : F → ObjectId → T
   built_all tips (made {walk = walk} m) = made_built tips walk m
   built_all tips (breadth_first {walk = walk} b) =
       let w : Built walk = built_all tips b in
-      record { tested = w.tested; same_store = w.same_store; once = w.once; pending_seen = w.pending_seen; accepted = w.accepted; seen = w.seen; remembered = w.remembered; shown = w.shown; timely = λ order e. cc }
+      record { tested = w.tested; same_store = w.same_store; once = w.once; pending_seen = w.pending_seen; accepted = w.accepted; seen = w.seen; remembered = w.remembered; shown = w.shown; unbegun = w.unbegun; timely = λ order e. cc }
   built_all tips (by_time {walk = walk} {new = new} {by = sorting} b s) = by_time_built walk new sorting (built_all tips b) s
   built_all tips (hides {walk = walk} b) =
       let w : Built walk = built_all tips b in
-      record { tested = w.tested; same_store = w.same_store; once = w.once; pending_seen = w.pending_seen; accepted = w.accepted; seen = w.seen; remembered = w.remembered; shown = w.shown; timely = w.timely }
+      record { tested = w.tested; same_store = w.same_store; once = w.once; pending_seen = w.pending_seen; accepted = w.accepted; seen = w.seen; remembered = w.remembered; shown = w.shown; unbegun = w.unbegun; timely = w.timely }
   built_all tips (walks {walk = walk} b) =
       let w : Built walk = built_all tips b in
-      record { tested = w.tested; same_store = w.same_store; once = w.once; pending_seen = w.pending_seen; accepted = w.accepted; seen = w.seen; remembered = w.remembered; shown = w.shown; timely = w.timely }
+      record { tested = w.tested; same_store = w.same_store; once = w.once; pending_seen = w.pending_seen; accepted = w.accepted; seen = w.seen; remembered = w.remembered; shown = w.shown; unbegun = w.unbegun; timely = w.timely }
   built_all tips (reads {walk = walk} b) =
       let w : Built walk = built_all tips b in
-      record { tested = w.tested; same_store = w.same_store; once = w.once; pending_seen = w.pending_seen; accepted = w.accepted; seen = w.seen; remembered = w.remembered; shown = w.shown; timely = w.timely }
+      record { tested = w.tested; same_store = w.same_store; once = w.once; pending_seen = w.pending_seen; accepted = w.accepted; seen = w.seen; remembered = w.remembered; shown = w.shown; unbegun = w.unbegun; timely = w.timely }
 
   -- the law
   pub built : (tips : List ObjectId) (walk : SimpleWalk F P) → IsBuilt objects faulty answers store predicate tips walk → IsFresh objects walk accepts × AnswersBy answers walk.predicate accepts × (walk.store ≡ store)

@@ -26,7 +26,7 @@ use Rattle.gix_revwalk.specs.Commits.{ReadsWhole, commit_at, parents_of, walked_
 use Rattle.gix_revwalk.specs.Ids.{AreDistinct, ids_of, new_ids}
 use Rattle.gix_simple.specs.Building.{IsBuilt, made, breadth_first, by_time, hides, walks, reads, IsUncut, recent, timed}
 use Rattle.gix_simple.specs.Laws.{IsFresh, IsGiven, IsNoRefusal, IsWholeRun, GivesInOrder, GivesDifference, given_ids, kept_parents, next_of, starts_of}
-use Rattle.gix_simple.specs.Walk.{SimpleWalk, Next, unhidden, paints, faulty_history, no_memory, cutoff, time_order}
+use Rattle.gix_simple.specs.Walk.{SimpleWalk, FirstStep, unhidden, paints, faulty_history, no_memory, Next, initial, later, cutoff, time_order}
 use Rattle.gix_hash.proofs.Ids.Membership.{among_from, among_is, Contains-here, Contains-there, Contains-cons_cases, no_member}
 use Rattle.gix_hash.proofs.Lists.{filter_within, filter_all}
 use Rattle.gix_paint.proofs.Invariant.{own_history}
@@ -89,7 +89,7 @@ no_start next starts i (step {c = c} r n) = no_start next starts c r
 
 module _ {F P : Type 0} (objects : F → Objects) (faulty : F → ObjectId → Type 0) (answers : P → ObjectId → Bool → P → Type 0) where
   -- a first step that gives no fault has read all that tips and hidden tips reach, by rows that agree or from the store
-  painted_whole : (walk : SimpleWalk F P) {o : Option (Result Info Error)} {new : SimpleWalk F P} → IsAgreeing (objects walk.store) walk.rows → walk.pending ≢ [] → walk.hidden_tips ≢ [] → Next objects faulty answers walk o new → ((e : Error) → o ≢ Some (Err e))
+  painted_whole : (walk : SimpleWalk F P) {o : Option (Result Info Error)} {new : SimpleWalk F P} → IsAgreeing (objects walk.store) walk.rows → walk.pending ≢ [] → walk.hidden_tips ≢ [] → FirstStep objects faulty answers walk o new → ((e : Error) → o ≢ Some (Err e))
       → (i : ObjectId) → Reaches (parents_of (objects walk.store)) (ids_of walk.pending ++ walk.hidden_tips) i → ReadsWhole (objects walk.store) i
   painted_whole walk agreeing some behind (unhidden (inl e) s) good i r = absurd (some e)
   painted_whole walk agreeing some behind (unhidden (inr e) s) good i r = absurd (behind e)
@@ -101,12 +101,17 @@ module _ {F P : Type 0} (objects : F → Objects) (faulty : F → ObjectId → T
   painted_whole walk agreeing some behind (faulty_history {why = why} p h rows fault) good i r = absurd (good (error.HiddenGraph why) refl)
   painted_whole walk agreeing some behind (no_memory p h rows) good i r = absurd (good error.Memory refl)
 
-  -- so has a walk that gives none
-  pub drawn_whole : (walk : SimpleWalk F P) (list : List (Result Info Error)) → IsAgreeing (objects walk.store) walk.rows → walk.pending ≢ [] → walk.hidden_tips ≢ [] → ((e : Error) → Contains list (Err e) → ⊥) → Drains (Next objects faulty answers) walk list
+  begun_whole : (walk : SimpleWalk F P) {o : Option (Result Info Error)} {new : SimpleWalk F P} → walk.begun ≡ false → IsAgreeing (objects walk.store) walk.rows → walk.pending ≢ [] → walk.hidden_tips ≢ [] → Next objects faulty answers walk o new → ((e : Error) → o ≢ Some (Err e))
       → (i : ObjectId) → Reaches (parents_of (objects walk.store)) (ids_of walk.pending ++ walk.hidden_tips) i → ReadsWhole (objects walk.store) i
-  drawn_whole walk [] agreeing some behind good d = painted_whole walk agreeing some behind (at_end (Next objects faulty answers) walk d).1 (λ e s. cc)
-  drawn_whole walk (answer ∷ list) agreeing some behind good d =
-      painted_whole walk agreeing some behind (at_first (Next objects faulty answers) walk answer list d).1
+  begun_whole walk fresh agreeing some behind (initial f s) good = painted_whole (record walk { begun = true }) agreeing some behind s good
+  begun_whole walk fresh agreeing some behind (later begun s) good = absurd (true≢false (sym begun ∙ fresh))
+
+  -- so has a walk that gives none
+  pub drawn_whole : (walk : SimpleWalk F P) (list : List (Result Info Error)) → walk.begun ≡ false → IsAgreeing (objects walk.store) walk.rows → walk.pending ≢ [] → walk.hidden_tips ≢ [] → ((e : Error) → Contains list (Err e) → ⊥) → Drains (Next objects faulty answers) walk list
+      → (i : ObjectId) → Reaches (parents_of (objects walk.store)) (ids_of walk.pending ++ walk.hidden_tips) i → ReadsWhole (objects walk.store) i
+  drawn_whole walk [] fresh agreeing some behind good d = begun_whole walk fresh agreeing some behind (at_end (Next objects faulty answers) walk d).1 (λ e s. cc)
+  drawn_whole walk (answer ∷ list) fresh agreeing some behind good d =
+      begun_whole walk fresh agreeing some behind (at_first (Next objects faulty answers) walk answer list d).1
       (λ e s. let same : answer ≡ Err e = cc in good e (subst (λ x. Contains (x ∷ list) (Err e)) (sym same) (Contains-here (Err e) list)))
 
   module _ (store : F) (predicate : P) (tips : List ObjectId) (accepting : AnswersBy answers predicate (λ i. true)) where
@@ -213,4 +218,4 @@ module _ {F P : Type 0} (objects : F → Objects) (faulty : F → ObjectId → T
       faultless_difference agreeing behind list good drawn =
           let agrees : IsAgreeing (objects walk.store) walk.rows = subst (λ s. IsAgreeing (objects s) walk.rows) (sym is_fresh.2) agreeing in
           subst (λ s. GivesDifference (objects s) tips walk.hidden_tips list) is_fresh.2
-          (gives_difference list agrees (λ some i r. drawn_whole walk list agrees some behind good drawn i r) (unrefused list good) drawn)
+          (gives_difference list agrees (λ some i r. drawn_whole walk list is_fresh.0.unbegun agrees some behind good drawn i r) (unrefused list good) drawn)

@@ -20,7 +20,7 @@ use Rattle.gix_revwalk.specs.declared.Parents.TheVariants as mode
 use Rattle.gix_revwalk.specs.declared.CommitTimeOrder.{CommitTimeOrder}
 use Rattle.gix_simple.specs.declared.Error.{Error}
 use Rattle.gix_revwalk.specs.declared.Pending.{Pending}
-use Rattle.gix_simple.specs.Walk.{SimpleWalk, Treated, Holds, time_order, cutoff, unrowed, asked, Enqueues, dropped, enqueued, IsNew, Treats, hidden, known, refused, accepted, store_fails, no_memory, no_memory_after, TreatsAll, none, more, stops, Concludes, given, broken, Takes, by_row, by_store, not_found, Chooses, first, best, Steps, took, painted, Next, unhidden, paints, faulty_history}
+use Rattle.gix_simple.specs.Walk.{SimpleWalk, Treated, Holds, time_order, cutoff, unrowed, asked, Enqueues, dropped, enqueued, IsNew, Treats, hidden, known, refused, accepted, store_fails, no_memory, no_memory_after, TreatsAll, none, more, stops, Concludes, given, broken, Takes, by_row, by_store, not_found, Chooses, first, best, Steps, took, painted, FirstStep, unhidden, paints, faulty_history, Next, initial, later}
 use Rattle.gix_revwalk.specs.RowParents.{kept_rows}
 use Rattle.gix_revwalk.specs.Texts.{scanned, text_parents}
 use Rattle.gix_simple.specs.Laws.{named_in, answers_left}
@@ -180,23 +180,27 @@ module _ {F P : Type 0} (objects : F → Objects) (faulty : F → ObjectId → T
       let b : length w.pending ≡ suc (length others) = chosen_left w p others chooses in
       omega arith
 
-  -- each answer lowers how many are left
-  pub next_left : (w : SimpleWalk F P) {answer : Result Info Error} {new : SimpleWalk F P} → Next objects faulty answers w (Some answer) new → suc (answers_left objects new) ≤ answers_left objects w
-  next_left w (unhidden unpainted steps) = steps_left (record w { hidden_tips = [] }) steps
-  next_left w (paints {marks = marks} {rows = rows} {new = new} some hides paint steps) =
+  first_left : (w : SimpleWalk F P) {answer : Result Info Error} {new : SimpleWalk F P} → FirstStep objects faulty answers w (Some answer) new → suc (answers_left objects new) ≤ answers_left objects w
+  first_left w (unhidden unpainted steps) = steps_left (record w { hidden_tips = [] }) steps
+  first_left w (paints {marks = marks} {rows = rows} {new = new} some hides paint steps) =
       let mid : SimpleWalk F P = painted objects faulty answers w marks rows in
       let a : suc (answers_left objects new) ≤ answers_left objects mid = steps_left mid steps in
       let f : length (filter (λ p. not (set.contains marks p.id)) w.pending) ≤ length w.pending = filter_shorter (λ p. not (set.contains marks p.id)) w.pending in
       let b : answers_left objects mid ≤ answers_left objects w = rows_go w mid rows refl refl refl paint.rows_left (omega arith) in
       omega arith
-  next_left w (faulty_history {rows = rows} some hides left fault) =
+  first_left w (faulty_history {rows = rows} some hides left fault) =
       let n : 1 ≤ length w.pending = some_pending w.pending some in
       let b : answers_left objects (record w { rows = rows }) ≤ answers_left objects w = rows_go w (record w { rows = rows }) rows refl refl refl left (Rattle.std.proofs.Common.le_refl _) in
       omega arith
-  next_left w (no_memory {rows = rows} some hides left) =
+  first_left w (no_memory {rows = rows} some hides left) =
       let n : 1 ≤ length w.pending = some_pending w.pending some in
       let b : answers_left objects (record w { rows = rows }) ≤ answers_left objects w = rows_go w (record w { rows = rows }) rows refl refl refl left (Rattle.std.proofs.Common.le_refl _) in
       omega arith
+
+  -- each answer lowers how many are left
+  pub next_left : (w : SimpleWalk F P) {answer : Result Info Error} {new : SimpleWalk F P} → Next objects faulty answers w (Some answer) new → suc (answers_left objects new) ≤ answers_left objects w
+  next_left w (initial fresh s) = first_left (record w { begun = true }) s
+  next_left w (later begun s) = steps_left w s
 
   -- a list that may follow a walk is no longer than that
   pub drawn_left : (list : List (Result Info Error)) (w new : SimpleWalk F P) → Yields (Next objects faulty answers) w list new → length list ≤ answers_left objects w

@@ -20,7 +20,7 @@ use Rattle.gix_paint.specs.Painting.{Paints, IsHiddenFault}
 use Rattle.gix_simple.specs.Errors.{error_of_hidden}
 use Rattle.gix_simple.specs.Inside.Steps.{Hides, nothing, paints, faulty_history, no_memory, unpainted}
 use Rattle.gix_simple.specs.Walk as walk
-use Rattle.gix_simple.specs.Walk.{SimpleWalk, Steps, Next, unhidden}
+use Rattle.gix_simple.specs.Walk.{SimpleWalk, Steps, FirstStep, Next, unhidden}
 use Rattle.gix_revwalk.specs.Ids.{ids_of}
 use Rattle.gix_simple.specs.Laws.{answers_left}
 use Rattle.gix_simple.proofs.Ends.{next_left}
@@ -34,11 +34,11 @@ none_in (x ∷ xs) e = ⊎_elim (λ t. absurd (some t.1)) (λ f. absurd (false�
 
 module _ {F P : Type 0} (objects : F → Objects) (faulty : F → ObjectId → Type 0) (answers : P → ObjectId → Bool → P → Type 0) (old : SimpleWalk F P) where
   -- what was hidden is stepped over
-  pub next_of_hidden : (u : Unit {0}) (mid : SimpleWalk F P) → Hides objects faulty answers old (Ok u) mid → (answer : Option (Result Info Error)) (new : SimpleWalk F P) → Steps objects faulty answers mid answer new → Next objects faulty answers old answer new
+  pub next_of_hidden : (u : Unit {0}) (mid : SimpleWalk F P) → Hides objects faulty answers old (Ok u) mid → (answer : Option (Result Info Error)) (new : SimpleWalk F P) → Steps objects faulty answers mid answer new → FirstStep objects faulty answers old answer new
   next_of_hidden u mid (nothing n) answer new s = unhidden n s
   next_of_hidden u mid (paints p h k) answer new s = walk.paints p h k s
 
-  pub next_of_fault : (e : Error) (new : SimpleWalk F P) → Hides objects faulty answers old (Err e) new → Next objects faulty answers old (Some (Err e)) new
+  pub next_of_fault : (e : Error) (new : SimpleWalk F P) → Hides objects faulty answers old (Err e) new → FirstStep objects faulty answers old (Some (Err e)) new
   next_of_fault e new (faulty_history p h k) = walk.faulty_history p h (inl refl) k
   next_of_fault e new (no_memory p h) = walk.no_memory p h (inl refl)
 

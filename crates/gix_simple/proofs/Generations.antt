@@ -3,6 +3,7 @@ use Rattle.std.specs.Prelude.{◌≡◌, ◌⊎◌, ℕ, ℤ, suc, List, [], ◌
 use Rattle.std.specs.Option.{option_map}
 use Rattle.std.proofs.Common.{refl, sym, ap, subst, inl, inr, ⊎_elim, ◌∙◌, arith}
 use Rattle.std.proofs.Math.Path.{transport}
+use Rattle.std.proofs.lemmas.Bool.{true≢false}
 use Rattle.std.proofs.lemmas.List.{map-append}
 use Rattle.std.proofs.lemmas.List.Sorted.{length_permutation, Contains-permutation, IsPermutation-map, IsPermutation-sym}
 use Rattle.std.proofs.lemmas.List.Elements.{recursion_from_All, All-from_recursion, Contains-append_cases}
@@ -25,7 +26,7 @@ use Rattle.gix_revwalk.specs.declared.Pending.{Pending}
 use Rattle.gix_revwalk.specs.Agreeing.{IsAgreeing}
 use Rattle.gix_revwalk.specs.Commits.{ReadsWhole, by_mode}
 use Rattle.gix_hash.specs.Reach.{Reaches, start, step}
-use Rattle.gix_simple.specs.Walk.{SimpleWalk, Treated, StoreFails, Holds, time_order, unrowed, Treats, hidden, known, refused, accepted, dropped, enqueued, store_fails, no_memory, no_memory_after, TreatsAll, none, more, stops, Concludes, given, broken, Takes, by_row, by_store, not_found, Chooses, first, best, Steps, took, painted, Next, unhidden, paints, faulty_history}
+use Rattle.gix_simple.specs.Walk.{SimpleWalk, Treated, StoreFails, Holds, time_order, unrowed, Treats, hidden, known, refused, accepted, dropped, enqueued, store_fails, no_memory, no_memory_after, TreatsAll, none, more, stops, Concludes, given, broken, Takes, by_row, by_store, not_found, Chooses, first, best, Steps, took, painted, FirstStep, unhidden, paints, faulty_history, Next, initial, later}
 use Rattle.gix_revwalk.specs.Texts.{scanned, text_next, next_in}
 use Rattle.gix_revwalk.specs.RowParents.{ids_at, rows_if, kept_rows, IsUnrowed}
 use Rattle.gix_revwalk.specs.Ids.{ids_of}
@@ -65,39 +66,39 @@ module _ {F P : Type 0} (objects : F → Objects) (faulty : F → ObjectId → T
     store : v.store ≡ w.store
     rows : v.rows ≡ w.rows
     parents : v.parents ≡ w.parents
-    tips : v.hidden_tips ≡ w.hidden_tips
+    begun : v.begun ≡ w.begun
     pending : (i : ObjectId) → Contains (ids_of v.pending) i → Contains (ids_of w.pending) i ⊎ Named i
 
   grows_then : {Named : ObjectId → Type 0} {w v u : SimpleWalk F P} → Grows Named w v → Grows Named v u → Grows Named w u
-  grows_then a b = record { store = b.store ∙ a.store; rows = b.rows ∙ a.rows; parents = b.parents ∙ a.parents; tips = b.tips ∙ a.tips; pending = λ i m. ⊎_elim (a.pending i) inr (b.pending i m) }
+  grows_then a b = record { store = b.store ∙ a.store; rows = b.rows ∙ a.rows; parents = b.parents ∙ a.parents; begun = b.begun ∙ a.begun; pending = λ i m. ⊎_elim (a.pending i) inr (b.pending i m) }
 
   none_pends : (Named : ObjectId → Type 0) (ps old : List Pending) → ps ≡ [] → (i : ObjectId) → Contains (ids_of ps) i → Contains (ids_of old) i ⊎ Named i
   none_pends Named ps old e i m = absurd (no_member i (subst (λ qs. Contains (ids_of qs) i) e m))
 
   one_grows : (Named : ObjectId → Type 0) (w : SimpleWalk F P) (row : Bool) (i : ObjectId) {how : Treated} {v : SimpleWalk F P} → Named i → Treats objects faulty answers w row i how v → Grows Named w v
-  one_grows Named w row i n (hidden e) = record { store = refl; rows = refl; parents = refl; tips = refl; pending = λ j m. inl m }
-  one_grows Named w row i n (known e) = record { store = refl; rows = refl; parents = refl; tips = refl; pending = λ j m. inl m }
-  one_grows Named w row i n (refused is_new b) = record { store = refl; rows = refl; parents = refl; tips = refl; pending = λ j m. inl m }
-  one_grows Named w row i n (accepted is_new b time (dropped e)) = record { store = refl; rows = refl; parents = refl; tips = refl; pending = λ j m. inl m }
+  one_grows Named w row i n (hidden e) = record { store = refl; rows = refl; parents = refl; begun = refl; pending = λ j m. inl m }
+  one_grows Named w row i n (known e) = record { store = refl; rows = refl; parents = refl; begun = refl; pending = λ j m. inl m }
+  one_grows Named w row i n (refused is_new b) = record { store = refl; rows = refl; parents = refl; begun = refl; pending = λ j m. inl m }
+  one_grows Named w row i n (accepted is_new b time (dropped e)) = record { store = refl; rows = refl; parents = refl; begun = refl; pending = λ j m. inl m }
   one_grows Named w row i n (accepted {time = at} is_new b time (enqueued {new = new} e holds)) = record {
     store = refl;
     rows = refl;
     parents = refl;
-    tips = refl;
+    begun = refl;
     pending = λ j m. ⊎_elim inl (λ s. inr (subst Named s n)) (holds_more (time_order w.parents w.sorting) w.pending new (record { id = i; time = at }) holds j m);
   }
-  one_grows Named w row i n (store_fails is_new b time) = record { store = refl; rows = refl; parents = refl; tips = refl; pending = λ j m. inl m }
-  one_grows Named w row i n no_memory = record { store = refl; rows = refl; parents = refl; tips = refl; pending = λ j m. inl m }
+  one_grows Named w row i n (store_fails is_new b time) = record { store = refl; rows = refl; parents = refl; begun = refl; pending = λ j m. inl m }
+  one_grows Named w row i n no_memory = record { store = refl; rows = refl; parents = refl; begun = refl; pending = λ j m. inl m }
   one_grows Named w row i n (no_memory_after {pending = ps} is_new b left) = record {
     store = refl;
     rows = refl;
     parents = refl;
-    tips = refl;
+    begun = refl;
     pending = λ j m. ⊎_elim (λ e. inl (subst (λ qs. Contains (ids_of qs) j) e m)) (λ e. none_pends Named ps w.pending e j m) left;
   }
 
   all_grow : (Named : ObjectId → Type 0) (row : Bool) {w v : SimpleWalk F P} {ids : List ObjectId} {how : Treated} → ((i : ObjectId) → Contains ids i → Named i) → TreatsAll objects faulty answers row w ids how v → Grows Named w v
-  all_grow Named row n none = record { store = refl; rows = refl; parents = refl; tips = refl; pending = λ j m. inl m }
+  all_grow Named row n none = record { store = refl; rows = refl; parents = refl; begun = refl; pending = λ j m. inl m }
   all_grow Named row n (more {old = w} {i = i} {ids = ids} t ts) = grows_then (one_grows Named w row i (n i (Contains-here i ids)) t) (all_grow Named row (λ j m. n j (Contains-there j i ids m)) ts)
   all_grow Named row n (stops {old = w} {i = i} {ids = ids} ne t) = one_grows Named w row i (n i (Contains-here i ids)) t
 
@@ -108,10 +109,10 @@ module _ {F P : Type 0} (objects : F → Objects) (faulty : F → ObjectId → T
 
   concluded : (i : ObjectId) (ps : List ObjectId) (generation : Option ℕ) (time : Option ℤ) (text : List ℕ) (fault : Option DecodeError) (walk : SimpleWalk F P) {how : Treated} {answer : Result Info Error} {new : SimpleWalk F P}
       → (Named : ObjectId → Type 0) → Concludes objects faulty answers i ps generation time text fault walk how answer new → IsGivenAs i generation answer × Grows Named walk new
-  concluded i ps generation time text fault walk Named (given f is) = ((is.same_id, is.same_generation), record { store = refl; rows = refl; parents = refl; tips = refl; pending = λ j m. inl m })
-  concluded i ps generation time text fault walk Named (broken f) = (tt, record { store = refl; rows = refl; parents = refl; tips = refl; pending = λ j m. inl m })
-  concluded i ps generation time text fault walk Named store_fails = (tt, record { store = refl; rows = refl; parents = refl; tips = refl; pending = λ j m. inl m })
-  concluded i ps generation time text fault walk Named no_memory = (tt, record { store = refl; rows = refl; parents = refl; tips = refl; pending = none_pends Named [] walk.pending refl })
+  concluded i ps generation time text fault walk Named (given f is) = ((is.same_id, is.same_generation), record { store = refl; rows = refl; parents = refl; begun = refl; pending = λ j m. inl m })
+  concluded i ps generation time text fault walk Named (broken f) = (tt, record { store = refl; rows = refl; parents = refl; begun = refl; pending = λ j m. inl m })
+  concluded i ps generation time text fault walk Named store_fails = (tt, record { store = refl; rows = refl; parents = refl; begun = refl; pending = λ j m. inl m })
+  concluded i ps generation time text fault walk Named no_memory = (tt, record { store = refl; rows = refl; parents = refl; begun = refl; pending = none_pends Named [] walk.pending refl })
 
   told_as : (rows : List GraphRow) (i : ObjectId) (generation : Option ℕ) (answer : Result Info Error) → option_map (λ row. row.generation) (row_of rows i) ≡ generation → IsGivenAs i generation answer → IsTold rows answer
   told_as rows i generation (Ok info) e g = g.1 ∙ sym e ∙ ap (λ j. option_map (λ row. row.generation) (row_of rows j)) (sym g.0)
@@ -153,7 +154,7 @@ module _ {F P : Type 0} (objects : F → Objects) (faulty : F → ObjectId → T
   -- what is pending afterwards is reached
   record Descends (w new : SimpleWalk F P) : Type 0 where
     parents : new.parents ≡ w.parents
-    tips : new.hidden_tips ≡ []
+    begun : new.begun ≡ true
     reached : IsAgreeing (objects w.store) w.rows → (i : ObjectId) → Contains (ids_of new.pending) i → Reaches (text_walked w) (ids_of w.pending) i
 
   -- a step keeps the rows and gives their generation, or drops them for a corrupt row, or fails and is the last
@@ -178,7 +179,7 @@ module _ {F P : Type 0} (objects : F → Objects) (faulty : F → ObjectId → T
   abbrev Reached : SimpleWalk F P → ObjectId → Type 0
   Reached w i = IsAgreeing (objects w.store) w.rows → Reaches (text_walked w) (ids_of w.pending) i
 
-  module _ (w : SimpleWalk F P) (p : Pending) (others : List Pending) (chooses : Chooses objects faulty answers w p others) (unhidden_tips : w.hidden_tips ≡ []) where
+  module _ (w : SimpleWalk F P) (p : Pending) (others : List Pending) (chooses : Chooses objects faulty answers w p others) (is_begun : w.begun ≡ true) where
     chosen : (i : ObjectId) → Contains (p.id ∷ ids_of others) i → Contains (ids_of w.pending) i
     chosen i m = go chooses
       where
@@ -186,10 +187,10 @@ module _ {F P : Type 0} (objects : F → Objects) (faulty : F → ObjectId → T
         go (first t e) = subst (λ ps. Contains (ids_of ps) i) (sym e) m
         go (best t perm no_worse) = Contains-permutation (p.id ∷ ids_of others) (ids_of w.pending) i (IsPermutation-sym (ids_of w.pending) (p.id ∷ ids_of others) (IsPermutation-map (λ q. q.id) w.pending (p ∷ others) perm)) m
 
-    descends : {new : SimpleWalk F P} (v : SimpleWalk F P) → v.parents ≡ w.parents → v.hidden_tips ≡ w.hidden_tips → v.pending ≡ others → Grows (Reached w) v new → Descends w new
-    descends v parents tips pending g = record {
+    descends : {new : SimpleWalk F P} (v : SimpleWalk F P) → v.parents ≡ w.parents → v.begun ≡ w.begun → v.pending ≡ others → Grows (Reached w) v new → Descends w new
+    descends v parents begun pending g = record {
       parents = g.parents ∙ parents;
-      tips = g.tips ∙ tips ∙ unhidden_tips;
+      begun = g.begun ∙ begun ∙ is_begun;
       reached = λ agrees i m. ⊎_elim (λ c. start (chosen i (Contains-there i p.id (ids_of others) (subst (λ ps. Contains (ids_of ps) i) pending c)))) (λ n. n agrees) (g.pending i m);
     }
 
@@ -233,15 +234,15 @@ module _ {F P : Type 0} (objects : F → Objects) (faulty : F → ObjectId → T
         let k = store_failed false treats refl in
         unrowed_tells (Err (error.Find existing.Store)) u tt (inr (refl, k.0, subst (λ ids. Contains ids k.0) (named_by_text bytes e) k.1, k.2)) (concluded_after bytes e {generation = None} {time = None} {fault = None} treats store_fails)
     takes_tells (by_store u e treats no_memory) = ends refl tt
-    takes_tells (not_found {e = x} u fault) = unrowed_tells (Err (error.Find x)) u tt (inl fault) (record { store = refl; rows = refl; parents = refl; tips = refl; pending = λ j m. inl m })
+    takes_tells (not_found {e = x} u fault) = unrowed_tells (Err (error.Find x)) u tt (inl fault) (record { store = refl; rows = refl; parents = refl; begun = refl; pending = λ j m. inl m })
     takes_tells (no_memory left) = ends refl tt
 
-  steps_tells : (w : SimpleWalk F P) {answer : Result Info Error} {new : SimpleWalk F P} → w.hidden_tips ≡ [] → Steps objects faulty answers w (Some answer) new → Tells w answer new
-  steps_tells w tips (no_memory some) = ends refl tt
-  steps_tells w tips (took {taken = p} {others = others} chooses takes) = takes_tells w p others chooses tips takes
+  steps_tells : (w : SimpleWalk F P) {answer : Result Info Error} {new : SimpleWalk F P} → w.begun ≡ true → Steps objects faulty answers w (Some answer) new → Tells w answer new
+  steps_tells w begun (no_memory some) = ends refl tt
+  steps_tells w begun (took {taken = p} {others = others} chooses takes) = takes_tells w p others chooses begun takes
 
   -- a step of a walk that painting left with the same rows
-  module _ (w : SimpleWalk F P) (v : SimpleWalk F P) (store : v.store ≡ w.store) (rows : v.rows ≡ w.rows) (parents : v.parents ≡ w.parents) (tips : v.hidden_tips ≡ []) (pending : (i : ObjectId) → Contains (ids_of v.pending) i → Contains (ids_of w.pending) i) where
+  module _ (w : SimpleWalk F P) (v : SimpleWalk F P) (store : v.store ≡ w.store) (rows : v.rows ≡ w.rows) (parents : v.parents ≡ w.parents) (begun : v.begun ≡ true) (pending : (i : ObjectId) → Contains (ids_of v.pending) i → Contains (ids_of w.pending) i) where
     agree : IsAgreeing (objects w.store) w.rows → IsAgreeing (objects v.store) v.rows
     agree agrees = transport (λ k. IsAgreeing (objects (sym store k)) (sym rows k)) agrees
 
@@ -249,8 +250,8 @@ module _ {F P : Type 0} (objects : F → Objects) (faulty : F → ObjectId → T
     reaches i r = reaches_from (text_walked w) (ids_of v.pending) (ids_of w.pending) (λ j m. start (pending j m)) i (transport (λ k. Reaches (λ j. by_mode (parents k) (text_next (objects (store k)) j)) (ids_of v.pending) i) r)
 
     from_same : {answer : Result Info Error} {new : SimpleWalk F P} → Tells v answer new → Tells w answer new
-    from_same {answer} (keeps s r d told) = keeps (s ∙ store) (r ∙ rows) (record { parents = d.parents ∙ parents; tips = d.tips; reached = λ agrees i m. reaches i (d.reached (agree agrees) i m) }) (subst (λ rs. IsTold rs answer) rows told)
-    from_same {answer} (loses s r untold why) = loses (s ∙ store) r untold (λ agrees. ⊎_elim (λ c. inl (carried c)) (λ d. absurd (d.0 tips)) (why (agree agrees)))
+    from_same {answer} (keeps s r d told) = keeps (s ∙ store) (r ∙ rows) (record { parents = d.parents ∙ parents; begun = d.begun; reached = λ agrees i m. reaches i (d.reached (agree agrees) i m) }) (subst (λ rs. IsTold rs answer) rows told)
+    from_same {answer} (loses s r untold why) = loses (s ∙ store) r untold (λ agrees. ⊎_elim (λ c. inl (carried c)) (λ d. absurd (true≢false (sym begun ∙ d.0))) (why (agree agrees)))
       where
         carried : HasCorruptRow objects faulty v answer → HasCorruptRow objects faulty w answer
         carried c = record { row = c.row; present = subst (λ rs. row_of rs c.row.id ≡ Some c.row) rows c.present; corrupt = c.corrupt; reached = reaches c.row.id c.reached; about = transport (λ k. IsAbout (objects (store k)) (faulty (store k)) (parents k) c.row.id answer) c.about }
@@ -262,16 +263,23 @@ module _ {F P : Type 0} (objects : F → Objects) (faulty : F → ObjectId → T
   told_none (Err x) e = tt
 
   -- nothing is drawn where nothing is pending
-  pends : (w : SimpleWalk F P) {answer : Result Info Error} {new : SimpleWalk F P} → Next objects faulty answers w (Some answer) new → w.pending ≡ [] → ⊥
-  pends w (unhidden unpainted (no_memory some)) empty = some empty
-  pends w (unhidden unpainted (took (first t e) takes)) empty = let bad = sym empty ∙ e in cc
-  pends w (unhidden unpainted (took {taken = p} {others = others} (best t perm no_worse) takes)) empty =
+  steps_pends : (w : SimpleWalk F P) {answer : Result Info Error} {new : SimpleWalk F P} → Steps objects faulty answers w (Some answer) new → w.pending ≡ [] → ⊥
+  steps_pends w (no_memory some) empty = some empty
+  steps_pends w (took (first t e) takes) empty = let bad = sym empty ∙ e in cc
+  steps_pends w (took {taken = p} {others = others} (best t perm no_worse) takes) empty =
       let longer : length w.pending ≡ suc (length others) = sym (length_permutation w.pending (p ∷ others) perm) in
       let short : length w.pending ≡ 0 = ap length empty in
       absurd (omega arith)
-  pends w (paints some tips_given paint steps) empty = some empty
-  pends w (faulty_history some tips_given left fault) empty = some empty
-  pends w (no_memory some tips_given left) empty = some empty
+
+  first_pends : (w : SimpleWalk F P) {answer : Result Info Error} {new : SimpleWalk F P} → FirstStep objects faulty answers w (Some answer) new → w.pending ≡ [] → ⊥
+  first_pends w (unhidden unpainted steps) empty = steps_pends (record w { hidden_tips = [] }) steps empty
+  first_pends w (paints some tips_given paint steps) empty = some empty
+  first_pends w (faulty_history some tips_given left fault) empty = some empty
+  first_pends w (no_memory some tips_given left) empty = some empty
+
+  pends : (w : SimpleWalk F P) {answer : Result Info Error} {new : SimpleWalk F P} → Next objects faulty answers w (Some answer) new → w.pending ≡ [] → ⊥
+  pends w (initial fresh s) empty = first_pends (record w { begun = true }) s empty
+  pends w (later begun s) empty = steps_pends w s empty
 
   -- without rows none is given from here on
   rowless : {w : SimpleWalk F P} {answer : Result Info Error} {new : SimpleWalk F P} → w.rows ≡ [] → Tells w answer new → IsUntold answer × ((new.rows ≡ []) ⊎ (new.pending ≡ []))
@@ -279,12 +287,12 @@ module _ {F P : Type 0} (objects : F → Objects) (faulty : F → ObjectId → T
   rowless empty (loses store rows untold why) = (untold, inl rows)
   rowless {answer = answer} empty (ends gone failed) = (failed_untold answer failed, inr gone)
 
-  next_tells : (w : SimpleWalk F P) {answer : Result Info Error} {new : SimpleWalk F P} → Next objects faulty answers w (Some answer) new → Tells w answer new
-  next_tells w (unhidden unpainted steps) = from_same w (record w { hidden_tips = [] }) refl refl refl refl (λ i m. m) (steps_tells (record w { hidden_tips = [] }) refl steps)
-  next_tells w {answer} {new} (paints {marks = marks} {rows = rows} some tips_given paint steps) = ⊎_elim same (λ e. go w.rows refl e) paint.rows_left
+  first_tells : (w : SimpleWalk F P) {answer : Result Info Error} {new : SimpleWalk F P} → w.begun ≡ false → FirstStep objects faulty answers (record w { begun = true }) (Some answer) new → Tells w answer new
+  first_tells w fresh (unhidden unpainted steps) = from_same w (record w { begun = true; hidden_tips = [] }) refl refl refl refl (λ i m. m) (steps_tells (record w { begun = true; hidden_tips = [] }) refl steps)
+  first_tells w {answer} {new} fresh (paints {marks = marks} {rows = rows} some tips_given paint steps) = ⊎_elim same (λ e. go w.rows refl e) paint.rows_left
     where
       v : SimpleWalk F P
-      v = painted objects faulty answers w marks rows
+      v = painted objects faulty answers (record w { begun = true }) marks rows
 
       tells : Tells v answer new
       tells = steps_tells v refl steps
@@ -299,9 +307,13 @@ module _ {F P : Type 0} (objects : F → Objects) (faulty : F → ObjectId → T
 
       go : (those : List GraphRow) → w.rows ≡ those → rows ≡ [] → Tells w answer new
       go [] f e = same (e ∙ sym f)
-      go (row ∷ those) f e = after e (λ agrees. (tips_given, (paint.marked (objects w.store) (own_history (objects w.store) (faulty w.store) w.rows agrees)).drops (λ same. let bad : [] ≡ row ∷ those = sym e ∙ same ∙ f in cc))) tells
-  next_tells w (faulty_history some tips_given left fault) = ends refl tt
-  next_tells w (no_memory some tips_given left) = ends refl tt
+      go (row ∷ those) f e = after e (λ agrees. (fresh, tips_given, (paint.marked (objects w.store) (own_history (objects w.store) (faulty w.store) w.rows agrees)).drops (λ same. let bad : [] ≡ row ∷ those = sym e ∙ same ∙ f in cc))) tells
+  first_tells w fresh (faulty_history some tips_given left fault) = ends refl tt
+  first_tells w fresh (no_memory some tips_given left) = ends refl tt
+
+  next_tells : (w : SimpleWalk F P) {answer : Result Info Error} {new : SimpleWalk F P} → Next objects faulty answers w (Some answer) new → Tells w answer new
+  next_tells w (initial fresh s) = first_tells w fresh s
+  next_tells w (later begun s) = steps_tells w begun s
 
   all_with : (A : Result Info Error → Type 0) (answer : Result Info Error) (list : List (Result Info Error)) → A answer → All A list → All A (answer ∷ list)
   all_with A answer list a all = All-from_recursion A (answer ∷ list) (a, recursion_from_All A list all)
@@ -330,7 +342,7 @@ module _ {F P : Type 0} (objects : F → Objects) (faulty : F → ObjectId → T
             parts = ap (λ xs. answer ∷ xs) rest.parts;
             told = all_with (IsTold w.rows) answer rest.before told (subst (λ rs. All (IsTold rs) rest.before) rows rest.told);
             untold = rest.untold;
-            dropped = λ a more e agrees. inl (⊎_elim (carried agrees a) (λ painting. absurd (painting.1.0 below.tips)) (rest.dropped a more e (transport (λ k. IsAgreeing (objects (sym store k)) (sym rows k)) agrees)));
+            dropped = λ a more e agrees. inl (⊎_elim (carried agrees a) (λ painting. absurd (true≢false (sym below.begun ∙ painting.1.0))) (rest.dropped a more e (transport (λ k. IsAgreeing (objects (sym store k)) (sym rows k)) agrees)));
           }
         where
           carried : IsAgreeing (objects w.store) w.rows → (a : Result Info Error) → HasCorruptRow objects faulty d.0 a → HasCorruptRow objects faulty w a

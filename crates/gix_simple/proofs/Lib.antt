@@ -14,6 +14,8 @@ pub mod TakesCommit
 pub mod LentText
 -- How the first step hides what hidden tips reach.
 pub mod FirstStep
+-- Behind the first step hidden tips change nothing.
+pub mod LateTips
 -- The keys of pending commits in an order by time.
 pub mod TimeKeys
 -- What is pending, in the words of the definitions of the orders.

@@ -44,14 +44,14 @@ further_on answers {first} {mid} {last} h (further b a) = further (further_on an
 
 module _ {F P : Type 0} (objects : F → Objects) (faulty : F → ObjectId → Type 0) (answers : P → ObjectId → Bool → P → Type 0) (store : F) (predicate : P) (accepts : ObjectId → Bool) (tips : List ObjectId) (walk : SimpleWalk F P) (by_test : AnswersBy answers predicate accepts) (made : IsMade objects faulty answers store predicate tips walk) where
   setting : Setting objects faulty answers
-  setting = record { store = store; predicate = predicate; rows = []; parents = mode.All; sorting = sorting.BreadthFirst; marks = set.empty; accepts = accepts; hidden = λ i. false; starts = tips; by_test = by_test; agreeing = λ row n. absurd (no_member row n) }
+  setting = record { store = store; predicate = predicate; rows = []; parents = mode.All; sorting = sorting.BreadthFirst; begun = false; marks = set.empty; accepts = accepts; hidden = λ i. false; starts = tips; by_test = by_test; agreeing = λ row n. absurd (no_member row n) }
 
   nothing : (i : ObjectId) → set.contains (set.empty {R = id_cmp}) i ≡ true → ⊥
   nothing i e = false≢true (sym (set.contains-empty id_cmp i) ∙ e)
 
   stood : Stands objects faulty answers setting (bare store predicate)
   unfolding setting
-  stood = record { store = refl; parents = refl; sorting = refl; marks = refl; tips = refl; rows = inl refl; asked_of = itself; remembered = λ i e. absurd (nothing i e); timed = λ order some. cc }
+  stood = record { store = refl; parents = refl; sorting = refl; marks = refl; begun = refl; tips = refl; rows = inl refl; asked_of = itself; remembered = λ i e. absurd (nothing i e); timed = λ order some. cc }
 
   did : Did objects faulty answers setting tips (bare store predicate) walk
   unfolding setting
@@ -83,6 +83,7 @@ module _ {F P : Type 0} (objects : F → Objects) (faulty : F → ObjectId → T
     seen = λ i h. decided i h (accepts i) refl;
     remembered = did.rest.remembered;
     shown = λ i. ap (λ s. set.contains s i) did.rest.marks ∙ set.contains-empty id_cmp i;
+    unbegun = did.rest.begun;
     timed = λ order some. cc (ap (λ m. time_order m walk.sorting) did.rest.parents, ap (time_order mode.All) did.rest.sorting);
   }
     where

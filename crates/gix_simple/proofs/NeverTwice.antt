@@ -11,7 +11,7 @@ use Rattle.gix_object.specs.Object.{Objects}
 use Rattle.gix_revwalk.specs.declared.Info.{Info}
 use Rattle.gix_simple.specs.declared.Error.{Error}
 use Rattle.gix_revwalk.specs.declared.Pending.{Pending}
-use Rattle.gix_simple.specs.Walk.{SimpleWalk, Treated, time_order, cutoff, asked, Enqueues, dropped, enqueued, IsNew, Treats, hidden, known, refused, accepted, store_fails, no_memory, no_memory_after, TreatsAll, none, more, stops, Concludes, given, broken, Takes, by_row, by_store, not_found, Chooses, first, best, Steps, took, Next, unhidden, paints, faulty_history}
+use Rattle.gix_simple.specs.Walk.{SimpleWalk, Treated, time_order, cutoff, asked, Enqueues, dropped, enqueued, IsNew, Treats, hidden, known, refused, accepted, store_fails, no_memory, no_memory_after, TreatsAll, none, more, stops, Concludes, given, broken, Takes, by_row, by_store, not_found, Chooses, first, best, Steps, took, FirstStep, unhidden, paints, faulty_history, Next, initial, later}
 use Rattle.gix_revwalk.specs.Ids.{ids_of, AreDistinct}
 use Rattle.gix_simple.specs.Laws.{given_ids}
 use Rattle.gix_hash.proofs.Ids.Membership.{id_total, same_is, among_is}
@@ -108,14 +108,18 @@ module _ {F P : Type 0} (objects : F → Objects) (faulty : F → ObjectId → T
       let b : times j (ids_of w.pending) ≡ cond (is_same j p.id) 1 0 + times j (ids_of others) = chosen_times w p others chooses j in
       omega arith)
 
-  next_sole : (done : List ObjectId) (w : SimpleWalk F P) {answer : Result Info Error} {new : SimpleWalk F P} → Next objects faulty answers w (Some answer) new → IsSole done w → IsSole (with_answer done answer) new
-  next_sole done w (unhidden unpainted steps) h = steps_sole done (record w { hidden_tips = [] }) steps h
-  next_sole done w (paints {marks = marks} {rows = rows} some hides paint steps) h = steps_sole done (Rattle.gix_simple.specs.Walk.painted objects faulty answers w marks rows) steps (λ j.
+  first_sole : (done : List ObjectId) (w : SimpleWalk F P) {answer : Result Info Error} {new : SimpleWalk F P} → FirstStep objects faulty answers w (Some answer) new → IsSole done w → IsSole (with_answer done answer) new
+  first_sole done w (unhidden unpainted steps) h = steps_sole done (record w { hidden_tips = [] }) steps h
+  first_sole done w (paints {marks = marks} {rows = rows} some hides paint steps) h = steps_sole done (Rattle.gix_simple.specs.Walk.painted objects faulty answers w marks rows) steps (λ j.
       let k : times j (ids_of w.pending) + times j done ≤ cond (set.contains w.seen j) 1 0 = h j in
       let f : times j (ids_of (filter (λ p. not (set.contains marks p.id)) w.pending)) ≤ times j (ids_of w.pending) = times-filter (λ p. not (set.contains marks p.id)) w.pending j in
       omega arith)
-  next_sole done w (faulty_history some hides left fault) h = λ j. let k : times j (ids_of w.pending) + times j done ≤ cond (set.contains w.seen j) 1 0 = h j in let b : times j (done ++ []) ≡ times j done = ap (times j) (append-nil done) in omega arith
-  next_sole done w (no_memory some hides left) h = λ j. let k : times j (ids_of w.pending) + times j done ≤ cond (set.contains w.seen j) 1 0 = h j in let b : times j (done ++ []) ≡ times j done = ap (times j) (append-nil done) in omega arith
+  first_sole done w (faulty_history some hides left fault) h = λ j. let k : times j (ids_of w.pending) + times j done ≤ cond (set.contains w.seen j) 1 0 = h j in let b : times j (done ++ []) ≡ times j done = ap (times j) (append-nil done) in omega arith
+  first_sole done w (no_memory some hides left) h = λ j. let k : times j (ids_of w.pending) + times j done ≤ cond (set.contains w.seen j) 1 0 = h j in let b : times j (done ++ []) ≡ times j done = ap (times j) (append-nil done) in omega arith
+
+  next_sole : (done : List ObjectId) (w : SimpleWalk F P) {answer : Result Info Error} {new : SimpleWalk F P} → Next objects faulty answers w (Some answer) new → IsSole done w → IsSole (with_answer done answer) new
+  next_sole done w (initial fresh s) h = first_sole done (record w { begun = true }) s h
+  next_sole done w (later begun s) h = steps_sole done w s h
 
   given_cons : (answer : Result Info Error) (list : List (Result Info Error)) → given_ids (answer ∷ list) ≡ given_ids (answer ∷ []) ++ given_ids list
   given_cons (Ok info) list = refl

@@ -38,10 +38,10 @@ module _ {F P : Type 0} (objects : F → Objects) (faulty : F → ObjectId → T
     pub pending : Joins (order_of objects faulty answers s) (ids_of new.pending) (ids_of old.pending ++ fresh (set.contains old.seen) (next s i))
 
   stands_read : (s : Setting objects faulty answers) (w : SimpleWalk F P) (text : List ℕ) (i : ObjectId) → Stands objects faulty answers s w → Stands objects faulty answers s (record w { text = text; current = Some i })
-  stands_read s w text i h = record { store = h.store; parents = h.parents; sorting = h.sorting; marks = h.marks; tips = h.tips; rows = h.rows; asked_of = h.asked_of; remembered = h.remembered; timed = h.timed }
+  stands_read s w text i h = record { store = h.store; parents = h.parents; sorting = h.sorting; marks = h.marks; begun = h.begun; tips = h.tips; rows = h.rows; asked_of = h.asked_of; remembered = h.remembered; timed = h.timed }
 
   stands_unrowed : (s : Setting objects faulty answers) (w : SimpleWalk F P) (i : ObjectId) → Stands objects faulty answers s w → Stands objects faulty answers s (unrowed w i)
-  stands_unrowed s w i h = record { store = h.store; parents = h.parents; sorting = h.sorting; marks = h.marks; tips = h.tips; rows = ⊎_elim (λ e. ⊎_elim (λ r. inl (e ∙ r)) (λ r. inr (e ∙ r)) h.rows) (λ e. inr e) (kept_either w.rows (row_of w.rows i)); asked_of = h.asked_of; remembered = h.remembered; timed = h.timed }
+  stands_unrowed s w i h = record { store = h.store; parents = h.parents; sorting = h.sorting; marks = h.marks; begun = h.begun; tips = h.tips; rows = ⊎_elim (λ e. ⊎_elim (λ r. inl (e ∙ r)) (λ r. inr (e ∙ r)) h.rows) (λ e. inr e) (kept_either w.rows (row_of w.rows i)); asked_of = h.asked_of; remembered = h.remembered; timed = h.timed }
 
   concluded : (s : Setting objects faulty answers) (w : SimpleWalk F P) (i : ObjectId) (ps : List ObjectId) (generation : Option ℕ) (time : Option ℤ) (text : List ℕ) (fault : Option DecodeError) (walk : SimpleWalk F P) {how : Treated} {answer : Result Info Error} {new : SimpleWalk F P} →
       ps ≡ walked_parents (objects s.store) s.parents i → fault ≡ None → IsRowGeneration s.rows i generation → time ≡ time_if (order_of objects faulty answers s) (time_of (objects s.store) i) → (how ≡ GoesOn → Did objects faulty answers s ps w walk) →

@@ -20,7 +20,7 @@ use Rattle.gix_hash.specs.Reach.{IsAtBoundary, Reaches, start, step, Tells}
 use Rattle.gix_revwalk.specs.Agreeing.{IsAgreeing}
 use Rattle.gix_revwalk.specs.Commits.{time_of, parents_of, commit_of_object, walked_parents, ReadsWhole}
 use Rattle.gix_revwalk.specs.declared.Pending.{Pending}
-use Rattle.gix_simple.specs.Walk.{SimpleWalk, time_order, cutoff, Steps, painted, Next, unhidden, paints, faulty_history, no_memory}
+use Rattle.gix_simple.specs.Walk.{SimpleWalk, time_order, cutoff, Steps, painted, FirstStep, unhidden, paints, faulty_history, no_memory, Next, initial, later}
 use Rattle.gix_revwalk.specs.Ids.{ids_of, AreDistinct}
 use Rattle.gix_revwalk.specs.Asking.{itself, AnswersBy}
 use Rattle.gix_simple.specs.Laws.{IsFresh, IsNoRefusal, IsInOrder, IsBeginning, MeetsWhole, GivesInOrder, GivesBeginning, starts_of, next_of, is_kept}
@@ -94,7 +94,7 @@ module _ {F P : Type 0} (objects : F → Objects) (faulty : F → ObjectId → T
     (by_test : AnswersBy answers w.predicate accepts) (is_fresh : IsFresh objects w accepts) (tells : Tells hides (Reaches (parents_of (objects w.store)) w.hidden_tips))
     (meets : MeetsWhole objects faulty w accepts hides) (agreeing : IsAgreeing (objects w.store) w.rows) where
   abbrev setting : set.FinSet id_cmp → Setting objects faulty answers
-  setting marks = record { store = w.store; predicate = w.predicate; rows = w.rows; parents = w.parents; sorting = w.sorting; marks = marks; accepts = accepts; hidden = hides; starts = starts_of w hides; by_test = by_test; agreeing = agreeing }
+  setting marks = record { store = w.store; predicate = w.predicate; rows = w.rows; parents = w.parents; sorting = w.sorting; begun = true; marks = marks; accepts = accepts; hidden = hides; starts = starts_of w hides; by_test = by_test; agreeing = agreeing }
 
   own : IsHistory (objects w.store) w.rows (objects w.store)
   own = own_history (objects w.store) (faulty w.store) w.rows agreeing
@@ -150,13 +150,13 @@ module _ {F P : Type 0} (objects : F → Objects) (faulty : F → ObjectId → T
   keeps_all (x ∷ xs) h = ap (λ ys. x ∷ ys) (keeps_all xs (λ i c. h i (Contains-there i x xs c))) ∙ ap (λ b. cond (not b) (x ∷ filter (λ i. not (hides i)) xs) (filter (λ i. not (hides i)) xs)) (sym (h x (Contains-here x xs)))
 
   -- nothing is painted
-  plain : (w.pending ≡ []) ⊎ (w.hidden_tips ≡ []) → {o : Option (Result Info Error)} {new : SimpleWalk F P} → Steps objects faulty answers (record w { hidden_tips = [] }) o new → Begins o new
+  plain : (w.pending ≡ []) ⊎ (w.hidden_tips ≡ []) → {o : Option (Result Info Error)} {new : SimpleWalk F P} → Steps objects faulty answers (record w { begun = true; hidden_tips = [] }) o new → Begins o new
   plain none steps = record {
     marks = w.hidden;
-    mid = record w { hidden_tips = [] };
-    known = record { whole = meets.given; marked = λ c i r n. is_fresh.shown i ∙ sym (⊎_elim (λ e. absurd (nothing_reached next_ids (starts_of w hides) (λ j m. no_tip e j (Contains-filter _ (ids_of w.pending) j m).0) c r)) (λ e. shown e i) none) };
-    runs = begun w.hidden (record w { hidden_tips = [] })
-        (record { store = refl; parents = refl; sorting = refl; marks = refl; tips = refl; rows = inl refl; asked_of = itself; remembered = is_fresh.remembered; timed = is_fresh.timed })
+    mid = record w { begun = true; hidden_tips = [] };
+    known = record { begun = refl; whole = meets.given; marked = λ c i r n. is_fresh.shown i ∙ sym (⊎_elim (λ e. absurd (nothing_reached next_ids (starts_of w hides) (λ j m. no_tip e j (Contains-filter _ (ids_of w.pending) j m).0) c r)) (λ e. shown e i) none) };
+    runs = begun w.hidden (record w { begun = true; hidden_tips = [] })
+        (record { store = refl; parents = refl; sorting = refl; marks = refl; begun = refl; tips = refl; rows = inl refl; asked_of = itself; remembered = is_fresh.remembered; timed = is_fresh.timed })
         refl (keeps_all (ids_of w.pending) (λ i c. ⊎_elim (λ e. absurd (no_tip e i c)) (λ e. shown e i) none));
     steps = steps;
   }
@@ -168,17 +168,18 @@ module _ {F P : Type 0} (objects : F → Objects) (faulty : F → ObjectId → T
       shown e i = false_from_ne_true _ (λ h. nothing_reached (parents_of (objects w.store)) w.hidden_tips (λ j m. no_member j (subst (λ xs. Contains xs j) e m)) i ((tells i).0 h))
 
   -- the hidden tips are painted
-  painting : (marks : set.FinSet id_cmp) (rows : List GraphRow) → Paints (objects w.store) w.rows (ids_of w.pending) w.hidden_tips marks rows → {o : Option (Result Info Error)} {new : SimpleWalk F P} → Steps objects faulty answers (painted objects faulty answers w marks rows) o new → Begins o new
+  painting : (marks : set.FinSet id_cmp) (rows : List GraphRow) → Paints (objects w.store) w.rows (ids_of w.pending) w.hidden_tips marks rows → {o : Option (Result Info Error)} {new : SimpleWalk F P} → Steps objects faulty answers (painted objects faulty answers (record w { begun = true }) marks rows) o new → Begins o new
   painting marks rows paint steps = record {
     marks = marks;
-    mid = painted objects faulty answers w marks rows;
-    known = record { whole = meets.given; marked = λ c i r n. exact i (inr (c, (outside c r).0, not_hidden c (outside c r).1, n)) };
-    runs = begun marks (painted objects faulty answers w marks rows)
+    mid = painted objects faulty answers (record w { begun = true }) marks rows;
+    known = record { begun = refl; whole = meets.given; marked = λ c i r n. exact i (inr (c, (outside c r).0, not_hidden c (outside c r).1, n)) };
+    runs = begun marks (painted objects faulty answers (record w { begun = true }) marks rows)
         (record {
           store = refl;
           parents = refl;
           sorting = refl;
           marks = refl;
+          begun = refl;
           tips = refl;
           rows = paint.rows_left;
           asked_of = itself;
@@ -205,11 +206,15 @@ module _ {F P : Type 0} (objects : F → Objects) (faulty : F → ObjectId → T
       let whole : ReadsWhole (objects w.store) fault.id = meets.painted some hidden fault.id (fault.reached (objects w.store) own) in
       let n : None ≡ Some whole.commit = sym (ap (commit_of_object fault.id) fault.fault.1 ∙ fault_unread (commit_items (kind_of fault.id) fault.fault.0) e fault.fault.2) ∙ whole.stored in cc
 
+  first_begins : {o : Option (Result Info Error)} {new : SimpleWalk F P} → ((answer : Result Info Error) → o ≡ Some answer → IsNoRefusal answer) → FirstStep objects faulty answers (record w { begun = true }) o new → Begins o new
+  first_begins ok (unhidden none steps) = plain none steps
+  first_begins ok (paints {marks = marks} {rows = rows} some hidden paint steps) = painting marks rows paint steps
+  first_begins ok (faulty_history {why = why} some hidden left fault) = absurd (no_hidden_fault some hidden why (ok (Err (error.HiddenGraph why)) refl) fault)
+  first_begins ok (no_memory some hidden left) = absurd ((ok (Err error.Memory) refl).0 refl)
+
   begins : {o : Option (Result Info Error)} {new : SimpleWalk F P} → ((answer : Result Info Error) → o ≡ Some answer → IsNoRefusal answer) → Next objects faulty answers w o new → Begins o new
-  begins ok (unhidden none steps) = plain none steps
-  begins ok (paints {marks = marks} {rows = rows} some hidden paint steps) = painting marks rows paint steps
-  begins ok (faulty_history {why = why} some hidden left fault) = absurd (no_hidden_fault some hidden why (ok (Err (error.HiddenGraph why)) refl) fault)
-  begins ok (no_memory some hidden left) = absurd ((ok (Err error.Memory) refl).0 refl)
+  begins ok (initial fresh s) = first_begins ok s
+  begins ok (later b s) = absurd (true≢false (sym b ∙ is_fresh.unbegun))
 
   ran : (marks : set.FinSet id_cmp) (list : List (Result Info Error)) → RunOf objects faulty answers (setting marks) [] list → GivesInOrder objects w accepts hides list
   ran marks list r = record { ids = r.ids; given = r.given_as; in_order = in_order_from (time_order w.parents w.sorting) (time_of (objects w.store)) next_ids (starts_of w hides) r.ids r.order }

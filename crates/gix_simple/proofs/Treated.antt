@@ -71,6 +71,7 @@ module _ {F P : Type 0} (objects : F → Objects) (faulty : F → ObjectId → T
     pub rows : List GraphRow
     pub parents : Parents
     pub sorting : Sorting
+    pub begun : Bool
     pub marks : set.FinSet id_cmp
     pub accepts : ObjectId → Bool
     pub hidden : ObjectId → Bool
@@ -93,6 +94,7 @@ module _ {F P : Type 0} (objects : F → Objects) (faulty : F → ObjectId → T
     pub parents : w.parents ≡ s.parents
     pub sorting : w.sorting ≡ s.sorting
     pub marks : w.hidden ≡ s.marks
+    pub begun : w.begun ≡ s.begun
     pub tips : w.hidden_tips ≡ []
     pub rows : (w.rows ≡ s.rows) ⊎ (w.rows ≡ [])
     pub asked_of : Becomes answers s.predicate w.predicate
@@ -167,6 +169,7 @@ module _ {F P : Type 0} (objects : F → Objects) (faulty : F → ObjectId → T
     parents = h.parents;
     sorting = h.sorting;
     marks = h.marks;
+    begun = h.begun;
     tips = h.tips;
     rows = h.rows;
     asked_of = becomes;

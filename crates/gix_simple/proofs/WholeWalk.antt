@@ -6,7 +6,7 @@ use Rattle.std.specs.Iterator.{Drains, Yields}
 use Rattle.std.specs.List.{AllZip}
 use Rattle.std.proofs.lemmas.List.Sorted.{Contains-permutation, IsPermutation-sym}
 use Rattle.std.proofs.lemmas.List.Elements.{All-head, All-tail}
-use Rattle.std.proofs.lemmas.Bool.{or_cases, or_left, and_parts}
+use Rattle.std.proofs.lemmas.Bool.{or_cases, or_left, and_parts, true≢false}
 use Rattle.std.specs.FinSet as set
 use Rattle.gix_hash.specs.declared.ObjectId.{ObjectId}
 use Rattle.gix_hash.specs.Id.{is_among}
@@ -19,7 +19,7 @@ use Rattle.gix_revwalk.specs.BreadthOrder.{named_by}
 use Rattle.gix_hash.specs.Reach.{Reaches}
 use Rattle.gix_revwalk.specs.Commits.{time_of, parents_of, walked_parents, ReadsWhole}
 use Rattle.gix_revwalk.specs.declared.Pending.{Pending}
-use Rattle.gix_simple.specs.Walk.{SimpleWalk, time_order, Chooses, first, best, Steps, ended, took, Next, unhidden, paints, faulty_history, no_memory}
+use Rattle.gix_simple.specs.Walk.{SimpleWalk, time_order, Chooses, first, best, Steps, ended, took, no_memory, Next, initial, later}
 use Rattle.gix_revwalk.specs.Ids.{ids_of}
 use Rattle.gix_simple.specs.Laws.{IsNoRefusal, IsGiven}
 use Rattle.gix_hash.proofs.Ids.Membership.{same_is, among-append, among-one, among_is, Contains-here, Contains-there}
@@ -49,8 +49,9 @@ module _ {F P : Type 0} (objects : F → Objects) (faulty : F → ObjectId → T
   abbrev pub named : Setting objects faulty answers → List ObjectId → List ObjectId
   named s taken = named_by (next objects faulty answers s) s.starts taken
 
-  -- what is known of the history
+  -- what is known of the history, behind the first step
   pub record Known (s : Setting objects faulty answers) : Type 0 where
+    pub begun : s.begun ≡ true
     pub whole : (i : ObjectId) → Reaches (next objects faulty answers s) s.starts i → ReadsWhole (objects s.store) i
     pub marked : (c i : ObjectId) → Reaches (next objects faulty answers s) s.starts c → Contains (parents_of (objects s.store) c) i → set.contains s.marks i ≡ s.hidden i
 
@@ -88,6 +89,7 @@ module _ {F P : Type 0} (objects : F → Objects) (faulty : F → ObjectId → T
         parents = stands.parents;
         sorting = stands.sorting;
         marks = stands.marks;
+        begun = stands.begun;
         tips = stands.tips;
         rows = stands.rows;
         asked_of = stands.asked_of;
@@ -120,21 +122,14 @@ module _ {F P : Type 0} (objects : F → Objects) (faulty : F → ObjectId → T
   MayStep walk [] = (new : SimpleWalk F P) × Steps objects faulty answers walk None new
   MayStep walk (answer ∷ rest) = (new : SimpleWalk F P) × Steps objects faulty answers walk (Some answer) new × Drains (Next objects faulty answers) new rest
 
-  pub unchanged : (w : SimpleWalk F P) → w.hidden_tips ≡ [] → ◌≡◌ {A = SimpleWalk F P} (record w { hidden_tips = [] }) w
-  unchanged w e = λ k. record w { hidden_tips = sym e k }
-
   -- behind the first step
-  next_steps : (w : SimpleWalk F P) → w.hidden_tips ≡ [] → {o : Option (Result Info Error)} {new : SimpleWalk F P} → ((answer : Result Info Error) → o ≡ Some answer → IsNoRefusal answer) → Next objects faulty answers w o new → Steps objects faulty answers w o new
-  next_steps w tips {o} {new} ok (unhidden e steps) = subst (λ x. Steps objects faulty answers x o new) (unchanged w tips) steps
-  next_steps w tips ok (paints some hides paint steps) = absurd (hides tips)
-  next_steps w tips ok (faulty_history some hides left fault) = absurd (hides tips)
-  next_steps w tips ok (no_memory some hides left) = absurd ((ok (Err error.Memory) refl).0 refl)
+  pub next_steps : (w : SimpleWalk F P) → w.begun ≡ true → {o : Option (Result Info Error)} {new : SimpleWalk F P} → Next objects faulty answers w o new → Steps objects faulty answers w o new
+  next_steps w begun (initial fresh s) = absurd (true≢false (sym begun ∙ fresh))
+  next_steps w begun (later b s) = s
 
-  pub then_steps : (w : SimpleWalk F P) (answers_left : List (Result Info Error)) → w.hidden_tips ≡ [] → All IsNoRefusal answers_left → Drains (Next objects faulty answers) w answers_left → MayStep w answers_left
-  then_steps w [] tips ok drawn = let end = at_end (Next objects faulty answers) w drawn in (end.0, next_steps w tips (λ a e. cc) end.1)
-  then_steps w (answer ∷ left) tips ok drawn =
-      let first = at_first (Next objects faulty answers) w answer left drawn in
-      (first.0, next_steps w tips (λ a e. let same : answer ≡ a = cc in subst IsNoRefusal same (All-head IsNoRefusal answer left ok)) first.1, first.2)
+  pub then_steps : (w : SimpleWalk F P) (answers_left : List (Result Info Error)) → w.begun ≡ true → Drains (Next objects faulty answers) w answers_left → MayStep w answers_left
+  then_steps w [] begun drawn = let end = at_end (Next objects faulty answers) w drawn in (end.0, next_steps w begun end.1)
+  then_steps w (answer ∷ left) begun drawn = let first = at_first (Next objects faulty answers) w answer left drawn in (first.0, next_steps w begun first.1, first.2)
 
   -- each of the ids is the next one where it comes
   abbrev pub OrderFrom : Setting objects faulty answers → List ObjectId → List ObjectId → Type 0
@@ -160,7 +155,7 @@ module _ {F P : Type 0} (objects : F → Objects) (faulty : F → ObjectId → T
   run s known [] w done h ok may = ended_run s w done h may.1
   run s known (answer ∷ left) w done h ok may =
       let t : Stepped s done answer may.0 = stepped s known w done h may.1 (All-head IsNoRefusal answer left ok) in
-      let r : RunOf s (done ++ t.i ∷ []) left = run s known left may.0 (done ++ t.i ∷ []) t.runs (All-tail IsNoRefusal answer left ok) (then_steps may.0 left t.runs.rest.tips (All-tail IsNoRefusal answer left ok) may.2) in
+      let r : RunOf s (done ++ t.i ∷ []) left = run s known left may.0 (done ++ t.i ∷ []) t.runs (All-tail IsNoRefusal answer left ok) (then_steps may.0 left (t.runs.rest.begun ∙ known.begun) may.2) in
       record { ids = t.i ∷ r.ids; given_as = (t.given_as, r.given_as); order = order_more s done r.ids t.i t.turn r.order }
 
   -- each of the ids is the next one where it comes, up to any place
@@ -184,7 +179,7 @@ module _ {F P : Type 0} (objects : F → Objects) (faulty : F → ObjectId → T
   begun s known [] w last done h ok drawn = record { ids = []; given_as = tt; begins = λ k i e. cc }
   begun s known (answer ∷ left) w last done h ok drawn =
       let here : IsNoRefusal answer = All-head IsNoRefusal answer left ok in
-      let t : Stepped s done answer drawn.0 = stepped s known w done h (next_steps w h.rest.tips (λ a e. let same : answer ≡ a = cc in subst IsNoRefusal same here) drawn.1) here in
+      let t : Stepped s done answer drawn.0 = stepped s known w done h (next_steps w (h.rest.begun ∙ known.begun) drawn.1) here in
       one_more s done t (begun s known left drawn.0 last (done ++ t.i ∷ []) t.runs (All-tail IsNoRefusal answer left ok) drawn.2)
 
   -- from a walk whose hidden tips are painted

@@ -35,6 +35,7 @@ pub record IsFresh {F P : Type 0} (objects : F → Objects) (walk : SimpleWalk F
   pub seen : (i : ObjectId) → set.contains walk.seen i ≡ true → Contains (ids_of walk.pending) i ⊎ (accepts i ≡ false)
   pub remembered : (i : ObjectId) → set.contains walk.remembered i ≡ true → accepts i ≡ true
   pub shown : (i : ObjectId) → set.contains walk.hidden i ≡ false
+  pub unbegun : walk.begun ≡ false
   -- where an order by time is in force, each pending commit has its own time
   pub timed : (order : CommitTimeOrder) → time_order walk.parents walk.sorting ≡ Some order → (p : Pending) → Contains walk.pending p
       → p.time ≡ time_of (objects walk.store) p.id

@@ -1,5 +1,5 @@
 -- What holds along the answers that are drawn from a simple walk, and of two walks that were built alike.
-use Rattle.std.specs.Prelude.{◌≡◌, ◌≢◌, ◌⊎◌, ◌↔◌, ℕ, List, [], ◌∷◌, ◌++◌, Bool, None, Some, Result, Ok, Err, Contains, All}
+use Rattle.std.specs.Prelude.{◌≡◌, ◌≢◌, ◌⊎◌, ◌↔◌, ℕ, List, [], ◌∷◌, ◌++◌, Bool, false, None, Some, Result, Ok, Err, Contains, All}
 use Rattle.std.specs.Option.{option_map}
 use Rattle.std.specs.List.{AllZip}
 use Rattle.std.specs.FinMap as map_of
@@ -70,9 +70,10 @@ pub record HasCorruptRow {F P : Type 0} (objects : F → Objects) (faulty : F �
   pub reached : Reaches (λ i. by_mode walk.parents (text_next (objects walk.store) i)) (ids_of walk.pending) row.id
   pub about : IsAbout (objects walk.store) (faulty walk.store) walk.parents row.id answer
 
--- painting drops the rows for a corrupt one
+-- painting, which is part of the first step, drops the rows for a corrupt one
 abbrev pub PaintingDrops : {F P : Type 0} → (F → Objects) → SimpleWalk F P → Type 0
-PaintingDrops objects walk = (walk.hidden_tips ≢ []) × DropsBy (parents_of (objects walk.store)) walk.rows (ids_of walk.pending) walk.hidden_tips
+PaintingDrops objects walk =
+    (walk.begun ≡ false) × (walk.hidden_tips ≢ []) × DropsBy (parents_of (objects walk.store)) walk.rows (ids_of walk.pending) walk.hidden_tips
 
 -- The answers have the generations of the rows, up to where a corrupt row drops these, and none from there on. The first of these is
 -- the commit of that row or a fault of it, or it is the first of all and painting dropped the rows.

@@ -1,5 +1,5 @@
 -- The statements of the laws of simple walks, over any store and predicate.
-use Rattle.std.specs.Prelude.{◌≡◌, ◌≢◌, ◌≤◌, ◌≤ℤ◌, ◌↔◌, ℕ, ℤ, suc, List, [], ◌++◌, Bool, false, true, Some, None, Result, Err, All, Contains, length, take, slice_get, filter}
+use Rattle.std.specs.Prelude.{◌≡◌, ◌≢◌, ◌≤◌, ◌≤ℤ◌, ◌↔◌, ℕ, ℤ, suc, List, [], ◌++◌, Bool, false, true, Option, Some, None, Result, Err, All, Contains, length, take, slice_get, filter}
 use Rattle.std.specs.Cmp.Lexicographic.{slice_cmp}
 use Rattle.std.specs.Iterator.{Drains, Yields}
 use Rattle.std.specs.List.{AllZip}
@@ -206,6 +206,14 @@ module _ {F P : Type 0} (objects : F → Objects) (faulty : F → ObjectId → T
       → IsWholeRun objects faulty answers walk accepts hidden list
       → IsWholeRun objects faulty answers other accepts shown longer
       → GivesUnhidden objects walk other list longer
+
+  -- behind its first step a walk takes the same steps with other hidden tips
+  abbrev pub HidesNoLater : Type 0
+  HidesNoLater =
+      (walk new : SimpleWalk F P) (tips : List ObjectId) (answer : Option (Result Info Error))
+      → walk.begun ≡ true
+      → Next objects faulty answers walk answer new
+      → (new.begun ≡ true) × Next objects faulty answers (record walk { hidden_tips = tips }) answer (record new { hidden_tips = tips })
 
   -- two walks with different rows
   abbrev pub RowsLeaveTheIds : Type 0

@@ -45,7 +45,9 @@ pub record SimpleWalk (F P : Type 0) : Type 0 where
   pub seen : set.FinSet id_cmp
   -- accepted tips that a cutoff took out and no parent list has named since
   pub remembered : set.FinSet id_cmp
-  -- to be hidden by the first step
+  -- whether `next` was called
+  pub begun : Bool
+  -- to be hidden by the first step, and of no meaning behind it
   pub hidden_tips : List ObjectId
   pub hidden : set.FinSet id_cmp
   -- the text of the commit last given
@@ -64,6 +66,7 @@ bare store predicate = record {
   pending = [];
   seen = set.empty;
   remembered = set.empty;
+  begun = false;
   hidden_tips = [];
   hidden = set.empty;
   text = [];
@@ -234,15 +237,21 @@ module _ {F P : Type 0} (objects : F → Objects) (faulty : F → ObjectId → T
   abbrev pub painted : SimpleWalk F P → set.FinSet id_cmp → List GraphRow → SimpleWalk F P
   painted old marks rows = record old { rows = rows; hidden_tips = []; hidden = marks; pending = filter (λ p. not (set.contains marks p.id)) old.pending }
 
-  -- one call of `next`
-  pub data Next (old : SimpleWalk F P) : Option (Result Info Error) → SimpleWalk F P → Type 0 where
+  -- the first call of `next` paints
+  pub data FirstStep (old : SimpleWalk F P) : Option (Result Info Error) → SimpleWalk F P → Type 0 where
     unhidden : {answer : Option (Result Info Error)} {new : SimpleWalk F P} → (old.pending ≡ []) ⊎ (old.hidden_tips ≡ [])
-        → Steps (record old { hidden_tips = [] }) answer new → Next old answer new
+        → Steps (record old { hidden_tips = [] }) answer new → FirstStep old answer new
     paints : {marks : set.FinSet id_cmp} {rows : List GraphRow} {answer : Option (Result Info Error)} {new : SimpleWalk F P} → old.pending ≢ []
         → old.hidden_tips ≢ [] → Paints (objects old.store) old.rows (ids_of old.pending) old.hidden_tips marks rows
-        → Steps (painted old marks rows) answer new → Next old answer new
+        → Steps (painted old marks rows) answer new → FirstStep old answer new
     faulty_history : {why : Hidden} {rows : List GraphRow} → old.pending ≢ [] → old.hidden_tips ≢ [] → (rows ≡ old.rows) ⊎ (rows ≡ [])
         → IsHiddenFault (objects old.store) (faulty old.store) old.rows (ids_of old.pending) old.hidden_tips why
-        → Next old (Some (Err (error.HiddenGraph why))) (record old { rows = rows; hidden_tips = []; pending = []; text = [] })
+        → FirstStep old (Some (Err (error.HiddenGraph why))) (record old { rows = rows; hidden_tips = []; pending = []; text = [] })
     no_memory : {rows : List GraphRow} → old.pending ≢ [] → old.hidden_tips ≢ [] → (rows ≡ old.rows) ⊎ (rows ≡ [])
-        → Next old (Some (Err error.Memory)) (record old { rows = rows; hidden_tips = []; pending = []; text = [] })
+        → FirstStep old (Some (Err error.Memory)) (record old { rows = rows; hidden_tips = []; pending = []; text = [] })
+
+  -- one call of `next`: only the first one looks at hidden tips
+  pub data Next (old : SimpleWalk F P) : Option (Result Info Error) → SimpleWalk F P → Type 0 where
+    initial : {answer : Option (Result Info Error)} {new : SimpleWalk F P} → old.begun ≡ false → FirstStep (record old { begun = true }) answer new
+        → Next old answer new
+    later : {answer : Option (Result Info Error)} {new : SimpleWalk F P} → old.begun ≡ true → Steps old answer new → Next old answer new

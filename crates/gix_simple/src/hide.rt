@@ -1,16 +1,17 @@
 //! How a walk hides what its hidden tips reach.
-ghost use Rattle.std.specs.Prelude.{◌≡◌, ◌≢◌, ◌==◌, ◌||◌, [], filter, length, not, if◌then◌else◌, IfOk, IfErr};
+ghost use Rattle.std.specs.Prelude.{◌≡◌, ◌≢◌, ◌==◌, ◌||◌, [], true, filter, length, not, if◌then◌else◌, IfOk, IfErr};
 ghost use Rattle.std.specs.FinSet as set;
 ghost use Rattle.gix_object.specs.declared.find.existing_iter.Error.TheVariants as existing;
 ghost use Rattle.gix_paint.specs.declared.Hidden.TheVariants as hidden_by;
 ghost use Rattle.gix_paint.specs.Painting.{Paints, IsHiddenFault};
 ghost use Rattle.gix_simple.specs.Inside.Steps.{Hides, unpainted};
+ghost use Rattle.gix_simple.specs.Walk.{FirstStep};
 ghost use Rattle.gix_revwalk.specs.Ids.{ids_of};
 
 use super::{Error, Simple};
 use gix_object::find::Find;
 use gix_paint::{Hidden, HiddenIds, Painting, paint};
-use gix_revwalk::{Pending, Predicate};
+use gix_revwalk::{Info, Pending, Predicate};
 use std::alloc::{AllocError, Global};
 use std::collections::VecDeque;
 
@@ -32,9 +33,22 @@ fn visible(
 }
 
 impl<F: Find + Drop, P: Predicate + Drop> Simple<F, P> {
+    // The first step: what is hidden is painted first.
+    pub(super) fn first_step(&mut self) -> Option<Result<Info, Error>>
+        requires { P.can_accept self.old.predicate }
+        ensures steps { FirstStep F.objects F.faulty P.answers (record self.old { begun = true }) result self.new }
+        ensures asks { P.can_accept self.new.predicate }
+    {
+        self.begun = true;
+        if let Err(error) = self.hide_painted() {
+            return Some(Err(error));
+        }
+        self.step()
+    }
+
     // Paints what the hidden tips reach, and takes the pending commits among it out. Without pending commits or hidden tips
     // there is nothing to do.
-    pub(super) fn hide_painted(&mut self) -> Result<(), Error>
+    fn hide_painted(&mut self) -> Result<(), Error>
         ensures hides { Hides F.objects F.faulty P.answers self.old result self.new }
         ensures asks { self.new.predicate ≡ self.old.predicate }
     {

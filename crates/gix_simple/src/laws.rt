@@ -1,6 +1,6 @@
 //! Laws of `commit::Simple`, and of the commits that walks give.
 
-ghost use Rattle.gix_simple.specs.Statements.{MakesNewWalks, BuildsFreshWalks, NewWalksGiveBreadthFirst, PlainRunsAreInBreadthOrder, PlainRunsAreInTimeOrder, RunsAreInOrder, GivesEachOnce, RunsBeginInOrder, BeginsOnce, RunsGiveTheDifference, FaultlessRunsGiveTheDifference, info_cmp, BuildsAlike, HidesWhatIsReached, RowsLeaveTheIds, TellsTheGenerations, TimesFall, GivesNeverTwice, AsksNeverTwice, Ends, ReachIsDecided, SomeBreadthOrder, SomeTimeOrder, OneBreadthOrder, OneBreadthBeginning, OneTimeOrder, OneTimeBeginning};
+ghost use Rattle.gix_simple.specs.Statements.{MakesNewWalks, BuildsFreshWalks, NewWalksGiveBreadthFirst, PlainRunsAreInBreadthOrder, PlainRunsAreInTimeOrder, RunsAreInOrder, GivesEachOnce, RunsBeginInOrder, BeginsOnce, RunsGiveTheDifference, FaultlessRunsGiveTheDifference, info_cmp, BuildsAlike, HidesWhatIsReached, HidesNoLater, RowsLeaveTheIds, TellsTheGenerations, TimesFall, GivesNeverTwice, AsksNeverTwice, Ends, ReachIsDecided, SomeBreadthOrder, SomeTimeOrder, OneBreadthOrder, OneBreadthBeginning, OneTimeOrder, OneTimeBeginning};
 ghost use Rattle.std.specs.Prelude.{◌≡◌};
 ghost use Rattle.gix_revwalk.specs.declared.Info.{Info as InfoRecord};
 
@@ -90,6 +90,11 @@ pub fn are_alike<F: Find, P: Predicate>()
 /// are alike, their predicates accept the same ids, and each walk is as `in_order` asks.
 pub fn hides<F: Find, P: Predicate>()
     ensures { HidesWhatIsReached F.objects F.faulty P.answers }
+{}
+
+/// Once `next` was called, what `hide` is given changes no answer of a walk: it takes the same steps with any hidden tips.
+pub fn hides_no_later<F: Find, P: Predicate>()
+    ensures { HidesNoLater F.objects F.faulty P.answers }
 {}
 
 /// Rows that agree, corrupt ones among them, leave the ids as they are: their list where no order by time is in force, otherwise

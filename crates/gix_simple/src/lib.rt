@@ -188,7 +188,7 @@ impl<T: Drop> From<AllocFailed<T>> for Error {
 /// - `Find` if the store hasn't the commit, or can't read it. In an order by time also `Find(Store)`, if the store fails at a parent that
 ///   is asked for its time: the parents after it aren't walked from this commit. The walk goes on with the other pending commits.
 /// - `ObjectDecode` if the commit's bytes are broken before its parents end. The walk goes on, also with the parents before the fault.
-/// - `HiddenGraph`, at the first step after `hide`, if a commit can't be read that painting has to read to know what is hidden. Nothing
+/// - `HiddenGraph`, at the first step of a walk with hidden tips, if a commit can't be read that painting has to read to know what is hidden. Nothing
 ///   follows.
 /// - `Memory` when out of memory. Nothing follows.
 ///
@@ -206,7 +206,9 @@ pub struct Simple<F, P> {
     seen: IdSet,
     // Accepted tips that a cutoff took out and no parent list has named since.
     remembered: IdSet,
-    // To be hidden, with all that they reach, by the first step.
+    // Whether `next` was called.
+    begun: bool,
+    // To be hidden, with all that they reach, by the first step. No later step looks at them.
     hidden_tips: Vec<ObjectId>,
     hidden: HiddenIds,
     // The text of the commit last given, if it was read from the store.
@@ -238,6 +240,7 @@ impl<F, P> Model for Simple<F, P> {
       pending = w.pending.items;
       seen = w.seen;
       remembered = w.remembered;
+      begun = w.begun;
       hidden_tips = w.hidden_tips.items;
       hidden = w.hidden;
       text = w.text.items;
@@ -295,6 +298,7 @@ impl<F: Find + Drop, P: Predicate + Drop> Simple<F, P> {
             pending: PendingQueue::new(alloc),
             seen: IdSet::new(alloc),
             remembered: IdSet::new(alloc),
+            begun: false,
             hidden_tips: Vec::new(alloc),
             hidden: HiddenIds::new(alloc),
             text: Vec::new(alloc),
@@ -335,8 +339,9 @@ impl<F: Find + Drop, P: Predicate + Drop> Simple<F, P> {
         Ok(self)
     }
 
-    /// Hides all that these tips reach, by any parent and whatever the predicate says, in place of tips given earlier. The next
-    /// step reads it; where it can't, that step gives `HiddenGraph`, and then nothing.
+    /// Hides all that these tips reach, by any parent and whatever the predicate says, in place of tips given earlier. The first
+    /// step reads it; where it can't, that step gives `HiddenGraph`, and then nothing. After the first step the call hides nothing
+    /// more, and shows nothing again: the walk goes on as without it.
     ///
     /// # Errors
     ///
@@ -426,9 +431,9 @@ impl<F: Find + Drop, P: Predicate + Drop> Iterator for Simple<F, P> {
     ghost remaining = { λ walk. at_most (answers_left F.objects walk) };
 
     fn next(&mut self) -> Option<Result<Info, Error>> {
-        if let Err(error) = self.hide_painted() {
-            return Some(Err(error));
+        if self.begun {
+            return self.step();
         }
-        self.step()
+        self.first_step()
     }
 }

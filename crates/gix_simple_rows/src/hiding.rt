@@ -8,7 +8,7 @@ pub fn tables() -> &'static [Table<'static>] {
     &TABLES
 }
 
-static TABLES: [Table<'static>; 9] = [
+static TABLES: [Table<'static>; 14] = [
     Table {
         by: BY_ALL,
         cases: &[
@@ -95,6 +95,73 @@ static TABLES: [Table<'static>; 9] = [
     Table {
         history: History { scale: -1, ..PLAIN },
         cases: &[(&[8], AS_MET, &[7], "8 6 5 3")],
+        ..OF_SAMPLE
+    },
+    // What is hidden behind the first step isn't painted: the walk goes on as without it, and what the first step hid stays hidden.
+    Table {
+        by: BY_ALL,
+        wish: Wish {
+            late: &[(1, &[6])],
+            ..ALL
+        },
+        cases: &[
+            (&[8], AS_MET, &[], "8 6 7 5 4 3 2 1"),
+            (&[8], BY_TIME, &[], "8 7 6 5 4 3 2 1"),
+            (&[8], [BREADTH, SINCE_4], &[], "8 7 6 5 4"),
+            (&[8], AS_MET, &[5], "8 6 7 4 2"),
+            (&[8], BY_TIME, &[5], "8 7 6 4 2"),
+            (&[8], AS_MET, &[8], ""),
+            (&[8], AS_MET, &[10], "hidden-missing-10"),
+        ],
+        ..OF_SAMPLE
+    },
+    // A tip that isn't stored is no fault then.
+    Table {
+        by: BY_ALL,
+        wish: Wish {
+            late: &[(1, &[10])],
+            ..ALL
+        },
+        cases: &[
+            (&[8], AS_MET, &[], "8 6 7 5 4 3 2 1"),
+            (&[8], BY_TIME, &[5], "8 7 6 4 2"),
+        ],
+        ..OF_SAMPLE
+    },
+    // No tips take the place of those that the first step hid, and more come behind the second step.
+    Table {
+        by: BY_ALL,
+        wish: Wish {
+            late: &[(1, &[]), (1, &[4])],
+            ..ALL
+        },
+        cases: &[
+            (&[8], AS_MET, &[], "8 6 7 5 4 3 2 1"),
+            (&[8], AS_MET, &[5], "8 6 7 4 2"),
+        ],
+        ..OF_SAMPLE
+    },
+    // Behind the end nothing comes.
+    Table {
+        by: BY_ALL,
+        wish: Wish {
+            late: &[(9, &[4])],
+            ..ALL
+        },
+        cases: &[
+            (&[], AS_MET, &[], ""),
+            (&[8], AS_MET, &[], "8 6 7 5 4 3 2 1"),
+        ],
+        ..OF_SAMPLE
+    },
+    // Before the first step the last tips count.
+    Table {
+        by: BY_ALL,
+        wish: Wish {
+            late: &[(0, &[7]), (1, &[1])],
+            ..ALL
+        },
+        cases: &[(&[8], AS_MET, &[8], "8 6 5 3")],
         ..OF_SAMPLE
     },
 ];

@@ -69,6 +69,9 @@ pub struct Wish<'a> {
     pub last_parents: Option<Parents>,
     /// The tips that are hidden, and the tips that are hidden in their place.
     pub hidden: [&'a [u8]; 2],
+    /// The tips that are hidden between steps, each behind so many further steps. Only a walk without a predicate, of which commits are
+    /// written and no texts, is stopped for them.
+    pub late: &'a [(usize, &'a [u8])],
     pub asked: Asked,
     pub detail: Detail,
 }
@@ -81,6 +84,7 @@ pub const ALL: Wish<'static> = Wish {
     parents: Parents::All,
     last_parents: None,
     hidden: [&[], &[]],
+    late: &[],
     asked: Asked::No,
     detail: Detail::Digit,
 };
@@ -213,6 +217,26 @@ fn draw<F: Find + Drop, P: Predicate + Drop>(
     Ok(())
 }
 
+/// Tells the answers of so many further steps.
+fn draw_some<F: Find + Drop>(
+    walk: &mut Simple<F, Unfiltered>,
+    steps: usize,
+    detail: Detail,
+    told: &mut String,
+) -> Result<(), Stop> {
+    for _ in 0..steps {
+        match walk.next() {
+            None => return check_end(walk),
+            Some(Err(Error::Memory)) => {
+                check_end(walk)?;
+                return Err(Stop::Memory);
+            }
+            Some(answer) => write_answer(told, &answer, detail)?,
+        }
+    }
+    Ok(())
+}
+
 /// Draws a walk to its end and tells each answer.
 pub fn tell_walk<F: Find + Drop>(
     mut walk: Simple<F, Unfiltered>,
@@ -271,6 +295,23 @@ impl Wish<'_> {
         }
     }
 
+    /// Tells what the walk gives up to the last call between steps that hides tips.
+    fn tell_early<F: Find + Drop>(
+        &self,
+        alloc: Global,
+        mut walk: Simple<F, Unfiltered>,
+        told: &mut String,
+    ) -> Result<Simple<F, Unfiltered>, Stop> {
+        for (steps, tips) in self.late {
+            draw_some(&mut walk, *steps, self.detail, told)?;
+            match walk.hide(ids(alloc, tips)?) {
+                Ok(same) => walk = same,
+                Err(_) => return Err(Stop::Memory),
+            }
+        }
+        Ok(walk)
+    }
+
     /// What the walk gives without a predicate. `unsorted` and a fault are written of a walk whose tips can't be sorted.
     fn tell_all<F: Find + Drop>(
         &self,
@@ -281,7 +322,7 @@ impl Wish<'_> {
     ) -> Result<(), Stop> {
         let walk = Simple::new(alloc, self.tips(alloc)?, find)?;
         match self.made(alloc, walk, graph) {
-            Ok(walk) => tell_walk(walk, self.detail, told),
+            Ok(walk) => tell_walk(self.tell_early(alloc, walk, told)?, self.detail, told),
             Err(Error::Memory) => Err(Stop::Memory),
             Err(error) => {
                 told.push_str("unsorted ")?;

@@ -1,26 +1,47 @@
 //! Lists the commits that some commits reach, or the files of a tree, from a stream of a repository's objects.
 #![tactic(auto)]
 
-use gix_commands::{Fault, run};
+use gix_commands::{Fault, run, run_over, write_heads};
 use std::process::ExitCode;
-use std::{env, io};
+use std::{env, fs, io};
+use thiserror::Error;
+
+// Why the program failed.
+#[derive(Drop, Debug, Error)]
+enum Failure {
+    // The command failed.
+    #[error("{0}")]
+    Command(Fault),
+    // The file of this name, which is to be a layer of the commit-graph, can't be read.
+    #[error("commit-graph unreadable: {0}")]
+    Unreadable(String),
+}
+
+impl From<Fault> for Failure {
+    fn from(fault: Fault) -> Failure {
+        Failure::Command(fault)
+    }
+}
 
 fn main(rt: HostRuntime) -> ExitCode {
     match answer(&rt) {
         Ok(()) => ExitCode::SUCCESS,
-        Err(fault) => {
-            let _ = eprintln!(rt; "gix_walk: {fault}");
+        Err(failure) => {
+            let _ = eprintln!(rt; "gix_walk: {failure}");
             ExitCode::FAILURE
         }
     }
 }
 
 // Runs the command that the arguments name, from standard input to standard output.
-fn answer(rt: &HostRuntime) -> Result<(), Fault> {
+fn answer(rt: &HostRuntime) -> Result<(), Failure> {
     let mut arguments = env::args(rt).map_err(fault_of_arguments)?;
     let _name = arguments.next();
-    let words: Vec<String> = arguments.collect(rt.alloc())?;
-    run(rt.alloc(), &words, &mut rt.stdin(), &mut rt.stdout())
+    let words: Vec<String> = arguments.collect(rt.alloc()).map_err(|_| Fault::Memory)?;
+    let mut layers = Vec::new(rt.alloc());
+    let words = read_layers(rt, words.as_slice(), &mut layers)?;
+    serve(rt, words, layers.as_slice())?;
+    Ok(())
 }
 
 // Arguments that aren't UTF-8 are no command.
@@ -28,5 +49,45 @@ fn fault_of_arguments(error: io::Error) -> Fault {
     match error.kind() {
         io::ErrorKind::OutOfMemory => Fault::Memory,
         _ => Fault::Usage,
+    }
+}
+
+// Reads the layers of a commit-graph that options before the command name, and lends the words behind the options.
+fn read_layers<'a>(
+    rt: &HostRuntime,
+    words: &'a [String],
+    layers: &mut Vec<Vec<u8>>,
+) -> Result<&'a [String], Failure> {
+    let mut left = words;
+    while let [option, file, rest @ ..] = left {
+        if option.as_str() != "--commit-graph" {
+            break;
+        }
+        let layer = read_layer(rt, file)?;
+        layers.push(layer).map_err(|_| Fault::Memory)?;
+        left = rest;
+    }
+    Ok(left)
+}
+
+// The bytes of a file.
+fn read_layer(rt: &HostRuntime, file: &String) -> Result<Vec<u8>, Failure> {
+    match fs::read(rt, file.as_str()) {
+        Ok(bytes) => Ok(bytes),
+        Err(error) => match error.kind() {
+            io::ErrorKind::OutOfMemory => Err(Failure::Command(Fault::Memory)),
+            _ => Err(Failure::Unreadable(file.clone().map_err(|_| Fault::Memory)?)),
+        },
+    }
+}
+
+// Without layers the words are a command over records alone.
+fn serve(rt: &HostRuntime, words: &[String], layers: &[Vec<u8>]) -> Result<(), Fault> {
+    if layers.is_empty() {
+        return run(rt.alloc(), words, &mut rt.stdin(), &mut rt.stdout());
+    }
+    match words {
+        [name] if name.as_str() == "heads" => { write_heads(rt.alloc(), layers, &mut rt.stdout()) }
+        _ => run_over(rt.alloc(), words, layers, &mut rt.stdin(), &mut rt.stdout()),
     }
 }

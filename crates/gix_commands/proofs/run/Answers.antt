@@ -1,6 +1,7 @@
 use Rattle.std.proofs.Common.{Err, ◌∙◌, ap}
 use Rattle.std.proofs.lemmas.Result.{err_from_is_err_and}
 use Rattle.gix_commands.proofs.RunFacts.{no_rejection, runs_sound, runs_spelled, runs_words, runs_input, runs_served}
+use Rattle.gix_commands.proofs.WholeRuns.{promises}
 use Rattle.gix_commands.proofs.run.Goals as goal
 
 pub returns-in_err-command-clause-runs : goal.returns-in_err-command-clause-runs
@@ -37,3 +38,12 @@ returns-in_err-store-clause-unread g c = no_rejection c.in_ok-command.ensures
 
 pub returns-clause-unread : goal.returns-clause-unread
 returns-clause-unread g c = no_rejection c.in_ok-command.ensures
+
+pub returns-in_err-command-clause-whole : goal.returns-in_err-command-clause-whole
+returns-in_err-command-clause-whole g c = promises (returns-in_err-command-clause-runs g c)
+
+pub returns-in_err-store-clause-whole : goal.returns-in_err-store-clause-whole
+returns-in_err-store-clause-whole g c = promises (returns-in_err-store-clause-runs g c)
+
+pub returns-clause-whole : goal.returns-clause-whole
+returns-clause-whole g c = promises (returns-clause-runs g c)

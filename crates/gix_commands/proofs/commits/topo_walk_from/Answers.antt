@@ -1,7 +1,7 @@
 use Rattle.std.proofs.Common.{List, Ok, ◌∙◌}
 use Rattle.std.proofs.lemmas.Result.{err_from_is_err_and}
 use Rattle.gix_hash.specs.declared.ObjectId.{ObjectId}
-use Rattle.gix_commands.proofs.StartFacts.{drained, chosen, built_from, build_failed}
+use Rattle.gix_commands.proofs.StartFacts.{drained, chosen, fresh_over, built_from, build_failed}
 use Rattle.gix_commands.proofs.commits.topo_walk_from.Goals as goal
 
 pub returns-in_err-walk-clause-err : goal.returns-in_err-walk-clause-err
@@ -11,8 +11,8 @@ returns-in_err-walk-clause-err c =
     let e = c.in_ok-builder.ensures in
     let tips : List ObjectId = c.args.tips.items in
     let ends : List ObjectId = c.args.ends.items in
-    build_failed _ _ tips ends c.sorting.result
-    (chosen c.args.store c.args.sorting tips ends t.1 e.1 _ _ _ _ c.new.ensures t.4 (drained tips t.1 t.0 t.2.0 (t.2.1 ∙ c.args.tips.ok.0) t.3) e.4 (drained ends e.1 e.0 e.2.0 (e.2.1 ∙ c.args.ends.ok.0) e.3) c.sorting.ensures)
+    build_failed _ _ _ tips ends c.with_commit_graph.result
+    (chosen _ _ c.args.sorting tips ends t.1 e.1 _ _ _ _ _ _ (fresh_over _ _ _ c.over.ensures c.new.ensures) t.4 (drained tips t.1 t.0 t.2.0 (t.2.1 ∙ c.args.tips.ok.0) t.3) e.4 (drained ends e.1 e.0 e.2.0 (e.2.1 ∙ c.args.ends.ok.0) e.3) c.sorting-ordered.ensures c.with_commit_graph.ensures c.in_ok-rows.ensures)
     _ _ _ p.1 p.2 c.in_err-walk.ensures
 
 pub returns-clause-ok : goal.returns-clause-ok
@@ -21,6 +21,6 @@ returns-clause-ok c =
     let e = c.in_ok-builder.ensures in
     let tips : List ObjectId = c.args.tips.items in
     let ends : List ObjectId = c.args.ends.items in
-    built_from c.args.store c.args.sorting tips ends c.sorting.result
-    (chosen c.args.store c.args.sorting tips ends t.1 e.1 _ _ _ _ c.new.ensures t.4 (drained tips t.1 t.0 t.2.0 (t.2.1 ∙ c.args.tips.ok.0) t.3) e.4 (drained ends e.1 e.0 e.2.0 (e.2.1 ∙ c.args.ends.ok.0) e.3) c.sorting.ensures)
+    built_from _ _ c.args.sorting tips ends c.with_commit_graph.result
+    (chosen _ _ c.args.sorting tips ends t.1 e.1 _ _ _ _ _ _ (fresh_over _ _ _ c.over.ensures c.new.ensures) t.4 (drained tips t.1 t.0 t.2.0 (t.2.1 ∙ c.args.tips.ok.0) t.3) e.4 (drained ends e.1 e.0 e.2.0 (e.2.1 ∙ c.args.ends.ok.0) e.3) c.sorting-ordered.ensures c.with_commit_graph.ensures c.in_ok-rows.ensures)
     (Ok c.in_ok-walk.walk) c.in_ok-walk.ensures

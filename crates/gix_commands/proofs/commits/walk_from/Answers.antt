@@ -1,8 +1,8 @@
-use Rattle.std.proofs.Common.{List, ap, subst, ◌∙◌}
+use Rattle.std.proofs.Common.{List, ◌∙◌}
 use Rattle.std.proofs.lemmas.Result.{err_from_is_err_and}
 use Rattle.gix_hash.specs.declared.ObjectId.{ObjectId}
-use Rattle.gix_commands.specs.Walked.{Walk, IsMadeOf}
-use Rattle.gix_commands.proofs.StartFacts.{drained, is_sorted, start_failed}
+use Rattle.gix_commands.specs.Walked.{Walk}
+use Rattle.gix_commands.proofs.StartFacts.{drained, held, made_of, is_sorted, start_failed}
 use Rattle.gix_commands.proofs.commits.walk_from.Goals as goal
 
 pub returns-in_err-sorted-clause-err : goal.returns-in_err-sorted-clause-err
@@ -11,7 +11,7 @@ returns-in_err-sorted-clause-err c =
     let made = c.in_ok-made.ensures in
     let tips : List ObjectId = c.args.tips.items in
     let same = drained tips made.1 made.0 made.2.0 (made.2.1 ∙ c.args.tips.ok.0) made.3 in
-    start_failed _ _ _ c.in_ok-made.made (subst (λ (ids : List ObjectId). IsMadeOf c.args.store.now ids c.in_ok-made.made) same made.4) _ _ _ p.1 p.2 c.in_err-sorted.ensures.breadth_first c.in_err-sorted.ensures.err
+    start_failed _ _ _ c.in_ok-made.made (made_of _ _ _ _ _ c.over.ensures same made.4) _ _ _ p.1 p.2 c.in_err-sorted.ensures.breadth_first c.in_err-sorted.ensures.err
 
 pub returns-clause-ok : goal.returns-clause-ok
 returns-clause-ok c =
@@ -23,7 +23,7 @@ returns-clause-ok c =
     record {
       made = c.in_ok-made.made;
       sorted = sorted;
-      makes = subst (λ (ids : List ObjectId). IsMadeOf c.args.store.now ids c.in_ok-made.made) (drained tips made.1 made.0 made.2.0 (made.2.1 ∙ c.args.tips.ok.0) made.3) made.4;
+      makes = made_of _ _ _ _ _ c.over.ensures (drained tips made.1 made.0 made.2.0 (made.2.1 ∙ c.args.tips.ok.0) made.3) made.4;
       sorts = is_sorted _ _ _ c.in_ok-sorted.ensures.breadth_first c.in_ok-sorted.ensures.ok;
-      hides = hides.4 ∙ ap (λ (ids : List ObjectId). record sorted { hidden_tips = ids }) (drained hidden hides.1 hides.0 hides.2.0 (hides.2.1 ∙ c.args.hidden.ok.0) hides.3);
+      hides = held sorted c.in_ok-walk.walk c.commit_graph.result _ hidden _ _ hides.4 (drained hidden hides.1 hides.0 hides.2.0 (hides.2.1 ∙ c.args.hidden.ok.0) hides.3) c.commit_graph.ensures c.in_ok-rows.ensures;
     }

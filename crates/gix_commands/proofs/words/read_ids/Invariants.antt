@@ -5,7 +5,7 @@ use Rattle.gix_commands.specs.Words.{Ids, ids_from}
 use Rattle.gix_commands.proofs.words.read_ids.Given as goal
 
 -- ids after others
-abbrev behind : Ids → Result Ids Fault → Result Ids Fault
+abbrev pub behind : Ids → Result Ids Fault → Result Ids Fault
 behind front (Ok ids) = Ok (front.0 ++ ids.0, front.1 ++ ids.1)
 behind front (Err e) = Err e
 

@@ -1,15 +1,16 @@
-use Rattle.std.proofs.Common.{sym, subst}
-use Rattle.gix_simple.proofs.FirstStep.{next_of_hidden, next_of_fault, progresses}
+use Rattle.std.proofs.Common.{sym, ap, ◌∙◌}
+use Rattle.gix_simple.specs.Walk.{initial, later}
+use Rattle.gix_simple.proofs.FirstStep.{progresses}
 use Rattle.gix_simple.proofs.SimpleIterator.next.Goals as goal
 
-pub returns-in-Err-clause-steps : goal.returns-in-Err-clause-steps
-returns-in-Err-clause-steps g c = next_of_fault g.F.Find.objects g.F.Find.faulty g.P.Predicate.answers c.args.self.now c.in-Err.error _ c.in-Err.ensures.hides
+pub returns-then-self-clause-steps : goal.returns-then-self-clause-steps
+returns-then-self-clause-steps g c = later (ap (λ w. w.begun) (sym c.self.view_is) ∙ c.if-self.true) c.step.ensures.steps
 
-pub returns-in-Err-clause-goes : goal.returns-in-Err-clause-goes
-returns-in-Err-clause-goes g c = progresses g.F.Find.objects g.F.Find.faulty g.P.Predicate.answers c.args.self.now (λ walk. g.P.Predicate.can_accept walk.predicate) _ _ (returns-in-Err-clause-steps g c) (subst g.P.Predicate.can_accept (sym c.in-Err.ensures.asks) c.requires)
+pub returns-then-self-clause-goes : goal.returns-then-self-clause-goes
+returns-then-self-clause-goes g c = progresses g.F.Find.objects g.F.Find.faulty g.P.Predicate.answers c.args.self.now (λ walk. g.P.Predicate.can_accept walk.predicate) _ _ (returns-then-self-clause-steps g c) c.step.ensures.asks
 
 pub returns-clause-steps : goal.returns-clause-steps
-returns-clause-steps g c = next_of_hidden g.F.Find.objects g.F.Find.faulty g.P.Predicate.answers c.args.self.now c.in_default.field-0 _ c.in_default.ensures.hides _ _ c.step.ensures.steps
+returns-clause-steps g c = initial (ap (λ w. w.begun) (sym c.self.view_is) ∙ c.if-self.false) c.first_step.ensures.steps
 
 pub returns-clause-goes : goal.returns-clause-goes
-returns-clause-goes g c = progresses g.F.Find.objects g.F.Find.faulty g.P.Predicate.answers c.args.self.now (λ walk. g.P.Predicate.can_accept walk.predicate) _ _ (returns-clause-steps g c) c.step.ensures.asks
+returns-clause-goes g c = progresses g.F.Find.objects g.F.Find.faulty g.P.Predicate.answers c.args.self.now (λ walk. g.P.Predicate.can_accept walk.predicate) _ _ (returns-clause-steps g c) c.first_step.ensures.asks

@@ -1,0 +1,74 @@
+/* Kestrelrack's commands over the objects of a Git repository, for callers in C.
+ *
+ * Both functions keep nothing between calls, write to the room alone, and end whatever the bytes are. A call owes them:
+ *   - each pointer, also that of 0 bytes, isn't NULL and begins as many bytes as its length says, which are fewer than 2^63;
+ *   - the room overlaps neither the words nor the records, and no other thread writes any of them during the call;
+ *   - malloc, realloc and free are of one allocator, and the call is in no signal handler, and in no forked child of a program
+ *     with threads;
+ *   - there are 32 KiB of stack: the most that was measured is 20 KiB, however deep the history or the tree is;
+ *   - the processor is one of x86-64-v2 or later (SSE4.2, POPCNT), under Linux. This isn't tested at run time.
+ * To link: cc program.c libkestrelrack.a, with nothing else.
+ */
+#ifndef KESTRELRACK_H
+#define KESTRELRACK_H
+
+#include <stddef.h>
+#include <stdint.h>
+
+#ifdef __cplusplus
+extern "C" {
+#endif
+
+/* The numbers of an answer. */
+enum {
+    KESTRELRACK_WELL = 0,       /* the lines are in the room */
+    KESTRELRACK_ROOM = 1,       /* the room is too small for the lines: `length` says how many bytes they are */
+    KESTRELRACK_USAGE = 2,      /* the words are no command */
+    KESTRELRACK_ID = 3,         /* the word number `place` is no id; the command is word 1 */
+    KESTRELRACK_RECORD = 4,     /* the record number `place` isn't one, or is cut; the first is record 1 */
+    KESTRELRACK_MISSING = 5,    /* the records have no object of this `id` */
+    KESTRELRACK_WRONG_KIND = 6, /* the object of this `id` is no commit where a commit is needed, or no tree where a tree is */
+    KESTRELRACK_BROKEN = 7,     /* an object's bytes are broken */
+    KESTRELRACK_CYCLE = 8,      /* the tree of this `id` is under itself */
+    KESTRELRACK_MEMORY = 9,     /* malloc or realloc gave NULL */
+    KESTRELRACK_READ = 10,      /* the records are more than 2^40 bytes */
+    KESTRELRACK_WRITE = 11,     /* never answered */
+    KESTRELRACK_INTERNAL = 12,  /* never answered */
+    KESTRELRACK_GRAPH = 13,     /* never answered: only the program takes a commit-graph */
+    KESTRELRACK_ROW = 14,       /* never answered */
+    KESTRELRACK_DISAGREES = 15  /* never answered */
+};
+
+struct kestrelrack_answer {
+    uint32_t number;    /* one of the numbers above; a later version may have more */
+    uint32_t id_length; /* how many bytes of `id` are an id: 20 (SHA-1), 32 (SHA-256), or 0 where the number names no object */
+    size_t length;      /* in bytes: of the lines, at KESTRELRACK_WELL and KESTRELRACK_ROOM; otherwise 0 */
+    size_t place;       /* the number of the word or of the record that is named, otherwise 0 */
+    uint8_t id[32];     /* the id that is named, as bytes and not as digits, and zeros behind it */
+};
+
+/* Runs a command over records, and puts the lines that it writes at the front of the room.
+ *
+ * words    The command and its ids: "breadth", "newest", "oldest", "topo" or "date" and ids of tips, one at least, and ids of commits to
+ *          be hidden, each after a ^; "ahead" and two ids; "files" and the id of a tree. One space or one newline is between two words,
+ *          and none at either end. An id is 40 or 64 hex digits.
+ * records  The objects, as `git cat-file --batch='%(objecttype) %(objectname) %(objectsize)'` prints them. They are copied once.
+ * room     For the lines, each with a newline and none with a zero byte. The lines of commits are never longer than the records, and
+ *          those of "ahead" are at most 42 bytes.
+ *
+ * At KESTRELRACK_WELL the first `length` bytes of the room are the lines, and the rest of it is as it was. At every other number the
+ * whole room is as it was, also where a list of commits breaks off midway: of faults no line is written.
+ */
+struct kestrelrack_answer kestrelrack_run(const void *words, size_t words_length, const void *records, size_t records_length, void *room,
+                                          size_t room_length);
+
+/* Puts the text of a number at the front of the room, in English, without a place, an id or a zero byte at the end: "missing". Gives the
+ * length of the text in bytes, at most 32. Where the room is smaller it is as it was; the rest of a larger room is too.
+ */
+size_t kestrelrack_text(uint32_t number, void *room, size_t room_length);
+
+#ifdef __cplusplus
+}
+#endif
+
+#endif

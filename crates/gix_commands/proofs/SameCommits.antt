@@ -1,0 +1,216 @@
+-- The records, the texts of commits and the times that are read are those of the statement.
+use Rattle.std.specs.Prelude.{◌≡◌, ◌≢◌, ◌⊎◌, ◌==◌, ℕ, suc, List, [], ◌∷◌, ◌++◌, map, length, take, replicate, Bool, true, false, cond, Option, Some, None, All, Contains, codes}
+use Rattle.std.specs.FinMap as map_of
+use Rattle.std.specs.FinMap.{get}
+use Rattle.std.proofs.Common.{refl, sym, ap, subst, ◌∙◌, inl, inr, ⊎_elim, arith, append_assoc}
+use Rattle.std.proofs.lemmas.Bool.{eqb-true, eq-eqb, cond-true, cond-false, false≢true}
+use Rattle.std.proofs.lemmas.List.Elements.{All-nil, All-cons, All-contains, Contains-append_right}
+use Rattle.std.proofs.lemmas.Option.{same_Some, none-some}
+use Rattle.gix_hash.specs.declared.ObjectId.{ObjectId}
+use Rattle.gix_hash.specs.declared.Kind.{Kind}
+use Rattle.gix_hash.specs.Id.{id_cmp, is_same}
+use Rattle.gix_hash.proofs.Ids.Membership.{id_total, same_is, same_from, Contains-here, Contains-there, Contains-cons_cases, no_member}
+use Rattle.gix_object.specs.declared.Kind.{Kind as ObjectKind}
+use Rattle.gix_object.specs.declared.Kind.TheVariants as kind
+use Rattle.gix_object.specs.CommitText as text
+use Rattle.gix_object.specs.CommitText.{behind_last, without_spaces, digits_from, signed_seconds, seconds_behind, seconds_of}
+use Rattle.gix_object.specs.Object.{Object, Objects}
+use Rattle.gix_records.specs.Records as records
+use Rattle.gix_records.specs.Records.{kind_word, put_in, stored}
+use Rattle.gix_commands.specs.WholeStatement.{Record, AreRecords, Holds, Spells, AreParentLines, IsTime, unsigned, positive, negative}
+use Rattle.gix_commands.proofs.SameNumbers.{hex_spelled, spelled, spells_again, is_decimal, counts, width_of}
+
+-- a record, with the word of its kind
+abbrev pub worded : records.Record → Record
+worded r = record { kind = kind_word r.kind; id = r.id; bytes = r.bytes }
+
+is_kind : (k : ObjectKind) → Contains (codes "tree" ∷ codes "blob" ∷ codes "commit" ∷ codes "tag" ∷ []) (kind_word k)
+is_kind kind.Tree = (0, omega arith, refl)
+is_kind kind.Blob = (1, omega arith, refl)
+is_kind kind.Commit = (2, omega arith, refl)
+is_kind kind.Tag = (3, omega arith, refl)
+
+pub are_records : (rs : List records.Record) (input : List ℕ) → records.AreRecords rs input → AreRecords (map worded rs) input
+are_records [] input h = h
+are_records (r ∷ rs) input (rest, is, more) =
+    (is.id_digits, is.length_digits, rest, is_kind r.kind, hex_spelled is.id_digits r.id is.is_id, is_decimal is.length_digits (length r.bytes) is.is_length, are_records rs rest more, is.whole)
+
+-- no record has this id
+abbrev HasNone : List records.Record → ObjectId → Type 0
+HasNone rs i = (r : Record) → Contains (map worded rs) r → r.id ≢ i
+
+none_more : (r : records.Record) (rs : List records.Record) (i : ObjectId) → r.id ≢ i → HasNone rs i → HasNone (r ∷ rs) i
+none_more r rs i other none q c = ⊎_elim (λ e s. other (ap (λ (x : Record). x.id) e ∙ s)) (λ t. none q t) (Contains-cons_cases q (worded r) (map worded rs) c)
+
+abbrev object_of : records.Record → Object
+object_of r = record { kind = r.kind; bytes = r.bytes }
+
+abbrev put : Objects → records.Record → Objects
+put objects r = map_of.insert objects r.id (object_of r)
+
+pub get_put : (objects : Objects) (r : records.Record) (i : ObjectId) → get (put objects r) i ≡ cond (is_same i r.id) (Some (object_of r)) (get objects i)
+get_put objects r i = map_of.get-insert id_total objects r.id (object_of r) i
+
+-- what was in a store before stays there where no record has its id
+kept : (rs : List records.Record) (objects : Objects) (i : ObjectId) → HasNone rs i → get (put_in objects rs) i ≡ get objects i
+kept [] objects i none = refl
+kept (r ∷ rs) objects i none =
+    kept rs (put objects r) i (λ q c. none q (Contains-there q (worded r) (map worded rs) c)) ∙ get_put objects r i
+    ∙ other (is_same i r.id) refl
+  where
+    other : (t : Bool) → is_same i r.id ≡ t → cond t (Some (object_of r)) (get objects i) ≡ get objects i
+    other true s = absurd (none (worded r) (Contains-here (worded r) (map worded rs)) (sym (same_is i r.id s)))
+    other false s = refl
+
+-- an object is of a record, or was there before
+of_record : (rs : List records.Record) (objects : Objects) (i : ObjectId) (o : Object) → get (put_in objects rs) i ≡ Some o → Holds (map worded rs) i (kind_word o.kind) o.bytes ⊎ ((get objects i ≡ Some o) × HasNone rs i)
+of_record [] objects i o e = inr (e, λ q c. absurd (no_member q c))
+of_record (r ∷ rs) objects i o e = ⊎_elim (λ h. inl (worded r ∷ h.0, h.1, ap (λ xs. worded r ∷ xs) h.2, h.3)) (λ h. go (is_same i r.id) refl (sym (get_put objects r i) ∙ h.0) h.1) (of_record rs (put objects r) i o e)
+  where
+    go : (t : Bool) → is_same i r.id ≡ t → cond t (Some (object_of r)) (get objects i) ≡ Some o → HasNone rs i → Holds (map worded (r ∷ rs)) i (kind_word o.kind) o.bytes ⊎ ((get objects i ≡ Some o) × HasNone (r ∷ rs) i)
+    go true s e none =
+        let same : object_of r ≡ o = same_Some (object_of r) o e in
+        let whole : worded r ≡ record { kind = kind_word o.kind; id = i; bytes = o.bytes } = (λ k. record { kind = kind_word (same k).kind; id = sym (same_is i r.id s) k; bytes = (same k).bytes }) in
+        inl ([], map worded rs, ap (λ x. x ∷ map worded rs) whole, none)
+    go false s e none = inr (e, none_more r rs i (λ same. false≢true (sym s ∙ same_from i r.id (sym same))) none)
+
+pub held : (rs : List records.Record) (i : ObjectId) (o : Object) → get (stored rs) i ≡ Some o → Holds (map worded rs) i (kind_word o.kind) o.bytes
+held rs i o e = ⊎_elim (λ h. h) (λ h. let no : None ≡ Some o = sym (map_of.get-empty id_cmp i) ∙ h.0 in absurd (none-some o no)) (of_record rs map_of.empty i o e)
+
+-- and back: what the last record of an id has is in the store
+back : (rs : List records.Record) (objects : Objects) (before after : List Record) (i : ObjectId) (word bytes : List ℕ) → map worded rs ≡ before ++ record { kind = word; id = i; bytes = bytes } ∷ after → ((r : Record) → Contains after r → r.id ≢ i)
+    → (o : Object) × (get (put_in objects rs) i ≡ Some o) × (kind_word o.kind ≡ word) × (o.bytes ≡ bytes)
+back [] objects [] after i word bytes e none = cc
+back [] objects (b ∷ before) after i word bytes e none = cc
+back (r ∷ rs) objects [] after i word bytes e none =
+    let first : worded r ≡ record { kind = word; id = i; bytes = bytes } = cc in
+    let others : map worded rs ≡ after = cc in
+    let stays : get (put_in (put objects r) rs) i ≡ get (put objects r) i = kept rs (put objects r) i (subst (λ xs. (q : Record) → Contains xs q → q.id ≢ i) (sym others) none) in
+    let is : is_same i r.id ≡ true = same_from i r.id (sym (ap (λ (x : Record). x.id) first)) in (
+      object_of r,
+      stays ∙ get_put objects r i ∙ cond-true (is_same i r.id) _ _ is,
+      ap (λ (x : Record). x.kind) first,
+      ap (λ (x : Record). x.bytes) first,
+    )
+back (r ∷ rs) objects (b ∷ before) after i word bytes e none = back rs (put objects r) before after i word bytes (let t : map worded rs ≡ before ++ record { kind = word; id = i; bytes = bytes } ∷ after = cc in t) none
+
+pub held_back : (rs : List records.Record) (i : ObjectId) (word bytes : List ℕ) → Holds (map worded rs) i word bytes → (o : Object) × (get (stored rs) i ≡ Some o) × (kind_word o.kind ≡ word) × (o.bytes ≡ bytes)
+held_back rs i word bytes h = back rs map_of.empty h.0 h.1 i word bytes h.2 h.3
+
+-- lines
+parent_lines : (k : Kind) (ps : List ObjectId) (lines : List ℕ) → text.AreParentLines k ps lines → AreParentLines (width_of k) ps lines
+parent_lines k [] lines h = h
+parent_lines k (p ∷ ps) lines (first, rest, (digits, is, line), are, whole) =
+    (digits, rest, (spelled k digits p is).0, parent_lines k ps rest are, whole ∙ ap (λ xs. xs ++ rest) line ∙ append_assoc (codes "parent " ++ digits) (10 ∷ []) rest)
+
+parent_lines_back : (k : Kind) (ps : List ObjectId) (lines : List ℕ) → AreParentLines (width_of k) ps lines → text.AreParentLines k ps lines
+parent_lines_back k [] lines h = h
+parent_lines_back k (p ∷ ps) lines (digits, rest, is, are, whole) =
+    (codes "parent " ++ digits ++ 10 ∷ [], rest, (digits, spells_again k digits p is, refl), parent_lines_back k ps rest are, whole ∙ sym (append_assoc (codes "parent " ++ digits) (10 ∷ []) rest))
+
+-- what the statement says of the text of a commit
+abbrev pub IsText : ℕ → List ℕ → List ObjectId → List ℕ → Type 0
+IsText width bytes parents signature =
+    (tree : ObjectId) × (id lines author rest : List ℕ) × Spells width id tree × AreParentLines width parents lines × All (λ b. b ≢ 10) author × All (λ b. b ≢ 10) signature
+    × (bytes ≡ codes "tree " ++ id ++ 10 ∷ (lines ++ codes "author " ++ author ++ 10 ∷ (codes "committer " ++ signature ++ 10 ∷ rest)))
+
+-- four lines, one after the other
+four_lines : (a b lines c d e f rest : List ℕ) → (a ++ b ++ 10 ∷ []) ++ lines ++ (c ++ d ++ 10 ∷ []) ++ (e ++ f ++ 10 ∷ []) ++ rest ≡ a ++ b ++ 10 ∷ (lines ++ c ++ d ++ 10 ∷ (e ++ f ++ 10 ∷ rest))
+four_lines a b lines c d e f rest = simp append_assoc refl
+
+pub commit_text : (k : Kind) (bytes : List ℕ) (tree : ObjectId) (parents : List ObjectId) (signature : List ℕ) → text.IsCommitText k bytes tree parents signature → IsText (width_of k) bytes parents signature
+commit_text k bytes tree parents signature t = (
+  tree,
+  t.is_tree_line.0,
+  t.parent_lines,
+  t.author,
+  t.rest,
+  (spelled k t.is_tree_line.0 tree t.is_tree_line.1).0,
+  parent_lines k parents t.parent_lines t.are_parent_lines,
+  t.is_author_line.0,
+  t.is_committer_line.0,
+  t.whole ∙ (λ n. t.is_tree_line.2 n ++ t.parent_lines ++ t.is_author_line.1 n ++ t.is_committer_line.1 n ++ t.rest)
+      ∙ four_lines (codes "tree ") t.is_tree_line.0 t.parent_lines (codes "author ") t.author (codes "committer ") signature t.rest,
+)
+
+pub commit_text_back : (k : Kind) (bytes : List ℕ) (parents : List ObjectId) (signature : List ℕ) → IsText (width_of k) bytes parents signature → (tree : ObjectId) × text.IsCommitText k bytes tree parents signature
+commit_text_back k bytes parents signature (tree, id, lines, author, rest, spells, are, named, signed, whole) = (
+  tree,
+  record {
+    tree_line = codes "tree " ++ id ++ 10 ∷ [];
+    parent_lines = lines;
+    author = author;
+    author_line = codes "author " ++ author ++ 10 ∷ [];
+    committer_line = codes "committer " ++ signature ++ 10 ∷ [];
+    rest = rest;
+    is_tree_line = (id, spells_again k id tree spells, refl);
+    are_parent_lines = parent_lines_back k parents lines are;
+    is_author_line = (named, refl);
+    is_committer_line = (signed, refl);
+    whole = whole ∙ sym (four_lines (codes "tree ") id lines (codes "author ") author (codes "committer ") signature rest);
+  },
+)
+
+-- what is behind the last `>`
+record Behind (signature rest : List ℕ) : Type 0 where
+  before : List ℕ
+  whole : signature ≡ before ++ 62 ∷ rest
+  none : All (λ b. b ≢ 62) rest
+
+abbrev IsBehind : Option (List ℕ) → List ℕ → Type 0
+IsBehind found signature = (All (λ b. b ≢ 62) signature × (behind_last found signature ≡ found)) ⊎ ((rest : List ℕ) × Behind signature rest × (behind_last found signature ≡ Some rest))
+
+behind : (found : Option (List ℕ)) (signature : List ℕ) → IsBehind found signature
+behind found [] = inl (All-nil (λ b. b ≢ 62), refl)
+behind found (b ∷ bs) = go (behind (cond (b == 62) (Some bs) found) bs) (b == 62) refl
+  where
+    go : IsBehind (cond (b == 62) (Some bs) found) bs → (t : Bool) → (b == 62) ≡ t → IsBehind found (b ∷ bs)
+    go (inr (rest, is, e)) t same = inr (rest, record { before = b ∷ is.before; whole = ap (λ xs. b ∷ xs) is.whole; none = is.none }, e)
+    go (inl (none, e)) true same = inr (bs, record { before = []; whole = ap (λ c. c ∷ bs) (eqb-true b 62 same); none = none }, e ∙ cond-true (b == 62) _ _ same)
+    go (inl (none, e)) false same = inl (All-cons (λ c. c ≢ 62) b bs (λ s. false≢true (sym same ∙ eq-eqb b 62 s)) none, e ∙ cond-false (b == 62) _ _ same)
+
+-- the spaces at the front
+record Spaced (bytes : List ℕ) : Type 0 where
+  spaces : ℕ
+  whole : bytes ≡ replicate spaces 32 ++ without_spaces bytes
+  stops : take 1 (without_spaces bytes) ≢ 32 ∷ []
+
+spaced : (bytes : List ℕ) → Spaced bytes
+spaced [] = record { spaces = 0; whole = refl; stops = λ e. cc }
+spaced (b ∷ bs) = go (spaced bs) (b == 32) refl
+  where
+    go : Spaced bs → (t : Bool) → (b == 32) ≡ t → Spaced (b ∷ bs)
+    go s true same =
+        let left : without_spaces (b ∷ bs) ≡ without_spaces bs = cond-true (b == 32) _ _ same in
+        record { spaces = suc s.spaces; whole = ap (λ c. c ∷ bs) (eqb-true b 32 same) ∙ ap (λ xs. 32 ∷ xs) (s.whole ∙ ap (λ xs. replicate s.spaces 32 ++ xs) (sym left)); stops = subst (λ xs. take 1 xs ≢ 32 ∷ []) (sym left) s.stops }
+    go s false same =
+        let left : without_spaces (b ∷ bs) ≡ b ∷ bs = cond-false (b == 32) _ _ same in
+        record { spaces = 0; whole = sym left; stops = subst (λ xs. take 1 xs ≢ 32 ∷ []) (sym left) (λ e. let is : b ≡ 32 = cc in false≢true (sym same ∙ eq-eqb b 32 is)) }
+
+-- a part behind others has what the whole has
+behind_part : (P : ℕ → Type 0) (before rest : List ℕ) → All P (before ++ rest) → (b : ℕ) → Contains rest b → P b
+behind_part P before rest all b c = All-contains P (before ++ rest) b all (Contains-append_right before rest b c)
+
+all_of : (P : ℕ → Type 0) (bytes : List ℕ) → ((b : ℕ) → Contains bytes b → P b) → All P bytes
+all_of P [] h = All-nil P
+all_of P (b ∷ bytes) h = All-cons P b bytes (h b (Contains-here b bytes)) (all_of P bytes (λ c m. h c (Contains-there c b bytes m)))
+
+signed : (signature rest bytes : List ℕ) (spaces : ℕ) → Behind signature rest → rest ≡ replicate spaces 32 ++ bytes → take 1 bytes ≢ 32 ∷ [] → IsTime signature (signed_seconds bytes)
+signed signature rest [] spaces is whole stops = positive is.before [] spaces 0 (is.whole ∙ ap (λ xs. is.before ++ 62 ∷ xs) whole) (All-nil _) (counts []) (λ e. cc) (λ e. cc)
+signed signature rest (b ∷ bs) spaces is whole stops = go (b == 45) refl
+  where
+    at : signature ≡ is.before ++ 62 ∷ (replicate spaces 32 ++ b ∷ bs)
+    at = is.whole ∙ ap (λ xs. is.before ++ 62 ∷ xs) whole
+
+    none : All (λ c. c ≢ 62) (b ∷ bs)
+    none = all_of _ (b ∷ bs) (behind_part (λ c. c ≢ 62) (replicate spaces 32) (b ∷ bs) (subst (All (λ c. c ≢ 62)) whole is.none))
+
+    go : (t : Bool) → (b == 45) ≡ t → IsTime signature (cond t (text.negative_seconds (digits_from 0 bs)) (text.positive_seconds (digits_from 0 (b ∷ bs))))
+    go true same = negative is.before bs spaces (digits_from 0 bs) (at ∙ ap (λ c. is.before ++ 62 ∷ (replicate spaces 32 ++ c ∷ bs)) (eqb-true b 45 same)) (all_of _ bs (λ c m. All-contains (λ c. c ≢ 62) (b ∷ bs) c none (Contains-there c b bs m))) (counts bs)
+    go false same = positive is.before (b ∷ bs) spaces (digits_from 0 (b ∷ bs)) at none (counts (b ∷ bs)) stops (λ e. let is : b ≡ 45 = cc in false≢true (sym same ∙ eq-eqb b 45 is))
+
+pub is_time : (signature : List ℕ) → IsTime signature (seconds_of signature)
+is_time signature = ⊎_elim
+    (λ h. subst (IsTime signature) (sym (ap seconds_behind h.1)) (unsigned h.0))
+    (λ h. let s : Spaced h.0 = spaced h.0 in subst (IsTime signature) (sym (ap seconds_behind h.2)) (signed signature h.0 (without_spaces h.0) s.spaces h.1 s.whole s.stops))
+    (behind None signature)

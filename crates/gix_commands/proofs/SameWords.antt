@@ -1,0 +1,161 @@
+-- What words ask for is what the statement says that they ask for.
+use Rattle.std.specs.Prelude.{◌≡◌, ◌≢◌, ◌+◌, ◌==◌, ◌||◌, ◌&&◌, ℕ, List, [], ◌∷◌, Bool, true, false, cond, Option, Some, None, Result, Ok, Err, codes}
+use Rattle.std.specs.List.{list_all}
+use Rattle.std.specs.Str.{bytes_eq}
+use Rattle.std.proofs.Common.{refl, sym, ap, subst, ◌∙◌, inl, inr}
+use Rattle.std.proofs.lemmas.Bool.{eqb-true, false≢true}
+use Rattle.std.proofs.lemmas.Slice.Eq.{bytes_eq-Decides}
+use Rattle.gix_hash.specs.declared.ObjectId.{ObjectId}
+use Rattle.gix_hash.specs.declared.HexError.{HexError}
+use Rattle.gix_hash.specs.Id.{id_from_hex}
+use Rattle.gix_revwalk.specs.declared.CommitTimeOrder.TheVariants as order
+use Rattle.gix_simple.specs.declared.Sorting.TheVariants as sorting
+use Rattle.gix_topo.specs.declared.Sorting.TheVariants as topo
+use Rattle.gix_commands.specs.declared.fault.Fault.{Fault}
+use Rattle.gix_commands.specs.declared.fault.Fault.TheVariants as fault
+use Rattle.gix_commands.specs.declared.words.Order.{Order}
+use Rattle.gix_commands.specs.declared.words.Order.TheVariants.{Simple, Topo}
+use Rattle.gix_commands.specs.Words.{Request, Commits, Files, Ahead, Ids, begins_with_caret, without_caret, with_id, with_word, ids_from, order_named, commits_from, commits_of, files_from, files_of, ahead_from, ahead_of, request_named, request_of}
+use Rattle.gix_commands.specs.WholeStatement.{Spells, AreTips, digits_in}
+use Rattle.gix_commands.proofs.SameNumbers.{hex_spelled}
+
+-- the name of an order
+abbrev pub IsNameOf : List ℕ → Order → Type 0
+IsNameOf name (Simple sorting.BreadthFirst) = name ≡ codes "breadth"
+IsNameOf name (Simple (sorting.ByCommitTime order.NewestFirst)) = name ≡ codes "newest"
+IsNameOf name (Simple (sorting.ByCommitTime order.OldestFirst)) = name ≡ codes "oldest"
+IsNameOf name (Simple (sorting.ByCommitTimeCutoff by seconds)) = ⊥
+IsNameOf name (Topo topo.TopoOrder) = name ≡ codes "topo"
+IsNameOf name (Topo topo.DateOrder) = name ≡ codes "date"
+
+-- what is so of the order that a name chooses
+abbrev IsChosenBy : List ℕ → Option Order → Type 0
+IsChosenBy name None = Unit {0}
+IsChosenBy name (Some by) = IsNameOf name by
+
+order_is : (name : List ℕ) → IsChosenBy name (order_named name)
+order_is name = first (bytes_eq name (codes "breadth")) refl
+  where
+    is : (word : List ℕ) → bytes_eq name word ≡ true → name ≡ word
+    is word e = (bytes_eq-Decides name word).0 e
+
+    fifth : (t : Bool) → bytes_eq name (codes "date") ≡ t → IsChosenBy name (cond t (Some (Topo topo.DateOrder)) None)
+    fifth true e = is (codes "date") e
+    fifth false e = tt
+
+    fourth : (t : Bool) → bytes_eq name (codes "topo") ≡ t → IsChosenBy name (cond t (Some (Topo topo.TopoOrder)) (cond (bytes_eq name (codes "date")) (Some (Topo topo.DateOrder)) None))
+    fourth true e = is (codes "topo") e
+    fourth false e = fifth (bytes_eq name (codes "date")) refl
+
+    third : (t : Bool) → bytes_eq name (codes "oldest") ≡ t → IsChosenBy name (cond t (Some (Simple (sorting.ByCommitTime order.OldestFirst))) (cond (bytes_eq name (codes "topo")) (Some (Topo topo.TopoOrder)) (cond (bytes_eq name (codes "date")) (Some (Topo topo.DateOrder)) None)))
+    third true e = is (codes "oldest") e
+    third false e = fourth (bytes_eq name (codes "topo")) refl
+
+    second : (t : Bool) → bytes_eq name (codes "newest") ≡ t
+        → IsChosenBy name (cond t (Some (Simple (sorting.ByCommitTime order.NewestFirst))) (cond (bytes_eq name (codes "oldest")) (Some (Simple (sorting.ByCommitTime order.OldestFirst))) (cond (bytes_eq name (codes "topo")) (Some (Topo topo.TopoOrder)) (cond (bytes_eq name (codes "date")) (Some (Topo topo.DateOrder)) None))))
+    second true e = is (codes "newest") e
+    second false e = third (bytes_eq name (codes "oldest")) refl
+
+    first : (t : Bool) → bytes_eq name (codes "breadth") ≡ t
+        → IsChosenBy name (cond t (Some (Simple sorting.BreadthFirst)) (cond (bytes_eq name (codes "newest")) (Some (Simple (sorting.ByCommitTime order.NewestFirst))) (cond (bytes_eq name (codes "oldest")) (Some (Simple (sorting.ByCommitTime order.OldestFirst))) (cond (bytes_eq name (codes "topo")) (Some (Topo topo.TopoOrder)) (cond (bytes_eq name (codes "date")) (Some (Topo topo.DateOrder)) None)))))
+    first true e = is (codes "breadth") e
+    first false e = second (bytes_eq name (codes "newest")) refl
+
+-- what is so of the ids that words spell
+abbrev AreIdsOf : List (List ℕ) → Result Ids Fault → Type 0
+AreIdsOf words (Err e) = Unit {0}
+AreIdsOf words (Ok ids) = AreTips words ids.0 ids.1
+
+one_word : (word : List ℕ) (words : List (List ℕ)) (n : ℕ) (rest : Result Ids Fault) → AreIdsOf words rest → AreIdsOf (word ∷ words) (with_word (begins_with_caret word) n (id_from_hex (without_caret word)) rest)
+one_word word words n (Err e) h = go (id_from_hex (without_caret word))
+  where
+    go : (r : Result ObjectId HexError) → AreIdsOf (word ∷ words) (with_word (begins_with_caret word) n r (Err e))
+    go (Ok i) = tt
+    go (Err why) = tt
+one_word [] words n (Ok ids) h = go (id_from_hex []) refl
+  where
+    go : (r : Result ObjectId HexError) → id_from_hex [] ≡ r → AreIdsOf ([] ∷ words) (with_word false n r (Ok ids))
+    go (Ok i) e = inl (i, ids.0, refl, hex_spelled [] i e, h)
+    go (Err why) e = tt
+one_word (b ∷ word) words n (Ok ids) h = caret (b == 94) refl
+  where
+    go : (t : Bool) (text : List ℕ) → ((i : ObjectId) → Spells (digits_in i) text i → AreIdsOf ((b ∷ word) ∷ words) (Ok (with_id t i ids))) → (r : Result ObjectId HexError) → id_from_hex text ≡ r → AreIdsOf ((b ∷ word) ∷ words) (with_word t n r (Ok ids))
+    go t text with (Ok i) e = with i (hex_spelled text i e)
+    go t text with (Err why) e = tt
+
+    caret : (t : Bool) → (b == 94) ≡ t → AreIdsOf ((b ∷ word) ∷ words) (with_word t n (id_from_hex (cond t word (b ∷ word))) (Ok ids))
+    caret true e = go true word (λ i s. inr (i, ids.1, refl, word, ap (λ c. c ∷ word) (eqb-true b 94 e), s, h)) (id_from_hex word) refl
+    caret false e = go false (b ∷ word) (λ i s. inl (i, ids.0, refl, s, h)) (id_from_hex (b ∷ word)) refl
+
+ids_are : (n : ℕ) (words : List (List ℕ)) → AreIdsOf words (ids_from n words)
+ids_are n [] = (refl, refl)
+ids_are n (word ∷ words) = one_word word words n (ids_from (n + 1) words) (ids_are (n + 1) words)
+
+-- without a tip each word begins with a caret
+all_hidden : (words : List (List ℕ)) (tips hidden : List ObjectId) → AreTips words tips hidden → tips ≡ [] → list_all begins_with_caret words ≡ true
+all_hidden [] tips hidden h e = refl
+all_hidden (word ∷ words) tips hidden (inl (i, rest, is, s, h)) e = let no : [] ≡ i ∷ rest = sym e ∙ is in cc
+all_hidden (word ∷ words) tips hidden (inr (i, rest, is, id, begins, s, h)) e = ap (λ w. begins_with_caret w && list_all begins_with_caret words) begins ∙ all_hidden words tips rest h e
+
+-- what the words of a request are
+abbrev pub AreWordsOf : List (List ℕ) → Result Request Fault → Type 0
+AreWordsOf words (Err e) = Unit {0}
+AreWordsOf words (Ok (Commits by tips hidden)) = (name : List ℕ) × (rest : List (List ℕ)) × (words ≡ name ∷ rest) × IsNameOf name by × AreTips rest tips hidden × (tips ≢ [])
+AreWordsOf words (Ok (Files tree)) = (text : List ℕ) × (words ≡ codes "files" ∷ text ∷ []) × Spells (digits_in tree) text tree
+AreWordsOf words (Ok (Ahead one other)) = (a b : List ℕ) × (words ≡ codes "ahead" ∷ a ∷ b ∷ []) × Spells (digits_in one) a one × Spells (digits_in other) b other
+
+commits_are : (name : List ℕ) (by : Order) (rest : List (List ℕ)) → IsNameOf name by → AreWordsOf (name ∷ rest) (commits_of by rest)
+commits_are name by rest named = go (list_all begins_with_caret rest) refl
+  where
+    from : (r : Result Ids Fault) → list_all begins_with_caret rest ≡ false → AreIdsOf rest r → AreWordsOf (name ∷ rest) (commits_from by r)
+    from (Err e) some h = tt
+    from (Ok ids) some h = (name, rest, refl, named, h, λ e. false≢true (sym some ∙ all_hidden rest ids.0 ids.1 h e))
+
+    go : (t : Bool) → list_all begins_with_caret rest ≡ t → AreWordsOf (name ∷ rest) (cond t (Err fault.Usage) (commits_from by (ids_from 2 rest)))
+    go true e = tt
+    go false e = from (ids_from 2 rest) e (ids_are 2 rest)
+
+files_are : (rest : List (List ℕ)) → AreWordsOf (codes "files" ∷ rest) (files_of rest)
+files_are [] = tt
+files_are (text ∷ next ∷ rest) = tt
+files_are (text ∷ []) = go (begins_with_caret text)
+  where
+    from : (r : Result ObjectId HexError) → id_from_hex text ≡ r → AreWordsOf (codes "files" ∷ text ∷ []) (files_from r)
+    from (Ok i) e = (text, refl, hex_spelled text i e)
+    from (Err why) e = tt
+
+    go : (t : Bool) → AreWordsOf (codes "files" ∷ text ∷ []) (cond t (Err fault.Usage) (files_from (id_from_hex text)))
+    go true = tt
+    go false = from (id_from_hex text) refl
+
+ahead_are : (rest : List (List ℕ)) → AreWordsOf (codes "ahead" ∷ rest) (ahead_of rest)
+ahead_are [] = tt
+ahead_are (a ∷ []) = tt
+ahead_are (a ∷ b ∷ next ∷ rest) = tt
+ahead_are (a ∷ b ∷ []) = go (begins_with_caret a || begins_with_caret b)
+  where
+    from : (r s : Result ObjectId HexError) → id_from_hex a ≡ r → id_from_hex b ≡ s → AreWordsOf (codes "ahead" ∷ a ∷ b ∷ []) (ahead_from r s)
+    from (Ok i) (Ok j) e f = (a, b, refl, hex_spelled a i e, hex_spelled b j f)
+    from (Ok i) (Err why) e f = tt
+    from (Err why) s e f = tt
+
+    go : (t : Bool) → AreWordsOf (codes "ahead" ∷ a ∷ b ∷ []) (cond t (Err fault.Usage) (ahead_from (id_from_hex a) (id_from_hex b)))
+    go true = tt
+    go false = from (id_from_hex a) (id_from_hex b) refl refl
+
+named_are : (name : List ℕ) (o : Option Order) (rest : List (List ℕ)) → IsChosenBy name o → AreWordsOf (name ∷ rest) (request_named name o rest)
+named_are name (Some by) rest h = commits_are name by rest h
+named_are name None rest h = files (bytes_eq name (codes "files")) refl
+  where
+    ahead : (t : Bool) → bytes_eq name (codes "ahead") ≡ t → AreWordsOf (name ∷ rest) (cond t (ahead_of rest) (Err fault.Usage))
+    ahead true e = subst (λ word. AreWordsOf (word ∷ rest) (ahead_of rest)) (sym ((bytes_eq-Decides name (codes "ahead")).0 e)) (ahead_are rest)
+    ahead false e = tt
+
+    files : (t : Bool) → bytes_eq name (codes "files") ≡ t → AreWordsOf (name ∷ rest) (cond t (files_of rest) (cond (bytes_eq name (codes "ahead")) (ahead_of rest) (Err fault.Usage)))
+    files true e = subst (λ word. AreWordsOf (word ∷ rest) (files_of rest)) (sym ((bytes_eq-Decides name (codes "files")).0 e)) (files_are rest)
+    files false e = ahead (bytes_eq name (codes "ahead")) refl
+
+-- words are those of what they ask for
+pub are_words : (words : List (List ℕ)) → AreWordsOf words (request_of words)
+are_words [] = tt
+are_words (name ∷ rest) = named_are name (order_named name) rest (order_is name)

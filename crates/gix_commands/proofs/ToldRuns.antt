@@ -1,0 +1,47 @@
+-- What a run over a commit-graph writes, by what commits reach in the history that rows and records say.
+use Rattle.std.specs.Prelude.{◌≡◌, ℕ, List, Option, Some, Ok}
+use Rattle.std.proofs.Common.{sym, subst, ◌∙◌}
+use Rattle.gix_commitgraph.specs.Rows.{GraphRow}
+use Rattle.gix_graph_store.specs.Laws.{StoredAgree}
+use Rattle.gix_records.specs.Records.{Record, AreRecords, stored}
+use Rattle.gix_records.proofs.RecordFacts.{only_reading}
+use Rattle.gix_revwalk.specs.Agreeing.{IsAgreeing}
+use Rattle.gix_commands.specs.declared.words.Order.TheVariants.{Simple, Topo}
+use Rattle.gix_commands.specs.Histories.{AreTold, told, ToldSimpleLists, ToldTopoLists, ToldAheadCounts}
+use Rattle.gix_commands.specs.Run.{RunsOver, Serves, served}
+use Rattle.gix_commands.specs.Words.{Request, Commits, Ahead, request_of}
+use Rattle.gix_commands.proofs.AheadRuns.{counted_so}
+use Rattle.gix_commands.proofs.CommitRuns.{ok_same, lists}
+use Rattle.gix_commands.proofs.OverGraphs.{opened_agree}
+use Rattle.gix_commands.proofs.TopoRuns as topo
+use Rattle.gix_commands.proofs.UncutWords.{uncut}
+
+-- what was asked for was served, of rows that the layers are and of these records
+told_served : (words layers : List (List ℕ)) (input : List ℕ) (records : List Record) (request : Request) (old new : Option (List ℕ)) → request_of words ≡ Ok request → AreRecords records input → RunsOver words layers (Some input) old (Ok tt) new
+    → (rows : List GraphRow) × AreTold layers records rows × Serves (told rows records) rows old request (Ok tt) new
+told_served words layers input records request old new asked are (served other rows there read t opens same is agree s) =
+    let these : read ≡ records = only_reading read records input (subst (AreRecords read) same is) are in (
+      rows,
+      record { opens = opens; agree = subst (λ rs. StoredAgree rows (stored rs)) these agree },
+      subst (λ r. Serves (told rows records) rows old r (Ok tt) new) (ok_same (sym t ∙ asked)) (subst (λ rs. Serves (told rows rs) rows old other (Ok tt) new) these s),
+    )
+
+told_agree : {layers : List (List ℕ)} {records : List Record} {rows : List GraphRow} → AreTold layers records rows → IsAgreeing (told rows records) rows
+told_agree {layers} {records} {rows} h = opened_agree layers rows (stored records) h.opens h.agree
+
+pub told_simple_lists : ToldSimpleLists
+told_simple_lists words layers input records by tips hidden old new asked are runs =
+    let k = told_served words layers input records (Commits (Simple by) tips hidden) old new asked are runs in
+    (k.0, k.1, λ whole. lists (told k.0 records) k.0 (told_agree k.1) by tips hidden old new (uncut words by tips hidden asked) whole k.2)
+
+pub told_topo_lists : ToldTopoLists
+told_topo_lists words layers input records by tips ends old new asked are runs =
+    let k = told_served words layers input records (Commits (Topo by) tips ends) old new asked are runs in
+    let l = topo.lists (told k.0 records) k.0 (told_agree k.1) by tips ends old new k.2 in
+    (k.0, k.1, l.0, l.1, l.2)
+
+pub told_ahead_counts : ToldAheadCounts
+told_ahead_counts words layers input records one other old new asked are runs =
+    let k = told_served words layers input records (Ahead one other) old new asked are runs in
+    let c = counted_so (told k.0 records) k.0 (told_agree k.1) one other old new k.2 in
+    (k.0, k.1, c.0, c.1, c.2, c.3, c.4)

@@ -1,0 +1,8 @@
+use Rattle.std.proofs.Common.{◌≡◌, ◌++◌, drop}
+use Rattle.gix_graph_file.specs.ChainSteps.{files_seen}
+use Rattle.gix_commands.specs.Opening.{layers_seen}
+use Rattle.gix_commands.proofs.graph.lend.Given as goal
+
+-- the layers that were lent, followed by those that are left, are all layers
+abbrev pub invariant-loop-layer : goal.invariant-loop-layer
+invariant-loop-layer l = files_seen l.files.items ++ layers_seen (drop l.layer-index l.layers) ≡ layers_seen l.layers

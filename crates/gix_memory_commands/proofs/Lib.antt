@@ -1,0 +1,2 @@
+mod WordFacts
+mod WithoutMemory

@@ -1,0 +1,138 @@
+//! What a call answers.
+ghost use Rattle.std.specs.Prelude.{◌≡◌};
+ghost use Rattle.gix_memory_commands.specs.Answers.{of_fault, of_id, of_length, of_place, text_of, too_small, well};
+
+use gix_commands::Fault;
+use gix_parts::hash::ObjectId;
+
+/// What a call answers, in numbers: which fault, what it names, and how many bytes there are.
+#[repr(C)]
+#[derive(Clone, Copy, PartialEq, Eq, Debug)]
+pub struct Answer {
+    /// 0 where all went well, 1 where the room was too small, or the number of the fault: 2 `Usage`, 3 `Id`, 4 `Record`, 5 `Missing`,
+    /// 6 `WrongKind`, 7 `Broken`, 8 `Cycle`, 9 `Memory`, 10 `Read`, 11 `Write`, 12 `Internal`. The last two never come.
+    pub number: u32,
+    /// How many bytes of `id` are an id: 20 or 32 where the fault names an object, otherwise 0.
+    pub id_length: u32,
+    /// How many bytes were put into the room, or, where it was too small, how many there are. 0 at a fault.
+    pub length: usize,
+    /// The number of the word or of the record that the fault names, from 1; otherwise 0.
+    pub place: usize,
+    /// The id of the object that the fault names, and zeros behind it.
+    pub id: [u8; 32],
+}
+
+impl Answer {
+    // All went well, and so many bytes were put into the room.
+    pub(crate) fn well(length: usize) -> Answer
+        ensures { result ≡ well length }
+    {
+        Answer::of_length(0, length)
+    }
+
+    // The room was too small for so many bytes.
+    pub(crate) fn too_small(length: usize) -> Answer
+        ensures { result ≡ too_small length }
+    {
+        Answer::of_length(1, length)
+    }
+
+    // The fault of a run.
+    pub(crate) fn of_fault(fault: Fault) -> Answer
+        ensures { result ≡ of_fault fault }
+    {
+        match fault {
+            Fault::Usage => Answer::of_length(2, 0),
+            Fault::Id(place) => Answer::of_place(3, place),
+            Fault::Record(place) => Answer::of_place(4, place),
+            Fault::Missing(id) => Answer::of_id(5, id),
+            Fault::WrongKind(id) => Answer::of_id(6, id),
+            Fault::Broken => Answer::of_length(7, 0),
+            Fault::Cycle(id) => Answer::of_id(8, id),
+            Fault::Memory => Answer::of_length(9, 0),
+            Fault::Read => Answer::of_length(10, 0),
+            Fault::Write => Answer::of_length(11, 0),
+            Fault::Internal => Answer::of_length(12, 0),
+            Fault::Graph(_) => Answer::of_length(13, 0),
+            Fault::Row(id) => Answer::of_id(14, id),
+            Fault::Disagrees(id) => Answer::of_id(15, id),
+        }
+    }
+
+    // An answer that names nothing.
+    fn of_length(number: u32, length: usize) -> Answer
+        ensures { result ≡ of_length number length }
+    {
+        Answer {
+            number,
+            id_length: 0,
+            length,
+            place: 0,
+            id: [0; 32],
+        }
+    }
+
+    // The answer of a fault that names a word or a record.
+    fn of_place(number: u32, place: usize) -> Answer
+        ensures { result ≡ of_place number place }
+    {
+        Answer {
+            number,
+            id_length: 0,
+            length: 0,
+            place,
+            id: [0; 32],
+        }
+    }
+
+    // The answer of a fault that names an object.
+    fn of_id(number: u32, named: ObjectId) -> Answer
+        ensures { result ≡ of_id number named }
+    {
+        match named {
+            ObjectId::Sha1(bytes) => {
+                let mut id = [0; 32];
+                id[..20].copy_from_slice(&bytes);
+                Answer {
+                    number,
+                    id_length: 20,
+                    length: 0,
+                    place: 0,
+                    id,
+                }
+            }
+            ObjectId::Sha256(id) => Answer {
+                number,
+                id_length: 32,
+                length: 0,
+                place: 0,
+                id,
+            },
+        }
+    }
+}
+
+/// The text of an answer of this number.
+pub fn text_of(number: u32) -> &'static str
+    ensures { result.now ≡ text_of number }
+{
+    match number {
+        0 => "well",
+        1 => "room too small",
+        2 => "usage",
+        3 => "bad id in word",
+        4 => "bad record",
+        5 => "missing",
+        6 => "wrong kind",
+        7 => "broken object",
+        8 => "cycle",
+        9 => "out of memory",
+        10 => "read failed",
+        11 => "write failed",
+        12 => "internal fault",
+        13 => "bad commit-graph",
+        14 => "bad row in the commit-graph",
+        15 => "commit-graph disagrees",
+        _ => "unknown fault",
+    }
+}

@@ -1,0 +1,30 @@
+//! The commands for callers in C, and in each language that can call C. `kestrelrack.h` says what a caller owes.
+#![tactic(auto)]
+
+ghost use Rattle.std.specs.Prelude.{◌≡◌, length};
+ghost use Rattle.gix_memory_commands.specs.Answers.{Answers, put_in, text_of};
+
+use gix_memory_commands::{Answer, put_text, run_over_bytes};
+use std::alloc::Global;
+
+/// Runs the command that the words are over the records, and puts its lines at the front of the room, where they fit.
+#[unsafe(no_mangle)]
+pub extern "C" fn kestrelrack_run(
+    alloc: Global,
+    words: &[u8],
+    records: &[u8],
+    room: &mut [u8],
+) -> Answer
+    ensures { Answers words.now records.now room.old result room.new }
+{
+    run_over_bytes(alloc, words, records, room)
+}
+
+/// Puts the text of an answer of this number at the front of the room, where it fits. How many bytes the text has, without an end.
+#[unsafe(no_mangle)]
+pub extern "C" fn kestrelrack_text(number: u32, room: &mut [u8]) -> usize
+    ensures length { result ≡ length (text_of number) }
+    ensures room { room.new ≡ put_in (text_of number) room.old }
+{
+    put_text(number, room)
+}
