@@ -36,7 +36,7 @@ module _ (rs : List Record) (i : ObjectId) where
   -- the committer
   of_text : (bytes : List ℕ) (parents : List ObjectId) (signature : List ℕ) (time : ℤ) → Holds all i (codes "commit") bytes → IsText (digits_in i) bytes parents signature → IsTime signature time → IsSigned all i time
   of_text bytes parents signature time holds (tree, digits, lines, author, rest, spells, named, signed, are, whole) timed =
-      (parents, author, signature, rest, named, signed, timed, tree, digits, lines, spells, are, subst (Holds all i (codes "commit")) whole holds)
+      (parents, author, signature, rest, named, signed, timed, (tree, digits, lines, spells, are, subst (Holds all i (codes "commit")) whole holds))
 
   of_object : (o : Object) → get (stored rs) i ≡ Some o → (c : Commit) (k : ObjectKind) → o.kind ≡ k → commit_of_kind i k o.bytes ≡ Some c → IsSigned all i c.time
   of_object o at c kind.Commit is e =
@@ -55,7 +55,7 @@ module _ (rs : List Record) (i : ObjectId) where
       go (Some o) at e = of_object o at c o.kind refl e
 
   is_signed_back : (time : ℤ) → IsSigned all i time → (c : Commit) × (commit_at (stored rs) i ≡ Some c)
-  is_signed_back time (parents, author, signature, rest, named, signed, timed, tree, digits, lines, spells, are, holds) =
+  is_signed_back time (parents, author, signature, rest, named, signed, timed, (tree, digits, lines, spells, are, holds)) =
       let text : List ℕ = codes "tree " ++ digits ++ 10 ∷ lines in
       let is : IsText (digits_in i) text parents signature = (tree, digits, lines, author, rest, spells, named, signed, are, refl) in
       let h = held_back rs i (codes "commit") text holds in
@@ -82,7 +82,7 @@ module _ (rs : List Record) (i : ObjectId) where
   named_back : (ps : List ObjectId) (rest : List ℕ) → Names all i ps rest → (o : Object) × (get (stored rs) i ≡ Some o) × (o.kind ≡ kind.Commit) × IsNaming (digits_in i) o.bytes ps rest
   named_back ps rest (tree, digits, lines, spells, are, holds) =
       let h = held_back rs i (codes "commit") (codes "tree " ++ digits ++ 10 ∷ lines) holds in
-      (h.0, h.1, is_commit_kind h.0.kind h.2, tree, digits, lines, spells, are, h.3)
+      (h.0, h.1, is_commit_kind h.0.kind h.2, (tree, digits, lines, spells, are, h.3))
 
   parents_of_object : (o : Object) → get (stored rs) i ≡ Some o → (k : ObjectKind) → o.kind ≡ k → AreParents (text_parents_of_kind i k o.bytes)
   parents_of_object o at = kinds

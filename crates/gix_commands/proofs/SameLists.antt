@@ -65,7 +65,7 @@ module _ (objects : Objects) (parents : ObjectId → List ObjectId) where
 
   in_order_down : (name : List ℕ) (by : TopoSorting) → IsNameOf name (Topo by) → (tips ends ids : List ObjectId) → IsSorted by time parents (IsInWalk parents parents tips ends) tips ids → IsInOrder tips ends ids name
   in_order_down name topo.DateOrder e tips ends ids l = subst (IsInOrder tips ends ids) (sym e) (λ taken rest c. page.date (in_date_order parents time tips ends ids l taken rest c))
-  in_order_down name topo.TopoOrder e tips ends ids l = subst (IsInOrder tips ends ids) (sym e) (λ taken rest c. let t = in_topo_order parents time tips ends ids l taken rest c in page.topo t.1 t.2)
+  in_order_down name topo.TopoOrder e tips ends ids l = subst (IsInOrder tips ends ids) (sym e) (λ taken rest c. let t = in_topo_order parents time tips ends ids l taken rest c in page.topo t.0 t.1 t.2)
 
   pub listed_down : (name : List ℕ) (by : TopoSorting) → IsNameOf name (Topo by) → (tips ends ids : List ObjectId) → ListsDown objects parents by tips ends ids → page.Lists parents time tips ends name ids
   listed_down name by named tips ends ids l = (

@@ -38,19 +38,19 @@ abbrev parents_within : ℕ → Kind → List ℕ → List ObjectId
 parents_within n k bytes = (scanned mode.All (items_within n k AtParents bytes)).0
 
 named : (n : ℕ) (k : Kind) (bytes : List ℕ) → length bytes ≤ n → (rest : List ℕ) × AreParentLines (width_of k) (parents_within n k bytes) bytes rest
-named zero k [] l = ([], refl, no_more k [] (λ p more e. let bad : Ended ≡ Found (Parent p) AtParents more = e in cc))
+named zero k [] l = ([], (refl, no_more k [] (λ p more e. let bad : Ended ≡ Found (Parent p) AtParents more = e in cc)))
 named zero k (b ∷ bs) l = absurd (omega (arith, l))
 named (suc n) k bytes l = go (λ rest. named n k rest) refl (stands k AtParents bytes)
   where
     go : ((rest : List ℕ) → length rest ≤ n → (behind : List ℕ) × AreParentLines (width_of k) (parents_within n k rest) rest behind) → {f : Front} → front k AtParents bytes ≡ f → Stands k bytes AtParents f
         → (rest : List ℕ) × AreParentLines (width_of k) (scanned mode.All (unfolded f (items_within n k))).0 bytes rest
-    go more is ended = (bytes, refl, no_more k bytes (λ p behind e. let bad : Ended ≡ Found (Parent p) AtParents behind = sym is ∙ e in cc))
-    go more is (faulty {e = why}) = (bytes, refl, no_more k bytes (λ p behind e. let bad : Faulty why ≡ Found (Parent p) AtParents behind = sym is ∙ e in cc))
-    go more is (author {line = line} {rest = rest} found) = (bytes, refl, no_more k bytes (λ p behind e. let bad : Found (Author line) AtCommitter rest ≡ Found (Parent p) AtParents behind = sym is ∙ e in cc))
+    go more is ended = (bytes, (refl, no_more k bytes (λ p behind e. let bad : Ended ≡ Found (Parent p) AtParents behind = sym is ∙ e in cc)))
+    go more is (faulty {e = why}) = (bytes, (refl, no_more k bytes (λ p behind e. let bad : Faulty why ≡ Found (Parent p) AtParents behind = sym is ∙ e in cc)))
+    go more is (author {line = line} {rest = rest} found) = (bytes, (refl, no_more k bytes (λ p behind e. let bad : Found (Author line) AtCommitter rest ≡ Found (Parent p) AtParents behind = sym is ∙ e in cc)))
     go more is (parent {i = p} {rest = rest} found) =
         let less : length rest ≤ n = omega (arith, l, ap length found.whole, length-append (codes "parent ") (found.digits ++ 10 ∷ rest), length-append found.digits (10 ∷ rest)) in
         let h = more rest less in
-        (h.0, found.digits, rest, (spelled k found.digits p found.spells).0, h.1, found.whole)
+        (h.0, (found.digits, rest, (spelled k found.digits p found.spells).0, h.1, found.whole))
 
 -- they are those that are read of it
 pub texts : (k : Kind) (bytes : List ℕ) → AreNamed (width_of k) bytes (scanned mode.All (commit_items k bytes)).0
@@ -64,4 +64,4 @@ texts k bytes = subst (λ items. AreNamed (width_of k) bytes (scanned mode.All i
     go is (faulty {e = why}) = inr (never (λ i more e. let bad : Faulty why ≡ Found (Tree i) AtParents more = sym is ∙ e in cc), refl)
     go is (tree {i = i} {rest = rest} found) =
         let h = named (length rest) k rest (omega arith) in
-        inl (h.0, i, found.digits, rest, (spelled k found.digits i found.spells).0, h.1, found.whole)
+        inl (h.0, (i, found.digits, rest, (spelled k found.digits i found.spells).0, h.1, found.whole))

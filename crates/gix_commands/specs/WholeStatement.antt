@@ -131,7 +131,7 @@ module _ {I : Type 0} (parents : I → List I) (time : I → ℤ) (tips hidden :
     newest : IsBest (λ i other. time other ≤ℤ time i) (IsPending taken) rest → Follows taken rest (codes "newest")
     oldest : IsBest (λ i other. time i ≤ℤ time other) (IsPending taken) rest → Follows taken rest (codes "oldest")
     date : IsBest (λ i other. time other ≤ℤ time i) (IsReady taken) rest → Follows taken rest (codes "date")
-    topo : {ready : List I} → AreMadeReady (reverse taken) ready → IsFirst (λ i. Contains taken i → ⊥) (reverse ready) rest → Follows taken rest (codes "topo")
+    topo : (ready : List I) → AreMadeReady (reverse taken) ready → IsFirst (λ i. Contains taken i → ⊥) (reverse ready) rest → Follows taken rest (codes "topo")
 
   -- What is shown is listed once and in order. In a topological order all of it is listed where no commit shown is its own ancestor.
   abbrev pub Lists : List ℕ → List I → Type 0
