@@ -9,7 +9,6 @@ mod ListerFacts
 mod AheadFacts
 mod StartFacts
 mod RunFacts
-mod FoundCommits
 mod SimpleRuns
 mod UncutWords
 mod Parts
