@@ -14,13 +14,16 @@ use Rattle.gix_commands.specs.Words.{Request, request_of}
 use Rattle.gix_commands.proofs.WalkFaults.{OfWalk, serves_of_walk}
 use Rattle.gix_commands.proofs.WordFaults.{OfWords, request_words}
 
+of_reader : (has : Option (List ℕ)) (input bytes other : List ℕ) → Tells has input → bytes ≡ input → other ≡ bytes → Tells has other
+of_reader has input bytes other told read same = subst (Tells has) (sym (same ∙ read)) told
+
 -- a run over the bytes that a reader had
-pub runs_told : {words : List (List ℕ)} {has old new : Option (List ℕ)} {input : List ℕ} {answer : Result (Unit {0}) Fault} → Tells has input → Runs words (Some input) old answer new → Runs words has old answer new
-runs_told told without_memory = without_memory
-runs_told told (no_command t) = no_command t
-runs_told told (not_read request t) = not_read request t
-runs_told {has = has} told (bad_record request other n t same b) = bad_record request other n t (subst (Tells has) (sym same) told) b
-runs_told {has = has} told (served request other records t same are s) = served request other records t (subst (Tells has) (sym same) told) are s
+pub runs_told : {words : List (List ℕ)} {has old new : Option (List ℕ)} {input bytes : List ℕ} {answer : Result (Unit {0}) Fault} → Tells has input → bytes ≡ input → Runs words (Some bytes) old answer new → Runs words has old answer new
+runs_told told read without_memory = without_memory
+runs_told told read (no_command t) = no_command t
+runs_told told read (not_read request t) = not_read request t
+runs_told {has = has} {input = input} {bytes = bytes} told read (bad_record request other n t same b) = bad_record request other n t (of_reader has input bytes other told read same) b
+runs_told {has = has} {input = input} {bytes = bytes} told read (served request other records t same are s) = served request other records t (of_reader has input bytes other told read same) are s
 
 -- no fault is the reader's
 pub words_unread : (words : List (List ℕ)) (e : Fault) → (e ≢ fault.Memory → request_of words ≡ Err e) → e ≢ fault.Read

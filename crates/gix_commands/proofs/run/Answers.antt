@@ -1,8 +1,6 @@
-use Rattle.std.specs.Prelude.{ℕ, List, map, Some, Err, string_bytes}
-use Rattle.std.proofs.Common.{◌∙◌, ap, subst}
+use Rattle.std.proofs.Common.{Err, ◌∙◌, ap}
 use Rattle.std.proofs.lemmas.Result.{err_from_is_err_and}
 use Rattle.gix_records.proofs.ReadingFacts.{fails_to_read}
-use Rattle.gix_commands.specs.Run.{Runs}
 use Rattle.gix_commands.proofs.GivenRuns.{runs_told}
 use Rattle.gix_commands.proofs.RunFacts.{no_rejection, runs_sound, runs_spelled, runs_words, runs_input}
 use Rattle.gix_commands.proofs.WholeRuns.{promises}
@@ -23,9 +21,7 @@ returns-in_err-input-clause-runs g c =
 
 pub returns-clause-runs : goal.returns-clause-runs
 returns-clause-runs g c =
-    let words = map string_bytes c.args.words.now in
-    let runs = c.serve_records.ensures.runs words c.in_ok-command.ensures in
-    runs_told c.in_ok-input.ensures.whole (subst (λ (bytes : List ℕ). Runs words (Some bytes) _ c.serve_records.result _) c.as_slice.ensures.value runs)
+    runs_told c.in_ok-input.ensures.whole c.as_slice.ensures.value (c.serve_records.ensures.runs _ c.in_ok-command.ensures)
 
 pub returns-clause-sound : goal.returns-clause-sound
 returns-clause-sound g c = runs_sound (returns-clause-runs g c)

@@ -1,3 +1,4 @@
+use Rattle.std.specs.Prelude.{map, string_bytes}
 use Rattle.std.proofs.Common.{Err, refl, sym, ap, ◌∙◌}
 use Rattle.std.proofs.lemmas.Result.{err_from_is_err_and}
 use Rattle.gix_commands.proofs.GivenRuns.{words_unread}
@@ -13,7 +14,7 @@ returns-in_err-command-clause-runs g c =
 pub returns-in_err-command-clause-given : goal.returns-in_err-command-clause-given
 returns-in_err-command-clause-given g c =
     let p = err_from_is_err_and c.from_residual.result c.from_residual.ensures.1 in
-    λ same. words_unread _ _ c.in_err-command.ensures (sym p.2 ∙ err_same (sym p.1 ∙ same))
+    λ same. words_unread (map string_bytes c.args.words.now) _ c.in_err-command.ensures (sym p.2 ∙ err_same (sym p.1 ∙ same))
 
 pub returns-in_err-command-clause-spelled : goal.returns-in_err-command-clause-spelled
 returns-in_err-command-clause-spelled g c = λ those n are. runs_spelled (returns-in_err-command-clause-runs g c) _ those n refl are
