@@ -5,6 +5,7 @@ use gix_graph_check::{Disagreement, check, first_unsound, heads};
 use gix_hash::ObjectId;
 use gix_object::Kind;
 use gix_object::memory::MemoryStore;
+use gix_rows::history::Failing;
 use std::alloc::Global;
 use std::fmt::Write;
 use std::test::Fail;
@@ -182,5 +183,23 @@ fn commits_that_say_something_else_are_named(rt: HostRuntime) -> Result<(), Fail
         let found = checked(rt.alloc(), &[(5, 1, &[])], &[commit])?;
         assert_eq!(rt; found, Some(Disagreement::Row(id(5))));
     }
+    Ok(())
+}
+
+/// Which row the check of the rows `SOUND` names, where the store fails at this id.
+fn checked_failing(alloc: Global, byte: u8) -> Result<Option<Disagreement>, Fail> {
+    let graph = graph_of(alloc, &SOUND)?;
+    let store = store_of(alloc, &COMMITS)?;
+    let failing = Failing(&store, Some(id(byte)));
+    Ok(check(alloc, &graph, &failing).err())
+}
+
+#[test]
+fn a_store_that_fails_at_a_row_is_named(rt: HostRuntime) -> Result<(), Fail> {
+    for byte in [5, 6, 7, 8, 9] {
+        let failed = Some(Disagreement::Store(id(byte)));
+        assert_eq!(rt; checked_failing(rt.alloc(), byte)?, failed);
+    }
+    assert_eq!(rt; checked_failing(rt.alloc(), 3)?, None);
     Ok(())
 }

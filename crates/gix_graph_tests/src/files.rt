@@ -414,15 +414,6 @@ fn files_end_with_their_hash(rt: HostRuntime) -> Result<(), Fail> {
 }
 
 #[test]
-fn faults_have_texts(rt: HostRuntime) -> Result<(), Fail> {
-    let text = format!(in rt.alloc(); "{}", Error::Missing(Chunk::Data))?;
-    assert_eq!(rt; text.as_str(), "no chunk CDAT");
-    let text = format!(in rt.alloc(); "{}", Error::Order(7))?;
-    assert_eq!(rt; text.as_str(), "the id of row 7 isn't above the one before");
-    Ok(())
-}
-
-#[test]
 fn chains_are_read(rt: HostRuntime) -> Result<(), Fail> {
     let lower = lower_layer(rt.alloc())?;
     let upper = upper_layer(rt.alloc())?;

@@ -7,6 +7,7 @@ use gix_hash::ObjectId;
 use gix_object::Kind;
 use gix_object::find::Find;
 use gix_object::memory::MemoryStore;
+use gix_rows::history::Failing;
 use std::alloc::Global;
 use std::test::Fail;
 
@@ -200,5 +201,25 @@ fn what_is_stored_is_not_as_a_row_says(rt: HostRuntime) -> Result<(), Fail> {
         stored_check(rt.alloc(), &stored)?,
         Some(Disagreement::Row(id(9)))
     );
+    Ok(())
+}
+
+/// Which row the check names, where the store fails at this id, over the commits of 7 and 8 as the rows say them.
+fn stored_check_failing(alloc: Global, byte: u8) -> Result<Option<Disagreement>, Fail> {
+    let graph = graph_of(alloc, &LINES)?;
+    let mut store = MemoryStore::new(alloc);
+    store.insert(id(7), Kind::Commit, SEVEN)?;
+    store.insert(id(8), Kind::Commit, EIGHT)?;
+    let failing = Failing(&store, Some(id(byte)));
+    Ok(check_stored(alloc, &graph, &failing).err())
+}
+
+#[test]
+fn a_store_that_fails_at_a_row_is_named(rt: HostRuntime) -> Result<(), Fail> {
+    for byte in [6, 7, 8, 9] {
+        let failed = Some(Disagreement::Store(id(byte)));
+        assert_eq!(rt; stored_check_failing(rt.alloc(), byte)?, failed);
+    }
+    assert_eq!(rt; stored_check_failing(rt.alloc(), 5)?, None);
     Ok(())
 }

@@ -392,15 +392,3 @@ fn refuses_a_long_tree(rt: HostRuntime) -> Result<(), Fail> {
     );
     Ok(())
 }
-
-#[test]
-fn tells_what_is_wrong(rt: HostRuntime) -> Result<(), Fail> {
-    let text = GraphError::Packed(Place::Order(3)).to_string(rt.alloc())?;
-    assert_eq!(rt; text.as_str(), "not a packed commit-graph: Order(3)");
-    let text = ParentFault.to_string(rt.alloc())?;
-    assert_eq!(rt;
-        text.as_str(),
-        "a parent's place in a commit-graph is corrupt"
-    );
-    Ok(())
-}

@@ -1,8 +1,8 @@
 //! A store in memory, and the texts of faults.
 use gix_parts::hash::ObjectId;
+use gix_parts::object::Kind;
 use gix_parts::object::find::{Find, existing_iter};
 use gix_parts::object::memory::MemoryStore;
-use gix_parts::object::{Kind, decode};
 use std::test::Fail;
 
 const ID: ObjectId = ObjectId::Sha1([0x11; 20]);
@@ -37,17 +37,5 @@ fn objects_of_another_kind_are_named(rt: HostRuntime) -> Result<(), Fail> {
     };
     assert_eq!(rt; (&store).find_commit_iter(&ID, &mut buf).err(), Some(tree));
     assert!(rt; store.find_tree_iter(&ID, &mut buf)?.next().is_none());
-    let text = format!(in rt.alloc(); "{tree}")?;
-    assert_eq!(rt;
-        text.as_str(),
-        "expected an object of kind Commit at 1111111111111111111111111111111111111111, but it is of kind Tree"
-    );
-    Ok(())
-}
-
-#[test]
-fn a_fault_prints_what_is_wrong(rt: HostRuntime) -> Result<(), Fail> {
-    let text = decode::Error::Tree.to_string(rt.alloc())?;
-    assert_eq!(rt; text.as_str(), "no tree line at the front of a commit");
     Ok(())
 }

@@ -1,8 +1,7 @@
 //! Topological walks.
 mod counts;
 
-use crate::tests::{check, check_print, check_rows};
-use gix_parts::object::decode;
+use crate::tests::{check, check_rows};
 use gix_parts::object::find::existing_iter;
 use gix_rows::history::PLAIN;
 use gix_topo_rows::{OF_SAMPLE, Table, orders};
@@ -14,25 +13,6 @@ use std::test::Fail;
 fn rows(rt: HostRuntime) -> Result<(), Fail> {
     check(rt.alloc(), "orders", orders::tables())?;
     check(rt.alloc(), "counts", gix_topo_rows::counts::tables())
-}
-
-#[test]
-fn a_fault_says_what_it_holds(rt: HostRuntime) -> Result<(), Fail> {
-    let alloc = rt.alloc();
-    check_print(
-        alloc,
-        &Error::MissingIndegreeUnexpected,
-        &"Indegree information is missing",
-    )?;
-    check_print(
-        alloc,
-        &Error::MissingStateUnexpected,
-        &"Internal state (bitflags) not found",
-    )?;
-    let held = existing_iter::Error::Store;
-    check_print(alloc, &Error::from(held), &held)?;
-    let held = decode::Error::Parent;
-    check_print(alloc, &Error::from(held), &held)
 }
 
 #[test]

@@ -1,5 +1,5 @@
 //! Walks of trees.
-use crate::tests::{check, check_print};
+use crate::tests::check;
 use gix_parts::hash::ObjectId;
 use gix_parts::object::find::{Find, existing_iter};
 use gix_parts::object::memory::MemoryStore;
@@ -20,16 +20,11 @@ fn rows(rt: HostRuntime) -> Result<(), Fail> {
 }
 
 #[test]
-fn faults_print_what_they_hold(rt: HostRuntime) -> Result<(), Fail> {
+fn faults_become_faults_of_the_walk(rt: HostRuntime) -> Result<(), Fail> {
     let missing = existing_iter::Error::NotFound { oid: id(6) };
-    check_print(rt.alloc(), &Error::from(missing), &missing)?;
+    assert_eq!(rt; Error::from(missing), Error::Find(missing));
     let broken = decode::Error::EntryId;
-    check_print(rt.alloc(), &Error::from(broken), &broken)?;
-    check_print(
-        rt.alloc(),
-        &Error::Cancelled,
-        &"The delegate cancelled the operation",
-    )?;
+    assert_eq!(rt; Error::from(broken), Error::ObjectDecode(broken));
     assert_eq!(rt; Error::from(existing_iter::Error::Memory), Error::Memory);
     assert_eq!(rt; Error::from(AllocError), Error::Memory);
     Ok(())

@@ -1,5 +1,4 @@
-//! Texts cut at each length, and what faults print.
-use crate::tests::check_print;
+//! Texts cut at each length, and the faults of a walk.
 use gix_parts::object::find::existing_iter;
 use gix_parts::object::memory::MemoryStore;
 use gix_parts::object::{Kind, decode};
@@ -56,14 +55,13 @@ fn a_text_cut_at_each_length(rt: HostRuntime) -> Result<(), Fail> {
 }
 
 #[test]
-fn faults_print_what_they_hold(rt: HostRuntime) -> Result<(), Fail> {
+fn faults_become_faults_of_the_walk(rt: HostRuntime) {
     let missing = existing_iter::Error::NotFound { oid: id(6) };
-    check_print(rt.alloc(), &Error::from(missing), &missing)?;
-    check_print(rt.alloc(), &Error::from(Hidden::Find(missing)), &missing)?;
+    assert_eq!(rt; Error::from(missing), Error::Find(missing));
+    let hidden = Hidden::Find(missing);
+    assert_eq!(rt; Error::from(hidden), Error::HiddenGraph(hidden));
     let broken = decode::Error::Parent;
-    check_print(rt.alloc(), &Error::from(broken), &broken)?;
-    let hidden = Hidden::ObjectDecode(decode::Error::Missing);
-    check_print(rt.alloc(), &Error::from(hidden), &decode::Error::Missing)
+    assert_eq!(rt; Error::from(broken), Error::ObjectDecode(broken));
 }
 
 #[test]
