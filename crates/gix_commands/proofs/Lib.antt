@@ -9,7 +9,6 @@ mod ListerFacts
 mod AheadFacts
 mod StartFacts
 mod RunFacts
-mod FoundCommits
 mod SimpleRuns
 mod UncutWords
 mod Parts
@@ -22,10 +21,12 @@ mod FileRuns
 mod SimpleFaults
 mod SilentRuns
 mod AheadRuns
+mod TextNumbers
 mod OverGraphs
 mod ToldRuns
 mod SameNumbers
 mod SameCommits
+mod SameTexts
 mod SameHistory
 mod SameOrders
 mod SameDescents
