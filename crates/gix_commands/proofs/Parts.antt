@@ -1,5 +1,5 @@
 -- What holds of a part of a store holds of the whole store, where all that is reached in the part is whole there.
-use Rattle.std.specs.Prelude.{◌≡◌, ℕ, zero, suc, ℤ, List, [], ◌∷◌, ◌++◌, filter, take, slice_get, Bool, false, not, Option, None, Some, Contains, IsSome, MatchOption}
+use Rattle.std.specs.Prelude.{◌≡◌, ℕ, zero, suc, ℤ, List, [], ◌∷◌, ◌++◌, filter, take, slice_get, false, not, Option, None, Some, Contains, IsSome, MatchOption}
 use Rattle.std.specs.FinMap.{get}
 use Rattle.std.specs.List.{flat_map}
 use Rattle.std.proofs.Math.Path.{transport}
@@ -159,9 +159,9 @@ module _ (some all : Objects) (next other : ObjectId → List ObjectId) (tips hi
       l.in_order.0,
       λ i. (λ e. there hidden hidden_met i ((l.in_order.1 i).0 e), λ r. (l.in_order.1 i).1 (back hidden hidden_met i r)),
       order_same (Reaches next tips) (λ c. filter (λ i. not (l.in_order.0 i)) (next c)) (λ c. filter (λ i. not (l.in_order.0 i)) (other c)) (time_of some) (time_of all) (filter (λ i. not (l.in_order.0 i)) (new_ids (λ i. false) tips)) ids
-      (λ i c. start (among_is i tips (fresh_among i (λ j. false) tips (filter_within _ (new_ids (λ j. false) tips) i c))))
-      (λ c i r n. step r (filter_within _ (next c) i n)) (λ i c. ((l.exact i).0 c).0) (λ c r. ap (filter (λ i. not (l.in_order.0 i))) (same_next c (tips_met c r)))
-      (λ i r. same_times i (tips_met i r)) (time_order mode.All by) l.in_order.2,
+          (λ i c. start (among_is i tips (fresh_among i (λ j. false) tips (filter_within _ (new_ids (λ j. false) tips) i c))))
+          (λ c i r n. step r (filter_within _ (next c) i n)) (λ i c. ((l.exact i).0 c).0) (λ c r. ap (filter (λ i. not (l.in_order.0 i))) (same_next c (tips_met c r)))
+          (λ i r. same_times i (tips_met i r)) (time_order mode.All by) l.in_order.2,
     );
   }
 
