@@ -1,4 +1,5 @@
 mod WordFaults
+mod WalkFaults
 mod MemoryFaults
 mod OutputFacts
 mod InternalFacts
@@ -9,6 +10,11 @@ mod ListerFacts
 mod AheadFacts
 mod StartFacts
 mod RunFacts
+<<<<<<< HEAD
+=======
+mod GivenRuns
+mod FoundCommits
+>>>>>>> lent
 mod SimpleRuns
 mod UncutWords
 mod Parts
