@@ -153,7 +153,7 @@ module _ (parents : ObjectId → List ObjectId) (time : ObjectId → ℤ) (child
   in_breadth =
       cut_here IsNextFound child (root ∷ []) ([], [], refl, All-nil _, child_pending)
       (cut_here (λ taken rest. IsNextFound (child ∷ taken) rest) root [] (child ∷ [], [], names_of_child, All-cons _ child [] (λ p. p.1 (Contains-here child [])) (All-nil _), root_pending)
-       (cut_end (λ taken rest. IsNextFound (child ∷ root ∷ taken) rest) (subst (All (λ i. Pending (child ∷ root ∷ []) i → ⊥)) (sym names_of_both) none_found)))
+      (cut_end (λ taken rest. IsNextFound (child ∷ root ∷ taken) rest) (subst (All (λ i. Pending (child ∷ root ∷ []) i → ⊥)) (sym names_of_both) none_found)))
 
   -- the newest first
   abbrev IsNextNewest : List ObjectId → List ObjectId → Type 0

@@ -85,9 +85,9 @@ module _ (words : List (List ℕ)) (input : List ℕ) (rs : List Record) (old ne
       let second : Contains both other = Contains-there other one (other ∷ []) (Contains-here other []) in
       subst ServesSo (sym is)
       (page.ahead n.0 n.1 spells spells_other
-       (number_shown (stored rs) parents one other n.0 (number_by_texts (stored rs) both whole one other first second n.0 n.2))
-       (number_shown (stored rs) parents other one n.1 (number_by_texts (stored rs) both whole other one second first n.1 n.3))
-       n.4)
+      (number_shown (stored rs) parents one other n.0 (number_by_texts (stored rs) both whole one other first second n.0 n.2))
+      (number_shown (stored rs) parents other one n.1 (number_by_texts (stored rs) both whole other one second first n.1 n.3))
+      n.4)
 
   promised : (request : Request) → request_of words ≡ Ok request
       → (records : List page.Record) × (ps : ObjectId → List ObjectId) × (ts : ObjectId → ℤ) × page.AreRecords records input × page.AreHistory records ps ts × page.Serves records ps ts old new words

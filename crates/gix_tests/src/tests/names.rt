@@ -105,8 +105,8 @@ pub mod laws_of_topo {
         asks_once, begins_in_order, begins_once, children_first, counts, difference, each_once,
         ends, fails_once, faultless, faultless_begins, faultless_difference, faultless_once,
         in_order, never_twice, one_date_beginning, one_date_order, one_topo_beginning,
-        one_topo_order, parents_known, rows_agree, rows_agree_on_ids, some_date_order, some_topo_order,
-        stays_ended, tells,
+        one_topo_order, parents_known, rows_agree, rows_agree_on_ids, some_date_order,
+        some_topo_order, stays_ended, tells,
     };
 }
 

@@ -83,13 +83,15 @@ module _ (objects : Objects) (walked all : ObjectId → List ObjectId) (tips end
   members_of : (members : List ObjectId) × ((i : ObjectId) → Contains members i ↔ IsInWalk walked all tips ends i)
   members_of =
       let above : (list : List ObjectId) × ((i : ObjectId) → Contains list i ↔ Reaches walked tips i) = reached_list walked tips (tips ++ named_all objects) (reached_known objects walked tips walked_named) in
-      let below : (list : List ObjectId) × ((i : ObjectId) → Contains list i ↔ Reaches all ends i) = reached_list all ends (ends ++ named_all objects) (reached_known objects all ends all_named) in
-      (filter (λ j. not (is_among j below.0)) above.0, λ i. (
-        λ c.
-            let e : (not (is_among i below.0) && is_among i above.0) ≡ true = sym (among-filter i (λ j. not (is_among j below.0)) above.0) ∙ among_from i (filter (λ j. not (is_among j below.0)) above.0) c in
-            record { reached = (above.1 i).0 (among_is i above.0 (and_parts _ _ e).1); outside = λ r. true≢false (sym (among_from i below.0 ((below.1 i).1 r)) ∙ not-true _ (and_parts _ _ e).0) },
-        λ m. among_is i (filter (λ j. not (is_among j below.0)) above.0) (among-filter i (λ j. not (is_among j below.0)) above.0 ∙ and_from _ _ (not_from_false _ (false_from_ne_true _ (λ t. m.outside ((below.1 i).0 (among_is i below.0 t))))) (among_from i above.0 ((above.1 i).1 m.reached))),
-      ))
+      let below : (list : List ObjectId) × ((i : ObjectId) → Contains list i ↔ Reaches all ends i) = reached_list all ends (ends ++ named_all objects) (reached_known objects all ends all_named) in (
+        filter (λ j. not (is_among j below.0)) above.0,
+        λ i. (
+          λ c.
+              let e : (not (is_among i below.0) && is_among i above.0) ≡ true = sym (among-filter i (λ j. not (is_among j below.0)) above.0) ∙ among_from i (filter (λ j. not (is_among j below.0)) above.0) c in
+              record { reached = (above.1 i).0 (among_is i above.0 (and_parts _ _ e).1); outside = λ r. true≢false (sym (among_from i below.0 ((below.1 i).1 r)) ∙ not-true _ (and_parts _ _ e).0) },
+          λ m. among_is i (filter (λ j. not (is_among j below.0)) above.0) (among-filter i (λ j. not (is_among j below.0)) above.0 ∙ and_from _ _ (not_from_false _ (false_from_ne_true _ (λ t. m.outside ((below.1 i).0 (among_is i below.0 t))))) (among_from i above.0 ((above.1 i).1 m.reached))),
+        ),
+      )
 
   pub some_topo : (time : ObjectId → ℤ) → (ids : List ObjectId) × IsTopoOrder time walked (IsInWalk walked all tips ends) tips ids
   some_topo time = topo_list walked (IsInWalk walked all tips ends) members_of.0 members_of.1 time tips
