@@ -31,7 +31,7 @@ enum {
     KESTRELRACK_BROKEN = 7,     /* an object's bytes are broken */
     KESTRELRACK_CYCLE = 8,      /* the tree of this `id` is under itself */
     KESTRELRACK_MEMORY = 9,     /* malloc or realloc gave NULL */
-    KESTRELRACK_READ = 10,      /* the records are more than 2^40 bytes */
+    KESTRELRACK_READ = 10,      /* never answered */
     KESTRELRACK_WRITE = 11,     /* never answered */
     KESTRELRACK_INTERNAL = 12,  /* never answered */
     KESTRELRACK_GRAPH = 13,     /* never answered: only the program takes a commit-graph */
@@ -52,7 +52,8 @@ struct kestrelrack_answer {
  * words    The command and its ids: "breadth", "newest", "oldest", "topo" or "date" and ids of tips, one at least, and ids of commits to
  *          be hidden, each after a ^; "ahead" and two ids; "files" and the id of a tree. One space or one newline is between two words,
  *          and none at either end. An id is 40 or 64 hex digits.
- * records  The objects, as `git cat-file --batch='%(objecttype) %(objectname) %(objectsize)'` prints them. They are copied once.
+ * records  The objects, as `git cat-file --batch='%(objecttype) %(objectname) %(objectsize)'` prints them. They are read where they
+ *          are: only an object that the walk looks up is copied, one at a time.
  * room     For the lines, each with a newline and none with a zero byte. The lines of commits are never longer than the records, and
  *          those of "ahead" are at most 42 bytes.
  *

@@ -55,6 +55,10 @@ pub counted_so : (objects : Objects) (rows : List GraphRow) → IsAgreeing objec
     → (ahead behind : ℕ) × IsNumberOf (IsShown objects (one ∷ []) (other ∷ [])) ahead × IsNumberOf (IsShown objects (other ∷ []) (one ∷ [])) behind × Appends old new (ahead_line ahead behind)
 counted_so objects rows agreeing one other old new (counted ahead behind a b written) = (ahead, behind, number_of objects rows agreeing one other ahead a, number_of objects rows agreeing other one behind b, written)
 
+-- and has read all that both reach
+pub counted_whole : (objects : Objects) (rows : List GraphRow) → IsAgreeing objects rows → (one other : ObjectId) (old new : Option (List ℕ)) → Serves objects rows old (Ahead one other) (Ok tt) new → AreWhole objects (one ∷ other ∷ [])
+counted_whole objects rows agreeing one other old new (counted ahead behind a b written) = read_whole objects rows agreeing one other a.0 a.1
+
 pub ahead_counts : AheadCounts
 ahead_counts words input records one other old new asked are runs = counted_so (stored records) [] (none_agree (stored records) [] refl) one other old new (served_so words input records (Ahead one other) old new asked are runs)
 

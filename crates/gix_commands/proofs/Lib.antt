@@ -1,4 +1,5 @@
 mod WordFaults
+mod WalkFaults
 mod MemoryFaults
 mod OutputFacts
 mod InternalFacts
@@ -9,7 +10,7 @@ mod ListerFacts
 mod AheadFacts
 mod StartFacts
 mod RunFacts
-mod FoundCommits
+mod GivenRuns
 mod SimpleRuns
 mod UncutWords
 mod Parts
@@ -22,10 +23,12 @@ mod FileRuns
 mod SimpleFaults
 mod SilentRuns
 mod AheadRuns
+mod TextNumbers
 mod OverGraphs
 mod ToldRuns
 mod SameNumbers
 mod SameCommits
+mod SameTexts
 mod SameHistory
 mod SameOrders
 mod SameDescents

@@ -23,7 +23,8 @@ use Rattle.gix_commands.specs.Run.{Serves, RunsOver, without_memory, no_command,
 use Rattle.gix_commands.specs.Walked.{never_faulty}
 use Rattle.gix_commands.specs.Words.{Request, request_of}
 use Rattle.gix_commands.proofs.MemoryFaults.{failed_so}
-use Rattle.gix_commands.proofs.RunFacts.{err_same, told_same, serves_sound, serves_unnumbered}
+use Rattle.gix_commands.proofs.RunFacts.{err_same, told_same, serves_sound}
+use Rattle.gix_commands.proofs.WalkFaults.{OfWalk, serves_of_walk}
 use Rattle.gix_commands.proofs.WordFaults.{OfWords, request_words}
 
 -- rows that were opened agree with a store that has them beside what was stored, where that is as they say
@@ -48,7 +49,7 @@ over_spelled {layers = layers} (not_opened request t f) bytes records n is are =
 over_spelled (not_read request rows t o) bytes records n is are = λ e. cc
 over_spelled {has = has} (bad_record request rows input m t o h b) bytes records n is are = λ _. no_bad_record m records input b (subst (AreRecords records) (sym (told_same bytes input has is h)) are)
 over_spelled (disagrees request rows input read i t o h those d) bytes records n is are = λ e. cc
-over_spelled (served request rows input read t o h those agree s) bytes records n is are = serves_unnumbered n s
+over_spelled (served request rows input read t o h those agree s) bytes records n is are = λ same. subst OfWalk same (serves_of_walk s)
 
 module _ (words layers : List (List ℕ)) (has old : Option (List ℕ)) where
   -- the words were no command

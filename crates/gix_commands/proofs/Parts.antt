@@ -1,5 +1,5 @@
 -- What holds of a part of a store holds of the whole store, where all that is reached in the part is whole there.
-use Rattle.std.specs.Prelude.{◌≡◌, ◌≢◌, ℕ, zero, suc, ℤ, List, [], ◌∷◌, ◌++◌, filter, take, slice_get, Bool, false, not, Option, None, Some, Contains, IsSome, MatchOption}
+use Rattle.std.specs.Prelude.{◌≡◌, ℕ, zero, suc, ℤ, List, [], ◌∷◌, ◌++◌, filter, take, slice_get, false, not, Option, None, Some, Contains, IsSome, MatchOption}
 use Rattle.std.specs.FinMap.{get}
 use Rattle.std.specs.List.{flat_map}
 use Rattle.std.proofs.Math.Path.{transport}
@@ -11,7 +11,7 @@ use Rattle.gix_object.specs.Object.{Object, Objects}
 use Rattle.gix_revwalk.specs.declared.CommitTimeOrder.{CommitTimeOrder}
 use Rattle.gix_revwalk.specs.declared.Parents.TheVariants as mode
 use Rattle.gix_simple.specs.declared.Sorting.{Sorting}
-use Rattle.gix_hash.specs.Reach.{Reaches, start, step, Tells}
+use Rattle.gix_hash.specs.Reach.{Reaches, start, step}
 use Rattle.gix_revwalk.specs.BreadthOrder.{IsBreadthOrder, first_new}
 use Rattle.gix_revwalk.specs.Commits.{commit_at, commit_of_object, parents_in, parents_of, time_in, time_of}
 use Rattle.gix_revwalk.specs.Ids.{new_ids}
@@ -21,11 +21,12 @@ use Rattle.gix_simple.specs.Walk.{time_order}
 use Rattle.gix_topo.specs.Walk.{IsNumberOf}
 use Rattle.gix_hash.proofs.Ids.Membership.{among_is, Contains-here, Contains-there, Contains-cons_cases, no_member}
 use Rattle.gix_hash.proofs.Lists.{filter_within}
+use Rattle.gix_revwalk.specs.Texts.{text_next}
 use Rattle.gix_revwalk.proofs.Reached.{reach_more}
-use Rattle.gix_simple.proofs.Difference.{no_start}
+use Rattle.gix_revwalk.proofs.TextParents.{text_whole}
+use Rattle.gix_simple.proofs.Difference.{whole_from}
 use Rattle.gix_simple.proofs.MadeOfTips.{fresh_among}
-use Rattle.gix_simple.proofs.ReachDecided.{reach_test}
-use Rattle.gix_commands.specs.Histories.{IsPartOf, IsShown, AreWhole, Lists}
+use Rattle.gix_commands.specs.Histories.{IsPartOf, IsShown, IsShownBy, AreWhole, ListsBy}
 
 pub take_within : (k : ℕ) (xs : List ObjectId) (i : ObjectId) → Contains (take k xs) i → Contains xs i
 take_within zero xs i c = absurd (no_member i c)
@@ -105,6 +106,10 @@ module _ (some all : Objects) (part : IsPartOf some all) where
   reached_in_part ids whole i (start s) = start s
   reached_in_part ids whole i (step {c = c} r n) = let p : Reaches (parents_of some) ids c = reached_in_part ids whole c r in step p (subst (λ xs. Contains xs i) (sym (same_parents c (whole c p))) n)
 
+  -- then it is whole in the whole store, too
+  pub whole_in_all : (ids : List ObjectId) → AreWhole some ids → AreWhole all ids
+  whole_in_all ids whole i r = let h : IsSome (commit_at some i) = whole i (reached_in_part ids whole i r) in subst IsSome (same_commit i h) h
+
   module _ (tips hidden : List ObjectId) (whole : AreWhole some (tips ++ hidden)) where
     pub tips_whole : AreWhole some tips
     tips_whole i r = whole i (reach_more (parents_of some) tips (tips ++ hidden) (λ j c. Contains-append_left tips hidden j c) i r)
@@ -121,43 +126,55 @@ module _ (some all : Objects) (part : IsPartOf some all) where
     pub number_in_all : (n : ℕ) → IsNumberOf (IsShown some tips hidden) n → IsNumberOf (IsShown all tips hidden) n
     number_in_all n k = record { ids = k.ids; distinct = k.distinct; each = λ i c. shown_in_all i (k.each i c); all = λ i s. k.all i (shown_in_part i s); number = k.number }
 
-    module _ (hides : ObjectId → Bool) where
-      abbrev starts_so : List ObjectId
-      starts_so = filter (λ i. not (hides i)) (new_ids (λ i. false) tips)
+-- lists are the same by other parents, and by the times of another store, where these are the same of all that is reached
+module _ (some all : Objects) (next other : ObjectId → List ObjectId) (tips hidden : List ObjectId) (same_next : (c : ObjectId) → Reaches next (tips ++ hidden) c → next c ≡ other c) where
+  abbrev AreMet : List ObjectId → Type 0
+  AreMet ids = (i : ObjectId) → Reaches next ids i → Reaches next (tips ++ hidden) i
 
-      abbrev next_in : Objects → ObjectId → List ObjectId
-      next_in objects c = filter (λ i. not (hides i)) (parents_of objects c)
+  tips_met : AreMet tips
+  tips_met i r = reach_more next tips (tips ++ hidden) (λ j c. Contains-append_left tips hidden j c) i r
 
-      listed_in_all : (o : Option CommitTimeOrder) (ids : List ObjectId) → ((i : ObjectId) → Contains ids i → Reaches (parents_of some) tips i) → IsInOrder o (time_of some) (next_in some) starts_so ids → IsInOrder o (time_of all) (next_in all) starts_so ids
-      listed_in_all o ids in_ids =
-          order_same (Reaches (parents_of some) tips) (next_in some) (next_in all) (time_of some) (time_of all) starts_so ids
+  hidden_met : AreMet hidden
+  hidden_met i r = reach_more next hidden (tips ++ hidden) (λ j c. Contains-append_right tips hidden j c) i r
+
+  there : (ids : List ObjectId) → AreMet ids → (i : ObjectId) → Reaches next ids i → Reaches other ids i
+  there ids met i (start s) = start s
+  there ids met i (step {c = c} r n) = step (there ids met c r) (subst (λ xs. Contains xs i) (same_next c (met c r)) n)
+
+  pub back : (ids : List ObjectId) → AreMet ids → (i : ObjectId) → Reaches other ids i → Reaches next ids i
+  back ids met i (start s) = start s
+  back ids met i (step {c = c} r n) = let p : Reaches next ids c = back ids met c r in step p (subst (λ xs. Contains xs i) (sym (same_next c (met c p))) n)
+
+  shown_there : (i : ObjectId) → IsShownBy next tips hidden i → IsShownBy other tips hidden i
+  shown_there i s = (there tips tips_met i s.0, λ h. s.1 (back hidden hidden_met i h))
+
+  shown_back : (i : ObjectId) → IsShownBy other tips hidden i → IsShownBy next tips hidden i
+  shown_back i s = (back tips tips_met i s.0, λ h. s.1 (there hidden hidden_met i h))
+
+  pub lists_same : ((i : ObjectId) → Reaches next (tips ++ hidden) i → time_of some i ≡ time_of all i) → (by : Sorting) (ids : List ObjectId) → ListsBy some next by tips hidden ids → ListsBy all other by tips hidden ids
+  lists_same same_times by ids l = record {
+    once = l.once;
+    exact = λ i. (λ c. shown_there i ((l.exact i).0 c), λ s. (l.exact i).1 (shown_back i s));
+    in_order = (
+      l.in_order.0,
+      λ i. (λ e. there hidden hidden_met i ((l.in_order.1 i).0 e), λ r. (l.in_order.1 i).1 (back hidden hidden_met i r)),
+      order_same (Reaches next tips) (λ c. filter (λ i. not (l.in_order.0 i)) (next c)) (λ c. filter (λ i. not (l.in_order.0 i)) (other c)) (time_of some) (time_of all) (filter (λ i. not (l.in_order.0 i)) (new_ids (λ i. false) tips)) ids
           (λ i c. start (among_is i tips (fresh_among i (λ j. false) tips (filter_within _ (new_ids (λ j. false) tips) i c))))
-          (λ c i r n. step r (filter_within _ (parents_of some c) i n)) in_ids (λ c r. ap (filter (λ i. not (hides i))) (same_parents c (tips_whole c r)))
-          (λ i r. same_time i (tips_whole i r)) o
+          (λ c i r n. step r (filter_within _ (next c) i n)) (λ i c. ((l.exact i).0 c).0) (λ c r. ap (filter (λ i. not (l.in_order.0 i))) (same_next c (tips_met c r)))
+          (λ i r. same_times i (tips_met i r)) (time_order mode.All by) l.in_order.2,
+    );
+  }
 
-    lists_in_all : (by : Sorting) (ids : List ObjectId) → Lists some by tips hidden ids → Lists all by tips hidden ids
-    lists_in_all by ids l = record {
-      once = l.once;
-      exact = λ i. (λ c. shown_in_all i ((l.exact i).0 c), λ s. (l.exact i).1 (shown_in_part i s));
-      in_order = (
-        l.in_order.0,
-        λ i. (λ e. reached_in_all hidden i ((l.in_order.1 i).0 e), λ r. (l.in_order.1 i).1 (reached_in_part hidden hidden_whole i r)),
-        listed_in_all l.in_order.0 (time_order mode.All by) ids (λ i c. ((l.exact i).0 c).0) l.in_order.2,
-      );
-    }
+-- where all that is reached is whole, texts name the parents
+module _ (objects : Objects) (by : Sorting) (tips hidden ids : List ObjectId) (whole : AreWhole objects (tips ++ hidden)) where
+  texts_same : (c : ObjectId) → Reaches (parents_of objects) (tips ++ hidden) c → parents_of objects c ≡ text_next objects c
+  texts_same c r = text_whole objects c (whole_from objects c (whole c r))
 
-  -- where there are tips at all
-  pub lists_of_part : (by : Sorting) (tips hidden ids : List ObjectId) → (tips ≢ [] → AreWhole some (tips ++ hidden)) → Lists some by tips hidden ids → Lists all by tips hidden ids
-  lists_of_part by [] hidden ids whole l = of_none ids l
-    where
-      of_none : (ids : List ObjectId) → Lists some by [] hidden ids → Lists all by [] hidden ids
-      of_none [] l = record {
-        once = tt;
-        exact = λ i. (λ c. absurd (no_member i c), λ s. absurd (no_start (parents_of all) [] i s.0 refl));
-        in_order = (test.0, test.1, order_same (λ i. ⊥) _ _ (time_of some) (time_of all) [] [] (λ i c. no_member i c) (λ c i n. absurd n) (λ i c. no_member i c) (λ c n. absurd n) (λ i n. absurd n) (time_order mode.All by) l.in_order.2);
-      }
-        where
-          test : (tells : ObjectId → Bool) × Tells tells (Reaches (parents_of all) hidden)
-          test = reach_test all hidden
-      of_none (i ∷ ids) l = absurd (no_start (parents_of some) [] i ((l.exact i).0 (Contains-here i ids)).0 refl)
-  lists_of_part by (tip ∷ tips) hidden ids whole l = lists_in_all (tip ∷ tips) hidden (whole (λ e. cc)) by ids l
+  pub by_parents_reached : (i : ObjectId) → Reaches (text_next objects) (tips ++ hidden) i → Reaches (parents_of objects) (tips ++ hidden) i
+  by_parents_reached = back objects objects (parents_of objects) (text_next objects) tips hidden texts_same (tips ++ hidden) (λ i r. r)
+
+  pub by_texts : ListsBy objects (parents_of objects) by tips hidden ids → ListsBy objects (text_next objects) by tips hidden ids
+  by_texts = lists_same objects objects (parents_of objects) (text_next objects) tips hidden texts_same (λ i r. refl) by ids
+
+  pub by_parents : ListsBy objects (text_next objects) by tips hidden ids → ListsBy objects (parents_of objects) by tips hidden ids
+  by_parents = lists_same objects objects (text_next objects) (parents_of objects) tips hidden (λ c r. sym (texts_same c (by_parents_reached c r))) (λ i r. refl) by ids

@@ -13,8 +13,6 @@ use Rattle.gix_revwalk.specs.Agreeing.{IsAgreeing}
 use Rattle.gix_revwalk.proofs.Rows.{none_agree}
 use Rattle.gix_revwalk.specs.declared.Info.{Info}
 use Rattle.gix_simple.specs.declared.Error.{Error}
-use Rattle.gix_simple.specs.declared.Error.TheVariants as error
-use Rattle.gix_paint.specs.declared.Hidden.TheVariants as hidden_by
 use Rattle.gix_simple.specs.declared.Sorting.{Sorting}
 use Rattle.gix_topo.specs.declared.Error.{Error as TopoError}
 use Rattle.gix_topo.specs.declared.Sorting.{Sorting as TopoSorting}
@@ -36,8 +34,9 @@ use Rattle.gix_commands.specs.Words.{Request, Commits, request_of}
 use Rattle.gix_commands.proofs.MemoryFaults.{failed_so}
 use Rattle.gix_records.proofs.RecordFacts.{no_bad_record}
 use Rattle.gix_commands.proofs.InternalFacts.{IsSound, next_sound, start_sound}
-use Rattle.gix_commands.proofs.TopoInternalFacts.{drawn_sound, built_agreeing, build_sound, topo_unnumbered}
-use Rattle.gix_commands.proofs.TreeFacts.{find_unnumbered, tree_sound, tree_unnumbered}
+use Rattle.gix_commands.proofs.TopoInternalFacts.{drawn_sound, built_agreeing, build_sound}
+use Rattle.gix_commands.proofs.TreeFacts.{tree_sound}
+use Rattle.gix_commands.proofs.WalkFaults.{OfWalk, serves_of_walk}
 use Rattle.gix_commands.proofs.WordFaults.{OfWords, request_words}
 
 pub err_same : {e f : Fault} → ◌≡◌ {A = Result (Unit {0}) Fault} (Err e) (Err f) → e ≡ f
@@ -82,36 +81,6 @@ runs_sound (not_read request t) = λ e. cc
 runs_sound (bad_record request input n t i b) = λ e. cc
 runs_sound (served request input records t i r s) = serves_sound (none_agree (stored records) [] refl) s
 
-walk_unnumbered : (n : ℕ) (e : Error) → fault_of_walk e ≢ fault.Record n
-walk_unnumbered n (error.Find e) = find_unnumbered n e
-walk_unnumbered n (error.ObjectDecode e) = λ e. cc
-walk_unnumbered n (error.HiddenGraph (hidden_by.Find e)) = find_unnumbered n e
-walk_unnumbered n (error.HiddenGraph (hidden_by.ObjectDecode e)) = λ e. cc
-walk_unnumbered n error.Memory = λ e. cc
-
-ends_unnumbered : {walk : Walk} {infos : List Info} {answer : Result (Unit {0}) Fault} (n : ℕ) → Ends Answers IsWalkFault walk infos answer → answer ≢ Err (fault.Record n)
-ends_unnumbered n (finished new h) = λ e. cc
-ends_unnumbered n (failed e f new h is) = λ same. walk_unnumbered n e (sym is ∙ err_same same)
-ends_unnumbered n (cut_short info new h) = λ e. cc
-
-topo_ends_unnumbered : {walk : topo.Walk} {infos : List Info} {answer : Result (Unit {0}) Fault} (n : ℕ) → Ends topo.Answers topo.IsWalkFault walk infos answer → answer ≢ Err (fault.Record n)
-topo_ends_unnumbered n (finished new h) = λ e. cc
-topo_ends_unnumbered n (failed e f new h is) = λ same. topo_unnumbered n e (sym is ∙ err_same same)
-topo_ends_unnumbered n (cut_short info new h) = λ e. cc
-
-pub serves_unnumbered : {objects : Objects} {rows : List GraphRow} {old new : Option (List ℕ)} {request : Request} {answer : Result (Unit {0}) Fault} (n : ℕ) → Serves objects rows old request answer new → answer ≢ Err (fault.Record n)
-serves_unnumbered n (walked walk infos s ends a) = ends_unnumbered n ends
-serves_unnumbered n (not_walked why f) = λ same. walk_unnumbered n why (err_same same)
-serves_unnumbered n (walked_down walk infos built ends a) = topo_ends_unnumbered n ends
-serves_unnumbered n (not_built why h) = λ same. topo_unnumbered n why (err_same same)
-serves_unnumbered n (listed recorder r a) = λ e. cc
-serves_unnumbered n (not_listed recorder why r) = λ same. tree_unnumbered n why (err_same same)
-serves_unnumbered n (counted ahead behind c d a) = λ e. cc
-serves_unnumbered n (not_ahead f) = ends_unnumbered n f.1.ends
-serves_unnumbered n (not_behind m a f) = ends_unnumbered n f.1.ends
-serves_unnumbered n unserved = λ e. cc
-serves_unnumbered n not_written = λ e. cc
-
 pub told_same : (bytes input : List ℕ) (has : Option (List ℕ)) → has ≡ Some bytes → Tells has input → input ≡ bytes
 told_same bytes input has is h = subst (λ (o : Option (List ℕ)). Tells o input) is h
 
@@ -122,7 +91,7 @@ runs_spelled without_memory bytes records n is are = λ e. cc
 runs_spelled {words} (no_command t) bytes records n is are = λ same. subst OfWords (t ∙ ap (λ x. Err x) (err_same same)) (request_words words)
 runs_spelled (not_read request t) bytes records n is are = λ e. cc
 runs_spelled {words} {has} (bad_record request input m t h b) bytes records n is are = λ _. no_bad_record m records input b (subst (AreRecords records) (sym (told_same bytes input has is h)) are)
-runs_spelled (served request input read t h r s) bytes records n is are = serves_unnumbered n s
+runs_spelled (served request input read t h r s) bytes records n is are = λ same. subst OfWalk same (serves_of_walk s)
 
 module _ (words : List (List ℕ)) (has old : Option (List ℕ)) where
   -- the words were no command

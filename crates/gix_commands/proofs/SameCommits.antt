@@ -2,7 +2,7 @@
 use Rattle.std.specs.Prelude.{◌≡◌, ◌≢◌, ◌⊎◌, ◌==◌, ℕ, suc, List, [], ◌∷◌, ◌++◌, map, length, take, replicate, Bool, true, false, cond, Option, Some, None, All, Contains, codes}
 use Rattle.std.specs.FinMap as map_of
 use Rattle.std.specs.FinMap.{get}
-use Rattle.std.proofs.Common.{refl, sym, ap, subst, ◌∙◌, inl, inr, ⊎_elim, arith, append_assoc}
+use Rattle.std.proofs.Common.{refl, sym, ap, subst, ◌∙◌, inl, inr, ⊎_elim, arith, append_assoc, get_or}
 use Rattle.std.proofs.lemmas.Bool.{eqb-true, eq-eqb, cond-true, cond-false, false≢true}
 use Rattle.std.proofs.lemmas.List.Elements.{All-nil, All-cons, All-contains, Contains-append_right}
 use Rattle.std.proofs.lemmas.Option.{same_Some, none-some}
@@ -98,58 +98,80 @@ pub held_back : (rs : List records.Record) (i : ObjectId) (word bytes : List ℕ
 held_back rs i word bytes h = back rs map_of.empty h.0 h.1 i word bytes h.2 h.3
 
 -- lines
-parent_lines : (k : Kind) (ps : List ObjectId) (lines : List ℕ) → text.AreParentLines k ps lines → AreParentLines (width_of k) ps lines
-parent_lines k [] lines h = h
-parent_lines k (p ∷ ps) lines (first, rest, (digits, is, line), are, whole) =
-    (digits, rest, (spelled k digits p is).0, parent_lines k ps rest are, whole ∙ ap (λ xs. xs ++ rest) line ∙ append_assoc (codes "parent " ++ digits) (10 ∷ []) rest)
+one_more : (word content lines tail : List ℕ) → ((word ++ content ++ 10 ∷ []) ++ lines) ++ tail ≡ word ++ content ++ 10 ∷ (lines ++ tail)
+one_more word content lines tail = simp append_assoc refl
 
-parent_lines_back : (k : Kind) (ps : List ObjectId) (lines : List ℕ) → AreParentLines (width_of k) ps lines → text.AreParentLines k ps lines
-parent_lines_back k [] lines h = h
-parent_lines_back k (p ∷ ps) lines (digits, rest, is, are, whole) =
-    (codes "parent " ++ digits ++ 10 ∷ [], rest, (digits, spells_again k digits p is, refl), parent_lines_back k ps rest are, whole ∙ sym (append_assoc (codes "parent " ++ digits) (10 ∷ []) rest))
+-- what is behind parents begins with no further one
+abbrev pub HasNoMore : ℕ → List ℕ → Type 0
+HasNoMore width rest = (p : ObjectId) (id more : List ℕ) → Spells width id p → rest ≢ codes "parent " ++ id ++ 10 ∷ more
+
+parent_lines : (k : Kind) (ps : List ObjectId) (lines rest : List ℕ) → HasNoMore (width_of k) rest → text.AreParentLines k ps lines → AreParentLines (width_of k) ps (lines ++ rest) rest
+parent_lines k [] lines rest none h = (ap (λ xs. xs ++ rest) h, none)
+parent_lines k (p ∷ ps) lines rest none (first, others, (digits, is, line), are, whole) = (
+  digits,
+  others ++ rest,
+  (spelled k digits p is).0,
+  parent_lines k ps others rest none are,
+  ap (λ xs. xs ++ rest) (whole ∙ ap (λ xs. xs ++ others) line) ∙ one_more (codes "parent ") digits others rest,
+)
+
+parent_lines_back : (k : Kind) (ps : List ObjectId) (bytes rest : List ℕ) → AreParentLines (width_of k) ps bytes rest → (lines : List ℕ) × text.AreParentLines k ps lines × (bytes ≡ lines ++ rest)
+parent_lines_back k [] bytes rest (same, none) = ([], refl, same)
+parent_lines_back k (p ∷ ps) bytes rest (digits, more, is, are, whole) =
+    let h = parent_lines_back k ps more rest are in
+    let line : List ℕ = codes "parent " ++ digits ++ 10 ∷ [] in
+    (line ++ h.0, (line, h.0, (digits, spells_again k digits p is, refl), h.1, refl), whole ∙ ap (λ xs. codes "parent " ++ digits ++ 10 ∷ xs) h.2 ∙ sym (one_more (codes "parent ") digits h.0 rest))
+
+-- what is behind the parents in the text of a whole commit
+abbrev pub signed_rest : List ℕ → List ℕ → List ℕ → List ℕ
+signed_rest author signature rest = codes "author " ++ author ++ 10 ∷ (codes "committer " ++ signature ++ 10 ∷ rest)
+
+no_parent : (width : ℕ) (author signature rest : List ℕ) → HasNoMore width (signed_rest author signature rest)
+no_parent width author signature rest p id more spells e = absurd (omega (arith, ap (λ xs. get_or xs 0 0) e))
 
 -- what the statement says of the text of a commit
 abbrev pub IsText : ℕ → List ℕ → List ObjectId → List ℕ → Type 0
 IsText width bytes parents signature =
-    (tree : ObjectId) × (id lines author rest : List ℕ) × Spells width id tree × AreParentLines width parents lines × All (λ b. b ≢ 10) author × All (λ b. b ≢ 10) signature
-    × (bytes ≡ codes "tree " ++ id ++ 10 ∷ (lines ++ codes "author " ++ author ++ 10 ∷ (codes "committer " ++ signature ++ 10 ∷ rest)))
+    (tree : ObjectId) × (id lines author rest : List ℕ) × Spells width id tree × All (λ b. b ≢ 10) author × All (λ b. b ≢ 10) signature
+    × AreParentLines width parents lines (signed_rest author signature rest) × (bytes ≡ codes "tree " ++ id ++ 10 ∷ lines)
 
 -- four lines, one after the other
-four_lines : (a b lines c d e f rest : List ℕ) → (a ++ b ++ 10 ∷ []) ++ lines ++ (c ++ d ++ 10 ∷ []) ++ (e ++ f ++ 10 ∷ []) ++ rest ≡ a ++ b ++ 10 ∷ (lines ++ c ++ d ++ 10 ∷ (e ++ f ++ 10 ∷ rest))
+four_lines : (a b lines c d e f rest : List ℕ) → (a ++ b ++ 10 ∷ []) ++ lines ++ (c ++ d ++ 10 ∷ []) ++ (e ++ f ++ 10 ∷ []) ++ rest ≡ a ++ b ++ 10 ∷ (lines ++ (c ++ d ++ 10 ∷ (e ++ f ++ 10 ∷ rest)))
 four_lines a b lines c d e f rest = simp append_assoc refl
 
 pub commit_text : (k : Kind) (bytes : List ℕ) (tree : ObjectId) (parents : List ObjectId) (signature : List ℕ) → text.IsCommitText k bytes tree parents signature → IsText (width_of k) bytes parents signature
 commit_text k bytes tree parents signature t = (
   tree,
   t.is_tree_line.0,
-  t.parent_lines,
+  t.parent_lines ++ signed_rest t.author signature t.rest,
   t.author,
   t.rest,
   (spelled k t.is_tree_line.0 tree t.is_tree_line.1).0,
-  parent_lines k parents t.parent_lines t.are_parent_lines,
   t.is_author_line.0,
   t.is_committer_line.0,
+  parent_lines k parents t.parent_lines (signed_rest t.author signature t.rest) (no_parent (width_of k) t.author signature t.rest) t.are_parent_lines,
   t.whole ∙ (λ n. t.is_tree_line.2 n ++ t.parent_lines ++ t.is_author_line.1 n ++ t.is_committer_line.1 n ++ t.rest)
       ∙ four_lines (codes "tree ") t.is_tree_line.0 t.parent_lines (codes "author ") t.author (codes "committer ") signature t.rest,
 )
 
 pub commit_text_back : (k : Kind) (bytes : List ℕ) (parents : List ObjectId) (signature : List ℕ) → IsText (width_of k) bytes parents signature → (tree : ObjectId) × text.IsCommitText k bytes tree parents signature
-commit_text_back k bytes parents signature (tree, id, lines, author, rest, spells, are, named, signed, whole) = (
-  tree,
-  record {
-    tree_line = codes "tree " ++ id ++ 10 ∷ [];
-    parent_lines = lines;
-    author = author;
-    author_line = codes "author " ++ author ++ 10 ∷ [];
-    committer_line = codes "committer " ++ signature ++ 10 ∷ [];
-    rest = rest;
-    is_tree_line = (id, spells_again k id tree spells, refl);
-    are_parent_lines = parent_lines_back k parents lines are;
-    is_author_line = (named, refl);
-    is_committer_line = (signed, refl);
-    whole = whole ∙ sym (four_lines (codes "tree ") id lines (codes "author ") author (codes "committer ") signature rest);
-  },
-)
+commit_text_back k bytes parents signature (tree, id, lines, author, rest, spells, named, signed, are, whole) =
+    let h = parent_lines_back k parents lines (signed_rest author signature rest) are in (
+      tree,
+      record {
+        tree_line = codes "tree " ++ id ++ 10 ∷ [];
+        parent_lines = h.0;
+        author = author;
+        author_line = codes "author " ++ author ++ 10 ∷ [];
+        committer_line = codes "committer " ++ signature ++ 10 ∷ [];
+        rest = rest;
+        is_tree_line = (id, spells_again k id tree spells, refl);
+        are_parent_lines = h.1;
+        is_author_line = (named, refl);
+        is_committer_line = (signed, refl);
+        whole = whole ∙ ap (λ xs. codes "tree " ++ id ++ 10 ∷ xs) h.2 ∙ sym (four_lines (codes "tree ") id h.0 (codes "author ") author (codes "committer ") signature rest);
+      },
+    )
 
 -- what is behind the last `>`
 record Behind (signature rest : List ℕ) : Type 0 where

@@ -13,8 +13,8 @@ use Rattle.gix_topo.specs.DateOrder.{IsDateOrder}
 use Rattle.gix_topo.specs.TopoOrder as topo
 use Rattle.gix_topo.specs.WalkSet as walk
 use Rattle.gix_topo.specs.WalkSet.{IsInWalk}
-use Rattle.gix_commands.specs.WholeStatement.{Throughout, IsFirst, IsBest, Keeps, empty, kept, passed, IsShown, IsReady, by_time, AreMadeReady}
-use Rattle.gix_commands.proofs.SameOrders.{reaches, reaches_back, cut, is_first}
+use Rattle.gix_commands.specs.WholeStatement.{IsFirst, IsBest, Keeps, empty, kept, passed, IsShown, IsReady, by_time, AreMadeReady}
+use Rattle.gix_commands.proofs.SameOrders.{Throughout, reaches, reaches_back, cut, is_first}
 
 not_false : (b : Bool) → not b ≡ false → b ≡ true
 not_false true e = refl

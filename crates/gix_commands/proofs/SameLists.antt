@@ -6,7 +6,7 @@ use Rattle.hex.specs.Hex.{encode_lower}
 use Rattle.gix_hash.specs.declared.ObjectId.{ObjectId}
 use Rattle.gix_object.specs.Object.{Objects}
 use Rattle.gix_revwalk.specs.declared.CommitTimeOrder.TheVariants as order
-use Rattle.gix_revwalk.specs.Commits.{parents_of, time_of}
+use Rattle.gix_revwalk.specs.Commits.{time_of}
 use Rattle.gix_simple.specs.declared.Sorting.{Sorting}
 use Rattle.gix_simple.specs.declared.Sorting.TheVariants as sorting
 use Rattle.gix_topo.specs.declared.Sorting.{Sorting as TopoSorting}
@@ -18,76 +18,44 @@ use Rattle.gix_tree.specs.Recorder.{record_of}
 use Rattle.gix_tree.specs.Visits.{Visit}
 use Rattle.gix_commands.specs.declared.words.Order.TheVariants.{Simple, Topo}
 use Rattle.gix_commands.specs.Files.{file_lines, six_octal_digits}
-use Rattle.gix_commands.specs.Histories.{IsShown, IsListedSo, Lists, ListsDown, lines_of_ids}
+use Rattle.gix_commands.specs.Histories.{IsShownBy, IsListedBy, ListsBy, ListsDown, lines_of_ids}
 use Rattle.gix_commands.specs.WholeStatement as page
-use Rattle.gix_commands.specs.WholeStatement.{IsInOrder, IsNumberShown, bytes_in, entry_line}
-use Rattle.gix_commands.proofs.SameOrders.{reaches, reaches_back, are_distinct, in_breadth_order, in_time_order}
+use Rattle.gix_commands.specs.WholeStatement.{Follows, IsNumberShown, bytes_in, entry_line}
+use Rattle.gix_commands.proofs.SameOrders.{Throughout, reaches, reaches_back, are_distinct, in_breadth_order, in_time_order}
 use Rattle.gix_commands.proofs.SameDescents.{in_date_order, in_topo_order}
 use Rattle.gix_commands.proofs.SameTrees.{joined_behind, placed_by, same_bytes}
 use Rattle.gix_commands.proofs.SameWords.{IsNameOf}
 
 -- an order by its name
-abbrev pub IsTopological : List ℕ → Type 0
-IsTopological name = Contains page.topological name
+abbrev IsTopological : List ℕ → Type 0
+IsTopological name = Contains (codes "topo" ∷ codes "date" ∷ []) name
 
-topo_is : IsTopological (codes "topo")
-topo_is = (0, omega arith, refl)
+is_topological : (name : List ℕ) (by : TopoSorting) → IsNameOf name (Topo by) → IsTopological name
+is_topological name topo.TopoOrder e = subst IsTopological (sym e) (0, omega arith, refl)
+is_topological name topo.DateOrder e = subst IsTopological (sym e) (1, omega arith, refl)
 
-date_is : IsTopological (codes "date")
-date_is = (1, omega arith, refl)
-
-pub is_topological : (name : List ℕ) (by : TopoSorting) → IsNameOf name (Topo by) → IsTopological name
-is_topological name topo.TopoOrder e = subst IsTopological (sym e) topo_is
-is_topological name topo.DateOrder e = subst IsTopological (sym e) date_is
-
-abbrev pub IsOrder : List ℕ → Type 0
-IsOrder name = Contains (codes "breadth" ∷ codes "newest" ∷ codes "oldest" ∷ page.topological) name
-
-breadth_is : IsOrder (codes "breadth")
-breadth_is = (0, omega arith, refl)
-
-newest_is : IsOrder (codes "newest")
-newest_is = (1, omega arith, refl)
-
-oldest_is : IsOrder (codes "oldest")
-oldest_is = (2, omega arith, refl)
-
-topo_is_order : IsOrder (codes "topo")
-topo_is_order = (3, omega arith, refl)
-
-date_is_order : IsOrder (codes "date")
-date_is_order = (4, omega arith, refl)
-
-pub topo_named : (name : List ℕ) (by : TopoSorting) → IsNameOf name (Topo by) → IsOrder name
-topo_named name topo.TopoOrder e = subst IsOrder (sym e) topo_is_order
-topo_named name topo.DateOrder e = subst IsOrder (sym e) date_is_order
-
-pub simple_named : (name : List ℕ) (by : Sorting) → IsNameOf name (Simple by) → IsOrder name
-simple_named name sorting.BreadthFirst e = subst IsOrder (sym e) breadth_is
-simple_named name (sorting.ByCommitTime order.NewestFirst) e = subst IsOrder (sym e) newest_is
-simple_named name (sorting.ByCommitTime order.OldestFirst) e = subst IsOrder (sym e) oldest_is
-simple_named name (sorting.ByCommitTimeCutoff by seconds) e = absurd e
-
-module _ (objects : Objects) where
-  abbrev parents : ObjectId → List ObjectId
-  parents = parents_of objects
-
+-- what commits reach through these parents
+module _ (objects : Objects) (parents : ObjectId → List ObjectId) where
   abbrev time : ObjectId → ℤ
   time = time_of objects
 
-  shown : (tips hidden : List ObjectId) (i : ObjectId) → IsShown objects tips hidden i → page.IsShown parents time tips hidden i
+  shown : (tips hidden : List ObjectId) (i : ObjectId) → IsShownBy parents tips hidden i → page.IsShown parents time tips hidden i
   shown tips hidden i s = (reaches parents tips i s.0, λ r. s.1 (reaches_back parents hidden i r))
 
-  shown_back : (tips hidden : List ObjectId) (i : ObjectId) → page.IsShown parents time tips hidden i → IsShown objects tips hidden i
+  shown_back : (tips hidden : List ObjectId) (i : ObjectId) → page.IsShown parents time tips hidden i → IsShownBy parents tips hidden i
   shown_back tips hidden i s = (reaches_back parents tips i s.0, λ r. s.1 (reaches parents hidden i r))
 
-  in_order : (name : List ℕ) (by : Sorting) → IsNameOf name (Simple by) → (tips hidden ids : List ObjectId) → IsListedSo objects by tips hidden ids → IsInOrder parents time tips hidden ids name
-  in_order name sorting.BreadthFirst e tips hidden ids l = subst (IsInOrder parents time tips hidden ids) (sym e) (page.breadth (in_breadth_order parents time tips hidden l.0 l.1 ids l.2))
-  in_order name (sorting.ByCommitTime order.NewestFirst) e tips hidden ids l = subst (IsInOrder parents time tips hidden ids) (sym e) (page.newest (in_time_order parents time tips hidden l.0 l.1 order.NewestFirst ids l.2))
-  in_order name (sorting.ByCommitTime order.OldestFirst) e tips hidden ids l = subst (IsInOrder parents time tips hidden ids) (sym e) (page.oldest (in_time_order parents time tips hidden l.0 l.1 order.OldestFirst ids l.2))
+  -- the order of a name
+  abbrev IsInOrder : List ObjectId → List ObjectId → List ObjectId → List ℕ → Type 0
+  IsInOrder tips hidden ids name = Throughout (λ taken rest. Follows parents time tips hidden taken rest name) ids
+
+  in_order : (name : List ℕ) (by : Sorting) → IsNameOf name (Simple by) → (tips hidden ids : List ObjectId) → IsListedBy objects parents by tips hidden ids → IsInOrder tips hidden ids name
+  in_order name sorting.BreadthFirst e tips hidden ids l = subst (IsInOrder tips hidden ids) (sym e) (λ taken rest c. page.breadth (in_breadth_order parents time tips hidden l.0 l.1 ids l.2 taken rest c))
+  in_order name (sorting.ByCommitTime order.NewestFirst) e tips hidden ids l = subst (IsInOrder tips hidden ids) (sym e) (λ taken rest c. page.newest (in_time_order parents time tips hidden l.0 l.1 order.NewestFirst ids l.2 taken rest c))
+  in_order name (sorting.ByCommitTime order.OldestFirst) e tips hidden ids l = subst (IsInOrder tips hidden ids) (sym e) (λ taken rest c. page.oldest (in_time_order parents time tips hidden l.0 l.1 order.OldestFirst ids l.2 taken rest c))
   in_order name (sorting.ByCommitTimeCutoff by seconds) e tips hidden ids l = absurd e
 
-  pub listed : (name : List ℕ) (by : Sorting) → IsNameOf name (Simple by) → (tips hidden ids : List ObjectId) → Lists objects by tips hidden ids → page.Lists parents time tips hidden name ids
+  pub listed : (name : List ℕ) (by : Sorting) → IsNameOf name (Simple by) → (tips hidden ids : List ObjectId) → ListsBy objects parents by tips hidden ids → page.Lists parents time tips hidden name ids
   listed name by named tips hidden ids l = (
     are_distinct ids l.once,
     λ i m. shown tips hidden i ((l.exact i).0 m),
@@ -95,11 +63,11 @@ module _ (objects : Objects) where
     λ acyclic i s. (l.exact i).1 (shown_back tips hidden i s),
   )
 
-  in_order_down : (name : List ℕ) (by : TopoSorting) → IsNameOf name (Topo by) → (tips ends ids : List ObjectId) → IsSorted by time parents (IsInWalk parents parents tips ends) tips ids → IsInOrder parents time tips ends ids name
-  in_order_down name topo.DateOrder e tips ends ids l = subst (IsInOrder parents time tips ends ids) (sym e) (page.date (in_date_order parents time tips ends ids l))
-  in_order_down name topo.TopoOrder e tips ends ids l = subst (IsInOrder parents time tips ends ids) (sym e) (page.topo (in_topo_order parents time tips ends ids l))
+  in_order_down : (name : List ℕ) (by : TopoSorting) → IsNameOf name (Topo by) → (tips ends ids : List ObjectId) → IsSorted by time parents (IsInWalk parents parents tips ends) tips ids → IsInOrder tips ends ids name
+  in_order_down name topo.DateOrder e tips ends ids l = subst (IsInOrder tips ends ids) (sym e) (λ taken rest c. page.date (in_date_order parents time tips ends ids l taken rest c))
+  in_order_down name topo.TopoOrder e tips ends ids l = subst (IsInOrder tips ends ids) (sym e) (λ taken rest c. let t = in_topo_order parents time tips ends ids l taken rest c in page.topo t.0 t.1 t.2)
 
-  pub listed_down : (name : List ℕ) (by : TopoSorting) → IsNameOf name (Topo by) → (tips ends ids : List ObjectId) → ListsDown objects (parents_of objects) by tips ends ids → page.Lists parents time tips ends name ids
+  pub listed_down : (name : List ℕ) (by : TopoSorting) → IsNameOf name (Topo by) → (tips ends ids : List ObjectId) → ListsDown objects parents by tips ends ids → page.Lists parents time tips ends name ids
   listed_down name by named tips ends ids l = (
     are_distinct ids l.once,
     λ i m. shown tips ends i (l.shown i m),
@@ -107,7 +75,7 @@ module _ (objects : Objects) where
     λ acyclic i s. l.all (λ j m r. acyclic (is_topological name by named) j (shown tips ends j m) (reaches parents (parents j) j r)) i (shown_back tips ends i s),
   )
 
-  pub number_shown : (tip hidden : ObjectId) (n : ℕ) → IsNumberOf (IsShown objects (tip ∷ []) (hidden ∷ [])) n → IsNumberShown parents time (tip ∷ []) (hidden ∷ []) n
+  pub number_shown : (tip hidden : ObjectId) (n : ℕ) → IsNumberOf (IsShownBy parents (tip ∷ []) (hidden ∷ [])) n → IsNumberShown parents time (tip ∷ []) (hidden ∷ []) n
   number_shown tip hidden n c = (
     c.ids,
     are_distinct c.ids c.distinct,

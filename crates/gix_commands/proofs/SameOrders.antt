@@ -18,7 +18,7 @@ use Rattle.gix_revwalk.specs.Ids.{new_ids, AreDistinct as AreApart}
 use Rattle.gix_revwalk.specs.TimeOrder as times
 use Rattle.gix_revwalk.specs.TimeOrder.{IsTimeOrder, IsNoWorse}
 use Rattle.gix_revwalk.proofs.NewIds.{times_among, times-fresh}
-use Rattle.gix_commands.specs.WholeStatement.{Reaches, start, parent, Throughout, IsFirst, IsBest, IsPending}
+use Rattle.gix_commands.specs.WholeStatement.{Reaches, start, parent, IsFirst, IsBest, IsPending}
 
 pub reaches : (parents : ObjectId → List ObjectId) (starts : List ObjectId) (i : ObjectId) → reach.Reaches parents starts i → Reaches parents starts i
 reaches parents starts i (reach.start s) = start s
@@ -31,6 +31,10 @@ reaches_back parents starts i (parent {child = c} r n) = reach.step (reaches_bac
 at_seam : (taken rest : List ObjectId) → slice_get (taken ++ rest) (length taken) ≡ slice_get rest 0
 at_seam [] rest = refl
 at_seam (i ∷ taken) rest = at_seam taken rest
+
+-- however a list is cut in two, the second part begins as it has to behind the first
+abbrev pub Throughout : {I : Type 0} → (List I → List I → Type 0) → List I → Type 0
+Throughout {I} Follows ids = (taken rest : List I) → ids ≡ taken ++ rest → Follows taken rest
 
 -- what holds at each place of a list holds wherever it is cut
 pub cut : (P : List ObjectId → Option ObjectId → Type 0) (ids : List ObjectId) → ((k : ℕ) → k ≤ length ids → P (take k ids) (slice_get ids k)) → Throughout (λ taken rest. P taken (slice_get rest 0)) ids

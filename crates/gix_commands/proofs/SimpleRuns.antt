@@ -3,12 +3,14 @@ use Rattle.std.specs.Prelude.{◌≡◌, ◌≢◌, ◌↔◌, List, [], ◌∷�
 use Rattle.std.specs.Iterator.{Drains, Yields}
 use Rattle.std.specs.List.{AllZip}
 use Rattle.std.proofs.Math.Path.{transport}
-use Rattle.std.proofs.Common.{refl, sym, ap, subst, ◌∙◌, ⊎_elim, append-nil}
+use Rattle.std.proofs.Common.{refl, sym, ap, subst, ◌∙◌, ⊎_elim}
 use Rattle.std.proofs.lemmas.List.Elements.{All-nil, All-cons, Contains-append_left, Contains-append_right, Contains-append_cases}
 use Rattle.std.proofs.Math.Bool.{and-true}
+use Rattle.std.proofs.lemmas.Bool.{false≢true}
 use Rattle.gix_hash.proofs.Ids.Membership.{among_from, among_is, Contains-here, Contains-cons_cases, no_member}
 use Rattle.gix_hash.specs.declared.ObjectId.{ObjectId}
 use Rattle.std.specs.FinMap.{get}
+use Rattle.gix_object.specs.declared.Kind.TheVariants as object
 use Rattle.gix_object.specs.Object.{Object, Objects}
 use Rattle.gix_commitgraph.specs.Rows.{GraphRow}
 use Rattle.gix_revwalk.specs.declared.Info.{Info}
@@ -23,16 +25,17 @@ use Rattle.gix_simple.specs.Building.{IsBuilt, made, breadth_first, by_time, hid
 use Rattle.gix_revwalk.specs.Agreeing.{IsAgreeing}
 use Rattle.gix_revwalk.specs.Asking.{AnswersBy}
 use Rattle.gix_revwalk.specs.Ids.{AreDistinct, new_ids, ids_of}
-use Rattle.gix_simple.specs.Laws.{IsFresh, IsGiven, IsNoRefusal, IsNewWalk, IsWholeRun, GivesInOrder, GivesDifference, given_ids, next_of, IsInOrder}
+use Rattle.gix_revwalk.specs.Texts.{text_next}
+use Rattle.gix_simple.specs.Laws.{IsFresh, IsGivenBy, IsNoRefusal, IsNewWalk, IsWholeRun, ReadsParents, GivesInOrder, GivesTextOrder, GivesDifference, given_ids, next_of, next_by_text, IsInOrder}
 use Rattle.gix_simple.specs.Walk.{is_older, cutoff, time_order}
 use Rattle.gix_revwalk.proofs.NewIds.{times_among, times-fresh}
 use Rattle.gix_simple.proofs.Builders.{built}
-use Rattle.gix_simple.proofs.Corollaries.{gives}
-use Rattle.gix_simple.proofs.Difference.{difference, faultless_difference, drawn_whole, loosened, no_start, recent_all, whole_from}
+use Rattle.gix_simple.proofs.Corollaries.{all_kept, gives}
+use Rattle.gix_simple.proofs.Difference.{faultless_difference, drawn_whole, loosened, no_start, recent_all, whole_from}
+use Rattle.gix_simple.proofs.Faultless.{faultless}
 use Rattle.gix_simple.proofs.ReachDecided.{reach_test}
 use Rattle.gix_simple.proofs.MadeOfTips.{is_new_walk, pending_is}
-use Rattle.gix_commands.specs.Histories.{IsShown, IsListedSo}
-use Rattle.gix_commands.proofs.FoundCommits.{all_found, goes}
+use Rattle.gix_commands.specs.Histories.{IsShown, IsShownBy, ListsBy}
 use Rattle.gix_commands.specs.Walked.{Walk, Answers, IsSorted, StartsFrom, objects_of, never_faulty, accepts_all, given}
 use Rattle.gix_hash.proofs.Lists.{filter_within, filter_all}
 use Rattle.gix_revwalk.proofs.Reached.{reach_more}
@@ -55,11 +58,19 @@ ids_given : (infos : List Info) → given_ids (given infos) ≡ map (λ info. in
 ids_given [] = refl
 ids_given (info ∷ infos) = ap (λ ids. info.id ∷ ids) (ids_given infos)
 
-same_ids : (objects : Objects) (rows : List GraphRow) (order : Option CommitTimeOrder) (infos : List Info) (ids : List ObjectId) → AllZip (IsGiven objects rows mode.All order) (given infos) ids → map (λ info. info.id) infos ≡ ids
-same_ids objects rows order [] [] h = refl
-same_ids objects rows order [] (i ∷ ids) h = absurd h
-same_ids objects rows order (info ∷ infos) [] h = absurd h
-same_ids objects rows order (info ∷ infos) (i ∷ ids) h = (λ k. h.0.info_is.same_id k ∷ same_ids objects rows order infos ids h.1 k)
+module _ (objects : Objects) (named : ObjectId → List ObjectId) (rows : List GraphRow) (order : Option CommitTimeOrder) where
+  same_ids : (infos : List Info) (ids : List ObjectId) → AllZip (IsGivenBy objects named rows mode.All order) (given infos) ids → map (λ info. info.id) infos ≡ ids
+  same_ids [] [] h = refl
+  same_ids [] (i ∷ ids) h = absurd h
+  same_ids (info ∷ infos) [] h = absurd h
+  same_ids (info ∷ infos) (i ∷ ids) h = (λ k. h.0.info_is.same_id k ∷ same_ids infos ids h.1 k)
+
+  -- each was read
+  was_read : (infos : List Info) (ids : List ObjectId) → AllZip (IsGivenBy objects named rows mode.All order) (given infos) ids → (i : ObjectId) → Contains ids i → ReadsParents objects mode.All i
+  was_read [] [] h i c = absurd (no_member i c)
+  was_read [] (j ∷ ids) h i c = absurd h
+  was_read (info ∷ infos) [] h i c = absurd h
+  was_read (info ∷ infos) (j ∷ ids) h i c = ⊎_elim (λ e. subst (ReadsParents objects mode.All) e h.0.read) (was_read infos ids h.1 i) (Contains-cons_cases i j ids c)
 
 uncut_none : (by : Sorting) → IsUncut by → cutoff mode.All by ≡ None
 uncut_none sorting.BreadthFirst u = refl
@@ -151,13 +162,7 @@ module _ (objects : Objects) (rows : List GraphRow) (by : Sorting) (tips hidden 
     said : GivesDifference objects tips walk.hidden_tips (given infos) → GivesShown objects tips hidden (map (λ info. info.id) infos)
     said g = (subst AreDistinct (ids_given infos) g.once, λ i. subst (λ xs. Contains xs i ↔ IsShown objects tips hidden i) (ids_given infos) (subst (λ hs. Contains (given_ids (given infos)) i ↔ IsShown objects tips hs i) hiders (g.exact i)))
 
-    -- each once, and exactly what the tips reach and the hidden tips don't: where all of it reads whole
-    each_known : ((i : ObjectId) → Reaches (parents_of objects) (tips ++ hidden) i → IsSome (commit_at objects i)) → GivesShown objects tips hidden (map (λ info. info.id) infos)
-    each_known whole =
-        said (difference objects_of never_faulty accepts_all objects (record {}) tips (λ mid last i answer b h. h.0) walk is_built.0 is_built.1 (ap (λ w. w.parents) same) rows_agree
-        (λ i r. whole_from objects i (whole i (subst (λ hs. Reaches (parents_of objects) (tips ++ hs) i) hiders r))) (given infos) (unrefused infos) (new, (at, drawn, ended)))
-
-    -- and with hidden tips in any case
+    -- with hidden tips each once, and exactly what the tips reach and the hidden tips don't
     pub each_unhidden : hidden ≢ [] → GivesShown objects tips hidden (map (λ info. info.id) infos)
     each_unhidden behind =
         said (faultless_difference objects_of never_faulty accepts_all objects (record {}) tips (λ mid last i answer b h. h.0) walk is_built.0 is_built.1 (ap (λ w. w.parents) same) rows_agree (λ e. behind (sym hiders ∙ e))
@@ -165,12 +170,6 @@ module _ (objects : Objects) (rows : List GraphRow) (by : Sorting) (tips hidden 
 
     drained : Drains Answers opened (given infos)
     drained = subst (λ w. Drains Answers w (given infos)) same (new, (at, drawn, ended))
-
-    -- without hidden tips all that the tips reach was read, where of that each commit that is stored reads whole
-    pub all_met : rows ≡ [] → hidden ≡ [] → ((i : ObjectId) → Reaches (parents_of objects) tips i → (object : Object) → get objects i ≡ Some object → IsSome (commit_at objects i)) → (i : ObjectId) → Reaches (parents_of objects) tips i → IsSome (commit_at objects i)
-    all_met rowless none sound =
-        all_found objects tips sound infos opened
-        (goes objects tips sound opened refl rowless refl none (uncut_none by uncut) (subst (λ w. IsFresh objects_of w (λ i. true)) same is_fresh.0) is_tip is_pending) drained
 
     -- with hidden tips all that tips and hidden tips reach was read
     pub all_read : tips ≢ [] → hidden ≢ [] → (i : ObjectId) → Reaches (parents_of objects) (tips ++ hidden) i → IsSome (commit_at objects i)
@@ -185,25 +184,14 @@ module _ (objects : Objects) (rows : List GraphRow) (by : Sorting) (tips hidden 
         more : (j : ObjectId) → Contains (tips ++ hidden) j → Contains (ids_of walk.pending ++ hidden) j
         more j c = ⊎_elim (λ t. Contains-append_left (ids_of walk.pending) hidden j (is_pending j t)) (λ t. Contains-append_right (ids_of walk.pending) hidden j t) (Contains-append_cases tips hidden j c)
 
-    -- Without hidden tips all that the tips reach is known to read whole. With hidden tips it was read.
-    module _ (whole : hidden ≡ [] → (i : ObjectId) → Reaches (parents_of objects) tips i → IsSome (commit_at objects i)) where
-      pub each_shown : GivesShown objects tips hidden (map (λ info. info.id) infos)
-      each_shown = go hidden refl
-        where
-          go : (ids : List ObjectId) → hidden ≡ ids → GivesShown objects tips hidden (map (λ info. info.id) infos)
-          go [] e = each_known (λ i r. whole e i (subst (λ xs. Reaches (parents_of objects) xs i) (append-nil tips) (subst (λ hs. Reaches (parents_of objects) (tips ++ hs) i) e r)))
-          go (id ∷ ids) e = each_unhidden (λ n. let c : [] ≡ id ∷ ids = sym n ∙ e in cc)
-
+    -- with hidden tips it is a list by the parents of commits
+    module _ (some : tips ≢ []) (behind : hidden ≢ []) where
       -- what is met reads whole
-      met : walk.pending ≢ [] → (i : ObjectId) → Reaches (parents_of objects) (ids_of walk.pending ++ hidden) i → ReadsWhole objects i
-      met some i r = go hidden refl
+      met : (i : ObjectId) → Reaches (parents_of objects) (ids_of walk.pending ++ hidden) i → ReadsWhole objects i
+      met i r = whole_from objects i (all_read some behind i (reach_more (parents_of objects) (ids_of walk.pending ++ hidden) (tips ++ hidden) more i r))
         where
-          go : (ids : List ObjectId) → hidden ≡ ids → ReadsWhole objects i
-          go [] e =
-              whole_from objects i
-              (whole e i (reach_more (parents_of objects) (ids_of walk.pending) tips is_tip i (subst (λ xs. Reaches (parents_of objects) xs i) (append-nil (ids_of walk.pending)) (subst (λ hs. Reaches (parents_of objects) (ids_of walk.pending ++ hs) i) e r))))
-          go (id ∷ ids) e =
-              drawn_whole objects_of never_faulty accepts_all opened (given infos) is_fresh.0.unbegun agreeing some (λ n. let c : [] ≡ id ∷ ids = sym n ∙ e in cc) (no_faults infos) drained i r
+          more : (j : ObjectId) → Contains (ids_of walk.pending ++ hidden) j → Contains (tips ++ hidden) j
+          more j c = ⊎_elim (λ t. Contains-append_left tips hidden j (is_tip j t)) (λ t. Contains-append_right tips hidden j t) (Contains-append_cases (ids_of walk.pending) hidden j c)
 
       run : IsWholeRun objects_of never_faulty accepts_all opened (λ i. true) test.0 (given infos)
       run = record {
@@ -213,8 +201,8 @@ module _ (objects : Objects) (rows : List GraphRow) (by : Sorting) (tips hidden 
         meets = record {
           given = λ i r.
               let p : Reaches (parents_of objects) (ids_of walk.pending) i = reach_more (parents_of objects) _ (ids_of walk.pending) (λ j c. filter_within _ (ids_of walk.pending) j c) i (loosened objects mode.All (λ j. true) test.0 (cutoff mode.All by) _ i r) in
-              met (λ e. no_start (parents_of objects) (ids_of walk.pending) i p (ap ids_of e)) i (reach_more (parents_of objects) (ids_of walk.pending) (ids_of walk.pending ++ hidden) (λ j c. Contains-append_left (ids_of walk.pending) hidden j c) i p);
-          painted = λ some behind i r. met some i r;
+              met i (reach_more (parents_of objects) (ids_of walk.pending) (ids_of walk.pending ++ hidden) (λ j c. Contains-append_left (ids_of walk.pending) hidden j c) i p);
+          painted = λ pending behind i r. met i r;
         };
         agreeing = agreeing;
         unrefused = unrefused infos;
@@ -225,11 +213,55 @@ module _ (objects : Objects) (rows : List GraphRow) (by : Sorting) (tips hidden 
       gave = gives objects_of never_faulty accepts_all opened (λ i. true) test.0 (given infos) run
 
       ids_are : map (λ info. info.id) infos ≡ gave.ids
-      ids_are = same_ids objects rows (time_order mode.All by) infos gave.ids gave.given
+      ids_are = same_ids objects (parents_of objects) rows (time_order mode.All by) infos gave.ids gave.given
 
       next_is : next_of objects_of opened (λ i. true) test.0 ≡ (λ c. filter (λ i. not (test.0 i)) (parents_of objects c))
       next_is = (λ k c. filter (λ i. not (test.0 i) && not (is_older (time_of objects i) (uncut_none by uncut k))) (parents_of objects c)) ∙ (λ k c. filter (λ i. and-true (not (test.0 i)) k) (parents_of objects c))
 
-      -- in the order that was asked for
-      pub in_order : IsListedSo objects by tips hidden (map (λ info. info.id) infos)
-      in_order = (test.0, test.1, transport (λ k. IsInOrder (time_order mode.All by) (time_of objects) (next_is k) (filter (λ i. not (test.0 i)) (pending k)) (sym ids_are k)) gave.in_order)
+      pub listed_whole : ListsBy objects (parents_of objects) by tips hidden (map (λ info. info.id) infos)
+      listed_whole = record {
+        once = (each_unhidden behind).0;
+        exact = (each_unhidden behind).1;
+        in_order = (test.0, test.1, transport (λ k. IsInOrder (time_order mode.All by) (time_of objects) (next_is k) (filter (λ i. not (test.0 i)) (pending k)) (sym ids_are k)) gave.in_order);
+      }
+
+    -- without hidden tips it is one by the parents that texts name
+    module _ (none : hidden ≡ []) where
+      told : GivesTextOrder objects_of opened (λ i. true) (given infos)
+      told = faultless objects_of never_faulty accepts_all opened (λ i. true) (given infos)
+          (record { by_test = is_fresh.1; fresh = subst (λ w. IsFresh objects_of w (λ i. true)) same is_fresh.0; open_to = none; agreeing = agreeing; commits = no_faults infos; drawn = drained })
+
+      told_ids : map (λ info. info.id) infos ≡ told.ids
+      told_ids = same_ids objects (text_next objects) rows (time_order mode.All by) infos told.ids told.given
+
+      kept_is : next_by_text objects_of opened (λ i. true) ≡ (λ c. filter (λ i. not false) (text_next objects c))
+      kept_is = λ k c. filter (λ i. not (is_older (time_of objects i) (uncut_none by uncut k))) (text_next objects c)
+
+      text_is : next_by_text objects_of opened (λ i. true) ≡ text_next objects
+      text_is = kept_is ∙ (λ k c. all_kept (text_next objects c) k)
+
+      starts_are : ids_of walk.pending ≡ filter (λ i. not false) (new_ids (λ i. false) tips)
+      starts_are = pending ∙ sym (all_kept (new_ids (λ i. false) tips))
+
+      shown : (i : ObjectId) → Reaches (next_by_text objects_of opened (λ j. true)) (ids_of walk.pending) i → IsShownBy (text_next objects) tips hidden i
+      shown i r = (reach_more (text_next objects) (ids_of walk.pending) tips is_tip i (subst (λ n. Reaches n (ids_of walk.pending) i) text_is r), λ h. no_start (text_next objects) hidden i h none)
+
+      reached : (i : ObjectId) → Reaches (text_next objects) tips i → Contains told.ids i
+      reached i r = (told.reached i).1 (subst (λ n. Reaches n (ids_of walk.pending) i) (sym text_is) (reach_more (text_next objects) tips (ids_of walk.pending) is_pending i r))
+
+      pub listed_text : ListsBy objects (text_next objects) by tips hidden (map (λ info. info.id) infos)
+      listed_text = record {
+        once = subst AreDistinct (sym told_ids) told.once;
+        exact = λ i. (λ c. shown i ((told.reached i).0 (subst (λ xs. Contains xs i) told_ids c)), λ s. subst (λ xs. Contains xs i) (sym told_ids) (reached i s.0));
+        in_order = (
+          λ i. false,
+          λ i. (λ e. absurd (false≢true e), λ r. absurd (no_start (text_next objects) hidden i r none)),
+          transport (λ k. IsInOrder (time_order mode.All by) (time_of objects) (kept_is k) (starts_are k) (sym told_ids k)) told.in_order,
+        );
+      }
+
+      -- all that the tips reach was read
+      pub all_stored : (i : ObjectId) → Reaches (text_next objects) tips i → (thing : Object) × (get objects i ≡ Some thing)
+      all_stored i r =
+          let c : ReadsParents objects mode.All i = was_read objects (text_next objects) rows (time_order mode.All by) infos told.ids told.given i (reached i r) in
+          (record { kind = object.Commit; bytes = c.bytes }, c.stored)

@@ -24,13 +24,13 @@ module _ (some all : Objects) (part : IsPartOf some all) where
       go (Some object) e n = subst (λ o. Contains (next_in c o) i) (sym (part c object e)) n
 
   -- what is stored in the part is the same in the whole
-  abbrev IsStored : ObjectId → Type 0
+  abbrev pub IsStored : ObjectId → Type 0
   IsStored i = (object : Object) × (get some i ≡ Some object)
 
-  same_texts : (i : ObjectId) → IsStored i → text_next some i ≡ text_next all i
+  pub same_texts : (i : ObjectId) → IsStored i → text_next some i ≡ text_next all i
   same_texts i s = ap (next_in i) (s.1 ∙ sym (part i s.0 s.1))
 
-  same_time : (i : ObjectId) → IsStored i → time_of some i ≡ time_of all i
+  pub same_time : (i : ObjectId) → IsStored i → time_of some i ≡ time_of all i
   same_time i s = ap (λ o. time_in (commit_of_object i o)) (s.1 ∙ sym (part i s.0 s.1))
 
   reached_in_all : (ids : List ObjectId) (i : ObjectId) → Reaches (text_next some) ids i → Reaches (text_next all) ids i

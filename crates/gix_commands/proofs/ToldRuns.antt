@@ -14,7 +14,7 @@ use Rattle.gix_commands.proofs.AheadRuns.{counted_so}
 use Rattle.gix_commands.proofs.CommitRuns.{ok_same, lists}
 use Rattle.gix_commands.proofs.OverGraphs.{opened_agree}
 use Rattle.gix_commands.proofs.TopoRuns as topo
-use Rattle.gix_commands.proofs.UncutWords.{uncut}
+use Rattle.gix_commands.proofs.UncutWords.{uncut, some_tips}
 
 -- what was asked for was served, of rows that the layers are and of these records
 told_served : (words layers : List (List ℕ)) (input : List ℕ) (records : List Record) (request : Request) (old new : Option (List ℕ)) → request_of words ≡ Ok request → AreRecords records input → RunsOver words layers (Some input) old (Ok tt) new
@@ -32,7 +32,8 @@ told_agree {layers} {records} {rows} h = opened_agree layers rows (stored record
 pub told_simple_lists : ToldSimpleLists
 told_simple_lists words layers input records by tips hidden old new asked are runs =
     let k = told_served words layers input records (Commits (Simple by) tips hidden) old new asked are runs in
-    (k.0, k.1, λ whole. lists (told k.0 records) k.0 (told_agree k.1) by tips hidden old new (uncut words by tips hidden asked) whole k.2)
+    let l = lists (told k.0 records) k.0 (told_agree k.1) by tips hidden (uncut words by tips hidden asked) (some_tips words (Simple by) tips hidden asked) old new k.2 in
+    (k.0, k.1, l.0, l.1, l.2)
 
 pub told_topo_lists : ToldTopoLists
 told_topo_lists words layers input records by tips ends old new asked are runs =

@@ -1,6 +1,6 @@
 -- A topological walk over records ends by no internal fault: its store doesn't fail, and with rows that agree, or agreeing, nothing that it
 -- counted is missing.
-use Rattle.std.specs.Prelude.{◌≢◌, ℕ, List, [], ◌∷◌, Option, Some, None, Result, Ok, Err}
+use Rattle.std.specs.Prelude.{◌≢◌, List, [], ◌∷◌, Option, Some, None, Result, Ok, Err}
 use Rattle.std.specs.Iterator.{Yields, YieldsThen}
 use Rattle.std.proofs.Common.{sym, subst}
 use Rattle.gix_hash.specs.declared.ObjectId.{ObjectId}
@@ -18,7 +18,6 @@ use Rattle.gix_commands.specs.Faults.{fault_of_topo_walk}
 use Rattle.gix_commands.specs.TopoWalked.{Walk, Answers, plan_from, IsBuiltFrom}
 use Rattle.gix_commands.specs.Walked.{objects_of, never_faulty}
 use Rattle.gix_commands.proofs.InternalFacts.{find_sound}
-use Rattle.gix_commands.proofs.TreeFacts.{find_unnumbered}
 
 -- an answer that reports no failing store and nothing that is missing
 abbrev IsSound : Option (Result Info Error) → Type 0
@@ -60,11 +59,3 @@ built_agreeing built agreeing = subst (λ (plan : TopoPlan Objects). IsAgreeing 
 -- nor does the start of one
 pub build_sound : (objects : Objects) (rows : List GraphRow) → IsAgreeing objects rows → (by : Sorting) (tips ends : List ObjectId) (e : Error) → IsBuiltFrom objects rows by tips ends (Err e) → fault_of_topo_walk e ≢ fault.Internal
 build_sound objects rows agreeing by tips ends e h = fault_sound (plan_from objects rows by tips ends) _ e agreeing h.1
-
--- agreeing ends by the number of a record
-pub topo_unnumbered : (n : ℕ) (e : Error) → fault_of_topo_walk e ≢ fault.Record n
-topo_unnumbered n error.MissingIndegreeUnexpected = λ e. cc
-topo_unnumbered n error.MissingStateUnexpected = λ e. cc
-topo_unnumbered n (error.ObjectDecode e) = λ e. cc
-topo_unnumbered n (error.Find e) = find_unnumbered n e
-topo_unnumbered n error.Memory = λ e. cc

@@ -1,20 +1,17 @@
 -- How walks through stored trees end.
-use Rattle.std.specs.Prelude.{◌≡◌, ◌≢◌, ℕ, List, Result, Err}
+use Rattle.std.specs.Prelude.{◌≡◌, ◌≢◌, List, Result, Err}
 use Rattle.std.proofs.Common.{subst}
 use Rattle.gix_hash.specs.declared.ObjectId.{ObjectId}
 use Rattle.gix_object.specs.declared.Kind.TheVariants as object
-use Rattle.gix_object.specs.declared.find.existing_iter.Error.{Error as ExistingError}
-use Rattle.gix_object.specs.declared.find.existing_iter.Error.TheVariants as existing
 use Rattle.gix_object.specs.Object.{Objects}
 use Rattle.gix_tree.specs.declared.breadthfirst.Error.{Error}
-use Rattle.gix_tree.specs.declared.breadthfirst.Error.TheVariants as error
 use Rattle.gix_tree.specs.Delegate.{Call}
 use Rattle.gix_tree.specs.Script.{DepthScript, IsDepthScript, whole, leaves, enters, ends_inside, not_found, breaks, cycles, fault, no_memory_at_look_up, no_memory_for_descent, refused, found, no_memory}
 use Rattle.gix_tree.specs.Tracked.{Tracked}
 use Rattle.gix_tree.specs.Walk.{LookUpFails, depth_answer, trees_of}
 use Rattle.gix_tree.specs.Visits.{Items, Place, Visit, Ending, Whole, Broken, Failed}
 use Rattle.gix_commands.specs.declared.fault.Fault.TheVariants as run_fault
-use Rattle.gix_commands.specs.Faults.{fault_of_find, fault_of_tree_walk}
+use Rattle.gix_commands.specs.Faults.{fault_of_tree_walk}
 use Rattle.gix_commands.specs.Files.{RecordsTree}
 use Rattle.gix_commands.specs.Walked.{never_faulty}
 use Rattle.gix_commands.proofs.InternalFacts.{find_sound}
@@ -55,17 +52,3 @@ module _ (objects : Objects) where
   -- none ends by an internal fault
   pub tree_sound : {tree : ObjectId} {recorder : Tracked} {e : Error} → RecordsTree objects tree recorder (Err e) → fault_of_tree_walk e ≢ run_fault.Internal
   tree_sound {e = e} walk = answer_sound walk.end e (walk_sound walk.script) walk.answered
-
-pub find_unnumbered : (n : ℕ) (e : ExistingError) → fault_of_find e ≢ run_fault.Record n
-find_unnumbered n existing.Store = λ e. cc
-find_unnumbered n (existing.NotFound oid) = λ e. cc
-find_unnumbered n (existing.ObjectKind oid wanted actual) = λ e. cc
-find_unnumbered n existing.Memory = λ e. cc
-
--- none ends by the number of a record
-pub tree_unnumbered : (n : ℕ) (e : Error) → fault_of_tree_walk e ≢ run_fault.Record n
-tree_unnumbered n (error.Find e) = find_unnumbered n e
-tree_unnumbered n error.Cancelled = λ e. cc
-tree_unnumbered n (error.ObjectDecode e) = λ e. cc
-tree_unnumbered n (error.Cycle oid) = λ e. cc
-tree_unnumbered n error.Memory = λ e. cc

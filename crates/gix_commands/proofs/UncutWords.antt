@@ -1,5 +1,5 @@
--- No command names a cutoff.
-use Rattle.std.specs.Prelude.{◌≡◌, ℕ, List, Bool, true, false, cond, Option, Some, None, Result, Ok, Err, codes}
+-- No command names a cutoff, and each that asks for commits names a tip.
+use Rattle.std.specs.Prelude.{◌≡◌, ◌≢◌, ℕ, List, [], Bool, true, false, cond, Option, Some, None, Result, Ok, Err, codes}
 use Rattle.std.specs.Str.{bytes_eq}
 use Rattle.std.proofs.Common.{subst}
 use Rattle.gix_hash.specs.declared.ObjectId.{ObjectId}
@@ -12,6 +12,7 @@ use Rattle.gix_commands.specs.declared.words.Order.{Order}
 use Rattle.gix_commands.specs.declared.words.Order.TheVariants.{Simple, Topo}
 use Rattle.gix_commands.specs.Words.{Request, Commits, Files, Ahead, Ids, ids_from, order_named, commits_from, request_of}
 use Rattle.gix_commands.proofs.SimpleRuns.{IsUncut}
+use Rattle.gix_commands.proofs.SameWords.{AreWordsOf, are_words}
 use Rattle.gix_commands.proofs.WordFaults.{each_request}
 
 abbrev UncutOrder : Option Order → Type 0
@@ -42,3 +43,6 @@ from_ids by (Err e) h = tt
 
 pub uncut : (words : List (List ℕ)) (by : Sorting) (tips hidden : List ObjectId) → request_of words ≡ Ok (Commits (Simple by) tips hidden) → IsUncut by
 uncut words by tips hidden e = subst UncutRequest e (each_request UncutRequest tt (λ n. tt) (λ i. tt) (λ i j. tt) (λ name by named ids. from_ids by (ids_from 2 ids) (subst UncutOrder named (uncut_order name))) words)
+
+pub some_tips : (words : List (List ℕ)) (by : Order) (tips hidden : List ObjectId) → request_of words ≡ Ok (Commits by tips hidden) → tips ≢ []
+some_tips words by tips hidden e = let k : AreWordsOf words (Ok (Commits by tips hidden)) = subst (AreWordsOf words) e (are_words words) in k.5

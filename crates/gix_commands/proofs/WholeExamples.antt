@@ -1,5 +1,5 @@
 -- Worked examples of the page that a user of the program believes: texts, times and lines, and a run from bytes to bytes.
-use Rattle.std.specs.Prelude.{◌≡◌, ◌≢◌, ◌≤ℤ◌, ℕ, ℤ, pos, neg_ℤ, List, [], ◌∷◌, ◌++◌, map, replicate, Some, Ok, Contains, codes}
+use Rattle.std.specs.Prelude.{◌≡◌, ◌≢◌, ◌≤ℤ◌, ℕ, ℤ, pos, neg_ℤ, List, [], ◌∷◌, ◌++◌, map, replicate, Some, Ok, All, Contains, codes}
 use Rattle.std.specs.FinMap as map_of
 use Rattle.std.specs.FinMap.{get}
 use Rattle.std.specs.Fmt.{digits}
@@ -7,6 +7,7 @@ use Rattle.std.specs.List.{flat_map}
 use Rattle.std.proofs.Common.{refl, sym, ap, subst, ◌∙◌, arith, ⊎_elim, inl}
 use Rattle.std.proofs.lemmas.Bool.{false≢true}
 use Rattle.std.proofs.lemmas.Int.{ints}
+use Rattle.std.proofs.lemmas.List.Elements.{All-nil, All-cons}
 use Rattle.std.proofs.lemmas.Option.{same_Some}
 use Rattle.hex.proofs.OnLiterals.{hex_on_literals}
 use Rattle.gix_hash.specs.declared.ObjectId.{ObjectId}
@@ -15,12 +16,13 @@ use Rattle.gix_hash.proofs.Ids.Membership.{same_from, Contains-here, Contains-th
 use Rattle.gix_object.specs.declared.Kind.TheVariants as kind
 use Rattle.gix_records.specs.Records as records
 use Rattle.gix_records.specs.Records.{stored}
-use Rattle.gix_revwalk.specs.Commits.{commit_at, commit_of_object, parents_in, parents_of, time_of}
+use Rattle.gix_revwalk.specs.Commits.{commit_of_object, time_in, time_of}
+use Rattle.gix_revwalk.specs.Texts.{next_in, text_next}
 use Rattle.gix_commands.specs.declared.fault.Fault.{Fault}
-use Rattle.gix_commands.specs.WholeStatement.{AreRecords, IsBest, IsPending, IsTime, Lists, Promises, Reaches, Serves, Spells, Throughout, commits, entry_line, newest, parent, start}
+use Rattle.gix_commands.specs.WholeStatement.{AreRecords, Follows, IsBest, IsFirst, IsPending, IsTime, Lists, Promises, Reaches, Serves, Spells, breadth, commits, entry_line, newest, parent, start}
 use Rattle.gix_commands.proofs.SameCommits.{are_records, get_put, is_time, worded}
 use Rattle.gix_commands.proofs.SameHistory.{history}
-use Rattle.gix_commands.proofs.SameOrders.{are_distinct}
+use Rattle.gix_commands.proofs.SameOrders.{Throughout, are_distinct}
 
 -- the id that is one byte twenty times
 abbrev id_of : ℕ → ObjectId
@@ -57,94 +59,40 @@ line_of_entry : entry_line (codes "d/", record { mode = 0o644; name = codes "x";
 unfolding digits hex_on_literals
 line_of_entry = refl
 
--- `newest CHILD` over a commit and its parent, from bytes to bytes
+-- a commit and its parent, with each text that the child may have
 abbrev child : ObjectId
 child = id_of 0x22
 
 abbrev root : ObjectId
 root = id_of 0x11
 
-abbrev child_text : List ℕ
-child_text = codes "tree abababababababababababababababababababab\nparent 1111111111111111111111111111111111111111\nauthor A <a> 0\ncommitter A <a> 7\n"
-
 abbrev root_text : List ℕ
 root_text = codes "tree abababababababababababababababababababab\nauthor A <a> 0\ncommitter A <a> 5\n"
-
-abbrev input : List ℕ
-input =
-    codes "commit 1111111111111111111111111111111111111111 79\n" ++ root_text ++ codes "\ncommit 2222222222222222222222222222222222222222 127\n" ++ child_text ++ 10 ∷ []
-
-abbrev words : List (List ℕ)
-words = codes "newest" ∷ codes "2222222222222222222222222222222222222222" ∷ []
-
-abbrev output : List ℕ
-output = codes "2222222222222222222222222222222222222222\n1111111111111111111111111111111111111111\n"
 
 abbrev first_read : records.Record
 first_read = record { kind = kind.Commit; id = root; bytes = root_text }
 
-abbrev last_read : records.Record
-last_read = record { kind = kind.Commit; id = child; bytes = child_text }
+abbrev last_read : List ℕ → records.Record
+last_read text = record { kind = kind.Commit; id = child; bytes = text }
 
-abbrev read : List records.Record
-read = first_read ∷ last_read ∷ []
+abbrev read : List ℕ → List records.Record
+read text = first_read ∷ last_read text ∷ []
 
-are_read : records.AreRecords read input
+child_stored : (text : List ℕ) → get (stored (read text)) child ≡ Some (record { kind = kind.Commit; bytes = text })
+child_stored text = get_put (stored (first_read ∷ [])) (last_read text) child
+
+root_stored : (text : List ℕ) → get (stored (read text)) root ≡ Some (record { kind = kind.Commit; bytes = root_text })
+root_stored text = get_put (stored (first_read ∷ [])) (last_read text) root ∙ get_put map_of.empty first_read root
+
+root_names_none : next_in root (Some (record { kind = kind.Commit; bytes = root_text })) ≡ []
 unfolding hex_on_literals
-are_read = (
-  codes "commit 2222222222222222222222222222222222222222 127\n" ++ child_text ++ 10 ∷ [],
-  record { id_digits = codes "1111111111111111111111111111111111111111"; length_digits = codes "79"; is_id = refl; is_length = refl; whole = refl },
-  ([], record { id_digits = codes "2222222222222222222222222222222222222222"; length_digits = codes "127"; is_id = refl; is_length = refl; whole = refl }, refl),
-)
-
-child_stored : get (stored read) child ≡ Some (record { kind = kind.Commit; bytes = child_text })
-child_stored = get_put (stored (first_read ∷ [])) last_read child
-
-root_stored : get (stored read) root ≡ Some (record { kind = kind.Commit; bytes = root_text })
-root_stored = get_put (stored (first_read ∷ [])) last_read root ∙ get_put map_of.empty first_read root
-
-child_reads : commit_of_object child (Some (record { kind = kind.Commit; bytes = child_text })) ≡ Some (record { tree = id_of 0xab; parents = root ∷ []; time = pos 7 })
-unfolding hex_on_literals
-child_reads = refl
-
-root_reads : commit_of_object root (Some (record { kind = kind.Commit; bytes = root_text })) ≡ Some (record { tree = id_of 0xab; parents = []; time = pos 5 })
-unfolding hex_on_literals
-root_reads = refl
-
-child_is : commit_at (stored read) child ≡ Some (record { tree = id_of 0xab; parents = root ∷ []; time = pos 7 })
-child_is = ap (commit_of_object child) child_stored ∙ child_reads
-
-root_is : commit_at (stored read) root ≡ Some (record { tree = id_of 0xab; parents = []; time = pos 5 })
-root_is = ap (commit_of_object root) root_stored ∙ root_reads
-
-abbrev parents : ObjectId → List ObjectId
-parents = parents_of (stored read)
-
-abbrev time : ObjectId → ℤ
-time = time_of (stored read)
-
-unhidden : (i : ObjectId) → Reaches parents [] i → ⊥
-unhidden i (start s) = no_member i s
-unhidden i (parent {child = c} r m) = unhidden c r
-
-child_in : Reaches parents (child ∷ []) child
-child_in = start (Contains-here child [])
-
-root_in : Reaches parents (child ∷ []) root
-root_in = parent child_in (subst (λ o. Contains (parents_in o) root) (sym child_is) (Contains-here root []))
-
-reached : (i : ObjectId) → Reaches parents (child ∷ []) i → Contains (child ∷ root ∷ []) i
-reached i (start s) = ⊎_elim (λ e. subst (Contains (child ∷ root ∷ [])) e (Contains-here child (root ∷ []))) (λ n. absurd (no_member i n)) (Contains-cons_cases i child [] s)
-reached i (parent {child = c} r m) = ⊎_elim of_child (λ n. ⊎_elim of_root (λ o. absurd (no_member c o)) (Contains-cons_cases c root [] n)) (Contains-cons_cases c child (root ∷ []) (reached c r))
-  where
-    of_child : child ≡ c → Contains (child ∷ root ∷ []) i
-    of_child e = Contains-there i child (root ∷ []) (subst (λ o. Contains (parents_in o) i) child_is (subst (λ j. Contains (parents j) i) (sym e) m))
-
-    of_root : root ≡ c → Contains (child ∷ root ∷ []) i
-    of_root e = absurd (no_member i (subst (λ o. Contains (parents_in o) i) root_is (subst (λ j. Contains (parents j) i) (sym e) m)))
+root_names_none = refl
 
 root_is_other : root ≢ child
 root_is_other e = false≢true (same_from root child e)
+
+le_itself : (t : ℤ) → t ≤ℤ t
+le_itself t = omega (arith, ints)
 
 -- a list that is cut in two
 cut_here : (F : List ObjectId → List ObjectId → Type 0) (x : ObjectId) (xs : List ObjectId) → F [] (x ∷ xs) → Throughout (λ taken rest. F (x ∷ taken) rest) xs → Throughout F (x ∷ xs)
@@ -158,56 +106,183 @@ cut_end : (F : List ObjectId → List ObjectId → Type 0) → F [] [] → Throu
 cut_end F h [] rest e = subst (F []) e h
 cut_end F h (y ∷ taken) rest e = let no : [] ≡ y ∷ (taken ++ rest) = e in cc
 
-abbrev IsNextNewest : List ObjectId → List ObjectId → Type 0
-IsNextNewest taken rest = IsBest (λ i other. time other ≤ℤ time i) (IsPending parents time (child ∷ []) [] taken) rest
+module _ (parents : ObjectId → List ObjectId) (time : ObjectId → ℤ) (child_names : parents child ≡ root ∷ []) (root_names : parents root ≡ []) where
+  unhidden : (i : ObjectId) → Reaches parents [] i → ⊥
+  unhidden i (start s) = no_member i s
+  unhidden i (parent {child = c} r m) = unhidden c r
 
-le_itself : (t : ℤ) → t ≤ℤ t
-le_itself t = omega (arith, ints)
+  child_in : Reaches parents (child ∷ []) child
+  child_in = start (Contains-here child [])
 
-first_is : IsNextNewest [] (child ∷ root ∷ [])
-first_is = (
-  (Contains-here child [], no_member child, unhidden child),
-  λ other p. ⊎_elim (λ e. subst (λ i. time i ≤ℤ time child) e (le_itself (time child))) (λ n. absurd (no_member other n)) (Contains-cons_cases other child [] p.0),
-)
+  root_in : Reaches parents (child ∷ []) root
+  root_in = parent child_in (subst (λ ps. Contains ps root) (sym child_names) (Contains-here root []))
 
-names_of_child : child ∷ flat_map parents (child ∷ []) ≡ child ∷ root ∷ []
-names_of_child = ap (λ o. child ∷ (parents_in o ++ [])) child_is
+  reached : (i : ObjectId) → Reaches parents (child ∷ []) i → Contains (child ∷ root ∷ []) i
+  reached i (start s) = ⊎_elim (λ e. subst (Contains (child ∷ root ∷ [])) e (Contains-here child (root ∷ []))) (λ n. absurd (no_member i n)) (Contains-cons_cases i child [] s)
+  reached i (parent {child = c} r m) = ⊎_elim of_child (λ n. ⊎_elim of_root (λ o. absurd (no_member c o)) (Contains-cons_cases c root [] n)) (Contains-cons_cases c child (root ∷ []) (reached c r))
+    where
+      of_child : child ≡ c → Contains (child ∷ root ∷ []) i
+      of_child e = Contains-there i child (root ∷ []) (subst (λ ps. Contains ps i) child_names (subst (λ j. Contains (parents j) i) (sym e) m))
 
-names_of_both : child ∷ flat_map parents (child ∷ root ∷ []) ≡ child ∷ root ∷ []
-names_of_both = (λ k. child ∷ (parents_in (child_is k) ++ (parents_in (root_is k) ++ [])))
+      of_root : root ≡ c → Contains (child ∷ root ∷ []) i
+      of_root e = absurd (no_member i (subst (λ ps. Contains ps i) root_names (subst (λ j. Contains (parents j) i) (sym e) m)))
 
-second_is : IsNextNewest (child ∷ []) (root ∷ [])
-second_is = (
-  (subst (λ xs. Contains xs root) (sym names_of_child) (Contains-there root child (root ∷ []) (Contains-here root [])), λ c. ⊎_elim (λ e. root_is_other (sym e)) (no_member root) (Contains-cons_cases root child [] c), unhidden root),
-  λ other p. ⊎_elim
-      (λ e. absurd (p.1 (subst (Contains (child ∷ [])) e (Contains-here child []))))
-      (λ n. ⊎_elim (λ e. subst (λ i. time i ≤ℤ time root) e (le_itself (time root))) (λ o. absurd (no_member other o)) (Contains-cons_cases other root [] n))
-      (Contains-cons_cases other child (root ∷ []) (subst (λ xs. Contains xs other) names_of_child p.0)),
-)
+  abbrev Pending : List ObjectId → ObjectId → Type 0
+  Pending = IsPending parents time (child ∷ []) []
 
-none_left : IsNextNewest (child ∷ root ∷ []) []
-none_left = λ i p. p.1 (subst (λ xs. Contains xs i) names_of_both p.0)
+  names_of_child : child ∷ flat_map parents (child ∷ []) ≡ child ∷ root ∷ []
+  names_of_child = ap (λ ps. child ∷ (ps ++ [])) child_names
 
-in_order : Throughout IsNextNewest (child ∷ root ∷ [])
-in_order =
-    cut_here IsNextNewest child (root ∷ []) first_is
-    (cut_here (λ taken rest. IsNextNewest (child ∷ taken) rest) root [] second_is (cut_end (λ taken rest. IsNextNewest (child ∷ root ∷ taken) rest) none_left))
+  names_of_both : child ∷ flat_map parents (child ∷ root ∷ []) ≡ child ∷ root ∷ []
+  names_of_both = (λ k. child ∷ (child_names k ++ (root_names k ++ [])))
 
--- no other order of them is one
-not_reversed : Throughout IsNextNewest (root ∷ child ∷ []) → ⊥
-not_reversed h = ⊎_elim (λ e. root_is_other (sym e)) (no_member root) (Contains-cons_cases root child [] (h [] (root ∷ child ∷ []) refl).0.0)
+  child_pending : Pending [] child
+  child_pending = (Contains-here child [], no_member child, unhidden child)
 
-is_listed : Lists parents time (child ∷ []) [] (codes "newest") (child ∷ root ∷ [])
-is_listed = (
-  are_distinct (child ∷ root ∷ []) (λ c. ⊎_elim root_is_other (no_member child) (Contains-cons_cases child root [] c), (no_member root, tt)),
-  λ i c. (⊎_elim (λ e. subst (Reaches parents (child ∷ [])) e child_in) (λ n. ⊎_elim (λ e. subst (Reaches parents (child ∷ [])) e root_in) (λ o. absurd (no_member i o)) (Contains-cons_cases i root [] n)) (Contains-cons_cases i child (root ∷ []) c), unhidden i),
-  newest in_order,
-  λ acyclic i s. reached i s.0,
-)
+  root_pending : Pending (child ∷ []) root
+  root_pending = (subst (λ xs. Contains xs root) (sym names_of_child) (Contains-there root child (root ∷ []) (Contains-here root [])), λ c. ⊎_elim (λ e. root_is_other (sym e)) (no_member root) (Contains-cons_cases root child [] c), unhidden root)
 
-served : Serves (map worded read) parents time (Some []) (Some output) words
+  -- breadth first
+  abbrev IsNextFound : List ObjectId → List ObjectId → Type 0
+  IsNextFound taken rest = IsFirst (Pending taken) (child ∷ flat_map parents taken) rest
+
+  abbrev IsPassed : List ObjectId → ObjectId → Type 0
+  IsPassed taken i = Pending taken i → ⊥
+
+  none_found : All (IsPassed (child ∷ root ∷ [])) (child ∷ root ∷ [])
+  none_found =
+      let passed = IsPassed (child ∷ root ∷ []) in
+      All-cons passed child (root ∷ []) (λ p. p.1 (Contains-here child (root ∷ []))) (All-cons passed root [] (λ p. p.1 (Contains-there root child (root ∷ []) (Contains-here root []))) (All-nil passed))
+
+  in_breadth : Throughout IsNextFound (child ∷ root ∷ [])
+  in_breadth =
+      cut_here IsNextFound child (root ∷ []) ([], [], refl, All-nil _, child_pending)
+      (cut_here (λ taken rest. IsNextFound (child ∷ taken) rest) root [] (child ∷ [], [], names_of_child, All-cons (IsPassed (child ∷ [])) child [] (λ p. p.1 (Contains-here child [])) (All-nil _), root_pending)
+      (cut_end (λ taken rest. IsNextFound (child ∷ root ∷ taken) rest) (subst (All (λ i. Pending (child ∷ root ∷ []) i → ⊥)) (sym names_of_both) none_found)))
+
+  -- the newest first
+  abbrev IsNextNewest : List ObjectId → List ObjectId → Type 0
+  IsNextNewest taken rest = IsBest (λ i other. time other ≤ℤ time i) (Pending taken) rest
+
+  first_is : IsNextNewest [] (child ∷ root ∷ [])
+  first_is = (child_pending, λ other p. ⊎_elim (λ e. subst (λ i. time i ≤ℤ time child) e (le_itself (time child))) (λ n. absurd (no_member other n)) (Contains-cons_cases other child [] p.0))
+
+  second_is : IsNextNewest (child ∷ []) (root ∷ [])
+  second_is = (
+    root_pending,
+    λ other p. ⊎_elim
+        (λ e. absurd (p.1 (subst (Contains (child ∷ [])) e (Contains-here child []))))
+        (λ n. ⊎_elim (λ e. subst (λ i. time i ≤ℤ time root) e (le_itself (time root))) (λ o. absurd (no_member other o)) (Contains-cons_cases other root [] n))
+        (Contains-cons_cases other child (root ∷ []) (subst (λ xs. Contains xs other) names_of_child p.0)),
+  )
+
+  none_left : IsNextNewest (child ∷ root ∷ []) []
+  none_left = λ i p. p.1 (subst (λ xs. Contains xs i) names_of_both p.0)
+
+  in_order : Throughout IsNextNewest (child ∷ root ∷ [])
+  in_order =
+      cut_here IsNextNewest child (root ∷ []) first_is
+      (cut_here (λ taken rest. IsNextNewest (child ∷ taken) rest) root [] second_is (cut_end (λ taken rest. IsNextNewest (child ∷ root ∷ taken) rest) none_left))
+
+  -- no other order of them is one
+  not_reversed : Throughout IsNextNewest (root ∷ child ∷ []) → ⊥
+  not_reversed h = ⊎_elim (λ e. root_is_other (sym e)) (no_member root) (Contains-cons_cases root child [] (h [] (root ∷ child ∷ []) refl).0.0)
+
+  is_listed : (by : List ℕ) → Throughout (λ taken rest. Follows parents time (child ∷ []) [] taken rest by) (child ∷ root ∷ []) → Lists parents time (child ∷ []) [] by (child ∷ root ∷ [])
+  is_listed by follows = (
+    are_distinct (child ∷ root ∷ []) (λ c. ⊎_elim root_is_other (no_member child) (Contains-cons_cases child root [] c), (no_member root, tt)),
+    λ i c. (⊎_elim (λ e. subst (Reaches parents (child ∷ [])) e child_in) (λ n. ⊎_elim (λ e. subst (Reaches parents (child ∷ [])) e root_in) (λ o. absurd (no_member i o)) (Contains-cons_cases i root [] n)) (Contains-cons_cases i child (root ∷ []) c), unhidden i),
+    follows,
+    λ acyclic i s. reached i s.0,
+  )
+
+abbrev output : List ℕ
+output = codes "2222222222222222222222222222222222222222\n1111111111111111111111111111111111111111\n"
+
+-- what a run over such a child and its parent wrote
+module _ (text : List ℕ) (child_names : next_in child (Some (record { kind = kind.Commit; bytes = text })) ≡ root ∷ []) where
+  abbrev parents : ObjectId → List ObjectId
+  parents = text_next (stored (read text))
+
+  abbrev time : ObjectId → ℤ
+  time = time_of (stored (read text))
+
+  child_named : parents child ≡ root ∷ []
+  child_named = ap (next_in child) (child_stored text) ∙ child_names
+
+  root_named : parents root ≡ []
+  root_named = ap (next_in root) (root_stored text) ∙ root_names_none
+
+  served_newest : Serves (map worded (read text)) parents time (Some []) (Some output) (codes "newest" ∷ codes "2222222222222222222222222222222222222222" ∷ [])
+  unfolding hex_on_literals
+  served_newest =
+      commits {hidden = []} (inl (child, [], refl, (refl, refl, refl), (refl, refl))) (λ e. cc) (is_listed parents time child_named root_named (codes "newest") (λ taken rest e. newest (in_order parents time child_named root_named taken rest e))) refl
+
+  served_breadth : Serves (map worded (read text)) parents time (Some []) (Some output) (codes "breadth" ∷ codes "2222222222222222222222222222222222222222" ∷ [])
+  unfolding hex_on_literals
+  served_breadth =
+      commits {hidden = []} (inl (child, [], refl, (refl, refl, refl), (refl, refl))) (λ e. cc) (is_listed parents time child_named root_named (codes "breadth") (λ taken rest e. breadth (in_breadth parents time child_named root_named taken rest e))) refl
+
+-- `newest CHILD` over whole texts, from bytes to bytes
+abbrev child_text : List ℕ
+child_text = codes "tree abababababababababababababababababababab\nparent 1111111111111111111111111111111111111111\nauthor A <a> 0\ncommitter A <a> 7\n"
+
+child_names_root : next_in child (Some (record { kind = kind.Commit; bytes = child_text })) ≡ root ∷ []
 unfolding hex_on_literals
-served = commits (1, omega arith, refl) (inl (child, [], refl, (refl, refl, refl), (refl, refl))) (λ e. cc) (λ whole. (child ∷ root ∷ [], is_listed, refl))
+child_names_root = refl
 
-promised : Promises {E = Fault} words (Some input) (Some []) (Ok tt) (Some output)
-promised given known well = (map worded read, parents, time, subst (AreRecords (map worded read)) (same_Some input given known) (are_records read input are_read), history read, served)
+abbrev whole_input : List ℕ
+whole_input =
+    codes "commit 1111111111111111111111111111111111111111 79\n" ++ root_text ++ codes "\ncommit 2222222222222222222222222222222222222222 127\n" ++ child_text ++ 10 ∷ []
+
+whole_read : records.AreRecords (read child_text) whole_input
+unfolding hex_on_literals
+whole_read = (
+  codes "commit 2222222222222222222222222222222222222222 127\n" ++ child_text ++ 10 ∷ [],
+  record { id_digits = codes "1111111111111111111111111111111111111111"; length_digits = codes "79"; is_id = refl; is_length = refl; whole = refl },
+  ([], record { id_digits = codes "2222222222222222222222222222222222222222"; length_digits = codes "127"; is_id = refl; is_length = refl; whole = refl }, refl),
+)
+
+promised : Promises {E = Fault} (codes "newest" ∷ codes "2222222222222222222222222222222222222222" ∷ []) (Some whole_input) (Some []) (Ok tt) (Some output)
+promised given known well = (
+  map worded (read child_text),
+  parents child_text child_names_root,
+  time child_text child_names_root,
+  subst (AreRecords (map worded (read child_text))) (same_Some whole_input given known) (are_records (read child_text) whole_input whole_read),
+  history (read child_text),
+  served_newest child_text child_names_root,
+)
+
+-- `breadth CHILD` where the text of the child breaks off behind its parents: it is walked through, though it has no committer
+abbrev broken_text : List ℕ
+broken_text = codes "tree abababababababababababababababababababab\nparent 1111111111111111111111111111111111111111\n"
+
+broken_names_root : next_in child (Some (record { kind = kind.Commit; bytes = broken_text })) ≡ root ∷ []
+unfolding hex_on_literals
+broken_names_root = refl
+
+broken_time : time_of (stored (read broken_text)) child ≡ pos 0
+unfolding hex_on_literals
+broken_time = ap (λ o. time_in (commit_of_object child o)) (child_stored broken_text)
+
+abbrev broken_input : List ℕ
+broken_input =
+    codes "commit 1111111111111111111111111111111111111111 79\n" ++ root_text ++ codes "\ncommit 2222222222222222222222222222222222222222 94\n" ++ broken_text ++ 10 ∷ []
+
+broken_read : records.AreRecords (read broken_text) broken_input
+unfolding hex_on_literals
+broken_read = (
+  codes "commit 2222222222222222222222222222222222222222 94\n" ++ broken_text ++ 10 ∷ [],
+  record { id_digits = codes "1111111111111111111111111111111111111111"; length_digits = codes "79"; is_id = refl; is_length = refl; whole = refl },
+  ([], record { id_digits = codes "2222222222222222222222222222222222222222"; length_digits = codes "94"; is_id = refl; is_length = refl; whole = refl }, refl),
+)
+
+walked_through : Promises {E = Fault} (codes "breadth" ∷ codes "2222222222222222222222222222222222222222" ∷ []) (Some broken_input) (Some []) (Ok tt) (Some output)
+walked_through given known well = (
+  map worded (read broken_text),
+  parents broken_text broken_names_root,
+  time broken_text broken_names_root,
+  subst (AreRecords (map worded (read broken_text))) (same_Some broken_input given known) (are_records (read broken_text) broken_input broken_read),
+  history (read broken_text),
+  served_breadth broken_text broken_names_root,
+)

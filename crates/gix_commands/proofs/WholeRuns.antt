@@ -1,10 +1,13 @@
 -- A run that ended well has written what the statement promises.
-use Rattle.std.specs.Prelude.{◌≡◌, ◌⊎◌, ℕ, ℤ, List, [], ◌++◌, map, false, Option, Some, Result, Ok, All, Contains, IsSome}
+use Rattle.std.specs.Prelude.{◌≡◌, ℕ, ℤ, List, [], ◌∷◌, map, false, Option, Some, Result, Ok, All, Contains}
 use Rattle.std.specs.Io.KnownBytes.{Appends}
 use Rattle.std.specs.List.{flat_map}
-use Rattle.std.proofs.Common.{refl, sym, ap, subst, ◌∙◌, append-nil, inl, inr}
+use Rattle.std.proofs.Common.{refl, sym, ap, subst, ◌∙◌}
 use Rattle.gix_hash.specs.declared.ObjectId.{ObjectId}
-use Rattle.gix_revwalk.specs.Commits.{parents_of, time_of}
+use Rattle.gix_hash.proofs.Ids.Membership.{Contains-here, Contains-there}
+use Rattle.gix_revwalk.specs.Commits.{time_of}
+use Rattle.gix_revwalk.specs.Texts.{text_next}
+use Rattle.gix_revwalk.proofs.Rows.{none_agree}
 use Rattle.gix_records.specs.Records.{Record, AreRecords, stored}
 use Rattle.gix_tree.specs.Script.{IsDepthScript, entries_at}
 use Rattle.gix_tree.specs.Tracked.{Tracks, fresh_recorder}
@@ -20,17 +23,17 @@ use Rattle.gix_commands.specs.Run.{Runs, Serves, served, listed}
 use Rattle.gix_commands.specs.Walked.{never_faulty}
 use Rattle.gix_commands.specs.Words.{Request, Commits, Files, Ahead, request_of}
 use Rattle.gix_commands.specs.WholeStatement as page
-use Rattle.gix_commands.specs.WholeStatement.{Entry, IsCommit, IsTree, Unfolds, Reaches, Promises, entry_line}
-use Rattle.gix_commands.proofs.AheadRuns.{ahead_counts}
+use Rattle.gix_commands.specs.WholeStatement.{Entry, IsTree, Unfolds, Promises, entry_line}
+use Rattle.gix_commands.proofs.AheadRuns.{ahead_counts, counted_whole}
 use Rattle.gix_commands.proofs.CommitRuns.{served_so, simple_lists}
 use Rattle.gix_commands.proofs.FileRuns.{unfolds}
 use Rattle.gix_commands.proofs.TopoRuns.{topo_lists}
 use Rattle.gix_commands.proofs.SameCommits.{worded, are_records}
-use Rattle.gix_commands.proofs.SameHistory.{history, is_commit_back}
-use Rattle.gix_commands.proofs.SameLists.{listed as is_list, listed_down, number_shown, simple_named, topo_named, is_topological, id_line, id_lines, entry_lines}
-use Rattle.gix_commands.proofs.SameOrders.{reaches}
+use Rattle.gix_commands.proofs.SameHistory.{history}
+use Rattle.gix_commands.proofs.SameLists.{listed as is_list, listed_down, number_shown, id_lines, entry_lines}
 use Rattle.gix_commands.proofs.SameTrees.{IsNamed, have_names, placed_by, unfolds_walk}
 use Rattle.gix_commands.proofs.SameWords.{AreWordsOf, are_words}
+use Rattle.gix_commands.proofs.TextNumbers.{number_by_texts}
 
 whole_end : (end : Ending) → IsUnfailed end → is_broken end ≡ false → end ≡ Whole
 whole_end Whole w b = refl
@@ -42,26 +45,13 @@ module _ (words : List (List ℕ)) (input : List ℕ) (rs : List Record) (old ne
   all = map worded rs
 
   abbrev parents : ObjectId → List ObjectId
-  parents = parents_of (stored rs)
+  parents = text_next (stored rs)
 
   abbrev time : ObjectId → ℤ
   time = time_of (stored rs)
 
-  -- all that ids reach are commits
-  abbrev AreCommits : List ObjectId → Type 0
-  AreCommits ids = (i : ObjectId) → Reaches parents ids i → IsCommit all i (parents i) (time i)
-
-  whole : (ids : List ObjectId) → AreCommits ids → AreWhole (stored rs) ids
-  whole ids commits i r =
-      let b = is_commit_back rs i (parents i) (time i) (commits i (reaches parents ids i r)) in
-      subst IsSome (sym b.1) refl
-
   abbrev ServesSo : List (List ℕ) → Type 0
   ServesSo = page.Serves all parents time old new
-
-  -- a list of commits was written
-  abbrev Writes : List ℕ → List ObjectId → List ObjectId → Type 0
-  Writes by tips hidden = (ids : List ObjectId) × page.Lists parents time tips hidden by ids × Appends old new (flat_map id_line ids)
 
   tree_written : (tree : ObjectId) → Serves (stored rs) [] old (Files tree) (Ok tt) new
       → (entries : List Entry) × (placed : List (List ℕ × Entry)) × IsTree all tree entries × Unfolds all [] entries placed × (All IsNamed placed → Appends old new (flat_map entry_line placed))
@@ -79,25 +69,25 @@ module _ (words : List (List ℕ)) (input : List ℕ) (rs : List Record) (old ne
 
   serves : (request : Request) → request_of words ≡ Ok request → AreWordsOf words (Ok request) → ServesSo words
   serves (Commits (Simple by) tips hidden) asked (name, rest, is, named, ids, some) =
-      subst ServesSo (sym is) (page.commits (simple_named name by named) ids some written)
-    where
-      written : (Contains page.topological name ⊎ (hidden ≡ []) → AreCommits (tips ++ hidden)) → Writes name tips hidden
-      written commits =
-          let l = simple_lists words input rs by tips hidden old new asked are (λ none. subst (AreWhole (stored rs)) (ap (λ hs. tips ++ hs) none ∙ append-nil tips) (whole (tips ++ hidden) (commits (inr none)))) runs in
-          (l.0, is_list (stored rs) name by named tips hidden l.0 l.1, subst (Appends old new) (id_lines l.0) l.2)
+      let l = simple_lists words input rs by tips hidden old new asked are runs in
+      subst ServesSo (sym is) (page.commits ids some (is_list (stored rs) parents name by named tips hidden l.0 l.1.read) (subst (Appends old new) (id_lines l.0) l.2))
   serves (Commits (Topo by) tips ends) asked (name, rest, is, named, ids, some) =
-      subst ServesSo (sym is) (page.commits (topo_named name by named) ids some written)
-    where
-      written : (Contains page.topological name ⊎ (ends ≡ []) → AreCommits (tips ++ ends)) → Writes name tips ends
-      written commits =
-          let l = topo_lists words input rs by tips ends old new asked are runs in
-          (l.0, listed_down (stored rs) name by named tips ends l.0 (l.1.whole (whole (tips ++ ends) (commits (inl (is_topological name by named))))), subst (Appends old new) (id_lines l.0) l.2)
+      let l = topo_lists words input rs by tips ends old new asked are runs in
+      subst ServesSo (sym is) (page.commits ids some (listed_down (stored rs) parents name by named tips ends l.0 l.1.read) (subst (Appends old new) (id_lines l.0) l.2))
   serves (Files tree) asked (text, is, spells) =
       let t = tree_written tree (served_so words input rs (Files tree) old new asked are runs) in
       subst ServesSo (sym is) (page.files spells t.2 t.3 t.4)
   serves (Ahead one other) asked (a, b, is, spells, spells_other) =
       let n = ahead_counts words input rs one other old new asked are runs in
-      subst ServesSo (sym is) (page.ahead n.0 n.1 spells spells_other (number_shown (stored rs) one other n.0 n.2) (number_shown (stored rs) other one n.1 n.3) n.4)
+      let both : List ObjectId = one ∷ other ∷ [] in
+      let whole : AreWhole (stored rs) both = counted_whole (stored rs) [] (none_agree (stored rs) [] refl) one other old new (served_so words input rs (Ahead one other) old new asked are runs) in
+      let first : Contains both one = Contains-here one (other ∷ []) in
+      let second : Contains both other = Contains-there other one (other ∷ []) (Contains-here other []) in
+      subst ServesSo (sym is)
+      (page.ahead n.0 n.1 spells spells_other
+      (number_shown (stored rs) parents one other n.0 (number_by_texts (stored rs) both whole one other first second n.0 n.2))
+      (number_shown (stored rs) parents other one n.1 (number_by_texts (stored rs) both whole other one second first n.1 n.3))
+      n.4)
 
   promised : (request : Request) → request_of words ≡ Ok request
       → (records : List page.Record) × (ps : ObjectId → List ObjectId) × (ts : ObjectId → ℤ) × page.AreRecords records input × page.AreHistory records ps ts × page.Serves records ps ts old new words

@@ -49,40 +49,46 @@ abbrev pub IsPartOf : Objects → Objects → Type 0
 IsPartOf some all = (i : ObjectId) (object : Object) → get some i ≡ Some object → get all i ≡ Some object
 
 -- in breadth order or in one by time, from the tips through parents, without what the hidden tips reach
-abbrev pub IsListedSo : Objects → Sorting → List ObjectId → List ObjectId → List ObjectId → Type 0
-IsListedSo objects by tips hidden ids =
-    (hides : ObjectId → Bool) × Tells hides (Reaches (parents_of objects) hidden)
-    × IsInOrder (time_order mode.All by) (time_of objects) (λ c. filter (λ i. not (hides i)) (parents_of objects c))
+abbrev pub IsListedBy : Objects → (ObjectId → List ObjectId) → Sorting → List ObjectId → List ObjectId → List ObjectId → Type 0
+IsListedBy objects next by tips hidden ids =
+    (hides : ObjectId → Bool) × Tells hides (Reaches next hidden)
+    × IsInOrder (time_order mode.All by) (time_of objects) (λ c. filter (λ i. not (hides i)) (next c))
     (filter (λ i. not (hides i)) (new_ids (λ i. false) tips)) ids
 
--- each commit that the tips reach and the hidden tips don't is there once, and no other, in the order that was asked for
-pub record Lists (objects : Objects) (by : Sorting) (tips hidden ids : List ObjectId) : Type 0 where
+-- each commit that the tips reach through these parents and the hidden tips don't is there once, and no other, in the order that was asked
+-- for
+pub record ListsBy (objects : Objects) (next : ObjectId → List ObjectId) (by : Sorting) (tips hidden ids : List ObjectId) : Type 0 where
   pub once : AreDistinct ids
-  pub exact : (i : ObjectId) → Contains ids i ↔ IsShown objects tips hidden i
-  pub in_order : IsListedSo objects by tips hidden ids
+  pub exact : (i : ObjectId) → Contains ids i ↔ IsShownBy next tips hidden i
+  pub in_order : IsListedBy objects next by tips hidden ids
+
+-- Parents are those that the texts of commits name, also where a text breaks off behind them. Where all that tips and hidden tips reach are
+-- whole commits, these are their parents; with a hidden tip they are.
+pub record SimpleListsRead (objects : Objects) (by : Sorting) (tips hidden ids : List ObjectId) : Type 0 where
+  pub read : ListsBy objects (text_next objects) by tips hidden ids
+  pub whole : AreWhole objects (tips ++ hidden) → ListsBy objects (parents_of objects) by tips hidden ids
+  pub painted : hidden ≢ [] → AreWhole objects (tips ++ hidden)
 
 -- ids, one a line
 abbrev pub lines_of_ids : List ObjectId → List ℕ
 lines_of_ids ids = flat_map line_of ids
 
--- Over words that ask for `breadth`, `newest` or `oldest` and records, a run that ends well writes such a list. Without hidden tips
--- this asks that all that the tips reach are whole commits. With one the run has read all that tips and hidden tips reach.
+-- Over words that ask for `breadth`, `newest` or `oldest` and records, a run that ends well writes such a list. Nothing is asked of the
+-- records: the run has read all that it needs of what tips and hidden tips reach.
 abbrev pub SimpleLists : Type 0
 SimpleLists =
     (words : List (List ℕ)) (input : List ℕ) (records : List Record) (by : Sorting) (tips hidden : List ObjectId) (old new : Option (List ℕ)) →
-    request_of words ≡ Ok (Commits (Simple by) tips hidden) → AreRecords records input →
-    (hidden ≡ [] → AreWhole (stored records) tips) → Runs words (Some input) old (Ok tt) new →
-    (ids : List ObjectId) × Lists (stored records) by tips hidden ids × Appends old new (lines_of_ids ids)
+    request_of words ≡ Ok (Commits (Simple by) tips hidden) → AreRecords records input → Runs words (Some input) old (Ok tt) new →
+    (ids : List ObjectId) × SimpleListsRead (stored records) by tips hidden ids × Appends old new (lines_of_ids ids)
 
--- Where the records are a part of a store, a run that ends well writes such a list of the whole store, whatever else is in it. Without
--- hidden tips this asks that all that the tips reach are whole commits of that store. Of the records it asks nothing more.
+-- Where the records are a part of a store, a run that ends well writes such a list of the whole store, whatever else is in it.
 abbrev pub SimpleListsOfPart : Type 0
 SimpleListsOfPart =
     (words : List (List ℕ)) (input : List ℕ) (records : List Record) (by : Sorting) (tips hidden : List ObjectId)
     (old new : Option (List ℕ)) (objects : Objects) →
     request_of words ≡ Ok (Commits (Simple by) tips hidden) → AreRecords records input → IsPartOf (stored records) objects →
-    (hidden ≡ [] → AreWhole objects tips) → Runs words (Some input) old (Ok tt) new →
-    (ids : List ObjectId) × Lists objects by tips hidden ids × Appends old new (lines_of_ids ids)
+    Runs words (Some input) old (Ok tt) new →
+    (ids : List ObjectId) × SimpleListsRead objects by tips hidden ids × Appends old new (lines_of_ids ids)
 
 -- No id is there twice, and each is one that the tips reach through these parents and the ends don't. All of these are there, where none of
 -- them is its own ancestor. They are in the order that was asked for.
@@ -201,15 +207,13 @@ abbrev pub told : List GraphRow → List Record → Objects
 told rows records = with_rows rows (stored records)
 
 -- Over words that ask for `breadth`, `newest` or `oldest`, the layers of a commit-graph, and records, a run that ends well writes such a list
--- of the history that rows and records say. Of the layers nothing is asked. Without hidden tips this asks that all that the tips reach
--- in that history are whole commits.
+-- of the history that rows and records say. Of the layers and of that history nothing is asked.
 abbrev pub ToldSimpleLists : Type 0
 ToldSimpleLists =
     (words layers : List (List ℕ)) (input : List ℕ) (records : List Record) (by : Sorting) (tips hidden : List ObjectId) (old new : Option (List ℕ)) →
     request_of words ≡ Ok (Commits (Simple by) tips hidden) → AreRecords records input → RunsOver words layers (Some input) old (Ok tt) new →
     (rows : List GraphRow) × AreTold layers records rows
-    × ((hidden ≡ [] → AreWhole (told rows records) tips)
-    → (ids : List ObjectId) × Lists (told rows records) by tips hidden ids × Appends old new (lines_of_ids ids))
+    × (ids : List ObjectId) × SimpleListsRead (told rows records) by tips hidden ids × Appends old new (lines_of_ids ids)
 
 -- The same of `topo` and `date`, of which nothing is asked.
 abbrev pub ToldTopoLists : Type 0

@@ -42,10 +42,18 @@ abbrev pub Holds : List Record → ObjectId → List ℕ → List ℕ → Type 0
 Holds records i kind bytes =
     (before after : List Record) × (records ≡ before ++ record { kind = kind; id = i; bytes = bytes } ∷ after) × ((r : Record) → Contains after r → r.id ≢ i)
 
--- COMMITS: all ids in a commit's text have as many digits as its own.
-abbrev pub AreParentLines : ℕ → List ObjectId → List ℕ → Type 0
-AreParentLines width [] lines = lines ≡ []
-AreParentLines width (p ∷ ps) lines = (id rest : List ℕ) × Spells width id p × AreParentLines width ps rest × (lines ≡ codes "parent " ++ id ++ 10 ∷ rest)
+-- COMMITS: all ids in a commit's text have as many digits as its own. The text is a line for each of these parents, in order and with repeats,
+-- and the rest, which begins with no further such line.
+abbrev pub AreParentLines : ℕ → List ObjectId → List ℕ → List ℕ → Type 0
+AreParentLines width [] text rest = (text ≡ rest) × ((p : ObjectId) (id more : List ℕ) → Spells width id p → rest ≢ codes "parent " ++ id ++ 10 ∷ more)
+AreParentLines width (p ∷ ps) text rest =
+    (id more : List ℕ) × Spells width id p × AreParentLines width ps more rest × (text ≡ codes "parent " ++ id ++ 10 ∷ more)
+
+-- the id is that of a commit, whose text names these parents behind its tree; the rest may be anything
+abbrev pub Names : List Record → ObjectId → List ObjectId → List ℕ → Type 0
+Names records i parents rest =
+    (tree : ObjectId) × (id lines : List ℕ) × Spells (digits_in i) id tree × AreParentLines (digits_in i) parents lines rest
+    × Holds records i (codes "commit") (codes "tree " ++ id ++ 10 ∷ lines)
 
 -- all digits at the front of a text write the number, which is 0 where there are none
 abbrev pub Counts : List ℕ → ℕ → Type 0
@@ -60,26 +68,23 @@ pub data IsTime (signature : List ℕ) : ℤ → Type 0 where
   negative : (before text : List ℕ) (spaces n : ℕ) → signature ≡ before ++ 62 ∷ (replicate spaces 32 ++ 45 ∷ text) → All (λ b. b ≢ 62) text → Counts text n
       → IsTime signature (if nat_le n (2 ^ 63) then neg_ℤ (pos n) else pos 0)
 
--- the id is that of a commit with these parents, whose committer signed at this time
-abbrev pub IsCommit : List Record → ObjectId → List ObjectId → ℤ → Type 0
-IsCommit records i parents time =
-    (tree : ObjectId) × (text id lines author signature rest : List ℕ) × Holds records i (codes "commit") text × Spells (digits_in i) id tree
-    × AreParentLines (digits_in i) parents lines × All (λ b. b ≢ 10) author × All (λ b. b ≢ 10) signature × IsTime signature time
-    × (text ≡ codes "tree " ++ id ++ 10 ∷ (lines ++ codes "author " ++ author ++ 10 ∷ (codes "committer " ++ signature ++ 10 ∷ rest)))
+-- the id is that of a commit, whose committer signed at this time
+abbrev pub IsSigned : List Record → ObjectId → ℤ → Type 0
+IsSigned records i time =
+    (parents : List ObjectId) × (author signature rest : List ℕ) × All (λ b. b ≢ 10) author × All (λ b. b ≢ 10) signature × IsTime signature time
+    × Names records i parents (codes "author " ++ author ++ 10 ∷ (codes "committer " ++ signature ++ 10 ∷ rest))
 
--- the parents, in order and with repeats, and the times of all commits; of what is no commit, none
+-- the parents that commits name, also where the rest is broken, and the times of committers; of any other id none and 0
 abbrev pub AreHistory : List Record → (ObjectId → List ObjectId) → (ObjectId → ℤ) → Type 0
 AreHistory records parents time =
-    (i : ObjectId) → IsCommit records i (parents i) (time i) ⊎ (((ps : List ObjectId) (t : ℤ) → IsCommit records i ps t → ⊥) × (parents i ≡ []))
+    (i : ObjectId)
+    → (((rest : List ℕ) × Names records i (parents i) rest) ⊎ (((ps : List ObjectId) (rest : List ℕ) → Names records i ps rest → ⊥) × (parents i ≡ [])))
+    × (IsSigned records i (time i) ⊎ (((t : ℤ) → IsSigned records i t → ⊥) × (time i ≡ pos 0)))
 
 -- ORDERS, whatever ids are. What starts reach is the least set that has them and the parents of each member.
 pub data Reaches {I : Type 0} (parents : I → List I) (starts : List I) : I → Type 0 where
   start : {i : I} → Contains starts i → Reaches parents starts i
   parent : {child i : I} → Reaches parents starts child → Contains (parents child) i → Reaches parents starts i
-
--- however a list is cut in two, the second part begins as it has to behind the first
-abbrev pub Throughout : {I : Type 0} → (List I → List I → Type 0) → List I → Type 0
-Throughout {I} Follows ids = (taken rest : List I) → ids ≡ taken ++ rest → Follows taken rest
 
 -- the rest begins with the first of these names that has P, and is empty where there is none
 abbrev pub IsFirst : {I : Type 0} → (I → Type 0) → List I → List I → Type 0
@@ -96,9 +101,6 @@ pub data Keeps {I : Type 0} (P : (before : List I) → I → (after : List I) �
   empty : {before : List I} → Keeps P before [] []
   kept : {i : I} {before after those : List I} → P before i after → Keeps P (i ∷ before) after those → Keeps P before (i ∷ after) (i ∷ those)
   passed : {i : I} {before after those : List I} → (P before i after → ⊥) → Keeps P (i ∷ before) after those → Keeps P before (i ∷ after) those
-
-abbrev pub topological : List (List ℕ)
-topological = codes "topo" ∷ codes "date" ∷ []
 
 module _ {I : Type 0} (parents : I → List I) (time : I → ℤ) (tips hidden : List I) where
   abbrev pub IsShown : I → Type 0
@@ -123,20 +125,19 @@ module _ {I : Type 0} (parents : I → List I) (time : I → ℤ) (tips hidden :
   AreMadeReady (c ∷ taken) ready = (old more : List I) × AreMadeReady taken old × (ready ≡ old ++ more)
       × Keeps (λ before i after. IsReady (c ∷ taken) i × (Contains after i → ⊥)) [] (parents c) more
 
-  -- the order of each name
-  pub data IsInOrder (ids : List I) : List ℕ → Type 0 where
-    breadth : Throughout (λ taken. IsFirst (IsPending taken) (tips ++ flat_map parents taken)) ids → IsInOrder ids (codes "breadth")
-    newest : Throughout (λ taken. IsBest (λ i other. time other ≤ℤ time i) (IsPending taken)) ids → IsInOrder ids (codes "newest")
-    oldest : Throughout (λ taken. IsBest (λ i other. time i ≤ℤ time other) (IsPending taken)) ids → IsInOrder ids (codes "oldest")
-    date : Throughout (λ taken. IsBest (λ i other. time other ≤ℤ time i) (IsReady taken)) ids → IsInOrder ids (codes "date")
-    topo : Throughout (λ taken rest. (ready : List I) × AreMadeReady (reverse taken) ready × IsFirst (λ i. Contains taken i → ⊥) (reverse ready) rest) ids
-        → IsInOrder ids (codes "topo")
+  -- what the rest begins with behind those taken, in the order of each name
+  pub data Follows (taken rest : List I) : List ℕ → Type 0 where
+    breadth : IsFirst (IsPending taken) (tips ++ flat_map parents taken) rest → Follows taken rest (codes "breadth")
+    newest : IsBest (λ i other. time other ≤ℤ time i) (IsPending taken) rest → Follows taken rest (codes "newest")
+    oldest : IsBest (λ i other. time i ≤ℤ time other) (IsPending taken) rest → Follows taken rest (codes "oldest")
+    date : IsBest (λ i other. time other ≤ℤ time i) (IsReady taken) rest → Follows taken rest (codes "date")
+    topo : (ready : List I) → AreMadeReady (reverse taken) ready → IsFirst (λ i. Contains taken i → ⊥) (reverse ready) rest → Follows taken rest (codes "topo")
 
   -- What is shown is listed once and in order. In a topological order all of it is listed where no commit shown is its own ancestor.
   abbrev pub Lists : List ℕ → List I → Type 0
   Lists by ids =
-      AllPairs (λ i j. i ≢ j) ids × ((i : I) → Contains ids i → IsShown i) × IsInOrder ids by
-      × ((Contains topological by → (i : I) → IsShown i → Reaches parents (parents i) i → ⊥) → (i : I) → IsShown i → Contains ids i)
+      AllPairs (λ i j. i ≢ j) ids × ((i : I) → Contains ids i → IsShown i) × ((taken rest : List I) → ids ≡ taken ++ rest → Follows taken rest by)
+      × ((Contains (codes "topo" ∷ codes "date" ∷ []) by → (i : I) → IsShown i → Reaches parents (parents i) i → ⊥) → (i : I) → IsShown i → Contains ids i)
 
   abbrev pub IsNumberShown : ℕ → Type 0
   IsNumberShown n = (ids : List I) × AllPairs (λ i j. i ≢ j) ids × ((i : I) → Contains ids i ↔ IsShown i) × (length ids ≡ n)
@@ -178,11 +179,9 @@ AreTips (word ∷ words) tips hidden =
 
 -- what words ask for was appended
 pub data Serves (records : List Record) (parents : ObjectId → List ObjectId) (time : ObjectId → ℤ) (old new : Option (List ℕ)) : List (List ℕ) → Type 0 where
-  -- ids, one a line: in a topological order, and where nothing is hidden, this is said where all that is reached are commits
-  commits : {by : List ℕ} {words : List (List ℕ)} {tips hidden : List ObjectId}
-      → Contains (codes "breadth" ∷ codes "newest" ∷ codes "oldest" ∷ topological) by → AreTips words tips hidden → tips ≢ []
-      → ((Contains topological by ⊎ (hidden ≡ []) → (i : ObjectId) → Reaches parents (tips ++ hidden) i → IsCommit records i (parents i) (time i))
-      → (ids : List ObjectId) × Lists parents time tips hidden by ids × Appends old new (flat_map (λ i. encode_lower (bytes_in i) ++ 10 ∷ []) ids))
+  -- ids, one a line
+  commits : {by : List ℕ} {words : List (List ℕ)} {tips hidden ids : List ObjectId} → AreTips words tips hidden → tips ≢ []
+      → Lists parents time tips hidden by ids → Appends old new (flat_map (λ i. encode_lower (bytes_in i) ++ 10 ∷ []) ids)
       → Serves records parents time old new (by ∷ words)
   -- how many commits the one reaches and the other doesn't, a space, and how many the other reaches and the one doesn't
   ahead : {a b : List ℕ} {one other : ObjectId} (n m : ℕ) → Spells (digits_in one) a one → Spells (digits_in other) b other

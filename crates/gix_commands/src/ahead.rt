@@ -12,7 +12,7 @@ use crate::fault::Fault;
 use crate::output::write_out;
 use gix_parts::graph::Graph;
 use gix_parts::hash::ObjectId;
-use gix_parts::object::memory::MemoryStore;
+use gix_parts::records::LentStore;
 use gix_traverse::commit::Info;
 use gix_traverse::commit::simple::Sorting;
 use std::alloc::{AllocError, Global};
@@ -27,7 +27,7 @@ pub fn write_ahead<W: Write>(
     alloc: Global,
     one: ObjectId,
     other: ObjectId,
-    store: &MemoryStore,
+    store: &LentStore<'_>,
     graph: Option<&Graph>,
     writer: &mut W,
 ) -> Result<(), Fault>
@@ -44,7 +44,7 @@ fn count(
     alloc: Global,
     tip: ObjectId,
     hidden: ObjectId,
-    store: &MemoryStore,
+    store: &LentStore<'_>,
     graph: Option<&Graph>,
 ) -> Result<usize, Fault>
     ensures ok { IfOk result (Counts (with_rows (rows_in graph.entry) store.now) (rows_in graph.entry) tip hidden) }

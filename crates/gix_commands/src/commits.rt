@@ -11,7 +11,7 @@ use gix_parts::graph::Graph;
 use gix_parts::hash::ObjectId;
 use gix_parts::object::Kind;
 use gix_parts::object::find::{self, Find};
-use gix_parts::object::memory::MemoryStore;
+use gix_parts::records::LentStore;
 use gix_traverse::commit::simple::Sorting;
 use gix_traverse::commit::topo::{self, Builder, Topo};
 use gix_traverse::commit::{Simple, Unfiltered};
@@ -22,7 +22,7 @@ use std::marker::Model;
 /// is one. The model of it is what it has.
 #[derive(Drop)]
 pub struct Lent<'a> {
-    store: WithRows<'a, &'a MemoryStore>,
+    store: WithRows<'a, &'a LentStore<'a>>,
 }
 
 impl<'a> Model for Lent<'a> {
@@ -40,7 +40,7 @@ impl<'a> Model for Lent<'a> {
 
 impl<'a> Lent<'a> {
     /// The store with these rows, if there are any.
-    pub fn over(store: &'a MemoryStore, graph: Option<&'a Graph>) -> Lent<'a>
+    pub fn over(store: &'a LentStore<'a>, graph: Option<&'a Graph>) -> Lent<'a>
         ensures { result ≡ with_rows (rows_in graph.entry) store.now }
     {
         Lent {
@@ -78,7 +78,7 @@ pub fn walk_from<'a>(
     sorting: Sorting,
     tips: Vec<ObjectId>,
     hidden: Vec<ObjectId>,
-    store: &'a MemoryStore,
+    store: &'a LentStore<'a>,
     graph: Option<&'a Graph>,
 ) -> Result<Simple<Lent<'a>, Unfiltered>, Fault>
     ensures ok { IfOk result (StartsFrom (with_rows (rows_in graph.entry) store.now) (rows_in graph.entry) sorting tips.items hidden.items) }
@@ -100,7 +100,7 @@ pub fn topo_walk_from<'a>(
     sorting: topo::Sorting,
     tips: Vec<ObjectId>,
     ends: Vec<ObjectId>,
-    store: &'a MemoryStore,
+    store: &'a LentStore<'a>,
     graph: Option<&'a Graph>,
 ) -> Result<Topo<Lent<'a>, Unfiltered>, Fault>
     ensures ok { IfOk result (λ walk. topo_walk.IsBuiltFrom (with_rows (rows_in graph.entry) store.now) (rows_in graph.entry) sorting tips.items ends.items (Ok walk)) }

@@ -15,8 +15,8 @@ use crate::output::write_out;
 use bstr::BStr;
 use gix_parts::graph::Graph;
 use gix_parts::hash::ObjectId;
-use gix_parts::object::memory::MemoryStore;
 use gix_parts::object::tree::EntryRef;
+use gix_parts::records::LentStore;
 use gix_traverse::tree::Recorder;
 use gix_traverse::tree::depthfirst::{State, depthfirst};
 use gix_traverse::tree::visit::{Action, Visit};
@@ -32,7 +32,7 @@ use std::ops::ControlFlow;
 pub fn write_files<W: Write>(
     alloc: Global,
     tree: ObjectId,
-    store: &MemoryStore,
+    store: &LentStore<'_>,
     graph: Option<&Graph>,
     writer: &mut W,
 ) -> Result<(), Fault>

@@ -6,14 +6,15 @@ ghost use Rattle.gix_commands.specs.Histories.{ToldAheadCounts, ToldSimpleLists,
 ghost use Rattle.gix_commands.specs.Listings.{FilesLists, FilesListsOfPart, FilesSucceeds};
 
 /// `breadth`, `newest` and `oldest` write the ids of exactly the commits that the tips reach and the hidden ones don't, each once, in
-/// their order. Without hidden tips this asks that all that the tips reach are whole commits. With one nothing is asked: a run that ends
-/// well has read all that tips and hidden tips reach.
+/// their order. Nothing is asked of the records. Parents are those that the texts of commits name, and a commit whose text breaks off
+/// before its committer has the time 0; where all that is reached are whole commits, these are their parents. With a hidden tip they are:
+/// a run that ends well has read all that tips and hidden tips reach.
 pub fn simple_lists()
     ensures { SimpleLists }
 {}
 
-/// Where the records are a part of a repository, such a list is right of the whole repository, whatever else is in it. Without hidden
-/// tips this asks that all that the tips reach are whole commits of the repository. Of the records it asks nothing more.
+/// Where the records are a part of a repository, such a list is right of the whole repository, whatever else is in it. Nothing
+/// more is asked, of the records or of the repository.
 pub fn simple_lists_of_part()
     ensures { SimpleListsOfPart }
 {}
@@ -80,9 +81,9 @@ pub fn ahead_succeeds()
     ensures { AheadSucceeds }
 {}
 
-/// Over a commit-graph, `breadth`, `newest` and `oldest` write such a list of the history that the rows and the records say. Of the
-/// commit-graph nothing is asked: a run that ends well has read it, its rows can be used without a store, and they say what the records
-/// say. Without hidden tips this asks that all that the tips reach in that history are whole commits.
+/// Over a commit-graph, `breadth`, `newest` and `oldest` write such a list of the history that the rows and the records say. Nothing is
+/// asked of the records or of the commit-graph: a run that ends well has read it, its rows can be used without a store, and they say what
+/// the records say.
 pub fn told_simple_lists()
     ensures { ToldSimpleLists }
 {}

@@ -1,8 +1,8 @@
 //! The commands of the program: which commits some commits reach, and which files a tree holds, from a stream of a repository's objects
 //! to a line for each.
 //!
-//! [`run`] takes the words of a command, a reader of records and a writer; [`run_over`] also takes the files of a commit-graph. What they
-//! write is stated by the laws of [`laws`].
+//! [`run`] takes the words of a command, a reader of records and a writer; [`run_in`] takes records in memory in place of a reader, and
+//! [`run_over`] also takes the files of a commit-graph. What they write is stated by the laws of [`laws`].
 #![tactic(auto)]
 
 ghost use Rattle.std.specs.Prelude.{◌≡◌, ◌≢◌, ℕ, List, map, Some, Err, string_bytes};
@@ -18,6 +18,7 @@ mod commits;
 mod digits;
 mod fault;
 mod files;
+mod given;
 mod graph;
 pub mod laws;
 mod output;
@@ -28,10 +29,11 @@ use ahead::write_ahead;
 use commits::{topo_walk_from, walk_from};
 pub use fault::Fault;
 use files::write_files;
+pub use given::run_in;
+use given::serve_records;
 use gix_parts::graph::Graph;
 use gix_parts::hash::ObjectId;
-use gix_parts::object::memory::MemoryStore;
-use gix_parts::records;
+use gix_parts::records::{self, LentStore};
 pub use graph::write_heads;
 use output::write_commits;
 pub use over::run_over;
@@ -68,15 +70,15 @@ pub fn run<R: Read, W: Write>(
     ensures whole { Promises (map string_bytes words.now) (R.remaining reader.old) (W.contents writer.old) result (W.contents writer.new) }
 {
     let command = read_command(alloc, words)?;
-    let store = records::read(alloc, reader)?;
-    serve(alloc, command, &store, None, writer)
+    let input = records::read_to_end(alloc, reader, records::READS)?;
+    serve_records(alloc, command, input.as_slice(), writer)
 }
 
 // Writes what a command asks for.
 fn serve<W: Write>(
     alloc: Global,
     command: Command,
-    store: &MemoryStore,
+    store: &LentStore<'_>,
     graph: Option<&Graph>,
     writer: &mut W,
 ) -> Result<(), Fault>
@@ -99,7 +101,7 @@ fn serve_commits<W: Write>(
     order: Order,
     tips: Vec<ObjectId>,
     hidden: Vec<ObjectId>,
-    store: &MemoryStore,
+    store: &LentStore<'_>,
     graph: Option<&Graph>,
     writer: &mut W,
 ) -> Result<(), Fault>

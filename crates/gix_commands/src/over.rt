@@ -42,7 +42,8 @@ pub fn run_over<R: Read, W: Write>(
 {
     let command = read_command(alloc, words)?;
     let graph = open(alloc, layers)?;
-    let store = records::read(alloc, reader)?;
+    let input = records::read_to_end(alloc, reader, records::READS)?;
+    let store = records::records_in(alloc, input.as_slice())?;
     check_stored(alloc, &graph, &store)?;
     serve(alloc, command, &store, Some(&graph), writer)
 }

@@ -48,10 +48,11 @@ of_fault (fault.Disagrees i) = of_id 15 i
 abbrev pub RunsOver : List ℕ → List ℕ → Result (Unit {0}) Fault → List ℕ → Type 0
 RunsOver words records answer lines = Runs (map utf8_lossy (words_of words)) (Some records) (Some []) answer (Some lines)
 
--- a run fails so. None does for the writer, or for what never happens
+-- a run fails so. None does for the reader or the writer, or for what never happens
 pub record FailsOver (words records : List ℕ) (e : Fault) : Type 0 where
   pub lines : List ℕ
   pub runs : RunsOver words records (Err e) lines
+  pub given : e ≢ fault.Read
   pub written : e ≢ fault.Write
   pub sound : e ≢ fault.Internal
 

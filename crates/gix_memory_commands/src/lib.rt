@@ -11,12 +11,13 @@ mod answer;
 mod words;
 
 pub use answer::Answer;
-use gix_commands::{Fault, run};
+use gix_commands::{Fault, run_in};
 use std::alloc::Global;
 use words::words_of;
 
 /// Runs the command that the words are over the records, and puts the lines that it writes at the front of the room. The words are UTF-8
-/// with one space or one newline between two of them, and none at either end; the records are as `git cat-file --batch` prints them.
+/// with one space or one newline between two of them, and none at either end; the records are as `git cat-file --batch` prints them. They
+/// are read where they are: of these, only the objects that a walk looks up are copied, one at a time.
 ///
 /// Where the lines fit into the room, the answer is well and its length is theirs. Where they don't, the answer is 1, its length is the
 /// room that they need, and the room is as it was.
@@ -49,9 +50,8 @@ fn lines_of(alloc: Global, words: &[u8], records: &[u8]) -> Result<Vec<u8>, Faul
     ensures err { IfErr result (λ e. FailsOver words.now records.now e) }
 {
     let words = words_of(alloc, words)?;
-    let mut reader = records;
     let mut lines = Vec::new(alloc);
-    match run(alloc, &words, &mut reader, &mut lines) {
+    match run_in(alloc, &words, records, &mut lines) {
         Ok(()) => Ok(lines),
         Err(Fault::Write) => Err(Fault::Memory),
         Err(fault) => Err(fault),

@@ -7,4 +7,4 @@ mod SplitFacts
 -- Records read from the left, and the grammar of records.
 pub mod RecordFacts
 -- What a reader's bytes were read as.
-mod ReadingFacts
+pub mod ReadingFacts

@@ -10,10 +10,10 @@ use std::io::{ErrorKind, Read};
 // How many bytes a read asks for.
 const CHUNK: usize = 1 << 16;
 
-/// Reads to the end, and asks the reader this often at most.
+/// The bytes that a reader gives until its end. It is asked this often at most: a read that was interrupted is made again, and counts.
 ///
 /// # Errors
-/// `Read` where the reader failed, or none of its answers was the end. `Memory`.
+/// `Read` where the reader failed, or none of its answers was the end. `Memory`. The bytes that were read until then are lost.
 pub fn read_to_end<R: Read>(alloc: Global, reader: &mut R, most: u32) -> Result<Vec<u8>, Error>
     ensures whole { IfOk result (λ input. Tells (R.remaining reader.old) input.items) }
     ensures fault { IfErr result (λ e. (e ≡ Error.Read) ⊎ (e ≡ Error.Memory)) }

@@ -8,17 +8,20 @@
 //! ```
 #![tactic(auto)]
 
-ghost use Rattle.std.specs.Prelude.{◌≡◌, ◌⊎◌, ℕ, List, Some, IfOk, IfErr, MatchResult};
+ghost use Rattle.std.specs.Prelude.{◌≡◌, ◌⊎◌, ℕ, List, length, Some, IfOk, IfErr, MatchResult};
+ghost use Rattle.gix_object.specs.MemoryStore.{objects_at, AreWithin};
 ghost use Rattle.gix_records.specs.Reading.{IsReadFrom, IsReadFault};
 ghost use Rattle.gix_records.specs.Records.{Record, AreRecords, IsRecordFault, stored};
 
 mod front;
 mod input;
+mod lent;
 
 use front::record_at;
 use gix_hash::hashtable::IdMap;
 use gix_object::memory::{MemoryStore, Stored};
-use input::read_to_end;
+pub use input::read_to_end;
+pub use lent::LentStore;
 use std::alloc::{AllocError, Global};
 use std::io::Read;
 use thiserror::Error;
@@ -89,21 +92,47 @@ pub fn records_of(alloc: Global, input: Vec<u8>) -> Result<MemoryStore, Error>
     // Input that is records is read, unless memory runs out.
     ensures only { (records : List Record) → AreRecords records input.items → MatchResult result (λ store. store ≡ stored records) (λ e. e ≡ Error.Memory) }
 {
+    let objects = places_of(alloc, input.as_slice())?;
+    Ok(MemoryStore::over(input, objects))
+}
+
+/// The objects of the records that the bytes are, in a store that borrows the bytes and copies none. Of two records of one id the later
+/// counts.
+///
+/// # Errors
+/// `Record` with the number of the first that isn't one, `Memory`.
+pub fn records_in(alloc: Global, bytes: &[u8]) -> Result<LentStore<'_>, Error>
+    ensures read { IfOk result (λ store. (records : List Record) × AreRecords records bytes.now × (store ≡ stored records)) }
+    ensures fault { IfErr result (λ e. IsRecordFault bytes.now e) }
+    // Bytes that are records are read, unless memory runs out.
+    ensures only { (records : List Record) → AreRecords records bytes.now → MatchResult result (λ store. store ≡ stored records) (λ e. e ≡ Error.Memory) }
+{
+    let objects = places_of(alloc, bytes)?;
+    Ok(LentStore::over(bytes, objects))
+}
+
+// The places of the objects of the records that the bytes are.
+fn places_of(alloc: Global, bytes: &[u8]) -> Result<IdMap<Stored>, Error>
+    ensures within { IfOk result (λ places. AreWithin places (length bytes.now)) }
+    ensures read { IfOk result (λ places. (records : List Record) × AreRecords records bytes.now × (objects_at bytes.now places ≡ stored records)) }
+    ensures fault { IfErr result (λ e. IsRecordFault bytes.now e) }
+    ensures only { (records : List Record) → AreRecords records bytes.now → MatchResult result (λ places. objects_at bytes.now places ≡ stored records) (λ e. e ≡ Error.Memory) }
+{
     let mut objects = IdMap::new(alloc);
-    let mut rest = input.as_slice();
+    let mut rest = bytes;
     let mut number = 1;
     while !rest.is_empty() {
         let Some(front) = record_at(rest) else {
             return Err(Error::Record(number));
         };
-        let end = input.len() - front.behind.len() - 1;
+        let end = bytes.len() - front.behind.len() - 1;
         let start = end - front.bytes.len();
         let kind = front.kind;
         objects.insert(front.id, Stored { kind, start, end })?;
         rest = front.behind;
         number += 1;
     }
-    Ok(MemoryStore::over(input, objects))
+    Ok(objects)
 }
 
 #[cfg(test)]

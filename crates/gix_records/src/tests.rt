@@ -10,10 +10,10 @@ blob 1111111111111111111111111111111111111111 3\nold\n\
 tag 2222222222222222222222222222222222222222222222222222222222222222 0\n\n\
 tree 1111111111111111111111111111111111111111 4\nn\new\n";
 
-fn check_store(alloc: Global, store: &MemoryStore) -> Result<(), Fail> {
+fn check_store<F: Find>(alloc: Global, store: &F, len: usize) -> Result<(), Fail> {
     let mut buf = Vec::new(alloc);
     let one = store.find_into(&ObjectId::Sha1([0x11; 20]), &mut buf);
-    if store.len() == 2 && one == Ok(Some(Kind::Tree)) && buf.as_slice() == b"n\new".as_slice() {
+    if len == 2 && one == Ok(Some(Kind::Tree)) && buf.as_slice() == b"n\new".as_slice() {
         return Ok(());
     }
     Err(Fail::new(format_args!("{one:?} with {buf:?}")))
@@ -22,7 +22,8 @@ fn check_store(alloc: Global, store: &MemoryStore) -> Result<(), Fail> {
 #[test]
 fn the_later_of_one_id_counts(rt: HostRuntime) -> Result<(), Fail> {
     let alloc = rt.alloc();
-    check_store(alloc, &read(alloc, &mut { RECORDS })?)
+    let store = read(alloc, &mut { RECORDS })?;
+    check_store(alloc, &store, store.len())
 }
 
 #[test]
@@ -30,7 +31,17 @@ fn bytes_are_read_as_a_reader_is(rt: HostRuntime) -> Result<(), Fail> {
     let alloc = rt.alloc();
     let mut input = Vec::new(alloc);
     input.extend_from_slice(RECORDS)?;
-    check_store(alloc, &records_of(alloc, input)?)
+    let store = records_of(alloc, input)?;
+    check_store(alloc, &store, store.len())
+}
+
+#[test]
+fn bytes_that_are_lent_are_read_as_a_reader_is(rt: HostRuntime) -> Result<(), Fail> {
+    let alloc = rt.alloc();
+    let store = records_in(alloc, RECORDS)?;
+    check_store(alloc, &store, store.len())?;
+    assert!(rt; !store.is_empty());
+    Ok(())
 }
 
 #[test]

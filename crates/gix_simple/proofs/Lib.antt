@@ -40,6 +40,8 @@ pub mod Generations
 pub mod Alike
 -- Laws that follow from the theorem: hiding, rows that agree, falling times.
 pub mod Corollaries
+-- A walk without hidden tips, none of whose answers is a fault, gives the commits in order by the parents that texts name.
+pub mod Faultless
 -- A walk without a cutoff gives what its tips reach and its hidden tips don't.
 pub mod Difference
 -- Over a finite history a test of what is reached exists.

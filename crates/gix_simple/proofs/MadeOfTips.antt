@@ -44,7 +44,7 @@ further_on answers {first} {mid} {last} h (further b a) = further (further_on an
 
 module _ {F P : Type 0} (objects : F → Objects) (faulty : F → ObjectId → Type 0) (answers : P → ObjectId → Bool → P → Type 0) (store : F) (predicate : P) (accepts : ObjectId → Bool) (tips : List ObjectId) (walk : SimpleWalk F P) (by_test : AnswersBy answers predicate accepts) (made : IsMade objects faulty answers store predicate tips walk) where
   setting : Setting objects faulty answers
-  setting = record { store = store; predicate = predicate; rows = []; parents = mode.All; sorting = sorting.BreadthFirst; begun = false; marks = set.empty; accepts = accepts; hidden = λ i. false; starts = tips; by_test = by_test; agreeing = λ row n. absurd (no_member row n) }
+  setting = record { store = store; predicate = predicate; rows = []; parents = mode.All; named = λ i. []; sorting = sorting.BreadthFirst; begun = false; marks = set.empty; accepts = accepts; hidden = λ i. false; starts = tips; by_test = by_test; agreeing = λ row n. absurd (no_member row n) }
 
   nothing : (i : ObjectId) → set.contains (set.empty {R = id_cmp}) i ≡ true → ⊥
   nothing i e = false≢true (sym (set.contains-empty id_cmp i) ∙ e)

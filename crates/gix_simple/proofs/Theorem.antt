@@ -31,7 +31,7 @@ use Rattle.gix_paint.proofs.Invariant.{own_history}
 use Rattle.gix_hash.proofs.Ids.Membership.{same_is, among_from, among_is, Contains-here, Contains-there, no_member}
 use Rattle.gix_revwalk.proofs.NewIds.{fresh, times, times-fresh, among-filter}
 use Rattle.gix_simple.proofs.Treated.{Setting, Stands}
-use Rattle.gix_simple.proofs.OneStep.{next}
+use Rattle.gix_simple.proofs.OneStep.{reads_whole, whole_well}
 use Rattle.gix_simple.proofs.PendingIs.{IsQueue, IsNextOne}
 use Rattle.gix_simple.proofs.WholeWalk.{Known, Runs, RunOf, run, BegunOf, begun_run}
 use Rattle.gix_revwalk.proofs.ReadsWhole.{walked_within, no_fault}
@@ -82,7 +82,7 @@ ids-filter p q (x ∷ ps) h = go (q x.id) (h x.id (Contains-here x.id (ids_of ps
     go true e r = ap (λ b. ids_of (cond (not b) (x ∷ filter (λ x. not (p x.id)) ps) (filter (λ x. not (p x.id)) ps))) e ∙ r
     go false e r = ap (λ b. ids_of (cond (not b) (x ∷ filter (λ x. not (p x.id)) ps) (filter (λ x. not (p x.id)) ps))) e ∙ ap (λ ys. x.id ∷ ys) r
 
-in_order_from : (o : Option CommitTimeOrder) (time : ObjectId → ℤ) (next : ObjectId → List ObjectId) (starts ids : List ObjectId) → ((k : ℕ) → k ≤ length ids → IsNextOne o time next starts (take k ids) (slice_get ids k)) → IsInOrder o time next starts ids
+pub in_order_from : (o : Option CommitTimeOrder) (time : ObjectId → ℤ) (next : ObjectId → List ObjectId) (starts ids : List ObjectId) → ((k : ℕ) → k ≤ length ids → IsNextOne o time next starts (take k ids) (slice_get ids k)) → IsInOrder o time next starts ids
 in_order_from None time next starts ids h = h
 in_order_from (Some order) time next starts ids h = h
 
@@ -90,34 +90,11 @@ begins_from : (o : Option CommitTimeOrder) (time : ObjectId → ℤ) (next : Obj
 begins_from None time next starts ids h = λ k b. let e : (i : ObjectId) × (slice_get ids k ≡ Some i) = in_place ids k b in e.1 ∙ h k e.0 e.1
 begins_from (Some order) time next starts ids h = h
 
-module _ {F P : Type 0} (objects : F → Objects) (faulty : F → ObjectId → Type 0) (answers : P → ObjectId → Bool → P → Type 0) (w : SimpleWalk F P) (accepts hides : ObjectId → Bool)
-    (by_test : AnswersBy answers w.predicate accepts) (is_fresh : IsFresh objects w accepts) (tells : Tells hides (Reaches (parents_of (objects w.store)) w.hidden_tips))
-    (meets : MeetsWhole objects faulty w accepts hides) (agreeing : IsAgreeing (objects w.store) w.rows) where
-  abbrev setting : set.FinSet id_cmp → Setting objects faulty answers
-  setting marks = record { store = w.store; predicate = w.predicate; rows = w.rows; parents = w.parents; sorting = w.sorting; begun = true; marks = marks; accepts = accepts; hidden = hides; starts = starts_of w hides; by_test = by_test; agreeing = agreeing }
-
-  own : IsHistory (objects w.store) w.rows (objects w.store)
-  own = own_history (objects w.store) (faulty w.store) w.rows agreeing
-
-  abbrev next_ids : ObjectId → List ObjectId
-  next_ids = next_of objects w accepts hides
-
-  -- what the pending tips reach, and not what is hidden
-  outside : (c : ObjectId) → Reaches next_ids (starts_of w hides) c → Reaches (parents_of (objects w.store)) (ids_of w.pending) c × (hides c ≡ false)
-  outside c (start s) = let h : Contains (ids_of w.pending) c × (not (hides c) ≡ true) = Contains-filter (λ i. not (hides i)) (ids_of w.pending) c s in (start h.0, not-true _ h.1)
-  outside c (step {c = d} r n) =
-      let h : Contains (walked_parents (objects w.store) w.parents d) c × (is_kept (objects w.store) accepts hides (cutoff w.parents w.sorting) c ≡ true) = Contains-filter _ (walked_parents (objects w.store) w.parents d) c n in
-      (step (outside d r).0 (walked_within w.parents _ c h.0), not-true _ (and_parts _ _ (and_parts _ _ h.1).0).1)
-
-  not_hidden : (c : ObjectId) → hides c ≡ false → Reaches (parents_of (objects w.store)) w.hidden_tips c → ⊥
-  not_hidden c e r = true≢false (sym ((tells c).1 r) ∙ e)
-
-  record Begins (o : Option (Result Info Error)) (new : SimpleWalk F P) : Type 0 where
-    marks : set.FinSet id_cmp
-    mid : SimpleWalk F P
-    known : Known objects faulty answers (setting marks)
-    runs : Runs objects faulty answers (setting marks) mid []
-    steps : Steps objects faulty answers mid o new
+-- a walk before its first step, with hidden ids and the parents that commits name
+module _ {F P : Type 0} (objects : F → Objects) (faulty : F → ObjectId → Type 0) (answers : P → ObjectId → Bool → P → Type 0) (w : SimpleWalk F P) (accepts hides : ObjectId → Bool) (named : ObjectId → List ObjectId)
+    (by_test : AnswersBy answers w.predicate accepts) (is_fresh : IsFresh objects w accepts) (agreeing : IsAgreeing (objects w.store) w.rows) where
+  abbrev pub set_up : set.FinSet id_cmp → Setting objects faulty answers
+  set_up marks = record { store = w.store; predicate = w.predicate; rows = w.rows; parents = w.parents; named = named; sorting = w.sorting; begun = true; marks = marks; accepts = accepts; hidden = hides; starts = starts_of w hides; by_test = by_test; agreeing = agreeing }
 
   seen_starts : (i : ObjectId) → is_kept (objects w.store) accepts hides (cutoff w.parents w.sorting) i ≡ true → set.contains w.seen i ≡ is_among i (starts_of w hides ++ [])
   seen_starts i k = rw append-nil (go (set.contains w.seen i) refl (is_among i (starts_of w hides)) refl)
@@ -136,14 +113,52 @@ module _ {F P : Type 0} (objects : F → Objects) (faulty : F → ObjectId → T
       go false e true f = from_starts f ∙ sym f
       go false e false f = e ∙ sym f
 
-  begun : (marks : set.FinSet id_cmp) (mid : SimpleWalk F P) → Stands objects faulty answers (setting marks) mid → mid.seen ≡ w.seen → ids_of mid.pending ≡ starts_of w hides → Runs objects faulty answers (setting marks) mid []
-  begun marks mid stands same_seen same_pending = record {
+  pub begins_so : (marks : set.FinSet id_cmp) (mid : SimpleWalk F P) → Stands objects faulty answers (set_up marks) mid → mid.seen ≡ w.seen → ids_of mid.pending ≡ starts_of w hides → Runs objects faulty answers (set_up marks) mid []
+  begins_so marks mid stands same_seen same_pending = record {
     rest = stands;
     seen = λ i k. ap (λ x. set.contains x i) same_seen ∙ seen_starts i k;
     queue = subst (IsQueue (time_order w.parents w.sorting) (starts_of w hides ++ []) []) (sym same_pending) (queue_starts (time_order w.parents w.sorting) (starts_of w hides) (distinct-filter _ (ids_of w.pending) is_fresh.distinct));
     reached = λ c m. absurd (no_member c m);
     within = λ c e. absurd (false≢true e);
   }
+
+module _ {F P : Type 0} (objects : F → Objects) (faulty : F → ObjectId → Type 0) (answers : P → ObjectId → Bool → P → Type 0) (w : SimpleWalk F P) (accepts hides : ObjectId → Bool)
+    (by_test : AnswersBy answers w.predicate accepts) (is_fresh : IsFresh objects w accepts) (tells : Tells hides (Reaches (parents_of (objects w.store)) w.hidden_tips))
+    (meets : MeetsWhole objects faulty w accepts hides) (agreeing : IsAgreeing (objects w.store) w.rows) where
+  abbrev setting : set.FinSet id_cmp → Setting objects faulty answers
+  setting = set_up objects faulty answers w accepts hides (parents_of (objects w.store)) by_test is_fresh agreeing
+
+  own : IsHistory (objects w.store) w.rows (objects w.store)
+  own = own_history (objects w.store) (faulty w.store) w.rows agreeing
+
+  abbrev next_ids : ObjectId → List ObjectId
+  next_ids = next_of objects w accepts hides
+
+  -- what the pending tips reach, and not what is hidden
+  outside : (c : ObjectId) → Reaches next_ids (starts_of w hides) c → Reaches (parents_of (objects w.store)) (ids_of w.pending) c × (hides c ≡ false)
+  outside c (start s) = let h : Contains (ids_of w.pending) c × (not (hides c) ≡ true) = Contains-filter (λ i. not (hides i)) (ids_of w.pending) c s in (start h.0, not-true _ h.1)
+  outside c (step {c = d} r n) =
+      let h : Contains (walked_parents (objects w.store) w.parents d) c × (is_kept (objects w.store) accepts hides (cutoff w.parents w.sorting) c ≡ true) = Contains-filter _ (walked_parents (objects w.store) w.parents d) c n in
+      (step (outside d r).0 (walked_within w.parents _ c h.0), not-true _ (and_parts _ _ (and_parts _ _ h.1).0).1)
+
+  not_hidden : (c : ObjectId) → hides c ≡ false → Reaches (parents_of (objects w.store)) w.hidden_tips c → ⊥
+  not_hidden c e r = true≢false (sym ((tells c).1 r) ∙ e)
+
+  knows : (marks : set.FinSet id_cmp) → ((c i : ObjectId) → Reaches next_ids (starts_of w hides) c → Contains (parents_of (objects w.store) c) i → set.contains marks i ≡ hides i) → Known objects faulty answers (setting marks) IsNoRefusal
+  knows marks marked = record {
+    begun = refl;
+    reads = λ i r. reads_whole objects faulty answers (setting marks) i refl (meets.given i r);
+    marked = marked;
+    commits = λ v p h r answer new takes ok. whole_well objects faulty answers (setting marks) v h p (meets.given p.id r) takes ok;
+    unfailed = λ ok. ok.0 refl;
+  }
+
+  record Begins (o : Option (Result Info Error)) (new : SimpleWalk F P) : Type 0 where
+    marks : set.FinSet id_cmp
+    mid : SimpleWalk F P
+    known : Known objects faulty answers (setting marks) IsNoRefusal
+    runs : Runs objects faulty answers (setting marks) mid []
+    steps : Steps objects faulty answers mid o new
 
   keeps_all : (xs : List ObjectId) → ((i : ObjectId) → Contains xs i → hides i ≡ false) → xs ≡ filter (λ i. not (hides i)) xs
   keeps_all [] h = refl
@@ -154,8 +169,8 @@ module _ {F P : Type 0} (objects : F → Objects) (faulty : F → ObjectId → T
   plain none steps = record {
     marks = w.hidden;
     mid = record w { begun = true; hidden_tips = [] };
-    known = record { begun = refl; whole = meets.given; marked = λ c i r n. is_fresh.shown i ∙ sym (⊎_elim (λ e. absurd (nothing_reached next_ids (starts_of w hides) (λ j m. no_tip e j (Contains-filter _ (ids_of w.pending) j m).0) c r)) (λ e. shown e i) none) };
-    runs = begun w.hidden (record w { begun = true; hidden_tips = [] })
+    known = knows w.hidden (λ c i r n. is_fresh.shown i ∙ sym (⊎_elim (λ e. absurd (nothing_reached next_ids (starts_of w hides) (λ j m. no_tip e j (Contains-filter _ (ids_of w.pending) j m).0) c r)) (λ e. shown e i) none));
+    runs = begins_so objects faulty answers w accepts hides (parents_of (objects w.store)) by_test is_fresh agreeing w.hidden (record w { begun = true; hidden_tips = [] })
         (record { store = refl; parents = refl; sorting = refl; marks = refl; begun = refl; tips = refl; rows = inl refl; asked_of = itself; remembered = is_fresh.remembered; timed = is_fresh.timed })
         refl (keeps_all (ids_of w.pending) (λ i c. ⊎_elim (λ e. absurd (no_tip e i c)) (λ e. shown e i) none));
     steps = steps;
@@ -172,8 +187,8 @@ module _ {F P : Type 0} (objects : F → Objects) (faulty : F → ObjectId → T
   painting marks rows paint steps = record {
     marks = marks;
     mid = painted objects faulty answers (record w { begun = true }) marks rows;
-    known = record { begun = refl; whole = meets.given; marked = λ c i r n. exact i (inr (c, (outside c r).0, not_hidden c (outside c r).1, n)) };
-    runs = begun marks (painted objects faulty answers (record w { begun = true }) marks rows)
+    known = knows marks (λ c i r n. exact i (inr (c, (outside c r).0, not_hidden c (outside c r).1, n)));
+    runs = begins_so objects faulty answers w accepts hides (parents_of (objects w.store)) by_test is_fresh agreeing marks (painted objects faulty answers (record w { begun = true }) marks rows)
         (record {
           store = refl;
           parents = refl;

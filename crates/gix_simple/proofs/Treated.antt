@@ -70,6 +70,8 @@ module _ {F P : Type 0} (objects : F → Objects) (faulty : F → ObjectId → T
     pub predicate : P
     pub rows : List GraphRow
     pub parents : Parents
+    -- the parents that a commit names
+    pub named : ObjectId → List ObjectId
     pub sorting : Sorting
     pub begun : Bool
     pub marks : set.FinSet id_cmp

@@ -17,17 +17,17 @@ use Rattle.gix_simple.specs.declared.Error.{Error}
 use Rattle.gix_simple.specs.declared.Error.TheVariants as error
 use Rattle.gix_revwalk.specs.BreadthOrder.{named_by}
 use Rattle.gix_hash.specs.Reach.{Reaches}
-use Rattle.gix_revwalk.specs.Commits.{time_of, parents_of, walked_parents, ReadsWhole}
+use Rattle.gix_revwalk.specs.Commits.{time_of}
 use Rattle.gix_revwalk.specs.declared.Pending.{Pending}
-use Rattle.gix_simple.specs.Walk.{SimpleWalk, time_order, Chooses, first, best, Steps, ended, took, no_memory, Next, initial, later}
+use Rattle.gix_simple.specs.Walk.{SimpleWalk, time_order, Chooses, first, best, Takes, Steps, ended, took, no_memory, Next, initial, later}
 use Rattle.gix_revwalk.specs.Ids.{ids_of}
-use Rattle.gix_simple.specs.Laws.{IsNoRefusal, IsGiven}
+use Rattle.gix_simple.specs.Laws.{IsGivenBy}
 use Rattle.gix_hash.proofs.Ids.Membership.{same_is, among-append, among-one, among_is, Contains-here, Contains-there}
 use Rattle.gix_revwalk.proofs.Drained.{at_end, at_first}
 use Rattle.gix_revwalk.proofs.NewIds.{among-filter, named-push}
 use Rattle.gix_revwalk.proofs.Orders.{reached_by_named, Contains-push}
 use Rattle.gix_simple.proofs.Treated.{Setting, order_of, keep, Stands}
-use Rattle.gix_simple.proofs.OneStep.{next, Took, took_well}
+use Rattle.gix_simple.proofs.OneStep.{IsCommit, walked, next, Reads, Took, took_well}
 use Rattle.gix_simple.proofs.PendingIs.{IsQueue, IsRest, IsNextOne, grows, ends, heads, bests}
 
 -- the choice of the next one
@@ -49,11 +49,13 @@ module _ {F P : Type 0} (objects : F → Objects) (faulty : F → ObjectId → T
   abbrev pub named : Setting objects faulty answers → List ObjectId → List ObjectId
   named s taken = named_by (next objects faulty answers s) s.starts taken
 
-  -- what is known of the history, behind the first step
-  pub record Known (s : Setting objects faulty answers) : Type 0 where
+  -- what is known of the history, behind the first step, and that answers of this kind are commits
+  pub record Known (s : Setting objects faulty answers) (Allowed : Result Info Error → Type 0) : Type 0 where
     pub begun : s.begun ≡ true
-    pub whole : (i : ObjectId) → Reaches (next objects faulty answers s) s.starts i → ReadsWhole (objects s.store) i
-    pub marked : (c i : ObjectId) → Reaches (next objects faulty answers s) s.starts c → Contains (parents_of (objects s.store) c) i → set.contains s.marks i ≡ s.hidden i
+    pub reads : (i : ObjectId) → Reaches (next objects faulty answers s) s.starts i → Reads objects faulty answers s i
+    pub marked : (c i : ObjectId) → Reaches (next objects faulty answers s) s.starts c → Contains (s.named c) i → set.contains s.marks i ≡ s.hidden i
+    pub commits : (w : SimpleWalk F P) (p : Pending) → Stands objects faulty answers s w → Reaches (next objects faulty answers s) s.starts p.id → (answer : Result Info Error) (new : SimpleWalk F P) → Takes objects faulty answers w p answer new → Allowed answer → IsCommit answer
+    pub unfailed : Allowed (Err error.Memory) → ⊥
 
   -- the invariant of a whole walk
   pub record Runs (s : Setting objects faulty answers) (w : SimpleWalk F P) (taken : List ObjectId) : Type 0 where
@@ -64,7 +66,7 @@ module _ {F P : Type 0} (objects : F → Objects) (faulty : F → ObjectId → T
     pub within : (c : ObjectId) → is_among c taken ≡ true → is_among c (named s taken) ≡ true
 
   abbrev pub given : Setting objects faulty answers → Result Info Error → ObjectId → Type 0
-  given s = IsGiven (objects s.store) s.rows s.parents (order_of objects faulty answers s)
+  given s = IsGivenBy (objects s.store) s.named s.rows s.parents (order_of objects faulty answers s)
 
   abbrev pub is_next : Setting objects faulty answers → List ObjectId → Option ObjectId → Type 0
   is_next s taken o = IsNextOne (order_of objects faulty answers s) (time_of (objects s.store)) (next objects faulty answers s) s.starts taken o
@@ -75,8 +77,8 @@ module _ {F P : Type 0} (objects : F → Objects) (faulty : F → ObjectId → T
     turn : is_next s taken (Some i)
     runs : Runs s new (taken ++ i ∷ [])
 
-  stepped : (s : Setting objects faulty answers) → Known s → (w : SimpleWalk F P) (taken : List ObjectId) → Runs s w taken → {answer : Result Info Error} {new : SimpleWalk F P} → Steps objects faulty answers w (Some answer) new → IsNoRefusal answer → Stepped s taken answer new
-  stepped s known w done h (no_memory some) ok = absurd (ok.0 refl)
+  stepped : (s : Setting objects faulty answers) {Allowed : Result Info Error → Type 0} → Known s Allowed → (w : SimpleWalk F P) (taken : List ObjectId) → Runs s w taken → {answer : Result Info Error} {new : SimpleWalk F P} → Steps objects faulty answers w (Some answer) new → Allowed answer → Stepped s taken answer new
+  stepped s known w done h (no_memory some) ok = absurd (known.unfailed ok)
   stepped s known w done h (took {taken = p} {others = others} {answer = answer} {new = new} chooses takes) ok =
       let stands : Stands objects faulty answers s w = h.rest in
       let same : time_order w.parents w.sorting ≡ order_of objects faulty answers s = (λ k. time_order (stands.parents k) (stands.sorting k)) in
@@ -97,9 +99,9 @@ module _ {F P : Type 0} (objects : F → Objects) (faulty : F → ObjectId → T
         timed = λ order e q m. stands.timed order e q (others_pending objects faulty answers w p others chooses q (Contains-there q p others m));
       } in
       let t : Took objects faulty answers s p.id (record w { pending = others }) answer new =
-      took_well objects faulty answers s (record w { pending = others }) left p (known.whole p.id r) (λ i m. known.marked p.id i r m) (λ order e. stands.timed order e p (others_pending objects faulty answers w p others chooses p (Contains-here p others))) takes ok in
+      took_well objects faulty answers s (record w { pending = others }) left p (known.reads p.id r) (λ i m. known.marked p.id i r m) (λ order e. stands.timed order e p (others_pending objects faulty answers w p others chooses p (Contains-here p others))) takes (known.commits (record w { pending = others }) p left r answer new takes ok) in
       let push : named s (done ++ p.id ∷ []) ≡ named s done ++ next objects faulty answers s p.id = named-push (next objects faulty answers s) s.starts done p.id in
-      let kept : (j : ObjectId) → is_among j (next objects faulty answers s p.id) ≡ (keep objects faulty answers s j && is_among j (walked_parents (objects s.store) s.parents p.id)) = λ j. among-filter j (keep objects faulty answers s) (walked_parents (objects s.store) s.parents p.id) in
+      let kept : (j : ObjectId) → is_among j (next objects faulty answers s p.id) ≡ (keep objects faulty answers s j && is_among j (walked objects faulty answers s p.id)) = λ j. among-filter j (keep objects faulty answers s) (walked objects faulty answers s p.id) in
       let among_push : (j : ObjectId) → is_among j (named s (done ++ p.id ∷ [])) ≡ (is_among j (named s done) || is_among j (next objects faulty answers s p.id)) = λ j. ap (is_among j) push ∙ among-append j (named s done) (next objects faulty answers s p.id) in
       record {
         i = p.id;
@@ -107,8 +109,8 @@ module _ {F P : Type 0} (objects : F → Objects) (faulty : F → ObjectId → T
         turn = c.0;
         runs = record {
           rest = t.rest;
-          seen = λ j k. t.seen j k ∙ ap (λ b. is_among j (walked_parents (objects s.store) s.parents p.id) || b) (h.seen j k) ∙ or_comm (is_among j (walked_parents (objects s.store) s.parents p.id)) (is_among j (named s done))
-              ∙ sym (among_push j ∙ ap (λ b. is_among j (named s done) || b) (kept j ∙ ap (λ b. b && is_among j (walked_parents (objects s.store) s.parents p.id)) k));
+          seen = λ j k. t.seen j k ∙ ap (λ b. is_among j (walked objects faulty answers s p.id) || b) (h.seen j k) ∙ or_comm (is_among j (walked objects faulty answers s p.id)) (is_among j (named s done))
+              ∙ sym (among_push j ∙ ap (λ b. is_among j (named s done) || b) (kept j ∙ ap (λ b. b && is_among j (walked objects faulty answers s p.id)) k));
           queue = subst (λ xs. IsQueue (order_of objects faulty answers s) xs (done ++ p.id ∷ []) (ids_of new.pending)) (sym push)
               (grows (order_of objects faulty answers s) (named s done) done p.id (ids_of others) (ids_of new.pending) (next objects faulty answers s p.id) (set.contains w.seen) c.1 t.pending
               (λ j n. h.seen j (and_parts _ _ (sym (kept j) ∙ n)).0) h.within c.2);
@@ -151,11 +153,11 @@ module _ {F P : Type 0} (objects : F → Objects) (faulty : F → ObjectId → T
   ended_run : (s : Setting objects faulty answers) (w : SimpleWalk F P) (done : List ObjectId) → Runs s w done → {new : SimpleWalk F P} → Steps objects faulty answers w None new → RunOf s done []
   ended_run s w done h (ended e) = record { ids = []; given_as = tt; order = order_none s done (ends (order_of objects faulty answers s) (time_of (objects s.store)) (next objects faulty answers s) s.starts done (subst (IsQueue (order_of objects faulty answers s) (named s done) done) (ap ids_of e) h.queue)) }
 
-  pub run : (s : Setting objects faulty answers) → Known s → (list : List (Result Info Error)) (w : SimpleWalk F P) (done : List ObjectId) → Runs s w done → All IsNoRefusal list → MayStep w list → RunOf s done list
+  pub run : (s : Setting objects faulty answers) {Allowed : Result Info Error → Type 0} → Known s Allowed → (list : List (Result Info Error)) (w : SimpleWalk F P) (done : List ObjectId) → Runs s w done → All Allowed list → MayStep w list → RunOf s done list
   run s known [] w done h ok may = ended_run s w done h may.1
-  run s known (answer ∷ left) w done h ok may =
-      let t : Stepped s done answer may.0 = stepped s known w done h may.1 (All-head IsNoRefusal answer left ok) in
-      let r : RunOf s (done ++ t.i ∷ []) left = run s known left may.0 (done ++ t.i ∷ []) t.runs (All-tail IsNoRefusal answer left ok) (then_steps may.0 left (t.runs.rest.begun ∙ known.begun) may.2) in
+  run s {Allowed} known (answer ∷ left) w done h ok may =
+      let t : Stepped s done answer may.0 = stepped s known w done h may.1 (All-head Allowed answer left ok) in
+      let r : RunOf s (done ++ t.i ∷ []) left = run s known left may.0 (done ++ t.i ∷ []) t.runs (All-tail Allowed answer left ok) (then_steps may.0 left (t.runs.rest.begun ∙ known.begun) may.2) in
       record { ids = t.i ∷ r.ids; given_as = (t.given_as, r.given_as); order = order_more s done r.ids t.i t.turn r.order }
 
   -- each of the ids is the next one where it comes, up to any place
@@ -175,15 +177,15 @@ module _ {F P : Type 0} (objects : F → Objects) (faulty : F → ObjectId → T
   one_more s done t r = record { ids = t.i ∷ r.ids; given_as = (t.given_as, r.given_as); begins = begins_more s done r.ids t.i t.turn r.begins }
 
   -- drawn as far as one likes
-  begun : (s : Setting objects faulty answers) → Known s → (list : List (Result Info Error)) (w last : SimpleWalk F P) (done : List ObjectId) → Runs s w done → All IsNoRefusal list → Yields (Next objects faulty answers) w list last → BegunOf s done list
+  begun : (s : Setting objects faulty answers) {Allowed : Result Info Error → Type 0} → Known s Allowed → (list : List (Result Info Error)) (w last : SimpleWalk F P) (done : List ObjectId) → Runs s w done → All Allowed list → Yields (Next objects faulty answers) w list last → BegunOf s done list
   begun s known [] w last done h ok drawn = record { ids = []; given_as = tt; begins = λ k i e. cc }
-  begun s known (answer ∷ left) w last done h ok drawn =
-      let here : IsNoRefusal answer = All-head IsNoRefusal answer left ok in
+  begun s {Allowed} known (answer ∷ left) w last done h ok drawn =
+      let here : Allowed answer = All-head Allowed answer left ok in
       let t : Stepped s done answer drawn.0 = stepped s known w done h (next_steps w (h.rest.begun ∙ known.begun) drawn.1) here in
-      one_more s done t (begun s known left drawn.0 last (done ++ t.i ∷ []) t.runs (All-tail IsNoRefusal answer left ok) drawn.2)
+      one_more s done t (begun s known left drawn.0 last (done ++ t.i ∷ []) t.runs (All-tail Allowed answer left ok) drawn.2)
 
   -- from a walk whose hidden tips are painted
-  pub begun_run : (s : Setting objects faulty answers) → Known s → (answer : Result Info Error) (left : List (Result Info Error)) (w new last : SimpleWalk F P) (done : List ObjectId) → Runs s w done → All IsNoRefusal (answer ∷ left) → Steps objects faulty answers w (Some answer) new → Yields (Next objects faulty answers) new left last → BegunOf s done (answer ∷ left)
-  begun_run s known answer left w new last done h ok steps drawn =
-      let t : Stepped s done answer new = stepped s known w done h steps (All-head IsNoRefusal answer left ok) in
-      one_more s done t (begun s known left new last (done ++ t.i ∷ []) t.runs (All-tail IsNoRefusal answer left ok) drawn)
+  pub begun_run : (s : Setting objects faulty answers) {Allowed : Result Info Error → Type 0} → Known s Allowed → (answer : Result Info Error) (left : List (Result Info Error)) (w new last : SimpleWalk F P) (done : List ObjectId) → Runs s w done → All Allowed (answer ∷ left) → Steps objects faulty answers w (Some answer) new → Yields (Next objects faulty answers) new left last → BegunOf s done (answer ∷ left)
+  begun_run s {Allowed} known answer left w new last done h ok steps drawn =
+      let t : Stepped s done answer new = stepped s known w done h steps (All-head Allowed answer left ok) in
+      one_more s done t (begun s known left new last (done ++ t.i ∷ []) t.runs (All-tail Allowed answer left ok) drawn)

@@ -5,6 +5,9 @@ use Rattle.std.specs.Iterator.{Drains, Yields}
 use Rattle.std.specs.FinMap as map_of
 use Rattle.std.specs.FinSet as set
 use Rattle.gix_hash.specs.declared.ObjectId.{ObjectId}
+use Rattle.gix_hash.specs.Id.{kind_of}
+use Rattle.gix_object.specs.declared.Kind.TheVariants as object
+use Rattle.gix_object.specs.CommitItems.{commit_items}
 use Rattle.gix_object.specs.declared.find.existing_iter.Error.TheVariants as existing
 use Rattle.gix_object.specs.Object.{Objects}
 use Rattle.gix_commitgraph.specs.Rows.{GraphRow}
@@ -25,7 +28,7 @@ use Rattle.gix_revwalk.specs.declared.Pending.{Pending}
 use Rattle.gix_simple.specs.Walk.{SimpleWalk, time_order, cutoff, is_older, time_if, Next}
 use Rattle.gix_revwalk.specs.Infos.{IsInfo, IsRowGeneration}
 use Rattle.gix_revwalk.specs.Ids.{ids_of, AreDistinct, new_ids}
-use Rattle.gix_revwalk.specs.Texts.{text_parents}
+use Rattle.gix_revwalk.specs.Texts.{scanned, text_next, text_parents}
 use Rattle.gix_revwalk.specs.Asking.{AnswersBy}
 
 -- a walk as it is before its first step
@@ -49,9 +52,13 @@ IsNoRefusal answer =
 abbrev pub is_kept : Objects → (ObjectId → Bool) → (ObjectId → Bool) → Option ℤ → ObjectId → Bool
 is_kept objects accepts hidden limit i = (accepts i && not (hidden i)) && not (is_older (time_of objects i) limit)
 
+-- of the parents that a commit names, those that are walked, and kept
+abbrev pub kept_of : Objects → (ObjectId → List ObjectId) → Parents → (ObjectId → Bool) → (ObjectId → Bool) → Option ℤ → ObjectId → List ObjectId
+kept_of objects named parents accepts hidden limit c = filter (is_kept objects accepts hidden limit) (by_mode parents (named c))
+
 -- the parents that are walked, and kept
 abbrev pub kept_parents : Objects → Parents → (ObjectId → Bool) → (ObjectId → Bool) → Option ℤ → ObjectId → List ObjectId
-kept_parents objects parents accepts hidden limit c = filter (is_kept objects accepts hidden limit) (walked_parents objects parents c)
+kept_parents objects = kept_of objects (parents_of objects)
 
 -- what a walk names next
 abbrev pub next_of : {F P : Type 0} → (F → Objects) → SimpleWalk F P → (ObjectId → Bool) → (ObjectId → Bool) → ObjectId → List ObjectId
@@ -61,16 +68,26 @@ next_of objects walk accepts hidden = kept_parents (objects walk.store) walk.par
 abbrev pub starts_of : {F P : Type 0} → SimpleWalk F P → (ObjectId → Bool) → List ObjectId
 starts_of walk hidden = filter (λ i. not (hidden i)) (ids_of walk.pending)
 
--- the answer is this commit
-pub record IsCommitInfo (objects : Objects) (rows : List GraphRow) (parents : Parents) (order : Option CommitTimeOrder) (info : Info) (i : ObjectId)
-    : Type 0 where
+-- the id is stored as a commit, and no fault is in its text up to the parents that are walked
+pub record ReadsParents (objects : Objects) (parents : Parents) (i : ObjectId) : Type 0 where
+  pub bytes : List ℕ
+  pub stored : map_of.get objects i ≡ Some (record { kind = object.Commit; bytes = bytes })
+  pub unbroken : (scanned parents (commit_items (kind_of i) bytes)).1 ≡ None
+
+-- the answer is this commit, with the parents that it names
+pub record IsCommitInfo (objects : Objects) (named : ObjectId → List ObjectId) (rows : List GraphRow) (parents : Parents)
+    (order : Option CommitTimeOrder) (info : Info) (i : ObjectId) : Type 0 where
   pub generation : Option ℕ
   pub by_row : IsRowGeneration rows i generation
-  pub info_is : IsInfo info i (walked_parents objects parents i) generation (time_if order (time_of objects i))
+  pub info_is : IsInfo info i (by_mode parents (named i)) generation (time_if order (time_of objects i))
+  pub read : ReadsParents objects parents i
+
+abbrev pub IsGivenBy : Objects → (ObjectId → List ObjectId) → List GraphRow → Parents → Option CommitTimeOrder → Result Info Error → ObjectId → Type 0
+IsGivenBy objects named rows parents order (Ok info) i = IsCommitInfo objects named rows parents order info i
+IsGivenBy objects named rows parents order (Err e) i = ⊥
 
 abbrev pub IsGiven : Objects → List GraphRow → Parents → Option CommitTimeOrder → Result Info Error → ObjectId → Type 0
-IsGiven objects rows parents order (Ok info) i = IsCommitInfo objects rows parents order info i
-IsGiven objects rows parents order (Err e) i = ⊥
+IsGiven objects = IsGivenBy objects (parents_of objects)
 
 -- what came first, or what is best by time
 abbrev pub IsInOrder : Option CommitTimeOrder → (ObjectId → ℤ) → (ObjectId → List ObjectId) → List ObjectId → List ObjectId → Type 0
@@ -153,9 +170,13 @@ answers_left objects walk = length (new_ids (set.contains walk.seen) (named_in o
 abbrev pub accepted_parents : Objects → Parents → (ObjectId → Bool) → ObjectId → List ObjectId
 accepted_parents objects parents accepts c = filter accepts (walked_parents objects parents c)
 
+-- of the parents that a commit names, those that are walked, accepted, and not older than the cutoff
+abbrev pub recent_of : Objects → (ObjectId → List ObjectId) → Parents → (ObjectId → Bool) → Option ℤ → ObjectId → List ObjectId
+recent_of objects named parents accepts limit c = filter (λ i. accepts i && not (is_older (time_of objects i) limit)) (by_mode parents (named c))
+
 -- the parents that are walked, accepted, and not older than the cutoff
 abbrev pub recent_parents : Objects → Parents → (ObjectId → Bool) → Option ℤ → ObjectId → List ObjectId
-recent_parents objects parents accepts limit c = filter (λ i. accepts i && not (is_older (time_of objects i) limit)) (walked_parents objects parents c)
+recent_parents objects = recent_of objects (parents_of objects)
 
 -- the answer is this commit, read from the store
 abbrev pub IsPlain : Objects → Parents → Option CommitTimeOrder → Result Info Error → ObjectId → Type 0
@@ -192,3 +213,29 @@ pub record GivesDifference (objects : Objects) (tips hidden_tips : List ObjectId
   pub commits : (e : Error) → Contains answers (Err e) → ⊥
   pub once : AreDistinct (given_ids answers)
   pub exact : (i : ObjectId) → Contains (given_ids answers) i ↔ (Reaches (parents_of objects) tips i × (Reaches (parents_of objects) hidden_tips i → ⊥))
+
+-- a walk without hidden tips, drawn to its end, none of whose answers is a fault
+pub record IsFaultlessRun {F P : Type 0} (objects : F → Objects) (faulty : F → ObjectId → Type 0) (answers : P → ObjectId → Bool → P → Type 0)
+    (walk : SimpleWalk F P) (accepts : ObjectId → Bool) (list : List (Result Info Error)) : Type 0 where
+  pub by_test : AnswersBy answers walk.predicate accepts
+  pub fresh : IsFresh objects walk accepts
+  pub open_to : walk.hidden_tips ≡ []
+  pub agreeing : IsAgreeing (objects walk.store) walk.rows
+  pub commits : (e : Error) → Contains list (Err e) → ⊥
+  pub drawn : Drains (Next objects faulty answers) walk list
+
+-- what a walk without hidden tips names next: of the parents that texts name, also where a text breaks off behind them
+abbrev pub next_by_text : {F P : Type 0} → (F → Objects) → SimpleWalk F P → (ObjectId → Bool) → ObjectId → List ObjectId
+next_by_text objects walk accepts =
+    recent_of (objects walk.store) (text_next (objects walk.store)) walk.parents accepts (cutoff walk.parents walk.sorting)
+
+-- the answers are commits with the parents that their texts name, in order by these, each once, and exactly the ids that are reached by these
+pub record GivesTextOrder {F P : Type 0} (objects : F → Objects) (walk : SimpleWalk F P) (accepts : ObjectId → Bool)
+    (answers : List (Result Info Error)) : Type 0 where
+  pub ids : List ObjectId
+  pub given : AllZip (IsGivenBy (objects walk.store) (text_next (objects walk.store)) walk.rows walk.parents (time_order walk.parents walk.sorting))
+      answers ids
+  pub in_order : IsInOrder (time_order walk.parents walk.sorting) (time_of (objects walk.store)) (next_by_text objects walk accepts)
+      (ids_of walk.pending) ids
+  pub once : AreDistinct ids
+  pub reached : (i : ObjectId) → Contains ids i ↔ Reaches (next_by_text objects walk accepts) (ids_of walk.pending) i

@@ -22,7 +22,7 @@ use Rattle.gix_revwalk.specs.Commits.{ReadsWhole, parents_of, time_of}
 use Rattle.gix_simple.specs.Walk.{SimpleWalk, Next, IsMade, time_order, cutoff}
 use Rattle.gix_revwalk.specs.Ids.{ids_of, AreDistinct, new_ids}
 use Rattle.gix_simple.specs.Building.{IsBuilt, IsUncut}
-use Rattle.gix_simple.specs.Laws.{IsFresh, IsWholeRun, IsBegunRun, IsPlainRun, IsPlain, GivesInOrder, GivesBeginning, IsNewWalk, IsNoRefusal, GivesBreadthFirst, GivesDifference, accepted_parents, recent_parents, next_of, starts_of, named_in, answers_left, given_ids}
+use Rattle.gix_simple.specs.Laws.{IsFresh, IsWholeRun, IsBegunRun, IsPlainRun, IsPlain, GivesInOrder, GivesBeginning, IsNewWalk, IsNoRefusal, GivesBreadthFirst, GivesDifference, IsFaultlessRun, GivesTextOrder, accepted_parents, recent_parents, next_of, starts_of, named_in, answers_left, given_ids}
 use Rattle.gix_revwalk.specs.Asking.{AnswersBy}
 use Rattle.gix_simple.specs.Runs.{AsksOnce, TellsGenerations, AreAlike, AreBuiltAlike, GiveTheSame, GivesUnhidden}
 
@@ -141,6 +141,13 @@ module _ {F P : Type 0} (objects : F → Objects) (faulty : F → ObjectId → T
       (walk : SimpleWalk F P) (accepts hidden : ObjectId → Bool) (list : List (Result Info Error))
       → IsWholeRun objects faulty answers walk accepts hidden list
       → GivesInOrder objects walk accepts hidden list
+
+  -- a walk without hidden tips that is drawn to its end, none of whose answers is a fault
+  abbrev pub FaultlessRunsAreInOrder : Type 0
+  FaultlessRunsAreInOrder =
+      (walk : SimpleWalk F P) (accepts : ObjectId → Bool) (list : List (Result Info Error))
+      → IsFaultlessRun objects faulty answers walk accepts list
+      → GivesTextOrder objects walk accepts list
 
   -- no id twice, and exactly what is reached
   abbrev pub GivesEachOnce : Type 0

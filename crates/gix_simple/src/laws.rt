@@ -1,6 +1,6 @@
 //! Laws of `commit::Simple`, and of the commits that walks give.
 
-ghost use Rattle.gix_simple.specs.Statements.{MakesNewWalks, BuildsFreshWalks, NewWalksGiveBreadthFirst, PlainRunsAreInBreadthOrder, PlainRunsAreInTimeOrder, RunsAreInOrder, GivesEachOnce, RunsBeginInOrder, BeginsOnce, RunsGiveTheDifference, FaultlessRunsGiveTheDifference, info_cmp, BuildsAlike, HidesWhatIsReached, HidesNoLater, RowsLeaveTheIds, TellsTheGenerations, TimesFall, GivesNeverTwice, AsksNeverTwice, Ends, ReachIsDecided, SomeBreadthOrder, SomeTimeOrder, OneBreadthOrder, OneBreadthBeginning, OneTimeOrder, OneTimeBeginning};
+ghost use Rattle.gix_simple.specs.Statements.{MakesNewWalks, BuildsFreshWalks, NewWalksGiveBreadthFirst, PlainRunsAreInBreadthOrder, PlainRunsAreInTimeOrder, RunsAreInOrder, GivesEachOnce, RunsBeginInOrder, BeginsOnce, RunsGiveTheDifference, FaultlessRunsGiveTheDifference, FaultlessRunsAreInOrder, info_cmp, BuildsAlike, HidesWhatIsReached, HidesNoLater, RowsLeaveTheIds, TellsTheGenerations, TimesFall, GivesNeverTwice, AsksNeverTwice, Ends, ReachIsDecided, SomeBreadthOrder, SomeTimeOrder, OneBreadthOrder, OneBreadthBeginning, OneTimeOrder, OneTimeBeginning};
 ghost use Rattle.std.specs.Prelude.{◌≡◌};
 ghost use Rattle.gix_revwalk.specs.declared.Info.{Info as InfoRecord};
 
@@ -46,6 +46,15 @@ pub fn time_order<F: Find, P: Predicate>()
 /// has both, and the predicate's answer depends on the id alone.
 pub fn in_order<F: Find, P: Predicate>()
     ensures { RunsAreInOrder F.objects F.faulty P.answers }
+{}
+
+/// Any fresh walk without hidden tips, over rows that agree or none, that is drawn to its end, and none of whose answers is a fault,
+/// where the predicate's answer depends on the id alone. It gives the commits in the order in force, with the parents that their texts
+/// name, each once, and exactly those that its tips reach by these parents, where parents are left out that are refused or older than
+/// the cutoff. Nothing more is asked of the store, of memory or of the history: a text may break off behind its parents, and its time
+/// is then 0.
+pub fn faultless<F: Find, P: Predicate>()
+    ensures { FaultlessRunsAreInOrder F.objects F.faulty P.answers }
 {}
 
 /// A walk that gives its commits in order, as `in_order` says, gives no id twice, and exactly the ids that its tips reach through

@@ -1,5 +1,3 @@
--- Over a finite history, tests that compute decide which commits are ready.
-pub mod Decided
 -- Date order and topological order, one of them a refused list; the walk set; the boundary of hidden tips.
 pub mod TopologicalOrders
 -- The order by time, newest first and oldest first.

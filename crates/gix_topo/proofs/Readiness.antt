@@ -6,3 +6,5 @@ pub mod RisingTime
 pub mod IsReady
 -- Ready commits by their ids: those that are held, chosen, and joined.
 pub mod ReadyIds
+-- Over a finite history tests decide which commits are ready, and those made ready are computed.
+pub mod Decided

@@ -6,6 +6,8 @@ pub mod OneList
 pub mod SameOrder
 -- What a list in either order has, whatever says the parents.
 pub mod EachOnce
+-- Each order has a list.
+pub mod SomeList
 -- A whole walk takes what the definitions say, in their order: by the texts, and, over a sound history, by the store.
 pub mod Theorem
 -- Every walk ends, asks about each commit once, and gives nothing after a fault.

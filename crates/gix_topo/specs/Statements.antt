@@ -14,12 +14,30 @@ use Rattle.gix_hash.specs.Reach.{Reaches}
 use Rattle.gix_revwalk.specs.Agreeing.{IsAgreeing}
 use Rattle.gix_revwalk.specs.Commits.{ReadsWhole, parents_of}
 use Rattle.gix_revwalk.specs.Ids.{AreDistinct}
+use Rattle.gix_revwalk.specs.Texts.{text_next}
 use Rattle.gix_topo.specs.WalkSet.{IsInWalk, IsAcyclicIn, IsChild}
 use Rattle.gix_topo.specs.DateOrder.{IsDateOrder, IsDateBeginning}
 use Rattle.gix_topo.specs.TopoOrder.{IsTopoOrder, IsTopoBeginning}
 use Rattle.gix_topo.specs.Walk.{TopoPlan, TopoWalk, walked_of, row_generation, IsMember, IsStarted, IsSound, IsLeft, IsFault, IsLate, IsCounting, IsKnown, Next, text_walked, IsTextMember}
 use Rattle.gix_topo.specs.Laws.{IsTakenInOrder, IsTakenFirst, IsWholeRun, IsGiven, GivesInOrder, BeginsInOrder, GivesDifference, IsNoRefusal, answers_left, given_ids, IsTakenByText, GivesTextOrder, BeginsTextOrder, GivesTextDifference}
 use Rattle.gix_revwalk.specs.Asking.{AnswersBy, AsksAll}
+
+-- There is a list of members of a walk in topological order, where each id names next some of the parents that its commit's text names in
+-- a store. Members may be their own ancestors: the list holds what can become ready.
+abbrev pub SomeTopoOrder : Type 0
+SomeTopoOrder =
+    (time : ObjectId → ℤ) (objects : Objects) (walked all : ObjectId → List ObjectId) (tips ends : List ObjectId)
+    → ((c i : ObjectId) → Contains (walked c) i → Contains (text_next objects c) i)
+    → ((c i : ObjectId) → Contains (all c) i → Contains (text_next objects c) i)
+    → (ids : List ObjectId) × IsTopoOrder time walked (IsInWalk walked all tips ends) tips ids
+
+-- and one in date order
+abbrev pub SomeDateOrder : Type 0
+SomeDateOrder =
+    (time : ObjectId → ℤ) (objects : Objects) (walked all : ObjectId → List ObjectId) (tips ends : List ObjectId)
+    → ((c i : ObjectId) → Contains (walked c) i → Contains (text_next objects c) i)
+    → ((c i : ObjectId) → Contains (all c) i → Contains (text_next objects c) i)
+    → (ids : List ObjectId) × IsDateOrder time walked (IsInWalk walked all tips ends) ids
 
 -- there is at most one list of the members of a walk in topological order
 abbrev pub TopoOrderIsOne : Type 0

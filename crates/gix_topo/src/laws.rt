@@ -5,7 +5,7 @@
 //! parents of what tips reach read whole. A law that names no premise holds for every store, all rows and every predicate, and over
 //! cycles.
 
-ghost use Rattle.gix_topo.specs.Statements.{RunsAreInOrder, RunsBeginInOrder, BeginsEachOnce, TopoOrderIsOne, DateOrderIsOne, TopoBeginningIsOne, DateBeginningIsOne, TakesEachOnce, RunsGiveTheDifference, TakesChildrenFirst, RowsLeaveTheIds, RowsLeaveTheSet, Ends, AsksNeverTwice, GivesNeverTwice, FailsForItsReason, StaysEnded, ParentsAreKnown, TellsTheGenerations, CountsDownToTheDepth, FaultlessRunsAreInOrder, FaultlessRunsBeginInOrder, TakesEachByText, FaultlessRunsGiveTheDifference};
+ghost use Rattle.gix_topo.specs.Statements.{RunsAreInOrder, RunsBeginInOrder, BeginsEachOnce, SomeTopoOrder, SomeDateOrder, TopoOrderIsOne, DateOrderIsOne, TopoBeginningIsOne, DateBeginningIsOne, TakesEachOnce, RunsGiveTheDifference, TakesChildrenFirst, RowsLeaveTheIds, RowsLeaveTheSet, Ends, AsksNeverTwice, GivesNeverTwice, FailsForItsReason, StaysEnded, ParentsAreKnown, TellsTheGenerations, CountsDownToTheDepth, FaultlessRunsAreInOrder, FaultlessRunsBeginInOrder, TakesEachByText, FaultlessRunsGiveTheDifference};
 
 use gix_object::find::Find;
 use gix_revwalk::Predicate;
@@ -27,6 +27,17 @@ pub fn begins_in_order<F: Find, P: Predicate>()
 /// its children in that set.
 pub fn begins_once<F: Find>()
     ensures { BeginsEachOnce F.objects }
+{}
+
+/// There is a list in topological order, whatever the tips and ends are, where each id names next some of the parents that the text of
+/// its commit names in a store. The history may have cycles: such a list holds what can become ready.
+pub fn some_topo_order()
+    ensures { SomeTopoOrder }
+{}
+
+/// There is then a list in date order, too.
+pub fn some_date_order()
+    ensures { SomeDateOrder }
 {}
 
 /// Over any parents, tips and ends, two lists in topological order are equal.

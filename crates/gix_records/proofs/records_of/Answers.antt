@@ -1,65 +1,33 @@
-use Rattle.std.proofs.Common.{◌≡◌, sym, ◌∙◌, ap, refl, arith, length, List, ℕ, [], ◌∷◌}
-use Rattle.std.proofs.lemmas.Bool.{eqb-true, eqb-false}
+use Rattle.std.proofs.Common.{◌≡◌, sym, subst, ◌∙◌, ap, length, List, ℕ}
 use Rattle.std.proofs.lemmas.Result.{err_from_is_err_and}
-use Rattle.gix_object.proofs.MemoryStore.{empty_stored, within_empty, within_put}
-use Rattle.gix_records.specs.Records.{bad, stored}
-use Rattle.gix_records.specs.RecordFront.{front_shown}
-use Rattle.gix_records.proofs.RecordFacts.{stored_none, stored_cut, stored_bad, stored_all, found_takes, bytes_fit, placed_one, only_reading, no_bad_record}
+use Rattle.gix_object.specs.MemoryStore.{objects_at, AreWithin}
+use Rattle.gix_records.specs.declared.Error.{Error}
+use Rattle.gix_records.specs.Records.{AreRecords, IsRecordFault}
 use Rattle.gix_records.proofs.records_of.Goals as goal
 
-pub loop-rest-init : goal.loop-rest-init
-loop-rest-init c =
-    let none = c.new-objects.ensures in
-    rw (c.as_slice-rest.ensures.value, none) record {
-      read = stored_none _ _ (empty_stored c.args.input.items);
-      within = within_empty _;
-      room = omega arith;
-    }
+fails_at : {bytes input : List ℕ} {e : Error} → bytes ≡ input → IsRecordFault bytes e → IsRecordFault input e
+fails_at {e = e} same f = subst (λ (bytes : List ℕ). IsRecordFault bytes e) same f
 
-pub overflow_sub-end : goal.overflow_sub-end
-overflow_sub-end c = let fit = bytes_fit _ _ _ c.loop-rest.objects (front_shown c.in-Some.front) c.loop-rest.invariant.read (sym c.in-Some.ensures) in omega (arith, fit)
+pub returns-in_err-objects-clause-fault : goal.returns-in_err-objects-clause-fault
+returns-in_err-objects-clause-fault c =
+    let p = err_from_is_err_and c.from_residual.result c.from_residual.ensures.1 in
+    rw (p.1, p.2) (fails_at c.as_slice.ensures.value c.in_err-objects.ensures.fault)
 
-pub overflow_sub-end-in-loop-rest : goal.overflow_sub-end-in-loop-rest
-overflow_sub-end-in-loop-rest c = let fit = bytes_fit _ _ _ c.loop-rest.objects (front_shown c.in-Some.front) c.loop-rest.invariant.read (sym c.in-Some.ensures) in omega (arith, fit)
+pub returns-in_err-objects-clause-only : goal.returns-in_err-objects-clause-only
+returns-in_err-objects-clause-only c =
+    let p = err_from_is_err_and c.from_residual.result c.from_residual.ensures.1 in
+    λ records are. rw (p.1, p.2) (c.in_err-objects.ensures.only records (subst (AreRecords records) (sym c.as_slice.ensures.value) are))
 
-pub overflow_sub-start : goal.overflow_sub-start
-overflow_sub-start c = let fit = bytes_fit _ _ _ c.loop-rest.objects (front_shown c.in-Some.front) c.loop-rest.invariant.read (sym c.in-Some.ensures) in omega (arith, fit)
-
-pub returns-in_default-clause-fault : goal.returns-in_default-clause-fault
-returns-in_default-clause-fault c =
-    bad (stored_bad _ _ _ _ c.loop-rest.invariant.read (λ e. eqb-false _ _ (sym c.is_empty.ensures ∙ c.loop-rest-test.true) (ap length e)) (sym c.in_default.ensures))
-
-pub returns-in_err-insert-clause-fault : goal.returns-in_err-insert-clause-fault
-returns-in_err-insert-clause-fault c = let p = err_from_is_err_and c.from_residual.result c.from_residual.ensures.1 in rw (p.1, p.2) (stored_cut _ _ _ _ c.loop-rest.invariant.read (front_shown c.in-Some.front) (sym c.in-Some.ensures))
-
-pub loop-rest-smaller : goal.loop-rest-smaller
-loop-rest-smaller c = found_takes _ (front_shown c.in-Some.front) (sym c.in-Some.ensures)
-
-pub loop-rest-preserved : goal.loop-rest-preserved
-loop-rest-preserved c =
-    let front = front_shown c.in-Some.front in
-    let found = sym c.in-Some.ensures in
-    let fit = bytes_fit _ _ _ c.loop-rest.objects front c.loop-rest.invariant.read found in
-    record {
-      read = rw c.in_ok-insert.ensures.ok (placed_one _ _ _ c.loop-rest.objects front c.loop-rest.invariant.read found _ _ (omega (arith, fit)) (omega (arith, fit)));
-      within = rw c.in_ok-insert.ensures.ok (within_put c.loop-rest.objects _ c.loop-rest.invariant.within _ _ (omega (arith, fit)) (omega (arith, fit)));
-      room = omega (arith, c.loop-rest.invariant.room, found_takes c.loop-rest.rest.now front found);
-    }
-
-pub returns-in_default-clause-only : goal.returns-in_default-clause-only
-returns-in_default-clause-only c =
-    λ records are. absurd (no_bad_record _ records _ (stored_bad _ _ _ _ c.loop-rest.invariant.read (λ e. eqb-false _ _ (sym c.is_empty.ensures ∙ c.loop-rest-test.true) (ap length e)) (sym c.in_default.ensures)) are)
-
-is_nil : (rest : List ℕ) → length rest ≡ 0 → rest ≡ []
-is_nil [] e = refl
-is_nil (b ∷ rest) e = absurd (omega arith)
+pub over-requires : goal.over-requires
+over-requires c = subst (λ (bytes : List ℕ). AreWithin c.in_ok-objects.objects (length bytes)) c.as_slice.ensures.value c.in_ok-objects.ensures.within
 
 pub returns-clause-read : goal.returns-clause-read
 returns-clause-read c =
-    let read = stored_all _ _ _ _ c.loop-rest.invariant.read (is_nil _ (eqb-true _ _ (sym c.is_empty.ensures ∙ c.loop-rest-test.false))) in
-    (read.0, read.1, c.over.ensures ∙ read.2)
+    let same = c.as_slice.ensures.value in
+    let read = c.in_ok-objects.ensures.read in
+    (read.0, subst (AreRecords read.0) same read.1, c.over.ensures ∙ ap (λ (bytes : List ℕ). objects_at bytes c.in_ok-objects.objects) (sym same) ∙ read.2)
 
 pub returns-clause-only : goal.returns-clause-only
 returns-clause-only c =
-    let read = stored_all _ _ _ _ c.loop-rest.invariant.read (is_nil _ (eqb-true _ _ (sym c.is_empty.ensures ∙ c.loop-rest-test.false))) in
-    λ records are. c.over.ensures ∙ read.2 ∙ ap stored (only_reading read.0 records _ read.1 are)
+    let same = c.as_slice.ensures.value in
+    λ records are. c.over.ensures ∙ ap (λ (bytes : List ℕ). objects_at bytes c.in_ok-objects.objects) (sym same) ∙ c.in_ok-objects.ensures.only records (subst (AreRecords records) (sym same) are)

@@ -47,7 +47,9 @@ pub mod queue {
 }
 
 pub mod records {
-    pub use gix_parts::records::{Error, READS, read, records_of};
+    pub use gix_parts::records::{
+        Error, LentStore, READS, read, read_to_end, records_in, records_of,
+    };
 }
 
 pub mod laws_of_parts {
@@ -91,10 +93,10 @@ pub mod visit {
 pub mod laws_of_simple {
     pub use gix_traverse::laws::simple::{
         are_alike, asks_once, begins_in_order, begins_once, breadth_order, difference, each_once,
-        ends, faultless_difference, gives_breadth_first, hides, hides_no_later, in_order,
-        infos_are_ordered, is_built, is_made, never_twice, one_breadth_beginning,
-        one_breadth_order, one_time_beginning, one_time_order, reach_is_decided, rows_agree, tells,
-        time_order, times_fall,
+        ends, faultless, faultless_difference, gives_breadth_first, hides, hides_no_later,
+        in_order, infos_are_ordered, is_built, is_made, never_twice, one_breadth_beginning,
+        one_breadth_order, one_time_beginning, one_time_order, reach_is_decided, rows_agree,
+        some_breadth_order, some_time_order, tells, time_order, times_fall,
     };
 }
 
@@ -103,7 +105,8 @@ pub mod laws_of_topo {
         asks_once, begins_in_order, begins_once, children_first, counts, difference, each_once,
         ends, fails_once, faultless, faultless_begins, faultless_difference, faultless_once,
         in_order, never_twice, one_date_beginning, one_date_order, one_topo_beginning,
-        one_topo_order, parents_known, rows_agree, rows_agree_on_ids, stays_ended, tells,
+        one_topo_order, parents_known, rows_agree, rows_agree_on_ids, some_date_order,
+        some_topo_order, stays_ended, tells,
     };
 }
 

@@ -12,7 +12,7 @@ use Rattle.gix_revwalk.specs.declared.CommitTimeOrder.TheVariants.{NewestFirst, 
 use Rattle.gix_revwalk.specs.BreadthOrder.{named_by}
 use Rattle.gix_revwalk.specs.TimeOrder.{IsNoWorse, IsPending, IsBest, IsTimeOrder}
 use Rattle.gix_revwalk.specs.Examples.{ids, history, sample_in}
-use Rattle.gix_topo.proofs.Examples.Decided.{all_of, all_is}
+use Rattle.gix_topo.proofs.Readiness.Decided.{all_of, all_is}
 use Rattle.gix_topo.proofs.Examples.TopologicalOrders.{sample_seconds}
 use Rattle.gix_topo.proofs.Run.ReadyInTurn.{TurnsFrom, turn_none, turn_more}
 

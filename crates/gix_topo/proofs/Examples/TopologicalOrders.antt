@@ -1,5 +1,5 @@
 -- Worked examples: over a finite history, lists in the orders of topological walks are found by computing.
-use Rattle.std.specs.Prelude.{◌≡◌, ◌≤◌, ℕ, suc, ℤ, pos, List, [], ◌∷◌, ◌++◌, Bool, true, false, not, ◌&&◌, ◌||◌, cond, filter, reverse, take, Option, Some, None, Contains, MatchOption}
+use Rattle.std.specs.Prelude.{◌≡◌, ◌≤◌, ℕ, suc, ℤ, pos, List, [], ◌∷◌, ◌++◌, Bool, true, false, not, ◌&&◌, ◌||◌, cond, reverse, take, Option, Some, None, Contains, MatchOption}
 use Rattle.std.proofs.Common.{refl, sym, ap, subst, inr, ⊎_elim, ◌∙◌, arith}
 use Rattle.std.proofs.Math.Dec.{leb}
 use Rattle.std.proofs.lemmas.Int.{ints}
@@ -11,13 +11,12 @@ use Rattle.gix_revwalk.specs.TimeOrder.{IsBest}
 use Rattle.gix_revwalk.specs.declared.CommitTimeOrder.TheVariants.{NewestFirst}
 use Rattle.gix_topo.specs.DateOrder.{IsDateOrder}
 use Rattle.gix_hash.specs.Reach.{Reaches, start, step, IsAcyclic, IsAtBoundary}
-use Rattle.gix_topo.specs.WalkSet.{IsInWalk, IsAcyclicIn, IsChildless, IsReady}
-use Rattle.gix_topo.specs.TopoOrder.{Keeps, first_places, last_places, by_time, IsMadeReady, IsTopoOrder}
+use Rattle.gix_topo.specs.WalkSet.{IsInWalk, IsAcyclicIn, IsReady}
+use Rattle.gix_topo.specs.TopoOrder.{IsMadeReady, IsTopoOrder}
 use Rattle.gix_revwalk.specs.Examples.{n, ids, history, sample_in}
-use Rattle.gix_hash.proofs.Ids.Membership.{same_is, among_from, among_is, Contains-cons_cases, no_member}
+use Rattle.gix_hash.proofs.Ids.Membership.{same_is, among_is, Contains-cons_cases, no_member}
 use Rattle.gix_revwalk.proofs.Orders.{reached_by_named}
-use Rattle.gix_topo.proofs.Readiness.IsReady.{keeps_alike, ready_alike}
-use Rattle.gix_topo.proofs.Examples.Decided.{all_of, all_is, given, is_ready as is_ready_of, ready_is as ready_of, is_ready_by as of_ready, keeps as keeps_of}
+use Rattle.gix_topo.proofs.Readiness.Decided.{all_of, all_is, given, is_ready as is_ready_of, ready_is as ready_of, is_ready_by as of_ready, made as made_by, made_is as made_is_by}
 use Rattle.gix_topo.proofs.Run.ReadyInTurn.{TurnsFrom, turn_none, turn_more, IsLastMade}
 use Rattle.gix_topo.proofs.Run.OneList.{same_topo}
 
@@ -65,22 +64,13 @@ module _ (walked : ObjectId → List ObjectId) (tips ends keys reached hidden : 
       and_from _ _ (reach_in walked tips reached tip.0 i m.reached) (not_from_false _ (false_from_ne_true _ (λ h. m.outside (led_reach walked ends hidden [] end.1 (λ c k. absurd (no_member c k)) i (among_is i hidden h)))))
 
   abbrev is_ready : List ObjectId → ObjectId → Bool
-  is_ready taken i = is_ready_of walked Member keys is_member (λ d. is_among d taken) i
-
-  alike : (taken : List ObjectId) (i : ObjectId) → IsReady walked Member (λ d. is_among d taken ≡ true) i → IsReady walked Member (Contains taken) i
-  alike taken i r = ready_alike walked Member (λ d. is_among d taken ≡ true) (Contains taken) (λ j e. among_is j taken e) (λ j c. among_from j taken c) i r
-
-  unlike : (taken : List ObjectId) (i : ObjectId) → IsReady walked Member (Contains taken) i → IsReady walked Member (λ d. is_among d taken ≡ true) i
-  unlike taken i r = ready_alike walked Member (Contains taken) (λ d. is_among d taken ≡ true) (λ j c. among_from j taken c) (λ j e. among_is j taken e) i r
+  is_ready = is_ready_of walked Member keys is_member
 
   ready_is : (taken : List ObjectId) (i : ObjectId) → is_ready taken i ≡ true → IsReady walked Member (Contains taken) i
-  ready_is taken i e = alike taken i (ready_of walked Member keys is_member finite member_is is_member_by (λ d. is_among d taken) i e)
+  ready_is = ready_of walked Member keys is_member (λ c i k. finite c i k.named) member_is is_member_by
 
   is_ready_by : (taken : List ObjectId) (i : ObjectId) → IsReady walked Member (Contains taken) i → is_ready taken i ≡ true
-  is_ready_by taken i r = of_ready walked Member keys is_member finite member_is is_member_by (λ d. is_among d taken) i (unlike taken i r)
-
-  keeps : (taken xs : List ObjectId) → Keeps (IsReady walked Member (Contains taken)) xs (filter (is_ready taken) xs)
-  keeps taken xs = keeps_alike (IsReady walked Member (λ d. is_among d taken ≡ true)) (IsReady walked Member (Contains taken)) (alike taken) (unlike taken) (keeps_of walked Member keys is_member finite member_is is_member_by (λ d. is_among d taken) xs)
+  is_ready_by = of_ready walked Member keys is_member (λ c i k. finite c i k.named) member_is is_member_by
 
   -- the next one is ready, and no member that is ready has a greater time
   module _ (seconds : ObjectId → ℕ) where
@@ -118,18 +108,11 @@ module _ (walked : ObjectId → List ObjectId) (tips ends keys reached hidden : 
     date_by ids e = date_from ids [] e
 
   module _ (time : ObjectId → ℤ) where
-    -- those made ready by the time when these were taken (the latest first)
     abbrev made : List ObjectId → List ObjectId
-    made [] = by_time time (filter (is_ready []) (first_places tips))
-    made (c ∷ taken) = made taken ++ filter (is_ready (c ∷ taken)) (last_places (walked c))
+    made = made_by walked Member keys is_member time tips
 
     made_is : (taken : List ObjectId) → IsMadeReady time walked Member tips taken (made taken)
-    made_is [] = (
-      filter (is_ready []) (first_places tips),
-      keeps_alike (IsReady walked Member (Contains [])) (IsChildless walked Member) (λ i r. record { member = r.member; alone = λ d c. no_member d (r.children d c) }) (λ i r. record { member = r.member; left = λ c. no_member i c; children = λ d c. absurd (r.alone d c) }) (keeps [] (first_places tips)),
-      refl,
-    )
-    made_is (c ∷ taken) = (made taken, filter (is_ready (c ∷ taken)) (last_places (walked c)), made_is taken, keeps (c ∷ taken) (last_places (walked c)), refl)
+    made_is = made_is_by walked Member keys is_member (λ c i k. finite c i k.named) member_is is_member_by time tips
 
     abbrev is_this : Option ObjectId → Option ObjectId → Bool
     is_this None None = true

@@ -2,7 +2,6 @@
 use Rattle.std.specs.Prelude.{◌≡◌, ◌++◌, ℕ, List, [], ◌∷◌, true, take, slice_get, ℤ, Option, Some, None, Contains}
 use Rattle.std.proofs.Common.{refl, sym, subst, ⊎_elim, ◌∙◌}
 use Rattle.std.specs.List.{flat_map}
-use Rattle.std.proofs.lemmas.Bool.{or_right, or_left}
 use Rattle.std.proofs.lemmas.List.Elements.{Contains-append_left, Contains-append_right}
 use Rattle.std.specs.FinMap as map_of
 use Rattle.gix_hash.specs.declared.ObjectId.{ObjectId}
@@ -17,7 +16,7 @@ use Rattle.gix_revwalk.specs.Ids.{AreDistinct}
 use Rattle.gix_revwalk.specs.Texts.{text_parents, next_in, text_next}
 use Rattle.gix_topo.specs.WalkSet.{IsInWalk, IsAcyclicIn}
 use Rattle.gix_topo.specs.Laws.{IsSorted}
-use Rattle.gix_hash.proofs.Ids.Membership.{among-append, among_from, Contains-cons_cases, no_member}
+use Rattle.gix_hash.proofs.Ids.Membership.{among_from, Contains-cons_cases, no_member}
 use Rattle.gix_revwalk.proofs.ReadsWhole.{walked_within}
 use Rattle.gix_revwalk.proofs.Rows.{found_entry}
 use Rattle.gix_topo.proofs.Readiness.IsReady.{in_walk_top}
@@ -28,7 +27,7 @@ in_all : {X : Type 0} (f : X → List ObjectId) (es : List X) (e : X) (i : Objec
 in_all f [] e i h n = absurd (no_member e h)
 in_all f (x ∷ es) e i h n = ⊎_elim (λ s. Contains-append_left (f x) (flat_map f es) i (subst (λ y. Contains (f y) i) (sym s) n)) (λ t. Contains-append_right (f x) (flat_map f es) i (in_all f es e i t n)) (Contains-cons_cases e x es h)
 
-abbrev named_all : Objects → List ObjectId
+abbrev pub named_all : Objects → List ObjectId
 named_all objects = flat_map (λ entry. text_parents entry.0 entry.1) (map_of.entries objects)
 
 texts_named : (objects : Objects) (c i : ObjectId) → Contains (text_next objects c) i → Contains (named_all objects) i
@@ -38,6 +37,11 @@ texts_named objects c i n = go (map_of.get objects c) refl
     go None e = absurd (no_member i (subst (λ o. Contains (next_in c o) i) e n))
     go (Some object) e = in_all (λ entry. text_parents entry.0 entry.1) (map_of.entries objects) (c, object) i (found_entry (map_of.entries objects) c object (sym (map_of.get-entries objects c) ∙ e)) (subst (λ o. Contains (next_in c o) i) e n)
 
+-- what starts reach is among the starts and what texts name
+pub reached_known : (objects : Objects) (next : ObjectId → List ObjectId) (starts : List ObjectId) → ((c i : ObjectId) → Contains (next c) i → Contains (text_next objects c) i) → (i : ObjectId) → Reaches next starts i → Contains (starts ++ named_all objects) i
+reached_known objects next starts named i (start s) = Contains-append_left starts (named_all objects) i s
+reached_known objects next starts named i (step {c = c} r n) = Contains-append_right starts (named_all objects) i (texts_named objects c i (named c i n))
+
 module _ (objects : Objects) (next : ObjectId → List ObjectId) (named : (c i : ObjectId) → Contains (next c) i → Contains (text_next objects c) i) (m : Parents) (time : ObjectId → ℤ) (tips ends ids : List ObjectId) where
   abbrev walked : ObjectId → List ObjectId
   walked i = by_mode m (next i)
@@ -46,8 +50,7 @@ module _ (objects : Objects) (next : ObjectId → List ObjectId) (named : (c i :
   In = IsInWalk walked next tips ends
 
   reached_named : (i : ObjectId) → Reaches walked tips i → is_among i (tips ++ named_all objects) ≡ true
-  reached_named i (start s) = among-append i tips (named_all objects) ∙ or_left _ _ (among_from i tips s)
-  reached_named i (step {c = c} r n) = among-append i tips (named_all objects) ∙ or_right (is_among i tips) _ (among_from i (named_all objects) (texts_named objects c i (named c i (walked_within m (next c) i n))))
+  reached_named i r = among_from i (tips ++ named_all objects) (reached_known objects walked tips (λ c j n. named c j (walked_within m (next c) j n)) i r)
 
   pub turns_by : (s : Sorting) → IsSorted s time walked In tips ids → TurnsFrom (IsReadyNext walked In) [] ids
   turns_by order.DateOrder h = date_turns time walked In ids h

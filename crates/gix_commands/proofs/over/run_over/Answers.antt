@@ -1,5 +1,6 @@
 use Rattle.std.proofs.Common.{Err, ◌∙◌, ap}
 use Rattle.std.proofs.lemmas.Result.{err_from_is_err_and}
+use Rattle.gix_records.proofs.ReadingFacts.{read_from, fails_from, fails_to_read}
 use Rattle.gix_commands.proofs.RunFacts.{no_rejection}
 use Rattle.gix_commands.proofs.OverGraphs.{over_sound, over_spelled, over_words, over_unopened, over_input, over_disagreement, over_served}
 use Rattle.gix_commands.proofs.over.run_over.Goals as goal
@@ -26,10 +27,24 @@ returns-in_err-graph-clause-sound g c = over_sound (returns-in_err-graph-clause-
 pub returns-in_err-graph-clause-spelled : goal.returns-in_err-graph-clause-spelled
 returns-in_err-graph-clause-spelled g c = over_spelled (returns-in_err-graph-clause-runs g c)
 
+pub returns-in_err-input-clause-runs : goal.returns-in_err-input-clause-runs
+returns-in_err-input-clause-runs g c =
+    let p = err_from_is_err_and c.from_residual-in_err-input.result c.from_residual-in_err-input.ensures.1 in
+    over_input _ _ _ _ _ c.in_ok-command.ensures _ c.in_ok-graph.ensures.ok _ _ _ p.1 p.2 (fails_to_read _ _ c.in_err-input.ensures.fault)
+
+pub returns-in_err-input-clause-sound : goal.returns-in_err-input-clause-sound
+returns-in_err-input-clause-sound g c = over_sound (returns-in_err-input-clause-runs g c)
+
+pub returns-in_err-input-clause-spelled : goal.returns-in_err-input-clause-spelled
+returns-in_err-input-clause-spelled g c = over_spelled (returns-in_err-input-clause-runs g c)
+
+pub returns-in_err-input-clause-unread : goal.returns-in_err-input-clause-unread
+returns-in_err-input-clause-unread g c = no_rejection c.in_ok-command.ensures
+
 pub returns-in_err-store-clause-runs : goal.returns-in_err-store-clause-runs
 returns-in_err-store-clause-runs g c =
     let p = err_from_is_err_and c.from_residual-in_err-store.result c.from_residual-in_err-store.ensures.1 in
-    over_input _ _ _ _ _ c.in_ok-command.ensures _ c.in_ok-graph.ensures.ok _ _ _ p.1 p.2 c.in_err-store.ensures.fault
+    over_input _ _ _ _ _ c.in_ok-command.ensures _ c.in_ok-graph.ensures.ok _ _ _ p.1 p.2 (fails_from _ _ _ _ c.in_ok-input.ensures.whole c.as_slice.ensures.value c.in_err-store.ensures.fault)
 
 pub returns-in_err-store-clause-sound : goal.returns-in_err-store-clause-sound
 returns-in_err-store-clause-sound g c = over_sound (returns-in_err-store-clause-runs g c)
@@ -43,7 +58,7 @@ returns-in_err-store-clause-unread g c = no_rejection c.in_ok-command.ensures
 pub returns-in_err-check_stored-clause-runs : goal.returns-in_err-check_stored-clause-runs
 returns-in_err-check_stored-clause-runs g c =
     let p = err_from_is_err_and c.from_residual-in_err-check_stored.result c.from_residual-in_err-check_stored.ensures.1 in
-    over_disagreement _ _ _ _ _ c.in_ok-command.ensures _ c.in_ok-graph.ensures.ok _ c.in_ok-store.ensures.read _ _ _ p.1 p.2 c.in_err-check_stored.ensures.disagrees
+    over_disagreement _ _ _ _ _ c.in_ok-command.ensures _ c.in_ok-graph.ensures.ok _ (read_from _ _ _ _ c.in_ok-input.ensures.whole c.as_slice.ensures.value c.in_ok-store.ensures.read) _ _ _ p.1 p.2 c.in_err-check_stored.ensures.disagrees
 
 pub returns-in_err-check_stored-clause-sound : goal.returns-in_err-check_stored-clause-sound
 returns-in_err-check_stored-clause-sound g c = over_sound (returns-in_err-check_stored-clause-runs g c)
@@ -56,7 +71,7 @@ returns-in_err-check_stored-clause-unread g c = no_rejection c.in_ok-command.ens
 
 pub returns-clause-runs : goal.returns-clause-runs
 returns-clause-runs g c =
-    over_served _ _ _ _ _ c.in_ok-command.ensures _ c.in_ok-graph.ensures.ok _ c.in_ok-store.ensures.read _ _ c.in_ok-check_stored.ensures.agrees c.serve.ensures
+    over_served _ _ _ _ _ c.in_ok-command.ensures _ c.in_ok-graph.ensures.ok _ (read_from _ _ _ _ c.in_ok-input.ensures.whole c.as_slice.ensures.value c.in_ok-store.ensures.read) _ _ c.in_ok-check_stored.ensures.agrees c.serve.ensures
 
 pub returns-clause-sound : goal.returns-clause-sound
 returns-clause-sound g c = over_sound (returns-clause-runs g c)

@@ -1,0 +1,95 @@
+-- Which faults walks may have, and commands that are served.
+use Rattle.std.specs.Prelude.{ℕ, List, Option, Result, Ok, Err}
+use Rattle.std.proofs.Common.{sym, subst}
+use Rattle.gix_commitgraph.specs.Rows.{GraphRow}
+use Rattle.gix_object.specs.declared.find.existing_iter.Error.{Error as ExistingError}
+use Rattle.gix_object.specs.declared.find.existing_iter.Error.TheVariants as existing
+use Rattle.gix_object.specs.Object.{Objects}
+use Rattle.gix_paint.specs.declared.Hidden.TheVariants as hidden_by
+use Rattle.gix_revwalk.specs.declared.Info.{Info}
+use Rattle.gix_simple.specs.declared.Error.{Error}
+use Rattle.gix_simple.specs.declared.Error.TheVariants as error
+use Rattle.gix_topo.specs.declared.Error.{Error as TopoError}
+use Rattle.gix_topo.specs.declared.Error.TheVariants as topo_error
+use Rattle.gix_tree.specs.declared.breadthfirst.Error.{Error as TreeError}
+use Rattle.gix_tree.specs.declared.breadthfirst.Error.TheVariants as tree_error
+use Rattle.gix_commands.specs.declared.fault.Fault.{Fault}
+use Rattle.gix_commands.specs.declared.fault.Fault.TheVariants as fault
+use Rattle.gix_commands.specs.Faults.{fault_of_find, fault_of_walk, fault_of_topo_walk, fault_of_tree_walk}
+use Rattle.gix_commands.specs.Run.{Serves, walked, not_walked, walked_down, not_built, listed, not_listed, counted, not_ahead, not_behind, unserved, not_written}
+use Rattle.gix_commands.specs.TopoWalked as topo
+use Rattle.gix_commands.specs.Walked.{IsWalkFault, Ends, finished, failed, cut_short}
+use Rattle.gix_commands.specs.Words.{Request}
+
+-- any but those of the words, of the input and of a commit-graph
+abbrev pub IsOfWalk : Fault → Type 0
+IsOfWalk fault.Usage = ⊥
+IsOfWalk (fault.Id n) = ⊥
+IsOfWalk (fault.Record n) = ⊥
+IsOfWalk (fault.Missing i) = Unit {0}
+IsOfWalk (fault.WrongKind i) = Unit {0}
+IsOfWalk fault.Broken = Unit {0}
+IsOfWalk (fault.Cycle i) = Unit {0}
+IsOfWalk (fault.Graph e) = ⊥
+IsOfWalk (fault.Row i) = ⊥
+IsOfWalk (fault.Disagrees i) = ⊥
+IsOfWalk fault.Memory = Unit {0}
+IsOfWalk fault.Read = ⊥
+IsOfWalk fault.Write = Unit {0}
+IsOfWalk fault.Internal = Unit {0}
+
+abbrev pub OfWalk : Result (Unit {0}) Fault → Type 0
+OfWalk (Ok done) = Unit {0}
+OfWalk (Err e) = IsOfWalk e
+
+find_of_walk : (e : ExistingError) → IsOfWalk (fault_of_find e)
+find_of_walk existing.Store = tt
+find_of_walk (existing.NotFound oid) = tt
+find_of_walk (existing.ObjectKind oid wanted actual) = tt
+find_of_walk existing.Memory = tt
+
+simple_of_walk : (e : Error) → IsOfWalk (fault_of_walk e)
+simple_of_walk (error.Find e) = find_of_walk e
+simple_of_walk (error.ObjectDecode e) = tt
+simple_of_walk (error.HiddenGraph (hidden_by.Find e)) = find_of_walk e
+simple_of_walk (error.HiddenGraph (hidden_by.ObjectDecode e)) = tt
+simple_of_walk error.Memory = tt
+
+topo_of_walk : (e : TopoError) → IsOfWalk (fault_of_topo_walk e)
+topo_of_walk topo_error.MissingIndegreeUnexpected = tt
+topo_of_walk topo_error.MissingStateUnexpected = tt
+topo_of_walk (topo_error.ObjectDecode e) = tt
+topo_of_walk (topo_error.Find e) = find_of_walk e
+topo_of_walk topo_error.Memory = tt
+
+tree_of_walk : (e : TreeError) → IsOfWalk (fault_of_tree_walk e)
+tree_of_walk (tree_error.Find e) = find_of_walk e
+tree_of_walk tree_error.Cancelled = tt
+tree_of_walk (tree_error.ObjectDecode e) = tt
+tree_of_walk (tree_error.Cycle oid) = tt
+tree_of_walk tree_error.Memory = tt
+
+ends_of_walk : {W E : Type 0} {Steps : W → Option (Result Info E) → W → Type 0} {Tells : E → Fault → Type 0} {walk : W} {infos : List Info} {answer : Result (Unit {0}) Fault}
+    → ((e : E) (f : Fault) → Tells e f → IsOfWalk f) → Ends Steps Tells walk infos answer → OfWalk answer
+ends_of_walk tells (finished new h) = tt
+ends_of_walk tells (failed e f new h is) = tells e f is
+ends_of_walk tells (cut_short info new h) = tt
+
+simple_tells : (e : Error) (f : Fault) → IsWalkFault e f → IsOfWalk f
+simple_tells e f is = subst IsOfWalk (sym is) (simple_of_walk e)
+
+topo_tells : (e : TopoError) (f : Fault) → topo.IsWalkFault e f → IsOfWalk f
+topo_tells e f is = subst IsOfWalk (sym is) (topo_of_walk e)
+
+pub serves_of_walk : {objects : Objects} {rows : List GraphRow} {old new : Option (List ℕ)} {request : Request} {answer : Result (Unit {0}) Fault} → Serves objects rows old request answer new → OfWalk answer
+serves_of_walk (walked walk infos s ends a) = ends_of_walk simple_tells ends
+serves_of_walk (not_walked why f) = simple_of_walk why
+serves_of_walk (walked_down walk infos built ends a) = ends_of_walk topo_tells ends
+serves_of_walk (not_built why h) = topo_of_walk why
+serves_of_walk (listed recorder r a) = tt
+serves_of_walk (not_listed recorder why r) = tree_of_walk why
+serves_of_walk (counted ahead behind c d a) = tt
+serves_of_walk (not_ahead f) = ends_of_walk simple_tells f.1.ends
+serves_of_walk (not_behind n a f) = ends_of_walk simple_tells f.1.ends
+serves_of_walk unserved = tt
+serves_of_walk not_written = tt

@@ -1,0 +1,54 @@
+//! A run over records that are in memory.
+
+ghost use Rattle.std.specs.Prelude.{◌≡◌, ◌≢◌, ℕ, List, map, Some, Ok, Err, string_bytes};
+ghost use Rattle.gix_records.specs.Records.{Record, AreRecords};
+ghost use Rattle.gix_commands.specs.Run.{Runs};
+ghost use Rattle.gix_commands.specs.WholeStatement.{Promises};
+ghost use Rattle.gix_commands.specs.Words.{request_of, request_of_command};
+
+use crate::fault::Fault;
+use crate::serve;
+use crate::words::{Command, read_command};
+use gix_parts::records;
+use std::alloc::Global;
+use std::io::Write;
+
+/// Runs the command that the words are, as [`run`](crate::run) does, over records that are in memory. The walk reads them where they are:
+/// only the objects that it looks up are copied, one at a time.
+///
+/// # Errors
+/// Those of [`run`](crate::run), but never `Read`.
+pub fn run_in<W: Write>(
+    alloc: Global,
+    words: &[String],
+    records: &[u8],
+    writer: &mut W,
+) -> Result<(), Fault>
+    ensures runs { Runs (map string_bytes words.now) (Some records.now) (W.contents writer.old) result (W.contents writer.new) }
+    ensures given { result ≢ Err Fault.Read }
+    // Bytes that are records are never rejected.
+    ensures spelled { (those : List Record) (n : ℕ) → AreRecords those records.now → result ≢ Err (Fault.Record n) }
+    ensures sound { result ≢ Err Fault.Internal }
+    // What was written by a run that ended well, from lists of bytes up.
+    ensures whole { Promises (map string_bytes words.now) (Some records.now) (W.contents writer.old) result (W.contents writer.new) }
+{
+    let command = read_command(alloc, words)?;
+    serve_records(alloc, command, records, writer)
+}
+
+/// Writes what a command asks for over the records that the bytes are.
+///
+/// # Errors
+/// `Record` where the bytes aren't records, the faults of a walk, `Memory` and `Write`.
+pub(crate) fn serve_records<W: Write>(
+    alloc: Global,
+    command: Command,
+    records: &[u8],
+    writer: &mut W,
+) -> Result<(), Fault>
+    ensures runs { (words : List (List ℕ)) → request_of words ≡ Ok (request_of_command command) → Runs words (Some records.now) (W.contents writer.old) result (W.contents writer.new) }
+    ensures given { result ≢ Err Fault.Read }
+{
+    let store = records::records_in(alloc, records)?;
+    serve(alloc, command, &store, None, writer)
+}

@@ -1,0 +1,76 @@
+//! A store over bytes that another has.
+ghost use Rattle.std.specs.Prelude.{◌≡◌, ◌↔◌, IsTrue, length};
+ghost use Rattle.std.specs.FinMap as map;
+ghost use Rattle.gix_object.specs.MemoryStore.{objects_at, AreWithin};
+
+use gix_hash::ObjectId;
+use gix_hash::hashtable::IdMap;
+use gix_object::Kind;
+use gix_object::find::{Error, Find};
+use gix_object::memory::Stored;
+use std::marker::Model;
+
+/// Objects whose bytes are in a borrowed slice: the store has their places alone, and copies no object until one is looked up. Each
+/// look-up succeeds unless memory runs out.
+#[derive(Drop)]
+pub struct LentStore<'a> {
+    objects: IdMap<Stored>,
+    bytes: &'a [u8],
+}
+
+impl<'a> Model for LentStore<'a> {
+    ghost use Rattle.std.specs.Prelude.{length};
+    ghost use Rattle.std.specs.FinMap as map;
+    ghost use Rattle.gix_hash.specs.Id.{id_code};
+    ghost use Rattle.gix_object.specs.Object.{Objects, object_code};
+    ghost use Rattle.gix_object.specs.MemoryStore.{objects_at, AreWithin};
+
+    ghost Value = { Objects };
+
+    ghost coded = { map.code id_code object_code };
+
+    ghost view = { λ s. objects_at s.bytes.now s.objects };
+
+    ghost invariant = { λ s. AreWithin s.objects (length s.bytes.now) };
+}
+
+impl<'a> LentStore<'a> {
+    /// A store of the objects that are at these places of a slice. Each place must be within the slice. No byte is copied.
+    pub fn over(bytes: &'a [u8], objects: IdMap<Stored>) -> LentStore<'a>
+        requires { AreWithin objects (length bytes.now) }
+        ensures { result ≡ objects_at bytes.now objects }
+    {
+        LentStore { objects, bytes }
+    }
+
+    /// How many objects there are.
+    pub fn len(&self) -> usize
+        ensures { result ≡ map.len self.now }
+    {
+        self.objects.len()
+    }
+
+    /// Whether there is no object.
+    pub fn is_empty(&self) -> bool
+        ensures { IsTrue result ↔ (map.len self.now ≡ 0) }
+    {
+        self.len() == 0
+    }
+}
+
+impl Find for LentStore<'_> {
+    ghost objects = { λ s. s };
+
+    ghost faulty = { λ _ _. ⊥ };
+
+    fn find_into(&self, id: &ObjectId, buf: &mut Vec<u8>) -> Result<Option<Kind>, Error> {
+        let Some(stored) = self.objects.get(id) else {
+            return Ok(None);
+        };
+        buf.clear();
+        match buf.extend_from_slice(&self.bytes[stored.start..stored.end]) {
+            Ok(()) => Ok(Some(stored.kind)),
+            Err(_) => Err(Error::Memory),
+        }
+    }
+}

@@ -1,0 +1,100 @@
+-- Each order has a list: over a finite history, a best ready commit is taken until none is ready.
+use Rattle.std.specs.Prelude.{◌≡◌, ◌↔◌, ◌≤◌, ℕ, ℤ, List, ◌++◌, Bool, true, not, ◌&&◌, filter, length, reverse, take, slice_get, Some, Contains}
+use Rattle.std.proofs.Common.{sym, ◌∙◌}
+use Rattle.std.proofs.lemmas.Bool.{true≢false, and_parts, and_from, not-true, not_from_false, false_from_ne_true}
+use Rattle.gix_hash.specs.declared.ObjectId.{ObjectId}
+use Rattle.gix_hash.specs.Id.{is_among}
+use Rattle.gix_hash.specs.Reach.{Reaches}
+use Rattle.gix_hash.proofs.Ids.Membership.{among_from, among_is}
+use Rattle.gix_object.specs.Object.{Objects}
+use Rattle.gix_revwalk.specs.declared.CommitTimeOrder.TheVariants.{NewestFirst}
+use Rattle.gix_revwalk.specs.BreadthOrder.{first_new}
+use Rattle.gix_revwalk.specs.Texts.{text_next}
+use Rattle.gix_topo.specs.WalkSet.{IsInWalk, IsChild, IsReady}
+use Rattle.gix_topo.specs.DateOrder.{IsDateOrder}
+use Rattle.gix_topo.specs.TopoOrder.{IsMadeReady, IsTopoOrder}
+use Rattle.gix_revwalk.proofs.Greedy.{GoesOn, steps_exist}
+use Rattle.gix_revwalk.proofs.NewIds.{among-filter}
+use Rattle.gix_revwalk.proofs.Orders.{found_passes}
+use Rattle.gix_revwalk.proofs.SomeOrder.{best, best_of, reached_list}
+use Rattle.gix_topo.proofs.Readiness.Decided.{is_ready, ready_is, is_ready_by, made, made_is, made_member}
+use Rattle.gix_topo.proofs.Run.EachOnce.{named_all, reached_known}
+use Rattle.gix_topo.proofs.Run.ReadyInTurn.{reverse_in}
+
+-- a list holds the members, and them alone
+module _ (walked : ObjectId → List ObjectId) (In : ObjectId → Type 0) (members : List ObjectId) (are : (i : ObjectId) → Contains members i ↔ In i) where
+  abbrev is_member : ObjectId → Bool
+  is_member i = is_among i members
+
+  member_is : (i : ObjectId) → is_member i ≡ true → In i
+  member_is i e = (are i).0 (among_is i members e)
+
+  is_member_by : (i : ObjectId) → In i → is_member i ≡ true
+  is_member_by i m = among_from i members ((are i).1 m)
+
+  children_known : (c i : ObjectId) → IsChild walked In c i → is_among c members ≡ true
+  children_known c i k = is_member_by c k.child
+
+  -- one member fewer is left
+  takes_one : (taken : List ObjectId) (i : ObjectId) → In i → (Contains taken i → ⊥) → GoesOn members (λ ids. Unit {0}) taken i
+  takes_one taken i m new = record { known = is_member_by i m; is_new = false_from_ne_true _ (λ e. new (among_is i taken e)); fits = tt }
+
+  abbrev ready_now : List ObjectId → List ObjectId
+  ready_now taken = filter (is_ready walked In members is_member taken) members
+
+  ready_now_is : (taken : List ObjectId) (i : ObjectId) → Contains (ready_now taken) i ↔ IsReady walked In (Contains taken) i
+  ready_now_is taken i = (
+    λ c.
+        let e : (is_ready walked In members is_member taken i && is_among i members) ≡ true = sym (among-filter i (is_ready walked In members is_member taken) members) ∙ among_from i (ready_now taken) c in
+        ready_is walked In members is_member children_known member_is is_member_by taken i (and_parts _ _ e).0,
+    λ r. among_is i (ready_now taken) (among-filter i (is_ready walked In members is_member taken) members ∙ and_from _ _ (is_ready_by walked In members is_member children_known member_is is_member_by taken i r) (is_member_by i r.member)),
+  )
+
+  module _ (time : ObjectId → ℤ) where
+    date_list : (ids : List ObjectId) × IsDateOrder time walked In ids
+    date_list =
+        let steps : (ids : List ObjectId) × ((k : ℕ) → k ≤ length ids → slice_get ids k ≡ best NewestFirst time (ready_now (take k ids))) =
+        steps_exist members (λ taken. best NewestFirst time (ready_now taken)) (λ ids. Unit {0})
+        (λ taken i fits e.
+        let r : IsReady walked In (Contains taken) i = (best_of NewestFirst time (IsReady walked In (Contains taken)) (ready_now taken) (ready_now_is taken) (Some i) e).among in
+        takes_one taken i r.member r.left) tt in
+        (steps.0, λ k b. best_of NewestFirst time (IsReady walked In (Contains (take k steps.0))) (ready_now (take k steps.0)) (ready_now_is (take k steps.0)) (slice_get steps.0 k) (steps.1 k b))
+
+    module _ (tips : List ObjectId) where
+      -- those made ready by the time when these were taken
+      abbrev made_by : List ObjectId → List ObjectId
+      made_by taken = made walked In members is_member time tips (reverse taken)
+
+      made_by_is : (taken : List ObjectId) → IsMadeReady time walked In tips (reverse taken) (made_by taken)
+      made_by_is taken = made_is walked In members is_member children_known member_is is_member_by time tips (reverse taken)
+
+      topo_list : (ids : List ObjectId) × IsTopoOrder time walked In tips ids
+      topo_list =
+          let steps : (ids : List ObjectId) × ((k : ℕ) → k ≤ length ids → slice_get ids k ≡ first_new (reverse (made_by (take k ids))) (take k ids)) =
+          steps_exist members (λ taken. first_new (reverse (made_by taken)) taken) (λ ids. Unit {0})
+          (λ taken i fits e.
+          let f : Contains (reverse (made_by taken)) i × (not (is_among i taken) ≡ true) = found_passes (λ j. not (is_among j taken)) (reverse (made_by taken)) i (sym e) in
+          takes_one taken i (made_member time walked In tips (reverse taken) (made_by taken) (made_by_is taken) i (reverse_in i (made_by taken) f.0)) (λ c. true≢false (sym (among_from i taken c) ∙ not-true _ f.1))) tt in
+          (steps.0, λ k b. (made_by (take k steps.0), made_by_is (take k steps.0), steps.1 k b))
+
+-- each id names next some of the parents that its commit's text names in a store
+module _ (objects : Objects) (walked all : ObjectId → List ObjectId) (tips ends : List ObjectId)
+    (walked_named : (c i : ObjectId) → Contains (walked c) i → Contains (text_next objects c) i) (all_named : (c i : ObjectId) → Contains (all c) i → Contains (text_next objects c) i) where
+  members_of : (members : List ObjectId) × ((i : ObjectId) → Contains members i ↔ IsInWalk walked all tips ends i)
+  members_of =
+      let above : (list : List ObjectId) × ((i : ObjectId) → Contains list i ↔ Reaches walked tips i) = reached_list walked tips (tips ++ named_all objects) (reached_known objects walked tips walked_named) in
+      let below : (list : List ObjectId) × ((i : ObjectId) → Contains list i ↔ Reaches all ends i) = reached_list all ends (ends ++ named_all objects) (reached_known objects all ends all_named) in (
+        filter (λ j. not (is_among j below.0)) above.0,
+        λ i. (
+          λ c.
+              let e : (not (is_among i below.0) && is_among i above.0) ≡ true = sym (among-filter i (λ j. not (is_among j below.0)) above.0) ∙ among_from i (filter (λ j. not (is_among j below.0)) above.0) c in
+              record { reached = (above.1 i).0 (among_is i above.0 (and_parts _ _ e).1); outside = λ r. true≢false (sym (among_from i below.0 ((below.1 i).1 r)) ∙ not-true _ (and_parts _ _ e).0) },
+          λ m. among_is i (filter (λ j. not (is_among j below.0)) above.0) (among-filter i (λ j. not (is_among j below.0)) above.0 ∙ and_from _ _ (not_from_false _ (false_from_ne_true _ (λ t. m.outside ((below.1 i).0 (among_is i below.0 t))))) (among_from i above.0 ((above.1 i).1 m.reached))),
+        ),
+      )
+
+  pub some_topo : (time : ObjectId → ℤ) → (ids : List ObjectId) × IsTopoOrder time walked (IsInWalk walked all tips ends) tips ids
+  some_topo time = topo_list walked (IsInWalk walked all tips ends) members_of.0 members_of.1 time tips
+
+  pub some_date : (time : ObjectId → ℤ) → (ids : List ObjectId) × IsDateOrder time walked (IsInWalk walked all tips ends) ids
+  some_date time = date_list walked (IsInWalk walked all tips ends) members_of.0 members_of.1 time
