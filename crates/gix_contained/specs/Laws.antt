@@ -1,0 +1,31 @@
+-- The statements of the laws.
+use Rattle.std.specs.Prelude.{◌≡◌, ◌≢◌, List, ◌++◌}
+use Rattle.gix_hash.specs.declared.ObjectId.{ObjectId}
+use Rattle.gix_hash.specs.Reach.{Reaches}
+use Rattle.gix_object.specs.declared.find.existing_iter.Error.TheVariants as existing
+use Rattle.gix_object.specs.Object.{Objects}
+use Rattle.gix_commitgraph.specs.Rows.{GraphRow}
+use Rattle.gix_contained.specs.declared.Error.{Error}
+use Rattle.gix_contained.specs.declared.Error.TheVariants as error
+use Rattle.gix_contained.specs.Contained.{AreContained, Tells, FailsBy}
+use Rattle.gix_paint.specs.Painting.{IsHistory}
+use Rattle.gix_revwalk.specs.Agreeing.{IsAgreeing}
+use Rattle.gix_revwalk.specs.Commits.{ReadsWhole, parents_of}
+
+abbrev pub ContainsExactly : Type 0
+ContainsExactly =
+    (objects : Objects) (rows : List GraphRow) (tips ids those : List ObjectId) → IsAgreeing objects rows → Tells objects rows tips ids those →
+    AreContained (parents_of objects) tips ids those
+
+abbrev pub RowsAgree : Type 0
+RowsAgree =
+    (history one other : Objects) (rows others : List GraphRow) (tips ids those these : List ObjectId) →
+    IsHistory one rows history → Tells one rows tips ids those →
+    IsHistory other others history → Tells other others tips ids these →
+    those ≡ these
+
+abbrev pub Succeeds : Type 0
+Succeeds =
+    (objects : Objects) (faulty : ObjectId → Type 0) (rows : List GraphRow) (tips ids : List ObjectId) (e : Error) →
+    IsAgreeing objects rows → ((i : ObjectId) → Reaches (parents_of objects) (ids ++ tips) i → ReadsWhole objects i) →
+    FailsBy objects faulty rows tips ids e → e ≡ error.Find existing.Store
