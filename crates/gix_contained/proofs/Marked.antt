@@ -9,7 +9,7 @@ use Rattle.gix_hash.specs.Reach.{Reaches, start, step}
 use Rattle.gix_hash.proofs.Ids.Membership.{Contains-here, Contains-there, no_member}
 use Rattle.gix_object.specs.Object.{Objects}
 use Rattle.gix_commitgraph.specs.Rows.{GraphRow}
-use Rattle.gix_contained.specs.Contained.{AreContained, empty, reached, passed, Tells}
+use Rattle.gix_contained.specs.Contained.{AreContained, empty, reached, passed, Selects}
 use Rattle.gix_paint.specs.Painting.{Paints}
 use Rattle.gix_revwalk.specs.Commits.{parents_of}
 
@@ -36,20 +36,20 @@ module _ (parents : ObjectId → List ObjectId) where
       ] refl
 
 module _ (objects : Objects) (rows : List GraphRow) where
-  pub without_tips : (ids : List ObjectId) → Tells objects rows [] ids []
+  pub without_tips : (ids : List ObjectId) → Selects objects rows [] ids []
   without_tips ids = record {
     exact = λ history h. none_contained (parents_of history) ids;
     read = λ history h no_tips some i r n. absurd (no_tips refl);
   }
 
-  pub without_ids : (tips : List ObjectId) → Tells objects rows tips [] []
+  pub without_ids : (tips : List ObjectId) → Selects objects rows tips [] []
   without_ids tips = record {
     exact = λ history h. empty;
     read = λ history h some no_ids i r n. absurd (no_ids refl);
   }
 
   pub painted : (tips ids : List ObjectId) (marks : set.FinSet id_cmp) (left : List GraphRow) → Paints objects rows ids tips marks left
-      → Tells objects rows tips ids (filter (set.contains marks) ids)
+      → Selects objects rows tips ids (filter (set.contains marks) ids)
   painted tips ids marks left p = record {
     exact = λ history h.
         kept (parents_of history) tips (set.contains marks) ids (p.marked history h).sound (λ i m. (p.marked history h).whole i (inl m));

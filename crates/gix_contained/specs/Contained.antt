@@ -19,7 +19,7 @@ pub data AreContained (parents : ObjectId → List ObjectId) (tips : List Object
   passed : {i : ObjectId} {ids those : List ObjectId} → (Reaches parents tips i → ⊥) → AreContained parents tips ids those → AreContained parents tips (i ∷ ids) those
 
 -- what an answer says of the histories that agree with the rows, and of which the store has a part
-pub record Tells (objects : Objects) (rows : List GraphRow) (tips ids those : List ObjectId) : Type 0 where
+pub record Selects (objects : Objects) (rows : List GraphRow) (tips ids those : List ObjectId) : Type 0 where
   pub exact : (history : Objects) → IsHistory objects rows history → AreContained (parents_of history) tips ids those
   -- each commit without a row that tips or ids reach was read: all of them, where there are no rows
   pub read : (history : Objects) → IsHistory objects rows history → tips ≢ [] → ids ≢ [] → (i : ObjectId) → Reaches (parents_of history) (ids ++ tips) i

@@ -7,21 +7,21 @@ use Rattle.gix_object.specs.Object.{Objects}
 use Rattle.gix_commitgraph.specs.Rows.{GraphRow}
 use Rattle.gix_contained.specs.declared.Error.{Error}
 use Rattle.gix_contained.specs.declared.Error.TheVariants as error
-use Rattle.gix_contained.specs.Contained.{AreContained, Tells, FailsBy}
+use Rattle.gix_contained.specs.Contained.{AreContained, Selects, FailsBy}
 use Rattle.gix_paint.specs.Painting.{IsHistory}
 use Rattle.gix_revwalk.specs.Agreeing.{IsAgreeing}
 use Rattle.gix_revwalk.specs.Commits.{ReadsWhole, parents_of}
 
 abbrev pub ContainsExactly : Type 0
 ContainsExactly =
-    (objects : Objects) (rows : List GraphRow) (tips ids those : List ObjectId) → IsAgreeing objects rows → Tells objects rows tips ids those →
+    (objects : Objects) (rows : List GraphRow) (tips ids those : List ObjectId) → IsAgreeing objects rows → Selects objects rows tips ids those →
     AreContained (parents_of objects) tips ids those
 
 abbrev pub RowsAgree : Type 0
 RowsAgree =
     (history one other : Objects) (rows others : List GraphRow) (tips ids those these : List ObjectId) →
-    IsHistory one rows history → Tells one rows tips ids those →
-    IsHistory other others history → Tells other others tips ids these →
+    IsHistory one rows history → Selects one rows tips ids those →
+    IsHistory other others history → Selects other others tips ids these →
     those ≡ these
 
 abbrev pub Succeeds : Type 0

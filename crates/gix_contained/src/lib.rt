@@ -4,7 +4,7 @@
 ghost use Rattle.std.specs.Prelude.{◌≡◌, ◌≢◌, filter, IfOk, IfErr};
 ghost use Rattle.std.specs.FinSet as set;
 ghost use Rattle.gix_contained.specs.declared.Error.TheVariants as error;
-ghost use Rattle.gix_contained.specs.Contained.{Tells, FailsBy};
+ghost use Rattle.gix_contained.specs.Contained.{Selects, FailsBy};
 ghost use Rattle.gix_revwalk.specs.Agreeing.{rows_in};
 ghost use Rattle.gix_revwalk.specs.Ids.{ids_of};
 
@@ -86,7 +86,7 @@ pub fn contained<F: Find>(
     objects: &F,
     graph: Option<&Graph>,
 ) -> Result<Vec<ObjectId>, Error>
-    ensures ok { IfOk result (λ those. Tells (F.objects objects.now) (rows_in graph.entry) tips.now ids.now those.items) }
+    ensures ok { IfOk result (λ those. Selects (F.objects objects.now) (rows_in graph.entry) tips.now ids.now those.items) }
     ensures err { IfErr result (λ e. e ≢ error.Memory → FailsBy (F.objects objects.now) (F.faulty objects.now) (rows_in graph.entry) tips.now ids.now e) }
 {
     if tips.is_empty() || ids.is_empty() {
