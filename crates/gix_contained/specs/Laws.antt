@@ -24,8 +24,9 @@ RowsAgree =
     IsHistory other others history → Selects other others tips ids these →
     those ≡ these
 
-abbrev pub Succeeds : Type 0
-Succeeds =
-    (objects : Objects) (faulty : ObjectId → Type 0) (rows : List GraphRow) (tips ids : List ObjectId) (e : Error) →
-    IsAgreeing objects rows → ((i : ObjectId) → Reaches (parents_of objects) (ids ++ tips) i → ReadsWhole objects i) →
-    FailsBy objects faulty rows tips ids e → e ≡ error.Find existing.Store
+module _ {F : Type 0} (objects : F → Objects) (faulty : F → ObjectId → Type 0) where
+  abbrev pub Succeeds : Type 0
+  Succeeds =
+      (store : F) (rows : List GraphRow) (tips ids : List ObjectId) (e : Error) →
+      IsAgreeing (objects store) rows → ((i : ObjectId) → Reaches (parents_of (objects store)) (ids ++ tips) i → ReadsWhole (objects store) i) →
+      FailsBy (objects store) (faulty store) rows tips ids e → e ≡ error.Find existing.Store

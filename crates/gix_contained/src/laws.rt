@@ -2,6 +2,8 @@
 
 ghost use Rattle.gix_contained.specs.Laws.{ContainsExactly, RowsAgree, Succeeds};
 
+use gix_object::find::Find;
+
 /// Over rows that agree with the store, or none, the answer is exactly those of the ids that the tips reach by the parents that the
 /// store's commits name, in the order given and with repeats.
 pub fn contains_exactly()
@@ -16,6 +18,6 @@ pub fn rows_agree()
 
 /// Over rows that agree with the store, or none, a call fails only where memory runs out or the store fails, if all that tips and ids
 /// reach reads whole.
-pub fn succeeds()
-    ensures { Succeeds }
+pub fn succeeds<F: Find>()
+    ensures { Succeeds F.objects F.faulty }
 {}
