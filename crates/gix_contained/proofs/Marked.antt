@@ -1,7 +1,7 @@
 -- The ids that were painted are those that tips reach.
-use Rattle.std.specs.Prelude.{◌≡◌, ◌≢◌, List, [], ◌∷◌, Bool, true, false, cond, filter, Contains}
+use Rattle.std.specs.Prelude.{◌≡◌, ◌⊎◌, List, [], ◌∷◌, Bool, true, false, cond, filter, Contains}
 use Rattle.std.specs.FinSet as set
-use Rattle.std.proofs.Common.{refl, sym, inl, ◌∙◌}
+use Rattle.std.proofs.Common.{refl, sym, subst, inl, ⊎_elim, ◌∙◌}
 use Rattle.std.proofs.lemmas.Bool.{false≢true}
 use Rattle.gix_hash.specs.declared.ObjectId.{ObjectId}
 use Rattle.gix_hash.specs.Id.{id_cmp}
@@ -36,22 +36,34 @@ module _ (parents : ObjectId → List ObjectId) where
       ] refl
 
 module _ (objects : Objects) (rows : List GraphRow) where
-  pub without_tips : (ids : List ObjectId) → Selects objects rows [] ids []
+  without_tips : (ids : List ObjectId) → Selects objects rows [] ids []
   without_tips ids = record {
     exact = λ history h. none_contained (parents_of history) ids;
     read = λ history h no_tips some i r n. absurd (no_tips refl);
   }
 
-  pub without_ids : (tips : List ObjectId) → Selects objects rows tips [] []
+  without_ids : (tips : List ObjectId) → Selects objects rows tips [] []
   without_ids tips = record {
     exact = λ history h. empty;
     read = λ history h some no_ids i r n. absurd (no_ids refl);
   }
 
-  pub painted : (tips ids : List ObjectId) (marks : set.FinSet id_cmp) (left : List GraphRow) → Paints objects rows ids tips marks left
+  -- without tips or ids nothing is selected
+  pub none_selected : (tips ids those : List ObjectId) → those ≡ [] → (tips ≡ []) ⊎ (ids ≡ []) → Selects objects rows tips ids those
+  none_selected tips ids those none either = subst (Selects objects rows tips ids) (sym none) (⊎_elim
+      (λ e. subst (λ xs. Selects objects rows xs ids []) (sym e) (without_tips ids))
+      (λ e. subst (λ xs. Selects objects rows tips xs []) (sym e) (without_ids tips)) either)
+
+  painted : (tips ids : List ObjectId) (marks : set.FinSet id_cmp) (left : List GraphRow) → Paints objects rows ids tips marks left
       → Selects objects rows tips ids (filter (set.contains marks) ids)
   painted tips ids marks left p = record {
     exact = λ history h.
         kept (parents_of history) tips (set.contains marks) ids (p.marked history h).sound (λ i m. (p.marked history h).whole i (inl m));
     read = λ history h some_tips some_ids. p.rowless history h;
   }
+
+  -- what a painting marked of the ids is selected
+  pub painted_selected : (tips ids asked those : List ObjectId) (marks : set.FinSet id_cmp) (left : List GraphRow) → asked ≡ ids
+      → Paints objects rows asked tips marks left → those ≡ filter (set.contains marks) ids → Selects objects rows tips ids those
+  painted_selected tips ids asked those marks left same p is =
+      subst (Selects objects rows tips ids) (sym is) (painted tips ids marks left (subst (λ xs. Paints objects rows xs tips marks left) same p))
