@@ -17,6 +17,12 @@ fn faults_of_painting_become_faults(rt: HostRuntime) {
     let missing = existing_iter::Error::NotFound { oid: id(6) };
     assert_eq!(rt; Error::from(Hidden::Find(missing)), Error::Find(missing));
     let broken = decode::Error::Parent;
-    assert_eq!(rt; Error::from(Hidden::ObjectDecode(broken)), Error::ObjectDecode(broken));
-    assert_eq!(rt; Error::from(Hidden::Find(existing_iter::Error::Memory)), Error::Memory);
+    assert_eq!(rt;
+        Error::from(Hidden::ObjectDecode(broken)),
+        Error::ObjectDecode(broken)
+    );
+    assert_eq!(rt;
+        Error::from(Hidden::Find(existing_iter::Error::Memory)),
+        Error::Memory
+    );
 }
