@@ -23,6 +23,7 @@ mod FileRuns
 mod SimpleFaults
 mod SilentRuns
 mod AheadRuns
+mod ContainedRuns
 mod TextNumbers
 mod OverGraphs
 mod ToldRuns
@@ -34,6 +35,7 @@ mod SameOrders
 mod SameDescents
 mod SameTrees
 mod SameWords
+mod SameContained
 mod SameLists
 mod WholeRuns
 mod WholeExamples

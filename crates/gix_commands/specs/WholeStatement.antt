@@ -187,6 +187,10 @@ pub data Serves (records : List Record) (parents : ObjectId → List ObjectId) (
   ahead : {a b : List ℕ} {one other : ObjectId} (n m : ℕ) → Spells (digits_in one) a one → Spells (digits_in other) b other
       → IsNumberShown parents time (one ∷ []) (other ∷ []) n → IsNumberShown parents time (other ∷ []) (one ∷ []) m
       → Appends old new (digits 10 false n ++ 32 ∷ (digits 10 false m ++ 10 ∷ [])) → Serves records parents time old new (codes "ahead" ∷ a ∷ b ∷ [])
+  -- those of the ids that the tip reaches, one a line
+  contains : {words : List (List ℕ)} {tip : ObjectId} {ids those : List ObjectId} → AreTips words (tip ∷ ids) [] → ids ≢ []
+      → Keeps (λ before i after. Reaches parents (tip ∷ []) i) [] ids those → Appends old new (flat_map (λ i. encode_lower (bytes_in i) ++ 10 ∷ []) those)
+      → Serves records parents time old new (codes "contains" ∷ words)
   -- entries, one a line, where no name is empty or has a slash
   files : {a : List ℕ} {tree : ObjectId} {entries : List Entry} {placed : List (List ℕ × Entry)} → Spells (digits_in tree) a tree → IsTree records tree entries
       → Unfolds records [] entries placed → (All (λ p. (p.1.name ≢ []) × All (λ b. b ≢ 47) p.1.name) placed → Appends old new (flat_map entry_line placed))
