@@ -8,6 +8,7 @@ mod TopoInternalFacts
 mod FileFacts
 mod ListerFacts
 mod AheadFacts
+mod ContainedFacts
 mod StartFacts
 mod RunFacts
 mod GivenRuns
