@@ -130,12 +130,12 @@ impl<F: Find + Drop> Walk<F> {
         ensures fault { IfErr result (IsReleaseFault F.objects F.faulty self.old id.now) }
         ensures same { plan_of self.new ≡ plan_of self.old }
     {
-        let known = match self.counting.frontier.uncount(*id) {
-            Ok(Some(known)) => known,
+        let left = match self.counting.frontier.uncount(*id) {
+            Ok(Some(left)) => left,
             Ok(None) => return Err(Error::MissingIndegreeUnexpected),
             Err(_) => return Err(Error::Memory),
         };
-        if !is_due(known.indegree, &known) {
+        if !is_due(left.indegree, &left) {
             return Ok(());
         }
         self.push(id, near)
