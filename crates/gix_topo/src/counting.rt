@@ -226,9 +226,10 @@ impl<F: Find + Drop> Counting<F> {
         ensures steps { OnOk result (Steps F.objects F.faulty self.old self.new) }
         ensures fault { IfErr result (IsStepFault F.objects F.faulty self.old) }
     {
-        let Some((_, Waiting { id, side, near })) = self.frontier.queue.pop() else {
+        let Some((_, waiting)) = self.frontier.queue.pop() else {
             return Ok(());
         };
+        let Waiting { id, side, near } = waiting;
         let ids = self.read(&id, side, near)?;
         self.count(&id)?;
         self.follow(ids.as_slice(), side)?;
