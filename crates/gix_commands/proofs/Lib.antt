@@ -10,11 +10,7 @@ mod ListerFacts
 mod AheadFacts
 mod StartFacts
 mod RunFacts
-<<<<<<< HEAD
-=======
 mod GivenRuns
-mod FoundCommits
->>>>>>> lent
 mod SimpleRuns
 mod UncutWords
 mod Parts
