@@ -8,6 +8,7 @@ mod TopoInternalFacts
 mod FileFacts
 mod ListerFacts
 mod AheadFacts
+mod ContainedFacts
 mod StartFacts
 mod RunFacts
 mod GivenRuns
@@ -23,6 +24,7 @@ mod FileRuns
 mod SimpleFaults
 mod SilentRuns
 mod AheadRuns
+mod ContainedRuns
 mod TextNumbers
 mod OverGraphs
 mod ToldRuns
@@ -34,6 +36,7 @@ mod SameOrders
 mod SameDescents
 mod SameTrees
 mod SameWords
+mod SameContained
 mod SameLists
 mod WholeRuns
 mod WholeExamples

@@ -3,7 +3,7 @@
 
 ghost use Rattle.std.specs.Prelude.{◌≡◌, ◌+◌, OnOk, IfOk, IfSome, IfNone, [], List};
 ghost use Rattle.std.specs.FinMap as map;
-ghost use Rattle.gix_frontier.specs.Inside.Frontier.{known_of, Meets, Counts, Uncounts, MarksReady, MeetsParent, Finishes};
+ghost use Rattle.gix_frontier.specs.Inside.Frontier.{known_of, Meets, Uncounts, MarksReady, MeetsParent, Finishes};
 
 use bitflags::{Flag, Flags, bitflag_items};
 use gix_hash::ObjectId;
@@ -190,12 +190,22 @@ impl Known {
 }
 
 /// An id whose parents a search has still to read.
-#[derive(Clone, Copy)]
+#[derive(Drop)]
 pub struct Waiting {
     /// The id.
     pub id: ObjectId,
     /// The search.
     pub side: Side,
+    /// Where to look first for its row. Contracts don't see it: a wrong place costs time alone.
+    pub near: u32,
+}
+
+impl Model for Waiting {
+    ghost use Rattle.gix_frontier.specs.Inside.Waiting as model;
+
+    ghost Value = { model.Waiting };
+
+    ghost view = { λ w. model.waiting_by w.id w.side };
 }
 
 /// What is known of the ids met, and those whose parents are still to be read, by their generations.
@@ -208,6 +218,12 @@ pub struct Frontier {
 }
 
 impl Frontier {
+    ghost use Rattle.std.specs.Prelude.{false, ◌∷◌, IsPermutation};
+    ghost use Rattle.gix_frontier.specs.declared.Side.TheVariants as side;
+    ghost use Rattle.gix_frontier.specs.declared.Progress.TheVariants as progress;
+    ghost use Rattle.gix_frontier.specs.Inside.Frontier.{is_seen, progress_of, with_progress};
+    ghost use Rattle.gix_frontier.specs.Inside.Waiting.{waiting_by};
+
     /// Neither search has met anything. It takes no memory yet.
     pub fn new(alloc: Global) -> Frontier
         ensures queue { result.queue ≡ [] }
@@ -232,12 +248,37 @@ impl Frontier {
         }
     }
 
-    /// An id that a search meets: where it is new to that search, it waits in the queue.
+    /// An id of which this is known is new to a search: it waits in the queue.
+    fn wait(
+        &mut self,
+        generation: u32,
+        id: ObjectId,
+        side: Side,
+        known: Known,
+        near: u32,
+    ) -> Result<(), AllocError>
+    where
+        requires { is_seen (progress_of side known) ≡ false }
+        ensures queue { OnOk result (IsPermutation ((generation, waiting_by id side) ∷ self.old.queue) self.new.queue) }
+        ensures known { OnOk result (self.new.known ≡ map.insert self.old.known id (with_progress side progress.Queued known)) }
+    {
+        self.known.insert(id, known.with_met(side))?;
+        self.queue.insert(generation, Waiting { id, side, near })?;
+        Ok(())
+    }
+
+    /// An id that a search meets: where it is new to that search, it waits in the queue. `near` is where to look first for its row.
     ///
     /// # Errors
     ///
     /// `AllocError` when out of memory. The frontier may hold anything then.
-    pub fn meet(&mut self, generation: u32, id: ObjectId, side: Side) -> Result<(), AllocError>
+    pub fn meet(
+        &mut self,
+        generation: u32,
+        id: ObjectId,
+        side: Side,
+        near: u32,
+    ) -> Result<(), AllocError>
     where
         ensures { OnOk result (Meets self.old generation id side self.new) }
     {
@@ -245,28 +286,30 @@ impl Frontier {
         if !matches!(known.progress(side), Progress::Unseen) {
             return Ok(());
         }
-        self.known.insert(id, known.with_met(side))?;
-        self.queue.insert(generation, Waiting { id, side })?;
-        Ok(())
+        self.wait(generation, id, side, known, near)
     }
 
-    /// One more child of an id.
+    /// One more child of an id, which the tips' search meets.
     ///
     /// # Errors
     ///
     /// An indegree that no memory could hold is out of memory.
-    fn count(&mut self, id: ObjectId) -> Result<(), AllocError>
-        ensures { OnOk result (Counts self.old id self.new) }
+    fn count(&mut self, generation: u32, id: ObjectId, near: u32) -> Result<(), AllocError>
+        ensures { OnOk result (MeetsParent side.Tips self.old generation id self.new) }
     {
         let known = self.known(&id);
         let Some(indegree) = known.indegree.checked_add(1) else {
             return Err(AllocError);
         };
-        self.known.insert(id, known.with_indegree(indegree))?;
-        Ok(())
+        let known = known.with_indegree(indegree);
+        if !matches!(known.progress(Side::Tips), Progress::Unseen) {
+            self.known.insert(id, known)?;
+            return Ok(());
+        }
+        self.wait(generation, id, Side::Tips, known, near)
     }
 
-    /// A parent of a commit whose parents a side reads.
+    /// A parent of a commit whose parents a side reads. `near` is where to look first for its row.
     ///
     /// # Errors
     ///
@@ -276,26 +319,25 @@ impl Frontier {
         generation: u32,
         id: ObjectId,
         side: Side,
+        near: u32,
     ) -> Result<(), AllocError>
     where
         ensures { OnOk result (MeetsParent side self.old generation id self.new) }
     {
         match side {
-            Side::Tips => {
-                self.count(id)?;
-                self.meet(generation, id, side)
-            }
-            Side::Ends => self.meet(generation, id, side),
+            Side::Tips => self.count(generation, id, near),
+            Side::Ends => self.meet(generation, id, side, near),
         }
     }
 
-    /// One child of an id less: how many are left. None where there was none, and then nothing changes.
+    /// One child of an id less: what is known of it then. None where there was none, and then nothing changes.
     ///
     /// # Errors
     ///
     /// `AllocError` when out of memory. The frontier may hold anything then.
-    pub fn uncount(&mut self, id: ObjectId) -> Result<Option<usize>, AllocError>
-        ensures less { IfOk result (λ left. IfSome left (λ n. (known_of self.old.known id).indegree ≡ n + 1)) }
+    pub fn uncount(&mut self, id: ObjectId) -> Result<Option<Known>, AllocError>
+        ensures less { IfOk result (λ left. IfSome left (λ known. (known_of self.old.known id).indegree ≡ known.indegree + 1)) }
+        ensures known { IfOk result (λ left. IfSome left (λ known. known ≡ known_of self.new.known id)) }
         ensures counts { OnOk result (Uncounts self.old id self.new) }
         ensures none { IfOk result (λ left. IfNone left ((known_of self.old.known id).indegree ≡ 0)) }
     {
@@ -303,8 +345,9 @@ impl Frontier {
         let Some(indegree) = known.indegree.checked_sub(1) else {
             return Ok(None);
         };
-        self.known.insert(id, known.with_indegree(indegree))?;
-        Ok(Some(indegree))
+        let known = known.with_indegree(indegree);
+        self.known.insert(id, known.copy())?;
+        Ok(Some(known))
     }
 
     /// An id becomes ready.

@@ -10,3 +10,5 @@ pub mod Faultless
 pub mod OnceRead
 -- A commit is read from the store only where no row of it is in use.
 pub mod Unheld
+-- The row of an id, where it is looked for first.
+pub mod NearRow

@@ -9,13 +9,14 @@ ghost use Rattle.gix_topo.specs.Reading.{ReadFails, LookUpFails};
 ghost use Rattle.gix_topo.specs.Inside.Exploring.{is_pending, Follows, ReadsParents, Steps, IsStepFault, IsSamePlan, Explores, IsExploringFault, IsRested};
 
 use super::Error;
+use super::near::{NOWHERE, Near};
 use super::reader::Reader;
 use gix_commitgraph::GENERATION_NUMBER_INFINITY;
 use gix_frontier::{Frontier, Side, Waiting};
 use gix_hash::ObjectId;
 use gix_hash::hashtable::IdSet;
 use gix_object::find::Find;
-use gix_revwalk::Parents;
+use gix_revwalk::{ParentIds, Parents};
 use std::alloc::{AllocError, Global};
 use std::collections::VecDeque;
 
@@ -41,8 +42,26 @@ pub(super) fn walked(parents: Parents, ids: &[ObjectId]) -> &[ObjectId]
     }
 }
 
-/// Each id of a list at its last place.
-pub(super) fn last_places(
+/// So many parents are compared with one another. Where there are more, a set has those that were met.
+const FEW: usize = 8;
+
+// Each id of a list at its last place, by comparing each with those after it.
+fn last_places_of_few(alloc: Global, mut ids: &[ObjectId]) -> Result<ParentIds, AllocError>
+    ensures { IfOk result (λ places. places.items ≡ last_places ids.entry.now) }
+{
+    let mut places = ParentIds::new(alloc);
+    while let Some((id, rest)) = ids.split_first() {
+        ids = rest;
+        if rest.contains(id) {
+            continue;
+        }
+        places.push(*id)?;
+    }
+    Ok(places)
+}
+
+// Each id of a list at its last place, from the back.
+fn last_places_of_many(
     alloc: Global,
     mut ids: &[ObjectId],
 ) -> Result<VecDeque<ObjectId>, AllocError>
@@ -64,6 +83,17 @@ where
     Ok(places)
 }
 
+/// Each id of a list at its last place. A list of at most one id takes no memory.
+pub(super) fn last_places(alloc: Global, ids: &[ObjectId]) -> Result<ParentIds, AllocError>
+    ensures { IfOk result (λ places. places.items ≡ last_places ids.now) }
+{
+    if ids.len() <= FEW {
+        return last_places_of_few(alloc, ids);
+    }
+    let mut places = last_places_of_many(alloc, ids)?;
+    Ok(ParentIds::from_slice(alloc, places.make_contiguous())?)
+}
+
 impl<F: Find + Drop> Counting<F> {
     ghost use Rattle.std.specs.Prelude.{IfErr};
     ghost use Rattle.gix_topo.specs.declared.Sorting.{Sorting};
@@ -80,8 +110,8 @@ impl<F: Find + Drop> Counting<F> {
         ensures meets { OnOk result (MeetsAll (rows_of self.old.reader.graph) side self.old.frontier ids.entry.now self.new.frontier) }
     {
         while let Some((id, rest)) = ids.split_first() {
-            let generation = self.reader.generation(id);
-            self.frontier.meet(generation, *id, side)?;
+            let generation = self.reader.generation(id, NOWHERE);
+            self.frontier.meet(generation, *id, side, NOWHERE)?;
             ids = rest;
         }
         Ok(())
@@ -108,36 +138,39 @@ impl<F: Find + Drop> Counting<F> {
         };
         counting.meet_all(tips, Side::Tips)?;
         counting.meet_all(ends, Side::Ends)?;
-        counting.lower(ends);
-        counting.lower(tips);
+        counting.lower(ends, Near::nowhere());
+        counting.lower(tips, Near::nowhere());
         counting.explore()?;
         Ok(counting)
     }
 
-    /// The parents of a commit that a side reads are met.
-    fn follow(&mut self, mut ids: VecDeque<ObjectId>, side: Side) -> Result<(), AllocError>
+    /// The parents of the commit that was read last, and whose parents a side goes to, are met.
+    fn follow(&mut self, mut ids: &[ObjectId], side: Side) -> Result<(), AllocError>
         ensures reader { self.new.reader ≡ self.old.reader }
         ensures parents { self.new.parents ≡ self.old.parents }
         ensures depth { self.new.depth ≡ self.old.depth }
         ensures expanded { self.new.expanded ≡ self.old.expanded }
-        ensures follows { OnOk result (Follows (rows_of self.old.reader.graph) side self.old.frontier ids.items self.new.frontier) }
+        ensures follows { OnOk result (Follows (rows_of self.old.reader.graph) side self.old.frontier ids.entry.now self.new.frontier) }
     {
-        while let Some(id) = ids.pop_front() {
-            let generation = self.reader.generation(&id);
-            self.frontier.meet_parent(generation, id, side)?;
+        let mut near = self.reader.near;
+        while let Some((id, rest)) = ids.split_first() {
+            let place = near.next();
+            let generation = self.reader.generation(id, place);
+            self.frontier.meet_parent(generation, *id, side, place)?;
+            ids = rest;
         }
         Ok(())
     }
 
-    /// The parents of a commit that a side goes to, each at its last place.
-    fn read(&mut self, id: &ObjectId, side: Side) -> Result<VecDeque<ObjectId>, Error>
+    /// The parents of a commit that a side goes to, each at its last place. `near` is where to look first for its row.
+    fn read(&mut self, id: &ObjectId, side: Side, near: u32) -> Result<ParentIds, Error>
         ensures same { IsSamePlan F.objects F.faulty self.old self.new }
         ensures frontier { self.new.frontier ≡ self.old.frontier }
         ensures expanded { self.new.expanded ≡ self.old.expanded }
         ensures reads { IfOk result (λ ids. ReadsParents F.objects F.faulty self.old id.now side ids.items self.new.reader.standing) }
         ensures fault { IfErr result (ReadFails (F.objects self.old.reader.find) (F.faulty self.old.reader.find) (rows_of self.old.reader.graph) self.old.reader.standing id.now) }
     {
-        let info = self.reader.read(id)?;
+        let info = self.reader.read(id, near)?;
         let mode = match side {
             Side::Tips => self.parents,
             Side::Ends => Parents::All,
@@ -193,12 +226,13 @@ impl<F: Find + Drop> Counting<F> {
         ensures steps { OnOk result (Steps F.objects F.faulty self.old self.new) }
         ensures fault { IfErr result (IsStepFault F.objects F.faulty self.old) }
     {
-        let Some((_, Waiting { id, side })) = self.frontier.queue.pop() else {
+        let Some((_, waiting)) = self.frontier.queue.pop() else {
             return Ok(());
         };
-        let ids = self.read(&id, side)?;
+        let Waiting { id, side, near } = waiting;
+        let ids = self.read(&id, side, near)?;
         self.count(&id)?;
-        self.follow(ids, side)?;
+        self.follow(ids.as_slice(), side)?;
         self.frontier.finish(id, side)?;
         Ok(())
     }
@@ -214,12 +248,12 @@ impl<F: Find + Drop> Counting<F> {
         }
     }
 
-    /// Lowers the depth to the least generation of some ids, where that is lower.
-    pub(super) fn lower(&mut self, mut ids: &[ObjectId])
+    /// Lowers the depth to the least generation of some ids, where that is lower. `near` is where to look first for their rows.
+    pub(super) fn lower(&mut self, mut ids: &[ObjectId], mut near: Near)
         ensures { self.new ≡ record self.old { depth = least (rows_of self.old.reader.graph) self.old.depth ids.entry.now } }
     {
         while let Some((id, rest)) = ids.split_first() {
-            self.depth = self.depth.min(self.reader.generation(id));
+            self.depth = self.depth.min(self.reader.generation(id, near.next()));
             ids = rest;
         }
     }

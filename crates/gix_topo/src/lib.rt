@@ -4,8 +4,10 @@
 mod counting;
 mod init;
 pub mod laws;
+mod near;
 mod reader;
 mod ready;
+mod row;
 mod walk;
 
 use gix_commitgraph::Graph;

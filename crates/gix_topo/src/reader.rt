@@ -6,12 +6,14 @@ ghost use Rattle.gix_revwalk.specs.Reading.{rows_of};
 ghost use Rattle.gix_topo.specs.Reading.{Reads, ReadsText, LookUpFails};
 
 use super::Error;
+use super::near::{NOWHERE, Near};
+use super::row::{find_row, read_row};
 use gix_commitgraph::{GENERATION_NUMBER_INFINITY, Graph};
 use gix_hash::ObjectId;
 use gix_object::decode;
 use gix_object::find::Find;
 use gix_revwalk::Info;
-use gix_revwalk::read::{Header, find_header, read_row};
+use gix_revwalk::read::{Header, find_header};
 use std::alloc::Global;
 
 /// What commits are read from.
@@ -21,6 +23,8 @@ pub(super) struct Reader<F> {
     pub(super) graph: Option<Graph>,
     /// Whether rows are read: they are until one proves corrupt.
     pub(super) standing: bool,
+    /// Where to look first for the rows of the parents of the commit that was read last.
+    pub(super) near: Near,
     pub(super) text: Vec<u8>,
     pub(super) alloc: Global,
 }
@@ -35,19 +39,20 @@ impl<F: Find + Drop> Reader<F> {
             find,
             graph,
             standing: true,
+            near: Near::nowhere(),
             text: Vec::new(alloc),
             alloc,
         }
     }
 
-    /// The generation that a row says, and infinity where there is none.
-    pub(super) fn generation(&self, id: &ObjectId) -> u32
+    /// The generation that a row says, and infinity where there is none. `near` is where to look first for the row.
+    pub(super) fn generation(&self, id: &ObjectId, near: u32) -> u32
         ensures { result ≡ known_generation (rows_of self.now.graph) id.now }
     {
         let Some(graph) = &self.graph else {
             return GENERATION_NUMBER_INFINITY;
         };
-        match graph.commit_by_id(id) {
+        match find_row(graph, id, near) {
             Some(commit) => commit.generation(),
             None => GENERATION_NUMBER_INFINITY,
         }
@@ -74,17 +79,26 @@ impl<F: Find + Drop> Reader<F> {
         })
     }
 
-    /// The commit by its row where the rows are held and it has one, and else from the store.
+    /// The commit by its row where the rows are held and it has one, and else from the store. `near` is where to look first for the row.
+    /// Then `self.near` is for the parents.
     ///
     /// # Errors
     ///
     /// Why it can't be read.
-    pub(super) fn read(&mut self, id: &ObjectId) -> Result<Info, Error>
+    pub(super) fn read(&mut self, id: &ObjectId, near: u32) -> Result<Info, Error>
         ensures store { self.new.find ≡ self.old.find }
         ensures graph { self.new.graph ≡ self.old.graph }
         ensures reads { Reads (F.objects self.old.find) (F.faulty self.old.find) (rows_of self.old.graph) self.old.standing id.now result self.new.standing }
     {
-        let row = read_row(self.alloc, self.graph.as_ref(), &mut self.standing, id)?;
+        self.near = Near::nowhere();
+        let row = read_row(
+            self.alloc,
+            self.graph.as_ref(),
+            &mut self.standing,
+            id,
+            near,
+            &mut self.near,
+        )?;
         let Some(row) = row else {
             return self.read_text(id);
         };
@@ -112,7 +126,7 @@ impl<F: Find + Drop> Reader<F> {
         ensures known { OnOk result (IsKnown (F.objects self.old.find) (rows_of self.old.graph) self.old.standing id.now) }
         ensures fault { IfErr result (LookUpFails (F.objects self.old.find) (F.faulty self.old.find) (rows_of self.old.graph) self.old.standing id.now) }
     {
-        if self.standing && self.generation(id) < GENERATION_NUMBER_INFINITY {
+        if self.standing && self.generation(id, NOWHERE) < GENERATION_NUMBER_INFINITY {
             return Ok(());
         }
         self.read_text(id)?;

@@ -5,6 +5,7 @@ ghost use Rattle.gix_frontier.specs.Inside.Frontier.{is_due};
 ghost use Rattle.gix_topo.specs.Inside.ReadySet.{as_ready};
 
 use super::counting::{Counting, last_places, walked};
+use super::near::{NOWHERE, Near};
 use super::reader::Reader;
 use super::ready::{ReadyCommit, ReadySet};
 use super::{Error, Sorting};
@@ -12,7 +13,6 @@ use gix_frontier::{Known, Progress, Side};
 use gix_hash::ObjectId;
 use gix_object::find::Find;
 use gix_revwalk::{Info, Parents};
-use std::collections::VecDeque;
 
 /// What a walk holds, apart from its predicate.
 #[derive(Drop)]
@@ -37,16 +37,18 @@ impl<F: Find + Drop> Walk<F> {
     ghost use Rattle.gix_topo.specs.Walk.{Ready, IsBuildFault};
 
     /// A commit whose children were all taken is read, and becomes ready. All its parents are looked up, also those that aren't walked.
+    /// `near` is where to look first for its row.
     ///
     /// # Errors
     ///
     /// Why it, or a parent of it, can't be read.
-    pub(super) fn push(&mut self, id: &ObjectId) -> Result<(), Error>
+    pub(super) fn push(&mut self, id: &ObjectId, near: u32) -> Result<(), Error>
         ensures pushes { OnOk result ((r : Ready) × Pushes F.objects F.faulty self.old id.now r self.new) }
         ensures fault { IfErr result (IsPushFault F.objects F.faulty self.old id.now) }
         ensures same { plan_of self.new ≡ plan_of self.old }
     {
-        let info = self.counting.reader.read(id)?;
+        let info = self.counting.reader.read(id, near)?;
+        let near = self.counting.reader.near;
         for parent in info.parent_ids.as_slice() {
             self.counting.look_up_parent(parent)?;
         }
@@ -62,6 +64,7 @@ impl<F: Find + Drop> Walk<F> {
             parent_ids,
             generation,
             time,
+            near,
         };
         self.counting.frontier.mark_ready(id)?;
         self.ready.push(commit)?;
@@ -78,7 +81,7 @@ impl<F: Find + Drop> Walk<F> {
         if !is_due(known.indegree, &known) {
             return Ok(());
         }
-        self.push(id)
+        self.push(id, NOWHERE)
     }
 
     /// Each tip, in order.
@@ -120,8 +123,9 @@ impl<F: Find + Drop> Walk<F> {
         Ok(walk)
     }
 
-    /// A parent of a taken commit, at its last place: it has a child less, and becomes ready where that was the last one.
-    fn release(&mut self, id: &ObjectId) -> Result<(), Error>
+    /// A parent of a taken commit, at its last place: it has a child less, and becomes ready where that was the last one. `near` is where
+    /// to look first for its row.
+    fn release(&mut self, id: &ObjectId, near: u32) -> Result<(), Error>
         ensures releases { OnOk result ((added : List Ready) × Releases F.objects F.faulty self.old id.now added self.new) }
         ensures fault { IfErr result (IsReleaseFault F.objects F.faulty self.old id.now) }
         ensures same { plan_of self.new ≡ plan_of self.old }
@@ -131,20 +135,21 @@ impl<F: Find + Drop> Walk<F> {
             Ok(None) => return Err(Error::MissingIndegreeUnexpected),
             Err(_) => return Err(Error::Memory),
         };
-        if !is_due(left, &self.counting.frontier.known(id)) {
+        if !is_due(left.indegree, &left) {
             return Ok(());
         }
-        self.push(id)
+        self.push(id, near)
     }
 
     /// The parents of a taken commit, each at its last place.
-    fn release_all(&mut self, mut ids: VecDeque<ObjectId>) -> Result<(), Error>
-        ensures releases { OnOk result ((added : List Ready) × ReleasesAll F.objects F.faulty self.old ids.items added self.new) }
-        ensures fault { IfErr result (IsFaultAmong F.objects F.faulty self.old ids.items) }
+    fn release_all(&mut self, mut ids: &[ObjectId], mut near: Near) -> Result<(), Error>
+        ensures releases { OnOk result ((added : List Ready) × ReleasesAll F.objects F.faulty self.old ids.entry.now added self.new) }
+        ensures fault { IfErr result (IsFaultAmong F.objects F.faulty self.old ids.entry.now) }
         ensures same { plan_of self.new ≡ plan_of self.old }
     {
-        while let Some(id) = ids.pop_front() {
-            self.release(&id)?;
+        while let Some((id, rest)) = ids.split_first() {
+            self.release(id, near.next())?;
+            ids = rest;
         }
         Ok(())
     }
@@ -156,10 +161,10 @@ impl<F: Find + Drop> Walk<F> {
         ensures same { plan_of self.new ≡ plan_of self.old }
     {
         let named = walked(self.counting.parents, commit.parent_ids.as_slice());
-        self.counting.lower(named);
+        self.counting.lower(named, commit.near);
         let ids = last_places(self.counting.reader.alloc, named)?;
         self.counting.explore()?;
-        self.release_all(ids)
+        self.release_all(ids.as_slice(), commit.near)
     }
 
     /// Takes the ready commit whose turn it is. After a fault none is ready.

@@ -8,7 +8,7 @@ use Rattle.gix_frontier.specs.declared.Side.TheVariants.{Tips, Ends}
 use Rattle.gix_frontier.specs.declared.Progress.{Progress}
 use Rattle.gix_frontier.specs.declared.Progress.TheVariants.{Unseen, Queued, Done}
 use Rattle.gix_frontier.specs.Inside.Known.{Known}
-use Rattle.gix_frontier.specs.declared.Waiting.{Waiting}
+use Rattle.gix_frontier.specs.Inside.Waiting.{Waiting, waiting_by}
 use Rattle.gix_frontier.specs.declared.Frontier.{Frontier}
 use Rattle.gix_hash.specs.Reach.{Reaches}
 
@@ -71,7 +71,7 @@ waiting (entry ∷ queue) side i = waits_for side i entry + waiting queue side i
 -- an id is met by a side
 pub data Meets (old : Frontier) (generation : ℕ) (i : ObjectId) (side : Side) (new : Frontier) : Type 0 where
   seen : is_seen (reached old.known side i) ≡ true → new ≡ old → Meets old generation i side new
-  unseen : is_seen (reached old.known side i) ≡ false → IsPermutation ((generation, record { id = i; side = side }) ∷ old.queue) new.queue → new.known ≡ map.insert old.known i (with_progress side Queued (known_of old.known i)) → Meets old generation i side new
+  unseen : is_seen (reached old.known side i) ≡ false → IsPermutation ((generation, waiting_by i side) ∷ old.queue) new.queue → new.known ≡ map.insert old.known i (with_progress side Queued (known_of old.known i)) → Meets old generation i side new
 
 -- one more child of an id
 pub record Counts (old : Frontier) (i : ObjectId) (new : Frontier) : Type 0 where

@@ -8,7 +8,7 @@ use Rattle.gix_commitgraph.specs.Rows.{GraphRow}
 use Rattle.gix_hash.proofs.Ids.Membership.{same_is, Contains-here, Contains-there, no_member}
 use Rattle.gix_revwalk.specs.declared.Parents.{Parents}
 use Rattle.gix_frontier.specs.declared.Side.{Side}
-use Rattle.gix_frontier.specs.declared.Waiting.{Waiting}
+use Rattle.gix_frontier.specs.Inside.Waiting.{Waiting}
 use Rattle.gix_frontier.specs.declared.Frontier.{Frontier}
 use Rattle.gix_revwalk.specs.Agreeing.{IsAgreeing}
 use Rattle.gix_topo.specs.Depth.{known_generation}

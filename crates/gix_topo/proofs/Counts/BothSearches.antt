@@ -18,7 +18,7 @@ use Rattle.gix_frontier.specs.declared.Side.TheVariants.{Tips, Ends}
 use Rattle.gix_frontier.specs.declared.Progress.{Progress}
 use Rattle.gix_frontier.specs.declared.Progress.TheVariants.{Queued, Done}
 use Rattle.gix_frontier.specs.Inside.Known.{Known}
-use Rattle.gix_frontier.specs.declared.Waiting.{Waiting}
+use Rattle.gix_frontier.specs.Inside.Waiting.{Waiting}
 use Rattle.gix_frontier.specs.declared.Frontier.{Frontier}
 use Rattle.gix_topo.specs.Depth.{known_generation}
 use Rattle.gix_topo.specs.Inside.Exploring.{Follows, none, more}

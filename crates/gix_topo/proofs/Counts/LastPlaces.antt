@@ -1,10 +1,13 @@
--- Each id of a list at its last place, found from the back.
-use Rattle.std.specs.Prelude.{◌≡◌, List, ◌∷◌, Bool, true, false, ◌||◌, cond}
+-- Each id of a list at its last place, found from the front or from the back.
+use Rattle.std.specs.Prelude.{◌≡◌, List, [], ◌∷◌, Bool, true, false, ◌||◌, cond}
 use Rattle.std.proofs.Common.{refl, ap, ◌∙◌}
 use Rattle.std.specs.FinSet as set
 use Rattle.gix_hash.specs.declared.ObjectId.{ObjectId}
 use Rattle.gix_hash.specs.Id.{id_cmp, is_among, is_same}
-use Rattle.gix_hash.proofs.Ids.Membership.{id_total, same_is}
+use Rattle.std.specs.List.{list_any}
+use Rattle.gix_hash.specs.contracts.ObjectIdPartialEq.TheImpl.{eq-value}
+use Rattle.gix_hash.proofs.Ids.Equality.{eq_is_same}
+use Rattle.gix_hash.proofs.Ids.Membership.{id_total, same_is, same_back}
 use Rattle.gix_topo.specs.TopoOrder.{last_places}
 
 -- an id that comes again keeps the later place
@@ -23,3 +26,11 @@ later_same later i ids e h j = h j ∙ go (is_same j i) refl
     go : (b : Bool) → is_same j i ≡ b → is_among j ids ≡ (b || is_among j ids)
     go true s = ap (λ x. is_among x ids) (same_is j i s) ∙ e
     go false s = refl
+
+-- an id is looked for by comparing those of the list with it
+pub among_by_eq : (i : ObjectId) (ids : List ObjectId) → list_any (λ j. eq-value.it j i) ids ≡ is_among i ids
+among_by_eq i ids = ap (λ eq. list_any (λ j. eq j i) ids) eq_is_same ∙ go ids
+  where
+    go : (those : List ObjectId) → list_any (λ j. is_same j i) those ≡ is_among i those
+    go [] = refl
+    go (j ∷ those) = λ k. same_back j i k || go those k

@@ -5,7 +5,7 @@ use Rattle.gix_hash.specs.declared.ObjectId.{ObjectId}
 use Rattle.gix_object.specs.Object.{Objects}
 use Rattle.gix_hash.proofs.Ids.Membership.{Contains-here}
 use Rattle.gix_frontier.specs.declared.Side.TheVariants.{Tips, Ends}
-use Rattle.gix_frontier.specs.declared.Waiting.{Waiting}
+use Rattle.gix_frontier.specs.Inside.Waiting.{Waiting}
 use Rattle.gix_frontier.specs.declared.Frontier.{Frontier}
 use Rattle.gix_topo.specs.declared.counting.Counting.{Counting}
 use Rattle.gix_frontier.specs.Inside.Frontier.{reached, is_done, Finishes}

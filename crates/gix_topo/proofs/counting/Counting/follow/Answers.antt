@@ -10,7 +10,7 @@ loop-id-preserved g c = record {
   parents = c.loop-id.invariant.parents;
   depth = c.loop-id.invariant.depth;
   expanded = c.loop-id.invariant.expanded;
-  follows = λ new f. c.loop-id.invariant.follows new (follows_more _ _ _ _ _ _ _ _ _ c.in-Some.ensures.items (c.generation-generation.ensures ∙ ap (λ r. known_generation (rows_of r.graph) c.in-Some.id) c.loop-id.invariant.reader) c.in_ok-meet_parent.ensures f);
+  follows = λ new f. c.loop-id.invariant.follows new (follows_more _ _ _ _ _ _ _ _ _ c.in-Some.ensures.cases.0 (c.generation-generation.ensures ∙ ap (λ r. known_generation (rows_of r.graph) c.in-Some.id.now) c.loop-id.invariant.reader) c.in_ok-meet_parent.ensures f);
 }
 
 pub returns-clause-follows : goal.returns-clause-follows

@@ -11,8 +11,8 @@ invariant-loop-id g l = record {
   parents : l.self.parents ≡ l.fn.self.parents;
   depth : l.self.depth ≡ l.fn.self.depth;
   expanded : l.self.expanded ≡ l.fn.self.expanded;
-  follows : (new : Frontier) → Follows (rows_of l.fn.self.reader.graph) l.side l.self.frontier l.ids.items new → Follows (rows_of l.fn.self.reader.graph) l.side l.fn.self.frontier l.fn.ids.items new;
+  follows : (new : Frontier) → Follows (rows_of l.fn.self.reader.graph) l.side l.self.frontier l.ids new → Follows (rows_of l.fn.self.reader.graph) l.side l.fn.self.frontier l.fn.ids new;
 }
 
 abbrev pub decreases-loop-id : goal.decreases-loop-id
-decreases-loop-id g l = length l.ids.items
+decreases-loop-id g l = length l.ids

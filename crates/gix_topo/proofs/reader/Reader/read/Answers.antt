@@ -15,8 +15,8 @@ returns-in_err-row-clause-reads g c =
 pub returns-in_default-clause-reads : goal.returns-in_default-clause-reads
 returns-in_default-clause-reads g c =
     subst (Reads (g.F.Find.objects c.args.self.now.find) (g.F.Find.faulty c.args.self.now.find) (rows_of c.args.self.now.graph) c.args.self.now.standing c.args.id.now c.read_text.result) (sym c.read_text.ensures.standing)
-    (by_text (subst (λ row. ReadsRow (rows_of c.args.self.now.graph) c.args.self.now.standing c.args.id.now row c.read_row.new.held) c.in_default.is (reads_lent _ _ c.as_ref.ensures.value c.in_ok-row.ensures.reads)) c.read_text.ensures.reads)
+    (by_text (subst (λ row. ReadsRow (rows_of c.args.self.now.graph) c.args.self.now.standing c.args.id.now row c.read_row.new.held) c.in_default.is (reads_lent _ _ c.as_ref.ensures.value c.in_ok-row.ensures)) c.read_text.ensures.reads)
 
 pub returns-clause-reads : goal.returns-clause-reads
 returns-clause-reads g c =
-    by_row (subst (λ row. ReadsRow (rows_of c.args.self.now.graph) c.args.self.now.standing c.args.id.now row c.read_row.new.held) c.in-Some.is (reads_lent _ _ c.as_ref.ensures.value c.in_ok-row.ensures.reads)) (search rules)
+    by_row (subst (λ row. ReadsRow (rows_of c.args.self.now.graph) c.args.self.now.standing c.args.id.now row c.read_row.new.held) c.in-Some.is (reads_lent _ _ c.as_ref.ensures.value c.in_ok-row.ensures)) (search rules)

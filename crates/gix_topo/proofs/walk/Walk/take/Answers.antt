@@ -8,10 +8,10 @@ pub returns-clause-takes : goal.returns-clause-takes
 returns-clause-takes g c =
     on_ok c.release_all.result
     (λ h. (h.0, takes_one g.F.Find.objects g.F.Find.faulty c.args.self.now _ c.lower.new.self c.walked-named.result.now c.in_ok-ids.ids.items (c.walked-named.ensures ∙ ap (by_mode c.args.self.now.counting.parents) c.as_slice.ensures) c.lower.ensures c.in_ok-ids.ensures c.explore.new.self c.in_ok-explore.ensures.explores c.in_ok-explore.ensures.rested h.0 c.release_all.new.self h.1))
-    c.release_all.ensures.releases
+    (rw (c.as_slice-2.ensures) at c.release_all.ensures.releases)
 
 pub returns-clause-fault : goal.returns-clause-fault
 returns-clause-fault g c =
     if_err c.release_all.result
     (λ e f. fault_among g.F.Find.objects g.F.Find.faulty c.args.self.now _ c.lower.new.self c.walked-named.result.now c.in_ok-ids.ids.items (c.walked-named.ensures ∙ ap (by_mode c.args.self.now.counting.parents) c.as_slice.ensures) c.lower.ensures c.in_ok-ids.ensures c.explore.new.self c.in_ok-explore.ensures.explores c.in_ok-explore.ensures.rested e f)
-    c.release_all.ensures.fault
+    (rw (c.as_slice-2.ensures) at c.release_all.ensures.fault)

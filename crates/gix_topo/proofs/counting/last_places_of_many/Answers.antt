@@ -3,7 +3,7 @@ use Rattle.std.specs.FinSet as set
 use Rattle.gix_hash.specs.declared.ObjectId.{ObjectId}
 use Rattle.gix_hash.specs.Id.{id_cmp, is_among}
 use Rattle.gix_topo.proofs.Counts.LastPlaces.{kept_place, new_place, later_with, later_same}
-use Rattle.gix_topo.proofs.counting.last_places.Goals as goal
+use Rattle.gix_topo.proofs.counting.last_places_of_many.Goals as goal
 
 pub loop-id-init : goal.loop-id-init
 loop-id-init c = record {

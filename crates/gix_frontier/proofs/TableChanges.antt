@@ -1,0 +1,54 @@
+-- What is known of an id by a change of the table, and by two of them.
+use Rattle.std.specs.Prelude.{◌≡◌, ◌+◌, ℕ, ◌∷◌, Bool, true, false, cond, Some, IsPermutation}
+use Rattle.std.proofs.Common.{refl, sym, ap, ◌∙◌}
+use Rattle.std.specs.FinMap as map
+use Rattle.gix_hash.specs.declared.ObjectId.{ObjectId}
+use Rattle.gix_hash.specs.Id.{id_cmp, is_same}
+use Rattle.gix_hash.proofs.Ids.Membership.{id_total, id_apart, same_itself}
+use Rattle.gix_frontier.specs.declared.Side.TheVariants.{Tips}
+use Rattle.gix_frontier.specs.declared.Progress.TheVariants.{Queued}
+use Rattle.gix_frontier.specs.declared.Frontier.{Frontier}
+use Rattle.gix_frontier.specs.Inside.Known.{Known}
+use Rattle.gix_frontier.specs.Inside.Waiting.{waiting_by}
+use Rattle.gix_frontier.specs.Inside.Frontier.{is_seen, known_or, known_of, with_progress, Counts, MeetsParent, seen, unseen}
+
+-- what was put in is known
+pub known_put : (those : map.FinMap id_cmp Known) (i : ObjectId) (known : Known) → known_of (map.insert those i known) i ≡ known
+known_put those i known = ap known_or (map.get-insert id_total those i known i) ∙ ap (λ b. known_or (cond b (Some known) (map.get those i))) (same_itself i)
+
+-- of two values of an id the later one is kept
+put_twice : (those : map.FinMap id_cmp Known) (i : ObjectId) (first later : Known) → map.insert (map.insert those i first) i later ≡ map.insert those i later
+put_twice those i first later = map.same_map id_total id_apart _ _ (λ j.
+    map.get-insert id_total (map.insert those i first) i later j ∙ ap (cond (is_same j i) (Some later)) (map.get-insert id_total those i first j)
+    ∙ once j (is_same j i) ∙ sym (map.get-insert id_total those i later j))
+  where
+    once : (j : ObjectId) (b : Bool) → cond b (Some later) (cond b (Some first) (map.get those j)) ≡ cond b (Some later) (map.get those j)
+    once j true = refl
+    once j false = refl
+
+-- an id with one child more
+abbrev pub counted : Known → Known
+counted known = record known { indegree = known.indegree + 1 }
+
+abbrev with_table : Frontier → map.FinMap id_cmp Known → Frontier
+with_table f known = record f { known = known }
+
+-- an id that tips had met is counted
+pub counts_seen : (old new : Frontier) (generation : ℕ) (i : ObjectId) → is_seen (known_of old.known i).tips ≡ true → new ≡ with_table old (map.insert old.known i (counted (known_of old.known i))) → MeetsParent Tips old generation i new
+counts_seen old new generation i met same = (
+  with_table old (map.insert old.known i (counted (known_of old.known i))),
+  record { queue = refl; known = refl },
+  seen (ap (λ k. is_seen k.tips) (known_put old.known i (counted (known_of old.known i))) ∙ met) same,
+)
+
+-- an id that is new to tips is counted and met
+pub counts_unseen : (old new : Frontier) (generation : ℕ) (i : ObjectId) → is_seen (known_of old.known i).tips ≡ false
+    → IsPermutation ((generation, waiting_by i Tips) ∷ old.queue) new.queue
+    → new.known ≡ map.insert old.known i (with_progress Tips Queued (counted (known_of old.known i))) → MeetsParent Tips old generation i new
+counts_unseen old new generation i met queue known =
+    let put : known_of (map.insert old.known i (counted (known_of old.known i))) i ≡ counted (known_of old.known i) = known_put old.known i (counted (known_of old.known i)) in (
+      with_table old (map.insert old.known i (counted (known_of old.known i))),
+      record { queue = refl; known = refl },
+      unseen (ap (λ k. is_seen k.tips) put ∙ met) queue
+          (known ∙ sym (put_twice old.known i (counted (known_of old.known i)) _) ∙ sym (ap (λ k. map.insert (map.insert old.known i (counted (known_of old.known i))) i (with_progress Tips Queued k)) put)),
+    )
