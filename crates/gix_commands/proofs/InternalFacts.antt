@@ -1,5 +1,6 @@
 -- A store that is held in memory doesn't fail.
-use Rattle.std.specs.Prelude.{◌≢◌, ℕ, ℤ, List, Bool, Option, Some, None, Result, Ok, Err}
+use Rattle.std.specs.Prelude.{◌≡◌, ◌≢◌, ℕ, ℤ, List, Bool, Option, Some, None, Result, Ok, Err}
+use Rattle.std.proofs.Common.{refl, sym, ap, ◌∙◌}
 use Rattle.gix_hash.specs.declared.ObjectId.{ObjectId}
 use Rattle.gix_object.specs.declared.Kind.{Kind}
 use Rattle.gix_object.specs.declared.Kind.TheVariants as object
@@ -9,6 +10,8 @@ use Rattle.gix_object.specs.declared.find.existing_iter.Error.TheVariants as exi
 use Rattle.gix_object.specs.Find.{IsExistingFault}
 use Rattle.gix_object.specs.Object.{Objects}
 use Rattle.gix_commitgraph.specs.Rows.{GraphRow}
+use Rattle.gix_contained.specs.declared.Error.{Error as ContainedError}
+use Rattle.gix_contained.specs.Contained.{error_of, FailsBy}
 use Rattle.gix_revwalk.specs.declared.Info.{Info}
 use Rattle.gix_simple.specs.declared.Error.{Error}
 use Rattle.gix_simple.specs.declared.Error.TheVariants as error
@@ -20,7 +23,7 @@ use Rattle.gix_simple.specs.Walk.{Treated, GoesOn, StoreFails, NoMemory, ReadsTi
 use Rattle.gix_paint.specs.Painting.{IsHiddenFault}
 use Rattle.gix_simple.specs.Building.{IsTipFault}
 use Rattle.gix_commands.specs.declared.fault.Fault.TheVariants as fault
-use Rattle.gix_commands.specs.Faults.{fault_of_find, fault_of_walk}
+use Rattle.gix_commands.specs.Faults.{fault_of_find, fault_of_walk, fault_of_contained}
 use Rattle.gix_commands.specs.Walked.{Walk, FailsAtStart, Answers, objects_of, never_faulty, accepts_all}
 
 -- an answer that reports no failing store
@@ -85,6 +88,17 @@ steps_sound (took c t) = takes_sound t
 history_sound : (objects : Objects) (rows : List GraphRow) (tips hidden_tips : List ObjectId) (why : Hidden) → IsHiddenFault objects (never_faulty objects) rows tips hidden_tips why → fault_of_walk (error.HiddenGraph why) ≢ fault.Internal
 history_sound objects rows tips hidden_tips (hidden_by.Find e) h = find_sound objects h.id object.Commit e h.fault
 history_sound objects rows tips hidden_tips (hidden_by.ObjectDecode e) h = λ e. cc
+
+same_fault : (why : Hidden) → fault_of_contained (error_of why) ≡ fault_of_walk (error.HiddenGraph why)
+same_fault (hidden_by.Find existing.Memory) = refl
+same_fault (hidden_by.Find existing.Store) = refl
+same_fault (hidden_by.Find (existing.NotFound oid)) = refl
+same_fault (hidden_by.Find (existing.ObjectKind oid expected actual)) = refl
+same_fault (hidden_by.ObjectDecode e) = refl
+
+-- nor does a call that asks which ids are contained
+pub contained_sound : (objects : Objects) (rows : List GraphRow) (tips ids : List ObjectId) (e : ContainedError) → FailsBy objects (never_faulty objects) rows tips ids e → fault_of_contained e ≢ fault.Internal
+contained_sound objects rows tips ids e (why, f, is) same = history_sound objects rows ids tips why f (sym (same_fault why) ∙ sym (ap fault_of_contained is) ∙ same)
 
 first_sound : {old : Walk} {answer : Option (Result Info Error)} {new : Walk} → FirstStep objects_of never_faulty accepts_all old answer new → IsSound answer
 first_sound (unhidden h s) = steps_sound s

@@ -8,13 +8,10 @@ mod TopoInternalFacts
 mod FileFacts
 mod ListerFacts
 mod AheadFacts
+mod ContainedFacts
 mod StartFacts
 mod RunFacts
-<<<<<<< HEAD
-=======
 mod GivenRuns
-mod FoundCommits
->>>>>>> lent
 mod SimpleRuns
 mod UncutWords
 mod Parts
@@ -27,6 +24,7 @@ mod FileRuns
 mod SimpleFaults
 mod SilentRuns
 mod AheadRuns
+mod ContainedRuns
 mod TextNumbers
 mod OverGraphs
 mod ToldRuns
@@ -38,6 +36,7 @@ mod SameOrders
 mod SameDescents
 mod SameTrees
 mod SameWords
+mod SameContained
 mod SameLists
 mod WholeRuns
 mod WholeExamples

@@ -1,5 +1,5 @@
 -- What a run may answer.
-use Rattle.std.specs.Prelude.{◌≡◌, ◌≢◌, ℕ, List, [], Option, Some, None, Result, Ok, Err}
+use Rattle.std.specs.Prelude.{◌≡◌, ◌≢◌, ℕ, List, [], ◌∷◌, Option, Some, None, Result, Ok, Err}
 use Rattle.std.specs.FinMap.{get, same_map}
 use Rattle.std.specs.Option.{option_or}
 use Rattle.std.proofs.Common.{refl, sym, subst, ap, ◌∙◌}
@@ -27,13 +27,13 @@ use Rattle.gix_records.specs.declared.Error.{Error as RecordsError}
 use Rattle.gix_records.specs.Reading.{IsReadFrom, IsReadFault}
 use Rattle.gix_records.specs.Reading as reading
 use Rattle.gix_records.specs.Records.{Record, AreRecords, stored}
-use Rattle.gix_commands.specs.Run.{Serves, walked, not_walked, walked_down, not_built, listed, not_listed, counted, not_ahead, not_behind, unserved, not_written, Runs, without_memory, no_command, not_read, bad_record, served}
+use Rattle.gix_commands.specs.Run.{Serves, walked, not_walked, walked_down, not_built, listed, not_listed, counted, not_ahead, not_behind, selected, not_selected, unserved, not_written, Runs, without_memory, no_command, not_read, bad_record, served}
 use Rattle.gix_commands.specs.TopoWalked as topo
 use Rattle.gix_commands.specs.Walked.{Walk, Answers, IsWalkFault, StartsFrom, FailsAtStart, IsStartFault, Ends, finished, failed, cut_short}
 use Rattle.gix_commands.specs.Words.{Request, Commits, request_of}
 use Rattle.gix_commands.proofs.MemoryFaults.{failed_so}
 use Rattle.gix_records.proofs.RecordFacts.{no_bad_record}
-use Rattle.gix_commands.proofs.InternalFacts.{IsSound, next_sound, start_sound}
+use Rattle.gix_commands.proofs.InternalFacts.{IsSound, next_sound, start_sound, contained_sound}
 use Rattle.gix_commands.proofs.TopoInternalFacts.{drawn_sound, built_agreeing, build_sound}
 use Rattle.gix_commands.proofs.TreeFacts.{tree_sound}
 use Rattle.gix_commands.proofs.WalkFaults.{OfWalk, serves_of_walk}
@@ -71,6 +71,8 @@ serves_sound {objects} agreeing (not_listed recorder why r) = λ same. tree_soun
 serves_sound agreeing (counted ahead behind c d a) = λ e. cc
 serves_sound agreeing (not_ahead f) = ends_sound f.1.ends
 serves_sound agreeing (not_behind n a f) = ends_sound f.1.ends
+serves_sound agreeing (selected those s a) = λ e. cc
+serves_sound {objects} {rows} agreeing (not_selected {tip = tip} {ids = ids} why f) = λ same. contained_sound objects rows (tip ∷ []) ids why f (err_same same)
 serves_sound agreeing unserved = λ e. cc
 serves_sound agreeing not_written = λ e. cc
 

@@ -22,7 +22,7 @@ use Rattle.gix_object.specs.TreeItems.{TreeEntry, TreeFront, Found, Faulty, Ende
 use Rattle.gix_records.specs.Records.{Record, kind_word, stored}
 use Rattle.gix_tree.specs.Delegate.{Action, Call}
 use Rattle.gix_tree.specs.Laws.{IsWhole}
-use Rattle.gix_tree.specs.Paths.{HaveNames, joined, path_of}
+use Rattle.gix_tree.specs.Paths.{HaveNames, joined}
 use Rattle.gix_tree.specs.Script as script
 use Rattle.gix_tree.specs.Script.{DepthScript, IsDepthScript, entries_in}
 use Rattle.gix_tree.specs.Visits.{Items, Place, Visit, visit, Leaves, Enters, outcome_of, descent, Whole}
@@ -30,7 +30,7 @@ use Rattle.gix_tree.specs.Walk.{items_of_object, items_of_kind, trees_of}
 use Rattle.gix_tree.proofs.All.{all_left, all_right}
 use Rattle.gix_tree.proofs.Theorems.SameRecords.{GoOn}
 use Rattle.gix_commands.specs.WholeStatement as page
-use Rattle.gix_commands.specs.WholeStatement.{Entry, Holds, IsNumber, AreEntries, IsTree, Unfolds, bytes_in, digits_in, entry_line}
+use Rattle.gix_commands.specs.WholeStatement.{Entry, Holds, IsNumber, AreEntries, IsTree, Unfolds, bytes_in, digits_in}
 use Rattle.gix_commands.proofs.SameNumbers.{is_octal_number, width_of}
 use Rattle.gix_commands.proofs.SameCommits.{worded, held}
 use Rattle.gix_commands.proofs.SameHistory.{own_width}

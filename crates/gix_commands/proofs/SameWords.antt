@@ -15,7 +15,7 @@ use Rattle.gix_commands.specs.declared.fault.Fault.{Fault}
 use Rattle.gix_commands.specs.declared.fault.Fault.TheVariants as fault
 use Rattle.gix_commands.specs.declared.words.Order.{Order}
 use Rattle.gix_commands.specs.declared.words.Order.TheVariants.{Simple, Topo}
-use Rattle.gix_commands.specs.Words.{Request, Commits, Files, Ahead, Ids, begins_with_caret, without_caret, with_id, with_word, ids_from, order_named, commits_from, commits_of, files_from, files_of, ahead_from, ahead_of, request_named, request_of}
+use Rattle.gix_commands.specs.Words.{Request, Commits, Files, Ahead, Contained, Ids, begins_with_caret, without_caret, is_shown, with_id, with_word, ids_from, order_named, commits_from, commits_of, files_from, files_of, ahead_from, ahead_of, contained_among, contained_from, contained_of, request_named, request_of}
 use Rattle.gix_commands.specs.WholeStatement.{Spells, AreTips, digits_in}
 use Rattle.gix_commands.proofs.SameNumbers.{hex_spelled}
 
@@ -103,6 +103,7 @@ AreWordsOf words (Err e) = Unit {0}
 AreWordsOf words (Ok (Commits by tips hidden)) = (name : List ℕ) × (rest : List (List ℕ)) × (words ≡ name ∷ rest) × IsNameOf name by × AreTips rest tips hidden × (tips ≢ [])
 AreWordsOf words (Ok (Files tree)) = (text : List ℕ) × (words ≡ codes "files" ∷ text ∷ []) × Spells (digits_in tree) text tree
 AreWordsOf words (Ok (Ahead one other)) = (a b : List ℕ) × (words ≡ codes "ahead" ∷ a ∷ b ∷ []) × Spells (digits_in one) a one × Spells (digits_in other) b other
+AreWordsOf words (Ok (Contained tip ids)) = (rest : List (List ℕ)) × (words ≡ codes "contains" ∷ rest) × AreTips rest (tip ∷ ids) [] × (ids ≢ [])
 
 commits_are : (name : List ℕ) (by : Order) (rest : List (List ℕ)) → IsNameOf name by → AreWordsOf (name ∷ rest) (commits_of by rest)
 commits_are name by rest named = go (list_all begins_with_caret rest) refl
@@ -143,15 +144,54 @@ ahead_are (a ∷ b ∷ []) = go (begins_with_caret a || begins_with_caret b)
     go true = tt
     go false = from (id_from_hex a) (id_from_hex b) refl refl
 
+-- where no word begins with a caret nothing is hidden
+none_hidden : (words : List (List ℕ)) (tips hidden : List ObjectId) → AreTips words tips hidden → list_all is_shown words ≡ true → hidden ≡ []
+none_hidden [] tips hidden h e = h.1
+none_hidden (word ∷ words) tips hidden (inl (i, rest, is, s, h)) e = none_hidden words rest hidden h (behind (is_shown word) (list_all is_shown words) e)
+  where
+    behind : (a b : Bool) → (a && b) ≡ true → b ≡ true
+    behind true b e = e
+    behind false b e = absurd (false≢true e)
+none_hidden (word ∷ words) tips hidden (inr (i, rest, is, id, begins, s, h)) e = absurd (false≢true (sym (ap (λ w. is_shown w && list_all is_shown words) begins) ∙ e))
+
+-- a second word spells a second id
+some_behind : (word next : List ℕ) (words : List (List ℕ)) (tip : ObjectId) (ids : List ObjectId) → AreTips (word ∷ next ∷ words) (tip ∷ ids) [] → ids ≢ []
+some_behind word next words tip ids (inl (i, rest, is, s, (inl (j, more, is_more, t, h)))) e = cc
+some_behind word next words tip ids (inl (i, rest, is, s, (inr (j, more, none, k)))) e = cc
+some_behind word next words tip ids (inr (j, more, none, k)) e = cc
+
+contained_are : (rest : List (List ℕ)) → AreWordsOf (codes "contains" ∷ rest) (contained_of rest)
+contained_are [] = tt
+contained_are (word ∷ []) = tt
+contained_are (word ∷ next ∷ rest) = go (list_all is_shown (word ∷ next ∷ rest)) refl
+  where
+    among : (tips hidden : List ObjectId) → AreTips (word ∷ next ∷ rest) tips hidden → hidden ≡ [] → AreWordsOf (codes "contains" ∷ word ∷ next ∷ rest) (contained_among tips)
+    among [] hidden h e = tt
+    among (tip ∷ ids) hidden h e =
+        let k : AreTips (word ∷ next ∷ rest) (tip ∷ ids) [] = subst (AreTips (word ∷ next ∷ rest) (tip ∷ ids)) e h in
+        (word ∷ next ∷ rest, refl, k, some_behind word next rest tip ids k)
+
+    from : (r : Result Ids Fault) → list_all is_shown (word ∷ next ∷ rest) ≡ true → AreIdsOf (word ∷ next ∷ rest) r → AreWordsOf (codes "contains" ∷ word ∷ next ∷ rest) (contained_from r)
+    from (Err e) all h = tt
+    from (Ok ids) all h = among ids.0 ids.1 h (none_hidden (word ∷ next ∷ rest) ids.0 ids.1 h all)
+
+    go : (t : Bool) → list_all is_shown (word ∷ next ∷ rest) ≡ t → AreWordsOf (codes "contains" ∷ word ∷ next ∷ rest) (cond t (contained_from (ids_from 2 (word ∷ next ∷ rest))) (Err fault.Usage))
+    go true e = from (ids_from 2 (word ∷ next ∷ rest)) e (ids_are 2 (word ∷ next ∷ rest))
+    go false e = tt
+
 named_are : (name : List ℕ) (o : Option Order) (rest : List (List ℕ)) → IsChosenBy name o → AreWordsOf (name ∷ rest) (request_named name o rest)
 named_are name (Some by) rest h = commits_are name by rest h
 named_are name None rest h = files (bytes_eq name (codes "files")) refl
   where
-    ahead : (t : Bool) → bytes_eq name (codes "ahead") ≡ t → AreWordsOf (name ∷ rest) (cond t (ahead_of rest) (Err fault.Usage))
-    ahead true e = subst (λ word. AreWordsOf (word ∷ rest) (ahead_of rest)) (sym ((bytes_eq-Decides name (codes "ahead")).0 e)) (ahead_are rest)
-    ahead false e = tt
+    contained : (t : Bool) → bytes_eq name (codes "contains") ≡ t → AreWordsOf (name ∷ rest) (cond t (contained_of rest) (Err fault.Usage))
+    contained true e = subst (λ word. AreWordsOf (word ∷ rest) (contained_of rest)) (sym ((bytes_eq-Decides name (codes "contains")).0 e)) (contained_are rest)
+    contained false e = tt
 
-    files : (t : Bool) → bytes_eq name (codes "files") ≡ t → AreWordsOf (name ∷ rest) (cond t (files_of rest) (cond (bytes_eq name (codes "ahead")) (ahead_of rest) (Err fault.Usage)))
+    ahead : (t : Bool) → bytes_eq name (codes "ahead") ≡ t → AreWordsOf (name ∷ rest) (cond t (ahead_of rest) (cond (bytes_eq name (codes "contains")) (contained_of rest) (Err fault.Usage)))
+    ahead true e = subst (λ word. AreWordsOf (word ∷ rest) (ahead_of rest)) (sym ((bytes_eq-Decides name (codes "ahead")).0 e)) (ahead_are rest)
+    ahead false e = contained (bytes_eq name (codes "contains")) refl
+
+    files : (t : Bool) → bytes_eq name (codes "files") ≡ t → AreWordsOf (name ∷ rest) (cond t (files_of rest) (cond (bytes_eq name (codes "ahead")) (ahead_of rest) (cond (bytes_eq name (codes "contains")) (contained_of rest) (Err fault.Usage))))
     files true e = subst (λ word. AreWordsOf (word ∷ rest) (files_of rest)) (sym ((bytes_eq-Decides name (codes "files")).0 e)) (files_are rest)
     files false e = ahead (bytes_eq name (codes "ahead")) refl
 

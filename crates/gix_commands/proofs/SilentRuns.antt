@@ -8,7 +8,7 @@ use Rattle.gix_commands.specs.declared.fault.Fault.{Fault}
 use Rattle.gix_commands.specs.declared.fault.Fault.TheVariants as fault
 use Rattle.gix_commands.specs.declared.words.Order.{Order}
 use Rattle.gix_commands.specs.Histories.{FailsSilently}
-use Rattle.gix_commands.specs.Run.{Serves, walked, not_walked, walked_down, not_built, not_listed, not_ahead, not_behind, unserved, not_written, without_memory, no_command, not_read, bad_record, served}
+use Rattle.gix_commands.specs.Run.{Serves, walked, not_walked, walked_down, not_built, not_listed, not_ahead, not_behind, not_selected, unserved, not_written, without_memory, no_command, not_read, bad_record, served}
 use Rattle.gix_commands.specs.Words.{Request, Commits}
 
 pub serves_silently : (objects : Objects) (rows : List GraphRow) (old new : Option (List ℕ)) (request : Request) (e : Fault) → Serves objects rows old request (Err e) new → e ≢ fault.Write → ((by : Order) (tips hidden : List ObjectId) → request ≢ Commits by tips hidden) → new ≡ old
@@ -19,6 +19,7 @@ serves_silently objects rows old new request e (not_built why h) other none = re
 serves_silently objects rows old new request e (not_listed recorder why walk) other none = refl
 serves_silently objects rows old new request e (not_ahead f) other none = refl
 serves_silently objects rows old new request e (not_behind n a f) other none = refl
+serves_silently objects rows old new request e (not_selected why f) other none = refl
 serves_silently objects rows old new request e unserved other none = refl
 serves_silently objects rows old new request e not_written other none = absurd (other refl)
 

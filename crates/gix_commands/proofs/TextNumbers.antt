@@ -18,11 +18,11 @@ module _ (objects : Objects) (ids : List ObjectId) (whole : AreWhole objects ids
     same_at : (i : ObjectId) → Reaches (parents_of objects) (tip ∷ []) i → parents_of objects i ≡ text_next objects i
     same_at i r = text_whole objects i (whole_from objects i (whole i (reach_more (parents_of objects) (tip ∷ []) ids (λ j c. ⊎_elim (λ e. subst (Contains ids) e is_one) (λ n. absurd (no_member j n)) (Contains-cons_cases j tip [] c)) i r)))
 
-    by_texts : (i : ObjectId) → Reaches (parents_of objects) (tip ∷ []) i → Reaches (text_next objects) (tip ∷ []) i
+    pub by_texts : (i : ObjectId) → Reaches (parents_of objects) (tip ∷ []) i → Reaches (text_next objects) (tip ∷ []) i
     by_texts i (start s) = start s
     by_texts i (step {c = c} r n) = step (by_texts c r) (subst (λ xs. Contains xs i) (same_at c r) n)
 
-    by_commits : (i : ObjectId) → Reaches (text_next objects) (tip ∷ []) i → Reaches (parents_of objects) (tip ∷ []) i
+    pub by_commits : (i : ObjectId) → Reaches (text_next objects) (tip ∷ []) i → Reaches (parents_of objects) (tip ∷ []) i
     by_commits i (start s) = start s
     by_commits i (step {c = c} r n) = let p : Reaches (parents_of objects) (tip ∷ []) c = by_commits c r in step p (subst (λ xs. Contains xs i) (sym (same_at c p)) n)
 

@@ -7,14 +7,15 @@ use Rattle.gix_records.specs.Records.{Record, AreRecords, stored}
 use Rattle.gix_records.proofs.RecordFacts.{only_reading}
 use Rattle.gix_revwalk.specs.Agreeing.{IsAgreeing}
 use Rattle.gix_commands.specs.declared.words.Order.TheVariants.{Simple, Topo}
-use Rattle.gix_commands.specs.Histories.{AreTold, told, ToldSimpleLists, ToldTopoLists, ToldAheadCounts}
+use Rattle.gix_commands.specs.Histories.{AreTold, told, ToldSimpleLists, ToldTopoLists, ToldAheadCounts, ToldContainsIds}
 use Rattle.gix_commands.specs.Run.{RunsOver, Serves, served}
-use Rattle.gix_commands.specs.Words.{Request, Commits, Ahead, request_of}
+use Rattle.gix_commands.specs.Words.{Request, Commits, Ahead, Contained, request_of}
 use Rattle.gix_commands.proofs.AheadRuns.{counted_so}
 use Rattle.gix_commands.proofs.CommitRuns.{ok_same, lists}
+use Rattle.gix_commands.proofs.ContainedRuns.{selected_so}
 use Rattle.gix_commands.proofs.OverGraphs.{opened_agree}
 use Rattle.gix_commands.proofs.TopoRuns as topo
-use Rattle.gix_commands.proofs.UncutWords.{uncut, some_tips}
+use Rattle.gix_commands.proofs.UncutWords.{uncut, some_tips, some_ids}
 
 -- what was asked for was served, of rows that the layers are and of these records
 told_served : (words layers : List (List ℕ)) (input : List ℕ) (records : List Record) (request : Request) (old new : Option (List ℕ)) → request_of words ≡ Ok request → AreRecords records input → RunsOver words layers (Some input) old (Ok tt) new
@@ -46,3 +47,9 @@ told_ahead_counts words layers input records one other old new asked are runs =
     let k = told_served words layers input records (Ahead one other) old new asked are runs in
     let c = counted_so (told k.0 records) k.0 (told_agree k.1) one other old new k.2 in
     (k.0, k.1, c.0, c.1, c.2, c.3, c.4)
+
+pub told_contains_ids : ToldContainsIds
+told_contains_ids words layers input records tip ids old new asked are runs =
+    let k = told_served words layers input records (Contained tip ids) old new asked are runs in
+    let c = selected_so tip ids (told k.0 records) k.0 (told_agree k.1) old new (some_ids words tip ids asked) k.2 in
+    (k.0, k.1, c.0, c.1, c.3)

@@ -1,4 +1,4 @@
--- No command names a cutoff, and each that asks for commits names a tip.
+-- No command names a cutoff, each that asks for commits names a tip, and each that asks which ids are contained names one.
 use Rattle.std.specs.Prelude.{◌≡◌, ◌≢◌, ℕ, List, [], Bool, true, false, cond, Option, Some, None, Result, Ok, Err, codes}
 use Rattle.std.specs.Str.{bytes_eq}
 use Rattle.std.proofs.Common.{subst}
@@ -10,7 +10,7 @@ use Rattle.gix_topo.specs.declared.Sorting.TheVariants as topo
 use Rattle.gix_commands.specs.declared.fault.Fault.{Fault}
 use Rattle.gix_commands.specs.declared.words.Order.{Order}
 use Rattle.gix_commands.specs.declared.words.Order.TheVariants.{Simple, Topo}
-use Rattle.gix_commands.specs.Words.{Request, Commits, Files, Ahead, Ids, ids_from, order_named, commits_from, request_of}
+use Rattle.gix_commands.specs.Words.{Request, Commits, Files, Ahead, Contained, Ids, ids_from, order_named, commits_from, request_of}
 use Rattle.gix_commands.proofs.SimpleRuns.{IsUncut}
 use Rattle.gix_commands.proofs.SameWords.{AreWordsOf, are_words}
 use Rattle.gix_commands.proofs.WordFaults.{each_request}
@@ -24,6 +24,7 @@ abbrev UncutRequest : Result Request Fault → Type 0
 UncutRequest (Ok (Commits by tips hidden)) = UncutOrder (Some by)
 UncutRequest (Ok (Files tree)) = Unit {0}
 UncutRequest (Ok (Ahead one other)) = Unit {0}
+UncutRequest (Ok (Contained tip ids)) = Unit {0}
 UncutRequest (Err e) = Unit {0}
 
 uncut_order : (name : List ℕ) → UncutOrder (order_named name)
@@ -42,7 +43,10 @@ from_ids by (Ok ids) h = h
 from_ids by (Err e) h = tt
 
 pub uncut : (words : List (List ℕ)) (by : Sorting) (tips hidden : List ObjectId) → request_of words ≡ Ok (Commits (Simple by) tips hidden) → IsUncut by
-uncut words by tips hidden e = subst UncutRequest e (each_request UncutRequest tt (λ n. tt) (λ i. tt) (λ i j. tt) (λ name by named ids. from_ids by (ids_from 2 ids) (subst UncutOrder named (uncut_order name))) words)
+uncut words by tips hidden e = subst UncutRequest e (each_request UncutRequest tt (λ n. tt) (λ i. tt) (λ i j. tt) (λ i ids. tt) (λ name by named ids. from_ids by (ids_from 2 ids) (subst UncutOrder named (uncut_order name))) words)
 
 pub some_tips : (words : List (List ℕ)) (by : Order) (tips hidden : List ObjectId) → request_of words ≡ Ok (Commits by tips hidden) → tips ≢ []
 some_tips words by tips hidden e = let k : AreWordsOf words (Ok (Commits by tips hidden)) = subst (AreWordsOf words) e (are_words words) in k.5
+
+pub some_ids : (words : List (List ℕ)) (tip : ObjectId) (ids : List ObjectId) → request_of words ≡ Ok (Contained tip ids) → ids ≢ []
+some_ids words tip ids e = let k : AreWordsOf words (Ok (Contained tip ids)) = subst (AreWordsOf words) e (are_words words) in k.3

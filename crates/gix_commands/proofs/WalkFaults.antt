@@ -1,7 +1,9 @@
 -- Which faults walks may have, and commands that are served.
-use Rattle.std.specs.Prelude.{◌≡◌, ℕ, List, Option, Result, Ok, Err}
+use Rattle.std.specs.Prelude.{ℕ, List, Option, Result, Ok, Err}
 use Rattle.std.proofs.Common.{sym, subst}
 use Rattle.gix_commitgraph.specs.Rows.{GraphRow}
+use Rattle.gix_contained.specs.declared.Error.{Error as ContainedError}
+use Rattle.gix_contained.specs.declared.Error.TheVariants as contained_error
 use Rattle.gix_object.specs.declared.find.existing_iter.Error.{Error as ExistingError}
 use Rattle.gix_object.specs.declared.find.existing_iter.Error.TheVariants as existing
 use Rattle.gix_object.specs.Object.{Objects}
@@ -15,8 +17,8 @@ use Rattle.gix_tree.specs.declared.breadthfirst.Error.{Error as TreeError}
 use Rattle.gix_tree.specs.declared.breadthfirst.Error.TheVariants as tree_error
 use Rattle.gix_commands.specs.declared.fault.Fault.{Fault}
 use Rattle.gix_commands.specs.declared.fault.Fault.TheVariants as fault
-use Rattle.gix_commands.specs.Faults.{fault_of_find, fault_of_walk, fault_of_topo_walk, fault_of_tree_walk}
-use Rattle.gix_commands.specs.Run.{Serves, walked, not_walked, walked_down, not_built, listed, not_listed, counted, not_ahead, not_behind, unserved, not_written}
+use Rattle.gix_commands.specs.Faults.{fault_of_find, fault_of_walk, fault_of_topo_walk, fault_of_contained, fault_of_tree_walk}
+use Rattle.gix_commands.specs.Run.{Serves, walked, not_walked, walked_down, not_built, listed, not_listed, counted, not_ahead, not_behind, selected, not_selected, unserved, not_written}
 use Rattle.gix_commands.specs.TopoWalked as topo
 use Rattle.gix_commands.specs.Walked.{IsWalkFault, Ends, finished, failed, cut_short}
 use Rattle.gix_commands.specs.Words.{Request}
@@ -62,6 +64,11 @@ topo_of_walk (topo_error.ObjectDecode e) = tt
 topo_of_walk (topo_error.Find e) = find_of_walk e
 topo_of_walk topo_error.Memory = tt
 
+contained_of_walk : (e : ContainedError) → IsOfWalk (fault_of_contained e)
+contained_of_walk (contained_error.Find e) = find_of_walk e
+contained_of_walk (contained_error.ObjectDecode e) = tt
+contained_of_walk contained_error.Memory = tt
+
 tree_of_walk : (e : TreeError) → IsOfWalk (fault_of_tree_walk e)
 tree_of_walk (tree_error.Find e) = find_of_walk e
 tree_of_walk tree_error.Cancelled = tt
@@ -91,5 +98,7 @@ serves_of_walk (not_listed recorder why r) = tree_of_walk why
 serves_of_walk (counted ahead behind c d a) = tt
 serves_of_walk (not_ahead f) = ends_of_walk simple_tells f.1.ends
 serves_of_walk (not_behind n a f) = ends_of_walk simple_tells f.1.ends
+serves_of_walk (selected those s a) = tt
+serves_of_walk (not_selected why f) = contained_of_walk why
 serves_of_walk unserved = tt
 serves_of_walk not_written = tt

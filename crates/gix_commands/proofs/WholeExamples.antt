@@ -146,13 +146,18 @@ module _ (parents : ObjectId → List ObjectId) (time : ObjectId → ℤ) (child
   abbrev IsNextFound : List ObjectId → List ObjectId → Type 0
   IsNextFound taken rest = IsFirst (Pending taken) (child ∷ flat_map parents taken) rest
 
-  none_found : All (λ i. Pending (child ∷ root ∷ []) i → ⊥) (child ∷ root ∷ [])
-  none_found = All-cons _ child (root ∷ []) (λ p. p.1 (Contains-here child (root ∷ []))) (All-cons _ root [] (λ p. p.1 (Contains-there root child (root ∷ []) (Contains-here root []))) (All-nil _))
+  abbrev IsPassed : List ObjectId → ObjectId → Type 0
+  IsPassed taken i = Pending taken i → ⊥
+
+  none_found : All (IsPassed (child ∷ root ∷ [])) (child ∷ root ∷ [])
+  none_found =
+      let passed = IsPassed (child ∷ root ∷ []) in
+      All-cons passed child (root ∷ []) (λ p. p.1 (Contains-here child (root ∷ []))) (All-cons passed root [] (λ p. p.1 (Contains-there root child (root ∷ []) (Contains-here root []))) (All-nil passed))
 
   in_breadth : Throughout IsNextFound (child ∷ root ∷ [])
   in_breadth =
       cut_here IsNextFound child (root ∷ []) ([], [], refl, All-nil _, child_pending)
-      (cut_here (λ taken rest. IsNextFound (child ∷ taken) rest) root [] (child ∷ [], [], names_of_child, All-cons _ child [] (λ p. p.1 (Contains-here child [])) (All-nil _), root_pending)
+      (cut_here (λ taken rest. IsNextFound (child ∷ taken) rest) root [] (child ∷ [], [], names_of_child, All-cons (IsPassed (child ∷ [])) child [] (λ p. p.1 (Contains-here child [])) (All-nil _), root_pending)
       (cut_end (λ taken rest. IsNextFound (child ∷ root ∷ taken) rest) (subst (All (λ i. Pending (child ∷ root ∷ []) i → ⊥)) (sym names_of_both) none_found)))
 
   -- the newest first

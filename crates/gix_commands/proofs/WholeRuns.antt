@@ -21,14 +21,16 @@ use Rattle.gix_commands.specs.Files.{file_lines}
 use Rattle.gix_commands.specs.Histories.{AreWhole}
 use Rattle.gix_commands.specs.Run.{Runs, Serves, served, listed}
 use Rattle.gix_commands.specs.Walked.{never_faulty}
-use Rattle.gix_commands.specs.Words.{Request, Commits, Files, Ahead, request_of}
+use Rattle.gix_commands.specs.Words.{Request, Commits, Files, Ahead, Contained, request_of}
 use Rattle.gix_commands.specs.WholeStatement as page
 use Rattle.gix_commands.specs.WholeStatement.{Entry, IsTree, Unfolds, Promises, entry_line}
 use Rattle.gix_commands.proofs.AheadRuns.{ahead_counts, counted_whole}
 use Rattle.gix_commands.proofs.CommitRuns.{served_so, simple_lists}
+use Rattle.gix_commands.proofs.ContainedRuns.{contains_ids}
 use Rattle.gix_commands.proofs.FileRuns.{unfolds}
 use Rattle.gix_commands.proofs.TopoRuns.{topo_lists}
 use Rattle.gix_commands.proofs.SameCommits.{worded, are_records}
+use Rattle.gix_commands.proofs.SameContained.{contained_kept}
 use Rattle.gix_commands.proofs.SameHistory.{history}
 use Rattle.gix_commands.proofs.SameLists.{listed as is_list, listed_down, number_shown, id_lines, entry_lines}
 use Rattle.gix_commands.proofs.SameTrees.{IsNamed, have_names, placed_by, unfolds_walk}
@@ -88,6 +90,9 @@ module _ (words : List (List ℕ)) (input : List ℕ) (rs : List Record) (old ne
       (number_shown (stored rs) parents one other n.0 (number_by_texts (stored rs) both whole one other first second n.0 n.2))
       (number_shown (stored rs) parents other one n.1 (number_by_texts (stored rs) both whole other one second first n.1 n.3))
       n.4)
+  serves (Contained tip ids) asked (rest, is, tips, some) =
+      let c = contains_ids words input rs tip ids old new asked are runs in
+      subst ServesSo (sym is) (page.contains tips some (contained_kept (stored rs) tip ids c.0 c.2 c.1) (subst (Appends old new) (id_lines c.0) c.3))
 
   promised : (request : Request) → request_of words ≡ Ok request
       → (records : List page.Record) × (ps : ObjectId → List ObjectId) × (ts : ObjectId → ℤ) × page.AreRecords records input × page.AreHistory records ps ts × page.Serves records ps ts old new words

@@ -9,10 +9,21 @@ use Rattle.gix_hash.specs.Id.{id_from_hex}
 use Rattle.gix_commands.specs.declared.fault.Fault.{Fault}
 use Rattle.gix_commands.specs.declared.fault.Fault.TheVariants as fault
 use Rattle.gix_commands.specs.declared.words.Order.{Order}
-use Rattle.gix_commands.specs.Words.{Request, Files, Ahead, Ids, begins_with_caret, without_caret, with_word, ids_from, order_named, commits_from, files_from, files_of, ahead_from, ahead_of, request_named, request_of}
+use Rattle.gix_commands.specs.Words.{Request, Files, Ahead, Contained, Ids, begins_with_caret, without_caret, is_shown, with_id, with_word, ids_from, order_named, commits_from, files_from, files_of, ahead_from, ahead_of, contained_among, contained_from, contained_of, request_named, request_of}
 
--- what is so of a wrong use, of a word that spells no id, of a tree, of two commits to compare and of what an order's words ask for
-module _ (P : Result Request Fault → Type 0) (usage : P (Err fault.Usage)) (no_id : (n : ℕ) → P (Err (fault.Id n))) (tree : (i : ObjectId) → P (Ok (Files i))) (pair : (i j : ObjectId) → P (Ok (Ahead i j))) where
+-- what is so of ids, and of a word that spells none, is so of what words spell
+with_each : (Q : Result Ids Fault → Type 0) (ids_so : (ids : Ids) → Q (Ok ids)) (no_id : (n : ℕ) → Q (Err (fault.Id n))) (hidden : Bool) (n : ℕ) (r : Result ObjectId HexError) (rest : Result Ids Fault) → Q rest → Q (with_word hidden n r rest)
+with_each Q ids_so no_id hidden n (Err e) rest h = no_id n
+with_each Q ids_so no_id hidden n (Ok i) (Err f) h = h
+with_each Q ids_so no_id hidden n (Ok i) (Ok ids) h = ids_so (with_id hidden i ids)
+
+each_ids : (Q : Result Ids Fault → Type 0) (ids_so : (ids : Ids) → Q (Ok ids)) (no_id : (n : ℕ) → Q (Err (fault.Id n))) (n : ℕ) (words : List (List ℕ)) → Q (ids_from n words)
+each_ids Q ids_so no_id n [] = ids_so ([], [])
+each_ids Q ids_so no_id n (word ∷ words) =
+    with_each Q ids_so no_id (begins_with_caret word) n (id_from_hex (without_caret word)) (ids_from (n + 1) words) (each_ids Q ids_so no_id (n + 1) words)
+
+-- what is so of a wrong use, of a word that spells no id, of a tree, of two commits to compare, of a tip and ids behind it and of what an order's words ask for
+module _ (P : Result Request Fault → Type 0) (usage : P (Err fault.Usage)) (no_id : (n : ℕ) → P (Err (fault.Id n))) (tree : (i : ObjectId) → P (Ok (Files i))) (pair : (i j : ObjectId) → P (Ok (Ahead i j))) (some : (i : ObjectId) (ids : List ObjectId) → P (Ok (Contained i ids))) where
   either : (t : Bool) (a b : Result Request Fault) → P a → P b → P (cond t a b)
   either true a b h k = h
   either false a b h k = k
@@ -37,9 +48,20 @@ module _ (P : Result Request Fault → Type 0) (usage : P (Err fault.Usage)) (no
   from_pairs (one ∷ other ∷ []) = either (begins_with_caret one || begins_with_caret other) (Err fault.Usage) (ahead_from (id_from_hex one) (id_from_hex other)) usage (from_pair (id_from_hex one) (id_from_hex other))
   from_pairs (one ∷ other ∷ next ∷ ids) = usage
 
+  from_some : (ids : List ObjectId) → P (contained_among ids)
+  from_some [] = usage
+  from_some (tip ∷ ids) = some tip ids
+
+  from_somes : (ids : List (List ℕ)) → P (contained_of ids)
+  from_somes [] = usage
+  from_somes (tip ∷ []) = usage
+  from_somes (tip ∷ next ∷ ids) =
+      either (list_all is_shown (tip ∷ next ∷ ids)) (contained_from (ids_from 2 (tip ∷ next ∷ ids))) (Err fault.Usage)
+      (each_ids (λ r. P (contained_from r)) (λ those. from_some those.0) no_id 2 (tip ∷ next ∷ ids)) usage
+
   from_name : (name : List ℕ) (o : Option Order) (ids : List (List ℕ)) → ((by : Order) → o ≡ Some by → P (commits_from by (ids_from 2 ids))) → P (request_named name o ids)
   from_name name (Some by) ids h = either (list_all begins_with_caret ids) (Err fault.Usage) (commits_from by (ids_from 2 ids)) usage (h by refl)
-  from_name name None ids h = either (bytes_eq name (codes "files")) (files_of ids) _ (from_trees ids) (either (bytes_eq name (codes "ahead")) (ahead_of ids) (Err fault.Usage) (from_pairs ids) usage)
+  from_name name None ids h = either (bytes_eq name (codes "files")) (files_of ids) _ (from_trees ids) (either (bytes_eq name (codes "ahead")) (ahead_of ids) _ (from_pairs ids) (either (bytes_eq name (codes "contains")) (contained_of ids) (Err fault.Usage) (from_somes ids) usage))
 
   -- is so of each request
   pub each_request : ((name : List ℕ) (by : Order) → order_named name ≡ Some by → (ids : List (List ℕ)) → P (commits_from by (ids_from 2 ids))) → (words : List (List ℕ)) → P (request_of words)
@@ -80,4 +102,4 @@ commits_words by (Ok ids) h = tt
 commits_words by (Err e) h = h
 
 pub request_words : (words : List (List ℕ)) → OfWords (request_of words)
-request_words = each_request OfWords tt (λ n. tt) (λ i. tt) (λ i j. tt) (λ name by e ids. commits_words by (ids_from 2 ids) (ids_words 2 ids))
+request_words = each_request OfWords tt (λ n. tt) (λ i. tt) (λ i j. tt) (λ i ids. tt) (λ name by e ids. commits_words by (ids_from 2 ids) (ids_words 2 ids))

@@ -1,4 +1,6 @@
 -- Which fault of a run a fault of its input or of a walk is.
+use Rattle.gix_contained.specs.declared.Error.{Error as ContainedError}
+use Rattle.gix_contained.specs.declared.Error.TheVariants as contained_error
 use Rattle.gix_graph_check.specs.declared.Disagreement.{Disagreement}
 use Rattle.gix_graph_check.specs.declared.Disagreement.TheVariants as disagreement
 use Rattle.gix_records.specs.declared.Error.{Error as RecordsError}
@@ -46,6 +48,11 @@ fault_of_topo_walk topo_error.MissingStateUnexpected = fault.Internal
 fault_of_topo_walk (topo_error.ObjectDecode e) = fault.Broken
 fault_of_topo_walk (topo_error.Find e) = fault_of_find e
 fault_of_topo_walk topo_error.Memory = fault.Memory
+
+abbrev pub fault_of_contained : ContainedError → Fault
+fault_of_contained (contained_error.Find e) = fault_of_find e
+fault_of_contained (contained_error.ObjectDecode e) = fault.Broken
+fault_of_contained contained_error.Memory = fault.Memory
 
 abbrev pub fault_of_tree_walk : TreeError → Fault
 fault_of_tree_walk (tree_error.Find e) = fault_of_find e

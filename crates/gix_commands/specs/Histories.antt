@@ -6,6 +6,7 @@ use Rattle.std.specs.List.{flat_map}
 use Rattle.gix_hash.specs.declared.ObjectId.{ObjectId}
 use Rattle.gix_object.specs.Object.{Object, Objects}
 use Rattle.gix_commitgraph.specs.Rows.{GraphRow}
+use Rattle.gix_contained.specs.Contained.{AreContained}
 use Rattle.gix_graph_store.specs.Laws.{StoredAgree}
 use Rattle.gix_graph_store.specs.WithRows.{with_rows}
 use Rattle.gix_revwalk.specs.declared.Info.{Info}
@@ -30,7 +31,7 @@ use Rattle.gix_records.specs.Records.{Record, AreRecords, stored}
 use Rattle.gix_commands.specs.Opening.{Opens}
 use Rattle.gix_commands.specs.Run.{Runs, RunsOver}
 use Rattle.gix_commands.specs.Walked.{line_of}
-use Rattle.gix_commands.specs.Words.{Ahead, Commits, request_of}
+use Rattle.gix_commands.specs.Words.{Ahead, Commits, Contained, request_of}
 
 -- the tips reach the commit through these parents, and the hidden tips don't
 abbrev pub IsShownBy : (ObjectId → List ObjectId) → List ObjectId → List ObjectId → ObjectId → Type 0
@@ -196,6 +197,32 @@ AheadCountsOfPart =
     × IsNumberOf (IsShown objects (other ∷ []) (one ∷ [])) behind
     × Appends old new (ahead_line ahead behind)
 
+-- Over words that ask for it and records, a run of `contains` that ends well writes those of the ids that the tip reaches, in the order given
+-- and with repeats, one a line. It has read all that the tip and the ids reach, and all of it are whole commits.
+abbrev pub ContainsIds : Type 0
+ContainsIds =
+    (words : List (List ℕ)) (input : List ℕ) (records : List Record) (tip : ObjectId) (ids : List ObjectId) (old new : Option (List ℕ)) →
+    request_of words ≡ Ok (Contained tip ids) → AreRecords records input → Runs words (Some input) old (Ok tt) new →
+    (those : List ObjectId) × AreContained (parents_of (stored records)) (tip ∷ []) ids those × AreWhole (stored records) (tip ∷ ids)
+    × Appends old new (lines_of_ids those)
+
+-- Where the records are a part of a store, these are the ids that the tip reaches in the whole store, whatever else is in it.
+abbrev pub ContainsIdsOfPart : Type 0
+ContainsIdsOfPart =
+    (words : List (List ℕ)) (input : List ℕ) (records : List Record) (tip : ObjectId) (ids : List ObjectId)
+    (old new : Option (List ℕ)) (objects : Objects) →
+    request_of words ≡ Ok (Contained tip ids) → AreRecords records input → IsPartOf (stored records) objects →
+    Runs words (Some input) old (Ok tt) new →
+    (those : List ObjectId) × AreContained (parents_of objects) (tip ∷ []) ids those × Appends old new (lines_of_ids those)
+
+-- A run of `contains` over whole commits ends well.
+abbrev pub ContainsSucceeds : Type 0
+ContainsSucceeds =
+    (words : List (List ℕ)) (input : List ℕ) (records : List Record) (tip : ObjectId) (ids : List ObjectId) (answer : Result (Unit {0}) Fault)
+    (old new : Option (List ℕ)) →
+    request_of words ≡ Ok (Contained tip ids) → AreRecords records input → AreWhole (stored records) (tip ∷ ids) →
+    Runs words (Some input) old answer new → EndsWell answer
+
 -- The layers of a commit-graph are these rows, which can be used without a store, and what is stored at the id of one is the commit that
 -- it says.
 pub record AreTold (layers : List (List ℕ)) (records : List Record) (rows : List GraphRow) : Type 0 where
@@ -233,6 +260,14 @@ ToldAheadCounts =
     × IsNumberOf (IsShown (told rows records) (one ∷ []) (other ∷ [])) ahead
     × IsNumberOf (IsShown (told rows records) (other ∷ []) (one ∷ [])) behind
     × Appends old new (ahead_line ahead behind)
+
+-- Over a commit-graph `contains` writes those of the ids that the tip reaches in that history, of which nothing is asked.
+abbrev pub ToldContainsIds : Type 0
+ToldContainsIds =
+    (words layers : List (List ℕ)) (input : List ℕ) (records : List Record) (tip : ObjectId) (ids : List ObjectId) (old new : Option (List ℕ)) →
+    request_of words ≡ Ok (Contained tip ids) → AreRecords records input → RunsOver words layers (Some input) old (Ok tt) new →
+    (rows : List GraphRow) × AreTold layers records rows
+    × (those : List ObjectId) × AreContained (parents_of (told rows records)) (tip ∷ []) ids those × Appends old new (lines_of_ids those)
 
 -- A run that fails, and not by the writer, writes nothing, unless the words ask for a list of commits.
 abbrev pub FailsSilently : Type 0

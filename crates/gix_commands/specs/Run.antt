@@ -1,9 +1,12 @@
 -- What a run of the program may answer and write.
-use Rattle.std.specs.Prelude.{◌≡◌, ℕ, List, [], Option, Result, Ok, Err}
+use Rattle.std.specs.Prelude.{◌≡◌, ℕ, List, [], ◌∷◌, Option, Result, Ok, Err}
 use Rattle.std.specs.Io.KnownBytes.{Appends}
+use Rattle.std.specs.List.{flat_map}
 use Rattle.gix_hash.specs.declared.ObjectId.{ObjectId}
 use Rattle.gix_object.specs.Object.{Objects}
 use Rattle.gix_commitgraph.specs.Rows.{GraphRow}
+use Rattle.gix_contained.specs.declared.Error.{Error as ContainedError}
+use Rattle.gix_contained.specs.Contained.{Selects, FailsBy}
 use Rattle.gix_revwalk.specs.declared.Info.{Info}
 use Rattle.gix_simple.specs.declared.Error.{Error}
 use Rattle.gix_simple.specs.declared.Sorting.{Sorting}
@@ -15,7 +18,7 @@ use Rattle.gix_commands.specs.declared.fault.Fault.{Fault}
 use Rattle.gix_commands.specs.declared.fault.Fault.TheVariants as fault
 use Rattle.gix_commands.specs.declared.words.Order.TheVariants.{Simple, Topo}
 use Rattle.gix_commands.specs.Ahead.{Counts, FailsToCount, ahead_line}
-use Rattle.gix_commands.specs.Faults.{fault_of_walk, fault_of_topo_walk, fault_of_tree_walk}
+use Rattle.gix_commands.specs.Faults.{fault_of_walk, fault_of_topo_walk, fault_of_contained, fault_of_tree_walk}
 use Rattle.gix_commands.specs.Files.{RecordsTree, file_lines}
 use Rattle.gix_graph_check.specs.declared.Disagreement.TheVariants.{Row}
 use Rattle.gix_graph_store.specs.Laws.{StoredAgree}
@@ -25,8 +28,8 @@ use Rattle.gix_records.specs.Input.{Tells}
 use Rattle.gix_records.specs.Records.{Record, AreRecords, IsBadRecord, stored}
 use Rattle.gix_commands.specs.Opening.{Opens, FailsToOpen}
 use Rattle.gix_commands.specs.TopoWalked as topo
-use Rattle.gix_commands.specs.Walked.{Walk, Answers, IsWalkFault, StartsFrom, FailsAtStart, Ends, lines_of, never_faulty}
-use Rattle.gix_commands.specs.Words.{Request, Commits, Files, Ahead, request_of}
+use Rattle.gix_commands.specs.Walked.{Walk, Answers, IsWalkFault, StartsFrom, FailsAtStart, Ends, line_of, lines_of, never_faulty}
+use Rattle.gix_commands.specs.Words.{Request, Commits, Files, Ahead, Contained, request_of}
 
 -- Over objects, rows for the walks of commits and a writer that has the bytes `old`: which answers a request may get, and which bytes the writer then has.
 pub data Serves (objects : Objects) (rows : List GraphRow) (old : Option (List ℕ)) : Request → Result (Unit {0}) Fault → Option (List ℕ) → Type 0 where
@@ -53,6 +56,10 @@ pub data Serves (objects : Objects) (rows : List GraphRow) (old : Option (List �
   not_ahead : {one other : ObjectId} {e : Fault} → FailsToCount objects rows one other e → Serves objects rows old (Ahead one other) (Err e) old
   not_behind : {one other : ObjectId} {e : Fault} (ahead : ℕ) → Counts objects rows one other ahead → FailsToCount objects rows other one e
       → Serves objects rows old (Ahead one other) (Err e) old
+  selected : {tip : ObjectId} {ids : List ObjectId} (those : List ObjectId) {new : Option (List ℕ)}
+      → Selects objects rows (tip ∷ []) ids those → Appends old new (flat_map line_of those) → Serves objects rows old (Contained tip ids) (Ok tt) new
+  not_selected : {tip : ObjectId} {ids : List ObjectId} (e : ContainedError) → FailsBy objects (never_faulty objects) rows (tip ∷ []) ids e
+      → Serves objects rows old (Contained tip ids) (Err (fault_of_contained e)) old
   -- memory ran out before anything was written
   unserved : {request : Request} → Serves objects rows old request (Err fault.Memory) old
   -- of what was written nothing is said

@@ -1,9 +1,8 @@
 -- What a run that ended well has written, from lists of bytes up: `Promises`, at the end. This page says all of it; README says what else is
 -- to be believed. A text is a list of bytes: 10 is a newline, 32 a space, 45 `-`, 47 `/`, 48 `0`, 62 `>`, 94 `^`.
-use Rattle.std.specs.Prelude.{◌≡◌, ◌≢◌, ◌↔◌, ◌⊎◌, ℕ, ◌-◌, ◌*◌, ◌^◌, ◌≤◌, nat_lt, nat_le, bit_and, ℤ, pos, neg_ℤ, ◌≤ℤ◌, int_le, List, [], ◌∷◌, ◌++◌, length, take, replicate, reverse, filter, not, false, if◌then◌else◌, Option, Some, Result, Ok, All, AllPairs, Contains, codes}
+use Rattle.std.specs.Prelude.{◌≡◌, ◌≢◌, ◌↔◌, ◌⊎◌, ℕ, ◌-◌, ◌*◌, ◌^◌, ◌≤◌, nat_lt, nat_le, bit_and, ℤ, pos, neg_ℤ, ◌≤ℤ◌, int_le, List, [], ◌∷◌, ◌++◌, length, take, replicate, reverse, filter, flat_map, not, false, if◌then◌else◌, Option, Some, Result, Ok, All, AllPairs, Contains, codes}
 use Rattle.std.specs.Fmt.{digits}
 use Rattle.std.specs.Io.KnownBytes.{Appends}
-use Rattle.std.specs.List.{flat_map}
 use Rattle.std.specs.Str.Parse.{AllDigits, digits_value}
 use Rattle.hex.specs.Hex.{decode_of, encode_lower}
 use Rattle.gix_hash.specs.declared.ObjectId.{ObjectId}
@@ -42,8 +41,7 @@ abbrev pub Holds : List Record → ObjectId → List ℕ → List ℕ → Type 0
 Holds records i kind bytes =
     (before after : List Record) × (records ≡ before ++ record { kind = kind; id = i; bytes = bytes } ∷ after) × ((r : Record) → Contains after r → r.id ≢ i)
 
--- COMMITS: all ids in a commit's text have as many digits as its own. The text is a line for each of these parents, in order and with repeats,
--- and the rest, which begins with no further such line.
+-- COMMITS: ids in a text have as many digits as its own id. It is a line for each of these parents, in order and with repeats, and a rest without one in front.
 abbrev pub AreParentLines : ℕ → List ObjectId → List ℕ → List ℕ → Type 0
 AreParentLines width [] text rest = (text ≡ rest) × ((p : ObjectId) (id more : List ℕ) → Spells width id p → rest ≢ codes "parent " ++ id ++ 10 ∷ more)
 AreParentLines width (p ∷ ps) text rest =
@@ -77,8 +75,7 @@ IsSigned records i time =
 -- the parents that commits name, also where the rest is broken, and the times of committers; of any other id none and 0
 abbrev pub AreHistory : List Record → (ObjectId → List ObjectId) → (ObjectId → ℤ) → Type 0
 AreHistory records parents time =
-    (i : ObjectId)
-    → (((rest : List ℕ) × Names records i (parents i) rest) ⊎ (((ps : List ObjectId) (rest : List ℕ) → Names records i ps rest → ⊥) × (parents i ≡ [])))
+    (i : ObjectId) → (((r : List ℕ) × Names records i (parents i) r) ⊎ (((ps : List ObjectId) (r : List ℕ) → Names records i ps r → ⊥) × (parents i ≡ [])))
     × (IsSigned records i (time i) ⊎ (((t : ℤ) → IsSigned records i t → ⊥) × (time i ≡ pos 0)))
 
 -- ORDERS, whatever ids are. What starts reach is the least set that has them and the parents of each member.
@@ -187,6 +184,10 @@ pub data Serves (records : List Record) (parents : ObjectId → List ObjectId) (
   ahead : {a b : List ℕ} {one other : ObjectId} (n m : ℕ) → Spells (digits_in one) a one → Spells (digits_in other) b other
       → IsNumberShown parents time (one ∷ []) (other ∷ []) n → IsNumberShown parents time (other ∷ []) (one ∷ []) m
       → Appends old new (digits 10 false n ++ 32 ∷ (digits 10 false m ++ 10 ∷ [])) → Serves records parents time old new (codes "ahead" ∷ a ∷ b ∷ [])
+  -- those of the ids that the tip reaches, one a line
+  contains : {words : List (List ℕ)} {tip : ObjectId} {ids those : List ObjectId} → AreTips words (tip ∷ ids) [] → ids ≢ []
+      → Keeps (λ before i after. Reaches parents (tip ∷ []) i) [] ids those → Appends old new (flat_map (λ i. encode_lower (bytes_in i) ++ 10 ∷ []) those)
+      → Serves records parents time old new (codes "contains" ∷ words)
   -- entries, one a line, where no name is empty or has a slash
   files : {a : List ℕ} {tree : ObjectId} {entries : List Entry} {placed : List (List ℕ × Entry)} → Spells (digits_in tree) a tree → IsTree records tree entries
       → Unfolds records [] entries placed → (All (λ p. (p.1.name ≢ []) × All (λ b. b ≢ 47) p.1.name) placed → Appends old new (flat_map entry_line placed))

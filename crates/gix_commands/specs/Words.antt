@@ -1,5 +1,5 @@
 -- What the words of a command ask for.
-use Rattle.std.specs.Prelude.{◌≡◌, ◌≢◌, ℕ, ◌+◌, ◌==◌, List, [], ◌∷◌, ◌++◌, Bool, true, false, ◌||◌, if◌then◌else◌, Option, Some, None, Result, Ok, Err, codes}
+use Rattle.std.specs.Prelude.{◌≡◌, ◌≢◌, ℕ, ◌+◌, ◌==◌, List, [], ◌∷◌, ◌++◌, Bool, true, false, ◌||◌, not, if◌then◌else◌, Option, Some, None, Result, Ok, Err, codes}
 use Rattle.std.specs.List.{list_all}
 use Rattle.std.specs.Str.{bytes_eq}
 use Rattle.gix_hash.specs.declared.ObjectId.{ObjectId}
@@ -22,11 +22,14 @@ pub data Request : Type 0 where
   Files : (tree : ObjectId) → Request
   -- how many commits the one reaches and the other doesn't, and the other way round
   Ahead : (one other : ObjectId) → Request
+  -- those of the ids that the tip reaches
+  Contained : (tip : ObjectId) (ids : List ObjectId) → Request
 
 abbrev pub request_of_command : Command → Request
 request_of_command (command.Commits order tips hidden) = Commits order tips.items hidden.items
 request_of_command (command.Files tree) = Files tree
 request_of_command (command.Ahead one other) = Ahead one other
+request_of_command (command.Contained tip ids) = Contained tip ids.items
 
 -- what a function returned, seen by view, is what it was to be, unless memory ran out
 abbrev pub Gives : {X Y : Type 0} → (X → Y) → Result X Fault → Result Y Fault → Type 0
@@ -111,12 +114,32 @@ ahead_of (one ∷ []) = Err fault.Usage
 ahead_of (one ∷ other ∷ []) = if begins_with_caret one || begins_with_caret other then Err fault.Usage else ahead_from (id_from_hex one) (id_from_hex other)
 ahead_of (one ∷ other ∷ next ∷ ids) = Err fault.Usage
 
+-- whether the word asks for no commit to be hidden
+abbrev pub is_shown : List ℕ → Bool
+is_shown word = not (begins_with_caret word)
+
+-- an id, and ids behind it
+abbrev pub contained_among : List ObjectId → Result Request Fault
+contained_among [] = Err fault.Usage
+contained_among (tip ∷ ids) = Ok (Contained tip ids)
+
+abbrev pub contained_from : Result Ids Fault → Result Request Fault
+contained_from (Ok ids) = contained_among ids.0
+contained_from (Err e) = Err e
+
+-- two ids at least, none of them to be hidden: this is judged of all words before any is judged as an id
+abbrev pub contained_of : List (List ℕ) → Result Request Fault
+contained_of [] = Err fault.Usage
+contained_of (tip ∷ []) = Err fault.Usage
+contained_of (tip ∷ next ∷ ids) = if list_all is_shown (tip ∷ next ∷ ids) then contained_from (ids_from 2 (tip ∷ next ∷ ids)) else Err fault.Usage
+
 -- what words ask for by this name, which may be that of an order
 abbrev pub request_named : List ℕ → Option Order → List (List ℕ) → Result Request Fault
 request_named name (Some by) ids = commits_of by ids
 request_named name None ids =
     if bytes_eq name (codes "files") then files_of ids
     else if bytes_eq name (codes "ahead") then ahead_of ids
+    else if bytes_eq name (codes "contains") then contained_of ids
     else Err fault.Usage
 
 -- what words ask for, or why they are no command

@@ -6,7 +6,7 @@ use gix_graph_file::ChainError;
 use gix_parts::hash::ObjectId;
 use gix_parts::object::find::existing_iter;
 use gix_parts::records;
-use gix_traverse::commit::{simple, topo};
+use gix_traverse::commit::{contained, simple, topo};
 use gix_traverse::tree::depthfirst;
 use std::alloc::AllocError;
 use thiserror::Error;
@@ -143,6 +143,20 @@ impl From<topo::Error> for Fault {
             topo::Error::ObjectDecode(_) => Fault::Broken,
             topo::Error::Find(fault) => Fault::from(fault),
             topo::Error::Memory => Fault::Memory,
+        }
+    }
+}
+
+impl From<contained::Error> for Fault {
+    ghost use Rattle.gix_commands.specs.Faults.{fault_of_contained};
+
+    ghost from_gives = { λ e r. r ≡ fault_of_contained e };
+
+    fn from(error: contained::Error) -> Fault {
+        match error {
+            contained::Error::Find(fault) => Fault::from(fault),
+            contained::Error::ObjectDecode(_) => Fault::Broken,
+            contained::Error::Memory => Fault::Memory,
         }
     }
 }

@@ -1,6 +1,7 @@
 //! What a run of the program writes, as laws over the definitions: functions that do nothing, and whose contracts are proved.
 
 ghost use Rattle.gix_commands.specs.Histories.{AheadCounts, AheadCountsOfPart, AheadSucceeds, DrawsDifference, FailsSilently};
+ghost use Rattle.gix_commands.specs.Histories.{ContainsIds, ContainsIdsOfPart, ContainsSucceeds, ToldContainsIds};
 ghost use Rattle.gix_commands.specs.Histories.{SimpleLists, SimpleListsOfPart, SimpleSucceeds, TopoLists, TopoListsOfPart, TopoSucceeds};
 ghost use Rattle.gix_commands.specs.Histories.{ToldAheadCounts, ToldSimpleLists, ToldTopoLists};
 ghost use Rattle.gix_commands.specs.Listings.{FilesLists, FilesListsOfPart, FilesSucceeds};
@@ -81,6 +82,22 @@ pub fn ahead_succeeds()
     ensures { AheadSucceeds }
 {}
 
+/// `contains` writes those of its further ids that the first reaches, in the order given and with repeats, one a line. A run that ends well
+/// has read all that these ids reach, and all of it are whole commits.
+pub fn contains_ids()
+    ensures { ContainsIds }
+{}
+
+/// Where the records are a part of a repository, these lines are right of the whole repository, whatever else is in it.
+pub fn contains_ids_of_part()
+    ensures { ContainsIdsOfPart }
+{}
+
+/// Where all that the ids reach are whole commits, `contains` fails for memory, reading or writing alone.
+pub fn contains_succeeds()
+    ensures { ContainsSucceeds }
+{}
+
 /// Over a commit-graph, `breadth`, `newest` and `oldest` write such a list of the history that the rows and the records say. Nothing is
 /// asked of the records or of the commit-graph: a run that ends well has read it, its rows can be used without a store, and they say what
 /// the records say.
@@ -96,6 +113,11 @@ pub fn told_topo_lists()
 /// Over a commit-graph, `ahead` writes the numbers of commits that one id reaches in that history and the other doesn't.
 pub fn told_ahead_counts()
     ensures { ToldAheadCounts }
+{}
+
+/// Over a commit-graph, `contains` writes those of its further ids that the first reaches in that history.
+pub fn told_contains_ids()
+    ensures { ToldContainsIds }
 {}
 
 /// A run that fails, and not by the writer, writes nothing, unless the words ask for a list of commits.

@@ -15,6 +15,7 @@ ghost use Rattle.gix_revwalk.specs.Agreeing.{rows_in};
 
 mod ahead;
 mod commits;
+mod contains;
 mod digits;
 mod fault;
 mod files;
@@ -27,6 +28,7 @@ mod words;
 
 use ahead::write_ahead;
 use commits::{topo_walk_from, walk_from};
+use contains::write_contained;
 pub use fault::Fault;
 use files::write_files;
 pub use given::run_in;
@@ -47,13 +49,14 @@ use words::{Command, Order, read_command};
 /// `breadth`, `newest` and `oldest` write the id of each commit that the tips reach and the hidden tips don't, one a line: in the order
 /// in which commits are met, or in one by time. `topo` and `date` do this in an order in which no commit comes before its children.
 /// `files` writes the mode, the id and the path of each entry of the tree and of the trees in it, one a line. `ahead` writes how many
-/// commits the first id reaches and the second doesn't, a space, and how many the second reaches and the first doesn't.
+/// commits the first id reaches and the second doesn't, a space, and how many the second reaches and the first doesn't. `contains` writes
+/// those of its further ids that the first reaches, in the order given, one a line.
 ///
 /// # Errors
 /// `Usage` and `Id` where the words are no command, `Read` where the reader fails or gives no end when it is asked for the last time,
 /// `Record` where the input isn't records: nothing is written. `Missing`, `WrongKind` and `Broken` where the walk meets such an object,
 /// `Cycle` where it meets a tree that is under itself, and `Memory`: the lines of the commits before are written, and nothing of
-/// `files` and `ahead`. `Write` where the writer fails: what was written is not stated.
+/// `files`, `ahead` and `contains`. `Write` where the writer fails: what was written is not stated.
 pub fn run<R: Read, W: Write>(
     alloc: Global,
     words: &[String],
@@ -92,6 +95,7 @@ fn serve<W: Write>(
         } => serve_commits(alloc, order, tips, hidden, store, graph, writer),
         Command::Files(tree) => write_files(alloc, tree, store, graph, writer),
         Command::Ahead { one, other } => write_ahead(alloc, one, other, store, graph, writer),
+        Command::Contained { tip, ids } => write_contained(alloc, tip, ids, store, graph, writer),
     }
 }
 

@@ -1,7 +1,7 @@
 //! The words of a command.
 ghost use Rattle.std.specs.Prelude.{◌≡◌, map, string_bytes};
 ghost use Rattle.std.specs.List.{list_all};
-ghost use Rattle.gix_commands.specs.Words.{Gives, Tells, AddsId, begins_with_caret, request_of_command, request_of, order_named, ids_from, commits_of, files_of, ahead_of};
+ghost use Rattle.gix_commands.specs.Words.{Gives, Tells, AddsId, begins_with_caret, request_of_command, request_of, order_named, ids_from, commits_of, files_of, ahead_of, is_shown, contained_among, contained_of};
 
 use crate::fault::Fault;
 use gix_parts::hash::ObjectId;
@@ -34,10 +34,16 @@ pub enum Command {
         one: ObjectId,
         other: ObjectId,
     },
+    /// Those of the ids that the tip reaches.
+    Contained {
+        tip: ObjectId,
+        ids: Vec<ObjectId>,
+    },
 }
 
 /// The command that the words are: `breadth`, `newest`, `oldest`, `topo` or `date`, ids of tips, one at least, and ids of commits to be
-/// hidden, each after a `^`; or `files` and one id; or `ahead` and two ids. An id is 40 or 64 hex digits.
+/// hidden, each after a `^`; or `files` and one id; or `ahead` and two ids; or `contains` and two ids at least. An id is 40 or 64 hex
+/// digits.
 ///
 /// # Errors
 /// `Usage` where the words are no command, `Id` at the first word that has to be an id and is none, `Memory`.
@@ -55,6 +61,9 @@ pub fn read_command(alloc: Global, words: &[String]) -> Result<Command, Fault>
     }
     if name.as_str() == "ahead" {
         return ahead(ids);
+    }
+    if name.as_str() == "contains" {
+        return contained(alloc, ids);
     }
     Err(Fault::Usage)
 }
@@ -131,6 +140,40 @@ fn ahead(ids: &[String]) -> Result<Command, Fault>
         return Err(Fault::Id(3));
     };
     Ok(Command::Ahead { one, other })
+}
+
+// The commits of these ids, two at least, of which the first is the tip.
+fn contained(alloc: Global, ids: &[String]) -> Result<Command, Fault>
+    ensures { Gives request_of_command result (contained_of (map string_bytes ids.now)) }
+{
+    if ids.len() < 2 || !are_shown(ids) {
+        return Err(Fault::Usage);
+    }
+    let (tips, _hidden) = read_ids(alloc, ids)?;
+    contained_among(tips)
+}
+
+// The first of the ids is the tip.
+fn contained_among(mut ids: Vec<ObjectId>) -> Result<Command, Fault>
+    ensures { Tells request_of_command result (contained_among ids.items) }
+{
+    if ids.is_empty() {
+        return Err(Fault::Usage);
+    }
+    let tip = ids.remove(0);
+    Ok(Command::Contained { tip, ids })
+}
+
+// Whether no word names a commit that is to be hidden.
+fn are_shown(ids: &[String]) -> bool
+    ensures { result ≡ list_all is_shown (map string_bytes ids.now) }
+{
+    for id in ids {
+        if begins_with_caret(id) {
+            return false;
+        }
+    }
+    true
 }
 
 // Whether each word names a commit that is to be hidden.

@@ -120,6 +120,7 @@ fn compare(words: &[String], told: &[u8], want: &[u8]) -> Result<(), Fail> {
 mod ahead;
 mod breadth;
 mod by_time;
+mod contains;
 mod files;
 mod hidden;
 mod over;

@@ -1,10 +1,11 @@
--- Worked rows: what is sound, and what the heads are.
+-- Worked rows: what is sound, what the heads are, and which parents rows name.
 use Rattle.std.specs.Prelude.{◌≡◌, ℕ, pos, List, [], ◌∷◌, replicate, refl}
 use Rattle.gix_hash.specs.declared.ObjectId.TheVariants as id
 use Rattle.gix_commitgraph.specs.declared.ParentPlace.{ParentPlace}
 use Rattle.gix_commitgraph.specs.declared.ParentPlace.TheVariants.{At, Fault}
 use Rattle.gix_commitgraph.specs.Rows.{GraphRow}
 use Rattle.gix_graph_check.specs.Heads.{heads_of}
+use Rattle.gix_graph_check.specs.HeadsReach.{parents_by_rows}
 
 -- a row whose id has this byte twenty times
 abbrev pub example_row : ℕ → ℕ → List ParentPlace → GraphRow
@@ -27,3 +28,12 @@ heads_of_a_circle = refl
 pub heads_of_none : heads_of [] ≡ []
 unfolding heads_of
 heads_of_none = refl
+
+pub parents_of_the_second : parents_by_rows four_rows (id.Sha1 (replicate 20 0x22)) ≡ id.Sha1 (replicate 20 0x11) ∷ id.Sha1 (replicate 20 0x33) ∷ []
+parents_of_the_second = refl
+
+pub parents_of_the_fourth : parents_by_rows four_rows (id.Sha1 (replicate 20 0x44)) ≡ id.Sha1 (replicate 20 0x11) ∷ []
+parents_of_the_fourth = refl
+
+pub parents_without_a_row : parents_by_rows four_rows (id.Sha1 (replicate 20 0x55)) ≡ []
+parents_without_a_row = refl

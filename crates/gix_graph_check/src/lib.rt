@@ -2,6 +2,7 @@
 #![tactic(auto)]
 
 mod agreeing;
+pub mod laws;
 mod named;
 mod sound;
 mod stored;

@@ -10,7 +10,7 @@ use Rattle.gix_commitgraph.specs.declared.Place.TheVariants as place
 use Rattle.gix_hash.specs.Id.{id_len, id_of}
 use Rattle.gix_commitgraph.specs.Rows.{GraphRow}
 use Rattle.gix_commitgraph.specs.Packed.{AreBytes}
-use Rattle.gix_commitgraph.specs.PackedReading.{Places, word_at, row_len, id_field, first_field, second_field, row_of_fields, parents_at, is_above, rows_at}
+use Rattle.gix_commitgraph.specs.PackedReading.{word_at, row_len, id_field, first_field, second_field, row_of_fields, parents_at, is_above, rows_at}
 use Rattle.gix_commitgraph.specs.PackedReading as packed
 use Rattle.gix_commitgraph.proofs.Packed.RowTakes.{AreBytes-take, AreBytes-drop}
 use Rattle.gix_graph_file.specs.declared.error.Error.{Error}

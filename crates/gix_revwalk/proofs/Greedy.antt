@@ -1,6 +1,6 @@
 -- Where each list of ids says which new id of finitely many comes next, there is a list that goes on so to its end.
 use Rattle.std.specs.Prelude.{◌≡◌, ◌≤◌, ℕ, zero, suc, List, [], ◌∷◌, ◌++◌, length, take, slice_get, false, true, ◌||◌, Option, Some, None}
-use Rattle.std.proofs.Common.{refl, sym, ap, ◌∙◌, arith, append_assoc, append-nil, le_refl}
+use Rattle.std.proofs.Common.{refl, ap, ◌∙◌, arith, append_assoc, append-nil, le_refl}
 use Rattle.std.proofs.Math.Bool.{or_comm}
 use Rattle.gix_hash.specs.declared.ObjectId.{ObjectId}
 use Rattle.gix_hash.specs.Id.{is_same, is_among}

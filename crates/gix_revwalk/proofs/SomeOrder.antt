@@ -1,5 +1,5 @@
 -- Where finitely many ids are reached, there is a list in breadth order, one in each order by time, and a list of what is reached.
-use Rattle.std.specs.Prelude.{◌≡◌, ◌↔◌, ◌≤◌, ◌≤ℤ◌, ℕ, ℤ, int_le, List, [], ◌∷◌, ◌++◌, length, take, slice_get, Bool, true, false, not, ◌&&◌, cond, filter, Option, Some, None, MatchOption, Contains}
+use Rattle.std.specs.Prelude.{◌≡◌, ◌↔◌, ◌≤◌, ℕ, ℤ, int_le, List, [], ◌∷◌, ◌++◌, length, take, slice_get, Bool, true, false, not, ◌&&◌, cond, filter, Option, Some, None, MatchOption, Contains}
 use Rattle.std.proofs.Common.{refl, sym, subst, ⊎_elim, ◌∙◌, arith}
 use Rattle.std.specs.FinMap as map_of
 use Rattle.std.specs.List.{flat_map}

@@ -1,6 +1,6 @@
 -- The laws that follow from the theorem over whole walks.
 use Rattle.std.specs.Prelude.{◌≡◌, ◌↔◌, ◌≤◌, ◌≤ℤ◌, ℕ, zero, suc, ℤ, List, [], ◌∷◌, ◌++◌, filter, length, take, slice_get, Bool, true, false, not, ◌&&◌, Option, Some, None, Result, Ok, Err, Contains, MatchOption}
-use Rattle.std.proofs.Common.{refl, sym, ap, subst, ⊎_elim, ◌∙◌, arith, append_assoc, append-nil}
+use Rattle.std.proofs.Common.{refl, sym, ap, subst, ⊎_elim, ◌∙◌, arith}
 use Rattle.std.specs.List.{AllZip}
 use Rattle.std.proofs.lemmas.List.Elements.{Contains-append_left, Contains-append_right, Contains-append_cases}
 use Rattle.std.proofs.lemmas.Bool.{false≢true, true≢false, and_parts, and_from, not_from_false, not-true, false_from_ne_true}

@@ -17,6 +17,7 @@ fn main(rt: HostRuntime) -> io::Result<()> {
 
 fn write_all(rt: &HostRuntime) -> io::Result<()> {
     write_all_simple(rt)?;
+    write_walks(rt, "contained", "ids", gix_contained_rows::tables())?;
     write_walks(rt, "Topo", "orders", gix_topo_rows::orders::tables())?;
     write_walks(rt, "Topo", "counts", gix_topo_rows::counts::tables())?;
     write_trees(rt, "calls", gix_tree_rows::calls::tables())?;

@@ -1,5 +1,6 @@
 //! The walks by their tables, compared with what is wanted; and the calls and examples, each made once.
 mod calls;
+mod contained;
 mod errors;
 mod examples;
 mod lookups;

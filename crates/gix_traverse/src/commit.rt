@@ -1,4 +1,5 @@
 //! Walks of commits.
+pub mod contained;
 pub mod simple;
 pub mod topo;
 

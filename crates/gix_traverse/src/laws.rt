@@ -1,4 +1,5 @@
 //! What whole walks keep, as laws over their definitions: functions that do nothing, and whose contracts are proved.
+pub use gix_contained::laws as contained;
 pub use gix_simple::laws as simple;
 pub use gix_topo::laws as topo;
 pub use gix_tree::laws as tree;

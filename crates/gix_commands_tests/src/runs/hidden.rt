@@ -1,14 +1,16 @@
 //! A hidden commit that can't be read, by each command that reads one.
 use super::*;
 
-/// Each command that reads a hidden commit. The one of `ahead` is hidden from the other.
-const COMMANDS: [&[&str]; 6] = [
+/// Each command that reads a hidden commit. The one of `ahead` is hidden from the other, and the first of `contains` hides the others.
+const COMMANDS: [&[&str]; 8] = [
     &["breadth", "#8", "^#a"],
     &["newest", "#8", "^#a"],
     &["oldest", "#8", "^#a"],
     &["topo", "#8", "^#a"],
     &["date", "#8", "^#a"],
     &["ahead", "#8", "#a"],
+    &["contains", "#a", "#8"],
+    &["contains", "#8", "#7", "#a"],
 ];
 
 // Tries each command over the sample and this record behind it.

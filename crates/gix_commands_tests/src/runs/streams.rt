@@ -182,6 +182,7 @@ fn a_failing_writer_is_reported(rt: HostRuntime) -> Result<(), Fail> {
             (&["date", "#2"], "#2\n#1\n"),
             (&["files", "#a"], "100644 #2 x\n"),
             (&["ahead", "#6", "#7"], "3 3\n"),
+            (&["contains", "#6", "#7", "#5"], "#5\n"),
         ],
     )
 }

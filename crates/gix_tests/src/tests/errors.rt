@@ -6,7 +6,7 @@ use gix_parts::object::find::{self, existing_iter};
 use gix_parts::object::{Kind, decode};
 use gix_parts::records;
 use gix_traverse::commit::simple::Hidden;
-use gix_traverse::commit::{simple, topo};
+use gix_traverse::commit::{contained, simple, topo};
 use gix_traverse::tree::breadthfirst;
 use std::alloc::Global;
 use std::fmt::Display;
@@ -168,6 +168,18 @@ const OF_SIMPLE: [(simple::Error, &str); 4] = [
     (simple::Error::Memory, "out of memory"),
 ];
 
+const OF_CONTAINED: [(contained::Error, &str); 3] = [
+    (
+        contained::Error::Find(FAILED),
+        "the store could not be read",
+    ),
+    (
+        contained::Error::ObjectDecode(BROKEN),
+        "a parent line of a commit holds no id",
+    ),
+    (contained::Error::Memory, "out of memory"),
+];
+
 const OF_TOPO: [(topo::Error, &str); 5] = [
     (
         topo::Error::MissingIndegreeUnexpected,
@@ -209,6 +221,7 @@ const OF_TREES: [(breadthfirst::Error, &str); 5] = [
 fn of_walks(rt: HostRuntime) -> Result<(), Fail> {
     check_texts(rt.alloc(), &OF_PAINTING)?;
     check_texts(rt.alloc(), &OF_SIMPLE)?;
+    check_texts(rt.alloc(), &OF_CONTAINED)?;
     check_texts(rt.alloc(), &OF_TOPO)?;
     check_texts(rt.alloc(), &OF_TREES)
 }

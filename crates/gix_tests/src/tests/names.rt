@@ -62,6 +62,10 @@ pub mod commit {
     };
 }
 
+pub mod contained {
+    pub use gix_traverse::commit::contained::{Error, contained};
+}
+
 pub mod simple {
     pub use gix_traverse::commit::simple::{CommitTimeOrder, Error, Hidden, Simple, Sorting};
 }
@@ -88,6 +92,10 @@ pub mod recorder {
 
 pub mod visit {
     pub use gix_traverse::tree::visit::{Action, Visit};
+}
+
+pub mod laws_of_contained {
+    pub use gix_traverse::laws::contained::{contains_exactly, rows_agree, succeeds};
 }
 
 pub mod laws_of_simple {

@@ -1,0 +1,39 @@
+-- How the answer of a call that asks which ids are contained is served.
+use Rattle.std.specs.Prelude.{◌≡◌, ◌≢◌, ℕ, List, [], ◌∷◌, Option, Result, Ok, Err, IfErr, OnOk}
+use Rattle.std.specs.Io.KnownBytes.{Appends}
+use Rattle.std.specs.List.{flat_map}
+use Rattle.std.proofs.Common.{sym, ap, subst, ◌∙◌}
+use Rattle.gix_hash.specs.declared.ObjectId.{ObjectId}
+use Rattle.gix_object.specs.Object.{Objects}
+use Rattle.gix_commitgraph.specs.Rows.{GraphRow}
+use Rattle.gix_contained.specs.declared.Error.{Error as ContainedError}
+use Rattle.gix_contained.specs.declared.Error.TheVariants as contained_error
+use Rattle.gix_contained.specs.Contained.{Selects, FailsBy}
+use Rattle.gix_commands.specs.declared.fault.Fault.{Fault}
+use Rattle.gix_commands.specs.declared.fault.Fault.TheVariants as fault
+use Rattle.gix_commands.specs.Faults.{fault_of_contained}
+use Rattle.gix_commands.specs.Run.{Serves, selected, not_selected, unserved, not_written}
+use Rattle.gix_commands.specs.Walked.{line_of}
+use Rattle.gix_commands.specs.Words.{Contained}
+use Rattle.gix_commands.proofs.MemoryFaults.{failed_so}
+
+module _ (objects : Objects) (rows : List GraphRow) (old : Option (List ℕ)) (tip : ObjectId) (ids : List ObjectId) where
+  abbrev ServesSo : Result (Unit {0}) Fault → Option (List ℕ) → Type 0
+  ServesSo = Serves objects rows old (Contained tip ids)
+
+  -- nothing was written
+  pub contained_failed : (result : Result (Unit {0}) Fault) (e : Fault) → result ≡ Err e → (e ≢ fault.Memory → ServesSo (Err e) old) → ServesSo result old
+  contained_failed result e same h = failed_so (λ r. ServesSo r old) unserved result e same h
+
+  module _ (store : Objects) (same : store ≡ objects) where
+    -- the fault is that of the call
+    pub contained_fault : (why : ContainedError) (e : Fault) → e ≡ fault_of_contained why → (why ≢ contained_error.Memory → FailsBy store (λ i. ⊥) rows (tip ∷ []) ids why) → e ≢ fault.Memory
+        → ServesSo (Err e) old
+    contained_fault why e is fails other =
+        subst (λ f. ServesSo (Err f) old) (sym is) (not_selected why (subst (λ those. FailsBy those (λ i. ⊥) rows (tip ∷ []) ids why) same (fails (λ m. other (is ∙ ap fault_of_contained m)))))
+
+    -- the lines were written, or the writer failed
+    pub contained_written : (new : Option (List ℕ)) (those : List ObjectId) (lines : List ℕ) (result : Result (Unit {0}) Fault) → Selects store rows (tip ∷ []) ids those → lines ≡ flat_map line_of those
+        → OnOk result (Appends old new lines) → IfErr result (λ e. e ≡ fault.Write) → ServesSo result new
+    contained_written new those lines (Ok done) s is h k = selected those (subst (λ all. Selects all rows (tip ∷ []) ids those) same s) (subst (Appends old new) is h)
+    contained_written new those lines (Err e) s is h k = subst (λ (f : Fault). ServesSo (Err f) new) (sym k) not_written

@@ -1,0 +1,98 @@
+-- What a run of `contains` writes, by what commits reach.
+use Rattle.std.specs.Prelude.{◌≡◌, ◌≢◌, ℕ, List, [], ◌∷◌, ◌++◌, Option, Some, None, Result, Ok, Contains, IsSome}
+use Rattle.std.specs.FinMap.{get}
+use Rattle.std.specs.Io.KnownBytes.{Appends}
+use Rattle.std.proofs.Common.{refl, sym, ap, subst, ⊎_elim, ◌∙◌}
+use Rattle.std.proofs.lemmas.List.Elements.{Contains-append_left, Contains-append_right, Contains-append_cases}
+use Rattle.gix_hash.specs.declared.ObjectId.{ObjectId}
+use Rattle.gix_hash.specs.Reach.{Reaches}
+use Rattle.gix_hash.proofs.Ids.Membership.{Contains-here, Contains-there, Contains-cons_cases}
+use Rattle.gix_hash.proofs.Lists.{only_member}
+use Rattle.gix_object.specs.CommitText.{Commit}
+use Rattle.gix_object.specs.Object.{Object, Objects}
+use Rattle.gix_commitgraph.specs.Rows.{GraphRow, row_of}
+use Rattle.gix_contained.specs.Contained.{AreContained, Selects}
+use Rattle.gix_contained.proofs.Faultless.{store_alone}
+use Rattle.gix_paint.specs.Painting.{IsHistory}
+use Rattle.gix_paint.proofs.Invariant.{own_history}
+use Rattle.gix_records.specs.Records.{stored}
+use Rattle.gix_revwalk.specs.Agreeing.{IsAgreeing, RowAgrees}
+use Rattle.gix_revwalk.specs.Commits.{commit_at, commit_of_object, parents_of}
+use Rattle.gix_revwalk.proofs.Reached.{reach_more}
+use Rattle.gix_revwalk.proofs.ReadsWhole.{row_stands}
+use Rattle.gix_revwalk.proofs.Rows.{none_agree}
+use Rattle.gix_simple.proofs.Difference.{whole_from}
+use Rattle.gix_commands.specs.declared.fault.Fault.{Fault}
+use Rattle.gix_commands.specs.Faults.{fault_of_contained}
+use Rattle.gix_commands.specs.Histories.{AreWhole, EndsWell, IsPartOf, ContainsIds, ContainsIdsOfPart, ContainsSucceeds, lines_of_ids}
+use Rattle.gix_commands.specs.Run.{Serves, selected, not_selected, unserved, not_written}
+use Rattle.gix_commands.specs.Walked.{never_faulty}
+use Rattle.gix_commands.specs.Words.{Contained}
+use Rattle.gix_commands.proofs.CommitRuns.{ends_well, served_so}
+use Rattle.gix_commands.proofs.InternalFacts.{contained_sound}
+use Rattle.gix_commands.proofs.UncutWords.{some_ids}
+
+module _ (tip : ObjectId) (ids : List ObjectId) where
+  among : (i : ObjectId) → Contains (tip ∷ ids) i → Contains (ids ++ tip ∷ []) i
+  among i c = ⊎_elim
+      (λ e. Contains-append_right ids (tip ∷ []) i (subst (Contains (tip ∷ [])) e (Contains-here tip [])))
+      (λ m. Contains-append_left ids (tip ∷ []) i m) (Contains-cons_cases i tip ids c)
+
+  among_back : (i : ObjectId) → Contains (ids ++ tip ∷ []) i → Contains (tip ∷ ids) i
+  among_back i c = ⊎_elim
+      (λ m. Contains-there i tip ids m)
+      (λ m. subst (Contains (tip ∷ ids)) (only_member tip i m) (Contains-here tip ids)) (Contains-append_cases ids (tip ∷ []) i c)
+
+  module _ (objects : Objects) (rows : List GraphRow) (agreeing : IsAgreeing objects rows) where
+    own : IsHistory objects rows objects
+    own = own_history objects (never_faulty objects) rows agreeing
+
+    -- all that was reached was read, or has a row that agrees
+    read_whole : (those : List ObjectId) → ids ≢ [] → Selects objects rows (tip ∷ []) ids those → AreWhole objects (tip ∷ ids)
+    read_whole those some s i r = go (row_of rows i) refl
+      where
+        go : (o : Option GraphRow) → row_of rows i ≡ o → IsSome (commit_at objects i)
+        go None e = s.read objects own (λ n. cc) some i (reach_more (parents_of objects) (tip ∷ ids) (ids ++ tip ∷ []) among i r) e
+        go (Some row) e =
+            let h : Contains rows row × (i ≡ row.id) = row_stands rows i row e in
+            let a : RowAgrees objects rows row = agreeing row h.0 in
+            subst IsSome (sym (ap (commit_at objects) h.1 ∙ a.whole.stored)) refl
+
+    pub selected_so : (old new : Option (List ℕ)) → ids ≢ [] → Serves objects rows old (Contained tip ids) (Ok tt) new
+        → (those : List ObjectId) × AreContained (parents_of objects) (tip ∷ []) ids those × AreWhole objects (tip ∷ ids) × Appends old new (lines_of_ids those)
+    selected_so old new some (selected those s written) = (those, s.exact objects own, read_whole those some s, written)
+
+    -- where all that is reached is whole no commit is a fault
+    selects_well : AreWhole objects (tip ∷ ids) → (answer : Result (Unit {0}) Fault) (new old : Option (List ℕ)) → Serves objects rows old (Contained tip ids) answer new → EndsWell answer
+    selects_well whole answer new old (selected those s written) = tt
+    selects_well whole answer new old (not_selected e f) =
+        absurd
+        (contained_sound objects rows (tip ∷ []) ids e f
+        (ap fault_of_contained (store_alone objects (never_faulty objects) rows (tip ∷ []) ids e agreeing (λ i r. whole_from objects i (whole i (reach_more (parents_of objects) (ids ++ tip ∷ []) (tip ∷ ids) among_back i r))) f)))
+    selects_well whole answer new old unserved = tt
+    selects_well whole answer new old not_written = tt
+
+-- what a part of a store reads as a commit is that commit in the whole store
+read_in_all : (objects all : Objects) → IsPartOf objects all → (i : ObjectId) (commit : Commit) → commit_at objects i ≡ Some commit → commit_at all i ≡ Some commit
+read_in_all objects all part i commit e = go (get objects i) refl e
+  where
+    go : (o : Option Object) → get objects i ≡ o → commit_of_object i o ≡ Some commit → commit_at all i ≡ Some commit
+    go None g n = cc
+    go (Some object) g c = ap (commit_of_object i) (part i object g) ∙ c
+
+selected_of_all : (objects all : Objects) → IsPartOf objects all → (tip : ObjectId) (ids : List ObjectId) (old new : Option (List ℕ)) → Serves objects [] old (Contained tip ids) (Ok tt) new
+    → (those : List ObjectId) × AreContained (parents_of all) (tip ∷ []) ids those × Appends old new (lines_of_ids those)
+selected_of_all objects all part tip ids old new (selected those s written) =
+    (those, s.exact all (record { agreeing = none_agree all [] refl; read = read_in_all objects all part }), written)
+
+pub contains_ids : ContainsIds
+contains_ids words input records tip ids old new asked are runs =
+    selected_so tip ids (stored records) [] (none_agree (stored records) [] refl) old new (some_ids words tip ids asked) (served_so words input records (Contained tip ids) old new asked are runs)
+
+pub contains_ids_of_part : ContainsIdsOfPart
+contains_ids_of_part words input records tip ids old new all asked are part runs =
+    selected_of_all (stored records) all part tip ids old new (served_so words input records (Contained tip ids) old new asked are runs)
+
+pub contains_succeeds : ContainsSucceeds
+contains_succeeds words input records tip ids answer old new asked are whole runs =
+    ends_well words input records (Contained tip ids) answer old new asked are (λ given left s. selects_well tip ids (stored records) [] (none_agree (stored records) [] refl) whole given left old s) runs

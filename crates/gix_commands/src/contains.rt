@@ -1,0 +1,51 @@
+//! Which of some commits a commit contains.
+ghost use Rattle.std.specs.Prelude.{◌≡◌, IfOk};
+ghost use Rattle.std.specs.List.{flat_map};
+ghost use Rattle.gix_commands.specs.Run.{Serves};
+ghost use Rattle.gix_commands.specs.Walked.{line_of};
+ghost use Rattle.gix_commands.specs.Words.{Contained};
+ghost use Rattle.gix_graph_store.specs.WithRows.{with_rows};
+ghost use Rattle.gix_revwalk.specs.Agreeing.{rows_in};
+
+use crate::commits::Lent;
+use crate::digits::add_id;
+use crate::fault::Fault;
+use crate::output::write_out;
+use gix_parts::graph::Graph;
+use gix_parts::hash::ObjectId;
+use gix_parts::records::LentStore;
+use gix_traverse::commit::contained::contained;
+use std::alloc::{AllocError, Global};
+use std::io::Write;
+
+/// Writes those of the ids that the tip reaches, in the order given, one a line, once all of them are known.
+///
+/// # Errors
+/// The fault of the first commit that can't be read of those that have to be, and `Memory`: nothing is written. `Write` where the writer
+/// failed.
+pub fn write_contained<W: Write>(
+    alloc: Global,
+    tip: ObjectId,
+    ids: Vec<ObjectId>,
+    store: &LentStore<'_>,
+    graph: Option<&Graph>,
+    writer: &mut W,
+) -> Result<(), Fault>
+    ensures { Serves (with_rows (rows_in graph.entry) store.now) (rows_in graph.entry) (W.contents writer.old) (Contained tip ids.items) result (W.contents writer.new) }
+{
+    let objects = Lent::over(store, graph);
+    let those = contained(alloc, &[tip], ids.as_slice(), &objects, graph)?;
+    let mut lines = lines_of(alloc, those.as_slice())?;
+    write_out(&mut lines, writer)
+}
+
+// The ids in hex digits, one a line.
+fn lines_of(alloc: Global, ids: &[ObjectId]) -> Result<Vec<u8>, AllocError>
+    ensures { IfOk result (λ lines. lines.items ≡ flat_map line_of ids.now) }
+{
+    let mut lines = Vec::new(alloc);
+    for id in ids {
+        add_id(&mut lines, id, b'\n')?;
+    }
+    Ok(lines)
+}

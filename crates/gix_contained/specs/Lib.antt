@@ -1,0 +1,4 @@
+-- Which commits are contained in others, and why this isn't known.
+pub mod Contained
+-- The statements of the laws.
+pub mod Laws
