@@ -25,15 +25,16 @@ module _ (objects : Objects) (rows : List GraphRow) (old : Option (List ℕ)) (t
   pub contained_failed : (result : Result (Unit {0}) Fault) (e : Fault) → result ≡ Err e → (e ≢ fault.Memory → ServesSo (Err e) old) → ServesSo result old
   contained_failed result e same h = failed_so (λ r. ServesSo r old) unserved result e same h
 
-  module _ (store : Objects) (same : store ≡ objects) where
+  module _ (store : Objects) (same : store ≡ objects) (asked : List ObjectId) (of_ids : asked ≡ ids) where
     -- the fault is that of the call
-    pub contained_fault : (why : ContainedError) (e : Fault) → e ≡ fault_of_contained why → (why ≢ contained_error.Memory → FailsBy store (λ i. ⊥) rows (tip ∷ []) ids why) → e ≢ fault.Memory
+    pub contained_fault : (why : ContainedError) (e : Fault) → e ≡ fault_of_contained why → (why ≢ contained_error.Memory → FailsBy store (λ i. ⊥) rows (tip ∷ []) asked why) → e ≢ fault.Memory
         → ServesSo (Err e) old
     contained_fault why e is fails other =
-        subst (λ f. ServesSo (Err f) old) (sym is) (not_selected why (subst (λ those. FailsBy those (λ i. ⊥) rows (tip ∷ []) ids why) same (fails (λ m. other (is ∙ ap fault_of_contained m)))))
+        subst (λ f. ServesSo (Err f) old) (sym is) (not_selected why
+        (subst (λ xs. FailsBy objects (λ i. ⊥) rows (tip ∷ []) xs why) of_ids (subst (λ all. FailsBy all (λ i. ⊥) rows (tip ∷ []) asked why) same (fails (λ m. other (is ∙ ap fault_of_contained m))))))
 
     -- the lines were written, or the writer failed
-    pub contained_written : (new : Option (List ℕ)) (those : List ObjectId) (lines : List ℕ) (result : Result (Unit {0}) Fault) → Selects store rows (tip ∷ []) ids those → lines ≡ flat_map line_of those
+    pub contained_written : (new : Option (List ℕ)) (those : List ObjectId) (lines : List ℕ) (result : Result (Unit {0}) Fault) → Selects store rows (tip ∷ []) asked those → lines ≡ flat_map line_of those
         → OnOk result (Appends old new lines) → IfErr result (λ e. e ≡ fault.Write) → ServesSo result new
-    contained_written new those lines (Ok done) s is h k = selected those (subst (λ all. Selects all rows (tip ∷ []) ids those) same s) (subst (Appends old new) is h)
+    contained_written new those lines (Ok done) s is h k = selected those (subst (λ xs. Selects objects rows (tip ∷ []) xs those) of_ids (subst (λ all. Selects all rows (tip ∷ []) asked those) same s)) (subst (Appends old new) is h)
     contained_written new those lines (Err e) s is h k = subst (λ (f : Fault). ServesSo (Err f) new) (sym k) not_written

@@ -157,8 +157,8 @@ none_hidden (word ∷ words) tips hidden (inr (i, rest, is, id, begins, s, h)) e
 -- a second word spells a second id
 some_behind : (word next : List ℕ) (words : List (List ℕ)) (tip : ObjectId) (ids : List ObjectId) → AreTips (word ∷ next ∷ words) (tip ∷ ids) [] → ids ≢ []
 some_behind word next words tip ids (inl (i, rest, is, s, (inl (j, more, is_more, t, h)))) e = cc
-some_behind word next words tip ids (inl (i, rest, is, s, (inr (j, more, none, k)))) e = cc
-some_behind word next words tip ids (inr (j, more, none, k)) e = cc
+some_behind word next words tip ids (inl (i, rest, is, s, (inr (j, more, none, id, begins, t, h)))) e = cc
+some_behind word next words tip ids (inr (j, more, none, id, begins, s, h)) e = cc
 
 contained_are : (rest : List (List ℕ)) → AreWordsOf (codes "contains" ∷ rest) (contained_of rest)
 contained_are [] = tt
