@@ -97,7 +97,6 @@ module _ (objects : Objects) (rows : List GraphRow) (by : Sorting) (tips hidden 
 
   fresh : IsFresh objects_of before (λ i. true)
   fresh = subst (λ w. IsFresh objects_of w (λ i. true)) is_before (is_fresh objects rows by tips hidden walk uncut starts).0
-
   by_test = (is_fresh objects rows by tips hidden walk uncut starts).1
 
   pending_tips : ids_of walk.pending ≡ new_ids (λ i. false) tips
