@@ -49,8 +49,7 @@ AreParentLines width (p ∷ ps) text rest =
 
 -- the id is that of a commit, whose text names these parents behind its tree; the rest may be anything
 abbrev pub Names : List Record → ObjectId → List ObjectId → List ℕ → Type 0
-Names records i parents rest =
-    (tree : ObjectId) × (id lines : List ℕ) × Spells (digits_in i) id tree × AreParentLines (digits_in i) parents lines rest
+Names records i parents rest = (tree : ObjectId) × (id lines : List ℕ) × Spells (digits_in i) id tree × AreParentLines (digits_in i) parents lines rest
     × Holds records i (codes "commit") (codes "tree " ++ id ++ 10 ∷ lines)
 
 -- all digits at the front of a text write the number, which is 0 where there are none
