@@ -73,18 +73,18 @@ module _ (words : List (List ℕ)) (input : List ℕ) (rs : List Record) (old ne
   serves : (request : Request) → request_of words ≡ Ok request → AreWordsOf words (Ok request) → ServesSo words
   serves (Commits (Simple by) None tips hidden) asked (name, rest, those, is, named, same, ids, some) =
       let l = simple_lists words input rs by tips hidden old new asked are runs in
-      subst ServesSo (sym (is ∙ ap (λ w. name ∷ w) same)) (page.commits {limit = []} ids some (inl (refl, refl)) (is_list (stored rs) parents name by named tips hidden l.0 l.1.read) (subst (Appends old new) (id_lines l.0) l.2))
+      subst ServesSo (sym (is ∙ ap (λ w. name ∷ w) same)) (page.commits [] those ids some (inl (refl, refl)) (is_list (stored rs) parents name by named tips hidden l.0 l.1.read) (subst (Appends old new) (id_lines l.0) l.2))
   serves (Commits (Simple by) (Some n) tips hidden) asked (name, rest, those, is, named, (number, limits, same), ids, some) =
       let l = simple_begins words input rs by n tips hidden old new asked are runs in
       subst ServesSo (sym (is ∙ ap (λ w. name ∷ w) same))
-      (page.commits {limit = codes "-n" ∷ number ∷ []} ids some (inr (number, n, limits, refl, refl)) (is_list (stored rs) parents name by named tips hidden l.0 l.1.read) (subst (Appends old new) (id_lines (take n l.0)) l.2))
+      (page.commits (codes "-n" ∷ number ∷ []) those ids some (inr (number, n, limits, refl, refl)) (is_list (stored rs) parents name by named tips hidden l.0 l.1.read) (subst (Appends old new) (id_lines (take n l.0)) l.2))
   serves (Commits (Topo by) None tips ends) asked (name, rest, those, is, named, same, ids, some) =
       let l = topo_lists words input rs by tips ends old new asked are runs in
-      subst ServesSo (sym (is ∙ ap (λ w. name ∷ w) same)) (page.commits {limit = []} ids some (inl (refl, refl)) (listed_down (stored rs) parents name by named tips ends l.0 l.1.read) (subst (Appends old new) (id_lines l.0) l.2))
+      subst ServesSo (sym (is ∙ ap (λ w. name ∷ w) same)) (page.commits [] those ids some (inl (refl, refl)) (listed_down (stored rs) parents name by named tips ends l.0 l.1.read) (subst (Appends old new) (id_lines l.0) l.2))
   serves (Commits (Topo by) (Some n) tips ends) asked (name, rest, those, is, named, (number, limits, same), ids, some) =
       let l = topo_begins words input rs by n tips ends old new asked are runs in
       subst ServesSo (sym (is ∙ ap (λ w. name ∷ w) same))
-      (page.commits {limit = codes "-n" ∷ number ∷ []} ids some (inr (number, n, limits, refl, refl)) (listed_down (stored rs) parents name by named tips ends l.0 l.1.read) (subst (Appends old new) (id_lines (take n l.0)) l.2))
+      (page.commits (codes "-n" ∷ number ∷ []) those ids some (inr (number, n, limits, refl, refl)) (listed_down (stored rs) parents name by named tips ends l.0 l.1.read) (subst (Appends old new) (id_lines (take n l.0)) l.2))
   serves (Files tree) asked (text, is, spells) =
       let t = tree_written tree (served_so words input rs (Files tree) old new asked are runs) in
       subst ServesSo (sym is) (page.files spells t.2 t.3 t.4)

@@ -176,7 +176,7 @@ AreTips (word ∷ words) tips hidden =
 -- what words ask for was appended
 pub data Serves (records : List Record) (parents : ObjectId → List ObjectId) (time : ObjectId → ℤ) (old new : Option (List ℕ)) : List (List ℕ) → Type 0 where
   -- ids, one a line: all of a list, or behind `-n` and a number the first of it, so many at most
-  commits : {by : List ℕ} {limit words : List (List ℕ)} {tips hidden ids those : List ObjectId} → AreTips words tips hidden → tips ≢ []
+  commits : {by : List ℕ} (limit words : List (List ℕ)) {tips hidden ids those : List ObjectId} → AreTips words tips hidden → tips ≢ []
       → ((limit ≡ []) × (those ≡ ids)) ⊎ ((number : List ℕ) × (n : ℕ) × IsNumber 10 9 number n × (limit ≡ codes "-n" ∷ number ∷ []) × (those ≡ take n ids))
       → Lists parents time tips hidden by ids → Appends old new (flat_map (λ i. encode_lower (bytes_in i) ++ 10 ∷ []) those)
       → Serves records parents time old new (by ∷ (limit ++ words))
