@@ -39,10 +39,10 @@ AreUpTo IsList n infos = (ids : List ObjectId) × IsList ids × (ids_in infos �
 
 module _ (IsList : List ObjectId → Type 0) (n : ℕ) (infos : List Info) where
   as_many : length infos ≡ n → AreFirstOf IsList (ids_in infos) → AreUpTo IsList n infos
-  as_many e f = (f.0, f.1, sym f.2 ∙ ap (λ k. take k f.0) (length-map (λ info. info.id) infos ∙ e))
+  as_many e f = (f.0, f.1, sym f.2 ∙ ap (λ k. take k f.0) (length-map infos (λ (info : Info). info.id) ∙ e))
 
   fewer : length infos < n → IsList (ids_in infos) → AreUpTo IsList n infos
-  fewer less l = (ids_in infos, l, sym (take_all n (ids_in infos) (let same : length (ids_in infos) ≡ length infos = length-map (λ info. info.id) infos in omega (arith, less, same))))
+  fewer less l = (ids_in infos, l, sym (take_all n (ids_in infos) (let same : length (ids_in infos) ≡ length infos = length-map infos (λ (info : Info). info.id) in omega (arith, less, same))))
 
   written_up_to : (old new : Option (List ℕ)) → AreUpTo IsList n infos → Appends old new (lines_of infos) → (ids : List ObjectId) × IsList ids × Appends old new (lines_of_ids (take n ids))
   written_up_to old new f written = (f.0, f.1, subst (Appends old new) (lines_by_ids infos ∙ ap lines_of_ids f.2) written)
@@ -84,7 +84,7 @@ module _ (some all : Objects) (part : IsPartOf some all) (by : Sorting) (tips hi
   found i r = go (get some i) refl (there i r)
     where
       go : (o : Option Object) → get some i ≡ o → IsSome (get some i) → (object : Object) × (get some i ≡ Some object)
-      go None e s = let no : IsSome {A = Object} None = subst IsSome e s in cc
+      go None e s = let no : IsSome (None : Option Object) = subst IsSome e s in cc
       go (Some object) e s = (object, e)
 
   list_of_all : (ids : List ObjectId) → IsSimpleList some by tips hidden ids → IsSimpleList all by tips hidden ids

@@ -61,20 +61,20 @@ topo_ends_sound agreeing (finished new h) = λ e. cc
 topo_ends_sound {walk} agreeing (failed e f new h is) = λ same. drawn_sound walk new _ e agreeing h (sym is ∙ err_same same)
 topo_ends_sound agreeing (cut_short info new h) = λ e. cc
 
-by_sound : (limit : Option ℕ) {walk : Walk} {infos : List Info} {answer : Result (Unit {0}) Fault} → EndsBy Answers IsWalkFault limit walk infos answer → answer ≢ Err fault.Internal
-by_sound None ends = ends_sound ends
-by_sound (Some n) (enough at h e) = λ e. cc
-by_sound (Some n) (before ends less) = ends_sound ends
+by_sound : (limit : Option ℕ) (walk : Walk) (infos : List Info) {answer : Result (Unit {0}) Fault} → EndsBy Answers IsWalkFault limit walk infos answer → answer ≢ Err fault.Internal
+by_sound None walk infos ends = ends_sound ends
+by_sound (Some n) walk infos (enough at h e) = λ e. cc
+by_sound (Some n) walk infos (before ends less) = ends_sound ends
 
-topo_by_sound : (limit : Option ℕ) {walk : topo.Walk} {infos : List Info} {answer : Result (Unit {0}) Fault} → IsAgreeing walk.plan.store walk.plan.rows → EndsBy topo.Answers topo.IsWalkFault limit walk infos answer → answer ≢ Err fault.Internal
-topo_by_sound None agreeing ends = topo_ends_sound agreeing ends
-topo_by_sound (Some n) agreeing (enough at h e) = λ e. cc
-topo_by_sound (Some n) agreeing (before ends less) = topo_ends_sound agreeing ends
+topo_by_sound : (limit : Option ℕ) (walk : topo.Walk) (infos : List Info) {answer : Result (Unit {0}) Fault} → IsAgreeing walk.plan.store walk.plan.rows → EndsBy topo.Answers topo.IsWalkFault limit walk infos answer → answer ≢ Err fault.Internal
+topo_by_sound None walk infos agreeing ends = topo_ends_sound agreeing ends
+topo_by_sound (Some n) walk infos agreeing (enough at h e) = λ e. cc
+topo_by_sound (Some n) walk infos agreeing (before ends less) = topo_ends_sound agreeing ends
 
 pub serves_sound : {objects : Objects} {rows : List GraphRow} {old new : Option (List ℕ)} {request : Request} {answer : Result (Unit {0}) Fault} → IsAgreeing objects rows → Serves objects rows old request answer new → answer ≢ Err fault.Internal
-serves_sound agreeing (walked {limit = limit} walk infos s ends a) = by_sound limit ends
+serves_sound agreeing (walked {limit = limit} walk infos s ends a) = by_sound limit walk infos ends
 serves_sound agreeing (not_walked why f) = λ same. start_sound f (err_same same)
-serves_sound agreeing (walked_down {limit = limit} walk infos built ends a) = topo_by_sound limit (built_agreeing built agreeing) ends
+serves_sound agreeing (walked_down {limit = limit} walk infos built ends a) = topo_by_sound limit walk infos (built_agreeing built agreeing) ends
 serves_sound {objects} {rows} agreeing (not_built {by = by} {tips = tips} {ends = ends} why h) = λ same. build_sound objects rows agreeing by tips ends why h (err_same same)
 serves_sound agreeing (listed recorder r a) = λ e. cc
 serves_sound {objects} agreeing (not_listed recorder why r) = λ same. tree_sound objects r (err_same same)

@@ -17,6 +17,7 @@ use Rattle.gix_revwalk.specs.declared.CommitTimeOrder.{CommitTimeOrder}
 use Rattle.gix_revwalk.specs.declared.Info.{Info}
 use Rattle.gix_revwalk.specs.declared.Parents.TheVariants as mode
 use Rattle.gix_revwalk.specs.Agreeing.{IsAgreeing}
+use Rattle.gix_revwalk.specs.Asking.{AnswersBy}
 use Rattle.gix_revwalk.specs.Commits.{ReadsWhole, commit_at, parents_of, time_of}
 use Rattle.gix_revwalk.specs.Ids.{AreDistinct, ids_of, new_ids}
 use Rattle.gix_revwalk.specs.Texts.{text_next}
@@ -97,6 +98,8 @@ module _ (objects : Objects) (rows : List GraphRow) (by : Sorting) (tips hidden 
 
   fresh : IsFresh objects_of before (λ i. true)
   fresh = subst (λ w. IsFresh objects_of w (λ i. true)) is_before (is_fresh objects rows by tips hidden walk uncut starts).0
+
+  by_test : AnswersBy accepts_all before.predicate (λ i. true)
   by_test = (is_fresh objects rows by tips hidden walk uncut starts).1
 
   pending_tips : ids_of walk.pending ≡ new_ids (λ i. false) tips
@@ -139,7 +142,7 @@ module _ (objects : Objects) (rows : List GraphRow) (by : Sorting) (tips hidden 
               ⊎_elim (λ t. Contains-append_left tips hidden j (is_tip objects rows by tips hidden walk uncut starts j t)) (λ t. Contains-append_right tips hidden j t)
               (Contains-append_cases (ids_of walk.pending) hidden j c)
 
-      hides : ObjectId → Bool
+      abbrev hides : ObjectId → Bool
       hides = (test objects rows by tips hidden walk uncut starts).0
 
       tells : Tells hides (Reaches (parents_of objects) hidden)
