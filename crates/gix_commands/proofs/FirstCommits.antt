@@ -3,6 +3,7 @@ use Rattle.std.specs.Prelude.{◌≡◌, ◌≢◌, ◌<◌, ℕ, List, [], ◌+
 use Rattle.std.specs.Io.KnownBytes.{Appends}
 use Rattle.std.specs.FinMap.{get}
 use Rattle.std.proofs.Common.{refl, sym, ap, subst, ◌∙◌, arith}
+use Rattle.std.proofs.lemmas.Bool.{false≢true}
 use Rattle.std.proofs.lemmas.List.{length-map, take_all}
 use Rattle.gix_hash.specs.declared.ObjectId.{ObjectId}
 use Rattle.gix_hash.specs.Reach.{Reaches}
@@ -84,7 +85,7 @@ module _ (some all : Objects) (part : IsPartOf some all) (by : Sorting) (tips hi
   found i r = go (get some i) refl (there i r)
     where
       go : (o : Option Object) → get some i ≡ o → IsSome (get some i) → (object : Object) × (get some i ≡ Some object)
-      go None e s = let no : IsSome (None : Option Object) = subst IsSome e s in cc
+      go None e s = absurd (false≢true (subst IsSome e s))
       go (Some object) e s = (object, e)
 
   list_of_all : (ids : List ObjectId) → IsSimpleList some by tips hidden ids → IsSimpleList all by tips hidden ids
