@@ -1,9 +1,9 @@
 -- Lines that are buffered, and lines that were written.
-use Rattle.std.specs.Prelude.{◌≡◌, ℕ, List, [], ◌∷◌, ◌++◌, length, Option, Some, None, Result, Ok, Err, ◌⊎◌}
+use Rattle.std.specs.Prelude.{◌≡◌, ◌<◌, ◌≤◌, ◌+◌, ◌-◌, ℕ, List, [], ◌∷◌, ◌++◌, length, Option, Some, None, Result, Ok, Err, ◌⊎◌}
 use Rattle.std.specs.Io.KnownBytes.{Appends}
 use Rattle.std.specs.Iterator.{Yields}
-use Rattle.std.proofs.Common.{refl, sym, ap, subst, ◌∙◌, append_assoc, inl, inr}
-use Rattle.std.proofs.lemmas.List.{append-nil, map-append}
+use Rattle.std.proofs.Common.{refl, sym, ap, subst, ◌∙◌, append_assoc, arith, inl, inr}
+use Rattle.std.proofs.lemmas.List.{append-nil, length-append, map-append}
 use Rattle.std.proofs.lemmas.Grind.{flat_map-append}
 use Rattle.std.proofs.KnownBytes.{Appends-nil, Appends-trans}
 use Rattle.gix_revwalk.specs.declared.Info.{Info}
@@ -35,6 +35,18 @@ grows_one a b c x y z infos info h k = subst (Grows a x c z) (sym (lines_last in
 
 given_last : {E : Type 0} (infos : List Info) (info : Info) → given {E = E} (infos ++ info ∷ []) ≡ given infos ++ Ok info ∷ []
 given_last infos info = map-append (λ (i : Info). Ok i) infos (info ∷ [])
+
+-- where some are left to be drawn, fewer were drawn than were asked for
+pub fewer : (infos : List Info) (left limit : ℕ) → length infos + left ≡ limit → 0 < left → length infos < limit
+fewer infos left limit e some = omega (arith, e, some)
+
+-- where none is left to be drawn, as many were drawn as were asked for
+pub all_drawn : (infos : List Info) (left limit : ℕ) → length infos + left ≡ limit → left ≤ 0 → length infos ≡ limit
+all_drawn infos left limit e none = omega (arith, e, none)
+
+-- one more was drawn, and one less is left
+pub one_less : (infos : List Info) (info : Info) (left limit : ℕ) → length infos + left ≡ limit → 0 < left → length (infos ++ info ∷ []) + (left - 1) ≡ limit
+one_less infos info left limit e some = let more : length (infos ++ info ∷ []) ≡ length infos + 1 = length-append infos (info ∷ []) in omega (arith, e, some, more)
 
 module _ {W E : Type 0} where
   module _ (Steps : W → Option (Result Info E) → W → Type 0) where

@@ -86,6 +86,7 @@ where
     E: Into<Fault> + Drop,
     W: Write,
     requires can { I.can_next walk }
+    requires finite { IsFinite (I.remaining walk) }
     ensures { result ≢ Err Fault.Write → Adds I.next_gives E.converts (Some limit) walk (W.contents writer.old) lines.old.items result (W.contents writer.new) lines.new.items }
 {
     let mut left = limit;
