@@ -1,9 +1,9 @@
 -- What a simple walk over records gives up to a limit: the first commits of a list of what is reached.
-use Rattle.std.specs.Prelude.{◌≡◌, ◌≢◌, ◌↔◌, ◌&&◌, ℤ, List, [], ◌∷◌, ◌++◌, length, map, take, filter, Bool, true, false, not, Option, None, Some, Ok, Err, Contains, IsSome}
+use Rattle.std.specs.Prelude.{◌≡◌, ◌≢◌, ◌&&◌, ℤ, List, [], ◌∷◌, ◌++◌, length, map, take, filter, Bool, true, false, not, Option, None, Some, Ok, Contains, IsSome}
 use Rattle.std.specs.Iterator.{Yields}
 use Rattle.std.proofs.Math.Path.{transport}
 use Rattle.std.proofs.Math.Bool.{and-true}
-use Rattle.std.proofs.Common.{refl, sym, ap, subst, ◌∙◌, ⊎_elim, arith}
+use Rattle.std.proofs.Common.{refl, sym, subst, ◌∙◌, ⊎_elim, arith}
 use Rattle.std.proofs.lemmas.Bool.{false≢true, true≢false, not-true, not_from_false, false_from_ne_true}
 use Rattle.std.proofs.lemmas.List.Elements.{Contains-append_left, Contains-append_right, Contains-append_cases}
 use Rattle.gix_hash.specs.declared.ObjectId.{ObjectId}
@@ -18,14 +18,14 @@ use Rattle.gix_revwalk.specs.declared.Info.{Info}
 use Rattle.gix_revwalk.specs.declared.Parents.TheVariants as mode
 use Rattle.gix_revwalk.specs.Agreeing.{IsAgreeing}
 use Rattle.gix_revwalk.specs.Asking.{AnswersBy}
-use Rattle.gix_revwalk.specs.Commits.{ReadsWhole, commit_at, parents_of, time_of}
-use Rattle.gix_revwalk.specs.Ids.{AreDistinct, ids_of, new_ids}
+use Rattle.gix_revwalk.specs.Commits.{ReadsWhole, parents_of, time_of}
+use Rattle.gix_revwalk.specs.Ids.{ids_of, new_ids}
 use Rattle.gix_revwalk.specs.Texts.{text_next}
 use Rattle.gix_revwalk.proofs.Reached.{reach_more}
 use Rattle.gix_revwalk.proofs.SomeOrder.{reached_list}
 use Rattle.gix_revwalk.proofs.TextParents.{text_whole}
 use Rattle.gix_simple.specs.declared.Sorting.{Sorting}
-use Rattle.gix_simple.specs.Laws.{BeginsTextOrder, GivesBeginning, IsBeginning, IsBegunRun, IsFresh, IsInOrder, next_by_text, next_of}
+use Rattle.gix_simple.specs.Laws.{BeginsTextOrder, GivesBeginning, IsBeginning, IsBegunRun, IsFresh, next_by_text, next_of}
 use Rattle.gix_simple.specs.Walk.{cutoff, is_older, time_order}
 use Rattle.gix_simple.proofs.Corollaries.{all_kept, begins, each_once}
 use Rattle.gix_simple.proofs.Difference.{begun_whole, loosened, no_start, whole_from}

@@ -1,7 +1,7 @@
 -- What a topological walk over records gives up to a limit: the first commits of a list of what is reached.
-use Rattle.std.specs.Prelude.{◌≡◌, List, ◌++◌, length, map, true, Ok, Contains}
+use Rattle.std.specs.Prelude.{◌≡◌, List, ◌++◌, map, true, Ok}
 use Rattle.std.specs.Iterator.{Yields}
-use Rattle.std.proofs.Common.{refl, sym, ap, subst, ◌∙◌}
+use Rattle.std.proofs.Common.{refl, sym, subst}
 use Rattle.gix_hash.specs.declared.ObjectId.{ObjectId}
 use Rattle.gix_hash.specs.Reach.{Reaches, start, step}
 use Rattle.gix_object.specs.Object.{Objects}
