@@ -1,5 +1,5 @@
 -- What a run of `breadth`, `newest` or `oldest` writes, by what commits reach.
-use Rattle.std.specs.Prelude.{◌≡◌, ◌≢◌, ℕ, List, [], ◌∷◌, ◌++◌, map, Option, Some, Result, Ok, Err}
+use Rattle.std.specs.Prelude.{◌≡◌, ◌≢◌, ℕ, List, [], ◌∷◌, ◌++◌, map, Option, None, Some, Result, Ok, Err}
 use Rattle.std.specs.Io.KnownBytes.{Appends}
 use Rattle.std.proofs.Common.{refl, sym, ap, subst, ◌∙◌, append-nil}
 use Rattle.gix_hash.specs.declared.ObjectId.{ObjectId}
@@ -59,7 +59,7 @@ module _ (objects : Objects) (rows : List GraphRow) (agreeing : IsAgreeing objec
   abbrev pub IsRead : List ObjectId → Type 0
   IsRead ids = SimpleListsRead objects by tips hidden ids × ((i : ObjectId) → Reaches texts (tips ++ hidden) i → (object : Object) × (get objects i ≡ Some object))
 
-  listed : (walk : Walk) (infos : List Info) → StartsFrom objects rows by tips hidden walk → Ends Answers IsWalkFault walk infos (Ok tt) → IsRead (map (λ info. info.id) infos)
+  pub listed : (walk : Walk) (infos : List Info) → StartsFrom objects rows by tips hidden walk → Ends Answers IsWalkFault walk infos (Ok tt) → IsRead (map (λ info. info.id) infos)
   listed walk infos starts (finished last h) = go hidden refl
     where
       go : (hs : List ObjectId) → hidden ≡ hs → IsRead (map (λ info. info.id) infos)
@@ -73,10 +73,10 @@ module _ (objects : Objects) (rows : List GraphRow) (agreeing : IsAgreeing objec
           let whole : AreWhole objects (tips ++ hidden) = all_read objects rows by tips hidden walk named starts agreeing infos h.0 last h.1 h.2 some behind in
           let l : ListsBy objects (parents_of objects) by tips hidden (map (λ info. info.id) infos) = listed_whole objects rows by tips hidden walk named starts agreeing infos h.0 last h.1 h.2 some behind in (
             record { read = by_texts objects by tips hidden (map (λ info. info.id) infos) whole l; whole = λ w. l; painted = λ b. whole },
-            λ i r. let c = commit_stored objects i (whole_from objects i (whole i (by_parents_reached objects by tips hidden (map (λ info. info.id) infos) whole i r))) in (record { kind = object.Commit; bytes = c.0 }, c.1),
+            λ i r. let c = commit_stored objects i (whole_from objects i (whole i (by_parents_reached objects tips hidden whole i r))) in (record { kind = object.Commit; bytes = c.0 }, c.1),
           )
 
-  pub lists : (old new : Option (List ℕ)) → Serves objects rows old (Commits (Simple by) tips hidden) (Ok tt) new → (ids : List ObjectId) × SimpleListsRead objects by tips hidden ids × Appends old new (lines_of_ids ids)
+  pub lists : (old new : Option (List ℕ)) → Serves objects rows old (Commits (Simple by) None tips hidden) (Ok tt) new → (ids : List ObjectId) × SimpleListsRead objects by tips hidden ids × Appends old new (lines_of_ids ids)
   lists old new (walked walk infos starts ends written) = (map (λ info. info.id) infos, (listed walk infos starts ends).0, subst (Appends old new) (lines_by_ids infos) written)
 
 module _ (some all : Objects) (part : IsPartOf some all) (by : Sorting) (tips hidden : List ObjectId) (named : IsUncut by) (tip : tips ≢ []) where
@@ -86,16 +86,16 @@ module _ (some all : Objects) (part : IsPartOf some all) (by : Sorting) (tips hi
       lists_same some all (text_next some) (text_next all) tips hidden (λ c r. same_texts some all part c (l.1 c r)) (λ i r. same_time some all part i (l.1 i r)) by ids l.0.read in
       record { read = read; whole = λ w. by_parents all by tips hidden ids w read; painted = λ behind. whole_in_all some all part (tips ++ hidden) (l.0.painted behind) }
 
-  lists_of_all : (old new : Option (List ℕ)) → Serves some [] old (Commits (Simple by) tips hidden) (Ok tt) new → (ids : List ObjectId) × SimpleListsRead all by tips hidden ids × Appends old new (lines_of_ids ids)
+  lists_of_all : (old new : Option (List ℕ)) → Serves some [] old (Commits (Simple by) None tips hidden) (Ok tt) new → (ids : List ObjectId) × SimpleListsRead all by tips hidden ids × Appends old new (lines_of_ids ids)
   lists_of_all old new (walked walk infos starts ends written) =
       (map (λ info. info.id) infos, in_all (map (λ info. info.id) infos) (listed some [] (none_agree some [] refl) by tips hidden named tip walk infos starts ends), subst (Appends old new) (lines_by_ids infos) written)
 
 pub simple_lists : SimpleLists
 simple_lists words input records by tips hidden old new asked are runs =
-    lists (stored records) [] (none_agree (stored records) [] refl) by tips hidden (uncut words by tips hidden asked) (some_tips words (Simple by) tips hidden asked) old new
-    (served_so words input records (Commits (Simple by) tips hidden) old new asked are runs)
+    lists (stored records) [] (none_agree (stored records) [] refl) by tips hidden (uncut words by None tips hidden asked) (some_tips words (Simple by) None tips hidden asked) old new
+    (served_so words input records (Commits (Simple by) None tips hidden) old new asked are runs)
 
 pub simple_lists_of_part : SimpleListsOfPart
 simple_lists_of_part words input records by tips hidden old new all asked are part runs =
-    lists_of_all (stored records) all part by tips hidden (uncut words by tips hidden asked) (some_tips words (Simple by) tips hidden asked) old new
-    (served_so words input records (Commits (Simple by) tips hidden) old new asked are runs)
+    lists_of_all (stored records) all part by tips hidden (uncut words by None tips hidden asked) (some_tips words (Simple by) None tips hidden asked) old new
+    (served_so words input records (Commits (Simple by) None tips hidden) old new asked are runs)

@@ -19,6 +19,10 @@ mod CommitRuns
 mod TopoParts
 mod TextParts
 mod TopoRuns
+mod GoesOn
+mod SimpleBegins
+mod TopoBegins
+mod FirstCommits
 mod TreeParts
 mod FileRuns
 mod SimpleFaults

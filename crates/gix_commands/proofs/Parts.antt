@@ -131,13 +131,13 @@ module _ (some all : Objects) (next other : ObjectId → List ObjectId) (tips hi
   abbrev AreMet : List ObjectId → Type 0
   AreMet ids = (i : ObjectId) → Reaches next ids i → Reaches next (tips ++ hidden) i
 
-  tips_met : AreMet tips
+  pub tips_met : AreMet tips
   tips_met i r = reach_more next tips (tips ++ hidden) (λ j c. Contains-append_left tips hidden j c) i r
 
   hidden_met : AreMet hidden
   hidden_met i r = reach_more next hidden (tips ++ hidden) (λ j c. Contains-append_right tips hidden j c) i r
 
-  there : (ids : List ObjectId) → AreMet ids → (i : ObjectId) → Reaches next ids i → Reaches other ids i
+  pub there : (ids : List ObjectId) → AreMet ids → (i : ObjectId) → Reaches next ids i → Reaches other ids i
   there ids met i (start s) = start s
   there ids met i (step {c = c} r n) = step (there ids met c r) (subst (λ xs. Contains xs i) (same_next c (met c r)) n)
 
@@ -145,10 +145,10 @@ module _ (some all : Objects) (next other : ObjectId → List ObjectId) (tips hi
   back ids met i (start s) = start s
   back ids met i (step {c = c} r n) = let p : Reaches next ids c = back ids met c r in step p (subst (λ xs. Contains xs i) (sym (same_next c (met c p))) n)
 
-  shown_there : (i : ObjectId) → IsShownBy next tips hidden i → IsShownBy other tips hidden i
+  pub shown_there : (i : ObjectId) → IsShownBy next tips hidden i → IsShownBy other tips hidden i
   shown_there i s = (there tips tips_met i s.0, λ h. s.1 (back hidden hidden_met i h))
 
-  shown_back : (i : ObjectId) → IsShownBy other tips hidden i → IsShownBy next tips hidden i
+  pub shown_back : (i : ObjectId) → IsShownBy other tips hidden i → IsShownBy next tips hidden i
   shown_back i s = (back tips tips_met i s.0, λ h. s.1 (there hidden hidden_met i h))
 
   pub lists_same : ((i : ObjectId) → Reaches next (tips ++ hidden) i → time_of some i ≡ time_of all i) → (by : Sorting) (ids : List ObjectId) → ListsBy some next by tips hidden ids → ListsBy all other by tips hidden ids
@@ -166,15 +166,19 @@ module _ (some all : Objects) (next other : ObjectId → List ObjectId) (tips hi
   }
 
 -- where all that is reached is whole, texts name the parents
-module _ (objects : Objects) (by : Sorting) (tips hidden ids : List ObjectId) (whole : AreWhole objects (tips ++ hidden)) where
+module _ (objects : Objects) (tips hidden : List ObjectId) (whole : AreWhole objects (tips ++ hidden)) where
   texts_same : (c : ObjectId) → Reaches (parents_of objects) (tips ++ hidden) c → parents_of objects c ≡ text_next objects c
   texts_same c r = text_whole objects c (whole_from objects c (whole c r))
 
   pub by_parents_reached : (i : ObjectId) → Reaches (text_next objects) (tips ++ hidden) i → Reaches (parents_of objects) (tips ++ hidden) i
   by_parents_reached = back objects objects (parents_of objects) (text_next objects) tips hidden texts_same (tips ++ hidden) (λ i r. r)
 
+  pub parents_same : (c : ObjectId) → Reaches (text_next objects) (tips ++ hidden) c → text_next objects c ≡ parents_of objects c
+  parents_same c r = sym (texts_same c (by_parents_reached c r))
+
+module _ (objects : Objects) (by : Sorting) (tips hidden ids : List ObjectId) (whole : AreWhole objects (tips ++ hidden)) where
   pub by_texts : ListsBy objects (parents_of objects) by tips hidden ids → ListsBy objects (text_next objects) by tips hidden ids
-  by_texts = lists_same objects objects (parents_of objects) (text_next objects) tips hidden texts_same (λ i r. refl) by ids
+  by_texts = lists_same objects objects (parents_of objects) (text_next objects) tips hidden (texts_same objects tips hidden whole) (λ i r. refl) by ids
 
   pub by_parents : ListsBy objects (text_next objects) by tips hidden ids → ListsBy objects (parents_of objects) by tips hidden ids
-  by_parents = lists_same objects objects (text_next objects) (parents_of objects) tips hidden (λ c r. sym (texts_same c (by_parents_reached c r))) (λ i r. refl) by ids
+  by_parents = lists_same objects objects (text_next objects) (parents_of objects) tips hidden (parents_same objects tips hidden whole) (λ i r. refl) by ids

@@ -100,7 +100,7 @@ find-new test old (i ∷ ids) passed = go (find-new test old ids passed) (λ fai
     go same others false o true e = cond-true (test i) _ _ e
     go same others false o false e = cond-false (test i) _ _ e ∙ others e
 
-in_new : (old : ObjectId → Bool) (ids : List ObjectId) (i : ObjectId) → Contains (new_ids old ids) i → Contains ids i
+pub in_new : (old : ObjectId → Bool) (ids : List ObjectId) (i : ObjectId) → Contains (new_ids old ids) i → Contains ids i
 in_new old [] i c = c
 in_new old (j ∷ ids) i c = go (in_new old ids i) (in_new (λ k. is_same k j || old k) ids i) (old j) c
   where
@@ -109,10 +109,10 @@ in_new old (j ∷ ids) i c = go (in_new old ids i) (in_new (λ k. is_same k j ||
     go a b true c = Contains-there i j ids (a c)
     go a b false c = ⊎_elim (λ e. subst (Contains (j ∷ ids)) e (Contains-here j ids)) (λ t. Contains-there i j ids (b t)) (Contains-cons_cases i j (new_ids (λ k. is_same k j || old k) ids) c)
 
-new_in : (ids : List ObjectId) (i : ObjectId) → Contains ids i → Contains (new_ids (λ j. false) ids) i
+pub new_in : (ids : List ObjectId) (i : ObjectId) → Contains ids i → Contains (new_ids (λ j. false) ids) i
 new_in ids i c = among_is i (new_ids (λ j. false) ids) (times_among i (new_ids (λ j. false) ids) 0 (times-fresh i (λ j. false) ids ∙ ap (λ b. cond b 1 0) (among_from i ids c)))
 
-filtered : (pass : ObjectId → Bool) (ids : List ObjectId) (i : ObjectId) → Contains (filter pass ids) i → Contains ids i × (pass i ≡ true)
+pub filtered : (pass : ObjectId → Bool) (ids : List ObjectId) (i : ObjectId) → Contains (filter pass ids) i → Contains ids i × (pass i ≡ true)
 filtered pass [] i c = absurd (no_member i c)
 filtered pass (j ∷ ids) i c = go (filtered pass ids i) (pass j) refl c
   where
@@ -120,7 +120,7 @@ filtered pass (j ∷ ids) i c = go (filtered pass ids i) (pass j) refl c
     go more true p c = ⊎_elim (λ e. (subst (Contains (j ∷ ids)) e (Contains-here j ids), ap pass (sym e) ∙ p)) (λ t. let m = more t in (Contains-there i j ids m.0, m.1)) (Contains-cons_cases i j (filter pass ids) c)
     go more false p c = let m = more c in (Contains-there i j ids m.0, m.1)
 
-filtered_in : (pass : ObjectId → Bool) (ids : List ObjectId) (i : ObjectId) → Contains ids i → pass i ≡ true → Contains (filter pass ids) i
+pub filtered_in : (pass : ObjectId → Bool) (ids : List ObjectId) (i : ObjectId) → Contains ids i → pass i ≡ true → Contains (filter pass ids) i
 filtered_in pass [] i c p = c
 filtered_in pass (j ∷ ids) i c p = go (λ t. filtered_in pass ids i t p) (pass j) refl
   where

@@ -1,13 +1,14 @@
 -- What words ask for is what the statement says that they ask for.
-use Rattle.std.specs.Prelude.{◌≡◌, ◌≢◌, ◌+◌, ◌==◌, ◌||◌, ◌&&◌, ℕ, List, [], ◌∷◌, Bool, true, false, cond, Option, Some, None, Result, Ok, Err, codes}
+use Rattle.std.specs.Prelude.{◌≡◌, ◌≢◌, ◌+◌, ◌==◌, ◌||◌, ◌&&◌, nat_lt, nat_le, length, ℕ, List, [], ◌∷◌, Bool, true, false, cond, Option, Some, None, Result, Ok, Err, codes}
 use Rattle.std.specs.List.{list_all}
 use Rattle.std.specs.Str.{bytes_eq}
 use Rattle.std.proofs.Common.{refl, sym, ap, subst, ◌∙◌, inl, inr}
-use Rattle.std.proofs.lemmas.Bool.{eqb-true, false≢true}
+use Rattle.std.proofs.lemmas.Bool.{eqb-true, ltb-true, leb-true, false≢true}
 use Rattle.std.proofs.lemmas.Slice.Eq.{bytes_eq-Decides}
 use Rattle.gix_hash.specs.declared.ObjectId.{ObjectId}
 use Rattle.gix_hash.specs.declared.HexError.{HexError}
 use Rattle.gix_hash.specs.Id.{id_from_hex}
+use Rattle.gix_records.specs.Decimal.{digits_behind}
 use Rattle.gix_revwalk.specs.declared.CommitTimeOrder.TheVariants as order
 use Rattle.gix_simple.specs.declared.Sorting.TheVariants as sorting
 use Rattle.gix_topo.specs.declared.Sorting.TheVariants as topo
@@ -15,9 +16,9 @@ use Rattle.gix_commands.specs.declared.fault.Fault.{Fault}
 use Rattle.gix_commands.specs.declared.fault.Fault.TheVariants as fault
 use Rattle.gix_commands.specs.declared.words.Order.{Order}
 use Rattle.gix_commands.specs.declared.words.Order.TheVariants.{Simple, Topo}
-use Rattle.gix_commands.specs.Words.{Request, Commits, Files, Ahead, Contained, Ids, begins_with_caret, without_caret, is_shown, with_id, with_word, ids_from, order_named, commits_from, commits_of, files_from, files_of, ahead_from, ahead_of, contained_among, contained_from, contained_of, request_named, request_of}
-use Rattle.gix_commands.specs.WholeStatement.{Spells, AreTips, digits_in}
-use Rattle.gix_commands.proofs.SameNumbers.{hex_spelled}
+use Rattle.gix_commands.specs.Words.{Request, Commits, Files, Ahead, Contained, Ids, begins_with_caret, without_caret, is_shown, with_id, with_word, ids_from, number_in, order_named, commits_from, commits_of, limited_of, in_order_of, files_from, files_of, ahead_from, ahead_of, contained_among, contained_from, contained_of, request_named, request_of}
+use Rattle.gix_commands.specs.WholeStatement.{IsNumber, Spells, AreTips, digits_in}
+use Rattle.gix_commands.proofs.SameNumbers.{decimal_digits, hex_spelled}
 
 -- the name of an order
 abbrev pub IsNameOf : List ℕ → Order → Type 0
@@ -97,24 +98,51 @@ all_hidden [] tips hidden h e = refl
 all_hidden (word ∷ words) tips hidden (inl (i, rest, is, s, h)) e = let no : [] ≡ i ∷ rest = sym e ∙ is in cc
 all_hidden (word ∷ words) tips hidden (inr (i, rest, is, id, begins, s, h)) e = ap (λ w. begins_with_caret w && list_all begins_with_caret words) begins ∙ all_hidden words tips rest h e
 
+-- ids, or ids behind `-n` and a number
+abbrev pub AreBehind : Option ℕ → List (List ℕ) → List (List ℕ) → Type 0
+AreBehind None words ids = words ≡ ids
+AreBehind (Some n) words ids = (number : List ℕ) × IsNumber 10 9 number n × (words ≡ codes "-n" ∷ number ∷ ids)
+
+is_number : (text : List ℕ) (n : ℕ) → number_in text ≡ Some n → IsNumber 10 9 text n
+is_number text n e = go (nat_lt 0 (length text)) (nat_le (length text) 9) refl refl e
+  where
+    go : (s t : Bool) → nat_lt 0 (length text) ≡ s → nat_le (length text) 9 ≡ t → cond (s && t) (digits_behind 0 text) None ≡ Some n → IsNumber 10 9 text n
+    go true true some few e = let d = decimal_digits text 0 n e in (ltb-true 0 (length text) some, leb-true (length text) 9 few, d.0, d.1)
+    go true false some few e = cc
+    go false t some few e = cc
+
 -- what the words of a request are
 abbrev pub AreWordsOf : List (List ℕ) → Result Request Fault → Type 0
 AreWordsOf words (Err e) = Unit {0}
-AreWordsOf words (Ok (Commits by tips hidden)) = (name : List ℕ) × (rest : List (List ℕ)) × (words ≡ name ∷ rest) × IsNameOf name by × AreTips rest tips hidden × (tips ≢ [])
+AreWordsOf words (Ok (Commits by limit tips hidden)) =
+    (name : List ℕ) × (rest ids : List (List ℕ)) × (words ≡ name ∷ rest) × IsNameOf name by × AreBehind limit rest ids × AreTips ids tips hidden × (tips ≢ [])
 AreWordsOf words (Ok (Files tree)) = (text : List ℕ) × (words ≡ codes "files" ∷ text ∷ []) × Spells (digits_in tree) text tree
 AreWordsOf words (Ok (Ahead one other)) = (a b : List ℕ) × (words ≡ codes "ahead" ∷ a ∷ b ∷ []) × Spells (digits_in one) a one × Spells (digits_in other) b other
 AreWordsOf words (Ok (Contained tip ids)) = (rest : List (List ℕ)) × (words ≡ codes "contains" ∷ rest) × AreTips rest (tip ∷ ids) [] × (ids ≢ [])
 
-commits_are : (name : List ℕ) (by : Order) (rest : List (List ℕ)) → IsNameOf name by → AreWordsOf (name ∷ rest) (commits_of by rest)
-commits_are name by rest named = go (list_all begins_with_caret rest) refl
+commits_are : (name : List ℕ) (by : Order) (limit : Option ℕ) (n : ℕ) (words rest : List (List ℕ)) → IsNameOf name by → AreBehind limit words rest → AreWordsOf (name ∷ words) (commits_of by limit n rest)
+commits_are name by limit n words rest named behind = go (list_all begins_with_caret rest) refl
   where
-    from : (r : Result Ids Fault) → list_all begins_with_caret rest ≡ false → AreIdsOf rest r → AreWordsOf (name ∷ rest) (commits_from by r)
+    from : (r : Result Ids Fault) → list_all begins_with_caret rest ≡ false → AreIdsOf rest r → AreWordsOf (name ∷ words) (commits_from by limit r)
     from (Err e) some h = tt
-    from (Ok ids) some h = (name, rest, refl, named, h, λ e. false≢true (sym some ∙ all_hidden rest ids.0 ids.1 h e))
+    from (Ok ids) some h = (name, words, rest, refl, named, behind, h, λ e. false≢true (sym some ∙ all_hidden rest ids.0 ids.1 h e))
 
-    go : (t : Bool) → list_all begins_with_caret rest ≡ t → AreWordsOf (name ∷ rest) (cond t (Err fault.Usage) (commits_from by (ids_from 2 rest)))
+    go : (t : Bool) → list_all begins_with_caret rest ≡ t → AreWordsOf (name ∷ words) (cond t (Err fault.Usage) (commits_from by limit (ids_from n rest)))
     go true e = tt
-    go false e = from (ids_from 2 rest) e (ids_are 2 rest)
+    go false e = from (ids_from n rest) e (ids_are n rest)
+
+in_order_are : (name : List ℕ) (by : Order) (words : List (List ℕ)) → IsNameOf name by → AreWordsOf (name ∷ words) (in_order_of by words)
+in_order_are name by [] named = commits_are name by None 2 [] [] named refl
+in_order_are name by (id ∷ []) named = commits_are name by None 2 (id ∷ []) (id ∷ []) named refl
+in_order_are name by (option ∷ number ∷ ids) named = go (bytes_eq option (codes "-n")) refl
+  where
+    from : (limit : Option ℕ) → number_in number ≡ limit → option ≡ codes "-n" → AreWordsOf (name ∷ option ∷ number ∷ ids) (limited_of by limit ids)
+    from (Some n) e is = commits_are name by (Some n) 4 (option ∷ number ∷ ids) ids named (number, is_number number n e, ap (λ word. word ∷ number ∷ ids) is)
+    from None e is = tt
+
+    go : (t : Bool) → bytes_eq option (codes "-n") ≡ t → AreWordsOf (name ∷ option ∷ number ∷ ids) (cond t (limited_of by (number_in number) ids) (commits_of by None 2 (option ∷ number ∷ ids)))
+    go true e = from (number_in number) refl ((bytes_eq-Decides option (codes "-n")).0 e)
+    go false e = commits_are name by None 2 (option ∷ number ∷ ids) (option ∷ number ∷ ids) named refl
 
 files_are : (rest : List (List ℕ)) → AreWordsOf (codes "files" ∷ rest) (files_of rest)
 files_are [] = tt
@@ -180,7 +208,7 @@ contained_are (word ∷ next ∷ rest) = go (list_all is_shown (word ∷ next �
     go false e = tt
 
 named_are : (name : List ℕ) (o : Option Order) (rest : List (List ℕ)) → IsChosenBy name o → AreWordsOf (name ∷ rest) (request_named name o rest)
-named_are name (Some by) rest h = commits_are name by rest h
+named_are name (Some by) rest h = in_order_are name by rest h
 named_are name None rest h = files (bytes_eq name (codes "files")) refl
   where
     contained : (t : Bool) → bytes_eq name (codes "contains") ≡ t → AreWordsOf (name ∷ rest) (cond t (contained_of rest) (Err fault.Usage))

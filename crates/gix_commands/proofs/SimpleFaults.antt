@@ -44,7 +44,7 @@ use Rattle.gix_commands.specs.Faults.{fault_of_walk}
 use Rattle.gix_commands.specs.Histories.{AreWhole, EndsWell, IsOutside, SimpleSucceeds, AheadSucceeds}
 use Rattle.gix_records.specs.Records.{stored}
 use Rattle.gix_commands.specs.Run.{Serves, walked, not_walked, counted, not_ahead, not_behind, unserved, not_written}
-use Rattle.gix_commands.specs.Walked.{Walk, Answers, IsWalkFault, StartsFrom, FailsAtStart, Ends, finished, failed, cut_short, objects_of, never_faulty, accepts_all, given as all_given}
+use Rattle.gix_commands.specs.Walked.{Walk, Answers, IsWalkFault, StartsFrom, FailsAtStart, Ends, finished, failed, cut_short, enough, before, objects_of, never_faulty, accepts_all, given as all_given}
 use Rattle.gix_commands.specs.Words.{Commits, Ahead}
 use Rattle.gix_commands.proofs.CommitRuns.{ends_well}
 use Rattle.gix_commands.proofs.InternalFacts.{next_sound}
@@ -213,11 +213,13 @@ module _ (objects : Objects) (tips hiders : List ObjectId) (whole : AreWhole obj
       go error.Memory h = tt
 
 module _ (objects : Objects) (rows : List GraphRow) (agreeing : IsAgreeing objects rows) (old : Option (List ℕ)) where
-  pub well : (by : Sorting) (tips hiders : List ObjectId) → IsUncut by → AreWhole objects (tips ++ hiders) → (answer : Result (Unit {0}) Fault) (new : Option (List ℕ)) → Serves objects rows old (Commits (Simple by) tips hiders) answer new → EndsWell answer
-  well by tips hiders named whole answer new (walked walk infos starts ends written) = drawn_well objects tips hiders whole rows agreeing by walk named starts infos answer ends
-  well by tips hiders named whole answer new (not_walked e f) = started_well objects tips hiders whole by e f
-  well by tips hiders named whole answer new unserved = tt
-  well by tips hiders named whole answer new not_written = tt
+  pub well : (by : Sorting) (limit : Option ℕ) (tips hiders : List ObjectId) → IsUncut by → AreWhole objects (tips ++ hiders) → (answer : Result (Unit {0}) Fault) (new : Option (List ℕ)) → Serves objects rows old (Commits (Simple by) limit tips hiders) answer new → EndsWell answer
+  well by None tips hiders named whole answer new (walked walk infos starts ends written) = drawn_well objects tips hiders whole rows agreeing by walk named starts infos answer ends
+  well by (Some n) tips hiders named whole answer new (walked walk infos starts (enough at h e) written) = tt
+  well by (Some n) tips hiders named whole answer new (walked walk infos starts (before ends less) written) = drawn_well objects tips hiders whole rows agreeing by walk named starts infos answer ends
+  well by limit tips hiders named whole answer new (not_walked e f) = started_well objects tips hiders whole by e f
+  well by limit tips hiders named whole answer new unserved = tt
+  well by limit tips hiders named whole answer new not_written = tt
 
   pub ahead_well : (one other : ObjectId) → AreWhole objects (one ∷ other ∷ []) → (answer : Result (Unit {0}) Fault) (new : Option (List ℕ)) → Serves objects rows old (Ahead one other) answer new → EndsWell answer
   ahead_well one other whole answer new (counted ahead behind a b written) = tt
@@ -230,8 +232,8 @@ module _ (objects : Objects) (rows : List GraphRow) (agreeing : IsAgreeing objec
   ahead_well one other whole answer new not_written = tt
 
 pub simple_succeeds : SimpleSucceeds
-simple_succeeds words input records by tips hiders answer old new asked are whole runs =
-    ends_well words input records (Commits (Simple by) tips hiders) answer old new asked are (well (stored records) [] (none_agree (stored records) [] refl) old by tips hiders (uncut words by tips hiders asked) whole) runs
+simple_succeeds words input records by limit tips hiders answer old new asked are whole runs =
+    ends_well words input records (Commits (Simple by) limit tips hiders) answer old new asked are (well (stored records) [] (none_agree (stored records) [] refl) old by limit tips hiders (uncut words by limit tips hiders asked) whole) runs
 
 pub ahead_succeeds : AheadSucceeds
 ahead_succeeds words input records one other answer old new asked are whole runs = ends_well words input records (Ahead one other) answer old new asked are (ahead_well (stored records) [] (none_agree (stored records) [] refl) old one other whole) runs

@@ -46,11 +46,11 @@ IsUncut sorting.BreadthFirst = Unit {0}
 IsUncut (sorting.ByCommitTime order) = Unit {0}
 IsUncut (sorting.ByCommitTimeCutoff order seconds) = ⊥
 
-unrefused : (infos : List Info) → All IsNoRefusal (given infos)
+pub unrefused : (infos : List Info) → All IsNoRefusal (given infos)
 unrefused [] = All-nil IsNoRefusal
 unrefused (info ∷ infos) = All-cons IsNoRefusal (Ok info) (given infos) ((λ e. cc), (λ e. cc), (λ e. cc)) (unrefused infos)
 
-no_faults : (infos : List Info) (e : Error) → Contains (given infos) (Err e) → ⊥
+pub no_faults : (infos : List Info) (e : Error) → Contains (given infos) (Err e) → ⊥
 no_faults [] e c = no_member (Err e) c
 no_faults (info ∷ infos) e c = ⊎_elim (λ s. cc) (no_faults infos e) (Contains-cons_cases (Err e) (Ok info) (given infos) c)
 
@@ -59,7 +59,7 @@ ids_given [] = refl
 ids_given (info ∷ infos) = ap (λ ids. info.id ∷ ids) (ids_given infos)
 
 module _ (objects : Objects) (named : ObjectId → List ObjectId) (rows : List GraphRow) (order : Option CommitTimeOrder) where
-  same_ids : (infos : List Info) (ids : List ObjectId) → AllZip (IsGivenBy objects named rows mode.All order) (given infos) ids → map (λ info. info.id) infos ≡ ids
+  pub same_ids : (infos : List Info) (ids : List ObjectId) → AllZip (IsGivenBy objects named rows mode.All order) (given infos) ids → map (λ info. info.id) infos ≡ ids
   same_ids [] [] h = refl
   same_ids [] (i ∷ ids) h = absurd h
   same_ids (info ∷ infos) [] h = absurd h
@@ -72,7 +72,7 @@ module _ (objects : Objects) (named : ObjectId → List ObjectId) (rows : List G
   was_read (info ∷ infos) [] h i c = absurd h
   was_read (info ∷ infos) (j ∷ ids) h i c = ⊎_elim (λ e. subst (ReadsParents objects mode.All) e h.0.read) (was_read infos ids h.1 i) (Contains-cons_cases i j ids c)
 
-uncut_none : (by : Sorting) → IsUncut by → cutoff mode.All by ≡ None
+pub uncut_none : (by : Sorting) → IsUncut by → cutoff mode.All by ≡ None
 uncut_none sorting.BreadthFirst u = refl
 uncut_none (sorting.ByCommitTime order) u = refl
 uncut_none (sorting.ByCommitTimeCutoff order seconds) u = absurd u
@@ -98,7 +98,7 @@ follows (sorting.ByCommitTime order) u first sorted s = record {
 }
 follows (sorting.ByCommitTimeCutoff order seconds) u first sorted s = absurd u
 
-none_left : (ids : List ObjectId) → ids ≢ [] → ((i : ObjectId) → Contains ids i → ⊥) → ⊥
+pub none_left : (ids : List ObjectId) → ids ≢ [] → ((i : ObjectId) → Contains ids i → ⊥) → ⊥
 none_left [] some none = some refl
 none_left (i ∷ ids) some none = none i (Contains-here i ids)
 
@@ -122,7 +122,7 @@ module _ (objects : Objects) (rows : List GraphRow) (by : Sorting) (tips hidden 
       let h : walk.hidden_tips ≡ hidden = ap (λ w. w.hidden_tips) starts.hides in
       (λ k. record walk { store = s k; rows = r k; parents = p k; sorting = b k; hidden_tips = h k })
 
-  pending : ids_of walk.pending ≡ new_ids (λ i. false) tips
+  pub pending : ids_of walk.pending ≡ new_ids (λ i. false) tips
   pending = ap (λ w. ids_of w.pending) starts.hides ∙ sorted_so.pending ∙ new_walk.pending ∙ ap (new_ids (λ i. false)) (filter_all (λ i. true) tips (λ i m. refl))
 
   pub is_tip : (i : ObjectId) → Contains (ids_of walk.pending) i → Contains tips i
@@ -145,10 +145,10 @@ module _ (objects : Objects) (rows : List GraphRow) (by : Sorting) (tips hidden 
   is_built : Uncut walk
   is_built = let k : Uncut starts.sorted = sorted_built by uncut starts.made starts.sorted (made starts.makes, tt) starts.sorts in subst Uncut (sym starts.hides) (reads {rows = rows} (hides {ids = hidden} k.0), k.1)
 
-  test : (tells : ObjectId → Bool) × Tells tells (Reaches (parents_of objects) hidden)
+  pub test : (tells : ObjectId → Bool) × Tells tells (Reaches (parents_of objects) hidden)
   test = reach_test objects hidden
 
-  is_fresh : IsFresh objects_of walk (λ i. true) × AnswersBy accepts_all walk.predicate (λ i. true) × (walk.store ≡ objects)
+  pub is_fresh : IsFresh objects_of walk (λ i. true) × AnswersBy accepts_all walk.predicate (λ i. true) × (walk.store ≡ objects)
   is_fresh = built objects_of never_faulty accepts_all (λ i. true) objects (record {}) (λ mid new i answer b h. h.0) tips walk is_built.0
 
   module _ (agreeing : IsAgreeing objects rows) (infos : List Info) (at new : Walk) (drawn : Yields Answers walk (given infos) at) (ended : Answers at None new) where

@@ -21,7 +21,7 @@ UncutOrder (Some (Simple by)) = IsUncut by
 UncutOrder (Some (Topo by)) = Unit {0}
 
 abbrev UncutRequest : Result Request Fault → Type 0
-UncutRequest (Ok (Commits by tips hidden)) = UncutOrder (Some by)
+UncutRequest (Ok (Commits by limit tips hidden)) = UncutOrder (Some by)
 UncutRequest (Ok (Files tree)) = Unit {0}
 UncutRequest (Ok (Ahead one other)) = Unit {0}
 UncutRequest (Ok (Contained tip ids)) = Unit {0}
@@ -38,15 +38,15 @@ uncut_order name = go (bytes_eq name (codes "breadth")) (bytes_eq name (codes "n
     go false false false false true = tt
     go false false false false false = tt
 
-from_ids : (by : Order) (r : Result Ids Fault) → UncutOrder (Some by) → UncutRequest (commits_from by r)
-from_ids by (Ok ids) h = h
-from_ids by (Err e) h = tt
+from_ids : (by : Order) (limit : Option ℕ) (r : Result Ids Fault) → UncutOrder (Some by) → UncutRequest (commits_from by limit r)
+from_ids by limit (Ok ids) h = h
+from_ids by limit (Err e) h = tt
 
-pub uncut : (words : List (List ℕ)) (by : Sorting) (tips hidden : List ObjectId) → request_of words ≡ Ok (Commits (Simple by) tips hidden) → IsUncut by
-uncut words by tips hidden e = subst UncutRequest e (each_request UncutRequest tt (λ n. tt) (λ i. tt) (λ i j. tt) (λ i ids. tt) (λ name by named ids. from_ids by (ids_from 2 ids) (subst UncutOrder named (uncut_order name))) words)
+pub uncut : (words : List (List ℕ)) (by : Sorting) (limit : Option ℕ) (tips hidden : List ObjectId) → request_of words ≡ Ok (Commits (Simple by) limit tips hidden) → IsUncut by
+uncut words by limit tips hidden e = subst UncutRequest e (each_request UncutRequest tt (λ n. tt) (λ i. tt) (λ i j. tt) (λ i ids. tt) (λ name by named limit n ids. from_ids by limit (ids_from n ids) (subst UncutOrder named (uncut_order name))) words)
 
-pub some_tips : (words : List (List ℕ)) (by : Order) (tips hidden : List ObjectId) → request_of words ≡ Ok (Commits by tips hidden) → tips ≢ []
-some_tips words by tips hidden e = let k : AreWordsOf words (Ok (Commits by tips hidden)) = subst (AreWordsOf words) e (are_words words) in k.5
+pub some_tips : (words : List (List ℕ)) (by : Order) (limit : Option ℕ) (tips hidden : List ObjectId) → request_of words ≡ Ok (Commits by limit tips hidden) → tips ≢ []
+some_tips words by limit tips hidden e = let k : AreWordsOf words (Ok (Commits by limit tips hidden)) = subst (AreWordsOf words) e (are_words words) in k.7
 
 pub some_ids : (words : List (List ℕ)) (tip : ObjectId) (ids : List ObjectId) → request_of words ≡ Ok (Contained tip ids) → ids ≢ []
 some_ids words tip ids e = let k : AreWordsOf words (Ok (Contained tip ids)) = subst (AreWordsOf words) e (are_words words) in k.3

@@ -216,12 +216,12 @@ module _ (text : List ℕ) (child_names : next_in child (Some (record { kind = k
   served_newest : Serves (map worded (read text)) parents time (Some []) (Some output) (codes "newest" ∷ codes "2222222222222222222222222222222222222222" ∷ [])
   unfolding hex_on_literals
   served_newest =
-      commits {hidden = []} (inl (child, [], refl, (refl, refl, refl), (refl, refl))) (λ e. cc) (is_listed parents time child_named root_named (codes "newest") (λ taken rest e. newest (in_order parents time child_named root_named taken rest e))) refl
+      commits [] (codes "2222222222222222222222222222222222222222" ∷ []) {hidden = []} (inl (child, [], refl, (refl, refl, refl), (refl, refl))) (λ e. cc) (inl (refl, refl)) (is_listed parents time child_named root_named (codes "newest") (λ taken rest e. newest (in_order parents time child_named root_named taken rest e))) refl
 
   served_breadth : Serves (map worded (read text)) parents time (Some []) (Some output) (codes "breadth" ∷ codes "2222222222222222222222222222222222222222" ∷ [])
   unfolding hex_on_literals
   served_breadth =
-      commits {hidden = []} (inl (child, [], refl, (refl, refl, refl), (refl, refl))) (λ e. cc) (is_listed parents time child_named root_named (codes "breadth") (λ taken rest e. breadth (in_breadth parents time child_named root_named taken rest e))) refl
+      commits [] (codes "2222222222222222222222222222222222222222" ∷ []) {hidden = []} (inl (child, [], refl, (refl, refl, refl), (refl, refl))) (λ e. cc) (inl (refl, refl)) (is_listed parents time child_named root_named (codes "breadth") (λ taken rest e. breadth (in_breadth parents time child_named root_named taken rest e))) refl
 
 -- `newest CHILD` over whole texts, from bytes to bytes
 abbrev child_text : List ℕ

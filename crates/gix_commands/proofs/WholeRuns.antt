@@ -1,8 +1,8 @@
 -- A run that ended well has written what the statement promises.
-use Rattle.std.specs.Prelude.{◌≡◌, ℕ, ℤ, List, [], ◌∷◌, map, false, Option, Some, Result, Ok, All, Contains}
+use Rattle.std.specs.Prelude.{◌≡◌, ℕ, ℤ, List, [], ◌∷◌, map, take, false, Option, Some, None, Result, Ok, All, Contains, codes}
 use Rattle.std.specs.Io.KnownBytes.{Appends}
 use Rattle.std.specs.List.{flat_map}
-use Rattle.std.proofs.Common.{refl, sym, ap, subst, ◌∙◌}
+use Rattle.std.proofs.Common.{refl, sym, ap, subst, inl, inr, ◌∙◌}
 use Rattle.gix_hash.specs.declared.ObjectId.{ObjectId}
 use Rattle.gix_hash.proofs.Ids.Membership.{Contains-here, Contains-there}
 use Rattle.gix_revwalk.specs.Commits.{time_of}
@@ -27,6 +27,7 @@ use Rattle.gix_commands.specs.WholeStatement.{Entry, IsTree, Unfolds, Promises, 
 use Rattle.gix_commands.proofs.AheadRuns.{ahead_counts, counted_whole}
 use Rattle.gix_commands.proofs.CommitRuns.{served_so, simple_lists}
 use Rattle.gix_commands.proofs.ContainedRuns.{contains_ids}
+use Rattle.gix_commands.proofs.FirstCommits.{simple_begins, topo_begins}
 use Rattle.gix_commands.proofs.FileRuns.{unfolds}
 use Rattle.gix_commands.proofs.TopoRuns.{topo_lists}
 use Rattle.gix_commands.proofs.SameCommits.{worded, are_records}
@@ -70,12 +71,20 @@ module _ (words : List (List ℕ)) (input : List ℕ) (rs : List Record) (old ne
       )
 
   serves : (request : Request) → request_of words ≡ Ok request → AreWordsOf words (Ok request) → ServesSo words
-  serves (Commits (Simple by) tips hidden) asked (name, rest, is, named, ids, some) =
+  serves (Commits (Simple by) None tips hidden) asked (name, rest, those, is, named, same, ids, some) =
       let l = simple_lists words input rs by tips hidden old new asked are runs in
-      subst ServesSo (sym is) (page.commits ids some (is_list (stored rs) parents name by named tips hidden l.0 l.1.read) (subst (Appends old new) (id_lines l.0) l.2))
-  serves (Commits (Topo by) tips ends) asked (name, rest, is, named, ids, some) =
+      subst ServesSo (sym (is ∙ ap (λ w. name ∷ w) same)) (page.commits [] those ids some (inl (refl, refl)) (is_list (stored rs) parents name by named tips hidden l.0 l.1.read) (subst (Appends old new) (id_lines l.0) l.2))
+  serves (Commits (Simple by) (Some n) tips hidden) asked (name, rest, those, is, named, (number, limits, same), ids, some) =
+      let l = simple_begins words input rs by n tips hidden old new asked are runs in
+      subst ServesSo (sym (is ∙ ap (λ w. name ∷ w) same))
+      (page.commits (codes "-n" ∷ number ∷ []) those ids some (inr (number, n, limits, refl, refl)) (is_list (stored rs) parents name by named tips hidden l.0 l.1.read) (subst (Appends old new) (id_lines (take n l.0)) l.2))
+  serves (Commits (Topo by) None tips ends) asked (name, rest, those, is, named, same, ids, some) =
       let l = topo_lists words input rs by tips ends old new asked are runs in
-      subst ServesSo (sym is) (page.commits ids some (listed_down (stored rs) parents name by named tips ends l.0 l.1.read) (subst (Appends old new) (id_lines l.0) l.2))
+      subst ServesSo (sym (is ∙ ap (λ w. name ∷ w) same)) (page.commits [] those ids some (inl (refl, refl)) (listed_down (stored rs) parents name by named tips ends l.0 l.1.read) (subst (Appends old new) (id_lines l.0) l.2))
+  serves (Commits (Topo by) (Some n) tips ends) asked (name, rest, those, is, named, (number, limits, same), ids, some) =
+      let l = topo_begins words input rs by n tips ends old new asked are runs in
+      subst ServesSo (sym (is ∙ ap (λ w. name ∷ w) same))
+      (page.commits (codes "-n" ∷ number ∷ []) those ids some (inr (number, n, limits, refl, refl)) (listed_down (stored rs) parents name by named tips ends l.0 l.1.read) (subst (Appends old new) (id_lines (take n l.0)) l.2))
   serves (Files tree) asked (text, is, spells) =
       let t = tree_written tree (served_so words input rs (Files tree) old new asked are runs) in
       subst ServesSo (sym is) (page.files spells t.2 t.3 t.4)

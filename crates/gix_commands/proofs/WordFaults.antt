@@ -9,7 +9,7 @@ use Rattle.gix_hash.specs.Id.{id_from_hex}
 use Rattle.gix_commands.specs.declared.fault.Fault.{Fault}
 use Rattle.gix_commands.specs.declared.fault.Fault.TheVariants as fault
 use Rattle.gix_commands.specs.declared.words.Order.{Order}
-use Rattle.gix_commands.specs.Words.{Request, Files, Ahead, Contained, Ids, begins_with_caret, without_caret, is_shown, with_id, with_word, ids_from, order_named, commits_from, files_from, files_of, ahead_from, ahead_of, contained_among, contained_from, contained_of, request_named, request_of}
+use Rattle.gix_commands.specs.Words.{Request, Files, Ahead, Contained, Ids, begins_with_caret, without_caret, is_shown, with_id, with_word, ids_from, number_in, order_named, commits_from, commits_of, limited_of, in_order_of, files_from, files_of, ahead_from, ahead_of, contained_among, contained_from, contained_of, request_named, request_of}
 
 -- what is so of ids, and of a word that spells none, is so of what words spell
 with_each : (Q : Result Ids Fault → Type 0) (ids_so : (ids : Ids) → Q (Ok ids)) (no_id : (n : ℕ) → Q (Err (fault.Id n))) (hidden : Bool) (n : ℕ) (r : Result ObjectId HexError) (rest : Result Ids Fault) → Q rest → Q (with_word hidden n r rest)
@@ -59,14 +59,28 @@ module _ (P : Result Request Fault → Type 0) (usage : P (Err fault.Usage)) (no
       either (list_all is_shown (tip ∷ next ∷ ids)) (contained_from (ids_from 2 (tip ∷ next ∷ ids))) (Err fault.Usage)
       (each_ids (λ r. P (contained_from r)) (λ those. from_some those.0) no_id 2 (tip ∷ next ∷ ids)) usage
 
-  from_name : (name : List ℕ) (o : Option Order) (ids : List (List ℕ)) → ((by : Order) → o ≡ Some by → P (commits_from by (ids_from 2 ids))) → P (request_named name o ids)
-  from_name name (Some by) ids h = either (list_all begins_with_caret ids) (Err fault.Usage) (commits_from by (ids_from 2 ids)) usage (h by refl)
+  module _ (by : Order) (h : (limit : Option ℕ) (n : ℕ) (ids : List (List ℕ)) → P (commits_from by limit (ids_from n ids))) where
+    from_ids : (limit : Option ℕ) (n : ℕ) (ids : List (List ℕ)) → P (commits_of by limit n ids)
+    from_ids limit n ids = either (list_all begins_with_caret ids) (Err fault.Usage) (commits_from by limit (ids_from n ids)) usage (h limit n ids)
+
+    from_limit : (limit : Option ℕ) (ids : List (List ℕ)) → P (limited_of by limit ids)
+    from_limit (Some limit) ids = from_ids (Some limit) 4 ids
+    from_limit None ids = usage
+
+    from_order : (words : List (List ℕ)) → P (in_order_of by words)
+    from_order [] = from_ids None 2 []
+    from_order (id ∷ []) = from_ids None 2 (id ∷ [])
+    from_order (option ∷ limit ∷ ids) =
+        either (bytes_eq option (codes "-n")) (limited_of by (number_in limit) ids) (commits_of by None 2 (option ∷ limit ∷ ids)) (from_limit (number_in limit) ids) (from_ids None 2 (option ∷ limit ∷ ids))
+
+  from_name : (name : List ℕ) (o : Option Order) (ids : List (List ℕ)) → ((by : Order) → o ≡ Some by → (limit : Option ℕ) (n : ℕ) (those : List (List ℕ)) → P (commits_from by limit (ids_from n those))) → P (request_named name o ids)
+  from_name name (Some by) ids h = from_order by (h by refl) ids
   from_name name None ids h = either (bytes_eq name (codes "files")) (files_of ids) _ (from_trees ids) (either (bytes_eq name (codes "ahead")) (ahead_of ids) _ (from_pairs ids) (either (bytes_eq name (codes "contains")) (contained_of ids) (Err fault.Usage) (from_somes ids) usage))
 
   -- is so of each request
-  pub each_request : ((name : List ℕ) (by : Order) → order_named name ≡ Some by → (ids : List (List ℕ)) → P (commits_from by (ids_from 2 ids))) → (words : List (List ℕ)) → P (request_of words)
+  pub each_request : ((name : List ℕ) (by : Order) → order_named name ≡ Some by → (limit : Option ℕ) (n : ℕ) (ids : List (List ℕ)) → P (commits_from by limit (ids_from n ids))) → (words : List (List ℕ)) → P (request_of words)
   each_request h [] = usage
-  each_request h (name ∷ ids) = from_name name (order_named name) ids (λ by e. h name by e ids)
+  each_request h (name ∷ ids) = from_name name (order_named name) ids (λ by e. h name by e)
 
 abbrev pub IsOfWords : Fault → Type 0
 IsOfWords fault.Usage = Unit {0}
@@ -97,9 +111,9 @@ ids_words : (n : ℕ) (words : List (List ℕ)) → OfWords (ids_from n words)
 ids_words n [] = tt
 ids_words n (word ∷ words) = with_words (begins_with_caret word) n (id_from_hex (without_caret word)) (ids_from (n + 1) words) (ids_words (n + 1) words)
 
-commits_words : (by : Order) (r : Result Ids Fault) → OfWords r → OfWords (commits_from by r)
-commits_words by (Ok ids) h = tt
-commits_words by (Err e) h = h
+commits_words : (by : Order) (limit : Option ℕ) (r : Result Ids Fault) → OfWords r → OfWords (commits_from by limit r)
+commits_words by limit (Ok ids) h = tt
+commits_words by limit (Err e) h = h
 
 pub request_words : (words : List (List ℕ)) → OfWords (request_of words)
-request_words = each_request OfWords tt (λ n. tt) (λ i. tt) (λ i j. tt) (λ i ids. tt) (λ name by e ids. commits_words by (ids_from 2 ids) (ids_words 2 ids))
+request_words = each_request OfWords tt (λ n. tt) (λ i. tt) (λ i j. tt) (λ i ids. tt) (λ name by e limit n ids. commits_words by limit (ids_from n ids) (ids_words n ids))

@@ -1,5 +1,5 @@
 -- What a run writes of a history, by what commits reach alone.
-use Rattle.std.specs.Prelude.{◌≡◌, ◌≢◌, ◌↔◌, ℕ, List, [], ◌∷◌, ◌++◌, map, filter, Bool, false, not, Contains, Option, Some, Result, Ok, Err, IsSome}
+use Rattle.std.specs.Prelude.{◌≡◌, ◌≢◌, ◌↔◌, ℕ, List, [], ◌∷◌, ◌++◌, map, take, filter, Bool, false, not, Contains, Option, None, Some, Result, Ok, Err, IsSome}
 use Rattle.std.specs.Io.KnownBytes.{Appends}
 use Rattle.std.specs.FinMap.{get}
 use Rattle.std.specs.List.{flat_map}
@@ -70,6 +70,12 @@ pub record SimpleListsRead (objects : Objects) (by : Sorting) (tips hidden ids :
   pub whole : AreWhole objects (tips ++ hidden) → ListsBy objects (parents_of objects) by tips hidden ids
   pub painted : hidden ≢ [] → AreWhole objects (tips ++ hidden)
 
+-- A list as of `ListsBy` by the parents that the texts of commits name, which are the parents of commits where all that tips and hidden tips
+-- reach are whole commits
+pub record IsSimpleList (objects : Objects) (by : Sorting) (tips hidden ids : List ObjectId) : Type 0 where
+  pub read : ListsBy objects (text_next objects) by tips hidden ids
+  pub whole : AreWhole objects (tips ++ hidden) → ListsBy objects (parents_of objects) by tips hidden ids
+
 -- ids, one a line
 abbrev pub lines_of_ids : List ObjectId → List ℕ
 lines_of_ids ids = flat_map line_of ids
@@ -79,17 +85,37 @@ lines_of_ids ids = flat_map line_of ids
 abbrev pub SimpleLists : Type 0
 SimpleLists =
     (words : List (List ℕ)) (input : List ℕ) (records : List Record) (by : Sorting) (tips hidden : List ObjectId) (old new : Option (List ℕ)) →
-    request_of words ≡ Ok (Commits (Simple by) tips hidden) → AreRecords records input → Runs words (Some input) old (Ok tt) new →
+    request_of words ≡ Ok (Commits (Simple by) None tips hidden) → AreRecords records input → Runs words (Some input) old (Ok tt) new →
     (ids : List ObjectId) × SimpleListsRead (stored records) by tips hidden ids × Appends old new (lines_of_ids ids)
+
+-- Where the words ask for `n` commits at most, it writes the first `n` of such a list, which is all of it where it has no more.
+abbrev pub SimpleBegins : Type 0
+SimpleBegins =
+    (words : List (List ℕ)) (input : List ℕ) (records : List Record) (by : Sorting) (n : ℕ) (tips hidden : List ObjectId) (old new : Option (List ℕ)) →
+    request_of words ≡ Ok (Commits (Simple by) (Some n) tips hidden) → AreRecords records input → Runs words (Some input) old (Ok tt) new →
+    (ids : List ObjectId) × IsSimpleList (stored records) by tips hidden ids × Appends old new (lines_of_ids (take n ids))
 
 -- Where the records are a part of a store, a run that ends well writes such a list of the whole store, whatever else is in it.
 abbrev pub SimpleListsOfPart : Type 0
 SimpleListsOfPart =
     (words : List (List ℕ)) (input : List ℕ) (records : List Record) (by : Sorting) (tips hidden : List ObjectId)
     (old new : Option (List ℕ)) (objects : Objects) →
-    request_of words ≡ Ok (Commits (Simple by) tips hidden) → AreRecords records input → IsPartOf (stored records) objects →
+    request_of words ≡ Ok (Commits (Simple by) None tips hidden) → AreRecords records input → IsPartOf (stored records) objects →
     Runs words (Some input) old (Ok tt) new →
     (ids : List ObjectId) × SimpleListsRead objects by tips hidden ids × Appends old new (lines_of_ids ids)
+
+-- all that the ids reach by the parents that texts name is stored
+abbrev pub AreStored : Objects → List ObjectId → Type 0
+AreStored objects ids = (i : ObjectId) → Reaches (text_next objects) ids i → IsSome (get objects i)
+
+-- Where they have all that tips and hidden tips reach, so are the first `n` of a list.
+abbrev pub SimpleBeginsOfPart : Type 0
+SimpleBeginsOfPart =
+    (words : List (List ℕ)) (input : List ℕ) (records : List Record) (by : Sorting) (n : ℕ) (tips hidden : List ObjectId)
+    (old new : Option (List ℕ)) (objects : Objects) →
+    request_of words ≡ Ok (Commits (Simple by) (Some n) tips hidden) → AreRecords records input → IsPartOf (stored records) objects →
+    AreStored (stored records) (tips ++ hidden) → Runs words (Some input) old (Ok tt) new →
+    (ids : List ObjectId) × IsSimpleList objects by tips hidden ids × Appends old new (lines_of_ids (take n ids))
 
 -- No id is there twice, and each is one that the tips reach through these parents and the ends don't. All of these are there, where none of
 -- them is its own ancestor. They are in the order that was asked for.
@@ -109,8 +135,15 @@ pub record ListsRead (objects : Objects) (by : TopoSorting) (tips ends ids : Lis
 abbrev pub TopoLists : Type 0
 TopoLists =
     (words : List (List ℕ)) (input : List ℕ) (records : List Record) (by : TopoSorting) (tips ends : List ObjectId) (old new : Option (List ℕ)) →
-    request_of words ≡ Ok (Commits (Topo by) tips ends) → AreRecords records input → Runs words (Some input) old (Ok tt) new →
+    request_of words ≡ Ok (Commits (Topo by) None tips ends) → AreRecords records input → Runs words (Some input) old (Ok tt) new →
     (ids : List ObjectId) × ListsRead (stored records) by tips ends ids × Appends old new (lines_of_ids ids)
+
+-- Where the words ask for `n` commits at most, it writes the first `n` of such a list, which is all of it where it has no more.
+abbrev pub TopoBegins : Type 0
+TopoBegins =
+    (words : List (List ℕ)) (input : List ℕ) (records : List Record) (by : TopoSorting) (n : ℕ) (tips ends : List ObjectId) (old new : Option (List ℕ)) →
+    request_of words ≡ Ok (Commits (Topo by) (Some n) tips ends) → AreRecords records input → Runs words (Some input) old (Ok tt) new →
+    (ids : List ObjectId) × ListsRead (stored records) by tips ends ids × Appends old new (lines_of_ids (take n ids))
 
 -- Where the records are a part of a store, a run of `topo` or `date` that ends well writes such a list of the whole store, whatever else is
 -- in it.
@@ -118,9 +151,18 @@ abbrev pub TopoListsOfPart : Type 0
 TopoListsOfPart =
     (words : List (List ℕ)) (input : List ℕ) (records : List Record) (by : TopoSorting) (tips ends : List ObjectId)
     (old new : Option (List ℕ)) (objects : Objects) →
-    request_of words ≡ Ok (Commits (Topo by) tips ends) → AreRecords records input → IsPartOf (stored records) objects →
+    request_of words ≡ Ok (Commits (Topo by) None tips ends) → AreRecords records input → IsPartOf (stored records) objects →
     Runs words (Some input) old (Ok tt) new →
     (ids : List ObjectId) × ListsRead objects by tips ends ids × Appends old new (lines_of_ids ids)
+
+-- So it does where the words ask for `n` commits at most.
+abbrev pub TopoBeginsOfPart : Type 0
+TopoBeginsOfPart =
+    (words : List (List ℕ)) (input : List ℕ) (records : List Record) (by : TopoSorting) (n : ℕ) (tips ends : List ObjectId)
+    (old new : Option (List ℕ)) (objects : Objects) →
+    request_of words ≡ Ok (Commits (Topo by) (Some n) tips ends) → AreRecords records input → IsPartOf (stored records) objects →
+    Runs words (Some input) old (Ok tt) new →
+    (ids : List ObjectId) × ListsRead objects by tips ends ids × Appends old new (lines_of_ids (take n ids))
 
 -- out of memory, or the input or the output failed
 abbrev pub IsOutside : Fault → Type 0
@@ -144,12 +186,12 @@ abbrev pub EndsWell : Result (Unit {0}) Fault → Type 0
 EndsWell (Ok done) = Unit {0}
 EndsWell (Err e) = IsOutside e
 
--- A run of `breadth`, `newest` or `oldest` over whole commits ends well.
+-- A run of `breadth`, `newest` or `oldest` over whole commits ends well, with a limit or without.
 abbrev pub SimpleSucceeds : Type 0
 SimpleSucceeds =
-    (words : List (List ℕ)) (input : List ℕ) (records : List Record) (by : Sorting) (tips hidden : List ObjectId) (answer : Result (Unit {0}) Fault)
-    (old new : Option (List ℕ)) →
-    request_of words ≡ Ok (Commits (Simple by) tips hidden) → AreRecords records input → AreWhole (stored records) (tips ++ hidden) →
+    (words : List (List ℕ)) (input : List ℕ) (records : List Record) (by : Sorting) (limit : Option ℕ) (tips hidden : List ObjectId)
+    (answer : Result (Unit {0}) Fault) (old new : Option (List ℕ)) →
+    request_of words ≡ Ok (Commits (Simple by) limit tips hidden) → AreRecords records input → AreWhole (stored records) (tips ++ hidden) →
     Runs words (Some input) old answer new → EndsWell answer
 
 -- The same of `ahead`.
@@ -159,12 +201,12 @@ AheadSucceeds =
     request_of words ≡ Ok (Ahead one other) → AreRecords records input → AreWhole (stored records) (one ∷ other ∷ []) →
     Runs words (Some input) old answer new → EndsWell answer
 
--- A run of `topo` or `date` over whole commits ends well.
+-- A run of `topo` or `date` over whole commits ends well, with a limit or without.
 abbrev pub TopoSucceeds : Type 0
 TopoSucceeds =
-    (words : List (List ℕ)) (input : List ℕ) (records : List Record) (by : TopoSorting) (tips ends : List ObjectId) (answer : Result (Unit {0}) Fault)
-    (old new : Option (List ℕ)) →
-    request_of words ≡ Ok (Commits (Topo by) tips ends) → AreRecords records input → AreWhole (stored records) (tips ++ ends) →
+    (words : List (List ℕ)) (input : List ℕ) (records : List Record) (by : TopoSorting) (limit : Option ℕ) (tips ends : List ObjectId)
+    (answer : Result (Unit {0}) Fault) (old new : Option (List ℕ)) →
+    request_of words ≡ Ok (Commits (Topo by) limit tips ends) → AreRecords records input → AreWhole (stored records) (tips ++ ends) →
     Runs words (Some input) old answer new → EndsWell answer
 
 -- A walk breadth first from a tip through all parents, which hides what another commit reaches and ends well, gives exactly the commits
@@ -238,17 +280,35 @@ told rows records = with_rows rows (stored records)
 abbrev pub ToldSimpleLists : Type 0
 ToldSimpleLists =
     (words layers : List (List ℕ)) (input : List ℕ) (records : List Record) (by : Sorting) (tips hidden : List ObjectId) (old new : Option (List ℕ)) →
-    request_of words ≡ Ok (Commits (Simple by) tips hidden) → AreRecords records input → RunsOver words layers (Some input) old (Ok tt) new →
+    request_of words ≡ Ok (Commits (Simple by) None tips hidden) → AreRecords records input → RunsOver words layers (Some input) old (Ok tt) new →
     (rows : List GraphRow) × AreTold layers records rows
     × (ids : List ObjectId) × SimpleListsRead (told rows records) by tips hidden ids × Appends old new (lines_of_ids ids)
+
+-- So are the first `n` of a list.
+abbrev pub ToldSimpleBegins : Type 0
+ToldSimpleBegins =
+    (words layers : List (List ℕ)) (input : List ℕ) (records : List Record) (by : Sorting) (n : ℕ) (tips hidden : List ObjectId)
+    (old new : Option (List ℕ)) →
+    request_of words ≡ Ok (Commits (Simple by) (Some n) tips hidden) → AreRecords records input → RunsOver words layers (Some input) old (Ok tt) new →
+    (rows : List GraphRow) × AreTold layers records rows
+    × (ids : List ObjectId) × IsSimpleList (told rows records) by tips hidden ids × Appends old new (lines_of_ids (take n ids))
 
 -- The same of `topo` and `date`, of which nothing is asked.
 abbrev pub ToldTopoLists : Type 0
 ToldTopoLists =
     (words layers : List (List ℕ)) (input : List ℕ) (records : List Record) (by : TopoSorting) (tips ends : List ObjectId) (old new : Option (List ℕ)) →
-    request_of words ≡ Ok (Commits (Topo by) tips ends) → AreRecords records input → RunsOver words layers (Some input) old (Ok tt) new →
+    request_of words ≡ Ok (Commits (Topo by) None tips ends) → AreRecords records input → RunsOver words layers (Some input) old (Ok tt) new →
     (rows : List GraphRow) × AreTold layers records rows
     × (ids : List ObjectId) × ListsRead (told rows records) by tips ends ids × Appends old new (lines_of_ids ids)
+
+-- So are the first `n` of a list.
+abbrev pub ToldTopoBegins : Type 0
+ToldTopoBegins =
+    (words layers : List (List ℕ)) (input : List ℕ) (records : List Record) (by : TopoSorting) (n : ℕ) (tips ends : List ObjectId)
+    (old new : Option (List ℕ)) →
+    request_of words ≡ Ok (Commits (Topo by) (Some n) tips ends) → AreRecords records input → RunsOver words layers (Some input) old (Ok tt) new →
+    (rows : List GraphRow) × AreTold layers records rows
+    × (ids : List ObjectId) × ListsRead (told rows records) by tips ends ids × Appends old new (lines_of_ids (take n ids))
 
 -- The same of `ahead`, of which nothing is asked.
 abbrev pub ToldAheadCounts : Type 0
@@ -273,4 +333,4 @@ ToldContainsIds =
 abbrev pub FailsSilently : Type 0
 FailsSilently =
     (words : List (List ℕ)) (has old new : Option (List ℕ)) (e : Fault) → Runs words has old (Err e) new → e ≢ fault.Write →
-    ((by : Order) (tips hidden : List ObjectId) → request_of words ≢ Ok (Commits by tips hidden)) → new ≡ old
+    ((by : Order) (limit : Option ℕ) (tips hidden : List ObjectId) → request_of words ≢ Ok (Commits by limit tips hidden)) → new ≡ old

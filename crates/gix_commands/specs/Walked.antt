@@ -1,7 +1,7 @@
 -- A walk over records, and the lines that it writes.
-use Rattle.std.specs.Prelude.{◌≡◌, ◌≢◌, ℕ, List, [], ◌∷◌, ◌++◌, map, Bool, true, Option, Some, None, Result, Ok, Err}
+use Rattle.std.specs.Prelude.{◌≡◌, ◌≢◌, ℕ, List, [], ◌∷◌, ◌++◌, map, length, ◌<◌, Bool, true, Option, Some, None, Result, Ok, Err}
 use Rattle.std.specs.List.{flat_map}
-use Rattle.std.specs.Iterator.{YieldsThen}
+use Rattle.std.specs.Iterator.{Yields, YieldsThen}
 use Rattle.gix_hash.specs.declared.ObjectId.{ObjectId}
 use Rattle.gix_hash.specs.Id.{hex_of}
 use Rattle.gix_object.specs.Object.{Objects}
@@ -77,6 +77,18 @@ pub data Ends {W E : Type 0} (Steps : W → Option (Result Info E) → W → Typ
   finished : (new : W) → YieldsThen Steps walk (given infos) None new → Ends Steps Tells walk infos (Ok tt)
   failed : (e : E) (f : Fault) (new : W) → YieldsThen Steps walk (given infos) (Some (Err e)) new → Tells e f → Ends Steps Tells walk infos (Err f)
   cut_short : (info : Info) (new : W) → YieldsThen Steps walk (given infos) (Some (Ok info)) new → Ends Steps Tells walk infos (Err fault.Memory)
+
+-- How a walk ended that was to give so many commits at most: it gave as many, and nothing was drawn behind them, or it ended before.
+pub data EndsWithin {W E : Type 0} (Steps : W → Option (Result Info E) → W → Type 0) (Tells : E → Fault → Type 0) (limit : ℕ) (walk : W)
+    (infos : List Info) : Result (Unit {0}) Fault → Type 0 where
+  enough : (at : W) → Yields Steps walk (given infos) at → length infos ≡ limit → EndsWithin Steps Tells limit walk infos (Ok tt)
+  before : {answer : Result (Unit {0}) Fault} → Ends Steps Tells walk infos answer → length infos < limit → EndsWithin Steps Tells limit walk infos answer
+
+-- how a walk ended, with a limit or without
+abbrev pub EndsBy :
+    {W E : Type 0} → (W → Option (Result Info E) → W → Type 0) → (E → Fault → Type 0) → Option ℕ → W → List Info → Result (Unit {0}) Fault → Type 0
+EndsBy Steps Tells None walk infos answer = Ends Steps Tells walk infos answer
+EndsBy Steps Tells (Some limit) walk infos answer = EndsWithin Steps Tells limit walk infos answer
 
 -- an id and a newline
 abbrev pub line_of : ObjectId → List ℕ

@@ -49,8 +49,7 @@ AreParentLines width (p ∷ ps) text rest =
 
 -- the id is that of a commit, whose text names these parents behind its tree; the rest may be anything
 abbrev pub Names : List Record → ObjectId → List ObjectId → List ℕ → Type 0
-Names records i parents rest =
-    (tree : ObjectId) × (id lines : List ℕ) × Spells (digits_in i) id tree × AreParentLines (digits_in i) parents lines rest
+Names records i parents rest = (tree : ObjectId) × (id lines : List ℕ) × Spells (digits_in i) id tree × AreParentLines (digits_in i) parents lines rest
     × Holds records i (codes "commit") (codes "tree " ++ id ++ 10 ∷ lines)
 
 -- all digits at the front of a text write the number, which is 0 where there are none
@@ -176,10 +175,11 @@ AreTips (word ∷ words) tips hidden =
 
 -- what words ask for was appended
 pub data Serves (records : List Record) (parents : ObjectId → List ObjectId) (time : ObjectId → ℤ) (old new : Option (List ℕ)) : List (List ℕ) → Type 0 where
-  -- ids, one a line
-  commits : {by : List ℕ} {words : List (List ℕ)} {tips hidden ids : List ObjectId} → AreTips words tips hidden → tips ≢ []
-      → Lists parents time tips hidden by ids → Appends old new (flat_map (λ i. encode_lower (bytes_in i) ++ 10 ∷ []) ids)
-      → Serves records parents time old new (by ∷ words)
+  -- ids, one a line: all of a list, or behind `-n` and a number the first of it, so many at most
+  commits : {by : List ℕ} (limit words : List (List ℕ)) {tips hidden ids those : List ObjectId} → AreTips words tips hidden → tips ≢ []
+      → ((limit ≡ []) × (those ≡ ids)) ⊎ ((number : List ℕ) × (n : ℕ) × IsNumber 10 9 number n × (limit ≡ codes "-n" ∷ number ∷ []) × (those ≡ take n ids))
+      → Lists parents time tips hidden by ids → Appends old new (flat_map (λ i. encode_lower (bytes_in i) ++ 10 ∷ []) those)
+      → Serves records parents time old new (by ∷ (limit ++ words))
   -- how many commits the one reaches and the other doesn't, a space, and how many the other reaches and the one doesn't
   ahead : {a b : List ℕ} {one other : ObjectId} (n m : ℕ) → Spells (digits_in one) a one → Spells (digits_in other) b other
       → IsNumberShown parents time (one ∷ []) (other ∷ []) n → IsNumberShown parents time (other ∷ []) (one ∷ []) m

@@ -1,10 +1,11 @@
 -- What the words of a command ask for.
-use Rattle.std.specs.Prelude.{◌≡◌, ◌≢◌, ℕ, ◌+◌, ◌==◌, List, [], ◌∷◌, ◌++◌, Bool, true, false, ◌||◌, not, if◌then◌else◌, Option, Some, None, Result, Ok, Err, codes}
+use Rattle.std.specs.Prelude.{◌≡◌, ◌≢◌, ℕ, ◌+◌, ◌==◌, nat_lt, nat_le, ◌&&◌, List, [], ◌∷◌, ◌++◌, length, Bool, true, false, ◌||◌, not, if◌then◌else◌, Option, Some, None, Result, Ok, Err, codes}
 use Rattle.std.specs.List.{list_all}
 use Rattle.std.specs.Str.{bytes_eq}
 use Rattle.gix_hash.specs.declared.ObjectId.{ObjectId}
 use Rattle.gix_hash.specs.declared.HexError.{HexError}
 use Rattle.gix_hash.specs.Id.{id_from_hex}
+use Rattle.gix_records.specs.Decimal.{digits_behind}
 use Rattle.gix_revwalk.specs.declared.CommitTimeOrder.TheVariants as order
 use Rattle.gix_simple.specs.declared.Sorting.TheVariants as sorting
 use Rattle.gix_topo.specs.declared.Sorting.TheVariants as topo
@@ -16,8 +17,8 @@ use Rattle.gix_commands.specs.declared.words.Order.{Order}
 use Rattle.gix_commands.specs.declared.words.Order.TheVariants.{Simple, Topo}
 
 pub data Request : Type 0 where
-  -- the commits that the tips reach and the hidden ones don't, in an order
-  Commits : (order : Order) (tips hidden : List ObjectId) → Request
+  -- the commits that the tips reach and the hidden ones don't, in an order; with a limit the first of them, as many at most
+  Commits : (order : Order) (limit : Option ℕ) (tips hidden : List ObjectId) → Request
   -- the entries of the tree of this id, and of the trees in it
   Files : (tree : ObjectId) → Request
   -- how many commits the one reaches and the other doesn't, and the other way round
@@ -26,7 +27,7 @@ pub data Request : Type 0 where
   Contained : (tip : ObjectId) (ids : List ObjectId) → Request
 
 abbrev pub request_of_command : Command → Request
-request_of_command (command.Commits order tips hidden) = Commits order tips.items hidden.items
+request_of_command (command.Commits order limit tips hidden) = Commits order limit tips.items hidden.items
 request_of_command (command.Files tree) = Files tree
 request_of_command (command.Ahead one other) = Ahead one other
 request_of_command (command.Contained tip ids) = Contained tip ids.items
@@ -84,17 +85,33 @@ order_named name =
     else if bytes_eq name (codes "date") then Some (Topo topo.DateOrder)
     else None
 
-abbrev pub commits_from : Order → Result Ids Fault → Result Request Fault
-commits_from by (Ok ids) = Ok (Commits by ids.0 ids.1)
-commits_from by (Err e) = Err e
+-- the number that 1 to 9 decimal digits spell
+abbrev pub number_in : List ℕ → Option ℕ
+number_in digits = if nat_lt 0 (length digits) && nat_le (length digits) 9 then digits_behind 0 digits else None
+
+abbrev pub commits_from : Order → Option ℕ → Result Ids Fault → Result Request Fault
+commits_from by limit (Ok ids) = Ok (Commits by limit ids.0 ids.1)
+commits_from by limit (Err e) = Err e
 
 abbrev pub files_from : Result ObjectId HexError → Result Request Fault
 files_from (Ok tree) = Ok (Files tree)
 files_from (Err e) = Err (fault.Id 2)
 
--- one tip at least: this is judged of all words before any is judged as an id
-abbrev pub commits_of : Order → List (List ℕ) → Result Request Fault
-commits_of by ids = if list_all begins_with_caret ids then Err fault.Usage else commits_from by (ids_from 2 ids)
+-- one tip at least: this is judged of all words before any is judged as an id, the first of them word n
+abbrev pub commits_of : Order → Option ℕ → ℕ → List (List ℕ) → Result Request Fault
+commits_of by limit n ids = if list_all begins_with_caret ids then Err fault.Usage else commits_from by limit (ids_from n ids)
+
+-- ids behind `-n` and a limit
+abbrev pub limited_of : Order → Option ℕ → List (List ℕ) → Result Request Fault
+limited_of by (Some limit) ids = commits_of by (Some limit) 4 ids
+limited_of by None ids = Err fault.Usage
+
+-- ids, or `-n`, a limit and ids
+abbrev pub in_order_of : Order → List (List ℕ) → Result Request Fault
+in_order_of by [] = commits_of by None 2 []
+in_order_of by (id ∷ []) = commits_of by None 2 (id ∷ [])
+in_order_of by (option ∷ limit ∷ ids) =
+    if bytes_eq option (codes "-n") then limited_of by (number_in limit) ids else commits_of by None 2 (option ∷ limit ∷ ids)
 
 -- one id
 abbrev pub files_of : List (List ℕ) → Result Request Fault
@@ -135,7 +152,7 @@ contained_of (tip ∷ next ∷ ids) = if list_all is_shown (tip ∷ next ∷ ids
 
 -- what words ask for by this name, which may be that of an order
 abbrev pub request_named : List ℕ → Option Order → List (List ℕ) → Result Request Fault
-request_named name (Some by) ids = commits_of by ids
+request_named name (Some by) ids = in_order_of by ids
 request_named name None ids =
     if bytes_eq name (codes "files") then files_of ids
     else if bytes_eq name (codes "ahead") then ahead_of ids

@@ -1,7 +1,7 @@
 //! The words of a command.
-ghost use Rattle.std.specs.Prelude.{◌≡◌, map, string_bytes};
+ghost use Rattle.std.specs.Prelude.{◌≡◌, ◌≤◌, map, string_bytes};
 ghost use Rattle.std.specs.List.{list_all};
-ghost use Rattle.gix_commands.specs.Words.{Gives, Tells, AddsId, begins_with_caret, request_of_command, request_of, order_named, ids_from, commits_of, files_of, ahead_of, is_shown, contained_among, contained_of};
+ghost use Rattle.gix_commands.specs.Words.{Gives, Tells, AddsId, begins_with_caret, number_in, request_of_command, request_of, order_named, ids_from, commits_of, in_order_of, files_of, ahead_of, is_shown, contained_among, contained_of};
 
 use crate::fault::Fault;
 use gix_parts::hash::ObjectId;
@@ -21,9 +21,10 @@ pub enum Order {
 /// What the words ask for.
 #[derive(Drop)]
 pub enum Command {
-    /// The commits that the tips reach and the hidden ones don't, in an order.
+    /// The commits that the tips reach and the hidden ones don't, in an order. Where there is a limit, the first of them, as many at most.
     Commits {
         order: Order,
+        limit: Option<u32>,
         tips: Vec<ObjectId>,
         hidden: Vec<ObjectId>,
     },
@@ -41,9 +42,9 @@ pub enum Command {
     },
 }
 
-/// The command that the words are: `breadth`, `newest`, `oldest`, `topo` or `date`, ids of tips, one at least, and ids of commits to be
-/// hidden, each after a `^`; or `files` and one id; or `ahead` and two ids; or `contains` and two ids at least. An id is 40 or 64 hex
-/// digits.
+/// The command that the words are: `breadth`, `newest`, `oldest`, `topo` or `date`, maybe `-n` and a limit, ids of tips, one at least, and
+/// ids of commits to be hidden, each after a `^`; or `files` and one id; or `ahead` and two ids; or `contains` and two ids at least. An id
+/// is 40 or 64 hex digits, a limit 1 to 9 decimal digits.
 ///
 /// # Errors
 /// `Usage` where the words are no command, `Id` at the first word that has to be an id and is none, `Memory`.
@@ -54,7 +55,7 @@ pub fn read_command(alloc: Global, words: &[String]) -> Result<Command, Fault>
         return Err(Fault::Usage);
     };
     if let Some(order) = order_named(name) {
-        return commits(alloc, order, ids);
+        return in_order(alloc, order, ids);
     }
     if name.as_str() == "files" {
         return files(ids);
@@ -92,16 +93,64 @@ fn order_named(name: &String) -> Option<Order>
     None
 }
 
-// The walk over commits from these ids, of which one at least must be a tip.
-fn commits(alloc: Global, order: Order, ids: &[String]) -> Result<Command, Fault>
-    ensures { Gives request_of_command result (commits_of order (map string_bytes ids.now)) }
+// The walk over commits that the words after the name of its order ask for: ids, maybe with a limit before them.
+fn in_order(alloc: Global, order: Order, words: &[String]) -> Result<Command, Fault>
+    ensures { Gives request_of_command result (in_order_of order (map string_bytes words.now)) }
+{
+    let [option, limit, ids @ ..] = words else {
+        return commits(alloc, order, None, words, 2);
+    };
+    if option.as_str() != "-n" {
+        return commits(alloc, order, None, words, 2);
+    }
+    let Some(limit) = number_in(limit) else {
+        return Err(Fault::Usage);
+    };
+    commits(alloc, order, Some(limit), ids, 4)
+}
+
+// The number that 1 to 9 decimal digits spell.
+fn number_in(word: &String) -> Option<u32>
+    ensures { result ≡ number_in (string_bytes word.now) }
+{
+    number_of(word.as_bytes())
+}
+
+// The number that 1 to 9 decimal digits spell.
+fn number_of(digits: &[u8]) -> Option<u32>
+    ensures { result ≡ number_in digits.now }
+{
+    if digits.is_empty() || digits.len() > 9 {
+        return None;
+    }
+    let mut number = 0;
+    for digit in digits {
+        if !digit.is_ascii_digit() {
+            return None;
+        }
+        number = 10 * number + u32::from(digit - b'0');
+    }
+    Some(number)
+}
+
+// The walk over commits from these ids, of which one at least must be a tip. The first of them is the word of this number.
+fn commits(
+    alloc: Global,
+    order: Order,
+    limit: Option<u32>,
+    ids: &[String],
+    number: usize,
+) -> Result<Command, Fault>
+    requires few { number ≤ 4 }
+    ensures { Gives request_of_command result (commits_of order limit number (map string_bytes ids.now)) }
 {
     if are_hidden(ids) {
         return Err(Fault::Usage);
     }
-    let (tips, hidden) = read_ids(alloc, ids)?;
+    let (tips, hidden) = read_ids(alloc, ids, number)?;
     Ok(Command::Commits {
         order,
+        limit,
         tips,
         hidden,
     })
@@ -149,7 +198,7 @@ fn contained(alloc: Global, ids: &[String]) -> Result<Command, Fault>
     if ids.len() < 2 || !are_shown(ids) {
         return Err(Fault::Usage);
     }
-    let (tips, _hidden) = read_ids(alloc, ids)?;
+    let (tips, _hidden) = read_ids(alloc, ids, 2)?;
     contained_among(tips)
 }
 
@@ -195,16 +244,21 @@ fn begins_with_caret(word: &String) -> bool
     matches!(word.as_bytes(), [b'^', ..])
 }
 
-// The ids of tips that the words after the command spell, and the ids of commits to be hidden. The first of these words is word 2.
-fn read_ids(alloc: Global, words: &[String]) -> Result<(Vec<ObjectId>, Vec<ObjectId>), Fault>
-    ensures { Gives (λ ids. (ids.0.items, ids.1.items)) result (ids_from 2 (map string_bytes words.now)) }
+// The ids of tips that the words spell, and the ids of commits to be hidden. The first of these words is the word of this number.
+fn read_ids(
+    alloc: Global,
+    words: &[String],
+    number: usize,
+) -> Result<(Vec<ObjectId>, Vec<ObjectId>), Fault>
+    requires few { number ≤ 4 }
+    ensures { Gives (λ ids. (ids.0.items, ids.1.items)) result (ids_from number (map string_bytes words.now)) }
 {
     let mut tips = Vec::new(alloc);
     let mut hidden = Vec::new(alloc);
     for (i, word) in words.iter().enumerate() {
         match word.as_bytes() {
-            [b'^', digits @ ..] => add_id(&mut hidden, digits, i + 2)?,
-            digits => add_id(&mut tips, digits, i + 2)?,
+            [b'^', digits @ ..] => add_id(&mut hidden, digits, i + number)?,
+            digits => add_id(&mut tips, digits, i + number)?,
         }
     }
     Ok((tips, hidden))

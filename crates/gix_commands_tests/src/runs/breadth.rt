@@ -66,3 +66,19 @@ fn walks_through_ids_of_64_digits(rt: HostRuntime) -> Result<(), Fail> {
         &[(&["breadth", "##2"], "##2\n##1\n")],
     )
 }
+
+#[test]
+fn a_limit_ends_the_walk_before_a_fault(rt: HostRuntime) -> Result<(), Fail> {
+    check(
+        rt.alloc(),
+        &[
+            "commit #a 144\ntree #0\nparent #b\nauthor A <a@b> 2 +0000\ncommitter A <a@b> 2 +0000\n\n\n",
+        ],
+        &[
+            (&["breadth", "-n", "1", "#a"], "#a\n"),
+            (&["breadth", "-n", "2", "#a"], "#a\n! missing #b"),
+            (&["breadth", "-n", "0", "#c"], ""),
+            (&["newest", "-n", "0", "#c"], "! missing #c"),
+        ],
+    )
+}

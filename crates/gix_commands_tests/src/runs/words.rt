@@ -27,6 +27,15 @@ fn judges_the_words_first(rt: HostRuntime) -> Result<(), Fail> {
                 "! bad id in word 3",
             ),
             (&["breadth", "#1", "#11", "zz"], "! bad id in word 3"),
+            (&["topo", "-n", "", "#1"], "! usage"),
+            (&["topo", "-n", "1000000000", "#1"], "! usage"),
+            (&["topo", "-n", "+1", "#1"], "! usage"),
+            (&["topo", "-n", "1"], "! usage"),
+            (&["topo", "-n", "1", "^#1"], "! usage"),
+            (&["topo", "-n", "1", "#1", "zz"], "! bad id in word 5"),
+            (&["topo", "-n"], "! bad id in word 2"),
+            (&["topo", "#1", "-n", "1"], "! bad id in word 3"),
+            (&["files", "-n", "1", "#1"], "! usage"),
         ],
     )
 }
