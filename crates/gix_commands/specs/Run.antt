@@ -8,6 +8,7 @@ use Rattle.gix_commitgraph.specs.Rows.{GraphRow}
 use Rattle.gix_contained.specs.declared.Error.{Error as ContainedError}
 use Rattle.gix_contained.specs.Contained.{Selects, FailsBy}
 use Rattle.gix_revwalk.specs.declared.Info.{Info}
+use Rattle.gix_revwalk.specs.declared.Parents.{Parents}
 use Rattle.gix_simple.specs.declared.Error.{Error}
 use Rattle.gix_simple.specs.declared.Sorting.{Sorting}
 use Rattle.gix_topo.specs.declared.Error.{Error as TopoError}
@@ -34,12 +35,12 @@ use Rattle.gix_commands.specs.Words.{Request, Commits, Files, Ahead, Contained, 
 -- Over objects, rows for the walks of commits and a writer that has the bytes `old`: which answers a request may get, and which bytes the writer then has.
 pub data Serves (objects : Objects) (rows : List GraphRow) (old : Option (List ℕ)) : Request → Result (Unit {0}) Fault → Option (List ℕ) → Type 0 where
   -- the lines of the commits before a fault are written
-  walked : {by : Sorting} {limit : Option ℕ} {tips hidden : List ObjectId} (walk : Walk) (infos : List Info) {answer : Result (Unit {0}) Fault}
-      {new : Option (List ℕ)}
-      → StartsFrom objects rows by tips hidden walk → EndsBy Answers IsWalkFault limit walk infos answer → Appends old new (lines_of infos)
-      → Serves objects rows old (Commits (Simple by) limit tips hidden) answer new
-  not_walked : {by : Sorting} {limit : Option ℕ} {tips hidden : List ObjectId} (e : Error) → FailsAtStart objects by tips e
-      → Serves objects rows old (Commits (Simple by) limit tips hidden) (Err (fault_of_walk e)) old
+  walked : {parents : Parents} {by : Sorting} {limit : Option ℕ} {tips hidden : List ObjectId} (walk : Walk) (infos : List Info)
+      {answer : Result (Unit {0}) Fault} {new : Option (List ℕ)}
+      → StartsFrom objects rows parents by tips hidden walk → EndsBy Answers IsWalkFault limit walk infos answer → Appends old new (lines_of infos)
+      → Serves objects rows old (Commits (Simple parents by) limit tips hidden) answer new
+  not_walked : {parents : Parents} {by : Sorting} {limit : Option ℕ} {tips hidden : List ObjectId} (e : Error) → FailsAtStart objects by tips e
+      → Serves objects rows old (Commits (Simple parents by) limit tips hidden) (Err (fault_of_walk e)) old
   walked_down : {by : TopoSorting} {limit : Option ℕ} {tips ends : List ObjectId} (walk : topo.Walk) (infos : List Info)
       {answer : Result (Unit {0}) Fault} {new : Option (List ℕ)}
       → topo.IsBuiltFrom objects rows by tips ends (Ok walk) → EndsBy topo.Answers topo.IsWalkFault limit walk infos answer

@@ -7,6 +7,7 @@ use Rattle.gix_hash.specs.Id.{hex_of}
 use Rattle.gix_object.specs.Object.{Objects}
 use Rattle.gix_commitgraph.specs.Rows.{GraphRow}
 use Rattle.gix_revwalk.specs.declared.Info.{Info}
+use Rattle.gix_revwalk.specs.declared.Parents.{Parents}
 use Rattle.gix_revwalk.specs.declared.Unfiltered.{Unfiltered}
 use Rattle.gix_simple.specs.declared.Error.{Error}
 use Rattle.gix_simple.specs.declared.Sorting.{Sorting}
@@ -44,13 +45,14 @@ IsSorted made sorting.BreadthFirst walk = walk ≡ record made { sorting = sorti
 IsSorted made (sorting.ByCommitTime order) walk = IsSortedByTime objects_of made (sorting.ByCommitTime order) walk
 IsSorted made (sorting.ByCommitTimeCutoff order seconds) walk = IsSortedByTime objects_of made (sorting.ByCommitTimeCutoff order seconds) walk
 
--- a walk in an order from tips, with rows, which is to hide what other tips reach, before its first step
-pub record StartsFrom (objects : Objects) (rows : List GraphRow) (by : Sorting) (tips hidden : List ObjectId) (walk : Walk) : Type 0 where
+-- a walk in an order from tips, through some parents, with rows, which is to hide what other tips reach, before its first step
+pub record StartsFrom (objects : Objects) (rows : List GraphRow) (parents : Parents) (by : Sorting) (tips hidden : List ObjectId) (walk : Walk)
+    : Type 0 where
   pub made : Walk
   pub sorted : Walk
   pub makes : IsMadeOf objects tips made
   pub sorts : IsSorted made by sorted
-  pub hides : walk ≡ record sorted { rows = rows; hidden_tips = hidden }
+  pub hides : walk ≡ record sorted { parents = parents; rows = rows; hidden_tips = hidden }
 
 -- In an order by time the time of a tip can't be read. Breadth first no commit is read before the first step.
 pub record FailsAtStart (objects : Objects) (by : Sorting) (tips : List ObjectId) (e : Error) : Type 0 where

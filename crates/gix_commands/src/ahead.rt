@@ -14,6 +14,7 @@ use gix_parts::graph::Graph;
 use gix_parts::hash::ObjectId;
 use gix_parts::records::LentStore;
 use gix_traverse::commit::Info;
+use gix_traverse::commit::Parents;
 use gix_traverse::commit::simple::Sorting;
 use std::alloc::{AllocError, Global};
 use std::io::Write;
@@ -52,7 +53,15 @@ fn count(
 {
     let tips = alone(alloc, tip)?;
     let hidden = alone(alloc, hidden)?;
-    let walk = walk_from(alloc, Sorting::BreadthFirst, tips, hidden, store, graph)?;
+    let walk = walk_from(
+        alloc,
+        Parents::All,
+        Sorting::BreadthFirst,
+        tips,
+        hidden,
+        store,
+        graph,
+    )?;
     number_of_commits(walk)
 }
 

@@ -105,7 +105,7 @@ fn serve<W: Write>(
 fn serve_commits<W: Write>(
     alloc: Global,
     order: Order,
-    limit: Option<u32>,
+    limit: Option<u64>,
     tips: Vec<ObjectId>,
     hidden: Vec<ObjectId>,
     store: &LentStore<'_>,
@@ -115,8 +115,8 @@ fn serve_commits<W: Write>(
     ensures { Serves (with_rows (rows_in graph.entry) store.now) (rows_in graph.entry) (W.contents writer.old) (Commits order limit tips.items hidden.items) result (W.contents writer.new) }
 {
     match order {
-        Order::Simple(sorting) => {
-            let walk = walk_from(alloc, sorting, tips, hidden, store, graph)?;
+        Order::Simple { parents, sorting } => {
+            let walk = walk_from(alloc, parents, sorting, tips, hidden, store, graph)?;
             write_commits(alloc, walk, limit, writer)
         }
         Order::Topo(sorting) => {

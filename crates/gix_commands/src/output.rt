@@ -23,7 +23,7 @@ const MANY: usize = 1 << 16;
 pub fn write_commits<I, E, W>(
     alloc: Global,
     walk: I,
-    limit: Option<u32>,
+    limit: Option<u64>,
     writer: &mut W,
 ) -> Result<(), Fault>
 where
@@ -55,7 +55,7 @@ pub fn write_out<W: Write>(lines: &mut Vec<u8>, writer: &mut W) -> Result<(), Fa
 // Adds a line for each commit to the buffered lines, up to the walk's first fault, or to the limit.
 fn add_lines<I, E, W>(
     walk: I,
-    limit: Option<u32>,
+    limit: Option<u64>,
     lines: &mut Vec<u8>,
     writer: &mut W,
 ) -> Result<(), Fault>
@@ -77,7 +77,7 @@ where
 // nothing is drawn.
 fn add_first_commits<I, E, W>(
     mut walk: I,
-    limit: u32,
+    limit: u64,
     lines: &mut Vec<u8>,
     writer: &mut W,
 ) -> Result<(), Fault>
