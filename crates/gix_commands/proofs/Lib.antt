@@ -12,8 +12,9 @@ mod ContainedFacts
 mod StartFacts
 mod RunFacts
 mod GivenRuns
+mod KeptLists
 mod SimpleRuns
-mod UncutWords
+mod NamedTips
 mod Parts
 mod CommitRuns
 mod TopoParts

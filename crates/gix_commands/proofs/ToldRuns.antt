@@ -16,7 +16,7 @@ use Rattle.gix_commands.proofs.ContainedRuns.{selected_so}
 use Rattle.gix_commands.proofs.FirstCommits.{begins, begins_down}
 use Rattle.gix_commands.proofs.OverGraphs.{opened_agree}
 use Rattle.gix_commands.proofs.TopoRuns as topo
-use Rattle.gix_commands.proofs.UncutWords.{uncut, some_tips, some_ids}
+use Rattle.gix_commands.proofs.NamedTips.{some_tips, some_ids}
 
 -- what was asked for was served, of rows that the layers are and of these records
 told_served : (words layers : List (List ℕ)) (input : List ℕ) (records : List Record) (request : Request) (old new : Option (List ℕ)) → request_of words ≡ Ok request → AreRecords records input → RunsOver words layers (Some input) old (Ok tt) new
@@ -32,15 +32,15 @@ told_agree : {layers : List (List ℕ)} {records : List Record} {rows : List Gra
 told_agree {layers} {records} {rows} h = opened_agree layers rows (stored records) h.opens h.agree
 
 pub told_simple_lists : ToldSimpleLists
-told_simple_lists words layers input records by tips hidden old new asked are runs =
-    let k = told_served words layers input records (Commits (Simple by) None tips hidden) old new asked are runs in
-    let l = lists (told k.0 records) k.0 (told_agree k.1) by tips hidden (uncut words by None tips hidden asked) (some_tips words (Simple by) None tips hidden asked) old new k.2 in
+told_simple_lists words layers input records m by tips hidden old new asked are runs =
+    let k = told_served words layers input records (Commits (Simple m by) None tips hidden) old new asked are runs in
+    let l = lists (told k.0 records) k.0 (told_agree k.1) m by tips hidden (some_tips words (Simple m by) None tips hidden asked) old new k.2 in
     (k.0, k.1, l.0, l.1, l.2)
 
 pub told_simple_begins : ToldSimpleBegins
-told_simple_begins words layers input records by n tips hidden old new asked are runs =
-    let k = told_served words layers input records (Commits (Simple by) (Some n) tips hidden) old new asked are runs in
-    let l = begins (told k.0 records) k.0 (told_agree k.1) by tips hidden (uncut words by (Some n) tips hidden asked) (some_tips words (Simple by) (Some n) tips hidden asked) n old new k.2 in
+told_simple_begins words layers input records m by n tips hidden old new asked are runs =
+    let k = told_served words layers input records (Commits (Simple m by) (Some n) tips hidden) old new asked are runs in
+    let l = begins (told k.0 records) k.0 (told_agree k.1) m by tips hidden (some_tips words (Simple m by) (Some n) tips hidden asked) n old new k.2 in
     (k.0, k.1, l.0, l.1, l.2)
 
 pub told_topo_begins : ToldTopoBegins
