@@ -38,6 +38,9 @@ use Rattle.gix_commands.proofs.NamedTips.{some_tips}
 use Rattle.gix_commands.proofs.Parts.{by_parents, by_parents_reached, by_texts, lists_same, whole_in_all}
 use Rattle.gix_commands.proofs.TextParts.{same_texts, same_time}
 
+abbrev pub ids_in : List Info → List ObjectId
+ids_in infos = map (λ info. info.id) infos
+
 pub lines_by_ids : (infos : List Info) → lines_of infos ≡ lines_of_ids (map (λ info. info.id) infos)
 lines_by_ids [] = refl
 lines_by_ids (info ∷ infos) = ap (λ bs. line_of info.id ++ bs) (lines_by_ids infos)
@@ -111,18 +114,15 @@ module _ (objects : Objects) (rows : List GraphRow) (agreeing : IsAgreeing objec
   cut_off : left ≡ [] → cutoff mode.All by ≢ None
   cut_off none e = some (sym (tips_kept objects by tips e) ∙ none)
 
-  pub listed : (walk : Walk) (infos : List Info) → StartsFrom objects rows m by tips hidden walk → Ends Answers IsWalkFault walk infos (Ok tt) → IsRead (map (λ info. info.id) infos)
+  pub listed : (walk : Walk) (infos : List Info) → StartsFrom objects rows m by tips hidden walk → Ends Answers IsWalkFault walk infos (Ok tt) → IsRead (ids_in infos)
   listed walk infos starts (finished last h) = go hidden refl left refl
     where
-      abbrev ids : List ObjectId
-      ids = map (λ info. info.id) infos
+      of_text : (l : IsSimpleBy objects (text_next objects) m by tips hidden (ids_in infos)) → AreWhole objects (left ++ hidden) → IsSimpleBy objects (parents_of objects) m by tips hidden (ids_in infos)
+      of_text l w = by_parents objects m by left hidden (time_order m by) (ids_in infos) w l
 
-      of_text : (l : IsSimpleBy objects (text_next objects) m by tips hidden ids) → AreWhole objects (left ++ hidden) → IsSimpleBy objects (parents_of objects) m by tips hidden ids
-      of_text l w = by_parents objects m by left hidden (time_order m by) ids w l
-
-      go : (hs : List ObjectId) → hidden ≡ hs → (ls : List ObjectId) → left ≡ ls → IsRead ids
+      go : (hs : List ObjectId) → hidden ≡ hs → (ls : List ObjectId) → left ≡ ls → IsRead (ids_in infos)
       go [] e ls f =
-          let l : IsSimpleBy objects (text_next objects) m by tips hidden ids = listed_text objects rows m by tips hidden walk starts agreeing infos h.0 last h.1 h.2 e in (
+          let l : IsSimpleBy objects (text_next objects) m by tips hidden (ids_in infos) = listed_text objects rows m by tips hidden walk starts agreeing infos h.0 last h.1 h.2 e in (
             record { read = l; whole = of_text l; painted = λ keeps behind. absurd (behind e) },
             λ timed. record {
               followed_found = all_stored objects rows m by tips hidden walk starts agreeing infos h.0 last h.1 h.2 e;
@@ -133,8 +133,8 @@ module _ (objects : Objects) (rows : List GraphRow) (agreeing : IsAgreeing objec
           let behind : hidden ≢ [] = λ n. let c : [] ≡ j ∷ hs = sym n ∙ e in cc in
           let keeps : left ≢ [] = λ n. let c : [] ≡ k ∷ ls = sym n ∙ f in cc in
           let whole : AreWhole objects (left ++ hidden) = all_read objects rows m by tips hidden walk starts agreeing infos h.0 last h.1 h.2 behind keeps in
-          let l : IsSimpleBy objects (parents_of objects) m by tips hidden ids = listed_whole objects rows m by tips hidden walk starts agreeing infos h.0 last h.1 h.2 behind in (
-            record { read = by_texts objects m by left hidden (time_order m by) ids whole l; whole = λ w. l; painted = λ kept b. whole },
+          let l : IsSimpleBy objects (parents_of objects) m by tips hidden (ids_in infos) = listed_whole objects rows m by tips hidden walk starts agreeing infos h.0 last h.1 h.2 behind in (
+            record { read = by_texts objects m by left hidden (time_order m by) (ids_in infos) whole l; whole = λ w. l; painted = λ kept b. whole },
             λ timed. record {
               followed_found = λ i r. whole_found objects m by tips hidden whole i (reach_more (text_next objects) left (left ++ hidden) (λ j c. Contains-append_left left hidden j c) i (followed_reaches objects (text_next objects) m by left i r));
               hidden_found = λ i r. whole_found objects m by tips hidden whole i (reach_more (text_next objects) hidden (left ++ hidden) (λ j c. Contains-append_right left hidden j c) i r);
@@ -142,7 +142,7 @@ module _ (objects : Objects) (rows : List GraphRow) (agreeing : IsAgreeing objec
           )
       go (j ∷ hs) e [] f =
           let behind : hidden ≢ [] = λ n. let c : [] ≡ j ∷ hs = sym n ∙ e in cc in
-          let l : IsSimpleBy objects (text_next objects) m by tips hidden ids = listed_none objects rows m by tips hidden walk starts agreeing infos h.0 last h.1 h.2 behind f in (
+          let l : IsSimpleBy objects (text_next objects) m by tips hidden (ids_in infos) = listed_none objects rows m by tips hidden walk starts agreeing infos h.0 last h.1 h.2 behind f in (
             record { read = l; whole = of_text l; painted = λ keeps b. absurd (keeps (cut_off f) f) },
             λ timed. record {
               followed_found = λ i r. absurd (no_start _ left i r f);

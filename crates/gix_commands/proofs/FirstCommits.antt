@@ -21,15 +21,12 @@ use Rattle.gix_commands.specs.Run.{Serves, walked, walked_down}
 use Rattle.gix_commands.specs.TopoWalked as topo
 use Rattle.gix_commands.specs.Walked.{Walk, Answers, IsWalkFault, StartsFrom, EndsWithin, enough, before, lines_of}
 use Rattle.gix_commands.specs.Words.{Commits}
-use Rattle.gix_commands.proofs.CommitRuns.{all_found, lines_by_ids, list_in_all, listed, served_so}
+use Rattle.gix_commands.proofs.CommitRuns.{all_found, ids_in, lines_by_ids, list_in_all, listed, served_so}
 use Rattle.gix_commands.proofs.Parts.{by_parents}
 use Rattle.gix_commands.proofs.SimpleBegins.{AreFirstOf, first_given}
 use Rattle.gix_commands.proofs.TopoBegins.{first_given_down}
 use Rattle.gix_commands.proofs.TopoRuns.{in_all, listed as listed_down, listed_read}
 use Rattle.gix_commands.proofs.NamedTips.{some_tips}
-
-abbrev pub ids_in : List Info → List ObjectId
-ids_in infos = map (λ info. info.id) infos
 
 -- these are the first `n` of such a list, or all of it
 abbrev pub AreUpTo : (List ObjectId → Type 0) → ℕ → List Info → Type 0

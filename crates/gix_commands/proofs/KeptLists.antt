@@ -30,10 +30,9 @@ pub kept_ids : (objects : Objects) (limit : Option ℤ) (ps : List Pending) → 
 kept_ids objects limit [] = refl
 kept_ids objects limit (p ∷ ps) = go (is_older (time_of objects p.id) limit) (kept_ids objects limit ps)
   where
-    abbrev left : List ObjectId
-    left = filter (λ i. not (is_older (time_of objects i) limit)) (ids_of ps)
-
-    go : (t : Bool) → ids_of (recent limit (timed objects ps)) ≡ left → ids_of (cond (not t) (record { id = p.id; time = time_of objects p.id } ∷ recent limit (timed objects ps)) (recent limit (timed objects ps))) ≡ cond (not t) (p.id ∷ left) left
+    go : (t : Bool) → ids_of (recent limit (timed objects ps)) ≡ filter (λ i. not (is_older (time_of objects i) limit)) (ids_of ps)
+        → ids_of (cond (not t) (record { id = p.id; time = time_of objects p.id } ∷ recent limit (timed objects ps)) (recent limit (timed objects ps)))
+        ≡ cond (not t) (p.id ∷ filter (λ i. not (is_older (time_of objects i) limit)) (ids_of ps)) (filter (λ i. not (is_older (time_of objects i) limit)) (ids_of ps))
     go true e = e
     go false e = ap (λ is. p.id ∷ is) e
 
@@ -52,12 +51,9 @@ module _ (keeps : ObjectId → Bool) where
           cases true e = absurd (true≢false (sym kj ∙ ap keeps (same_is j x e) ∙ k))
           cases false e = same j kj
 
-      abbrev more : (ObjectId → Bool) → ObjectId → Bool
-      more before j = is_same j x || before j
-
       go : (k : Bool) → keeps x ≡ k → (a : Bool) → old x ≡ a → (b : Bool) → other x ≡ b → filter keeps (new_ids old ids) ≡ new_ids other (filter keeps ids)
-          → (keeps x ≡ false → filter keeps (new_ids (more old) ids) ≡ new_ids other (filter keeps ids)) → filter keeps (new_ids (more old) ids) ≡ new_ids (more other) (filter keeps ids)
-          → filter keeps (cond a (new_ids old ids) (x ∷ new_ids (more old) ids)) ≡ new_ids other (cond k (x ∷ filter keeps ids) (filter keeps ids))
+          → (keeps x ≡ false → filter keeps (new_ids (λ j. is_same j x || old j) ids) ≡ new_ids other (filter keeps ids)) → filter keeps (new_ids (λ j. is_same j x || old j) ids) ≡ new_ids (λ j. is_same j x || other j) (filter keeps ids)
+          → filter keeps (cond a (new_ids old ids) (x ∷ new_ids (λ j. is_same j x || old j) ids)) ≡ new_ids other (cond k (x ∷ filter keeps ids) (filter keeps ids))
       go false k true a b o both passed added = both
       go false k false a b o both passed added = cond-false (keeps x) _ _ k ∙ passed k
       go true k true a true o both passed added = both ∙ sym (cond-true (other x) _ _ o)
@@ -70,10 +66,8 @@ pub filter_both : (p q : ObjectId → Bool) (xs : List ObjectId) → filter p (f
 filter_both p q [] = refl
 filter_both p q (x ∷ xs) = go (q x) (p x) refl (filter_both p q xs)
   where
-    abbrev both : List ObjectId
-    both = filter (λ i. p i && q i) xs
-
-    go : (b a : Bool) → p x ≡ a → filter p (filter q xs) ≡ both → filter p (cond b (x ∷ filter q xs) (filter q xs)) ≡ cond (a && b) (x ∷ both) both
+    go : (b a : Bool) → p x ≡ a → filter p (filter q xs) ≡ filter (λ i. p i && q i) xs
+        → filter p (cond b (x ∷ filter q xs) (filter q xs)) ≡ cond (a && b) (x ∷ filter (λ i. p i && q i) xs) (filter (λ i. p i && q i) xs)
     go true true e h = cond-true (p x) _ _ e ∙ ap (λ ids. x ∷ ids) h
     go true false e h = cond-false (p x) _ _ e ∙ h
     go false true e h = h

@@ -12,6 +12,7 @@ use Rattle.gix_commitgraph.specs.Rows.{GraphRow}
 use Rattle.gix_revwalk.specs.Agreeing.{IsAgreeing}
 use Rattle.gix_revwalk.proofs.Rows.{none_agree}
 use Rattle.gix_revwalk.specs.declared.Info.{Info}
+use Rattle.gix_revwalk.specs.declared.Parents.{Parents}
 use Rattle.gix_simple.specs.declared.Error.{Error}
 use Rattle.gix_simple.specs.declared.Sorting.{Sorting}
 use Rattle.gix_topo.specs.declared.Error.{Error as TopoError}
@@ -144,16 +145,16 @@ module _ (objects : Objects) (rows : List GraphRow) (old : Option (List ℕ)) (o
     serves_drawn (Err fault.Read) w = serves _ (w (λ e. cc))
     serves_drawn (Err fault.Internal) w = serves _ (w (λ e. cc))
 
-module _ (objects : Objects) (rows : List GraphRow) (old : Option (List ℕ)) (by : Sorting) (limit : Option ℕ) (tips hidden : List ObjectId) where
-  pub serves_walk : (new : Option (List ℕ)) (walk : Walk) → StartsFrom objects rows by tips hidden walk → (result : Result (Unit {0}) Fault) → (result ≢ Err fault.Write → WritesAll Answers IsWalkFault limit walk old result new) → Serves objects rows old (Commits (Simple by) limit tips hidden) result new
-  serves_walk new walk starts = serves_drawn objects rows old (Simple by) limit tips hidden Answers IsWalkFault new walk (λ _ w. walked walk w.infos starts w.ends w.appends)
+module _ (objects : Objects) (rows : List GraphRow) (old : Option (List ℕ)) (m : Parents) (by : Sorting) (limit : Option ℕ) (tips hidden : List ObjectId) where
+  pub serves_walk : (new : Option (List ℕ)) (walk : Walk) → StartsFrom objects rows m by tips hidden walk → (result : Result (Unit {0}) Fault) → (result ≢ Err fault.Write → WritesAll Answers IsWalkFault limit walk old result new) → Serves objects rows old (Commits (Simple m by) limit tips hidden) result new
+  serves_walk new walk starts = serves_drawn objects rows old (Simple m by) limit tips hidden Answers IsWalkFault new walk (λ _ w. walked walk w.infos starts w.ends w.appends)
 
-  not_started : (e : Fault) → (why : Error) × FailsAtStart objects by tips why × (e ≡ fault_of_walk why) → Serves objects rows old (Commits (Simple by) limit tips hidden) (Err e) old
-  not_started e h = subst (λ (f : Fault). Serves objects rows old (Commits (Simple by) limit tips hidden) (Err f) old) (sym h.2) (not_walked h.0 h.1)
+  not_started : (e : Fault) → (why : Error) × FailsAtStart objects by tips why × (e ≡ fault_of_walk why) → Serves objects rows old (Commits (Simple m by) limit tips hidden) (Err e) old
+  not_started e h = subst (λ (f : Fault). Serves objects rows old (Commits (Simple m by) limit tips hidden) (Err f) old) (sym h.2) (not_walked h.0 h.1)
 
   -- the walk couldn't start
-  pub serves_no_walk : (result : Result (Unit {0}) Fault) (e : Fault) → result ≡ Err e → IsStartFault objects by tips e → Serves objects rows old (Commits (Simple by) limit tips hidden) result old
-  serves_no_walk result e same h = failed_so (λ r. Serves objects rows old (Commits (Simple by) limit tips hidden) r old) unserved result e same (λ other. not_started e (h other))
+  pub serves_no_walk : (result : Result (Unit {0}) Fault) (e : Fault) → result ≡ Err e → IsStartFault objects by tips e → Serves objects rows old (Commits (Simple m by) limit tips hidden) result old
+  serves_no_walk result e same h = failed_so (λ r. Serves objects rows old (Commits (Simple m by) limit tips hidden) r old) unserved result e same (λ other. not_started e (h other))
 
 module _ (objects : Objects) (rows : List GraphRow) (old : Option (List ℕ)) (by : TopoSorting) (limit : Option ℕ) (tips ends : List ObjectId) where
   pub serves_topo : (new : Option (List ℕ)) (walk : topo.Walk) → topo.IsBuiltFrom objects rows by tips ends (Ok walk) → (result : Result (Unit {0}) Fault) → (result ≢ Err fault.Write → WritesAll topo.Answers topo.IsWalkFault limit walk old result new) → Serves objects rows old (Commits (Topo by) limit tips ends) result new

@@ -1,5 +1,5 @@
 -- What is so of each request that words spell, and which faults words may have.
-use Rattle.std.specs.Prelude.{◌≡◌, ℕ, ◌+◌, List, [], ◌∷◌, Bool, true, false, ◌||◌, Option, Some, None, Result, Ok, Err, codes}
+use Rattle.std.specs.Prelude.{◌≡◌, ℕ, ◌+◌, pos, List, [], ◌∷◌, Bool, true, false, ◌||◌, Option, Some, None, Result, Ok, Err, codes}
 use Rattle.std.specs.List.{list_all}
 use Rattle.std.specs.Str.{bytes_eq}
 use Rattle.std.proofs.Common.{refl, cond}
@@ -9,7 +9,7 @@ use Rattle.gix_hash.specs.Id.{id_from_hex}
 use Rattle.gix_commands.specs.declared.fault.Fault.{Fault}
 use Rattle.gix_commands.specs.declared.fault.Fault.TheVariants as fault
 use Rattle.gix_commands.specs.declared.words.Order.{Order}
-use Rattle.gix_commands.specs.Words.{Request, Files, Ahead, Contained, Ids, begins_with_caret, without_caret, is_shown, with_id, with_word, ids_from, number_in, order_named, commits_from, commits_of, limited_of, in_order_of, files_from, files_of, ahead_from, ahead_of, contained_among, contained_from, contained_of, request_named, request_of}
+use Rattle.gix_commands.specs.Words.{Request, Files, Ahead, Contained, Ids, begins_with_caret, without_caret, is_shown, with_id, with_word, ids_from, number_in, order_named, commits_from, commits_of, limited_of, listed_of, chosen_of, recent_of, since_of, by_first_parents, by_cutoff, in_order_of, files_from, files_of, ahead_from, ahead_of, contained_among, contained_from, contained_of, request_named, request_of}
 
 -- what is so of ids, and of a word that spells none, is so of what words spell
 with_each : (Q : Result Ids Fault → Type 0) (ids_so : (ids : Ids) → Q (Ok ids)) (no_id : (n : ℕ) → Q (Err (fault.Id n))) (hidden : Bool) (n : ℕ) (r : Result ObjectId HexError) (rest : Result Ids Fault) → Q rest → Q (with_word hidden n r rest)
@@ -59,28 +59,46 @@ module _ (P : Result Request Fault → Type 0) (usage : P (Err fault.Usage)) (no
       either (list_all is_shown (tip ∷ next ∷ ids)) (contained_from (ids_from 2 (tip ∷ next ∷ ids))) (Err fault.Usage)
       (each_ids (λ r. P (contained_from r)) (λ those. from_some those.0) no_id 2 (tip ∷ next ∷ ids)) usage
 
-  module _ (by : Order) (h : (limit : Option ℕ) (n : ℕ) (ids : List (List ℕ)) → P (commits_from by limit (ids_from n ids))) where
-    from_ids : (limit : Option ℕ) (n : ℕ) (ids : List (List ℕ)) → P (commits_of by limit n ids)
-    from_ids limit n ids = either (list_all begins_with_caret ids) (Err fault.Usage) (commits_from by limit (ids_from n ids)) usage (h limit n ids)
+  module _ (h : (by : Order) (limit : Option ℕ) (n : ℕ) (ids : List (List ℕ)) → P (commits_from by limit (ids_from n ids))) where
+    from_ids : (by : Order) (limit : Option ℕ) (n : ℕ) (ids : List (List ℕ)) → P (commits_of by limit n ids)
+    from_ids by limit n ids = either (list_all begins_with_caret ids) (Err fault.Usage) (commits_from by limit (ids_from n ids)) usage (h by limit n ids)
 
-    from_limit : (limit : Option ℕ) (ids : List (List ℕ)) → P (limited_of by limit ids)
-    from_limit (Some limit) ids = from_ids (Some limit) 4 ids
-    from_limit None ids = usage
+    from_limit : (by : Order) (limit : Option ℕ) (n : ℕ) (ids : List (List ℕ)) → P (limited_of by limit n ids)
+    from_limit by (Some limit) n ids = from_ids by (Some limit) n ids
+    from_limit by None n ids = usage
 
-    from_order : (words : List (List ℕ)) → P (in_order_of by words)
-    from_order [] = from_ids None 2 []
-    from_order (id ∷ []) = from_ids None 2 (id ∷ [])
-    from_order (option ∷ limit ∷ ids) =
-        either (bytes_eq option (codes "-n")) (limited_of by (number_in limit) ids) (commits_of by None 2 (option ∷ limit ∷ ids)) (from_limit (number_in limit) ids) (from_ids None 2 (option ∷ limit ∷ ids))
+    from_list : (by : Order) (n : ℕ) (words : List (List ℕ)) → P (listed_of by n words)
+    from_list by n [] = from_ids by None n []
+    from_list by n (id ∷ []) = from_ids by None n (id ∷ [])
+    from_list by n (option ∷ limit ∷ ids) =
+        either (bytes_eq option (codes "-n")) (limited_of by (number_in 9 limit) (n + 2) ids) (commits_of by None n (option ∷ limit ∷ ids)) (from_limit by (number_in 9 limit) (n + 2) ids) (from_ids by None n (option ∷ limit ∷ ids))
 
-  from_name : (name : List ℕ) (o : Option Order) (ids : List (List ℕ)) → ((by : Order) → o ≡ Some by → (limit : Option ℕ) (n : ℕ) (those : List (List ℕ)) → P (commits_from by limit (ids_from n those))) → P (request_named name o ids)
-  from_name name (Some by) ids h = from_order by (h by refl) ids
-  from_name name None ids h = either (bytes_eq name (codes "files")) (files_of ids) _ (from_trees ids) (either (bytes_eq name (codes "ahead")) (ahead_of ids) _ (from_pairs ids) (either (bytes_eq name (codes "contains")) (contained_of ids) (Err fault.Usage) (from_somes ids) usage))
+    from_choice : (o : Option Order) (n : ℕ) (words : List (List ℕ)) → P (chosen_of o n words)
+    from_choice (Some by) n words = from_list by n words
+    from_choice None n words = usage
 
-  -- is so of each request
-  pub each_request : ((name : List ℕ) (by : Order) → order_named name ≡ Some by → (limit : Option ℕ) (n : ℕ) (ids : List (List ℕ)) → P (commits_from by limit (ids_from n ids))) → (words : List (List ℕ)) → P (request_of words)
-  each_request h [] = usage
-  each_request h (name ∷ ids) = from_name name (order_named name) ids (λ by e. h name by e)
+    from_time : (by : Order) (seconds : Option ℕ) (words : List (List ℕ)) → P (recent_of by seconds words)
+    from_time by (Some seconds) words = from_choice (by_cutoff (pos seconds) by) 4 words
+    from_time by None words = usage
+
+    from_since : (by : Order) (words : List (List ℕ)) → P (since_of by words)
+    from_since by [] = usage
+    from_since by (seconds ∷ words) = from_time by (number_in 10 seconds) words
+
+    from_order : (by : Order) (words : List (List ℕ)) → P (in_order_of by words)
+    from_order by [] = from_list by 2 []
+    from_order by (option ∷ words) =
+        either (bytes_eq option (codes "--first-parent")) (chosen_of (by_first_parents by) 3 words) _ (from_choice (by_first_parents by) 3 words)
+        (either (bytes_eq option (codes "--since")) (since_of by words) (listed_of by 2 (option ∷ words)) (from_since by words) (from_list by 2 (option ∷ words)))
+
+    from_name : (name : List ℕ) (o : Option Order) (ids : List (List ℕ)) → P (request_named name o ids)
+    from_name name (Some by) ids = from_order by ids
+    from_name name None ids = either (bytes_eq name (codes "files")) (files_of ids) _ (from_trees ids) (either (bytes_eq name (codes "ahead")) (ahead_of ids) _ (from_pairs ids) (either (bytes_eq name (codes "contains")) (contained_of ids) (Err fault.Usage) (from_somes ids) usage))
+
+    -- is so of each request
+    pub each_request : (words : List (List ℕ)) → P (request_of words)
+    each_request [] = usage
+    each_request (name ∷ ids) = from_name name (order_named name) ids
 
 abbrev pub IsOfWords : Fault → Type 0
 IsOfWords fault.Usage = Unit {0}
@@ -116,4 +134,4 @@ commits_words by limit (Ok ids) h = tt
 commits_words by limit (Err e) h = h
 
 pub request_words : (words : List (List ℕ)) → OfWords (request_of words)
-request_words = each_request OfWords tt (λ n. tt) (λ i. tt) (λ i j. tt) (λ i ids. tt) (λ name by e limit n ids. commits_words by limit (ids_from n ids) (ids_words n ids))
+request_words = each_request OfWords tt (λ n. tt) (λ i. tt) (λ i j. tt) (λ i ids. tt) (λ by limit n ids. commits_words by limit (ids_from n ids) (ids_words n ids))

@@ -98,41 +98,50 @@ pub data Keeps {I : Type 0} (P : (before : List I) → I → (after : List I) �
   kept : {i : I} {before after those : List I} → P before i after → Keeps P (i ∷ before) after those → Keeps P before (i ∷ after) (i ∷ those)
   passed : {i : I} {before after those : List I} → (P before i after → ⊥) → Keeps P (i ∷ before) after those → Keeps P before (i ∷ after) those
 
-module _ {I : Type 0} (parents : I → List I) (time : I → ℤ) (tips hidden : List I) where
-  abbrev pub IsShown : I → Type 0
-  IsShown i = Reaches parents tips i × (Reaches parents hidden i → ⊥)
+-- what is followed from where: parents from tips; of each the first alone; or those whose time isn't below a number, from such tips
+pub data Follows {I : Type 0} (parents : I → List I) (time : I → ℤ) (tips : List I) : List ℕ → List (List ℕ) → (I → List I) → List I → Type 0 where
+  all : {by : List ℕ} → Follows parents time tips by [] parents tips
+  first : Follows parents time tips (codes "breadth") (codes "--first-parent" ∷ []) (λ i. take 1 (parents i)) tips
+  since : {by number : List ℕ} (n : ℕ) → Contains (codes "newest" ∷ codes "oldest" ∷ []) by → IsNumber 10 10 number n
+      → Follows parents time tips by (codes "--since" ∷ number ∷ []) (λ i. filter (λ p. int_le (pos n) (time p)) (parents i))
+      (filter (λ i. int_le (pos n) (time i)) tips)
 
-  -- a tip or a parent of a commit taken, and not taken itself
+-- what the starts reach through what is followed, and what is hidden doesn't reach through parents
+module _ {I : Type 0} (parents followed : I → List I) (time : I → ℤ) (starts hidden : List I) where
+  abbrev pub IsShown : I → Type 0
+  IsShown i = Reaches followed starts i × (Reaches parents hidden i → ⊥)
+
+  -- a start or what a commit taken has followed, and not taken itself
   abbrev pub IsPending : List I → I → Type 0
-  IsPending taken i = Contains (tips ++ flat_map parents taken) i × (Contains taken i → ⊥) × (Reaches parents hidden i → ⊥)
+  IsPending taken i = Contains (starts ++ flat_map followed taken) i × (Contains taken i → ⊥) × (Reaches parents hidden i → ⊥)
 
   -- not taken, though all of its children are
   abbrev pub IsReady : List I → I → Type 0
-  IsReady taken i = IsShown i × (Contains taken i → ⊥) × ((child : I) → IsShown child → Contains (parents child) i → Contains taken child)
+  IsReady taken i = IsShown i × (Contains taken i → ⊥) × ((child : I) → IsShown child → Contains (followed child) i → Contains taken child)
 
   -- by rising time, and of one time in the order given
   abbrev pub by_time : List I → List I
   by_time [] = []
   by_time (i ∷ ids) = filter (λ j. not (int_le (time i) (time j))) (by_time ids) ++ i ∷ filter (λ j. int_le (time i) (time j)) (by_time ids)
 
-  -- what became ready until these were taken, the latest first: tips, each at its first place, then parents of each taken, each at its last
+  -- what became ready until these were taken, the latest first: starts, each at its first place, then parents of each taken, each at its last
   abbrev pub AreMadeReady : List I → List I → Type 0
-  AreMadeReady [] ready = (first : List I) × Keeps (λ before i after. IsReady [] i × (Contains before i → ⊥)) [] tips first × (ready ≡ by_time first)
+  AreMadeReady [] ready = (first : List I) × Keeps (λ before i after. IsReady [] i × (Contains before i → ⊥)) [] starts first × (ready ≡ by_time first)
   AreMadeReady (c ∷ taken) ready = (old more : List I) × AreMadeReady taken old × (ready ≡ old ++ more)
-      × Keeps (λ before i after. IsReady (c ∷ taken) i × (Contains after i → ⊥)) [] (parents c) more
+      × Keeps (λ before i after. IsReady (c ∷ taken) i × (Contains after i → ⊥)) [] (followed c) more
 
   -- what the rest begins with behind those taken, in the order of each name
-  pub data Follows (taken rest : List I) : List ℕ → Type 0 where
-    breadth : IsFirst (IsPending taken) (tips ++ flat_map parents taken) rest → Follows taken rest (codes "breadth")
-    newest : IsBest (λ i other. time other ≤ℤ time i) (IsPending taken) rest → Follows taken rest (codes "newest")
-    oldest : IsBest (λ i other. time i ≤ℤ time other) (IsPending taken) rest → Follows taken rest (codes "oldest")
-    date : IsBest (λ i other. time other ≤ℤ time i) (IsReady taken) rest → Follows taken rest (codes "date")
-    topo : (ready : List I) → AreMadeReady (reverse taken) ready → IsFirst (λ i. Contains taken i → ⊥) (reverse ready) rest → Follows taken rest (codes "topo")
+  pub data Comes (taken rest : List I) : List ℕ → Type 0 where
+    breadth : IsFirst (IsPending taken) (starts ++ flat_map followed taken) rest → Comes taken rest (codes "breadth")
+    newest : IsBest (λ i other. time other ≤ℤ time i) (IsPending taken) rest → Comes taken rest (codes "newest")
+    oldest : IsBest (λ i other. time i ≤ℤ time other) (IsPending taken) rest → Comes taken rest (codes "oldest")
+    date : IsBest (λ i other. time other ≤ℤ time i) (IsReady taken) rest → Comes taken rest (codes "date")
+    topo : (ready : List I) → AreMadeReady (reverse taken) ready → IsFirst (λ i. Contains taken i → ⊥) (reverse ready) rest → Comes taken rest (codes "topo")
 
   -- What is shown is listed once and in order. In a topological order all of it is listed where no commit shown is its own ancestor.
   abbrev pub Lists : List ℕ → List I → Type 0
   Lists by ids =
-      AllPairs (λ i j. i ≢ j) ids × ((i : I) → Contains ids i → IsShown i) × ((taken rest : List I) → ids ≡ taken ++ rest → Follows taken rest by)
+      AllPairs (λ i j. i ≢ j) ids × ((i : I) → Contains ids i → IsShown i) × ((taken rest : List I) → ids ≡ taken ++ rest → Comes taken rest by)
       × ((Contains (codes "topo" ∷ codes "date" ∷ []) by → (i : I) → IsShown i → Reaches parents (parents i) i → ⊥) → (i : I) → IsShown i → Contains ids i)
 
   abbrev pub IsNumberShown : ℕ → Type 0
@@ -175,14 +184,15 @@ AreTips (word ∷ words) tips hidden =
 
 -- what words ask for was appended
 pub data Serves (records : List Record) (parents : ObjectId → List ObjectId) (time : ObjectId → ℤ) (old new : Option (List ℕ)) : List (List ℕ) → Type 0 where
-  -- ids, one a line: all of a list, or behind `-n` and a number the first of it, so many at most
-  commits : {by : List ℕ} (limit words : List (List ℕ)) {tips hidden ids those : List ObjectId} → AreTips words tips hidden → tips ≢ []
+  -- ids, one a line, of what an option chooses: all of a list, or behind `-n` and a number the first of it, so many at most
+  commits : {by : List ℕ} (option limit words : List (List ℕ)) {followed : ObjectId → List ObjectId} {tips starts hidden ids those : List ObjectId}
+      → AreTips words tips hidden → tips ≢ [] → Follows parents time tips by option followed starts
       → ((limit ≡ []) × (those ≡ ids)) ⊎ ((number : List ℕ) × (n : ℕ) × IsNumber 10 9 number n × (limit ≡ codes "-n" ∷ number ∷ []) × (those ≡ take n ids))
-      → Lists parents time tips hidden by ids → Appends old new (flat_map (λ i. encode_lower (bytes_in i) ++ 10 ∷ []) those)
-      → Serves records parents time old new (by ∷ (limit ++ words))
+      → Lists parents followed time starts hidden by ids → Appends old new (flat_map (λ i. encode_lower (bytes_in i) ++ 10 ∷ []) those)
+      → Serves records parents time old new (by ∷ (option ++ (limit ++ words)))
   -- how many commits the one reaches and the other doesn't, a space, and how many the other reaches and the one doesn't
   ahead : {a b : List ℕ} {one other : ObjectId} (n m : ℕ) → Spells (digits_in one) a one → Spells (digits_in other) b other
-      → IsNumberShown parents time (one ∷ []) (other ∷ []) n → IsNumberShown parents time (other ∷ []) (one ∷ []) m
+      → IsNumberShown parents parents time (one ∷ []) (other ∷ []) n → IsNumberShown parents parents time (other ∷ []) (one ∷ []) m
       → Appends old new (digits 10 false n ++ 32 ∷ (digits 10 false m ++ 10 ∷ [])) → Serves records parents time old new (codes "ahead" ∷ a ∷ b ∷ [])
   -- those of the ids that the tip reaches, one a line
   contains : {words : List (List ℕ)} {tip : ObjectId} {ids those : List ObjectId} → AreTips words (tip ∷ ids) [] → ids ≢ []

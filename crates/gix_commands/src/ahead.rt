@@ -13,9 +13,8 @@ use crate::output::write_out;
 use gix_parts::graph::Graph;
 use gix_parts::hash::ObjectId;
 use gix_parts::records::LentStore;
-use gix_traverse::commit::Info;
-use gix_traverse::commit::Parents;
 use gix_traverse::commit::simple::Sorting;
+use gix_traverse::commit::{Info, Parents};
 use std::alloc::{AllocError, Global};
 use std::io::Write;
 

@@ -5,9 +5,8 @@ ghost use Rattle.gix_commands.specs.Words.{Gives, Tells, AddsId, begins_with_car
 
 use crate::fault::Fault;
 use gix_parts::hash::ObjectId;
-use gix_traverse::commit::Parents;
 use gix_traverse::commit::simple::{CommitTimeOrder, Sorting};
-use gix_traverse::commit::topo;
+use gix_traverse::commit::{Parents, topo};
 use std::alloc::{AllocError, Global};
 
 /// The order of a walk over commits.
@@ -173,12 +172,7 @@ fn since(alloc: Global, order: Order, words: &[String]) -> Result<Command, Fault
 }
 
 // The walk over commits that these words ask for: ids, maybe with a limit before them. The first of them is the word of this number.
-fn listed(
-    alloc: Global,
-    order: Order,
-    words: &[String],
-    number: usize,
-) -> Result<Command, Fault>
+fn listed(alloc: Global, order: Order, words: &[String], number: usize) -> Result<Command, Fault>
     requires few { number ≤ 4 }
     ensures { Gives request_of_command result (listed_of order number (map string_bytes words.now)) }
 {
