@@ -19,7 +19,7 @@ use Rattle.gix_records.specs.Records.{stored}
 use Rattle.gix_revwalk.specs.Commits.{commit_of_object, time_in, time_of}
 use Rattle.gix_revwalk.specs.Texts.{next_in, text_next}
 use Rattle.gix_commands.specs.declared.fault.Fault.{Fault}
-use Rattle.gix_commands.specs.WholeStatement.{AreRecords, Follows, IsBest, IsFirst, IsPending, IsTime, Lists, Promises, Reaches, Serves, Spells, breadth, commits, entry_line, newest, parent, start}
+use Rattle.gix_commands.specs.WholeStatement.{AreRecords, Comes, IsBest, IsFirst, IsPending, IsTime, Lists, Promises, Reaches, Serves, Spells, all, breadth, commits, entry_line, newest, parent, start}
 use Rattle.gix_commands.proofs.SameCommits.{are_records, get_put, is_time, worded}
 use Rattle.gix_commands.proofs.SameHistory.{history}
 use Rattle.gix_commands.proofs.SameOrders.{Throughout, are_distinct}
@@ -128,7 +128,7 @@ module _ (parents : ObjectId → List ObjectId) (time : ObjectId → ℤ) (child
       of_root e = absurd (no_member i (subst (λ ps. Contains ps i) root_names (subst (λ j. Contains (parents j) i) (sym e) m)))
 
   abbrev Pending : List ObjectId → ObjectId → Type 0
-  Pending = IsPending parents time (child ∷ []) []
+  Pending = IsPending parents parents time (child ∷ []) []
 
   names_of_child : child ∷ flat_map parents (child ∷ []) ≡ child ∷ root ∷ []
   names_of_child = ap (λ ps. child ∷ (ps ++ [])) child_names
@@ -188,7 +188,7 @@ module _ (parents : ObjectId → List ObjectId) (time : ObjectId → ℤ) (child
   not_reversed : Throughout IsNextNewest (root ∷ child ∷ []) → ⊥
   not_reversed h = ⊎_elim (λ e. root_is_other (sym e)) (no_member root) (Contains-cons_cases root child [] (h [] (root ∷ child ∷ []) refl).0.0)
 
-  is_listed : (by : List ℕ) → Throughout (λ taken rest. Follows parents time (child ∷ []) [] taken rest by) (child ∷ root ∷ []) → Lists parents time (child ∷ []) [] by (child ∷ root ∷ [])
+  is_listed : (by : List ℕ) → Throughout (λ taken rest. Comes parents parents time (child ∷ []) [] taken rest by) (child ∷ root ∷ []) → Lists parents parents time (child ∷ []) [] by (child ∷ root ∷ [])
   is_listed by follows = (
     are_distinct (child ∷ root ∷ []) (λ c. ⊎_elim root_is_other (no_member child) (Contains-cons_cases child root [] c), (no_member root, tt)),
     λ i c. (⊎_elim (λ e. subst (Reaches parents (child ∷ [])) e child_in) (λ n. ⊎_elim (λ e. subst (Reaches parents (child ∷ [])) e root_in) (λ o. absurd (no_member i o)) (Contains-cons_cases i root [] n)) (Contains-cons_cases i child (root ∷ []) c), unhidden i),
@@ -216,12 +216,12 @@ module _ (text : List ℕ) (child_names : next_in child (Some (record { kind = k
   served_newest : Serves (map worded (read text)) parents time (Some []) (Some output) (codes "newest" ∷ codes "2222222222222222222222222222222222222222" ∷ [])
   unfolding hex_on_literals
   served_newest =
-      commits [] (codes "2222222222222222222222222222222222222222" ∷ []) {hidden = []} (inl (child, [], refl, (refl, refl, refl), (refl, refl))) (λ e. cc) (inl (refl, refl)) (is_listed parents time child_named root_named (codes "newest") (λ taken rest e. newest (in_order parents time child_named root_named taken rest e))) refl
+      commits [] [] (codes "2222222222222222222222222222222222222222" ∷ []) {hidden = []} (inl (child, [], refl, (refl, refl, refl), (refl, refl))) (λ e. cc) all (inl (refl, refl)) (is_listed parents time child_named root_named (codes "newest") (λ taken rest e. newest (in_order parents time child_named root_named taken rest e))) refl
 
   served_breadth : Serves (map worded (read text)) parents time (Some []) (Some output) (codes "breadth" ∷ codes "2222222222222222222222222222222222222222" ∷ [])
   unfolding hex_on_literals
   served_breadth =
-      commits [] (codes "2222222222222222222222222222222222222222" ∷ []) {hidden = []} (inl (child, [], refl, (refl, refl, refl), (refl, refl))) (λ e. cc) (inl (refl, refl)) (is_listed parents time child_named root_named (codes "breadth") (λ taken rest e. breadth (in_breadth parents time child_named root_named taken rest e))) refl
+      commits [] [] (codes "2222222222222222222222222222222222222222" ∷ []) {hidden = []} (inl (child, [], refl, (refl, refl, refl), (refl, refl))) (λ e. cc) all (inl (refl, refl)) (is_listed parents time child_named root_named (codes "breadth") (λ taken rest e. breadth (in_breadth parents time child_named root_named taken rest e))) refl
 
 -- `newest CHILD` over whole texts, from bytes to bytes
 abbrev child_text : List ℕ

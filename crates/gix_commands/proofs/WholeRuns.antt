@@ -1,5 +1,5 @@
 -- A run that ended well has written what the statement promises.
-use Rattle.std.specs.Prelude.{◌≡◌, ℕ, ℤ, List, [], ◌∷◌, map, take, false, Option, Some, None, Result, Ok, All, Contains, codes}
+use Rattle.std.specs.Prelude.{◌≡◌, ℕ, ℤ, List, [], ◌∷◌, ◌++◌, map, take, false, Option, Some, None, Result, Ok, All, Contains, codes}
 use Rattle.std.specs.Io.KnownBytes.{Appends}
 use Rattle.std.specs.List.{flat_map}
 use Rattle.std.proofs.Common.{refl, sym, ap, subst, inl, inr, ◌∙◌}
@@ -9,6 +9,7 @@ use Rattle.gix_revwalk.specs.Commits.{time_of}
 use Rattle.gix_revwalk.specs.Texts.{text_next}
 use Rattle.gix_revwalk.proofs.Rows.{none_agree}
 use Rattle.gix_records.specs.Records.{Record, AreRecords, stored}
+use Rattle.gix_simple.specs.Walk.{time_order}
 use Rattle.gix_tree.specs.Script.{IsDepthScript, entries_at}
 use Rattle.gix_tree.specs.Tracked.{Tracks, fresh_recorder}
 use Rattle.gix_tree.specs.Visits.{Ending, Whole, Broken, Failed, IsUnfailed, is_broken}
@@ -18,7 +19,7 @@ use Rattle.gix_tree.proofs.Theorems.SameRecords.{unbroken}
 use Rattle.gix_commands.specs.declared.fault.Fault.{Fault}
 use Rattle.gix_commands.specs.declared.words.Order.TheVariants.{Simple, Topo}
 use Rattle.gix_commands.specs.Files.{file_lines}
-use Rattle.gix_commands.specs.Histories.{AreWhole}
+use Rattle.gix_commands.specs.Histories.{AreWhole, followed, kept_tips}
 use Rattle.gix_commands.specs.Run.{Runs, Serves, served, listed}
 use Rattle.gix_commands.specs.Walked.{never_faulty}
 use Rattle.gix_commands.specs.Words.{Request, Commits, Files, Ahead, Contained, request_of}
@@ -33,7 +34,7 @@ use Rattle.gix_commands.proofs.TopoRuns.{topo_lists}
 use Rattle.gix_commands.proofs.SameCommits.{worded, are_records}
 use Rattle.gix_commands.proofs.SameContained.{contained_kept}
 use Rattle.gix_commands.proofs.SameHistory.{history}
-use Rattle.gix_commands.proofs.SameLists.{listed as is_list, listed_down, number_shown, id_lines, entry_lines}
+use Rattle.gix_commands.proofs.SameLists.{listed as is_list, is_followed, is_name_in, listed_down, number_shown, id_lines, entry_lines}
 use Rattle.gix_commands.proofs.SameTrees.{IsNamed, have_names, placed_by, unfolds_walk}
 use Rattle.gix_commands.proofs.SameWords.{AreWordsOf, are_words}
 use Rattle.gix_commands.proofs.TextNumbers.{number_by_texts}
@@ -71,20 +72,26 @@ module _ (words : List (List ℕ)) (input : List ℕ) (rs : List Record) (old ne
       )
 
   serves : (request : Request) → request_of words ≡ Ok request → AreWordsOf words (Ok request) → ServesSo words
-  serves (Commits (Simple by) None tips hidden) asked (name, rest, those, is, named, same, ids, some) =
-      let l = simple_lists words input rs by tips hidden old new asked are runs in
-      subst ServesSo (sym (is ∙ ap (λ w. name ∷ w) same)) (page.commits [] those ids some (inl (refl, refl)) (is_list (stored rs) parents name by named tips hidden l.0 l.1.read) (subst (Appends old new) (id_lines l.0) l.2))
-  serves (Commits (Simple by) (Some n) tips hidden) asked (name, rest, those, is, named, (number, limits, same), ids, some) =
-      let l = simple_begins words input rs by n tips hidden old new asked are runs in
-      subst ServesSo (sym (is ∙ ap (λ w. name ∷ w) same))
-      (page.commits (codes "-n" ∷ number ∷ []) those ids some (inr (number, n, limits, refl, refl)) (is_list (stored rs) parents name by named tips hidden l.0 l.1.read) (subst (Appends old new) (id_lines (take n l.0)) l.2))
-  serves (Commits (Topo by) None tips ends) asked (name, rest, those, is, named, same, ids, some) =
+  serves (Commits (Simple m by) None tips hidden) asked (name, option, rest, those, is, named, chosen, same, ids, some) =
+      let l = simple_lists words input rs m by tips hidden old new asked are runs in
+      subst ServesSo (sym (is ∙ ap (λ w. name ∷ (option ++ w)) same))
+      (page.commits option [] those ids some (is_followed (stored rs) parents name option tips m by named chosen) (inl (refl, refl))
+      (is_list (stored rs) parents (followed (stored rs) parents m by) name (time_order m by) (is_name_in (stored rs) parents name option m by named chosen) (kept_tips (stored rs) by tips) hidden l.0 l.1.read)
+      (subst (Appends old new) (id_lines l.0) l.2))
+  serves (Commits (Simple m by) (Some n) tips hidden) asked (name, option, rest, those, is, named, chosen, (number, limits, same), ids, some) =
+      let l = simple_begins words input rs m by n tips hidden old new asked are runs in
+      subst ServesSo (sym (is ∙ ap (λ w. name ∷ (option ++ w)) same))
+      (page.commits option (codes "-n" ∷ number ∷ []) those ids some (is_followed (stored rs) parents name option tips m by named chosen) (inr (number, n, limits, refl, refl))
+      (is_list (stored rs) parents (followed (stored rs) parents m by) name (time_order m by) (is_name_in (stored rs) parents name option m by named chosen) (kept_tips (stored rs) by tips) hidden l.0 l.1.read)
+      (subst (Appends old new) (id_lines (take n l.0)) l.2))
+  serves (Commits (Topo by) None tips ends) asked (name, option, rest, those, is, named, chosen, same, ids, some) =
       let l = topo_lists words input rs by tips ends old new asked are runs in
-      subst ServesSo (sym (is ∙ ap (λ w. name ∷ w) same)) (page.commits [] those ids some (inl (refl, refl)) (listed_down (stored rs) parents name by named tips ends l.0 l.1.read) (subst (Appends old new) (id_lines l.0) l.2))
-  serves (Commits (Topo by) (Some n) tips ends) asked (name, rest, those, is, named, (number, limits, same), ids, some) =
+      subst ServesSo (sym (is ∙ (λ k. name ∷ (chosen k ++ same k))))
+      (page.commits [] [] those ids some page.all (inl (refl, refl)) (listed_down (stored rs) parents name by named tips ends l.0 l.1.read) (subst (Appends old new) (id_lines l.0) l.2))
+  serves (Commits (Topo by) (Some n) tips ends) asked (name, option, rest, those, is, named, chosen, (number, limits, same), ids, some) =
       let l = topo_begins words input rs by n tips ends old new asked are runs in
-      subst ServesSo (sym (is ∙ ap (λ w. name ∷ w) same))
-      (page.commits (codes "-n" ∷ number ∷ []) those ids some (inr (number, n, limits, refl, refl)) (listed_down (stored rs) parents name by named tips ends l.0 l.1.read) (subst (Appends old new) (id_lines (take n l.0)) l.2))
+      subst ServesSo (sym (is ∙ (λ k. name ∷ (chosen k ++ same k))))
+      (page.commits [] (codes "-n" ∷ number ∷ []) those ids some page.all (inr (number, n, limits, refl, refl)) (listed_down (stored rs) parents name by named tips ends l.0 l.1.read) (subst (Appends old new) (id_lines (take n l.0)) l.2))
   serves (Files tree) asked (text, is, spells) =
       let t = tree_written tree (served_so words input rs (Files tree) old new asked are runs) in
       subst ServesSo (sym is) (page.files spells t.2 t.3 t.4)

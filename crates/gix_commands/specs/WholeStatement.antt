@@ -1,6 +1,6 @@
 -- What a run that ended well has written, from lists of bytes up: `Promises`, at the end. This page says all of it; README says what else is
 -- to be believed. A text is a list of bytes: 10 is a newline, 32 a space, 45 `-`, 47 `/`, 48 `0`, 62 `>`, 94 `^`.
-use Rattle.std.specs.Prelude.{◌≡◌, ◌≢◌, ◌↔◌, ◌⊎◌, ℕ, ◌-◌, ◌*◌, ◌^◌, ◌≤◌, nat_lt, nat_le, bit_and, ℤ, pos, neg_ℤ, ◌≤ℤ◌, int_le, List, [], ◌∷◌, ◌++◌, length, take, replicate, reverse, filter, flat_map, not, false, if◌then◌else◌, Option, Some, Result, Ok, All, AllPairs, Contains, codes}
+use Rattle.std.specs.Prelude.{◌≡◌, ◌≢◌, ◌↔◌, ◌⊎◌, ℕ, ◌-◌, ◌*◌, ◌^◌, ◌≤◌, nat_lt, nat_le, bit_and, ℤ, pos, neg_ℤ, ◌≤ℤ◌, int_lt, int_le, List, [], ◌∷◌, ◌++◌, length, take, replicate, reverse, filter, flat_map, not, false, if◌then◌else◌, Option, Some, Result, Ok, All, AllPairs, Contains, codes}
 use Rattle.std.specs.Fmt.{digits}
 use Rattle.std.specs.Io.KnownBytes.{Appends}
 use Rattle.std.specs.Str.Parse.{AllDigits, digits_value}
@@ -8,8 +8,7 @@ use Rattle.hex.specs.Hex.{decode_of, encode_lower}
 use Rattle.gix_hash.specs.declared.ObjectId.{ObjectId}
 use Rattle.gix_hash.specs.declared.ObjectId.TheVariants.{Sha1, Sha256}
 
--- 1 to `most` digits of a base write the number
-abbrev pub IsNumber : ℕ → ℕ → List ℕ → ℕ → Type 0
+abbrev pub IsNumber : ℕ → ℕ → List ℕ → ℕ → Type 0  -- 1 to `most` digits of a base write the number
 IsNumber base most text n = (1 ≤ length text) × (length text ≤ most) × AllDigits base text × (n ≡ digits_value base text)
 
 abbrev pub bytes_in : ObjectId → List ℕ
@@ -20,8 +19,7 @@ abbrev pub digits_in : ObjectId → ℕ
 digits_in (Sha1 bytes) = 40
 digits_in (Sha256 bytes) = 64
 
--- so many hex digits, of either case, write the id
-abbrev pub Spells : ℕ → List ℕ → ObjectId → Type 0
+abbrev pub Spells : ℕ → List ℕ → ObjectId → Type 0  -- so many hex digits, of either case, write the id
 Spells width text i = (length text ≡ width) × (digits_in i ≡ width) × (decode_of text ≡ Ok (bytes_in i))
 
 -- RECORDS: a kind, a space, an id, a space, how many bytes there are, a newline, the bytes, a newline.
@@ -36,8 +34,7 @@ AreRecords (r ∷ records) text =
     (id number rest : List ℕ) × Contains (codes "tree" ∷ codes "blob" ∷ codes "commit" ∷ codes "tag" ∷ []) r.kind × Spells (digits_in r.id) id r.id
     × IsNumber 10 10 number (length r.bytes) × AreRecords records rest × (text ≡ r.kind ++ 32 ∷ (id ++ 32 ∷ (number ++ 10 ∷ (r.bytes ++ 10 ∷ rest))))
 
--- the last record of this id has this kind and these bytes
-abbrev pub Holds : List Record → ObjectId → List ℕ → List ℕ → Type 0
+abbrev pub Holds : List Record → ObjectId → List ℕ → List ℕ → Type 0  -- the last record of this id has this kind and these bytes
 Holds records i kind bytes =
     (before after : List Record) × (records ≡ before ++ record { kind = kind; id = i; bytes = bytes } ∷ after) × ((r : Record) → Contains after r → r.id ≢ i)
 
@@ -52,8 +49,7 @@ abbrev pub Names : List Record → ObjectId → List ObjectId → List ℕ → T
 Names records i parents rest = (tree : ObjectId) × (id lines : List ℕ) × Spells (digits_in i) id tree × AreParentLines (digits_in i) parents lines rest
     × Holds records i (codes "commit") (codes "tree " ++ id ++ 10 ∷ lines)
 
--- all digits at the front of a text write the number, which is 0 where there are none
-abbrev pub Counts : List ℕ → ℕ → Type 0
+abbrev pub Counts : List ℕ → ℕ → Type 0  -- all digits at the front of a text write the number, which is 0 where there are none
 Counts text n =
     (number rest : List ℕ) × (text ≡ number ++ rest) × AllDigits 10 number × (AllDigits 10 (take 1 rest) → rest ≡ []) × (n ≡ digits_value 10 number)
 
@@ -65,8 +61,7 @@ pub data IsTime (signature : List ℕ) : ℤ → Type 0 where
   negative : (before text : List ℕ) (spaces n : ℕ) → signature ≡ before ++ 62 ∷ (replicate spaces 32 ++ 45 ∷ text) → All (λ b. b ≢ 62) text → Counts text n
       → IsTime signature (if nat_le n (2 ^ 63) then neg_ℤ (pos n) else pos 0)
 
--- the id is that of a commit, whose committer signed at this time
-abbrev pub IsSigned : List Record → ObjectId → ℤ → Type 0
+abbrev pub IsSigned : List Record → ObjectId → ℤ → Type 0  -- the id is that of a commit, whose committer signed at this time
 IsSigned records i time =
     (parents : List ObjectId) × (author signature rest : List ℕ) × All (λ b. b ≢ 10) author × All (λ b. b ≢ 10) signature × IsTime signature time
     × Names records i parents (codes "author " ++ author ++ 10 ∷ (codes "committer " ++ signature ++ 10 ∷ rest))
@@ -82,13 +77,11 @@ pub data Reaches {I : Type 0} (parents : I → List I) (starts : List I) : I →
   start : {i : I} → Contains starts i → Reaches parents starts i
   parent : {child i : I} → Reaches parents starts child → Contains (parents child) i → Reaches parents starts i
 
--- the rest begins with the first of these names that has P, and is empty where there is none
-abbrev pub IsFirst : {I : Type 0} → (I → Type 0) → List I → List I → Type 0
+abbrev pub IsFirst : {I : Type 0} → (I → Type 0) → List I → List I → Type 0  -- the rest begins with the first name that has P, and is empty where none has
 IsFirst {I} P names [] = All (λ i. P i → ⊥) names
 IsFirst {I} P names (i ∷ rest) = (before after : List I) × (names ≡ before ++ i ∷ after) × All (λ j. P j → ⊥) before × P i
 
--- the rest begins with a best one of P, and is empty where there is none
-abbrev pub IsBest : {I : Type 0} → (I → I → Type 0) → (I → Type 0) → List I → Type 0
+abbrev pub IsBest : {I : Type 0} → (I → I → Type 0) → (I → Type 0) → List I → Type 0  -- the rest begins with a best one of P, and is empty where there is none
 IsBest {I} IsNoWorse P [] = (i : I) → P i → ⊥
 IsBest {I} IsNoWorse P (i ∷ rest) = P i × ((other : I) → P other → IsNoWorse i other)
 
@@ -103,24 +96,21 @@ pub data Follows {I : Type 0} (parents : I → List I) (time : I → ℤ) (tips 
   all : {by : List ℕ} → Follows parents time tips by [] parents tips
   first : Follows parents time tips (codes "breadth") (codes "--first-parent" ∷ []) (λ i. take 1 (parents i)) tips
   since : {by number : List ℕ} (n : ℕ) → Contains (codes "newest" ∷ codes "oldest" ∷ []) by → IsNumber 10 10 number n
-      → Follows parents time tips by (codes "--since" ∷ number ∷ []) (λ i. filter (λ p. int_le (pos n) (time p)) (parents i))
-      (filter (λ i. int_le (pos n) (time i)) tips)
+      → Follows parents time tips by (codes "--since" ∷ number ∷ []) (λ i. filter (λ p. not (int_lt (time p) (pos n))) (parents i))
+      (filter (λ i. not (int_lt (time i) (pos n))) tips)
 
 -- what the starts reach through what is followed, and what is hidden doesn't reach through parents
 module _ {I : Type 0} (parents followed : I → List I) (time : I → ℤ) (starts hidden : List I) where
   abbrev pub IsShown : I → Type 0
   IsShown i = Reaches followed starts i × (Reaches parents hidden i → ⊥)
 
-  -- a start or what a commit taken has followed, and not taken itself
-  abbrev pub IsPending : List I → I → Type 0
+  abbrev pub IsPending : List I → I → Type 0  -- a start or what a commit taken has followed, and not taken itself
   IsPending taken i = Contains (starts ++ flat_map followed taken) i × (Contains taken i → ⊥) × (Reaches parents hidden i → ⊥)
 
-  -- not taken, though all of its children are
-  abbrev pub IsReady : List I → I → Type 0
+  abbrev pub IsReady : List I → I → Type 0  -- not taken, though all of its children are
   IsReady taken i = IsShown i × (Contains taken i → ⊥) × ((child : I) → IsShown child → Contains (followed child) i → Contains taken child)
 
-  -- by rising time, and of one time in the order given
-  abbrev pub by_time : List I → List I
+  abbrev pub by_time : List I → List I  -- by rising time, and of one time in the order given
   by_time [] = []
   by_time (i ∷ ids) = filter (λ j. not (int_le (time i) (time j))) (by_time ids) ++ i ∷ filter (λ j. int_le (time i) (time j)) (by_time ids)
 
