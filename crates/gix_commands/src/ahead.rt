@@ -52,15 +52,8 @@ fn count(
 {
     let tips = alone(alloc, tip)?;
     let hidden = alone(alloc, hidden)?;
-    let walk = walk_from(
-        alloc,
-        Parents::All,
-        Sorting::BreadthFirst,
-        tips,
-        hidden,
-        store,
-        graph,
-    )?;
+    let order = Sorting::BreadthFirst;
+    let walk = walk_from(alloc, Parents::All, order, tips, hidden, store, graph)?;
     number_of_commits(walk)
 }
 
