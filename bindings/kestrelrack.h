@@ -49,7 +49,8 @@ struct kestrelrack_answer {
 
 /* Runs a command over records, and puts the lines that it writes at the front of the room.
  *
- * words    The command and its ids: "breadth", "newest", "oldest", "topo" or "date", maybe "-n" and a number of 1 to 9 digits, and ids of
+ * words    The command and its ids: "breadth", "newest", "oldest", "topo" or "date", maybe "--first-parent" behind "breadth", or
+ *          "--since" and a number of 1 to 10 digits behind "newest" or "oldest", maybe "-n" and a number of 1 to 9 digits, and ids of
  *          tips, one at least, and ids of commits to be hidden, each after a ^; "ahead" and two ids; "contains" and two ids at least;
  *          "files" and the id of a tree. One space or one newline is between two words, and none at either end. An id is 40 or 64 hex
  *          digits. After "-n" and a number no more lines are written than the number says.

@@ -77,8 +77,14 @@ fn goes_to_first_parents_alone(rt: HostRuntime) -> Result<(), Fail> {
         ],
         &[
             (&["breadth", "--first-parent", "#8"], "#8\n#6\n#5\n#3\n#1\n"),
-            (&["breadth", "--first-parent", "#7", "#8"], "#7\n#8\n#4\n#6\n#2\n#5\n#1\n#3\n"),
-            (&["breadth", "--first-parent", "#8", "^#7"], "#8\n#6\n#5\n#3\n"),
+            (
+                &["breadth", "--first-parent", "#7", "#8"],
+                "#7\n#8\n#4\n#6\n#2\n#5\n#1\n#3\n",
+            ),
+            (
+                &["breadth", "--first-parent", "#8", "^#7"],
+                "#8\n#6\n#5\n#3\n",
+            ),
             (&["breadth", "--first-parent", "#7", "^#8"], ""),
             (&["breadth", "--first-parent", "-n", "2", "#8"], "#8\n#6\n"),
             // no second parent is read, unless something is hidden

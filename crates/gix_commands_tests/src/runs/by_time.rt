@@ -24,7 +24,10 @@ fn leaves_out_what_is_older(rt: HostRuntime) -> Result<(), Fail> {
         &[
             (&["newest", "--since", "4", "#8"], "#8\n#7\n#6\n#5\n#4\n"),
             (&["oldest", "--since", "4", "#8"], "#8\n#6\n#5\n#7\n#4\n"),
-            (&["newest", "--since", "0000000004", "-n", "2", "#8"], "#8\n#7\n"),
+            (
+                &["newest", "--since", "0000000004", "-n", "2", "#8"],
+                "#8\n#7\n",
+            ),
             (&["newest", "--since", "4", "#8", "^#6"], "#8\n#7\n#4\n"),
             (&["newest", "--since", "4", "#3", "#5"], "#5\n"),
             (&["newest", "--since", "9", "#8", "^#7"], ""),

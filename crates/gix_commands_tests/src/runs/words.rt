@@ -38,8 +38,14 @@ fn judges_the_words_first(rt: HostRuntime) -> Result<(), Fail> {
             (&["files", "-n", "1", "#1"], "! usage"),
             (&["breadth", "--first-parent"], "! usage"),
             (&["breadth", "--first-parent", "zz"], "! bad id in word 3"),
-            (&["breadth", "--first-parent", "-n", "1", "#1", "zz"], "! bad id in word 6"),
-            (&["breadth", "-n", "1", "--first-parent", "#1"], "! bad id in word 4"),
+            (
+                &["breadth", "--first-parent", "-n", "1", "#1", "zz"],
+                "! bad id in word 6",
+            ),
+            (
+                &["breadth", "-n", "1", "--first-parent", "#1"],
+                "! bad id in word 4",
+            ),
             (&["breadth", "--since", "1", "#1"], "! usage"),
             (&["newest", "--first-parent", "#1"], "! usage"),
             (&["topo", "--first-parent", "#1"], "! usage"),
@@ -49,9 +55,18 @@ fn judges_the_words_first(rt: HostRuntime) -> Result<(), Fail> {
             (&["newest", "--since", "", "#1"], "! usage"),
             (&["newest", "--since", "-1", "#1"], "! usage"),
             (&["oldest", "--since", "10000000000", "#1"], "! usage"),
-            (&["oldest", "--since", "9999999999", "zz", "#1"], "! bad id in word 4"),
-            (&["oldest", "--since", "1", "-n", "1", "#1", "zz"], "! bad id in word 7"),
-            (&["newest", "--since", "1", "--since", "1", "#1"], "! bad id in word 4"),
+            (
+                &["oldest", "--since", "9999999999", "zz", "#1"],
+                "! bad id in word 4",
+            ),
+            (
+                &["oldest", "--since", "1", "-n", "1", "#1", "zz"],
+                "! bad id in word 7",
+            ),
+            (
+                &["newest", "--since", "1", "--since", "1", "#1"],
+                "! bad id in word 4",
+            ),
             (&["files", "--first-parent", "#1"], "! usage"),
         ],
     )
