@@ -143,6 +143,6 @@ id_lines [] = refl
 id_lines (i ∷ ids) = (λ k. encode_lower (same_bytes i k) ++ 10 ∷ [] ++ id_lines ids k)
 
 -- the lines of entries
-pub entry_lines : (visits : List Visit) → file_lines (map record_of visits) ≡ flat_map entry_line (map placed_by visits)
-entry_lines [] = refl
-entry_lines (v ∷ visits) = (λ k. six_octal_digits v.entry.mode ++ 32 ∷ (encode_lower (same_bytes v.entry.id k) ++ 32 ∷ (joined_behind v.place.names v.entry.name k ++ 10 ∷ [])) ++ entry_lines visits k)
+pub entry_lines : (ending : ℕ) (visits : List Visit) → file_lines ending (map record_of visits) ≡ flat_map (entry_line ending) (map placed_by visits)
+entry_lines ending [] = refl
+entry_lines ending (v ∷ visits) = (λ k. six_octal_digits v.entry.mode ++ 32 ∷ (encode_lower (same_bytes v.entry.id k) ++ 32 ∷ (joined_behind v.place.names v.entry.name k ++ ending ∷ [])) ++ entry_lines ending visits k)

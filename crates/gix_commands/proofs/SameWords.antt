@@ -1,5 +1,5 @@
 -- What words ask for is what the statement says that they ask for.
-use Rattle.std.specs.Prelude.{◌≡◌, ◌≢◌, ◌+◌, ◌==◌, ◌||◌, ◌&&◌, nat_lt, nat_le, length, ℕ, ℤ, pos, List, [], ◌∷◌, ◌++◌, Bool, true, false, cond, Option, Some, None, Result, Ok, Err, codes}
+use Rattle.std.specs.Prelude.{◌≡◌, ◌≢◌, ◌⊎◌, ◌+◌, ◌==◌, ◌||◌, ◌&&◌, nat_lt, nat_le, length, ℕ, ℤ, pos, List, [], ◌∷◌, ◌++◌, Bool, true, false, cond, Option, Some, None, Result, Ok, Err, codes}
 use Rattle.std.specs.List.{list_all}
 use Rattle.std.specs.Str.{bytes_eq}
 use Rattle.std.proofs.Common.{refl, sym, ap, subst, ◌∙◌, inl, inr}
@@ -17,7 +17,7 @@ use Rattle.gix_commands.specs.declared.fault.Fault.{Fault}
 use Rattle.gix_commands.specs.declared.fault.Fault.TheVariants as fault
 use Rattle.gix_commands.specs.declared.words.Order.{Order}
 use Rattle.gix_commands.specs.declared.words.Order.TheVariants.{Simple, Topo}
-use Rattle.gix_commands.specs.Words.{Request, Commits, Files, Ahead, Contained, Ids, begins_with_caret, without_caret, is_shown, with_id, with_word, ids_from, number_in, order_named, commits_from, commits_of, limited_of, listed_of, chosen_of, recent_of, since_of, by_first_parents, by_cutoff, in_order_of, files_from, files_of, ahead_from, ahead_of, contained_among, contained_from, contained_of, request_named, request_of}
+use Rattle.gix_commands.specs.Words.{Request, Commits, Files, Ahead, Contained, Ids, begins_with_caret, without_caret, is_shown, with_id, with_word, ids_from, number_in, order_named, commits_from, commits_of, limited_of, listed_of, chosen_of, recent_of, since_of, by_first_parents, by_cutoff, in_order_of, file_of, files_from, files_of, ahead_from, ahead_of, contained_among, contained_from, contained_of, request_named, request_of}
 use Rattle.gix_commands.specs.WholeStatement.{IsNumber, Spells, AreTips, digits_in}
 use Rattle.gix_commands.proofs.SameNumbers.{decimal_digits, hex_spelled}
 
@@ -144,13 +144,18 @@ is_number most text n e = go (nat_lt 0 (length text)) (nat_le (length text) most
     go true false some few e = cc
     go false t some few e = cc
 
+-- the option that chooses the byte behind an entry
+abbrev pub IsEndedBy : List (List ℕ) → ℕ → Type 0
+IsEndedBy option ending = ((option ≡ []) × (ending ≡ 10)) ⊎ ((option ≡ codes "-z" ∷ []) × (ending ≡ 0))
+
 -- what the words of a request are
 abbrev pub AreWordsOf : List (List ℕ) → Result Request Fault → Type 0
 AreWordsOf words (Err e) = Unit {0}
 AreWordsOf words (Ok (Commits by limit tips hidden)) =
     (name : List ℕ) × (option rest ids : List (List ℕ)) × (words ≡ name ∷ (option ++ rest)) × IsNameOf name by × IsOptionOf option by
     × AreBehind limit rest ids × AreTips ids tips hidden × (tips ≢ [])
-AreWordsOf words (Ok (Files tree)) = (text : List ℕ) × (words ≡ codes "files" ∷ text ∷ []) × Spells (digits_in tree) text tree
+AreWordsOf words (Ok (Files ending tree)) =
+    (option : List (List ℕ)) × (text : List ℕ) × IsEndedBy option ending × (words ≡ codes "files" ∷ (option ++ text ∷ [])) × Spells (digits_in tree) text tree
 AreWordsOf words (Ok (Ahead one other)) = (a b : List ℕ) × (words ≡ codes "ahead" ∷ a ∷ b ∷ []) × Spells (digits_in one) a one × Spells (digits_in other) b other
 AreWordsOf words (Ok (Contained tip ids)) = (rest : List (List ℕ)) × (words ≡ codes "contains" ∷ rest) × AreTips rest (tip ∷ ids) [] × (ids ≢ [])
 
@@ -210,18 +215,26 @@ in_order_are name by (option ∷ words) named plain = first (bytes_eq option (co
         (chosen_are name (codes "--first-parent" ∷ []) (by_first_parents by) 3 words (first_chosen name by named))
     first false e = second (bytes_eq option (codes "--since")) refl
 
-files_are : (rest : List (List ℕ)) → AreWordsOf (codes "files" ∷ rest) (files_of rest)
-files_are [] = tt
-files_are (text ∷ next ∷ rest) = tt
-files_are (text ∷ []) = go (begins_with_caret text)
+file_is : (option : List (List ℕ)) (ending n : ℕ) (text : List ℕ) → IsEndedBy option ending → AreWordsOf (codes "files" ∷ (option ++ text ∷ [])) (file_of ending n text)
+file_is option ending n text ends = go (begins_with_caret text)
   where
-    from : (r : Result ObjectId HexError) → id_from_hex text ≡ r → AreWordsOf (codes "files" ∷ text ∷ []) (files_from r)
-    from (Ok i) e = (text, refl, hex_spelled text i e)
+    from : (r : Result ObjectId HexError) → id_from_hex text ≡ r → AreWordsOf (codes "files" ∷ (option ++ text ∷ [])) (files_from ending n r)
+    from (Ok i) e = (option, text, ends, refl, hex_spelled text i e)
     from (Err why) e = tt
 
-    go : (t : Bool) → AreWordsOf (codes "files" ∷ text ∷ []) (cond t (Err fault.Usage) (files_from (id_from_hex text)))
+    go : (t : Bool) → AreWordsOf (codes "files" ∷ (option ++ text ∷ [])) (cond t (Err fault.Usage) (files_from ending n (id_from_hex text)))
     go true = tt
     go false = from (id_from_hex text) refl
+
+files_are : (rest : List (List ℕ)) → AreWordsOf (codes "files" ∷ rest) (files_of rest)
+files_are [] = tt
+files_are (text ∷ []) = file_is [] 10 2 text (inl (refl, refl))
+files_are (option ∷ text ∷ []) = go (bytes_eq option (codes "-z")) refl
+  where
+    go : (t : Bool) → bytes_eq option (codes "-z") ≡ t → AreWordsOf (codes "files" ∷ option ∷ text ∷ []) (cond t (file_of 0 3 text) (Err fault.Usage))
+    go true e = file_is (option ∷ []) 0 3 text (inr (ap (λ w. w ∷ []) ((bytes_eq-Decides option (codes "-z")).0 e), refl))
+    go false e = tt
+files_are (option ∷ text ∷ next ∷ rest) = tt
 
 ahead_are : (rest : List (List ℕ)) → AreWordsOf (codes "ahead" ∷ rest) (ahead_of rest)
 ahead_are [] = tt

@@ -55,7 +55,7 @@ late_time : IsTime (codes "A <a@b> 9223372036854775808 +0000") (pos 0)
 late_time = is_time (codes "A <a@b> 9223372036854775808 +0000")
 
 -- an entry in a tree in the tree
-line_of_entry : entry_line (codes "d/", record { mode = 0o644; name = codes "x"; id = id_of 0xab }) ≡ codes "000644 abababababababababababababababababababab d/x\n"
+line_of_entry : entry_line 10 (codes "d/", record { mode = 0o644; name = codes "x"; id = id_of 0xab }) ≡ codes "000644 abababababababababababababababababababab d/x\n"
 unfolding digits hex_on_literals
 line_of_entry = refl
 

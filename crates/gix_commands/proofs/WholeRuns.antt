@@ -57,10 +57,10 @@ module _ (words : List (List ℕ)) (input : List ℕ) (rs : List Record) (old ne
   abbrev ServesSo : List (List ℕ) → Type 0
   ServesSo = page.Serves all parents time old new
 
-  tree_written : (tree : ObjectId) → Serves (stored rs) [] old (Files tree) (Ok tt) new
-      → (entries : List Entry) × (placed : List (List ℕ × Entry)) × IsTree all tree entries × Unfolds all [] entries placed × (All IsNamed placed → Appends old new (flat_map entry_line placed))
-  tree_written tree (listed recorder walk written) =
-      let u = unfolds (stored rs) tree recorder walk in
+  tree_written : (ending : ℕ) (tree : ObjectId) → Serves (stored rs) [] old (Files ending tree) (Ok tt) new
+      → (entries : List Entry) × (placed : List (List ℕ × Entry)) × IsTree all tree entries × Unfolds all [] entries placed × (All IsNamed placed → Appends old new (flat_map (entry_line ending) placed))
+  tree_written ending tree (listed recorder walk written) =
+      let u = unfolds (stored rs) ending tree recorder walk in
       let order = depth_is_in_order (stored rs) (never_faulty (stored rs)) Tracks tree fresh_recorder recorder (Ok tt) walk (depth_ok walk.end walk.answered) in
       let end : walk.end ≡ Whole = whole_end walk.end (depth_ok walk.end walk.answered) (unbroken (entries_at (trees_of (stored rs))) order u.all) in
       let t = unfolds_walk rs (LookUpFails (stored rs) (never_faulty (stored rs))) (subst (IsDepthScript (trees_of (stored rs)) (LookUpFails (stored rs) (never_faulty (stored rs))) tree walk.calls walk.visits) end walk.script) u.all in (
@@ -68,7 +68,7 @@ module _ (words : List (List ℕ)) (input : List ℕ) (rs : List Record) (old ne
         map placed_by walk.visits,
         t.1,
         t.2,
-        λ names. subst (Appends old new) (ap file_lines (depth_is_recorded (stored rs) (never_faulty (stored rs)) tree recorder (Ok tt) walk (λ e. cc) (have_names walk.visits names)) ∙ entry_lines walk.visits) written,
+        λ names. subst (Appends old new) (ap (file_lines ending) (depth_is_recorded (stored rs) (never_faulty (stored rs)) tree recorder (Ok tt) walk (λ e. cc) (have_names walk.visits names)) ∙ entry_lines ending walk.visits) written,
       )
 
   serves : (request : Request) → request_of words ≡ Ok request → AreWordsOf words (Ok request) → ServesSo words
@@ -92,9 +92,9 @@ module _ (words : List (List ℕ)) (input : List ℕ) (rs : List Record) (old ne
       let l = topo_begins words input rs by n tips ends old new asked are runs in
       subst ServesSo (sym (is ∙ (λ k. name ∷ (chosen k ++ same k))))
       (page.commits [] (codes "-n" ∷ number ∷ []) those ids some page.all (inr (number, n, limits, refl, refl)) (listed_down (stored rs) parents name by named tips ends l.0 l.1.read) (subst (Appends old new) (id_lines (take n l.0)) l.2))
-  serves (Files tree) asked (text, is, spells) =
-      let t = tree_written tree (served_so words input rs (Files tree) old new asked are runs) in
-      subst ServesSo (sym is) (page.files spells t.2 t.3 t.4)
+  serves (Files ending tree) asked (option, text, ends, is, spells) =
+      let t = tree_written ending tree (served_so words input rs (Files ending tree) old new asked are runs) in
+      subst ServesSo (sym is) (page.files option text ends spells t.2 t.3 t.4)
   serves (Ahead one other) asked (a, b, is, spells, spells_other) =
       let n = ahead_counts words input rs one other old new asked are runs in
       let both : List ObjectId = one ∷ other ∷ [] in

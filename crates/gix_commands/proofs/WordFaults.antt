@@ -9,7 +9,7 @@ use Rattle.gix_hash.specs.Id.{id_from_hex}
 use Rattle.gix_commands.specs.declared.fault.Fault.{Fault}
 use Rattle.gix_commands.specs.declared.fault.Fault.TheVariants as fault
 use Rattle.gix_commands.specs.declared.words.Order.{Order}
-use Rattle.gix_commands.specs.Words.{Request, Files, Ahead, Contained, Ids, begins_with_caret, without_caret, is_shown, with_id, with_word, ids_from, number_in, order_named, commits_from, commits_of, limited_of, listed_of, chosen_of, recent_of, since_of, by_first_parents, by_cutoff, in_order_of, files_from, files_of, ahead_from, ahead_of, contained_among, contained_from, contained_of, request_named, request_of}
+use Rattle.gix_commands.specs.Words.{Request, Files, Ahead, Contained, Ids, begins_with_caret, without_caret, is_shown, with_id, with_word, ids_from, number_in, order_named, commits_from, commits_of, limited_of, listed_of, chosen_of, recent_of, since_of, by_first_parents, by_cutoff, in_order_of, file_of, files_from, files_of, ahead_from, ahead_of, contained_among, contained_from, contained_of, request_named, request_of}
 
 -- what is so of ids, and of a word that spells none, is so of what words spell
 with_each : (Q : Result Ids Fault → Type 0) (ids_so : (ids : Ids) → Q (Ok ids)) (no_id : (n : ℕ) → Q (Err (fault.Id n))) (hidden : Bool) (n : ℕ) (r : Result ObjectId HexError) (rest : Result Ids Fault) → Q rest → Q (with_word hidden n r rest)
@@ -23,19 +23,23 @@ each_ids Q ids_so no_id n (word ∷ words) =
     with_each Q ids_so no_id (begins_with_caret word) n (id_from_hex (without_caret word)) (ids_from (n + 1) words) (each_ids Q ids_so no_id (n + 1) words)
 
 -- what is so of a wrong use, of a word that spells no id, of a tree, of two commits to compare, of a tip and ids behind it and of what an order's words ask for
-module _ (P : Result Request Fault → Type 0) (usage : P (Err fault.Usage)) (no_id : (n : ℕ) → P (Err (fault.Id n))) (tree : (i : ObjectId) → P (Ok (Files i))) (pair : (i j : ObjectId) → P (Ok (Ahead i j))) (some : (i : ObjectId) (ids : List ObjectId) → P (Ok (Contained i ids))) where
+module _ (P : Result Request Fault → Type 0) (usage : P (Err fault.Usage)) (no_id : (n : ℕ) → P (Err (fault.Id n))) (tree : (ending : ℕ) (i : ObjectId) → P (Ok (Files ending i))) (pair : (i j : ObjectId) → P (Ok (Ahead i j))) (some : (i : ObjectId) (ids : List ObjectId) → P (Ok (Contained i ids))) where
   either : (t : Bool) (a b : Result Request Fault) → P a → P b → P (cond t a b)
   either true a b h k = h
   either false a b h k = k
 
-  from_tree : (r : Result ObjectId HexError) → P (files_from r)
-  from_tree (Ok i) = tree i
-  from_tree (Err e) = no_id 2
+  from_id : (ending n : ℕ) (r : Result ObjectId HexError) → P (files_from ending n r)
+  from_id ending n (Ok i) = tree ending i
+  from_id ending n (Err e) = no_id n
+
+  from_tree : (ending n : ℕ) (id : List ℕ) → P (file_of ending n id)
+  from_tree ending n id = either (begins_with_caret id) (Err fault.Usage) (files_from ending n (id_from_hex id)) usage (from_id ending n (id_from_hex id))
 
   from_trees : (ids : List (List ℕ)) → P (files_of ids)
   from_trees [] = usage
-  from_trees (id ∷ []) = either (begins_with_caret id) (Err fault.Usage) (files_from (id_from_hex id)) usage (from_tree (id_from_hex id))
-  from_trees (id ∷ next ∷ ids) = usage
+  from_trees (id ∷ []) = from_tree 10 2 id
+  from_trees (option ∷ id ∷ []) = either (bytes_eq option (codes "-z")) (file_of 0 3 id) (Err fault.Usage) (from_tree 0 3 id) usage
+  from_trees (option ∷ id ∷ next ∷ ids) = usage
 
   from_pair : (one other : Result ObjectId HexError) → P (ahead_from one other)
   from_pair (Ok one) (Ok other) = pair one other
@@ -134,4 +138,4 @@ commits_words by limit (Ok ids) h = tt
 commits_words by limit (Err e) h = h
 
 pub request_words : (words : List (List ℕ)) → OfWords (request_of words)
-request_words = each_request OfWords tt (λ n. tt) (λ i. tt) (λ i j. tt) (λ i ids. tt) (λ by limit n ids. commits_words by limit (ids_from n ids) (ids_words n ids))
+request_words = each_request OfWords tt (λ n. tt) (λ ending i. tt) (λ i j. tt) (λ i ids. tt) (λ by limit n ids. commits_words by limit (ids_from n ids) (ids_words n ids))

@@ -48,11 +48,12 @@ pub data Serves (objects : Objects) (rows : List GraphRow) (old : Option (List �
       → Serves objects rows old (Commits (Topo by) limit tips ends) answer new
   not_built : {by : TopoSorting} {limit : Option ℕ} {tips ends : List ObjectId} (e : TopoError) → topo.IsBuiltFrom objects rows by tips ends (Err e)
       → Serves objects rows old (Commits (Topo by) limit tips ends) (Err (fault_of_topo_walk e)) old
-  listed : {tree : ObjectId} (recorder : Tracked) {new : Option (List ℕ)}
-      → RecordsTree objects tree recorder (Ok tt) → Appends old new (file_lines recorder.held.records) → Serves objects rows old (Files tree) (Ok tt) new
+  listed : {ending : ℕ} {tree : ObjectId} (recorder : Tracked) {new : Option (List ℕ)}
+      → RecordsTree objects tree recorder (Ok tt) → Appends old new (file_lines ending recorder.held.records)
+      → Serves objects rows old (Files ending tree) (Ok tt) new
   -- of a tree whose walk failed no line is written
-  not_listed : {tree : ObjectId} (recorder : Tracked) (e : TreeError) → RecordsTree objects tree recorder (Err e)
-      → Serves objects rows old (Files tree) (Err (fault_of_tree_walk e)) old
+  not_listed : {ending : ℕ} {tree : ObjectId} (recorder : Tracked) (e : TreeError) → RecordsTree objects tree recorder (Err e)
+      → Serves objects rows old (Files ending tree) (Err (fault_of_tree_walk e)) old
   counted : {one other : ObjectId} (ahead behind : ℕ) {new : Option (List ℕ)}
       → Counts objects rows one other ahead → Counts objects rows other one behind → Appends old new (ahead_line ahead behind)
       → Serves objects rows old (Ahead one other) (Ok tt) new

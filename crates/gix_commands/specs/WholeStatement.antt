@@ -120,8 +120,7 @@ module _ {I : Type 0} (parents followed : I → List I) (time : I → ℤ) (star
   AreMadeReady (c ∷ taken) ready = (old more : List I) × AreMadeReady taken old × (ready ≡ old ++ more)
       × Keeps (λ before i after. IsReady (c ∷ taken) i × (Contains after i → ⊥)) [] (followed c) more
 
-  -- what the rest begins with behind those taken, in the order of each name
-  pub data Comes (taken rest : List I) : List ℕ → Type 0 where
+  pub data Comes (taken rest : List I) : List ℕ → Type 0 where  -- what the rest begins with behind those taken, in the order of each name
     breadth : IsFirst (IsPending taken) (starts ++ flat_map followed taken) rest → Comes taken rest (codes "breadth")
     newest : IsBest (λ i other. time other ≤ℤ time i) (IsPending taken) rest → Comes taken rest (codes "newest")
     oldest : IsBest (λ i other. time i ≤ℤ time other) (IsPending taken) rest → Comes taken rest (codes "oldest")
@@ -161,9 +160,9 @@ pub data Unfolds (records : List Record) : List ℕ → List Entry → List (Lis
       → IsTree records e.id inner → Unfolds records (path ++ e.name ++ 47 ∷ []) inner inside → Unfolds records path entries placed
       → Unfolds records path (e ∷ entries) ((path, e) ∷ (inside ++ placed))
 
-abbrev pub entry_line : List ℕ × Entry → List ℕ
-entry_line (path, e) =
-    let mode = digits 8 false e.mode in replicate (6 - length mode) 48 ++ mode ++ 32 ∷ (encode_lower (bytes_in e.id) ++ 32 ∷ (path ++ e.name ++ 10 ∷ []))
+abbrev pub entry_line : (ending : ℕ) → List ℕ × Entry → List ℕ
+entry_line ending (path, e) =
+    let mode = digits 8 false e.mode in replicate (6 - length mode) 48 ++ mode ++ 32 ∷ (encode_lower (bytes_in e.id) ++ 32 ∷ (path ++ e.name ++ ending ∷ []))
 
 -- WORDS spell ids of tips, and behind a `^` ids that are to be hidden.
 abbrev pub AreTips : List (List ℕ) → List ObjectId → List ObjectId → Type 0
@@ -188,10 +187,11 @@ pub data Serves (records : List Record) (parents : ObjectId → List ObjectId) (
   contains : {words : List (List ℕ)} {tip : ObjectId} {ids those : List ObjectId} → AreTips words (tip ∷ ids) [] → ids ≢ []
       → Keeps (λ before i after. Reaches parents (tip ∷ []) i) [] ids those → Appends old new (flat_map (λ i. encode_lower (bytes_in i) ++ 10 ∷ []) those)
       → Serves records parents time old new (codes "contains" ∷ words)
-  -- entries, one a line, where no name is empty or has a slash
-  files : {a : List ℕ} {tree : ObjectId} {entries : List Entry} {placed : List (List ℕ × Entry)} → Spells (digits_in tree) a tree → IsTree records tree entries
-      → Unfolds records [] entries placed → (All (λ p. (p.1.name ≢ []) × All (λ b. b ≢ 47) p.1.name) placed → Appends old new (flat_map entry_line placed))
-      → Serves records parents time old new (codes "files" ∷ a ∷ [])
+  -- entries, one a line, where no name is empty or has a slash; behind `-z` a byte 0 ends each line
+  files : (option : List (List ℕ)) (a : List ℕ) {ending : ℕ} {tree : ObjectId} {entries : List Entry} {placed : List (List ℕ × Entry)}
+      → ((option ≡ []) × (ending ≡ 10)) ⊎ ((option ≡ codes "-z" ∷ []) × (ending ≡ 0)) → Spells (digits_in tree) a tree → IsTree records tree entries
+      → Unfolds records [] entries placed → (All (λ p. (p.1.name ≢ []) × All (λ b. b ≢ 47) p.1.name) placed
+      → Appends old new (flat_map (entry_line ending) placed)) → Serves records parents time old new (codes "files" ∷ (option ++ a ∷ []))
 
 -- THE STATEMENT: a run that ended well, over these words and a reader of this input, left a writer of the old bytes with the new ones.
 abbrev pub Promises : {E : Type 0} → (words : List (List ℕ)) → (has old : Option (List ℕ)) → Result (Unit {0}) E → (new : Option (List ℕ)) → Type 0

@@ -20,8 +20,8 @@ use Rattle.gix_commands.specs.declared.words.Order.TheVariants.{Simple, Topo}
 pub data Request : Type 0 where
   -- the commits that the tips reach and the hidden ones don't, in an order; with a limit the first of them, as many at most
   Commits : (order : Order) (limit : Option ℕ) (tips hidden : List ObjectId) → Request
-  -- the entries of the tree of this id, and of the trees in it
-  Files : (tree : ObjectId) → Request
+  -- the entries of the tree of this id, and of the trees in it, each with this byte behind it
+  Files : (ending : ℕ) (tree : ObjectId) → Request
   -- how many commits the one reaches and the other doesn't, and the other way round
   Ahead : (one other : ObjectId) → Request
   -- those of the ids that the tip reaches
@@ -29,7 +29,7 @@ pub data Request : Type 0 where
 
 abbrev pub request_of_command : Command → Request
 request_of_command (command.Commits order limit tips hidden) = Commits order limit tips.items hidden.items
-request_of_command (command.Files tree) = Files tree
+request_of_command (command.Files ending tree) = Files ending tree
 request_of_command (command.Ahead one other) = Ahead one other
 request_of_command (command.Contained tip ids) = Contained tip ids.items
 
@@ -108,9 +108,9 @@ abbrev pub commits_from : Order → Option ℕ → Result Ids Fault → Result R
 commits_from by limit (Ok ids) = Ok (Commits by limit ids.0 ids.1)
 commits_from by limit (Err e) = Err e
 
-abbrev pub files_from : Result ObjectId HexError → Result Request Fault
-files_from (Ok tree) = Ok (Files tree)
-files_from (Err e) = Err (fault.Id 2)
+abbrev pub files_from : (ending n : ℕ) → Result ObjectId HexError → Result Request Fault
+files_from ending n (Ok tree) = Ok (Files ending tree)
+files_from ending n (Err e) = Err (fault.Id n)
 
 -- one tip at least: this is judged of all words before any is judged as an id, the first of them word n
 abbrev pub commits_of : Order → Option ℕ → ℕ → List (List ℕ) → Result Request Fault
@@ -150,11 +150,16 @@ in_order_of by (option ∷ words) =
     else if bytes_eq option (codes "--since") then since_of by words
     else listed_of by 2 (option ∷ words)
 
--- one id
+-- one id, which is word n
+abbrev pub file_of : (ending n : ℕ) → List ℕ → Result Request Fault
+file_of ending n id = if begins_with_caret id then Err fault.Usage else files_from ending n (id_from_hex id)
+
+-- one id, and maybe `-z` before it
 abbrev pub files_of : List (List ℕ) → Result Request Fault
 files_of [] = Err fault.Usage
-files_of (id ∷ []) = if begins_with_caret id then Err fault.Usage else files_from (id_from_hex id)
-files_of (id ∷ next ∷ ids) = Err fault.Usage
+files_of (id ∷ []) = file_of 10 2 id
+files_of (option ∷ id ∷ []) = if bytes_eq option (codes "-z") then file_of 0 3 id else Err fault.Usage
+files_of (option ∷ id ∷ next ∷ ids) = Err fault.Usage
 
 abbrev pub ahead_from : Result ObjectId HexError → Result ObjectId HexError → Result Request Fault
 ahead_from (Ok one) (Ok other) = Ok (Ahead one other)

@@ -1,7 +1,7 @@
 //! The words of a command.
 ghost use Rattle.std.specs.Prelude.{◌≡◌, ◌≤◌, IfSome, map, string_bytes};
 ghost use Rattle.std.specs.List.{list_all};
-ghost use Rattle.gix_commands.specs.Words.{Gives, Tells, AddsId, begins_with_caret, number_in, request_of_command, request_of, order_named, by_first_parents, by_cutoff, ids_from, commits_of, listed_of, since_of, in_order_of, files_of, ahead_of, is_shown, contained_among, contained_of};
+ghost use Rattle.gix_commands.specs.Words.{Gives, Tells, AddsId, begins_with_caret, number_in, request_of_command, request_of, order_named, by_first_parents, by_cutoff, ids_from, commits_of, listed_of, since_of, in_order_of, file_of, files_of, ahead_of, is_shown, contained_among, contained_of};
 
 use crate::fault::Fault;
 use gix_parts::hash::ObjectId;
@@ -28,8 +28,11 @@ pub enum Command {
         tips: Vec<ObjectId>,
         hidden: Vec<ObjectId>,
     },
-    /// The entries of the tree of this id, and of the trees in it.
-    Files(ObjectId),
+    /// The entries of the tree of this id, and of the trees in it, each with a byte behind it.
+    Files {
+        ending: u8,
+        tree: ObjectId,
+    },
     /// How many commits the one reaches and the other doesn't, and how many the other reaches and the one doesn't.
     Ahead {
         one: ObjectId,
@@ -239,19 +242,27 @@ fn commits(
     })
 }
 
-// The tree of this id, which must be alone.
+// The tree of this id, which must be alone behind `-z`, or without it.
 fn files(ids: &[String]) -> Result<Command, Fault>
     ensures { Tells request_of_command result (files_of (map string_bytes ids.now)) }
 {
-    let [tree] = ids else {
-        return Err(Fault::Usage);
-    };
+    match ids {
+        [tree] => file(b'\n', tree, 2),
+        [option, tree] if option.as_str() == "-z" => file(0, tree, 3),
+        _ => Err(Fault::Usage),
+    }
+}
+
+// The tree of this id, which is the word of this number.
+fn file(ending: u8, tree: &String, number: usize) -> Result<Command, Fault>
+    ensures { Tells request_of_command result (file_of ending number (string_bytes tree.now)) }
+{
     if begins_with_caret(tree) {
         return Err(Fault::Usage);
     }
     match ObjectId::from_hex(tree.as_bytes()) {
-        Ok(tree) => Ok(Command::Files(tree)),
-        Err(_) => Err(Fault::Id(2)),
+        Ok(tree) => Ok(Command::Files { ending, tree }),
+        Err(_) => Err(Fault::Id(number)),
     }
 }
 
