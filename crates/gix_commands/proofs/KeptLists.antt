@@ -1,8 +1,7 @@
 -- Lists in order of what starts reach through what is followed, and hidden tips don't reach.
-use Rattle.std.specs.Prelude.{◌≡◌, ◌≢◌, ℕ, zero, suc, ℤ, List, [], ◌∷◌, ◌++◌, filter, map, Bool, true, false, not, cond, ◌&&◌, ◌||◌, Option, None, Some, Contains}
-use Rattle.std.proofs.Common.{refl, sym, ap, subst, ◌∙◌, arith}
-use Rattle.std.proofs.Math.Path.{transport}
-use Rattle.std.proofs.lemmas.Bool.{false≢true, true≢false, not-true, not_from_false, false_from_ne_true, cond-true, cond-false}
+use Rattle.std.specs.Prelude.{◌≡◌, ◌≢◌, ℕ, zero, suc, ℤ, List, [], ◌∷◌, take, slice_get, filter, Bool, true, false, not, cond, ◌&&◌, ◌||◌, Option, None, Some, MatchOption, Contains}
+use Rattle.std.proofs.Common.{refl, sym, ap, ◌∙◌}
+use Rattle.std.proofs.lemmas.Bool.{true≢false, not-true, not_from_false, false_from_ne_true, cond-true, cond-false}
 use Rattle.gix_hash.specs.declared.ObjectId.{ObjectId}
 use Rattle.gix_hash.specs.Id.{is_same}
 use Rattle.gix_hash.specs.Reach.{Reaches, Tells, start, step}
@@ -14,7 +13,9 @@ use Rattle.gix_revwalk.specs.declared.Parents.{Parents}
 use Rattle.gix_revwalk.specs.declared.Parents.TheVariants as mode
 use Rattle.gix_revwalk.specs.declared.Pending.{Pending}
 use Rattle.gix_revwalk.specs.Commits.{by_mode, time_of}
+use Rattle.gix_revwalk.specs.BreadthOrder.{first_new, named_by}
 use Rattle.gix_revwalk.specs.Ids.{ids_of, new_ids}
+use Rattle.gix_revwalk.specs.TimeOrder.{IsBest, IsPending}
 use Rattle.gix_revwalk.proofs.ReadsWhole.{walked_within}
 use Rattle.gix_simple.specs.declared.Sorting.{Sorting}
 use Rattle.gix_simple.specs.Building.{recent, timed}
@@ -100,11 +101,18 @@ cut_all mode.All by e = e
 cut_all mode.First by e = refl
 
 -- a list of nothing
+none_first : (next : ObjectId → List ObjectId) (k : ℕ) → ◌≡◌ {A = Option ObjectId} (slice_get [] k) (first_new (named_by next [] (take k [])) (take k []))
+none_first next zero = refl
+none_first next (suc k) = refl
+
+none_best : (order : CommitTimeOrder) (time : ObjectId → ℤ) (next : ObjectId → List ObjectId) (k : ℕ)
+    → MatchOption (slice_get [] k) ((i : ObjectId) → IsPending next [] (take k []) i → ⊥) (IsBest order time (IsPending next [] (take k [])))
+none_best order time next zero = λ i p. no_member i p.0
+none_best order time next (suc k) = λ i p. no_member i p.0
+
 pub empty_order : (o : Option CommitTimeOrder) (time : ObjectId → ℤ) (next : ObjectId → List ObjectId) → IsInOrder o time next [] []
-empty_order None time next zero b = refl
-empty_order None time next (suc k) b = absurd (omega (arith, b))
-empty_order (Some order) time next zero b = λ i p. no_member i p.0
-empty_order (Some order) time next (suc k) b = absurd (omega (arith, b))
+empty_order None time next = λ k b. none_first next k
+empty_order (Some order) time next = λ k b. none_best order time next k
 
 -- a list in order is one of what is reached, where it is decided what is hidden
 module _ (objects : Objects) (next follow : ObjectId → List ObjectId) (within : (c i : ObjectId) → Contains (follow c) i → Contains (next c) i) (from hidden : List ObjectId) (hides : ObjectId → Bool) (tells : Tells hides (Reaches next hidden)) where

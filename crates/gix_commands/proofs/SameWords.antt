@@ -136,7 +136,7 @@ abbrev pub AreBehind : Option ℕ → List (List ℕ) → List (List ℕ) → Ty
 AreBehind None words ids = words ≡ ids
 AreBehind (Some n) words ids = (number : List ℕ) × IsNumber 10 9 number n × (words ≡ codes "-n" ∷ number ∷ ids)
 
-is_number : (most : ℕ) (text : List ℕ) (n : ℕ) → number_in most text ≡ Some n → IsNumber 10 most text n
+pub is_number : (most : ℕ) (text : List ℕ) (n : ℕ) → number_in most text ≡ Some n → IsNumber 10 most text n
 is_number most text n e = go (nat_lt 0 (length text)) (nat_le (length text) most) refl refl e
   where
     go : (s t : Bool) → nat_lt 0 (length text) ≡ s → nat_le (length text) most ≡ t → cond (s && t) (digits_behind 0 text) None ≡ Some n → IsNumber 10 most text n
