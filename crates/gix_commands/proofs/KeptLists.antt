@@ -1,5 +1,5 @@
 -- Lists in order of what starts reach through what is followed, and hidden tips don't reach.
-use Rattle.std.specs.Prelude.{◌≡◌, ◌≢◌, ℕ, zero, suc, ℤ, List, [], ◌∷◌, take, slice_get, filter, Bool, true, false, not, cond, ◌&&◌, ◌||◌, Option, None, Some, MatchOption, Contains}
+use Rattle.std.specs.Prelude.{◌≡◌, ℕ, zero, suc, ℤ, List, [], ◌∷◌, take, slice_get, filter, Bool, true, false, not, cond, ◌&&◌, ◌||◌, Option, None, Some, MatchOption, Contains}
 use Rattle.std.proofs.Common.{refl, sym, ap, ◌∙◌}
 use Rattle.std.proofs.lemmas.Bool.{true≢false, not-true, not_from_false, false_from_ne_true, cond-true, cond-false}
 use Rattle.gix_hash.specs.declared.ObjectId.{ObjectId}

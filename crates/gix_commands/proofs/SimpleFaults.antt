@@ -33,7 +33,6 @@ use Rattle.gix_simple.specs.Building.{IsTipFault}
 use Rattle.gix_paint.specs.Painting.{IsFaultAt}
 use Rattle.gix_simple.specs.Walk.{Treated, Enqueues, dropped, enqueued, Treats, hidden, known, refused, accepted, store_fails, no_memory, no_memory_after, TreatsAll, none, more, stops, Concludes, given, broken, Takes, by_row, by_store, not_found, Chooses, first, best, Steps, ended, took, FirstStep, unhidden, paints, faulty_history, initial, later, unrowed}
 use Rattle.gix_revwalk.specs.Ids.{ids_of}
-use Rattle.gix_revwalk.specs.Texts.{scanned}
 use Rattle.gix_revwalk.proofs.Committer.{fault_unread}
 use Rattle.gix_revwalk.proofs.ReadsWhole.{scan_is, no_fault, row_parents, walked_within}
 use Rattle.gix_revwalk.proofs.Rows.{none_agree, kept_either}

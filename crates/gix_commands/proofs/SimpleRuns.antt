@@ -41,7 +41,7 @@ use Rattle.gix_commands.specs.Histories.{AreWhole, IsSimpleBy, followed, kept_ti
 use Rattle.gix_commands.specs.Walked.{Walk, Answers, IsSorted, StartsFrom, objects_of, never_faulty, accepts_all, given}
 use Rattle.gix_hash.proofs.Lists.{filter_within, filter_all}
 use Rattle.gix_revwalk.proofs.Reached.{reach_more}
-use Rattle.gix_commands.proofs.KeptLists.{empty_order, filter_both, followed_reaches, followed_within, kept, kept_ids, list_of, new_kept, starts_kept}
+use Rattle.gix_commands.proofs.KeptLists.{empty_order, filter_both, followed_within, kept, kept_ids, list_of, new_kept}
 use Rattle.gix_commands.proofs.SameOrders.{in_new, new_in}
 
 pub unrefused : (infos : List Info) → All IsNoRefusal (given infos)

@@ -91,7 +91,7 @@ pub data Keeps {I : Type 0} (P : (before : List I) → I → (after : List I) �
   kept : {i : I} {before after those : List I} → P before i after → Keeps P (i ∷ before) after those → Keeps P before (i ∷ after) (i ∷ those)
   passed : {i : I} {before after those : List I} → (P before i after → ⊥) → Keeps P (i ∷ before) after those → Keeps P before (i ∷ after) those
 
--- what is followed from where: parents from tips; of each the first alone; or those whose time isn't below a number, from such tips
+-- what an option has followed, and from where: all parents, from the tips; each first parent; or those of no time below a number, from such tips
 pub data Follows {I : Type 0} (parents : I → List I) (time : I → ℤ) (tips : List I) : List ℕ → List (List ℕ) → (I → List I) → List I → Type 0 where
   all : {by : List ℕ} → Follows parents time tips by [] parents tips
   first : Follows parents time tips (codes "breadth") (codes "--first-parent" ∷ []) (λ i. take 1 (parents i)) tips
@@ -99,12 +99,12 @@ pub data Follows {I : Type 0} (parents : I → List I) (time : I → ℤ) (tips 
       → Follows parents time tips by (codes "--since" ∷ number ∷ []) (λ i. filter (λ p. not (int_lt (time p) (pos n))) (parents i))
       (filter (λ i. not (int_lt (time i) (pos n))) tips)
 
--- what the starts reach through what is followed, and what is hidden doesn't reach through parents
+-- Shown is what the starts reach through what is followed, and no hidden id reaches through parents.
 module _ {I : Type 0} (parents followed : I → List I) (time : I → ℤ) (starts hidden : List I) where
   abbrev pub IsShown : I → Type 0
   IsShown i = Reaches followed starts i × (Reaches parents hidden i → ⊥)
 
-  abbrev pub IsPending : List I → I → Type 0  -- a start or what a commit taken has followed, and not taken itself
+  abbrev pub IsPending : List I → I → Type 0  -- a start, or followed from a commit taken, and not taken itself
   IsPending taken i = Contains (starts ++ flat_map followed taken) i × (Contains taken i → ⊥) × (Reaches parents hidden i → ⊥)
 
   abbrev pub IsReady : List I → I → Type 0  -- not taken, though all of its children are

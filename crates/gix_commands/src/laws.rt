@@ -8,15 +8,17 @@ ghost use Rattle.gix_commands.specs.Histories.{ToldAheadCounts, ToldSimpleBegins
 ghost use Rattle.gix_commands.specs.Listings.{FilesLists, FilesListsOfPart, FilesSucceeds};
 
 /// `breadth`, `newest` and `oldest` write the ids of exactly the commits that the tips reach and the hidden ones don't, each once, in
-/// their order. Nothing is asked of the records. Parents are those that the texts of commits name, and a commit whose text breaks off
-/// before its committer has the time 0; where all that is reached are whole commits, these are their parents. With a hidden tip they are:
-/// a run that ends well has read all that tips and hidden tips reach.
+/// their order. With `--first-parent` the tips reach by each first parent alone, and with `--since` by those that aren't older, from such
+/// tips; the hidden ones reach by all parents. Nothing is asked of the records. Parents are those that the texts of commits name, and a commit whose text breaks off
+/// before its committer has the time 0; where all that is reached are whole commits, these are their parents. With a hidden tip they are,
+/// unless a cutoff leaves no tip: a run that ends well has read all that tips and hidden tips reach.
 pub fn simple_lists()
     ensures { SimpleLists }
 {}
 
 /// Where the records are a part of a repository, such a list is right of the whole repository, whatever else is in it. Nothing
-/// more is asked, of the records or of the repository.
+/// more is asked, of the records or of the repository, but with `--since` that the records have all that tips and hidden tips reach: a
+/// parent that they haven't is taken for an old one.
 pub fn simple_lists_of_part()
     ensures { SimpleListsOfPart }
 {}

@@ -48,7 +48,9 @@ use words::{Command, Order, read_command};
 ///
 /// `breadth`, `newest` and `oldest` write the id of each commit that the tips reach and the hidden tips don't, one a line: in the order
 /// in which commits are met, or in one by time. `topo` and `date` do this in an order in which no commit comes before its children. With
-/// `-n` and a number behind the order's name, they write the first of these lines, as many at most, and read no further.
+/// `-n` and a number behind the order's name, they write the first of these lines, as many at most, and read no further. `breadth` with
+/// `--first-parent` behind it goes from each commit to its first parent alone, and `newest` and `oldest` with `--since` and a number leave
+/// out tips and parents whose committer's seconds are below it, and what they would meet by these alone.
 /// `files` writes the mode, the id and the path of each entry of the tree and of the trees in it, one a line. `ahead` writes how many
 /// commits the first id reaches and the second doesn't, a space, and how many the second reaches and the first doesn't. `contains` writes
 /// those of its further ids that the first reaches, in the order given, one a line.
