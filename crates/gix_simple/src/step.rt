@@ -31,6 +31,14 @@ pub(super) enum Stop {
     Memory,
 }
 
+impl From<AllocError> for Stop {
+    ghost from_gives = { λ e r. r ≡ stop.Memory };
+
+    fn from(_e: AllocError) -> Stop {
+        Stop::Memory
+    }
+}
+
 impl From<Stop> for Error {
     ghost use Rattle.gix_simple.specs.Errors.{error_of_stop};
 
@@ -193,24 +201,16 @@ impl<F: Find + Drop, P: Predicate + Drop> Simple<F, P> {
         ensures treats { Treats F.objects F.faulty P.answers self.old by_row id (how_ended result) self.new }
         ensures asks { P.can_accept self.new.predicate }
     {
-        let is_new = match self.meet(id) {
-            Ok(is_new) => is_new,
-            Err(_) => return Err(Stop::Memory),
-        };
+        let is_new = self.meet(id)?;
         if !is_new {
             return Ok(());
         }
         if !self.ask(&id) {
             return Ok(());
         }
-        let time = match self.parent_time(by_row, &id) {
-            Ok(time) => time,
-            Err(stop) => return Err(stop),
-        };
-        match self.enqueue(id, time) {
-            Ok(()) => Ok(()),
-            Err(_) => Err(Stop::Memory),
-        }
+        let time = self.parent_time(by_row, &id)?;
+        self.enqueue(id, time)?;
+        Ok(())
     }
 
     fn treat_all(&mut self, by_row: bool, mut ids: &[ObjectId]) -> Result<(), Stop>
@@ -219,10 +219,8 @@ impl<F: Find + Drop, P: Predicate + Drop> Simple<F, P> {
         ensures asks { P.can_accept self.new.predicate }
     {
         while let Some((id, rest)) = ids.split_first() {
-            match self.treat(by_row, *id) {
-                Ok(()) => ids = rest,
-                Err(stop) => return Err(stop),
-            }
+            self.treat(by_row, *id)?;
+            ids = rest;
         }
         Ok(())
     }
