@@ -134,14 +134,16 @@ opens (Err place.Overflow) read h = h
 opens (Err place.Head) read h = absurd h
 opens (Err place.Size) read h = absurd h
 
-pub opens-file : (file packed : List ℕ) (p : Parts) (result : Result (List GraphRow) GraphError) → read_parts file ≡ Ok p → IsWhole p → packed ≡ parts_packed p → result ≡ opened (read_packed packed)
-    → Opens result (read_file file)
-unfolding read_file
-opens-file file packed p result parts whole packed_is result_is =
+pub opens-parts : (packed : List ℕ) (p : Parts) (result : Result (List GraphRow) GraphError) → IsWhole p → packed ≡ parts_packed p → result ≡ opened (read_packed packed) → Opens result (rows_of p)
+opens-parts packed p result whole packed_is result_is =
     let here = opens (read_packed (parts_packed p)) (rows_of p) (says-parts p whole) in
     let opened_is : result ≡ opened (read_packed (parts_packed p)) = result_is ∙ ap (λ (x : List ℕ). opened (read_packed x)) packed_is in
-    let read_is : (read_parts file >>= rows_of) ≡ rows_of p = ap (λ (x : Result Parts Error). x >>= rows_of) parts in
-    subst (λ (x : Result (List GraphRow) GraphError). Opens x (read_parts file >>= rows_of)) (sym opened_is) (subst (Opens (opened (read_packed (parts_packed p)))) (sym read_is) here)
+    subst (λ (x : Result (List GraphRow) GraphError). Opens x (rows_of p)) (sym opened_is) here
+
+-- the file's rows are those that its parts say
+pub parts-rows : (file : List ℕ) (p : Parts) → read_parts file ≡ Ok p → read_file file ≡ rows_of p
+unfolding read_file
+parts-rows file p parts = ap (λ (x : Result Parts Error). x >>= rows_of) parts
 
 -- the first fault of the parts is the file's
 pub parts-fault : (file : List ℕ) (e : Error) → read_parts file ≡ Err e → read_file file ≡ Err e
