@@ -136,7 +136,7 @@ fn layout_of(bytes: &[u8]) -> Result<Layout, Place>
 fn is_above(kind: Kind, before: Option<&[u8]>, row: &[u8]) -> bool
     requires before { IfSome before (λ row. row_len kind ≤ length row.now) }
     requires whole { row_len kind ≤ length row.now }
-    ensures { result ≡ is_above (id_before kind before) (id_field kind row.now) }
+    ensures { result ≡ is_above (id_before kind before.entry) (id_field kind row.now) }
 {
     match before {
         None => true,
@@ -155,7 +155,7 @@ fn check_row<'a>(
     requires few { layout.words ≤ most }
     requires before { IfSome before (λ row. row_len layout.kind ≤ length row.now) }
     requires whole { row_len layout.kind ≤ length row.now }
-    ensures { (left : ℕ) → StepsOver (rows_left layout (left + 1) r (id_before layout.kind before) row.now (words_of words.now))
+    ensures { (left : ℕ) → StepsOver (rows_left layout (left + 1) r (id_before layout.kind before.entry) row.now (words_of words.now))
         (λ rest. rows_left layout left (r + 1) (Some (id_field layout.kind row.now)) (drop (row_len layout.kind) row.now) (words_of rest.now)) result }
 {
     if !is_above(layout.kind, before, row) {
