@@ -1,5 +1,5 @@
 -- A chain of one file is the file, where it says no layers below it; and a graph has the rows that it has.
-use Rattle.std.proofs.Common.{◌≡◌, ◌≢◌, ℕ, ◌+◌, Bool, true, false, cond, not, bytes_eq, List, [], ◌∷◌, length, map, get_or, Bor, Option, Some, None, Result, Ok, Err, refl, sym, ap, ◌∙◌, arith}
+use Rattle.std.proofs.Common.{◌≡◌, ◌≢◌, ℕ, ◌+◌, Bool, true, false, cond, not, eqb, bytes_eq, List, [], ◌∷◌, length, map, get_or, Bor, Option, Some, None, Result, Ok, Err, IfOk, IfErr, refl, sym, ap, ◌∙◌, arith}
 use Rattle.std.specs.List.{AllByRecursion}
 use Rattle.std.specs.Option.{option_map}
 use Rattle.std.proofs.lemmas.Map.Keys.{IsDistinct-from_sorted}
@@ -46,23 +46,38 @@ one-read : (file : List ℕ) (read : Result Parts Error) → read_layer 0 file �
 unfolding with_layer
 one-read file read parts = one-layer file ∙ ap (λ (x : Result Parts Error). layer_then 0 (x >>= with_parts nothing file) (λ (next : Lower). chain_from 1 next [])) parts
 
--- the file's parts say the chain's rows, or its fault
-pub one-rows : (file : List ℕ) (p : Parts) (found : Result (List GraphRow) Error) → read_layer 0 file ≡ Ok p → base_of file ≡ [] → rows_of p ≡ found → read_chain (file ∷ []) ≡ alone found
+one-rows : (file : List ℕ) (p : Parts) (found : Result (List GraphRow) Error) → read_layer 0 file ≡ Ok p → base_of file ≡ [] → rows_of p ≡ found → read_chain (file ∷ []) ≡ alone found
 one-rows file p found parts base rows =
     one-read file (Ok p) parts ∙ ap (λ (x : Result Lower Error). layer_then 0 x (λ (next : Lower). chain_from 1 next [])) (with-alone file p base) ∙ alone-then file p.kind (rows_of p) ∙ ap alone rows
+
+none-left : (base : List ℕ) → eqb (length base) 0 ≡ true → base ≡ []
+none-left [] none = refl
+none-left (byte ∷ base) none = absurd cc
+
+-- the file's parts say the chain's rows
+pub one-says : (file : List ℕ) (p : Parts) (result : Result (List GraphRow) Error) → read_layer 0 file ≡ Ok p → eqb (length (base_of file)) 0 ≡ true
+    → IfOk result (λ (rows : List GraphRow). AreGraphRows rows × (rows_of p ≡ Ok rows)) → IfOk result (λ (rows : List GraphRow). AreGraphRows rows × (read_chain (file ∷ []) ≡ Ok rows))
+one-says file p (Ok rows) parts none here = (here.0, one-rows file p (Ok rows) parts (none-left (base_of file) none) here.1)
+one-says file p (Err e) parts none here = tt
+
+-- the first fault of the rows is the chain's
+pub one-refuses : (file : List ℕ) (p : Parts) (result : Result (List GraphRow) Error) → read_layer 0 file ≡ Ok p → eqb (length (base_of file)) 0 ≡ true
+    → IfErr result (λ (e : Error). e ≢ error.Memory → rows_of p ≡ Err e) → IfErr result (λ (e : Error). e ≢ error.Memory → read_chain (file ∷ []) ≡ Err (chain.Layer 0 e))
+one-refuses file p (Ok rows) parts none here = tt
+one-refuses file p (Err e) parts none here = λ other. one-rows file p (Err e) parts (none-left (base_of file) none) (here other)
 
 -- the first fault of the parts is the chain's
 pub one-fault : (file : List ℕ) (e : Error) → read_layer 0 file ≡ Err e → read_chain (file ∷ []) ≡ Err (chain.Layer 0 e)
 one-fault file e parts = one-read file (Err e) parts
 
 -- the file says that there are layers below it
-pub one-based : (file : List ℕ) (p : Parts) → read_layer 0 file ≡ Ok p → base_of file ≢ [] → read_chain (file ∷ []) ≡ Err (chain.Layer 0 error.Base)
+pub one-based : (file : List ℕ) (p : Parts) → read_layer 0 file ≡ Ok p → eqb (length (base_of file)) 0 ≡ false → read_chain (file ∷ []) ≡ Err (chain.Layer 0 error.Base)
 one-based file p parts based =
     let none : with_parts nothing file p ≡ Err error.Base = by (base_of file) _ based in
     one-read file (Ok p) parts ∙ ap (λ (x : Result Lower Error). layer_then 0 x (λ (next : Lower). chain_from 1 next [])) none
   where
-    by : (base : List ℕ) (more : Result Lower Error) → base ≢ [] → cond (not (bytes_eq base [])) (Err error.Base) more ≡ Err error.Base
-    by [] more some = absurd (some refl)
+    by : (base : List ℕ) (more : Result Lower Error) → eqb (length base) 0 ≡ false → cond (not (bytes_eq base [])) (Err error.Base) more ≡ Err error.Base
+    by [] more some = absurd cc
     by (byte ∷ base) more some = refl
 
 -- ---- rows of a graph
@@ -79,7 +94,7 @@ accepted : (rows : List GraphRow) → AreGraphRows rows → IsAccepted rows
 accepted rows sound =
     ((sound.few, sound.few_words), kinds (kind_of_rows rows) (length rows) rows sound.each, IsDistinct-from_sorted id_cmp (ids_of_rows rows) sound.rising, places (kind_of_rows rows) (length rows) rows sound.each)
 
-own : ℕ → ℕ
+abbrev own : ℕ → ℕ
 own n = n
 
 own-places : (places : List ParentPlace) → places ≡ map (moved own) places
