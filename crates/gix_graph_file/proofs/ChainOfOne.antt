@@ -2,6 +2,7 @@
 use Rattle.std.proofs.Common.{◌≡◌, ◌≢◌, ℕ, ◌+◌, Bool, true, false, cond, not, eqb, bytes_eq, List, [], ◌∷◌, length, map, get_or, Bor, Option, Some, None, Result, Ok, Err, IfOk, IfErr, refl, sym, ap, ◌∙◌, arith}
 use Rattle.std.specs.List.{AllByRecursion}
 use Rattle.std.specs.Option.{option_map}
+use Rattle.std.proofs.lemmas.Bool.{eqb-true}
 use Rattle.std.proofs.lemmas.Map.Keys.{IsDistinct-from_sorted}
 use Rattle.gix_hash.specs.declared.Kind.{Kind}
 use Rattle.gix_hash.specs.Id.{id_cmp}
@@ -52,7 +53,7 @@ one-rows file p found parts base rows =
 
 none-left : (base : List ℕ) → eqb (length base) 0 ≡ true → base ≡ []
 none-left [] none = refl
-none-left (byte ∷ base) none = absurd cc
+none-left (byte ∷ base) none = absurd (omega (arith, eqb-true (length (byte ∷ base)) 0 none))
 
 -- the file's parts say the chain's rows
 pub one-says : (file : List ℕ) (p : Parts) (result : Result (List GraphRow) Error) → read_layer 0 file ≡ Ok p → eqb (length (base_of file)) 0 ≡ true
