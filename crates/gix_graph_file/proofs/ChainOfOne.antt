@@ -18,8 +18,8 @@ use Rattle.gix_graph_file.specs.declared.error.ChainError.{ChainError}
 use Rattle.gix_graph_file.specs.declared.error.ChainError.TheVariants as chain
 use Rattle.gix_graph_file.specs.FileTable.{◌>>=◌, Parts, read_layer}
 use Rattle.gix_graph_file.specs.FileRows.{rows_from, rows_of}
-use Rattle.gix_graph_file.specs.Chain.{Lower, base_of, with_rows, with_parts, with_layer, layer_then, chain_from, nothing, read_chain, HasChain, RefusesChain}
-use Rattle.gix_graph_file.specs.ChainSteps.{IsAtLayer, files_seen}
+use Rattle.gix_graph_file.specs.Chain.{Lower, base_of, with_rows, with_parts, with_layer, layer_then, chain_from, nothing, read_chain, HasChain}
+use Rattle.gix_graph_file.specs.ChainSteps.{files_seen}
 
 -- what a chain of one file says, by what its parts say
 abbrev pub alone : Result (List GraphRow) Error → Result (List GraphRow) ChainError
@@ -123,9 +123,3 @@ files-one (file ∷ other ∷ layers) d one = absurd (omega (arith, one))
 
 pub one-has : (layers : List (Bor (List ℕ))) (d : Bor (List ℕ)) (graph : List GraphRow) → length layers ≡ 1 → AreGraphRows graph → read_chain ((get_or layers 0 d).now ∷ []) ≡ Ok graph → HasChain (files_seen layers) graph
 one-has layers d graph one sound read = rw (files-one layers d one) (has-chain _ graph sound read)
-
-pub one-refused : (layers : List (Bor (List ℕ))) (d : Bor (List ℕ)) (e : Error) (found : ChainError) → length layers ≡ 1 → IsAtLayer 0 e found
-    → (e ≢ error.Memory → read_chain ((get_or layers 0 d).now ∷ []) ≡ Err (chain.Layer 0 e)) → RefusesChain (files_seen layers) found
-one-refused layers d e (chain.Layer n f) one here fault = rw (here.0, here.1, files-one layers d one) (fault here.2)
-one-refused layers d e (chain.Rows f) one here fault = absurd here
-one-refused layers d e chain.Memory one here fault = tt

@@ -3,7 +3,7 @@ use Rattle.std.proofs.lemmas.Result.{err_from_is_err_and}
 use Rattle.gix_commitgraph.specs.Renumbering.{rows_seen}
 use Rattle.gix_graph_file.specs.ChainSteps.{files_seen}
 use Rattle.gix_graph_file.proofs.ChainLayers.{refused}
-use Rattle.gix_graph_file.proofs.ChainOfOne.{one-has, one-refused}
+use Rattle.gix_graph_file.proofs.ChainOfOne.{one-has}
 use Rattle.gix_graph_file.proofs.ChainWithin.{rows-refused}
 use Rattle.gix_graph_file.proofs.chain.graph_of_chain.Goals as goal
 
