@@ -5,9 +5,6 @@ use Rattle.gix_hash.specs.declared.Kind.{Kind}
 use Rattle.gix_hash.specs.Id.{id_len}
 use Rattle.gix_graph_file.specs.PackedParts.{row_packed, rows_packed}
 
-pub three_appended : (o a b c p q r : List ℕ) → p ≡ o ++ a → q ≡ p ++ b → r ≡ q ++ c → r ≡ o ++ (a ++ (b ++ c))
-three_appended o a b c p q r p_is q_is r_is = rw (r_is, q_is, p_is) (simp append_assoc)
-
 pub rows_packed-more : (k : Kind) (n left : ℕ) (ids commits : List ℕ)
     → rows_packed k n (left + 1) ids commits ≡ row_packed n (take (id_len k) ids) (take (id_len k) commits) (take 16 (drop (id_len k) commits)) ++ rows_packed k n left (drop (id_len k) ids) (drop 16 (drop (id_len k) commits))
 unfolding rows_packed

@@ -42,14 +42,11 @@ second_packed n word = if nat_lt word flag then first_packed n word else word
 abbrev pub edge_packed : ℕ → ℕ → ℕ
 edge_packed n word = if nat_lt word flag then place_packed n word else flag + place_packed n (word - flag)
 
--- two words for the parents, the generation and the seconds, by the 16 bytes behind a tree's id
-abbrev pub numbers_packed : ℕ → List ℕ → List ℕ
-numbers_packed n numbers =
-    to_be_bytes w32 (first_packed n (word_at 0 numbers)) ++ (to_be_bytes w32 (second_packed n (word_at 4 numbers))
-    ++ (to_be_bytes w32 (long_at 8 numbers / 2 ^ 34) ++ to_be_bytes w64 (long_at 8 numbers % 2 ^ 34)))
-
 unfoldable pub row_packed : ℕ → List ℕ → List ℕ → List ℕ → List ℕ
-row_packed n id tree numbers = id ++ (tree ++ numbers_packed n numbers)
+row_packed n id tree numbers =
+    id ++ (tree ++ (to_be_bytes w32 (first_packed n (word_at 0 numbers))
+    ++ (to_be_bytes w32 (second_packed n (word_at 4 numbers))
+    ++ (to_be_bytes w32 (long_at 8 numbers / 2 ^ 34) ++ to_be_bytes w64 (long_at 8 numbers % 2 ^ 34)))))
 
 -- `left` rows of n
 unfoldable pub rows_packed : Kind → ℕ → ℕ → List ℕ → List ℕ → List ℕ

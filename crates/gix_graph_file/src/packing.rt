@@ -4,7 +4,7 @@ ghost use Rattle.std.specs.Int.{w32, to_be_bytes};
 ghost use Rattle.std.specs.List.{flat_map};
 ghost use Rattle.gix_hash.specs.Id.{id_len};
 ghost use Rattle.gix_commitgraph.specs.PackedReading.{words_of};
-ghost use Rattle.gix_graph_file.specs.PackedParts.{seen, IsWhole, place_packed, first_packed, second_packed, edge_packed, numbers_packed, row_packed, rows_packed, head_packed, parts_packed};
+ghost use Rattle.gix_graph_file.specs.PackedParts.{seen, IsWhole, place_packed, first_packed, second_packed, edge_packed, row_packed, rows_packed, head_packed, parts_packed};
 
 use crate::table::{Layout, long_at, word_at};
 use gix_hash::Kind;
@@ -64,24 +64,6 @@ fn push_word(out: &mut Vec<u8>, word: u32) -> Result<(), AllocError>
     out.extend_from_slice(&word.to_be_bytes())
 }
 
-/// The numbers of the row that 16 bytes behind a tree's id say: two words for the parents, the generation and the seconds.
-fn numbers_of(rows: u32, numbers: &[u8]) -> [u8; 20]
-    requires { 16 ≤ length numbers.now }
-    ensures { result ≡ numbers_packed rows numbers.now }
-{
-    let first = first_word(rows, word_at(numbers, 0)).to_be_bytes();
-    let second = second_word(rows, word_at(numbers, 4)).to_be_bytes();
-    let long = long_at(numbers, 8);
-    let generation = (long / GENERATION) as u32;
-    let seconds = long % GENERATION;
-    let g = generation.to_be_bytes();
-    let s = seconds.to_be_bytes();
-    [
-        first[0], first[1], first[2], first[3], second[0], second[1], second[2], second[3], g[0],
-        g[1], g[2], g[3], s[0], s[1], s[2], s[3], s[4], s[5], s[6], s[7],
-    ]
-}
-
 /// Writes the row that an id, a tree's id and 16 bytes behind that say.
 #[tactic(auto, unfolding(crate::specs::PackedParts::row_packed))]
 fn push_row(
@@ -94,9 +76,17 @@ fn push_row(
     requires { 16 ≤ length numbers.now }
     ensures { OnOk result (out.new.items ≡ out.old.items ++ row_packed rows id.now tree.now numbers.now) }
 {
+    let first = first_word(rows, word_at(numbers, 0));
+    let second = second_word(rows, word_at(numbers, 4));
+    let long = long_at(numbers, 8);
+    let generation = (long / GENERATION) as u32;
+    let seconds = long % GENERATION;
     out.extend_from_slice(id)?;
     out.extend_from_slice(tree)?;
-    out.extend_from_slice(&numbers_of(rows, numbers))?;
+    push_word(out, first)?;
+    push_word(out, second)?;
+    push_word(out, generation)?;
+    out.extend_from_slice(&seconds.to_be_bytes())?;
     Ok(())
 }
 
