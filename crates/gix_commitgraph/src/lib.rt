@@ -15,6 +15,7 @@ use check::Layout;
 pub use commit::Commit;
 use gix_hash::{Kind, ObjectId};
 pub use parents::Parents;
+use smallvec::SmallVec;
 use std::alloc::{AllocError, AllocFailed, Global};
 use std::cmp::Ordering;
 use std::marker::Model;
@@ -29,6 +30,9 @@ pub enum ParentPlace {
     Fault,
 }
 
+/// The parents of a row, in the commit's order. A list of at most two takes no memory.
+pub type ParentPlaces = SmallVec<ParentPlace, 2>;
+
 /// What a commit-graph says of a commit.
 #[derive(Debug, Drop)]
 pub struct Row {
@@ -37,7 +41,7 @@ pub struct Row {
     /// The id of the commit's tree.
     pub tree: ObjectId,
     /// The parents in the commit's order; `At` names a row by its place in the list of rows that are handed in.
-    pub parents: Vec<ParentPlace>,
+    pub parents: ParentPlaces,
     /// The generation. In a graph that agrees with a store it is greater than that of each parent, and less than 4294967295, which
     /// says that none is known.
     pub generation: u32,
@@ -133,14 +137,14 @@ pub const GENERATION_NUMBER_INFINITY: u32 = 0xFFFF_FFFF;
 ///         Row {
 ///             id: root,
 ///             tree,
-///             parents: Vec::new(alloc),
+///             parents: ParentPlaces::new(alloc),
 ///             generation: 1,
 ///             time: 100,
 ///         },
 ///         Row {
 ///             id: child,
 ///             tree,
-///             parents: vec![in alloc; ParentPlace::At(0)]?,
+///             parents: ParentPlaces::from_slice(alloc, &[ParentPlace::At(0)])?,
 ///             generation: 2,
 ///             time: 200,
 ///         },
