@@ -18,6 +18,7 @@ pub use parents::Parents;
 use smallvec::SmallVec;
 use std::alloc::{AllocError, AllocFailed, Global};
 use std::cmp::Ordering;
+use std::default::MadeWith;
 use std::marker::Model;
 use thiserror::Error;
 
@@ -28,6 +29,18 @@ pub enum ParentPlace {
     At(u32),
     /// No row: the graph is corrupt here.
     Fault,
+}
+
+/// The fault, which fills the unused places of a small vector.
+impl MadeWith<Global> for ParentPlace {
+    ghost use Rattle.std.specs.Prelude.{◌≡◌};
+    ghost use Rattle.gix_commitgraph.specs.declared.ParentPlace.TheVariants.{Fault};
+
+    ghost is_made_with = { λ place. place ≡ Fault };
+
+    fn made_with(_alloc: Global) -> ParentPlace {
+        ParentPlace::Fault
+    }
 }
 
 /// The parents of a row, in the commit's order. A list of at most two takes no memory.
