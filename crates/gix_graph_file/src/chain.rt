@@ -13,7 +13,7 @@ ghost use Rattle.gix_graph_file.specs.FileTable.{most_words};
 
 use crate::table::{Layout, base_of, hash_of, layout_of, long_at, word_at};
 use crate::{ChainError, Error, graph_of_parts};
-use gix_commitgraph::{Graph, GraphError, ParentPlace, Row};
+use gix_commitgraph::{Graph, GraphError, ParentPlace, ParentPlaces, Row};
 use gix_hash::{Kind, ObjectId};
 use std::alloc::{AllocError, Global};
 
@@ -48,7 +48,7 @@ fn place(limit: usize, word: u32) -> ParentPlace
 
 /// Reads parents up to the word that has the flag, and lends what is behind it.
 fn edge_list<'a>(
-    out: &mut Vec<ParentPlace>,
+    out: &mut ParentPlaces,
     limit: usize,
     edges: &'a [u8],
 ) -> Result<Option<&'a [u8]>, AllocError>
@@ -69,7 +69,7 @@ fn edge_list<'a>(
 
 /// Reads two parents or more.
 fn long_edge_list<'a>(
-    out: &mut Vec<ParentPlace>,
+    out: &mut ParentPlaces,
     limit: usize,
     edges: &'a [u8],
 ) -> Result<Option<&'a [u8]>, AllocError>
@@ -90,7 +90,7 @@ fn long_edge_list<'a>(
 
 /// Reads the second and later parents, where a list begins at the word `at`.
 fn second_parents<'a>(
-    out: &mut Vec<ParentPlace>,
+    out: &mut ParentPlaces,
     limit: usize,
     at: u32,
     second: u32,
@@ -115,7 +115,7 @@ fn second_parents<'a>(
 
 /// Reads the parents that two words say.
 fn parents<'a>(
-    out: &mut Vec<ParentPlace>,
+    out: &mut ParentPlaces,
     limit: usize,
     at: u32,
     first: u32,
@@ -189,7 +189,7 @@ fn row<'a>(
     if !is_above(before, id) {
         return Err(Error::Order(r));
     }
-    let mut places = Vec::new(alloc);
+    let mut places = ParentPlaces::new(alloc);
     let found = parents(
         &mut places,
         limit,
