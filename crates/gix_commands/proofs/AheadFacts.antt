@@ -7,6 +7,7 @@ use Rattle.gix_hash.specs.declared.ObjectId.{ObjectId}
 use Rattle.gix_object.specs.Object.{Objects}
 use Rattle.gix_commitgraph.specs.Rows.{GraphRow}
 use Rattle.gix_revwalk.specs.declared.Info.{Info}
+use Rattle.gix_revwalk.specs.declared.Parents.TheVariants as mode
 use Rattle.gix_simple.specs.declared.Sorting.TheVariants as sorting
 use Rattle.gix_commands.specs.declared.fault.Fault.{Fault}
 use Rattle.gix_commands.specs.declared.fault.Fault.TheVariants as fault
@@ -32,11 +33,11 @@ module _ {W E : Type 0} (Steps : W → Option (Result Info E) → W → Type 0) 
 pub one_more : (infos : List Info) (info : Info) (n m : ℕ) → n ≡ length infos → m ≡ n + 1 → m ≡ length (infos ++ info ∷ [])
 one_more infos info n m is more = more ∙ ap (λ k. k + 1) is ∙ sym (length-append infos (info ∷ []))
 
-pub starts_alone : (objects : Objects) (rows : List GraphRow) (tip hidden : ObjectId) (tips others : List ObjectId) (walk : Walk) → tips ≡ tip ∷ [] → others ≡ hidden ∷ [] → StartsFrom objects rows sorting.BreadthFirst tips others walk → StartsFrom objects rows sorting.BreadthFirst (tip ∷ []) (hidden ∷ []) walk
-starts_alone objects rows tip hidden tips others walk e f h = subst (λ (ids : List ObjectId). StartsFrom objects rows sorting.BreadthFirst (tip ∷ []) ids walk) f (subst (λ (ids : List ObjectId). StartsFrom objects rows sorting.BreadthFirst ids others walk) e h)
+pub starts_alone : (objects : Objects) (rows : List GraphRow) (tip hidden : ObjectId) (tips others : List ObjectId) (walk : Walk) → tips ≡ tip ∷ [] → others ≡ hidden ∷ [] → StartsFrom objects rows mode.All sorting.BreadthFirst tips others walk → StartsFrom objects rows mode.All sorting.BreadthFirst (tip ∷ []) (hidden ∷ []) walk
+starts_alone objects rows tip hidden tips others walk e f h = subst (λ (ids : List ObjectId). StartsFrom objects rows mode.All sorting.BreadthFirst (tip ∷ []) ids walk) f (subst (λ (ids : List ObjectId). StartsFrom objects rows mode.All sorting.BreadthFirst ids others walk) e h)
 
 -- a walk that starts so was counted
-module _ (objects : Objects) (rows : List GraphRow) (tip hidden : ObjectId) (walk : Walk) (starts : StartsFrom objects rows sorting.BreadthFirst (tip ∷ []) (hidden ∷ []) walk) where
+module _ (objects : Objects) (rows : List GraphRow) (tip hidden : ObjectId) (walk : Walk) (starts : StartsFrom objects rows mode.All sorting.BreadthFirst (tip ∷ []) (hidden ∷ []) walk) where
   pub counts : (result : Result ℕ Fault) → Numbers Answers IsWalkFault walk result → IfOk result (Counts objects rows tip hidden)
   counts (Ok n) h = (h.0, record { walk = walk; starts = starts; ends = h.1 }, h.2)
   counts (Err e) h = tt

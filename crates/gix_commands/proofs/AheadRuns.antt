@@ -1,29 +1,40 @@
 -- What a run of `ahead` writes, by what commits reach.
-use Rattle.std.specs.Prelude.{◌≡◌, ℕ, suc, List, [], ◌∷◌, map, length, Option, Ok, Contains, ◌↔◌}
+use Rattle.std.specs.Prelude.{◌≡◌, ℕ, suc, List, [], ◌∷◌, map, length, Option, None, Ok, Contains, ◌↔◌}
 use Rattle.std.specs.Io.KnownBytes.{Appends}
 use Rattle.std.proofs.Common.{refl, sym, ap, ◌∙◌}
+use Rattle.std.proofs.Math.Path.{transport}
 use Rattle.gix_hash.specs.declared.ObjectId.{ObjectId}
 use Rattle.gix_object.specs.Object.{Objects}
 use Rattle.gix_commitgraph.specs.Rows.{GraphRow}
 use Rattle.gix_revwalk.specs.Agreeing.{IsAgreeing}
 use Rattle.gix_revwalk.specs.declared.Info.{Info}
+use Rattle.gix_revwalk.specs.declared.Parents.TheVariants as mode
+use Rattle.gix_revwalk.specs.Commits.{parents_of}
 use Rattle.gix_simple.specs.declared.Sorting.TheVariants as sorting
 use Rattle.gix_revwalk.specs.Ids.{AreDistinct}
 use Rattle.gix_topo.specs.Walk.{IsNumberOf}
 use Rattle.gix_commands.specs.Ahead.{Counts, Draws, ahead_line}
-use Rattle.gix_commands.specs.Histories.{AreWhole, IsPartOf, IsShown, AheadCounts, AheadCountsOfPart, DrawsDifference}
+use Rattle.gix_commands.specs.Histories.{AreWhole, IsPartOf, IsShown, IsSimpleBy, ListsBy, AheadCounts, AheadCountsOfPart, DrawsDifference}
 use Rattle.gix_records.specs.Records.{stored}
 use Rattle.gix_commands.specs.Run.{Serves, counted}
 use Rattle.gix_commands.specs.Walked.{Answers, IsWalkFault, Ends, finished}
 use Rattle.gix_commands.specs.Words.{Ahead}
 use Rattle.gix_revwalk.proofs.Rows.{none_agree}
 use Rattle.gix_commands.proofs.CommitRuns.{served_so}
-use Rattle.gix_commands.proofs.SimpleRuns.{all_read, each_unhidden}
+use Rattle.gix_commands.proofs.KeptLists.{all_followed, tips_kept}
+use Rattle.gix_commands.proofs.SimpleRuns.{all_read, listed_whole}
 use Rattle.gix_commands.proofs.Parts.{number_in_all}
 
 length-map : (infos : List Info) → length (map (λ info. info.id) infos) ≡ length infos
 length-map [] = refl
 length-map (info ∷ infos) = ap (λ n. suc n) (length-map infos)
+
+-- breadth first through all parents a list is one of what is shown
+plain_list : (objects : Objects) (tips hidden ids : List ObjectId) → IsSimpleBy objects (parents_of objects) mode.All sorting.BreadthFirst tips hidden ids → AreDistinct ids × ((i : ObjectId) → Contains ids i ↔ IsShown objects tips hidden i)
+plain_list objects tips hidden ids l =
+    let k : ListsBy objects (parents_of objects) (parents_of objects) None tips hidden ids =
+    transport (λ j. ListsBy objects (parents_of objects) (all_followed objects (parents_of objects) mode.All sorting.BreadthFirst refl j) None (tips_kept objects sorting.BreadthFirst tips refl j) hidden ids) l in
+    (k.once, λ i. (λ c. let s = (k.exact i).0 c in (s.reached, s.outside), λ s. (k.exact i).1 (record { reached = s.0; outside = s.1 })))
 
 module _ (objects : Objects) (rows : List GraphRow) (agreeing : IsAgreeing objects rows) (tip hidden : ObjectId) where
   -- a walk that ended well gave the difference
@@ -31,7 +42,9 @@ module _ (objects : Objects) (rows : List GraphRow) (agreeing : IsAgreeing objec
   difference infos d = of_ends d.ends
     where
       of_ends : Ends Answers IsWalkFault d.walk infos (Ok tt) → AreDistinct (map (λ info. info.id) infos) × ((i : ObjectId) → Contains (map (λ info. info.id) infos) i ↔ IsShown objects (tip ∷ []) (hidden ∷ []) i)
-      of_ends (finished new h) = each_unhidden objects rows sorting.BreadthFirst (tip ∷ []) (hidden ∷ []) d.walk tt d.starts agreeing infos h.0 new h.1 h.2 (λ e. cc)
+      of_ends (finished new h) =
+          plain_list objects (tip ∷ []) (hidden ∷ []) (map (λ info. info.id) infos)
+          (listed_whole objects rows mode.All sorting.BreadthFirst (tip ∷ []) (hidden ∷ []) d.walk d.starts agreeing infos h.0 new h.1 h.2 (λ e. cc))
 
   number_of : (n : ℕ) → Counts objects rows tip hidden n → IsNumberOf (IsShown objects (tip ∷ []) (hidden ∷ [])) n
   number_of n c =
@@ -43,7 +56,7 @@ module _ (objects : Objects) (rows : List GraphRow) (agreeing : IsAgreeing objec
   read_whole infos d = of_ends d.ends
     where
       of_ends : Ends Answers IsWalkFault d.walk infos (Ok tt) → AreWhole objects (tip ∷ hidden ∷ [])
-      of_ends (finished new h) = all_read objects rows sorting.BreadthFirst (tip ∷ []) (hidden ∷ []) d.walk tt d.starts agreeing infos h.0 new h.1 h.2 (λ e. cc) (λ e. cc)
+      of_ends (finished new h) = all_read objects rows mode.All sorting.BreadthFirst (tip ∷ []) (hidden ∷ []) d.walk d.starts agreeing infos h.0 new h.1 h.2 (λ e. cc) (λ e. cc)
 
   number_of_all : (all : Objects) → IsPartOf objects all → (n : ℕ) → Counts objects rows tip hidden n → IsNumberOf (IsShown all (tip ∷ []) (hidden ∷ [])) n
   number_of_all all part n c = number_in_all objects all part (tip ∷ []) (hidden ∷ []) (read_whole c.0 c.1) n (number_of n c)

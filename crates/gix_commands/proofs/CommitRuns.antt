@@ -1,21 +1,29 @@
 -- What a run of `breadth`, `newest` or `oldest` writes, by what commits reach.
-use Rattle.std.specs.Prelude.{◌≡◌, ◌≢◌, ℕ, List, [], ◌∷◌, ◌++◌, map, Option, Some, Result, Ok, Err}
+use Rattle.std.specs.Prelude.{◌≡◌, ◌≢◌, ℕ, ℤ, List, [], ◌∷◌, ◌++◌, map, filter, not, Option, None, Some, Result, Ok, Err, IsSome}
 use Rattle.std.specs.Io.KnownBytes.{Appends}
-use Rattle.std.proofs.Common.{refl, sym, ap, subst, ◌∙◌, append-nil}
+use Rattle.std.proofs.Common.{refl, sym, ap, subst, ◌∙◌}
+use Rattle.std.proofs.lemmas.Bool.{false≢true}
+use Rattle.std.proofs.lemmas.List.Elements.{Contains-append_left, Contains-append_right}
 use Rattle.gix_hash.specs.declared.ObjectId.{ObjectId}
+use Rattle.gix_hash.proofs.Lists.{filter_within}
 use Rattle.std.specs.FinMap.{get}
 use Rattle.gix_object.specs.declared.Kind.TheVariants as object
 use Rattle.gix_object.specs.Object.{Object, Objects}
 use Rattle.gix_commitgraph.specs.Rows.{GraphRow}
 use Rattle.gix_revwalk.specs.Agreeing.{IsAgreeing}
 use Rattle.gix_revwalk.specs.declared.Info.{Info}
+use Rattle.gix_revwalk.specs.declared.Parents.{Parents}
+use Rattle.gix_revwalk.specs.declared.Parents.TheVariants as mode
 use Rattle.gix_simple.specs.declared.Sorting.{Sorting}
-use Rattle.gix_hash.specs.Reach.{Reaches}
-use Rattle.gix_revwalk.specs.Commits.{parents_of}
+use Rattle.gix_simple.specs.Walk.{cutoff, is_older, time_order}
+use Rattle.gix_hash.specs.Reach.{Reaches, start, step}
+use Rattle.gix_revwalk.specs.Commits.{by_mode, parents_of, time_of}
 use Rattle.gix_revwalk.specs.Texts.{text_next}
+use Rattle.gix_revwalk.proofs.Reached.{reach_more}
+use Rattle.gix_revwalk.proofs.ReadsWhole.{walked_within}
 use Rattle.gix_commands.specs.declared.fault.Fault.{Fault}
 use Rattle.gix_commands.specs.declared.words.Order.TheVariants.{Simple}
-use Rattle.gix_commands.specs.Histories.{AreWhole, IsPartOf, ListsBy, SimpleListsRead, SimpleLists, SimpleListsOfPart, EndsWell, lines_of_ids}
+use Rattle.gix_commands.specs.Histories.{AreStored, AreWhole, IsPartOf, IsSimpleBy, ListsBy, SimpleListsRead, SimpleLists, SimpleListsOfPart, EndsWell, followed, kept_tips, lines_of_ids}
 use Rattle.gix_records.specs.Records.{Record, AreRecords, stored}
 use Rattle.gix_commands.specs.Run.{Runs, Serves, walked, without_memory, no_command, not_read, bad_record, served}
 use Rattle.gix_commands.specs.Walked.{Walk, Answers, IsWalkFault, Ends, StartsFrom, finished, lines_of, line_of}
@@ -23,11 +31,15 @@ use Rattle.gix_commands.specs.Words.{Request, Commits, request_of}
 use Rattle.gix_records.proofs.RecordFacts.{only_reading, no_bad_record}
 use Rattle.gix_revwalk.proofs.Rows.{none_agree}
 use Rattle.gix_revwalk.proofs.TextParents.{commit_stored}
-use Rattle.gix_simple.proofs.Difference.{whole_from}
-use Rattle.gix_commands.proofs.SimpleRuns.{IsUncut, all_read, all_stored, listed_text, listed_whole}
-use Rattle.gix_commands.proofs.UncutWords.{uncut, some_tips}
+use Rattle.gix_simple.proofs.Difference.{no_start, whole_from}
+use Rattle.gix_commands.proofs.KeptLists.{cut_all, filter_same, followed_reaches, tips_kept}
+use Rattle.gix_commands.proofs.SimpleRuns.{all_read, all_stored, listed_none, listed_text, listed_whole}
+use Rattle.gix_commands.proofs.NamedTips.{some_tips}
 use Rattle.gix_commands.proofs.Parts.{by_parents, by_parents_reached, by_texts, lists_same, whole_in_all}
 use Rattle.gix_commands.proofs.TextParts.{same_texts, same_time}
+
+abbrev pub ids_in : List Info → List ObjectId
+ids_in infos = map (λ info. info.id) infos
 
 pub lines_by_ids : (infos : List Info) → lines_of infos ≡ lines_of_ids (map (λ info. info.id) infos)
 lines_by_ids [] = refl
@@ -51,51 +63,143 @@ ends_well words input records request answer old new asked are well (bad_record 
 ends_well words input records request answer old new asked are well (served other there read t same is s) =
     well answer new (subst (λ r. Serves (stored records) [] old r answer new) (ok_same (sym t ∙ asked)) (subst (λ rs. Serves (stored rs) [] old other answer new) (only_reading read records input (subst (AreRecords read) same is) are) s))
 
-module _ (objects : Objects) (rows : List GraphRow) (agreeing : IsAgreeing objects rows) (by : Sorting) (tips hidden : List ObjectId) (named : IsUncut by) (some : tips ≢ []) where
+module _ (objects : Objects) (m : Parents) (by : Sorting) (tips hidden : List ObjectId) where
   abbrev texts : ObjectId → List ObjectId
   texts = text_next objects
 
+  -- behind a cutoff all that tips and hidden tips reach is stored
+  abbrev pub IsTimed : Type 0
+  IsTimed = cutoff mode.All by ≢ None → AreStored objects (tips ++ hidden)
+
+  abbrev IsFound : ObjectId → Type 0
+  IsFound i = (object : Object) × (get objects i ≡ Some object)
+
+  -- all that is reached was found
+  pub record AreFound : Type 0 where
+    pub followed_found : (i : ObjectId) → Reaches (followed objects texts m by) (kept_tips objects by tips) i → IsFound i
+    pub hidden_found : (i : ObjectId) → Reaches texts hidden i → IsFound i
+
+  found_of : (i : ObjectId) → IsSome (get objects i) → IsFound i
+  found_of i h = go (get objects i) refl h
+    where
+      go : (o : Option Object) → get objects i ≡ o → IsSome (get objects i) → IsFound i
+      go None e s = absurd (false≢true (subst IsSome e s))
+      go (Some object) e s = (object, e)
+
+  hidden_stored : AreStored objects (tips ++ hidden) → (i : ObjectId) → Reaches texts hidden i → IsFound i
+  hidden_stored there i r = found_of i (there i (reach_more texts hidden (tips ++ hidden) (λ j c. Contains-append_right tips hidden j c) i r))
+
+  tips_stored : AreStored objects (tips ++ hidden) → (i : ObjectId) → Reaches texts tips i → IsFound i
+  tips_stored there i r = found_of i (there i (reach_more texts tips (tips ++ hidden) (λ j c. Contains-append_left tips hidden j c) i r))
+
+  pub all_found : AreStored objects (tips ++ hidden) → AreFound
+  all_found there = record {
+    followed_found = λ i r. tips_stored there i (reach_more texts (kept_tips objects by tips) tips (λ j c. filter_within _ tips j c) i (followed_reaches objects texts m by (kept_tips objects by tips) i r));
+    hidden_found = hidden_stored there;
+  }
+
+  -- where all is whole all was found
+  whole_found : AreWhole objects (kept_tips objects by tips ++ hidden) → (i : ObjectId) → Reaches texts (kept_tips objects by tips ++ hidden) i → IsFound i
+  whole_found whole i r = let c = commit_stored objects i (whole_from objects i (whole i (by_parents_reached objects (kept_tips objects by tips) hidden whole i r))) in (record { kind = object.Commit; bytes = c.0 }, c.1)
+
+module _ (objects : Objects) (rows : List GraphRow) (agreeing : IsAgreeing objects rows) (m : Parents) (by : Sorting) (tips hidden : List ObjectId) (some : tips ≢ []) where
+  abbrev left : List ObjectId
+  left = kept_tips objects by tips
+
   -- a list that was read, and that all that is reached was found
   abbrev pub IsRead : List ObjectId → Type 0
-  IsRead ids = SimpleListsRead objects by tips hidden ids × ((i : ObjectId) → Reaches texts (tips ++ hidden) i → (object : Object) × (get objects i ≡ Some object))
+  IsRead ids = SimpleListsRead objects m by tips hidden ids × (IsTimed objects m by tips hidden → AreFound objects m by tips hidden)
 
-  listed : (walk : Walk) (infos : List Info) → StartsFrom objects rows by tips hidden walk → Ends Answers IsWalkFault walk infos (Ok tt) → IsRead (map (λ info. info.id) infos)
-  listed walk infos starts (finished last h) = go hidden refl
+  -- without a cutoff a tip is left
+  cut_off : left ≡ [] → cutoff mode.All by ≢ None
+  cut_off none e = some (sym (tips_kept objects by tips e) ∙ none)
+
+  pub listed : (walk : Walk) (infos : List Info) → StartsFrom objects rows m by tips hidden walk → Ends Answers IsWalkFault walk infos (Ok tt) → IsRead (ids_in infos)
+  listed walk infos starts (finished last h) = go hidden refl left refl
     where
-      go : (hs : List ObjectId) → hidden ≡ hs → IsRead (map (λ info. info.id) infos)
-      go [] e =
-          let l : ListsBy objects texts by tips hidden (map (λ info. info.id) infos) = listed_text objects rows by tips hidden walk named starts agreeing infos h.0 last h.1 h.2 e in (
-            record { read = l; whole = λ w. by_parents objects by tips hidden (map (λ info. info.id) infos) w l; painted = λ behind. absurd (behind e) },
-            λ i r. all_stored objects rows by tips hidden walk named starts agreeing infos h.0 last h.1 h.2 e i (subst (λ xs. Reaches texts xs i) (append-nil tips) (subst (λ hs. Reaches texts (tips ++ hs) i) e r)),
+      of_text : (l : IsSimpleBy objects (text_next objects) m by tips hidden (ids_in infos)) → AreWhole objects (left ++ hidden) → IsSimpleBy objects (parents_of objects) m by tips hidden (ids_in infos)
+      of_text l w = by_parents objects m by left hidden (time_order m by) (ids_in infos) w l
+
+      go : (hs : List ObjectId) → hidden ≡ hs → (ls : List ObjectId) → left ≡ ls → IsRead (ids_in infos)
+      go [] e ls f =
+          let l : IsSimpleBy objects (text_next objects) m by tips hidden (ids_in infos) = listed_text objects rows m by tips hidden walk starts agreeing infos h.0 last h.1 h.2 e in (
+            record { read = l; whole = of_text l; painted = λ keeps behind. absurd (behind e) },
+            λ timed. record {
+              followed_found = all_stored objects rows m by tips hidden walk starts agreeing infos h.0 last h.1 h.2 e;
+              hidden_found = λ i r. absurd (no_start _ hidden i r e);
+            },
           )
-      go (j ∷ hs) e =
+      go (j ∷ hs) e (k ∷ ls) f =
           let behind : hidden ≢ [] = λ n. let c : [] ≡ j ∷ hs = sym n ∙ e in cc in
-          let whole : AreWhole objects (tips ++ hidden) = all_read objects rows by tips hidden walk named starts agreeing infos h.0 last h.1 h.2 some behind in
-          let l : ListsBy objects (parents_of objects) by tips hidden (map (λ info. info.id) infos) = listed_whole objects rows by tips hidden walk named starts agreeing infos h.0 last h.1 h.2 some behind in (
-            record { read = by_texts objects by tips hidden (map (λ info. info.id) infos) whole l; whole = λ w. l; painted = λ b. whole },
-            λ i r. let c = commit_stored objects i (whole_from objects i (whole i (by_parents_reached objects by tips hidden (map (λ info. info.id) infos) whole i r))) in (record { kind = object.Commit; bytes = c.0 }, c.1),
+          let keeps : left ≢ [] = λ n. let c : [] ≡ k ∷ ls = sym n ∙ f in cc in
+          let whole : AreWhole objects (left ++ hidden) = all_read objects rows m by tips hidden walk starts agreeing infos h.0 last h.1 h.2 behind keeps in
+          let l : IsSimpleBy objects (parents_of objects) m by tips hidden (ids_in infos) = listed_whole objects rows m by tips hidden walk starts agreeing infos h.0 last h.1 h.2 behind in (
+            record { read = by_texts objects m by left hidden (time_order m by) (ids_in infos) whole l; whole = λ w. l; painted = λ kept b. whole },
+            λ timed. record {
+              followed_found = λ i r. whole_found objects m by tips hidden whole i (reach_more (text_next objects) left (left ++ hidden) (λ j c. Contains-append_left left hidden j c) i (followed_reaches objects (text_next objects) m by left i r));
+              hidden_found = λ i r. whole_found objects m by tips hidden whole i (reach_more (text_next objects) hidden (left ++ hidden) (λ j c. Contains-append_right left hidden j c) i r);
+            },
+          )
+      go (j ∷ hs) e [] f =
+          let behind : hidden ≢ [] = λ n. let c : [] ≡ j ∷ hs = sym n ∙ e in cc in
+          let l : IsSimpleBy objects (text_next objects) m by tips hidden (ids_in infos) = listed_none objects rows m by tips hidden walk starts agreeing infos h.0 last h.1 h.2 behind f in (
+            record { read = l; whole = of_text l; painted = λ keeps b. absurd (keeps (cut_off f) f) },
+            λ timed. record {
+              followed_found = λ i r. absurd (no_start _ left i r f);
+              hidden_found = hidden_stored objects m by tips hidden (timed (cut_off f));
+            },
           )
 
-  pub lists : (old new : Option (List ℕ)) → Serves objects rows old (Commits (Simple by) tips hidden) (Ok tt) new → (ids : List ObjectId) × SimpleListsRead objects by tips hidden ids × Appends old new (lines_of_ids ids)
+  pub lists : (old new : Option (List ℕ)) → Serves objects rows old (Commits (Simple m by) None tips hidden) (Ok tt) new → (ids : List ObjectId) × SimpleListsRead objects m by tips hidden ids × Appends old new (lines_of_ids ids)
   lists old new (walked walk infos starts ends written) = (map (λ info. info.id) infos, (listed walk infos starts ends).0, subst (Appends old new) (lines_by_ids infos) written)
 
-module _ (some all : Objects) (part : IsPartOf some all) (by : Sorting) (tips hidden : List ObjectId) (named : IsUncut by) (tip : tips ≢ []) where
-  in_all : (ids : List ObjectId) → IsRead some [] (none_agree some [] refl) by tips hidden named tip ids → SimpleListsRead all by tips hidden ids
-  in_all ids l =
-      let read : ListsBy all (text_next all) by tips hidden ids =
-      lists_same some all (text_next some) (text_next all) tips hidden (λ c r. same_texts some all part c (l.1 c r)) (λ i r. same_time some all part i (l.1 i r)) by ids l.0.read in
-      record { read = read; whole = λ w. by_parents all by tips hidden ids w read; painted = λ behind. whole_in_all some all part (tips ++ hidden) (l.0.painted behind) }
+-- what is old in a part of a store is old in the whole
+same_age : (a b : ℤ) (limit : Option ℤ) → (limit ≢ None → a ≡ b) → is_older a limit ≡ is_older b limit
+same_age a b None same = refl
+same_age a b (Some seconds) same = ap (λ t. is_older t (Some seconds)) (same (λ e. cc))
 
-  lists_of_all : (old new : Option (List ℕ)) → Serves some [] old (Commits (Simple by) tips hidden) (Ok tt) new → (ids : List ObjectId) × SimpleListsRead all by tips hidden ids × Appends old new (lines_of_ids ids)
+module _ (some all : Objects) (part : IsPartOf some all) (m : Parents) (by : Sorting) (tips hidden : List ObjectId) (timed : IsTimed some m by tips hidden) (found : AreFound some m by tips hidden) where
+  -- a tip, or what the tips name
+  age_of : (i : ObjectId) → Reaches (text_next some) tips i → (limit : Option ℤ) → (limit ≢ None → cutoff mode.All by ≢ None) → is_older (time_of some i) limit ≡ is_older (time_of all i) limit
+  age_of i r limit is = same_age (time_of some i) (time_of all i) limit (λ cut. same_time some all part i (tips_stored some m by tips hidden (timed (is cut)) i r))
+
+  pub same_kept : kept_tips some by tips ≡ kept_tips all by tips
+  same_kept = filter_same _ _ tips (λ i c. ap not (age_of i (start c) (cutoff mode.All by) (λ cut. cut)))
+
+  same_followed : (c : ObjectId) → Reaches (followed some (text_next some) m by) (kept_tips some by tips) c → followed some (text_next some) m by c ≡ followed all (text_next all) m by c
+  same_followed c r =
+      let reached : Reaches (text_next some) tips c = reach_more (text_next some) (kept_tips some by tips) tips (λ j s. filter_within _ tips j s) c (followed_reaches some (text_next some) m by (kept_tips some by tips) c r) in
+      filter_same _ _ (by_mode m (text_next some c)) (λ i n. ap not (age_of i (step reached (walked_within m (text_next some c) i n)) (cutoff m by) (λ cut e. cut (cut_all m by e))))
+      ∙ ap (λ ps. filter (λ i. not (is_older (time_of all i) (cutoff m by))) (by_mode m ps)) (same_texts some all part c (found.followed_found c r))
+
+  pub list_in_all : (ids : List ObjectId) → IsSimpleBy some (text_next some) m by tips hidden ids → IsSimpleBy all (text_next all) m by tips hidden ids
+  list_in_all ids l =
+      subst (λ from. ListsBy all (text_next all) (followed all (text_next all) m by) (time_order m by) from hidden ids) same_kept
+      (lists_same some all (text_next some) (text_next all) (followed some (text_next some) m by) (followed all (text_next all) m by) (kept_tips some by tips) hidden (time_order m by) same_followed
+      (λ c r. same_texts some all part c (found.hidden_found c r)) (λ i r. same_time some all part i (found.followed_found i r)) ids l)
+
+module _ (some all : Objects) (part : IsPartOf some all) (m : Parents) (by : Sorting) (tips hidden : List ObjectId) (tip : tips ≢ []) (timed : IsTimed some m by tips hidden) where
+  in_all : (ids : List ObjectId) → IsRead some [] (none_agree some [] refl) m by tips hidden tip ids → SimpleListsRead all m by tips hidden ids
+  in_all ids l =
+      let found = l.1 timed in
+      let kept : kept_tips some by tips ≡ kept_tips all by tips = same_kept some all part m by tips hidden timed found in
+      let read : IsSimpleBy all (text_next all) m by tips hidden ids = list_in_all some all part m by tips hidden timed found ids l.0.read in
+      record {
+        read = read;
+        whole = λ w. by_parents all m by (kept_tips all by tips) hidden (time_order m by) ids w read;
+        painted = λ keeps behind. subst (λ from. AreWhole all (from ++ hidden)) kept (whole_in_all some all part (kept_tips some by tips ++ hidden) (l.0.painted (λ cut e. keeps cut (sym kept ∙ e)) behind));
+      }
+
+  lists_of_all : (old new : Option (List ℕ)) → Serves some [] old (Commits (Simple m by) None tips hidden) (Ok tt) new → (ids : List ObjectId) × SimpleListsRead all m by tips hidden ids × Appends old new (lines_of_ids ids)
   lists_of_all old new (walked walk infos starts ends written) =
-      (map (λ info. info.id) infos, in_all (map (λ info. info.id) infos) (listed some [] (none_agree some [] refl) by tips hidden named tip walk infos starts ends), subst (Appends old new) (lines_by_ids infos) written)
+      (map (λ info. info.id) infos, in_all (map (λ info. info.id) infos) (listed some [] (none_agree some [] refl) m by tips hidden tip walk infos starts ends), subst (Appends old new) (lines_by_ids infos) written)
 
 pub simple_lists : SimpleLists
-simple_lists words input records by tips hidden old new asked are runs =
-    lists (stored records) [] (none_agree (stored records) [] refl) by tips hidden (uncut words by tips hidden asked) (some_tips words (Simple by) tips hidden asked) old new
-    (served_so words input records (Commits (Simple by) tips hidden) old new asked are runs)
+simple_lists words input records m by tips hidden old new asked are runs =
+    lists (stored records) [] (none_agree (stored records) [] refl) m by tips hidden (some_tips words (Simple m by) None tips hidden asked) old new
+    (served_so words input records (Commits (Simple m by) None tips hidden) old new asked are runs)
 
 pub simple_lists_of_part : SimpleListsOfPart
-simple_lists_of_part words input records by tips hidden old new all asked are part runs =
-    lists_of_all (stored records) all part by tips hidden (uncut words by tips hidden asked) (some_tips words (Simple by) tips hidden asked) old new
-    (served_so words input records (Commits (Simple by) tips hidden) old new asked are runs)
+simple_lists_of_part words input records m by tips hidden old new all asked are part timed runs =
+    lists_of_all (stored records) all part m by tips hidden (some_tips words (Simple m by) None tips hidden asked) timed old new
+    (served_so words input records (Commits (Simple m by) None tips hidden) old new asked are runs)

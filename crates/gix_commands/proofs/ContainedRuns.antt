@@ -29,7 +29,7 @@ use Rattle.gix_commands.specs.Walked.{never_faulty}
 use Rattle.gix_commands.specs.Words.{Contained}
 use Rattle.gix_commands.proofs.CommitRuns.{ends_well, served_so}
 use Rattle.gix_commands.proofs.InternalFacts.{contained_sound}
-use Rattle.gix_commands.proofs.UncutWords.{some_ids}
+use Rattle.gix_commands.proofs.NamedTips.{some_ids}
 
 module _ (tip : ObjectId) (ids : List ObjectId) where
   among : (i : ObjectId) → Contains (tip ∷ ids) i → Contains (ids ++ tip ∷ []) i

@@ -32,19 +32,19 @@ in_octal_is n = simp (sub-zero, append-nil)
 pub mode_text : (shown : Option (List ℕ)) (n : ℕ) (text : List ℕ) → shown ≡ Some (in_octal n) → IfSome (shown ++? Some (32 ∷ [])) (λ bs. text ≡ bs) → text ≡ six_octal_digits n ++ 32 ∷ []
 mode_text shown n text is h = subst (λ (o : Option (List ℕ)). IfSome (o ++? Some (32 ∷ [])) (λ bs. text ≡ bs)) (is ∙ ap (λ x. Some x) (in_octal_is n)) h
 
--- the mode, the id, the path and a newline were added
-pub line_added : (r : Record) (old first second third new : List ℕ) → first ≡ old ++ (six_octal_digits r.mode ++ 32 ∷ []) → second ≡ first ++ (hex_of r.id ++ 32 ∷ []) → third ≡ second ++ r.path → new ≡ third ++ 10 ∷ [] → new ≡ old ++ file_line r
-line_added r old first second third new a b c d = rw (d, c, b, a) (simp append_assoc)
+-- the mode, the id, the path and a byte were added
+pub line_added : (ending : ℕ) (r : Record) (old first second third new : List ℕ) → first ≡ old ++ (six_octal_digits r.mode ++ 32 ∷ []) → second ≡ first ++ (hex_of r.id ++ 32 ∷ []) → third ≡ second ++ r.path → new ≡ third ++ ending ∷ [] → new ≡ old ++ file_line ending r
+line_added ending r old first second third new a b c d = rw (d, c, b, a) (simp append_assoc)
 
-module _ (objects : Objects) (rows : List GraphRow) (old : Option (List ℕ)) (tree : ObjectId) where
-  walk_failed : (e : Fault) → (recorder : Tracked) × (why : Error) × RecordsTree objects tree recorder (Err why) × (e ≡ fault_of_tree_walk why) → Serves objects rows old (Files tree) (Err e) old
-  walk_failed e h = subst (λ (f : Fault). Serves objects rows old (Files tree) (Err f) old) (sym h.3) (not_listed h.0 h.1 h.2)
+module _ (objects : Objects) (rows : List GraphRow) (old : Option (List ℕ)) (ending : ℕ) (tree : ObjectId) where
+  walk_failed : (e : Fault) → (recorder : Tracked) × (why : Error) × RecordsTree objects tree recorder (Err why) × (e ≡ fault_of_tree_walk why) → Serves objects rows old (Files ending tree) (Err e) old
+  walk_failed e h = subst (λ (f : Fault). Serves objects rows old (Files ending tree) (Err f) old) (sym h.3) (not_listed h.0 h.1 h.2)
 
   -- nothing was written
-  pub files_failed : (store : Objects) → store ≡ objects → (result : Result (Unit {0}) Fault) (e : Fault) → result ≡ Err e → IsTreeFault store tree e → Serves objects rows old (Files tree) result old
-  files_failed store is result e same h = failed_so (λ r. Serves objects rows old (Files tree) r old) unserved result e same (λ other. walk_failed e (subst (λ o. IsTreeFault o tree e) is h other))
+  pub files_failed : (store : Objects) → store ≡ objects → (result : Result (Unit {0}) Fault) (e : Fault) → result ≡ Err e → IsTreeFault store tree e → Serves objects rows old (Files ending tree) result old
+  files_failed store is result e same h = failed_so (λ r. Serves objects rows old (Files ending tree) r old) unserved result e same (λ other. walk_failed e (subst (λ o. IsTreeFault o tree e) is h other))
 
   -- the lines were written, or the writer failed
-  pub files_written : (store : Objects) → store ≡ objects → (new : Option (List ℕ)) (lines : List ℕ) (result : Result (Unit {0}) Fault) → AreLinesOf store tree lines → OnOk result (Appends old new lines) → IfErr result (λ e. e ≡ fault.Write) → Serves objects rows old (Files tree) result new
-  files_written store is new lines (Ok done) are h k = let so : AreLinesOf objects tree lines = subst (λ o. AreLinesOf o tree lines) is are in listed so.0 so.1 (subst (Appends old new) so.2 h)
-  files_written store is new lines (Err e) are h k = subst (λ (f : Fault). Serves objects rows old (Files tree) (Err f) new) (sym k) not_written
+  pub files_written : (store : Objects) → store ≡ objects → (new : Option (List ℕ)) (lines : List ℕ) (result : Result (Unit {0}) Fault) → AreLinesOf ending store tree lines → OnOk result (Appends old new lines) → IfErr result (λ e. e ≡ fault.Write) → Serves objects rows old (Files ending tree) result new
+  files_written store is new lines (Ok done) are h k = let so : AreLinesOf ending objects tree lines = subst (λ o. AreLinesOf ending o tree lines) is are in listed so.0 so.1 (subst (Appends old new) so.2 h)
+  files_written store is new lines (Err e) are h k = subst (λ (f : Fault). Serves objects rows old (Files ending tree) (Err f) new) (sym k) not_written

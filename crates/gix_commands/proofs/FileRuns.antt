@@ -40,18 +40,18 @@ not_failed why Whole e u = cc
 not_failed why Broken e u = cc
 not_failed why (Failed other) e u = u
 
-module _ (objects : Objects) (tree : ObjectId) where
+module _ (objects : Objects) (ending : ℕ) (tree : ObjectId) where
   pub unfolds : (recorder : Tracked) (walk : RecordsTree objects tree recorder (Ok tt)) → Unfolds objects tree walk.visits
   unfolds recorder walk =
       let all = go_on walk.visits (root_called (trees_of objects) (LookUpFails objects (never_faulty objects)) IsRecorderAnswer walk.script (answers_of fresh_recorder walk.calls recorder walk.run)) in
       let order = depth_is_in_order objects (never_faulty objects) Tracks tree fresh_recorder recorder (Ok tt) walk (depth_ok walk.end walk.answered) in
       record { in_order = subst (Rattle.gix_tree.specs.Preorder.IsPreorder (entries_at (trees_of objects)) (Rattle.gix_tree.specs.Paths.known_root tree) (entries_at (trees_of objects) tree) walk.visits) (unbroken (entries_at (trees_of objects)) order all) order; all = all }
 
-  lists : (old new : Option (List ℕ)) → Serves objects [] old (Files tree) (Ok tt) new → (visits : List Visit) × Unfolds objects tree visits × (HaveNames visits → Appends old new (file_lines (map record_of visits)))
+  lists : (old new : Option (List ℕ)) → Serves objects [] old (Files ending tree) (Ok tt) new → (visits : List Visit) × Unfolds objects tree visits × (HaveNames visits → Appends old new (file_lines ending (map record_of visits)))
   lists old new (listed recorder walk written) = (
     walk.visits,
     unfolds recorder walk,
-    λ names. subst (λ records. Appends old new (file_lines records)) (depth_is_recorded objects (never_faulty objects) tree recorder (Ok tt) walk (λ e. cc) names) written,
+    λ names. subst (λ records. Appends old new (file_lines ending records)) (depth_is_recorded objects (never_faulty objects) tree recorder (Ok tt) walk (λ e. cc) names) written,
   )
 
   module _ (sound : AreSound (trees_of objects) (LookUpFails objects (never_faulty objects)) (λ e. true) (tree ∷ [])) where
@@ -69,22 +69,22 @@ module _ (objects : Objects) (tree : ObjectId) where
     outside (error.ObjectDecode e) recorder walk = absurd (no_other (error.ObjectDecode e) recorder walk (λ e. cc))
     outside (error.Cycle i) recorder walk = absurd (no_other (error.Cycle i) recorder walk (λ e. cc))
 
-    well : (old : Option (List ℕ)) (answer : Result (Unit {0}) Fault) (new : Option (List ℕ)) → Serves objects [] old (Files tree) answer new → EndsWell answer
+    well : (old : Option (List ℕ)) (answer : Result (Unit {0}) Fault) (new : Option (List ℕ)) → Serves objects [] old (Files ending tree) answer new → EndsWell answer
     well old answer new (listed recorder walk written) = tt
     well old answer new (not_listed recorder why walk) = outside why recorder walk
     well old answer new unserved = tt
     well old answer new not_written = tt
 
 pub files_lists : FilesLists
-files_lists words input records tree old new asked are runs = lists (stored records) tree old new (served_so words input records (Files tree) old new asked are runs)
+files_lists words input records ending tree old new asked are runs = lists (stored records) ending tree old new (served_so words input records (Files ending tree) old new asked are runs)
 
 -- a walk over a part is one over the whole
-of_all : (objects all : Objects) → IsPartOf objects all → (tree : ObjectId) (old new : Option (List ℕ)) → Serves objects [] old (Files tree) (Ok tt) new → Serves all [] old (Files tree) (Ok tt) new
-of_all objects all part tree old new (listed recorder walk written) = listed recorder (records_all objects all part tree recorder walk) written
+of_all : (objects all : Objects) → IsPartOf objects all → (ending : ℕ) (tree : ObjectId) (old new : Option (List ℕ)) → Serves objects [] old (Files ending tree) (Ok tt) new → Serves all [] old (Files ending tree) (Ok tt) new
+of_all objects all part ending tree old new (listed recorder walk written) = listed recorder (records_all objects all part tree recorder walk) written
 
 pub files_lists_of_part : FilesListsOfPart
-files_lists_of_part words input records tree old new all asked are part runs =
-    lists all tree old new (of_all (stored records) all part tree old new (served_so words input records (Files tree) old new asked are runs))
+files_lists_of_part words input records ending tree old new all asked are part runs =
+    lists all ending tree old new (of_all (stored records) all part ending tree old new (served_so words input records (Files ending tree) old new asked are runs))
 
 pub files_succeeds : FilesSucceeds
-files_succeeds words input records tree answer old new asked are sound runs = ends_well words input records (Files tree) answer old new asked are (well (stored records) tree sound old) runs
+files_succeeds words input records ending tree answer old new asked are sound runs = ends_well words input records (Files ending tree) answer old new asked are (well (stored records) ending tree sound old) runs

@@ -31,14 +31,14 @@ by_location P a b c (Some Path) = a
 by_location P a b c (Some FileName) = b
 by_location P a b c None = c
 
-lines_last : (records : List Record) (r : Record) → file_lines (records ++ r ∷ []) ≡ file_lines records ++ file_line r
-lines_last records r = flat_map-append file_line records (r ∷ []) ∙ ap (λ x. file_lines records ++ x) (append-nil (file_line r))
+lines_last : (ending : ℕ) (records : List Record) (r : Record) → file_lines ending (records ++ r ∷ []) ≡ file_lines ending records ++ file_line ending r
+lines_last ending records r = flat_map-append (file_line ending) records (r ∷ []) ∙ ap (λ x. file_lines ending records ++ x) (append-nil (file_line ending r))
 
 -- a recorder with these records does what the lister does, and holds the records of its lines
 abbrev Follows : Listed → List Record → Call → Listed → Type 0
-Follows old records call new = (more : List Record) × Tracks (tracking old.recorder records) call (tracking new.recorder more) × (new.lines ≡ file_lines more)
+Follows old records call new = (more : List Record) × Tracks (tracking old.recorder records) call (tracking new.recorder more) × (new.lines ≡ file_lines old.ending more) × (new.ending ≡ old.ending)
 
-module _ (old : Listed) (records : List Record) (lines : old.lines ≡ file_lines records) (new : Listed) where
+module _ (old : Listed) (records : List Record) (lines : old.lines ≡ file_lines old.ending records) (new : Listed) where
   abbrev held : Recorded
   held = old.recorder.held
 
@@ -47,7 +47,7 @@ module _ (old : Listed) (records : List Record) (lines : old.lines ≡ file_line
 
   -- whatever it tracks, a call that follows the path leaves any records
   moves : (call : Call) → ((l : Option Location) → holding (recorded l held call) records ≡ recorded l (holding held records) call) → Moves old call new → Follows old records call new
-  moves call keeps h = (records, (h.0.0, (h.0.1.0, ap (λ r. holding r records) h.0.1.1 ∙ keeps location)), h.1 ∙ lines)
+  moves call keeps h = (records, (h.0.0, (h.0.1.0, ap (λ r. holding r records) h.0.1.1 ∙ keeps location)), h.1 ∙ lines, h.2)
 
   -- and a visit adds one
   adds : (call : Call) (e : TreeEntry) (answer : Action) → ((l : Option Location) → with_record (holding held records) e ≡ recorded l (holding held records) call) → IsRecorderAnswer call → AddsLine old e answer new → Follows old records call new
@@ -55,7 +55,8 @@ module _ (old : Listed) (records : List Record) (lines : old.lines ≡ file_line
       let one : Record = record { mode = e.mode; path = held.path; id = e.id } in (
         records ++ one ∷ [],
         (ap (λ l. l.recorder.location) h.1, (answered, ap (λ l. holding l.recorder.held (records ++ one ∷ [])) h.1 ∙ shows location)),
-        ap (λ l. l.lines) h.1 ∙ ap (λ x. x ++ file_line one) lines ∙ sym (lines_last records one),
+        ap (λ l. l.lines) h.1 ∙ ap (λ x. x ++ file_line old.ending one) lines ∙ sym (lines_last old.ending records one),
+        ap (λ l. l.ending) h.1,
       )
 
   follow : (call : Call) → Lists old call new → Follows old records call new
@@ -68,38 +69,43 @@ module _ (old : Listed) (records : List Record) (lines : old.lines ≡ file_line
   follow (VisitTree e answer) h = adds (VisitTree e answer) e answer (by_location _ refl refl refl) h.0 h
   follow (VisitNontree e answer) h = adds (VisitNontree e answer) e answer (by_location _ refl refl refl) h.0 h
 
-follow_all : (old : Listed) (records : List Record) → old.lines ≡ file_lines records → (calls : List Call) (new : Listed) → Run Lists old calls new
-    → (more : List Record) × Run Tracks (tracking old.recorder records) calls (tracking new.recorder more) × (new.lines ≡ file_lines more)
+-- what calls on a lister made of it, and on a recorder that began with these records
+abbrev FollowsAll : Listed → List Record → List Call → Listed → Type 0
+FollowsAll old records calls new =
+    (more : List Record) × Run Tracks (tracking old.recorder records) calls (tracking new.recorder more) × (new.lines ≡ file_lines old.ending more)
+
+follow_all : (old : Listed) (records : List Record) → old.lines ≡ file_lines old.ending records → (calls : List Call) (new : Listed) → Run Lists old calls new → FollowsAll old records calls new
 follow_all old records lines [] new h = (records, ap (λ l. tracking l.recorder records) h, ap (λ l. l.lines) h ∙ lines)
 follow_all old records lines (call ∷ calls) new h =
     let one : Follows old records call h.0 = follow old records lines h.0 call h.1 in
-    let rest : (more : List Record) × Run Tracks (tracking h.0.recorder one.0) calls (tracking new.recorder more) × (new.lines ≡ file_lines more) = follow_all h.0 one.0 one.2 calls new h.2 in
-    (rest.0, (tracking h.0.recorder one.0, one.1, rest.1), rest.2)
+    let same : h.0.ending ≡ old.ending = one.3 in
+    let rest : FollowsAll h.0 one.0 calls new = follow_all h.0 one.0 (one.2 ∙ ap (λ e. file_lines e one.0) (sym same)) calls new h.2 in
+    (rest.0, (tracking h.0.recorder one.0, one.1, rest.1), rest.2 ∙ ap (λ e. file_lines e rest.0) same)
 
 -- what a walk made of a lister says what it makes of a recorder
-pub recorded_so : (objects : Objects) (tree : ObjectId) (new : Listed) (answer : Result (Unit {0}) Error) → DepthFirst objects (never_faulty objects) Lists tree fresh_lister new answer
-    → (recorder : Tracked) × RecordsTree objects tree recorder answer × (new.lines ≡ file_lines recorder.held.records)
-recorded_so objects tree new answer walk =
-    let all : (more : List Record) × Run Tracks (tracking fresh_lister.recorder []) walk.calls (tracking new.recorder more) × (new.lines ≡ file_lines more) = follow_all fresh_lister [] refl walk.calls new walk.run in (
+pub recorded_so : (ending : ℕ) (objects : Objects) (tree : ObjectId) (new : Listed) (answer : Result (Unit {0}) Error) → DepthFirst objects (never_faulty objects) Lists tree (fresh_lister ending) new answer
+    → (recorder : Tracked) × RecordsTree objects tree recorder answer × (new.lines ≡ file_lines ending recorder.held.records)
+recorded_so ending objects tree new answer walk =
+    let all : FollowsAll (fresh_lister ending) [] walk.calls new = follow_all (fresh_lister ending) [] refl walk.calls new walk.run in (
       tracking new.recorder all.0,
       record { calls = walk.calls; visits = walk.visits; end = walk.end; script = walk.script; run = all.1; answered = walk.answered },
       all.2,
     )
 
 -- what a walk made of a lister that was just made
-module _ (objects : Objects) (tree : ObjectId) (recorder : Tracked) (none : List ℕ) (new : Listed) (answer : Result (Unit {0}) Error) (made : recorder ≡ fresh_recorder) (empty : none ≡ [])
-    (walk : DepthFirst objects (never_faulty objects) Lists tree (record { recorder = recorder; lines = none }) new answer) where
-  from_fresh : DepthFirst objects (never_faulty objects) Lists tree fresh_lister new answer
-  from_fresh = subst (λ (r : Tracked). DepthFirst objects (never_faulty objects) Lists tree (record { recorder = r; lines = [] }) new answer) made (subst (λ (x : List ℕ). DepthFirst objects (never_faulty objects) Lists tree (record { recorder = recorder; lines = x }) new answer) empty walk)
+module _ (ending : ℕ) (objects : Objects) (tree : ObjectId) (recorder : Tracked) (none : List ℕ) (new : Listed) (answer : Result (Unit {0}) Error) (made : recorder ≡ fresh_recorder) (empty : none ≡ [])
+    (walk : DepthFirst objects (never_faulty objects) Lists tree (record { recorder = recorder; lines = none; ending = ending }) new answer) where
+  from_fresh : DepthFirst objects (never_faulty objects) Lists tree (fresh_lister ending) new answer
+  from_fresh = subst (λ (r : Tracked). DepthFirst objects (never_faulty objects) Lists tree (record { recorder = r; lines = []; ending = ending }) new answer) made (subst (λ (x : List ℕ). DepthFirst objects (never_faulty objects) Lists tree (record { recorder = recorder; lines = x; ending = ending }) new answer) empty walk)
 
   -- these are the lines, where it ended well
-  pub lines_listed : answer ≡ Ok tt → (lines : List ℕ) → lines ≡ new.lines → AreLinesOf objects tree lines
+  pub lines_listed : answer ≡ Ok tt → (lines : List ℕ) → lines ≡ new.lines → AreLinesOf ending objects tree lines
   lines_listed well lines same =
-      let all : (recorder : Tracked) × RecordsTree objects tree recorder answer × (new.lines ≡ file_lines recorder.held.records) = recorded_so objects tree new answer from_fresh in
+      let all : (recorder : Tracked) × RecordsTree objects tree recorder answer × (new.lines ≡ file_lines ending recorder.held.records) = recorded_so ending objects tree new answer from_fresh in
       (all.0, subst (λ (a : Result (Unit {0}) Error). RecordsTree objects tree all.0 a) well all.1, same ∙ all.2)
 
   -- its fault is one of the walk
   pub list_failed : {A : Type 0} (result : Result A Fault) (f : Fault) (e : Error) → result ≡ Err f → f ≡ fault_of_tree_walk e → answer ≡ Err e → IfErr result (IsTreeFault objects tree)
   list_failed result f e is told failed =
-      let all : (recorder : Tracked) × RecordsTree objects tree recorder answer × (new.lines ≡ file_lines recorder.held.records) = recorded_so objects tree new answer from_fresh in
+      let all : (recorder : Tracked) × RecordsTree objects tree recorder answer × (new.lines ≡ file_lines ending recorder.held.records) = recorded_so ending objects tree new answer from_fresh in
       rw is (λ other. (all.0, e, subst (λ (a : Result (Unit {0}) Error). RecordsTree objects tree all.0 a) failed all.1, told))

@@ -1,16 +1,16 @@
 -- Lines that are buffered, and lines that were written.
-use Rattle.std.specs.Prelude.{◌≡◌, ℕ, List, [], ◌∷◌, ◌++◌, Option, Some, None, Result, Ok, Err, ◌⊎◌}
+use Rattle.std.specs.Prelude.{◌≡◌, ◌<◌, ◌≤◌, ◌+◌, ◌-◌, ℕ, List, [], ◌∷◌, ◌++◌, length, Option, Some, None, Result, Ok, Err, ◌⊎◌}
 use Rattle.std.specs.Io.KnownBytes.{Appends}
 use Rattle.std.specs.Iterator.{Yields}
-use Rattle.std.proofs.Common.{refl, sym, ap, subst, ◌∙◌, append_assoc, inl, inr}
-use Rattle.std.proofs.lemmas.List.{append-nil, map-append}
+use Rattle.std.proofs.Common.{refl, sym, ap, subst, ◌∙◌, append_assoc, arith, inl, inr}
+use Rattle.std.proofs.lemmas.List.{append-nil, length-append, map-append}
 use Rattle.std.proofs.lemmas.Grind.{flat_map-append}
 use Rattle.std.proofs.KnownBytes.{Appends-nil, Appends-trans}
 use Rattle.gix_revwalk.specs.declared.Info.{Info}
 use Rattle.gix_commands.specs.declared.fault.Fault.{Fault}
 use Rattle.gix_commands.specs.declared.fault.Fault.TheVariants as fault
 use Rattle.gix_commands.specs.Output.{Grows, Adds, WritesAll}
-use Rattle.gix_commands.specs.Walked.{given, Ends, finished, failed, cut_short, line_of, lines_of}
+use Rattle.gix_commands.specs.Walked.{given, Ends, EndsBy, finished, failed, cut_short, enough, line_of, lines_of}
 
 -- nothing was written
 pub grows_waiting : (old : Option (List ℕ)) (waiting waits bytes : List ℕ) → waits ≡ waiting ++ bytes → Grows old waiting old waits bytes
@@ -36,6 +36,18 @@ grows_one a b c x y z infos info h k = subst (Grows a x c z) (sym (lines_last in
 given_last : {E : Type 0} (infos : List Info) (info : Info) → given {E = E} (infos ++ info ∷ []) ≡ given infos ++ Ok info ∷ []
 given_last infos info = map-append (λ (i : Info). Ok i) infos (info ∷ [])
 
+-- where some are left to be drawn, fewer were drawn than were asked for
+pub fewer : (infos : List Info) (left limit : ℕ) → length infos + left ≡ limit → 0 < left → length infos < limit
+fewer infos left limit e some = omega (arith, e, some)
+
+-- where none is left to be drawn, as many were drawn as were asked for
+pub all_drawn : (infos : List Info) (left limit : ℕ) → length infos + left ≡ limit → left ≤ 0 → length infos ≡ limit
+all_drawn infos left limit e none = omega (arith, e, none)
+
+-- one more was drawn, and one less is left
+pub one_less : (infos : List Info) (info : Info) (left limit : ℕ) → length infos + left ≡ limit → 0 < left → length (infos ++ info ∷ []) + (left - 1) ≡ limit
+one_less infos info left limit e some = let more : length (infos ++ info ∷ []) ≡ length infos + 1 = length-append infos (info ∷ []) in omega (arith, e, some, more)
+
 module _ {W E : Type 0} where
   module _ (Steps : W → Option (Result Info E) → W → Type 0) where
     yields_last : (walk at new : W) (list : List (Result Info E)) (answer : Result Info E) → Yields Steps walk list at → Steps at (Some answer) new → Yields Steps walk (list ++ answer ∷ []) new
@@ -49,36 +61,48 @@ module _ {W E : Type 0} where
         (yields_last walk at new (given infos) (Ok info) h (subst (λ (a : Result Info E). Steps at (Some a) new) is step))
 
     module _ (Tells : E → Fault → Type 0) where
+      -- how the walk ended, by what it gave
+      abbrev pub ByLimit : Option ℕ → W → List Info → Type 0
+      ByLimit limit walk infos = (answer : Result (Unit {0}) Fault) → Ends Steps Tells walk infos answer → EndsBy Steps Tells limit walk infos answer
+
       -- the walk's answer was a fault
-      pub adds_failed : (walk at drawn : W) (infos : List Info) (answer : Result Info E) (e : E) (f : Fault) (old new : Option (List ℕ)) (waiting waits : List ℕ)
-          → Yields Steps walk (given infos) at → Steps at (Some answer) drawn → answer ≡ Err e → Tells e f → Grows old waiting new waits (lines_of infos) → Adds Steps Tells walk old waiting (Err f) new waits
-      adds_failed walk at drawn infos answer e f old new waiting waits h step is tells grows = record {
+      pub adds_failed : (limit : Option ℕ) (walk at drawn : W) (infos : List Info) (by : ByLimit limit walk infos) (answer : Result Info E) (e : E) (f : Fault) (old new : Option (List ℕ)) (waiting waits : List ℕ)
+          → Yields Steps walk (given infos) at → Steps at (Some answer) drawn → answer ≡ Err e → Tells e f → Grows old waiting new waits (lines_of infos) → Adds Steps Tells limit walk old waiting (Err f) new waits
+      adds_failed limit walk at drawn infos by answer e f old new waiting waits h step is tells grows = record {
         infos = infos;
-        ends = failed e f drawn (at, h, subst (λ (a : Result Info E). Steps at (Some a) drawn) is step) tells;
+        ends = by (Err f) (failed e f drawn (at, h, subst (λ (a : Result Info E). Steps at (Some a) drawn) is step) tells);
         grows = grows;
       }
 
       -- a line couldn't be added
-      pub adds_cut : (walk at drawn : W) (infos : List Info) (next : Result Info E) (info : Info) (e : Fault) (result : Result (Unit {0}) Fault) (a b c : Option (List ℕ)) (x y z : List ℕ)
-          → Yields Steps walk (given infos) at → Steps at (Some next) drawn → next ≡ Ok info → Grows a x b y (lines_of infos) → result ≡ Err e → (result ≡ Err fault.Write → ⊥) → (e ≡ fault.Write) ⊎ ((e ≡ fault.Memory) × Grows b y c z []) → Adds Steps Tells walk a x result c z
-      adds_cut walk at drawn infos next info e result a b c x y z h step is grows same other (inl w) = absurd (other (same ∙ ap (λ f. Err f) w))
-      adds_cut walk at drawn infos next info e result a b c x y z h step is grows same other (inr (m, more)) = record {
+      pub adds_cut : (limit : Option ℕ) (walk at drawn : W) (infos : List Info) (by : ByLimit limit walk infos) (next : Result Info E) (info : Info) (e : Fault) (result : Result (Unit {0}) Fault) (a b c : Option (List ℕ)) (x y z : List ℕ)
+          → Yields Steps walk (given infos) at → Steps at (Some next) drawn → next ≡ Ok info → Grows a x b y (lines_of infos) → result ≡ Err e → (result ≡ Err fault.Write → ⊥) → (e ≡ fault.Write) ⊎ ((e ≡ fault.Memory) × Grows b y c z []) → Adds Steps Tells limit walk a x result c z
+      adds_cut limit walk at drawn infos by next info e result a b c x y z h step is grows same other (inl w) = absurd (other (same ∙ ap (λ f. Err f) w))
+      adds_cut limit walk at drawn infos by next info e result a b c x y z h step is grows same other (inr (m, more)) = record {
         infos = infos;
-        ends = subst (Ends Steps Tells walk infos) (sym (same ∙ ap (λ f. Err f) m)) (cut_short info drawn (at, h, subst (λ (a : Result Info E). Steps at (Some a) drawn) is step));
+        ends = by result (subst (Ends Steps Tells walk infos) (sym (same ∙ ap (λ f. Err f) m)) (cut_short info drawn (at, h, subst (λ (a : Result Info E). Steps at (Some a) drawn) is step)));
         grows = subst (Grows a x c z) (append-nil (lines_of infos)) (grows_more a b c x y z (lines_of infos) [] grows more);
       }
 
       -- the walk ended
-      pub adds_all : (walk at drawn : W) (infos : List Info) (old new : Option (List ℕ)) (waiting waits : List ℕ) → Yields Steps walk (given infos) at → Steps at None drawn → Grows old waiting new waits (lines_of infos) → Adds Steps Tells walk old waiting (Ok tt) new waits
-      adds_all walk at drawn infos old new waiting waits h step grows = record {
+      pub adds_all : (limit : Option ℕ) (walk at drawn : W) (infos : List Info) (by : ByLimit limit walk infos) (old new : Option (List ℕ)) (waiting waits : List ℕ) → Yields Steps walk (given infos) at → Steps at None drawn → Grows old waiting new waits (lines_of infos) → Adds Steps Tells limit walk old waiting (Ok tt) new waits
+      adds_all limit walk at drawn infos by old new waiting waits h step grows = record {
         infos = infos;
-        ends = finished drawn (at, h, step);
+        ends = by (Ok tt) (finished drawn (at, h, step));
+        grows = grows;
+      }
+
+      -- as many were drawn as were asked for
+      pub adds_enough : (n : ℕ) (walk at : W) (infos : List Info) (old new : Option (List ℕ)) (waiting waits : List ℕ) → Yields Steps walk (given infos) at → length infos ≡ n → Grows old waiting new waits (lines_of infos) → Adds Steps Tells (Some n) walk old waiting (Ok tt) new waits
+      adds_enough n walk at infos old new waiting waits h all grows = record {
+        infos = infos;
+        ends = enough at h all;
         grows = grows;
       }
 
       -- what was buffered was written
-      pub all_written : (walk : W) (old mid new : Option (List ℕ)) (waiting waits : List ℕ) (answer : Result (Unit {0}) Fault) → Adds Steps Tells walk old waiting answer mid waits → waiting ≡ [] → Appends mid new waits → WritesAll Steps Tells walk old answer new
-      all_written walk old mid new waiting waits answer h none k = record {
+      pub all_written : (limit : Option ℕ) (walk : W) (old mid new : Option (List ℕ)) (waiting waits : List ℕ) (answer : Result (Unit {0}) Fault) → Adds Steps Tells limit walk old waiting answer mid waits → waiting ≡ [] → Appends mid new waits → WritesAll Steps Tells limit walk old answer new
+      all_written limit walk old mid new waiting waits answer h none k = record {
         infos = h.infos;
         ends = h.ends;
         appends = grows_end old mid new waits (lines_of h.infos) (subst (λ (w : List ℕ). Grows old w mid waits (lines_of h.infos)) none h.grows) k;

@@ -9,15 +9,15 @@ use Rattle.std.proofs.lemmas.List.Elements.{Contains-append_left, Contains-appen
 use Rattle.gix_hash.specs.declared.ObjectId.{ObjectId}
 use Rattle.gix_object.specs.Object.{Object, Objects}
 use Rattle.gix_revwalk.specs.declared.CommitTimeOrder.{CommitTimeOrder}
-use Rattle.gix_revwalk.specs.declared.Parents.TheVariants as mode
+use Rattle.gix_revwalk.specs.declared.Parents.{Parents}
 use Rattle.gix_simple.specs.declared.Sorting.{Sorting}
 use Rattle.gix_hash.specs.Reach.{Reaches, start, step}
 use Rattle.gix_revwalk.specs.BreadthOrder.{IsBreadthOrder, first_new}
-use Rattle.gix_revwalk.specs.Commits.{commit_at, commit_of_object, parents_in, parents_of, time_in, time_of}
+use Rattle.gix_revwalk.specs.Commits.{by_mode, commit_at, commit_of_object, parents_in, parents_of, time_in, time_of}
 use Rattle.gix_revwalk.specs.Ids.{new_ids}
 use Rattle.gix_revwalk.specs.TimeOrder.{IsTimeOrder, IsPending, IsBest, IsNoWorse}
 use Rattle.gix_simple.specs.Laws.{IsInOrder}
-use Rattle.gix_simple.specs.Walk.{time_order}
+use Rattle.gix_simple.specs.Walk.{cutoff, is_older}
 use Rattle.gix_topo.specs.Walk.{IsNumberOf}
 use Rattle.gix_hash.proofs.Ids.Membership.{among_is, Contains-here, Contains-there, Contains-cons_cases, no_member}
 use Rattle.gix_hash.proofs.Lists.{filter_within}
@@ -26,7 +26,8 @@ use Rattle.gix_revwalk.proofs.Reached.{reach_more}
 use Rattle.gix_revwalk.proofs.TextParents.{text_whole}
 use Rattle.gix_simple.proofs.Difference.{whole_from}
 use Rattle.gix_simple.proofs.MadeOfTips.{fresh_among}
-use Rattle.gix_commands.specs.Histories.{IsPartOf, IsShown, IsShownBy, AreWhole, ListsBy}
+use Rattle.gix_commands.specs.Histories.{IsPartOf, IsShown, IsShownBy, AreWhole, ListsBy, followed}
+use Rattle.gix_commands.proofs.KeptLists.{followed_reaches}
 
 pub take_within : (k : ℕ) (xs : List ObjectId) (i : ObjectId) → Contains (take k xs) i → Contains xs i
 take_within zero xs i c = absurd (no_member i c)
@@ -126,18 +127,18 @@ module _ (some all : Objects) (part : IsPartOf some all) where
     pub number_in_all : (n : ℕ) → IsNumberOf (IsShown some tips hidden) n → IsNumberOf (IsShown all tips hidden) n
     number_in_all n k = record { ids = k.ids; distinct = k.distinct; each = λ i c. shown_in_all i (k.each i c); all = λ i s. k.all i (shown_in_part i s); number = k.number }
 
--- lists are the same by other parents, and by the times of another store, where these are the same of all that is reached
+-- what is shown is the same by other parents, where these are the same of all that is reached
 module _ (some all : Objects) (next other : ObjectId → List ObjectId) (tips hidden : List ObjectId) (same_next : (c : ObjectId) → Reaches next (tips ++ hidden) c → next c ≡ other c) where
   abbrev AreMet : List ObjectId → Type 0
   AreMet ids = (i : ObjectId) → Reaches next ids i → Reaches next (tips ++ hidden) i
 
-  tips_met : AreMet tips
+  pub tips_met : AreMet tips
   tips_met i r = reach_more next tips (tips ++ hidden) (λ j c. Contains-append_left tips hidden j c) i r
 
   hidden_met : AreMet hidden
   hidden_met i r = reach_more next hidden (tips ++ hidden) (λ j c. Contains-append_right tips hidden j c) i r
 
-  there : (ids : List ObjectId) → AreMet ids → (i : ObjectId) → Reaches next ids i → Reaches other ids i
+  pub there : (ids : List ObjectId) → AreMet ids → (i : ObjectId) → Reaches next ids i → Reaches other ids i
   there ids met i (start s) = start s
   there ids met i (step {c = c} r n) = step (there ids met c r) (subst (λ xs. Contains xs i) (same_next c (met c r)) n)
 
@@ -145,36 +146,63 @@ module _ (some all : Objects) (next other : ObjectId → List ObjectId) (tips hi
   back ids met i (start s) = start s
   back ids met i (step {c = c} r n) = let p : Reaches next ids c = back ids met c r in step p (subst (λ xs. Contains xs i) (sym (same_next c (met c p))) n)
 
-  shown_there : (i : ObjectId) → IsShownBy next tips hidden i → IsShownBy other tips hidden i
+  pub shown_there : (i : ObjectId) → IsShownBy next tips hidden i → IsShownBy other tips hidden i
   shown_there i s = (there tips tips_met i s.0, λ h. s.1 (back hidden hidden_met i h))
 
-  shown_back : (i : ObjectId) → IsShownBy other tips hidden i → IsShownBy next tips hidden i
+  pub shown_back : (i : ObjectId) → IsShownBy other tips hidden i → IsShownBy next tips hidden i
   shown_back i s = (back tips tips_met i s.0, λ h. s.1 (there hidden hidden_met i h))
 
-  pub lists_same : ((i : ObjectId) → Reaches next (tips ++ hidden) i → time_of some i ≡ time_of all i) → (by : Sorting) (ids : List ObjectId) → ListsBy some next by tips hidden ids → ListsBy all other by tips hidden ids
-  lists_same same_times by ids l = record {
+-- what starts reach is the same by other parents, where these are the same of all that is reached
+module _ (next other : ObjectId → List ObjectId) (starts : List ObjectId) (same_next : (c : ObjectId) → Reaches next starts c → next c ≡ other c) where
+  reaches_there : (i : ObjectId) → Reaches next starts i → Reaches other starts i
+  reaches_there i (start s) = start s
+  reaches_there i (step {c = c} r n) = step (reaches_there c r) (subst (λ xs. Contains xs i) (same_next c r) n)
+
+  reaches_here : (i : ObjectId) → Reaches other starts i → Reaches next starts i
+  reaches_here i (start s) = start s
+  reaches_here i (step {c = c} r n) = let p : Reaches next starts c = reaches_here c r in step p (subst (λ xs. Contains xs i) (sym (same_next c p)) n)
+
+-- lists are the same by other parents, and by the times of another store, where these are the same of all that is reached
+module _ (some all : Objects) (next other follow through : ObjectId → List ObjectId) (from hidden : List ObjectId) (order : Option CommitTimeOrder)
+    (same_follow : (c : ObjectId) → Reaches follow from c → follow c ≡ through c) (same_hidden : (c : ObjectId) → Reaches next hidden c → next c ≡ other c) where
+  pub lists_same : ((i : ObjectId) → Reaches follow from i → time_of some i ≡ time_of all i) → (ids : List ObjectId) → ListsBy some next follow order from hidden ids → ListsBy all other through order from hidden ids
+  lists_same same_times ids l = record {
     once = l.once;
-    exact = λ i. (λ c. shown_there i ((l.exact i).0 c), λ s. (l.exact i).1 (shown_back i s));
+    exact = λ i. (
+      λ c. let s = (l.exact i).0 c in record { reached = reaches_there follow through from same_follow i s.reached; outside = λ h. s.outside (reaches_here next other hidden same_hidden i h) },
+      λ s. (l.exact i).1 (record { reached = reaches_here follow through from same_follow i s.reached; outside = λ h. s.outside (reaches_there next other hidden same_hidden i h) }),
+    );
     in_order = (
       l.in_order.0,
-      λ i. (λ e. there hidden hidden_met i ((l.in_order.1 i).0 e), λ r. (l.in_order.1 i).1 (back hidden hidden_met i r)),
-      order_same (Reaches next tips) (λ c. filter (λ i. not (l.in_order.0 i)) (next c)) (λ c. filter (λ i. not (l.in_order.0 i)) (other c)) (time_of some) (time_of all) (filter (λ i. not (l.in_order.0 i)) (new_ids (λ i. false) tips)) ids
-          (λ i c. start (among_is i tips (fresh_among i (λ j. false) tips (filter_within _ (new_ids (λ j. false) tips) i c))))
-          (λ c i r n. step r (filter_within _ (next c) i n)) (λ i c. ((l.exact i).0 c).0) (λ c r. ap (filter (λ i. not (l.in_order.0 i))) (same_next c (tips_met c r)))
-          (λ i r. same_times i (tips_met i r)) (time_order mode.All by) l.in_order.2,
+      λ i. (λ e. reaches_there next other hidden same_hidden i ((l.in_order.1 i).0 e), λ r. (l.in_order.1 i).1 (reaches_here next other hidden same_hidden i r)),
+      order_same (Reaches follow from) (λ c. filter (λ i. not (l.in_order.0 i)) (follow c)) (λ c. filter (λ i. not (l.in_order.0 i)) (through c)) (time_of some) (time_of all) (filter (λ i. not (l.in_order.0 i)) (new_ids (λ i. false) from)) ids
+          (λ i c. start (among_is i from (fresh_among i (λ j. false) from (filter_within _ (new_ids (λ j. false) from) i c))))
+          (λ c i r n. step r (filter_within _ (follow c) i n)) (λ i c. ((l.exact i).0 c).reached) (λ c r. ap (filter (λ i. not (l.in_order.0 i))) (same_follow c r)) same_times order l.in_order.2,
     );
   }
 
 -- where all that is reached is whole, texts name the parents
-module _ (objects : Objects) (by : Sorting) (tips hidden ids : List ObjectId) (whole : AreWhole objects (tips ++ hidden)) where
+module _ (objects : Objects) (tips hidden : List ObjectId) (whole : AreWhole objects (tips ++ hidden)) where
   texts_same : (c : ObjectId) → Reaches (parents_of objects) (tips ++ hidden) c → parents_of objects c ≡ text_next objects c
   texts_same c r = text_whole objects c (whole_from objects c (whole c r))
 
   pub by_parents_reached : (i : ObjectId) → Reaches (text_next objects) (tips ++ hidden) i → Reaches (parents_of objects) (tips ++ hidden) i
   by_parents_reached = back objects objects (parents_of objects) (text_next objects) tips hidden texts_same (tips ++ hidden) (λ i r. r)
 
-  pub by_texts : ListsBy objects (parents_of objects) by tips hidden ids → ListsBy objects (text_next objects) by tips hidden ids
-  by_texts = lists_same objects objects (parents_of objects) (text_next objects) tips hidden texts_same (λ i r. refl) by ids
+  pub parents_same : (c : ObjectId) → Reaches (text_next objects) (tips ++ hidden) c → text_next objects c ≡ parents_of objects c
+  parents_same c r = sym (texts_same c (by_parents_reached c r))
 
-  pub by_parents : ListsBy objects (text_next objects) by tips hidden ids → ListsBy objects (parents_of objects) by tips hidden ids
-  by_parents = lists_same objects objects (text_next objects) (parents_of objects) tips hidden (λ c r. sym (texts_same c (by_parents_reached c r))) (λ i r. refl) by ids
+module _ (objects : Objects) (m : Parents) (by : Sorting) (from hidden : List ObjectId) (order : Option CommitTimeOrder) (ids : List ObjectId) (whole : AreWhole objects (from ++ hidden)) where
+  pub by_texts : ListsBy objects (parents_of objects) (followed objects (parents_of objects) m by) order from hidden ids → ListsBy objects (text_next objects) (followed objects (text_next objects) m by) order from hidden ids
+  by_texts =
+      lists_same objects objects (parents_of objects) (text_next objects) (followed objects (parents_of objects) m by) (followed objects (text_next objects) m by) from hidden order
+      (λ c r. ap (λ ps. filter (λ i. not (is_older (time_of objects i) (cutoff m by))) (by_mode m ps)) (texts_same objects from hidden whole c (reach_more (parents_of objects) from (from ++ hidden) (λ j s. Contains-append_left from hidden j s) c (followed_reaches objects (parents_of objects) m by from c r))))
+      (λ c r. texts_same objects from hidden whole c (reach_more (parents_of objects) hidden (from ++ hidden) (λ j s. Contains-append_right from hidden j s) c r))
+      (λ i r. refl) ids
+
+  pub by_parents : ListsBy objects (text_next objects) (followed objects (text_next objects) m by) order from hidden ids → ListsBy objects (parents_of objects) (followed objects (parents_of objects) m by) order from hidden ids
+  by_parents =
+      lists_same objects objects (text_next objects) (parents_of objects) (followed objects (text_next objects) m by) (followed objects (parents_of objects) m by) from hidden order
+      (λ c r. ap (λ ps. filter (λ i. not (is_older (time_of objects i) (cutoff m by))) (by_mode m ps)) (parents_same objects from hidden whole c (reach_more (text_next objects) from (from ++ hidden) (λ j s. Contains-append_left from hidden j s) c (followed_reaches objects (text_next objects) m by from c r))))
+      (λ c r. parents_same objects from hidden whole c (reach_more (text_next objects) hidden (from ++ hidden) (λ j s. Contains-append_right from hidden j s) c r))
+      (λ i r. refl) ids

@@ -12,6 +12,7 @@ use Rattle.gix_commitgraph.specs.Rows.{GraphRow}
 use Rattle.gix_revwalk.specs.Agreeing.{IsAgreeing}
 use Rattle.gix_revwalk.proofs.Rows.{none_agree}
 use Rattle.gix_revwalk.specs.declared.Info.{Info}
+use Rattle.gix_revwalk.specs.declared.Parents.{Parents}
 use Rattle.gix_simple.specs.declared.Error.{Error}
 use Rattle.gix_simple.specs.declared.Sorting.{Sorting}
 use Rattle.gix_topo.specs.declared.Error.{Error as TopoError}
@@ -29,7 +30,7 @@ use Rattle.gix_records.specs.Reading as reading
 use Rattle.gix_records.specs.Records.{Record, AreRecords, stored}
 use Rattle.gix_commands.specs.Run.{Serves, walked, not_walked, walked_down, not_built, listed, not_listed, counted, not_ahead, not_behind, selected, not_selected, unserved, not_written, Runs, without_memory, no_command, not_read, bad_record, served}
 use Rattle.gix_commands.specs.TopoWalked as topo
-use Rattle.gix_commands.specs.Walked.{Walk, Answers, IsWalkFault, StartsFrom, FailsAtStart, IsStartFault, Ends, finished, failed, cut_short}
+use Rattle.gix_commands.specs.Walked.{Walk, Answers, IsWalkFault, StartsFrom, FailsAtStart, IsStartFault, Ends, EndsBy, finished, failed, cut_short, enough, before}
 use Rattle.gix_commands.specs.Words.{Request, Commits, request_of}
 use Rattle.gix_commands.proofs.MemoryFaults.{failed_so}
 use Rattle.gix_records.proofs.RecordFacts.{no_bad_record}
@@ -61,10 +62,20 @@ topo_ends_sound agreeing (finished new h) = λ e. cc
 topo_ends_sound {walk} agreeing (failed e f new h is) = λ same. drawn_sound walk new _ e agreeing h (sym is ∙ err_same same)
 topo_ends_sound agreeing (cut_short info new h) = λ e. cc
 
+by_sound : (limit : Option ℕ) (walk : Walk) (infos : List Info) {answer : Result (Unit {0}) Fault} → EndsBy Answers IsWalkFault limit walk infos answer → answer ≢ Err fault.Internal
+by_sound None walk infos ends = ends_sound ends
+by_sound (Some n) walk infos (enough at h e) = λ e. cc
+by_sound (Some n) walk infos (before ends less) = ends_sound ends
+
+topo_by_sound : (limit : Option ℕ) (walk : topo.Walk) (infos : List Info) {answer : Result (Unit {0}) Fault} → IsAgreeing walk.plan.store walk.plan.rows → EndsBy topo.Answers topo.IsWalkFault limit walk infos answer → answer ≢ Err fault.Internal
+topo_by_sound None walk infos agreeing ends = topo_ends_sound agreeing ends
+topo_by_sound (Some n) walk infos agreeing (enough at h e) = λ e. cc
+topo_by_sound (Some n) walk infos agreeing (before ends less) = topo_ends_sound agreeing ends
+
 pub serves_sound : {objects : Objects} {rows : List GraphRow} {old new : Option (List ℕ)} {request : Request} {answer : Result (Unit {0}) Fault} → IsAgreeing objects rows → Serves objects rows old request answer new → answer ≢ Err fault.Internal
-serves_sound agreeing (walked walk infos s ends a) = ends_sound ends
+serves_sound agreeing (walked {limit = limit} walk infos s ends a) = by_sound limit walk infos ends
 serves_sound agreeing (not_walked why f) = λ same. start_sound f (err_same same)
-serves_sound agreeing (walked_down walk infos built ends a) = topo_ends_sound (built_agreeing built agreeing) ends
+serves_sound agreeing (walked_down {limit = limit} walk infos built ends a) = topo_by_sound limit walk infos (built_agreeing built agreeing) ends
 serves_sound {objects} {rows} agreeing (not_built {by = by} {tips = tips} {ends = ends} why h) = λ same. build_sound objects rows agreeing by tips ends why h (err_same same)
 serves_sound agreeing (listed recorder r a) = λ e. cc
 serves_sound {objects} agreeing (not_listed recorder why r) = λ same. tree_sound objects r (err_same same)
@@ -114,10 +125,10 @@ module _ (words : List (List ℕ)) (has old : Option (List ℕ)) where
     pub runs_served : (result : Result (Unit {0}) Fault) → Serves (with_rows [] objects) [] old request result new → Runs words has old result new
     runs_served result s = served request read.0 read.1 t read.2 read.3 (subst (λ (o : Objects). Serves o [] old request result new) (without_rows objects ∙ read.4) s)
 
-module _ (objects : Objects) (rows : List GraphRow) (old : Option (List ℕ)) (order : Order) (tips hidden : List ObjectId) where
+module _ (objects : Objects) (rows : List GraphRow) (old : Option (List ℕ)) (order : Order) (limit : Option ℕ) (tips hidden : List ObjectId) where
   -- the walk was drawn
-  module _ {W E : Type 0} (Steps : W → Option (Result Info E) → W → Type 0) (Tells : E → Fault → Type 0) (new : Option (List ℕ)) (walk : W) (serves : (result : Result (Unit {0}) Fault) → WritesAll Steps Tells walk old result new → Serves objects rows old (Commits order tips hidden) result new) where
-    serves_drawn : (result : Result (Unit {0}) Fault) → (result ≢ Err fault.Write → WritesAll Steps Tells walk old result new) → Serves objects rows old (Commits order tips hidden) result new
+  module _ {W E : Type 0} (Steps : W → Option (Result Info E) → W → Type 0) (Tells : E → Fault → Type 0) (new : Option (List ℕ)) (walk : W) (serves : (result : Result (Unit {0}) Fault) → WritesAll Steps Tells limit walk old result new → Serves objects rows old (Commits order limit tips hidden) result new) where
+    serves_drawn : (result : Result (Unit {0}) Fault) → (result ≢ Err fault.Write → WritesAll Steps Tells limit walk old result new) → Serves objects rows old (Commits order limit tips hidden) result new
     serves_drawn (Err fault.Write) w = not_written
     serves_drawn (Ok done) w = serves _ (w (λ e. cc))
     serves_drawn (Err fault.Memory) w = serves _ (w (λ e. cc))
@@ -134,27 +145,27 @@ module _ (objects : Objects) (rows : List GraphRow) (old : Option (List ℕ)) (o
     serves_drawn (Err fault.Read) w = serves _ (w (λ e. cc))
     serves_drawn (Err fault.Internal) w = serves _ (w (λ e. cc))
 
-module _ (objects : Objects) (rows : List GraphRow) (old : Option (List ℕ)) (by : Sorting) (tips hidden : List ObjectId) where
-  pub serves_walk : (new : Option (List ℕ)) (walk : Walk) → StartsFrom objects rows by tips hidden walk → (result : Result (Unit {0}) Fault) → (result ≢ Err fault.Write → WritesAll Answers IsWalkFault walk old result new) → Serves objects rows old (Commits (Simple by) tips hidden) result new
-  serves_walk new walk starts = serves_drawn objects rows old (Simple by) tips hidden Answers IsWalkFault new walk (λ _ w. walked walk w.infos starts w.ends w.appends)
+module _ (objects : Objects) (rows : List GraphRow) (old : Option (List ℕ)) (m : Parents) (by : Sorting) (limit : Option ℕ) (tips hidden : List ObjectId) where
+  pub serves_walk : (new : Option (List ℕ)) (walk : Walk) → StartsFrom objects rows m by tips hidden walk → (result : Result (Unit {0}) Fault) → (result ≢ Err fault.Write → WritesAll Answers IsWalkFault limit walk old result new) → Serves objects rows old (Commits (Simple m by) limit tips hidden) result new
+  serves_walk new walk starts = serves_drawn objects rows old (Simple m by) limit tips hidden Answers IsWalkFault new walk (λ _ w. walked walk w.infos starts w.ends w.appends)
 
-  not_started : (e : Fault) → (why : Error) × FailsAtStart objects by tips why × (e ≡ fault_of_walk why) → Serves objects rows old (Commits (Simple by) tips hidden) (Err e) old
-  not_started e h = subst (λ (f : Fault). Serves objects rows old (Commits (Simple by) tips hidden) (Err f) old) (sym h.2) (not_walked h.0 h.1)
+  not_started : (e : Fault) → (why : Error) × FailsAtStart objects by tips why × (e ≡ fault_of_walk why) → Serves objects rows old (Commits (Simple m by) limit tips hidden) (Err e) old
+  not_started e h = subst (λ (f : Fault). Serves objects rows old (Commits (Simple m by) limit tips hidden) (Err f) old) (sym h.2) (not_walked h.0 h.1)
 
   -- the walk couldn't start
-  pub serves_no_walk : (result : Result (Unit {0}) Fault) (e : Fault) → result ≡ Err e → IsStartFault objects by tips e → Serves objects rows old (Commits (Simple by) tips hidden) result old
-  serves_no_walk result e same h = failed_so (λ r. Serves objects rows old (Commits (Simple by) tips hidden) r old) unserved result e same (λ other. not_started e (h other))
+  pub serves_no_walk : (result : Result (Unit {0}) Fault) (e : Fault) → result ≡ Err e → IsStartFault objects by tips e → Serves objects rows old (Commits (Simple m by) limit tips hidden) result old
+  serves_no_walk result e same h = failed_so (λ r. Serves objects rows old (Commits (Simple m by) limit tips hidden) r old) unserved result e same (λ other. not_started e (h other))
 
-module _ (objects : Objects) (rows : List GraphRow) (old : Option (List ℕ)) (by : TopoSorting) (tips ends : List ObjectId) where
-  pub serves_topo : (new : Option (List ℕ)) (walk : topo.Walk) → topo.IsBuiltFrom objects rows by tips ends (Ok walk) → (result : Result (Unit {0}) Fault) → (result ≢ Err fault.Write → WritesAll topo.Answers topo.IsWalkFault walk old result new) → Serves objects rows old (Commits (Topo by) tips ends) result new
-  serves_topo new walk built = serves_drawn objects rows old (Topo by) tips ends topo.Answers topo.IsWalkFault new walk (λ _ w. walked_down walk w.infos built w.ends w.appends)
+module _ (objects : Objects) (rows : List GraphRow) (old : Option (List ℕ)) (by : TopoSorting) (limit : Option ℕ) (tips ends : List ObjectId) where
+  pub serves_topo : (new : Option (List ℕ)) (walk : topo.Walk) → topo.IsBuiltFrom objects rows by tips ends (Ok walk) → (result : Result (Unit {0}) Fault) → (result ≢ Err fault.Write → WritesAll topo.Answers topo.IsWalkFault limit walk old result new) → Serves objects rows old (Commits (Topo by) limit tips ends) result new
+  serves_topo new walk built = serves_drawn objects rows old (Topo by) limit tips ends topo.Answers topo.IsWalkFault new walk (λ _ w. walked_down walk w.infos built w.ends w.appends)
 
-  topo_not_built : (e : Fault) → (why : TopoError) × topo.IsBuiltFrom objects rows by tips ends (Err why) × (e ≡ fault_of_topo_walk why) → Serves objects rows old (Commits (Topo by) tips ends) (Err e) old
-  topo_not_built e h = subst (λ (f : Fault). Serves objects rows old (Commits (Topo by) tips ends) (Err f) old) (sym h.2) (not_built h.0 h.1)
+  topo_not_built : (e : Fault) → (why : TopoError) × topo.IsBuiltFrom objects rows by tips ends (Err why) × (e ≡ fault_of_topo_walk why) → Serves objects rows old (Commits (Topo by) limit tips ends) (Err e) old
+  topo_not_built e h = subst (λ (f : Fault). Serves objects rows old (Commits (Topo by) limit tips ends) (Err f) old) (sym h.2) (not_built h.0 h.1)
 
   -- the walk couldn't be built
-  pub serves_no_topo : (result : Result (Unit {0}) Fault) (e : Fault) → result ≡ Err e → topo.IsStartFault objects rows by tips ends e → Serves objects rows old (Commits (Topo by) tips ends) result old
-  serves_no_topo result e same h = failed_so (λ r. Serves objects rows old (Commits (Topo by) tips ends) r old) unserved result e same (λ other. topo_not_built e (h other))
+  pub serves_no_topo : (result : Result (Unit {0}) Fault) (e : Fault) → result ≡ Err e → topo.IsStartFault objects rows by tips ends e → Serves objects rows old (Commits (Topo by) limit tips ends) result old
+  serves_no_topo result e same h = failed_so (λ r. Serves objects rows old (Commits (Topo by) limit tips ends) r old) unserved result e same (λ other. topo_not_built e (h other))
 
 -- words that are a command aren't rejected
 pub no_rejection : {command : Result Request Fault} {request : Request} {A : Type 0} → command ≡ Ok request → (e : Fault) → command ≡ Err e → A

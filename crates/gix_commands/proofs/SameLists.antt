@@ -1,14 +1,19 @@
 -- The lists of commits, the numbers of commits and the lines are those of the statement.
-use Rattle.std.specs.Prelude.{◌≡◌, ℕ, ℤ, List, [], ◌∷◌, ◌++◌, map, Contains, codes}
+use Rattle.std.specs.Prelude.{◌≡◌, ℕ, ℤ, List, [], ◌∷◌, ◌++◌, map, take, Contains, Option, Some, None, codes}
 use Rattle.std.specs.List.{flat_map}
 use Rattle.std.proofs.Common.{refl, sym, subst, arith}
+use Rattle.std.proofs.Math.Path.{transport}
 use Rattle.hex.specs.Hex.{encode_lower}
 use Rattle.gix_hash.specs.declared.ObjectId.{ObjectId}
 use Rattle.gix_object.specs.Object.{Objects}
+use Rattle.gix_revwalk.specs.declared.CommitTimeOrder.{CommitTimeOrder}
 use Rattle.gix_revwalk.specs.declared.CommitTimeOrder.TheVariants as order
-use Rattle.gix_revwalk.specs.Commits.{time_of}
+use Rattle.gix_revwalk.specs.declared.Parents.{Parents}
+use Rattle.gix_revwalk.specs.declared.Parents.TheVariants as mode
+use Rattle.gix_revwalk.specs.Commits.{by_mode, time_of}
 use Rattle.gix_simple.specs.declared.Sorting.{Sorting}
 use Rattle.gix_simple.specs.declared.Sorting.TheVariants as sorting
+use Rattle.gix_simple.specs.Walk.{cutoff, time_order}
 use Rattle.gix_topo.specs.declared.Sorting.{Sorting as TopoSorting}
 use Rattle.gix_topo.specs.declared.Sorting.TheVariants as topo
 use Rattle.gix_topo.specs.Laws.{IsSorted}
@@ -18,13 +23,14 @@ use Rattle.gix_tree.specs.Recorder.{record_of}
 use Rattle.gix_tree.specs.Visits.{Visit}
 use Rattle.gix_commands.specs.declared.words.Order.TheVariants.{Simple, Topo}
 use Rattle.gix_commands.specs.Files.{file_lines, six_octal_digits}
-use Rattle.gix_commands.specs.Histories.{IsShownBy, IsListedBy, ListsBy, ListsDown, lines_of_ids}
+use Rattle.gix_commands.specs.Histories.{IsShownBy, IsListedBy, ListsBy, ListsDown, followed, kept_tips, lines_of_ids}
 use Rattle.gix_commands.specs.WholeStatement as page
-use Rattle.gix_commands.specs.WholeStatement.{Follows, IsNumberShown, bytes_in, entry_line}
+use Rattle.gix_commands.specs.WholeStatement.{Comes, Follows, IsNumberShown, bytes_in, entry_line}
+use Rattle.gix_commands.proofs.KeptLists.{all_followed, cut_all, tips_kept}
 use Rattle.gix_commands.proofs.SameOrders.{Throughout, reaches, reaches_back, are_distinct, in_breadth_order, in_time_order}
 use Rattle.gix_commands.proofs.SameDescents.{in_date_order, in_topo_order}
 use Rattle.gix_commands.proofs.SameTrees.{joined_behind, placed_by, same_bytes}
-use Rattle.gix_commands.proofs.SameWords.{IsNameOf}
+use Rattle.gix_commands.proofs.SameWords.{IsCutoff, IsNameOf, IsOptionOf}
 
 -- an order by its name
 abbrev IsTopological : List ℕ → Type 0
@@ -34,52 +40,97 @@ is_topological : (name : List ℕ) (by : TopoSorting) → IsNameOf name (Topo by
 is_topological name topo.TopoOrder e = subst IsTopological (sym e) (0, omega arith, refl)
 is_topological name topo.DateOrder e = subst IsTopological (sym e) (1, omega arith, refl)
 
+-- the name of an order by time, or of breadth order
+abbrev pub IsNameIn : List ℕ → Option CommitTimeOrder → Type 0
+IsNameIn name None = name ≡ codes "breadth"
+IsNameIn name (Some order.NewestFirst) = name ≡ codes "newest"
+IsNameIn name (Some order.OldestFirst) = name ≡ codes "oldest"
+
 -- what commits reach through these parents
 module _ (objects : Objects) (parents : ObjectId → List ObjectId) where
   abbrev time : ObjectId → ℤ
   time = time_of objects
 
-  shown : (tips hidden : List ObjectId) (i : ObjectId) → IsShownBy parents tips hidden i → page.IsShown parents time tips hidden i
-  shown tips hidden i s = (reaches parents tips i s.0, λ r. s.1 (reaches_back parents hidden i r))
+  module _ (followed : ObjectId → List ObjectId) where
+    shown : (from hidden : List ObjectId) (i : ObjectId) → IsInWalk followed parents from hidden i → page.IsShown parents followed time from hidden i
+    shown from hidden i s = (reaches followed from i s.reached, λ r. s.outside (reaches_back parents hidden i r))
 
-  shown_back : (tips hidden : List ObjectId) (i : ObjectId) → page.IsShown parents time tips hidden i → IsShownBy parents tips hidden i
-  shown_back tips hidden i s = (reaches_back parents tips i s.0, λ r. s.1 (reaches parents hidden i r))
+    shown_back : (from hidden : List ObjectId) (i : ObjectId) → page.IsShown parents followed time from hidden i → IsInWalk followed parents from hidden i
+    shown_back from hidden i s = record { reached = reaches_back followed from i s.0; outside = λ r. s.1 (reaches parents hidden i r) }
 
-  -- the order of a name
-  abbrev IsInOrder : List ObjectId → List ObjectId → List ObjectId → List ℕ → Type 0
-  IsInOrder tips hidden ids name = Throughout (λ taken rest. Follows parents time tips hidden taken rest name) ids
+    -- the order of a name
+    abbrev IsInOrder : List ObjectId → List ObjectId → List ObjectId → List ℕ → Type 0
+    IsInOrder from hidden ids name = Throughout (λ taken rest. Comes parents followed time from hidden taken rest name) ids
 
-  in_order : (name : List ℕ) (by : Sorting) → IsNameOf name (Simple by) → (tips hidden ids : List ObjectId) → IsListedBy objects parents by tips hidden ids → IsInOrder tips hidden ids name
-  in_order name sorting.BreadthFirst e tips hidden ids l = subst (IsInOrder tips hidden ids) (sym e) (λ taken rest c. page.breadth (in_breadth_order parents time tips hidden l.0 l.1 ids l.2 taken rest c))
-  in_order name (sorting.ByCommitTime order.NewestFirst) e tips hidden ids l = subst (IsInOrder tips hidden ids) (sym e) (λ taken rest c. page.newest (in_time_order parents time tips hidden l.0 l.1 order.NewestFirst ids l.2 taken rest c))
-  in_order name (sorting.ByCommitTime order.OldestFirst) e tips hidden ids l = subst (IsInOrder tips hidden ids) (sym e) (λ taken rest c. page.oldest (in_time_order parents time tips hidden l.0 l.1 order.OldestFirst ids l.2 taken rest c))
-  in_order name (sorting.ByCommitTimeCutoff by seconds) e tips hidden ids l = absurd e
+    in_order : (name : List ℕ) (o : Option CommitTimeOrder) → IsNameIn name o → (from hidden ids : List ObjectId) → IsListedBy objects parents followed o from hidden ids → IsInOrder from hidden ids name
+    in_order name None e from hidden ids l = subst (IsInOrder from hidden ids) (sym e) (λ taken rest c. page.breadth (in_breadth_order parents followed time from hidden l.0 l.1 ids l.2 taken rest c))
+    in_order name (Some order.NewestFirst) e from hidden ids l = subst (IsInOrder from hidden ids) (sym e) (λ taken rest c. page.newest (in_time_order parents followed time from hidden l.0 l.1 order.NewestFirst ids l.2 taken rest c))
+    in_order name (Some order.OldestFirst) e from hidden ids l = subst (IsInOrder from hidden ids) (sym e) (λ taken rest c. page.oldest (in_time_order parents followed time from hidden l.0 l.1 order.OldestFirst ids l.2 taken rest c))
 
-  pub listed : (name : List ℕ) (by : Sorting) → IsNameOf name (Simple by) → (tips hidden ids : List ObjectId) → ListsBy objects parents by tips hidden ids → page.Lists parents time tips hidden name ids
-  listed name by named tips hidden ids l = (
-    are_distinct ids l.once,
-    λ i m. shown tips hidden i ((l.exact i).0 m),
-    in_order name by named tips hidden ids l.in_order,
-    λ acyclic i s. (l.exact i).1 (shown_back tips hidden i s),
-  )
+    pub listed : (name : List ℕ) (o : Option CommitTimeOrder) → IsNameIn name o → (from hidden ids : List ObjectId) → ListsBy objects parents followed o from hidden ids → page.Lists parents followed time from hidden name ids
+    listed name o named from hidden ids l = (
+      are_distinct ids l.once,
+      λ i m. shown from hidden i ((l.exact i).0 m),
+      in_order name o named from hidden ids l.in_order,
+      λ acyclic i s. (l.exact i).1 (shown_back from hidden i s),
+    )
 
-  in_order_down : (name : List ℕ) (by : TopoSorting) → IsNameOf name (Topo by) → (tips ends ids : List ObjectId) → IsSorted by time parents (IsInWalk parents parents tips ends) tips ids → IsInOrder tips ends ids name
-  in_order_down name topo.DateOrder e tips ends ids l = subst (IsInOrder tips ends ids) (sym e) (λ taken rest c. page.date (in_date_order parents time tips ends ids l taken rest c))
-  in_order_down name topo.TopoOrder e tips ends ids l = subst (IsInOrder tips ends ids) (sym e) (λ taken rest c. let t = in_topo_order parents time tips ends ids l taken rest c in page.topo t.0 t.1 t.2)
+  -- what an order and its option have followed, and from where
+  abbrev pub IsFollowed : List ℕ → List (List ℕ) → List ObjectId → Parents → Sorting → Type 0
+  IsFollowed name option tips m by = Follows parents time tips name option (followed objects parents m by) (kept_tips objects by tips)
 
-  pub listed_down : (name : List ℕ) (by : TopoSorting) → IsNameOf name (Topo by) → (tips ends ids : List ObjectId) → ListsDown objects parents by tips ends ids → page.Lists parents time tips ends name ids
+  plain : (m : Parents) (by : Sorting) → cutoff mode.All by ≡ None → (name : List ℕ) (option words : List (List ℕ)) (tips : List ObjectId) → option ≡ words → Follows parents time tips name words (λ c. by_mode m (parents c)) tips → IsFollowed name option tips m by
+  plain m by e name option words tips same f =
+      transport (λ k. Follows parents time tips name (sym same k) (sym (all_followed objects parents m by (cut_all m by e)) k) (sym (tips_kept objects by tips e) k)) f
+
+  first_is : (ids : List ObjectId) → take 1 ids ≡ by_mode mode.First ids
+  first_is [] = refl
+  first_is (i ∷ ids) = refl
+
+  since : (name : List ℕ) (option : List (List ℕ)) (tips : List ObjectId) (order : CommitTimeOrder) (seconds : ℤ) → Contains (codes "newest" ∷ codes "oldest" ∷ []) name → IsCutoff option seconds → IsFollowed name option tips mode.All (sorting.ByCommitTimeCutoff order seconds)
+  since name option tips order seconds named (number, n, is, same, words) =
+      transport (λ k. Follows parents time tips name (sym words k) (followed objects parents mode.All (sorting.ByCommitTimeCutoff order (sym same k))) (kept_tips objects (sorting.ByCommitTimeCutoff order (sym same k)) tips)) (page.since n named is)
+
+  pub is_followed : (name : List ℕ) (option : List (List ℕ)) (tips : List ObjectId) (m : Parents) (by : Sorting) → IsNameOf name (Simple m by) → IsOptionOf option (Simple m by) → IsFollowed name option tips m by
+  is_followed name option tips mode.All sorting.BreadthFirst named chosen = plain mode.All sorting.BreadthFirst refl name option [] tips chosen page.all
+  is_followed name option tips mode.First sorting.BreadthFirst named chosen =
+      transport (λ k. IsFollowed (sym named k) option tips mode.First sorting.BreadthFirst)
+      (plain mode.First sorting.BreadthFirst refl (codes "breadth") option (codes "--first-parent" ∷ []) tips chosen
+      (subst (λ next. Follows parents time tips (codes "breadth") (codes "--first-parent" ∷ []) next tips) (λ k c. first_is (parents c) k) page.first))
+  is_followed name option tips mode.All (sorting.ByCommitTime by) named chosen = plain mode.All (sorting.ByCommitTime by) refl name option [] tips chosen page.all
+  is_followed name option tips mode.All (sorting.ByCommitTimeCutoff order.NewestFirst seconds) named chosen = since name option tips order.NewestFirst seconds (0, omega arith, sym named) chosen
+  is_followed name option tips mode.All (sorting.ByCommitTimeCutoff order.OldestFirst seconds) named chosen = since name option tips order.OldestFirst seconds (1, omega arith, sym named) chosen
+  is_followed name option tips mode.First (sorting.ByCommitTime by) named chosen = absurd chosen
+  is_followed name option tips mode.First (sorting.ByCommitTimeCutoff by seconds) named chosen = absurd chosen
+
+  -- the name says the order
+  pub is_name_in : (name : List ℕ) (option : List (List ℕ)) (m : Parents) (by : Sorting) → IsNameOf name (Simple m by) → IsOptionOf option (Simple m by) → IsNameIn name (time_order m by)
+  is_name_in name option mode.All sorting.BreadthFirst named chosen = named
+  is_name_in name option mode.First sorting.BreadthFirst named chosen = named
+  is_name_in name option mode.All (sorting.ByCommitTime order.NewestFirst) named chosen = named
+  is_name_in name option mode.All (sorting.ByCommitTime order.OldestFirst) named chosen = named
+  is_name_in name option mode.All (sorting.ByCommitTimeCutoff order.NewestFirst seconds) named chosen = named
+  is_name_in name option mode.All (sorting.ByCommitTimeCutoff order.OldestFirst seconds) named chosen = named
+  is_name_in name option mode.First (sorting.ByCommitTime by) named chosen = absurd chosen
+  is_name_in name option mode.First (sorting.ByCommitTimeCutoff by seconds) named chosen = absurd chosen
+
+  in_order_down : (name : List ℕ) (by : TopoSorting) → IsNameOf name (Topo by) → (tips ends ids : List ObjectId) → IsSorted by time parents (IsInWalk parents parents tips ends) tips ids → IsInOrder parents tips ends ids name
+  in_order_down name topo.DateOrder e tips ends ids l = subst (IsInOrder parents tips ends ids) (sym e) (λ taken rest c. page.date (in_date_order parents time tips ends ids l taken rest c))
+  in_order_down name topo.TopoOrder e tips ends ids l = subst (IsInOrder parents tips ends ids) (sym e) (λ taken rest c. let t = in_topo_order parents time tips ends ids l taken rest c in page.topo t.0 t.1 t.2)
+
+  pub listed_down : (name : List ℕ) (by : TopoSorting) → IsNameOf name (Topo by) → (tips ends ids : List ObjectId) → ListsDown objects parents by tips ends ids → page.Lists parents parents time tips ends name ids
   listed_down name by named tips ends ids l = (
     are_distinct ids l.once,
-    λ i m. shown tips ends i (l.shown i m),
+    λ i m. let s = l.shown i m in shown parents tips ends i (record { reached = s.0; outside = s.1 }),
     in_order_down name by named tips ends ids l.in_order,
-    λ acyclic i s. l.all (λ j m r. acyclic (is_topological name by named) j (shown tips ends j m) (reaches parents (parents j) j r)) i (shown_back tips ends i s),
+    λ acyclic i s. l.all (λ j m r. acyclic (is_topological name by named) j (shown parents tips ends j (record { reached = m.0; outside = m.1 })) (reaches parents (parents j) j r)) i (let k = shown_back parents tips ends i s in (k.reached, k.outside)),
   )
 
-  pub number_shown : (tip hidden : ObjectId) (n : ℕ) → IsNumberOf (IsShownBy parents (tip ∷ []) (hidden ∷ [])) n → IsNumberShown parents time (tip ∷ []) (hidden ∷ []) n
+  pub number_shown : (tip hidden : ObjectId) (n : ℕ) → IsNumberOf (IsShownBy parents (tip ∷ []) (hidden ∷ [])) n → IsNumberShown parents parents time (tip ∷ []) (hidden ∷ []) n
   number_shown tip hidden n c = (
     c.ids,
     are_distinct c.ids c.distinct,
-    λ i. (λ m. shown (tip ∷ []) (hidden ∷ []) i (c.each i m), λ s. c.all i (shown_back (tip ∷ []) (hidden ∷ []) i s)),
+    λ i. (λ m. let s = c.each i m in shown parents (tip ∷ []) (hidden ∷ []) i (record { reached = s.0; outside = s.1 }), λ s. c.all i (let k = shown_back parents (tip ∷ []) (hidden ∷ []) i s in (k.reached, k.outside))),
     c.number,
   )
 
@@ -92,6 +143,6 @@ id_lines [] = refl
 id_lines (i ∷ ids) = (λ k. encode_lower (same_bytes i k) ++ 10 ∷ [] ++ id_lines ids k)
 
 -- the lines of entries
-pub entry_lines : (visits : List Visit) → file_lines (map record_of visits) ≡ flat_map entry_line (map placed_by visits)
-entry_lines [] = refl
-entry_lines (v ∷ visits) = (λ k. six_octal_digits v.entry.mode ++ 32 ∷ (encode_lower (same_bytes v.entry.id k) ++ 32 ∷ (joined_behind v.place.names v.entry.name k ++ 10 ∷ [])) ++ entry_lines visits k)
+pub entry_lines : (ending : ℕ) (visits : List Visit) → file_lines ending (map record_of visits) ≡ flat_map (entry_line ending) (map placed_by visits)
+entry_lines ending [] = refl
+entry_lines ending (v ∷ visits) = (λ k. six_octal_digits v.entry.mode ++ 32 ∷ (encode_lower (same_bytes v.entry.id k) ++ 32 ∷ (joined_behind v.place.names v.entry.name k ++ ending ∷ [])) ++ entry_lines ending visits k)

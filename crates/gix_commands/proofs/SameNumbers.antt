@@ -88,7 +88,7 @@ digit_is c top e l =
     (omega (arith, value, low), omega (arith, value, low, high, l))
 
 -- the number of decimal digits is theirs
-decimal_digits : (text : List ℕ) (n m : ℕ) → digits_behind n text ≡ Some m → AllDigits 10 text × (m ≡ digits_value_after 10 n text)
+pub decimal_digits : (text : List ℕ) (n m : ℕ) → digits_behind n text ≡ Some m → AllDigits 10 text × (m ≡ digits_value_after 10 n text)
 decimal_digits [] n m e = (tt, sym (same_Some n m e))
 decimal_digits (c ∷ text) n m e = go (decimal_digits text (10 * n + (c - 48)) m) (is_ascii_digit c) refl e
   where

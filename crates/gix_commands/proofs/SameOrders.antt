@@ -100,7 +100,7 @@ find-new test old (i ∷ ids) passed = go (find-new test old ids passed) (λ fai
     go same others false o true e = cond-true (test i) _ _ e
     go same others false o false e = cond-false (test i) _ _ e ∙ others e
 
-in_new : (old : ObjectId → Bool) (ids : List ObjectId) (i : ObjectId) → Contains (new_ids old ids) i → Contains ids i
+pub in_new : (old : ObjectId → Bool) (ids : List ObjectId) (i : ObjectId) → Contains (new_ids old ids) i → Contains ids i
 in_new old [] i c = c
 in_new old (j ∷ ids) i c = go (in_new old ids i) (in_new (λ k. is_same k j || old k) ids i) (old j) c
   where
@@ -109,10 +109,10 @@ in_new old (j ∷ ids) i c = go (in_new old ids i) (in_new (λ k. is_same k j ||
     go a b true c = Contains-there i j ids (a c)
     go a b false c = ⊎_elim (λ e. subst (Contains (j ∷ ids)) e (Contains-here j ids)) (λ t. Contains-there i j ids (b t)) (Contains-cons_cases i j (new_ids (λ k. is_same k j || old k) ids) c)
 
-new_in : (ids : List ObjectId) (i : ObjectId) → Contains ids i → Contains (new_ids (λ j. false) ids) i
+pub new_in : (ids : List ObjectId) (i : ObjectId) → Contains ids i → Contains (new_ids (λ j. false) ids) i
 new_in ids i c = among_is i (new_ids (λ j. false) ids) (times_among i (new_ids (λ j. false) ids) 0 (times-fresh i (λ j. false) ids ∙ ap (λ b. cond b 1 0) (among_from i ids c)))
 
-filtered : (pass : ObjectId → Bool) (ids : List ObjectId) (i : ObjectId) → Contains (filter pass ids) i → Contains ids i × (pass i ≡ true)
+pub filtered : (pass : ObjectId → Bool) (ids : List ObjectId) (i : ObjectId) → Contains (filter pass ids) i → Contains ids i × (pass i ≡ true)
 filtered pass [] i c = absurd (no_member i c)
 filtered pass (j ∷ ids) i c = go (filtered pass ids i) (pass j) refl c
   where
@@ -120,7 +120,7 @@ filtered pass (j ∷ ids) i c = go (filtered pass ids i) (pass j) refl c
     go more true p c = ⊎_elim (λ e. (subst (Contains (j ∷ ids)) e (Contains-here j ids), ap pass (sym e) ∙ p)) (λ t. let m = more t in (Contains-there i j ids m.0, m.1)) (Contains-cons_cases i j (filter pass ids) c)
     go more false p c = let m = more c in (Contains-there i j ids m.0, m.1)
 
-filtered_in : (pass : ObjectId → Bool) (ids : List ObjectId) (i : ObjectId) → Contains ids i → pass i ≡ true → Contains (filter pass ids) i
+pub filtered_in : (pass : ObjectId → Bool) (ids : List ObjectId) (i : ObjectId) → Contains ids i → pass i ≡ true → Contains (filter pass ids) i
 filtered_in pass [] i c p = c
 filtered_in pass (j ∷ ids) i c p = go (λ t. filtered_in pass ids i t p) (pass j) refl
   where
@@ -144,7 +144,7 @@ and_fails : (a b : Bool) → (a && b) ≡ false → (a ≡ false) ⊎ (b ≡ fal
 and_fails true b e = inr e
 and_fails false b e = inl refl
 
-module _ (parents : ObjectId → List ObjectId) (time : ObjectId → ℤ) (tips hidden : List ObjectId) (hides : ObjectId → Bool) (tells : Tells hides (reach.Reaches parents hidden)) where
+module _ (parents followed : ObjectId → List ObjectId) (time : ObjectId → ℤ) (from hidden : List ObjectId) (hides : ObjectId → Bool) (tells : Tells hides (reach.Reaches parents hidden)) where
   hidden_is : (i : ObjectId) → hides i ≡ true → Reaches parents hidden i
   hidden_is i e = reaches parents hidden i ((tells i).0 e)
 
@@ -159,62 +159,62 @@ module _ (parents : ObjectId → List ObjectId) (time : ObjectId → ℤ) (tips 
       go false e = refl
 
   abbrev next : ObjectId → List ObjectId
-  next c = filter (λ i. not (hides i)) (parents c)
+  next c = filter (λ i. not (hides i)) (followed c)
 
   abbrev starts : List ObjectId
-  starts = filter (λ i. not (hides i)) (new_ids (λ i. false) tips)
+  starts = filter (λ i. not (hides i)) (new_ids (λ i. false) from)
 
   abbrev is_left : List ObjectId → ObjectId → Bool
   is_left taken i = not (hides i) && not (is_among i taken)
 
-  find_next : (taken those : List ObjectId) → find (λ i. not (is_among i taken)) (flat_map next those) ≡ find (is_left taken) (flat_map parents those)
+  find_next : (taken those : List ObjectId) → find (λ i. not (is_among i taken)) (flat_map next those) ≡ find (is_left taken) (flat_map followed those)
   find_next taken [] = refl
-  find_next taken (c ∷ those) = find-both _ _ (next c) (flat_map next those) (parents c) (flat_map parents those) (find-filter (λ i. not (is_among i taken)) (λ i. not (hides i)) (parents c)) (find_next taken those)
+  find_next taken (c ∷ those) = find-both _ _ (next c) (flat_map next those) (followed c) (flat_map followed those) (find-filter (λ i. not (is_among i taken)) (λ i. not (hides i)) (followed c)) (find_next taken those)
 
-  find_named : (taken : List ObjectId) → find (λ i. not (is_among i taken)) (named_by next starts taken) ≡ find (is_left taken) (tips ++ flat_map parents taken)
+  find_named : (taken : List ObjectId) → find (λ i. not (is_among i taken)) (named_by next starts taken) ≡ find (is_left taken) (from ++ flat_map followed taken)
   find_named taken =
-      find-both _ _ starts (flat_map next taken) tips (flat_map parents taken)
-      (find-filter (λ i. not (is_among i taken)) (λ i. not (hides i)) (new_ids (λ i. false) tips) ∙ find-new (is_left taken) (λ i. false) tips (λ i e. absurd (false≢true e))) (find_next taken taken)
+      find-both _ _ starts (flat_map next taken) from (flat_map followed taken)
+      (find-filter (λ i. not (is_among i taken)) (λ i. not (hides i)) (new_ids (λ i. false) from) ∙ find-new (is_left taken) (λ i. false) from (λ i e. absurd (false≢true e))) (find_next taken taken)
 
-  pub in_breadth_order : (ids : List ObjectId) → IsBreadthOrder next starts ids → Throughout (λ taken. IsFirst (IsPending parents time tips hidden taken) (tips ++ flat_map parents taken)) ids
+  pub in_breadth_order : (ids : List ObjectId) → IsBreadthOrder next starts ids → Throughout (λ taken. IsFirst (IsPending parents followed time from hidden taken) (from ++ flat_map followed taken)) ids
   in_breadth_order ids h taken rest e =
-      is_first (is_left taken) (IsPending parents time tips hidden taken) (tips ++ flat_map parents taken) yes no rest (cut (λ before o. o ≡ find (λ i. not (is_among i before)) (named_by next starts before)) ids h taken rest e ∙ find_named taken)
+      is_first (is_left taken) (IsPending parents followed time from hidden taken) (from ++ flat_map followed taken) yes no rest (cut (λ before o. o ≡ find (λ i. not (is_among i before)) (named_by next starts before)) ids h taken rest e ∙ find_named taken)
     where
-      yes : (i : ObjectId) → Contains (tips ++ flat_map parents taken) i → is_left taken i ≡ true → IsPending parents time tips hidden taken i
+      yes : (i : ObjectId) → Contains (from ++ flat_map followed taken) i → is_left taken i ≡ true → IsPending parents followed time from hidden taken i
       yes i named o = let both = and_parts (not (hides i)) (not (is_among i taken)) o in (named, λ c. false≢true (sym (not_true (is_among i taken) both.1) ∙ among_from i taken c), not_hidden i both.0)
 
-      no : (i : ObjectId) → is_left taken i ≡ false → IsPending parents time tips hidden taken i → ⊥
+      no : (i : ObjectId) → is_left taken i ≡ false → IsPending parents followed time from hidden taken i → ⊥
       no i o p = ⊎_elim (λ f. p.2 (hidden_is i (not_false (hides i) f))) (λ f. p.1 (among_is i taken (not_false (is_among i taken) f))) (and_fails (not (hides i)) (not (is_among i taken)) o)
 
-  named_next : (those : List ObjectId) (i : ObjectId) → Contains (flat_map next those) i → Contains (flat_map parents those) i × (not (hides i) ≡ true)
+  named_next : (those : List ObjectId) (i : ObjectId) → Contains (flat_map next those) i → Contains (flat_map followed those) i × (not (hides i) ≡ true)
   named_next [] i c = absurd (no_member i c)
   named_next (d ∷ those) i c =
-      ⊎_elim (λ n. let f = filtered (λ j. not (hides j)) (parents d) i n in (Contains-append_left (parents d) (flat_map parents those) i f.0, f.1))
-      (λ n. let f = named_next those i n in (Contains-append_right (parents d) (flat_map parents those) i f.0, f.1)) (Contains-append_cases (next d) (flat_map next those) i c)
+      ⊎_elim (λ n. let f = filtered (λ j. not (hides j)) (followed d) i n in (Contains-append_left (followed d) (flat_map followed those) i f.0, f.1))
+      (λ n. let f = named_next those i n in (Contains-append_right (followed d) (flat_map followed those) i f.0, f.1)) (Contains-append_cases (next d) (flat_map next those) i c)
 
-  next_named : (those : List ObjectId) (i : ObjectId) → Contains (flat_map parents those) i → not (hides i) ≡ true → Contains (flat_map next those) i
+  next_named : (those : List ObjectId) (i : ObjectId) → Contains (flat_map followed those) i → not (hides i) ≡ true → Contains (flat_map next those) i
   next_named [] i c out = c
   next_named (d ∷ those) i c out =
-      ⊎_elim (λ n. Contains-append_left (next d) (flat_map next those) i (filtered_in (λ j. not (hides j)) (parents d) i n out)) (λ n. Contains-append_right (next d) (flat_map next those) i (next_named those i n out))
-      (Contains-append_cases (parents d) (flat_map parents those) i c)
+      ⊎_elim (λ n. Contains-append_left (next d) (flat_map next those) i (filtered_in (λ j. not (hides j)) (followed d) i n out)) (λ n. Contains-append_right (next d) (flat_map next those) i (next_named those i n out))
+      (Contains-append_cases (followed d) (flat_map followed those) i c)
 
-  pending : (taken : List ObjectId) (i : ObjectId) → times.IsPending next starts taken i → IsPending parents time tips hidden taken i
+  pending : (taken : List ObjectId) (i : ObjectId) → times.IsPending next starts taken i → IsPending parents followed time from hidden taken i
   pending taken i p =
       ⊎_elim
-      (λ c. let f = filtered (λ j. not (hides j)) (new_ids (λ j. false) tips) i c in (Contains-append_left tips (flat_map parents taken) i (in_new (λ j. false) tips i f.0), p.1, not_hidden i f.1))
-      (λ c. let f = named_next taken i c in (Contains-append_right tips (flat_map parents taken) i f.0, p.1, not_hidden i f.1)) (Contains-append_cases starts (flat_map next taken) i p.0)
+      (λ c. let f = filtered (λ j. not (hides j)) (new_ids (λ j. false) from) i c in (Contains-append_left from (flat_map followed taken) i (in_new (λ j. false) from i f.0), p.1, not_hidden i f.1))
+      (λ c. let f = named_next taken i c in (Contains-append_right from (flat_map followed taken) i f.0, p.1, not_hidden i f.1)) (Contains-append_cases starts (flat_map next taken) i p.0)
 
-  pending_back : (taken : List ObjectId) (i : ObjectId) → IsPending parents time tips hidden taken i → times.IsPending next starts taken i
+  pending_back : (taken : List ObjectId) (i : ObjectId) → IsPending parents followed time from hidden taken i → times.IsPending next starts taken i
   pending_back taken i p =
       let out : not (hides i) ≡ true = is_not_hidden i p.2 in (
-        ⊎_elim (λ c. Contains-append_left starts (flat_map next taken) i (filtered_in (λ j. not (hides j)) (new_ids (λ j. false) tips) i (new_in tips i c) out))
-            (λ c. Contains-append_right starts (flat_map next taken) i (next_named taken i c out)) (Contains-append_cases tips (flat_map parents taken) i p.0),
+        ⊎_elim (λ c. Contains-append_left starts (flat_map next taken) i (filtered_in (λ j. not (hides j)) (new_ids (λ j. false) from) i (new_in from i c) out))
+            (λ c. Contains-append_right starts (flat_map next taken) i (next_named taken i c out)) (Contains-append_cases from (flat_map followed taken) i p.0),
         p.1,
       )
 
   -- of all that are pending one of best time
   abbrev Follows : CommitTimeOrder → List ObjectId → List ObjectId → Type 0
-  Follows order taken rest = IsBest (λ i other. IsNoWorse order (time i) (time other)) (IsPending parents time tips hidden taken) rest
+  Follows order taken rest = IsBest (λ i other. IsNoWorse order (time i) (time other)) (IsPending parents followed time from hidden taken) rest
 
   best : (order : CommitTimeOrder) (taken rest : List ObjectId) → MatchOption (slice_get rest 0) ((i : ObjectId) → times.IsPending next starts taken i → ⊥) (times.IsBest order time (times.IsPending next starts taken)) → Follows order taken rest
   best order taken [] h = (λ i p. h i (pending_back taken i p))

@@ -1,37 +1,71 @@
 -- What words ask for is what the statement says that they ask for.
-use Rattle.std.specs.Prelude.{◌≡◌, ◌≢◌, ◌+◌, ◌==◌, ◌||◌, ◌&&◌, ℕ, List, [], ◌∷◌, Bool, true, false, cond, Option, Some, None, Result, Ok, Err, codes}
+use Rattle.std.specs.Prelude.{◌≡◌, ◌≢◌, ◌⊎◌, ◌+◌, ◌==◌, ◌||◌, ◌&&◌, nat_lt, nat_le, length, ℕ, ℤ, pos, List, [], ◌∷◌, ◌++◌, Bool, true, false, cond, Option, Some, None, Result, Ok, Err, codes}
 use Rattle.std.specs.List.{list_all}
 use Rattle.std.specs.Str.{bytes_eq}
 use Rattle.std.proofs.Common.{refl, sym, ap, subst, ◌∙◌, inl, inr}
-use Rattle.std.proofs.lemmas.Bool.{eqb-true, false≢true}
+use Rattle.std.proofs.lemmas.Bool.{eqb-true, ltb-true, leb-true, false≢true}
 use Rattle.std.proofs.lemmas.Slice.Eq.{bytes_eq-Decides}
 use Rattle.gix_hash.specs.declared.ObjectId.{ObjectId}
 use Rattle.gix_hash.specs.declared.HexError.{HexError}
 use Rattle.gix_hash.specs.Id.{id_from_hex}
+use Rattle.gix_records.specs.Decimal.{digits_behind}
 use Rattle.gix_revwalk.specs.declared.CommitTimeOrder.TheVariants as order
+use Rattle.gix_revwalk.specs.declared.Parents.TheVariants as mode
 use Rattle.gix_simple.specs.declared.Sorting.TheVariants as sorting
 use Rattle.gix_topo.specs.declared.Sorting.TheVariants as topo
 use Rattle.gix_commands.specs.declared.fault.Fault.{Fault}
 use Rattle.gix_commands.specs.declared.fault.Fault.TheVariants as fault
 use Rattle.gix_commands.specs.declared.words.Order.{Order}
 use Rattle.gix_commands.specs.declared.words.Order.TheVariants.{Simple, Topo}
-use Rattle.gix_commands.specs.Words.{Request, Commits, Files, Ahead, Contained, Ids, begins_with_caret, without_caret, is_shown, with_id, with_word, ids_from, order_named, commits_from, commits_of, files_from, files_of, ahead_from, ahead_of, contained_among, contained_from, contained_of, request_named, request_of}
-use Rattle.gix_commands.specs.WholeStatement.{Spells, AreTips, digits_in}
-use Rattle.gix_commands.proofs.SameNumbers.{hex_spelled}
+use Rattle.gix_commands.specs.Words.{Request, Commits, Files, Ahead, Contained, Ids, begins_with_caret, without_caret, is_shown, with_id, with_word, ids_from, number_in, order_named, commits_from, commits_of, limited_of, listed_of, chosen_of, recent_of, since_of, by_first_parents, by_cutoff, in_order_of, file_of, files_from, files_of, ahead_from, ahead_of, contained_among, contained_from, contained_of, request_named, request_of}
+use Rattle.gix_commands.specs.WholeStatement.{IsNumber, Spells, AreTips, digits_in}
+use Rattle.gix_commands.proofs.SameNumbers.{decimal_digits, hex_spelled}
 
 -- the name of an order
 abbrev pub IsNameOf : List ℕ → Order → Type 0
-IsNameOf name (Simple sorting.BreadthFirst) = name ≡ codes "breadth"
-IsNameOf name (Simple (sorting.ByCommitTime order.NewestFirst)) = name ≡ codes "newest"
-IsNameOf name (Simple (sorting.ByCommitTime order.OldestFirst)) = name ≡ codes "oldest"
-IsNameOf name (Simple (sorting.ByCommitTimeCutoff by seconds)) = ⊥
+IsNameOf name (Simple m sorting.BreadthFirst) = name ≡ codes "breadth"
+IsNameOf name (Simple m (sorting.ByCommitTime order.NewestFirst)) = name ≡ codes "newest"
+IsNameOf name (Simple m (sorting.ByCommitTime order.OldestFirst)) = name ≡ codes "oldest"
+IsNameOf name (Simple m (sorting.ByCommitTimeCutoff order.NewestFirst seconds)) = name ≡ codes "newest"
+IsNameOf name (Simple m (sorting.ByCommitTimeCutoff order.OldestFirst seconds)) = name ≡ codes "oldest"
 IsNameOf name (Topo topo.TopoOrder) = name ≡ codes "topo"
 IsNameOf name (Topo topo.DateOrder) = name ≡ codes "date"
 
--- what is so of the order that a name chooses
+-- the words of a cutoff
+abbrev pub IsCutoff : List (List ℕ) → ℤ → Type 0
+IsCutoff option seconds = (number : List ℕ) × (n : ℕ) × IsNumber 10 10 number n × (seconds ≡ pos n) × (option ≡ codes "--since" ∷ number ∷ [])
+
+-- the words of an order's option
+abbrev pub IsOptionOf : List (List ℕ) → Order → Type 0
+IsOptionOf option (Simple mode.All sorting.BreadthFirst) = option ≡ []
+IsOptionOf option (Simple mode.First sorting.BreadthFirst) = option ≡ codes "--first-parent" ∷ []
+IsOptionOf option (Simple mode.All (sorting.ByCommitTime order)) = option ≡ []
+IsOptionOf option (Simple mode.All (sorting.ByCommitTimeCutoff order seconds)) = IsCutoff option seconds
+IsOptionOf option (Simple mode.First (sorting.ByCommitTime order)) = ⊥
+IsOptionOf option (Simple mode.First (sorting.ByCommitTimeCutoff order seconds)) = ⊥
+IsOptionOf option (Topo by) = option ≡ []
+
+-- what is so of the order that a name and an option choose
+abbrev IsChosenWith : List ℕ → List (List ℕ) → Option Order → Type 0
+IsChosenWith name option None = Unit {0}
+IsChosenWith name option (Some by) = IsNameOf name by × IsOptionOf option by
+
 abbrev IsChosenBy : List ℕ → Option Order → Type 0
-IsChosenBy name None = Unit {0}
-IsChosenBy name (Some by) = IsNameOf name by
+IsChosenBy name = IsChosenWith name []
+
+first_chosen : (name : List ℕ) (by : Order) → IsNameOf name by → IsChosenWith name (codes "--first-parent" ∷ []) (by_first_parents by)
+first_chosen name (Simple m sorting.BreadthFirst) named = (named, refl)
+first_chosen name (Simple m (sorting.ByCommitTime order)) named = tt
+first_chosen name (Simple m (sorting.ByCommitTimeCutoff order seconds)) named = tt
+first_chosen name (Topo by) named = tt
+
+since_chosen : (name number : List ℕ) (n : ℕ) → IsNumber 10 10 number n → (by : Order) → IsNameOf name by → IsOptionOf [] by → IsChosenWith name (codes "--since" ∷ number ∷ []) (by_cutoff (pos n) by)
+since_chosen name number n is (Simple m sorting.BreadthFirst) named plain = tt
+since_chosen name number n is (Simple mode.All (sorting.ByCommitTime order.NewestFirst)) named plain = (named, (number, n, is, refl, refl))
+since_chosen name number n is (Simple mode.All (sorting.ByCommitTime order.OldestFirst)) named plain = (named, (number, n, is, refl, refl))
+since_chosen name number n is (Simple mode.First (sorting.ByCommitTime order)) named plain = absurd plain
+since_chosen name number n is (Simple m (sorting.ByCommitTimeCutoff order seconds)) named plain = tt
+since_chosen name number n is (Topo by) named plain = tt
 
 order_is : (name : List ℕ) → IsChosenBy name (order_named name)
 order_is name = first (bytes_eq name (codes "breadth")) refl
@@ -40,25 +74,25 @@ order_is name = first (bytes_eq name (codes "breadth")) refl
     is word e = (bytes_eq-Decides name word).0 e
 
     fifth : (t : Bool) → bytes_eq name (codes "date") ≡ t → IsChosenBy name (cond t (Some (Topo topo.DateOrder)) None)
-    fifth true e = is (codes "date") e
+    fifth true e = (is (codes "date") e, refl)
     fifth false e = tt
 
     fourth : (t : Bool) → bytes_eq name (codes "topo") ≡ t → IsChosenBy name (cond t (Some (Topo topo.TopoOrder)) (cond (bytes_eq name (codes "date")) (Some (Topo topo.DateOrder)) None))
-    fourth true e = is (codes "topo") e
+    fourth true e = (is (codes "topo") e, refl)
     fourth false e = fifth (bytes_eq name (codes "date")) refl
 
-    third : (t : Bool) → bytes_eq name (codes "oldest") ≡ t → IsChosenBy name (cond t (Some (Simple (sorting.ByCommitTime order.OldestFirst))) (cond (bytes_eq name (codes "topo")) (Some (Topo topo.TopoOrder)) (cond (bytes_eq name (codes "date")) (Some (Topo topo.DateOrder)) None)))
-    third true e = is (codes "oldest") e
+    third : (t : Bool) → bytes_eq name (codes "oldest") ≡ t → IsChosenBy name (cond t (Some (Simple mode.All (sorting.ByCommitTime order.OldestFirst))) (cond (bytes_eq name (codes "topo")) (Some (Topo topo.TopoOrder)) (cond (bytes_eq name (codes "date")) (Some (Topo topo.DateOrder)) None)))
+    third true e = (is (codes "oldest") e, refl)
     third false e = fourth (bytes_eq name (codes "topo")) refl
 
     second : (t : Bool) → bytes_eq name (codes "newest") ≡ t
-        → IsChosenBy name (cond t (Some (Simple (sorting.ByCommitTime order.NewestFirst))) (cond (bytes_eq name (codes "oldest")) (Some (Simple (sorting.ByCommitTime order.OldestFirst))) (cond (bytes_eq name (codes "topo")) (Some (Topo topo.TopoOrder)) (cond (bytes_eq name (codes "date")) (Some (Topo topo.DateOrder)) None))))
-    second true e = is (codes "newest") e
+        → IsChosenBy name (cond t (Some (Simple mode.All (sorting.ByCommitTime order.NewestFirst))) (cond (bytes_eq name (codes "oldest")) (Some (Simple mode.All (sorting.ByCommitTime order.OldestFirst))) (cond (bytes_eq name (codes "topo")) (Some (Topo topo.TopoOrder)) (cond (bytes_eq name (codes "date")) (Some (Topo topo.DateOrder)) None))))
+    second true e = (is (codes "newest") e, refl)
     second false e = third (bytes_eq name (codes "oldest")) refl
 
     first : (t : Bool) → bytes_eq name (codes "breadth") ≡ t
-        → IsChosenBy name (cond t (Some (Simple sorting.BreadthFirst)) (cond (bytes_eq name (codes "newest")) (Some (Simple (sorting.ByCommitTime order.NewestFirst))) (cond (bytes_eq name (codes "oldest")) (Some (Simple (sorting.ByCommitTime order.OldestFirst))) (cond (bytes_eq name (codes "topo")) (Some (Topo topo.TopoOrder)) (cond (bytes_eq name (codes "date")) (Some (Topo topo.DateOrder)) None)))))
-    first true e = is (codes "breadth") e
+        → IsChosenBy name (cond t (Some (Simple mode.All sorting.BreadthFirst)) (cond (bytes_eq name (codes "newest")) (Some (Simple mode.All (sorting.ByCommitTime order.NewestFirst))) (cond (bytes_eq name (codes "oldest")) (Some (Simple mode.All (sorting.ByCommitTime order.OldestFirst))) (cond (bytes_eq name (codes "topo")) (Some (Topo topo.TopoOrder)) (cond (bytes_eq name (codes "date")) (Some (Topo topo.DateOrder)) None)))))
+    first true e = (is (codes "breadth") e, refl)
     first false e = second (bytes_eq name (codes "newest")) refl
 
 -- what is so of the ids that words spell
@@ -97,37 +131,110 @@ all_hidden [] tips hidden h e = refl
 all_hidden (word ∷ words) tips hidden (inl (i, rest, is, s, h)) e = let no : [] ≡ i ∷ rest = sym e ∙ is in cc
 all_hidden (word ∷ words) tips hidden (inr (i, rest, is, id, begins, s, h)) e = ap (λ w. begins_with_caret w && list_all begins_with_caret words) begins ∙ all_hidden words tips rest h e
 
+-- ids, or ids behind `-n` and a number
+abbrev pub AreBehind : Option ℕ → List (List ℕ) → List (List ℕ) → Type 0
+AreBehind None words ids = words ≡ ids
+AreBehind (Some n) words ids = (number : List ℕ) × IsNumber 10 9 number n × (words ≡ codes "-n" ∷ number ∷ ids)
+
+pub is_number : (most : ℕ) (text : List ℕ) (n : ℕ) → number_in most text ≡ Some n → IsNumber 10 most text n
+is_number most text n e = go (nat_lt 0 (length text)) (nat_le (length text) most) refl refl e
+  where
+    go : (s t : Bool) → nat_lt 0 (length text) ≡ s → nat_le (length text) most ≡ t → cond (s && t) (digits_behind 0 text) None ≡ Some n → IsNumber 10 most text n
+    go true true some few e = let d = decimal_digits text 0 n e in (ltb-true 0 (length text) some, leb-true (length text) most few, d.0, d.1)
+    go true false some few e = cc
+    go false t some few e = cc
+
+-- the option that chooses the byte behind an entry
+abbrev pub IsEndedBy : List (List ℕ) → ℕ → Type 0
+IsEndedBy option ending = ((option ≡ []) × (ending ≡ 10)) ⊎ ((option ≡ codes "-z" ∷ []) × (ending ≡ 0))
+
 -- what the words of a request are
 abbrev pub AreWordsOf : List (List ℕ) → Result Request Fault → Type 0
 AreWordsOf words (Err e) = Unit {0}
-AreWordsOf words (Ok (Commits by tips hidden)) = (name : List ℕ) × (rest : List (List ℕ)) × (words ≡ name ∷ rest) × IsNameOf name by × AreTips rest tips hidden × (tips ≢ [])
-AreWordsOf words (Ok (Files tree)) = (text : List ℕ) × (words ≡ codes "files" ∷ text ∷ []) × Spells (digits_in tree) text tree
+AreWordsOf words (Ok (Commits by limit tips hidden)) =
+    (name : List ℕ) × (option rest ids : List (List ℕ)) × (words ≡ name ∷ (option ++ rest)) × IsNameOf name by × IsOptionOf option by
+    × AreBehind limit rest ids × AreTips ids tips hidden × (tips ≢ [])
+AreWordsOf words (Ok (Files ending tree)) =
+    (option : List (List ℕ)) × (text : List ℕ) × IsEndedBy option ending × (words ≡ codes "files" ∷ (option ++ text ∷ [])) × Spells (digits_in tree) text tree
 AreWordsOf words (Ok (Ahead one other)) = (a b : List ℕ) × (words ≡ codes "ahead" ∷ a ∷ b ∷ []) × Spells (digits_in one) a one × Spells (digits_in other) b other
 AreWordsOf words (Ok (Contained tip ids)) = (rest : List (List ℕ)) × (words ≡ codes "contains" ∷ rest) × AreTips rest (tip ∷ ids) [] × (ids ≢ [])
 
-commits_are : (name : List ℕ) (by : Order) (rest : List (List ℕ)) → IsNameOf name by → AreWordsOf (name ∷ rest) (commits_of by rest)
-commits_are name by rest named = go (list_all begins_with_caret rest) refl
-  where
-    from : (r : Result Ids Fault) → list_all begins_with_caret rest ≡ false → AreIdsOf rest r → AreWordsOf (name ∷ rest) (commits_from by r)
-    from (Err e) some h = tt
-    from (Ok ids) some h = (name, rest, refl, named, h, λ e. false≢true (sym some ∙ all_hidden rest ids.0 ids.1 h e))
+-- what is so of words behind a name and an option
+module _ (name : List ℕ) (option : List (List ℕ)) where
+  abbrev AreWordsBehind : List (List ℕ) → Result Request Fault → Type 0
+  AreWordsBehind words = AreWordsOf (name ∷ (option ++ words))
 
-    go : (t : Bool) → list_all begins_with_caret rest ≡ t → AreWordsOf (name ∷ rest) (cond t (Err fault.Usage) (commits_from by (ids_from 2 rest)))
-    go true e = tt
-    go false e = from (ids_from 2 rest) e (ids_are 2 rest)
+  commits_are : (by : Order) (limit : Option ℕ) (n : ℕ) (words rest : List (List ℕ)) → IsNameOf name by → IsOptionOf option by → AreBehind limit words rest → AreWordsBehind words (commits_of by limit n rest)
+  commits_are by limit n words rest named chosen behind = go (list_all begins_with_caret rest) refl
+    where
+      from : (r : Result Ids Fault) → list_all begins_with_caret rest ≡ false → AreIdsOf rest r → AreWordsBehind words (commits_from by limit r)
+      from (Err e) some h = tt
+      from (Ok ids) some h = (name, option, words, rest, refl, named, chosen, behind, h, λ e. false≢true (sym some ∙ all_hidden rest ids.0 ids.1 h e))
+
+      go : (t : Bool) → list_all begins_with_caret rest ≡ t → AreWordsBehind words (cond t (Err fault.Usage) (commits_from by limit (ids_from n rest)))
+      go true e = tt
+      go false e = from (ids_from n rest) e (ids_are n rest)
+
+  listed_are : (by : Order) (n : ℕ) (words : List (List ℕ)) → IsNameOf name by → IsOptionOf option by → AreWordsBehind words (listed_of by n words)
+  listed_are by n [] named chosen = commits_are by None n [] [] named chosen refl
+  listed_are by n (id ∷ []) named chosen = commits_are by None n (id ∷ []) (id ∷ []) named chosen refl
+  listed_are by n (word ∷ number ∷ ids) named chosen = go (bytes_eq word (codes "-n")) refl
+    where
+      from : (limit : Option ℕ) → number_in 9 number ≡ limit → word ≡ codes "-n" → AreWordsBehind (word ∷ number ∷ ids) (limited_of by limit (n + 2) ids)
+      from (Some most) e is = commits_are by (Some most) (n + 2) (word ∷ number ∷ ids) ids named chosen (number, is_number 9 number most e, ap (λ w. w ∷ number ∷ ids) is)
+      from None e is = tt
+
+      go : (t : Bool) → bytes_eq word (codes "-n") ≡ t → AreWordsBehind (word ∷ number ∷ ids) (cond t (limited_of by (number_in 9 number) (n + 2) ids) (commits_of by None n (word ∷ number ∷ ids)))
+      go true e = from (number_in 9 number) refl ((bytes_eq-Decides word (codes "-n")).0 e)
+      go false e = commits_are by None n (word ∷ number ∷ ids) (word ∷ number ∷ ids) named chosen refl
+
+  chosen_are : (o : Option Order) (n : ℕ) (words : List (List ℕ)) → IsChosenWith name option o → AreWordsBehind words (chosen_of o n words)
+  chosen_are (Some by) n words h = listed_are by n words h.0 h.1
+  chosen_are None n words h = tt
+
+since_are : (name : List ℕ) (by : Order) (words : List (List ℕ)) → IsNameOf name by → IsOptionOf [] by → AreWordsOf (name ∷ codes "--since" ∷ words) (since_of by words)
+since_are name by [] named plain = tt
+since_are name by (number ∷ words) named plain = from (number_in 10 number) refl
+  where
+    from : (seconds : Option ℕ) → number_in 10 number ≡ seconds → AreWordsOf (name ∷ codes "--since" ∷ number ∷ words) (recent_of by seconds words)
+    from (Some n) e = chosen_are name (codes "--since" ∷ number ∷ []) (by_cutoff (pos n) by) 4 words (since_chosen name number n (is_number 10 number n e) by named plain)
+    from None e = tt
+
+in_order_are : (name : List ℕ) (by : Order) (words : List (List ℕ)) → IsNameOf name by → IsOptionOf [] by → AreWordsOf (name ∷ words) (in_order_of by words)
+in_order_are name by [] named plain = listed_are name [] by 2 [] named plain
+in_order_are name by (option ∷ words) named plain = first (bytes_eq option (codes "--first-parent")) refl
+  where
+    second : (t : Bool) → bytes_eq option (codes "--since") ≡ t → AreWordsOf (name ∷ option ∷ words) (cond t (since_of by words) (listed_of by 2 (option ∷ words)))
+    second true e = subst (λ word. AreWordsOf (name ∷ word ∷ words) (since_of by words)) (sym ((bytes_eq-Decides option (codes "--since")).0 e)) (since_are name by words named plain)
+    second false e = listed_are name [] by 2 (option ∷ words) named plain
+
+    first : (t : Bool) → bytes_eq option (codes "--first-parent") ≡ t
+        → AreWordsOf (name ∷ option ∷ words) (cond t (chosen_of (by_first_parents by) 3 words) (cond (bytes_eq option (codes "--since")) (since_of by words) (listed_of by 2 (option ∷ words))))
+    first true e =
+        subst (λ word. AreWordsOf (name ∷ word ∷ words) (chosen_of (by_first_parents by) 3 words)) (sym ((bytes_eq-Decides option (codes "--first-parent")).0 e))
+        (chosen_are name (codes "--first-parent" ∷ []) (by_first_parents by) 3 words (first_chosen name by named))
+    first false e = second (bytes_eq option (codes "--since")) refl
+
+file_is : (option : List (List ℕ)) (ending n : ℕ) (text : List ℕ) → IsEndedBy option ending → AreWordsOf (codes "files" ∷ (option ++ text ∷ [])) (file_of ending n text)
+file_is option ending n text ends = go (begins_with_caret text)
+  where
+    from : (r : Result ObjectId HexError) → id_from_hex text ≡ r → AreWordsOf (codes "files" ∷ (option ++ text ∷ [])) (files_from ending n r)
+    from (Ok i) e = (option, text, ends, refl, hex_spelled text i e)
+    from (Err why) e = tt
+
+    go : (t : Bool) → AreWordsOf (codes "files" ∷ (option ++ text ∷ [])) (cond t (Err fault.Usage) (files_from ending n (id_from_hex text)))
+    go true = tt
+    go false = from (id_from_hex text) refl
 
 files_are : (rest : List (List ℕ)) → AreWordsOf (codes "files" ∷ rest) (files_of rest)
 files_are [] = tt
-files_are (text ∷ next ∷ rest) = tt
-files_are (text ∷ []) = go (begins_with_caret text)
+files_are (text ∷ []) = file_is [] 10 2 text (inl (refl, refl))
+files_are (option ∷ text ∷ []) = go (bytes_eq option (codes "-z")) refl
   where
-    from : (r : Result ObjectId HexError) → id_from_hex text ≡ r → AreWordsOf (codes "files" ∷ text ∷ []) (files_from r)
-    from (Ok i) e = (text, refl, hex_spelled text i e)
-    from (Err why) e = tt
-
-    go : (t : Bool) → AreWordsOf (codes "files" ∷ text ∷ []) (cond t (Err fault.Usage) (files_from (id_from_hex text)))
-    go true = tt
-    go false = from (id_from_hex text) refl
+    go : (t : Bool) → bytes_eq option (codes "-z") ≡ t → AreWordsOf (codes "files" ∷ option ∷ text ∷ []) (cond t (file_of 0 3 text) (Err fault.Usage))
+    go true e = file_is (option ∷ []) 0 3 text (inr (ap (λ w. w ∷ []) ((bytes_eq-Decides option (codes "-z")).0 e), refl))
+    go false e = tt
+files_are (option ∷ text ∷ next ∷ rest) = tt
 
 ahead_are : (rest : List (List ℕ)) → AreWordsOf (codes "ahead" ∷ rest) (ahead_of rest)
 ahead_are [] = tt
@@ -180,7 +287,7 @@ contained_are (word ∷ next ∷ rest) = go (list_all is_shown (word ∷ next �
     go false e = tt
 
 named_are : (name : List ℕ) (o : Option Order) (rest : List (List ℕ)) → IsChosenBy name o → AreWordsOf (name ∷ rest) (request_named name o rest)
-named_are name (Some by) rest h = commits_are name by rest h
+named_are name (Some by) rest h = in_order_are name by rest h.0 h.1
 named_are name None rest h = files (bytes_eq name (codes "files")) refl
   where
     contained : (t : Bool) → bytes_eq name (codes "contains") ≡ t → AreWordsOf (name ∷ rest) (cond t (contained_of rest) (Err fault.Usage))

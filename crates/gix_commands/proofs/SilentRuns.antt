@@ -11,10 +11,10 @@ use Rattle.gix_commands.specs.Histories.{FailsSilently}
 use Rattle.gix_commands.specs.Run.{Serves, walked, not_walked, walked_down, not_built, not_listed, not_ahead, not_behind, not_selected, unserved, not_written, without_memory, no_command, not_read, bad_record, served}
 use Rattle.gix_commands.specs.Words.{Request, Commits}
 
-pub serves_silently : (objects : Objects) (rows : List GraphRow) (old new : Option (List ℕ)) (request : Request) (e : Fault) → Serves objects rows old request (Err e) new → e ≢ fault.Write → ((by : Order) (tips hidden : List ObjectId) → request ≢ Commits by tips hidden) → new ≡ old
-serves_silently objects rows old new request e (walked walk infos starts ends written) other none = absurd (none _ _ _ refl)
+pub serves_silently : (objects : Objects) (rows : List GraphRow) (old new : Option (List ℕ)) (request : Request) (e : Fault) → Serves objects rows old request (Err e) new → e ≢ fault.Write → ((by : Order) (limit : Option ℕ) (tips hidden : List ObjectId) → request ≢ Commits by limit tips hidden) → new ≡ old
+serves_silently objects rows old new request e (walked walk infos starts ends written) other none = absurd (none _ _ _ _ refl)
 serves_silently objects rows old new request e (not_walked why f) other none = refl
-serves_silently objects rows old new request e (walked_down walk infos built ends written) other none = absurd (none _ _ _ refl)
+serves_silently objects rows old new request e (walked_down walk infos built ends written) other none = absurd (none _ _ _ _ refl)
 serves_silently objects rows old new request e (not_built why h) other none = refl
 serves_silently objects rows old new request e (not_listed recorder why walk) other none = refl
 serves_silently objects rows old new request e (not_ahead f) other none = refl
@@ -28,4 +28,4 @@ fails_silently words has old new e without_memory other none = refl
 fails_silently words has old new e (no_command t) other none = refl
 fails_silently words has old new e (not_read request t) other none = refl
 fails_silently words has old new e (bad_record request input n t h b) other none = refl
-fails_silently words has old new e (served request input records t h r s) other none = serves_silently _ _ old new request e s other (λ by tips hidden is. none by tips hidden (t ∙ ap (λ x. Ok x) is))
+fails_silently words has old new e (served request input records t h r s) other none = serves_silently _ _ old new request e s other (λ by limit tips hidden is. none by limit tips hidden (t ∙ ap (λ x. Ok x) is))

@@ -17,6 +17,7 @@ use Rattle.gix_commitgraph.specs.Rows.{GraphRow, row_of}
 use Rattle.gix_revwalk.specs.Agreeing.{IsAgreeing}
 use Rattle.gix_hash.proofs.Ids.Membership.{among_is, Contains-here, Contains-there, Contains-cons_cases, no_member}
 use Rattle.gix_revwalk.specs.declared.Info.{Info}
+use Rattle.gix_revwalk.specs.declared.Parents.{Parents}
 use Rattle.gix_revwalk.specs.declared.Parents.TheVariants as mode
 use Rattle.gix_revwalk.specs.declared.CommitTimeOrder.{CommitTimeOrder}
 use Rattle.gix_simple.specs.declared.Error.{Error}
@@ -26,15 +27,14 @@ use Rattle.gix_paint.specs.declared.Hidden.TheVariants as hidden_by
 use Rattle.gix_simple.specs.declared.Sorting.{Sorting}
 use Rattle.gix_simple.specs.declared.Sorting.TheVariants as sorting
 use Rattle.gix_revwalk.specs.declared.Pending.{Pending}
-use Rattle.gix_revwalk.specs.Commits.{ReadsWhole, by_mode, commit_at, commit_of_object, parents_in, parents_of}
+use Rattle.gix_revwalk.specs.Commits.{ReadsWhole, commit_at, commit_of_object, parents_in, parents_of}
 use Rattle.gix_hash.specs.Reach.{Reaches, start, step}
 use Rattle.gix_simple.specs.Building.{IsTipFault}
 use Rattle.gix_paint.specs.Painting.{IsFaultAt}
 use Rattle.gix_simple.specs.Walk.{Treated, Enqueues, dropped, enqueued, Treats, hidden, known, refused, accepted, store_fails, no_memory, no_memory_after, TreatsAll, none, more, stops, Concludes, given, broken, Takes, by_row, by_store, not_found, Chooses, first, best, Steps, ended, took, FirstStep, unhidden, paints, faulty_history, initial, later, unrowed}
 use Rattle.gix_revwalk.specs.Ids.{ids_of}
-use Rattle.gix_revwalk.specs.Texts.{scanned}
 use Rattle.gix_revwalk.proofs.Committer.{fault_unread}
-use Rattle.gix_revwalk.proofs.ReadsWhole.{scan_is, no_fault, row_parents}
+use Rattle.gix_revwalk.proofs.ReadsWhole.{scan_is, no_fault, row_parents, walked_within}
 use Rattle.gix_revwalk.proofs.Rows.{none_agree, kept_either}
 use Rattle.gix_simple.proofs.MadeOfTips.{is_new_walk, pending_is}
 use Rattle.gix_commands.specs.declared.fault.Fault.{Fault}
@@ -44,13 +44,12 @@ use Rattle.gix_commands.specs.Faults.{fault_of_walk}
 use Rattle.gix_commands.specs.Histories.{AreWhole, EndsWell, IsOutside, SimpleSucceeds, AheadSucceeds}
 use Rattle.gix_records.specs.Records.{stored}
 use Rattle.gix_commands.specs.Run.{Serves, walked, not_walked, counted, not_ahead, not_behind, unserved, not_written}
-use Rattle.gix_commands.specs.Walked.{Walk, Answers, IsWalkFault, StartsFrom, FailsAtStart, Ends, finished, failed, cut_short, objects_of, never_faulty, accepts_all, given as all_given}
+use Rattle.gix_commands.specs.Walked.{Walk, Answers, IsWalkFault, StartsFrom, FailsAtStart, Ends, finished, failed, cut_short, enough, before, objects_of, never_faulty, accepts_all, given as all_given}
 use Rattle.gix_commands.specs.Words.{Commits, Ahead}
 use Rattle.gix_commands.proofs.CommitRuns.{ends_well}
 use Rattle.gix_commands.proofs.InternalFacts.{next_sound}
 use Rattle.gix_simple.proofs.Difference.{whole_from}
-use Rattle.gix_commands.proofs.SimpleRuns.{IsUncut, is_tip, same}
-use Rattle.gix_commands.proofs.UncutWords.{uncut}
+use Rattle.gix_commands.proofs.SimpleRuns.{is_tip, same}
 use Rattle.gix_paint.proofs.Invariant.{own_history}
 use Rattle.gix_hash.proofs.Lists.{filter_within, only_member}
 use Rattle.gix_revwalk.proofs.Reached.{reaches_from, reach_more}
@@ -75,7 +74,6 @@ module _ (objects : Objects) (tips hiders : List ObjectId) (whole : AreWhole obj
   record Stands (w : Walk) : Type 0 where
     store : w.store ≡ objects
     rows : IsAgreeing objects w.rows
-    parents : w.parents ≡ mode.All
     behind : (i : ObjectId) → Contains w.hidden_tips i → Contains hiders i
     met : (p : Pending) → Contains w.pending p → IsMet p.id
 
@@ -100,11 +98,11 @@ module _ (objects : Objects) (tips hiders : List ObjectId) (whole : AreWhole obj
   treated : {w : Walk} {told : Bool} {i : ObjectId} {how : Treated} {v : Walk} → Treats objects_of never_faulty accepts_all w told i how v → Stands w → IsMet i → Stands v
   treated (hidden h) s m = s
   treated (known h) s m = s
-  treated (refused n a) s m = record { store = s.store; rows = s.rows; parents = s.parents; behind = s.behind; met = s.met }
-  treated {w} {i} (accepted {time = time} {pending = pending} n a r q) s m = record { store = s.store; rows = s.rows; parents = s.parents; behind = s.behind; met = joined w i time pending _ _ s m q }
-  treated (store_fails n a r) s m = record { store = s.store; rows = s.rows; parents = s.parents; behind = s.behind; met = s.met }
+  treated (refused n a) s m = record { store = s.store; rows = s.rows; behind = s.behind; met = s.met }
+  treated {w} {i} (accepted {time = time} {pending = pending} n a r q) s m = record { store = s.store; rows = s.rows; behind = s.behind; met = joined w i time pending _ _ s m q }
+  treated (store_fails n a r) s m = record { store = s.store; rows = s.rows; behind = s.behind; met = s.met }
   treated no_memory s m = s
-  treated (no_memory_after n a p) s m = record { store = s.store; rows = s.rows; parents = s.parents; behind = s.behind; met = λ q c. ⊎_elim (λ e. s.met q (subst (λ ps. Contains ps q) e c)) (λ e. absurd (no_member q (subst (λ ps. Contains ps q) e c))) p }
+  treated (no_memory_after n a p) s m = record { store = s.store; rows = s.rows; behind = s.behind; met = λ q c. ⊎_elim (λ e. s.met q (subst (λ ps. Contains ps q) e c)) (λ e. absurd (no_member q (subst (λ ps. Contains ps q) e c))) p }
 
   all_treated : {told : Bool} {w v : Walk} {ids : List ObjectId} {how : Treated} → TreatsAll objects_of never_faulty accepts_all told w ids how v → Stands w → ((i : ObjectId) → Contains ids i → IsMet i) → Stands v
   all_treated none s m = s
@@ -118,7 +116,7 @@ module _ (objects : Objects) (tips hiders : List ObjectId) (whole : AreWhole obj
   IsGood (Some (Err e)) new = fault_of_walk e ≢ fault.Internal → IsOutside (fault_of_walk e)
 
   texted : (w : Walk) (text : List ℕ) (i : ObjectId) → Stands w → Stands (record w { text = text; current = Some i })
-  texted w text i s = record { store = s.store; rows = s.rows; parents = s.parents; behind = s.behind; met = s.met }
+  texted w text i s = record { store = s.store; rows = s.rows; behind = s.behind; met = s.met }
 
   concluded : {i : ObjectId} {ps : List ObjectId} {generation : Option ℕ} {time : Option ℤ} {text : List ℕ} {read : Option DecodeError} {w : Walk} {how : Treated} {answer : Result Info Error} {new : Walk}
       → Concludes objects_of never_faulty accepts_all i ps generation time text read w how answer new → read ≡ None → Stands w → IsGood (Some answer) new
@@ -129,15 +127,14 @@ module _ (objects : Objects) (tips hiders : List ObjectId) (whole : AreWhole obj
 
   taken : {w : Walk} {p : Pending} {answer : Result Info Error} {new : Walk} → Takes objects_of never_faulty accepts_all w p answer new → Stands w → IsMet p.id → IsGood (Some answer) new
   taken {w} {p} (by_row {row = row} {ids = ids} r e t c) s m =
-      let parents : by_mode w.parents ids ≡ parents_of objects p.id = ap (λ k. by_mode k ids) s.parents ∙ row_parents objects w.rows s.rows p.id row ids r e in
-      concluded c refl (all_treated t s (λ i n. step m (subst (λ xs. Contains xs i) parents n)))
+      concluded c refl (all_treated t s (λ i n. step m (subst (λ xs. Contains xs i) (row_parents objects w.rows s.rows p.id row ids r e) (walked_within w.parents ids i n))))
   taken {w} {p} (by_store {bytes = bytes} u e t c) s m =
       let reads : ReadsWhole objects p.id = met_whole p.id m in
       let text : read_commit (kind_of p.id) bytes ≡ Some reads.commit = sym (ap (commit_of_object p.id) e) ∙ ap (λ o. commit_at o p.id) s.store ∙ reads.stored in
       let scan = scan_is (kind_of p.id) bytes reads.commit text w.parents in
-      let parents : (scanned w.parents (commit_items (kind_of p.id) bytes)).0 ≡ parents_of objects p.id = ap (λ x. x.0) scan ∙ ap (λ k. by_mode k reads.commit.parents) s.parents ∙ sym (ap parents_in reads.stored) in
-      let left : Stands (unrowed w p.id) = record { store = s.store; rows = left_agree w.rows _ s.rows (kept_either w.rows (row_of w.rows p.id)); parents = s.parents; behind = s.behind; met = s.met } in
-      concluded c (ap (λ x. x.1) scan) (all_treated t left (λ i n. step m (subst (λ xs. Contains xs i) parents n)))
+      let named : reads.commit.parents ≡ parents_of objects p.id = sym (ap parents_in reads.stored) in
+      let left : Stands (unrowed w p.id) = record { store = s.store; rows = left_agree w.rows _ s.rows (kept_either w.rows (row_of w.rows p.id)); behind = s.behind; met = s.met } in
+      concluded c (ap (λ x. x.1) scan) (all_treated t left (λ i n. step m (subst (λ xs. Contains xs i) named (walked_within w.parents reads.commit.parents i (subst (λ xs. Contains xs i) (ap (λ x. x.0) scan) n)))))
   taken {w} {p} (not_found {e = e} u f) s m = absurd (no_find p.id e (met_whole p.id m) (subst (λ o. IsExistingFault o (never_faulty o) p.id object.Commit e) s.store f))
   taken (no_memory r) s m = λ ne. tt
 
@@ -149,13 +146,13 @@ module _ (objects : Objects) (tips hiders : List ObjectId) (whole : AreWhole obj
   stepped (ended e) s = tt
   stepped (no_memory some) s = λ ne. tt
   stepped {w} (took {taken = p} {others = others} c t) s =
-      taken t (record { store = s.store; rows = s.rows; parents = s.parents; behind = s.behind; met = λ q m. s.met q (chosen c q (Contains-there q p others m)) }) (s.met p (chosen c p (Contains-here p others)))
+      taken t (record { store = s.store; rows = s.rows; behind = s.behind; met = λ q m. s.met q (chosen c q (Contains-there q p others m)) }) (s.met p (chosen c p (Contains-here p others)))
 
   -- the first call, and any call
   first_called : {w : Walk} {o : Option (Result Info Error)} {new : Walk} → FirstStep objects_of never_faulty accepts_all w o new → Stands w → IsGood o new
-  first_called (unhidden e steps) s = stepped steps (record { store = s.store; rows = s.rows; parents = s.parents; behind = λ i c. absurd (no_member i c); met = s.met })
+  first_called (unhidden e steps) s = stepped steps (record { store = s.store; rows = s.rows; behind = λ i c. absurd (no_member i c); met = s.met })
   first_called {w} (paints {marks = marks} {rows = rows} some hides paint steps) s =
-      stepped steps (record { store = s.store; rows = left_agree w.rows _ s.rows paint.rows_left; parents = s.parents; behind = λ i c. absurd (no_member i c); met = λ p c. s.met p (filter_within _ w.pending p c) })
+      stepped steps (record { store = s.store; rows = left_agree w.rows _ s.rows paint.rows_left; behind = λ i c. absurd (no_member i c); met = λ p c. s.met p (filter_within _ w.pending p c) })
   first_called {w} (faulty_history {why = why} some hides left f) s = λ ne. absurd (no_fault_at f.id why (whole_from objects f.id (whole f.id reached)) (subst (λ o. IsFaultAt o (never_faulty o) f.id why) s.store f.fault))
     where
       both : (i : ObjectId) → Contains (ids_of w.pending ++ w.hidden_tips) i → Reaches (parents_of objects) (tips ++ hiders) i
@@ -170,7 +167,7 @@ module _ (objects : Objects) (tips hiders : List ObjectId) (whole : AreWhole obj
   first_called (no_memory some hides left) s = λ ne. tt
 
   called : {w : Walk} {o : Option (Result Info Error)} {new : Walk} → Answers w o new → Stands w → IsGood o new
-  called (initial b made) s = first_called made (record { store = s.store; rows = s.rows; parents = s.parents; behind = s.behind; met = s.met })
+  called (initial b made) s = first_called made (record { store = s.store; rows = s.rows; behind = s.behind; met = s.met })
   called (later b made) s = stepped made s
 
   drawn : (infos : List Info) (w at : Walk) → Yields Answers w (all_given infos) at → Stands w → Stands at
@@ -178,21 +175,20 @@ module _ (objects : Objects) (tips hiders : List ObjectId) (whole : AreWhole obj
   drawn (info ∷ infos) w at h s = drawn infos h.0 at h.2 (called h.1 s)
 
   -- a walk that was started so
-  pub drawn_well : (rows : List GraphRow) → IsAgreeing objects rows → (by : Sorting) (walk : Walk) → IsUncut by → StartsFrom objects rows by tips hiders walk → (infos : List Info) (answer : Result (Unit {0}) Fault) → Ends Answers IsWalkFault walk infos answer → EndsWell answer
-  drawn_well rows agreeing by walk named starts infos answer (finished new h) = tt
-  drawn_well rows agreeing by walk named starts infos answer (failed e f new h is) = subst IsOutside (sym is) (called h.2 (drawn infos walk h.0 h.1 begins) (next_sound h.2))
+  pub drawn_well : (rows : List GraphRow) → IsAgreeing objects rows → (ms : Parents) (by : Sorting) (walk : Walk) → StartsFrom objects rows ms by tips hiders walk → (infos : List Info) (answer : Result (Unit {0}) Fault) → Ends Answers IsWalkFault walk infos answer → EndsWell answer
+  drawn_well rows agreeing ms by walk starts infos answer (finished new h) = tt
+  drawn_well rows agreeing ms by walk starts infos answer (failed e f new h is) = subst IsOutside (sym is) (called h.2 (drawn infos walk h.0 h.1 begins) (next_sound h.2))
     where
       begins : Stands walk
       begins =
-          let is = same objects rows by tips hiders walk named starts in
+          let is = same objects rows ms by tips hiders walk starts in
           record {
             store = ap (λ w. w.store) is;
             rows = subst (IsAgreeing objects) (sym (ap (λ w. w.rows) is)) agreeing;
-            parents = ap (λ w. w.parents) is;
             behind = λ i c. subst (λ xs. Contains xs i) (ap (λ w. w.hidden_tips) is) c;
-            met = λ p c. start (is_tip objects rows by tips hiders walk named starts p.id (in_ids walk.pending p c));
+            met = λ p c. start (is_tip objects rows ms by tips hiders walk starts p.id (in_ids walk.pending p c));
           }
-  drawn_well rows agreeing by walk named starts infos answer (cut_short info new h) = tt
+  drawn_well rows agreeing ms by walk starts infos answer (cut_short info new h) = tt
 
   pub started_well : (by : Sorting) (e : Error) → FailsAtStart objects by tips e → IsOutside (fault_of_walk e)
   started_well by e f = go e f.fails.fault
@@ -213,16 +209,18 @@ module _ (objects : Objects) (tips hiders : List ObjectId) (whole : AreWhole obj
       go error.Memory h = tt
 
 module _ (objects : Objects) (rows : List GraphRow) (agreeing : IsAgreeing objects rows) (old : Option (List ℕ)) where
-  pub well : (by : Sorting) (tips hiders : List ObjectId) → IsUncut by → AreWhole objects (tips ++ hiders) → (answer : Result (Unit {0}) Fault) (new : Option (List ℕ)) → Serves objects rows old (Commits (Simple by) tips hiders) answer new → EndsWell answer
-  well by tips hiders named whole answer new (walked walk infos starts ends written) = drawn_well objects tips hiders whole rows agreeing by walk named starts infos answer ends
-  well by tips hiders named whole answer new (not_walked e f) = started_well objects tips hiders whole by e f
-  well by tips hiders named whole answer new unserved = tt
-  well by tips hiders named whole answer new not_written = tt
+  pub well : (ms : Parents) (by : Sorting) (limit : Option ℕ) (tips hiders : List ObjectId) → AreWhole objects (tips ++ hiders) → (answer : Result (Unit {0}) Fault) (new : Option (List ℕ)) → Serves objects rows old (Commits (Simple ms by) limit tips hiders) answer new → EndsWell answer
+  well ms by None tips hiders whole answer new (walked walk infos starts ends written) = drawn_well objects tips hiders whole rows agreeing ms by walk starts infos answer ends
+  well ms by (Some n) tips hiders whole answer new (walked walk infos starts (enough at h e) written) = tt
+  well ms by (Some n) tips hiders whole answer new (walked walk infos starts (before ends less) written) = drawn_well objects tips hiders whole rows agreeing ms by walk starts infos answer ends
+  well ms by limit tips hiders whole answer new (not_walked e f) = started_well objects tips hiders whole by e f
+  well ms by limit tips hiders whole answer new unserved = tt
+  well ms by limit tips hiders whole answer new not_written = tt
 
   pub ahead_well : (one other : ObjectId) → AreWhole objects (one ∷ other ∷ []) → (answer : Result (Unit {0}) Fault) (new : Option (List ℕ)) → Serves objects rows old (Ahead one other) answer new → EndsWell answer
   ahead_well one other whole answer new (counted ahead behind a b written) = tt
-  ahead_well one other whole answer new (not_ahead f) = drawn_well objects (one ∷ []) (other ∷ []) whole rows agreeing sorting.BreadthFirst f.1.walk tt f.1.starts f.0 answer f.1.ends
-  ahead_well one other whole answer new (not_behind n a f) = drawn_well objects (other ∷ []) (one ∷ []) turned rows agreeing sorting.BreadthFirst f.1.walk tt f.1.starts f.0 answer f.1.ends
+  ahead_well one other whole answer new (not_ahead f) = drawn_well objects (one ∷ []) (other ∷ []) whole rows agreeing mode.All sorting.BreadthFirst f.1.walk f.1.starts f.0 answer f.1.ends
+  ahead_well one other whole answer new (not_behind n a f) = drawn_well objects (other ∷ []) (one ∷ []) turned rows agreeing mode.All sorting.BreadthFirst f.1.walk f.1.starts f.0 answer f.1.ends
     where
       turned : AreWhole objects (other ∷ one ∷ [])
       turned i r = whole i (reach_more (parents_of objects) (other ∷ one ∷ []) (one ∷ other ∷ []) (λ j c. ⊎_elim (λ e. Contains-there j one (other ∷ []) (subst (λ k. Contains (other ∷ []) k) e (Contains-here other []))) (λ m. ⊎_elim (λ e. subst (λ k. Contains (one ∷ other ∷ []) k) e (Contains-here one (other ∷ []))) (λ n. absurd (no_member j n)) (Contains-cons_cases j one [] m)) (Contains-cons_cases j other (one ∷ []) c)) i r)
@@ -230,8 +228,8 @@ module _ (objects : Objects) (rows : List GraphRow) (agreeing : IsAgreeing objec
   ahead_well one other whole answer new not_written = tt
 
 pub simple_succeeds : SimpleSucceeds
-simple_succeeds words input records by tips hiders answer old new asked are whole runs =
-    ends_well words input records (Commits (Simple by) tips hiders) answer old new asked are (well (stored records) [] (none_agree (stored records) [] refl) old by tips hiders (uncut words by tips hiders asked) whole) runs
+simple_succeeds words input records ms by limit tips hiders answer old new asked are whole runs =
+    ends_well words input records (Commits (Simple ms by) limit tips hiders) answer old new asked are (well (stored records) [] (none_agree (stored records) [] refl) old ms by limit tips hiders whole) runs
 
 pub ahead_succeeds : AheadSucceeds
 ahead_succeeds words input records one other answer old new asked are whole runs = ends_well words input records (Ahead one other) answer old new asked are (ahead_well (stored records) [] (none_agree (stored records) [] refl) old one other whole) runs

@@ -14,6 +14,7 @@ use Rattle.gix_simple.specs.declared.Error.{Error}
 use Rattle.gix_simple.specs.declared.Error.TheVariants as error
 use Rattle.gix_simple.specs.declared.Sorting.{Sorting}
 use Rattle.gix_simple.specs.declared.Sorting.TheVariants as sorting
+use Rattle.gix_revwalk.specs.declared.Parents.{Parents}
 use Rattle.gix_revwalk.specs.declared.Unfiltered.{Unfiltered}
 use Rattle.gix_topo.specs.declared.Error.{Error as TopoError}
 use Rattle.gix_topo.specs.declared.Sorting.{Sorting as TopoSorting}
@@ -34,9 +35,10 @@ drained tips ids it items len d = sym (map-id ids) ∙ items_from_drains ids (d.
 ok_same : {a b : Walk} → ◌≡◌ {A = Result Walk Error} (Ok a) (Ok b) → a ≡ b
 ok_same same = cc
 
--- what the calls leave that hide and that give rows
-pub held : (sorted hides last : Walk) (ids hidden : List ObjectId) (copy rows : List GraphRow) → hides ≡ record sorted { hidden_tips = ids } → ids ≡ hidden → last ≡ record hides { rows = copy } → copy ≡ rows → last ≡ record sorted { rows = rows; hidden_tips = hidden }
-held sorted hides last ids hidden copy rows h is l same = l ∙ (λ k. record (h k) { rows = same k }) ∙ ap (λ those. record sorted { rows = rows; hidden_tips = those }) is
+-- what the calls leave that hide, that choose parents and that give rows
+pub held : (sorted hides walks last : Walk) (m : Parents) (ids hidden : List ObjectId) (copy rows : List GraphRow) → hides ≡ record sorted { hidden_tips = ids } → ids ≡ hidden → walks ≡ record hides { parents = m } → last ≡ record walks { rows = copy } → copy ≡ rows → last ≡ record sorted { parents = m; rows = rows; hidden_tips = hidden }
+held sorted hides walks last m ids hidden copy rows h is w l same =
+    l ∙ (λ k. record (w k) { rows = same k }) ∙ (λ k. record (h k) { parents = m; rows = rows }) ∙ ap (λ those. record sorted { parents = m; rows = rows; hidden_tips = those }) is
 
 -- the walk was made over this store, of these tips
 pub made_of : (store objects : Objects) (ids tips : List ObjectId) (made : Walk) → store ≡ objects → ids ≡ tips → IsMadeOf store ids made → IsMadeOf objects tips made

@@ -1,5 +1,5 @@
 -- What a run over a commit-graph writes, by what commits reach in the history that rows and records say.
-use Rattle.std.specs.Prelude.{◌≡◌, ℕ, List, Option, Some, Ok}
+use Rattle.std.specs.Prelude.{◌≡◌, ℕ, List, Option, Some, None, Ok}
 use Rattle.std.proofs.Common.{sym, subst, ◌∙◌}
 use Rattle.gix_commitgraph.specs.Rows.{GraphRow}
 use Rattle.gix_graph_store.specs.Laws.{StoredAgree}
@@ -7,15 +7,16 @@ use Rattle.gix_records.specs.Records.{Record, AreRecords, stored}
 use Rattle.gix_records.proofs.RecordFacts.{only_reading}
 use Rattle.gix_revwalk.specs.Agreeing.{IsAgreeing}
 use Rattle.gix_commands.specs.declared.words.Order.TheVariants.{Simple, Topo}
-use Rattle.gix_commands.specs.Histories.{AreTold, told, ToldSimpleLists, ToldTopoLists, ToldAheadCounts, ToldContainsIds}
+use Rattle.gix_commands.specs.Histories.{AreTold, told, ToldSimpleBegins, ToldSimpleLists, ToldTopoBegins, ToldTopoLists, ToldAheadCounts, ToldContainsIds}
 use Rattle.gix_commands.specs.Run.{RunsOver, Serves, served}
 use Rattle.gix_commands.specs.Words.{Request, Commits, Ahead, Contained, request_of}
 use Rattle.gix_commands.proofs.AheadRuns.{counted_so}
 use Rattle.gix_commands.proofs.CommitRuns.{ok_same, lists}
 use Rattle.gix_commands.proofs.ContainedRuns.{selected_so}
+use Rattle.gix_commands.proofs.FirstCommits.{begins, begins_down}
 use Rattle.gix_commands.proofs.OverGraphs.{opened_agree}
 use Rattle.gix_commands.proofs.TopoRuns as topo
-use Rattle.gix_commands.proofs.UncutWords.{uncut, some_tips, some_ids}
+use Rattle.gix_commands.proofs.NamedTips.{some_tips, some_ids}
 
 -- what was asked for was served, of rows that the layers are and of these records
 told_served : (words layers : List (List ℕ)) (input : List ℕ) (records : List Record) (request : Request) (old new : Option (List ℕ)) → request_of words ≡ Ok request → AreRecords records input → RunsOver words layers (Some input) old (Ok tt) new
@@ -31,14 +32,26 @@ told_agree : {layers : List (List ℕ)} {records : List Record} {rows : List Gra
 told_agree {layers} {records} {rows} h = opened_agree layers rows (stored records) h.opens h.agree
 
 pub told_simple_lists : ToldSimpleLists
-told_simple_lists words layers input records by tips hidden old new asked are runs =
-    let k = told_served words layers input records (Commits (Simple by) tips hidden) old new asked are runs in
-    let l = lists (told k.0 records) k.0 (told_agree k.1) by tips hidden (uncut words by tips hidden asked) (some_tips words (Simple by) tips hidden asked) old new k.2 in
+told_simple_lists words layers input records m by tips hidden old new asked are runs =
+    let k = told_served words layers input records (Commits (Simple m by) None tips hidden) old new asked are runs in
+    let l = lists (told k.0 records) k.0 (told_agree k.1) m by tips hidden (some_tips words (Simple m by) None tips hidden asked) old new k.2 in
+    (k.0, k.1, l.0, l.1, l.2)
+
+pub told_simple_begins : ToldSimpleBegins
+told_simple_begins words layers input records m by n tips hidden old new asked are runs =
+    let k = told_served words layers input records (Commits (Simple m by) (Some n) tips hidden) old new asked are runs in
+    let l = begins (told k.0 records) k.0 (told_agree k.1) m by tips hidden (some_tips words (Simple m by) (Some n) tips hidden asked) n old new k.2 in
+    (k.0, k.1, l.0, l.1, l.2)
+
+pub told_topo_begins : ToldTopoBegins
+told_topo_begins words layers input records by n tips ends old new asked are runs =
+    let k = told_served words layers input records (Commits (Topo by) (Some n) tips ends) old new asked are runs in
+    let l = begins_down (told k.0 records) k.0 (told_agree k.1) by tips ends n old new k.2 in
     (k.0, k.1, l.0, l.1, l.2)
 
 pub told_topo_lists : ToldTopoLists
 told_topo_lists words layers input records by tips ends old new asked are runs =
-    let k = told_served words layers input records (Commits (Topo by) tips ends) old new asked are runs in
+    let k = told_served words layers input records (Commits (Topo by) None tips ends) old new asked are runs in
     let l = topo.lists (told k.0 records) k.0 (told_agree k.1) by tips ends old new k.2 in
     (k.0, k.1, l.0, l.1, l.2)
 

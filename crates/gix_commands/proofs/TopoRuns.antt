@@ -38,7 +38,7 @@ use Rattle.gix_commands.specs.Histories.{AreWhole, IsPartOf, ListsDown, ListsRea
 use Rattle.gix_records.specs.Records.{stored}
 use Rattle.gix_commands.specs.Run.{Serves, walked_down, not_built, unserved, not_written}
 use Rattle.gix_commands.specs.TopoWalked.{Walk, Answers, IsWalkFault, IsBuiltFrom, plan_from}
-use Rattle.gix_commands.specs.Walked.{Ends, finished, failed as fell, cut_short, objects_of, never_faulty, accepts_all, given as all_given}
+use Rattle.gix_commands.specs.Walked.{Ends, finished, failed as fell, cut_short, enough, before, objects_of, never_faulty, accepts_all, given as all_given}
 use Rattle.gix_commands.specs.Words.{Commits}
 use Rattle.gix_commands.proofs.CommitRuns.{served_so, ends_well, lines_by_ids}
 use Rattle.gix_commands.proofs.Parts.{reached_in_all, stored_whole}
@@ -80,11 +80,11 @@ next_says (given t a i) = tt
 next_says (refused t a h) = next_says h
 next_says (failed {old = old} c others h f late) = (old.taken, c.id, f)
 
-no_faults : (infos : List Info) (e : Error) → Contains (all_given infos) (Err e) → ⊥
+pub no_faults : (infos : List Info) (e : Error) → Contains (all_given infos) (Err e) → ⊥
 no_faults [] e c = no_member (Err e) c
 no_faults (info ∷ infos) e c = ⊎_elim (λ s. cc) (no_faults infos e) (Contains-cons_cases (Err e) (Ok info) (all_given infos) c)
 
-same_read : (plan : TopoPlan Objects) (infos : List Info) (ids : List ObjectId) → AllZip (IsTextGiven objects_of plan) (all_given infos) (filter (λ i. true) ids) → map (λ info. info.id) infos ≡ ids
+pub same_read : (plan : TopoPlan Objects) (infos : List Info) (ids : List ObjectId) → AllZip (IsTextGiven objects_of plan) (all_given infos) (filter (λ i. true) ids) → map (λ info. info.id) infos ≡ ids
 same_read plan [] [] h = refl
 same_read plan [] (i ∷ ids) h = absurd h
 same_read plan (info ∷ infos) [] h = absurd h
@@ -92,7 +92,7 @@ same_read plan (info ∷ infos) (i ∷ ids) h = (λ k. h.0.info_is.same_id k ∷
 
 -- a walk that ended well, by the parents that texts name
 module _ (objects : Objects) (rows : List GraphRow) (agree : IsAgreeing objects rows) (by : Sorting) (tips ends : List ObjectId) (walk : Walk) (built : IsBuiltFrom objects rows by tips ends (Ok walk)) where
-  listed_read : (infos : List Info) → Ends Answers IsWalkFault walk infos (Ok tt) → ListsDown objects (text_next objects) by tips ends (map (λ info. info.id) infos)
+  pub listed_read : (infos : List Info) → Ends Answers IsWalkFault walk infos (Ok tt) → ListsDown objects (text_next objects) by tips ends (map (λ info. info.id) infos)
   listed_read infos (finished new h) =
       let g : GivesTextOrder objects_of walk.plan (λ i. true) (all_given infos) =
       gives_text objects_of never_faulty accepts_all (λ i. true) walk (all_given infos) (λ mid last i answer b a. a.0) built.1 (subst (λ (plan : TopoPlan Objects). IsAgreeing plan.store plan.rows) (sym built.0.plan) agree) (no_faults infos) (new, h) in
@@ -134,7 +134,7 @@ module _ (objects : Objects) (rows : List GraphRow) (agree : IsAgreeing objects 
         subst IsOutside (sym is) (outside (IsNextReady objects_of (plan_from objects rows by tips ends) says.0 says.1) e says.2)
     drawn_outside infos answer (cut_short info new h) = tt
 
-    listed : (infos : List Info) → Ends Answers IsWalkFault walk infos (Ok tt) → ListsDown objects (parents_of objects) by tips ends (map (λ info. info.id) infos)
+    pub listed : (infos : List Info) → Ends Answers IsWalkFault walk infos (Ok tt) → ListsDown objects (parents_of objects) by tips ends (map (λ info. info.id) infos)
     listed infos (finished new h) =
         let run : IsWholeRun objects_of never_faulty accepts_all walk (λ i. true) (all_given infos) =
         record {
@@ -155,15 +155,17 @@ module _ (objects : Objects) (rows : List GraphRow) (agree : IsAgreeing objects 
         })
 
   module _ (old : Option (List ℕ)) where
-    pub well : (answer : Result (Unit {0}) Fault) (new : Option (List ℕ)) → Serves objects rows old (Commits (Topo by) tips ends) answer new → EndsWell answer
-    well answer new (walked_down walk infos built ends written) = drawn_outside walk built infos answer ends
-    well answer new (not_built e h) = outside (IsFirstReady objects_of (plan_from objects rows by tips ends)) e h.1
-    well answer new unserved = tt
-    well answer new not_written = tt
+    pub well : (limit : Option ℕ) (answer : Result (Unit {0}) Fault) (new : Option (List ℕ)) → Serves objects rows old (Commits (Topo by) limit tips ends) answer new → EndsWell answer
+    well None answer new (walked_down walk infos built ends written) = drawn_outside walk built infos answer ends
+    well (Some n) answer new (walked_down walk infos built (enough at h e) written) = tt
+    well (Some n) answer new (walked_down walk infos built (before ends less) written) = drawn_outside walk built infos answer ends
+    well limit answer new (not_built e h) = outside (IsFirstReady objects_of (plan_from objects rows by tips ends)) e h.1
+    well limit answer new unserved = tt
+    well limit answer new not_written = tt
 
 -- and by the parents of commits that are whole
 module _ (objects : Objects) (rows : List GraphRow) (agree : IsAgreeing objects rows) (by : Sorting) (tips ends : List ObjectId) where
-  pub lists : (old new : Option (List ℕ)) → Serves objects rows old (Commits (Topo by) tips ends) (Ok tt) new → (ids : List ObjectId) × ListsRead objects by tips ends ids × Appends old new (lines_of_ids ids)
+  pub lists : (old new : Option (List ℕ)) → Serves objects rows old (Commits (Topo by) None tips ends) (Ok tt) new → (ids : List ObjectId) × ListsRead objects by tips ends ids × Appends old new (lines_of_ids ids)
   lists old new (walked_down walk infos built drawn written) = (
     map (λ info. info.id) infos,
     record { read = listed_read objects rows agree by tips ends walk built infos drawn; whole = λ whole. listed objects rows agree by tips ends whole walk built infos drawn },
@@ -172,9 +174,9 @@ module _ (objects : Objects) (rows : List GraphRow) (agree : IsAgreeing objects 
 
 pub topo_lists : TopoLists
 topo_lists words input records by tips ends old new asked are runs =
-    lists (stored records) [] (none_agree (stored records) [] refl) by tips ends old new (served_so words input records (Commits (Topo by) tips ends) old new asked are runs)
+    lists (stored records) [] (none_agree (stored records) [] refl) by tips ends old new (served_so words input records (Commits (Topo by) None tips ends) old new asked are runs)
 
-named_whole : (objects : Objects) (c i : ObjectId) → Contains (parents_of objects c) i → IsSome (commit_at objects c)
+pub named_whole : (objects : Objects) (c i : ObjectId) → Contains (parents_of objects c) i → IsSome (commit_at objects c)
 named_whole objects c i n = go (commit_at objects c) n
   where
     go : (o : Option Commit) → Contains (parents_in o) i → IsSome o
@@ -202,22 +204,28 @@ module _ (some all : Objects) (part : IsPartOf some all) (by : Sorting) (tips en
       let c : IsCommitRead some i = was_read walk built i (from_either (text_next some) tips ends i (by_texts some (tips ++ ends) i r)) in
       stored_whole some all part i (whole i (reached_in_all some all part (tips ++ ends) i r)) (record { kind = object.Commit; bytes = c.bytes }) c.stored
 
-  lists_of_all : (old new : Option (List ℕ)) → Serves some [] old (Commits (Topo by) tips ends) (Ok tt) new → (ids : List ObjectId) × ListsRead all by tips ends ids × Appends old new (lines_of_ids ids)
+  -- a list of the part is one of all
+  pub in_all : (walk : Walk) → IsBuiltFrom some [] by tips ends (Ok walk) → (ids : List ObjectId) → ListsRead some by tips ends ids → ListsRead all by tips ends ids
+  in_all walk built ids l = record {
+    read = lists_read_of_part some all part tips ends (λ i r. read_stored i (was_read walk built i (inl r))) (λ i r. read_stored i (was_read walk built i (inr r))) by ids l.read;
+    whole = λ whole. let met : AreWhole some (tips ++ ends) = met_whole whole walk built in lists_down_of_part some all part tips ends met by ids (l.whole met);
+  }
+
+  lists_of_all : (old new : Option (List ℕ)) → Serves some [] old (Commits (Topo by) None tips ends) (Ok tt) new → (ids : List ObjectId) × ListsRead all by tips ends ids × Appends old new (lines_of_ids ids)
   lists_of_all old new (walked_down walk infos built drawn written) =
       let ids : List ObjectId = map (λ info. info.id) infos in (
         ids,
-        record {
-          read =
-              lists_read_of_part some all part tips ends (λ i r. read_stored i (was_read walk built i (inl r))) (λ i r. read_stored i (was_read walk built i (inr r))) by ids
-              (listed_read some [] (none_agree some [] refl) by tips ends walk built infos drawn);
-          whole = λ whole. let met : AreWhole some (tips ++ ends) = met_whole whole walk built in lists_down_of_part some all part tips ends met by ids (listed some [] (none_agree some [] refl) by tips ends met walk built infos drawn);
-        },
+        in_all walk built ids (record {
+          read = listed_read some [] (none_agree some [] refl) by tips ends walk built infos drawn;
+          whole = λ met. listed some [] (none_agree some [] refl) by tips ends met walk built infos drawn;
+        }),
         subst (Appends old new) (lines_by_ids infos) written,
       )
 
 pub topo_lists_of_part : TopoListsOfPart
 topo_lists_of_part words input records by tips ends old new all asked are part runs =
-    lists_of_all (stored records) all part by tips ends old new (served_so words input records (Commits (Topo by) tips ends) old new asked are runs)
+    lists_of_all (stored records) all part by tips ends old new (served_so words input records (Commits (Topo by) None tips ends) old new asked are runs)
 
 pub topo_succeeds : TopoSucceeds
-topo_succeeds words input records by tips ends answer old new asked are whole runs = ends_well words input records (Commits (Topo by) tips ends) answer old new asked are (well (stored records) [] (none_agree (stored records) [] refl) by tips ends whole old) runs
+topo_succeeds words input records by limit tips ends answer old new asked are whole runs =
+    ends_well words input records (Commits (Topo by) limit tips ends) answer old new asked are (well (stored records) [] (none_agree (stored records) [] refl) by tips ends whole old limit) runs

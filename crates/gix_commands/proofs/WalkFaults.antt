@@ -1,5 +1,5 @@
 -- Which faults walks may have, and commands that are served.
-use Rattle.std.specs.Prelude.{ℕ, List, Option, Result, Ok, Err}
+use Rattle.std.specs.Prelude.{ℕ, List, Option, None, Some, Result, Ok, Err}
 use Rattle.std.proofs.Common.{sym, subst}
 use Rattle.gix_commitgraph.specs.Rows.{GraphRow}
 use Rattle.gix_contained.specs.declared.Error.{Error as ContainedError}
@@ -20,7 +20,7 @@ use Rattle.gix_commands.specs.declared.fault.Fault.TheVariants as fault
 use Rattle.gix_commands.specs.Faults.{fault_of_find, fault_of_walk, fault_of_topo_walk, fault_of_contained, fault_of_tree_walk}
 use Rattle.gix_commands.specs.Run.{Serves, walked, not_walked, walked_down, not_built, listed, not_listed, counted, not_ahead, not_behind, selected, not_selected, unserved, not_written}
 use Rattle.gix_commands.specs.TopoWalked as topo
-use Rattle.gix_commands.specs.Walked.{IsWalkFault, Ends, finished, failed, cut_short}
+use Rattle.gix_commands.specs.Walked.{Answers, IsWalkFault, Ends, EndsBy, finished, failed, cut_short, enough, before}
 use Rattle.gix_commands.specs.Words.{Request}
 
 -- any but those of the words, of the input and of a commit-graph
@@ -82,6 +82,12 @@ ends_of_walk tells (finished new h) = tt
 ends_of_walk tells (failed e f new h is) = tells e f is
 ends_of_walk tells (cut_short info new h) = tt
 
+by_of_walk : {W E : Type 0} (Steps : W → Option (Result Info E) → W → Type 0) (Tells : E → Fault → Type 0) (limit : Option ℕ) (walk : W) (infos : List Info) (answer : Result (Unit {0}) Fault)
+    → ((e : E) (f : Fault) → Tells e f → IsOfWalk f) → EndsBy Steps Tells limit walk infos answer → OfWalk answer
+by_of_walk Steps Tells None walk infos answer tells ends = ends_of_walk tells ends
+by_of_walk Steps Tells (Some n) walk infos _ tells (enough at h e) = tt
+by_of_walk Steps Tells (Some n) walk infos answer tells (before ends less) = ends_of_walk tells ends
+
 simple_tells : (e : Error) (f : Fault) → IsWalkFault e f → IsOfWalk f
 simple_tells e f is = subst IsOfWalk (sym is) (simple_of_walk e)
 
@@ -89,9 +95,9 @@ topo_tells : (e : TopoError) (f : Fault) → topo.IsWalkFault e f → IsOfWalk f
 topo_tells e f is = subst IsOfWalk (sym is) (topo_of_walk e)
 
 pub serves_of_walk : {objects : Objects} {rows : List GraphRow} {old new : Option (List ℕ)} {request : Request} {answer : Result (Unit {0}) Fault} → Serves objects rows old request answer new → OfWalk answer
-serves_of_walk (walked walk infos s ends a) = ends_of_walk simple_tells ends
+serves_of_walk (walked {limit = limit} walk infos s ends a) = by_of_walk Answers IsWalkFault limit walk infos _ simple_tells ends
 serves_of_walk (not_walked why f) = simple_of_walk why
-serves_of_walk (walked_down walk infos built ends a) = ends_of_walk topo_tells ends
+serves_of_walk (walked_down {limit = limit} walk infos built ends a) = by_of_walk topo.Answers topo.IsWalkFault limit walk infos _ topo_tells ends
 serves_of_walk (not_built why h) = topo_of_walk why
 serves_of_walk (listed recorder r a) = tt
 serves_of_walk (not_listed recorder why r) = tree_of_walk why

@@ -1,5 +1,5 @@
 -- Worked examples of the page that a user of the program believes: texts, times and lines, and a run from bytes to bytes.
-use Rattle.std.specs.Prelude.{◌≡◌, ◌≢◌, ◌≤ℤ◌, ℕ, ℤ, pos, neg_ℤ, List, [], ◌∷◌, ◌++◌, map, replicate, Some, Ok, All, Contains, codes}
+use Rattle.std.specs.Prelude.{◌≡◌, ◌≢◌, ◌≤ℤ◌, ℕ, ℤ, pos, neg_ℤ, List, [], ◌∷◌, ◌++◌, map, filter, take, not, int_lt, cond, false, replicate, Some, Ok, All, Contains, codes}
 use Rattle.std.specs.FinMap as map_of
 use Rattle.std.specs.FinMap.{get}
 use Rattle.std.specs.Fmt.{digits}
@@ -19,9 +19,10 @@ use Rattle.gix_records.specs.Records.{stored}
 use Rattle.gix_revwalk.specs.Commits.{commit_of_object, time_in, time_of}
 use Rattle.gix_revwalk.specs.Texts.{next_in, text_next}
 use Rattle.gix_commands.specs.declared.fault.Fault.{Fault}
-use Rattle.gix_commands.specs.WholeStatement.{AreRecords, Follows, IsBest, IsFirst, IsPending, IsTime, Lists, Promises, Reaches, Serves, Spells, breadth, commits, entry_line, newest, parent, start}
+use Rattle.gix_commands.specs.WholeStatement.{AreRecords, Comes, IsBest, IsFirst, IsPending, IsTime, Lists, Promises, Reaches, Serves, Spells, all, breadth, commits, first, since, entry_line, newest, parent, start}
 use Rattle.gix_commands.proofs.SameCommits.{are_records, get_put, is_time, worded}
 use Rattle.gix_commands.proofs.SameHistory.{history}
+use Rattle.gix_commands.proofs.SameWords.{is_number}
 use Rattle.gix_commands.proofs.SameOrders.{Throughout, are_distinct}
 
 -- the id that is one byte twenty times
@@ -55,7 +56,7 @@ late_time : IsTime (codes "A <a@b> 9223372036854775808 +0000") (pos 0)
 late_time = is_time (codes "A <a@b> 9223372036854775808 +0000")
 
 -- an entry in a tree in the tree
-line_of_entry : entry_line (codes "d/", record { mode = 0o644; name = codes "x"; id = id_of 0xab }) ≡ codes "000644 abababababababababababababababababababab d/x\n"
+line_of_entry : entry_line 10 (codes "d/", record { mode = 0o644; name = codes "x"; id = id_of 0xab }) ≡ codes "000644 abababababababababababababababababababab d/x\n"
 unfolding digits hex_on_literals
 line_of_entry = refl
 
@@ -88,6 +89,10 @@ root_names_none : next_in root (Some (record { kind = kind.Commit; bytes = root_
 unfolding hex_on_literals
 root_names_none = refl
 
+root_is_signed : time_in (commit_of_object root (Some (record { kind = kind.Commit; bytes = root_text }))) ≡ pos 5
+unfolding hex_on_literals
+root_is_signed = refl
+
 root_is_other : root ≢ child
 root_is_other e = false≢true (same_from root child e)
 
@@ -106,34 +111,34 @@ cut_end : (F : List ObjectId → List ObjectId → Type 0) → F [] [] → Throu
 cut_end F h [] rest e = subst (F []) e h
 cut_end F h (y ∷ taken) rest e = let no : [] ≡ y ∷ (taken ++ rest) = e in cc
 
-module _ (parents : ObjectId → List ObjectId) (time : ObjectId → ℤ) (child_names : parents child ≡ root ∷ []) (root_names : parents root ≡ []) where
+module _ (parents followed : ObjectId → List ObjectId) (time : ObjectId → ℤ) (child_names : followed child ≡ root ∷ []) (root_names : followed root ≡ []) where
   unhidden : (i : ObjectId) → Reaches parents [] i → ⊥
   unhidden i (start s) = no_member i s
   unhidden i (parent {child = c} r m) = unhidden c r
 
-  child_in : Reaches parents (child ∷ []) child
+  child_in : Reaches followed (child ∷ []) child
   child_in = start (Contains-here child [])
 
-  root_in : Reaches parents (child ∷ []) root
+  root_in : Reaches followed (child ∷ []) root
   root_in = parent child_in (subst (λ ps. Contains ps root) (sym child_names) (Contains-here root []))
 
-  reached : (i : ObjectId) → Reaches parents (child ∷ []) i → Contains (child ∷ root ∷ []) i
+  reached : (i : ObjectId) → Reaches followed (child ∷ []) i → Contains (child ∷ root ∷ []) i
   reached i (start s) = ⊎_elim (λ e. subst (Contains (child ∷ root ∷ [])) e (Contains-here child (root ∷ []))) (λ n. absurd (no_member i n)) (Contains-cons_cases i child [] s)
   reached i (parent {child = c} r m) = ⊎_elim of_child (λ n. ⊎_elim of_root (λ o. absurd (no_member c o)) (Contains-cons_cases c root [] n)) (Contains-cons_cases c child (root ∷ []) (reached c r))
     where
       of_child : child ≡ c → Contains (child ∷ root ∷ []) i
-      of_child e = Contains-there i child (root ∷ []) (subst (λ ps. Contains ps i) child_names (subst (λ j. Contains (parents j) i) (sym e) m))
+      of_child e = Contains-there i child (root ∷ []) (subst (λ ps. Contains ps i) child_names (subst (λ j. Contains (followed j) i) (sym e) m))
 
       of_root : root ≡ c → Contains (child ∷ root ∷ []) i
-      of_root e = absurd (no_member i (subst (λ ps. Contains ps i) root_names (subst (λ j. Contains (parents j) i) (sym e) m)))
+      of_root e = absurd (no_member i (subst (λ ps. Contains ps i) root_names (subst (λ j. Contains (followed j) i) (sym e) m)))
 
   abbrev Pending : List ObjectId → ObjectId → Type 0
-  Pending = IsPending parents time (child ∷ []) []
+  Pending = IsPending parents followed time (child ∷ []) []
 
-  names_of_child : child ∷ flat_map parents (child ∷ []) ≡ child ∷ root ∷ []
+  names_of_child : child ∷ flat_map followed (child ∷ []) ≡ child ∷ root ∷ []
   names_of_child = ap (λ ps. child ∷ (ps ++ [])) child_names
 
-  names_of_both : child ∷ flat_map parents (child ∷ root ∷ []) ≡ child ∷ root ∷ []
+  names_of_both : child ∷ flat_map followed (child ∷ root ∷ []) ≡ child ∷ root ∷ []
   names_of_both = (λ k. child ∷ (child_names k ++ (root_names k ++ [])))
 
   child_pending : Pending [] child
@@ -144,7 +149,7 @@ module _ (parents : ObjectId → List ObjectId) (time : ObjectId → ℤ) (child
 
   -- breadth first
   abbrev IsNextFound : List ObjectId → List ObjectId → Type 0
-  IsNextFound taken rest = IsFirst (Pending taken) (child ∷ flat_map parents taken) rest
+  IsNextFound taken rest = IsFirst (Pending taken) (child ∷ flat_map followed taken) rest
 
   abbrev IsPassed : List ObjectId → ObjectId → Type 0
   IsPassed taken i = Pending taken i → ⊥
@@ -188,10 +193,10 @@ module _ (parents : ObjectId → List ObjectId) (time : ObjectId → ℤ) (child
   not_reversed : Throughout IsNextNewest (root ∷ child ∷ []) → ⊥
   not_reversed h = ⊎_elim (λ e. root_is_other (sym e)) (no_member root) (Contains-cons_cases root child [] (h [] (root ∷ child ∷ []) refl).0.0)
 
-  is_listed : (by : List ℕ) → Throughout (λ taken rest. Follows parents time (child ∷ []) [] taken rest by) (child ∷ root ∷ []) → Lists parents time (child ∷ []) [] by (child ∷ root ∷ [])
+  is_listed : (by : List ℕ) → Throughout (λ taken rest. Comes parents followed time (child ∷ []) [] taken rest by) (child ∷ root ∷ []) → Lists parents followed time (child ∷ []) [] by (child ∷ root ∷ [])
   is_listed by follows = (
     are_distinct (child ∷ root ∷ []) (λ c. ⊎_elim root_is_other (no_member child) (Contains-cons_cases child root [] c), (no_member root, tt)),
-    λ i c. (⊎_elim (λ e. subst (Reaches parents (child ∷ [])) e child_in) (λ n. ⊎_elim (λ e. subst (Reaches parents (child ∷ [])) e root_in) (λ o. absurd (no_member i o)) (Contains-cons_cases i root [] n)) (Contains-cons_cases i child (root ∷ []) c), unhidden i),
+    λ i c. (⊎_elim (λ e. subst (Reaches followed (child ∷ [])) e child_in) (λ n. ⊎_elim (λ e. subst (Reaches followed (child ∷ [])) e root_in) (λ o. absurd (no_member i o)) (Contains-cons_cases i root [] n)) (Contains-cons_cases i child (root ∷ []) c), unhidden i),
     follows,
     λ acyclic i s. reached i s.0,
   )
@@ -216,12 +221,43 @@ module _ (text : List ℕ) (child_names : next_in child (Some (record { kind = k
   served_newest : Serves (map worded (read text)) parents time (Some []) (Some output) (codes "newest" ∷ codes "2222222222222222222222222222222222222222" ∷ [])
   unfolding hex_on_literals
   served_newest =
-      commits {hidden = []} (inl (child, [], refl, (refl, refl, refl), (refl, refl))) (λ e. cc) (is_listed parents time child_named root_named (codes "newest") (λ taken rest e. newest (in_order parents time child_named root_named taken rest e))) refl
+      commits [] [] (codes "2222222222222222222222222222222222222222" ∷ []) {hidden = []} (inl (child, [], refl, (refl, refl, refl), (refl, refl))) (λ e. cc) all (inl (refl, refl)) (is_listed parents parents time child_named root_named (codes "newest") (λ taken rest e. newest (in_order parents parents time child_named root_named taken rest e))) refl
 
   served_breadth : Serves (map worded (read text)) parents time (Some []) (Some output) (codes "breadth" ∷ codes "2222222222222222222222222222222222222222" ∷ [])
   unfolding hex_on_literals
   served_breadth =
-      commits {hidden = []} (inl (child, [], refl, (refl, refl, refl), (refl, refl))) (λ e. cc) (is_listed parents time child_named root_named (codes "breadth") (λ taken rest e. breadth (in_breadth parents time child_named root_named taken rest e))) refl
+      commits [] [] (codes "2222222222222222222222222222222222222222" ∷ []) {hidden = []} (inl (child, [], refl, (refl, refl, refl), (refl, refl))) (λ e. cc) all (inl (refl, refl)) (is_listed parents parents time child_named root_named (codes "breadth") (λ taken rest e. breadth (in_breadth parents parents time child_named root_named taken rest e))) refl
+
+  -- by first parents alone
+  abbrev first_parents : ObjectId → List ObjectId
+  first_parents i = take 1 (parents i)
+
+  served_first : Serves (map worded (read text)) parents time (Some []) (Some output) (codes "breadth" ∷ codes "--first-parent" ∷ codes "2222222222222222222222222222222222222222" ∷ [])
+  unfolding hex_on_literals
+  served_first =
+      let child_first : first_parents child ≡ root ∷ [] = ap (take 1) child_named in
+      let root_first : first_parents root ≡ [] = ap (take 1) root_named in
+      commits (codes "--first-parent" ∷ []) [] (codes "2222222222222222222222222222222222222222" ∷ []) {hidden = []} (inl (child, [], refl, (refl, refl, refl), (refl, refl))) (λ e. cc) first (inl (refl, refl))
+      (is_listed parents first_parents time child_first root_first (codes "breadth") (λ taken rest e. breadth (in_breadth parents first_parents time child_first root_first taken rest e))) refl
+
+  -- without what is older than the parent, which has the time 5
+  root_time : time root ≡ pos 5
+  root_time = ap (λ o. time_in (commit_of_object root o)) (root_stored text) ∙ root_is_signed
+
+  abbrev recent : List ObjectId → List ObjectId
+  recent ids = filter (λ i. not (int_lt (time i) (pos 5))) ids
+
+  served_since : int_lt (time child) (pos 5) ≡ false
+      → Serves (map worded (read text)) parents time (Some []) (Some output) (codes "newest" ∷ codes "--since" ∷ codes "5" ∷ codes "2222222222222222222222222222222222222222" ∷ [])
+  unfolding hex_on_literals
+  served_since young =
+      let child_recent : recent (parents child) ≡ root ∷ [] = ap recent child_named ∙ (λ k. cond (not (int_lt (root_time k) (pos 5))) (root ∷ []) []) in
+      let root_recent : recent (parents root) ≡ [] = ap recent root_named in
+      let tip_recent : recent (child ∷ []) ≡ child ∷ [] = (λ k. cond (not (young k)) (child ∷ []) []) in
+      commits (codes "--since" ∷ codes "5" ∷ []) [] (codes "2222222222222222222222222222222222222222" ∷ []) {hidden = []} (inl (child, [], refl, (refl, refl, refl), (refl, refl))) (λ e. cc)
+      (since 5 (0, omega arith, refl) (is_number 10 (codes "5") 5 refl)) (inl (refl, refl))
+      (subst (λ from. Lists parents (λ i. recent (parents i)) time from [] (codes "newest") (child ∷ root ∷ [])) (sym tip_recent)
+      (is_listed parents (λ i. recent (parents i)) time child_recent root_recent (codes "newest") (λ taken rest e. newest (in_order parents (λ i. recent (parents i)) time child_recent root_recent taken rest e)))) refl
 
 -- `newest CHILD` over whole texts, from bytes to bytes
 abbrev child_text : List ℕ

@@ -1,14 +1,15 @@
 -- A run that ended well has written what the statement promises.
-use Rattle.std.specs.Prelude.{◌≡◌, ℕ, ℤ, List, [], ◌∷◌, map, false, Option, Some, Result, Ok, All, Contains}
+use Rattle.std.specs.Prelude.{◌≡◌, ℕ, ℤ, List, [], ◌∷◌, ◌++◌, map, take, false, Option, Some, None, Result, Ok, All, Contains, codes}
 use Rattle.std.specs.Io.KnownBytes.{Appends}
 use Rattle.std.specs.List.{flat_map}
-use Rattle.std.proofs.Common.{refl, sym, ap, subst, ◌∙◌}
+use Rattle.std.proofs.Common.{refl, sym, ap, subst, inl, inr, ◌∙◌}
 use Rattle.gix_hash.specs.declared.ObjectId.{ObjectId}
 use Rattle.gix_hash.proofs.Ids.Membership.{Contains-here, Contains-there}
 use Rattle.gix_revwalk.specs.Commits.{time_of}
 use Rattle.gix_revwalk.specs.Texts.{text_next}
 use Rattle.gix_revwalk.proofs.Rows.{none_agree}
 use Rattle.gix_records.specs.Records.{Record, AreRecords, stored}
+use Rattle.gix_simple.specs.Walk.{time_order}
 use Rattle.gix_tree.specs.Script.{IsDepthScript, entries_at}
 use Rattle.gix_tree.specs.Tracked.{Tracks, fresh_recorder}
 use Rattle.gix_tree.specs.Visits.{Ending, Whole, Broken, Failed, IsUnfailed, is_broken}
@@ -18,7 +19,7 @@ use Rattle.gix_tree.proofs.Theorems.SameRecords.{unbroken}
 use Rattle.gix_commands.specs.declared.fault.Fault.{Fault}
 use Rattle.gix_commands.specs.declared.words.Order.TheVariants.{Simple, Topo}
 use Rattle.gix_commands.specs.Files.{file_lines}
-use Rattle.gix_commands.specs.Histories.{AreWhole}
+use Rattle.gix_commands.specs.Histories.{AreWhole, followed, kept_tips}
 use Rattle.gix_commands.specs.Run.{Runs, Serves, served, listed}
 use Rattle.gix_commands.specs.Walked.{never_faulty}
 use Rattle.gix_commands.specs.Words.{Request, Commits, Files, Ahead, Contained, request_of}
@@ -27,12 +28,13 @@ use Rattle.gix_commands.specs.WholeStatement.{Entry, IsTree, Unfolds, Promises, 
 use Rattle.gix_commands.proofs.AheadRuns.{ahead_counts, counted_whole}
 use Rattle.gix_commands.proofs.CommitRuns.{served_so, simple_lists}
 use Rattle.gix_commands.proofs.ContainedRuns.{contains_ids}
+use Rattle.gix_commands.proofs.FirstCommits.{simple_begins, topo_begins}
 use Rattle.gix_commands.proofs.FileRuns.{unfolds}
 use Rattle.gix_commands.proofs.TopoRuns.{topo_lists}
 use Rattle.gix_commands.proofs.SameCommits.{worded, are_records}
 use Rattle.gix_commands.proofs.SameContained.{contained_kept}
 use Rattle.gix_commands.proofs.SameHistory.{history}
-use Rattle.gix_commands.proofs.SameLists.{listed as is_list, listed_down, number_shown, id_lines, entry_lines}
+use Rattle.gix_commands.proofs.SameLists.{listed as is_list, is_followed, is_name_in, listed_down, number_shown, id_lines, entry_lines}
 use Rattle.gix_commands.proofs.SameTrees.{IsNamed, have_names, placed_by, unfolds_walk}
 use Rattle.gix_commands.proofs.SameWords.{AreWordsOf, are_words}
 use Rattle.gix_commands.proofs.TextNumbers.{number_by_texts}
@@ -55,10 +57,10 @@ module _ (words : List (List ℕ)) (input : List ℕ) (rs : List Record) (old ne
   abbrev ServesSo : List (List ℕ) → Type 0
   ServesSo = page.Serves all parents time old new
 
-  tree_written : (tree : ObjectId) → Serves (stored rs) [] old (Files tree) (Ok tt) new
-      → (entries : List Entry) × (placed : List (List ℕ × Entry)) × IsTree all tree entries × Unfolds all [] entries placed × (All IsNamed placed → Appends old new (flat_map entry_line placed))
-  tree_written tree (listed recorder walk written) =
-      let u = unfolds (stored rs) tree recorder walk in
+  tree_written : (ending : ℕ) (tree : ObjectId) → Serves (stored rs) [] old (Files ending tree) (Ok tt) new
+      → (entries : List Entry) × (placed : List (List ℕ × Entry)) × IsTree all tree entries × Unfolds all [] entries placed × (All IsNamed placed → Appends old new (flat_map (entry_line ending) placed))
+  tree_written ending tree (listed recorder walk written) =
+      let u = unfolds (stored rs) ending tree recorder walk in
       let order = depth_is_in_order (stored rs) (never_faulty (stored rs)) Tracks tree fresh_recorder recorder (Ok tt) walk (depth_ok walk.end walk.answered) in
       let end : walk.end ≡ Whole = whole_end walk.end (depth_ok walk.end walk.answered) (unbroken (entries_at (trees_of (stored rs))) order u.all) in
       let t = unfolds_walk rs (LookUpFails (stored rs) (never_faulty (stored rs))) (subst (IsDepthScript (trees_of (stored rs)) (LookUpFails (stored rs) (never_faulty (stored rs))) tree walk.calls walk.visits) end walk.script) u.all in (
@@ -66,19 +68,33 @@ module _ (words : List (List ℕ)) (input : List ℕ) (rs : List Record) (old ne
         map placed_by walk.visits,
         t.1,
         t.2,
-        λ names. subst (Appends old new) (ap file_lines (depth_is_recorded (stored rs) (never_faulty (stored rs)) tree recorder (Ok tt) walk (λ e. cc) (have_names walk.visits names)) ∙ entry_lines walk.visits) written,
+        λ names. subst (Appends old new) (ap (file_lines ending) (depth_is_recorded (stored rs) (never_faulty (stored rs)) tree recorder (Ok tt) walk (λ e. cc) (have_names walk.visits names)) ∙ entry_lines ending walk.visits) written,
       )
 
   serves : (request : Request) → request_of words ≡ Ok request → AreWordsOf words (Ok request) → ServesSo words
-  serves (Commits (Simple by) tips hidden) asked (name, rest, is, named, ids, some) =
-      let l = simple_lists words input rs by tips hidden old new asked are runs in
-      subst ServesSo (sym is) (page.commits ids some (is_list (stored rs) parents name by named tips hidden l.0 l.1.read) (subst (Appends old new) (id_lines l.0) l.2))
-  serves (Commits (Topo by) tips ends) asked (name, rest, is, named, ids, some) =
+  serves (Commits (Simple m by) None tips hidden) asked (name, option, rest, those, is, named, chosen, same, ids, some) =
+      let l = simple_lists words input rs m by tips hidden old new asked are runs in
+      subst ServesSo (sym (is ∙ ap (λ w. name ∷ (option ++ w)) same))
+      (page.commits option [] those ids some (is_followed (stored rs) parents name option tips m by named chosen) (inl (refl, refl))
+      (is_list (stored rs) parents (followed (stored rs) parents m by) name (time_order m by) (is_name_in (stored rs) parents name option m by named chosen) (kept_tips (stored rs) by tips) hidden l.0 l.1.read)
+      (subst (Appends old new) (id_lines l.0) l.2))
+  serves (Commits (Simple m by) (Some n) tips hidden) asked (name, option, rest, those, is, named, chosen, (number, limits, same), ids, some) =
+      let l = simple_begins words input rs m by n tips hidden old new asked are runs in
+      subst ServesSo (sym (is ∙ ap (λ w. name ∷ (option ++ w)) same))
+      (page.commits option (codes "-n" ∷ number ∷ []) those ids some (is_followed (stored rs) parents name option tips m by named chosen) (inr (number, n, limits, refl, refl))
+      (is_list (stored rs) parents (followed (stored rs) parents m by) name (time_order m by) (is_name_in (stored rs) parents name option m by named chosen) (kept_tips (stored rs) by tips) hidden l.0 l.1.read)
+      (subst (Appends old new) (id_lines (take n l.0)) l.2))
+  serves (Commits (Topo by) None tips ends) asked (name, option, rest, those, is, named, chosen, same, ids, some) =
       let l = topo_lists words input rs by tips ends old new asked are runs in
-      subst ServesSo (sym is) (page.commits ids some (listed_down (stored rs) parents name by named tips ends l.0 l.1.read) (subst (Appends old new) (id_lines l.0) l.2))
-  serves (Files tree) asked (text, is, spells) =
-      let t = tree_written tree (served_so words input rs (Files tree) old new asked are runs) in
-      subst ServesSo (sym is) (page.files spells t.2 t.3 t.4)
+      subst ServesSo (sym (is ∙ (λ k. name ∷ (chosen k ++ same k))))
+      (page.commits [] [] those ids some page.all (inl (refl, refl)) (listed_down (stored rs) parents name by named tips ends l.0 l.1.read) (subst (Appends old new) (id_lines l.0) l.2))
+  serves (Commits (Topo by) (Some n) tips ends) asked (name, option, rest, those, is, named, chosen, (number, limits, same), ids, some) =
+      let l = topo_begins words input rs by n tips ends old new asked are runs in
+      subst ServesSo (sym (is ∙ (λ k. name ∷ (chosen k ++ same k))))
+      (page.commits [] (codes "-n" ∷ number ∷ []) those ids some page.all (inr (number, n, limits, refl, refl)) (listed_down (stored rs) parents name by named tips ends l.0 l.1.read) (subst (Appends old new) (id_lines (take n l.0)) l.2))
+  serves (Files ending tree) asked (option, text, ends, is, spells) =
+      let t = tree_written ending tree (served_so words input rs (Files ending tree) old new asked are runs) in
+      subst ServesSo (sym is) (page.files option text ends spells t.2 t.3 t.4)
   serves (Ahead one other) asked (a, b, is, spells, spells_other) =
       let n = ahead_counts words input rs one other old new asked are runs in
       let both : List ObjectId = one ∷ other ∷ [] in

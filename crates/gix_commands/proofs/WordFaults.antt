@@ -1,15 +1,15 @@
 -- What is so of each request that words spell, and which faults words may have.
-use Rattle.std.specs.Prelude.{◌≡◌, ℕ, ◌+◌, List, [], ◌∷◌, Bool, true, false, ◌||◌, Option, Some, None, Result, Ok, Err, codes}
+use Rattle.std.specs.Prelude.{ℕ, ◌+◌, pos, List, [], ◌∷◌, Bool, true, false, ◌||◌, Option, Some, None, Result, Ok, Err, codes}
 use Rattle.std.specs.List.{list_all}
 use Rattle.std.specs.Str.{bytes_eq}
-use Rattle.std.proofs.Common.{refl, cond}
+use Rattle.std.proofs.Common.{cond}
 use Rattle.gix_hash.specs.declared.ObjectId.{ObjectId}
 use Rattle.gix_hash.specs.declared.HexError.{HexError}
 use Rattle.gix_hash.specs.Id.{id_from_hex}
 use Rattle.gix_commands.specs.declared.fault.Fault.{Fault}
 use Rattle.gix_commands.specs.declared.fault.Fault.TheVariants as fault
 use Rattle.gix_commands.specs.declared.words.Order.{Order}
-use Rattle.gix_commands.specs.Words.{Request, Files, Ahead, Contained, Ids, begins_with_caret, without_caret, is_shown, with_id, with_word, ids_from, order_named, commits_from, files_from, files_of, ahead_from, ahead_of, contained_among, contained_from, contained_of, request_named, request_of}
+use Rattle.gix_commands.specs.Words.{Request, Files, Ahead, Contained, Ids, begins_with_caret, without_caret, is_shown, with_id, with_word, ids_from, number_in, order_named, commits_from, commits_of, limited_of, listed_of, chosen_of, recent_of, since_of, by_first_parents, by_cutoff, in_order_of, file_of, files_from, files_of, ahead_from, ahead_of, contained_among, contained_from, contained_of, request_named, request_of}
 
 -- what is so of ids, and of a word that spells none, is so of what words spell
 with_each : (Q : Result Ids Fault → Type 0) (ids_so : (ids : Ids) → Q (Ok ids)) (no_id : (n : ℕ) → Q (Err (fault.Id n))) (hidden : Bool) (n : ℕ) (r : Result ObjectId HexError) (rest : Result Ids Fault) → Q rest → Q (with_word hidden n r rest)
@@ -23,19 +23,23 @@ each_ids Q ids_so no_id n (word ∷ words) =
     with_each Q ids_so no_id (begins_with_caret word) n (id_from_hex (without_caret word)) (ids_from (n + 1) words) (each_ids Q ids_so no_id (n + 1) words)
 
 -- what is so of a wrong use, of a word that spells no id, of a tree, of two commits to compare, of a tip and ids behind it and of what an order's words ask for
-module _ (P : Result Request Fault → Type 0) (usage : P (Err fault.Usage)) (no_id : (n : ℕ) → P (Err (fault.Id n))) (tree : (i : ObjectId) → P (Ok (Files i))) (pair : (i j : ObjectId) → P (Ok (Ahead i j))) (some : (i : ObjectId) (ids : List ObjectId) → P (Ok (Contained i ids))) where
+module _ (P : Result Request Fault → Type 0) (usage : P (Err fault.Usage)) (no_id : (n : ℕ) → P (Err (fault.Id n))) (tree : (ending : ℕ) (i : ObjectId) → P (Ok (Files ending i))) (pair : (i j : ObjectId) → P (Ok (Ahead i j))) (some : (i : ObjectId) (ids : List ObjectId) → P (Ok (Contained i ids))) where
   either : (t : Bool) (a b : Result Request Fault) → P a → P b → P (cond t a b)
   either true a b h k = h
   either false a b h k = k
 
-  from_tree : (r : Result ObjectId HexError) → P (files_from r)
-  from_tree (Ok i) = tree i
-  from_tree (Err e) = no_id 2
+  from_id : (ending n : ℕ) (r : Result ObjectId HexError) → P (files_from ending n r)
+  from_id ending n (Ok i) = tree ending i
+  from_id ending n (Err e) = no_id n
+
+  from_tree : (ending n : ℕ) (id : List ℕ) → P (file_of ending n id)
+  from_tree ending n id = either (begins_with_caret id) (Err fault.Usage) (files_from ending n (id_from_hex id)) usage (from_id ending n (id_from_hex id))
 
   from_trees : (ids : List (List ℕ)) → P (files_of ids)
   from_trees [] = usage
-  from_trees (id ∷ []) = either (begins_with_caret id) (Err fault.Usage) (files_from (id_from_hex id)) usage (from_tree (id_from_hex id))
-  from_trees (id ∷ next ∷ ids) = usage
+  from_trees (id ∷ []) = from_tree 10 2 id
+  from_trees (option ∷ id ∷ []) = either (bytes_eq option (codes "-z")) (file_of 0 3 id) (Err fault.Usage) (from_tree 0 3 id) usage
+  from_trees (option ∷ id ∷ next ∷ ids) = usage
 
   from_pair : (one other : Result ObjectId HexError) → P (ahead_from one other)
   from_pair (Ok one) (Ok other) = pair one other
@@ -59,14 +63,46 @@ module _ (P : Result Request Fault → Type 0) (usage : P (Err fault.Usage)) (no
       either (list_all is_shown (tip ∷ next ∷ ids)) (contained_from (ids_from 2 (tip ∷ next ∷ ids))) (Err fault.Usage)
       (each_ids (λ r. P (contained_from r)) (λ those. from_some those.0) no_id 2 (tip ∷ next ∷ ids)) usage
 
-  from_name : (name : List ℕ) (o : Option Order) (ids : List (List ℕ)) → ((by : Order) → o ≡ Some by → P (commits_from by (ids_from 2 ids))) → P (request_named name o ids)
-  from_name name (Some by) ids h = either (list_all begins_with_caret ids) (Err fault.Usage) (commits_from by (ids_from 2 ids)) usage (h by refl)
-  from_name name None ids h = either (bytes_eq name (codes "files")) (files_of ids) _ (from_trees ids) (either (bytes_eq name (codes "ahead")) (ahead_of ids) _ (from_pairs ids) (either (bytes_eq name (codes "contains")) (contained_of ids) (Err fault.Usage) (from_somes ids) usage))
+  module _ (h : (by : Order) (limit : Option ℕ) (n : ℕ) (ids : List (List ℕ)) → P (commits_from by limit (ids_from n ids))) where
+    from_ids : (by : Order) (limit : Option ℕ) (n : ℕ) (ids : List (List ℕ)) → P (commits_of by limit n ids)
+    from_ids by limit n ids = either (list_all begins_with_caret ids) (Err fault.Usage) (commits_from by limit (ids_from n ids)) usage (h by limit n ids)
 
-  -- is so of each request
-  pub each_request : ((name : List ℕ) (by : Order) → order_named name ≡ Some by → (ids : List (List ℕ)) → P (commits_from by (ids_from 2 ids))) → (words : List (List ℕ)) → P (request_of words)
-  each_request h [] = usage
-  each_request h (name ∷ ids) = from_name name (order_named name) ids (λ by e. h name by e ids)
+    from_limit : (by : Order) (limit : Option ℕ) (n : ℕ) (ids : List (List ℕ)) → P (limited_of by limit n ids)
+    from_limit by (Some limit) n ids = from_ids by (Some limit) n ids
+    from_limit by None n ids = usage
+
+    from_list : (by : Order) (n : ℕ) (words : List (List ℕ)) → P (listed_of by n words)
+    from_list by n [] = from_ids by None n []
+    from_list by n (id ∷ []) = from_ids by None n (id ∷ [])
+    from_list by n (option ∷ limit ∷ ids) =
+        either (bytes_eq option (codes "-n")) (limited_of by (number_in 9 limit) (n + 2) ids) (commits_of by None n (option ∷ limit ∷ ids)) (from_limit by (number_in 9 limit) (n + 2) ids) (from_ids by None n (option ∷ limit ∷ ids))
+
+    from_choice : (o : Option Order) (n : ℕ) (words : List (List ℕ)) → P (chosen_of o n words)
+    from_choice (Some by) n words = from_list by n words
+    from_choice None n words = usage
+
+    from_time : (by : Order) (seconds : Option ℕ) (words : List (List ℕ)) → P (recent_of by seconds words)
+    from_time by (Some seconds) words = from_choice (by_cutoff (pos seconds) by) 4 words
+    from_time by None words = usage
+
+    from_since : (by : Order) (words : List (List ℕ)) → P (since_of by words)
+    from_since by [] = usage
+    from_since by (seconds ∷ words) = from_time by (number_in 10 seconds) words
+
+    from_order : (by : Order) (words : List (List ℕ)) → P (in_order_of by words)
+    from_order by [] = from_list by 2 []
+    from_order by (option ∷ words) =
+        either (bytes_eq option (codes "--first-parent")) (chosen_of (by_first_parents by) 3 words) _ (from_choice (by_first_parents by) 3 words)
+        (either (bytes_eq option (codes "--since")) (since_of by words) (listed_of by 2 (option ∷ words)) (from_since by words) (from_list by 2 (option ∷ words)))
+
+    from_name : (name : List ℕ) (o : Option Order) (ids : List (List ℕ)) → P (request_named name o ids)
+    from_name name (Some by) ids = from_order by ids
+    from_name name None ids = either (bytes_eq name (codes "files")) (files_of ids) _ (from_trees ids) (either (bytes_eq name (codes "ahead")) (ahead_of ids) _ (from_pairs ids) (either (bytes_eq name (codes "contains")) (contained_of ids) (Err fault.Usage) (from_somes ids) usage))
+
+    -- is so of each request
+    pub each_request : (words : List (List ℕ)) → P (request_of words)
+    each_request [] = usage
+    each_request (name ∷ ids) = from_name name (order_named name) ids
 
 abbrev pub IsOfWords : Fault → Type 0
 IsOfWords fault.Usage = Unit {0}
@@ -97,9 +133,9 @@ ids_words : (n : ℕ) (words : List (List ℕ)) → OfWords (ids_from n words)
 ids_words n [] = tt
 ids_words n (word ∷ words) = with_words (begins_with_caret word) n (id_from_hex (without_caret word)) (ids_from (n + 1) words) (ids_words (n + 1) words)
 
-commits_words : (by : Order) (r : Result Ids Fault) → OfWords r → OfWords (commits_from by r)
-commits_words by (Ok ids) h = tt
-commits_words by (Err e) h = h
+commits_words : (by : Order) (limit : Option ℕ) (r : Result Ids Fault) → OfWords r → OfWords (commits_from by limit r)
+commits_words by limit (Ok ids) h = tt
+commits_words by limit (Err e) h = h
 
 pub request_words : (words : List (List ℕ)) → OfWords (request_of words)
-request_words = each_request OfWords tt (λ n. tt) (λ i. tt) (λ i j. tt) (λ i ids. tt) (λ name by e ids. commits_words by (ids_from 2 ids) (ids_words 2 ids))
+request_words = each_request OfWords tt (λ n. tt) (λ ending i. tt) (λ i j. tt) (λ i ids. tt) (λ by limit n ids. commits_words by limit (ids_from n ids) (ids_words n ids))

@@ -5,6 +5,7 @@ use Rattle.gix_hash.specs.declared.ObjectId.{ObjectId}
 use Rattle.gix_object.specs.Object.{Objects}
 use Rattle.gix_commitgraph.specs.Rows.{GraphRow}
 use Rattle.gix_revwalk.specs.declared.Info.{Info}
+use Rattle.gix_revwalk.specs.declared.Parents.TheVariants as mode
 use Rattle.gix_simple.specs.declared.Sorting.TheVariants as sorting
 use Rattle.gix_commands.specs.declared.fault.Fault.{Fault}
 use Rattle.gix_commands.specs.Walked.{Walk, Answers, IsWalkFault, StartsFrom, Ends}
@@ -12,7 +13,7 @@ use Rattle.gix_commands.specs.Walked.{Walk, Answers, IsWalkFault, StartsFrom, En
 -- a walk breadth first from a tip, which hides what another commit reaches, gave commits and ended so
 pub record Draws (objects : Objects) (rows : List GraphRow) (tip hidden : ObjectId) (infos : List Info) (answer : Result (Unit {0}) Fault) : Type 0 where
   pub walk : Walk
-  pub starts : StartsFrom objects rows sorting.BreadthFirst (tip ∷ []) (hidden ∷ []) walk
+  pub starts : StartsFrom objects rows mode.All sorting.BreadthFirst (tip ∷ []) (hidden ∷ []) walk
   pub ends : Ends Answers IsWalkFault walk infos answer
 
 -- such a walk was drawn to its end, and gave so many commits

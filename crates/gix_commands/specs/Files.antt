@@ -22,17 +22,18 @@ RecordsTree objects tree recorder answer = DepthFirst objects (never_faulty obje
 abbrev pub six_octal_digits : ℕ → List ℕ
 six_octal_digits n = let shown = digits 8 false n in replicate (6 - length shown) 48 ++ shown
 
--- an entry's mode, a space, its id, a space, its path and a newline
-abbrev pub file_line : Record → List ℕ
-file_line r = six_octal_digits r.mode ++ 32 ∷ (hex_of r.id ++ 32 ∷ (r.path ++ 10 ∷ []))
+-- an entry's mode, a space, its id, a space, its path and the byte that ends a line
+abbrev pub file_line : (ending : ℕ) → Record → List ℕ
+file_line ending r = six_octal_digits r.mode ++ 32 ∷ (hex_of r.id ++ 32 ∷ (r.path ++ ending ∷ []))
 
 -- entries, one a line
-abbrev pub file_lines : List Record → List ℕ
-file_lines records = flat_map file_line records
+abbrev pub file_lines : (ending : ℕ) → List Record → List ℕ
+file_lines ending records = flat_map (file_line ending) records
 
 -- these are the lines of the entries of a tree and of the trees in it
-abbrev pub AreLinesOf : Objects → ObjectId → List ℕ → Type 0
-AreLinesOf objects tree lines = (recorder : Tracked) × RecordsTree objects tree recorder (Ok tt) × (lines ≡ file_lines recorder.held.records)
+abbrev pub AreLinesOf : (ending : ℕ) → Objects → ObjectId → List ℕ → Type 0
+AreLinesOf ending objects tree lines =
+    (recorder : Tracked) × RecordsTree objects tree recorder (Ok tt) × (lines ≡ file_lines ending recorder.held.records)
 
 -- a walk through a tree may fail so, unless memory ran out
 abbrev pub IsTreeFault : Objects → ObjectId → Fault → Type 0

@@ -6,21 +6,22 @@ use Rattle.gix_tree.specs.Delegate.{Action, Call, PushPath, PopPath, PushBack, P
 use Rattle.gix_tree.specs.Tracked.{Tracked, Tracks, fresh_recorder}
 use Rattle.gix_commands.specs.Files.{file_line}
 
--- a recorder that follows the path and records nothing, and the lines
+-- a recorder that follows the path and records nothing, the lines, and the byte that ends a line
 pub record Listed : Type 0 where
   pub recorder : Tracked
   pub lines : List ℕ
+  pub ending : ℕ
 
-abbrev pub fresh_lister : Listed
-fresh_lister = record { recorder = fresh_recorder; lines = [] }
+abbrev pub fresh_lister : (ending : ℕ) → Listed
+fresh_lister ending = record { recorder = fresh_recorder; lines = []; ending = ending }
 
 -- the line of the entry at the current path
 abbrev pub line_at : Listed → TreeEntry → List ℕ
-line_at l e = file_line (record { mode = e.mode; path = l.recorder.held.path; id = e.id })
+line_at l e = file_line l.ending (record { mode = e.mode; path = l.recorder.held.path; id = e.id })
 
 -- the path was followed
 abbrev pub Moves : Listed → Call → Listed → Type 0
-Moves old call new = Tracks old.recorder call new.recorder × (new.lines ≡ old.lines)
+Moves old call new = Tracks old.recorder call new.recorder × (new.lines ≡ old.lines) × (new.ending ≡ old.ending)
 
 -- a line was added
 abbrev pub AddsLine : Listed → TreeEntry → Action → Listed → Type 0

@@ -29,23 +29,24 @@ pub record Unfolds (objects : Objects) (tree : ObjectId) (visits : List Visit) :
 -- it, in preorder, with its path, where each name can be a part of a path.
 abbrev pub FilesLists : Type 0
 FilesLists =
-    (words : List (List ℕ)) (input : List ℕ) (records : List Record) (tree : ObjectId) (old new : Option (List ℕ)) →
-    request_of words ≡ Ok (Files tree) → AreRecords records input → Runs words (Some input) old (Ok tt) new →
-    (visits : List Visit) × Unfolds (stored records) tree visits × (HaveNames visits → Appends old new (file_lines (map record_of visits)))
+    (words : List (List ℕ)) (input : List ℕ) (records : List Record) (ending : ℕ) (tree : ObjectId) (old new : Option (List ℕ)) →
+    request_of words ≡ Ok (Files ending tree) → AreRecords records input → Runs words (Some input) old (Ok tt) new →
+    (visits : List Visit) × Unfolds (stored records) tree visits × (HaveNames visits → Appends old new (file_lines ending (map record_of visits)))
 
 -- Where the records are a part of a store, these are the lines of the whole store, whatever else is in it.
 abbrev pub FilesListsOfPart : Type 0
 FilesListsOfPart =
-    (words : List (List ℕ)) (input : List ℕ) (records : List Record) (tree : ObjectId)
+    (words : List (List ℕ)) (input : List ℕ) (records : List Record) (ending : ℕ) (tree : ObjectId)
     (old new : Option (List ℕ)) (objects : Objects) →
-    request_of words ≡ Ok (Files tree) → AreRecords records input → IsPartOf (stored records) objects →
+    request_of words ≡ Ok (Files ending tree) → AreRecords records input → IsPartOf (stored records) objects →
     Runs words (Some input) old (Ok tt) new →
-    (visits : List Visit) × Unfolds objects tree visits × (HaveNames visits → Appends old new (file_lines (map record_of visits)))
+    (visits : List Visit) × Unfolds objects tree visits × (HaveNames visits → Appends old new (file_lines ending (map record_of visits)))
 
 -- Where each tree in it reads whole, and none is under itself, it ends well.
 abbrev pub FilesSucceeds : Type 0
 FilesSucceeds =
-    (words : List (List ℕ)) (input : List ℕ) (records : List Record) (tree : ObjectId) (answer : Result (Unit {0}) Fault) (old new : Option (List ℕ)) →
-    request_of words ≡ Ok (Files tree) → AreRecords records input →
+    (words : List (List ℕ)) (input : List ℕ) (records : List Record) (ending : ℕ) (tree : ObjectId) (answer : Result (Unit {0}) Fault)
+    (old new : Option (List ℕ)) →
+    request_of words ≡ Ok (Files ending tree) → AreRecords records input →
     AreSound (trees_of (stored records)) (LookUpFails (stored records) (never_faulty (stored records))) (λ e. true) (tree ∷ []) →
     Runs words (Some input) old answer new → EndsWell answer

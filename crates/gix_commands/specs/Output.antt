@@ -3,22 +3,22 @@ use Rattle.std.specs.Prelude.{◌≡◌, ℕ, List, ◌++◌, Option, Result}
 use Rattle.std.specs.Io.KnownBytes.{Appends}
 use Rattle.gix_revwalk.specs.declared.Info.{Info}
 use Rattle.gix_commands.specs.declared.fault.Fault.{Fault}
-use Rattle.gix_commands.specs.Walked.{Ends, lines_of}
+use Rattle.gix_commands.specs.Walked.{EndsBy, lines_of}
 
 -- the writer's bytes, followed by the buffered ones, grew by these bytes
 abbrev pub Grows : Option (List ℕ) → List ℕ → Option (List ℕ) → List ℕ → List ℕ → Type 0
 Grows old waiting new waits bytes = (written : List ℕ) × Appends old new written × (waiting ++ bytes ≡ written ++ waits)
 
 -- the lines of the commits that a walk gave were written or are buffered
-pub record Adds {W E : Type 0} (Steps : W → Option (Result Info E) → W → Type 0) (Tells : E → Fault → Type 0) (walk : W) (old : Option (List ℕ))
-    (waiting : List ℕ) (answer : Result (Unit {0}) Fault) (new : Option (List ℕ)) (waits : List ℕ) : Type 0 where
+pub record Adds {W E : Type 0} (Steps : W → Option (Result Info E) → W → Type 0) (Tells : E → Fault → Type 0) (limit : Option ℕ) (walk : W)
+    (old : Option (List ℕ)) (waiting : List ℕ) (answer : Result (Unit {0}) Fault) (new : Option (List ℕ)) (waits : List ℕ) : Type 0 where
   pub infos : List Info
-  pub ends : Ends Steps Tells walk infos answer
+  pub ends : EndsBy Steps Tells limit walk infos answer
   pub grows : Grows old waiting new waits (lines_of infos)
 
 -- the lines of the commits that a walk gave were written
-pub record WritesAll {W E : Type 0} (Steps : W → Option (Result Info E) → W → Type 0) (Tells : E → Fault → Type 0) (walk : W) (old : Option (List ℕ))
-    (answer : Result (Unit {0}) Fault) (new : Option (List ℕ)) : Type 0 where
+pub record WritesAll {W E : Type 0} (Steps : W → Option (Result Info E) → W → Type 0) (Tells : E → Fault → Type 0) (limit : Option ℕ) (walk : W)
+    (old : Option (List ℕ)) (answer : Result (Unit {0}) Fault) (new : Option (List ℕ)) : Type 0 where
   pub infos : List Info
-  pub ends : Ends Steps Tells walk infos answer
+  pub ends : EndsBy Steps Tells limit walk infos answer
   pub appends : Appends old new (lines_of infos)

@@ -8,6 +8,7 @@ use Rattle.gix_commitgraph.specs.Rows.{GraphRow}
 use Rattle.gix_contained.specs.declared.Error.{Error as ContainedError}
 use Rattle.gix_contained.specs.Contained.{Selects, FailsBy}
 use Rattle.gix_revwalk.specs.declared.Info.{Info}
+use Rattle.gix_revwalk.specs.declared.Parents.{Parents}
 use Rattle.gix_simple.specs.declared.Error.{Error}
 use Rattle.gix_simple.specs.declared.Sorting.{Sorting}
 use Rattle.gix_topo.specs.declared.Error.{Error as TopoError}
@@ -28,27 +29,31 @@ use Rattle.gix_records.specs.Input.{Tells}
 use Rattle.gix_records.specs.Records.{Record, AreRecords, IsBadRecord, stored}
 use Rattle.gix_commands.specs.Opening.{Opens, FailsToOpen}
 use Rattle.gix_commands.specs.TopoWalked as topo
-use Rattle.gix_commands.specs.Walked.{Walk, Answers, IsWalkFault, StartsFrom, FailsAtStart, Ends, line_of, lines_of, never_faulty}
+use Rattle.gix_commands.specs.Walked.{Walk, Answers, IsWalkFault, StartsFrom, FailsAtStart, EndsBy, line_of, lines_of, never_faulty}
 use Rattle.gix_commands.specs.Words.{Request, Commits, Files, Ahead, Contained, request_of}
 
 -- Over objects, rows for the walks of commits and a writer that has the bytes `old`: which answers a request may get, and which bytes the writer then has.
 pub data Serves (objects : Objects) (rows : List GraphRow) (old : Option (List ℕ)) : Request → Result (Unit {0}) Fault → Option (List ℕ) → Type 0 where
   -- the lines of the commits before a fault are written
-  walked : {by : Sorting} {tips hidden : List ObjectId} (walk : Walk) (infos : List Info) {answer : Result (Unit {0}) Fault} {new : Option (List ℕ)}
-      → StartsFrom objects rows by tips hidden walk → Ends Answers IsWalkFault walk infos answer → Appends old new (lines_of infos)
-      → Serves objects rows old (Commits (Simple by) tips hidden) answer new
-  not_walked : {by : Sorting} {tips hidden : List ObjectId} (e : Error) → FailsAtStart objects by tips e
-      → Serves objects rows old (Commits (Simple by) tips hidden) (Err (fault_of_walk e)) old
-  walked_down : {by : TopoSorting} {tips ends : List ObjectId} (walk : topo.Walk) (infos : List Info) {answer : Result (Unit {0}) Fault} {new : Option (List ℕ)}
-      → topo.IsBuiltFrom objects rows by tips ends (Ok walk) → Ends topo.Answers topo.IsWalkFault walk infos answer → Appends old new (lines_of infos)
-      → Serves objects rows old (Commits (Topo by) tips ends) answer new
-  not_built : {by : TopoSorting} {tips ends : List ObjectId} (e : TopoError) → topo.IsBuiltFrom objects rows by tips ends (Err e)
-      → Serves objects rows old (Commits (Topo by) tips ends) (Err (fault_of_topo_walk e)) old
-  listed : {tree : ObjectId} (recorder : Tracked) {new : Option (List ℕ)}
-      → RecordsTree objects tree recorder (Ok tt) → Appends old new (file_lines recorder.held.records) → Serves objects rows old (Files tree) (Ok tt) new
+  walked : {parents : Parents} {by : Sorting} {limit : Option ℕ} {tips hidden : List ObjectId} (walk : Walk) (infos : List Info)
+      {answer : Result (Unit {0}) Fault} {new : Option (List ℕ)}
+      → StartsFrom objects rows parents by tips hidden walk → EndsBy Answers IsWalkFault limit walk infos answer → Appends old new (lines_of infos)
+      → Serves objects rows old (Commits (Simple parents by) limit tips hidden) answer new
+  not_walked : {parents : Parents} {by : Sorting} {limit : Option ℕ} {tips hidden : List ObjectId} (e : Error) → FailsAtStart objects by tips e
+      → Serves objects rows old (Commits (Simple parents by) limit tips hidden) (Err (fault_of_walk e)) old
+  walked_down : {by : TopoSorting} {limit : Option ℕ} {tips ends : List ObjectId} (walk : topo.Walk) (infos : List Info)
+      {answer : Result (Unit {0}) Fault} {new : Option (List ℕ)}
+      → topo.IsBuiltFrom objects rows by tips ends (Ok walk) → EndsBy topo.Answers topo.IsWalkFault limit walk infos answer
+      → Appends old new (lines_of infos)
+      → Serves objects rows old (Commits (Topo by) limit tips ends) answer new
+  not_built : {by : TopoSorting} {limit : Option ℕ} {tips ends : List ObjectId} (e : TopoError) → topo.IsBuiltFrom objects rows by tips ends (Err e)
+      → Serves objects rows old (Commits (Topo by) limit tips ends) (Err (fault_of_topo_walk e)) old
+  listed : {ending : ℕ} {tree : ObjectId} (recorder : Tracked) {new : Option (List ℕ)}
+      → RecordsTree objects tree recorder (Ok tt) → Appends old new (file_lines ending recorder.held.records)
+      → Serves objects rows old (Files ending tree) (Ok tt) new
   -- of a tree whose walk failed no line is written
-  not_listed : {tree : ObjectId} (recorder : Tracked) (e : TreeError) → RecordsTree objects tree recorder (Err e)
-      → Serves objects rows old (Files tree) (Err (fault_of_tree_walk e)) old
+  not_listed : {ending : ℕ} {tree : ObjectId} (recorder : Tracked) (e : TreeError) → RecordsTree objects tree recorder (Err e)
+      → Serves objects rows old (Files ending tree) (Err (fault_of_tree_walk e)) old
   counted : {one other : ObjectId} (ahead behind : ℕ) {new : Option (List ℕ)}
       → Counts objects rows one other ahead → Counts objects rows other one behind → Appends old new (ahead_line ahead behind)
       → Serves objects rows old (Ahead one other) (Ok tt) new

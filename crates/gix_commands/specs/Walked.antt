@@ -1,12 +1,13 @@
 -- A walk over records, and the lines that it writes.
-use Rattle.std.specs.Prelude.{◌≡◌, ◌≢◌, ℕ, List, [], ◌∷◌, ◌++◌, map, Bool, true, Option, Some, None, Result, Ok, Err}
+use Rattle.std.specs.Prelude.{◌≡◌, ◌≢◌, ℕ, List, [], ◌∷◌, ◌++◌, map, length, ◌<◌, Bool, true, Option, Some, None, Result, Ok, Err}
 use Rattle.std.specs.List.{flat_map}
-use Rattle.std.specs.Iterator.{YieldsThen}
+use Rattle.std.specs.Iterator.{Yields, YieldsThen}
 use Rattle.gix_hash.specs.declared.ObjectId.{ObjectId}
 use Rattle.gix_hash.specs.Id.{hex_of}
 use Rattle.gix_object.specs.Object.{Objects}
 use Rattle.gix_commitgraph.specs.Rows.{GraphRow}
 use Rattle.gix_revwalk.specs.declared.Info.{Info}
+use Rattle.gix_revwalk.specs.declared.Parents.{Parents}
 use Rattle.gix_revwalk.specs.declared.Unfiltered.{Unfiltered}
 use Rattle.gix_simple.specs.declared.Error.{Error}
 use Rattle.gix_simple.specs.declared.Sorting.{Sorting}
@@ -44,13 +45,14 @@ IsSorted made sorting.BreadthFirst walk = walk ≡ record made { sorting = sorti
 IsSorted made (sorting.ByCommitTime order) walk = IsSortedByTime objects_of made (sorting.ByCommitTime order) walk
 IsSorted made (sorting.ByCommitTimeCutoff order seconds) walk = IsSortedByTime objects_of made (sorting.ByCommitTimeCutoff order seconds) walk
 
--- a walk in an order from tips, with rows, which is to hide what other tips reach, before its first step
-pub record StartsFrom (objects : Objects) (rows : List GraphRow) (by : Sorting) (tips hidden : List ObjectId) (walk : Walk) : Type 0 where
+-- a walk in an order from tips, through some parents, with rows, which is to hide what other tips reach, before its first step
+pub record StartsFrom (objects : Objects) (rows : List GraphRow) (parents : Parents) (by : Sorting) (tips hidden : List ObjectId) (walk : Walk)
+    : Type 0 where
   pub made : Walk
   pub sorted : Walk
   pub makes : IsMadeOf objects tips made
   pub sorts : IsSorted made by sorted
-  pub hides : walk ≡ record sorted { rows = rows; hidden_tips = hidden }
+  pub hides : walk ≡ record sorted { parents = parents; rows = rows; hidden_tips = hidden }
 
 -- In an order by time the time of a tip can't be read. Breadth first no commit is read before the first step.
 pub record FailsAtStart (objects : Objects) (by : Sorting) (tips : List ObjectId) (e : Error) : Type 0 where
@@ -77,6 +79,18 @@ pub data Ends {W E : Type 0} (Steps : W → Option (Result Info E) → W → Typ
   finished : (new : W) → YieldsThen Steps walk (given infos) None new → Ends Steps Tells walk infos (Ok tt)
   failed : (e : E) (f : Fault) (new : W) → YieldsThen Steps walk (given infos) (Some (Err e)) new → Tells e f → Ends Steps Tells walk infos (Err f)
   cut_short : (info : Info) (new : W) → YieldsThen Steps walk (given infos) (Some (Ok info)) new → Ends Steps Tells walk infos (Err fault.Memory)
+
+-- How a walk ended that was to give so many commits at most: it gave as many, and nothing was drawn behind them, or it ended before.
+pub data EndsWithin {W E : Type 0} (Steps : W → Option (Result Info E) → W → Type 0) (Tells : E → Fault → Type 0) (limit : ℕ) (walk : W)
+    (infos : List Info) : Result (Unit {0}) Fault → Type 0 where
+  enough : (at : W) → Yields Steps walk (given infos) at → length infos ≡ limit → EndsWithin Steps Tells limit walk infos (Ok tt)
+  before : {answer : Result (Unit {0}) Fault} → Ends Steps Tells walk infos answer → length infos < limit → EndsWithin Steps Tells limit walk infos answer
+
+-- how a walk ended, with a limit or without
+abbrev pub EndsBy :
+    {W E : Type 0} → (W → Option (Result Info E) → W → Type 0) → (E → Fault → Type 0) → Option ℕ → W → List Info → Result (Unit {0}) Fault → Type 0
+EndsBy Steps Tells None walk infos answer = Ends Steps Tells walk infos answer
+EndsBy Steps Tells (Some limit) walk infos answer = EndsWithin Steps Tells limit walk infos answer
 
 -- an id and a newline
 abbrev pub line_of : ObjectId → List ℕ

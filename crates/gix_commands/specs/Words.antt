@@ -1,11 +1,13 @@
 -- What the words of a command ask for.
-use Rattle.std.specs.Prelude.{◌≡◌, ◌≢◌, ℕ, ◌+◌, ◌==◌, List, [], ◌∷◌, ◌++◌, Bool, true, false, ◌||◌, not, if◌then◌else◌, Option, Some, None, Result, Ok, Err, codes}
+use Rattle.std.specs.Prelude.{◌≡◌, ◌≢◌, ℕ, ℤ, pos, ◌+◌, ◌==◌, nat_lt, nat_le, ◌&&◌, List, [], ◌∷◌, ◌++◌, length, Bool, true, false, ◌||◌, not, if◌then◌else◌, Option, Some, None, Result, Ok, Err, codes}
 use Rattle.std.specs.List.{list_all}
 use Rattle.std.specs.Str.{bytes_eq}
 use Rattle.gix_hash.specs.declared.ObjectId.{ObjectId}
 use Rattle.gix_hash.specs.declared.HexError.{HexError}
 use Rattle.gix_hash.specs.Id.{id_from_hex}
+use Rattle.gix_records.specs.Decimal.{digits_behind}
 use Rattle.gix_revwalk.specs.declared.CommitTimeOrder.TheVariants as order
+use Rattle.gix_revwalk.specs.declared.Parents.TheVariants as mode
 use Rattle.gix_simple.specs.declared.Sorting.TheVariants as sorting
 use Rattle.gix_topo.specs.declared.Sorting.TheVariants as topo
 use Rattle.gix_commands.specs.declared.fault.Fault.{Fault}
@@ -16,18 +18,18 @@ use Rattle.gix_commands.specs.declared.words.Order.{Order}
 use Rattle.gix_commands.specs.declared.words.Order.TheVariants.{Simple, Topo}
 
 pub data Request : Type 0 where
-  -- the commits that the tips reach and the hidden ones don't, in an order
-  Commits : (order : Order) (tips hidden : List ObjectId) → Request
-  -- the entries of the tree of this id, and of the trees in it
-  Files : (tree : ObjectId) → Request
+  -- the commits that the tips reach and the hidden ones don't, in an order; with a limit the first of them, as many at most
+  Commits : (order : Order) (limit : Option ℕ) (tips hidden : List ObjectId) → Request
+  -- the entries of the tree of this id, and of the trees in it, each with this byte behind it
+  Files : (ending : ℕ) (tree : ObjectId) → Request
   -- how many commits the one reaches and the other doesn't, and the other way round
   Ahead : (one other : ObjectId) → Request
   -- those of the ids that the tip reaches
   Contained : (tip : ObjectId) (ids : List ObjectId) → Request
 
 abbrev pub request_of_command : Command → Request
-request_of_command (command.Commits order tips hidden) = Commits order tips.items hidden.items
-request_of_command (command.Files tree) = Files tree
+request_of_command (command.Commits order limit tips hidden) = Commits order limit tips.items hidden.items
+request_of_command (command.Files ending tree) = Files ending tree
 request_of_command (command.Ahead one other) = Ahead one other
 request_of_command (command.Contained tip ids) = Contained tip ids.items
 
@@ -77,30 +79,87 @@ AddsId digits n old (Err e) new = e ≢ fault.Memory → (why : HexError) × (id
 -- the order of the walk over commits that a command names
 abbrev pub order_named : List ℕ → Option Order
 order_named name =
-    if bytes_eq name (codes "breadth") then Some (Simple sorting.BreadthFirst)
-    else if bytes_eq name (codes "newest") then Some (Simple (sorting.ByCommitTime order.NewestFirst))
-    else if bytes_eq name (codes "oldest") then Some (Simple (sorting.ByCommitTime order.OldestFirst))
+    if bytes_eq name (codes "breadth") then Some (Simple mode.All sorting.BreadthFirst)
+    else if bytes_eq name (codes "newest") then Some (Simple mode.All (sorting.ByCommitTime order.NewestFirst))
+    else if bytes_eq name (codes "oldest") then Some (Simple mode.All (sorting.ByCommitTime order.OldestFirst))
     else if bytes_eq name (codes "topo") then Some (Topo topo.TopoOrder)
     else if bytes_eq name (codes "date") then Some (Topo topo.DateOrder)
     else None
 
-abbrev pub commits_from : Order → Result Ids Fault → Result Request Fault
-commits_from by (Ok ids) = Ok (Commits by ids.0 ids.1)
-commits_from by (Err e) = Err e
+-- the order, which has no option, through first parents alone
+abbrev pub by_first_parents : Order → Option Order
+by_first_parents (Simple parents sorting.BreadthFirst) = Some (Simple mode.First sorting.BreadthFirst)
+by_first_parents (Simple parents (sorting.ByCommitTime order)) = None
+by_first_parents (Simple parents (sorting.ByCommitTimeCutoff order seconds)) = None
+by_first_parents (Topo by) = None
 
-abbrev pub files_from : Result ObjectId HexError → Result Request Fault
-files_from (Ok tree) = Ok (Files tree)
-files_from (Err e) = Err (fault.Id 2)
+-- the order, which has no option, without what is older than a time
+abbrev pub by_cutoff : ℤ → Order → Option Order
+by_cutoff seconds (Simple parents sorting.BreadthFirst) = None
+by_cutoff seconds (Simple parents (sorting.ByCommitTime order)) = Some (Simple parents (sorting.ByCommitTimeCutoff order seconds))
+by_cutoff seconds (Simple parents (sorting.ByCommitTimeCutoff order time)) = None
+by_cutoff seconds (Topo by) = None
 
--- one tip at least: this is judged of all words before any is judged as an id
-abbrev pub commits_of : Order → List (List ℕ) → Result Request Fault
-commits_of by ids = if list_all begins_with_caret ids then Err fault.Usage else commits_from by (ids_from 2 ids)
+-- the number that 1 to so many decimal digits spell
+abbrev pub number_in : ℕ → List ℕ → Option ℕ
+number_in most digits = if nat_lt 0 (length digits) && nat_le (length digits) most then digits_behind 0 digits else None
 
--- one id
+abbrev pub commits_from : Order → Option ℕ → Result Ids Fault → Result Request Fault
+commits_from by limit (Ok ids) = Ok (Commits by limit ids.0 ids.1)
+commits_from by limit (Err e) = Err e
+
+abbrev pub files_from : (ending n : ℕ) → Result ObjectId HexError → Result Request Fault
+files_from ending n (Ok tree) = Ok (Files ending tree)
+files_from ending n (Err e) = Err (fault.Id n)
+
+-- one tip at least: this is judged of all words before any is judged as an id, the first of them word n
+abbrev pub commits_of : Order → Option ℕ → ℕ → List (List ℕ) → Result Request Fault
+commits_of by limit n ids = if list_all begins_with_caret ids then Err fault.Usage else commits_from by limit (ids_from n ids)
+
+-- ids behind `-n` and a limit, the first of them word n
+abbrev pub limited_of : Order → Option ℕ → ℕ → List (List ℕ) → Result Request Fault
+limited_of by (Some limit) n ids = commits_of by (Some limit) n ids
+limited_of by None n ids = Err fault.Usage
+
+-- ids, or `-n`, a limit and ids; the first of these words is word n
+abbrev pub listed_of : Order → ℕ → List (List ℕ) → Result Request Fault
+listed_of by n [] = commits_of by None n []
+listed_of by n (id ∷ []) = commits_of by None n (id ∷ [])
+listed_of by n (option ∷ limit ∷ ids) =
+    if bytes_eq option (codes "-n") then limited_of by (number_in 9 limit) (n + 2) ids else commits_of by None n (option ∷ limit ∷ ids)
+
+-- these words behind an option that the order may not have
+abbrev pub chosen_of : Option Order → ℕ → List (List ℕ) → Result Request Fault
+chosen_of (Some by) n words = listed_of by n words
+chosen_of None n words = Err fault.Usage
+
+abbrev pub recent_of : Order → Option ℕ → List (List ℕ) → Result Request Fault
+recent_of by (Some seconds) words = chosen_of (by_cutoff (pos seconds) by) 4 words
+recent_of by None words = Err fault.Usage
+
+-- behind `--since`: a time, and these words
+abbrev pub since_of : Order → List (List ℕ) → Result Request Fault
+since_of by [] = Err fault.Usage
+since_of by (seconds ∷ words) = recent_of by (number_in 10 seconds) words
+
+-- behind the name of an order: maybe an option, and these words
+abbrev pub in_order_of : Order → List (List ℕ) → Result Request Fault
+in_order_of by [] = listed_of by 2 []
+in_order_of by (option ∷ words) =
+    if bytes_eq option (codes "--first-parent") then chosen_of (by_first_parents by) 3 words
+    else if bytes_eq option (codes "--since") then since_of by words
+    else listed_of by 2 (option ∷ words)
+
+-- one id, which is word n
+abbrev pub file_of : (ending n : ℕ) → List ℕ → Result Request Fault
+file_of ending n id = if begins_with_caret id then Err fault.Usage else files_from ending n (id_from_hex id)
+
+-- one id, and maybe `-z` before it
 abbrev pub files_of : List (List ℕ) → Result Request Fault
 files_of [] = Err fault.Usage
-files_of (id ∷ []) = if begins_with_caret id then Err fault.Usage else files_from (id_from_hex id)
-files_of (id ∷ next ∷ ids) = Err fault.Usage
+files_of (id ∷ []) = file_of 10 2 id
+files_of (option ∷ id ∷ []) = if bytes_eq option (codes "-z") then file_of 0 3 id else Err fault.Usage
+files_of (option ∷ id ∷ next ∷ ids) = Err fault.Usage
 
 abbrev pub ahead_from : Result ObjectId HexError → Result ObjectId HexError → Result Request Fault
 ahead_from (Ok one) (Ok other) = Ok (Ahead one other)
@@ -135,7 +194,7 @@ contained_of (tip ∷ next ∷ ids) = if list_all is_shown (tip ∷ next ∷ ids
 
 -- what words ask for by this name, which may be that of an order
 abbrev pub request_named : List ℕ → Option Order → List (List ℕ) → Result Request Fault
-request_named name (Some by) ids = commits_of by ids
+request_named name (Some by) ids = in_order_of by ids
 request_named name None ids =
     if bytes_eq name (codes "files") then files_of ids
     else if bytes_eq name (codes "ahead") then ahead_of ids

@@ -13,8 +13,8 @@ use crate::output::write_out;
 use gix_parts::graph::Graph;
 use gix_parts::hash::ObjectId;
 use gix_parts::records::LentStore;
-use gix_traverse::commit::Info;
 use gix_traverse::commit::simple::Sorting;
+use gix_traverse::commit::{Info, Parents};
 use std::alloc::{AllocError, Global};
 use std::io::Write;
 
@@ -52,7 +52,8 @@ fn count(
 {
     let tips = alone(alloc, tip)?;
     let hidden = alone(alloc, hidden)?;
-    let walk = walk_from(alloc, Sorting::BreadthFirst, tips, hidden, store, graph)?;
+    let order = Sorting::BreadthFirst;
+    let walk = walk_from(alloc, Parents::All, order, tips, hidden, store, graph)?;
     number_of_commits(walk)
 }
 

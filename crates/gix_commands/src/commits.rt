@@ -14,7 +14,7 @@ use gix_parts::object::find::{self, Find};
 use gix_parts::records::LentStore;
 use gix_traverse::commit::simple::Sorting;
 use gix_traverse::commit::topo::{self, Builder, Topo};
-use gix_traverse::commit::{Simple, Unfiltered};
+use gix_traverse::commit::{Parents, Simple, Unfiltered};
 use std::alloc::{AllocError, Global};
 use std::marker::Model;
 
@@ -69,26 +69,27 @@ fn copy_of(graph: Option<&Graph>) -> Result<Option<Graph>, AllocError>
     }
 }
 
-/// A walk in this order from these tips, which hides what the hidden ones reach, over a store and rows.
+/// A walk in this order from these tips, through these parents, which hides what the hidden ones reach, over a store and rows.
 ///
 /// # Errors
 /// The fault of the first tip whose time can't be read, in an order by time. `Memory`.
 pub fn walk_from<'a>(
     alloc: Global,
+    parents: Parents,
     sorting: Sorting,
     tips: Vec<ObjectId>,
     hidden: Vec<ObjectId>,
     store: &'a LentStore<'a>,
     graph: Option<&'a Graph>,
 ) -> Result<Simple<Lent<'a>, Unfiltered>, Fault>
-    ensures ok { IfOk result (StartsFrom (with_rows (rows_in graph.entry) store.now) (rows_in graph.entry) sorting tips.items hidden.items) }
+    ensures ok { IfOk result (StartsFrom (with_rows (rows_in graph.entry) store.now) (rows_in graph.entry) parents sorting tips.items hidden.items) }
     ensures err { IfErr result (IsStartFault (with_rows (rows_in graph.entry) store.now) sorting tips.items) }
 {
     let rows = copy_of(graph)?;
     let made = Simple::new(alloc, tips, Lent::over(store, graph))?;
     let sorted = made.sorting(sorting)?;
     let walk = sorted.hide(hidden)?;
-    Ok(walk.commit_graph(rows))
+    Ok(walk.parents(parents).commit_graph(rows))
 }
 
 /// A walk from these tips in which no commit comes before its children, without what the ends reach, over a store and rows.

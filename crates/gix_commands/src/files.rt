@@ -25,31 +25,38 @@ use std::io::Write;
 use std::marker::Model;
 use std::ops::ControlFlow;
 
-/// Walks through the tree of this id in depth, and writes a line for each entry once the walk has ended well.
+/// Walks through the tree of this id in depth, and writes a line for each entry, which this byte ends, once the walk has ended well.
 ///
 /// # Errors
 /// The fault of the walk, and `Memory`: nothing is written. `Write` where the writer failed.
 pub fn write_files<W: Write>(
     alloc: Global,
+    ending: u8,
     tree: ObjectId,
     store: &LentStore<'_>,
     graph: Option<&Graph>,
     writer: &mut W,
 ) -> Result<(), Fault>
-    ensures { Serves (with_rows (rows_in graph.entry) store.now) (rows_in graph.entry) (W.contents writer.old) (Files tree) result (W.contents writer.new) }
+    ensures { Serves (with_rows (rows_in graph.entry) store.now) (rows_in graph.entry) (W.contents writer.old) (Files ending tree) result (W.contents writer.new) }
 {
-    let mut lines = lines_of_tree(alloc, tree, Lent::over(store, graph))?;
+    let mut lines = lines_of_tree(alloc, ending, tree, Lent::over(store, graph))?;
     write_out(&mut lines, writer)
 }
 
 // A line for each entry of the tree of this id and of the trees in it.
-fn lines_of_tree(alloc: Global, tree: ObjectId, store: Lent<'_>) -> Result<Vec<u8>, Fault>
-    ensures ok { IfOk result (λ lines. AreLinesOf store.entry tree lines.items) }
+fn lines_of_tree(
+    alloc: Global,
+    ending: u8,
+    tree: ObjectId,
+    store: Lent<'_>,
+) -> Result<Vec<u8>, Fault>
+    ensures ok { IfOk result (λ lines. AreLinesOf ending store.entry tree lines.items) }
     ensures err { IfErr result (IsTreeFault store.entry tree) }
 {
     let mut lister = Lister {
         recorder: Recorder::new(alloc),
         lines: Vec::new(alloc),
+        ending,
         alloc,
     };
     depthfirst(alloc, tree, &mut State::new(alloc), store, &mut lister)?;
@@ -61,6 +68,8 @@ fn lines_of_tree(alloc: Global, tree: ObjectId, store: Lent<'_>) -> Result<Vec<u
 struct Lister {
     recorder: Recorder,
     lines: Vec<u8>,
+    // The byte that ends a line.
+    ending: u8,
     alloc: Global,
 }
 
@@ -69,7 +78,7 @@ impl Model for Lister {
 
     ghost Value = { Listed };
 
-    ghost view = { λ l. record { recorder = l.recorder; lines = l.lines.items } };
+    ghost view = { λ l. record { recorder = l.recorder; lines = l.lines.items; ending = l.ending } };
 }
 
 impl Lister {
@@ -86,6 +95,7 @@ impl Lister {
             entry.mode.value,
             &entry.oid,
             path.as_bytes(),
+            self.ending,
         ) {
             Ok(()) => Ok(()),
             Err(e) => {
@@ -132,21 +142,22 @@ impl Visit for Lister {
     }
 }
 
-// Adds the mode in six octal digits, the id and the path. Where memory runs out, some of them may be added.
+// Adds the mode in six octal digits, the id, the path and a byte. Where memory runs out, some of them may be added.
 fn add_line(
     alloc: Global,
     lines: &mut Vec<u8>,
     mode: u32,
     id: &ObjectId,
     path: &[u8],
+    ending: u8,
 ) -> Result<(), AllocError>
-    ensures ok { OnOk result (lines.new.items ≡ lines.old.items ++ file_line (record { mode = mode; path = path.now; id = id.now })) }
+    ensures ok { OnOk result (lines.new.items ≡ lines.old.items ++ file_line ending (record { mode = mode; path = path.now; id = id.now })) }
     ensures err { OnErr result (take (length lines.old.items) lines.new.items ≡ lines.old.items) }
 {
     add_mode(alloc, lines, mode)?;
     add_id(lines, id, b' ')?;
     lines.extend_from_slice(path)?;
-    lines.push(b'\n')?;
+    lines.push(ending)?;
     Ok(())
 }
 

@@ -2,25 +2,41 @@
 
 ghost use Rattle.gix_commands.specs.Histories.{AheadCounts, AheadCountsOfPart, AheadSucceeds, DrawsDifference, FailsSilently};
 ghost use Rattle.gix_commands.specs.Histories.{ContainsIds, ContainsIdsOfPart, ContainsSucceeds, ToldContainsIds};
-ghost use Rattle.gix_commands.specs.Histories.{SimpleLists, SimpleListsOfPart, SimpleSucceeds, TopoLists, TopoListsOfPart, TopoSucceeds};
-ghost use Rattle.gix_commands.specs.Histories.{ToldAheadCounts, ToldSimpleLists, ToldTopoLists};
+ghost use Rattle.gix_commands.specs.Histories.{SimpleBegins, SimpleBeginsOfPart, SimpleLists, SimpleListsOfPart, SimpleSucceeds};
+ghost use Rattle.gix_commands.specs.Histories.{TopoBegins, TopoBeginsOfPart, TopoLists, TopoListsOfPart, TopoSucceeds};
+ghost use Rattle.gix_commands.specs.Histories.{ToldAheadCounts, ToldSimpleBegins, ToldSimpleLists, ToldTopoBegins, ToldTopoLists};
 ghost use Rattle.gix_commands.specs.Listings.{FilesLists, FilesListsOfPart, FilesSucceeds};
 
 /// `breadth`, `newest` and `oldest` write the ids of exactly the commits that the tips reach and the hidden ones don't, each once, in
-/// their order. Nothing is asked of the records. Parents are those that the texts of commits name, and a commit whose text breaks off
-/// before its committer has the time 0; where all that is reached are whole commits, these are their parents. With a hidden tip they are:
-/// a run that ends well has read all that tips and hidden tips reach.
+/// their order. With `--first-parent` the tips reach by each first parent alone, and with `--since` by those that aren't older, from such
+/// tips; the hidden ones reach by all parents. Nothing is asked of the records. Parents are those that the texts of commits name, and a commit whose text breaks off
+/// before its committer has the time 0; where all that is reached are whole commits, these are their parents. With a hidden tip they are,
+/// unless a cutoff leaves no tip: a run that ends well has read all that tips and hidden tips reach.
 pub fn simple_lists()
     ensures { SimpleLists }
 {}
 
 /// Where the records are a part of a repository, such a list is right of the whole repository, whatever else is in it. Nothing
-/// more is asked, of the records or of the repository.
+/// more is asked, of the records or of the repository, but with `--since` that the records have all that tips and hidden tips reach: a
+/// parent that they haven't is taken for an old one.
 pub fn simple_lists_of_part()
     ensures { SimpleListsOfPart }
 {}
 
-/// Where all that is reached are whole commits, `breadth`, `newest` and `oldest` fail for memory, reading or writing alone.
+/// With `-n` and a number behind their names, `breadth`, `newest` and `oldest` write the first lines of such a list, as many as the number
+/// says: all of it, where it has no more. Nothing is asked of the records, and what the walk didn't come to isn't read.
+pub fn simple_begins()
+    ensures { SimpleBegins }
+{}
+
+/// Where the records are a part of a repository, and have all that tips and hidden tips reach, these lines are the first of a list that is
+/// right of the whole repository.
+pub fn simple_begins_of_part()
+    ensures { SimpleBeginsOfPart }
+{}
+
+/// Where all that is reached are whole commits, `breadth`, `newest` and `oldest` fail for memory, reading or writing alone, with a limit or
+/// without.
 pub fn simple_succeeds()
     ensures { SimpleSucceeds }
 {}
@@ -38,7 +54,19 @@ pub fn topo_lists_of_part()
     ensures { TopoListsOfPart }
 {}
 
-/// Where all that is reached are whole commits, `topo` and `date` fail for memory, reading or writing alone.
+/// With `-n` and a number behind their names, `topo` and `date` write the first lines of such a list, as many as the number says: all of
+/// it, where it has no more. Nothing is asked of the records.
+pub fn topo_begins()
+    ensures { TopoBegins }
+{}
+
+/// Where the records are a part of a repository, these lines are the first of a list that is right of the whole repository. Nothing more is
+/// asked, of the records or of the repository.
+pub fn topo_begins_of_part()
+    ensures { TopoBeginsOfPart }
+{}
+
+/// Where all that is reached are whole commits, `topo` and `date` fail for memory, reading or writing alone, with a limit or without.
 pub fn topo_succeeds()
     ensures { TopoSucceeds }
 {}
@@ -105,9 +133,19 @@ pub fn told_simple_lists()
     ensures { ToldSimpleLists }
 {}
 
+/// Over a commit-graph, with `-n` and a number behind their names, they write the first lines of such a list, as many as the number says.
+pub fn told_simple_begins()
+    ensures { ToldSimpleBegins }
+{}
+
 /// Over a commit-graph, so do `topo` and `date`, of which nothing is asked at all.
 pub fn told_topo_lists()
     ensures { ToldTopoLists }
+{}
+
+/// Over a commit-graph, with `-n` and a number behind their names, they write the first lines of such a list, as many as the number says.
+pub fn told_topo_begins()
+    ensures { ToldTopoBegins }
 {}
 
 /// Over a commit-graph, `ahead` writes the numbers of commits that one id reaches in that history and the other doesn't.

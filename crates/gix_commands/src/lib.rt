@@ -47,7 +47,10 @@ use words::{Command, Order, read_command};
 /// whole, then the walk runs.
 ///
 /// `breadth`, `newest` and `oldest` write the id of each commit that the tips reach and the hidden tips don't, one a line: in the order
-/// in which commits are met, or in one by time. `topo` and `date` do this in an order in which no commit comes before its children.
+/// in which commits are met, or in one by time. `topo` and `date` do this in an order in which no commit comes before its children. With
+/// `-n` and a number behind the order's name, they write the first of these lines, as many at most, and read no further. `breadth` with
+/// `--first-parent` behind it goes from each commit to its first parent alone, and `newest` and `oldest` with `--since` and a number leave
+/// out tips and parents whose committer's seconds are below it, and what they would meet by these alone.
 /// `files` writes the mode, the id and the path of each entry of the tree and of the trees in it, one a line. `ahead` writes how many
 /// commits the first id reaches and the second doesn't, a space, and how many the second reaches and the first doesn't. `contains` writes
 /// those of its further ids that the first reaches, in the order given, one a line.
@@ -90,35 +93,37 @@ fn serve<W: Write>(
     match command {
         Command::Commits {
             order,
+            limit,
             tips,
             hidden,
-        } => serve_commits(alloc, order, tips, hidden, store, graph, writer),
-        Command::Files(tree) => write_files(alloc, tree, store, graph, writer),
+        } => serve_commits(alloc, order, limit, tips, hidden, store, graph, writer),
+        Command::Files { ending, tree } => write_files(alloc, ending, tree, store, graph, writer),
         Command::Ahead { one, other } => write_ahead(alloc, one, other, store, graph, writer),
         Command::Contained { tip, ids } => write_contained(alloc, tip, ids, store, graph, writer),
     }
 }
 
-// Writes the commits that the tips reach and the hidden tips don't.
+// Writes the commits that the tips reach and the hidden tips don't, or as many of them as the limit says.
 fn serve_commits<W: Write>(
     alloc: Global,
     order: Order,
+    limit: Option<u64>,
     tips: Vec<ObjectId>,
     hidden: Vec<ObjectId>,
     store: &LentStore<'_>,
     graph: Option<&Graph>,
     writer: &mut W,
 ) -> Result<(), Fault>
-    ensures { Serves (with_rows (rows_in graph.entry) store.now) (rows_in graph.entry) (W.contents writer.old) (Commits order tips.items hidden.items) result (W.contents writer.new) }
+    ensures { Serves (with_rows (rows_in graph.entry) store.now) (rows_in graph.entry) (W.contents writer.old) (Commits order limit tips.items hidden.items) result (W.contents writer.new) }
 {
     match order {
-        Order::Simple(sorting) => {
-            let walk = walk_from(alloc, sorting, tips, hidden, store, graph)?;
-            write_commits(alloc, walk, writer)
+        Order::Simple { parents, sorting } => {
+            let walk = walk_from(alloc, parents, sorting, tips, hidden, store, graph)?;
+            write_commits(alloc, walk, limit, writer)
         }
         Order::Topo(sorting) => {
             let walk = topo_walk_from(alloc, sorting, tips, hidden, store, graph)?;
-            write_commits(alloc, walk, writer)
+            write_commits(alloc, walk, limit, writer)
         }
     }
 }

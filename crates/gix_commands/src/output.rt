@@ -1,5 +1,5 @@
 //! The lines of a walk over commits.
-ghost use Rattle.std.specs.Prelude.{◌≡◌, ◌≢◌, ◌⊎◌, [], Err, OnOk, OnErr, IfErr};
+ghost use Rattle.std.specs.Prelude.{◌≡◌, ◌≢◌, ◌⊎◌, [], Some, None, Err, OnOk, OnErr, IfErr};
 ghost use Rattle.std.specs.Io.KnownBytes.{Appends};
 ghost use Rattle.std.specs.Iterator.{IsFinite};
 ghost use Rattle.gix_commands.specs.Output.{Grows, Adds, WritesAll};
@@ -15,21 +15,27 @@ use std::io::Write;
 // How many bytes are buffered before they are written.
 const MANY: usize = 1 << 16;
 
-/// Draws a walk to its end or to its first fault, and writes the id of each commit that it gives, one a line.
+/// Draws a walk to its end or to its first fault, and writes the id of each commit that it gives, one a line. Where there is a limit, it
+/// draws no answer behind that many commits.
 ///
 /// # Errors
 /// The fault of the walk; the lines of the commits before it are written. `Write` where the writer failed. `Memory`.
-pub fn write_commits<I, E, W>(alloc: Global, walk: I, writer: &mut W) -> Result<(), Fault>
+pub fn write_commits<I, E, W>(
+    alloc: Global,
+    walk: I,
+    limit: Option<u64>,
+    writer: &mut W,
+) -> Result<(), Fault>
 where
     I: Iterator<Item = Result<Info, E>> + Drop,
     E: Into<Fault> + Drop,
     W: Write,
     requires can { I.can_next walk }
     requires finite { IsFinite (I.remaining walk) }
-    ensures { result ≢ Err Fault.Write → WritesAll I.next_gives E.converts walk (W.contents writer.old) result (W.contents writer.new) }
+    ensures { result ≢ Err Fault.Write → WritesAll I.next_gives E.converts limit walk (W.contents writer.old) result (W.contents writer.new) }
 {
     let mut lines = Vec::new(alloc);
-    let drawn = add_commits(walk, &mut lines, writer);
+    let drawn = add_lines(walk, limit, &mut lines, writer);
     write_out(&mut lines, writer)?;
     drawn
 }
@@ -46,6 +52,58 @@ pub fn write_out<W: Write>(lines: &mut Vec<u8>, writer: &mut W) -> Result<(), Fa
     writer.flush().map_err(|_| Fault::Write)
 }
 
+// Adds a line for each commit to the buffered lines, up to the walk's first fault, or to the limit.
+fn add_lines<I, E, W>(
+    walk: I,
+    limit: Option<u64>,
+    lines: &mut Vec<u8>,
+    writer: &mut W,
+) -> Result<(), Fault>
+where
+    I: Iterator<Item = Result<Info, E>> + Drop,
+    E: Into<Fault> + Drop,
+    W: Write,
+    requires can { I.can_next walk }
+    requires finite { IsFinite (I.remaining walk) }
+    ensures { result ≢ Err Fault.Write → Adds I.next_gives E.converts limit walk (W.contents writer.old) lines.old.items result (W.contents writer.new) lines.new.items }
+{
+    match limit {
+        Some(limit) => add_first_commits(walk, limit, lines, writer),
+        None => add_commits(walk, lines, writer),
+    }
+}
+
+// Adds a line for each of the first commits to the buffered lines, up to the walk's first fault. Behind as many commits as the limit says
+// nothing is drawn.
+fn add_first_commits<I, E, W>(
+    mut walk: I,
+    limit: u64,
+    lines: &mut Vec<u8>,
+    writer: &mut W,
+) -> Result<(), Fault>
+where
+    I: Iterator<Item = Result<Info, E>> + Drop,
+    E: Into<Fault> + Drop,
+    W: Write,
+    requires can { I.can_next walk }
+    requires finite { IsFinite (I.remaining walk) }
+    ensures { result ≢ Err Fault.Write → Adds I.next_gives E.converts (Some limit) walk (W.contents writer.old) lines.old.items result (W.contents writer.new) lines.new.items }
+{
+    let mut left = limit;
+    while left > 0 {
+        let Some(answer) = walk.next() else {
+            return Ok(());
+        };
+        let info = match answer {
+            Ok(info) => info,
+            Err(fault) => return Err(fault.into()),
+        };
+        add_line(lines, writer, info.id)?;
+        left -= 1;
+    }
+    Ok(())
+}
+
 // Adds a line for each commit to the buffered lines, up to the walk's first fault.
 fn add_commits<I, E, W>(walk: I, lines: &mut Vec<u8>, writer: &mut W) -> Result<(), Fault>
 where
@@ -54,7 +112,7 @@ where
     W: Write,
     requires can { I.can_next walk }
     requires finite { IsFinite (I.remaining walk) }
-    ensures { result ≢ Err Fault.Write → Adds I.next_gives E.converts walk (W.contents writer.old) lines.old.items result (W.contents writer.new) lines.new.items }
+    ensures { result ≢ Err Fault.Write → Adds I.next_gives E.converts None walk (W.contents writer.old) lines.old.items result (W.contents writer.new) lines.new.items }
 {
     for answer in walk {
         let info = match answer {

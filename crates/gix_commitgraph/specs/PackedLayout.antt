@@ -1,6 +1,9 @@
 -- How packed bytes are tested, step by step.
+use Rattle.std.specs.Borrow.{Bor}
 use Rattle.std.specs.Prelude.{◌≡◌, ℕ, ◌+◌, ◌*◌, ◌≤◌, true, List, length, drop, Option, Some, None, Result, Ok, Err}
 use Rattle.std.specs.List.{AllByRecursion}
+use Rattle.std.specs.Option.{option_map}
+use Rattle.gix_hash.specs.declared.Kind.{Kind}
 use Rattle.gix_hash.specs.declared.ObjectId.{ObjectId}
 use Rattle.gix_commitgraph.specs.declared.Place.{Place}
 use Rattle.gix_commitgraph.specs.declared.check.Layout.{Layout}
@@ -9,6 +12,10 @@ use Rattle.gix_commitgraph.specs.Renumbering.{AreFew, HasSameRows, IsRowOf}
 use Rattle.gix_commitgraph.specs.Parents.{answers_of, answers_of_words}
 use Rattle.gix_commitgraph.specs.Packed.{most, AreGraphRows, IsPlaceAmong, spelling, kind_of_rows, overflow_words}
 use Rattle.gix_commitgraph.specs.PackedReading.{word_at, words_of, row_len, id_field, tree_field, first_field, second_field, generation_field, time_field, kind_named, may_have, rows_at, read_packed}
+
+-- the id at the front of the row before, if there is one
+abbrev pub id_before : Kind → Option (Bor (List ℕ)) → Option ObjectId
+id_before k before = option_map (λ row. id_field k row.now) before
 
 -- reading so many rows more
 abbrev pub rows_left : Layout → ℕ → ℕ → Option ObjectId → List ℕ → List ℕ → Result (List GraphRow) Place

@@ -1,12 +1,12 @@
 //! Whether bytes are packed rows.
-ghost use Rattle.std.specs.Prelude.{◌≡◌, ℕ, ◌+◌, ◌-◌, ◌*◌, ◌/◌, ◌<◌, ◌≤◌, length, drop, is_some, MatchResult, IsOk, Some, None, Err};
+ghost use Rattle.std.specs.Prelude.{◌≡◌, ℕ, ◌+◌, ◌-◌, ◌*◌, ◌/◌, ◌<◌, ◌≤◌, length, drop, is_some, MatchResult, IsOk, IfSome, Some, None, Err};
 ghost use Rattle.std.specs.Option.{option_map};
-ghost use Rattle.gix_commitgraph.specs.PackedReading.{words_of, place_of, list_at, long_list_at, parents_at, row_len, is_sized, is_above, read_packed, rows_in};
+ghost use Rattle.gix_commitgraph.specs.PackedReading.{words_of, place_of, list_at, long_list_at, parents_at, id_field, row_len, is_sized, is_above, read_packed, rows_in};
 ghost use Rattle.gix_commitgraph.specs.Packed.{most};
-ghost use Rattle.gix_commitgraph.specs.PackedLayout.{IsLaidOut, IsPackedAs, StepsOver, rows_left, faults};
+ghost use Rattle.gix_commitgraph.specs.PackedLayout.{IsLaidOut, IsPackedAs, StepsOver, id_before, rows_left, faults};
 
 use super::{Place, fields};
-use gix_hash::{Kind, ObjectId};
+use gix_hash::Kind;
 
 /// The word of a place that names no row.
 pub(super) const FAULT: u32 = 0x7FFF_FFFE;
@@ -132,38 +132,40 @@ fn layout_of(bytes: &[u8]) -> Result<Layout, Place>
     Ok(Layout { kind, rows, words })
 }
 
-/// Whether an id is above the id before it, if there is one.
-fn is_above(before: Option<ObjectId>, id: ObjectId) -> bool
-    ensures { result ≡ is_above before id }
+/// Whether the id at the front of a row is above the id at the front of the row before it, if there is one.
+fn is_above(kind: Kind, before: Option<&[u8]>, row: &[u8]) -> bool
+    requires before { IfSome before (λ row. row_len kind ≤ length row.now) }
+    requires whole { row_len kind ≤ length row.now }
+    ensures { result ≡ is_above (id_before kind before.entry) (id_field kind row.now) }
 {
     match before {
         None => true,
-        Some(before) => before.cmp(&id).is_lt(),
+        Some(before) => fields::compare_ids(kind, before, row).is_lt(),
     }
 }
 
-/// Tests the row `r` at the front of `row`: its id, and the overflow words that it leaves.
+/// Tests the row `r` at the front of `row`, behind the row at the front of `before`: gives the overflow words that it leaves.
 fn check_row<'a>(
     layout: Layout,
     r: u32,
-    before: Option<ObjectId>,
+    before: Option<&[u8]>,
     row: &[u8],
     words: &'a [u8],
-) -> Result<(ObjectId, &'a [u8]), Place>
+) -> Result<&'a [u8], Place>
     requires few { layout.words ≤ most }
+    requires before { IfSome before (λ row. row_len layout.kind ≤ length row.now) }
     requires whole { row_len layout.kind ≤ length row.now }
-    ensures { (left : ℕ) → StepsOver (rows_left layout (left + 1) r before row.now (words_of words.now))
-        (λ x. rows_left layout left (r + 1) (Some x.0) (drop (row_len layout.kind) row.now) (words_of x.1.now)) result }
+    ensures { (left : ℕ) → StepsOver (rows_left layout (left + 1) r (id_before layout.kind before.entry) row.now (words_of words.now))
+        (λ rest. rows_left layout left (r + 1) (Some (id_field layout.kind row.now)) (drop (row_len layout.kind) row.now) (words_of rest.now)) result }
 {
-    let id = fields::id_field(layout.kind, row);
-    if !is_above(before, id) {
+    if !is_above(layout.kind, before, row) {
         return Err(Place::Order(r));
     }
     let first = fields::first_field(layout.kind, row);
     let second = fields::second_field(layout.kind, row);
     let next = (layout.words as usize).saturating_sub(words.len() / 4) as u32;
     match after_parents(layout.rows, next, first, second, words) {
-        Some(rest) => Ok((id, rest)),
+        Some(rest) => Ok(rest),
         None => Err(Place::Parents(r)),
     }
 }
@@ -177,10 +179,9 @@ fn check_rows(layout: Layout, rows: &[u8], words: &[u8]) -> Result<(), Place>
     let mut left = rows;
     let mut words_left = words;
     for r in 0..layout.rows {
-        let (id, rest) = check_row(layout, r, before, left, words_left)?;
-        before = Some(id);
+        words_left = check_row(layout, r, before, left, words_left)?;
+        before = Some(left);
         left = left.split_at(fields::row_len(layout.kind)).1;
-        words_left = rest;
     }
     if words_left.len() < 4 {
         Ok(())

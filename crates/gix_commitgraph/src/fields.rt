@@ -119,6 +119,17 @@ pub(super) fn compare_id(kind: Kind, bytes: &[u8], id: &ObjectId) -> Ordering
     }
 }
 
+/// The order of the ids at two fronts, compared where they are.
+pub(super) fn compare_ids(kind: Kind, a: &[u8], b: &[u8]) -> Ordering
+    requires { (id_len kind ≤ length a.now) × (id_len kind ≤ length b.now) }
+    ensures { result ≡ id_cmp (id_field kind a.now) (id_field kind b.now) }
+{
+    match kind {
+        Kind::Sha1 => compare(a.split_at(20).0, b.split_at(20).0),
+        Kind::Sha256 => compare(a.split_at(32).0, b.split_at(32).0),
+    }
+}
+
 pub(super) fn tree_field(kind: Kind, row: &[u8]) -> ObjectId
     requires { row_len kind ≤ length row.now }
     ensures { result ≡ tree_field kind row.now }

@@ -15,8 +15,10 @@ use check::Layout;
 pub use commit::Commit;
 use gix_hash::{Kind, ObjectId};
 pub use parents::Parents;
+use smallvec::SmallVec;
 use std::alloc::{AllocError, AllocFailed, Global};
 use std::cmp::Ordering;
+use std::default::MadeWith;
 use std::marker::Model;
 use thiserror::Error;
 
@@ -29,6 +31,21 @@ pub enum ParentPlace {
     Fault,
 }
 
+/// The fault, which fills the unused places of a small vector.
+impl MadeWith<Global> for ParentPlace {
+    ghost use Rattle.std.specs.Prelude.{◌≡◌};
+    ghost use Rattle.gix_commitgraph.specs.declared.ParentPlace.TheVariants.{Fault};
+
+    ghost is_made_with = { λ place. place ≡ Fault };
+
+    fn made_with(_alloc: Global) -> ParentPlace {
+        ParentPlace::Fault
+    }
+}
+
+/// The parents of a row, in the commit's order. A list of at most two takes no memory.
+pub type ParentPlaces = SmallVec<ParentPlace, 2>;
+
 /// What a commit-graph says of a commit.
 #[derive(Debug, Drop)]
 pub struct Row {
@@ -37,7 +54,7 @@ pub struct Row {
     /// The id of the commit's tree.
     pub tree: ObjectId,
     /// The parents in the commit's order; `At` names a row by its place in the list of rows that are handed in.
-    pub parents: Vec<ParentPlace>,
+    pub parents: ParentPlaces,
     /// The generation. In a graph that agrees with a store it is greater than that of each parent, and less than 4294967295, which
     /// says that none is known.
     pub generation: u32,
@@ -133,14 +150,14 @@ pub const GENERATION_NUMBER_INFINITY: u32 = 0xFFFF_FFFF;
 ///         Row {
 ///             id: root,
 ///             tree,
-///             parents: Vec::new(alloc),
+///             parents: ParentPlaces::new(alloc),
 ///             generation: 1,
 ///             time: 100,
 ///         },
 ///         Row {
 ///             id: child,
 ///             tree,
-///             parents: vec![in alloc; ParentPlace::At(0)]?,
+///             parents: ParentPlaces::from_slice(alloc, &[ParentPlace::At(0)])?,
 ///             generation: 2,
 ///             time: 200,
 ///         },

@@ -34,7 +34,7 @@ pub(super) fn sorted_entries(
     ensures sorted { IfOk result (λ order. NeverFall order.items) }
 {
     let mut order = entries(alloc, rows)?;
-    order.sort_unstable();
+    order.sort()?;
     Ok(order)
 }
 

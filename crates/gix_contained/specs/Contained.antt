@@ -1,5 +1,5 @@
 -- Which commits are contained in others, and why this isn't known.
-use Rattle.std.specs.Prelude.{◌≡◌, ◌≢◌, List, [], ◌∷◌, ◌++◌, Option, None, IsSome}
+use Rattle.std.specs.Prelude.{◌≡◌, ◌≢◌, List, [], ◌∷◌, ◌++◌, None, IsSome}
 use Rattle.gix_hash.specs.declared.ObjectId.{ObjectId}
 use Rattle.gix_hash.specs.Reach.{Reaches}
 use Rattle.gix_object.specs.declared.find.existing_iter.Error.TheVariants as existing

@@ -1,5 +1,5 @@
 -- The statements of the laws.
-use Rattle.std.specs.Prelude.{◌≡◌, ◌≢◌, List, ◌++◌}
+use Rattle.std.specs.Prelude.{◌≡◌, List, ◌++◌}
 use Rattle.gix_hash.specs.declared.ObjectId.{ObjectId}
 use Rattle.gix_hash.specs.Reach.{Reaches}
 use Rattle.gix_object.specs.declared.find.existing_iter.Error.TheVariants as existing

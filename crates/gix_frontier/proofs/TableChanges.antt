@@ -10,7 +10,7 @@ use Rattle.gix_frontier.specs.declared.Progress.TheVariants.{Queued}
 use Rattle.gix_frontier.specs.declared.Frontier.{Frontier}
 use Rattle.gix_frontier.specs.Inside.Known.{Known}
 use Rattle.gix_frontier.specs.Inside.Waiting.{waiting_by}
-use Rattle.gix_frontier.specs.Inside.Frontier.{is_seen, known_or, known_of, with_progress, Counts, MeetsParent, seen, unseen}
+use Rattle.gix_frontier.specs.Inside.Frontier.{is_seen, known_or, known_of, with_progress, MeetsParent, seen, unseen}
 
 -- what was put in is known
 pub known_put : (those : map.FinMap id_cmp Known) (i : ObjectId) (known : Known) → known_of (map.insert those i known) i ≡ known

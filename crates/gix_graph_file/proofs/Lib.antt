@@ -18,3 +18,5 @@ pub mod ChainRows
 pub mod ChainLayers
 -- The rows of a chain are of one kind, and name rows of the chain.
 pub mod ChainWithin
+-- A chain of one file is the file, where it says no layers below it; and a graph has the rows that it has.
+pub mod ChainOfOne

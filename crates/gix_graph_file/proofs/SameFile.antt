@@ -1,5 +1,5 @@
 -- Whole packed bytes say the same rows as the file, or the same fault.
-use Rattle.std.proofs.Common.{◌≡◌, ℕ, zero, suc, ◌+◌, ◌-◌, ◌*◌, ◌/◌, ◌^◌, ◌<◌, ◌≤◌, Bool, true, false, ltb, List, [], ◌∷◌, ◌++◌, length, map, take, drop, Some, None, Result, Ok, Err, refl, sym, ap, subst, ◌∙◌, arith}
+use Rattle.std.proofs.Common.{◌≡◌, ◌≢◌, ℕ, zero, suc, ◌+◌, ◌-◌, ◌*◌, ◌/◌, ◌^◌, ◌<◌, ◌≤◌, Bool, true, false, ltb, List, [], ◌∷◌, ◌++◌, length, map, take, drop, Some, None, Result, Ok, Err, IfOk, IfErr, refl, sym, ap, subst, ◌∙◌, arith}
 use Rattle.std.specs.Int.{w32, to_be_bytes, from_be_bytes}
 use Rattle.std.specs.List.{flat_map}
 use Rattle.std.proofs.lemmas.Bool.{ne_eqb, eq-eqb, le-leb, lt-ltb}
@@ -12,12 +12,13 @@ use Rattle.gix_commitgraph.specs.declared.Place.TheVariants as place
 use Rattle.gix_commitgraph.specs.declared.GraphError.{GraphError}
 use Rattle.gix_hash.specs.Id.{id_len}
 use Rattle.gix_commitgraph.specs.Rows.{GraphRow}
-use Rattle.gix_commitgraph.specs.Packed.{most, layout_name, AreBytes}
+use Rattle.gix_commitgraph.specs.Packed.{most, layout_name, AreBytes, AreGraphRows}
 use Rattle.gix_commitgraph.specs.PackedReading.{words_of, row_len, kind_named, may_have, is_sized, rows_at, read_packed, opened}
 use Rattle.gix_commitgraph.proofs.Packed.Fields.{after_part, part_at}
 use Rattle.gix_commitgraph.proofs.Packed.Steps.{length-words_of}
 use Rattle.gix_commitgraph.proofs.Packed.Whole.{AreWords, words_of-bytes, length-word_bytes, HasBody, read-body}
 use Rattle.gix_graph_file.specs.declared.error.Error.{Error}
+use Rattle.gix_graph_file.specs.declared.error.Error.TheVariants as error
 use Rattle.gix_graph_file.specs.FileTable.{◌>>=◌, Parts, most_rows, read_parts}
 use Rattle.gix_graph_file.specs.FileRows.{flag, rows_from, rows_of, read_file}
 use Rattle.gix_graph_file.specs.PackedParts.{IsWhole, edge_packed, kind_packed, row_packed, rows_packed, parts_packed, fault_of}
@@ -134,14 +135,26 @@ opens (Err place.Overflow) read h = h
 opens (Err place.Head) read h = absurd h
 opens (Err place.Size) read h = absurd h
 
-pub opens-file : (file packed : List ℕ) (p : Parts) (result : Result (List GraphRow) GraphError) → read_parts file ≡ Ok p → IsWhole p → packed ≡ parts_packed p → result ≡ opened (read_packed packed)
-    → Opens result (read_file file)
-unfolding read_file
-opens-file file packed p result parts whole packed_is result_is =
+pub opens-parts : (packed : List ℕ) (p : Parts) (result : Result (List GraphRow) GraphError) → IsWhole p → packed ≡ parts_packed p → result ≡ opened (read_packed packed) → Opens result (rows_of p)
+opens-parts packed p result whole packed_is result_is =
     let here = opens (read_packed (parts_packed p)) (rows_of p) (says-parts p whole) in
     let opened_is : result ≡ opened (read_packed (parts_packed p)) = result_is ∙ ap (λ (x : List ℕ). opened (read_packed x)) packed_is in
-    let read_is : (read_parts file >>= rows_of) ≡ rows_of p = ap (λ (x : Result Parts Error). x >>= rows_of) parts in
-    subst (λ (x : Result (List GraphRow) GraphError). Opens x (read_parts file >>= rows_of)) (sym opened_is) (subst (Opens (opened (read_packed (parts_packed p)))) (sym read_is) here)
+    subst (λ (x : Result (List GraphRow) GraphError). Opens x (rows_of p)) (sym opened_is) here
+
+-- the file's rows are those that its parts say
+parts-rows : (file : List ℕ) (p : Parts) → read_parts file ≡ Ok p → read_file file ≡ rows_of p
+unfolding read_file
+parts-rows file p parts = ap (λ (x : Result Parts Error). x >>= rows_of) parts
+
+pub parts-say : (file : List ℕ) (p : Parts) (result : Result (List GraphRow) Error) → read_parts file ≡ Ok p → IfOk result (λ (rows : List GraphRow). AreGraphRows rows × (rows_of p ≡ Ok rows))
+    → IfOk result (λ (rows : List GraphRow). read_file file ≡ Ok rows)
+parts-say file p (Ok rows) parts here = parts-rows file p parts ∙ here.1
+parts-say file p (Err e) parts here = tt
+
+pub parts-refuse : (file : List ℕ) (p : Parts) (result : Result (List GraphRow) Error) → read_parts file ≡ Ok p → IfErr result (λ (e : Error). e ≢ error.Memory → rows_of p ≡ Err e)
+    → IfErr result (λ (e : Error). e ≢ error.Memory → read_file file ≡ Err e)
+parts-refuse file p (Ok rows) parts here = tt
+parts-refuse file p (Err e) parts here = λ other. parts-rows file p parts ∙ here other
 
 -- the first fault of the parts is the file's
 pub parts-fault : (file : List ℕ) (e : Error) → read_parts file ≡ Err e → read_file file ≡ Err e

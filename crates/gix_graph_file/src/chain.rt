@@ -1,7 +1,8 @@
 //! The rows of a chain of files.
-ghost use Rattle.std.specs.Prelude.{◌≡◌, ◌≢◌, ◌+◌, ◌*◌, ◌/◌, ◌≤◌, ◌++◌, length, take, drop, Some, Ok, Err, IfOk, OnOk, IfErr, MatchResult};
+ghost use Rattle.std.specs.Prelude.{◌≡◌, ◌≢◌, ◌+◌, ◌*◌, ◌/◌, ◌≤◌, [], ◌∷◌, ◌++◌, length, take, drop, Some, Ok, Err, IfOk, OnOk, IfErr, MatchResult};
 ghost use Rattle.std.specs.Option.{option_map};
 ghost use Rattle.gix_hash.specs.Id.{id_len, id_of};
+ghost use Rattle.gix_commitgraph.specs.Packed.{AreGraphRows};
 ghost use Rattle.gix_commitgraph.specs.PackedReading.{words_of, is_above};
 ghost use Rattle.gix_commitgraph.specs.Renumbering.{row_seen, rows_seen};
 ghost use Rattle.gix_graph_file.specs.FileRows.{place_named, edge_list, long_edge_list, second_said, parents_said};
@@ -11,8 +12,8 @@ ghost use Rattle.gix_graph_file.specs.PackedParts.{seen, IsWhole};
 ghost use Rattle.gix_graph_file.specs.FileTable.{most_words};
 
 use crate::table::{Layout, base_of, hash_of, layout_of, long_at, word_at};
-use crate::{ChainError, Error};
-use gix_commitgraph::{Graph, GraphError, ParentPlace, Row};
+use crate::{ChainError, Error, graph_of_parts};
+use gix_commitgraph::{Graph, GraphError, ParentPlace, ParentPlaces, Row};
 use gix_hash::{Kind, ObjectId};
 use std::alloc::{AllocError, Global};
 
@@ -47,7 +48,7 @@ fn place(limit: usize, word: u32) -> ParentPlace
 
 /// Reads parents up to the word that has the flag, and lends what is behind it.
 fn edge_list<'a>(
-    out: &mut Vec<ParentPlace>,
+    out: &mut ParentPlaces,
     limit: usize,
     edges: &'a [u8],
 ) -> Result<Option<&'a [u8]>, AllocError>
@@ -68,7 +69,7 @@ fn edge_list<'a>(
 
 /// Reads two parents or more.
 fn long_edge_list<'a>(
-    out: &mut Vec<ParentPlace>,
+    out: &mut ParentPlaces,
     limit: usize,
     edges: &'a [u8],
 ) -> Result<Option<&'a [u8]>, AllocError>
@@ -89,7 +90,7 @@ fn long_edge_list<'a>(
 
 /// Reads the second and later parents, where a list begins at the word `at`.
 fn second_parents<'a>(
-    out: &mut Vec<ParentPlace>,
+    out: &mut ParentPlaces,
     limit: usize,
     at: u32,
     second: u32,
@@ -114,7 +115,7 @@ fn second_parents<'a>(
 
 /// Reads the parents that two words say.
 fn parents<'a>(
-    out: &mut Vec<ParentPlace>,
+    out: &mut ParentPlaces,
     limit: usize,
     at: u32,
     first: u32,
@@ -188,7 +189,7 @@ fn row<'a>(
     if !is_above(before, id) {
         return Err(Error::Order(r));
     }
-    let mut places = Vec::new(alloc);
+    let mut places = ParentPlaces::new(alloc);
     let found = parents(
         &mut places,
         limit,
@@ -343,6 +344,18 @@ fn rows_of(alloc: Global, layers: &[&[u8]]) -> Result<Vec<Row>, ChainError>
     Ok(below.rows)
 }
 
+/// The rows of a chain of one file, which are packed as the file has them.
+fn graph_of_layer(alloc: Global, file: &[u8]) -> Result<Graph, Error>
+    ensures rows { IfOk result (λ rows. AreGraphRows rows × (read_chain (file.now ∷ []) ≡ Ok rows)) }
+    ensures fault { IfErr result (λ error. error ≢ Error.Memory → read_chain (file.now ∷ []) ≡ Err (ChainError.Layer 0 error)) }
+{
+    let layout = layout_of(0, file)?;
+    if !base_of(layout.kind, file).is_empty() {
+        return Err(Error::Base);
+    }
+    graph_of_parts(alloc, layout)
+}
+
 /// The rows of a chain of commit-graph files as git writes it into `objects/info/commit-graphs`: the files, lowest first.
 ///
 /// Each file has rows that the files below it lack, and names parents by their place among the rows of the files below it and then
@@ -359,6 +372,12 @@ pub fn graph_of_chain(alloc: Global, layers: &[&[u8]]) -> Result<Graph, ChainErr
     ensures rows { IfOk result (HasChain (files_seen layers.now)) }
     ensures fault { IfErr result (RefusesChain (files_seen layers.now)) }
 {
+    if let [file] = layers {
+        return match graph_of_layer(alloc, file) {
+            Ok(graph) => Ok(graph),
+            Err(error) => Err(at_layer(0, error)),
+        };
+    }
     let rows = rows_of(alloc, layers)?;
     match Graph::new(alloc, rows) {
         Ok(graph) => Ok(graph),

@@ -2,8 +2,9 @@
 #![tactic(auto)]
 
 ghost use Rattle.std.specs.Prelude.{◌≡◌, ◌≢◌, Ok, Err, IfOk, IfErr};
-ghost use Rattle.gix_graph_file.specs.FileRows.{read_file};
-ghost use Rattle.gix_graph_file.specs.PackedParts.{fault_of};
+ghost use Rattle.gix_commitgraph.specs.Packed.{AreGraphRows};
+ghost use Rattle.gix_graph_file.specs.FileRows.{rows_of, read_file};
+ghost use Rattle.gix_graph_file.specs.PackedParts.{seen, IsWhole, fault_of};
 
 mod chain;
 mod error;
@@ -15,6 +16,7 @@ pub use chain::graph_of_chain;
 pub use error::{ChainError, Chunk, Error};
 use gix_commitgraph::{Graph, GraphError, Place};
 use std::alloc::Global;
+use table::Layout;
 pub use trailer::has_its_hash;
 
 /// The rows of a commit-graph file as git writes it into `objects/info/commit-graph`, with ids of 20 or 32 bytes.
@@ -33,6 +35,15 @@ pub fn graph_of(alloc: Global, file: &[u8]) -> Result<Graph, Error>
     ensures fault { IfErr result (λ error. error ≢ Error.Memory → read_file file.now ≡ Err error) }
 {
     let layout = table::layout_of(0, file)?;
+    graph_of_parts(alloc, layout)
+}
+
+/// The rows that the parts of a file say.
+fn graph_of_parts(alloc: Global, layout: Layout<'_>) -> Result<Graph, Error>
+    requires { IsWhole (seen layout) }
+    ensures rows { IfOk result (λ rows. AreGraphRows rows × (rows_of (seen layout.entry) ≡ Ok rows)) }
+    ensures fault { IfErr result (λ error. error ≢ Error.Memory → rows_of (seen layout.entry) ≡ Err error) }
+{
     let packed = packing::packed_of(alloc, layout)?;
     match Graph::from_packed(packed) {
         Ok(graph) => Ok(graph),

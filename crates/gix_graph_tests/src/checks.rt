@@ -1,6 +1,6 @@
 //! Each call on a small graph.
 use ParentPlace::{At, Fault};
-use gix_commitgraph::{GENERATION_NUMBER_INFINITY, Graph, ParentPlace, Row};
+use gix_commitgraph::{GENERATION_NUMBER_INFINITY, Graph, ParentPlace, ParentPlaces, Row};
 use gix_graph_check::{Disagreement, check, first_unsound, heads};
 use gix_hash::ObjectId;
 use gix_object::Kind;
@@ -23,7 +23,7 @@ fn graph_of(alloc: Global, lines: &[Line]) -> Result<Graph, Fail> {
         rows.push(Row {
             id: id(*byte),
             tree: id(0x4b),
-            parents: Vec::from_slice(alloc, parents)?,
+            parents: ParentPlaces::from_slice(alloc, parents)?,
             generation: *generation,
             time: 1,
         })?;

@@ -465,6 +465,34 @@ fn layers_belong_together(rt: HostRuntime) -> Result<(), Fail> {
     Ok(())
 }
 
+/// The chunk GDA2 of the file, which has another name: a file that is alone may have a chunk BASE, and the lowest layer may not.
+#[test]
+fn the_lowest_layer_has_none_below(rt: HostRuntime) -> Result<(), Fail> {
+    let file = short_file(rt.alloc())?;
+    let other = changed(rt.alloc(), file.as_slice(), 44, b"BASE")?;
+    let alone = graph_of(rt.alloc(), other.as_slice())?;
+    check_rows(&rt, &alone, &SHA1_ROWS)?;
+    let found = chain_fault(rt.alloc(), &[other.as_slice()]);
+    assert_eq!(rt; found, Some(ChainError::Layer(0, Error::Base)));
+    Ok(())
+}
+
+#[test]
+fn a_chain_of_one_layer_is_the_file(rt: HostRuntime) -> Result<(), Fail> {
+    let short = short_file(rt.alloc())?;
+    let graph = graph_of_chain(rt.alloc(), &[short.as_slice()])?;
+    check_rows(&rt, &graph, &SHA1_ROWS)?;
+    let long = long_file(rt.alloc())?;
+    let graph = graph_of_chain(rt.alloc(), &[long.as_slice()])?;
+    check_rows(&rt, &graph, &SHA256_ROWS)?;
+    for (at, bytes, expected) in FAULTS {
+        let other = changed(rt.alloc(), short.as_slice(), at, bytes)?;
+        let expected = expected.map(|error| ChainError::Layer(0, error));
+        assert_eq!(rt; chain_fault(rt.alloc(), &[other.as_slice()]), expected);
+    }
+    Ok(())
+}
+
 /// The id of the lower layer's second commit.
 const SECOND_ID: &[u8] = &[
     0x28, 0x6b, 0xeb, 0x4d, 0x11, 0xa6, 0x2a, 0x51, 0x46, 0x59, 0x2a, 0x79, 0x57, 0x9e, 0xeb, 0x59,

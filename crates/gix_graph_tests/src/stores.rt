@@ -1,6 +1,6 @@
 //! Each call on small graphs.
 use ParentPlace::{At, Fault};
-use gix_commitgraph::{Graph, ParentPlace, Row};
+use gix_commitgraph::{Graph, ParentPlace, ParentPlaces, Row};
 use gix_graph_check::{Disagreement, check};
 use gix_graph_store::{WithRows, check_stored};
 use gix_hash::ObjectId;
@@ -24,7 +24,7 @@ fn graph_of(alloc: Global, lines: &[Line]) -> Result<Graph, Fail> {
         rows.push(Row {
             id: id(*byte),
             tree: id(0x4b),
-            parents: Vec::from_slice(alloc, parents)?,
+            parents: ParentPlaces::from_slice(alloc, parents)?,
             generation: *generation,
             time: *time,
         })?;
@@ -117,7 +117,7 @@ fn rows_of_long_ids_agree_with_their_texts(rt: HostRuntime) -> Result<(), Fail> 
         rows.push(Row {
             id: long_id(byte),
             tree: long_id(0x4b),
-            parents: Vec::from_slice(rt.alloc(), parents)?,
+            parents: ParentPlaces::from_slice(rt.alloc(), parents)?,
             generation: u32::from(byte),
             time: 1,
         })?;

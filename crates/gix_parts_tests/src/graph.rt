@@ -1,6 +1,6 @@
 //! Rows of a commit-graph: made of rows, and read from bytes.
 use ParentPlace::{At, Fault};
-use gix_parts::graph::{Graph, GraphError, ParentFault, ParentPlace, Place, Row};
+use gix_parts::graph::{Graph, GraphError, ParentFault, ParentPlace, ParentPlaces, Place, Row};
 use gix_parts::hash::ObjectId;
 use std::alloc::Global;
 use std::process::Abort;
@@ -30,7 +30,7 @@ fn row(
     Ok(Row {
         id,
         tree,
-        parents: Vec::from_slice(alloc, parents)?,
+        parents: ParentPlaces::from_slice(alloc, parents)?,
         generation,
         time: i64::from(generation),
     })

@@ -1,5 +1,5 @@
 //! The rows of ids in graphs of many rows, and copies of these graphs.
-use gix_parts::graph::{Graph, Row};
+use gix_parts::graph::{Graph, ParentPlaces, Row};
 use gix_parts::hash::ObjectId;
 use std::alloc::{AllocError, Global};
 use std::process::Abort;
@@ -56,7 +56,7 @@ fn rows_of(alloc: Global, spread: Spread, count: u32) -> Result<Vec<Row>, AllocE
         rows.push(Row {
             id: id_of(front, end),
             tree: TREE,
-            parents: Vec::new(alloc),
+            parents: ParentPlaces::new(alloc),
             generation: 1,
             time: i64::from(number),
         })?;

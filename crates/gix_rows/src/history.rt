@@ -1,6 +1,6 @@
 //! Histories to walk. Commit n has the id of forty digits n, and mostly time n.
 use crate::words::Stop;
-use gix_parts::graph::{Graph, ParentPlace, Row};
+use gix_parts::graph::{Graph, ParentPlace, ParentPlaces, Row};
 use gix_parts::hash::ObjectId;
 use gix_parts::object::Kind;
 use gix_parts::object::find::{self, Find};
@@ -256,8 +256,8 @@ impl Rows<'_> {
         ParentPlace::Fault
     }
 
-    fn places(&self, alloc: Global, n: u8, parents: &[u8]) -> Result<Vec<ParentPlace>, AllocError> {
-        let mut places = Vec::new(alloc);
+    fn places(&self, alloc: Global, n: u8, parents: &[u8]) -> Result<ParentPlaces, AllocError> {
+        let mut places = ParentPlaces::new(alloc);
         for parent in parents {
             if self.fault == Some((n, *parent)) {
                 places.push(ParentPlace::Fault)?;

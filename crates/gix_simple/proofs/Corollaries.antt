@@ -56,7 +56,7 @@ work_beginning None time next starts ids h = work_from_breadth_beginning next st
 work_beginning (Some order) time next starts ids h = work_from_time_beginning order time next starts ids h
 
 -- a beginning has no id twice, and only what is reached
-begun_once : (o : Option CommitTimeOrder) (time : ObjectId → ℤ) (next : ObjectId → List ObjectId) (starts ids : List ObjectId) → IsBeginning o time next starts ids → AreDistinct ids × ((i : ObjectId) → Contains ids i → Reaches next starts i)
+pub begun_once : (o : Option CommitTimeOrder) (time : ObjectId → ℤ) (next : ObjectId → List ObjectId) (starts ids : List ObjectId) → IsBeginning o time next starts ids → AreDistinct ids × ((i : ObjectId) → Contains ids i → Reaches next starts i)
 begun_once o time next starts ids h =
     let b : IsWorkBeginning next starts ids = work_beginning o time next starts ids h in
     ((distinct_is [] ids (given_once next starts ids b)).0, given_is_reached next starts ids b)

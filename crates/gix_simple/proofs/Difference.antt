@@ -101,7 +101,7 @@ module _ {F P : Type 0} (objects : F → Objects) (faulty : F → ObjectId → T
   painted_whole walk agreeing some behind (faulty_history {why = why} p h rows fault) good i r = absurd (good (error.HiddenGraph why) refl)
   painted_whole walk agreeing some behind (no_memory p h rows) good i r = absurd (good error.Memory refl)
 
-  begun_whole : (walk : SimpleWalk F P) {o : Option (Result Info Error)} {new : SimpleWalk F P} → walk.begun ≡ false → IsAgreeing (objects walk.store) walk.rows → walk.pending ≢ [] → walk.hidden_tips ≢ [] → Next objects faulty answers walk o new → ((e : Error) → o ≢ Some (Err e))
+  pub begun_whole : (walk : SimpleWalk F P) {o : Option (Result Info Error)} {new : SimpleWalk F P} → walk.begun ≡ false → IsAgreeing (objects walk.store) walk.rows → walk.pending ≢ [] → walk.hidden_tips ≢ [] → Next objects faulty answers walk o new → ((e : Error) → o ≢ Some (Err e))
       → (i : ObjectId) → Reaches (parents_of (objects walk.store)) (ids_of walk.pending ++ walk.hidden_tips) i → ReadsWhole (objects walk.store) i
   begun_whole walk fresh agreeing some behind (initial f s) good = painted_whole (record walk { begun = true }) agreeing some behind s good
   begun_whole walk fresh agreeing some behind (later begun s) good = absurd (true≢false (sym begun ∙ fresh))

@@ -1,6 +1,6 @@
 -- A walk without hidden tips, none of whose answers is a fault, gives the commits in order by the parents that texts name.
 use Rattle.std.specs.Prelude.{◌≡◌, ◌&&◌, not, List, [], ◌∷◌, filter, Bool, true, false, Option, Result, Err, Contains, All}
-use Rattle.std.specs.Iterator.{Drains}
+use Rattle.std.specs.Iterator.{Drains, Yields}
 use Rattle.std.proofs.Common.{refl, sym, subst, inl, ◌∙◌}
 use Rattle.std.proofs.Math.Bool.{and-true}
 use Rattle.std.proofs.Math.Path.{transport}
@@ -18,13 +18,13 @@ use Rattle.gix_revwalk.specs.Texts.{text_next}
 use Rattle.gix_revwalk.proofs.Drained.{at_end, at_first}
 use Rattle.gix_simple.specs.declared.Error.{Error}
 use Rattle.gix_simple.specs.declared.Error.TheVariants as error
-use Rattle.gix_simple.specs.Laws.{IsFresh, IsInOrder, IsFaultlessRun, GivesTextOrder, kept_of, next_by_text}
+use Rattle.gix_simple.specs.Laws.{IsFresh, IsInOrder, IsFaultlessRun, IsBeginning, BeginsTextOrder, GivesTextOrder, kept_of, next_by_text}
 use Rattle.gix_simple.specs.Walk.{SimpleWalk, time_order, cutoff, is_older, Steps, unhidden, paints, faulty_history, no_memory, Next, initial, later}
 use Rattle.gix_simple.proofs.Treated.{Setting}
 use Rattle.gix_simple.proofs.OneStep.{IsCommit, reads_text}
-use Rattle.gix_simple.proofs.WholeWalk.{Known, Runs, MayStep, RunOf, run}
-use Rattle.gix_simple.proofs.Theorem.{set_up, begins_so, in_order_from}
-use Rattle.gix_simple.proofs.Corollaries.{all_kept, each_once}
+use Rattle.gix_simple.proofs.WholeWalk.{Known, Runs, MayStep, RunOf, BegunOf, run, begun_run}
+use Rattle.gix_simple.proofs.Theorem.{set_up, begins_so, begins_from, in_order_from}
+use Rattle.gix_simple.proofs.Corollaries.{all_kept, begun_once, each_once}
 
 all_commits : (list : List (Result Info Error)) → ((e : Error) → Contains list (Err e) → ⊥) → All IsCommit list
 all_commits [] h = All-nil IsCommit
@@ -82,6 +82,20 @@ module _ {F P : Type 0} (objects : F → Objects) (faulty : F → ObjectId → T
   -- the law
   pub text_order : (list : List (Result Info Error)) → ((e : Error) → Contains list (Err e) → ⊥) → Drains (Next objects faulty answers) w list → GivesTextOrder objects w accepts list
   text_order list commits drawn = ran list (run objects faulty answers setting knows list opened [] runs (all_commits list commits) (may list drawn))
+
+  begun : (list : List (Result Info Error)) → BegunOf objects faulty answers setting [] list → BeginsTextOrder objects w accepts list
+  begun list r =
+      let begins : IsBeginning (time_order w.parents w.sorting) (time_of (objects w.store)) (next_by_text objects w accepts) (ids_of w.pending) r.ids =
+      transport (λ k. IsBeginning (time_order w.parents w.sorting) (time_of (objects w.store)) (recent_is k) (all_kept (ids_of w.pending) k) r.ids)
+      (begins_from (time_order w.parents w.sorting) (time_of (objects w.store)) (kept_of (objects w.store) texts w.parents accepts (λ i. false) (cutoff w.parents w.sorting)) (filter (λ i. not false) (ids_of w.pending)) r.ids r.begins) in
+      let each = begun_once (time_order w.parents w.sorting) (time_of (objects w.store)) (next_by_text objects w accepts) (ids_of w.pending) r.ids begins in
+      record { ids = r.ids; given = r.given_as; begins = begins; once = each.0; reached = each.1 }
+
+  -- and over a walk that is drawn as far as one likes
+  pub text_beginning : (list : List (Result Info Error)) (last : SimpleWalk F P) → ((e : Error) → Contains list (Err e) → ⊥) → Yields (Next objects faulty answers) w list last → BeginsTextOrder objects w accepts list
+  text_beginning [] last commits drawn = begun [] (record { ids = []; given_as = tt; begins = λ k i e. cc })
+  text_beginning (answer ∷ left) last commits drawn =
+      begun (answer ∷ left) (begun_run objects faulty answers setting knows answer left opened drawn.0 last [] runs (all_commits (answer ∷ left) commits) (steps drawn.1) drawn.2)
 
 pub faultless : {F P : Type 0} (objects : F → Objects) (faulty : F → ObjectId → Type 0) (answers : P → ObjectId → Bool → P → Type 0) (walk : SimpleWalk F P) (accepts : ObjectId → Bool) (list : List (Result Info Error)) → IsFaultlessRun objects faulty answers walk accepts list → GivesTextOrder objects walk accepts list
 faultless objects faulty answers walk accepts list r = text_order objects faulty answers walk accepts r.by_test r.fresh r.open_to r.agreeing list r.commits r.drawn

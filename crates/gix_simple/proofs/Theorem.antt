@@ -86,7 +86,7 @@ pub in_order_from : (o : Option CommitTimeOrder) (time : ObjectId → ℤ) (next
 in_order_from None time next starts ids h = h
 in_order_from (Some order) time next starts ids h = h
 
-begins_from : (o : Option CommitTimeOrder) (time : ObjectId → ℤ) (next : ObjectId → List ObjectId) (starts ids : List ObjectId) → ((k : ℕ) (i : ObjectId) → slice_get ids k ≡ Some i → IsNextOne o time next starts (take k ids) (Some i)) → IsBeginning o time next starts ids
+pub begins_from : (o : Option CommitTimeOrder) (time : ObjectId → ℤ) (next : ObjectId → List ObjectId) (starts ids : List ObjectId) → ((k : ℕ) (i : ObjectId) → slice_get ids k ≡ Some i → IsNextOne o time next starts (take k ids) (Some i)) → IsBeginning o time next starts ids
 begins_from None time next starts ids h = λ k b. let e : (i : ObjectId) × (slice_get ids k ≡ Some i) = in_place ids k b in e.1 ∙ h k e.0 e.1
 begins_from (Some order) time next starts ids h = h
 

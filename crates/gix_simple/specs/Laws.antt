@@ -239,3 +239,15 @@ pub record GivesTextOrder {F P : Type 0} (objects : F → Objects) (walk : Simpl
       (ids_of walk.pending) ids
   pub once : AreDistinct ids
   pub reached : (i : ObjectId) → Contains ids i ↔ Reaches (next_by_text objects walk accepts) (ids_of walk.pending) i
+
+-- the answers are commits with the parents that their texts name, the beginning of a list in order by these, each once, and only ids that are
+-- reached by these
+pub record BeginsTextOrder {F P : Type 0} (objects : F → Objects) (walk : SimpleWalk F P) (accepts : ObjectId → Bool)
+    (answers : List (Result Info Error)) : Type 0 where
+  pub ids : List ObjectId
+  pub given : AllZip (IsGivenBy (objects walk.store) (text_next (objects walk.store)) walk.rows walk.parents (time_order walk.parents walk.sorting))
+      answers ids
+  pub begins : IsBeginning (time_order walk.parents walk.sorting) (time_of (objects walk.store)) (next_by_text objects walk accepts)
+      (ids_of walk.pending) ids
+  pub once : AreDistinct ids
+  pub reached : (i : ObjectId) → Contains ids i → Reaches (next_by_text objects walk accepts) (ids_of walk.pending) i

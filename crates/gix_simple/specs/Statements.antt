@@ -22,7 +22,7 @@ use Rattle.gix_revwalk.specs.Commits.{ReadsWhole, parents_of, time_of}
 use Rattle.gix_simple.specs.Walk.{SimpleWalk, Next, IsMade, time_order, cutoff}
 use Rattle.gix_revwalk.specs.Ids.{ids_of, AreDistinct, new_ids}
 use Rattle.gix_simple.specs.Building.{IsBuilt, IsUncut}
-use Rattle.gix_simple.specs.Laws.{IsFresh, IsWholeRun, IsBegunRun, IsPlainRun, IsPlain, GivesInOrder, GivesBeginning, IsNewWalk, IsNoRefusal, GivesBreadthFirst, GivesDifference, IsFaultlessRun, GivesTextOrder, accepted_parents, recent_parents, next_of, starts_of, named_in, answers_left, given_ids}
+use Rattle.gix_simple.specs.Laws.{IsFresh, IsWholeRun, IsBegunRun, IsPlainRun, IsPlain, GivesInOrder, GivesBeginning, IsNewWalk, IsNoRefusal, GivesBreadthFirst, GivesDifference, IsFaultlessRun, BeginsTextOrder, GivesTextOrder, accepted_parents, recent_parents, next_of, starts_of, named_in, answers_left, given_ids}
 use Rattle.gix_revwalk.specs.Asking.{AnswersBy}
 use Rattle.gix_simple.specs.Runs.{AsksOnce, TellsGenerations, AreAlike, AreBuiltAlike, GiveTheSame, GivesUnhidden}
 
@@ -148,6 +148,18 @@ module _ {F P : Type 0} (objects : F → Objects) (faulty : F → ObjectId → T
       (walk : SimpleWalk F P) (accepts : ObjectId → Bool) (list : List (Result Info Error))
       → IsFaultlessRun objects faulty answers walk accepts list
       → GivesTextOrder objects walk accepts list
+
+  -- a walk without hidden tips that is drawn as far as one likes, and has given no fault
+  abbrev pub FaultlessRunsBeginInOrder : Type 0
+  FaultlessRunsBeginInOrder =
+      (walk left : SimpleWalk F P) (accepts : ObjectId → Bool) (list : List (Result Info Error))
+      → AnswersBy answers walk.predicate accepts
+      → IsFresh objects walk accepts
+      → walk.hidden_tips ≡ []
+      → IsAgreeing (objects walk.store) walk.rows
+      → ((e : Error) → Contains list (Err e) → ⊥)
+      → Yields (Next objects faulty answers) walk list left
+      → BeginsTextOrder objects walk accepts list
 
   -- no id twice, and exactly what is reached
   abbrev pub GivesEachOnce : Type 0

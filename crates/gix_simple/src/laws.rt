@@ -1,6 +1,6 @@
 //! Laws of `commit::Simple`, and of the commits that walks give.
 
-ghost use Rattle.gix_simple.specs.Statements.{MakesNewWalks, BuildsFreshWalks, NewWalksGiveBreadthFirst, PlainRunsAreInBreadthOrder, PlainRunsAreInTimeOrder, RunsAreInOrder, GivesEachOnce, RunsBeginInOrder, BeginsOnce, RunsGiveTheDifference, FaultlessRunsGiveTheDifference, FaultlessRunsAreInOrder, info_cmp, BuildsAlike, HidesWhatIsReached, HidesNoLater, RowsLeaveTheIds, TellsTheGenerations, TimesFall, GivesNeverTwice, AsksNeverTwice, Ends, ReachIsDecided, SomeBreadthOrder, SomeTimeOrder, OneBreadthOrder, OneBreadthBeginning, OneTimeOrder, OneTimeBeginning};
+ghost use Rattle.gix_simple.specs.Statements.{MakesNewWalks, BuildsFreshWalks, NewWalksGiveBreadthFirst, PlainRunsAreInBreadthOrder, PlainRunsAreInTimeOrder, RunsAreInOrder, GivesEachOnce, RunsBeginInOrder, BeginsOnce, RunsGiveTheDifference, FaultlessRunsGiveTheDifference, FaultlessRunsAreInOrder, FaultlessRunsBeginInOrder, info_cmp, BuildsAlike, HidesWhatIsReached, HidesNoLater, RowsLeaveTheIds, TellsTheGenerations, TimesFall, GivesNeverTwice, AsksNeverTwice, Ends, ReachIsDecided, SomeBreadthOrder, SomeTimeOrder, OneBreadthOrder, OneBreadthBeginning, OneTimeOrder, OneTimeBeginning};
 ghost use Rattle.std.specs.Prelude.{◌≡◌};
 ghost use Rattle.gix_revwalk.specs.declared.Info.{Info as InfoRecord};
 
@@ -55,6 +55,12 @@ pub fn in_order<F: Find, P: Predicate>()
 /// is then 0.
 pub fn faultless<F: Find, P: Predicate>()
     ensures { FaultlessRunsAreInOrder F.objects F.faulty P.answers }
+{}
+
+/// Such a walk that is drawn as far as one likes, as long as it gives no fault: the commits that it has given are the beginning of a list
+/// in the order in force, each once, and only commits that its tips reach by the parents of `faultless`.
+pub fn faultless_begins<F: Find, P: Predicate>()
+    ensures { FaultlessRunsBeginInOrder F.objects F.faulty P.answers }
 {}
 
 /// A walk that gives its commits in order, as `in_order` says, gives no id twice, and exactly the ids that its tips reach through

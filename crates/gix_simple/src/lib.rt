@@ -32,7 +32,7 @@ use gix_revwalk::{CommitTimeOrder, Info, Parents, Predicate, Unfiltered};
 use pending::PendingQueue;
 use std::alloc::{AllocError, AllocFailed, Global};
 use std::marker::Model;
-use step::cutoff_of;
+use step::{Times, cutoff_of};
 use thiserror::Error;
 
 /// The order of a walk.
@@ -308,7 +308,7 @@ impl<F: Find + Drop, P: Predicate + Drop> Simple<F, P> {
         };
         for tip in tips {
             // Breadth first no time is read, so the only fault is out of memory.
-            let Ok(()) = walk.treat(false, tip) else {
+            let Ok(()) = walk.treat(Times::InStore, tip) else {
                 return Err(AllocError);
             };
         }

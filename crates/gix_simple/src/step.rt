@@ -8,7 +8,7 @@ ghost use Rattle.gix_hash.specs.declared.ObjectId.{ObjectId};
 ghost use Rattle.gix_revwalk.specs.Commits.{by_mode, time_of};
 ghost use Rattle.gix_revwalk.specs.Reading.{RowSays};
 ghost use Rattle.gix_simple.specs.declared.step.Stop.TheVariants as stop;
-ghost use Rattle.gix_simple.specs.Inside.Steps.{Meets, TimeIs};
+ghost use Rattle.gix_simple.specs.Inside.Steps.{Meets, TimeIs, in_rows};
 ghost use Rattle.gix_revwalk.specs.Texts.{scanned};
 ghost use Rattle.gix_simple.specs.Walk.{how_ended, failed, time_order, cutoff, is_older, given_time, row_time, Asks, Enqueues, Treats, TreatsAll, Concludes, Takes, Steps};
 ghost use Rattle.gix_simple.specs.Inside.PendingQueue.{TakesOut};
@@ -23,12 +23,27 @@ use gix_revwalk::read::{RowRead, Scanned, read_row, scan};
 use gix_revwalk::{CommitTimeOrder, Info, ParentIds, Parents, Pending, Predicate};
 use std::alloc::{AllocError, Global};
 
+// Where the times of parents are read: in the rows, where their child was read by its row, else in the store.
+#[derive(Clone, Copy)]
+pub(super) enum Times {
+    InRows,
+    InStore,
+}
+
 // Why the treatment of a commit's parents stopped.
 #[derive(Clone, Copy)]
 pub(super) enum Stop {
     // The store failed at a parent that was asked for its time.
     Store,
     Memory,
+}
+
+impl From<AllocError> for Stop {
+    ghost from_gives = { λ e r. r ≡ stop.Memory };
+
+    fn from(_e: AllocError) -> Stop {
+        Stop::Memory
+    }
 }
 
 impl From<Stop> for Error {
@@ -125,20 +140,19 @@ impl<F: Find + Drop, P: Predicate + Drop> Simple<F, P> {
         self.remembered.remove(id) || self.predicate.accepts(id)
     }
 
-    // The time by which a parent would be taken: that of its row where its child was read by row, else the store's. It is 0
-    // where no order by time is in force, and where none can be read.
-    fn parent_time(&mut self, by_row: bool, id: &ObjectId) -> Result<i64, Stop>
-        ensures time { TimeIs F.objects F.faulty P.answers self.old by_row id.now result }
+    // The time by which a parent would be taken. It is 0 where no order by time is in force, and where none can be read.
+    fn parent_time(&mut self, times: Times, id: &ObjectId) -> Result<i64, Stop>
+        ensures time { TimeIs F.objects F.faulty P.answers self.old (in_rows times) id.now result }
         ensures kept { self.new ≡ self.old }
     {
         match self.time_order() {
             None => return Ok(0),
             Some(_) => {}
         }
-        if by_row {
-            return Ok(self.row_time(id));
+        match times {
+            Times::InRows => Ok(self.row_time(id)),
+            Times::InStore => self.stored_time(id),
         }
-        self.stored_time(id)
     }
 
     fn stored_time(&mut self, id: &ObjectId) -> Result<i64, Stop>
@@ -188,41 +202,31 @@ impl<F: Find + Drop, P: Predicate + Drop> Simple<F, P> {
     }
 
     // An id that a tip or a parent list names: where it is new and accepted, it becomes pending.
-    pub(super) fn treat(&mut self, by_row: bool, id: ObjectId) -> Result<(), Stop>
+    pub(super) fn treat(&mut self, times: Times, id: ObjectId) -> Result<(), Stop>
         requires { P.can_accept self.old.predicate }
-        ensures treats { Treats F.objects F.faulty P.answers self.old by_row id (how_ended result) self.new }
+        ensures treats { Treats F.objects F.faulty P.answers self.old (in_rows times) id (how_ended result) self.new }
         ensures asks { P.can_accept self.new.predicate }
     {
-        let is_new = match self.meet(id) {
-            Ok(is_new) => is_new,
-            Err(_) => return Err(Stop::Memory),
-        };
+        let is_new = self.meet(id)?;
         if !is_new {
             return Ok(());
         }
         if !self.ask(&id) {
             return Ok(());
         }
-        let time = match self.parent_time(by_row, &id) {
-            Ok(time) => time,
-            Err(stop) => return Err(stop),
-        };
-        match self.enqueue(id, time) {
-            Ok(()) => Ok(()),
-            Err(_) => Err(Stop::Memory),
-        }
+        let time = self.parent_time(times, &id)?;
+        self.enqueue(id, time)?;
+        Ok(())
     }
 
-    fn treat_all(&mut self, by_row: bool, mut ids: &[ObjectId]) -> Result<(), Stop>
+    fn treat_all(&mut self, times: Times, mut ids: &[ObjectId]) -> Result<(), Stop>
         requires { P.can_accept self.old.predicate }
-        ensures treats { TreatsAll F.objects F.faulty P.answers by_row self.old ids.entry.now (how_ended result) self.new }
+        ensures treats { TreatsAll F.objects F.faulty P.answers (in_rows times) self.old ids.entry.now (how_ended result) self.new }
         ensures asks { P.can_accept self.new.predicate }
     {
         while let Some((id, rest)) = ids.split_first() {
-            match self.treat(by_row, *id) {
-                Ok(()) => ids = rest,
-                Err(stop) => return Err(stop),
-            }
+            self.treat(times, *id)?;
+            ids = rest;
         }
         Ok(())
     }
@@ -276,7 +280,7 @@ impl<F: Find + Drop, P: Predicate + Drop> Simple<F, P> {
     {
         let parent_ids = walked(self.parents, row.parent_ids);
         self.text.clear();
-        let treated = self.treat_all(true, parent_ids.as_slice());
+        let treated = self.treat_all(Times::InRows, parent_ids.as_slice());
         let scanned = Scanned {
             parent_ids,
             fault: None,
@@ -301,7 +305,7 @@ impl<F: Find + Drop, P: Predicate + Drop> Simple<F, P> {
         let Ok(scanned) = scan(self.alloc, self.parents, items) else {
             return Err(self.fail(&id, Error::Memory));
         };
-        let treated = self.treat_all(false, scanned.parent_ids.as_slice());
+        let treated = self.treat_all(Times::InStore, scanned.parent_ids.as_slice());
         self.conclude(taken, scanned, None, treated)
     }
 

@@ -1,5 +1,5 @@
 //! The example of `Graph`.
-use gix_parts::graph::{Graph, GraphError, ParentPlace, Row};
+use gix_parts::graph::{Graph, GraphError, ParentPlace, ParentPlaces, Row};
 use gix_parts::hash::ObjectId;
 use std::alloc::Global;
 
@@ -14,14 +14,14 @@ pub fn graph_of_two(
         Row {
             id: root,
             tree,
-            parents: Vec::new(alloc),
+            parents: ParentPlaces::new(alloc),
             generation: 1,
             time: 100,
         },
         Row {
             id: child,
             tree,
-            parents: vec![in alloc; ParentPlace::At(0)]?,
+            parents: ParentPlaces::from_slice(alloc, &[ParentPlace::At(0)])?,
             generation: 2,
             time: 200,
         },

@@ -13,10 +13,16 @@ fn lists_the_files_of_a_tree(rt: HostRuntime) -> Result<(), Fail> {
     check(
         rt.alloc(),
         &[ROOT, "tree #7 29\n100644 x\0$\x22\n"],
-        &[(
-            &["files", "#a"],
-            "100644 #1 a\n040000 #7 d\n100644 #2 d/x\n100644 #3 e\n",
-        )],
+        &[
+            (
+                &["files", "#a"],
+                "100644 #1 a\n040000 #7 d\n100644 #2 d/x\n100644 #3 e\n",
+            ),
+            (
+                &["files", "-z", "#a"],
+                "100644 #1 a\x00040000 #7 d\x00100644 #2 d/x\x00100644 #3 e\x00",
+            ),
+        ],
     )
 }
 
@@ -79,6 +85,12 @@ fn files_takes_one_id(rt: HostRuntime) -> Result<(), Fail> {
         &[
             (&["files"], "! usage"),
             (&["files", "zz", "#a"], "! usage"),
+            (&["files", "-z"], "! bad id in word 2"),
+            (&["files", "#a", "-z"], "! usage"),
+            (&["files", "-z", "^#a"], "! usage"),
+            (&["files", "-z", "#a", "#a"], "! usage"),
+            (&["files", "-z", "zz"], "! bad id in word 3"),
+            (&["breadth", "-z", "#a"], "! bad id in word 2"),
             (&["files", "zz", "zz"], "! usage"),
             (&["files", "^#a"], "! usage"),
             (&["files", "^"], "! usage"),

@@ -7,6 +7,8 @@ use Rattle.gix_commitgraph.specs.Rows.{GraphRow}
 pub use Rattle.gix_revwalk.specs.Agreeing.{rows_of}
 use Rattle.gix_simple.specs.declared.step.Stop.{Stop}
 use Rattle.gix_simple.specs.declared.step.Stop.TheVariants as stop
+use Rattle.gix_simple.specs.declared.step.Times.{Times}
+use Rattle.gix_simple.specs.declared.step.Times.TheVariants as times
 use Rattle.gix_simple.specs.declared.Error.{Error}
 use Rattle.gix_simple.specs.declared.Error.TheVariants as error
 use Rattle.gix_paint.specs.declared.Hidden.{Hidden}
@@ -14,6 +16,10 @@ use Rattle.gix_hash.specs.Id.{id_cmp}
 use Rattle.gix_paint.specs.Painting.{Paints, IsHiddenFault}
 use Rattle.gix_simple.specs.Walk.{SimpleWalk, StoreFails, IsNew, ReadsTime, painted}
 use Rattle.gix_revwalk.specs.Ids.{ids_of}
+
+abbrev pub in_rows : Times → Bool
+in_rows times.InRows = true
+in_rows times.InStore = false
 
 module _ {F P : Type 0} (objects : F → Objects) (faulty : F → ObjectId → Type 0) (answers : P → ObjectId → Bool → P → Type 0) where
   -- an id is named: a new one is seen from now on

@@ -101,10 +101,11 @@ pub mod laws_of_contained {
 pub mod laws_of_simple {
     pub use gix_traverse::laws::simple::{
         are_alike, asks_once, begins_in_order, begins_once, breadth_order, difference, each_once,
-        ends, faultless, faultless_difference, gives_breadth_first, hides, hides_no_later,
-        in_order, infos_are_ordered, is_built, is_made, never_twice, one_breadth_beginning,
-        one_breadth_order, one_time_beginning, one_time_order, reach_is_decided, rows_agree,
-        some_breadth_order, some_time_order, tells, time_order, times_fall,
+        ends, faultless, faultless_begins, faultless_difference, gives_breadth_first, hides,
+        hides_no_later, in_order, infos_are_ordered, is_built, is_made, never_twice,
+        one_breadth_beginning, one_breadth_order, one_time_beginning, one_time_order,
+        reach_is_decided, rows_agree, some_breadth_order, some_time_order, tells, time_order,
+        times_fall,
     };
 }
 

@@ -25,5 +25,5 @@ returns-clause-ok c =
       sorted = sorted;
       makes = made_of _ _ _ _ _ c.over.ensures (drained tips made.1 made.0 made.2.0 (made.2.1 ∙ c.args.tips.ok.0) made.3) made.4;
       sorts = is_sorted _ _ _ c.in_ok-sorted.ensures.breadth_first c.in_ok-sorted.ensures.ok;
-      hides = held sorted c.in_ok-walk.walk c.commit_graph.result _ hidden _ _ hides.4 (drained hidden hides.1 hides.0 hides.2.0 (hides.2.1 ∙ c.args.hidden.ok.0) hides.3) c.commit_graph.ensures c.in_ok-rows.ensures;
+      hides = held sorted c.in_ok-walk.walk c.parents.result c.commit_graph.result _ _ hidden _ _ hides.4 (drained hidden hides.1 hides.0 hides.2.0 (hides.2.1 ∙ c.args.hidden.ok.0) hides.3) c.parents.ensures c.commit_graph.ensures c.in_ok-rows.ensures;
     }

@@ -46,20 +46,21 @@ other_plain [] other = refl
 other_plain (b ∷ bs) other = grind arith
 
 -- the words that are left are this one and those behind it
-module _ {X : Type 0} (bytes_of : X → List ℕ) (words : List X) (i : ℕ) (word : X) (within : i < length words) (is : word ≡ get_or words i word) (bytes : List ℕ) (same : bytes ≡ bytes_of word) where
+module _ {X : Type 0} (bytes_of : X → List ℕ) (words : List X) (n i : ℕ) (word : X) (within : i < length words) (is : word ≡ get_or words i word) (bytes : List ℕ) (same : bytes ≡ bytes_of word) where
   left : map bytes_of (drop i words) ≡ bytes ∷ map bytes_of (drop (i + 1) words)
   left = ap (map bytes_of) (drop-cons words i word within ∙ ap (λ (k : ℕ). get_or words i word ∷ drop k words) (sym (add-one i))) ∙ ap (λ (x : X). bytes_of x ∷ map bytes_of (drop (i + 1) words)) (sym is) ∙ ap (λ (bs : List ℕ). bs ∷ map bytes_of (drop (i + 1) words)) (sym same)
 
-  module _ (tips hidden new_tips new_hidden those others : List ObjectId) (so : behind (tips, hidden) (ids_from (i + 2) (map bytes_of (drop i words))) ≡ ids_from 2 (map bytes_of words)) (t : new_tips ≡ those) (h : new_hidden ≡ others) where
-    next : behind (those, others) (ids_from (i + 2 + 1) (map bytes_of (drop (i + 1) words))) ≡ behind (tips, hidden) (ids_from (i + 2) (bytes ∷ map bytes_of (drop (i + 1) words)))
-        → behind (new_tips, new_hidden) (ids_from (i + 1 + 2) (map bytes_of (drop (i + 1) words))) ≡ ids_from 2 (map bytes_of words)
+  module _ (tips hidden new_tips new_hidden those others : List ObjectId) (so : behind (tips, hidden) (ids_from (i + n) (map bytes_of (drop i words))) ≡ ids_from n (map bytes_of words)) (t : new_tips ≡ those) (h : new_hidden ≡ others) where
+    next : behind (those, others) (ids_from (i + n + 1) (map bytes_of (drop (i + 1) words))) ≡ behind (tips, hidden) (ids_from (i + n) (bytes ∷ map bytes_of (drop (i + 1) words)))
+        → behind (new_tips, new_hidden) (ids_from (i + 1 + n) (map bytes_of (drop (i + 1) words))) ≡ ids_from n (map bytes_of words)
     next more =
-        let number : i + 1 + 2 ≡ i + 2 + 1 = omega arith in
-        (λ k. behind (t k, h k) (ids_from (number k) (map bytes_of (drop (i + 1) words)))) ∙ more ∙ ap (λ (those : List (List ℕ)). behind (tips, hidden) (ids_from (i + 2) those)) (sym left) ∙ so
+        let number : i + 1 + n ≡ i + n + 1 = omega arith in
+        (λ k. behind (t k, h k) (ids_from (number k) (map bytes_of (drop (i + 1) words)))) ∙ more ∙ ap (λ (those : List (List ℕ)). behind (tips, hidden) (ids_from (i + n) those)) (sym left) ∙ so
 
 pub loop-i-preserved : goal.loop-i-preserved
 loop-i-preserved c =
     let words = c.args.words.now in
+    let n = c.args.number in
     let i = c.loop-i.i in
     let bytes = c.as_bytes.result.now in
     let rest = map string_bytes (drop (i + 1) words) in
@@ -68,14 +69,14 @@ loop-i-preserved c =
     elim c.if-as_bytes-lt1.branch [
       | in-94+in_ok-add_id-in-94 w ↦
           let k = w.in_ok-add_id-in-94.ensures in
-          next string_bytes words i c.index-words-i.result c.loop-i-test.true c.index-words-i.is bytes c.as_bytes.ensures.value tips hidden _ _ tips (hidden ++ k.0 ∷ []) c.loop-i.invariant
-          (ap (λ (v : Vec ObjectId Global). v.items) w.tips-is) (ap (λ (v : Vec ObjectId Global). v.items) w.hidden-is ∙ k.2) (caret_word tips hidden k.0 (i + 2) rest bytes (search rules) k.1)
+          next string_bytes words n i c.index-words-i.result c.loop-i-test.true c.index-words-i.is bytes c.as_bytes.ensures.value tips hidden _ _ tips (hidden ++ k.0 ∷ []) c.loop-i.invariant
+          (ap (λ (v : Vec ObjectId Global). v.items) w.tips-is) (ap (λ (v : Vec ObjectId Global). v.items) w.hidden-is ∙ k.2) (caret_word tips hidden k.0 (i + n) rest bytes (search rules) k.1)
       | in_default+in_ok-add_id-in_default w ↦
           let k = w.in_ok-add_id-in_default.ensures in
           let plain : begins_with_caret bytes ≡ false = elim w.in_default-1.branch [
             | in_default-via-then-as_bytes-lt1 w' ↦ short_plain bytes (search rules)
             | in_default-via-else-as_bytes-lt1+in_default-1 w' ↦ other_plain bytes (search rules)
           ] in
-          next string_bytes words i c.index-words-i.result c.loop-i-test.true c.index-words-i.is bytes c.as_bytes.ensures.value tips hidden _ _ (tips ++ k.0 ∷ []) hidden c.loop-i.invariant
-          (ap (λ (v : Vec ObjectId Global). v.items) w.tips-is ∙ k.2) (ap (λ (v : Vec ObjectId Global). v.items) w.hidden-is) (plain_word tips hidden k.0 (i + 2) rest bytes plain k.1)
+          next string_bytes words n i c.index-words-i.result c.loop-i-test.true c.index-words-i.is bytes c.as_bytes.ensures.value tips hidden _ _ (tips ++ k.0 ∷ []) hidden c.loop-i.invariant
+          (ap (λ (v : Vec ObjectId Global). v.items) w.tips-is ∙ k.2) (ap (λ (v : Vec ObjectId Global). v.items) w.hidden-is) (plain_word tips hidden k.0 (i + n) rest bytes plain k.1)
     ]

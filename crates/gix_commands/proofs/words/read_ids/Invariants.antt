@@ -11,4 +11,4 @@ behind front (Err e) = Err e
 
 -- the ids that were read, followed by the ids of the words that are left, are the ids of all words
 abbrev pub invariant-loop-i : goal.invariant-loop-i
-invariant-loop-i l = behind (l.tips.items, l.hidden.items) (ids_from (l.i + 2) (map string_bytes (drop l.i l.words))) ≡ ids_from 2 (map string_bytes l.words)
+invariant-loop-i l = behind (l.tips.items, l.hidden.items) (ids_from (l.i + l.number) (map string_bytes (drop l.i l.words))) ≡ ids_from l.number (map string_bytes l.words)

@@ -24,13 +24,13 @@ push_row-requires-clause-few c =
 pub overflow_cast-next : goal.overflow_cast-next
 overflow_cast-next c =
     let read = reads_entry c.args.rows.now c.args.order.now c.args.numbers.now c.loop-place.place-index _ c.index-rows-place.result c.requires c.loop-place-test.true c.index-rows-place.is in
-    let len = ap (λ (x : List ParentPlace). length (overflow_of x)) c.as_slice.ensures.value in
+    let len = ap (λ (x : List ParentPlace). length (overflow_of x)) c.as_slice.ensures in
     omega (arith, read.few, c.overflow_len.ensures, len)
 
 pub overflow_add-next : goal.overflow_add-next
 overflow_add-next c =
     let read = reads_entry c.args.rows.now c.args.order.now c.args.numbers.now c.loop-place.place-index _ c.index-rows-place.result c.requires c.loop-place-test.true c.index-rows-place.is in
-    let len = ap (λ (x : List ParentPlace). length (overflow_of x)) c.as_slice.ensures.value in
+    let len = ap (λ (x : List ParentPlace). length (overflow_of x)) c.as_slice.ensures in
     omega (arith, read.few, c.overflow_len.ensures, len, c.loop-place.invariant.next_is)
 
 pub loop-place-preserved : goal.loop-place-preserved
@@ -41,7 +41,7 @@ loop-place-preserved c =
     let row = renumbered (slice_index numbers) (row_seen c.index-rows-place.result) in
     let first = arranged rows (take i c.args.order.now) numbers in
     let read = reads_entry c.args.rows.now c.args.order.now numbers i _ c.index-rows-place.result c.requires c.loop-place-test.true c.index-rows-place.is in
-    let len = ap (λ (x : List ParentPlace). length (overflow_of x)) c.as_slice.ensures.value in
+    let len = ap (λ (x : List ParentPlace). length (overflow_of x)) c.as_slice.ensures in
     let next_is : 0 + length (overflow_words first) ≡ c.loop-place.next = omega (arith, c.loop-place.invariant.next_is) in
     record {
       next_is = omega (arith, read.words, c.loop-place.invariant.next_is, c.overflow_len.ensures, len);

@@ -1,5 +1,4 @@
-use Rattle.std.proofs.Common.{◌≡◌, [], ◌∷◌, ◌++◌, true, false, Bool, List, sym, ap, ◌∙◌, append_assoc}
-use Rattle.gix_hash.specs.declared.ObjectId.{ObjectId}
+use Rattle.std.proofs.Common.{◌≡◌, [], ◌∷◌, ◌++◌, true, false, sym, ap, ◌∙◌, append_assoc}
 use Rattle.gix_hash.specs.Id.{is_among}
 use Rattle.gix_topo.specs.TopoOrder.{last_places}
 use Rattle.gix_topo.proofs.Counts.LastPlaces.{kept_place, new_place, among_by_eq}

@@ -1,0 +1,177 @@
+-- What a simple walk over records gives up to a limit: the first commits of a list of what is reached.
+use Rattle.std.specs.Prelude.{◌≡◌, ◌≢◌, ℤ, List, [], ◌∷◌, ◌++◌, length, map, take, filter, Bool, true, false, not, Option, None, Some, Ok, Contains}
+use Rattle.std.specs.Iterator.{Yields}
+use Rattle.std.proofs.Math.Path.{transport}
+use Rattle.std.proofs.Common.{refl, sym, ap, subst, ◌∙◌, arith}
+use Rattle.std.proofs.lemmas.Bool.{false≢true}
+use Rattle.std.proofs.lemmas.List.Elements.{Contains-append_left}
+use Rattle.gix_hash.specs.declared.ObjectId.{ObjectId}
+use Rattle.gix_hash.specs.Id.{is_among}
+use Rattle.gix_hash.specs.Reach.{Reaches, Tells}
+use Rattle.gix_hash.proofs.Ids.Membership.{among_from, among_is}
+use Rattle.gix_hash.proofs.Lists.{filter_within}
+use Rattle.gix_object.specs.Object.{Objects}
+use Rattle.gix_commitgraph.specs.Rows.{GraphRow}
+use Rattle.gix_revwalk.specs.declared.CommitTimeOrder.{CommitTimeOrder}
+use Rattle.gix_revwalk.specs.declared.Info.{Info}
+use Rattle.gix_revwalk.specs.declared.Parents.{Parents}
+use Rattle.gix_revwalk.specs.Agreeing.{IsAgreeing}
+use Rattle.gix_revwalk.specs.Commits.{parents_of, time_of}
+use Rattle.gix_revwalk.specs.Ids.{ids_of, new_ids}
+use Rattle.gix_revwalk.specs.Texts.{text_next}
+use Rattle.gix_revwalk.proofs.Reached.{reach_more}
+use Rattle.gix_revwalk.proofs.SomeOrder.{reached_list}
+use Rattle.gix_revwalk.proofs.TextParents.{text_whole}
+use Rattle.gix_simple.specs.declared.Sorting.{Sorting}
+use Rattle.gix_simple.specs.Laws.{BeginsTextOrder, GivesBeginning, IsBeginning, IsBegunRun}
+use Rattle.gix_simple.specs.Walk.{time_order}
+use Rattle.gix_simple.proofs.Corollaries.{all_kept, begins, begun_once}
+use Rattle.gix_simple.proofs.Difference.{begun_whole, no_start, whole_from}
+use Rattle.gix_simple.proofs.Faultless.{text_beginning}
+use Rattle.gix_topo.proofs.Run.EachOnce.{named_all, reached_known}
+use Rattle.gix_commands.specs.Histories.{AreWhole, IsSimpleBy, IsSimpleList, ListsBy, followed, kept_tips}
+use Rattle.gix_commands.specs.Walked.{Walk, Answers, StartsFrom, objects_of, never_faulty, accepts_all, given}
+use Rattle.gix_commands.proofs.GoesOn.{order_goes_on}
+use Rattle.gix_commands.proofs.KeptLists.{followed_within, kept, list_of, starts_kept}
+use Rattle.gix_commands.proofs.Parts.{by_parents, by_texts}
+use Rattle.gix_commands.proofs.TopoRuns.{named_whole}
+use Rattle.gix_commands.proofs.SimpleRuns.{PaintedWhole, by_test, fresh, from_pending, left_whole, names_kept, no_faults, no_ids, opened, pending, same, same_ids, test, unrefused}
+
+-- the ids are the first of such a list
+abbrev pub AreFirstOf : (List ObjectId → Type 0) → List ObjectId → Type 0
+AreFirstOf IsList ids = (whole : List ObjectId) × IsList whole × (take (length ids) whole ≡ ids)
+
+-- what the first ids are by parents that texts name, where it is decided what is hidden
+module _ (objects : Objects) (next follow : ObjectId → List ObjectId) (within : (c i : ObjectId) → Contains (follow c) i → Contains (next c) i) (named : (c i : ObjectId) → Contains (next c) i → Contains (text_next objects c) i) (order : Option CommitTimeOrder) (from hidden : List ObjectId) (hides : ObjectId → Bool) (tells : Tells hides (Reaches next hidden)) where
+  abbrev through : ObjectId → List ObjectId
+  through = kept objects next follow within from hidden hides tells
+
+  abbrev begun_from : List ObjectId
+  begun_from = starts_kept objects next follow within from hidden hides tells
+
+  pub first_of : (ids : List ObjectId) → IsBeginning order (time_of objects) through begun_from ids → AreFirstOf (ListsBy objects next follow order from hidden) ids
+  first_of ids h =
+      let on = order_goes_on through begun_from (begun_from ++ named_all objects) (reached_known objects through begun_from (λ c i n. named c i (within c i (filter_within _ (follow c) i n)))) order (time_of objects) ids h in
+      (on.0, list_of objects next follow within from hidden hides tells order on.0 on.1, on.2)
+
+none_begins : (o : Option CommitTimeOrder) (time : ObjectId → ℤ) (next : ObjectId → List ObjectId) (starts : List ObjectId) → IsBeginning o time next starts []
+none_begins None time next starts = λ k b. absurd (omega arith)
+none_begins (Some order) time next starts = λ k i e. cc
+
+module _ (objects : Objects) (m : Parents) (by : Sorting) (tips hidden : List ObjectId) where
+  abbrev texts : ObjectId → List ObjectId
+  texts = followed objects (text_next objects) m by
+
+  of_texts : (ids : List ObjectId) → AreFirstOf (IsSimpleBy objects (text_next objects) m by tips hidden) ids → AreFirstOf (IsSimpleList objects m by tips hidden) ids
+  of_texts ids f = (f.0, record { read = f.1; whole = λ w. by_parents objects m by (kept_tips objects by tips) hidden (time_order m by) f.0 w f.1 }, f.2)
+
+  -- no commit was asked for
+  pub first_none : AreFirstOf (IsSimpleList objects m by tips hidden) []
+  first_none =
+      let below = reached_list (text_next objects) hidden (hidden ++ named_all objects) (reached_known objects (text_next objects) hidden (λ c i n. n)) in
+      of_texts [] (first_of objects (text_next objects) texts (followed_within objects (text_next objects) m by) (λ c i n. n) (time_order m by) (kept_tips objects by tips) hidden (λ i. is_among i below.0)
+      (λ i. (λ e. (below.1 i).0 (among_is i below.0 e), λ r. among_from i below.0 ((below.1 i).1 r))) [] (none_begins (time_order m by) (time_of objects) _ _))
+
+module _ (objects : Objects) (rows : List GraphRow) (m : Parents) (by : Sorting) (tips hidden : List ObjectId) (walk : Walk) (starts : StartsFrom objects rows m by tips hidden walk) (agreeing : IsAgreeing objects rows) where
+  abbrev before : Walk
+  before = opened objects rows m by tips hidden walk starts
+
+  is_before : walk ≡ before
+  is_before = same objects rows m by tips hidden walk starts
+
+  abbrev left : List ObjectId
+  left = kept_tips objects by tips
+
+  pending_tips : ids_of walk.pending ≡ new_ids (λ i. false) left
+  pending_tips = pending objects rows m by tips hidden walk starts
+
+  module _ (infos : List Info) (last : Walk) (drawn : Yields Answers walk (given infos) last) where
+    abbrev ids : List ObjectId
+    ids = map (λ info. info.id) infos
+
+    drawn_so : Yields Answers before (given infos) last
+    drawn_so = subst (λ w. Yields Answers w (given infos) last) is_before drawn
+
+    -- without hidden tips, by the parents that texts name
+    module _ (none : hidden ≡ []) where
+      begun : BeginsTextOrder objects_of before (λ i. true) (given infos)
+      begun =
+          text_beginning objects_of never_faulty accepts_all before (λ i. true) (by_test objects rows m by tips hidden walk starts) (fresh objects rows m by tips hidden walk starts) none agreeing (given infos) last (no_faults infos) drawn_so
+
+      text_ids : ids ≡ begun.ids
+      text_ids = same_ids objects (text_next objects) rows m (time_order m by) infos begun.ids begun.given
+
+      starts_are : ids_of walk.pending ≡ filter (λ i. not false) (new_ids (λ i. false) left)
+      starts_are = pending_tips ∙ sym (all_kept (new_ids (λ i. false) left))
+
+      first_by_text : AreFirstOf (IsSimpleList objects m by tips hidden) ids
+      first_by_text =
+          of_texts objects m by tips hidden ids
+          (first_of objects (text_next objects) (followed objects (text_next objects) m by) (followed_within objects (text_next objects) m by) (λ c i n. n) (time_order m by) left hidden (λ i. false)
+          (λ i. (λ e. absurd (false≢true e), λ r. absurd (no_start (text_next objects) hidden i r none))) ids
+          (transport (λ k. IsBeginning (time_order m by) (time_of objects) (λ c. sym (all_kept (followed objects (text_next objects) m by c)) k) (starts_are k) (sym text_ids k)) begun.begins))
+
+    -- with hidden tips, where the first answer was a commit, all that is painted was read
+    module _ (met : PaintedWhole objects rows m by tips hidden walk starts) where
+      abbrev hides : ObjectId → Bool
+      hides = (test objects rows m by tips hidden walk starts).0
+
+      tells : Tells hides (Reaches (parents_of objects) hidden)
+      tells = (test objects rows m by tips hidden walk starts).1
+
+      run : IsBegunRun objects_of never_faulty accepts_all before (λ i. true) hides (given infos) last
+      run = record {
+        by_test = by_test objects rows m by tips hidden walk starts;
+        fresh = fresh objects rows m by tips hidden walk starts;
+        tells = tells;
+        meets = record {
+          given = λ i r.
+              let p : Reaches (parents_of objects) (ids_of walk.pending) i = from_pending objects rows m by tips hidden walk starts i r in
+              met (λ e. no_start _ _ i p (λ k. ids_of (e k))) i (reach_more (parents_of objects) (ids_of walk.pending) (ids_of walk.pending ++ hidden) (λ j c. Contains-append_left (ids_of walk.pending) hidden j c) i p);
+          painted = λ some behind i r. met some i r;
+        };
+        agreeing = agreeing;
+        unrefused = unrefused infos;
+        drawn = drawn_so;
+      }
+
+      gave : GivesBeginning objects_of before (λ i. true) hides (given infos)
+      gave = begins objects_of never_faulty accepts_all before (λ i. true) hides (given infos) last run
+
+      ids_are : ids ≡ gave.ids
+      ids_are = same_ids objects (parents_of objects) rows m (time_order m by) infos gave.ids gave.given
+
+      by_text : (c i : ObjectId) → Contains (parents_of objects c) i → Contains (text_next objects c) i
+      by_text c i n = subst (λ xs. Contains xs i) (text_whole objects c (whole_from objects c (named_whole objects c i n))) n
+
+      first_whole : AreWhole objects (left ++ hidden) → AreFirstOf (IsSimpleList objects m by tips hidden) ids
+      first_whole all =
+          let f = first_of objects (parents_of objects) (followed objects (parents_of objects) m by) (followed_within objects (parents_of objects) m by) by_text (time_order m by) left hidden hides tells ids
+          (transport (λ k. IsBeginning (time_order m by) (time_of objects) (names_kept objects rows m by tips hidden walk starts k) (filter (λ i. not (hides i)) (pending_tips k)) (sym ids_are k)) gave.begins) in
+          (f.0, record { read = by_texts objects m by left hidden (time_order m by) f.0 all f.1; whole = λ w. f.1 }, f.2)
+
+      -- where no tip is left none was given
+      none_given : left ≡ [] → ids ≡ []
+      none_given none =
+          let begun_at : filter (λ j. not (hides j)) (ids_of walk.pending) ≡ [] = ap (filter (λ j. not (hides j))) (pending_tips ∙ ap (new_ids (λ i. false)) none) in
+          ids_are ∙ no_ids gave.ids (λ i c. no_start _ _ i ((begun_once (time_order m by) (time_of objects) _ _ gave.ids gave.begins).1 i c) begun_at)
+
+  -- all that tips and hidden tips reach was read before the first commit was given
+  met_before : (info : Info) (new : Walk) → Answers walk (Some (Ok info)) new → hidden ≢ [] → PaintedWhole objects rows m by tips hidden walk starts
+  met_before info new answer behind some =
+      begun_whole objects_of never_faulty accepts_all before (fresh objects rows m by tips hidden walk starts).unbegun agreeing some behind (subst (λ w. Answers w (Some (Ok info)) new) is_before answer) (λ e s. cc)
+
+  -- what a walk gave that was drawn so far are the first commits of a list
+  pub first_given : (infos : List Info) (last : Walk) → Yields Answers walk (given infos) last → AreFirstOf (IsSimpleList objects m by tips hidden) (map (λ info. info.id) infos)
+  first_given [] last drawn = first_none objects m by tips hidden
+  first_given (info ∷ infos) last drawn = go hidden refl left refl
+    where
+      go : (hs : List ObjectId) → hidden ≡ hs → (ls : List ObjectId) → left ≡ ls → AreFirstOf (IsSimpleList objects m by tips hidden) (map (λ info. info.id) (info ∷ infos))
+      go [] e ls f = first_by_text (info ∷ infos) last drawn e
+      go (j ∷ hs) e (l ∷ ls) f =
+          let met : PaintedWhole objects rows m by tips hidden walk starts = met_before info drawn.0 drawn.1 (λ n. let c : [] ≡ j ∷ hs = sym n ∙ e in cc) in
+          first_whole (info ∷ infos) last drawn met (left_whole objects rows m by tips hidden walk starts (λ n. let c : [] ≡ l ∷ ls = sym n ∙ f in cc) met)
+      go (j ∷ hs) e [] f =
+          let met : PaintedWhole objects rows m by tips hidden walk starts = met_before info drawn.0 drawn.1 (λ n. let c : [] ≡ j ∷ hs = sym n ∙ e in cc) in
+          let no : info.id ∷ map (λ (other : Info). other.id) infos ≡ [] = none_given (info ∷ infos) last drawn met f in
+          cc
