@@ -8,7 +8,7 @@ ghost use Rattle.gix_paint.specs.declared.source.Key.{Key};
 ghost use Rattle.gix_paint.specs.Painting.{IsHiddenFault, Paints};
 ghost use Rattle.gix_revwalk.specs.Ids.{ids_of};
 ghost use Rattle.gix_paint.specs.Inside.Painter as painter;
-ghost use Rattle.gix_paint.specs.Inside.Painter.{rows_in, held_graph, FailsAmong, Queues, Meets, is_turn, Takes, TreatsEntry, TreatFails, IsSettled, Pops};
+ghost use Rattle.gix_paint.specs.Inside.Painter.{rows_in, graph_in_use, FailsAmong, Queues, Meets, is_turn, Takes, TreatsEntry, TreatFails, IsSettled, Pops};
 
 mod source;
 
@@ -140,7 +140,7 @@ impl<'a, F: Find> Painter<'a, F> {
     // Puts a commit into the queue.
     fn enqueue(&mut self, id: ObjectId, side: Side) -> Result<(), Hidden>
         ensures ok { IfOk result (λ _. Queues F.objects self.old id side self.new) }
-        ensures fault { IfErr result (FailsAmong (F.objects self.old.source.objects.now) (F.faulty self.old.source.objects.now) (rows_in (held_graph self.old.source)) (id ∷ [])) }
+        ensures fault { IfErr result (FailsAmong (F.objects self.old.source.objects.now) (F.faulty self.old.source.objects.now) (rows_in (graph_in_use self.old.source)) (id ∷ [])) }
     {
         let Known { key, parent_ids } = self.source.look_up(&id)?;
         self.queue.insert(
@@ -157,7 +157,7 @@ impl<'a, F: Find> Painter<'a, F> {
     // An id that visible tips reach is queued once. One that is hidden already is left to the hidden side.
     fn show(&mut self, id: ObjectId) -> Result<(), Hidden>
         ensures ok { IfOk result (λ _. Meets F.objects Side.Visible (id ∷ []) self.old self.new) }
-        ensures fault { IfErr result (FailsAmong (F.objects self.old.source.objects.now) (F.faulty self.old.source.objects.now) (rows_in (held_graph self.old.source)) (id ∷ [])) }
+        ensures fault { IfErr result (FailsAmong (F.objects self.old.source.objects.now) (F.faulty self.old.source.objects.now) (rows_in (graph_in_use self.old.source)) (id ∷ [])) }
     {
         if self.marks.get(&id).is_some() {
             return Ok(());
@@ -170,7 +170,7 @@ impl<'a, F: Find> Painter<'a, F> {
     // An id that hidden tips reach is queued once for them, whatever visible tips did.
     fn hide(&mut self, id: ObjectId) -> Result<(), Hidden>
         ensures ok { IfOk result (λ _. Meets F.objects Side.Hidden (id ∷ []) self.old self.new) }
-        ensures fault { IfErr result (FailsAmong (F.objects self.old.source.objects.now) (F.faulty self.old.source.objects.now) (rows_in (held_graph self.old.source)) (id ∷ [])) }
+        ensures fault { IfErr result (FailsAmong (F.objects self.old.source.objects.now) (F.faulty self.old.source.objects.now) (rows_in (graph_in_use self.old.source)) (id ∷ [])) }
     {
         if is_hidden(&self.marks, &id) {
             return Ok(());
@@ -183,7 +183,7 @@ impl<'a, F: Find> Painter<'a, F> {
     // Ids that are reached on a side, in order.
     fn meet_all(&mut self, mut ids: &[ObjectId], side: Side) -> Result<(), Hidden>
         ensures ok { IfOk result (λ _. Meets F.objects side ids.entry.now self.old self.new) }
-        ensures fault { IfErr result (FailsAmong (F.objects self.old.source.objects.now) (F.faulty self.old.source.objects.now) (rows_in (held_graph self.old.source)) ids.entry.now) }
+        ensures fault { IfErr result (FailsAmong (F.objects self.old.source.objects.now) (F.faulty self.old.source.objects.now) (rows_in (graph_in_use self.old.source)) ids.entry.now) }
     {
         while let Some((id, rest)) = ids.split_first() {
             match side {
@@ -197,7 +197,7 @@ impl<'a, F: Find> Painter<'a, F> {
 
     fn show_all(&mut self, tips: &VecDeque<Pending>) -> Result<(), Hidden>
         ensures ok { IfOk result (λ _. Meets F.objects Side.Visible (ids_of tips.now.items) self.old self.new) }
-        ensures fault { IfErr result (FailsAmong (F.objects self.old.source.objects.now) (F.faulty self.old.source.objects.now) (rows_in (held_graph self.old.source)) (ids_of tips.now.items)) }
+        ensures fault { IfErr result (FailsAmong (F.objects self.old.source.objects.now) (F.faulty self.old.source.objects.now) (rows_in (graph_in_use self.old.source)) (ids_of tips.now.items)) }
     {
         for tip in tips.iter() {
             self.show(tip.id)?;
@@ -209,7 +209,7 @@ impl<'a, F: Find> Painter<'a, F> {
     fn begins(&mut self, entry: &Entry) -> bool
         ensures turn { result ≡ is_turn entry.now self.old.frontier }
         ensures takes { Takes self.old entry.now self.new }
-        ensures graph { held_graph self.new.source ≡ held_graph self.old.source }
+        ensures graph { graph_in_use self.new.source ≡ graph_in_use self.old.source }
     {
         match entry.side {
             Side::Visible => self.frontier.remove(&entry.id),
@@ -220,7 +220,7 @@ impl<'a, F: Find> Painter<'a, F> {
     // The commit of an entry is read, and its parents are met on its side.
     fn treat(&mut self, entry: Entry) -> Result<(), Hidden>
         ensures ok { IfOk result (λ _. TreatsEntry F.objects self.old entry self.new) }
-        ensures fault { IfErr result (TreatFails (F.objects self.old.source.objects.now) (F.faulty self.old.source.objects.now) (held_graph self.old.source) entry) }
+        ensures fault { IfErr result (TreatFails (F.objects self.old.source.objects.now) (F.faulty self.old.source.objects.now) (graph_in_use self.old.source) entry) }
     {
         if !self.begins(&entry) {
             return Ok(());
@@ -237,7 +237,7 @@ impl<'a, F: Find> Painter<'a, F> {
         let Some((key, _)) = self.queue.peek() else {
             return true;
         };
-        self.source.held_graph().is_some()
+        self.source.graph_in_use().is_some()
             && self.frontier.is_empty()
             && matches!(key.generation, Generation::Told(_))
     }
@@ -261,7 +261,7 @@ pub struct Painting {
     /// The ids found hidden.
     pub hidden: HiddenIds,
     /// Whether there is a graph, none of whose rows was found corrupt.
-    pub rows_stand: bool,
+    pub rows_in_use: bool,
 }
 
 /// Marks ids that the hidden tips reach, and no others: all such ids that are tips, or parents of a commit that tips reach and hidden
@@ -278,7 +278,7 @@ pub fn paint<'a, F: Find>(
     tips: &VecDeque<Pending>,
     hidden_tips: &[ObjectId],
 ) -> Result<Painting, Hidden>
-    ensures ok { IfOk result (λ p. Paints (F.objects objects.now) (rows_in graph.entry) (ids_of tips.now.items) hidden_tips.now p.hidden (if p.rows_stand then rows_in graph.entry else [])) }
+    ensures ok { IfOk result (λ p. Paints (F.objects objects.now) (rows_in graph.entry) (ids_of tips.now.items) hidden_tips.now p.hidden (if p.rows_in_use then rows_in graph.entry else [])) }
     ensures fault { IfErr result (λ why. why ≢ Hidden.Find existing.Memory → IsHiddenFault (F.objects objects.now) (F.faulty objects.now) (rows_in graph.entry)
         (ids_of tips.now.items) hidden_tips.now why) }
 {
@@ -286,7 +286,7 @@ pub fn paint<'a, F: Find>(
         source: Source {
             objects,
             graph,
-            held: true,
+            in_use: true,
             text: Vec::new(alloc),
             alloc,
         },
@@ -302,6 +302,6 @@ pub fn paint<'a, F: Find>(
     let Painter { source, marks, .. } = painter;
     Ok(Painting {
         hidden: HiddenIds { marks },
-        rows_stand: source.held_graph().is_some(),
+        rows_in_use: source.graph_in_use().is_some(),
     })
 }

@@ -9,6 +9,7 @@ ghost use Rattle.gix_revwalk.specs.Agreeing.{rows_in};
 
 pub mod queue;
 pub mod read;
+pub mod row;
 
 use gix_commitgraph::{Commit, Graph};
 use gix_hash::ObjectId;

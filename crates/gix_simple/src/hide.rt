@@ -74,7 +74,7 @@ impl<F: Find + Drop, P: Predicate + Drop> Simple<F, P> {
     }
 
     fn painted(&self, tips: &VecDeque<Pending>) -> Result<Painting, Hidden>
-        ensures ok { IfOk result (λ p. Paints (F.objects self.now.store) self.now.rows (ids_of tips.now.items) self.now.hidden_tips p.hidden (if p.rows_stand then self.now.rows else [])) }
+        ensures ok { IfOk result (λ p. Paints (F.objects self.now.store) self.now.rows (ids_of tips.now.items) self.now.hidden_tips p.hidden (if p.rows_in_use then self.now.rows else [])) }
         ensures fault { IfErr result (λ why. why ≢ hidden_by.Find existing.Memory → IsHiddenFault (F.objects self.now.store) (F.faulty self.now.store) self.now.rows
             (ids_of tips.now.items) self.now.hidden_tips why) }
     {
@@ -122,13 +122,13 @@ impl<F: Find + Drop, P: Predicate + Drop> Simple<F, P> {
     }
 
     fn conceal(&mut self, shown: VecDeque<Pending>, painting: Painting)
-        ensures { self.new ≡ record self.old { pending = shown.items; hidden = painting.hidden; hidden_tips = []; rows = if painting.rows_stand then self.old.rows else [] } }
+        ensures { self.new ≡ record self.old { pending = shown.items; hidden = painting.hidden; hidden_tips = []; rows = if painting.rows_in_use then self.old.rows else [] } }
     {
         self.pending.set_list(shown);
         self.hidden = painting.hidden;
         self.hidden_tips.clear();
-        if !painting.rows_stand {
-            self.held = false;
+        if !painting.rows_in_use {
+            self.in_use = false;
         }
     }
 }

@@ -199,7 +199,7 @@ pub struct Simple<F, P> {
     predicate: P,
     graph: Option<Graph>,
     // Whether rows are read: they are until one proves corrupt.
-    held: bool,
+    in_use: bool,
     parents: Parents,
     sorting: Sorting,
     pending: PendingQueue,
@@ -234,7 +234,7 @@ impl<F, P> Model for Simple<F, P> {
     ghost view = { λ w. record {
       store = w.find;
       predicate = w.predicate;
-      rows = if w.held then rows_of w.graph else [];
+      rows = if w.in_use then rows_of w.graph else [];
       parents = w.parents;
       sorting = w.sorting;
       pending = w.pending.items;
@@ -292,7 +292,7 @@ impl<F: Find + Drop, P: Predicate + Drop> Simple<F, P> {
             find,
             predicate,
             graph: None,
-            held: true,
+            in_use: true,
             parents: Parents::All,
             sorting: Sorting::BreadthFirst,
             pending: PendingQueue::new(alloc),
@@ -376,7 +376,7 @@ impl<F: Find + Drop, P: Predicate + Drop> Simple<F, P> {
         ensures { result ≡ record self { rows = rows_of graph } }
     {
         self.graph = graph;
-        self.held = true;
+        self.in_use = true;
         self
     }
 
@@ -395,7 +395,7 @@ impl<F: Find + Drop, P: Predicate + Drop> Simple<F, P> {
     pub fn graph(&self) -> Option<&Graph>
         ensures { rows_in result ≡ self.now.rows }
     {
-        if !self.held {
+        if !self.in_use {
             return None;
         }
         self.graph.as_ref()

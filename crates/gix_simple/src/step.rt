@@ -19,7 +19,8 @@ use gix_object as object;
 use gix_object::commit::CommitRefIter;
 use gix_object::decode;
 use gix_object::find::{Find, existing_iter};
-use gix_revwalk::read::{RowRead, Scanned, read_row, scan};
+use gix_revwalk::read::{Scanned, scan};
+use gix_revwalk::row::{NOWHERE, RowRead, read_row};
 use gix_revwalk::{CommitTimeOrder, Info, ParentIds, Parents, Pending, Predicate};
 use std::alloc::{AllocError, Global};
 
@@ -315,7 +316,7 @@ impl<F: Find + Drop, P: Predicate + Drop> Simple<F, P> {
         ensures takes { Takes F.objects F.faulty P.answers self.old taken result self.new }
         ensures asks { P.can_accept self.new.predicate }
     {
-        let row = match read_row(self.alloc, self.graph.as_ref(), &mut self.held, &taken.id) {
+        let row = match read_row(self.alloc, self.graph.as_ref(), &mut self.in_use, &taken.id, NOWHERE) {
             Ok(row) => row,
             Err(_) => return Err(self.fail(&taken.id, Error::Memory)),
         };

@@ -9,13 +9,13 @@ ghost use Rattle.gix_topo.specs.Reading.{ReadFails, LookUpFails};
 ghost use Rattle.gix_topo.specs.Inside.Exploring.{is_pending, Follows, ReadsParents, Steps, IsStepFault, IsSamePlan, Explores, IsExploringFault, IsRested};
 
 use super::Error;
-use super::near::{NOWHERE, Near};
 use super::reader::Reader;
 use gix_commitgraph::GENERATION_NUMBER_INFINITY;
 use gix_frontier::{Frontier, Side, Waiting};
 use gix_hash::ObjectId;
 use gix_hash::hashtable::IdSet;
 use gix_object::find::Find;
+use gix_revwalk::row::{NOWHERE, Near};
 use gix_revwalk::{ParentIds, Parents};
 use std::alloc::{AllocError, Global};
 use std::collections::VecDeque;
@@ -26,7 +26,7 @@ pub(super) struct Counting<F> {
     pub(super) reader: Reader<F>,
     pub(super) parents: Parents,
     pub(super) frontier: Frontier,
-    /// As long as the rows are held, no id of a lesser generation is read.
+    /// As long as the rows are in use, no id of a lesser generation is read.
     pub(super) depth: u32,
     /// The number of different ids whose parents were read.
     pub(super) expanded: usize,
@@ -125,7 +125,7 @@ impl<F: Find + Drop> Counting<F> {
         ends: &[ObjectId],
     ) -> Result<Counting<F>, Error>
     where
-        requires { reader.standing ≡ true }
+        requires { reader.in_use ≡ true }
         ensures begun { (sorting : Sorting) → IfOk result (HasBegun F.objects F.faulty (plan_over reader parents sorting tips.now ends.now)) }
         ensures fault { (sorting : Sorting) → IfErr result (IsBuildFault F.objects F.faulty (plan_over reader parents sorting tips.now ends.now)) }
     {
@@ -167,8 +167,8 @@ impl<F: Find + Drop> Counting<F> {
         ensures same { IsSamePlan F.objects F.faulty self.old self.new }
         ensures frontier { self.new.frontier ≡ self.old.frontier }
         ensures expanded { self.new.expanded ≡ self.old.expanded }
-        ensures reads { IfOk result (λ ids. ReadsParents F.objects F.faulty self.old id.now side ids.items self.new.reader.standing) }
-        ensures fault { IfErr result (ReadFails (F.objects self.old.reader.find) (F.faulty self.old.reader.find) (rows_of self.old.reader.graph) self.old.reader.standing id.now) }
+        ensures reads { IfOk result (λ ids. ReadsParents F.objects F.faulty self.old id.now side ids.items self.new.reader.in_use) }
+        ensures fault { IfErr result (ReadFails (F.objects self.old.reader.find) (F.faulty self.old.reader.find) (rows_of self.old.reader.graph) self.old.reader.in_use id.now) }
     {
         let info = self.reader.read(id, near)?;
         let mode = match side {
@@ -178,7 +178,7 @@ impl<F: Find + Drop> Counting<F> {
         Ok(last_places(self.reader.alloc, walked(mode, info.parent_ids.as_slice()))?)
     }
 
-    /// Looks a parent up, unless the rows are held and it has a row or a search has read it.
+    /// Looks a parent up, unless the rows are in use and it has a row or a search has read it.
     ///
     /// # Errors
     ///
@@ -186,15 +186,15 @@ impl<F: Find + Drop> Counting<F> {
     pub(super) fn look_up_parent(&mut self, id: &ObjectId) -> Result<(), Error>
         ensures store { self.new.reader.find ≡ self.old.reader.find }
         ensures graph { self.new.reader.graph ≡ self.old.reader.graph }
-        ensures standing { self.new.reader.standing ≡ self.old.reader.standing }
+        ensures in_use { self.new.reader.in_use ≡ self.old.reader.in_use }
         ensures parents { self.new.parents ≡ self.old.parents }
         ensures frontier { self.new.frontier ≡ self.old.frontier }
         ensures depth { self.new.depth ≡ self.old.depth }
         ensures expanded { self.new.expanded ≡ self.old.expanded }
-        ensures known { OnOk result (LooksUpParent (F.objects self.old.reader.find) (rows_of self.old.reader.graph) self.old.reader.standing self.old.frontier id.now) }
-        ensures fault { IfErr result (LookUpFails (F.objects self.old.reader.find) (F.faulty self.old.reader.find) (rows_of self.old.reader.graph) self.old.reader.standing id.now) }
+        ensures known { OnOk result (LooksUpParent (F.objects self.old.reader.find) (rows_of self.old.reader.graph) self.old.reader.in_use self.old.frontier id.now) }
+        ensures fault { IfErr result (LookUpFails (F.objects self.old.reader.find) (F.faulty self.old.reader.find) (rows_of self.old.reader.graph) self.old.reader.in_use id.now) }
     {
-        if self.reader.standing && self.frontier.known(id).is_done() {
+        if self.reader.in_use && self.frontier.known(id).is_done() {
             return Ok(());
         }
         self.reader.look_up(id)
@@ -221,7 +221,7 @@ impl<F: Find + Drop> Counting<F> {
 
     /// Reads the parents of a queued id of greatest generation.
     fn step(&mut self) -> Result<(), Error>
-        requires { is_pending self.old.reader.standing self.old.depth self.old.frontier.queue ≡ true }
+        requires { is_pending self.old.reader.in_use self.old.depth self.old.frontier.queue ≡ true }
         ensures same { IsSamePlan F.objects F.faulty self.old self.new }
         ensures steps { OnOk result (Steps F.objects F.faulty self.old self.new) }
         ensures fault { IfErr result (IsStepFault F.objects F.faulty self.old) }
@@ -239,11 +239,11 @@ impl<F: Find + Drop> Counting<F> {
 
     /// Whether exploring must go on.
     fn is_pending(&self) -> bool
-        ensures pending { result ≡ is_pending self.now.reader.standing self.now.depth self.now.frontier.queue }
-        ensures rested { result ≡ false → IsRested self.now.reader.standing self.now.depth self.now.frontier.queue }
+        ensures pending { result ≡ is_pending self.now.reader.in_use self.now.depth self.now.frontier.queue }
+        ensures rested { result ≡ false → IsRested self.now.reader.in_use self.now.depth self.now.frontier.queue }
     {
         match self.frontier.queue.peek() {
-            Some((generation, _)) => !self.reader.standing || self.depth <= *generation,
+            Some((generation, _)) => !self.reader.in_use || self.depth <= *generation,
             None => false,
         }
     }
@@ -266,7 +266,7 @@ impl<F: Find + Drop> Counting<F> {
     pub(super) fn explore(&mut self) -> Result<(), Error>
         ensures same { IsSamePlan F.objects F.faulty self.old self.new }
         ensures explores { OnOk result (Explores F.objects F.faulty self.old self.new) }
-        ensures rested { OnOk result (IsRested self.new.reader.standing self.new.depth self.new.frontier.queue) }
+        ensures rested { OnOk result (IsRested self.new.reader.in_use self.new.depth self.new.frontier.queue) }
         ensures fault { IfErr result (IsExploringFault F.objects F.faulty self.old) }
     {
         while self.is_pending() {

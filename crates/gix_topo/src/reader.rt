@@ -6,14 +6,13 @@ ghost use Rattle.gix_revwalk.specs.Reading.{rows_of};
 ghost use Rattle.gix_topo.specs.Reading.{Reads, ReadsText, LookUpFails};
 
 use super::Error;
-use super::near::{NOWHERE, Near};
-use super::row::{find_row, read_row};
 use gix_commitgraph::{GENERATION_NUMBER_INFINITY, Graph};
 use gix_hash::ObjectId;
 use gix_object::decode;
 use gix_object::find::Find;
 use gix_revwalk::Info;
 use gix_revwalk::read::{Header, find_header};
+use gix_revwalk::row::{NOWHERE, Near, find_row, read_row};
 use std::alloc::Global;
 
 /// What commits are read from.
@@ -22,7 +21,7 @@ pub(super) struct Reader<F> {
     pub(super) find: F,
     pub(super) graph: Option<Graph>,
     /// Whether rows are read: they are until one proves corrupt.
-    pub(super) standing: bool,
+    pub(super) in_use: bool,
     /// Where to look first for the rows of the parents of the commit that was read last.
     pub(super) near: Near,
     pub(super) text: Vec<u8>,
@@ -33,12 +32,12 @@ impl<F: Find + Drop> Reader<F> {
     pub(super) fn new(alloc: Global, find: F, graph: Option<Graph>) -> Reader<F>
         ensures find { result.find ≡ find }
         ensures graph { result.graph ≡ graph }
-        ensures standing { result.standing ≡ true }
+        ensures in_use { result.in_use ≡ true }
     {
         Reader {
             find,
             graph,
-            standing: true,
+            in_use: true,
             near: Near::nowhere(),
             text: Vec::new(alloc),
             alloc,
@@ -62,7 +61,7 @@ impl<F: Find + Drop> Reader<F> {
     fn read_text(&mut self, id: &ObjectId) -> Result<Info, Error>
         ensures store { self.new.find ≡ self.old.find }
         ensures graph { self.new.graph ≡ self.old.graph }
-        ensures standing { self.new.standing ≡ self.old.standing }
+        ensures in_use { self.new.in_use ≡ self.old.in_use }
         ensures reads { ReadsText (F.objects self.old.find) (F.faulty self.old.find) id.now result }
     {
         let Header { parent_ids, time } = find_header(self.alloc, &self.find, id, &mut self.text)?;
@@ -79,7 +78,7 @@ impl<F: Find + Drop> Reader<F> {
         })
     }
 
-    /// The commit by its row where the rows are held and it has one, and else from the store. `near` is where to look first for the row.
+    /// The commit by its row where the rows are in use and it has one, and else from the store. `near` is where to look first for the row.
     /// Then `self.near` is for the parents.
     ///
     /// # Errors
@@ -88,20 +87,20 @@ impl<F: Find + Drop> Reader<F> {
     pub(super) fn read(&mut self, id: &ObjectId, near: u32) -> Result<Info, Error>
         ensures store { self.new.find ≡ self.old.find }
         ensures graph { self.new.graph ≡ self.old.graph }
-        ensures reads { Reads (F.objects self.old.find) (F.faulty self.old.find) (rows_of self.old.graph) self.old.standing id.now result self.new.standing }
+        ensures reads { Reads (F.objects self.old.find) (F.faulty self.old.find) (rows_of self.old.graph) self.old.in_use id.now result self.new.in_use }
     {
         self.near = Near::nowhere();
         let row = read_row(
             self.alloc,
             self.graph.as_ref(),
-            &mut self.standing,
+            &mut self.in_use,
             id,
             near,
-            &mut self.near,
         )?;
         let Some(row) = row else {
             return self.read_text(id);
         };
+        self.near = row.near;
         Ok(Info {
             id: *id,
             parent_ids: row.parent_ids,
@@ -114,7 +113,7 @@ impl<F: Find + Drop> Reader<F> {
         })
     }
 
-    /// Looks a parent up, unless a row that is held says that it exists.
+    /// Looks a parent up, unless a row in use says that it exists.
     ///
     /// # Errors
     ///
@@ -122,11 +121,11 @@ impl<F: Find + Drop> Reader<F> {
     pub(super) fn look_up(&mut self, id: &ObjectId) -> Result<(), Error>
         ensures store { self.new.find ≡ self.old.find }
         ensures graph { self.new.graph ≡ self.old.graph }
-        ensures standing { self.new.standing ≡ self.old.standing }
-        ensures known { OnOk result (IsKnown (F.objects self.old.find) (rows_of self.old.graph) self.old.standing id.now) }
-        ensures fault { IfErr result (LookUpFails (F.objects self.old.find) (F.faulty self.old.find) (rows_of self.old.graph) self.old.standing id.now) }
+        ensures in_use { self.new.in_use ≡ self.old.in_use }
+        ensures known { OnOk result (IsKnown (F.objects self.old.find) (rows_of self.old.graph) self.old.in_use id.now) }
+        ensures fault { IfErr result (LookUpFails (F.objects self.old.find) (F.faulty self.old.find) (rows_of self.old.graph) self.old.in_use id.now) }
     {
-        if self.standing && self.generation(id, NOWHERE) < GENERATION_NUMBER_INFINITY {
+        if self.in_use && self.generation(id, NOWHERE) < GENERATION_NUMBER_INFINITY {
             return Ok(());
         }
         self.read_text(id)?;

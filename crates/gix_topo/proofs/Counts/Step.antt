@@ -24,7 +24,7 @@ module _ {F : Type 0} (objects : F → Objects) (faulty : F → ObjectId → Typ
   pub steps_made : (old read followed : Counting F) (generation : ℕ) (entry : Waiting) (left : List (ℕ × Waiting)) (ids : List ObjectId) (expanded : ℕ) (new : Frontier)
       → Some (generation, entry) ≡ slice_get old.frontier.queue 0 → IsPermutation old.frontier.queue ((generation, entry) ∷ left)
       → IsSamePlan objects faulty (popped old left) read → read.frontier ≡ record old.frontier { queue = left } → read.expanded ≡ old.expanded
-      → ReadsParents objects faulty (popped old left) entry.id entry.side ids read.reader.standing
+      → ReadsParents objects faulty (popped old left) entry.id entry.side ids read.reader.in_use
       → expanded ≡ read.expanded + cond (is_done (reached read.frontier.known Tips entry.id) || is_done (reached read.frontier.known Ends entry.id)) 0 1
       → followed.reader ≡ read.reader → followed.parents ≡ read.parents → followed.depth ≡ read.depth → followed.expanded ≡ expanded
       → Follows (rows_of read.reader.graph) entry.side read.frontier ids followed.frontier → Finishes followed.frontier entry.id entry.side new
@@ -36,7 +36,7 @@ module _ {F : Type 0} (objects : F → Objects) (faulty : F → ObjectId → Typ
     first = sym first;
     taken_out = out;
     ids = ids;
-    reads = record { info = reads.info; reads = subst (Rattle.gix_topo.specs.Reading.Reads (objects old.reader.find) (faulty old.reader.find) (rows_of old.reader.graph) old.reader.standing entry.id (Rattle.std.specs.Prelude.Ok reads.info)) (sym (ap (λ r. r.standing) reader)) reads.reads; named = reads.named };
+    reads = record { info = reads.info; reads = subst (Rattle.gix_topo.specs.Reading.Reads (objects old.reader.find) (faulty old.reader.find) (rows_of old.reader.graph) old.reader.in_use entry.id (Rattle.std.specs.Prelude.Ok reads.info)) (sym (ap (λ r. r.in_use) reader)) reads.reads; named = reads.named };
     followed = followed.frontier;
     follows = subst (λ f. Follows (rows_of old.reader.graph) entry.side f ids followed.frontier) frontier (subst (λ g. Follows (rows_of g) entry.side read.frontier ids followed.frontier) same.graph follows);
     finishes = finishes;

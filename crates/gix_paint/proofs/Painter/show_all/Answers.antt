@@ -3,7 +3,7 @@ use Rattle.std.specs.List.{Contains}
 use Rattle.std.specs.VecDeque.Iter.{deque_iter_rest}
 use Rattle.gix_hash.proofs.Ids.Membership.{Contains-here, Contains-there}
 use Rattle.gix_paint.specs.declared.Side.TheVariants as side
-use Rattle.gix_paint.specs.Inside.Painter.{held_graph, Meets}
+use Rattle.gix_paint.specs.Inside.Painter.{graph_in_use, Meets}
 use Rattle.gix_revwalk.specs.Ids.{ids_of}
 use Rattle.gix_paint.proofs.Meets.{meets_none, meets_first, fails_within, no_ids}
 use Rattle.gix_paint.proofs.Painter.show_all.Goals as goal
@@ -28,7 +28,7 @@ loop-tip-preserved g c = record {
 
 pub returns-in_err-show-clause-fault : goal.returns-in_err-show-clause-fault
 returns-in_err-show-clause-fault g c =
-    fails_within g.F.Find.objects g.F.Find.faulty c.args.self.now.source.objects c.loop-tip.self.source.objects (held_graph c.args.self.now.source) (held_graph c.loop-tip.self.source) c.from_residual.result c.in_err-show.field-0.0 c.in-Some.tip.now.id (ids_of c.args.tips.now.items) c.loop-tip.invariant.same_objects c.loop-tip.invariant.same_graph c.from_residual.ensures.1
+    fails_within g.F.Find.objects g.F.Find.faulty c.args.self.now.source.objects c.loop-tip.self.source.objects (graph_in_use c.args.self.now.source) (graph_in_use c.loop-tip.self.source) c.from_residual.result c.in_err-show.field-0.0 c.in-Some.tip.now.id (ids_of c.args.tips.now.items) c.loop-tip.invariant.same_objects c.loop-tip.invariant.same_graph c.from_residual.ensures.1
     (c.loop-tip.invariant.within _ (subst (λ xs. Contains (ids_of xs) c.in-Some.tip.now.id) (sym c.in-Some.ensures.steps) (Contains-here c.in-Some.tip.now.id (ids_of (deque_iter_rest c.next.new.self))))) c.in_err-show.ensures.fault
 
 pub returns-clause-ok : goal.returns-clause-ok

@@ -9,7 +9,7 @@ abbrev pub invariant-loop-parent : goal.invariant-loop-parent
 invariant-loop-parent g l = record {
   find : l.self.counting.reader.find ≡ l.initial.self.counting.reader.find;
   graph : l.self.counting.reader.graph ≡ l.initial.self.counting.reader.graph;
-  standing : l.self.counting.reader.standing ≡ l.initial.self.counting.reader.standing;
+  in_use : l.self.counting.reader.in_use ≡ l.initial.self.counting.reader.in_use;
   parents : l.self.counting.parents ≡ l.initial.self.counting.parents;
   frontier : l.self.counting.frontier ≡ l.initial.self.counting.frontier;
   depth : l.self.counting.depth ≡ l.initial.self.counting.depth;
@@ -17,5 +17,5 @@ invariant-loop-parent g l = record {
   tips : l.self.tips ≡ l.initial.self.tips;
   ends : l.self.ends ≡ l.initial.self.ends;
   ready : l.self.ready ≡ l.initial.self.ready;
-  known : (p : ObjectId) → Contains (take l.parent-index l.parent-items) p → LooksUpParent (g.F.Find.objects l.initial.self.counting.reader.find) (rows_of l.initial.self.counting.reader.graph) l.initial.self.counting.reader.standing l.initial.self.counting.frontier p;
+  known : (p : ObjectId) → Contains (take l.parent-index l.parent-items) p → LooksUpParent (g.F.Find.objects l.initial.self.counting.reader.find) (rows_of l.initial.self.counting.reader.graph) l.initial.self.counting.reader.in_use l.initial.self.counting.frontier p;
 }

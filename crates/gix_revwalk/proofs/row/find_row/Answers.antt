@@ -2,8 +2,8 @@ use Rattle.std.proofs.Common.{◌≡◌, true, sym, ap, ◌∙◌}
 use Rattle.gix_hash.specs.Id.{is_same}
 use Rattle.gix_hash.proofs.Ids.Equality.{eq_is_same}
 use Rattle.gix_hash.specs.contracts.ObjectIdPartialEq.TheImpl.{eq-value}
-use Rattle.gix_topo.proofs.Reading.NearRow.{found_near}
-use Rattle.gix_topo.proofs.row.find_row.Goals as goal
+use Rattle.gix_revwalk.proofs.NearRow.{found_near}
+use Rattle.gix_revwalk.proofs.row.find_row.Goals as goal
 
 pub returns-then-eq-clause-row : goal.returns-then-eq-clause-row
 returns-then-eq-clause-row c =
