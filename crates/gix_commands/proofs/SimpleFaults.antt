@@ -26,7 +26,7 @@ use Rattle.gix_paint.specs.declared.Hidden.{Hidden}
 use Rattle.gix_paint.specs.declared.Hidden.TheVariants as hidden_by
 use Rattle.gix_simple.specs.declared.Sorting.{Sorting}
 use Rattle.gix_simple.specs.declared.Sorting.TheVariants as sorting
-use Rattle.gix_revwalk.specs.declared.Pending.{Pending}
+use Rattle.gix_revwalk.specs.Pending.{Pending}
 use Rattle.gix_revwalk.specs.Commits.{ReadsWhole, commit_at, commit_of_object, parents_in, parents_of}
 use Rattle.gix_hash.specs.Reach.{Reaches, start, step}
 use Rattle.gix_simple.specs.Building.{IsTipFault}

@@ -16,6 +16,7 @@ use gix_object::decode;
 use gix_object::find::{Find, existing_iter};
 use gix_paint::{Hidden, HiddenIds, paint};
 use gix_revwalk::Pending;
+use gix_revwalk::row::NOWHERE;
 use std::alloc::{AllocError, Global};
 use std::collections::VecDeque;
 use thiserror::Error;
@@ -104,7 +105,11 @@ fn pending_of(alloc: Global, ids: &[ObjectId]) -> Result<VecDeque<Pending>, Allo
 {
     let mut pending = VecDeque::new(alloc);
     for id in ids {
-        pending.push_back(Pending { id: *id, time: 0 })?;
+        pending.push_back(Pending {
+            id: *id,
+            time: 0,
+            near: NOWHERE,
+        })?;
     }
     Ok(pending)
 }

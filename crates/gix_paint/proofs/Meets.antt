@@ -16,7 +16,7 @@ use Rattle.gix_paint.specs.declared.Side.TheVariants as side
 use Rattle.gix_paint.specs.declared.source.Key.{Key}
 use Rattle.gix_paint.specs.declared.Entry.{Entry}
 use Rattle.gix_paint.specs.declared.Painter.{Painter}
-use Rattle.gix_revwalk.specs.declared.Pending.{Pending}
+use Rattle.gix_revwalk.specs.Pending.{Pending}
 use Rattle.gix_revwalk.specs.Ids.{ids_of}
 use Rattle.gix_paint.specs.declared.Hidden.{Hidden}
 use Rattle.gix_paint.specs.Painting.{IsFaultAt}

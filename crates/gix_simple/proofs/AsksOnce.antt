@@ -17,7 +17,7 @@ use Rattle.gix_commitgraph.specs.Rows.{row_of}
 use Rattle.gix_revwalk.specs.Commits.{by_mode}
 use Rattle.gix_revwalk.specs.declared.Info.{Info}
 use Rattle.gix_simple.specs.declared.Error.{Error}
-use Rattle.gix_revwalk.specs.declared.Pending.{Pending}
+use Rattle.gix_revwalk.specs.Pending.{Pending}
 use Rattle.gix_simple.specs.Walk.{SimpleWalk, Treated, unrowed, asked, IsNew, Asks, remembers, asks, Treats, hidden, known, refused, accepted, store_fails, no_memory, no_memory_after, TreatsAll, none, more, stops, Concludes, given, broken, Takes, by_row, by_store, not_found, Steps, ended, took, painted, FirstStep, unhidden, paints, faulty_history, Next, initial, later}
 use Rattle.gix_revwalk.specs.Texts.{text_parents}
 use Rattle.gix_simple.specs.Building.{outdated, timed, IsBuilt, made, breadth_first, by_time, hides, walks, reads}

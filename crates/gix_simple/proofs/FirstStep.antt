@@ -15,7 +15,7 @@ use Rattle.gix_simple.specs.declared.Error.TheVariants as error
 use Rattle.gix_paint.specs.declared.Hidden.{Hidden}
 use Rattle.gix_paint.specs.declared.Hidden.TheVariants as hidden_by
 use Rattle.gix_object.specs.declared.find.existing_iter.Error.TheVariants as existing
-use Rattle.gix_revwalk.specs.declared.Pending.{Pending}
+use Rattle.gix_revwalk.specs.Pending.{Pending}
 use Rattle.gix_paint.specs.Painting.{Paints, IsHiddenFault}
 use Rattle.gix_simple.specs.Errors.{error_of_hidden}
 use Rattle.gix_simple.specs.Inside.Steps.{Hides, nothing, paints, faulty_history, no_memory, unpainted}

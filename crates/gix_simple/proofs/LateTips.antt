@@ -6,7 +6,7 @@ use Rattle.gix_hash.specs.declared.ObjectId.{ObjectId}
 use Rattle.gix_object.specs.declared.decode.Error.{Error as DecodeError}
 use Rattle.gix_object.specs.Object.{Objects}
 use Rattle.gix_revwalk.specs.declared.Info.{Info}
-use Rattle.gix_revwalk.specs.declared.Pending.{Pending}
+use Rattle.gix_revwalk.specs.Pending.{Pending}
 use Rattle.gix_simple.specs.declared.Error.{Error}
 use Rattle.gix_simple.specs.Walk.{SimpleWalk, Treated, Asks, remembers, asks, ReadsTime, unasked, from_row, from_store, IsNew, Treats, hidden, known, refused, accepted, store_fails, no_memory, no_memory_after, TreatsAll, none, more, stops, Concludes, given, broken, Takes, by_row, by_store, not_found, Chooses, first, best, Steps, ended, took, Next, initial, later}
 

@@ -18,7 +18,7 @@ use Rattle.gix_revwalk.specs.declared.CommitTimeOrder.{CommitTimeOrder}
 use Rattle.gix_simple.specs.declared.Error.{Error}
 use Rattle.gix_simple.specs.declared.Error.TheVariants as error
 use Rattle.gix_revwalk.specs.Commits.{by_mode, time_of, parents_of, parents_in, commit_at, commit_of_object, ReadsWhole}
-use Rattle.gix_revwalk.specs.declared.Pending.{Pending}
+use Rattle.gix_revwalk.specs.Pending.{Pending}
 use Rattle.gix_simple.specs.Walk.{SimpleWalk, Treated, GoesOn, time_order, time_if, given_time, unrowed, Concludes, given, broken, store_fails, no_memory, Takes, by_row, by_store, not_found}
 use Rattle.gix_revwalk.specs.Ids.{ids_of}
 use Rattle.gix_revwalk.specs.Texts.{scanned, next_in, text_next}

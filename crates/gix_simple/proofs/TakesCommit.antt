@@ -15,7 +15,7 @@ use Rattle.gix_revwalk.specs.declared.Info.{Info}
 use Rattle.gix_revwalk.specs.declared.CommitTimeOrder.{CommitTimeOrder}
 use Rattle.gix_simple.specs.declared.Error.{Error}
 use Rattle.gix_simple.specs.declared.Error.TheVariants as error
-use Rattle.gix_revwalk.specs.declared.Pending.{Pending}
+use Rattle.gix_revwalk.specs.Pending.{Pending}
 use Rattle.gix_revwalk.specs.declared.row.RowRead.{RowRead}
 use Rattle.gix_simple.specs.declared.step.Stop.{Stop}
 use Rattle.gix_simple.specs.declared.step.Stop.TheVariants as stop

@@ -19,7 +19,7 @@ use Rattle.gix_paint.specs.Painting.{IsHistory, IsHiddenFault, Paints}
 use Rattle.gix_hash.specs.Reach.{IsAtBoundary, Reaches, start, step, Tells}
 use Rattle.gix_revwalk.specs.Agreeing.{IsAgreeing}
 use Rattle.gix_revwalk.specs.Commits.{time_of, parents_of, commit_of_object, walked_parents, ReadsWhole}
-use Rattle.gix_revwalk.specs.declared.Pending.{Pending}
+use Rattle.gix_revwalk.specs.Pending.{Pending}
 use Rattle.gix_simple.specs.Walk.{SimpleWalk, time_order, cutoff, Steps, painted, FirstStep, unhidden, paints, faulty_history, no_memory, Next, initial, later}
 use Rattle.gix_revwalk.specs.Ids.{ids_of, AreDistinct}
 use Rattle.gix_revwalk.specs.Asking.{itself, AnswersBy}

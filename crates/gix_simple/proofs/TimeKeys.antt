@@ -15,7 +15,7 @@ use Rattle.gix_revwalk.specs.PriorityQueue.{keys, values}
 use Rattle.gix_hash.proofs.Ids.Membership.{Contains-cons_cases, no_member}
 use Rattle.gix_revwalk.specs.declared.CommitTimeOrder.{CommitTimeOrder}
 use Rattle.gix_revwalk.specs.declared.CommitTimeOrder.TheVariants.{NewestFirst, OldestFirst}
-use Rattle.gix_revwalk.specs.declared.Pending.{Pending}
+use Rattle.gix_revwalk.specs.Pending.{Pending}
 use Rattle.gix_simple.specs.Inside.PendingQueue.{time_key, AreKeyed, IsChosen, TakesOut}
 use Rattle.gix_simple.specs.Walk.{Holds}
 use Rattle.gix_revwalk.specs.TimeOrder.{IsNoWorse}

@@ -28,6 +28,7 @@ use gix_object::commit::CommitRefIter;
 use gix_object::decode;
 use gix_object::find::{Find, existing_iter};
 use gix_paint::{Hidden, HiddenIds};
+use gix_revwalk::row::NOWHERE;
 use gix_revwalk::{CommitTimeOrder, Info, Parents, Predicate, Unfiltered};
 use pending::PendingQueue;
 use std::alloc::{AllocError, AllocFailed, Global};
@@ -308,7 +309,7 @@ impl<F: Find + Drop, P: Predicate + Drop> Simple<F, P> {
         };
         for tip in tips {
             // Breadth first no time is read, so the only fault is out of memory.
-            let Ok(()) = walk.treat(Times::InStore, tip) else {
+            let Ok(()) = walk.treat(Times::InStore, tip, NOWHERE) else {
                 return Err(AllocError);
             };
         }

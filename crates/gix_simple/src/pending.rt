@@ -209,7 +209,8 @@ fn list_of(
     let mut list = VecDeque::new(alloc);
     let mut waiting = queue.iter_unordered();
     while let Some(pending) = waiting.next() {
-        list.push_back(*pending)?;
+        let Pending { id, time, near } = *pending;
+        list.push_back(Pending { id, time, near })?;
     }
     Ok(list)
 }

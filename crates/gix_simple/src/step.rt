@@ -20,7 +20,7 @@ use gix_object::commit::CommitRefIter;
 use gix_object::decode;
 use gix_object::find::{Find, existing_iter};
 use gix_revwalk::read::{Scanned, scan};
-use gix_revwalk::row::{NOWHERE, RowRead, read_row};
+use gix_revwalk::row::{Near, RowRead, find_row, read_row};
 use gix_revwalk::{CommitTimeOrder, Info, ParentIds, Parents, Pending, Predicate};
 use std::alloc::{AllocError, Global};
 
@@ -106,8 +106,8 @@ impl<F: Find + Drop, P: Predicate + Drop> Simple<F, P> {
         time_order_of(self.parents, self.sorting)
     }
 
-    fn given_time(&self, taken: Pending) -> Option<i64>
-        ensures { result ≡ given_time self.now taken }
+    fn given_time(&self, taken: &Pending) -> Option<i64>
+        ensures { result ≡ given_time self.now taken.now }
     {
         match self.time_order() {
             Some(_) => Some(taken.time),
@@ -141,8 +141,9 @@ impl<F: Find + Drop, P: Predicate + Drop> Simple<F, P> {
         self.remembered.remove(id) || self.predicate.accepts(id)
     }
 
-    // The time by which a parent would be taken. It is 0 where no order by time is in force, and where none can be read.
-    fn parent_time(&mut self, times: Times, id: &ObjectId) -> Result<i64, Stop>
+    // The time by which a parent would be taken. It is 0 where no order by time is in force, and where none can be read. `near` is where to
+    // look first for its row.
+    fn parent_time(&mut self, times: Times, id: &ObjectId, near: u32) -> Result<i64, Stop>
         ensures time { TimeIs F.objects F.faulty P.answers self.old (in_rows times) id.now result }
         ensures kept { self.new ≡ self.old }
     {
@@ -151,7 +152,7 @@ impl<F: Find + Drop, P: Predicate + Drop> Simple<F, P> {
             Some(_) => {}
         }
         match times {
-            Times::InRows => Ok(self.row_time(id)),
+            Times::InRows => Ok(self.row_time(id, near)),
             Times::InStore => self.stored_time(id),
         }
     }
@@ -175,20 +176,20 @@ impl<F: Find + Drop, P: Predicate + Drop> Simple<F, P> {
         Ok(signature.seconds())
     }
 
-    fn row_time(&self, id: &ObjectId) -> i64
+    fn row_time(&self, id: &ObjectId, near: u32) -> i64
         ensures { result ≡ row_time (row_of self.now.rows id.now) }
     {
         let Some(graph) = self.graph() else {
             return 0;
         };
-        match graph.commit_by_id(id) {
+        match find_row(graph, id, near) {
             Some(commit) => commit.committer_timestamp(),
             None => 0,
         }
     }
 
     // An accepted parent becomes pending, unless it is older than the cutoff.
-    fn enqueue(&mut self, id: ObjectId, time: i64) -> Result<(), AllocError>
+    fn enqueue(&mut self, id: ObjectId, time: i64, near: u32) -> Result<(), AllocError>
         ensures ok { OnOk result (Enqueues F.objects F.faulty P.answers (time_order self.old.parents self.old.sorting) (cutoff self.old.parents self.old.sorting)
             self.old.pending id time self.new.pending) }
         ensures err { OnErr result (self.new.pending ≡ []) }
@@ -198,12 +199,12 @@ impl<F: Find + Drop, P: Predicate + Drop> Simple<F, P> {
             return Ok(());
         }
         let order = self.time_order();
-        self.pending.push(order, Pending { id, time })?;
+        self.pending.push(order, Pending { id, time, near })?;
         Ok(())
     }
 
-    // An id that a tip or a parent list names: where it is new and accepted, it becomes pending.
-    pub(super) fn treat(&mut self, times: Times, id: ObjectId) -> Result<(), Stop>
+    // An id that a tip or a parent list names: where it is new and accepted, it becomes pending. `near` is where to look first for its row.
+    pub(super) fn treat(&mut self, times: Times, id: ObjectId, near: u32) -> Result<(), Stop>
         requires { P.can_accept self.old.predicate }
         ensures treats { Treats F.objects F.faulty P.answers self.old (in_rows times) id (how_ended result) self.new }
         ensures asks { P.can_accept self.new.predicate }
@@ -215,18 +216,18 @@ impl<F: Find + Drop, P: Predicate + Drop> Simple<F, P> {
         if !self.ask(&id) {
             return Ok(());
         }
-        let time = self.parent_time(times, &id)?;
-        self.enqueue(id, time)?;
+        let time = self.parent_time(times, &id, near)?;
+        self.enqueue(id, time, near)?;
         Ok(())
     }
 
-    fn treat_all(&mut self, times: Times, mut ids: &[ObjectId]) -> Result<(), Stop>
+    fn treat_all(&mut self, times: Times, mut ids: &[ObjectId], mut near: Near) -> Result<(), Stop>
         requires { P.can_accept self.old.predicate }
         ensures treats { TreatsAll F.objects F.faulty P.answers (in_rows times) self.old ids.entry.now (how_ended result) self.new }
         ensures asks { P.can_accept self.new.predicate }
     {
         while let Some((id, rest)) = ids.split_first() {
-            self.treat(times, *id)?;
+            self.treat(times, *id, near.next())?;
             ids = rest;
         }
         Ok(())
@@ -263,7 +264,7 @@ impl<F: Find + Drop, P: Predicate + Drop> Simple<F, P> {
         if let Some(fault) = scanned.fault {
             return Err(self.fail(&taken.id, Error::ObjectDecode(fault)));
         }
-        let commit_time = self.given_time(taken);
+        let commit_time = self.given_time(&taken);
         self.current = Some(taken.id);
         Ok(Info {
             id: taken.id,
@@ -281,7 +282,7 @@ impl<F: Find + Drop, P: Predicate + Drop> Simple<F, P> {
     {
         let parent_ids = walked(self.parents, row.parent_ids);
         self.text.clear();
-        let treated = self.treat_all(Times::InRows, parent_ids.as_slice());
+        let treated = self.treat_all(Times::InRows, parent_ids.as_slice(), row.near);
         let scanned = Scanned {
             parent_ids,
             fault: None,
@@ -306,7 +307,8 @@ impl<F: Find + Drop, P: Predicate + Drop> Simple<F, P> {
         let Ok(scanned) = scan(self.alloc, self.parents, items) else {
             return Err(self.fail(&id, Error::Memory));
         };
-        let treated = self.treat_all(Times::InStore, scanned.parent_ids.as_slice());
+        let near = Near::nowhere();
+        let treated = self.treat_all(Times::InStore, scanned.parent_ids.as_slice(), near);
         self.conclude(taken, scanned, None, treated)
     }
 
@@ -316,7 +318,13 @@ impl<F: Find + Drop, P: Predicate + Drop> Simple<F, P> {
         ensures takes { Takes F.objects F.faulty P.answers self.old taken result self.new }
         ensures asks { P.can_accept self.new.predicate }
     {
-        let row = match read_row(self.alloc, self.graph.as_ref(), &mut self.in_use, &taken.id, NOWHERE) {
+        let row = match read_row(
+            self.alloc,
+            self.graph.as_ref(),
+            &mut self.in_use,
+            &taken.id,
+            taken.near,
+        ) {
             Ok(row) => row,
             Err(_) => return Err(self.fail(&taken.id, Error::Memory)),
         };

@@ -8,6 +8,7 @@ use super::step::is_older_than;
 use super::{Error, Simple};
 use gix_hash::ObjectId;
 use gix_object::find::Find;
+use gix_revwalk::row::NOWHERE;
 use gix_revwalk::{Pending, Predicate};
 use std::collections::VecDeque;
 
@@ -35,11 +36,12 @@ impl<F: Find + Drop, P: Predicate + Drop> Simple<F, P> {
         ensures { SortsIn F.objects F.faulty limit self.old id result self.new }
     {
         let time = self.tip_time(&id)?;
+        let near = NOWHERE;
         if is_older_than(time, limit) {
             self.seen.remove(&id);
             self.remembered.insert(id)?;
         } else {
-            self.pending.push(None, Pending { id, time })?;
+            self.pending.push(None, Pending { id, time, near })?;
         }
         Ok(())
     }
