@@ -149,7 +149,7 @@ module _ {F P : Type 0} (objects : F → Objects) (faulty : F → ObjectId → T
   concludes_broken u t e f answer new a n = concluded_so GoesOn (ap how_ended t) (error.ObjectDecode e) answer new a n (broken f)
 
   -- the commit is given
-  pub concludes_given : (u : Unit {0}) → treated ≡ Ok u → fault ≡ None → (info : Info) → IsInfo info id parents generation time → (inside : SimpleWalk F P) → inside ≡ old → Concluded (Ok info) (record inside { current = Some id })
-  concludes_given u t f info i inside is =
-      subst (λ how. Concludes objects faulty answers id parents generation time old.text fault old how (Ok info) (record inside { current = Some id })) (sym (ap how_ended t))
-      (subst (Concludes objects faulty answers id parents generation time old.text fault old GoesOn (Ok info)) (λ j. record (sym is j) { current = Some id }) (given f i))
+  pub concludes_given : (u : Unit {0}) → treated ≡ Ok u → fault ≡ None → (info : Info) → IsInfo info id parents generation time → (inside : SimpleWalk F P) → inside ≡ old → (given_id : ObjectId) → given_id ≡ id → Concluded (Ok info) (record inside { current = Some given_id })
+  concludes_given u t f info i inside is given_id same =
+      subst (λ how. Concludes objects faulty answers id parents generation time old.text fault old how (Ok info) (record inside { current = Some given_id })) (sym (ap how_ended t))
+      (subst (Concludes objects faulty answers id parents generation time old.text fault old GoesOn (Ok info)) (λ j. record (sym is j) { current = Some (sym same j) }) (given f i))
