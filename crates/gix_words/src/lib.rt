@@ -1,6 +1,6 @@
 //! What the words of a command ask for, and the words that say why a run failed.
 //!
-//! [`read_command`] makes a [`Command`] of words. Whatever a run meets is a [`Fault`], which the program writes as one line.
+//! [`read_command`] says which [`Command`] the words are, or that they are none. A [`Fault`] says why a run failed.
 #![tactic(auto)]
 
 mod fault;
