@@ -3,18 +3,18 @@ ghost use Rattle.std.specs.Prelude.{◌≡◌, ◌≢◌, [], ◌∷◌, IfErr, 
 ghost use Rattle.std.specs.Iterator.{IsFinite};
 ghost use Rattle.gix_commands.specs.Ahead.{Counts, FailsToCount, Numbers, ahead_line};
 ghost use Rattle.gix_commands.specs.Run.{Serves};
-ghost use Rattle.gix_commands.specs.Words.{Ahead};
+ghost use Rattle.gix_words.specs.Words.{Ahead};
 ghost use Rattle.gix_graph_store.specs.WithRows.{with_rows};
 ghost use Rattle.gix_revwalk.specs.Agreeing.{rows_in};
 
 use crate::commits::walk_from;
-use crate::fault::Fault;
 use crate::output::write_out;
 use gix_parts::graph::Graph;
 use gix_parts::hash::ObjectId;
 use gix_parts::records::LentStore;
 use gix_traverse::commit::simple::Sorting;
 use gix_traverse::commit::{Info, Parents};
+use gix_words::Fault;
 use std::alloc::{AllocError, Global};
 use std::io::Write;
 

@@ -5,12 +5,12 @@ ghost use Rattle.gix_graph_file.specs.ChainSteps.{files_seen};
 ghost use Rattle.gix_commands.specs.Opening.{AreHeadLines, FailsToOpen, Opens, WritesHeads, id_lines, layers_seen};
 
 use crate::digits::add_id;
-use crate::fault::Fault;
 use crate::output::write_out;
 use gix_graph_check::{first_unsound, heads};
 use gix_graph_file::{ChainError, graph_of_chain};
 use gix_parts::graph::Graph;
 use gix_parts::hash::ObjectId;
+use gix_words::Fault;
 use std::alloc::{AllocError, Global};
 use std::io::Write;
 

@@ -6,9 +6,9 @@ ghost use Rattle.gix_commands.specs.Output.{Grows, Adds, WritesAll};
 ghost use Rattle.gix_commands.specs.Walked.{line_of};
 
 use crate::digits::add_id;
-use crate::fault::Fault;
 use gix_parts::hash::ObjectId;
 use gix_traverse::commit::Info;
+use gix_words::Fault;
 use std::alloc::Global;
 use std::io::Write;
 

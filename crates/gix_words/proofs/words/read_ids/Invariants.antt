@@ -1,8 +1,8 @@
 use Rattle.std.specs.Prelude.{Result, Ok, Err, ◌++◌}
 use Rattle.std.proofs.Common.{◌≡◌, ◌+◌, map, drop, string_bytes}
-use Rattle.gix_commands.specs.declared.fault.Fault.{Fault}
-use Rattle.gix_commands.specs.Words.{Ids, ids_from}
-use Rattle.gix_commands.proofs.words.read_ids.Given as goal
+use Rattle.gix_words.specs.declared.fault.Fault.{Fault}
+use Rattle.gix_words.specs.Words.{Ids, ids_from}
+use Rattle.gix_words.proofs.words.read_ids.Given as goal
 
 -- ids after others
 abbrev pub behind : Ids → Result Ids Fault → Result Ids Fault

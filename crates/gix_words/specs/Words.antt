@@ -10,12 +10,12 @@ use Rattle.gix_revwalk.specs.declared.CommitTimeOrder.TheVariants as order
 use Rattle.gix_revwalk.specs.declared.Parents.TheVariants as mode
 use Rattle.gix_simple.specs.declared.Sorting.TheVariants as sorting
 use Rattle.gix_topo.specs.declared.Sorting.TheVariants as topo
-use Rattle.gix_commands.specs.declared.fault.Fault.{Fault}
-use Rattle.gix_commands.specs.declared.fault.Fault.TheVariants as fault
-use Rattle.gix_commands.specs.declared.words.Command.{Command}
-use Rattle.gix_commands.specs.declared.words.Command.TheVariants as command
-use Rattle.gix_commands.specs.declared.words.Order.{Order}
-use Rattle.gix_commands.specs.declared.words.Order.TheVariants.{Simple, Topo}
+use Rattle.gix_words.specs.declared.fault.Fault.{Fault}
+use Rattle.gix_words.specs.declared.fault.Fault.TheVariants as fault
+use Rattle.gix_words.specs.declared.words.Command.{Command}
+use Rattle.gix_words.specs.declared.words.Command.TheVariants as command
+use Rattle.gix_words.specs.declared.words.Order.{Order}
+use Rattle.gix_words.specs.declared.words.Order.TheVariants.{Simple, Topo}
 
 pub data Request : Type 0 where
   -- the commits that the tips reach and the hidden ones don't, in an order; with a limit the first of them, as many at most

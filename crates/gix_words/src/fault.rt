@@ -62,7 +62,7 @@ pub enum Fault {
 }
 
 impl From<AllocError> for Fault {
-    ghost use Rattle.gix_commands.specs.declared.fault.Fault.TheVariants as fault;
+    ghost use Rattle.gix_words.specs.declared.fault.Fault.TheVariants as fault;
 
     ghost from_gives = { λ _ r. r ≡ fault.Memory };
 
@@ -72,7 +72,7 @@ impl From<AllocError> for Fault {
 }
 
 impl From<records::Error> for Fault {
-    ghost use Rattle.gix_commands.specs.Faults.{fault_of_records};
+    ghost use Rattle.gix_words.specs.Faults.{fault_of_records};
 
     ghost from_gives = { λ e r. r ≡ fault_of_records e };
 
@@ -86,7 +86,7 @@ impl From<records::Error> for Fault {
 }
 
 impl From<Disagreement> for Fault {
-    ghost use Rattle.gix_commands.specs.Faults.{fault_of_disagreement};
+    ghost use Rattle.gix_words.specs.Faults.{fault_of_disagreement};
 
     ghost from_gives = { λ e r. r ≡ fault_of_disagreement e };
 
@@ -100,7 +100,7 @@ impl From<Disagreement> for Fault {
 }
 
 impl From<existing_iter::Error> for Fault {
-    ghost use Rattle.gix_commands.specs.Faults.{fault_of_find};
+    ghost use Rattle.gix_words.specs.Faults.{fault_of_find};
 
     ghost from_gives = { λ e r. r ≡ fault_of_find e };
 
@@ -115,7 +115,7 @@ impl From<existing_iter::Error> for Fault {
 }
 
 impl From<simple::Error> for Fault {
-    ghost use Rattle.gix_commands.specs.Faults.{fault_of_walk};
+    ghost use Rattle.gix_words.specs.Faults.{fault_of_walk};
 
     ghost from_gives = { λ e r. r ≡ fault_of_walk e };
 
@@ -131,7 +131,7 @@ impl From<simple::Error> for Fault {
 }
 
 impl From<topo::Error> for Fault {
-    ghost use Rattle.gix_commands.specs.Faults.{fault_of_topo_walk};
+    ghost use Rattle.gix_words.specs.Faults.{fault_of_topo_walk};
 
     ghost from_gives = { λ e r. r ≡ fault_of_topo_walk e };
 
@@ -148,7 +148,7 @@ impl From<topo::Error> for Fault {
 }
 
 impl From<contained::Error> for Fault {
-    ghost use Rattle.gix_commands.specs.Faults.{fault_of_contained};
+    ghost use Rattle.gix_words.specs.Faults.{fault_of_contained};
 
     ghost from_gives = { λ e r. r ≡ fault_of_contained e };
 
@@ -162,7 +162,7 @@ impl From<contained::Error> for Fault {
 }
 
 impl From<depthfirst::Error> for Fault {
-    ghost use Rattle.gix_commands.specs.Faults.{fault_of_tree_walk};
+    ghost use Rattle.gix_words.specs.Faults.{fault_of_tree_walk};
 
     ghost from_gives = { λ e r. r ≡ fault_of_tree_walk e };
 

@@ -1,8 +1,8 @@
 use Rattle.std.proofs.Common.{◌≡◌, ◌<◌, List, [], ◌∷◌, length, map, string_bytes, None, ℕ, Result, arith, refl, sym, subst}
-use Rattle.gix_commands.specs.declared.fault.Fault.{Fault}
-use Rattle.gix_commands.specs.declared.words.Order.{Order}
-use Rattle.gix_commands.specs.Words.{Gives, Request, commits_of, listed_of, request_of_command}
-use Rattle.gix_commands.proofs.words.listed.Goals as goal
+use Rattle.gix_words.specs.declared.fault.Fault.{Fault}
+use Rattle.gix_words.specs.declared.words.Order.{Order}
+use Rattle.gix_words.specs.Words.{Gives, Request, commits_of, listed_of, request_of_command}
+use Rattle.gix_words.proofs.words.listed.Goals as goal
 
 -- of fewer than two words none is an option
 no_option : {A : Type 0} (f : A → List ℕ) (by : Order) (n : ℕ) (words : List A) → length words < 2 → listed_of by n (map f words) ≡ commits_of by None n (map f words)

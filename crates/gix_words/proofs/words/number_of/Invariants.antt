@@ -1,6 +1,6 @@
 use Rattle.std.proofs.Common.{◌≡◌, ◌<◌, ◌^◌, drop}
 use Rattle.gix_records.specs.Decimal.{digits_behind}
-use Rattle.gix_commands.proofs.words.number_of.Given as goal
+use Rattle.gix_words.proofs.words.number_of.Given as goal
 
 -- the digits that are left, after the number, spell what all of them spell
 abbrev pub invariant-loop-digit : goal.invariant-loop-digit

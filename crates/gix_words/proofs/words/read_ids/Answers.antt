@@ -4,11 +4,11 @@ use Rattle.std.proofs.lemmas.List.{take_all}
 use Rattle.gix_hash.specs.declared.HexError.{HexError}
 use Rattle.gix_hash.specs.declared.ObjectId.{ObjectId}
 use Rattle.gix_hash.specs.Id.{id_from_hex}
-use Rattle.gix_commands.specs.declared.fault.Fault.{Fault}
-use Rattle.gix_commands.specs.Words.{Ids, begins_with_caret, ids_from, with_word}
-use Rattle.gix_commands.proofs.words.read_ids.Invariants.{behind}
-use Rattle.gix_commands.proofs.words.read_ids.Goals as goal
-use Rattle.gix_commands.proofs.words.read_ids.Goals.{in-94+in_ok-add_id-in-94, in_default+in_ok-add_id-in_default, in_default-via-then-as_bytes-lt1, in_default-via-else-as_bytes-lt1+in_default-1}
+use Rattle.gix_words.specs.declared.fault.Fault.{Fault}
+use Rattle.gix_words.specs.Words.{Ids, begins_with_caret, ids_from, with_word}
+use Rattle.gix_words.proofs.words.read_ids.Invariants.{behind}
+use Rattle.gix_words.proofs.words.read_ids.Goals as goal
+use Rattle.gix_words.proofs.words.read_ids.Goals.{in-94+in_ok-add_id-in-94, in_default+in_ok-add_id-in_default, in_default-via-then-as_bytes-lt1, in_default-via-else-as_bytes-lt1+in_default-1}
 
 abbrev ok_ids : Ids → Result Ids Fault
 ok_ids ids = Ok ids

@@ -14,8 +14,8 @@ use Rattle.gix_topo.specs.declared.Error.{Error as TopoError}
 use Rattle.gix_topo.specs.declared.Error.TheVariants as topo_error
 use Rattle.gix_tree.specs.declared.breadthfirst.Error.{Error as TreeError}
 use Rattle.gix_tree.specs.declared.breadthfirst.Error.TheVariants as tree_error
-use Rattle.gix_commands.specs.declared.fault.Fault.{Fault}
-use Rattle.gix_commands.specs.declared.fault.Fault.TheVariants as fault
+use Rattle.gix_words.specs.declared.fault.Fault.{Fault}
+use Rattle.gix_words.specs.declared.fault.Fault.TheVariants as fault
 
 abbrev pub fault_of_records : RecordsError → Fault
 fault_of_records records.Read = fault.Read

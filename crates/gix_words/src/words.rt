@@ -1,7 +1,7 @@
 //! The words of a command.
 ghost use Rattle.std.specs.Prelude.{◌≡◌, ◌≤◌, IfSome, map, string_bytes};
 ghost use Rattle.std.specs.List.{list_all};
-ghost use Rattle.gix_commands.specs.Words.{Gives, Tells, AddsId, begins_with_caret, number_in, request_of_command, request_of, order_named, by_first_parents, by_cutoff, ids_from, commits_of, listed_of, since_of, in_order_of, file_of, files_of, ahead_of, is_shown, contained_among, contained_of};
+ghost use Rattle.gix_words.specs.Words.{Gives, Tells, AddsId, begins_with_caret, number_in, request_of_command, request_of, order_named, by_first_parents, by_cutoff, ids_from, commits_of, listed_of, since_of, in_order_of, file_of, files_of, ahead_of, is_shown, contained_among, contained_of};
 
 use crate::fault::Fault;
 use gix_parts::hash::ObjectId;

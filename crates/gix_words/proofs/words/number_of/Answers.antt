@@ -1,6 +1,6 @@
 use Rattle.std.proofs.Common.{ℕ, ◌<◌, ◌≤◌, ◌^◌, arith}
 use Rattle.std.proofs.Math.Nat.{pow-le-pow_right}
-use Rattle.gix_commands.proofs.words.number_of.Goals as goal
+use Rattle.gix_words.proofs.words.number_of.Goals as goal
 
 -- before the last digit the number has at most nine
 small : (i most : ℕ) → i < most → most ≤ 10 → 10 ^ i ≤ 10 ^ 9
