@@ -90,13 +90,7 @@ impl<F: Find + Drop> Reader<F> {
         ensures reads { Reads (F.objects self.old.find) (F.faulty self.old.find) (rows_of self.old.graph) self.old.in_use id.now result self.new.in_use }
     {
         self.near = Near::nowhere();
-        let row = read_row(
-            self.alloc,
-            self.graph.as_ref(),
-            &mut self.in_use,
-            id,
-            near,
-        )?;
+        let row = read_row(self.alloc, self.graph.as_ref(), &mut self.in_use, id, near)?;
         let Some(row) = row else {
             return self.read_text(id);
         };
