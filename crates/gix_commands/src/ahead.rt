@@ -39,7 +39,7 @@ pub fn write_ahead<W: Write>(
     write_out(&mut line, writer)
 }
 
-// How many commits the tip reaches and the hidden one doesn't.
+/// How many commits the tip reaches and the hidden one doesn't.
 fn count(
     alloc: Global,
     tip: ObjectId,
@@ -57,14 +57,14 @@ fn count(
     number_of_commits(walk)
 }
 
-// A list of this id alone.
+/// A list of this id alone.
 fn alone(alloc: Global, id: ObjectId) -> Result<Vec<ObjectId>, AllocError>
     ensures { IfOk result (λ ids. ids.items ≡ id ∷ []) }
 {
     Ok(vec![in alloc; id]?)
 }
 
-// How many commits a walk gives that is drawn to its end.
+/// How many commits a walk gives that is drawn to its end.
 fn number_of_commits<I, E>(walk: I) -> Result<usize, Fault>
 where
     I: Iterator<Item = Result<Info, E>> + Drop,
@@ -88,7 +88,7 @@ where
     Ok(number)
 }
 
-// The two numbers with a space between them, and a newline.
+/// The two numbers with a space between them, and a newline.
 fn line_of(alloc: Global, ahead: usize, behind: usize) -> Result<Vec<u8>, AllocError>
     ensures { IfOk result (λ line. line.items ≡ ahead_line ahead behind) }
 {

@@ -59,7 +59,7 @@ impl Find for Lent<'_> {
     }
 }
 
-// The rows again, for a walk to hold.
+/// The rows again, for a walk to hold.
 fn copy_of(graph: Option<&Graph>) -> Result<Option<Graph>, AllocError>
     ensures { IfOk result (λ copy. rows_of copy ≡ rows_in graph.entry) }
 {

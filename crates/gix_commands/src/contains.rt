@@ -39,7 +39,7 @@ pub fn write_contained<W: Write>(
     write_out(&mut lines, writer)
 }
 
-// The ids in hex digits, one a line.
+/// The ids in hex digits, one a line.
 fn lines_of(alloc: Global, ids: &[ObjectId]) -> Result<Vec<u8>, AllocError>
     ensures { IfOk result (λ lines. lines.items ≡ flat_map line_of ids.now) }
 {

@@ -30,7 +30,7 @@ pub(crate) fn open(alloc: Global, layers: &[Vec<u8>]) -> Result<Graph, Fault>
     }
 }
 
-// The rows of the layers.
+/// The rows of the layers.
 fn read_chain(alloc: Global, layers: &[Vec<u8>]) -> Result<Graph, Fault>
     ensures ok { IfOk result (HasChain (layers_seen layers.now)) }
     ensures err { IfErr result (FailsToOpen (layers_seen layers.now)) }
@@ -43,7 +43,7 @@ fn read_chain(alloc: Global, layers: &[Vec<u8>]) -> Result<Graph, Fault>
     }
 }
 
-// The bytes of each layer.
+/// The bytes of each layer.
 fn lend(alloc: Global, layers: &[Vec<u8>]) -> Result<Vec<&[u8]>, AllocError>
     ensures { IfOk result (λ files. files_seen files.items ≡ layers_seen layers.now) }
 {
@@ -67,7 +67,7 @@ pub fn write_heads<W: Write>(alloc: Global, layers: &[Vec<u8>], writer: &mut W) 
     write_out(&mut lines, writer)
 }
 
-// A line for each head.
+/// A line for each head.
 fn head_lines(alloc: Global, layers: &[Vec<u8>]) -> Result<Vec<u8>, Fault>
     ensures ok { IfOk result (λ lines. AreHeadLines (layers_seen layers.now) lines.items) }
     ensures err { IfErr result (FailsToOpen (layers_seen layers.now)) }
@@ -77,7 +77,7 @@ fn head_lines(alloc: Global, layers: &[Vec<u8>]) -> Result<Vec<u8>, Fault>
     Ok(lines_of(alloc, ids.as_slice())?)
 }
 
-// Ids, one a line.
+/// Ids, one a line.
 fn lines_of(alloc: Global, ids: &[ObjectId]) -> Result<Vec<u8>, AllocError>
     ensures { IfOk result (λ lines. lines.items ≡ id_lines ids.now) }
 {

@@ -78,7 +78,7 @@ pub fn run<R: Read, W: Write>(
     serve_records(alloc, command, input.as_slice(), writer)
 }
 
-// Writes what a command asks for.
+/// Writes what a command asks for.
 fn serve<W: Write>(
     alloc: Global,
     command: Command,
@@ -101,7 +101,7 @@ fn serve<W: Write>(
     }
 }
 
-// Writes the commits that the tips reach and the hidden tips don't, or as many of them as the limit says.
+/// Writes the commits that the tips reach and the hidden tips don't, or as many of them as the limit says.
 fn serve_commits<W: Write>(
     alloc: Global,
     order: Order,

@@ -99,7 +99,7 @@ pub fn contained<F: Find>(
     Ok(those)
 }
 
-// The ids as the tips of a painting, which looks at no time of theirs.
+/// The ids as the tips of a painting, which looks at no time of theirs.
 fn pending_of(alloc: Global, ids: &[ObjectId]) -> Result<VecDeque<Pending>, AllocError>
     ensures { IfOk result (λ pending. ids_of pending.items ≡ ids.now) }
 {
@@ -114,7 +114,7 @@ fn pending_of(alloc: Global, ids: &[ObjectId]) -> Result<VecDeque<Pending>, Allo
     Ok(pending)
 }
 
-// The ids that were painted, in order.
+/// The ids that were painted, in order.
 fn hidden_among(
     alloc: Global,
     ids: &[ObjectId],

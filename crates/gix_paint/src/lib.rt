@@ -67,7 +67,7 @@ impl From<AllocError> for Hidden {
     }
 }
 
-// For which tips an id is marked and its commit is read: those of the walk, or the hidden ones.
+/// For which tips an id is marked and its commit is read: those of the walk, or the hidden ones.
 #[derive(Clone, Copy)]
 enum Side {
     Visible,
@@ -110,14 +110,14 @@ impl HiddenIds {
     }
 }
 
-// Whether a hidden tip is known to reach the id.
+/// Whether a hidden tip is known to reach the id.
 fn is_hidden(marks: &IdMap<Side>, id: &ObjectId) -> bool
     ensures { result ≡ painter.is_hidden marks.now id.now }
 {
     matches!(marks.get(id), Some(Side::Hidden))
 }
 
-// A commit that waits to be read.
+/// A commit that waits to be read.
 #[derive(Drop)]
 struct Entry {
     id: ObjectId,
@@ -125,19 +125,19 @@ struct Entry {
     parent_ids: Option<ParentIds>,
 }
 
-// What was marked, and what waits to be read.
+/// What was marked, and what waits to be read.
 #[derive(Drop)]
 struct Painter<'a, F> {
     source: Source<'a, F>,
-    // Each id that was met: for hidden tips as soon as one of them was found to reach it.
+    /// Each id that was met: for hidden tips as soon as one of them was found to reach it.
     marks: IdMap<Side>,
-    // The queued ids that no hidden tip was found to reach.
+    /// The queued ids that no hidden tip was found to reach.
     frontier: IdSet,
     queue: PriorityQueue<Key, Entry>,
 }
 
 impl<'a, F: Find> Painter<'a, F> {
-    // Puts a commit into the queue.
+    /// Puts a commit into the queue.
     fn enqueue(&mut self, id: ObjectId, side: Side) -> Result<(), Hidden>
         ensures ok { IfOk result (λ _. Queues F.objects self.old id side self.new) }
         ensures fault { IfErr result (FailsAmong (F.objects self.old.source.objects.now) (F.faulty self.old.source.objects.now) (rows_in (graph_in_use self.old.source)) (id ∷ [])) }
@@ -154,7 +154,7 @@ impl<'a, F: Find> Painter<'a, F> {
         Ok(())
     }
 
-    // An id that visible tips reach is queued once. One that is hidden already is left to the hidden side.
+    /// An id that visible tips reach is queued once. One that is hidden already is left to the hidden side.
     fn show(&mut self, id: ObjectId) -> Result<(), Hidden>
         ensures ok { IfOk result (λ _. Meets F.objects Side.Visible (id ∷ []) self.old self.new) }
         ensures fault { IfErr result (FailsAmong (F.objects self.old.source.objects.now) (F.faulty self.old.source.objects.now) (rows_in (graph_in_use self.old.source)) (id ∷ [])) }
@@ -167,7 +167,7 @@ impl<'a, F: Find> Painter<'a, F> {
         self.enqueue(id, Side::Visible)
     }
 
-    // An id that hidden tips reach is queued once for them, whatever visible tips did.
+    /// An id that hidden tips reach is queued once for them, whatever visible tips did.
     fn hide(&mut self, id: ObjectId) -> Result<(), Hidden>
         ensures ok { IfOk result (λ _. Meets F.objects Side.Hidden (id ∷ []) self.old self.new) }
         ensures fault { IfErr result (FailsAmong (F.objects self.old.source.objects.now) (F.faulty self.old.source.objects.now) (rows_in (graph_in_use self.old.source)) (id ∷ [])) }
@@ -180,7 +180,7 @@ impl<'a, F: Find> Painter<'a, F> {
         self.enqueue(id, Side::Hidden)
     }
 
-    // Ids that are reached on a side, in order.
+    /// Ids that are reached on a side, in order.
     fn meet_all(&mut self, mut ids: &[ObjectId], side: Side) -> Result<(), Hidden>
         ensures ok { IfOk result (λ _. Meets F.objects side ids.entry.now self.old self.new) }
         ensures fault { IfErr result (FailsAmong (F.objects self.old.source.objects.now) (F.faulty self.old.source.objects.now) (rows_in (graph_in_use self.old.source)) ids.entry.now) }
@@ -205,7 +205,7 @@ impl<'a, F: Find> Painter<'a, F> {
         Ok(())
     }
 
-    // Whether an entry that was taken is to be read. Where a hidden tip reached a visible id meanwhile, the hidden side reads it.
+    /// Whether an entry that was taken is to be read. Where a hidden tip reached a visible id meanwhile, the hidden side reads it.
     fn begins(&mut self, entry: &Entry) -> bool
         ensures turn { result ≡ is_turn entry.now self.old.frontier }
         ensures takes { Takes self.old entry.now self.new }
@@ -217,7 +217,7 @@ impl<'a, F: Find> Painter<'a, F> {
         }
     }
 
-    // The commit of an entry is read, and its parents are met on its side.
+    /// The commit of an entry is read, and its parents are met on its side.
     fn treat(&mut self, entry: Entry) -> Result<(), Hidden>
         ensures ok { IfOk result (λ _. TreatsEntry F.objects self.old entry self.new) }
         ensures fault { IfErr result (TreatFails (F.objects self.old.source.objects.now) (F.faulty self.old.source.objects.now) (graph_in_use self.old.source) entry) }
@@ -230,7 +230,7 @@ impl<'a, F: Find> Painter<'a, F> {
         self.meet_all(parent_ids.as_slice(), side)
     }
 
-    // Whether the marks are whole: nothing is queued, or, while the rows are in use, all that is queued is hidden and has a row.
+    /// Whether the marks are whole: nothing is queued, or, while the rows are in use, all that is queued is hidden and has a row.
     fn is_settled(&self) -> bool
         ensures { IsTrue result ↔ IsSettled self.now }
     {
@@ -242,7 +242,7 @@ impl<'a, F: Find> Painter<'a, F> {
             && matches!(key.generation, Generation::Told(_))
     }
 
-    // The entry whose turn it is, and None where the painting is settled.
+    /// The entry whose turn it is, and None where the painting is settled.
     fn next_entry(&mut self) -> Option<Entry>
         ensures none { IfNone result (IsSettled self.old × (self.new ≡ self.old)) }
         ensures some { IfSome result (λ entry. ¬ (IsSettled self.old) × ((key : Key) × Pops ⟦<Key as Ord>⟧.cmp self.old (key, entry) self.new)) }

@@ -73,7 +73,7 @@ pub struct Header {
     pub time: Result<i64, decode::Error>,
 }
 
-// Reads the parents and the committer in one pass, and ends there. Lists of at most one parent take no memory.
+/// Reads the parents and the committer in one pass, and ends there. Lists of at most one parent take no memory.
 fn read_header(alloc: Global, mut items: CommitRefIter<'_>) -> Result<Header, AllocError>
     ensures parents { IfOk result (λ h. h.parent_ids.items ≡ (scanned mode.All (commit_items_left items.entry)).0) }
     ensures time { IfOk result (λ h. h.time ≡ seconds_told (first_committer (commit_items_left items.entry))) }
@@ -126,7 +126,7 @@ pub fn find_header<F: Find>(
     }
 }
 
-// The seconds of the first committer among the items left.
+/// The seconds of the first committer among the items left.
 fn committer_seconds(items: CommitRefIter<'_>) -> Result<i64, decode::Error>
     ensures { result ≡ seconds_told (first_committer (commit_items_left items.entry)) }
 {

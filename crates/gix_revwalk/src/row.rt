@@ -32,7 +32,7 @@ impl Near {
         }
     }
 
-    // Sets the place of the parent of this number, from 0.
+    /// Sets the place of the parent of this number, from 0.
     fn set(&mut self, parent: usize, position: Position) {
         match parent {
             0 => self.first = position.0,
@@ -66,7 +66,7 @@ pub fn find_row<'a>(graph: &'a Graph, id: &ObjectId, near: u32) -> Option<Commit
     graph.commit_by_id(id)
 }
 
-// The ids at a row's places, and None where one of them is corrupt. At most one place takes no memory.
+/// The ids at a row's places, and None where one of them is corrupt. At most one place takes no memory.
 fn row_parents(
     alloc: Global,
     graph: &Graph,

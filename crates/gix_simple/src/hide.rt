@@ -15,7 +15,7 @@ use gix_revwalk::{Info, Pending, Predicate};
 use std::alloc::{AllocError, Global};
 use std::collections::VecDeque;
 
-// The tips that aren't hidden.
+/// The tips that aren't hidden.
 fn visible(
     alloc: Global,
     mut tips: VecDeque<Pending>,
@@ -33,7 +33,7 @@ fn visible(
 }
 
 impl<F: Find + Drop, P: Predicate + Drop> Simple<F, P> {
-    // The first step: what is hidden is painted first.
+    /// The first step: what is hidden is painted first.
     pub(super) fn first_step(&mut self) -> Option<Result<Info, Error>>
         requires { P.can_accept self.old.predicate }
         ensures steps { FirstStep F.objects F.faulty P.answers (record self.old { begun = true }) result self.new }
@@ -46,8 +46,8 @@ impl<F: Find + Drop, P: Predicate + Drop> Simple<F, P> {
         self.step()
     }
 
-    // Paints what the hidden tips reach, and takes the pending commits among it out. Without pending commits or hidden tips
-    // there is nothing to do.
+    /// Paints what the hidden tips reach, and takes the pending commits among it out. Without pending commits or hidden tips
+    /// there is nothing to do.
     fn hide_painted(&mut self) -> Result<(), Error>
         ensures hides { Hides F.objects F.faulty P.answers self.old result self.new }
         ensures asks { self.new.predicate ≡ self.old.predicate }
@@ -87,7 +87,7 @@ impl<F: Find + Drop, P: Predicate + Drop> Simple<F, P> {
         )
     }
 
-    // The pending commits, none of which stays.
+    /// The pending commits, none of which stays.
     fn take_tips(&mut self) -> Result<VecDeque<Pending>, AllocError>
         ensures tips { IfOk result (λ tips. tips.items ≡ self.old.pending) }
         ensures left { self.new ≡ record self.old { pending = [] } }

@@ -199,24 +199,24 @@ pub struct Simple<F, P> {
     find: F,
     predicate: P,
     graph: Option<Graph>,
-    // Whether rows are read: they are until one proves corrupt.
+    /// Whether rows are read: they are until one proves corrupt.
     in_use: bool,
     parents: Parents,
     sorting: Sorting,
     pending: PendingQueue,
     seen: IdSet,
-    // Accepted tips that a cutoff took out and no parent list has named since.
+    /// Accepted tips that a cutoff took out and no parent list has named since.
     remembered: IdSet,
-    // Whether `next` was called.
+    /// Whether `next` was called.
     begun: bool,
-    // To be hidden, with all that they reach, by the first step. No later step looks at them.
+    /// To be hidden, with all that they reach, by the first step. No later step looks at them.
     hidden_tips: Vec<ObjectId>,
     hidden: HiddenIds,
-    // The text of the commit last given, if it was read from the store.
+    /// The text of the commit last given, if it was read from the store.
     text: Vec<u8>,
-    // The commit last taken.
+    /// The commit last taken.
     current: Option<ObjectId>,
-    // Where a parent is read for its time.
+    /// Where a parent is read for its time.
     buf: Vec<u8>,
     alloc: Global,
 }

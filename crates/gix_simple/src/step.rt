@@ -24,17 +24,17 @@ use gix_revwalk::row::{Near, RowRead, find_row, read_row};
 use gix_revwalk::{CommitTimeOrder, Info, ParentIds, Parents, Pending, Predicate};
 use std::alloc::{AllocError, Global};
 
-// Where the times of parents are read: in the rows, where their child was read by its row, else in the store.
+/// Where the times of parents are read: in the rows, where their child was read by its row, else in the store.
 #[derive(Clone, Copy)]
 pub(super) enum Times {
     InRows,
     InStore,
 }
 
-// Why the treatment of a commit's parents stopped.
+/// Why the treatment of a commit's parents stopped.
 #[derive(Clone, Copy)]
 pub(super) enum Stop {
-    // The store failed at a parent that was asked for its time.
+    /// The store failed at a parent that was asked for its time.
     Store,
     Memory,
 }
@@ -89,7 +89,7 @@ pub(super) fn is_older_than(time: i64, limit: Option<i64>) -> bool
     }
 }
 
-// The parents that are walked.
+/// The parents that are walked.
 fn walked(parents: Parents, mut parent_ids: ParentIds) -> ParentIds
     ensures { result.items ≡ by_mode parents parent_ids.items }
 {
@@ -121,7 +121,7 @@ impl<F: Find + Drop, P: Predicate + Drop> Simple<F, P> {
         is_older_than(time, cutoff_of(self.parents, self.sorting))
     }
 
-    // Whether an id that a tip or a parent list names is neither hidden nor seen. It is seen from now on.
+    /// Whether an id that a tip or a parent list names is neither hidden nor seen. It is seen from now on.
     fn meet(&mut self, id: ObjectId) -> Result<bool, AllocError>
         ensures { Meets F.objects F.faulty P.answers self.old id result self.new }
     {
@@ -131,7 +131,7 @@ impl<F: Find + Drop, P: Predicate + Drop> Simple<F, P> {
         Ok(self.seen.insert(id)?)
     }
 
-    // Asks about an id, unless it was asked about and a yes is remembered.
+    /// Asks about an id, unless it was asked about and a yes is remembered.
     fn ask(&mut self, id: &ObjectId) -> bool
         requires { P.can_accept self.old.predicate }
         ensures asks { Asks F.objects F.faulty P.answers self.old id.now result self.new.predicate }
@@ -141,8 +141,8 @@ impl<F: Find + Drop, P: Predicate + Drop> Simple<F, P> {
         self.remembered.remove(id) || self.predicate.accepts(id)
     }
 
-    // The time by which a parent would be taken. It is 0 where no order by time is in force, and where none can be read. `near` is where to
-    // look first for its row.
+    /// The time by which a parent would be taken. It is 0 where no order by time is in force, and where none can be read. `near` is where to
+    /// look first for its row.
     fn parent_time(&mut self, times: Times, id: &ObjectId, near: u32) -> Result<i64, Stop>
         ensures time { TimeIs F.objects F.faulty P.answers self.old (in_rows times) id.now result }
         ensures kept { self.new ≡ self.old }
@@ -188,7 +188,7 @@ impl<F: Find + Drop, P: Predicate + Drop> Simple<F, P> {
         }
     }
 
-    // An accepted parent becomes pending, unless it is older than the cutoff.
+    /// An accepted parent becomes pending, unless it is older than the cutoff.
     fn enqueue(&mut self, id: ObjectId, time: i64, near: u32) -> Result<(), AllocError>
         ensures ok { OnOk result (Enqueues F.objects F.faulty P.answers (time_order self.old.parents self.old.sorting) (cutoff self.old.parents self.old.sorting)
             self.old.pending id time self.new.pending) }
@@ -203,7 +203,7 @@ impl<F: Find + Drop, P: Predicate + Drop> Simple<F, P> {
         Ok(())
     }
 
-    // An id that a tip or a parent list names: where it is new and accepted, it becomes pending. `near` is where to look first for its row.
+    /// An id that a tip or a parent list names: where it is new and accepted, it becomes pending. `near` is where to look first for its row.
     pub(super) fn treat(&mut self, times: Times, id: ObjectId, near: u32) -> Result<(), Stop>
         requires { P.can_accept self.old.predicate }
         ensures treats { Treats F.objects F.faulty P.answers self.old (in_rows times) id (how_ended result) self.new }
@@ -233,7 +233,7 @@ impl<F: Find + Drop, P: Predicate + Drop> Simple<F, P> {
         Ok(())
     }
 
-    // What is left of the walk after a fault in the place of a commit: no text, and where memory ran out no pending commit.
+    /// What is left of the walk after a fault in the place of a commit: no text, and where memory ran out no pending commit.
     fn fail(&mut self, id: &ObjectId, error: Error) -> Error
         ensures same { result ≡ error }
         ensures left { self.new ≡ failed id.now error self.old }
@@ -246,7 +246,7 @@ impl<F: Find + Drop, P: Predicate + Drop> Simple<F, P> {
         error
     }
 
-    // The answer after the parents of a commit were treated.
+    /// The answer after the parents of a commit were treated.
     fn conclude(
         &mut self,
         taken: Pending,
@@ -312,7 +312,7 @@ impl<F: Find + Drop, P: Predicate + Drop> Simple<F, P> {
         self.conclude(taken, scanned, None, treated)
     }
 
-    // Reads the commit, and gives it.
+    /// Reads the commit, and gives it.
     pub(super) fn take(&mut self, taken: Pending) -> Result<Info, Error>
         requires { P.can_accept self.old.predicate }
         ensures takes { Takes F.objects F.faulty P.answers self.old taken result self.new }
@@ -334,7 +334,7 @@ impl<F: Find + Drop, P: Predicate + Drop> Simple<F, P> {
         }
     }
 
-    // The commit whose turn it is leaves those that are pending.
+    /// The commit whose turn it is leaves those that are pending.
     fn choose(&mut self) -> Result<Option<Pending>, AllocError>
         ensures ok { IfOk result (λ taken. TakesOut (time_order self.old.parents self.old.sorting) self.old.pending taken self.new.pending) }
         ensures rest { OnOk result (self.new ≡ record self.old { pending = self.new.pending }) }
@@ -349,7 +349,7 @@ impl<F: Find + Drop, P: Predicate + Drop> Simple<F, P> {
         chosen
     }
 
-    // Takes the commit whose turn it is.
+    /// Takes the commit whose turn it is.
     pub(super) fn step(&mut self) -> Option<Result<Info, Error>>
         requires { P.can_accept self.old.predicate }
         ensures steps { Steps F.objects F.faulty P.answers self.old result self.new }

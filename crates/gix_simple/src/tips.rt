@@ -13,7 +13,7 @@ use gix_revwalk::{Pending, Predicate};
 use std::collections::VecDeque;
 
 impl<F: Find + Drop, P: Predicate + Drop> Simple<F, P> {
-    // The tips are pending again with their times, up to the first that can't be read.
+    /// The tips are pending again with their times, up to the first that can't be read.
     pub(super) fn sort_tips(
         &mut self,
         mut tips: VecDeque<Pending>,
@@ -31,7 +31,7 @@ impl<F: Find + Drop, P: Predicate + Drop> Simple<F, P> {
         Ok(())
     }
 
-    // The tip is pending again with its time, unless it is older than the cutoff.
+    /// The tip is pending again with its time, unless it is older than the cutoff.
     fn sort_in(&mut self, id: ObjectId, limit: Option<i64>) -> Result<(), Error>
         ensures { SortsIn F.objects F.faulty limit self.old id result self.new }
     {

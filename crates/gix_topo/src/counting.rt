@@ -45,7 +45,7 @@ pub(super) fn walked(parents: Parents, ids: &[ObjectId]) -> &[ObjectId]
 /// So many parents are compared with one another. Where there are more, a set has those that were met.
 const FEW: usize = 8;
 
-// Each id of a list at its last place, by comparing each with those after it.
+/// Each id of a list at its last place, by comparing each with those after it.
 fn last_places_of_few(alloc: Global, mut ids: &[ObjectId]) -> Result<ParentIds, AllocError>
     ensures { IfOk result (λ places. places.items ≡ last_places ids.entry.now) }
 {
@@ -60,7 +60,7 @@ fn last_places_of_few(alloc: Global, mut ids: &[ObjectId]) -> Result<ParentIds, 
     Ok(places)
 }
 
-// Each id of a list at its last place, from the back.
+/// Each id of a list at its last place, from the back.
 fn last_places_of_many(
     alloc: Global,
     mut ids: &[ObjectId],

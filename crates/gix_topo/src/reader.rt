@@ -57,7 +57,7 @@ impl<F: Find + Drop> Reader<F> {
         }
     }
 
-    // The commit as its text says it. A text that ends before a committer has time 0.
+    /// The commit as its text says it. A text that ends before a committer has time 0.
     fn read_text(&mut self, id: &ObjectId) -> Result<Info, Error>
         ensures store { self.new.find ≡ self.old.find }
         ensures graph { self.new.graph ≡ self.old.graph }

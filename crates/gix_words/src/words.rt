@@ -73,7 +73,7 @@ pub fn read_command(alloc: Global, words: &[String]) -> Result<Command, Fault>
     Err(Fault::Usage)
 }
 
-// The order of the walk over commits that this is the name of.
+/// The order of the walk over commits that this is the name of.
 fn order_named(name: &String) -> Option<Order>
     ensures { result ≡ order_named (string_bytes name.now) }
 {
@@ -97,7 +97,7 @@ fn order_named(name: &String) -> Option<Order>
     None
 }
 
-// The order through all parents.
+/// The order through all parents.
 fn in_simple_order(sorting: Sorting) -> Order
     ensures { result ≡ Order.Simple Parents.All sorting }
 {
@@ -107,7 +107,7 @@ fn in_simple_order(sorting: Sorting) -> Order
     }
 }
 
-// The walk over commits that the words after the name of its order ask for: ids, maybe with an option and a limit before them.
+/// The walk over commits that the words after the name of its order ask for: ids, maybe with an option and a limit before them.
 fn in_order(alloc: Global, order: Order, words: &[String]) -> Result<Command, Fault>
     ensures { Gives request_of_command result (in_order_of order (map string_bytes words.now)) }
 {
@@ -126,7 +126,7 @@ fn in_order(alloc: Global, order: Order, words: &[String]) -> Result<Command, Fa
     listed(alloc, order, words, 2)
 }
 
-// The order, which has no option, through first parents alone.
+/// The order, which has no option, through first parents alone.
 fn by_first_parents(order: Order) -> Option<Order>
     ensures { result ≡ by_first_parents order }
 {
@@ -142,7 +142,7 @@ fn by_first_parents(order: Order) -> Option<Order>
     }
 }
 
-// The order, which has no option, without what is older than a time.
+/// The order, which has no option, without what is older than a time.
 fn by_cutoff(seconds: i64, order: Order) -> Option<Order>
     ensures { result ≡ by_cutoff seconds order }
 {
@@ -158,7 +158,7 @@ fn by_cutoff(seconds: i64, order: Order) -> Option<Order>
     }
 }
 
-// The walk over commits that the words after the name of its order and `--since` ask for: a time, and ids, maybe with a limit before them.
+/// The walk over commits that the words after the name of its order and `--since` ask for: a time, and ids, maybe with a limit before them.
 fn since(alloc: Global, order: Order, words: &[String]) -> Result<Command, Fault>
     ensures { Gives request_of_command result (since_of order (map string_bytes words.now)) }
 {
@@ -174,7 +174,7 @@ fn since(alloc: Global, order: Order, words: &[String]) -> Result<Command, Fault
     listed(alloc, order, behind, 4)
 }
 
-// The walk over commits that these words ask for: ids, maybe with a limit before them. The first of them is the word of this number.
+/// The walk over commits that these words ask for: ids, maybe with a limit before them. The first of them is the word of this number.
 fn listed(alloc: Global, order: Order, words: &[String], number: usize) -> Result<Command, Fault>
     requires few { number ≤ 4 }
     ensures { Gives request_of_command result (listed_of order number (map string_bytes words.now)) }
@@ -191,7 +191,7 @@ fn listed(alloc: Global, order: Order, words: &[String], number: usize) -> Resul
     commits(alloc, order, Some(limit), ids, number + 2)
 }
 
-// The number that 1 to so many decimal digits spell.
+/// The number that 1 to so many decimal digits spell.
 fn number_in(word: &String, most: usize) -> Option<u64>
     requires few { most ≤ 10 }
     ensures value { result ≡ number_in most (string_bytes word.now) }
@@ -200,7 +200,7 @@ fn number_in(word: &String, most: usize) -> Option<u64>
     number_of(word.as_bytes(), most)
 }
 
-// The number that 1 to so many decimal digits spell.
+/// The number that 1 to so many decimal digits spell.
 fn number_of(digits: &[u8], most: usize) -> Option<u64>
     requires few { most ≤ 10 }
     ensures value { result ≡ number_in most digits.now }
@@ -219,7 +219,7 @@ fn number_of(digits: &[u8], most: usize) -> Option<u64>
     Some(number)
 }
 
-// The walk over commits from these ids, of which one at least must be a tip. The first of them is the word of this number.
+/// The walk over commits from these ids, of which one at least must be a tip. The first of them is the word of this number.
 fn commits(
     alloc: Global,
     order: Order,
@@ -242,7 +242,7 @@ fn commits(
     })
 }
 
-// The tree of this id, which must be alone behind `-z`, or without it.
+/// The tree of this id, which must be alone behind `-z`, or without it.
 fn files(ids: &[String]) -> Result<Command, Fault>
     ensures { Tells request_of_command result (files_of (map string_bytes ids.now)) }
 {
@@ -253,7 +253,7 @@ fn files(ids: &[String]) -> Result<Command, Fault>
     }
 }
 
-// The tree of this id, which is the word of this number.
+/// The tree of this id, which is the word of this number.
 fn file(ending: u8, tree: &String, number: usize) -> Result<Command, Fault>
     ensures { Tells request_of_command result (file_of ending number (string_bytes tree.now)) }
 {
@@ -266,7 +266,7 @@ fn file(ending: u8, tree: &String, number: usize) -> Result<Command, Fault>
     }
 }
 
-// The two commits of these ids, which must be alone.
+/// The two commits of these ids, which must be alone.
 fn ahead(ids: &[String]) -> Result<Command, Fault>
     ensures { Tells request_of_command result (ahead_of (map string_bytes ids.now)) }
 {
@@ -285,7 +285,7 @@ fn ahead(ids: &[String]) -> Result<Command, Fault>
     Ok(Command::Ahead { one, other })
 }
 
-// The commits of these ids, two at least, of which the first is the tip.
+/// The commits of these ids, two at least, of which the first is the tip.
 fn contained(alloc: Global, ids: &[String]) -> Result<Command, Fault>
     ensures { Gives request_of_command result (contained_of (map string_bytes ids.now)) }
 {
@@ -296,7 +296,7 @@ fn contained(alloc: Global, ids: &[String]) -> Result<Command, Fault>
     contained_among(tips)
 }
 
-// The first of the ids is the tip.
+/// The first of the ids is the tip.
 fn contained_among(mut ids: Vec<ObjectId>) -> Result<Command, Fault>
     ensures { Tells request_of_command result (contained_among ids.items) }
 {
@@ -307,7 +307,7 @@ fn contained_among(mut ids: Vec<ObjectId>) -> Result<Command, Fault>
     Ok(Command::Contained { tip, ids })
 }
 
-// Whether no word names a commit that is to be hidden.
+/// Whether no word names a commit that is to be hidden.
 fn are_shown(ids: &[String]) -> bool
     ensures { result ≡ list_all is_shown (map string_bytes ids.now) }
 {
@@ -319,7 +319,7 @@ fn are_shown(ids: &[String]) -> bool
     true
 }
 
-// Whether each word names a commit that is to be hidden.
+/// Whether each word names a commit that is to be hidden.
 fn are_hidden(ids: &[String]) -> bool
     ensures { result ≡ list_all begins_with_caret (map string_bytes ids.now) }
 {
@@ -331,14 +331,14 @@ fn are_hidden(ids: &[String]) -> bool
     true
 }
 
-// Whether the word names a commit that is to be hidden.
+/// Whether the word names a commit that is to be hidden.
 fn begins_with_caret(word: &String) -> bool
     ensures { result ≡ begins_with_caret (string_bytes word.now) }
 {
     matches!(word.as_bytes(), [b'^', ..])
 }
 
-// The ids of tips that the words spell, and the ids of commits to be hidden. The first of these words is the word of this number.
+/// The ids of tips that the words spell, and the ids of commits to be hidden. The first of these words is the word of this number.
 fn read_ids(
     alloc: Global,
     words: &[String],
@@ -358,7 +358,7 @@ fn read_ids(
     Ok((tips, hidden))
 }
 
-// Adds the id that the digits of the word of this number spell.
+/// Adds the id that the digits of the word of this number spell.
 fn add_id(ids: &mut Vec<ObjectId>, digits: &[u8], number: usize) -> Result<(), Fault>
     ensures { AddsId digits.now number ids.old.items result ids.new.items }
 {

@@ -14,11 +14,11 @@ use Rattle.gix_topo.specs.Reading.{Reads, by_row, by_text, LookUpFails}
 use Rattle.gix_topo.specs.declared.counting.Counting.{Counting}
 use Rattle.gix_frontier.specs.declared.Frontier.{Frontier}
 use Rattle.gix_topo.specs.Depth.{least}
-use Rattle.gix_topo.specs.Inside.Exploring.{Explores, IsRested, IsExploringFault}
+use Rattle.gix_topo.specs.Inside.Exploring.{Explores, IsRested}
 use Rattle.gix_revwalk.specs.Commits.{by_mode}
 use Rattle.gix_topo.specs.TopoOrder.{last_places}
 use Rattle.gix_topo.specs.Walk.{Ready}
-use Rattle.gix_topo.specs.Inside.Releasing.{LooksUpParent, IsPushFault, parent, lowered, with_counting, TakesOne, IsTakingFault, exploring, releasing, ReleasesAll, IsFaultAmong}
+use Rattle.gix_topo.specs.Inside.Releasing.{LooksUpParent, IsPushFault, parent, lowered, with_counting, TakesOne, IsTakingFault, releasing, ReleasesAll, IsFaultAmong}
 use Rattle.gix_hash.proofs.Lists.{only_member}
 
 -- what is read has the id that was asked for, and a time
@@ -79,9 +79,6 @@ module _ {F : Type 0} (objects : F → Objects) (faulty : F → ObjectId → Typ
 
   pub explores_low : (explored : Counting F) → Explores objects faulty low explored → Explores objects faulty (lowered objects faulty old r) explored
   explores_low explored e = subst (λ c. Explores objects faulty c explored) low_is e
-
-  pub fault_low : (e : Error) → IsExploringFault objects faulty low e → IsTakingFault objects faulty old r e
-  fault_low e f = exploring (subst (λ c. IsExploringFault objects faulty c e) low_is f)
 
   module _ (explored : Counting F) (e : Explores objects faulty low explored) (rests : IsRested explored.reader.in_use explored.depth explored.frontier.queue) where
     pub takes_one : (added : List Ready) (new : Walk F) → ReleasesAll objects faulty (with_counting objects faulty old explored) ids added new → TakesOne objects faulty old r added new
