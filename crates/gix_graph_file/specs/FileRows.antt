@@ -9,7 +9,7 @@ use Rattle.gix_commitgraph.specs.Rows.{GraphRow}
 use Rattle.gix_commitgraph.specs.PackedReading.{word_at, words_of, is_above}
 use Rattle.gix_graph_file.specs.declared.error.Error.{Error}
 use Rattle.gix_graph_file.specs.declared.error.Error.TheVariants as error
-use Rattle.gix_graph_file.specs.FileTable.{long_at, Parts, read_parts}
+use Rattle.gix_graph_file.specs.FileTable.{◌>>=◌, long_at, Parts, read_parts}
 
 -- the word where there is no parent
 abbrev pub no_parent : ℕ
