@@ -11,7 +11,7 @@ use Rattle.gix_commitgraph.specs.Rows.{GraphRow, row_of}
 use Rattle.gix_paint.specs.declared.Side.{Side}
 use Rattle.gix_paint.specs.declared.Side.TheVariants as side
 use Rattle.gix_paint.specs.declared.source.Key.{Key}
-use Rattle.gix_paint.specs.declared.source.Known.{Known}
+use Rattle.gix_paint.specs.declared.source.LookedUp.{LookedUp}
 use Rattle.gix_paint.specs.declared.Entry.{Entry}
 use Rattle.gix_paint.specs.declared.Painter.{Painter}
 use Rattle.gix_revwalk.specs.Agreeing.{IsAgreeing}
@@ -37,12 +37,12 @@ pub hidden-empty : (marks : AllMarks) → marks ≡ map_of.empty → hidden_of m
 hidden-empty marks e = set.same_set id_total id_apart _ _ (λ i. contains-hidden marks i ∙ ap (λ m. is_hidden m i) e ∙ ap hides (map_of.get-empty id_cmp i) ∙ sym (set.contains-empty id_cmp i))
 
 -- the parents that an entry brings are its commit's
-pub brought_read : {objects : Objects} {rows : List GraphRow} {i : ObjectId} {known : Known} → Knows objects rows i known → (ids : List ObjectId) → option_map (λ ids. ids.items) known.parent_ids ≡ Some ids → Reads objects i ids
+pub brought_read : {objects : Objects} {rows : List GraphRow} {i : ObjectId} {known : LookedUp} → Knows objects rows i known → (ids : List ObjectId) → option_map (λ ids. ids.items) known.parent_ids ≡ Some ids → Reads objects i ids
 brought_read (by_row r k t n) ids e = let none : None ≡ Some ids = sym (ap (option_map (λ ids. ids.items)) n) ∙ e in cc
 brought_read (by_store {ids = those} r k t m s) ids e = let same : ids ≡ those = cc in (s.0, s.1, same ∙ s.2)
 
 -- an entry without a row was read from the store
-unrowed_read : {objects : Objects} {rows : List GraphRow} {i : ObjectId} {known : Known} → Knows objects rows i known → row_of rows i ≡ None → (ids : List ObjectId) × Reads objects i ids
+unrowed_read : {objects : Objects} {rows : List GraphRow} {i : ObjectId} {known : LookedUp} → Knows objects rows i known → row_of rows i ≡ None → (ids : List ObjectId) × Reads objects i ids
 unrowed_read (by_row {row = row} r k t n) e = let none : None ≡ Some row = sym e ∙ r in cc
 unrowed_read (by_store {ids = ids} r k t m s) e = (ids, s)
 

@@ -19,7 +19,7 @@ use gix_object::decode;
 use gix_object::find::{Find, existing_iter};
 use gix_revwalk::queue::PriorityQueue;
 use gix_revwalk::{ParentIds, Pending};
-use source::{Generation, Key, Known, Source};
+use source::{Generation, Key, LookedUp, Source};
 use std::alloc::{AllocError, Global};
 use std::collections::VecDeque;
 use std::marker::Model;
@@ -142,7 +142,7 @@ impl<'a, F: Find> Painter<'a, F> {
         ensures ok { IfOk result (λ _. Queues F.objects self.old id side self.new) }
         ensures fault { IfErr result (FailsAmong (F.objects self.old.source.objects.now) (F.faulty self.old.source.objects.now) (rows_in (graph_in_use self.old.source)) (id ∷ [])) }
     {
-        let Known { key, parent_ids } = self.source.look_up(&id)?;
+        let LookedUp { key, parent_ids } = self.source.look_up(&id)?;
         self.queue.insert(
             key,
             Entry {

@@ -30,7 +30,7 @@ pub(super) struct Key {
 
 /// What is known of a commit before it is queued: its key, and where the store was asked for it, its parents.
 #[derive(Drop)]
-pub(super) struct Known {
+pub(super) struct LookedUp {
     pub(super) key: Key,
     pub(super) parent_ids: Option<ParentIds>,
 }
@@ -80,7 +80,7 @@ impl<'a, F: Find> Source<'a, F> {
     }
 
     /// What is known of a commit by its row, whose places are left alone, or else by the store.
-    pub(super) fn look_up(&mut self, id: &ObjectId) -> Result<Known, Hidden>
+    pub(super) fn look_up(&mut self, id: &ObjectId) -> Result<LookedUp, Hidden>
         ensures objects { self.new.objects ≡ self.old.objects }
         ensures graph { graph_in_use self.new ≡ graph_in_use self.old }
         ensures known { IfOk result (Knows (F.objects self.old.objects.now) (rows_in (graph_in_use self.old)) id.now) }
@@ -93,7 +93,7 @@ impl<'a, F: Find> Source<'a, F> {
                 generation: Generation::Told(commit.generation()),
                 time: commit.committer_timestamp(),
             };
-            return Ok(Known {
+            return Ok(LookedUp {
                 key,
                 parent_ids: None,
             });
@@ -103,7 +103,7 @@ impl<'a, F: Find> Source<'a, F> {
             generation: Generation::Infinite,
             time,
         };
-        Ok(Known {
+        Ok(LookedUp {
             key,
             parent_ids: Some(parent_ids),
         })

@@ -103,10 +103,7 @@ impl<F: Find + Drop> Counting<F> {
 
     /// A side starts from these.
     fn meet_all(&mut self, mut ids: &[ObjectId], side: Side) -> Result<(), AllocError>
-        ensures reader { self.new.reader ≡ self.old.reader }
-        ensures parents { self.new.parents ≡ self.old.parents }
-        ensures depth { self.new.depth ≡ self.old.depth }
-        ensures expanded { self.new.expanded ≡ self.old.expanded }
+        ensures same { self.new ≡ record self.old { frontier = self.new.frontier } }
         ensures meets { OnOk result (MeetsAll (rows_of self.old.reader.graph) side self.old.frontier ids.entry.now self.new.frontier) }
     {
         while let Some((id, rest)) = ids.split_first() {
@@ -146,10 +143,7 @@ impl<F: Find + Drop> Counting<F> {
 
     /// The parents of the commit that was read last, and whose parents a side goes to, are met.
     fn follow(&mut self, mut ids: &[ObjectId], side: Side) -> Result<(), AllocError>
-        ensures reader { self.new.reader ≡ self.old.reader }
-        ensures parents { self.new.parents ≡ self.old.parents }
-        ensures depth { self.new.depth ≡ self.old.depth }
-        ensures expanded { self.new.expanded ≡ self.old.expanded }
+        ensures same { self.new ≡ record self.old { frontier = self.new.frontier } }
         ensures follows { OnOk result (Follows (rows_of self.old.reader.graph) side self.old.frontier ids.entry.now self.new.frontier) }
     {
         let mut near = self.reader.near;
@@ -164,9 +158,7 @@ impl<F: Find + Drop> Counting<F> {
 
     /// The parents of a commit that a side goes to, each at its last place. `near` is where to look first for its row.
     fn read(&mut self, id: &ObjectId, side: Side, near: u32) -> Result<ParentIds, Error>
-        ensures same { IsSamePlan F.objects F.faulty self.old self.new }
-        ensures frontier { self.new.frontier ≡ self.old.frontier }
-        ensures expanded { self.new.expanded ≡ self.old.expanded }
+        ensures same { self.new ≡ record self.old { reader = record self.old.reader { in_use = self.new.reader.in_use } } }
         ensures reads { IfOk result (λ ids. ReadsParents F.objects F.faulty self.old id.now side ids.items self.new.reader.in_use) }
         ensures fault { IfErr result (ReadFails (F.objects self.old.reader.find) (F.faulty self.old.reader.find) (rows_of self.old.reader.graph) self.old.reader.in_use id.now) }
     {
@@ -184,13 +176,7 @@ impl<F: Find + Drop> Counting<F> {
     ///
     /// Why it can't be read.
     pub(super) fn look_up_parent(&mut self, id: &ObjectId) -> Result<(), Error>
-        ensures store { self.new.reader.find ≡ self.old.reader.find }
-        ensures graph { self.new.reader.graph ≡ self.old.reader.graph }
-        ensures in_use { self.new.reader.in_use ≡ self.old.reader.in_use }
-        ensures parents { self.new.parents ≡ self.old.parents }
-        ensures frontier { self.new.frontier ≡ self.old.frontier }
-        ensures depth { self.new.depth ≡ self.old.depth }
-        ensures expanded { self.new.expanded ≡ self.old.expanded }
+        ensures same { self.new ≡ self.old }
         ensures known { OnOk result (LooksUpParent (F.objects self.old.reader.find) (rows_of self.old.reader.graph) self.old.reader.in_use self.old.frontier id.now) }
         ensures fault { IfErr result (LookUpFails (F.objects self.old.reader.find) (F.faulty self.old.reader.find) (rows_of self.old.reader.graph) self.old.reader.in_use id.now) }
     {

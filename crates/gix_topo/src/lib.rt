@@ -149,11 +149,7 @@ impl<F: Find + Drop, P: Predicate + Drop> Topo<F, P> {
     pub fn graph(&self) -> Option<&Graph>
         ensures { rows_in result ≡ if self.now.counted.in_use then self.now.plan.rows else [] }
     {
-        let reader = &self.walk.counting.reader;
-        if !reader.in_use {
-            return None;
-        }
-        reader.graph.as_ref()
+        self.walk.counting.reader.graph()
     }
 
     /// The number of different commits whose parents were read to count indegrees, from their rows or from the store.

@@ -1,8 +1,10 @@
 //! Reads commits by their rows, or else from the store.
-ghost use Rattle.std.specs.Prelude.{◌≡◌, IfOk, IfErr, OnOk, true};
+ghost use Rattle.std.specs.Prelude.{◌≡◌, [], IfOk, IfErr, OnOk, true, if◌then◌else◌};
 ghost use Rattle.gix_topo.specs.Depth.{known_generation};
 ghost use Rattle.gix_topo.specs.Walk.{IsKnown};
+ghost use Rattle.gix_revwalk.specs.Agreeing.{rows_in};
 ghost use Rattle.gix_revwalk.specs.Reading.{rows_of};
+ghost use Rattle.gix_topo.specs.Inside.Reader.{reader_by};
 ghost use Rattle.gix_topo.specs.Reading.{Reads, ReadsText, LookUpFails};
 
 use super::Error;
@@ -14,6 +16,7 @@ use gix_revwalk::Info;
 use gix_revwalk::read::{Header, find_header};
 use gix_revwalk::row::{NOWHERE, Near, find_row, read_row};
 use std::alloc::Global;
+use std::marker::Model;
 
 /// What commits are read from.
 #[derive(Drop)]
@@ -28,11 +31,17 @@ pub(super) struct Reader<F> {
     pub(super) alloc: Global,
 }
 
+impl<F> Model for Reader<F> {
+    ghost use Rattle.gix_topo.specs.Inside.Reader as model;
+
+    ghost Value = { model.Reader F };
+
+    ghost view = { λ r. model.reader_by r.find r.graph r.in_use };
+}
+
 impl<F: Find + Drop> Reader<F> {
     pub(super) fn new(alloc: Global, find: F, graph: Option<Graph>) -> Reader<F>
-        ensures find { result.find ≡ find }
-        ensures graph { result.graph ≡ graph }
-        ensures in_use { result.in_use ≡ true }
+        ensures { result ≡ reader_by find graph true }
     {
         Reader {
             find,
@@ -42,6 +51,16 @@ impl<F: Find + Drop> Reader<F> {
             text: Vec::new(alloc),
             alloc,
         }
+    }
+
+    /// The commit-graph, as long as its rows are in use.
+    pub(super) fn graph(&self) -> Option<&Graph>
+        ensures { rows_in result ≡ if self.now.in_use then rows_of self.now.graph else [] }
+    {
+        if !self.in_use {
+            return None;
+        }
+        self.graph.as_ref()
     }
 
     /// The generation that a row says, and infinity where there is none. `near` is where to look first for the row.
@@ -59,9 +78,7 @@ impl<F: Find + Drop> Reader<F> {
 
     /// The commit as its text says it. A text that ends before a committer has time 0.
     fn read_text(&mut self, id: &ObjectId) -> Result<Info, Error>
-        ensures store { self.new.find ≡ self.old.find }
-        ensures graph { self.new.graph ≡ self.old.graph }
-        ensures in_use { self.new.in_use ≡ self.old.in_use }
+        ensures same { self.new ≡ self.old }
         ensures reads { ReadsText (F.objects self.old.find) (F.faulty self.old.find) id.now result }
     {
         let Header { parent_ids, time } = find_header(self.alloc, &self.find, id, &mut self.text)?;
@@ -85,8 +102,7 @@ impl<F: Find + Drop> Reader<F> {
     ///
     /// Why it can't be read.
     pub(super) fn read(&mut self, id: &ObjectId, near: u32) -> Result<Info, Error>
-        ensures store { self.new.find ≡ self.old.find }
-        ensures graph { self.new.graph ≡ self.old.graph }
+        ensures same { self.new ≡ record self.old { in_use = self.new.in_use } }
         ensures reads { Reads (F.objects self.old.find) (F.faulty self.old.find) (rows_of self.old.graph) self.old.in_use id.now result self.new.in_use }
     {
         self.near = Near::nowhere();
@@ -113,9 +129,7 @@ impl<F: Find + Drop> Reader<F> {
     ///
     /// Why it can't be read.
     pub(super) fn look_up(&mut self, id: &ObjectId) -> Result<(), Error>
-        ensures store { self.new.find ≡ self.old.find }
-        ensures graph { self.new.graph ≡ self.old.graph }
-        ensures in_use { self.new.in_use ≡ self.old.in_use }
+        ensures same { self.new ≡ self.old }
         ensures known { OnOk result (IsKnown (F.objects self.old.find) (rows_of self.old.graph) self.old.in_use id.now) }
         ensures fault { IfErr result (LookUpFails (F.objects self.old.find) (F.faulty self.old.find) (rows_of self.old.graph) self.old.in_use id.now) }
     {

@@ -20,7 +20,7 @@ use Rattle.gix_paint.specs.declared.Side.TheVariants as side
 use Rattle.gix_paint.specs.declared.source.Generation.{Generation}
 use Rattle.gix_paint.specs.declared.source.Generation.TheVariants.{Told, Infinite}
 use Rattle.gix_paint.specs.declared.source.Key.{Key}
-use Rattle.gix_paint.specs.declared.source.Known.{Known}
+use Rattle.gix_paint.specs.declared.source.LookedUp.{LookedUp}
 use Rattle.gix_paint.specs.declared.source.Source.{Source}
 use Rattle.gix_paint.specs.declared.Entry.{Entry}
 use Rattle.gix_paint.specs.declared.Painter.{Painter}
@@ -92,9 +92,9 @@ pub data ReadsParents (objects : Objects) (old : Option (Bor (List GraphRow))) (
   drops : {row : GraphRow} → row_of (rows_in old) i ≡ Some row → ids_at (rows_in old) row.parents ≡ None → Reads objects i ids → ReadsParents objects old i ids None
 
 -- an id with a row is queued by the row's generation and time, one without by the store's time alone, and with the parents that the store says
-pub data Knows (objects : Objects) (rows : List GraphRow) (i : ObjectId) : Known → Type 0 where
-  by_row : {row : GraphRow} {known : Known} → row_of rows i ≡ Some row → known.key.generation ≡ Told row.generation → known.key.time ≡ row.time → known.parent_ids ≡ None → Knows objects rows i known
-  by_store : {known : Known} {ids : List ObjectId} → row_of rows i ≡ None → known.key.generation ≡ Infinite → known.key.time ≡ time_of objects i → option_map (λ ids. ids.items) known.parent_ids ≡ Some ids → Reads objects i ids → Knows objects rows i known
+pub data Knows (objects : Objects) (rows : List GraphRow) (i : ObjectId) : LookedUp → Type 0 where
+  by_row : {row : GraphRow} {known : LookedUp} → row_of rows i ≡ Some row → known.key.generation ≡ Told row.generation → known.key.time ≡ row.time → known.parent_ids ≡ None → Knows objects rows i known
+  by_store : {known : LookedUp} {ids : List ObjectId} → row_of rows i ≡ None → known.key.generation ≡ Infinite → known.key.time ≡ time_of objects i → option_map (λ ids. ids.items) known.parent_ids ≡ Some ids → Reads objects i ids → Knows objects rows i known
 
 -- an entry of the queue is as the id was known when it was put there
 abbrev pub IsQueued : Objects → List GraphRow → Key × Entry → Type 0

@@ -85,27 +85,28 @@ module _ {F : Type 0} (objects : F → Objects) (faulty : F → ObjectId → Typ
 
   -- what a side meets, and what that leaves
   pub record HasMet (side : Side) (ids : List ObjectId) (old new : Counting F) : Type 0 where
-    pub reader : new.reader ≡ old.reader
-    pub parents : new.parents ≡ old.parents
-    pub depth : new.depth ≡ old.depth
-    pub expanded : new.expanded ≡ old.expanded
+    pub same : new ≡ record old { frontier = new.frontier }
     pub meets : MeetsAll (rows_of old.reader.graph) side old.frontier ids new.frontier
 
   -- with the depth of these
   abbrev pub lower_by : Counting F → List ObjectId → Counting F
   lower_by c ids = record c { depth = least (rows_of c.reader.graph) c.depth ids }
 
+  -- what both sides meet changes nothing else
+  both_same : {tips ends : List ObjectId} {old first second : Counting F} → HasMet Tips tips old first → HasMet Ends ends first second → second ≡ record old { frontier = second.frontier }
+  both_same {second = second} a b = b.same ∙ (λ k. record (a.same k) { frontier = second.frontier })
+
   pub both_met : (tips ends : List ObjectId) (old first second : Counting F) → old.reader.in_use ≡ true → old.depth ≡ infinity → old.expanded ≡ 0 → old.frontier.queue ≡ [] → old.frontier.known ≡ map.empty → HasMet Tips tips old first → HasMet Ends ends first second → IsMet tips ends (lower_by (lower_by second ends) tips)
   both_met tips ends old first second stands depth expanded queue known a b = record {
-    stands = ap (λ r. r.in_use) (b.reader ∙ a.reader) ∙ stands;
-    depth = least-append (rows_of second.reader.graph) second.depth tips ends ∙ ap (λ d. least (rows_of second.reader.graph) d (tips ++ ends)) (b.depth ∙ a.depth ∙ depth);
-    expanded = b.expanded ∙ a.expanded ∙ expanded;
-    fresh = subst (λ r. IsFresh (objects r.find) (rows_of r.graph) second.parents tips ends second.frontier) (sym (b.reader ∙ a.reader)) (subst (λ m. IsFresh (objects old.reader.find) (rows_of old.reader.graph) m tips ends second.frontier) (sym (b.parents ∙ a.parents)) fresh);
+    stands = ap (λ c. c.reader.in_use) (both_same a b) ∙ stands;
+    depth = least-append (rows_of second.reader.graph) second.depth tips ends ∙ ap (λ d. least (rows_of second.reader.graph) d (tips ++ ends)) (ap (λ c. c.depth) (both_same a b) ∙ depth);
+    expanded = ap (λ c. c.expanded) (both_same a b) ∙ expanded;
+    fresh = subst (λ c. IsFresh (objects c.reader.find) (rows_of c.reader.graph) c.parents tips ends second.frontier) (sym (both_same a b)) fresh;
     begun = begun;
   }
     where
       more : MeetsAll (rows_of old.reader.graph) Ends first.frontier ends second.frontier
-      more = subst (λ r. MeetsAll (rows_of r.graph) Ends first.frontier ends second.frontier) a.reader b.meets
+      more = subst (λ r. MeetsAll (rows_of r.graph) Ends first.frontier ends second.frontier) (ap (λ c. c.reader) a.same) b.meets
 
       fresh : IsFresh (objects old.reader.find) (rows_of old.reader.graph) old.parents tips ends second.frontier
       fresh =
@@ -192,7 +193,7 @@ module _ {F : Type 0} (objects : F → Objects) (faulty : F → ObjectId → Typ
   module _ (tips ends : List ObjectId) (old first second once low : Counting F) (stands : old.reader.in_use ≡ true) (depth : old.depth ≡ infinity) (expanded : old.expanded ≡ 0) (queue : old.frontier.queue ≡ []) (known : old.frontier.known ≡ map.empty)
       (a : HasMet Tips tips old first) (b : HasMet Ends ends first second) (c : once ≡ lower_by second ends) (d : low ≡ lower_by once tips) (sorting : Sorting) where
     plans : plan_by low sorting tips ends ≡ plan_by old sorting tips ends
-    plans = ap (λ x. plan_by x sorting tips ends) d ∙ ap (λ x. plan_by x sorting tips ends) c ∙ ap (λ r. record { store = r.find; rows = rows_of r.graph; parents = second.parents; sorting = sorting; tips = tips; ends = ends }) (b.reader ∙ a.reader) ∙ ap (λ m. record { store = old.reader.find; rows = rows_of old.reader.graph; parents = m; sorting = sorting; tips = tips; ends = ends }) (b.parents ∙ a.parents)
+    plans = ap (λ x. plan_by x sorting tips ends) (d ∙ ap (λ x. lower_by x tips) (c ∙ ap (λ x. lower_by x ends) (both_same a b)))
 
     start_met : IsMet tips ends low
     start_met = subst (λ x. IsMet tips ends x) (sym (d ∙ ap (λ x. lower_by x tips) c)) (both_met tips ends old first second stands depth expanded queue known a b)

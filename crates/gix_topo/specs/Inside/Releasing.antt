@@ -11,7 +11,7 @@ use Rattle.gix_topo.specs.declared.Error.{Error}
 use Rattle.gix_topo.specs.declared.Error.TheVariants as error
 use Rattle.gix_frontier.specs.declared.Frontier.{Frontier}
 use Rattle.gix_revwalk.specs.declared.Parents.{Parents}
-use Rattle.gix_topo.specs.declared.reader.Reader.{Reader}
+use Rattle.gix_topo.specs.Inside.Reader.{Reader}
 use Rattle.gix_topo.specs.declared.counting.Counting.{Counting}
 use Rattle.gix_topo.specs.declared.walk.Walk.{Walk}
 use Rattle.gix_topo.specs.Depth.{least}
