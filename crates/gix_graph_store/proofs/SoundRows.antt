@@ -27,7 +27,7 @@ use Rattle.gix_graph_check.proofs.SoundRows.{row_at-read}
 use Rattle.gix_graph_check.proofs.WholeCommits.{row-agrees}
 use Rattle.gix_graph_store.specs.RowText.{text_of_row, text_at}
 use Rattle.gix_graph_store.specs.WithRows.{commit_object, with_rows}
-use Rattle.gix_graph_store.specs.Laws.{commit_said, RowsTell, ToldRowsAgree, AreFrom, ToldIsStored}
+use Rattle.gix_graph_store.specs.Laws.{commit_said, RowsTell, StoredAgree, ToldRowsAgree, AreFrom, ToldIsStored}
 use Rattle.gix_graph_store.proofs.ToldObjects.{get-with_rows}
 use Rattle.gix_graph_store.proofs.Texts.{element-at, told-read}
 
@@ -125,6 +125,11 @@ module _ (rows : List GraphRow) (records store : Objects) (graph : AreGraphRows 
       let a : RowAgrees store rows row = agrees row m in
       let parents : a.whole.commit.parents ≡ ids = sym (row_parents store rows agrees row.id row ids (member-own rows graph row m) e ∙ ap parents_in a.whole.stored) in
       a.whole.stored ∙ (λ k. Some (record { tree = a.tree k; parents = parents k; time = a.time k }))
+
+  stored-agree : StoredAgree rows records
+  stored-agree row object m e =
+      let ids = sound-ids rows graph sound row m in
+      ap (commit_of_object row.id) (e ∙ sym (from row.id object e)) ∙ said-stored row m ids.0 ids.1 ∙ sym (ap (option_map (said row)) ids.1)
 
   recorded : (i : ObjectId) (object : Object) → get records i ≡ Some object → commit_at (with_rows rows records) i ≡ commit_at store i
   recorded i object e = ap (commit_of_object i) (stored-stays rows records i object e ∙ sym (from i object e))
