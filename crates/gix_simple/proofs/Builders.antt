@@ -24,7 +24,8 @@ use Rattle.gix_revwalk.specs.Asking.{AnswersBy}
 use Rattle.gix_simple.specs.Laws.{IsFresh, given_ids}
 use Rattle.gix_simple.specs.Building.{IsSortedByTime, timed, recent, outdated, IsBuilt, made, breadth_first, by_time, hides, walks, reads}
 use Rattle.gix_revwalk.proofs.NewIds.{times, among-filter, times_none, times_once}
-use Rattle.gix_simple.proofs.NeverTwice.{once_times, times-filter, IsSole, sole_all, drawn_once}
+use Rattle.gix_simple.proofs.Moves.{asking, fewer_filter}
+use Rattle.gix_simple.proofs.NeverTwice.{once_times, IsSole, asked_sole, drawn_once}
 use Rattle.gix_simple.proofs.MadeOfTips.{is_new_walk, pending_is}
 
 in_force : (m : Parents) (by : Sorting) (order : CommitTimeOrder) → time_order m by ≡ Some order → time_order mode.All by ≡ Some order
@@ -110,7 +111,7 @@ module _ {F P : Type 0} (objects : F → Objects) (faulty : F → ObjectId → T
     tested = subst (λ p. AnswersBy answers p accepts) (sym (ap (λ w. w.predicate) s.others)) b.tested;
     same_store = stored ∙ b.same_store;
     once = λ i.
-        let f : times i (ids_of (recent limit (timed found old.pending))) ≤ times i (ids_of (timed found old.pending)) = times-filter (λ p. not (is_older p.time limit)) (timed found old.pending) i in
+        let f : times i (ids_of (recent limit (timed found old.pending))) ≤ times i (ids_of (timed found old.pending)) = (fewer_filter (λ p. not (is_older p.time limit)) (timed found old.pending)).as_often i in
         let t : times i (ids_of (timed found old.pending)) ≡ times i (ids_of old.pending) = ap (times i) (timed_ids found limit old.pending) in
         let n : times i (ids_of new.pending) ≡ times i (ids_of (recent limit (timed found old.pending))) = ap (λ ps. times i (ids_of ps)) s.pending in
         let o : times i (ids_of old.pending) ≤ 1 = b.once i in
@@ -197,7 +198,7 @@ module _ {F P : Type 0} (objects : F → Objects) (faulty : F → ObjectId → T
           let none : times j (ids_of new.pending) ≡ 0 = ap (λ ps. times j (ids_of ps)) s.pending ∙ times_none j (ids_of (recent limit (timed found old.pending))) (recent_among found limit old.pending j ∙ ap (λ o. not o && is_among j (ids_of old.pending)) e) in
           omega arith
       go j false e =
-          let f : times j (ids_of (recent limit (timed found old.pending))) ≤ times j (ids_of (timed found old.pending)) = times-filter (λ p. not (is_older p.time limit)) (timed found old.pending) j in
+          let f : times j (ids_of (recent limit (timed found old.pending))) ≤ times j (ids_of (timed found old.pending)) = (fewer_filter (λ p. not (is_older p.time limit)) (timed found old.pending)).as_often j in
           let t : times j (ids_of (timed found old.pending)) ≡ times j (ids_of old.pending) = ap (times j) (timed_ids found limit old.pending) in
           let n : times j (ids_of new.pending) ≡ times j (ids_of (recent limit (timed found old.pending))) = ap (λ ps. times j (ids_of ps)) s.pending in
           let k : times j (ids_of old.pending) + 0 ≤ cond (set.contains old.seen j) 1 0 = sole j in
@@ -205,7 +206,7 @@ module _ {F P : Type 0} (objects : F → Objects) (faulty : F → ObjectId → T
           subst (λ b. times j (ids_of new.pending) + 0 ≤ cond b 1 0) (sym seen) (omega arith)
 
   built_sole : {store : F} {predicate : P} {tips : List ObjectId} {walk : SimpleWalk F P} → IsBuilt objects faulty answers store predicate tips walk → IsSole objects faulty answers [] walk
-  built_sole (made m) = sole_all objects faulty answers [] false m (λ j. omega arith)
+  built_sole (made m) = asked_sole objects faulty answers [] (asking objects faulty answers {Named = λ i. Unit {0}} (λ i c. tt) m) (λ j. omega arith)
   built_sole (breadth_first b) = built_sole b
   built_sole (by_time {walk = walk} {new = new} {by = sorting} b s) = sorted_sole walk new sorting (built_sole b) s
   built_sole (hides b) = built_sole b

@@ -1,12 +1,10 @@
 -- The generations that a walk gives are the generations of its rows, up to where a corrupt row drops the rows.
-use Rattle.std.specs.Prelude.{◌≡◌, ◌⊎◌, ℕ, ℤ, suc, List, [], ◌∷◌, ◌++◌, filter, length, Bool, true, false, not, cond, Option, Some, None, Result, Ok, Err, All, Contains}
+use Rattle.std.specs.Prelude.{◌≡◌, ◌⊎◌, ℕ, ℤ, List, [], ◌∷◌, Bool, true, false, not, Option, Some, None, Result, Ok, Err, All, Contains}
 use Rattle.std.specs.Option.{option_map}
-use Rattle.std.proofs.Common.{refl, sym, ap, subst, inl, inr, ⊎_elim, ◌∙◌, arith}
+use Rattle.std.proofs.Common.{refl, sym, ap, subst, inl, inr, ⊎_elim, ◌∙◌}
 use Rattle.std.proofs.Math.Path.{transport}
 use Rattle.std.proofs.lemmas.Bool.{true≢false}
-use Rattle.std.proofs.lemmas.List.{map-append}
-use Rattle.std.proofs.lemmas.List.Sorted.{length_permutation, Contains-permutation, IsPermutation-map, IsPermutation-sym}
-use Rattle.std.proofs.lemmas.List.Elements.{recursion_from_All, All-from_recursion, Contains-append_cases}
+use Rattle.std.proofs.lemmas.List.Elements.{recursion_from_All, All-from_recursion}
 use Rattle.std.specs.FinMap as map_of
 use Rattle.std.specs.FinSet as set
 use Rattle.std.specs.Iterator.{Yields}
@@ -19,42 +17,23 @@ use Rattle.gix_hash.specs.Id.{kind_of}
 use Rattle.gix_object.specs.Object.{Objects}
 use Rattle.gix_commitgraph.specs.Rows.{GraphRow, row_of}
 use Rattle.gix_revwalk.specs.declared.Info.{Info}
-use Rattle.gix_revwalk.specs.declared.CommitTimeOrder.{CommitTimeOrder}
 use Rattle.gix_simple.specs.declared.Error.{Error}
 use Rattle.gix_simple.specs.declared.Error.TheVariants as error
 use Rattle.gix_revwalk.specs.Pending.{Pending}
 use Rattle.gix_revwalk.specs.Agreeing.{IsAgreeing}
 use Rattle.gix_revwalk.specs.Commits.{ReadsWhole, by_mode}
 use Rattle.gix_hash.specs.Reach.{Reaches, start, step}
-use Rattle.gix_simple.specs.Walk.{SimpleWalk, Treated, StoreFails, Holds, time_order, unrowed, Treats, hidden, known, refused, accepted, dropped, enqueued, store_fails, no_memory, no_memory_after, TreatsAll, none, more, stops, Concludes, given, broken, Takes, by_row, by_store, not_found, Chooses, first, best, Steps, took, painted, FirstStep, unhidden, paints, faulty_history, Next, initial, later}
+use Rattle.gix_simple.specs.Walk.{SimpleWalk, Treated, StoreFails, unrowed, dropped, store_fails, no_memory, TreatsAll, more, Concludes, given, broken, Takes, by_row, by_store, not_found, Chooses, Steps, took, painted, FirstStep, unhidden, paints, faulty_history, Next, initial, later}
 use Rattle.gix_revwalk.specs.Texts.{scanned, text_next, next_in}
 use Rattle.gix_revwalk.specs.RowParents.{ids_at, rows_if, kept_rows, IsUnrowed}
 use Rattle.gix_revwalk.specs.Ids.{ids_of}
 use Rattle.gix_simple.specs.Runs.{IsTold, IsUntold, IsAbout, HasCorruptRow, PaintingDrops, TellsGenerations}
-use Rattle.gix_hash.proofs.Ids.Membership.{no_member, Contains-here, Contains-there, Contains-cons_cases}
+use Rattle.gix_hash.proofs.Ids.Membership.{Contains-here, Contains-there, Contains-cons_cases}
 use Rattle.gix_paint.proofs.Invariant.{own_history}
 use Rattle.gix_revwalk.proofs.ReadsWhole.{row_stands, row_parents, corrupt_row}
 use Rattle.gix_revwalk.proofs.TextParents.{text_whole}
-use Rattle.gix_simple.proofs.Ends.{scan_by}
+use Rattle.gix_simple.proofs.Moves.{scan_by, fewer_filter, fewer_within, Asking, rests, asks, asking, kept, Follows, IsGivenAs, concludes, fewer_chosen, next_moves, moves_pend}
 use Rattle.gix_revwalk.proofs.Reached.{reaches_from}
-use Rattle.gix_hash.proofs.Lists.{only_member}
-
--- one more becomes pending
-holds_more : (o : Option CommitTimeOrder) (old new : List Pending) (p : Pending) → Holds o (old ++ p ∷ []) new → (i : ObjectId) → Contains (ids_of new) i → Contains (ids_of old) i ⊎ (p.id ≡ i)
-holds_more o old new p h i m = ⊎_elim inl (λ c. inr (only_member p.id i c)) (Contains-append_cases (ids_of old) (p.id ∷ []) i (subst (λ ids. Contains ids i) (map-append (λ q. q.id) old (p ∷ [])) (go o h)))
-  where
-    go : (o : Option CommitTimeOrder) → Holds o (old ++ p ∷ []) new → Contains (ids_of (old ++ p ∷ [])) i
-    go None e = subst (λ ps. Contains (ids_of ps) i) e m
-    go (Some order) k = Contains-permutation (ids_of new) (ids_of (old ++ p ∷ [])) i (IsPermutation-sym (ids_of (old ++ p ∷ [])) (ids_of new) (IsPermutation-map (λ q. q.id) (old ++ p ∷ []) new k)) m
-
--- a part of what is pending
-filter_within : (keeps : Pending → Bool) (ps : List Pending) (i : ObjectId) → Contains (ids_of (filter keeps ps)) i → Contains (ids_of ps) i
-filter_within keeps [] i m = m
-filter_within keeps (p ∷ ps) i m = go (keeps p) (filter_within keeps ps i) m
-  where
-    go : (b : Bool) → (Contains (ids_of (filter keeps ps)) i → Contains (ids_of ps) i) → Contains (ids_of (cond b (p ∷ filter keeps ps) (filter keeps ps))) i → Contains (p.id ∷ ids_of ps) i
-    go true r m = ⊎_elim (λ e. subst (λ x. Contains (x ∷ ids_of ps) i) (sym e) (Contains-here i (ids_of ps))) (λ n. Contains-there i p.id (ids_of ps) (r n)) (Contains-cons_cases i p.id (ids_of (filter keeps ps)) m)
-    go false r m = Contains-there i p.id (ids_of ps) (r m)
 
 module _ {F P : Type 0} (objects : F → Objects) (faulty : F → ObjectId → Type 0) (answers : P → ObjectId → Bool → P → Type 0) where
   -- the parents that are walked, as texts name them
@@ -69,50 +48,21 @@ module _ {F P : Type 0} (objects : F → Objects) (faulty : F → ObjectId → T
     begun : v.begun ≡ w.begun
     pending : (i : ObjectId) → Contains (ids_of v.pending) i → Contains (ids_of w.pending) i ⊎ Named i
 
-  grows_then : {Named : ObjectId → Type 0} {w v u : SimpleWalk F P} → Grows Named w v → Grows Named v u → Grows Named w u
-  grows_then a b = record { store = b.store ∙ a.store; rows = b.rows ∙ a.rows; parents = b.parents ∙ a.parents; begun = b.begun ∙ a.begun; pending = λ i m. ⊎_elim (a.pending i) inr (b.pending i m) }
+  asked_pending : {Named : ObjectId → Type 0} {how : Treated} {w v : SimpleWalk F P} → Asking objects faulty answers Named w how v → (i : ObjectId) → Contains (ids_of v.pending) i → Contains (ids_of w.pending) i ⊎ Named i
+  asked_pending (rests f) i m = inl m
+  asked_pending {Named} {w = w} (asks {p = p} n is_new a f rest) i m = ⊎_elim (λ k. ⊎_elim (λ e. inr (subst Named e n)) inl (Contains-cons_cases i p.id (ids_of w.pending) (fewer_within f i k))) inr (asked_pending rest i m)
 
-  none_pends : (Named : ObjectId → Type 0) (ps old : List Pending) → ps ≡ [] → (i : ObjectId) → Contains (ids_of ps) i → Contains (ids_of old) i ⊎ Named i
-  none_pends Named ps old e i m = absurd (no_member i (subst (λ qs. Contains (ids_of qs) i) e m))
-
-  one_grows : (Named : ObjectId → Type 0) (w : SimpleWalk F P) (row : Bool) (i : ObjectId) {how : Treated} {v : SimpleWalk F P} → Named i → Treats objects faulty answers w row i how v → Grows Named w v
-  one_grows Named w row i n (hidden e) = record { store = refl; rows = refl; parents = refl; begun = refl; pending = λ j m. inl m }
-  one_grows Named w row i n (known e) = record { store = refl; rows = refl; parents = refl; begun = refl; pending = λ j m. inl m }
-  one_grows Named w row i n (refused is_new b) = record { store = refl; rows = refl; parents = refl; begun = refl; pending = λ j m. inl m }
-  one_grows Named w row i n (accepted is_new b time (dropped e)) = record { store = refl; rows = refl; parents = refl; begun = refl; pending = λ j m. inl m }
-  one_grows Named w row i n (accepted {time = at} is_new b time (enqueued {new = new} e holds)) = record {
-    store = refl;
-    rows = refl;
-    parents = refl;
-    begun = refl;
-    pending = λ j m. ⊎_elim inl (λ s. inr (subst Named s n)) (holds_more (time_order w.parents w.sorting) w.pending new (record { id = i; time = at }) holds j m);
-  }
-  one_grows Named w row i n (store_fails is_new b time) = record { store = refl; rows = refl; parents = refl; begun = refl; pending = λ j m. inl m }
-  one_grows Named w row i n no_memory = record { store = refl; rows = refl; parents = refl; begun = refl; pending = λ j m. inl m }
-  one_grows Named w row i n (no_memory_after {pending = ps} is_new b left) = record {
-    store = refl;
-    rows = refl;
-    parents = refl;
-    begun = refl;
-    pending = λ j m. ⊎_elim (λ e. inl (subst (λ qs. Contains (ids_of qs) j) e m)) (λ e. none_pends Named ps w.pending e j m) left;
-  }
-
-  all_grow : (Named : ObjectId → Type 0) (row : Bool) {w v : SimpleWalk F P} {ids : List ObjectId} {how : Treated} → ((i : ObjectId) → Contains ids i → Named i) → TreatsAll objects faulty answers row w ids how v → Grows Named w v
-  all_grow Named row n none = record { store = refl; rows = refl; parents = refl; begun = refl; pending = λ j m. inl m }
-  all_grow Named row n (more {old = w} {i = i} {ids = ids} t ts) = grows_then (one_grows Named w row i (n i (Contains-here i ids)) t) (all_grow Named row (λ j m. n j (Contains-there j i ids m)) ts)
-  all_grow Named row n (stops {old = w} {i = i} {ids = ids} ne t) = one_grows Named w row i (n i (Contains-here i ids)) t
-
-  -- what is given has this id and this generation
-  abbrev IsGivenAs : ObjectId → Option ℕ → Result Info Error → Type 0
-  IsGivenAs i generation (Ok info) = (info.id ≡ i) × (info.generation ≡ generation)
-  IsGivenAs i generation (Err e) = Unit {0}
-
-  concluded : (i : ObjectId) (ps : List ObjectId) (generation : Option ℕ) (time : Option ℤ) (text : List ℕ) (fault : Option DecodeError) (walk : SimpleWalk F P) {how : Treated} {answer : Result Info Error} {new : SimpleWalk F P}
-      → (Named : ObjectId → Type 0) → Concludes objects faulty answers i ps generation time text fault walk how answer new → IsGivenAs i generation answer × Grows Named walk new
-  concluded i ps generation time text fault walk Named (given f is) = ((is.same_id, is.same_generation), record { store = refl; rows = refl; parents = refl; begun = refl; pending = λ j m. inl m })
-  concluded i ps generation time text fault walk Named (broken f) = (tt, record { store = refl; rows = refl; parents = refl; begun = refl; pending = λ j m. inl m })
-  concluded i ps generation time text fault walk Named store_fails = (tt, record { store = refl; rows = refl; parents = refl; begun = refl; pending = λ j m. inl m })
-  concluded i ps generation time text fault walk Named no_memory = (tt, record { store = refl; rows = refl; parents = refl; begun = refl; pending = none_pends Named [] walk.pending refl })
+  grown : {Named : ObjectId → Type 0} {how : Treated} {w v new : SimpleWalk F P} → Asking objects faulty answers Named w how v → Follows objects faulty answers v new → new.rows ≡ v.rows → Grows Named w new
+  grown asked f rows =
+      let e = f.same in
+      let k = kept objects faulty answers asked in
+      record {
+        store = ap (λ x. x.store) e ∙ ap (λ x. x.store) k;
+        rows = rows ∙ ap (λ x. x.rows) k;
+        parents = ap (λ x. x.parents) e ∙ ap (λ x. x.parents) k;
+        begun = ap (λ x. x.begun) e ∙ ap (λ x. x.begun) k;
+        pending = λ i m. asked_pending asked i (fewer_within f.fewer i m);
+      }
 
   told_as : (rows : List GraphRow) (i : ObjectId) (generation : Option ℕ) (answer : Result Info Error) → option_map (λ row. row.generation) (row_of rows i) ≡ generation → IsGivenAs i generation answer → IsTold rows answer
   told_as rows i generation (Ok info) e g = g.1 ∙ sym e ∙ ap (λ j. option_map (λ row. row.generation) (row_of rows j)) (sym g.0)
@@ -135,21 +85,9 @@ module _ {F P : Type 0} (objects : F → Objects) (faulty : F → ObjectId → T
   failed_untold (Err e) f = tt
 
   -- the store failed at a parent
-  store_failed_at : (w : SimpleWalk F P) (row : Bool) (i : ObjectId) {how : Treated} {v : SimpleWalk F P} → Treats objects faulty answers w row i how v → how ≡ StoreFails → faulty w.store i
-  store_failed_at w row i (hidden e) f = cc
-  store_failed_at w row i (known e) f = cc
-  store_failed_at w row i (refused is_new b) f = cc
-  store_failed_at w row i (accepted is_new b time queues) f = cc
-  store_failed_at w row i (store_fails is_new b (store_fails o from_store failed)) f = failed
-  store_failed_at w row i no_memory f = cc
-  store_failed_at w row i (no_memory_after is_new b left) f = cc
-
-  store_failed : (row : Bool) {w v : SimpleWalk F P} {ids : List ObjectId} {how : Treated} → TreatsAll objects faulty answers row w ids how v → how ≡ StoreFails → (p : ObjectId) × Contains ids p × faulty w.store p
-  store_failed row none f = cc
-  store_failed row (more {old = w} {i = i} {ids = ids} t ts) f =
-      let k = store_failed row ts f in
-      (k.0, Contains-there k.0 i ids k.1, subst (λ s. faulty s k.0) (one_grows (λ j. Unit {0}) w row i tt t).store k.2)
-  store_failed row (stops {old = w} {i = i} {ids = ids} ne t) f = (i, Contains-here i ids, store_failed_at w row i t f)
+  store_failed : {Named : ObjectId → Type 0} {w v : SimpleWalk F P} → Asking objects faulty answers Named w StoreFails v → (i : ObjectId) × Named i × faulty w.store i
+  store_failed (rests f) = f refl
+  store_failed (asks n is_new a f rest) = store_failed rest
 
   -- what is pending afterwards is reached
   record Descends (w new : SimpleWalk F P) : Type 0 where
@@ -181,11 +119,7 @@ module _ {F P : Type 0} (objects : F → Objects) (faulty : F → ObjectId → T
 
   module _ (w : SimpleWalk F P) (p : Pending) (others : List Pending) (chooses : Chooses objects faulty answers w p others) (is_begun : w.begun ≡ true) where
     chosen : (i : ObjectId) → Contains (p.id ∷ ids_of others) i → Contains (ids_of w.pending) i
-    chosen i m = go chooses
-      where
-        go : Chooses objects faulty answers w p others → Contains (ids_of w.pending) i
-        go (first t e) = subst (λ ps. Contains (ids_of ps) i) (sym e) m
-        go (best t perm no_worse) = Contains-permutation (p.id ∷ ids_of others) (ids_of w.pending) i (IsPermutation-sym (ids_of w.pending) (p.id ∷ ids_of others) (IsPermutation-map (λ q. q.id) w.pending (p ∷ others) perm)) m
+    chosen = fewer_within (fewer_chosen objects faulty answers w p others chooses)
 
     descends : {new : SimpleWalk F P} (v : SimpleWalk F P) → v.parents ≡ w.parents → v.begun ≡ w.begun → v.pending ≡ others → Grows (Reached w) v new → Descends w new
     descends v parents begun pending g = record {
@@ -214,25 +148,26 @@ module _ {F P : Type 0} (objects : F → Objects) (faulty : F → ObjectId → T
     concluded_after : (bytes : List ℕ) → map_of.get (objects w.store) p.id ≡ Some (record { kind = object.Commit; bytes = bytes }) → {how : Treated} {walk new : SimpleWalk F P} {generation : Option ℕ} {time : Option ℤ} {fault : Option DecodeError} {answer : Result Info Error}
         → TreatsAll objects faulty answers false (unrowed (record w { pending = others }) p.id) (scanned w.parents (commit_items (kind_of p.id) bytes)).0 how walk
         → Concludes objects faulty answers p.id (scanned w.parents (commit_items (kind_of p.id) bytes)).0 generation time bytes fault walk how answer new → Grows (Reached w) (unrowed (record w { pending = others }) p.id) new
-    concluded_after bytes e {walk = walk} treats concludes =
-        grows_then (all_grow (Reached w) false (λ i m. reached_next i (subst (λ ids. Contains ids i) (named_by_text bytes e) m)) treats) (concluded p.id _ _ _ _ _ walk (Reached w) concludes).1
+    concluded_after bytes e treats c =
+        let k = concludes objects faulty answers c in
+        grown (asking objects faulty answers (λ i m. reached_next i (subst (λ ids. Contains ids i) (named_by_text bytes e) m)) treats) k.0 k.1
 
     takes_tells : {answer : Result Info Error} {new : SimpleWalk F P} → Takes objects faulty answers (record w { pending = others }) p answer new → Tells w answer new
-    takes_tells {answer} (by_row {row = row} {ids = ids} {walk = walk} r e treats concludes) =
-        let c = concluded p.id _ _ _ _ _ walk (Reached w) concludes in
-        let g = grows_then (all_grow (Reached w) true named treats) c.1 in
-        keeps g.store g.rows (descends (record w { pending = others }) refl refl refl g) (told_as w.rows p.id (Some row.generation) answer (ap (option_map (λ row. row.generation)) r) c.0)
+    takes_tells {answer} (by_row {row = row} {ids = ids} r e treats c) =
+        let k = concludes objects faulty answers c in
+        let g = grown (asking objects faulty answers named treats) k.0 k.1 in
+        keeps g.store g.rows (descends (record w { pending = others }) refl refl refl g) (told_as w.rows p.id (Some row.generation) answer (ap (option_map (λ row. row.generation)) r) k.2)
       where
         named : (i : ObjectId) → Contains (by_mode w.parents ids) i → Reached w i
         named i m agrees =
             let k : Contains w.rows row × (p.id ≡ row.id) = row_stands w.rows p.id row r in
             let whole : ReadsWhole (objects w.store) p.id = subst (ReadsWhole (objects w.store)) (sym k.1) (agrees row k.0).whole in
             reached_next i (subst (λ those. Contains (by_mode w.parents those) i) (row_parents (objects w.store) w.rows agrees p.id row ids r e ∙ text_whole (objects w.store) p.id whole) m) agrees
-    takes_tells (by_store {bytes = bytes} {walk = walk} u e treats (given {info = info} f is)) = unrowed_tells (Ok info) u (is.same_id, is.same_generation) is.same_id (concluded_after bytes e treats (given f is))
-    takes_tells (by_store {bytes = bytes} {walk = walk} u e treats (broken {e = x} f)) = unrowed_tells (Err (error.ObjectDecode x)) u tt (bytes, e, f) (concluded_after bytes e {generation = None} {time = None} treats (broken f))
-    takes_tells (by_store {bytes = bytes} {walk = walk} u e treats store_fails) =
-        let k = store_failed false treats refl in
-        unrowed_tells (Err (error.Find existing.Store)) u tt (inr (refl, k.0, subst (λ ids. Contains ids k.0) (named_by_text bytes e) k.1, k.2)) (concluded_after bytes e {generation = None} {time = None} {fault = None} treats store_fails)
+    takes_tells (by_store {bytes = bytes} u e treats (given {info = info} f is)) = unrowed_tells (Ok info) u (is.same_id, is.same_generation) is.same_id (concluded_after bytes e treats (given f is))
+    takes_tells (by_store {bytes = bytes} u e treats (broken {e = x} f)) = unrowed_tells (Err (error.ObjectDecode x)) u tt (bytes, e, f) (concluded_after bytes e {generation = None} {time = None} treats (broken f))
+    takes_tells (by_store {bytes = bytes} u e treats store_fails) =
+        let k = store_failed (asking objects faulty answers {Named = Contains (text_walked w p.id)} (λ i m. subst (λ ids. Contains ids i) (named_by_text bytes e) m) treats) in
+        unrowed_tells (Err (error.Find existing.Store)) u tt (inr (refl, k.0, k.1, k.2)) (concluded_after bytes e {generation = None} {time = None} {fault = None} treats store_fails)
     takes_tells (by_store u e treats no_memory) = ends refl tt
     takes_tells (not_found {e = x} u fault) = unrowed_tells (Err (error.Find x)) u tt (inl fault) (record { store = refl; rows = refl; parents = refl; begun = refl; pending = λ j m. inl m })
     takes_tells (no_memory left) = ends refl tt
@@ -262,25 +197,6 @@ module _ {F P : Type 0} (objects : F → Objects) (faulty : F → ObjectId → T
   told_none (Ok info) e = e
   told_none (Err x) e = tt
 
-  -- nothing is drawn where nothing is pending
-  steps_pends : (w : SimpleWalk F P) {answer : Result Info Error} {new : SimpleWalk F P} → Steps objects faulty answers w (Some answer) new → w.pending ≡ [] → ⊥
-  steps_pends w (no_memory some) empty = some empty
-  steps_pends w (took (first t e) takes) empty = let bad = sym empty ∙ e in cc
-  steps_pends w (took {taken = p} {others = others} (best t perm no_worse) takes) empty =
-      let longer : length w.pending ≡ suc (length others) = sym (length_permutation w.pending (p ∷ others) perm) in
-      let short : length w.pending ≡ 0 = ap length empty in
-      absurd (omega arith)
-
-  first_pends : (w : SimpleWalk F P) {answer : Result Info Error} {new : SimpleWalk F P} → FirstStep objects faulty answers w (Some answer) new → w.pending ≡ [] → ⊥
-  first_pends w (unhidden unpainted steps) empty = steps_pends (record w { hidden_tips = [] }) steps empty
-  first_pends w (paints some tips_given paint steps) empty = some empty
-  first_pends w (faulty_history some tips_given left fault) empty = some empty
-  first_pends w (no_memory some tips_given left) empty = some empty
-
-  pends : (w : SimpleWalk F P) {answer : Result Info Error} {new : SimpleWalk F P} → Next objects faulty answers w (Some answer) new → w.pending ≡ [] → ⊥
-  pends w (initial fresh s) empty = first_pends (record w { begun = true }) s empty
-  pends w (later begun s) empty = steps_pends w s empty
-
   -- without rows none is given from here on
   rowless : {w : SimpleWalk F P} {answer : Result Info Error} {new : SimpleWalk F P} → w.rows ≡ [] → Tells w answer new → IsUntold answer × ((new.rows ≡ []) ⊎ (new.pending ≡ []))
   rowless {answer = answer} empty (keeps store rows below told) = (told_none answer (subst (λ rs. IsTold rs answer) empty told), inl (rows ∙ empty))
@@ -298,7 +214,7 @@ module _ {F P : Type 0} (objects : F → Objects) (faulty : F → ObjectId → T
       tells = steps_tells v refl steps
 
       same : rows ≡ w.rows → Tells w answer new
-      same e = from_same w v refl e refl refl (filter_within (λ p. not (set.contains marks p.id)) w.pending) tells
+      same e = from_same w v refl e refl refl (fewer_within (fewer_filter (λ p. not (set.contains marks p.id)) w.pending)) tells
 
       after : (empty : rows ≡ []) → (IsAgreeing (objects w.store) w.rows → PaintingDrops objects w) → Tells v answer new → Tells w answer new
       after empty why (keeps store left below told) = loses store (left ∙ empty) (told_none answer (subst (λ rs. IsTold rs answer) empty told)) (λ agrees. inr (why agrees))
@@ -321,7 +237,7 @@ module _ {F P : Type 0} (objects : F → Objects) (faulty : F → ObjectId → T
   -- nothing follows a walk with no pending commits
   nothing_more : (list : List (Result Info Error)) (w new : SimpleWalk F P) → Yields (Next objects faulty answers) w list new → w.pending ≡ [] → list ≡ []
   nothing_more [] w new d empty = refl
-  nothing_more (answer ∷ list) w new d empty = absurd (pends w d.1 empty)
+  nothing_more (answer ∷ list) w new d empty = absurd (moves_pend objects faulty answers (next_moves objects faulty answers d.1) empty)
 
   all_untold : (list : List (Result Info Error)) (w new : SimpleWalk F P) → Yields (Next objects faulty answers) w list new → w.rows ≡ [] → All IsUntold list
   all_untold [] w new d empty = All-from_recursion IsUntold [] tt
