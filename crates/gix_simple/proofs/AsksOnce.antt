@@ -54,7 +54,8 @@ module _ {F P : Type 0} (objects : F → Objects) (faulty : F → ObjectId → T
       go true s = inl (set.contains-insert id_total seen i j ∙ or_left _ _ s)
       go false s = inr (set.contains-remove id_total remembered i j ∙ ap (λ b. not b && set.contains remembered j) s ∙ e)
 
-  asked_one : (w : SimpleWalk F P) (i : ObjectId) {b : Bool} {q : P} → is_among i named ≡ true → IsNew objects faulty answers w i → Asks objects faulty answers w i b q → AskedOf w → Asked q (set.insert w.seen i) (set.remove w.remembered i)
+  asked_one : (w : SimpleWalk F P) (i : ObjectId) {b : Bool} {q : P} → is_among i named ≡ true → IsNew objects faulty answers w i
+      → Asks objects faulty answers w i b q → AskedOf w → Asked q (set.insert w.seen i) (set.remove w.remembered i)
   asked_one w i n is_new (remembers e) a = record { so_far = a.so_far; known = λ j m. still_known w.seen w.remembered i j (a.known j m) }
   asked_one w i n is_new (asks e answer) a = record {
     so_far = record {
@@ -63,7 +64,8 @@ module _ {F P : Type 0} (objects : F → Objects) (faulty : F → ObjectId → T
       distinct = distinct_then a.so_far.ids i a.so_far.distinct (λ m. ⊎_elim (λ s. true≢false (sym s ∙ is_new.unseen)) (λ r. true≢false (sym r ∙ e)) (a.known i m));
       named = λ j m. ⊎_elim (a.so_far.named j) (λ k. subst (Contains named) (only_member i j k) (among_is i named n)) (Contains-append_cases a.so_far.ids (i ∷ []) j m);
     };
-    known = λ j m. ⊎_elim (λ k. still_known w.seen w.remembered i j (a.known j k)) (λ k. inl (set.contains-insert id_total w.seen i j ∙ or_left _ _ (same_from j i (sym (only_member i j k))))) (Contains-append_cases a.so_far.ids (i ∷ []) j m);
+    known = λ j m.
+        ⊎_elim (λ k. still_known w.seen w.remembered i j (a.known j k)) (λ k. inl (set.contains-insert id_total w.seen i j ∙ or_left _ _ (same_from j i (sym (only_member i j k))))) (Contains-append_cases a.so_far.ids (i ∷ []) j m);
   }
 
   all_asked : {Named : ObjectId → Type 0} {how : Treated} {w v : SimpleWalk F P} → ((i : ObjectId) → Named i → is_among i named ≡ true) → Asking objects faulty answers Named w how v → AskedOf w → AskedOf v
@@ -73,18 +75,23 @@ module _ {F P : Type 0} (objects : F → Objects) (faulty : F → ObjectId → T
   follows_asked : {w v : SimpleWalk F P} → Follows objects faulty answers w v → AskedOf w → AskedOf v
   follows_asked f a = subst AskedOf (sym f.same) a
 
-  moves_asked : {w : SimpleWalk F P} {answer : Result Info Error} {new : SimpleWalk F P} → Moves objects faulty answers w answer new → ((i : ObjectId) → IsListed objects faulty answers w i → is_among i named ≡ true) → AskedOf w → AskedOf new
+  moves_asked : {w : SimpleWalk F P} {answer : Result Info Error} {new : SimpleWalk F P} → Moves objects faulty answers w answer new
+      → ((i : ObjectId) → IsListed objects faulty answers w i → is_among i named ≡ true) → AskedOf w → AskedOf new
   moves_asked (fails some gone f) n a = follows_asked f a
   moves_asked (takes generation f asked g of) n a = follows_asked g (all_asked n asked (follows_asked f a))
 
-  drawn_asked : (list : List (Result Info Error)) (w new : SimpleWalk F P) → Yields (Next objects faulty answers) w list new → ((i : ObjectId) → IsListed objects faulty answers w i → is_among i named ≡ true) → AskedOf w → AskedOf new
+  drawn_asked : (list : List (Result Info Error)) (w new : SimpleWalk F P) → Yields (Next objects faulty answers) w list new
+      → ((i : ObjectId) → IsListed objects faulty answers w i → is_among i named ≡ true) → AskedOf w → AskedOf new
   drawn_asked [] w new d n a = subst AskedOf d a
-  drawn_asked (answer ∷ list) w new d n a = let m = next_moves objects faulty answers d.1 in drawn_asked list d.0 new d.2 (λ i l. n i (listed_before objects faulty answers m i l)) (moves_asked m n a)
+  drawn_asked (answer ∷ list) w new d n a =
+      let m = next_moves objects faulty answers d.1 in
+      drawn_asked list d.0 new d.2 (λ i l. n i (listed_before objects faulty answers m i l)) (moves_asked m n a)
 
   module _ (store : F) (tips : List ObjectId) (within : (i : ObjectId) → Contains tips i → is_among i named ≡ true) where
     -- the calls that choose the order ask nobody
     built_asked : {w : SimpleWalk F P} → IsBuilt objects faulty answers store first tips w → AskedOf w
-    built_asked (made m) = all_asked (λ i k. k) (moves.asking objects faulty answers {Named = λ i. is_among i named ≡ true} within m) (record { so_far = record { ids = []; run = asking.none; distinct = tt; named = λ i k. absurd (no_member i k) }; known = λ i k. absurd (no_member i k) })
+    built_asked (made m) = all_asked (λ i k. k) (moves.asking objects faulty answers {Named = λ i. is_among i named ≡ true} within m)
+        (record { so_far = record { ids = []; run = asking.none; distinct = tt; named = λ i k. absurd (no_member i k) }; known = λ i k. absurd (no_member i k) })
     built_asked (breadth_first b) = built_asked b
     built_asked (by_time {walk = w} {new = new} {by = by} b s) =
         let a = built_asked b in

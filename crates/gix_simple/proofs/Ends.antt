@@ -23,7 +23,8 @@ fewer_new s (x ∷ xs) ys h = go (fewer_new s xs ys rest) (fewer_new (λ j. is_s
     rest : (i : ObjectId) → is_among i xs ≡ true → is_among i ys ≡ true
     rest i m = h i (or_right (is_same i x) _ m)
 
-    go : length (fresh s xs) ≤ length (fresh s ys) → length (fresh (λ j. is_same j x || s j) xs) ≤ length (fresh (λ j. is_same j x || s j) ys) → (b : Bool) → s x ≡ b → length (cond b (fresh s xs) (x ∷ fresh (λ j. is_same j x || s j) xs)) ≤ length (fresh s ys)
+    go : length (fresh s xs) ≤ length (fresh s ys) → length (fresh (λ j. is_same j x || s j) xs) ≤ length (fresh (λ j. is_same j x || s j) ys)
+        → (b : Bool) → s x ≡ b → length (cond b (fresh s xs) (x ∷ fresh (λ j. is_same j x || s j) xs)) ≤ length (fresh s ys)
     go r q true e = r
     go r q false e = let k : suc (length (fresh (λ j. is_same j x || s j) ys)) ≡ length (fresh s ys) = new_less s ys x (h x (or_left _ _ (same_itself x))) e in omega arith
 
@@ -36,7 +37,8 @@ module _ {F P : Type 0} (objects : F → Objects) (faulty : F → ObjectId → T
   asked_left ids (rests f) = le_refl _
   asked_left ids {w = w} {v = v} (asks {p = p} {q = q} {ps = ps} n is_new a f rest) =
       let less : suc (length (fresh (λ j. is_same j p.id || set.contains w.seen j) ids)) ≡ length (fresh (set.contains w.seen) ids) = new_less (set.contains w.seen) ids p.id n is_new.unseen in
-      let same : length (fresh (set.contains (set.insert w.seen p.id)) ids) ≡ length (fresh (λ j. is_same j p.id || set.contains w.seen j) ids) = ap length (fresh_agree _ _ ids (λ j h. set.contains-insert id_total w.seen p.id j)) in
+      let same : length (fresh (set.contains (set.insert w.seen p.id)) ids) ≡ length (fresh (λ j. is_same j p.id || set.contains w.seen j) ids) =
+      ap length (fresh_agree _ _ ids (λ j h. set.contains-insert id_total w.seen p.id j)) in
       let left : left_of ids v ≤ length (fresh (set.contains (set.insert w.seen p.id)) ids) + length ps = asked_left ids rest in
       let short : length ps ≤ suc (length w.pending) = f.shorter in
       omega arith
@@ -49,7 +51,8 @@ module _ {F P : Type 0} (objects : F → Objects) (faulty : F → ObjectId → T
 
   moves_left : {w : SimpleWalk F P} {answer : Result Info Error} {new : SimpleWalk F P} → Moves objects faulty answers w answer new → suc (answers_left objects new) ≤ answers_left objects w
   moves_left {w} {new = new} m =
-      let less : length (fresh (set.contains new.seen) (named_in objects new)) ≤ length (fresh (set.contains new.seen) ids) = fewer_new (set.contains new.seen) (named_in objects new) ids (listed_before objects faulty answers m) in
+      let less : length (fresh (set.contains new.seen) (named_in objects new)) ≤ length (fresh (set.contains new.seen) ids) =
+      fewer_new (set.contains new.seen) (named_in objects new) ids (listed_before objects faulty answers m) in
       let k : suc (left_of ids new) ≤ left_of ids w = go m in
       omega arith
     where

@@ -1,15 +1,14 @@
 -- Behind the first step a walk takes the same steps whatever its hidden tips are, and it is never at its first step again.
-use Rattle.std.specs.Prelude.{◌≡◌, ℕ, ℤ, List, Bool, true, Option, Result}
+use Rattle.std.specs.Prelude.{◌≡◌, List, Bool, true, Option, Result}
 use Rattle.std.proofs.Common.{sym, ◌∙◌}
 use Rattle.std.proofs.lemmas.Bool.{true≢false}
 use Rattle.gix_hash.specs.declared.ObjectId.{ObjectId}
-use Rattle.gix_object.specs.declared.decode.Error.{Error as DecodeError}
 use Rattle.gix_object.specs.Object.{Objects}
 use Rattle.gix_revwalk.specs.declared.Info.{Info}
 use Rattle.gix_revwalk.specs.Pending.{Pending}
 use Rattle.gix_simple.specs.declared.Error.{Error}
-use Rattle.gix_simple.specs.Walk.{SimpleWalk, Treated, Concludes, given, broken, store_fails, no_memory, Takes, by_row, by_store, not_found, Chooses, first, best, Steps, ended, took, Next, initial, later}
-use Rattle.gix_simple.proofs.LentText.{treats_all_with}
+use Rattle.gix_simple.specs.Walk.{SimpleWalk, no_memory, Takes, by_row, by_store, not_found, Chooses, first, best, Steps, ended, took, Next, initial, later}
+use Rattle.gix_simple.proofs.LentText.{treats_all_with, concludes_with}
 use Rattle.gix_simple.proofs.Moves.{next_moves, moves_begun}
 
 module _ {F P : Type 0} (objects : F → Objects) (faulty : F → ObjectId → Type 0) (answers : P → ObjectId → Bool → P → Type 0) (tips : List ObjectId) where
@@ -17,16 +16,9 @@ module _ {F P : Type 0} (objects : F → Objects) (faulty : F → ObjectId → T
   abbrev with_tips : SimpleWalk F P → SimpleWalk F P
   with_tips walk = record walk { hidden_tips = tips }
 
-  concludes_with : {i : ObjectId} {ps : List ObjectId} {generation : Option ℕ} {time : Option ℤ} {text : List ℕ} {fault : Option DecodeError} {walk : SimpleWalk F P} {how : Treated} {answer : Result Info Error} {new : SimpleWalk F P}
-      → Concludes objects faulty answers i ps generation time text fault walk how answer new → Concludes objects faulty answers i ps generation time text fault (with_tips walk) how answer (with_tips new)
-  concludes_with (given f is) = given f is
-  concludes_with (broken f) = broken f
-  concludes_with store_fails = store_fails
-  concludes_with no_memory = no_memory
-
   takes_with : {old : SimpleWalk F P} {p : Pending} {answer : Result Info Error} {new : SimpleWalk F P} → Takes objects faulty answers old p answer new → Takes objects faulty answers (with_tips old) p answer (with_tips new)
-  takes_with (by_row r e t c) = by_row r e (treats_all_with objects faulty answers (λ x. x) (λ x. x) (λ x. tips) t) (concludes_with c)
-  takes_with (by_store u e t c) = by_store u e (treats_all_with objects faulty answers (λ x. x) (λ x. x) (λ x. tips) t) (concludes_with c)
+  takes_with (by_row r e t c) = by_row r e (treats_all_with objects faulty answers (λ x. x) (λ x. x) (λ x. tips) t) (concludes_with objects faulty answers (λ x. x) (λ x. x) (λ x. tips) c)
+  takes_with (by_store u e t c) = by_store u e (treats_all_with objects faulty answers (λ x. x) (λ x. x) (λ x. tips) t) (concludes_with objects faulty answers (λ x. x) (λ x. x) (λ x. tips) c)
   takes_with (not_found u f) = not_found u f
   takes_with (no_memory left) = no_memory left
 

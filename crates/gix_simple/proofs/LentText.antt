@@ -1,10 +1,14 @@
--- Treating parents neither reads nor changes the text that a walk lends, and its hidden tips.
-use Rattle.std.specs.Prelude.{ℕ, List, Bool, Option}
+-- Treating parents neither reads nor changes the text that a walk lends, and its hidden tips; nor does the answer depend on them.
+use Rattle.std.specs.Prelude.{ℕ, ℤ, List, Bool, Option, Result}
 use Rattle.gix_hash.specs.declared.ObjectId.{ObjectId}
+use Rattle.gix_object.specs.declared.decode.Error.{Error as DecodeError}
 use Rattle.gix_object.specs.Object.{Objects}
-use Rattle.gix_simple.specs.Walk.{SimpleWalk, Treated, Asks, remembers, asks, ReadsTime, unasked, from_row, from_store, IsNew, Treats, hidden, known, refused, accepted, store_fails, no_memory, no_memory_after, TreatsAll, none, more, stops}
+use Rattle.gix_revwalk.specs.declared.Info.{Info}
+use Rattle.gix_simple.specs.declared.Error.{Error}
+use Rattle.gix_simple.specs.Walk.{SimpleWalk, Treated, Asks, remembers, asks, ReadsTime, unasked, from_row, from_store, IsNew, Treats, hidden, known, refused, accepted, store_fails, no_memory, no_memory_after, TreatsAll, none, more, stops, Concludes, given, broken}
 
-module _ {F P : Type 0} (objects : F → Objects) (faulty : F → ObjectId → Type 0) (answers : P → ObjectId → Bool → P → Type 0) (text : List ℕ → List ℕ) (current : Option ObjectId → Option ObjectId) (tips : List ObjectId → List ObjectId) where
+module _ {F P : Type 0} (objects : F → Objects) (faulty : F → ObjectId → Type 0) (answers : P → ObjectId → Bool → P → Type 0)
+    (text : List ℕ → List ℕ) (current : Option ObjectId → Option ObjectId) (tips : List ObjectId → List ObjectId) where
   -- a walk that lends another text, or has other hidden tips
   abbrev changed : SimpleWalk F P → SimpleWalk F P
   changed walk = record walk { text = text walk.text; current = current walk.current; hidden_tips = tips walk.hidden_tips }
@@ -35,3 +39,11 @@ module _ {F P : Type 0} (objects : F → Objects) (faulty : F → ObjectId → T
   treats_all_with none = none
   treats_all_with (more t rest) = more (treats_with t) (treats_all_with rest)
   treats_all_with (stops h t) = stops h (treats_with t)
+
+  pub concludes_with : {i : ObjectId} {ps : List ObjectId} {generation : Option ℕ} {time : Option ℤ} {shown : List ℕ} {fault : Option DecodeError} {walk : SimpleWalk F P} {how : Treated} {answer : Result Info Error} {new : SimpleWalk F P}
+      → Concludes objects faulty answers i ps generation time shown fault walk how answer new
+      → Concludes objects faulty answers i ps generation time shown fault (changed walk) how answer (record new { hidden_tips = tips new.hidden_tips })
+  concludes_with (given f is) = given f is
+  concludes_with (broken f) = broken f
+  concludes_with store_fails = store_fails
+  concludes_with no_memory = no_memory

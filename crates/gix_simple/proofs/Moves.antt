@@ -111,7 +111,8 @@ module _ {F P : Type 0} (objects : F → Objects) (faulty : F → ObjectId → T
   treated {i = i} n (store_fails is_new a (store_fails o s failed)) k = asks {p = record { id = i; time = pos 0 }} n is_new a (fewer_by_one _ _) (k (λ s. failed))
   treated n no_memory k = k (λ s. cc)
   treated {i = i} {w = w} n (no_memory_after {pending = ps} is_new a left) k =
-      asks {p = record { id = i; time = pos 0 }} n is_new a (⊎_elim (λ e. subst (λ xs. Fewer xs (record { id = i; time = pos 0 } ∷ w.pending)) (sym e) (fewer_by_one _ w.pending)) (fewer_none ps _) left) (k (λ s. cc))
+      asks {p = record { id = i; time = pos 0 }} n is_new a
+      (⊎_elim (λ e. subst (λ xs. Fewer xs (record { id = i; time = pos 0 } ∷ w.pending)) (sym e) (fewer_by_one _ w.pending)) (fewer_none ps _) left) (k (λ s. cc))
 
   -- so are the parents of a commit treated
   pub asking : {Named : ObjectId → Type 0} {row : Bool} {ids : List ObjectId} {how : Treated} {w v : SimpleWalk F P} → ((i : ObjectId) → Contains ids i → Named i)
@@ -166,9 +167,11 @@ module _ {F P : Type 0} (objects : F → Objects) (faulty : F → ObjectId → T
   text_lists : (w : SimpleWalk F P) (c : ObjectId) (bytes : List ℕ) → map_of.get (objects w.store) c ≡ Some (record { kind = object.Commit; bytes = bytes }) → (i : ObjectId)
       → Contains (scanned w.parents (commit_items (kind_of c) bytes)).0 i → IsListed w i
   text_lists w c bytes e i m =
-      let found : Contains (map_of.entries (objects w.store)) (c, record { kind = object.Commit; bytes = bytes }) = found_entry (map_of.entries (objects w.store)) c _ (sym (map_of.get-entries (objects w.store) c) ∙ e) in
+      let found : Contains (map_of.entries (objects w.store)) (c, record { kind = object.Commit; bytes = bytes }) =
+      found_entry (map_of.entries (objects w.store)) c _ (sym (map_of.get-entries (objects w.store) c) ∙ e) in
       among-append i (map (λ row. row.id) w.rows) _ ∙ or_right (is_among i (map (λ row. row.id) w.rows)) _
-      (among_flat (λ entry. by_mode w.parents (text_parents entry.0 entry.1)) (map_of.entries (objects w.store)) _ i found (among_from i _ (subst (λ ids. Contains ids i) (scan_by w.parents (commit_items (kind_of c) bytes)) m)))
+      (among_flat (λ entry. by_mode w.parents (text_parents entry.0 entry.1)) (map_of.entries (objects w.store)) _ i found
+      (among_from i _ (subst (λ ids. Contains ids i) (scan_by w.parents (commit_items (kind_of c) bytes)) m)))
 
   pub concludes : {i : ObjectId} {ps : List ObjectId} {generation : Option ℕ} {time : Option ℤ} {text : List ℕ} {fault : Option DecodeError} {how : Treated} {answer : Result Info Error} {walk new : SimpleWalk F P}
       → Concludes objects faulty answers i ps generation time text fault walk how answer new → Follows walk new × (new.rows ≡ walk.rows) × IsGivenAs i generation answer

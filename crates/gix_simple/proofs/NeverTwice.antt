@@ -1,28 +1,20 @@
 -- No id is given twice, whatever the store, the rows and the predicate do.
-use Rattle.std.specs.Prelude.{◌≡◌, ◌+◌, ◌≤◌, List, [], ◌∷◌, Bool, true, false, ◌||◌, cond, Result, Ok, Err, Contains}
+use Rattle.std.specs.Prelude.{◌≡◌, ◌+◌, ◌≤◌, List, [], ◌∷◌, Bool, true, false, ◌||◌, cond, Result, Ok, Err}
 use Rattle.std.proofs.Common.{refl, sym, ap, subst, ◌∙◌, arith}
-use Rattle.std.proofs.lemmas.Bool.{false_from_ne_true}
 use Rattle.std.specs.FinSet as set
 use Rattle.std.specs.Iterator.{Yields}
 use Rattle.gix_hash.specs.declared.ObjectId.{ObjectId}
-use Rattle.gix_hash.specs.Id.{is_same, is_among}
+use Rattle.gix_hash.specs.Id.{is_same}
 use Rattle.gix_object.specs.Object.{Objects}
 use Rattle.gix_revwalk.specs.declared.Info.{Info}
 use Rattle.gix_simple.specs.declared.Error.{Error}
 use Rattle.gix_simple.specs.Walk.{SimpleWalk, Treated, Next}
 use Rattle.gix_revwalk.specs.Ids.{ids_of, AreDistinct}
 use Rattle.gix_simple.specs.Laws.{given_ids}
-use Rattle.gix_hash.proofs.Ids.Membership.{id_total, same_is, among_is}
-use Rattle.gix_revwalk.proofs.NewIds.{times, times_none, times_once}
+use Rattle.gix_hash.proofs.Ids.Membership.{id_total, same_is}
+use Rattle.gix_revwalk.proofs.NewIds.{times, times_once}
+use Rattle.gix_simple.proofs.MadeOfTips.{once_or_never}
 use Rattle.gix_simple.proofs.Moves.{Asking, rests, asks, Follows, IsGivenAs, Moves, fails, takes, next_moves}
-
-pub once_times : (xs : List ObjectId) → AreDistinct xs → (i : ObjectId) → times i xs ≤ cond (is_among i xs) 1 0
-once_times [] d i = omega arith
-once_times (x ∷ xs) d i = go (is_same i x) refl (once_times xs d.1 i)
-  where
-    go : (b : Bool) → is_same i x ≡ b → times i xs ≤ cond (is_among i xs) 1 0 → cond b 1 0 + times i xs ≤ cond (b || is_among i xs) 1 0
-    go true t r = let k : times i xs ≡ 0 = times_none i xs (false_from_ne_true _ (λ e. d.0 (subst (λ y. Contains xs y) (same_is i x t) (among_is i xs e)))) in omega arith
-    go false t r = omega arith
 
 module _ {F P : Type 0} (objects : F → Objects) (faulty : F → ObjectId → Type 0) (answers : P → ObjectId → Bool → P → Type 0) where
   -- an id is pending or gone at most once, and only if it was seen
@@ -66,14 +58,11 @@ module _ {F P : Type 0} (objects : F → Objects) (faulty : F → ObjectId → T
       said (Ok info) of = subst (λ x. IsSole (x ∷ gone) new) (sym of.0) given
       said (Err e) of = λ i. let k : times i (ids_of new.pending) + (cond (is_same i p.id) 1 0 + times i gone) ≤ cond (set.contains new.seen i) 1 0 = given i in omega arith
 
-  at_most : (b : Bool) → cond b 1 0 ≤ 1
-  at_most true = omega arith
-  at_most false = omega arith
-
-  drawn_sole : (list : List (Result Info Error)) (gone : List ObjectId) (w new : SimpleWalk F P) → Yields (Next objects faulty answers) w list new → IsSole gone w → (i : ObjectId) → times i (given_ids list) + times i gone ≤ 1
+  drawn_sole : (list : List (Result Info Error)) (gone : List ObjectId) (w new : SimpleWalk F P) → Yields (Next objects faulty answers) w list new → IsSole gone w
+      → (i : ObjectId) → times i (given_ids list) + times i gone ≤ 1
   drawn_sole [] gone w new d h i =
       let k : times i (ids_of w.pending) + times i gone ≤ cond (set.contains w.seen i) 1 0 = h i in
-      let c : cond (set.contains w.seen i) 1 0 ≤ 1 = at_most (set.contains w.seen i) in
+      let c : cond (set.contains w.seen i) 1 0 ≤ 1 = once_or_never (set.contains w.seen i) in
       omega arith
   drawn_sole (answer ∷ list) gone w new d h i = go answer (drawn_sole list (with_answer answer gone) d.0 new d.2 (moves_sole gone (next_moves objects faulty answers d.1) h) i)
     where

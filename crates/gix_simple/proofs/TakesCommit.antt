@@ -27,7 +27,7 @@ use Rattle.gix_simple.specs.Walk.{SimpleWalk, failed, given_time, time_order, ho
 use Rattle.gix_revwalk.specs.Texts.{scanned}
 use Rattle.gix_revwalk.specs.Infos.{IsInfo}
 use Rattle.gix_revwalk.specs.RowParents.{kept_rows, IsUnrowed}
-use Rattle.gix_simple.proofs.LentText.{treats_all_with}
+use Rattle.gix_simple.proofs.LentText.{treats_all_with, concludes_with}
 use Rattle.gix_simple.proofs.Moves.{treated_same}
 
 -- a walk that lends another text
@@ -35,13 +35,6 @@ abbrev with_text : {F P : Type 0} → SimpleWalk F P → List ℕ → Option Obj
 with_text walk text current = record walk { text = text; current = current }
 
 module _ {F P : Type 0} (objects : F → Objects) (faulty : F → ObjectId → Type 0) (answers : P → ObjectId → Bool → P → Type 0) (old : SimpleWalk F P) (taken : Pending) where
-  -- the text that was read before the parents were treated changes nothing
-  concludes_with : (text : List ℕ) (parents : List ObjectId) (generation : Option ℕ) (fault : Option DecodeError) (walk : SimpleWalk F P) (other : List ℕ) (current : Option ObjectId) (time : Option ℤ) {how : Treated} {answer : Result Info Error} {new : SimpleWalk F P} → Concludes objects faulty answers taken.id parents generation time text fault walk how answer new → Concludes objects faulty answers taken.id parents generation time text fault (with_text walk other current) how answer new
-  concludes_with text parents generation fault walk other current time (given f is) = given f is
-  concludes_with text parents generation fault walk other current time (broken f) = broken f
-  concludes_with text parents generation fault walk other current time store_fails = store_fails
-  concludes_with text parents generation fault walk other current time no_memory = no_memory
-
   -- a sound row gives the commit
   pub takes_by_row : (read : RowRead) (named : List ObjectId) (cleared : SimpleWalk F P) → RowSays old.rows taken.id read → named ≡ by_mode old.parents read.parent_ids.items → cleared ≡ with_text old [] old.current → (ids : List ObjectId) → ids ≡ named → (how : Treated) (walk : SimpleWalk F P) → TreatsAll objects faulty answers true cleared ids how walk
       → (answer : Result Info Error) (new : SimpleWalk F P) → Concludes objects faulty answers taken.id named (Some read.generation) (given_time walk taken) walk.text None walk how answer new → Takes objects faulty answers old taken answer new
@@ -53,7 +46,8 @@ module _ {F P : Type 0} (objects : F → Objects) (faulty : F → ObjectId → T
       (subst (λ g. Concludes objects faulty answers taken.id named (Some g) (given_time old taken) [] None walk how answer new) says.generation
       (subst (λ x. Concludes objects faulty answers taken.id named (Some read.generation) (given_time old taken) x None walk how answer new) (ap (λ w. w.text) same)
       (subst (λ x. Concludes objects faulty answers taken.id named (Some read.generation) x walk.text None walk how answer new) (ap (λ w. given_time w taken) same) c))) in
-      by_row says.there says.parents (treats_all_with objects faulty answers (λ x. old.text) (λ x. old.current) (λ x. x) t) (concludes_with [] (by_mode old.parents read.parent_ids.items) (Some says.row.generation) None walk old.text old.current (given_time old taken) d)
+      by_row says.there says.parents (treats_all_with objects faulty answers (λ x. old.text) (λ x. old.current) (λ x. x) t)
+      (concludes_with objects faulty answers (λ x. old.text) (λ x. old.current) (λ x. x) d)
 
   -- there is no memory to read it
   pub takes_no_memory : (walk new : SimpleWalk F P) (answer : Error) → walk ≡ with_text old walk.text walk.current → answer ≡ error.Memory → new ≡ failed taken.id error.Memory walk → Takes objects faulty answers old taken (Err answer) new
@@ -94,7 +88,7 @@ module _ {F P : Type 0} (objects : F → Objects) (faulty : F → ObjectId → T
         let same = treated_same objects faulty answers t in
         let back : TreatsAll objects faulty answers false start shown how (with_text then start.text start.current) = treats_all_with objects faulty answers (λ x. start.text) (λ x. start.current) (λ x. x) t in
         let d : Concludes objects faulty answers taken.id shown None (given_time old taken) walk.text fault (with_text then start.text start.current) how answer new =
-        concludes_with walk.text shown None fault then start.text start.current (given_time old taken)
+        concludes_with objects faulty answers (λ x. start.text) (λ x. start.current) (λ x. x)
         (subst (λ x. Concludes objects faulty answers taken.id shown None (given_time old taken) x fault then how answer new) (ap (λ w. w.text) same)
         (subst (λ x. Concludes objects faulty answers taken.id shown None x then.text fault then how answer new) (ap (λ w. given_time w taken) same) c)) in
         by_store unrowed_is there (subst (λ xs. TreatsAll objects faulty answers false start xs how (with_text then start.text start.current)) (ap (λ r. r.0) read) back)
