@@ -27,7 +27,7 @@ use Rattle.gix_revwalk.specs.Infos.{IsRowGeneration}
 use Rattle.gix_revwalk.proofs.NewIds.{fresh}
 use Rattle.gix_revwalk.proofs.ReadsWhole.{scan_is, row_parents, row_stands, parent_has_row, walked_within, no_fault}
 use Rattle.gix_revwalk.proofs.TextParents.{text_whole, commit_stored}
-use Rattle.gix_simple.proofs.Ends.{scan_by}
+use Rattle.gix_simple.proofs.Moves.{scan_by}
 use Rattle.gix_simple.proofs.Treated.{Joins, Joins-refl, Joins-trans, Setting, order_of, limit_of, keep, Stands, Did, all_treated, rows_agree}
 use Rattle.gix_revwalk.proofs.Rows.{kept_either}
 

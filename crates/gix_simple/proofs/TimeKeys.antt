@@ -75,7 +75,7 @@ goes_over all standing left rest new p h e n =
     IsPermutation-trans all (standing ++ p ∷ rest) (new ++ rest) (subst (λ xs. IsPermutation all (standing ++ xs)) e h)
     (subst (λ xs. IsPermutation xs (new ++ rest)) (append_assoc standing (p ∷ []) rest) (IsPermutation-append_left rest (standing ++ p ∷ []) new n))
 
-pub none_of : (xs : List Pending) → length xs ≡ 0 → xs ≡ []
+pub none_of : {X : Type 0} (xs : List X) → length xs ≡ 0 → xs ≡ []
 none_of [] e = refl
 none_of (x ∷ xs) e = absurd (omega arith)
 

@@ -265,7 +265,3 @@ module _ {F P : Type 0} (objects : F → Objects) (faulty : F → ObjectId → T
       let d : Did s (i ∷ []) w mid = one s w h by_row i (ready i (Contains-here i ids)) t in
       both s i ids w mid v d (all_treated s by_row ts e d.rest (λ j n. let r : IsReady s w by_row j = ready j (Contains-there j i ids n) in record { marked = r.marked; rowed = λ b. subst (λ rows. (row : GraphRow) × (row_of rows j ≡ Some row)) (sym d.same_rows) (r.rowed b) }))
   all_treated s by_row (stops ne t) e h ready = absurd (ne e)
-
-pub times_holds : (o : Option CommitTimeOrder) (old new : List Pending) (p : Pending) → Holds o (old ++ p ∷ []) new → (i : ObjectId) → times i (ids_of new) ≡ times i (ids_of old ++ p.id ∷ [])
-times_holds None old new p h i = ap (times i) (Joins-holds None old new p h)
-times_holds (Some order) old new p h i = Joins-holds (Some order) old new p h i
