@@ -8,6 +8,8 @@ pub mod Shown
 pub mod Levels
 -- The walk depth first.
 pub mod Depth
+-- Both walks as one, over a list of tasks.
+pub mod TaskWalk
 -- The recorder as a delegate.
 pub mod Recording
 -- Why the walks end.

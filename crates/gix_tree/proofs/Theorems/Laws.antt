@@ -27,8 +27,9 @@ use Rattle.gix_tree.specs.Laws.{LevelsAreRecorded, DepthIsRecorded, BothRecordTh
 use Rattle.gix_tree.proofs.Levels.Script.{level_order, level_beginning}
 use Rattle.gix_tree.proofs.Depth.Script.{preorder, preorder_beginning}
 use Rattle.gix_tree.proofs.Recording.Records.{fresh_level, fresh_depth}
-use Rattle.gix_tree.proofs.Theorems.Called.{level_called, depth_called}
-use Rattle.gix_tree.proofs.Theorems.Met.{met_level_script, met_depth_script}
+use Rattle.gix_tree.proofs.TaskWalk.{level_walk, depth_walk}
+use Rattle.gix_tree.proofs.Theorems.Called.{called, root_called}
+use Rattle.gix_tree.proofs.Theorems.Met.{shows_whole, turn_whole, met}
 use Rattle.gix_tree.proofs.Theorems.Sound.{run_only, sound_level_visits, sound_depth_visits}
 use Rattle.gix_tree.proofs.Theorems.Breaks.{none_breaks, root_none_breaks, levels_end_broken, depth_end_broken, ok_without_break}
 use Rattle.gix_tree.proofs.Theorems.SameRecords.{Shown, shown_by, GoOn, both_show, unbroken}
@@ -107,7 +108,7 @@ module _ (objects : Objects) (faulty : ObjectId → Type 0) where
 
   deep : (root : ObjectId) (items : Items) {calls : List Call} {visits : List Visit} (end : Ending) → trees_of objects root ≡ Some items → IsUnfailed end → IsDepthScript (trees_of objects) (LookUpFails objects faulty) root calls visits end → AllByRecursion IsRecorderAnswer calls → Deep root items visits
   deep root items end is w (script.found {items = found} {calls = calls} {visits = visits} there walk) h =
-      let g = go_on visits (depth_called (trees_of objects) (LookUpFails objects faulty) IsRecorderAnswer walk h.1) in
+      let g = go_on visits (root_called (trees_of objects) (LookUpFails objects faulty) IsRecorderAnswer (script.found there walk) h) in
       let b = unbroken (entries_at (trees_of objects)) (preorder (trees_of objects) (LookUpFails objects faulty) walk w) g in
       let same : found ≡ items = cc in
       record {
@@ -125,7 +126,7 @@ module _ (objects : Objects) (faulty : ObjectId → Type 0) where
       let N = LookUpFails objects faulty in
       let whole : levels.end ≡ Whole = level_ok levels.end levels.answered in
       let level : IsLevelScript T N unknown_root items levels.calls levels.visits Whole = subst (λ l. IsLevelScript T N unknown_root items levels.calls levels.visits l) whole levels.script in
-      let g = go_on levels.visits (level_called T N IsRecorderAnswer levels.script (run_answers (Some Path) fresh levels.calls first levels.run)) in
+      let g = go_on levels.visits (called T N IsRecorderAnswer (level_walk T N unknown_root items levels.script) (run_answers (Some Path) fresh levels.calls first levels.run)) in
       let d = deep root items depth.end is (depth_ok depth.end depth.answered) depth.script (run_answers (Some Path) fresh depth.calls second depth.run) in
       let same : IsPermutation (map shown_by levels.visits) (map shown_by depth.visits) = both_show T N root items is level d.walked g d.goes_on in
       let named : HaveNames depth.visits = named_shown depth.visits (recursion_from_All (λ x. IsName x.entry.name) (map shown_by depth.visits)
@@ -188,12 +189,14 @@ module _ {V : Type 0} (objects : Objects) (faulty : ObjectId → Type 0) (steps 
   pub met_levels_succeed : MetLevelsSucceed objects faulty steps
   met_levels_succeed root old new answer walk whole enter ne = unless_failed walk.end (λ why is.
       let none = none_breaks (trees_of objects) (LookUpFails objects faulty) walk.script (λ e. cc) in
-      met_level_script (trees_of objects) (LookUpFails objects faulty) (LookUpFailed objects faulty answer) root walk.script (whole none) (enter none) (level_memory answer walk.end walk.answered ne, λ i e f s. (f, walk.answered ∙ ap level_answer s)))
+      let tasks = shows_whole (trees_of objects) (LookUpFails objects faulty) (LookUpFailed objects faulty answer) unknown_root root (whole none) in
+      met (trees_of objects) (LookUpFails objects faulty) (LookUpFailed objects faulty answer) (level_walk (trees_of objects) (LookUpFails objects faulty) unknown_root root walk.script) tasks (enter none) (level_memory answer walk.end walk.answered ne, λ i e f s. (f, walk.answered ∙ ap level_answer s)))
 
   pub met_depth_succeeds : MetDepthSucceeds objects faulty steps
   met_depth_succeeds root old new answer walk whole enter ne = unless_failed walk.end (λ why is.
       let none = root_none_breaks (trees_of objects) (LookUpFails objects faulty) walk.script (λ e. cc) in
-      met_depth_script (trees_of objects) (LookUpFails objects faulty) (LookUpFailed objects faulty answer) root walk.script (whole none) (enter none) (depth_memory answer walk.end walk.answered ne, λ i e f s. (f, walk.answered ∙ ap depth_answer s)))
+      let tasks = turn_whole (trees_of objects) (LookUpFails objects faulty) (LookUpFailed objects faulty answer) (known_root root) root (whole none) in
+      met (trees_of objects) (LookUpFails objects faulty) (LookUpFailed objects faulty answer) (depth_walk (trees_of objects) (LookUpFails objects faulty) root walk.script) tasks (enter none) (depth_memory answer walk.end walk.answered ne, λ i e f s. (f, walk.answered ∙ ap depth_answer s)))
 
   pub sound_levels_succeed : SoundLevelsSucceed objects faulty steps
   sound_levels_succeed root old new answer walk into goes w sound ne =
