@@ -140,10 +140,12 @@ module _ (trees : ObjectId → Option Items) (fails : ObjectId → ExistingError
   none_behind Broken = ended (λ w. cc)
   none_behind (Failed why) = ended (λ w. cc)
 
+  pub tree_walk : (p : Place) {items : Items} {calls : List Call} {visits : List Visit} {end : Ending} → DepthScript trees fails p items calls visits end → Depth (shows p items) calls visits end
+  tree_walk p {items} {calls} {visits} {end} walk = rw (append-nil (shows p items), append-nil calls, append-nil visits) at (depth_tasks walk (none_behind end))
+
   pub depth_walk : (root : ObjectId) {calls : List Call} {visits : List Visit} {end : Ending} → IsDepthScript trees fails root calls visits end
       → Depth (Turn (known_root root) root ∷ shows (known_root root) (items_or_none (trees root))) calls visits end
-  depth_walk root (script.found {items = items} {calls = calls} {visits = visits} {end = end} is walk) =
-      let all : Depth (shows (known_root root) items) calls visits end = rw (append-nil (shows (known_root root) items), append-nil calls, append-nil visits) at (depth_tasks walk (none_behind end)) in
-      turn (subst (λ l. Depth (shows (known_root root) (items_or_none l)) calls visits end) (sym is) all)
+  depth_walk root (script.found {calls = calls} {visits = visits} {end = end} is walk) =
+      turn (subst (λ l. Depth (shows (known_root root) (items_or_none l)) calls visits end) (sym is) (tree_walk (known_root root) walk))
   depth_walk root (script.not_found failed) = stops (not_found failed)
   depth_walk root script.no_memory = stops no_memory
