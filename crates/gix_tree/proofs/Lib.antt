@@ -4,6 +4,8 @@ pub mod All
 pub mod Places
 -- An entry that a walk shows its delegate, by the calls that were made.
 pub mod Shown
+-- What the loops of both walks keep.
+pub mod SoFar
 -- The walk breadth first.
 pub mod Levels
 -- The walk depth first.
