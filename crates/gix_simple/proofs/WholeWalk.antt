@@ -1,6 +1,6 @@
 -- A walk gives what the definitions say, drawn to its end or as far as one likes.
 use Rattle.std.specs.Prelude.{◌≡◌, ℕ, zero, suc, ℤ, List, [], ◌∷◌, ◌++◌, take, slice_get, Bool, true, ◌&&◌, ◌||◌, Option, Some, None, Result, Err, Contains, All}
-use Rattle.std.proofs.Common.{refl, sym, ap, subst, ⊎_elim, ◌∙◌, append_assoc, append-nil}
+use Rattle.std.proofs.Common.{refl, sym, ap, subst, inl, ⊎_elim, ◌∙◌, append_assoc, append-nil}
 use Rattle.std.proofs.Math.Bool.{or_comm}
 use Rattle.std.specs.Iterator.{Yields}
 use Rattle.std.specs.List.{AllZip}
@@ -26,7 +26,7 @@ use Rattle.gix_hash.proofs.Ids.Membership.{same_is, among-append, among-one, amo
 use Rattle.gix_revwalk.proofs.NewIds.{among-filter, named-push}
 use Rattle.gix_revwalk.proofs.Orders.{reached_by_named, Contains-push}
 use Rattle.gix_simple.proofs.Treated.{Setting, order_of, keep, Stands}
-use Rattle.gix_simple.proofs.OneStep.{IsCommit, walked, next, Reads, Took, took_well}
+use Rattle.gix_simple.proofs.OneStep.{IsCommit, walked, next, Reads, Took, stands_left, took_well}
 use Rattle.gix_simple.proofs.PendingIs.{IsQueue, IsRest, IsNextOne, grows, ends, heads, bests}
 
 -- the choice of the next one
@@ -85,18 +85,7 @@ module _ {F P : Type 0} (objects : F → Objects) (faulty : F → ObjectId → T
       chosen objects faulty answers (time_of (objects s.store)) (next objects faulty answers s) s.starts done w p others (order_of objects faulty answers s) same h.queue stands.timed chooses in
       let r : Reaches (next objects faulty answers s) s.starts p.id = reached_by_named (next objects faulty answers s) s.starts done h.reached p.id (among_is p.id _ c.2) in
       let left : Stands objects faulty answers s (record w { pending = others }) =
-      record {
-        store = stands.store;
-        parents = stands.parents;
-        sorting = stands.sorting;
-        marks = stands.marks;
-        begun = stands.begun;
-        tips = stands.tips;
-        rows = stands.rows;
-        asked_of = stands.asked_of;
-        remembered = stands.remembered;
-        timed = λ order e q m. stands.timed order e q (others_pending objects faulty answers w p others chooses q (Contains-there q p others m));
-      } in
+      stands_left objects faulty answers s w w.rows others w.text w.current stands (inl refl) (λ q m. others_pending objects faulty answers w p others chooses q (Contains-there q p others m)) in
       let t : Took objects faulty answers s p.id (record w { pending = others }) answer new =
       took_well objects faulty answers s (record w { pending = others }) left p (known.reads p.id r) (λ i m. known.marked p.id i r m) (λ order e. stands.timed order e p (others_pending objects faulty answers w p others chooses p (Contains-here p others))) takes (known.commits (record w { pending = others }) p left r answer new takes ok) in
       let push : named s (done ++ p.id ∷ []) ≡ named s done ++ next objects faulty answers s p.id = named-push (next objects faulty answers s) s.starts done p.id in
