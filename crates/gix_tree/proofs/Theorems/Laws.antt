@@ -28,7 +28,7 @@ use Rattle.gix_tree.proofs.Levels.Script.{level_order, level_beginning}
 use Rattle.gix_tree.proofs.Depth.Script.{preorder, preorder_beginning}
 use Rattle.gix_tree.proofs.Recording.Records.{fresh_level, fresh_depth}
 use Rattle.gix_tree.proofs.TaskWalk.{ByLevels, InDepth, TaskWalk, level_walk, depth_walk}
-use Rattle.gix_tree.proofs.Theorems.Called.{called, root_called}
+use Rattle.gix_tree.proofs.Theorems.Called.{called}
 use Rattle.gix_tree.proofs.Theorems.Met.{shows_whole, turn_whole, met}
 use Rattle.gix_tree.proofs.Theorems.Sound.{run_only, sound_level_visits, sound_depth_visits}
 use Rattle.gix_tree.proofs.Theorems.Breaks.{breaks_at, none_breaks, must_break, ok_without_break}
@@ -100,35 +100,22 @@ module _ (objects : Objects) (faulty : ObjectId → Type 0) where
       ap (λ r. r.records) (run_records (Some Path) fresh walk.calls recorder walk.run)
       ∙ fresh_depth (trees_of objects) (LookUpFails objects faulty) root walk.script (depth_memory answer walk.end walk.answered ne) names
 
-  -- what a recorder makes of a walk in depth that answers `Ok`
-  record Deep (root : ObjectId) (items : Items) (visits : List Visit) : Type 0 where
-    calls : List Call
-    walked : DepthScript (trees_of objects) (LookUpFails objects faulty) (known_root root) items calls visits Whole
-    goes_on : GoOn visits
-
-  deep : (root : ObjectId) (items : Items) {calls : List Call} {visits : List Visit} (end : Ending) → trees_of objects root ≡ Some items → IsUnfailed end → IsDepthScript (trees_of objects) (LookUpFails objects faulty) root calls visits end → AllByRecursion IsRecorderAnswer calls → Deep root items visits
-  deep root items end is w (script.found {items = found} {calls = calls} {visits = visits} there walk) h =
-      let g = go_on visits (root_called (trees_of objects) (LookUpFails objects faulty) IsRecorderAnswer (script.found there walk) h) in
-      let b = unbroken (entries_at (trees_of objects)) (preorder (trees_of objects) (LookUpFails objects faulty) walk w) g in
-      let same : found ≡ items = cc in
-      record {
-        calls = calls;
-        walked = subst (λ l. DepthScript (trees_of objects) (LookUpFails objects faulty) (known_root root) items calls visits l) (whole_end end w b)
-            (subst (λ l. DepthScript (trees_of objects) (LookUpFails objects faulty) (known_root root) l calls visits end) same walk);
-        goes_on = g;
-      }
-  deep root items end is w (script.not_found why) h = absurd w
-  deep root items end is w script.no_memory h = absurd w
+  depth_order : (root : ObjectId) {calls : List Call} {visits : List Visit} {end : Ending} → IsDepthScript (trees_of objects) (LookUpFails objects faulty) root calls visits end → IsUnfailed end → IsPreorder (entries_at (trees_of objects)) (known_root root) (entries_at (trees_of objects) root) visits (is_broken end)
+  depth_order root (script.found {visits = visits} {end = end} is walk) w = subst (λ l. IsPreorder (entries_at (trees_of objects)) (known_root root) (entries_in (items_or_none l)) visits (is_broken end)) (sym is) (preorder (trees_of objects) (LookUpFails objects faulty) walk w)
+  depth_order root (script.not_found why) w = absurd w
+  depth_order root script.no_memory w = absurd w
 
   both_recorded : (root : ObjectId) (items : Items) (first second : Recorded) (levels : BreadthFirst objects faulty (Records (Some Path)) items fresh first (Ok tt)) → DepthFirst objects faulty (Records (Some Path)) root fresh second (Ok tt) → trees_of objects root ≡ Some items → HaveNames levels.visits → IsPermutation first.records second.records
   both_recorded root items first second levels depth is names =
       let T = trees_of objects in
       let N = LookUpFails objects faulty in
-      let whole : levels.end ≡ Whole = level_ok levels.end levels.answered in
-      let level : IsLevelScript T N unknown_root items levels.calls levels.visits Whole = subst (λ l. IsLevelScript T N unknown_root items levels.calls levels.visits l) whole levels.script in
-      let g = go_on levels.visits (called T N IsRecorderAnswer (level_walk T N unknown_root items levels.script) (run_answers (Some Path) fresh levels.calls first levels.run)) in
-      let d = deep root items depth.end is (depth_ok depth.end depth.answered) depth.script (run_answers (Some Path) fresh depth.calls second depth.run) in
-      let same : IsPermutation (map shown_by levels.visits) (map shown_by depth.visits) = both_show T N root items is level d.walked g d.goes_on in
+      let level = level_walk T N unknown_root items levels.script in
+      let deep = depth_walk T N root depth.script in
+      let g = go_on levels.visits (called T N IsRecorderAnswer level (run_answers (Some Path) fresh levels.calls first levels.run)) in
+      let h = go_on depth.visits (called T N IsRecorderAnswer deep (run_answers (Some Path) fresh depth.calls second depth.run)) in
+      let ok = depth_ok depth.end depth.answered in
+      let whole = whole_end depth.end ok (unbroken (entries_at T) (depth_order root depth.script ok) h) in
+      let same : IsPermutation (map shown_by levels.visits) (map shown_by depth.visits) = both_show T N root items is (level_ok levels.end levels.answered) whole level deep g h in
       let named : HaveNames depth.visits = named_shown depth.visits (recursion_from_All (λ x. IsName x.entry.name) (map shown_by depth.visits)
       (All-permutation (λ x. IsName x.entry.name) (map shown_by levels.visits) (map shown_by depth.visits) same (All-from_recursion (λ x. IsName x.entry.name) (map shown_by levels.visits) (shown_named levels.visits names)))) in
       let moved : IsPermutation (map record_of levels.visits) (map record_of depth.visits) = rw (record_of_shown levels.visits, record_of_shown depth.visits) (IsPermutation-map record_shown (map shown_by levels.visits) (map shown_by depth.visits) same) in
@@ -167,13 +154,8 @@ module _ {V : Type 0} (objects : Objects) (faulty : ObjectId → Type 0) (steps 
   pub levels_are_in_order : LevelsAreInOrder objects faulty steps
   levels_are_in_order root old new answer walk w = level_order (trees_of objects) (LookUpFails objects faulty) unknown_root root walk.script w
 
-  depth_order : (root : ObjectId) {calls : List Call} {visits : List Visit} {end : Ending} → IsDepthScript (trees_of objects) (LookUpFails objects faulty) root calls visits end → IsUnfailed end → IsPreorder (entries_at (trees_of objects)) (known_root root) (entries_at (trees_of objects) root) visits (is_broken end)
-  depth_order root (script.found {visits = visits} {end = end} is walk) w = subst (λ l. IsPreorder (entries_at (trees_of objects)) (known_root root) (entries_in (items_or_none l)) visits (is_broken end)) (sym is) (preorder (trees_of objects) (LookUpFails objects faulty) walk w)
-  depth_order root (script.not_found why) w = absurd w
-  depth_order root script.no_memory w = absurd w
-
   pub depth_is_in_order : DepthIsInOrder objects faulty steps
-  depth_is_in_order root old new answer walk w = depth_order root walk.script w
+  depth_is_in_order root old new answer walk w = depth_order objects faulty root walk.script w
 
   pub levels_begin_in_order : LevelsBeginInOrder objects faulty steps
   levels_begin_in_order root old new answer walk = level_beginning (trees_of objects) (LookUpFails objects faulty) unknown_root root walk.script
