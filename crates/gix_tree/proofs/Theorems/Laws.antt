@@ -17,7 +17,7 @@ use Rattle.gix_tree.specs.Delegate.{Action, Call, Run}
 use Rattle.gix_tree.specs.Visits.{Items, Visit, visit_call_of, visit_call, Ending, Whole, Broken, Failed, IsUnfailed, is_broken, Turn, shows}
 use Rattle.gix_tree.specs.Paths.{IsName, HaveNames, joined, unknown_root, known_root}
 use Rattle.gix_tree.specs.Script as script
-use Rattle.gix_tree.specs.Script.{items_or_none, entries_in, entries_at, IsLevelScript, DepthScript, IsDepthScript}
+use Rattle.gix_tree.specs.Script.{items_or_none, entries_in, entries_at, IsDepthScript}
 use Rattle.gix_tree.specs.Preorder as order
 use Rattle.gix_tree.specs.Preorder.{IsPreorder, IsPreorderBeginning}
 use Rattle.gix_tree.specs.Tracked.{Tracked, Tracks, fresh_recorder}
