@@ -24,11 +24,11 @@ use Rattle.gix_tree.specs.Tracked.{Tracked, Tracks, fresh_recorder}
 use Rattle.gix_tree.specs.Recorder.{Record, Recorded, fresh, recorded_all, record_of, IsRecorderAnswer, Records}
 use Rattle.gix_tree.specs.Walk.{trees_of, LookUpFails, LookUpFailed, level_answer, depth_answer, BreadthFirst, DepthFirst}
 use Rattle.gix_tree.specs.Laws.{LevelsAreRecorded, DepthIsRecorded, BothRecordTheSame, LevelsAreInOrder, DepthIsInOrder, LevelsBeginInOrder, DepthBeginsInOrder, MetLevelsSucceed, MetDepthSucceeds, SoundLevelsSucceed, SoundDepthSucceeds, LevelsEndAtBreak, DepthEndsAtBreak, OkWithoutBreak}
-use Rattle.gix_tree.proofs.Levels.Script.{level_order, level_beginning}
 use Rattle.gix_tree.proofs.Depth.Script.{preorder, preorder_beginning}
 use Rattle.gix_tree.proofs.Recording.Records.{fresh_level, fresh_depth}
 use Rattle.gix_tree.proofs.TaskWalk.{ByLevels, InDepth, TaskWalk, level_walk, depth_walk}
 use Rattle.gix_tree.proofs.Theorems.Called.{called}
+use Rattle.gix_tree.proofs.Theorems.Order.{level_order, level_beginning}
 use Rattle.gix_tree.proofs.Theorems.Met.{shows_whole, turn_whole, met}
 use Rattle.gix_tree.proofs.Theorems.Sound.{run_only, sound_level_visits, sound_depth_visits}
 use Rattle.gix_tree.proofs.Theorems.Breaks.{breaks_at, none_breaks, must_break, ok_without_break}
