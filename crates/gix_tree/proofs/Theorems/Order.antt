@@ -12,6 +12,7 @@ use Rattle.gix_tree.specs.Delegate.{Action, Call}
 use Rattle.gix_tree.specs.Visits.{Items, Place, Visit, visit, inside, Leaves, Enters, outcome, Ending, IsUnfailed, Task, Turn, Show, Fault, shows}
 use Rattle.gix_tree.specs.LevelOrder.{entries_of, entries_by, FollowsInLevels, IsLevelOrder, BeginsInLevels, IsLevelBeginning}
 use Rattle.gix_tree.specs.Script.{items_or_none, entries_in, entries_at, IsLevelScript}
+use Rattle.gix_tree.proofs.Levels.Met.{get_behind}
 use Rattle.gix_tree.proofs.TaskWalk as walk
 use Rattle.gix_tree.proofs.TaskWalk.{ByLevels, tasks_in, TaskWalk, level_walk}
 
@@ -29,10 +30,6 @@ unfolding shown_of
 shown_in-shows p [] = refl
 shown_in-shows p (Ok e ∷ items) = ap (λ l. (p, e) ∷ l) (shown_in-shows p items)
 shown_in-shows p (Err why ∷ items) = refl
-
-get_behind : {X : Type 0} (passed left : List X) → slice_get (passed ++ left) (length passed) ≡ slice_get left 0
-get_behind [] left = refl
-get_behind (x ∷ passed) left = get_behind passed left
 
 shift : {X : Type 0} (root named passed left more : List X) (x : X) → root ++ named ≡ passed ++ x ∷ left → root ++ (named ++ (more ++ [])) ≡ (passed ++ x ∷ []) ++ (left ++ more)
 shift root named passed left more x e = simp (append_assoc, append-nil) (simp append_assoc at (ap (λ l. l ++ more) e))

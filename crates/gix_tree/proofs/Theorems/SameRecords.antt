@@ -9,15 +9,15 @@ use Rattle.gix_hash.specs.declared.ObjectId.{ObjectId}
 use Rattle.gix_object.specs.declared.find.existing_iter.Error.{Error as ExistingError}
 use Rattle.gix_object.specs.TreeItems.{TreeEntry, is_tree}
 use Rattle.gix_tree.specs.Delegate.{Action, Call}
-use Rattle.gix_tree.specs.Visits.{Items, Place, Visit, inside, Leaves, Breaks, outcome_of, Ending, Whole, Task, Turn, Show, Fault, shows}
+use Rattle.gix_tree.specs.Visits.{Items, Place, Visit, inside, Leaves, Enters, Breaks, Ending, Whole, Task, Turn, Show, Fault, shows}
 use Rattle.gix_tree.specs.Paths.{unknown_root, known_root}
 use Rattle.gix_tree.specs.Script.{items_or_none, entries_in, entries_at}
 use Rattle.gix_tree.specs.Preorder as order
 use Rattle.gix_tree.specs.Preorder.{IsPreorder}
 use Rattle.gix_tree.proofs.All.{all_right}
+use Rattle.gix_tree.proofs.Outcomes.{says}
 use Rattle.gix_tree.proofs.TaskWalk as walk
 use Rattle.gix_tree.proofs.TaskWalk.{Manner, ByLevels, InDepth, tasks_in, tasks_with, TaskWalk}
-use Rattle.gix_tree.proofs.Theorems.Met.{enters_tree}
 
 -- an entry and the names of the trees above it, as they are shown
 pub record Shown : Type 0 where
@@ -46,19 +46,8 @@ data Unfolds (entries : ObjectId → List TreeEntry) : List Shown → List Shown
 not_both : {A : Type 0} (b : Bool) → b ≡ true → b ≡ false → A
 not_both b t f = cc
 
-leaves_plain : (t known : Bool) (a : Action) → a ≡ Continue true → outcome_of t a known ≡ Leaves → t ≡ false
-leaves_plain false known (Continue true) e o = refl
-leaves_plain true true (Continue true) e o = cc
-leaves_plain true false (Continue true) e o = cc
-leaves_plain t known (Continue false) e o = cc
-leaves_plain t known (Break b) e o = cc
-
-no_break : (t known : Bool) (a : Action) → a ≡ Continue true → outcome_of t a known ≡ Breaks → ⊥
-no_break true true (Continue true) e o = cc
-no_break true false (Continue true) e o = cc
-no_break false known (Continue true) e o = cc
-no_break t known (Continue false) e o = cc
-no_break t known (Break b) e o = cc
+no_break : (a : Action) (b : Unit {0}) → a ≡ Continue true → a ≡ Break b → ⊥
+no_break a b e f = cc
 
 module _ (entries : ObjectId → List TreeEntry) where
   same_unfolding : {xs us vs : List Shown} → Unfolds entries xs us → Unfolds entries xs vs → us ≡ vs
@@ -92,7 +81,7 @@ module _ (entries : ObjectId → List TreeEntry) where
   unbroken (order.leaves o rest) h = unbroken rest h.1
   unbroken (order.enters {ws = ws} {vs = vs} o sub rest) h = unbroken rest (all_right (λ v. v.answer ≡ Continue true) ws vs h.1)
   unbroken (order.broken_inside o sub) h = unbroken sub h.1
-  unbroken (order.breaks {p = p} {e = e} {a = a} o) h = absurd (no_break (is_tree e.mode) _ a h.0 o)
+  unbroken (order.breaks {p = p} {e = e} {a = a} o) h = let b = says (is_tree e.mode) _ a Breaks o in absurd (no_break a b.0 h.0 b.1)
 
 -- the entries that tasks show
 names_of : Task → List Shown
@@ -144,14 +133,14 @@ module _ (trees : ObjectId → Option Items) (fails : ObjectId → ExistingError
   walk_shows (walk.leaves {p = p} {e = e} {a = a} {visits = vs} o rest) w h =
       let g = walk_shows rest w h.1 in
       let x = at_names p.names e in
-      record { all = x ∷ g.all; unfolds = plain (leaves_plain (is_tree e.mode) _ a h.0 o) g.unfolds; moved = IsPermutation-cons x g.all (map shown_by vs) g.moved }
+      record { all = x ∷ g.all; unfolds = plain (says (is_tree e.mode) _ a Leaves o h.0) g.unfolds; moved = IsPermutation-cons x g.all (map shown_by vs) g.moved }
   walk_shows {m} (walk.enters {p = p} {e = e} {a = a} {tasks = tasks} {visits = vs} o rest) w h =
       let g = walk_shows rest w h.1 in
       let x = at_names p.names e in
       let r = tree_parts m p e tasks g.unfolds in
       record {
         all = x ∷ (r.front ++ r.back);
-        unfolds = tree (enters_tree (is_tree e.mode) _ a o).0 r.of_front r.of_back;
+        unfolds = tree (says (is_tree e.mode) _ a Enters o).0.0 r.of_front r.of_back;
         moved = IsPermutation-cons x (r.front ++ r.back) (map shown_by vs) (IsPermutation-trans (r.front ++ r.back) g.all (map shown_by vs) r.moved g.moved);
       }
   walk_shows (walk.breaks o) w h = cc

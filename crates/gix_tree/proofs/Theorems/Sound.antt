@@ -11,14 +11,14 @@ use Rattle.gix_object.specs.TreeItems.{TreeEntry, is_tree}
 use Rattle.gix_hash.specs.Reach as reach
 use Rattle.gix_hash.specs.Reach.{Reaches}
 use Rattle.gix_tree.specs.Delegate.{Action, Call, VisitTree, Run}
-use Rattle.gix_tree.specs.Visits.{Items, Place, Visit, visit, visit_call, visit_call_of, Ending, Task, Turn, Show, Fault, shows}
+use Rattle.gix_tree.specs.Visits.{Items, Place, Visit, visit, Enters, visit_call, visit_call_of, Ending, Task, Turn, Show, Fault, shows}
 use Rattle.gix_tree.specs.Paths.{unknown_root}
 use Rattle.gix_tree.specs.Script.{items_or_none, entries_in, entries_at, IsLevelScript, IsDepthScript}
 use Rattle.gix_tree.specs.Laws.{GoesIn, subtrees, subtrees_of, EntersWhole, AllEnterWhole, AreSound, GoesOnlyInto}
+use Rattle.gix_tree.proofs.Outcomes.{says}
 use Rattle.gix_tree.proofs.TaskWalk as walk
 use Rattle.gix_tree.proofs.TaskWalk.{Manner, TaskWalk, all_with, level_walk, depth_walk}
 use Rattle.gix_tree.proofs.Theorems.Called.{called}
-use Rattle.gix_tree.proofs.Theorems.Met.{enters_tree}
 
 holds_first : (i : ObjectId) (ids : List ObjectId) → Contains (i ∷ ids) i
 holds_first i ids = (0, omega arith, refl)
@@ -121,7 +121,7 @@ module _ (trees : ObjectId → Option Items) (fails misses : ObjectId → Existi
     sound_walk sound (walk.turn rest) h only = sound_walk sound rest h.1 only
     sound_walk sound (walk.leaves {p = p} {e = e} {a = a} o rest) h only = (enters_whole p e a sound h.0 only.0, sound_walk sound rest h.1 only.1)
     sound_walk {m} sound (walk.enters {p = p} {e = e} {a = a} {tasks = tasks} o rest) h only =
-        let g = enters_tree (is_tree e.mode) _ a o in
+        let g = (says (is_tree e.mode) _ a Enters o).0 in
         let t = both_true (into e) (is_tree e.mode) (goes_into into (visit p e a) only.0 g) g.0 in
         let inner = fine_turn (p.names ++ e.name ∷ []) e.id p.ids (h.0.met t) (λ j among. h.0.below j among t) in
         (enters_whole p e a sound h.0 only.0, sound_walk sound rest (all_with trees IsFineTask m p e tasks h.1 (tt, inner) tt) only.1)

@@ -14,9 +14,10 @@ use Rattle.gix_tree.specs.declared.depthfirst.Stop.TheVariants as stop
 use Rattle.gix_tree.specs.Inside.ShowsBelow as below
 use Rattle.gix_tree.specs.Inside.ShowsBelow.{ShowsUpTo}
 use Rattle.gix_tree.specs.Walk.{trees_of}
-use Rattle.gix_tree.specs.Visits.{Items}
+use Rattle.gix_tree.specs.Visits.{Items, Enters}
 use Rattle.gix_tree.proofs.Depth.Stack.{Above}
-use Rattle.gix_tree.proofs.Work.Measure.{entry_bound, wait_less, enters_new}
+use Rattle.gix_tree.proofs.Outcomes.{says}
+use Rattle.gix_tree.proofs.Work.Measure.{entry_bound, wait_less}
 
 module _ (objects : Objects) where
   abbrev pub turn_bound : Waiting → ℕ
@@ -50,7 +51,7 @@ module _ (objects : Objects) where
     entry_grows : {e : TreeEntry} {old new : V} {queue left : LevelQueue} → ShowsEntry steps e old queue new left (Ok tt) → Grows queue left (entry_bound objects queue.known)
     entry_grows (shows.left a o run) = record { same = refl; work = omega arith }
     entry_grows {e = e} {queue = queue} (shows.entered a o run) =
-        let new = enters_new (is_tree e.mode) (is_among e.id queue.known) a o in
+        let new = (says (is_tree e.mode) (is_among e.id queue.known) a Enters o).1 in
         record {
           same = refl;
           work = omega (arith, work_more queue.waiting (e.id, e.id ∷ queue.known), wait_less objects e.id queue.known (trees_of objects e.id) refl new);
@@ -77,7 +78,7 @@ module _ (objects : Objects) where
       new : is_among i ids ≡ false
 
     goes_into : {ids : List ObjectId} {items left : Items} {old now : V} {i : ObjectId} → ShowsUpTo steps ids items old now (Ok (stop.Into i)) left → GoesInto ids items left i
-    goes_into {ids = ids} (below.stops {e = e} (below.entered a o run)) = record { fewer = omega arith; new = enters_new (is_tree e.mode) (is_among e.id ids) a o }
+    goes_into {ids = ids} (below.stops {e = e} (below.entered a o run)) = record { fewer = omega arith; new = (says (is_tree e.mode) (is_among e.id ids) a Enters o).1 }
     goes_into (below.goes_on shown rest) = let h = goes_into rest in record { fewer = omega (arith, h.fewer); new = h.new }
 
     pub descent_lessens : (ids : List ObjectId) (items left sub : Items) (above : List Above) (i : ObjectId) {old now : V} → ShowsUpTo steps ids items old now (Ok (stop.Into i)) left → trees_of objects i ≡ Some sub → stack_work ((i ∷ ids, sub) ∷ (ids, left) ∷ above) < stack_work ((ids, items) ∷ above)

@@ -3,16 +3,15 @@ use Rattle.std.proofs.Common.{◌≡◌, ℕ, zero, suc, ◌+◌, ◌*◌, ◌<�
 use Rattle.std.proofs.Math.Nat.{mul-le-mul_left, mul-le-mul_right}
 use Rattle.std.specs.Prelude.{if◌then◌else◌, is_some}
 use Rattle.std.specs.FinMap.{get, keys, contains_key-keys}
-use Rattle.std.specs.declared.ops.ControlFlow.TheVariants.{Continue, Break}
 use Rattle.gix_hash.specs.declared.ObjectId.{ObjectId}
 use Rattle.gix_hash.proofs.Ids.Membership.{same_is}
 use Rattle.gix_hash.specs.Id.{is_same, is_among}
 use Rattle.gix_object.specs.Object.{Object, Objects}
 use Rattle.gix_object.specs.TreeItems.{TreeEntry, is_tree}
-use Rattle.gix_tree.specs.Delegate.{Action}
-use Rattle.gix_tree.specs.Visits.{Items, Place, visit, inside, Outcome, Leaves, Enters, Cycles, Breaks, outcome_of, outcome, Turn, shows}
+use Rattle.gix_tree.specs.Visits.{Items, Place, visit, inside, Outcome, Leaves, Enters, Cycles, Breaks, outcome, Turn, shows}
 use Rattle.gix_tree.specs.Script.{items_or_none, tasks_behind}
 use Rattle.gix_tree.specs.Walk.{items_of_object, trees_of}
+use Rattle.gix_tree.proofs.Outcomes.{says}
 use Rattle.gix_tree.specs.Measure.{room, widest, steps_of, entry_work, work, WorkLessens}
 
 turned : (a b : ObjectId) → is_same a b ≡ true → is_same b a ≡ true
@@ -60,15 +59,6 @@ less_room width m zero h = absurd (omega arith)
 less_room width m (suc n) h =
     let le : steps_of width m ≤ steps_of width n = more_room width m n (omega arith) in
     omega (arith, mul-le-mul_left width le)
-
-pub enters_new : (t known : Bool) (a : Action) → outcome_of t a known ≡ Enters → known ≡ false
-enters_new true false a o = refl
-enters_new true true (Continue true) o = cc
-enters_new true true (Continue false) o = cc
-enters_new true true (Break b) o = cc
-enters_new false known (Continue true) o = cc
-enters_new false known (Continue false) o = cc
-enters_new false known (Break b) o = cc
 
 wide_enough : (trees : ObjectId → Option Items) (stored : List ObjectId) (i : ObjectId) → is_among i stored ≡ true → length (items_or_none (trees i)) ≤ widest trees stored
 wide_enough trees [] i h = cc
@@ -119,6 +109,6 @@ module _ (objects : Objects) where
     where
       go : (o : Outcome) → outcome (visit p e a) ≡ o → work objects (tasks_behind (trees_of objects) p e o) < entry_work objects p
       go Leaves o = some_work p
-      go Enters o = work_inside p e (enters_new (is_tree e.mode) _ a o)
+      go Enters o = work_inside p e (says (is_tree e.mode) _ a Enters o).1
       go Cycles o = some_work p
       go Breaks o = some_work p
