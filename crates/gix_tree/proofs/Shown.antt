@@ -30,7 +30,8 @@ plain_leaves true false known h = refl
 plain_leaves true true known h = let e = h refl in cc
 
 -- where a tree's visit leads, by whether its id is known
-pub leads : (ids : List ObjectId) (e : TreeEntry) (known : Bool) (o : Outcome) → is_tree e.mode ≡ true → is_among e.id ids ≡ known → outcome_of true (Continue true) known ≡ o → outcome (visit_below ids e (Continue true)) ≡ o
+pub leads : (ids : List ObjectId) (e : TreeEntry) (known : Bool) (o : Outcome) → is_tree e.mode ≡ true → is_among e.id ids ≡ known → outcome_of true (Continue true) known ≡ o
+    → outcome (visit_below ids e (Continue true)) ≡ o
 leads ids e known o t k h = (λ i. outcome_of (t i) (Continue true) (k i)) ∙ h
 
 module _ {V : Type 0} (steps : V → Call → V → Type 0) (e : TreeEntry) (queue : LevelQueue) (old : V) where

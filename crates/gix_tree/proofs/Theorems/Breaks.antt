@@ -29,7 +29,8 @@ module _ (m : Manner) where
     broken : {calls : List Call} {visits : List Visit} → EndsAtBreak (calls_by m) calls visits → BreaksAt Broken calls visits
 
   -- behind calls and visits none of which was answered `Break`
-  behind : {end : Ending} {calls : List Call} {visits : List Visit} (more : List Call) (earlier : List Visit) → NoneBreaks earlier → BreaksAt end calls visits → BreaksAt end (more ++ calls) (earlier ++ visits)
+  behind : {end : Ending} {calls : List Call} {visits : List Visit} (more : List Call) (earlier : List Visit) → NoneBreaks earlier → BreaksAt end calls visits
+      → BreaksAt end (more ++ calls) (earlier ++ visits)
   behind {visits = visits} more earlier none (unbroken ne h) = unbroken ne (all_both (λ v. (b : Unit {0}) → v.answer ≢ Break b) earlier visits none h)
   behind more earlier none (broken h) = broken (record {
     before = more ++ h.before;

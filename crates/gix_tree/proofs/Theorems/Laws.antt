@@ -53,7 +53,8 @@ pub go_on : (visits : List Visit) → AllByRecursion (λ v. IsRecorderAnswer (vi
 go_on [] h = tt
 go_on (v ∷ visits) h = (of_answer (is_tree v.entry.mode) v.entry v.answer h.0, go_on visits h.1)
 
-memory_left : (answer_of : Ending → Result (Unit {0}) Error) {answer : Result (Unit {0}) Error} {end : Ending} → answer_of (Failed error.Memory) ≡ Err error.Memory → answer ≡ answer_of end → answer ≢ Err error.Memory → end ≢ Failed error.Memory
+memory_left : (answer_of : Ending → Result (Unit {0}) Error) {answer : Result (Unit {0}) Error} {end : Ending} → answer_of (Failed error.Memory) ≡ Err error.Memory → answer ≡ answer_of end
+    → answer ≢ Err error.Memory → end ≢ Failed error.Memory
 memory_left answer_of memory is ne e = ne (is ∙ ap answer_of e ∙ memory)
 
 level_ok : (end : Ending) → Ok tt ≡ level_answer end → end ≡ Whole
@@ -158,13 +159,15 @@ module _ {V : Type 0} (objects : Objects) (faulty : ObjectId → Type 0) (steps 
   met_levels_succeed root old new answer walk whole enter ne = unless_failed walk.end (λ why is.
       let none = none_breaks ByLevels (λ e. cc) (breaks_at ByLevels (trees_of objects) (LookUpFails objects faulty) (levels_walk walk)) in
       let tasks = shows_whole (trees_of objects) (LookUpFails objects faulty) (LookUpFailed objects faulty answer) unknown_root root (whole none) in
-      met (trees_of objects) (LookUpFails objects faulty) (LookUpFailed objects faulty answer) (levels_walk walk) tasks (enter none) (memory_left level_answer refl walk.answered ne, λ i e f s. (f, walk.answered ∙ ap level_answer s)))
+      met (trees_of objects) (LookUpFails objects faulty) (LookUpFailed objects faulty answer) (levels_walk walk) tasks (enter none)
+      (memory_left level_answer refl walk.answered ne, λ i e f s. (f, walk.answered ∙ ap level_answer s)))
 
   pub met_depth_succeeds : MetDepthSucceeds objects faulty steps
   met_depth_succeeds root old new answer walk whole enter ne = unless_failed walk.end (λ why is.
       let none = none_breaks InDepth (λ e. cc) (breaks_at InDepth (trees_of objects) (LookUpFails objects faulty) (walk_in_depth walk)) in
       let tasks = turn_whole (trees_of objects) (LookUpFails objects faulty) (LookUpFailed objects faulty answer) (known_root root) root (whole none) in
-      met (trees_of objects) (LookUpFails objects faulty) (LookUpFailed objects faulty answer) (walk_in_depth walk) tasks (enter none) (memory_left depth_answer refl walk.answered ne, λ i e f s. (f, walk.answered ∙ ap depth_answer s)))
+      met (trees_of objects) (LookUpFails objects faulty) (LookUpFailed objects faulty answer) (walk_in_depth walk) tasks (enter none)
+      (memory_left depth_answer refl walk.answered ne, λ i e f s. (f, walk.answered ∙ ap depth_answer s)))
 
   pub sound_levels_succeed : SoundLevelsSucceed objects faulty steps
   sound_levels_succeed root old new answer walk into goes w sound ne =

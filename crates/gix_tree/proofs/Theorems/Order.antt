@@ -51,16 +51,19 @@ module _ (trees : ObjectId → Option Items) (fails : ObjectId → ExistingError
     is = rw (flat_map-append (entries_of (entries_at trees)) done (v ∷ [])) (shift (map (λ x. (p, x)) root) _ h.passed left (entries_of (entries_at trees) v) (v.place, v.entry) h.is);
   }
 
-  seen_leaves : {done : List Visit} {left : List (Place × TreeEntry)} (q : Place) (e : TreeEntry) (a : Action) → outcome (visit q e a) ≡ Leaves → Seen done ((q, e) ∷ left) → Seen (done ++ visit q e a ∷ []) left
+  seen_leaves : {done : List Visit} {left : List (Place × TreeEntry)} (q : Place) (e : TreeEntry) (a : Action) → outcome (visit q e a) ≡ Leaves → Seen done ((q, e) ∷ left)
+      → Seen (done ++ visit q e a ∷ []) left
   seen_leaves {left = left} q e a o h = rw (o, append-nil left) at (seen_more (visit q e a) h)
 
-  seen_enters : {done : List Visit} (tasks : List Task) (q : Place) (e : TreeEntry) (a : Action) → outcome (visit q e a) ≡ Enters → Seen done ((q, e) ∷ shown_in tasks) → Seen (done ++ visit q e a ∷ []) (shown_in (tasks ++ tasks_in trees q e))
+  seen_enters : {done : List Visit} (tasks : List Task) (q : Place) (e : TreeEntry) (a : Action) → outcome (visit q e a) ≡ Enters → Seen done ((q, e) ∷ shown_in tasks)
+      → Seen (done ++ visit q e a ∷ []) (shown_in (tasks ++ tasks_in trees q e))
   unfolding shown_of
   seen_enters {done} tasks q e a o h =
       let named = flat_map-append shown_of tasks (tasks_in trees q e) ∙ ap (λ l. shown_in tasks ++ l) (shown_in-shows (inside q e) (items_or_none (trees e.id))) in
       subst (λ l. Seen (done ++ visit q e a ∷ []) l) (sym named) (rw o at (seen_more (visit q e a) h))
 
-  level_follows : (done : List Visit) {tasks : List Task} {calls : List Call} {visits : List Visit} {end : Ending} → TaskWalk trees fails ByLevels tasks calls visits end → IsUnfailed end → Seen done (shown_in tasks)
+  level_follows : (done : List Visit) {tasks : List Task} {calls : List Call} {visits : List Visit} {end : Ending} → TaskWalk trees fails ByLevels tasks calls visits end → IsUnfailed end
+      → Seen done (shown_in tasks)
       → FollowsInLevels (entries_at trees) p root done visits
   unfolding shown_of
   level_follows done walk.whole w h = rw (h.is, ← h.many, append-nil h.passed) (past_end h.passed)
@@ -86,7 +89,8 @@ module _ (trees : ObjectId → Option Items) (fails : ObjectId → ExistingError
   none_seen : Seen trees fails p (entries_in root) [] (shown_in (shows p root))
   none_seen = record { passed = []; many = refl; is = append-nil _ ∙ sym (shown_in-shows p root) }
 
-  pub level_order : {calls : List Call} {visits : List Visit} {end : Ending} → IsLevelScript trees fails p root calls visits end → IsUnfailed end → IsLevelOrder (entries_at trees) p (entries_in root) visits
+  pub level_order : {calls : List Call} {visits : List Visit} {end : Ending} → IsLevelScript trees fails p root calls visits end → IsUnfailed end
+      → IsLevelOrder (entries_at trees) p (entries_in root) visits
   level_order walk w = level_follows trees fails p (entries_in root) [] (level_walk trees fails p root walk) w none_seen
 
   -- the visits of any walk by levels are a beginning of level order

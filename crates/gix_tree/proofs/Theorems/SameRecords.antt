@@ -111,7 +111,8 @@ module _ (trees : ObjectId → Option Items) (fails : ObjectId → ExistingError
   unfolding names_of
   tree_parts ByLevels p e tasks {us} u =
       let inner = under (at_names p.names e) (entries_at trees e.id) in
-      let is : names_in (tasks ++ tasks_in trees p e) ≡ names_in tasks ++ inner = flat_map-append names_of tasks (tasks_in trees p e) ∙ ap (λ l. names_in tasks ++ l) (names_in-shows (inside p e) (items_or_none (trees e.id))) in
+      let is : names_in (tasks ++ tasks_in trees p e) ≡ names_in tasks ++ inner =
+      flat_map-append names_of tasks (tasks_in trees p e) ∙ ap (λ l. names_in tasks ++ l) (names_in-shows (inside p e) (items_or_none (trees e.id))) in
       let r = parts (entries_at trees) (names_in tasks) inner (subst (λ l. Unfolds (entries_at trees) l us) is u) in
       record {
         front = r.back;
@@ -122,10 +123,12 @@ module _ (trees : ObjectId → Option Items) (fails : ObjectId → ExistingError
       }
   tree_parts InDepth p e tasks {us} u =
       let inner = under (at_names p.names e) (entries_at trees e.id) in
-      let is : names_in (tasks_in trees p e ++ Turn p e.id ∷ tasks) ≡ inner ++ names_in tasks = flat_map-append names_of (tasks_in trees p e) (Turn p e.id ∷ tasks) ∙ ap (λ l. l ++ names_in tasks) (names_in-shows (inside p e) (items_or_none (trees e.id))) in
+      let is : names_in (tasks_in trees p e ++ Turn p e.id ∷ tasks) ≡ inner ++ names_in tasks =
+      flat_map-append names_of (tasks_in trees p e) (Turn p e.id ∷ tasks) ∙ ap (λ l. l ++ names_in tasks) (names_in-shows (inside p e) (items_or_none (trees e.id))) in
       parts (entries_at trees) inner (names_in tasks) (subst (λ l. Unfolds (entries_at trees) l us) is u)
 
-  walk_shows : {m : Manner} {tasks : List Task} {calls : List Call} {visits : List Visit} {end : Ending} → TaskWalk trees fails m tasks calls visits end → end ≡ Whole → GoOn visits → Shows (names_in tasks) visits
+  walk_shows : {m : Manner} {tasks : List Task} {calls : List Call} {visits : List Visit} {end : Ending} → TaskWalk trees fails m tasks calls visits end → end ≡ Whole → GoOn visits
+      → Shows (names_in tasks) visits
   unfolding names_of
   walk_shows walk.whole w h = record { all = []; unfolds = none; moved = IsPermutation-refl [] }
   walk_shows (walk.stops why) w h = cc
@@ -148,7 +151,8 @@ module _ (trees : ObjectId → Option Items) (fails : ObjectId → ExistingError
 
   -- both walks of one whole tree show the same entries under the same names, as often
   pub both_show : (root : ObjectId) (items : Items) {calls more : List Call} {visits others : List Visit} {end last : Ending} → trees root ≡ Some items → end ≡ Whole → last ≡ Whole
-      → TaskWalk trees fails ByLevels (shows unknown_root items) calls visits end → TaskWalk trees fails InDepth (Turn (known_root root) root ∷ shows (known_root root) (items_or_none (trees root))) more others last
+      → TaskWalk trees fails ByLevels (shows unknown_root items) calls visits end
+      → TaskWalk trees fails InDepth (Turn (known_root root) root ∷ shows (known_root root) (items_or_none (trees root))) more others last
       → GoOn visits → GoOn others → IsPermutation (map shown_by visits) (map shown_by others)
   unfolding names_of
   both_show root items {visits = visits} {others = others} is w z level depth h g =

@@ -105,7 +105,8 @@ module _ (trees : ObjectId → Option Items) (fails misses : ObjectId → Existi
     fine_turn names i ids met below = fine_shows (record { names = names; ids = i ∷ ids }) (items_or_none (trees i)) (λ x h. fine_in i ids x met below h)
 
     -- a visit that goes in finds a whole tree, which isn't above it
-    enters_whole : (p : Place) (e : TreeEntry) (a : Action) → AreSound trees misses into starts → Fine starts p.ids e → IsOnlyInto into (visit_call (visit p e a)) → GoesIn (visit p e a) → EntersWhole trees misses (visit p e a)
+    enters_whole : (p : Place) (e : TreeEntry) (a : Action) → AreSound trees misses into starts → Fine starts p.ids e → IsOnlyInto into (visit_call (visit p e a)) → GoesIn (visit p e a)
+        → EntersWhole trees misses (visit p e a)
     enters_whole p e a sound h only g =
         let t = both_true (into e) (is_tree e.mode) (goes_into into (visit p e a) only g) g.0 in
         record { whole = sound.whole e.id (h.met t); free = go (is_among e.id p.ids) refl t }
@@ -130,7 +131,8 @@ module _ (trees : ObjectId → Option Items) (fails misses : ObjectId → Existi
 
   -- OF A ROOT
 
-  pub sound_level_visits : (root : Items) {calls : List Call} {visits : List Visit} {end : Ending} → AreSound trees misses into (subtrees into (entries_in root)) → IsLevelScript trees fails unknown_root root calls visits end
+  pub sound_level_visits : (root : Items) {calls : List Call} {visits : List Visit} {end : Ending} → AreSound trees misses into (subtrees into (entries_in root))
+      → IsLevelScript trees fails unknown_root root calls visits end
       → AllByRecursion (IsOnlyInto into) calls → AllEnterWhole trees misses visits
   sound_level_visits root sound script only =
       let starts = subtrees into (entries_in root) in

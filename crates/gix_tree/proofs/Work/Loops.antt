@@ -62,7 +62,8 @@ module _ (objects : Objects) where
     tree_grows {queue = queue} (shows.goes_on {items = items} {more = more} {left = left} shown rest) =
         let one = entry_grows shown in
         let others = tree_grows rest in
-        let bound : waiting_work left.waiting ≤ waiting_work more.waiting + length items * entry_bound objects queue.known = subst (λ ids. waiting_work left.waiting ≤ waiting_work more.waiting + length items * entry_bound objects ids) one.same others.work in
+        let bound : waiting_work left.waiting ≤ waiting_work more.waiting + length items * entry_bound objects queue.known =
+        subst (λ ids. waiting_work left.waiting ≤ waiting_work more.waiting + length items * entry_bound objects ids) one.same others.work in
         record { same = others.same ∙ one.same; work = omega (arith, bound, one.work) }
 
     pub turn_lessens : (i : ObjectId) (items : Items) (waiting : List Waiting) {old new : V} {queue left : LevelQueue} → waiting ≡ (i, queue.known) ∷ queue.waiting → trees_of objects i ≡ Some items → ShowsTree steps items old queue new left (Ok tt) → waiting_work left.waiting < waiting_work waiting

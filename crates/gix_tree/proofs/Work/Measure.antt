@@ -83,7 +83,8 @@ module _ (objects : Objects) where
   entry_bound ids = steps_of (widest (trees_of objects) (keys objects)) (room (keys objects) ids)
 
   -- a tree that is gone into leads to less than its entry may
-  pub wait_less : (i : ObjectId) (ids : List ObjectId) (found : Option Items) → trees_of objects i ≡ found → is_among i ids ≡ false → 1 + length (items_or_none found) * entry_bound (i ∷ ids) < entry_bound ids
+  pub wait_less : (i : ObjectId) (ids : List ObjectId) (found : Option Items) → trees_of objects i ≡ found → is_among i ids ≡ false
+      → 1 + length (items_or_none found) * entry_bound (i ∷ ids) < entry_bound ids
   wait_less i ids None is new = omega (arith, some_steps (widest (trees_of objects) (keys objects)) (room (keys objects) ids))
   wait_less i ids (Some items) is new =
       let width = widest (trees_of objects) (keys objects) in
