@@ -9,12 +9,12 @@ use Rattle.gix_commitgraph.specs.Rows.{GraphRow}
 use Rattle.gix_revwalk.specs.declared.Info.{Info}
 use Rattle.gix_revwalk.specs.declared.Parents.TheVariants as mode
 use Rattle.gix_simple.specs.declared.Sorting.TheVariants as sorting
-use Rattle.gix_commands.specs.declared.fault.Fault.{Fault}
-use Rattle.gix_commands.specs.declared.fault.Fault.TheVariants as fault
+use Rattle.gix_words.specs.declared.fault.Fault.{Fault}
+use Rattle.gix_words.specs.declared.fault.Fault.TheVariants as fault
 use Rattle.gix_commands.specs.Ahead.{Counts, FailsToCount, Numbers, ahead_line}
 use Rattle.gix_commands.specs.Run.{Serves, counted, unserved, not_written}
 use Rattle.gix_commands.specs.Walked.{Walk, Answers, IsWalkFault, StartsFrom, given, finished, failed, cut_short}
-use Rattle.gix_commands.specs.Words.{Ahead}
+use Rattle.gix_words.specs.Words.{Ahead}
 use Rattle.gix_commands.proofs.MemoryFaults.{failed_so}
 
 module _ {W E : Type 0} (Steps : W → Option (Result Info E) → W → Type 0) (Tells : E → Fault → Type 0) (walk : W) (infos : List Info) where

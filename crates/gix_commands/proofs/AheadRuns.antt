@@ -18,7 +18,7 @@ use Rattle.gix_commands.specs.Histories.{AreWhole, IsPartOf, IsShown, IsSimpleBy
 use Rattle.gix_records.specs.Records.{stored}
 use Rattle.gix_commands.specs.Run.{Serves, counted}
 use Rattle.gix_commands.specs.Walked.{Answers, IsWalkFault, Ends, finished}
-use Rattle.gix_commands.specs.Words.{Ahead}
+use Rattle.gix_words.specs.Words.{Ahead}
 use Rattle.gix_revwalk.proofs.Rows.{none_agree}
 use Rattle.gix_commands.proofs.CommitRuns.{served_so}
 use Rattle.gix_commands.proofs.KeptLists.{all_followed, tips_kept}

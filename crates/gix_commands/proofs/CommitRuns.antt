@@ -21,13 +21,13 @@ use Rattle.gix_revwalk.specs.Commits.{by_mode, parents_of, time_of}
 use Rattle.gix_revwalk.specs.Texts.{text_next}
 use Rattle.gix_revwalk.proofs.Reached.{reach_more}
 use Rattle.gix_revwalk.proofs.ReadsWhole.{walked_within}
-use Rattle.gix_commands.specs.declared.fault.Fault.{Fault}
-use Rattle.gix_commands.specs.declared.words.Order.TheVariants.{Simple}
+use Rattle.gix_words.specs.declared.fault.Fault.{Fault}
+use Rattle.gix_words.specs.declared.words.Order.TheVariants.{Simple}
 use Rattle.gix_commands.specs.Histories.{AreStored, AreWhole, IsPartOf, IsSimpleBy, ListsBy, SimpleListsRead, SimpleLists, SimpleListsOfPart, EndsWell, followed, kept_tips, lines_of_ids}
 use Rattle.gix_records.specs.Records.{Record, AreRecords, stored}
 use Rattle.gix_commands.specs.Run.{Runs, Serves, walked, without_memory, no_command, not_read, bad_record, served}
 use Rattle.gix_commands.specs.Walked.{Walk, Answers, IsWalkFault, Ends, StartsFrom, finished, lines_of, line_of}
-use Rattle.gix_commands.specs.Words.{Request, Commits, request_of}
+use Rattle.gix_words.specs.Words.{Request, Commits, request_of}
 use Rattle.gix_records.proofs.RecordFacts.{only_reading, no_bad_record}
 use Rattle.gix_revwalk.proofs.Rows.{none_agree}
 use Rattle.gix_revwalk.proofs.TextParents.{commit_stored}

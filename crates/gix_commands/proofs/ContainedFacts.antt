@@ -9,12 +9,12 @@ use Rattle.gix_commitgraph.specs.Rows.{GraphRow}
 use Rattle.gix_contained.specs.declared.Error.{Error as ContainedError}
 use Rattle.gix_contained.specs.declared.Error.TheVariants as contained_error
 use Rattle.gix_contained.specs.Contained.{Selects, FailsBy}
-use Rattle.gix_commands.specs.declared.fault.Fault.{Fault}
-use Rattle.gix_commands.specs.declared.fault.Fault.TheVariants as fault
-use Rattle.gix_commands.specs.Faults.{fault_of_contained}
+use Rattle.gix_words.specs.declared.fault.Fault.{Fault}
+use Rattle.gix_words.specs.declared.fault.Fault.TheVariants as fault
+use Rattle.gix_words.specs.Faults.{fault_of_contained}
 use Rattle.gix_commands.specs.Run.{Serves, selected, not_selected, unserved, not_written}
 use Rattle.gix_commands.specs.Walked.{line_of}
-use Rattle.gix_commands.specs.Words.{Contained}
+use Rattle.gix_words.specs.Words.{Contained}
 use Rattle.gix_commands.proofs.MemoryFaults.{failed_so}
 
 module _ (objects : Objects) (rows : List GraphRow) (old : Option (List ℕ)) (tip : ObjectId) (ids : List ObjectId) where

@@ -21,12 +21,12 @@ use Rattle.gix_revwalk.proofs.Reached.{reach_more}
 use Rattle.gix_revwalk.proofs.ReadsWhole.{row_stands}
 use Rattle.gix_revwalk.proofs.Rows.{none_agree}
 use Rattle.gix_simple.proofs.Difference.{whole_from}
-use Rattle.gix_commands.specs.declared.fault.Fault.{Fault}
-use Rattle.gix_commands.specs.Faults.{fault_of_contained}
+use Rattle.gix_words.specs.declared.fault.Fault.{Fault}
+use Rattle.gix_words.specs.Faults.{fault_of_contained}
 use Rattle.gix_commands.specs.Histories.{AreWhole, EndsWell, IsPartOf, ContainsIds, ContainsIdsOfPart, ContainsSucceeds, lines_of_ids}
 use Rattle.gix_commands.specs.Run.{Serves, selected, not_selected, unserved, not_written}
 use Rattle.gix_commands.specs.Walked.{never_faulty}
-use Rattle.gix_commands.specs.Words.{Contained}
+use Rattle.gix_words.specs.Words.{Contained}
 use Rattle.gix_commands.proofs.CommitRuns.{ends_well, served_so}
 use Rattle.gix_commands.proofs.InternalFacts.{contained_sound}
 use Rattle.gix_commands.proofs.NamedTips.{some_ids}

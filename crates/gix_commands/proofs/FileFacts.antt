@@ -12,12 +12,12 @@ use Rattle.gix_commitgraph.specs.Rows.{GraphRow}
 use Rattle.gix_tree.specs.declared.breadthfirst.Error.{Error}
 use Rattle.gix_tree.specs.Recorder.{Record}
 use Rattle.gix_tree.specs.Tracked.{Tracked}
-use Rattle.gix_commands.specs.declared.fault.Fault.{Fault}
-use Rattle.gix_commands.specs.declared.fault.Fault.TheVariants as fault
-use Rattle.gix_commands.specs.Faults.{fault_of_tree_walk}
+use Rattle.gix_words.specs.declared.fault.Fault.{Fault}
+use Rattle.gix_words.specs.declared.fault.Fault.TheVariants as fault
+use Rattle.gix_words.specs.Faults.{fault_of_tree_walk}
 use Rattle.gix_commands.specs.Files.{RecordsTree, six_octal_digits, file_line, AreLinesOf, IsTreeFault}
 use Rattle.gix_commands.specs.Run.{Serves, listed, not_listed, unserved, not_written}
-use Rattle.gix_commands.specs.Words.{Files}
+use Rattle.gix_words.specs.Words.{Files}
 use Rattle.gix_commands.proofs.MemoryFaults.{failed_so}
 
 -- six places, filled up with zeros

@@ -18,15 +18,15 @@ use Rattle.gix_tree.specs.Walk.{LookUpFails, depth_answer, trees_of, LookUpFaile
 use Rattle.gix_tree.proofs.Theorems.Called.{root_called}
 use Rattle.gix_tree.proofs.Theorems.Laws.{go_on, depth_ok, depth_is_in_order, depth_is_recorded, sound_depth_succeeds}
 use Rattle.gix_tree.proofs.Theorems.SameRecords.{unbroken}
-use Rattle.gix_commands.specs.declared.fault.Fault.{Fault}
-use Rattle.gix_commands.specs.Faults.{fault_of_tree_walk}
+use Rattle.gix_words.specs.declared.fault.Fault.{Fault}
+use Rattle.gix_words.specs.Faults.{fault_of_tree_walk}
 use Rattle.gix_commands.specs.Files.{RecordsTree, file_lines}
 use Rattle.gix_commands.specs.Histories.{EndsWell, IsOutside, IsPartOf}
 use Rattle.gix_commands.specs.Listings.{Unfolds, FilesLists, FilesListsOfPart, FilesSucceeds}
 use Rattle.gix_records.specs.Records.{stored}
 use Rattle.gix_commands.specs.Run.{Serves, listed, not_listed, unserved, not_written}
 use Rattle.gix_commands.specs.Walked.{never_faulty}
-use Rattle.gix_commands.specs.Words.{Files}
+use Rattle.gix_words.specs.Words.{Files}
 use Rattle.gix_commands.proofs.CommitRuns.{served_so, ends_well}
 use Rattle.gix_commands.proofs.TreeParts.{records_all}
 

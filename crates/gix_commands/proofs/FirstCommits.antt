@@ -15,12 +15,12 @@ use Rattle.gix_revwalk.proofs.Rows.{none_agree}
 use Rattle.gix_simple.specs.declared.Sorting.{Sorting}
 use Rattle.gix_simple.specs.Walk.{time_order}
 use Rattle.gix_topo.specs.declared.Sorting.{Sorting as TopoSorting}
-use Rattle.gix_commands.specs.declared.words.Order.TheVariants.{Simple, Topo}
+use Rattle.gix_words.specs.declared.words.Order.TheVariants.{Simple, Topo}
 use Rattle.gix_commands.specs.Histories.{AreStored, IsPartOf, IsSimpleBy, IsSimpleList, ListsRead, SimpleBegins, SimpleBeginsOfPart, SimpleListsRead, TopoBegins, TopoBeginsOfPart, kept_tips, lines_of_ids}
 use Rattle.gix_commands.specs.Run.{Serves, walked, walked_down}
 use Rattle.gix_commands.specs.TopoWalked as topo
 use Rattle.gix_commands.specs.Walked.{Walk, Answers, IsWalkFault, StartsFrom, EndsWithin, enough, before, lines_of}
-use Rattle.gix_commands.specs.Words.{Commits}
+use Rattle.gix_words.specs.Words.{Commits}
 use Rattle.gix_commands.proofs.CommitRuns.{all_found, ids_in, lines_by_ids, list_in_all, listed, served_so}
 use Rattle.gix_commands.proofs.Parts.{by_parents}
 use Rattle.gix_commands.proofs.SimpleBegins.{AreFirstOf, first_given}

@@ -6,11 +6,11 @@ use Rattle.gix_commitgraph.specs.Rows.{GraphRow}
 use Rattle.gix_records.specs.declared.Error.{Error as RecordsError}
 use Rattle.gix_records.specs.Input.{Tells}
 use Rattle.gix_records.specs.Records.{IsRecordFault, bad, no_memory}
-use Rattle.gix_commands.specs.declared.fault.Fault.{Fault}
-use Rattle.gix_commands.specs.declared.fault.Fault.TheVariants as fault
-use Rattle.gix_commands.specs.Faults.{fault_of_records}
+use Rattle.gix_words.specs.declared.fault.Fault.{Fault}
+use Rattle.gix_words.specs.declared.fault.Fault.TheVariants as fault
+use Rattle.gix_words.specs.Faults.{fault_of_records}
 use Rattle.gix_commands.specs.Run.{Serves, Runs, without_memory, no_command, not_read, bad_record, served}
-use Rattle.gix_commands.specs.Words.{Request, request_of}
+use Rattle.gix_words.specs.Words.{Request, request_of}
 use Rattle.gix_commands.proofs.WalkFaults.{OfWalk, serves_of_walk}
 use Rattle.gix_commands.proofs.WordFaults.{OfWords, request_words}
 

@@ -18,12 +18,12 @@ use Rattle.gix_simple.specs.declared.Error.TheVariants as error
 use Rattle.gix_paint.specs.declared.Hidden.{Hidden}
 use Rattle.gix_paint.specs.declared.Hidden.TheVariants as hidden_by
 use Rattle.gix_simple.specs.declared.Sorting.{Sorting}
-use Rattle.gix_revwalk.specs.declared.Pending.{Pending}
+use Rattle.gix_revwalk.specs.Pending.{Pending}
 use Rattle.gix_simple.specs.Walk.{Treated, GoesOn, StoreFails, NoMemory, ReadsTime, unasked, from_row, from_store, store_fails, Treats, hidden, known, refused, accepted, no_memory, no_memory_after, TreatsAll, none, more, stops, Concludes, given, broken, Takes, by_row, by_store, not_found, Steps, ended, took, FirstStep, unhidden, paints, faulty_history, initial, later}
 use Rattle.gix_paint.specs.Painting.{IsHiddenFault}
 use Rattle.gix_simple.specs.Building.{IsTipFault}
-use Rattle.gix_commands.specs.declared.fault.Fault.TheVariants as fault
-use Rattle.gix_commands.specs.Faults.{fault_of_find, fault_of_walk, fault_of_contained}
+use Rattle.gix_words.specs.declared.fault.Fault.TheVariants as fault
+use Rattle.gix_words.specs.Faults.{fault_of_find, fault_of_walk, fault_of_contained}
 use Rattle.gix_commands.specs.Walked.{Walk, FailsAtStart, Answers, objects_of, never_faulty, accepts_all}
 
 -- an answer that reports no failing store

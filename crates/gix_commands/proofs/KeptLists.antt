@@ -11,7 +11,7 @@ use Rattle.gix_object.specs.Object.{Objects}
 use Rattle.gix_revwalk.specs.declared.CommitTimeOrder.{CommitTimeOrder}
 use Rattle.gix_revwalk.specs.declared.Parents.{Parents}
 use Rattle.gix_revwalk.specs.declared.Parents.TheVariants as mode
-use Rattle.gix_revwalk.specs.declared.Pending.{Pending}
+use Rattle.gix_revwalk.specs.Pending.{Pending}
 use Rattle.gix_revwalk.specs.Commits.{by_mode, time_of}
 use Rattle.gix_revwalk.specs.BreadthOrder.{first_new, named_by}
 use Rattle.gix_revwalk.specs.Ids.{ids_of, new_ids}

@@ -13,8 +13,8 @@ use Rattle.gix_tree.specs.Delegate.{Action, Call, PushPath, PopPath, PushBack, P
 use Rattle.gix_tree.specs.Recorder.{Record, Recorded, IsRecorderAnswer, recorded, with_record}
 use Rattle.gix_tree.specs.Tracked.{Tracked, Tracks, fresh_recorder}
 use Rattle.gix_tree.specs.Walk.{DepthFirst}
-use Rattle.gix_commands.specs.declared.fault.Fault.{Fault}
-use Rattle.gix_commands.specs.Faults.{fault_of_tree_walk}
+use Rattle.gix_words.specs.declared.fault.Fault.{Fault}
+use Rattle.gix_words.specs.Faults.{fault_of_tree_walk}
 use Rattle.gix_commands.specs.Files.{RecordsTree, file_line, file_lines, AreLinesOf, IsTreeFault}
 use Rattle.gix_commands.specs.Lister.{Listed, Moves, AddsLine, Lists, fresh_lister}
 use Rattle.gix_commands.specs.Walked.{never_faulty}

@@ -1,8 +1,8 @@
 -- A fault is out of memory, or another.
 use Rattle.std.specs.Prelude.{◌≡◌, ◌≢◌, Result, Err}
 use Rattle.std.proofs.Common.{sym, subst}
-use Rattle.gix_commands.specs.declared.fault.Fault.{Fault}
-use Rattle.gix_commands.specs.declared.fault.Fault.TheVariants as fault
+use Rattle.gix_words.specs.declared.fault.Fault.{Fault}
+use Rattle.gix_words.specs.declared.fault.Fault.TheVariants as fault
 
 module _ (P : Result (Unit {0}) Fault → Type 0) (memory : P (Err fault.Memory)) where
   of_fault : (e : Fault) → (e ≢ fault.Memory → P (Err e)) → P (Err e)

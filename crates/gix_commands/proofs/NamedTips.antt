@@ -2,8 +2,8 @@
 use Rattle.std.specs.Prelude.{◌≡◌, ◌≢◌, ℕ, List, [], Option, Ok}
 use Rattle.std.proofs.Common.{subst}
 use Rattle.gix_hash.specs.declared.ObjectId.{ObjectId}
-use Rattle.gix_commands.specs.declared.words.Order.{Order}
-use Rattle.gix_commands.specs.Words.{Commits, Contained, request_of}
+use Rattle.gix_words.specs.declared.words.Order.{Order}
+use Rattle.gix_words.specs.Words.{Commits, Contained, request_of}
 use Rattle.gix_commands.proofs.SameWords.{AreWordsOf, are_words}
 
 pub some_tips : (words : List (List ℕ)) (by : Order) (limit : Option ℕ) (tips hidden : List ObjectId) → request_of words ≡ Ok (Commits by limit tips hidden) → tips ≢ []

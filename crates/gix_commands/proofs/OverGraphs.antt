@@ -15,13 +15,13 @@ use Rattle.gix_records.specs.Reading.{IsReadFrom, IsReadFault}
 use Rattle.gix_records.specs.Reading as reading
 use Rattle.gix_records.specs.Records.{Record, AreRecords, stored}
 use Rattle.gix_records.proofs.RecordFacts.{no_bad_record}
-use Rattle.gix_commands.specs.declared.fault.Fault.{Fault}
-use Rattle.gix_commands.specs.declared.fault.Fault.TheVariants as fault
-use Rattle.gix_commands.specs.Faults.{fault_of_disagreement, fault_of_records}
+use Rattle.gix_words.specs.declared.fault.Fault.{Fault}
+use Rattle.gix_words.specs.declared.fault.Fault.TheVariants as fault
+use Rattle.gix_words.specs.Faults.{fault_of_disagreement, fault_of_records}
 use Rattle.gix_commands.specs.Opening.{Opens, FailsToOpen}
 use Rattle.gix_commands.specs.Run.{Serves, RunsOver, without_memory, no_command, not_opened, not_read, bad_record, disagrees, served}
 use Rattle.gix_commands.specs.Walked.{never_faulty}
-use Rattle.gix_commands.specs.Words.{Request, request_of}
+use Rattle.gix_words.specs.Words.{Request, request_of}
 use Rattle.gix_commands.proofs.MemoryFaults.{failed_so}
 use Rattle.gix_commands.proofs.RunFacts.{err_same, told_same, serves_sound}
 use Rattle.gix_commands.proofs.WalkFaults.{OfWalk, serves_of_walk}

@@ -17,11 +17,11 @@ use Rattle.gix_simple.specs.declared.Error.{Error}
 use Rattle.gix_simple.specs.declared.Sorting.{Sorting}
 use Rattle.gix_topo.specs.declared.Error.{Error as TopoError}
 use Rattle.gix_topo.specs.declared.Sorting.{Sorting as TopoSorting}
-use Rattle.gix_commands.specs.declared.fault.Fault.{Fault}
-use Rattle.gix_commands.specs.declared.fault.Fault.TheVariants as fault
-use Rattle.gix_commands.specs.declared.words.Order.{Order}
-use Rattle.gix_commands.specs.declared.words.Order.TheVariants.{Simple, Topo}
-use Rattle.gix_commands.specs.Faults.{fault_of_records, fault_of_walk, fault_of_topo_walk}
+use Rattle.gix_words.specs.declared.fault.Fault.{Fault}
+use Rattle.gix_words.specs.declared.fault.Fault.TheVariants as fault
+use Rattle.gix_words.specs.declared.words.Order.{Order}
+use Rattle.gix_words.specs.declared.words.Order.TheVariants.{Simple, Topo}
+use Rattle.gix_words.specs.Faults.{fault_of_records, fault_of_walk, fault_of_topo_walk}
 use Rattle.gix_records.specs.Input.{Tells}
 use Rattle.gix_commands.specs.Output.{WritesAll}
 use Rattle.gix_records.specs.declared.Error.{Error as RecordsError}
@@ -31,7 +31,7 @@ use Rattle.gix_records.specs.Records.{Record, AreRecords, stored}
 use Rattle.gix_commands.specs.Run.{Serves, walked, not_walked, walked_down, not_built, listed, not_listed, counted, not_ahead, not_behind, selected, not_selected, unserved, not_written, Runs, without_memory, no_command, not_read, bad_record, served}
 use Rattle.gix_commands.specs.TopoWalked as topo
 use Rattle.gix_commands.specs.Walked.{Walk, Answers, IsWalkFault, StartsFrom, FailsAtStart, IsStartFault, Ends, EndsBy, finished, failed, cut_short, enough, before}
-use Rattle.gix_commands.specs.Words.{Request, Commits, request_of}
+use Rattle.gix_words.specs.Words.{Request, Commits, request_of}
 use Rattle.gix_commands.proofs.MemoryFaults.{failed_so}
 use Rattle.gix_records.proofs.RecordFacts.{no_bad_record}
 use Rattle.gix_commands.proofs.InternalFacts.{IsSound, next_sound, start_sound, contained_sound}

@@ -21,7 +21,7 @@ use Rattle.gix_topo.specs.Walk.{IsNumberOf}
 use Rattle.gix_topo.specs.WalkSet.{IsInWalk}
 use Rattle.gix_tree.specs.Recorder.{record_of}
 use Rattle.gix_tree.specs.Visits.{Visit}
-use Rattle.gix_commands.specs.declared.words.Order.TheVariants.{Simple, Topo}
+use Rattle.gix_words.specs.declared.words.Order.TheVariants.{Simple, Topo}
 use Rattle.gix_commands.specs.Files.{file_lines, six_octal_digits}
 use Rattle.gix_commands.specs.Histories.{IsShownBy, IsListedBy, ListsBy, ListsDown, followed, kept_tips, lines_of_ids}
 use Rattle.gix_commands.specs.WholeStatement as page

@@ -13,11 +13,11 @@ use Rattle.gix_revwalk.specs.declared.CommitTimeOrder.TheVariants as order
 use Rattle.gix_revwalk.specs.declared.Parents.TheVariants as mode
 use Rattle.gix_simple.specs.declared.Sorting.TheVariants as sorting
 use Rattle.gix_topo.specs.declared.Sorting.TheVariants as topo
-use Rattle.gix_commands.specs.declared.fault.Fault.{Fault}
-use Rattle.gix_commands.specs.declared.fault.Fault.TheVariants as fault
-use Rattle.gix_commands.specs.declared.words.Order.{Order}
-use Rattle.gix_commands.specs.declared.words.Order.TheVariants.{Simple, Topo}
-use Rattle.gix_commands.specs.Words.{Request, Commits, Files, Ahead, Contained, Ids, begins_with_caret, without_caret, is_shown, with_id, with_word, ids_from, number_in, order_named, commits_from, commits_of, limited_of, listed_of, chosen_of, recent_of, since_of, by_first_parents, by_cutoff, in_order_of, file_of, files_from, files_of, ahead_from, ahead_of, contained_among, contained_from, contained_of, request_named, request_of}
+use Rattle.gix_words.specs.declared.fault.Fault.{Fault}
+use Rattle.gix_words.specs.declared.fault.Fault.TheVariants as fault
+use Rattle.gix_words.specs.declared.words.Order.{Order}
+use Rattle.gix_words.specs.declared.words.Order.TheVariants.{Simple, Topo}
+use Rattle.gix_words.specs.Words.{Request, Commits, Files, Ahead, Contained, Ids, begins_with_caret, without_caret, is_shown, with_id, with_word, ids_from, number_in, order_named, commits_from, commits_of, limited_of, listed_of, chosen_of, since_of, by_first_parents, in_order_of, file_of, files_from, files_of, ahead_from, ahead_of, contained_among, contained_from, contained_of, request_named, request_of, recent_of, by_cutoff}
 use Rattle.gix_commands.specs.WholeStatement.{IsNumber, Spells, AreTips, digits_in}
 use Rattle.gix_commands.proofs.SameNumbers.{decimal_digits, hex_spelled}
 

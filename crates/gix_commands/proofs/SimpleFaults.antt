@@ -26,7 +26,7 @@ use Rattle.gix_paint.specs.declared.Hidden.{Hidden}
 use Rattle.gix_paint.specs.declared.Hidden.TheVariants as hidden_by
 use Rattle.gix_simple.specs.declared.Sorting.{Sorting}
 use Rattle.gix_simple.specs.declared.Sorting.TheVariants as sorting
-use Rattle.gix_revwalk.specs.declared.Pending.{Pending}
+use Rattle.gix_revwalk.specs.Pending.{Pending}
 use Rattle.gix_revwalk.specs.Commits.{ReadsWhole, commit_at, commit_of_object, parents_in, parents_of}
 use Rattle.gix_hash.specs.Reach.{Reaches, start, step}
 use Rattle.gix_simple.specs.Building.{IsTipFault}
@@ -37,15 +37,15 @@ use Rattle.gix_revwalk.proofs.Committer.{fault_unread}
 use Rattle.gix_revwalk.proofs.ReadsWhole.{scan_is, no_fault, row_parents, walked_within}
 use Rattle.gix_revwalk.proofs.Rows.{none_agree, kept_either}
 use Rattle.gix_simple.proofs.MadeOfTips.{is_new_walk, pending_is}
-use Rattle.gix_commands.specs.declared.fault.Fault.{Fault}
-use Rattle.gix_commands.specs.declared.fault.Fault.TheVariants as fault
-use Rattle.gix_commands.specs.declared.words.Order.TheVariants.{Simple}
-use Rattle.gix_commands.specs.Faults.{fault_of_walk}
+use Rattle.gix_words.specs.declared.fault.Fault.{Fault}
+use Rattle.gix_words.specs.declared.fault.Fault.TheVariants as fault
+use Rattle.gix_words.specs.declared.words.Order.TheVariants.{Simple}
+use Rattle.gix_words.specs.Faults.{fault_of_walk}
 use Rattle.gix_commands.specs.Histories.{AreWhole, EndsWell, IsOutside, SimpleSucceeds, AheadSucceeds}
 use Rattle.gix_records.specs.Records.{stored}
 use Rattle.gix_commands.specs.Run.{Serves, walked, not_walked, counted, not_ahead, not_behind, unserved, not_written}
 use Rattle.gix_commands.specs.Walked.{Walk, Answers, IsWalkFault, StartsFrom, FailsAtStart, Ends, finished, failed, cut_short, enough, before, objects_of, never_faulty, accepts_all, given as all_given}
-use Rattle.gix_commands.specs.Words.{Commits, Ahead}
+use Rattle.gix_words.specs.Words.{Commits, Ahead}
 use Rattle.gix_commands.proofs.CommitRuns.{ends_well}
 use Rattle.gix_commands.proofs.InternalFacts.{next_sound}
 use Rattle.gix_simple.proofs.Difference.{whole_from}

@@ -32,7 +32,7 @@ use Rattle.gix_simple.specs.Walk.{is_older, cutoff, time_order}
 use Rattle.gix_revwalk.proofs.SomeOrder.{reached_list}
 use Rattle.gix_simple.proofs.Builders.{built}
 use Rattle.gix_simple.proofs.Corollaries.{all_kept, gives}
-use Rattle.gix_simple.proofs.Difference.{drawn_whole, loosened, no_start, whole_from}
+use Rattle.gix_simple.proofs.Difference.{drawn_whole, loosened, no_start}
 use Rattle.gix_simple.proofs.Faultless.{faultless}
 use Rattle.gix_simple.proofs.ReachDecided.{reach_test}
 use Rattle.gix_simple.proofs.MadeOfTips.{is_new_walk}
@@ -136,9 +136,6 @@ module _ (objects : Objects) (rows : List GraphRow) (m : Parents) (by : Sorting)
   some_pending : left ≢ [] → walk.pending ≢ []
   some_pending some e = none_left left some (λ j c. no_member j (subst (λ xs. Contains (ids_of xs) j) e (is_pending j c)))
 
-  both_left : (j : ObjectId) → Contains (ids_of walk.pending ++ hidden) j → Contains (left ++ hidden) j
-  both_left j c = ⊎_elim (λ t. Contains-append_left left hidden j (is_left j t)) (λ t. Contains-append_right left hidden j t) (Contains-append_cases (ids_of walk.pending) hidden j c)
-
   both_pending : (j : ObjectId) → Contains (left ++ hidden) j → Contains (ids_of walk.pending ++ hidden) j
   both_pending j c = ⊎_elim (λ t. Contains-append_left (ids_of walk.pending) hidden j (is_pending j t)) (λ t. Contains-append_right (ids_of walk.pending) hidden j t) (Contains-append_cases left hidden j c)
 
@@ -183,9 +180,6 @@ module _ (objects : Objects) (rows : List GraphRow) (m : Parents) (by : Sorting)
 
   pub left_whole : left ≢ [] → PaintedWhole → AreWhole objects (left ++ hidden)
   left_whole some whole i r = let w : ReadsWhole objects i = whole (some_pending some) i (reach_more (parents_of objects) (left ++ hidden) (ids_of walk.pending ++ hidden) both_pending i r) in subst IsSome (sym w.stored) refl
-
-  pub painted_left : AreWhole objects (left ++ hidden) → PaintedWhole
-  painted_left whole some i r = whole_from objects i (whole i (reach_more (parents_of objects) (ids_of walk.pending ++ hidden) (left ++ hidden) both_left i r))
 
   module _ (agreeing : IsAgreeing objects rows) (infos : List Info) (at new : Walk) (drawn : Yields Answers walk (given infos) at) (ended : Answers at None new) where
     abbrev ids : List ObjectId

@@ -20,8 +20,8 @@ use Rattle.gix_topo.specs.declared.Error.{Error as TopoError}
 use Rattle.gix_topo.specs.declared.Sorting.{Sorting as TopoSorting}
 use Rattle.gix_topo.specs.Walk.{TopoBuilder, Built, fresh_builder}
 use Rattle.gix_simple.specs.Building.{IsSortedByTime, FailsAtTip}
-use Rattle.gix_commands.specs.declared.fault.Fault.{Fault}
-use Rattle.gix_commands.specs.Faults.{fault_of_walk, fault_of_topo_walk}
+use Rattle.gix_words.specs.declared.fault.Fault.{Fault}
+use Rattle.gix_words.specs.Faults.{fault_of_walk, fault_of_topo_walk}
 use Rattle.gix_commands.specs.TopoWalked as topo
 use Rattle.gix_commands.specs.Walked.{Walk, objects_of, never_faulty, accepts_all, IsMadeOf, IsSorted, IsStartFault}
 

@@ -6,10 +6,10 @@ use Rattle.gix_graph_store.specs.Laws.{StoredAgree}
 use Rattle.gix_records.specs.Records.{Record, AreRecords, stored}
 use Rattle.gix_records.proofs.RecordFacts.{only_reading}
 use Rattle.gix_revwalk.specs.Agreeing.{IsAgreeing}
-use Rattle.gix_commands.specs.declared.words.Order.TheVariants.{Simple, Topo}
+use Rattle.gix_words.specs.declared.words.Order.TheVariants.{Simple, Topo}
 use Rattle.gix_commands.specs.Histories.{AreTold, told, ToldSimpleBegins, ToldSimpleLists, ToldTopoBegins, ToldTopoLists, ToldAheadCounts, ToldContainsIds}
 use Rattle.gix_commands.specs.Run.{RunsOver, Serves, served}
-use Rattle.gix_commands.specs.Words.{Request, Commits, Ahead, Contained, request_of}
+use Rattle.gix_words.specs.Words.{Request, Commits, Ahead, Contained, request_of}
 use Rattle.gix_commands.proofs.AheadRuns.{counted_so}
 use Rattle.gix_commands.proofs.CommitRuns.{ok_same, lists}
 use Rattle.gix_commands.proofs.ContainedRuns.{selected_so}

@@ -13,8 +13,8 @@ use Rattle.gix_topo.specs.declared.Error.TheVariants as error
 use Rattle.gix_topo.specs.declared.Sorting.{Sorting}
 use Rattle.gix_revwalk.specs.Agreeing.{IsAgreeing}
 use Rattle.gix_topo.specs.Walk.{TopoPlan, IsFault, ended, given, refused, failed}
-use Rattle.gix_commands.specs.declared.fault.Fault.TheVariants as fault
-use Rattle.gix_commands.specs.Faults.{fault_of_topo_walk}
+use Rattle.gix_words.specs.declared.fault.Fault.TheVariants as fault
+use Rattle.gix_words.specs.Faults.{fault_of_topo_walk}
 use Rattle.gix_commands.specs.TopoWalked.{Walk, Answers, plan_from, IsBuiltFrom}
 use Rattle.gix_commands.specs.Walked.{objects_of, never_faulty}
 use Rattle.gix_commands.proofs.InternalFacts.{find_sound}

@@ -31,15 +31,15 @@ use Rattle.gix_revwalk.proofs.Rows.{none_agree}
 use Rattle.gix_topo.proofs.Run.Corollaries.{once}
 use Rattle.gix_topo.proofs.Run.TextDifference.{each_by_text}
 use Rattle.gix_topo.proofs.Run.Theorem.{gives, gives_text}
-use Rattle.gix_commands.specs.declared.fault.Fault.{Fault}
-use Rattle.gix_commands.specs.declared.words.Order.TheVariants.{Topo}
-use Rattle.gix_commands.specs.Faults.{fault_of_topo_walk}
+use Rattle.gix_words.specs.declared.fault.Fault.{Fault}
+use Rattle.gix_words.specs.declared.words.Order.TheVariants.{Topo}
+use Rattle.gix_words.specs.Faults.{fault_of_topo_walk}
 use Rattle.gix_commands.specs.Histories.{AreWhole, IsPartOf, ListsDown, ListsRead, TopoLists, TopoListsOfPart, TopoSucceeds, EndsWell, IsOutside, lines_of_ids}
 use Rattle.gix_records.specs.Records.{stored}
 use Rattle.gix_commands.specs.Run.{Serves, walked_down, not_built, unserved, not_written}
 use Rattle.gix_commands.specs.TopoWalked.{Walk, Answers, IsWalkFault, IsBuiltFrom, plan_from}
 use Rattle.gix_commands.specs.Walked.{Ends, finished, failed as fell, cut_short, enough, before, objects_of, never_faulty, accepts_all, given as all_given}
-use Rattle.gix_commands.specs.Words.{Commits}
+use Rattle.gix_words.specs.Words.{Commits}
 use Rattle.gix_commands.proofs.CommitRuns.{served_so, ends_well, lines_by_ids}
 use Rattle.gix_commands.proofs.Parts.{reached_in_all, stored_whole}
 use Rattle.gix_commands.proofs.TextParts.{lists_read_of_part}

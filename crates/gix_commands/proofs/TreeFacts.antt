@@ -10,8 +10,8 @@ use Rattle.gix_tree.specs.Script.{DepthScript, IsDepthScript, whole, leaves, ent
 use Rattle.gix_tree.specs.Tracked.{Tracked}
 use Rattle.gix_tree.specs.Walk.{LookUpFails, depth_answer, trees_of}
 use Rattle.gix_tree.specs.Visits.{Items, Place, Visit, Ending, Whole, Broken, Failed}
-use Rattle.gix_commands.specs.declared.fault.Fault.TheVariants as run_fault
-use Rattle.gix_commands.specs.Faults.{fault_of_tree_walk}
+use Rattle.gix_words.specs.declared.fault.Fault.TheVariants as run_fault
+use Rattle.gix_words.specs.Faults.{fault_of_tree_walk}
 use Rattle.gix_commands.specs.Files.{RecordsTree}
 use Rattle.gix_commands.specs.Walked.{never_faulty}
 use Rattle.gix_commands.proofs.InternalFacts.{find_sound}

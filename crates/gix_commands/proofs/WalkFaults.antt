@@ -15,13 +15,13 @@ use Rattle.gix_topo.specs.declared.Error.{Error as TopoError}
 use Rattle.gix_topo.specs.declared.Error.TheVariants as topo_error
 use Rattle.gix_tree.specs.declared.breadthfirst.Error.{Error as TreeError}
 use Rattle.gix_tree.specs.declared.breadthfirst.Error.TheVariants as tree_error
-use Rattle.gix_commands.specs.declared.fault.Fault.{Fault}
-use Rattle.gix_commands.specs.declared.fault.Fault.TheVariants as fault
-use Rattle.gix_commands.specs.Faults.{fault_of_find, fault_of_walk, fault_of_topo_walk, fault_of_contained, fault_of_tree_walk}
+use Rattle.gix_words.specs.declared.fault.Fault.{Fault}
+use Rattle.gix_words.specs.declared.fault.Fault.TheVariants as fault
+use Rattle.gix_words.specs.Faults.{fault_of_find, fault_of_walk, fault_of_topo_walk, fault_of_contained, fault_of_tree_walk}
 use Rattle.gix_commands.specs.Run.{Serves, walked, not_walked, walked_down, not_built, listed, not_listed, counted, not_ahead, not_behind, selected, not_selected, unserved, not_written}
 use Rattle.gix_commands.specs.TopoWalked as topo
 use Rattle.gix_commands.specs.Walked.{Answers, IsWalkFault, Ends, EndsBy, finished, failed, cut_short, enough, before}
-use Rattle.gix_commands.specs.Words.{Request}
+use Rattle.gix_words.specs.Words.{Request}
 
 -- any but those of the words, of the input and of a commit-graph
 abbrev pub IsOfWalk : Fault → Type 0

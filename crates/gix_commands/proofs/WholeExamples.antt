@@ -18,7 +18,7 @@ use Rattle.gix_records.specs.Records as records
 use Rattle.gix_records.specs.Records.{stored}
 use Rattle.gix_revwalk.specs.Commits.{commit_of_object, time_in, time_of}
 use Rattle.gix_revwalk.specs.Texts.{next_in, text_next}
-use Rattle.gix_commands.specs.declared.fault.Fault.{Fault}
+use Rattle.gix_words.specs.declared.fault.Fault.{Fault}
 use Rattle.gix_commands.specs.WholeStatement.{AreRecords, Comes, IsBest, IsFirst, IsPending, IsTime, Lists, Promises, Reaches, Serves, Spells, all, breadth, commits, first, since, entry_line, newest, parent, start}
 use Rattle.gix_commands.proofs.SameCommits.{are_records, get_put, is_time, worded}
 use Rattle.gix_commands.proofs.SameHistory.{history}

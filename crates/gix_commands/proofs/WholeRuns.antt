@@ -16,13 +16,13 @@ use Rattle.gix_tree.specs.Visits.{Ending, Whole, Broken, Failed, IsUnfailed, is_
 use Rattle.gix_tree.specs.Walk.{LookUpFails, trees_of}
 use Rattle.gix_tree.proofs.Theorems.Laws.{depth_ok, depth_is_in_order, depth_is_recorded}
 use Rattle.gix_tree.proofs.Theorems.SameRecords.{unbroken}
-use Rattle.gix_commands.specs.declared.fault.Fault.{Fault}
-use Rattle.gix_commands.specs.declared.words.Order.TheVariants.{Simple, Topo}
+use Rattle.gix_words.specs.declared.fault.Fault.{Fault}
+use Rattle.gix_words.specs.declared.words.Order.TheVariants.{Simple, Topo}
 use Rattle.gix_commands.specs.Files.{file_lines}
 use Rattle.gix_commands.specs.Histories.{AreWhole, followed, kept_tips}
 use Rattle.gix_commands.specs.Run.{Runs, Serves, served, listed}
 use Rattle.gix_commands.specs.Walked.{never_faulty}
-use Rattle.gix_commands.specs.Words.{Request, Commits, Files, Ahead, Contained, request_of}
+use Rattle.gix_words.specs.Words.{Request, Commits, Files, Ahead, Contained, request_of}
 use Rattle.gix_commands.specs.WholeStatement as page
 use Rattle.gix_commands.specs.WholeStatement.{Entry, IsTree, Unfolds, Promises, entry_line}
 use Rattle.gix_commands.proofs.AheadRuns.{ahead_counts, counted_whole}

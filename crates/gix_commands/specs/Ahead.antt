@@ -7,7 +7,7 @@ use Rattle.gix_commitgraph.specs.Rows.{GraphRow}
 use Rattle.gix_revwalk.specs.declared.Info.{Info}
 use Rattle.gix_revwalk.specs.declared.Parents.TheVariants as mode
 use Rattle.gix_simple.specs.declared.Sorting.TheVariants as sorting
-use Rattle.gix_commands.specs.declared.fault.Fault.{Fault}
+use Rattle.gix_words.specs.declared.fault.Fault.{Fault}
 use Rattle.gix_commands.specs.Walked.{Walk, Answers, IsWalkFault, StartsFrom, Ends}
 
 -- a walk breadth first from a tip, which hides what another commit reaches, gave commits and ended so

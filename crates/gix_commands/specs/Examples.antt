@@ -1,54 +1,7 @@
--- Worked examples of words, numbers and lines.
-use Rattle.std.specs.Prelude.{◌≡◌, ◌∷◌, [], codes, Err, refl}
-use Rattle.gix_commands.specs.declared.fault.Fault.TheVariants as fault
+-- Worked examples of the digits of a mode.
+use Rattle.std.specs.Prelude.{◌≡◌, codes, refl}
 use Rattle.std.specs.Fmt.{digits}
 use Rattle.gix_commands.specs.Files.{six_octal_digits}
-use Rattle.gix_commands.specs.Words.{request_of}
-
-pub no_words : request_of [] ≡ Err fault.Usage
-no_words = refl
-
-pub no_id : request_of (codes "breadth" ∷ []) ≡ Err fault.Usage
-no_id = refl
-
-pub bad_id : request_of (codes "breadth" ∷ codes "zz" ∷ []) ≡ Err (fault.Id 2)
-bad_id = refl
-
-pub bad_id_before_others : request_of (codes "newest" ∷ codes "zz" ∷ codes "^" ∷ []) ≡ Err (fault.Id 2)
-bad_id_before_others = refl
-
-pub no_tip : request_of (codes "oldest" ∷ codes "^zz" ∷ codes "^" ∷ []) ≡ Err fault.Usage
-no_tip = refl
-
-pub no_tip_below_ends : request_of (codes "topo" ∷ codes "^zz" ∷ []) ≡ Err fault.Usage
-no_tip_below_ends = refl
-
-pub bad_end : request_of (codes "date" ∷ codes "^" ∷ codes "zz" ∷ []) ≡ Err (fault.Id 2)
-bad_end = refl
-
-pub no_tree : request_of (codes "files" ∷ []) ≡ Err fault.Usage
-no_tree = refl
-
-pub two_trees : request_of (codes "files" ∷ codes "zz" ∷ codes "zz" ∷ []) ≡ Err fault.Usage
-two_trees = refl
-
-pub hidden_tree : request_of (codes "files" ∷ codes "^" ∷ []) ≡ Err fault.Usage
-hidden_tree = refl
-
-pub bad_tree : request_of (codes "files" ∷ codes "zz" ∷ []) ≡ Err (fault.Id 2)
-bad_tree = refl
-
-pub one_commit : request_of (codes "ahead" ∷ codes "zz" ∷ []) ≡ Err fault.Usage
-one_commit = refl
-
-pub three_commits : request_of (codes "ahead" ∷ codes "zz" ∷ codes "zz" ∷ codes "zz" ∷ []) ≡ Err fault.Usage
-three_commits = refl
-
-pub hidden_commit : request_of (codes "ahead" ∷ codes "zz" ∷ codes "^" ∷ []) ≡ Err fault.Usage
-hidden_commit = refl
-
-pub bad_commit : request_of (codes "ahead" ∷ codes "zz" ∷ codes "zz" ∷ []) ≡ Err (fault.Id 2)
-bad_commit = refl
 
 pub digits_of_tree : six_octal_digits 0o40000 ≡ codes "040000"
 unfolding digits

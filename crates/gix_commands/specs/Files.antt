@@ -9,9 +9,9 @@ use Rattle.gix_tree.specs.declared.breadthfirst.Error.{Error}
 use Rattle.gix_tree.specs.Recorder.{Record}
 use Rattle.gix_tree.specs.Tracked.{Tracked, Tracks, fresh_recorder}
 use Rattle.gix_tree.specs.Walk.{DepthFirst}
-use Rattle.gix_commands.specs.declared.fault.Fault.{Fault}
-use Rattle.gix_commands.specs.declared.fault.Fault.TheVariants as fault
-use Rattle.gix_commands.specs.Faults.{fault_of_tree_walk}
+use Rattle.gix_words.specs.declared.fault.Fault.{Fault}
+use Rattle.gix_words.specs.declared.fault.Fault.TheVariants as fault
+use Rattle.gix_words.specs.Faults.{fault_of_tree_walk}
 use Rattle.gix_commands.specs.Walked.{never_faulty}
 
 -- a walk in depth over stored objects, whose look-ups don't fail, answers this and leaves a fresh recorder so

@@ -24,16 +24,16 @@ use Rattle.gix_simple.specs.Laws.{IsInOrder}
 use Rattle.gix_simple.specs.Walk.{time_order, cutoff, is_older}
 use Rattle.gix_topo.specs.Laws.{IsSorted}
 use Rattle.gix_topo.specs.Walk.{IsNumberOf}
-use Rattle.gix_commands.specs.declared.fault.Fault.{Fault}
-use Rattle.gix_commands.specs.declared.fault.Fault.TheVariants as fault
-use Rattle.gix_commands.specs.declared.words.Order.{Order}
-use Rattle.gix_commands.specs.declared.words.Order.TheVariants.{Simple, Topo}
+use Rattle.gix_words.specs.declared.fault.Fault.{Fault}
+use Rattle.gix_words.specs.declared.fault.Fault.TheVariants as fault
+use Rattle.gix_words.specs.declared.words.Order.{Order}
+use Rattle.gix_words.specs.declared.words.Order.TheVariants.{Simple, Topo}
 use Rattle.gix_commands.specs.Ahead.{Draws, ahead_line}
 use Rattle.gix_records.specs.Records.{Record, AreRecords, stored}
 use Rattle.gix_commands.specs.Opening.{Opens}
 use Rattle.gix_commands.specs.Run.{Runs, RunsOver}
 use Rattle.gix_commands.specs.Walked.{line_of}
-use Rattle.gix_commands.specs.Words.{Ahead, Commits, Contained, request_of}
+use Rattle.gix_words.specs.Words.{Ahead, Commits, Contained, request_of}
 
 -- the tips reach the commit through these parents, and the hidden tips don't
 abbrev pub IsShownBy : (ObjectId → List ObjectId) → List ObjectId → List ObjectId → ObjectId → Type 0

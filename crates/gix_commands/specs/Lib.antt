@@ -1,5 +1,3 @@
-pub mod Faults
-pub mod Words
 pub mod Walked
 pub mod TopoWalked
 pub mod Opening

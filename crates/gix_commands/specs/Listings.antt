@@ -12,13 +12,13 @@ use Rattle.gix_tree.specs.Recorder.{record_of}
 use Rattle.gix_tree.specs.Script.{entries_at}
 use Rattle.gix_tree.specs.Visits.{Visit}
 use Rattle.gix_tree.specs.Walk.{LookUpFails, trees_of}
-use Rattle.gix_commands.specs.declared.fault.Fault.{Fault}
+use Rattle.gix_words.specs.declared.fault.Fault.{Fault}
 use Rattle.gix_commands.specs.Files.{file_lines}
 use Rattle.gix_commands.specs.Histories.{EndsWell, IsPartOf}
 use Rattle.gix_records.specs.Records.{Record, AreRecords, stored}
 use Rattle.gix_commands.specs.Run.{Runs}
 use Rattle.gix_commands.specs.Walked.{never_faulty}
-use Rattle.gix_commands.specs.Words.{Files, request_of}
+use Rattle.gix_words.specs.Words.{Files, request_of}
 
 -- the entries of a tree and of all trees in it, in preorder, each with its place
 pub record Unfolds (objects : Objects) (tree : ObjectId) (visits : List Visit) : Type 0 where

@@ -8,8 +8,8 @@ use Rattle.gix_graph_check.specs.Heads.{heads_of}
 use Rattle.gix_graph_check.specs.Sound.{AreSound, IsFirstUnsound}
 use Rattle.gix_graph_file.specs.declared.error.ChainError.TheVariants as chain
 use Rattle.gix_graph_file.specs.Chain.{HasChain, RefusesChain}
-use Rattle.gix_commands.specs.declared.fault.Fault.{Fault}
-use Rattle.gix_commands.specs.declared.fault.Fault.TheVariants as fault
+use Rattle.gix_words.specs.declared.fault.Fault.{Fault}
+use Rattle.gix_words.specs.declared.fault.Fault.TheVariants as fault
 use Rattle.gix_commands.specs.Walked.{line_of}
 
 -- the bytes of each layer

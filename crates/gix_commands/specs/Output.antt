@@ -2,7 +2,7 @@
 use Rattle.std.specs.Prelude.{◌≡◌, ℕ, List, ◌++◌, Option, Result}
 use Rattle.std.specs.Io.KnownBytes.{Appends}
 use Rattle.gix_revwalk.specs.declared.Info.{Info}
-use Rattle.gix_commands.specs.declared.fault.Fault.{Fault}
+use Rattle.gix_words.specs.declared.fault.Fault.{Fault}
 use Rattle.gix_commands.specs.Walked.{EndsBy, lines_of}
 
 -- the writer's bytes, followed by the buffered ones, grew by these bytes

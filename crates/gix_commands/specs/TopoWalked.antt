@@ -9,9 +9,9 @@ use Rattle.gix_revwalk.specs.declared.Unfiltered.{Unfiltered}
 use Rattle.gix_topo.specs.declared.Error.{Error}
 use Rattle.gix_topo.specs.declared.Sorting.{Sorting}
 use Rattle.gix_topo.specs.Walk.{TopoPlan, TopoWalk, Next, Built}
-use Rattle.gix_commands.specs.declared.fault.Fault.{Fault}
-use Rattle.gix_commands.specs.declared.fault.Fault.TheVariants as fault
-use Rattle.gix_commands.specs.Faults.{fault_of_topo_walk}
+use Rattle.gix_words.specs.declared.fault.Fault.{Fault}
+use Rattle.gix_words.specs.declared.fault.Fault.TheVariants as fault
+use Rattle.gix_words.specs.Faults.{fault_of_topo_walk}
 use Rattle.gix_commands.specs.Walked.{objects_of, never_faulty, accepts_all}
 
 -- a walk over stored objects, whose look-ups don't fail, that gives all commits

@@ -14,9 +14,9 @@ use Rattle.gix_simple.specs.declared.Sorting.{Sorting}
 use Rattle.gix_simple.specs.declared.Sorting.TheVariants as sorting
 use Rattle.gix_simple.specs.Building.{IsSortedByTime, FailsAtTip}
 use Rattle.gix_simple.specs.Walk.{SimpleWalk, IsMade, Next}
-use Rattle.gix_commands.specs.declared.fault.Fault.{Fault}
-use Rattle.gix_commands.specs.declared.fault.Fault.TheVariants as fault
-use Rattle.gix_commands.specs.Faults.{fault_of_walk}
+use Rattle.gix_words.specs.declared.fault.Fault.{Fault}
+use Rattle.gix_words.specs.declared.fault.Fault.TheVariants as fault
+use Rattle.gix_words.specs.Faults.{fault_of_walk}
 
 -- a walk over stored objects, whose look-ups don't fail, through all commits
 abbrev pub Walk : Type 0

@@ -3,18 +3,18 @@ ghost use Rattle.std.specs.Prelude.{◌≡◌, ◌≢◌, [], ◌∷◌, IfErr, 
 ghost use Rattle.std.specs.Iterator.{IsFinite};
 ghost use Rattle.gix_commands.specs.Ahead.{Counts, FailsToCount, Numbers, ahead_line};
 ghost use Rattle.gix_commands.specs.Run.{Serves};
-ghost use Rattle.gix_commands.specs.Words.{Ahead};
+ghost use Rattle.gix_words.specs.Words.{Ahead};
 ghost use Rattle.gix_graph_store.specs.WithRows.{with_rows};
 ghost use Rattle.gix_revwalk.specs.Agreeing.{rows_in};
 
 use crate::commits::walk_from;
-use crate::fault::Fault;
 use crate::output::write_out;
 use gix_parts::graph::Graph;
 use gix_parts::hash::ObjectId;
 use gix_parts::records::LentStore;
 use gix_traverse::commit::simple::Sorting;
 use gix_traverse::commit::{Info, Parents};
+use gix_words::Fault;
 use std::alloc::{AllocError, Global};
 use std::io::Write;
 
@@ -39,7 +39,7 @@ pub fn write_ahead<W: Write>(
     write_out(&mut line, writer)
 }
 
-// How many commits the tip reaches and the hidden one doesn't.
+/// How many commits the tip reaches and the hidden one doesn't.
 fn count(
     alloc: Global,
     tip: ObjectId,
@@ -57,14 +57,14 @@ fn count(
     number_of_commits(walk)
 }
 
-// A list of this id alone.
+/// A list of this id alone.
 fn alone(alloc: Global, id: ObjectId) -> Result<Vec<ObjectId>, AllocError>
     ensures { IfOk result (λ ids. ids.items ≡ id ∷ []) }
 {
     Ok(vec![in alloc; id]?)
 }
 
-// How many commits a walk gives that is drawn to its end.
+/// How many commits a walk gives that is drawn to its end.
 fn number_of_commits<I, E>(walk: I) -> Result<usize, Fault>
 where
     I: Iterator<Item = Result<Info, E>> + Drop,
@@ -88,7 +88,7 @@ where
     Ok(number)
 }
 
-// The two numbers with a space between them, and a newline.
+/// The two numbers with a space between them, and a newline.
 fn line_of(alloc: Global, ahead: usize, behind: usize) -> Result<Vec<u8>, AllocError>
     ensures { IfOk result (λ line. line.items ≡ ahead_line ahead behind) }
 {

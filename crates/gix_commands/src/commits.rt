@@ -5,7 +5,6 @@ ghost use Rattle.gix_graph_store.specs.WithRows.{with_rows};
 ghost use Rattle.gix_commands.specs.TopoWalked as topo_walk;
 ghost use Rattle.gix_commands.specs.Walked.{IsStartFault, StartsFrom};
 
-use crate::fault::Fault;
 use gix_graph_store::WithRows;
 use gix_parts::graph::Graph;
 use gix_parts::hash::ObjectId;
@@ -15,6 +14,7 @@ use gix_parts::records::LentStore;
 use gix_traverse::commit::simple::Sorting;
 use gix_traverse::commit::topo::{self, Builder, Topo};
 use gix_traverse::commit::{Parents, Simple, Unfiltered};
+use gix_words::Fault;
 use std::alloc::{AllocError, Global};
 use std::marker::Model;
 
@@ -59,7 +59,7 @@ impl Find for Lent<'_> {
     }
 }
 
-// The rows again, for a walk to hold.
+/// The rows again, for a walk to hold.
 fn copy_of(graph: Option<&Graph>) -> Result<Option<Graph>, AllocError>
     ensures { IfOk result (λ copy. rows_of copy ≡ rows_in graph.entry) }
 {

@@ -3,18 +3,18 @@ ghost use Rattle.std.specs.Prelude.{◌≡◌, IfOk};
 ghost use Rattle.std.specs.List.{flat_map};
 ghost use Rattle.gix_commands.specs.Run.{Serves};
 ghost use Rattle.gix_commands.specs.Walked.{line_of};
-ghost use Rattle.gix_commands.specs.Words.{Contained};
+ghost use Rattle.gix_words.specs.Words.{Contained};
 ghost use Rattle.gix_graph_store.specs.WithRows.{with_rows};
 ghost use Rattle.gix_revwalk.specs.Agreeing.{rows_in};
 
 use crate::commits::Lent;
 use crate::digits::add_id;
-use crate::fault::Fault;
 use crate::output::write_out;
 use gix_parts::graph::Graph;
 use gix_parts::hash::ObjectId;
 use gix_parts::records::LentStore;
 use gix_traverse::commit::contained::contained;
+use gix_words::Fault;
 use std::alloc::{AllocError, Global};
 use std::io::Write;
 
@@ -39,7 +39,7 @@ pub fn write_contained<W: Write>(
     write_out(&mut lines, writer)
 }
 
-// The ids in hex digits, one a line.
+/// The ids in hex digits, one a line.
 fn lines_of(alloc: Global, ids: &[ObjectId]) -> Result<Vec<u8>, AllocError>
     ensures { IfOk result (λ lines. lines.items ≡ flat_map line_of ids.now) }
 {

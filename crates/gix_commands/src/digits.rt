@@ -28,7 +28,7 @@ pub fn add_id(lines: &mut Vec<u8>, id: &ObjectId, behind: u8) -> Result<(), Allo
     }
 }
 
-// Writes the two digits of each byte.
+/// Writes the two digits of each byte.
 #[inline(always)]
 fn put_digits(bytes: &[u8], text: &mut [u8])
     requires { length text.old ≡ 2 * length bytes.now }
@@ -41,7 +41,7 @@ fn put_digits(bytes: &[u8], text: &mut [u8])
     }
 }
 
-// The digit of a number.
+/// The digit of a number.
 #[inline(always)]
 fn digit(number: u8) -> u8
     requires { number < 16 }

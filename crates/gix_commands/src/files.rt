@@ -4,13 +4,12 @@ ghost use Rattle.gix_object.specs.TreeRefIter.{entry_of};
 ghost use Rattle.gix_commands.specs.Files.{AreLinesOf, IsTreeFault, file_line, six_octal_digits};
 ghost use Rattle.gix_commands.specs.Lister.{line_at};
 ghost use Rattle.gix_commands.specs.Run.{Serves};
-ghost use Rattle.gix_commands.specs.Words.{Files};
+ghost use Rattle.gix_words.specs.Words.{Files};
 ghost use Rattle.gix_graph_store.specs.WithRows.{with_rows};
 ghost use Rattle.gix_revwalk.specs.Agreeing.{rows_in};
 
 use crate::commits::Lent;
 use crate::digits::add_id;
-use crate::fault::Fault;
 use crate::output::write_out;
 use bstr::BStr;
 use gix_parts::graph::Graph;
@@ -20,6 +19,7 @@ use gix_parts::records::LentStore;
 use gix_traverse::tree::Recorder;
 use gix_traverse::tree::depthfirst::{State, depthfirst};
 use gix_traverse::tree::visit::{Action, Visit};
+use gix_words::Fault;
 use std::alloc::{AllocError, Global};
 use std::io::Write;
 use std::marker::Model;
@@ -43,7 +43,7 @@ pub fn write_files<W: Write>(
     write_out(&mut lines, writer)
 }
 
-// A line for each entry of the tree of this id and of the trees in it.
+/// A line for each entry of the tree of this id and of the trees in it.
 fn lines_of_tree(
     alloc: Global,
     ending: u8,
@@ -63,12 +63,12 @@ fn lines_of_tree(
     Ok(lister.lines)
 }
 
-// Adds a line for each entry that a walk shows, and goes into each tree. The recorder follows the path, and records nothing.
+/// Adds a line for each entry that a walk shows, and goes into each tree. The recorder follows the path, and records nothing.
 #[derive(Drop)]
 struct Lister {
     recorder: Recorder,
     lines: Vec<u8>,
-    // The byte that ends a line.
+    /// The byte that ends a line.
     ending: u8,
     alloc: Global,
 }
@@ -82,7 +82,7 @@ impl Model for Lister {
 }
 
 impl Lister {
-    // Adds the line of the entry at the current path.
+    /// Adds the line of the entry at the current path.
     fn list(&mut self, entry: &EntryRef<'_>) -> Result<(), AllocError>
         ensures ok { OnOk result (self.new ≡ record self.old { lines = self.old.lines ++ line_at self.old (entry_of entry.now) }) }
         ensures err { OnErr result (self.new ≡ self.old) }
@@ -142,7 +142,7 @@ impl Visit for Lister {
     }
 }
 
-// Adds the mode in six octal digits, the id, the path and a byte. Where memory runs out, some of them may be added.
+/// Adds the mode in six octal digits, the id, the path and a byte. Where memory runs out, some of them may be added.
 fn add_line(
     alloc: Global,
     lines: &mut Vec<u8>,
@@ -161,7 +161,7 @@ fn add_line(
     Ok(())
 }
 
-// Adds a mode and a space.
+/// Adds a mode and a space.
 fn add_mode(alloc: Global, lines: &mut Vec<u8>, mode: u32) -> Result<(), AllocError>
     ensures ok { OnOk result (lines.new.items ≡ lines.old.items ++ (six_octal_digits mode ++ 32 ∷ [])) }
     ensures err { OnErr result (lines.new.items ≡ lines.old.items) }
@@ -173,7 +173,7 @@ fn add_mode(alloc: Global, lines: &mut Vec<u8>, mode: u32) -> Result<(), AllocEr
     lines.extend_from_slice(text.as_bytes())
 }
 
-// A mode that Git writes, in six digits, and a space.
+/// A mode that Git writes, in six digits, and a space.
 fn usual_mode(mode: u32) -> Option<&'static [u8; 7]>
     ensures { IfSome result (λ text. text.now ≡ six_octal_digits mode ++ 32 ∷ []) }
 {

@@ -4,12 +4,11 @@ ghost use Rattle.std.specs.Prelude.{◌≡◌, ◌≢◌, ℕ, List, map, Some, 
 ghost use Rattle.gix_records.specs.Records.{Record, AreRecords};
 ghost use Rattle.gix_commands.specs.Run.{Runs};
 ghost use Rattle.gix_commands.specs.WholeStatement.{Promises};
-ghost use Rattle.gix_commands.specs.Words.{request_of, request_of_command};
+ghost use Rattle.gix_words.specs.Words.{request_of, request_of_command};
 
-use crate::fault::Fault;
 use crate::serve;
-use crate::words::{Command, read_command};
 use gix_parts::records;
+use gix_words::{Command, Fault, read_command};
 use std::alloc::Global;
 use std::io::Write;
 

@@ -5,12 +5,12 @@ ghost use Rattle.gix_graph_file.specs.ChainSteps.{files_seen};
 ghost use Rattle.gix_commands.specs.Opening.{AreHeadLines, FailsToOpen, Opens, WritesHeads, id_lines, layers_seen};
 
 use crate::digits::add_id;
-use crate::fault::Fault;
 use crate::output::write_out;
 use gix_graph_check::{first_unsound, heads};
 use gix_graph_file::{ChainError, graph_of_chain};
 use gix_parts::graph::Graph;
 use gix_parts::hash::ObjectId;
+use gix_words::Fault;
 use std::alloc::{AllocError, Global};
 use std::io::Write;
 
@@ -30,7 +30,7 @@ pub(crate) fn open(alloc: Global, layers: &[Vec<u8>]) -> Result<Graph, Fault>
     }
 }
 
-// The rows of the layers.
+/// The rows of the layers.
 fn read_chain(alloc: Global, layers: &[Vec<u8>]) -> Result<Graph, Fault>
     ensures ok { IfOk result (HasChain (layers_seen layers.now)) }
     ensures err { IfErr result (FailsToOpen (layers_seen layers.now)) }
@@ -43,7 +43,7 @@ fn read_chain(alloc: Global, layers: &[Vec<u8>]) -> Result<Graph, Fault>
     }
 }
 
-// The bytes of each layer.
+/// The bytes of each layer.
 fn lend(alloc: Global, layers: &[Vec<u8>]) -> Result<Vec<&[u8]>, AllocError>
     ensures { IfOk result (λ files. files_seen files.items ≡ layers_seen layers.now) }
 {
@@ -67,7 +67,7 @@ pub fn write_heads<W: Write>(alloc: Global, layers: &[Vec<u8>], writer: &mut W) 
     write_out(&mut lines, writer)
 }
 
-// A line for each head.
+/// A line for each head.
 fn head_lines(alloc: Global, layers: &[Vec<u8>]) -> Result<Vec<u8>, Fault>
     ensures ok { IfOk result (λ lines. AreHeadLines (layers_seen layers.now) lines.items) }
     ensures err { IfErr result (FailsToOpen (layers_seen layers.now)) }
@@ -77,7 +77,7 @@ fn head_lines(alloc: Global, layers: &[Vec<u8>]) -> Result<Vec<u8>, Fault>
     Ok(lines_of(alloc, ids.as_slice())?)
 }
 
-// Ids, one a line.
+/// Ids, one a line.
 fn lines_of(alloc: Global, ids: &[ObjectId]) -> Result<Vec<u8>, AllocError>
     ensures { IfOk result (λ lines. lines.items ≡ id_lines ids.now) }
 {

@@ -9,7 +9,7 @@ ghost use Rattle.std.specs.Prelude.{◌≡◌, ◌≢◌, ℕ, List, map, Some, 
 ghost use Rattle.gix_records.specs.Records.{Record, AreRecords};
 ghost use Rattle.gix_commands.specs.Run.{Runs, Serves};
 ghost use Rattle.gix_commands.specs.WholeStatement.{Promises};
-ghost use Rattle.gix_commands.specs.Words.{Commits, request_of, request_of_command};
+ghost use Rattle.gix_words.specs.Words.{Commits, request_of, request_of_command};
 ghost use Rattle.gix_graph_store.specs.WithRows.{with_rows};
 ghost use Rattle.gix_revwalk.specs.Agreeing.{rows_in};
 
@@ -17,31 +17,29 @@ mod ahead;
 mod commits;
 mod contains;
 mod digits;
-mod fault;
 mod files;
 mod given;
 mod graph;
 pub mod laws;
 mod output;
 mod over;
-mod words;
 
 use ahead::write_ahead;
 use commits::{topo_walk_from, walk_from};
 use contains::write_contained;
-pub use fault::Fault;
 use files::write_files;
 pub use given::run_in;
 use given::serve_records;
 use gix_parts::graph::Graph;
 use gix_parts::hash::ObjectId;
 use gix_parts::records::{self, LentStore};
+pub use gix_words::Fault;
+use gix_words::{Command, Order, read_command};
 pub use graph::write_heads;
 use output::write_commits;
 pub use over::run_over;
 use std::alloc::Global;
 use std::io::{Read, Write};
-use words::{Command, Order, read_command};
 
 /// Runs the command that the words are over the records that the reader gives. The words are tested first, then the input is read
 /// whole, then the walk runs.
@@ -80,7 +78,7 @@ pub fn run<R: Read, W: Write>(
     serve_records(alloc, command, input.as_slice(), writer)
 }
 
-// Writes what a command asks for.
+/// Writes what a command asks for.
 fn serve<W: Write>(
     alloc: Global,
     command: Command,
@@ -103,7 +101,7 @@ fn serve<W: Write>(
     }
 }
 
-// Writes the commits that the tips reach and the hidden tips don't, or as many of them as the limit says.
+/// Writes the commits that the tips reach and the hidden tips don't, or as many of them as the limit says.
 fn serve_commits<W: Write>(
     alloc: Global,
     order: Order,

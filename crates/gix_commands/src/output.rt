@@ -6,13 +6,13 @@ ghost use Rattle.gix_commands.specs.Output.{Grows, Adds, WritesAll};
 ghost use Rattle.gix_commands.specs.Walked.{line_of};
 
 use crate::digits::add_id;
-use crate::fault::Fault;
 use gix_parts::hash::ObjectId;
 use gix_traverse::commit::Info;
+use gix_words::Fault;
 use std::alloc::Global;
 use std::io::Write;
 
-// How many bytes are buffered before they are written.
+/// How many bytes are buffered before they are written.
 const MANY: usize = 1 << 16;
 
 /// Draws a walk to its end or to its first fault, and writes the id of each commit that it gives, one a line. Where there is a limit, it
@@ -52,7 +52,7 @@ pub fn write_out<W: Write>(lines: &mut Vec<u8>, writer: &mut W) -> Result<(), Fa
     writer.flush().map_err(|_| Fault::Write)
 }
 
-// Adds a line for each commit to the buffered lines, up to the walk's first fault, or to the limit.
+/// Adds a line for each commit to the buffered lines, up to the walk's first fault, or to the limit.
 fn add_lines<I, E, W>(
     walk: I,
     limit: Option<u64>,
@@ -73,8 +73,8 @@ where
     }
 }
 
-// Adds a line for each of the first commits to the buffered lines, up to the walk's first fault. Behind as many commits as the limit says
-// nothing is drawn.
+/// Adds a line for each of the first commits to the buffered lines, up to the walk's first fault. Behind as many commits as the limit says
+/// nothing is drawn.
 fn add_first_commits<I, E, W>(
     mut walk: I,
     limit: u64,
@@ -104,7 +104,7 @@ where
     Ok(())
 }
 
-// Adds a line for each commit to the buffered lines, up to the walk's first fault.
+/// Adds a line for each commit to the buffered lines, up to the walk's first fault.
 fn add_commits<I, E, W>(walk: I, lines: &mut Vec<u8>, writer: &mut W) -> Result<(), Fault>
 where
     I: Iterator<Item = Result<Info, E>> + Drop,
@@ -124,7 +124,7 @@ where
     Ok(())
 }
 
-// Adds a line to the buffered lines.
+/// Adds a line to the buffered lines.
 fn add_line<W: Write>(lines: &mut Vec<u8>, writer: &mut W, id: ObjectId) -> Result<(), Fault>
     ensures ok { OnOk result (Grows (W.contents writer.old) lines.old.items (W.contents writer.new) lines.new.items (line_of id)) }
     ensures err { IfErr result (λ e. (e ≡ Fault.Write) ⊎ ((e ≡ Fault.Memory) × Grows (W.contents writer.old) lines.old.items (W.contents writer.new) lines.new.items [])) }
@@ -133,7 +133,7 @@ fn add_line<W: Write>(lines: &mut Vec<u8>, writer: &mut W, id: ObjectId) -> Resu
     Ok(add_id(lines, &id, b'\n')?)
 }
 
-// Writes the buffered lines, where they are many.
+/// Writes the buffered lines, where they are many.
 fn make_room<W: Write>(lines: &mut Vec<u8>, writer: &mut W) -> Result<(), Fault>
     ensures ok { OnOk result (Grows (W.contents writer.old) lines.old.items (W.contents writer.new) lines.new.items []) }
     ensures fault { IfErr result (λ e. e ≡ Fault.Write) }
@@ -144,7 +144,7 @@ fn make_room<W: Write>(lines: &mut Vec<u8>, writer: &mut W) -> Result<(), Fault>
     write_lines(lines, writer)
 }
 
-// Writes the buffered lines. After a failure too, none is buffered.
+/// Writes the buffered lines. After a failure too, none is buffered.
 fn write_lines<W: Write>(lines: &mut Vec<u8>, writer: &mut W) -> Result<(), Fault>
     ensures ok { OnOk result (Appends (W.contents writer.old) (W.contents writer.new) lines.old.items) }
     ensures fault { IfErr result (λ e. e ≡ Fault.Write) }

@@ -4,14 +4,13 @@ ghost use Rattle.std.specs.Prelude.{◌≡◌, ◌≢◌, ℕ, List, map, Some, 
 ghost use Rattle.gix_records.specs.Records.{Record, AreRecords};
 ghost use Rattle.gix_commands.specs.Opening.{layers_seen};
 ghost use Rattle.gix_commands.specs.Run.{RunsOver};
-ghost use Rattle.gix_commands.specs.Words.{request_of};
+ghost use Rattle.gix_words.specs.Words.{request_of};
 
-use crate::fault::Fault;
 use crate::graph::open;
 use crate::serve;
-use crate::words::read_command;
 use gix_graph_store::check_stored;
 use gix_parts::records;
+use gix_words::{Fault, read_command};
 use std::alloc::Global;
 use std::io::{Read, Write};
 

@@ -23,7 +23,7 @@ commit #7 144\ntree #0\nparent #4\nauthor A <a@b> 7 +0000\ncommitter A <a@b> 7 +
 commit #8 192\ntree #0\nparent #6\nparent #7\nauthor A <a@b> 8 +0000\ncommitter A <a@b> 8 +0000\n\n\n\
 ";
 
-// Adds a text that is written short.
+/// Adds a text that is written short.
 fn push_text(text: &mut Vec<u8>, short: &str) -> Result<(), AllocError> {
     let mut times = 1usize;
     for byte in short.as_bytes() {
@@ -67,7 +67,7 @@ fn word_of(alloc: Global, short: &str) -> Result<String, AllocError> {
     String::from_utf8_lossy(alloc, &text_of(alloc, &[short])?)
 }
 
-// Tries each row over these records.
+/// Tries each row over these records.
 fn check(alloc: Global, records: &[&str], rows: &[Row]) -> Result<(), Fail> {
     check_rows(alloc, &text_of(alloc, records)?, rows)
 }
@@ -79,7 +79,7 @@ fn check_rows(alloc: Global, input: &[u8], rows: &[Row]) -> Result<(), Fail> {
     Ok(())
 }
 
-// Tries a row over what a reader gives.
+/// Tries a row over what a reader gives.
 fn check_run<R: Read>(
     alloc: Global,
     words: &[&str],

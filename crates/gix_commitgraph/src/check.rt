@@ -89,11 +89,11 @@ fn after_parents(rows: u32, next: u32, first: u32, second: u32, words: &[u8]) ->
 /// What the first twelve bytes say, for bytes of the length that they ask for.
 #[derive(Clone, Copy, Debug)]
 pub(super) struct Layout {
-    // The kind of all ids.
+    /// The kind of all ids.
     pub kind: Kind,
-    // How many rows.
+    /// How many rows.
     pub rows: u32,
-    // How many overflow words behind them.
+    /// How many overflow words behind them.
     pub words: u32,
 }
 

@@ -91,7 +91,8 @@ fn compare_all(a: &[u8], b: &[u8]) -> Ordering
     a.cmp(&b)
 }
 
-/// The order of bytes, which the first four tell where they differ.
+/// The order of bytes, which the first four tell where they differ. Searches call it at each step.
+#[inline]
 fn compare(a: &[u8], b: &[u8]) -> Ordering
     requires { (4 ≤ length a.now) × (4 ≤ length b.now) }
     ensures { result ≡ slice_cmp nat_cmp a.now b.now }

@@ -16,6 +16,7 @@ use gix_object::decode;
 use gix_object::find::{Find, existing_iter};
 use gix_paint::{Hidden, HiddenIds, paint};
 use gix_revwalk::Pending;
+use gix_revwalk::row::NOWHERE;
 use std::alloc::{AllocError, Global};
 use std::collections::VecDeque;
 use thiserror::Error;
@@ -98,18 +99,22 @@ pub fn contained<F: Find>(
     Ok(those)
 }
 
-// The ids as the tips of a painting, which looks at no time of theirs.
+/// The ids as the tips of a painting, which looks at no time of theirs.
 fn pending_of(alloc: Global, ids: &[ObjectId]) -> Result<VecDeque<Pending>, AllocError>
     ensures { IfOk result (λ pending. ids_of pending.items ≡ ids.now) }
 {
     let mut pending = VecDeque::new(alloc);
     for id in ids {
-        pending.push_back(Pending { id: *id, time: 0 })?;
+        pending.push_back(Pending {
+            id: *id,
+            time: 0,
+            near: NOWHERE,
+        })?;
     }
     Ok(pending)
 }
 
-// The ids that were painted, in order.
+/// The ids that were painted, in order.
 fn hidden_among(
     alloc: Global,
     ids: &[ObjectId],

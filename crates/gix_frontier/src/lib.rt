@@ -113,7 +113,7 @@ impl Known {
     ghost use Rattle.gix_frontier.specs.declared.Progress.TheVariants as progress;
     ghost use Rattle.gix_frontier.specs.Inside.Frontier.{is_seen, is_done, progress_of, with_progress};
 
-    // A copy by hand, since `Copy` needs marks that can be told from what contracts see.
+    /// A copy by hand, since `Copy` needs marks that can be told from what contracts see.
     fn copy(&self) -> Known
         ensures { result ≡ self.now }
     {

@@ -1,5 +1,5 @@
 -- A chain of one file is the file, where it says no layers below it; and a graph has the rows that it has.
-use Rattle.std.proofs.Common.{◌≡◌, ◌≢◌, ℕ, ◌+◌, Bool, true, false, cond, not, eqb, bytes_eq, List, [], ◌∷◌, length, map, get_or, Bor, Option, Some, None, Result, Ok, Err, IfOk, IfErr, refl, sym, ap, ◌∙◌, arith}
+use Rattle.std.proofs.Common.{◌≡◌, ◌≢◌, ℕ, ◌+◌, true, false, cond, not, eqb, bytes_eq, List, [], ◌∷◌, length, map, get_or, Bor, Option, Some, None, Result, Ok, Err, IfOk, IfErr, refl, ap, ◌∙◌, arith}
 use Rattle.std.specs.List.{AllByRecursion}
 use Rattle.std.specs.Option.{option_map}
 use Rattle.std.proofs.lemmas.Bool.{eqb-true}

@@ -27,11 +27,11 @@ const GENERATION: u64 = 0x4_0000_0000;
 /// The layers below a layer.
 #[derive(Drop)]
 struct Below {
-    // The kind of their ids, if there are layers below.
+    /// The kind of their ids, if there are layers below.
     kind: Option<Kind>,
-    // Their trailing hashes, lowest first.
+    /// Their trailing hashes, lowest first.
     hashes: Vec<u8>,
-    // Their rows, lowest first.
+    /// Their rows, lowest first.
     rows: Vec<Row>,
 }
 

@@ -20,15 +20,15 @@ const MOST_WORDS: usize = 2_147_483_646;
 /// The parts of a file that say its rows.
 #[derive(Clone, Copy, Debug)]
 pub(super) struct Layout<'a> {
-    // The kind of all ids.
+    /// The kind of all ids.
     pub kind: Kind,
-    // How many rows.
+    /// How many rows.
     pub rows: u32,
-    // An id for each row.
+    /// An id for each row.
     pub ids: &'a [u8],
-    // A tree's id and 16 bytes for each row.
+    /// A tree's id and 16 bytes for each row.
     pub commits: &'a [u8],
-    // Words of parents.
+    /// Words of parents.
     pub edges: &'a [u8],
 }
 

@@ -40,13 +40,6 @@ people_written old first second text front digits written rest a b e c =
 -- ---- the text of a row
 
 module _ (rows : List GraphRow) (i : ObjectId) (row : GraphRow) (there : Some row ≡ row_of rows i) (front : List ℕ) where
-  pub corrupt-has_none : None ≡ behind_lines front (ids_at rows row.parents) → None ≡ text_at rows i
-  corrupt-has_none e = go (ids_at rows row.parents) e ∙ ap (text_of_row rows) there
-    where
-      go : (o : Option (List ObjectId)) → None ≡ behind_lines front o → None ≡ option_map (λ ids. commit_text row.tree ids row.time) o
-      go None e = refl
-      go (Some ids) e = cc
-
   pub whole-is_text : (held text : List ℕ) → Some held ≡ behind_lines front (ids_at rows row.parents) → front ≡ id_line (codes "tree ") row.tree → text ≡ held ++ people_lines row.time → Some text ≡ text_at rows i
   unfolding commit_text
   whole-is_text held text e tree people = go (ids_at rows row.parents) e ∙ ap (text_of_row rows) there

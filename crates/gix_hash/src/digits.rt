@@ -5,7 +5,7 @@ ghost use Rattle.gix_hash.specs.HexDigits.{AreDigits, AreSpelled, decoded};
 
 use std::simd::prelude::*;
 
-// Whether the sixteen bytes from a place on are hex digits, in either case.
+/// Whether the sixteen bytes from a place on are hex digits, in either case.
 #[inline(always)]
 fn are_digits(digits: &[u8], at: usize) -> bool
     requires { at + 16 ≤ length digits.now }
@@ -17,7 +17,7 @@ fn are_digits(digits: &[u8], at: usize) -> bool
     (decimal.simd_ge(u8x16::splat(10)) & letter.simd_ge(u8x16::splat(6))).to_bitmask() == 0
 }
 
-// The bytes that the sixteen digits from a place on spell.
+/// The bytes that the sixteen digits from a place on spell.
 #[inline(always)]
 fn bytes_at(digits: &[u8], at: usize) -> u8x8
     requires room { at + 16 ≤ length digits.now }
@@ -34,7 +34,7 @@ fn bytes_at(digits: &[u8], at: usize) -> u8x8
     (high << u8x8::splat(4)) + low
 }
 
-// Spells the eight bytes from a place on, behind the bytes that are spelled already.
+/// Spells the eight bytes from a place on, behind the bytes that are spelled already.
 #[inline(always)]
 fn spell(digits: &[u8], bytes: &mut [u8], at: usize) -> bool
     requires digits { 2 * at + 16 ≤ length digits.now }
@@ -51,7 +51,7 @@ fn spell(digits: &[u8], bytes: &mut [u8], at: usize) -> bool
     true
 }
 
-// The N bytes that twice as many digits spell. The last step overlaps the one before where N isn't a multiple of eight.
+/// The N bytes that twice as many digits spell. The last step overlaps the one before where N isn't a multiple of eight.
 pub(super) fn spelled<const N: usize>(digits: &[u8]) -> Option<[u8; N]>
     requires enough { 8 ≤ N }
     requires len { length digits.now ≡ 2 * N }

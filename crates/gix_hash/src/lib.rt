@@ -157,7 +157,7 @@ impl Hash for ObjectId {
     }
 }
 
-// The eight bytes from a place on as a number, the lowest first.
+/// The eight bytes from a place on as a number, the lowest first.
 #[inline(always)]
 fn word_at(bytes: &[u8], at: usize) -> u64
     requires { at + 8 ≤ length bytes.now }

@@ -3,8 +3,8 @@ use Rattle.std.specs.Prelude.{◌≢◌, ℕ, ◌-◌, nat_eq, nat_le, List, [],
 use Rattle.std.specs.Str.Lossy.{utf8_lossy}
 use Rattle.gix_hash.specs.declared.ObjectId.{ObjectId}
 use Rattle.gix_hash.specs.Id.{bytes_of, id_len, kind_of}
-use Rattle.gix_commands.specs.declared.fault.Fault.{Fault}
-use Rattle.gix_commands.specs.declared.fault.Fault.TheVariants as fault
+use Rattle.gix_words.specs.declared.fault.Fault.{Fault}
+use Rattle.gix_words.specs.declared.fault.Fault.TheVariants as fault
 use Rattle.gix_commands.specs.Run.{Runs}
 use Rattle.gix_memory_commands.specs.declared.answer.Answer.{Answer}
 use Rattle.gix_memory_commands.specs.WordsOf.{words_of}

@@ -23,21 +23,21 @@ pub struct Answer {
 }
 
 impl Answer {
-    // All went well, and so many bytes were put into the room.
+    /// All went well, and so many bytes were put into the room.
     pub(crate) fn well(length: usize) -> Answer
         ensures { result ≡ well length }
     {
         Answer::of_length(0, length)
     }
 
-    // The room was too small for so many bytes.
+    /// The room was too small for so many bytes.
     pub(crate) fn too_small(length: usize) -> Answer
         ensures { result ≡ too_small length }
     {
         Answer::of_length(1, length)
     }
 
-    // The fault of a run.
+    /// The fault of a run.
     pub(crate) fn of_fault(fault: Fault) -> Answer
         ensures { result ≡ of_fault fault }
     {
@@ -59,7 +59,7 @@ impl Answer {
         }
     }
 
-    // An answer that names nothing.
+    /// An answer that names nothing.
     fn of_length(number: u32, length: usize) -> Answer
         ensures { result ≡ of_length number length }
     {
@@ -72,7 +72,7 @@ impl Answer {
         }
     }
 
-    // The answer of a fault that names a word or a record.
+    /// The answer of a fault that names a word or a record.
     fn of_place(number: u32, place: usize) -> Answer
         ensures { result ≡ of_place number place }
     {
@@ -85,7 +85,7 @@ impl Answer {
         }
     }
 
-    // The answer of a fault that names an object.
+    /// The answer of a fault that names an object.
     fn of_id(number: u32, named: ObjectId) -> Answer
         ensures { result ≡ of_id number named }
     {

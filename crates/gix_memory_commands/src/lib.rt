@@ -44,7 +44,7 @@ pub fn put_text(number: u32, room: &mut [u8]) -> usize
     text.len()
 }
 
-// The lines that a command writes over the records. A writer in memory fails for memory alone.
+/// The lines that a command writes over the records. A writer in memory fails for memory alone.
 fn lines_of(alloc: Global, words: &[u8], records: &[u8]) -> Result<Vec<u8>, Fault>
     ensures ok { IfOk result (λ lines. RunsOver words.now records.now (Ok tt) lines.items) }
     ensures err { IfErr result (λ e. FailsOver words.now records.now e) }
@@ -58,7 +58,7 @@ fn lines_of(alloc: Global, words: &[u8], records: &[u8]) -> Result<Vec<u8>, Faul
     }
 }
 
-// The answer to a run that ended well, whose lines go into the room where they fit.
+/// The answer to a run that ended well, whose lines go into the room where they fit.
 fn put_lines(lines: &[u8], room: &mut [u8]) -> Answer
     ensures answer { result ≡ answer_to lines.now room.old }
     ensures room { room.new ≡ put_in lines.now room.old }
@@ -70,7 +70,7 @@ fn put_lines(lines: &[u8], room: &mut [u8]) -> Answer
     }
 }
 
-// Puts bytes at the front of the room where they fit. Whether they fit.
+/// Puts bytes at the front of the room where they fit. Whether they fit.
 fn put(bytes: &[u8], room: &mut [u8]) -> bool
     ensures fits { result ≡ nat_le (length bytes.now) (length room.old) }
     ensures room { room.new ≡ put_in bytes.now room.old }

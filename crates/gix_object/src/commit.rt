@@ -33,7 +33,7 @@ impl Signature<'_> {
     }
 }
 
-// The bytes behind the last `>`.
+/// The bytes behind the last `>`.
 fn behind_last(bytes: &[u8]) -> Option<&[u8]>
     ensures { option_copied result ≡ behind_last None bytes.now }
 {
@@ -41,7 +41,7 @@ fn behind_last(bytes: &[u8]) -> Option<&[u8]>
     Some(&bytes[end + 1..])
 }
 
-// Without the spaces at the front.
+/// Without the spaces at the front.
 fn without_spaces(mut bytes: &[u8]) -> &[u8]
     ensures { result.now ≡ without_spaces bytes.entry.now }
 {
@@ -51,7 +51,7 @@ fn without_spaces(mut bytes: &[u8]) -> &[u8]
     bytes
 }
 
-// The number that the digits at the front say, capped at the greatest of 64 bits.
+/// The number that the digits at the front say, capped at the greatest of 64 bits.
 fn number_at(bytes: &[u8]) -> u64
     ensures { result ≡ min (digits_from 0 bytes.now) u64.MAX }
 {
@@ -67,7 +67,7 @@ fn number_at(bytes: &[u8]) -> u64
     number
 }
 
-// An optional `-` and digits, and 0 where they say a number out of the range of 64 bits.
+/// An optional `-` and digits, and 0 where they say a number out of the range of 64 bits.
 fn signed_seconds(bytes: &[u8]) -> i64
     ensures { result ≡ signed_seconds bytes.now }
 {
@@ -92,7 +92,7 @@ pub enum Token<'a> {
     Rest { bytes: &'a [u8] },
 }
 
-// Which item may come next.
+/// Which item may come next.
 #[derive(Clone, Copy, Debug)]
 enum Place {
     Tree,
@@ -112,14 +112,14 @@ pub struct CommitRefIter<'a> {
     place: Place,
 }
 
-// What follows a word at the front of the bytes.
+/// What follows a word at the front of the bytes.
 fn after_word<'a>(bytes: &'a [u8], word: &[u8]) -> Option<&'a [u8]>
     ensures { option_copied result ≡ after_word word.now bytes.now }
 {
     bytes.strip_prefix(word)
 }
 
-// The place of the first newline. The first 64 bytes are looked at in one step, as most lines end there.
+/// The place of the first newline. The first 64 bytes are looked at in one step, as most lines end there.
 fn newline_in(bytes: &[u8]) -> Option<usize>
     ensures { IsFirstByte (is_byte 10) bytes.now result }
 {
@@ -134,7 +134,7 @@ fn newline_in(bytes: &[u8]) -> Option<usize>
     memchr(b'\n', bytes)
 }
 
-// The bytes before the first newline, and the bytes behind it.
+/// The bytes before the first newline, and the bytes behind it.
 fn line_at(bytes: &[u8]) -> Option<(&[u8], &[u8])>
     ensures { option_map (λ r. (r.0.now, r.1.now)) result ≡ line_at bytes.now }
 {
@@ -142,7 +142,7 @@ fn line_at(bytes: &[u8]) -> Option<(&[u8], &[u8])>
     Some((&bytes[..end], &bytes[end + 1..]))
 }
 
-// An id in hex digits and a newline: the id, and the bytes behind them.
+/// An id in hex digits and a newline: the id, and the bytes behind them.
 fn id_line_at(bytes: &[u8], kind: Kind) -> Option<(ObjectId, &[u8])>
     ensures { option_map (λ r. (r.0, r.1.now)) result ≡ id_line_at kind (Some bytes.now) }
 {
@@ -196,7 +196,7 @@ impl<'a> CommitRefIter<'a> {
         Err(Error::Missing)
     }
 
-    // Ends at a fault.
+    /// Ends at a fault.
     fn end_at(&mut self, why: Error) -> Option<Result<Token<'a>, Error>>
         ensures result { result ≡ Some (Err why) }
         ensures kind { self.new.kind ≡ self.old.kind }
@@ -206,7 +206,7 @@ impl<'a> CommitRefIter<'a> {
         Some(Err(why))
     }
 
-    // Takes the tree's line.
+    /// Takes the tree's line.
     #[inline(never)]
     fn take_tree(&mut self) -> Option<Result<Token<'a>, Error>>
         ensures { IsTaken self.old (tree_front (id_line_at self.old.kind (after_word (codes "tree ") self.old.bytes.now))) result self.new }
@@ -222,7 +222,7 @@ impl<'a> CommitRefIter<'a> {
         Some(Ok(Token::Tree { id }))
     }
 
-    // Takes a parent's line, or the author's.
+    /// Takes a parent's line, or the author's.
     #[inline(never)]
     fn take_parent_or_author(&mut self) -> Option<Result<Token<'a>, Error>>
         ensures { IsTaken self.old (parent_front self.old.kind self.old.bytes.now (after_word (codes "parent ") self.old.bytes.now)
@@ -239,7 +239,7 @@ impl<'a> CommitRefIter<'a> {
         Some(Ok(Token::Parent { id }))
     }
 
-    // Takes the author's line.
+    /// Takes the author's line.
     fn take_author(&mut self) -> Option<Result<Token<'a>, Error>>
         ensures { IsTaken self.old (author_front (text_line_at (after_word (codes "author ") self.old.bytes.now))) result self.new }
     {
@@ -251,7 +251,7 @@ impl<'a> CommitRefIter<'a> {
         Some(Ok(Token::Author { line }))
     }
 
-    // Takes the committer's line.
+    /// Takes the committer's line.
     #[inline(never)]
     fn take_committer(&mut self) -> Option<Result<Token<'a>, Error>>
         ensures { IsTaken self.old (committer_front (text_line_at (after_word (codes "committer ") self.old.bytes.now))) result self.new }
@@ -265,7 +265,7 @@ impl<'a> CommitRefIter<'a> {
         Some(Ok(Token::Committer { signature }))
     }
 
-    // Takes all that is left.
+    /// Takes all that is left.
     #[inline(never)]
     fn take_rest(&mut self) -> Option<Result<Token<'a>, Error>>
         ensures { IsTaken self.old (Found (Rest self.old.bytes.now) AtEnd []) result self.new }
@@ -276,7 +276,7 @@ impl<'a> CommitRefIter<'a> {
         Some(Ok(Token::Rest { bytes }))
     }
 
-    // Takes what is at the front of the bytes left.
+    /// Takes what is at the front of the bytes left.
     #[inline(always)]
     fn take(&mut self) -> Option<Result<Token<'a>, Error>>
         ensures { IsTaken self.old (front self.old.kind (place_of self.old.place) self.old.bytes.now) result self.new }

@@ -94,7 +94,7 @@ impl<'a> Iterator for TreeRefIter<'a> {
     }
 }
 
-// The entry at the front, and the bytes behind it.
+/// The entry at the front, and the bytes behind it.
 fn read_entry<'a>(bytes: &'a [u8], kind: Kind) -> Result<(EntryRef<'a>, &'a [u8]), decode::Error>
     ensures { IsFront kind bytes.now result }
 {
@@ -119,7 +119,7 @@ fn read_entry<'a>(bytes: &'a [u8], kind: Kind) -> Result<(EntryRef<'a>, &'a [u8]
     ))
 }
 
-// The mode at the front, and the bytes behind its space.
+/// The mode at the front, and the bytes behind its space.
 fn read_mode(bytes: &[u8]) -> Option<(u32, &[u8])>
     ensures { option_map (λ p. (p.0, p.1.now)) result ≡ mode_at bytes.now }
 {
@@ -127,7 +127,7 @@ fn read_mode(bytes: &[u8]) -> Option<(u32, &[u8])>
     Some((octal_number(digits)?, rest))
 }
 
-// The number that 1 to 6 octal digits say.
+/// The number that 1 to 6 octal digits say.
 fn octal_number(digits: &[u8]) -> Option<u32>
     ensures { result ≡ mode_of digits.now }
 {
@@ -144,7 +144,7 @@ fn octal_number(digits: &[u8]) -> Option<u32>
     Some(number)
 }
 
-// The id at the front, and the bytes behind it.
+/// The id at the front, and the bytes behind it.
 fn read_id(bytes: &[u8], kind: Kind) -> Option<(ObjectId, &[u8])>
     ensures { option_map (λ p. (p.0, p.1.now)) result ≡ id_at kind bytes.now }
 {
@@ -155,7 +155,7 @@ fn read_id(bytes: &[u8], kind: Kind) -> Option<(ObjectId, &[u8])>
     Some((ObjectId::from_bytes(&bytes[..len])?, &bytes[len..]))
 }
 
-// The bytes before the first such byte, and the bytes behind it.
+/// The bytes before the first such byte, and the bytes behind it.
 fn split_at_byte(bytes: &[u8], byte: u8) -> Option<(&[u8], &[u8])>
     ensures { option_map (λ p. (p.0.now, p.1.now)) result ≡ parted byte bytes.now }
 {

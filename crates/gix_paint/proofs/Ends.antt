@@ -15,7 +15,7 @@ use Rattle.gix_paint.specs.declared.source.Key.{Key}
 use Rattle.gix_paint.specs.declared.Entry.{Entry}
 use Rattle.gix_paint.specs.declared.Painter.{Painter}
 use Rattle.gix_revwalk.specs.Commits.{parents_of, commit_of_object}
-use Rattle.gix_paint.specs.Inside.Painter.{is_hidden, rows_in, held_graph, Reads, by_row, by_store, drops, GivesParents, brought, looked_up, Takes, TreatsEntry, skips, reads, Pops, room}
+use Rattle.gix_paint.specs.Inside.Painter.{is_hidden, rows_in, graph_in_use, Reads, by_row, by_store, drops, GivesParents, brought, looked_up, Takes, TreatsEntry, skips, reads, Pops, room}
 use Rattle.gix_revwalk.specs.Ids.{new_ids}
 use Rattle.gix_revwalk.specs.RowParents.{ids_at}
 use Rattle.gix_paint.proofs.Invariant.{reads_parents, IsSafe}
@@ -39,10 +39,10 @@ among_parents objects rows c ids r i m =
         (among_from i _ (subst (λ xs. Contains xs i) (reads_parents objects c ids r) m))
 
 module _ {F : Type 0} (objects : F → Objects) (store : F) (rows : List GraphRow) {w v : Painter F} (top : Key × Entry) (pops : Pops cmp-value.it w top v) (safe : IsSafe objects store rows w) where
-  named : {ids : List ObjectId} {after : Option (Bor (List GraphRow))} → GivesParents (objects v.source.objects.now) (held_graph v.source) top.1 ids after → (i : ObjectId) → Contains ids i → is_among i (names (objects store) rows) ≡ true
+  named : {ids : List ObjectId} {after : Option (Bor (List GraphRow))} → GivesParents (objects v.source.objects.now) (graph_in_use v.source) top.1 ids after → (i : ObjectId) → Contains ids i → is_among i (names (objects store) rows) ≡ true
   named {ids} (brought e) i m = among_parents (objects store) rows top.1.id ids (safe.brings top (popped_there pops) ids e) i m
   named {ids} (looked_up n (by_row {row = row} e f)) i m =
-      let graph : rows_in (held_graph v.source) ≡ rows_in (held_graph w.source) = ap (λ s. rows_in (held_graph s)) pops.source in
+      let graph : rows_in (graph_in_use v.source) ≡ rows_in (graph_in_use w.source) = ap (λ s. rows_in (graph_in_use s)) pops.source in
       ⊎_elim (λ r. among-append i (map (λ row. row.id) rows) _ ∙ or_left _ _ (ids_in_rows rows row.parents ids (ap (λ rs. ids_at rs row.parents) (sym (graph ∙ r)) ∙ f) i m))
       (λ n. let none : None ≡ Some row = sym (ap (λ rs. row_of rs top.1.id) (graph ∙ ap rows_in n)) ∙ e in cc) safe.either
   named {ids} (looked_up n (by_store e r)) i m = among_parents (objects store) rows top.1.id ids (subst (λ f. Reads (objects f) top.1.id ids) (ap (λ s. s.objects.now) pops.source ∙ safe.same_store) r) i m

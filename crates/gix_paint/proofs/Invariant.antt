@@ -11,13 +11,13 @@ use Rattle.gix_commitgraph.specs.Rows.{GraphRow, row_of}
 use Rattle.gix_paint.specs.declared.Side.{Side}
 use Rattle.gix_paint.specs.declared.Side.TheVariants as side
 use Rattle.gix_paint.specs.declared.source.Key.{Key}
-use Rattle.gix_paint.specs.declared.source.Known.{Known}
+use Rattle.gix_paint.specs.declared.source.LookedUp.{LookedUp}
 use Rattle.gix_paint.specs.declared.Entry.{Entry}
 use Rattle.gix_paint.specs.declared.Painter.{Painter}
 use Rattle.gix_revwalk.specs.Agreeing.{IsAgreeing}
 use Rattle.gix_revwalk.specs.Commits.{parents_of, parents_in}
 use Rattle.gix_paint.specs.Painting.{IsHistory, DropsBy}
-use Rattle.gix_paint.specs.Inside.Painter.{AllMarks, hides, is_hidden, hidden_of, State, Unmet, Open, Read, Hides, state_of, Becomes, stays, opens, covers, rows_in, held_graph, Reads, Knows, by_row, by_store, IsQueued, IsWaiting, IsTidy, Meets}
+use Rattle.gix_paint.specs.Inside.Painter.{AllMarks, hides, is_hidden, hidden_of, State, Unmet, Open, Read, Hides, state_of, Becomes, stays, opens, covers, rows_in, graph_in_use, Reads, Knows, by_row, by_store, IsQueued, IsWaiting, IsTidy, Meets}
 use Rattle.gix_hash.specs.Reach.{Reaches}
 use Rattle.gix_hash.proofs.Ids.Membership.{id_total, id_apart}
 
@@ -37,12 +37,12 @@ pub hidden-empty : (marks : AllMarks) → marks ≡ map_of.empty → hidden_of m
 hidden-empty marks e = set.same_set id_total id_apart _ _ (λ i. contains-hidden marks i ∙ ap (λ m. is_hidden m i) e ∙ ap hides (map_of.get-empty id_cmp i) ∙ sym (set.contains-empty id_cmp i))
 
 -- the parents that an entry brings are its commit's
-pub brought_read : {objects : Objects} {rows : List GraphRow} {i : ObjectId} {known : Known} → Knows objects rows i known → (ids : List ObjectId) → option_map (λ ids. ids.items) known.parent_ids ≡ Some ids → Reads objects i ids
+pub brought_read : {objects : Objects} {rows : List GraphRow} {i : ObjectId} {known : LookedUp} → Knows objects rows i known → (ids : List ObjectId) → option_map (λ ids. ids.items) known.parent_ids ≡ Some ids → Reads objects i ids
 brought_read (by_row r k t n) ids e = let none : None ≡ Some ids = sym (ap (option_map (λ ids. ids.items)) n) ∙ e in cc
 brought_read (by_store {ids = those} r k t m s) ids e = let same : ids ≡ those = cc in (s.0, s.1, same ∙ s.2)
 
 -- an entry without a row was read from the store
-unrowed_read : {objects : Objects} {rows : List GraphRow} {i : ObjectId} {known : Known} → Knows objects rows i known → row_of rows i ≡ None → (ids : List ObjectId) × Reads objects i ids
+unrowed_read : {objects : Objects} {rows : List GraphRow} {i : ObjectId} {known : LookedUp} → Knows objects rows i known → row_of rows i ≡ None → (ids : List ObjectId) × Reads objects i ids
 unrowed_read (by_row {row = row} r k t n) e = let none : None ≡ Some row = sym e ∙ r in cc
 unrowed_read (by_store {ids = ids} r k t m s) e = (ids, s)
 
@@ -88,22 +88,22 @@ in_history h i ids r = (r.0, h.read i r.0 r.1, r.2)
 
 -- what holds whatever the rows say
 module _ {F : Type 0} (objects : F → Objects) (store : F) (rows : List GraphRow) where
-  abbrev pub RowsStand : Painter F → Type 0
-  RowsStand p = rows_in (held_graph p.source) ≡ rows
+  abbrev pub RowsInUse : Painter F → Type 0
+  RowsInUse p = rows_in (graph_in_use p.source) ≡ rows
 
   pub record IsSafe (p : Painter F) : Type 0 where
     pub same_store : p.source.objects.now ≡ store
-    pub either : (rows_in (held_graph p.source) ≡ rows) ⊎ (held_graph p.source ≡ None)
-    pub queued : RowsStand p → (q : Key × Entry) → Contains p.queue q → IsQueued (objects store) rows q
+    pub either : (rows_in (graph_in_use p.source) ≡ rows) ⊎ (graph_in_use p.source ≡ None)
+    pub queued : RowsInUse p → (q : Key × Entry) → Contains p.queue q → IsQueued (objects store) rows q
     pub brings : (q : Key × Entry) → Contains p.queue q → (ids : List ObjectId) → option_map (λ ids. ids.items) q.1.parent_ids ≡ Some ids → Reads (objects store) q.1.id ids
     pub read : (q : Key × Entry) → Contains p.queue q → row_of rows q.1.id ≡ None → (ids : List ObjectId) × Reads (objects store) q.1.id ids
 
   module _ {s : Side} {ids : List ObjectId} {p new : Painter F} (m : Meets objects s ids p new) where
-    pub still_stand : RowsStand new → RowsStand p
+    pub still_stand : RowsInUse new → RowsInUse p
     still_stand r = ap rows_in (sym m.graph_stays) ∙ r
 
-    added : IsSafe p → (q : Key × Entry) → Contains new.queue q → Contains p.queue q ⊎ (Contains ids q.1.id × (q.1.side ≡ s) × IsQueued (objects store) (rows_in (held_graph p.source)) q)
-    added safe q c = ⊎_elim (λ o. inl o) (λ a. inr (a.0, a.1, subst (λ f. IsQueued (objects f) (rows_in (held_graph p.source)) q) safe.same_store a.2)) (m.adds q c)
+    added : IsSafe p → (q : Key × Entry) → Contains new.queue q → Contains p.queue q ⊎ (Contains ids q.1.id × (q.1.side ≡ s) × IsQueued (objects store) (rows_in (graph_in_use p.source)) q)
+    added safe q c = ⊎_elim (λ o. inl o) (λ a. inr (a.0, a.1, subst (λ f. IsQueued (objects f) (rows_in (graph_in_use p.source)) q) safe.same_store a.2)) (m.adds q c)
 
     pub safe_meets : IsSafe p → IsSafe new
     safe_meets h = record {
@@ -118,8 +118,8 @@ module _ {F : Type 0} (objects : F → Objects) (store : F) (history : Objects) 
   abbrev pub next : ObjectId → List ObjectId
   next = parents_of history
 
-  abbrev Standing : Painter F → Type 0
-  Standing = RowsStand objects store rows
+  abbrev InUse : Painter F → Type 0
+  InUse = RowsInUse objects store rows
 
   abbrev pub starts_of : Side → List ObjectId
   starts_of side.Visible = tips
@@ -136,8 +136,8 @@ module _ {F : Type 0} (objects : F → Objects) (store : F) (history : Objects) 
   -- what is known of an id by its state, while the parents of a busy one are still to be met
   abbrev pub Fact : (Side → ObjectId → Type 0) → Painter F → ObjectId → State → Type 0
   Fact busy p i Unmet = Unit {0}
-  Fact busy p i Open = Reaches next tips i × IsWaiting p side.Visible i × (Standing p → IsBorder i)
-  Fact busy p i Read = Reaches next tips i × (busy side.Visible i ⊎ ((c : ObjectId) → Contains (next i) c → state_of p c ≢ Unmet)) × (Standing p → IsOutside i)
+  Fact busy p i Open = Reaches next tips i × IsWaiting p side.Visible i × (InUse p → IsBorder i)
+  Fact busy p i Read = Reaches next tips i × (busy side.Visible i ⊎ ((c : ObjectId) → Contains (next i) c → state_of p c ≢ Unmet)) × (InUse p → IsOutside i)
   Fact busy p i Hides = Reaches next hidden_tips i × (busy side.Hidden i ⊎ (IsWaiting p side.Hidden i ⊎ ((c : ObjectId) → Contains (next i) c → state_of p c ≡ Hides)))
 
   -- what holds where the rows agree
@@ -146,7 +146,7 @@ module _ {F : Type 0} (objects : F → Objects) (store : F) (history : Objects) 
     pub tidy : IsTidy p
     pub reached : (q : Key × Entry) → Contains p.queue q → Reaches next (starts_of q.1.side) q.1.id
     pub waits : (q : Key × Entry) → Contains p.queue q → q.1.side ≡ side.Hidden → state_of p q.1.id ≡ Hides
-    pub dropped : (Standing p → ⊥) → DropsBy next rows tips hidden_tips
+    pub dropped : (InUse p → ⊥) → DropsBy next rows tips hidden_tips
     pub read : (i : ObjectId) → row_of rows i ≡ None → state_of p i ≢ Unmet → (ids : List ObjectId) × Reads (objects store) i ids
 
   -- the tips and the hidden tips were met
@@ -164,7 +164,7 @@ module _ {F : Type 0} (objects : F → Objects) (store : F) (history : Objects) 
     -- what is met is known, and nobody is busy any more
     pub stands_meets : (busy : Side → ObjectId → Type 0) → IsSafe objects store rows p → Stands busy p
         → ((i : ObjectId) → Contains ids i → Reaches next (starts_of s) i)
-        → (s ≡ side.Visible → Standing p → (i : ObjectId) → Contains ids i → IsBorder i)
+        → (s ≡ side.Visible → InUse p → (i : ObjectId) → Contains ids i → IsBorder i)
         → ((t : Side) (i : ObjectId) → busy t i → (t ≡ s) × ((c : ObjectId) → Contains (next i) c → Contains ids c))
         → Stands nobody new
     stands_meets busy safe h reach border done = record {

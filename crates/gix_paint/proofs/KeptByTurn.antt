@@ -21,11 +21,11 @@ use Rattle.gix_paint.specs.declared.source.Key.{Key}
 use Rattle.gix_paint.specs.declared.Entry.{Entry}
 use Rattle.gix_paint.specs.declared.Painter.{Painter}
 use Rattle.gix_paint.specs.Painting.{DropsBy, generation_in, IsHistory}
-use Rattle.gix_paint.specs.Inside.Painter.{hides, Open, Read, Hides, state_by, state_of, held_graph, by_row, by_store, IsQueued, IsWaiting, IsSettled, is_told, Pops}
+use Rattle.gix_paint.specs.Inside.Painter.{hides, Open, Read, Hides, state_by, state_of, graph_in_use, by_row, by_store, IsQueued, IsWaiting, IsSettled, is_told, Pops}
 use Rattle.gix_paint.specs.Inside.Painter as painter
 use Rattle.gix_hash.specs.Reach.{Reaches, start, step}
 use Rattle.gix_revwalk.specs.RowParents.{ids_at}
-use Rattle.gix_paint.proofs.Invariant.{nobody, next, starts_of, RowsStand, IsSafe, IsOutside, Fact, Stands, IsStarted}
+use Rattle.gix_paint.proofs.Invariant.{nobody, next, starts_of, RowsInUse, IsSafe, IsOutside, Fact, Stands, IsStarted}
 use Rattle.gix_paint.proofs.Keys.{told_below_top}
 use Rattle.gix_revwalk.proofs.ReadsWhole.{row_stands, parent_below, corrupt_row}
 use Rattle.gix_paint.proofs.Search.{done_or_waits, told_below}
@@ -99,14 +99,14 @@ module _ {F : Type 0} (objects : F → Objects) (store : F) (history : Objects) 
 
     -- before an entry's turn
     module _ (w : Painter F) (safe : IsSafe objects store rows w) (h : Stands objects store history rows tips hidden_tips nobody w) (started : IsStarted objects store history rows tips hidden_tips w) where
-      pub key_of : RowsStand objects store rows w → (q : Key × Entry) → Contains w.queue q → (row : GraphRow) → row_of rows q.1.id ≡ Some row → q.0.generation ≡ Told row.generation
+      pub key_of : RowsInUse objects store rows w → (q : Key × Entry) → Contains w.queue q → (row : GraphRow) → row_of rows q.1.id ≡ Some row → q.0.generation ≡ Told row.generation
       key_of r q c row e = go (safe.queued r q c)
         where
           go : IsQueued (objects store) rows q → q.0.generation ≡ Told row.generation
           go (painter.by_row {row = other} f k t n) = let same : other ≡ row = (let s : Some other ≡ Some row = sym f ∙ e in cc) in k ∙ ap (λ x. Told x.generation) same
           go (painter.by_store f k t m d) = let bad : None ≡ Some row = sym f ∙ e in cc
 
-      pub row_told : RowsStand objects store rows w → (q : Key × Entry) → Contains w.queue q → (n : ℕ) → q.0.generation ≡ Told n → HasGeneration q.1.id n
+      pub row_told : RowsInUse objects store rows w → (q : Key × Entry) → Contains w.queue q → (n : ℕ) → q.0.generation ≡ Told n → HasGeneration q.1.id n
       row_told r q c n e = go (safe.queued r q c)
         where
           go : IsQueued (objects store) rows q → HasGeneration q.1.id n
@@ -114,13 +114,13 @@ module _ {F : Type 0} (objects : F → Objects) (store : F) (history : Objects) 
           go (painter.by_store f k t m d) = let bad : Infinite ≡ Told n = sym k ∙ e in cc
 
       -- what waits below a key that has a row's generation has a row of its own
-      waits_below : RowsStand objects store rows w → (top : Key × Entry) → IsUpperBound cmp-value.it top.0 (keys w.queue) → (n : ℕ) → top.0.generation ≡ Told n → (s : Side) (i : ObjectId) → IsWaiting w s i → (m : ℕ) × HasGeneration i m × (m ≤ n)
+      waits_below : RowsInUse objects store rows w → (top : Key × Entry) → IsUpperBound cmp-value.it top.0 (keys w.queue) → (n : ℕ) → top.0.generation ≡ Told n → (s : Side) (i : ObjectId) → IsWaiting w s i → (m : ℕ) × HasGeneration i m × (m ≤ n)
       waits_below r top bound n e s i q =
           let k : (m : ℕ) × (q.0.0.generation ≡ Told m) × (m ≤ n) = told_below_top top.0 w.queue bound n e q.0 q.1 in
           (k.0, subst (λ j. HasGeneration j k.0) q.3 (row_told r q.0 q.1 k.0 k.1), k.2)
 
       -- no id is taken that an unread id above it would hide
-      pub taken_outside : RowsStand objects store rows w → (top : Key × Entry) → Contains w.queue top → IsUpperBound cmp-value.it top.0 (keys w.queue) → state_of w top.1.id ≢ Hides → IsOutside objects store history rows tips hidden_tips top.1.id
+      pub taken_outside : RowsInUse objects store rows w → (top : Key × Entry) → Contains w.queue top → IsUpperBound cmp-value.it top.0 (keys w.queue) → state_of w top.1.id ≢ Hides → IsOutside objects store history rows tips hidden_tips top.1.id
       taken_outside r top there bound unhidden row e hidden =
           ⊎_elim (λ d. unhidden d.0) (λ q.
           let told : top.0.generation ≡ Told row.generation = key_of r top there row e in
@@ -131,7 +131,7 @@ module _ {F : Type 0} (objects : F → Objects) (store : F) (history : Objects) 
           (hidden_from w h started top.1.id hidden)
 
       -- rows are dropped for the row of a greatest key, while an open id waits below
-      pub drop_reason : RowsStand objects store rows w → IsSome (held_graph w.source) → (top : Key × Entry) → Contains w.queue top → IsUpperBound cmp-value.it top.0 (keys w.queue) → (IsSettled w → ⊥) → (row : GraphRow) → row_of rows top.1.id ≡ Some row → ids_at rows row.parents ≡ None
+      pub drop_reason : RowsInUse objects store rows w → IsSome (graph_in_use w.source) → (top : Key × Entry) → Contains w.queue top → IsUpperBound cmp-value.it top.0 (keys w.queue) → (IsSettled w → ⊥) → (row : GraphRow) → row_of rows top.1.id ≡ Some row → ids_at rows row.parents ≡ None
           → DropsBy There rows tips hidden_tips
       drop_reason r graph top there bound unsettled row e corrupt =
           let told : top.0.generation ≡ Told row.generation = key_of r top there row e in

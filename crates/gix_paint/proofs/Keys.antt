@@ -14,7 +14,7 @@ use Rattle.gix_paint.specs.declared.source.Generation.TheVariants.{Told, Infinit
 use Rattle.gix_paint.specs.declared.source.Key.{Key}
 use Rattle.gix_paint.specs.declared.Entry.{Entry}
 use Rattle.gix_paint.specs.declared.Painter.{Painter}
-use Rattle.gix_paint.specs.Inside.Painter.{held_graph, IsSettled, is_told}
+use Rattle.gix_paint.specs.Inside.Painter.{graph_in_use, IsSettled, is_told}
 use Rattle.gix_revwalk.specs.PriorityQueue.{keys}
 use Rattle.gix_hash.proofs.Ids.Membership.{Contains-here, Contains-cons_cases, no_member}
 
@@ -43,7 +43,7 @@ told_below_top top (x ∷ queue) h n e q c =
 
 module _ {F : Type 0} (p : Painter F) where
   -- with a greatest key that has a row's generation, all that is queued has a row
-  pub settled_by_top : (top : Key) (n : ℕ) → IsSome (held_graph p.source) → set.len p.frontier ≡ 0 → IsUpperBound cmp-value.it top (keys p.queue) → top.generation ≡ Told n → IsSettled p
+  pub settled_by_top : (top : Key) (n : ℕ) → IsSome (graph_in_use p.source) → set.len p.frontier ≡ 0 → IsUpperBound cmp-value.it top (keys p.queue) → top.generation ≡ Told n → IsSettled p
   settled_by_top top n graph none h e = inr (graph, none, λ q c. let k : (m : ℕ) × (q.0.generation ≡ Told m) × (m ≤ n) = told_below_top top p.queue h n e q c in ap is_told k.1)
 
   pub unsettled_by_top : (top : Key × Entry) → Some top ≡ slice_get p.queue 0 → top.0.generation ≡ Infinite → IsSettled p → ⊥

@@ -18,9 +18,9 @@ use Rattle.gix_paint.specs.declared.Painter.{Painter}
 use Rattle.gix_revwalk.specs.Agreeing.{IsCorrupt}
 use Rattle.gix_paint.specs.Painting.{IsHistory, IsOpenBelow, IsRead, shown_commit, hidden_commit, generation_in, Paints}
 use Rattle.gix_hash.specs.Reach.{IsAtBoundary, Reaches, start, step}
-use Rattle.gix_paint.specs.Inside.Painter.{hides, hidden_of, State, Unmet, Open, Read, Hides, state_by, state_of, rows_in, held_graph, Knows, IsWaiting, IsSettled, is_told, Meets}
+use Rattle.gix_paint.specs.Inside.Painter.{hides, hidden_of, State, Unmet, Open, Read, Hides, state_by, state_of, rows_in, graph_in_use, Knows, IsWaiting, IsSettled, is_told, Meets}
 use Rattle.gix_paint.specs.Inside.Painter as painter
-use Rattle.gix_paint.proofs.Invariant.{contains-hidden, hidden_now, met_now, nobody, next, RowsStand, IsSafe, Fact, Stands, IsStarted, stands_meets, safe_meets, hidden_stays}
+use Rattle.gix_paint.proofs.Invariant.{contains-hidden, hidden_now, met_now, nobody, next, RowsInUse, IsSafe, Fact, Stands, IsStarted, stands_meets, safe_meets, hidden_stays}
 use Rattle.gix_paint.proofs.Meets.{hides_then}
 use Rattle.gix_paint.proofs.KeptByTurn.{HasGeneration, one_generation, row_told, hidden_from, falls, below}
 use Rattle.gix_paint.proofs.Order as order
@@ -62,7 +62,7 @@ module _ {F : Type 0} (objects : F → Objects) (store : F) (history : Objects) 
   -- a painter that has marked nothing
   pub record IsBlank (p : Painter F) : Type 0 where
     pub same_store : p.source.objects.now ≡ store
-    pub graph : rows_in (held_graph p.source) ≡ rows
+    pub graph : rows_in (graph_in_use p.source) ≡ rows
     pub marks : p.marks ≡ map_of.empty
     pub frontier : p.frontier ≡ set.empty
     pub queue : p.queue ≡ []
@@ -121,14 +121,14 @@ module _ {F : Type 0} (objects : F → Objects) (store : F) (history : Objects) 
         settled
 
     -- the rows are in use where the queue isn't empty
-    standing : IsSome (held_graph p.source) → RowsStand objects store rows p
-    standing some = ⊎_elim (λ r. r) (λ n. let none : true ≡ false = sym some ∙ ap is_some n in cc) safe.either
+    in_use : IsSome (graph_in_use p.source) → RowsInUse objects store rows p
+    in_use some = ⊎_elim (λ r. r) (λ n. let none : true ≡ false = sym some ∙ ap is_some n in cc) safe.either
 
     module _ (known : IsHistory (objects store) rows history) (h : Holds p) (started : Started p) where
       -- what waits has a row, and what it reaches has one
-      rowed : IsSome (held_graph p.source) → ((q : Key × Entry) → Contains p.queue q → is_told q.0.generation ≡ true) → (q i : ObjectId) → IsWaiting p side.Hidden q → Reaches There (q ∷ []) i → (row : GraphRow) × (row_of rows i ≡ Some row)
+      rowed : IsSome (graph_in_use p.source) → ((q : Key × Entry) → Contains p.queue q → is_told q.0.generation ≡ true) → (q i : ObjectId) → IsWaiting p side.Hidden q → Reaches There (q ∷ []) i → (row : GraphRow) × (row_of rows i ≡ Some row)
       rowed some told q i w path =
-          let k : (row : GraphRow) × (row_of rows q ≡ Some row) = subst (λ j. (row : GraphRow) × (row_of rows j ≡ Some row)) w.3 (row_for (safe.queued (standing some) w.0 w.1) (told w.0 w.1)) in
+          let k : (row : GraphRow) × (row_of rows q ≡ Some row) = subst (λ j. (row : GraphRow) × (row_of rows j ≡ Some row)) w.3 (row_for (safe.queued (in_use some) w.0 w.1) (told w.0 w.1)) in
           let b = below objects store history rows tips hidden_tips known q k.0.generation (k.0, k.1, refl) i path in
           (b.1.0, b.1.1)
         where
@@ -144,7 +144,7 @@ module _ {F : Type 0} (objects : F → Objects) (store : F) (history : Objects) 
           read_so e =
               let f : Fact objects store history rows tips hidden_tips nobody p i Read = subst (Fact objects store history rows tips hidden_tips nobody p i) e (h.facts i) in
               ⊎_elim (λ d. let bad : Read ≡ Hides = sym e ∙ d.0 in cc)
-              (λ q. ⊎_elim (λ none. no_member q.1.0 (subst (λ qs. Contains qs q.1.0) none q.1.1)) (λ s. let row : (row : GraphRow) × (row_of rows i ≡ Some row) = rowed s.0 s.2 q.0 i q.1 q.2 in f.2 (standing s.0) row.0 row.1 hidden) settled)
+              (λ q. ⊎_elim (λ none. no_member q.1.0 (subst (λ qs. Contains qs q.1.0) none q.1.1)) (λ s. let row : (row : GraphRow) × (row_of rows i ≡ Some row) = rowed s.0 s.2 q.0 i q.1 q.2 in f.2 (in_use s.0) row.0 row.1 hidden) settled)
               (hidden_from objects store history rows tips hidden_tips p h started i hidden)
 
           go : (s : State) → state_of p i ≡ s → state_of p i ≡ Hides
@@ -215,7 +215,7 @@ module _ {F : Type 0} (objects : F → Objects) (store : F) (history : Objects) 
               ⊎_elim (λ b. absurd b) (λ o. ⊎_elim (λ w. absurd (none_waits w)) (λ all. subst (λ s. s ≢ Unmet) (sym (all i m)) (λ k. cc)) o) k.1
 
       -- rows that are left had no corrupt one among those that had to be read
-      module _ (ordered : IsOrdered objects store history rows tips hidden_tips p) (stands : RowsStand objects store rows p) where
+      module _ (ordered : IsOrdered objects store history rows tips hidden_tips p) (stands : RowsInUse objects store rows p) where
         -- an id below the greatest that waits wasn't taken
         not_above : (i : ObjectId) (row : GraphRow) → row_of rows i ≡ Some row → (q : ObjectId) → IsWaiting p side.Hidden q → Reaches There (q ∷ []) i → (bound : ObjectId) → generation_in (row_of rows bound) < row.generation → IsAbove objects store history rows tips hidden_tips p bound → ⊥
         not_above i row e q w path bound lower above = go (row_of rows bound) refl
@@ -258,12 +258,12 @@ module _ {F : Type 0} (objects : F → Objects) (store : F) (rows : List GraphRo
   HoldsOf history = Stands objects store history rows tips hidden_tips nobody p × IsStarted objects store history rows tips hidden_tips p × IsOrdered objects store history rows tips hidden_tips p
 
   abbrev Left : List GraphRow
-  Left = if is_some (held_graph p.source) then rows else []
+  Left = if is_some (graph_in_use p.source) then rows else []
 
   -- what painting gives
   pub paints : ((history : Objects) → IsHistory (objects store) rows history → HoldsOf history) → Paints (objects store) rows tips hidden_tips (hidden_of p.marks) Left
   paints holds = record {
-    rows_left = either_rows (is_some (held_graph p.source));
+    rows_left = either_rows (is_some (graph_in_use p.source));
     rowless = λ history known i r e.
         let k = holds history known in
         ap is_some (k.0.read i e (all_read objects store history rows tips hidden_tips p safe settled known k.0 k.1 i r e)).1.1;
@@ -272,7 +272,7 @@ module _ {F : Type 0} (objects : F → Objects) (store : F) (rows : List GraphRo
         record {
           sound = sound objects store history rows tips hidden_tips p safe settled known k.0 k.1;
           whole = whole objects store history rows tips hidden_tips p safe settled known k.0 k.1;
-          drops = λ gone. k.0.dropped (λ stands. gone (still (held_graph p.source) refl stands));
+          drops = λ gone. k.0.dropped (λ stands. gone (still (graph_in_use p.source) refl stands));
           keeps = λ left. keeps objects store history rows tips hidden_tips p safe settled known k.0 k.1 k.2 (stood left);
         };
   }
@@ -281,9 +281,9 @@ module _ {F : Type 0} (objects : F → Objects) (store : F) (rows : List GraphRo
       either_rows true = inl refl
       either_rows false = inr refl
 
-      still : (o : Option (Bor (List GraphRow))) → held_graph p.source ≡ o → RowsStand objects store rows p → Left ≡ rows
+      still : (o : Option (Bor (List GraphRow))) → graph_in_use p.source ≡ o → RowsInUse objects store rows p → Left ≡ rows
       still None e stands = ap (λ g. if is_some g then rows else []) e ∙ sym (ap rows_in e) ∙ stands
       still (Some graph) e stands = ap (λ g. if is_some g then rows else []) e
 
-      stood : Left ≡ rows → RowsStand objects store rows p
+      stood : Left ≡ rows → RowsInUse objects store rows p
       stood left = ⊎_elim (λ r. r) (λ n. ap rows_in n ∙ sym (ap (λ g. if is_some g then rows else []) n) ∙ left) safe.either

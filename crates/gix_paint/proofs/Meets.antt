@@ -16,11 +16,11 @@ use Rattle.gix_paint.specs.declared.Side.TheVariants as side
 use Rattle.gix_paint.specs.declared.source.Key.{Key}
 use Rattle.gix_paint.specs.declared.Entry.{Entry}
 use Rattle.gix_paint.specs.declared.Painter.{Painter}
-use Rattle.gix_revwalk.specs.declared.Pending.{Pending}
+use Rattle.gix_revwalk.specs.Pending.{Pending}
 use Rattle.gix_revwalk.specs.Ids.{ids_of}
 use Rattle.gix_paint.specs.declared.Hidden.{Hidden}
 use Rattle.gix_paint.specs.Painting.{IsFaultAt}
-use Rattle.gix_paint.specs.Inside.Painter.{FailsAmong, hides, is_hidden, State, Unmet, Open, Read, Hides, state_by, state_of, IsTidy, Becomes, stays, opens, covers, rows_in, held_graph, IsQueued, IsWaiting, Queues, Meets, is_turn, Takes, GivesParents, TreatsEntry, reads, room}
+use Rattle.gix_paint.specs.Inside.Painter.{FailsAmong, hides, is_hidden, State, Unmet, Open, Read, Hides, state_by, state_of, IsTidy, Becomes, stays, opens, covers, rows_in, graph_in_use, IsQueued, IsWaiting, Queues, Meets, is_turn, Takes, GivesParents, TreatsEntry, reads, room}
 use Rattle.gix_revwalk.proofs.NewIds.{fresh, fresh_agree, new_less}
 use Rattle.gix_hash.proofs.Lists.{only_member}
 use Rattle.gix_hash.proofs.Ids.Membership.{id_total, same_is, same_itself, Contains-here, Contains-there, Contains-cons_cases}
@@ -83,8 +83,8 @@ module _ {F : Type 0} (objects : F → Objects) where
     spends = λ named h. Rattle.std.proofs.Math.Nat.le_trans (b.spends named (λ i c. h i (Contains-append_right xs ys i c))) (a.spends named (λ i c. h i (Contains-append_left xs ys i c)));
   }
     where
-      known : (q : Key × Entry) → IsQueued (objects mid.source.objects.now) (rows_in (held_graph mid.source)) q → IsQueued (objects p.source.objects.now) (rows_in (held_graph p.source)) q
-      known q h = subst (λ g. IsQueued (objects p.source.objects.now) (rows_in g) q) a.graph_stays (subst (λ o. IsQueued (objects o.now) (rows_in (held_graph mid.source)) q) a.objects_stay h)
+      known : (q : Key × Entry) → IsQueued (objects mid.source.objects.now) (rows_in (graph_in_use mid.source)) q → IsQueued (objects p.source.objects.now) (rows_in (graph_in_use p.source)) q
+      known q h = subst (λ g. IsQueued (objects p.source.objects.now) (rows_in g) q) a.graph_stays (subst (λ o. IsQueued (objects o.now) (rows_in (graph_in_use mid.source)) q) a.objects_stay h)
 
   -- an id is marked and put into the queue
   module _ (on : Side) (i : ObjectId) (p mid new : Painter F) (source : mid.source ≡ p.source) (marks : mid.marks ≡ map_of.insert p.marks i on) (queue : mid.queue ≡ p.queue) (q : Queues objects mid i on new) where
@@ -97,9 +97,9 @@ module _ {F : Type 0} (objects : F → Objects) where
     queued : IsWaiting new on i
     queued = (q.entry, Contains-permutation _ _ q.entry q.queue (Contains-here q.entry mid.queue), q.of_side, q.of_id)
 
-    added : (e : Key × Entry) → Contains new.queue e → Contains p.queue e ⊎ (Contains (i ∷ []) e.1.id × (e.1.side ≡ on) × IsQueued (objects p.source.objects.now) (rows_in (held_graph p.source)) e)
-    added e c = ⊎_elim (λ s. inr (subst (λ x. Contains (i ∷ []) x.1.id × (x.1.side ≡ on) × IsQueued (objects p.source.objects.now) (rows_in (held_graph p.source)) x) s
-        (subst (λ j. Contains (i ∷ []) j) (sym q.of_id) (Contains-here i []), q.of_side, subst (λ so. IsQueued (objects so.objects.now) (rows_in (held_graph so)) q.entry) source q.known)))
+    added : (e : Key × Entry) → Contains new.queue e → Contains p.queue e ⊎ (Contains (i ∷ []) e.1.id × (e.1.side ≡ on) × IsQueued (objects p.source.objects.now) (rows_in (graph_in_use p.source)) e)
+    added e c = ⊎_elim (λ s. inr (subst (λ x. Contains (i ∷ []) x.1.id × (x.1.side ≡ on) × IsQueued (objects p.source.objects.now) (rows_in (graph_in_use p.source)) x) s
+        (subst (λ j. Contains (i ∷ []) j) (sym q.of_id) (Contains-here i []), q.of_side, subst (λ so. IsQueued (objects so.objects.now) (rows_in (graph_in_use so)) q.entry) source q.known)))
         (λ o. inl (subst (λ es. Contains es e) queue o))
         (Contains-cons_cases e q.entry mid.queue (Contains-permutation _ _ e (Rattle.std.proofs.lemmas.List.Sorted.IsPermutation-sym _ _ q.queue) c))
 
@@ -135,7 +135,7 @@ module _ {F : Type 0} (objects : F → Objects) where
           → ((named : List ObjectId) → is_among i named ≡ true → room named new ≤ room named p) → Meets objects on (i ∷ []) p new
       meets becomes tidy spent = record {
         objects_stay = q.objects_stay ∙ ap (λ s. s.objects) source;
-        graph_stays = q.graph_stays ∙ ap held_graph source;
+        graph_stays = q.graph_stays ∙ ap graph_in_use source;
         states = λ j. states j (is_same j i) refl;
         keeps = kept;
         adds = added;
@@ -245,15 +245,15 @@ module _ {F : Type 0} (objects : F → Objects) (faulty : F → ObjectId → Typ
       (k.0, subst (λ j. Contains ids j) (only_member i k.0 k.1) c, k.2, subst (λ w. IsFaultAt (objects now.now) (faulty now.now) k.0 w) (sym h) k.3)))
 
   -- an entry is taken, and its parents are met
-  pub treats : {old begun mid new : Painter F} (entry : Entry) (ids items : List ObjectId) → is_turn entry old.frontier ≡ true → Takes old entry begun → held_graph begun.source ≡ held_graph old.source
+  pub treats : {old begun mid new : Painter F} (entry : Entry) (ids items : List ObjectId) → is_turn entry old.frontier ≡ true → Takes old entry begun → graph_in_use begun.source ≡ graph_in_use old.source
       → mid.source.objects ≡ begun.source.objects → mid.marks ≡ begun.marks → mid.frontier ≡ begun.frontier → mid.queue ≡ begun.queue
-      → GivesParents (objects begun.source.objects.now) (held_graph begun.source) entry items (held_graph mid.source) → ids ≡ items → Meets objects entry.side ids mid new → TreatsEntry objects old entry new
+      → GivesParents (objects begun.source.objects.now) (graph_in_use begun.source) entry items (graph_in_use mid.source) → ids ≡ items → Meets objects entry.side ids mid new → TreatsEntry objects old entry new
   treats {old} {begun} {mid} entry ids items turn takes graph same_objects marks frontier queue gives same met =
       reads turn
       (record { objects_stay = same_objects ∙ takes.objects_stay; marks_stay = marks ∙ takes.marks_stay; queue_stays = queue ∙ takes.queue_stays; frontier = frontier ∙ takes.frontier })
-      (subst (λ xs. GivesParents (objects old.source.objects.now) (held_graph old.source) entry xs (held_graph mid.source)) (sym same)
-      (subst (λ g. GivesParents (objects old.source.objects.now) g entry items (held_graph mid.source)) graph
-      (subst (λ o. GivesParents (objects o.now) (held_graph begun.source) entry items (held_graph mid.source)) takes.objects_stay gives)))
+      (subst (λ xs. GivesParents (objects old.source.objects.now) (graph_in_use old.source) entry xs (graph_in_use mid.source)) (sym same)
+      (subst (λ g. GivesParents (objects old.source.objects.now) g entry items (graph_in_use mid.source)) graph
+      (subst (λ o. GivesParents (objects o.now) (graph_in_use begun.source) entry items (graph_in_use mid.source)) takes.objects_stay gives)))
       met
 
 pub no_ids : (tips : List Pending) → length tips ≡ 0 → length (ids_of tips) ≡ 0

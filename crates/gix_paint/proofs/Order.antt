@@ -1,4 +1,4 @@
--- Painting takes what has the greatest generation first: nothing that waits is above what was taken. Rows that are held had no fault where they were read.
+-- Painting takes what has the greatest generation first: nothing that waits is above what was taken. Rows in use had no fault where they were read.
 use Rattle.std.specs.Borrow.{Bor}
 use Rattle.std.specs.Prelude.{◌≡◌, ◌⊎◌, ◌<◌, ◌≤◌, ℕ, List, true, false, Option, Some, None, Contains}
 use Rattle.std.specs.Option.{option_map}
@@ -15,16 +15,16 @@ use Rattle.gix_paint.specs.declared.Entry.{Entry}
 use Rattle.gix_paint.specs.declared.Painter.{Painter}
 use Rattle.gix_hash.specs.Reach.{Reaches}
 use Rattle.gix_paint.specs.Painting.{IsHistory}
-use Rattle.gix_paint.specs.Inside.Painter.{State, Unmet, Read, Hides, state_of, Becomes, stays, opens, covers, rows_in, held_graph, by_row, by_store, drops, IsQueued, IsWaiting, Meets, GivesParents, brought, looked_up, is_turn, is_turn_on, TreatsEntry, skips, reads, Pops}
+use Rattle.gix_paint.specs.Inside.Painter.{State, Unmet, Read, Hides, state_of, Becomes, stays, opens, covers, rows_in, graph_in_use, by_row, by_store, drops, IsQueued, IsWaiting, Meets, GivesParents, brought, looked_up, is_turn, is_turn_on, TreatsEntry, skips, reads, Pops}
 use Rattle.gix_paint.specs.Inside.Painter as painter
 use Rattle.gix_revwalk.specs.RowParents.{ids_at}
-use Rattle.gix_paint.proofs.Invariant.{nobody, next, starts_of, RowsStand, IsSafe, Stands, IsStarted, still_stand}
+use Rattle.gix_paint.proofs.Invariant.{nobody, next, starts_of, RowsInUse, IsSafe, Stands, IsStarted, still_stand}
 use Rattle.gix_revwalk.proofs.Rows.{IsSoundRow, unread_fault}
 use Rattle.gix_paint.proofs.Keys.{told_below_top}
 use Rattle.gix_paint.proofs.KeptByTurn.{HasGeneration, falls, key_of, row_told, popped_there}
 use Rattle.gix_paint.proofs.Turn.{IsTurned, turned, within, waits_still, graph_after, given_parents}
 
--- parents were read, and the rows are held: the row has no fault
+-- parents were read, and the rows are in use: the row has no fault
 given_sound : {objects : Objects} {old new : Option (Bor (List GraphRow))} {entry : Entry} {ids : List ObjectId} (rows : List GraphRow) → GivesParents objects old entry ids new → rows_in new ≡ rows → rows_in old ≡ rows
     → ((those : List ObjectId) → option_map (λ ids. ids.items) entry.parent_ids ≡ Some those → row_of rows entry.id ≡ None) → IsSoundRow rows entry.id
 given_sound {ids = ids} rows (brought e) now was none row k corrupt = let bad : None ≡ Some row = sym (none ids e) ∙ k in cc
@@ -54,8 +54,8 @@ module _ {F : Type 0} (objects : F → Objects) (store : F) (history : Objects) 
   abbrev There : ObjectId → List ObjectId
   There = next objects store history rows tips hidden_tips
 
-  abbrev Standing : Painter F → Type 0
-  Standing = RowsStand objects store rows
+  abbrev InUse : Painter F → Type 0
+  InUse = RowsInUse objects store rows
 
   -- all that waits has a row, of no greater generation
   abbrev pub IsBelow : Painter F → ℕ → Type 0
@@ -63,13 +63,13 @@ module _ {F : Type 0} (objects : F → Objects) (store : F) (history : Objects) 
 
   -- nothing that waits is above the row of an id
   abbrev pub IsAbove : Painter F → ObjectId → Type 0
-  IsAbove p i = Standing p → (row : GraphRow) → row_of rows i ≡ Some row → IsBelow p row.generation
+  IsAbove p i = InUse p → (row : GraphRow) → row_of rows i ≡ Some row → IsBelow p row.generation
 
   pub record IsOrdered (p : Painter F) : Type 0 where
-    pub shown : (i : ObjectId) → state_of p i ≡ Read → IsAbove p i × (Standing p → IsSoundRow rows i)
+    pub shown : (i : ObjectId) → state_of p i ≡ Read → IsAbove p i × (InUse p → IsSoundRow rows i)
     -- what made an id hidden
     pub hidden : (i : ObjectId) → state_of p i ≡ Hides → Contains hidden_tips i ⊎ ((c : ObjectId) × Reaches There hidden_tips c × Contains (There c) i × IsAbove p c)
-    pub sound : (i : ObjectId) → state_of p i ≡ Hides → IsWaiting p side.Hidden i ⊎ (Standing p → IsSoundRow rows i)
+    pub sound : (i : ObjectId) → state_of p i ≡ Hides → IsWaiting p side.Hidden i ⊎ (InUse p → IsSoundRow rows i)
 
   -- at the start the hidden tips alone are hidden, and nothing was read
   pub ordered_start : {p mid new : Painter F} → ((i : ObjectId) → state_of p i ≡ Unmet) → Meets objects side.Hidden hidden_tips p mid → Meets objects side.Visible tips mid new → IsOrdered new
@@ -96,8 +96,8 @@ module _ {F : Type 0} (objects : F → Objects) (store : F) (history : Objects) 
       sound = λ i e. ⊎_elim (λ q. ⊎_elim (λ s. inl s) (λ t. absurd (not_hidden (sym t.0))) (waits_still objects store history rows tips hidden_tips top pops takes side.Hidden i q)) (λ s. inr (λ r. s (back r))) (o.sound i (sym (same i) ∙ e));
     }
       where
-        back : Standing new → Standing w
-        back r = ap rows_in (sym (graph ∙ ap held_graph pops.source)) ∙ r
+        back : InUse new → InUse w
+        back r = ap rows_in (sym (graph ∙ ap graph_in_use pops.source)) ∙ r
 
         same : (i : ObjectId) → state_of new i ≡ state_of w i
         same i = ⊎_elim (λ e. e) (λ t. let bad : true ≡ false = sym t.0 ∙ ap (λ f. is_turn top.1 f) (sym pops.frontier) ∙ idle_turn in cc) (turned objects store history rows tips hidden_tips top pops takes h i)
@@ -115,10 +115,10 @@ module _ {F : Type 0} (objects : F → Objects) (store : F) (history : Objects) 
           (λ k. inl (subst (λ s. IsWaiting new s i) k.0 k.2)) (was_hidden (met.states i) e);
     }
       where
-        after : ((rows_in (held_graph mid.source) ≡ rows) ⊎ (held_graph mid.source ≡ None)) × (rows_in (held_graph mid.source) ≡ rows → Standing w)
+        after : ((rows_in (graph_in_use mid.source) ≡ rows) ⊎ (graph_in_use mid.source ≡ None)) × (rows_in (graph_in_use mid.source) ≡ rows → InUse w)
         after = graph_after objects store history rows tips hidden_tips top pops safe gives
 
-        back : Standing new → Standing w
+        back : InUse new → InUse w
         back r = after.1 (still_stand objects store rows met r)
 
         parents : ids ≡ There top.1.id
@@ -128,10 +128,10 @@ module _ {F : Type 0} (objects : F → Objects) (store : F) (history : Objects) 
         reached on = subst (λ s. Reaches There (starts_of objects store history rows tips hidden_tips s) top.1.id) on (h.reached top there)
 
         -- what is added is below the entry that was taken
-        keeps_below : Standing new → (n : ℕ) → IsBelow w n → IsBelow new n
+        keeps_below : InUse new → (n : ℕ) → IsBelow w n → IsBelow new n
         keeps_below r n b q c = ⊎_elim (λ was. b q (within objects store history rows tips hidden_tips top pops takes q was)) (λ a. added a.0 a.2) (met.adds q c)
           where
-            added : Contains ids q.1.id → IsQueued (objects mid.source.objects.now) (rows_in (held_graph mid.source)) q → (m : ℕ) × (q.0.generation ≡ Told m) × (m ≤ n)
+            added : Contains ids q.1.id → IsQueued (objects mid.source.objects.now) (rows_in (graph_in_use mid.source)) q → (m : ℕ) × (q.0.generation ≡ Told m) × (m ≤ n)
             added m queued =
                 let t : (k : ℕ) × (top.0.generation ≡ Told k) × (k ≤ n) = b top there in
                 let g : HasGeneration objects store history rows tips hidden_tips top.1.id t.0 = row_told objects store history rows tips hidden_tips known w safe h started (back r) top there t.0 t.1 in
@@ -148,8 +148,8 @@ module _ {F : Type 0} (objects : F → Objects) (store : F) (history : Objects) 
         top_above : IsAbove new top.1.id
         top_above r row e = keeps_below r row.generation (λ q c. told_below_top top.0 w.queue pops.greatest row.generation (key_of objects store history rows tips hidden_tips known w safe h started (back r) top there row e) q c)
 
-        top_sound : Standing new → IsSoundRow rows top.1.id
-        top_sound r = given_sound rows gives (still_stand objects store rows met r) (ap (λ s. rows_in (held_graph s)) pops.source ∙ back r) (λ those e. unrowed those e (safe.queued (back r) top there))
+        top_sound : InUse new → IsSoundRow rows top.1.id
+        top_sound r = given_sound rows gives (still_stand objects store rows met r) (ap (λ s. rows_in (graph_in_use s)) pops.source ∙ back r) (λ those e. unrowed those e (safe.queued (back r) top there))
           where
             unrowed : (those : List ObjectId) → option_map (λ ids. ids.items) top.1.parent_ids ≡ Some those → IsQueued (objects store) rows top → row_of rows top.1.id ≡ None
             unrowed those e (painter.by_row f k s n) = let bad : None ≡ Some those = sym (ap (option_map (λ ids. ids.items)) n) ∙ e in cc
@@ -158,6 +158,6 @@ module _ {F : Type 0} (objects : F → Objects) (store : F) (history : Objects) 
         before : (i : ObjectId) → state_of mid i ≡ Hides → state_of w i ≡ Hides
         before i e = ⊎_elim (λ s. sym s ∙ e) (λ t. let bad : Read ≡ Hides = sym t.4 ∙ e in cc) (turned objects store history rows tips hidden_tips top pops takes h i)
 
-        was_shown : (i : ObjectId) → state_of mid i ≡ Read → IsTurned (is_turn top.1 w.frontier) top.1.side (i ≡ top.1.id) (state_of w i) (state_of mid i) → IsAbove new i × (Standing new → IsSoundRow rows i)
+        was_shown : (i : ObjectId) → state_of mid i ≡ Read → IsTurned (is_turn top.1 w.frontier) top.1.side (i ≡ top.1.id) (state_of w i) (state_of mid i) → IsAbove new i × (InUse new → IsSoundRow rows i)
         was_shown i e (inl s) = let f = o.shown i (sym s ∙ e) in (lower i f.0, λ r. f.1 (back r))
         was_shown i e (inr t) = (subst (IsAbove new) (sym t.2) top_above, λ r. subst (IsSoundRow rows) (sym t.2) (top_sound r))

@@ -5,13 +5,8 @@ use Rattle.gix_hash.specs.declared.ObjectId.{ObjectId}
 use Rattle.gix_hash.specs.Reach.{Reaches, start, step}
 use Rattle.gix_hash.proofs.Ids.Membership.{Contains-here}
 use Rattle.gix_hash.proofs.Lists.{only_member}
-use Rattle.gix_revwalk.proofs.Reached.{reaches_from}
 
 module _ (next : ObjectId → List ObjectId) where
-  -- what is reached from a member is reached
-  pub reaches_on : (starts : List ObjectId) (c i : ObjectId) → Reaches next starts c → Reaches next (c ∷ []) i → Reaches next starts i
-  reaches_on starts c i r = reaches_from next (c ∷ []) starts (λ j m. subst (Reaches next starts) (only_member c j m) r) i
-
   -- what is reached is done, or is reached from what waits
   pub done_or_waits : (starts : List ObjectId) (Waits Done : ObjectId → Type 0)
       → ((i : ObjectId) → Contains starts i → Done i ⊎ Waits i)

@@ -16,10 +16,10 @@ use Rattle.gix_paint.specs.declared.source.Key.{Key}
 use Rattle.gix_paint.specs.declared.Entry.{Entry}
 use Rattle.gix_paint.specs.declared.Painter.{Painter}
 use Rattle.gix_paint.specs.Painting.{IsHistory, DropsBy}
-use Rattle.gix_paint.specs.Inside.Painter.{State, Unmet, Open, Read, Hides, state_by, state_of, rows_in, held_graph, Reads, by_row, by_store, drops, IsWaiting, IsSettled, GivesParents, brought, looked_up, Takes, is_turn, is_turn_on, frontier_without, TreatsEntry, skips, reads, Pops}
+use Rattle.gix_paint.specs.Inside.Painter.{State, Unmet, Open, Read, Hides, state_by, state_of, rows_in, graph_in_use, Reads, by_row, by_store, drops, IsWaiting, IsSettled, GivesParents, brought, looked_up, Takes, is_turn, is_turn_on, frontier_without, TreatsEntry, skips, reads, Pops}
 use Rattle.gix_hash.specs.Reach.{Reaches, step}
 use Rattle.gix_revwalk.specs.RowParents.{ids_at}
-use Rattle.gix_paint.proofs.Invariant.{in_history, reads_parents, nobody, next, starts_of, RowsStand, IsSafe, IsOutside, Fact, Stands, IsStarted, stands_meets, safe_meets, started_meets}
+use Rattle.gix_paint.proofs.Invariant.{in_history, reads_parents, nobody, next, starts_of, RowsInUse, IsSafe, IsOutside, Fact, Stands, IsStarted, stands_meets, safe_meets, started_meets}
 use Rattle.gix_paint.proofs.KeptByTurn.{popped_there, open_read, shut, taken_outside, drop_reason}
 use Rattle.gix_revwalk.proofs.ReadsWhole.{row_parents}
 use Rattle.gix_hash.proofs.Ids.Membership.{id_total, same_is, same_itself, Contains-there, Contains-cons_cases}
@@ -43,8 +43,8 @@ module _ {F : Type 0} (objects : F → Objects) (store : F) (history : Objects) 
   abbrev Known : (Side → ObjectId → Type 0) → Painter F → ObjectId → State → Type 0
   Known = Fact objects store history rows tips hidden_tips
 
-  abbrev Standing : Painter F → Type 0
-  Standing = RowsStand objects store rows
+  abbrev InUse : Painter F → Type 0
+  InUse = RowsInUse objects store rows
 
   module _ {w v mid : Painter F} (top : Key × Entry) (pops : Pops cmp-value.it w top v) (takes : Takes v top.1 mid) where
     abbrev pub turn : Bool
@@ -109,7 +109,7 @@ module _ {F : Type 0} (objects : F → Objects) (store : F) (history : Objects) 
     pub started_takes : Stands objects store history rows tips hidden_tips nobody w → IsStarted objects store history rows tips hidden_tips w → IsStarted objects store history rows tips hidden_tips mid
     started_takes h s = record { shown = λ i c. met_still h i (s.shown i c); hidden = λ i c. hidden_still h i (s.hidden i c) }
 
-    pub safe_takes : IsSafe objects store rows w → ((rows_in (held_graph mid.source) ≡ rows) ⊎ (held_graph mid.source ≡ None)) → (Standing mid → Standing w) → IsSafe objects store rows mid
+    pub safe_takes : IsSafe objects store rows w → ((rows_in (graph_in_use mid.source) ≡ rows) ⊎ (graph_in_use mid.source ≡ None)) → (InUse mid → InUse w) → IsSafe objects store rows mid
     safe_takes safe either back = record {
       same_store = ap (λ o. o.now) (takes.objects_stay ∙ ap (λ s. s.objects) pops.source) ∙ safe.same_store;
       either = either;
@@ -118,8 +118,8 @@ module _ {F : Type 0} (objects : F → Objects) (store : F) (history : Objects) 
       read = λ q c. safe.read q (within q c);
     }
 
-    pub stands_takes : Stands objects store history rows tips hidden_tips nobody w → (Standing mid → Standing w) → ((Standing mid → ⊥) → DropsBy There rows tips hidden_tips)
-        → (Standing w → state_of w top.1.id ≢ Hides → IsOutside objects store history rows tips hidden_tips top.1.id)
+    pub stands_takes : Stands objects store history rows tips hidden_tips nobody w → (InUse mid → InUse w) → ((InUse mid → ⊥) → DropsBy There rows tips hidden_tips)
+        → (InUse w → state_of w top.1.id ≢ Hides → IsOutside objects store history rows tips hidden_tips top.1.id)
         → Stands objects store history rows tips hidden_tips Busy mid
     stands_takes h back dropped outside = record {
       facts = λ i. fact i (turned h i) (state_of w i) refl (h.facts i);
@@ -183,24 +183,24 @@ module _ {F : Type 0} (objects : F → Objects) (store : F) (history : Objects) 
 
   module _ {w v : Painter F} (top : Key × Entry) (pops : Pops cmp-value.it w top v) (safe : IsSafe objects store rows w) where
     -- rows are in use after the reading only if they were in use before
-    pub graph_after : {after : Option (Bor (List GraphRow))} {ids : List ObjectId} → GivesParents (objects v.source.objects.now) (held_graph v.source) top.1 ids after
-        → ((rows_in after ≡ rows) ⊎ (after ≡ None)) × (rows_in after ≡ rows → Standing w)
+    pub graph_after : {after : Option (Bor (List GraphRow))} {ids : List ObjectId} → GivesParents (objects v.source.objects.now) (graph_in_use v.source) top.1 ids after
+        → ((rows_in after ≡ rows) ⊎ (after ≡ None)) × (rows_in after ≡ rows → InUse w)
     graph_after {after = after} gives = go (given_graph gives)
       where
-        go : (after ≡ held_graph v.source) ⊎ ((after ≡ None) × (row : GraphRow) × (row_of (rows_in (held_graph v.source)) top.1.id ≡ Some row) × (ids_at (rows_in (held_graph v.source)) row.parents ≡ None))
-            → ((rows_in after ≡ rows) ⊎ (after ≡ None)) × (rows_in after ≡ rows → Standing w)
+        go : (after ≡ graph_in_use v.source) ⊎ ((after ≡ None) × (row : GraphRow) × (row_of (rows_in (graph_in_use v.source)) top.1.id ≡ Some row) × (ids_at (rows_in (graph_in_use v.source)) row.parents ≡ None))
+            → ((rows_in after ≡ rows) ⊎ (after ≡ None)) × (rows_in after ≡ rows → InUse w)
         go (inl e) =
-            let g : after ≡ held_graph w.source = e ∙ ap held_graph pops.source in
+            let g : after ≡ graph_in_use w.source = e ∙ ap graph_in_use pops.source in
             (⊎_elim (λ r. inl (ap rows_in g ∙ r)) (λ n. inr (g ∙ n)) safe.either, λ r. ap rows_in (sym g) ∙ r)
         go (inr d) =
-            (inr d.0, λ r. ⊎_elim (λ stood. stood) (λ n. let none : None ≡ Some d.1 = sym (ap (λ g. row_of (rows_in g) top.1.id) (ap held_graph pops.source ∙ n)) ∙ d.2 in cc) safe.either)
+            (inr d.0, λ r. ⊎_elim (λ stood. stood) (λ n. let none : None ≡ Some d.1 = sym (ap (λ g. row_of (rows_in g) top.1.id) (ap graph_in_use pops.source ∙ n)) ∙ d.2 in cc) safe.either)
 
     module _ (known : IsHistory (objects store) rows history) where
       -- the parents that are read are the commit's
-      pub given_parents : {after : Option (Bor (List GraphRow))} {ids : List ObjectId} → GivesParents (objects v.source.objects.now) (held_graph v.source) top.1 ids after → ids ≡ There top.1.id
+      pub given_parents : {after : Option (Bor (List GraphRow))} {ids : List ObjectId} → GivesParents (objects v.source.objects.now) (graph_in_use v.source) top.1 ids after → ids ≡ There top.1.id
       given_parents {ids = ids} (brought e) = reads_parents history top.1.id ids (in_history known top.1.id ids (safe.brings top (popped_there pops) ids e))
       given_parents {ids = ids} (looked_up n (by_row {row = row} e f)) =
-          let graph : rows_in (held_graph v.source) ≡ rows_in (held_graph w.source) = ap (λ s. rows_in (held_graph s)) pops.source in
+          let graph : rows_in (graph_in_use v.source) ≡ rows_in (graph_in_use w.source) = ap (λ s. rows_in (graph_in_use s)) pops.source in
           ⊎_elim (λ r. row_parents history rows known.agreeing top.1.id row ids (ap (λ rs. row_of rs top.1.id) (sym (graph ∙ r)) ∙ e) (ap (λ rs. ids_at rs row.parents) (sym (graph ∙ r)) ∙ f))
           (λ n. let none : None ≡ Some row = sym (ap (λ rs. row_of rs top.1.id) (graph ∙ ap rows_in n)) ∙ e in cc) safe.either
       given_parents {ids = ids} (looked_up n (by_store e r)) = reads_parents history top.1.id ids (in_history known top.1.id ids (subst (λ f. Reads (objects f) top.1.id ids) (ap (λ s. s.objects.now) pops.source ∙ safe.same_store) r))
@@ -208,32 +208,32 @@ module _ {F : Type 0} (objects : F → Objects) (store : F) (history : Objects) 
 
       -- rows that were in use and are in use no more were dropped for a reason
       pub dropped_so : {after : Option (Bor (List GraphRow))} {ids : List ObjectId} → (h : Stands objects store history rows tips hidden_tips nobody w) → IsStarted objects store history rows tips hidden_tips w → (IsSettled w → ⊥)
-          → GivesParents (objects v.source.objects.now) (held_graph v.source) top.1 ids after → (rows_in after ≡ rows → ⊥) → DropsBy There rows tips hidden_tips
+          → GivesParents (objects v.source.objects.now) (graph_in_use v.source) top.1 ids after → (rows_in after ≡ rows → ⊥) → DropsBy There rows tips hidden_tips
       dropped_so {after = after} h started unsettled gives gone = go (given_graph gives)
         where
-          graph_same : held_graph v.source ≡ held_graph w.source
-          graph_same = ap held_graph pops.source
+          graph_same : graph_in_use v.source ≡ graph_in_use w.source
+          graph_same = ap graph_in_use pops.source
 
           some : (o : Option (Bor (List GraphRow))) (row : GraphRow) → row_of (rows_in o) top.1.id ≡ Some row → IsSome o
           some None row e = cc
           some (Some graph) row e = refl
 
-          stood : (row : GraphRow) → row_of (rows_in (held_graph w.source)) top.1.id ≡ Some row → Standing w
+          stood : (row : GraphRow) → row_of (rows_in (graph_in_use w.source)) top.1.id ≡ Some row → InUse w
           stood row e = ⊎_elim (λ r. r) (λ n. let none : None ≡ Some row = sym (ap (λ g. row_of (rows_in g) top.1.id) n) ∙ e in cc) safe.either
 
-          go : (after ≡ held_graph v.source) ⊎ ((after ≡ None) × (row : GraphRow) × (row_of (rows_in (held_graph v.source)) top.1.id ≡ Some row) × (ids_at (rows_in (held_graph v.source)) row.parents ≡ None)) → DropsBy There rows tips hidden_tips
+          go : (after ≡ graph_in_use v.source) ⊎ ((after ≡ None) × (row : GraphRow) × (row_of (rows_in (graph_in_use v.source)) top.1.id ≡ Some row) × (ids_at (rows_in (graph_in_use v.source)) row.parents ≡ None)) → DropsBy There rows tips hidden_tips
           go (inl e) = h.dropped (λ r. gone (ap rows_in (e ∙ graph_same) ∙ r))
           go (inr d) =
-              let e : row_of (rows_in (held_graph w.source)) top.1.id ≡ Some d.1 = ap (λ g. row_of (rows_in g) top.1.id) (sym graph_same) ∙ d.2 in
-              let r : Standing w = stood d.1 e in
-              drop_reason objects store history rows tips hidden_tips known w safe h started r (some (held_graph w.source) d.1 e) top (popped_there pops) pops.greatest unsettled d.1 (ap (λ rs. row_of rs top.1.id) (sym r) ∙ e)
+              let e : row_of (rows_in (graph_in_use w.source)) top.1.id ≡ Some d.1 = ap (λ g. row_of (rows_in g) top.1.id) (sym graph_same) ∙ d.2 in
+              let r : InUse w = stood d.1 e in
+              drop_reason objects store history rows tips hidden_tips known w safe h started r (some (graph_in_use w.source) d.1 e) top (popped_there pops) pops.greatest unsettled d.1 (ap (λ rs. row_of rs top.1.id) (sym r) ∙ e)
               (ap (λ rs. ids_at rs d.1.parents) (sym (ap rows_in graph_same ∙ r)) ∙ d.3)
 
       -- a turn keeps what holds
       pub stands_turn : {new : Painter F} → Stands objects store history rows tips hidden_tips nobody w → IsStarted objects store history rows tips hidden_tips w → (IsSettled w → ⊥) → TreatsEntry objects v top.1 new
           → Stands objects store history rows tips hidden_tips nobody new × IsStarted objects store history rows tips hidden_tips new
       stands_turn {new} h started unsettled (skips turn takes graph) =
-          let same : held_graph new.source ≡ held_graph w.source = graph ∙ ap held_graph pops.source in (
+          let same : graph_in_use new.source ≡ graph_in_use w.source = graph ∙ ap graph_in_use pops.source in (
             idle (λ s i b. let bad : true ≡ false = sym b.0 ∙ ap (λ f. is_turn top.1 f) (sym pops.frontier) ∙ turn in cc)
                 (stands_takes top pops takes h (λ r. ap rows_in (sym same) ∙ r) (λ n. h.dropped (λ r. n (ap rows_in same ∙ r)))
                 (λ r u. taken_outside objects store history rows tips hidden_tips known w safe h started r top (popped_there pops) pops.greatest u)),
@@ -241,7 +241,7 @@ module _ {F : Type 0} (objects : F → Objects) (store : F) (history : Objects) 
           )
       stands_turn {new} h started unsettled (reads {mid = mid} {ids = ids} turn takes gives met) =
           let after = graph_after gives in
-          let outside = λ (r : Standing w) (u : state_of w top.1.id ≢ Hides). taken_outside objects store history rows tips hidden_tips known w safe h started r top (popped_there pops) pops.greatest u in
+          let outside = λ (r : InUse w) (u : state_of w top.1.id ≢ Hides). taken_outside objects store history rows tips hidden_tips known w safe h started r top (popped_there pops) pops.greatest u in
           let busy = stands_takes top pops takes h after.1 (dropped_so h started unsettled gives) outside in
           let parents : ids ≡ There top.1.id = given_parents gives in (
             stands_meets objects store history rows tips hidden_tips met (Busy top pops takes) (safe_takes top pops takes safe after.0 after.1) busy
@@ -263,7 +263,7 @@ module _ {F : Type 0} (objects : F → Objects) (store : F) (history : Objects) 
 
     pub safe_turn : {new : Painter F} → TreatsEntry objects v top.1 new → IsSafe objects store rows new
     safe_turn {new} (skips idle_turn takes graph) =
-        let same : held_graph new.source ≡ held_graph w.source = graph ∙ ap held_graph pops.source in
+        let same : graph_in_use new.source ≡ graph_in_use w.source = graph ∙ ap graph_in_use pops.source in
         safe_takes top pops takes safe (⊎_elim (λ r. inl (ap rows_in same ∙ r)) (λ n. inr (same ∙ n)) safe.either) (λ r. ap rows_in (sym same) ∙ r)
     safe_turn (reads its_turn takes gives met) =
         let after = graph_after gives in

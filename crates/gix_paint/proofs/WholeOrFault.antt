@@ -12,7 +12,7 @@ use Rattle.gix_object.specs.Object.{Objects}
 use Rattle.gix_commitgraph.specs.Rows.{GraphRow}
 use Rattle.gix_revwalk.specs.declared.Parents.TheVariants as mode
 use Rattle.gix_revwalk.specs.declared.read.Header.{Header}
-use Rattle.gix_revwalk.specs.declared.read.RowRead.{RowRead}
+use Rattle.gix_revwalk.specs.declared.row.RowRead.{RowRead}
 use Rattle.gix_revwalk.specs.Agreeing.{rows_in}
 use Rattle.gix_revwalk.specs.Reading.{ReadsHeader, ReadsRow, is_read, absent, corrupt, dropped}
 use Rattle.gix_revwalk.specs.Commits.{commit_of_object, time_of, HasTime}
@@ -37,17 +37,17 @@ header_read objects i header h time is =
 
 module _ (objects : Objects) where
   -- the parents of a row that was read
-  pub row_read : (graph : Option (Bor (List GraphRow))) {held new : Bool} {i : ObjectId} {read : RowRead} → ReadsRow (rows_in graph) held i (Some read) new → ReadsParents objects (if held then graph else None) i read.parent_ids.items (if new then graph else None)
+  pub row_read : (graph : Option (Bor (List GraphRow))) {in_use new : Bool} {i : ObjectId} {read : RowRead} → ReadsRow (rows_in graph) in_use i (Some read) new → ReadsParents objects (if in_use then graph else None) i read.parent_ids.items (if new then graph else None)
   row_read graph {i = i} {read = read} (is_read h says) = subst (λ b. ReadsParents objects (if b then graph else None) i read.parent_ids.items (if b then graph else None)) (sym h) (by_row says.there says.parents)
 
   -- those that the store says, where no row is read
-  pub store_read : (graph : Option (Bor (List GraphRow))) {held new : Bool} {i : ObjectId} {ids : List ObjectId} → ReadsRow (rows_in graph) held i None new → Reads objects i ids → ReadsParents objects (if held then graph else None) i ids (if new then graph else None)
-  store_read graph {held = true} (absent n) r = by_store n r
-  store_read graph {held = false} (absent n) r = by_store refl r
+  pub store_read : (graph : Option (Bor (List GraphRow))) {in_use new : Bool} {i : ObjectId} {ids : List ObjectId} → ReadsRow (rows_in graph) in_use i None new → Reads objects i ids → ReadsParents objects (if in_use then graph else None) i ids (if new then graph else None)
+  store_read graph {in_use = true} (absent n) r = by_store n r
+  store_read graph {in_use = false} (absent n) r = by_store refl r
   store_read graph {i = i} {ids = ids} (dropped h) r = subst (λ b. ReadsParents objects (if b then graph else None) i ids (if b then graph else None)) (sym h) (by_store refl r)
   store_read graph {i = i} {ids = ids} (corrupt h d) r = subst (λ b. ReadsParents objects (if b then graph else None) i ids None) (sym h) (drops d.1 d.2 r)
 
   -- the id has no row then, or a corrupt one
-  pub unread : (graph : Option (Bor (List GraphRow))) {held new : Bool} {i : ObjectId} → ReadsRow (rows_in graph) held i None new → IsUnrowed (rows_in (if held then graph else None)) i
-  unread graph {held = true} r = (passes r).0
-  unread graph {held = false} r = λ row e. cc
+  pub unread : (graph : Option (Bor (List GraphRow))) {in_use new : Bool} {i : ObjectId} → ReadsRow (rows_in graph) in_use i None new → IsUnrowed (rows_in (if in_use then graph else None)) i
+  unread graph {in_use = true} r = (passes r).0
+  unread graph {in_use = false} r = λ row e. cc

@@ -8,7 +8,7 @@ ghost use Rattle.gix_paint.specs.declared.source.Key.{Key};
 ghost use Rattle.gix_paint.specs.Painting.{IsHiddenFault, Paints};
 ghost use Rattle.gix_revwalk.specs.Ids.{ids_of};
 ghost use Rattle.gix_paint.specs.Inside.Painter as painter;
-ghost use Rattle.gix_paint.specs.Inside.Painter.{rows_in, held_graph, FailsAmong, Queues, Meets, is_turn, Takes, TreatsEntry, TreatFails, IsSettled, Pops};
+ghost use Rattle.gix_paint.specs.Inside.Painter.{rows_in, graph_in_use, FailsAmong, Queues, Meets, is_turn, Takes, TreatsEntry, TreatFails, IsSettled, Pops};
 
 mod source;
 
@@ -19,7 +19,7 @@ use gix_object::decode;
 use gix_object::find::{Find, existing_iter};
 use gix_revwalk::queue::PriorityQueue;
 use gix_revwalk::{ParentIds, Pending};
-use source::{Generation, Key, Known, Source};
+use source::{Generation, Key, LookedUp, Source};
 use std::alloc::{AllocError, Global};
 use std::collections::VecDeque;
 use std::marker::Model;
@@ -67,7 +67,7 @@ impl From<AllocError> for Hidden {
     }
 }
 
-// For which tips an id is marked and its commit is read: those of the walk, or the hidden ones.
+/// For which tips an id is marked and its commit is read: those of the walk, or the hidden ones.
 #[derive(Clone, Copy)]
 enum Side {
     Visible,
@@ -110,14 +110,14 @@ impl HiddenIds {
     }
 }
 
-// Whether a hidden tip is known to reach the id.
+/// Whether a hidden tip is known to reach the id.
 fn is_hidden(marks: &IdMap<Side>, id: &ObjectId) -> bool
     ensures { result ≡ painter.is_hidden marks.now id.now }
 {
     matches!(marks.get(id), Some(Side::Hidden))
 }
 
-// A commit that waits to be read.
+/// A commit that waits to be read.
 #[derive(Drop)]
 struct Entry {
     id: ObjectId,
@@ -125,24 +125,24 @@ struct Entry {
     parent_ids: Option<ParentIds>,
 }
 
-// What was marked, and what waits to be read.
+/// What was marked, and what waits to be read.
 #[derive(Drop)]
 struct Painter<'a, F> {
     source: Source<'a, F>,
-    // Each id that was met: for hidden tips as soon as one of them was found to reach it.
+    /// Each id that was met: for hidden tips as soon as one of them was found to reach it.
     marks: IdMap<Side>,
-    // The queued ids that no hidden tip was found to reach.
+    /// The queued ids that no hidden tip was found to reach.
     frontier: IdSet,
     queue: PriorityQueue<Key, Entry>,
 }
 
 impl<'a, F: Find> Painter<'a, F> {
-    // Puts a commit into the queue.
+    /// Puts a commit into the queue.
     fn enqueue(&mut self, id: ObjectId, side: Side) -> Result<(), Hidden>
         ensures ok { IfOk result (λ _. Queues F.objects self.old id side self.new) }
-        ensures fault { IfErr result (FailsAmong (F.objects self.old.source.objects.now) (F.faulty self.old.source.objects.now) (rows_in (held_graph self.old.source)) (id ∷ [])) }
+        ensures fault { IfErr result (FailsAmong (F.objects self.old.source.objects.now) (F.faulty self.old.source.objects.now) (rows_in (graph_in_use self.old.source)) (id ∷ [])) }
     {
-        let Known { key, parent_ids } = self.source.look_up(&id)?;
+        let LookedUp { key, parent_ids } = self.source.look_up(&id)?;
         self.queue.insert(
             key,
             Entry {
@@ -154,10 +154,10 @@ impl<'a, F: Find> Painter<'a, F> {
         Ok(())
     }
 
-    // An id that visible tips reach is queued once. One that is hidden already is left to the hidden side.
+    /// An id that visible tips reach is queued once. One that is hidden already is left to the hidden side.
     fn show(&mut self, id: ObjectId) -> Result<(), Hidden>
         ensures ok { IfOk result (λ _. Meets F.objects Side.Visible (id ∷ []) self.old self.new) }
-        ensures fault { IfErr result (FailsAmong (F.objects self.old.source.objects.now) (F.faulty self.old.source.objects.now) (rows_in (held_graph self.old.source)) (id ∷ [])) }
+        ensures fault { IfErr result (FailsAmong (F.objects self.old.source.objects.now) (F.faulty self.old.source.objects.now) (rows_in (graph_in_use self.old.source)) (id ∷ [])) }
     {
         if self.marks.get(&id).is_some() {
             return Ok(());
@@ -167,10 +167,10 @@ impl<'a, F: Find> Painter<'a, F> {
         self.enqueue(id, Side::Visible)
     }
 
-    // An id that hidden tips reach is queued once for them, whatever visible tips did.
+    /// An id that hidden tips reach is queued once for them, whatever visible tips did.
     fn hide(&mut self, id: ObjectId) -> Result<(), Hidden>
         ensures ok { IfOk result (λ _. Meets F.objects Side.Hidden (id ∷ []) self.old self.new) }
-        ensures fault { IfErr result (FailsAmong (F.objects self.old.source.objects.now) (F.faulty self.old.source.objects.now) (rows_in (held_graph self.old.source)) (id ∷ [])) }
+        ensures fault { IfErr result (FailsAmong (F.objects self.old.source.objects.now) (F.faulty self.old.source.objects.now) (rows_in (graph_in_use self.old.source)) (id ∷ [])) }
     {
         if is_hidden(&self.marks, &id) {
             return Ok(());
@@ -180,10 +180,10 @@ impl<'a, F: Find> Painter<'a, F> {
         self.enqueue(id, Side::Hidden)
     }
 
-    // Ids that are reached on a side, in order.
+    /// Ids that are reached on a side, in order.
     fn meet_all(&mut self, mut ids: &[ObjectId], side: Side) -> Result<(), Hidden>
         ensures ok { IfOk result (λ _. Meets F.objects side ids.entry.now self.old self.new) }
-        ensures fault { IfErr result (FailsAmong (F.objects self.old.source.objects.now) (F.faulty self.old.source.objects.now) (rows_in (held_graph self.old.source)) ids.entry.now) }
+        ensures fault { IfErr result (FailsAmong (F.objects self.old.source.objects.now) (F.faulty self.old.source.objects.now) (rows_in (graph_in_use self.old.source)) ids.entry.now) }
     {
         while let Some((id, rest)) = ids.split_first() {
             match side {
@@ -197,7 +197,7 @@ impl<'a, F: Find> Painter<'a, F> {
 
     fn show_all(&mut self, tips: &VecDeque<Pending>) -> Result<(), Hidden>
         ensures ok { IfOk result (λ _. Meets F.objects Side.Visible (ids_of tips.now.items) self.old self.new) }
-        ensures fault { IfErr result (FailsAmong (F.objects self.old.source.objects.now) (F.faulty self.old.source.objects.now) (rows_in (held_graph self.old.source)) (ids_of tips.now.items)) }
+        ensures fault { IfErr result (FailsAmong (F.objects self.old.source.objects.now) (F.faulty self.old.source.objects.now) (rows_in (graph_in_use self.old.source)) (ids_of tips.now.items)) }
     {
         for tip in tips.iter() {
             self.show(tip.id)?;
@@ -205,11 +205,11 @@ impl<'a, F: Find> Painter<'a, F> {
         Ok(())
     }
 
-    // Whether an entry that was taken is to be read. Where a hidden tip reached a visible id meanwhile, the hidden side reads it.
+    /// Whether an entry that was taken is to be read. Where a hidden tip reached a visible id meanwhile, the hidden side reads it.
     fn begins(&mut self, entry: &Entry) -> bool
         ensures turn { result ≡ is_turn entry.now self.old.frontier }
         ensures takes { Takes self.old entry.now self.new }
-        ensures graph { held_graph self.new.source ≡ held_graph self.old.source }
+        ensures graph { graph_in_use self.new.source ≡ graph_in_use self.old.source }
     {
         match entry.side {
             Side::Visible => self.frontier.remove(&entry.id),
@@ -217,10 +217,10 @@ impl<'a, F: Find> Painter<'a, F> {
         }
     }
 
-    // The commit of an entry is read, and its parents are met on its side.
+    /// The commit of an entry is read, and its parents are met on its side.
     fn treat(&mut self, entry: Entry) -> Result<(), Hidden>
         ensures ok { IfOk result (λ _. TreatsEntry F.objects self.old entry self.new) }
-        ensures fault { IfErr result (TreatFails (F.objects self.old.source.objects.now) (F.faulty self.old.source.objects.now) (held_graph self.old.source) entry) }
+        ensures fault { IfErr result (TreatFails (F.objects self.old.source.objects.now) (F.faulty self.old.source.objects.now) (graph_in_use self.old.source) entry) }
     {
         if !self.begins(&entry) {
             return Ok(());
@@ -230,19 +230,19 @@ impl<'a, F: Find> Painter<'a, F> {
         self.meet_all(parent_ids.as_slice(), side)
     }
 
-    // Whether the marks are whole: nothing is queued, or, while the rows are in use, all that is queued is hidden and has a row.
+    /// Whether the marks are whole: nothing is queued, or, while the rows are in use, all that is queued is hidden and has a row.
     fn is_settled(&self) -> bool
         ensures { IsTrue result ↔ IsSettled self.now }
     {
         let Some((key, _)) = self.queue.peek() else {
             return true;
         };
-        self.source.held_graph().is_some()
+        self.source.graph_in_use().is_some()
             && self.frontier.is_empty()
             && matches!(key.generation, Generation::Told(_))
     }
 
-    // The entry whose turn it is, and None where the painting is settled.
+    /// The entry whose turn it is, and None where the painting is settled.
     fn next_entry(&mut self) -> Option<Entry>
         ensures none { IfNone result (IsSettled self.old × (self.new ≡ self.old)) }
         ensures some { IfSome result (λ entry. ¬ (IsSettled self.old) × ((key : Key) × Pops ⟦<Key as Ord>⟧.cmp self.old (key, entry) self.new)) }
@@ -261,7 +261,7 @@ pub struct Painting {
     /// The ids found hidden.
     pub hidden: HiddenIds,
     /// Whether there is a graph, none of whose rows was found corrupt.
-    pub rows_stand: bool,
+    pub rows_in_use: bool,
 }
 
 /// Marks ids that the hidden tips reach, and no others: all such ids that are tips, or parents of a commit that tips reach and hidden
@@ -278,7 +278,7 @@ pub fn paint<'a, F: Find>(
     tips: &VecDeque<Pending>,
     hidden_tips: &[ObjectId],
 ) -> Result<Painting, Hidden>
-    ensures ok { IfOk result (λ p. Paints (F.objects objects.now) (rows_in graph.entry) (ids_of tips.now.items) hidden_tips.now p.hidden (if p.rows_stand then rows_in graph.entry else [])) }
+    ensures ok { IfOk result (λ p. Paints (F.objects objects.now) (rows_in graph.entry) (ids_of tips.now.items) hidden_tips.now p.hidden (if p.rows_in_use then rows_in graph.entry else [])) }
     ensures fault { IfErr result (λ why. why ≢ Hidden.Find existing.Memory → IsHiddenFault (F.objects objects.now) (F.faulty objects.now) (rows_in graph.entry)
         (ids_of tips.now.items) hidden_tips.now why) }
 {
@@ -286,7 +286,7 @@ pub fn paint<'a, F: Find>(
         source: Source {
             objects,
             graph,
-            held: true,
+            in_use: true,
             text: Vec::new(alloc),
             alloc,
         },
@@ -302,6 +302,6 @@ pub fn paint<'a, F: Find>(
     let Painter { source, marks, .. } = painter;
     Ok(Painting {
         hidden: HiddenIds { marks },
-        rows_stand: source.held_graph().is_some(),
+        rows_in_use: source.graph_in_use().is_some(),
     })
 }

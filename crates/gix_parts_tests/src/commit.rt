@@ -5,11 +5,11 @@ use gix_parts::object::decode::Error;
 use std::alloc::{AllocError, Global};
 use std::test::Fail;
 
-// A commit with one parent and an empty message: 144 bytes.
+/// A commit with one parent and an empty message: 144 bytes.
 const SHORT: &[u8] =
     b"tree 4b825dc642cb6eb9a060e54bf8d69288fbee4904\nparent 1111111111111111111111111111111111111111\nauthor A <a@b> 2 +0000\ncommitter A <a@b> 2 +0000\n\n";
 
-// The same with ids of 64 digits: 192 bytes.
+/// The same with ids of 64 digits: 192 bytes.
 const LONG: &[u8] =
     b"tree aaaaaaaaaaaaaaaaaaaaaaaaaaaaaaaaaaaaaaaaaaaaaaaaaaaaaaaaaaaaaaaa\nparent 1111111111111111111111111111111111111111111111111111111111111111\nauthor A <a@b> 2 +0000\ncommitter A <a@b> 2 +0000\n\n";
 
@@ -110,7 +110,7 @@ fn seconds_stand_behind_the_last_angle(rt: HostRuntime) {
     }
 }
 
-// The items of the front of a commit, from each first length to each last.
+/// The items of the front of a commit, from each first length to each last.
 fn check_cuts(
     alloc: Global,
     bytes: &[u8],

@@ -19,7 +19,7 @@ fn long_id(digit: u8) -> ObjectId {
 /// A row: the digit of its id, its generation, which is its time, and its parents.
 type Line<'a> = (u8, u32, &'a [ParentPlace]);
 
-// A row of these ids, whose time is its generation.
+/// A row of these ids, whose time is its generation.
 fn row(
     alloc: Global,
     id: ObjectId,
@@ -57,7 +57,7 @@ fn bytes(alloc: Global, text: &str) -> Result<Vec<u8>, Fail> {
     Ok(hex::decode(alloc, text)?)
 }
 
-// The bytes of a graph, which are taken again.
+/// The bytes of a graph, which are taken again.
 fn text(rt: &(impl Abort + AllocGlobal), graph: &Graph) -> Result<String, Fail> {
     let copy = Graph::from_packed(Vec::from_slice(rt.alloc(), graph.packed())?)?;
     assert_eq!(rt; copy.packed(), graph.packed());
@@ -65,7 +65,7 @@ fn text(rt: &(impl Abort + AllocGlobal), graph: &Graph) -> Result<String, Fail> 
     Ok(hex::encode(rt.alloc(), graph.packed())?)
 }
 
-// The commit of a digit has these fields, and these parents by their digits, where 0 is a fault.
+/// The commit of a digit has these fields, and these parents by their digits, where 0 is a fault.
 fn has(
     rt: &(impl Abort + AllocGlobal),
     graph: &Graph,
@@ -146,7 +146,7 @@ const PARENTS: [(u8, u32, &[u8]); 8] = [
     (1, 1, &[]),
 ];
 
-// A graph of the sample history and of a commit 9 with three parents, the last of them as given, 9 first.
+/// A graph of the sample history and of a commit 9 with three parents, the last of them as given, 9 first.
 fn graph_of_nine(alloc: Global, last: ParentPlace) -> Result<Graph, Fail> {
     let mut rows = rows_of(alloc, &[(9, 5, &[At(3), At(2), last])])?;
     push_rows(alloc, &mut rows, &SAMPLE)?;
@@ -179,7 +179,7 @@ fn packs_three_parents(rt: HostRuntime) -> Result<(), Fail> {
     check_nine(&rt, &graph, "fffffffe", &[6, 7, 0])
 }
 
-// The first place that is not as it should be, if there is one.
+/// The first place that is not as it should be, if there is one.
 fn place(packed: Vec<u8>) -> Result<Option<Place>, Fail> {
     match Graph::from_packed(packed) {
         Err(GraphError::Packed(place)) => Ok(Some(place)),
@@ -209,7 +209,7 @@ fn refuses_packed_bytes(rt: HostRuntime) -> Result<(), Fail> {
     Ok(())
 }
 
-// Replaces bytes from a place on.
+/// Replaces bytes from a place on.
 fn overwrite(packed: &mut [u8], at: usize, new: &[u8]) -> Result<(), Fail> {
     for (i, byte) in new.iter().enumerate() {
         *packed
@@ -300,7 +300,7 @@ fn refuses_lists_of_another_length(rt: HostRuntime) -> Result<(), Fail> {
     )
 }
 
-// A graph of one row of long ids at this time.
+/// A graph of one row of long ids at this time.
 fn long_graph(alloc: Global, time: i64) -> Result<Graph, Fail> {
     let mut row = row(alloc, long_id(1), long_id(10), 1, &[])?;
     row.time = time;
@@ -362,7 +362,7 @@ fn packs_no_rows(rt: HostRuntime) -> Result<(), Fail> {
     Ok(())
 }
 
-// Why there is no graph of these rows and of one whose tree has a long id.
+/// Why there is no graph of these rows and of one whose tree has a long id.
 fn mixed(
     alloc: Global,
     lines: &[Line],

@@ -4,11 +4,11 @@ use std::alloc::AllocError;
 use std::process::Abort;
 use std::test::Fail;
 
-// A value that has no equality and no order.
+/// A value that has no equality and no order.
 #[derive(Drop)]
 struct Name(char);
 
-// Puts in names under keys. A refused insert leaves the queue as it was, and is made again.
+/// Puts in names under keys. A refused insert leaves the queue as it was, and is made again.
 fn filled(rt: &(impl Abort + AllocGlobal)) -> Result<PriorityQueue<u8, Name>, AllocError> {
     let mut queue = PriorityQueue::new(rt.alloc());
     for (key, name) in [(2, 'a'), (5, 'b'), (2, 'c'), (5, 'd'), (1, 'e')] {
@@ -22,7 +22,7 @@ fn filled(rt: &(impl Abort + AllocGlobal)) -> Result<PriorityQueue<u8, Name>, Al
     Ok(queue)
 }
 
-// Takes out `count` names of this key, which have to come next, and sorts them.
+/// Takes out `count` names of this key, which have to come next, and sorts them.
 fn popped(
     rt: &(impl Abort + AllocGlobal),
     queue: &mut PriorityQueue<u8, Name>,

@@ -26,7 +26,7 @@ const SPREADS: [Spread; 4] = [
     Spread::BothEnds,
 ];
 
-// The id that begins with a number and ends with another.
+/// The id that begins with a number and ends with another.
 fn id_of(front: u32, end: u64) -> ObjectId {
     let mut bytes = [0u8; 20];
     bytes[..4].copy_from_slice(&front.to_be_bytes());
@@ -34,7 +34,7 @@ fn id_of(front: u32, end: u64) -> ObjectId {
     ObjectId::Sha1(bytes)
 }
 
-// How the id of a number begins and ends.
+/// How the id of a number begins and ends.
 fn ends_of(spread: Spread, number: u32) -> (u32, u64) {
     let end = u64::from(number);
     let mixed = end.wrapping_mul(0x9e37_79b9_7f4a_7c15);
@@ -48,7 +48,7 @@ fn ends_of(spread: Spread, number: u32) -> (u32, u64) {
     }
 }
 
-// The rows of so many numbers. Their times are the numbers.
+/// The rows of so many numbers. Their times are the numbers.
 fn rows_of(alloc: Global, spread: Spread, count: u32) -> Result<Vec<Row>, AllocError> {
     let mut rows = Vec::new(alloc);
     for number in 0..count {
@@ -72,7 +72,7 @@ fn all_ends(alloc: Global, spread: Spread, count: u32) -> Result<Vec<(u32, u64)>
     Ok(all)
 }
 
-// The time of the row whose id begins and ends so, by going through all ids.
+/// The time of the row whose id begins and ends so, by going through all ids.
 fn time_among(all: &[(u32, u64)], front: u32, end: u64) -> Option<i64> {
     let mut time = 0i64;
     for other in all {
@@ -89,7 +89,7 @@ fn time_in(graph: &Graph, id: &ObjectId) -> Option<i64> {
     Some(commit.committer_timestamp())
 }
 
-// Each id and its two neighbours have the row that they should have, or none.
+/// Each id and its two neighbours have the row that they should have, or none.
 fn check_times(graph: &Graph, all: &[(u32, u64)], spread: Spread) -> Result<(), Fail> {
     for (front, end) in all {
         for step in [0, 1, u64::MAX] {

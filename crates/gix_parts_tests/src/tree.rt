@@ -10,7 +10,7 @@ use std::alloc::Global;
 use std::process::Abort;
 use std::test::Fail;
 
-// The next item has to be an entry.
+/// The next item has to be an entry.
 fn next_entry<'a>(rt: &impl Abort, items: &mut TreeRefIter<'a>) -> EntryRef<'a> {
     match items.next() {
         Some(Ok(entry)) => entry,
@@ -19,7 +19,7 @@ fn next_entry<'a>(rt: &impl Abort, items: &mut TreeRefIter<'a>) -> EntryRef<'a> 
     }
 }
 
-// Checks the items of an entry's bytes, whole and cut off anywhere. The entry's mode is 100644, and its name x.
+/// Checks the items of an entry's bytes, whole and cut off anywhere. The entry's mode is 100644, and its name x.
 fn check_cuts(rt: &impl Abort, entry: &[u8], kind: Kind) {
     for len in 0..entry.len() {
         let fault = match len {
@@ -64,7 +64,7 @@ fn seven_digits(rt: HostRuntime) {
     assert_eq!(rt; items.next(), None);
 }
 
-// Reads an item, and says where the next one begins.
+/// Reads an item, and says where the next one begins.
 fn offset_behind(items: &mut TreeRefIter<'_>, buf: &[u8]) -> usize
     requires { IsEndOf (bytes_left items.old) buf.now }
     ensures end { IsEndOf (bytes_left items.new) buf.now }
@@ -93,19 +93,19 @@ fn offsets(rt: HostRuntime) {
     assert!(rt; items.next().is_none());
 }
 
-// Both trees were written by git 2.39 in an empty folder, the second with `git init --object-format=sha256` and 64 ones:
-//     git init
-//     printf 'one\n' > a.txt
-//     printf '#!/bin/sh\n' > run.sh
-//     chmod +x run.sh
-//     ln -s a.txt link
-//     mkdir 'sub dir'
-//     printf 'two\n' > 'sub dir/b'
-//     printf 'three\n' > sub.txt
-//     git add .
-//     git update-index --add --cacheinfo 160000,1111111111111111111111111111111111111111,module
-//     git cat-file tree $(git write-tree)
-// Each text is what `git ls-tree $(git write-tree)` printed.
+/// Both trees were written by git 2.39 in an empty folder, the second with `git init --object-format=sha256` and 64 ones:
+///     git init
+///     printf 'one\n' > a.txt
+///     printf '#!/bin/sh\n' > run.sh
+///     chmod +x run.sh
+///     ln -s a.txt link
+///     mkdir 'sub dir'
+///     printf 'two\n' > 'sub dir/b'
+///     printf 'three\n' > sub.txt
+///     git add .
+///     git update-index --add --cacheinfo 160000,1111111111111111111111111111111111111111,module
+///     git cat-file tree $(git write-tree)
+/// Each text is what `git ls-tree $(git write-tree)` printed.
 const SHORT_IDS: &[u8; 202] = b"\
     100644 a.txt\0\x56\x26\xab\xf0\xf7\x2e\x58\xd7\xa1\x53\x36\x8b\xa5\x7d\xb4\xc6\x73\xc0\xe1\x71\
     120000 link\0\x8d\x14\xcb\xf9\x83\xb3\xfa\xd6\x83\x17\x1c\x94\x18\x99\x8d\x9f\x68\x34\x08\x23\
@@ -142,7 +142,7 @@ const LONG_IDS_LISTED: &str = "\
 100644 blob b83643f4390b339c1b3ff2f5132c99bd4a77687dd321d3f386c25953aa6f1ce4\tsub.txt
 ";
 
-// The entries as `git ls-tree` prints them.
+/// The entries as `git ls-tree` prints them.
 fn listed(alloc: Global, tree: &[u8], kind: Kind) -> Result<String, Fail> {
     let mut text = String::new(alloc);
     for item in TreeRefIter::from_bytes(tree, kind) {

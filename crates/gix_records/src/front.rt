@@ -44,7 +44,7 @@ pub fn record_at(text: &[u8]) -> Option<Front<'_>>
     })
 }
 
-// The text before the first such byte, and the text after it.
+/// The text before the first such byte, and the text after it.
 fn split_at_byte(text: &[u8], byte: u8) -> Option<(&[u8], &[u8])>
     ensures { option_map (λ r. (r.0.now, r.1.now)) result ≡ split_at_byte byte text.now }
 {
@@ -52,7 +52,7 @@ fn split_at_byte(text: &[u8], byte: u8) -> Option<(&[u8], &[u8])>
     Some((&text[..end], &text[end + 1..]))
 }
 
-// The id that 40 or 64 hex digits spell.
+/// The id that 40 or 64 hex digits spell.
 fn id_spelled(digits: &[u8]) -> Option<ObjectId>
     ensures { result ≡ result_ok (id_from_hex digits.now) }
 {
@@ -81,7 +81,7 @@ fn kind_named(word: &[u8]) -> Option<Kind>
     None
 }
 
-// The number that 1 to 10 decimal digits spell.
+/// The number that 1 to 10 decimal digits spell.
 fn decimal(digits: &[u8]) -> Option<usize>
     ensures { result ≡ decimal digits.now }
 {
@@ -98,7 +98,7 @@ fn decimal(digits: &[u8]) -> Option<usize>
     Some(number)
 }
 
-// So many bytes, if a newline ends them, and the text after it.
+/// So many bytes, if a newline ends them, and the text after it.
 fn body_at(text: &[u8], len: usize) -> Option<(&[u8], &[u8])>
     ensures { option_map (λ r. (r.0.now, r.1.now)) result ≡ body_at len text.now }
 {

@@ -7,7 +7,7 @@ use crate::Error;
 use std::alloc::{AllocError, Global};
 use std::io::{ErrorKind, Read};
 
-// How many bytes a read asks for.
+/// How many bytes a read asks for.
 const CHUNK: usize = 1 << 16;
 
 /// The bytes that a reader gives until its end. It is asked this often at most: a read that was interrupted is made again, and counts.
@@ -28,14 +28,14 @@ pub fn read_to_end<R: Read>(alloc: Global, reader: &mut R, most: u32) -> Result<
     Err(Error::Read)
 }
 
-// Room for a read.
+/// Room for a read.
 fn new_chunk(alloc: Global) -> Result<Vec<u8>, AllocError>
     ensures { IfOk result (λ chunk. 0 < vec_len chunk) }
 {
     vec![in alloc; 0; CHUNK]
 }
 
-// Asks the reader once, and adds what it gave. Whether this was the end.
+/// Asks the reader once, and adds what it gave. Whether this was the end.
 fn read_some<R: Read>(reader: &mut R, chunk: &mut [u8], input: &mut Vec<u8>) -> Result<bool, Error>
     requires { 0 < length chunk.old }
     ensures moves { OnOk result (Moves (R.remaining reader.old) (R.remaining reader.new) input.old.items input.new.items) }

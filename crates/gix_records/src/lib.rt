@@ -111,7 +111,7 @@ pub fn records_in(alloc: Global, bytes: &[u8]) -> Result<LentStore<'_>, Error>
     Ok(LentStore::over(bytes, objects))
 }
 
-// The places of the objects of the records that the bytes are.
+/// The places of the objects of the records that the bytes are.
 fn places_of(alloc: Global, bytes: &[u8]) -> Result<IdMap<Stored>, Error>
     ensures within { IfOk result (λ places. AreWithin places (length bytes.now)) }
     ensures read { IfOk result (λ places. (records : List Record) × AreRecords records bytes.now × (objects_at bytes.now places ≡ stored records)) }

@@ -2,8 +2,10 @@
 pub mod QueueItems
 -- The new ids of a list, each at its first place, and how many times an id is in a list.
 pub mod NewIds
--- The ids that a row's places name, what a row with a fault is, which rows are held after a row was read, and what drops them.
+-- The ids that a row's places name, what a row with a fault is, which rows are in use after a row was read, and what drops them.
 pub mod Rows
+-- The row of an id, where it is looked for first.
+pub mod NearRow
 -- What a list in order has: no id twice, and exactly what is reached; and what a beginning of one has.
 pub mod Orders
 -- There is at most one list in breadth order; and one in an order by time, where different commits have different times.

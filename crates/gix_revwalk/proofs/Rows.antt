@@ -1,4 +1,4 @@
--- Rows: the ids that a row's places name, read one after the other; and which rows are held before and after a row was read.
+-- Rows: the ids that a row's places name, read one after the other; and which rows are in use before and after a row was read.
 use Rattle.std.specs.Prelude.{◌≡◌, ◌<◌, List, [], ◌∷◌, ◌++◌, ℕ, Option, Some, None, Ok, Err, IfOk, All, Contains, slice_get, Bool, true, false, cond, zero, suc, map, ◌⊎◌}
 use Rattle.std.proofs.Common.{refl, sym, ap, subst, ◌∙◌, append_assoc, ⊎_elim, inl, inr, if◌then◌else◌}
 use Rattle.std.proofs.lemmas.List.Elements.{recursion_from_All, All-from_recursion}
@@ -17,7 +17,7 @@ use Rattle.std.proofs.lemmas.Bool.{or_left, or_right, true≢false, false≢true
 use Rattle.gix_hash.specs.Id.{id_cmp, is_same, is_among}
 use Rattle.std.specs.Borrow.{Bor}
 use Rattle.std.specs.Option.{option_copied}
-use Rattle.gix_revwalk.specs.declared.read.RowRead.{RowRead}
+use Rattle.gix_revwalk.specs.declared.row.RowRead.{RowRead}
 use Rattle.gix_revwalk.specs.Reading.{RowSays, DropsRows, ReadsRow, is_read, absent, corrupt, dropped}
 
 -- no rows agree with any store
@@ -111,52 +111,52 @@ pub rows_lent : (lent : Option (Bor (List GraphRow))) (graph : Option (List Grap
 rows_lent None graph e = ap rows_of e
 rows_lent (Some lent) graph e = ap rows_of e
 
-pub reads_lent : (lent : Option (Bor (List GraphRow))) (graph : Option (List GraphRow)) {held new : Bool} {i : ObjectId} {read : Option RowRead} → option_copied lent ≡ graph → ReadsRow (rows_in lent) held i read new → ReadsRow (rows_of graph) held i read new
-reads_lent lent graph {held = held} {new = new} {i = i} {read = read} e r = subst (λ rows. ReadsRow rows held i read new) (rows_lent lent graph e) r
+pub reads_lent : (lent : Option (Bor (List GraphRow))) (graph : Option (List GraphRow)) {in_use new : Bool} {i : ObjectId} {read : Option RowRead} → option_copied lent ≡ graph → ReadsRow (rows_in lent) in_use i read new → ReadsRow (rows_of graph) in_use i read new
+reads_lent lent graph {in_use = in_use} {new = new} {i = i} {read = read} e r = subst (λ rows. ReadsRow rows in_use i read new) (rows_lent lent graph e) r
 
--- rows that are held still were held before
-pub held_before : {rows : List GraphRow} {held new : Bool} {i : ObjectId} {read : Option RowRead} → ReadsRow rows held i read new → new ≡ true → held ≡ true
-held_before (is_read h says) e = e
-held_before (absent n) e = e
-held_before (corrupt h d) e = h
-held_before (dropped h) e = e
+-- rows that are still in use were in use before
+pub in_use_before : {rows : List GraphRow} {in_use new : Bool} {i : ObjectId} {read : Option RowRead} → ReadsRow rows in_use i read new → new ≡ true → in_use ≡ true
+in_use_before (is_read h says) e = e
+in_use_before (absent n) e = e
+in_use_before (corrupt h d) e = h
+in_use_before (dropped h) e = e
 
--- rows that are held no more were dropped by the row
-pub dropped_by : {rows : List GraphRow} {held new : Bool} {i : ObjectId} {read : Option RowRead} → ReadsRow rows held i read new → held ≡ true → new ≡ false → DropsRows rows i
+-- rows that are no longer in use were dropped by the row
+pub dropped_by : {rows : List GraphRow} {in_use new : Bool} {i : ObjectId} {read : Option RowRead} → ReadsRow rows in_use i read new → in_use ≡ true → new ≡ false → DropsRows rows i
 dropped_by (is_read h says) a b = absurd (true≢false (sym a ∙ b))
 dropped_by (absent n) a b = absurd (true≢false (sym a ∙ b))
 dropped_by (corrupt h d) a b = d
 dropped_by (dropped h) a b = absurd (true≢false (sym a ∙ b))
 
--- where rows are held still and the row gave nothing, there is none
-pub passed_over : {rows : List GraphRow} {held new : Bool} {i : ObjectId} → ReadsRow rows held i None new → new ≡ true → row_of rows i ≡ None
+-- where rows are still in use and the row gave nothing, there is none
+pub passed_over : {rows : List GraphRow} {in_use new : Bool} {i : ObjectId} → ReadsRow rows in_use i None new → new ≡ true → row_of rows i ≡ None
 passed_over (absent n) e = n
 passed_over (corrupt h d) e = absurd (false≢true e)
 passed_over (dropped h) e = absurd (true≢false (sym e ∙ h))
 
--- where rows are held still, the row that was read has no fault
-pub held_whole : {rows : List GraphRow} {held new : Bool} {i : ObjectId} {read : Option RowRead} → ReadsRow rows held i read new → new ≡ true → IsSoundRow rows i
-held_whole {rows = rows} (is_read h says) e row there bad =
+-- where rows are still in use, the row that was read has no fault
+pub whole_in_use : {rows : List GraphRow} {in_use new : Bool} {i : ObjectId} {read : Option RowRead} → ReadsRow rows in_use i read new → new ≡ true → IsSoundRow rows i
+whole_in_use {rows = rows} (is_read h says) e row there bad =
     let same : says.row ≡ row = (let k : Some says.row ≡ Some row = sym says.there ∙ there in cc) in
     unread_fault rows says.row.parents _ says.parents (subst (λ r. IsCorrupt r) (sym same) bad)
-held_whole (absent n) e row there bad = let none : None ≡ Some row = sym n ∙ there in cc
-held_whole (corrupt h d) e row there bad = absurd (false≢true e)
-held_whole (dropped h) e row there bad = absurd (true≢false (sym e ∙ h))
+whole_in_use (absent n) e row there bad = let none : None ≡ Some row = sym n ∙ there in cc
+whole_in_use (corrupt h d) e row there bad = absurd (false≢true e)
+whole_in_use (dropped h) e row there bad = absurd (true≢false (sym e ∙ h))
 
--- a row that was read drops nothing, and is one of the rows that are held
-pub read_held : {rows : List GraphRow} {held new : Bool} {i : ObjectId} {read : RowRead} → ReadsRow rows held i (Some read) new → (new ≡ held) × RowSays (if new then rows else []) i read
-read_held {rows = rows} {i = i} {read = read} (is_read h says) = (refl, subst (λ b. RowSays (if b then rows else []) i read) (sym h) says)
+-- a row that was read drops nothing, and is one of the rows in use
+pub read_in_use : {rows : List GraphRow} {in_use new : Bool} {i : ObjectId} {read : RowRead} → ReadsRow rows in_use i (Some read) new → (new ≡ in_use) × RowSays (if new then rows else []) i read
+read_in_use {rows = rows} {i = i} {read = read} (is_read h says) = (refl, subst (λ b. RowSays (if b then rows else []) i read) (sym h) says)
 
--- which rows are held where none is read
+-- which rows are in use where none is read
 abbrev pub IsPassed : List GraphRow → ObjectId → List GraphRow → Type 0
 IsPassed was i now = IsUnrowed was i × (now ≡ kept_rows was (row_of was i)) × (row_of now i ≡ None)
 
 no_row : (rows : List GraphRow) (i : ObjectId) → row_of rows i ≡ None → IsPassed rows i rows
 no_row rows i n = (λ row e. let bad : None ≡ Some row = sym n ∙ e in cc, sym (ap (kept_rows rows) n), n)
 
-pub passes : {rows : List GraphRow} {held new : Bool} {i : ObjectId} → ReadsRow rows held i None new → IsPassed (if held then rows else []) i (if new then rows else [])
-passes {rows = rows} {held = true} {i = i} (absent n) = no_row rows i n
-passes {held = false} {i = i} (absent n) = no_row [] i refl
+pub passes : {rows : List GraphRow} {in_use new : Bool} {i : ObjectId} → ReadsRow rows in_use i None new → IsPassed (if in_use then rows else []) i (if new then rows else [])
+passes {rows = rows} {in_use = true} {i = i} (absent n) = no_row rows i n
+passes {in_use = false} {i = i} (absent n) = no_row [] i refl
 passes {rows = rows} {i = i} (dropped h) = subst (λ b. IsPassed (if b then rows else []) i (if b then rows else [])) (sym h) (no_row [] i refl)
 passes {rows = rows} {i = i} (corrupt h d) =
     subst (λ b. IsPassed (if b then rows else []) i []) (sym h)

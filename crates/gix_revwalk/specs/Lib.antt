@@ -1,3 +1,5 @@
+-- A commit that was met, and is to be taken.
+pub mod Pending
 -- Lists of ids.
 pub mod Ids
 -- The parents that the texts of commits name.

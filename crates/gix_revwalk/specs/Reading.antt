@@ -1,4 +1,4 @@
--- How walks read a commit: by its row as long as rows are held, or else from the store.
+-- How walks read a commit: by its row as long as rows are in use, or else from the store.
 use Rattle.std.specs.Prelude.{◌≡◌, ℕ, List, Bool, true, false, Option, Some, None}
 use Rattle.std.specs.FinMap as map_of
 use Rattle.gix_hash.specs.declared.ObjectId.{ObjectId}
@@ -10,7 +10,7 @@ use Rattle.gix_object.specs.CommitRefIter.{first_committer}
 use Rattle.gix_commitgraph.specs.Rows.{GraphRow, row_of}
 use Rattle.gix_revwalk.specs.declared.Parents.TheVariants as mode
 use Rattle.gix_revwalk.specs.declared.read.Header.{Header}
-use Rattle.gix_revwalk.specs.declared.read.RowRead.{RowRead}
+use Rattle.gix_revwalk.specs.declared.row.RowRead.{RowRead}
 use Rattle.gix_revwalk.specs.Either.{seconds_told}
 use Rattle.gix_revwalk.specs.Texts.{scanned}
 use Rattle.gix_revwalk.specs.RowParents.{ids_at}
@@ -28,12 +28,12 @@ pub record RowSays (rows : List GraphRow) (i : ObjectId) (read : RowRead) : Type
 abbrev pub DropsRows : List GraphRow → ObjectId → Type 0
 DropsRows rows i = (row : GraphRow) × (row_of rows i ≡ Some row) × (ids_at rows row.parents ≡ None)
 
--- what reading a row gives, and whether the rows are held then: a corrupt row drops them for good
-pub data ReadsRow (rows : List GraphRow) (held : Bool) (i : ObjectId) : Option RowRead → Bool → Type 0 where
-  is_read : {read : RowRead} → held ≡ true → RowSays rows i read → ReadsRow rows held i (Some read) held
-  absent : row_of rows i ≡ None → ReadsRow rows held i None held
-  corrupt : held ≡ true → DropsRows rows i → ReadsRow rows held i None false
-  dropped : held ≡ false → ReadsRow rows held i None held
+-- what reading a row gives, and whether the rows are in use then: a corrupt row drops them for good
+pub data ReadsRow (rows : List GraphRow) (in_use : Bool) (i : ObjectId) : Option RowRead → Bool → Type 0 where
+  is_read : {read : RowRead} → in_use ≡ true → RowSays rows i read → ReadsRow rows in_use i (Some read) in_use
+  absent : row_of rows i ≡ None → ReadsRow rows in_use i None in_use
+  corrupt : in_use ≡ true → DropsRows rows i → ReadsRow rows in_use i None false
+  dropped : in_use ≡ false → ReadsRow rows in_use i None in_use
 
 -- a header is that of the commit that is stored at an id
 pub record ReadsHeader (objects : Objects) (i : ObjectId) (header : Header) : Type 0 where

@@ -9,6 +9,7 @@ ghost use Rattle.gix_revwalk.specs.Agreeing.{rows_in};
 
 pub mod queue;
 pub mod read;
+pub mod row;
 
 use gix_commitgraph::{Commit, Graph};
 use gix_hash::ObjectId;
@@ -17,6 +18,7 @@ use gix_object::decode;
 use gix_object::find::{Find, existing_iter};
 use smallvec::SmallVec;
 use std::alloc::AllocError;
+use std::marker::Model;
 
 /// Which parents of a commit are walked.
 #[derive(Clone, Copy, Debug, PartialEq, Eq)]
@@ -100,12 +102,22 @@ impl Info {
 }
 
 /// A pending commit, with the time by which it is taken.
-#[derive(Clone, Copy)]
+#[derive(Drop)]
 pub struct Pending {
     /// The commit's id.
     pub id: ObjectId,
     /// The committer's seconds since 1970-01-01 00:00 UTC, and 0 where none was read.
     pub time: i64,
+    /// Where to look first for its row. Contracts don't see it: a wrong place costs time alone.
+    pub near: u32,
+}
+
+impl Model for Pending {
+    ghost use Rattle.gix_revwalk.specs.Pending as model;
+
+    ghost Value = { model.Pending };
+
+    ghost view = { λ p. model.pending_by p.id p.time };
 }
 
 /// A commit, as the store or a commit-graph has it.

@@ -11,7 +11,7 @@ use std::collections::BinaryHeap;
 use std::marker::Model;
 use std::slice;
 
-// A value, compared by its key alone.
+/// A value, compared by its key alone.
 #[derive(Drop)]
 #[derive_where(PartialEq, Eq, PartialOrd, Ord; K)]
 struct Item<K, T> {

@@ -1,21 +1,15 @@
-//! What a commit's row or its bytes say of its parents, and its bytes of its committer.
-ghost use Rattle.std.specs.Prelude.{◌≡◌, ◌≢◌, ◌≤◌, ◌<◌, Some, IfOk, IfErr, IsOk, OnErr, length};
-ghost use Rattle.std.specs.Option.{option_map};
+//! What a commit's bytes say of its parents and its committer.
+ghost use Rattle.std.specs.Prelude.{◌≡◌, ◌≢◌, ◌≤◌, IfOk, IfErr, IsOk, length};
 ghost use Rattle.gix_object.specs.CommitRefIter.{commit_items_left, first_committer};
 ghost use Rattle.gix_object.specs.declared.Kind.TheVariants as object;
 ghost use Rattle.gix_object.specs.declared.find.existing_iter.Error.TheVariants as existing;
 ghost use Rattle.gix_object.specs.Find.{IsExistingFault};
-ghost use Rattle.gix_commitgraph.specs.GraphCommit.{rows_of_commit, row_of_commit};
-ghost use Rattle.gix_commitgraph.specs.Rows.{GraphRow, row_of};
 ghost use Rattle.gix_revwalk.specs.declared.Parents.TheVariants as mode;
-ghost use Rattle.gix_revwalk.specs.Agreeing.{rows_in};
 ghost use Rattle.gix_revwalk.specs.Either.{seconds_told};
-ghost use Rattle.gix_revwalk.specs.Reading.{ReadsHeader, ReadsRow};
-ghost use Rattle.gix_revwalk.specs.RowParents.{ids_at};
+ghost use Rattle.gix_revwalk.specs.Reading.{ReadsHeader};
 ghost use Rattle.gix_revwalk.specs.Texts.{scanned};
 
 use super::{ParentIds, Parents};
-use gix_commitgraph::{Commit, Graph};
 use gix_hash::ObjectId;
 use gix_object::commit::{CommitRefIter, Token};
 use gix_object::decode;
@@ -79,7 +73,7 @@ pub struct Header {
     pub time: Result<i64, decode::Error>,
 }
 
-// Reads the parents and the committer in one pass, and ends there. Lists of at most one parent take no memory.
+/// Reads the parents and the committer in one pass, and ends there. Lists of at most one parent take no memory.
 fn read_header(alloc: Global, mut items: CommitRefIter<'_>) -> Result<Header, AllocError>
     ensures parents { IfOk result (λ h. h.parent_ids.items ≡ (scanned mode.All (commit_items_left items.entry)).0) }
     ensures time { IfOk result (λ h. h.time ≡ seconds_told (first_committer (commit_items_left items.entry))) }
@@ -132,7 +126,7 @@ pub fn find_header<F: Find>(
     }
 }
 
-// The seconds of the first committer among the items left.
+/// The seconds of the first committer among the items left.
 fn committer_seconds(items: CommitRefIter<'_>) -> Result<i64, decode::Error>
     ensures { result ≡ seconds_told (first_committer (commit_items_left items.entry)) }
 {
@@ -140,74 +134,4 @@ fn committer_seconds(items: CommitRefIter<'_>) -> Result<i64, decode::Error>
         Ok(signature) => Ok(signature.seconds()),
         Err(fault) => Err(fault),
     }
-}
-
-// The ids at a row's places, and None where one of them is corrupt. At most one place takes no memory.
-fn row_parents(
-    alloc: Global,
-    graph: &Graph,
-    commit: Commit<'_>,
-) -> Result<Option<ParentIds>, AllocError>
-    requires { rows_of_commit commit ≡ graph.now }
-    ensures ok { IfOk result (λ ids. option_map (λ ids. ids.items) ids ≡ ids_at graph.now (row_of_commit commit.entry).parents) }
-    ensures succeeds { length (row_of_commit commit.entry).parents ≤ 1 → IsOk result }
-{
-    let mut parent_ids = ParentIds::new(alloc);
-    let mut places = commit.iter_parents();
-    while let Some(place) = places.next() {
-        let Ok(position) = place else {
-            return Ok(None);
-        };
-        parent_ids.push(graph.commit_at(position).id())?;
-    }
-    Ok(Some(parent_ids))
-}
-
-/// What a row says of its commit.
-#[derive(Drop)]
-pub struct RowRead {
-    /// The ids of the parents, in their order.
-    pub parent_ids: ParentIds,
-    /// The generation, where 4294967295 says that none is known.
-    pub generation: u32,
-    /// The committer's seconds since 1970-01-01 00:00 UTC.
-    pub time: i64,
-}
-
-/// What the row of an id says, where there is one and `held` says that rows are in use. A row with a corrupt place drops the rows for
-/// good: they aren't in use from then on, and the answer is None. A row of at most one parent takes no memory.
-///
-/// # Errors
-///
-/// `AllocError` when out of memory. The rows are in use if they were.
-pub fn read_row(
-    alloc: Global,
-    graph: Option<&Graph>,
-    held: &mut bool,
-    id: &ObjectId,
-) -> Result<Option<RowRead>, AllocError>
-    ensures reads { IfOk result (λ read. ReadsRow (rows_in graph.entry) held.old id.now read held.new) }
-    ensures err { OnErr result (held.new ≡ held.old) }
-    ensures fails { OnErr result ((row : GraphRow) × (row_of (rows_in graph.entry) id.now ≡ Some row) × (1 < length row.parents)) }
-{
-    if !*held {
-        return Ok(None);
-    }
-    let Some(graph) = graph else {
-        return Ok(None);
-    };
-    let Some(commit) = graph.commit_by_id(id) else {
-        return Ok(None);
-    };
-    let generation = commit.generation();
-    let time = commit.committer_timestamp();
-    let Some(parent_ids) = row_parents(alloc, graph, commit)? else {
-        *held = false;
-        return Ok(None);
-    };
-    Ok(Some(RowRead {
-        parent_ids,
-        generation,
-        time,
-    }))
 }

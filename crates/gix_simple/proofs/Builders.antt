@@ -1,5 +1,5 @@
 -- A walk that was made of some tips, and whose order was chosen, is fresh, and gives no id twice.
-use Rattle.std.specs.Prelude.{◌≡◌, ◌⊎◌, ◌+◌, ◌≤◌, ℤ, List, [], ◌∷◌, filter, Bool, true, false, not, ◌&&◌, cond, Option, Some, Result, Contains}
+use Rattle.std.specs.Prelude.{◌≡◌, ◌⊎◌, ◌+◌, ◌≤◌, ℕ, ℤ, List, [], ◌∷◌, filter, Bool, true, false, not, ◌&&◌, cond, Option, Some, Result, Contains}
 use Rattle.std.proofs.Common.{refl, sym, ap, subst, inl, inr, ⊎_elim, ◌∙◌, arith}
 use Rattle.std.proofs.lemmas.Bool.{false≢true, and_parts, or_cases}
 use Rattle.std.proofs.Math.Bool.{and-true}
@@ -12,7 +12,7 @@ use Rattle.gix_hash.proofs.Ids.Membership.{among_from, among_is, Contains-cons_c
 use Rattle.gix_revwalk.specs.declared.Parents.{Parents}
 use Rattle.gix_revwalk.specs.declared.Parents.TheVariants as mode
 use Rattle.gix_revwalk.specs.declared.CommitTimeOrder.{CommitTimeOrder}
-use Rattle.gix_revwalk.specs.declared.Pending.{Pending}
+use Rattle.gix_revwalk.specs.Pending.{Pending}
 use Rattle.gix_revwalk.specs.declared.Info.{Info}
 use Rattle.gix_simple.specs.declared.Error.{Error}
 use Rattle.gix_simple.specs.declared.Sorting.{Sorting}
@@ -23,163 +23,52 @@ use Rattle.gix_revwalk.specs.Ids.{ids_of, AreDistinct}
 use Rattle.gix_revwalk.specs.Asking.{AnswersBy}
 use Rattle.gix_simple.specs.Laws.{IsFresh, given_ids}
 use Rattle.gix_simple.specs.Building.{IsSortedByTime, timed, recent, outdated, IsBuilt, made, breadth_first, by_time, hides, walks, reads}
-use Rattle.gix_revwalk.proofs.NewIds.{times, among-filter, times_none, times_once}
-use Rattle.gix_simple.proofs.NeverTwice.{once_times, times-filter, IsSole, sole_all, drawn_once}
-use Rattle.gix_simple.proofs.MadeOfTips.{is_new_walk, pending_is}
+use Rattle.gix_hash.proofs.Lists.{filter_within}
+use Rattle.gix_revwalk.proofs.NewIds.{times, among-filter, among_times, times_none, times_once}
+use Rattle.gix_simple.proofs.Moves.{asking, fewer_filter}
+use Rattle.gix_simple.proofs.NeverTwice.{IsSole, asked_sole, drawn_once}
+use Rattle.gix_simple.proofs.MadeOfTips.{once_or_never, is_new_walk, pending_is}
 
 in_force : (m : Parents) (by : Sorting) (order : CommitTimeOrder) → time_order m by ≡ Some order → time_order mode.All by ≡ Some order
 in_force mode.First by order e = cc
 in_force mode.All by order e = e
 
-once_at_most : (b : Bool) → cond b 1 0 ≤ 1
-once_at_most true = omega arith
-once_at_most false = omega arith
+positive : (b : Bool) (n : ℕ) → 1 ≤ n → n + 0 ≤ cond b 1 0 → b ≡ true
+positive true n h k = refl
+positive false n h k = absurd (omega arith)
 
-module _ (objects : Objects) (limit : Option ℤ) where
-  outdated_ids : (ps : List Pending) → outdated limit (timed objects ps) ≡ filter (λ i. is_older (time_of objects i) limit) (ids_of ps)
-  outdated_ids [] = refl
-  outdated_ids (p ∷ ps) = go (is_older (time_of objects p.id) limit) (outdated_ids ps)
+module _ (objects : Objects) where
+  -- of pending commits with their times, those whose time is of some kind
+  ids_by_time : (f : ℤ → Bool) (ps : List Pending) → ids_of (filter (λ p. f p.time) (timed objects ps)) ≡ filter (λ i. f (time_of objects i)) (ids_of ps)
+  ids_by_time f [] = refl
+  ids_by_time f (p ∷ ps) = go (f (time_of objects p.id)) (ids_by_time f ps)
     where
-      go : (b : Bool) → outdated limit (timed objects ps) ≡ filter (λ i. is_older (time_of objects i) limit) (ids_of ps)
-          → ids_of (cond b (record { id = p.id; time = time_of objects p.id } ∷ filter (λ p. is_older p.time limit) (timed objects ps)) (filter (λ p. is_older p.time limit) (timed objects ps))) ≡ cond b (p.id ∷ filter (λ i. is_older (time_of objects i) limit) (ids_of ps)) (filter (λ i. is_older (time_of objects i) limit) (ids_of ps))
+      go : (b : Bool) → ids_of (filter (λ p. f p.time) (timed objects ps)) ≡ filter (λ i. f (time_of objects i)) (ids_of ps)
+          → ids_of (cond b (record { id = p.id; time = time_of objects p.id } ∷ filter (λ p. f p.time) (timed objects ps)) (filter (λ p. f p.time) (timed objects ps)))
+          ≡ cond b (p.id ∷ filter (λ i. f (time_of objects i)) (ids_of ps)) (filter (λ i. f (time_of objects i)) (ids_of ps))
       go true r = ap (λ is. p.id ∷ is) r
       go false r = r
 
-  pub recent_ids : (ps : List Pending) → ids_of (recent limit (timed objects ps)) ≡ filter (λ i. not (is_older (time_of objects i) limit)) (ids_of ps)
-  recent_ids [] = refl
-  recent_ids (p ∷ ps) = go (not (is_older (time_of objects p.id) limit)) (recent_ids ps)
-    where
-      go : (b : Bool) → ids_of (recent limit (timed objects ps)) ≡ filter (λ i. not (is_older (time_of objects i) limit)) (ids_of ps)
-          → ids_of (cond b (record { id = p.id; time = time_of objects p.id } ∷ recent limit (timed objects ps)) (recent limit (timed objects ps))) ≡ cond b (p.id ∷ filter (λ i. not (is_older (time_of objects i) limit)) (ids_of ps)) (filter (λ i. not (is_older (time_of objects i) limit)) (ids_of ps))
-      go true r = ap (λ is. p.id ∷ is) r
-      go false r = r
+  among_by_time : (f : ℤ → Bool) (ps : List Pending) (i : ObjectId) → is_among i (ids_of (filter (λ p. f p.time) (timed objects ps))) ≡ (f (time_of objects i) && is_among i (ids_of ps))
+  among_by_time f ps i = ap (is_among i) (ids_by_time f ps) ∙ among-filter i (λ i. f (time_of objects i)) (ids_of ps)
 
-  recent_among : (ps : List Pending) (i : ObjectId) → is_among i (ids_of (recent limit (timed objects ps))) ≡ (not (is_older (time_of objects i) limit) && is_among i (ids_of ps))
-  recent_among ps i = ap (is_among i) (recent_ids ps) ∙ among-filter i (λ i. not (is_older (time_of objects i) limit)) (ids_of ps)
+  pub recent_ids : (limit : Option ℤ) (ps : List Pending) → ids_of (recent limit (timed objects ps)) ≡ filter (λ i. not (is_older (time_of objects i) limit)) (ids_of ps)
+  recent_ids limit = ids_by_time (λ t. not (is_older t limit))
 
-  outdated_among : (ps : List Pending) (i : ObjectId) → is_among i (outdated limit (timed objects ps)) ≡ (is_older (time_of objects i) limit && is_among i (ids_of ps))
-  outdated_among ps i = ap (is_among i) (outdated_ids ps) ∙ among-filter i (λ i. is_older (time_of objects i) limit) (ids_of ps)
+  recent_among : (limit : Option ℤ) (ps : List Pending) (i : ObjectId) → is_among i (ids_of (recent limit (timed objects ps))) ≡ (not (is_older (time_of objects i) limit) && is_among i (ids_of ps))
+  recent_among limit = among_by_time (λ t. not (is_older t limit))
+
+  outdated_among : (limit : Option ℤ) (ps : List Pending) (i : ObjectId) → is_among i (outdated limit (timed objects ps)) ≡ (is_older (time_of objects i) limit && is_among i (ids_of ps))
+  outdated_among limit = among_by_time (λ t. is_older t limit)
 
   timed_ids : (ps : List Pending) → ids_of (timed objects ps) ≡ ids_of ps
   timed_ids [] = refl
   timed_ids (p ∷ ps) = ap (λ is. p.id ∷ is) (timed_ids ps)
 
-  recent_timed : (ps : List Pending) (p : Pending) → Contains (recent limit (timed objects ps)) p → p.time ≡ time_of objects p.id
-  recent_timed [] p h = absurd (no_member p h)
-  recent_timed (q ∷ ps) p h = go (recent_timed ps p) (not (is_older (time_of objects q.id) limit)) h
-    where
-      go : (Contains (recent limit (timed objects ps)) p → p.time ≡ time_of objects p.id) → (b : Bool) → Contains (cond b (record { id = q.id; time = time_of objects q.id } ∷ recent limit (timed objects ps)) (recent limit (timed objects ps))) p → p.time ≡ time_of objects p.id
-      go r true h = ⊎_elim (λ e. ap (λ x. x.time) (sym e) ∙ ap (λ x. time_of objects x.id) e) r (Contains-cons_cases p (record { id = q.id; time = time_of objects q.id }) (recent limit (timed objects ps)) h)
-      go r false h = r h
-
-module _ {F P : Type 0} (objects : F → Objects) (faulty : F → ObjectId → Type 0) (answers : P → ObjectId → Bool → P → Type 0) (accepts : ObjectId → Bool) (store : F) (predicate : P) (by_test : AnswersBy answers predicate accepts) where
-  -- what every builder call keeps
-  record Built (walk : SimpleWalk F P) : Type 0 where
-    tested : AnswersBy answers walk.predicate accepts
-    same_store : walk.store ≡ store
-    once : (i : ObjectId) → times i (ids_of walk.pending) ≤ 1
-    pending_seen : (i : ObjectId) → is_among i (ids_of walk.pending) ≡ true → set.contains walk.seen i ≡ true
-    accepted : (i : ObjectId) → is_among i (ids_of walk.pending) ≡ true → accepts i ≡ true
-    seen : (i : ObjectId) → set.contains walk.seen i ≡ true → (is_among i (ids_of walk.pending) ≡ true) ⊎ (accepts i ≡ false)
-    remembered : (i : ObjectId) → set.contains walk.remembered i ≡ true → accepts i ≡ true
-    shown : (i : ObjectId) → set.contains walk.hidden i ≡ false
-    unbegun : walk.begun ≡ false
-    timely : (order : CommitTimeOrder) → time_order mode.All walk.sorting ≡ Some order → (p : Pending) → Contains walk.pending p → p.time ≡ time_of (objects walk.store) p.id
-
-  made_built : (tips : List ObjectId) (walk : SimpleWalk F P) → IsMade objects faulty answers store predicate tips walk → Built walk
-  made_built tips walk m =
-      let new = is_new_walk objects faulty answers store predicate accepts tips walk by_test m in
-      record {
-        tested = new.by_test;
-        same_store = new.same_store;
-        once = λ i. let k : times i (ids_of walk.pending) ≤ cond (is_among i (ids_of walk.pending)) 1 0 = once_times (ids_of walk.pending) new.fresh.distinct i in let n : cond (is_among i (ids_of walk.pending)) 1 0 ≤ 1 = once_at_most _ in omega arith;
-        pending_seen = λ i h. new.fresh.pending_seen i (among_is i (ids_of walk.pending) h);
-        accepted = λ i h. (pending_is objects faulty answers store predicate accepts tips walk by_test m i (among_is i (ids_of walk.pending) h)).0;
-        seen = λ i h. ⊎_elim (λ c. inl (among_from i (ids_of walk.pending) c)) inr (new.fresh.seen i h);
-        remembered = new.fresh.remembered;
-        shown = new.fresh.shown;
-        unbegun = new.fresh.unbegun;
-        timely = λ order e. timeless new.breadth_first e;
-      }
-    where
-      timeless : {order : CommitTimeOrder} {A : Type 0} → walk.sorting ≡ by.BreadthFirst → time_order mode.All walk.sorting ≡ Some order → A
-      timeless b e = cc (ap (time_order mode.All) b)
-
-  by_time_built : (old new : SimpleWalk F P) (sorting : Sorting) → Built old → IsSortedByTime objects old sorting new → Built new
-  by_time_built old new sorting b s = record {
-    tested = subst (λ p. AnswersBy answers p accepts) (sym (ap (λ w. w.predicate) s.others)) b.tested;
-    same_store = stored ∙ b.same_store;
-    once = λ i.
-        let f : times i (ids_of (recent limit (timed found old.pending))) ≤ times i (ids_of (timed found old.pending)) = times-filter (λ p. not (is_older p.time limit)) (timed found old.pending) i in
-        let t : times i (ids_of (timed found old.pending)) ≡ times i (ids_of old.pending) = ap (times i) (timed_ids found limit old.pending) in
-        let n : times i (ids_of new.pending) ≡ times i (ids_of (recent limit (timed found old.pending))) = ap (λ ps. times i (ids_of ps)) s.pending in
-        let o : times i (ids_of old.pending) ≤ 1 = b.once i in
-        omega arith;
-    pending_seen = λ i h. let k = kept i h in s.seen i ∙ (λ j. b.pending_seen i k.1 j && not ((outdated_among found limit old.pending i ∙ ap (λ o. o && is_among i (ids_of old.pending)) (was_not _ k.0)) j));
-    accepted = λ i h. b.accepted i (kept i h).1;
-    seen = λ i h.
-        let both = and_parts (set.contains old.seen i) (not (is_among i (outdated limit (timed found old.pending)))) (sym (s.seen i) ∙ h) in
-        ⊎_elim (λ there. inl (is_kept i there both.1)) inr (b.seen i both.0);
-    remembered = λ i h. ⊎_elim (b.remembered i) (λ o. b.accepted i (and_parts _ _ (sym (outdated_among found limit old.pending i) ∙ o)).1) (or_cases _ _ (sym (s.remembered i) ∙ h));
-    shown = λ i. ap (λ w. set.contains w.hidden i) s.others ∙ b.shown i;
-    unbegun = ap (λ w. w.begun) s.others ∙ b.unbegun;
-    timely = λ order e p c. recent_timed found limit old.pending p (subst (λ ps. Contains ps p) s.pending c) ∙ ap (λ f. time_of (objects f) p.id) (sym stored);
-  }
-    where
-      limit : Option ℤ
-      limit = cutoff mode.All sorting
-
-      found : Objects
-      found = objects old.store
-
-      stored : new.store ≡ old.store
-      stored = ap (λ w. w.store) s.others
-
-      was_not : (o : Bool) → not o ≡ true → o ≡ false
-      was_not true e = absurd (false≢true e)
-      was_not false e = refl
-
-      kept : (i : ObjectId) → is_among i (ids_of new.pending) ≡ true → (not (is_older (time_of found i) limit) ≡ true) × (is_among i (ids_of old.pending) ≡ true)
-      kept i h = and_parts _ _ (sym (ap (λ ps. is_among i (ids_of ps)) s.pending ∙ recent_among found limit old.pending i) ∙ h)
-
-      is_kept : (i : ObjectId) → is_among i (ids_of old.pending) ≡ true → not (is_among i (outdated limit (timed found old.pending))) ≡ true → is_among i (ids_of new.pending) ≡ true
-      is_kept i there young = ap (λ ps. is_among i (ids_of ps)) s.pending ∙ recent_among found limit old.pending i ∙ go (is_older (time_of found i) limit) (is_among i (ids_of old.pending)) there (sym (ap not (outdated_among found limit old.pending i)) ∙ young)
-        where
-          go : (o a : Bool) → a ≡ true → not (o && a) ≡ true → (not o && a) ≡ true
-          go true true e f = absurd (false≢true f)
-          go false true e f = refl
-          go o false e f = absurd (false≢true e)
-
-  fresh_of : (walk : SimpleWalk F P) → Built walk → IsFresh objects walk accepts
-  fresh_of walk b = record {
-    distinct = times_once (ids_of walk.pending) b.once;
-    pending_seen = λ i c. b.pending_seen i (among_from i (ids_of walk.pending) c);
-    seen = λ i h. ⊎_elim (λ e. inl (among_is i (ids_of walk.pending) e)) inr (b.seen i h);
-    remembered = b.remembered;
-    shown = b.shown;
-    unbegun = b.unbegun;
-    timed = λ order e. b.timely order (in_force walk.parents walk.sorting order e);
-  }
-
-  built_all : (tips : List ObjectId) {walk : SimpleWalk F P} → IsBuilt objects faulty answers store predicate tips walk → Built walk
-  built_all tips (made {walk = walk} m) = made_built tips walk m
-  built_all tips (breadth_first {walk = walk} b) =
-      let w : Built walk = built_all tips b in
-      record { tested = w.tested; same_store = w.same_store; once = w.once; pending_seen = w.pending_seen; accepted = w.accepted; seen = w.seen; remembered = w.remembered; shown = w.shown; unbegun = w.unbegun; timely = λ order e. cc }
-  built_all tips (by_time {walk = walk} {new = new} {by = sorting} b s) = by_time_built walk new sorting (built_all tips b) s
-  built_all tips (hides {walk = walk} b) =
-      let w : Built walk = built_all tips b in
-      record { tested = w.tested; same_store = w.same_store; once = w.once; pending_seen = w.pending_seen; accepted = w.accepted; seen = w.seen; remembered = w.remembered; shown = w.shown; unbegun = w.unbegun; timely = w.timely }
-  built_all tips (walks {walk = walk} b) =
-      let w : Built walk = built_all tips b in
-      record { tested = w.tested; same_store = w.same_store; once = w.once; pending_seen = w.pending_seen; accepted = w.accepted; seen = w.seen; remembered = w.remembered; shown = w.shown; unbegun = w.unbegun; timely = w.timely }
-  built_all tips (reads {walk = walk} b) =
-      let w : Built walk = built_all tips b in
-      record { tested = w.tested; same_store = w.same_store; once = w.once; pending_seen = w.pending_seen; accepted = w.accepted; seen = w.seen; remembered = w.remembered; shown = w.shown; unbegun = w.unbegun; timely = w.timely }
-
-  -- the law
-  pub built : (tips : List ObjectId) (walk : SimpleWalk F P) → IsBuilt objects faulty answers store predicate tips walk → IsFresh objects walk accepts × AnswersBy answers walk.predicate accepts × (walk.store ≡ store)
-  built tips walk b = let w = built_all tips b in (fresh_of walk w, w.tested, w.same_store)
+  timed_so : (ps : List Pending) (p : Pending) → Contains (timed objects ps) p → p.time ≡ time_of objects p.id
+  timed_so [] p h = absurd (no_member p h)
+  timed_so (q ∷ ps) p h =
+      ⊎_elim (λ e. ap (λ x. x.time) (sym e) ∙ ap (λ x. time_of objects x.id) e) (timed_so ps p) (Contains-cons_cases p (record { id = q.id; time = time_of objects q.id }) (timed objects ps) h)
 
 module _ {F P : Type 0} (objects : F → Objects) (faulty : F → ObjectId → Type 0) (answers : P → ObjectId → Bool → P → Type 0) where
   -- whatever the predicate answers, sorting leaves nothing pending twice, and nothing that isn't seen
@@ -197,21 +86,116 @@ module _ {F P : Type 0} (objects : F → Objects) (faulty : F → ObjectId → T
           let none : times j (ids_of new.pending) ≡ 0 = ap (λ ps. times j (ids_of ps)) s.pending ∙ times_none j (ids_of (recent limit (timed found old.pending))) (recent_among found limit old.pending j ∙ ap (λ o. not o && is_among j (ids_of old.pending)) e) in
           omega arith
       go j false e =
-          let f : times j (ids_of (recent limit (timed found old.pending))) ≤ times j (ids_of (timed found old.pending)) = times-filter (λ p. not (is_older p.time limit)) (timed found old.pending) j in
-          let t : times j (ids_of (timed found old.pending)) ≡ times j (ids_of old.pending) = ap (times j) (timed_ids found limit old.pending) in
+          let f : times j (ids_of (recent limit (timed found old.pending))) ≤ times j (ids_of (timed found old.pending)) = (fewer_filter (λ p. not (is_older p.time limit)) (timed found old.pending)).as_often j in
+          let t : times j (ids_of (timed found old.pending)) ≡ times j (ids_of old.pending) = ap (times j) (timed_ids found old.pending) in
           let n : times j (ids_of new.pending) ≡ times j (ids_of (recent limit (timed found old.pending))) = ap (λ ps. times j (ids_of ps)) s.pending in
           let k : times j (ids_of old.pending) + 0 ≤ cond (set.contains old.seen j) 1 0 = sole j in
           let seen : set.contains new.seen j ≡ set.contains old.seen j = s.seen j ∙ ap (λ o. set.contains old.seen j && not o) (outdated_among found limit old.pending j ∙ ap (λ o. o && is_among j (ids_of old.pending)) e) ∙ and-true (set.contains old.seen j) in
           subst (λ b. times j (ids_of new.pending) + 0 ≤ cond b 1 0) (sym seen) (omega arith)
 
   built_sole : {store : F} {predicate : P} {tips : List ObjectId} {walk : SimpleWalk F P} → IsBuilt objects faulty answers store predicate tips walk → IsSole objects faulty answers [] walk
-  built_sole (made m) = sole_all objects faulty answers [] false m (λ j. omega arith)
+  built_sole (made m) = asked_sole objects faulty answers [] (asking objects faulty answers {Named = λ i. Unit {0}} (λ i c. tt) m) (λ j. omega arith)
   built_sole (breadth_first b) = built_sole b
   built_sole (by_time {walk = walk} {new = new} {by = sorting} b s) = sorted_sole walk new sorting (built_sole b) s
   built_sole (hides b) = built_sole b
   built_sole (walks b) = built_sole b
   built_sole (reads b) = built_sole b
 
+module _ {F P : Type 0} (objects : F → Objects) (faulty : F → ObjectId → Type 0) (answers : P → ObjectId → Bool → P → Type 0) (accepts : ObjectId → Bool) (store : F) (predicate : P) (by_test : AnswersBy answers predicate accepts) where
+  -- what every builder call keeps
+  record Built (walk : SimpleWalk F P) : Type 0 where
+    tested : AnswersBy answers walk.predicate accepts
+    same_store : walk.store ≡ store
+    accepted : (i : ObjectId) → is_among i (ids_of walk.pending) ≡ true → accepts i ≡ true
+    seen : (i : ObjectId) → set.contains walk.seen i ≡ true → (is_among i (ids_of walk.pending) ≡ true) ⊎ (accepts i ≡ false)
+    remembered : (i : ObjectId) → set.contains walk.remembered i ≡ true → accepts i ≡ true
+    shown : (i : ObjectId) → set.contains walk.hidden i ≡ false
+    unbegun : walk.begun ≡ false
+    timely : (order : CommitTimeOrder) → time_order mode.All walk.sorting ≡ Some order → (p : Pending) → Contains walk.pending p → p.time ≡ time_of (objects walk.store) p.id
+
+  made_built : (tips : List ObjectId) (walk : SimpleWalk F P) → IsMade objects faulty answers store predicate tips walk → Built walk
+  made_built tips walk m =
+      let new = is_new_walk objects faulty answers store predicate accepts tips walk by_test m in
+      record {
+        tested = new.by_test;
+        same_store = new.same_store;
+        accepted = λ i h. (pending_is objects faulty answers store predicate accepts tips walk by_test m i (among_is i (ids_of walk.pending) h)).0;
+        seen = λ i h. ⊎_elim (λ c. inl (among_from i (ids_of walk.pending) c)) inr (new.fresh.seen i h);
+        remembered = new.fresh.remembered;
+        shown = new.fresh.shown;
+        unbegun = new.fresh.unbegun;
+        timely = λ order e. timeless new.breadth_first e;
+      }
+    where
+      timeless : {order : CommitTimeOrder} {A : Type 0} → walk.sorting ≡ by.BreadthFirst → time_order mode.All walk.sorting ≡ Some order → A
+      timeless b e = cc (ap (time_order mode.All) b)
+
+  by_time_built : (old new : SimpleWalk F P) (sorting : Sorting) → Built old → IsSortedByTime objects old sorting new → Built new
+  by_time_built old new sorting b s = record {
+    tested = subst (λ p. AnswersBy answers p accepts) (sym (ap (λ w. w.predicate) s.others)) b.tested;
+    same_store = stored ∙ b.same_store;
+    accepted = λ i h. b.accepted i (kept i h).1;
+    seen = λ i h.
+        let both = and_parts (set.contains old.seen i) (not (is_among i (outdated limit (timed found old.pending)))) (sym (s.seen i) ∙ h) in
+        ⊎_elim (λ there. inl (is_kept i there both.1)) inr (b.seen i both.0);
+    remembered = λ i h. ⊎_elim (b.remembered i) (λ o. b.accepted i (and_parts _ _ (sym (outdated_among found limit old.pending i) ∙ o)).1) (or_cases _ _ (sym (s.remembered i) ∙ h));
+    shown = λ i. ap (λ w. set.contains w.hidden i) s.others ∙ b.shown i;
+    unbegun = ap (λ w. w.begun) s.others ∙ b.unbegun;
+    timely = λ order e p c. timed_so found old.pending p (filter_within (λ p. not (is_older p.time limit)) (timed found old.pending) p (subst (λ ps. Contains ps p) s.pending c)) ∙ ap (λ f. time_of (objects f) p.id) (sym stored);
+  }
+    where
+      limit : Option ℤ
+      limit = cutoff mode.All sorting
+
+      found : Objects
+      found = objects old.store
+
+      stored : new.store ≡ old.store
+      stored = ap (λ w. w.store) s.others
+
+      kept : (i : ObjectId) → is_among i (ids_of new.pending) ≡ true → (not (is_older (time_of found i) limit) ≡ true) × (is_among i (ids_of old.pending) ≡ true)
+      kept i h = and_parts _ _ (sym (ap (λ ps. is_among i (ids_of ps)) s.pending ∙ recent_among found limit old.pending i) ∙ h)
+
+      is_kept : (i : ObjectId) → is_among i (ids_of old.pending) ≡ true → not (is_among i (outdated limit (timed found old.pending))) ≡ true → is_among i (ids_of new.pending) ≡ true
+      is_kept i there young = ap (λ ps. is_among i (ids_of ps)) s.pending ∙ recent_among found limit old.pending i ∙ go (is_older (time_of found i) limit) (is_among i (ids_of old.pending)) there (sym (ap not (outdated_among found limit old.pending i)) ∙ young)
+        where
+          go : (o a : Bool) → a ≡ true → not (o && a) ≡ true → (not o && a) ≡ true
+          go true true e f = absurd (false≢true f)
+          go false true e f = refl
+          go o false e f = absurd (false≢true e)
+
+  fresh_of : (walk : SimpleWalk F P) → Built walk → IsSole objects faulty answers [] walk → IsFresh objects walk accepts
+  fresh_of walk b sole = record {
+    distinct = times_once (ids_of walk.pending) (λ i. let k : times i (ids_of walk.pending) + 0 ≤ cond (set.contains walk.seen i) 1 0 = sole i in let n = once_or_never (set.contains walk.seen i) in omega arith);
+    pending_seen = λ i c. positive (set.contains walk.seen i) _ (among_times i (ids_of walk.pending) (among_from i (ids_of walk.pending) c)) (sole i);
+    seen = λ i h. ⊎_elim (λ e. inl (among_is i (ids_of walk.pending) e)) inr (b.seen i h);
+    remembered = b.remembered;
+    shown = b.shown;
+    unbegun = b.unbegun;
+    timed = λ order e. b.timely order (in_force walk.parents walk.sorting order e);
+  }
+
+  built_all : (tips : List ObjectId) {walk : SimpleWalk F P} → IsBuilt objects faulty answers store predicate tips walk → Built walk
+  built_all tips (made {walk = walk} m) = made_built tips walk m
+  built_all tips (breadth_first {walk = walk} b) =
+      let w : Built walk = built_all tips b in
+      record { tested = w.tested; same_store = w.same_store; accepted = w.accepted; seen = w.seen; remembered = w.remembered; shown = w.shown; unbegun = w.unbegun; timely = λ order e. cc }
+  built_all tips (by_time {walk = walk} {new = new} {by = sorting} b s) = by_time_built walk new sorting (built_all tips b) s
+  built_all tips (hides {walk = walk} b) =
+      let w : Built walk = built_all tips b in
+      record { tested = w.tested; same_store = w.same_store; accepted = w.accepted; seen = w.seen; remembered = w.remembered; shown = w.shown; unbegun = w.unbegun; timely = w.timely }
+  built_all tips (walks {walk = walk} b) =
+      let w : Built walk = built_all tips b in
+      record { tested = w.tested; same_store = w.same_store; accepted = w.accepted; seen = w.seen; remembered = w.remembered; shown = w.shown; unbegun = w.unbegun; timely = w.timely }
+  built_all tips (reads {walk = walk} b) =
+      let w : Built walk = built_all tips b in
+      record { tested = w.tested; same_store = w.same_store; accepted = w.accepted; seen = w.seen; remembered = w.remembered; shown = w.shown; unbegun = w.unbegun; timely = w.timely }
+
+  -- the law
+  pub built : (tips : List ObjectId) (walk : SimpleWalk F P) → IsBuilt objects faulty answers store predicate tips walk → IsFresh objects walk accepts × AnswersBy answers walk.predicate accepts × (walk.store ≡ store)
+  built tips walk b = let w = built_all tips b in (fresh_of walk w (built_sole objects faulty answers b), w.tested, w.same_store)
+
+module _ {F P : Type 0} (objects : F → Objects) (faulty : F → ObjectId → Type 0) (answers : P → ObjectId → Bool → P → Type 0) where
   -- the law
   pub never_twice : (store : F) (predicate : P) (tips : List ObjectId) (walk new : SimpleWalk F P) (list : List (Result Info Error)) → IsBuilt objects faulty answers store predicate tips walk → Yields (Next objects faulty answers) walk list new → AreDistinct (given_ids list)
-  never_twice store predicate tips walk new list b drawn = drawn_once objects faulty answers walk new list (built_sole b) drawn
+  never_twice store predicate tips walk new list b drawn = drawn_once objects faulty answers walk new list (built_sole objects faulty answers b) drawn

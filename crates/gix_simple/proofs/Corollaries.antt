@@ -22,13 +22,14 @@ use Rattle.gix_simple.specs.Walk.{SimpleWalk, time_order, cutoff, is_older}
 use Rattle.gix_revwalk.specs.Infos.{IsInfo, IsRowGeneration}
 use Rattle.gix_revwalk.specs.Ids.{ids_of, AreDistinct}
 use Rattle.gix_simple.specs.Laws.{IsGiven, IsInOrder, IsBeginning, GivesInOrder, GivesBeginning, IsWholeRun, IsBegunRun, starts_of, next_of, is_kept, kept_parents, accepted_parents, recent_parents, IsPlain, IsPlainRun}
+use Rattle.gix_hash.proofs.Lists.{filter_all}
 use Rattle.gix_hash.proofs.Ids.Membership.{among_from, among_is, Contains-here, Contains-cons_cases, no_member}
 use Rattle.gix_revwalk.proofs.NewIds.{among-filter, named-push}
 use Rattle.gix_revwalk.proofs.Orders.{IsWorkOrder, IsWorkBeginning, IsDistinctFrom, work_from_breadth, work_from_time, work_begins, work_from_breadth_beginning, work_from_time_beginning, reached_is_given, given_is_reached, given_once}
 use Rattle.std.proofs.Math.Path.{transport}
 use Rattle.std.proofs.Math.Bool.{and-true}
 use Rattle.gix_simple.proofs.Treated.{no_cutoff}
-use Rattle.gix_simple.proofs.Theorem.{gives_in_order, gives_beginning}
+use Rattle.gix_simple.proofs.Theorem.{no_start, gives_in_order, gives_beginning}
 use Rattle.gix_revwalk.proofs.ReadsWhole.{walked_within}
 
 -- one and all
@@ -123,12 +124,7 @@ times_fall time next starts ids h older k a b ea eb =
 
 -- walks without hidden tips and rows
 pub all_kept : (xs : List ObjectId) → filter (λ i. not false) xs ≡ xs
-all_kept [] = refl
-all_kept (x ∷ xs) = ap (λ ys. x ∷ ys) (all_kept xs)
-
-no_reach : (next : ObjectId → List ObjectId) (starts : List ObjectId) → starts ≡ [] → (i : ObjectId) → Reaches next starts i → ⊥
-no_reach next starts e i (start s) = no_member i (subst (λ xs. Contains xs i) e s)
-no_reach next starts e i (step {c = c} r n) = no_reach next starts e c r
+all_kept xs = filter_all (λ i. not false) xs (λ i c. refl)
 
 zip_weaker : {A B : Type 0} (R S : A → B → Type 0) → ((a : A) (b : B) → R a b → S a b) → (xs : List A) (ys : List B) → AllZip R xs ys → AllZip S xs ys
 zip_weaker R S f [] [] h = tt
@@ -154,7 +150,7 @@ module _ {F P : Type 0} (objects : F → Objects) (faulty : F → ObjectId → T
   plain_gives : (next : ObjectId → List ObjectId) (list : List (Result Info Error)) → next_of objects walk accepts (λ i. false) ≡ next → IsPlainRun objects faulty answers walk accepts next list → GivesInOrder objects walk accepts (λ i. false) list
   plain_gives next list same run =
       gives_in_order objects faulty answers walk accepts (λ i. false) run.by_test run.fresh
-      (λ i. (λ e. absurd (false≢true e), λ r. absurd (no_reach _ walk.hidden_tips run.open_to i r)))
+      (λ i. (λ e. absurd (false≢true e), λ r. absurd (no_start _ walk.hidden_tips i r run.open_to)))
       (record { given = λ i r. run.whole i (subst (λ n. Reaches n (ids_of walk.pending) i) same (subst (λ ts. Reaches (next_of objects walk accepts (λ j. false)) ts i) (all_kept (ids_of walk.pending)) r)); painted = λ some hides. absurd (hides run.open_to) })
       (subst (λ rows. IsAgreeing (objects walk.store) rows) (sym run.rowless) (λ row n. absurd (no_member row n)))
       list run.unrefused run.drawn
@@ -196,4 +192,4 @@ module _ {F P : Type 0} (objects : F → Objects) (faulty : F → ObjectId → T
 
 -- the test of no hidden tips
 pub no_tips : {F P : Type 0} (objects : F → Objects) (walk : SimpleWalk F P) (shown : ObjectId → Bool) → Tells shown (Reaches (parents_of (objects walk.store)) []) → shown ≡ (λ i. false)
-no_tips objects walk shown tells = λ k i. (false_from_ne_true (shown i) (λ e. no_reach (parents_of (objects walk.store)) [] refl i ((tells i).0 e))) k
+no_tips objects walk shown tells = λ k i. (false_from_ne_true (shown i) (λ e. no_start (parents_of (objects walk.store)) [] i ((tells i).0 e) refl)) k

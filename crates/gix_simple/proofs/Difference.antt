@@ -5,7 +5,7 @@ use Rattle.std.specs.List.{AllZip}
 use Rattle.std.proofs.Math.Path.{transport}
 use Rattle.std.proofs.Common.{refl, sym, ap, subst, inl, inr, ⊎_elim, ◌∙◌}
 use Rattle.std.proofs.lemmas.Bool.{false≢true, true≢false, false_from_ne_true}
-use Rattle.std.proofs.lemmas.List.Elements.{Contains-append_left, Contains-append_right, Contains-append_cases, All-nil, All-cons}
+use Rattle.std.proofs.lemmas.List.Elements.{Contains-append_left, Contains-append_right, Contains-append_cases, All-weaker}
 use Rattle.gix_hash.specs.declared.ObjectId.{ObjectId}
 use Rattle.gix_object.specs.CommitText.{Commit}
 use Rattle.gix_object.specs.Object.{Objects}
@@ -14,7 +14,7 @@ use Rattle.gix_commitgraph.specs.Rows.{GraphRow, row_of}
 use Rattle.gix_revwalk.specs.declared.Info.{Info}
 use Rattle.gix_revwalk.specs.declared.Parents.{Parents}
 use Rattle.gix_revwalk.specs.declared.Parents.TheVariants as mode
-use Rattle.gix_revwalk.specs.declared.Pending.{Pending}
+use Rattle.gix_revwalk.specs.Pending.{Pending}
 use Rattle.gix_revwalk.specs.declared.CommitTimeOrder.{CommitTimeOrder}
 use Rattle.gix_simple.specs.declared.Error.{Error}
 use Rattle.gix_simple.specs.declared.Error.TheVariants as error
@@ -27,21 +27,23 @@ use Rattle.gix_revwalk.specs.Ids.{AreDistinct, ids_of, new_ids}
 use Rattle.gix_simple.specs.Building.{IsBuilt, made, breadth_first, by_time, hides, walks, reads, IsUncut, recent, timed}
 use Rattle.gix_simple.specs.Laws.{IsFresh, IsGiven, IsNoRefusal, IsWholeRun, GivesInOrder, GivesDifference, given_ids, kept_parents, next_of, starts_of}
 use Rattle.gix_simple.specs.Walk.{SimpleWalk, FirstStep, unhidden, paints, faulty_history, no_memory, Next, initial, later, cutoff, time_order}
-use Rattle.gix_hash.proofs.Ids.Membership.{among_from, among_is, Contains-here, Contains-there, Contains-cons_cases, no_member}
+use Rattle.gix_hash.proofs.Ids.Membership.{among_from, among_is, Contains-here, Contains-cons_cases, no_member}
 use Rattle.gix_hash.proofs.Lists.{filter_within, filter_all}
 use Rattle.gix_paint.proofs.Invariant.{own_history}
 use Rattle.gix_revwalk.proofs.Drained.{at_end, at_first}
 use Rattle.gix_revwalk.proofs.NewIds.{times_among, times-fresh}
 use Rattle.gix_revwalk.proofs.Reached.{reach_more}
 use Rattle.gix_revwalk.proofs.ReadsWhole.{row_stands, walked_within}
-use Rattle.gix_simple.proofs.Builders.{built}
-use Rattle.gix_simple.proofs.Corollaries.{gives, gives_once, shown_reached, reached_shown}
+use Rattle.gix_simple.proofs.Builders.{recent_ids, built}
+use Rattle.gix_simple.proofs.Corollaries.{all_kept, gives, gives_once, shown_reached, reached_shown}
+pub use Rattle.gix_simple.proofs.Theorem.{no_start}
+use Rattle.gix_simple.proofs.OneStep.{IsCommit}
+use Rattle.gix_simple.proofs.Faultless.{only_commits}
 use Rattle.gix_simple.proofs.MadeOfTips.{is_new_walk, fresh_among}
 use Rattle.gix_simple.proofs.ReachDecided.{reach_test}
 
-pub recent_all : (objects : Objects) (ps : List Pending) → ids_of (recent None (timed objects ps)) ≡ ids_of ps
-recent_all objects [] = refl
-recent_all objects (p ∷ ps) = ap (λ is. p.id ∷ is) (recent_all objects ps)
+recent_all : (objects : Objects) (ps : List Pending) → ids_of (recent None (timed objects ps)) ≡ ids_of ps
+recent_all objects ps = recent_ids objects None ps ∙ all_kept (ids_of ps)
 
 pub whole_from : (objects : Objects) (i : ObjectId) → IsSome (commit_at objects i) → ReadsWhole objects i
 whole_from objects i h = go (commit_at objects i) refl h
@@ -77,15 +79,7 @@ module _ (objects : Objects) where
 
 -- an answer that is no fault is no refusal
 unrefused : (list : List (Result Info Error)) → ((e : Error) → Contains list (Err e) → ⊥) → All IsNoRefusal list
-unrefused [] h = All-nil IsNoRefusal
-unrefused (answer ∷ list) h = All-cons IsNoRefusal answer list (here error.Memory, here (error.Find existing.Store), here (error.HiddenGraph (hidden_by.Find existing.Store))) (unrefused list (λ e c. h e (Contains-there (Err e) answer list c)))
-  where
-    here : (e : Error) → answer ≢ Err e
-    here e s = h e (subst (λ x. Contains (x ∷ list) (Err e)) (sym s) (Contains-here (Err e) list))
-
-pub no_start : (next : ObjectId → List ObjectId) (starts : List ObjectId) (i : ObjectId) → Reaches next starts i → starts ≢ []
-no_start next starts i (start s) = λ e. no_member i (subst (λ xs. Contains xs i) e s)
-no_start next starts i (step {c = c} r n) = no_start next starts c r
+unrefused list h = All-weaker IsCommit IsNoRefusal (λ answer c. (c error.Memory, c (error.Find existing.Store), c (error.HiddenGraph (hidden_by.Find existing.Store)))) list (only_commits list h)
 
 module _ {F P : Type 0} (objects : F → Objects) (faulty : F → ObjectId → Type 0) (answers : P → ObjectId → Bool → P → Type 0) where
   -- a first step that gives no fault has read all that tips and hidden tips reach, by rows that agree or from the store

@@ -26,10 +26,11 @@ use Rattle.gix_simple.proofs.WholeWalk.{Known, Runs, MayStep, RunOf, BegunOf, ru
 use Rattle.gix_simple.proofs.Theorem.{set_up, begins_so, begins_from, in_order_from}
 use Rattle.gix_simple.proofs.Corollaries.{all_kept, begun_once, each_once}
 
-all_commits : (list : List (Result Info Error)) → ((e : Error) → Contains list (Err e) → ⊥) → All IsCommit list
-all_commits [] h = All-nil IsCommit
-all_commits (answer ∷ list) h =
-    All-cons IsCommit answer list (λ e s. h e (subst (λ x. Contains (x ∷ list) (Err e)) (sym s) (Contains-here (Err e) list))) (all_commits list (λ e c. h e (Contains-there (Err e) answer list c)))
+-- without a fault all answers are commits
+pub only_commits : (list : List (Result Info Error)) → ((e : Error) → Contains list (Err e) → ⊥) → All IsCommit list
+only_commits [] h = All-nil IsCommit
+only_commits (answer ∷ list) h =
+    All-cons IsCommit answer list (λ e s. h e (subst (λ x. Contains (x ∷ list) (Err e)) (sym s) (Contains-here (Err e) list))) (only_commits list (λ e c. h e (Contains-there (Err e) answer list c)))
 
 module _ {F P : Type 0} (objects : F → Objects) (faulty : F → ObjectId → Type 0) (answers : P → ObjectId → Bool → P → Type 0) (w : SimpleWalk F P) (accepts : ObjectId → Bool)
     (by_test : AnswersBy answers w.predicate accepts) (is_fresh : IsFresh objects w accepts) (open_to : w.hidden_tips ≡ []) (agreeing : IsAgreeing (objects w.store) w.rows) where
@@ -81,7 +82,7 @@ module _ {F P : Type 0} (objects : F → Objects) (faulty : F → ObjectId → T
 
   -- the law
   pub text_order : (list : List (Result Info Error)) → ((e : Error) → Contains list (Err e) → ⊥) → Drains (Next objects faulty answers) w list → GivesTextOrder objects w accepts list
-  text_order list commits drawn = ran list (run objects faulty answers setting knows list opened [] runs (all_commits list commits) (may list drawn))
+  text_order list commits drawn = ran list (run objects faulty answers setting knows list opened [] runs (only_commits list commits) (may list drawn))
 
   begun : (list : List (Result Info Error)) → BegunOf objects faulty answers setting [] list → BeginsTextOrder objects w accepts list
   begun list r =
@@ -95,7 +96,7 @@ module _ {F P : Type 0} (objects : F → Objects) (faulty : F → ObjectId → T
   pub text_beginning : (list : List (Result Info Error)) (last : SimpleWalk F P) → ((e : Error) → Contains list (Err e) → ⊥) → Yields (Next objects faulty answers) w list last → BeginsTextOrder objects w accepts list
   text_beginning [] last commits drawn = begun [] (record { ids = []; given_as = tt; begins = λ k i e. cc })
   text_beginning (answer ∷ left) last commits drawn =
-      begun (answer ∷ left) (begun_run objects faulty answers setting knows answer left opened drawn.0 last [] runs (all_commits (answer ∷ left) commits) (steps drawn.1) drawn.2)
+      begun (answer ∷ left) (begun_run objects faulty answers setting knows answer left opened drawn.0 last [] runs (only_commits (answer ∷ left) commits) (steps drawn.1) drawn.2)
 
 pub faultless : {F P : Type 0} (objects : F → Objects) (faulty : F → ObjectId → Type 0) (answers : P → ObjectId → Bool → P → Type 0) (walk : SimpleWalk F P) (accepts : ObjectId → Bool) (list : List (Result Info Error)) → IsFaultlessRun objects faulty answers walk accepts list → GivesTextOrder objects walk accepts list
 faultless objects faulty answers walk accepts list r = text_order objects faulty answers walk accepts r.by_test r.fresh r.open_to r.agreeing list r.commits r.drawn

@@ -1,6 +1,6 @@
 -- How the first step hides what hidden tips reach.
-use Rattle.std.specs.Prelude.{◌≡◌, ◌≢◌, ◌⊎◌, ◌==◌, ◌||◌, suc, List, [], ◌∷◌, Bool, true, false, not, filter, length, if◌then◌else◌, Option, Some, None, Result, Ok, Err}
-use Rattle.std.proofs.Common.{refl, sym, ap, subst, inl, inr, ⊎_elim, ◌∙◌, arith}
+use Rattle.std.specs.Prelude.{◌≡◌, ◌≢◌, ◌⊎◌, ◌==◌, ◌||◌, List, [], Bool, true, false, not, filter, length, if◌then◌else◌, Option, Some, None, Result, Ok, Err}
+use Rattle.std.proofs.Common.{refl, sym, ap, subst, inl, inr, ⊎_elim, ◌∙◌}
 use Rattle.std.proofs.lemmas.Bool.{false≢true}
 use Rattle.std.proofs.lemmas.Bool.Decides.{eqb_tells}
 use Rattle.std.specs.Iterator.{MakesProgress, at_most}
@@ -15,7 +15,7 @@ use Rattle.gix_simple.specs.declared.Error.TheVariants as error
 use Rattle.gix_paint.specs.declared.Hidden.{Hidden}
 use Rattle.gix_paint.specs.declared.Hidden.TheVariants as hidden_by
 use Rattle.gix_object.specs.declared.find.existing_iter.Error.TheVariants as existing
-use Rattle.gix_revwalk.specs.declared.Pending.{Pending}
+use Rattle.gix_revwalk.specs.Pending.{Pending}
 use Rattle.gix_paint.specs.Painting.{Paints, IsHiddenFault}
 use Rattle.gix_simple.specs.Errors.{error_of_hidden}
 use Rattle.gix_simple.specs.Inside.Steps.{Hides, nothing, paints, faulty_history, no_memory, unpainted}
@@ -24,13 +24,10 @@ use Rattle.gix_simple.specs.Walk.{SimpleWalk, Steps, FirstStep, Next, unhidden}
 use Rattle.gix_revwalk.specs.Ids.{ids_of}
 use Rattle.gix_simple.specs.Laws.{answers_left}
 use Rattle.gix_simple.proofs.Ends.{next_left}
+use Rattle.gix_simple.proofs.TimeKeys.{none_of}
 
 none_in : {X : Type 0} (xs : List X) → (length xs == 0) ≡ true → xs ≡ []
-none_in [] e = refl
-none_in (x ∷ xs) e = ⊎_elim (λ t. absurd (some t.1)) (λ f. absurd (false≢true (sym f.0 ∙ e))) (eqb_tells (length (x ∷ xs)) 0)
-  where
-    some : suc (length xs) ≡ 0 → ⊥
-    some k = omega arith
+none_in xs e = ⊎_elim (λ t. none_of xs t.1) (λ f. absurd (false≢true (sym f.0 ∙ e))) (eqb_tells (length xs) 0)
 
 module _ {F P : Type 0} (objects : F → Objects) (faulty : F → ObjectId → Type 0) (answers : P → ObjectId → Bool → P → Type 0) (old : SimpleWalk F P) where
   -- what was hidden is stepped over

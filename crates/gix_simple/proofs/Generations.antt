@@ -1,12 +1,10 @@
 -- The generations that a walk gives are the generations of its rows, up to where a corrupt row drops the rows.
-use Rattle.std.specs.Prelude.{◌≡◌, ◌⊎◌, ℕ, ℤ, suc, List, [], ◌∷◌, ◌++◌, filter, length, Bool, true, false, not, cond, Option, Some, None, Result, Ok, Err, All, Contains}
+use Rattle.std.specs.Prelude.{◌≡◌, ◌⊎◌, ℕ, ℤ, List, [], ◌∷◌, Bool, true, false, not, Option, Some, None, Result, Ok, Err, All, Contains}
 use Rattle.std.specs.Option.{option_map}
-use Rattle.std.proofs.Common.{refl, sym, ap, subst, inl, inr, ⊎_elim, ◌∙◌, arith}
+use Rattle.std.proofs.Common.{refl, sym, ap, subst, inl, inr, ⊎_elim, ◌∙◌}
 use Rattle.std.proofs.Math.Path.{transport}
 use Rattle.std.proofs.lemmas.Bool.{true≢false}
-use Rattle.std.proofs.lemmas.List.{map-append}
-use Rattle.std.proofs.lemmas.List.Sorted.{length_permutation, Contains-permutation, IsPermutation-map, IsPermutation-sym}
-use Rattle.std.proofs.lemmas.List.Elements.{recursion_from_All, All-from_recursion, Contains-append_cases}
+use Rattle.std.proofs.lemmas.List.Elements.{All-nil, All-cons}
 use Rattle.std.specs.FinMap as map_of
 use Rattle.std.specs.FinSet as set
 use Rattle.std.specs.Iterator.{Yields}
@@ -15,46 +13,27 @@ use Rattle.gix_object.specs.declared.Kind.TheVariants as object
 use Rattle.gix_object.specs.declared.decode.Error.{Error as DecodeError}
 use Rattle.gix_object.specs.declared.find.existing_iter.Error.TheVariants as existing
 use Rattle.gix_object.specs.CommitItems.{commit_items}
-use Rattle.gix_hash.specs.Id.{kind_of}
+use Rattle.gix_hash.specs.Id.{id_cmp, kind_of}
 use Rattle.gix_object.specs.Object.{Objects}
 use Rattle.gix_commitgraph.specs.Rows.{GraphRow, row_of}
 use Rattle.gix_revwalk.specs.declared.Info.{Info}
-use Rattle.gix_revwalk.specs.declared.CommitTimeOrder.{CommitTimeOrder}
 use Rattle.gix_simple.specs.declared.Error.{Error}
 use Rattle.gix_simple.specs.declared.Error.TheVariants as error
-use Rattle.gix_revwalk.specs.declared.Pending.{Pending}
+use Rattle.gix_revwalk.specs.Pending.{Pending}
 use Rattle.gix_revwalk.specs.Agreeing.{IsAgreeing}
 use Rattle.gix_revwalk.specs.Commits.{ReadsWhole, by_mode}
 use Rattle.gix_hash.specs.Reach.{Reaches, start, step}
-use Rattle.gix_simple.specs.Walk.{SimpleWalk, Treated, StoreFails, Holds, time_order, unrowed, Treats, hidden, known, refused, accepted, dropped, enqueued, store_fails, no_memory, no_memory_after, TreatsAll, none, more, stops, Concludes, given, broken, Takes, by_row, by_store, not_found, Chooses, first, best, Steps, took, painted, FirstStep, unhidden, paints, faulty_history, Next, initial, later}
+use Rattle.gix_simple.specs.Walk.{SimpleWalk, Treated, StoreFails, dropped, store_fails, no_memory, TreatsAll, more, Concludes, given, broken, Takes, by_row, by_store, not_found, Steps, took, painted, FirstStep, unhidden, paints, faulty_history, Next, initial, later}
 use Rattle.gix_revwalk.specs.Texts.{scanned, text_next, next_in}
 use Rattle.gix_revwalk.specs.RowParents.{ids_at, rows_if, kept_rows, IsUnrowed}
 use Rattle.gix_revwalk.specs.Ids.{ids_of}
 use Rattle.gix_simple.specs.Runs.{IsTold, IsUntold, IsAbout, HasCorruptRow, PaintingDrops, TellsGenerations}
-use Rattle.gix_hash.proofs.Ids.Membership.{no_member, Contains-here, Contains-there, Contains-cons_cases}
+use Rattle.gix_hash.proofs.Ids.Membership.{Contains-here, Contains-there, Contains-cons_cases}
 use Rattle.gix_paint.proofs.Invariant.{own_history}
 use Rattle.gix_revwalk.proofs.ReadsWhole.{row_stands, row_parents, corrupt_row}
 use Rattle.gix_revwalk.proofs.TextParents.{text_whole}
-use Rattle.gix_simple.proofs.Ends.{scan_by}
+use Rattle.gix_simple.proofs.Moves.{scan_by, Fewer, fewer_same, fewer_then, fewer_filter, fewer_within, Asking, rests, asks, asking, kept, Follows, IsGivenAs, concludes, fewer_chosen, next_moves, moves_pend}
 use Rattle.gix_revwalk.proofs.Reached.{reaches_from}
-use Rattle.gix_hash.proofs.Lists.{only_member}
-
--- one more becomes pending
-holds_more : (o : Option CommitTimeOrder) (old new : List Pending) (p : Pending) → Holds o (old ++ p ∷ []) new → (i : ObjectId) → Contains (ids_of new) i → Contains (ids_of old) i ⊎ (p.id ≡ i)
-holds_more o old new p h i m = ⊎_elim inl (λ c. inr (only_member p.id i c)) (Contains-append_cases (ids_of old) (p.id ∷ []) i (subst (λ ids. Contains ids i) (map-append (λ q. q.id) old (p ∷ [])) (go o h)))
-  where
-    go : (o : Option CommitTimeOrder) → Holds o (old ++ p ∷ []) new → Contains (ids_of (old ++ p ∷ [])) i
-    go None e = subst (λ ps. Contains (ids_of ps) i) e m
-    go (Some order) k = Contains-permutation (ids_of new) (ids_of (old ++ p ∷ [])) i (IsPermutation-sym (ids_of (old ++ p ∷ [])) (ids_of new) (IsPermutation-map (λ q. q.id) (old ++ p ∷ []) new k)) m
-
--- a part of what is pending
-filter_within : (keeps : Pending → Bool) (ps : List Pending) (i : ObjectId) → Contains (ids_of (filter keeps ps)) i → Contains (ids_of ps) i
-filter_within keeps [] i m = m
-filter_within keeps (p ∷ ps) i m = go (keeps p) (filter_within keeps ps i) m
-  where
-    go : (b : Bool) → (Contains (ids_of (filter keeps ps)) i → Contains (ids_of ps) i) → Contains (ids_of (cond b (p ∷ filter keeps ps) (filter keeps ps))) i → Contains (p.id ∷ ids_of ps) i
-    go true r m = ⊎_elim (λ e. subst (λ x. Contains (x ∷ ids_of ps) i) (sym e) (Contains-here i (ids_of ps))) (λ n. Contains-there i p.id (ids_of ps) (r n)) (Contains-cons_cases i p.id (ids_of (filter keeps ps)) m)
-    go false r m = Contains-there i p.id (ids_of ps) (r m)
 
 module _ {F P : Type 0} (objects : F → Objects) (faulty : F → ObjectId → Type 0) (answers : P → ObjectId → Bool → P → Type 0) where
   -- the parents that are walked, as texts name them
@@ -69,87 +48,37 @@ module _ {F P : Type 0} (objects : F → Objects) (faulty : F → ObjectId → T
     begun : v.begun ≡ w.begun
     pending : (i : ObjectId) → Contains (ids_of v.pending) i → Contains (ids_of w.pending) i ⊎ Named i
 
-  grows_then : {Named : ObjectId → Type 0} {w v u : SimpleWalk F P} → Grows Named w v → Grows Named v u → Grows Named w u
-  grows_then a b = record { store = b.store ∙ a.store; rows = b.rows ∙ a.rows; parents = b.parents ∙ a.parents; begun = b.begun ∙ a.begun; pending = λ i m. ⊎_elim (a.pending i) inr (b.pending i m) }
+  asked_pending : {Named : ObjectId → Type 0} {how : Treated} {w v : SimpleWalk F P} → Asking objects faulty answers Named w how v
+      → (i : ObjectId) → Contains (ids_of v.pending) i → Contains (ids_of w.pending) i ⊎ Named i
+  asked_pending (rests f) i m = inl m
+  asked_pending {Named} {w = w} (asks {p = p} n is_new a f rest) i m =
+      ⊎_elim (λ k. ⊎_elim (λ e. inr (subst Named e n)) inl (Contains-cons_cases i p.id (ids_of w.pending) (fewer_within f i k))) inr (asked_pending rest i m)
 
-  none_pends : (Named : ObjectId → Type 0) (ps old : List Pending) → ps ≡ [] → (i : ObjectId) → Contains (ids_of ps) i → Contains (ids_of old) i ⊎ Named i
-  none_pends Named ps old e i m = absurd (no_member i (subst (λ qs. Contains (ids_of qs) i) e m))
-
-  one_grows : (Named : ObjectId → Type 0) (w : SimpleWalk F P) (row : Bool) (i : ObjectId) {how : Treated} {v : SimpleWalk F P} → Named i → Treats objects faulty answers w row i how v → Grows Named w v
-  one_grows Named w row i n (hidden e) = record { store = refl; rows = refl; parents = refl; begun = refl; pending = λ j m. inl m }
-  one_grows Named w row i n (known e) = record { store = refl; rows = refl; parents = refl; begun = refl; pending = λ j m. inl m }
-  one_grows Named w row i n (refused is_new b) = record { store = refl; rows = refl; parents = refl; begun = refl; pending = λ j m. inl m }
-  one_grows Named w row i n (accepted is_new b time (dropped e)) = record { store = refl; rows = refl; parents = refl; begun = refl; pending = λ j m. inl m }
-  one_grows Named w row i n (accepted {time = at} is_new b time (enqueued {new = new} e holds)) = record {
-    store = refl;
-    rows = refl;
-    parents = refl;
-    begun = refl;
-    pending = λ j m. ⊎_elim inl (λ s. inr (subst Named s n)) (holds_more (time_order w.parents w.sorting) w.pending new (record { id = i; time = at }) holds j m);
-  }
-  one_grows Named w row i n (store_fails is_new b time) = record { store = refl; rows = refl; parents = refl; begun = refl; pending = λ j m. inl m }
-  one_grows Named w row i n no_memory = record { store = refl; rows = refl; parents = refl; begun = refl; pending = λ j m. inl m }
-  one_grows Named w row i n (no_memory_after {pending = ps} is_new b left) = record {
-    store = refl;
-    rows = refl;
-    parents = refl;
-    begun = refl;
-    pending = λ j m. ⊎_elim (λ e. inl (subst (λ qs. Contains (ids_of qs) j) e m)) (λ e. none_pends Named ps w.pending e j m) left;
-  }
-
-  all_grow : (Named : ObjectId → Type 0) (row : Bool) {w v : SimpleWalk F P} {ids : List ObjectId} {how : Treated} → ((i : ObjectId) → Contains ids i → Named i) → TreatsAll objects faulty answers row w ids how v → Grows Named w v
-  all_grow Named row n none = record { store = refl; rows = refl; parents = refl; begun = refl; pending = λ j m. inl m }
-  all_grow Named row n (more {old = w} {i = i} {ids = ids} t ts) = grows_then (one_grows Named w row i (n i (Contains-here i ids)) t) (all_grow Named row (λ j m. n j (Contains-there j i ids m)) ts)
-  all_grow Named row n (stops {old = w} {i = i} {ids = ids} ne t) = one_grows Named w row i (n i (Contains-here i ids)) t
-
-  -- what is given has this id and this generation
-  abbrev IsGivenAs : ObjectId → Option ℕ → Result Info Error → Type 0
-  IsGivenAs i generation (Ok info) = (info.id ≡ i) × (info.generation ≡ generation)
-  IsGivenAs i generation (Err e) = Unit {0}
-
-  concluded : (i : ObjectId) (ps : List ObjectId) (generation : Option ℕ) (time : Option ℤ) (text : List ℕ) (fault : Option DecodeError) (walk : SimpleWalk F P) {how : Treated} {answer : Result Info Error} {new : SimpleWalk F P}
-      → (Named : ObjectId → Type 0) → Concludes objects faulty answers i ps generation time text fault walk how answer new → IsGivenAs i generation answer × Grows Named walk new
-  concluded i ps generation time text fault walk Named (given f is) = ((is.same_id, is.same_generation), record { store = refl; rows = refl; parents = refl; begun = refl; pending = λ j m. inl m })
-  concluded i ps generation time text fault walk Named (broken f) = (tt, record { store = refl; rows = refl; parents = refl; begun = refl; pending = λ j m. inl m })
-  concluded i ps generation time text fault walk Named store_fails = (tt, record { store = refl; rows = refl; parents = refl; begun = refl; pending = λ j m. inl m })
-  concluded i ps generation time text fault walk Named no_memory = (tt, record { store = refl; rows = refl; parents = refl; begun = refl; pending = none_pends Named [] walk.pending refl })
+  grown : {Named : ObjectId → Type 0} {how : Treated} {w v new : SimpleWalk F P} → Asking objects faulty answers Named w how v → Follows objects faulty answers v new → new.rows ≡ v.rows → Grows Named w new
+  grown asked f rows =
+      let e = f.same in
+      let k = kept objects faulty answers asked in
+      record {
+        store = ap (λ x. x.store) e ∙ ap (λ x. x.store) k;
+        rows = rows ∙ ap (λ x. x.rows) k;
+        parents = ap (λ x. x.parents) e ∙ ap (λ x. x.parents) k;
+        begun = ap (λ x. x.begun) e ∙ ap (λ x. x.begun) k;
+        pending = λ i m. asked_pending asked i (fewer_within f.fewer i m);
+      }
 
   told_as : (rows : List GraphRow) (i : ObjectId) (generation : Option ℕ) (answer : Result Info Error) → option_map (λ row. row.generation) (row_of rows i) ≡ generation → IsGivenAs i generation answer → IsTold rows answer
   told_as rows i generation (Ok info) e g = g.1 ∙ sym e ∙ ap (λ j. option_map (λ row. row.generation) (row_of rows j)) (sym g.0)
   told_as rows i generation (Err x) e g = tt
 
-  untold_as : (i : ObjectId) (answer : Result Info Error) → IsGivenAs i None answer → IsUntold answer
-  untold_as i (Ok info) g = g.1
-  untold_as i (Err x) g = tt
-
-  abbrev IsFailed : Result Info Error → Type 0
-  IsFailed (Ok info) = ⊥
-  IsFailed (Err e) = Unit {0}
-
-  failed_told : (rows : List GraphRow) (answer : Result Info Error) → IsFailed answer → IsTold rows answer
-  failed_told rows (Ok info) f = absurd f
-  failed_told rows (Err e) f = tt
-
-  failed_untold : (answer : Result Info Error) → IsFailed answer → IsUntold answer
-  failed_untold (Ok info) f = absurd f
-  failed_untold (Err e) f = tt
+  -- without rows no generation is given
+  told_none : (answer : Result Info Error) → IsTold [] answer → IsUntold answer
+  told_none (Ok info) e = e
+  told_none (Err x) e = tt
 
   -- the store failed at a parent
-  store_failed_at : (w : SimpleWalk F P) (row : Bool) (i : ObjectId) {how : Treated} {v : SimpleWalk F P} → Treats objects faulty answers w row i how v → how ≡ StoreFails → faulty w.store i
-  store_failed_at w row i (hidden e) f = cc
-  store_failed_at w row i (known e) f = cc
-  store_failed_at w row i (refused is_new b) f = cc
-  store_failed_at w row i (accepted is_new b time queues) f = cc
-  store_failed_at w row i (store_fails is_new b (store_fails o from_store failed)) f = failed
-  store_failed_at w row i no_memory f = cc
-  store_failed_at w row i (no_memory_after is_new b left) f = cc
-
-  store_failed : (row : Bool) {w v : SimpleWalk F P} {ids : List ObjectId} {how : Treated} → TreatsAll objects faulty answers row w ids how v → how ≡ StoreFails → (p : ObjectId) × Contains ids p × faulty w.store p
-  store_failed row none f = cc
-  store_failed row (more {old = w} {i = i} {ids = ids} t ts) f =
-      let k = store_failed row ts f in
-      (k.0, Contains-there k.0 i ids k.1, subst (λ s. faulty s k.0) (one_grows (λ j. Unit {0}) w row i tt t).store k.2)
-  store_failed row (stops {old = w} {i = i} {ids = ids} ne t) f = (i, Contains-here i ids, store_failed_at w row i t f)
+  store_failed : {Named : ObjectId → Type 0} {w v : SimpleWalk F P} → Asking objects faulty answers Named w StoreFails v → (i : ObjectId) × Named i × faulty w.store i
+  store_failed (rests f) = f refl
+  store_failed (asks n is_new a f rest) = store_failed rest
 
   -- what is pending afterwards is reached
   record Descends (w new : SimpleWalk F P) : Type 0 where
@@ -158,10 +87,11 @@ module _ {F P : Type 0} (objects : F → Objects) (faulty : F → ObjectId → T
     reached : IsAgreeing (objects w.store) w.rows → (i : ObjectId) → Contains (ids_of new.pending) i → Reaches (text_walked w) (ids_of w.pending) i
 
   -- a step keeps the rows and gives their generation, or drops them for a corrupt row, or fails and is the last
-  data Tells (w : SimpleWalk F P) (answer : Result Info Error) (new : SimpleWalk F P) : Type 0 where
-    keeps : new.store ≡ w.store → new.rows ≡ w.rows → Descends w new → IsTold w.rows answer → Tells w answer new
-    loses : new.store ≡ w.store → new.rows ≡ [] → IsUntold answer → (IsAgreeing (objects w.store) w.rows → HasCorruptRow objects faulty w answer ⊎ PaintingDrops objects w) → Tells w answer new
-    ends : new.pending ≡ [] → IsFailed answer → Tells w answer new
+  data Tells (w : SimpleWalk F P) : Result Info Error → SimpleWalk F P → Type 0 where
+    keeps : {answer : Result Info Error} {new : SimpleWalk F P} → new.store ≡ w.store → new.rows ≡ w.rows → Descends w new → IsTold w.rows answer → Tells w answer new
+    loses : {answer : Result Info Error} {new : SimpleWalk F P} → new.store ≡ w.store → new.rows ≡ [] → IsUntold answer
+        → (IsAgreeing (objects w.store) w.rows → HasCorruptRow objects faulty w answer ⊎ PaintingDrops objects w) → Tells w answer new
+    ends : {e : Error} {new : SimpleWalk F P} → new.pending ≡ [] → Tells w (Err e) new
 
   -- a row that names no ids is corrupt
   corrupt : (w : SimpleWalk F P) (i : ObjectId) (row : GraphRow) (answer : Result Info Error) → row_of w.rows i ≡ Some row → ids_at w.rows row.parents ≡ None → Contains (ids_of w.pending) i → IsAbout (objects w.store) (faulty w.store) w.parents i answer → IsAgreeing (objects w.store) w.rows → HasCorruptRow objects faulty w answer
@@ -179,30 +109,29 @@ module _ {F P : Type 0} (objects : F → Objects) (faulty : F → ObjectId → T
   abbrev Reached : SimpleWalk F P → ObjectId → Type 0
   Reached w i = IsAgreeing (objects w.store) w.rows → Reaches (text_walked w) (ids_of w.pending) i
 
-  module _ (w : SimpleWalk F P) (p : Pending) (others : List Pending) (chooses : Chooses objects faulty answers w p others) (is_begun : w.begun ≡ true) where
-    chosen : (i : ObjectId) → Contains (p.id ∷ ids_of others) i → Contains (ids_of w.pending) i
-    chosen i m = go chooses
-      where
-        go : Chooses objects faulty answers w p others → Contains (ids_of w.pending) i
-        go (first t e) = subst (λ ps. Contains (ids_of ps) i) (sym e) m
-        go (best t perm no_worse) = Contains-permutation (p.id ∷ ids_of others) (ids_of w.pending) i (IsPermutation-sym (ids_of w.pending) (p.id ∷ ids_of others) (IsPermutation-map (λ q. q.id) w.pending (p ∷ others) perm)) m
+  -- a commit is taken from a walk in which no more is pending
+  module _ (w : SimpleWalk F P) (begun : Bool) (is_begun : begun ≡ true) (tips : List ObjectId) (marks : set.FinSet id_cmp) (p : Pending) (others : List Pending)
+      (chosen : (i : ObjectId) → Contains (p.id ∷ ids_of others) i → Contains (ids_of w.pending) i) where
+    -- what is left, with these rows
+    abbrev left : List GraphRow → SimpleWalk F P
+    left rows = record w { rows = rows; pending = others; begun = begun; hidden_tips = tips; hidden = marks }
 
-    descends : {new : SimpleWalk F P} (v : SimpleWalk F P) → v.parents ≡ w.parents → v.begun ≡ w.begun → v.pending ≡ others → Grows (Reached w) v new → Descends w new
-    descends v parents begun pending g = record {
-      parents = g.parents ∙ parents;
-      begun = g.begun ∙ begun ∙ is_begun;
-      reached = λ agrees i m. ⊎_elim (λ c. start (chosen i (Contains-there i p.id (ids_of others) (subst (λ ps. Contains (ids_of ps) i) pending c)))) (λ n. n agrees) (g.pending i m);
+    descends : (rows : List GraphRow) {new : SimpleWalk F P} → Grows (Reached w) (left rows) new → Descends w new
+    descends rows g = record {
+      parents = g.parents;
+      begun = g.begun ∙ is_begun;
+      reached = λ agrees i m. ⊎_elim (λ c. start (chosen i (Contains-there i p.id (ids_of others) c))) (λ n. n agrees) (g.pending i m);
     }
 
     -- a commit without a row that can be read
-    unrowed_tells : (answer : Result Info Error) {new : SimpleWalk F P} → IsUnrowed w.rows p.id → IsGivenAs p.id None answer → IsAbout (objects w.store) (faulty w.store) w.parents p.id answer → Grows (Reached w) (unrowed (record w { pending = others }) p.id) new → Tells w answer new
+    unrowed_tells : (answer : Result Info Error) {new : SimpleWalk F P} → IsUnrowed w.rows p.id → IsGivenAs p.id None answer → IsAbout (objects w.store) (faulty w.store) w.parents p.id answer → Grows (Reached w) (left (kept_rows w.rows (row_of w.rows p.id))) new → Tells w answer new
     unrowed_tells answer {new} unread g about grows = go (row_of w.rows p.id) refl
       where
         go : (o : Option GraphRow) → row_of w.rows p.id ≡ o → Tells w answer new
-        go None e = keeps grows.store (grows.rows ∙ ap (kept_rows w.rows) e) (descends (unrowed (record w { pending = others }) p.id) refl refl refl grows) (told_as w.rows p.id None answer (ap (option_map (λ row. row.generation)) e) g)
+        go None e = keeps grows.store (grows.rows ∙ ap (kept_rows w.rows) e) (descends _ grows) (told_as w.rows p.id None answer (ap (option_map (λ row. row.generation)) e) g)
         go (Some row) e =
             let n : ids_at w.rows row.parents ≡ None = unread row e in
-            loses grows.store (grows.rows ∙ ap (kept_rows w.rows) e ∙ ap (rows_if w.rows) n) (untold_as p.id answer g) (λ agrees. inl (corrupt w p.id row answer e n (chosen p.id (Contains-here p.id (ids_of others))) about agrees))
+            loses grows.store (grows.rows ∙ ap (kept_rows w.rows) e ∙ ap (rows_if w.rows) n) (told_none answer (told_as [] p.id None answer refl g)) (λ agrees. inl (corrupt w p.id row answer e n (chosen p.id (Contains-here p.id (ids_of others))) about agrees))
 
     reached_next : (i : ObjectId) → Contains (text_walked w p.id) i → Reached w i
     reached_next i m agrees = step (start (chosen p.id (Contains-here p.id (ids_of others)))) m
@@ -212,135 +141,94 @@ module _ {F P : Type 0} (objects : F → Objects) (faulty : F → ObjectId → T
 
     -- what is pending after the parents that a text names were treated
     concluded_after : (bytes : List ℕ) → map_of.get (objects w.store) p.id ≡ Some (record { kind = object.Commit; bytes = bytes }) → {how : Treated} {walk new : SimpleWalk F P} {generation : Option ℕ} {time : Option ℤ} {fault : Option DecodeError} {answer : Result Info Error}
-        → TreatsAll objects faulty answers false (unrowed (record w { pending = others }) p.id) (scanned w.parents (commit_items (kind_of p.id) bytes)).0 how walk
-        → Concludes objects faulty answers p.id (scanned w.parents (commit_items (kind_of p.id) bytes)).0 generation time bytes fault walk how answer new → Grows (Reached w) (unrowed (record w { pending = others }) p.id) new
-    concluded_after bytes e {walk = walk} treats concludes =
-        grows_then (all_grow (Reached w) false (λ i m. reached_next i (subst (λ ids. Contains ids i) (named_by_text bytes e) m)) treats) (concluded p.id _ _ _ _ _ walk (Reached w) concludes).1
+        → TreatsAll objects faulty answers false (left (kept_rows w.rows (row_of w.rows p.id))) (scanned w.parents (commit_items (kind_of p.id) bytes)).0 how walk
+        → Concludes objects faulty answers p.id (scanned w.parents (commit_items (kind_of p.id) bytes)).0 generation time bytes fault walk how answer new → Grows (Reached w) (left (kept_rows w.rows (row_of w.rows p.id))) new
+    concluded_after bytes e treats c =
+        let k = concludes objects faulty answers c in
+        grown (asking objects faulty answers (λ i m. reached_next i (subst (λ ids. Contains ids i) (named_by_text bytes e) m)) treats) k.0 k.1
 
-    takes_tells : {answer : Result Info Error} {new : SimpleWalk F P} → Takes objects faulty answers (record w { pending = others }) p answer new → Tells w answer new
-    takes_tells {answer} (by_row {row = row} {ids = ids} {walk = walk} r e treats concludes) =
-        let c = concluded p.id _ _ _ _ _ walk (Reached w) concludes in
-        let g = grows_then (all_grow (Reached w) true named treats) c.1 in
-        keeps g.store g.rows (descends (record w { pending = others }) refl refl refl g) (told_as w.rows p.id (Some row.generation) answer (ap (option_map (λ row. row.generation)) r) c.0)
+    takes_tells : {answer : Result Info Error} {new : SimpleWalk F P} → Takes objects faulty answers (left w.rows) p answer new → Tells w answer new
+    takes_tells {answer} (by_row {row = row} {ids = ids} r e treats c) =
+        let k = concludes objects faulty answers c in
+        let g = grown (asking objects faulty answers named treats) k.0 k.1 in
+        keeps g.store g.rows (descends _ g) (told_as w.rows p.id (Some row.generation) answer (ap (option_map (λ row. row.generation)) r) k.2)
       where
         named : (i : ObjectId) → Contains (by_mode w.parents ids) i → Reached w i
         named i m agrees =
             let k : Contains w.rows row × (p.id ≡ row.id) = row_stands w.rows p.id row r in
             let whole : ReadsWhole (objects w.store) p.id = subst (ReadsWhole (objects w.store)) (sym k.1) (agrees row k.0).whole in
             reached_next i (subst (λ those. Contains (by_mode w.parents those) i) (row_parents (objects w.store) w.rows agrees p.id row ids r e ∙ text_whole (objects w.store) p.id whole) m) agrees
-    takes_tells (by_store {bytes = bytes} {walk = walk} u e treats (given {info = info} f is)) = unrowed_tells (Ok info) u (is.same_id, is.same_generation) is.same_id (concluded_after bytes e treats (given f is))
-    takes_tells (by_store {bytes = bytes} {walk = walk} u e treats (broken {e = x} f)) = unrowed_tells (Err (error.ObjectDecode x)) u tt (bytes, e, f) (concluded_after bytes e {generation = None} {time = None} treats (broken f))
-    takes_tells (by_store {bytes = bytes} {walk = walk} u e treats store_fails) =
-        let k = store_failed false treats refl in
-        unrowed_tells (Err (error.Find existing.Store)) u tt (inr (refl, k.0, subst (λ ids. Contains ids k.0) (named_by_text bytes e) k.1, k.2)) (concluded_after bytes e {generation = None} {time = None} {fault = None} treats store_fails)
-    takes_tells (by_store u e treats no_memory) = ends refl tt
+    takes_tells (by_store {bytes = bytes} u e treats (given {info = info} f is)) = unrowed_tells (Ok info) u (is.same_id, is.same_generation) is.same_id (concluded_after bytes e treats (given f is))
+    takes_tells (by_store {bytes = bytes} u e treats (broken {e = x} f)) = unrowed_tells (Err (error.ObjectDecode x)) u tt (bytes, e, f) (concluded_after bytes e {generation = None} {time = None} treats (broken f))
+    takes_tells (by_store {bytes = bytes} u e treats store_fails) =
+        let k = store_failed (asking objects faulty answers {Named = Contains (text_walked w p.id)} (λ i m. subst (λ ids. Contains ids i) (named_by_text bytes e) m) treats) in
+        unrowed_tells (Err (error.Find existing.Store)) u tt (inr (refl, k.0, k.1, k.2)) (concluded_after bytes e {generation = None} {time = None} {fault = None} treats store_fails)
+    takes_tells (by_store u e treats no_memory) = ends refl
     takes_tells (not_found {e = x} u fault) = unrowed_tells (Err (error.Find x)) u tt (inl fault) (record { store = refl; rows = refl; parents = refl; begun = refl; pending = λ j m. inl m })
-    takes_tells (no_memory left) = ends refl tt
+    takes_tells (no_memory left) = ends refl
 
-  steps_tells : (w : SimpleWalk F P) {answer : Result Info Error} {new : SimpleWalk F P} → w.begun ≡ true → Steps objects faulty answers w (Some answer) new → Tells w answer new
-  steps_tells w begun (no_memory some) = ends refl tt
-  steps_tells w begun (took {taken = p} {others = others} chooses takes) = takes_tells w p others chooses begun takes
-
-  -- a step of a walk that painting left with the same rows
-  module _ (w : SimpleWalk F P) (v : SimpleWalk F P) (store : v.store ≡ w.store) (rows : v.rows ≡ w.rows) (parents : v.parents ≡ w.parents) (begun : v.begun ≡ true) (pending : (i : ObjectId) → Contains (ids_of v.pending) i → Contains (ids_of w.pending) i) where
-    agree : IsAgreeing (objects w.store) w.rows → IsAgreeing (objects v.store) v.rows
-    agree agrees = transport (λ k. IsAgreeing (objects (sym store k)) (sym rows k)) agrees
-
-    reaches : (i : ObjectId) → Reaches (text_walked v) (ids_of v.pending) i → Reaches (text_walked w) (ids_of w.pending) i
-    reaches i r = reaches_from (text_walked w) (ids_of v.pending) (ids_of w.pending) (λ j m. start (pending j m)) i (transport (λ k. Reaches (λ j. by_mode (parents k) (text_next (objects (store k)) j)) (ids_of v.pending) i) r)
-
-    from_same : {answer : Result Info Error} {new : SimpleWalk F P} → Tells v answer new → Tells w answer new
-    from_same {answer} (keeps s r d told) = keeps (s ∙ store) (r ∙ rows) (record { parents = d.parents ∙ parents; begun = d.begun; reached = λ agrees i m. reaches i (d.reached (agree agrees) i m) }) (subst (λ rs. IsTold rs answer) rows told)
-    from_same {answer} (loses s r untold why) = loses (s ∙ store) r untold (λ agrees. ⊎_elim (λ c. inl (carried c)) (λ d. absurd (true≢false (sym begun ∙ d.0))) (why (agree agrees)))
-      where
-        carried : HasCorruptRow objects faulty v answer → HasCorruptRow objects faulty w answer
-        carried c = record { row = c.row; present = subst (λ rs. row_of rs c.row.id ≡ Some c.row) rows c.present; corrupt = c.corrupt; reached = reaches c.row.id c.reached; about = transport (λ k. IsAbout (objects (store k)) (faulty (store k)) (parents k) c.row.id answer) c.about }
-    from_same (ends gone failed) = ends gone failed
-
-  -- without rows no generation is given
-  told_none : (answer : Result Info Error) → IsTold [] answer → IsUntold answer
-  told_none (Ok info) e = e
-  told_none (Err x) e = tt
-
-  -- nothing is drawn where nothing is pending
-  steps_pends : (w : SimpleWalk F P) {answer : Result Info Error} {new : SimpleWalk F P} → Steps objects faulty answers w (Some answer) new → w.pending ≡ [] → ⊥
-  steps_pends w (no_memory some) empty = some empty
-  steps_pends w (took (first t e) takes) empty = let bad = sym empty ∙ e in cc
-  steps_pends w (took {taken = p} {others = others} (best t perm no_worse) takes) empty =
-      let longer : length w.pending ≡ suc (length others) = sym (length_permutation w.pending (p ∷ others) perm) in
-      let short : length w.pending ≡ 0 = ap length empty in
-      absurd (omega arith)
-
-  first_pends : (w : SimpleWalk F P) {answer : Result Info Error} {new : SimpleWalk F P} → FirstStep objects faulty answers w (Some answer) new → w.pending ≡ [] → ⊥
-  first_pends w (unhidden unpainted steps) empty = steps_pends (record w { hidden_tips = [] }) steps empty
-  first_pends w (paints some tips_given paint steps) empty = some empty
-  first_pends w (faulty_history some tips_given left fault) empty = some empty
-  first_pends w (no_memory some tips_given left) empty = some empty
-
-  pends : (w : SimpleWalk F P) {answer : Result Info Error} {new : SimpleWalk F P} → Next objects faulty answers w (Some answer) new → w.pending ≡ [] → ⊥
-  pends w (initial fresh s) empty = first_pends (record w { begun = true }) s empty
-  pends w (later begun s) empty = steps_pends w s empty
+  steps_tells : (w : SimpleWalk F P) (begun : Bool) → begun ≡ true → (tips : List ObjectId) (marks : set.FinSet id_cmp) (ps : List Pending) → Fewer ps w.pending → {answer : Result Info Error} {new : SimpleWalk F P}
+      → Steps objects faulty answers (record w { pending = ps; begun = begun; hidden_tips = tips; hidden = marks }) (Some answer) new → Tells w answer new
+  steps_tells w begun is_begun tips marks ps fewer (no_memory some) = ends refl
+  steps_tells w begun is_begun tips marks ps fewer (took {taken = p} {others = others} chooses takes) =
+      takes_tells w begun is_begun tips marks p others (fewer_within (fewer_then (fewer_chosen objects faulty answers _ p others chooses) fewer)) takes
 
   -- without rows none is given from here on
   rowless : {w : SimpleWalk F P} {answer : Result Info Error} {new : SimpleWalk F P} → w.rows ≡ [] → Tells w answer new → IsUntold answer × ((new.rows ≡ []) ⊎ (new.pending ≡ []))
   rowless {answer = answer} empty (keeps store rows below told) = (told_none answer (subst (λ rs. IsTold rs answer) empty told), inl (rows ∙ empty))
   rowless empty (loses store rows untold why) = (untold, inl rows)
-  rowless {answer = answer} empty (ends gone failed) = (failed_untold answer failed, inr gone)
+  rowless empty (ends gone) = (tt, inr gone)
 
   first_tells : (w : SimpleWalk F P) {answer : Result Info Error} {new : SimpleWalk F P} → w.begun ≡ false → FirstStep objects faulty answers (record w { begun = true }) (Some answer) new → Tells w answer new
-  first_tells w fresh (unhidden unpainted steps) = from_same w (record w { begun = true; hidden_tips = [] }) refl refl refl refl (λ i m. m) (steps_tells (record w { begun = true; hidden_tips = [] }) refl steps)
+  first_tells w fresh (unhidden unpainted steps) = steps_tells w true refl [] w.hidden w.pending (fewer_same w.pending) steps
   first_tells w {answer} {new} fresh (paints {marks = marks} {rows = rows} some tips_given paint steps) = ⊎_elim same (λ e. go w.rows refl e) paint.rows_left
     where
       v : SimpleWalk F P
       v = painted objects faulty answers (record w { begun = true }) marks rows
 
-      tells : Tells v answer new
-      tells = steps_tells v refl steps
-
       same : rows ≡ w.rows → Tells w answer new
-      same e = from_same w v refl e refl refl (filter_within (λ p. not (set.contains marks p.id)) w.pending) tells
+      same e = steps_tells w true refl [] marks _ (fewer_filter (λ p. not (set.contains marks p.id)) w.pending)
+          (subst (λ rs. Steps objects faulty answers (painted objects faulty answers (record w { begun = true }) marks rs) (Some answer) new) e steps)
 
-      after : (empty : rows ≡ []) → (IsAgreeing (objects w.store) w.rows → PaintingDrops objects w) → Tells v answer new → Tells w answer new
-      after empty why (keeps store left below told) = loses store (left ∙ empty) (told_none answer (subst (λ rs. IsTold rs answer) empty told)) (λ agrees. inr (why agrees))
+      after : {a : Result Info Error} {n : SimpleWalk F P} → rows ≡ [] → (IsAgreeing (objects w.store) w.rows → PaintingDrops objects w) → Tells v a n → Tells w a n
+      after {a} empty why (keeps store left below told) = loses store (left ∙ empty) (told_none a (subst (λ rs. IsTold rs a) empty told)) (λ agrees. inr (why agrees))
       after empty why (loses store left untold other) = loses store left untold (λ agrees. inr (why agrees))
-      after empty why (ends gone failed) = ends gone failed
+      after empty why (ends gone) = ends gone
 
       go : (those : List GraphRow) → w.rows ≡ those → rows ≡ [] → Tells w answer new
       go [] f e = same (e ∙ sym f)
-      go (row ∷ those) f e = after e (λ agrees. (fresh, tips_given, (paint.marked (objects w.store) (own_history (objects w.store) (faulty w.store) w.rows agrees)).drops (λ same. let bad : [] ≡ row ∷ those = sym e ∙ same ∙ f in cc))) tells
-  first_tells w fresh (faulty_history some tips_given left fault) = ends refl tt
-  first_tells w fresh (no_memory some tips_given left) = ends refl tt
+      go (row ∷ those) f e = after e (λ agrees. (fresh, tips_given, (paint.marked (objects w.store) (own_history (objects w.store) (faulty w.store) w.rows agrees)).drops (λ same. let bad : [] ≡ row ∷ those = sym e ∙ same ∙ f in cc)))
+          (steps_tells v true refl [] marks v.pending (fewer_same v.pending) steps)
+  first_tells w fresh (faulty_history some tips_given left fault) = ends refl
+  first_tells w fresh (no_memory some tips_given left) = ends refl
 
   next_tells : (w : SimpleWalk F P) {answer : Result Info Error} {new : SimpleWalk F P} → Next objects faulty answers w (Some answer) new → Tells w answer new
   next_tells w (initial fresh s) = first_tells w fresh s
-  next_tells w (later begun s) = steps_tells w begun s
-
-  all_with : (A : Result Info Error → Type 0) (answer : Result Info Error) (list : List (Result Info Error)) → A answer → All A list → All A (answer ∷ list)
-  all_with A answer list a all = All-from_recursion A (answer ∷ list) (a, recursion_from_All A list all)
+  next_tells w (later begun s) = steps_tells w w.begun begun w.hidden_tips w.hidden w.pending (fewer_same w.pending) s
 
   -- nothing follows a walk with no pending commits
   nothing_more : (list : List (Result Info Error)) (w new : SimpleWalk F P) → Yields (Next objects faulty answers) w list new → w.pending ≡ [] → list ≡ []
   nothing_more [] w new d empty = refl
-  nothing_more (answer ∷ list) w new d empty = absurd (pends w d.1 empty)
+  nothing_more (answer ∷ list) w new d empty = absurd (moves_pend objects faulty answers (next_moves objects faulty answers d.1) empty)
 
   all_untold : (list : List (Result Info Error)) (w new : SimpleWalk F P) → Yields (Next objects faulty answers) w list new → w.rows ≡ [] → All IsUntold list
-  all_untold [] w new d empty = All-from_recursion IsUntold [] tt
+  all_untold [] w new d empty = All-nil IsUntold
   all_untold (answer ∷ list) w new d empty =
       let k = rowless empty (next_tells w d.1) in
-      all_with IsUntold answer list k.0 (⊎_elim (λ r. all_untold list d.0 new d.2 r) (λ gone. subst (All IsUntold) (sym (nothing_more list d.0 new d.2 gone)) (All-from_recursion IsUntold [] tt)) k.1)
+      All-cons IsUntold answer list k.0 (⊎_elim (λ r. all_untold list d.0 new d.2 r) (λ gone. subst (All IsUntold) (sym (nothing_more list d.0 new d.2 gone)) (All-nil IsUntold)) k.1)
 
   -- the law
   pub tells_generations : (list : List (Result Info Error)) (w new : SimpleWalk F P) → Yields (Next objects faulty answers) w list new → TellsGenerations objects faulty w list
-  tells_generations [] w new d = record { before = []; behind = []; parts = refl; told = All-from_recursion (IsTold w.rows) [] tt; untold = All-from_recursion IsUntold [] tt; dropped = λ a rest e agrees. cc }
+  tells_generations [] w new d = record { before = []; behind = []; parts = refl; told = All-nil (IsTold w.rows); untold = All-nil IsUntold; dropped = λ a rest e agrees. cc }
   tells_generations (answer ∷ list) w new d = go (next_tells w d.1) (tells_generations list d.0 new d.2)
     where
-      go : Tells w answer d.0 → TellsGenerations objects faulty d.0 list → TellsGenerations objects faulty w (answer ∷ list)
-      go (keeps store rows below told) rest =
+      go : {answer : Result Info Error} → Tells w answer d.0 → TellsGenerations objects faulty d.0 list → TellsGenerations objects faulty w (answer ∷ list)
+      go {answer} (keeps store rows below told) rest =
           record {
             before = answer ∷ rest.before;
             behind = rest.behind;
             parts = ap (λ xs. answer ∷ xs) rest.parts;
-            told = all_with (IsTold w.rows) answer rest.before told (subst (λ rs. All (IsTold rs) rest.before) rows rest.told);
+            told = All-cons (IsTold w.rows) answer rest.before told (subst (λ rs. All (IsTold rs) rest.before) rows rest.told);
             untold = rest.untold;
             dropped = λ a more e agrees. inl (⊎_elim (carried agrees a) (λ painting. absurd (true≢false (sym below.begun ∙ painting.1.0))) (rest.dropped a more e (transport (λ k. IsAgreeing (objects (sym store k)) (sym rows k)) agrees)));
           }
@@ -353,21 +241,21 @@ module _ {F P : Type 0} (objects : F → Objects) (faulty : F → ObjectId → T
             reached = reaches_from (text_walked w) (ids_of d.0.pending) (ids_of w.pending) (below.reached agrees) c.row.id (transport (λ k. Reaches (λ j. by_mode (below.parents k) (text_next (objects (store k)) j)) (ids_of d.0.pending) c.row.id) c.reached);
             about = transport (λ k. IsAbout (objects (store k)) (faulty (store k)) (below.parents k) c.row.id a) c.about;
           }
-      go (loses store rows untold why) r =
+      go {answer} (loses store rows untold why) r =
           record {
             before = [];
             behind = answer ∷ list;
             parts = refl;
-            told = All-from_recursion (IsTold w.rows) [] tt;
-            untold = all_with IsUntold answer list untold (all_untold list d.0 new d.2 rows);
+            told = All-nil (IsTold w.rows);
+            untold = All-cons IsUntold answer list untold (all_untold list d.0 new d.2 rows);
             dropped = λ a rest e agrees. ⊎_elim (λ c. inl (subst (HasCorruptRow objects faulty w) (let same : answer ≡ a = cc in same) c)) (λ painting. inr (refl, painting)) (why agrees);
           }
-      go (ends gone failed) r =
+      go {answer} (ends gone) r =
           record {
             before = answer ∷ [];
             behind = [];
             parts = ap (λ xs. answer ∷ xs) (nothing_more list d.0 new d.2 gone);
-            told = all_with (IsTold w.rows) answer [] (failed_told w.rows answer failed) (All-from_recursion (IsTold w.rows) [] tt);
-            untold = All-from_recursion IsUntold [] tt;
+            told = All-cons (IsTold w.rows) answer [] tt (All-nil (IsTold w.rows));
+            untold = All-nil IsUntold;
             dropped = λ a rest e agrees. cc;
           }

@@ -10,7 +10,9 @@ pub mod TreatsId
 pub mod Treated
 -- How the code takes a commit: by its row, or from the store.
 pub mod TakesCommit
--- Treating parents changes neither the lent text nor the order.
+-- What a step of a walk does, whatever faults come.
+pub mod Moves
+-- Treating parents neither reads nor changes the lent text and the hidden tips.
 pub mod LentText
 -- How the first step hides what hidden tips reach.
 pub mod FirstStep

@@ -17,7 +17,7 @@ use Rattle.gix_simple.specs.Laws.{IsFresh, IsNewWalk}
 use Rattle.gix_revwalk.proofs.NewIds.{fresh, times_among, times-fresh, among-filter, times_once, among_times}
 use Rattle.gix_simple.proofs.Treated.{Setting, Stands, Did, keep, all_treated}
 
-once_or_never : (b : Bool) → cond b 1 0 ≤ 1
+pub once_or_never : (b : Bool) → cond b 1 0 ≤ 1
 once_or_never true = omega arith
 once_or_never false = omega arith
 

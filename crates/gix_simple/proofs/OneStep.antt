@@ -18,7 +18,7 @@ use Rattle.gix_revwalk.specs.declared.CommitTimeOrder.{CommitTimeOrder}
 use Rattle.gix_simple.specs.declared.Error.{Error}
 use Rattle.gix_simple.specs.declared.Error.TheVariants as error
 use Rattle.gix_revwalk.specs.Commits.{by_mode, time_of, parents_of, parents_in, commit_at, commit_of_object, ReadsWhole}
-use Rattle.gix_revwalk.specs.declared.Pending.{Pending}
+use Rattle.gix_revwalk.specs.Pending.{Pending}
 use Rattle.gix_simple.specs.Walk.{SimpleWalk, Treated, GoesOn, time_order, time_if, given_time, unrowed, Concludes, given, broken, store_fails, no_memory, Takes, by_row, by_store, not_found}
 use Rattle.gix_revwalk.specs.Ids.{ids_of}
 use Rattle.gix_revwalk.specs.Texts.{scanned, next_in, text_next}
@@ -27,7 +27,7 @@ use Rattle.gix_revwalk.specs.Infos.{IsRowGeneration}
 use Rattle.gix_revwalk.proofs.NewIds.{fresh}
 use Rattle.gix_revwalk.proofs.ReadsWhole.{scan_is, row_parents, row_stands, parent_has_row, walked_within, no_fault}
 use Rattle.gix_revwalk.proofs.TextParents.{text_whole, commit_stored}
-use Rattle.gix_simple.proofs.Ends.{scan_by}
+use Rattle.gix_simple.proofs.Moves.{scan_by}
 use Rattle.gix_simple.proofs.Treated.{Joins, Joins-refl, Joins-trans, Setting, order_of, limit_of, keep, Stands, Did, all_treated, rows_agree}
 use Rattle.gix_revwalk.proofs.Rows.{kept_either}
 

@@ -10,7 +10,7 @@ use Rattle.gix_revwalk.specs.declared.CommitTimeOrder.{CommitTimeOrder}
 use Rattle.gix_revwalk.specs.declared.CommitTimeOrder.TheVariants.{NewestFirst, OldestFirst}
 use Rattle.gix_revwalk.specs.BreadthOrder.{named_by, first_new}
 use Rattle.gix_revwalk.specs.TimeOrder.{IsNoWorse, IsPending, IsBest}
-use Rattle.gix_revwalk.specs.declared.Pending.{Pending}
+use Rattle.gix_revwalk.specs.Pending.{Pending}
 use Rattle.gix_revwalk.specs.Ids.{ids_of}
 use Rattle.gix_hash.proofs.Ids.Membership.{same_is, same_itself, among-append, among-one, among_from, among_is, Contains-here, Contains-there, Contains-cons_cases}
 use Rattle.gix_revwalk.proofs.NewIds.{fresh, fresh_agree, fresh-append, fresh_head, fresh_none, IsHead, times, times-append, times-fresh, times_among}

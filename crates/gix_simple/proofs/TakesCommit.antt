@@ -15,43 +15,39 @@ use Rattle.gix_revwalk.specs.declared.Info.{Info}
 use Rattle.gix_revwalk.specs.declared.CommitTimeOrder.{CommitTimeOrder}
 use Rattle.gix_simple.specs.declared.Error.{Error}
 use Rattle.gix_simple.specs.declared.Error.TheVariants as error
-use Rattle.gix_revwalk.specs.declared.Pending.{Pending}
-use Rattle.gix_revwalk.specs.declared.read.RowRead.{RowRead}
+use Rattle.gix_revwalk.specs.Pending.{Pending}
+use Rattle.gix_revwalk.specs.declared.row.RowRead.{RowRead}
 use Rattle.gix_simple.specs.declared.step.Stop.{Stop}
 use Rattle.gix_simple.specs.declared.step.Stop.TheVariants as stop
 use Rattle.gix_revwalk.specs.Commits.{by_mode}
 use Rattle.gix_simple.specs.Errors.{error_of_find, error_of_stop}
 use Rattle.gix_simple.specs.Inside.PendingQueue.{IsChosen, TakesOut}
 use Rattle.gix_revwalk.specs.Reading.{RowSays}
-use Rattle.gix_simple.specs.Walk.{SimpleWalk, failed, given_time, time_if, time_order, how_ended, GoesOn, StoreFails, NoMemory, unrowed, Treated, TreatsAll, Concludes, given, broken, store_fails, no_memory, Takes, by_row, by_store, not_found, Chooses, first, best, Steps, ended, took}
+use Rattle.gix_simple.specs.Walk.{SimpleWalk, failed, given_time, time_order, how_ended, GoesOn, StoreFails, NoMemory, unrowed, Treated, TreatsAll, Concludes, given, broken, store_fails, no_memory, Takes, by_row, by_store, not_found, Chooses, first, best, Steps, ended, took}
 use Rattle.gix_revwalk.specs.Texts.{scanned}
 use Rattle.gix_revwalk.specs.Infos.{IsInfo}
 use Rattle.gix_revwalk.specs.RowParents.{kept_rows, IsUnrowed}
-use Rattle.gix_simple.proofs.LentText.{with_text, treats_all_with, SameText, treats_all_same}
+use Rattle.gix_simple.proofs.LentText.{treats_all_with, concludes_with}
+use Rattle.gix_simple.proofs.Moves.{treated_same}
+
+-- a walk that lends another text
+abbrev with_text : {F P : Type 0} → SimpleWalk F P → List ℕ → Option ObjectId → SimpleWalk F P
+with_text walk text current = record walk { text = text; current = current }
 
 module _ {F P : Type 0} (objects : F → Objects) (faulty : F → ObjectId → Type 0) (answers : P → ObjectId → Bool → P → Type 0) (old : SimpleWalk F P) (taken : Pending) where
-  -- the text that was read before the parents were treated changes nothing
-  concludes_with : (text : List ℕ) (parents : List ObjectId) (generation : Option ℕ) (fault : Option DecodeError) (walk : SimpleWalk F P) (other : List ℕ) (current : Option ObjectId) (time : Option ℤ) {how : Treated} {answer : Result Info Error} {new : SimpleWalk F P} → Concludes objects faulty answers taken.id parents generation time text fault walk how answer new → Concludes objects faulty answers taken.id parents generation time text fault (with_text walk other current) how answer new
-  concludes_with text parents generation fault walk other current time (given f is) = given f is
-  concludes_with text parents generation fault walk other current time (broken f) = broken f
-  concludes_with text parents generation fault walk other current time store_fails = store_fails
-  concludes_with text parents generation fault walk other current time no_memory = no_memory
-
-  given_same : (from to : SimpleWalk F P) → to.parents ≡ from.parents → to.sorting ≡ from.sorting → given_time to taken ≡ given_time from taken
-  given_same from to p s = λ j. time_if (time_order (p j) (s j)) taken.time
-
   -- a sound row gives the commit
   pub takes_by_row : (read : RowRead) (named : List ObjectId) (cleared : SimpleWalk F P) → RowSays old.rows taken.id read → named ≡ by_mode old.parents read.parent_ids.items → cleared ≡ with_text old [] old.current → (ids : List ObjectId) → ids ≡ named → (how : Treated) (walk : SimpleWalk F P) → TreatsAll objects faulty answers true cleared ids how walk
       → (answer : Result Info Error) (new : SimpleWalk F P) → Concludes objects faulty answers taken.id named (Some read.generation) (given_time walk taken) walk.text None walk how answer new → Takes objects faulty answers old taken answer new
   takes_by_row read named cleared says is_named is_cleared ids same_ids how walk treats answer new c =
       let t : TreatsAll objects faulty answers true (with_text old [] old.current) (by_mode old.parents read.parent_ids.items) how walk = subst (λ xs. TreatsAll objects faulty answers true (with_text old [] old.current) xs how walk) (same_ids ∙ is_named) (subst (λ w. TreatsAll objects faulty answers true w ids how walk) is_cleared treats) in
-      let kept : SameText objects faulty answers (with_text old [] old.current) walk = treats_all_same objects faulty answers t in
+      let same = treated_same objects faulty answers t in
       let d : Concludes objects faulty answers taken.id (by_mode old.parents read.parent_ids.items) (Some says.row.generation) (given_time old taken) [] None walk how answer new =
       subst (λ xs. Concludes objects faulty answers taken.id xs (Some says.row.generation) (given_time old taken) [] None walk how answer new) is_named
       (subst (λ g. Concludes objects faulty answers taken.id named (Some g) (given_time old taken) [] None walk how answer new) says.generation
-      (subst (λ x. Concludes objects faulty answers taken.id named (Some read.generation) (given_time old taken) x None walk how answer new) kept.text
-      (subst (λ x. Concludes objects faulty answers taken.id named (Some read.generation) x walk.text None walk how answer new) (given_same old walk kept.parents kept.sorting) c))) in
-      by_row says.there says.parents (treats_all_with objects faulty answers old.text old.current t) (concludes_with [] (by_mode old.parents read.parent_ids.items) (Some says.row.generation) None walk old.text old.current (given_time old taken) d)
+      (subst (λ x. Concludes objects faulty answers taken.id named (Some read.generation) (given_time old taken) x None walk how answer new) (ap (λ w. w.text) same)
+      (subst (λ x. Concludes objects faulty answers taken.id named (Some read.generation) x walk.text None walk how answer new) (ap (λ w. given_time w taken) same) c))) in
+      by_row says.there says.parents (treats_all_with objects faulty answers (λ x. old.text) (λ x. old.current) (λ x. x) t)
+      (concludes_with objects faulty answers (λ x. old.text) (λ x. old.current) (λ x. x) d)
 
   -- there is no memory to read it
   pub takes_no_memory : (walk new : SimpleWalk F P) (answer : Error) → walk ≡ with_text old walk.text walk.current → answer ≡ error.Memory → new ≡ failed taken.id error.Memory walk → Takes objects faulty answers old taken (Err answer) new
@@ -89,12 +85,12 @@ module _ {F P : Type 0} (objects : F → Objects) (faulty : F → ObjectId → T
     takes_by_store there ids shown fault same_ids read how then treats answer new c =
         let start : SimpleWalk F P = unrowed old taken.id in
         let t : TreatsAll objects faulty answers false (with_text start walk.text walk.current) shown how then = subst (λ w. TreatsAll objects faulty answers false w shown how then) read_so (subst (λ xs. TreatsAll objects faulty answers false walk xs how then) same_ids treats) in
-        let kept : SameText objects faulty answers (with_text start walk.text walk.current) then = treats_all_same objects faulty answers t in
-        let back : TreatsAll objects faulty answers false start shown how (with_text then start.text start.current) = treats_all_with objects faulty answers start.text start.current t in
+        let same = treated_same objects faulty answers t in
+        let back : TreatsAll objects faulty answers false start shown how (with_text then start.text start.current) = treats_all_with objects faulty answers (λ x. start.text) (λ x. start.current) (λ x. x) t in
         let d : Concludes objects faulty answers taken.id shown None (given_time old taken) walk.text fault (with_text then start.text start.current) how answer new =
-        concludes_with walk.text shown None fault then start.text start.current (given_time old taken)
-        (subst (λ x. Concludes objects faulty answers taken.id shown None (given_time old taken) x fault then how answer new) kept.text
-        (subst (λ x. Concludes objects faulty answers taken.id shown None x then.text fault then how answer new) (given_same start then kept.parents kept.sorting) c)) in
+        concludes_with objects faulty answers (λ x. start.text) (λ x. start.current) (λ x. x)
+        (subst (λ x. Concludes objects faulty answers taken.id shown None (given_time old taken) x fault then how answer new) (ap (λ w. w.text) same)
+        (subst (λ x. Concludes objects faulty answers taken.id shown None x then.text fault then how answer new) (ap (λ w. given_time w taken) same) c)) in
         by_store unrowed_is there (subst (λ xs. TreatsAll objects faulty answers false start xs how (with_text then start.text start.current)) (ap (λ r. r.0) read) back)
         (subst (λ r. Concludes objects faulty answers taken.id r.0 None (given_time old taken) walk.text r.1 (with_text then start.text start.current) how answer new) read d)
 
@@ -149,7 +145,7 @@ module _ {F P : Type 0} (objects : F → Objects) (faulty : F → ObjectId → T
   concludes_broken u t e f answer new a n = concluded_so GoesOn (ap how_ended t) (error.ObjectDecode e) answer new a n (broken f)
 
   -- the commit is given
-  pub concludes_given : (u : Unit {0}) → treated ≡ Ok u → fault ≡ None → (info : Info) → IsInfo info id parents generation time → (inside : SimpleWalk F P) → inside ≡ old → Concluded (Ok info) (record inside { current = Some id })
-  concludes_given u t f info i inside is =
-      subst (λ how. Concludes objects faulty answers id parents generation time old.text fault old how (Ok info) (record inside { current = Some id })) (sym (ap how_ended t))
-      (subst (Concludes objects faulty answers id parents generation time old.text fault old GoesOn (Ok info)) (λ j. record (sym is j) { current = Some id }) (given f i))
+  pub concludes_given : (u : Unit {0}) → treated ≡ Ok u → fault ≡ None → (info : Info) → IsInfo info id parents generation time → (inside : SimpleWalk F P) → inside ≡ old → (given_id : ObjectId) → given_id ≡ id → Concluded (Ok info) (record inside { current = Some given_id })
+  concludes_given u t f info i inside is given_id same =
+      subst (λ how. Concludes objects faulty answers id parents generation time old.text fault old how (Ok info) (record inside { current = Some given_id })) (sym (ap how_ended t))
+      (subst (Concludes objects faulty answers id parents generation time old.text fault old GoesOn (Ok info)) (λ j. record (sym is j) { current = Some (sym same j) }) (given f i))

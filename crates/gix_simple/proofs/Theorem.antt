@@ -19,7 +19,7 @@ use Rattle.gix_paint.specs.Painting.{IsHistory, IsHiddenFault, Paints}
 use Rattle.gix_hash.specs.Reach.{IsAtBoundary, Reaches, start, step, Tells}
 use Rattle.gix_revwalk.specs.Agreeing.{IsAgreeing}
 use Rattle.gix_revwalk.specs.Commits.{time_of, parents_of, commit_of_object, walked_parents, ReadsWhole}
-use Rattle.gix_revwalk.specs.declared.Pending.{Pending}
+use Rattle.gix_revwalk.specs.Pending.{Pending}
 use Rattle.gix_simple.specs.Walk.{SimpleWalk, time_order, cutoff, Steps, painted, FirstStep, unhidden, paints, faulty_history, no_memory, Next, initial, later}
 use Rattle.gix_revwalk.specs.Ids.{ids_of, AreDistinct}
 use Rattle.gix_revwalk.specs.Asking.{itself, AnswersBy}
@@ -35,7 +35,7 @@ use Rattle.gix_simple.proofs.OneStep.{reads_whole, whole_well}
 use Rattle.gix_simple.proofs.PendingIs.{IsQueue, IsNextOne}
 use Rattle.gix_simple.proofs.WholeWalk.{Known, Runs, RunOf, run, BegunOf, begun_run}
 use Rattle.gix_revwalk.proofs.ReadsWhole.{walked_within, no_fault}
-use Rattle.gix_hash.proofs.Lists.{filter_within}
+use Rattle.gix_hash.proofs.Lists.{filter_within, filter_all}
 
 Contains-filter : (p : ObjectId → Bool) (xs : List ObjectId) (i : ObjectId) → Contains (filter p xs) i → Contains xs i × (p i ≡ true)
 Contains-filter p xs i h =
@@ -70,9 +70,10 @@ in_place [] k b = absurd (omega arith)
 in_place (x ∷ xs) zero b = (x, refl)
 in_place (x ∷ xs) (suc k) b = in_place xs k (omega arith)
 
-nothing_reached : (next : ObjectId → List ObjectId) (starts : List ObjectId) → ((i : ObjectId) → Contains starts i → ⊥) → (i : ObjectId) → Reaches next starts i → ⊥
-nothing_reached next starts none i (start s) = none i s
-nothing_reached next starts none i (step {c = c} r n) = nothing_reached next starts none c r
+-- where an id is reached there is a start
+pub no_start : (next : ObjectId → List ObjectId) (starts : List ObjectId) (i : ObjectId) → Reaches next starts i → starts ≢ []
+no_start next starts i (start s) = λ e. no_member i (subst (λ xs. Contains xs i) e s)
+no_start next starts i (step {c = c} r n) = no_start next starts c r
 
 ids-filter : (p q : ObjectId → Bool) (ps : List Pending) → ((i : ObjectId) → Contains (ids_of ps) i → p i ≡ q i) → ids_of (filter (λ x. not (p x.id)) ps) ≡ filter (λ i. not (q i)) (ids_of ps)
 ids-filter p q [] h = refl
@@ -160,19 +161,15 @@ module _ {F P : Type 0} (objects : F → Objects) (faulty : F → ObjectId → T
     runs : Runs objects faulty answers (setting marks) mid []
     steps : Steps objects faulty answers mid o new
 
-  keeps_all : (xs : List ObjectId) → ((i : ObjectId) → Contains xs i → hides i ≡ false) → xs ≡ filter (λ i. not (hides i)) xs
-  keeps_all [] h = refl
-  keeps_all (x ∷ xs) h = ap (λ ys. x ∷ ys) (keeps_all xs (λ i c. h i (Contains-there i x xs c))) ∙ ap (λ b. cond (not b) (x ∷ filter (λ i. not (hides i)) xs) (filter (λ i. not (hides i)) xs)) (sym (h x (Contains-here x xs)))
-
   -- nothing is painted
   plain : (w.pending ≡ []) ⊎ (w.hidden_tips ≡ []) → {o : Option (Result Info Error)} {new : SimpleWalk F P} → Steps objects faulty answers (record w { begun = true; hidden_tips = [] }) o new → Begins o new
   plain none steps = record {
     marks = w.hidden;
     mid = record w { begun = true; hidden_tips = [] };
-    known = knows w.hidden (λ c i r n. is_fresh.shown i ∙ sym (⊎_elim (λ e. absurd (nothing_reached next_ids (starts_of w hides) (λ j m. no_tip e j (Contains-filter _ (ids_of w.pending) j m).0) c r)) (λ e. shown e i) none));
+    known = knows w.hidden (λ c i r n. is_fresh.shown i ∙ sym (⊎_elim (λ e. absurd (no_start next_ids (starts_of w hides) c r (ap (λ ps. filter (λ k. not (hides k)) (ids_of ps)) e))) (λ e. shown e i) none));
     runs = begins_so objects faulty answers w accepts hides (parents_of (objects w.store)) by_test is_fresh agreeing w.hidden (record w { begun = true; hidden_tips = [] })
         (record { store = refl; parents = refl; sorting = refl; marks = refl; begun = refl; tips = refl; rows = inl refl; asked_of = itself; remembered = is_fresh.remembered; timed = is_fresh.timed })
-        refl (keeps_all (ids_of w.pending) (λ i c. ⊎_elim (λ e. absurd (no_tip e i c)) (λ e. shown e i) none));
+        refl (sym (filter_all (λ i. not (hides i)) (ids_of w.pending) (λ i c. ap not (⊎_elim (λ e. absurd (no_tip e i c)) (λ e. shown e i) none))));
     steps = steps;
   }
     where
@@ -180,7 +177,7 @@ module _ {F P : Type 0} (objects : F → Objects) (faulty : F → ObjectId → T
       no_tip e i c = no_member i (subst (λ ps. Contains (ids_of ps) i) e c)
 
       shown : w.hidden_tips ≡ [] → (i : ObjectId) → hides i ≡ false
-      shown e i = false_from_ne_true _ (λ h. nothing_reached (parents_of (objects w.store)) w.hidden_tips (λ j m. no_member j (subst (λ xs. Contains xs j) e m)) i ((tells i).0 h))
+      shown e i = false_from_ne_true _ (λ h. no_start (parents_of (objects w.store)) w.hidden_tips i ((tells i).0 h) e)
 
   -- the hidden tips are painted
   painting : (marks : set.FinSet id_cmp) (rows : List GraphRow) → Paints (objects w.store) w.rows (ids_of w.pending) w.hidden_tips marks rows → {o : Option (Result Info Error)} {new : SimpleWalk F P} → Steps objects faulty answers (painted objects faulty answers (record w { begun = true }) marks rows) o new → Begins o new

@@ -15,7 +15,7 @@ use Rattle.gix_revwalk.specs.PriorityQueue.{keys, values}
 use Rattle.gix_hash.proofs.Ids.Membership.{Contains-cons_cases, no_member}
 use Rattle.gix_revwalk.specs.declared.CommitTimeOrder.{CommitTimeOrder}
 use Rattle.gix_revwalk.specs.declared.CommitTimeOrder.TheVariants.{NewestFirst, OldestFirst}
-use Rattle.gix_revwalk.specs.declared.Pending.{Pending}
+use Rattle.gix_revwalk.specs.Pending.{Pending}
 use Rattle.gix_simple.specs.Inside.PendingQueue.{time_key, AreKeyed, IsChosen, TakesOut}
 use Rattle.gix_simple.specs.Walk.{Holds}
 use Rattle.gix_revwalk.specs.TimeOrder.{IsNoWorse}
@@ -75,7 +75,7 @@ goes_over all standing left rest new p h e n =
     IsPermutation-trans all (standing ++ p ∷ rest) (new ++ rest) (subst (λ xs. IsPermutation all (standing ++ xs)) e h)
     (subst (λ xs. IsPermutation xs (new ++ rest)) (append_assoc standing (p ∷ []) rest) (IsPermutation-append_left rest (standing ++ p ∷ []) new n))
 
-pub none_of : (xs : List Pending) → length xs ≡ 0 → xs ≡ []
+pub none_of : {X : Type 0} (xs : List X) → length xs ≡ 0 → xs ≡ []
 none_of [] e = refl
 none_of (x ∷ xs) e = absurd (omega arith)
 

@@ -1,6 +1,7 @@
 -- How the pending tips are read and sorted out, one after the other.
 use Rattle.std.specs.Prelude.{◌≡◌, ℤ, List, [], ◌∷◌, ◌++◌, filter, Bool, true, false, not, ◌&&◌, ◌||◌, cond, Option, Some, Ok, All, IsSome}
 use Rattle.std.proofs.Common.{refl, sym, ap, subst, ◌∙◌, append_assoc, append-nil}
+use Rattle.std.proofs.Math.Bool.{and-true, or-false}
 use Rattle.std.proofs.lemmas.List.Elements.{All-cons, All-nil}
 use Rattle.std.specs.FinSet as set
 use Rattle.gix_hash.specs.declared.ObjectId.{ObjectId}
@@ -8,7 +9,7 @@ use Rattle.gix_hash.specs.Id.{is_same, is_among}
 use Rattle.gix_object.specs.Object.{Objects}
 use Rattle.gix_hash.proofs.Ids.Membership.{id_total}
 use Rattle.gix_revwalk.specs.declared.Parents.TheVariants as mode
-use Rattle.gix_revwalk.specs.declared.Pending.{Pending}
+use Rattle.gix_revwalk.specs.Pending.{Pending}
 use Rattle.gix_simple.specs.declared.Error.{Error}
 use Rattle.gix_simple.specs.declared.Sorting.{Sorting}
 use Rattle.gix_revwalk.specs.Commits.{commit_at, time_of, time_in}
@@ -48,14 +49,6 @@ and_not true true c = refl
 and_not true false c = refl
 and_not false true c = refl
 and_not false false c = refl
-
-and_all : (b : Bool) → b ≡ (b && true)
-and_all true = refl
-and_all false = refl
-
-or_none : (b : Bool) → b ≡ (b || false)
-or_none true = refl
-or_none false = refl
 
 or_or : (a b c : Bool) → ((a || b) || c) ≡ (b || (a || c))
 or_or true true c = refl
@@ -107,7 +100,7 @@ module _ {F P : Type 0} (objects : F → Objects) (bad : F → ObjectId → Type
       go false e m = younger_first old new tip tips some (ap (λ t. is_older t limit) (sym same) ∙ e) (subst (λ w. Sorted w tips new) (m ∙ (λ j. record old { pending = old.pending ++ record { id = tip.id; time = same j } ∷ [] })) rest)
 
   sorted : {old new : SimpleWalk F P} {tips : List Pending} → SortsAll objects bad limit old tips new → Sorted old tips new
-  sorted (none {old = old}) = record { read = All-nil (λ p. IsSome (commit_at (objects old.store) p.id)); pending = sym (append-nil old.pending); seen = λ i. and_all (set.contains old.seen i); remembered = λ i. or_none (set.contains old.remembered i); others = refl }
+  sorted (none {old = old}) = record { read = All-nil (λ p. IsSome (commit_at (objects old.store) p.id)); pending = sym (append-nil old.pending); seen = λ i. sym (and-true (set.contains old.seen i)); remembered = λ i. sym (or-false (set.contains old.remembered i)); others = refl }
   sorted (more {old = old} {mid = mid} {new = new} {tip = tip} {tips = tips} s rest) = first old mid new tip tips s (sorted rest)
 
 -- the pending commits of a walk, read from an empty list

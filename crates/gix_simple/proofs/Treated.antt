@@ -17,7 +17,7 @@ use Rattle.gix_simple.specs.declared.Sorting.{Sorting}
 use Rattle.gix_simple.specs.declared.Sorting.TheVariants as sorting
 use Rattle.gix_revwalk.specs.Agreeing.{IsAgreeing}
 use Rattle.gix_revwalk.specs.Commits.{time_of}
-use Rattle.gix_revwalk.specs.declared.Pending.{Pending}
+use Rattle.gix_revwalk.specs.Pending.{Pending}
 use Rattle.gix_simple.specs.Walk.{SimpleWalk, Treated, GoesOn, Holds, time_order, cutoff, is_older, row_time, Asks, remembers, asks, asked as asked_walk, ReadsTime, unasked, from_row, from_store, Enqueues, dropped, enqueued, Treats, hidden, known, refused, accepted, TreatsAll, none, more, stops}
 use Rattle.gix_revwalk.specs.Ids.{ids_of}
 use Rattle.gix_revwalk.specs.Asking.{Becomes, further, AnswersBy}
@@ -265,7 +265,3 @@ module _ {F P : Type 0} (objects : F → Objects) (faulty : F → ObjectId → T
       let d : Did s (i ∷ []) w mid = one s w h by_row i (ready i (Contains-here i ids)) t in
       both s i ids w mid v d (all_treated s by_row ts e d.rest (λ j n. let r : IsReady s w by_row j = ready j (Contains-there j i ids n) in record { marked = r.marked; rowed = λ b. subst (λ rows. (row : GraphRow) × (row_of rows j ≡ Some row)) (sym d.same_rows) (r.rowed b) }))
   all_treated s by_row (stops ne t) e h ready = absurd (ne e)
-
-pub times_holds : (o : Option CommitTimeOrder) (old new : List Pending) (p : Pending) → Holds o (old ++ p ∷ []) new → (i : ObjectId) → times i (ids_of new) ≡ times i (ids_of old ++ p.id ∷ [])
-times_holds None old new p h i = ap (times i) (Joins-holds None old new p h)
-times_holds (Some order) old new p h i = Joins-holds (Some order) old new p h i

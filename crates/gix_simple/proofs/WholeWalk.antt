@@ -18,7 +18,7 @@ use Rattle.gix_simple.specs.declared.Error.TheVariants as error
 use Rattle.gix_revwalk.specs.BreadthOrder.{named_by}
 use Rattle.gix_hash.specs.Reach.{Reaches}
 use Rattle.gix_revwalk.specs.Commits.{time_of}
-use Rattle.gix_revwalk.specs.declared.Pending.{Pending}
+use Rattle.gix_revwalk.specs.Pending.{Pending}
 use Rattle.gix_simple.specs.Walk.{SimpleWalk, time_order, Chooses, first, best, Takes, Steps, ended, took, no_memory, Next, initial, later}
 use Rattle.gix_revwalk.specs.Ids.{ids_of}
 use Rattle.gix_simple.specs.Laws.{IsGivenBy}

@@ -7,7 +7,7 @@ use Rattle.gix_object.specs.Object.{Objects}
 use Rattle.gix_commitgraph.specs.Rows.{GraphRow}
 use Rattle.gix_revwalk.specs.declared.Parents.{Parents}
 use Rattle.gix_revwalk.specs.declared.Parents.TheVariants as mode
-use Rattle.gix_revwalk.specs.declared.Pending.{Pending}
+use Rattle.gix_revwalk.specs.Pending.{Pending}
 use Rattle.gix_simple.specs.declared.Error.{Error}
 use Rattle.gix_simple.specs.declared.Error.TheVariants as error
 use Rattle.gix_simple.specs.declared.Sorting.{Sorting}

@@ -24,7 +24,7 @@ use Rattle.gix_revwalk.specs.BreadthOrder.{IsBreadthOrder, IsBreadthBeginning}
 use Rattle.gix_revwalk.specs.TimeOrder.{IsTimeOrder, IsTimeBeginning}
 use Rattle.gix_hash.specs.Reach.{Reaches, Tells}
 use Rattle.gix_revwalk.specs.Commits.{ReadsWhole, by_mode, walked_parents, parents_of, time_of}
-use Rattle.gix_revwalk.specs.declared.Pending.{Pending}
+use Rattle.gix_revwalk.specs.Pending.{Pending}
 use Rattle.gix_simple.specs.Walk.{SimpleWalk, time_order, cutoff, is_older, time_if, Next}
 use Rattle.gix_revwalk.specs.Infos.{IsInfo, IsRowGeneration}
 use Rattle.gix_revwalk.specs.Ids.{ids_of, AreDistinct, new_ids}

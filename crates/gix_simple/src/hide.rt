@@ -15,7 +15,7 @@ use gix_revwalk::{Info, Pending, Predicate};
 use std::alloc::{AllocError, Global};
 use std::collections::VecDeque;
 
-// The tips that aren't hidden.
+/// The tips that aren't hidden.
 fn visible(
     alloc: Global,
     mut tips: VecDeque<Pending>,
@@ -33,7 +33,7 @@ fn visible(
 }
 
 impl<F: Find + Drop, P: Predicate + Drop> Simple<F, P> {
-    // The first step: what is hidden is painted first.
+    /// The first step: what is hidden is painted first.
     pub(super) fn first_step(&mut self) -> Option<Result<Info, Error>>
         requires { P.can_accept self.old.predicate }
         ensures steps { FirstStep F.objects F.faulty P.answers (record self.old { begun = true }) result self.new }
@@ -46,8 +46,8 @@ impl<F: Find + Drop, P: Predicate + Drop> Simple<F, P> {
         self.step()
     }
 
-    // Paints what the hidden tips reach, and takes the pending commits among it out. Without pending commits or hidden tips
-    // there is nothing to do.
+    /// Paints what the hidden tips reach, and takes the pending commits among it out. Without pending commits or hidden tips
+    /// there is nothing to do.
     fn hide_painted(&mut self) -> Result<(), Error>
         ensures hides { Hides F.objects F.faulty P.answers self.old result self.new }
         ensures asks { self.new.predicate ≡ self.old.predicate }
@@ -74,7 +74,7 @@ impl<F: Find + Drop, P: Predicate + Drop> Simple<F, P> {
     }
 
     fn painted(&self, tips: &VecDeque<Pending>) -> Result<Painting, Hidden>
-        ensures ok { IfOk result (λ p. Paints (F.objects self.now.store) self.now.rows (ids_of tips.now.items) self.now.hidden_tips p.hidden (if p.rows_stand then self.now.rows else [])) }
+        ensures ok { IfOk result (λ p. Paints (F.objects self.now.store) self.now.rows (ids_of tips.now.items) self.now.hidden_tips p.hidden (if p.rows_in_use then self.now.rows else [])) }
         ensures fault { IfErr result (λ why. why ≢ hidden_by.Find existing.Memory → IsHiddenFault (F.objects self.now.store) (F.faulty self.now.store) self.now.rows
             (ids_of tips.now.items) self.now.hidden_tips why) }
     {
@@ -87,7 +87,7 @@ impl<F: Find + Drop, P: Predicate + Drop> Simple<F, P> {
         )
     }
 
-    // The pending commits, none of which stays.
+    /// The pending commits, none of which stays.
     fn take_tips(&mut self) -> Result<VecDeque<Pending>, AllocError>
         ensures tips { IfOk result (λ tips. tips.items ≡ self.old.pending) }
         ensures left { self.new ≡ record self.old { pending = [] } }
@@ -122,13 +122,13 @@ impl<F: Find + Drop, P: Predicate + Drop> Simple<F, P> {
     }
 
     fn conceal(&mut self, shown: VecDeque<Pending>, painting: Painting)
-        ensures { self.new ≡ record self.old { pending = shown.items; hidden = painting.hidden; hidden_tips = []; rows = if painting.rows_stand then self.old.rows else [] } }
+        ensures { self.new ≡ record self.old { pending = shown.items; hidden = painting.hidden; hidden_tips = []; rows = if painting.rows_in_use then self.old.rows else [] } }
     {
         self.pending.set_list(shown);
         self.hidden = painting.hidden;
         self.hidden_tips.clear();
-        if !painting.rows_stand {
-            self.held = false;
+        if !painting.rows_in_use {
+            self.in_use = false;
         }
     }
 }

@@ -28,6 +28,7 @@ use gix_object::commit::CommitRefIter;
 use gix_object::decode;
 use gix_object::find::{Find, existing_iter};
 use gix_paint::{Hidden, HiddenIds};
+use gix_revwalk::row::NOWHERE;
 use gix_revwalk::{CommitTimeOrder, Info, Parents, Predicate, Unfiltered};
 use pending::PendingQueue;
 use std::alloc::{AllocError, AllocFailed, Global};
@@ -198,24 +199,24 @@ pub struct Simple<F, P> {
     find: F,
     predicate: P,
     graph: Option<Graph>,
-    // Whether rows are read: they are until one proves corrupt.
-    held: bool,
+    /// Whether rows are read: they are until one proves corrupt.
+    in_use: bool,
     parents: Parents,
     sorting: Sorting,
     pending: PendingQueue,
     seen: IdSet,
-    // Accepted tips that a cutoff took out and no parent list has named since.
+    /// Accepted tips that a cutoff took out and no parent list has named since.
     remembered: IdSet,
-    // Whether `next` was called.
+    /// Whether `next` was called.
     begun: bool,
-    // To be hidden, with all that they reach, by the first step. No later step looks at them.
+    /// To be hidden, with all that they reach, by the first step. No later step looks at them.
     hidden_tips: Vec<ObjectId>,
     hidden: HiddenIds,
-    // The text of the commit last given, if it was read from the store.
+    /// The text of the commit last given, if it was read from the store.
     text: Vec<u8>,
-    // The commit last taken.
+    /// The commit last taken.
     current: Option<ObjectId>,
-    // Where a parent is read for its time.
+    /// Where a parent is read for its time.
     buf: Vec<u8>,
     alloc: Global,
 }
@@ -234,7 +235,7 @@ impl<F, P> Model for Simple<F, P> {
     ghost view = { λ w. record {
       store = w.find;
       predicate = w.predicate;
-      rows = if w.held then rows_of w.graph else [];
+      rows = if w.in_use then rows_of w.graph else [];
       parents = w.parents;
       sorting = w.sorting;
       pending = w.pending.items;
@@ -292,7 +293,7 @@ impl<F: Find + Drop, P: Predicate + Drop> Simple<F, P> {
             find,
             predicate,
             graph: None,
-            held: true,
+            in_use: true,
             parents: Parents::All,
             sorting: Sorting::BreadthFirst,
             pending: PendingQueue::new(alloc),
@@ -308,7 +309,7 @@ impl<F: Find + Drop, P: Predicate + Drop> Simple<F, P> {
         };
         for tip in tips {
             // Breadth first no time is read, so the only fault is out of memory.
-            let Ok(()) = walk.treat(Times::InStore, tip) else {
+            let Ok(()) = walk.treat(Times::InStore, tip, NOWHERE) else {
                 return Err(AllocError);
             };
         }
@@ -376,7 +377,7 @@ impl<F: Find + Drop, P: Predicate + Drop> Simple<F, P> {
         ensures { result ≡ record self { rows = rows_of graph } }
     {
         self.graph = graph;
-        self.held = true;
+        self.in_use = true;
         self
     }
 
@@ -395,7 +396,7 @@ impl<F: Find + Drop, P: Predicate + Drop> Simple<F, P> {
     pub fn graph(&self) -> Option<&Graph>
         ensures { rows_in result ≡ self.now.rows }
     {
-        if !self.held {
+        if !self.in_use {
             return None;
         }
         self.graph.as_ref()

@@ -12,14 +12,14 @@ use std::collections::VecDeque;
 use std::marker::Model;
 use std::mem;
 
-// In the order in which they became pending until one is taken by time. Then by time, the best first.
+/// In the order in which they became pending until one is taken by time. Then by time, the best first.
 #[derive(Drop)]
 enum Held {
     Listed(VecDeque<Pending>),
     ByTime(CommitTimeOrder, PriorityQueue<i64, Pending>),
 }
 
-// The pending commits, and the order by time in which they are held, if there is one.
+/// The pending commits, and the order by time in which they are held, if there is one.
 #[derive(Drop)]
 pub(super) struct PendingQueue {
     held: Held,
@@ -61,7 +61,7 @@ impl PendingQueue {
         self.held = Held::Listed(VecDeque::new(self.alloc));
     }
 
-    // Takes all commits out, in the order in which they became pending where none was taken by time.
+    /// Takes all commits out, in the order in which they became pending where none was taken by time.
     pub(super) fn take_list(&mut self) -> Result<VecDeque<Pending>, AllocError>
         ensures list { IfOk result (λ list. list.items ≡ self.old.items) }
         ensures left { self.new.items ≡ [] }
@@ -72,14 +72,14 @@ impl PendingQueue {
         }
     }
 
-    // Puts these in the place of what was there.
+    /// Puts these in the place of what was there.
     pub(super) fn set_list(&mut self, list: VecDeque<Pending>)
         ensures { self.new ≡ record { order = None; items = list.items } }
     {
         self.held = Held::Listed(list);
     }
 
-    // One more becomes pending. When out of memory none is left.
+    /// One more becomes pending. When out of memory none is left.
     pub(super) fn push(
         &mut self,
         order: Option<CommitTimeOrder>,
@@ -98,7 +98,7 @@ impl PendingQueue {
         }
     }
 
-    // Takes out the one whose turn it is. When out of memory none is left.
+    /// Takes out the one whose turn it is. When out of memory none is left.
     pub(super) fn pop(
         &mut self,
         order: Option<CommitTimeOrder>,
@@ -113,7 +113,7 @@ impl PendingQueue {
         Ok(self.take())
     }
 
-    // The commits are held in this order from now on. When out of memory none is left.
+    /// The commits are held in this order from now on. When out of memory none is left.
     fn set_order(&mut self, order: Option<CommitTimeOrder>) -> Result<(), AllocError>
         ensures ok { OnOk result ((self.new.order ≡ order) × Holds order self.old.items self.new.items) }
         ensures err { OnErr result (self.new.items ≡ []) }
@@ -124,7 +124,7 @@ impl PendingQueue {
         self.rearrange(order)
     }
 
-    // Moves all commits. It is a call of its own, so that the test of the order is inlined.
+    /// Moves all commits. It is a call of its own, so that the test of the order is inlined.
     #[cold]
     #[inline(never)]
     fn rearrange(&mut self, order: Option<CommitTimeOrder>) -> Result<(), AllocError>
@@ -168,7 +168,7 @@ impl PendingQueue {
     }
 }
 
-// A greater key for a better time.
+/// A greater key for a better time.
 fn key(order: CommitTimeOrder, time: i64) -> i64
     ensures { result ≡ time_key order time }
 {
@@ -209,7 +209,8 @@ fn list_of(
     let mut list = VecDeque::new(alloc);
     let mut waiting = queue.iter_unordered();
     while let Some(pending) = waiting.next() {
-        list.push_back(*pending)?;
+        let Pending { id, time, near } = *pending;
+        list.push_back(Pending { id, time, near })?;
     }
     Ok(list)
 }

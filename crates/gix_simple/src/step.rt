@@ -19,21 +19,22 @@ use gix_object as object;
 use gix_object::commit::CommitRefIter;
 use gix_object::decode;
 use gix_object::find::{Find, existing_iter};
-use gix_revwalk::read::{RowRead, Scanned, read_row, scan};
+use gix_revwalk::read::{Scanned, scan};
+use gix_revwalk::row::{Near, RowRead, find_row, read_row};
 use gix_revwalk::{CommitTimeOrder, Info, ParentIds, Parents, Pending, Predicate};
 use std::alloc::{AllocError, Global};
 
-// Where the times of parents are read: in the rows, where their child was read by its row, else in the store.
+/// Where the times of parents are read: in the rows, where their child was read by its row, else in the store.
 #[derive(Clone, Copy)]
 pub(super) enum Times {
     InRows,
     InStore,
 }
 
-// Why the treatment of a commit's parents stopped.
+/// Why the treatment of a commit's parents stopped.
 #[derive(Clone, Copy)]
 pub(super) enum Stop {
-    // The store failed at a parent that was asked for its time.
+    /// The store failed at a parent that was asked for its time.
     Store,
     Memory,
 }
@@ -88,7 +89,7 @@ pub(super) fn is_older_than(time: i64, limit: Option<i64>) -> bool
     }
 }
 
-// The parents that are walked.
+/// The parents that are walked.
 fn walked(parents: Parents, mut parent_ids: ParentIds) -> ParentIds
     ensures { result.items ≡ by_mode parents parent_ids.items }
 {
@@ -105,8 +106,8 @@ impl<F: Find + Drop, P: Predicate + Drop> Simple<F, P> {
         time_order_of(self.parents, self.sorting)
     }
 
-    fn given_time(&self, taken: Pending) -> Option<i64>
-        ensures { result ≡ given_time self.now taken }
+    fn given_time(&self, taken: &Pending) -> Option<i64>
+        ensures { result ≡ given_time self.now taken.now }
     {
         match self.time_order() {
             Some(_) => Some(taken.time),
@@ -120,7 +121,7 @@ impl<F: Find + Drop, P: Predicate + Drop> Simple<F, P> {
         is_older_than(time, cutoff_of(self.parents, self.sorting))
     }
 
-    // Whether an id that a tip or a parent list names is neither hidden nor seen. It is seen from now on.
+    /// Whether an id that a tip or a parent list names is neither hidden nor seen. It is seen from now on.
     fn meet(&mut self, id: ObjectId) -> Result<bool, AllocError>
         ensures { Meets F.objects F.faulty P.answers self.old id result self.new }
     {
@@ -130,7 +131,7 @@ impl<F: Find + Drop, P: Predicate + Drop> Simple<F, P> {
         Ok(self.seen.insert(id)?)
     }
 
-    // Asks about an id, unless it was asked about and a yes is remembered.
+    /// Asks about an id, unless it was asked about and a yes is remembered.
     fn ask(&mut self, id: &ObjectId) -> bool
         requires { P.can_accept self.old.predicate }
         ensures asks { Asks F.objects F.faulty P.answers self.old id.now result self.new.predicate }
@@ -140,8 +141,9 @@ impl<F: Find + Drop, P: Predicate + Drop> Simple<F, P> {
         self.remembered.remove(id) || self.predicate.accepts(id)
     }
 
-    // The time by which a parent would be taken. It is 0 where no order by time is in force, and where none can be read.
-    fn parent_time(&mut self, times: Times, id: &ObjectId) -> Result<i64, Stop>
+    /// The time by which a parent would be taken. It is 0 where no order by time is in force, and where none can be read. `near` is where to
+    /// look first for its row.
+    fn parent_time(&mut self, times: Times, id: &ObjectId, near: u32) -> Result<i64, Stop>
         ensures time { TimeIs F.objects F.faulty P.answers self.old (in_rows times) id.now result }
         ensures kept { self.new ≡ self.old }
     {
@@ -150,7 +152,7 @@ impl<F: Find + Drop, P: Predicate + Drop> Simple<F, P> {
             Some(_) => {}
         }
         match times {
-            Times::InRows => Ok(self.row_time(id)),
+            Times::InRows => Ok(self.row_time(id, near)),
             Times::InStore => self.stored_time(id),
         }
     }
@@ -174,20 +176,20 @@ impl<F: Find + Drop, P: Predicate + Drop> Simple<F, P> {
         Ok(signature.seconds())
     }
 
-    fn row_time(&self, id: &ObjectId) -> i64
+    fn row_time(&self, id: &ObjectId, near: u32) -> i64
         ensures { result ≡ row_time (row_of self.now.rows id.now) }
     {
         let Some(graph) = self.graph() else {
             return 0;
         };
-        match graph.commit_by_id(id) {
+        match find_row(graph, id, near) {
             Some(commit) => commit.committer_timestamp(),
             None => 0,
         }
     }
 
-    // An accepted parent becomes pending, unless it is older than the cutoff.
-    fn enqueue(&mut self, id: ObjectId, time: i64) -> Result<(), AllocError>
+    /// An accepted parent becomes pending, unless it is older than the cutoff.
+    fn enqueue(&mut self, id: ObjectId, time: i64, near: u32) -> Result<(), AllocError>
         ensures ok { OnOk result (Enqueues F.objects F.faulty P.answers (time_order self.old.parents self.old.sorting) (cutoff self.old.parents self.old.sorting)
             self.old.pending id time self.new.pending) }
         ensures err { OnErr result (self.new.pending ≡ []) }
@@ -197,12 +199,12 @@ impl<F: Find + Drop, P: Predicate + Drop> Simple<F, P> {
             return Ok(());
         }
         let order = self.time_order();
-        self.pending.push(order, Pending { id, time })?;
+        self.pending.push(order, Pending { id, time, near })?;
         Ok(())
     }
 
-    // An id that a tip or a parent list names: where it is new and accepted, it becomes pending.
-    pub(super) fn treat(&mut self, times: Times, id: ObjectId) -> Result<(), Stop>
+    /// An id that a tip or a parent list names: where it is new and accepted, it becomes pending. `near` is where to look first for its row.
+    pub(super) fn treat(&mut self, times: Times, id: ObjectId, near: u32) -> Result<(), Stop>
         requires { P.can_accept self.old.predicate }
         ensures treats { Treats F.objects F.faulty P.answers self.old (in_rows times) id (how_ended result) self.new }
         ensures asks { P.can_accept self.new.predicate }
@@ -214,24 +216,24 @@ impl<F: Find + Drop, P: Predicate + Drop> Simple<F, P> {
         if !self.ask(&id) {
             return Ok(());
         }
-        let time = self.parent_time(times, &id)?;
-        self.enqueue(id, time)?;
+        let time = self.parent_time(times, &id, near)?;
+        self.enqueue(id, time, near)?;
         Ok(())
     }
 
-    fn treat_all(&mut self, times: Times, mut ids: &[ObjectId]) -> Result<(), Stop>
+    fn treat_all(&mut self, times: Times, mut ids: &[ObjectId], mut near: Near) -> Result<(), Stop>
         requires { P.can_accept self.old.predicate }
         ensures treats { TreatsAll F.objects F.faulty P.answers (in_rows times) self.old ids.entry.now (how_ended result) self.new }
         ensures asks { P.can_accept self.new.predicate }
     {
         while let Some((id, rest)) = ids.split_first() {
-            self.treat(times, *id)?;
+            self.treat(times, *id, near.next())?;
             ids = rest;
         }
         Ok(())
     }
 
-    // What is left of the walk after a fault in the place of a commit: no text, and where memory ran out no pending commit.
+    /// What is left of the walk after a fault in the place of a commit: no text, and where memory ran out no pending commit.
     fn fail(&mut self, id: &ObjectId, error: Error) -> Error
         ensures same { result ≡ error }
         ensures left { self.new ≡ failed id.now error self.old }
@@ -244,7 +246,7 @@ impl<F: Find + Drop, P: Predicate + Drop> Simple<F, P> {
         error
     }
 
-    // The answer after the parents of a commit were treated.
+    /// The answer after the parents of a commit were treated.
     fn conclude(
         &mut self,
         taken: Pending,
@@ -262,7 +264,7 @@ impl<F: Find + Drop, P: Predicate + Drop> Simple<F, P> {
         if let Some(fault) = scanned.fault {
             return Err(self.fail(&taken.id, Error::ObjectDecode(fault)));
         }
-        let commit_time = self.given_time(taken);
+        let commit_time = self.given_time(&taken);
         self.current = Some(taken.id);
         Ok(Info {
             id: taken.id,
@@ -280,7 +282,7 @@ impl<F: Find + Drop, P: Predicate + Drop> Simple<F, P> {
     {
         let parent_ids = walked(self.parents, row.parent_ids);
         self.text.clear();
-        let treated = self.treat_all(Times::InRows, parent_ids.as_slice());
+        let treated = self.treat_all(Times::InRows, parent_ids.as_slice(), row.near);
         let scanned = Scanned {
             parent_ids,
             fault: None,
@@ -305,17 +307,24 @@ impl<F: Find + Drop, P: Predicate + Drop> Simple<F, P> {
         let Ok(scanned) = scan(self.alloc, self.parents, items) else {
             return Err(self.fail(&id, Error::Memory));
         };
-        let treated = self.treat_all(Times::InStore, scanned.parent_ids.as_slice());
+        let near = Near::nowhere();
+        let treated = self.treat_all(Times::InStore, scanned.parent_ids.as_slice(), near);
         self.conclude(taken, scanned, None, treated)
     }
 
-    // Reads the commit, and gives it.
+    /// Reads the commit, and gives it.
     pub(super) fn take(&mut self, taken: Pending) -> Result<Info, Error>
         requires { P.can_accept self.old.predicate }
         ensures takes { Takes F.objects F.faulty P.answers self.old taken result self.new }
         ensures asks { P.can_accept self.new.predicate }
     {
-        let row = match read_row(self.alloc, self.graph.as_ref(), &mut self.held, &taken.id) {
+        let row = match read_row(
+            self.alloc,
+            self.graph.as_ref(),
+            &mut self.in_use,
+            &taken.id,
+            taken.near,
+        ) {
             Ok(row) => row,
             Err(_) => return Err(self.fail(&taken.id, Error::Memory)),
         };
@@ -325,7 +334,7 @@ impl<F: Find + Drop, P: Predicate + Drop> Simple<F, P> {
         }
     }
 
-    // The commit whose turn it is leaves those that are pending.
+    /// The commit whose turn it is leaves those that are pending.
     fn choose(&mut self) -> Result<Option<Pending>, AllocError>
         ensures ok { IfOk result (λ taken. TakesOut (time_order self.old.parents self.old.sorting) self.old.pending taken self.new.pending) }
         ensures rest { OnOk result (self.new ≡ record self.old { pending = self.new.pending }) }
@@ -340,7 +349,7 @@ impl<F: Find + Drop, P: Predicate + Drop> Simple<F, P> {
         chosen
     }
 
-    // Takes the commit whose turn it is.
+    /// Takes the commit whose turn it is.
     pub(super) fn step(&mut self) -> Option<Result<Info, Error>>
         requires { P.can_accept self.old.predicate }
         ensures steps { Steps F.objects F.faulty P.answers self.old result self.new }

@@ -8,11 +8,12 @@ use super::step::is_older_than;
 use super::{Error, Simple};
 use gix_hash::ObjectId;
 use gix_object::find::Find;
+use gix_revwalk::row::NOWHERE;
 use gix_revwalk::{Pending, Predicate};
 use std::collections::VecDeque;
 
 impl<F: Find + Drop, P: Predicate + Drop> Simple<F, P> {
-    // The tips are pending again with their times, up to the first that can't be read.
+    /// The tips are pending again with their times, up to the first that can't be read.
     pub(super) fn sort_tips(
         &mut self,
         mut tips: VecDeque<Pending>,
@@ -30,16 +31,17 @@ impl<F: Find + Drop, P: Predicate + Drop> Simple<F, P> {
         Ok(())
     }
 
-    // The tip is pending again with its time, unless it is older than the cutoff.
+    /// The tip is pending again with its time, unless it is older than the cutoff.
     fn sort_in(&mut self, id: ObjectId, limit: Option<i64>) -> Result<(), Error>
         ensures { SortsIn F.objects F.faulty limit self.old id result self.new }
     {
         let time = self.tip_time(&id)?;
+        let near = NOWHERE;
         if is_older_than(time, limit) {
             self.seen.remove(&id);
             self.remembered.insert(id)?;
         } else {
-            self.pending.push(None, Pending { id, time })?;
+            self.pending.push(None, Pending { id, time, near })?;
         }
         Ok(())
     }

@@ -266,7 +266,7 @@ impl Wish<'_> {
         Ok(walk.sorting(self.sortings[0])?.parents(self.parents))
     }
 
-    // A function of its own, since a proof goes slowly that carries along what `sorting` says.
+    /// A function of its own, since a proof goes slowly that carries along what `sorting` says.
     fn sorted<F: Find + Drop, P: Predicate + Drop>(
         &self,
         walk: Simple<F, P>,

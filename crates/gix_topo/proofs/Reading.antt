@@ -9,6 +9,4 @@ pub mod Faultless
 -- What was read once is known, and as long as the rows are in use its row has no fault.
 pub mod OnceRead
 -- A commit is read from the store only where no row of it is in use.
-pub mod Unheld
--- The row of an id, where it is looked for first.
-pub mod NearRow
+pub mod NoRowInUse

@@ -2,6 +2,8 @@
 pub mod Exploring
 -- What both searches have seen and done.
 pub mod Searched
+-- What commits are read from.
+pub mod Reader
 -- How ready commits are held.
 pub mod ReadySet
 -- How the parents of a taken commit become ready.

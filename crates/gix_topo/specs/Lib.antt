@@ -6,7 +6,7 @@ pub mod DateOrder
 pub mod TopoOrder
 -- Generations, and how far down indegrees are counted.
 pub mod Depth
--- How a topological walk reads a commit: by its row as long as rows are held, or else from the store.
+-- How a topological walk reads a commit: by its row as long as rows are in use, or else from the store.
 pub mod Reading
 -- What the walk holds, how it is built, and one step of it.
 pub mod Walk

@@ -1,4 +1,4 @@
--- How a topological walk reads a commit: by its row as long as rows are held, or else from the store.
+-- How a topological walk reads a commit: by its row as long as rows are in use, or else from the store.
 use Rattle.std.specs.Prelude.{◌≡◌, ◌≢◌, ℕ, ℤ, pos, nat_lt, List, Bool, true, if◌then◌else◌, Option, Some, None, Result, Ok, Err}
 use Rattle.std.specs.FinMap as map_of
 use Rattle.gix_hash.specs.declared.ObjectId.{ObjectId}
@@ -16,7 +16,7 @@ use Rattle.gix_revwalk.specs.declared.Parents.TheVariants as mode
 use Rattle.gix_revwalk.specs.declared.Info.{Info}
 use Rattle.gix_topo.specs.declared.Error.{Error}
 use Rattle.gix_topo.specs.declared.Error.TheVariants as error
-use Rattle.gix_revwalk.specs.declared.read.RowRead.{RowRead}
+use Rattle.gix_revwalk.specs.declared.row.RowRead.{RowRead}
 use Rattle.gix_revwalk.specs.Infos.{IsInfo}
 use Rattle.gix_revwalk.specs.Texts.{scanned}
 use Rattle.gix_topo.specs.Depth.{infinity, known_generation}
@@ -49,16 +49,16 @@ IsReadFault objects faulty i (error.Find e) = IsExistingFault objects faulty i o
 IsReadFault objects faulty i error.Memory = Unit {0}
 
 -- no row of the commit is in use: the rows were dropped, or it has none, or a corrupt one
-abbrev pub IsUnheld : List GraphRow → Bool → ObjectId → Type 0
-IsUnheld rows standing i = standing ≡ true → IsUnrowed rows i
+abbrev pub HasNoRowInUse : List GraphRow → Bool → ObjectId → Type 0
+HasNoRowInUse rows in_use i = in_use ≡ true → IsUnrowed rows i
 
 -- why reading a commit fails: the store can't give it, and is asked only where no row of the commit is in use
 abbrev pub ReadFails : Objects → (ObjectId → Type 0) → List GraphRow → Bool → ObjectId → Error → Type 0
-ReadFails objects faulty rows standing i e = IsReadFault objects faulty i e × (e ≢ error.Memory → IsUnheld rows standing i)
+ReadFails objects faulty rows in_use i e = IsReadFault objects faulty i e × (e ≢ error.Memory → HasNoRowInUse rows in_use i)
 
 -- why looking a parent up fails: the store can't give it, and is asked only where no row in use says a finite generation
 abbrev pub LookUpFails : Objects → (ObjectId → Type 0) → List GraphRow → Bool → ObjectId → Error → Type 0
-LookUpFails objects faulty rows standing i e = IsReadFault objects faulty i e × (standing ≡ true → known_generation rows i ≡ infinity)
+LookUpFails objects faulty rows in_use i e = IsReadFault objects faulty i e × (in_use ≡ true → known_generation rows i ≡ infinity)
 
 -- what reading a commit from the store answers
 abbrev pub ReadsText : Objects → (ObjectId → Type 0) → ObjectId → Result Info Error → Type 0
@@ -66,11 +66,11 @@ ReadsText objects faulty i (Ok info) =
     (bytes : List ℕ) × (map_of.get objects i ≡ Some (record { kind = object.Commit; bytes = bytes })) × IsOfItems i (commit_items (kind_of i) bytes) info
 ReadsText objects faulty i (Err e) = IsReadFault objects faulty i e
 
--- what reading a commit answers, and whether the rows are held then
-pub data Reads (objects : Objects) (faulty : ObjectId → Type 0) (rows : List GraphRow) (standing : Bool) (i : ObjectId) : Result Info Error → Bool
+-- what reading a commit answers, and whether the rows are in use then
+pub data Reads (objects : Objects) (faulty : ObjectId → Type 0) (rows : List GraphRow) (in_use : Bool) (i : ObjectId) : Result Info Error → Bool
     → Type 0 where
-  by_row : {read : RowRead} {info : Info} {new : Bool} → ReadsRow rows standing i (Some read) new
-      → IsInfo info i read.parent_ids.items (told_generation read.generation) (Some read.time) → Reads objects faulty rows standing i (Ok info) new
-  by_text : {answer : Result Info Error} {new : Bool} → ReadsRow rows standing i None new → ReadsText objects faulty i answer
-      → Reads objects faulty rows standing i answer new
-  no_memory : {new : Bool} → Reads objects faulty rows standing i (Err error.Memory) new
+  by_row : {read : RowRead} {info : Info} {new : Bool} → ReadsRow rows in_use i (Some read) new
+      → IsInfo info i read.parent_ids.items (told_generation read.generation) (Some read.time) → Reads objects faulty rows in_use i (Ok info) new
+  by_text : {answer : Result Info Error} {new : Bool} → ReadsRow rows in_use i None new → ReadsText objects faulty i answer
+      → Reads objects faulty rows in_use i answer new
+  no_memory : {new : Bool} → Reads objects faulty rows in_use i (Err error.Memory) new

@@ -218,9 +218,9 @@ module _ {F P : Type 0} (objects : F → Objects) (faulty : F → ObjectId → T
       → Contains list (Ok info)
       → (p : ObjectId)
       → Contains info.parent_ids.items p
-      → (standing : Bool) × IsKnown (objects walk.plan.store) walk.plan.rows standing p
+      → (in_use : Bool) × IsKnown (objects walk.plan.store) walk.plan.rows in_use p
 
-  -- as long as the rows are held
+  -- as long as the rows are in use
   abbrev pub TellsTheGenerations : Type 0
   TellsTheGenerations =
       (walk mid new : TopoWalk F P) (list : List (Result Info Error)) (info : Info)
@@ -228,7 +228,7 @@ module _ {F P : Type 0} (objects : F → Objects) (faulty : F → ObjectId → T
       → IsAgreeing (objects walk.plan.store) walk.plan.rows
       → Yields (Next objects faulty answers) walk list mid
       → Next objects faulty answers mid (Some (Ok info)) new
-      → new.counted.standing ≡ true
+      → new.counted.in_use ≡ true
       → info.generation ≡ row_generation (row_of walk.plan.rows info.id)
 
   -- as long as no fault came

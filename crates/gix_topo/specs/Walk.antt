@@ -51,9 +51,9 @@ pub record Ready : Type 0 where
 
 -- how far a walk has counted
 pub record Counted : Type 0 where
-  -- whether the rows are held: they are until one proves corrupt
-  pub standing : Bool
-  -- as long as they are held, no commit of a lesser generation is read
+  -- whether the rows are in use: they are until one proves corrupt
+  pub in_use : Bool
+  -- as long as they are in use, no commit of a lesser generation is read
   pub depth : ℕ
   -- the number of different commits whose parents were read
   pub expanded : ℕ
@@ -123,9 +123,9 @@ pub record IsCommitRead (objects : Objects) (i : ObjectId) : Type 0 where
   pub stored : map_of.get objects i ≡ Some (record { kind = object.Commit; bytes = bytes })
   pub faultless : (e : DecodeError) → Contains (commit_items (kind_of i) bytes) (Err e) → ⊥
 
--- It has a row, as long as the rows are held, or is stored as a commit whose text can be read.
+-- It has a row, as long as the rows are in use, or is stored as a commit whose text can be read.
 abbrev pub IsKnown : Objects → List GraphRow → Bool → ObjectId → Type 0
-IsKnown objects rows standing i = ((standing ≡ true) × (row : GraphRow) × (row_of rows i ≡ Some row)) ⊎ IsCommitRead objects i
+IsKnown objects rows in_use i = ((in_use ≡ true) × (row : GraphRow) × (row_of rows i ≡ Some row)) ⊎ IsCommitRead objects i
 
 -- the commit is stored, and its items end in this fault
 abbrev pub IsTextFault : Objects → ObjectId → DecodeError → Type 0
@@ -173,12 +173,12 @@ module _ {F : Type 0} (objects : F → Objects) (plan : TopoPlan F) where
   IsMember = IsInWalk walked_of (parents_of (objects plan.store)) plan.tips plan.ends
 
   -- a ready commit is as its text and the rows say
-  pub record IsStored (standing : Bool) (r : Ready) : Type 0 where
+  pub record IsStored (in_use : Bool) (r : Ready) : Type 0 where
     pub parents : r.parents ≡ text_next (objects plan.store) r.id
     pub time : r.time ≡ time_of (objects plan.store) r.id
-    -- none, or the row's; and the row's as long as the rows are held
+    -- none, or the row's; and the row's as long as the rows are in use
     pub by_row : IsRowGeneration plan.rows r.id r.generation
-    pub told : standing ≡ true → r.generation ≡ row_generation (row_of plan.rows r.id)
+    pub told : in_use ≡ true → r.generation ≡ row_generation (row_of plan.rows r.id)
 
   -- reached, and not below the depth
   pub record IsInDepth (depth : ℕ) (i : ObjectId) : Type 0 where
@@ -193,13 +193,13 @@ module _ {F : Type 0} (objects : F → Objects) (plan : TopoPlan F) where
     pub by_row : row_of plan.rows id ≡ Some row
     pub corrupt : IsCorrupt row
 
-  -- The number of commits whose parents were read is exact: down to the depth as long as the rows are held, and of all once they
+  -- The number of commits whose parents were read is exact: down to the depth as long as the rows are in use, and of all once they
   -- are dropped. They are dropped exactly for a corrupt row.
   pub record IsCounting (counted : Counted) : Type 0 where
-    pub exact : counted.standing ≡ true → IsNumberOf (IsInDepth counted.depth) counted.expanded
-    pub all : counted.standing ≡ false → IsNumberOf IsReached counted.expanded
-    pub dropped : counted.standing ≡ false → IsBrokenRow counted.depth
-    pub whole : counted.standing ≡ true → IsBrokenRow counted.depth → ⊥
+    pub exact : counted.in_use ≡ true → IsNumberOf (IsInDepth counted.depth) counted.expanded
+    pub all : counted.in_use ≡ false → IsNumberOf IsReached counted.expanded
+    pub dropped : counted.in_use ≡ false → IsBrokenRow counted.depth
+    pub whole : counted.in_use ≡ true → IsBrokenRow counted.depth → ⊥
 
   -- the rows are dropped for the corrupt row of this commit, which tips or ends reach if the rows agree
   pub record DropsBy : Type 0 where
@@ -226,15 +226,15 @@ module _ {F : Type 0} (objects : F → Objects) (plan : TopoPlan F) where
   IsLate BecomesReady error.Memory = Unit {0}
 
 module _ {F : Type 0} (objects : F → Objects) (faulty : F → ObjectId → Type 0) (plan : TopoPlan F) where
-  -- how a ready commit was read: by its row, as long as the rows are held; rows that were dropped aren't read
-  pub record IsFound (stood standing : Bool) (r : Ready) : Type 0 where
+  -- how a ready commit was read: by its row, as long as the rows are in use; rows that were dropped aren't read
+  pub record IsFound (was_in_use in_use : Bool) (r : Ready) : Type 0 where
     pub info : Info
     pub before : Bool
     pub after : Bool
     pub reads : Reads (objects plan.store) (faulty plan.store) plan.rows before r.id (Ok info) after
     pub is : IsOfInfo r info
-    pub earlier : before ≡ true → stood ≡ true
-    pub later : standing ≡ true → after ≡ true
+    pub earlier : before ≡ true → was_in_use ≡ true
+    pub later : in_use ≡ true → after ≡ true
     -- and each of its parents was known, walked or not
     pub known : (p : ObjectId) → Contains r.parents p → IsKnown (objects plan.store) plan.rows after p
 
@@ -286,8 +286,8 @@ module _ {F P : Type 0} (objects : F → Objects) (faulty : F → ObjectId → T
     pub tips : (i : ObjectId) → Contains (ready_ids walk.ready) i → Contains walk.plan.tips i
     pub starts : IsAgreeing (objects walk.plan.store) walk.plan.rows → StartsWith walk.plan walk.ready
     -- each was read, whatever the store and the rows
-    pub found : (r : Ready) → Contains walk.ready r → IsFound objects faulty walk.plan true walk.counted.standing r
-    pub stored : IsAgreeing (objects walk.plan.store) walk.plan.rows → (r : Ready) → Contains walk.ready r → IsStored objects walk.plan walk.counted.standing r
+    pub found : (r : Ready) → Contains walk.ready r → IsFound objects faulty walk.plan true walk.counted.in_use r
+    pub stored : IsAgreeing (objects walk.plan.store) walk.plan.rows → (r : Ready) → Contains walk.ready r → IsStored objects walk.plan walk.counted.in_use r
     pub depth : walk.counted.depth ≡ first_depth walk.plan
     pub counting : IsAgreeing (objects walk.plan.store) walk.plan.rows → IsCounting objects walk.plan walk.counted
     -- without rows, all that is reached was read
@@ -310,15 +310,15 @@ module _ {F P : Type 0} (objects : F → Objects) (faulty : F → ObjectId → T
     pub unmade : (i : ObjectId) → Contains (ready_ids added) i → was_ready old i ≡ false
     pub named : (i : ObjectId) → Contains (ready_ids added) i → is_among i (named_ids (objects old.plan.store) old.plan.rows) ≡ true
     -- and was read, whatever the store and the rows
-    pub found : (r : Ready) → Contains added r → IsFound objects faulty old.plan old.counted.standing counted.standing r
+    pub found : (r : Ready) → Contains added r → IsFound objects faulty old.plan old.counted.in_use counted.in_use r
     -- where the rows agree: the walked parents that became ready, each at its last place
     pub became :
         IsAgreeing (objects old.plan.store) old.plan.rows
         → Keeps (IsReady (text_walked objects old.plan) (IsTextMember objects old.plan) (IsTaken (set.insert old.taken c.id)))
         (last_places (text_walked objects old.plan c.id)) (ready_ids added)
-    pub stored : IsAgreeing (objects old.plan.store) old.plan.rows → (r : Ready) → Contains added r → IsStored objects old.plan counted.standing r
+    pub stored : IsAgreeing (objects old.plan.store) old.plan.rows → (r : Ready) → Contains added r → IsStored objects old.plan counted.in_use r
     -- dropped rows don't come back
-    pub stands : counted.standing ≡ true → old.counted.standing ≡ true
+    pub stands : counted.in_use ≡ true → old.counted.in_use ≡ true
     -- lowered to the least generation of the walked parents
     pub depth : counted.depth ≡ least old.plan.rows old.counted.depth (by_mode old.plan.parents c.parents)
     pub counting : IsAgreeing (objects old.plan.store) old.plan.rows → IsCounting objects old.plan counted

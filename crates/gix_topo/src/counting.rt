@@ -9,13 +9,13 @@ ghost use Rattle.gix_topo.specs.Reading.{ReadFails, LookUpFails};
 ghost use Rattle.gix_topo.specs.Inside.Exploring.{is_pending, Follows, ReadsParents, Steps, IsStepFault, IsSamePlan, Explores, IsExploringFault, IsRested};
 
 use super::Error;
-use super::near::{NOWHERE, Near};
 use super::reader::Reader;
 use gix_commitgraph::GENERATION_NUMBER_INFINITY;
 use gix_frontier::{Frontier, Side, Waiting};
 use gix_hash::ObjectId;
 use gix_hash::hashtable::IdSet;
 use gix_object::find::Find;
+use gix_revwalk::row::{NOWHERE, Near};
 use gix_revwalk::{ParentIds, Parents};
 use std::alloc::{AllocError, Global};
 use std::collections::VecDeque;
@@ -26,7 +26,7 @@ pub(super) struct Counting<F> {
     pub(super) reader: Reader<F>,
     pub(super) parents: Parents,
     pub(super) frontier: Frontier,
-    /// As long as the rows are held, no id of a lesser generation is read.
+    /// As long as the rows are in use, no id of a lesser generation is read.
     pub(super) depth: u32,
     /// The number of different ids whose parents were read.
     pub(super) expanded: usize,
@@ -45,7 +45,7 @@ pub(super) fn walked(parents: Parents, ids: &[ObjectId]) -> &[ObjectId]
 /// So many parents are compared with one another. Where there are more, a set has those that were met.
 const FEW: usize = 8;
 
-// Each id of a list at its last place, by comparing each with those after it.
+/// Each id of a list at its last place, by comparing each with those after it.
 fn last_places_of_few(alloc: Global, mut ids: &[ObjectId]) -> Result<ParentIds, AllocError>
     ensures { IfOk result (λ places. places.items ≡ last_places ids.entry.now) }
 {
@@ -60,7 +60,7 @@ fn last_places_of_few(alloc: Global, mut ids: &[ObjectId]) -> Result<ParentIds, 
     Ok(places)
 }
 
-// Each id of a list at its last place, from the back.
+/// Each id of a list at its last place, from the back.
 fn last_places_of_many(
     alloc: Global,
     mut ids: &[ObjectId],
@@ -103,10 +103,7 @@ impl<F: Find + Drop> Counting<F> {
 
     /// A side starts from these.
     fn meet_all(&mut self, mut ids: &[ObjectId], side: Side) -> Result<(), AllocError>
-        ensures reader { self.new.reader ≡ self.old.reader }
-        ensures parents { self.new.parents ≡ self.old.parents }
-        ensures depth { self.new.depth ≡ self.old.depth }
-        ensures expanded { self.new.expanded ≡ self.old.expanded }
+        ensures same { self.new ≡ record self.old { frontier = self.new.frontier } }
         ensures meets { OnOk result (MeetsAll (rows_of self.old.reader.graph) side self.old.frontier ids.entry.now self.new.frontier) }
     {
         while let Some((id, rest)) = ids.split_first() {
@@ -125,7 +122,7 @@ impl<F: Find + Drop> Counting<F> {
         ends: &[ObjectId],
     ) -> Result<Counting<F>, Error>
     where
-        requires { reader.standing ≡ true }
+        requires { reader.in_use ≡ true }
         ensures begun { (sorting : Sorting) → IfOk result (HasBegun F.objects F.faulty (plan_over reader parents sorting tips.now ends.now)) }
         ensures fault { (sorting : Sorting) → IfErr result (IsBuildFault F.objects F.faulty (plan_over reader parents sorting tips.now ends.now)) }
     {
@@ -146,10 +143,7 @@ impl<F: Find + Drop> Counting<F> {
 
     /// The parents of the commit that was read last, and whose parents a side goes to, are met.
     fn follow(&mut self, mut ids: &[ObjectId], side: Side) -> Result<(), AllocError>
-        ensures reader { self.new.reader ≡ self.old.reader }
-        ensures parents { self.new.parents ≡ self.old.parents }
-        ensures depth { self.new.depth ≡ self.old.depth }
-        ensures expanded { self.new.expanded ≡ self.old.expanded }
+        ensures same { self.new ≡ record self.old { frontier = self.new.frontier } }
         ensures follows { OnOk result (Follows (rows_of self.old.reader.graph) side self.old.frontier ids.entry.now self.new.frontier) }
     {
         let mut near = self.reader.near;
@@ -164,11 +158,9 @@ impl<F: Find + Drop> Counting<F> {
 
     /// The parents of a commit that a side goes to, each at its last place. `near` is where to look first for its row.
     fn read(&mut self, id: &ObjectId, side: Side, near: u32) -> Result<ParentIds, Error>
-        ensures same { IsSamePlan F.objects F.faulty self.old self.new }
-        ensures frontier { self.new.frontier ≡ self.old.frontier }
-        ensures expanded { self.new.expanded ≡ self.old.expanded }
-        ensures reads { IfOk result (λ ids. ReadsParents F.objects F.faulty self.old id.now side ids.items self.new.reader.standing) }
-        ensures fault { IfErr result (ReadFails (F.objects self.old.reader.find) (F.faulty self.old.reader.find) (rows_of self.old.reader.graph) self.old.reader.standing id.now) }
+        ensures same { self.new ≡ record self.old { reader = record self.old.reader { in_use = self.new.reader.in_use } } }
+        ensures reads { IfOk result (λ ids. ReadsParents F.objects F.faulty self.old id.now side ids.items self.new.reader.in_use) }
+        ensures fault { IfErr result (ReadFails (F.objects self.old.reader.find) (F.faulty self.old.reader.find) (rows_of self.old.reader.graph) self.old.reader.in_use id.now) }
     {
         let info = self.reader.read(id, near)?;
         let mode = match side {
@@ -178,23 +170,17 @@ impl<F: Find + Drop> Counting<F> {
         Ok(last_places(self.reader.alloc, walked(mode, info.parent_ids.as_slice()))?)
     }
 
-    /// Looks a parent up, unless the rows are held and it has a row or a search has read it.
+    /// Looks a parent up, unless the rows are in use and it has a row or a search has read it.
     ///
     /// # Errors
     ///
     /// Why it can't be read.
     pub(super) fn look_up_parent(&mut self, id: &ObjectId) -> Result<(), Error>
-        ensures store { self.new.reader.find ≡ self.old.reader.find }
-        ensures graph { self.new.reader.graph ≡ self.old.reader.graph }
-        ensures standing { self.new.reader.standing ≡ self.old.reader.standing }
-        ensures parents { self.new.parents ≡ self.old.parents }
-        ensures frontier { self.new.frontier ≡ self.old.frontier }
-        ensures depth { self.new.depth ≡ self.old.depth }
-        ensures expanded { self.new.expanded ≡ self.old.expanded }
-        ensures known { OnOk result (LooksUpParent (F.objects self.old.reader.find) (rows_of self.old.reader.graph) self.old.reader.standing self.old.frontier id.now) }
-        ensures fault { IfErr result (LookUpFails (F.objects self.old.reader.find) (F.faulty self.old.reader.find) (rows_of self.old.reader.graph) self.old.reader.standing id.now) }
+        ensures same { self.new ≡ self.old }
+        ensures known { OnOk result (LooksUpParent (F.objects self.old.reader.find) (rows_of self.old.reader.graph) self.old.reader.in_use self.old.frontier id.now) }
+        ensures fault { IfErr result (LookUpFails (F.objects self.old.reader.find) (F.faulty self.old.reader.find) (rows_of self.old.reader.graph) self.old.reader.in_use id.now) }
     {
-        if self.reader.standing && self.frontier.known(id).is_done() {
+        if self.reader.in_use && self.frontier.known(id).is_done() {
             return Ok(());
         }
         self.reader.look_up(id)
@@ -221,7 +207,7 @@ impl<F: Find + Drop> Counting<F> {
 
     /// Reads the parents of a queued id of greatest generation.
     fn step(&mut self) -> Result<(), Error>
-        requires { is_pending self.old.reader.standing self.old.depth self.old.frontier.queue ≡ true }
+        requires { is_pending self.old.reader.in_use self.old.depth self.old.frontier.queue ≡ true }
         ensures same { IsSamePlan F.objects F.faulty self.old self.new }
         ensures steps { OnOk result (Steps F.objects F.faulty self.old self.new) }
         ensures fault { IfErr result (IsStepFault F.objects F.faulty self.old) }
@@ -239,11 +225,11 @@ impl<F: Find + Drop> Counting<F> {
 
     /// Whether exploring must go on.
     fn is_pending(&self) -> bool
-        ensures pending { result ≡ is_pending self.now.reader.standing self.now.depth self.now.frontier.queue }
-        ensures rested { result ≡ false → IsRested self.now.reader.standing self.now.depth self.now.frontier.queue }
+        ensures pending { result ≡ is_pending self.now.reader.in_use self.now.depth self.now.frontier.queue }
+        ensures rested { result ≡ false → IsRested self.now.reader.in_use self.now.depth self.now.frontier.queue }
     {
         match self.frontier.queue.peek() {
-            Some((generation, _)) => !self.reader.standing || self.depth <= *generation,
+            Some((generation, _)) => !self.reader.in_use || self.depth <= *generation,
             None => false,
         }
     }
@@ -266,7 +252,7 @@ impl<F: Find + Drop> Counting<F> {
     pub(super) fn explore(&mut self) -> Result<(), Error>
         ensures same { IsSamePlan F.objects F.faulty self.old self.new }
         ensures explores { OnOk result (Explores F.objects F.faulty self.old self.new) }
-        ensures rested { OnOk result (IsRested self.new.reader.standing self.new.depth self.new.frontier.queue) }
+        ensures rested { OnOk result (IsRested self.new.reader.in_use self.new.depth self.new.frontier.queue) }
         ensures fault { IfErr result (IsExploringFault F.objects F.faulty self.old) }
     {
         while self.is_pending() {

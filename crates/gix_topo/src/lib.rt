@@ -4,10 +4,8 @@
 mod counting;
 mod init;
 pub mod laws;
-mod near;
 mod reader;
 mod ready;
-mod row;
 mod walk;
 
 use gix_commitgraph::Graph;
@@ -149,13 +147,9 @@ impl<F: Find + Drop, P: Predicate + Drop> Topo<F, P> {
 
     /// The commit-graph, as long as its rows are read: none where the builder had none, and after a corrupt row.
     pub fn graph(&self) -> Option<&Graph>
-        ensures { rows_in result ≡ if self.now.counted.standing then self.now.plan.rows else [] }
+        ensures { rows_in result ≡ if self.now.counted.in_use then self.now.plan.rows else [] }
     {
-        let reader = &self.walk.counting.reader;
-        if !reader.standing {
-            return None;
-        }
-        reader.graph.as_ref()
+        self.walk.counting.reader.graph()
     }
 
     /// The number of different commits whose parents were read to count indegrees, from their rows or from the store.

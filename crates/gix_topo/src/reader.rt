@@ -1,20 +1,22 @@
 //! Reads commits by their rows, or else from the store.
-ghost use Rattle.std.specs.Prelude.{◌≡◌, IfOk, IfErr, OnOk, true};
+ghost use Rattle.std.specs.Prelude.{◌≡◌, [], IfOk, IfErr, OnOk, true, if◌then◌else◌};
 ghost use Rattle.gix_topo.specs.Depth.{known_generation};
 ghost use Rattle.gix_topo.specs.Walk.{IsKnown};
+ghost use Rattle.gix_revwalk.specs.Agreeing.{rows_in};
 ghost use Rattle.gix_revwalk.specs.Reading.{rows_of};
+ghost use Rattle.gix_topo.specs.Inside.Reader.{reader_by};
 ghost use Rattle.gix_topo.specs.Reading.{Reads, ReadsText, LookUpFails};
 
 use super::Error;
-use super::near::{NOWHERE, Near};
-use super::row::{find_row, read_row};
 use gix_commitgraph::{GENERATION_NUMBER_INFINITY, Graph};
 use gix_hash::ObjectId;
 use gix_object::decode;
 use gix_object::find::Find;
 use gix_revwalk::Info;
 use gix_revwalk::read::{Header, find_header};
+use gix_revwalk::row::{NOWHERE, Near, find_row, read_row};
 use std::alloc::Global;
+use std::marker::Model;
 
 /// What commits are read from.
 #[derive(Drop)]
@@ -22,27 +24,43 @@ pub(super) struct Reader<F> {
     pub(super) find: F,
     pub(super) graph: Option<Graph>,
     /// Whether rows are read: they are until one proves corrupt.
-    pub(super) standing: bool,
+    pub(super) in_use: bool,
     /// Where to look first for the rows of the parents of the commit that was read last.
     pub(super) near: Near,
     pub(super) text: Vec<u8>,
     pub(super) alloc: Global,
 }
 
+impl<F> Model for Reader<F> {
+    ghost use Rattle.gix_topo.specs.Inside.Reader as model;
+
+    ghost Value = { model.Reader F };
+
+    ghost view = { λ r. model.reader_by r.find r.graph r.in_use };
+}
+
 impl<F: Find + Drop> Reader<F> {
     pub(super) fn new(alloc: Global, find: F, graph: Option<Graph>) -> Reader<F>
-        ensures find { result.find ≡ find }
-        ensures graph { result.graph ≡ graph }
-        ensures standing { result.standing ≡ true }
+        ensures { result ≡ reader_by find graph true }
     {
         Reader {
             find,
             graph,
-            standing: true,
+            in_use: true,
             near: Near::nowhere(),
             text: Vec::new(alloc),
             alloc,
         }
+    }
+
+    /// The commit-graph, as long as its rows are in use.
+    pub(super) fn graph(&self) -> Option<&Graph>
+        ensures { rows_in result ≡ if self.now.in_use then rows_of self.now.graph else [] }
+    {
+        if !self.in_use {
+            return None;
+        }
+        self.graph.as_ref()
     }
 
     /// The generation that a row says, and infinity where there is none. `near` is where to look first for the row.
@@ -58,11 +76,9 @@ impl<F: Find + Drop> Reader<F> {
         }
     }
 
-    // The commit as its text says it. A text that ends before a committer has time 0.
+    /// The commit as its text says it. A text that ends before a committer has time 0.
     fn read_text(&mut self, id: &ObjectId) -> Result<Info, Error>
-        ensures store { self.new.find ≡ self.old.find }
-        ensures graph { self.new.graph ≡ self.old.graph }
-        ensures standing { self.new.standing ≡ self.old.standing }
+        ensures same { self.new ≡ self.old }
         ensures reads { ReadsText (F.objects self.old.find) (F.faulty self.old.find) id.now result }
     {
         let Header { parent_ids, time } = find_header(self.alloc, &self.find, id, &mut self.text)?;
@@ -79,29 +95,22 @@ impl<F: Find + Drop> Reader<F> {
         })
     }
 
-    /// The commit by its row where the rows are held and it has one, and else from the store. `near` is where to look first for the row.
+    /// The commit by its row where the rows are in use and it has one, and else from the store. `near` is where to look first for the row.
     /// Then `self.near` is for the parents.
     ///
     /// # Errors
     ///
     /// Why it can't be read.
     pub(super) fn read(&mut self, id: &ObjectId, near: u32) -> Result<Info, Error>
-        ensures store { self.new.find ≡ self.old.find }
-        ensures graph { self.new.graph ≡ self.old.graph }
-        ensures reads { Reads (F.objects self.old.find) (F.faulty self.old.find) (rows_of self.old.graph) self.old.standing id.now result self.new.standing }
+        ensures same { self.new ≡ record self.old { in_use = self.new.in_use } }
+        ensures reads { Reads (F.objects self.old.find) (F.faulty self.old.find) (rows_of self.old.graph) self.old.in_use id.now result self.new.in_use }
     {
         self.near = Near::nowhere();
-        let row = read_row(
-            self.alloc,
-            self.graph.as_ref(),
-            &mut self.standing,
-            id,
-            near,
-            &mut self.near,
-        )?;
+        let row = read_row(self.alloc, self.graph.as_ref(), &mut self.in_use, id, near)?;
         let Some(row) = row else {
             return self.read_text(id);
         };
+        self.near = row.near;
         Ok(Info {
             id: *id,
             parent_ids: row.parent_ids,
@@ -114,19 +123,17 @@ impl<F: Find + Drop> Reader<F> {
         })
     }
 
-    /// Looks a parent up, unless a row that is held says that it exists.
+    /// Looks a parent up, unless a row in use says that it exists.
     ///
     /// # Errors
     ///
     /// Why it can't be read.
     pub(super) fn look_up(&mut self, id: &ObjectId) -> Result<(), Error>
-        ensures store { self.new.find ≡ self.old.find }
-        ensures graph { self.new.graph ≡ self.old.graph }
-        ensures standing { self.new.standing ≡ self.old.standing }
-        ensures known { OnOk result (IsKnown (F.objects self.old.find) (rows_of self.old.graph) self.old.standing id.now) }
-        ensures fault { IfErr result (LookUpFails (F.objects self.old.find) (F.faulty self.old.find) (rows_of self.old.graph) self.old.standing id.now) }
+        ensures same { self.new ≡ self.old }
+        ensures known { OnOk result (IsKnown (F.objects self.old.find) (rows_of self.old.graph) self.old.in_use id.now) }
+        ensures fault { IfErr result (LookUpFails (F.objects self.old.find) (F.faulty self.old.find) (rows_of self.old.graph) self.old.in_use id.now) }
     {
-        if self.standing && self.generation(id, NOWHERE) < GENERATION_NUMBER_INFINITY {
+        if self.in_use && self.generation(id, NOWHERE) < GENERATION_NUMBER_INFINITY {
             return Ok(());
         }
         self.read_text(id)?;

@@ -5,13 +5,13 @@ ghost use Rattle.gix_frontier.specs.Inside.Frontier.{is_due};
 ghost use Rattle.gix_topo.specs.Inside.ReadySet.{as_ready};
 
 use super::counting::{Counting, last_places, walked};
-use super::near::{NOWHERE, Near};
 use super::reader::Reader;
 use super::ready::{ReadyCommit, ReadySet};
 use super::{Error, Sorting};
 use gix_frontier::{Known, Progress, Side};
 use gix_hash::ObjectId;
 use gix_object::find::Find;
+use gix_revwalk::row::{NOWHERE, Near};
 use gix_revwalk::{Info, Parents};
 
 /// What a walk holds, apart from its predicate.
@@ -106,7 +106,7 @@ impl<F: Find + Drop> Walk<F> {
         ends: Vec<ObjectId>,
     ) -> Result<Walk<F>, Error>
     where
-        requires { reader.standing ≡ true }
+        requires { reader.in_use ≡ true }
         ensures begun { IfOk result (IsBegunWalk F.objects F.faulty (plan_over reader parents sorting tips.items ends.items)) }
         ensures fault { IfErr result (IsBuildFault F.objects F.faulty (plan_over reader parents sorting tips.items ends.items)) }
     {

@@ -4,10 +4,14 @@ pub mod All
 pub mod Places
 -- An entry that a walk shows its delegate, by the calls that were made.
 pub mod Shown
+-- What the loops of both walks keep.
+pub mod SoFar
 -- The walk breadth first.
 pub mod Levels
 -- The walk depth first.
 pub mod Depth
+-- Both walks as one, over a list of tasks.
+pub mod TaskWalk
 -- The recorder as a delegate.
 pub mod Recording
 -- Why the walks end.

@@ -69,16 +69,16 @@ impl From<AllocError> for Error {
     }
 }
 
-// A tree that was met: its id, and how many trees had had their turn by then. The last of these holds it, or the root does
-// where there is none.
+/// A tree that was met: its id, and how many trees had had their turn by then. The last of these holds it, or the root does
+/// where there is none.
 #[derive(Clone, Copy)]
 struct Tree {
     oid: ObjectId,
     turn: usize,
 }
 
-// The trees that were met, in the order of their turns, and how many have had theirs. The trees above one are found by going
-// up from turn to turn.
+/// The trees that were met, in the order of their turns, and how many have had theirs. The trees above one are found by going
+/// up from turn to turn.
 #[derive(Drop)]
 struct Queue {
     trees: Vec<Tree>,
@@ -113,7 +113,7 @@ impl Queue {
         self.turn = 0;
     }
 
-    // Whether a tree on the way down to the one whose turn it is has this id.
+    /// Whether a tree on the way down to the one whose turn it is has this id.
     fn knows(&self, oid: &ObjectId) -> bool
         ensures { result ≡ is_among oid.now self.now.known }
     {
@@ -128,7 +128,7 @@ impl Queue {
         false
     }
 
-    // A tree in the one whose turn it is waits for its own turn.
+    /// A tree in the one whose turn it is waits for its own turn.
     fn push(&mut self, oid: ObjectId) -> Result<(), AllocError>
         ensures ok { OnOk result (self.new ≡ queued self.old oid) }
         ensures err { OnErr result (self.new ≡ self.old) }
@@ -138,7 +138,7 @@ impl Queue {
         Ok(())
     }
 
-    // The tree that has waited longest is next.
+    /// The tree that has waited longest is next.
     fn pop(&mut self) -> Option<ObjectId>
         ensures { MatchOption result ((self.old.waiting ≡ []) × (self.new ≡ self.old)) (λ oid. self.old.waiting ≡ (oid, self.new.known) ∷ self.new.waiting) }
     {
@@ -165,7 +165,7 @@ impl State {
     }
 }
 
-// The entry's tree waits in the queue, under the path that ends with the entry's name.
+/// The entry's tree waits in the queue, under the path that ends with the entry's name.
 fn enqueue<V: Visit>(queue: &mut Queue, delegate: &mut V, entry: &EntryRef<'_>) -> Result<(), Error>
     ensures { Queues V.steps (entry_of entry.now) delegate.old queue.old delegate.new queue.new result }
 {
@@ -178,7 +178,7 @@ fn enqueue<V: Visit>(queue: &mut Queue, delegate: &mut V, entry: &EntryRef<'_>) 
     Ok(())
 }
 
-// Shows an entry of the tree whose turn it is.
+/// Shows an entry of the tree whose turn it is.
 fn show<V: Visit>(queue: &mut Queue, delegate: &mut V, entry: &EntryRef<'_>) -> Result<(), Error>
     ensures { ShowsEntry V.steps (entry_of entry.now) delegate.old queue.old delegate.new queue.new result }
 {
@@ -195,7 +195,7 @@ fn show<V: Visit>(queue: &mut Queue, delegate: &mut V, entry: &EntryRef<'_>) -> 
     Ok(())
 }
 
-// Shows all entries of the tree whose turn it is.
+/// Shows all entries of the tree whose turn it is.
 fn show_all<V: Visit>(
     queue: &mut Queue,
     delegate: &mut V,

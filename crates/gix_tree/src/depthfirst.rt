@@ -72,7 +72,7 @@ impl State {
     }
 }
 
-// A tree that the walk is in: its id, its bytes, and where in them the next entry begins.
+/// A tree that the walk is in: its id, its bytes, and where in them the next entry begins.
 #[derive(Drop)]
 struct Tree {
     oid: ObjectId,
@@ -80,14 +80,14 @@ struct Tree {
     next: usize,
 }
 
-// Where a walk leaves a tree.
+/// Where a walk leaves a tree.
 #[derive(Clone, Copy)]
 enum Stop {
-    // At its end.
+    /// At its end.
     End,
-    // Behind an entry that was answered `Break`.
+    /// Behind an entry that was answered `Break`.
     Broken,
-    // Behind an entry whose tree, of this id, the walk enters next.
+    /// Behind an entry whose tree, of this id, the walk enters next.
     Into(ObjectId),
 }
 
@@ -107,7 +107,7 @@ fn look_up<F: Find>(
     })
 }
 
-// Whether the id is that of the tree or of one above it.
+/// Whether the id is that of the tree or of one above it.
 fn knows(tree: &ObjectId, above: &[Tree], oid: &ObjectId) -> bool
     ensures { result ≡ is_among oid.now (tree.now ∷ ids_down (reverse above.now)) }
 {
@@ -119,7 +119,7 @@ fn knows(tree: &ObjectId, above: &[Tree], oid: &ObjectId) -> bool
     *oid == *tree
 }
 
-// Makes ready to enter the entry's tree.
+/// Makes ready to enter the entry's tree.
 fn descend<V: Visit>(
     tree: &ObjectId,
     above: &mut Vec<Tree>,
@@ -140,7 +140,7 @@ fn descend<V: Visit>(
     Ok(())
 }
 
-// Shows an entry of the tree. None says that the walk goes on behind the entry.
+/// Shows an entry of the tree. None says that the walk goes on behind the entry.
 fn show<V: Visit>(
     tree: &ObjectId,
     above: &mut Vec<Tree>,
@@ -167,7 +167,7 @@ fn show<V: Visit>(
     Ok(Some(Stop::Into(entry.oid)))
 }
 
-// Shows the entries of the tree from the next one on, up to where the walk leaves the tree.
+/// Shows the entries of the tree from the next one on, up to where the walk leaves the tree.
 fn show_on<V: Visit>(
     tree: &mut Tree,
     above: &mut Vec<Tree>,
@@ -191,7 +191,7 @@ fn show_on<V: Visit>(
     Ok(Stop::End)
 }
 
-// The tree becomes the nearest of the trees above. `descend` has taken the room for it.
+/// The tree becomes the nearest of the trees above. `descend` has taken the room for it.
 fn keep(above: &mut Vec<Tree>, tree: Tree) -> Result<(), AllocError>
     ensures { OnOk result (above.new.items ≡ above.old.items ++ tree ∷ []) }
 {

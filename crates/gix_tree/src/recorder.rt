@@ -79,8 +79,8 @@ impl Eq for Entry {
     ghost laws = { on_equiv record_of_entry is_same_record-equivalence };
 }
 
-// Puts the name behind the path, with a `/` between them where the path isn't empty. An empty name adds nothing. Where memory
-// runs out, the path is as before.
+/// Puts the name behind the path, with a `/` between them where the path isn't empty. An empty name adds nothing. Where memory
+/// runs out, the path is as before.
 fn add(path: &mut Vec<u8>, name: &[u8]) -> Result<(), AllocError>
     ensures ok { OnOk result (path.new.items ≡ with_name path.old.items name.now) }
     ensures err { OnErr result (path.new.items ≡ path.old.items) }
@@ -101,7 +101,7 @@ fn add(path: &mut Vec<u8>, name: &[u8]) -> Result<(), AllocError>
     }
 }
 
-// Cuts the path before its last `/`, or leaves it empty where it has none.
+/// Cuts the path before its last `/`, or leaves it empty where it has none.
 fn cut(path: &mut Vec<u8>)
     ensures { path.new.items ≡ without_name path.old.items }
 {
@@ -199,7 +199,7 @@ impl Recorder {
         BStr::new(&self.path)
     }
 
-    // Puts the name behind the path, and queues the path.
+    /// Puts the name behind the path, and queues the path.
     fn queue_with(&mut self, name: &[u8]) -> Result<(), AllocError>
         ensures ok { OnOk result (self.new ≡ queued_with name.now self.old) }
         ensures err { OnErr result (self.new ≡ self.old) }
@@ -212,7 +212,7 @@ impl Recorder {
         Ok(())
     }
 
-    // Records the entry with the current path.
+    /// Records the entry with the current path.
     fn record(&mut self, entry: &EntryRef<'_>) -> Result<(), AllocError>
         ensures ok { OnOk result (self.new ≡ recorded_with (entry_of entry.now) self.old) }
         ensures err { OnErr result (self.new ≡ self.old) }

@@ -94,7 +94,7 @@ pub trait Visit {
         ensures { MatchResult result (λ a. steps self.old (VisitNontree (entry_of entry.now) a) self.new) (λ _. steps self.old Refused self.new) };
 }
 
-// Shows the entry by the call for what it is.
+/// Shows the entry by the call for what it is.
 pub(crate) fn see<V: Visit>(delegate: &mut V, entry: &EntryRef<'_>) -> Result<Action, AllocError>
     ensures { MatchResult result (λ a. V.steps delegate.old (visit_call_of (is_tree entry.now.mode.value) (entry_of entry.now) a) delegate.new) (λ _. V.steps delegate.old Refused delegate.new) }
 {

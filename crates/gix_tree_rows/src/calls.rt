@@ -6,7 +6,7 @@ use gix_parts::object::Kind;
 use gix_traverse::tree::visit::Action;
 use std::ops::ControlFlow;
 
-// What the delegate answers at one entry.
+/// What the delegate answers at one entry.
 const INTO: Action = ControlFlow::Continue(true);
 
 const PAST: Action = ControlFlow::Continue(false);
@@ -53,7 +53,7 @@ push_path(d) tree(d) pop_path
 push_path(e) nontree(e) pop_path
 done";
 
-// A walk in depth that a delegate breaks off has ended well.
+/// A walk in depth that a delegate breaks off has ended well.
 const DEPTH_UP_TO_D: &str = "
 pop_back
 push_path(a) nontree(a) pop_path

@@ -184,7 +184,7 @@ pub fn walk<F: Find + Drop, V: Visit>(
     }
 }
 
-// The root is looked up here, since a walk by levels is given its entries.
+/// The root is looked up here, since a walk by levels is given its entries.
 fn levels<F: Find + Drop, V: Visit>(
     alloc: Global,
     store: &F,

@@ -6,13 +6,13 @@ use std::process::ExitCode;
 use std::{env, fs, io};
 use thiserror::Error;
 
-// Why the program failed.
+/// Why the program failed.
 #[derive(Drop, Debug, Error)]
 enum Failure {
-    // The command failed.
+    /// The command failed.
     #[error("{0}")]
     Command(Fault),
-    // The file of this name, which is to be a layer of the commit-graph, can't be read.
+    /// The file of this name, which is to be a layer of the commit-graph, can't be read.
     #[error("commit-graph unreadable: {0}")]
     Unreadable(String),
 }
@@ -33,7 +33,7 @@ fn main(rt: HostRuntime) -> ExitCode {
     }
 }
 
-// Runs the command that the arguments name, from standard input to standard output.
+/// Runs the command that the arguments name, from standard input to standard output.
 fn answer(rt: &HostRuntime) -> Result<(), Failure> {
     let mut arguments = env::args(rt).map_err(fault_of_arguments)?;
     let _name = arguments.next();
@@ -44,7 +44,7 @@ fn answer(rt: &HostRuntime) -> Result<(), Failure> {
     Ok(())
 }
 
-// Arguments that aren't UTF-8 are no command.
+/// Arguments that aren't UTF-8 are no command.
 fn fault_of_arguments(error: io::Error) -> Fault {
     match error.kind() {
         io::ErrorKind::OutOfMemory => Fault::Memory,
@@ -52,7 +52,7 @@ fn fault_of_arguments(error: io::Error) -> Fault {
     }
 }
 
-// Reads the layers of a commit-graph that options before the command name, and lends the words behind the options.
+/// Reads the layers of a commit-graph that options before the command name, and lends the words behind the options.
 fn read_layers<'a>(
     rt: &HostRuntime,
     words: &'a [String],
@@ -70,7 +70,7 @@ fn read_layers<'a>(
     Ok(left)
 }
 
-// The bytes of a file.
+/// The bytes of a file.
 fn read_layer(rt: &HostRuntime, file: &String) -> Result<Vec<u8>, Failure> {
     match fs::read(rt, file.as_str()) {
         Ok(bytes) => Ok(bytes),
@@ -81,7 +81,7 @@ fn read_layer(rt: &HostRuntime, file: &String) -> Result<Vec<u8>, Failure> {
     }
 }
 
-// Without layers the words are a command over records alone.
+/// Without layers the words are a command over records alone.
 fn serve(rt: &HostRuntime, words: &[String], layers: &[Vec<u8>]) -> Result<(), Fault> {
     if layers.is_empty() {
         return run(rt.alloc(), words, &mut rt.stdin(), &mut rt.stdout());

@@ -3,7 +3,7 @@ use Rattle.std.proofs.lemmas.List.Elements.{Contains-append_left, Contains-appen
 use Rattle.std.specs.Prelude.{if◌then◌else◌}
 use Rattle.gix_object.specs.Object.{Objects}
 use Rattle.gix_paint.specs.Painting.{Paints}
-use Rattle.gix_paint.specs.Inside.Painter.{rows_in, held_graph, hidden_of}
+use Rattle.gix_paint.specs.Inside.Painter.{rows_in, graph_in_use, hidden_of}
 use Rattle.gix_revwalk.specs.Ids.{ids_of}
 use Rattle.gix_paint.proofs.MarksAreWhole.{IsBlank, safe_start, stands_start, started_start, ordered_start, paints}
 use Rattle.gix_paint.proofs.Faults.{start_fails, turn_fails}
@@ -47,7 +47,7 @@ returns-in_err-meet_all-clause-fault g c =
 pub returns-in_err-show_all-clause-fault : goal.returns-in_err-show_all-clause-fault
 returns-in_err-show_all-clause-fault g c =
     start_fails g.F.Find.objects g.F.Find.faulty c.args.objects.now (rows_in c.args.graph) (ids_of c.args.tips.now.items) c.args.hidden_tips.now c.from_residual-in_err-show_all.result c.in_err-show_all.field-0.0 (ids_of c.args.tips.now.items) c.meet_all.new.self.source.objects.now
-    (rows_in (held_graph c.meet_all.new.self.source)) (ap (λ o. o.now) c.in_ok-meet_all.ensures.ok.objects_stay) (ap rows_in c.in_ok-meet_all.ensures.ok.graph_stays) c.from_residual-in_err-show_all.ensures.1 (λ i h. Contains-append_left (ids_of c.args.tips.now.items) c.args.hidden_tips.now i h) c.in_err-show_all.ensures.fault
+    (rows_in (graph_in_use c.meet_all.new.self.source)) (ap (λ o. o.now) c.in_ok-meet_all.ensures.ok.objects_stay) (ap rows_in c.in_ok-meet_all.ensures.ok.graph_stays) c.from_residual-in_err-show_all.ensures.1 (λ i h. Contains-append_left (ids_of c.args.tips.now.items) c.args.hidden_tips.now i h) c.in_err-show_all.ensures.fault
 
 pub returns-in_err-treat-clause-fault : goal.returns-in_err-treat-clause-fault
 returns-in_err-treat-clause-fault g c =
@@ -57,5 +57,5 @@ returns-in_err-treat-clause-fault g c =
 pub returns-clause-ok : goal.returns-clause-ok
 returns-clause-ok g c =
     subst (λ p. Paints (g.F.Find.objects c.args.objects.now) (rows_in c.args.graph) (ids_of c.args.tips.now.items) c.args.hidden_tips.now (hidden_of p.marks) (if c.is_some.result then rows_in c.args.graph else [])) (sym c.in_default.ensures.none.1)
-    (subst (λ b. Paints (g.F.Find.objects c.args.objects.now) (rows_in c.args.graph) (ids_of c.args.tips.now.items) c.args.hidden_tips.now (hidden_of c.loop-entry.painter.marks) (if b then rows_in c.args.graph else [])) (sym (c.is_some.ensures ∙ ap Rattle.std.specs.Option.is_some c.held_graph.ensures ∙ ap (λ p. Rattle.std.specs.Option.is_some (held_graph p.source)) c.in_default.ensures.none.1))
+    (subst (λ b. Paints (g.F.Find.objects c.args.objects.now) (rows_in c.args.graph) (ids_of c.args.tips.now.items) c.args.hidden_tips.now (hidden_of c.loop-entry.painter.marks) (if b then rows_in c.args.graph else [])) (sym (c.is_some.ensures ∙ ap Rattle.std.specs.Option.is_some c.graph_in_use.ensures ∙ ap (λ p. Rattle.std.specs.Option.is_some (graph_in_use p.source)) c.in_default.ensures.none.1))
     (paints g.F.Find.objects c.args.objects.now (rows_in c.args.graph) (ids_of c.args.tips.now.items) c.args.hidden_tips.now c.loop-entry.painter c.loop-entry.invariant.safe c.in_default.ensures.none.0 c.loop-entry.invariant.holds))

@@ -20,7 +20,7 @@ use Rattle.gix_paint.specs.declared.Side.TheVariants as side
 use Rattle.gix_paint.specs.declared.source.Generation.{Generation}
 use Rattle.gix_paint.specs.declared.source.Generation.TheVariants.{Told, Infinite}
 use Rattle.gix_paint.specs.declared.source.Key.{Key}
-use Rattle.gix_paint.specs.declared.source.Known.{Known}
+use Rattle.gix_paint.specs.declared.source.LookedUp.{LookedUp}
 use Rattle.gix_paint.specs.declared.source.Source.{Source}
 use Rattle.gix_paint.specs.declared.Entry.{Entry}
 use Rattle.gix_paint.specs.declared.Painter.{Painter}
@@ -31,8 +31,8 @@ use Rattle.gix_revwalk.specs.Ids.{new_ids}
 use Rattle.gix_revwalk.specs.RowParents.{IsUnrowed, ids_at}
 
 -- the rows, while they are in use
-abbrev pub held_graph : {F : Type 0} → Source F → Option (Bor (List GraphRow))
-held_graph source = if source.held then source.graph else None
+abbrev pub graph_in_use : {F : Type 0} → Source F → Option (Bor (List GraphRow))
+graph_in_use source = if source.in_use then source.graph else None
 
 -- the marks of all ids that were met
 abbrev pub AllMarks : Type 0
@@ -92,9 +92,9 @@ pub data ReadsParents (objects : Objects) (old : Option (Bor (List GraphRow))) (
   drops : {row : GraphRow} → row_of (rows_in old) i ≡ Some row → ids_at (rows_in old) row.parents ≡ None → Reads objects i ids → ReadsParents objects old i ids None
 
 -- an id with a row is queued by the row's generation and time, one without by the store's time alone, and with the parents that the store says
-pub data Knows (objects : Objects) (rows : List GraphRow) (i : ObjectId) : Known → Type 0 where
-  by_row : {row : GraphRow} {known : Known} → row_of rows i ≡ Some row → known.key.generation ≡ Told row.generation → known.key.time ≡ row.time → known.parent_ids ≡ None → Knows objects rows i known
-  by_store : {known : Known} {ids : List ObjectId} → row_of rows i ≡ None → known.key.generation ≡ Infinite → known.key.time ≡ time_of objects i → option_map (λ ids. ids.items) known.parent_ids ≡ Some ids → Reads objects i ids → Knows objects rows i known
+pub data Knows (objects : Objects) (rows : List GraphRow) (i : ObjectId) : LookedUp → Type 0 where
+  by_row : {row : GraphRow} {known : LookedUp} → row_of rows i ≡ Some row → known.key.generation ≡ Told row.generation → known.key.time ≡ row.time → known.parent_ids ≡ None → Knows objects rows i known
+  by_store : {known : LookedUp} {ids : List ObjectId} → row_of rows i ≡ None → known.key.generation ≡ Infinite → known.key.time ≡ time_of objects i → option_map (λ ids. ids.items) known.parent_ids ≡ Some ids → Reads objects i ids → Knows objects rows i known
 
 -- an entry of the queue is as the id was known when it was put there
 abbrev pub IsQueued : Objects → List GraphRow → Key × Entry → Type 0
@@ -117,22 +117,22 @@ IsWaiting p side i = (q : Key × Entry) × Contains p.queue q × (q.1.side ≡ s
 -- an id is put into the queue
 pub record Queues {F : Type 0} (objects : F → Objects) (old : Painter F) (i : ObjectId) (side : Side) (new : Painter F) : Type 0 where
   pub objects_stay : new.source.objects ≡ old.source.objects
-  pub graph_stays : held_graph new.source ≡ held_graph old.source
+  pub graph_stays : graph_in_use new.source ≡ graph_in_use old.source
   pub marks_stay : new.marks ≡ old.marks
   pub frontier_stays : new.frontier ≡ old.frontier
   pub entry : Key × Entry
   pub of_id : entry.1.id ≡ i
   pub of_side : entry.1.side ≡ side
-  pub known : IsQueued (objects old.source.objects.now) (rows_in (held_graph old.source)) entry
+  pub known : IsQueued (objects old.source.objects.now) (rows_in (graph_in_use old.source)) entry
   pub queue : IsPermutation (entry ∷ old.queue) new.queue
 
 -- some ids are met on a side
 pub record Meets {F : Type 0} (objects : F → Objects) (side : Side) (ids : List ObjectId) (old new : Painter F) : Type 0 where
   pub objects_stay : new.source.objects ≡ old.source.objects
-  pub graph_stays : held_graph new.source ≡ held_graph old.source
+  pub graph_stays : graph_in_use new.source ≡ graph_in_use old.source
   pub states : (i : ObjectId) → Becomes side (Contains ids i) (IsWaiting new side i) (state_of old i) (state_of new i)
   pub keeps : (q : Key × Entry) → Contains old.queue q → Contains new.queue q
-  pub adds : (q : Key × Entry) → Contains new.queue q → Contains old.queue q ⊎ (Contains ids q.1.id × (q.1.side ≡ side) × IsQueued (objects old.source.objects.now) (rows_in (held_graph old.source)) q)
+  pub adds : (q : Key × Entry) → Contains new.queue q → Contains old.queue q ⊎ (Contains ids q.1.id × (q.1.side ≡ side) × IsQueued (objects old.source.objects.now) (rows_in (graph_in_use old.source)) q)
   pub tidies : IsTidy old → IsTidy new
   pub spends : (named : List ObjectId) → ((i : ObjectId) → Contains ids i → is_among i named ≡ true) → room named new ≤ room named old
 
@@ -163,8 +163,8 @@ is_turn entry frontier = is_turn_on entry.side frontier entry.id
 
 -- the entry is left to the hidden side, or its parents are read and met
 pub data TreatsEntry {F : Type 0} (objects : F → Objects) (old : Painter F) (entry : Entry) : Painter F → Type 0 where
-  skips : {new : Painter F} → is_turn entry old.frontier ≡ false → Takes old entry new → held_graph new.source ≡ held_graph old.source → TreatsEntry objects old entry new
-  reads : {mid new : Painter F} {ids : List ObjectId} → is_turn entry old.frontier ≡ true → Takes old entry mid → GivesParents (objects old.source.objects.now) (held_graph old.source) entry ids (held_graph mid.source) → Meets objects entry.side ids mid new → TreatsEntry objects old entry new
+  skips : {new : Painter F} → is_turn entry old.frontier ≡ false → Takes old entry new → graph_in_use new.source ≡ graph_in_use old.source → TreatsEntry objects old entry new
+  reads : {mid new : Painter F} {ids : List ObjectId} → is_turn entry old.frontier ≡ true → Takes old entry mid → GivesParents (objects old.source.objects.now) (graph_in_use old.source) entry ids (graph_in_use mid.source) → Meets objects entry.side ids mid new → TreatsEntry objects old entry new
 
 -- the entry's own commit, which has no row or a corrupt one, or one of its parents, which has no row then
 abbrev pub IsReadFor : Objects → Option (Bor (List GraphRow)) → Entry → ObjectId → Type 0
@@ -181,7 +181,7 @@ is_told Infinite = false
 
 -- nothing is queued; or the rows are in use, and all that is queued is hidden and has a row
 abbrev pub IsSettled : {F : Type 0} → Painter F → Type 0
-IsSettled p = (p.queue ≡ []) ⊎ (IsSome (held_graph p.source) × (set.len p.frontier ≡ 0) × ((q : Key × Entry) → Contains p.queue q → is_told q.0.generation ≡ true))
+IsSettled p = (p.queue ≡ []) ⊎ (IsSome (graph_in_use p.source) × (set.len p.frontier ≡ 0) × ((q : Key × Entry) → Contains p.queue q → is_told q.0.generation ≡ true))
 
 -- the next entry is taken from the queue
 pub record Pops {F : Type 0} (cmp : Key → Key → Ordering) (old : Painter F) (top : Key × Entry) (new : Painter F) : Type 0 where

@@ -3,7 +3,7 @@ use Rattle.std.specs.Prelude.{◌≡◌, ℤ, List, [], ◌∷◌, All, Contains
 use Rattle.gix_revwalk.specs.PriorityQueue.{values}
 use Rattle.gix_revwalk.specs.declared.CommitTimeOrder.{CommitTimeOrder}
 use Rattle.gix_revwalk.specs.declared.CommitTimeOrder.TheVariants.{NewestFirst, OldestFirst}
-use Rattle.gix_revwalk.specs.declared.Pending.{Pending}
+use Rattle.gix_revwalk.specs.Pending.{Pending}
 use Rattle.gix_simple.specs.declared.pending.Held.{Held}
 use Rattle.gix_simple.specs.declared.pending.Held.TheVariants.{Listed, ByTime}
 use Rattle.gix_revwalk.specs.TimeOrder.{IsNoWorse}

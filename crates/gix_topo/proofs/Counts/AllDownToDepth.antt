@@ -40,7 +40,7 @@ waits (x ∷ queue) side i h = go (is_same i x.1.id) (is_side side x.1.side) ref
     go true false s r l = later (r (omega arith))
     go false b s r l = later (r (omega arith))
 
-module _ (objects : Objects) (faulty : ObjectId → Type 0) (rows : List GraphRow) (parents : Parents) (tips ends : List ObjectId) (agrees : IsAgreeing objects rows) (f : Frontier) (standing : Bool) (depth : ℕ) (h : IsSearched objects rows parents tips ends f.queue f.known) (rests : IsRested standing depth f.queue) where
+module _ (objects : Objects) (faulty : ObjectId → Type 0) (rows : List GraphRow) (parents : Parents) (tips ends : List ObjectId) (agrees : IsAgreeing objects rows) (f : Frontier) (in_use : Bool) (depth : ℕ) (h : IsSearched objects rows parents tips ends f.queue f.known) (rests : IsRested in_use depth f.queue) where
   queued_low : (side : Side) (i : ObjectId) → is_queued (reached f.known side i) ≡ true → known_generation rows i < depth
   queued_low side i e =
       let n : waiting f.queue side i ≡ 1 = (h.search side).queued i ∙ ap (λ b. cond b 1 0) e in
@@ -57,6 +57,6 @@ module _ (objects : Objects) (faulty : ObjectId → Type 0) (rows : List GraphRo
 
 -- the same after exploring
 module _ {F : Type 0} (objects : F → Objects) (faulty : F → ObjectId → Type 0) (tips ends : List ObjectId) (taken : ObjectId → Bool) where
-  pub exact_there : {old new : Counting F} → IsAgreeing (objects old.reader.find) (rows_of old.reader.graph) → Explores objects faulty old new → IsCounted (objects old.reader.find) (rows_of old.reader.graph) old.parents tips ends taken old.frontier → (side : Side) → IsBegun tips ends side old.frontier → IsRested new.reader.standing old.depth new.frontier.queue → IsExplored (objects old.reader.find) (rows_of old.reader.graph) old.parents tips ends old.depth side new.frontier
+  pub exact_there : {old new : Counting F} → IsAgreeing (objects old.reader.find) (rows_of old.reader.graph) → Explores objects faulty old new → IsCounted (objects old.reader.find) (rows_of old.reader.graph) old.parents tips ends taken old.frontier → (side : Side) → IsBegun tips ends side old.frontier → IsRested new.reader.in_use old.depth new.frontier.queue → IsExplored (objects old.reader.find) (rows_of old.reader.graph) old.parents tips ends old.depth side new.frontier
   exact_there {old} {new} agrees e h side begun rests =
-      exact (objects old.reader.find) (faulty old.reader.find) (rows_of old.reader.graph) old.parents tips ends agrees new.frontier new.reader.standing old.depth (explores_keep objects faulty tips ends taken agrees e h).searched rests side (λ i m. explores_still objects faulty e side i (begun i m))
+      exact (objects old.reader.find) (faulty old.reader.find) (rows_of old.reader.graph) old.parents tips ends agrees new.frontier new.reader.in_use old.depth (explores_keep objects faulty tips ends taken agrees e h).searched rests side (λ i m. explores_still objects faulty e side i (begun i m))

@@ -50,9 +50,9 @@ unknown_generation : (rows : List GraphRow) (i : ObjectId) → rows ≡ [] → k
 unknown_generation rows i e = ap (λ those. known_generation those i) e
 
 -- without rows a commit that is read has no fault
-read_faultless : (objects : Objects) (faulty : ObjectId → Type 0) (rows : List GraphRow) (standing : Bool) (i : ObjectId) (info : Info) (new : Bool) → rows ≡ [] → Reads objects faulty rows standing i (Ok info) new → IsCommitRead objects i
-read_faultless objects faulty rows standing i info new e (by_row (is_read h says) is) = let q : None ≡ Some says.row = sym (ap (λ those. row_of those i) e) ∙ says.there in cc
-read_faultless objects faulty rows standing i info new e (by_text n t) = record { bytes = t.0; stored = t.1; faultless = faultless (kind_of i) t.0 t.2.1 }
+read_faultless : (objects : Objects) (faulty : ObjectId → Type 0) (rows : List GraphRow) (in_use : Bool) (i : ObjectId) (info : Info) (new : Bool) → rows ≡ [] → Reads objects faulty rows in_use i (Ok info) new → IsCommitRead objects i
+read_faultless objects faulty rows in_use i info new e (by_row (is_read h says) is) = let q : None ≡ Some says.row = sym (ap (λ those. row_of those i) e) ∙ says.there in cc
+read_faultless objects faulty rows in_use i info new e (by_text n t) = record { bytes = t.0; stored = t.1; faultless = faultless (kind_of i) t.0 t.2.1 }
 
 module _ {F : Type 0} (objects : F → Objects) (faulty : F → ObjectId → Type 0) where
   -- without rows all that is done was read
@@ -65,7 +65,7 @@ module _ {F : Type 0} (objects : F → Objects) (faulty : F → ObjectId → Typ
       same = explores_same objects faulty e
 
       here : IsCommitRead (objects old.reader.find) s.entry.1.id
-      here = subst (λ x. IsCommitRead (objects x) s.entry.1.id) same.find (read_faultless (objects mid.reader.find) (faulty mid.reader.find) (rows_of mid.reader.graph) mid.reader.standing s.entry.1.id s.reads.info new.reader.standing (ap rows_of same.graph ∙ none) s.reads.reads)
+      here = subst (λ x. IsCommitRead (objects x) s.entry.1.id) same.find (read_faultless (objects mid.reader.find) (faulty mid.reader.find) (rows_of mid.reader.graph) mid.reader.in_use s.entry.1.id s.reads.info new.reader.in_use (ap rows_of same.graph ∙ none) s.reads.reads)
 
       before : is_done (reached s.followed.known side i) ≡ true → is_done (reached mid.frontier.known side i) ≡ true
       before h = sym ((follows_named s.follows).done side i) ∙ h
@@ -77,7 +77,7 @@ module _ {F : Type 0} (objects : F → Objects) (faulty : F → ObjectId → Typ
 
   -- both sides have met what they start from, and nothing is read
   pub record IsMet (tips ends : List ObjectId) (low : Counting F) : Type 0 where
-    pub stands : low.reader.standing ≡ true
+    pub stands : low.reader.in_use ≡ true
     pub depth : low.depth ≡ least (rows_of low.reader.graph) infinity (tips ++ ends)
     pub expanded : low.expanded ≡ 0
     pub fresh : IsFresh (objects low.reader.find) (rows_of low.reader.graph) low.parents tips ends low.frontier
@@ -85,27 +85,28 @@ module _ {F : Type 0} (objects : F → Objects) (faulty : F → ObjectId → Typ
 
   -- what a side meets, and what that leaves
   pub record HasMet (side : Side) (ids : List ObjectId) (old new : Counting F) : Type 0 where
-    pub reader : new.reader ≡ old.reader
-    pub parents : new.parents ≡ old.parents
-    pub depth : new.depth ≡ old.depth
-    pub expanded : new.expanded ≡ old.expanded
+    pub same : new ≡ record old { frontier = new.frontier }
     pub meets : MeetsAll (rows_of old.reader.graph) side old.frontier ids new.frontier
 
   -- with the depth of these
   abbrev pub lower_by : Counting F → List ObjectId → Counting F
   lower_by c ids = record c { depth = least (rows_of c.reader.graph) c.depth ids }
 
-  pub both_met : (tips ends : List ObjectId) (old first second : Counting F) → old.reader.standing ≡ true → old.depth ≡ infinity → old.expanded ≡ 0 → old.frontier.queue ≡ [] → old.frontier.known ≡ map.empty → HasMet Tips tips old first → HasMet Ends ends first second → IsMet tips ends (lower_by (lower_by second ends) tips)
+  -- what both sides meet changes nothing else
+  both_same : {tips ends : List ObjectId} {old first second : Counting F} → HasMet Tips tips old first → HasMet Ends ends first second → second ≡ record old { frontier = second.frontier }
+  both_same {second = second} a b = b.same ∙ (λ k. record (a.same k) { frontier = second.frontier })
+
+  pub both_met : (tips ends : List ObjectId) (old first second : Counting F) → old.reader.in_use ≡ true → old.depth ≡ infinity → old.expanded ≡ 0 → old.frontier.queue ≡ [] → old.frontier.known ≡ map.empty → HasMet Tips tips old first → HasMet Ends ends first second → IsMet tips ends (lower_by (lower_by second ends) tips)
   both_met tips ends old first second stands depth expanded queue known a b = record {
-    stands = ap (λ r. r.standing) (b.reader ∙ a.reader) ∙ stands;
-    depth = least-append (rows_of second.reader.graph) second.depth tips ends ∙ ap (λ d. least (rows_of second.reader.graph) d (tips ++ ends)) (b.depth ∙ a.depth ∙ depth);
-    expanded = b.expanded ∙ a.expanded ∙ expanded;
-    fresh = subst (λ r. IsFresh (objects r.find) (rows_of r.graph) second.parents tips ends second.frontier) (sym (b.reader ∙ a.reader)) (subst (λ m. IsFresh (objects old.reader.find) (rows_of old.reader.graph) m tips ends second.frontier) (sym (b.parents ∙ a.parents)) fresh);
+    stands = ap (λ c. c.reader.in_use) (both_same a b) ∙ stands;
+    depth = least-append (rows_of second.reader.graph) second.depth tips ends ∙ ap (λ d. least (rows_of second.reader.graph) d (tips ++ ends)) (ap (λ c. c.depth) (both_same a b) ∙ depth);
+    expanded = ap (λ c. c.expanded) (both_same a b) ∙ expanded;
+    fresh = subst (λ c. IsFresh (objects c.reader.find) (rows_of c.reader.graph) c.parents tips ends second.frontier) (sym (both_same a b)) fresh;
     begun = begun;
   }
     where
       more : MeetsAll (rows_of old.reader.graph) Ends first.frontier ends second.frontier
-      more = subst (λ r. MeetsAll (rows_of r.graph) Ends first.frontier ends second.frontier) a.reader b.meets
+      more = subst (λ r. MeetsAll (rows_of r.graph) Ends first.frontier ends second.frontier) (ap (λ c. c.reader) a.same) b.meets
 
       fresh : IsFresh (objects old.reader.find) (rows_of old.reader.graph) old.parents tips ends second.frontier
       fresh =
@@ -116,7 +117,7 @@ module _ {F : Type 0} (objects : F → Objects) (faulty : F → ObjectId → Typ
       begun Tips i m = all_still more Tips i (all_seen a.meets i m)
       begun Ends i m = all_seen more i m
 
-  module _ (sorting : Sorting) (tips ends : List ObjectId) (low explored : Counting F) (start : IsMet tips ends low) (explores : Explores objects faulty low explored) (rested : IsRested explored.reader.standing explored.depth explored.frontier.queue) where
+  module _ (sorting : Sorting) (tips ends : List ObjectId) (low explored : Counting F) (start : IsMet tips ends low) (explores : Explores objects faulty low explored) (rested : IsRested explored.reader.in_use explored.depth explored.frontier.queue) where
     abbrev Rows : List GraphRow
     Rows = rows_of low.reader.graph
 
@@ -130,7 +131,7 @@ module _ {F : Type 0} (objects : F → Objects) (faulty : F → ObjectId → Typ
     counted_low taken untaken = fresh_counted (objects low.reader.find) Rows low.parents tips ends low.frontier taken untaken start.fresh
 
     there : Agrees → (side : Side) → IsExplored (objects low.reader.find) Rows low.parents tips ends low.depth side explored.frontier
-    there agrees side = exact_there objects faulty tips ends (λ i. false) agrees explores (counted_low (λ i. false) (λ i. refl)) side (start.begun side) (subst (λ d. IsRested explored.reader.standing d explored.frontier.queue) same.depth rested)
+    there agrees side = exact_there objects faulty tips ends (λ i. false) agrees explores (counted_low (λ i. false) (λ i. refl)) side (start.begun side) (subst (λ d. IsRested explored.reader.in_use d explored.frontier.queue) same.depth rested)
 
     undone : (i : ObjectId) → IsDone low.frontier i → ⊥
     undone i = ⊎_elim (λ d. true≢false (sym d ∙ start.fresh.undone Tips i)) (λ d. true≢false (sym d ∙ start.fresh.undone Ends i))
@@ -189,15 +190,15 @@ module _ {F : Type 0} (objects : F → Objects) (faulty : F → ObjectId → Typ
     }
 
   -- the same, and why it fails, as the code comes there: both sides meet their starts, and the depth is lowered twice
-  module _ (tips ends : List ObjectId) (old first second once low : Counting F) (stands : old.reader.standing ≡ true) (depth : old.depth ≡ infinity) (expanded : old.expanded ≡ 0) (queue : old.frontier.queue ≡ []) (known : old.frontier.known ≡ map.empty)
+  module _ (tips ends : List ObjectId) (old first second once low : Counting F) (stands : old.reader.in_use ≡ true) (depth : old.depth ≡ infinity) (expanded : old.expanded ≡ 0) (queue : old.frontier.queue ≡ []) (known : old.frontier.known ≡ map.empty)
       (a : HasMet Tips tips old first) (b : HasMet Ends ends first second) (c : once ≡ lower_by second ends) (d : low ≡ lower_by once tips) (sorting : Sorting) where
     plans : plan_by low sorting tips ends ≡ plan_by old sorting tips ends
-    plans = ap (λ x. plan_by x sorting tips ends) d ∙ ap (λ x. plan_by x sorting tips ends) c ∙ ap (λ r. record { store = r.find; rows = rows_of r.graph; parents = second.parents; sorting = sorting; tips = tips; ends = ends }) (b.reader ∙ a.reader) ∙ ap (λ m. record { store = old.reader.find; rows = rows_of old.reader.graph; parents = m; sorting = sorting; tips = tips; ends = ends }) (b.parents ∙ a.parents)
+    plans = ap (λ x. plan_by x sorting tips ends) (d ∙ ap (λ x. lower_by x tips) (c ∙ ap (λ x. lower_by x ends) (both_same a b)))
 
     start_met : IsMet tips ends low
     start_met = subst (λ x. IsMet tips ends x) (sym (d ∙ ap (λ x. lower_by x tips) c)) (both_met tips ends old first second stands depth expanded queue known a b)
 
-    pub begun_from : (explored : Counting F) → Explores objects faulty low explored → IsRested explored.reader.standing explored.depth explored.frontier.queue → HasBegun objects faulty (plan_by old sorting tips ends) explored
+    pub begun_from : (explored : Counting F) → Explores objects faulty low explored → IsRested explored.reader.in_use explored.depth explored.frontier.queue → HasBegun objects faulty (plan_by old sorting tips ends) explored
     begun_from explored explores rested = subst (λ plan. HasBegun objects faulty plan explored) plans (begun_on sorting tips ends low explored start_met explores rested)
 
     pub fault_from : (e : Error) → IsExploringFault objects faulty low e → IsBuildFault objects faulty (plan_by old sorting tips ends) e

@@ -47,9 +47,9 @@ number_more P Q n c absent now f g h = record {
 }
 
 -- the first that waits isn't below the depth as long as the rows are in use
-top_high : (standing : Bool) (depth : ℕ) (queue : List (ℕ × Waiting)) (entry : ℕ × Waiting) → slice_get queue 0 ≡ Some entry → is_pending standing depth queue ≡ true → standing ≡ true → depth ≤ entry.0
-top_high standing depth [] entry f p e = absurd (false≢true p)
-top_high standing depth (x ∷ queue) entry f p e =
+top_high : (in_use : Bool) (depth : ℕ) (queue : List (ℕ × Waiting)) (entry : ℕ × Waiting) → slice_get queue 0 ≡ Some entry → is_pending in_use depth queue ≡ true → in_use ≡ true → depth ≤ entry.0
+top_high in_use depth [] entry f p e = absurd (false≢true p)
+top_high in_use depth (x ∷ queue) entry f p e =
     let same : x ≡ entry = (let s : Some x ≡ Some entry = f in cc) in
     subst (λ y. depth ≤ y.0) same (leb-true depth x.0 (sym (ap (λ b. not b || nat_le depth x.0) e) ∙ p))
 
@@ -125,23 +125,23 @@ module _ {F : Type 0} (objects : F → Objects) (faulty : F → ObjectId → Typ
     Told plan f = IsCounted (objects plan.store) plan.rows plan.parents plan.tips plan.ends taken f
 
     -- a step keeps what holds of the done commits
-    steps_counts : (old new : Counting F) → IsAgreeing (objects (Plan old).store) (Plan old).rows → Told (Plan old) old.frontier → is_pending old.reader.standing old.depth old.frontier.queue ≡ true → Steps objects faulty old new → HasCounted objects (Plan old) old → HasCounted objects (Plan old) new
+    steps_counts : (old new : Counting F) → IsAgreeing (objects (Plan old).store) (Plan old).rows → Told (Plan old) old.frontier → is_pending old.reader.in_use old.depth old.frontier.queue ≡ true → Steps objects faulty old new → HasCounted objects (Plan old) old → HasCounted objects (Plan old) new
     steps_counts old new agrees counted pending s h = record {
       number = steps_number old new s h.number;
       high = λ e i d. subst (λ n. n ≤ known_generation (Plan old).rows i) (sym s.same.depth) (⊎_elim (λ q. subst (λ j. old.depth ≤ known_generation (Plan old).rows j) q (high (reads_stands objects faulty s.reads.reads e))) (λ o. h.high (reads_stands objects faulty s.reads.reads e) i o) (steps_to old new s i d));
-      dropped = λ e. subst (IsBrokenRow objects (Plan old)) (sym s.same.depth) (drops old.reader.standing refl e);
+      dropped = λ e. subst (IsBrokenRow objects (Plan old)) (sym s.same.depth) (drops old.reader.in_use refl e);
     }
       where
         queued : Contains old.frontier.queue s.entry
         queued = Contains-permutation (s.entry ∷ s.left) old.frontier.queue s.entry (IsPermutation-sym old.frontier.queue (s.entry ∷ s.left) s.taken_out) (Contains-here s.entry s.left)
 
-        high : old.reader.standing ≡ true → old.depth ≤ known_generation (Plan old).rows s.entry.1.id
-        high e = subst (λ n. old.depth ≤ n) (counted.searched.keyed s.entry queued) (top_high old.reader.standing old.depth old.frontier.queue s.entry s.first pending e)
+        high : old.reader.in_use ≡ true → old.depth ≤ known_generation (Plan old).rows s.entry.1.id
+        high e = subst (λ n. old.depth ≤ n) (counted.searched.keyed s.entry queued) (top_high old.reader.in_use old.depth old.frontier.queue s.entry s.first pending e)
 
         is_reached : IsReached objects (Plan old) s.entry.1.id
         is_reached = done_reached (Plan old) new.frontier (steps_keep objects faulty tips ends taken old new agrees s counted).searched s.entry.1.id (steps_here old new s)
 
-        drops : (b : Bool) → old.reader.standing ≡ b → new.reader.standing ≡ false → IsBrokenRow objects (Plan old) old.depth
+        drops : (b : Bool) → old.reader.in_use ≡ b → new.reader.in_use ≡ false → IsBrokenRow objects (Plan old) old.depth
         drops true q e = broken (Plan old) agrees old.depth s.entry.1.id is_reached (high q) (reads_drops objects faulty s.reads.reads q e)
         drops false q e = h.dropped q
 
@@ -160,13 +160,13 @@ module _ {F : Type 0} (objects : F → Objects) (faulty : F → ObjectId → Typ
     pub explores_read : {old new : Counting F} → Explores objects faulty old new → AreRead objects faulty (Plan old) old → AreRead objects faulty (Plan old) new
     explores_read itself h = λ i d. h i d
     explores_read {old} (further {mid = mid} {new = new} e p s) h = λ i d.
-        ⊎_elim (λ q. subst (IsReadOnce objects faulty (Plan old) new.reader.standing) q here) (λ o. once_still objects faulty (Plan old) (reads_stands objects faulty s.reads.reads) (explores_read e h i o)) (steps_to mid new s i d)
+        ⊎_elim (λ q. subst (IsReadOnce objects faulty (Plan old) new.reader.in_use) q here) (λ o. once_still objects faulty (Plan old) (reads_stands objects faulty s.reads.reads) (explores_read e h i o)) (steps_to mid new s i d)
       where
-        here : IsReadOnce objects faulty (Plan old) new.reader.standing s.entry.1.id
-        here = subst (λ plan. IsReadOnce objects faulty plan new.reader.standing s.entry.1.id) (same_plan (explores_same objects faulty e)) (record { info = s.reads.info; before = mid.reader.standing; after = new.reader.standing; reads = s.reads.reads; later = λ k. k })
+        here : IsReadOnce objects faulty (Plan old) new.reader.in_use s.entry.1.id
+        here = subst (λ plan. IsReadOnce objects faulty plan new.reader.in_use s.entry.1.id) (same_plan (explores_same objects faulty e)) (record { info = s.reads.info; before = mid.reader.in_use; after = new.reader.in_use; reads = s.reads.reads; later = λ k. k })
 
     -- after exploring, what holds of the done commits holds of all that is reached down to the depth
-    pub counts_on : (low explored : Counting F) → IsAgreeing (objects (Plan low).store) (Plan low).rows → Told (Plan low) low.frontier → ((side : Side) → IsBegun tips ends side low.frontier) → HasCounted objects (Plan low) low → AreRead objects faulty (Plan low) low → Explores objects faulty low explored → IsRested explored.reader.standing explored.depth explored.frontier.queue → HasCounted objects (Plan low) explored × IsCounting objects (Plan low) (counted_by explored)
+    pub counts_on : (low explored : Counting F) → IsAgreeing (objects (Plan low).store) (Plan low).rows → Told (Plan low) low.frontier → ((side : Side) → IsBegun tips ends side low.frontier) → HasCounted objects (Plan low) low → AreRead objects faulty (Plan low) low → Explores objects faulty low explored → IsRested explored.reader.in_use explored.depth explored.frontier.queue → HasCounted objects (Plan low) explored × IsCounting objects (Plan low) (counted_by explored)
     counts_on low explored agrees counted begun h reads e rested = (counts, record { exact = exact; all = all; dropped = counts.dropped; whole = whole })
       where
         counts : HasCounted objects (Plan low) explored
@@ -176,26 +176,26 @@ module _ {F : Type 0} (objects : F → Objects) (faulty : F → ObjectId → Typ
         there = explores_keep objects faulty tips ends taken agrees e counted
 
         -- what is reached, and isn't below a depth to which exploring rests, is done
-        done_down : (depth : ℕ) → IsRested explored.reader.standing depth explored.frontier.queue → (i : ObjectId) → IsInDepth objects (Plan low) depth i → IsDone explored.frontier i
+        done_down : (depth : ℕ) → IsRested explored.reader.in_use depth explored.frontier.queue → (i : ObjectId) → IsInDepth objects (Plan low) depth i → IsDone explored.frontier i
         done_down depth rests i d =
             let there_by : (side : Side) → Reaches (next_by (objects low.reader.find) low.parents side) (starts_by tips ends side) i → is_done (reached explored.frontier.known side i) ≡ true =
-            λ side r. exact_down (objects low.reader.find) (faulty low.reader.find) (Plan low).rows low.parents tips ends agrees explored.frontier explored.reader.standing depth there.searched rests side (λ j m. explores_still objects faulty e side j (begun side j m)) i r d.high in
+            λ side r. exact_down (objects low.reader.find) (faulty low.reader.find) (Plan low).rows low.parents tips ends agrees explored.frontier explored.reader.in_use depth there.searched rests side (λ j m. explores_still objects faulty e side j (begun side j m)) i r d.high in
             ⊎_elim (λ a. inl (there_by Tips a))
             (λ b. inr (there_by Ends b)) d.reached
 
         done_met : (i : ObjectId) → IsDone explored.frontier i → IsReached objects (Plan low) i
         done_met = done_reached (Plan low) explored.frontier there.searched
 
-        whole : explored.reader.standing ≡ true → IsBrokenRow objects (Plan low) explored.depth → ⊥
+        whole : explored.reader.in_use ≡ true → IsBrokenRow objects (Plan low) explored.depth → ⊥
         whole stands b = once_whole objects faulty (Plan low) (explores_read e reads b.id (done_down explored.depth rested b.id b.in_depth)) stands b.row b.by_row b.corrupt
 
-        exact : explored.reader.standing ≡ true → IsNumberOf (IsInDepth objects (Plan low) explored.depth) explored.expanded
+        exact : explored.reader.in_use ≡ true → IsNumberOf (IsInDepth objects (Plan low) explored.depth) explored.expanded
         exact stands =
             number_same (IsDone explored.frontier) (IsInDepth objects (Plan low) explored.depth) explored.expanded explored.expanded refl
             (λ i d. record { reached = done_met i d; high = counts.high stands i d }) (done_down explored.depth rested) counts.number
 
         -- with the rows dropped nothing waits
-        all : explored.reader.standing ≡ false → IsNumberOf (IsReached objects (Plan low)) explored.expanded
+        all : explored.reader.in_use ≡ false → IsNumberOf (IsReached objects (Plan low)) explored.expanded
         all dropped =
             number_same (IsDone explored.frontier) (IsReached objects (Plan low)) explored.expanded explored.expanded refl done_met
             (λ i r. done_down 0 (⊎_elim (λ q. inl q) (λ held. absurd (true≢false (sym held.0 ∙ dropped))) rested) i (record { reached = r; high = omega arith })) counts.number

@@ -58,7 +58,7 @@ module _ {F : Type 0} (objects : F → Objects) (faulty : F → ObjectId → Typ
   -- where nothing waits, exploring does nothing
   pub explores_idle : {old new : Counting F} → Explores objects faulty old new → old.frontier.queue ≡ [] → new.frontier.queue ≡ []
   explores_idle itself e = e
-  explores_idle (further {mid = mid} x p s) e = absurd (false≢true (sym (ap (is_pending mid.reader.standing mid.depth) (explores_idle x e)) ∙ p))
+  explores_idle (further {mid = mid} x p s) e = absurd (false≢true (sym (ap (is_pending mid.reader.in_use mid.depth) (explores_idle x e)) ∙ p))
 
   -- what is seen stays so
   pub steps_still : (old new : Counting F) → Steps objects faulty old new → (t : Side) (j : ObjectId) → has_seen old.frontier t j ≡ true → has_seen new.frontier t j ≡ true

@@ -20,7 +20,7 @@ use Rattle.gix_frontier.specs.Inside.Frontier.{is_seen, known_of, progress_of, r
 use Rattle.gix_topo.specs.Inside.Releasing.{plan_of, with_frontier, Pushes}
 use Rattle.gix_topo.specs.Inside.Steady.{AreRead}
 use Rattle.gix_topo.specs.Walk.{Ready, ready_ids, IsFound}
-use Rattle.gix_revwalk.proofs.Rows.{held_before, dropped_by}
+use Rattle.gix_revwalk.proofs.Rows.{in_use_before, dropped_by}
 use Rattle.gix_topo.proofs.Reading.OnceRead.{all_still, found_later, found_pushed}
 use Rattle.gix_topo.proofs.Readiness.ReadyIds.{ids-append}
 use Rattle.gix_topo.proofs.Counts.Frontier.{known-insert, reached-insert}
@@ -29,12 +29,12 @@ use Rattle.gix_hash.proofs.Lists.{only_member}
 
 module _ {F : Type 0} (objects : F → Objects) (faulty : F → ObjectId → Type 0) where
   -- rows that are in use after a reading were in use before
-  pub reads_stands : {os : Objects} {fs : ObjectId → Type 0} {rows : List GraphRow} {standing : Bool} {i : ObjectId} {info : Info} {new : Bool} → Reads os fs rows standing i (Ok info) new → new ≡ true → standing ≡ true
-  reads_stands (by_row r is) = held_before r
-  reads_stands (by_text r t) = held_before r
+  pub reads_stands : {os : Objects} {fs : ObjectId → Type 0} {rows : List GraphRow} {in_use : Bool} {i : ObjectId} {info : Info} {new : Bool} → Reads os fs rows in_use i (Ok info) new → new ≡ true → in_use ≡ true
+  reads_stands (by_row r is) = in_use_before r
+  reads_stands (by_text r t) = in_use_before r
 
   -- rows that fall by reading fall by a row with a fault
-  pub reads_drops : {os : Objects} {fs : ObjectId → Type 0} {rows : List GraphRow} {standing : Bool} {i : ObjectId} {info : Info} {new : Bool} → Reads os fs rows standing i (Ok info) new → standing ≡ true → new ≡ false → DropsRows rows i
+  pub reads_drops : {os : Objects} {fs : ObjectId → Type 0} {rows : List GraphRow} {in_use : Bool} {i : ObjectId} {info : Info} {new : Bool} → Reads os fs rows in_use i (Ok info) new → in_use ≡ true → new ≡ false → DropsRows rows i
   reads_drops (by_row r is) = dropped_by r
   reads_drops (by_text r t) = dropped_by r
 
@@ -84,10 +84,10 @@ module _ {F : Type 0} (objects : F → Objects) (faulty : F → ObjectId → Typ
     pub queue : new.counting.frontier.queue ≡ old.counting.frontier.queue
     pub moved : (s : Side) (j : ObjectId) → reached new.counting.frontier.known s j ≡ reached old.counting.frontier.known s j
     pub made : (j : ObjectId) → was_ready_of new.counting.frontier j ≡ (is_among j (ready_ids added) || was_ready_of old.counting.frontier j)
-    pub stands : new.counting.reader.standing ≡ true → old.counting.reader.standing ≡ true
+    pub stands : new.counting.reader.in_use ≡ true → old.counting.reader.in_use ≡ true
     pub among : (r : Ready) → Contains added r → Contains ids r.id
-    pub each : AreRead objects faulty (plan_of old) old.counting → (r : Ready) → Contains added r → IsFound objects faulty (plan_of old) old.counting.reader.standing new.counting.reader.standing r
-    pub dropped : old.counting.reader.standing ≡ true → new.counting.reader.standing ≡ false → (i : ObjectId) × Contains ids i × DropsRows (plan_of old).rows i
+    pub each : AreRead objects faulty (plan_of old) old.counting → (r : Ready) → Contains added r → IsFound objects faulty (plan_of old) old.counting.reader.in_use new.counting.reader.in_use r
+    pub dropped : old.counting.reader.in_use ≡ true → new.counting.reader.in_use ≡ false → (i : ObjectId) × Contains ids i × DropsRows (plan_of old).rows i
 
   -- none became ready, and the table may differ in indegrees
   pub made_none : (old : Walk F) (f : Frontier) (ids : List ObjectId) → f.queue ≡ old.counting.frontier.queue → ((s : Side) (j : ObjectId) → reached f.known s j ≡ reached old.counting.frontier.known s j) → ((j : ObjectId) → was_ready_of f j ≡ was_ready_of old.counting.frontier j) → MakesReady old ids [] (with_frontier objects faulty old f)
@@ -115,7 +115,7 @@ module _ {F : Type 0} (objects : F → Objects) (faulty : F → ObjectId → Typ
     made = λ j. (marks_ready_known f new.counting.frontier i p.made j).1 ∙ ap (λ b. is_same j i || b) (made j) ∙ ap (λ b. b || was_ready_of old.counting.frontier j) (ap (is_same j) (sym p.id) ∙ sym (among-one j r.id));
     stands = λ e. reads_stands p.reads e;
     among = λ x m. subst (λ j. Contains (i ∷ []) j) (sym p.id ∙ ap (λ y. y.id) (only_member r x m)) (Contains-here i []);
-    each = λ h x m. subst (IsFound objects faulty (plan_of old) old.counting.reader.standing new.counting.reader.standing) (only_member r x m) (found_pushed objects faulty (with_frontier objects faulty old f) old.counting i r new moved h p);
+    each = λ h x m. subst (IsFound objects faulty (plan_of old) old.counting.reader.in_use new.counting.reader.in_use) (only_member r x m) (found_pushed objects faulty (with_frontier objects faulty old f) old.counting i r new moved h p);
     dropped = λ a b. (i, Contains-here i [], reads_drops p.reads a b);
   }
 
@@ -130,8 +130,8 @@ module _ {F : Type 0} (objects : F → Objects) (faulty : F → ObjectId → Typ
     made = λ j. b.made j ∙ ap (λ x. is_among j (ready_ids others) || x) (a.made j) ∙ joined (is_among j (ready_ids others)) (is_among j (ready_ids first)) (was_ready_of old.counting.frontier j) ∙ ap (λ x. x || was_ready_of old.counting.frontier j) (sym (ap (is_among j) (ids-append first others) ∙ among-append j (ready_ids first) (ready_ids others)));
     stands = λ e. a.stands (b.stands e);
     among = λ r m. ⊎_elim (λ l. here r.id (a.among r l)) (λ t. Contains-there r.id i ids (b.among r t)) (Contains-append_cases first others r m);
-    each = λ h r m. ⊎_elim (λ l. found_later objects faulty (plan_of old) (λ e. e) b.stands (a.each h r l)) (λ t. found_later objects faulty (plan_of old) a.stands (λ e. e) (subst (λ p. IsFound objects faulty p mid.counting.reader.standing new.counting.reader.standing r) a.plan (b.each (read_mid h) r t))) (Contains-append_cases first others r m);
-    dropped = λ e d. drops mid.counting.reader.standing refl e d;
+    each = λ h r m. ⊎_elim (λ l. found_later objects faulty (plan_of old) (λ e. e) b.stands (a.each h r l)) (λ t. found_later objects faulty (plan_of old) a.stands (λ e. e) (subst (λ p. IsFound objects faulty p mid.counting.reader.in_use new.counting.reader.in_use r) a.plan (b.each (read_mid h) r t))) (Contains-append_cases first others r m);
+    dropped = λ e d. drops mid.counting.reader.in_use refl e d;
   }
     where
       read_mid : AreRead objects faulty (plan_of old) old.counting → AreRead objects faulty (plan_of mid) mid.counting
@@ -146,7 +146,7 @@ module _ {F : Type 0} (objects : F → Objects) (faulty : F → ObjectId → Typ
       here : (j : ObjectId) → Contains (i ∷ []) j → Contains (i ∷ ids) j
       here j m = subst (λ x. Contains (i ∷ ids) x) (only_member i j m) (Contains-here i ids)
 
-      drops : (m : Bool) → mid.counting.reader.standing ≡ m → old.counting.reader.standing ≡ true → new.counting.reader.standing ≡ false → (j : ObjectId) × Contains (i ∷ ids) j × DropsRows (plan_of old).rows j
+      drops : (m : Bool) → mid.counting.reader.in_use ≡ m → old.counting.reader.in_use ≡ true → new.counting.reader.in_use ≡ false → (j : ObjectId) × Contains (i ∷ ids) j × DropsRows (plan_of old).rows j
       drops true m e d =
           let h : (j : ObjectId) × Contains ids j × DropsRows (plan_of mid).rows j = b.dropped m d in
           (h.0, Contains-there h.0 i ids h.1, subst (λ p. DropsRows p.rows h.0) a.plan h.2)

@@ -22,7 +22,7 @@ use Rattle.gix_topo.specs.Inside.Exploring.{IsExploringFault}
 use Rattle.gix_revwalk.specs.Commits.{ReadsWhole, parents_of, commit_of_object}
 use Rattle.gix_hash.specs.Reach.{Reaches}
 use Rattle.gix_revwalk.specs.Reading.{rows_of}
-use Rattle.gix_topo.specs.Reading.{IsReadFault, IsUnheld}
+use Rattle.gix_topo.specs.Reading.{IsReadFault, HasNoRowInUse}
 use Rattle.gix_topo.specs.Inside.Releasing.{plan_by, plan_of, IsPushFault, itself, parent}
 use Rattle.gix_topo.specs.Inside.Searched.{IsCounted, next_by, starts_by}
 use Rattle.gix_topo.specs.Inside.Steady.{AreDroppedFor}
@@ -67,11 +67,11 @@ module _ {F : Type 0} (objects : F → Objects) (faulty : F → ObjectId → Typ
   read_fault Q i error.Memory a u w f = tt
 
 -- exploring fails
-module _ {F : Type 0} (objects : F → Objects) (faulty : F → ObjectId → Type 0) (sorting : Sorting) (tips ends : List ObjectId) (taken : ObjectId → Bool) (low : Counting F) (counted : IsAgreeing (objects low.reader.find) (rows_of low.reader.graph) → IsCounted (objects low.reader.find) (rows_of low.reader.graph) low.parents tips ends taken low.frontier) (dropped : AreDroppedFor objects (plan_by low sorting tips ends) low.reader.standing) where
+module _ {F : Type 0} (objects : F → Objects) (faulty : F → ObjectId → Type 0) (sorting : Sorting) (tips ends : List ObjectId) (taken : ObjectId → Bool) (low : Counting F) (counted : IsAgreeing (objects low.reader.find) (rows_of low.reader.graph) → IsCounted (objects low.reader.find) (rows_of low.reader.graph) low.parents tips ends taken low.frontier) (dropped : AreDroppedFor objects (plan_by low sorting tips ends) low.reader.in_use) where
   pub exploring_fault : (Q : ObjectId → Type 0) (e : Error) → IsExploringFault objects faulty low e → IsFault objects faulty (plan_by low sorting tips ends) Q e
   exploring_fault Q e f =
       read_fault objects faulty (plan_by low sorting tips ends) Q f.fault.entry.1.id e (λ a. inl (there a))
-      (λ n. unrowed_own objects faulty (plan_by low sorting tips ends) f.so_far.reader.standing f.fault.entry.1.id there (explores_dropped objects faulty sorting tips ends taken low counted f.explored dropped) (subst (λ g. IsUnheld (rows_of g) f.so_far.reader.standing f.fault.entry.1.id) (explores_same objects faulty f.explored).graph (f.fault.fault.1 n)))
+      (λ n. unrowed_own objects faulty (plan_by low sorting tips ends) f.so_far.reader.in_use f.fault.entry.1.id there (explores_dropped objects faulty sorting tips ends taken low counted f.explored dropped) (subst (λ g. HasNoRowInUse (rows_of g) f.so_far.reader.in_use f.fault.entry.1.id) (explores_same objects faulty f.explored).graph (f.fault.fault.1 n)))
       (λ s. reached_whole objects faulty (plan_by low sorting tips ends) s f.fault.entry.1.side f.fault.entry.1.id (queued_within objects faulty sorting tips ends taken low counted f.explored f.fault.entry f.fault.queued s.agreeing))
       (subst (λ x. IsReadFault (objects x) (faulty x) f.fault.entry.1.id e) (explores_same objects faulty f.explored).find f.fault.fault.0)
     where
@@ -80,9 +80,9 @@ module _ {F : Type 0} (objects : F → Objects) (faulty : F → ObjectId → Typ
 
 module _ {F : Type 0} (objects : F → Objects) (faulty : F → ObjectId → Type 0) where
   -- a commit that tips reach, or a parent of it, can't be read
-  pub push_fault : (Q : ObjectId → Type 0) (old : Walk F) (i : ObjectId) (e : Error) → (IsAgreeing (objects (plan_of old).store) (plan_of old).rows → Reaches (next_by (objects (plan_of old).store) (plan_of old).parents Tips) (plan_of old).tips i) → (IsAgreeing (objects (plan_of old).store) (plan_of old).rows → Q i) → AreDroppedFor objects (plan_of old) old.counting.reader.standing → IsPushFault objects faulty old i e → IsFault objects faulty (plan_of old) Q e
-  push_fault Q old i e r q h (itself f) = read_fault objects faulty (plan_of old) Q i e (λ a. inl (inl (r a))) (λ n. unrowed_own objects faulty (plan_of old) old.counting.reader.standing i (λ a. inl (r a)) h (f.1 n)) (λ s. reached_whole objects faulty (plan_of old) s Tips i (r s.agreeing)) f.0
-  push_fault Q old i e r q h (parent {info = info} {standing = standing} {p = p} reads m f) = read_fault objects faulty (plan_of old) Q p e (λ a. inr (i, q a, subst (λ ids. Contains ids p) (reads_text_next (objects (plan_of old).store) (faulty (plan_of old).store) (plan_of old).rows a reads) m)) (λ n. unrowed_parent objects faulty (plan_of old) standing p (read_dropped objects faulty (plan_of old) (λ a. inl (r a)) reads h) f.1) parent_whole f.0
+  pub push_fault : (Q : ObjectId → Type 0) (old : Walk F) (i : ObjectId) (e : Error) → (IsAgreeing (objects (plan_of old).store) (plan_of old).rows → Reaches (next_by (objects (plan_of old).store) (plan_of old).parents Tips) (plan_of old).tips i) → (IsAgreeing (objects (plan_of old).store) (plan_of old).rows → Q i) → AreDroppedFor objects (plan_of old) old.counting.reader.in_use → IsPushFault objects faulty old i e → IsFault objects faulty (plan_of old) Q e
+  push_fault Q old i e r q h (itself f) = read_fault objects faulty (plan_of old) Q i e (λ a. inl (inl (r a))) (λ n. unrowed_own objects faulty (plan_of old) old.counting.reader.in_use i (λ a. inl (r a)) h (f.1 n)) (λ s. reached_whole objects faulty (plan_of old) s Tips i (r s.agreeing)) f.0
+  push_fault Q old i e r q h (parent {info = info} {in_use = in_use} {p = p} reads m f) = read_fault objects faulty (plan_of old) Q p e (λ a. inr (i, q a, subst (λ ids. Contains ids p) (reads_text_next (objects (plan_of old).store) (faulty (plan_of old).store) (plan_of old).rows a reads) m)) (λ n. unrowed_parent objects faulty (plan_of old) in_use p (read_dropped objects faulty (plan_of old) (λ a. inl (r a)) reads h) f.1) parent_whole f.0
     where
       parent_whole : IsSound objects faulty (plan_of old) → ReadsWhole (objects (plan_of old).store) p
       parent_whole s =

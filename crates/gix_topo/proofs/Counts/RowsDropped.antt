@@ -23,7 +23,7 @@ use Rattle.gix_frontier.specs.Inside.Frontier.{is_side, is_seen, is_queued, reac
 use Rattle.gix_hash.specs.Reach.{Reaches}
 use Rattle.gix_revwalk.specs.Reading.{rows_of, DropsRows}
 use Rattle.gix_revwalk.specs.RowParents.{IsUnrowed}
-use Rattle.gix_topo.specs.Reading.{Reads, IsUnheld}
+use Rattle.gix_topo.specs.Reading.{Reads, HasNoRowInUse}
 use Rattle.gix_topo.specs.Inside.Releasing.{plan_by, plan_of}
 use Rattle.gix_topo.specs.Inside.Searched.{IsCounted, next_by, starts_by}
 use Rattle.gix_topo.specs.Inside.Steady.{AreDroppedFor}
@@ -62,32 +62,32 @@ module _ {F : Type 0} (objects : F → Objects) (faulty : F → ObjectId → Typ
       go e true q = record { id = i; corrupt = reads_drops objects faulty reads q e; reached = r }
 
   -- and so do ids of which some become ready
-  pub made_dropped : (plan : TopoPlan F) {old new : Walk F} {ids : List ObjectId} {added : List Ready} → plan_of old ≡ plan → ((i : ObjectId) → Contains ids i → Agree plan → IsReached objects plan i) → MakesReady objects faulty old ids added new → AreDroppedFor objects plan old.counting.reader.standing → AreDroppedFor objects plan new.counting.reader.standing
-  made_dropped plan {old} {new} {ids} same r made h = λ e. go e old.counting.reader.standing refl
+  pub made_dropped : (plan : TopoPlan F) {old new : Walk F} {ids : List ObjectId} {added : List Ready} → plan_of old ≡ plan → ((i : ObjectId) → Contains ids i → Agree plan → IsReached objects plan i) → MakesReady objects faulty old ids added new → AreDroppedFor objects plan old.counting.reader.in_use → AreDroppedFor objects plan new.counting.reader.in_use
+  made_dropped plan {old} {new} {ids} same r made h = λ e. go e old.counting.reader.in_use refl
     where
-      go : new.counting.reader.standing ≡ false → (b : Bool) → old.counting.reader.standing ≡ b → DropsBy objects plan
+      go : new.counting.reader.in_use ≡ false → (b : Bool) → old.counting.reader.in_use ≡ b → DropsBy objects plan
       go e false q = h q
       go e true q =
           let k : (i : ObjectId) × Contains ids i × DropsRows (plan_of old).rows i = made.dropped q e in
           record { id = k.0; corrupt = subst (λ p. DropsRows p.rows k.0) same k.2; reached = r k.0 k.1 }
 
   -- a commit of which no row is in use has none, or rows were dropped for their reason
-  pub unrowed_own : (plan : TopoPlan F) (standing : Bool) (i : ObjectId) → (Agree plan → IsReached objects plan i) → AreDroppedFor objects plan standing → IsUnheld plan.rows standing i → (known_generation plan.rows i ≡ infinity) ⊎ DropsBy objects plan
-  unrowed_own plan standing i r h u = by standing refl
+  pub unrowed_own : (plan : TopoPlan F) (in_use : Bool) (i : ObjectId) → (Agree plan → IsReached objects plan i) → AreDroppedFor objects plan in_use → HasNoRowInUse plan.rows in_use i → (known_generation plan.rows i ≡ infinity) ⊎ DropsBy objects plan
+  unrowed_own plan in_use i r h u = by in_use refl
     where
       own : IsUnrowed plan.rows i → (o : Option GraphRow) → row_of plan.rows i ≡ o → (known_generation plan.rows i ≡ infinity) ⊎ DropsBy objects plan
       own k None e = inl (ap generation_in e)
       own k (Some row) e = inr (record { id = i; corrupt = (row, e, k row e); reached = r })
 
-      by : (b : Bool) → standing ≡ b → (known_generation plan.rows i ≡ infinity) ⊎ DropsBy objects plan
+      by : (b : Bool) → in_use ≡ b → (known_generation plan.rows i ≡ infinity) ⊎ DropsBy objects plan
       by true q = own (u q) (row_of plan.rows i) refl
       by false q = inr (h q)
 
   -- the same of one whose generation no row in use says
-  pub unrowed_parent : (plan : TopoPlan F) (standing : Bool) (i : ObjectId) → AreDroppedFor objects plan standing → (standing ≡ true → known_generation plan.rows i ≡ infinity) → (known_generation plan.rows i ≡ infinity) ⊎ DropsBy objects plan
-  unrowed_parent plan standing i h u = by standing refl
+  pub unrowed_parent : (plan : TopoPlan F) (in_use : Bool) (i : ObjectId) → AreDroppedFor objects plan in_use → (in_use ≡ true → known_generation plan.rows i ≡ infinity) → (known_generation plan.rows i ≡ infinity) ⊎ DropsBy objects plan
+  unrowed_parent plan in_use i h u = by in_use refl
     where
-      by : (b : Bool) → standing ≡ b → (known_generation plan.rows i ≡ infinity) ⊎ DropsBy objects plan
+      by : (b : Bool) → in_use ≡ b → (known_generation plan.rows i ≡ infinity) ⊎ DropsBy objects plan
       by true q = inl (u q)
       by false q = inr (h q)
 
@@ -99,12 +99,12 @@ module _ {F : Type 0} (objects : F → Objects) (faulty : F → ObjectId → Typ
       let c : IsCounted (objects low.reader.find) (rows_of low.reader.graph) low.parents tips ends taken so_far.frontier = explores_keep objects faulty tips ends taken a explored (counted a) in
       (c.searched.search entry.1.side).within entry.1.id (waits_seen (reached so_far.frontier.known entry.1.side entry.1.id) (waiting so_far.frontier.queue entry.1.side entry.1.id) ((c.searched.search entry.1.side).queued entry.1.id) (queue_waits so_far.frontier.queue entry queued))
 
-  pub explores_dropped : {explored : Counting F} → Explores objects faulty low explored → AreDroppedFor objects (plan_by low sorting tips ends) low.reader.standing → AreDroppedFor objects (plan_by low sorting tips ends) explored.reader.standing
+  pub explores_dropped : {explored : Counting F} → Explores objects faulty low explored → AreDroppedFor objects (plan_by low sorting tips ends) low.reader.in_use → AreDroppedFor objects (plan_by low sorting tips ends) explored.reader.in_use
   explores_dropped itself h = λ e. h e
   explores_dropped (further {mid = mid} {new = new} e p s) h =
       read_dropped objects faulty (plan_by low sorting tips ends)
       (λ a. reached_by objects faulty (plan_by low sorting tips ends) s.entry.1.side s.entry.1.id (queued_within e s.entry queued a))
-      (subst (λ g. Reads (objects mid.reader.find) (faulty mid.reader.find) (rows_of g) mid.reader.standing s.entry.1.id (Ok s.reads.info) new.reader.standing) (explores_same objects faulty e).graph s.reads.reads)
+      (subst (λ g. Reads (objects mid.reader.find) (faulty mid.reader.find) (rows_of g) mid.reader.in_use s.entry.1.id (Ok s.reads.info) new.reader.in_use) (explores_same objects faulty e).graph s.reads.reads)
       (explores_dropped e h)
     where
       queued : Contains mid.frontier.queue s.entry

@@ -10,7 +10,7 @@ use Rattle.gix_frontier.specs.declared.Frontier.{Frontier}
 use Rattle.gix_topo.specs.declared.counting.Counting.{Counting}
 use Rattle.gix_frontier.specs.Inside.Frontier.{reached, is_done, Finishes}
 use Rattle.gix_revwalk.specs.Reading.{rows_of}
-use Rattle.gix_topo.specs.Inside.Exploring.{Follows, IsSamePlan, ReadsParents, Steps}
+use Rattle.gix_topo.specs.Inside.Exploring.{Follows, ReadsParents, Steps}
 
 pub first_in : {X : Type 0} (xs : List X) (x : X) → Some x ≡ slice_get xs 0 → Contains xs x
 first_in [] x e = cc
@@ -23,23 +23,21 @@ module _ {F : Type 0} (objects : F → Objects) (faulty : F → ObjectId → Typ
 
   pub steps_made : (old read followed : Counting F) (generation : ℕ) (entry : Waiting) (left : List (ℕ × Waiting)) (ids : List ObjectId) (expanded : ℕ) (new : Frontier)
       → Some (generation, entry) ≡ slice_get old.frontier.queue 0 → IsPermutation old.frontier.queue ((generation, entry) ∷ left)
-      → IsSamePlan objects faulty (popped old left) read → read.frontier ≡ record old.frontier { queue = left } → read.expanded ≡ old.expanded
-      → ReadsParents objects faulty (popped old left) entry.id entry.side ids read.reader.standing
+      → read ≡ record (popped old left) { reader = record old.reader { in_use = read.reader.in_use } } → ReadsParents objects faulty (popped old left) entry.id entry.side ids read.reader.in_use
       → expanded ≡ read.expanded + cond (is_done (reached read.frontier.known Tips entry.id) || is_done (reached read.frontier.known Ends entry.id)) 0 1
-      → followed.reader ≡ read.reader → followed.parents ≡ read.parents → followed.depth ≡ read.depth → followed.expanded ≡ expanded
+      → followed ≡ record read { expanded = expanded; frontier = followed.frontier }
       → Follows (rows_of read.reader.graph) entry.side read.frontier ids followed.frontier → Finishes followed.frontier entry.id entry.side new
       → Steps objects faulty old (record followed { frontier = new })
-  steps_made old read followed generation entry left ids expanded new first out same frontier more reads noted reader parents depth counted follows finishes = record {
-    same = record { find = ap (λ r. r.find) reader ∙ same.find; graph = ap (λ r. r.graph) reader ∙ same.graph; parents = parents ∙ same.parents; depth = depth ∙ same.depth };
+  steps_made old read followed generation entry left ids expanded new first out is_read reads noted is_followed follows finishes = record {
+    same = record { find = ap (λ c. c.reader.find) is_followed ∙ ap (λ c. c.reader.find) is_read; graph = ap (λ c. c.reader.graph) is_followed ∙ ap (λ c. c.reader.graph) is_read; parents = ap (λ c. c.parents) is_followed ∙ ap (λ c. c.parents) is_read; depth = ap (λ c. c.depth) is_followed ∙ ap (λ c. c.depth) is_read };
     entry = (generation, entry);
     left = left;
     first = sym first;
     taken_out = out;
     ids = ids;
-    reads = record { info = reads.info; reads = subst (Rattle.gix_topo.specs.Reading.Reads (objects old.reader.find) (faulty old.reader.find) (rows_of old.reader.graph) old.reader.standing entry.id (Rattle.std.specs.Prelude.Ok reads.info)) (sym (ap (λ r. r.standing) reader)) reads.reads; named = reads.named };
+    reads = record { info = reads.info; reads = subst (Rattle.gix_topo.specs.Reading.Reads (objects old.reader.find) (faulty old.reader.find) (rows_of old.reader.graph) old.reader.in_use entry.id (Rattle.std.specs.Prelude.Ok reads.info)) (sym (ap (λ c. c.reader.in_use) is_followed)) reads.reads; named = reads.named };
     followed = followed.frontier;
-    follows = subst (λ f. Follows (rows_of old.reader.graph) entry.side f ids followed.frontier) frontier (subst (λ g. Follows (rows_of g) entry.side read.frontier ids followed.frontier) same.graph follows);
+    follows = subst (λ c. Follows (rows_of c.reader.graph) entry.side c.frontier ids followed.frontier) is_read follows;
     finishes = finishes;
-    expanded = counted ∙ noted ∙ ap (λ n. n + cond (is_done (reached read.frontier.known Tips entry.id) || is_done (reached read.frontier.known Ends entry.id)) 0 1) more
-        ∙ ap (λ f. old.expanded + cond (is_done (reached f.known Tips entry.id) || is_done (reached f.known Ends entry.id)) 0 1) frontier;
+    expanded = ap (λ c. c.expanded) is_followed ∙ noted ∙ ap (λ c. c.expanded + cond (is_done (reached c.frontier.known Tips entry.id) || is_done (reached c.frontier.known Ends entry.id)) 0 1) is_read;
   }

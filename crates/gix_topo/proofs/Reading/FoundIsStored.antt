@@ -11,7 +11,7 @@ use Rattle.gix_object.specs.CommitItems.{commit_items}
 use Rattle.gix_object.specs.CommitRefIter.{first_committer}
 use Rattle.gix_commitgraph.specs.Rows.{GraphRow, row_of}
 use Rattle.gix_revwalk.specs.declared.Info.{Info}
-use Rattle.gix_revwalk.specs.declared.read.RowRead.{RowRead}
+use Rattle.gix_revwalk.specs.declared.row.RowRead.{RowRead}
 use Rattle.gix_revwalk.specs.Agreeing.{IsAgreeing}
 use Rattle.gix_topo.specs.Depth.{infinity}
 use Rattle.gix_revwalk.specs.Commits.{time_of, time_in, commit_of_object}
@@ -36,30 +36,30 @@ module _ (objects : Objects) (faulty : ObjectId → Type 0) (rows : List GraphRo
   finite_told i says =
       ap told_generation says.generation ∙ ap (λ b. cond b (Some says.row.generation) None) (lt-ltb says.row.generation infinity (agrees says.row (row_stands rows i says.row says.there).0).finite)
 
-  reads_time : {standing : Bool} {i : ObjectId} {info : Info} {new : Bool} → Reads objects faulty rows standing i (Ok info) new → info.commit_time ≡ Some (time_of objects i)
+  reads_time : {in_use : Bool} {i : ObjectId} {info : Info} {new : Bool} → Reads objects faulty rows in_use i (Ok info) new → info.commit_time ≡ Some (time_of objects i)
   reads_time {i = i} (by_row (is_read h says) is) = is.same_time ∙ ap Some (says.time ∙ row_says_time objects rows agrees i says.row says.there)
   reads_time {i = i} (by_text n t) =
       t.2.0.same_time ∙ ap Some (committer_time (read_commit (kind_of i) t.0) (first_committer (commit_items (kind_of i) t.0)) (tells (kind_of i) t.0) ∙ sym (ap (λ o. time_in (commit_of_object i o)) t.1))
 
-  reads_row : {standing : Bool} {i : ObjectId} {info : Info} {new : Bool} → Reads objects faulty rows standing i (Ok info) new → IsRowGeneration rows i info.generation
+  reads_row : {in_use : Bool} {i : ObjectId} {info : Info} {new : Bool} → Reads objects faulty rows in_use i (Ok info) new → IsRowGeneration rows i info.generation
   reads_row {i = i} (by_row (is_read h says) is) = subst (IsRowGeneration rows i) (sym (is.same_generation ∙ finite_told i says)) (says.row, says.there, refl)
   reads_row {i = i} (by_text n t) = subst (IsRowGeneration rows i) (sym t.2.0.same_generation) tt
 
-  reads_told : {standing : Bool} {i : ObjectId} {info : Info} {new : Bool} → Reads objects faulty rows standing i (Ok info) new → new ≡ true → info.generation ≡ row_generation (row_of rows i)
+  reads_told : {in_use : Bool} {i : ObjectId} {info : Info} {new : Bool} → Reads objects faulty rows in_use i (Ok info) new → new ≡ true → info.generation ≡ row_generation (row_of rows i)
   reads_told {i = i} (by_row (is_read h says) is) e = is.same_generation ∙ finite_told i says ∙ sym (ap row_generation says.there)
   reads_told (by_text r t) e = t.2.0.same_generation ∙ sym (ap row_generation (passed_over r e))
 
 module _ {F : Type 0} (objects : F → Objects) (faulty : F → ObjectId → Type 0) (plan : TopoPlan F) where
   -- with rows that agree, its parents are the ids that its text names
-  pub found_text : {stood standing : Bool} {r : Ready} → IsAgreeing (objects plan.store) plan.rows → IsFound objects faulty plan stood standing r → r.parents ≡ text_next (objects plan.store) r.id
+  pub found_text : {was_in_use in_use : Bool} {r : Ready} → IsAgreeing (objects plan.store) plan.rows → IsFound objects faulty plan was_in_use in_use r → r.parents ≡ text_next (objects plan.store) r.id
   found_text agrees f = sym f.is.same_parents ∙ reads_text_next (objects plan.store) (faulty plan.store) plan.rows agrees f.reads
 
   -- rows or texts name its parents
-  pub found_named : {stood standing : Bool} {r : Ready} → IsFound objects faulty plan stood standing r → (p : ObjectId) → Contains r.parents p → is_among p (named_ids (objects plan.store) plan.rows) ≡ true
+  pub found_named : {was_in_use in_use : Bool} {r : Ready} → IsFound objects faulty plan was_in_use in_use r → (p : ObjectId) → Contains r.parents p → is_among p (named_ids (objects plan.store) plan.rows) ≡ true
   found_named f p m = reads_named (objects plan.store) (faulty plan.store) plan.rows f.reads p (subst (λ ids. Contains ids p) (sym f.is.same_parents) m)
 
   -- with rows that agree, it is as its text and the rows say
-  pub found_stored : {stood standing : Bool} {r : Ready} → IsAgreeing (objects plan.store) plan.rows → IsFound objects faulty plan stood standing r → IsStored objects plan standing r
+  pub found_stored : {was_in_use in_use : Bool} {r : Ready} → IsAgreeing (objects plan.store) plan.rows → IsFound objects faulty plan was_in_use in_use r → IsStored objects plan in_use r
   found_stored {r = r} agrees f = record {
     parents = found_text agrees f;
     time = let same : Some r.time ≡ Some (time_of (objects plan.store) r.id) = sym f.is.same_time ∙ reads_time (objects plan.store) (faulty plan.store) plan.rows agrees f.reads in cc;

@@ -16,7 +16,7 @@ use Rattle.gix_frontier.specs.Inside.Frontier.{is_done, reached}
 use Rattle.gix_topo.specs.Inside.Releasing.{plan_of, LooksUpParent, Pushes}
 use Rattle.gix_topo.specs.Inside.Steady.{IsReadOnce, AreRead}
 use Rattle.gix_topo.specs.Walk.{TopoPlan, Ready, IsCommitRead, IsKnown, IsFound}
-use Rattle.gix_revwalk.proofs.Rows.{IsSoundRow, held_whole}
+use Rattle.gix_revwalk.proofs.Rows.{IsSoundRow, whole_in_use}
 use Rattle.gix_topo.proofs.Reading.Faultless.{faultless}
 
 -- a commit that is read from the store has no fault
@@ -25,20 +25,20 @@ text_read objects faulty i info t = record { bytes = t.0; stored = t.1; faultles
 
 module _ {F : Type 0} (objects : F → Objects) (faulty : F → ObjectId → Type 0) (plan : TopoPlan F) where
   -- it has a row, or it is stored as a commit that can be read
-  pub once_known : {now : Bool} (standing : Bool) {i : ObjectId} → standing ≡ true → IsReadOnce objects faulty plan now i → IsKnown (objects plan.store) plan.rows standing i
-  once_known standing {i} e h = go h.reads
+  pub once_known : {now : Bool} (in_use : Bool) {i : ObjectId} → in_use ≡ true → IsReadOnce objects faulty plan now i → IsKnown (objects plan.store) plan.rows in_use i
+  once_known in_use {i} e h = go h.reads
     where
-      go : {before after : Bool} → Reads (objects plan.store) (faulty plan.store) plan.rows before i (Ok h.info) after → IsKnown (objects plan.store) plan.rows standing i
+      go : {before after : Bool} → Reads (objects plan.store) (faulty plan.store) plan.rows before i (Ok h.info) after → IsKnown (objects plan.store) plan.rows in_use i
       go (by_row (is_read h says) is) = inl (e, says.row, says.there)
       go (by_text n t) = inr (text_read (objects plan.store) (faulty plan.store) i h.info t)
 
   -- rows that are in use after a reading have no fault there
-  pub once_whole : {standing : Bool} {i : ObjectId} → IsReadOnce objects faulty plan standing i → standing ≡ true → IsSoundRow plan.rows i
+  pub once_whole : {in_use : Bool} {i : ObjectId} → IsReadOnce objects faulty plan in_use i → in_use ≡ true → IsSoundRow plan.rows i
   once_whole {i = i} h e = go h.reads (h.later e)
     where
       go : {before after : Bool} → Reads (objects plan.store) (faulty plan.store) plan.rows before i (Ok h.info) after → after ≡ true → IsSoundRow plan.rows i
-      go (by_row r is) = held_whole r
-      go (by_text r t) = held_whole r
+      go (by_row r is) = whole_in_use r
+      go (by_text r t) = whole_in_use r
 
 module _ {F : Type 0} (objects : F → Objects) (faulty : F → ObjectId → Type 0) where
   -- what was read once was read once also after more was read
@@ -46,27 +46,27 @@ module _ {F : Type 0} (objects : F → Objects) (faulty : F → ObjectId → Typ
   once_still plan s h = record { info = h.info; before = h.before; after = h.after; reads = h.reads; later = λ e. h.later (s e) }
 
   -- where the searches have done the same, the same was read
-  pub all_still : (plan : TopoPlan F) (old new : Counting F) → ((s : Side) (j : ObjectId) → reached new.frontier.known s j ≡ reached old.frontier.known s j) → (new.reader.standing ≡ true → old.reader.standing ≡ true) → AreRead objects faulty plan old → AreRead objects faulty plan new
+  pub all_still : (plan : TopoPlan F) (old new : Counting F) → ((s : Side) (j : ObjectId) → reached new.frontier.known s j ≡ reached old.frontier.known s j) → (new.reader.in_use ≡ true → old.reader.in_use ≡ true) → AreRead objects faulty plan old → AreRead objects faulty plan new
   all_still plan old new moved stands h i d = once_still plan stands (h i (⊎_elim (λ a. inl (sym (ap is_done (moved Tips i)) ∙ a)) (λ b. inr (sym (ap is_done (moved Ends i)) ∙ b)) d))
 
   -- what the code knows is known
-  pub known_by : (plan : TopoPlan F) (c : Counting F) (standing : Bool) (f : Frontier) → ((s : Side) (j : ObjectId) → reached f.known s j ≡ reached c.frontier.known s j) → AreRead objects faulty plan c → (p : ObjectId) → LooksUpParent (objects plan.store) plan.rows standing f p → IsKnown (objects plan.store) plan.rows standing p
-  known_by plan c standing f moved h p k =
-      ⊎_elim (λ q. once_known objects faulty plan standing q.0 (h p (⊎_elim (λ a. inl (sym (ap is_done (moved Tips p)) ∙ a)) (λ b. inr (sym (ap is_done (moved Ends p)) ∙ b)) q.1))) (λ q. q) k
+  pub known_by : (plan : TopoPlan F) (c : Counting F) (in_use : Bool) (f : Frontier) → ((s : Side) (j : ObjectId) → reached f.known s j ≡ reached c.frontier.known s j) → AreRead objects faulty plan c → (p : ObjectId) → LooksUpParent (objects plan.store) plan.rows in_use f p → IsKnown (objects plan.store) plan.rows in_use p
+  known_by plan c in_use f moved h p k =
+      ⊎_elim (λ q. once_known objects faulty plan in_use q.0 (h p (⊎_elim (λ a. inl (sym (ap is_done (moved Tips p)) ∙ a)) (λ b. inr (sym (ap is_done (moved Ends p)) ∙ b)) q.1))) (λ q. q) k
 
   -- a ready commit as it was found, after more was read
-  pub found_later : (plan : TopoPlan F) {stood before now later : Bool} {r : Ready} → (stood ≡ true → before ≡ true) → (later ≡ true → now ≡ true) → IsFound objects faulty plan stood now r → IsFound objects faulty plan before later r
+  pub found_later : (plan : TopoPlan F) {was_in_use before now later : Bool} {r : Ready} → (was_in_use ≡ true → before ≡ true) → (later ≡ true → now ≡ true) → IsFound objects faulty plan was_in_use now r → IsFound objects faulty plan before later r
   found_later plan t s h = record { info = h.info; before = h.before; after = h.after; reads = h.reads; is = h.is; earlier = λ e. t (h.earlier e); later = λ e. h.later (s e); known = h.known }
 
   -- a commit that became ready is found so
-  pub found_pushed : (w : Walk F) (c : Counting F) (i : ObjectId) (r : Ready) (new : Walk F) → ((s : Side) (j : ObjectId) → reached w.counting.frontier.known s j ≡ reached c.frontier.known s j) → AreRead objects faulty (plan_of w) c → Pushes objects faulty w i r new → IsFound objects faulty (plan_of w) w.counting.reader.standing new.counting.reader.standing r
+  pub found_pushed : (w : Walk F) (c : Counting F) (i : ObjectId) (r : Ready) (new : Walk F) → ((s : Side) (j : ObjectId) → reached w.counting.frontier.known s j ≡ reached c.frontier.known s j) → AreRead objects faulty (plan_of w) c → Pushes objects faulty w i r new → IsFound objects faulty (plan_of w) w.counting.reader.in_use new.counting.reader.in_use r
   found_pushed w c i r new moved h p = record {
     info = p.info;
-    before = w.counting.reader.standing;
-    after = new.counting.reader.standing;
-    reads = subst (λ j. Reads (objects (plan_of w).store) (faulty (plan_of w).store) (plan_of w).rows w.counting.reader.standing j (Ok p.info) new.counting.reader.standing) (sym p.id) p.reads;
+    before = w.counting.reader.in_use;
+    after = new.counting.reader.in_use;
+    reads = subst (λ j. Reads (objects (plan_of w).store) (faulty (plan_of w).store) (plan_of w).rows w.counting.reader.in_use j (Ok p.info) new.counting.reader.in_use) (sym p.id) p.reads;
     is = p.is;
     earlier = λ e. e;
     later = λ e. e;
-    known = λ q m. known_by (plan_of w) c new.counting.reader.standing w.counting.frontier moved h q (p.known q (subst (λ ids. Contains ids q) (sym p.is.same_parents) m));
+    known = λ q m. known_by (plan_of w) c new.counting.reader.in_use w.counting.frontier moved h q (p.known q (subst (λ ids. Contains ids q) (sym p.is.same_parents) m));
   }

@@ -26,7 +26,7 @@ use Rattle.gix_revwalk.proofs.NewIds.{among_flat}
 
 module _ (objects : Objects) (faulty : ObjectId → Type 0) (rows : List GraphRow) where
   -- the parents that are read are among the ids that rows and texts name
-  pub reads_named : {standing : Bool} {i : ObjectId} {info : Info} {new : Bool} → Reads objects faulty rows standing i (Ok info) new → (j : ObjectId) → Contains info.parent_ids.items j → is_among j (named_ids objects rows) ≡ true
+  pub reads_named : {in_use : Bool} {i : ObjectId} {info : Info} {new : Bool} → Reads objects faulty rows in_use i (Ok info) new → (j : ObjectId) → Contains info.parent_ids.items j → is_among j (named_ids objects rows) ≡ true
   reads_named (by_row (is_read h says) is) j m =
       among-append j (map (λ row. row.id) rows) _ ∙ or_left _ _ (ids_in_rows rows says.row.parents _ says.parents j (subst (λ ids. Contains ids j) is.same_parents m))
   reads_named {i = i} (by_text n t) j m =
@@ -35,7 +35,7 @@ module _ (objects : Objects) (faulty : ObjectId → Type 0) (rows : List GraphRo
       (among_flat (λ entry. text_parents entry.0 entry.1) (map_of.entries objects) _ j entry (among_from j _ (subst (λ ids. Contains ids j) t.2.0.same_parents m)))
 
   module _ (agrees : IsAgreeing objects rows) where
-    pub reads_text_next : {standing : Bool} {i : ObjectId} {info : Info} {new : Bool} → Reads objects faulty rows standing i (Ok info) new → info.parent_ids.items ≡ text_next objects i
+    pub reads_text_next : {in_use : Bool} {i : ObjectId} {info : Info} {new : Bool} → Reads objects faulty rows in_use i (Ok info) new → info.parent_ids.items ≡ text_next objects i
     reads_text_next {i = i} (by_row (is_read h says) is) =
         let m : Contains rows says.row × (i ≡ says.row.id) = row_stands rows i says.row says.there in
         let w : ReadsWhole objects i = subst (ReadsWhole objects) (sym m.1) (agrees says.row m.0).whole in

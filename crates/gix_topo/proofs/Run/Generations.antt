@@ -16,7 +16,7 @@ use Rattle.gix_topo.proofs.Readiness.ReadyIds.{holds_in, chosen_in, others_in}
 module _ {F P : Type 0} (objects : F → Objects) (faulty : F → ObjectId → Type 0) (answers : P → ObjectId → Bool → P → Type 0) where
   -- the ready commits have their rows' generations
   abbrev Tells : TopoWalk F P → Type 0
-  Tells w = w.counted.standing ≡ true → (r : Ready) → Contains w.ready r → r.generation ≡ row_generation (row_of w.plan.rows r.id)
+  Tells w = w.counted.in_use ≡ true → (r : Ready) → Contains w.ready r → r.generation ≡ row_generation (row_of w.plan.rows r.id)
 
   tells_on : (w : TopoWalk F P) (c : Ready) (counted : Counted) (ready : List Ready) (predicate : P) → Takes objects faulty answers w c counted ready → IsAgreeing (objects w.plan.store) w.plan.rows → Tells w → Tells (after objects faulty answers w c counted ready predicate)
   tells_on w c counted ready predicate t agrees h = λ e r m. ⊎_elim (λ o. h (t.adds.stands e) r (others_in w.plan.sorting w.ready c t.others t.chosen r o)) (λ a. (t.adds.stored agrees r a).told e)
@@ -25,7 +25,7 @@ module _ {F P : Type 0} (objects : F → Objects) (faulty : F → ObjectId → T
   record Told (w new : TopoWalk F P) (o : Option (Result Info Error)) : Type 0 where
     plan : new.plan ≡ w.plan
     tells : Tells new
-    info : (i : Info) → o ≡ Some (Ok i) → new.counted.standing ≡ true → i.generation ≡ row_generation (row_of w.plan.rows i.id)
+    info : (i : Info) → o ≡ Some (Ok i) → new.counted.in_use ≡ true → i.generation ≡ row_generation (row_of w.plan.rows i.id)
 
   told : {w new : TopoWalk F P} {o : Option (Result Info Error)} → Next objects faulty answers w o new → IsAgreeing (objects w.plan.store) w.plan.rows → Tells w → Told w new o
   told (ended e) s h = record { plan = refl; tells = h; info = λ i n. cc }
@@ -50,7 +50,7 @@ module _ {F P : Type 0} (objects : F → Objects) (faulty : F → ObjectId → T
       let r : (mid.plan ≡ d.0.plan) × Tells mid = told_all list d.0 mid (subst (λ plan. IsAgreeing (objects plan.store) plan.rows) (sym t.plan) s) t.tells d.2 in
       (r.0 ∙ t.plan, r.1)
 
-  pub tells : (walk mid new : TopoWalk F P) (list : List (Result Info Error)) (info : Info) → IsStarted objects faulty answers walk → IsAgreeing (objects walk.plan.store) walk.plan.rows → Yields (Next objects faulty answers) walk list mid → Next objects faulty answers mid (Some (Ok info)) new → new.counted.standing ≡ true → info.generation ≡ row_generation (row_of walk.plan.rows info.id)
+  pub tells : (walk mid new : TopoWalk F P) (list : List (Result Info Error)) (info : Info) → IsStarted objects faulty answers walk → IsAgreeing (objects walk.plan.store) walk.plan.rows → Yields (Next objects faulty answers) walk list mid → Next objects faulty answers mid (Some (Ok info)) new → new.counted.in_use ≡ true → info.generation ≡ row_generation (row_of walk.plan.rows info.id)
   tells walk mid new list info st s d next e =
       let r : (mid.plan ≡ walk.plan) × Tells mid = told_all list walk mid s (λ k x m. (st.stored s x m).told k) d in
       let t : Told mid new (Some (Ok info)) = told next (subst (λ plan. IsAgreeing (objects plan.store) plan.rows) (sym r.0) s) r.1 in

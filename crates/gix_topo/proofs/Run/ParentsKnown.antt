@@ -14,7 +14,7 @@ use Rattle.gix_topo.proofs.Readiness.ReadyIds.{holds_in, chosen_in, others_in}
 module _ {F P : Type 0} (objects : F → Objects) (faulty : F → ObjectId → Type 0) (answers : P → ObjectId → Bool → P → Type 0) where
   -- these ids are known
   abbrev AreKnown : TopoPlan F → List ObjectId → Type 0
-  AreKnown plan ids = (p : ObjectId) → Contains ids p → (standing : Bool) × IsKnown (objects plan.store) plan.rows standing p
+  AreKnown plan ids = (p : ObjectId) → Contains ids p → (in_use : Bool) × IsKnown (objects plan.store) plan.rows in_use p
 
   abbrev Knows : TopoWalk F P → Type 0
   Knows w = (r : Ready) → Contains w.ready r → AreKnown w.plan r.parents
@@ -49,5 +49,5 @@ module _ {F P : Type 0} (objects : F → Objects) (faulty : F → ObjectId → T
       let r : Given w d.0 (Some answer) = given_known d.1 h in
       ⊎_elim (λ s. r.info info (ap Some s)) (λ t. subst (λ plan. AreKnown plan info.parent_ids.items) r.plan (all_known list d.0 new r.knows d.2 info t)) (Contains-cons_cases (Ok info) answer list m)
 
-  pub parents_known : (walk new : TopoWalk F P) (list : List (Result Info Error)) (info : Info) → IsStarted objects faulty answers walk → Yields (Next objects faulty answers) walk list new → Contains list (Ok info) → (p : ObjectId) → Contains info.parent_ids.items p → (standing : Bool) × IsKnown (objects walk.plan.store) walk.plan.rows standing p
+  pub parents_known : (walk new : TopoWalk F P) (list : List (Result Info Error)) (info : Info) → IsStarted objects faulty answers walk → Yields (Next objects faulty answers) walk list new → Contains list (Ok info) → (p : ObjectId) → Contains info.parent_ids.items p → (in_use : Bool) × IsKnown (objects walk.plan.store) walk.plan.rows in_use p
   parents_known walk new list info st d m = all_known list walk new (λ r k p n. ((st.found r k).after, (st.found r k).known p n)) d info m

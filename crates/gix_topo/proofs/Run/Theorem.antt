@@ -145,7 +145,7 @@ module _ {F P : Type 0} (objects : F → Objects) (faulty : F → ObjectId → T
   pub record Stands (w : TopoWalk F P) (done : List ObjectId) : Type 0 where
     pub taken : (i : ObjectId) → set.contains w.taken i ≡ is_among i done
     pub ready : AreReady (text_walked objects w.plan) (IsTextMember objects w.plan) (Contains done) (ready_ids w.ready)
-    pub stored : (r : Ready) → Contains w.ready r → IsStored objects w.plan w.counted.standing r
+    pub stored : (r : Ready) → Contains w.ready r → IsStored objects w.plan w.counted.in_use r
 
   module _ (w : TopoWalk F P) (done : List ObjectId) (agrees : IsAgreeing (objects w.plan.store) w.plan.rows) (c : Ready) (counted : Counted) (ready : List Ready) (t : Takes objects faulty answers w c counted ready) (h : Stands w done) where
     taken_now : (i : ObjectId) → set.contains (set.insert w.taken c.id) i ≡ is_among i (done ++ c.id ∷ [])
@@ -166,7 +166,7 @@ module _ {F P : Type 0} (objects : F → Objects) (faulty : F → ObjectId → T
           (record { before = λ i m. Contains-append_left done (c.id ∷ []) i m; now = Contains-push done c.id; either = λ i m. Contains-push_cases done c.id i m })
           h.ready (chosen_times w.plan.sorting w.ready c t.others t.chosen) became
           (λ i. holds_times w.plan.sorting (t.others ++ t.added) ready t.holds i ∙ joined_times i t.others t.added);
-      stored = λ r m. ⊎_elim (λ o. stored_still w.plan w.counted.standing counted.standing r t.adds.stands (h.stored r (others_in w.plan.sorting w.ready c t.others t.chosen r o))) (λ a. t.adds.stored agrees r a)
+      stored = λ r m. ⊎_elim (λ o. stored_still w.plan w.counted.in_use counted.in_use r t.adds.stands (h.stored r (others_in w.plan.sorting w.ready c t.others t.chosen r o))) (λ a. t.adds.stored agrees r a)
           (Contains-append_cases t.others t.added r (holds_in w.plan.sorting (t.others ++ t.added) ready t.holds r m));
     }
 
@@ -177,7 +177,7 @@ module _ {F P : Type 0} (objects : F → Objects) (faulty : F → ObjectId → T
   draws_given : {Stops : TopoWalk F P → Type 0} {w : TopoWalk F P} {ids : List ObjectId} {list : List (Result Info Error)} → Draws Stops w ids list → (done : List ObjectId) → IsAgreeing (objects w.plan.store) w.plan.rows → Stands w done → AllZip (IsTextGiven objects w.plan) list (filter accepts ids)
   draws_given (stops e) done s h = tt
   draws_given (shows {w = w} {c = c} {counted = counted} {ready = ready} {predicate = q} {info = info} {ids = ids} {list = list} t a is d) done s h =
-      let r : IsStored objects w.plan w.counted.standing c = h.stored c (chosen_in w.plan.sorting w.ready c t.others t.chosen) in
+      let r : IsStored objects w.plan w.counted.in_use c = h.stored c (chosen_in w.plan.sorting w.ready c t.others t.chosen) in
       subst (λ b. AllZip (IsTextGiven objects w.plan) (Ok info ∷ list) (cond b (c.id ∷ filter accepts ids) (filter accepts ids))) (sym a) (
         record { generation = c.generation; by_row = r.by_row; info_is = record { same_id = is.same_id; same_parents = is.same_parents ∙ r.parents; same_generation = is.same_generation; same_time = is.same_time ∙ ap Some r.time } },
         draws_given d (done ++ c.id ∷ []) s (stands_on w done s c counted ready t h q),

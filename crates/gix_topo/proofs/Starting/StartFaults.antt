@@ -43,13 +43,13 @@ module _ {F : Type 0} (objects : F → Objects) (faulty : F → ObjectId → Typ
         high : c.depth ≤ known_generation plan.rows i
         high = subst (λ d. d ≤ known_generation plan.rows i) (sym begun.depth) (least_within plan.rows infinity (plan.tips ++ plan.ends) i (Contains-append_left plan.tips plan.ends i m))
 
-    start_fails : {old : Walk F} {ids : List ObjectId} {e : Error} → plan_of old ≡ plan → AreDroppedFor objects plan old.counting.reader.standing → ((j : ObjectId) → has_seen old.counting.frontier Ends j ≡ has_seen c.frontier Ends j) → ((j : ObjectId) → children_of old.counting.frontier j ≡ children_of c.frontier j) → ((i : ObjectId) → Contains ids i → Contains plan.tips i) → IsStartFault objects faulty old ids e → IsBuildFault objects faulty plan e
+    start_fails : {old : Walk F} {ids : List ObjectId} {e : Error} → plan_of old ≡ plan → AreDroppedFor objects plan old.counting.reader.in_use → ((j : ObjectId) → has_seen old.counting.frontier Ends j ≡ has_seen c.frontier Ends j) → ((j : ObjectId) → children_of old.counting.frontier j ≡ children_of c.frontier j) → ((i : ObjectId) → Contains ids i → Contains plan.tips i) → IsStartFault objects faulty old ids e → IsBuildFault objects faulty plan e
     start_fails {old} {e = e} same dropped seen counts all (here {i = i} {ids = ids} d f) =
         let parts : (children_of old.counting.frontier i ≡ 0) × (has_seen old.counting.frontier Ends i ≡ false) × (was_ready_of old.counting.frontier i ≡ false) = due_parts objects faulty (children_of old.counting.frontier i) (known_of old.counting.frontier.known i) d in
         let tip : Contains plan.tips i = all i (Contains-here i ids) in (
           push_misses_no_count objects faulty old i e f,
           subst (λ p. IsFault objects faulty p (IsFirstReady objects plan) e) same
-              (push_fault objects faulty (IsFirstReady objects plan) old i e (λ a. start (subst (λ p. Contains p.tips i) (sym same) tip)) (λ a. first_ready (subst (λ p. IsAgreeing (objects p.store) p.rows) same a) i tip (sym (counts i) ∙ parts.0) (sym (seen i) ∙ parts.1)) (subst (λ p. AreDroppedFor objects p old.counting.reader.standing) (sym same) dropped) f),
+              (push_fault objects faulty (IsFirstReady objects plan) old i e (λ a. start (subst (λ p. Contains p.tips i) (sym same) tip)) (λ a. first_ready (subst (λ p. IsAgreeing (objects p.store) p.rows) same a) i tip (sym (counts i) ∙ parts.0) (sym (seen i) ∙ parts.1)) (subst (λ p. AreDroppedFor objects p old.counting.reader.in_use) (sym same) dropped) f),
         )
     start_fails same dropped seen counts all (later {mid = mid} {i = i} {ids = ids} {first = first} s f) =
         let by : AreStarted objects faulty _ (i ∷ []) first mid = started_one objects faulty s in

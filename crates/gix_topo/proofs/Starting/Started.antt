@@ -83,8 +83,8 @@ module _ {F : Type 0} (objects : F → Objects) (faulty : F → ObjectId → Typ
   same_expanded : new.expanded ≡ old.expanded
   same_expanded = ap (λ c. c.expanded) h.counting ∙ all.ready.expanded
 
-  stands : new.reader.standing ≡ true → old.reader.standing ≡ true
-  stands e = all.ready.stands (sym (ap (λ c. c.reader.standing) h.counting) ∙ e)
+  stands : new.reader.in_use ≡ true → old.reader.in_use ≡ true
+  stands e = all.ready.stands (sym (ap (λ c. c.reader.in_use) h.counting) ∙ e)
 
   to_done : (i : ObjectId) → IsDone new.frontier i → IsDone old.frontier i
   to_done i d = ⊎_elim (λ e. inl (sym (ap is_done (moved Tips i)) ∙ e)) (λ e. inr (sym (ap is_done (moved Ends i)) ∙ e)) d
@@ -121,8 +121,8 @@ module _ {F : Type 0} (objects : F → Objects) (faulty : F → ObjectId → Typ
   first_read : AreRead objects faulty (plan_of h.first) h.first.counting
   first_read = subst (λ q. AreRead objects faulty q old) (sym first_plan) begun.all_read
 
-  found : (r : Ready) → Contains w.ready.commits r → IsFound objects faulty p true new.reader.standing r
-  found r m = subst (λ c. IsFound objects faulty p true c.reader.standing r) (sym h.counting) (found_later objects faulty p (λ e. refl) (λ e. e) (subst (λ q. IsFound objects faulty q old.reader.standing h.mid.counting.reader.standing r) first_plan (all.ready.each first_read r (in_starts r m))))
+  found : (r : Ready) → Contains w.ready.commits r → IsFound objects faulty p true new.reader.in_use r
+  found r m = subst (λ c. IsFound objects faulty p true c.reader.in_use r) (sym h.counting) (found_later objects faulty p (λ e. refl) (λ e. e) (subst (λ q. IsFound objects faulty q old.reader.in_use h.mid.counting.reader.in_use r) first_plan (all.ready.each first_read r (in_starts r m))))
 
   made_is : (i : ObjectId) → was_ready_of new.frontier i ≡ is_among i (ready_ids h.starts)
   made_is i = ap (λ c. was_ready_of c.frontier i) h.counting ∙ all.ready.made i ∙ ap (λ b. is_among i (ready_ids h.starts) || b) (begun.unmade i) ∙ or-false (is_among i (ready_ids h.starts))
@@ -180,11 +180,11 @@ module _ {F : Type 0} (objects : F → Objects) (faulty : F → ObjectId → Typ
     kept_childless : Keeps (IsChildless (text_walked objects p) Member) (first_places p.tips) (ready_ids h.starts)
     kept_childless = keeps_on (λ i m d. due_childless i (first_from [] p.tips i m) d) (λ i m q. childless_due i q) kept
 
-    stored : (r : Ready) → Contains w.ready.commits r → IsStored objects p new.reader.standing r
+    stored : (r : Ready) → Contains w.ready.commits r → IsStored objects p new.reader.in_use r
     stored r m = found_stored objects faulty p agrees (found r m)
 
     start_time : (r : Ready) → Contains h.starts r → r.time ≡ time_of (objects p.store) r.id
-    start_time r m = (found_stored objects faulty p agrees (subst (λ q. IsFound objects faulty q old.reader.standing h.mid.counting.reader.standing r) first_plan (all.ready.each first_read r m))).time
+    start_time r m = (found_stored objects faulty p agrees (subst (λ q. IsFound objects faulty q old.reader.in_use h.mid.counting.reader.in_use r) first_plan (all.ready.each first_read r m))).time
 
     starts : StartsWith objects faulty (unasked objects faulty) p w.ready.commits
     starts = record {
@@ -196,13 +196,13 @@ module _ {F : Type 0} (objects : F → Objects) (faulty : F → ObjectId → Typ
     }
 
     -- a tip that becomes ready was read before, so its row drops no rows
-    stays : new.reader.standing ≡ false → old.reader.standing ≡ false
-    stays e = go old.reader.standing refl
+    stays : new.reader.in_use ≡ false → old.reader.in_use ≡ false
+    stays e = go old.reader.in_use refl
       where
-        go : (b : Bool) → old.reader.standing ≡ b → b ≡ false
+        go : (b : Bool) → old.reader.in_use ≡ b → b ≡ false
         go false d = refl
         go true d =
-            let k : (i : ObjectId) × Contains p.tips i × DropsRows (plan_of h.first).rows i = all.ready.dropped d (sym (ap (λ c. c.reader.standing) h.counting) ∙ e) in
+            let k : (i : ObjectId) × Contains p.tips i × DropsRows (plan_of h.first).rows i = all.ready.dropped d (sym (ap (λ c. c.reader.in_use) h.counting) ∙ e) in
             absurd ((begun.counting agrees).whole d (broken objects faulty p agrees old.depth k.0 (inl (start k.1)) (tip_high k.0 k.1) (subst (λ q. DropsRows q.rows k.0) first_plan k.2)))
 
     counts : HasCounted objects p new
@@ -250,7 +250,7 @@ module _ {F : Type 0} (objects : F → Objects) (faulty : F → ObjectId → Typ
     steady = steady;
     counts = counts;
     all_read = all_still objects faulty p old new moved stands begun.all_read;
-    dropped = subst (λ c. AreDroppedFor objects p c.reader.standing) (sym h.counting) (made_dropped objects faulty p first_plan (λ j m a. inl (start m)) all.ready begun.dropped);
+    dropped = subst (λ c. AreDroppedFor objects p c.reader.in_use) (sym h.counting) (made_dropped objects faulty p first_plan (λ j m a. inl (start m)) all.ready begun.dropped);
     idle = λ e. same_queue ∙ begun.idle e;
     read = begun.read;
   }

@@ -43,7 +43,7 @@ use Rattle.gix_topo.proofs.Counts.MakesReady.{reads_stands}
 
 module _ {F : Type 0} (objects : F → Objects) (faulty : F → ObjectId → Type 0) where
   -- rows that are in use after exploring were in use before
-  pub explores_stands : {old new : Counting F} → Explores objects faulty old new → new.reader.standing ≡ true → old.reader.standing ≡ true
+  pub explores_stands : {old new : Counting F} → Explores objects faulty old new → new.reader.in_use ≡ true → old.reader.in_use ≡ true
   explores_stands itself e = e
   explores_stands (further x p s) e = explores_stands x (reads_stands objects faulty s.reads.reads e)
 
@@ -82,7 +82,7 @@ module _ {F : Type 0} (objects : F → Objects) (faulty : F → ObjectId → Typ
   plan_between = plan_taken objects faulty w rest r chosen same t.explored kept_plan
 
   -- dropped rows don't come back
-  pub stands_before : new.counting.reader.standing ≡ true → w.counting.reader.standing ≡ true
+  pub stands_before : new.counting.reader.in_use ≡ true → w.counting.reader.in_use ≡ true
   stands_before e = explores_stands objects faulty t.explores (rel.ready.stands e)
 
   due : Keeps (IsDue objects faulty between new) (last_places named) (ready_ids added)
@@ -98,14 +98,14 @@ module _ {F : Type 0} (objects : F → Objects) (faulty : F → ObjectId → Typ
     read_between = subst (λ plan. AreRead objects faulty plan t.explored) (sym plan_between) (explores_read objects faulty w.ready.sorting w.tips.items w.ends.items (set.contains (taken_of w)) t.explores held.all_read)
 
     -- an added commit was read over the same store and rows
-    pub found_added : (a : Ready) → Contains added a → IsFound objects faulty (plan_of w) w.counting.reader.standing new.counting.reader.standing a
-    found_added a m = found_later objects faulty (plan_of w) (explores_stands objects faulty t.explores) (λ e. e) (subst (λ plan. IsFound objects faulty plan t.explored.reader.standing new.counting.reader.standing a) plan_between (rel.ready.each read_between a m))
+    pub found_added : (a : Ready) → Contains added a → IsFound objects faulty (plan_of w) w.counting.reader.in_use new.counting.reader.in_use a
+    found_added a m = found_later objects faulty (plan_of w) (explores_stands objects faulty t.explores) (λ e. e) (subst (λ plan. IsFound objects faulty plan t.explored.reader.in_use new.counting.reader.in_use a) plan_between (rel.ready.each read_between a m))
 
     -- and so is what is done after that
     pub read_after : AreRead objects faulty (plan_of w) new.counting
     read_after = all_still objects faulty (plan_of w) t.explored new.counting rel.ready.moved rel.ready.stands (subst (λ plan. AreRead objects faulty plan t.explored) plan_between read_between)
 
-    found : IsFound objects faulty (plan_of w) true w.counting.reader.standing r
+    found : IsFound objects faulty (plan_of w) true w.counting.reader.in_use r
     found = held.found r (was_ready objects faulty w rest r chosen)
 
     among_ready : is_among r.id (ready_ids w.ready.commits) ≡ true
@@ -176,7 +176,7 @@ module _ {F : Type 0} (objects : F → Objects) (faulty : F → ObjectId → Typ
       pub became : Keeps (IsReady walked Member (IsTaken (set.insert (taken_of w) r.id))) (last_places (walked r.id)) (ready_ids added)
       became = subst (λ ids. Keeps (IsReady walked Member (IsTaken (set.insert (taken_of w) r.id))) (last_places ids) (ready_ids added)) walked_is (keeps_on due_ready ready_due due)
 
-      stored : (a : Ready) → Contains added a → IsStored objects (plan_of w) new.counting.reader.standing a
+      stored : (a : Ready) → Contains added a → IsStored objects (plan_of w) new.counting.reader.in_use a
       stored a m = found_stored objects faulty (plan_of w) agrees (found_added a m)
 
     -- what is added to a walk that may go on

@@ -39,8 +39,8 @@ module _ {F : Type 0} (objects : F → Objects) (faulty : F → ObjectId → Typ
   counts_lower : (plan : TopoPlan F) (old new : Counting F) → new.frontier ≡ old.frontier → new.expanded ≡ old.expanded → new.reader ≡ old.reader → new.depth ≤ old.depth → HasCounted objects plan old → HasCounted objects plan new
   counts_lower plan old new f n s l h = record {
     number = subst (λ x. IsNumberOf (IsDone x) new.expanded) (sym f) (subst (IsNumberOf (IsDone old.frontier)) (sym n) h.number);
-    high = λ e i d. let a : old.depth ≤ known_generation plan.rows i = h.high (sym (ap (λ x. x.standing) s) ∙ e) i (subst (λ x. IsDone x i) f d) in omega arith;
-    dropped = λ e. broken_lower objects plan new.depth old.depth l (h.dropped (sym (ap (λ x. x.standing) s) ∙ e));
+    high = λ e i d. let a : old.depth ≤ known_generation plan.rows i = h.high (sym (ap (λ x. x.in_use) s) ∙ e) i (subst (λ x. IsDone x i) f d) in omega arith;
+    dropped = λ e. broken_lower objects plan new.depth old.depth l (h.dropped (sym (ap (λ x. x.in_use) s) ∙ e));
   }
 
   module _ (w : Walk F) (rest : ReadySet) (same : rest.sorting ≡ w.ready.sorting) (r : Ready) (chosen : Chooses w.ready.sorting w.ready.commits r rest.commits) (added : List Ready) (new : Walk F) (t : TakesOne objects faulty (record w { ready = rest }) r added new) (held : IsHeld objects faulty w) (agrees : IsAgreeing (objects (plan_of w).store) (plan_of w).rows) where
@@ -72,10 +72,10 @@ module _ {F : Type 0} (objects : F → Objects) (faulty : F → ObjectId → Typ
     done_back i d = ⊎_elim (λ a. inl (sym (ap is_done (rel.ready.moved Tips i)) ∙ a)) (λ b. inr (sym (ap is_done (rel.ready.moved Ends i)) ∙ b)) d
 
     -- a parent that becomes ready was read before, so its row drops no rows
-    stays : new.counting.reader.standing ≡ false → t.explored.reader.standing ≡ false
-    stays e = go t.explored.reader.standing refl
+    stays : new.counting.reader.in_use ≡ false → t.explored.reader.in_use ≡ false
+    stays e = go t.explored.reader.in_use refl
       where
-        go : (b : Bool) → t.explored.reader.standing ≡ b → b ≡ false
+        go : (b : Bool) → t.explored.reader.in_use ≡ b → b ≡ false
         go false q = refl
         go true q =
             let h : (i : ObjectId) × Contains (last_places named) i × DropsRows (rows_of t.explored.reader.graph) i = rel.ready.dropped q e in

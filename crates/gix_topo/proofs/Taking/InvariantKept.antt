@@ -199,16 +199,16 @@ module _ {F : Type 0} (objects : F → Objects) (faulty : F → ObjectId → Typ
       still_made j c = ⊎_elim (λ e. or_right (is_among j (ready_ids added)) _ (was_made j (or_right (is_same j r.id) _ e))) (λ e. or_left _ _ e) c
 
       -- rows that are dropped were dropped for their reason
-      dropped_now : AreDroppedFor objects (plan_of w) new.counting.reader.standing
+      dropped_now : AreDroppedFor objects (plan_of w) new.counting.reader.in_use
       dropped_now =
           made_dropped objects faulty (plan_of w) (plan_taken objects faulty w rest r chosen same t.explored (explores_same objects faulty t.explores)) (λ j m a. inl (parents_reached objects faulty w rest r chosen held a j (last_from named j m))) rel.ready
           (explores_dropped objects faulty w.ready.sorting w.tips.items w.ends.items (set.contains (taken_of w)) low (λ a. (held.tallied a).counted) t.explores held.dropped)
 
-      found_now : (q : Ready) → Contains new.ready.commits q → IsFound objects faulty (plan_of new) true new.counting.reader.standing q
-      found_now q m = ready_cases (IsFound objects faulty (plan_of new) true new.counting.reader.standing q) q of_rest (λ a. subst (λ p. IsFound objects faulty p true new.counting.reader.standing q) (sym plan_is) (found_later objects faulty (plan_of w) (λ e. refl) (λ e. e) (adds.found q a))) m
+      found_now : (q : Ready) → Contains new.ready.commits q → IsFound objects faulty (plan_of new) true new.counting.reader.in_use q
+      found_now q m = ready_cases (IsFound objects faulty (plan_of new) true new.counting.reader.in_use q) q of_rest (λ a. subst (λ p. IsFound objects faulty p true new.counting.reader.in_use q) (sym plan_is) (found_later objects faulty (plan_of w) (λ e. refl) (λ e. e) (adds.found q a))) m
         where
-          of_rest : Contains rest.commits q → IsFound objects faulty (plan_of new) true new.counting.reader.standing q
-          of_rest o = subst (λ p. IsFound objects faulty p true new.counting.reader.standing q) (sym plan_is) (found_later objects faulty (plan_of w) (λ e. e) adds.stands (held.found q (others_ready q o)))
+          of_rest : Contains rest.commits q → IsFound objects faulty (plan_of new) true new.counting.reader.in_use q
+          of_rest o = subst (λ p. IsFound objects faulty p true new.counting.reader.in_use q) (sym plan_is) (found_later objects faulty (plan_of w) (λ e. e) adds.stands (held.found q (others_ready q o)))
 
       -- with rows that agree
       module _ (agrees : IsAgreeing (objects (plan_of w).store) (plan_of w).rows) where
@@ -242,7 +242,7 @@ module _ {F : Type 0} (objects : F → Objects) (faulty : F → ObjectId → Typ
         steady = λ s. steady_now (subst (λ plan. IsAgreeing (objects plan.store) plan.rows) plan_is s);
         counts = λ s. subst (λ p. HasCounted objects p new.counting) (sym plan_is) (has (subst (λ plan. IsAgreeing (objects plan.store) plan.rows) plan_is s));
         all_read = subst (λ p. AreRead objects faulty p new.counting) (sym plan_is) (read_after objects faulty w rest same r chosen added new t held);
-        dropped = subst (λ p. AreDroppedFor objects p new.counting.reader.standing) (sym plan_is) dropped_now;
+        dropped = subst (λ p. AreDroppedFor objects p new.counting.reader.in_use) (sym plan_is) dropped_now;
         idle = λ e. rel.ready.queue ∙ explores_idle objects faulty t.explores (held.idle (sym (ap (λ p. p.rows) plan_is) ∙ e));
         read = λ e i h. subst (λ p. IsCommitRead (objects p.store) i) (sym plan_is) (held.read (sym (ap (λ p. p.rows) plan_is) ∙ e) i (subst (λ p. IsReached objects p i) plan_is h));
       }

@@ -12,13 +12,13 @@ use Rattle.gix_topo.specs.declared.walk.Walk.{Walk}
 use Rattle.gix_revwalk.specs.Reading.{rows_of}
 use Rattle.gix_topo.specs.Reading.{Reads, by_row, by_text, LookUpFails}
 use Rattle.gix_topo.specs.declared.counting.Counting.{Counting}
-use Rattle.gix_frontier.specs.declared.Frontier.{Frontier}
 use Rattle.gix_topo.specs.Depth.{least}
-use Rattle.gix_topo.specs.Inside.Exploring.{Explores, IsRested, IsExploringFault}
+use Rattle.gix_topo.specs.Inside.Exploring.{Explores, IsRested}
+use Rattle.gix_topo.specs.Inside.Reader.{Reader}
 use Rattle.gix_revwalk.specs.Commits.{by_mode}
 use Rattle.gix_topo.specs.TopoOrder.{last_places}
 use Rattle.gix_topo.specs.Walk.{Ready}
-use Rattle.gix_topo.specs.Inside.Releasing.{LooksUpParent, IsPushFault, parent, lowered, with_counting, TakesOne, IsTakingFault, exploring, releasing, ReleasesAll, IsFaultAmong}
+use Rattle.gix_topo.specs.Inside.Releasing.{LooksUpParent, IsPushFault, parent, lowered, with_counting, TakesOne, IsTakingFault, releasing, ReleasesAll, IsFaultAmong}
 use Rattle.gix_hash.proofs.Lists.{only_member}
 
 -- what is read has the id that was asked for, and a time
@@ -33,13 +33,16 @@ or_zero (Some t) = t
 timed : {o : Option ℤ} (t : ℤ) → o ≡ Some t → o ≡ Some (or_zero o)
 timed t e = e ∙ ap (λ x. Some (or_zero x)) (sym e)
 
-pub reads_timed : {objects : Objects} {faulty : ObjectId → Type 0} {rows : List GraphRow} {standing : Bool} {i : ObjectId} {info : Info} {new : Bool} → Reads objects faulty rows standing i (Ok info) new → IsTimedInfo i info (or_zero info.commit_time)
+pub reads_timed : {objects : Objects} {faulty : ObjectId → Type 0} {rows : List GraphRow} {in_use : Bool} {i : ObjectId} {info : Info} {new : Bool} → Reads objects faulty rows in_use i (Ok info) new → IsTimedInfo i info (or_zero info.commit_time)
 reads_timed (by_row r is) = record { id = is.same_id; same_time = timed _ is.same_time }
 reads_timed (by_text n t) = record { id = t.2.0.same_id; same_time = timed _ t.2.0.same_time }
 
 module _ {F : Type 0} (objects : F → Objects) (faulty : F → ObjectId → Type 0) where
-  pub fault_of_parent : (old : Walk F) (i : ObjectId) (e : Error) (info : Info) (standing now : Bool) (find : F) (graph : Option (List GraphRow)) (p : ObjectId) → find ≡ old.counting.reader.find → graph ≡ old.counting.reader.graph → now ≡ standing → Reads (objects old.counting.reader.find) (faulty old.counting.reader.find) (rows_of old.counting.reader.graph) old.counting.reader.standing i (Ok info) standing → Contains info.parent_ids.items p → LookUpFails (objects find) (faulty find) (rows_of graph) now p e → IsPushFault objects faulty old i e
-  fault_of_parent old i e info standing now find graph p a b c r m f = parent r m (subst (λ x. x) (λ k. LookUpFails (objects (a k)) (faulty (a k)) (rows_of (b k)) (c k) p e) f)
+  pub fault_of_parent : (old : Walk F) (i : ObjectId) (e : Error) (info : Info) (read now : Reader F) (p : ObjectId) → now ≡ read → read ≡ record old.counting.reader { in_use = read.in_use }
+      → Reads (objects old.counting.reader.find) (faulty old.counting.reader.find) (rows_of old.counting.reader.graph) old.counting.reader.in_use i (Ok info) read.in_use → Contains info.parent_ids.items p
+      → LookUpFails (objects now.find) (faulty now.find) (rows_of now.graph) now.in_use p e → IsPushFault objects faulty old i e
+  fault_of_parent old i e info read now p still same r m f =
+      parent r m (subst (λ x. LookUpFails (objects x.find) (faulty x.find) (rows_of x.graph) read.in_use p e) same (subst (λ x. LookUpFails (objects x.find) (faulty x.find) (rows_of x.graph) x.in_use p e) still f))
 
 -- an item at an index is in the list
 pub at_index : {X : Type 0} (xs ys : List X) (k : ℕ) (d : X) → ys ≡ xs → k < length ys → Contains xs (get_or ys k d)
@@ -61,9 +64,10 @@ take_more {X} xs k j d x e l m = go xs k l (subst (λ n. Contains (take n xs) x)
         ⊎_elim (λ s. inl (subst (λ y. Contains (z ∷ take n zs) y) s (Contains-here z (take n zs)))) (λ t. ⊎_elim (λ h. inl (Contains-there x z (take n zs) h)) (λ h. inr h) (go zs n (omega arith) t))
         (Contains-cons_cases x z (take (suc n) zs) m)
 
--- known alike over an equal store, rows and searches
-pub looks_up_by : {F : Type 0} (objects : F → Objects) {find other : F} {graph rest : Option (List GraphRow)} {standing now : Bool} {f g : Frontier} → find ≡ other → graph ≡ rest → standing ≡ now → f ≡ g → (p : ObjectId) → LooksUpParent (objects find) (rows_of graph) standing f p → LooksUpParent (objects other) (rows_of rest) now g p
-looks_up_by objects a b c d p h = subst (λ x. x) (λ k. LooksUpParent (objects (a k)) (rows_of (b k)) (c k) (d k) p) h
+-- known alike by an equal reader and equal searches
+pub looks_up_by : {F : Type 0} (objects : F → Objects) {now before : Counting F} → now ≡ before → (p : ObjectId) → LooksUpParent (objects now.reader.find) (rows_of now.reader.graph) now.reader.in_use now.frontier p
+    → LooksUpParent (objects before.reader.find) (rows_of before.reader.graph) before.reader.in_use before.frontier p
+looks_up_by objects same p = subst (λ c. LooksUpParent (objects c.reader.find) (rows_of c.reader.graph) c.reader.in_use c.frontier p) same
 
 pub time_told : (o : Option ℤ) (d r : ℤ) → o ≡ Some (or_zero o) → r ≡ unwrap_or o d → Some (or_zero o) ≡ Some r
 time_told None d r e u = cc
@@ -80,10 +84,7 @@ module _ {F : Type 0} (objects : F → Objects) (faulty : F → ObjectId → Typ
   pub explores_low : (explored : Counting F) → Explores objects faulty low explored → Explores objects faulty (lowered objects faulty old r) explored
   explores_low explored e = subst (λ c. Explores objects faulty c explored) low_is e
 
-  pub fault_low : (e : Error) → IsExploringFault objects faulty low e → IsTakingFault objects faulty old r e
-  fault_low e f = exploring (subst (λ c. IsExploringFault objects faulty c e) low_is f)
-
-  module _ (explored : Counting F) (e : Explores objects faulty low explored) (rests : IsRested explored.reader.standing explored.depth explored.frontier.queue) where
+  module _ (explored : Counting F) (e : Explores objects faulty low explored) (rests : IsRested explored.reader.in_use explored.depth explored.frontier.queue) where
     pub takes_one : (added : List Ready) (new : Walk F) → ReleasesAll objects faulty (with_counting objects faulty old explored) ids added new → TakesOne objects faulty old r added new
     takes_one added new all = record {
       explored = explored;

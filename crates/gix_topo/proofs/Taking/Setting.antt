@@ -73,10 +73,10 @@ module _ {F : Type 0} (objects : F → Objects) (faulty : F → ObjectId → Typ
         pub counted_on : IsCounted those (plan_of w).rows w.counting.parents (plan_of w).tips (plan_of w).ends (set.contains (taken_of w)) explored.frontier
         counted_on = explores_keep objects faulty (plan_of w).tips (plan_of w).ends (set.contains (taken_of w)) agrees explores tallied.counted
 
-        pub explored_on : IsRested explored.reader.standing explored.depth explored.frontier.queue → (side : Side) → IsExplored those (plan_of w).rows w.counting.parents (plan_of w).tips (plan_of w).ends low.depth side explored.frontier
+        pub explored_on : IsRested explored.reader.in_use explored.depth explored.frontier.queue → (side : Side) → IsExplored those (plan_of w).rows w.counting.parents (plan_of w).tips (plan_of w).ends low.depth side explored.frontier
         explored_on rested side =
             exact_there objects faulty (plan_of w).tips (plan_of w).ends (set.contains (taken_of w)) agrees explores tallied.counted side (tallied.begun side)
-            (subst (λ d. IsRested explored.reader.standing d explored.frontier.queue) (explores_same objects faulty explores).depth rested)
+            (subst (λ d. IsRested explored.reader.in_use d explored.frontier.queue) (explores_same objects faulty explores).depth rested)
 
         -- once it is taken, its parents have a child less
         pub tally_on : (children : ObjectId → ℕ) → ((p : ObjectId) → times p (last_places named) + children p ≡ children_of explored.frontier p) → IsTally (next_by those w.counting.parents Tips) (λ i. is_done (reached explored.frontier.known Tips i)) now_taken children

@@ -100,7 +100,7 @@ module _ {F : Type 0} (objects : F → Objects) (faulty : F → ObjectId → Typ
       by mode.All e = walked (subst (λ k. Contains (by_mode k (text_next (objects plan.store) i)) p) (sym e) m)
       by mode.First e = first e (text_next (objects plan.store) i) refl m
 
-  push_fails : (old : Walk F) (Q : ObjectId → Type 0) (i : ObjectId) (e : Error) → IsUpcoming (plan_of old) i → (Agree (plan_of old) → Q i) → AreDroppedFor objects (plan_of old) old.counting.reader.standing → IsPushFault objects faulty old i e → Fails (plan_of old) Q e
+  push_fails : (old : Walk F) (Q : ObjectId → Type 0) (i : ObjectId) (e : Error) → IsUpcoming (plan_of old) i → (Agree (plan_of old) → Q i) → AreDroppedFor objects (plan_of old) old.counting.reader.in_use → IsPushFault objects faulty old i e → Fails (plan_of old) Q e
   push_fails old Q i e up ready dropped f = (push_fault objects faulty Q old i e up.reach ready dropped f, fails f)
     where
       fails : IsPushFault objects faulty old i e → IsLate objects (plan_of old) Q e
@@ -113,7 +113,7 @@ module _ {F : Type 0} (objects : F → Objects) (faulty : F → ObjectId → Typ
     outside : has_seen f Ends i ≡ false
     unmade : was_ready_of f i ≡ false
 
-  release_fails : {old : Walk F} {i : ObjectId} {e : Error} (Q : ObjectId → Type 0) → IsUpcoming (plan_of old) i → AreDroppedFor objects (plan_of old) old.counting.reader.standing → (Agree (plan_of old) → IsLastChild old.counting.frontier i → Q i) → (Agree (plan_of old) → 1 ≤ children_of old.counting.frontier i) → IsReleaseFault objects faulty old i e → Fails (plan_of old) Q e
+  release_fails : {old : Walk F} {i : ObjectId} {e : Error} (Q : ObjectId → Type 0) → IsUpcoming (plan_of old) i → AreDroppedFor objects (plan_of old) old.counting.reader.in_use → (Agree (plan_of old) → IsLastChild old.counting.frontier i → Q i) → (Agree (plan_of old) → 1 ≤ children_of old.counting.frontier i) → IsReleaseFault objects faulty old i e → Fails (plan_of old) Q e
   release_fails Q up dropped ready c (uncounted z) = (λ a. let l : 1 ≤ _ = c a in absurd (omega arith), tt)
   release_fails {old} {i} {e} Q up dropped ready c (unread {f = f} n k u d p) =
       let parts : (n ≡ 0) × (is_seen (known_of f.known i).ends ≡ false) × ((known_of f.known i).was_ready ≡ false) = due_parts objects faulty n (known_of f.known i) d in
@@ -135,9 +135,9 @@ module _ {F : Type 0} (objects : F → Objects) (faulty : F → ObjectId → Typ
       turned p = omega arith
 
   -- each of these is reached, and has a child left for each place
-  among_fails : (plan : TopoPlan F) (Q : ObjectId → Type 0) (base : Frontier) (all : List ObjectId) → ((p : ObjectId) → times p all ≤ 1) → ((i : ObjectId) → Contains all i → IsUpcoming plan i) → (Agree plan → (i : ObjectId) → Contains all i → IsLastChild base i → Q i) → {old : Walk F} {ids : List ObjectId} {e : Error} → plan_of old ≡ plan → AreDroppedFor objects plan old.counting.reader.standing → IsPartway base all ids old.counting.frontier → (Agree plan → (p : ObjectId) → times p ids ≤ children_of old.counting.frontier p) → IsFaultAmong objects faulty old ids e → Fails plan Q e
+  among_fails : (plan : TopoPlan F) (Q : ObjectId → Type 0) (base : Frontier) (all : List ObjectId) → ((p : ObjectId) → times p all ≤ 1) → ((i : ObjectId) → Contains all i → IsUpcoming plan i) → (Agree plan → (i : ObjectId) → Contains all i → IsLastChild base i → Q i) → {old : Walk F} {ids : List ObjectId} {e : Error} → plan_of old ≡ plan → AreDroppedFor objects plan old.counting.reader.in_use → IsPartway base all ids old.counting.frontier → (Agree plan → (p : ObjectId) → times p ids ≤ children_of old.counting.frontier p) → IsFaultAmong objects faulty old ids e → Fails plan Q e
   among_fails plan Q base all once up ready {old} {e = e} same dropped part c (here {i = i} {ids = ids} f) =
-      subst (λ p. Fails p Q e) same (release_fails Q (subst (λ p. IsUpcoming p i) (sym same) (up i there)) (subst (λ p. AreDroppedFor objects p old.counting.reader.standing) (sym same) dropped) (λ a l. ready (on a) i there (first a l)) (λ a. counted (c (on a) i)) f)
+      subst (λ p. Fails p Q e) same (release_fails Q (subst (λ p. IsUpcoming p i) (sym same) (up i there)) (subst (λ p. AreDroppedFor objects p old.counting.reader.in_use) (sym same) dropped) (λ a l. ready (on a) i there (first a l)) (λ a. counted (c (on a) i)) f)
     where
       there : Contains all i
       there = part.among i (Contains-here i ids)
@@ -208,7 +208,7 @@ module _ {F : Type 0} (objects : F → Objects) (faulty : F → ObjectId → Typ
             omega arith
         go false e l = let o : ◌≡◌ {A = ℕ} (cond (is_among p named) 1 0) 0 = ap (λ b. cond b 1 0) e in omega arith
 
-    module _ (explored : Counting F) (x : Explores objects faulty low explored) (rests : IsRested explored.reader.standing explored.depth explored.frontier.queue) where
+    module _ (explored : Counting F) (x : Explores objects faulty low explored) (rests : IsRested explored.reader.in_use explored.depth explored.frontier.queue) where
       -- how many children are left once it is taken
       abbrev left : ObjectId → ℕ
       left p = children_of explored.frontier p - times p (last_places named)

@@ -21,12 +21,12 @@ use Rattle.gix_topo.specs.TopoOrder.{last_places}
 
 -- the rows were dropped, or the greatest generation of those that wait isn't below the depth
 abbrev pub is_pending : Bool → ℕ → List (ℕ × Waiting) → Bool
-is_pending standing depth [] = false
-is_pending standing depth (entry ∷ queue) = not standing || nat_le depth entry.0
+is_pending in_use depth [] = false
+is_pending in_use depth (entry ∷ queue) = not in_use || nat_le depth entry.0
 
--- nothing waits, or the rows are held and all that waits is below the depth
+-- nothing waits, or the rows are in use and all that waits is below the depth
 abbrev pub IsRested : Bool → ℕ → List (ℕ × Waiting) → Type 0
-IsRested standing depth queue = (queue ≡ []) ⊎ ((standing ≡ true) × ((entry : ℕ × Waiting) → Contains queue entry → entry.0 < depth))
+IsRested in_use depth queue = (queue ≡ []) ⊎ ((in_use ≡ true) × ((entry : ℕ × Waiting) → Contains queue entry → entry.0 < depth))
 
 -- by which parents a side goes
 abbrev pub side_mode : Side → Parents → Parents
@@ -47,9 +47,9 @@ module _ {F : Type 0} (objects : F → Objects) (faulty : F → ObjectId → Typ
     pub depth : new.depth ≡ old.depth
 
   -- the parents of a commit that a side goes to are read
-  pub record ReadsParents (old : Counting F) (i : ObjectId) (side : Side) (ids : List ObjectId) (standing : Bool) : Type 0 where
+  pub record ReadsParents (old : Counting F) (i : ObjectId) (side : Side) (ids : List ObjectId) (in_use : Bool) : Type 0 where
     pub info : Info
-    pub reads : Reads (objects old.reader.find) (faulty old.reader.find) (rows_of old.reader.graph) old.reader.standing i (Ok info) standing
+    pub reads : Reads (objects old.reader.find) (faulty old.reader.find) (rows_of old.reader.graph) old.reader.in_use i (Ok info) in_use
     pub named : ids ≡ last_places (by_mode (side_mode side old.parents) info.parent_ids.items)
 
   -- a queued id is read, and its parents are met
@@ -60,7 +60,7 @@ module _ {F : Type 0} (objects : F → Objects) (faulty : F → ObjectId → Typ
     pub first : slice_get old.frontier.queue 0 ≡ Some entry
     pub taken_out : IsPermutation old.frontier.queue (entry ∷ left)
     pub ids : List ObjectId
-    pub reads : ReadsParents old entry.1.id entry.1.side ids new.reader.standing
+    pub reads : ReadsParents old entry.1.id entry.1.side ids new.reader.in_use
     pub followed : Frontier
     pub follows : Follows (rows_of old.reader.graph) entry.1.side (record old.frontier { queue = left }) ids followed
     pub finishes : Finishes followed entry.1.id entry.1.side new.frontier
@@ -70,12 +70,12 @@ module _ {F : Type 0} (objects : F → Objects) (faulty : F → ObjectId → Typ
   pub record IsStepFault (old : Counting F) (e : Error) : Type 0 where
     pub entry : ℕ × Waiting
     pub queued : Contains old.frontier.queue entry
-    pub fault : ReadFails (objects old.reader.find) (faulty old.reader.find) (rows_of old.reader.graph) old.reader.standing entry.1.id e
+    pub fault : ReadFails (objects old.reader.find) (faulty old.reader.find) (rows_of old.reader.graph) old.reader.in_use entry.1.id e
 
   -- steps, as long as there is need
   pub data Explores (old : Counting F) : Counting F → Type 0 where
     itself : Explores old old
-    further : {mid new : Counting F} → Explores old mid → is_pending mid.reader.standing mid.depth mid.frontier.queue ≡ true → Steps mid new → Explores old new
+    further : {mid new : Counting F} → Explores old mid → is_pending mid.reader.in_use mid.depth mid.frontier.queue ≡ true → Steps mid new → Explores old new
 
   -- why exploring fails: a step does, after others
   pub record IsExploringFault (old : Counting F) (e : Error) : Type 0 where

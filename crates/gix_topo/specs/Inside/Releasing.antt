@@ -11,7 +11,7 @@ use Rattle.gix_topo.specs.declared.Error.{Error}
 use Rattle.gix_topo.specs.declared.Error.TheVariants as error
 use Rattle.gix_frontier.specs.declared.Frontier.{Frontier}
 use Rattle.gix_revwalk.specs.declared.Parents.{Parents}
-use Rattle.gix_topo.specs.declared.reader.Reader.{Reader}
+use Rattle.gix_topo.specs.Inside.Reader.{Reader}
 use Rattle.gix_topo.specs.declared.counting.Counting.{Counting}
 use Rattle.gix_topo.specs.declared.walk.Walk.{Walk}
 use Rattle.gix_topo.specs.Depth.{least}
@@ -36,7 +36,7 @@ abbrev pub plan_of : {F : Type 0} → Walk F → TopoPlan F
 plan_of w = plan_by w.counting w.ready.sorting w.tips.items w.ends.items
 
 abbrev pub counted_by : {F : Type 0} → Counting F → Counted
-counted_by c = record { standing = c.reader.standing; depth = c.depth; expanded = c.expanded }
+counted_by c = record { in_use = c.reader.in_use; depth = c.depth; expanded = c.expanded }
 
 -- the taken commits: those that were ready once, and aren't now
 unfoldable pub taken_in : map_of.FinMap id_cmp Known → List Ready → set.FinSet id_cmp
@@ -56,9 +56,9 @@ pub record IsSameWalk {F : Type 0} (old new : Walk F) : Type 0 where
   pub expanded : new.counting.expanded ≡ old.counting.expanded
   pub queue : new.counting.frontier.queue ≡ old.counting.frontier.queue
 
--- what is known: an id that a search has read, as long as the rows are held, or one with a row, or one that can be read
+-- what is known: an id that a search has read, as long as the rows are in use, or one with a row, or one that can be read
 abbrev pub LooksUpParent : Objects → List GraphRow → Bool → Frontier → ObjectId → Type 0
-LooksUpParent objects rows standing f i = ((standing ≡ true) × IsDone f i) ⊎ IsKnown objects rows standing i
+LooksUpParent objects rows in_use f i = ((in_use ≡ true) × IsDone f i) ⊎ IsKnown objects rows in_use i
 
 module _ {F : Type 0} (objects : F → Objects) (faulty : F → ObjectId → Type 0) where
   -- a commit is read, and becomes ready
@@ -66,16 +66,16 @@ module _ {F : Type 0} (objects : F → Objects) (faulty : F → ObjectId → Typ
     pub same : IsSameWalk old new
     pub id : r.id ≡ i
     pub info : Info
-    pub reads : Reads (objects old.counting.reader.find) (faulty old.counting.reader.find) (rows_of old.counting.reader.graph) old.counting.reader.standing i (Ok info) new.counting.reader.standing
+    pub reads : Reads (objects old.counting.reader.find) (faulty old.counting.reader.find) (rows_of old.counting.reader.graph) old.counting.reader.in_use i (Ok info) new.counting.reader.in_use
     pub is : IsOfInfo r info
-    pub known : (p : ObjectId) → Contains info.parent_ids.items p → LooksUpParent (objects old.counting.reader.find) (rows_of old.counting.reader.graph) new.counting.reader.standing old.counting.frontier p
+    pub known : (p : ObjectId) → Contains info.parent_ids.items p → LooksUpParent (objects old.counting.reader.find) (rows_of old.counting.reader.graph) new.counting.reader.in_use old.counting.frontier p
     pub made : MarksReady old.counting.frontier i new.counting.frontier
     pub holds : HoldsReady old.ready.sorting (old.ready.commits ++ r ∷ []) new.ready.commits
 
   -- why a commit can't become ready: it, or a parent of it, can't be read
   pub data IsPushFault (old : Walk F) (i : ObjectId) (e : Error) : Type 0 where
-    itself : ReadFails (objects old.counting.reader.find) (faulty old.counting.reader.find) (rows_of old.counting.reader.graph) old.counting.reader.standing i e → IsPushFault old i e
-    parent : {info : Info} {standing : Bool} {p : ObjectId} → Reads (objects old.counting.reader.find) (faulty old.counting.reader.find) (rows_of old.counting.reader.graph) old.counting.reader.standing i (Ok info) standing → Contains info.parent_ids.items p → LookUpFails (objects old.counting.reader.find) (faulty old.counting.reader.find) (rows_of old.counting.reader.graph) standing p e → IsPushFault old i e
+    itself : ReadFails (objects old.counting.reader.find) (faulty old.counting.reader.find) (rows_of old.counting.reader.graph) old.counting.reader.in_use i e → IsPushFault old i e
+    parent : {info : Info} {in_use : Bool} {p : ObjectId} → Reads (objects old.counting.reader.find) (faulty old.counting.reader.find) (rows_of old.counting.reader.graph) old.counting.reader.in_use i (Ok info) in_use → Contains info.parent_ids.items p → LookUpFails (objects old.counting.reader.find) (faulty old.counting.reader.find) (rows_of old.counting.reader.graph) in_use p e → IsPushFault old i e
 
   abbrev pub with_frontier : Walk F → Frontier → Walk F
   with_frontier old f = record old { counting = record old.counting { frontier = f } }
@@ -112,11 +112,11 @@ module _ {F : Type 0} (objects : F → Objects) (faulty : F → ObjectId → Typ
   pub record TakesOne (old : Walk F) (r : Ready) (added : List Ready) (new : Walk F) : Type 0 where
     pub explored : Counting F
     pub explores : Explores objects faulty (lowered old r) explored
-    pub rested : IsRested explored.reader.standing explored.depth explored.frontier.queue
+    pub rested : IsRested explored.reader.in_use explored.depth explored.frontier.queue
     pub releases : ReleasesAll (with_counting old explored) (last_places (by_mode old.counting.parents r.parents)) added new
 
   -- why that fails
   pub data IsTakingFault (old : Walk F) (r : Ready) (e : Error) : Type 0 where
     exploring : IsExploringFault objects faulty (lowered old r) e → IsTakingFault old r e
-    releasing : {explored : Counting F} → Explores objects faulty (lowered old r) explored → IsRested explored.reader.standing explored.depth explored.frontier.queue → IsFaultAmong (with_counting old explored) (last_places (by_mode old.counting.parents r.parents)) e → IsTakingFault old r e
+    releasing : {explored : Counting F} → Explores objects faulty (lowered old r) explored → IsRested explored.reader.in_use explored.depth explored.frontier.queue → IsFaultAmong (with_counting old explored) (last_places (by_mode old.counting.parents r.parents)) e → IsTakingFault old r e
     short : e ≡ error.Memory → IsTakingFault old r e

@@ -40,7 +40,7 @@ module _ {F : Type 0} (objects : F → Objects) (faulty : F → ObjectId → Typ
     pub counts : IsAgreeing (objects plan.store) plan.rows → HasCounted objects plan c
     pub counting : IsAgreeing (objects plan.store) plan.rows → IsCounting objects plan (counted_by c)
     pub all_read : AreRead objects faulty plan c
-    pub dropped : AreDroppedFor objects plan c.reader.standing
+    pub dropped : AreDroppedFor objects plan c.reader.in_use
     -- without rows, all that is walked was read
     pub idle : plan.rows ≡ [] → c.frontier.queue ≡ []
     pub read : plan.rows ≡ [] → (i : ObjectId) → IsReached objects plan i → IsCommitRead (objects plan.store) i

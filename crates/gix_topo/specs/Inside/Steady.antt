@@ -22,22 +22,22 @@ use Rattle.gix_topo.specs.Walk.{TopoPlan, TopoWalk, Ready, ready_ids, Chooses, I
 use Rattle.gix_topo.specs.WalkSet.{IsChild}
 
 module _ {F : Type 0} (objects : F → Objects) (faulty : F → ObjectId → Type 0) (plan : TopoPlan F) where
-  -- the commit was read, by its row or from the store; rows that are held now were held after that
-  pub record IsReadOnce (standing : Bool) (i : ObjectId) : Type 0 where
+  -- the commit was read, by its row or from the store; rows that are in use now were in use after that
+  pub record IsReadOnce (in_use : Bool) (i : ObjectId) : Type 0 where
     pub info : Info
     pub before : Bool
     pub after : Bool
     pub reads : Reads (objects plan.store) (faulty plan.store) plan.rows before i (Ok info) after
-    pub later : standing ≡ true → after ≡ true
+    pub later : in_use ≡ true → after ≡ true
 
   -- all that is done was read, whatever the store and the rows
   abbrev pub AreRead : Counting F → Type 0
-  AreRead c = (i : ObjectId) → IsDone c.frontier i → IsReadOnce c.reader.standing i
+  AreRead c = (i : ObjectId) → IsDone c.frontier i → IsReadOnce c.reader.in_use i
 
 module _ {F : Type 0} (objects : F → Objects) where
   -- rows are dropped for a corrupt one
   abbrev pub AreDroppedFor : TopoPlan F → Bool → Type 0
-  AreDroppedFor plan standing = standing ≡ false → DropsBy objects plan
+  AreDroppedFor plan in_use = in_use ≡ false → DropsBy objects plan
 
   -- both searches and the counts are as they are to be; ready commits are done
   pub record IsTallied (w : Walk F) : Type 0 where
@@ -50,24 +50,24 @@ module _ {F : Type 0} (objects : F → Objects) where
     pub member : (i : ObjectId) → (known_of w.counting.frontier.known i).was_ready ≡ true → IsTextMember objects (plan_of w) i
     pub children : (i d : ObjectId) → (known_of w.counting.frontier.known i).was_ready ≡ true → IsChild (text_walked objects (plan_of w)) (IsTextMember objects (plan_of w)) d i → set.contains (taken_of w) d ≡ true
 
-  -- the number of commits that are done, none of which is below the depth as long as the rows are held
+  -- the number of commits that are done, none of which is below the depth as long as the rows are in use
   pub record HasCounted (plan : TopoPlan F) (c : Counting F) : Type 0 where
     pub number : IsNumberOf (IsDone c.frontier) c.expanded
-    pub high : c.reader.standing ≡ true → (i : ObjectId) → IsDone c.frontier i → c.depth ≤ known_generation plan.rows i
-    pub dropped : c.reader.standing ≡ false → IsBrokenRow objects plan c.depth
+    pub high : c.reader.in_use ≡ true → (i : ObjectId) → IsDone c.frontier i → c.depth ≤ known_generation plan.rows i
+    pub dropped : c.reader.in_use ≡ false → IsBrokenRow objects plan c.depth
 
 module _ {F : Type 0} (objects : F → Objects) (faulty : F → ObjectId → Type 0) where
   -- What holds of a walk that may go on, whatever its store and rows. The ready commits are different ones.
   pub record IsHeld (w : Walk F) : Type 0 where
     pub made : (i : ObjectId) → Contains (ready_ids w.ready.commits) i → (known_of w.counting.frontier.known i).was_ready ≡ true
     pub distinct : AreDistinct (ready_ids w.ready.commits)
-    pub found : (r : Ready) → Contains w.ready.commits r → IsFound objects faulty (plan_of w) true w.counting.reader.standing r
+    pub found : (r : Ready) → Contains w.ready.commits r → IsFound objects faulty (plan_of w) true w.counting.reader.in_use r
     -- with rows that agree
     pub tallied : IsAgreeing (objects (plan_of w).store) (plan_of w).rows → IsTallied objects w
     pub steady : IsAgreeing (objects (plan_of w).store) (plan_of w).rows → IsSteady objects w
     pub counts : IsAgreeing (objects (plan_of w).store) (plan_of w).rows → HasCounted objects (plan_of w) w.counting
     pub all_read : AreRead objects faulty (plan_of w) w.counting
-    pub dropped : AreDroppedFor objects (plan_of w) w.counting.reader.standing
+    pub dropped : AreDroppedFor objects (plan_of w) w.counting.reader.in_use
     -- without rows, all that is walked was read
     pub idle : (plan_of w).rows ≡ [] → w.counting.frontier.queue ≡ []
     pub read : (plan_of w).rows ≡ [] → (i : ObjectId) → IsReached objects (plan_of w) i → IsCommitRead (objects (plan_of w).store) i

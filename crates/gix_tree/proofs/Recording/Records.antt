@@ -1,6 +1,6 @@
 -- What a recorder holds after a walk.
-use Rattle.std.proofs.Common.{◌≡◌, ◌≢◌, ℕ, Bool, true, false, List, [], ◌∷◌, ◌++◌, map, Option, Some, None, Ok, Err, refl, sym, ap, ◌∙◌, subst, arith, append_assoc}
-use Rattle.std.proofs.lemmas.List.{append-nil, map-append}
+use Rattle.std.proofs.Common.{◌≡◌, ◌≢◌, ℕ, Bool, true, false, List, [], ◌∷◌, ◌++◌, map, reverse, Option, Some, None, Ok, Err, refl, sym, ap, ◌∙◌, subst, arith, append_assoc}
+use Rattle.std.proofs.lemmas.List.{append-nil, reverse-append}
 use Rattle.std.proofs.lemmas.Bool.Decides.{nat_tests}
 use Rattle.std.specs.List.{AllByRecursion}
 use Rattle.gix_hash.specs.declared.ObjectId.{ObjectId}
@@ -8,15 +8,14 @@ use Rattle.gix_object.specs.declared.find.existing_iter.Error.{Error as Existing
 use Rattle.gix_object.specs.TreeItems.{TreeEntry, is_tree}
 use Rattle.gix_tree.specs.declared.recorder.Location.TheVariants.{Path}
 use Rattle.gix_tree.specs.declared.breadthfirst.Error.TheVariants as error
-use Rattle.gix_tree.specs.Delegate.{Action, Call, PushPath, PopPath, PushBack, PopBack}
-use Rattle.gix_tree.specs.Visits.{Items, Place, Visit, visit, inside, Outcome, Leaves, Enters, Cycles, Breaks, outcome, visit_call, visit_call_of, Ending, Whole, Failed, Task, Turn, Show, Fault, shows}
-use Rattle.gix_tree.specs.Paths.{IsName, HaveNames, joined, unknown_root}
+use Rattle.gix_tree.specs.Delegate.{Action, Call, PushPath, PopPath, PushBack}
+use Rattle.gix_tree.specs.Visits.{Items, Place, Visit, visit, inside, Outcome, Leaves, Enters, Cycles, Breaks, outcome, visit_call_of, Ending, Failed, Task, Turn, Show, Fault, shows}
+use Rattle.gix_tree.specs.Paths.{IsName, HaveNames, joined, unknown_root, known_root}
 use Rattle.gix_tree.specs.Script as script
-use Rattle.gix_tree.specs.Script.{Visited, tasks_of, items_or_none, level_calls, depth_calls, IsLevelScript, DepthScript, IsDepthScript}
-use Rattle.gix_tree.proofs.All.{all_left, all_right}
-use Rattle.gix_tree.proofs.Levels.Queue.{first_task, other_tasks, LevelFrom, split_front}
-use Rattle.gix_tree.proofs.Levels.Script.{level_queue}
+use Rattle.gix_tree.specs.Script.{items_or_none, level_calls_behind, depth_calls_behind, IsLevelScript, IsDepthScript}
 use Rattle.gix_tree.specs.Recorder.{Record, Recorded, with_name, front_from, before_slash, path_or_empty, without_name, last_path, without_last, first_path, without_first, fresh, recorded, recorded_all, record_of}
+use Rattle.gix_tree.proofs.TaskWalk as walk
+use Rattle.gix_tree.proofs.TaskWalk.{Manner, ByLevels, InDepth, calls_behind, calls_by, pop_by, lost_by, tasks_in, tasks_with, TaskWalk, level_walk, tree_walk}
 
 pub not_here : (b : ℕ) → b ≢ 47 → front_from b None ≡ None
 not_here b h = grind (arith, nat_tests)
@@ -82,119 +81,6 @@ inside_at {path} {p} e at h = record {
   named = names_more p.names e.name at.named h;
 }
 
--- around a visit that leads on
-around : {path : List ℕ} {p : Place} (queue : List (List ℕ)) (records : List Record) (e : TreeEntry) (a : Action) (calls : List Call) → StandsAt path p → IsName e.name
-    → recorded_all (Some Path) (holding path queue records) (PushPath e.name ∷ visit_call (visit p e a) ∷ PopPath ∷ calls)
-    ≡ recorded_all (Some Path) (holding path queue (records ++ record_of (visit p e a) ∷ [])) calls
-around {path} {p} queue records e a calls at h =
-    let q : without_name (with_name path e.name) ≡ path = without_with path e.name h in
-    let w : with_name path e.name ≡ joined (p.names ++ e.name ∷ []) = (inside_at e at h).is in
-    ap (λ r. recorded_all (Some Path) (recorded (Some Path) r PopPath) calls) (push_visit path queue records e a (is_tree e.mode))
-    ∙ (λ i. recorded_all (Some Path) (holding (q i) queue (records ++ record { mode = e.mode; path = w i; id = e.id } ∷ [])) calls)
-
--- around the last visit, where the calls behind it record nothing
-around_last : {path : List ℕ} {p : Place} (queue : List (List ℕ)) (records : List Record) (e : TreeEntry) (a : Action) (behind : List Call) → StandsAt path p → IsName e.name
-    → ((r : Recorded) → (recorded_all (Some Path) r behind).records ≡ r.records)
-    → (recorded_all (Some Path) (holding path queue records) (PushPath e.name ∷ visit_call (visit p e a) ∷ behind)).records ≡ records ++ record_of (visit p e a) ∷ []
-around_last {path} {p} queue records e a behind at h same =
-    let w : with_name path e.name ≡ joined (p.names ++ e.name ∷ []) = (inside_at e at h).is in
-    same _ ∙ ap (λ r. r.records) (push_visit path queue records e a (is_tree e.mode))
-    ∙ (λ i. records ++ record { mode = e.mode; path = w i; id = e.id } ∷ [])
-
-level_leaves : {path : List ℕ} {p : Place} (queue : List (List ℕ)) (records : List Record) (e : TreeEntry) (a : Action) (calls : List Call) → StandsAt path p → IsName e.name → outcome (visit p e a) ≡ Leaves
-    → recorded_all (Some Path) (holding path queue records) (level_calls (visit p e a) ++ calls)
-    ≡ recorded_all (Some Path) (holding path queue (records ++ record_of (visit p e a) ∷ [])) calls
-level_leaves queue records e a calls at h o = rw o (around queue records e a calls at h)
-
-level_enters : {path : List ℕ} {p : Place} (queue : List (List ℕ)) (records : List Record) (e : TreeEntry) (a : Action) (calls : List Call) → StandsAt path p → IsName e.name → outcome (visit p e a) ≡ Enters
-    → recorded_all (Some Path) (holding path queue records) (level_calls (visit p e a) ++ calls)
-    ≡ recorded_all (Some Path) (holding path (queue ++ joined (p.names ++ e.name ∷ []) ∷ []) (records ++ record_of (visit p e a) ∷ [])) calls
-level_enters {path} {p} queue records e a calls at h o =
-    let n = e.name in
-    let q : without_name (with_name path n) ≡ path = without_with path n h in
-    let w : with_name path n ≡ joined (p.names ++ n ∷ []) = (inside_at e at h).is in
-    rw o (ap (λ r. recorded_all (Some Path) (recorded (Some Path) (recorded (Some Path) (recorded (Some Path) r PopPath) (PushBack n)) PopPath) calls) (push_visit path queue records e a (is_tree e.mode))
-    ∙ (λ i. recorded_all (Some Path) (holding (without_name (with_name (q i) n)) (queue ++ with_name (q i) n ∷ []) (records ++ record { mode = e.mode; path = with_name path n; id = e.id } ∷ [])) calls)
-    ∙ (λ i. recorded_all (Some Path) (holding (q i) (queue ++ w i ∷ []) (records ++ record { mode = e.mode; path = w i; id = e.id } ∷ [])) calls))
-
-level_last : {path : List ℕ} {p : Place} (queue : List (List ℕ)) (records : List Record) (e : TreeEntry) (a : Action) (o : Outcome) → StandsAt path p → IsName e.name → outcome (visit p e a) ≡ o → script.level_calls_behind e.name o ≡ []
-    → (recorded_all (Some Path) (holding path queue records) (level_calls (visit p e a))).records ≡ records ++ record_of (visit p e a) ∷ []
-level_last queue records e a o at h is none = rw (is, none) (around_last queue records e a [] at h (λ r. refl))
-
--- what a queue of tasks says of the path and of the queue of paths
-abbrev Fits : List ℕ → List Task → List (List ℕ) → Type 0
-Fits path [] queue = queue ≡ []
-Fits path (Show p e ∷ tasks) queue = StandsAt path p × Fits path tasks queue
-Fits path (Fault why ∷ tasks) queue = Fits path tasks queue
-Fits path (Turn p i ∷ tasks) [] = ⊥
-Fits path (Turn p i ∷ tasks) (front ∷ queue) = StandsAt front p × Fits front tasks queue
-
-shows_fit : (path : List ℕ) (p : Place) (items : Items) → StandsAt path p → Fits path (shows p items) []
-shows_fit path p [] at = refl
-shows_fit path p (Ok e ∷ items) at = (at, shows_fit path p items at)
-shows_fit path p (Err why ∷ items) at = refl
-
-turn_fits : (path front : List ℕ) (queue : List (List ℕ)) (p : Place) (i : ObjectId) (items : Items) → queue ≡ [] → StandsAt front p → Fits path (Turn p i ∷ shows p items) (queue ++ front ∷ [])
-turn_fits path front [] p i items e at = (at, shows_fit front p items at)
-turn_fits path front (q ∷ queue) p i items e at = cc
-
-fits_more : (path : List ℕ) (tasks : List Task) (queue : List (List ℕ)) (front : List ℕ) (p : Place) (i : ObjectId) (items : Items) → Fits path tasks queue → StandsAt front p → Fits path (tasks ++ Turn p i ∷ shows p items) (queue ++ front ∷ [])
-fits_more path [] queue front p i items h at = turn_fits path front queue p i items h at
-fits_more path (Show q e ∷ tasks) queue front p i items h at = (h.0, fits_more path tasks queue front p i items h.1 at)
-fits_more path (Fault why ∷ tasks) queue front p i items h at = fits_more path tasks queue front p i items h at
-fits_more path (Turn q j ∷ tasks) [] front p i items h at = absurd h
-fits_more path (Turn q j ∷ tasks) (next ∷ queue) front p i items h at = (h.0, fits_more next tasks queue front p i items h.1 at)
-
-fits_front : (path : List ℕ) (tasks : List Task) (queue : List (List ℕ)) (t : Task) → first_task tasks ≡ Some t → Fits path tasks queue → Fits path (t ∷ other_tasks tasks) queue
-fits_front path tasks queue t e h = subst (λ l. Fits path l queue) (split_front tasks t e) h
-
-module _ (trees : ObjectId → Option Items) (fails : ObjectId → ExistingError → Type 0) where
-  fits_entered : (path front : List ℕ) (p : Place) (e : TreeEntry) (a : Action) (tasks : List Task) (queue : List (List ℕ)) → Fits path tasks queue → StandsAt front (inside p e) → outcome (visit p e a) ≡ Enters → Fits path (tasks ++ tasks_of trees (Visited (visit p e a))) (queue ++ front ∷ [])
-  fits_entered path front p e a tasks queue h at o = rw o (fits_more path tasks queue front (inside p e) e.id (items_or_none (trees e.id)) h at)
-
-  fits_left : (path : List ℕ) (p : Place) (e : TreeEntry) (a : Action) (tasks : List Task) (queue : List (List ℕ)) → Fits path tasks queue → outcome (visit p e a) ≡ Leaves → Fits path (tasks ++ tasks_of trees (Visited (visit p e a))) queue
-  fits_left path p e a tasks queue h o = rw (o, append-nil tasks) h
-
-  fits_after_turn : (path : List ℕ) (tasks : List Task) (queue : List (List ℕ)) (p : Place) (i : ObjectId) → Fits path (Turn p i ∷ tasks) queue → Fits (first_path queue) tasks (without_first queue)
-  fits_after_turn path tasks [] p i h = absurd h
-  fits_after_turn path tasks (front ∷ queue) p i h = h.1
-
-  level_records : {tasks : List Task} {calls : List Call} {visits : List Visit} {end : Ending} (path : List ℕ) (queue : List (List ℕ)) (records : List Record) → LevelFrom trees fails tasks calls visits end → end ≢ Failed error.Memory → Fits path tasks queue → HaveNames visits
-      → (recorded_all (Some Path) (holding path queue records) calls).records ≡ records ++ map record_of visits
-  level_records path queue records (script.whole e) w f h = sym (append-nil records)
-  level_records path queue records (script.leaves {s = s} {p = p} {e = e} {a = a} {calls = calls} {visits = visits} is o rest) w f h =
-      let g = fits_front path s queue (Show p e) is f in
-      ap (λ r. r.records) (level_leaves queue records e a calls g.0 h.0 o)
-      ∙ level_records path queue (records ++ record_of (visit p e a) ∷ []) rest w (fits_left path p e a (other_tasks s) queue g.1 o) h.1
-      ∙ append_assoc records (record_of (visit p e a) ∷ []) (map record_of visits)
-  level_records path queue records (script.enters {s = s} {p = p} {e = e} {a = a} {calls = calls} {visits = visits} is o rest) w f h =
-      let g = fits_front path s queue (Show p e) is f in
-      let front = joined (p.names ++ e.name ∷ []) in
-      let at : StandsAt front (inside p e) = record { is = refl; named = names_more p.names e.name g.0.named h.0 } in
-      ap (λ r. r.records) (level_enters queue records e a calls g.0 h.0 o)
-      ∙ level_records path (queue ++ front ∷ []) (records ++ record_of (visit p e a) ∷ []) rest w (fits_entered path front p e a (other_tasks s) queue g.1 at o) h.1
-      ∙ append_assoc records (record_of (visit p e a) ∷ []) (map record_of visits)
-  level_records path queue records (script.breaks {s = s} {p = p} {e = e} {a = a} is o) w f h = level_last queue records e a Breaks (fits_front path s queue (Show p e) is f).0 h.0 o refl
-  level_records path queue records (script.cycles {s = s} {p = p} {e = e} {a = a} is o) w f h = level_last queue records e a Cycles (fits_front path s queue (Show p e) is f).0 h.0 o refl
-  level_records path queue records (script.turn {s = s} {p = p} {i = i} is found rest) w f h =
-      level_records (first_path queue) (without_first queue) records rest w (rw (append-nil (other_tasks s)) (fits_after_turn path (other_tasks s) queue p i (fits_front path s queue (Turn p i) is f))) h
-  level_records path queue records (script.not_found is why) w f h = sym (append-nil records)
-  level_records path queue records (script.fault is) w f h = sym (append-nil records)
-  level_records path queue records (script.no_memory_in_turn is) w f h = absurd (w refl)
-  level_records path queue records (script.no_memory_for_descent a is o) w f h = absurd (w refl)
-  level_records path queue records (script.refused a is made) w f h = absurd (w refl)
-
-  -- a fresh recorder holds a record for each visit of a walk by levels
-  pub fresh_level : (root : Items) {calls : List Call} {visits : List Visit} {end : Ending} → IsLevelScript trees fails unknown_root root calls visits end → end ≢ Failed error.Memory → HaveNames visits → (recorded_all (Some Path) fresh calls).records ≡ map record_of visits
-  fresh_level root walk w h = level_records [] [] [] (level_queue trees fails unknown_root root walk) w (shows_fit [] unknown_root root (record { is = refl; named = tt })) h
-
--- around a visit of a walk in depth
-
-depth_leaves : {path : List ℕ} {p : Place} (queue : List (List ℕ)) (records : List Record) (e : TreeEntry) (a : Action) (calls : List Call) → StandsAt path p → IsName e.name → outcome (visit p e a) ≡ Leaves
-    → recorded_all (Some Path) (holding path queue records) (depth_calls (visit p e a) ++ calls)
-    ≡ recorded_all (Some Path) (holding path queue (records ++ record_of (visit p e a) ∷ [])) calls
-depth_leaves queue records e a calls at h o = rw o (around queue records e a calls at h)
-
 pub last_more : (queue : List (List ℕ)) (path : List ℕ) → last_path (queue ++ path ∷ []) ≡ path
 last_more [] path = refl
 last_more (a ∷ []) path = refl
@@ -205,101 +91,169 @@ without_more [] path = refl
 without_more (a ∷ []) path = refl
 without_more (a ∷ b ∷ queue) path = ap (λ l. a ∷ l) (without_more (b ∷ queue) path)
 
-depth_enters : {path : List ℕ} {p : Place} (queue : List (List ℕ)) (records : List Record) (e : TreeEntry) (a : Action) (calls : List Call) → StandsAt path p → IsName e.name → outcome (visit p e a) ≡ Enters
-    → recorded_all (Some Path) (holding path queue records) (depth_calls (visit p e a) ++ PopBack ∷ calls)
-    ≡ recorded_all (Some Path) (holding (joined (p.names ++ e.name ∷ [])) (queue ++ path ∷ []) (records ++ record_of (visit p e a) ∷ [])) calls
-depth_enters {path} {p} queue records e a calls at h o =
-    let n = e.name in
-    let name = with_name path n in
-    let some = records ++ record { mode = e.mode; path = name; id = e.id } ∷ [] in
-    let q : without_name name ≡ path = without_with path n h in
-    let w : name ≡ joined (p.names ++ n ∷ []) = (inside_at e at h).is in
-    rw o (ap (λ r. recorded_all (Some Path) (recorded (Some Path) (recorded (Some Path) (recorded (Some Path) (recorded (Some Path) r PopPath) (PushBack [])) (PushBack n)) PopBack) calls) (push_visit path queue records e a (is_tree e.mode))
-    ∙ (λ i. recorded_all (Some Path) (recorded (Some Path) (holding (with_name (q i) n) ((queue ++ q i ∷ []) ++ with_name (q i) n ∷ []) some) PopBack) calls)
-    ∙ (λ i. recorded_all (Some Path) (holding (last_more (queue ++ path ∷ []) name i) (without_more (queue ++ path ∷ []) name i) some) calls)
-    ∙ (λ i. recorded_all (Some Path) (holding (w i) (queue ++ path ∷ []) (records ++ record { mode = e.mode; path = w i; id = e.id } ∷ [])) calls))
+-- what a queue of tasks says of the path and of the paths that wait, the next first
+abbrev Fits : List ℕ → List Task → List (List ℕ) → Type 0
+Fits path [] waiting = waiting ≡ []
+Fits path (Show p e ∷ tasks) waiting = StandsAt path p × Fits path tasks waiting
+Fits path (Fault why ∷ tasks) waiting = Fits path tasks waiting
+Fits path (Turn p i ∷ tasks) [] = ⊥
+Fits path (Turn p i ∷ tasks) (front ∷ waiting) = StandsAt front p × Fits front tasks waiting
+
+shows_fit : (path : List ℕ) (p : Place) (items : Items) (tasks : List Task) (waiting : List (List ℕ)) → StandsAt path p → Fits path tasks waiting → Fits path (shows p items ++ tasks) waiting
+shows_fit path p [] tasks waiting at h = h
+shows_fit path p (Ok e ∷ items) tasks waiting at h = (at, shows_fit path p items tasks waiting at h)
+shows_fit path p (Err why ∷ items) tasks waiting at h = h
+
+-- a tree that waits behind all others
+fits_more : (path : List ℕ) (tasks : List Task) (waiting : List (List ℕ)) (front : List ℕ) (p : Place) (i : ObjectId) (items : Items) → Fits path tasks waiting → StandsAt front p
+    → Fits path (tasks ++ Turn p i ∷ shows p items) (waiting ++ front ∷ [])
+fits_more path [] [] front p i items h at = (at, subst (λ l. Fits front l []) (append-nil (shows p items)) (shows_fit front p items [] [] at refl))
+fits_more path [] (q ∷ waiting) front p i items h at = cc
+fits_more path (Show q e ∷ tasks) waiting front p i items h at = (h.0, fits_more path tasks waiting front p i items h.1 at)
+fits_more path (Fault why ∷ tasks) waiting front p i items h at = fits_more path tasks waiting front p i items h at
+fits_more path (Turn q j ∷ tasks) [] front p i items h at = absurd h
+fits_more path (Turn q j ∷ tasks) (next ∷ waiting) front p i items h at = (h.0, fits_more next tasks waiting front p i items h.1 at)
+
+-- the queue that holds the paths that wait: by levels the next is its first, and in depth its last
+abbrev queue_by : Manner → List (List ℕ) → List (List ℕ)
+queue_by ByLevels waiting = waiting
+queue_by InDepth waiting = reverse waiting
+
+-- a recorder is ready for the tasks
+record Ready (m : Manner) (tasks : List Task) (r : Recorded) : Type 0 where
+  waiting : List (List ℕ)
+  queued : r.queue ≡ queue_by m waiting
+  fits : Fits r.path tasks waiting
+
+ready_at : {m : Manner} {tasks : List Task} (r : Recorded) {path : List ℕ} (waiting : List (List ℕ)) → r.path ≡ path → r.queue ≡ queue_by m waiting → Fits path tasks waiting → Ready m tasks r
+ready_at {tasks = tasks} r waiting at queued fits = record { waiting = waiting; queued = queued; fits = subst (λ l. Fits l tasks waiting) (sym at) fits }
+
+pop_gives : (m : Manner) (r : Recorded) (front : List ℕ) (waiting : List (List ℕ)) → r.queue ≡ queue_by m (front ∷ waiting)
+    → ((recorded (Some Path) r (pop_by m)).path ≡ front) × ((recorded (Some Path) r (pop_by m)).queue ≡ queue_by m waiting)
+pop_gives ByLevels r front waiting e = (ap first_path e, ap without_first e)
+pop_gives InDepth r front waiting e =
+    let last : r.queue ≡ reverse waiting ++ front ∷ [] = e ∙ reverse-append (front ∷ []) waiting in
+    (ap last_path last ∙ last_more (reverse waiting) front, ap without_last last ∙ without_more (reverse waiting) front)
+
+pop_records : (m : Manner) (r : Recorded) → (recorded (Some Path) r (pop_by m)).records ≡ r.records
+pop_records ByLevels r = refl
+pop_records InDepth r = refl
+
+lost_records : (m : Manner) (r : Recorded) → (recorded_all (Some Path) r (lost_by m)).records ≡ r.records
+lost_records ByLevels r = refl
+lost_records InDepth r = refl
+
+ready_turn : {m : Manner} {p : Place} {i : ObjectId} {tasks : List Task} (r : Recorded) → Ready m (Turn p i ∷ tasks) r → Ready m tasks (recorded (Some Path) r (pop_by m))
+ready_turn {m} {p} {i} {tasks} r h = go h.waiting h.queued h.fits
+  where
+    go : (waiting : List (List ℕ)) → r.queue ≡ queue_by m waiting → Fits r.path (Turn p i ∷ tasks) waiting → Ready m tasks (recorded (Some Path) r (pop_by m))
+    go [] e f = absurd f
+    go (front ∷ waiting) e f = let g = pop_gives m r front waiting e in ready_at (recorded (Some Path) r (pop_by m)) waiting g.0 g.1 f.1
 
 -- the calls behind a visit record nothing
-tail_records : (name : List ℕ) (t : Bool) (o : Outcome) (r : Recorded) → (recorded_all (Some Path) r (script.depth_calls_behind name t o)).records ≡ r.records
-tail_records name t Leaves r = refl
-tail_records name t Enters r = refl
-tail_records name t Cycles r = refl
-tail_records name true Breaks r = refl
-tail_records name false Breaks r = refl
+level_behind : (name : List ℕ) (o : Outcome) (r : Recorded) → (recorded_all (Some Path) r (level_calls_behind name o)).records ≡ r.records
+level_behind name Leaves r = refl
+level_behind name Enters r = refl
+level_behind name Cycles r = refl
+level_behind name Breaks r = refl
 
-depth_last : {path : List ℕ} {p : Place} (queue : List (List ℕ)) (records : List Record) (e : TreeEntry) (a : Action) → StandsAt path p → IsName e.name
-    → (recorded_all (Some Path) (holding path queue records) (depth_calls (visit p e a))).records ≡ records ++ record_of (visit p e a) ∷ []
-depth_last {p = p} queue records e a at h = around_last queue records e a (script.depth_calls_behind e.name (is_tree e.mode) (outcome (visit p e a))) at h (tail_records e.name (is_tree e.mode) (outcome (visit p e a)))
+depth_behind : (name : List ℕ) (t : Bool) (o : Outcome) (r : Recorded) → (recorded_all (Some Path) r (depth_calls_behind name t o)).records ≡ r.records
+depth_behind name t Leaves r = refl
+depth_behind name t Enters r = refl
+depth_behind name t Cycles r = refl
+depth_behind name true Breaks r = refl
+depth_behind name false Breaks r = refl
 
-regroup : (a b c d : List Call) → (a ++ PopBack ∷ (b ++ PopBack ∷ c)) ++ d ≡ a ++ PopBack ∷ (b ++ PopBack ∷ (c ++ d))
-regroup a b c d = append_assoc a (PopBack ∷ (b ++ PopBack ∷ c)) d ∙ ap (λ l. a ++ PopBack ∷ l) (append_assoc b (PopBack ∷ c) d)
+behind_records : (m : Manner) (v : Visit) (r : Recorded) → (recorded_all (Some Path) r (calls_behind m v)).records ≡ r.records
+behind_records ByLevels v r = level_behind v.entry.name (outcome v) r
+behind_records InDepth v r = depth_behind v.entry.name (is_tree v.entry.mode) (outcome v) r
 
-of_three : (records : List Record) (v : Visit) (ws vs : List Visit) → ((records ++ record_of v ∷ []) ++ map record_of ws) ++ map record_of vs ≡ records ++ map record_of (v ∷ (ws ++ vs))
-of_three records v ws vs = append_assoc (records ++ record_of v ∷ []) (map record_of ws) (map record_of vs) ∙ append_assoc records (record_of v ∷ []) (map record_of ws ++ map record_of vs)
-    ∙ ap (λ l. records ++ record_of v ∷ l) (sym (map-append record_of ws vs))
+visit_records : (m : Manner) {p : Place} (e : TreeEntry) (a : Action) (r : Recorded) → StandsAt r.path p → IsName e.name
+    → (recorded_all (Some Path) r (calls_by m (visit p e a))).records ≡ r.records ++ record_of (visit p e a) ∷ []
+visit_records m {p} e a r at h =
+    let w : with_name r.path e.name ≡ joined (p.names ++ e.name ∷ []) = (inside_at e at h).is in
+    behind_records m (visit p e a) _ ∙ ap (λ s. s.records) (push_visit r.path r.queue r.records e a (is_tree e.mode))
+    ∙ (λ i. r.records ++ record { mode = e.mode; path = w i; id = e.id } ∷ [])
+
+-- the calls up to the visit, and those behind it
+around : (m : Manner) (p : Place) (e : TreeEntry) (a : Action) (r : Recorded) (behind : List Call) → calls_behind m (visit p e a) ≡ behind
+    → recorded_all (Some Path) r (calls_by m (visit p e a))
+    ≡ recorded_all (Some Path) (holding (with_name r.path e.name) r.queue (r.records ++ record { mode = e.mode; path = with_name r.path e.name; id = e.id } ∷ [])) behind
+around m p e a r behind is = λ i. recorded_all (Some Path) (push_visit r.path r.queue r.records e a (is_tree e.mode) i) (is i)
+
+ready_leaves : (m : Manner) {p : Place} (e : TreeEntry) (a : Action) {tasks : List Task} (r : Recorded) → Ready m (Show p e ∷ tasks) r → IsName e.name → outcome (visit p e a) ≡ Leaves
+    → Ready m tasks (recorded_all (Some Path) r (calls_by m (visit p e a)))
+ready_leaves m {p} e a {tasks} r h name o =
+    subst (λ s. Ready m tasks s) (sym (around m p e a r (PopPath ∷ []) (by m))) (ready_at _ h.waiting (without_with r.path e.name name) h.queued h.fits.1)
+  where
+    by : (k : Manner) → calls_behind k (visit p e a) ≡ PopPath ∷ []
+    by ByLevels = rw o refl
+    by InDepth = rw o refl
+
+module _ (trees : ObjectId → Option Items) where
+  ready_enters : (m : Manner) {p : Place} (e : TreeEntry) (a : Action) {tasks : List Task} (r : Recorded) → Ready m (Show p e ∷ tasks) r → IsName e.name → outcome (visit p e a) ≡ Enters
+      → Ready m (tasks_with trees m p e tasks) (recorded_all (Some Path) r (calls_by m (visit p e a)))
+  ready_enters ByLevels {p} e a {tasks} r h name o =
+      let q : without_name (with_name r.path e.name) ≡ r.path = without_with r.path e.name name in
+      let fits = fits_more r.path tasks h.waiting (with_name r.path e.name) (inside p e) e.id (items_or_none (trees e.id)) h.fits.1 (inside_at e h.fits.0 name) in
+      subst (λ s. Ready ByLevels (tasks ++ tasks_in trees p e) s) (sym (around ByLevels p e a r (PopPath ∷ PushBack e.name ∷ PopPath ∷ []) (rw o refl)))
+      (ready_at _ (h.waiting ++ with_name r.path e.name ∷ []) (ap (λ l. without_name (with_name l e.name)) q ∙ q) (λ i. h.queued i ++ with_name (q i) e.name ∷ []) fits)
+  ready_enters InDepth {p} e a {tasks} r h name o =
+      let q : without_name (with_name r.path e.name) ≡ r.path = without_with r.path e.name name in
+      let front = with_name r.path e.name in
+      let at = inside_at e h.fits.0 name in
+      let two : reverse (front ∷ r.path ∷ h.waiting) ≡ (reverse h.waiting ++ r.path ∷ []) ++ front ∷ [] =
+      reverse-append (front ∷ []) (r.path ∷ h.waiting) ∙ ap (λ l. l ++ front ∷ []) (reverse-append (r.path ∷ []) h.waiting) in
+      subst (λ s. Ready InDepth (tasks_in trees p e ++ Turn p e.id ∷ tasks) s) (sym (around InDepth p e a r (PopPath ∷ PushBack [] ∷ PushBack e.name ∷ []) (rw o refl)))
+      (ready_at _ {path = front} (front ∷ r.path ∷ h.waiting) (ap (λ l. with_name l e.name) q) ((λ i. (h.queued i ++ q i ∷ []) ++ with_name (q i) e.name ∷ []) ∙ sym two)
+      (at, shows_fit front (inside p e) (items_or_none (trees e.id)) (Turn p e.id ∷ tasks) (r.path ∷ h.waiting) at (h.fits.0, h.fits.1)))
+
+recorded_more : (r : Recorded) (calls more : List Call) → recorded_all (Some Path) r (calls ++ more) ≡ recorded_all (Some Path) (recorded_all (Some Path) r calls) more
+recorded_more r [] more = refl
+recorded_more r (call ∷ calls) more = recorded_more (recorded (Some Path) r call) calls more
+
+-- a visit, and the rest of the walk
+visit_more : (m : Manner) {p : Place} (e : TreeEntry) (a : Action) (r : Recorded) (calls : List Call) (visits : List Visit) → StandsAt r.path p → IsName e.name
+    → (recorded_all (Some Path) (recorded_all (Some Path) r (calls_by m (visit p e a))) calls).records ≡ (recorded_all (Some Path) r (calls_by m (visit p e a))).records ++ map record_of visits
+    → (recorded_all (Some Path) r (calls_by m (visit p e a) ++ calls)).records ≡ r.records ++ map record_of (visit p e a ∷ visits)
+visit_more m {p} e a r calls visits at name rest =
+    ap (λ s. s.records) (recorded_more r (calls_by m (visit p e a)) calls) ∙ rest
+    ∙ ap (λ l. l ++ map record_of visits) (visit_records m e a r at name) ∙ append_assoc r.records (record_of (visit p e a) ∷ []) (map record_of visits)
 
 module _ (trees : ObjectId → Option Items) (fails : ObjectId → ExistingError → Type 0) where
-  -- a tree that is shown whole leaves the path and the queue as they were
-  depth_whole : {p : Place} {items : Items} {calls : List Call} {visits : List Visit} {end : Ending} (path : List ℕ) (queue : List (List ℕ)) (records : List Record) (more : List Call) → DepthScript trees fails p items calls visits end → end ≡ Whole → StandsAt path p → HaveNames visits
-      → recorded_all (Some Path) (holding path queue records) (calls ++ more) ≡ recorded_all (Some Path) (holding path queue (records ++ map record_of visits)) more
-  depth_whole path queue records more script.whole w at h = ap (λ l. recorded_all (Some Path) (holding path queue l) more) (sym (append-nil records))
-  depth_whole path queue records more (script.leaves {p = p} {e = e} {a = a} {calls = calls} {visits = visits} o rest) w at h =
-      ap (λ l. recorded_all (Some Path) (holding path queue records) l) (append_assoc (depth_calls (visit p e a)) calls more)
-      ∙ depth_leaves queue records e a (calls ++ more) at h.0 o
-      ∙ depth_whole path queue (records ++ record_of (visit p e a) ∷ []) more rest w at h.1
-      ∙ ap (λ l. recorded_all (Some Path) (holding path queue l) more) (append_assoc records (record_of (visit p e a) ∷ []) (map record_of visits))
-  depth_whole path queue records more (script.enters {p = p} {e = e} {a = a} {calls = calls} {more = behind} {visits = visits} {others = others} o is sub rest) w at h =
-      let here = records ++ record_of (visit p e a) ∷ [] in
-      let path2 = joined (p.names ++ e.name ∷ []) in
-      let at2 : StandsAt path2 (inside p e) = record { is = refl; named = names_more p.names e.name at.named h.0 } in
-      ap (λ l. recorded_all (Some Path) (holding path queue records) l) (regroup (depth_calls (visit p e a)) calls behind more)
-      ∙ depth_enters queue records e a (calls ++ PopBack ∷ (behind ++ more)) at h.0 o
-      ∙ depth_whole path2 (queue ++ path ∷ []) here (PopBack ∷ (behind ++ more)) sub refl at2 (all_left (λ v. IsName v.entry.name) visits others h.1)
-      ∙ (λ i. recorded_all (Some Path) (holding (last_more queue path i) (without_more queue path i) (here ++ map record_of visits)) (behind ++ more))
-      ∙ depth_whole path queue (here ++ map record_of visits) more rest w at (all_right (λ v. IsName v.entry.name) visits others h.1)
-      ∙ ap (λ l. recorded_all (Some Path) (holding path queue l) more) (of_three records (visit p e a) visits others)
-  depth_whole path queue records more (script.ends_inside o is sub broken) w at h = absurd (broken w)
-  depth_whole path queue records more (script.not_found o why) w at h = cc
-  depth_whole path queue records more (script.breaks o) w at h = cc
-  depth_whole path queue records more (script.cycles o) w at h = cc
-  depth_whole path queue records more script.fault w at h = cc
-  depth_whole path queue records more (script.no_memory_at_look_up o) w at h = cc
-  depth_whole path queue records more (script.no_memory_for_descent a o) w at h = cc
-  depth_whole path queue records more (script.refused a made) w at h = cc
+  walk_records : {m : Manner} {tasks : List Task} {calls : List Call} {visits : List Visit} {end : Ending} (r : Recorded) → TaskWalk trees fails m tasks calls visits end → end ≢ Failed error.Memory → Ready m tasks r → HaveNames visits
+      → (recorded_all (Some Path) r calls).records ≡ r.records ++ map record_of visits
+  walk_records r walk.whole w f h = sym (append-nil r.records)
+  walk_records r (walk.stops walk.fault) w f h = sym (append-nil r.records)
+  walk_records {m} r (walk.stops (walk.not_found failed)) w f h = lost_records m r ∙ sym (append-nil r.records)
+  walk_records r (walk.stops walk.no_memory) w f h = absurd (w refl)
+  walk_records {m} r (walk.turn {visits = visits} rest) w f h = walk_records (recorded (Some Path) r (pop_by m)) rest w (ready_turn r f) h ∙ ap (λ l. l ++ map record_of visits) (pop_records m r)
+  walk_records {m} r (walk.leaves {e = e} {a = a} {visits = visits} o rest) w f h =
+      visit_more m e a r _ visits f.fits.0 h.0 (walk_records (recorded_all (Some Path) r (calls_by m (visit _ e a))) rest w (ready_leaves m e a r f h.0 o) h.1)
+  walk_records {m} r (walk.enters {e = e} {a = a} {visits = visits} o rest) w f h =
+      visit_more m e a r _ visits f.fits.0 h.0 (walk_records (recorded_all (Some Path) r (calls_by m (visit _ e a))) rest w (ready_enters trees m e a r f h.0 o) h.1)
+  walk_records {m} r (walk.breaks {e = e} {a = a} o) w f h = visit_records m e a r f.fits.0 h.0
+  walk_records {m} r (walk.cycles {e = e} {a = a} o) w f h = visit_records m e a r f.fits.0 h.0
 
-  depth_records : {p : Place} {items : Items} {calls : List Call} {visits : List Visit} {end : Ending} (path : List ℕ) (queue : List (List ℕ)) (records : List Record) → DepthScript trees fails p items calls visits end → end ≢ Failed error.Memory → StandsAt path p → HaveNames visits
-      → (recorded_all (Some Path) (holding path queue records) calls).records ≡ records ++ map record_of visits
-  depth_records path queue records script.whole w at h = sym (append-nil records)
-  depth_records path queue records (script.leaves {p = p} {e = e} {a = a} {calls = calls} {visits = visits} o rest) w at h =
-      ap (λ r. r.records) (depth_leaves queue records e a calls at h.0 o)
-      ∙ depth_records path queue (records ++ record_of (visit p e a) ∷ []) rest w at h.1
-      ∙ append_assoc records (record_of (visit p e a) ∷ []) (map record_of visits)
-  depth_records path queue records (script.enters {p = p} {e = e} {a = a} {calls = calls} {more = behind} {visits = visits} {others = others} o is sub rest) w at h =
-      let here = records ++ record_of (visit p e a) ∷ [] in
-      let path2 = joined (p.names ++ e.name ∷ []) in
-      let at2 : StandsAt path2 (inside p e) = record { is = refl; named = names_more p.names e.name at.named h.0 } in
-      ap (λ r. r.records) (depth_enters queue records e a (calls ++ PopBack ∷ behind) at h.0 o
-      ∙ depth_whole path2 (queue ++ path ∷ []) here (PopBack ∷ behind) sub refl at2 (all_left (λ v. IsName v.entry.name) visits others h.1)
-      ∙ (λ i. recorded_all (Some Path) (holding (last_more queue path i) (without_more queue path i) (here ++ map record_of visits)) behind))
-      ∙ depth_records path queue (here ++ map record_of visits) rest w at (all_right (λ v. IsName v.entry.name) visits others h.1)
-      ∙ of_three records (visit p e a) visits others
-  depth_records path queue records (script.ends_inside {p = p} {e = e} {a = a} {calls = calls} {visits = visits} o is sub broken) w at h =
-      let here = records ++ record_of (visit p e a) ∷ [] in
-      let path2 = joined (p.names ++ e.name ∷ []) in
-      let at2 : StandsAt path2 (inside p e) = record { is = refl; named = names_more p.names e.name at.named h.0 } in
-      ap (λ r. r.records) (depth_enters queue records e a calls at h.0 o)
-      ∙ depth_records path2 (queue ++ path ∷ []) here sub w at2 h.1
-      ∙ append_assoc records (record_of (visit p e a) ∷ []) (map record_of visits)
-  depth_records path queue records (script.not_found {p = p} {e = e} {a = a} o why) w at h = depth_last queue records e a at h.0
-  depth_records path queue records (script.breaks {p = p} {e = e} {a = a} o) w at h = depth_last queue records e a at h.0
-  depth_records path queue records (script.cycles {p = p} {e = e} {a = a} o) w at h = depth_last queue records e a at h.0
-  depth_records path queue records script.fault w at h = sym (append-nil records)
-  depth_records path queue records (script.no_memory_at_look_up o) w at h = absurd (w refl)
-  depth_records path queue records (script.no_memory_for_descent a o) w at h = absurd (w refl)
-  depth_records path queue records (script.refused a made) w at h = absurd (w refl)
+  -- a fresh recorder is ready for a root's entries
+  fresh_ready : (m : Manner) (p : Place) (items : Items) → p.names ≡ [] → Ready m (shows p items) fresh
+  fresh_ready m p items e = record {
+    waiting = [];
+    queued = none m;
+    fits = subst (λ l. Fits [] l []) (append-nil (shows p items)) (shows_fit [] p items [] [] (record { is = sym (ap joined e); named = subst (λ l. AllByRecursion IsName l) (sym e) tt }) refl);
+  }
+    where
+      none : (k : Manner) → [] ≡ queue_by k []
+      none ByLevels = refl
+      none InDepth = refl
 
-  -- a fresh recorder holds a record for each visit of a walk in depth
-  pub fresh_depth : (root : ObjectId) {calls : List Call} {visits : List Visit} {end : Ending} → IsDepthScript trees fails root calls visits end → end ≢ Failed error.Memory → HaveNames visits → (recorded_all (Some Path) fresh calls).records ≡ map record_of visits
-  fresh_depth root (script.found is walk) w h = depth_records [] [] [] walk w (record { is = refl; named = tt }) h
+  -- it then holds a record for each visit
+  pub fresh_level : (root : Items) {calls : List Call} {visits : List Visit} {end : Ending} → IsLevelScript trees fails unknown_root root calls visits end → end ≢ Failed error.Memory → HaveNames visits
+      → (recorded_all (Some Path) fresh calls).records ≡ map record_of visits
+  fresh_level root walk w h = walk_records fresh (level_walk trees fails unknown_root root walk) w (fresh_ready ByLevels unknown_root root refl) h
+
+  pub fresh_depth : (root : ObjectId) {calls : List Call} {visits : List Visit} {end : Ending} → IsDepthScript trees fails root calls visits end → end ≢ Failed error.Memory → HaveNames visits
+      → (recorded_all (Some Path) fresh calls).records ≡ map record_of visits
+  fresh_depth root (script.found {items = items} is walk) w h = walk_records fresh (tree_walk trees fails (known_root root) walk) w (fresh_ready InDepth (known_root root) items refl) h
   fresh_depth root (script.not_found why) w h = refl
   fresh_depth root script.no_memory w h = absurd (w refl)

@@ -14,7 +14,7 @@ use Rattle.gix_tree.specs.declared.recorder.Location.{Location}
 use Rattle.gix_tree.specs.declared.recorder.Location.TheVariants.{Path}
 use Rattle.gix_hash.specs.Reach as reach
 use Rattle.gix_tree.specs.Delegate.{Action, Call, Run}
-use Rattle.gix_tree.specs.Visits.{Items, Visit, visit_call_of, visit_call, Ending, Whole, Broken, Failed, IsUnfailed, is_broken}
+use Rattle.gix_tree.specs.Visits.{Items, Visit, visit_call_of, visit_call, Ending, Whole, Broken, Failed, IsUnfailed, is_broken, Turn, shows}
 use Rattle.gix_tree.specs.Paths.{IsName, HaveNames, joined, unknown_root, known_root}
 use Rattle.gix_tree.specs.Script as script
 use Rattle.gix_tree.specs.Script.{items_or_none, entries_in, entries_at, IsLevelScript, DepthScript, IsDepthScript}
@@ -27,10 +27,11 @@ use Rattle.gix_tree.specs.Laws.{LevelsAreRecorded, DepthIsRecorded, BothRecordTh
 use Rattle.gix_tree.proofs.Levels.Script.{level_order, level_beginning}
 use Rattle.gix_tree.proofs.Depth.Script.{preorder, preorder_beginning}
 use Rattle.gix_tree.proofs.Recording.Records.{fresh_level, fresh_depth}
-use Rattle.gix_tree.proofs.Theorems.Called.{level_called, depth_called}
-use Rattle.gix_tree.proofs.Theorems.Met.{met_level_script, met_depth_script}
+use Rattle.gix_tree.proofs.TaskWalk.{ByLevels, InDepth, TaskWalk, level_walk, depth_walk}
+use Rattle.gix_tree.proofs.Theorems.Called.{called, root_called}
+use Rattle.gix_tree.proofs.Theorems.Met.{shows_whole, turn_whole, met}
 use Rattle.gix_tree.proofs.Theorems.Sound.{run_only, sound_level_visits, sound_depth_visits}
-use Rattle.gix_tree.proofs.Theorems.Breaks.{none_breaks, root_none_breaks, levels_end_broken, depth_end_broken, ok_without_break}
+use Rattle.gix_tree.proofs.Theorems.Breaks.{breaks_at, none_breaks, must_break, ok_without_break}
 use Rattle.gix_tree.proofs.Theorems.SameRecords.{Shown, shown_by, GoOn, both_show, unbroken}
 
 -- a run of a recorder is its function, and each visit was answered to go on
@@ -107,7 +108,7 @@ module _ (objects : Objects) (faulty : ObjectId → Type 0) where
 
   deep : (root : ObjectId) (items : Items) {calls : List Call} {visits : List Visit} (end : Ending) → trees_of objects root ≡ Some items → IsUnfailed end → IsDepthScript (trees_of objects) (LookUpFails objects faulty) root calls visits end → AllByRecursion IsRecorderAnswer calls → Deep root items visits
   deep root items end is w (script.found {items = found} {calls = calls} {visits = visits} there walk) h =
-      let g = go_on visits (depth_called (trees_of objects) (LookUpFails objects faulty) IsRecorderAnswer walk h.1) in
+      let g = go_on visits (root_called (trees_of objects) (LookUpFails objects faulty) IsRecorderAnswer (script.found there walk) h) in
       let b = unbroken (entries_at (trees_of objects)) (preorder (trees_of objects) (LookUpFails objects faulty) walk w) g in
       let same : found ≡ items = cc in
       record {
@@ -125,7 +126,7 @@ module _ (objects : Objects) (faulty : ObjectId → Type 0) where
       let N = LookUpFails objects faulty in
       let whole : levels.end ≡ Whole = level_ok levels.end levels.answered in
       let level : IsLevelScript T N unknown_root items levels.calls levels.visits Whole = subst (λ l. IsLevelScript T N unknown_root items levels.calls levels.visits l) whole levels.script in
-      let g = go_on levels.visits (level_called T N IsRecorderAnswer levels.script (run_answers (Some Path) fresh levels.calls first levels.run)) in
+      let g = go_on levels.visits (called T N IsRecorderAnswer (level_walk T N unknown_root items levels.script) (run_answers (Some Path) fresh levels.calls first levels.run)) in
       let d = deep root items depth.end is (depth_ok depth.end depth.answered) depth.script (run_answers (Some Path) fresh depth.calls second depth.run) in
       let same : IsPermutation (map shown_by levels.visits) (map shown_by depth.visits) = both_show T N root items is level d.walked g d.goes_on in
       let named : HaveNames depth.visits = named_shown depth.visits (recursion_from_All (λ x. IsName x.entry.name) (map shown_by depth.visits)
@@ -185,15 +186,26 @@ module _ {V : Type 0} (objects : Objects) (faulty : ObjectId → Type 0) (steps 
   pub depth_begins_in_order : DepthBeginsInOrder objects faulty steps
   depth_begins_in_order root old new answer walk = depth_begins root walk.script
 
+  -- the walks as walks over tasks
+  abbrev levels_walk : {root : Items} {old new : V} {answer : Result (Unit {0}) Error} (walk : BreadthFirst objects faulty steps root old new answer)
+      → TaskWalk (trees_of objects) (LookUpFails objects faulty) ByLevels (shows unknown_root root) walk.calls walk.visits walk.end
+  levels_walk {root = root} walk = level_walk (trees_of objects) (LookUpFails objects faulty) unknown_root root walk.script
+
+  abbrev walk_in_depth : {root : ObjectId} {old new : V} {answer : Result (Unit {0}) Error} (walk : DepthFirst objects faulty steps root old new answer)
+      → TaskWalk (trees_of objects) (LookUpFails objects faulty) InDepth (Turn (known_root root) root ∷ shows (known_root root) (items_or_none (trees_of objects root))) walk.calls walk.visits walk.end
+  walk_in_depth {root = root} walk = depth_walk (trees_of objects) (LookUpFails objects faulty) root walk.script
+
   pub met_levels_succeed : MetLevelsSucceed objects faulty steps
   met_levels_succeed root old new answer walk whole enter ne = unless_failed walk.end (λ why is.
-      let none = none_breaks (trees_of objects) (LookUpFails objects faulty) walk.script (λ e. cc) in
-      met_level_script (trees_of objects) (LookUpFails objects faulty) (LookUpFailed objects faulty answer) root walk.script (whole none) (enter none) (level_memory answer walk.end walk.answered ne, λ i e f s. (f, walk.answered ∙ ap level_answer s)))
+      let none = none_breaks ByLevels (λ e. cc) (breaks_at ByLevels (trees_of objects) (LookUpFails objects faulty) (levels_walk walk)) in
+      let tasks = shows_whole (trees_of objects) (LookUpFails objects faulty) (LookUpFailed objects faulty answer) unknown_root root (whole none) in
+      met (trees_of objects) (LookUpFails objects faulty) (LookUpFailed objects faulty answer) (levels_walk walk) tasks (enter none) (level_memory answer walk.end walk.answered ne, λ i e f s. (f, walk.answered ∙ ap level_answer s)))
 
   pub met_depth_succeeds : MetDepthSucceeds objects faulty steps
   met_depth_succeeds root old new answer walk whole enter ne = unless_failed walk.end (λ why is.
-      let none = root_none_breaks (trees_of objects) (LookUpFails objects faulty) walk.script (λ e. cc) in
-      met_depth_script (trees_of objects) (LookUpFails objects faulty) (LookUpFailed objects faulty answer) root walk.script (whole none) (enter none) (depth_memory answer walk.end walk.answered ne, λ i e f s. (f, walk.answered ∙ ap depth_answer s)))
+      let none = none_breaks InDepth (λ e. cc) (breaks_at InDepth (trees_of objects) (LookUpFails objects faulty) (walk_in_depth walk)) in
+      let tasks = turn_whole (trees_of objects) (LookUpFails objects faulty) (LookUpFailed objects faulty answer) (known_root root) root (whole none) in
+      met (trees_of objects) (LookUpFails objects faulty) (LookUpFailed objects faulty answer) (walk_in_depth walk) tasks (enter none) (depth_memory answer walk.end walk.answered ne, λ i e f s. (f, walk.answered ∙ ap depth_answer s)))
 
   pub sound_levels_succeed : SoundLevelsSucceed objects faulty steps
   sound_levels_succeed root old new answer walk into goes w sound ne =
@@ -207,13 +219,13 @@ module _ {V : Type 0} (objects : Objects) (faulty : ObjectId → Type 0) (steps 
 
   pub levels_end_at_break : LevelsEndAtBreak objects faulty steps
   levels_end_at_break root old new answer walk h =
-      let ends = levels_end_broken (trees_of objects) (LookUpFails objects faulty) walk.script h in
+      let ends = must_break ByLevels (breaks_at ByLevels (trees_of objects) (LookUpFails objects faulty) (levels_walk walk)) h in
       (ends.0, walk.answered ∙ ap level_answer ends.0, ends.1)
 
   pub depth_ends_at_break : DepthEndsAtBreak objects faulty steps
   depth_ends_at_break root old new answer walk h =
-      let ends = depth_end_broken (trees_of objects) (LookUpFails objects faulty) walk.script h in
+      let ends = must_break InDepth (breaks_at InDepth (trees_of objects) (LookUpFails objects faulty) (walk_in_depth walk)) h in
       (ends.0, walk.answered ∙ ap depth_answer ends.0, ends.1)
 
   pub levels_ok_without_break : OkWithoutBreak objects faulty steps
-  levels_ok_without_break root old new answer walk w = ok_without_break (trees_of objects) (LookUpFails objects faulty) answer walk.script walk.answered w
+  levels_ok_without_break root old new answer walk w = ok_without_break ByLevels answer walk.end (breaks_at ByLevels (trees_of objects) (LookUpFails objects faulty) (levels_walk walk)) walk.answered w

@@ -8,7 +8,7 @@ pub returns-in-Told : goal.returns-in-Told
 returns-in-Told g c =
     let settled : IsSettled c.args.self.now = elim c.if-is_some.branch [
       | then-is_some w ↦
-          settled_by_top c.args.self.now c.in-Some.key.now c.in-Told.field-0 (sym (c.is_some.ensures ∙ ap Rattle.std.specs.Option.is_some c.held_graph.ensures) ∙ w.if-is_some.true)
+          settled_by_top c.args.self.now c.in-Some.key.now c.in-Told.field-0 (sym (c.is_some.ensures ∙ ap Rattle.std.specs.Option.is_some c.graph_in_use.ensures) ∙ w.if-is_some.true)
           (w.is_empty.ensures.0 (sym w.value-is ∙ c.if-is_empty.true)) c.in-Some.ensures.greatest c.in-Told.is
       | else-is_some w ↦ (let bad : true ≡ false = sym c.if-is_empty.true ∙ w.value-is ∙ w.if-is_some.false in cc)
     ] in

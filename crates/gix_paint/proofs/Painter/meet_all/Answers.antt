@@ -1,18 +1,18 @@
 use Rattle.std.proofs.Common.{[], ◌∷◌, subst, sym, ◌∙◌}
 use Rattle.std.specs.List.{Contains}
 use Rattle.gix_hash.proofs.Ids.Membership.{Contains-here, Contains-there}
-use Rattle.gix_paint.specs.Inside.Painter.{held_graph, Meets}
+use Rattle.gix_paint.specs.Inside.Painter.{graph_in_use, Meets}
 use Rattle.gix_paint.proofs.Meets.{meets_none, meets_first, fails_within}
 use Rattle.gix_paint.proofs.Painter.meet_all.Goals as goal
 
 pub returns-in_err-show-in-Visible-clause-fault : goal.returns-in_err-show-in-Visible-clause-fault
 returns-in_err-show-in-Visible-clause-fault g c =
-    fails_within g.F.Find.objects g.F.Find.faulty c.args.self.now.source.objects c.loop-id.self.source.objects (held_graph c.args.self.now.source) (held_graph c.loop-id.self.source) c.from_residual.result c.in_err-show-in-Visible.field-0.0 c.in-Some.id.now c.args.ids.now c.loop-id.invariant.same_objects c.loop-id.invariant.same_graph c.from_residual.ensures.1
+    fails_within g.F.Find.objects g.F.Find.faulty c.args.self.now.source.objects c.loop-id.self.source.objects (graph_in_use c.args.self.now.source) (graph_in_use c.loop-id.self.source) c.from_residual.result c.in_err-show-in-Visible.field-0.0 c.in-Some.id.now c.args.ids.now c.loop-id.invariant.same_objects c.loop-id.invariant.same_graph c.from_residual.ensures.1
     (c.loop-id.invariant.within _ (subst (λ xs. Contains xs c.in-Some.id.now) (sym c.in-Some.ensures.cases.0) (Contains-here c.in-Some.id.now c.in-Some.rest.now))) c.in_err-show-in-Visible.ensures.fault
 
 pub returns-in_err-hide-in-Hidden-clause-fault : goal.returns-in_err-hide-in-Hidden-clause-fault
 returns-in_err-hide-in-Hidden-clause-fault g c =
-    fails_within g.F.Find.objects g.F.Find.faulty c.args.self.now.source.objects c.loop-id.self.source.objects (held_graph c.args.self.now.source) (held_graph c.loop-id.self.source) c.from_residual-in_err-hide-in-Hidden.result c.in_err-hide-in-Hidden.field-0.0 c.in-Some.id.now c.args.ids.now c.loop-id.invariant.same_objects c.loop-id.invariant.same_graph c.from_residual-in_err-hide-in-Hidden.ensures.1
+    fails_within g.F.Find.objects g.F.Find.faulty c.args.self.now.source.objects c.loop-id.self.source.objects (graph_in_use c.args.self.now.source) (graph_in_use c.loop-id.self.source) c.from_residual-in_err-hide-in-Hidden.result c.in_err-hide-in-Hidden.field-0.0 c.in-Some.id.now c.args.ids.now c.loop-id.invariant.same_objects c.loop-id.invariant.same_graph c.from_residual-in_err-hide-in-Hidden.ensures.1
     (c.loop-id.invariant.within _ (subst (λ xs. Contains xs c.in-Some.id.now) (sym c.in-Some.ensures.cases.0) (Contains-here c.in-Some.id.now c.in-Some.rest.now))) c.in_err-hide-in-Hidden.ensures.fault
 
 pub loop-id-preserved : goal.loop-id-preserved

@@ -4,7 +4,7 @@ use Rattle.std.specs.VecDeque.Iter.{deque_iter_rest}
 use Rattle.gix_hash.specs.declared.ObjectId.{ObjectId}
 use Rattle.gix_paint.specs.declared.Side.TheVariants as side
 use Rattle.gix_paint.specs.declared.Painter.{Painter}
-use Rattle.gix_paint.specs.Inside.Painter.{held_graph, Meets}
+use Rattle.gix_paint.specs.Inside.Painter.{graph_in_use, Meets}
 use Rattle.gix_revwalk.specs.Ids.{ids_of}
 use Rattle.gix_paint.proofs.Painter.show_all.Given as goal
 
@@ -14,5 +14,5 @@ invariant-loop-tip g l = record {
   meets : (new : Painter g.row.F.Denot) → Meets g.F.Find.objects side.Visible (ids_of (deque_iter_rest l.tip-iterator)) l.self new → Meets g.F.Find.objects side.Visible (ids_of l.fn.tips.items) l.fn.self new;
   within : (i : ObjectId) → Contains (ids_of (deque_iter_rest l.tip-iterator)) i → Contains (ids_of l.fn.tips.items) i;
   same_objects : l.self.source.objects ≡ l.fn.self.source.objects;
-  same_graph : held_graph l.self.source ≡ held_graph l.fn.self.source;
+  same_graph : graph_in_use l.self.source ≡ graph_in_use l.fn.self.source;
 }

@@ -7,9 +7,9 @@ use Rattle.gix_simple.proofs.Simple.painted.Goals as goal
 
 pub returns-clause-ok : goal.returns-clause-ok
 returns-clause-ok g c =
-    subst (λ w. IfOk c.paint.result (λ p. Paints (g.F.Find.objects w.store) c.args.self.now.rows (ids_of c.args.tips.now.items) w.hidden_tips p.hidden (if p.rows_stand then c.args.self.now.rows else []))) c.self.view_is
-    (subst (λ tips. IfOk c.paint.result (λ p. Paints (g.F.Find.objects c.self.inside.find) c.args.self.now.rows (ids_of c.args.tips.now.items) tips p.hidden (if p.rows_stand then c.args.self.now.rows else []))) c.as_slice.ensures.value
-    (subst (λ rows. IfOk c.paint.result (λ p. Paints (g.F.Find.objects c.self.inside.find) rows (ids_of c.args.tips.now.items) c.as_slice.result.now p.hidden (if p.rows_stand then rows else []))) c.graph.ensures c.paint.ensures.ok))
+    subst (λ w. IfOk c.paint.result (λ p. Paints (g.F.Find.objects w.store) c.args.self.now.rows (ids_of c.args.tips.now.items) w.hidden_tips p.hidden (if p.rows_in_use then c.args.self.now.rows else []))) c.self.view_is
+    (subst (λ tips. IfOk c.paint.result (λ p. Paints (g.F.Find.objects c.self.inside.find) c.args.self.now.rows (ids_of c.args.tips.now.items) tips p.hidden (if p.rows_in_use then c.args.self.now.rows else []))) c.as_slice.ensures.value
+    (subst (λ rows. IfOk c.paint.result (λ p. Paints (g.F.Find.objects c.self.inside.find) rows (ids_of c.args.tips.now.items) c.as_slice.result.now p.hidden (if p.rows_in_use then rows else []))) c.graph.ensures c.paint.ensures.ok))
 
 pub returns-clause-fault : goal.returns-clause-fault
 returns-clause-fault g c =

@@ -7,10 +7,7 @@ use Rattle.gix_topo.proofs.counting.Counting.follow.Given as goal
 -- to follow the parents that are left is to follow them all
 abbrev pub invariant-loop-id : goal.invariant-loop-id
 invariant-loop-id g l = record {
-  reader : l.self.reader ≡ l.fn.self.reader;
-  parents : l.self.parents ≡ l.fn.self.parents;
-  depth : l.self.depth ≡ l.fn.self.depth;
-  expanded : l.self.expanded ≡ l.fn.self.expanded;
+  same : l.self ≡ record l.fn.self { frontier = l.self.frontier };
   follows : (new : Frontier) → Follows (rows_of l.fn.self.reader.graph) l.side l.self.frontier l.ids new → Follows (rows_of l.fn.self.reader.graph) l.side l.fn.self.frontier l.fn.ids new;
 }
 

@@ -6,11 +6,8 @@ use Rattle.gix_topo.proofs.counting.Counting.meet_all.Goals as goal
 
 pub loop-id-preserved : goal.loop-id-preserved
 loop-id-preserved g c = record {
-  reader = c.loop-id.invariant.reader;
-  parents = c.loop-id.invariant.parents;
-  depth = c.loop-id.invariant.depth;
-  expanded = c.loop-id.invariant.expanded;
-  meets = λ new f. c.loop-id.invariant.meets new (meets_more _ _ _ _ _ _ _ _ _ c.in-Some.ensures.cases.0 (c.generation-generation.ensures ∙ ap (λ r. known_generation (rows_of r.graph) c.in-Some.id.now) c.loop-id.invariant.reader) c.in_ok-meet.ensures f);
+  same = λ k. record (c.loop-id.invariant.same k) { frontier = c.meet.new.self };
+  meets = λ new f. c.loop-id.invariant.meets new (meets_more _ _ _ _ _ _ _ _ _ c.in-Some.ensures.cases.0 (c.generation-generation.ensures ∙ ap (λ x. known_generation (rows_of x.reader.graph) c.in-Some.id.now) c.loop-id.invariant.same) c.in_ok-meet.ensures f);
 }
 
 pub returns-clause-meets : goal.returns-clause-meets

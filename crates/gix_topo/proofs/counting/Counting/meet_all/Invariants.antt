@@ -7,10 +7,7 @@ use Rattle.gix_topo.proofs.counting.Counting.meet_all.Given as goal
 -- to meet the ids that are left is to meet them all
 abbrev pub invariant-loop-id : goal.invariant-loop-id
 invariant-loop-id g l = record {
-  reader : l.self.reader ≡ l.fn.self.reader;
-  parents : l.self.parents ≡ l.fn.self.parents;
-  depth : l.self.depth ≡ l.fn.self.depth;
-  expanded : l.self.expanded ≡ l.fn.self.expanded;
+  same : l.self ≡ record l.fn.self { frontier = l.self.frontier };
   meets : (new : Frontier) → MeetsAll (rows_of l.fn.self.reader.graph) l.side l.self.frontier l.ids new → MeetsAll (rows_of l.fn.self.reader.graph) l.side l.fn.self.frontier l.fn.ids new;
 }
 

@@ -1,4 +1,4 @@
-use Rattle.std.proofs.Common.{◌≡◌, ◌∷◌, Some, refl, sym, ◌∙◌, ap, subst, IsPermutation, slice_get}
+use Rattle.std.proofs.Common.{◌≡◌, ◌∷◌, Some, refl, sym, ◌∙◌, subst, IsPermutation, slice_get}
 use Rattle.gix_revwalk.specs.Reading.{rows_of}
 use Rattle.gix_frontier.specs.Inside.Waiting.{waiting_by}
 use Rattle.gix_topo.specs.Inside.Exploring.{Follows}
@@ -26,8 +26,6 @@ returns-clause-steps g c =
     let first : Some (c.in-Some.field-0-0, waiting_by c.waiting.inside.id c.waiting.inside.side) ≡ slice_get c.args.self.now.frontier.queue 0 = subst (λ w. Some (c.in-Some.field-0-0, w) ≡ slice_get c.args.self.now.frontier.queue 0) (sym c.waiting.view_is) c.in-Some.ensures.first in
     let rest : IsPermutation c.args.self.now.frontier.queue ((c.in-Some.field-0-0, waiting_by c.waiting.inside.id c.waiting.inside.side) ∷ c.pop.new.self) = subst (λ w. IsPermutation c.args.self.now.frontier.queue ((c.in-Some.field-0-0, w) ∷ c.pop.new.self)) (sym c.waiting.view_is) c.in-Some.ensures.rest in
     steps_made g.F.Find.objects g.F.Find.faulty c.args.self.now c.read.new.self c.follow.new.self c.in-Some.field-0-0 (waiting_by c.waiting.inside.id c.waiting.inside.side) c.pop.new.self c.in_ok-ids.ids.items c.count.new.self.expanded c.finish.new.self
-    first rest c.in_ok-ids.ensures.same c.in_ok-ids.ensures.frontier c.in_ok-ids.ensures.expanded c.in_ok-ids.ensures.reads c.in_ok-count.ensures.expanded
-    (c.in_ok-follow.ensures.reader ∙ ap (λ x. x.reader) c.count.ensures.same) (c.in_ok-follow.ensures.parents ∙ ap (λ x. x.parents) c.count.ensures.same) (c.in_ok-follow.ensures.depth ∙ ap (λ x. x.depth) c.count.ensures.same)
-    c.in_ok-follow.ensures.expanded
+    first rest c.in_ok-ids.ensures.same c.in_ok-ids.ensures.reads c.in_ok-count.ensures.expanded (c.in_ok-follow.ensures.same ∙ (λ k. record (c.count.ensures.same k) { frontier = c.follow.new.self.frontier }))
     (subst (λ ids. Follows (rows_of c.read.new.self.reader.graph) c.waiting.inside.side c.read.new.self.frontier ids c.follow.new.self.frontier) c.as_slice.ensures
     (subst (λ x. Follows (rows_of x.reader.graph) c.waiting.inside.side x.frontier c.as_slice.result.now c.follow.new.self.frontier) c.count.ensures.same c.in_ok-follow.ensures.follows)) c.in_ok-finish.ensures

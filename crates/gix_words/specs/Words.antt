@@ -1,0 +1,207 @@
+-- What the words of a command ask for.
+use Rattle.std.specs.Prelude.{◌≡◌, ◌≢◌, ℕ, ℤ, pos, ◌+◌, ◌==◌, nat_lt, nat_le, ◌&&◌, List, [], ◌∷◌, ◌++◌, length, Bool, true, false, ◌||◌, not, if◌then◌else◌, Option, Some, None, Result, Ok, Err, codes}
+use Rattle.std.specs.List.{list_all}
+use Rattle.std.specs.Str.{bytes_eq}
+use Rattle.gix_hash.specs.declared.ObjectId.{ObjectId}
+use Rattle.gix_hash.specs.declared.HexError.{HexError}
+use Rattle.gix_hash.specs.Id.{id_from_hex}
+use Rattle.gix_records.specs.Decimal.{digits_behind}
+use Rattle.gix_revwalk.specs.declared.CommitTimeOrder.TheVariants as order
+use Rattle.gix_revwalk.specs.declared.Parents.TheVariants as mode
+use Rattle.gix_simple.specs.declared.Sorting.TheVariants as sorting
+use Rattle.gix_topo.specs.declared.Sorting.TheVariants as topo
+use Rattle.gix_words.specs.declared.fault.Fault.{Fault}
+use Rattle.gix_words.specs.declared.fault.Fault.TheVariants as fault
+use Rattle.gix_words.specs.declared.words.Command.{Command}
+use Rattle.gix_words.specs.declared.words.Command.TheVariants as command
+use Rattle.gix_words.specs.declared.words.Order.{Order}
+use Rattle.gix_words.specs.declared.words.Order.TheVariants.{Simple, Topo}
+
+pub data Request : Type 0 where
+  -- the commits that the tips reach and the hidden ones don't, in an order; with a limit the first of them, as many at most
+  Commits : (order : Order) (limit : Option ℕ) (tips hidden : List ObjectId) → Request
+  -- the entries of the tree of this id, and of the trees in it, each with this byte behind it
+  Files : (ending : ℕ) (tree : ObjectId) → Request
+  -- how many commits the one reaches and the other doesn't, and the other way round
+  Ahead : (one other : ObjectId) → Request
+  -- those of the ids that the tip reaches
+  Contained : (tip : ObjectId) (ids : List ObjectId) → Request
+
+abbrev pub request_of_command : Command → Request
+request_of_command (command.Commits order limit tips hidden) = Commits order limit tips.items hidden.items
+request_of_command (command.Files ending tree) = Files ending tree
+request_of_command (command.Ahead one other) = Ahead one other
+request_of_command (command.Contained tip ids) = Contained tip ids.items
+
+-- what a function returned, seen by view, is what it was to be, unless memory ran out
+abbrev pub Gives : {X Y : Type 0} → (X → Y) → Result X Fault → Result Y Fault → Type 0
+Gives view (Ok x) wanted = wanted ≡ Ok (view x)
+Gives view (Err e) wanted = e ≢ fault.Memory → wanted ≡ Err e
+
+-- what a function that takes no memory returned, seen by view, is what it was to be
+abbrev pub Tells : {X Y : Type 0} → (X → Y) → Result X Fault → Result Y Fault → Type 0
+Tells view (Ok x) wanted = wanted ≡ Ok (view x)
+Tells view (Err e) wanted = wanted ≡ Err e
+
+-- whether the word asks for a commit to be hidden
+abbrev pub begins_with_caret : List ℕ → Bool
+begins_with_caret [] = false
+begins_with_caret (b ∷ bs) = b == 94
+
+abbrev pub without_caret : List ℕ → List ℕ
+without_caret [] = []
+without_caret (b ∷ bs) = if b == 94 then bs else b ∷ bs
+
+-- ids of tips, and of commits to be hidden
+abbrev pub Ids : Type 0
+Ids = List ObjectId × List ObjectId
+
+abbrev pub with_id : Bool → ObjectId → Ids → Ids
+with_id true i ids = (ids.0, i ∷ ids.1)
+with_id false i ids = (i ∷ ids.0, ids.1)
+
+-- the id of a word before the ids of other words, or the number of the word, where it spells no id
+abbrev pub with_word : Bool → ℕ → Result ObjectId HexError → Result Ids Fault → Result Ids Fault
+with_word hidden n (Err e) others = Err (fault.Id n)
+with_word hidden n (Ok i) (Err e) = Err e
+with_word hidden n (Ok i) (Ok ids) = Ok (with_id hidden i ids)
+
+-- the ids that words spell, the first of them word n
+abbrev pub ids_from : ℕ → List (List ℕ) → Result Ids Fault
+ids_from n [] = Ok ([], [])
+ids_from n (word ∷ words) = with_word (begins_with_caret word) n (id_from_hex (without_caret word)) (ids_from (n + 1) words)
+
+-- the id that the digits of word n spell was added after other ids, unless memory ran out
+abbrev pub AddsId : List ℕ → ℕ → List ObjectId → Result (Unit {0}) Fault → List ObjectId → Type 0
+AddsId digits n old (Ok done) new = (i : ObjectId) × (id_from_hex digits ≡ Ok i) × (new ≡ old ++ i ∷ [])
+AddsId digits n old (Err e) new = e ≢ fault.Memory → (why : HexError) × (id_from_hex digits ≡ Err why) × (e ≡ fault.Id n)
+
+-- the order of the walk over commits that a command names
+abbrev pub order_named : List ℕ → Option Order
+order_named name =
+    if bytes_eq name (codes "breadth") then Some (Simple mode.All sorting.BreadthFirst)
+    else if bytes_eq name (codes "newest") then Some (Simple mode.All (sorting.ByCommitTime order.NewestFirst))
+    else if bytes_eq name (codes "oldest") then Some (Simple mode.All (sorting.ByCommitTime order.OldestFirst))
+    else if bytes_eq name (codes "topo") then Some (Topo topo.TopoOrder)
+    else if bytes_eq name (codes "date") then Some (Topo topo.DateOrder)
+    else None
+
+-- the order, which has no option, through first parents alone
+abbrev pub by_first_parents : Order → Option Order
+by_first_parents (Simple parents sorting.BreadthFirst) = Some (Simple mode.First sorting.BreadthFirst)
+by_first_parents (Simple parents (sorting.ByCommitTime order)) = None
+by_first_parents (Simple parents (sorting.ByCommitTimeCutoff order seconds)) = None
+by_first_parents (Topo by) = None
+
+-- the order, which has no option, without what is older than a time
+abbrev pub by_cutoff : ℤ → Order → Option Order
+by_cutoff seconds (Simple parents sorting.BreadthFirst) = None
+by_cutoff seconds (Simple parents (sorting.ByCommitTime order)) = Some (Simple parents (sorting.ByCommitTimeCutoff order seconds))
+by_cutoff seconds (Simple parents (sorting.ByCommitTimeCutoff order time)) = None
+by_cutoff seconds (Topo by) = None
+
+-- the number that 1 to so many decimal digits spell
+abbrev pub number_in : ℕ → List ℕ → Option ℕ
+number_in most digits = if nat_lt 0 (length digits) && nat_le (length digits) most then digits_behind 0 digits else None
+
+abbrev pub commits_from : Order → Option ℕ → Result Ids Fault → Result Request Fault
+commits_from by limit (Ok ids) = Ok (Commits by limit ids.0 ids.1)
+commits_from by limit (Err e) = Err e
+
+abbrev pub files_from : (ending n : ℕ) → Result ObjectId HexError → Result Request Fault
+files_from ending n (Ok tree) = Ok (Files ending tree)
+files_from ending n (Err e) = Err (fault.Id n)
+
+-- one tip at least: this is judged of all words before any is judged as an id, the first of them word n
+abbrev pub commits_of : Order → Option ℕ → ℕ → List (List ℕ) → Result Request Fault
+commits_of by limit n ids = if list_all begins_with_caret ids then Err fault.Usage else commits_from by limit (ids_from n ids)
+
+-- ids behind `-n` and a limit, the first of them word n
+abbrev pub limited_of : Order → Option ℕ → ℕ → List (List ℕ) → Result Request Fault
+limited_of by (Some limit) n ids = commits_of by (Some limit) n ids
+limited_of by None n ids = Err fault.Usage
+
+-- ids, or `-n`, a limit and ids; the first of these words is word n
+abbrev pub listed_of : Order → ℕ → List (List ℕ) → Result Request Fault
+listed_of by n [] = commits_of by None n []
+listed_of by n (id ∷ []) = commits_of by None n (id ∷ [])
+listed_of by n (option ∷ limit ∷ ids) =
+    if bytes_eq option (codes "-n") then limited_of by (number_in 9 limit) (n + 2) ids else commits_of by None n (option ∷ limit ∷ ids)
+
+-- these words behind an option that the order may not have
+abbrev pub chosen_of : Option Order → ℕ → List (List ℕ) → Result Request Fault
+chosen_of (Some by) n words = listed_of by n words
+chosen_of None n words = Err fault.Usage
+
+abbrev pub recent_of : Order → Option ℕ → List (List ℕ) → Result Request Fault
+recent_of by (Some seconds) words = chosen_of (by_cutoff (pos seconds) by) 4 words
+recent_of by None words = Err fault.Usage
+
+-- behind `--since`: a time, and these words
+abbrev pub since_of : Order → List (List ℕ) → Result Request Fault
+since_of by [] = Err fault.Usage
+since_of by (seconds ∷ words) = recent_of by (number_in 10 seconds) words
+
+-- behind the name of an order: maybe an option, and these words
+abbrev pub in_order_of : Order → List (List ℕ) → Result Request Fault
+in_order_of by [] = listed_of by 2 []
+in_order_of by (option ∷ words) =
+    if bytes_eq option (codes "--first-parent") then chosen_of (by_first_parents by) 3 words
+    else if bytes_eq option (codes "--since") then since_of by words
+    else listed_of by 2 (option ∷ words)
+
+-- one id, which is word n
+abbrev pub file_of : (ending n : ℕ) → List ℕ → Result Request Fault
+file_of ending n id = if begins_with_caret id then Err fault.Usage else files_from ending n (id_from_hex id)
+
+-- one id, and maybe `-z` before it
+abbrev pub files_of : List (List ℕ) → Result Request Fault
+files_of [] = Err fault.Usage
+files_of (id ∷ []) = file_of 10 2 id
+files_of (option ∷ id ∷ []) = if bytes_eq option (codes "-z") then file_of 0 3 id else Err fault.Usage
+files_of (option ∷ id ∷ next ∷ ids) = Err fault.Usage
+
+abbrev pub ahead_from : Result ObjectId HexError → Result ObjectId HexError → Result Request Fault
+ahead_from (Ok one) (Ok other) = Ok (Ahead one other)
+ahead_from (Ok one) (Err e) = Err (fault.Id 3)
+ahead_from (Err e) other = Err (fault.Id 2)
+
+-- two ids
+abbrev pub ahead_of : List (List ℕ) → Result Request Fault
+ahead_of [] = Err fault.Usage
+ahead_of (one ∷ []) = Err fault.Usage
+ahead_of (one ∷ other ∷ []) = if begins_with_caret one || begins_with_caret other then Err fault.Usage else ahead_from (id_from_hex one) (id_from_hex other)
+ahead_of (one ∷ other ∷ next ∷ ids) = Err fault.Usage
+
+-- whether the word asks for no commit to be hidden
+abbrev pub is_shown : List ℕ → Bool
+is_shown word = not (begins_with_caret word)
+
+-- an id, and ids behind it
+abbrev pub contained_among : List ObjectId → Result Request Fault
+contained_among [] = Err fault.Usage
+contained_among (tip ∷ ids) = Ok (Contained tip ids)
+
+abbrev pub contained_from : Result Ids Fault → Result Request Fault
+contained_from (Ok ids) = contained_among ids.0
+contained_from (Err e) = Err e
+
+-- two ids at least, none of them to be hidden: this is judged of all words before any is judged as an id
+abbrev pub contained_of : List (List ℕ) → Result Request Fault
+contained_of [] = Err fault.Usage
+contained_of (tip ∷ []) = Err fault.Usage
+contained_of (tip ∷ next ∷ ids) = if list_all is_shown (tip ∷ next ∷ ids) then contained_from (ids_from 2 (tip ∷ next ∷ ids)) else Err fault.Usage
+
+-- what words ask for by this name, which may be that of an order
+abbrev pub request_named : List ℕ → Option Order → List (List ℕ) → Result Request Fault
+request_named name (Some by) ids = in_order_of by ids
+request_named name None ids =
+    if bytes_eq name (codes "files") then files_of ids
+    else if bytes_eq name (codes "ahead") then ahead_of ids
+    else if bytes_eq name (codes "contains") then contained_of ids
+    else Err fault.Usage
+
+-- what words ask for, or why they are no command
+abbrev pub request_of : List (List ℕ) → Result Request Fault
+request_of [] = Err fault.Usage
+request_of (name ∷ ids) = request_named name (order_named name) ids

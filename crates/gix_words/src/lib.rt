@@ -1,0 +1,10 @@
+//! What the words of a command ask for, and the words that say why a run failed.
+//!
+//! [`read_command`] says which [`Command`] the words are, or that they are none. A [`Fault`] says why a run failed.
+#![tactic(auto)]
+
+mod fault;
+mod words;
+
+pub use fault::Fault;
+pub use words::{Command, Order, read_command};

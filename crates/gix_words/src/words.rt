@@ -1,0 +1,370 @@
+//! The words of a command.
+ghost use Rattle.std.specs.Prelude.{◌≡◌, ◌≤◌, IfSome, map, string_bytes};
+ghost use Rattle.std.specs.List.{list_all};
+ghost use Rattle.gix_words.specs.Words.{Gives, Tells, AddsId, begins_with_caret, number_in, request_of_command, request_of, order_named, by_first_parents, by_cutoff, ids_from, commits_of, listed_of, since_of, in_order_of, file_of, files_of, ahead_of, is_shown, contained_among, contained_of};
+
+use crate::fault::Fault;
+use gix_parts::hash::ObjectId;
+use gix_traverse::commit::simple::{CommitTimeOrder, Sorting};
+use gix_traverse::commit::{Parents, topo};
+use std::alloc::{AllocError, Global};
+
+/// The order of a walk over commits.
+#[derive(Clone, Copy)]
+pub enum Order {
+    /// In the order in which commits are met, or in one by time, through these parents.
+    Simple { parents: Parents, sorting: Sorting },
+    /// No commit before its children.
+    Topo(topo::Sorting),
+}
+
+/// What the words ask for.
+#[derive(Drop)]
+pub enum Command {
+    /// The commits that the tips reach and the hidden ones don't, in an order. Where there is a limit, the first of them, as many at most.
+    Commits {
+        order: Order,
+        limit: Option<u64>,
+        tips: Vec<ObjectId>,
+        hidden: Vec<ObjectId>,
+    },
+    /// The entries of the tree of this id, and of the trees in it, each with a byte behind it.
+    Files {
+        ending: u8,
+        tree: ObjectId,
+    },
+    /// How many commits the one reaches and the other doesn't, and how many the other reaches and the one doesn't.
+    Ahead {
+        one: ObjectId,
+        other: ObjectId,
+    },
+    /// Those of the ids that the tip reaches.
+    Contained {
+        tip: ObjectId,
+        ids: Vec<ObjectId>,
+    },
+}
+
+/// The command that the words are: `breadth`, `newest`, `oldest`, `topo` or `date`, maybe an option, maybe `-n` and a limit, ids of tips, one
+/// at least, and ids of commits to be hidden, each after a `^`; or `files` and one id; or `ahead` and two ids; or `contains` and two ids at
+/// least. `breadth` has the option `--first-parent`, and `newest` and `oldest` have `--since` and a time. An id is 40 or 64 hex digits, a
+/// limit 1 to 9 decimal digits, a time 1 to 10.
+///
+/// # Errors
+/// `Usage` where the words are no command, `Id` at the first word that has to be an id and is none, `Memory`.
+pub fn read_command(alloc: Global, words: &[String]) -> Result<Command, Fault>
+    ensures { Gives request_of_command result (request_of (map string_bytes words.now)) }
+{
+    let Some((name, ids)) = words.split_first() else {
+        return Err(Fault::Usage);
+    };
+    if let Some(order) = order_named(name) {
+        return in_order(alloc, order, ids);
+    }
+    if name.as_str() == "files" {
+        return files(ids);
+    }
+    if name.as_str() == "ahead" {
+        return ahead(ids);
+    }
+    if name.as_str() == "contains" {
+        return contained(alloc, ids);
+    }
+    Err(Fault::Usage)
+}
+
+/// The order of the walk over commits that this is the name of.
+fn order_named(name: &String) -> Option<Order>
+    ensures { result ≡ order_named (string_bytes name.now) }
+{
+    if name.as_str() == "breadth" {
+        return Some(in_simple_order(Sorting::BreadthFirst));
+    }
+    if name.as_str() == "newest" {
+        let newest = Sorting::ByCommitTime(CommitTimeOrder::NewestFirst);
+        return Some(in_simple_order(newest));
+    }
+    if name.as_str() == "oldest" {
+        let oldest = Sorting::ByCommitTime(CommitTimeOrder::OldestFirst);
+        return Some(in_simple_order(oldest));
+    }
+    if name.as_str() == "topo" {
+        return Some(Order::Topo(topo::Sorting::TopoOrder));
+    }
+    if name.as_str() == "date" {
+        return Some(Order::Topo(topo::Sorting::DateOrder));
+    }
+    None
+}
+
+/// The order through all parents.
+fn in_simple_order(sorting: Sorting) -> Order
+    ensures { result ≡ Order.Simple Parents.All sorting }
+{
+    Order::Simple {
+        parents: Parents::All,
+        sorting,
+    }
+}
+
+/// The walk over commits that the words after the name of its order ask for: ids, maybe with an option and a limit before them.
+fn in_order(alloc: Global, order: Order, words: &[String]) -> Result<Command, Fault>
+    ensures { Gives request_of_command result (in_order_of order (map string_bytes words.now)) }
+{
+    let [option, behind @ ..] = words else {
+        return listed(alloc, order, words, 2);
+    };
+    if option.as_str() == "--first-parent" {
+        let Some(order) = by_first_parents(order) else {
+            return Err(Fault::Usage);
+        };
+        return listed(alloc, order, behind, 3);
+    }
+    if option.as_str() == "--since" {
+        return since(alloc, order, behind);
+    }
+    listed(alloc, order, words, 2)
+}
+
+/// The order, which has no option, through first parents alone.
+fn by_first_parents(order: Order) -> Option<Order>
+    ensures { result ≡ by_first_parents order }
+{
+    match order {
+        Order::Simple {
+            sorting: Sorting::BreadthFirst,
+            ..
+        } => Some(Order::Simple {
+            parents: Parents::First,
+            sorting: Sorting::BreadthFirst,
+        }),
+        _ => None,
+    }
+}
+
+/// The order, which has no option, without what is older than a time.
+fn by_cutoff(seconds: i64, order: Order) -> Option<Order>
+    ensures { result ≡ by_cutoff seconds order }
+{
+    match order {
+        Order::Simple {
+            parents,
+            sorting: Sorting::ByCommitTime(order),
+        } => Some(Order::Simple {
+            parents,
+            sorting: Sorting::ByCommitTimeCutoff { order, seconds },
+        }),
+        _ => None,
+    }
+}
+
+/// The walk over commits that the words after the name of its order and `--since` ask for: a time, and ids, maybe with a limit before them.
+fn since(alloc: Global, order: Order, words: &[String]) -> Result<Command, Fault>
+    ensures { Gives request_of_command result (since_of order (map string_bytes words.now)) }
+{
+    let [seconds, behind @ ..] = words else {
+        return Err(Fault::Usage);
+    };
+    let Some(seconds) = number_in(seconds, 10) else {
+        return Err(Fault::Usage);
+    };
+    let Some(order) = by_cutoff(seconds as i64, order) else {
+        return Err(Fault::Usage);
+    };
+    listed(alloc, order, behind, 4)
+}
+
+/// The walk over commits that these words ask for: ids, maybe with a limit before them. The first of them is the word of this number.
+fn listed(alloc: Global, order: Order, words: &[String], number: usize) -> Result<Command, Fault>
+    requires few { number ≤ 4 }
+    ensures { Gives request_of_command result (listed_of order number (map string_bytes words.now)) }
+{
+    let [option, limit, ids @ ..] = words else {
+        return commits(alloc, order, None, words, number);
+    };
+    if option.as_str() != "-n" {
+        return commits(alloc, order, None, words, number);
+    }
+    let Some(limit) = number_in(limit, 9) else {
+        return Err(Fault::Usage);
+    };
+    commits(alloc, order, Some(limit), ids, number + 2)
+}
+
+/// The number that 1 to so many decimal digits spell.
+fn number_in(word: &String, most: usize) -> Option<u64>
+    requires few { most ≤ 10 }
+    ensures value { result ≡ number_in most (string_bytes word.now) }
+    ensures small { IfSome result (λ n. n ≤ 9999999999) }
+{
+    number_of(word.as_bytes(), most)
+}
+
+/// The number that 1 to so many decimal digits spell.
+fn number_of(digits: &[u8], most: usize) -> Option<u64>
+    requires few { most ≤ 10 }
+    ensures value { result ≡ number_in most digits.now }
+    ensures small { IfSome result (λ n. n ≤ 9999999999) }
+{
+    if digits.is_empty() || digits.len() > most {
+        return None;
+    }
+    let mut number = 0;
+    for digit in digits {
+        if !digit.is_ascii_digit() {
+            return None;
+        }
+        number = 10 * number + u64::from(digit - b'0');
+    }
+    Some(number)
+}
+
+/// The walk over commits from these ids, of which one at least must be a tip. The first of them is the word of this number.
+fn commits(
+    alloc: Global,
+    order: Order,
+    limit: Option<u64>,
+    ids: &[String],
+    number: usize,
+) -> Result<Command, Fault>
+    requires few { number ≤ 6 }
+    ensures { Gives request_of_command result (commits_of order limit number (map string_bytes ids.now)) }
+{
+    if are_hidden(ids) {
+        return Err(Fault::Usage);
+    }
+    let (tips, hidden) = read_ids(alloc, ids, number)?;
+    Ok(Command::Commits {
+        order,
+        limit,
+        tips,
+        hidden,
+    })
+}
+
+/// The tree of this id, which must be alone behind `-z`, or without it.
+fn files(ids: &[String]) -> Result<Command, Fault>
+    ensures { Tells request_of_command result (files_of (map string_bytes ids.now)) }
+{
+    match ids {
+        [tree] => file(b'\n', tree, 2),
+        [option, tree] if option.as_str() == "-z" => file(0, tree, 3),
+        _ => Err(Fault::Usage),
+    }
+}
+
+/// The tree of this id, which is the word of this number.
+fn file(ending: u8, tree: &String, number: usize) -> Result<Command, Fault>
+    ensures { Tells request_of_command result (file_of ending number (string_bytes tree.now)) }
+{
+    if begins_with_caret(tree) {
+        return Err(Fault::Usage);
+    }
+    match ObjectId::from_hex(tree.as_bytes()) {
+        Ok(tree) => Ok(Command::Files { ending, tree }),
+        Err(_) => Err(Fault::Id(number)),
+    }
+}
+
+/// The two commits of these ids, which must be alone.
+fn ahead(ids: &[String]) -> Result<Command, Fault>
+    ensures { Tells request_of_command result (ahead_of (map string_bytes ids.now)) }
+{
+    let [one, other] = ids else {
+        return Err(Fault::Usage);
+    };
+    if begins_with_caret(one) || begins_with_caret(other) {
+        return Err(Fault::Usage);
+    }
+    let Ok(one) = ObjectId::from_hex(one.as_bytes()) else {
+        return Err(Fault::Id(2));
+    };
+    let Ok(other) = ObjectId::from_hex(other.as_bytes()) else {
+        return Err(Fault::Id(3));
+    };
+    Ok(Command::Ahead { one, other })
+}
+
+/// The commits of these ids, two at least, of which the first is the tip.
+fn contained(alloc: Global, ids: &[String]) -> Result<Command, Fault>
+    ensures { Gives request_of_command result (contained_of (map string_bytes ids.now)) }
+{
+    if ids.len() < 2 || !are_shown(ids) {
+        return Err(Fault::Usage);
+    }
+    let (tips, _hidden) = read_ids(alloc, ids, 2)?;
+    contained_among(tips)
+}
+
+/// The first of the ids is the tip.
+fn contained_among(mut ids: Vec<ObjectId>) -> Result<Command, Fault>
+    ensures { Tells request_of_command result (contained_among ids.items) }
+{
+    if ids.is_empty() {
+        return Err(Fault::Usage);
+    }
+    let tip = ids.remove(0);
+    Ok(Command::Contained { tip, ids })
+}
+
+/// Whether no word names a commit that is to be hidden.
+fn are_shown(ids: &[String]) -> bool
+    ensures { result ≡ list_all is_shown (map string_bytes ids.now) }
+{
+    for id in ids {
+        if begins_with_caret(id) {
+            return false;
+        }
+    }
+    true
+}
+
+/// Whether each word names a commit that is to be hidden.
+fn are_hidden(ids: &[String]) -> bool
+    ensures { result ≡ list_all begins_with_caret (map string_bytes ids.now) }
+{
+    for id in ids {
+        if !begins_with_caret(id) {
+            return false;
+        }
+    }
+    true
+}
+
+/// Whether the word names a commit that is to be hidden.
+fn begins_with_caret(word: &String) -> bool
+    ensures { result ≡ begins_with_caret (string_bytes word.now) }
+{
+    matches!(word.as_bytes(), [b'^', ..])
+}
+
+/// The ids of tips that the words spell, and the ids of commits to be hidden. The first of these words is the word of this number.
+fn read_ids(
+    alloc: Global,
+    words: &[String],
+    number: usize,
+) -> Result<(Vec<ObjectId>, Vec<ObjectId>), Fault>
+    requires few { number ≤ 6 }
+    ensures { Gives (λ ids. (ids.0.items, ids.1.items)) result (ids_from number (map string_bytes words.now)) }
+{
+    let mut tips = Vec::new(alloc);
+    let mut hidden = Vec::new(alloc);
+    for (i, word) in words.iter().enumerate() {
+        match word.as_bytes() {
+            [b'^', digits @ ..] => add_id(&mut hidden, digits, i + number)?,
+            digits => add_id(&mut tips, digits, i + number)?,
+        }
+    }
+    Ok((tips, hidden))
+}
+
+/// Adds the id that the digits of the word of this number spell.
+fn add_id(ids: &mut Vec<ObjectId>, digits: &[u8], number: usize) -> Result<(), Fault>
+    ensures { AddsId digits.now number ids.old.items result ids.new.items }
+{
+    let Ok(id) = ObjectId::from_hex(digits) else {
+        return Err(Fault::Id(number));
+    };
+    ids.push(id).map_err(AllocError::from)?;
+    Ok(())
+}
