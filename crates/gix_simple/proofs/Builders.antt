@@ -6,7 +6,7 @@ use Rattle.std.proofs.Math.Bool.{and-true}
 use Rattle.std.specs.FinSet as set
 use Rattle.std.specs.Iterator.{Yields}
 use Rattle.gix_hash.specs.declared.ObjectId.{ObjectId}
-use Rattle.gix_hash.specs.Id.{is_among}
+use Rattle.gix_hash.specs.Id.{id_cmp, is_among}
 use Rattle.gix_object.specs.Object.{Objects}
 use Rattle.gix_hash.proofs.Ids.Membership.{among_from, among_is, Contains-cons_cases, no_member}
 use Rattle.gix_revwalk.specs.declared.Parents.{Parents}
@@ -103,15 +103,18 @@ module _ {F P : Type 0} (objects : F → Objects) (faulty : F → ObjectId → T
 
 module _ {F P : Type 0} (objects : F → Objects) (faulty : F → ObjectId → Type 0) (answers : P → ObjectId → Bool → P → Type 0) (accepts : ObjectId → Bool) (store : F) (predicate : P) (by_test : AnswersBy answers predicate accepts) where
   -- what every builder call keeps
-  record Built (walk : SimpleWalk F P) : Type 0 where
-    tested : AnswersBy answers walk.predicate accepts
-    same_store : walk.store ≡ store
-    accepted : (i : ObjectId) → is_among i (ids_of walk.pending) ≡ true → accepts i ≡ true
-    seen : (i : ObjectId) → set.contains walk.seen i ≡ true → (is_among i (ids_of walk.pending) ≡ true) ⊎ (accepts i ≡ false)
-    remembered : (i : ObjectId) → set.contains walk.remembered i ≡ true → accepts i ≡ true
-    shown : (i : ObjectId) → set.contains walk.hidden i ≡ false
-    unbegun : walk.begun ≡ false
-    timely : (order : CommitTimeOrder) → time_order mode.All walk.sorting ≡ Some order → (p : Pending) → Contains walk.pending p → p.time ≡ time_of (objects walk.store) p.id
+  record Holds (now : P) (at : F) (pending : List Pending) (met yes marks : set.FinSet id_cmp) (begun : Bool) (order : Sorting) : Type 0 where
+    tested : AnswersBy answers now accepts
+    same_store : at ≡ store
+    accepted : (i : ObjectId) → is_among i (ids_of pending) ≡ true → accepts i ≡ true
+    seen : (i : ObjectId) → set.contains met i ≡ true → (is_among i (ids_of pending) ≡ true) ⊎ (accepts i ≡ false)
+    remembered : (i : ObjectId) → set.contains yes i ≡ true → accepts i ≡ true
+    shown : (i : ObjectId) → set.contains marks i ≡ false
+    unbegun : begun ≡ false
+    timely : (by : CommitTimeOrder) → time_order mode.All order ≡ Some by → (p : Pending) → Contains pending p → p.time ≡ time_of (objects at) p.id
+
+  abbrev Built : SimpleWalk F P → Type 0
+  Built walk = Holds walk.predicate walk.store walk.pending walk.seen walk.remembered walk.hidden walk.begun walk.sorting
 
   made_built : (tips : List ObjectId) (walk : SimpleWalk F P) → IsMade objects faulty answers store predicate tips walk → Built walk
   made_built tips walk m =
@@ -181,15 +184,9 @@ module _ {F P : Type 0} (objects : F → Objects) (faulty : F → ObjectId → T
       let w : Built walk = built_all tips b in
       record { tested = w.tested; same_store = w.same_store; accepted = w.accepted; seen = w.seen; remembered = w.remembered; shown = w.shown; unbegun = w.unbegun; timely = λ order e. cc }
   built_all tips (by_time {walk = walk} {new = new} {by = sorting} b s) = by_time_built walk new sorting (built_all tips b) s
-  built_all tips (hides {walk = walk} b) =
-      let w : Built walk = built_all tips b in
-      record { tested = w.tested; same_store = w.same_store; accepted = w.accepted; seen = w.seen; remembered = w.remembered; shown = w.shown; unbegun = w.unbegun; timely = w.timely }
-  built_all tips (walks {walk = walk} b) =
-      let w : Built walk = built_all tips b in
-      record { tested = w.tested; same_store = w.same_store; accepted = w.accepted; seen = w.seen; remembered = w.remembered; shown = w.shown; unbegun = w.unbegun; timely = w.timely }
-  built_all tips (reads {walk = walk} b) =
-      let w : Built walk = built_all tips b in
-      record { tested = w.tested; same_store = w.same_store; accepted = w.accepted; seen = w.seen; remembered = w.remembered; shown = w.shown; unbegun = w.unbegun; timely = w.timely }
+  built_all tips (hides b) = built_all tips b
+  built_all tips (walks b) = built_all tips b
+  built_all tips (reads b) = built_all tips b
 
   -- the law
   pub built : (tips : List ObjectId) (walk : SimpleWalk F P) → IsBuilt objects faulty answers store predicate tips walk → IsFresh objects walk accepts × AnswersBy answers walk.predicate accepts × (walk.store ≡ store)

@@ -1,5 +1,5 @@
 -- A walk without hidden tips, none of whose answers is a fault, gives the commits in order by the parents that texts name.
-use Rattle.std.specs.Prelude.{◌≡◌, ◌&&◌, not, List, [], ◌∷◌, filter, Bool, true, false, Option, Result, Err, Contains, All}
+use Rattle.std.specs.Prelude.{◌≡◌, ◌&&◌, not, List, [], ◌∷◌, filter, Bool, true, false, Option, Result, Err, Contains, All, None}
 use Rattle.std.specs.Iterator.{Drains, Yields}
 use Rattle.std.proofs.Common.{refl, sym, subst, inl, ◌∙◌}
 use Rattle.std.proofs.Math.Bool.{and-true}
@@ -15,14 +15,14 @@ use Rattle.gix_revwalk.specs.Asking.{itself, AnswersBy}
 use Rattle.gix_revwalk.specs.Commits.{by_mode, time_of}
 use Rattle.gix_revwalk.specs.Ids.{ids_of}
 use Rattle.gix_revwalk.specs.Texts.{text_next}
-use Rattle.gix_revwalk.proofs.Drained.{at_end, at_first}
+use Rattle.gix_revwalk.proofs.Drained.{at_end}
 use Rattle.gix_simple.specs.declared.Error.{Error}
 use Rattle.gix_simple.specs.declared.Error.TheVariants as error
 use Rattle.gix_simple.specs.Laws.{IsFresh, IsInOrder, IsFaultlessRun, IsBeginning, BeginsTextOrder, GivesTextOrder, kept_of, next_by_text}
 use Rattle.gix_simple.specs.Walk.{SimpleWalk, time_order, cutoff, is_older, Steps, unhidden, paints, faulty_history, no_memory, Next, initial, later}
 use Rattle.gix_simple.proofs.Treated.{Setting}
 use Rattle.gix_simple.proofs.OneStep.{IsCommit, reads_text}
-use Rattle.gix_simple.proofs.WholeWalk.{Known, Runs, MayStep, RunOf, BegunOf, run, begun_run}
+use Rattle.gix_simple.proofs.WholeWalk.{Known, Runs, RunsTo, none_yet, BegunOf, begun_run, next_steps, ended_run}
 use Rattle.gix_simple.proofs.Theorem.{set_up, begins_so, begins_from, in_order_from}
 use Rattle.gix_simple.proofs.Corollaries.{all_kept, begun_once, each_once}
 
@@ -65,24 +65,24 @@ module _ {F P : Type 0} (objects : F → Objects) (faulty : F → ObjectId → T
   steps (initial fresh (no_memory some hidden left)) = absurd (hidden open_to)
   steps (later b s) = absurd (true≢false (sym b ∙ is_fresh.unbegun))
 
-  may : (list : List (Result Info Error)) → Drains (Next objects faulty answers) w list → MayStep objects faulty answers opened list
-  may [] drawn = let end = at_end (Next objects faulty answers) w drawn in (end.0, steps end.1)
-  may (answer ∷ left) drawn = let first = at_first (Next objects faulty answers) w answer left drawn in (first.0, steps first.1, first.2)
-
   recent_is : kept_of (objects w.store) texts w.parents accepts (λ i. false) (cutoff w.parents w.sorting) ≡ next_by_text objects w accepts
   recent_is = λ k c. filter (λ i. and-true (accepts i) k && not (is_older (time_of (objects w.store) i) (cutoff w.parents w.sorting))) (by_mode w.parents (texts c))
 
-  ran : (list : List (Result Info Error)) → RunOf objects faulty answers setting [] list → GivesTextOrder objects w accepts list
-  ran list r =
+  ran : (list : List (Result Info Error)) {last new : SimpleWalk F P} → RunsTo objects faulty answers setting [] list last → Steps objects faulty answers last None new → GivesTextOrder objects w accepts list
+  ran list to ends =
+      let r = to.begun in
       let ordered : IsInOrder (time_order w.parents w.sorting) (time_of (objects w.store)) (next_by_text objects w accepts) (ids_of w.pending) r.ids =
       transport (λ k. IsInOrder (time_order w.parents w.sorting) (time_of (objects w.store)) (recent_is k) (all_kept (ids_of w.pending) k) r.ids)
-      (in_order_from (time_order w.parents w.sorting) (time_of (objects w.store)) (kept_of (objects w.store) texts w.parents accepts (λ i. false) (cutoff w.parents w.sorting)) (filter (λ i. not false) (ids_of w.pending)) r.ids r.order) in
+      (in_order_from (time_order w.parents w.sorting) (time_of (objects w.store)) (kept_of (objects w.store) texts w.parents accepts (λ i. false) (cutoff w.parents w.sorting)) (filter (λ i. not false) (ids_of w.pending)) r.ids r.begins (ended_run objects faulty answers setting [] to ends)) in
       let each = each_once (time_order w.parents w.sorting) (time_of (objects w.store)) (next_by_text objects w accepts) (ids_of w.pending) r.ids ordered in
       record { ids = r.ids; given = r.given_as; in_order = ordered; once = each.0; reached = each.1 }
 
   -- the law
   pub text_order : (list : List (Result Info Error)) → ((e : Error) → Contains list (Err e) → ⊥) → Drains (Next objects faulty answers) w list → GivesTextOrder objects w accepts list
-  text_order list commits drawn = ran list (run objects faulty answers setting knows list opened [] runs (only_commits list commits) (may list drawn))
+  text_order [] commits drawn = let end = at_end (Next objects faulty answers) w drawn in ran [] (none_yet objects faulty answers setting [] opened runs) (steps end.1)
+  text_order (answer ∷ left) commits drawn =
+      let r = begun_run objects faulty answers setting knows answer left opened drawn.1.1.0 drawn.1.0 [] runs (only_commits (answer ∷ left) commits) (steps drawn.1.1.1) drawn.1.1.2 in
+      ran (answer ∷ left) r (next_steps objects faulty answers drawn.1.0 r.runs.rest.begun drawn.1.2)
 
   begun : (list : List (Result Info Error)) → BegunOf objects faulty answers setting [] list → BeginsTextOrder objects w accepts list
   begun list r =
@@ -96,7 +96,7 @@ module _ {F P : Type 0} (objects : F → Objects) (faulty : F → ObjectId → T
   pub text_beginning : (list : List (Result Info Error)) (last : SimpleWalk F P) → ((e : Error) → Contains list (Err e) → ⊥) → Yields (Next objects faulty answers) w list last → BeginsTextOrder objects w accepts list
   text_beginning [] last commits drawn = begun [] (record { ids = []; given_as = tt; begins = λ k i e. cc })
   text_beginning (answer ∷ left) last commits drawn =
-      begun (answer ∷ left) (begun_run objects faulty answers setting knows answer left opened drawn.0 last [] runs (only_commits (answer ∷ left) commits) (steps drawn.1) drawn.2)
+      begun (answer ∷ left) (begun_run objects faulty answers setting knows answer left opened drawn.0 last [] runs (only_commits (answer ∷ left) commits) (steps drawn.1) drawn.2).begun
 
 pub faultless : {F P : Type 0} (objects : F → Objects) (faulty : F → ObjectId → Type 0) (answers : P → ObjectId → Bool → P → Type 0) (walk : SimpleWalk F P) (accepts : ObjectId → Bool) (list : List (Result Info Error)) → IsFaultlessRun objects faulty answers walk accepts list → GivesTextOrder objects walk accepts list
 faultless objects faulty answers walk accepts list r = text_order objects faulty answers walk accepts r.by_test r.fresh r.open_to r.agreeing list r.commits r.drawn

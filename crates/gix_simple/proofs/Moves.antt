@@ -89,6 +89,10 @@ fewer_held o old new p h = fewer_then (go o h) record {
 pub fewer_within : {ps qs : List Pending} → Fewer ps qs → (i : ObjectId) → Contains (ids_of ps) i → Contains (ids_of qs) i
 fewer_within {ps} {qs} f i m = among_is i (ids_of qs) (times_is_among i (ids_of qs) (le_trans (among_times i (ids_of ps) (among_from i (ids_of ps) m)) (f.as_often i)))
 
+-- rows that may go twice may go
+pub rows_then : {a b c : List GraphRow} → (b ≡ a) ⊎ (b ≡ []) → (c ≡ b) ⊎ (c ≡ []) → (c ≡ a) ⊎ (c ≡ [])
+rows_then early late = ⊎_elim (λ e. ⊎_elim (λ f. inl (e ∙ f)) (λ f. inr (e ∙ f)) early) inr late
+
 -- what is given has this id and this generation
 abbrev pub IsGivenAs : ObjectId → Option ℕ → Result Info Error → Type 0
 IsGivenAs i generation (Ok info) = (info.id ≡ i) × (info.generation ≡ generation)
@@ -140,7 +144,7 @@ module _ {F P : Type 0} (objects : F → Objects) (faulty : F → ObjectId → T
   follows_then : {w v u : SimpleWalk F P} → Follows w v → Follows v u → Follows w u
   follows_then {u = u} a b = record {
     same = b.same ∙ ap (λ (x : SimpleWalk F P). record x { rows = u.rows; pending = u.pending; hidden_tips = u.hidden_tips; hidden = u.hidden; text = u.text; current = u.current }) a.same;
-    rows = ⊎_elim (λ e. ⊎_elim (λ f. inl (e ∙ f)) (λ f. inr (e ∙ f)) a.rows) inr b.rows;
+    rows = rows_then a.rows b.rows;
     fewer = fewer_then b.fewer a.fewer;
   }
 
@@ -193,7 +197,7 @@ module _ {F P : Type 0} (objects : F → Objects) (faulty : F → ObjectId → T
   takes_moves {v = v} {p = p} f (not_found u fault) = takes {how = GoesOn} None (unrowed_follows v p f) (rests (λ s. cc)) (record { same = refl; rows = inl refl; fewer = fewer_same _ }) tt
   takes_moves {v = v} {p = p} f (no_memory left) =
       takes {how = GoesOn} None f (rests (λ s. cc))
-      (record { same = refl; rows = ⊎_elim inl (λ e. ⊎_elim (λ k. inl (e ∙ k)) (λ k. inr (e ∙ k)) (kept_either v.rows (row_of v.rows p.id))) left; fewer = fewer_none [] _ refl }) tt
+      (record { same = refl; rows = ⊎_elim inl (λ e. rows_then (kept_either v.rows (row_of v.rows p.id)) (inl e)) left; fewer = fewer_none [] _ refl }) tt
 
   pub fewer_chosen : (w : SimpleWalk F P) (p : Pending) (others : List Pending) → Chooses objects faulty answers w p others → Fewer (p ∷ others) w.pending
   fewer_chosen w p others (first t e) = subst (Fewer (p ∷ others)) (sym e) (fewer_same _)

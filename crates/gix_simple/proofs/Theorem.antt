@@ -25,7 +25,7 @@ use Rattle.gix_revwalk.specs.Ids.{ids_of, AreDistinct}
 use Rattle.gix_revwalk.specs.Asking.{itself, AnswersBy}
 use Rattle.gix_simple.specs.Laws.{IsFresh, IsNoRefusal, IsInOrder, IsBeginning, MeetsWhole, GivesInOrder, GivesBeginning, starts_of, next_of, is_kept}
 use Rattle.gix_object.specs.CommitItems.{commit_items}
-use Rattle.gix_revwalk.proofs.Drained.{at_end, at_first}
+use Rattle.gix_revwalk.proofs.Drained.{at_end}
 use Rattle.gix_revwalk.proofs.Committer.{fault_unread}
 use Rattle.gix_paint.proofs.Invariant.{own_history}
 use Rattle.gix_hash.proofs.Ids.Membership.{same_is, among_from, among_is, Contains-here, Contains-there, no_member}
@@ -33,7 +33,7 @@ use Rattle.gix_revwalk.proofs.NewIds.{fresh, times, times-fresh, among-filter}
 use Rattle.gix_simple.proofs.Treated.{Setting, Stands}
 use Rattle.gix_simple.proofs.OneStep.{reads_whole, whole_well}
 use Rattle.gix_simple.proofs.PendingIs.{IsQueue, IsNextOne}
-use Rattle.gix_simple.proofs.WholeWalk.{Known, Runs, RunOf, run, BegunOf, begun_run}
+use Rattle.gix_simple.proofs.WholeWalk.{Known, Runs, BegunOf, RunsTo, none_yet, begun_run, next_steps, ended_run}
 use Rattle.gix_revwalk.proofs.ReadsWhole.{walked_within, no_fault}
 use Rattle.gix_hash.proofs.Lists.{filter_within, filter_all}
 
@@ -83,9 +83,16 @@ ids-filter p q (x ∷ ps) h = go (q x.id) (h x.id (Contains-here x.id (ids_of ps
     go true e r = ap (λ b. ids_of (cond (not b) (x ∷ filter (λ x. not (p x.id)) ps) (filter (λ x. not (p x.id)) ps))) e ∙ r
     go false e r = ap (λ b. ids_of (cond (not b) (x ∷ filter (λ x. not (p x.id)) ps) (filter (λ x. not (p x.id)) ps))) e ∙ ap (λ ys. x.id ∷ ys) r
 
-pub in_order_from : (o : Option CommitTimeOrder) (time : ObjectId → ℤ) (next : ObjectId → List ObjectId) (starts ids : List ObjectId) → ((k : ℕ) → k ≤ length ids → IsNextOne o time next starts (take k ids) (slice_get ids k)) → IsInOrder o time next starts ids
-in_order_from None time next starts ids h = h
-in_order_from (Some order) time next starts ids h = h
+each_place : (Q : List ObjectId → Option ObjectId → Type 0) (ids : List ObjectId) → ((k : ℕ) (i : ObjectId) → slice_get ids k ≡ Some i → Q (take k ids) (Some i)) → Q ids None → (k : ℕ) → k ≤ length ids → Q (take k ids) (slice_get ids k)
+each_place Q [] h e zero b = e
+each_place Q [] h e (suc k) b = absurd (omega arith)
+each_place Q (x ∷ ids) h e zero b = h zero x refl
+each_place Q (x ∷ ids) h e (suc k) b = each_place (λ xs o. Q (x ∷ xs) o) ids (λ j i f. h (suc j) i f) e k (omega arith)
+
+pub in_order_from : (o : Option CommitTimeOrder) (time : ObjectId → ℤ) (next : ObjectId → List ObjectId) (starts ids : List ObjectId)
+    → ((k : ℕ) (i : ObjectId) → slice_get ids k ≡ Some i → IsNextOne o time next starts (take k ids) (Some i)) → IsNextOne o time next starts ids None → IsInOrder o time next starts ids
+in_order_from None time next starts ids h e = each_place (IsNextOne None time next starts) ids h e
+in_order_from (Some order) time next starts ids h e = each_place (IsNextOne (Some order) time next starts) ids h e
 
 pub begins_from : (o : Option CommitTimeOrder) (time : ObjectId → ℤ) (next : ObjectId → List ObjectId) (starts ids : List ObjectId) → ((k : ℕ) (i : ObjectId) → slice_get ids k ≡ Some i → IsNextOne o time next starts (take k ids) (Some i)) → IsBeginning o time next starts ids
 begins_from None time next starts ids h = λ k b. let e : (i : ObjectId) × (slice_get ids k ≡ Some i) = in_place ids k b in e.1 ∙ h k e.0 e.1
@@ -228,24 +235,28 @@ module _ {F P : Type 0} (objects : F → Objects) (faulty : F → ObjectId → T
   begins ok (initial fresh s) = first_begins ok s
   begins ok (later b s) = absurd (true≢false (sym b ∙ is_fresh.unbegun))
 
-  ran : (marks : set.FinSet id_cmp) (list : List (Result Info Error)) → RunOf objects faulty answers (setting marks) [] list → GivesInOrder objects w accepts hides list
-  ran marks list r = record { ids = r.ids; given = r.given_as; in_order = in_order_from (time_order w.parents w.sorting) (time_of (objects w.store)) next_ids (starts_of w hides) r.ids r.order }
+  ran : (marks : set.FinSet id_cmp) (list : List (Result Info Error)) {last new : SimpleWalk F P} → RunsTo objects faulty answers (setting marks) [] list last → Steps objects faulty answers last None new → GivesInOrder objects w accepts hides list
+  ran marks list r steps = record {
+    ids = r.begun.ids;
+    given = r.begun.given_as;
+    in_order = in_order_from (time_order w.parents w.sorting) (time_of (objects w.store)) next_ids (starts_of w hides) r.begun.ids r.begun.begins (ended_run objects faulty answers (setting marks) [] r steps);
+  }
 
   -- the theorem
   pub gives_in_order : (list : List (Result Info Error)) → All IsNoRefusal list → Drains (Next objects faulty answers) w list → GivesInOrder objects w accepts hides list
   gives_in_order [] ok drawn =
       let end = at_end (Next objects faulty answers) w drawn in
       let b : Begins None end.0 = begins (λ a e. cc) end.1 in
-      ran b.marks [] (run objects faulty answers (setting b.marks) b.known [] b.mid [] b.runs ok (end.0, b.steps))
+      ran b.marks [] (none_yet objects faulty answers (setting b.marks) [] b.mid b.runs) b.steps
   gives_in_order (answer ∷ left) ok drawn =
-      let first = at_first (Next objects faulty answers) w answer left drawn in
-      let b : Begins (Some answer) first.0 = begins (λ a e. let same : answer ≡ a = cc in subst IsNoRefusal same (All-head IsNoRefusal answer left ok)) first.1 in
-      ran b.marks (answer ∷ left) (run objects faulty answers (setting b.marks) b.known (answer ∷ left) b.mid [] b.runs ok (first.0, b.steps, first.2))
+      let b : Begins (Some answer) drawn.1.1.0 = begins (λ a e. let same : answer ≡ a = cc in subst IsNoRefusal same (All-head IsNoRefusal answer left ok)) drawn.1.1.1 in
+      let r = begun_run objects faulty answers (setting b.marks) b.known answer left b.mid drawn.1.1.0 drawn.1.0 [] b.runs ok b.steps drawn.1.1.2 in
+      ran b.marks (answer ∷ left) r (next_steps objects faulty answers drawn.1.0 (r.runs.rest.begun ∙ b.known.begun) drawn.1.2)
 
   -- and over a walk that is drawn as far as one likes
   pub gives_beginning : (list : List (Result Info Error)) (last : SimpleWalk F P) → All IsNoRefusal list → Yields (Next objects faulty answers) w list last → GivesBeginning objects w accepts hides list
   gives_beginning [] last ok drawn = record { ids = []; given = tt; begins = begins_from (time_order w.parents w.sorting) (time_of (objects w.store)) next_ids (starts_of w hides) [] (λ k i e. cc) }
   gives_beginning (answer ∷ left) last ok drawn =
       let b : Begins (Some answer) drawn.0 = begins (λ a e. let same : answer ≡ a = cc in subst IsNoRefusal same (All-head IsNoRefusal answer left ok)) drawn.1 in
-      let r : BegunOf objects faulty answers (setting b.marks) [] (answer ∷ left) = begun_run objects faulty answers (setting b.marks) b.known answer left b.mid drawn.0 last [] b.runs ok b.steps drawn.2 in
+      let r : BegunOf objects faulty answers (setting b.marks) [] (answer ∷ left) = (begun_run objects faulty answers (setting b.marks) b.known answer left b.mid drawn.0 last [] b.runs ok b.steps drawn.2).begun in
       record { ids = r.ids; given = r.given_as; begins = begins_from (time_order w.parents w.sorting) (time_of (objects w.store)) next_ids (starts_of w hides) r.ids r.begins }

@@ -1,5 +1,5 @@
 -- What the loops of both walks keep: the calls and the visits that were made, and what any rest of the walk makes of them.
-use Rattle.std.proofs.Common.{◌≡◌, ◌≢◌, List, [], ◌∷◌, ◌++◌, refl, sym, subst, append_assoc}
+use Rattle.std.proofs.Common.{◌≢◌, List, [], ◌∷◌, ◌++◌, refl, sym, subst, append_assoc}
 use Rattle.gix_object.specs.declared.find.existing_iter.Error.{Error as ExistingError}
 use Rattle.gix_object.specs.declared.find.existing_iter.Error.TheVariants as existing
 use Rattle.gix_tree.specs.declared.breadthfirst.Error.{Error}

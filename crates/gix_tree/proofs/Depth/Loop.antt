@@ -78,7 +78,8 @@ module _ {V : Type 0} (objects : Objects) (faulty : ObjectId → Type 0) (steps 
     ended h ne walk run = depth_ended (ends steps old All h.so_far (depth_ends (trees_of objects) (LookUpFails objects faulty) ne walk) run)
 
   -- an entry that the walk doesn't go into
-  so_far_leaves : {mid now : V} {ids : List ObjectId} {items : Items} {above : List Above} (e : TreeEntry) (a : Action) → DepthSoFar mid ids (Ok e ∷ items) above → outcome (visit_below ids e a) ≡ Leaves → Run steps mid (depth_calls (visit_below ids e a)) now → DepthSoFar now ids items above
+  so_far_leaves : {mid now : V} {ids : List ObjectId} {items : Items} {above : List Above} (e : TreeEntry) (a : Action) → DepthSoFar mid ids (Ok e ∷ items) above
+      → outcome (visit_below ids e a) ≡ Leaves → Run steps mid (depth_calls (visit_below ids e a)) now → DepthSoFar now ids items above
   so_far_leaves e a h o run = record {
     place = h.place;
     frames = h.frames;
@@ -159,7 +160,8 @@ module _ {V : Type 0} (objects : Objects) (faulty : ObjectId → Type 0) (steps 
   pub so_far_into_no_memory : (now : V) {ids : List ObjectId} {above : List Above} {left : Items} (i : ObjectId) → GoesInto now ids above i left → DepthFirst objects faulty steps root old now (Err error.Memory)
   so_far_into_no_memory now i g = ended g.so_far (λ x. cc) (script.no_memory_at_look_up (outcome_here g.so_far g.entry g.answer Enters g.enters)) (run_here g.so_far g.entry g.answer now g.run)
 
-  pub so_far_into_fails : (now : V) {ids : List ObjectId} {above : List Above} {left : Items} (i : ObjectId) (why : ExistingError) → GoesInto now ids above i left → (why ≢ existing.Memory → LookUpFails objects faulty i why)
+  pub so_far_into_fails : (now : V) {ids : List ObjectId} {above : List Above} {left : Items} (i : ObjectId) (why : ExistingError) → GoesInto now ids above i left
+      → (why ≢ existing.Memory → LookUpFails objects faulty i why)
       → DepthFirst objects faulty steps root old now (Err (error_of_find why))
   so_far_into_fails now i why g failed =
       let enters = outcome_here g.so_far g.entry g.answer Enters g.enters in

@@ -221,7 +221,8 @@ visit_more m {p} e a r calls visits at name rest =
     ∙ ap (λ l. l ++ map record_of visits) (visit_records m e a r at name) ∙ append_assoc r.records (record_of (visit p e a) ∷ []) (map record_of visits)
 
 module _ (trees : ObjectId → Option Items) (fails : ObjectId → ExistingError → Type 0) where
-  walk_records : {m : Manner} {tasks : List Task} {calls : List Call} {visits : List Visit} {end : Ending} (r : Recorded) → TaskWalk trees fails m tasks calls visits end → end ≢ Failed error.Memory → Ready m tasks r → HaveNames visits
+  walk_records : {m : Manner} {tasks : List Task} {calls : List Call} {visits : List Visit} {end : Ending} (r : Recorded) → TaskWalk trees fails m tasks calls visits end → end ≢ Failed error.Memory
+      → Ready m tasks r → HaveNames visits
       → (recorded_all (Some Path) r calls).records ≡ r.records ++ map record_of visits
   walk_records r walk.whole w f h = sym (append-nil r.records)
   walk_records r (walk.stops walk.fault) w f h = sym (append-nil r.records)
