@@ -14,7 +14,7 @@ use Rattle.gix_topo.specs.declared.Sorting.{Sorting}
 use Rattle.gix_topo.specs.Laws.{BeginsTextOrder, IsTakenFirstByText}
 use Rattle.gix_topo.specs.Walk.{TopoPlan}
 use Rattle.gix_topo.specs.WalkSet.{IsInWalk}
-use Rattle.gix_topo.proofs.Run.TextDifference.{each_by_text}
+use Rattle.gix_topo.proofs.Run.Corollaries.{each_by_text}
 use Rattle.gix_topo.proofs.Run.Theorem.{begins_text}
 use Rattle.gix_commands.specs.Histories.{AreWhole, ListsDown, ListsRead}
 use Rattle.gix_commands.specs.TopoWalked.{Walk, Answers, IsBuiltFrom, plan_from}

@@ -1,16 +1,18 @@
 -- Ready commits by their ids: those that are held, chosen, and joined.
-use Rattle.std.specs.Prelude.{◌≡◌, ◌+◌, List, [], ◌∷◌, ◌++◌, cond, Contains, IsPermutation}
-use Rattle.std.proofs.Common.{sym, ap, subst, ⊎_elim, ◌∙◌, arith, append_assoc, append-nil}
+use Rattle.std.specs.Prelude.{◌≡◌, ◌+◌, ◌≤◌, List, [], ◌∷◌, ◌++◌, Bool, true, false, ◌||◌, cond, Contains, IsPermutation}
+use Rattle.std.proofs.Common.{refl, sym, ap, subst, ⊎_elim, ◌∙◌, arith, append_assoc, append-nil}
 use Rattle.std.proofs.lemmas.List.{map-append}
 use Rattle.std.proofs.lemmas.List.Elements.{Contains-append_left, Contains-push}
 use Rattle.std.proofs.lemmas.List.Sorted.{IsPermutation-map, IsPermutation-sym, IsPermutation-append_left, IsPermutation-trans, IsPermutation-refl, Contains-permutation}
 use Rattle.gix_hash.specs.declared.ObjectId.{ObjectId}
-use Rattle.gix_hash.specs.Id.{is_same}
-use Rattle.gix_hash.proofs.Ids.Membership.{Contains-here, Contains-there, Contains-cons_cases, no_member}
+use Rattle.gix_hash.specs.Id.{is_same, is_among}
+use Rattle.gix_hash.proofs.Ids.Membership.{among-append, among_is, Contains-here, Contains-there, Contains-cons_cases, no_member}
 use Rattle.gix_topo.specs.declared.Sorting.{Sorting}
 use Rattle.gix_topo.specs.declared.Sorting.TheVariants as order
 use Rattle.gix_topo.specs.Walk.{Ready, ready_ids, HoldsReady, Chooses}
-use Rattle.gix_revwalk.proofs.NewIds.{times, times-append, times_moved}
+use Rattle.gix_revwalk.specs.Ids.{AreDistinct}
+use Rattle.gix_revwalk.proofs.NewIds.{times, times-append, times_moved, times_none, times_once}
+use Rattle.gix_topo.proofs.Readiness.IsReady.{among_by, distinct_times}
 
 pub in_ids : (rs : List Ready) (r : Ready) → Contains rs r → Contains (ready_ids rs) r.id
 in_ids [] r m = absurd (no_member r m)
@@ -62,3 +64,25 @@ chosen_in order.DateOrder ready c others h = Contains-permutation (c ∷ others)
 pub others_in : (s : Sorting) (ready : List Ready) (c : Ready) (others : List Ready) → Chooses s ready c others → (r : Ready) → Contains others r → Contains ready r
 others_in order.TopoOrder ready c others h r m = subst (λ rs. Contains rs r) (sym h) (Contains-append_left others (c ∷ []) r m)
 others_in order.DateOrder ready c others h r m = Contains-permutation (c ∷ others) ready r (IsPermutation-sym ready (c ∷ others) h.0) (Contains-there r c others m)
+
+-- the same by their ids
+pub chosen_among : (s : Sorting) (ready : List Ready) (c : Ready) (others : List Ready) → Chooses s ready c others → (i : ObjectId) → is_among i (ready_ids ready) ≡ (is_same i c.id || is_among i (ready_ids others))
+chosen_among s ready c others h i = among_by i (ready_ids ready) (c.id ∷ ready_ids others) (chosen_times s ready c others h i)
+
+pub held_among : (s : Sorting) (others added ready : List Ready) → HoldsReady s (others ++ added) ready → (i : ObjectId) → is_among i (ready_ids ready) ≡ (is_among i (ready_ids others) || is_among i (ready_ids added))
+held_among s others added ready h i = among_by i (ready_ids ready) (ready_ids others ++ ready_ids added) (holds_times s (others ++ added) ready h i ∙ ap (times i) (ids-append others added)) ∙ among-append i (ready_ids others) (ready_ids added)
+
+-- the chosen one was there once
+pub chosen_once : (s : Sorting) (ready : List Ready) (c : Ready) (others : List Ready) → Chooses s ready c others → AreDistinct (ready_ids ready) → AreDistinct (c.id ∷ ready_ids others)
+chosen_once s ready c others h d = times_once (c.id ∷ ready_ids others) (λ i.
+    let e : times i (ready_ids ready) ≡ cond (is_same i c.id) 1 0 + times i (ready_ids others) = chosen_times s ready c others h i in
+    let l : times i (ready_ids ready) ≤ 1 = distinct_times (ready_ids ready) d i in
+    omega arith)
+
+-- and so is each one, where what is added is new
+pub held_once : (s : Sorting) (others added ready : List Ready) → HoldsReady s (others ++ added) ready → AreDistinct (ready_ids others) → AreDistinct (ready_ids added) → ((i : ObjectId) → Contains (ready_ids added) i → is_among i (ready_ids others) ≡ false) → AreDistinct (ready_ids ready)
+held_once s others added ready h o a apart = times_once (ready_ids ready) (λ i. go i (is_among i (ready_ids added)) refl (holds_times s (others ++ added) ready h i ∙ joined_times i others added) (distinct_times (ready_ids others) o i) (distinct_times (ready_ids added) a i))
+  where
+    go : (i : ObjectId) (b : Bool) → is_among i (ready_ids added) ≡ b → times i (ready_ids ready) ≡ times i (ready_ids others) + times i (ready_ids added) → times i (ready_ids others) ≤ 1 → times i (ready_ids added) ≤ 1 → times i (ready_ids ready) ≤ 1
+    go i true e j o a = let z : times i (ready_ids others) ≡ 0 = times_none i (ready_ids others) (apart i (among_is i _ e)) in omega arith
+    go i false e j o a = let z : times i (ready_ids added) ≡ 0 = times_none i (ready_ids added) e in omega arith

@@ -11,21 +11,19 @@ use Rattle.gix_topo.specs.declared.Sorting.{Sorting}
 use Rattle.gix_topo.specs.declared.Sorting.TheVariants as order
 use Rattle.gix_topo.specs.declared.Error.{Error}
 use Rattle.gix_revwalk.specs.Commits.{parents_of, time_of}
-use Rattle.gix_topo.specs.WalkSet.{IsAcyclicIn}
+use Rattle.gix_topo.specs.WalkSet.{IsAcyclicIn, IsChild}
 use Rattle.gix_topo.specs.TopoOrder.{IsTopoOrder}
 use Rattle.gix_revwalk.specs.Ids.{AreDistinct}
-use Rattle.gix_topo.specs.Walk.{TopoPlan, TopoWalk, walked_of, IsMember}
-use Rattle.gix_topo.specs.Laws.{IsSorted, IsTakenInOrder, IsGiven, GivesInOrder, IsWholeRun}
+use Rattle.gix_revwalk.specs.Texts.{text_next}
+use Rattle.gix_topo.specs.Walk.{TopoPlan, TopoWalk, walked_of, IsMember, text_walked, IsTextMember}
+use Rattle.gix_topo.specs.Laws.{IsSorted, IsTakenInOrder, IsTakenFirst, IsTakenByText, IsGiven, GivesInOrder, IsWholeRun}
 use Rattle.gix_topo.proofs.Run.ReadyInTurn.{TurnsFrom, IsReadyNext, same_set}
 use Rattle.gix_topo.proofs.Reading.ReadsCommit.{text_has}
-use Rattle.gix_topo.proofs.Run.EachOnce.{turns_by, each_by}
+use Rattle.gix_topo.proofs.Run.EachOnce.{turns_by, each_by, first_by}
 use Rattle.gix_topo.proofs.Run.OneList.{same_topo}
 use Rattle.gix_topo.proofs.Run.Theorem.{gives}
 
 module _ {F : Type 0} (objects : F → Objects) (plan : TopoPlan F) (ids : List ObjectId) where
-  turns : (s : Sorting) → IsSorted s (time_of (objects plan.store)) (walked_of objects plan) (IsMember objects plan) plan.tips ids → TurnsFrom (IsReadyNext (walked_of objects plan) (IsMember objects plan)) [] ids
-  turns s h = turns_by (objects plan.store) (parents_of (objects plan.store)) (text_has (objects plan.store)) plan.parents (time_of (objects plan.store)) plan.tips plan.ends ids s h
-
   pub once : IsTakenInOrder objects plan ids → AreDistinct ids × ((i : ObjectId) → Contains ids i → IsMember objects plan i) × (IsAcyclicIn (walked_of objects plan) (IsMember objects plan) → (i : ObjectId) → IsMember objects plan i → Contains ids i)
   once h =
       let e = each_by (objects plan.store) (parents_of (objects plan.store)) (text_has (objects plan.store)) plan.parents (time_of (objects plan.store)) plan.tips plan.ends ids plan.sorting h in
@@ -33,6 +31,17 @@ module _ {F : Type 0} (objects : F → Objects) (plan : TopoPlan F) (ids : List 
 
   pub before_parents : IsTakenInOrder objects plan ids → (k : ℕ) (child parent : ObjectId) → slice_get ids k ≡ Some parent → Contains ids child → Contains (walked_of objects plan child) parent → Contains (take k ids) child
   before_parents h = (each_by (objects plan.store) (parents_of (objects plan.store)) (text_has (objects plan.store)) plan.parents (time_of (objects plan.store)) plan.tips plan.ends ids plan.sorting h).3
+
+  -- the same by the texts
+  pub each_by_text : IsTakenByText objects plan ids
+      → AreDistinct ids × ((i : ObjectId) → Contains ids i → IsTextMember objects plan i) × (IsAcyclicIn (text_walked objects plan) (IsTextMember objects plan) → (i : ObjectId) → IsTextMember objects plan i → Contains ids i)
+      × ((k : ℕ) (child parent : ObjectId) → slice_get ids k ≡ Some parent → Contains ids child → Contains (text_walked objects plan child) parent → Contains (take k ids) child)
+  each_by_text h = each_by (objects plan.store) (text_next (objects plan.store)) (λ c i n. n) plan.parents (time_of (objects plan.store)) plan.tips plan.ends ids plan.sorting h
+
+  -- of the first commits that are taken
+  pub first_once : IsTakenFirst objects plan ids → AreDistinct ids × ((i : ObjectId) → Contains ids i → IsMember objects plan i) ×
+      ((k : ℕ) (d p : ObjectId) → slice_get ids k ≡ Some p → IsChild (walked_of objects plan) (IsMember objects plan) d p → Contains (take k ids) d)
+  first_once h = first_by (objects plan.store) (parents_of (objects plan.store)) (text_has (objects plan.store)) plan.parents (time_of (objects plan.store)) plan.tips plan.ends ids plan.sorting h
 
 pub with_rows : {F P : Type 0} (objects : F → Objects) (faulty : F → ObjectId → Type 0) (answers : P → ObjectId → Bool → P → Type 0) (walk other : TopoWalk F P) (rows : List GraphRow) (accepts : ObjectId → Bool) (list longer : List (Result Info Error)) → walk.plan.sorting ≡ order.TopoOrder → other.plan ≡ record walk.plan { rows = rows } →
     IsWholeRun objects faulty answers walk accepts list → IsWholeRun objects faulty answers other accepts longer →
@@ -56,4 +65,6 @@ same_ids {F} objects faulty answers walk other rows sorting accepts list longer 
     let g : GivesInOrder objects walk.plan accepts list = gives objects faulty answers accepts walk list run in
     let h : GivesInOrder objects other.plan accepts longer = gives objects faulty answers accepts other longer run_other in
     let b : IsTakenInOrder objects (record plan { rows = rows; sorting = sorting }) h.ids = subst (λ p. IsTakenInOrder objects p h.ids) same h.in_order in
-    (g, h, same_set (walked_of objects plan) (IsMember objects plan) g.ids h.ids (turns objects plan g.ids plan.sorting g.in_order) (turns objects plan h.ids sorting b))
+    let turns : (ids : List ObjectId) (s : Sorting) → IsSorted s (time_of (objects plan.store)) (walked_of objects plan) (IsMember objects plan) plan.tips ids → TurnsFrom (IsReadyNext (walked_of objects plan) (IsMember objects plan)) [] ids =
+    λ ids s k. turns_by (objects plan.store) (parents_of (objects plan.store)) (text_has (objects plan.store)) plan.parents (time_of (objects plan.store)) plan.tips plan.ends ids s k in
+    (g, h, same_set (walked_of objects plan) (IsMember objects plan) g.ids h.ids (turns g.ids plan.sorting g.in_order) (turns h.ids sorting b))

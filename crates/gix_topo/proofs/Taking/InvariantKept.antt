@@ -1,38 +1,39 @@
 -- What a walk holds still holds after a commit was taken.
-use Rattle.std.specs.Prelude.{◌≡◌, ◌⊎◌, ◌≤◌, ℕ, ◌+◌, List, ◌∷◌, ◌++◌, Bool, true, false, not, ◌&&◌, ◌||◌, cond, Contains}
-use Rattle.std.proofs.Common.{refl, sym, ap, subst, inl, ⊎_elim, ◌∙◌, arith}
+use Rattle.std.specs.Prelude.{◌≡◌, ◌⊎◌, List, ◌∷◌, ◌++◌, Bool, true, false, not, ◌&&◌, ◌||◌, Contains}
+use Rattle.std.proofs.Common.{refl, sym, ap, subst, inl, ⊎_elim, ◌∙◌}
 use Rattle.std.proofs.lemmas.Bool.{true≢false, false≢true, false_from_ne_true, or_cases, or_left, or_right, or_parts}
 use Rattle.std.specs.FinSet as set
 use Rattle.gix_hash.specs.declared.ObjectId.{ObjectId}
 use Rattle.gix_hash.specs.Id.{is_same, is_among}
 use Rattle.gix_object.specs.Object.{Objects}
-use Rattle.gix_hash.proofs.Ids.Membership.{id_total, id_apart, among-append, among_from, among_is}
+use Rattle.gix_hash.proofs.Ids.Membership.{id_total, id_apart, same_is, among_from, among_is}
 use Rattle.gix_frontier.specs.declared.Side.{Side}
 use Rattle.gix_frontier.specs.declared.Side.TheVariants.{Tips}
 use Rattle.gix_topo.specs.declared.counting.Counting.{Counting}
 use Rattle.gix_topo.specs.declared.walk.Walk.{Walk}
 use Rattle.gix_topo.specs.Inside.ReadySet.{ReadySet}
 use Rattle.gix_revwalk.specs.Agreeing.{IsAgreeing}
-use Rattle.gix_frontier.specs.Inside.Frontier.{is_seen, is_queued, is_done, reached, waiting, IsSearch}
+use Rattle.gix_frontier.specs.Inside.Frontier.{is_seen, is_done, reached}
 use Rattle.gix_revwalk.specs.Commits.{by_mode}
 use Rattle.gix_topo.specs.Inside.Releasing.{plan_of, counted_by, lowered, with_counting, taken_of, TakesOne}
-use Rattle.gix_topo.specs.Inside.Searched.{IsCounted, IsExplored, IsTally, next_by, starts_by, IsBegun}
+use Rattle.gix_topo.specs.Inside.Searched.{IsCounted, IsSearched, IsExplored, IsTally, next_by, IsBegun}
 use Rattle.gix_topo.specs.TopoOrder.{last_places}
 use Rattle.gix_topo.specs.Inside.Steady.{AreRead, AreDroppedFor, IsTallied, IsSteady, HasCounted, IsHeld, unasked, unasked_of, TakesReady}
 use Rattle.gix_topo.specs.Walk.{Ready, ready_ids, IsTaken, IsCommitRead, HoldsReady, Chooses, Adds, IsReached, IsFound, text_walked, IsTextMember}
 use Rattle.gix_topo.specs.WalkSet.{IsChild, IsReady}
 use Rattle.gix_topo.proofs.Counts.ExploreKeeps.{explores_made, explores_same, explores_still, explores_done, explores_idle}
-use Rattle.gix_revwalk.proofs.NewIds.{times, times_none, among_times, times_once}
-use Rattle.gix_topo.proofs.Readiness.IsReady.{distinct_times, keeps_from, last_from, last_once, among_by}
+use Rattle.gix_revwalk.specs.Ids.{AreDistinct}
+use Rattle.gix_topo.proofs.Readiness.IsReady.{keeps_from, last_from, last_once}
 use Rattle.gix_topo.proofs.Taking.AllReleases.{IsDue, IsReleased, released}
 use Rattle.gix_topo.proofs.Counts.Rest.{least_within}
 use Rattle.gix_topo.proofs.Counts.Children.{children_of, was_ready_of, tally_same}
 use Rattle.gix_topo.proofs.Reading.OnceRead.{found_later}
 use Rattle.gix_topo.proofs.Taking.Added.{read_after}
+use Rattle.gix_topo.proofs.Counts.BothSearches.{searched_same}
 use Rattle.gix_topo.proofs.Counts.Taken.{contains-taken}
 use Rattle.gix_topo.proofs.Counts.RowsDropped.{made_dropped, explores_dropped}
 use Rattle.gix_topo.proofs.Taking.Setting.{was_ready, plan_taken, named_text, parents_reached, counted_on, explored_on, tally_on}
-use Rattle.gix_topo.proofs.Readiness.ReadyIds.{ids-append, chosen_times, others_in, holds_in, holds_times, joined_times}
+use Rattle.gix_topo.proofs.Readiness.ReadyIds.{chosen_among, chosen_once, held_among, held_once, others_in, holds_in}
 use Rattle.std.proofs.lemmas.List.Elements.{Contains-append_cases}
 
 -- of ids that were ready once, the chosen one is taken as well, where it is ready no longer and the added ones weren't ready before
@@ -83,17 +84,11 @@ module _ {F : Type 0} (objects : F → Objects) (faulty : F → ObjectId → Typ
   others_ready : (q : Ready) → Contains rest.commits q → Contains w.ready.commits q
   others_ready q m = others_in w.ready.sorting w.ready.commits r rest.commits chosen q m
 
-  were : (j : ObjectId) → times j (ready_ids w.ready.commits) ≡ cond (is_same j r.id) 1 0 + times j (ready_ids rest.commits)
-  were j = chosen_times w.ready.sorting w.ready.commits r rest.commits chosen j
-
-  are : (j : ObjectId) → times j (ready_ids new.ready.commits) ≡ times j (ready_ids (rest.commits ++ added))
-  are j = holds_times rest.sorting (rest.commits ++ added) new.ready.commits rel.holds j
-
   was_among : (j : ObjectId) → is_among j (ready_ids w.ready.commits) ≡ (is_same j r.id || is_among j (ready_ids rest.commits))
-  was_among j = among_by j (ready_ids w.ready.commits) (r.id ∷ ready_ids rest.commits) (were j)
+  was_among = chosen_among w.ready.sorting w.ready.commits r rest.commits chosen
 
   is_now : (j : ObjectId) → is_among j (ready_ids new.ready.commits) ≡ (is_among j (ready_ids rest.commits) || is_among j (ready_ids added))
-  is_now j = among_by j (ready_ids new.ready.commits) (ready_ids (rest.commits ++ added)) (are j) ∙ ap (is_among j) (ids-append rest.commits added) ∙ among-append j (ready_ids rest.commits) (ready_ids added)
+  is_now = held_among rest.sorting rest.commits added new.ready.commits rel.holds
 
   ready_cases : (A : Type 0) (q : Ready) → (Contains rest.commits q → A) → (Contains added q → A) → Contains new.ready.commits q → A
   ready_cases A q f g m = ⊎_elim f g (Contains-append_cases rest.commits added q (holds_in rest.sorting (rest.commits ++ added) new.ready.commits rel.holds q m))
@@ -109,13 +104,11 @@ module _ {F : Type 0} (objects : F → Objects) (faulty : F → ObjectId → Typ
     was_made j e = held.made j (among_is j (ready_ids w.ready.commits) (was_among j ∙ e))
 
     -- the chosen one was ready once
+    once : AreDistinct (r.id ∷ ready_ids rest.commits)
+    once = chosen_once w.ready.sorting w.ready.commits r rest.commits chosen held.distinct
+
     other : (j : ObjectId) → is_same j r.id ≡ true → is_among j (ready_ids rest.commits) ≡ false
-    other j s = false_from_ne_true _ (λ e.
-        let o : times j (ready_ids w.ready.commits) ≤ 1 = distinct_times (ready_ids w.ready.commits) held.distinct j in
-        let k : times j (ready_ids w.ready.commits) ≡ cond (is_same j r.id) 1 0 + times j (ready_ids rest.commits) = were j in
-        let l : 1 ≤ times j (ready_ids rest.commits) = among_times j (ready_ids rest.commits) e in
-        let c : ◌≡◌ {A = ℕ} (cond (is_same j r.id) 1 0) 1 = ap (λ b. cond b 1 0) s in
-        omega arith)
+    other j s = false_from_ne_true _ (λ e. once.0 (subst (Contains (ready_ids rest.commits)) (same_is j r.id s) (among_is j _ e)))
 
     taken_now : (j : ObjectId) → set.contains (taken_of new) j ≡ (is_same j r.id || set.contains (taken_of w) j)
     taken_now j =
@@ -140,18 +133,10 @@ module _ {F : Type 0} (objects : F → Objects) (faulty : F → ObjectId → Typ
       tally : IsTally (next Tips) (λ i. is_done (reached t.explored.frontier.known Tips i)) now_taken (children_of new.counting.frontier)
       tally = tally_on objects faulty w rest r chosen held agrees t.explored t.explores (children_of new.counting.frontier) rel.children
 
-      search : (side : Side) → IsSearch (next side) (starts_by (plan_of w).tips (plan_of w).ends side) (reached new.counting.frontier.known side) (waiting new.counting.frontier.queue side)
-      search side =
-          let h : IsSearch (next side) (starts_by (plan_of w).tips (plan_of w).ends side) (reached t.explored.frontier.known side) (waiting t.explored.frontier.queue side) = counted.searched.search side in
-          record {
-            within = λ i e. h.within i (sym (ap is_seen (rel.ready.moved side i)) ∙ e);
-            queued = λ i. ap (λ queue. waiting queue side i) rel.ready.queue ∙ h.queued i ∙ ap (λ p. cond (is_queued p) 1 0) (sym (rel.ready.moved side i));
-            closed = λ c i d m. ap is_seen (rel.ready.moved side i) ∙ h.closed c i (sym (ap is_done (rel.ready.moved side c)) ∙ d) m;
-          }
-
       counted_now : IsCounted those (plan_of w).rows w.counting.parents (plan_of w).tips (plan_of w).ends (set.contains (taken_of new)) new.counting.frontier
       counted_now = record {
-        searched = record { search = search; keyed = λ entry m. counted.searched.keyed entry (subst (λ queue. Contains queue entry) rel.ready.queue m) };
+        searched = searched_same those (plan_of w).rows w.counting.parents (plan_of w).tips (plan_of w).ends new.counting.frontier.queue t.explored.frontier.known new.counting.frontier.known rel.ready.moved
+            (subst (λ q. IsSearched those (plan_of w).rows w.counting.parents (plan_of w).tips (plan_of w).ends q t.explored.frontier.known) (sym rel.ready.queue) counted.searched);
         tally = subst (λ s. IsTally (next Tips) (λ i. is_done (reached new.counting.frontier.known Tips i)) (set.contains s) (children_of new.counting.frontier)) (sym taken_is) (tally_same (next Tips) (λ i. is_done (reached t.explored.frontier.known Tips i)) (λ i. is_done (reached new.counting.frontier.known Tips i)) now_taken (children_of new.counting.frontier) (children_of new.counting.frontier) (λ j. ap is_done (rel.ready.moved Tips j)) (λ p. refl) tally);
       }
 
@@ -175,26 +160,6 @@ module _ {F : Type 0} (objects : F → Objects) (faulty : F → ObjectId → Typ
       }
 
     module _ (has : IsAgreeing (objects (plan_of w).store) (plan_of w).rows → HasCounted objects (plan_of w) new.counting) (adds : Adds objects faulty (unasked objects faulty) (unasked_of objects faulty w) r (counted_by new.counting) added) where
-      fresh : (i : ObjectId) → is_among i (ready_ids added) ≡ true → (set.contains (taken_of w) i ≡ false) × (is_among i (ready_ids w.ready.commits) ≡ false)
-      fresh i e = or_parts (set.contains (taken_of w) i) (is_among i (ready_ids w.ready.commits)) (adds.unmade i (among_is i (ready_ids added) e))
-
-      once : (i : ObjectId) → times i (ready_ids new.ready.commits) ≤ 1
-      once i =
-          let n : times i (ready_ids new.ready.commits) ≡ times i (ready_ids (rest.commits ++ added)) = are i in
-          let j : times i (ready_ids (rest.commits ++ added)) ≡ times i (ready_ids rest.commits) + times i (ready_ids added) = joined_times i rest.commits added in
-          let l : times i (ready_ids rest.commits) + times i (ready_ids added) ≤ 1 = go (is_among i (ready_ids added)) refl (were i) in
-          omega arith
-        where
-          go : (b : Bool) → is_among i (ready_ids added) ≡ b → times i (ready_ids w.ready.commits) ≡ cond (is_same i r.id) 1 0 + times i (ready_ids rest.commits) → times i (ready_ids rest.commits) + times i (ready_ids added) ≤ 1
-          go true e s =
-              let z : times i (ready_ids w.ready.commits) ≡ 0 = times_none i (ready_ids w.ready.commits) (fresh i e).1 in
-              let a : times i (ready_ids added) ≤ 1 = distinct_times (ready_ids added) adds.distinct i in
-              omega arith
-          go false e s =
-              let z : times i (ready_ids added) ≡ 0 = times_none i (ready_ids added) e in
-              let o : times i (ready_ids w.ready.commits) ≤ 1 = distinct_times (ready_ids w.ready.commits) held.distinct i in
-              omega arith
-
       still_made : (j : ObjectId) → (is_among j (ready_ids rest.commits) ≡ true) ⊎ (is_among j (ready_ids added) ≡ true) → (is_among j (ready_ids added) || was_ready_of w.counting.frontier j) ≡ true
       still_made j c = ⊎_elim (λ e. or_right (is_among j (ready_ids added)) _ (was_made j (or_right (is_same j r.id) _ e))) (λ e. or_left _ _ e) c
 
@@ -236,7 +201,7 @@ module _ {F : Type 0} (objects : F → Objects) (faulty : F → ObjectId → Typ
       pub held_on : IsHeld objects faulty new
       held_on = record {
         made = λ j m. made_now j ∙ still_made j (or_cases (is_among j (ready_ids rest.commits)) (is_among j (ready_ids added)) (sym (is_now j) ∙ among_from j (ready_ids new.ready.commits) m));
-        distinct = times_once (ready_ids new.ready.commits) once;
+        distinct = held_once rest.sorting rest.commits added new.ready.commits rel.holds once.1 adds.distinct (λ i m. (or_parts _ _ (sym (was_among i) ∙ (or_parts _ _ (adds.unmade i m)).1)).1);
         found = found_now;
         tallied = λ a. tallied_now (subst (λ p. IsAgreeing (objects p.store) p.rows) plan_is a);
         steady = λ s. steady_now (subst (λ plan. IsAgreeing (objects plan.store) plan.rows) plan_is s);

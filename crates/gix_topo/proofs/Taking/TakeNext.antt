@@ -115,4 +115,4 @@ module _ {F P : Type 0} (objects : F → Objects) (faulty : F → ObjectId → T
   -- an answer leaves fewer
   pub progresses : (old new : TopoWalk F P) (can : TopoWalk F P → Type 0) (answer : Option (Result Info Error)) → Next objects faulty answers old answer new → can new → MakesProgress can (λ walk. at_most (answers_left objects walk)) old answer new
   progresses old new can None n c = record { on = λ _. tt; keeps = tt; rests = λ _. tt }
-  progresses old new can (Some answer) n c = record { on = λ _. (c, tt, next_left objects faulty answers n answer refl); keeps = c; rests = λ _. tt }
+  progresses old new can (Some answer) n c = record { on = λ _. (c, tt, next_left objects faulty answers n); keeps = c; rests = λ _. tt }
