@@ -1,8 +1,7 @@
 -- Counting is exact down to the depth.
 use Rattle.std.specs.Prelude.{◌≡◌, ◌⊎◌, ◌≤◌, ℕ, ◌+◌, List, [], ◌∷◌, Bool, true, false, not, ◌&&◌, ◌||◌, cond, nat_le, Some, Contains, length, slice_get}
 use Rattle.std.proofs.Common.{refl, sym, ap, subst, inl, inr, ⊎_elim, ◌∙◌, arith}
-use Rattle.std.proofs.lemmas.Bool.{leb-true, true≢false, false≢true}
-use Rattle.std.proofs.lemmas.List.Sorted.{Contains-permutation, IsPermutation-sym}
+use Rattle.std.proofs.lemmas.Bool.{leb-true, true≢false, false≢true, or_right, or_left, or_cases, and_parts, and_from, cases_Bool}
 use Rattle.gix_hash.specs.declared.ObjectId.{ObjectId}
 use Rattle.gix_hash.specs.Id.{is_same}
 use Rattle.gix_object.specs.Object.{Objects}
@@ -10,7 +9,6 @@ use Rattle.gix_hash.proofs.Ids.Membership.{same_is, same_itself, Contains-here, 
 use Rattle.gix_topo.specs.declared.Sorting.{Sorting}
 use Rattle.gix_frontier.specs.declared.Side.{Side}
 use Rattle.gix_frontier.specs.declared.Side.TheVariants.{Tips, Ends}
-use Rattle.gix_frontier.specs.declared.Progress.TheVariants.{Done}
 use Rattle.gix_frontier.specs.Inside.Waiting.{Waiting}
 use Rattle.gix_frontier.specs.declared.Frontier.{Frontier}
 use Rattle.gix_topo.specs.declared.counting.Counting.{Counting}
@@ -25,10 +23,9 @@ use Rattle.gix_topo.specs.Inside.Searched.{IsCounted, IsSearched, IsBegun, next_
 use Rattle.gix_topo.specs.Inside.Steady.{IsDone, IsReadOnce, AreRead, HasCounted}
 use Rattle.gix_topo.specs.Walk.{TopoPlan, IsNumberOf, IsInDepth, IsBrokenRow, IsCounting, IsReached}
 use Rattle.gix_topo.proofs.Counts.IndegreeZero.{done_seen}
-use Rattle.gix_topo.proofs.Counts.ExploreKeeps.{steps_keep, explores_keep, explores_same, explores_still, done_now}
+use Rattle.gix_topo.proofs.Counts.ExploreKeeps.{steps_keep, explores_keep, explores_same, explores_still, done_now, entry_queued}
 use Rattle.gix_topo.proofs.Counts.AllDownToDepth.{exact as exact_down}
 use Rattle.gix_revwalk.proofs.ReadsWhole.{row_stands, corrupt_row}
-use Rattle.gix_topo.proofs.Counts.Children.{follows_named}
 use Rattle.gix_topo.proofs.Reading.OnceRead.{once_still, once_whole}
 use Rattle.gix_topo.proofs.Counts.MakesReady.{reads_stands, reads_drops}
 
@@ -70,40 +67,24 @@ module _ {F : Type 0} (objects : F → Objects) (faulty : F → ObjectId → Typ
 
   -- a step is done with one id
   module _ (old new : Counting F) (s : Steps objects faulty old new) where
-    done_before : (t : Side) (j : ObjectId) → is_done (reached s.followed.known t j) ≡ is_done (reached old.frontier.known t j)
-    done_before t j = (follows_named s.follows).done t j
-
-    still_done : (t : Side) (j : ObjectId) → is_done (reached old.frontier.known t j) ≡ true → is_done (reached new.frontier.known t j) ≡ true
-    still_done t j e = done_now objects faulty old new s t j ∙ go (is_same j s.entry.1.id && is_side t s.entry.1.side)
-      where
-        go : (b : Bool) → is_done (cond b Done (reached s.followed.known t j)) ≡ true
-        go true = refl
-        go false = done_before t j ∙ e
-
-    was_done : (t : Side) (j : ObjectId) → is_done (reached new.frontier.known t j) ≡ true → (s.entry.1.id ≡ j) ⊎ (is_done (reached old.frontier.known t j) ≡ true)
-    was_done t j e = go (is_same j s.entry.1.id) (is_side t s.entry.1.side) refl (sym (done_now objects faulty old new s t j) ∙ e)
-      where
-        go : (a b : Bool) → is_same j s.entry.1.id ≡ a → is_done (cond (a && b) Done (reached s.followed.known t j)) ≡ true → (s.entry.1.id ≡ j) ⊎ (is_done (reached old.frontier.known t j) ≡ true)
-        go true true q f = inl (sym (same_is j s.entry.1.id q))
-        go true false q f = inr (sym (done_before t j) ∙ f)
-        go false b q f = inr (sym (done_before t j) ∙ f)
-
     steps_from : (j : ObjectId) → IsDone old.frontier j → IsDone new.frontier j
-    steps_from j d = ⊎_elim (λ a. inl (still_done Tips j a)) (λ b. inr (still_done Ends j b)) d
+    steps_from j = ⊎_elim (λ a. inl (still Tips a)) (λ b. inr (still Ends b))
+      where
+        still : (t : Side) → is_done (reached old.frontier.known t j) ≡ true → is_done (reached new.frontier.known t j) ≡ true
+        still t e = done_now objects faulty old new s t j ∙ or_right (is_same j s.entry.1.id && is_side t s.entry.1.side) _ e
 
     steps_to : (j : ObjectId) → IsDone new.frontier j → (s.entry.1.id ≡ j) ⊎ IsDone old.frontier j
-    steps_to j d = ⊎_elim (λ a. ⊎_elim (λ q. inl q) (λ x. inr (inl x)) (was_done Tips j a)) (λ b. ⊎_elim (λ q. inl q) (λ x. inr (inr x)) (was_done Ends j b)) d
+    steps_to j = ⊎_elim (λ a. ⊎_elim inl (λ x. inr (inl x)) (was Tips a)) (λ b. ⊎_elim inl (λ x. inr (inr x)) (was Ends b))
+      where
+        was : (t : Side) → is_done (reached new.frontier.known t j) ≡ true → (s.entry.1.id ≡ j) ⊎ (is_done (reached old.frontier.known t j) ≡ true)
+        was t e = ⊎_elim (λ a. inl (sym (same_is j s.entry.1.id (and_parts _ _ a).0))) inr (or_cases (is_same j s.entry.1.id && is_side t s.entry.1.side) _ (sym (done_now objects faulty old new s t j) ∙ e))
 
     steps_here : IsDone new.frontier s.entry.1.id
-    steps_here = side s.entry.1.side (done_now objects faulty old new s s.entry.1.side s.entry.1.id ∙ ap (λ b. is_done (cond (b && is_side s.entry.1.side s.entry.1.side) Done (reached s.followed.known s.entry.1.side s.entry.1.id))) (same_itself s.entry.1.id) ∙ itself_done s.entry.1.side)
+    steps_here = side s.entry.1.side refl
       where
-        itself_done : (t : Side) → is_done (cond (is_side t t) Done (reached s.followed.known t s.entry.1.id)) ≡ true
-        itself_done Tips = refl
-        itself_done Ends = refl
-
-        side : (t : Side) → is_done (reached new.frontier.known t s.entry.1.id) ≡ true → IsDone new.frontier s.entry.1.id
-        side Tips e = inl e
-        side Ends e = inr e
+        side : (t : Side) → s.entry.1.side ≡ t → IsDone new.frontier s.entry.1.id
+        side Tips e = inl (done_now objects faulty old new s Tips s.entry.1.id ∙ or_left _ _ (and_from _ _ (same_itself s.entry.1.id) (ap (is_side Tips) e)))
+        side Ends e = inr (done_now objects faulty old new s Ends s.entry.1.id ∙ or_left _ _ (and_from _ _ (same_itself s.entry.1.id) (ap (is_side Ends) e)))
 
     -- it is counted if no side was done with it
     steps_number : IsNumberOf (IsDone old.frontier) old.expanded → IsNumberOf (IsDone new.frontier) new.expanded
@@ -129,21 +110,14 @@ module _ {F : Type 0} (objects : F → Objects) (faulty : F → ObjectId → Typ
     steps_counts old new agrees counted pending s h = record {
       number = steps_number old new s h.number;
       high = λ e i d. subst (λ n. n ≤ known_generation (Plan old).rows i) (sym s.same.depth) (⊎_elim (λ q. subst (λ j. old.depth ≤ known_generation (Plan old).rows j) q (high (reads_stands objects faulty s.reads.reads e))) (λ o. h.high (reads_stands objects faulty s.reads.reads e) i o) (steps_to old new s i d));
-      dropped = λ e. subst (IsBrokenRow objects (Plan old)) (sym s.same.depth) (drops old.reader.in_use refl e);
+      dropped = λ e. subst (IsBrokenRow objects (Plan old)) (sym s.same.depth) (⊎_elim (λ q. broken (Plan old) agrees old.depth s.entry.1.id is_reached (high q) (reads_drops objects faulty s.reads.reads q e)) h.dropped (cases_Bool old.reader.in_use));
     }
       where
-        queued : Contains old.frontier.queue s.entry
-        queued = Contains-permutation (s.entry ∷ s.left) old.frontier.queue s.entry (IsPermutation-sym old.frontier.queue (s.entry ∷ s.left) s.taken_out) (Contains-here s.entry s.left)
-
         high : old.reader.in_use ≡ true → old.depth ≤ known_generation (Plan old).rows s.entry.1.id
-        high e = subst (λ n. old.depth ≤ n) (counted.searched.keyed s.entry queued) (top_high old.reader.in_use old.depth old.frontier.queue s.entry s.first pending e)
+        high e = subst (λ n. old.depth ≤ n) (counted.searched.keyed s.entry (entry_queued objects faulty old new s)) (top_high old.reader.in_use old.depth old.frontier.queue s.entry s.first pending e)
 
         is_reached : IsReached objects (Plan old) s.entry.1.id
         is_reached = done_reached (Plan old) new.frontier (steps_keep objects faulty tips ends taken old new agrees s counted).searched s.entry.1.id (steps_here old new s)
-
-        drops : (b : Bool) → old.reader.in_use ≡ b → new.reader.in_use ≡ false → IsBrokenRow objects (Plan old) old.depth
-        drops true q e = broken (Plan old) agrees old.depth s.entry.1.id is_reached (high q) (reads_drops objects faulty s.reads.reads q e)
-        drops false q e = h.dropped q
 
     same_plan : {old new : Counting F} → IsSamePlan objects faulty old new → Plan new ≡ Plan old
     same_plan s k = record { store = s.find k; rows = rows_of (s.graph k); parents = s.parents k; sorting = sorting; tips = tips; ends = ends }

@@ -1,6 +1,6 @@
 -- The taken commits, as the table tells them: those that were ready once, and aren't now.
 use Rattle.std.specs.Prelude.{◌≡◌, Bool, true, false, not, ◌&&◌, ◌||◌, Option, Some, None, is_some, Contains, List}
-use Rattle.std.proofs.Common.{refl, sym, ap, ◌∙◌}
+use Rattle.std.proofs.Common.{refl, sym, ap, ◌∙◌, arith}
 use Rattle.std.proofs.Math.Bool.{and-false}
 use Rattle.std.specs.FinMap as map_of
 use Rattle.std.specs.FinSet as set
@@ -36,7 +36,4 @@ pub made_taken : {F : Type 0} (w : Walk F) → ((i : ObjectId) → Contains (rea
 made_taken w made i = either (was_ready_of w.counting.frontier i) (is_among i (ready_ids w.ready.commits)) (λ e. made i (among_is i _ e)) ∙ ap (λ b. b || is_among i (ready_ids w.ready.commits)) (sym (contains-taken w.counting.frontier.known w.ready.commits i))
   where
     either : (m r : Bool) → (r ≡ true → m ≡ true) → m ≡ ((m && not r) || r)
-    either true true h = refl
-    either true false h = refl
-    either false true h = h refl
-    either false false h = refl
+    either m r h = grind arith
