@@ -1,5 +1,5 @@
 -- A step of the searches keeps them as they are to be.
-use Rattle.std.specs.Prelude.{◌≡◌, ◌≤◌, ℕ, ◌+◌, List, ◌∷◌, Bool, true, ◌&&◌, cond, Contains, IsPermutation, sum_by, get_or}
+use Rattle.std.specs.Prelude.{◌≡◌, ◌≤◌, ℕ, List, ◌∷◌, true, ◌&&◌, cond, Contains, IsPermutation, sum_by, get_or}
 use Rattle.std.proofs.Common.{sym, ap, subst, ⊎_elim, ◌∙◌, arith}
 use Rattle.std.specs.FinMap as map
 use Rattle.std.proofs.lemmas.List.Sorted.{Contains-permutation, IsPermutation-sym}

@@ -1,5 +1,5 @@
 -- Counts of children: what is done or taken does to them, and what a count of 0 says.
-use Rattle.std.specs.Prelude.{◌≡◌, ◌≤◌, ℕ, ◌+◌, List, ◌∷◌, Bool, true, false, not, ◌&&◌, ◌||◌, cond, Contains, IsPermutation, sum_by, get_or}
+use Rattle.std.specs.Prelude.{◌≡◌, ◌≤◌, ℕ, ◌+◌, List, ◌∷◌, Bool, true, false, ◌&&◌, ◌||◌, cond, Contains, IsPermutation, sum_by, get_or}
 use Rattle.std.proofs.Common.{refl, sym, ap, subst, ◌∙◌, arith}
 use Rattle.std.specs.List.{remove}
 use Rattle.std.proofs.lemmas.List.Recursion.{is_sum_by}

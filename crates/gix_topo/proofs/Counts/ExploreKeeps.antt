@@ -1,5 +1,5 @@
 -- What a step and exploring do; with rows that agree they keep searches and counts as they are to be.
-use Rattle.std.specs.Prelude.{◌≡◌, ℕ, ◌+◌, List, [], ◌∷◌, Bool, true, false, not, ◌&&◌, ◌||◌, cond, Contains}
+use Rattle.std.specs.Prelude.{◌≡◌, ◌+◌, List, [], ◌∷◌, Bool, true, false, ◌&&◌, ◌||◌, cond, Contains}
 use Rattle.std.proofs.Common.{refl, sym, ap, subst, ◌∙◌, arith}
 use Rattle.std.proofs.lemmas.Bool.{false≢true, or_right}
 use Rattle.gix_hash.specs.declared.ObjectId.{ObjectId}
@@ -11,12 +11,11 @@ use Rattle.gix_revwalk.specs.declared.Parents.{Parents}
 use Rattle.gix_frontier.specs.declared.Side.{Side}
 use Rattle.gix_frontier.specs.declared.Side.TheVariants.{Tips, Ends}
 use Rattle.gix_frontier.specs.declared.Progress.TheVariants.{Queued, Done}
-use Rattle.gix_frontier.specs.Inside.Waiting.{Waiting}
 use Rattle.gix_frontier.specs.declared.Frontier.{Frontier}
 use Rattle.gix_topo.specs.declared.counting.Counting.{Counting}
 use Rattle.gix_revwalk.specs.Agreeing.{IsAgreeing}
 use Rattle.gix_topo.specs.Inside.Exploring.{Steps, Explores, itself, further, IsSamePlan, side_mode, is_pending}
-use Rattle.gix_frontier.specs.Inside.Frontier.{is_side, is_seen, is_done, reached, known_of, with_progress}
+use Rattle.gix_frontier.specs.Inside.Frontier.{is_side, is_done, reached, known_of, with_progress}
 use Rattle.gix_revwalk.specs.Commits.{by_mode}
 use Rattle.gix_revwalk.specs.Reading.{rows_of}
 use Rattle.gix_topo.specs.Inside.Searched.{IsCounted, next_by}

@@ -1,5 +1,5 @@
 -- What ids do to a walk, one after the other, where some of them become ready.
-use Rattle.std.specs.Prelude.{◌≡◌, ℕ, ◌==◌, List, [], ◌∷◌, ◌++◌, Bool, true, false, not, ◌&&◌, ◌||◌, cond, Ok, Contains}
+use Rattle.std.specs.Prelude.{◌≡◌, ℕ, List, [], ◌∷◌, ◌++◌, Bool, true, false, ◌||◌, cond, Ok, Contains}
 use Rattle.std.proofs.Common.{refl, sym, ap, subst, ⊎_elim, ◌∙◌, arith}
 use Rattle.std.proofs.lemmas.Bool.{true≢false, cases_Bool}
 use Rattle.std.proofs.lemmas.Bool.Decides.{nat_tests}
@@ -11,7 +11,6 @@ use Rattle.gix_commitgraph.specs.Rows.{GraphRow}
 use Rattle.gix_hash.proofs.Ids.Membership.{same_is, among-append, among-one, Contains-here, Contains-there, no_member}
 use Rattle.gix_revwalk.specs.declared.Info.{Info}
 use Rattle.gix_frontier.specs.declared.Side.{Side}
-use Rattle.gix_frontier.specs.declared.Side.TheVariants.{Tips, Ends}
 use Rattle.gix_frontier.specs.declared.Frontier.{Frontier}
 use Rattle.gix_topo.specs.declared.walk.Walk.{Walk}
 use Rattle.gix_topo.specs.Reading.{Reads, by_row, by_text}

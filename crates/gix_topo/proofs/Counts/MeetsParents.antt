@@ -14,7 +14,7 @@ use Rattle.gix_frontier.specs.declared.Progress.TheVariants.{Queued}
 use Rattle.gix_frontier.specs.Inside.Waiting.{Waiting, waiting_by}
 use Rattle.gix_frontier.specs.declared.Frontier.{Frontier}
 use Rattle.gix_topo.specs.Depth.{known_generation}
-use Rattle.gix_frontier.specs.Inside.Frontier.{is_side, is_seen, known_of, with_progress, progress_of, reached, waiting, Meets, seen, unseen, Counts, MeetsParent}
+use Rattle.gix_frontier.specs.Inside.Frontier.{is_side, is_seen, known_of, with_progress, reached, waiting, Meets, seen, unseen, Counts}
 use Rattle.gix_topo.specs.Inside.Exploring.{Follows, none, more}
 use Rattle.gix_topo.specs.Inside.Starting.{MeetsAll, met, meets}
 use Rattle.gix_revwalk.specs.Ids.{times}

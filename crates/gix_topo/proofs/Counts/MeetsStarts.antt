@@ -1,5 +1,5 @@
 -- Both sides meet what they start from, before anything is read.
-use Rattle.std.specs.Prelude.{◌≡◌, ℕ, ◌+◌, List, [], Bool, true, false, not, ◌&&◌, cond, Contains}
+use Rattle.std.specs.Prelude.{◌≡◌, ◌+◌, List, [], Bool, false, not, ◌&&◌, cond, Contains}
 use Rattle.std.proofs.Common.{sym, ap, subst, ⊎_elim, ◌∙◌, arith}
 use Rattle.std.proofs.lemmas.Bool.{true≢false}
 use Rattle.std.specs.FinMap as map
@@ -13,7 +13,7 @@ use Rattle.gix_frontier.specs.declared.Side.{Side}
 use Rattle.gix_frontier.specs.declared.Side.TheVariants.{Tips, Ends}
 use Rattle.gix_frontier.specs.declared.Progress.TheVariants.{Unseen, Queued}
 use Rattle.gix_frontier.specs.declared.Frontier.{Frontier}
-use Rattle.gix_frontier.specs.Inside.Frontier.{is_seen, is_queued, is_done, unknown, known_or, known_of, reached, waiting}
+use Rattle.gix_frontier.specs.Inside.Frontier.{is_done, unknown, known_or, known_of, reached, waiting}
 use Rattle.gix_hash.specs.Reach.{start}
 use Rattle.gix_topo.specs.Inside.Searched.{IsSearched, IsCounted, IsBegun, starts_by}
 use Rattle.gix_topo.specs.Inside.Starting.{MeetsAll}

@@ -1,6 +1,6 @@
 -- Where the greatest generation that waits is below the depth, all that waits is.
-use Rattle.std.specs.Prelude.{◌≡◌, ◌≤◌, ◌<◌, ℕ, List, [], ◌∷◌, Bool, true, false, Contains}
-use Rattle.std.proofs.Common.{refl, sym, ap, ⊎_elim, ◌∙◌, arith}
+use Rattle.std.specs.Prelude.{◌≡◌, ◌≤◌, ◌<◌, ℕ, List, [], ◌∷◌, false, Contains}
+use Rattle.std.proofs.Common.{ap, ⊎_elim, arith}
 use Rattle.std.proofs.Math.Dec.{leb}
 use Rattle.std.proofs.lemmas.Bool.{leb-false}
 use Rattle.std.proofs.lemmas.Bool.Decides.{nat_tests}

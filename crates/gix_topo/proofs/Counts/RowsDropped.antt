@@ -1,11 +1,10 @@
 -- Rows are dropped only for a corrupt one, and a commit with a row is read from the store only then.
-use Rattle.std.specs.Prelude.{◌≡◌, ◌⊎◌, ℕ, List, [], ◌∷◌, Bool, true, false, Option, Some, None, Ok, Contains}
+use Rattle.std.specs.Prelude.{◌≡◌, ◌⊎◌, ℕ, List, Bool, true, Option, Some, None, Ok, Contains}
 use Rattle.std.proofs.Common.{refl, ap, subst, ⊎_elim, arith, inl, inr}
 use Rattle.std.proofs.lemmas.Bool.{cases_Bool}
 use Rattle.gix_hash.specs.declared.ObjectId.{ObjectId}
 use Rattle.gix_object.specs.Object.{Objects}
 use Rattle.gix_commitgraph.specs.Rows.{GraphRow, row_of}
-use Rattle.gix_hash.proofs.Ids.Membership.{Contains-here}
 use Rattle.gix_revwalk.specs.declared.Info.{Info}
 use Rattle.gix_topo.specs.declared.Sorting.{Sorting}
 use Rattle.gix_frontier.specs.declared.Side.{Side}
