@@ -28,7 +28,8 @@ use Rattle.gix_revwalk.specs.RowParents.{ids_at}
 use Rattle.gix_paint.proofs.Invariant.{nobody, next, starts_of, RowsInUse, IsSafe, IsOutside, Fact, Stands, IsStarted}
 use Rattle.gix_paint.proofs.Keys.{told_below_top}
 use Rattle.gix_revwalk.proofs.ReadsWhole.{row_stands, parent_below, corrupt_row}
-use Rattle.gix_paint.proofs.Search.{done_or_waits, told_below}
+use Rattle.gix_paint.proofs.Search.{told_below}
+use Rattle.gix_revwalk.proofs.Reached.{done_or_waits}
 use Rattle.gix_hash.proofs.Ids.Membership.{id_total, id_apart, same_itself, Contains-here}
 
 -- a set that isn't empty has a member
@@ -42,20 +43,10 @@ member_of s some = go (set.items s) refl
     go (x ∷ items) e = (x, set.contains-items s x ∙ ap (list_any (eq_by_cmp id_cmp x)) e ∙ or_left _ _ (same_itself x))
 
 pub open_read : (o : Option Side) → state_by o true ≡ Open → state_by o false ≡ Read
-open_read None e = cc
-open_read (Some m) e = go (hides (Some m)) e
-  where
-    go : (b : Bool) → cond b Hides Open ≡ Open → cond b Hides Read ≡ Read
-    go true e = cc
-    go false e = refl
+open_read o e = grind arith
 
 pub shut : (o : Option Side) → state_by o false ≢ Open
-shut None = λ e. cc
-shut (Some m) = go (hides (Some m))
-  where
-    go : (b : Bool) → cond b Hides Read ≢ Open
-    go true = λ e. cc
-    go false = λ e. cc
+shut o = λ e. grind arith
 
 pub popped_there : {F : Type 0} {old new : Painter F} {top : Key × Entry} → Pops cmp-value.it old top new → Contains old.queue top
 popped_there {new = new} {top = top} pops = Contains-permutation _ _ top (IsPermutation-sym _ _ pops.queue) (Contains-here top new.queue)

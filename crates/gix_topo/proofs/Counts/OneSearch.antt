@@ -9,6 +9,7 @@ use Rattle.gix_frontier.specs.declared.Progress.TheVariants.{Queued, Done}
 use Rattle.gix_hash.specs.Reach.{Reaches, start, step}
 use Rattle.gix_frontier.specs.Inside.Frontier.{is_seen, is_queued, is_done, IsSearch}
 use Rattle.gix_hash.proofs.Lists.{only_member}
+use Rattle.gix_revwalk.proofs.Reached.{done_or_waits}
 
 -- what is seen after a step did it, or was met by it, or was seen before
 seen_by : (done met : Bool) (old new : Progress) → new ≡ cond done Done (cond (met && not (is_seen old)) Queued old) → is_seen new ≡ true → (done ≡ true) ⊎ ((met ≡ true) ⊎ (is_seen old ≡ true))
@@ -34,20 +35,6 @@ module _ (next : ObjectId → List ObjectId) (starts : List ObjectId) where
       found : here ≡ true → is_seen (old i) ≡ true
       found e = grind (arith, same_itself i, w i, h.queued i)
 
-  -- what is reached is done, or reached from a queued id
-  pub record IsAhead (progress : ObjectId → Progress) (x : ObjectId) : Type 0 where
-    pub from : ObjectId
-    pub queued : is_queued (progress from) ≡ true
-    pub path : Reaches next (from ∷ []) x
-
-  seen_cases : (progress : ObjectId → Progress) (x : ObjectId) → is_seen (progress x) ≡ true → (is_done (progress x) ≡ true) ⊎ IsAhead progress x
-  seen_cases progress x e = ⊎_elim inl (λ q. inr (record { from = x; queued = q; path = start (Contains-here x []) })) (done_or_queued (progress x) e)
-
-  pub ahead : (progress : ObjectId → Progress) (waits : ObjectId → ℕ) → IsSearch next starts progress waits → ((i : ObjectId) → Contains starts i → is_seen (progress i) ≡ true) → (x : ObjectId) → Reaches next starts x → (is_done (progress x) ≡ true) ⊎ IsAhead progress x
-  ahead progress waits h b x (start m) = seen_cases progress x (b x m)
-  ahead progress waits h b x (step {c = c} r m) =
-      ⊎_elim (λ d. seen_cases progress x (h.closed c x d m)) (λ a. inr (record { from = a.from; queued = a.queued; path = step a.path m })) (ahead progress waits h b c r)
-
   -- along a path a measure that no step raises doesn't rise
   pub no_higher : (g : ObjectId → ℕ) → ((c i : ObjectId) → Contains (next c) i → g i ≤ g c) → (q x : ObjectId) → Reaches next (q ∷ []) x → g x ≤ g q
   no_higher g low q x (start m) = subst (λ y. g y ≤ g q) (only_member q x m) (let r : g q ≤ g q = omega arith in r)
@@ -56,4 +43,5 @@ module _ (next : ObjectId → List ObjectId) (starts : List ObjectId) where
   -- what is reached, and not below a depth that no queued id reaches, is done
   pub explored : (g : ObjectId → ℕ) (depth : ℕ) (progress : ObjectId → Progress) (waits : ObjectId → ℕ) → ((c i : ObjectId) → Contains (next c) i → g i ≤ g c) → IsSearch next starts progress waits → ((i : ObjectId) → Contains starts i → is_seen (progress i) ≡ true) → ((i : ObjectId) → is_queued (progress i) ≡ true → g i < depth) → (x : ObjectId) → Reaches next starts x → depth ≤ g x → is_done (progress x) ≡ true
   explored g depth progress waits low h b rests x r high =
-      ⊎_elim (λ d. d) (λ a. let l : g a.from < depth = rests a.from a.queued in let u : g x ≤ g a.from = no_higher g low a.from x a.path in absurd (omega arith)) (ahead progress waits h b x r)
+      ⊎_elim (λ d. d) (λ w. let l : g w.0 < depth = rests w.0 w.1 in let u : g x ≤ g w.0 = no_higher g low w.0 x w.2 in absurd (omega arith))
+      (done_or_waits next starts (λ i. is_queued (progress i) ≡ true) (λ i. is_done (progress i) ≡ true) (λ i m. done_or_queued _ (b i m)) (λ c i d m. done_or_queued _ (h.closed c i d m)) x r)
