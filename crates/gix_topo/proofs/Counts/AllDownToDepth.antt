@@ -40,6 +40,6 @@ module _ (objects : Objects) (faulty : ObjectId → Type 0) (rows : List GraphRo
 
 -- the same after exploring
 module _ {F : Type 0} (objects : F → Objects) (faulty : F → ObjectId → Type 0) (tips ends : List ObjectId) (taken : ObjectId → Bool) where
-  pub exact_there : {old new : Counting F} → IsAgreeing (objects old.reader.find) (rows_of old.reader.graph) → Explores objects faulty old new → IsCounted (objects old.reader.find) (rows_of old.reader.graph) old.parents tips ends taken old.frontier → (side : Side) → IsBegun tips ends side old.frontier → IsRested new.reader.in_use old.depth new.frontier.queue → IsExplored (objects old.reader.find) (rows_of old.reader.graph) old.parents tips ends old.depth side new.frontier
-  exact_there {old} {new} agrees e h side begun rests =
-      exact (objects old.reader.find) (faulty old.reader.find) (rows_of old.reader.graph) old.parents tips ends agrees new.frontier new.reader.in_use old.depth (explores_keep objects faulty tips ends taken agrees e h).searched rests side (λ i m. explores_still objects faulty e side i (begun i m))
+  pub exact_there : {old new : Counting F} {depth : ℕ} → IsAgreeing (objects old.reader.find) (rows_of old.reader.graph) → Explores objects faulty old new → IsCounted (objects old.reader.find) (rows_of old.reader.graph) old.parents tips ends taken old.frontier → (side : Side) → IsBegun tips ends side old.frontier → IsRested new.reader.in_use depth new.frontier.queue → IsExplored (objects old.reader.find) (rows_of old.reader.graph) old.parents tips ends depth side new.frontier
+  exact_there {old} {new} {depth} agrees e h side begun rests =
+      exact (objects old.reader.find) (faulty old.reader.find) (rows_of old.reader.graph) old.parents tips ends agrees new.frontier new.reader.in_use depth (explores_keep objects faulty tips ends taken agrees e h).searched rests side (λ i m. explores_still objects faulty e side i (begun i m))

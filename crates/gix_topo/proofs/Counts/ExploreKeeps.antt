@@ -64,6 +64,14 @@ module _ {F : Type 0} (objects : F → Objects) (faulty : F → ObjectId → Typ
   explores_same itself = record { find = refl; graph = refl; parents = refl; depth = refl }
   explores_same {old = old} {new = last} (further {mid = mid} {new = new} e p s) = same_on objects faulty old mid new (explores_same e) s.same
 
+  -- what each step keeps, exploring keeps, said by what no step changes
+  pub explores_by : {Over : Type 0} (over : Counting F → Over) → ((old new : Counting F) → IsSamePlan objects faulty old new → over new ≡ over old) → (P : Over → Counting F → Type 0)
+      → ((mid new : Counting F) → is_pending mid.reader.in_use mid.depth mid.frontier.queue ≡ true → Steps objects faulty mid new → P (over mid) mid → P (over mid) new)
+      → {old new : Counting F} → Explores objects faulty old new → P (over old) old → P (over old) new
+  explores_by over same P keeps itself h = h
+  explores_by over same P keeps {old = old} (further {mid = mid} {new = new} e p s) h =
+      subst (λ o. P o new) (same old mid (explores_same e)) (keeps mid new p s (subst (λ o. P o mid) (sym (same old mid (explores_same e))) (explores_by over same P keeps e h)))
+
   -- where nothing waits, exploring does nothing
   pub explores_idle : {old new : Counting F} → Explores objects faulty old new → old.frontier.queue ≡ [] → new.frontier.queue ≡ []
   explores_idle itself e = e
@@ -109,7 +117,4 @@ module _ {F : Type 0} (objects : F → Objects) (faulty : F → ObjectId → Typ
         once p Ends e = refl
 
     pub explores_keep : {old new : Counting F} → IsAgreeing (objects old.reader.find) (rows_of old.reader.graph) → Explores objects faulty old new → Counted (over old) old.frontier → Counted (over old) new.frontier
-    explores_keep a itself h = h
-    explores_keep {old = old} a (further {mid = mid} {new = new} e p s) h =
-        let same : over mid ≡ over old = (λ k. (objects ((explores_same e).find k), (rows_of ((explores_same e).graph k), (explores_same e).parents k))) in
-        subst (λ o. Counted o new.frontier) same (steps_keep mid new (subst (λ (o : Objects × (List GraphRow × Parents)). IsAgreeing o.0 o.1.0) (sym same) a) s (subst (λ o. Counted o mid.frontier) (sym same) (explores_keep a e h)))
+    explores_keep a e h = explores_by over (λ a b s k. (objects (s.find k), (rows_of (s.graph k), s.parents k))) (λ o c. IsAgreeing o.0 o.1.0 → Counted o c.frontier) (λ mid new p s h a. steps_keep mid new a s (h a)) e (λ a. h) a
