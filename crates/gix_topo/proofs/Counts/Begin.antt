@@ -58,19 +58,6 @@ module _ {F : Type 0} (objects : F → Objects) (faulty : F → ObjectId → Typ
   abbrev pub lower_by : Counting F → List ObjectId → Counting F
   lower_by c ids = record c { depth = least (rows_of c.reader.graph) c.depth ids }
 
-  -- what both sides meet changes nothing else
-  both_same : {tips ends : List ObjectId} {old first second : Counting F} → HasMet Tips tips old first → HasMet Ends ends first second → second ≡ record old { frontier = second.frontier }
-  both_same {second = second} a b = b.same ∙ (λ k. record (a.same k) { frontier = second.frontier })
-
-  pub both_met : (tips ends : List ObjectId) (old first second : Counting F) → old.reader.in_use ≡ true → old.depth ≡ infinity → old.expanded ≡ 0 → old.frontier.queue ≡ [] → old.frontier.known ≡ map.empty → HasMet Tips tips old first → HasMet Ends ends first second → IsMet tips ends (lower_by (lower_by second ends) tips)
-  both_met tips ends old first second stands depth expanded queue known a b = record {
-    stands = ap (λ c. c.reader.in_use) (both_same a b) ∙ stands;
-    depth = least-append (rows_of second.reader.graph) second.depth tips ends ∙ ap (λ d. least (rows_of second.reader.graph) d (tips ++ ends)) (ap (λ c. c.depth) (both_same a b) ∙ depth);
-    expanded = ap (λ c. c.expanded) (both_same a b) ∙ expanded;
-    fresh = subst (λ c. IsFresh (objects c.reader.find) (rows_of c.reader.graph) c.parents tips ends second.frontier) (sym (both_same a b)) (fresh_met (objects old.reader.find) (rows_of old.reader.graph) old.parents tips ends old.frontier first.frontier second.frontier queue known a.meets
-        (subst (λ r. MeetsAll (rows_of r.graph) Ends first.frontier ends second.frontier) (ap (λ c. c.reader) a.same) b.meets));
-  }
-
   module _ (sorting : Sorting) (tips ends : List ObjectId) (low explored : Counting F) (start : IsMet tips ends low) (explores : Explores objects faulty low explored) (rested : IsRested explored.reader.in_use explored.depth explored.frontier.queue) where
     abbrev Rows : List GraphRow
     Rows = rows_of low.reader.graph
@@ -152,11 +139,21 @@ module _ {F : Type 0} (objects : F → Objects) (faulty : F → ObjectId → Typ
   -- the same, and why it fails, as the code comes there: both sides meet their starts, and the depth is lowered twice
   module _ (tips ends : List ObjectId) (old first second once low : Counting F) (stands : old.reader.in_use ≡ true) (depth : old.depth ≡ infinity) (expanded : old.expanded ≡ 0) (queue : old.frontier.queue ≡ []) (known : old.frontier.known ≡ map.empty)
       (a : HasMet Tips tips old first) (b : HasMet Ends ends first second) (c : once ≡ lower_by second ends) (d : low ≡ lower_by once tips) (sorting : Sorting) where
+    lowered : low ≡ record old { frontier = second.frontier; depth = least (rows_of old.reader.graph) infinity (tips ++ ends) }
+    lowered = d ∙ ap (λ x. lower_by x tips) c ∙ ap (λ x. lower_by (lower_by x ends) tips) (b.same ∙ (λ k. record (a.same k) { frontier = second.frontier }))
+        ∙ ap (λ n. record old { frontier = second.frontier; depth = n }) (least-append (rows_of old.reader.graph) old.depth tips ends ∙ ap (λ n. least (rows_of old.reader.graph) n (tips ++ ends)) depth)
+
     plans : plan_by low sorting tips ends ≡ plan_by old sorting tips ends
-    plans = ap (λ x. plan_by x sorting tips ends) (d ∙ ap (λ x. lower_by x tips) (c ∙ ap (λ x. lower_by x ends) (both_same a b)))
+    plans = ap (λ x. plan_by x sorting tips ends) lowered
 
     start_met : IsMet tips ends low
-    start_met = subst (λ x. IsMet tips ends x) (sym (d ∙ ap (λ x. lower_by x tips) c)) (both_met tips ends old first second stands depth expanded queue known a b)
+    start_met = subst (IsMet tips ends) (sym lowered) (record {
+      stands = stands;
+      depth = refl;
+      expanded = expanded;
+      fresh = fresh_met (objects old.reader.find) (rows_of old.reader.graph) old.parents tips ends old.frontier first.frontier second.frontier queue known a.meets
+          (subst (λ r. MeetsAll (rows_of r.graph) Ends first.frontier ends second.frontier) (ap (λ x. x.reader) a.same) b.meets);
+    })
 
     pub begun_from : (explored : Counting F) → Explores objects faulty low explored → IsRested explored.reader.in_use explored.depth explored.frontier.queue → HasBegun objects faulty (plan_by old sorting tips ends) explored
     begun_from explored explores rested = subst (λ plan. HasBegun objects faulty plan explored) plans (begun_on sorting tips ends low explored start_met explores rested)
