@@ -1,6 +1,7 @@
 -- What a change at one id does to what is known of all, and how much two searches have still to do.
-use Rattle.std.specs.Prelude.{◌≡◌, ◌≤◌, ℕ, zero, suc, ◌+◌, List, [], ◌∷◌, Bool, true, false, ◌&&◌, cond, Some, length, Contains, IsPermutation, sum_by}
-use Rattle.std.proofs.Common.{sym, ap, ◌∙◌, arith, refl}
+use Rattle.std.specs.Prelude.{◌≡◌, ◌≤◌, ◌<◌, ℕ, suc, ◌+◌, List, [], ◌∷◌, Bool, true, false, ◌&&◌, cond, Some, length, Contains, IsPermutation, sum_by}
+use Rattle.std.proofs.Common.{sym, ap, ⊎_elim, ◌∙◌, arith, refl}
+use Rattle.std.proofs.lemmas.Bool.{cases_lt}
 use Rattle.std.specs.List.{remove}
 use Rattle.std.proofs.lemmas.List.Recursion.{is_sum_by}
 use Rattle.std.specs.FinMap as map
@@ -25,11 +26,7 @@ pub side_itself : (a : Side) → is_side a a ≡ true
 side_itself a = grind arith
 
 pub known-insert : (those : map.FinMap id_cmp Known) (i : ObjectId) (known : Known) (j : ObjectId) → known_of (map.insert those i known) j ≡ cond (is_same j i) known (known_of those j)
-known-insert those i known j = ap known_or (map.get-insert id_total those i known j) ∙ go (is_same j i)
-  where
-    go : (b : Bool) → known_or (cond b (Some known) (map.get those j)) ≡ cond b known (known_of those j)
-    go true = refl
-    go false = refl
+known-insert those i known j = grind (arith, map.get-insert id_total those i known j)
 
 -- what a change at one id leaves as it was there, it leaves as it was of all
 pub kept : {X : Type 0} (part : Known → X) (those : map.FinMap id_cmp Known) (i : ObjectId) (known : Known) (j : ObjectId) → part known ≡ part (known_of those i) → part (known_of (map.insert those i known) j) ≡ part (known_of those j)
@@ -71,8 +68,5 @@ sum_less f g i xs all l m =
 -- a sum that isn't 0 has a term that isn't
 pub some_term : {X : Type 0} (f : X → ℕ) (xs : List X) → 1 ≤ sum_by f xs → (x : X) × Contains xs x × (1 ≤ f x)
 some_term f [] l = absurd (omega arith)
-some_term f (x ∷ xs) l = go (f x) refl (some_term f xs)
-  where
-    go : (n : ℕ) → f x ≡ n → (1 ≤ sum_by f xs → (y : _) × Contains xs y × (1 ≤ f y)) → (y : _) × Contains (x ∷ xs) y × (1 ≤ f y)
-    go zero e r = let s : (y : _) × Contains xs y × (1 ≤ f y) = r (omega (arith, sum_by-cons f x xs)) in (s.0, Contains-there s.0 x xs s.1, s.2)
-    go (suc n) e r = (x, Contains-here x xs, omega arith)
+some_term f (x ∷ xs) l = ⊎_elim (λ (h : 0 < f x). (x, Contains-here x xs, omega arith))
+    (λ (z : f x ≤ 0). let s : (y : _) × Contains xs y × (1 ≤ f y) = some_term f xs (omega (arith, sum_by-cons f x xs)) in (s.0, Contains-there s.0 x xs s.1, s.2)) (cases_lt 0 (f x))

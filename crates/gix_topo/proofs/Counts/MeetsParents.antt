@@ -45,18 +45,19 @@ counted_of Tips ids j = times j ids
 counted_of Ends ids j = 0
 
 module _ (rows : List GraphRow) where
-  met_none : (side : Side) (f : Frontier) → AreMet rows side [] (λ j. 0) f f
-  met_none side f = record { moved = λ s j. grind arith; waits = λ s j. grind arith; keyed = λ entry m. inr m; children = λ j. omega arith; made = λ j. refl; less = λ names h. omega arith }
-
-  met_again : (side : Side) (i : ObjectId) (f : Frontier) → has_seen f side i ≡ true → AreMet rows side (i ∷ []) (λ j. 0) f f
-  met_again side i f e = record {
-    moved = λ s j. grind (arith, e, side_is s side, same_is j i);
-    waits = λ s j. grind (arith, e, side_is s side, same_is j i);
+  -- ids that a side has seen are met again
+  met_again : (side : Side) (ids : List ObjectId) (f : Frontier) → ((j : ObjectId) → is_among j ids ≡ true → has_seen f side j ≡ true) → AreMet rows side ids (λ j. 0) f f
+  met_again side ids f known = record {
+    moved = λ s j. grind (arith, known j, side_is s side);
+    waits = λ s j. grind (arith, known j, side_is s side);
     keyed = λ entry m. inr m;
     children = λ j. omega arith;
     made = λ j. refl;
     less = λ names h. omega arith;
   }
+
+  met_none : (side : Side) (f : Frontier) → AreMet rows side [] (λ j. 0) f f
+  met_none side f = met_again side [] f (λ j e. cc)
 
   met_first : (side : Side) (i : ObjectId) (old new : Frontier) → has_seen old side i ≡ false → IsPermutation ((known_generation rows i, waiting_by i side) ∷ old.queue) new.queue → new.known ≡ map.insert old.known i (with_progress side Queued (known_of old.known i)) → AreMet rows side (i ∷ []) (λ j. 0) old new
   met_first side i old new u p k = record {
@@ -75,7 +76,7 @@ module _ (rows : List GraphRow) where
       now s j = ap (λ those. reached those s j) k ∙ moved old.known i side s Queued j
 
   met_one : {side : Side} {old : Frontier} {i : ObjectId} {new : Frontier} → Meets old (known_generation rows i) i side new → AreMet rows side (i ∷ []) (λ j. 0) old new
-  met_one {side} {old} {i} (seen e same) = subst (AreMet rows side (i ∷ []) (λ j. 0) old) (sym same) (met_again side i old e)
+  met_one {side} {old} {i} (seen e same) = subst (AreMet rows side (i ∷ []) (λ j. 0) old) (sym same) (met_again side (i ∷ []) old (λ j a. grind (arith, e, same_is j i)))
   met_one {side} {old} {i} {new} (unseen u p k) = met_first side i old new u p k
 
   -- a child is counted, and then the tips' side meets its parent

@@ -24,8 +24,7 @@ contains-taken known ready i =
     was_taken j = (known_of known j).was_ready && not (is_among j (ready_ids ready))
 
     in_table : (found : Option Known) → (is_some found && ((known_or found).was_ready && not (is_among i (ready_ids ready)))) ≡ ((known_or found).was_ready && not (is_among i (ready_ids ready)))
-    in_table None = refl
-    in_table (Some known) = refl
+    in_table found = grind arith
 
 -- a ready commit isn't one
 pub ready_untaken : {F : Type 0} (w : Walk F) (i : ObjectId) → Contains (ready_ids w.ready.commits) i → set.contains (taken_of w) i ≡ false
