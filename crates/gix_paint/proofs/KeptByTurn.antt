@@ -28,7 +28,8 @@ use Rattle.gix_revwalk.specs.RowParents.{ids_at}
 use Rattle.gix_paint.proofs.Invariant.{nobody, next, starts_of, RowsInUse, IsSafe, IsOutside, Fact, Stands, IsStarted}
 use Rattle.gix_paint.proofs.Keys.{told_below_top}
 use Rattle.gix_revwalk.proofs.ReadsWhole.{row_stands, parent_below, corrupt_row}
-use Rattle.gix_paint.proofs.Search.{done_or_waits, told_below}
+use Rattle.gix_paint.proofs.Search.{told_below}
+use Rattle.gix_revwalk.proofs.Reached.{done_or_waits}
 use Rattle.gix_hash.proofs.Ids.Membership.{id_total, id_apart, same_itself, Contains-here}
 
 -- a set that isn't empty has a member
@@ -42,20 +43,10 @@ member_of s some = go (set.items s) refl
     go (x ∷ items) e = (x, set.contains-items s x ∙ ap (list_any (eq_by_cmp id_cmp x)) e ∙ or_left _ _ (same_itself x))
 
 pub open_read : (o : Option Side) → state_by o true ≡ Open → state_by o false ≡ Read
-open_read None e = cc
-open_read (Some m) e = go (hides (Some m)) e
-  where
-    go : (b : Bool) → cond b Hides Open ≡ Open → cond b Hides Read ≡ Read
-    go true e = cc
-    go false e = refl
+open_read o e = grind arith
 
 pub shut : (o : Option Side) → state_by o false ≢ Open
-shut None = λ e. cc
-shut (Some m) = go (hides (Some m))
-  where
-    go : (b : Bool) → cond b Hides Read ≢ Open
-    go true = λ e. cc
-    go false = λ e. cc
+shut o = λ e. grind arith
 
 pub popped_there : {F : Type 0} {old new : Painter F} {top : Key × Entry} → Pops cmp-value.it old top new → Contains old.queue top
 popped_there {new = new} {top = top} pops = Contains-permutation _ _ top (IsPermutation-sym _ _ pops.queue) (Contains-here top new.queue)
@@ -119,16 +110,22 @@ module _ {F : Type 0} (objects : F → Objects) (store : F) (history : Objects) 
           let k : (m : ℕ) × (q.0.0.generation ≡ Told m) × (m ≤ n) = told_below_top top.0 w.queue bound n e q.0 q.1 in
           (k.0, subst (λ j. HasGeneration j k.0) q.3 (row_told r q.0 q.1 k.0 k.1), k.2)
 
+      -- what hidden tips reach is done, or has a row that is no higher than a greatest key; one as high waits
+      hidden_low : RowsInUse objects store rows w → (top : Key × Entry) → IsUpperBound cmp-value.it top.0 (keys w.queue) → (n : ℕ) → top.0.generation ≡ Told n → (c : ObjectId) → Reaches There hidden_tips c → IsDone w c ⊎ ((m : ℕ) × HasGeneration c m × (m ≤ n) × (IsWaiting w side.Hidden c ⊎ (m < n)))
+      hidden_low r top bound n told c reached = ⊎_elim (λ d. inl d) (λ q.
+          let above : (m : ℕ) × HasGeneration q.0 m × (m ≤ n) = waits_below r top bound n told side.Hidden q.0 q.1 in
+          let under : (m : ℕ) × HasGeneration c m × ((q.0 ≡ c) ⊎ (m < above.0)) = below q.0 above.0 above.1 c q.2 in
+          let le : above.0 ≤ n = above.2 in
+          inr (⊎_elim (λ s. (above.0, subst (λ j. HasGeneration j above.0) s above.1, above.2, inl (subst (IsWaiting w side.Hidden) s q.1))) (λ (l : under.0 < above.0). (under.0, under.1, omega arith, inr (omega arith))) under.2))
+          (hidden_from w h started c reached)
+
       -- no id is taken that an unread id above it would hide
       pub taken_outside : RowsInUse objects store rows w → (top : Key × Entry) → Contains w.queue top → IsUpperBound cmp-value.it top.0 (keys w.queue) → state_of w top.1.id ≢ Hides → IsOutside objects store history rows tips hidden_tips top.1.id
       taken_outside r top there bound unhidden row e hidden =
-          ⊎_elim (λ d. unhidden d.0) (λ q.
-          let told : top.0.generation ≡ Told row.generation = key_of r top there row e in
-          let above : (m : ℕ) × HasGeneration q.0 m × (m ≤ row.generation) = waits_below r top bound row.generation told side.Hidden q.0 q.1 in
-          let under : (m : ℕ) × HasGeneration top.1.id m × ((q.0 ≡ top.1.id) ⊎ (m < above.0)) = below q.0 above.0 above.1 top.1.id q.2 in
-          let same : under.0 ≡ row.generation = one_generation top.1.id under.0 row.generation under.1 (row, e, refl) in
-          ⊎_elim (λ s. unhidden (ap (state_of w) (sym (q.1.3 ∙ s)) ∙ h.waits q.1.0 q.1.1 q.1.2)) (λ l. let le : above.0 ≤ row.generation = above.2 in absurd (omega arith)) under.2)
-          (hidden_from w h started top.1.id hidden)
+          ⊎_elim (λ d. unhidden d.0) (λ k.
+          let same : k.0 ≡ row.generation = one_generation top.1.id k.0 row.generation k.1 (row, e, refl) in
+          ⊎_elim (λ q. unhidden (ap (state_of w) (sym q.3) ∙ h.waits q.0 q.1 q.2)) (λ (l : k.0 < row.generation). absurd (omega arith)) k.3)
+          (hidden_low r top bound row.generation (key_of r top there row e) top.1.id hidden)
 
       -- rows are dropped for the row of a greatest key, while an open id waits below
       pub drop_reason : RowsInUse objects store rows w → IsSome (graph_in_use w.source) → (top : Key × Entry) → Contains w.queue top → IsUpperBound cmp-value.it top.0 (keys w.queue) → (IsSettled w → ⊥) → (row : GraphRow) → row_of rows top.1.id ≡ Some row → ids_at rows row.parents ≡ None
@@ -159,13 +156,8 @@ module _ {F : Type 0} (objects : F → Objects) (store : F) (history : Objects) 
           child : top.0.generation ≡ Told row.generation → (x : ObjectId) → state_of w x ≡ Open → (c : ObjectId) → Reaches There hidden_tips c → Contains (There c) x → generation_in (row_of rows c) < suc row.generation
           child told x waits c reached m =
               ⊎_elim (λ d. let bad : Open ≡ Hides = sym waits ∙ d.1 x m in cc)
-              (λ q.
-              let above : (m : ℕ) × HasGeneration q.0 m × (m ≤ row.generation) = waits_below r top bound row.generation told side.Hidden q.0 q.1 in
-              let under : (m : ℕ) × HasGeneration c m × ((q.0 ≡ c) ⊎ (m < above.0)) = below q.0 above.0 above.1 c q.2 in
-              let told_as : generation_in (row_of rows c) ≡ under.0 = ap generation_in under.1.1 ∙ under.1.2 in
-              let le : above.0 ≤ row.generation = above.2 in
-              ⊎_elim (λ s. let same : under.0 ≡ above.0 = one_generation c under.0 above.0 under.1 (subst (λ j. HasGeneration j above.0) s above.1) in omega arith) (λ l. omega arith) under.2)
-              (hidden_from w h started c reached)
+              (λ k. let same : generation_in (row_of rows c) ≡ k.0 = ap generation_in k.1.1 ∙ k.1.2 in let le : k.0 ≤ row.generation = k.2 in omega arith)
+              (hidden_low r top bound row.generation told c reached)
 
           outside : top.0.generation ≡ Told row.generation → (x : ObjectId) → state_of w x ≡ Open → (c : ObjectId) → IsOutside objects store history rows tips hidden_tips c → Contains (There c) x → Reaches There hidden_tips c → ⊥
           outside told x waits c out m hidden = go (row_of rows c) refl
@@ -173,8 +165,4 @@ module _ {F : Type 0} (objects : F → Objects) (store : F) (history : Objects) 
               go : (o : Option GraphRow) → row_of rows c ≡ o → ⊥
               go (Some r) e = out r e hidden
               go None e =
-                  ⊎_elim (λ d. let bad : Open ≡ Hides = sym waits ∙ d.1 x m in cc) (λ q.
-                  let above : (m : ℕ) × HasGeneration q.0 m × (m ≤ row.generation) = waits_below r top bound row.generation told side.Hidden q.0 q.1 in
-                  let under : (m : ℕ) × HasGeneration c m × ((q.0 ≡ c) ⊎ (m < above.0)) = below q.0 above.0 above.1 c q.2 in
-                  let bad : None ≡ Some under.1.0 = sym e ∙ under.1.1 in cc)
-                  (hidden_from w h started c hidden)
+                  ⊎_elim (λ d. let bad : Open ≡ Hides = sym waits ∙ d.1 x m in cc) (λ k. let bad : None ≡ Some k.1.0 = sym e ∙ k.1.1 in cc) (hidden_low r top bound row.generation told c hidden)

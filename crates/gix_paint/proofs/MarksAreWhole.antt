@@ -29,25 +29,10 @@ use Rattle.gix_hash.proofs.Ids.Membership.{no_member, Contains-here}
 use Rattle.gix_revwalk.proofs.ReadsWhole.{row_stands}
 
 hidden_state : (o : Option Side) (waiting : Bool) → state_by o waiting ≡ Hides → hides o ≡ true
-hidden_state None waiting e = cc
-hidden_state (Some m) waiting e = go (hides (Some m)) waiting e
-  where
-    go : (b w : Bool) → cond b Hides (cond w Open Read) ≡ Hides → b ≡ true
-    go true w e = refl
-    go false true e = cc
-    go false false e = cc
-
-no_greater : (a b : ℕ) → a < b → b < a → ⊥
-no_greater a b l m = omega arith
+hidden_state o waiting e = grind arith
 
 open_waits : (o : Option Side) (waiting : Bool) → state_by o waiting ≡ Open → waiting ≡ true
-open_waits None waiting e = cc
-open_waits (Some m) waiting e = go (hides (Some m)) waiting e
-  where
-    go : (b w : Bool) → cond b Hides (cond w Open Read) ≡ Open → w ≡ true
-    go true w e = cc
-    go false true e = refl
-    go false false e = cc
+open_waits o waiting e = grind arith
 
 module _ {F : Type 0} (objects : F → Objects) (store : F) (history : Objects) (rows : List GraphRow) (tips hidden_tips : List ObjectId) where
   abbrev There : ObjectId → List ObjectId
@@ -221,7 +206,10 @@ module _ {F : Type 0} (objects : F → Objects) (store : F) (history : Objects) 
         not_above i row e q w path bound lower above = go (row_of rows bound) refl
           where
             go : (o : Option GraphRow) → row_of rows bound ≡ o → ⊥
-            go None f = no_greater row.generation (generation_in None) (known.agreeing row (row_stands rows i row e).0).finite (subst (λ o. generation_in o < row.generation) f lower)
+            go None f =
+                let finite : row.generation < generation_in None = (known.agreeing row (row_stands rows i row e).0).finite in
+                let l : generation_in None < row.generation = subst (λ o. generation_in o < row.generation) f lower in
+                omega arith
             go (Some other) f =
                 let k : (m : ℕ) × (w.0.0.generation ≡ Told m) × (m ≤ other.generation) = above stands other f w.0 w.1 in
                 let g : HasGeneration objects store history rows tips hidden_tips q k.0 = subst (λ j. HasGeneration objects store history rows tips hidden_tips j k.0) w.3 (row_told objects store history rows tips hidden_tips known p safe h started stands w.0 w.1 k.0 k.1) in

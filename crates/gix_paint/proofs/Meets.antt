@@ -3,6 +3,7 @@ use Rattle.std.specs.Prelude.{◌≡◌, ◌≢◌, ◌⊎◌, ◌<◌, ◌≤�
 use Rattle.std.specs.Borrow.{Bor}
 use Rattle.std.specs.Result.{IsErrAnd}
 use Rattle.std.proofs.Common.{refl, sym, ap, subst, inl, inr, ⊎_elim, ◌∙◌, arith}
+use Rattle.std.proofs.lemmas.Bool.{cases_Bool}
 use Rattle.std.proofs.lemmas.List.Elements.{Contains-append_left, Contains-append_right, Contains-append_cases}
 use Rattle.std.proofs.lemmas.List.Sorted.{Contains-permutation, length_permutation}
 use Rattle.std.specs.FinMap as map_of
@@ -36,17 +37,9 @@ becomes_both part one two later (covers v m q) (covers u n r) = covers v (one m)
 
 -- fewer are new where more are old
 more_old : (s : ObjectId → Bool) (xs : List ObjectId) (i : ObjectId) → is_among i xs ≡ true → length (fresh (λ j. is_same j i || s j) xs) ≤ length (fresh s xs)
-more_old s xs i e = go (s i) refl
-  where
-    go : (b : Bool) → s i ≡ b → length (fresh (λ j. is_same j i || s j) xs) ≤ length (fresh s xs)
-    go true o =
-        let same : length (fresh (λ j. is_same j i || s j) xs) ≡ length (fresh s xs) = ap length (fresh_agree _ s xs (λ j h. old j (is_same j i) refl)) in
-        omega arith
-      where
-        old : (j : ObjectId) (b : Bool) → is_same j i ≡ b → (b || s j) ≡ s j
-        old j true t = sym (subst (λ k. s k ≡ true) (sym (same_is j i t)) o)
-        old j false t = refl
-    go false o = let less : suc (length (fresh (λ j. is_same j i || s j) xs)) ≡ length (fresh s xs) = new_less s xs i e o in omega arith
+more_old s xs i e = ⊎_elim
+    (λ (o : s i ≡ true). let same : length (fresh (λ j. is_same j i || s j) xs) ≡ length (fresh s xs) = ap length (fresh_agree (λ j. is_same j i || s j) s xs (λ j h. grind (arith, same_is j i))) in omega arith)
+    (λ o. let less : suc (length (fresh (λ j. is_same j i || s j) xs)) ≡ length (fresh s xs) = new_less s xs i e o in omega arith) (cases_Bool (s i))
 
 module _ {F : Type 0} (objects : F → Objects) where
   -- what is known already isn't met anew
@@ -110,11 +103,7 @@ module _ {F : Type 0} (objects : F → Objects) where
     length_now = length_permutation _ _ q.queue ∙ ap (λ es. suc (length es)) queue
 
     marked_fresh : (named : List ObjectId) → length (fresh (λ j. is_some (map_of.get new.marks j)) named) ≡ length (fresh (λ j. is_same j i || is_some (map_of.get p.marks j)) named)
-    marked_fresh named = ap length (fresh_agree _ _ named (λ j h. ap is_some (marks_now j) ∙ split (is_same j i) (map_of.get p.marks j)))
-      where
-        split : (b : Bool) (o : Option Side) → is_some (cond b (Some on) o) ≡ (b || is_some o)
-        split true o = refl
-        split false o = refl
+    marked_fresh named = ap length (fresh_agree (λ j. is_some (map_of.get new.marks j)) (λ j. is_same j i || is_some (map_of.get p.marks j)) named (λ j h. grind (arith, marks_now j)))
 
     met_fewer : (named : List ObjectId) → is_among i named ≡ true → length (fresh (λ j. is_some (map_of.get new.marks j)) named) ≤ length (fresh (λ j. is_some (map_of.get p.marks j)) named)
     met_fewer named e =
@@ -176,15 +165,11 @@ module _ {F : Type 0} (objects : F → Objects) where
             subst (λ s. Becomes on (Contains (i ∷ []) j) (IsWaiting new on j) s (state_by (Some on) true)) (sym before)
             (subst (Becomes on (Contains (i ∷ []) j) (IsWaiting new on j) Unmet) (sym opened) (opens visible (named_here j e) (waits_here j e)))
 
-        hidden_same : (j : ObjectId) (b : Bool) → is_same j i ≡ b → hides (cond b (Some on) (map_of.get p.marks j)) ≡ hides (map_of.get p.marks j)
-        hidden_same j true e = unhidden ∙ sym (ap hides (ap (map_of.get p.marks) (same_is j i e) ∙ unmet))
-        hidden_same j false e = refl
-
         spent : (named : List ObjectId) → is_among i named ≡ true → room named new ≤ room named p
         spent named e =
             let less : suc (length (fresh (λ j. is_same j i || is_some (map_of.get p.marks j)) named)) ≡ length (fresh (λ j. is_some (map_of.get p.marks j)) named) = new_less (λ j. is_some (map_of.get p.marks j)) named i e (ap is_some unmet) in
             let same = marked_fresh named in
-            let hidden : length (fresh (is_hidden new.marks) named) ≡ length (fresh (is_hidden p.marks) named) = ap length (fresh_agree _ _ named (λ j h. ap hides (marks_now j) ∙ hidden_same j (is_same j i) refl)) in
+            let hidden : length (fresh (is_hidden new.marks) named) ≡ length (fresh (is_hidden p.marks) named) = ap length (fresh_agree (is_hidden new.marks) (is_hidden p.marks) named (λ j h. grind (arith, marks_now j, unhidden, same_is j i, unmet))) in
             let longer = length_now in
             omega arith
 
@@ -202,14 +187,10 @@ module _ {F : Type 0} (objects : F → Objects) where
         none_waits : (j : ObjectId) → is_same j i ≡ true → set.contains new.frontier j ≡ true → state_by (Some on) false ≡ Open
         none_waits j e w = let none : true ≡ false = sym w ∙ waits_now j ∙ ap (λ b. not b && set.contains p.frontier j) e in cc
 
-        split : (b : Bool) (o : Option Side) → hides (cond b (Some on) o) ≡ (b || hides o)
-        split true o = ap (λ s. hides (Some s)) hidden
-        split false o = refl
-
         spent : (named : List ObjectId) → is_among i named ≡ true → room named new ≤ room named p
         spent named e =
             let less : suc (length (fresh (λ j. is_same j i || is_hidden p.marks j) named)) ≡ length (fresh (is_hidden p.marks) named) = new_less (is_hidden p.marks) named i e unhidden in
-            let same : length (fresh (is_hidden new.marks) named) ≡ length (fresh (λ j. is_same j i || is_hidden p.marks j) named) = ap length (fresh_agree _ _ named (λ j h. ap hides (marks_now j) ∙ split (is_same j i) (map_of.get p.marks j))) in
+            let same : length (fresh (is_hidden new.marks) named) ≡ length (fresh (λ j. is_same j i || is_hidden p.marks j) named) = ap length (fresh_agree (is_hidden new.marks) (λ j. is_same j i || is_hidden p.marks j) named (λ j h. grind (arith, marks_now j, hidden))) in
             let fewer = met_fewer named e in
             let longer = length_now in
             omega arith
@@ -219,16 +200,10 @@ if_ok (Ok x) f h = f x h
 if_ok (Err e) f h = tt
 
 pub met_then : (o : Option Side) (waiting : Bool) → is_some o ≡ true → state_by o waiting ≢ Unmet
-met_then None waiting e = cc
-met_then (Some mark) waiting e = go (hides (Some mark))
-  where
-    go : (b : Bool) → cond b Hides (cond waiting Open Read) ≢ Unmet
-    go true = λ e. cc
-    go false = elim waiting as (λ w. cond w Open Read ≢ Unmet) [ true ↦ λ e. cc | false ↦ λ e. cc ]
+met_then o waiting e = λ u. grind arith
 
 pub hides_then : (o : Option Side) (waiting : Bool) → hides o ≡ true → state_by o waiting ≡ Hides
-hides_then None waiting e = cc
-hides_then (Some mark) waiting e = ap (λ b. cond b Hides (cond waiting Open Read)) e
+hides_then o waiting e = grind arith
 
 module _ {F : Type 0} (objects : F → Objects) (faulty : F → ObjectId → Type 0) where
   pub meets_first : {on : Side} (ids : List ObjectId) (i : ObjectId) (rest : List ObjectId) {p mid new : Painter F} → ids ≡ i ∷ rest → Meets objects on (i ∷ []) p mid → Meets objects on rest mid new → Meets objects on ids p new

@@ -15,10 +15,10 @@ use Rattle.gix_paint.specs.declared.Entry.{Entry}
 use Rattle.gix_paint.specs.declared.Painter.{Painter}
 use Rattle.gix_hash.specs.Reach.{Reaches}
 use Rattle.gix_paint.specs.Painting.{IsHistory}
-use Rattle.gix_paint.specs.Inside.Painter.{State, Unmet, Read, Hides, state_of, Becomes, stays, opens, covers, rows_in, graph_in_use, by_row, by_store, drops, IsQueued, IsWaiting, Meets, GivesParents, brought, looked_up, is_turn, is_turn_on, TreatsEntry, skips, reads, Pops}
+use Rattle.gix_paint.specs.Inside.Painter.{State, Unmet, Open, Read, Hides, state_of, Becomes, rows_in, graph_in_use, by_row, by_store, drops, IsQueued, IsWaiting, Meets, GivesParents, brought, looked_up, is_turn, is_turn_on, TreatsEntry, skips, reads, Pops}
 use Rattle.gix_paint.specs.Inside.Painter as painter
 use Rattle.gix_revwalk.specs.RowParents.{ids_at}
-use Rattle.gix_paint.proofs.Invariant.{nobody, next, starts_of, RowsInUse, IsSafe, Stands, IsStarted, still_stand}
+use Rattle.gix_paint.proofs.Invariant.{become, nobody, next, starts_of, RowsInUse, IsSafe, Stands, IsStarted, still_stand}
 use Rattle.gix_revwalk.proofs.Rows.{IsSoundRow, unread_fault}
 use Rattle.gix_paint.proofs.Keys.{told_below_top}
 use Rattle.gix_paint.proofs.KeptByTurn.{HasGeneration, falls, key_of, row_told, popped_there}
@@ -38,17 +38,10 @@ given_sound {entry = entry} rows (looked_up n (by_store e r)) now was none row k
 given_sound {entry = entry} rows (looked_up n (drops e f r)) now was none row k corrupt = let bad : None ≡ Some row = ap (λ rs. row_of rs entry.id) now ∙ k in cc
 
 was_read : {s : Side} {met queued : Type 0} {a b : State} → Becomes s met queued a b → b ≡ Read → a ≡ Read
-was_read (stays f) e = e
-was_read (opens v m q) e = cc
-was_read (covers v m q) e = cc
+was_read c e = grind (arith, become c)
 
 was_hidden : {s : Side} {met queued : Type 0} {a b : State} → Becomes s met queued a b → b ≡ Hides → (a ≡ Hides) ⊎ ((s ≡ side.Hidden) × met × queued)
-was_hidden (stays f) e = inl e
-was_hidden (opens v m q) e = cc
-was_hidden (covers v m q) e = inr (v, m, q)
-
-none_read : {s : Side} {met queued : Type 0} {a b : State} → Becomes s met queued a b → (a ≡ Read → ⊥) → b ≡ Read → ⊥
-none_read becomes n e = n (was_read becomes e)
+was_hidden c e = ⊎_elim (λ k. inl (sym k.0 ∙ e)) (λ o. ⊎_elim (λ k. let bad : Open ≡ Hides = sym k.1 ∙ e in cc) (λ k. inr (k.1, k.2, k.3)) o) (become c)
 
 module _ {F : Type 0} (objects : F → Objects) (store : F) (history : Objects) (rows : List GraphRow) (tips hidden_tips : List ObjectId) where
   abbrev There : ObjectId → List ObjectId
@@ -74,7 +67,7 @@ module _ {F : Type 0} (objects : F → Objects) (store : F) (history : Objects) 
   -- at the start the hidden tips alone are hidden, and nothing was read
   pub ordered_start : {p mid new : Painter F} → ((i : ObjectId) → state_of p i ≡ Unmet) → Meets objects side.Hidden hidden_tips p mid → Meets objects side.Visible tips mid new → IsOrdered new
   ordered_start {p} {mid} {new} blank hides shows = record {
-    shown = λ i e. absurd (none_read (shows.states i) (none_read (hides.states i) (λ r. let bad : Unmet ≡ Read = sym (blank i) ∙ r in cc)) e);
+    shown = λ i e. let bad : Unmet ≡ Read = sym (blank i) ∙ was_read (hides.states i) (was_read (shows.states i) e) in cc;
     hidden = λ i e. inl (tip i e).0;
     sound = λ i e. inl (tip i e).1;
   }

@@ -1,23 +1,11 @@
--- A search from some starts, by what waits and what is done; and generations, which fall from a commit to its parents.
+-- Generations fall from a commit to its parents.
 use Rattle.std.specs.Prelude.{◌≡◌, ◌⊎◌, ◌<◌, ℕ, List, [], ◌∷◌, Contains}
 use Rattle.std.proofs.Common.{subst, inl, inr, ⊎_elim, arith}
 use Rattle.gix_hash.specs.declared.ObjectId.{ObjectId}
 use Rattle.gix_hash.specs.Reach.{Reaches, start, step}
-use Rattle.gix_hash.proofs.Ids.Membership.{Contains-here}
 use Rattle.gix_hash.proofs.Lists.{only_member}
 
 module _ (next : ObjectId → List ObjectId) where
-  -- what is reached is done, or is reached from what waits
-  pub done_or_waits : (starts : List ObjectId) (Waits Done : ObjectId → Type 0)
-      → ((i : ObjectId) → Contains starts i → Done i ⊎ Waits i)
-      → ((c i : ObjectId) → Done c → Contains (next c) i → Done i ⊎ Waits i)
-      → (i : ObjectId) → Reaches next starts i → Done i ⊎ ((q : ObjectId) × Waits q × Reaches next (q ∷ []) i)
-  done_or_waits starts Waits Done begins goes i (start m) = ⊎_elim (λ d. inl d) (λ w. inr (i, w, start (Contains-here i []))) (begins i m)
-  done_or_waits starts Waits Done begins goes i (step {c = c} r m) =
-      ⊎_elim (λ d. ⊎_elim (λ e. inl e) (λ w. inr (i, w, start (Contains-here i []))) (goes c i d m))
-      (λ w. inr (w.0, w.1, step w.2 m))
-      (done_or_waits starts Waits Done begins goes c r)
-
   -- what an id that has a generation reaches has a generation, the same or a lesser one
   pub told_below : (told : ObjectId → ℕ → Type 0)
       → ((i : ObjectId) (m n : ℕ) → told i m → told i n → m ≡ n)

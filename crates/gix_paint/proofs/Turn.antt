@@ -1,7 +1,8 @@
 -- A turn of the painting: an entry is taken, its commit is read, and its parents are met.
 use Rattle.std.specs.Borrow.{Bor}
 use Rattle.std.specs.Prelude.{◌≡◌, ◌≢◌, ◌⊎◌, List, Bool, true, false, not, ◌&&◌, Option, Some, None, Contains, IsSome}
-use Rattle.std.proofs.Common.{refl, sym, ap, subst, inl, inr, ⊎_elim, ◌∙◌}
+use Rattle.std.proofs.Common.{refl, sym, ap, subst, inl, inr, ⊎_elim, ◌∙◌, arith}
+use Rattle.std.proofs.lemmas.Bool.{and_parts, cases_Bool}
 use Rattle.std.proofs.lemmas.List.Sorted.{Contains-permutation, IsPermutation-sym}
 use Rattle.std.specs.FinMap as map_of
 use Rattle.std.specs.FinSet as set
@@ -69,36 +70,31 @@ module _ {F : Type 0} (objects : F → Objects) (store : F) (history : Objects) 
     frontier_now : mid.frontier ≡ frontier_without top.1.side w.frontier top.1.id
     frontier_now = takes.frontier ∙ ap (λ f. frontier_without top.1.side f top.1.id) pops.frontier
 
+    -- after the turn of a visible entry its id waits no more
+    waits_now : top.1.side ≡ side.Visible → (i : ObjectId) → set.contains mid.frontier i ≡ (not (is_same i top.1.id) && set.contains w.frontier i)
+    waits_now on i = ap (λ f. set.contains f i) (frontier_now ∙ ap (λ s. frontier_without s w.frontier top.1.id) on) ∙ set.contains-remove id_total w.frontier top.1.id i
+
+    gone : top.1.side ≡ side.Visible → set.contains mid.frontier top.1.id ≡ false
+    gone on = waits_now on top.1.id ∙ ap (λ b. not b && set.contains w.frontier top.1.id) (same_itself top.1.id)
+
     pub turned : Stands objects store history rows tips hidden_tips nobody w → (i : ObjectId) → IsTurned turn top.1.side (i ≡ top.1.id) (state_of w i) (state_of mid i)
     turned h i = go top.1.side refl
       where
         go : (s : Side) → top.1.side ≡ s → IsTurned turn top.1.side (i ≡ top.1.id) (state_of w i) (state_of mid i)
         go side.Hidden on = inl (λ k. state_by (marks_same i k) (ap (λ f. set.contains f i) (frontier_now ∙ ap (λ s. frontier_without s w.frontier top.1.id) on) k))
-        go side.Visible on = which (is_same i top.1.id) refl (set.contains w.frontier i) refl
-          where
-            waits_now : set.contains mid.frontier i ≡ (not (is_same i top.1.id) && set.contains w.frontier i)
-            waits_now = ap (λ f. set.contains f i) (frontier_now ∙ ap (λ s. frontier_without s w.frontier top.1.id) on) ∙ set.contains-remove id_total w.frontier top.1.id i
-
-            state_now : state_of mid i ≡ state_by (map_of.get w.marks i) (not (is_same i top.1.id) && set.contains w.frontier i)
-            state_now = λ k. state_by (marks_same i k) (waits_now k)
-
-            which : (b : Bool) → is_same i top.1.id ≡ b → (c : Bool) → set.contains w.frontier i ≡ c → IsTurned turn top.1.side (i ≡ top.1.id) (state_of w i) (state_of mid i)
-            which false e c f = inl (state_now ∙ ap (λ b. state_by (map_of.get w.marks i) (not b && set.contains w.frontier i)) e)
-            which true e false f = inl (state_now ∙ ap (λ b. state_by (map_of.get w.marks i) (not b && set.contains w.frontier i)) e ∙ ap (state_by (map_of.get w.marks i)) (sym f))
-            which true e true f =
-                let here : i ≡ top.1.id = same_is i top.1.id e in
-                let opened : state_of w i ≡ Open = h.tidy i f in
-                let now : state_of mid i ≡ Read = state_now ∙ ap (λ b. state_by (map_of.get w.marks i) (not b && set.contains w.frontier i)) e ∙ open_read (map_of.get w.marks i) (ap (state_by (map_of.get w.marks i)) (sym f) ∙ opened) in
-                inr (ap (λ s. is_turn_on s w.frontier top.1.id) on ∙ ap (set.contains w.frontier) (sym here) ∙ f, on, here, opened, now)
+        go side.Visible on =
+            let now : state_of mid i ≡ state_by (map_of.get w.marks i) (not (is_same i top.1.id) && set.contains w.frontier i) = (λ k. state_by (marks_same i k) (waits_now on i k)) in
+            ⊎_elim
+            (λ (b : (is_same i top.1.id && set.contains w.frontier i) ≡ true).
+                let parts : (is_same i top.1.id ≡ true) × (set.contains w.frontier i ≡ true) = and_parts _ _ b in
+                let here : i ≡ top.1.id = same_is i top.1.id parts.0 in
+                let opened : state_of w i ≡ Open = h.tidy i parts.1 in
+                inr (ap (λ s. is_turn_on s w.frontier top.1.id) on ∙ ap (set.contains w.frontier) (sym here) ∙ parts.1, on, here, opened, grind (arith, now, opened, parts)))
+            (λ (b : (is_same i top.1.id && set.contains w.frontier i) ≡ false). inl (grind (arith, now, b))) (cases_Bool (is_same i top.1.id && set.contains w.frontier i))
 
     -- the id of a visible entry is open no more
     shut_now : top.1.side ≡ side.Visible → state_of mid top.1.id ≢ Open
-    shut_now on = subst (λ c. state_by (map_of.get mid.marks top.1.id) c ≢ Open) (sym closed) (shut (map_of.get mid.marks top.1.id))
-      where
-        closed : set.contains mid.frontier top.1.id ≡ false
-        closed =
-            ap (λ f. set.contains f top.1.id) (frontier_now ∙ ap (λ s. frontier_without s w.frontier top.1.id) on) ∙ set.contains-remove id_total w.frontier top.1.id top.1.id
-            ∙ ap (λ b. not b && set.contains w.frontier top.1.id) (same_itself top.1.id)
+    shut_now on = subst (λ c. state_by (map_of.get mid.marks top.1.id) c ≢ Open) (sym (gone on)) (shut (map_of.get mid.marks top.1.id))
 
     met_still : Stands objects store history rows tips hidden_tips nobody w → (i : ObjectId) → state_of w i ≢ Unmet → state_of mid i ≢ Unmet
     met_still h i n = ⊎_elim (λ e. subst (λ s. s ≢ Unmet) (sym e) n) (λ t. subst (λ s. s ≢ Unmet) (sym t.4) (λ e. cc)) (turned h i)
@@ -139,19 +135,8 @@ module _ {F : Type 0} (objects : F → Objects) (store : F) (history : Objects) 
           where
             kept : (s : Side) → top.1.side ≡ s → set.contains w.frontier i ≡ true
             kept side.Hidden on = sym (ap (λ f. set.contains f i) (frontier_now ∙ ap (λ s. frontier_without s w.frontier top.1.id) on)) ∙ c
-            kept side.Visible on = right (not (is_same i top.1.id)) (set.contains w.frontier i) (sym (ap (λ f. set.contains f i) (frontier_now ∙ ap (λ s. frontier_without s w.frontier top.1.id) on) ∙ set.contains-remove id_total w.frontier top.1.id i) ∙ c)
-              where
-                right : (a b : Bool) → (a && b) ≡ true → b ≡ true
-                right true b e = e
-                right false b e = cc
-        tidied i c (inr t) = absurd (shut_gone t.1 (subst (λ j. set.contains mid.frontier j ≡ true) t.2 c))
-          where
-            shut_gone : top.1.side ≡ side.Visible → set.contains mid.frontier top.1.id ≡ true → ⊥
-            shut_gone on c =
-                let gone : set.contains mid.frontier top.1.id ≡ false =
-                ap (λ f. set.contains f top.1.id) (frontier_now ∙ ap (λ s. frontier_without s w.frontier top.1.id) on) ∙ set.contains-remove id_total w.frontier top.1.id top.1.id
-                ∙ ap (λ b. not b && set.contains w.frontier top.1.id) (same_itself top.1.id) in
-                let bad : true ≡ false = sym c ∙ gone in cc
+            kept side.Visible on = (and_parts (not (is_same i top.1.id)) (set.contains w.frontier i) (sym (waits_now on i) ∙ c)).1
+        tidied i c (inr t) = let bad : true ≡ false = sym c ∙ ap (set.contains mid.frontier) t.2 ∙ gone t.1 in cc
 
         fact : (i : ObjectId) → IsTurned turn top.1.side (i ≡ top.1.id) (state_of w i) (state_of mid i) → (s : State) → state_of w i ≡ s → Known nobody w i (state_of w i) → Known Busy mid i (state_of mid i)
         fact i (inl e) Unmet f k = subst (Known Busy mid i) (sym (e ∙ f)) tt

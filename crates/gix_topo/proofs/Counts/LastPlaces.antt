@@ -1,6 +1,6 @@
 -- Each id of a list at its last place, found from the front or from the back.
-use Rattle.std.specs.Prelude.{◌≡◌, List, [], ◌∷◌, Bool, true, false, ◌||◌, cond}
-use Rattle.std.proofs.Common.{refl, ap, ◌∙◌}
+use Rattle.std.specs.Prelude.{◌≡◌, List, [], ◌∷◌, true, false, ◌||◌, cond}
+use Rattle.std.proofs.Common.{refl, ap, ◌∙◌, arith}
 use Rattle.std.specs.FinSet as set
 use Rattle.gix_hash.specs.declared.ObjectId.{ObjectId}
 use Rattle.gix_hash.specs.Id.{id_cmp, is_among, is_same}
@@ -21,11 +21,7 @@ pub later_with : (later : set.FinSet id_cmp) (i : ObjectId) (ids : List ObjectId
 later_with later i ids h j = set.contains-insert id_total later i j ∙ ap (λ b. is_same j i || b) (h j)
 
 pub later_same : (later : set.FinSet id_cmp) (i : ObjectId) (ids : List ObjectId) → is_among i ids ≡ true → ((j : ObjectId) → set.contains later j ≡ is_among j ids) → (j : ObjectId) → set.contains later j ≡ is_among j (i ∷ ids)
-later_same later i ids e h j = h j ∙ go (is_same j i) refl
-  where
-    go : (b : Bool) → is_same j i ≡ b → is_among j ids ≡ (b || is_among j ids)
-    go true s = ap (λ x. is_among x ids) (same_is j i s) ∙ e
-    go false s = refl
+later_same later i ids e h j = grind (arith, h j, same_is j i)
 
 -- an id is looked for by comparing those of the list with it
 pub among_by_eq : (i : ObjectId) (ids : List ObjectId) → list_any (λ j. eq-value.it j i) ids ≡ is_among i ids

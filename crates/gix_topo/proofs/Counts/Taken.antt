@@ -1,6 +1,6 @@
 -- The taken commits, as the table tells them: those that were ready once, and aren't now.
 use Rattle.std.specs.Prelude.{◌≡◌, Bool, true, false, not, ◌&&◌, ◌||◌, Option, Some, None, is_some, Contains, List}
-use Rattle.std.proofs.Common.{refl, sym, ap, ◌∙◌}
+use Rattle.std.proofs.Common.{refl, sym, ap, ◌∙◌, arith}
 use Rattle.std.proofs.Math.Bool.{and-false}
 use Rattle.std.specs.FinMap as map_of
 use Rattle.std.specs.FinSet as set
@@ -24,8 +24,7 @@ contains-taken known ready i =
     was_taken j = (known_of known j).was_ready && not (is_among j (ready_ids ready))
 
     in_table : (found : Option Known) → (is_some found && ((known_or found).was_ready && not (is_among i (ready_ids ready)))) ≡ ((known_or found).was_ready && not (is_among i (ready_ids ready)))
-    in_table None = refl
-    in_table (Some known) = refl
+    in_table found = grind arith
 
 -- a ready commit isn't one
 pub ready_untaken : {F : Type 0} (w : Walk F) (i : ObjectId) → Contains (ready_ids w.ready.commits) i → set.contains (taken_of w) i ≡ false
@@ -36,7 +35,4 @@ pub made_taken : {F : Type 0} (w : Walk F) → ((i : ObjectId) → Contains (rea
 made_taken w made i = either (was_ready_of w.counting.frontier i) (is_among i (ready_ids w.ready.commits)) (λ e. made i (among_is i _ e)) ∙ ap (λ b. b || is_among i (ready_ids w.ready.commits)) (sym (contains-taken w.counting.frontier.known w.ready.commits i))
   where
     either : (m r : Bool) → (r ≡ true → m ≡ true) → m ≡ ((m && not r) || r)
-    either true true h = refl
-    either true false h = refl
-    either false true h = h refl
-    either false false h = refl
+    either m r h = grind arith

@@ -1,6 +1,6 @@
 -- A ready commit as it was read, with rows that agree.
 use Rattle.std.specs.Prelude.{◌≡◌, ℕ, Bool, true, cond, Option, Some, None, Result, Ok, Err, List, Contains}
-use Rattle.std.proofs.Common.{refl, sym, ap, subst, ◌∙◌}
+use Rattle.std.proofs.Common.{refl, sym, ap, subst, ◌∙◌, arith}
 use Rattle.std.proofs.lemmas.Bool.{lt-ltb}
 use Rattle.gix_hash.specs.declared.ObjectId.{ObjectId}
 use Rattle.gix_object.specs.declared.decode.Error.{Error as DecodeError}
@@ -26,10 +26,7 @@ use Rattle.gix_revwalk.proofs.ReadsWhole.{row_stands, row_says_time}
 use Rattle.gix_topo.proofs.Reading.ReadsCommit.{reads_named, reads_text_next}
 
 committer_time : (o : Option Commit) (q : Result (List ℕ) DecodeError) → TellsTime o q → time_of_committer q ≡ time_in o
-committer_time (Some c) (Ok signature) h = sym h
-committer_time (Some c) (Err e) h = absurd h
-committer_time None (Ok signature) h = absurd h
-committer_time None (Err e) h = refl
+committer_time o q h = grind arith
 
 module _ (objects : Objects) (faulty : ObjectId → Type 0) (rows : List GraphRow) (agrees : IsAgreeing objects rows) where
   finite_told : (i : ObjectId) {read : RowRead} (says : RowSays rows i read) → told_generation read.generation ≡ Some says.row.generation

@@ -46,11 +46,7 @@ module _ (objects : Objects) (faulty : ObjectId → Type 0) (rows : List GraphRo
     finite i row e = let f : row.generation < 2 ^ 32 - 1 = (agrees row (row_stands rows i row e).0).finite in omega arith
 
     highest : (i : ObjectId) → known_generation rows i ≤ infinity
-    highest i = go (row_of rows i) refl
-      where
-        go : (o : Option GraphRow) → row_of rows i ≡ o → generation_in o ≤ infinity
-        go None e = omega arith
-        go (Some row) e = finite i row e
+    highest i = grind (arith, finite i)
 
     -- no parent's known generation is greater
     pub parents_lower : (c i : ObjectId) → Contains (text_next objects c) i → known_generation rows i ≤ known_generation rows c
@@ -61,14 +57,10 @@ module _ (objects : Objects) (faulty : ObjectId → Type 0) (rows : List GraphRo
         go (Some row) e =
             let h : Contains rows row × (c ≡ row.id) = row_stands rows c row e in
             let w : ReadsWhole objects c = subst (ReadsWhole objects) (sym h.1) (agrees row h.0).whole in
-            lower c row i e (subst (λ ids. Contains ids i) (sym (text_whole objects c w)) m)
-          where
-            lower : (c : ObjectId) (row : GraphRow) (i : ObjectId) → row_of rows c ≡ Some row → Contains (parents_of objects c) i → known_generation rows i ≤ row.generation
-            lower c row i e n =
-                let l : (r : GraphRow) × (row_of rows i ≡ Some r) × (r.generation < row.generation) = parent_below objects rows agrees c row i e n in
-                let k : known_generation rows i ≡ l.0.generation = ap generation_in l.1 in
-                let b : l.0.generation < row.generation = l.2 in
-                omega arith
+            let l : (r : GraphRow) × (row_of rows i ≡ Some r) × (r.generation < row.generation) = parent_below objects rows agrees c row i e (subst (λ ids. Contains ids i) (sym (text_whole objects c w)) m) in
+            let k : known_generation rows i ≡ l.0.generation = ap generation_in l.1 in
+            let b : l.0.generation < row.generation = l.2 in
+            omega arith
 
 -- the parents of a commit are among those that its text names
 pub text_has : (objects : Objects) (i j : ObjectId) → Contains (parents_of objects i) j → Contains (text_next objects i) j
