@@ -41,6 +41,10 @@ told_below_top top [] h n e q c = absurd (no_member q c)
 told_below_top top (x ∷ queue) h n e q c =
     ⊎_elim (λ s. subst (λ y. (m : ℕ) × (y.0.generation ≡ Told m) × (m ≤ n)) s (generation_below top.generation x.0.generation top.time x.0.time h.0 n e)) (λ t. told_below_top top queue h.1 n e q t) (Contains-cons_cases q x queue c)
 
+-- all that waits has a row, of no greater generation
+abbrev pub IsBelow : {F : Type 0} → Painter F → ℕ → Type 0
+IsBelow p n = (q : Key × Entry) → Contains p.queue q → (m : ℕ) × (q.0.generation ≡ Told m) × (m ≤ n)
+
 module _ {F : Type 0} (p : Painter F) where
   -- with a greatest key that has a row's generation, all that is queued has a row
   pub settled_by_top : (top : Key) (n : ℕ) → IsSome (graph_in_use p.source) → set.len p.frontier ≡ 0 → IsUpperBound cmp-value.it top (keys p.queue) → top.generation ≡ Told n → IsSettled p
