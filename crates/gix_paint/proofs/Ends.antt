@@ -20,7 +20,8 @@ use Rattle.gix_revwalk.specs.Ids.{new_ids}
 use Rattle.gix_revwalk.specs.RowParents.{ids_at}
 use Rattle.gix_paint.proofs.Invariant.{reads_parents, IsSafe}
 use Rattle.gix_paint.proofs.KeptByTurn.{popped_there}
-use Rattle.gix_hash.proofs.Ids.Membership.{among-append, among_from}
+use Rattle.gix_paint.proofs.Turn.{IsTurn}
+use Rattle.gix_hash.proofs.Ids.Membership.{among-append, among_from, no_member}
 use Rattle.gix_revwalk.proofs.NewIds.{among_flat}
 use Rattle.gix_revwalk.proofs.Rows.{found_entry, ids_in_rows}
 
@@ -56,9 +57,8 @@ module _ {F : Type 0} (objects : F → Objects) (store : F) (rows : List GraphRo
       let one : suc (length v.queue) ≡ length w.queue = length_permutation _ _ pops.queue in
       omega arith
 
-  pub turn_less : {new : Painter F} → TreatsEntry objects v top.1 new → suc (room (names (objects store) rows) new) ≤ room (names (objects store) rows) w
-  turn_less (skips turn takes graph) = let same = room_takes (names (objects store) rows) takes in omega arith
-  turn_less {new} (reads {mid = mid} turn takes gives met) =
-      let same = room_takes (names (objects store) rows) takes in
-      let less : room (names (objects store) rows) new ≤ room (names (objects store) rows) mid = met.spends (names (objects store) rows) (named gives) in
+  pub turn_less : {new : Painter F} → IsTurn objects top pops new → suc (room (names (objects store) rows) new) ≤ room (names (objects store) rows) w
+  turn_less {new} t =
+      let same = room_takes (names (objects store) rows) t.takes in
+      let less : room (names (objects store) rows) new ≤ room (names (objects store) rows) t.mid = t.met.spends (names (objects store) rows) (λ i c. ⊎_elim (λ g. named g.1 i c) (λ n. absurd (no_member i (subst (λ xs. Contains xs i) n.1 c))) t.gives) in
       omega arith

@@ -1,7 +1,7 @@
 -- What holds while hidden tips are painted, and what each step keeps of it.
 use Rattle.std.specs.Prelude.{◌≡◌, ◌≢◌, ◌⊎◌, List, ◌&&◌, is_some, Option, Some, None, Contains}
 use Rattle.std.specs.Option.{option_map}
-use Rattle.std.proofs.Common.{refl, sym, ap, subst, inl, inr, ⊎_elim, ◌∙◌, arith}
+use Rattle.std.proofs.Common.{refl, sym, ap, subst, inl, inr, ⊎_elim, ◌∙◌}
 use Rattle.std.specs.FinMap as map_of
 use Rattle.std.specs.FinSet as set
 use Rattle.gix_hash.specs.declared.ObjectId.{ObjectId}
@@ -50,22 +50,25 @@ pub reads_parents : (objects : Objects) (i : ObjectId) (ids : List ObjectId) →
 reads_parents objects i ids r = r.2 ∙ sym (ap parents_in r.1)
 
 -- states go on from the unmet to the hidden
-pub become : {s : Side} {met queued : Type 0} {a b : State} → Becomes s met queued a b → ((b ≡ a) × (met → (a ≢ Unmet) × (s ≡ side.Hidden → a ≡ Hides))) ⊎ (((a ≡ Unmet) × (b ≡ Open) × (s ≡ side.Visible)) ⊎ ((b ≡ Hides) × (s ≡ side.Hidden) × met × queued))
-become (stays f) = inl (refl, f)
-become (opens v m q) = inr (inl (refl, refl, v))
-become (covers v m q) = inr (inr (refl, v, m, q))
-
 pub met_stays : {s : Side} {met queued : Type 0} {a b : State} → Becomes s met queued a b → a ≢ Unmet → b ≢ Unmet
-met_stays c n = λ u. grind (arith, become c, n)
+met_stays (stays f) n = n
+met_stays (opens v m q) n = λ e. cc
+met_stays (covers v m q) n = λ e. cc
 
 pub met_now : {s : Side} {met queued : Type 0} {a b : State} → Becomes s met queued a b → met → b ≢ Unmet
-met_now c m = λ u. grind (arith, become c, m)
+met_now (stays f) m = (f m).0
+met_now (opens v k q) m = λ e. cc
+met_now (covers v k q) m = λ e. cc
 
 pub hidden_stays : {s : Side} {met queued : Type 0} {a b : State} → Becomes s met queued a b → a ≡ Hides → b ≡ Hides
-hidden_stays c e = grind (arith, become c)
+hidden_stays (stays f) e = e
+hidden_stays (opens v m q) e = cc
+hidden_stays (covers v m q) e = refl
 
 pub hidden_now : {s : Side} {met queued : Type 0} {a b : State} → Becomes s met queued a b → s ≡ side.Hidden → met → b ≡ Hides
-hidden_now c e m = grind (arith, become c, m)
+hidden_now (stays f) e m = (f m).1 e
+hidden_now (opens v k q) e m = cc
+hidden_now (covers v k q) e m = refl
 
 abbrev pub nobody : Side → ObjectId → Type 0
 nobody s i = ⊥
@@ -192,7 +195,3 @@ module _ {F : Type 0} (objects : F → Objects) (store : F) (history : Objects) 
         was_read i e (stays f) n o = h.read i e (λ u. n (o ∙ u))
         was_read i e (opens v c w) n o = whole i e w
         was_read i e (covers v c w) n o = whole i e w
-
-  -- what became of an id by the turn of an entry: a visible one that was open is read now
-  abbrev pub IsTurned : Entry → ObjectId → State → State → Type 0
-  IsTurned entry i a b = (b ≡ a) ⊎ ((entry.side ≡ side.Visible) × (i ≡ entry.id) × (a ≡ Open) × (b ≡ Read))
