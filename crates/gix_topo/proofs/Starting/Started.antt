@@ -33,12 +33,12 @@ use Rattle.gix_topo.proofs.Counts.RowsDropped.{made_dropped}
 use Rattle.gix_topo.proofs.Counts.MakesReady.{MakesReady}
 use Rattle.gix_topo.proofs.Starting.StartFaults.{first_ready}
 use Rattle.gix_revwalk.proofs.NewIds.{times, times_once}
-use Rattle.gix_topo.proofs.Readiness.IsReady.{keeps_from, keeps_times, first_once, among_by, keeps_on}
+use Rattle.gix_topo.proofs.Readiness.IsReady.{keeps_from, keeps_times, first_from, first_once, among_by, keeps_on}
 use Rattle.gix_topo.proofs.Counts.Rest.{least_within}
 use Rattle.gix_topo.proofs.Counts.Taken.{contains-taken}
 use Rattle.gix_topo.proofs.Readiness.RisingTime.{by_time_moves, in_by_time, by_time_map}
 use Rattle.gix_topo.proofs.Counts.BothSearches.{searched_same}
-use Rattle.gix_topo.proofs.Starting.AllTips.{IsTipDue, AreStarted, started, first_from}
+use Rattle.gix_topo.proofs.Starting.AllTips.{IsTipDue, AreStarted, started}
 use Rattle.gix_topo.proofs.Reading.FoundIsStored.{found_stored}
 use Rattle.gix_topo.proofs.Reading.OnceRead.{all_still, found_later}
 use Rattle.gix_topo.proofs.Counts.Children.{children_of, was_ready_of, tally_same}
@@ -139,11 +139,11 @@ module _ {F : Type 0} (objects : F → Objects) (faulty : F → ObjectId → Typ
   distinct = times_once (ready_ids w.ready.commits) (λ i.
       let a : times i (ready_ids w.ready.commits) ≡ times i (ready_ids h.starts) = ready_times i in
       let b : times i (ready_ids h.starts) ≤ times i (first_places p.tips) = keeps_times (IsTipDue old.frontier) kept i in
-      let c : times i (first_places p.tips) ≤ 1 = first_once [] p.tips i in
+      let c : times i (first_places p.tips) ≤ 1 = first_once p.tips i in
       omega arith)
 
   is_tip : (i : ObjectId) → Contains (ready_ids w.ready.commits) i → Contains p.tips i
-  is_tip i m = first_from [] p.tips i (keeps_from (IsTipDue old.frontier) kept i (start_of i m)).0
+  is_tip i m = (first_from [] p.tips i (keeps_from (IsTipDue old.frontier) kept i (start_of i m)).0).1
 
   first_read : AreRead objects faulty (plan_of h.first) h.first.counting
   first_read = subst (λ q. AreRead objects faulty q old) (sym first_plan) begun.all_read
@@ -195,7 +195,7 @@ module _ {F : Type 0} (objects : F → Objects) (faulty : F → ObjectId → Typ
     }
 
     kept_childless : Keeps (IsChildless (text_walked objects p) Member) (first_places p.tips) (ready_ids h.starts)
-    kept_childless = keeps_on (λ i m d. due_childless i (first_from [] p.tips i m) d) (λ i m q. childless_due i q) kept
+    kept_childless = keeps_on (λ i m d. due_childless i (first_from [] p.tips i m).1 d) (λ i m q. childless_due i q) kept
 
     stored : (r : Ready) → Contains w.ready.commits r → IsStored objects p new.reader.in_use r
     stored r m = found_stored objects faulty p agrees (found r m)

@@ -32,7 +32,8 @@ use Rattle.gix_topo.proofs.Counts.IndegreeZero.{done_seen, text_left, text_outsi
 use Rattle.gix_topo.proofs.Counts.ExploreKeeps.{explores_keep, explores_same, explores_done, explores_made}
 use Rattle.gix_topo.proofs.Counts.AllDownToDepth.{exact_there}
 use Rattle.gix_topo.proofs.Reading.FoundIsStored.{found_text}
-use Rattle.gix_topo.proofs.Counts.Children.{children_of, was_ready_of, times-last, tally_takes}
+use Rattle.gix_topo.proofs.Counts.Children.{children_of, was_ready_of, tally_takes}
+use Rattle.gix_topo.proofs.Readiness.IsReady.{times-last}
 use Rattle.gix_topo.proofs.Counts.Taken.{ready_untaken, made_taken}
 use Rattle.gix_topo.proofs.Readiness.ReadyIds.{chosen_in, in_ids}
 

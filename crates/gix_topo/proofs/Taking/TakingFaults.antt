@@ -33,9 +33,9 @@ use Rattle.gix_topo.specs.Inside.Steady.{AreDroppedFor, IsTallied, IsHeld}
 use Rattle.gix_topo.specs.Walk.{TopoPlan, Ready, ready_ids, Chooses, IsCommitRead, IsNextReady, IsOtherParent, IsLate, IsFault, IsReached}
 use Rattle.gix_topo.proofs.Counts.ExploreKeeps.{explores_same, explores_done, explores_idle}
 use Rattle.gix_topo.proofs.Counts.Frontier.{has_seen}
-use Rattle.gix_topo.proofs.Readiness.IsReady.{last_from, last_once}
+use Rattle.gix_topo.proofs.Readiness.IsReady.{last_from, last_once, times-last}
 use Rattle.gix_topo.proofs.Taking.AllReleases.{IsReleased, uncounted_made, uncounted_moved, released}
-use Rattle.gix_topo.proofs.Counts.Children.{children_of, was_ready_of, times-last, tally_counts}
+use Rattle.gix_topo.proofs.Counts.Children.{children_of, was_ready_of, tally_counts}
 use Rattle.gix_topo.proofs.Reading.ReadsCommit.{reads_text_next}
 use Rattle.gix_revwalk.proofs.Rows.{none_agree}
 use Rattle.gix_topo.proofs.Taking.Setting.{was_ready, plan_taken, was_untaken, named_text, parents_reached, counted_on, due_ready}
