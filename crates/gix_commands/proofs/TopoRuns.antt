@@ -29,7 +29,7 @@ use Rattle.gix_topo.specs.Walk.{TopoPlan, IsCommitRead, IsReached, IsFault, IsFi
 use Rattle.gix_revwalk.specs.Agreeing.{IsAgreeing}
 use Rattle.gix_revwalk.proofs.Rows.{none_agree}
 use Rattle.gix_topo.proofs.Run.Corollaries.{once}
-use Rattle.gix_topo.proofs.Run.TextDifference.{each_by_text}
+use Rattle.gix_topo.proofs.Run.Corollaries.{each_by_text}
 use Rattle.gix_topo.proofs.Run.Theorem.{gives, gives_text}
 use Rattle.gix_words.specs.declared.fault.Fault.{Fault}
 use Rattle.gix_words.specs.declared.words.Order.TheVariants.{Topo}

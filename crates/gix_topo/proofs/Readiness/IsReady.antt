@@ -1,7 +1,7 @@
 -- Which commits are ready: how taking one changes them. Over any walked parents and any set.
-use Rattle.std.specs.Prelude.{◌≡◌, ◌⊎◌, ◌+◌, ◌≤◌, ℕ, ℤ, List, [], ◌∷◌, ◌++◌, Bool, true, false, ◌||◌, cond, filter, Contains}
+use Rattle.std.specs.Prelude.{◌≡◌, ◌⊎◌, ◌+◌, ◌≤◌, ℕ, ℤ, List, [], ◌∷◌, ◌++◌, Bool, true, false, not, ◌&&◌, ◌||◌, cond, filter, Contains}
 use Rattle.std.proofs.Common.{refl, sym, ap, subst, inl, inr, ⊎_elim, ◌∙◌, arith}
-use Rattle.std.proofs.lemmas.Bool.{true≢false, false_from_ne_true, or_cases, or_left, or_right}
+use Rattle.std.proofs.lemmas.Bool.{true≢false, false_from_ne_true, and_parts, not-true, or_cases, or_left, or_right}
 use Rattle.gix_hash.specs.declared.ObjectId.{ObjectId}
 use Rattle.gix_hash.specs.Id.{is_same, is_among}
 use Rattle.gix_hash.specs.Reach.{Reaches, start, step}
@@ -9,7 +9,7 @@ use Rattle.gix_topo.specs.WalkSet.{IsInWalk, IsChild, IsChildless, IsReady}
 use Rattle.gix_topo.specs.TopoOrder.{Keeps, none, kept, passed, distinct_after, first_places, last_places, by_time}
 use Rattle.gix_revwalk.specs.Ids.{AreDistinct}
 use Rattle.gix_hash.proofs.Ids.Membership.{same_is, same_itself, same_from, among_from, among_is, Contains-here, Contains-there, Contains-cons_cases, no_member}
-use Rattle.gix_revwalk.proofs.NewIds.{times, times_none, times_moved, among_times}
+use Rattle.gix_revwalk.proofs.NewIds.{fresh, times, times_none, times_moved, times-fresh, among_times, times_is_among}
 use Rattle.gix_topo.proofs.Readiness.RisingTime.{by_time_moves}
 
 -- lists in which an id is as often
@@ -71,61 +71,57 @@ keeps_append (passed n h) k = passed n (keeps_append h k)
 pub keeps_alike : (P Q : ObjectId → Type 0) → ((i : ObjectId) → P i → Q i) → ((i : ObjectId) → Q i → P i) → {xs ys : List ObjectId} → Keeps P xs ys → Keeps Q xs ys
 keeps_alike P Q f g = keeps_on (λ i m. f i) (λ i m. g i)
 
--- each id at its last, or first, place
-pub last_in : (xs : List ObjectId) (i : ObjectId) → Contains xs i → Contains (last_places xs) i
-last_in [] i c = c
-last_in (x ∷ xs) i c = go (last_in xs i) (is_among x xs) refl
+-- so often or not at all
+counted_among : (i : ObjectId) (xs : List ObjectId) (b : Bool) → times i xs ≡ cond b 1 0 → is_among i xs ≡ b
+counted_among i xs true e = times_is_among i xs (omega arith)
+counted_among i xs false e = among_by i xs [] e
+
+counted_once : (n : ℕ) (b : Bool) → n ≡ cond b 1 0 → n ≤ 1
+counted_once n true e = omega arith
+counted_once n false e = omega arith
+
+-- each id at its last place
+pub times-last : (i : ObjectId) (xs : List ObjectId) → times i (last_places xs) ≡ cond (is_among i xs) 1 0
+times-last i [] = refl
+times-last i (x ∷ xs) = go (is_among x xs) refl (is_same i x) refl (times-last i xs)
   where
-    go : (Contains xs i → Contains (last_places xs) i) → (b : Bool) → is_among x xs ≡ b → Contains (cond b (last_places xs) (x ∷ last_places xs)) i
-    go r true e = ⊎_elim (λ s. r (subst (λ y. Contains xs y) s (among_is x xs e))) (λ t. r t) (Contains-cons_cases i x xs c)
-    go r false e = ⊎_elim (λ s. subst (λ y. Contains (x ∷ last_places xs) y) s (Contains-here x (last_places xs))) (λ t. Contains-there i x (last_places xs) (r t)) (Contains-cons_cases i x xs c)
+    own : (b : Bool) → is_among x xs ≡ b → is_same i x ≡ true → times i (last_places xs) ≡ cond (is_among i xs) 1 0 → times i (last_places xs) ≡ cond b 1 0
+    own b e s r = r ∙ ap (λ c. cond c 1 0) (ap (λ y. is_among y xs) (same_is i x s) ∙ e)
+
+    go : (b : Bool) → is_among x xs ≡ b → (s : Bool) → is_same i x ≡ s → times i (last_places xs) ≡ cond (is_among i xs) 1 0 → times i (cond b (last_places xs) (x ∷ last_places xs)) ≡ cond (s || is_among i xs) 1 0
+    go true e true s r = own true e s r
+    go true e false s r = r
+    go false e true s r = let z : times i (last_places xs) ≡ 0 = own false e s r in let h : ◌≡◌ {A = ℕ} (cond (is_same i x) 1 0) 1 = ap (λ b. cond b 1 0) s in omega arith
+    go false e false s r = let h : ◌≡◌ {A = ℕ} (cond (is_same i x) 1 0) 0 = ap (λ b. cond b 1 0) s in (let g : cond (is_same i x) 1 0 + times i (last_places xs) ≡ times i (last_places xs) = omega arith in g) ∙ r
+
+last_among : (xs : List ObjectId) (i : ObjectId) → is_among i (last_places xs) ≡ is_among i xs
+last_among xs i = counted_among i (last_places xs) (is_among i xs) (times-last i xs)
+
+pub last_in : (xs : List ObjectId) (i : ObjectId) → Contains xs i → Contains (last_places xs) i
+last_in xs i c = among_is i _ (last_among xs i ∙ among_from i xs c)
 
 pub last_from : (xs : List ObjectId) (i : ObjectId) → Contains (last_places xs) i → Contains xs i
-last_from [] i c = c
-last_from (x ∷ xs) i c = go (last_from xs i) (is_among x xs) c
-  where
-    go : (Contains (last_places xs) i → Contains xs i) → (b : Bool) → Contains (cond b (last_places xs) (x ∷ last_places xs)) i → Contains (x ∷ xs) i
-    go r true c = Contains-there i x xs (r c)
-    go r false c = ⊎_elim (λ s. subst (λ y. Contains (x ∷ xs) y) s (Contains-here x xs)) (λ t. Contains-there i x xs (r t)) (Contains-cons_cases i x (last_places xs) c)
+last_from xs i c = among_is i xs (sym (last_among xs i) ∙ among_from i _ c)
 
 pub last_once : (xs : List ObjectId) (i : ObjectId) → times i (last_places xs) ≤ 1
-last_once [] i = omega arith
-last_once (x ∷ xs) i = go (is_among x xs) refl (last_once xs i)
-  where
-    go : (b : Bool) → is_among x xs ≡ b → times i (last_places xs) ≤ 1 → times i (cond b (last_places xs) (x ∷ last_places xs)) ≤ 1
-    go true e r = r
-    go false e r = new (is_same i x) refl
-      where
-        new : (b : Bool) → is_same i x ≡ b → cond b 1 0 + times i (last_places xs) ≤ 1
-        new true s =
-            let z : times i (last_places xs) ≡ 0 = times_none i (last_places xs) (false_from_ne_true _ (λ t. true≢false (sym (among_from x xs (last_from xs x (subst (λ y. Contains (last_places xs) y) (same_is i x s) (among_is i _ t)))) ∙ e))) in
-            omega arith
-        new false s = omega arith
+last_once xs i = counted_once (times i (last_places xs)) (is_among i xs) (times-last i xs)
 
-pub first_in : (seen xs : List ObjectId) (i : ObjectId) → Contains xs i → is_among i seen ≡ false → Contains (distinct_after seen xs) i
-first_in seen [] i c n = c
-first_in seen (x ∷ xs) i c n = go (λ old. first_in old xs i) (is_among x seen) refl (is_same i x) refl
-  where
-    go : ((old : List ObjectId) → Contains xs i → is_among i old ≡ false → Contains (distinct_after old xs) i) → (b : Bool) → is_among x seen ≡ b → (s : Bool) → is_same i x ≡ s → Contains (cond b (distinct_after seen xs) (x ∷ distinct_after (x ∷ seen) xs)) i
-    go r true e s is = ⊎_elim (λ same. absurd (true≢false (sym e ∙ ap (λ y. is_among y seen) same ∙ n))) (λ t. r seen t n) (Contains-cons_cases i x xs c)
-    go r false e true is = subst (λ y. Contains (x ∷ distinct_after (x ∷ seen) xs) y) (sym (same_is i x is)) (Contains-here x _)
-    go r false e false is = ⊎_elim (λ same. absurd (true≢false (sym (same_from i x (sym same)) ∙ is))) (λ t. Contains-there i x _ (r (x ∷ seen) t (Rattle.std.proofs.lemmas.Bool.or_from (is_same i x) (is_among i seen) is n))) (Contains-cons_cases i x xs c)
+-- each id at its first place: the ids that are new
+distinct_fresh : (seen xs : List ObjectId) → distinct_after seen xs ≡ fresh (λ j. is_among j seen) xs
+distinct_fresh seen [] = refl
+distinct_fresh seen (x ∷ xs) = λ k. cond (is_among x seen) (distinct_fresh seen xs k) (x ∷ distinct_fresh (x ∷ seen) xs k)
 
-pub first_once : (seen xs : List ObjectId) (i : ObjectId) → times i (distinct_after seen xs) ≤ cond (is_among i seen) 0 1
-first_once seen [] i = omega arith
-first_once seen (x ∷ xs) i = go (is_among x seen) refl (is_same i x) refl (first_once seen xs i) (first_once (x ∷ seen) xs i)
-  where
-    go : (b : Bool) → is_among x seen ≡ b → (s : Bool) → is_same i x ≡ s → times i (distinct_after seen xs) ≤ cond (is_among i seen) 0 1 → times i (distinct_after (x ∷ seen) xs) ≤ cond (is_same i x || is_among i seen) 0 1 → times i (cond b (distinct_after seen xs) (x ∷ distinct_after (x ∷ seen) xs)) ≤ cond (is_among i seen) 0 1
-    go true e s is r q = r
-    go false e true is r q =
-        let z : ◌≡◌ {A = ℕ} (cond (is_same i x || is_among i seen) 0 1) 0 = ap (λ b. cond (b || is_among i seen) 0 1) is in
-        let o : ◌≡◌ {A = ℕ} (cond (is_among i seen) 0 1) 1 = ap (λ b. cond b 0 1) (ap (λ y. is_among y seen) (same_is i x is) ∙ e) in
-        let h : ◌≡◌ {A = ℕ} (cond (is_same i x) 1 0) 1 = ap (λ b. cond b 1 0) is in
-        omega arith
-    go false e false is r q =
-        let z : ◌≡◌ {A = ℕ} (cond (is_same i x || is_among i seen) 0 1) (cond (is_among i seen) 0 1) = ap (λ b. cond (b || is_among i seen) 0 1) is in
-        let h : ◌≡◌ {A = ℕ} (cond (is_same i x) 1 0) 0 = ap (λ b. cond b 1 0) is in
-        omega arith
+times-first : (seen xs : List ObjectId) (i : ObjectId) → times i (distinct_after seen xs) ≡ cond (not (is_among i seen) && is_among i xs) 1 0
+times-first seen xs i = ap (times i) (distinct_fresh seen xs) ∙ times-fresh i (λ j. is_among j seen) xs
+
+pub first_among : (seen xs : List ObjectId) (i : ObjectId) → is_among i (distinct_after seen xs) ≡ (not (is_among i seen) && is_among i xs)
+first_among seen xs i = counted_among i (distinct_after seen xs) _ (times-first seen xs i)
+
+pub first_from : (seen xs : List ObjectId) (i : ObjectId) → Contains (distinct_after seen xs) i → (is_among i seen ≡ false) × Contains xs i
+first_from seen xs i m = let k = and_parts _ _ (sym (first_among seen xs i) ∙ among_from i _ m) in (not-true _ k.0, among_is i xs k.1)
+
+pub first_once : (xs : List ObjectId) (i : ObjectId) → times i (first_places xs) ≤ 1
+first_once xs i = counted_once (times i (first_places xs)) _ (times-first [] xs i)
 
 -- sorting by time leaves the ids
 pub among-by_time : (time : ObjectId → ℤ) (i : ObjectId) (xs : List ObjectId) → is_among i (by_time time xs) ≡ is_among i xs
@@ -176,7 +172,7 @@ module _ (walked : ObjectId → List ObjectId) (In : ObjectId → Type 0) where
       record {
         each = λ i m. let k = (keeps_from (IsChildless walked In) keeps i (among_is i childless (sym (same i) ∙ m))).1 in record { member = k.member; left = untaken i; children = λ d c. absurd (k.alone d c) };
         all = λ i r.
-            ⊎_elim (λ tip. same i ∙ among_from i childless (keeps_in (IsChildless walked In) keeps i (first_in [] tips i tip refl) (record { member = r.member; alone = λ d c. untaken d (r.children d c) })))
+            ⊎_elim (λ tip. same i ∙ among_from i childless (keeps_in (IsChildless walked In) keeps i (among_is i _ (first_among [] tips i ∙ among_from i tips tip)) (record { member = r.member; alone = λ d c. untaken d (r.children d c) })))
             (λ c. absurd (untaken c.0 (r.children c.0 c.1))) (top i r.member);
       }
 

@@ -1,11 +1,11 @@
 -- What all the tips that become ready at first do.
-use Rattle.std.specs.Prelude.{◌≡◌, ◌≤◌, ℕ, List, [], ◌∷◌, ◌++◌, Bool, true, false, ◌||◌, cond, Contains}
-use Rattle.std.proofs.Common.{refl, sym, ap, subst, ⊎_elim, ◌∙◌, arith}
+use Rattle.std.specs.Prelude.{◌≡◌, List, [], ◌∷◌, ◌++◌, Bool, true, false, ◌||◌, cond, Contains}
+use Rattle.std.proofs.Common.{refl, sym, ap, subst, ⊎_elim, ◌∙◌}
 use Rattle.std.proofs.lemmas.Bool.{true≢false, or_right, or_left, or_cases}
 use Rattle.gix_hash.specs.declared.ObjectId.{ObjectId}
 use Rattle.gix_hash.specs.Id.{is_same, is_among}
 use Rattle.gix_object.specs.Object.{Objects}
-use Rattle.gix_hash.proofs.Ids.Membership.{same_is, among-one, among_from, among_is, Contains-here, Contains-there, Contains-cons_cases}
+use Rattle.gix_hash.proofs.Ids.Membership.{same_is, among-one, among_from, among_is, Contains-here}
 use Rattle.gix_frontier.specs.declared.Side.TheVariants.{Ends}
 use Rattle.gix_frontier.specs.declared.Frontier.{Frontier}
 use Rattle.gix_topo.specs.declared.walk.Walk.{Walk}
@@ -13,33 +13,11 @@ use Rattle.gix_frontier.specs.Inside.Frontier.{is_seen, known_of}
 use Rattle.gix_topo.specs.Inside.Starting.{Starts, waits, frees, StartsAll, none, more}
 use Rattle.gix_topo.specs.TopoOrder.{Keeps, none as keeps_none, kept, passed, distinct_after}
 use Rattle.gix_topo.specs.Walk.{Ready, ready_ids}
-use Rattle.gix_revwalk.proofs.NewIds.{times, among_times}
 use Rattle.gix_topo.proofs.Counts.Frontier.{has_seen}
-use Rattle.gix_topo.proofs.Readiness.IsReady.{keeps_in, keeps_on, keeps_append, first_once}
+use Rattle.gix_topo.proofs.Readiness.IsReady.{keeps_in, keeps_on, keeps_append, first_from}
 use Rattle.gix_topo.proofs.Counts.Children.{children_of, was_ready_of}
 use Rattle.gix_topo.proofs.Readiness.ReadyIds.{ids-append, from_ids}
 use Rattle.gix_topo.proofs.Counts.MakesReady.{MakesReady, made_none, made_one, made_more, marks_ready_known, due_parts, due_from}
-
--- what is left of a list behind some ids is none of them
-first_apart : (seen xs : List ObjectId) (i : ObjectId) → Contains (distinct_after seen xs) i → is_among i seen ≡ false
-first_apart seen xs i m = go (is_among i seen) refl
-  where
-    go : (b : Bool) → is_among i seen ≡ b → b ≡ false
-    go false e = refl
-    go true e =
-        let o : 1 ≤ times i (distinct_after seen xs) = among_times i (distinct_after seen xs) (among_from i _ m) in
-        let l : times i (distinct_after seen xs) ≤ cond (is_among i seen) 0 1 = first_once seen xs i in
-        let z : ◌≡◌ {A = ℕ} (cond (is_among i seen) 0 1) 0 = ap (λ b. cond b 0 1) e in
-        absurd (omega arith)
-
--- and is one of the list
-pub first_from : (seen xs : List ObjectId) (i : ObjectId) → Contains (distinct_after seen xs) i → Contains xs i
-first_from seen [] i m = m
-first_from seen (x ∷ xs) i m = go (is_among x seen) (first_from seen xs i) (first_from (x ∷ seen) xs i) m
-  where
-    go : (b : Bool) → (Contains (distinct_after seen xs) i → Contains xs i) → (Contains (distinct_after (x ∷ seen) xs) i → Contains xs i) → Contains (cond b (distinct_after seen xs) (x ∷ distinct_after (x ∷ seen) xs)) i → Contains (x ∷ xs) i
-    go true f g m = Contains-there i x xs (f m)
-    go false f g m = ⊎_elim (λ e. subst (λ y. Contains (x ∷ xs) y) e (Contains-here x xs)) (λ t. Contains-there i x xs (g t)) (Contains-cons_cases i x (distinct_after (x ∷ seen) xs) m)
 
 -- an id without children, that no end has seen, and that wasn't ready yet
 pub record IsTipDue (f : Frontier) (p : ObjectId) : Type 0 where
@@ -123,7 +101,7 @@ module _ {F : Type 0} (objects : F → Objects) (faulty : F → ObjectId → Typ
             where
               apart : (j : ObjectId) → Contains (distinct_after those ids) j → IsTipDue old.counting.frontier j → (x : Bool) → is_among j (i ∷ []) ≡ x → x ≡ false
               apart j m d false e = refl
-              apart j m d true e = absurd (true≢false (sym (k j e d) ∙ first_apart those ids j m))
+              apart j m d true e = absurd (true≢false (sym (k j e d) ∙ (first_from those ids j m).0))
 
           go : (x : Bool) → is_among i seen ≡ x → Keeps (IsTipDue old.counting.frontier) (cond x (distinct_after seen ids) (i ∷ distinct_after (i ∷ seen) ids)) (ready_ids first ++ ready_ids others)
           go true e = keeps_append (subst (λ x. Keeps (IsTipDue old.counting.frontier) (cond x [] (i ∷ [])) (ready_ids first)) e (a.due seen h)) (rest seen (λ j k d. h j k (earlier j d)) (λ j k d. subst (λ y. is_among y seen ≡ true) (sym (one_is j k)) e))

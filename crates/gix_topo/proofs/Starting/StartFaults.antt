@@ -31,7 +31,7 @@ use Rattle.gix_hash.proofs.Lists.{only_member}
 module _ {F : Type 0} (objects : F → Objects) (faulty : F → ObjectId → Type 0) where
   -- a tip that is due when counting has begun becomes ready
   module _ (plan : TopoPlan F) (c : Counting F) (begun : HasBegun objects faulty plan c) where
-    first_ready : IsAgreeing (objects plan.store) plan.rows → (i : ObjectId) → Contains plan.tips i → children_of c.frontier i ≡ 0 → has_seen c.frontier Ends i ≡ false → IsFirstReady objects plan i
+    pub first_ready : IsAgreeing (objects plan.store) plan.rows → (i : ObjectId) → Contains plan.tips i → children_of c.frontier i ≡ 0 → has_seen c.frontier Ends i ≡ false → IsFirstReady objects plan i
     first_ready a i m z u = record {
       tip = m;
       childless = record {

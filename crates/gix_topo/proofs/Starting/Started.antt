@@ -1,5 +1,5 @@
 -- What holds of a topological walk that has begun.
-use Rattle.std.specs.Prelude.{◌≡◌, ◌≤◌, [], ◌++◌, Bool, true, false, not, ◌&&◌, ◌||◌, Contains}
+use Rattle.std.specs.Prelude.{◌≡◌, ◌≤◌, List, [], ◌++◌, Bool, true, false, not, ◌&&◌, ◌||◌, Contains}
 use Rattle.std.proofs.Common.{refl, sym, ap, subst, inl, inr, ⊎_elim, ◌∙◌, arith}
 use Rattle.std.proofs.Math.Bool.{or-false, and-not_self}
 use Rattle.std.proofs.lemmas.Bool.{true≢false, false≢true}
@@ -27,20 +27,56 @@ use Rattle.gix_topo.specs.TopoOrder.{Keeps, first_places}
 use Rattle.gix_topo.specs.Inside.Steady.{IsDone, AreRead, AreDroppedFor, IsTallied, IsSteady, HasCounted, IsHeld, unasked, unasked_of}
 use Rattle.gix_topo.specs.Walk.{TopoPlan, Ready, ready_ids, first_depth, HoldsReady, IsNumberOf, IsInDepth, IsBrokenRow, IsCounting, IsStored, IsStarted, StartsWith, IsFound, text_walked, IsTextMember, IsReached}
 use Rattle.gix_topo.specs.WalkSet.{IsChildless}
-use Rattle.gix_topo.proofs.Counts.IndegreeZero.{none_left, outside, unseen, all_taken}
+use Rattle.gix_topo.proofs.Counts.IndegreeZero.{unseen, all_taken}
 use Rattle.gix_topo.proofs.Counts.Expanded.{number_same, broken}
 use Rattle.gix_topo.proofs.Counts.RowsDropped.{made_dropped}
+use Rattle.gix_topo.proofs.Counts.MakesReady.{MakesReady}
+use Rattle.gix_topo.proofs.Starting.StartFaults.{first_ready}
 use Rattle.gix_revwalk.proofs.NewIds.{times, times_once}
-use Rattle.gix_topo.proofs.Readiness.IsReady.{keeps_from, keeps_times, first_once, among_by, keeps_on}
+use Rattle.gix_topo.proofs.Readiness.IsReady.{keeps_from, keeps_times, first_from, first_once, among_by, keeps_on}
 use Rattle.gix_topo.proofs.Counts.Rest.{least_within}
 use Rattle.gix_topo.proofs.Counts.Taken.{contains-taken}
 use Rattle.gix_topo.proofs.Readiness.RisingTime.{by_time_moves, in_by_time, by_time_map}
 use Rattle.gix_topo.proofs.Counts.BothSearches.{searched_same}
-use Rattle.gix_topo.proofs.Starting.AllTips.{IsTipDue, AreStarted, started, first_from}
+use Rattle.gix_topo.proofs.Starting.AllTips.{IsTipDue, AreStarted, started}
 use Rattle.gix_topo.proofs.Reading.FoundIsStored.{found_stored}
 use Rattle.gix_topo.proofs.Reading.OnceRead.{all_still, found_later}
 use Rattle.gix_topo.proofs.Counts.Children.{children_of, was_ready_of, tally_same}
 use Rattle.gix_topo.proofs.Readiness.ReadyIds.{holds_in, holds_times, times-permutation}
+
+-- Ids down to the depth become ready, and counting stays exact. They were read before, so their rows drop no rows.
+module _ {F : Type 0} (objects : F → Objects) (faulty : F → ObjectId → Type 0) (plan : TopoPlan F) (agrees : IsAgreeing (objects plan.store) plan.rows) {before after : Walk F} {ids : List ObjectId} {added : List Ready} (same : plan_of before ≡ plan) (made : MakesReady objects faulty before ids added after)
+    (in_depth : (i : ObjectId) → Contains ids i → IsInDepth objects plan before.counting.depth i) (counts : HasCounted objects plan before.counting) (counting : IsCounting objects plan (counted_by before.counting)) where
+  rows_stay : after.counting.reader.in_use ≡ false → before.counting.reader.in_use ≡ false
+  rows_stay e = go before.counting.reader.in_use refl
+    where
+      go : (b : Bool) → before.counting.reader.in_use ≡ b → b ≡ false
+      go false d = refl
+      go true d =
+          let k : (i : ObjectId) × Contains ids i × DropsRows (plan_of before).rows i = made.dropped d e in
+          absurd (counting.whole d (broken objects faulty plan agrees before.counting.depth k.0 (in_depth k.0 k.1).reached (in_depth k.0 k.1).high (subst (λ q. DropsRows q.rows k.0) same k.2)))
+
+  has_counted : HasCounted objects plan after.counting
+  has_counted = record {
+    number = number_same (IsDone before.counting.frontier) (IsDone after.counting.frontier) before.counting.expanded after.counting.expanded (sym made.expanded)
+        (λ i d. ⊎_elim (λ e. inl (ap is_done (made.moved Tips i) ∙ e)) (λ e. inr (ap is_done (made.moved Ends i) ∙ e)) d) back counts.number;
+    high = λ e i d. subst (λ n. n ≤ known_generation plan.rows i) (sym made.depth) (counts.high (made.stands e) i (back i d));
+    dropped = λ e. subst (IsBrokenRow objects plan) (sym made.depth) (counts.dropped (rows_stay e));
+  }
+    where
+      back : (i : ObjectId) → IsDone after.counting.frontier i → IsDone before.counting.frontier i
+      back i d = ⊎_elim (λ e. inl (sym (ap is_done (made.moved Tips i)) ∙ e)) (λ e. inr (sym (ap is_done (made.moved Ends i)) ∙ e)) d
+
+  pub counts_made : HasCounted objects plan after.counting × IsCounting objects plan (counted_by after.counting)
+  counts_made = (
+    has_counted,
+    record {
+      exact = λ e. subst (λ d. IsNumberOf (IsInDepth objects plan d) after.counting.expanded) (sym made.depth) (subst (IsNumberOf (IsInDepth objects plan before.counting.depth)) (sym made.expanded) (counting.exact (made.stands e)));
+      all = λ e. subst (IsNumberOf (IsReached objects plan)) (sym made.expanded) (counting.all (rows_stay e));
+      dropped = has_counted.dropped;
+      whole = λ e b. counting.whole (made.stands e) (subst (IsBrokenRow objects plan) made.depth b);
+    },
+  )
 
 module _ {F : Type 0} (objects : F → Objects) (faulty : F → ObjectId → Type 0) (plan : TopoPlan F) (w : Walk F) (h : IsBegunWalk objects faulty plan w) where
   abbrev p : TopoPlan F
@@ -80,17 +116,8 @@ module _ {F : Type 0} (objects : F → Objects) (faulty : F → ObjectId → Typ
   same_depth : new.depth ≡ old.depth
   same_depth = ap (λ c. c.depth) h.counting ∙ all.ready.depth
 
-  same_expanded : new.expanded ≡ old.expanded
-  same_expanded = ap (λ c. c.expanded) h.counting ∙ all.ready.expanded
-
   stands : new.reader.in_use ≡ true → old.reader.in_use ≡ true
   stands e = all.ready.stands (sym (ap (λ c. c.reader.in_use) h.counting) ∙ e)
-
-  to_done : (i : ObjectId) → IsDone new.frontier i → IsDone old.frontier i
-  to_done i d = ⊎_elim (λ e. inl (sym (ap is_done (moved Tips i)) ∙ e)) (λ e. inr (sym (ap is_done (moved Ends i)) ∙ e)) d
-
-  from_done : (i : ObjectId) → IsDone old.frontier i → IsDone new.frontier i
-  from_done i d = ⊎_elim (λ e. inl (ap is_done (moved Tips i) ∙ e)) (λ e. inr (ap is_done (moved Ends i) ∙ e)) d
 
   -- the ready commits
   in_starts : (r : Ready) → Contains w.ready.commits r → Contains h.starts r
@@ -112,11 +139,11 @@ module _ {F : Type 0} (objects : F → Objects) (faulty : F → ObjectId → Typ
   distinct = times_once (ready_ids w.ready.commits) (λ i.
       let a : times i (ready_ids w.ready.commits) ≡ times i (ready_ids h.starts) = ready_times i in
       let b : times i (ready_ids h.starts) ≤ times i (first_places p.tips) = keeps_times (IsTipDue old.frontier) kept i in
-      let c : times i (first_places p.tips) ≤ 1 = first_once [] p.tips i in
+      let c : times i (first_places p.tips) ≤ 1 = first_once p.tips i in
       omega arith)
 
   is_tip : (i : ObjectId) → Contains (ready_ids w.ready.commits) i → Contains p.tips i
-  is_tip i m = first_from [] p.tips i (keeps_from (IsTipDue old.frontier) kept i (start_of i m)).0
+  is_tip i m = (first_from [] p.tips i (keeps_from (IsTipDue old.frontier) kept i (start_of i m)).0).1
 
   first_read : AreRead objects faulty (plan_of h.first) h.first.counting
   first_read = subst (λ q. AreRead objects faulty q old) (sym first_plan) begun.all_read
@@ -144,31 +171,21 @@ module _ {F : Type 0} (objects : F → Objects) (faulty : F → ObjectId → Typ
   tip_high i m = subst (λ d. d ≤ known_generation p.rows i) (sym begun.depth) (least_within p.rows infinity (p.tips ++ p.ends) i (Contains-append_left p.tips p.ends i m))
 
   module _ (agrees : IsAgreeing (objects p.store) p.rows) where
-    before : IsCounted (objects p.store) p.rows p.parents p.tips p.ends (set.contains (taken_of w)) old.frontier
-    before = begun.counted (set.contains (taken_of w)) untaken agrees
+    counted : IsCounted (objects p.store) p.rows p.parents p.tips p.ends (set.contains (taken_of w)) old.frontier
+    counted = begun.counted (set.contains (taken_of w)) untaken agrees
 
     tallied : IsTallied objects w
     tallied = record {
       counted = record {
-        searched = searched_same (objects p.store) p.rows p.parents p.tips p.ends new.frontier.queue old.frontier.known new.frontier.known moved (subst (λ q. IsSearched (objects p.store) p.rows p.parents p.tips p.ends q old.frontier.known) (sym same_queue) before.searched);
-        tally = tally_same (next_by (objects p.store) p.parents Tips) (λ i. is_done (reached old.frontier.known Tips i)) (λ i. is_done (reached new.frontier.known Tips i)) (set.contains (taken_of w)) (children_of old.frontier) (children_of new.frontier) (λ j. ap is_done (moved Tips j)) same_children before.tally;
+        searched = searched_same (objects p.store) p.rows p.parents p.tips p.ends new.frontier.queue old.frontier.known new.frontier.known moved (subst (λ q. IsSearched (objects p.store) p.rows p.parents p.tips p.ends q old.frontier.known) (sym same_queue) counted.searched);
+        tally = tally_same (next_by (objects p.store) p.parents Tips) (λ i. is_done (reached old.frontier.known Tips i)) (λ i. is_done (reached new.frontier.known Tips i)) (set.contains (taken_of w)) (children_of old.frontier) (children_of new.frontier) (λ j. ap is_done (moved Tips j)) same_children counted.tally;
       };
       begun = λ side i m. ap is_seen (moved side i) ∙ begun.begun side i m;
       done = λ r m. let tip : Contains p.tips r.id = all.ready.among r (in_starts r m) in ap is_done (moved Tips r.id) ∙ begun.explored agrees Tips r.id (start tip) (tip_high r.id tip);
     }
 
-  module _ (agrees : IsAgreeing (objects p.store) p.rows) where
-    counted : IsCounted (objects p.store) p.rows p.parents p.tips p.ends (set.contains (taken_of w)) old.frontier
-    counted = before agrees
-
     due_childless : (i : ObjectId) → Contains p.tips i → IsTipDue old.frontier i → IsChildless (text_walked objects p) Member i
-    due_childless i m d = record {
-      member = record {
-        reached = start m;
-        outside = outside (objects p.store) (faulty p.store) p.rows p.parents p.tips p.ends agrees old.frontier old.depth (begun.explored agrees) (λ side. (counted.searched.search side).within) (set.contains (taken_of w)) (children_of old.frontier) counted.tally i d.outside (tip_high i m);
-      };
-      alone = λ c k. true≢false (sym (none_left (objects p.store) (faulty p.store) p.rows p.parents p.tips p.ends agrees old.frontier old.depth (begun.explored agrees) (λ side. (counted.searched.search side).within) (set.contains (taken_of w)) (children_of old.frontier) counted.tally i d.none_left (tip_high i m) c k) ∙ untaken c);
-    }
+    due_childless i m d = (first_ready objects faulty p old begun agrees i m d.none_left d.outside).childless
 
     childless_due : (i : ObjectId) → IsChildless (text_walked objects p) Member i → IsTipDue old.frontier i
     childless_due i q = record {
@@ -178,7 +195,7 @@ module _ {F : Type 0} (objects : F → Objects) (faulty : F → ObjectId → Typ
     }
 
     kept_childless : Keeps (IsChildless (text_walked objects p) Member) (first_places p.tips) (ready_ids h.starts)
-    kept_childless = keeps_on (λ i m d. due_childless i (first_from [] p.tips i m) d) (λ i m q. childless_due i q) kept
+    kept_childless = keeps_on (λ i m d. due_childless i (first_from [] p.tips i m).1 d) (λ i m q. childless_due i q) kept
 
     stored : (r : Ready) → Contains w.ready.commits r → IsStored objects p new.reader.in_use r
     stored r m = found_stored objects faulty p agrees (found r m)
@@ -195,30 +212,9 @@ module _ {F : Type 0} (objects : F → Objects) (faulty : F → ObjectId → Typ
       holds = sorted;
     }
 
-    -- a tip that becomes ready was read before, so its row drops no rows
-    stays : new.reader.in_use ≡ false → old.reader.in_use ≡ false
-    stays e = go old.reader.in_use refl
-      where
-        go : (b : Bool) → old.reader.in_use ≡ b → b ≡ false
-        go false d = refl
-        go true d =
-            let k : (i : ObjectId) × Contains p.tips i × DropsRows (plan_of h.first).rows i = all.ready.dropped d (sym (ap (λ c. c.reader.in_use) h.counting) ∙ e) in
-            absurd ((begun.counting agrees).whole d (broken objects faulty p agrees old.depth k.0 (inl (start k.1)) (tip_high k.0 k.1) (subst (λ q. DropsRows q.rows k.0) first_plan k.2)))
-
-    counts : HasCounted objects p new
-    counts = let c : HasCounted objects p old = begun.counts agrees in record {
-      number = number_same (IsDone old.frontier) (IsDone new.frontier) old.expanded new.expanded (sym same_expanded) from_done to_done c.number;
-      high = λ e i d. subst (λ n. n ≤ known_generation p.rows i) (sym same_depth) (c.high (stands e) i (to_done i d));
-      dropped = λ e. subst (IsBrokenRow objects p) (sym same_depth) (c.dropped (stays e));
-    }
-
-    counting : IsCounting objects p (counted_by new)
-    counting = let c : IsCounting objects p (counted_by old) = begun.counting agrees in record {
-      exact = λ e. subst (λ d. IsNumberOf (IsInDepth objects p d) new.expanded) (sym same_depth) (subst (λ n. IsNumberOf (IsInDepth objects p old.depth) n) (sym same_expanded) (c.exact (stands e)));
-      all = λ e. subst (IsNumberOf (IsReached objects p)) (sym same_expanded) (c.all (stays e));
-      dropped = counts.dropped;
-      whole = λ e b. c.whole (stands e) (subst (IsBrokenRow objects p) same_depth b);
-    }
+    both_counts : HasCounted objects p new × IsCounting objects p (counted_by new)
+    both_counts = subst (λ c. HasCounted objects p c × IsCounting objects p (counted_by c)) (sym h.counting)
+        (counts_made objects faulty p agrees first_plan all.ready (λ i m. record { reached = inl (start m); high = tip_high i m }) (begun.counts agrees) (begun.counting agrees))
 
     made_childless : (i : ObjectId) → was_ready_of new.frontier i ≡ true → IsChildless (text_walked objects p) Member i
     made_childless i e = (keeps_from (IsChildless (text_walked objects p) Member) kept_childless i (among_is i (ready_ids h.starts) (sym (made_is i) ∙ e))).1
@@ -235,7 +231,7 @@ module _ {F : Type 0} (objects : F → Objects) (faulty : F → ObjectId → Typ
     starts = starts;
     stored = stored;
     depth = depth_is;
-    counting = counting;
+    counting = λ agrees. (both_counts agrees).1;
     read = begun.read;
     found = found;
   }
@@ -248,7 +244,7 @@ module _ {F : Type 0} (objects : F → Objects) (faulty : F → ObjectId → Typ
     found = found;
     tallied = tallied;
     steady = steady;
-    counts = counts;
+    counts = λ agrees. (both_counts agrees).0;
     all_read = all_still objects faulty p old new moved stands begun.all_read;
     dropped = subst (λ c. AreDroppedFor objects p c.reader.in_use) (sym h.counting) (made_dropped objects faulty p first_plan (λ j m a. inl (start m)) all.ready begun.dropped);
     idle = λ e. same_queue ∙ begun.idle e;

@@ -1,18 +1,17 @@
 -- A commit taken from a steady walk adds exactly the parents that became ready.
 use Rattle.std.specs.Prelude.{◌≡◌, ◌≤◌, List, Bool, true, false, ◌||◌, Contains}
-use Rattle.std.proofs.Common.{refl, sym, ap, subst, ⊎_elim, ◌∙◌, arith}
-use Rattle.std.proofs.lemmas.Bool.{true≢false, or_cases, or_left, or_right}
+use Rattle.std.proofs.Common.{refl, sym, ap, subst, ◌∙◌, arith}
+use Rattle.std.proofs.lemmas.Bool.{true≢false, or_right}
 use Rattle.std.specs.FinSet as set
 use Rattle.gix_hash.specs.declared.ObjectId.{ObjectId}
-use Rattle.gix_hash.specs.Id.{is_same, is_among}
+use Rattle.gix_hash.specs.Id.{is_among}
 use Rattle.gix_object.specs.Object.{Objects}
-use Rattle.gix_hash.proofs.Ids.Membership.{id_total, same_is, among_from}
+use Rattle.gix_hash.proofs.Ids.Membership.{among_from}
 use Rattle.gix_frontier.specs.declared.Side.{Side}
 use Rattle.gix_frontier.specs.declared.Side.TheVariants.{Tips, Ends}
 use Rattle.gix_topo.specs.declared.counting.Counting.{Counting}
 use Rattle.gix_topo.specs.declared.walk.Walk.{Walk}
 use Rattle.gix_topo.specs.Inside.ReadySet.{ReadySet}
-use Rattle.gix_topo.specs.Depth.{known_generation}
 use Rattle.gix_topo.specs.Inside.Exploring.{IsSamePlan, Explores, itself, further}
 use Rattle.gix_frontier.specs.Inside.Frontier.{is_seen, is_done, reached}
 use Rattle.gix_revwalk.specs.Commits.{by_mode}
@@ -23,20 +22,18 @@ use Rattle.gix_topo.specs.Inside.Steady.{AreRead, IsSteady, IsHeld, unasked, una
 use Rattle.gix_revwalk.specs.Agreeing.{IsAgreeing}
 use Rattle.gix_topo.specs.Walk.{Ready, ready_ids, Chooses, IsStored, IsCounting, IsTaken, Adds, IsFound, text_walked, IsTextMember}
 use Rattle.gix_topo.specs.WalkSet.{IsChild, IsReady}
-use Rattle.gix_hash.specs.Reach.{Reaches, step}
-use Rattle.gix_topo.proofs.Counts.IndegreeZero.{none_left, outside, unseen, all_taken}
+use Rattle.gix_topo.proofs.Counts.IndegreeZero.{unseen, all_taken}
 use Rattle.gix_topo.proofs.Counts.ExploreKeeps.{explores_same, explores_made}
 use Rattle.gix_topo.proofs.Counts.Frontier.{has_seen}
 use Rattle.gix_revwalk.proofs.NewIds.{times, times_once}
 use Rattle.gix_topo.proofs.Readiness.IsReady.{keeps_from, keeps_times, last_from, last_once, keeps_on}
 use Rattle.gix_topo.proofs.Taking.AllReleases.{IsDue, IsReleased, released}
-use Rattle.gix_topo.proofs.Counts.Rest.{least_within}
 use Rattle.gix_topo.proofs.Counts.Children.{children_of, was_ready_of}
 use Rattle.gix_topo.proofs.Counts.Expanded.{explores_read}
 use Rattle.gix_topo.proofs.Reading.OnceRead.{all_still, found_later}
 use Rattle.gix_topo.proofs.Reading.FoundIsStored.{found_named, found_stored}
 use Rattle.gix_topo.proofs.Counts.Taken.{made_taken}
-use Rattle.gix_topo.proofs.Taking.Setting.{was_ready, plan_taken, was_untaken, named_text, counted_on, explored_on, tally_on}
+use Rattle.gix_topo.proofs.Taking.Setting.{was_ready, plan_taken, was_untaken, named_text, counted_on, explored_on, tally_on, due_ready as ready_by}
 use Rattle.gix_revwalk.proofs.ReadsWhole.{walked_within}
 use Rattle.gix_topo.proofs.Readiness.ReadyIds.{in_ids}
 use Rattle.gix_topo.proofs.Counts.MakesReady.{reads_stands}
@@ -136,27 +133,8 @@ module _ {F : Type 0} (objects : F → Objects) (faulty : F → ObjectId → Typ
       seen_there : (p : ObjectId) → has_seen new.counting.frontier Ends p ≡ has_seen t.explored.frontier Ends p
       seen_there p = ap is_seen (rel.ready.moved Ends p)
 
-      high : (p : ObjectId) → Contains named p → low.depth ≤ known_generation (plan_of w).rows p
-      high p m = least_within (plan_of w).rows w.counting.depth named p m
-
-      reached_named : (p : ObjectId) → Contains named p → Reaches walked (plan_of w).tips p
-      reached_named p m = step is_member.reached (subst (λ ids. Contains ids p) walked_is m)
-
       due_ready : (p : ObjectId) → Contains (last_places named) p → IsDue objects faulty between new p → IsReady walked Member (IsTaken (set.insert (taken_of w) r.id)) p
-      due_ready p m d = record {
-        member = record {
-          reached = reached_named p here;
-          outside = outside those (faulty w.counting.reader.find) (plan_of w).rows w.counting.parents (plan_of w).tips (plan_of w).ends agrees t.explored.frontier low.depth explored (λ side. (counted.searched.search side).within) now_taken (children_of new.counting.frontier) tally p (sym (seen_there p) ∙ d.outside) (high p here);
-        };
-        left = λ e. ⊎_elim (λ s. unmade (subst (λ j. (set.contains (taken_of w) j || is_among j (ready_ids w.ready.commits)) ≡ true) (sym (same_is p r.id s)) (or_right (set.contains (taken_of w) r.id) _ among_ready))) (λ k. unmade (or_left _ _ k)) (or_cases (is_same p r.id) (set.contains (taken_of w) p) (sym (set.contains-insert id_total (taken_of w) r.id p) ∙ e));
-        children = λ c k. none_left those (faulty w.counting.reader.find) (plan_of w).rows w.counting.parents (plan_of w).tips (plan_of w).ends agrees t.explored.frontier low.depth explored (λ side. (counted.searched.search side).within) now_taken (children_of new.counting.frontier) tally p d.none_left (high p here) c k;
-      }
-        where
-          here : Contains named p
-          here = last_from named p m
-
-          unmade : (set.contains (taken_of w) p || is_among p (ready_ids w.ready.commits)) ≡ true → ⊥
-          unmade e = true≢false (sym e ∙ sym (made_before p) ∙ d.unmade)
+      due_ready p m d = ready_by objects faulty w rest r chosen held agrees t.explored t.explores t.rested (children_of new.counting.frontier) rel.children p (last_from named p m) d.none_left (sym (seen_there p) ∙ d.outside) d.unmade
 
       ready_due : (p : ObjectId) → Contains (last_places named) p → IsReady walked Member (IsTaken (set.insert (taken_of w) r.id)) p → IsDue objects faulty between new p
       ready_due p m q = record {

@@ -1,13 +1,14 @@
 -- A ready commit is chosen to be taken, and counting goes on for it: what all facts about that rest on.
-use Rattle.std.specs.Prelude.{◌≡◌, ◌+◌, ℕ, List, Bool, false, cond, Contains}
+use Rattle.std.specs.Prelude.{◌≡◌, ◌+◌, ◌≤◌, ℕ, List, Bool, false, cond, Contains}
 use Rattle.std.proofs.Common.{sym, ap, subst, ◌∙◌}
+use Rattle.std.proofs.lemmas.Bool.{true≢false, false_from_ne_true, or_from, or_parts}
 use Rattle.std.specs.FinSet as set
 use Rattle.gix_hash.specs.declared.ObjectId.{ObjectId}
-use Rattle.gix_hash.specs.Id.{is_among}
+use Rattle.gix_hash.specs.Id.{is_same, is_among}
 use Rattle.gix_object.specs.Object.{Objects}
-use Rattle.gix_hash.proofs.Ids.Membership.{id_total}
+use Rattle.gix_hash.proofs.Ids.Membership.{id_total, same_is, among_from}
 use Rattle.gix_frontier.specs.declared.Side.{Side}
-use Rattle.gix_frontier.specs.declared.Side.TheVariants.{Tips}
+use Rattle.gix_frontier.specs.declared.Side.TheVariants.{Tips, Ends}
 use Rattle.gix_topo.specs.declared.counting.Counting.{Counting}
 use Rattle.gix_topo.specs.declared.walk.Walk.{Walk}
 use Rattle.gix_topo.specs.Inside.ReadySet.{ReadySet}
@@ -22,13 +23,18 @@ use Rattle.gix_topo.specs.Inside.Searched.{IsCounted, IsExplored, IsTally, next_
 use Rattle.gix_revwalk.specs.Ids.{times}
 use Rattle.gix_topo.specs.TopoOrder.{last_places}
 use Rattle.gix_topo.specs.Inside.Steady.{IsTallied, IsHeld}
-use Rattle.gix_topo.specs.Walk.{Ready, Chooses}
-use Rattle.gix_topo.proofs.Counts.IndegreeZero.{done_seen}
-use Rattle.gix_topo.proofs.Counts.ExploreKeeps.{explores_keep, explores_same, explores_done}
+use Rattle.gix_topo.specs.Walk.{Ready, ready_ids, Chooses, IsTaken, text_walked, IsTextMember}
+use Rattle.gix_topo.specs.WalkSet.{IsReady}
+use Rattle.gix_topo.specs.Depth.{known_generation}
+use Rattle.gix_topo.proofs.Counts.Frontier.{has_seen}
+use Rattle.gix_topo.proofs.Counts.Rest.{least_within}
+use Rattle.gix_topo.proofs.Counts.IndegreeZero.{done_seen, text_left, text_outside}
+use Rattle.gix_topo.proofs.Counts.ExploreKeeps.{explores_keep, explores_same, explores_done, explores_made}
 use Rattle.gix_topo.proofs.Counts.AllDownToDepth.{exact_there}
 use Rattle.gix_topo.proofs.Reading.FoundIsStored.{found_text}
-use Rattle.gix_topo.proofs.Counts.Children.{children_of, times-last, tally_takes}
-use Rattle.gix_topo.proofs.Counts.Taken.{ready_untaken}
+use Rattle.gix_topo.proofs.Counts.Children.{children_of, was_ready_of, tally_takes}
+use Rattle.gix_topo.proofs.Readiness.IsReady.{times-last}
+use Rattle.gix_topo.proofs.Counts.Taken.{ready_untaken, made_taken}
 use Rattle.gix_topo.proofs.Readiness.ReadyIds.{chosen_in, in_ids}
 
 module _ {F : Type 0} (objects : F → Objects) (faulty : F → ObjectId → Type 0) (w : Walk F) (rest : ReadySet) (r : Ready) (chosen : Chooses w.ready.sorting w.ready.commits r rest.commits) where
@@ -84,3 +90,21 @@ module _ {F : Type 0} (objects : F → Objects) (faulty : F → ObjectId → Typ
             tally_takes (next_by those w.counting.parents Tips) (λ i. is_done (reached explored.frontier.known Tips i)) (set.contains (taken_of w)) now_taken (children_of explored.frontier) children r.id
             (explores_done objects faulty explores Tips r.id (tallied.done r was_ready)) was_untaken (λ j. set.contains-insert id_total (taken_of w) r.id j)
             (λ p. ap (λ n. n + children p) (sym (times-last p named ∙ ap (λ ids. cond (is_among p ids) 1 0) named_text)) ∙ less p) counted_on.tally
+
+        -- a parent that is due is ready
+        pub due_ready : IsRested explored.reader.in_use explored.depth explored.frontier.queue → (children : ObjectId → ℕ) → ((p : ObjectId) → times p (last_places named) + children p ≡ children_of explored.frontier p) → (i : ObjectId) → Contains named i →
+            children i ≡ 0 → has_seen explored.frontier Ends i ≡ false → was_ready_of explored.frontier i ≡ false → IsReady (text_walked objects (plan_of w)) (IsTextMember objects (plan_of w)) (IsTaken (set.insert (taken_of w) r.id)) i
+        due_ready rested children less i m none outside unmade = record {
+          member = record {
+            reached = parents_reached i m;
+            outside = text_outside those (faulty w.counting.reader.find) (plan_of w).rows w.counting.parents (plan_of w).tips (plan_of w).ends agrees explored.frontier low.depth (explored_on rested) i outside high;
+          };
+          left = λ e. true≢false (sym e ∙ set.contains-insert id_total (taken_of w) r.id i ∙ or_from (is_same i r.id) _ (false_from_ne_true _ (λ s. true≢false (sym (among_from i _ (subst (Contains (ready_ids w.ready.commits)) (sym (same_is i r.id s)) (in_ids w.ready.commits r was_ready))) ∙ before.1))) before.0);
+          children = λ d k. text_left those (faulty w.counting.reader.find) (plan_of w).rows w.counting.parents (plan_of w).tips (plan_of w).ends agrees explored.frontier low.depth (explored_on rested) now_taken children (tally_on children less) i none high d k.child.reached k.named;
+        }
+          where
+            high : low.depth ≤ known_generation (plan_of w).rows i
+            high = least_within (plan_of w).rows w.counting.depth named i m
+
+            before : (set.contains (taken_of w) i ≡ false) × (is_among i (ready_ids w.ready.commits) ≡ false)
+            before = or_parts _ _ (sym (explores_made objects faulty explores i ∙ made_taken w held.made i) ∙ unmade)

@@ -8,13 +8,12 @@ use Rattle.gix_object.specs.declared.find.existing_iter.Error.TheVariants as exi
 use Rattle.gix_hash.specs.Id.{kind_of, is_same, is_among}
 use Rattle.gix_object.specs.Object.{Object, Objects}
 use Rattle.gix_object.specs.CommitItems.{commit_items}
-use Rattle.gix_hash.proofs.Ids.Membership.{id_total, same_is, same_itself, among_from, Contains-here, Contains-there, Contains-cons_cases, no_member}
+use Rattle.gix_hash.proofs.Ids.Membership.{same_itself, among_from, Contains-here, Contains-there, Contains-cons_cases, no_member}
 use Rattle.gix_revwalk.specs.declared.Parents.{Parents}
 use Rattle.gix_revwalk.specs.declared.Parents.TheVariants as mode
 use Rattle.gix_topo.specs.declared.Error.{Error}
 use Rattle.gix_topo.specs.declared.Error.TheVariants as error
 use Rattle.gix_topo.specs.declared.counting.Counting.{Counting}
-use Rattle.gix_frontier.specs.declared.Side.{Side}
 use Rattle.gix_frontier.specs.declared.Side.TheVariants.{Tips, Ends}
 use Rattle.gix_topo.specs.declared.walk.Walk.{Walk}
 use Rattle.gix_topo.specs.Inside.ReadySet.{ReadySet}
@@ -22,30 +21,25 @@ use Rattle.gix_revwalk.specs.Agreeing.{IsAgreeing}
 use Rattle.gix_topo.specs.Inside.Exploring.{Explores, IsRested}
 use Rattle.gix_frontier.specs.Inside.Frontier.{is_seen, is_done, known_of, reached}
 use Rattle.gix_frontier.specs.declared.Frontier.{Frontier}
-use Rattle.gix_topo.specs.Depth.{known_generation}
-use Rattle.std.proofs.lemmas.Bool.{true≢false, or_cases, or_left, or_right, or_parts}
+use Rattle.std.proofs.lemmas.Bool.{or_parts}
 use Rattle.gix_revwalk.specs.Commits.{by_mode}
 use Rattle.gix_hash.specs.Reach.{Reaches, step}
 use Rattle.gix_topo.specs.Reading.{IsReadFault}
 use Rattle.gix_topo.specs.Inside.Releasing.{plan_of, taken_of, IsPushFault, itself as pushed, parent, with_frontier, IsReleaseFault, uncounted, unread, no_memory, none, more, IsFaultAmong, here, later, lowered, IsTakingFault, exploring, releasing, short}
-use Rattle.gix_topo.specs.Inside.Searched.{IsExplored, text_next, next_by}
+use Rattle.gix_topo.specs.Inside.Searched.{text_next, next_by}
 use Rattle.gix_revwalk.specs.Ids.{times}
 use Rattle.gix_topo.specs.TopoOrder.{last_places}
 use Rattle.gix_topo.specs.Inside.Steady.{AreDroppedFor, IsTallied, IsHeld}
 use Rattle.gix_topo.specs.Walk.{TopoPlan, Ready, ready_ids, Chooses, IsCommitRead, IsNextReady, IsOtherParent, IsLate, IsFault, IsReached}
-use Rattle.gix_topo.proofs.Counts.ExploreKeeps.{explores_same, explores_made, explores_done, explores_idle}
+use Rattle.gix_topo.proofs.Counts.ExploreKeeps.{explores_same, explores_done, explores_idle}
 use Rattle.gix_topo.proofs.Counts.Frontier.{has_seen}
-use Rattle.gix_topo.proofs.Counts.Rest.{least_within}
-use Rattle.gix_topo.proofs.Counts.IndegreeZero.{text_left, text_outside}
-use Rattle.gix_topo.proofs.Readiness.IsReady.{last_from, last_once}
+use Rattle.gix_topo.proofs.Readiness.IsReady.{last_from, last_once, times-last}
 use Rattle.gix_topo.proofs.Taking.AllReleases.{IsReleased, uncounted_made, uncounted_moved, released}
-use Rattle.gix_topo.proofs.Counts.Children.{children_of, was_ready_of, times-last, tally_counts}
+use Rattle.gix_topo.proofs.Counts.Children.{children_of, was_ready_of, tally_counts}
 use Rattle.gix_topo.proofs.Reading.ReadsCommit.{reads_text_next}
 use Rattle.gix_revwalk.proofs.Rows.{none_agree}
-use Rattle.gix_topo.proofs.Counts.Taken.{made_taken}
-use Rattle.gix_topo.proofs.Taking.Setting.{was_ready, plan_taken, was_untaken, named_text, parents_reached, counted_on, explored_on, tally_on}
+use Rattle.gix_topo.proofs.Taking.Setting.{was_ready, plan_taken, was_untaken, named_text, parents_reached, counted_on, due_ready}
 use Rattle.gix_revwalk.proofs.NewIds.{among_times}
-use Rattle.gix_topo.proofs.Readiness.ReadyIds.{in_ids}
 use Rattle.gix_topo.proofs.Counts.RowsDropped.{made_dropped, explores_dropped}
 use Rattle.gix_topo.proofs.Counts.ReadFaults.{fault_item, exploring_fault, push_fault}
 use Rattle.gix_topo.proofs.Counts.MakesReady.{due_parts}
@@ -216,37 +210,18 @@ module _ {F : Type 0} (objects : F → Objects) (faulty : F → ObjectId → Typ
       -- a parent that loses its last child becomes ready
       next_ready : Agrees → (i : ObjectId) → Contains (last_places named) i → IsLastChild explored.frontier i → IsNextReady objects (plan_of w) (taken_of w) r.id i
       next_ready a i m l = record {
-        named = subst (λ ids. Contains ids i) (named_text objects faulty w rest r chosen held a) within;
-        ready = record {
-          member = record {
-            reached = parents_reached objects faulty w rest r chosen held a i within;
-            outside = text_outside (objects w.counting.reader.find) (faulty w.counting.reader.find) (plan_of w).rows w.counting.parents (plan_of w).tips (plan_of w).ends a explored.frontier low.depth there i l.outside high;
-          };
-          left = λ e. ⊎_elim (λ s. unmade (subst (λ j. (set.contains (taken_of w) j || is_among j (ready_ids w.ready.commits)) ≡ true) (sym (same_is i r.id s)) (or_right (set.contains (taken_of w) r.id) _ (among_from r.id (ready_ids w.ready.commits) (in_ids w.ready.commits r (was_ready objects faulty w rest r chosen)))))) (λ k. unmade (or_left _ _ k)) (or_cases (is_same i r.id) (set.contains (taken_of w) i) (sym (set.contains-insert id_total (taken_of w) r.id i) ∙ e));
-          children = λ d k. text_left (objects w.counting.reader.find) (faulty w.counting.reader.find) (plan_of w).rows w.counting.parents (plan_of w).tips (plan_of w).ends a explored.frontier low.depth there (λ j. set.contains (set.insert (taken_of w) r.id) j) left (tally_on objects faulty w rest r chosen held a explored x left (λ p. kept_apart p (children_left explored x a p))) i none_left high d k.child.reached k.named;
-        };
+        named = subst (λ ids. Contains ids i) (named_text objects faulty w rest r chosen held a) (last_from named i m);
+        ready = due_ready objects faulty w rest r chosen held a explored x rests left (λ p. apart p (children_left explored x a p)) i (last_from named i m) none_left l.outside l.unmade;
       }
         where
-          within : Contains named i
-          within = last_from named i m
-
-          there : (side : Side) → IsExplored (objects w.counting.reader.find) (plan_of w).rows w.counting.parents (plan_of w).tips (plan_of w).ends low.depth side explored.frontier
-          there = explored_on objects faulty w rest r chosen held a explored x rests
-
-          high : low.depth ≤ known_generation (plan_of w).rows i
-          high = least_within (plan_of w).rows w.counting.depth named i within
-
-          kept_apart : (p : ObjectId) → times p (last_places named) ≤ children_of explored.frontier p → times p (last_places named) + (children_of explored.frontier p - times p (last_places named)) ≡ children_of explored.frontier p
-          kept_apart p n = omega arith
+          apart : (p : ObjectId) → times p (last_places named) ≤ children_of explored.frontier p → times p (last_places named) + (children_of explored.frontier p - times p (last_places named)) ≡ children_of explored.frontier p
+          apart p n = omega arith
 
           none_left : (children_of explored.frontier i - times i (last_places named)) ≡ 0
           none_left =
               let n : 1 ≤ times i (last_places named) = among_times i (last_places named) (among_from i (last_places named) m) in
               let o : children_of explored.frontier i ≡ 1 = l.one in
               omega arith
-
-          unmade : (set.contains (taken_of w) i || is_among i (ready_ids w.ready.commits)) ≡ true → ⊥
-          unmade e = true≢false (sym e ∙ sym (explores_made objects faulty x i ∙ made_taken w held.made i) ∙ l.unmade)
 
     -- taking the chosen commit fails for a reason, and a fault found so late without rows is that of another parent
     pub taking_fault : (e : Error) → IsTakingFault objects faulty (record w { ready = rest }) r e → IsFault objects faulty (plan_of w) (IsNextReady objects (plan_of w) (taken_of w) r.id) e × IsLate objects (plan_of w) (IsNextReady objects (plan_of w) (taken_of w) r.id) e
