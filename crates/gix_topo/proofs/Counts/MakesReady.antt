@@ -27,6 +27,10 @@ use Rattle.gix_topo.proofs.Counts.Frontier.{known-insert, kept}
 use Rattle.gix_topo.proofs.Counts.Children.{children_of, was_ready_of}
 use Rattle.gix_hash.proofs.Lists.{only_member}
 
+-- whether an id is due, by what is known of it
+pub due_by : {found known : Known} {children : ℕ} → found ≡ known → children ≡ found.indegree → is_due known.indegree known ≡ is_due children found
+due_by same counted = cc
+
 module _ {F : Type 0} (objects : F → Objects) (faulty : F → ObjectId → Type 0) where
   -- rows that are in use after a reading were in use before
   pub reads_stands : {os : Objects} {fs : ObjectId → Type 0} {rows : List GraphRow} {in_use : Bool} {i : ObjectId} {info : Info} {new : Bool} → Reads os fs rows in_use i (Ok info) new → new ≡ true → in_use ≡ true
