@@ -12,8 +12,7 @@ use Rattle.gix_frontier.specs.declared.Frontier.{Frontier}
 use Rattle.gix_revwalk.specs.Agreeing.{IsAgreeing}
 use Rattle.gix_topo.specs.Depth.{known_generation}
 use Rattle.gix_topo.specs.Inside.Exploring.{IsRested, side_mode, Explores}
-use Rattle.gix_frontier.specs.Inside.Frontier.{is_seen, is_queued, is_done, reached, waits_for, waiting}
-use Rattle.gix_hash.specs.Reach.{Reaches}
+use Rattle.gix_frontier.specs.Inside.Frontier.{is_queued, reached, waits_for, waiting}
 use Rattle.gix_topo.specs.Inside.Searched.{IsSearched, text_next, next_by, starts_by, IsCounted, IsBegun, IsExplored}
 use Rattle.gix_topo.specs.declared.counting.Counting.{Counting}
 use Rattle.gix_revwalk.specs.Reading.{rows_of}

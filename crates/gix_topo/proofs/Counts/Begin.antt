@@ -1,17 +1,16 @@
 -- What counting has found when it has begun.
-use Rattle.std.specs.Prelude.{◌≡◌, ◌≤◌, ◌<◌, ℕ, min, List, [], ◌∷◌, ◌++◌, Bool, true, false, Some, None, Contains}
+use Rattle.std.specs.Prelude.{◌≡◌, ◌≤◌, ◌<◌, ℕ, min, List, [], ◌∷◌, ◌++◌, Bool, true, false, Some, None}
 use Rattle.std.proofs.Common.{refl, sym, ap, subst, inl, inr, ⊎_elim, ◌∙◌, arith}
 use Rattle.std.proofs.lemmas.Bool.{true≢false}
 use Rattle.std.specs.FinMap as map
 use Rattle.gix_hash.specs.declared.ObjectId.{ObjectId}
 use Rattle.gix_object.specs.Object.{Objects}
 use Rattle.gix_commitgraph.specs.Rows.{GraphRow, row_of}
-use Rattle.gix_hash.proofs.Ids.Membership.{no_member, Contains-here}
+use Rattle.gix_hash.proofs.Ids.Membership.{no_member}
 use Rattle.gix_topo.specs.declared.Error.{Error}
 use Rattle.gix_topo.specs.declared.Sorting.{Sorting}
 use Rattle.gix_frontier.specs.declared.Side.{Side}
 use Rattle.gix_frontier.specs.declared.Side.TheVariants.{Tips, Ends}
-use Rattle.gix_frontier.specs.Inside.Waiting.{Waiting}
 use Rattle.gix_topo.specs.declared.counting.Counting.{Counting}
 use Rattle.gix_revwalk.specs.Agreeing.{IsAgreeing}
 use Rattle.gix_topo.specs.Depth.{infinity, known_generation, least}
@@ -26,6 +25,7 @@ use Rattle.gix_topo.proofs.Counts.ExploreKeeps.{explores_keep, explores_made, ex
 use Rattle.gix_topo.proofs.Counts.Expanded.{counts_on, explores_read}
 use Rattle.gix_topo.proofs.Counts.AllDownToDepth.{exact_there}
 use Rattle.gix_topo.proofs.Reading.OnceRead.{once_known}
+use Rattle.gix_topo.proofs.Counts.MeetsParents.{no_members}
 use Rattle.gix_topo.proofs.Counts.MeetsStarts.{IsFresh, fresh_met, fresh_counted}
 use Rattle.gix_revwalk.proofs.Rows.{none_agree}
 use Rattle.gix_topo.proofs.Counts.Rest.{least_below}
@@ -91,20 +91,13 @@ module _ {F : Type 0} (objects : F → Objects) (faulty : F → ObjectId → Typ
     low_depth none = subst (λ d. d ≤ infinity) (sym start.depth) (least_below Rows infinity (tips ++ ends))
 
     idle : Rows ≡ [] → explored.frontier.queue ≡ []
-    idle none = ⊎_elim (λ q. q) (λ r. go r.1 explored.frontier.queue refl) rested
-      where
-        keyed : (entry : ℕ × Waiting) → Contains explored.frontier.queue entry → entry.0 ≡ known_generation Rows entry.1.id
-        keyed = (explores_keep objects faulty tips ends (λ i. false) (none_agree (objects low.reader.find) Rows none) explores (counted_low (λ i. false) (λ i. refl))).searched.keyed
-
-        go : ((entry : ℕ × Waiting) → Contains explored.frontier.queue entry → entry.0 < explored.depth) → (queue : List (ℕ × Waiting)) → explored.frontier.queue ≡ queue → queue ≡ []
-        go below [] e = refl
-        go below (entry ∷ queue) e =
-            let m : Contains explored.frontier.queue entry = subst (λ q. Contains q entry) (sym e) (Contains-here entry queue) in
-            let k : entry.0 ≡ infinity = keyed entry m ∙ unknown_generation Rows entry.1.id none in
-            let l : entry.0 < explored.depth = below entry m in
-            let d : explored.depth ≡ low.depth = same.depth in
-            let h : low.depth ≤ infinity = low_depth none in
-            absurd (omega arith)
+    idle none = ⊎_elim (λ q. q) (λ r. no_members explored.frontier.queue (λ entry m.
+        let c : IsCounted (objects low.reader.find) Rows low.parents tips ends (λ i. false) explored.frontier = explores_keep objects faulty tips ends (λ i. false) (none_agree (objects low.reader.find) Rows none) explores (counted_low (λ i. false) (λ i. refl)) in
+        let k : entry.0 ≡ infinity = c.searched.keyed entry m ∙ unknown_generation Rows entry.1.id none in
+        let l : entry.0 < explored.depth = r.1 entry m in
+        let d : explored.depth ≡ low.depth = same.depth in
+        let h : low.depth ≤ infinity = low_depth none in
+        absurd (omega arith))) rested
 
     all_read : AreRead objects faulty (plan_by low sorting tips ends) explored
     all_read = explores_read objects faulty sorting tips ends (λ i. false) explores (λ i d. absurd (undone i d))

@@ -1,9 +1,8 @@
 -- Counting is exact down to the depth.
-use Rattle.std.specs.Prelude.{◌≡◌, ◌⊎◌, ◌≤◌, ℕ, ◌+◌, List, [], ◌∷◌, Bool, true, false, not, ◌&&◌, ◌||◌, cond, nat_le, Some, Contains, length, slice_get}
+use Rattle.std.specs.Prelude.{◌≡◌, ◌⊎◌, ◌≤◌, ℕ, ◌+◌, List, [], ◌∷◌, Bool, true, false, not, ◌||◌, nat_le, Some, Contains, length, slice_get}
 use Rattle.std.proofs.Common.{refl, sym, ap, subst, inl, inr, ⊎_elim, ◌∙◌, arith}
 use Rattle.std.proofs.lemmas.Bool.{leb-true, true≢false, false≢true, or_cases, cases_Bool}
 use Rattle.gix_hash.specs.declared.ObjectId.{ObjectId}
-use Rattle.gix_hash.specs.Id.{is_same}
 use Rattle.gix_object.specs.Object.{Objects}
 use Rattle.gix_hash.proofs.Ids.Membership.{same_is, same_itself, Contains-here, Contains-there, Contains-cons_cases}
 use Rattle.gix_topo.specs.declared.Sorting.{Sorting}
@@ -14,9 +13,8 @@ use Rattle.gix_frontier.specs.declared.Frontier.{Frontier}
 use Rattle.gix_topo.specs.declared.counting.Counting.{Counting}
 use Rattle.gix_revwalk.specs.Agreeing.{IsAgreeing}
 use Rattle.gix_topo.specs.Depth.{known_generation}
-use Rattle.gix_topo.specs.Inside.Exploring.{is_pending, IsRested, Steps, Explores, itself, further, IsSamePlan}
-use Rattle.gix_frontier.specs.Inside.Frontier.{is_side, is_done, reached}
-use Rattle.gix_hash.specs.Reach.{Reaches}
+use Rattle.gix_topo.specs.Inside.Exploring.{is_pending, IsRested, Steps, Explores, IsSamePlan}
+use Rattle.gix_frontier.specs.Inside.Frontier.{is_done, reached}
 use Rattle.gix_revwalk.specs.Reading.{rows_of, DropsRows}
 use Rattle.gix_topo.specs.Inside.Releasing.{plan_by, counted_by}
 use Rattle.gix_topo.specs.Inside.Searched.{IsCounted, IsSearched, IsBegun, IsExplored}

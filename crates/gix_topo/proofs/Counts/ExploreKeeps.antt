@@ -1,10 +1,10 @@
 -- What a step and exploring do; with rows that agree they keep searches and counts as they are to be.
-use Rattle.std.specs.Prelude.{◌≡◌, ◌+◌, List, [], ◌∷◌, Bool, true, false, ◌&&◌, ◌||◌, cond, Contains}
+use Rattle.std.specs.Prelude.{◌≡◌, ◌+◌, List, [], Bool, true, false, ◌&&◌, ◌||◌, cond, Contains}
 use Rattle.std.proofs.Common.{refl, sym, ap, subst, ◌∙◌, arith}
 use Rattle.std.proofs.lemmas.Bool.{false≢true, or_right}
 use Rattle.gix_hash.specs.declared.ObjectId.{ObjectId}
 use Rattle.gix_hash.specs.Id.{is_same, is_among}
-use Rattle.gix_hash.proofs.Ids.Membership.{among_from, among_is, Contains-here}
+use Rattle.gix_hash.proofs.Ids.Membership.{among_from, among_is}
 use Rattle.gix_object.specs.Object.{Objects}
 use Rattle.gix_commitgraph.specs.Rows.{GraphRow}
 use Rattle.gix_revwalk.specs.declared.Parents.{Parents}
@@ -21,9 +21,8 @@ use Rattle.gix_revwalk.specs.Reading.{rows_of}
 use Rattle.gix_topo.specs.Inside.Searched.{IsCounted, next_by}
 use Rattle.gix_revwalk.specs.Ids.{times}
 use Rattle.gix_topo.specs.TopoOrder.{last_places}
-use Rattle.std.proofs.lemmas.List.Sorted.{Contains-permutation, IsPermutation-sym}
 use Rattle.gix_topo.proofs.Counts.ExploreEnds.{same_on}
-use Rattle.gix_topo.proofs.Counts.Frontier.{kept, has_seen}
+use Rattle.gix_topo.proofs.Counts.Frontier.{kept, has_seen, taken_from}
 use Rattle.gix_topo.proofs.Counts.MeetsParents.{AreMet, is_new, counted_of, parents_met}
 use Rattle.gix_topo.proofs.Readiness.IsReady.{last_in, last_from}
 use Rattle.gix_topo.proofs.Counts.BothSearches.{step_moved, steps_searched, waits_queued}
@@ -36,7 +35,7 @@ module _ {F : Type 0} (objects : F → Objects) (faulty : F → ObjectId → Typ
     met = parents_met (rows_of old.reader.graph) s.follows
 
     pub entry_queued : Contains old.frontier.queue s.entry
-    entry_queued = Contains-permutation (s.entry ∷ s.left) old.frontier.queue s.entry (IsPermutation-sym old.frontier.queue (s.entry ∷ s.left) s.taken_out) (Contains-here s.entry s.left)
+    entry_queued = taken_from old.frontier.queue s.left s.entry s.taken_out
 
     step_now : (t : Side) (j : ObjectId) → reached new.frontier.known t j ≡ cond (is_same j s.entry.1.id && is_side t s.entry.1.side) Done (cond (is_new s.entry.1.side s.ids old.frontier t j) Queued (reached old.frontier.known t j))
     step_now = step_moved (rows_of old.reader.graph) s.entry s.ids (counted_of s.entry.1.side s.ids) (record old.frontier { queue = s.left }) s.followed new.frontier met s.finishes

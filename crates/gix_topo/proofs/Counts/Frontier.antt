@@ -1,11 +1,11 @@
 -- What a change at one id does to what is known of all, and how much two searches have still to do.
-use Rattle.std.specs.Prelude.{◌≡◌, ◌≤◌, ◌<◌, ℕ, suc, ◌+◌, List, [], ◌∷◌, Bool, true, false, ◌&&◌, cond, Some, length, Contains, IsPermutation, sum_by}
-use Rattle.std.proofs.Common.{sym, ap, ⊎_elim, ◌∙◌, arith, refl}
+use Rattle.std.specs.Prelude.{◌≡◌, ◌≤◌, ◌<◌, ℕ, suc, ◌+◌, List, [], ◌∷◌, Bool, true, ◌&&◌, cond, length, Contains, IsPermutation, sum_by}
+use Rattle.std.proofs.Common.{sym, ⊎_elim, ◌∙◌, arith, refl}
 use Rattle.std.proofs.lemmas.Bool.{cases_lt}
 use Rattle.std.specs.List.{remove}
 use Rattle.std.proofs.lemmas.List.Recursion.{is_sum_by}
 use Rattle.std.specs.FinMap as map
-use Rattle.std.proofs.lemmas.List.Sorted.{IsPermutation-remove, sum_by-IsPermutation}
+use Rattle.std.proofs.lemmas.List.Sorted.{IsPermutation-remove, IsPermutation-sym, Contains-permutation, sum_by-IsPermutation}
 use Rattle.std.proofs.lemmas.List.Sums.{sum_by-cons, sum_by-le-sum_by}
 use Rattle.gix_hash.specs.declared.ObjectId.{ObjectId}
 use Rattle.gix_hash.specs.Id.{id_cmp, is_same}
@@ -16,7 +16,7 @@ use Rattle.gix_frontier.specs.declared.Progress.{Progress}
 use Rattle.gix_frontier.specs.Inside.Known.{Known}
 use Rattle.gix_frontier.specs.Inside.Waiting.{Waiting}
 use Rattle.gix_frontier.specs.declared.Frontier.{Frontier}
-use Rattle.gix_frontier.specs.Inside.Frontier.{is_side, is_seen, known_or, known_of, progress_of, with_progress, reached, waits_for, waiting}
+use Rattle.gix_frontier.specs.Inside.Frontier.{is_side, is_seen, known_of, progress_of, with_progress, reached, waits_for, waiting}
 
 -- sides
 pub side_is : (a b : Side) → is_side a b ≡ true → a ≡ b
@@ -48,6 +48,10 @@ waiting-permutation side i old new p = waiting-sum new side i ∙ sum_by-IsPermu
 
 abbrev pub has_seen : Frontier → Side → ObjectId → Bool
 has_seen f side i = is_seen (reached f.known side i)
+
+-- what is taken out of a list was in it
+pub taken_from : {X : Type 0} (xs left : List X) (x : X) → IsPermutation xs (x ∷ left) → Contains xs x
+taken_from xs left x p = Contains-permutation (x ∷ left) xs x (IsPermutation-sym xs (x ∷ left) p) (Contains-here x left)
 
 -- how many sides haven't seen an id
 abbrev pub unseen_by : Frontier → ObjectId → ℕ

@@ -27,6 +27,10 @@ use Rattle.gix_topo.proofs.Counts.Frontier.{known-insert, kept}
 use Rattle.gix_topo.proofs.Counts.Children.{children_of, was_ready_of}
 use Rattle.gix_hash.proofs.Lists.{only_member}
 
+-- whether an id is due, by what is known of it
+pub due_by : {found known : Known} {children : ℕ} → found ≡ known → children ≡ found.indegree → is_due known.indegree known ≡ is_due children found
+due_by same counted = cc
+
 module _ {F : Type 0} (objects : F → Objects) (faulty : F → ObjectId → Type 0) where
   -- rows that are in use after a reading were in use before
   pub reads_stands : {os : Objects} {fs : ObjectId → Type 0} {rows : List GraphRow} {in_use : Bool} {i : ObjectId} {info : Info} {new : Bool} → Reads os fs rows in_use i (Ok info) new → new ≡ true → in_use ≡ true
@@ -92,7 +96,7 @@ module _ {F : Type 0} (objects : F → Objects) (faulty : F → ObjectId → Typ
     expanded = p.same.expanded;
     queue = p.same.queue ∙ queue;
     moved = λ s j. makes_moved f new.counting.frontier i p.made s j ∙ moved s j;
-    made = λ j. (marks_ready_known f new.counting.frontier i p.made j).1 ∙ ap (λ b. is_same j i || b) (made j) ∙ ap (λ b. b || was_ready_of old.counting.frontier j) (ap (is_same j) (sym p.id) ∙ sym (among-one j r.id));
+    made = λ j. grind (arith, (marks_ready_known f new.counting.frontier i p.made j).1, made j, p.id, among-one j r.id);
     stands = λ e. reads_stands p.reads e;
     among = λ x m. subst (λ j. Contains (i ∷ []) j) (sym p.id ∙ ap (λ y. y.id) (only_member r x m)) (Contains-here i []);
     each = λ h x m. subst (IsFound objects faulty (plan_of old) old.counting.reader.in_use new.counting.reader.in_use) (only_member r x m) (found_pushed objects faulty (with_frontier objects faulty old f) old.counting i r new moved h p);
@@ -107,7 +111,7 @@ module _ {F : Type 0} (objects : F → Objects) (faulty : F → ObjectId → Typ
     expanded = b.expanded ∙ a.expanded;
     queue = b.queue ∙ a.queue;
     moved = λ s j. b.moved s j ∙ a.moved s j;
-    made = λ j. b.made j ∙ ap (λ x. is_among j (ready_ids others) || x) (a.made j) ∙ joined (is_among j (ready_ids others)) (is_among j (ready_ids first)) (was_ready_of old.counting.frontier j) ∙ ap (λ x. x || was_ready_of old.counting.frontier j) (sym (ap (is_among j) (ids-append first others) ∙ among-append j (ready_ids first) (ready_ids others)));
+    made = λ j. grind (arith, a.made j, b.made j, ap (is_among j) (ids-append first others) ∙ among-append j (ready_ids first) (ready_ids others));
     stands = λ e. a.stands (b.stands e);
     among = λ r m. ⊎_elim (λ l. here r.id (a.among r l)) (λ t. Contains-there r.id i ids (b.among r t)) (Contains-append_cases first others r m);
     each = λ h r m. ⊎_elim (λ l. found_later objects faulty (plan_of old) (λ e. e) b.stands (a.each h r l)) (λ t. found_later objects faulty (plan_of old) a.stands (λ e. e) (subst (λ p. IsFound objects faulty p mid.counting.reader.in_use new.counting.reader.in_use r) a.plan (b.each (read_mid h) r t))) (Contains-append_cases first others r m);
@@ -118,9 +122,6 @@ module _ {F : Type 0} (objects : F → Objects) (faulty : F → ObjectId → Typ
     where
       read_mid : AreRead objects faulty (plan_of old) old.counting → AreRead objects faulty (plan_of mid) mid.counting
       read_mid h = subst (λ p. AreRead objects faulty p mid.counting) (sym a.plan) (all_still objects faulty (plan_of old) old.counting mid.counting a.moved a.stands h)
-
-      joined : (x y z : Bool) → (x || (y || z)) ≡ ((y || x) || z)
-      joined x y z = grind arith
 
       here : (j : ObjectId) → Contains (i ∷ []) j → Contains (i ∷ ids) j
       here j m = subst (λ x. Contains (i ∷ ids) x) (only_member i j m) (Contains-here i ids)

@@ -25,6 +25,10 @@ pub no_items : {X : Type 0} (xs : List X) → length xs ≡ 0 → xs ≡ []
 no_items [] e = refl
 no_items (x ∷ xs) e = absurd (omega arith)
 
+pub no_members : {X : Type 0} (xs : List X) → ((x : X) → Contains xs x → ⊥) → xs ≡ []
+no_members [] absent = refl
+no_members (x ∷ xs) absent = absurd (absent x (Contains-here x xs))
+
 -- a side meets an id of these for the first time
 abbrev pub is_new : Side → List ObjectId → Frontier → Side → ObjectId → Bool
 is_new side ids f s j = (is_side s side && is_among j ids) && not (has_seen f s j)

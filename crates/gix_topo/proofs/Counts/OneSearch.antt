@@ -1,9 +1,9 @@
 -- A search that meets, reads and finishes ids, and what it has found when little is left in its queue.
 use Rattle.std.specs.Prelude.{◌≡◌, ◌≤◌, ◌<◌, ◌⊎◌, ℕ, ◌+◌, List, [], ◌∷◌, Bool, true, not, ◌&&◌, cond, Contains}
-use Rattle.std.proofs.Common.{subst, inl, inr, ⊎_elim, arith}
+use Rattle.std.proofs.Common.{subst, ⊎_elim, arith}
 use Rattle.gix_hash.specs.declared.ObjectId.{ObjectId}
 use Rattle.gix_hash.specs.Id.{is_same, is_among}
-use Rattle.gix_hash.proofs.Ids.Membership.{same_is, same_itself, Contains-here}
+use Rattle.gix_hash.proofs.Ids.Membership.{same_is, same_itself}
 use Rattle.gix_frontier.specs.declared.Progress.{Progress}
 use Rattle.gix_frontier.specs.declared.Progress.TheVariants.{Queued, Done}
 use Rattle.gix_hash.specs.Reach.{Reaches, start, step}

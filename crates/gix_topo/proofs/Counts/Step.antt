@@ -3,7 +3,6 @@ use Rattle.std.specs.Prelude.{◌≡◌, ◌+◌, ◌||◌, ℕ, List, [], ◌�
 use Rattle.std.proofs.Common.{sym, ap, subst, ◌∙◌}
 use Rattle.gix_hash.specs.declared.ObjectId.{ObjectId}
 use Rattle.gix_object.specs.Object.{Objects}
-use Rattle.gix_hash.proofs.Ids.Membership.{Contains-here}
 use Rattle.gix_frontier.specs.declared.Side.TheVariants.{Tips, Ends}
 use Rattle.gix_frontier.specs.Inside.Waiting.{Waiting}
 use Rattle.gix_frontier.specs.declared.Frontier.{Frontier}
@@ -11,10 +10,6 @@ use Rattle.gix_topo.specs.declared.counting.Counting.{Counting}
 use Rattle.gix_frontier.specs.Inside.Frontier.{reached, is_done, Finishes}
 use Rattle.gix_revwalk.specs.Reading.{rows_of}
 use Rattle.gix_topo.specs.Inside.Exploring.{Follows, ReadsParents, Steps}
-
-pub first_in : {X : Type 0} (xs : List X) (x : X) → Some x ≡ slice_get xs 0 → Contains xs x
-first_in [] x e = cc
-first_in (y ∷ xs) x e = let s : x ≡ y = cc in subst (λ z. Contains (z ∷ xs) x) s (Contains-here x xs)
 
 module _ {F : Type 0} (objects : F → Objects) (faulty : F → ObjectId → Type 0) where
   -- a walk without the first of those that wait

@@ -1,5 +1,5 @@
 -- A ready commit as it was read, with rows that agree.
-use Rattle.std.specs.Prelude.{◌≡◌, ℕ, Bool, true, cond, Option, Some, None, Result, Ok, Err, List, Contains}
+use Rattle.std.specs.Prelude.{◌≡◌, ℕ, Bool, true, cond, Option, Some, None, Result, Ok, List, Contains}
 use Rattle.std.proofs.Common.{refl, sym, ap, subst, ◌∙◌, arith}
 use Rattle.std.proofs.lemmas.Bool.{lt-ltb}
 use Rattle.gix_hash.specs.declared.ObjectId.{ObjectId}

@@ -1,25 +1,29 @@
-use Rattle.std.proofs.Common.{◌≡◌, ◌∷◌, Some, refl, sym, ◌∙◌, subst, IsPermutation, slice_get}
+use Rattle.std.proofs.Common.{◌≡◌, ◌∷◌, Some, refl, sym, ◌∙◌, subst, IsPermutation, slice_get, Contains}
 use Rattle.gix_revwalk.specs.Reading.{rows_of}
 use Rattle.gix_frontier.specs.Inside.Waiting.{waiting_by}
 use Rattle.gix_topo.specs.Inside.Exploring.{Follows}
 use Rattle.gix_topo.specs.declared.Error.TheVariants as error
 use Rattle.gix_frontier.proofs.Results.{err_from}
-use Rattle.gix_topo.proofs.Counts.Step.{first_in, steps_made}
+use Rattle.gix_topo.proofs.Counts.Frontier.{taken_from}
+use Rattle.gix_topo.proofs.Counts.Step.{steps_made}
 use Rattle.gix_topo.proofs.counting.Counting.step.Goals as goal
 
 pub returns-in_err-ids-clause-fault : goal.returns-in_err-ids-clause-fault
 returns-in_err-ids-clause-fault g c =
-    let first : Some (c.in-Some.field-0-0, waiting_by c.waiting.inside.id c.waiting.inside.side) ≡ slice_get c.args.self.now.frontier.queue 0 = subst (λ w. Some (c.in-Some.field-0-0, w) ≡ slice_get c.args.self.now.frontier.queue 0) (sym c.waiting.view_is) c.in-Some.ensures.first in
-    err_from _ c.from_residual.result c.in_err-ids.field-0.0 c.from_residual.ensures.1 (record { entry = (c.in-Some.field-0-0, waiting_by c.waiting.inside.id c.waiting.inside.side); queued = first_in _ _ first; fault = c.in_err-ids.ensures.fault })
+    err_from _ c.from_residual.result c.in_err-ids.field-0.0 c.from_residual.ensures.1 (record {
+      entry = (c.in-Some.field-0-0, waiting_by c.waiting.inside.id c.waiting.inside.side);
+      queued = subst (λ w. Contains c.args.self.now.frontier.queue (c.in-Some.field-0-0, w)) (sym c.waiting.view_is) (taken_from _ _ _ c.in-Some.ensures.rest);
+      fault = c.in_err-ids.ensures.fault;
+    })
 
 pub returns-in_err-count-clause-fault : goal.returns-in_err-count-clause-fault
-returns-in_err-count-clause-fault g c = err_from _ c.from_residual-in_err-count.result error.Memory c.from_residual-in_err-count.ensures.1 (record { entry = (c.in-Some.field-0-0, c.in-Some.waiting); queued = first_in _ _ c.in-Some.ensures.first; fault = (tt, λ n. absurd (n refl)) })
+returns-in_err-count-clause-fault g c = err_from _ c.from_residual-in_err-count.result error.Memory c.from_residual-in_err-count.ensures.1 (record { entry = (c.in-Some.field-0-0, c.in-Some.waiting); queued = taken_from _ _ _ c.in-Some.ensures.rest; fault = (tt, λ n. absurd (n refl)) })
 
 pub returns-in_err-follow-clause-fault : goal.returns-in_err-follow-clause-fault
-returns-in_err-follow-clause-fault g c = err_from _ c.from_residual-in_err-follow.result error.Memory c.from_residual-in_err-follow.ensures.1 (record { entry = (c.in-Some.field-0-0, c.in-Some.waiting); queued = first_in _ _ c.in-Some.ensures.first; fault = (tt, λ n. absurd (n refl)) })
+returns-in_err-follow-clause-fault g c = err_from _ c.from_residual-in_err-follow.result error.Memory c.from_residual-in_err-follow.ensures.1 (record { entry = (c.in-Some.field-0-0, c.in-Some.waiting); queued = taken_from _ _ _ c.in-Some.ensures.rest; fault = (tt, λ n. absurd (n refl)) })
 
 pub returns-in_err-finish-clause-fault : goal.returns-in_err-finish-clause-fault
-returns-in_err-finish-clause-fault g c = err_from _ c.from_residual-in_err-finish.result error.Memory c.from_residual-in_err-finish.ensures.1 (record { entry = (c.in-Some.field-0-0, c.in-Some.waiting); queued = first_in _ _ c.in-Some.ensures.first; fault = (tt, λ n. absurd (n refl)) })
+returns-in_err-finish-clause-fault g c = err_from _ c.from_residual-in_err-finish.result error.Memory c.from_residual-in_err-finish.ensures.1 (record { entry = (c.in-Some.field-0-0, c.in-Some.waiting); queued = taken_from _ _ _ c.in-Some.ensures.rest; fault = (tt, λ n. absurd (n refl)) })
 
 pub returns-clause-steps : goal.returns-clause-steps
 returns-clause-steps g c =
