@@ -1,6 +1,6 @@
 -- No id is asked about twice, whatever faults come, and only ids that tips, rows and stored texts name.
 use Rattle.std.specs.Prelude.{◌≡◌, ◌⊎◌, List, [], ◌∷◌, ◌++◌, Bool, true, false, not, ◌&&◌, ◌||◌, Result, Contains}
-use Rattle.std.proofs.Common.{refl, sym, ap, subst, inl, inr, ⊎_elim, ◌∙◌}
+use Rattle.std.proofs.Common.{refl, sym, ap, subst, inl, inr, ⊎_elim, ◌∙◌, arith}
 use Rattle.std.specs.Iterator.{Yields}
 use Rattle.std.proofs.lemmas.Bool.{true≢false, or_right, or_left}
 use Rattle.std.proofs.lemmas.List.Elements.{Contains-append_cases}
@@ -102,9 +102,7 @@ module _ {F P : Type 0} (objects : F → Objects) (faulty : F → ObjectId → T
       where
         cut : (i : ObjectId) (gone : Bool) → set.contains new.seen i ≡ (set.contains w.seen i && not gone) → set.contains new.remembered i ≡ (set.contains w.remembered i || gone)
             → (set.contains w.seen i ≡ true) ⊎ (set.contains w.remembered i ≡ true) → (set.contains new.seen i ≡ true) ⊎ (set.contains new.remembered i ≡ true)
-        cut i gone s r (inr e) = inr (r ∙ or_left _ _ e)
-        cut i true s r (inl e) = inr (r ∙ or_right (set.contains w.remembered i) _ refl)
-        cut i false s r (inl e) = inl (s ∙ ap (λ b. b && true) e)
+        cut i gone s r known = grind arith
     built_asked (hides b) = built_asked b
     built_asked (walks b) = built_asked b
     built_asked (reads b) = built_asked b

@@ -30,12 +30,10 @@ use Rattle.gix_simple.proofs.NeverTwice.{IsSole, asked_sole, drawn_once}
 use Rattle.gix_simple.proofs.MadeOfTips.{once_or_never, is_new_walk, pending_is}
 
 in_force : (m : Parents) (by : Sorting) (order : CommitTimeOrder) → time_order m by ≡ Some order → time_order mode.All by ≡ Some order
-in_force mode.First by order e = cc
-in_force mode.All by order e = e
+in_force m by order e = grind arith
 
 positive : (b : Bool) (n : ℕ) → 1 ≤ n → n + 0 ≤ cond b 1 0 → b ≡ true
-positive true n h k = refl
-positive false n h k = absurd (omega arith)
+positive b n h k = grind arith
 
 module _ (objects : Objects) where
   -- of pending commits with their times, those whose time is of some kind
@@ -163,9 +161,7 @@ module _ {F P : Type 0} (objects : F → Objects) (faulty : F → ObjectId → T
       is_kept i there young = ap (λ ps. is_among i (ids_of ps)) s.pending ∙ recent_among found limit old.pending i ∙ go (is_older (time_of found i) limit) (is_among i (ids_of old.pending)) there (sym (ap not (outdated_among found limit old.pending i)) ∙ young)
         where
           go : (o a : Bool) → a ≡ true → not (o && a) ≡ true → (not o && a) ≡ true
-          go true true e f = absurd (false≢true f)
-          go false true e f = refl
-          go o false e f = absurd (false≢true e)
+          go o a e f = grind arith
 
   fresh_of : (walk : SimpleWalk F P) → Built walk → IsSole objects faulty answers [] walk → IsFresh objects walk accepts
   fresh_of walk b sole = record {

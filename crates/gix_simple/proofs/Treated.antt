@@ -1,6 +1,6 @@
 -- The parents of a commit, treated in order: what becomes pending and seen.
 use Rattle.std.specs.Prelude.{◌≡◌, ◌⊎◌, ◌+◌, ℤ, pos, List, [], ◌∷◌, ◌++◌, filter, Bool, true, false, not, ◌&&◌, ◌||◌, cond, Option, Some, None, Ok, Contains, IsPermutation}
-use Rattle.std.proofs.Common.{refl, sym, ap, subst, ⊎_elim, ◌∙◌, append_assoc, append-nil}
+use Rattle.std.proofs.Common.{refl, sym, ap, subst, ⊎_elim, ◌∙◌, append_assoc, append-nil, arith}
 use Rattle.std.proofs.lemmas.List.{map-append}
 use Rattle.std.proofs.lemmas.List.Sorted.{IsPermutation-map, Contains-permutation, IsPermutation-sym}
 use Rattle.std.proofs.lemmas.List.Elements.{filter-append, Contains-append_cases}
@@ -254,10 +254,7 @@ module _ {F P : Type 0} (objects : F → Objects) (faulty : F → ObjectId → T
   }
     where
       swapped : (a b c : Bool) → (a || ((b || false) || c)) ≡ ((b || a) || c)
-      swapped true true c = refl
-      swapped true false c = refl
-      swapped false true c = refl
-      swapped false false c = refl
+      swapped a b c = grind arith
 
   pub all_treated : (s : Setting) (by_row : Bool) {w v : SimpleWalk F P} {ids : List ObjectId} {how : Treated} → TreatsAll objects faulty answers by_row w ids how v → how ≡ GoesOn → Stands s w → ((i : ObjectId) → Contains ids i → IsReady s w by_row i) → Did s ids w v
   all_treated s by_row (none {old = w}) e h ready = record { rest = h; same_rows = refl; seen = λ j k. refl; pending = Joins-refl (order_of s) _ _ (sym (append-nil _)) }
