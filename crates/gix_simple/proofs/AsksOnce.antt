@@ -47,12 +47,7 @@ module _ {F P : Type 0} (objects : F → Objects) (faulty : F → ObjectId → T
   -- an id is seen, and remembered no more
   still_known : (seen remembered : Ids) (i j : ObjectId) → (set.contains seen j ≡ true) ⊎ (set.contains remembered j ≡ true)
       → (set.contains (set.insert seen i) j ≡ true) ⊎ (set.contains (set.remove remembered i) j ≡ true)
-  still_known seen remembered i j (inl e) = inl (set.contains-insert id_total seen i j ∙ or_right (is_same j i) _ e)
-  still_known seen remembered i j (inr e) = go (is_same j i) refl
-    where
-      go : (b : Bool) → is_same j i ≡ b → (set.contains (set.insert seen i) j ≡ true) ⊎ (set.contains (set.remove remembered i) j ≡ true)
-      go true s = inl (set.contains-insert id_total seen i j ∙ or_left _ _ s)
-      go false s = inr (set.contains-remove id_total remembered i j ∙ ap (λ b. not b && set.contains remembered j) s ∙ e)
+  still_known seen remembered i j known = let s = set.contains-insert id_total seen i j in let r = set.contains-remove id_total remembered i j in grind arith
 
   asked_one : (w : SimpleWalk F P) (i : ObjectId) {b : Bool} {q : P} → is_among i named ≡ true → IsNew objects faulty answers w i
       → Asks objects faulty answers w i b q → AskedOf w → Asked q (set.insert w.seen i) (set.remove w.remembered i)

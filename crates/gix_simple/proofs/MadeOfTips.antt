@@ -56,10 +56,7 @@ module _ {F P : Type 0} (objects : F → Objects) (faulty : F → ObjectId → T
 
   keep_is : (i : ObjectId) → keep objects faulty answers setting i ≡ accepts i
   unfolding setting
-  keep_is i = go (accepts i)
-    where
-      go : (b : Bool) → ((b && true) && true) ≡ b
-      go b = grind arith
+  keep_is i = grind arith
 
   pending : ids_of walk.pending ≡ new_ids (λ i. false) (filter accepts tips)
   unfolding setting

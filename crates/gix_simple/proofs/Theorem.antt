@@ -38,7 +38,10 @@ use Rattle.gix_simple.proofs.WholeWalk.{Known, Runs, BegunOf, RunsTo, none_yet, 
 use Rattle.gix_revwalk.proofs.ReadsWhole.{walked_within, no_fault}
 use Rattle.gix_hash.proofs.Lists.{filter_within, filter_all}
 
-Contains-filter : (p : ObjectId → Bool) (xs : List ObjectId) (i : ObjectId) → Contains (filter p xs) i → Contains xs i × (p i ≡ true)
+both_ways : (a b : Bool) → (a ≡ true → b ≡ true) → (b ≡ true → a ≡ true) → a ≡ b
+both_ways a b there back = grind arith
+
+pub Contains-filter : (p : ObjectId → Bool) (xs : List ObjectId) (i : ObjectId) → Contains (filter p xs) i → Contains xs i × (p i ≡ true)
 Contains-filter p xs i h =
     let e : (p i ≡ true) × (is_among i xs ≡ true) = and_parts (p i) (is_among i xs) (sym (among-filter i p xs) ∙ among_from i _ h) in
     (among_is i xs e.1, e.0)
@@ -105,7 +108,7 @@ module _ {F P : Type 0} (objects : F → Objects) (faulty : F → ObjectId → T
   set_up marks = record { store = w.store; predicate = w.predicate; rows = w.rows; parents = w.parents; named = named; sorting = w.sorting; begun = true; marks = marks; accepts = accepts; hidden = hides; starts = starts_of w hides; by_test = by_test; agreeing = agreeing }
 
   seen_starts : (i : ObjectId) → is_kept (objects w.store) accepts hides (cutoff w.parents w.sorting) i ≡ true → set.contains w.seen i ≡ is_among i (starts_of w hides ++ [])
-  seen_starts i k = rw append-nil (go (set.contains w.seen i) refl (is_among i (starts_of w hides)) refl)
+  seen_starts i k = rw append-nil (both_ways (set.contains w.seen i) (is_among i (starts_of w hides)) from_seen from_starts)
     where
       parts : (accepts i ≡ true) × (not (hides i) ≡ true)
       parts = and_parts _ _ (and_parts _ _ k).0
@@ -115,11 +118,6 @@ module _ {F P : Type 0} (objects : F → Objects) (faulty : F → ObjectId → T
 
       from_starts : is_among i (starts_of w hides) ≡ true → set.contains w.seen i ≡ true
       from_starts e = is_fresh.pending_seen i (Contains-filter (λ j. not (hides j)) (ids_of w.pending) i (among_is i _ e)).0
-
-      go : (a : Bool) → set.contains w.seen i ≡ a → (b : Bool) → is_among i (starts_of w hides) ≡ b → set.contains w.seen i ≡ is_among i (starts_of w hides)
-      go true e b f = e ∙ sym (from_seen e)
-      go false e true f = from_starts f ∙ sym f
-      go false e false f = e ∙ sym f
 
   -- a walk whose first step is made, and what is known of it
   pub record Begins (Allowed : Result Info Error → Type 0) (o : Option (Result Info Error)) (new : SimpleWalk F P) : Type 0 where
@@ -230,12 +228,7 @@ module _ {F P : Type 0} (objects : F → Objects) (faulty : F → ObjectId → T
       (knows marks (λ c i r n. exact i (inr (c, (outside c r).0, not_hidden c (outside c r).1, n)))) steps
     where
       exact : (i : ObjectId) → IsAtBoundary (parents_of (objects w.store)) (ids_of w.pending) w.hidden_tips i → set.contains marks i ≡ hides i
-      exact i at = go (set.contains marks i) refl (hides i) refl
-        where
-          go : (a : Bool) → set.contains marks i ≡ a → (b : Bool) → hides i ≡ b → set.contains marks i ≡ hides i
-          go true e b f = e ∙ sym ((tells i).1 ((paint.marked (objects w.store) own).sound i e))
-          go false e true f = (paint.marked (objects w.store) own).whole i at ((tells i).0 f) ∙ sym f
-          go false e false f = e ∙ sym f
+      exact i at = both_ways (set.contains marks i) (hides i) (λ e. (tells i).1 ((paint.marked (objects w.store) own).sound i e)) (λ e. (paint.marked (objects w.store) own).whole i at ((tells i).0 e))
 
   no_hidden_fault : w.pending ≢ [] → w.hidden_tips ≢ [] → (why : Hidden) → IsNoRefusal (Err (error.HiddenGraph why)) → IsHiddenFault (objects w.store) (faulty w.store) w.rows (ids_of w.pending) w.hidden_tips why → ⊥
   no_hidden_fault some hidden (hidden_by.Find e) ok fault =

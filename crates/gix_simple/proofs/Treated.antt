@@ -140,11 +140,7 @@ module _ {F P : Type 0} (objects : F → Objects) (faulty : F → ObjectId → T
   not_same s i j e k = false_from_ne_true _ (λ t. false≢true (sym e ∙ sym (ap (keep s) (same_is j i t)) ∙ k))
 
   seen_once : (i j : ObjectId) (old : ObjectId → Bool) → old i ≡ true → old j ≡ (is_same j i || old j)
-  seen_once i j old e = go (is_same j i) refl
-    where
-      go : (b : Bool) → is_same j i ≡ b → old j ≡ (b || old j)
-      go true t = ap old (same_is j i t) ∙ e
-      go false t = refl
+  seen_once i j old e = let same : is_same j i ≡ true → old j ≡ old i = λ t. ap old (same_is j i t) in grind arith
 
   seen_still : (i j : ObjectId) (old : ObjectId → Bool) → is_same j i ≡ false → old j ≡ (is_same j i || old j)
   seen_still i j old e = sym (ap (λ b. b || old j) e)
