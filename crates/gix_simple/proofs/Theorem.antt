@@ -80,11 +80,7 @@ no_start next starts i (step {c = c} r n) = no_start next starts c r
 
 ids-filter : (p q : ObjectId → Bool) (ps : List Pending) → ((i : ObjectId) → Contains (ids_of ps) i → p i ≡ q i) → ids_of (filter (λ x. not (p x.id)) ps) ≡ filter (λ i. not (q i)) (ids_of ps)
 ids-filter p q [] h = refl
-ids-filter p q (x ∷ ps) h = go (q x.id) (h x.id (Contains-here x.id (ids_of ps))) (ids-filter p q ps (λ i c. h i (Contains-there i x.id (ids_of ps) c)))
-  where
-    go : (b : Bool) → p x.id ≡ b → ids_of (filter (λ x. not (p x.id)) ps) ≡ filter (λ i. not (q i)) (ids_of ps) → ids_of (cond (not (p x.id)) (x ∷ filter (λ x. not (p x.id)) ps) (filter (λ x. not (p x.id)) ps)) ≡ cond (not b) (x.id ∷ filter (λ i. not (q i)) (ids_of ps)) (filter (λ i. not (q i)) (ids_of ps))
-    go true e r = ap (λ b. ids_of (cond (not b) (x ∷ filter (λ x. not (p x.id)) ps) (filter (λ x. not (p x.id)) ps))) e ∙ r
-    go false e r = ap (λ b. ids_of (cond (not b) (x ∷ filter (λ x. not (p x.id)) ps) (filter (λ x. not (p x.id)) ps))) e ∙ ap (λ ys. x.id ∷ ys) r
+ids-filter p q (x ∷ ps) h = let here : p x.id ≡ q x.id = h x.id (Contains-here x.id (ids_of ps)) in grind (arith, ids-filter p q ps (λ i c. h i (Contains-there i x.id (ids_of ps) c)))
 
 each_place : (Q : List ObjectId → Option ObjectId → Type 0) (ids : List ObjectId) → ((k : ℕ) (i : ObjectId) → slice_get ids k ≡ Some i → Q (take k ids) (Some i)) → Q ids None → (k : ℕ) → k ≤ length ids → Q (take k ids) (slice_get ids k)
 each_place Q [] h e zero b = e

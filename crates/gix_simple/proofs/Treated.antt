@@ -124,17 +124,13 @@ module _ {F P : Type 0} (objects : F → Objects) (faulty : F → ObjectId → T
 
   -- an id that isn't kept adds nothing
   passed_over : (s : Setting) (i : ObjectId) (xs : List ObjectId) (old : ObjectId → Bool) → keep s i ≡ false → Joins (order_of s) xs (xs ++ fresh old (filter (keep s) (i ∷ [])))
-  passed_over s i xs old e = Joins-refl (order_of s) _ _ (sym (ap (λ b. xs ++ fresh old (cond b (i ∷ []) [])) e ∙ append-nil xs))
+  passed_over s i xs old e = Joins-refl (order_of s) _ _ (grind (arith, append-nil xs))
 
   already : (s : Setting) (i : ObjectId) (xs : List ObjectId) (old : ObjectId → Bool) → old i ≡ true → Joins (order_of s) xs (xs ++ fresh old (filter (keep s) (i ∷ [])))
-  already s i xs old e = Joins-refl (order_of s) _ _ (sym (go (keep s i)))
-    where
-      go : (b : Bool) → xs ++ fresh old (cond b (i ∷ []) []) ≡ xs
-      go true = ap (λ b. xs ++ cond b [] (i ∷ [])) e ∙ append-nil xs
-      go false = append-nil xs
+  already s i xs old e = Joins-refl (order_of s) _ _ (grind (arith, append-nil xs))
 
   added : (s : Setting) (i : ObjectId) (xs : List ObjectId) (old : ObjectId → Bool) → keep s i ≡ true → old i ≡ false → xs ++ i ∷ [] ≡ xs ++ fresh old (filter (keep s) (i ∷ []))
-  added s i xs old k e = sym (ap (λ b. xs ++ fresh old (cond b (i ∷ []) [])) k ∙ ap (λ b. xs ++ cond b [] (i ∷ [])) e)
+  added s i xs old k e = grind arith
 
   not_same : (s : Setting) (i j : ObjectId) → keep s i ≡ false → keep s j ≡ true → is_same j i ≡ false
   not_same s i j e k = false_from_ne_true _ (λ t. false≢true (sym e ∙ sym (ap (keep s) (same_is j i t)) ∙ k))
