@@ -2,6 +2,7 @@
 use Rattle.std.specs.Prelude.{◌≡◌, ◌≤◌, ℕ, ℤ, List, [], ◌∷◌, true, false, Some, Contains, IsSome, slice_get}
 use Rattle.std.specs.FinSet as set
 use Rattle.std.proofs.Common.{refl, sym, ap, subst, inr, ⊎_elim, ◌∙◌, arith}
+use Rattle.std.proofs.lemmas.Bool.Decides.{nat_tests}
 use Rattle.std.specs.BinaryHeap.{IsUpperBound}
 use Rattle.std.specs.Ordering.{is_lt, nat_cmp, int_cmp, ordering_then, ordering_reverse, is_le}
 use Rattle.std.specs.Cmp.{nat_cmp_total}
@@ -19,12 +20,7 @@ use Rattle.gix_revwalk.specs.PriorityQueue.{keys}
 use Rattle.gix_hash.proofs.Ids.Membership.{Contains-here, Contains-cons_cases, no_member}
 
 not_above : (n m : ℕ) (o : Ordering) → is_lt (ordering_then (nat_cmp n m) o) ≡ false → m ≤ n
-not_above n m o h = le_from_is_le m n (go (nat_cmp m n) (nat_cmp_total.antisymm n m))
-  where
-    go : (r : Ordering) → nat_cmp n m ≡ ordering_reverse r → is_le r ≡ true
-    go Less e = refl
-    go Equal e = refl
-    go Greater e = let t : true ≡ false = ap (λ x. is_lt (ordering_then x o)) (sym e) ∙ h in cc
+not_above n m o h = grind (arith, nat_tests)
 
 generation_below : (g h : Generation) (s t : ℤ) → is_lt (cmp-value.it (record { generation = g; time = s }) (record { generation = h; time = t })) ≡ false → (n : ℕ) → g ≡ Told n → (m : ℕ) × (h ≡ Told m) × (m ≤ n)
 generation_below Infinite h s t e n k = cc

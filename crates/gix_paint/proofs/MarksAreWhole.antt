@@ -28,19 +28,13 @@ use Rattle.gix_hash.proofs.Ids.Membership.{no_member, Contains-here}
 use Rattle.gix_revwalk.proofs.ReadsWhole.{row_stands}
 
 hidden_state : (o : Option Side) (waiting : Bool) → state_by o waiting ≡ Hides → hides o ≡ true
-hidden_state None waiting e = cc
-hidden_state (Some side.Visible) true e = cc
-hidden_state (Some side.Visible) false e = cc
-hidden_state (Some side.Hidden) waiting e = refl
+hidden_state o waiting e = grind arith
 
 no_greater : (a b : ℕ) → a < b → b < a → ⊥
 no_greater a b l m = omega arith
 
 open_waits : (o : Option Side) (waiting : Bool) → state_by o waiting ≡ Open → waiting ≡ true
-open_waits None waiting e = cc
-open_waits (Some side.Visible) true e = refl
-open_waits (Some side.Visible) false e = cc
-open_waits (Some side.Hidden) waiting e = cc
+open_waits o waiting e = grind arith
 
 module _ {F : Type 0} (objects : F → Objects) (store : F) (history : Objects) (rows : List GraphRow) (tips hidden_tips : List ObjectId) where
   abbrev There : ObjectId → List ObjectId
@@ -234,8 +228,7 @@ module _ {F : Type 0} (objects : F → Objects) (store : F) (rows : List GraphRo
   }
     where
       either_rows : (b : Bool) → ((if b then rows else []) ≡ rows) ⊎ ((if b then rows else []) ≡ [])
-      either_rows true = inl refl
-      either_rows false = inr refl
+      either_rows b = grind arith
 
       still : (o : Option (Bor (List GraphRow))) → graph_in_use p.source ≡ o → RowsInUse objects store rows p → Left ≡ rows
       still None e stands = ap (λ g. if is_some g then rows else []) e ∙ sym (ap rows_in e) ∙ stands

@@ -45,8 +45,7 @@ becomes_new side.Visible (Some mark) waiting e m q = cc
 becomes_new side.Hidden o waiting e m q = covers refl m q
 
 opens_new : (on : Side) → not (hides (Some on)) ≡ true → state_by (Some on) (not (hides (Some on))) ≡ Open
-opens_new side.Visible e = refl
-opens_new side.Hidden e = cc
+opens_new on e = grind arith
 
 module _ {F : Type 0} (objects : F → Objects) where
   -- what is known already isn't met anew
@@ -120,8 +119,7 @@ module _ {F : Type 0} (objects : F → Objects) where
       left_less t e = ap (λ ids. suc (length ids)) (fresh_agree _ _ named (λ j h. ap f (marks_now j) ∙ split (is_same j i) (map_of.get p.marks j))) ∙ new_less (λ j. f (map_of.get p.marks j)) named i among e
         where
           split : (b : Bool) (o : Option Side) → f (cond b (Some on) o) ≡ (b || f o)
-          split true o = t
-          split false o = refl
+          split b o = grind arith
 
     -- where the id is new to the side, it is met, and is open if the side is the visible one
     pub meets_new : knows on (map_of.get p.marks i) ≡ false → (waits : Bool → Bool → Bool) → ((j : ObjectId) → set.contains mid.frontier j ≡ waits (is_same j i) (set.contains p.frontier j))
@@ -157,8 +155,7 @@ module _ {F : Type 0} (objects : F → Objects) where
         tidied t j false e w = state_stays j e ∙ t j (sym (waits_if j false e ∙ others (set.contains p.frontier j)) ∙ w)
 
         unmarked : (o : Option Side) → is_some o ≡ false → false ≡ hides o
-        unmarked None e = refl
-        unmarked (Some mark) e = cc
+        unmarked o e = grind arith
 
         spent : (named : List ObjectId) → is_among i named ≡ true → (s : Side) → on ≡ s → room named new ≤ room named p
         spent named e side.Visible v =
@@ -182,13 +179,10 @@ if_ok (Ok x) f h = f x h
 if_ok (Err e) f h = tt
 
 pub met_then : (o : Option Side) (waiting : Bool) → is_some o ≡ true → state_by o waiting ≢ Unmet
-met_then None waiting e = cc
-met_then (Some side.Visible) waiting e = elim waiting as (λ w. cond w Open Read ≢ Unmet) [ true ↦ λ e. cc | false ↦ λ e. cc ]
-met_then (Some side.Hidden) waiting e = λ e. cc
+met_then o waiting e = λ u. grind arith
 
 pub hides_then : (o : Option Side) (waiting : Bool) → hides o ≡ true → state_by o waiting ≡ Hides
-hides_then None waiting e = cc
-hides_then (Some mark) waiting e = ap (λ b. cond b Hides (cond waiting Open Read)) e
+hides_then o waiting e = grind arith
 
 pub fails_as : {T : Type 0} (P : Hidden → Type 0) (r : Result T Hidden) {why : Hidden} → IsErrAnd r (λ e. e ≡ why) → P why → IfErr r P
 fails_as P (Ok done) h x = absurd h

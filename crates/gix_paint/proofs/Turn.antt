@@ -1,7 +1,7 @@
 -- A turn of the painting: an entry is taken, its commit is read, and its parents are met.
 use Rattle.std.specs.Borrow.{Bor}
 use Rattle.std.specs.Prelude.{◌≡◌, ◌≢◌, ◌⊎◌, List, [], Bool, true, false, not, ◌&&◌, Option, Some, None, Contains, IsSome}
-use Rattle.std.proofs.Common.{refl, sym, ap, subst, inl, inr, ⊎_elim, ◌∙◌}
+use Rattle.std.proofs.Common.{refl, sym, ap, subst, inl, inr, ⊎_elim, ◌∙◌, arith}
 use Rattle.std.proofs.lemmas.List.Sorted.{Contains-permutation, IsPermutation-sym}
 use Rattle.std.specs.FinMap as map_of
 use Rattle.std.specs.FinSet as set
@@ -45,8 +45,7 @@ contains_without side.Visible f i j = set.contains-remove id_total f i j
 contains_without side.Hidden f i j = refl
 
 visible_same : (s : Side) (b : Bool) → (not (hides (Some s)) && b) ≡ true → (s ≡ side.Visible) × (b ≡ true)
-visible_same side.Visible b e = (refl, e)
-visible_same side.Hidden b e = cc
+visible_same s b e = (grind arith, grind arith)
 
 module _ {F : Type 0} (objects : F → Objects) {w v : Painter F} (top : Key × Entry) (pops : Pops cmp-value.it w top v) where
   -- an entry is taken, and where it is its turn, its parents are met
@@ -148,8 +147,8 @@ module _ {F : Type 0} (objects : F → Objects) (store : F) (history : Objects) 
     }
       where
         tidied : (i : ObjectId) (b : Bool) → gone i ≡ b → (not (gone i) && set.contains w.frontier i) ≡ true → state_of mid i ≡ Open
-        tidied i true e c = let bad : false ≡ true = ap (λ b. not b && set.contains w.frontier i) (sym e) ∙ c in cc
-        tidied i false e c = state_now i false e ∙ h.tidy i (ap (λ b. not b && set.contains w.frontier i) (sym e) ∙ c)
+        tidied i true e c = grind arith
+        tidied i false e c = state_now i false e ∙ h.tidy i (grind arith)
 
         same : (i : ObjectId) (s : State) → state_of mid i ≡ s → Known nobody w i s → Known Busy mid i s
         same i Unmet e k = tt

@@ -1,6 +1,6 @@
 -- No id is asked about twice, whatever faults come, and only ids that tips, rows and stored texts name.
 use Rattle.std.specs.Prelude.{◌≡◌, ◌⊎◌, List, [], ◌∷◌, ◌++◌, Bool, true, false, not, ◌&&◌, ◌||◌, Result, Contains}
-use Rattle.std.proofs.Common.{refl, sym, ap, subst, inl, inr, ⊎_elim, ◌∙◌}
+use Rattle.std.proofs.Common.{refl, sym, ap, subst, inl, inr, ⊎_elim, ◌∙◌, arith}
 use Rattle.std.specs.Iterator.{Yields}
 use Rattle.std.proofs.lemmas.Bool.{true≢false, or_right, or_left}
 use Rattle.std.proofs.lemmas.List.Elements.{Contains-append_cases}
@@ -47,12 +47,7 @@ module _ {F P : Type 0} (objects : F → Objects) (faulty : F → ObjectId → T
   -- an id is seen, and remembered no more
   still_known : (seen remembered : Ids) (i j : ObjectId) → (set.contains seen j ≡ true) ⊎ (set.contains remembered j ≡ true)
       → (set.contains (set.insert seen i) j ≡ true) ⊎ (set.contains (set.remove remembered i) j ≡ true)
-  still_known seen remembered i j (inl e) = inl (set.contains-insert id_total seen i j ∙ or_right (is_same j i) _ e)
-  still_known seen remembered i j (inr e) = go (is_same j i) refl
-    where
-      go : (b : Bool) → is_same j i ≡ b → (set.contains (set.insert seen i) j ≡ true) ⊎ (set.contains (set.remove remembered i) j ≡ true)
-      go true s = inl (set.contains-insert id_total seen i j ∙ or_left _ _ s)
-      go false s = inr (set.contains-remove id_total remembered i j ∙ ap (λ b. not b && set.contains remembered j) s ∙ e)
+  still_known seen remembered i j known = let s = set.contains-insert id_total seen i j in let r = set.contains-remove id_total remembered i j in grind arith
 
   asked_one : (w : SimpleWalk F P) (i : ObjectId) {b : Bool} {q : P} → is_among i named ≡ true → IsNew objects faulty answers w i
       → Asks objects faulty answers w i b q → AskedOf w → Asked q (set.insert w.seen i) (set.remove w.remembered i)
@@ -102,9 +97,7 @@ module _ {F P : Type 0} (objects : F → Objects) (faulty : F → ObjectId → T
       where
         cut : (i : ObjectId) (gone : Bool) → set.contains new.seen i ≡ (set.contains w.seen i && not gone) → set.contains new.remembered i ≡ (set.contains w.remembered i || gone)
             → (set.contains w.seen i ≡ true) ⊎ (set.contains w.remembered i ≡ true) → (set.contains new.seen i ≡ true) ⊎ (set.contains new.remembered i ≡ true)
-        cut i gone s r (inr e) = inr (r ∙ or_left _ _ e)
-        cut i true s r (inl e) = inr (r ∙ or_right (set.contains w.remembered i) _ refl)
-        cut i false s r (inl e) = inl (s ∙ ap (λ b. b && true) e)
+        cut i gone s r known = grind arith
     built_asked (hides b) = built_asked b
     built_asked (walks b) = built_asked b
     built_asked (reads b) = built_asked b

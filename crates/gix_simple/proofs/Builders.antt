@@ -30,12 +30,10 @@ use Rattle.gix_simple.proofs.NeverTwice.{IsSole, asked_sole, drawn_once}
 use Rattle.gix_simple.proofs.MadeOfTips.{once_or_never, is_new_walk, pending_is}
 
 in_force : (m : Parents) (by : Sorting) (order : CommitTimeOrder) → time_order m by ≡ Some order → time_order mode.All by ≡ Some order
-in_force mode.First by order e = cc
-in_force mode.All by order e = e
+in_force m by order e = grind arith
 
 positive : (b : Bool) (n : ℕ) → 1 ≤ n → n + 0 ≤ cond b 1 0 → b ≡ true
-positive true n h k = refl
-positive false n h k = absurd (omega arith)
+positive b n h k = grind arith
 
 module _ (objects : Objects) where
   -- of pending commits with their times, those whose time is of some kind
@@ -73,25 +71,18 @@ module _ (objects : Objects) where
 module _ {F P : Type 0} (objects : F → Objects) (faulty : F → ObjectId → Type 0) (answers : P → ObjectId → Bool → P → Type 0) where
   -- whatever the predicate answers, sorting leaves nothing pending twice, and nothing that isn't seen
   sorted_sole : (old new : SimpleWalk F P) (sorting : Sorting) → IsSole objects faulty answers [] old → IsSortedByTime objects old sorting new → IsSole objects faulty answers [] new
-  sorted_sole old new sorting sole s = λ j. go j (is_older (time_of found j) limit) refl
-    where
-      limit : Option ℤ
-      limit = cutoff mode.All sorting
-
-      found : Objects
-      found = objects old.store
-
-      go : (j : ObjectId) (o : Bool) → is_older (time_of found j) limit ≡ o → times j (ids_of new.pending) + 0 ≤ cond (set.contains new.seen j) 1 0
-      go j true e =
-          let none : times j (ids_of new.pending) ≡ 0 = ap (λ ps. times j (ids_of ps)) s.pending ∙ times_none j (ids_of (recent limit (timed found old.pending))) (recent_among found limit old.pending j ∙ ap (λ o. not o && is_among j (ids_of old.pending)) e) in
-          omega arith
-      go j false e =
-          let f : times j (ids_of (recent limit (timed found old.pending))) ≤ times j (ids_of (timed found old.pending)) = (fewer_filter (λ p. not (is_older p.time limit)) (timed found old.pending)).as_often j in
-          let t : times j (ids_of (timed found old.pending)) ≡ times j (ids_of old.pending) = ap (times j) (timed_ids found old.pending) in
-          let n : times j (ids_of new.pending) ≡ times j (ids_of (recent limit (timed found old.pending))) = ap (λ ps. times j (ids_of ps)) s.pending in
-          let k : times j (ids_of old.pending) + 0 ≤ cond (set.contains old.seen j) 1 0 = sole j in
-          let seen : set.contains new.seen j ≡ set.contains old.seen j = s.seen j ∙ ap (λ o. set.contains old.seen j && not o) (outdated_among found limit old.pending j ∙ ap (λ o. o && is_among j (ids_of old.pending)) e) ∙ and-true (set.contains old.seen j) in
-          subst (λ b. times j (ids_of new.pending) + 0 ≤ cond b 1 0) (sym seen) (omega arith)
+  sorted_sole old new sorting sole s = λ j.
+      let limit : Option ℤ = cutoff mode.All sorting in
+      let found : Objects = objects old.store in
+      let none = times_none j (ids_of (recent limit (timed found old.pending))) in
+      let fewer : times j (ids_of (recent limit (timed found old.pending))) ≤ times j (ids_of (timed found old.pending)) = (fewer_filter (λ p. not (is_older p.time limit)) (timed found old.pending)).as_often j in
+      let all : times j (ids_of (timed found old.pending)) ≡ times j (ids_of old.pending) = ap (times j) (timed_ids found old.pending) in
+      let left : times j (ids_of new.pending) ≡ times j (ids_of (recent limit (timed found old.pending))) = ap (λ ps. times j (ids_of ps)) s.pending in
+      let once : times j (ids_of old.pending) + 0 ≤ cond (set.contains old.seen j) 1 0 = sole j in
+      let seen = s.seen j in
+      let kept = recent_among found limit old.pending j in
+      let gone = outdated_among found limit old.pending j in
+      grind arith
 
   built_sole : {store : F} {predicate : P} {tips : List ObjectId} {walk : SimpleWalk F P} → IsBuilt objects faulty answers store predicate tips walk → IsSole objects faulty answers [] walk
   built_sole (made m) = asked_sole objects faulty answers [] (asking objects faulty answers {Named = λ i. Unit {0}} (λ i c. tt) m) (λ j. omega arith)
@@ -137,11 +128,9 @@ module _ {F P : Type 0} (objects : F → Objects) (faulty : F → ObjectId → T
   by_time_built old new sorting b s = record {
     tested = subst (λ p. AnswersBy answers p accepts) (sym (ap (λ w. w.predicate) s.others)) b.tested;
     same_store = stored ∙ b.same_store;
-    accepted = λ i h. b.accepted i (kept i h).1;
-    seen = λ i h.
-        let both = and_parts (set.contains old.seen i) (not (is_among i (outdated limit (timed found old.pending)))) (sym (s.seen i) ∙ h) in
-        ⊎_elim (λ there. inl (is_kept i there both.1)) inr (b.seen i both.0);
-    remembered = λ i h. ⊎_elim (b.remembered i) (λ o. b.accepted i (and_parts _ _ (sym (outdated_among found limit old.pending i) ∙ o)).1) (or_cases _ _ (sym (s.remembered i) ∙ h));
+    accepted = λ i h. let k = kept i in b.accepted i (grind arith);
+    seen = λ i h. let k = kept i in let o = outdated_among found limit old.pending i in let t = s.seen i in let was = b.seen i in grind arith;
+    remembered = λ i h. let o = outdated_among found limit old.pending i in let t = s.remembered i in let yes = b.remembered i in let was = b.accepted i in grind arith;
     shown = λ i. ap (λ w. set.contains w.hidden i) s.others ∙ b.shown i;
     unbegun = ap (λ w. w.begun) s.others ∙ b.unbegun;
     timely = λ order e p c. timed_so found old.pending p (filter_within (λ p. not (is_older p.time limit)) (timed found old.pending) p (subst (λ ps. Contains ps p) s.pending c)) ∙ ap (λ f. time_of (objects f) p.id) (sym stored);
@@ -156,16 +145,8 @@ module _ {F P : Type 0} (objects : F → Objects) (faulty : F → ObjectId → T
       stored : new.store ≡ old.store
       stored = ap (λ w. w.store) s.others
 
-      kept : (i : ObjectId) → is_among i (ids_of new.pending) ≡ true → (not (is_older (time_of found i) limit) ≡ true) × (is_among i (ids_of old.pending) ≡ true)
-      kept i h = and_parts _ _ (sym (ap (λ ps. is_among i (ids_of ps)) s.pending ∙ recent_among found limit old.pending i) ∙ h)
-
-      is_kept : (i : ObjectId) → is_among i (ids_of old.pending) ≡ true → not (is_among i (outdated limit (timed found old.pending))) ≡ true → is_among i (ids_of new.pending) ≡ true
-      is_kept i there young = ap (λ ps. is_among i (ids_of ps)) s.pending ∙ recent_among found limit old.pending i ∙ go (is_older (time_of found i) limit) (is_among i (ids_of old.pending)) there (sym (ap not (outdated_among found limit old.pending i)) ∙ young)
-        where
-          go : (o a : Bool) → a ≡ true → not (o && a) ≡ true → (not o && a) ≡ true
-          go true true e f = absurd (false≢true f)
-          go false true e f = refl
-          go o false e f = absurd (false≢true e)
+      kept : (i : ObjectId) → is_among i (ids_of new.pending) ≡ (not (is_older (time_of found i) limit) && is_among i (ids_of old.pending))
+      kept i = ap (λ ps. is_among i (ids_of ps)) s.pending ∙ recent_among found limit old.pending i
 
   fresh_of : (walk : SimpleWalk F P) → Built walk → IsSole objects faulty answers [] walk → IsFresh objects walk accepts
   fresh_of walk b sole = record {

@@ -1,7 +1,7 @@
 -- How the first step hides what hidden tips reach.
 use Rattle.std.specs.Prelude.{◌≡◌, ◌≢◌, ◌⊎◌, ◌==◌, ◌||◌, List, [], Bool, true, false, not, filter, length, if◌then◌else◌, Option, Some, None, Result, Ok, Err}
 use Rattle.std.proofs.Common.{refl, sym, ap, subst, inl, inr, ⊎_elim, ◌∙◌}
-use Rattle.std.proofs.lemmas.Bool.{false≢true}
+use Rattle.std.proofs.lemmas.Bool.{false≢true, or_cases}
 use Rattle.std.proofs.lemmas.Bool.Decides.{eqb_tells}
 use Rattle.std.specs.Iterator.{MakesProgress, at_most}
 use Rattle.std.specs.FinSet as set
@@ -46,12 +46,8 @@ module _ {F P : Type 0} (objects : F → Objects) (faulty : F → ObjectId → T
 
   -- there is nothing to hide
   pub hides_nothing : (inside : SimpleWalk F P) → inside ≡ old → (cleared : List ObjectId) → cleared ≡ [] → (length old.pending == 0 || length old.hidden_tips == 0) ≡ true → Hides objects faulty answers old (Ok tt) (record inside { hidden_tips = cleared })
-  hides_nothing inside is cleared e n = subst (Hides objects faulty answers old (Ok tt)) (λ j. record (sym is j) { hidden_tips = sym e j }) (nothing (either (length old.pending == 0) (length old.hidden_tips == 0) refl refl n))
-    where
-      either : (a b : Bool) → (length old.pending == 0) ≡ a → (length old.hidden_tips == 0) ≡ b → (a || b) ≡ true → (old.pending ≡ []) ⊎ (old.hidden_tips ≡ [])
-      either true b e f n = inl (none_in old.pending e)
-      either false true e f n = inr (none_in old.hidden_tips f)
-      either false false e f n = absurd (false≢true n)
+  hides_nothing inside is cleared e n =
+      subst (Hides objects faulty answers old (Ok tt)) (λ j. record (sym is j) { hidden_tips = sym e j }) (nothing (⊎_elim (λ e. inl (none_in old.pending e)) (λ e. inr (none_in old.hidden_tips e)) (or_cases (length old.pending == 0) (length old.hidden_tips == 0) n)))
 
   module _ (some : (length old.pending == 0 || length old.hidden_tips == 0) ≡ false) (mid : SimpleWalk F P) (emptied : mid ≡ record old { pending = [] }) where
     pending : old.pending ≢ []

@@ -18,8 +18,7 @@ use Rattle.gix_revwalk.proofs.NewIds.{fresh, times_among, times-fresh, among-fil
 use Rattle.gix_simple.proofs.Treated.{Setting, Stands, Did, keep, all_treated}
 
 pub once_or_never : (b : Bool) → cond b 1 0 ≤ 1
-once_or_never true = omega arith
-once_or_never false = omega arith
+once_or_never b = grind arith
 
 -- new ids are distinct
 fresh_once : (s : ObjectId → Bool) (xs : List ObjectId) → AreDistinct (fresh s xs)
@@ -30,9 +29,7 @@ pub fresh_among : (i : ObjectId) (s : ObjectId → Bool) (xs : List ObjectId) �
 fresh_among i s xs h = go (not (s i)) (is_among i xs) (subst (λ n. 1 ≤ n) (times-fresh i s xs) (among_times i (fresh s xs) (among_from i (fresh s xs) h)))
   where
     go : (a b : Bool) → 1 ≤ cond (a && b) 1 0 → b ≡ true
-    go true true h = refl
-    go true false h = absurd (omega arith)
-    go false b h = absurd (omega arith)
+    go a b h = grind arith
 
 -- all of them, where none is old
 among_fresh : (i : ObjectId) (xs : List ObjectId) → is_among i xs ≡ true → Contains (fresh (λ j. false) xs) i
@@ -59,11 +56,7 @@ module _ {F P : Type 0} (objects : F → Objects) (faulty : F → ObjectId → T
 
   keep_is : (i : ObjectId) → keep objects faulty answers setting i ≡ accepts i
   unfolding setting
-  keep_is i = go (accepts i)
-    where
-      go : (b : Bool) → ((b && true) && true) ≡ b
-      go true = refl
-      go false = refl
+  keep_is i = grind arith
 
   pending : ids_of walk.pending ≡ new_ids (λ i. false) (filter accepts tips)
   unfolding setting

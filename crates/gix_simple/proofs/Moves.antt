@@ -35,12 +35,7 @@ use Rattle.gix_simple.proofs.Treated.{times-permutation}
 pub scan_by : (m : Parents) (items : List (Result Item DecodeError)) → (scanned m items).0 ≡ by_mode m (scanned mode.All items).0
 scan_by mode.All items = refl
 scan_by mode.First [] = refl
-scan_by mode.First (Err e ∷ items) = refl
-scan_by mode.First (Ok (Tree i) ∷ items) = scan_by mode.First items
-scan_by mode.First (Ok (Parent i) ∷ items) = refl
-scan_by mode.First (Ok (Author line) ∷ items) = refl
-scan_by mode.First (Ok (Committer signature) ∷ items) = refl
-scan_by mode.First (Ok (Rest bytes) ∷ items) = refl
+scan_by mode.First (item ∷ items) = grind (arith, scan_by mode.First items)
 
 -- of the second pending commits some, in any order
 pub record Fewer (ps qs : List Pending) : Type 0 where

@@ -3,6 +3,7 @@ use Rattle.std.specs.Prelude.{◌≡◌, ◌+◌, ℕ, ℤ, List, [], ◌∷◌,
 use Rattle.std.proofs.Common.{refl, sym, ap, subst, ⊎_elim, ◌∙◌, arith}
 use Rattle.std.proofs.lemmas.Int.{ints}
 use Rattle.std.proofs.lemmas.List.Sorted.{Contains-permutation, IsPermutation-sym}
+use Rattle.std.proofs.Math.Bool.{or_comm}
 use Rattle.std.proofs.lemmas.Bool.{false≢true, true≢false, or_cases, false_from_ne_true}
 use Rattle.gix_hash.specs.declared.ObjectId.{ObjectId}
 use Rattle.gix_hash.specs.Id.{is_same, is_among}
@@ -33,27 +34,7 @@ IsNextOne (Some order) time next starts taken o = MatchOption o ((i : ObjectId) 
 
 -- the counts after one was taken and its own ids came in
 count_step : (n a t e s : Bool) (x : ℕ) → (a ≡ true → s ≡ n) → (t ≡ true → n ≡ true) → (e ≡ true → n ≡ true) → cond e 1 0 + x ≡ cond (n && not t) 1 0 → x + cond (not s && a) 1 0 ≡ cond ((n || a) && not (t || e)) 1 0
-count_step true true true true s x sa tn en q = rw (sa refl) (omega arith)
-count_step true true true false s x sa tn en q = rw (sa refl) (omega arith)
-count_step true true false true s x sa tn en q = rw (sa refl) (omega arith)
-count_step true true false false s x sa tn en q = rw (sa refl) (omega arith)
-count_step true false true true true x sa tn en q = omega arith
-count_step true false true true false x sa tn en q = omega arith
-count_step true false true false true x sa tn en q = omega arith
-count_step true false true false false x sa tn en q = omega arith
-count_step true false false true true x sa tn en q = omega arith
-count_step true false false true false x sa tn en q = omega arith
-count_step true false false false true x sa tn en q = omega arith
-count_step true false false false false x sa tn en q = omega arith
-count_step false true true true s x sa tn en q = absurd (false≢true (tn refl))
-count_step false true true false s x sa tn en q = absurd (false≢true (tn refl))
-count_step false true false true s x sa tn en q = absurd (false≢true (en refl))
-count_step false false true true s x sa tn en q = absurd (false≢true (tn refl))
-count_step false false true false s x sa tn en q = absurd (false≢true (tn refl))
-count_step false false false true s x sa tn en q = absurd (false≢true (en refl))
-count_step false true false false s x sa tn en q = rw (sa refl) (omega arith)
-count_step false false false false true x sa tn en q = omega arith
-count_step false false false false false x sa tn en q = omega arith
+count_step n a t e s x sa tn en q = grind arith
 
 -- the next ids come in
 pub grows : (o : Option CommitTimeOrder) (named taken : List ObjectId) (i : ObjectId) (left ids new : List ObjectId) (seen : ObjectId → Bool) →
@@ -66,18 +47,10 @@ grows None named taken i left ids new seen rest joins alike within here =
     ∙ sym (fresh-append (λ j. is_among j (taken ++ i ∷ [])) named new)
   where
     pushed : (j : ObjectId) → (is_same j i || is_among j taken) ≡ is_among j (taken ++ i ∷ [])
-    pushed j = flipped (is_same j i) (is_among j taken) ∙ sym (among-append j taken (i ∷ []) ∙ ap (λ b. is_among j taken || b) (among-one j i))
-      where
-        flipped : (a b : Bool) → (a || b) ≡ (b || a)
-        flipped true true = refl
-        flipped true false = refl
-        flipped false true = refl
-        flipped false false = refl
+    pushed j = or_comm (is_same j i) (is_among j taken) ∙ sym (among-append j taken (i ∷ []) ∙ ap (λ b. is_among j taken || b) (among-one j i))
 
     absorbed : (a b : Bool) → (b ≡ true → a ≡ true) → a ≡ (a || b)
-    absorbed true b h = refl
-    absorbed false true h = h refl
-    absorbed false false h = refl
+    absorbed a b h = grind arith
 
     inside : (j : ObjectId) → is_among j (taken ++ i ∷ []) ≡ true → is_among j named ≡ true
     inside j t = ⊎_elim (λ e. subst (λ y. is_among y named ≡ true) (sym (same_is j i e)) here) (λ e. within j e) (or_cases (is_same j i) (is_among j taken) (pushed j ∙ t))
@@ -92,9 +65,7 @@ ends None time next starts taken q = sym (fresh_none (λ j. is_among j taken) (n
 ends (Some order) time next starts taken q = λ i p. counted (is_among i (named_by next starts taken)) (is_among i taken) (among_from i _ p.0) (false_from_ne_true _ (λ t. p.1 (among_is i taken t))) (q i)
   where
     counted : (n t : Bool) → n ≡ true → t ≡ false → ◌≡◌ {A = ℕ} 0 (cond (n && not t) 1 0) → ⊥
-    counted true true e f q = true≢false f
-    counted true false e f q = omega arith
-    counted false t e f q = false≢true e
+    counted n t e f q = grind arith
 
 -- what is chosen first
 pub heads : (time : ObjectId → ℤ) (next : ObjectId → List ObjectId) (starts taken : List ObjectId) (i : ObjectId) (left : List ObjectId) → IsQueue None (named_by next starts taken) taken (i ∷ left) →
@@ -112,9 +83,7 @@ in_pending i [] e = absurd (false≢true e)
 in_pending i (p ∷ ps) e = ⊎_elim (λ s. (p, Contains-here p ps, sym (same_is i p.id s))) (λ t. let r : (q : Pending) × Contains ps q × (q.id ≡ i) = in_pending i ps t in (r.0, Contains-there r.0 p ps r.1, r.2)) (or_cases _ _ e)
 
 counted_one : (n t : Bool) (x : ℕ) → 1 + x ≡ cond (n && not t) 1 0 → (n ≡ true) × (t ≡ false)
-counted_one true true x e = absurd (omega arith)
-counted_one true false x e = (refl, refl)
-counted_one false t x e = absurd (omega arith)
+counted_one n t x e = (grind arith, grind arith)
 
 one_counted : (n t : Bool) → n ≡ true → t ≡ false → ◌≡◌ {A = ℕ} (cond (n && not t) 1 0) 1
 one_counted n t a b = (λ k. cond (a k && not (b k)) 1 0)

@@ -1,6 +1,6 @@
 -- How the pending tips are read and sorted out, one after the other.
 use Rattle.std.specs.Prelude.{◌≡◌, ℤ, List, [], ◌∷◌, ◌++◌, filter, Bool, true, false, not, ◌&&◌, ◌||◌, cond, Option, Some, Ok, All, IsSome}
-use Rattle.std.proofs.Common.{refl, sym, ap, subst, ◌∙◌, append_assoc, append-nil}
+use Rattle.std.proofs.Common.{refl, sym, ap, subst, ◌∙◌, append_assoc, append-nil, arith}
 use Rattle.std.proofs.Math.Bool.{and-true, or-false}
 use Rattle.std.proofs.lemmas.List.Elements.{All-cons, All-nil}
 use Rattle.std.specs.FinSet as set
@@ -45,15 +45,10 @@ pub read_some : {F P : Type 0} (objects : F → Objects) (bad : F → ObjectId �
 read_some objects bad limit old first new i e s = subst (λ store. IsSome (commit_at (objects store) i)) e (is_some _ _ s.1.stored)
 
 and_not : (a b c : Bool) → ((not a && b) && not c) ≡ (b && not (a || c))
-and_not true true c = refl
-and_not true false c = refl
-and_not false true c = refl
-and_not false false c = refl
+and_not a b c = grind arith
 
 or_or : (a b c : Bool) → ((a || b) || c) ≡ (b || (a || c))
-or_or true true c = refl
-or_or true false c = refl
-or_or false b c = refl
+or_or a b c = grind arith
 
 module _ {F P : Type 0} (objects : F → Objects) (bad : F → ObjectId → Type 0) (limit : Option ℤ) where
   -- what reading some tips leaves of a walk, whatever it held before

@@ -1,6 +1,6 @@
 -- The parents of a commit, treated in order: what becomes pending and seen.
 use Rattle.std.specs.Prelude.{◌≡◌, ◌⊎◌, ◌+◌, ℤ, pos, List, [], ◌∷◌, ◌++◌, filter, Bool, true, false, not, ◌&&◌, ◌||◌, cond, Option, Some, None, Ok, Contains, IsPermutation}
-use Rattle.std.proofs.Common.{refl, sym, ap, subst, ⊎_elim, ◌∙◌, append_assoc, append-nil}
+use Rattle.std.proofs.Common.{refl, sym, ap, subst, ⊎_elim, ◌∙◌, append_assoc, append-nil, arith}
 use Rattle.std.proofs.lemmas.List.{map-append}
 use Rattle.std.proofs.lemmas.List.Sorted.{IsPermutation-map, Contains-permutation, IsPermutation-sym}
 use Rattle.std.proofs.lemmas.List.Elements.{filter-append, Contains-append_cases}
@@ -124,27 +124,19 @@ module _ {F P : Type 0} (objects : F → Objects) (faulty : F → ObjectId → T
 
   -- an id that isn't kept adds nothing
   passed_over : (s : Setting) (i : ObjectId) (xs : List ObjectId) (old : ObjectId → Bool) → keep s i ≡ false → Joins (order_of s) xs (xs ++ fresh old (filter (keep s) (i ∷ [])))
-  passed_over s i xs old e = Joins-refl (order_of s) _ _ (sym (ap (λ b. xs ++ fresh old (cond b (i ∷ []) [])) e ∙ append-nil xs))
+  passed_over s i xs old e = Joins-refl (order_of s) _ _ (grind (arith, append-nil xs))
 
   already : (s : Setting) (i : ObjectId) (xs : List ObjectId) (old : ObjectId → Bool) → old i ≡ true → Joins (order_of s) xs (xs ++ fresh old (filter (keep s) (i ∷ [])))
-  already s i xs old e = Joins-refl (order_of s) _ _ (sym (go (keep s i)))
-    where
-      go : (b : Bool) → xs ++ fresh old (cond b (i ∷ []) []) ≡ xs
-      go true = ap (λ b. xs ++ cond b [] (i ∷ [])) e ∙ append-nil xs
-      go false = append-nil xs
+  already s i xs old e = Joins-refl (order_of s) _ _ (grind (arith, append-nil xs))
 
   added : (s : Setting) (i : ObjectId) (xs : List ObjectId) (old : ObjectId → Bool) → keep s i ≡ true → old i ≡ false → xs ++ i ∷ [] ≡ xs ++ fresh old (filter (keep s) (i ∷ []))
-  added s i xs old k e = sym (ap (λ b. xs ++ fresh old (cond b (i ∷ []) [])) k ∙ ap (λ b. xs ++ cond b [] (i ∷ [])) e)
+  added s i xs old k e = grind arith
 
   not_same : (s : Setting) (i j : ObjectId) → keep s i ≡ false → keep s j ≡ true → is_same j i ≡ false
   not_same s i j e k = false_from_ne_true _ (λ t. false≢true (sym e ∙ sym (ap (keep s) (same_is j i t)) ∙ k))
 
   seen_once : (i j : ObjectId) (old : ObjectId → Bool) → old i ≡ true → old j ≡ (is_same j i || old j)
-  seen_once i j old e = go (is_same j i) refl
-    where
-      go : (b : Bool) → is_same j i ≡ b → old j ≡ (b || old j)
-      go true t = ap old (same_is j i t) ∙ e
-      go false t = refl
+  seen_once i j old e = let same : is_same j i ≡ true → old j ≡ old i = λ t. ap old (same_is j i t) in grind arith
 
   seen_still : (i j : ObjectId) (old : ObjectId → Bool) → is_same j i ≡ false → old j ≡ (is_same j i || old j)
   seen_still i j old e = sym (ap (λ b. b || old j) e)
@@ -254,10 +246,7 @@ module _ {F P : Type 0} (objects : F → Objects) (faulty : F → ObjectId → T
   }
     where
       swapped : (a b c : Bool) → (a || ((b || false) || c)) ≡ ((b || a) || c)
-      swapped true true c = refl
-      swapped true false c = refl
-      swapped false true c = refl
-      swapped false false c = refl
+      swapped a b c = grind arith
 
   pub all_treated : (s : Setting) (by_row : Bool) {w v : SimpleWalk F P} {ids : List ObjectId} {how : Treated} → TreatsAll objects faulty answers by_row w ids how v → how ≡ GoesOn → Stands s w → ((i : ObjectId) → Contains ids i → IsReady s w by_row i) → Did s ids w v
   all_treated s by_row (none {old = w}) e h ready = record { rest = h; same_rows = refl; seen = λ j k. refl; pending = Joins-refl (order_of s) _ _ (sym (append-nil _)) }

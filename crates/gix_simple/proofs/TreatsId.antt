@@ -20,8 +20,7 @@ pub insert_again : (s : set.FinSet id_cmp) (i : ObjectId) → set.contains s i �
 insert_again s i h = set.same_set id_total id_apart _ _ (λ q. set.contains-insert id_total s i q ∙ there q (is_same q i) refl)
   where
     there : (q : ObjectId) (b : Bool) → is_same q i ≡ b → (b || set.contains s q) ≡ set.contains s q
-    there q true e = sym (ap (set.contains s) (same_is q i e) ∙ h)
-    there q false e = refl
+    there q b e = let same : is_same q i ≡ true → set.contains s q ≡ set.contains s i = λ t. ap (set.contains s) (same_is q i t) in grind arith
 
 module _ {F P : Type 0} (objects : F → Objects) (faulty : F → ObjectId → Type 0) (answers : P → ObjectId → Bool → P → Type 0) (i : ObjectId) (inside old : SimpleWalk F P) (is : inside ≡ old) where
   -- an id that isn't hidden is put among the seen ones
