@@ -35,8 +35,7 @@ all_new s xs (i ∷ ids) d a n =
     omega arith
   where
     turned : (a b c : Bool) → ((a || b) || c) ≡ (a || (b || c))
-    turned true b c = refl
-    turned false b c = refl
+    turned a b c = grind arith
 
 chosen_length : (s : Sorting) (ready : List Ready) (c : Ready) (others : List Ready) → Chooses s ready c others → length ready ≡ suc (length others)
 chosen_length order.TopoOrder ready c others h = let e : length ready ≡ length (others ++ c ∷ []) = ap length h in let l : length (others ++ c ∷ []) ≡ length others + 1 = length-append others (c ∷ []) in omega arith
@@ -66,16 +65,7 @@ module _ {F P : Type 0} (objects : F → Objects) (faulty : F → ObjectId → T
       ∙ ap (λ b. is_among j (ready_ids t.added) || (set.contains w.taken j || b)) (sym (chosen_among w.plan.sorting w.ready c t.others t.chosen j))
     where
       turned : (c t o a : Bool) → ((c || t) || (o || a)) ≡ (a || (t || (c || o)))
-      turned true true o true = refl
-      turned true true o false = refl
-      turned true false o true = refl
-      turned true false o false = refl
-      turned false true o true = refl
-      turned false true o false = refl
-      turned false false true true = refl
-      turned false false true false = refl
-      turned false false false true = refl
-      turned false false false false = refl
+      turned c t o a = grind arith
 
   abbrev new_in : TopoWalk F P → ℕ
   new_in w = length (fresh (was_ready w) (named_ids (objects w.plan.store) w.plan.rows))

@@ -1,6 +1,6 @@
 -- What a walk holds still holds after a commit was taken.
 use Rattle.std.specs.Prelude.{◌≡◌, ◌⊎◌, List, ◌∷◌, ◌++◌, Bool, true, false, not, ◌&&◌, ◌||◌, Contains}
-use Rattle.std.proofs.Common.{refl, sym, ap, subst, inl, ⊎_elim, ◌∙◌}
+use Rattle.std.proofs.Common.{refl, sym, ap, subst, inl, ⊎_elim, ◌∙◌, arith}
 use Rattle.std.proofs.lemmas.Bool.{true≢false, false≢true, false_from_ne_true, or_cases, or_left, or_right, or_parts}
 use Rattle.std.specs.FinSet as set
 use Rattle.gix_hash.specs.declared.ObjectId.{ObjectId}
@@ -38,17 +38,7 @@ use Rattle.std.proofs.lemmas.List.Elements.{Contains-append_cases}
 
 -- of ids that were ready once, the chosen one is taken as well, where it is ready no longer and the added ones weren't ready before
 chosen_too : (added made rest chosen : Bool) → (added ≡ true → made ≡ false) → ((chosen || rest) ≡ true → made ≡ true) → (chosen ≡ true → rest ≡ false) → ((added || made) && not (rest || added)) ≡ (chosen || (made && not (chosen || rest)))
-chosen_too true true rest chosen a m r = absurd (true≢false (a refl))
-chosen_too true false true true a m r = absurd (true≢false (r refl))
-chosen_too true false true false a m r = absurd (false≢true (m refl))
-chosen_too true false false true a m r = absurd (false≢true (m refl))
-chosen_too true false false false a m r = refl
-chosen_too false true true true a m r = absurd (true≢false (r refl))
-chosen_too false true true false a m r = refl
-chosen_too false true false true a m r = refl
-chosen_too false true false false a m r = refl
-chosen_too false false rest true a m r = absurd (false≢true (m refl))
-chosen_too false false rest false a m r = refl
+chosen_too added made rest chosen a m r = grind arith
 
 module _ {F : Type 0} (objects : F → Objects) (faulty : F → ObjectId → Type 0) (w : Walk F) (rest : ReadySet) (same : rest.sorting ≡ w.ready.sorting) (r : Ready) (chosen : Chooses w.ready.sorting w.ready.commits r rest.commits) (added : List Ready) (new : Walk F) (t : TakesOne objects faulty (record w { ready = rest }) r added new) where
   abbrev those : Objects
