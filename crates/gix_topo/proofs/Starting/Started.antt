@@ -1,6 +1,6 @@
 -- What holds of a topological walk that has begun.
 use Rattle.std.specs.Prelude.{◌≡◌, ◌≤◌, List, [], ◌++◌, Bool, true, false, not, ◌&&◌, ◌||◌, Contains}
-use Rattle.std.proofs.Common.{refl, sym, ap, subst, inl, inr, ⊎_elim, ◌∙◌, arith}
+use Rattle.std.proofs.Common.{refl, sym, ap, subst, inl, inr, ⊎_elim, ◌∙◌, arith, zero-add}
 use Rattle.std.proofs.Math.Bool.{or-false, and-not_self}
 use Rattle.std.proofs.lemmas.Bool.{true≢false, false≢true}
 use Rattle.std.proofs.lemmas.List.Elements.{Contains-append_left}
@@ -38,7 +38,7 @@ use Rattle.gix_topo.proofs.Counts.Rest.{least_within}
 use Rattle.gix_topo.proofs.Counts.Taken.{contains-taken}
 use Rattle.gix_topo.proofs.Readiness.RisingTime.{by_time_moves, in_by_time, by_time_map}
 use Rattle.gix_topo.proofs.Counts.BothSearches.{searched_same}
-use Rattle.gix_topo.proofs.Starting.AllTips.{IsTipDue, AreStarted, started}
+use Rattle.gix_topo.proofs.Starting.OneByOne.{IsDue, Frees, started}
 use Rattle.gix_topo.proofs.Reading.FoundIsStored.{found_stored}
 use Rattle.gix_topo.proofs.Reading.OnceRead.{all_still, found_later}
 use Rattle.gix_topo.proofs.Counts.Children.{children_of, was_ready_of, tally_same}
@@ -94,8 +94,8 @@ module _ {F : Type 0} (objects : F → Objects) (faulty : F → ObjectId → Typ
   begun : HasBegun objects faulty p old
   begun = subst (λ q. HasBegun objects faulty q old) (sym h.same) h.begun
 
-  all : AreStarted objects faulty h.first p.tips h.starts h.mid
-  all = subst (λ q. AreStarted objects faulty h.first q.tips h.starts h.mid) (sym h.same) (started objects faulty h.all)
+  all : Frees objects faulty false h.first p.tips h.starts h.mid
+  all = subst (λ q. Frees objects faulty false h.first q.tips h.starts h.mid) (sym h.same) (started objects faulty h.all)
 
   first_plan : plan_of h.first ≡ p
   first_plan = h.before ∙ sym h.same
@@ -107,8 +107,11 @@ module _ {F : Type 0} (objects : F → Objects) (faulty : F → ObjectId → Typ
   moved : (s : Side) (j : ObjectId) → reached new.frontier.known s j ≡ reached old.frontier.known s j
   moved s j = ap (λ c. reached c.frontier.known s j) h.counting ∙ all.ready.moved s j
 
+  kept_children : (j : ObjectId) → children_of h.mid.counting.frontier j ≡ children_of old.frontier j
+  kept_children j = sym (zero-add _) ∙ all.children j
+
   same_children : (j : ObjectId) → children_of new.frontier j ≡ children_of old.frontier j
-  same_children j = ap (λ c. children_of c.frontier j) h.counting ∙ all.children j
+  same_children j = ap (λ c. children_of c.frontier j) h.counting ∙ kept_children j
 
   same_queue : new.frontier.queue ≡ old.frontier.queue
   same_queue = ap (λ c. c.frontier.queue) h.counting ∙ all.ready.queue
@@ -132,18 +135,18 @@ module _ {F : Type 0} (objects : F → Objects) (faulty : F → ObjectId → Typ
   start_of : (i : ObjectId) → Contains (ready_ids w.ready.commits) i → Contains (ready_ids h.starts) i
   start_of i m = among_is i (ready_ids h.starts) (ready_among i ∙ among_from i _ m)
 
-  kept : Keeps (IsTipDue old.frontier) (first_places p.tips) (ready_ids h.starts)
-  kept = all.due [] (λ j e. absurd (false≢true e))
+  kept : Keeps (IsDue objects faulty h.first h.mid) (first_places p.tips) (ready_ids h.starts)
+  kept = all.due (λ p. Prim.Native.Nat.zero-le) [] (λ j e. absurd (false≢true e))
 
   distinct : AreDistinct (ready_ids w.ready.commits)
   distinct = times_once (ready_ids w.ready.commits) (λ i.
       let a : times i (ready_ids w.ready.commits) ≡ times i (ready_ids h.starts) = ready_times i in
-      let b : times i (ready_ids h.starts) ≤ times i (first_places p.tips) = keeps_times (IsTipDue old.frontier) kept i in
+      let b : times i (ready_ids h.starts) ≤ times i (first_places p.tips) = keeps_times (IsDue objects faulty h.first h.mid) kept i in
       let c : times i (first_places p.tips) ≤ 1 = first_once p.tips i in
       omega arith)
 
   is_tip : (i : ObjectId) → Contains (ready_ids w.ready.commits) i → Contains p.tips i
-  is_tip i m = (first_from [] p.tips i (keeps_from (IsTipDue old.frontier) kept i (start_of i m)).0).1
+  is_tip i m = (first_from [] p.tips i (keeps_from (IsDue objects faulty h.first h.mid) kept i (start_of i m)).0).1
 
   first_read : AreRead objects faulty (plan_of h.first) h.first.counting
   first_read = subst (λ q. AreRead objects faulty q old) (sym first_plan) begun.all_read
@@ -184,13 +187,15 @@ module _ {F : Type 0} (objects : F → Objects) (faulty : F → ObjectId → Typ
       done = λ r m. let tip : Contains p.tips r.id = all.ready.among r (in_starts r m) in ap is_done (moved Tips r.id) ∙ begun.explored agrees Tips r.id (start tip) (tip_high r.id tip);
     }
 
-    due_childless : (i : ObjectId) → Contains p.tips i → IsTipDue old.frontier i → IsChildless (text_walked objects p) Member i
-    due_childless i m d = (first_ready objects faulty p old begun agrees i m d.none_left d.outside).childless
+    due_childless : (i : ObjectId) → Contains p.tips i → IsDue objects faulty h.first h.mid i → IsChildless (text_walked objects p) Member i
+    due_childless i m d = (first_ready objects faulty p old begun agrees i m (sym (kept_children i) ∙ d.none_left) (sym (ap is_seen (all.ready.moved Ends i)) ∙ d.outside)).childless
 
-    childless_due : (i : ObjectId) → IsChildless (text_walked objects p) Member i → IsTipDue old.frontier i
+    childless_due : (i : ObjectId) → IsChildless (text_walked objects p) Member i → IsDue objects faulty h.first h.mid i
     childless_due i q = record {
-      none_left = all_taken (objects p.store) (faulty p.store) p.rows p.parents p.tips p.ends agrees old.frontier old.depth (begun.explored agrees) (λ side. (counted.searched.search side).within) (set.contains (taken_of w)) (children_of old.frontier) counted.tally i q.member (λ c k. absurd (q.alone c k));
-      outside = unseen (objects p.store) (faulty p.store) p.rows p.parents p.tips p.ends agrees old.frontier old.depth (begun.explored agrees) (λ side. (counted.searched.search side).within) (set.contains (taken_of w)) (children_of old.frontier) counted.tally i q.member;
+      none_left = kept_children i ∙ all_taken (objects p.store) (faulty p.store) p.rows p.parents p.tips p.ends agrees old.frontier old.depth (begun.explored agrees) (λ side. (counted.searched.search side).within) (set.contains (taken_of w))
+          (children_of old.frontier) counted.tally i q.member (λ c k. absurd (q.alone c k));
+      outside = ap is_seen (all.ready.moved Ends i) ∙ unseen (objects p.store) (faulty p.store) p.rows p.parents p.tips p.ends agrees old.frontier old.depth (begun.explored agrees) (λ side. (counted.searched.search side).within) (set.contains (taken_of w))
+          (children_of old.frontier) counted.tally i q.member;
       unmade = begun.unmade i;
     }
 

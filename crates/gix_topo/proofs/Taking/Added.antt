@@ -27,7 +27,8 @@ use Rattle.gix_topo.proofs.Counts.ExploreKeeps.{explores_same, explores_made}
 use Rattle.gix_topo.proofs.Counts.Frontier.{has_seen}
 use Rattle.gix_revwalk.proofs.NewIds.{times, times_once}
 use Rattle.gix_topo.proofs.Readiness.IsReady.{keeps_from, keeps_times, last_from, last_once, keeps_on}
-use Rattle.gix_topo.proofs.Taking.AllReleases.{IsDue, IsReleased, released}
+use Rattle.gix_topo.proofs.Starting.OneByOne.{IsDue}
+use Rattle.gix_topo.proofs.Taking.AllReleases.{IsReleased, released, released_due}
 use Rattle.gix_topo.proofs.Counts.Children.{children_of, was_ready_of}
 use Rattle.gix_topo.proofs.Counts.Expanded.{explores_read}
 use Rattle.gix_topo.proofs.Reading.OnceRead.{all_still, found_later}
@@ -83,7 +84,7 @@ module _ {F : Type 0} (objects : F → Objects) (faulty : F → ObjectId → Typ
   stands_before e = explores_stands objects faulty t.explores (rel.ready.stands e)
 
   due : Keeps (IsDue objects faulty between new) (last_places named) (ready_ids added)
-  due = rel.due (λ j. last_once named j)
+  due = released_due objects faulty rel (λ j. last_once named j)
 
   -- an added id is a walked parent
   pub added_named : (i : ObjectId) → Contains (ready_ids added) i → Contains named i

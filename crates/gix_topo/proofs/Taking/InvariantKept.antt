@@ -24,7 +24,8 @@ use Rattle.gix_topo.specs.WalkSet.{IsChild, IsReady}
 use Rattle.gix_topo.proofs.Counts.ExploreKeeps.{explores_made, explores_same, explores_still, explores_done, explores_idle}
 use Rattle.gix_revwalk.specs.Ids.{AreDistinct}
 use Rattle.gix_topo.proofs.Readiness.IsReady.{keeps_from, last_from, last_once}
-use Rattle.gix_topo.proofs.Taking.AllReleases.{IsDue, IsReleased, released}
+use Rattle.gix_topo.proofs.Starting.OneByOne.{IsDue}
+use Rattle.gix_topo.proofs.Taking.AllReleases.{IsReleased, released, released_due}
 use Rattle.gix_topo.proofs.Counts.Rest.{least_within}
 use Rattle.gix_topo.proofs.Counts.Children.{children_of, was_ready_of, tally_same}
 use Rattle.gix_topo.proofs.Reading.OnceRead.{found_later}
@@ -88,7 +89,7 @@ module _ {F : Type 0} (objects : F → Objects) (faulty : F → ObjectId → Typ
 
   module _ (held : IsHeld objects faulty w) where
     unmade : (j : ObjectId) → is_among j (ready_ids added) ≡ true → was_ready_of w.counting.frontier j ≡ false
-    unmade j e = sym (explores_made objects faulty t.explores j) ∙ (keeps_from (IsDue objects faulty between new) (rel.due (λ i. last_once named i)) j (among_is j (ready_ids added) e)).1.unmade
+    unmade j e = sym (explores_made objects faulty t.explores j) ∙ (keeps_from (IsDue objects faulty between new) (released_due objects faulty rel (λ i. last_once named i)) j (among_is j (ready_ids added) e)).1.unmade
 
     was_made : (j : ObjectId) → (is_same j r.id || is_among j (ready_ids rest.commits)) ≡ true → was_ready_of w.counting.frontier j ≡ true
     was_made j e = held.made j (among_is j (ready_ids w.ready.commits) (was_among j ∙ e))
