@@ -15,9 +15,7 @@ use Rattle.gix_topo.specs.Walk.{TopoWalk, Ready, Counted, Chooses, Adds, IsNextR
 use Rattle.gix_topo.specs.Walk as machine
 use Rattle.gix_revwalk.specs.Infos.{IsInfo}
 use Rattle.gix_hash.proofs.Ids.Membership.{no_member}
-use Rattle.gix_topo.proofs.Taking.Added.{adds_on}
 use Rattle.gix_topo.proofs.Taking.InvariantKept.{held_on, takes_on}
-use Rattle.gix_topo.proofs.Taking.DepthLowered.{counts_taken}
 use Rattle.gix_topo.proofs.Taking.TakingFaults.{taking_fault}
 use Rattle.gix_topo.proofs.Run.Ends.{takes_left, next_left}
 use Rattle.gix_topo.proofs.Readiness.ReadyIds.{chosen_in}
@@ -33,9 +31,7 @@ module _ {F : Type 0} (objects : F → Objects) (faulty : F → ObjectId → Typ
 
   -- a commit was taken
   pub turned : (added : List Ready) (new : Walk F) → TakesOne objects faulty (record w { ready = rest }) r added new → TakesReady objects faulty w r new × IsHeld objects faulty new
-  turned added new t =
-      let adds : Adds objects faulty (unasked objects faulty) (unasked_of objects faulty w) r (counted_by new.counting) added = adds_on objects faulty w rest same r chosen added new t held (λ sound. (counts_taken objects faulty w rest same r chosen added new t held sound).1) in
-      (takes_on objects faulty w rest same r chosen added new t held (λ sound. (counts_taken objects faulty w rest same r chosen added new t held sound).0) adds, held_on objects faulty w rest same r chosen added new t held (λ sound. (counts_taken objects faulty w rest same r chosen added new t held sound).0) adds)
+  turned added new t = (takes_on objects faulty w rest same r chosen added new t held, held_on objects faulty w rest same r chosen added new t held)
 
   -- it can't be
   pub turn_faults : (e : Error) → IsTakingFault objects faulty (record w { ready = rest }) r e → IsFault objects faulty (plan_of w) (IsNextReady objects (plan_of w) (taken_of w) r.id) e × IsLate objects (plan_of w) (IsNextReady objects (plan_of w) (taken_of w) r.id) e
