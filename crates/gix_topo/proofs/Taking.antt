@@ -2,8 +2,6 @@
 pub mod OneRelease
 -- What releasing all parents of a taken commit does.
 pub mod AllReleases
--- What all facts about a taken commit start from.
-pub mod Setting
 -- A steady walk adds exactly the parents that became ready, and its invariant and its counting hold after a commit was taken.
 pub mod InvariantKept
 -- When a ready commit can't be taken.

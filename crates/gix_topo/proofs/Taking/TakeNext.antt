@@ -31,7 +31,7 @@ module _ {F : Type 0} (objects : F → Objects) (faulty : F → ObjectId → Typ
 
   -- a commit was taken
   pub turned : (added : List Ready) (new : Walk F) → TakesOne objects faulty (record w { ready = rest }) r added new → TakesReady objects faulty w r new × IsHeld objects faulty new
-  turned added new t = (takes_on objects faulty w rest same r chosen added new t held, held_on objects faulty w rest same r chosen added new t held)
+  turned added new t = (takes_on objects faulty w rest r chosen same added new t held, held_on objects faulty w rest r chosen same added new t held)
 
   -- it can't be
   pub turn_faults : (e : Error) → IsTakingFault objects faulty (record w { ready = rest }) r e → IsFault objects faulty (plan_of w) (IsNextReady objects (plan_of w) (taken_of w) r.id) e × IsLate objects (plan_of w) (IsNextReady objects (plan_of w) (taken_of w) r.id) e

@@ -38,7 +38,7 @@ use Rattle.gix_topo.proofs.Taking.AllReleases.{IsReleased, uncounted_made, uncou
 use Rattle.gix_topo.proofs.Counts.Children.{children_of, was_ready_of, tally_counts}
 use Rattle.gix_topo.proofs.Reading.ReadsCommit.{reads_text_next}
 use Rattle.gix_revwalk.proofs.Rows.{none_agree}
-use Rattle.gix_topo.proofs.Taking.Setting.{was_ready, plan_taken, was_untaken, named_text, parents_reached, counted_on, due_ready}
+use Rattle.gix_topo.proofs.Taking.InvariantKept.{was_ready, plan_taken, was_untaken, named_text, parents_reached, counted_on, due_ready}
 use Rattle.gix_revwalk.proofs.NewIds.{times-append, among_times}
 use Rattle.gix_topo.proofs.Counts.RowsDropped.{made_dropped, explores_dropped}
 use Rattle.gix_topo.proofs.Counts.ReadFaults.{fault_item, exploring_fault, push_fault}
