@@ -365,10 +365,8 @@ module _ {F : Type 0} (objects : F → Objects) (faulty : F → ObjectId → Typ
           (explores_dropped objects faulty w.ready.sorting w.tips.items w.ends.items (set.contains (taken_of w)) low (λ a. (held.tallied a).counted) t.explores held.dropped)
 
       found_now : (q : Ready) → Contains new.ready.commits q → IsFound objects faulty (plan_of new) true new.counting.reader.in_use q
-      found_now q m = ready_cases (IsFound objects faulty (plan_of new) true new.counting.reader.in_use q) q of_rest (λ a. subst (λ p. IsFound objects faulty p true new.counting.reader.in_use q) (sym plan_is) (found_later objects faulty (plan_of w) (λ e. refl) (λ e. e) (adds.found q a))) m
-        where
-          of_rest : Contains rest.commits q → IsFound objects faulty (plan_of new) true new.counting.reader.in_use q
-          of_rest o = subst (λ p. IsFound objects faulty p true new.counting.reader.in_use q) (sym plan_is) (found_later objects faulty (plan_of w) (λ e. e) adds.stands (held.found q (others_ready q o)))
+      found_now q m = subst (λ p. IsFound objects faulty p true new.counting.reader.in_use q) (sym plan_is) (ready_cases (IsFound objects faulty (plan_of w) true new.counting.reader.in_use q) q
+          (λ o. found_later objects faulty (plan_of w) (λ e. e) adds.stands (held.found q (others_ready q o))) (λ a. found_later objects faulty (plan_of w) (λ e. refl) (λ e. e) (adds.found q a)) m)
 
       -- what a walk holds, after a ready commit was taken
       pub held_on : IsHeld objects faulty new

@@ -55,21 +55,18 @@ module _ {F : Type 0} (objects : F → Objects) (faulty : F → ObjectId → Typ
   turn_spent (failed r others c f l s n) e k = n
 
 module _ {F P : Type 0} (objects : F → Objects) (faulty : F → ObjectId → Type 0) (answers : P → ObjectId → Bool → P → Type 0) where
-  -- what is taken doesn't depend on the predicate
-  takes_as : (w : Walk F) (p : P) (c : Ready) (counted : Counted) (ready : List Ready) → Takes objects faulty (unasked objects faulty) (unasked_of objects faulty w) c counted ready → Takes objects faulty answers (walk_of w p) c counted ready
-  takes_as w p c counted ready t = record {
-    others = t.others;
-    added = t.added;
-    chosen = t.chosen;
-    adds = record { distinct = t.adds.distinct; unmade = t.adds.unmade; named = t.adds.named; found = t.adds.found; became = t.adds.became; stored = t.adds.stored; stands = t.adds.stands; depth = t.adds.depth; counting = t.adds.counting };
-    holds = t.holds;
-  }
-
   after_as : (w new : Walk F) (p q : P) (r : Ready) → TakesReady objects faulty w r new → after objects faulty answers (walk_of w p) r (counted_by new.counting) new.ready.commits q ≡ walk_of new q
   after_as w new p q r t = λ k. record { plan = sym t.plan k; predicate = q; counted = counted_by new.counting; ready = new.ready.commits; taken = sym t.taken k }
 
+  -- what is taken doesn't depend on the predicate
   taken_as : (w new : Walk F) (p : P) (r : Ready) → TakesReady objects faulty w r new → Takes objects faulty answers (walk_of w p) r (counted_by new.counting) new.ready.commits
-  taken_as w new p r t = takes_as w p r (counted_by new.counting) new.ready.commits t.takes
+  taken_as w new p r t = let a = t.takes.adds in record {
+    others = t.takes.others;
+    added = t.takes.added;
+    chosen = t.takes.chosen;
+    adds = record { distinct = a.distinct; unmade = a.unmade; named = a.named; found = a.found; became = a.became; stored = a.stored; stands = a.stands; depth = a.depth; counting = a.counting };
+    holds = t.takes.holds;
+  }
 
   -- it is shown
   pub turn_given : {w new : Walk F} {o : Option (Result Info Error)} → TakesNext objects faulty w o new → (info : Info) → o ≡ Some (Ok info) → (p q : P) → answers p info.id true q → Next objects faulty answers (walk_of w p) (Some (Ok info)) (walk_of new q)
