@@ -18,7 +18,5 @@ pub mod Theorem
 pub mod Corollaries
 -- A walk through all parents gives what its tips reach and its ends don't.
 pub mod Difference
--- With agreeing rows each commit is given with its row's generation.
-pub mod Generations
--- Each parent of a commit that is given was known.
-pub mod ParentsKnown
+-- With agreeing rows each commit is given with its row's generation; each of its parents was known.
+pub mod EachGiven

@@ -14,21 +14,14 @@ use Rattle.gix_topo.proofs.Readiness.RisingTime.{by_time_moves}
 
 -- lists in which an id is as often
 pub among_by : (i : ObjectId) (xs ys : List ObjectId) → times i xs ≡ times i ys → is_among i xs ≡ is_among i ys
-among_by i xs ys e = go (is_among i xs) (is_among i ys) refl refl
-  where
-    go : (a b : Bool) → is_among i xs ≡ a → is_among i ys ≡ b → a ≡ b
-    go true true x y = refl
-    go false false x y = refl
-    go true false x y = let l : 1 ≤ times i xs = among_times i xs x in let z : times i ys ≡ 0 = times_none i ys y in absurd (omega arith)
-    go false true x y = let l : 1 ≤ times i ys = among_times i ys y in let z : times i xs ≡ 0 = times_none i xs x in absurd (omega arith)
+among_by i xs ys e = grind (arith, among_times i xs, among_times i ys, times_none i xs, times_none i ys)
 
 pub distinct_times : (xs : List ObjectId) → AreDistinct xs → (i : ObjectId) → times i xs ≤ 1
 distinct_times [] d i = omega arith
-distinct_times (x ∷ xs) d i = go (is_same i x) refl (distinct_times xs d.1 i)
+distinct_times (x ∷ xs) d i = go (is_same i x) (times i xs) (distinct_times xs d.1 i) (λ e. times_none i xs (false_from_ne_true _ (λ t. d.0 (subst (λ y. Contains xs y) (same_is i x e) (among_is i xs t)))))
   where
-    go : (b : Bool) → is_same i x ≡ b → times i xs ≤ 1 → cond b 1 0 + times i xs ≤ 1
-    go true e r = let z : times i xs ≡ 0 = times_none i xs (false_from_ne_true _ (λ t. d.0 (subst (λ y. Contains xs y) (same_is i x e) (among_is i xs t)))) in omega arith
-    go false e r = omega arith
+    go : (b : Bool) (n : ℕ) → n ≤ 1 → (b ≡ true → n ≡ 0) → cond b 1 0 + n ≤ 1
+    go b n l z = grind arith
 
 -- what is kept of a list
 module _ (P : ObjectId → Type 0) where
@@ -73,26 +66,22 @@ keeps_alike P Q f g = keeps_on (λ i m. f i) (λ i m. g i)
 
 -- so often or not at all
 counted_among : (i : ObjectId) (xs : List ObjectId) (b : Bool) → times i xs ≡ cond b 1 0 → is_among i xs ≡ b
-counted_among i xs true e = times_is_among i xs (omega arith)
-counted_among i xs false e = among_by i xs [] e
+counted_among i xs b e = grind (arith, among_times i xs, times_none i xs)
 
 counted_once : (n : ℕ) (b : Bool) → n ≡ cond b 1 0 → n ≤ 1
-counted_once n true e = omega arith
-counted_once n false e = omega arith
+counted_once n b e = grind arith
 
 -- each id at its last place
 pub times-last : (i : ObjectId) (xs : List ObjectId) → times i (last_places xs) ≡ cond (is_among i xs) 1 0
 times-last i [] = refl
-times-last i (x ∷ xs) = go (is_among x xs) refl (is_same i x) refl (times-last i xs)
+times-last i (x ∷ xs) = go (is_among x xs) (last_places xs) ∙ counted (is_among x xs) (is_same i x) (is_among i xs) (times i (last_places xs)) (times-last i xs) (λ s. ap (λ y. is_among y xs) (same_is i x s))
   where
-    own : (b : Bool) → is_among x xs ≡ b → is_same i x ≡ true → times i (last_places xs) ≡ cond (is_among i xs) 1 0 → times i (last_places xs) ≡ cond b 1 0
-    own b e s r = r ∙ ap (λ c. cond c 1 0) (ap (λ y. is_among y xs) (same_is i x s) ∙ e)
+    go : (b : Bool) (ys : List ObjectId) → times i (cond b ys (x ∷ ys)) ≡ cond b (times i ys) (cond (is_same i x) 1 0 + times i ys)
+    go true ys = refl
+    go false ys = refl
 
-    go : (b : Bool) → is_among x xs ≡ b → (s : Bool) → is_same i x ≡ s → times i (last_places xs) ≡ cond (is_among i xs) 1 0 → times i (cond b (last_places xs) (x ∷ last_places xs)) ≡ cond (s || is_among i xs) 1 0
-    go true e true s r = own true e s r
-    go true e false s r = r
-    go false e true s r = let z : times i (last_places xs) ≡ 0 = own false e s r in let h : ◌≡◌ {A = ℕ} (cond (is_same i x) 1 0) 1 = ap (λ b. cond b 1 0) s in omega arith
-    go false e false s r = let h : ◌≡◌ {A = ℕ} (cond (is_same i x) 1 0) 0 = ap (λ b. cond b 1 0) s in (let g : cond (is_same i x) 1 0 + times i (last_places xs) ≡ times i (last_places xs) = omega arith in g) ∙ r
+    counted : (b s c : Bool) (n : ℕ) → n ≡ cond c 1 0 → (s ≡ true → c ≡ b) → cond b n (cond s 1 0 + n) ≡ cond (s || c) 1 0
+    counted b s c n r o = grind arith
 
 last_among : (xs : List ObjectId) (i : ObjectId) → is_among i (last_places xs) ≡ is_among i xs
 last_among xs i = counted_among i (last_places xs) (is_among i xs) (times-last i xs)

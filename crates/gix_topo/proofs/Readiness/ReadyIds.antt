@@ -1,5 +1,5 @@
 -- Ready commits by their ids: those that are held, chosen, and joined.
-use Rattle.std.specs.Prelude.{◌≡◌, ◌+◌, ◌≤◌, List, [], ◌∷◌, ◌++◌, Bool, true, false, ◌||◌, cond, Contains, IsPermutation}
+use Rattle.std.specs.Prelude.{◌≡◌, ◌+◌, ◌≤◌, ℕ, List, [], ◌∷◌, ◌++◌, Bool, true, false, ◌||◌, cond, map, Contains, IsPermutation}
 use Rattle.std.proofs.Common.{refl, sym, ap, subst, ⊎_elim, ◌∙◌, arith, append_assoc, append-nil}
 use Rattle.std.proofs.lemmas.List.{map-append}
 use Rattle.std.proofs.lemmas.List.Elements.{Contains-append_left, Contains-push}
@@ -18,10 +18,13 @@ pub in_ids : (rs : List Ready) (r : Ready) → Contains rs r → Contains (ready
 in_ids [] r m = absurd (no_member r m)
 in_ids (x ∷ rs) r m = ⊎_elim (λ s. subst (λ j. Contains (x.id ∷ ready_ids rs) j) (ap (λ y. y.id) s) (Contains-here x.id (ready_ids rs))) (λ t. Contains-there r.id x.id (ready_ids rs) (in_ids rs r t)) (Contains-cons_cases r x rs m)
 
+-- what is in a list that was mapped
+pub from_map : {X Y : Type 0} (f : X → Y) (xs : List X) (y : Y) → Contains (map f xs) y → (x : X) × Contains xs x × (f x ≡ y)
+from_map f [] y m = absurd (no_member y m)
+from_map f (x ∷ xs) y m = ⊎_elim (λ s. (x, Contains-here x xs, s)) (λ t. let h = from_map f xs y t in (h.0, Contains-there h.0 x xs h.1, h.2)) (Contains-cons_cases y (f x) (map f xs) m)
+
 pub from_ids : (rs : List Ready) (p : ObjectId) → Contains (ready_ids rs) p → (r : Ready) × Contains rs r × (r.id ≡ p)
-from_ids [] p m = absurd (no_member p m)
-from_ids (x ∷ rs) p m =
-    ⊎_elim (λ s. (x, Contains-here x rs, s)) (λ t. let h : (r : Ready) × Contains rs r × (r.id ≡ p) = from_ids rs p t in (h.0, Contains-there h.0 x rs h.1, h.2)) (Contains-cons_cases p x.id (ready_ids rs) m)
+from_ids rs p m = from_map (λ r. r.id) rs p m
 
 pub ids-append : (xs ys : List Ready) → ready_ids (xs ++ ys) ≡ ready_ids xs ++ ready_ids ys
 ids-append xs ys = map-append (λ r. r.id) xs ys
@@ -81,8 +84,9 @@ chosen_once s ready c others h d = times_once (c.id ∷ ready_ids others) (λ i.
 
 -- and so is each one, where what is added is new
 pub held_once : (s : Sorting) (others added ready : List Ready) → HoldsReady s (others ++ added) ready → AreDistinct (ready_ids others) → AreDistinct (ready_ids added) → ((i : ObjectId) → Contains (ready_ids added) i → is_among i (ready_ids others) ≡ false) → AreDistinct (ready_ids ready)
-held_once s others added ready h o a apart = times_once (ready_ids ready) (λ i. go i (is_among i (ready_ids added)) refl (holds_times s (others ++ added) ready h i ∙ joined_times i others added) (distinct_times (ready_ids others) o i) (distinct_times (ready_ids added) a i))
+held_once s others added ready h o a apart = times_once (ready_ids ready) (λ i.
+    go (is_among i (ready_ids added)) _ _ _ (holds_times s (others ++ added) ready h i ∙ joined_times i others added) (distinct_times (ready_ids others) o i) (distinct_times (ready_ids added) a i)
+    (λ e. times_none i (ready_ids others) (apart i (among_is i _ e))) (times_none i (ready_ids added)))
   where
-    go : (i : ObjectId) (b : Bool) → is_among i (ready_ids added) ≡ b → times i (ready_ids ready) ≡ times i (ready_ids others) + times i (ready_ids added) → times i (ready_ids others) ≤ 1 → times i (ready_ids added) ≤ 1 → times i (ready_ids ready) ≤ 1
-    go i true e j o a = let z : times i (ready_ids others) ≡ 0 = times_none i (ready_ids others) (apart i (among_is i _ e)) in omega arith
-    go i false e j o a = let z : times i (ready_ids added) ≡ 0 = times_none i (ready_ids added) e in omega arith
+    go : (b : Bool) (n m k : ℕ) → n ≡ m + k → m ≤ 1 → k ≤ 1 → (b ≡ true → m ≡ 0) → (b ≡ false → k ≡ 0) → n ≤ 1
+    go b n m k j o a x y = grind arith

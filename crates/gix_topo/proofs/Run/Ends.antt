@@ -1,6 +1,7 @@
 -- Every topological walk ends, asks about each commit once, and is silent after a fault. None of it needs a sound history.
 use Rattle.std.specs.Prelude.{◌≡◌, ◌+◌, ◌≤◌, ℕ, suc, List, [], ◌∷◌, ◌++◌, length, Bool, true, false, ◌||◌, cond, Option, Some, None, Result, Ok, Err, Contains}
 use Rattle.std.proofs.Common.{refl, sym, ap, subst, inl, inr, ⊎_elim, ◌∙◌, arith, length-append, le_refl, le_trans}
+use Rattle.std.proofs.lemmas.List.{length-map}
 use Rattle.std.proofs.lemmas.List.Sorted.{length_permutation}
 use Rattle.std.proofs.lemmas.Bool.{true≢false, or_cases, or_right, or_from, or_parts, false_from_ne_true}
 use Rattle.std.specs.FinSet as set
@@ -35,8 +36,7 @@ all_new s xs (i ∷ ids) d a n =
     omega arith
   where
     turned : (a b c : Bool) → ((a || b) || c) ≡ (a || (b || c))
-    turned true b c = refl
-    turned false b c = refl
+    turned a b c = grind arith
 
 chosen_length : (s : Sorting) (ready : List Ready) (c : Ready) (others : List Ready) → Chooses s ready c others → length ready ≡ suc (length others)
 chosen_length order.TopoOrder ready c others h = let e : length ready ≡ length (others ++ c ∷ []) = ap length h in let l : length (others ++ c ∷ []) ≡ length others + 1 = length-append others (c ∷ []) in omega arith
@@ -45,10 +45,6 @@ chosen_length order.DateOrder ready c others h = sym (length_permutation ready (
 held_length : (s : Sorting) (these ready : List Ready) → HoldsReady s these ready → length ready ≡ length these
 held_length order.TopoOrder these ready h = ap length h
 held_length order.DateOrder these ready h = length_permutation these ready h
-
-length-ids : (ready : List Ready) → length (ready_ids ready) ≡ length ready
-length-ids [] = refl
-length-ids (r ∷ ready) = ap suc (length-ids ready)
 
 left_most : (n : ℕ) (ready : List Ready) → left_beside n ready ≤ n + length ready
 left_most n [] = omega arith
@@ -66,16 +62,7 @@ module _ {F P : Type 0} (objects : F → Objects) (faulty : F → ObjectId → T
       ∙ ap (λ b. is_among j (ready_ids t.added) || (set.contains w.taken j || b)) (sym (chosen_among w.plan.sorting w.ready c t.others t.chosen j))
     where
       turned : (c t o a : Bool) → ((c || t) || (o || a)) ≡ (a || (t || (c || o)))
-      turned true true o true = refl
-      turned true true o false = refl
-      turned true false o true = refl
-      turned true false o false = refl
-      turned false true o true = refl
-      turned false true o false = refl
-      turned false false true true = refl
-      turned false false true false = refl
-      turned false false false true = refl
-      turned false false false false = refl
+      turned c t o a = grind arith
 
   abbrev new_in : TopoWalk F P → ℕ
   new_in w = length (fresh (was_ready w) (named_ids (objects w.plan.store) w.plan.rows))
@@ -85,7 +72,7 @@ module _ {F P : Type 0} (objects : F → Objects) (faulty : F → ObjectId → T
       let named : List ObjectId = named_ids (objects w.plan.store) w.plan.rows in
       let a : length (fresh (λ j. is_among j (ready_ids t.added) || was_ready w j) named) + length (ready_ids t.added) ≡ new_in w = all_new (was_ready w) named (ready_ids t.added) t.adds.distinct t.adds.named t.adds.unmade in
       let b : new_in (after objects faulty answers w c counted ready predicate) ≡ length (fresh (λ j. is_among j (ready_ids t.added) || was_ready w j) named) = ap length (fresh_agree _ _ named (λ j h. made_then w c counted ready predicate t j)) in
-      let l : length (ready_ids t.added) ≡ length t.added = length-ids t.added in
+      let l : length (ready_ids t.added) ≡ length t.added = length-map t.added (λ r. r.id) in
       let h : length ready ≡ length (t.others ++ t.added) = held_length w.plan.sorting (t.others ++ t.added) ready t.holds in
       let j : length (t.others ++ t.added) ≡ length t.others + length t.added = length-append t.others t.added in
       let s : length w.ready ≡ suc (length t.others) = chosen_length w.plan.sorting w.ready c t.others t.chosen in

@@ -77,6 +77,15 @@ turns_map Q R Keep last now (i ∷ ids) done k h =
     let n : R done (Some i) × Keep (done ++ i ∷ []) = now done i k (turn_now Q done ids i h) in
     turn_more R done ids i n.0 (turns_map Q R Keep last now ids (done ++ i ∷ []) n.1 (turn_on Q done ids i h))
 
+-- a list of which a test says that each turn is right
+abbrev pub is_list : (List ObjectId → Option ObjectId → Bool) → List ObjectId → List ObjectId → Bool
+is_list test done [] = test done None
+is_list test done (i ∷ ids) = test done (Some i) && is_list test (done ++ i ∷ []) ids
+
+pub list_turns : (Q : List ObjectId → Option ObjectId → Type 0) (test : List ObjectId → Option ObjectId → Bool) → ((done : List ObjectId) (o : Option ObjectId) → test done o ≡ true → Q done o) → (ids done : List ObjectId) → is_list test done ids ≡ true → TurnsFrom Q done ids
+list_turns Q test sound [] done e = turn_none Q done (sound done None e)
+list_turns Q test sound (i ∷ ids) done e = turn_more Q done ids i (sound done (Some i) (and_parts _ _ e).0) (list_turns Q test sound ids (done ++ i ∷ []) (and_parts _ _ e).1)
+
 through : (walked : ObjectId → List ObjectId) (d i v : ObjectId) → Contains (walked d) i → Reaches walked (walked i) v → Reaches walked (walked d) v
 through walked d i v n (start s) = step (start n) s
 through walked d i v n (step r m) = step (through walked d i _ n r) m
@@ -86,20 +95,14 @@ module _ (walked : ObjectId → List ObjectId) (In : ObjectId → Type 0) where
   abbrev pub IsReadyNext : List ObjectId → Option ObjectId → Type 0
   IsReadyNext done o = MatchOption o ((i : ObjectId) → IsReady walked In (Contains done) i → ⊥) (IsReady walked In (Contains done))
 
-  once_from : (ids done : List ObjectId) → TurnsFrom (IfOne IsReadyNext) done ids → AreDistinct ids × ((i : ObjectId) → Contains done i → Contains ids i → ⊥)
-  once_from [] done h = (tt, λ i d c. no_member i c)
+  once_from : (ids done : List ObjectId) → TurnsFrom (IfOne IsReadyNext) done ids → AreDistinct ids × ((i : ObjectId) → Contains ids i → In i × (Contains done i → ⊥))
+  once_from [] done h = (tt, λ i c. absurd (no_member i c))
   once_from (x ∷ ids) done h =
       let now : IsReady walked In (Contains done) x = turn_now (IfOne IsReadyNext) done ids x h in
-      let r : AreDistinct ids × ((i : ObjectId) → Contains (done ++ x ∷ []) i → Contains ids i → ⊥) = once_from ids (done ++ x ∷ []) (turn_on (IfOne IsReadyNext) done ids x h) in (
-        (λ c. r.1 x (Contains-push done x) c, r.0),
-        λ i d c. ⊎_elim (λ e. now.left (subst (λ y. Contains done y) (sym e) d)) (λ t. r.1 i (Contains-append_left done (x ∷ []) i d) t) (Contains-cons_cases i x ids c),
+      let r : AreDistinct ids × ((i : ObjectId) → Contains ids i → In i × (Contains (done ++ x ∷ []) i → ⊥)) = once_from ids (done ++ x ∷ []) (turn_on (IfOne IsReadyNext) done ids x h) in (
+        (λ c. (r.1 x c).1 (Contains-push done x), r.0),
+        λ i c. ⊎_elim (λ e. subst (λ y. In y × (Contains done y → ⊥)) e (now.member, now.left)) (λ t. ((r.1 i t).0, λ d. (r.1 i t).1 (Contains-append_left done (x ∷ []) i d))) (Contains-cons_cases i x ids c),
       )
-
-  members_from : (ids done : List ObjectId) → TurnsFrom (IfOne IsReadyNext) done ids → (i : ObjectId) → Contains ids i → In i
-  members_from [] done h i c = absurd (no_member i c)
-  members_from (x ∷ ids) done h i c =
-      let now : IsReady walked In (Contains done) x = turn_now (IfOne IsReadyNext) done ids x h in
-      ⊎_elim (λ e. subst In e now.member) (λ t. members_from ids (done ++ x ∷ []) (turn_on (IfOne IsReadyNext) done ids x h) i t) (Contains-cons_cases i x ids c)
 
   -- What became ready stays so until it is taken: each commit of a list is in any list that ends where nothing is ready.
   also_taken : (others : List ObjectId) → ((i : ObjectId) → IsReady walked In (Contains others) i → ⊥) → (ids done : List ObjectId) → ((i : ObjectId) → Contains done i → Contains others i) → TurnsFrom (IfOne IsReadyNext) done ids → (i : ObjectId) → Contains ids i → Contains others i
@@ -116,7 +119,7 @@ module _ (walked : ObjectId → List ObjectId) (In : ObjectId → Type 0) where
     begun_once = (once_from ids [] turns).0
 
     pub begun_members : (i : ObjectId) → Contains ids i → In i
-    begun_members = members_from ids [] turns
+    begun_members i c = ((once_from ids [] turns).1 i c).0
 
     -- a child comes before its parents
     pub begun_children : (k : ℕ) (d p : ObjectId) → slice_get ids k ≡ Some p → IsChild walked In d p → Contains (take k ids) d

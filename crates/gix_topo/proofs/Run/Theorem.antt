@@ -45,8 +45,7 @@ first_found p [] = refl
 first_found p (x ∷ xs) = go (p x) (first_found p xs)
   where
     go : (b : Bool) → find p xs ≡ slice_get (filter p xs) 0 → cond b (Some x) (find p xs) ≡ slice_get (cond b (x ∷ filter p xs) (filter p xs)) 0
-    go true r = refl
-    go false r = r
+    go b r = grind arith
 
 filter-reverse : (p : ObjectId → Bool) (xs : List ObjectId) → filter p (reverse xs) ≡ reverse (filter p xs)
 filter-reverse p [] = refl
@@ -146,8 +145,7 @@ module _ {F P : Type 0} (objects : F → Objects) (faulty : F → ObjectId → T
           ∙ filter_agree (λ i. not (is_among i done) && not (is_same i c.id)) (λ i. not (is_among i (done ++ c.id ∷ []))) (λ i. both (is_among i done) (is_same i c.id) ∙ ap not (sym (among_now i))) s.made
         where
           both : (a b : Bool) → (not a && not b) ≡ not (a || b)
-          both true b = refl
-          both false b = refl
+          both a b = grind arith
 
       stacks_on : (predicate : P) → Stacks (after objects faulty answers w c counted ready predicate) (done ++ c.id ∷ [])
       stacks_on predicate = record {

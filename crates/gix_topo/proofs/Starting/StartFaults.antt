@@ -1,6 +1,6 @@
 -- When a topological walk can't be built.
 use Rattle.std.specs.Prelude.{◌≡◌, ◌≤◌, List, [], ◌∷◌, ◌++◌, false, Contains}
-use Rattle.std.proofs.Common.{refl, sym, ap, subst, inl, ◌∙◌}
+use Rattle.std.proofs.Common.{refl, sym, ap, subst, inl, ◌∙◌, zero-add}
 use Rattle.gix_hash.specs.declared.ObjectId.{ObjectId}
 use Rattle.gix_object.specs.Object.{Objects}
 use Rattle.gix_hash.proofs.Ids.Membership.{Contains-here, Contains-there}
@@ -21,7 +21,7 @@ use Rattle.std.proofs.lemmas.List.Elements.{Contains-append_left}
 use Rattle.gix_topo.proofs.Counts.Children.{children_of, was_ready_of}
 use Rattle.gix_topo.proofs.Counts.Frontier.{has_seen}
 use Rattle.gix_topo.proofs.Counts.Rest.{least_within}
-use Rattle.gix_topo.proofs.Starting.AllTips.{AreStarted, started_one}
+use Rattle.gix_topo.proofs.Starting.OneByOne.{Frees, started_one}
 use Rattle.gix_topo.proofs.Counts.IndegreeZero.{text_left, text_outside}
 use Rattle.gix_topo.proofs.Counts.RowsDropped.{made_dropped}
 use Rattle.gix_topo.proofs.Counts.ReadFaults.{push_fault, push_misses_no_count}
@@ -52,8 +52,9 @@ module _ {F : Type 0} (objects : F → Objects) (faulty : F → ObjectId → Typ
               (push_fault objects faulty (IsFirstReady objects plan) old i e (λ a. start (subst (λ p. Contains p.tips i) (sym same) tip)) (λ a. first_ready (subst (λ p. IsAgreeing (objects p.store) p.rows) same a) i tip (sym (counts i) ∙ parts.0) (sym (seen i) ∙ parts.1)) (subst (λ p. AreDroppedFor objects p old.counting.reader.in_use) (sym same) dropped) f),
         )
     start_fails same dropped seen counts all (later {mid = mid} {i = i} {ids = ids} {first = first} s f) =
-        let by : AreStarted objects faulty _ (i ∷ []) first mid = started_one objects faulty s in
-        start_fails (by.ready.plan ∙ same) (made_dropped objects faulty plan same (λ j m a. inl (start (subst (Contains plan.tips) (only_member i j m) (all i (Contains-here i ids))))) by.ready dropped) (λ j. ap is_seen (by.ready.moved Ends j) ∙ seen j) (λ j. by.children j ∙ counts j) (λ j m. all j (Contains-there j i ids m)) f
+        let by : Frees objects faulty false _ (i ∷ []) first mid = started_one objects faulty s in
+        start_fails (by.ready.plan ∙ same) (made_dropped objects faulty plan same (λ j m a. inl (start (subst (Contains plan.tips) (only_member i j m) (all i (Contains-here i ids))))) by.ready dropped) (λ j. ap is_seen (by.ready.moved Ends j) ∙ seen j)
+            (λ j. sym (zero-add _) ∙ by.children j ∙ counts j) (λ j m. all j (Contains-there j i ids m)) f
     start_fails same dropped seen counts all short = ((λ q. cc), tt)
 
   -- starting fails

@@ -1,6 +1,6 @@
 -- What holds of a topological walk that has begun.
 use Rattle.std.specs.Prelude.{◌≡◌, ◌≤◌, List, [], ◌++◌, Bool, true, false, not, ◌&&◌, ◌||◌, Contains}
-use Rattle.std.proofs.Common.{refl, sym, ap, subst, inl, inr, ⊎_elim, ◌∙◌, arith}
+use Rattle.std.proofs.Common.{refl, sym, ap, subst, inl, inr, ⊎_elim, ◌∙◌, arith, zero-add}
 use Rattle.std.proofs.Math.Bool.{or-false, and-not_self}
 use Rattle.std.proofs.lemmas.Bool.{true≢false, false≢true}
 use Rattle.std.proofs.lemmas.List.Elements.{Contains-append_left}
@@ -38,7 +38,7 @@ use Rattle.gix_topo.proofs.Counts.Rest.{least_within}
 use Rattle.gix_topo.proofs.Counts.Taken.{contains-taken}
 use Rattle.gix_topo.proofs.Readiness.RisingTime.{by_time_moves, in_by_time, by_time_map}
 use Rattle.gix_topo.proofs.Counts.BothSearches.{searched_same}
-use Rattle.gix_topo.proofs.Starting.AllTips.{IsTipDue, AreStarted, started}
+use Rattle.gix_topo.proofs.Starting.OneByOne.{IsDue, Frees, started}
 use Rattle.gix_topo.proofs.Reading.FoundIsStored.{found_stored}
 use Rattle.gix_topo.proofs.Reading.OnceRead.{all_still, found_later}
 use Rattle.gix_topo.proofs.Counts.Children.{children_of, was_ready_of, tally_same}
@@ -79,45 +79,42 @@ module _ {F : Type 0} (objects : F → Objects) (faulty : F → ObjectId → Typ
   )
 
 module _ {F : Type 0} (objects : F → Objects) (faulty : F → ObjectId → Type 0) (plan : TopoPlan F) (w : Walk F) (h : IsBegunWalk objects faulty plan w) where
+  -- the same walk, with the counting that the tips left
+  abbrev v : Walk F
+  v = record w { counting = h.mid.counting }
+
+  v_is : v ≡ w
+  v_is = λ k. record w { counting = sym h.counting k }
+
   abbrev p : TopoPlan F
-  p = plan_of w
+  p = plan_of v
+
+  same : p ≡ plan
+  same = subst (λ x. plan_of x ≡ plan) (sym v_is) h.same
 
   abbrev old : Counting F
   old = h.first.counting
 
   abbrev new : Counting F
-  new = w.counting
+  new = h.mid.counting
 
   abbrev Member : ObjectId → Type 0
-  Member = IsTextMember objects (plan_of w)
+  Member = IsTextMember objects p
 
   begun : HasBegun objects faulty p old
-  begun = subst (λ q. HasBegun objects faulty q old) (sym h.same) h.begun
+  begun = subst (λ q. HasBegun objects faulty q old) (sym same) h.begun
 
-  all : AreStarted objects faulty h.first p.tips h.starts h.mid
-  all = subst (λ q. AreStarted objects faulty h.first q.tips h.starts h.mid) (sym h.same) (started objects faulty h.all)
+  all : Frees objects faulty false h.first p.tips h.starts h.mid
+  all = subst (λ q. Frees objects faulty false h.first q.tips h.starts h.mid) (sym same) (started objects faulty h.all)
 
   first_plan : plan_of h.first ≡ p
-  first_plan = h.before ∙ sym h.same
+  first_plan = h.before ∙ sym same
 
   sorted : HoldsReady p.sorting (by_rising_time h.starts) w.ready.commits
-  sorted = subst (λ q. HoldsReady q.sorting (by_rising_time h.starts) w.ready.commits) (sym h.same) h.sorted
+  sorted = subst (λ q. HoldsReady q.sorting (by_rising_time h.starts) w.ready.commits) (sym same) h.sorted
 
-  -- what stays as it was before
-  moved : (s : Side) (j : ObjectId) → reached new.frontier.known s j ≡ reached old.frontier.known s j
-  moved s j = ap (λ c. reached c.frontier.known s j) h.counting ∙ all.ready.moved s j
-
-  same_children : (j : ObjectId) → children_of new.frontier j ≡ children_of old.frontier j
-  same_children j = ap (λ c. children_of c.frontier j) h.counting ∙ all.children j
-
-  same_queue : new.frontier.queue ≡ old.frontier.queue
-  same_queue = ap (λ c. c.frontier.queue) h.counting ∙ all.ready.queue
-
-  same_depth : new.depth ≡ old.depth
-  same_depth = ap (λ c. c.depth) h.counting ∙ all.ready.depth
-
-  stands : new.reader.in_use ≡ true → old.reader.in_use ≡ true
-  stands e = all.ready.stands (sym (ap (λ c. c.reader.in_use) h.counting) ∙ e)
+  kept_children : (j : ObjectId) → children_of new.frontier j ≡ children_of old.frontier j
+  kept_children j = sym (zero-add _) ∙ all.children j
 
   -- the ready commits
   in_starts : (r : Ready) → Contains w.ready.commits r → Contains h.starts r
@@ -132,65 +129,67 @@ module _ {F : Type 0} (objects : F → Objects) (faulty : F → ObjectId → Typ
   start_of : (i : ObjectId) → Contains (ready_ids w.ready.commits) i → Contains (ready_ids h.starts) i
   start_of i m = among_is i (ready_ids h.starts) (ready_among i ∙ among_from i _ m)
 
-  kept : Keeps (IsTipDue old.frontier) (first_places p.tips) (ready_ids h.starts)
-  kept = all.due [] (λ j e. absurd (false≢true e))
+  kept : Keeps (IsDue objects faulty h.first h.mid) (first_places p.tips) (ready_ids h.starts)
+  kept = all.due (λ p. Prim.Native.Nat.zero-le) [] (λ j e. absurd (false≢true e))
 
   distinct : AreDistinct (ready_ids w.ready.commits)
   distinct = times_once (ready_ids w.ready.commits) (λ i.
       let a : times i (ready_ids w.ready.commits) ≡ times i (ready_ids h.starts) = ready_times i in
-      let b : times i (ready_ids h.starts) ≤ times i (first_places p.tips) = keeps_times (IsTipDue old.frontier) kept i in
+      let b : times i (ready_ids h.starts) ≤ times i (first_places p.tips) = keeps_times (IsDue objects faulty h.first h.mid) kept i in
       let c : times i (first_places p.tips) ≤ 1 = first_once p.tips i in
       omega arith)
 
   is_tip : (i : ObjectId) → Contains (ready_ids w.ready.commits) i → Contains p.tips i
-  is_tip i m = (first_from [] p.tips i (keeps_from (IsTipDue old.frontier) kept i (start_of i m)).0).1
+  is_tip i m = (first_from [] p.tips i (keeps_from (IsDue objects faulty h.first h.mid) kept i (start_of i m)).0).1
 
   first_read : AreRead objects faulty (plan_of h.first) h.first.counting
   first_read = subst (λ q. AreRead objects faulty q old) (sym first_plan) begun.all_read
 
   found : (r : Ready) → Contains w.ready.commits r → IsFound objects faulty p true new.reader.in_use r
-  found r m = subst (λ c. IsFound objects faulty p true c.reader.in_use r) (sym h.counting) (found_later objects faulty p (λ e. refl) (λ e. e) (subst (λ q. IsFound objects faulty q old.reader.in_use h.mid.counting.reader.in_use r) first_plan (all.ready.each first_read r (in_starts r m))))
+  found r m = found_later objects faulty p (λ e. refl) (λ e. e) (subst (λ q. IsFound objects faulty q old.reader.in_use new.reader.in_use r) first_plan (all.ready.each first_read r (in_starts r m)))
 
   made_is : (i : ObjectId) → was_ready_of new.frontier i ≡ is_among i (ready_ids h.starts)
-  made_is i = ap (λ c. was_ready_of c.frontier i) h.counting ∙ all.ready.made i ∙ ap (λ b. is_among i (ready_ids h.starts) || b) (begun.unmade i) ∙ or-false (is_among i (ready_ids h.starts))
+  made_is i = all.ready.made i ∙ ap (λ b. is_among i (ready_ids h.starts) || b) (begun.unmade i) ∙ or-false (is_among i (ready_ids h.starts))
 
   made_ready : (i : ObjectId) → was_ready_of new.frontier i ≡ is_among i (ready_ids w.ready.commits)
   made_ready i = made_is i ∙ ready_among i
 
-  untaken : (i : ObjectId) → set.contains (taken_of w) i ≡ false
+  untaken : (i : ObjectId) → set.contains (taken_of v) i ≡ false
   untaken i = contains-taken new.frontier.known w.ready.commits i ∙ ap (λ b. b && not (is_among i (ready_ids w.ready.commits))) (made_ready i) ∙ and-not_self (is_among i (ready_ids w.ready.commits))
 
-  none_taken : taken_of w ≡ set.empty
-  none_taken = set.same_set id_total id_apart (taken_of w) set.empty (λ i. untaken i ∙ sym (set.contains-empty id_cmp i))
+  none_taken : taken_of v ≡ set.empty
+  none_taken = set.same_set id_total id_apart (taken_of v) set.empty (λ i. untaken i ∙ sym (set.contains-empty id_cmp i))
 
   depth_is : new.depth ≡ first_depth p
-  depth_is = same_depth ∙ begun.depth
+  depth_is = all.ready.depth ∙ begun.depth
 
   -- no tip is below the depth
   tip_high : (i : ObjectId) → Contains p.tips i → old.depth ≤ known_generation p.rows i
   tip_high i m = subst (λ d. d ≤ known_generation p.rows i) (sym begun.depth) (least_within p.rows infinity (p.tips ++ p.ends) i (Contains-append_left p.tips p.ends i m))
 
   module _ (agrees : IsAgreeing (objects p.store) p.rows) where
-    counted : IsCounted (objects p.store) p.rows p.parents p.tips p.ends (set.contains (taken_of w)) old.frontier
-    counted = begun.counted (set.contains (taken_of w)) untaken agrees
+    counted : IsCounted (objects p.store) p.rows p.parents p.tips p.ends (set.contains (taken_of v)) old.frontier
+    counted = begun.counted (set.contains (taken_of v)) untaken agrees
 
-    tallied : IsTallied objects w
+    tallied : IsTallied objects v
     tallied = record {
       counted = record {
-        searched = searched_same (objects p.store) p.rows p.parents p.tips p.ends new.frontier.queue old.frontier.known new.frontier.known moved (subst (λ q. IsSearched (objects p.store) p.rows p.parents p.tips p.ends q old.frontier.known) (sym same_queue) counted.searched);
-        tally = tally_same (next_by (objects p.store) p.parents Tips) (λ i. is_done (reached old.frontier.known Tips i)) (λ i. is_done (reached new.frontier.known Tips i)) (set.contains (taken_of w)) (children_of old.frontier) (children_of new.frontier) (λ j. ap is_done (moved Tips j)) same_children counted.tally;
+        searched = searched_same (objects p.store) p.rows p.parents p.tips p.ends new.frontier.queue old.frontier.known new.frontier.known all.ready.moved (subst (λ q. IsSearched (objects p.store) p.rows p.parents p.tips p.ends q old.frontier.known) (sym all.ready.queue) counted.searched);
+        tally = tally_same (next_by (objects p.store) p.parents Tips) (λ i. is_done (reached old.frontier.known Tips i)) (λ i. is_done (reached new.frontier.known Tips i)) (set.contains (taken_of v)) (children_of old.frontier) (children_of new.frontier) (λ j. ap is_done (all.ready.moved Tips j)) kept_children counted.tally;
       };
-      begun = λ side i m. ap is_seen (moved side i) ∙ begun.begun side i m;
-      done = λ r m. let tip : Contains p.tips r.id = all.ready.among r (in_starts r m) in ap is_done (moved Tips r.id) ∙ begun.explored agrees Tips r.id (start tip) (tip_high r.id tip);
+      begun = λ side i m. ap is_seen (all.ready.moved side i) ∙ begun.begun side i m;
+      done = λ r m. let tip : Contains p.tips r.id = all.ready.among r (in_starts r m) in ap is_done (all.ready.moved Tips r.id) ∙ begun.explored agrees Tips r.id (start tip) (tip_high r.id tip);
     }
 
-    due_childless : (i : ObjectId) → Contains p.tips i → IsTipDue old.frontier i → IsChildless (text_walked objects p) Member i
-    due_childless i m d = (first_ready objects faulty p old begun agrees i m d.none_left d.outside).childless
+    due_childless : (i : ObjectId) → Contains p.tips i → IsDue objects faulty h.first h.mid i → IsChildless (text_walked objects p) Member i
+    due_childless i m d = (first_ready objects faulty p old begun agrees i m (sym (kept_children i) ∙ d.none_left) (sym (ap is_seen (all.ready.moved Ends i)) ∙ d.outside)).childless
 
-    childless_due : (i : ObjectId) → IsChildless (text_walked objects p) Member i → IsTipDue old.frontier i
+    childless_due : (i : ObjectId) → IsChildless (text_walked objects p) Member i → IsDue objects faulty h.first h.mid i
     childless_due i q = record {
-      none_left = all_taken (objects p.store) (faulty p.store) p.rows p.parents p.tips p.ends agrees old.frontier old.depth (begun.explored agrees) (λ side. (counted.searched.search side).within) (set.contains (taken_of w)) (children_of old.frontier) counted.tally i q.member (λ c k. absurd (q.alone c k));
-      outside = unseen (objects p.store) (faulty p.store) p.rows p.parents p.tips p.ends agrees old.frontier old.depth (begun.explored agrees) (λ side. (counted.searched.search side).within) (set.contains (taken_of w)) (children_of old.frontier) counted.tally i q.member;
+      none_left = kept_children i ∙ all_taken (objects p.store) (faulty p.store) p.rows p.parents p.tips p.ends agrees old.frontier old.depth (begun.explored agrees) (λ side. (counted.searched.search side).within) (set.contains (taken_of v))
+          (children_of old.frontier) counted.tally i q.member (λ c k. absurd (q.alone c k));
+      outside = ap is_seen (all.ready.moved Ends i) ∙ unseen (objects p.store) (faulty p.store) p.rows p.parents p.tips p.ends agrees old.frontier old.depth (begun.explored agrees) (λ side. (counted.searched.search side).within) (set.contains (taken_of v))
+          (children_of old.frontier) counted.tally i q.member;
       unmade = begun.unmade i;
     }
 
@@ -213,18 +212,17 @@ module _ {F : Type 0} (objects : F → Objects) (faulty : F → ObjectId → Typ
     }
 
     both_counts : HasCounted objects p new × IsCounting objects p (counted_by new)
-    both_counts = subst (λ c. HasCounted objects p c × IsCounting objects p (counted_by c)) (sym h.counting)
-        (counts_made objects faulty p agrees first_plan all.ready (λ i m. record { reached = inl (start m); high = tip_high i m }) (begun.counts agrees) (begun.counting agrees))
+    both_counts = counts_made objects faulty p agrees first_plan all.ready (λ i m. record { reached = inl (start m); high = tip_high i m }) (begun.counts agrees) (begun.counting agrees)
 
     made_childless : (i : ObjectId) → was_ready_of new.frontier i ≡ true → IsChildless (text_walked objects p) Member i
     made_childless i e = (keeps_from (IsChildless (text_walked objects p) Member) kept_childless i (among_is i (ready_ids h.starts) (sym (made_is i) ∙ e))).1
 
-    steady : IsSteady objects w
+    steady : IsSteady objects v
     steady = record { member = λ i e. (made_childless i e).member; children = λ i d e k. absurd ((made_childless i e).alone d k) }
 
   -- a walk that has begun is as a built one is to be
   pub started_on : IsStarted objects faulty (unasked objects faulty) (unasked_of objects faulty w)
-  started_on = record {
+  started_on = subst (λ x. IsStarted objects faulty (unasked objects faulty) (unasked_of objects faulty x)) v_is (record {
     untaken = none_taken;
     distinct = distinct;
     tips = is_tip;
@@ -234,22 +232,22 @@ module _ {F : Type 0} (objects : F → Objects) (faulty : F → ObjectId → Typ
     counting = λ agrees. (both_counts agrees).1;
     read = begun.read;
     found = found;
-  }
+  })
 
   -- and may go on
   pub begun_held : IsHeld objects faulty w
-  begun_held = record {
+  begun_held = subst (IsHeld objects faulty) v_is (record {
     made = λ i m. made_ready i ∙ among_from i (ready_ids w.ready.commits) m;
     distinct = distinct;
     found = found;
     tallied = tallied;
     steady = steady;
     counts = λ agrees. (both_counts agrees).0;
-    all_read = all_still objects faulty p old new moved stands begun.all_read;
-    dropped = subst (λ c. AreDroppedFor objects p c.reader.in_use) (sym h.counting) (made_dropped objects faulty p first_plan (λ j m a. inl (start m)) all.ready begun.dropped);
-    idle = λ e. same_queue ∙ begun.idle e;
+    all_read = all_still objects faulty p old new all.ready.moved all.ready.stands begun.all_read;
+    dropped = made_dropped objects faulty p first_plan (λ j m a. inl (start m)) all.ready begun.dropped;
+    idle = λ e. all.ready.queue ∙ begun.idle e;
     read = begun.read;
-  }
+  })
 
 -- a walk starts as it does, whatever predicate it has
 pub started_as : {F P : Type 0} (objects : F → Objects) (faulty : F → ObjectId → Type 0) (answers : P → ObjectId → Bool → P → Type 0) (w : Walk F) (p : P) → IsStarted objects faulty (unasked objects faulty) (unasked_of objects faulty w) → IsStarted objects faulty answers (walk_of w p)

@@ -25,7 +25,7 @@ use Rattle.std.proofs.lemmas.Bool.{or_parts}
 use Rattle.gix_revwalk.specs.Commits.{by_mode}
 use Rattle.gix_hash.specs.Reach.{Reaches, step}
 use Rattle.gix_topo.specs.Reading.{IsReadFault}
-use Rattle.gix_topo.specs.Inside.Releasing.{plan_of, taken_of, IsPushFault, itself as pushed, parent, with_frontier, IsReleaseFault, uncounted, unread, no_memory, none, more, IsFaultAmong, here, later, lowered, IsTakingFault, exploring, releasing, short}
+use Rattle.gix_topo.specs.Inside.Releasing.{plan_of, taken_of, IsPushFault, itself as pushed, parent, with_frontier, with_counting, ReleasesAll, IsReleaseFault, uncounted, unread, no_memory, none, more, IsFaultAmong, here, later, lowered, IsTakingFault, exploring, releasing, short}
 use Rattle.gix_topo.specs.Inside.Searched.{text_next, next_by}
 use Rattle.gix_revwalk.specs.Ids.{times}
 use Rattle.gix_topo.specs.TopoOrder.{last_places}
@@ -38,12 +38,12 @@ use Rattle.gix_topo.proofs.Taking.AllReleases.{IsReleased, uncounted_made, uncou
 use Rattle.gix_topo.proofs.Counts.Children.{children_of, was_ready_of, tally_counts}
 use Rattle.gix_topo.proofs.Reading.ReadsCommit.{reads_text_next}
 use Rattle.gix_revwalk.proofs.Rows.{none_agree}
-use Rattle.gix_topo.proofs.Taking.Setting.{was_ready, plan_taken, was_untaken, named_text, parents_reached, counted_on, due_ready}
-use Rattle.gix_revwalk.proofs.NewIds.{among_times}
+use Rattle.gix_topo.proofs.Taking.InvariantKept.{was_ready, plan_taken, was_untaken, named_text, parents_reached, counted_on, due_ready}
+use Rattle.gix_revwalk.proofs.NewIds.{times-append, among_times}
 use Rattle.gix_topo.proofs.Counts.RowsDropped.{made_dropped, explores_dropped}
 use Rattle.gix_topo.proofs.Counts.ReadFaults.{fault_item, exploring_fault, push_fault}
 use Rattle.gix_topo.proofs.Counts.MakesReady.{due_parts}
-use Rattle.gix_hash.proofs.Lists.{only_member}
+use Rattle.std.proofs.lemmas.List.Elements.{Contains-append_left, Contains-append_right}
 
 same_object : (a b : Object) → Some a ≡ Some b → a ≡ b
 same_object a b e = cc
@@ -115,60 +115,57 @@ module _ {F : Type 0} (objects : F → Objects) (faulty : F → ObjectId → Typ
       (λ a. ready a (record { one = k ∙ ap (λ m. m + 1) parts.0; outside = sym (ap is_seen (uncounted_moved objects faulty old.counting.frontier f i n k u Ends i)) ∙ parts.1; unmade = sym (uncounted_made objects faulty old.counting.frontier f i n k u i) ∙ parts.2 })) dropped p
   release_fails Q up dropped ready c no_memory = (tt, tt)
 
-  -- some of the parents were released, and these are left
-  record IsPartway (base : Frontier) (all ids : List ObjectId) (f : Frontier) : Type 0 where
-    children : (p : ObjectId) → times p all + children_of f p ≡ children_of base p + times p ids
-    seen : (p : ObjectId) → has_seen f Ends p ≡ has_seen base Ends p
-    made : (p : ObjectId) → was_ready_of f p ≡ false → was_ready_of base p ≡ false
-    among : (p : ObjectId) → Contains ids p → Contains all p
+  -- the parents released before the one that fails
+  record IsFailing (old : Walk F) (ids : List ObjectId) (e : Error) : Type 0 where
+    before : List ObjectId
+    id : ObjectId
+    behind : List ObjectId
+    added : List Ready
+    mid : Walk F
+    releases : ReleasesAll objects faulty old before added mid
+    fault : IsReleaseFault objects faulty mid id e
+    all : ids ≡ before ++ id ∷ behind
 
-  partway_none : (f : Frontier) (all : List ObjectId) → IsPartway f all all f
-  partway_none f all = record { children = λ p. turned p; seen = λ p. refl; made = λ p e. e; among = λ p m. m }
+  failing : {old : Walk F} {ids : List ObjectId} {e : Error} → IsFaultAmong objects faulty old ids e → IsFailing old ids e
+  failing {old} (here {i = i} {ids = ids} f) = record { before = []; id = i; behind = ids; added = []; mid = old; releases = none; fault = f; all = refl }
+  failing (later {i = i} {first = first} r f) =
+      let k = failing f in
+      record { before = i ∷ k.before; id = k.id; behind = k.behind; added = first ++ k.added; mid = k.mid; releases = more r k.releases; fault = k.fault; all = ap (λ xs. i ∷ xs) k.all }
+
+  -- each of these is reached, and has a child left
+  among_fails : (plan : TopoPlan F) (Q : ObjectId → Type 0) (old : Walk F) (all : List ObjectId) → ((p : ObjectId) → times p all ≤ 1) → ((i : ObjectId) → Contains all i → IsUpcoming plan i) → (Agree plan → (i : ObjectId) → Contains all i → IsLastChild old.counting.frontier i → Q i) →
+      plan_of old ≡ plan → AreDroppedFor objects plan old.counting.reader.in_use → (Agree plan → (p : ObjectId) → times p all ≤ children_of old.counting.frontier p) → {e : Error} → IsFaultAmong objects faulty old all e → Fails plan Q e
+  among_fails plan Q old all once up ready same dropped c {e} f =
+      subst (λ p. Fails p Q e) plan_mid (release_fails Q (subst (λ p. IsUpcoming p k.id) (sym plan_mid) (up k.id there)) (subst (λ p. AreDroppedFor objects p k.mid.counting.reader.in_use) (sym plan_mid) dropped_mid)
+      (λ a l. ready (on a) k.id there (first l)) (λ a. let l : times k.id all ≤ children_of old.counting.frontier k.id = c (on a) k.id in let n = counts in let r = rel.children k.id in omega arith) k.fault)
     where
-      turned : (p : ObjectId) → times p all + children_of f p ≡ children_of f p + times p all
-      turned p = omega arith
+      k : IsFailing old all e
+      k = failing f
 
-  -- each of these is reached, and has a child left for each place
-  among_fails : (plan : TopoPlan F) (Q : ObjectId → Type 0) (base : Frontier) (all : List ObjectId) → ((p : ObjectId) → times p all ≤ 1) → ((i : ObjectId) → Contains all i → IsUpcoming plan i) → (Agree plan → (i : ObjectId) → Contains all i → IsLastChild base i → Q i) → {old : Walk F} {ids : List ObjectId} {e : Error} → plan_of old ≡ plan → AreDroppedFor objects plan old.counting.reader.in_use → IsPartway base all ids old.counting.frontier → (Agree plan → (p : ObjectId) → times p ids ≤ children_of old.counting.frontier p) → IsFaultAmong objects faulty old ids e → Fails plan Q e
-  among_fails plan Q base all once up ready {old} {e = e} same dropped part c (here {i = i} {ids = ids} f) =
-      subst (λ p. Fails p Q e) same (release_fails Q (subst (λ p. IsUpcoming p i) (sym same) (up i there)) (subst (λ p. AreDroppedFor objects p old.counting.reader.in_use) (sym same) dropped) (λ a l. ready (on a) i there (first a l)) (λ a. counted (c (on a) i)) f)
-    where
-      there : Contains all i
-      there = part.among i (Contains-here i ids)
+      rel : IsReleased objects faulty old k.before k.added k.mid
+      rel = released objects faulty k.releases
 
-      on : Agree (plan_of old) → Agree plan
-      on a = subst (λ p. IsAgreeing (objects p.store) p.rows) same a
+      plan_mid : plan_of k.mid ≡ plan
+      plan_mid = rel.ready.plan ∙ same
 
-      here_once : 1 ≤ times i (i ∷ ids)
-      here_once = let o : ◌≡◌ {A = ℕ} (cond (is_same i i) 1 0) 1 = ap (λ b. cond b 1 0) (same_itself i) in omega arith
+      on : Agree (plan_of k.mid) → Agree plan
+      on a = subst (λ p. IsAgreeing (objects p.store) p.rows) plan_mid a
 
-      counted : times i (i ∷ ids) ≤ children_of old.counting.frontier i → 1 ≤ children_of old.counting.frontier i
-      counted l = let o : 1 ≤ times i (i ∷ ids) = here_once in omega arith
+      there : Contains all k.id
+      there = subst (λ ids. Contains ids k.id) (sym k.all) (Contains-append_right k.before (k.id ∷ k.behind) k.id (Contains-here k.id k.behind))
 
-      first : Agree (plan_of old) → IsLastChild old.counting.frontier i → IsLastChild base i
-      first a l = record {
-        one =
-            let o : 1 ≤ times i (i ∷ ids) = here_once in
-            let k : times i (i ∷ ids) ≤ children_of old.counting.frontier i = c (on a) i in
-            let n : children_of old.counting.frontier i ≡ 1 = l.one in
-            let s : times i all + children_of old.counting.frontier i ≡ children_of base i + times i (i ∷ ids) = part.children i in
-            let m : 1 ≤ times i all = among_times i all (among_from i all there) in
-            let t : times i all ≤ 1 = once i in
-            omega arith;
-        outside = sym (part.seen i) ∙ l.outside;
-        unmade = part.made i l.unmade;
+      dropped_mid : AreDroppedFor objects plan k.mid.counting.reader.in_use
+      dropped_mid = made_dropped objects faulty plan same (λ j m a. inl ((up j (subst (λ ids. Contains ids j) (sym k.all) (Contains-append_left k.before (k.id ∷ k.behind) j m))).reach a)) rel.ready dropped
+
+      counts : times k.id all ≡ times k.id k.before + (1 + times k.id k.behind)
+      counts = ap (times k.id) k.all ∙ times-append k.id k.before (k.id ∷ k.behind) ∙ ap (λ b. times k.id k.before + (cond b 1 0 + times k.id k.behind)) (same_itself k.id)
+
+      first : IsLastChild k.mid.counting.frontier k.id → IsLastChild old.counting.frontier k.id
+      first l = record {
+        one = let o : times k.id all ≤ 1 = once k.id in let n = counts in let r = rel.children k.id in let m : children_of k.mid.counting.frontier k.id ≡ 1 = l.one in omega arith;
+        outside = sym (ap is_seen (rel.ready.moved Ends k.id)) ∙ l.outside;
+        unmade = (or_parts (is_among k.id (ready_ids k.added)) (was_ready_of old.counting.frontier k.id) (sym (rel.ready.made k.id) ∙ l.unmade)).1;
       }
-  among_fails plan Q base all once up ready {old} same dropped part c (later {mid = mid} {i = i} {ids = ids} {first = first} r f) =
-      let rel : IsReleased objects faulty old (i ∷ []) (first ++ []) mid = released objects faulty (more r none) in
-      among_fails plan Q base all once up ready {old = mid} (rel.ready.plan ∙ same)
-      (made_dropped objects faulty plan same (λ j m a. subst (IsReached objects plan) (only_member i j m) (inl ((up i (part.among i (Contains-here i ids))).reach a))) rel.ready dropped)
-      (record {
-        children = λ p. let s : times p all + children_of old.counting.frontier p ≡ children_of base p + times p (i ∷ ids) = part.children p in let k : (cond (is_same p i) 1 0 + 0) + children_of mid.counting.frontier p ≡ children_of old.counting.frontier p = rel.children p in omega arith;
-        seen = λ p. ap is_seen (rel.ready.moved Ends p) ∙ part.seen p;
-        made = λ p e. part.made p (or_parts (is_among p (ready_ids (first ++ []))) (was_ready_of old.counting.frontier p) (sym (rel.ready.made p) ∙ e)).1;
-        among = λ p m. part.among p (Contains-there p i ids m);
-      })
-      (λ a p. let l : times p (i ∷ ids) ≤ children_of old.counting.frontier p = c a p in let k : (cond (is_same p i) 1 0 + 0) + children_of mid.counting.frontier p ≡ children_of old.counting.frontier p = rel.children p in omega arith) f
 
   module _ (w : Walk F) (held : IsHeld objects faulty w) (rest : ReadySet) (same : rest.sorting ≡ w.ready.sorting) (r : Ready) (chosen : Chooses w.ready.sorting w.ready.commits r rest.commits) where
     abbrev Agrees : Type 0
@@ -230,7 +227,7 @@ module _ {F : Type 0} (objects : F → Objects) (faulty : F → ObjectId → Typ
       late (plan_of w) (IsNextReady objects (plan_of w) (taken_of w) r.id) f.fault.entry.1.id e (λ n. absurd (no_member f.fault.entry (subst (λ queue. Contains queue f.fault.entry) (explores_idle objects faulty f.explored (held.idle n)) f.fault.queued))) (subst (λ x. IsReadFault (objects x) (faulty x) f.fault.entry.1.id e) (explores_same objects faulty f.explored).find f.fault.fault.0),
     )
     taking_fault e (releasing {explored = explored} x rests f) =
-        among_fails (plan_of w) (IsNextReady objects (plan_of w) (taken_of w) r.id) explored.frontier (last_places named) (last_once named) upcoming (next_ready explored x rests) (plan_taken objects faulty w rest r chosen same explored (explores_same objects faulty x))
-        (explores_dropped objects faulty w.ready.sorting w.tips.items w.ends.items (set.contains (taken_of w)) low (λ a. (held.tallied a).counted) x held.dropped)
-        (partway_none explored.frontier (last_places named)) (children_left explored x) f
+        among_fails (plan_of w) (IsNextReady objects (plan_of w) (taken_of w) r.id) (with_counting objects faulty (record w { ready = rest }) explored) (last_places named) (last_once named) upcoming (next_ready explored x rests)
+            (plan_taken objects faulty w rest r chosen same explored (explores_same objects faulty x))
+        (explores_dropped objects faulty w.ready.sorting w.tips.items w.ends.items (set.contains (taken_of w)) low (λ a. (held.tallied a).counted) x held.dropped) (children_left explored x) f
     taking_fault e (short q) = subst (Fails (plan_of w) (IsNextReady objects (plan_of w) (taken_of w) r.id)) (sym q) (tt, tt)
