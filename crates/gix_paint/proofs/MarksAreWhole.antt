@@ -121,35 +121,30 @@ module _ {F : Type 0} (objects : F → Objects) (store : F) (history : Objects) 
           row_for (painter.by_row {row = row} e k s n) t = (row, e)
           row_for (painter.by_store e k s m d) t = let bad : true ≡ false = sym t ∙ ap is_told k in cc
 
+      -- a met id was read, or is hidden
+      known_so : (i : ObjectId) → state_of p i ≢ Unmet → ((state_of p i ≡ Read) × Fact objects store history rows tips hidden_tips nobody p i Read) ⊎ ((state_of p i ≡ Hides) × Fact objects store history rows tips hidden_tips nobody p i Hides)
+      known_so i met = go (state_of p i) refl (h.facts i)
+        where
+          go : (s : State) → state_of p i ≡ s → Fact objects store history rows tips hidden_tips nobody p i s → ((state_of p i ≡ Read) × Fact objects store history rows tips hidden_tips nobody p i Read) ⊎ ((state_of p i ≡ Hides) × Fact objects store history rows tips hidden_tips nobody p i Hides)
+          go Unmet e f = absurd (met e)
+          go Open e f = absurd (none_open h i e)
+          go Read e f = inl (e, f)
+          go Hides e f = inr (e, f)
+
       -- a met id that hidden tips reach is hidden
       all_hidden : (i : ObjectId) → state_of p i ≢ Unmet → Reaches There hidden_tips i → state_of p i ≡ Hides
-      all_hidden i met hidden = go (state_of p i) refl
-        where
-          read_so : state_of p i ≡ Read → ⊥
-          read_so e =
-              let f : Fact objects store history rows tips hidden_tips nobody p i Read = subst (Fact objects store history rows tips hidden_tips nobody p i) e (h.facts i) in
-              ⊎_elim (λ d. let bad : Read ≡ Hides = sym e ∙ d.0 in cc)
-              (λ q. ⊎_elim (λ none. no_member q.1.0 (subst (λ qs. Contains qs q.1.0) none q.1.1)) (λ s. let row : (row : GraphRow) × (row_of rows i ≡ Some row) = rowed s.0 s.2 q.0 i q.1 q.2 in f.2 (in_use s.0) row.0 row.1 hidden) settled)
-              (hidden_from objects store history rows tips hidden_tips p h started i hidden)
-
-          go : (s : State) → state_of p i ≡ s → state_of p i ≡ Hides
-          go Unmet e = absurd (met e)
-          go Open e = absurd (none_open h i e)
-          go Read e = absurd (read_so e)
-          go Hides e = e
+      all_hidden i met hidden = ⊎_elim
+          (λ f. ⊎_elim (λ d. d.0)
+          (λ q. ⊎_elim (λ none. absurd (no_member q.1.0 (subst (λ qs. Contains qs q.1.0) none q.1.1))) (λ s. let row : (row : GraphRow) × (row_of rows i ≡ Some row) = rowed s.0 s.2 q.0 i q.1 q.2 in absurd (f.1.2 (in_use s.0) row.0 row.1 hidden)) settled)
+          (hidden_from objects store history rows tips hidden_tips p h started i hidden))
+          (λ f. f.0) (known_so i met)
 
       -- what tips reach outside what is hidden is met, and so are its parents
       all_met : (c : ObjectId) → Reaches There tips c → (Reaches There hidden_tips c → ⊥) → (state_of p c ≢ Unmet) × ((i : ObjectId) → Contains (There c) i → state_of p i ≢ Unmet)
       all_met c r out = (met c r out, λ i m. onward c (met c r out) out i m)
         where
           onward : (c : ObjectId) → state_of p c ≢ Unmet → (Reaches There hidden_tips c → ⊥) → (i : ObjectId) → Contains (There c) i → state_of p i ≢ Unmet
-          onward c met out i m = go (state_of p c) refl
-            where
-              go : (s : State) → state_of p c ≡ s → state_of p i ≢ Unmet
-              go Unmet e = absurd (met e)
-              go Open e = absurd (none_open h c e)
-              go Read e = let f : Fact objects store history rows tips hidden_tips nobody p c Read = subst (Fact objects store history rows tips hidden_tips nobody p c) e (h.facts c) in ⊎_elim (λ b. absurd b) (λ all. all i m) f.1
-              go Hides e = let f : Fact objects store history rows tips hidden_tips nobody p c Hides = subst (Fact objects store history rows tips hidden_tips nobody p c) e (h.facts c) in absurd (out f.0)
+          onward c met out i m = ⊎_elim (λ f. ⊎_elim (λ b. absurd b) (λ all. all i m) f.1.1) (λ f. absurd (out f.1.0)) (known_so c met)
 
           met : (c : ObjectId) → Reaches There tips c → (Reaches There hidden_tips c → ⊥) → state_of p c ≢ Unmet
           met c (start m) out = started.shown c m
@@ -181,7 +176,8 @@ module _ {F : Type 0} (objects : F → Objects) (store : F) (history : Objects) 
       -- nothing without a row waits, and all of it is met
       pub all_read : (i : ObjectId) → Reaches There (tips ++ hidden_tips) i → row_of rows i ≡ None → state_of p i ≢ Unmet
       all_read i (start m) e = ⊎_elim (λ t. started.shown i t) (λ t. subst (λ s. s ≢ Unmet) (sym (started.hidden i t)) (λ k. cc)) (Contains-append_cases tips hidden_tips i m)
-      all_read i (step {c = c} r m) e = go (state_of p c) refl (all_read c r unrowed)
+      all_read i (step {c = c} r m) e = ⊎_elim (λ f. ⊎_elim (λ b. absurd b) (λ all. all i m) f.1.1)
+          (λ f. ⊎_elim (λ b. absurd b) (λ o. ⊎_elim (λ w. absurd (none_waits w)) (λ all. subst (λ s. s ≢ Unmet) (sym (all i m)) (λ k. cc)) o) f.1.1) (known_so c (all_read c r unrowed))
         where
           unrowed : row_of rows c ≡ None
           unrowed = named_by_none c i m e
@@ -190,14 +186,6 @@ module _ {F : Type 0} (objects : F → Objects) (store : F) (history : Objects) 
           none_waits w =
               ⊎_elim (λ none. no_member w.0 (subst (λ qs. Contains qs w.0) none w.1))
               (λ s. let k : (row : GraphRow) × (row_of rows c ≡ Some row) = rowed s.0 s.2 c c w (start (Contains-here c [])) in let bad : None ≡ Some k.0 = sym unrowed ∙ k.1 in cc) settled
-
-          go : (s : State) → state_of p c ≡ s → state_of p c ≢ Unmet → state_of p i ≢ Unmet
-          go Unmet f met = absurd (met f)
-          go Open f met = absurd (none_open h c f)
-          go Read f met = let k : Fact objects store history rows tips hidden_tips nobody p c Read = subst (Fact objects store history rows tips hidden_tips nobody p c) f (h.facts c) in ⊎_elim (λ b. absurd b) (λ all. all i m) k.1
-          go Hides f met =
-              let k : Fact objects store history rows tips hidden_tips nobody p c Hides = subst (Fact objects store history rows tips hidden_tips nobody p c) f (h.facts c) in
-              ⊎_elim (λ b. absurd b) (λ o. ⊎_elim (λ w. absurd (none_waits w)) (λ all. subst (λ s. s ≢ Unmet) (sym (all i m)) (λ k. cc)) o) k.1
 
       -- rows that are left had no corrupt one among those that had to be read
       module _ (ordered : IsOrdered objects store history rows tips hidden_tips p) (stands : RowsInUse objects store rows p) where
@@ -220,22 +208,11 @@ module _ {F : Type 0} (objects : F → Objects) (store : F) (history : Objects) 
                 ⊎_elim (λ s. let t : k.0 ≡ row.generation = one_generation objects store history rows tips hidden_tips i k.0 row.generation (subst (λ j. HasGeneration objects store history rows tips hidden_tips j k.0) s g) (row, e, refl) in absurd (omega arith)) (λ less. absurd (omega arith)) under.2
 
         not_open : (i : ObjectId) (row : GraphRow) → row_of rows i ≡ Some row → (q : ObjectId) → IsWaiting p side.Hidden q → Reaches There (q ∷ []) i → (bound : ObjectId) → IsOpenBelow There rows tips hidden_tips row.generation bound → ⊥
-        not_open i row e q w path bound opened = go (state_of p bound) refl
-          where
-            go : (s : State) → state_of p bound ≡ s → ⊥
-            go Unmet f = at_met bound opened.at_boundary f
-            go Open f = none_open h bound f
-            go Read f = not_above i row e q w path bound opened.below (ordered.shown bound f).0
-            go Hides f = ⊎_elim opened.no_tip (λ c. not_above i row e q w path c.0 (opened.children_below c.0 c.1 c.2) c.3) (ordered.hidden bound f)
+        not_open i row e q w path bound opened = ⊎_elim (λ f. not_above i row e q w path bound opened.below (ordered.shown bound f.0).0)
+            (λ f. ⊎_elim opened.no_tip (λ c. not_above i row e q w path c.0 (opened.children_below c.0 c.1 c.2) c.3) (ordered.hidden bound f.0)) (known_so bound (at_met bound opened.at_boundary))
 
         keeps : (i : ObjectId) (row : GraphRow) → row_of rows i ≡ Some row → IsRead There rows tips hidden_tips i row.generation → IsCorrupt row → ⊥
-        keeps i row e (shown_commit reached out) corrupt = go (state_of p i) refl
-          where
-            go : (s : State) → state_of p i ≡ s → ⊥
-            go Unmet f = (all_met i reached out).0 f
-            go Open f = none_open h i f
-            go Read f = (ordered.shown i f).1 stands row e corrupt
-            go Hides f = let k : Fact objects store history rows tips hidden_tips nobody p i Hides = subst (Fact objects store history rows tips hidden_tips nobody p i) f (h.facts i) in out k.0
+        keeps i row e (shown_commit reached out) corrupt = ⊎_elim (λ f. (ordered.shown i f.0).1 stands row e corrupt) (λ f. out f.1.0) (known_so i (all_met i reached out).0)
         keeps i row e (hidden_commit {bound = bound} reached opened) corrupt =
             ⊎_elim (λ d. ⊎_elim (λ w. not_open i row e i w (start (Contains-here i [])) bound opened) (λ sound. sound stands row e corrupt) (ordered.sound i d.0)) (λ q. not_open i row e q.0 q.1 q.2 bound opened)
             (hidden_from objects store history rows tips hidden_tips p h started i reached)

@@ -37,6 +37,11 @@ given_graph (looked_up n (by_row e f)) = inl refl
 given_graph (looked_up n (by_store e r)) = inl refl
 given_graph (looked_up n (drops {row = row} e f r)) = inr (refl, row, e, f)
 
+-- where an id has a row, there are rows
+pub graph_of_row : (graph : Option (Bor (List GraphRow))) (i : ObjectId) (row : GraphRow) → row_of (rows_in graph) i ≡ Some row → IsSome graph
+graph_of_row None i row e = cc
+graph_of_row (Some graph) i row e = refl
+
 module _ {F : Type 0} (objects : F → Objects) (store : F) (history : Objects) (rows : List GraphRow) (tips hidden_tips : List ObjectId) where
   abbrev There : ObjectId → List ObjectId
   There = next objects store history rows tips hidden_tips
@@ -114,10 +119,10 @@ module _ {F : Type 0} (objects : F → Objects) (store : F) (history : Objects) 
       read = λ q c. safe.read q (within q c);
     }
 
-    pub stands_takes : Stands objects store history rows tips hidden_tips nobody w → (InUse mid → InUse w) → ((InUse mid → ⊥) → DropsBy There rows tips hidden_tips)
+    pub stands_takes : {busy : Side → ObjectId → Type 0} → ((s : Side) (i : ObjectId) → Busy s i → busy s i) → Stands objects store history rows tips hidden_tips nobody w → (InUse mid → InUse w) → ((InUse mid → ⊥) → DropsBy There rows tips hidden_tips)
         → (InUse w → state_of w top.1.id ≢ Hides → IsOutside objects store history rows tips hidden_tips top.1.id)
-        → Stands objects store history rows tips hidden_tips Busy mid
-    stands_takes h back dropped outside = record {
+        → Stands objects store history rows tips hidden_tips busy mid
+    stands_takes {busy} is_busy h back dropped outside = record {
       facts = λ i. fact i (turned h i) (state_of w i) refl (h.facts i);
       tidy = λ i c. tidied i c (turned h i);
       reached = λ q c. h.reached q (within q c);
@@ -138,33 +143,23 @@ module _ {F : Type 0} (objects : F → Objects) (store : F) (history : Objects) 
             kept side.Visible on = (and_parts (not (is_same i top.1.id)) (set.contains w.frontier i) (sym (waits_now on i) ∙ c)).1
         tidied i c (inr t) = let bad : true ≡ false = sym c ∙ ap (set.contains mid.frontier) t.2 ∙ gone t.1 in cc
 
-        fact : (i : ObjectId) → IsTurned turn top.1.side (i ≡ top.1.id) (state_of w i) (state_of mid i) → (s : State) → state_of w i ≡ s → Known nobody w i (state_of w i) → Known Busy mid i (state_of mid i)
-        fact i (inl e) Unmet f k = subst (Known Busy mid i) (sym (e ∙ f)) tt
+        fact : (i : ObjectId) → IsTurned turn top.1.side (i ≡ top.1.id) (state_of w i) (state_of mid i) → (s : State) → state_of w i ≡ s → Known nobody w i (state_of w i) → Known busy mid i (state_of mid i)
+        fact i (inl e) Unmet f k = subst (Known busy mid i) (sym (e ∙ f)) tt
         fact i (inl e) Open f k =
             let o : Known nobody w i Open = subst (Known nobody w i) f k in
-            subst (Known Busy mid i) (sym (e ∙ f))
+            subst (Known busy mid i) (sym (e ∙ f))
             (o.0, ⊎_elim (λ q. q) (λ t. absurd (shut_now (sym t.0) (ap (state_of mid) (sym t.1) ∙ e ∙ f))) (waits_still side.Visible i o.1), λ r. o.2 (back r))
         fact i (inl e) Read f k =
             let o : Known nobody w i Read = subst (Known nobody w i) f k in
-            subst (Known Busy mid i) (sym (e ∙ f)) (o.0, ⊎_elim (λ b. absurd b) (λ all. inr (λ c n. met_still h c (all c n))) o.1, λ r. o.2 (back r))
+            subst (Known busy mid i) (sym (e ∙ f)) (o.0, ⊎_elim (λ b. absurd b) (λ all. inr (λ c n. met_still h c (all c n))) o.1, λ r. o.2 (back r))
         fact i (inl e) Hides f k =
             let o : Known nobody w i Hides = subst (Known nobody w i) f k in
-            subst (Known Busy mid i) (sym (e ∙ f))
-            (o.0, ⊎_elim (λ b. absurd b) (λ r. ⊎_elim (λ q. ⊎_elim (λ stays. inr (inl stays)) (λ t. inl (ap (λ s. is_turn_on s w.frontier top.1.id) (sym t.0), t.0, t.1)) (waits_still side.Hidden i q)) (λ all. inr (inr (λ c n. hidden_still h c (all c n)))) r) o.1)
+            subst (Known busy mid i) (sym (e ∙ f))
+            (o.0, ⊎_elim (λ b. absurd b) (λ r. ⊎_elim (λ q. ⊎_elim (λ stays. inr (inl stays)) (λ t. inl (is_busy side.Hidden i (ap (λ s. is_turn_on s w.frontier top.1.id) (sym t.0), t.0, t.1))) (waits_still side.Hidden i q)) (λ all. inr (inr (λ c n. hidden_still h c (all c n)))) r) o.1)
         fact i (inr t) s f k =
             let o : Known nobody w i Open = subst (Known nobody w i) t.3 k in
-            subst (Known Busy mid i) (sym t.4)
-            (o.0, inl (t.0, sym t.1, t.2), λ r. subst (IsOutside objects store history rows tips hidden_tips) (sym t.2) (outside (back r) (λ hides. let bad : Open ≡ Hides = sym t.3 ∙ ap (state_of w) t.2 ∙ hides in cc)))
-
-  -- nobody is busy where nothing is done
-  idle : {busy : Side → ObjectId → Type 0} {p : Painter F} → ((s : Side) (i : ObjectId) → busy s i → ⊥) → Stands objects store history rows tips hidden_tips busy p → Stands objects store history rows tips hidden_tips nobody p
-  idle {busy} {p} none h = record { facts = λ i. fact i (state_of p i) (h.facts i); tidy = h.tidy; reached = h.reached; waits = h.waits; dropped = h.dropped; read = h.read }
-    where
-      fact : (i : ObjectId) (s : State) → Known busy p i s → Known nobody p i s
-      fact i Unmet k = tt
-      fact i Open k = k
-      fact i Read k = (k.0, ⊎_elim (λ b. absurd (none side.Visible i b)) (λ o. inr o) k.1, k.2)
-      fact i Hides k = (k.0, ⊎_elim (λ b. absurd (none side.Hidden i b)) (λ o. inr o) k.1)
+            subst (Known busy mid i) (sym t.4)
+            (o.0, inl (is_busy side.Visible i (t.0, sym t.1, t.2)), λ r. subst (IsOutside objects store history rows tips hidden_tips) (sym t.2) (outside (back r) (λ hides. let bad : Open ≡ Hides = sym t.3 ∙ ap (state_of w) t.2 ∙ hides in cc)))
 
   module _ {w v : Painter F} (top : Key × Entry) (pops : Pops cmp-value.it w top v) (safe : IsSafe objects store rows w) where
     -- rows are in use after the reading only if they were in use before
@@ -199,10 +194,6 @@ module _ {F : Type 0} (objects : F → Objects) (store : F) (history : Objects) 
           graph_same : graph_in_use v.source ≡ graph_in_use w.source
           graph_same = ap graph_in_use pops.source
 
-          some : (o : Option (Bor (List GraphRow))) (row : GraphRow) → row_of (rows_in o) top.1.id ≡ Some row → IsSome o
-          some None row e = cc
-          some (Some graph) row e = refl
-
           stood : (row : GraphRow) → row_of (rows_in (graph_in_use w.source)) top.1.id ≡ Some row → InUse w
           stood row e = ⊎_elim (λ r. r) (λ n. let none : None ≡ Some row = sym (ap (λ g. row_of (rows_in g) top.1.id) n) ∙ e in cc) safe.either
 
@@ -211,7 +202,7 @@ module _ {F : Type 0} (objects : F → Objects) (store : F) (history : Objects) 
           go (inr d) =
               let e : row_of (rows_in (graph_in_use w.source)) top.1.id ≡ Some d.1 = ap (λ g. row_of (rows_in g) top.1.id) (sym graph_same) ∙ d.2 in
               let r : InUse w = stood d.1 e in
-              drop_reason objects store history rows tips hidden_tips known w safe h started r (some (graph_in_use w.source) d.1 e) top (popped_there pops) pops.greatest unsettled d.1 (ap (λ rs. row_of rs top.1.id) (sym r) ∙ e)
+              drop_reason objects store history rows tips hidden_tips known w safe h started r (graph_of_row (graph_in_use w.source) top.1.id d.1 e) top (popped_there pops) pops.greatest unsettled d.1 (ap (λ rs. row_of rs top.1.id) (sym r) ∙ e)
               (ap (λ rs. ids_at rs d.1.parents) (sym (ap rows_in graph_same ∙ r)) ∙ d.3)
 
       -- a turn keeps what holds
@@ -219,15 +210,14 @@ module _ {F : Type 0} (objects : F → Objects) (store : F) (history : Objects) 
           → Stands objects store history rows tips hidden_tips nobody new × IsStarted objects store history rows tips hidden_tips new
       stands_turn {new} h started unsettled (skips turn takes graph) =
           let same : graph_in_use new.source ≡ graph_in_use w.source = graph ∙ ap graph_in_use pops.source in (
-            idle (λ s i b. let bad : true ≡ false = sym b.0 ∙ ap (λ f. is_turn top.1 f) (sym pops.frontier) ∙ turn in cc)
-                (stands_takes top pops takes h (λ r. ap rows_in (sym same) ∙ r) (λ n. h.dropped (λ r. n (ap rows_in same ∙ r)))
-                (λ r u. taken_outside objects store history rows tips hidden_tips known w safe h started r top (popped_there pops) pops.greatest u)),
+            stands_takes top pops takes (λ s i b. let bad : true ≡ false = sym b.0 ∙ ap (λ f. is_turn top.1 f) (sym pops.frontier) ∙ turn in cc) h (λ r. ap rows_in (sym same) ∙ r) (λ n. h.dropped (λ r. n (ap rows_in same ∙ r)))
+                (λ r u. taken_outside objects store history rows tips hidden_tips known w safe h started r top (popped_there pops) pops.greatest u),
             started_takes top pops takes h started,
           )
       stands_turn {new} h started unsettled (reads {mid = mid} {ids = ids} turn takes gives met) =
           let after = graph_after gives in
           let outside = λ (r : InUse w) (u : state_of w top.1.id ≢ Hides). taken_outside objects store history rows tips hidden_tips known w safe h started r top (popped_there pops) pops.greatest u in
-          let busy = stands_takes top pops takes h after.1 (dropped_so h started unsettled gives) outside in
+          let busy = stands_takes top pops takes {busy = Busy top pops takes} (λ s i b. b) h after.1 (dropped_so h started unsettled gives) outside in
           let parents : ids ≡ There top.1.id = given_parents gives in (
             stands_meets objects store history rows tips hidden_tips met (Busy top pops takes) (safe_takes top pops takes safe after.0 after.1) busy
                 (λ i c. step (h.reached top (popped_there pops)) (subst (λ xs. Contains xs i) parents c))
