@@ -19,6 +19,7 @@ use Rattle.gix_paint.specs.Inside.Painter.{is_hidden, rows_in, graph_in_use, Rea
 use Rattle.gix_revwalk.specs.Ids.{new_ids}
 use Rattle.gix_revwalk.specs.RowParents.{ids_at}
 use Rattle.gix_paint.proofs.Invariant.{reads_parents, IsSafe}
+use Rattle.gix_paint.proofs.Turn.{given_by}
 use Rattle.gix_paint.proofs.KeptByTurn.{popped_there}
 use Rattle.gix_hash.proofs.Ids.Membership.{among-append, among_from}
 use Rattle.gix_revwalk.proofs.NewIds.{among_flat}
@@ -40,13 +41,7 @@ among_parents objects rows c ids r i m =
 
 module _ {F : Type 0} (objects : F → Objects) (store : F) (rows : List GraphRow) {w v : Painter F} (top : Key × Entry) (pops : Pops cmp-value.it w top v) (safe : IsSafe objects store rows w) where
   named : {ids : List ObjectId} {after : Option (Bor (List GraphRow))} → GivesParents (objects v.source.objects.now) (graph_in_use v.source) top.1 ids after → (i : ObjectId) → Contains ids i → is_among i (names (objects store) rows) ≡ true
-  named {ids} (brought e) i m = among_parents (objects store) rows top.1.id ids (safe.brings top (popped_there pops) ids e) i m
-  named {ids} (looked_up n (by_row {row = row} e f)) i m =
-      let graph : rows_in (graph_in_use v.source) ≡ rows_in (graph_in_use w.source) = ap (λ s. rows_in (graph_in_use s)) pops.source in
-      ⊎_elim (λ r. among-append i (map (λ row. row.id) rows) _ ∙ or_left _ _ (ids_in_rows rows row.parents ids (ap (λ rs. ids_at rs row.parents) (sym (graph ∙ r)) ∙ f) i m))
-      (λ n. let none : None ≡ Some row = sym (ap (λ rs. row_of rs top.1.id) (graph ∙ ap rows_in n)) ∙ e in cc) safe.either
-  named {ids} (looked_up n (by_store e r)) i m = among_parents (objects store) rows top.1.id ids (subst (λ f. Reads (objects f) top.1.id ids) (ap (λ s. s.objects.now) pops.source ∙ safe.same_store) r) i m
-  named {ids} (looked_up n (drops e f r)) i m = among_parents (objects store) rows top.1.id ids (subst (λ o. Reads (objects o) top.1.id ids) (ap (λ s. s.objects.now) pops.source ∙ safe.same_store) r) i m
+  named {ids} gives i m = ⊎_elim (λ r. among-append i (map (λ row. row.id) rows) _ ∙ or_left _ _ (ids_in_rows rows r.0.parents ids r.2 i m)) (λ r. among_parents (objects store) rows top.1.id ids r i m) (given_by objects store rows top pops safe gives)
 
   room_takes : {mid : Painter F} (ids : List ObjectId) → Takes v top.1 mid → suc (room ids mid) ≡ room ids w
   room_takes {mid} ids takes =

@@ -43,27 +43,22 @@ more_old s xs i e = ⊎_elim
 
 module _ {F : Type 0} (objects : F → Objects) where
   -- what is known already isn't met anew
-  pub meets_known : (on : Side) (i : ObjectId) (p : Painter F) → state_of p i ≢ Unmet → (on ≡ side.Hidden → state_of p i ≡ Hides) → Meets objects on (i ∷ []) p p
-  meets_known on i p known hidden = record {
+  meets_still : (on : Side) (ids : List ObjectId) (p : Painter F) → ((j : ObjectId) → Contains ids j → (state_of p j ≢ Unmet) × (on ≡ side.Hidden → state_of p j ≡ Hides)) → Meets objects on ids p p
+  meets_still on ids p known = record {
     objects_stay = refl;
     graph_stays = refl;
-    states = λ j. stays (λ m. let same : i ≡ j = only_member i j m in (subst (λ k. state_of p k ≢ Unmet) same known, λ e. subst (λ k. state_of p k ≡ Hides) same (hidden e)));
+    states = λ j. stays (known j);
     keeps = λ q c. c;
     adds = λ q c. inl c;
     tidies = λ t. t;
     spends = λ named h. Rattle.std.proofs.Common.le_refl _;
   }
 
+  pub meets_known : (on : Side) (i : ObjectId) (p : Painter F) → state_of p i ≢ Unmet → (on ≡ side.Hidden → state_of p i ≡ Hides) → Meets objects on (i ∷ []) p p
+  meets_known on i p known hidden = meets_still on (i ∷ []) p (λ j m. subst (λ k. (state_of p k ≢ Unmet) × (on ≡ side.Hidden → state_of p k ≡ Hides)) (only_member i j m) (known, hidden))
+
   pub meets_none : (on : Side) (ids : List ObjectId) (p : Painter F) → length ids ≡ 0 → Meets objects on ids p p
-  meets_none on ids p none = record {
-    objects_stay = refl;
-    graph_stays = refl;
-    states = λ j. stays (λ m. absurd (let k : m.0 < length ids = m.1 in omega arith));
-    keeps = λ q c. c;
-    adds = λ q c. inl c;
-    tidies = λ t. t;
-    spends = λ named h. Rattle.std.proofs.Common.le_refl _;
-  }
+  meets_none on ids p none = meets_still on ids p (λ j m. absurd (let k : m.0 < length ids = m.1 in omega arith))
 
   pub meets_then : {on : Side} (xs ys : List ObjectId) {p mid new : Painter F} → Meets objects on xs p mid → Meets objects on ys mid new → Meets objects on (xs ++ ys) p new
   meets_then {on} xs ys {p} {mid} {new} a b = record {

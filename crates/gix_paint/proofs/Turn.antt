@@ -37,6 +37,18 @@ given_graph (looked_up n (by_row e f)) = inl refl
 given_graph (looked_up n (by_store e r)) = inl refl
 given_graph (looked_up n (drops {row = row} e f r)) = inr (refl, row, e, f)
 
+-- parents are given by a row, or as the store says
+module _ {F : Type 0} (objects : F → Objects) (store : F) (rows : List GraphRow) {w v : Painter F} (top : Key × Entry) (pops : Pops cmp-value.it w top v) (safe : IsSafe objects store rows w) where
+  pub given_by : {after : Option (Bor (List GraphRow))} {ids : List ObjectId} → GivesParents (objects v.source.objects.now) (graph_in_use v.source) top.1 ids after
+      → ((row : GraphRow) × (row_of rows top.1.id ≡ Some row) × (ids_at rows row.parents ≡ Some ids)) ⊎ Reads (objects store) top.1.id ids
+  given_by {ids = ids} (brought e) = inr (safe.brings top (popped_there pops) ids e)
+  given_by (looked_up n (by_row {row = row} e f)) =
+      let graph : rows_in (graph_in_use v.source) ≡ rows_in (graph_in_use w.source) = ap (λ s. rows_in (graph_in_use s)) pops.source in
+      ⊎_elim (λ r. inl (row, ap (λ rs. row_of rs top.1.id) (sym (graph ∙ r)) ∙ e, ap (λ rs. ids_at rs row.parents) (sym (graph ∙ r)) ∙ f))
+      (λ n. let none : None ≡ Some row = sym (ap (λ rs. row_of rs top.1.id) (graph ∙ ap rows_in n)) ∙ e in cc) safe.either
+  given_by {ids = ids} (looked_up n (by_store e r)) = inr (subst (λ f. Reads (objects f) top.1.id ids) (ap (λ s. s.objects.now) pops.source ∙ safe.same_store) r)
+  given_by {ids = ids} (looked_up n (drops e f r)) = inr (subst (λ f. Reads (objects f) top.1.id ids) (ap (λ s. s.objects.now) pops.source ∙ safe.same_store) r)
+
 -- where an id has a row, there are rows
 pub graph_of_row : (graph : Option (Bor (List GraphRow))) (i : ObjectId) (row : GraphRow) → row_of (rows_in graph) i ≡ Some row → IsSome graph
 graph_of_row None i row e = cc
@@ -178,13 +190,7 @@ module _ {F : Type 0} (objects : F → Objects) (store : F) (history : Objects) 
     module _ (known : IsHistory (objects store) rows history) where
       -- the parents that are read are the commit's
       pub given_parents : {after : Option (Bor (List GraphRow))} {ids : List ObjectId} → GivesParents (objects v.source.objects.now) (graph_in_use v.source) top.1 ids after → ids ≡ There top.1.id
-      given_parents {ids = ids} (brought e) = reads_parents history top.1.id ids (in_history known top.1.id ids (safe.brings top (popped_there pops) ids e))
-      given_parents {ids = ids} (looked_up n (by_row {row = row} e f)) =
-          let graph : rows_in (graph_in_use v.source) ≡ rows_in (graph_in_use w.source) = ap (λ s. rows_in (graph_in_use s)) pops.source in
-          ⊎_elim (λ r. row_parents history rows known.agreeing top.1.id row ids (ap (λ rs. row_of rs top.1.id) (sym (graph ∙ r)) ∙ e) (ap (λ rs. ids_at rs row.parents) (sym (graph ∙ r)) ∙ f))
-          (λ n. let none : None ≡ Some row = sym (ap (λ rs. row_of rs top.1.id) (graph ∙ ap rows_in n)) ∙ e in cc) safe.either
-      given_parents {ids = ids} (looked_up n (by_store e r)) = reads_parents history top.1.id ids (in_history known top.1.id ids (subst (λ f. Reads (objects f) top.1.id ids) (ap (λ s. s.objects.now) pops.source ∙ safe.same_store) r))
-      given_parents {ids = ids} (looked_up n (drops e f r)) = reads_parents history top.1.id ids (in_history known top.1.id ids (subst (λ o. Reads (objects o) top.1.id ids) (ap (λ s. s.objects.now) pops.source ∙ safe.same_store) r))
+      given_parents {ids = ids} gives = ⊎_elim (λ r. row_parents history rows known.agreeing top.1.id r.0 ids r.1 r.2) (λ r. reads_parents history top.1.id ids (in_history known top.1.id ids r)) (given_by objects store rows top pops safe gives)
 
       -- rows that were in use and are in use no more were dropped for a reason
       pub dropped_so : {after : Option (Bor (List GraphRow))} {ids : List ObjectId} → (h : Stands objects store history rows tips hidden_tips nobody w) → IsStarted objects store history rows tips hidden_tips w → (IsSettled w → ⊥)

@@ -6,13 +6,10 @@ use Rattle.gix_paint.specs.Inside.Painter.{State, Unmet, Hides}
 use Rattle.gix_paint.proofs.Meets.{if_ok, hides_then, meets_known, meets_hidden}
 use Rattle.gix_paint.proofs.Painter.hide.Goals as goal
 
-hidden_met : (s : State) → s ≡ Hides → s ≢ Unmet
-hidden_met s e = λ u. cc
-
 pub returns-then-is_hidden-clause-ok : goal.returns-then-is_hidden-clause-ok
 returns-then-is_hidden-clause-ok g c =
     let hidden = hides_then (get c.args.self.now.marks c.args.id) (contains c.args.self.now.frontier c.args.id) (sym c.is_hidden.ensures ∙ c.if-is_hidden.true) in
-    meets_known g.F.Find.objects side.Hidden c.args.id c.args.self.now (hidden_met _ hidden) (λ e. hidden)
+    meets_known g.F.Find.objects side.Hidden c.args.id c.args.self.now (λ u. let bad : Hides ≡ Unmet = sym hidden ∙ u in cc) (λ e. hidden)
 
 pub returns-clause-ok : goal.returns-clause-ok
 returns-clause-ok g c =

@@ -1,4 +1,4 @@
-use Rattle.std.proofs.Common.{◌≡◌, false, Option, None, Some, is_some, refl, sym, ap, ◌∙◌}
+use Rattle.std.proofs.Common.{◌≡◌, false, Option, None, Some, is_some, refl, sym, ap, ◌∙◌, arith}
 use Rattle.std.specs.FinMap.{get}
 use Rattle.std.specs.FinSet.{contains}
 use Rattle.std.specs.Option.{option_copied}
@@ -9,12 +9,10 @@ use Rattle.gix_paint.proofs.Meets.{if_ok, met_then, meets_known, meets_shown}
 use Rattle.gix_paint.proofs.Painter.show.Goals as goal
 
 copied : (o : Option (Bor Side)) → is_some (option_copied o) ≡ is_some o
-copied None = refl
-copied (Some m) = refl
+copied o = grind arith
 
 none : (o : Option Side) → is_some o ≡ false → o ≡ None
-none None e = refl
-none (Some m) e = cc
+none o e = grind arith
 
 pub returns-then-is_some-clause-ok : goal.returns-then-is_some-clause-ok
 returns-then-is_some-clause-ok g c =
