@@ -20,7 +20,7 @@ use Rattle.gix_paint.specs.Inside.Painter.{FailsAmong, rows_in, graph_in_use, Is
 use Rattle.gix_revwalk.specs.RowParents.{IsUnrowed, ids_at}
 use Rattle.gix_paint.proofs.Invariant.{nobody, IsSafe, Stands, IsStarted}
 use Rattle.gix_paint.proofs.KeptByTurn.{popped_there, reaches_either, drop_reason}
-use Rattle.gix_paint.proofs.Turn.{graph_of_row, given_parents, dropped_so}
+use Rattle.gix_paint.proofs.Turn.{given_parents, dropped_so}
 
 module _ {F : Type 0} (objects : F → Objects) (faulty : F → ObjectId → Type 0) (store : F) (rows : List GraphRow) (tips hidden_tips : List ObjectId) where
   abbrev IsFault : Hidden → Type 0
@@ -70,9 +70,8 @@ module _ {F : Type 0} (objects : F → Objects) (faulty : F → ObjectId → Typ
           go None e for = inl e
           go (Some row) e (inl own) =
               ⊎_elim (λ r.
-              let there : row_of (rows_in (graph_in_use w.source)) i ≡ Some row = ap (λ rs. row_of rs i) r ∙ e in
               let corrupt : ids_at rows row.parents ≡ None = subst (λ rs. IsUnrowed rs i) (ap rows_in graph_same ∙ r) own.1 row e in
-              inr (drop_reason objects store history rows tips hidden_tips known w safe (holds history known).0 (holds history known).1 r (graph_of_row (graph_in_use w.source) i row there) top (popped_there pops) pops.greatest unsettled row (ap (row_of rows) (sym own.0) ∙ e) corrupt))
+              inr (drop_reason objects store history rows tips hidden_tips known w safe (holds history known).0 (holds history known).1 r top (popped_there pops) pops.greatest unsettled row (ap (row_of rows) (sym own.0) ∙ e) corrupt))
               (λ n. inr ((holds history known).0.dropped (λ r. let bad : None ≡ Some row = ap (λ rs. row_of rs i) (sym (ap rows_in n) ∙ r) ∙ e in cc))) safe.either
           go (Some row) e (inr g) =
               inr (dropped_so objects store history rows tips hidden_tips top pops safe known (holds history known).0 (holds history known).1 unsettled g.2 (λ r. let bad : None ≡ Some row = sym g.4 ∙ ap (λ rs. row_of rs i) r ∙ e in cc))

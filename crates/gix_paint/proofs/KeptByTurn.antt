@@ -1,4 +1,5 @@
 -- What an entry's turn keeps of what holds while hidden tips are painted.
+use Rattle.std.specs.Borrow.{Bor}
 use Rattle.std.specs.Prelude.{◌≡◌, ◌≢◌, ◌⊎◌, ◌<◌, ◌≤◌, ℕ, List, [], ◌∷◌, ◌++◌, Bool, true, false, cond, Option, Some, None, Contains, IsSome, suc}
 use Rattle.std.specs.List.{list_any}
 use Rattle.std.specs.Ordering.{eq_by_cmp}
@@ -21,7 +22,7 @@ use Rattle.gix_paint.specs.declared.source.Key.{Key}
 use Rattle.gix_paint.specs.declared.Entry.{Entry}
 use Rattle.gix_paint.specs.declared.Painter.{Painter}
 use Rattle.gix_paint.specs.Painting.{DropsBy, generation_in, IsHistory}
-use Rattle.gix_paint.specs.Inside.Painter.{hides, Open, Read, Hides, state_by, state_of, graph_in_use, by_row, by_store, IsQueued, IsWaiting, IsSettled, is_told, Pops}
+use Rattle.gix_paint.specs.Inside.Painter.{hides, Open, Read, Hides, state_by, state_of, rows_in, graph_in_use, by_row, by_store, IsQueued, IsWaiting, IsSettled, is_told, Pops}
 use Rattle.gix_paint.specs.Inside.Painter as painter
 use Rattle.gix_hash.specs.Reach.{Reaches, start, step}
 use Rattle.gix_revwalk.specs.RowParents.{ids_at}
@@ -47,6 +48,11 @@ open_read o e = grind arith
 
 pub shut : (o : Option Side) → state_by o false ≢ Open
 shut o = λ e. grind arith
+
+-- where an id has a row, there are rows
+pub graph_of_row : (graph : Option (Bor (List GraphRow))) (i : ObjectId) (row : GraphRow) → row_of (rows_in graph) i ≡ Some row → IsSome graph
+graph_of_row None i row e = cc
+graph_of_row (Some graph) i row e = refl
 
 pub popped_there : {F : Type 0} {old new : Painter F} {top : Key × Entry} → Pops cmp-value.it old top new → Contains old.queue top
 popped_there {new = new} {top = top} pops = Contains-permutation _ _ top (IsPermutation-sym _ _ pops.queue) (Contains-here top new.queue)
@@ -128,11 +134,11 @@ module _ {F : Type 0} (objects : F → Objects) (store : F) (history : Objects) 
           (hidden_low r top bound row.generation (key_of r top there row e) top.1.id hidden)
 
       -- rows are dropped for the row of a greatest key, while an open id waits below
-      pub drop_reason : RowsInUse objects store rows w → IsSome (graph_in_use w.source) → (top : Key × Entry) → Contains w.queue top → IsUpperBound cmp-value.it top.0 (keys w.queue) → (IsSettled w → ⊥) → (row : GraphRow) → row_of rows top.1.id ≡ Some row → ids_at rows row.parents ≡ None
+      pub drop_reason : RowsInUse objects store rows w → (top : Key × Entry) → Contains w.queue top → IsUpperBound cmp-value.it top.0 (keys w.queue) → (IsSettled w → ⊥) → (row : GraphRow) → row_of rows top.1.id ≡ Some row → ids_at rows row.parents ≡ None
           → DropsBy There rows tips hidden_tips
-      drop_reason r graph top there bound unsettled row e corrupt =
+      drop_reason r top there bound unsettled row e corrupt =
           let told : top.0.generation ≡ Told row.generation = key_of r top there row e in
-          let x : (i : ObjectId) × (set.contains w.frontier i ≡ true) = member_of w.frontier (λ none. unsettled (inr (graph, none, λ q c. ap is_told (told_below_top top.0 w.queue bound row.generation told q c).1))) in
+          let x : (i : ObjectId) × (set.contains w.frontier i ≡ true) = member_of w.frontier (λ none. unsettled (inr (graph_of_row (graph_in_use w.source) top.1.id row (ap (λ rs. row_of rs top.1.id) r ∙ e), none, λ q c. ap is_told (told_below_top top.0 w.queue bound row.generation told q c).1))) in
           let waits : state_of w x.0 ≡ Open = h.tidy x.0 x.1 in
           let fact : Fact objects store history rows tips hidden_tips nobody w x.0 Open = subst (Fact objects store history rows tips hidden_tips nobody w x.0) waits (h.facts x.0) in
           let low : (m : ℕ) × HasGeneration x.0 m × (m ≤ row.generation) = waits_below r top bound row.generation told side.Visible x.0 fact.1 in

@@ -29,14 +29,6 @@ use Rattle.gix_hash.proofs.Ids.Membership.{id_total, same_is, same_itself, Conta
 abbrev pub IsTurned : Bool → Side → Type 0 → State → State → Type 0
 IsTurned turn on here a b = (b ≡ a) ⊎ ((turn ≡ true) × (on ≡ side.Visible) × here × (a ≡ Open) × (b ≡ Read))
 
--- the rows that are in use after parents were read
-pub given_graph : {objects : Objects} {old new : Option (Bor (List GraphRow))} {entry : Entry} {ids : List ObjectId} → GivesParents objects old entry ids new
-    → (new ≡ old) ⊎ ((new ≡ None) × (row : GraphRow) × (row_of (rows_in old) entry.id ≡ Some row) × (ids_at (rows_in old) row.parents ≡ None))
-given_graph (brought e) = inl refl
-given_graph (looked_up n (by_row e f)) = inl refl
-given_graph (looked_up n (by_store e r)) = inl refl
-given_graph (looked_up n (drops {row = row} e f r)) = inr (refl, row, e, f)
-
 -- parents are given by a row, or as the store says
 module _ {F : Type 0} (objects : F → Objects) (store : F) (rows : List GraphRow) {w v : Painter F} (top : Key × Entry) (pops : Pops cmp-value.it w top v) (safe : IsSafe objects store rows w) where
   pub given_by : {after : Option (Bor (List GraphRow))} {ids : List ObjectId} → GivesParents (objects v.source.objects.now) (graph_in_use v.source) top.1 ids after
@@ -49,10 +41,16 @@ module _ {F : Type 0} (objects : F → Objects) (store : F) (rows : List GraphRo
   given_by {ids = ids} (looked_up n (by_store e r)) = inr (subst (λ f. Reads (objects f) top.1.id ids) (ap (λ s. s.objects.now) pops.source ∙ safe.same_store) r)
   given_by {ids = ids} (looked_up n (drops e f r)) = inr (subst (λ f. Reads (objects f) top.1.id ids) (ap (λ s. s.objects.now) pops.source ∙ safe.same_store) r)
 
--- where an id has a row, there are rows
-pub graph_of_row : (graph : Option (Bor (List GraphRow))) (i : ObjectId) (row : GraphRow) → row_of (rows_in graph) i ≡ Some row → IsSome graph
-graph_of_row None i row e = cc
-graph_of_row (Some graph) i row e = refl
+  -- the rows stay in use or out of use, or are dropped for the entry's row
+  given_graph : {after : Option (Bor (List GraphRow))} {ids : List ObjectId} → GivesParents (objects v.source.objects.now) (graph_in_use v.source) top.1 ids after
+      → (after ≡ graph_in_use w.source) ⊎ ((after ≡ None) × (rows_in (graph_in_use w.source) ≡ rows) × (row : GraphRow) × (row_of rows top.1.id ≡ Some row) × (ids_at rows row.parents ≡ None))
+  given_graph (brought e) = inl (ap graph_in_use pops.source)
+  given_graph (looked_up n (by_row e f)) = inl (ap graph_in_use pops.source)
+  given_graph (looked_up n (by_store e r)) = inl (ap graph_in_use pops.source)
+  given_graph (looked_up n (drops {row = row} e f r)) =
+      let graph : rows_in (graph_in_use v.source) ≡ rows_in (graph_in_use w.source) = ap (λ s. rows_in (graph_in_use s)) pops.source in
+      ⊎_elim (λ u. inr (refl, u, row, ap (λ rs. row_of rs top.1.id) (sym (graph ∙ u)) ∙ e, ap (λ rs. ids_at rs row.parents) (sym (graph ∙ u)) ∙ f))
+      (λ n. let none : None ≡ Some row = sym (ap (λ rs. row_of rs top.1.id) (graph ∙ ap rows_in n)) ∙ e in cc) safe.either
 
 module _ {F : Type 0} (objects : F → Objects) (store : F) (history : Objects) (rows : List GraphRow) (tips hidden_tips : List ObjectId) where
   abbrev There : ObjectId → List ObjectId
@@ -177,15 +175,7 @@ module _ {F : Type 0} (objects : F → Objects) (store : F) (history : Objects) 
     -- rows are in use after the reading only if they were in use before
     pub graph_after : {after : Option (Bor (List GraphRow))} {ids : List ObjectId} → GivesParents (objects v.source.objects.now) (graph_in_use v.source) top.1 ids after
         → ((rows_in after ≡ rows) ⊎ (after ≡ None)) × (rows_in after ≡ rows → InUse w)
-    graph_after {after = after} gives = go (given_graph gives)
-      where
-        go : (after ≡ graph_in_use v.source) ⊎ ((after ≡ None) × (row : GraphRow) × (row_of (rows_in (graph_in_use v.source)) top.1.id ≡ Some row) × (ids_at (rows_in (graph_in_use v.source)) row.parents ≡ None))
-            → ((rows_in after ≡ rows) ⊎ (after ≡ None)) × (rows_in after ≡ rows → InUse w)
-        go (inl e) =
-            let g : after ≡ graph_in_use w.source = e ∙ ap graph_in_use pops.source in
-            (⊎_elim (λ r. inl (ap rows_in g ∙ r)) (λ n. inr (g ∙ n)) safe.either, λ r. ap rows_in (sym g) ∙ r)
-        go (inr d) =
-            (inr d.0, λ r. ⊎_elim (λ stood. stood) (λ n. let none : None ≡ Some d.1 = sym (ap (λ g. row_of (rows_in g) top.1.id) (ap graph_in_use pops.source ∙ n)) ∙ d.2 in cc) safe.either)
+    graph_after gives = ⊎_elim (λ g. (⊎_elim (λ r. inl (ap rows_in g ∙ r)) (λ n. inr (g ∙ n)) safe.either, λ r. ap rows_in (sym g) ∙ r)) (λ d. (inr d.0, λ r. d.1)) (given_graph objects store rows top pops safe gives)
 
     module _ (known : IsHistory (objects store) rows history) where
       -- the parents that are read are the commit's
@@ -195,21 +185,8 @@ module _ {F : Type 0} (objects : F → Objects) (store : F) (history : Objects) 
       -- rows that were in use and are in use no more were dropped for a reason
       pub dropped_so : {after : Option (Bor (List GraphRow))} {ids : List ObjectId} → (h : Stands objects store history rows tips hidden_tips nobody w) → IsStarted objects store history rows tips hidden_tips w → (IsSettled w → ⊥)
           → GivesParents (objects v.source.objects.now) (graph_in_use v.source) top.1 ids after → (rows_in after ≡ rows → ⊥) → DropsBy There rows tips hidden_tips
-      dropped_so {after = after} h started unsettled gives gone = go (given_graph gives)
-        where
-          graph_same : graph_in_use v.source ≡ graph_in_use w.source
-          graph_same = ap graph_in_use pops.source
-
-          stood : (row : GraphRow) → row_of (rows_in (graph_in_use w.source)) top.1.id ≡ Some row → InUse w
-          stood row e = ⊎_elim (λ r. r) (λ n. let none : None ≡ Some row = sym (ap (λ g. row_of (rows_in g) top.1.id) n) ∙ e in cc) safe.either
-
-          go : (after ≡ graph_in_use v.source) ⊎ ((after ≡ None) × (row : GraphRow) × (row_of (rows_in (graph_in_use v.source)) top.1.id ≡ Some row) × (ids_at (rows_in (graph_in_use v.source)) row.parents ≡ None)) → DropsBy There rows tips hidden_tips
-          go (inl e) = h.dropped (λ r. gone (ap rows_in (e ∙ graph_same) ∙ r))
-          go (inr d) =
-              let e : row_of (rows_in (graph_in_use w.source)) top.1.id ≡ Some d.1 = ap (λ g. row_of (rows_in g) top.1.id) (sym graph_same) ∙ d.2 in
-              let r : InUse w = stood d.1 e in
-              drop_reason objects store history rows tips hidden_tips known w safe h started r (graph_of_row (graph_in_use w.source) top.1.id d.1 e) top (popped_there pops) pops.greatest unsettled d.1 (ap (λ rs. row_of rs top.1.id) (sym r) ∙ e)
-              (ap (λ rs. ids_at rs d.1.parents) (sym (ap rows_in graph_same ∙ r)) ∙ d.3)
+      dropped_so h started unsettled gives gone = ⊎_elim (λ g. h.dropped (λ r. gone (ap rows_in g ∙ r)))
+          (λ d. drop_reason objects store history rows tips hidden_tips known w safe h started d.1 top (popped_there pops) pops.greatest unsettled d.2 d.3 d.4) (given_graph objects store rows top pops safe gives)
 
       -- a turn keeps what holds
       pub stands_turn : {new : Painter F} → Stands objects store history rows tips hidden_tips nobody w → IsStarted objects store history rows tips hidden_tips w → (IsSettled w → ⊥) → TreatsEntry objects v top.1 new
