@@ -9,18 +9,16 @@ use Rattle.std.specs.FinMap as map_of
 use Rattle.gix_hash.specs.declared.ObjectId.{ObjectId}
 use Rattle.gix_hash.specs.Id.{is_among}
 use Rattle.gix_object.specs.Object.{Object, Objects}
-use Rattle.gix_commitgraph.specs.Rows.{GraphRow, row_of}
+use Rattle.gix_commitgraph.specs.Rows.{GraphRow}
 use Rattle.gix_paint.specs.contracts.source.KeyOrd.TheImpl.{cmp-value}
 use Rattle.gix_paint.specs.declared.source.Key.{Key}
 use Rattle.gix_paint.specs.declared.Entry.{Entry}
 use Rattle.gix_paint.specs.declared.Painter.{Painter}
 use Rattle.gix_revwalk.specs.Commits.{parents_of, commit_of_object}
-use Rattle.gix_paint.specs.Inside.Painter.{is_hidden, rows_in, graph_in_use, Reads, by_row, by_store, drops, GivesParents, brought, looked_up, Takes, TreatsEntry, skips, reads, Pops, room}
+use Rattle.gix_paint.specs.Inside.Painter.{is_hidden, graph_in_use, Reads, GivesParents, Takes, TreatsEntry, skips, reads, Pops, room}
 use Rattle.gix_revwalk.specs.Ids.{new_ids}
-use Rattle.gix_revwalk.specs.RowParents.{ids_at}
 use Rattle.gix_paint.proofs.Invariant.{reads_parents, IsSafe}
 use Rattle.gix_paint.proofs.Turn.{given_by}
-use Rattle.gix_paint.proofs.KeptByTurn.{popped_there}
 use Rattle.gix_hash.proofs.Ids.Membership.{among-append, among_from}
 use Rattle.gix_revwalk.proofs.NewIds.{among_flat}
 use Rattle.gix_revwalk.proofs.Rows.{found_entry, ids_in_rows}

@@ -1,6 +1,5 @@
 -- Why painting fails: a commit that it had to read can't be read.
-use Rattle.std.specs.Borrow.{Bor}
-use Rattle.std.specs.Prelude.{◌≡◌, ◌≢◌, ◌⊎◌, List, ◌++◌, Option, Some, None, Result, Ok, Err, Contains, IsSome, IfErr}
+use Rattle.std.specs.Prelude.{◌≡◌, ◌≢◌, ◌⊎◌, List, ◌++◌, Option, Some, None, Result, Ok, Err, Contains, IfErr}
 use Rattle.std.specs.Result.{IsErrAnd}
 use Rattle.std.proofs.Common.{refl, sym, ap, subst, inl, inr, ⊎_elim, ◌∙◌}
 use Rattle.gix_hash.specs.declared.ObjectId.{ObjectId}

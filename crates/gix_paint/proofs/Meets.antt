@@ -21,7 +21,7 @@ use Rattle.gix_revwalk.specs.Pending.{Pending}
 use Rattle.gix_revwalk.specs.Ids.{ids_of}
 use Rattle.gix_paint.specs.declared.Hidden.{Hidden}
 use Rattle.gix_paint.specs.Painting.{IsFaultAt}
-use Rattle.gix_paint.specs.Inside.Painter.{FailsAmong, hides, is_hidden, State, Unmet, Open, Read, Hides, state_by, state_of, IsTidy, Becomes, stays, opens, covers, rows_in, graph_in_use, IsQueued, IsWaiting, Queues, Meets, is_turn, Takes, GivesParents, TreatsEntry, reads, room}
+use Rattle.gix_paint.specs.Inside.Painter.{FailsAmong, hides, is_hidden, State, Unmet, Open, Hides, state_by, state_of, IsTidy, Becomes, stays, opens, covers, rows_in, graph_in_use, IsQueued, IsWaiting, Queues, Meets, is_turn, Takes, GivesParents, TreatsEntry, reads, room}
 use Rattle.gix_revwalk.proofs.NewIds.{fresh, fresh_agree, new_less}
 use Rattle.gix_hash.proofs.Lists.{only_member}
 use Rattle.gix_hash.proofs.Ids.Membership.{id_total, same_is, same_itself, Contains-here, Contains-there, Contains-cons_cases}

@@ -1,6 +1,6 @@
 -- A turn of the painting: an entry is taken, its commit is read, and its parents are met.
 use Rattle.std.specs.Borrow.{Bor}
-use Rattle.std.specs.Prelude.{◌≡◌, ◌≢◌, ◌⊎◌, List, Bool, true, false, not, ◌&&◌, Option, Some, None, Contains, IsSome}
+use Rattle.std.specs.Prelude.{◌≡◌, ◌≢◌, ◌⊎◌, List, Bool, true, false, not, ◌&&◌, Option, Some, None, Contains}
 use Rattle.std.proofs.Common.{refl, sym, ap, subst, inl, inr, ⊎_elim, ◌∙◌, arith}
 use Rattle.std.proofs.lemmas.Bool.{and_parts, cases_Bool}
 use Rattle.std.proofs.lemmas.List.Sorted.{Contains-permutation, IsPermutation-sym}
@@ -21,7 +21,7 @@ use Rattle.gix_paint.specs.Inside.Painter.{State, Unmet, Open, Read, Hides, stat
 use Rattle.gix_hash.specs.Reach.{Reaches, step}
 use Rattle.gix_revwalk.specs.RowParents.{ids_at}
 use Rattle.gix_paint.proofs.Invariant.{in_history, reads_parents, nobody, next, starts_of, RowsInUse, IsSafe, IsOutside, Fact, Stands, IsStarted, stands_meets, safe_meets, started_meets}
-use Rattle.gix_paint.proofs.KeptByTurn.{popped_there, open_read, shut, taken_outside, drop_reason}
+use Rattle.gix_paint.proofs.KeptByTurn.{popped_there, shut, taken_outside, drop_reason}
 use Rattle.gix_revwalk.proofs.ReadsWhole.{row_parents}
 use Rattle.gix_hash.proofs.Ids.Membership.{id_total, same_is, same_itself, Contains-there, Contains-cons_cases}
 

@@ -1,8 +1,8 @@
-use Rattle.std.proofs.Common.{◌≡◌, ◌≢◌, refl, sym, ◌∙◌}
+use Rattle.std.proofs.Common.{◌≡◌, refl, sym, ◌∙◌}
 use Rattle.std.specs.FinMap.{get}
 use Rattle.std.specs.FinSet.{contains}
 use Rattle.gix_paint.specs.declared.Side.TheVariants as side
-use Rattle.gix_paint.specs.Inside.Painter.{State, Unmet, Hides}
+use Rattle.gix_paint.specs.Inside.Painter.{Unmet, Hides}
 use Rattle.gix_paint.proofs.Meets.{if_ok, hides_then, meets_known, meets_hidden}
 use Rattle.gix_paint.proofs.Painter.hide.Goals as goal
 
