@@ -192,7 +192,3 @@ module _ {F : Type 0} (objects : F → Objects) (store : F) (history : Objects) 
         was_read i e (stays f) n o = h.read i e (λ u. n (o ∙ u))
         was_read i e (opens v c w) n o = whole i e w
         was_read i e (covers v c w) n o = whole i e w
-
-  -- what became of an id by the turn of an entry: a visible one that was open is read now
-  abbrev pub IsTurned : Entry → ObjectId → State → State → Type 0
-  IsTurned entry i a b = (b ≡ a) ⊎ ((entry.side ≡ side.Visible) × (i ≡ entry.id) × (a ≡ Open) × (b ≡ Read))

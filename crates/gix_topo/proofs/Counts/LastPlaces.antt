@@ -10,13 +10,7 @@ use Rattle.gix_hash.proofs.Ids.Equality.{eq_is_same}
 use Rattle.gix_hash.proofs.Ids.Membership.{id_total, same_is, same_back}
 use Rattle.gix_topo.specs.TopoOrder.{last_places}
 
--- an id that comes again keeps the later place
-pub kept_place : (i : ObjectId) (ids : List ObjectId) → is_among i ids ≡ true → last_places (i ∷ ids) ≡ last_places ids
-kept_place i ids e = ap (λ b. cond b (last_places ids) (i ∷ last_places ids)) e
-
-pub new_place : (i : ObjectId) (ids : List ObjectId) → is_among i ids ≡ false → last_places (i ∷ ids) ≡ i ∷ last_places ids
-new_place i ids e = ap (λ b. cond b (last_places ids) (i ∷ last_places ids)) e
-
+-- the ids of a list that were met, with one more
 pub later_with : (later : set.FinSet id_cmp) (i : ObjectId) (ids : List ObjectId) → ((j : ObjectId) → set.contains later j ≡ is_among j ids) → (j : ObjectId) → set.contains (set.insert later i) j ≡ is_among j (i ∷ ids)
 later_with later i ids h j = set.contains-insert id_total later i j ∙ ap (λ b. is_same j i || b) (h j)
 

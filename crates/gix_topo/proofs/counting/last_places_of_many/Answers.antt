@@ -2,7 +2,7 @@ use Rattle.std.proofs.Common.{◌≡◌, ◌<◌, [], ◌∷◌, ◌++◌, true,
 use Rattle.std.specs.FinSet as set
 use Rattle.gix_hash.specs.declared.ObjectId.{ObjectId}
 use Rattle.gix_hash.specs.Id.{id_cmp, is_among}
-use Rattle.gix_topo.proofs.Counts.LastPlaces.{kept_place, new_place, later_with, later_same}
+use Rattle.gix_topo.proofs.Counts.LastPlaces.{later_with, later_same}
 use Rattle.gix_topo.proofs.counting.last_places_of_many.Goals as goal
 
 pub loop-id-init : goal.loop-id-init
@@ -24,7 +24,7 @@ loop-id-preserved-then-contains c =
       behind = c.in-Some.id.now ∷ c.loop-id.invariant.behind;
       whole = longer _ _ _ _ _ c.loop-id.invariant.whole c.in-Some.ensures.cases.0;
       later = λ n. later_same c.loop-id.later c.in-Some.id.now c.loop-id.invariant.behind again (c.loop-id.invariant.later some);
-      places = c.loop-id.invariant.places ∙ sym (kept_place c.in-Some.id.now c.loop-id.invariant.behind again);
+      places = rw again c.loop-id.invariant.places;
     }
 
 pub loop-id-preserved-in_ok-insert : goal.loop-id-preserved-in_ok-insert
@@ -35,5 +35,5 @@ loop-id-preserved-in_ok-insert c =
       behind = c.in-Some.id.now ∷ c.loop-id.invariant.behind;
       whole = longer _ _ _ _ _ c.loop-id.invariant.whole c.in-Some.ensures.cases.0;
       later = λ n i. ap (λ s. set.contains s i) c.in_ok-insert.ensures.ok ∙ later_with c.loop-id.later c.in-Some.id.now c.loop-id.invariant.behind (c.loop-id.invariant.later some) i;
-      places = c.in_ok-push_front.ensures.items ∙ ap (λ ids. c.in-Some.id.now ∷ ids) c.loop-id.invariant.places ∙ sym (new_place c.in-Some.id.now c.loop-id.invariant.behind first);
+      places = rw first (c.in_ok-push_front.ensures.items ∙ ap (λ ids. c.in-Some.id.now ∷ ids) c.loop-id.invariant.places);
     }
