@@ -2,7 +2,7 @@
 pub mod Frontier
 -- What a side does by meeting ids.
 pub mod MeetsParents
--- Each id of a list at its last place.
+-- Whether an id comes again in a list.
 pub mod LastPlaces
 -- A step of the searches, put together from its parts.
 pub mod Step
