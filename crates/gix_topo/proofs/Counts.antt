@@ -2,8 +2,6 @@
 pub mod Frontier
 -- What a side does by meeting ids.
 pub mod MeetsParents
--- Whether an id comes again in a list.
-pub mod LastPlaces
 -- A step of the searches, put together from its parts.
 pub mod Step
 -- What one search has found when little is left in its queue.

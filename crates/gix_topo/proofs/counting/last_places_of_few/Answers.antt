@@ -1,8 +1,16 @@
-use Rattle.std.proofs.Common.{◌≡◌, [], ◌∷◌, ◌++◌, true, false, sym, ap, ◌∙◌, append_assoc}
+use Rattle.std.proofs.Common.{◌≡◌, List, [], ◌∷◌, ◌++◌, true, false, sym, ap, ◌∙◌, append_assoc}
 use Rattle.gix_hash.specs.Id.{is_among}
 use Rattle.gix_topo.specs.TopoOrder.{last_places}
-use Rattle.gix_topo.proofs.Counts.LastPlaces.{among_by_eq}
+use Rattle.std.specs.List.{list_any}
+use Rattle.gix_hash.specs.declared.ObjectId.{ObjectId}
+use Rattle.gix_hash.specs.contracts.ObjectIdPartialEq.TheImpl.{eq-value}
+use Rattle.gix_hash.proofs.Ids.Equality.{eq_is_same}
+use Rattle.gix_hash.proofs.Ids.Membership.{same_back}
 use Rattle.gix_topo.proofs.counting.last_places_of_few.Goals as goal
+
+-- an id is looked for by comparing those of the list with it
+among_by_eq : (i : ObjectId) (ids : List ObjectId) → list_any (λ j. eq-value.it j i) ids ≡ is_among i ids
+among_by_eq i ids = ap (λ eq. list_any (λ j. eq j i) ids) eq_is_same ∙ (λ k. list_any (λ j. same_back j i k) ids)
 
 pub loop-id-preserved-then-contains : goal.loop-id-preserved-then-contains
 loop-id-preserved-then-contains c =
