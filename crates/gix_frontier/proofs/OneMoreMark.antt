@@ -1,12 +1,12 @@
 -- What one more mark says of an id.
-use Rattle.std.specs.Prelude.{◌≡◌, ℕ, ◌==◌, Bool, true, false, cond}
+use Rattle.std.specs.Prelude.{◌≡◌, ℕ, ◌==◌, true, false}
 use Rattle.std.proofs.Common.{refl, ap, ◌∙◌, arith}
 use Rattle.std.proofs.lemmas.Nat.{and_or_self, and_or_apart}
 use Rattle.std.specs.Int.Bits.{bit_and, bit_or}
 use Rattle.gix_frontier.specs.declared.Side.{Side}
 use Rattle.gix_frontier.specs.declared.Side.TheVariants.{Tips, Ends}
-use Rattle.gix_frontier.specs.declared.Progress.TheVariants.{Unseen, Queued, Done}
-use Rattle.gix_frontier.specs.Inside.Known.{met_mark, done_mark, has, progress_by, known_by}
+use Rattle.gix_frontier.specs.declared.Progress.TheVariants.{Queued, Done}
+use Rattle.gix_frontier.specs.Inside.Known.{met_mark, done_mark, has, known_by}
 use Rattle.gix_frontier.specs.Inside.Frontier.{is_seen, progress_of, with_progress}
 
 -- the mark is there

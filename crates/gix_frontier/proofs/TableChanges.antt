@@ -1,9 +1,9 @@
 -- What is known of an id by a change of the table, and by two of them.
-use Rattle.std.specs.Prelude.{◌≡◌, ◌+◌, ℕ, ◌∷◌, Bool, true, false, cond, Some, IsPermutation}
+use Rattle.std.specs.Prelude.{◌≡◌, ◌+◌, ℕ, ◌∷◌, true, false, cond, Some, IsPermutation}
 use Rattle.std.proofs.Common.{refl, sym, ap, ◌∙◌, arith}
 use Rattle.std.specs.FinMap as map
 use Rattle.gix_hash.specs.declared.ObjectId.{ObjectId}
-use Rattle.gix_hash.specs.Id.{id_cmp, is_same}
+use Rattle.gix_hash.specs.Id.{id_cmp}
 use Rattle.gix_hash.proofs.Ids.Membership.{id_total, id_apart, same_itself}
 use Rattle.gix_frontier.specs.declared.Side.TheVariants.{Tips}
 use Rattle.gix_frontier.specs.declared.Progress.TheVariants.{Queued}

@@ -3,6 +3,7 @@ use Rattle.std.specs.Prelude.{◌≡◌, ◌≢◌, ◌⊎◌, ◌≤◌, ℕ, s
 use Rattle.std.specs.Borrow.{Bor}
 use Rattle.std.specs.Result.{IsErrAnd}
 use Rattle.std.proofs.Common.{refl, sym, ap, subst, inl, inr, ⊎_elim, ◌∙◌, arith}
+use Rattle.std.proofs.lemmas.List.{nil_from_length}
 use Rattle.std.proofs.lemmas.List.Elements.{Contains-append_left, Contains-append_right, Contains-append_cases}
 use Rattle.std.proofs.lemmas.List.Sorted.{Contains-permutation, length_permutation}
 use Rattle.std.specs.FinMap as map_of
@@ -43,9 +44,6 @@ becomes_new : {met queued : Type 0} (on : Side) (o : Option Side) (waiting : Boo
 becomes_new side.Visible None waiting e m q = opens refl m q
 becomes_new side.Visible (Some mark) waiting e m q = cc
 becomes_new side.Hidden o waiting e m q = covers refl m q
-
-opens_new : (on : Side) → not (hides (Some on)) ≡ true → state_by (Some on) (not (hides (Some on))) ≡ Open
-opens_new on e = grind arith
 
 module _ {F : Type 0} (objects : F → Objects) where
   -- what is known already isn't met anew
@@ -109,80 +107,49 @@ module _ {F : Type 0} (objects : F → Objects) where
 
     module _ (f : Option Side → Bool) (named : List ObjectId) (among : is_among i named ≡ true) where
       left_same : f (Some on) ≡ f (map_of.get p.marks i) → left f new.marks named ≡ left f p.marks named
-      left_same e = ap length (fresh_agree _ _ named (λ j h. ap f (marks_now j) ∙ same j (is_same j i) refl))
-        where
-          same : (j : ObjectId) (b : Bool) → is_same j i ≡ b → f (cond b (Some on) (map_of.get p.marks j)) ≡ f (map_of.get p.marks j)
-          same j true s = e ∙ sym (ap (λ k. f (map_of.get p.marks k)) (same_is j i s))
-          same j false s = refl
+      left_same e = ap length (fresh_agree _ _ named (λ j h. let now = marks_now j in let same : is_same j i ≡ true → f (map_of.get p.marks j) ≡ f (map_of.get p.marks i) = λ s. ap (λ k. f (map_of.get p.marks k)) (same_is j i s) in grind arith))
 
       left_less : f (Some on) ≡ true → f (map_of.get p.marks i) ≡ false → suc (left f new.marks named) ≡ left f p.marks named
-      left_less t e = ap (λ ids. suc (length ids)) (fresh_agree _ _ named (λ j h. ap f (marks_now j) ∙ split (is_same j i) (map_of.get p.marks j))) ∙ new_less (λ j. f (map_of.get p.marks j)) named i among e
-        where
-          split : (b : Bool) (o : Option Side) → f (cond b (Some on) o) ≡ (b || f o)
-          split b o = grind arith
+      left_less t e = ap (λ ids. suc (length ids)) (fresh_agree _ _ named (λ j h. let now = marks_now j in grind arith)) ∙ new_less (λ j. f (map_of.get p.marks j)) named i among e
 
     -- where the id is new to the side, it is met, and is open if the side is the visible one
-    pub meets_new : knows on (map_of.get p.marks i) ≡ false → (waits : Bool → Bool → Bool) → ((j : ObjectId) → set.contains mid.frontier j ≡ waits (is_same j i) (set.contains p.frontier j))
-        → ((w : Bool) → waits true w ≡ not (hides (Some on))) → ((w : Bool) → waits false w ≡ w) → Meets objects on (i ∷ []) p new
-    meets_new unknown waits frontier here others = record {
+    pub meets_new : knows on (map_of.get p.marks i) ≡ false → ((j : ObjectId) → set.contains mid.frontier j ≡ cond (is_same j i) (not (hides (Some on))) (set.contains p.frontier j)) → Meets objects on (i ∷ []) p new
+    meets_new unknown frontier = record {
       objects_stay = q.objects_stay ∙ ap (λ s. s.objects) source;
       graph_stays = q.graph_stays ∙ ap graph_in_use source;
       states = λ j. states j (is_same j i) refl;
       keeps = kept;
       adds = added;
-      tidies = λ t j. tidied t j (is_same j i) refl;
+      tidies = λ t j w. let marked = marks_now j in let waits = waits_now j in let tidy = t j in grind arith;
       spends = λ named h. spent named (h i (Contains-here i [])) on refl;
     }
       where
-        waits_if : (j : ObjectId) (b : Bool) → is_same j i ≡ b → set.contains new.frontier j ≡ waits b (set.contains p.frontier j)
-        waits_if j b e = ap (λ s. set.contains s j) q.frontier_stays ∙ frontier j ∙ ap (λ b. waits b (set.contains p.frontier j)) e
+        waits_now : (j : ObjectId) → set.contains new.frontier j ≡ cond (is_same j i) (not (hides (Some on))) (set.contains p.frontier j)
+        waits_now j = ap (λ s. set.contains s j) q.frontier_stays ∙ frontier j
 
-        state_here : (j : ObjectId) → is_same j i ≡ true → state_of new j ≡ state_by (Some on) (not (hides (Some on)))
-        state_here j e = (λ k. state_by ((marks_now j ∙ ap (λ b. cond b (Some on) (map_of.get p.marks j)) e) k) ((waits_if j true e ∙ here (set.contains p.frontier j)) k))
-
-        state_stays : (j : ObjectId) → is_same j i ≡ false → state_of new j ≡ state_of p j
-        state_stays j e = (λ k. state_by ((marks_now j ∙ ap (λ b. cond b (Some on) (map_of.get p.marks j)) e) k) ((waits_if j false e ∙ others (set.contains p.frontier j)) k))
+        state_now : (j : ObjectId) (b : Bool) → is_same j i ≡ b → state_of new j ≡ cond b (state_by (Some on) (not (hides (Some on)))) (state_of p j)
+        state_now j b e = let marked = marks_now j in let waits = waits_now j in grind arith
 
         states : (j : ObjectId) (b : Bool) → is_same j i ≡ b → Becomes on (Contains (i ∷ []) j) (IsWaiting new on j) (state_of p j) (state_of new j)
         states j true e =
-            subst (Becomes on (Contains (i ∷ []) j) (IsWaiting new on j) (state_of p j)) (sym (state_here j e))
+            subst (Becomes on (Contains (i ∷ []) j) (IsWaiting new on j) (state_of p j)) (sym (state_now j true e))
             (becomes_new on (map_of.get p.marks j) (set.contains p.frontier j) (ap (λ k. knows on (map_of.get p.marks k)) (same_is j i e) ∙ unknown)
               (subst (Contains (i ∷ [])) (sym (same_is j i e)) (Contains-here i [])) (subst (IsWaiting new on) (sym (same_is j i e)) queued))
-        states j false e = subst (Becomes on (Contains (i ∷ []) j) (IsWaiting new on j) (state_of p j)) (sym (state_stays j e)) (stays (λ m. absurd (other j e m)))
-
-        tidied : IsTidy p → (j : ObjectId) (b : Bool) → is_same j i ≡ b → set.contains new.frontier j ≡ true → state_of new j ≡ Open
-        tidied t j true e w = state_here j e ∙ opens_new on (sym (waits_if j true e ∙ here (set.contains p.frontier j)) ∙ w)
-        tidied t j false e w = state_stays j e ∙ t j (sym (waits_if j false e ∙ others (set.contains p.frontier j)) ∙ w)
-
-        unmarked : (o : Option Side) → is_some o ≡ false → false ≡ hides o
-        unmarked o e = grind arith
+        states j false e = subst (Becomes on (Contains (i ∷ []) j) (IsWaiting new on j) (state_of p j)) (sym (state_now j false e)) (stays (λ m. absurd (other j e m)))
 
         spent : (named : List ObjectId) → is_among i named ≡ true → (s : Side) → on ≡ s → room named new ≤ room named p
         spent named e side.Visible v =
             let fresh_here : is_some (map_of.get p.marks i) ≡ false = ap (λ s. knows s (map_of.get p.marks i)) (sym v) ∙ unknown in
             let marked : suc (left is_some new.marks named) ≡ left is_some p.marks named = left_less is_some named e refl fresh_here in
-            let hidden : left hides new.marks named ≡ left hides p.marks named = left_same hides named e (ap (λ s. hides (Some s)) v ∙ unmarked (map_of.get p.marks i) fresh_here) in
+            let hidden : left hides new.marks named ≡ left hides p.marks named = left_same hides named e (grind arith) in
             let longer = length_now in
             omega arith
         spent named e side.Hidden v =
             let hidden : suc (left hides new.marks named) ≡ left hides p.marks named = left_less hides named e (ap (λ s. hides (Some s)) v) (ap (λ s. knows s (map_of.get p.marks i)) (sym v) ∙ unknown) in
-            let marked : left is_some new.marks named ≤ left is_some p.marks named = at_most (is_some (map_of.get p.marks i)) refl in
+            let same : is_some (map_of.get p.marks i) ≡ true → left is_some new.marks named ≡ left is_some p.marks named = λ o. left_same is_some named e (sym o) in
+            let less : is_some (map_of.get p.marks i) ≡ false → suc (left is_some new.marks named) ≡ left is_some p.marks named = left_less is_some named e refl in
             let longer = length_now in
-            omega arith
-          where
-            at_most : (b : Bool) → is_some (map_of.get p.marks i) ≡ b → left is_some new.marks named ≤ left is_some p.marks named
-            at_most true o = let same = left_same is_some named e (sym o) in omega arith
-            at_most false o = let less = left_less is_some named e refl o in omega arith
-
-pub if_ok : {T E : Type 0} {P Q : T → Type 0} (r : Result T E) → ((x : T) → P x → Q x) → IfOk r P → IfOk r Q
-if_ok (Ok x) f h = f x h
-if_ok (Err e) f h = tt
-
-pub met_then : (o : Option Side) (waiting : Bool) → is_some o ≡ true → state_by o waiting ≢ Unmet
-met_then o waiting e = λ u. grind arith
-
-pub hides_then : (o : Option Side) (waiting : Bool) → hides o ≡ true → state_by o waiting ≡ Hides
-hides_then o waiting e = grind arith
+            grind arith
 
 pub fails_as : {T : Type 0} (P : Hidden → Type 0) (r : Result T Hidden) {why : Hidden} → IsErrAnd r (λ e. e ≡ why) → P why → IfErr r P
 fails_as P (Ok done) h x = absurd h
@@ -199,11 +166,7 @@ module _ {F : Type 0} (objects : F → Objects) (faulty : F → ObjectId → Typ
 
   module _ {on : Side} {all : List ObjectId} {old : Painter F} {ids : List ObjectId} {p : Painter F} (h : IsLeft on all old ids p) where
     pub none_left : length ids ≡ 0 → Meets objects on all old p
-    none_left e = h.meets (subst (λ xs. Meets objects on xs p p) (none ids e) (meets_none objects on p))
-      where
-        none : (xs : List ObjectId) → length xs ≡ 0 → [] ≡ xs
-        none [] e = refl
-        none (x ∷ xs) e = absurd (omega arith)
+    none_left e = h.meets (subst (λ xs. Meets objects on xs p p) (sym (nil_from_length ids e)) (meets_none objects on p))
 
     module _ (i : ObjectId) (rest : List ObjectId) (first : ids ≡ i ∷ rest) where
       pub left_step : {mid : Painter F} → Meets objects on (i ∷ []) p mid → IsLeft on all old rest mid
@@ -229,7 +192,3 @@ module _ {F : Type 0} (objects : F → Objects) (faulty : F → ObjectId → Typ
       (subst (λ g. GivesParents (objects old.source.objects.now) g entry items (graph_in_use mid.source)) graph
       (subst (λ o. GivesParents (objects o.now) (graph_in_use begun.source) entry items (graph_in_use mid.source)) takes.objects_stay gives)))
       met
-
-pub no_ids : (tips : List Pending) → length tips ≡ 0 → length (ids_of tips) ≡ 0
-no_ids [] e = refl
-no_ids (tip ∷ tips) e = absurd (omega arith)

@@ -2,10 +2,6 @@
 pub mod Frontier
 -- What a side does by meeting ids.
 pub mod MeetsParents
--- Each id of a list at its last place.
-pub mod LastPlaces
--- A step of the searches, put together from its parts.
-pub mod Step
 -- What one search has found when little is left in its queue.
 pub mod OneSearch
 -- Each step keeps both searches as they are to be.

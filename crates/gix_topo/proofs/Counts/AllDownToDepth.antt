@@ -23,7 +23,8 @@ use Rattle.gix_topo.proofs.Counts.OneSearch.{explored}
 use Rattle.gix_revwalk.proofs.ReadsWhole.{walked_within}
 
 -- what waits is below the depth
-queued_low : (objects : Objects) (rows : List GraphRow) (parents : Parents) (tips ends : List ObjectId) (f : Frontier) (in_use : Bool) (depth : ℕ) → IsSearched objects rows parents tips ends f.queue f.known → IsRested in_use depth f.queue → (side : Side) (i : ObjectId) → is_queued (reached f.known side i) ≡ true → known_generation rows i < depth
+queued_low : (objects : Objects) (rows : List GraphRow) (parents : Parents) (tips ends : List ObjectId) (f : Frontier) (in_use : Bool) (depth : ℕ)
+    → IsSearched objects rows parents tips ends f.queue f.known → IsRested in_use depth f.queue → (side : Side) (i : ObjectId) → is_queued (reached f.known side i) ≡ true → known_generation rows i < depth
 queued_low objects rows parents tips ends f in_use depth h rests side i e =
     let w : (x : ℕ × Waiting) × Contains f.queue x × (1 ≤ waits_for side i x) = some_term (waits_for side i) f.queue (grind (arith, waiting-sum f.queue side i, (h.search side).queued i)) in
     let s : i ≡ w.0.1.id = same_is i w.0.1.id (grind arith) in
@@ -32,7 +33,8 @@ queued_low objects rows parents tips ends f in_use depth h rests side i e =
 
 -- what a side reaches, and isn't below a depth to which exploring rests, is done
 module _ {F : Type 0} (objects : F → Objects) (faulty : F → ObjectId → Type 0) (tips ends : List ObjectId) (taken : ObjectId → Bool) where
-  pub exact_there : {old new : Counting F} {depth : ℕ} → IsAgreeing (objects old.reader.find) (rows_of old.reader.graph) → Explores objects faulty old new → IsCounted (objects old.reader.find) (rows_of old.reader.graph) old.parents tips ends taken old.frontier → (side : Side) → IsBegun tips ends side old.frontier → IsRested new.reader.in_use depth new.frontier.queue
+  pub exact_there : {old new : Counting F} {depth : ℕ} → IsAgreeing (objects old.reader.find) (rows_of old.reader.graph) → Explores objects faulty old new
+      → IsCounted (objects old.reader.find) (rows_of old.reader.graph) old.parents tips ends taken old.frontier → (side : Side) → IsBegun tips ends side old.frontier → IsRested new.reader.in_use depth new.frontier.queue
       → IsExplored (objects old.reader.find) (rows_of old.reader.graph) old.parents tips ends depth side new.frontier
   exact_there {old} {new} {depth} agrees e h side begun rests =
       let s : IsSearched (objects old.reader.find) (rows_of old.reader.graph) old.parents tips ends new.frontier.queue new.frontier.known = (explores_keep objects faulty tips ends taken agrees e h).searched in

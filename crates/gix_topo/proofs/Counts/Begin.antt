@@ -49,11 +49,6 @@ module _ {F : Type 0} (objects : F → Objects) (faulty : F → ObjectId → Typ
     pub expanded : low.expanded ≡ 0
     pub fresh : IsFresh (objects low.reader.find) (rows_of low.reader.graph) low.parents tips ends low.frontier
 
-  -- what a side meets, and what that leaves
-  pub record HasMet (side : Side) (ids : List ObjectId) (old new : Counting F) : Type 0 where
-    pub same : new ≡ record old { frontier = new.frontier }
-    pub meets : MeetsAll (rows_of old.reader.graph) side old.frontier ids new.frontier
-
   -- with the depth of these
   abbrev pub lower_by : Counting F → List ObjectId → Counting F
   lower_by c ids = record c { depth = least (rows_of c.reader.graph) c.depth ids }
@@ -131,9 +126,10 @@ module _ {F : Type 0} (objects : F → Objects) (faulty : F → ObjectId → Typ
 
   -- the same, and why it fails, as the code comes there: both sides meet their starts, and the depth is lowered twice
   module _ (tips ends : List ObjectId) (old first second once low : Counting F) (stands : old.reader.in_use ≡ true) (depth : old.depth ≡ infinity) (expanded : old.expanded ≡ 0) (queue : old.frontier.queue ≡ []) (known : old.frontier.known ≡ map.empty)
-      (a : HasMet Tips tips old first) (b : HasMet Ends ends first second) (c : once ≡ lower_by second ends) (d : low ≡ lower_by once tips) (sorting : Sorting) where
+      (is_first : first ≡ record old { frontier = first.frontier }) (tips_met : MeetsAll (rows_of old.reader.graph) Tips old.frontier tips first.frontier)
+      (is_second : second ≡ record first { frontier = second.frontier }) (ends_met : MeetsAll (rows_of first.reader.graph) Ends first.frontier ends second.frontier) (c : once ≡ lower_by second ends) (d : low ≡ lower_by once tips) (sorting : Sorting) where
     lowered : low ≡ record old { frontier = second.frontier; depth = least (rows_of old.reader.graph) infinity (tips ++ ends) }
-    lowered = d ∙ ap (λ x. lower_by x tips) c ∙ ap (λ x. lower_by (lower_by x ends) tips) (b.same ∙ (λ k. record (a.same k) { frontier = second.frontier }))
+    lowered = d ∙ ap (λ x. lower_by x tips) c ∙ ap (λ x. lower_by (lower_by x ends) tips) (is_second ∙ (λ k. record (is_first k) { frontier = second.frontier }))
         ∙ ap (λ n. record old { frontier = second.frontier; depth = n }) (least-append (rows_of old.reader.graph) old.depth tips ends ∙ ap (λ n. least (rows_of old.reader.graph) n (tips ++ ends)) depth)
 
     plans : plan_by low sorting tips ends ≡ plan_by old sorting tips ends
@@ -144,8 +140,8 @@ module _ {F : Type 0} (objects : F → Objects) (faulty : F → ObjectId → Typ
       stands = stands;
       depth = refl;
       expanded = expanded;
-      fresh = fresh_met (objects old.reader.find) (rows_of old.reader.graph) old.parents tips ends old.frontier first.frontier second.frontier queue known a.meets
-          (subst (λ r. MeetsAll (rows_of r.graph) Ends first.frontier ends second.frontier) (ap (λ x. x.reader) a.same) b.meets);
+      fresh = fresh_met (objects old.reader.find) (rows_of old.reader.graph) old.parents tips ends old.frontier first.frontier second.frontier queue known tips_met
+          (subst (λ r. MeetsAll (rows_of r.graph) Ends first.frontier ends second.frontier) (ap (λ x. x.reader) is_first) ends_met);
     })
 
     pub begun_from : (explored : Counting F) → Explores objects faulty low explored → IsRested explored.reader.in_use explored.depth explored.frontier.queue → HasBegun objects faulty (plan_by old sorting tips ends) explored

@@ -35,7 +35,8 @@ module _ (walked : ObjectId → List ObjectId) where
   naming_sum p ds = is_sum_by (naming walked p) (λ d. cond (is_among p (walked d)) 1 0) refl (λ d ds. refl) ds
 
   -- one more is done; or none is, and nothing changes
-  pub tally_steps : (here : Bool) (done after taken : ObjectId → Bool) (old new : ObjectId → ℕ) (i : ObjectId) → (here ≡ true → done i ≡ false) → ((j : ObjectId) → after j ≡ ((is_same j i && here) || done j)) → ((p : ObjectId) → new p ≡ cond (here && is_among p (walked i)) 1 0 + old p) → IsTally walked done taken old → IsTally walked after taken new
+  pub tally_steps : (here : Bool) (done after taken : ObjectId → Bool) (old new : ObjectId → ℕ) (i : ObjectId) → (here ≡ true → done i ≡ false)
+      → ((j : ObjectId) → after j ≡ ((is_same j i && here) || done j)) → ((p : ObjectId) → new p ≡ cond (here && is_among p (walked i)) 1 0 + old p) → IsTally walked done taken old → IsTally walked after taken new
   tally_steps here done after taken old new i u d c h = record {
     open_to = cond here (i ∷ h.open_to) h.open_to;
     each = λ j. grind (arith, h.each j, d j, same_is j i, h.taken_done i, u);

@@ -1,7 +1,8 @@
 -- Counting is exact down to the depth.
-use Rattle.std.specs.Prelude.{◌≡◌, ◌⊎◌, ◌≤◌, ℕ, ◌+◌, List, [], ◌∷◌, Bool, true, false, not, ◌||◌, nat_le, Some, Contains, length, slice_get}
-use Rattle.std.proofs.Common.{refl, sym, ap, subst, inl, inr, ⊎_elim, ◌∙◌, arith}
-use Rattle.std.proofs.lemmas.Bool.{leb-true, true≢false, false≢true, or_cases, cases_Bool}
+use Rattle.std.specs.Prelude.{◌≡◌, ◌⊎◌, ◌≤◌, ℕ, ◌+◌, List, ◌∷◌, Bool, true, false, ◌||◌, Some, Contains, length, slice_get}
+use Rattle.std.proofs.Common.{refl, sym, subst, inl, inr, ⊎_elim, ◌∙◌, arith}
+use Rattle.std.proofs.lemmas.Bool.Decides.{nat_tests}
+use Rattle.std.proofs.lemmas.Bool.{true≢false, or_cases, cases_Bool}
 use Rattle.gix_hash.specs.declared.ObjectId.{ObjectId}
 use Rattle.gix_object.specs.Object.{Objects}
 use Rattle.gix_hash.proofs.Ids.Membership.{same_is, same_itself, Contains-here, Contains-there, Contains-cons_cases}
@@ -43,10 +44,7 @@ number_more P Q n m c one absent now f g h = record {
 
 -- the first that waits isn't below the depth as long as the rows are in use
 top_high : (in_use : Bool) (depth : ℕ) (queue : List (ℕ × Waiting)) (entry : ℕ × Waiting) → slice_get queue 0 ≡ Some entry → is_pending in_use depth queue ≡ true → in_use ≡ true → depth ≤ entry.0
-top_high in_use depth [] entry f p e = absurd (false≢true p)
-top_high in_use depth (x ∷ queue) entry f p e =
-    let same : x ≡ entry = (let s : Some x ≡ Some entry = f in cc) in
-    subst (λ y. depth ≤ y.0) same (leb-true depth x.0 (sym (ap (λ b. not b || nat_le depth x.0) e) ∙ p))
+top_high in_use depth queue entry f p e = grind (arith, nat_tests)
 
 module _ {F : Type 0} (objects : F → Objects) (faulty : F → ObjectId → Type 0) where
   -- a row that isn't whole has a fault, where the rows agree

@@ -32,7 +32,8 @@ module _ {F : Type 0} (objects : F → Objects) (faulty : F → ObjectId → Typ
   steps_smaller old new s =
       let mode : Parents = side_mode s.entry.1.side old.parents in
       let ids : List ObjectId = s.reads.info.parent_ids.items in
-      let named : (j : ObjectId) → Contains s.ids j → Contains (names_of old) j = λ j m. among_is j (names_of old) (reads_named (objects old.reader.find) (faulty old.reader.find) (rows_of old.reader.graph) s.reads.reads j (walked_within mode ids j (last_from (by_mode mode ids) j (subst (λ those. Contains those j) s.reads.named m)))) in
+      let named : (j : ObjectId) → Contains s.ids j → Contains (names_of old) j =
+      λ j m. among_is j (names_of old) (reads_named (objects old.reader.find) (faulty old.reader.find) (rows_of old.reader.graph) s.reads.reads j (walked_within mode ids j (last_from (by_mode mode ids) j (subst (λ those. Contains those j) s.reads.named m)))) in
       let met : to_do (names_of old) s.followed ≤ to_do (names_of old) (record old.frontier { queue = s.left }) = (parents_met (rows_of old.reader.graph) s.follows).less (names_of old) named in
       let seen : (t : Side) (j : ObjectId) → reached new.frontier.known t j ≡ cond (is_same j s.entry.1.id && is_side t s.entry.1.side) Done (reached s.followed.known t j) = λ t j. ap (λ those. reached those t j) s.finishes.known ∙ moved s.followed.known s.entry.1.id s.entry.1.side t Done j in
       let less : sum_by (unseen_by new.frontier) (names_of old) ≤ sum_by (unseen_by s.followed) (names_of old) = sum_by-le-sum_by (unseen_by new.frontier) (unseen_by s.followed) (names_of old) (λ j. grind (arith, seen Tips j, seen Ends j)) in

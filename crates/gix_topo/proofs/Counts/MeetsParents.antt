@@ -63,11 +63,13 @@ module _ (rows : List GraphRow) where
   met_none : (side : Side) (f : Frontier) → AreMet rows side [] (λ j. 0) f f
   met_none side f = met_again side [] f (λ j e. cc)
 
-  met_first : (side : Side) (i : ObjectId) (old new : Frontier) → has_seen old side i ≡ false → IsPermutation ((known_generation rows i, waiting_by i side) ∷ old.queue) new.queue → new.known ≡ map.insert old.known i (with_progress side Queued (known_of old.known i)) → AreMet rows side (i ∷ []) (λ j. 0) old new
+  met_first : (side : Side) (i : ObjectId) (old new : Frontier) → has_seen old side i ≡ false
+      → IsPermutation ((known_generation rows i, waiting_by i side) ∷ old.queue) new.queue → new.known ≡ map.insert old.known i (with_progress side Queued (known_of old.known i)) → AreMet rows side (i ∷ []) (λ j. 0) old new
   met_first side i old new u p k = record {
     moved = λ s j. grind (arith, now s j, u, side_is s side, same_is j i);
     waits = λ s j. grind (arith, waiting-permutation s j ((known_generation rows i, waiting_by i side) ∷ old.queue) new.queue p, u, side_is s side, same_is j i);
-    keyed = λ entry m. ⊎_elim (λ e. inl (subst (λ x. x.0 ≡ known_generation rows x.1.id) e refl)) (λ t. inr t) (Contains-cons_cases entry (known_generation rows i, waiting_by i side) old.queue (Contains-permutation new.queue ((known_generation rows i, waiting_by i side) ∷ old.queue) entry (IsPermutation-sym ((known_generation rows i, waiting_by i side) ∷ old.queue) new.queue p) m));
+    keyed = λ entry m. ⊎_elim (λ e. inl (subst (λ x. x.0 ≡ known_generation rows x.1.id) e refl)) (λ t. inr t)
+        (Contains-cons_cases entry (known_generation rows i, waiting_by i side) old.queue (Contains-permutation new.queue ((known_generation rows i, waiting_by i side) ∷ old.queue) entry (IsPermutation-sym ((known_generation rows i, waiting_by i side) ∷ old.queue) new.queue p) m));
     children = λ j. let e : children_of new j ≡ children_of old j = ap (λ those. (known_of those j).indegree) k ∙ kept (λ x. x.indegree) old.known i (with_progress side Queued (known_of old.known i)) j (grind arith) in omega arith;
     made = λ j. ap (λ those. (known_of those j).was_ready) k ∙ kept (λ x. x.was_ready) old.known i (with_progress side Queued (known_of old.known i)) j (grind arith);
     less = λ names h.

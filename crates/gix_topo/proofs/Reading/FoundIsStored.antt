@@ -33,18 +33,17 @@ module _ (objects : Objects) (faulty : ObjectId → Type 0) (rows : List GraphRo
   finite_told i says =
       ap told_generation says.generation ∙ ap (λ b. cond b (Some says.row.generation) None) (lt-ltb says.row.generation infinity (agrees says.row (row_stands rows i says.row says.there).0).finite)
 
-  reads_time : {in_use : Bool} {i : ObjectId} {info : Info} {new : Bool} → Reads objects faulty rows in_use i (Ok info) new → info.commit_time ≡ Some (time_of objects i)
-  reads_time {i = i} (by_row (is_read h says) is) = is.same_time ∙ ap Some (says.time ∙ row_says_time objects rows agrees i says.row says.there)
-  reads_time {i = i} (by_text n t) =
-      t.2.0.same_time ∙ ap Some (committer_time (read_commit (kind_of i) t.0) (first_committer (commit_items (kind_of i) t.0)) (tells (kind_of i) t.0) ∙ sym (ap (λ o. time_in (commit_of_object i o)) t.1))
-
-  reads_row : {in_use : Bool} {i : ObjectId} {info : Info} {new : Bool} → Reads objects faulty rows in_use i (Ok info) new → IsRowGeneration rows i info.generation
-  reads_row {i = i} (by_row (is_read h says) is) = subst (IsRowGeneration rows i) (sym (is.same_generation ∙ finite_told i says)) (says.row, says.there, refl)
-  reads_row {i = i} (by_text n t) = subst (IsRowGeneration rows i) (sym t.2.0.same_generation) tt
-
-  reads_told : {in_use : Bool} {i : ObjectId} {info : Info} {new : Bool} → Reads objects faulty rows in_use i (Ok info) new → new ≡ true → info.generation ≡ row_generation (row_of rows i)
-  reads_told {i = i} (by_row (is_read h says) is) e = is.same_generation ∙ finite_told i says ∙ sym (ap row_generation says.there)
-  reads_told (by_text r t) e = t.2.0.same_generation ∙ sym (ap row_generation (passed_over r e))
+  reads_stored : {in_use : Bool} {i : ObjectId} {info : Info} {new : Bool} → Reads objects faulty rows in_use i (Ok info) new → (info.commit_time ≡ Some (time_of objects i)) × IsRowGeneration rows i info.generation × (new ≡ true → info.generation ≡ row_generation (row_of rows i))
+  reads_stored {i = i} (by_row (is_read h says) is) = (
+    is.same_time ∙ ap Some (says.time ∙ row_says_time objects rows agrees i says.row says.there),
+    subst (IsRowGeneration rows i) (sym (is.same_generation ∙ finite_told i says)) (says.row, says.there, refl),
+    λ e. is.same_generation ∙ finite_told i says ∙ sym (ap row_generation says.there),
+  )
+  reads_stored {i = i} (by_text r t) = (
+    t.2.0.same_time ∙ ap Some (committer_time (read_commit (kind_of i) t.0) (first_committer (commit_items (kind_of i) t.0)) (tells (kind_of i) t.0) ∙ sym (ap (λ o. time_in (commit_of_object i o)) t.1)),
+    subst (IsRowGeneration rows i) (sym t.2.0.same_generation) tt,
+    λ e. t.2.0.same_generation ∙ sym (ap row_generation (passed_over r e)),
+  )
 
 module _ {F : Type 0} (objects : F → Objects) (faulty : F → ObjectId → Type 0) (plan : TopoPlan F) where
   -- with rows that agree, its parents are the ids that its text names
@@ -57,9 +56,11 @@ module _ {F : Type 0} (objects : F → Objects) (faulty : F → ObjectId → Typ
 
   -- with rows that agree, it is as its text and the rows say
   pub found_stored : {was_in_use in_use : Bool} {r : Ready} → IsAgreeing (objects plan.store) plan.rows → IsFound objects faulty plan was_in_use in_use r → IsStored objects plan in_use r
-  found_stored {r = r} agrees f = record {
-    parents = found_text agrees f;
-    time = let same : Some r.time ≡ Some (time_of (objects plan.store) r.id) = sym f.is.same_time ∙ reads_time (objects plan.store) (faulty plan.store) plan.rows agrees f.reads in cc;
-    by_row = subst (IsRowGeneration plan.rows r.id) f.is.same_generation (reads_row (objects plan.store) (faulty plan.store) plan.rows agrees f.reads);
-    told = λ e. sym f.is.same_generation ∙ reads_told (objects plan.store) (faulty plan.store) plan.rows agrees f.reads (f.later e);
-  }
+  found_stored {r = r} agrees f =
+      let k = reads_stored (objects plan.store) (faulty plan.store) plan.rows agrees f.reads in
+      record {
+        parents = found_text agrees f;
+        time = let same : Some r.time ≡ Some (time_of (objects plan.store) r.id) = sym f.is.same_time ∙ k.0 in cc;
+        by_row = subst (IsRowGeneration plan.rows r.id) f.is.same_generation k.1;
+        told = λ e. sym f.is.same_generation ∙ k.2 (f.later e);
+      }

@@ -9,7 +9,8 @@ use Rattle.gix_topo.proofs.counting.Counting.follow.Goals as goal
 pub loop-id-preserved : goal.loop-id-preserved
 loop-id-preserved g c = record {
   same = λ k. record (c.loop-id.invariant.same k) { frontier = c.meet_parent.new.self };
-  follows = λ new f. c.loop-id.invariant.follows new (rw (c.in-Some.ensures.cases.0) (more (subst (λ k. MeetsParent c.args.side c.loop-id.self.frontier k c.in-Some.id.now c.meet_parent.new.self) (c.generation-generation.ensures ∙ ap (λ x. known_generation (rows_of x.reader.graph) c.in-Some.id.now) c.loop-id.invariant.same) c.in_ok-meet_parent.ensures) f));
+  follows = λ new f. c.loop-id.invariant.follows new (rw (c.in-Some.ensures.cases.0) (more
+      (subst (λ k. MeetsParent c.args.side c.loop-id.self.frontier k c.in-Some.id.now c.meet_parent.new.self) (c.generation-generation.ensures ∙ ap (λ x. known_generation (rows_of x.reader.graph) c.in-Some.id.now) c.loop-id.invariant.same) c.in_ok-meet_parent.ensures) f));
 }
 
 pub returns-clause-follows : goal.returns-clause-follows

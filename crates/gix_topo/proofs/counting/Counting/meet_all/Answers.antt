@@ -9,7 +9,8 @@ use Rattle.gix_topo.proofs.counting.Counting.meet_all.Goals as goal
 pub loop-id-preserved : goal.loop-id-preserved
 loop-id-preserved g c = record {
   same = λ k. record (c.loop-id.invariant.same k) { frontier = c.meet.new.self };
-  meets = λ new f. c.loop-id.invariant.meets new (rw (c.in-Some.ensures.cases.0) (meets (subst (λ k. Meets c.loop-id.self.frontier k c.in-Some.id.now c.args.side c.meet.new.self) (c.generation-generation.ensures ∙ ap (λ x. known_generation (rows_of x.reader.graph) c.in-Some.id.now) c.loop-id.invariant.same) c.in_ok-meet.ensures) f));
+  meets = λ new f. c.loop-id.invariant.meets new (rw (c.in-Some.ensures.cases.0) (meets
+      (subst (λ k. Meets c.loop-id.self.frontier k c.in-Some.id.now c.args.side c.meet.new.self) (c.generation-generation.ensures ∙ ap (λ x. known_generation (rows_of x.reader.graph) c.in-Some.id.now) c.loop-id.invariant.same) c.in_ok-meet.ensures) f));
 }
 
 pub returns-clause-meets : goal.returns-clause-meets

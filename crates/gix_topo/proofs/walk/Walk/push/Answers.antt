@@ -7,7 +7,7 @@ use Rattle.gix_topo.specs.Reading.{Reads}
 use Rattle.gix_topo.specs.Walk.{HoldsReady}
 use Rattle.gix_frontier.specs.Inside.Frontier.{MarksReady}
 use Rattle.gix_topo.specs.Inside.Releasing.{LooksUpParent, itself}
-use Rattle.gix_topo.proofs.Reading.NoRowInUse.{reading_fails}
+use Rattle.gix_topo.proofs.Reading.OnceRead.{reading_fails}
 use Rattle.gix_topo.proofs.Taking.OneRelease.{looks_up_by, take_more, fault_of_parent, reads_timed, at_index, time_told}
 use Rattle.gix_frontier.proofs.Results.{err_from}
 use Rattle.gix_topo.proofs.walk.Walk.push.Goals as goal
