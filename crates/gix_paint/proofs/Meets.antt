@@ -109,17 +109,10 @@ module _ {F : Type 0} (objects : F → Objects) where
 
     module _ (f : Option Side → Bool) (named : List ObjectId) (among : is_among i named ≡ true) where
       left_same : f (Some on) ≡ f (map_of.get p.marks i) → left f new.marks named ≡ left f p.marks named
-      left_same e = ap length (fresh_agree _ _ named (λ j h. ap f (marks_now j) ∙ same j (is_same j i) refl))
-        where
-          same : (j : ObjectId) (b : Bool) → is_same j i ≡ b → f (cond b (Some on) (map_of.get p.marks j)) ≡ f (map_of.get p.marks j)
-          same j true s = e ∙ sym (ap (λ k. f (map_of.get p.marks k)) (same_is j i s))
-          same j false s = refl
+      left_same e = ap length (fresh_agree _ _ named (λ j h. let now = marks_now j in let same : is_same j i ≡ true → f (map_of.get p.marks j) ≡ f (map_of.get p.marks i) = λ s. ap (λ k. f (map_of.get p.marks k)) (same_is j i s) in grind arith))
 
       left_less : f (Some on) ≡ true → f (map_of.get p.marks i) ≡ false → suc (left f new.marks named) ≡ left f p.marks named
-      left_less t e = ap (λ ids. suc (length ids)) (fresh_agree _ _ named (λ j h. ap f (marks_now j) ∙ split (is_same j i) (map_of.get p.marks j))) ∙ new_less (λ j. f (map_of.get p.marks j)) named i among e
-        where
-          split : (b : Bool) (o : Option Side) → f (cond b (Some on) o) ≡ (b || f o)
-          split b o = grind arith
+      left_less t e = ap (λ ids. suc (length ids)) (fresh_agree _ _ named (λ j h. let now = marks_now j in grind arith)) ∙ new_less (λ j. f (map_of.get p.marks j)) named i among e
 
     -- where the id is new to the side, it is met, and is open if the side is the visible one
     pub meets_new : knows on (map_of.get p.marks i) ≡ false → (waits : Bool → Bool → Bool) → ((j : ObjectId) → set.contains mid.frontier j ≡ waits (is_same j i) (set.contains p.frontier j))

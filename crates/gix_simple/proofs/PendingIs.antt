@@ -43,14 +43,11 @@ pub grows : (o : Option CommitTimeOrder) (named taken : List ObjectId) (i : Obje
 grows None named taken i left ids new seen rest joins alike within here =
     joins
     ∙ ap (λ xs. xs ++ fresh seen new) rest
-    ∙ (λ k. fresh_agree (λ j. is_same j i || is_among j taken) (λ j. is_among j (taken ++ i ∷ [])) named (λ j n. pushed j) k ++ fresh_agree seen (λ j. is_among j named || is_among j (taken ++ i ∷ [])) new (λ j n. alike j n ∙ absorbed (is_among j named) (is_among j (taken ++ i ∷ [])) (λ t. inside j t)) k)
+    ∙ (λ k. fresh_agree (λ j. is_same j i || is_among j taken) (λ j. is_among j (taken ++ i ∷ [])) named (λ j n. pushed j) k ++ fresh_agree seen (λ j. is_among j named || is_among j (taken ++ i ∷ [])) new (λ j n. let a = alike j n in let t = inside j in grind arith) k)
     ∙ sym (fresh-append (λ j. is_among j (taken ++ i ∷ [])) named new)
   where
     pushed : (j : ObjectId) → (is_same j i || is_among j taken) ≡ is_among j (taken ++ i ∷ [])
     pushed j = or_comm (is_same j i) (is_among j taken) ∙ sym (among-append j taken (i ∷ []) ∙ ap (λ b. is_among j taken || b) (among-one j i))
-
-    absorbed : (a b : Bool) → (b ≡ true → a ≡ true) → a ≡ (a || b)
-    absorbed a b h = grind arith
 
     inside : (j : ObjectId) → is_among j (taken ++ i ∷ []) ≡ true → is_among j named ≡ true
     inside j t = ⊎_elim (λ e. subst (λ y. is_among y named ≡ true) (sym (same_is j i e)) here) (λ e. within j e) (or_cases (is_same j i) (is_among j taken) (pushed j ∙ t))

@@ -119,9 +119,6 @@ module _ {F P : Type 0} (objects : F → Objects) (faulty : F → ObjectId → T
   asked_test s w h i (remembers e) = (sym (h.remembered i e), h.asked_of)
   asked_test s w h i (asks {answer = b} {predicate = q} e a) = (s.by_test w.predicate q i b h.asked_of a, further h.asked_of a)
 
-  insert_seen : (old : set.FinSet id_cmp) (i j : ObjectId) → set.contains (set.insert old i) j ≡ (is_same j i || set.contains old j)
-  insert_seen old i j = set.contains-insert id_total old i j
-
   -- an id that isn't kept adds nothing
   passed_over : (s : Setting) (i : ObjectId) (xs : List ObjectId) (old : ObjectId → Bool) → keep s i ≡ false → Joins (order_of s) xs (xs ++ fresh old (filter (keep s) (i ∷ [])))
   passed_over s i xs old e = Joins-refl (order_of s) _ _ (grind (arith, append-nil xs))
@@ -187,6 +184,16 @@ module _ {F P : Type 0} (objects : F → Objects) (faulty : F → ObjectId → T
   is_kept_if : (s : Setting) (i : ObjectId) (b : Bool) → s.accepts i ≡ true → s.hidden i ≡ false → is_older (time_of (objects s.store) i) (limit_of s) ≡ b → keep s i ≡ not b
   is_kept_if s i b a h o = λ k. (a k && not (h k)) && not (o k)
 
+  -- the id was asked about, and is seen now
+  asked_did : (s : Setting) (w : SimpleWalk F P) → Stands s w → (i : ObjectId) (q : P) (ps : List Pending) → Becomes answers s.predicate q → ((order : CommitTimeOrder) → order_of s ≡ Some order → (p : Pending) → Contains ps p → p.time ≡ time_of (objects s.store) p.id)
+      → Joins (order_of s) (ids_of ps) (ids_of w.pending ++ fresh (set.contains w.seen) (filter (keep s) (i ∷ []))) → Did s (i ∷ []) w (asked_walk objects faulty answers w i q ps)
+  asked_did s w h i q ps becomes timed joins = record {
+    rest = stands_asked s w h i q ps becomes timed;
+    same_rows = refl;
+    seen = λ j k. set.contains-insert id_total w.seen i j ∙ ap (λ b. b || set.contains w.seen j) (sym (among-one j i));
+    pending = joins;
+  }
+
   one : (s : Setting) (w : SimpleWalk F P) → Stands s w → (by_row : Bool) (i : ObjectId) → IsReady s w by_row i → {v : SimpleWalk F P} → Treats objects faulty answers w by_row i GoesOn v → Did s (i ∷ []) w v
   one s w h by_row i ready (hidden e) =
       let hid : s.hidden i ≡ true = sym ready.marked ∙ ap (λ m. set.contains m i) (sym h.marks) ∙ e in
@@ -196,13 +203,7 @@ module _ {F P : Type 0} (objects : F → Objects) (faulty : F → ObjectId → T
       record { rest = h; same_rows = refl; seen = λ j k. seen_once i j (set.contains w.seen) e ∙ ap (λ b. b || set.contains w.seen j) (sym (among-one j i)); pending = already s i _ _ e }
   one s w h by_row i ready (refused {predicate = q} is_new a) =
       let t : (false ≡ s.accepts i) × Becomes answers s.predicate q = asked_test s w h i a in
-      let out : keep s i ≡ false = and_left _ _ (and_left _ _ (sym t.0)) in
-      record {
-        rest = stands_asked s w h i q w.pending t.1 h.timed;
-        same_rows = refl;
-        seen = λ j k. insert_seen w.seen i j ∙ ap (λ b. b || set.contains w.seen j) (sym (among-one j i));
-        pending = passed_over s i _ _ out;
-      }
+      asked_did s w h i q w.pending t.1 h.timed (passed_over s i _ _ (and_left _ _ (and_left _ _ (sym t.0))))
   one s w h by_row i ready (accepted {predicate = q} {time = time} {pending = ps} is_new a reads queues) =
       let t : (true ≡ s.accepts i) × Becomes answers s.predicate q = asked_test s w h i a in
       let o : ((order : CommitTimeOrder) → order_of s ≡ Some order → time ≡ time_of (objects s.store) i) × (is_older time (limit_of s) ≡ is_older (time_of (objects s.store) i) (limit_of s)) = older_alike s w h by_row i time ready.rowed reads in
@@ -211,18 +212,10 @@ module _ {F P : Type 0} (objects : F → Objects) (faulty : F → ObjectId → T
       go t.1 o.0 decided queues
     where
       go : Becomes answers s.predicate q → ((order : CommitTimeOrder) → order_of s ≡ Some order → time ≡ time_of (objects s.store) i) → ((b : Bool) → is_older time (cutoff w.parents w.sorting) ≡ b → keep s i ≡ not b) → {ps' : List Pending} → Enqueues objects faulty answers (time_order w.parents w.sorting) (cutoff w.parents w.sorting) w.pending i time ps' → Did s (i ∷ []) w (asked_walk objects faulty answers w i q ps')
-      go becomes t decided (dropped e) = record {
-        rest = stands_asked s w h i q w.pending becomes h.timed;
-        same_rows = refl;
-        seen = λ j k. insert_seen w.seen i j ∙ ap (λ b. b || set.contains w.seen j) (sym (among-one j i));
-        pending = passed_over s i (ids_of w.pending) (set.contains w.seen) (decided true e);
-      }
-      go becomes t decided (enqueued {new = new} e holds) = record {
-        rest = stands_asked s w h i q new becomes (timed_on s w h i time new t holds);
-        same_rows = refl;
-        seen = λ j k. insert_seen w.seen i j ∙ ap (λ b. b || set.contains w.seen j) (sym (among-one j i));
-        pending = Joins-trans (order_of s) _ _ _ (subst (λ ord. Joins ord (ids_of new) (ids_of w.pending ++ i ∷ [])) (same_order s w h) (Joins-holds (time_order w.parents w.sorting) w.pending new (record { id = i; time = time }) holds)) (Joins-refl (order_of s) _ _ (added s i (ids_of w.pending) (set.contains w.seen) (decided false e) is_new.unseen));
-      }
+      go becomes t decided (dropped e) = asked_did s w h i q w.pending becomes h.timed (passed_over s i (ids_of w.pending) (set.contains w.seen) (decided true e))
+      go becomes t decided (enqueued {new = new} e holds) =
+          asked_did s w h i q new becomes (timed_on s w h i time new t holds)
+          (Joins-trans (order_of s) _ _ _ (subst (λ ord. Joins ord (ids_of new) (ids_of w.pending ++ i ∷ [])) (same_order s w h) (Joins-holds (time_order w.parents w.sorting) w.pending new (record { id = i; time = time }) holds)) (Joins-refl (order_of s) _ _ (added s i (ids_of w.pending) (set.contains w.seen) (decided false e) is_new.unseen)))
 
   joined : (s : Setting) (i : ObjectId) (ids : List ObjectId) (w mid : SimpleWalk F P) → Did s (i ∷ []) w mid →
       fresh (set.contains w.seen) (filter (keep s) (i ∷ [])) ++ fresh (set.contains mid.seen) (filter (keep s) ids) ≡ fresh (set.contains w.seen) (filter (keep s) (i ∷ ids))
