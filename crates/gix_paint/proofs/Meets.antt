@@ -3,6 +3,7 @@ use Rattle.std.specs.Prelude.{◌≡◌, ◌≢◌, ◌⊎◌, ◌≤◌, ℕ, s
 use Rattle.std.specs.Borrow.{Bor}
 use Rattle.std.specs.Result.{IsErrAnd}
 use Rattle.std.proofs.Common.{refl, sym, ap, subst, inl, inr, ⊎_elim, ◌∙◌, arith}
+use Rattle.std.proofs.lemmas.List.{nil_from_length}
 use Rattle.std.proofs.lemmas.List.Elements.{Contains-append_left, Contains-append_right, Contains-append_cases}
 use Rattle.std.proofs.lemmas.List.Sorted.{Contains-permutation, length_permutation}
 use Rattle.std.specs.FinMap as map_of
@@ -192,11 +193,7 @@ module _ {F : Type 0} (objects : F → Objects) (faulty : F → ObjectId → Typ
 
   module _ {on : Side} {all : List ObjectId} {old : Painter F} {ids : List ObjectId} {p : Painter F} (h : IsLeft on all old ids p) where
     pub none_left : length ids ≡ 0 → Meets objects on all old p
-    none_left e = h.meets (subst (λ xs. Meets objects on xs p p) (none ids e) (meets_none objects on p))
-      where
-        none : (xs : List ObjectId) → length xs ≡ 0 → [] ≡ xs
-        none [] e = refl
-        none (x ∷ xs) e = absurd (omega arith)
+    none_left e = h.meets (subst (λ xs. Meets objects on xs p p) (sym (nil_from_length ids e)) (meets_none objects on p))
 
     module _ (i : ObjectId) (rest : List ObjectId) (first : ids ≡ i ∷ rest) where
       pub left_step : {mid : Painter F} → Meets objects on (i ∷ []) p mid → IsLeft on all old rest mid
@@ -222,7 +219,3 @@ module _ {F : Type 0} (objects : F → Objects) (faulty : F → ObjectId → Typ
       (subst (λ g. GivesParents (objects old.source.objects.now) g entry items (graph_in_use mid.source)) graph
       (subst (λ o. GivesParents (objects o.now) (graph_in_use begun.source) entry items (graph_in_use mid.source)) takes.objects_stay gives)))
       met
-
-pub no_ids : (tips : List Pending) → length tips ≡ 0 → length (ids_of tips) ≡ 0
-no_ids [] e = refl
-no_ids (tip ∷ tips) e = absurd (omega arith)

@@ -34,7 +34,7 @@ use Rattle.gix_revwalk.proofs.NewIds.{fresh, times, times-fresh, among-filter}
 use Rattle.gix_simple.proofs.Treated.{Setting, Stands}
 use Rattle.gix_simple.proofs.OneStep.{reads_whole, whole_well}
 use Rattle.gix_simple.proofs.PendingIs.{IsQueue, IsNextOne}
-use Rattle.gix_simple.proofs.WholeWalk.{Known, Runs, BegunOf, RunsTo, none_yet, begun_run, next_steps, ended_run}
+use Rattle.gix_simple.proofs.WholeWalk.{Known, Runs, RunsTo, none_yet, begun_run, next_steps, ended_run}
 use Rattle.gix_revwalk.proofs.ReadsWhole.{walked_within, no_fault}
 use Rattle.gix_hash.proofs.Lists.{filter_within, filter_all}
 
@@ -149,7 +149,7 @@ module _ {F P : Type 0} (objects : F → Objects) (faulty : F → ObjectId → T
 
     ran : (marks : set.FinSet id_cmp) {list : List (Result Info Error)} {last new : SimpleWalk F P} → RunsTo objects faulty answers (set_up marks) [] list last → Steps objects faulty answers last None new
         → (ids : List ObjectId) × AreGiven list ids × IsInOrder (time_order w.parents w.sorting) (time_of (objects w.store)) next_kept (starts_of w hides) ids
-    ran marks r steps = (r.begun.ids, r.begun.given_as, in_order_from (time_order w.parents w.sorting) (time_of (objects w.store)) next_kept (starts_of w hides) r.begun.ids r.begun.begins (ended_run objects faulty answers (set_up marks) [] r steps))
+    ran marks r steps = (r.ids, r.given_as, in_order_from (time_order w.parents w.sorting) (time_of (objects w.store)) next_kept (starts_of w hides) r.ids r.begins (ended_run objects faulty answers (set_up marks) [] r steps))
 
     first_of : {answer : Result Info Error} (left : List (Result Info Error)) {new : SimpleWalk F P} → All Allowed (answer ∷ left) → Next objects faulty answers w (Some answer) new → Begins Allowed (Some answer) new
     first_of {answer} left {new} ok n = begins (Some answer) new (λ a e. let same : answer ≡ a = cc in subst Allowed same (All-head Allowed answer left ok)) n
@@ -170,7 +170,7 @@ module _ {F P : Type 0} (objects : F → Objects) (faulty : F → ObjectId → T
     some_given [] last ok drawn = ([], tt, begins_from (time_order w.parents w.sorting) (time_of (objects w.store)) next_kept (starts_of w hides) [] (λ k i e. cc))
     some_given (answer ∷ left) last ok drawn =
         let b : Begins Allowed (Some answer) drawn.0 = first_of left ok drawn.1 in
-        let r : BegunOf objects faulty answers (set_up b.marks) [] (answer ∷ left) = (begun_run objects faulty answers (set_up b.marks) b.known answer left b.mid drawn.0 last [] b.runs ok b.steps drawn.2).begun in
+        let r = begun_run objects faulty answers (set_up b.marks) b.known answer left b.mid drawn.0 last [] b.runs ok b.steps drawn.2 in
         (r.ids, r.given_as, begins_from (time_order w.parents w.sorting) (time_of (objects w.store)) next_kept (starts_of w hides) r.ids r.begins)
 
 module _ {F P : Type 0} (objects : F → Objects) (faulty : F → ObjectId → Type 0) (answers : P → ObjectId → Bool → P → Type 0) (w : SimpleWalk F P) (accepts hides : ObjectId → Bool)

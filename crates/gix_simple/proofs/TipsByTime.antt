@@ -18,12 +18,6 @@ use Rattle.gix_revwalk.specs.Ids.{ids_of}
 use Rattle.gix_simple.specs.Building.{IsTipFault, FailsAtTip, IsSortedIn, SortsIn, SortsAll, none, more, IsSortedByTime, timed, recent, outdated}
 
 module _ {F P : Type 0} (objects : F → Objects) (bad : F → ObjectId → Type 0) (limit : Option ℤ) where
-  pub sorts_first : (old mid new : SimpleWalk F P) (tip : Pending) (rest tips : List Pending) → tips ≡ tip ∷ rest → SortsIn objects bad limit old tip.id (Ok tt) mid → SortsAll objects bad limit mid rest new → SortsAll objects bad limit old tips new
-  sorts_first old mid new tip rest tips e s r = subst (λ tips. SortsAll objects bad limit old tips new) (sym e) (more s r)
-
-  pub sorts_none : (walk : SimpleWalk F P) (tips : List Pending) → tips ≡ [] → SortsAll objects bad limit walk tips walk
-  sorts_none walk tips e = subst (λ tips. SortsAll objects bad limit walk tips walk) (sym e) none
-
   -- what reading one tip changes
   record Read (old : SimpleWalk F P) (i : ObjectId) (time : ℤ) (gone : Bool) (new : SimpleWalk F P) : Type 0 where
     pending : new.pending ≡ old.pending ++ cond gone [] (record { id = i; time = time } ∷ [])
@@ -81,8 +75,7 @@ module _ {F P : Type 0} (objects : F → Objects) (bad : F → ObjectId → Type
       }
     where
       in_front : (b : Bool) (x : Pending) (xs : List Pending) → cond b [] (x ∷ []) ++ xs ≡ cond (not b) (x ∷ xs) xs
-      in_front true x xs = refl
-      in_front false x xs = refl
+      in_front b x xs = grind arith
 
 -- the pending commits of a walk, read from an empty list
 pub sorted_so : {F P : Type 0} (objects : F → Objects) (bad : F → ObjectId → Type 0) (old : SimpleWalk F P) (by : Sorting) (start new : SimpleWalk F P) (tips : List Pending) → start ≡ record old { sorting = by; pending = [] } → tips ≡ old.pending → (limit : Option ℤ) → limit ≡ cutoff mode.All by → SortsAll objects bad limit start tips new → IsSortedByTime objects old by new

@@ -113,19 +113,11 @@ module _ {F P : Type 0} (objects : F → Objects) (faulty : F → ObjectId → T
 
 module _ {F P : Type 0} (objects : F → Objects) (faulty : F → ObjectId → Type 0) (answers : P → ObjectId → Bool → P → Type 0) (by_row : Bool) where
   -- the ids of a list are treated from its front
-  pub treats_first : {old mid new : SimpleWalk F P} {how : Treated} (i : ObjectId) (rest ids : List ObjectId) → ids ≡ i ∷ rest → Treats objects faulty answers old by_row i GoesOn mid → TreatsAll objects faulty answers by_row mid rest how new → TreatsAll objects faulty answers by_row old ids how new
-  treats_first {old} {mid} {new} {how} i rest ids e h t = subst (λ ids. TreatsAll objects faulty answers by_row old ids how new) (sym e) (more h t)
-
   pub stopped_first : {old new : SimpleWalk F P} (i : ObjectId) (rest ids : List ObjectId) (why : Stop) → ids ≡ i ∷ rest → Treats objects faulty answers old by_row i (how_ended (Err why)) new → TreatsAll objects faulty answers by_row old ids (how_ended (Err why)) new
   stopped_first {old} {new} i rest ids why e h = subst (λ ids. TreatsAll objects faulty answers by_row old ids (how_ended (Err why)) new) (sym e) (stops (fails why) h)
     where
       fails : (why : Stop) → how_ended (Err why) ≢ GoesOn
-      fails stop.Store e = cc
-      fails stop.Memory e = cc
-
-  pub treats_none : {old : SimpleWalk F P} (ids : List ObjectId) → length ids ≡ 0 → TreatsAll objects faulty answers by_row old ids GoesOn old
-  treats_none [] e = none
-  treats_none (i ∷ ids) e = absurd (omega arith)
+      fails why = λ e. grind arith
 
   -- one more id is treated behind the ids of a list
   pub treats_last : {new : SimpleWalk F P} {i : ObjectId} {mid old : SimpleWalk F P} {ids : List ObjectId} → TreatsAll objects faulty answers by_row old ids GoesOn mid → Treats objects faulty answers mid by_row i GoesOn new → TreatsAll objects faulty answers by_row old (ids ++ i ∷ []) GoesOn new

@@ -120,23 +120,22 @@ module _ {F P : Type 0} (objects : F → Objects) (faulty : F → ObjectId → T
   begins_more s done ids i h r zero j e = rw append-nil (let same : i ≡ j = cc in subst (λ x. is_next s done (Some x)) same h)
   begins_more s done ids i h r (suc k) j e = rw append_assoc at (r k j e)
 
-  pub record BegunOf (s : Setting objects faulty answers) (done : List ObjectId) (list : List (Result Info Error)) : Type 0 where
+  -- these answers lead to a walk
+  pub record RunsTo (s : Setting objects faulty answers) (done : List ObjectId) (list : List (Result Info Error)) (last : SimpleWalk F P) : Type 0 where
     pub ids : List ObjectId
     pub given_as : AllZip (given s) list ids
     pub begins : BeginsFrom s done ids
-
-  -- these answers lead to a walk
-  pub record RunsTo (s : Setting objects faulty answers) (done : List ObjectId) (list : List (Result Info Error)) (last : SimpleWalk F P) : Type 0 where
-    pub begun : BegunOf s done list
-    pub runs : Runs s last (done ++ begun.ids)
+    pub runs : Runs s last (done ++ ids)
 
   pub none_yet : (s : Setting objects faulty answers) (done : List ObjectId) (w : SimpleWalk F P) → Runs s w done → RunsTo s done [] w
-  none_yet s done w h = record { begun = record { ids = []; given_as = tt; begins = λ k i e. cc }; runs = subst (Runs s w) (sym (append-nil done)) h }
+  none_yet s done w h = record { ids = []; given_as = tt; begins = λ k i e. cc; runs = subst (Runs s w) (sym (append-nil done)) h }
 
   one_more : (s : Setting objects faulty answers) (done : List ObjectId) {answer : Result Info Error} {left : List (Result Info Error)} {new last : SimpleWalk F P} (t : Stepped s done answer new) → RunsTo s (done ++ t.i ∷ []) left last → RunsTo s done (answer ∷ left) last
   one_more s done {last = last} t r = record {
-    begun = record { ids = t.i ∷ r.begun.ids; given_as = (t.given_as, r.begun.given_as); begins = begins_more s done r.begun.ids t.i t.turn r.begun.begins };
-    runs = subst (Runs s last) (append_assoc done (t.i ∷ []) r.begun.ids) r.runs;
+    ids = t.i ∷ r.ids;
+    given_as = (t.given_as, r.given_as);
+    begins = begins_more s done r.ids t.i t.turn r.begins;
+    runs = subst (Runs s last) (append_assoc done (t.i ∷ []) r.ids) r.runs;
   }
 
   -- drawn as far as one likes
@@ -154,6 +153,6 @@ module _ {F P : Type 0} (objects : F → Objects) (faulty : F → ObjectId → T
       one_more s done t (begun s known left new last (done ++ t.i ∷ []) t.runs (All-tail Allowed answer left ok) drawn)
 
   -- where the walk ends there is no next one
-  pub ended_run : (s : Setting objects faulty answers) (done : List ObjectId) {list : List (Result Info Error)} {last new : SimpleWalk F P} (r : RunsTo s done list last) → Steps objects faulty answers last None new → is_next s (done ++ r.begun.ids) None
-  ended_run s done r (ended e) = ends (order_of objects faulty answers s) (time_of (objects s.store)) (next objects faulty answers s) s.starts (done ++ r.begun.ids)
-      (subst (IsQueue (order_of objects faulty answers s) (named s (done ++ r.begun.ids)) (done ++ r.begun.ids)) (ap ids_of e) r.runs.queue)
+  pub ended_run : (s : Setting objects faulty answers) (done : List ObjectId) {list : List (Result Info Error)} {last new : SimpleWalk F P} (r : RunsTo s done list last) → Steps objects faulty answers last None new → is_next s (done ++ r.ids) None
+  ended_run s done r (ended e) = ends (order_of objects faulty answers s) (time_of (objects s.store)) (next objects faulty answers s) s.starts (done ++ r.ids)
+      (subst (IsQueue (order_of objects faulty answers s) (named s (done ++ r.ids)) (done ++ r.ids)) (ap ids_of e) r.runs.queue)

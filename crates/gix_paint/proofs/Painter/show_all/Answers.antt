@@ -2,7 +2,8 @@ use Rattle.std.proofs.Common.{◌∷◌, sym, ap, subst, ◌∙◌}
 use Rattle.std.specs.VecDeque.Iter.{deque_iter_rest}
 use Rattle.gix_paint.specs.declared.Side.TheVariants as side
 use Rattle.gix_revwalk.specs.Ids.{ids_of}
-use Rattle.gix_paint.proofs.Meets.{IsLeft, fails_as, left_fails, left_step, no_ids, none_left}
+use Rattle.gix_paint.proofs.Meets.{IsLeft, fails_as, left_fails, left_step, none_left}
+use Rattle.std.proofs.lemmas.List.{length-map}
 use Rattle.gix_paint.proofs.Painter.show_all.Goals as goal
 
 pub loop-tip-init : goal.loop-tip-init
@@ -20,4 +21,4 @@ returns-in_err-show-clause-fault g c =
     (left_fails g.F.Find.objects g.F.Find.faulty c.loop-tip.invariant c.tip.inside.id (ids_of (deque_iter_rest c.next.new.self)) (ap ids_of c.in-Some.ensures.steps ∙ ap (λ tip. tip.id ∷ ids_of (deque_iter_rest c.next.new.self)) (sym c.tip.view_is)) _ c.in_err-show.ensures.fault)
 
 pub returns-clause-ok : goal.returns-clause-ok
-returns-clause-ok g c = none_left g.F.Find.objects g.F.Find.faulty c.loop-tip.invariant (no_ids (deque_iter_rest c.loop-tip.tip-iterator) c.in-None.ensures.steps.0)
+returns-clause-ok g c = none_left g.F.Find.objects g.F.Find.faulty c.loop-tip.invariant (length-map (deque_iter_rest c.loop-tip.tip-iterator) (λ p. p.id) ∙ c.in-None.ensures.steps.0)
