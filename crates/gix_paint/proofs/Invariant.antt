@@ -50,25 +50,19 @@ pub reads_parents : (objects : Objects) (i : ObjectId) (ids : List ObjectId) →
 reads_parents objects i ids r = r.2 ∙ sym (ap parents_in r.1)
 
 -- states go on from the unmet to the hidden
-pub met_stays : {s : Side} {met queued : Type 0} {a b : State} → Becomes s met queued a b → a ≢ Unmet → b ≢ Unmet
-met_stays (stays f) n = n
-met_stays (opens v m q) n = λ e. cc
-met_stays (covers v m q) n = λ e. cc
+pub record Later (s : Side) (met queued : Type 0) (a b : State) : Type 0 where
+  pub met_stays : a ≢ Unmet → b ≢ Unmet
+  pub met_now : met → b ≢ Unmet
+  pub was_met : b ≢ Unmet → (a ≢ Unmet) ⊎ queued
+  pub was_read : b ≡ Read → a ≡ Read
+  pub hidden_stays : a ≡ Hides → b ≡ Hides
+  pub hidden_now : s ≡ side.Hidden → met → b ≡ Hides
+  pub was_hidden : b ≡ Hides → (a ≡ Hides) ⊎ ((s ≡ side.Hidden) × met × queued)
 
-pub met_now : {s : Side} {met queued : Type 0} {a b : State} → Becomes s met queued a b → met → b ≢ Unmet
-met_now (stays f) m = (f m).0
-met_now (opens v k q) m = λ e. cc
-met_now (covers v k q) m = λ e. cc
-
-pub hidden_stays : {s : Side} {met queued : Type 0} {a b : State} → Becomes s met queued a b → a ≡ Hides → b ≡ Hides
-hidden_stays (stays f) e = e
-hidden_stays (opens v m q) e = cc
-hidden_stays (covers v m q) e = refl
-
-pub hidden_now : {s : Side} {met queued : Type 0} {a b : State} → Becomes s met queued a b → s ≡ side.Hidden → met → b ≡ Hides
-hidden_now (stays f) e m = (f m).1 e
-hidden_now (opens v k q) e m = cc
-hidden_now (covers v k q) e m = refl
+pub later : {s : Side} {met queued : Type 0} {a b : State} → Becomes s met queued a b → Later s met queued a b
+later (stays f) = record { met_stays = λ n. n; met_now = λ m. (f m).0; was_met = λ n. inl n; was_read = λ e. e; hidden_stays = λ e. e; hidden_now = λ e m. (f m).1 e; was_hidden = λ e. inl e }
+later (opens v m q) = record { met_stays = λ n e. cc; met_now = λ k e. cc; was_met = λ n. inr q; was_read = λ e. cc; hidden_stays = λ e. cc; hidden_now = λ e k. cc; was_hidden = λ e. cc }
+later (covers v m q) = record { met_stays = λ n e. cc; met_now = λ k e. cc; was_met = λ n. inr q; was_read = λ e. cc; hidden_stays = λ e. refl; hidden_now = λ e k. refl; was_hidden = λ e. inr (v, m, q) }
 
 abbrev pub nobody : Side → ObjectId → Type 0
 nobody s i = ⊥
@@ -156,7 +150,7 @@ module _ {F : Type 0} (objects : F → Objects) (store : F) (history : Objects) 
 
   module _ {s : Side} {ids : List ObjectId} {p new : Painter F} (m : Meets objects s ids p new) where
     pub started_meets : IsStarted p → IsStarted new
-    started_meets h = record { shown = λ i c. met_stays (m.states i) (h.shown i c); hidden = λ i c. hidden_stays (m.states i) (h.hidden i c) }
+    started_meets h = record { shown = λ i c. (later (m.states i)).met_stays (h.shown i c); hidden = λ i c. (later (m.states i)).hidden_stays (h.hidden i c) }
 
     waiting_stays : (t : Side) (i : ObjectId) → IsWaiting p t i → IsWaiting new t i
     waiting_stays t i w = (w.0, m.keeps w.0 w.1, w.2, w.3)
@@ -171,18 +165,18 @@ module _ {F : Type 0} (objects : F → Objects) (store : F) (history : Objects) 
       facts = λ i. fact i (m.states i) (h.facts i);
       tidy = m.tidies h.tidy;
       reached = λ q c. ⊎_elim (λ o. h.reached q o) (λ a. subst (λ t. Reaches next (starts_of t) q.1.id) (sym a.1) (reach q.1.id a.0)) (m.adds q c);
-      waits = λ q c e. ⊎_elim (λ o. hidden_stays (m.states q.1.id) (h.waits q o e)) (λ a. hidden_now (m.states q.1.id) (sym a.1 ∙ e) a.0) (m.adds q c);
+      waits = λ q c e. ⊎_elim (λ o. (later (m.states q.1.id)).hidden_stays (h.waits q o e)) (λ a. (later (m.states q.1.id)).hidden_now (sym a.1 ∙ e) a.0) (m.adds q c);
       dropped = λ n. h.dropped (λ r. n (ap rows_in m.graph_stays ∙ r));
-      read = λ i e n. was_read i e (m.states i) n refl;
+      read = λ i e n. ⊎_elim (h.read i e) (whole i e) ((later (m.states i)).was_met n);
     }
       where
         fact : (i : ObjectId) {a b : State} → Becomes s (Contains ids i) (IsWaiting new s i) a b → Fact busy p i a → Fact nobody new i b
         fact i (stays {s = Unmet} f) k = tt
         fact i (stays {s = Open} f) k = (k.0, waiting_stays side.Visible i k.1, λ r. k.2 (still_stand objects store rows m r))
         fact i (stays {s = Read} f) k =
-            (k.0, inr (⊎_elim (λ b c n. met_now (m.states c) ((done side.Visible i b).1 c n)) (λ all c n. met_stays (m.states c) (all c n)) k.1), λ r. k.2 (still_stand objects store rows m r))
+            (k.0, inr (⊎_elim (λ b c n. (later (m.states c)).met_now ((done side.Visible i b).1 c n)) (λ all c n. (later (m.states c)).met_stays (all c n)) k.1), λ r. k.2 (still_stand objects store rows m r))
         fact i (stays {s = Hides} f) k =
-            (k.0, inr (⊎_elim (λ b. inr (λ c n. hidden_now (m.states c) (sym (done side.Hidden i b).0) ((done side.Hidden i b).1 c n))) (λ o. ⊎_elim (λ w. inl (waiting_stays side.Hidden i w)) (λ all. inr (λ c n. hidden_stays (m.states c) (all c n))) o) k.1))
+            (k.0, inr (⊎_elim (λ b. inr (λ c n. (later (m.states c)).hidden_now (sym (done side.Hidden i b).0) ((done side.Hidden i b).1 c n))) (λ o. ⊎_elim (λ w. inl (waiting_stays side.Hidden i w)) (λ all. inr (λ c n. (later (m.states c)).hidden_stays (all c n))) o) k.1))
         fact i (opens v c w) k = (subst (λ t. Reaches next (starts_of t) i) v (reach i c), subst (λ t. IsWaiting new t i) v w, λ r. border v (still_stand objects store rows m r) i c)
         fact i (covers v c w) k = (subst (λ t. Reaches next (starts_of t) i) v (reach i c), inr (inl (subst (λ t. IsWaiting new t i) v w)))
 
@@ -190,8 +184,3 @@ module _ {F : Type 0} (objects : F → Objects) (store : F) (history : Objects) 
         whole i e w =
             let k = (safe_meets objects store rows m safe).read w.0 w.1 (ap (row_of rows) w.3 ∙ e) in
             (k.0, subst (λ j. Reads (objects store) j k.0) w.3 k.1)
-
-        was_read : (i : ObjectId) → row_of rows i ≡ None → {a b : State} → Becomes s (Contains ids i) (IsWaiting new s i) a b → b ≢ Unmet → a ≡ state_of p i → (ids : List ObjectId) × Reads (objects store) i ids
-        was_read i e (stays f) n o = h.read i e (λ u. n (o ∙ u))
-        was_read i e (opens v c w) n o = whole i e w
-        was_read i e (covers v c w) n o = whole i e w

@@ -20,7 +20,7 @@ use Rattle.gix_revwalk.specs.Agreeing.{IsCorrupt}
 use Rattle.gix_paint.specs.Painting.{IsHistory, IsOpenBelow, IsRead, shown_commit, hidden_commit, generation_in, Paints}
 use Rattle.gix_hash.specs.Reach.{IsAtBoundary, Reaches, start, step}
 use Rattle.gix_paint.specs.Inside.Painter.{hides, hidden_of, State, Unmet, Open, Read, Hides, state_by, state_of, rows_in, graph_in_use, IsWaiting, IsSettled, is_told, Meets}
-use Rattle.gix_paint.proofs.Invariant.{contains-hidden, hidden_now, met_now, nobody, next, RowsInUse, IsSafe, Fact, Stands, IsStarted, stands_meets, safe_meets, hidden_stays}
+use Rattle.gix_paint.proofs.Invariant.{contains-hidden, later, nobody, next, RowsInUse, IsSafe, Fact, Stands, IsStarted, stands_meets, safe_meets}
 use Rattle.gix_paint.proofs.Meets.{hides_then}
 use Rattle.gix_paint.proofs.KeptByTurn.{HasGeneration, one_generation, told_row, hidden_from, falls, below, waits_above}
 use Rattle.gix_paint.proofs.Order.{IsAbove, IsOrdered, HoldsOf, ordered_start}
@@ -91,7 +91,7 @@ module _ {F : Type 0} (objects : F → Objects) (store : F) (history : Objects) 
       pub holds_start : HoldsOf objects store history rows tips hidden_tips new
       holds_start = (
         stands_start,
-        record { shown = λ i c. met_now (shows.states i) c; hidden = λ i c. hidden_stays (shows.states i) (hidden_now (covers.states i) refl c) },
+        record { shown = λ i c. (later (shows.states i)).met_now c; hidden = λ i c. (later (shows.states i)).hidden_stays ((later (covers.states i)).hidden_now refl c) },
         ordered_start objects store history rows tips hidden_tips unmet covers shows,
       )
 

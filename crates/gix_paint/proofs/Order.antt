@@ -18,7 +18,7 @@ use Rattle.gix_paint.specs.Painting.{IsHistory}
 use Rattle.gix_paint.specs.Inside.Painter.{State, Unmet, Read, Hides, state_of, Becomes, stays, opens, covers, rows_in, graph_in_use, by_row, by_store, drops, IsQueued, IsWaiting, Meets, IsSettled, GivesParents, brought, looked_up, is_turn, is_turn_on, Pops}
 use Rattle.gix_paint.specs.Inside.Painter as painter
 use Rattle.gix_revwalk.specs.RowParents.{ids_at}
-use Rattle.gix_paint.proofs.Invariant.{nobody, next, starts_of, RowsInUse, IsSafe, Stands, IsStarted, still_stand}
+use Rattle.gix_paint.proofs.Invariant.{later, nobody, next, starts_of, RowsInUse, IsSafe, Stands, IsStarted, still_stand}
 use Rattle.gix_revwalk.proofs.Rows.{IsSoundRow, unread_fault}
 use Rattle.gix_paint.proofs.Keys.{IsBelow}
 use Rattle.gix_paint.proofs.KeptByTurn.{HasGeneration, told_key, told_row, falls, all_below, popped_there}
@@ -36,16 +36,6 @@ given_sound {old = old} {entry = entry} {ids = ids} rows (looked_up n (by_row {r
     unread_fault rows row.parents ids ((λ k. ids_at (stood k) (back k).parents) ∙ f) corrupt
 given_sound {entry = entry} rows (looked_up n (by_store e r)) now was none row k corrupt = let bad : None ≡ Some row = sym (ap (λ rs. row_of rs entry.id) (sym was) ∙ e) ∙ k in cc
 given_sound {entry = entry} rows (looked_up n (drops e f r)) now was none row k corrupt = let bad : None ≡ Some row = ap (λ rs. row_of rs entry.id) now ∙ k in cc
-
-was_read : {s : Side} {met queued : Type 0} {a b : State} → Becomes s met queued a b → b ≡ Read → a ≡ Read
-was_read (stays f) e = e
-was_read (opens v m q) e = cc
-was_read (covers v m q) e = cc
-
-was_hidden : {s : Side} {met queued : Type 0} {a b : State} → Becomes s met queued a b → b ≡ Hides → (a ≡ Hides) ⊎ ((s ≡ side.Hidden) × met × queued)
-was_hidden (stays f) e = inl e
-was_hidden (opens v m q) e = cc
-was_hidden (covers v m q) e = inr (v, m, q)
 
 module _ {F : Type 0} (objects : F → Objects) (store : F) (history : Objects) (rows : List GraphRow) (tips hidden_tips : List ObjectId) where
   abbrev There : ObjectId → List ObjectId
@@ -67,28 +57,28 @@ module _ {F : Type 0} (objects : F → Objects) (store : F) (history : Objects) 
   -- at the start the hidden tips alone are hidden, and nothing was read
   pub ordered_start : {p mid new : Painter F} → ((i : ObjectId) → state_of p i ≡ Unmet) → Meets objects side.Hidden hidden_tips p mid → Meets objects side.Visible tips mid new → IsOrdered new
   ordered_start {p} {mid} {new} blank hides shows = record {
-    shown = λ i e. let bad : Unmet ≡ Read = sym (blank i) ∙ was_read (hides.states i) (was_read (shows.states i) e) in cc;
+    shown = λ i e. let bad : Unmet ≡ Read = sym (blank i) ∙ (later (hides.states i)).was_read ((later (shows.states i)).was_read e) in cc;
     hidden = λ i e. inl (tip i e).0;
     sound = λ i e. inl (tip i e).1;
   }
     where
       tip : (i : ObjectId) → state_of new i ≡ Hides → Contains hidden_tips i × IsWaiting new side.Hidden i
       tip i e =
-          ⊎_elim (λ m. ⊎_elim (λ u. let bad : Unmet ≡ Hides = sym (blank i) ∙ u in cc) (λ k. (k.1, (k.2.0, shows.keeps k.2.0 k.2.1, k.2.2, k.2.3))) (was_hidden (hides.states i) m))
-          (λ k. let bad : side.Visible ≡ side.Hidden = k.0 in cc) (was_hidden (shows.states i) e)
+          ⊎_elim (λ m. ⊎_elim (λ u. let bad : Unmet ≡ Hides = sym (blank i) ∙ u in cc) (λ k. (k.1, (k.2.0, shows.keeps k.2.0 k.2.1, k.2.2, k.2.3))) ((later (hides.states i)).was_hidden m))
+          (λ k. let bad : side.Visible ≡ side.Hidden = k.0 in cc) ((later (shows.states i)).was_hidden e)
 
   module _ (known : IsHistory (objects store) rows history) {w v : Painter F} (top : Key × Entry) (pops : Pops cmp-value.it w top v) (safe : IsSafe objects store rows w)
       (h : Stands objects store history rows tips hidden_tips nobody w) (started : IsStarted objects store history rows tips hidden_tips w) (o : IsOrdered w) where
     pub ordered_turn : {new : Painter F} → IsTurn objects top pops new → IsOrdered new
     ordered_turn {new} t = record {
       shown = λ i e.
-          ⊎_elim (λ s. let f = o.shown i (sym s ∙ was_read (t.met.states i) e) in (lower i f.0, λ r. f.1 (back r)))
+          ⊎_elim (λ s. let f = o.shown i (sym s ∙ (later (t.met.states i)).was_read e) in (lower i f.0, λ r. f.1 (back r)))
           (λ k. (subst (IsAbove new) (sym k.2) top_above, λ r. subst (IsSoundRow rows) (sym k.2) (top_sound k.0 r))) (turned objects store history rows tips hidden_tips top pops t.takes h i);
-      hidden = λ i e. ⊎_elim (λ m. ⊎_elim (λ k. inl k) (λ c. inr (c.0, c.1, c.2, lower c.0 c.3)) (o.hidden i (before i m))) (λ k. inr (top.1.id, reached k.0, parent i k.1, top_above)) (was_hidden (t.met.states i) e);
+      hidden = λ i e. ⊎_elim (λ m. ⊎_elim (λ k. inl k) (λ c. inr (c.0, c.1, c.2, lower c.0 c.3)) (o.hidden i (before i m))) (λ k. inr (top.1.id, reached k.0, parent i k.1, top_above)) ((later (t.met.states i)).was_hidden e);
       sound = λ i e.
           ⊎_elim (λ m. ⊎_elim (λ q. ⊎_elim (λ s. inl (s.0, t.met.keeps s.0 s.1, s.2, s.3)) (λ k. inr (λ r. subst (IsSoundRow rows) (sym k.1) (top_sound (ap (λ s. is_turn_on s w.frontier top.1.id) (sym k.0)) r)))
           (waits_still objects store history rows tips hidden_tips top pops t.takes side.Hidden i q)) (λ s. inr (λ r. s (back r))) (o.sound i (before i m)))
-          (λ k. inl (subst (λ s. IsWaiting new s i) k.0 k.2)) (was_hidden (t.met.states i) e);
+          (λ k. inl (subst (λ s. IsWaiting new s i) k.0 k.2)) ((later (t.met.states i)).was_hidden e);
     }
       where
         back : InUse new → InUse w

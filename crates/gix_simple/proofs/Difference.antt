@@ -65,17 +65,14 @@ module _ (objects : Objects) where
 
   module _ (rows : List GraphRow) (parents : Parents) (order : Option CommitTimeOrder) where
     -- the answers are commits, and their ids are these
-    commit_ids : (list : List (Result Info Error)) (ids : List ObjectId) → AllZip (IsGiven objects rows parents order) list ids → given_ids list ≡ ids
-    commit_ids [] [] h = refl
-    commit_ids [] (i ∷ ids) h = absurd h
-    commit_ids (a ∷ list) [] h = absurd h
-    commit_ids (Ok info ∷ list) (i ∷ ids) h = (λ k. h.0.info_is.same_id k ∷ commit_ids list ids h.1 k)
-    commit_ids (Err e ∷ list) (i ∷ ids) h = absurd h.0
-
-    all_commits : (list : List (Result Info Error)) (ids : List ObjectId) → AllZip (IsGiven objects rows parents order) list ids → (e : Error) → Contains list (Err e) → ⊥
-    all_commits [] ids h e c = no_member (Err e) c
-    all_commits (a ∷ list) [] h e c = absurd h
-    all_commits (a ∷ list) (i ∷ ids) h e c = ⊎_elim (λ s. subst (λ x. IsGiven objects rows parents order x i) s h.0) (all_commits list ids h.1 e) (Contains-cons_cases (Err e) a list c)
+    commits : (list : List (Result Info Error)) (ids : List ObjectId) → AllZip (IsGiven objects rows parents order) list ids → (given_ids list ≡ ids) × ((e : Error) → Contains list (Err e) → ⊥)
+    commits [] [] h = (refl, λ e c. no_member (Err e) c)
+    commits [] (i ∷ ids) h = absurd h
+    commits (a ∷ list) [] h = absurd h
+    commits (Err e ∷ list) (i ∷ ids) h = absurd h.0
+    commits (Ok info ∷ list) (i ∷ ids) h =
+        let r : (given_ids list ≡ ids) × ((e : Error) → Contains list (Err e) → ⊥) = commits list ids h.1 in
+        ((λ k. h.0.info_is.same_id k ∷ r.0 k), λ e c. ⊎_elim (λ s. cc) (r.1 e) (Contains-cons_cases (Err e) (Ok info) list c))
 
 -- an answer that is no fault is no refusal
 unrefused : (list : List (Result Info Error)) → ((e : Error) → Contains list (Err e) → ⊥) → All IsNoRefusal list
@@ -169,7 +166,7 @@ module _ {F P : Type 0} (objects : F → Objects) (faulty : F → ObjectId → T
         each = gives_once objects faulty answers walk (λ i. true) test.0 list gave
 
         ids_are : given_ids list ≡ gave.ids
-        ids_are = commit_ids (objects walk.store) walk.rows walk.parents (time_order walk.parents walk.sorting) list gave.ids gave.given
+        ids_are = (commits (objects walk.store) walk.rows walk.parents (time_order walk.parents walk.sorting) list gave.ids gave.given).0
 
         reached : (i : ObjectId) → Reaches (parents_of (objects walk.store)) tips i → test.0 i ≡ false → Reaches (next_of objects walk (λ i. true) test.0) (starts_of walk test.0) i
         reached i r h =
@@ -179,7 +176,7 @@ module _ {F P : Type 0} (objects : F → Objects) (faulty : F → ObjectId → T
 
         gives_difference : GivesDifference (objects walk.store) tips walk.hidden_tips list
         gives_difference = record {
-          commits = all_commits (objects walk.store) walk.rows walk.parents (time_order walk.parents walk.sorting) list gave.ids gave.given;
+          commits = (commits (objects walk.store) walk.rows walk.parents (time_order walk.parents walk.sorting) list gave.ids gave.given).1;
           once = subst AreDistinct (sym ids_are) each.0;
           exact = λ i. (
             λ c. let p = from_pending i ((each.1 i).0 (subst (λ xs. Contains xs i) ids_are c)) in (reach_more (parents_of (objects walk.store)) (ids_of walk.pending) tips is_tip i p.0, λ h. true≢false (sym ((test.1 i).1 h) ∙ p.1)),

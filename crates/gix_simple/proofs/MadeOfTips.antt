@@ -90,9 +90,6 @@ module _ {F P : Type 0} (objects : F → Objects) (faulty : F → ObjectId → T
     same_store = did.rest.store;
     all_parents = did.rest.parents;
     breadth_first = did.rest.sorting;
-    rowless = no_rows did.rest.rows;
+    rowless = ⊎_elim (λ e. e) (λ e. e) did.rest.rows;
     open_to = did.rest.tips;
   }
-    where
-      no_rows : (walk.rows ≡ []) ⊎ (walk.rows ≡ []) → walk.rows ≡ []
-      no_rows h = ⊎_elim (λ e. e) (λ e. e) h

@@ -192,9 +192,6 @@ module _ {F P : Type 0} (objects : F → Objects) (faulty : F → ObjectId → T
       let h : Contains (walked_parents (objects w.store) w.parents d) c × (is_kept (objects w.store) accepts hides (cutoff w.parents w.sorting) c ≡ true) = Contains-filter _ (walked_parents (objects w.store) w.parents d) c n in
       (step (outside d r).0 (walked_within w.parents _ c h.0), not-true _ (and_parts _ _ (and_parts _ _ h.1).0).1)
 
-  not_hidden : (c : ObjectId) → hides c ≡ false → Reaches (parents_of (objects w.store)) w.hidden_tips c → ⊥
-  not_hidden c e r = true≢false (sym ((tells c).1 r) ∙ e)
-
   knows : (marks : set.FinSet id_cmp) → ((c i : ObjectId) → Reaches next_ids (starts_of w hides) c → Contains (parents_of (objects w.store) c) i → set.contains marks i ≡ hides i) → Known objects faulty answers (setting marks) IsNoRefusal
   knows marks marked = record {
     begun = refl;
@@ -221,7 +218,7 @@ module _ {F P : Type 0} (objects : F → Objects) (faulty : F → ObjectId → T
   painting : (marks : set.FinSet id_cmp) (rows : List GraphRow) → Paints (objects w.store) w.rows (ids_of w.pending) w.hidden_tips marks rows → {o : Option (Result Info Error)} {new : SimpleWalk F P} → Steps objects faulty answers (painted objects faulty answers (record w { begun = true }) marks rows) o new → BeginsBy o new
   painting marks rows paint steps =
       begins_at objects faulty answers w accepts hides (parents_of (objects w.store)) by_test is_fresh agreeing marks rows _ paint.rows_left (λ p m. filter_within _ w.pending p m) (ids-filter (set.contains marks) hides w.pending (λ i c. exact i (inl c)))
-      (knows marks (λ c i r n. exact i (inr (c, (outside c r).0, not_hidden c (outside c r).1, n)))) steps
+      (knows marks (λ c i r n. exact i (inr (c, (outside c r).0, (λ h. true≢false (sym ((tells c).1 h) ∙ (outside c r).1)), n)))) steps
     where
       exact : (i : ObjectId) → IsAtBoundary (parents_of (objects w.store)) (ids_of w.pending) w.hidden_tips i → set.contains marks i ≡ hides i
       exact i at = both_ways (set.contains marks i) (hides i) (λ e. (tells i).1 ((paint.marked (objects w.store) own).sound i e)) (λ e. (paint.marked (objects w.store) own).whole i at ((tells i).0 e))

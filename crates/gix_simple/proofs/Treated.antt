@@ -58,10 +58,7 @@ Contains-holds (Some order) old new k p h = Contains-permutation new old p (IsPe
 
 -- where no order by time is in force, there is no cutoff either
 pub no_cutoff : (m : Parents) (s : Sorting) → time_order m s ≡ None → cutoff m s ≡ None
-no_cutoff mode.First s e = refl
-no_cutoff mode.All sorting.BreadthFirst e = refl
-no_cutoff mode.All (sorting.ByCommitTime order) e = cc
-no_cutoff mode.All (sorting.ByCommitTimeCutoff order seconds) e = cc
+no_cutoff m s e = grind arith
 
 module _ {F P : Type 0} (objects : F → Objects) (faulty : F → ObjectId → Type 0) (answers : P → ObjectId → Bool → P → Type 0) where
   -- what a walk was given, and what holds of it
@@ -129,15 +126,6 @@ module _ {F P : Type 0} (objects : F → Objects) (faulty : F → ObjectId → T
   added : (s : Setting) (i : ObjectId) (xs : List ObjectId) (old : ObjectId → Bool) → keep s i ≡ true → old i ≡ false → xs ++ i ∷ [] ≡ xs ++ fresh old (filter (keep s) (i ∷ []))
   added s i xs old k e = grind arith
 
-  not_same : (s : Setting) (i j : ObjectId) → keep s i ≡ false → keep s j ≡ true → is_same j i ≡ false
-  not_same s i j e k = false_from_ne_true _ (λ t. false≢true (sym e ∙ sym (ap (keep s) (same_is j i t)) ∙ k))
-
-  seen_once : (i j : ObjectId) (old : ObjectId → Bool) → old i ≡ true → old j ≡ (is_same j i || old j)
-  seen_once i j old e = let same : is_same j i ≡ true → old j ≡ old i = λ t. ap old (same_is j i t) in grind arith
-
-  seen_still : (i j : ObjectId) (old : ObjectId → Bool) → is_same j i ≡ false → old j ≡ (is_same j i || old j)
-  seen_still i j old e = sym (ap (λ b. b || old j) e)
-
   -- the rows that are left agree
   pub rows_agree : (s : Setting) (w : SimpleWalk F P) → Stands s w → IsAgreeing (objects s.store) w.rows
   rows_agree s w h = ⊎_elim (λ e. subst (λ rows. IsAgreeing (objects s.store) rows) (sym e) s.agreeing) (λ e. subst (λ rows. IsAgreeing (objects s.store) rows) (sym e) (λ row n. absurd (no_member row n))) h.rows
@@ -198,9 +186,9 @@ module _ {F P : Type 0} (objects : F → Objects) (faulty : F → ObjectId → T
   one s w h by_row i ready (hidden e) =
       let hid : s.hidden i ≡ true = sym ready.marked ∙ ap (λ m. set.contains m i) (sym h.marks) ∙ e in
       let out : keep s i ≡ false = and_left _ _ (and_right (s.accepts i) _ (not_from_true _ hid)) in
-      record { rest = h; same_rows = refl; seen = λ j k. seen_still i j (set.contains w.seen) (not_same s i j out k) ∙ ap (λ b. b || set.contains w.seen j) (sym (among-one j i)); pending = passed_over s i _ _ out }
+      record { rest = h; same_rows = refl; seen = λ j k. let same : is_same j i ≡ true → keep s j ≡ keep s i = λ t. ap (keep s) (same_is j i t) in let one = among-one j i in grind arith; pending = passed_over s i _ _ out }
   one s w h by_row i ready (known e) =
-      record { rest = h; same_rows = refl; seen = λ j k. seen_once i j (set.contains w.seen) e ∙ ap (λ b. b || set.contains w.seen j) (sym (among-one j i)); pending = already s i _ _ e }
+      record { rest = h; same_rows = refl; seen = λ j k. let same : is_same j i ≡ true → set.contains w.seen j ≡ set.contains w.seen i = λ t. ap (set.contains w.seen) (same_is j i t) in let one = among-one j i in grind arith; pending = already s i _ _ e }
   one s w h by_row i ready (refused {predicate = q} is_new a) =
       let t : (false ≡ s.accepts i) × Becomes answers s.predicate q = asked_test s w h i a in
       asked_did s w h i q w.pending t.1 h.timed (passed_over s i _ _ (and_left _ _ (and_left _ _ (sym t.0))))
