@@ -168,10 +168,6 @@ module _ {F : Type 0} (objects : F → Objects) where
             at_most true o = let same = left_same is_some named e (sym o) in omega arith
             at_most false o = let less = left_less is_some named e refl o in omega arith
 
-pub if_ok : {T E : Type 0} {P Q : T → Type 0} (r : Result T E) → ((x : T) → P x → Q x) → IfOk r P → IfOk r Q
-if_ok (Ok x) f h = f x h
-if_ok (Err e) f h = tt
-
 pub met_then : (o : Option Side) (waiting : Bool) → is_some o ≡ true → state_by o waiting ≢ Unmet
 met_then o waiting e = λ u. grind arith
 

@@ -104,16 +104,11 @@ module _ {F P : Type 0} (objects : F → Objects) (faulty : F → ObjectId → T
   set_up marks = record { store = w.store; predicate = w.predicate; rows = w.rows; parents = w.parents; named = named; sorting = w.sorting; begun = true; marks = marks; accepts = accepts; hidden = hides; starts = starts_of w hides; by_test = by_test; agreeing = agreeing }
 
   seen_starts : (i : ObjectId) → is_kept (objects w.store) accepts hides (cutoff w.parents w.sorting) i ≡ true → set.contains w.seen i ≡ is_among i (starts_of w hides ++ [])
-  seen_starts i k = rw append-nil (both_ways (set.contains w.seen i) (is_among i (starts_of w hides)) from_seen from_starts)
-    where
-      parts : (accepts i ≡ true) × (not (hides i) ≡ true)
-      parts = and_parts _ _ (and_parts _ _ k).0
-
-      from_seen : set.contains w.seen i ≡ true → is_among i (starts_of w hides) ≡ true
-      from_seen e = ⊎_elim (λ t. among-filter i (λ j. not (hides j)) (ids_of w.pending) ∙ and_from _ _ parts.1 (among_from i _ t)) (λ r. absurd (true≢false (sym parts.0 ∙ r))) (is_fresh.seen i e)
-
-      from_starts : is_among i (starts_of w hides) ≡ true → set.contains w.seen i ≡ true
-      from_starts e = is_fresh.pending_seen i (Contains-filter (λ j. not (hides j)) (ids_of w.pending) i (among_is i _ e)).0
+  seen_starts i k =
+      let starts = among-filter i (λ j. not (hides j)) (ids_of w.pending) in
+      let from_seen : set.contains w.seen i ≡ true → (is_among i (ids_of w.pending) ≡ true) ⊎ (accepts i ≡ false) = λ e. ⊎_elim (λ c. inl (among_from i _ c)) inr (is_fresh.seen i e) in
+      let from_pending : is_among i (ids_of w.pending) ≡ true → set.contains w.seen i ≡ true = λ e. is_fresh.pending_seen i (among_is i _ e) in
+      rw append-nil (grind arith)
 
   -- a walk whose first step is made, and what is known of it
   pub record Begins (Allowed : Result Info Error → Type 0) (o : Option (Result Info Error)) (new : SimpleWalk F P) : Type 0 where

@@ -1,5 +1,5 @@
 -- How the pending tips are read and sorted out, one after the other.
-use Rattle.std.specs.Prelude.{◌≡◌, ℤ, List, [], ◌∷◌, ◌++◌, filter, Bool, true, false, not, ◌&&◌, ◌||◌, cond, Option, Some, Ok, All, IsSome}
+use Rattle.std.specs.Prelude.{◌≡◌, ℤ, List, [], ◌∷◌, ◌++◌, filter, Bool, true, false, not, ◌&&◌, ◌||◌, cond, Option, is_some, Some, Ok, All, IsSome}
 use Rattle.std.proofs.Common.{refl, sym, ap, subst, ◌∙◌, append_assoc, append-nil, arith}
 use Rattle.std.proofs.Math.Bool.{and-true, or-false}
 use Rattle.std.proofs.lemmas.List.Elements.{All-cons, All-nil}
@@ -37,20 +37,6 @@ module _ {F P : Type 0} (objects : F → Objects) (bad : F → ObjectId → Type
   pub kept_store : (old new : SimpleWalk F P) (i : ObjectId) → SortsIn objects bad limit old i (Ok tt) new → new.store ≡ old.store
   kept_store old new i s = ap (λ w. w.store) (read_in old new i s.0 (is_older s.0 limit) s.2).others
 
-module _ (objects : Objects) (bad : ObjectId → Type 0) where
-  pub fails_first : (tip : Pending) (rest tips : List Pending) (e : Error) → tips ≡ tip ∷ rest → IsTipFault objects bad tip.id e → FailsAtTip objects bad tips e
-  fails_first tip rest tips e front f = record { before = []; tip = tip; behind = rest; place = front; read = All-nil (λ p. IsSome (commit_at objects p.id)); fault = f }
-
-  pub fails_later : (tip : Pending) (rest tips : List Pending) (e : Error) → tips ≡ tip ∷ rest → IsSome (commit_at objects tip.id) → FailsAtTip objects bad rest e → FailsAtTip objects bad tips e
-  fails_later tip rest tips e front some f = record { before = tip ∷ f.before; tip = f.tip; behind = f.behind; place = front ∙ ap (λ xs. tip ∷ xs) f.place; read = All-cons (λ p. IsSome (commit_at objects p.id)) tip f.before some f.read; fault = f.fault }
-
-is_some : {A : Type 0} (o : Option A) (a : A) → o ≡ Some a → IsSome o
-is_some o a e = subst IsSome (sym e) refl
-
-pub read_some : {F P : Type 0} (objects : F → Objects) (bad : F → ObjectId → Type 0) (limit : Option ℤ) (old first new : SimpleWalk F P) (i : ObjectId) → old.store ≡ first.store → SortsIn objects bad limit old i (Ok tt) new → IsSome (commit_at (objects first.store) i)
-read_some objects bad limit old first new i e s = subst (λ store. IsSome (commit_at (objects store) i)) e (is_some _ _ s.1.stored)
-
-module _ {F P : Type 0} (objects : F → Objects) (bad : F → ObjectId → Type 0) (limit : Option ℤ) where
   -- what reading some tips leaves of a walk, whatever it held before
   record Sorted (found : Objects) (old : SimpleWalk F P) (tips : List Pending) (new : SimpleWalk F P) : Type 0 where
     read : All (λ p. IsSome (commit_at found p.id)) tips
@@ -64,10 +50,10 @@ module _ {F P : Type 0} (objects : F → Objects) (bad : F → ObjectId → Type
   sorted (more {old = old} {mid = mid} {new = new} {tip = tip} {tips = tips} s rest) =
       let found : Objects = objects old.store in
       let time : ℤ = time_of found tip.id in
-      let f : Read objects bad limit old tip.id time (is_older time limit) mid = subst (λ t. Read objects bad limit old tip.id t (is_older t limit) mid) (sym (ap time_in s.1.stored ∙ s.1.same)) (read_in objects bad limit old mid tip.id s.0 (is_older s.0 limit) s.2) in
-      let r : Sorted found mid tips new = subst (λ o. Sorted (objects o) mid tips new) (kept_store objects bad limit old mid tip.id s) (sorted rest) in
+      let f : Read old tip.id time (is_older time limit) mid = subst (λ t. Read old tip.id t (is_older t limit) mid) (sym (ap time_in s.1.stored ∙ s.1.same)) (read_in old mid tip.id s.0 (is_older s.0 limit) s.2) in
+      let r : Sorted found mid tips new = subst (λ o. Sorted (objects o) mid tips new) (kept_store old mid tip.id s) (sorted rest) in
       record {
-        read = All-cons (λ p. IsSome (commit_at found p.id)) tip tips (is_some _ _ s.1.stored) r.read;
+        read = All-cons (λ p. IsSome (commit_at found p.id)) tip tips (ap is_some s.1.stored) r.read;
         pending = r.pending ∙ ap (λ ps. ps ++ recent limit (timed found tips)) f.pending ∙ append_assoc old.pending _ _ ∙ ap (λ ps. old.pending ++ ps) (in_front (is_older time limit) (record { id = tip.id; time = time }) (recent limit (timed found tips)));
         seen = λ i. let a = r.seen i in let b = f.seen i in grind arith;
         remembered = λ i. let a = r.remembered i in let b = f.remembered i in grind arith;
@@ -76,6 +62,16 @@ module _ {F P : Type 0} (objects : F → Objects) (bad : F → ObjectId → Type
     where
       in_front : (b : Bool) (x : Pending) (xs : List Pending) → cond b [] (x ∷ []) ++ xs ≡ cond (not b) (x ∷ xs) xs
       in_front b x xs = grind arith
+
+module _ (objects : Objects) (bad : ObjectId → Type 0) where
+  pub fails_first : (tip : Pending) (rest tips : List Pending) (e : Error) → tips ≡ tip ∷ rest → IsTipFault objects bad tip.id e → FailsAtTip objects bad tips e
+  fails_first tip rest tips e front f = record { before = []; tip = tip; behind = rest; place = front; read = All-nil (λ p. IsSome (commit_at objects p.id)); fault = f }
+
+  pub fails_later : (tip : Pending) (rest tips : List Pending) (e : Error) → tips ≡ tip ∷ rest → IsSome (commit_at objects tip.id) → FailsAtTip objects bad rest e → FailsAtTip objects bad tips e
+  fails_later tip rest tips e front some f = record { before = tip ∷ f.before; tip = f.tip; behind = f.behind; place = front ∙ ap (λ xs. tip ∷ xs) f.place; read = All-cons (λ p. IsSome (commit_at objects p.id)) tip f.before some f.read; fault = f.fault }
+
+pub read_some : {F P : Type 0} (objects : F → Objects) (bad : F → ObjectId → Type 0) (limit : Option ℤ) (old first new : SimpleWalk F P) (i : ObjectId) → old.store ≡ first.store → SortsIn objects bad limit old i (Ok tt) new → IsSome (commit_at (objects first.store) i)
+read_some objects bad limit old first new i e s = subst (λ store. IsSome (commit_at (objects store) i)) e (ap is_some s.1.stored)
 
 -- the pending commits of a walk, read from an empty list
 pub sorted_so : {F P : Type 0} (objects : F → Objects) (bad : F → ObjectId → Type 0) (old : SimpleWalk F P) (by : Sorting) (start new : SimpleWalk F P) (tips : List Pending) → start ≡ record old { sorting = by; pending = [] } → tips ≡ old.pending → (limit : Option ℤ) → limit ≡ cutoff mode.All by → SortsAll objects bad limit start tips new → IsSortedByTime objects old by new

@@ -1,6 +1,6 @@
 -- How a walk treats the ids that tips or a parent list name, one after the other.
 use Rattle.std.specs.Prelude.{◌≡◌, ◌≢◌, ◌⊎◌, ℤ, List, [], ◌∷◌, ◌++◌, Bool, true, false, not, ◌||◌, Option, Some, Result, Ok, Err, IfOk, IfErr}
-use Rattle.std.proofs.Common.{refl, sym, ap, subst, inl, inr, ◌∙◌, arith, length}
+use Rattle.std.proofs.Common.{refl, sym, ap, subst, inl, inr, ◌∙◌, arith, length, ⊎_elim}
 use Rattle.std.proofs.lemmas.Bool.{true≢false, false≢true}
 use Rattle.std.specs.FinSet as set
 use Rattle.gix_hash.specs.declared.ObjectId.{ObjectId}
@@ -97,16 +97,14 @@ module _ {F P : Type 0} (objects : F → Objects) (faulty : F → ObjectId → T
           pub treats_stopped : pending ≡ [] → Treats objects faulty answers old by_row i NoMemory last
           treats_stopped e = subst (Treats objects faulty answers old by_row i NoMemory) (sym ends) (no_memory_after new (asks_before is_met yes) (inr e))
 
-  pub treats_known : (old met : SimpleWalk F P) → (set.contains old.hidden i ≡ true) ⊎ (set.contains old.seen i ≡ true) → met ≡ old → Treats objects faulty answers old by_row i GoesOn met
-  treats_known old met (inl h) e = subst (Treats objects faulty answers old by_row i GoesOn) (sym e) (hidden h)
-  treats_known old met (inr s) e = subst (Treats objects faulty answers old by_row i GoesOn) (sym e) (known s)
-
   -- what was met, by what the meeting answered
   pub met_new : (old met : SimpleWalk F P) (E : Type 0) (is_new : Bool) → Meets objects faulty answers {E = E} old i (Ok is_new) met → is_new ≡ true → IsNew objects faulty answers old i × (met ≡ record old { seen = set.insert old.seen i })
   met_new old met E is_new h e = subst (λ b. Meets objects faulty answers {E = E} old i (Ok b) met) e h
 
   pub treats_met : (old met : SimpleWalk F P) (E : Type 0) (is_new : Bool) → Meets objects faulty answers {E = E} old i (Ok is_new) met → is_new ≡ false → Treats objects faulty answers old by_row i GoesOn met
-  treats_met old met E is_new h e = let k : Meets objects faulty answers {E = E} old i (Ok false) met = subst (λ b. Meets objects faulty answers {E = E} old i (Ok b) met) e h in treats_known old met k.0 k.1
+  treats_met old met E is_new h e =
+      let k : Meets objects faulty answers {E = E} old i (Ok false) met = subst (λ b. Meets objects faulty answers {E = E} old i (Ok b) met) e h in
+      subst (Treats objects faulty answers old by_row i GoesOn) (sym k.1) (⊎_elim hidden known k.0)
 
   pub treats_unmet : (old met : SimpleWalk F P) → met ≡ old → Treats objects faulty answers old by_row i NoMemory met
   treats_unmet old met e = subst (Treats objects faulty answers old by_row i NoMemory) (sym e) no_memory

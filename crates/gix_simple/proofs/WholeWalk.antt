@@ -1,7 +1,6 @@
 -- A walk gives what the definitions say, drawn to its end or as far as one likes.
 use Rattle.std.specs.Prelude.{◌≡◌, ℕ, zero, suc, ℤ, List, [], ◌∷◌, ◌++◌, take, slice_get, Bool, true, ◌&&◌, ◌||◌, Option, Some, None, Result, Err, Contains, All}
-use Rattle.std.proofs.Common.{refl, sym, ap, subst, inl, ⊎_elim, ◌∙◌, append_assoc, append-nil}
-use Rattle.std.proofs.Math.Bool.{or_comm}
+use Rattle.std.proofs.Common.{refl, sym, ap, subst, inl, ⊎_elim, ◌∙◌, append_assoc, append-nil, arith}
 use Rattle.std.specs.Iterator.{Yields}
 use Rattle.std.specs.List.{AllZip}
 use Rattle.std.proofs.lemmas.List.Sorted.{Contains-permutation, IsPermutation-sym}
@@ -97,8 +96,7 @@ module _ {F P : Type 0} (objects : F → Objects) (faulty : F → ObjectId → T
         turn = c.0;
         runs = record {
           rest = t.rest;
-          seen = λ j k. t.seen j k ∙ ap (λ b. is_among j (walked objects faulty answers s p.id) || b) (h.seen j k) ∙ or_comm (is_among j (walked objects faulty answers s p.id)) (is_among j (named s done))
-              ∙ sym (among_push j ∙ ap (λ b. is_among j (named s done) || b) (kept j ∙ ap (λ b. b && is_among j (walked objects faulty answers s p.id)) k));
+          seen = λ j k. let after = t.seen j k in let before = h.seen j k in let names = among_push j in let keeps = kept j in grind arith;
           queue = subst (λ xs. IsQueue (order_of objects faulty answers s) xs (done ++ p.id ∷ []) (ids_of new.pending)) (sym push)
               (grows (order_of objects faulty answers s) (named s done) done p.id (ids_of others) (ids_of new.pending) (next objects faulty answers s p.id) (set.contains w.seen) c.1 t.pending
               (λ j n. h.seen j (and_parts _ _ (sym (kept j) ∙ n)).0) h.within c.2);

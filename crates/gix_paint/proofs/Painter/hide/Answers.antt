@@ -3,7 +3,8 @@ use Rattle.std.specs.FinMap.{get}
 use Rattle.std.specs.FinSet.{contains, contains-remove}
 use Rattle.gix_hash.proofs.Ids.Membership.{id_total}
 use Rattle.gix_paint.specs.declared.Side.TheVariants as side
-use Rattle.gix_paint.proofs.Meets.{if_ok, hides_then, meets_known, meets_new}
+use Rattle.std.proofs.lemmas.Result.{IfOk-weaker}
+use Rattle.gix_paint.proofs.Meets.{hides_then, meets_known, meets_new}
 use Rattle.gix_paint.proofs.Painter.hide.Goals as goal
 
 pub returns-then-is_hidden-clause-ok : goal.returns-then-is_hidden-clause-ok
@@ -13,5 +14,5 @@ returns-then-is_hidden-clause-ok g c =
 
 pub returns-clause-ok : goal.returns-clause-ok
 returns-clause-ok g c =
-    if_ok c.enqueue.result (λ x queues. meets_new g.F.Find.objects side.Hidden c.args.id c.args.self.now _ _ refl c.in_ok-insert.ensures.ok refl queues (sym c.is_hidden.ensures ∙ c.if-is_hidden.false)
+    IfOk-weaker c.enqueue.result _ _ (λ x queues. meets_new g.F.Find.objects side.Hidden c.args.id c.args.self.now _ _ refl c.in_ok-insert.ensures.ok refl queues (sym c.is_hidden.ensures ∙ c.if-is_hidden.false)
     (λ same w. not same && w) (λ j. ap (λ s. contains s j) c.remove.ensures.set ∙ contains-remove id_total c.args.self.now.frontier c.args.id j) (λ w. refl) (λ w. refl)) c.enqueue.ensures.ok

@@ -6,7 +6,8 @@ use Rattle.std.specs.Option.{option_copied}
 use Rattle.std.specs.Borrow.{Bor}
 use Rattle.gix_paint.specs.declared.Side.{Side}
 use Rattle.gix_paint.specs.declared.Side.TheVariants as side
-use Rattle.gix_paint.proofs.Meets.{if_ok, met_then, meets_known, meets_new}
+use Rattle.std.proofs.lemmas.Result.{IfOk-weaker}
+use Rattle.gix_paint.proofs.Meets.{met_then, meets_known, meets_new}
 use Rattle.gix_paint.proofs.Painter.show.Goals as goal
 
 copied : (o : Option (Bor Side)) → is_some (option_copied o) ≡ is_some o
@@ -19,6 +20,6 @@ returns-then-is_some-clause-ok g c =
 
 pub returns-clause-ok : goal.returns-clause-ok
 returns-clause-ok g c =
-    if_ok c.enqueue.result (λ x queues. meets_new g.F.Find.objects side.Visible c.args.id c.args.self.now _ _ refl c.in_ok-insert.ensures.ok refl queues
+    IfOk-weaker c.enqueue.result _ _ (λ x queues. meets_new g.F.Find.objects side.Visible c.args.id c.args.self.now _ _ refl c.in_ok-insert.ensures.ok refl queues
     (ap is_some (sym c.get.ensures) ∙ copied c.get.result ∙ sym c.is_some.ensures ∙ c.if-is_some.false)
     ◌||◌ (λ j. ap (λ s. contains s j) c.in_ok-insert-2.ensures.ok ∙ contains-insert id_total c.args.self.now.frontier c.args.id j) (λ w. refl) (λ w. refl)) c.enqueue.ensures.ok
