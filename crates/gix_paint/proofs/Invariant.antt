@@ -1,7 +1,7 @@
 -- What holds while hidden tips are painted, and what each step keeps of it.
 use Rattle.std.specs.Prelude.{◌≡◌, ◌≢◌, ◌⊎◌, List, ◌&&◌, is_some, Option, Some, None, Contains}
 use Rattle.std.specs.Option.{option_map}
-use Rattle.std.proofs.Common.{refl, sym, ap, subst, inl, inr, ⊎_elim, ◌∙◌}
+use Rattle.std.proofs.Common.{refl, sym, ap, subst, inl, inr, ⊎_elim, ◌∙◌, arith}
 use Rattle.std.specs.FinMap as map_of
 use Rattle.std.specs.FinSet as set
 use Rattle.gix_hash.specs.declared.ObjectId.{ObjectId}
@@ -27,11 +27,7 @@ unfolding hidden_of
 contains-hidden marks i =
     set.contains-retain (set.from_list (map_of.keys marks)) (is_hidden marks) i (λ x e. ap (is_hidden marks) (sym (id_apart i x e)))
     ∙ ap (λ b. b && is_hidden marks i) (set.contains-from_list id_total (map_of.keys marks) i ∙ sym (map_of.contains_key-keys marks i))
-    ∙ go (map_of.get marks i)
-  where
-    go : (o : Option Side) → (is_some o && hides o) ≡ hides o
-    go None = refl
-    go (Some m) = refl
+    ∙ (grind arith)
 
 pub hidden-empty : (marks : AllMarks) → marks ≡ map_of.empty → hidden_of marks ≡ set.empty
 hidden-empty marks e = set.same_set id_total id_apart _ _ (λ i. contains-hidden marks i ∙ ap (λ m. is_hidden m i) e ∙ ap hides (map_of.get-empty id_cmp i) ∙ sym (set.contains-empty id_cmp i))

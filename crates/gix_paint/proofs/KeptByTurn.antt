@@ -41,12 +41,6 @@ member_of s some = go (set.items s) refl
         absurd (some (ap set.len none ∙ set.len-empty id_cmp))
     go (x ∷ items) e = (x, set.contains-items s x ∙ ap (list_any (eq_by_cmp id_cmp x)) e ∙ or_left _ _ (same_itself x))
 
-pub open_read : (o : Option Side) → state_by o true ≡ Open → state_by o false ≡ Read
-open_read o e = grind arith
-
-pub shut : (o : Option Side) → state_by o false ≢ Open
-shut o = λ e. grind arith
-
 abbrev pub HasGeneration : List GraphRow → ObjectId → ℕ → Type 0
 HasGeneration rows i n = (row : GraphRow) × (row_of rows i ≡ Some row) × (row.generation ≡ n)
 

@@ -19,13 +19,10 @@ use Rattle.gix_paint.specs.Inside.Painter.{graph_in_use, IsSettled, is_told}
 use Rattle.gix_revwalk.specs.PriorityQueue.{keys}
 use Rattle.gix_hash.proofs.Ids.Membership.{Contains-here, Contains-cons_cases, no_member}
 
-not_above : (n m : ℕ) (o : Ordering) → is_lt (ordering_then (nat_cmp n m) o) ≡ false → m ≤ n
-not_above n m o h = grind (arith, nat_tests)
-
 generation_below : (g h : Generation) (s t : ℤ) → is_lt (cmp-value.it (record { generation = g; time = s }) (record { generation = h; time = t })) ≡ false → (n : ℕ) → g ≡ Told n → (m : ℕ) × (h ≡ Told m) × (m ≤ n)
 generation_below Infinite h s t e n k = cc
 generation_below (Told a) Infinite s t e n k = cc
-generation_below (Told a) (Told b) s t e n k = let same : a ≡ n = cc in (b, refl, (let le : b ≤ a = not_above a b (int_cmp s t) e in omega arith))
+generation_below (Told a) (Told b) s t e n k = let same : a ≡ n = cc in (b, refl, grind (arith, nat_tests))
 
 pub first_member : {X : Type 0} (xs : List X) (x : X) → slice_get xs 0 ≡ Some x → Contains xs x
 first_member [] x e = cc

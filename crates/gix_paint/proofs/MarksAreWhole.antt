@@ -21,20 +21,10 @@ use Rattle.gix_paint.specs.Painting.{IsHistory, IsOpenBelow, IsRead, shown_commi
 use Rattle.gix_hash.specs.Reach.{IsAtBoundary, Reaches, start, step}
 use Rattle.gix_paint.specs.Inside.Painter.{hides, hidden_of, State, Unmet, Open, Read, Hides, state_by, state_of, rows_in, graph_in_use, IsWaiting, IsSettled, is_told, Meets}
 use Rattle.gix_paint.proofs.Invariant.{contains-hidden, later, nobody, next, RowsInUse, IsSafe, Fact, Stands, IsStarted, stands_meets, safe_meets}
-use Rattle.gix_paint.proofs.Meets.{hides_then}
 use Rattle.gix_paint.proofs.KeptByTurn.{HasGeneration, one_generation, told_row, hidden_from, falls, below, waits_above}
 use Rattle.gix_paint.proofs.Order.{IsAbove, IsOrdered, HoldsOf, ordered_start}
 use Rattle.gix_hash.proofs.Ids.Membership.{no_member, Contains-here}
 use Rattle.gix_revwalk.proofs.ReadsWhole.{row_stands}
-
-hidden_state : (o : Option Side) (waiting : Bool) → state_by o waiting ≡ Hides → hides o ≡ true
-hidden_state o waiting e = grind arith
-
-no_greater : (a b : ℕ) → a < b → b < a → ⊥
-no_greater a b l m = omega arith
-
-open_waits : (o : Option Side) (waiting : Bool) → state_by o waiting ≡ Open → waiting ≡ true
-open_waits o waiting e = grind arith
 
 module _ {F : Type 0} (objects : F → Objects) (store : F) (history : Objects) (rows : List GraphRow) (tips hidden_tips : List ObjectId) where
   abbrev There : ObjectId → List ObjectId
@@ -107,7 +97,7 @@ module _ {F : Type 0} (objects : F → Objects) (store : F) (history : Objects) 
         go Unmet e k = absurd (met e)
         go Open e k =
             absurd (⊎_elim (λ none. no_member k.1.0 (subst (λ qs. Contains qs k.1.0) none k.1.1))
-            (λ s. let waits : set.contains p.frontier i ≡ true = open_waits (map_of.get p.marks i) (set.contains p.frontier i) e in
+            (λ s. let waits : set.contains p.frontier i ≡ true = grind arith in
             let none : true ≡ false = sym waits ∙ ap (λ f. set.contains f i) (set.empty_of_len p.frontier s.1) ∙ set.contains-empty id_cmp i in cc)
             settled)
         go Read e k = inl (e, k)
@@ -153,11 +143,11 @@ module _ {F : Type 0} (objects : F → Objects) (store : F) (history : Objects) 
       at_met i at = ⊎_elim (λ t. started.shown i t) (λ b. (all_met b.0 b.1 b.2).1 i b.3) at
 
       pub whole : (i : ObjectId) → IsAtBoundary There tips hidden_tips i → Reaches There hidden_tips i → set.contains (hidden_of p.marks) i ≡ true
-      whole i at hidden = contains-hidden p.marks i ∙ hidden_state (map_of.get p.marks i) (set.contains p.frontier i) (all_hidden i (at_met i at) hidden)
+      whole i at hidden = let marked = contains-hidden p.marks i in let e : state_of p i ≡ Hides = all_hidden i (at_met i at) hidden in grind arith
 
       pub sound : (i : ObjectId) → set.contains (hidden_of p.marks) i ≡ true → Reaches There hidden_tips i
       sound i c =
-          let e : state_of p i ≡ Hides = hides_then (map_of.get p.marks i) (set.contains p.frontier i) (sym (contains-hidden p.marks i) ∙ c) in
+          let e : state_of p i ≡ Hides = (let marked = contains-hidden p.marks i in grind arith) in
           (subst (Known i) e (h.facts i)).0
 
       -- nothing without a row waits, and all of it is met
@@ -187,7 +177,7 @@ module _ {F : Type 0} (objects : F → Objects) (store : F) (history : Objects) 
         not_above i row e q w path bound lower above = go (row_of rows bound) refl
           where
             go : (o : Option GraphRow) → row_of rows bound ≡ o → ⊥
-            go None f = no_greater row.generation (generation_in None) (known.agreeing row (row_stands rows i row e).0).finite (subst (λ o. generation_in o < row.generation) f lower)
+            go None f = let finite = (known.agreeing row (row_stands rows i row e).0).finite in let l : generation_in None < row.generation = subst (λ o. generation_in o < row.generation) f lower in omega arith
             go (Some other) f =
                 let under : (m : ℕ) × HasGeneration rows i m × (m ≤ other.generation) × ((q ≡ i) ⊎ (m < other.generation)) = waits_above objects store history rows tips hidden_tips known p safe stands other.generation (above stands other f) side.Hidden q i w path in
                 let same : under.0 ≡ row.generation = one_generation rows i under.1 e in

@@ -45,9 +45,6 @@ becomes_new side.Visible None waiting e m q = opens refl m q
 becomes_new side.Visible (Some mark) waiting e m q = cc
 becomes_new side.Hidden o waiting e m q = covers refl m q
 
-opens_new : (on : Side) → not (hides (Some on)) ≡ true → state_by (Some on) (not (hides (Some on))) ≡ Open
-opens_new on e = grind arith
-
 module _ {F : Type 0} (objects : F → Objects) where
   -- what is known already isn't met anew
   meets_same : (on : Side) (ids : List ObjectId) (p : Painter F) → ((i : ObjectId) → Contains ids i → (state_of p i ≢ Unmet) × (on ≡ side.Hidden → state_of p i ≡ Hides)) → Meets objects on ids p p
@@ -116,63 +113,43 @@ module _ {F : Type 0} (objects : F → Objects) where
       left_less t e = ap (λ ids. suc (length ids)) (fresh_agree _ _ named (λ j h. let now = marks_now j in grind arith)) ∙ new_less (λ j. f (map_of.get p.marks j)) named i among e
 
     -- where the id is new to the side, it is met, and is open if the side is the visible one
-    pub meets_new : knows on (map_of.get p.marks i) ≡ false → (waits : Bool → Bool → Bool) → ((j : ObjectId) → set.contains mid.frontier j ≡ waits (is_same j i) (set.contains p.frontier j))
-        → ((w : Bool) → waits true w ≡ not (hides (Some on))) → ((w : Bool) → waits false w ≡ w) → Meets objects on (i ∷ []) p new
-    meets_new unknown waits frontier here others = record {
+    pub meets_new : knows on (map_of.get p.marks i) ≡ false → ((j : ObjectId) → set.contains mid.frontier j ≡ cond (is_same j i) (not (hides (Some on))) (set.contains p.frontier j)) → Meets objects on (i ∷ []) p new
+    meets_new unknown frontier = record {
       objects_stay = q.objects_stay ∙ ap (λ s. s.objects) source;
       graph_stays = q.graph_stays ∙ ap graph_in_use source;
       states = λ j. states j (is_same j i) refl;
       keeps = kept;
       adds = added;
-      tidies = λ t j. tidied t j (is_same j i) refl;
+      tidies = λ t j w. let marked = marks_now j in let waits = waits_now j in let tidy = t j in grind arith;
       spends = λ named h. spent named (h i (Contains-here i [])) on refl;
     }
       where
-        waits_if : (j : ObjectId) (b : Bool) → is_same j i ≡ b → set.contains new.frontier j ≡ waits b (set.contains p.frontier j)
-        waits_if j b e = ap (λ s. set.contains s j) q.frontier_stays ∙ frontier j ∙ ap (λ b. waits b (set.contains p.frontier j)) e
+        waits_now : (j : ObjectId) → set.contains new.frontier j ≡ cond (is_same j i) (not (hides (Some on))) (set.contains p.frontier j)
+        waits_now j = ap (λ s. set.contains s j) q.frontier_stays ∙ frontier j
 
-        state_here : (j : ObjectId) → is_same j i ≡ true → state_of new j ≡ state_by (Some on) (not (hides (Some on)))
-        state_here j e = (λ k. state_by ((marks_now j ∙ ap (λ b. cond b (Some on) (map_of.get p.marks j)) e) k) ((waits_if j true e ∙ here (set.contains p.frontier j)) k))
-
-        state_stays : (j : ObjectId) → is_same j i ≡ false → state_of new j ≡ state_of p j
-        state_stays j e = (λ k. state_by ((marks_now j ∙ ap (λ b. cond b (Some on) (map_of.get p.marks j)) e) k) ((waits_if j false e ∙ others (set.contains p.frontier j)) k))
+        state_now : (j : ObjectId) (b : Bool) → is_same j i ≡ b → state_of new j ≡ cond b (state_by (Some on) (not (hides (Some on)))) (state_of p j)
+        state_now j b e = let marked = marks_now j in let waits = waits_now j in grind arith
 
         states : (j : ObjectId) (b : Bool) → is_same j i ≡ b → Becomes on (Contains (i ∷ []) j) (IsWaiting new on j) (state_of p j) (state_of new j)
         states j true e =
-            subst (Becomes on (Contains (i ∷ []) j) (IsWaiting new on j) (state_of p j)) (sym (state_here j e))
+            subst (Becomes on (Contains (i ∷ []) j) (IsWaiting new on j) (state_of p j)) (sym (state_now j true e))
             (becomes_new on (map_of.get p.marks j) (set.contains p.frontier j) (ap (λ k. knows on (map_of.get p.marks k)) (same_is j i e) ∙ unknown)
               (subst (Contains (i ∷ [])) (sym (same_is j i e)) (Contains-here i [])) (subst (IsWaiting new on) (sym (same_is j i e)) queued))
-        states j false e = subst (Becomes on (Contains (i ∷ []) j) (IsWaiting new on j) (state_of p j)) (sym (state_stays j e)) (stays (λ m. absurd (other j e m)))
-
-        tidied : IsTidy p → (j : ObjectId) (b : Bool) → is_same j i ≡ b → set.contains new.frontier j ≡ true → state_of new j ≡ Open
-        tidied t j true e w = state_here j e ∙ opens_new on (sym (waits_if j true e ∙ here (set.contains p.frontier j)) ∙ w)
-        tidied t j false e w = state_stays j e ∙ t j (sym (waits_if j false e ∙ others (set.contains p.frontier j)) ∙ w)
-
-        unmarked : (o : Option Side) → is_some o ≡ false → false ≡ hides o
-        unmarked o e = grind arith
+        states j false e = subst (Becomes on (Contains (i ∷ []) j) (IsWaiting new on j) (state_of p j)) (sym (state_now j false e)) (stays (λ m. absurd (other j e m)))
 
         spent : (named : List ObjectId) → is_among i named ≡ true → (s : Side) → on ≡ s → room named new ≤ room named p
         spent named e side.Visible v =
             let fresh_here : is_some (map_of.get p.marks i) ≡ false = ap (λ s. knows s (map_of.get p.marks i)) (sym v) ∙ unknown in
             let marked : suc (left is_some new.marks named) ≡ left is_some p.marks named = left_less is_some named e refl fresh_here in
-            let hidden : left hides new.marks named ≡ left hides p.marks named = left_same hides named e (ap (λ s. hides (Some s)) v ∙ unmarked (map_of.get p.marks i) fresh_here) in
+            let hidden : left hides new.marks named ≡ left hides p.marks named = left_same hides named e (grind arith) in
             let longer = length_now in
             omega arith
         spent named e side.Hidden v =
             let hidden : suc (left hides new.marks named) ≡ left hides p.marks named = left_less hides named e (ap (λ s. hides (Some s)) v) (ap (λ s. knows s (map_of.get p.marks i)) (sym v) ∙ unknown) in
-            let marked : left is_some new.marks named ≤ left is_some p.marks named = at_most (is_some (map_of.get p.marks i)) refl in
+            let same : is_some (map_of.get p.marks i) ≡ true → left is_some new.marks named ≡ left is_some p.marks named = λ o. left_same is_some named e (sym o) in
+            let less : is_some (map_of.get p.marks i) ≡ false → suc (left is_some new.marks named) ≡ left is_some p.marks named = left_less is_some named e refl in
             let longer = length_now in
-            omega arith
-          where
-            at_most : (b : Bool) → is_some (map_of.get p.marks i) ≡ b → left is_some new.marks named ≤ left is_some p.marks named
-            at_most true o = let same = left_same is_some named e (sym o) in omega arith
-            at_most false o = let less = left_less is_some named e refl o in omega arith
-
-pub met_then : (o : Option Side) (waiting : Bool) → is_some o ≡ true → state_by o waiting ≢ Unmet
-met_then o waiting e = λ u. grind arith
-
-pub hides_then : (o : Option Side) (waiting : Bool) → hides o ≡ true → state_by o waiting ≡ Hides
-hides_then o waiting e = grind arith
+            grind arith
 
 pub fails_as : {T : Type 0} (P : Hidden → Type 0) (r : Result T Hidden) {why : Hidden} → IsErrAnd r (λ e. e ≡ why) → P why → IfErr r P
 fails_as P (Ok done) h x = absurd h

@@ -20,7 +20,7 @@ use Rattle.gix_paint.specs.Inside.Painter.{hides, State, Unmet, Open, Read, Hide
 use Rattle.gix_hash.specs.Reach.{Reaches, step}
 use Rattle.gix_revwalk.specs.RowParents.{ids_at}
 use Rattle.gix_paint.proofs.Invariant.{in_history, reads_parents, nobody, next, starts_of, RowsInUse, IsSafe, IsOutside, Fact, Stands, IsStarted, stands_meets, safe_meets, started_meets}
-use Rattle.gix_paint.proofs.KeptByTurn.{popped_there, open_read, shut, taken_outside, drop_reason}
+use Rattle.gix_paint.proofs.KeptByTurn.{popped_there, taken_outside, drop_reason}
 use Rattle.gix_revwalk.proofs.ReadsWhole.{row_parents}
 use Rattle.gix_hash.proofs.Ids.Membership.{id_total, same_is, same_itself, Contains-there, Contains-cons_cases, no_member}
 use Rattle.gix_paint.proofs.Meets.{meets_none}
@@ -43,9 +43,6 @@ given_graph (looked_up n (drops {row = row} e f r)) = inr (refl, row, e, f)
 contains_without : (s : Side) (f : set.FinSet id_cmp) (i j : ObjectId) → set.contains (frontier_without s f i) j ≡ (not (not (hides (Some s)) && is_same j i) && set.contains f j)
 contains_without side.Visible f i j = set.contains-remove id_total f i j
 contains_without side.Hidden f i j = refl
-
-visible_same : (s : Side) (b : Bool) → (not (hides (Some s)) && b) ≡ true → (s ≡ side.Visible) × (b ≡ true)
-visible_same s b e = (grind arith, grind arith)
 
 module _ {F : Type 0} (objects : F → Objects) {w v : Painter F} (top : Key × Entry) (pops : Pops cmp-value.it w top v) where
   -- an entry is taken, and where it is its turn, its parents are met
@@ -97,24 +94,25 @@ module _ {F : Type 0} (objects : F → Objects) (store : F) (history : Objects) 
     waits_now : (i : ObjectId) → set.contains mid.frontier i ≡ (not (gone i) && set.contains w.frontier i)
     waits_now i = ap (λ f. set.contains f i) (takes.frontier ∙ ap (λ f. frontier_without top.1.side f top.1.id) pops.frontier) ∙ contains_without top.1.side w.frontier top.1.id i
 
-    state_now : (i : ObjectId) (b : Bool) → gone i ≡ b → state_of mid i ≡ state_by (map_of.get w.marks i) (not b && set.contains w.frontier i)
-    state_now i b e = (λ k. state_by (ap (λ m. map_of.get m i) (takes.marks_stay ∙ pops.marks) k) ((waits_now i ∙ ap (λ b. not b && set.contains w.frontier i) e) k))
+    marks_now : (i : ObjectId) → map_of.get mid.marks i ≡ map_of.get w.marks i
+    marks_now i = ap (λ m. map_of.get m i) (takes.marks_stay ∙ pops.marks)
 
     pub turned : Stands objects store history rows tips hidden_tips nobody w → (i : ObjectId) → IsTurned turn top.1.side (i ≡ top.1.id) (state_of w i) (state_of mid i)
-    turned h i = go (gone i) refl (set.contains w.frontier i) refl
+    turned h i = go (gone i && set.contains w.frontier i) refl
       where
-        go : (b : Bool) → gone i ≡ b → (c : Bool) → set.contains w.frontier i ≡ c → IsTurned turn top.1.side (i ≡ top.1.id) (state_of w i) (state_of mid i)
-        go false e c f = inl (state_now i false e)
-        go true e false f = inl (state_now i true e ∙ ap (state_by (map_of.get w.marks i)) (sym f))
-        go true e true f =
-            let it : (top.1.side ≡ side.Visible) × (is_same i top.1.id ≡ true) = visible_same top.1.side (is_same i top.1.id) e in
-            let here : i ≡ top.1.id = same_is i top.1.id it.1 in
-            let opened : state_of w i ≡ Open = h.tidy i f in
-            inr (ap (λ s. is_turn_on s w.frontier top.1.id) it.0 ∙ ap (set.contains w.frontier) (sym here) ∙ f, it.0, here, opened, state_now i true e ∙ open_read (map_of.get w.marks i) (ap (state_by (map_of.get w.marks i)) (sym f) ∙ opened))
+        go : (b : Bool) → (gone i && set.contains w.frontier i) ≡ b → IsTurned turn top.1.side (i ≡ top.1.id) (state_of w i) (state_of mid i)
+        go false e = let marks = marks_now i in let waits = waits_now i in inl (grind arith)
+        go true e =
+            let marks = marks_now i in
+            let waits = waits_now i in
+            let on : top.1.side ≡ side.Visible = grind arith in
+            let here : i ≡ top.1.id = same_is i top.1.id (grind arith) in
+            let opened : state_of w i ≡ Open = h.tidy i (grind arith) in
+            inr (ap (λ s. is_turn_on s w.frontier top.1.id) on ∙ ap (set.contains w.frontier) (sym here) ∙ (grind arith), on, here, opened, grind arith)
 
     -- the id of a visible entry is open no more
     shut_now : top.1.side ≡ side.Visible → state_of mid top.1.id ≢ Open
-    shut_now on = subst (λ s. s ≢ Open) (sym (state_now top.1.id true (ap (λ s. not (hides (Some s)) && is_same top.1.id top.1.id) on ∙ same_itself top.1.id))) (shut (map_of.get w.marks top.1.id))
+    shut_now on opened = let marks = marks_now top.1.id in let waits = waits_now top.1.id in let same = same_itself top.1.id in grind arith
 
     met_still : Stands objects store history rows tips hidden_tips nobody w → (i : ObjectId) → state_of w i ≢ Unmet → state_of mid i ≢ Unmet
     met_still h i n = ⊎_elim (λ e. subst (λ s. s ≢ Unmet) (sym e) n) (λ t. subst (λ s. s ≢ Unmet) (sym t.4) (λ e. cc)) (turned h i)
@@ -139,17 +137,13 @@ module _ {F : Type 0} (objects : F → Objects) (store : F) (history : Objects) 
         → Stands objects store history rows tips hidden_tips Busy mid
     stands_takes h back dropped outside = record {
       facts = λ i. ⊎_elim (λ e. subst (Known Busy mid i) (sym e) (same i (state_of w i) e (h.facts i))) (λ t. subst (Known Busy mid i) (sym t.4) (read_now i t)) (turned h i);
-      tidy = λ i c. tidied i (gone i) refl (sym (waits_now i) ∙ c);
+      tidy = λ i c. let marks = marks_now i in let waits = waits_now i in let tidy = h.tidy i in grind arith;
       reached = λ q c. h.reached q (within q c);
       waits = λ q c e. hidden_still h q.1.id (h.waits q (within q c) e);
       dropped = dropped;
       read = λ i e n. h.read i e (λ u. ⊎_elim (λ k. n (k ∙ u)) (λ t. let bad : Open ≡ Unmet = sym t.3 ∙ u in cc) (turned h i));
     }
       where
-        tidied : (i : ObjectId) (b : Bool) → gone i ≡ b → (not (gone i) && set.contains w.frontier i) ≡ true → state_of mid i ≡ Open
-        tidied i true e c = grind arith
-        tidied i false e c = state_now i false e ∙ h.tidy i (grind arith)
-
         same : (i : ObjectId) (s : State) → state_of mid i ≡ s → Known nobody w i s → Known Busy mid i s
         same i Unmet e k = tt
         same i Open e k = (k.0, ⊎_elim (λ q. q) (λ t. absurd (shut_now (sym t.0) (ap (state_of mid) (sym t.1) ∙ e))) (waits_still side.Visible i k.1), λ r. k.2 (back r))

@@ -83,6 +83,9 @@ in_pending : (i : ObjectId) (ps : List Pending) → is_among i (ids_of ps) ≡ t
 in_pending i [] e = absurd (false≢true e)
 in_pending i (p ∷ ps) e = ⊎_elim (λ s. (p, Contains-here p ps, sym (same_is i p.id s))) (λ t. let r : (q : Pending) × Contains ps q × (q.id ≡ i) = in_pending i ps t in (r.0, Contains-there r.0 p ps r.1, r.2)) (or_cases _ _ e)
 
+one_counted : (n t : Bool) → n ≡ true → t ≡ false → ◌≡◌ {A = ℕ} (cond (n && not t) 1 0) 1
+one_counted n t a b = grind arith
+
 -- what is chosen by time
 pub bests : (order : CommitTimeOrder) (time : ObjectId → ℤ) (next : ObjectId → List ObjectId) (starts taken : List ObjectId) (pending : List Pending) (p : Pending) (others : List Pending) →
     IsQueue (Some order) (named_by next starts taken) taken (ids_of pending) → IsPermutation pending (p ∷ others) → ((q : Pending) → Contains pending q → q.time ≡ time q.id) → ((other : Pending) → Contains others other → IsNoWorse order p.time other.time) →
@@ -93,7 +96,7 @@ bests order time next starts taken pending p others q perm timed best =
       record {
         among = (among_is p.id _ here.0, λ c. true≢false (sym (among_from p.id taken c) ∙ here.1));
         best = λ other n.
-            let count : times other (ids_of pending) ≡ 1 = let named = among_from other _ n.0 in let untaken = false_from_ne_true _ (λ t. n.1 (among_is other taken t)) in let c = q other in grind arith in
+            let count : times other (ids_of pending) ≡ 1 = q other ∙ one_counted _ _ (among_from other _ n.0) (false_from_ne_true _ (λ t. n.1 (among_is other taken t))) in
             let found : (r : Pending) × Contains pending r × (r.id ≡ other) = in_pending other pending (times_among other (ids_of pending) 0 count) in
             let here : p.time ≡ time p.id = timed p (Contains-permutation (p ∷ others) pending p (IsPermutation-sym pending (p ∷ others) perm) (Contains-here p others)) in
             let there : found.0.time ≡ time other = timed found.0 found.1 ∙ ap time found.2 in

@@ -1,5 +1,5 @@
 -- The parents of a commit, treated in order: what becomes pending and seen.
-use Rattle.std.specs.Prelude.{◌≡◌, ◌⊎◌, ◌+◌, ℤ, pos, List, [], ◌∷◌, ◌++◌, filter, Bool, true, false, not, ◌&&◌, ◌||◌, cond, Option, Some, None, Ok, Contains, IsPermutation}
+use Rattle.std.specs.Prelude.{ℕ, ◌≡◌, ◌⊎◌, ◌+◌, ℤ, pos, List, [], ◌∷◌, ◌++◌, filter, Bool, true, false, not, ◌&&◌, ◌||◌, cond, Option, Some, None, Ok, Contains, IsPermutation}
 use Rattle.std.proofs.Common.{refl, sym, ap, subst, ⊎_elim, ◌∙◌, append_assoc, append-nil, arith}
 use Rattle.std.proofs.lemmas.List.{map-append}
 use Rattle.std.proofs.lemmas.List.Sorted.{IsPermutation-map, Contains-permutation, IsPermutation-sym}
@@ -142,17 +142,20 @@ module _ {F P : Type 0} (objects : F → Objects) (faulty : F → ObjectId → T
       let t : time_of (objects w.store) i ≡ time_of (objects s.store) i = ap (λ f. time_of (objects f) i) h.store in
       (λ order some. t, ap (λ n. is_older n (limit_of s)) t)
 
-  stands_asked : (s : Setting) (w : SimpleWalk F P) → Stands s w → (i : ObjectId) (q : P) (ps : List Pending) → Becomes answers s.predicate q → ((order : CommitTimeOrder) → order_of s ≡ Some order → (p : Pending) → Contains ps p → p.time ≡ time_of (objects s.store) p.id) → Stands s (asked_walk objects faulty answers w i q ps)
-  stands_asked s w h i q ps becomes timed = record {
+  -- also where pending commits and rows are others, and what is seen and remembered
+  pub stands_with : (s : Setting) (w : SimpleWalk F P) → Stands s w → (rows : List GraphRow) (pending : List Pending) (seen remembered : set.FinSet id_cmp) (q : P) (text : List ℕ) (current : Option ObjectId) → (rows ≡ s.rows) ⊎ (rows ≡ []) → Becomes answers s.predicate q
+      → ((i : ObjectId) → set.contains remembered i ≡ true → s.accepts i ≡ true) → ((order : CommitTimeOrder) → order_of s ≡ Some order → (p : Pending) → Contains pending p → p.time ≡ time_of (objects s.store) p.id)
+      → Stands s (record w { predicate = q; rows = rows; pending = pending; seen = seen; remembered = remembered; text = text; current = current })
+  stands_with s w h rows pending seen remembered q text current left becomes yes_kept timed = record {
     store = h.store;
     parents = h.parents;
     sorting = h.sorting;
     marks = h.marks;
     begun = h.begun;
     tips = h.tips;
-    rows = h.rows;
+    rows = left;
     asked_of = becomes;
-    remembered = λ j e. h.remembered j (and_parts (not (is_same j i)) (set.contains w.remembered j) (sym (set.contains-remove id_total w.remembered i j) ∙ e)).1;
+    remembered = yes_kept;
     timed = timed;
   }
 
@@ -176,7 +179,7 @@ module _ {F P : Type 0} (objects : F → Objects) (faulty : F → ObjectId → T
   asked_did : (s : Setting) (w : SimpleWalk F P) → Stands s w → (i : ObjectId) (q : P) (ps : List Pending) → Becomes answers s.predicate q → ((order : CommitTimeOrder) → order_of s ≡ Some order → (p : Pending) → Contains ps p → p.time ≡ time_of (objects s.store) p.id)
       → Joins (order_of s) (ids_of ps) (ids_of w.pending ++ fresh (set.contains w.seen) (filter (keep s) (i ∷ []))) → Did s (i ∷ []) w (asked_walk objects faulty answers w i q ps)
   asked_did s w h i q ps becomes timed joins = record {
-    rest = stands_asked s w h i q ps becomes timed;
+    rest = stands_with s w h w.rows ps _ _ q w.text w.current h.rows becomes (λ j e. h.remembered j (and_parts (not (is_same j i)) (set.contains w.remembered j) (sym (set.contains-remove id_total w.remembered i j) ∙ e)).1) timed;
     same_rows = refl;
     seen = λ j k. set.contains-insert id_total w.seen i j ∙ ap (λ b. b || set.contains w.seen j) (sym (among-one j i));
     pending = joins;

@@ -1,4 +1,4 @@
-use Rattle.std.proofs.Common.{◌≡◌, ◌||◌, Option, None, Some, is_some, refl, sym, ap, ◌∙◌, arith}
+use Rattle.std.proofs.Common.{◌≡◌, true, Option, None, Some, is_some, refl, sym, ap, ◌∙◌, arith}
 use Rattle.std.specs.FinMap.{get}
 use Rattle.std.specs.FinSet.{contains, contains-insert}
 use Rattle.gix_hash.proofs.Ids.Membership.{id_total}
@@ -7,7 +7,7 @@ use Rattle.std.specs.Borrow.{Bor}
 use Rattle.gix_paint.specs.declared.Side.{Side}
 use Rattle.gix_paint.specs.declared.Side.TheVariants as side
 use Rattle.std.proofs.lemmas.Result.{IfOk-weaker}
-use Rattle.gix_paint.proofs.Meets.{met_then, meets_known, meets_new}
+use Rattle.gix_paint.proofs.Meets.{meets_known, meets_new}
 use Rattle.gix_paint.proofs.Painter.show.Goals as goal
 
 copied : (o : Option (Bor Side)) → is_some (option_copied o) ≡ is_some o
@@ -15,11 +15,11 @@ copied o = grind arith
 
 pub returns-then-is_some-clause-ok : goal.returns-then-is_some-clause-ok
 returns-then-is_some-clause-ok g c =
-    meets_known g.F.Find.objects side.Visible c.args.id c.args.self.now
-    (met_then (get c.args.self.now.marks c.args.id) (contains c.args.self.now.frontier c.args.id) (ap is_some (sym c.get.ensures) ∙ copied c.get.result ∙ sym c.is_some.ensures ∙ c.if-is_some.true), λ e. cc)
+    let marked : is_some (get c.args.self.now.marks c.args.id) ≡ true = ap is_some (sym c.get.ensures) ∙ copied c.get.result ∙ sym c.is_some.ensures ∙ c.if-is_some.true in
+    meets_known g.F.Find.objects side.Visible c.args.id c.args.self.now (λ u. grind arith, λ e. cc)
 
 pub returns-clause-ok : goal.returns-clause-ok
 returns-clause-ok g c =
     IfOk-weaker c.enqueue.result _ _ (λ x queues. meets_new g.F.Find.objects side.Visible c.args.id c.args.self.now _ _ refl c.in_ok-insert.ensures.ok refl queues
     (ap is_some (sym c.get.ensures) ∙ copied c.get.result ∙ sym c.is_some.ensures ∙ c.if-is_some.false)
-    ◌||◌ (λ j. ap (λ s. contains s j) c.in_ok-insert-2.ensures.ok ∙ contains-insert id_total c.args.self.now.frontier c.args.id j) (λ w. refl) (λ w. refl)) c.enqueue.ensures.ok
+    (λ j. let now = ap (λ s. contains s j) c.in_ok-insert-2.ensures.ok ∙ contains-insert id_total c.args.self.now.frontier c.args.id j in grind arith)) c.enqueue.ensures.ok
