@@ -83,6 +83,9 @@ in_pending : (i : ObjectId) (ps : List Pending) → is_among i (ids_of ps) ≡ t
 in_pending i [] e = absurd (false≢true e)
 in_pending i (p ∷ ps) e = ⊎_elim (λ s. (p, Contains-here p ps, sym (same_is i p.id s))) (λ t. let r : (q : Pending) × Contains ps q × (q.id ≡ i) = in_pending i ps t in (r.0, Contains-there r.0 p ps r.1, r.2)) (or_cases _ _ e)
 
+counted_one : (n t : Bool) (x : ℕ) → 1 + x ≡ cond (n && not t) 1 0 → (n ≡ true) × (t ≡ false)
+counted_one n t x e = (grind arith, grind arith)
+
 one_counted : (n t : Bool) → n ≡ true → t ≡ false → ◌≡◌ {A = ℕ} (cond (n && not t) 1 0) 1
 one_counted n t a b = grind arith
 
@@ -92,14 +95,14 @@ pub bests : (order : CommitTimeOrder) (time : ObjectId → ℤ) (next : ObjectId
     IsNextOne (Some order) time next starts taken (Some p.id) × IsRest (Some order) (named_by next starts taken) taken p.id (ids_of others) × (is_among p.id (named_by next starts taken) ≡ true)
 bests order time next starts taken pending p others q perm timed best =
     let rest : IsRest (Some order) (named_by next starts taken) taken p.id (ids_of others) = λ j. times-permutation j pending (p ∷ others) perm ∙ q j in
-    let here : (is_among p.id (named_by next starts taken) ≡ true) × (is_among p.id taken ≡ false) = let same = same_itself p.id in let r = rest p.id in (grind arith, grind arith) in (
+    let here : (is_among p.id (named_by next starts taken) ≡ true) × (is_among p.id taken ≡ false) = counted_one _ _ (times p.id (ids_of others)) (ap (λ b. cond b 1 0 + times p.id (ids_of others)) (sym (same_itself p.id)) ∙ rest p.id) in (
       record {
         among = (among_is p.id _ here.0, λ c. true≢false (sym (among_from p.id taken c) ∙ here.1));
         best = λ other n.
             let count : times other (ids_of pending) ≡ 1 = q other ∙ one_counted _ _ (among_from other _ n.0) (false_from_ne_true _ (λ t. n.1 (among_is other taken t))) in
             let found : (r : Pending) × Contains pending r × (r.id ≡ other) = in_pending other pending (times_among other (ids_of pending) 0 count) in
             let here : p.time ≡ time p.id = timed p (Contains-permutation (p ∷ others) pending p (IsPermutation-sym pending (p ∷ others) perm) (Contains-here p others)) in
-            let there : found.0.time ≡ time other = timed found.0 found.1 ∙ ap time found.2 in
+            let there : found.0.time ≡ time other = subst (λ i. found.0.time ≡ time i) found.2 (timed found.0 found.1) in
             ⊎_elim (λ e. no_worse_itself order (time p.id) (time other) (sym here ∙ ap (λ x. x.time) e ∙ there))
             (λ m. subst (λ t. IsNoWorse order (time p.id) t) there (subst (λ t. IsNoWorse order t found.0.time) here (best found.0 m)))
             (Contains-cons_cases found.0 p others (Contains-permutation pending (p ∷ others) found.0 perm found.1));
