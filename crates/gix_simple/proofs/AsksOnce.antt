@@ -92,12 +92,8 @@ module _ {F P : Type 0} (objects : F → Objects) (faulty : F → ObjectId → T
         let a = built_asked b in
         record {
           so_far = record { ids = a.so_far.ids; run = subst (AsksAll answers first a.so_far.ids) (sym (ap (λ x. x.predicate) s.others)) a.so_far.run; distinct = a.so_far.distinct; named = a.so_far.named };
-          known = λ i m. cut i (is_among i (outdated (cutoff mode.All by) (timed (objects w.store) w.pending))) (s.seen i) (s.remembered i) (a.known i m);
+          known = λ i m. let seen = s.seen i in let remembered = s.remembered i in let before = a.known i m in grind arith;
         }
-      where
-        cut : (i : ObjectId) (gone : Bool) → set.contains new.seen i ≡ (set.contains w.seen i && not gone) → set.contains new.remembered i ≡ (set.contains w.remembered i || gone)
-            → (set.contains w.seen i ≡ true) ⊎ (set.contains w.remembered i ≡ true) → (set.contains new.seen i ≡ true) ⊎ (set.contains new.remembered i ≡ true)
-        cut i gone s r known = grind arith
     built_asked (hides b) = built_asked b
     built_asked (walks b) = built_asked b
     built_asked (reads b) = built_asked b

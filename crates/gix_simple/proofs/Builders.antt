@@ -39,13 +39,7 @@ module _ (objects : Objects) where
   -- of pending commits with their times, those whose time is of some kind
   ids_by_time : (f : ℤ → Bool) (ps : List Pending) → ids_of (filter (λ p. f p.time) (timed objects ps)) ≡ filter (λ i. f (time_of objects i)) (ids_of ps)
   ids_by_time f [] = refl
-  ids_by_time f (p ∷ ps) = go (f (time_of objects p.id)) (ids_by_time f ps)
-    where
-      go : (b : Bool) → ids_of (filter (λ p. f p.time) (timed objects ps)) ≡ filter (λ i. f (time_of objects i)) (ids_of ps)
-          → ids_of (cond b (record { id = p.id; time = time_of objects p.id } ∷ filter (λ p. f p.time) (timed objects ps)) (filter (λ p. f p.time) (timed objects ps)))
-          ≡ cond b (p.id ∷ filter (λ i. f (time_of objects i)) (ids_of ps)) (filter (λ i. f (time_of objects i)) (ids_of ps))
-      go true r = ap (λ is. p.id ∷ is) r
-      go false r = r
+  ids_by_time f (p ∷ ps) = grind (arith, ids_by_time f ps)
 
   among_by_time : (f : ℤ → Bool) (ps : List Pending) (i : ObjectId) → is_among i (ids_of (filter (λ p. f p.time) (timed objects ps))) ≡ (f (time_of objects i) && is_among i (ids_of ps))
   among_by_time f ps i = ap (is_among i) (ids_by_time f ps) ∙ among-filter i (λ i. f (time_of objects i)) (ids_of ps)

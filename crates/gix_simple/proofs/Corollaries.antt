@@ -4,7 +4,8 @@ use Rattle.std.proofs.Common.{refl, sym, ap, subst, ⊎_elim, ◌∙◌, arith}
 use Rattle.std.specs.List.{AllZip}
 use Rattle.std.proofs.lemmas.List.Elements.{Contains-append_left, Contains-append_right, Contains-append_cases}
 use Rattle.std.proofs.lemmas.Bool.{false≢true, true≢false, and_parts, and_from, not_from_false, not-true, false_from_ne_true}
-use Rattle.std.proofs.lemmas.Option.{slice_get_within}
+use Rattle.std.proofs.lemmas.Option.{slice_get_within, get_or_from_slice_get}
+use Rattle.std.proofs.Math.Seq.{take-suc}
 use Rattle.gix_hash.specs.declared.ObjectId.{ObjectId}
 use Rattle.gix_hash.specs.Id.{is_among}
 use Rattle.gix_object.specs.Object.{Objects}
@@ -98,16 +99,11 @@ module _ (objects : Objects) (m : Parents) (accepts hides : ObjectId → Bool) (
       (step (reached_shown c r).0 (in_filter _ (walked_parents objects m c) i a.0 k.0), k.1)
 
 -- the times never rise
-take_next : {X : Type 0} (xs : List X) (k : ℕ) (x : X) → slice_get xs k ≡ Some x → take (suc k) xs ≡ take k xs ++ x ∷ []
-take_next [] k x e = cc
-take_next (y ∷ xs) zero x e = cc
-take_next (y ∷ xs) (suc k) x e = ap (λ ys. y ∷ ys) (take_next xs k x e)
-
 pub times_fall : (time : ObjectId → ℤ) (next : ObjectId → List ObjectId) (starts ids : List ObjectId) → IsTimeOrder NewestFirst time next starts ids → ((c i : ObjectId) → Contains (next c) i → time i ≤ℤ time c) → (k : ℕ) (a b : ObjectId) → slice_get ids k ≡ Some a → slice_get ids (suc k) ≡ Some b → time b ≤ℤ time a
 times_fall time next starts ids h older k a b ea eb =
     let best_a : IsBest NewestFirst time (IsPending next starts (take k ids)) a = subst (λ o. MatchOption o ((i : ObjectId) → IsPending next starts (take k ids) i → ⊥) (IsBest NewestFirst time (IsPending next starts (take k ids)))) ea (h k (let w : suc k ≤ length ids = slice_get_within ids k a ea in omega arith)) in
     let best_b : IsBest NewestFirst time (IsPending next starts (take (suc k) ids)) b = subst (λ o. MatchOption o ((i : ObjectId) → IsPending next starts (take (suc k) ids) i → ⊥) (IsBest NewestFirst time (IsPending next starts (take (suc k) ids)))) eb (h (suc k) (let w : suc (suc k) ≤ length ids = slice_get_within ids (suc k) b eb in omega arith)) in
-    let taken : take (suc k) ids ≡ take k ids ++ a ∷ [] = take_next ids k a ea in
+    let taken : take (suc k) ids ≡ take k ids ++ a ∷ [] = take-suc ids k a (slice_get_within ids k a ea) ∙ ap (λ x. take k ids ++ x ∷ []) (get_or_from_slice_get ids k a a ea) in
     let named : named_by next starts (take (suc k) ids) ≡ named_by next starts (take k ids) ++ next a = ap (named_by next starts) taken ∙ named-push next starts (take k ids) a in
     ⊎_elim (λ n. best_a.best b (n, λ c. best_b.among.1 (subst (λ xs. Contains xs b) (sym taken) (Contains-append_left (take k ids) (a ∷ []) b c)))) (λ n. older a b n)
     (Contains-append_cases (named_by next starts (take k ids)) (next a) b (subst (λ xs. Contains xs b) named best_b.among.0))

@@ -65,17 +65,14 @@ module _ (objects : Objects) where
 
   module _ (rows : List GraphRow) (parents : Parents) (order : Option CommitTimeOrder) where
     -- the answers are commits, and their ids are these
-    commit_ids : (list : List (Result Info Error)) (ids : List ObjectId) → AllZip (IsGiven objects rows parents order) list ids → given_ids list ≡ ids
-    commit_ids [] [] h = refl
-    commit_ids [] (i ∷ ids) h = absurd h
-    commit_ids (a ∷ list) [] h = absurd h
-    commit_ids (Ok info ∷ list) (i ∷ ids) h = (λ k. h.0.info_is.same_id k ∷ commit_ids list ids h.1 k)
-    commit_ids (Err e ∷ list) (i ∷ ids) h = absurd h.0
-
-    all_commits : (list : List (Result Info Error)) (ids : List ObjectId) → AllZip (IsGiven objects rows parents order) list ids → (e : Error) → Contains list (Err e) → ⊥
-    all_commits [] ids h e c = no_member (Err e) c
-    all_commits (a ∷ list) [] h e c = absurd h
-    all_commits (a ∷ list) (i ∷ ids) h e c = ⊎_elim (λ s. subst (λ x. IsGiven objects rows parents order x i) s h.0) (all_commits list ids h.1 e) (Contains-cons_cases (Err e) a list c)
+    commits : (list : List (Result Info Error)) (ids : List ObjectId) → AllZip (IsGiven objects rows parents order) list ids → (given_ids list ≡ ids) × ((e : Error) → Contains list (Err e) → ⊥)
+    commits [] [] h = (refl, λ e c. no_member (Err e) c)
+    commits [] (i ∷ ids) h = absurd h
+    commits (a ∷ list) [] h = absurd h
+    commits (Err e ∷ list) (i ∷ ids) h = absurd h.0
+    commits (Ok info ∷ list) (i ∷ ids) h =
+        let r : (given_ids list ≡ ids) × ((e : Error) → Contains list (Err e) → ⊥) = commits list ids h.1 in
+        ((λ k. h.0.info_is.same_id k ∷ r.0 k), λ e c. ⊎_elim (λ s. cc) (r.1 e) (Contains-cons_cases (Err e) (Ok info) list c))
 
 -- an answer that is no fault is no refusal
 unrefused : (list : List (Result Info Error)) → ((e : Error) → Contains list (Err e) → ⊥) → All IsNoRefusal list
@@ -109,32 +106,27 @@ module _ {F P : Type 0} (objects : F → Objects) (faulty : F → ObjectId → T
       (λ e s. let same : answer ≡ Err e = cc in good e (subst (λ x. Contains (x ∷ list) (Err e)) (sym same) (Contains-here (Err e) list)))
 
   module _ (store : F) (predicate : P) (tips : List ObjectId) (accepting : AnswersBy answers predicate (λ i. true)) where
-    -- no call took a tip out
-    pending_tips : {walk : SimpleWalk F P} (b : IsBuilt objects faulty answers store predicate tips walk) → IsUncut b → ids_of walk.pending ≡ new_ids (λ i. false) tips
-    pending_tips (made {walk = walk} m) u = (is_new_walk objects faulty answers store predicate (λ i. true) tips walk accepting m).pending ∙ ap (new_ids (λ i. false)) (filter_all (λ i. true) tips (λ i c. refl))
-    pending_tips (breadth_first b) u = pending_tips b u
-    pending_tips (by_time {walk = walk} {by = by} b s) u = ap ids_of s.pending ∙ ap (λ limit. ids_of (recent limit (timed (objects walk.store) walk.pending))) u.1 ∙ recent_all (objects walk.store) walk.pending ∙ pending_tips b u.0
-    pending_tips (hides b) u = pending_tips b u
-    pending_tips (walks b) u = pending_tips b u
-    pending_tips (reads b) u = pending_tips b u
-
-    uncut_all : {walk : SimpleWalk F P} (b : IsBuilt objects faulty answers store predicate tips walk) → IsUncut b → cutoff mode.All walk.sorting ≡ None
-    uncut_all (made {walk = walk} m) u = ap (cutoff mode.All) (is_new_walk objects faulty answers store predicate (λ i. true) tips walk accepting m).breadth_first
-    uncut_all (breadth_first b) u = refl
-    uncut_all (by_time b s) u = ap (λ w. cutoff mode.All w.sorting) s.others ∙ u.1
+    -- no call took a tip out, or set a cutoff
+    uncut_all : {walk : SimpleWalk F P} (b : IsBuilt objects faulty answers store predicate tips walk) → IsUncut b → (ids_of walk.pending ≡ new_ids (λ i. false) tips) × (cutoff mode.All walk.sorting ≡ None)
+    uncut_all (made {walk = walk} m) u =
+        let new = is_new_walk objects faulty answers store predicate (λ i. true) tips walk accepting m in
+        (new.pending ∙ ap (new_ids (λ i. false)) (filter_all (λ i. true) tips (λ i c. refl)), ap (cutoff mode.All) new.breadth_first)
+    uncut_all (breadth_first b) u = ((uncut_all b u).0, refl)
+    uncut_all (by_time {walk = walk} {by = by} b s) u =
+        (ap ids_of s.pending ∙ ap (λ limit. ids_of (recent limit (timed (objects walk.store) walk.pending))) u.1 ∙ recent_all (objects walk.store) walk.pending ∙ (uncut_all b u.0).0, ap (λ w. cutoff mode.All w.sorting) s.others ∙ u.1)
     uncut_all (hides b) u = uncut_all b u
     uncut_all (walks b) u = uncut_all b u
     uncut_all (reads b) u = uncut_all b u
 
     module _ (walk : SimpleWalk F P) (b : IsBuilt objects faulty answers store predicate tips walk) (uncut : IsUncut b) (all : walk.parents ≡ mode.All) where
       no_cutoff : cutoff walk.parents walk.sorting ≡ None
-      no_cutoff = ap (λ m. cutoff m walk.sorting) all ∙ uncut_all b uncut
+      no_cutoff = ap (λ m. cutoff m walk.sorting) all ∙ (uncut_all b uncut).1
 
       is_pending : (i : ObjectId) → Contains tips i → Contains (ids_of walk.pending) i
-      is_pending i c = subst (λ xs. Contains xs i) (sym (pending_tips b uncut)) (among_is i (new_ids (λ j. false) tips) (times_among i (new_ids (λ j. false) tips) 0 (times-fresh i (λ j. false) tips ∙ ap (λ b. cond b 1 0) (among_from i tips c))))
+      is_pending i c = subst (λ xs. Contains xs i) (sym ((uncut_all b uncut).0)) (among_is i (new_ids (λ j. false) tips) (times_among i (new_ids (λ j. false) tips) 0 (times-fresh i (λ j. false) tips ∙ ap (λ b. cond b 1 0) (among_from i tips c))))
 
       is_tip : (i : ObjectId) → Contains (ids_of walk.pending) i → Contains tips i
-      is_tip i c = among_is i tips (fresh_among i (λ j. false) tips (subst (λ xs. Contains xs i) (pending_tips b uncut) c))
+      is_tip i c = among_is i tips (fresh_among i (λ j. false) tips (subst (λ xs. Contains xs i) ((uncut_all b uncut).0) c))
 
       is_fresh : IsFresh objects walk (λ i. true) × AnswersBy answers walk.predicate (λ i. true) × (walk.store ≡ store)
       is_fresh = built objects faulty answers (λ i. true) store predicate accepting tips walk b
@@ -174,7 +166,7 @@ module _ {F P : Type 0} (objects : F → Objects) (faulty : F → ObjectId → T
         each = gives_once objects faulty answers walk (λ i. true) test.0 list gave
 
         ids_are : given_ids list ≡ gave.ids
-        ids_are = commit_ids (objects walk.store) walk.rows walk.parents (time_order walk.parents walk.sorting) list gave.ids gave.given
+        ids_are = (commits (objects walk.store) walk.rows walk.parents (time_order walk.parents walk.sorting) list gave.ids gave.given).0
 
         reached : (i : ObjectId) → Reaches (parents_of (objects walk.store)) tips i → test.0 i ≡ false → Reaches (next_of objects walk (λ i. true) test.0) (starts_of walk test.0) i
         reached i r h =
@@ -184,7 +176,7 @@ module _ {F P : Type 0} (objects : F → Objects) (faulty : F → ObjectId → T
 
         gives_difference : GivesDifference (objects walk.store) tips walk.hidden_tips list
         gives_difference = record {
-          commits = all_commits (objects walk.store) walk.rows walk.parents (time_order walk.parents walk.sorting) list gave.ids gave.given;
+          commits = (commits (objects walk.store) walk.rows walk.parents (time_order walk.parents walk.sorting) list gave.ids gave.given).1;
           once = subst AreDistinct (sym ids_are) each.0;
           exact = λ i. (
             λ c. let p = from_pending i ((each.1 i).0 (subst (λ xs. Contains xs i) ids_are c)) in (reach_more (parents_of (objects walk.store)) (ids_of walk.pending) tips is_tip i p.0, λ h. true≢false (sym ((test.1 i).1 h) ∙ p.1)),

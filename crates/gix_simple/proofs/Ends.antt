@@ -18,15 +18,12 @@ use Rattle.gix_simple.proofs.Moves.{Asking, rests, asks, Follows, Moves, fails, 
 -- of fewer ids fewer are new
 fewer_new : (s : ObjectId → Bool) (xs ys : List ObjectId) → ((i : ObjectId) → is_among i xs ≡ true → is_among i ys ≡ true) → length (fresh s xs) ≤ length (fresh s ys)
 fewer_new s [] ys h = Prim.Native.Nat.zero-le
-fewer_new s (x ∷ xs) ys h = go (fewer_new s xs ys rest) (fewer_new (λ j. is_same j x || s j) xs ys rest) (s x) refl
-  where
-    rest : (i : ObjectId) → is_among i xs ≡ true → is_among i ys ≡ true
-    rest i m = h i (or_right (is_same i x) _ m)
-
-    go : length (fresh s xs) ≤ length (fresh s ys) → length (fresh (λ j. is_same j x || s j) xs) ≤ length (fresh (λ j. is_same j x || s j) ys)
-        → (b : Bool) → s x ≡ b → length (cond b (fresh s xs) (x ∷ fresh (λ j. is_same j x || s j) xs)) ≤ length (fresh s ys)
-    go r q true e = r
-    go r q false e = let k : suc (length (fresh (λ j. is_same j x || s j) ys)) ≡ length (fresh s ys) = new_less s ys x (h x (or_left _ _ (same_itself x))) e in omega arith
+fewer_new s (x ∷ xs) ys h =
+    let rest : (i : ObjectId) → is_among i xs ≡ true → is_among i ys ≡ true = λ i m. h i (or_right (is_same i x) _ m) in
+    let old = fewer_new s xs ys rest in
+    let new = fewer_new (λ j. is_same j x || s j) xs ys rest in
+    let less : s x ≡ false → suc (length (fresh (λ j. is_same j x || s j) ys)) ≡ length (fresh s ys) = new_less s ys x (h x (or_left _ _ (same_itself x))) in
+    grind arith
 
 module _ {F P : Type 0} (objects : F → Objects) (faulty : F → ObjectId → Type 0) (answers : P → ObjectId → Bool → P → Type 0) where
   -- what a walk can still give, of these ids

@@ -24,10 +24,10 @@ use Rattle.gix_simple.specs.Walk.{SimpleWalk, Steps, FirstStep, Next, unhidden}
 use Rattle.gix_revwalk.specs.Ids.{ids_of}
 use Rattle.gix_simple.specs.Laws.{answers_left}
 use Rattle.gix_simple.proofs.Ends.{next_left}
-use Rattle.gix_simple.proofs.TimeKeys.{none_of}
+use Rattle.std.proofs.lemmas.List.{nil_from_length}
 
 none_in : {X : Type 0} (xs : List X) → (length xs == 0) ≡ true → xs ≡ []
-none_in xs e = ⊎_elim (λ t. none_of xs t.1) (λ f. absurd (false≢true (sym f.0 ∙ e))) (eqb_tells (length xs) 0)
+none_in xs e = ⊎_elim (λ t. nil_from_length xs t.1) (λ f. absurd (false≢true (sym f.0 ∙ e))) (eqb_tells (length xs) 0)
 
 module _ {F P : Type 0} (objects : F → Objects) (faulty : F → ObjectId → Type 0) (answers : P → ObjectId → Bool → P → Type 0) (old : SimpleWalk F P) where
   -- what was hidden is stepped over

@@ -14,7 +14,7 @@ use Rattle.gix_simple.specs.Walk.{SimpleWalk, bare, time_order, IsMade}
 use Rattle.gix_revwalk.specs.Ids.{ids_of, AreDistinct, new_ids}
 use Rattle.gix_revwalk.specs.Asking.{Becomes, itself, further, AnswersBy}
 use Rattle.gix_simple.specs.Laws.{IsFresh, IsNewWalk}
-use Rattle.gix_revwalk.proofs.NewIds.{fresh, times_among, times-fresh, among-filter, times_once, among_times}
+use Rattle.gix_revwalk.proofs.NewIds.{times, fresh, times_among, times-fresh, among-filter, times_once, among_times}
 use Rattle.gix_simple.proofs.Treated.{Setting, Stands, Did, keep, all_treated}
 
 pub once_or_never : (b : Bool) → cond b 1 0 ≤ 1
@@ -26,10 +26,7 @@ fresh_once s xs = times_once (fresh s xs) (λ i. subst (λ n. n ≤ 1) (sym (tim
 
 -- they are ids of the list
 pub fresh_among : (i : ObjectId) (s : ObjectId → Bool) (xs : List ObjectId) → Contains (fresh s xs) i → is_among i xs ≡ true
-fresh_among i s xs h = go (not (s i)) (is_among i xs) (subst (λ n. 1 ≤ n) (times-fresh i s xs) (among_times i (fresh s xs) (among_from i (fresh s xs) h)))
-  where
-    go : (a b : Bool) → 1 ≤ cond (a && b) 1 0 → b ≡ true
-    go a b h = grind arith
+fresh_among i s xs h = let t = times-fresh i s xs in let m : 1 ≤ times i (fresh s xs) = among_times i (fresh s xs) (among_from i (fresh s xs) h) in grind arith
 
 -- all of them, where none is old
 among_fresh : (i : ObjectId) (xs : List ObjectId) → is_among i xs ≡ true → Contains (fresh (λ j. false) xs) i
@@ -93,9 +90,6 @@ module _ {F P : Type 0} (objects : F → Objects) (faulty : F → ObjectId → T
     same_store = did.rest.store;
     all_parents = did.rest.parents;
     breadth_first = did.rest.sorting;
-    rowless = no_rows did.rest.rows;
+    rowless = ⊎_elim (λ e. e) (λ e. e) did.rest.rows;
     open_to = did.rest.tips;
   }
-    where
-      no_rows : (walk.rows ≡ []) ⊎ (walk.rows ≡ []) → walk.rows ≡ []
-      no_rows h = ⊎_elim (λ e. e) (λ e. e) h

@@ -62,11 +62,7 @@ fewer_moved ps qs h = record {
 
 pub fewer_filter : (p : Pending → Bool) (ps : List Pending) → Fewer (filter p ps) ps
 fewer_filter p [] = fewer_same []
-fewer_filter p (x ∷ ps) = go (p x) (fewer_filter p ps)
-  where
-    go : (b : Bool) → Fewer (filter p ps) ps → Fewer (cond b (x ∷ filter p ps) (filter p ps)) (x ∷ ps)
-    go true r = record { shorter = (let s = r.shorter in omega arith); as_often = λ i. let s = r.as_often i in omega arith }
-    go false r = fewer_then r (fewer_by_one x ps)
+fewer_filter p (x ∷ ps) = let r = fewer_filter p ps in record { shorter = (let s = r.shorter in grind arith); as_often = λ i. let s = r.as_often i in grind arith }
 
 -- what is held is what was pending, and one more
 fewer_held : (o : Option CommitTimeOrder) (old new : List Pending) (p : Pending) → Holds o (old ++ p ∷ []) new → Fewer new (p ∷ old)

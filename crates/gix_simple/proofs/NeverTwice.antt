@@ -24,14 +24,12 @@ module _ {F P : Type 0} (objects : F → Objects) (faulty : F → ObjectId → T
   pub asked_sole : (gone : List ObjectId) {Named : ObjectId → Type 0} {how : Treated} {w v : SimpleWalk F P} → Asking objects faulty answers Named w how v → IsSole gone w → IsSole gone v
   asked_sole gone (rests f) h = h
   asked_sole gone {w = w} (asks {p = p} {ps = ps} n is_new a f rest) h =
-      asked_sole gone rest (λ j. subst (λ b. times j (ids_of ps) + times j gone ≤ cond b 1 0) (sym (set.contains-insert id_total w.seen p.id j)) (go j (is_same j p.id) refl (f.as_often j)))
-    where
-      go : (j : ObjectId) (b : Bool) → is_same j p.id ≡ b → times j (ids_of ps) ≤ cond b 1 0 + times j (ids_of w.pending) → times j (ids_of ps) + times j gone ≤ cond (b || set.contains w.seen j) 1 0
-      go j true t s =
-          let unseen : set.contains w.seen j ≡ false = ap (set.contains w.seen) (same_is j p.id t) ∙ is_new.unseen in
-          let k : times j (ids_of w.pending) + times j gone ≤ 0 = subst (λ b. times j (ids_of w.pending) + times j gone ≤ cond b 1 0) unseen (h j) in
-          omega arith
-      go j false t s = let k : times j (ids_of w.pending) + times j gone ≤ cond (set.contains w.seen j) 1 0 = h j in omega arith
+      asked_sole gone rest (λ j.
+      let often = f.as_often j in
+      let sole : times j (ids_of w.pending) + times j gone ≤ cond (set.contains w.seen j) 1 0 = h j in
+      let now = set.contains-insert id_total w.seen p.id j in
+      let unseen : is_same j p.id ≡ true → set.contains w.seen j ≡ false = λ t. ap (set.contains w.seen) (same_is j p.id t) ∙ is_new.unseen in
+      grind arith)
 
   follows_sole : (gone : List ObjectId) {w v : SimpleWalk F P} → Follows objects faulty answers w v → IsSole gone w → IsSole gone v
   follows_sole gone {w} {v} f h i =

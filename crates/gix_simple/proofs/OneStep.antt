@@ -28,7 +28,7 @@ use Rattle.gix_revwalk.proofs.NewIds.{fresh}
 use Rattle.gix_revwalk.proofs.ReadsWhole.{scan_is, row_parents, row_stands, parent_has_row, walked_within, no_fault}
 use Rattle.gix_revwalk.proofs.TextParents.{text_whole, commit_stored}
 use Rattle.gix_simple.proofs.Moves.{scan_by, rows_then}
-use Rattle.gix_simple.proofs.Treated.{Joins, Joins-refl, Joins-trans, Setting, order_of, limit_of, keep, Stands, Did, all_treated, rows_agree}
+use Rattle.gix_simple.proofs.Treated.{Joins, Joins-refl, Joins-trans, Setting, order_of, limit_of, keep, Stands, Did, all_treated, rows_agree, stands_with}
 use Rattle.gix_revwalk.proofs.Rows.{kept_either}
 
 -- the answer is no fault
@@ -77,18 +77,7 @@ module _ {F P : Type 0} (objects : F → Objects) (faulty : F → ObjectId → T
   -- also where rows and pending commits are gone
   pub stands_left : (s : Setting objects faulty answers) (w : SimpleWalk F P) (rows : List GraphRow) (pending : List Pending) (text : List ℕ) (current : Option ObjectId) → Stands objects faulty answers s w
       → (rows ≡ w.rows) ⊎ (rows ≡ []) → ((p : Pending) → Contains pending p → Contains w.pending p) → Stands objects faulty answers s (record w { rows = rows; pending = pending; text = text; current = current })
-  stands_left s w rows pending text current h left within = record {
-    store = h.store;
-    parents = h.parents;
-    sorting = h.sorting;
-    marks = h.marks;
-    begun = h.begun;
-    tips = h.tips;
-    rows = rows_then h.rows left;
-    asked_of = h.asked_of;
-    remembered = h.remembered;
-    timed = λ order e p m. h.timed order e p (within p m);
-  }
+  stands_left s w rows pending text current h left within = stands_with objects faulty answers s w h rows pending w.seen w.remembered w.predicate text current (rows_then h.rows left) h.asked_of h.remembered (λ order e p m. h.timed order e p (within p m))
 
   concluded : (s : Setting objects faulty answers) (w : SimpleWalk F P) (i : ObjectId) (ps : List ObjectId) (generation : Option ℕ) (time : Option ℤ) (text : List ℕ) (fault : Option DecodeError) (walk : SimpleWalk F P) {how : Treated} {answer : Result Info Error} {new : SimpleWalk F P} →
       ps ≡ walked s i → (fault ≡ None → ReadsParents (objects s.store) s.parents i) → IsRowGeneration s.rows i generation → time ≡ time_if (order_of objects faulty answers s) (time_of (objects s.store) i) → (how ≡ GoesOn → Did objects faulty answers s ps w walk) →

@@ -32,10 +32,6 @@ abbrev pub IsNextOne : Option CommitTimeOrder → (ObjectId → ℤ) → (Object
 IsNextOne None time next starts taken o = o ≡ first_new (named_by next starts taken) taken
 IsNextOne (Some order) time next starts taken o = MatchOption o ((i : ObjectId) → IsPending next starts taken i → ⊥) (IsBest order time (IsPending next starts taken))
 
--- the counts after one was taken and its own ids came in
-count_step : (n a t e s : Bool) (x : ℕ) → (a ≡ true → s ≡ n) → (t ≡ true → n ≡ true) → (e ≡ true → n ≡ true) → cond e 1 0 + x ≡ cond (n && not t) 1 0 → x + cond (not s && a) 1 0 ≡ cond ((n || a) && not (t || e)) 1 0
-count_step n a t e s x sa tn en q = grind arith
-
 -- the next ids come in
 pub grows : (o : Option CommitTimeOrder) (named taken : List ObjectId) (i : ObjectId) (left ids new : List ObjectId) (seen : ObjectId → Bool) →
     IsRest o named taken i left → Joins o ids (left ++ fresh seen new) → ((j : ObjectId) → is_among j new ≡ true → seen j ≡ is_among j named) →
@@ -43,29 +39,35 @@ pub grows : (o : Option CommitTimeOrder) (named taken : List ObjectId) (i : Obje
 grows None named taken i left ids new seen rest joins alike within here =
     joins
     ∙ ap (λ xs. xs ++ fresh seen new) rest
-    ∙ (λ k. fresh_agree (λ j. is_same j i || is_among j taken) (λ j. is_among j (taken ++ i ∷ [])) named (λ j n. pushed j) k ++ fresh_agree seen (λ j. is_among j named || is_among j (taken ++ i ∷ [])) new (λ j n. alike j n ∙ absorbed (is_among j named) (is_among j (taken ++ i ∷ [])) (λ t. inside j t)) k)
+    ∙ (λ k. fresh_agree (λ j. is_same j i || is_among j taken) (λ j. is_among j (taken ++ i ∷ [])) named (λ j n. pushed j) k ++ fresh_agree seen (λ j. is_among j named || is_among j (taken ++ i ∷ [])) new (λ j n. let a = alike j n in let t = inside j in grind arith) k)
     ∙ sym (fresh-append (λ j. is_among j (taken ++ i ∷ [])) named new)
   where
     pushed : (j : ObjectId) → (is_same j i || is_among j taken) ≡ is_among j (taken ++ i ∷ [])
     pushed j = or_comm (is_same j i) (is_among j taken) ∙ sym (among-append j taken (i ∷ []) ∙ ap (λ b. is_among j taken || b) (among-one j i))
 
-    absorbed : (a b : Bool) → (b ≡ true → a ≡ true) → a ≡ (a || b)
-    absorbed a b h = grind arith
-
     inside : (j : ObjectId) → is_among j (taken ++ i ∷ []) ≡ true → is_among j named ≡ true
     inside j t = ⊎_elim (λ e. subst (λ y. is_among y named ≡ true) (sym (same_is j i e)) here) (λ e. within j e) (or_cases (is_same j i) (is_among j taken) (pushed j ∙ t))
 grows (Some order) named taken i left ids new seen rest joins alike within here = λ j.
-    joins j ∙ times-append j left (fresh seen new) ∙ ap (λ n. times j left + n) (times-fresh j seen new)
-    ∙ count_step (is_among j named) (is_among j new) (is_among j taken) (is_same j i) (seen j) (times j left) (alike j) (within j) (λ e. subst (λ y. is_among y named ≡ true) (sym (same_is j i e)) here) (rest j)
-    ∙ (λ k. cond (sym (among-append j named new) k && not ((sym (among-append j taken (i ∷ []) ∙ ap (λ b. is_among j taken || b) (among-one j i))) k)) 1 0)
+    let joined = joins j in
+    let both = times-append j left (fresh seen new) in
+    let count = times-fresh j seen new in
+    let known = alike j in
+    let inside = within j in
+    let itself : is_same j i ≡ true → is_among j named ≡ true = λ e. subst (λ y. is_among y named ≡ true) (sym (same_is j i e)) here in
+    let before = rest j in
+    let names = among-append j named new in
+    let takes = among-append j taken (i ∷ []) in
+    let one = among-one j i in
+    grind arith
 
 -- nothing is pending: the list ends
 pub ends : (o : Option CommitTimeOrder) (time : ObjectId → ℤ) (next : ObjectId → List ObjectId) (starts taken : List ObjectId) → IsQueue o (named_by next starts taken) taken [] → IsNextOne o time next starts taken None
 ends None time next starts taken q = sym (fresh_none (λ j. is_among j taken) (named_by next starts taken) (sym q))
-ends (Some order) time next starts taken q = λ i p. counted (is_among i (named_by next starts taken)) (is_among i taken) (among_from i _ p.0) (false_from_ne_true _ (λ t. p.1 (among_is i taken t))) (q i)
-  where
-    counted : (n t : Bool) → n ≡ true → t ≡ false → ◌≡◌ {A = ℕ} 0 (cond (n && not t) 1 0) → ⊥
-    counted n t e f q = grind arith
+ends (Some order) time next starts taken q = λ i p.
+    let named : is_among i (named_by next starts taken) ≡ true = among_from i _ p.0 in
+    let untaken : is_among i taken ≡ false = false_from_ne_true _ (λ t. p.1 (among_is i taken t)) in
+    let none = q i in
+    grind arith
 
 -- what is chosen first
 pub heads : (time : ObjectId → ℤ) (next : ObjectId → List ObjectId) (starts taken : List ObjectId) (i : ObjectId) (left : List ObjectId) → IsQueue None (named_by next starts taken) taken (i ∷ left) →
@@ -75,8 +77,7 @@ heads time next starts taken i left q =
     (sym h.found, sym h.others, h.among)
 
 no_worse_itself : (order : CommitTimeOrder) (a b : ℤ) → a ≡ b → IsNoWorse order a b
-no_worse_itself NewestFirst a b e = omega (arith, ints)
-no_worse_itself OldestFirst a b e = omega (arith, ints)
+no_worse_itself order a b e = grind (arith, ints)
 
 in_pending : (i : ObjectId) (ps : List Pending) → is_among i (ids_of ps) ≡ true → (p : Pending) × Contains ps p × (p.id ≡ i)
 in_pending i [] e = absurd (false≢true e)
@@ -86,7 +87,7 @@ counted_one : (n t : Bool) (x : ℕ) → 1 + x ≡ cond (n && not t) 1 0 → (n 
 counted_one n t x e = (grind arith, grind arith)
 
 one_counted : (n t : Bool) → n ≡ true → t ≡ false → ◌≡◌ {A = ℕ} (cond (n && not t) 1 0) 1
-one_counted n t a b = (λ k. cond (a k && not (b k)) 1 0)
+one_counted n t a b = grind arith
 
 -- what is chosen by time
 pub bests : (order : CommitTimeOrder) (time : ObjectId → ℤ) (next : ObjectId → List ObjectId) (starts taken : List ObjectId) (pending : List Pending) (p : Pending) (others : List Pending) →
@@ -101,7 +102,7 @@ bests order time next starts taken pending p others q perm timed best =
             let count : times other (ids_of pending) ≡ 1 = q other ∙ one_counted _ _ (among_from other _ n.0) (false_from_ne_true _ (λ t. n.1 (among_is other taken t))) in
             let found : (r : Pending) × Contains pending r × (r.id ≡ other) = in_pending other pending (times_among other (ids_of pending) 0 count) in
             let here : p.time ≡ time p.id = timed p (Contains-permutation (p ∷ others) pending p (IsPermutation-sym pending (p ∷ others) perm) (Contains-here p others)) in
-            let there : found.0.time ≡ time other = timed found.0 found.1 ∙ ap time found.2 in
+            let there : found.0.time ≡ time other = subst (λ i. found.0.time ≡ time i) found.2 (timed found.0 found.1) in
             ⊎_elim (λ e. no_worse_itself order (time p.id) (time other) (sym here ∙ ap (λ x. x.time) e ∙ there))
             (λ m. subst (λ t. IsNoWorse order (time p.id) t) there (subst (λ t. IsNoWorse order t found.0.time) here (best found.0 m)))
             (Contains-cons_cases found.0 p others (Contains-permutation pending (p ∷ others) found.0 perm found.1));

@@ -34,7 +34,7 @@ use Rattle.gix_revwalk.proofs.NewIds.{fresh, times, times-fresh, among-filter}
 use Rattle.gix_simple.proofs.Treated.{Setting, Stands}
 use Rattle.gix_simple.proofs.OneStep.{reads_whole, whole_well}
 use Rattle.gix_simple.proofs.PendingIs.{IsQueue, IsNextOne}
-use Rattle.gix_simple.proofs.WholeWalk.{Known, Runs, BegunOf, RunsTo, none_yet, begun_run, next_steps, ended_run}
+use Rattle.gix_simple.proofs.WholeWalk.{Known, Runs, RunsTo, none_yet, begun_run, next_steps, ended_run}
 use Rattle.gix_revwalk.proofs.ReadsWhole.{walked_within, no_fault}
 use Rattle.gix_hash.proofs.Lists.{filter_within, filter_all}
 
@@ -104,16 +104,11 @@ module _ {F P : Type 0} (objects : F → Objects) (faulty : F → ObjectId → T
   set_up marks = record { store = w.store; predicate = w.predicate; rows = w.rows; parents = w.parents; named = named; sorting = w.sorting; begun = true; marks = marks; accepts = accepts; hidden = hides; starts = starts_of w hides; by_test = by_test; agreeing = agreeing }
 
   seen_starts : (i : ObjectId) → is_kept (objects w.store) accepts hides (cutoff w.parents w.sorting) i ≡ true → set.contains w.seen i ≡ is_among i (starts_of w hides ++ [])
-  seen_starts i k = rw append-nil (both_ways (set.contains w.seen i) (is_among i (starts_of w hides)) from_seen from_starts)
-    where
-      parts : (accepts i ≡ true) × (not (hides i) ≡ true)
-      parts = and_parts _ _ (and_parts _ _ k).0
-
-      from_seen : set.contains w.seen i ≡ true → is_among i (starts_of w hides) ≡ true
-      from_seen e = ⊎_elim (λ t. among-filter i (λ j. not (hides j)) (ids_of w.pending) ∙ and_from _ _ parts.1 (among_from i _ t)) (λ r. absurd (true≢false (sym parts.0 ∙ r))) (is_fresh.seen i e)
-
-      from_starts : is_among i (starts_of w hides) ≡ true → set.contains w.seen i ≡ true
-      from_starts e = is_fresh.pending_seen i (Contains-filter (λ j. not (hides j)) (ids_of w.pending) i (among_is i _ e)).0
+  seen_starts i k =
+      let starts = among-filter i (λ j. not (hides j)) (ids_of w.pending) in
+      let from_seen : set.contains w.seen i ≡ true → (is_among i (ids_of w.pending) ≡ true) ⊎ (accepts i ≡ false) = λ e. ⊎_elim (λ c. inl (among_from i _ c)) inr (is_fresh.seen i e) in
+      let from_pending : is_among i (ids_of w.pending) ≡ true → set.contains w.seen i ≡ true = λ e. is_fresh.pending_seen i (among_is i _ e) in
+      rw append-nil (grind arith)
 
   -- a walk whose first step is made, and what is known of it
   pub record Begins (Allowed : Result Info Error → Type 0) (o : Option (Result Info Error)) (new : SimpleWalk F P) : Type 0 where
@@ -149,7 +144,7 @@ module _ {F P : Type 0} (objects : F → Objects) (faulty : F → ObjectId → T
 
     ran : (marks : set.FinSet id_cmp) {list : List (Result Info Error)} {last new : SimpleWalk F P} → RunsTo objects faulty answers (set_up marks) [] list last → Steps objects faulty answers last None new
         → (ids : List ObjectId) × AreGiven list ids × IsInOrder (time_order w.parents w.sorting) (time_of (objects w.store)) next_kept (starts_of w hides) ids
-    ran marks r steps = (r.begun.ids, r.begun.given_as, in_order_from (time_order w.parents w.sorting) (time_of (objects w.store)) next_kept (starts_of w hides) r.begun.ids r.begun.begins (ended_run objects faulty answers (set_up marks) [] r steps))
+    ran marks r steps = (r.ids, r.given_as, in_order_from (time_order w.parents w.sorting) (time_of (objects w.store)) next_kept (starts_of w hides) r.ids r.begins (ended_run objects faulty answers (set_up marks) [] r steps))
 
     first_of : {answer : Result Info Error} (left : List (Result Info Error)) {new : SimpleWalk F P} → All Allowed (answer ∷ left) → Next objects faulty answers w (Some answer) new → Begins Allowed (Some answer) new
     first_of {answer} left {new} ok n = begins (Some answer) new (λ a e. let same : answer ≡ a = cc in subst Allowed same (All-head Allowed answer left ok)) n
@@ -170,7 +165,7 @@ module _ {F P : Type 0} (objects : F → Objects) (faulty : F → ObjectId → T
     some_given [] last ok drawn = ([], tt, begins_from (time_order w.parents w.sorting) (time_of (objects w.store)) next_kept (starts_of w hides) [] (λ k i e. cc))
     some_given (answer ∷ left) last ok drawn =
         let b : Begins Allowed (Some answer) drawn.0 = first_of left ok drawn.1 in
-        let r : BegunOf objects faulty answers (set_up b.marks) [] (answer ∷ left) = (begun_run objects faulty answers (set_up b.marks) b.known answer left b.mid drawn.0 last [] b.runs ok b.steps drawn.2).begun in
+        let r = begun_run objects faulty answers (set_up b.marks) b.known answer left b.mid drawn.0 last [] b.runs ok b.steps drawn.2 in
         (r.ids, r.given_as, begins_from (time_order w.parents w.sorting) (time_of (objects w.store)) next_kept (starts_of w hides) r.ids r.begins)
 
 module _ {F P : Type 0} (objects : F → Objects) (faulty : F → ObjectId → Type 0) (answers : P → ObjectId → Bool → P → Type 0) (w : SimpleWalk F P) (accepts hides : ObjectId → Bool)
@@ -191,9 +186,6 @@ module _ {F P : Type 0} (objects : F → Objects) (faulty : F → ObjectId → T
   outside c (step {c = d} r n) =
       let h : Contains (walked_parents (objects w.store) w.parents d) c × (is_kept (objects w.store) accepts hides (cutoff w.parents w.sorting) c ≡ true) = Contains-filter _ (walked_parents (objects w.store) w.parents d) c n in
       (step (outside d r).0 (walked_within w.parents _ c h.0), not-true _ (and_parts _ _ (and_parts _ _ h.1).0).1)
-
-  not_hidden : (c : ObjectId) → hides c ≡ false → Reaches (parents_of (objects w.store)) w.hidden_tips c → ⊥
-  not_hidden c e r = true≢false (sym ((tells c).1 r) ∙ e)
 
   knows : (marks : set.FinSet id_cmp) → ((c i : ObjectId) → Reaches next_ids (starts_of w hides) c → Contains (parents_of (objects w.store) c) i → set.contains marks i ≡ hides i) → Known objects faulty answers (setting marks) IsNoRefusal
   knows marks marked = record {
@@ -221,7 +213,7 @@ module _ {F P : Type 0} (objects : F → Objects) (faulty : F → ObjectId → T
   painting : (marks : set.FinSet id_cmp) (rows : List GraphRow) → Paints (objects w.store) w.rows (ids_of w.pending) w.hidden_tips marks rows → {o : Option (Result Info Error)} {new : SimpleWalk F P} → Steps objects faulty answers (painted objects faulty answers (record w { begun = true }) marks rows) o new → BeginsBy o new
   painting marks rows paint steps =
       begins_at objects faulty answers w accepts hides (parents_of (objects w.store)) by_test is_fresh agreeing marks rows _ paint.rows_left (λ p m. filter_within _ w.pending p m) (ids-filter (set.contains marks) hides w.pending (λ i c. exact i (inl c)))
-      (knows marks (λ c i r n. exact i (inr (c, (outside c r).0, not_hidden c (outside c r).1, n)))) steps
+      (knows marks (λ c i r n. exact i (inr (c, (outside c r).0, (λ h. true≢false (sym ((tells c).1 h) ∙ (outside c r).1)), n)))) steps
     where
       exact : (i : ObjectId) → IsAtBoundary (parents_of (objects w.store)) (ids_of w.pending) w.hidden_tips i → set.contains marks i ≡ hides i
       exact i at = both_ways (set.contains marks i) (hides i) (λ e. (tells i).1 ((paint.marked (objects w.store) own).sound i e)) (λ e. (paint.marked (objects w.store) own).whole i at ((tells i).0 e))

@@ -1,5 +1,5 @@
 -- The parents of a commit, treated in order: what becomes pending and seen.
-use Rattle.std.specs.Prelude.{◌≡◌, ◌⊎◌, ◌+◌, ℤ, pos, List, [], ◌∷◌, ◌++◌, filter, Bool, true, false, not, ◌&&◌, ◌||◌, cond, Option, Some, None, Ok, Contains, IsPermutation}
+use Rattle.std.specs.Prelude.{ℕ, ◌≡◌, ◌⊎◌, ◌+◌, ℤ, pos, List, [], ◌∷◌, ◌++◌, filter, Bool, true, false, not, ◌&&◌, ◌||◌, cond, Option, Some, None, Ok, Contains, IsPermutation}
 use Rattle.std.proofs.Common.{refl, sym, ap, subst, ⊎_elim, ◌∙◌, append_assoc, append-nil, arith}
 use Rattle.std.proofs.lemmas.List.{map-append}
 use Rattle.std.proofs.lemmas.List.Sorted.{IsPermutation-map, Contains-permutation, IsPermutation-sym}
@@ -58,10 +58,7 @@ Contains-holds (Some order) old new k p h = Contains-permutation new old p (IsPe
 
 -- where no order by time is in force, there is no cutoff either
 pub no_cutoff : (m : Parents) (s : Sorting) → time_order m s ≡ None → cutoff m s ≡ None
-no_cutoff mode.First s e = refl
-no_cutoff mode.All sorting.BreadthFirst e = refl
-no_cutoff mode.All (sorting.ByCommitTime order) e = cc
-no_cutoff mode.All (sorting.ByCommitTimeCutoff order seconds) e = cc
+no_cutoff m s e = grind arith
 
 module _ {F P : Type 0} (objects : F → Objects) (faulty : F → ObjectId → Type 0) (answers : P → ObjectId → Bool → P → Type 0) where
   -- what a walk was given, and what holds of it
@@ -119,9 +116,6 @@ module _ {F P : Type 0} (objects : F → Objects) (faulty : F → ObjectId → T
   asked_test s w h i (remembers e) = (sym (h.remembered i e), h.asked_of)
   asked_test s w h i (asks {answer = b} {predicate = q} e a) = (s.by_test w.predicate q i b h.asked_of a, further h.asked_of a)
 
-  insert_seen : (old : set.FinSet id_cmp) (i j : ObjectId) → set.contains (set.insert old i) j ≡ (is_same j i || set.contains old j)
-  insert_seen old i j = set.contains-insert id_total old i j
-
   -- an id that isn't kept adds nothing
   passed_over : (s : Setting) (i : ObjectId) (xs : List ObjectId) (old : ObjectId → Bool) → keep s i ≡ false → Joins (order_of s) xs (xs ++ fresh old (filter (keep s) (i ∷ [])))
   passed_over s i xs old e = Joins-refl (order_of s) _ _ (grind (arith, append-nil xs))
@@ -131,15 +125,6 @@ module _ {F P : Type 0} (objects : F → Objects) (faulty : F → ObjectId → T
 
   added : (s : Setting) (i : ObjectId) (xs : List ObjectId) (old : ObjectId → Bool) → keep s i ≡ true → old i ≡ false → xs ++ i ∷ [] ≡ xs ++ fresh old (filter (keep s) (i ∷ []))
   added s i xs old k e = grind arith
-
-  not_same : (s : Setting) (i j : ObjectId) → keep s i ≡ false → keep s j ≡ true → is_same j i ≡ false
-  not_same s i j e k = false_from_ne_true _ (λ t. false≢true (sym e ∙ sym (ap (keep s) (same_is j i t)) ∙ k))
-
-  seen_once : (i j : ObjectId) (old : ObjectId → Bool) → old i ≡ true → old j ≡ (is_same j i || old j)
-  seen_once i j old e = let same : is_same j i ≡ true → old j ≡ old i = λ t. ap old (same_is j i t) in grind arith
-
-  seen_still : (i j : ObjectId) (old : ObjectId → Bool) → is_same j i ≡ false → old j ≡ (is_same j i || old j)
-  seen_still i j old e = sym (ap (λ b. b || old j) e)
 
   -- the rows that are left agree
   pub rows_agree : (s : Setting) (w : SimpleWalk F P) → Stands s w → IsAgreeing (objects s.store) w.rows
@@ -157,17 +142,20 @@ module _ {F P : Type 0} (objects : F → Objects) (faulty : F → ObjectId → T
       let t : time_of (objects w.store) i ≡ time_of (objects s.store) i = ap (λ f. time_of (objects f) i) h.store in
       (λ order some. t, ap (λ n. is_older n (limit_of s)) t)
 
-  stands_asked : (s : Setting) (w : SimpleWalk F P) → Stands s w → (i : ObjectId) (q : P) (ps : List Pending) → Becomes answers s.predicate q → ((order : CommitTimeOrder) → order_of s ≡ Some order → (p : Pending) → Contains ps p → p.time ≡ time_of (objects s.store) p.id) → Stands s (asked_walk objects faulty answers w i q ps)
-  stands_asked s w h i q ps becomes timed = record {
+  -- also where pending commits and rows are others, and what is seen and remembered
+  pub stands_with : (s : Setting) (w : SimpleWalk F P) → Stands s w → (rows : List GraphRow) (pending : List Pending) (seen remembered : set.FinSet id_cmp) (q : P) (text : List ℕ) (current : Option ObjectId) → (rows ≡ s.rows) ⊎ (rows ≡ []) → Becomes answers s.predicate q
+      → ((i : ObjectId) → set.contains remembered i ≡ true → s.accepts i ≡ true) → ((order : CommitTimeOrder) → order_of s ≡ Some order → (p : Pending) → Contains pending p → p.time ≡ time_of (objects s.store) p.id)
+      → Stands s (record w { predicate = q; rows = rows; pending = pending; seen = seen; remembered = remembered; text = text; current = current })
+  stands_with s w h rows pending seen remembered q text current left becomes yes_kept timed = record {
     store = h.store;
     parents = h.parents;
     sorting = h.sorting;
     marks = h.marks;
     begun = h.begun;
     tips = h.tips;
-    rows = h.rows;
+    rows = left;
     asked_of = becomes;
-    remembered = λ j e. h.remembered j (and_parts (not (is_same j i)) (set.contains w.remembered j) (sym (set.contains-remove id_total w.remembered i j) ∙ e)).1;
+    remembered = yes_kept;
     timed = timed;
   }
 
@@ -187,22 +175,26 @@ module _ {F P : Type 0} (objects : F → Objects) (faulty : F → ObjectId → T
   is_kept_if : (s : Setting) (i : ObjectId) (b : Bool) → s.accepts i ≡ true → s.hidden i ≡ false → is_older (time_of (objects s.store) i) (limit_of s) ≡ b → keep s i ≡ not b
   is_kept_if s i b a h o = λ k. (a k && not (h k)) && not (o k)
 
+  -- the id was asked about, and is seen now
+  asked_did : (s : Setting) (w : SimpleWalk F P) → Stands s w → (i : ObjectId) (q : P) (ps : List Pending) → Becomes answers s.predicate q → ((order : CommitTimeOrder) → order_of s ≡ Some order → (p : Pending) → Contains ps p → p.time ≡ time_of (objects s.store) p.id)
+      → Joins (order_of s) (ids_of ps) (ids_of w.pending ++ fresh (set.contains w.seen) (filter (keep s) (i ∷ []))) → Did s (i ∷ []) w (asked_walk objects faulty answers w i q ps)
+  asked_did s w h i q ps becomes timed joins = record {
+    rest = stands_with s w h w.rows ps _ _ q w.text w.current h.rows becomes (λ j e. h.remembered j (and_parts (not (is_same j i)) (set.contains w.remembered j) (sym (set.contains-remove id_total w.remembered i j) ∙ e)).1) timed;
+    same_rows = refl;
+    seen = λ j k. set.contains-insert id_total w.seen i j ∙ ap (λ b. b || set.contains w.seen j) (sym (among-one j i));
+    pending = joins;
+  }
+
   one : (s : Setting) (w : SimpleWalk F P) → Stands s w → (by_row : Bool) (i : ObjectId) → IsReady s w by_row i → {v : SimpleWalk F P} → Treats objects faulty answers w by_row i GoesOn v → Did s (i ∷ []) w v
   one s w h by_row i ready (hidden e) =
       let hid : s.hidden i ≡ true = sym ready.marked ∙ ap (λ m. set.contains m i) (sym h.marks) ∙ e in
       let out : keep s i ≡ false = and_left _ _ (and_right (s.accepts i) _ (not_from_true _ hid)) in
-      record { rest = h; same_rows = refl; seen = λ j k. seen_still i j (set.contains w.seen) (not_same s i j out k) ∙ ap (λ b. b || set.contains w.seen j) (sym (among-one j i)); pending = passed_over s i _ _ out }
+      record { rest = h; same_rows = refl; seen = λ j k. let same : is_same j i ≡ true → keep s j ≡ keep s i = λ t. ap (keep s) (same_is j i t) in let one = among-one j i in grind arith; pending = passed_over s i _ _ out }
   one s w h by_row i ready (known e) =
-      record { rest = h; same_rows = refl; seen = λ j k. seen_once i j (set.contains w.seen) e ∙ ap (λ b. b || set.contains w.seen j) (sym (among-one j i)); pending = already s i _ _ e }
+      record { rest = h; same_rows = refl; seen = λ j k. let same : is_same j i ≡ true → set.contains w.seen j ≡ set.contains w.seen i = λ t. ap (set.contains w.seen) (same_is j i t) in let one = among-one j i in grind arith; pending = already s i _ _ e }
   one s w h by_row i ready (refused {predicate = q} is_new a) =
       let t : (false ≡ s.accepts i) × Becomes answers s.predicate q = asked_test s w h i a in
-      let out : keep s i ≡ false = and_left _ _ (and_left _ _ (sym t.0)) in
-      record {
-        rest = stands_asked s w h i q w.pending t.1 h.timed;
-        same_rows = refl;
-        seen = λ j k. insert_seen w.seen i j ∙ ap (λ b. b || set.contains w.seen j) (sym (among-one j i));
-        pending = passed_over s i _ _ out;
-      }
+      asked_did s w h i q w.pending t.1 h.timed (passed_over s i _ _ (and_left _ _ (and_left _ _ (sym t.0))))
   one s w h by_row i ready (accepted {predicate = q} {time = time} {pending = ps} is_new a reads queues) =
       let t : (true ≡ s.accepts i) × Becomes answers s.predicate q = asked_test s w h i a in
       let o : ((order : CommitTimeOrder) → order_of s ≡ Some order → time ≡ time_of (objects s.store) i) × (is_older time (limit_of s) ≡ is_older (time_of (objects s.store) i) (limit_of s)) = older_alike s w h by_row i time ready.rowed reads in
@@ -211,18 +203,10 @@ module _ {F P : Type 0} (objects : F → Objects) (faulty : F → ObjectId → T
       go t.1 o.0 decided queues
     where
       go : Becomes answers s.predicate q → ((order : CommitTimeOrder) → order_of s ≡ Some order → time ≡ time_of (objects s.store) i) → ((b : Bool) → is_older time (cutoff w.parents w.sorting) ≡ b → keep s i ≡ not b) → {ps' : List Pending} → Enqueues objects faulty answers (time_order w.parents w.sorting) (cutoff w.parents w.sorting) w.pending i time ps' → Did s (i ∷ []) w (asked_walk objects faulty answers w i q ps')
-      go becomes t decided (dropped e) = record {
-        rest = stands_asked s w h i q w.pending becomes h.timed;
-        same_rows = refl;
-        seen = λ j k. insert_seen w.seen i j ∙ ap (λ b. b || set.contains w.seen j) (sym (among-one j i));
-        pending = passed_over s i (ids_of w.pending) (set.contains w.seen) (decided true e);
-      }
-      go becomes t decided (enqueued {new = new} e holds) = record {
-        rest = stands_asked s w h i q new becomes (timed_on s w h i time new t holds);
-        same_rows = refl;
-        seen = λ j k. insert_seen w.seen i j ∙ ap (λ b. b || set.contains w.seen j) (sym (among-one j i));
-        pending = Joins-trans (order_of s) _ _ _ (subst (λ ord. Joins ord (ids_of new) (ids_of w.pending ++ i ∷ [])) (same_order s w h) (Joins-holds (time_order w.parents w.sorting) w.pending new (record { id = i; time = time }) holds)) (Joins-refl (order_of s) _ _ (added s i (ids_of w.pending) (set.contains w.seen) (decided false e) is_new.unseen));
-      }
+      go becomes t decided (dropped e) = asked_did s w h i q w.pending becomes h.timed (passed_over s i (ids_of w.pending) (set.contains w.seen) (decided true e))
+      go becomes t decided (enqueued {new = new} e holds) =
+          asked_did s w h i q new becomes (timed_on s w h i time new t holds)
+          (Joins-trans (order_of s) _ _ _ (subst (λ ord. Joins ord (ids_of new) (ids_of w.pending ++ i ∷ [])) (same_order s w h) (Joins-holds (time_order w.parents w.sorting) w.pending new (record { id = i; time = time }) holds)) (Joins-refl (order_of s) _ _ (added s i (ids_of w.pending) (set.contains w.seen) (decided false e) is_new.unseen)))
 
   joined : (s : Setting) (i : ObjectId) (ids : List ObjectId) (w mid : SimpleWalk F P) → Did s (i ∷ []) w mid →
       fresh (set.contains w.seen) (filter (keep s) (i ∷ [])) ++ fresh (set.contains mid.seen) (filter (keep s) ids) ≡ fresh (set.contains w.seen) (filter (keep s) (i ∷ ids))

@@ -1,7 +1,6 @@
 -- A walk gives what the definitions say, drawn to its end or as far as one likes.
 use Rattle.std.specs.Prelude.{◌≡◌, ℕ, zero, suc, ℤ, List, [], ◌∷◌, ◌++◌, take, slice_get, Bool, true, ◌&&◌, ◌||◌, Option, Some, None, Result, Err, Contains, All}
-use Rattle.std.proofs.Common.{refl, sym, ap, subst, inl, ⊎_elim, ◌∙◌, append_assoc, append-nil}
-use Rattle.std.proofs.Math.Bool.{or_comm}
+use Rattle.std.proofs.Common.{refl, sym, ap, subst, inl, ⊎_elim, ◌∙◌, append_assoc, append-nil, arith}
 use Rattle.std.specs.Iterator.{Yields}
 use Rattle.std.specs.List.{AllZip}
 use Rattle.std.proofs.lemmas.List.Sorted.{Contains-permutation, IsPermutation-sym}
@@ -97,8 +96,7 @@ module _ {F P : Type 0} (objects : F → Objects) (faulty : F → ObjectId → T
         turn = c.0;
         runs = record {
           rest = t.rest;
-          seen = λ j k. t.seen j k ∙ ap (λ b. is_among j (walked objects faulty answers s p.id) || b) (h.seen j k) ∙ or_comm (is_among j (walked objects faulty answers s p.id)) (is_among j (named s done))
-              ∙ sym (among_push j ∙ ap (λ b. is_among j (named s done) || b) (kept j ∙ ap (λ b. b && is_among j (walked objects faulty answers s p.id)) k));
+          seen = λ j k. let after = t.seen j k in let before = h.seen j k in let names = among_push j in let keeps = kept j in grind arith;
           queue = subst (λ xs. IsQueue (order_of objects faulty answers s) xs (done ++ p.id ∷ []) (ids_of new.pending)) (sym push)
               (grows (order_of objects faulty answers s) (named s done) done p.id (ids_of others) (ids_of new.pending) (next objects faulty answers s p.id) (set.contains w.seen) c.1 t.pending
               (λ j n. h.seen j (and_parts _ _ (sym (kept j) ∙ n)).0) h.within c.2);
@@ -120,23 +118,22 @@ module _ {F P : Type 0} (objects : F → Objects) (faulty : F → ObjectId → T
   begins_more s done ids i h r zero j e = rw append-nil (let same : i ≡ j = cc in subst (λ x. is_next s done (Some x)) same h)
   begins_more s done ids i h r (suc k) j e = rw append_assoc at (r k j e)
 
-  pub record BegunOf (s : Setting objects faulty answers) (done : List ObjectId) (list : List (Result Info Error)) : Type 0 where
+  -- these answers lead to a walk
+  pub record RunsTo (s : Setting objects faulty answers) (done : List ObjectId) (list : List (Result Info Error)) (last : SimpleWalk F P) : Type 0 where
     pub ids : List ObjectId
     pub given_as : AllZip (given s) list ids
     pub begins : BeginsFrom s done ids
-
-  -- these answers lead to a walk
-  pub record RunsTo (s : Setting objects faulty answers) (done : List ObjectId) (list : List (Result Info Error)) (last : SimpleWalk F P) : Type 0 where
-    pub begun : BegunOf s done list
-    pub runs : Runs s last (done ++ begun.ids)
+    pub runs : Runs s last (done ++ ids)
 
   pub none_yet : (s : Setting objects faulty answers) (done : List ObjectId) (w : SimpleWalk F P) → Runs s w done → RunsTo s done [] w
-  none_yet s done w h = record { begun = record { ids = []; given_as = tt; begins = λ k i e. cc }; runs = subst (Runs s w) (sym (append-nil done)) h }
+  none_yet s done w h = record { ids = []; given_as = tt; begins = λ k i e. cc; runs = subst (Runs s w) (sym (append-nil done)) h }
 
   one_more : (s : Setting objects faulty answers) (done : List ObjectId) {answer : Result Info Error} {left : List (Result Info Error)} {new last : SimpleWalk F P} (t : Stepped s done answer new) → RunsTo s (done ++ t.i ∷ []) left last → RunsTo s done (answer ∷ left) last
   one_more s done {last = last} t r = record {
-    begun = record { ids = t.i ∷ r.begun.ids; given_as = (t.given_as, r.begun.given_as); begins = begins_more s done r.begun.ids t.i t.turn r.begun.begins };
-    runs = subst (Runs s last) (append_assoc done (t.i ∷ []) r.begun.ids) r.runs;
+    ids = t.i ∷ r.ids;
+    given_as = (t.given_as, r.given_as);
+    begins = begins_more s done r.ids t.i t.turn r.begins;
+    runs = subst (Runs s last) (append_assoc done (t.i ∷ []) r.ids) r.runs;
   }
 
   -- drawn as far as one likes
@@ -154,6 +151,6 @@ module _ {F P : Type 0} (objects : F → Objects) (faulty : F → ObjectId → T
       one_more s done t (begun s known left new last (done ++ t.i ∷ []) t.runs (All-tail Allowed answer left ok) drawn)
 
   -- where the walk ends there is no next one
-  pub ended_run : (s : Setting objects faulty answers) (done : List ObjectId) {list : List (Result Info Error)} {last new : SimpleWalk F P} (r : RunsTo s done list last) → Steps objects faulty answers last None new → is_next s (done ++ r.begun.ids) None
-  ended_run s done r (ended e) = ends (order_of objects faulty answers s) (time_of (objects s.store)) (next objects faulty answers s) s.starts (done ++ r.begun.ids)
-      (subst (IsQueue (order_of objects faulty answers s) (named s (done ++ r.begun.ids)) (done ++ r.begun.ids)) (ap ids_of e) r.runs.queue)
+  pub ended_run : (s : Setting objects faulty answers) (done : List ObjectId) {list : List (Result Info Error)} {last new : SimpleWalk F P} (r : RunsTo s done list last) → Steps objects faulty answers last None new → is_next s (done ++ r.ids) None
+  ended_run s done r (ended e) = ends (order_of objects faulty answers s) (time_of (objects s.store)) (next objects faulty answers s) s.starts (done ++ r.ids)
+      (subst (IsQueue (order_of objects faulty answers s) (named s (done ++ r.ids)) (done ++ r.ids)) (ap ids_of e) r.runs.queue)
