@@ -2,7 +2,6 @@
 use Rattle.std.specs.Prelude.{◌≡◌, ◌↔◌, ℕ, List, [], Bool, filter, take, slice_get, Some, Result, Contains}
 use Rattle.std.proofs.Common.{subst}
 use Rattle.std.specs.List.{AllZip}
-use Rattle.std.proofs.Math.Path.{transport}
 use Rattle.gix_hash.specs.declared.ObjectId.{ObjectId}
 use Rattle.gix_object.specs.Object.{Objects}
 use Rattle.gix_commitgraph.specs.Rows.{GraphRow}
@@ -50,10 +49,9 @@ with_rows {F} objects faulty answers walk other rows accepts list longer sorted 
     let g : GivesInOrder objects walk.plan accepts list = gives objects faulty answers accepts walk list run in
     let h : GivesInOrder objects other.plan accepts longer = gives objects faulty answers accepts other longer run_other in
     let plan : TopoPlan F = walk.plan in
-    let a : IsTopoOrder (time_of (objects plan.store)) (walked_of objects plan) (IsMember objects plan) plan.tips g.ids = transport (λ k. IsSorted (sorted k) (time_of (objects plan.store)) (walked_of objects plan) (IsMember objects plan) plan.tips g.ids) g.in_order in
-    let b : IsTakenInOrder objects (record plan { rows = rows }) h.ids = subst (λ p. IsTakenInOrder objects p h.ids) same h.in_order in
-    let c : IsTopoOrder (time_of (objects plan.store)) (walked_of objects plan) (IsMember objects plan) plan.tips h.ids = transport (λ k. IsSorted (sorted k) (time_of (objects plan.store)) (walked_of objects plan) (IsMember objects plan) plan.tips h.ids) b in
-    let e : h.ids ≡ g.ids = same_topo (time_of (objects plan.store)) (walked_of objects plan) (IsMember objects plan) plan.tips h.ids g.ids c a in
+    let topo : (ids : List ObjectId) → IsTakenInOrder objects plan ids → IsTopoOrder (time_of (objects plan.store)) (walked_of objects plan) (IsMember objects plan) plan.tips ids = λ ids k. subst
+        (λ s. IsSorted s (time_of (objects plan.store)) (walked_of objects plan) (IsMember objects plan) plan.tips ids) sorted k in
+    let e : h.ids ≡ g.ids = same_topo (time_of (objects plan.store)) (walked_of objects plan) (IsMember objects plan) plan.tips h.ids g.ids (topo h.ids (subst (λ p. IsTakenInOrder objects p h.ids) same h.in_order)) (topo g.ids g.in_order) in
     (g.ids, g.given, subst (λ ids. AllZip (IsGiven objects other.plan) longer (filter accepts ids)) e h.given)
 
 -- whatever the rows and the order: the same commits are taken
