@@ -68,7 +68,8 @@ module _ {F : Type 0} (objects : F → Objects) (faulty : F → ObjectId → Typ
         let tip : Contains plan.tips i = all i (Contains-here i ids) in (
           push_misses_no_count objects faulty old i e f,
           subst (λ p. IsFault objects faulty p (IsFirstReady objects plan) e) same
-              (push_fault objects faulty (IsFirstReady objects plan) old i e (λ a. start (subst (λ p. Contains p.tips i) (sym same) tip)) (λ a. first_ready (subst (λ p. IsAgreeing (objects p.store) p.rows) same a) i tip (sym (counts i) ∙ parts.0) (sym (seen i) ∙ parts.1)) (subst (λ p. AreDroppedFor objects p old.counting.reader.in_use) (sym same) dropped) f),
+              (push_fault objects faulty (IsFirstReady objects plan) old i e (λ a. start (subst (λ p. Contains p.tips i) (sym same) tip))
+                  (λ a. first_ready (subst (λ p. IsAgreeing (objects p.store) p.rows) same a) i tip (sym (counts i) ∙ parts.0) (sym (seen i) ∙ parts.1)) (subst (λ p. AreDroppedFor objects p old.counting.reader.in_use) (sym same) dropped) f),
         )
     start_fails same dropped seen counts all (later {mid = mid} {i = i} {ids = ids} {first = first} s f) =
         let by : Frees objects faulty false _ (i ∷ []) first mid = started_one objects faulty s in
