@@ -164,9 +164,6 @@ module _ {F : Type 0} (objects : F → Objects) (faulty : F → ObjectId → Typ
   ready_among : (i : ObjectId) → is_among i (ready_ids h.starts) ≡ is_among i (ready_ids w.ready.commits)
   ready_among i = among_by i (ready_ids h.starts) (ready_ids w.ready.commits) (sym (ready_times i))
 
-  start_of : (i : ObjectId) → Contains (ready_ids w.ready.commits) i → Contains (ready_ids h.starts) i
-  start_of i m = among_is i (ready_ids h.starts) (ready_among i ∙ among_from i _ m)
-
   kept : Keeps (IsDue objects faulty h.first h.mid) (first_places p.tips) (ready_ids h.starts)
   kept = all.due (λ p. Prim.Native.Nat.zero-le) [] (λ j e. absurd (false≢true e))
 
@@ -178,7 +175,7 @@ module _ {F : Type 0} (objects : F → Objects) (faulty : F → ObjectId → Typ
       omega arith)
 
   is_tip : (i : ObjectId) → Contains (ready_ids w.ready.commits) i → Contains p.tips i
-  is_tip i m = (first_from [] p.tips i (keeps_from (IsDue objects faulty h.first h.mid) kept i (start_of i m)).0).1
+  is_tip i m = (first_from [] p.tips i (keeps_from (IsDue objects faulty h.first h.mid) kept i (among_is i (ready_ids h.starts) (ready_among i ∙ among_from i _ m))).0).1
 
   first_read : AreRead objects faulty (plan_of h.first) h.first.counting
   first_read = subst (λ q. AreRead objects faulty q old) (sym first_plan) begun.all_read
@@ -194,12 +191,6 @@ module _ {F : Type 0} (objects : F → Objects) (faulty : F → ObjectId → Typ
 
   untaken : (i : ObjectId) → set.contains (taken_of v) i ≡ false
   untaken i = contains-taken new.frontier.known w.ready.commits i ∙ ap (λ b. b && not (is_among i (ready_ids w.ready.commits))) (made_ready i) ∙ and-not_self (is_among i (ready_ids w.ready.commits))
-
-  none_taken : taken_of v ≡ set.empty
-  none_taken = set.same_set id_total id_apart (taken_of v) set.empty (λ i. untaken i ∙ sym (set.contains-empty id_cmp i))
-
-  depth_is : new.depth ≡ first_depth p
-  depth_is = all.ready.depth ∙ begun.depth
 
   -- no tip is below the depth
   tip_high : (i : ObjectId) → Contains p.tips i → old.depth ≤ known_generation p.rows i
@@ -261,12 +252,12 @@ module _ {F : Type 0} (objects : F → Objects) (faulty : F → ObjectId → Typ
   -- a walk that has begun is as a built one is to be
   pub started_on : IsStarted objects faulty (unasked objects faulty) (unasked_of objects faulty w)
   started_on = subst (λ x. IsStarted objects faulty (unasked objects faulty) (unasked_of objects faulty x)) v_is (record {
-    untaken = none_taken;
+    untaken = set.same_set id_total id_apart (taken_of v) set.empty (λ i. untaken i ∙ sym (set.contains-empty id_cmp i));
     distinct = distinct;
     tips = is_tip;
     starts = starts;
     stored = stored;
-    depth = depth_is;
+    depth = all.ready.depth ∙ begun.depth;
     counting = λ agrees. (both_counts agrees).1;
     read = begun.read;
     found = found;
