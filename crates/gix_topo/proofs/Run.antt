@@ -14,9 +14,7 @@ pub mod Draws
 pub mod Ends
 -- A whole walk takes what the definitions say, in their order: by the texts, and, over a sound history, by the store.
 pub mod Theorem
--- Laws that follow from the order alone.
+-- Laws that follow from the order alone, and what a walk through all parents gives.
 pub mod Corollaries
--- A walk through all parents gives what its tips reach and its ends don't.
-pub mod Difference
 -- With agreeing rows each commit is given with its row's generation; each of its parents was known.
 pub mod EachGiven

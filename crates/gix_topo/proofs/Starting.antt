@@ -2,7 +2,5 @@
 pub mod OneByOne
 -- A tip without children becomes ready.
 pub mod OneTip
--- When a walk can't be built.
-pub mod StartFaults
--- What holds of a walk that was just built.
+-- What holds of a walk that was just built, and when one can't be.
 pub mod Started

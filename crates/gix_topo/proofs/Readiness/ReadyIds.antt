@@ -1,9 +1,8 @@
 -- Ready commits by their ids: those that are held, chosen, and joined.
-use Rattle.std.specs.Prelude.{◌≡◌, ◌+◌, ◌≤◌, ℕ, List, [], ◌∷◌, ◌++◌, Bool, true, false, ◌||◌, cond, map, Contains, IsPermutation}
+use Rattle.std.specs.Prelude.{◌≡◌, ◌+◌, ◌≤◌, ℕ, suc, List, [], ◌∷◌, ◌++◌, length, Bool, true, false, ◌||◌, cond, map, Contains, IsPermutation}
 use Rattle.std.proofs.Common.{refl, sym, ap, subst, ⊎_elim, ◌∙◌, arith, append_assoc, append-nil}
 use Rattle.std.proofs.lemmas.List.{map-append}
-use Rattle.std.proofs.lemmas.List.Elements.{Contains-append_left, Contains-push}
-use Rattle.std.proofs.lemmas.List.Sorted.{IsPermutation-map, IsPermutation-sym, IsPermutation-append_left, IsPermutation-trans, IsPermutation-refl, Contains-permutation}
+use Rattle.std.proofs.lemmas.List.Sorted.{length_permutation, IsPermutation-to_front, IsPermutation-map, IsPermutation-sym, IsPermutation-append_left, IsPermutation-trans, IsPermutation-refl, Contains-permutation}
 use Rattle.gix_hash.specs.declared.ObjectId.{ObjectId}
 use Rattle.gix_hash.specs.Id.{is_same, is_among}
 use Rattle.gix_hash.proofs.Ids.Membership.{among-append, among_is, Contains-here, Contains-there, Contains-cons_cases, no_member}
@@ -36,13 +35,18 @@ pub joined_times : (i : ObjectId) (xs ys : List Ready) → times i (ready_ids (x
 joined_times i xs ys = ap (times i) (ids-append xs ys) ∙ times-append i (ready_ids xs) (ready_ids ys)
 
 -- what is held
+holds_moved : (s : Sorting) (these ready : List Ready) → HoldsReady s these ready → IsPermutation these ready
+holds_moved order.TopoOrder these ready h = subst (IsPermutation these) (sym h) (IsPermutation-refl these)
+holds_moved order.DateOrder these ready h = h
+
 pub holds_times : (s : Sorting) (these ready : List Ready) → HoldsReady s these ready → (i : ObjectId) → times i (ready_ids ready) ≡ times i (ready_ids these)
-holds_times order.TopoOrder these ready h i = ap (λ rs. times i (ready_ids rs)) h
-holds_times order.DateOrder these ready h i = times-permutation i these ready h
+holds_times s these ready h i = times-permutation i these ready (holds_moved s these ready h)
+
+pub holds_length : (s : Sorting) (these ready : List Ready) → HoldsReady s these ready → length ready ≡ length these
+holds_length s these ready h = length_permutation these ready (holds_moved s these ready h)
 
 pub holds_in : (s : Sorting) (these ready : List Ready) → HoldsReady s these ready → (r : Ready) → Contains ready r → Contains these r
-holds_in order.TopoOrder these ready h r c = subst (λ rs. Contains rs r) h c
-holds_in order.DateOrder these ready h r c = Contains-permutation ready these r (IsPermutation-sym these ready h) c
+holds_in s these ready h r c = Contains-permutation ready these r (IsPermutation-sym these ready (holds_moved s these ready h)) c
 
 pub holds_none : (s : Sorting) (old : List Ready) → HoldsReady s (old ++ []) old
 holds_none order.TopoOrder old = sym (append-nil old)
@@ -53,20 +57,21 @@ holds_on order.TopoOrder old first mid others new a b = b ∙ ap (λ xs. xs ++ o
 holds_on order.DateOrder old first mid others new a b = subst (λ xs. IsPermutation xs new) (append_assoc old first others) (IsPermutation-trans _ _ _ (IsPermutation-append_left others (old ++ first) mid a) b)
 
 -- what is chosen, and what is left
+chosen_moved : (s : Sorting) (ready : List Ready) (c : Ready) (others : List Ready) → Chooses s ready c others → IsPermutation (c ∷ others) ready
+chosen_moved order.TopoOrder ready c others h = IsPermutation-sym _ _ (subst (λ rs. IsPermutation rs (c ∷ others)) (sym h) (IsPermutation-to_front others c))
+chosen_moved order.DateOrder ready c others h = IsPermutation-sym _ _ h.0
+
 pub chosen_times : (s : Sorting) (ready : List Ready) (c : Ready) (others : List Ready) → Chooses s ready c others → (i : ObjectId) → times i (ready_ids ready) ≡ cond (is_same i c.id) 1 0 + times i (ready_ids others)
-chosen_times order.TopoOrder ready c others h i =
-    let e : times i (ready_ids ready) ≡ times i (ready_ids (others ++ c ∷ [])) = ap (λ rs. times i (ready_ids rs)) h in
-    let j : times i (ready_ids (others ++ c ∷ [])) ≡ times i (ready_ids others) + times i (ready_ids (c ∷ [])) = joined_times i others (c ∷ []) in
-    omega arith
-chosen_times order.DateOrder ready c others h i = sym (times-permutation i ready (c ∷ others) h.0)
+chosen_times s ready c others h i = times-permutation i (c ∷ others) ready (chosen_moved s ready c others h)
+
+pub chosen_length : (s : Sorting) (ready : List Ready) (c : Ready) (others : List Ready) → Chooses s ready c others → length ready ≡ suc (length others)
+chosen_length s ready c others h = length_permutation (c ∷ others) ready (chosen_moved s ready c others h)
 
 pub chosen_in : (s : Sorting) (ready : List Ready) (c : Ready) (others : List Ready) → Chooses s ready c others → Contains ready c
-chosen_in order.TopoOrder ready c others h = subst (λ rs. Contains rs c) (sym h) (Contains-push others c)
-chosen_in order.DateOrder ready c others h = Contains-permutation (c ∷ others) ready c (IsPermutation-sym ready (c ∷ others) h.0) (Contains-here c others)
+chosen_in s ready c others h = Contains-permutation (c ∷ others) ready c (chosen_moved s ready c others h) (Contains-here c others)
 
 pub others_in : (s : Sorting) (ready : List Ready) (c : Ready) (others : List Ready) → Chooses s ready c others → (r : Ready) → Contains others r → Contains ready r
-others_in order.TopoOrder ready c others h r m = subst (λ rs. Contains rs r) (sym h) (Contains-append_left others (c ∷ []) r m)
-others_in order.DateOrder ready c others h r m = Contains-permutation (c ∷ others) ready r (IsPermutation-sym ready (c ∷ others) h.0) (Contains-there r c others m)
+others_in s ready c others h r m = Contains-permutation (c ∷ others) ready r (chosen_moved s ready c others h) (Contains-there r c others m)
 
 -- the same by their ids
 pub chosen_among : (s : Sorting) (ready : List Ready) (c : Ready) (others : List Ready) → Chooses s ready c others → (i : ObjectId) → is_among i (ready_ids ready) ≡ (is_same i c.id || is_among i (ready_ids others))

@@ -2,7 +2,6 @@
 use Rattle.std.specs.Prelude.{◌≡◌, ◌+◌, ◌≤◌, ℕ, suc, List, [], ◌∷◌, ◌++◌, length, Bool, true, false, ◌||◌, cond, Option, Some, None, Result, Ok, Err, Contains}
 use Rattle.std.proofs.Common.{refl, sym, ap, subst, inl, inr, ⊎_elim, ◌∙◌, arith, length-append, le_refl, le_trans}
 use Rattle.std.proofs.lemmas.List.{length-map}
-use Rattle.std.proofs.lemmas.List.Sorted.{length_permutation}
 use Rattle.std.proofs.lemmas.Bool.{true≢false, or_cases, or_right, or_from, or_parts, false_from_ne_true}
 use Rattle.std.specs.FinSet as set
 use Rattle.std.specs.Iterator.{Yields}
@@ -10,8 +9,6 @@ use Rattle.gix_hash.specs.declared.ObjectId.{ObjectId}
 use Rattle.gix_hash.specs.Id.{id_cmp, is_same, is_among}
 use Rattle.gix_object.specs.Object.{Objects}
 use Rattle.gix_revwalk.specs.declared.Info.{Info}
-use Rattle.gix_topo.specs.declared.Sorting.{Sorting}
-use Rattle.gix_topo.specs.declared.Sorting.TheVariants as order
 use Rattle.gix_topo.specs.declared.Error.{Error}
 use Rattle.gix_topo.specs.declared.Error.TheVariants as error
 use Rattle.gix_object.specs.declared.find.existing_iter.Error.TheVariants as existing
@@ -22,7 +19,7 @@ use Rattle.gix_revwalk.specs.Asking.{AsksAll, none, more}
 use Rattle.gix_hash.proofs.Ids.Membership.{id_total, same_is, same_itself, among_from, among_is, Contains-here, Contains-there, Contains-cons_cases, no_member}
 use Rattle.gix_revwalk.proofs.NewIds.{fresh, fresh_agree, times, new_less, times_once}
 use Rattle.gix_topo.proofs.Readiness.IsReady.{distinct_times}
-use Rattle.gix_topo.proofs.Readiness.ReadyIds.{chosen_in, chosen_among, chosen_once, held_among, held_once, in_ids}
+use Rattle.gix_topo.proofs.Readiness.ReadyIds.{chosen_in, chosen_length, holds_length, chosen_among, chosen_once, held_among, held_once, in_ids}
 use Rattle.gix_topo.proofs.Run.Draws.{Draws, rests, shows, hides, breaks, all_drawn, ended_drawn, nothing_more}
 
 -- distinct ids that are new no more
@@ -37,14 +34,6 @@ all_new s xs (i ∷ ids) d a n =
   where
     turned : (a b c : Bool) → ((a || b) || c) ≡ (a || (b || c))
     turned a b c = grind arith
-
-chosen_length : (s : Sorting) (ready : List Ready) (c : Ready) (others : List Ready) → Chooses s ready c others → length ready ≡ suc (length others)
-chosen_length order.TopoOrder ready c others h = let e : length ready ≡ length (others ++ c ∷ []) = ap length h in let l : length (others ++ c ∷ []) ≡ length others + 1 = length-append others (c ∷ []) in omega arith
-chosen_length order.DateOrder ready c others h = sym (length_permutation ready (c ∷ others) h.0)
-
-held_length : (s : Sorting) (these ready : List Ready) → HoldsReady s these ready → length ready ≡ length these
-held_length order.TopoOrder these ready h = ap length h
-held_length order.DateOrder these ready h = length_permutation these ready h
 
 left_most : (n : ℕ) (ready : List Ready) → left_beside n ready ≤ n + length ready
 left_most n [] = omega arith
@@ -73,7 +62,7 @@ module _ {F P : Type 0} (objects : F → Objects) (faulty : F → ObjectId → T
       let a : length (fresh (λ j. is_among j (ready_ids t.added) || was_ready w j) named) + length (ready_ids t.added) ≡ new_in w = all_new (was_ready w) named (ready_ids t.added) t.adds.distinct t.adds.named t.adds.unmade in
       let b : new_in (after objects faulty answers w c counted ready predicate) ≡ length (fresh (λ j. is_among j (ready_ids t.added) || was_ready w j) named) = ap length (fresh_agree _ _ named (λ j h. made_then w c counted ready predicate t j)) in
       let l : length (ready_ids t.added) ≡ length t.added = length-map t.added (λ r. r.id) in
-      let h : length ready ≡ length (t.others ++ t.added) = held_length w.plan.sorting (t.others ++ t.added) ready t.holds in
+      let h : length ready ≡ length (t.others ++ t.added) = holds_length w.plan.sorting (t.others ++ t.added) ready t.holds in
       let j : length (t.others ++ t.added) ≡ length t.others + length t.added = length-append t.others t.added in
       let s : length w.ready ≡ suc (length t.others) = chosen_length w.plan.sorting w.ready c t.others t.chosen in
       let x : answers_left objects w ≡ new_in w + length w.ready = left_all (new_in w) w.ready (length t.others) s in

@@ -55,13 +55,6 @@ module _ (Q : List ObjectId → Option ObjectId → Type 0) where
   abbrev pub IfOne : List ObjectId → Option ObjectId → Type 0
   IfOne done o = MatchOption o (Unit {0}) (λ i. Q done (Some i))
 
-pub turns_begin : (Q : List ObjectId → Option ObjectId → Type 0) (done ids : List ObjectId) → TurnsFrom Q done ids → TurnsFrom (IfOne Q) done ids
-turns_begin Q done ids h k b = go (slice_get ids k) (h k b)
-  where
-    go : (o : Option ObjectId) → Q (done ++ take k ids) o → IfOne Q (done ++ take k ids) o
-    go None q = tt
-    go (Some i) q = q
-
 pub turns_by : (Q : List ObjectId → Option ObjectId → Type 0) (ids : List ObjectId) → ((k : ℕ) (i : ObjectId) → slice_get ids k ≡ Some i → Q (take k ids) (Some i)) → TurnsFrom (IfOne Q) [] ids
 turns_by Q ids h k b = go (slice_get ids k) refl
   where
@@ -76,6 +69,9 @@ turns_map Q R Keep last now [] done k h = turn_none R done (last done k (turn_en
 turns_map Q R Keep last now (i ∷ ids) done k h =
     let n : R done (Some i) × Keep (done ++ i ∷ []) = now done i k (turn_now Q done ids i h) in
     turn_more R done ids i n.0 (turns_map Q R Keep last now ids (done ++ i ∷ []) n.1 (turn_on Q done ids i h))
+
+pub turns_begin : (Q : List ObjectId → Option ObjectId → Type 0) (done ids : List ObjectId) → TurnsFrom Q done ids → TurnsFrom (IfOne Q) done ids
+turns_begin Q done ids h = turns_map Q (IfOne Q) (λ all. Unit {0}) (λ all k q. tt) (λ all i k q. (q, tt)) ids done tt h
 
 -- a list of which a test says that each turn is right
 abbrev pub is_list : (List ObjectId → Option ObjectId → Bool) → List ObjectId → List ObjectId → Bool

@@ -1,8 +1,9 @@
 -- Two ways to say what the parents and the members are, which agree on the members, give the same orders.
-use Rattle.std.specs.Prelude.{◌≡◌, ℕ, zero, suc, ℤ, List, [], ◌∷◌, take, reverse, slice_get, Option, Some, None, Contains}
-use Rattle.std.proofs.Common.{sym, subst, ⊎_elim}
+use Rattle.std.specs.Prelude.{◌≡◌, ℕ, ℤ, List, [], ◌∷◌, ◌++◌, take, drop, reverse, slice_get, Option, Some, None, Contains}
+use Rattle.std.proofs.Common.{sym, subst, take-append-drop}
+use Rattle.std.proofs.lemmas.List.Elements.{Contains-append_left}
 use Rattle.gix_hash.specs.declared.ObjectId.{ObjectId}
-use Rattle.gix_hash.proofs.Ids.Membership.{Contains-here, Contains-there, Contains-cons_cases, no_member}
+use Rattle.gix_hash.proofs.Ids.Membership.{Contains-here, Contains-there}
 use Rattle.gix_topo.specs.declared.Sorting.{Sorting}
 use Rattle.gix_topo.specs.declared.Sorting.TheVariants as order
 use Rattle.gix_topo.specs.WalkSet.{IsChild, IsChildless, IsReady}
@@ -12,9 +13,7 @@ use Rattle.gix_topo.proofs.Readiness.IsReady.{keeps_alike}
 use Rattle.gix_topo.proofs.Run.ReadyInTurn.{IfOne, IsNextBy, turns_sorted, sorted_turns, turns_beginning, beginning_turns, reverse_in}
 
 take_within : (k : ℕ) (ids : List ObjectId) (i : ObjectId) → Contains (take k ids) i → Contains ids i
-take_within zero ids i c = absurd (no_member i c)
-take_within (suc k) [] i c = c
-take_within (suc k) (j ∷ ids) i c = ⊎_elim (λ e. subst (λ x. Contains (j ∷ ids) x) e (Contains-here j ids)) (λ m. Contains-there i j ids (take_within k ids i m)) (Contains-cons_cases i j (take k ids) c)
+take_within k ids i c = subst (λ xs. Contains xs i) (take-append-drop k ids) (Contains-append_left (take k ids) (drop k ids) i c)
 
 module _ (time : ObjectId → ℤ) (walked other : ObjectId → List ObjectId) (In Out : ObjectId → Type 0) (to : (i : ObjectId) → In i → Out i) (from : (i : ObjectId) → Out i → In i)
     (same : (i : ObjectId) → In i → other i ≡ walked i) where

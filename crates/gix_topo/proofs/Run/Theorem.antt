@@ -173,9 +173,8 @@ module _ {F P : Type 0} (objects : F → Objects) (faulty : F → ObjectId → T
           let k : (q : Ready) × Contains w.ready q × (q.id ≡ other) = from_ids w.ready other (among_is other (ready_ids w.ready) (h.ready.all other r)) in
           let there : k.0.time ≡ time_of (objects w.plan.store) other = (h.stored k.0 k.1).time ∙ ap (time_of (objects w.plan.store)) k.2 in
           let here : c.time ≡ time_of (objects w.plan.store) c.id = (h.stored c c_in).time in
-          ⊎_elim (λ e. let s : time_of (objects w.plan.store) other ≡ time_of (objects w.plan.store) c.id = sym there ∙ ap (λ x. x.time) (sym e) ∙ here in let g : time_of (objects w.plan.store) other ≤ℤ time_of (objects w.plan.store) c.id = omega (arith, ints) in g)
-          (λ m. subst (λ x. x ≤ℤ time_of (objects w.plan.store) c.id) there (subst (λ x. k.0.time ≤ℤ x) here (ch.1 k.0 m)))
-          (Contains-cons_cases k.0 c t.others (Contains-permutation w.ready (c ∷ t.others) k.0 ch.0 k.1));
+          let l : k.0.time ≤ℤ c.time = ⊎_elim (λ e. subst (λ x. x.time ≤ℤ c.time) e (omega (arith, ints))) (ch.1 k.0) (Contains-cons_cases k.0 c t.others (Contains-permutation w.ready (c ∷ t.others) k.0 ch.0 k.1)) in
+          omega (arith, ints);
     }
 
     turn : (s : Sorting) → w.plan.sorting ≡ s → IsNext s w.plan done (Some c.id)

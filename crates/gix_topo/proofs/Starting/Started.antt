@@ -1,48 +1,86 @@
--- What holds of a topological walk that has begun.
-use Rattle.std.specs.Prelude.{◌≡◌, ◌≤◌, List, [], ◌++◌, Bool, true, false, not, ◌&&◌, ◌||◌, Contains}
+-- What holds of a topological walk that has begun, and when one can't be built.
+use Rattle.std.specs.FinSet as set
+use Rattle.std.specs.Prelude.{◌≡◌, ◌≤◌, List, [], ◌++◌, Bool, true, false, not, ◌&&◌, ◌||◌, Contains, ◌∷◌}
 use Rattle.std.proofs.Common.{refl, sym, ap, subst, inl, inr, ⊎_elim, ◌∙◌, arith, zero-add}
 use Rattle.std.proofs.Math.Bool.{or-false, and-not_self}
 use Rattle.std.proofs.lemmas.Bool.{true≢false, false≢true}
 use Rattle.std.proofs.lemmas.List.Elements.{Contains-append_left}
-use Rattle.std.specs.FinSet as set
 use Rattle.gix_hash.specs.declared.ObjectId.{ObjectId}
 use Rattle.gix_hash.specs.Id.{id_cmp, is_among}
 use Rattle.gix_object.specs.Object.{Objects}
-use Rattle.gix_hash.proofs.Ids.Membership.{id_total, id_apart, among_from, among_is}
-use Rattle.gix_frontier.specs.declared.Side.{Side}
+use Rattle.gix_hash.proofs.Ids.Membership.{id_total, id_apart, among_from, among_is, Contains-here, Contains-there}
 use Rattle.gix_frontier.specs.declared.Side.TheVariants.{Tips, Ends}
 use Rattle.gix_topo.specs.declared.counting.Counting.{Counting}
 use Rattle.gix_topo.specs.declared.walk.Walk.{Walk}
 use Rattle.gix_revwalk.specs.Agreeing.{IsAgreeing}
 use Rattle.gix_topo.specs.Depth.{infinity, known_generation}
-use Rattle.gix_frontier.specs.Inside.Frontier.{is_seen, is_done, reached}
+use Rattle.gix_frontier.specs.Inside.Frontier.{is_seen, is_done, reached, known_of}
 use Rattle.gix_revwalk.specs.Commits.{time_of}
 use Rattle.gix_hash.specs.Reach.{start}
 use Rattle.gix_revwalk.specs.Reading.{DropsRows}
 use Rattle.gix_topo.specs.Inside.Releasing.{plan_of, counted_by, taken_of, walk_of}
 use Rattle.gix_topo.specs.Inside.Searched.{IsCounted, IsSearched, next_by}
 use Rattle.gix_revwalk.specs.Ids.{AreDistinct}
-use Rattle.gix_topo.specs.Inside.Starting.{HasBegun, IsBegunWalk, by_rising_time}
+use Rattle.gix_topo.specs.Inside.Starting.{HasBegun, IsBegunWalk, by_rising_time, IsStartFault, here, later, short}
 use Rattle.gix_topo.specs.TopoOrder.{Keeps, first_places}
 use Rattle.gix_topo.specs.Inside.Steady.{IsDone, AreRead, AreDroppedFor, IsTallied, IsSteady, HasCounted, IsHeld, unasked, unasked_of}
-use Rattle.gix_topo.specs.Walk.{TopoPlan, Ready, ready_ids, first_depth, HoldsReady, IsNumberOf, IsInDepth, IsBrokenRow, IsCounting, IsStored, IsStarted, StartsWith, IsFound, text_walked, IsTextMember, IsReached}
+use Rattle.gix_topo.specs.Walk.{TopoPlan, Ready, ready_ids, first_depth, HoldsReady, IsNumberOf, IsInDepth, IsBrokenRow, IsCounting, IsStored, IsStarted, StartsWith, IsFound, text_walked, IsTextMember, IsReached, IsFirstReady, IsFault, IsBuildFault}
 use Rattle.gix_topo.specs.WalkSet.{IsChildless}
-use Rattle.gix_topo.proofs.Counts.IndegreeZero.{unseen, all_taken}
+use Rattle.gix_topo.proofs.Counts.IndegreeZero.{unseen, all_taken, text_left, text_outside}
 use Rattle.gix_topo.proofs.Counts.Expanded.{number_same, broken}
 use Rattle.gix_topo.proofs.Counts.RowsDropped.{made_dropped}
-use Rattle.gix_topo.proofs.Counts.MakesReady.{MakesReady}
-use Rattle.gix_topo.proofs.Starting.StartFaults.{first_ready}
+use Rattle.gix_topo.proofs.Counts.MakesReady.{MakesReady, due_parts}
 use Rattle.gix_revwalk.proofs.NewIds.{times, times_once}
 use Rattle.gix_topo.proofs.Readiness.IsReady.{keeps_from, keeps_times, first_from, first_once, among_by, keeps_on}
 use Rattle.gix_topo.proofs.Counts.Rest.{least_within}
 use Rattle.gix_topo.proofs.Counts.Taken.{contains-taken}
 use Rattle.gix_topo.proofs.Readiness.RisingTime.{by_time_moves, in_by_time, by_time_map}
 use Rattle.gix_topo.proofs.Counts.BothSearches.{searched_same}
-use Rattle.gix_topo.proofs.Starting.OneByOne.{IsDue, Frees, started}
+use Rattle.gix_topo.proofs.Starting.OneByOne.{IsDue, Frees, started, started_one}
 use Rattle.gix_topo.proofs.Reading.FoundIsStored.{found_stored}
 use Rattle.gix_topo.proofs.Reading.OnceRead.{all_still, found_later}
 use Rattle.gix_topo.proofs.Counts.Children.{children_of, was_ready_of, tally_same}
 use Rattle.gix_topo.proofs.Readiness.ReadyIds.{holds_in, holds_times, times-permutation}
+use Rattle.gix_topo.specs.declared.Error.{Error}
+use Rattle.gix_topo.proofs.Counts.Frontier.{has_seen}
+use Rattle.gix_topo.proofs.Counts.ReadFaults.{push_fault, push_misses_no_count}
+use Rattle.gix_hash.proofs.Lists.{only_member}
+
+module _ {F : Type 0} (objects : F → Objects) (faulty : F → ObjectId → Type 0) where
+  -- a tip that is due when counting has begun becomes ready
+  module _ (plan : TopoPlan F) (c : Counting F) (begun : HasBegun objects faulty plan c) where
+    pub first_ready : IsAgreeing (objects plan.store) plan.rows → (i : ObjectId) → Contains plan.tips i → children_of c.frontier i ≡ 0 → has_seen c.frontier Ends i ≡ false → IsFirstReady objects plan i
+    first_ready a i m z u = record {
+      tip = m;
+      childless = record {
+        member = record { reached = start m; outside = text_outside (objects plan.store) (faulty plan.store) plan.rows plan.parents plan.tips plan.ends a c.frontier c.depth (begun.explored a) i u high };
+        alone = λ d k. true≢false (sym (text_left (objects plan.store) (faulty plan.store) plan.rows plan.parents plan.tips plan.ends a c.frontier c.depth (begun.explored a) (λ j. false) (children_of c.frontier) (begun.counted (λ j. false) (λ j. refl) a).tally i z high d k.child.reached k.named));
+      };
+    }
+      where
+        high : c.depth ≤ known_generation plan.rows i
+        high = subst (λ d. d ≤ known_generation plan.rows i) (sym begun.depth) (least_within plan.rows infinity (plan.tips ++ plan.ends) i (Contains-append_left plan.tips plan.ends i m))
+
+    start_fails : {old : Walk F} {ids : List ObjectId} {e : Error} → plan_of old ≡ plan → AreDroppedFor objects plan old.counting.reader.in_use → ((j : ObjectId) → has_seen old.counting.frontier Ends j ≡ has_seen c.frontier Ends j) →
+        ((j : ObjectId) → children_of old.counting.frontier j ≡ children_of c.frontier j) → ((i : ObjectId) → Contains ids i → Contains plan.tips i) → IsStartFault objects faulty old ids e → IsBuildFault objects faulty plan e
+    start_fails {old} {e = e} same dropped seen counts all (here {i = i} {ids = ids} d f) =
+        let parts : (children_of old.counting.frontier i ≡ 0) × (has_seen old.counting.frontier Ends i ≡ false) × (was_ready_of old.counting.frontier i ≡ false) = due_parts objects faulty (children_of old.counting.frontier i) (known_of old.counting.frontier.known i) d in
+        let tip : Contains plan.tips i = all i (Contains-here i ids) in (
+          push_misses_no_count objects faulty old i e f,
+          subst (λ p. IsFault objects faulty p (IsFirstReady objects plan) e) same
+              (push_fault objects faulty (IsFirstReady objects plan) old i e (λ a. start (subst (λ p. Contains p.tips i) (sym same) tip))
+                  (λ a. first_ready (subst (λ p. IsAgreeing (objects p.store) p.rows) same a) i tip (sym (counts i) ∙ parts.0) (sym (seen i) ∙ parts.1)) (subst (λ p. AreDroppedFor objects p old.counting.reader.in_use) (sym same) dropped) f),
+        )
+    start_fails same dropped seen counts all (later {mid = mid} {i = i} {ids = ids} {first = first} s f) =
+        let by : Frees objects faulty false _ (i ∷ []) first mid = started_one objects faulty s in
+        start_fails (by.ready.plan ∙ same) (made_dropped objects faulty plan same (λ j m a. inl (start (subst (Contains plan.tips) (only_member i j m) (all i (Contains-here i ids))))) by.ready dropped) (λ j. ap is_seen (by.ready.moved Ends j) ∙ seen j)
+            (λ j. sym (zero-add _) ∙ by.children j ∙ counts j) (λ j m. all j (Contains-there j i ids m)) f
+    start_fails same dropped seen counts all short = ((λ q. cc), tt)
+
+  -- starting fails
+  pub start_fault : (plan : TopoPlan F) (first : Walk F) → HasBegun objects faulty plan first.counting → plan_of first ≡ plan → (ids : List ObjectId) → ((i : ObjectId) → Contains ids i → Contains plan.tips i) → (e : Error) → IsStartFault objects faulty first ids e →
+      IsBuildFault objects faulty plan e
+  start_fault plan first begun same ids all e f = start_fails plan first.counting begun same begun.dropped (λ j. refl) (λ j. refl) all f
 
 -- Ids down to the depth become ready, and counting stays exact. They were read before, so their rows drop no rows.
 module _ {F : Type 0} (objects : F → Objects) (faulty : F → ObjectId → Type 0) (plan : TopoPlan F) (agrees : IsAgreeing (objects plan.store) plan.rows) {before after : Walk F} {ids : List ObjectId} {added : List Ready} (same : plan_of before ≡ plan) (made : MakesReady objects faulty before ids added after)
@@ -126,9 +164,6 @@ module _ {F : Type 0} (objects : F → Objects) (faulty : F → ObjectId → Typ
   ready_among : (i : ObjectId) → is_among i (ready_ids h.starts) ≡ is_among i (ready_ids w.ready.commits)
   ready_among i = among_by i (ready_ids h.starts) (ready_ids w.ready.commits) (sym (ready_times i))
 
-  start_of : (i : ObjectId) → Contains (ready_ids w.ready.commits) i → Contains (ready_ids h.starts) i
-  start_of i m = among_is i (ready_ids h.starts) (ready_among i ∙ among_from i _ m)
-
   kept : Keeps (IsDue objects faulty h.first h.mid) (first_places p.tips) (ready_ids h.starts)
   kept = all.due (λ p. Prim.Native.Nat.zero-le) [] (λ j e. absurd (false≢true e))
 
@@ -140,7 +175,7 @@ module _ {F : Type 0} (objects : F → Objects) (faulty : F → ObjectId → Typ
       omega arith)
 
   is_tip : (i : ObjectId) → Contains (ready_ids w.ready.commits) i → Contains p.tips i
-  is_tip i m = (first_from [] p.tips i (keeps_from (IsDue objects faulty h.first h.mid) kept i (start_of i m)).0).1
+  is_tip i m = (first_from [] p.tips i (keeps_from (IsDue objects faulty h.first h.mid) kept i (among_is i (ready_ids h.starts) (ready_among i ∙ among_from i _ m))).0).1
 
   first_read : AreRead objects faulty (plan_of h.first) h.first.counting
   first_read = subst (λ q. AreRead objects faulty q old) (sym first_plan) begun.all_read
@@ -156,12 +191,6 @@ module _ {F : Type 0} (objects : F → Objects) (faulty : F → ObjectId → Typ
 
   untaken : (i : ObjectId) → set.contains (taken_of v) i ≡ false
   untaken i = contains-taken new.frontier.known w.ready.commits i ∙ ap (λ b. b && not (is_among i (ready_ids w.ready.commits))) (made_ready i) ∙ and-not_self (is_among i (ready_ids w.ready.commits))
-
-  none_taken : taken_of v ≡ set.empty
-  none_taken = set.same_set id_total id_apart (taken_of v) set.empty (λ i. untaken i ∙ sym (set.contains-empty id_cmp i))
-
-  depth_is : new.depth ≡ first_depth p
-  depth_is = all.ready.depth ∙ begun.depth
 
   -- no tip is below the depth
   tip_high : (i : ObjectId) → Contains p.tips i → old.depth ≤ known_generation p.rows i
@@ -223,12 +252,12 @@ module _ {F : Type 0} (objects : F → Objects) (faulty : F → ObjectId → Typ
   -- a walk that has begun is as a built one is to be
   pub started_on : IsStarted objects faulty (unasked objects faulty) (unasked_of objects faulty w)
   started_on = subst (λ x. IsStarted objects faulty (unasked objects faulty) (unasked_of objects faulty x)) v_is (record {
-    untaken = none_taken;
+    untaken = set.same_set id_total id_apart (taken_of v) set.empty (λ i. untaken i ∙ sym (set.contains-empty id_cmp i));
     distinct = distinct;
     tips = is_tip;
     starts = starts;
     stored = stored;
-    depth = depth_is;
+    depth = all.ready.depth ∙ begun.depth;
     counting = λ agrees. (both_counts agrees).1;
     read = begun.read;
     found = found;

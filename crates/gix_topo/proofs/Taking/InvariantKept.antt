@@ -163,16 +163,8 @@ module _ {F : Type 0} (objects : F → Objects) (faulty : F → ObjectId → Typ
     plan_between : plan_of between ≡ plan_of w
     plan_between = plan_taken same t.explored kept_plan
 
-    -- dropped rows don't come back
-    stands_before : new.counting.reader.in_use ≡ true → w.counting.reader.in_use ≡ true
-    stands_before e = explores_stands objects faulty t.explores (rel.ready.stands e)
-
     due : Keeps (IsDue objects faulty between new) (last_places named) (ready_ids added)
     due = released_due objects faulty rel (λ j. last_once named j)
-
-    -- an added id is a walked parent
-    added_named : (i : ObjectId) → Contains (ready_ids added) i → Contains named i
-    added_named i m = last_from named i (keeps_from (IsDue objects faulty between new) due i m).0
 
     plan_is : plan_of new ≡ plan_of w
     plan_is = rel.ready.plan ∙ plan_between
@@ -204,12 +196,6 @@ module _ {F : Type 0} (objects : F → Objects) (faulty : F → ObjectId → Typ
       -- and so is what is done after that
       read_after : AreRead objects faulty (plan_of w) new.counting
       read_after = all_still objects faulty (plan_of w) t.explored new.counting rel.ready.moved rel.ready.stands (subst (λ plan. AreRead objects faulty plan t.explored) plan_between read_between)
-
-      found : IsFound objects faulty (plan_of w) true w.counting.reader.in_use r
-      found = held.found r was_ready
-
-      among_ready : is_among r.id (ready_ids w.ready.commits) ≡ true
-      among_ready = among_from r.id (ready_ids w.ready.commits) (in_ids w.ready.commits r was_ready)
 
       made_before : (p : ObjectId) → was_ready_of t.explored.frontier p ≡ (set.contains (taken_of w) p || is_among p (ready_ids w.ready.commits))
       made_before p = explores_made objects faulty t.explores p ∙ made_taken w held.made p
@@ -248,7 +234,7 @@ module _ {F : Type 0} (objects : F → Objects) (faulty : F → ObjectId → Typ
         explored = explored_on held agrees t.explored t.explores t.rested
 
         is_member : Member r.id
-        is_member = steady.member r.id (made_taken w held.made r.id ∙ or_right (set.contains (taken_of w) r.id) _ among_ready)
+        is_member = steady.member r.id (made_taken w held.made r.id ∙ or_right (set.contains (taken_of w) r.id) _ (among_from r.id _ (in_ids w.ready.commits r was_ready)))
 
         tally : IsTally (next Tips) (λ i. is_done (reached t.explored.frontier.known Tips i)) now_taken (children_of new.counting.frontier)
         tally = tally_on held agrees t.explored t.explores (children_of new.counting.frontier) rel.children
@@ -275,12 +261,6 @@ module _ {F : Type 0} (objects : F → Objects) (faulty : F → ObjectId → Typ
         became : Keeps (IsReady walked Member (IsTaken (set.insert (taken_of w) r.id))) (last_places (walked r.id)) (ready_ids added)
         became = subst (λ ids. Keeps (IsReady walked Member (IsTaken (set.insert (taken_of w) r.id))) (last_places ids) (ready_ids added)) (named_text held agrees) (keeps_on due_now ready_due due)
 
-        stored : (a : Ready) → Contains added a → IsStored objects (plan_of w) new.counting.reader.in_use a
-        stored a m = found_stored objects faulty (plan_of w) agrees (found_added a m)
-
-        before : IsTallied objects w
-        before = held.tallied agrees
-
         counted_now : IsCounted those (plan_of w).rows w.counting.parents (plan_of w).tips (plan_of w).ends (set.contains (taken_of new)) new.counting.frontier
         counted_now = record {
           searched = searched_same those (plan_of w).rows w.counting.parents (plan_of w).tips (plan_of w).ends new.counting.frontier.queue t.explored.frontier.known new.counting.frontier.known rel.ready.moved
@@ -292,18 +272,18 @@ module _ {F : Type 0} (objects : F → Objects) (faulty : F → ObjectId → Typ
         parent_done : (p : ObjectId) → Contains named p → is_done (reached t.explored.frontier.known Tips p) ≡ true
         parent_done p m =
             explored Tips p
-            ((before.counted.searched.search Tips).within p ((before.counted.searched.search Tips).closed r.id p (before.done r was_ready) (subst (λ ids. Contains ids p) (named_text held agrees) m)))
+            (((tallied held agrees).counted.searched.search Tips).within p (((tallied held agrees).counted.searched.search Tips).closed r.id p ((tallied held agrees).done r was_ready) (subst (λ ids. Contains ids p) (named_text held agrees) m)))
             (least_within (plan_of w).rows w.counting.depth named p m)
 
         done_now : (q : Ready) → Contains new.ready.commits q → is_done (reached new.counting.frontier.known Tips q.id) ≡ true
         done_now q m =
             ap is_done (rel.ready.moved Tips q.id) ∙
-            ready_cases (is_done (reached t.explored.frontier.known Tips q.id) ≡ true) q (λ o. explores_done objects faulty t.explores Tips q.id (before.done q (others_ready q o))) (λ a. parent_done q.id (last_from named q.id (rel.ready.among q a))) m
+            ready_cases (is_done (reached t.explored.frontier.known Tips q.id) ≡ true) q (λ o. explores_done objects faulty t.explores Tips q.id ((tallied held agrees).done q (others_ready q o))) (λ a. parent_done q.id (last_from named q.id (rel.ready.among q a))) m
 
         tallied_now : IsTallied objects new
         tallied_now = record {
           counted = subst (λ p. IsCounted (objects p.store) p.rows p.parents p.tips p.ends (set.contains (taken_of new)) new.counting.frontier) (sym plan_is) counted_now;
-          begun = subst (λ p. (side : Side) → IsBegun p.tips p.ends side new.counting.frontier) (sym plan_is) (λ side i m. ap is_seen (rel.ready.moved side i) ∙ explores_still objects faulty t.explores side i (before.begun side i m));
+          begun = subst (λ p. (side : Side) → IsBegun p.tips p.ends side new.counting.frontier) (sym plan_is) (λ side i m. ap is_seen (rel.ready.moved side i) ∙ explores_still objects faulty t.explores side i ((tallied held agrees).begun side i m));
           done = done_now;
         }
 
@@ -315,7 +295,7 @@ module _ {F : Type 0} (objects : F → Objects) (faulty : F → ObjectId → Typ
             record { number = h.number; high = λ e i d. let a : w.counting.depth ≤ known_generation (plan_of w).rows i = h.high e i d in omega arith; dropped = λ e. broken_lower objects (plan_of w) low.depth w.counting.depth l (h.dropped e) }
 
         explored_counts : HasCounted objects (plan_of w) t.explored × IsCounting objects (plan_of w) (counted_by t.explored)
-        explored_counts = counts_on objects faulty w.ready.sorting w.tips.items w.ends.items (set.contains (taken_of w)) low t.explored agrees before.counted before.begun low_counts held.all_read t.explores t.rested
+        explored_counts = counts_on objects faulty w.ready.sorting w.tips.items w.ends.items (set.contains (taken_of w)) low t.explored agrees (tallied held agrees).counted (tallied held agrees).begun low_counts held.all_read t.explores t.rested
 
         -- what holds of the done commits still holds, and counting stays exact
         counts_taken : HasCounted objects (plan_of w) new.counting × IsCounting objects (plan_of w) (counted_by new.counting)
@@ -346,11 +326,11 @@ module _ {F : Type 0} (objects : F → Objects) (faulty : F → ObjectId → Typ
       adds = record {
         distinct = times_once (ready_ids added) (λ i. let a : times i (ready_ids added) ≤ times i (last_places named) = keeps_times (IsDue objects faulty between new) due i in let b : times i (last_places named) ≤ 1 = last_once named i in omega arith);
         unmade = λ i m. sym (made_before i) ∙ (keeps_from (IsDue objects faulty between new) due i m).1.unmade;
-        named = λ i m. found_named objects faulty (plan_of w) found i (walked_within w.counting.parents r.parents i (added_named i m));
+        named = λ i m. found_named objects faulty (plan_of w) (held.found r was_ready) i (walked_within w.counting.parents r.parents i (last_from named i (keeps_from (IsDue objects faulty between new) due i m).0));
         became = became;
         found = found_added;
-        stored = stored;
-        stands = stands_before;
+        stored = λ agrees a m. found_stored objects faulty (plan_of w) agrees (found_added a m);
+        stands = λ e. explores_stands objects faulty t.explores (rel.ready.stands e);
         depth = rel.ready.depth ∙ kept_plan.depth;
         counting = λ agrees. (counts_taken agrees).1;
       }

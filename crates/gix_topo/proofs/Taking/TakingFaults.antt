@@ -187,17 +187,15 @@ module _ {F : Type 0} (objects : F → Objects) (faulty : F → ObjectId → Typ
     }
 
     children_left : (explored : Counting F) → Explores objects faulty low explored → Agrees → (p : ObjectId) → times p (last_places named) ≤ children_of explored.frontier p
-    children_left explored x a p = go (is_among p named) refl (times-last p named)
+    children_left explored x a p = counted (is_among p named) (times p (last_places named)) (children_of explored.frontier p) (times-last p named) (λ e.
+        tally_counts next (λ i. is_done (reached explored.frontier.known Tips i)) (set.contains (taken_of w)) (children_of explored.frontier) (counted_on objects faulty w rest r chosen held a explored x).tally p r.id
+            (explores_done objects faulty x Tips r.id (t.done r (was_ready objects faulty w rest r chosen))) (was_untaken objects faulty w rest r chosen held) (ap (is_among p) (sym (named_text objects faulty w rest r chosen held a)) ∙ e))
       where
         t : IsTallied objects w
         t = held.tallied a
 
-        go : (b : Bool) → is_among p named ≡ b → times p (last_places named) ≡ cond (is_among p named) 1 0 → times p (last_places named) ≤ children_of explored.frontier p
-        go true e l =
-            let o : ◌≡◌ {A = ℕ} (cond (is_among p named) 1 0) 1 = ap (λ b. cond b 1 0) e in
-            let n : 1 ≤ children_of explored.frontier p = tally_counts next (λ i. is_done (reached explored.frontier.known Tips i)) (set.contains (taken_of w)) (children_of explored.frontier) (counted_on objects faulty w rest r chosen held a explored x).tally p r.id (explores_done objects faulty x Tips r.id (t.done r (was_ready objects faulty w rest r chosen))) (was_untaken objects faulty w rest r chosen held) (ap (is_among p) (sym (named_text objects faulty w rest r chosen held a)) ∙ e) in
-            omega arith
-        go false e l = let o : ◌≡◌ {A = ℕ} (cond (is_among p named) 1 0) 0 = ap (λ b. cond b 1 0) e in omega arith
+        counted : (b : Bool) (n m : ℕ) → n ≡ cond b 1 0 → (b ≡ true → 1 ≤ m) → n ≤ m
+        counted b n m l h = grind arith
 
     module _ (explored : Counting F) (x : Explores objects faulty low explored) (rests : IsRested explored.reader.in_use explored.depth explored.frontier.queue) where
       -- how many children are left once it is taken
