@@ -65,12 +65,7 @@ nobody s i = ⊥
 
 -- a store is a history of the rows that agree with it
 pub own_history : (objects : Objects) (faulty : ObjectId → Type 0) (rows : List GraphRow) → IsAgreeing objects rows → IsHistory objects rows objects
-own_history objects faulty rows agrees = record {
-  agreeing = λ row m.
-      let a = agrees row m in
-      record { whole = record { commit = a.whole.commit; stored = a.whole.stored }; tree = a.tree; time = a.time; places = a.places; parents = a.parents; finite = a.finite };
-  read = λ i commit r. r;
-}
+own_history objects faulty rows agrees = record { agreeing = agrees; read = λ i commit r. r }
 
 -- what a store reads is the history's
 pub in_history : {objects history : Objects} {rows : List GraphRow} → IsHistory objects rows history → (i : ObjectId) (ids : List ObjectId) → Reads objects i ids → Reads history i ids

@@ -94,7 +94,6 @@ module _ {F P : Type 0} (objects : F → Objects) (faulty : F → ObjectId → T
         by_store unrowed_is there (subst (λ xs. TreatsAll objects faulty answers false start xs how (with_text then start.text start.current)) (ap (λ r. r.0) read) back)
         (subst (λ r. Concludes objects faulty answers taken.id r.0 None (given_time old taken) walk.text r.1 (with_text then start.text start.current) how answer new) read d)
 
-module _ {F P : Type 0} (objects : F → Objects) (faulty : F → ObjectId → Type 0) (answers : P → ObjectId → Bool → P → Type 0) (old : SimpleWalk F P) (taken : Pending) where
   -- where the rows were dropped, or have no row of the commit, it is taken as from the walk before
   pub takes_unrowed : IsUnrowed old.rows taken.id → (mid : SimpleWalk F P) → mid ≡ unrowed old taken.id → row_of mid.rows taken.id ≡ None → (answer : Result Info Error) (new : SimpleWalk F P) → Takes objects faulty answers mid taken answer new → Takes objects faulty answers old taken answer new
   takes_unrowed u mid m rowless answer new t = go (subst (λ w. row_of w.rows taken.id ≡ None) m rowless) (subst (λ w. Takes objects faulty answers w taken answer new) m t)

@@ -63,10 +63,10 @@ fresh_distinct old (x ∷ xs) d h =
 
 queue_starts : (o : Option CommitTimeOrder) (starts : List ObjectId) → AreDistinct starts → IsQueue o (starts ++ []) [] starts
 queue_starts None starts d = fresh_distinct (λ j. false) starts d (λ i c. refl) ∙ ap (fresh (λ j. false)) (sym (append-nil starts))
-queue_starts (Some order) starts d = λ j. ap (times j) (fresh_distinct (λ k. false) starts d (λ i c. refl) ∙ ap (fresh (λ k. false)) (sym (append-nil starts))) ∙ times-fresh j (λ k. false) (starts ++ []) ∙ padded (is_among j (starts ++ []))
-  where
-    padded : (b : Bool) → ◌≡◌ {A = ℕ} (cond (not false && b) 1 0) (cond (b && not false) 1 0)
-    padded b = grind arith
+queue_starts (Some order) starts d = λ j.
+    let all = ap (times j) (fresh_distinct (λ k. false) starts d (λ i c. refl) ∙ ap (fresh (λ k. false)) (sym (append-nil starts))) in
+    let count = times-fresh j (λ k. false) (starts ++ []) in
+    grind arith
 
 in_place : {X : Type 0} (xs : List X) (k : ℕ) → k < length xs → (x : X) × (slice_get xs k ≡ Some x)
 in_place [] k b = absurd (omega arith)
