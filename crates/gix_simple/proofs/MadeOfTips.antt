@@ -17,12 +17,9 @@ use Rattle.gix_simple.specs.Laws.{IsFresh, IsNewWalk}
 use Rattle.gix_revwalk.proofs.NewIds.{times, fresh, times_among, times-fresh, among-filter, times_once, among_times}
 use Rattle.gix_simple.proofs.Treated.{Setting, Stands, Did, keep, all_treated}
 
-pub once_or_never : (b : Bool) → cond b 1 0 ≤ 1
-once_or_never b = grind arith
-
 -- new ids are distinct
 fresh_once : (s : ObjectId → Bool) (xs : List ObjectId) → AreDistinct (fresh s xs)
-fresh_once s xs = times_once (fresh s xs) (λ i. subst (λ n. n ≤ 1) (sym (times-fresh i s xs)) (once_or_never (not (s i) && is_among i xs)))
+fresh_once s xs = times_once (fresh s xs) (λ i. let t = times-fresh i s xs in grind arith)
 
 -- they are ids of the list
 pub fresh_among : (i : ObjectId) (s : ObjectId → Bool) (xs : List ObjectId) → Contains (fresh s xs) i → is_among i xs ≡ true

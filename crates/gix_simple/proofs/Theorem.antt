@@ -38,9 +38,6 @@ use Rattle.gix_simple.proofs.WholeWalk.{Known, Runs, RunsTo, none_yet, begun_run
 use Rattle.gix_revwalk.proofs.ReadsWhole.{walked_within, no_fault}
 use Rattle.gix_hash.proofs.Lists.{filter_within, filter_all}
 
-both_ways : (a b : Bool) → (a ≡ true → b ≡ true) → (b ≡ true → a ≡ true) → a ≡ b
-both_ways a b there back = grind arith
-
 pub Contains-filter : (p : ObjectId → Bool) (xs : List ObjectId) (i : ObjectId) → Contains (filter p xs) i → Contains xs i × (p i ≡ true)
 Contains-filter p xs i h =
     let e : (p i ≡ true) × (is_among i xs ≡ true) = and_parts (p i) (is_among i xs) (sym (among-filter i p xs) ∙ among_from i _ h) in
@@ -119,8 +116,8 @@ module _ {F P : Type 0} (objects : F → Objects) (faulty : F → ObjectId → T
     pub steps : Steps objects faulty answers mid o new
 
   -- the first step leaves these pending commits and rows, and these hidden ids
-  pub begins_at : {Allowed : Result Info Error → Type 0} (marks : set.FinSet id_cmp) (rows : List GraphRow) (pending : List Pending) → (rows ≡ w.rows) ⊎ (rows ≡ []) → ((p : Pending) → Contains pending p → Contains w.pending p) → ids_of pending ≡ starts_of w hides → Known objects faulty answers (set_up marks) Allowed
-      → {o : Option (Result Info Error)} {new : SimpleWalk F P} → Steps objects faulty answers (record w { begun = true; hidden_tips = []; hidden = marks; rows = rows; pending = pending }) o new → Begins Allowed o new
+  pub begins_at : {Allowed : Result Info Error → Type 0} (marks : set.FinSet id_cmp) (rows : List GraphRow) (pending : List Pending) → (rows ≡ w.rows) ⊎ (rows ≡ []) → ((p : Pending) → Contains pending p → Contains w.pending p) → ids_of pending ≡ starts_of w hides
+      → Known objects faulty answers (set_up marks) Allowed → {o : Option (Result Info Error)} {new : SimpleWalk F P} → Steps objects faulty answers (record w { begun = true; hidden_tips = []; hidden = marks; rows = rows; pending = pending }) o new → Begins Allowed o new
   begins_at marks rows pending left within same known steps = record {
     marks = marks;
     mid = record w { begun = true; hidden_tips = []; hidden = marks; rows = rows; pending = pending };
@@ -161,7 +158,8 @@ module _ {F P : Type 0} (objects : F → Objects) (faulty : F → ObjectId → T
         ran b.marks r (next_steps objects faulty answers drawn.1.0 (r.runs.rest.begun ∙ b.known.begun) drawn.1.2)
 
     -- and over a walk that is drawn as far as one likes
-    pub some_given : (list : List (Result Info Error)) (last : SimpleWalk F P) → All Allowed list → Yields (Next objects faulty answers) w list last → (ids : List ObjectId) × AreGiven list ids × IsBeginning (time_order w.parents w.sorting) (time_of (objects w.store)) next_kept (starts_of w hides) ids
+    pub some_given : (list : List (Result Info Error)) (last : SimpleWalk F P) → All Allowed list → Yields (Next objects faulty answers) w list last
+        → (ids : List ObjectId) × AreGiven list ids × IsBeginning (time_order w.parents w.sorting) (time_of (objects w.store)) next_kept (starts_of w hides) ids
     some_given [] last ok drawn = ([], tt, begins_from (time_order w.parents w.sorting) (time_of (objects w.store)) next_kept (starts_of w hides) [] (λ k i e. cc))
     some_given (answer ∷ left) last ok drawn =
         let b : Begins Allowed (Some answer) drawn.0 = first_of left ok drawn.1 in
@@ -210,13 +208,17 @@ module _ {F P : Type 0} (objects : F → Objects) (faulty : F → ObjectId → T
       shown e i = false_from_ne_true _ (λ h. no_start (parents_of (objects w.store)) w.hidden_tips i ((tells i).0 h) e)
 
   -- the hidden tips are painted
-  painting : (marks : set.FinSet id_cmp) (rows : List GraphRow) → Paints (objects w.store) w.rows (ids_of w.pending) w.hidden_tips marks rows → {o : Option (Result Info Error)} {new : SimpleWalk F P} → Steps objects faulty answers (painted objects faulty answers (record w { begun = true }) marks rows) o new → BeginsBy o new
+  painting : (marks : set.FinSet id_cmp) (rows : List GraphRow) → Paints (objects w.store) w.rows (ids_of w.pending) w.hidden_tips marks rows
+      → {o : Option (Result Info Error)} {new : SimpleWalk F P} → Steps objects faulty answers (painted objects faulty answers (record w { begun = true }) marks rows) o new → BeginsBy o new
   painting marks rows paint steps =
       begins_at objects faulty answers w accepts hides (parents_of (objects w.store)) by_test is_fresh agreeing marks rows _ paint.rows_left (λ p m. filter_within _ w.pending p m) (ids-filter (set.contains marks) hides w.pending (λ i c. exact i (inl c)))
       (knows marks (λ c i r n. exact i (inr (c, (outside c r).0, (λ h. true≢false (sym ((tells c).1 h) ∙ (outside c r).1)), n)))) steps
     where
       exact : (i : ObjectId) → IsAtBoundary (parents_of (objects w.store)) (ids_of w.pending) w.hidden_tips i → set.contains marks i ≡ hides i
-      exact i at = both_ways (set.contains marks i) (hides i) (λ e. (tells i).1 ((paint.marked (objects w.store) own).sound i e)) (λ e. (paint.marked (objects w.store) own).whole i at ((tells i).0 e))
+      exact i at =
+          let sound : set.contains marks i ≡ true → hides i ≡ true = λ e. (tells i).1 ((paint.marked (objects w.store) own).sound i e) in
+          let whole : hides i ≡ true → set.contains marks i ≡ true = λ e. (paint.marked (objects w.store) own).whole i at ((tells i).0 e) in
+          grind arith
 
   no_hidden_fault : w.pending ≢ [] → w.hidden_tips ≢ [] → (why : Hidden) → IsNoRefusal (Err (error.HiddenGraph why)) → IsHiddenFault (objects w.store) (faulty w.store) w.rows (ids_of w.pending) w.hidden_tips why → ⊥
   no_hidden_fault some hidden (hidden_by.Find e) ok fault =

@@ -76,5 +76,7 @@ read_some objects bad limit old first new i e s = subst (λ store. IsSome (commi
 -- the pending commits of a walk, read from an empty list
 pub sorted_so : {F P : Type 0} (objects : F → Objects) (bad : F → ObjectId → Type 0) (old : SimpleWalk F P) (by : Sorting) (start new : SimpleWalk F P) (tips : List Pending) → start ≡ record old { sorting = by; pending = [] } → tips ≡ old.pending → (limit : Option ℤ) → limit ≡ cutoff mode.All by → SortsAll objects bad limit start tips new → IsSortedByTime objects old by new
 sorted_so objects bad old by start new tips e t limit l s =
-    let r : Sorted objects bad (cutoff mode.All by) (objects old.store) (record old { sorting = by; pending = [] }) old.pending new = subst (λ tips. Sorted objects bad (cutoff mode.All by) (objects old.store) (record old { sorting = by; pending = [] }) tips new) t (subst (λ w. Sorted objects bad (cutoff mode.All by) (objects w.store) w tips new) e (sorted objects bad (cutoff mode.All by) (subst (λ limit. SortsAll objects bad limit start tips new) l s))) in
+    let r : Sorted objects bad (cutoff mode.All by) (objects old.store) (record old { sorting = by; pending = [] }) old.pending new =
+    subst (λ tips. Sorted objects bad (cutoff mode.All by) (objects old.store) (record old { sorting = by; pending = [] }) tips new) t
+    (subst (λ w. Sorted objects bad (cutoff mode.All by) (objects w.store) w tips new) e (sorted objects bad (cutoff mode.All by) (subst (λ limit. SortsAll objects bad limit start tips new) l s))) in
     record { read = r.read; pending = r.pending; seen = r.seen; remembered = r.remembered; others = r.others }

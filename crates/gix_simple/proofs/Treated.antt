@@ -181,8 +181,12 @@ module _ {F P : Type 0} (objects : F → Objects) (faulty : F → ObjectId → T
       let hid : s.hidden i ≡ true = sym ready.marked ∙ ap (λ m. set.contains m i) (sym h.marks) ∙ e in
       let out : keep s i ≡ false = and_left _ _ (and_right (s.accepts i) _ (not_from_true _ hid)) in
       record { rest = h; same_rows = refl; seen = λ j k. let same : is_same j i ≡ true → keep s j ≡ keep s i = λ t. ap (keep s) (same_is j i t) in let one = among-one j i in grind arith; pending = passed_over s i _ _ out }
-  one s w h by_row i ready (known e) =
-      record { rest = h; same_rows = refl; seen = λ j k. let same : is_same j i ≡ true → set.contains w.seen j ≡ set.contains w.seen i = λ t. ap (set.contains w.seen) (same_is j i t) in let one = among-one j i in grind arith; pending = Joins-refl (order_of s) _ _ (grind (arith, append-nil (ids_of w.pending))) }
+  one s w h by_row i ready (known e) = record {
+    rest = h;
+    same_rows = refl;
+    seen = λ j k. let same : is_same j i ≡ true → set.contains w.seen j ≡ set.contains w.seen i = λ t. ap (set.contains w.seen) (same_is j i t) in let one = among-one j i in grind arith;
+    pending = Joins-refl (order_of s) _ _ (grind (arith, append-nil (ids_of w.pending)));
+  }
   one s w h by_row i ready (refused {predicate = q} is_new a) =
       let t : (false ≡ s.accepts i) × Becomes answers s.predicate q = asked_test s w h i a in
       asked_did s w h i q w.pending t.1 h.timed (passed_over s i _ _ (and_left _ _ (and_left _ _ (sym t.0))))
@@ -197,7 +201,8 @@ module _ {F P : Type 0} (objects : F → Objects) (faulty : F → ObjectId → T
       go becomes t decided (dropped e) = asked_did s w h i q w.pending becomes h.timed (passed_over s i (ids_of w.pending) (set.contains w.seen) (decided true e))
       go becomes t decided (enqueued {new = new} e holds) =
           asked_did s w h i q new becomes (timed_on s w h i time new t holds)
-          (Joins-trans (order_of s) _ _ _ (subst (λ ord. Joins ord (ids_of new) (ids_of w.pending ++ i ∷ [])) (same_order s w h) (Joins-holds (time_order w.parents w.sorting) w.pending new (record { id = i; time = time }) holds)) (Joins-refl (order_of s) _ _ (let kept = decided false e in let unseen = is_new.unseen in grind arith)))
+          (Joins-trans (order_of s) _ _ _ (subst (λ ord. Joins ord (ids_of new) (ids_of w.pending ++ i ∷ [])) (same_order s w h) (Joins-holds (time_order w.parents w.sorting) w.pending new (record { id = i; time = time }) holds))
+          (Joins-refl (order_of s) _ _ (let kept = decided false e in let unseen = is_new.unseen in grind arith)))
 
   joined : (s : Setting) (i : ObjectId) (ids : List ObjectId) (w mid : SimpleWalk F P) → Did s (i ∷ []) w mid →
       fresh (set.contains w.seen) (filter (keep s) (i ∷ [])) ++ fresh (set.contains mid.seen) (filter (keep s) ids) ≡ fresh (set.contains w.seen) (filter (keep s) (i ∷ ids))
@@ -216,12 +221,9 @@ module _ {F P : Type 0} (objects : F → Objects) (faulty : F → ObjectId → T
   both s i ids w mid v d e = record {
     rest = e.rest;
     same_rows = e.same_rows ∙ d.same_rows;
-    seen = λ j k. e.seen j k ∙ ap (λ b. is_among j ids || b) (d.seen j k) ∙ swapped (is_among j ids) (is_same j i) (set.contains w.seen j);
+    seen = λ j k. let after = e.seen j k in let before = d.seen j k in grind arith;
     pending = Joins-trans (order_of s) _ _ _ e.pending (Joins-trans (order_of s) _ _ _ (Joins-append (order_of s) _ _ (fresh (set.contains mid.seen) (filter (keep s) ids)) d.pending) (Joins-refl (order_of s) _ _ (append_assoc (ids_of w.pending) _ _ ∙ ap (λ xs. ids_of w.pending ++ xs) (joined s i ids w mid d))));
   }
-    where
-      swapped : (a b c : Bool) → (a || ((b || false) || c)) ≡ ((b || a) || c)
-      swapped a b c = grind arith
 
   pub all_treated : (s : Setting) (by_row : Bool) {w v : SimpleWalk F P} {ids : List ObjectId} {how : Treated} → TreatsAll objects faulty answers by_row w ids how v → how ≡ GoesOn → Stands s w → ((i : ObjectId) → Contains ids i → IsReady s w by_row i) → Did s ids w v
   all_treated s by_row (none {old = w}) e h ready = record { rest = h; same_rows = refl; seen = λ j k. refl; pending = Joins-refl (order_of s) _ _ (sym (append-nil _)) }
