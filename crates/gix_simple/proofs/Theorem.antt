@@ -45,11 +45,8 @@ Contains-filter p xs i h =
 
 distinct-filter : (p : ObjectId → Bool) (xs : List ObjectId) → AreDistinct xs → AreDistinct (filter p xs)
 distinct-filter p [] d = tt
-distinct-filter p (x ∷ xs) d = go (p x) (distinct-filter p xs d.1)
-  where
-    go : (b : Bool) → AreDistinct (filter p xs) → AreDistinct (cond b (x ∷ filter p xs) (filter p xs))
-    go true r = (λ c. d.0 (Contains-filter p xs x c).0, r)
-    go false r = r
+distinct-filter p (x ∷ xs) d =
+    elim (p x) as (λ b. AreDistinct (cond b (x ∷ filter p xs) (filter p xs))) [ true ↦ (λ c. d.0 (Contains-filter p xs x c).0, distinct-filter p xs d.1) | false ↦ distinct-filter p xs d.1 ]
 
 -- distinct ids that aren't old are all new
 fresh_distinct : (old : ObjectId → Bool) (xs : List ObjectId) → AreDistinct xs → ((i : ObjectId) → Contains xs i → old i ≡ false) → xs ≡ fresh old xs
