@@ -37,12 +37,9 @@ module _ {F P : Type 0} (objects : F → Objects) (faulty : F → ObjectId → T
   setting : Setting objects faulty answers
   setting = record { store = store; predicate = predicate; rows = []; parents = mode.All; named = λ i. []; sorting = sorting.BreadthFirst; begun = false; marks = set.empty; accepts = accepts; hidden = λ i. false; starts = tips; by_test = by_test; agreeing = λ row n. absurd (no_member row n) }
 
-  nothing : (i : ObjectId) → set.contains (set.empty {R = id_cmp}) i ≡ true → ⊥
-  nothing i e = false≢true (sym (set.contains-empty id_cmp i) ∙ e)
-
   stood : Stands objects faulty answers setting (bare store predicate)
   unfolding setting
-  stood = record { store = refl; parents = refl; sorting = refl; marks = refl; begun = refl; tips = refl; rows = inl refl; asked_of = itself; remembered = λ i e. absurd (nothing i e); timed = λ order some. cc }
+  stood = record { store = refl; parents = refl; sorting = refl; marks = refl; begun = refl; tips = refl; rows = inl refl; asked_of = itself; remembered = λ i e. absurd (false≢true (sym (set.contains-empty id_cmp i) ∙ e)); timed = λ order some. cc }
 
   did : Did objects faulty answers setting tips (bare store predicate) walk
   unfolding setting

@@ -160,12 +160,6 @@ module _ {F P : Type 0} (objects : F → Objects) (faulty : F → ObjectId → T
       (λ m. subst (λ x. x.time ≡ time_of (objects s.store) x.id) (only_member new p m) (t order some))
       (Contains-append_cases w.pending (new ∷ []) p (Contains-holds (time_order w.parents w.sorting) _ ps holds p n))
 
-  same_order : (s : Setting) (w : SimpleWalk F P) → Stands s w → time_order w.parents w.sorting ≡ order_of s
-  same_order s w h k = time_order (h.parents k) (h.sorting k)
-
-  same_limit : (s : Setting) (w : SimpleWalk F P) → Stands s w → cutoff w.parents w.sorting ≡ limit_of s
-  same_limit s w h k = cutoff (h.parents k) (h.sorting k)
-
   -- the id was asked about, and is seen now
   asked_did : (s : Setting) (w : SimpleWalk F P) → Stands s w → (i : ObjectId) (q : P) (ps : List Pending) → Becomes answers s.predicate q → ((order : CommitTimeOrder) → order_of s ≡ Some order → (p : Pending) → Contains ps p → p.time ≡ time_of (objects s.store) p.id)
       → Joins (order_of s) (ids_of ps) (ids_of w.pending ++ fresh (set.contains w.seen) (filter (keep s) (i ∷ []))) → Did s (i ∷ []) w (asked_walk objects faulty answers w i q ps)
@@ -194,14 +188,14 @@ module _ {F P : Type 0} (objects : F → Objects) (faulty : F → ObjectId → T
       let t : (true ≡ s.accepts i) × Becomes answers s.predicate q = asked_test s w h i a in
       let o : ((order : CommitTimeOrder) → order_of s ≡ Some order → time ≡ time_of (objects s.store) i) × (is_older time (limit_of s) ≡ is_older (time_of (objects s.store) i) (limit_of s)) = older_alike s w h by_row i time ready.rowed reads in
       let shown : s.hidden i ≡ false = sym ready.marked ∙ ap (λ m. set.contains m i) (sym h.marks) ∙ is_new.open_to in
-      let decided : (b : Bool) → is_older time (cutoff w.parents w.sorting) ≡ b → keep s i ≡ not b = λ b e. let yes = t.0 in let older = o.1 in let limit = same_limit s w h in grind arith in
+      let decided : (b : Bool) → is_older time (cutoff w.parents w.sorting) ≡ b → keep s i ≡ not b = λ b e. let yes = t.0 in let older = o.1 in let limit : cutoff w.parents w.sorting ≡ limit_of s = λ k. cutoff (h.parents k) (h.sorting k) in grind arith in
       go t.1 o.0 decided queues
     where
       go : Becomes answers s.predicate q → ((order : CommitTimeOrder) → order_of s ≡ Some order → time ≡ time_of (objects s.store) i) → ((b : Bool) → is_older time (cutoff w.parents w.sorting) ≡ b → keep s i ≡ not b) → {ps' : List Pending} → Enqueues objects faulty answers (time_order w.parents w.sorting) (cutoff w.parents w.sorting) w.pending i time ps' → Did s (i ∷ []) w (asked_walk objects faulty answers w i q ps')
       go becomes t decided (dropped e) = asked_did s w h i q w.pending becomes h.timed (passed_over s i (ids_of w.pending) (set.contains w.seen) (decided true e))
       go becomes t decided (enqueued {new = new} e holds) =
           asked_did s w h i q new becomes (timed_on s w h i time new t holds)
-          (Joins-trans (order_of s) _ _ _ (subst (λ ord. Joins ord (ids_of new) (ids_of w.pending ++ i ∷ [])) (same_order s w h) (Joins-holds (time_order w.parents w.sorting) w.pending new (record { id = i; time = time }) holds))
+          (Joins-trans (order_of s) _ _ _ (subst (λ ord. Joins ord (ids_of new) (ids_of w.pending ++ i ∷ [])) (λ k. time_order (h.parents k) (h.sorting k)) (Joins-holds (time_order w.parents w.sorting) w.pending new (record { id = i; time = time }) holds))
           (Joins-refl (order_of s) _ _ (let kept = decided false e in let unseen = is_new.unseen in grind arith)))
 
   joined : (s : Setting) (i : ObjectId) (ids : List ObjectId) (w mid : SimpleWalk F P) → Did s (i ∷ []) w mid →
