@@ -65,12 +65,7 @@ nobody s i = ⊥
 
 -- a store is a history of the rows that agree with it
 pub own_history : (objects : Objects) (faulty : ObjectId → Type 0) (rows : List GraphRow) → IsAgreeing objects rows → IsHistory objects rows objects
-own_history objects faulty rows agrees = record {
-  agreeing = λ row m.
-      let a = agrees row m in
-      record { whole = record { commit = a.whole.commit; stored = a.whole.stored }; tree = a.tree; time = a.time; places = a.places; parents = a.parents; finite = a.finite };
-  read = λ i commit r. r;
-}
+own_history objects faulty rows agrees = record { agreeing = agrees; read = λ i commit r. r }
 
 -- what a store reads is the history's
 pub in_history : {objects history : Objects} {rows : List GraphRow} → IsHistory objects rows history → (i : ObjectId) (ids : List ObjectId) → Reads objects i ids → Reads history i ids
@@ -105,9 +100,6 @@ module _ {F : Type 0} (objects : F → Objects) (store : F) (rows : List GraphRo
     }
 
 module _ {F : Type 0} (objects : F → Objects) (store : F) (history : Objects) (rows : List GraphRow) (tips hidden_tips : List ObjectId) where
-  abbrev pub next : ObjectId → List ObjectId
-  next = parents_of history
-
   abbrev InUse : Painter F → Type 0
   InUse = RowsInUse objects store rows
 
@@ -117,26 +109,26 @@ module _ {F : Type 0} (objects : F → Objects) (store : F) (history : Objects) 
 
   -- an id that isn't hidden, if it has a row
   abbrev pub IsOutside : ObjectId → Type 0
-  IsOutside i = (row : GraphRow) → row_of rows i ≡ Some row → Reaches next hidden_tips i → ⊥
+  IsOutside i = (row : GraphRow) → row_of rows i ≡ Some row → Reaches (parents_of history) hidden_tips i → ⊥
 
   -- a visible id above which the rows aren't dropped
   abbrev pub IsBorder : ObjectId → Type 0
-  IsBorder i = Contains tips i ⊎ ((c : ObjectId) × Reaches next tips c × IsOutside c × Contains (next c) i)
+  IsBorder i = Contains tips i ⊎ ((c : ObjectId) × Reaches (parents_of history) tips c × IsOutside c × Contains (parents_of history c) i)
 
   -- what is known of an id by its state, while the parents of a busy one are still to be met
   abbrev pub Fact : (Side → ObjectId → Type 0) → Painter F → ObjectId → State → Type 0
   Fact busy p i Unmet = Unit {0}
-  Fact busy p i Open = Reaches next tips i × IsWaiting p side.Visible i × (InUse p → IsBorder i)
-  Fact busy p i Read = Reaches next tips i × (busy side.Visible i ⊎ ((c : ObjectId) → Contains (next i) c → state_of p c ≢ Unmet)) × (InUse p → IsOutside i)
-  Fact busy p i Hides = Reaches next hidden_tips i × (busy side.Hidden i ⊎ (IsWaiting p side.Hidden i ⊎ ((c : ObjectId) → Contains (next i) c → state_of p c ≡ Hides)))
+  Fact busy p i Open = Reaches (parents_of history) tips i × IsWaiting p side.Visible i × (InUse p → IsBorder i)
+  Fact busy p i Read = Reaches (parents_of history) tips i × (busy side.Visible i ⊎ ((c : ObjectId) → Contains (parents_of history i) c → state_of p c ≢ Unmet)) × (InUse p → IsOutside i)
+  Fact busy p i Hides = Reaches (parents_of history) hidden_tips i × (busy side.Hidden i ⊎ (IsWaiting p side.Hidden i ⊎ ((c : ObjectId) → Contains (parents_of history i) c → state_of p c ≡ Hides)))
 
   -- what holds where the rows agree
   pub record Stands (busy : Side → ObjectId → Type 0) (p : Painter F) : Type 0 where
     pub facts : (i : ObjectId) → Fact busy p i (state_of p i)
     pub tidy : IsTidy p
-    pub reached : (q : Key × Entry) → Contains p.queue q → Reaches next (starts_of q.1.side) q.1.id
+    pub reached : (q : Key × Entry) → Contains p.queue q → Reaches (parents_of history) (starts_of q.1.side) q.1.id
     pub waits : (q : Key × Entry) → Contains p.queue q → q.1.side ≡ side.Hidden → state_of p q.1.id ≡ Hides
-    pub dropped : (InUse p → ⊥) → DropsBy next rows tips hidden_tips
+    pub dropped : (InUse p → ⊥) → DropsBy (parents_of history) rows tips hidden_tips
     pub read : (i : ObjectId) → row_of rows i ≡ None → state_of p i ≢ Unmet → (ids : List ObjectId) × Reads (objects store) i ids
 
   -- the tips and the hidden tips were met
@@ -153,14 +145,14 @@ module _ {F : Type 0} (objects : F → Objects) (store : F) (history : Objects) 
 
     -- what is met is known, and nobody is busy any more
     pub stands_meets : (busy : Side → ObjectId → Type 0) → IsSafe objects store rows p → Stands busy p
-        → ((i : ObjectId) → Contains ids i → Reaches next (starts_of s) i)
+        → ((i : ObjectId) → Contains ids i → Reaches (parents_of history) (starts_of s) i)
         → (s ≡ side.Visible → InUse p → (i : ObjectId) → Contains ids i → IsBorder i)
-        → ((t : Side) (i : ObjectId) → busy t i → (t ≡ s) × ((c : ObjectId) → Contains (next i) c → Contains ids c))
+        → ((t : Side) (i : ObjectId) → busy t i → (t ≡ s) × ((c : ObjectId) → Contains (parents_of history i) c → Contains ids c))
         → Stands nobody new
     stands_meets busy safe h reach border done = record {
       facts = λ i. fact i (m.states i) (h.facts i);
       tidy = m.tidies h.tidy;
-      reached = λ q c. ⊎_elim (λ o. h.reached q o) (λ a. subst (λ t. Reaches next (starts_of t) q.1.id) (sym a.1) (reach q.1.id a.0)) (m.adds q c);
+      reached = λ q c. ⊎_elim (λ o. h.reached q o) (λ a. subst (λ t. Reaches (parents_of history) (starts_of t) q.1.id) (sym a.1) (reach q.1.id a.0)) (m.adds q c);
       waits = λ q c e. ⊎_elim (λ o. (later (m.states q.1.id)).hidden_stays (h.waits q o e)) (λ a. (later (m.states q.1.id)).hidden_now (sym a.1 ∙ e) a.0) (m.adds q c);
       dropped = λ n. h.dropped (λ r. n (ap rows_in m.graph_stays ∙ r));
       read = λ i e n. ⊎_elim (h.read i e) (whole i e) ((later (m.states i)).was_met n);
@@ -173,8 +165,8 @@ module _ {F : Type 0} (objects : F → Objects) (store : F) (history : Objects) 
             (k.0, inr (⊎_elim (λ b c n. (later (m.states c)).met_now ((done side.Visible i b).1 c n)) (λ all c n. (later (m.states c)).met_stays (all c n)) k.1), λ r. k.2 (still_stand objects store rows m r))
         fact i (stays {s = Hides} f) k =
             (k.0, inr (⊎_elim (λ b. inr (λ c n. (later (m.states c)).hidden_now (sym (done side.Hidden i b).0) ((done side.Hidden i b).1 c n))) (λ o. ⊎_elim (λ w. inl (waiting_stays side.Hidden i w)) (λ all. inr (λ c n. (later (m.states c)).hidden_stays (all c n))) o) k.1))
-        fact i (opens v c w) k = (subst (λ t. Reaches next (starts_of t) i) v (reach i c), subst (λ t. IsWaiting new t i) v w, λ r. border v (still_stand objects store rows m r) i c)
-        fact i (covers v c w) k = (subst (λ t. Reaches next (starts_of t) i) v (reach i c), inr (inl (subst (λ t. IsWaiting new t i) v w)))
+        fact i (opens v c w) k = (subst (λ t. Reaches (parents_of history) (starts_of t) i) v (reach i c), subst (λ t. IsWaiting new t i) v w, λ r. border v (still_stand objects store rows m r) i c)
+        fact i (covers v c w) k = (subst (λ t. Reaches (parents_of history) (starts_of t) i) v (reach i c), inr (inl (subst (λ t. IsWaiting new t i) v w)))
 
         whole : (i : ObjectId) → row_of rows i ≡ None → IsWaiting new s i → (ids : List ObjectId) × Reads (objects store) i ids
         whole i e w =

@@ -23,9 +23,10 @@ use Rattle.gix_paint.specs.declared.Entry.{Entry}
 use Rattle.gix_paint.specs.declared.Painter.{Painter}
 use Rattle.gix_paint.specs.Painting.{DropsBy, generation_in, IsHistory}
 use Rattle.gix_paint.specs.Inside.Painter.{Open, Read, Hides, state_by, state_of, graph_in_use, Knows, by_row, by_store, IsWaiting, IsSettled, is_told, Pops}
+use Rattle.gix_revwalk.specs.Commits.{parents_of}
 use Rattle.gix_hash.specs.Reach.{Reaches, start, step}
 use Rattle.gix_revwalk.specs.RowParents.{ids_at}
-use Rattle.gix_paint.proofs.Invariant.{nobody, next, starts_of, RowsInUse, IsSafe, IsOutside, Fact, Stands, IsStarted}
+use Rattle.gix_paint.proofs.Invariant.{nobody, starts_of, RowsInUse, IsSafe, IsOutside, Fact, Stands, IsStarted}
 use Rattle.gix_paint.proofs.Keys.{told_below_top, IsBelow}
 use Rattle.gix_revwalk.proofs.ReadsWhole.{row_stands, parent_below, corrupt_row}
 use Rattle.gix_revwalk.proofs.Reached.{done_or_waits}
@@ -61,40 +62,37 @@ pub popped_there : {F : Type 0} {old new : Painter F} {top : Key × Entry} → P
 popped_there {new = new} {top = top} pops = Contains-permutation _ _ top (IsPermutation-sym _ _ pops.queue) (Contains-here top new.queue)
 
 module _ {F : Type 0} (objects : F → Objects) (store : F) (history : Objects) (rows : List GraphRow) (tips hidden_tips : List ObjectId) where
-  abbrev There : ObjectId → List ObjectId
-  There = next objects store history rows tips hidden_tips
-
-  pub reaches_either : (s : Side) (i : ObjectId) → Reaches There (starts_of objects store history rows tips hidden_tips s) i → Reaches There (tips ++ hidden_tips) i
+  pub reaches_either : (s : Side) (i : ObjectId) → Reaches (parents_of history) (starts_of objects store history rows tips hidden_tips s) i → Reaches (parents_of history) (tips ++ hidden_tips) i
   reaches_either side.Visible i (start m) = start (Contains-append_left tips hidden_tips i m)
   reaches_either side.Hidden i (start m) = start (Contains-append_right tips hidden_tips i m)
   reaches_either s i (step {c = c} q m) = step (reaches_either s c q) m
 
   -- a hidden id all of whose parents are
   abbrev IsDone : Painter F → ObjectId → Type 0
-  IsDone p i = (state_of p i ≡ Hides) × ((c : ObjectId) → Contains (There i) c → state_of p c ≡ Hides)
+  IsDone p i = (state_of p i ≡ Hides) × ((c : ObjectId) → Contains (parents_of history i) c → state_of p c ≡ Hides)
 
   hidden_so : (p : Painter F) → Stands objects store history rows tips hidden_tips nobody p → (i : ObjectId) → state_of p i ≡ Hides → IsDone p i ⊎ IsWaiting p side.Hidden i
   hidden_so p h i e =
       let f : Fact objects store history rows tips hidden_tips nobody p i Hides = subst (Fact objects store history rows tips hidden_tips nobody p i) e (h.facts i) in
       ⊎_elim (λ b. absurd b) (λ o. ⊎_elim (λ w. inr w) (λ all. inl (e, all)) o) f.1
 
-  pub hidden_from : (p : Painter F) → Stands objects store history rows tips hidden_tips nobody p → IsStarted objects store history rows tips hidden_tips p → (i : ObjectId) → Reaches There hidden_tips i
-      → IsDone p i ⊎ ((q : ObjectId) × IsWaiting p side.Hidden q × Reaches There (q ∷ []) i)
-  hidden_from p h started = done_or_waits There hidden_tips (IsWaiting p side.Hidden) (IsDone p) (λ i m. hidden_so p h i (started.hidden i m)) (λ c i d m. hidden_so p h i (d.1 i m))
+  pub hidden_from : (p : Painter F) → Stands objects store history rows tips hidden_tips nobody p → IsStarted objects store history rows tips hidden_tips p → (i : ObjectId) → Reaches (parents_of history) hidden_tips i
+      → IsDone p i ⊎ ((q : ObjectId) × IsWaiting p side.Hidden q × Reaches (parents_of history) (q ∷ []) i)
+  hidden_from p h started = done_or_waits (parents_of history) hidden_tips (IsWaiting p side.Hidden) (IsDone p) (λ i m. hidden_so p h i (started.hidden i m)) (λ c i d m. hidden_so p h i (d.1 i m))
 
   module _ (known : IsHistory (objects store) rows history) where
-    pub falls : (c i : ObjectId) (n : ℕ) → HasGeneration rows c n → Contains (There c) i → (m : ℕ) × HasGeneration rows i m × (m < n)
+    pub falls : (c i : ObjectId) (n : ℕ) → HasGeneration rows c n → Contains (parents_of history c) i → (m : ℕ) × HasGeneration rows i m × (m < n)
     falls c i n h m =
         let p : (r : GraphRow) × (row_of rows i ≡ Some r) × (r.generation < h.0.generation) = parent_below history rows known.agreeing c h.0 i h.1 m in
         (p.0.generation, (p.0, p.1, refl), (let e : h.0.generation ≡ n = h.2 in let l : p.0.generation < h.0.generation = p.2 in omega arith))
 
-    pub below : (q : ObjectId) (n : ℕ) → HasGeneration rows q n → (i : ObjectId) → Reaches There (q ∷ []) i → (m : ℕ) × HasGeneration rows i m × (m ≤ n) × ((q ≡ i) ⊎ (m < n))
-    below = told_below There (HasGeneration rows) falls
+    pub below : (q : ObjectId) (n : ℕ) → HasGeneration rows q n → (i : ObjectId) → Reaches (parents_of history) (q ∷ []) i → (m : ℕ) × HasGeneration rows i m × (m ≤ n) × ((q ≡ i) ⊎ (m < n))
+    below = told_below (parents_of history) (HasGeneration rows) falls
 
     -- before an entry's turn
     module _ (w : Painter F) (safe : IsSafe objects store rows w) where
       -- what a waiting id reaches has a row, and isn't above what waits
-      pub waits_above : RowsInUse objects store rows w → (n : ℕ) → IsBelow w n → (s : Side) (q i : ObjectId) → IsWaiting w s q → Reaches There (q ∷ []) i → (m : ℕ) × HasGeneration rows i m × (m ≤ n) × ((q ≡ i) ⊎ (m < n))
+      pub waits_above : RowsInUse objects store rows w → (n : ℕ) → IsBelow w n → (s : Side) (q i : ObjectId) → IsWaiting w s q → Reaches (parents_of history) (q ∷ []) i → (m : ℕ) × HasGeneration rows i m × (m ≤ n) × ((q ≡ i) ⊎ (m < n))
       waits_above r n low s q i waits path =
           let k : (m : ℕ) × (waits.0.0.generation ≡ Told m) × (m ≤ n) = low waits.0 waits.1 in
           let under : (m : ℕ) × HasGeneration rows i m × (m ≤ k.0) × ((q ≡ i) ⊎ (m < k.0)) = below q k.0 (subst (λ j. HasGeneration rows j k.0) waits.3 (told_row (safe.queued r waits.0 waits.1) k.0 k.1)) i path in
@@ -117,7 +115,7 @@ module _ {F : Type 0} (objects : F → Objects) (store : F) (history : Objects) 
             (hidden_from w h started top.1.id hidden)
 
         -- rows are dropped for the row of a greatest key, while an open id waits below
-        pub drop_reason : IsSome (graph_in_use w.source) → (IsSettled w → ⊥) → (row : GraphRow) → row_of rows top.1.id ≡ Some row → ids_at rows row.parents ≡ None → DropsBy There rows tips hidden_tips
+        pub drop_reason : IsSome (graph_in_use w.source) → (IsSettled w → ⊥) → (row : GraphRow) → row_of rows top.1.id ≡ Some row → ids_at rows row.parents ≡ None → DropsBy (parents_of history) rows tips hidden_tips
         drop_reason graph unsettled row e corrupt =
             let x : (i : ObjectId) × (set.contains w.frontier i ≡ true) = member_of w.frontier (λ none. unsettled (inr (graph, none, λ q c. ap is_told (all_below row e q c).1))) in
             let waits : state_of w x.0 ≡ Open = h.tidy x.0 x.1 in
@@ -128,7 +126,7 @@ module _ {F : Type 0} (objects : F → Objects) (store : F) (history : Objects) 
               row = row;
               present = ap (row_of rows) (sym stands.1) ∙ e;
               corrupt = corrupt_row history rows known.agreeing row stands.0 corrupt;
-              reached = subst (Reaches There (tips ++ hidden_tips)) stands.1 (reaches_either top.1.side top.1.id (h.reached top there));
+              reached = subst (Reaches (parents_of history) (tips ++ hidden_tips)) stands.1 (reaches_either top.1.side top.1.id (h.reached top there));
               bound = x.0;
               no_deeper = record {
                 at_boundary = ⊎_elim (λ t. inl t) (λ b. inr (b.0, b.1, (λ hidden. let k = over x.0 waits b.0 hidden b.3 in b.2 k.1.0 k.1.1 hidden), b.3)) (fact.2 r);
@@ -142,6 +140,6 @@ module _ {F : Type 0} (objects : F → Objects) (store : F) (history : Objects) 
             under_row c k = let told_as : generation_in (row_of rows c) ≡ k.0 = ap generation_in k.1.1 ∙ k.1.2 in let le : k.0 ≤ row.generation = k.2 in omega arith
 
             -- a hidden commit over an open id waits, or is below what waits
-            over : (x : ObjectId) → state_of w x ≡ Open → (c : ObjectId) → Reaches There hidden_tips c → Contains (There c) x → (m : ℕ) × HasGeneration rows c m × (m ≤ row.generation)
+            over : (x : ObjectId) → state_of w x ≡ Open → (c : ObjectId) → Reaches (parents_of history) hidden_tips c → Contains (parents_of history c) x → (m : ℕ) × HasGeneration rows c m × (m ≤ row.generation)
             over x waits c reached m =
                 ⊎_elim (λ d. let bad : Open ≡ Hides = sym waits ∙ d.1 x m in cc) (λ q. let k = waits_above r row.generation (all_below row e) side.Hidden q.0 c q.1 q.2 in (k.0, k.1, k.2)) (hidden_from w h started c reached)

@@ -18,18 +18,16 @@ use Rattle.gix_paint.specs.declared.Entry.{Entry}
 use Rattle.gix_paint.specs.declared.Painter.{Painter}
 use Rattle.gix_revwalk.specs.Agreeing.{IsCorrupt}
 use Rattle.gix_paint.specs.Painting.{IsHistory, IsOpenBelow, IsRead, shown_commit, hidden_commit, generation_in, Paints}
+use Rattle.gix_revwalk.specs.Commits.{parents_of}
 use Rattle.gix_hash.specs.Reach.{IsAtBoundary, Reaches, start, step}
 use Rattle.gix_paint.specs.Inside.Painter.{hides, hidden_of, State, Unmet, Open, Read, Hides, state_by, state_of, rows_in, graph_in_use, IsWaiting, IsSettled, is_told, Meets}
-use Rattle.gix_paint.proofs.Invariant.{contains-hidden, later, nobody, next, RowsInUse, IsSafe, Fact, Stands, IsStarted, stands_meets, safe_meets}
+use Rattle.gix_paint.proofs.Invariant.{contains-hidden, later, nobody, RowsInUse, IsSafe, Fact, Stands, IsStarted, stands_meets, safe_meets}
 use Rattle.gix_paint.proofs.KeptByTurn.{HasGeneration, one_generation, told_row, hidden_from, falls, below, waits_above}
 use Rattle.gix_paint.proofs.Order.{IsAbove, IsOrdered, HoldsOf, ordered_start}
 use Rattle.gix_hash.proofs.Ids.Membership.{no_member, Contains-here}
 use Rattle.gix_revwalk.proofs.ReadsWhole.{row_stands}
 
 module _ {F : Type 0} (objects : F → Objects) (store : F) (history : Objects) (rows : List GraphRow) (tips hidden_tips : List ObjectId) where
-  abbrev There : ObjectId → List ObjectId
-  There = next objects store history rows tips hidden_tips
-
   abbrev Holds : Painter F → Type 0
   Holds p = Stands objects store history rows tips hidden_tips nobody p
 
@@ -109,7 +107,7 @@ module _ {F : Type 0} (objects : F → Objects) (store : F) (history : Objects) 
 
     module _ (known : IsHistory (objects store) rows history) (h : Holds p) (started : Started p) where
       -- what waits has a row, and what it reaches has one
-      rowed : IsSome (graph_in_use p.source) → ((q : Key × Entry) → Contains p.queue q → is_told q.0.generation ≡ true) → (q i : ObjectId) → IsWaiting p side.Hidden q → Reaches There (q ∷ []) i → (row : GraphRow) × (row_of rows i ≡ Some row)
+      rowed : IsSome (graph_in_use p.source) → ((q : Key × Entry) → Contains p.queue q → is_told q.0.generation ≡ true) → (q i : ObjectId) → IsWaiting p side.Hidden q → Reaches (parents_of history) (q ∷ []) i → (row : GraphRow) × (row_of rows i ≡ Some row)
       rowed some told q i w path =
           let k : (n : ℕ) × (w.0.0.generation ≡ Told n) = told_some w.0.0.generation (told w.0 w.1) in
           let b = below objects store history rows tips hidden_tips known q k.0 (subst (λ j. HasGeneration rows j k.0) w.3 (told_row (safe.queued (in_use some) w.0 w.1) k.0 k.1)) i path in
@@ -120,7 +118,7 @@ module _ {F : Type 0} (objects : F → Objects) (store : F) (history : Objects) 
           told_some Infinite e = cc
 
       -- a met id that hidden tips reach is hidden
-      all_hidden : (i : ObjectId) → state_of p i ≢ Unmet → Reaches There hidden_tips i → state_of p i ≡ Hides
+      all_hidden : (i : ObjectId) → state_of p i ≢ Unmet → Reaches (parents_of history) hidden_tips i → state_of p i ≡ Hides
       all_hidden i met hidden =
           ⊎_elim (λ k.
           absurd (⊎_elim (λ d. let bad : Read ≡ Hides = sym k.0 ∙ d.0 in cc)
@@ -129,29 +127,29 @@ module _ {F : Type 0} (objects : F → Objects) (store : F) (history : Objects) 
           (λ k. k.0) (settled_state h i met)
 
       -- what tips reach outside what is hidden is met, and so are its parents
-      all_met : (c : ObjectId) → Reaches There tips c → (Reaches There hidden_tips c → ⊥) → (state_of p c ≢ Unmet) × ((i : ObjectId) → Contains (There c) i → state_of p i ≢ Unmet)
+      all_met : (c : ObjectId) → Reaches (parents_of history) tips c → (Reaches (parents_of history) hidden_tips c → ⊥) → (state_of p c ≢ Unmet) × ((i : ObjectId) → Contains (parents_of history c) i → state_of p i ≢ Unmet)
       all_met c r out = (met c r out, λ i m. onward c (met c r out) out i m)
         where
-          onward : (c : ObjectId) → state_of p c ≢ Unmet → (Reaches There hidden_tips c → ⊥) → (i : ObjectId) → Contains (There c) i → state_of p i ≢ Unmet
+          onward : (c : ObjectId) → state_of p c ≢ Unmet → (Reaches (parents_of history) hidden_tips c → ⊥) → (i : ObjectId) → Contains (parents_of history c) i → state_of p i ≢ Unmet
           onward c met out i m = ⊎_elim (λ k. ⊎_elim (λ b. absurd b) (λ all. all i m) k.1.1) (λ k. absurd (out k.1.0)) (settled_state h c met)
 
-          met : (c : ObjectId) → Reaches There tips c → (Reaches There hidden_tips c → ⊥) → state_of p c ≢ Unmet
+          met : (c : ObjectId) → Reaches (parents_of history) tips c → (Reaches (parents_of history) hidden_tips c → ⊥) → state_of p c ≢ Unmet
           met c (start m) out = started.shown c m
           met c (step {c = d} r m) out = onward d (met d r (λ hidden. out (step hidden m))) (λ hidden. out (step hidden m)) c m
 
-      at_met : (i : ObjectId) → IsAtBoundary There tips hidden_tips i → state_of p i ≢ Unmet
+      at_met : (i : ObjectId) → IsAtBoundary (parents_of history) tips hidden_tips i → state_of p i ≢ Unmet
       at_met i at = ⊎_elim (λ t. started.shown i t) (λ b. (all_met b.0 b.1 b.2).1 i b.3) at
 
-      pub whole : (i : ObjectId) → IsAtBoundary There tips hidden_tips i → Reaches There hidden_tips i → set.contains (hidden_of p.marks) i ≡ true
+      pub whole : (i : ObjectId) → IsAtBoundary (parents_of history) tips hidden_tips i → Reaches (parents_of history) hidden_tips i → set.contains (hidden_of p.marks) i ≡ true
       whole i at hidden = let marked = contains-hidden p.marks i in let e : state_of p i ≡ Hides = all_hidden i (at_met i at) hidden in grind arith
 
-      pub sound : (i : ObjectId) → set.contains (hidden_of p.marks) i ≡ true → Reaches There hidden_tips i
+      pub sound : (i : ObjectId) → set.contains (hidden_of p.marks) i ≡ true → Reaches (parents_of history) hidden_tips i
       sound i c =
           let e : state_of p i ≡ Hides = (let marked = contains-hidden p.marks i in grind arith) in
           (subst (Known i) e (h.facts i)).0
 
       -- nothing without a row waits, and all of it is met
-      pub all_read : (i : ObjectId) → Reaches There (tips ++ hidden_tips) i → row_of rows i ≡ None → state_of p i ≢ Unmet
+      pub all_read : (i : ObjectId) → Reaches (parents_of history) (tips ++ hidden_tips) i → row_of rows i ≡ None → state_of p i ≢ Unmet
       all_read i (start m) e = ⊎_elim (λ t. started.shown i t) (λ t. subst (λ s. s ≢ Unmet) (sym (started.hidden i t)) (λ k. cc)) (Contains-append_cases tips hidden_tips i m)
       all_read i (step {c = c} r m) e =
           ⊎_elim (λ k. ⊎_elim (λ b. absurd b) (λ all. all i m) k.1.1)
@@ -173,7 +171,8 @@ module _ {F : Type 0} (objects : F → Objects) (store : F) (history : Objects) 
       -- rows that are left had no corrupt one among those that had to be read
       module _ (ordered : IsOrdered objects store history rows tips hidden_tips p) (stands : RowsInUse objects store rows p) where
         -- an id below the greatest that waits wasn't taken
-        not_above : (i : ObjectId) (row : GraphRow) → row_of rows i ≡ Some row → (q : ObjectId) → IsWaiting p side.Hidden q → Reaches There (q ∷ []) i → (bound : ObjectId) → generation_in (row_of rows bound) < row.generation → IsAbove objects store history rows tips hidden_tips p bound → ⊥
+        not_above : (i : ObjectId) (row : GraphRow) → row_of rows i ≡ Some row → (q : ObjectId) → IsWaiting p side.Hidden q → Reaches (parents_of history) (q ∷ []) i
+            → (bound : ObjectId) → generation_in (row_of rows bound) < row.generation → IsAbove objects store history rows tips hidden_tips p bound → ⊥
         not_above i row e q w path bound lower above = go (row_of rows bound) refl
           where
             go : (o : Option GraphRow) → row_of rows bound ≡ o → ⊥
@@ -185,12 +184,12 @@ module _ {F : Type 0} (objects : F → Objects) (store : F) (history : Objects) 
                 let most : under.0 ≤ other.generation = under.2 in
                 omega arith
 
-        not_open : (i : ObjectId) (row : GraphRow) → row_of rows i ≡ Some row → (q : ObjectId) → IsWaiting p side.Hidden q → Reaches There (q ∷ []) i → (bound : ObjectId) → IsOpenBelow There rows tips hidden_tips row.generation bound → ⊥
+        not_open : (i : ObjectId) (row : GraphRow) → row_of rows i ≡ Some row → (q : ObjectId) → IsWaiting p side.Hidden q → Reaches (parents_of history) (q ∷ []) i → (bound : ObjectId) → IsOpenBelow (parents_of history) rows tips hidden_tips row.generation bound → ⊥
         not_open i row e q w path bound opened =
             ⊎_elim (λ k. not_above i row e q w path bound opened.below (ordered.shown bound k.0).0)
             (λ k. ⊎_elim opened.no_tip (λ c. not_above i row e q w path c.0 (opened.children_below c.0 c.1 c.2) c.3) (ordered.hidden bound k.0)) (settled_state h bound (at_met bound opened.at_boundary))
 
-        keeps : (i : ObjectId) (row : GraphRow) → row_of rows i ≡ Some row → IsRead There rows tips hidden_tips i row.generation → IsCorrupt row → ⊥
+        keeps : (i : ObjectId) (row : GraphRow) → row_of rows i ≡ Some row → IsRead (parents_of history) rows tips hidden_tips i row.generation → IsCorrupt row → ⊥
         keeps i row e (shown_commit reached out) corrupt = ⊎_elim (λ k. (ordered.shown i k.0).1 stands row e corrupt) (λ k. out k.1.0) (settled_state h i (all_met i reached out).0)
         keeps i row e (hidden_commit {bound = bound} reached opened) corrupt =
             ⊎_elim (λ d. ⊎_elim (λ w. not_open i row e i w (start (Contains-here i [])) bound opened) (λ sound. sound stands row e corrupt) (ordered.sound i d.0)) (λ q. not_open i row e q.0 q.1 q.2 bound opened)

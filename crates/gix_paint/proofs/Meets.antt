@@ -8,6 +8,7 @@ use Rattle.std.proofs.lemmas.List.Elements.{Contains-append_left, Contains-appen
 use Rattle.std.proofs.lemmas.List.Sorted.{Contains-permutation, length_permutation}
 use Rattle.std.specs.FinMap as map_of
 use Rattle.std.specs.FinSet as set
+use Rattle.std.proofs.Math.Path.{transport}
 use Rattle.gix_hash.specs.declared.ObjectId.{ObjectId}
 use Rattle.gix_hash.specs.Id.{is_same, is_among}
 use Rattle.gix_object.specs.Object.{Objects}
@@ -70,13 +71,10 @@ module _ {F : Type 0} (objects : F → Objects) where
     graph_stays = b.graph_stays ∙ a.graph_stays;
     states = λ i. becomes_both (Contains-append_cases xs ys i) (Contains-append_left xs ys i) (Contains-append_right xs ys i) (λ w. (w.0, b.keeps w.0 w.1, w.2, w.3)) (a.states i) (b.states i);
     keeps = λ q c. b.keeps q (a.keeps q c);
-    adds = λ q c. ⊎_elim (λ o. ⊎_elim (λ e. inl e) (λ n. inr (Contains-append_left xs ys q.1.id n.0, n.1, n.2)) (a.adds q o)) (λ n. inr (Contains-append_right xs ys q.1.id n.0, n.1, known q n.2)) (b.adds q c);
+    adds = λ q c. ⊎_elim (λ o. ⊎_elim (λ e. inl e) (λ n. inr (Contains-append_left xs ys q.1.id n.0, n.1, n.2)) (a.adds q o)) (λ n. inr (Contains-append_right xs ys q.1.id n.0, n.1, transport (λ k. IsQueued (objects (a.objects_stay k).now) (rows_in (a.graph_stays k)) q) n.2)) (b.adds q c);
     tidies = λ t. b.tidies (a.tidies t);
     spends = λ named h. Rattle.std.proofs.Math.Nat.le_trans (b.spends named (λ i c. h i (Contains-append_right xs ys i c))) (a.spends named (λ i c. h i (Contains-append_left xs ys i c)));
   }
-    where
-      known : (q : Key × Entry) → IsQueued (objects mid.source.objects.now) (rows_in (graph_in_use mid.source)) q → IsQueued (objects p.source.objects.now) (rows_in (graph_in_use p.source)) q
-      known q h = subst (λ g. IsQueued (objects p.source.objects.now) (rows_in g) q) a.graph_stays (subst (λ o. IsQueued (objects o.now) (rows_in (graph_in_use mid.source)) q) a.objects_stay h)
 
   -- an id is marked and put into the queue
   module _ (on : Side) (i : ObjectId) (p mid new : Painter F) (source : mid.source ≡ p.source) (marks : mid.marks ≡ map_of.insert p.marks i on) (queue : mid.queue ≡ p.queue) (q : Queues objects mid i on new) where
@@ -173,8 +171,7 @@ module _ {F : Type 0} (objects : F → Objects) (faulty : F → ObjectId → Typ
       left_step {mid} m = record {
         meets = λ {new} n. h.meets (subst (λ xs. Meets objects on xs p new) (sym first) (meets_then objects (i ∷ []) rest m n));
         fails = λ why f. h.fails why (λ n.
-            let k = subst (λ g. FailsAmong (objects p.source.objects.now) (faulty p.source.objects.now) (rows_in g) rest why) m.graph_stays
-            (subst (λ o. FailsAmong (objects o.now) (faulty o.now) (rows_in (graph_in_use mid.source)) rest why) m.objects_stay f) n in
+            let k = transport (λ j. FailsAmong (objects (m.objects_stay j).now) (faulty (m.objects_stay j).now) (rows_in (m.graph_stays j)) rest why) f n in
             (k.0, subst (λ xs. Contains xs k.0) (sym first) (Contains-there k.0 i rest k.1), k.2, k.3));
       }
 
@@ -188,7 +185,5 @@ module _ {F : Type 0} (objects : F → Objects) (faulty : F → ObjectId → Typ
   treats {old} {begun} {mid} entry ids items turn takes graph same_objects marks frontier queue gives same met =
       reads turn
       (record { objects_stay = same_objects ∙ takes.objects_stay; marks_stay = marks ∙ takes.marks_stay; queue_stays = queue ∙ takes.queue_stays; frontier = frontier ∙ takes.frontier })
-      (subst (λ xs. GivesParents (objects old.source.objects.now) (graph_in_use old.source) entry xs (graph_in_use mid.source)) (sym same)
-      (subst (λ g. GivesParents (objects old.source.objects.now) g entry items (graph_in_use mid.source)) graph
-      (subst (λ o. GivesParents (objects o.now) (graph_in_use begun.source) entry items (graph_in_use mid.source)) takes.objects_stay gives)))
+      (transport (λ k. GivesParents (objects (takes.objects_stay k).now) (graph k) entry (sym same k) (graph_in_use mid.source)) gives)
       met

@@ -13,12 +13,13 @@ use Rattle.gix_paint.specs.declared.source.Generation.TheVariants.{Told}
 use Rattle.gix_paint.specs.declared.source.Key.{Key}
 use Rattle.gix_paint.specs.declared.Entry.{Entry}
 use Rattle.gix_paint.specs.declared.Painter.{Painter}
+use Rattle.gix_revwalk.specs.Commits.{parents_of}
 use Rattle.gix_hash.specs.Reach.{Reaches}
 use Rattle.gix_paint.specs.Painting.{IsHistory}
 use Rattle.gix_paint.specs.Inside.Painter.{State, Unmet, Read, Hides, state_of, Becomes, stays, opens, covers, rows_in, graph_in_use, by_row, by_store, drops, IsQueued, IsWaiting, Meets, IsSettled, GivesParents, brought, looked_up, is_turn, is_turn_on, Pops}
 use Rattle.gix_paint.specs.Inside.Painter as painter
 use Rattle.gix_revwalk.specs.RowParents.{ids_at}
-use Rattle.gix_paint.proofs.Invariant.{later, nobody, next, starts_of, RowsInUse, IsSafe, Stands, IsStarted, still_stand}
+use Rattle.gix_paint.proofs.Invariant.{later, nobody, starts_of, RowsInUse, IsSafe, Stands, IsStarted, still_stand}
 use Rattle.gix_revwalk.proofs.Rows.{IsSoundRow, unread_fault}
 use Rattle.gix_paint.proofs.Keys.{IsBelow}
 use Rattle.gix_paint.proofs.KeptByTurn.{HasGeneration, told_key, told_row, falls, all_below, popped_there}
@@ -38,9 +39,6 @@ given_sound {entry = entry} rows (looked_up n (by_store e r)) now was none row k
 given_sound {entry = entry} rows (looked_up n (drops e f r)) now was none row k corrupt = let bad : None ≡ Some row = ap (λ rs. row_of rs entry.id) now ∙ k in cc
 
 module _ {F : Type 0} (objects : F → Objects) (store : F) (history : Objects) (rows : List GraphRow) (tips hidden_tips : List ObjectId) where
-  abbrev There : ObjectId → List ObjectId
-  There = next objects store history rows tips hidden_tips
-
   abbrev InUse : Painter F → Type 0
   InUse = RowsInUse objects store rows
 
@@ -51,7 +49,7 @@ module _ {F : Type 0} (objects : F → Objects) (store : F) (history : Objects) 
   pub record IsOrdered (p : Painter F) : Type 0 where
     pub shown : (i : ObjectId) → state_of p i ≡ Read → IsAbove p i × (InUse p → IsSoundRow rows i)
     -- what made an id hidden
-    pub hidden : (i : ObjectId) → state_of p i ≡ Hides → Contains hidden_tips i ⊎ ((c : ObjectId) × Reaches There hidden_tips c × Contains (There c) i × IsAbove p c)
+    pub hidden : (i : ObjectId) → state_of p i ≡ Hides → Contains hidden_tips i ⊎ ((c : ObjectId) × Reaches (parents_of history) hidden_tips c × Contains (parents_of history c) i × IsAbove p c)
     pub sound : (i : ObjectId) → state_of p i ≡ Hides → IsWaiting p side.Hidden i ⊎ (InUse p → IsSoundRow rows i)
 
   -- at the start the hidden tips alone are hidden, and nothing was read
@@ -84,11 +82,11 @@ module _ {F : Type 0} (objects : F → Objects) (store : F) (history : Objects) 
         back : InUse new → InUse w
         back r = (graph_after objects store history rows tips hidden_tips top pops safe (reread objects top pops t)).1 (still_stand objects store rows t.met r)
 
-        parent : (i : ObjectId) → Contains t.ids i → Contains (There top.1.id) i
+        parent : (i : ObjectId) → Contains t.ids i → Contains (parents_of history top.1.id) i
         parent i c = (named objects store history rows tips hidden_tips top pops safe known t i c).1
 
-        reached : top.1.side ≡ side.Hidden → Reaches There hidden_tips top.1.id
-        reached on = subst (λ s. Reaches There (starts_of objects store history rows tips hidden_tips s) top.1.id) on (h.reached top (popped_there pops))
+        reached : top.1.side ≡ side.Hidden → Reaches (parents_of history) hidden_tips top.1.id
+        reached on = subst (λ s. Reaches (parents_of history) (starts_of objects store history rows tips hidden_tips s) top.1.id) on (h.reached top (popped_there pops))
 
         -- what is added is below the entry that was taken
         keeps_below : InUse new → (n : ℕ) → IsBelow w n → IsBelow new n

@@ -17,9 +17,10 @@ use Rattle.gix_paint.specs.declared.Entry.{Entry}
 use Rattle.gix_paint.specs.declared.Painter.{Painter}
 use Rattle.gix_paint.specs.Painting.{IsHistory, DropsBy}
 use Rattle.gix_paint.specs.Inside.Painter.{hides, State, Unmet, Open, Read, Hides, state_by, state_of, rows_in, graph_in_use, Reads, by_row, by_store, drops, IsWaiting, IsSettled, GivesParents, brought, looked_up, Takes, is_turn, is_turn_on, frontier_without, Meets, TreatsEntry, skips, reads, Pops}
+use Rattle.gix_revwalk.specs.Commits.{parents_of}
 use Rattle.gix_hash.specs.Reach.{Reaches, step}
 use Rattle.gix_revwalk.specs.RowParents.{ids_at}
-use Rattle.gix_paint.proofs.Invariant.{in_history, reads_parents, nobody, next, starts_of, RowsInUse, IsSafe, IsOutside, Fact, Stands, IsStarted, stands_meets, safe_meets, started_meets}
+use Rattle.gix_paint.proofs.Invariant.{in_history, reads_parents, nobody, starts_of, RowsInUse, IsSafe, IsOutside, Fact, Stands, IsStarted, stands_meets, safe_meets, started_meets}
 use Rattle.gix_paint.proofs.KeptByTurn.{popped_there, taken_outside, drop_reason}
 use Rattle.gix_revwalk.proofs.ReadsWhole.{row_parents}
 use Rattle.gix_hash.proofs.Ids.Membership.{id_total, same_is, same_itself, Contains-there, Contains-cons_cases, no_member}
@@ -61,9 +62,6 @@ module _ {F : Type 0} (objects : F → Objects) {w v : Painter F} (top : Key × 
   reread t = ⊎_elim (λ g. given_graph g.1) (λ n. inl n.2) t.gives
 
 module _ {F : Type 0} (objects : F → Objects) (store : F) (history : Objects) (rows : List GraphRow) (tips hidden_tips : List ObjectId) where
-  abbrev There : ObjectId → List ObjectId
-  There = next objects store history rows tips hidden_tips
-
   abbrev Known : (Side → ObjectId → Type 0) → Painter F → ObjectId → State → Type 0
   Known = Fact objects store history rows tips hidden_tips
 
@@ -132,7 +130,7 @@ module _ {F : Type 0} (objects : F → Objects) (store : F) (history : Objects) 
       read = λ q c. safe.read q (within q c);
     }
 
-    pub stands_takes : Stands objects store history rows tips hidden_tips nobody w → (InUse mid → InUse w) → ((InUse mid → ⊥) → DropsBy There rows tips hidden_tips)
+    pub stands_takes : Stands objects store history rows tips hidden_tips nobody w → (InUse mid → InUse w) → ((InUse mid → ⊥) → DropsBy (parents_of history) rows tips hidden_tips)
         → (InUse w → state_of w top.1.id ≢ Hides → IsOutside objects store history rows tips hidden_tips top.1.id)
         → Stands objects store history rows tips hidden_tips Busy mid
     stands_takes h back dropped outside = record {
@@ -169,7 +167,7 @@ module _ {F : Type 0} (objects : F → Objects) (store : F) (history : Objects) 
 
     module _ (known : IsHistory (objects store) rows history) where
       -- the parents that are read are the commit's
-      pub given_parents : {after : Option (Bor (List GraphRow))} {ids : List ObjectId} → GivesParents (objects v.source.objects.now) (graph_in_use v.source) top.1 ids after → ids ≡ There top.1.id
+      pub given_parents : {after : Option (Bor (List GraphRow))} {ids : List ObjectId} → GivesParents (objects v.source.objects.now) (graph_in_use v.source) top.1 ids after → ids ≡ parents_of history top.1.id
       given_parents {ids = ids} (brought e) = reads_parents history top.1.id ids (in_history known top.1.id ids (safe.brings top (popped_there pops) ids e))
       given_parents {ids = ids} (looked_up n (by_row {row = row} e f)) =
           let graph : rows_in (graph_in_use v.source) ≡ rows_in (graph_in_use w.source) = ap (λ s. rows_in (graph_in_use s)) pops.source in
@@ -180,7 +178,7 @@ module _ {F : Type 0} (objects : F → Objects) (store : F) (history : Objects) 
 
       -- rows that were in use and are in use no more were dropped for a reason
       pub dropped_so : {after : Option (Bor (List GraphRow))} (h : Stands objects store history rows tips hidden_tips nobody w) → IsStarted objects store history rows tips hidden_tips w → (IsSettled w → ⊥)
-          → IsReread (graph_in_use v.source) top.1.id after → (rows_in after ≡ rows → ⊥) → DropsBy There rows tips hidden_tips
+          → IsReread (graph_in_use v.source) top.1.id after → (rows_in after ≡ rows → ⊥) → DropsBy (parents_of history) rows tips hidden_tips
       dropped_so h started unsettled (inl e) gone = h.dropped (λ r. gone (ap rows_in (e ∙ ap graph_in_use pops.source) ∙ r))
       dropped_so h started unsettled (inr d) gone =
           let e : row_of (rows_in (graph_in_use w.source)) top.1.id ≡ Some d.1 = ap (λ g. row_of (rows_in (graph_in_use g)) top.1.id) (sym pops.source) ∙ d.2 in
@@ -194,10 +192,10 @@ module _ {F : Type 0} (objects : F → Objects) (store : F) (history : Objects) 
 
       module _ {new : Painter F} (t : IsTurn objects top pops new) where
         -- what is met are the commit's parents, and all of them where it is the entry's turn
-        pub named : (i : ObjectId) → Contains t.ids i → (is_turn top.1 w.frontier ≡ true) × Contains (There top.1.id) i
+        pub named : (i : ObjectId) → Contains t.ids i → (is_turn top.1 w.frontier ≡ true) × Contains (parents_of history top.1.id) i
         named i c = ⊎_elim (λ g. (g.0, subst (λ xs. Contains xs i) (given_parents g.1) c)) (λ n. absurd (no_member i (subst (λ xs. Contains xs i) n.1 c))) t.gives
 
-        all_named : is_turn top.1 w.frontier ≡ true → (i : ObjectId) → Contains (There top.1.id) i → Contains t.ids i
+        all_named : is_turn top.1 w.frontier ≡ true → (i : ObjectId) → Contains (parents_of history top.1.id) i → Contains t.ids i
         all_named acts i c = ⊎_elim (λ g. subst (λ xs. Contains xs i) (sym (given_parents g.1)) c) (λ n. let bad : true ≡ false = sym acts ∙ n.0 in cc) t.gives
 
         -- a turn keeps what holds
@@ -211,11 +209,11 @@ module _ {F : Type 0} (objects : F → Objects) (store : F) (history : Objects) 
                   (λ i c. step (h.reached top (popped_there pops)) (named i c).1)
                   (λ on r i c. inr (
                     top.1.id,
-                    subst (λ s. Reaches There (starts_of objects store history rows tips hidden_tips s) top.1.id) on (h.reached top (popped_there pops)),
+                    subst (λ s. Reaches (parents_of history) (starts_of objects store history rows tips hidden_tips s) top.1.id) on (h.reached top (popped_there pops)),
                     outside (after.1 r) (visible_open h (named i c).0 on),
                     (named i c).1,
                   ))
-                  (λ s i b. (b.1, λ c m. all_named b.0 c (subst (λ j. Contains (There j) c) b.2 m))),
+                  (λ s i b. (b.1, λ c m. all_named b.0 c (subst (λ j. Contains (parents_of history j) c) b.2 m))),
               started_meets objects store history rows tips hidden_tips t.met (started_takes top pops t.takes h started),
             )
           where

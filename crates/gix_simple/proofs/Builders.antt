@@ -27,13 +27,7 @@ use Rattle.gix_hash.proofs.Lists.{filter_within}
 use Rattle.gix_revwalk.proofs.NewIds.{times, among-filter, among_times, times_none, times_once}
 use Rattle.gix_simple.proofs.Moves.{asking, fewer_filter}
 use Rattle.gix_simple.proofs.NeverTwice.{IsSole, asked_sole, drawn_once}
-use Rattle.gix_simple.proofs.MadeOfTips.{once_or_never, is_new_walk, pending_is}
-
-in_force : (m : Parents) (by : Sorting) (order : CommitTimeOrder) → time_order m by ≡ Some order → time_order mode.All by ≡ Some order
-in_force m by order e = grind arith
-
-positive : (b : Bool) (n : ℕ) → 1 ≤ n → n + 0 ≤ cond b 1 0 → b ≡ true
-positive b n h k = grind arith
+use Rattle.gix_simple.proofs.MadeOfTips.{is_new_walk, pending_is}
 
 module _ (objects : Objects) where
   -- of pending commits with their times, those whose time is of some kind
@@ -144,13 +138,13 @@ module _ {F P : Type 0} (objects : F → Objects) (faulty : F → ObjectId → T
 
   fresh_of : (walk : SimpleWalk F P) → Built walk → IsSole objects faulty answers [] walk → IsFresh objects walk accepts
   fresh_of walk b sole = record {
-    distinct = times_once (ids_of walk.pending) (λ i. let k : times i (ids_of walk.pending) + 0 ≤ cond (set.contains walk.seen i) 1 0 = sole i in let n = once_or_never (set.contains walk.seen i) in omega arith);
-    pending_seen = λ i c. positive (set.contains walk.seen i) _ (among_times i (ids_of walk.pending) (among_from i (ids_of walk.pending) c)) (sole i);
+    distinct = times_once (ids_of walk.pending) (λ i. let k : times i (ids_of walk.pending) + 0 ≤ cond (set.contains walk.seen i) 1 0 = sole i in grind arith);
+    pending_seen = λ i c. let some = among_times i (ids_of walk.pending) (among_from i (ids_of walk.pending) c) in let once = sole i in grind arith;
     seen = λ i h. ⊎_elim (λ e. inl (among_is i (ids_of walk.pending) e)) inr (b.seen i h);
     remembered = b.remembered;
     shown = b.shown;
     unbegun = b.unbegun;
-    timed = λ order e. b.timely order (in_force walk.parents walk.sorting order e);
+    timed = λ order e. b.timely order (grind arith);
   }
 
   built_all : (tips : List ObjectId) {walk : SimpleWalk F P} → IsBuilt objects faulty answers store predicate tips walk → Built walk

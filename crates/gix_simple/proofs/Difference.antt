@@ -42,9 +42,6 @@ use Rattle.gix_simple.proofs.Faultless.{only_commits}
 use Rattle.gix_simple.proofs.MadeOfTips.{is_new_walk, fresh_among}
 use Rattle.gix_simple.proofs.ReachDecided.{reach_test}
 
-recent_all : (objects : Objects) (ps : List Pending) → ids_of (recent None (timed objects ps)) ≡ ids_of ps
-recent_all objects ps = recent_ids objects None ps ∙ all_kept (ids_of ps)
-
 pub whole_from : (objects : Objects) (i : ObjectId) → IsSome (commit_at objects i) → ReadsWhole objects i
 whole_from objects i h = go (commit_at objects i) refl h
   where
@@ -113,7 +110,7 @@ module _ {F P : Type 0} (objects : F → Objects) (faulty : F → ObjectId → T
         (new.pending ∙ ap (new_ids (λ i. false)) (filter_all (λ i. true) tips (λ i c. refl)), ap (cutoff mode.All) new.breadth_first)
     uncut_all (breadth_first b) u = ((uncut_all b u).0, refl)
     uncut_all (by_time {walk = walk} {by = by} b s) u =
-        (ap ids_of s.pending ∙ ap (λ limit. ids_of (recent limit (timed (objects walk.store) walk.pending))) u.1 ∙ recent_all (objects walk.store) walk.pending ∙ (uncut_all b u.0).0, ap (λ w. cutoff mode.All w.sorting) s.others ∙ u.1)
+        (ap ids_of s.pending ∙ ap (λ limit. ids_of (recent limit (timed (objects walk.store) walk.pending))) u.1 ∙ recent_ids (objects walk.store) None walk.pending ∙ all_kept (ids_of walk.pending) ∙ (uncut_all b u.0).0, ap (λ w. cutoff mode.All w.sorting) s.others ∙ u.1)
     uncut_all (hides b) u = uncut_all b u
     uncut_all (walks b) u = uncut_all b u
     uncut_all (reads b) u = uncut_all b u

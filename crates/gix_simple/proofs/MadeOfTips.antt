@@ -17,12 +17,9 @@ use Rattle.gix_simple.specs.Laws.{IsFresh, IsNewWalk}
 use Rattle.gix_revwalk.proofs.NewIds.{times, fresh, times_among, times-fresh, among-filter, times_once, among_times}
 use Rattle.gix_simple.proofs.Treated.{Setting, Stands, Did, keep, all_treated}
 
-pub once_or_never : (b : Bool) → cond b 1 0 ≤ 1
-once_or_never b = grind arith
-
 -- new ids are distinct
 fresh_once : (s : ObjectId → Bool) (xs : List ObjectId) → AreDistinct (fresh s xs)
-fresh_once s xs = times_once (fresh s xs) (λ i. subst (λ n. n ≤ 1) (sym (times-fresh i s xs)) (once_or_never (not (s i) && is_among i xs)))
+fresh_once s xs = times_once (fresh s xs) (λ i. let t = times-fresh i s xs in grind arith)
 
 -- they are ids of the list
 pub fresh_among : (i : ObjectId) (s : ObjectId → Bool) (xs : List ObjectId) → Contains (fresh s xs) i → is_among i xs ≡ true
@@ -40,12 +37,9 @@ module _ {F P : Type 0} (objects : F → Objects) (faulty : F → ObjectId → T
   setting : Setting objects faulty answers
   setting = record { store = store; predicate = predicate; rows = []; parents = mode.All; named = λ i. []; sorting = sorting.BreadthFirst; begun = false; marks = set.empty; accepts = accepts; hidden = λ i. false; starts = tips; by_test = by_test; agreeing = λ row n. absurd (no_member row n) }
 
-  nothing : (i : ObjectId) → set.contains (set.empty {R = id_cmp}) i ≡ true → ⊥
-  nothing i e = false≢true (sym (set.contains-empty id_cmp i) ∙ e)
-
   stood : Stands objects faulty answers setting (bare store predicate)
   unfolding setting
-  stood = record { store = refl; parents = refl; sorting = refl; marks = refl; begun = refl; tips = refl; rows = inl refl; asked_of = itself; remembered = λ i e. absurd (nothing i e); timed = λ order some. cc }
+  stood = record { store = refl; parents = refl; sorting = refl; marks = refl; begun = refl; tips = refl; rows = inl refl; asked_of = itself; remembered = λ i e. absurd (false≢true (sym (set.contains-empty id_cmp i) ∙ e)); timed = λ order some. cc }
 
   did : Did objects faulty answers setting tips (bare store predicate) walk
   unfolding setting

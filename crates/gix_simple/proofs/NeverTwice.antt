@@ -13,7 +13,6 @@ use Rattle.gix_revwalk.specs.Ids.{ids_of, AreDistinct}
 use Rattle.gix_simple.specs.Laws.{given_ids}
 use Rattle.gix_hash.proofs.Ids.Membership.{id_total, same_is}
 use Rattle.gix_revwalk.proofs.NewIds.{times, times_once}
-use Rattle.gix_simple.proofs.MadeOfTips.{once_or_never}
 use Rattle.gix_simple.proofs.Moves.{Asking, rests, asks, Follows, IsGivenAs, Moves, fails, takes, next_moves}
 
 module _ {F P : Type 0} (objects : F → Objects) (faulty : F → ObjectId → Type 0) (answers : P → ObjectId → Bool → P → Type 0) where
@@ -60,8 +59,7 @@ module _ {F P : Type 0} (objects : F → Objects) (faulty : F → ObjectId → T
       → (i : ObjectId) → times i (given_ids list) + times i gone ≤ 1
   drawn_sole [] gone w new d h i =
       let k : times i (ids_of w.pending) + times i gone ≤ cond (set.contains w.seen i) 1 0 = h i in
-      let c : cond (set.contains w.seen i) 1 0 ≤ 1 = once_or_never (set.contains w.seen i) in
-      omega arith
+      grind arith
   drawn_sole (answer ∷ list) gone w new d h i = go answer (drawn_sole list (with_answer answer gone) d.0 new d.2 (moves_sole gone (next_moves objects faulty answers d.1) h) i)
     where
       go : (a : Result Info Error) → times i (given_ids list) + times i (with_answer a gone) ≤ 1 → times i (given_ids (a ∷ list)) + times i gone ≤ 1

@@ -1,6 +1,6 @@
 -- One step of a walk whose hidden tips are painted.
 use Rattle.std.specs.Prelude.{◌≡◌, ◌≢◌, ◌⊎◌, ℕ, ℤ, List, [], ◌++◌, filter, Bool, true, false, ◌||◌, Option, Some, None, Result, Err, Contains}
-use Rattle.std.proofs.Common.{refl, sym, ap, subst, inl, inr, ⊎_elim, ◌∙◌}
+use Rattle.std.proofs.Common.{refl, sym, ap, subst, inl, inr, ⊎_elim, ◌∙◌, arith}
 use Rattle.std.proofs.lemmas.Bool.{false≢true}
 use Rattle.std.specs.FinMap as map_of
 use Rattle.std.specs.FinSet as set
@@ -98,11 +98,7 @@ module _ {F P : Type 0} (objects : F → Objects) (faulty : F → ObjectId → T
   row_generation s w h i row e = ⊎_elim (λ r. ap (λ rows. row_of rows i) (sym r) ∙ e) (λ r. let n : None ≡ Some row = ap (λ rows. row_of rows i) (sym r) ∙ e in cc) h.rows
 
   time_given : (s : Setting objects faulty answers) (w : SimpleWalk F P) → Stands objects faulty answers s w → (p : Pending) → ((order : CommitTimeOrder) → order_of objects faulty answers s ≡ Some order → p.time ≡ time_of (objects s.store) p.id) → given_time w p ≡ time_if (order_of objects faulty answers s) (time_of (objects s.store) p.id)
-  time_given s w h p t = (λ k. time_if (time_order (h.parents k) (h.sorting k)) p.time) ∙ go (order_of objects faulty answers s) refl
-    where
-      go : (o : Option CommitTimeOrder) → order_of objects faulty answers s ≡ o → time_if o p.time ≡ time_if o (time_of (objects s.store) p.id)
-      go None e = refl
-      go (Some order) e = ap Some (t order e)
+  time_given s w h p t = (λ k. time_if (time_order (h.parents k) (h.sorting k)) p.time) ∙ (grind (arith, t))
 
   -- a commit with a row that agrees reads whole
   row_whole : (s : Setting objects faulty answers) (w : SimpleWalk F P) → Stands objects faulty answers s w → (i : ObjectId) (row : GraphRow) → row_of w.rows i ≡ Some row → ReadsWhole (objects s.store) i

@@ -38,9 +38,6 @@ use Rattle.gix_simple.proofs.WholeWalk.{Known, Runs, RunsTo, none_yet, begun_run
 use Rattle.gix_revwalk.proofs.ReadsWhole.{walked_within, no_fault}
 use Rattle.gix_hash.proofs.Lists.{filter_within, filter_all}
 
-both_ways : (a b : Bool) → (a ≡ true → b ≡ true) → (b ≡ true → a ≡ true) → a ≡ b
-both_ways a b there back = grind arith
-
 pub Contains-filter : (p : ObjectId → Bool) (xs : List ObjectId) (i : ObjectId) → Contains (filter p xs) i → Contains xs i × (p i ≡ true)
 Contains-filter p xs i h =
     let e : (p i ≡ true) × (is_among i xs ≡ true) = and_parts (p i) (is_among i xs) (sym (among-filter i p xs) ∙ among_from i _ h) in
@@ -48,11 +45,8 @@ Contains-filter p xs i h =
 
 distinct-filter : (p : ObjectId → Bool) (xs : List ObjectId) → AreDistinct xs → AreDistinct (filter p xs)
 distinct-filter p [] d = tt
-distinct-filter p (x ∷ xs) d = go (p x) (distinct-filter p xs d.1)
-  where
-    go : (b : Bool) → AreDistinct (filter p xs) → AreDistinct (cond b (x ∷ filter p xs) (filter p xs))
-    go true r = (λ c. d.0 (Contains-filter p xs x c).0, r)
-    go false r = r
+distinct-filter p (x ∷ xs) d =
+    elim (p x) as (λ b. AreDistinct (cond b (x ∷ filter p xs) (filter p xs))) [ true ↦ (λ c. d.0 (Contains-filter p xs x c).0, distinct-filter p xs d.1) | false ↦ distinct-filter p xs d.1 ]
 
 -- distinct ids that aren't old are all new
 fresh_distinct : (old : ObjectId → Bool) (xs : List ObjectId) → AreDistinct xs → ((i : ObjectId) → Contains xs i → old i ≡ false) → xs ≡ fresh old xs
@@ -63,10 +57,10 @@ fresh_distinct old (x ∷ xs) d h =
 
 queue_starts : (o : Option CommitTimeOrder) (starts : List ObjectId) → AreDistinct starts → IsQueue o (starts ++ []) [] starts
 queue_starts None starts d = fresh_distinct (λ j. false) starts d (λ i c. refl) ∙ ap (fresh (λ j. false)) (sym (append-nil starts))
-queue_starts (Some order) starts d = λ j. ap (times j) (fresh_distinct (λ k. false) starts d (λ i c. refl) ∙ ap (fresh (λ k. false)) (sym (append-nil starts))) ∙ times-fresh j (λ k. false) (starts ++ []) ∙ padded (is_among j (starts ++ []))
-  where
-    padded : (b : Bool) → ◌≡◌ {A = ℕ} (cond (not false && b) 1 0) (cond (b && not false) 1 0)
-    padded b = grind arith
+queue_starts (Some order) starts d = λ j.
+    let all = ap (times j) (fresh_distinct (λ k. false) starts d (λ i c. refl) ∙ ap (fresh (λ k. false)) (sym (append-nil starts))) in
+    let count = times-fresh j (λ k. false) (starts ++ []) in
+    grind arith
 
 in_place : {X : Type 0} (xs : List X) (k : ℕ) → k < length xs → (x : X) × (slice_get xs k ≡ Some x)
 in_place [] k b = absurd (omega arith)
@@ -119,8 +113,8 @@ module _ {F P : Type 0} (objects : F → Objects) (faulty : F → ObjectId → T
     pub steps : Steps objects faulty answers mid o new
 
   -- the first step leaves these pending commits and rows, and these hidden ids
-  pub begins_at : {Allowed : Result Info Error → Type 0} (marks : set.FinSet id_cmp) (rows : List GraphRow) (pending : List Pending) → (rows ≡ w.rows) ⊎ (rows ≡ []) → ((p : Pending) → Contains pending p → Contains w.pending p) → ids_of pending ≡ starts_of w hides → Known objects faulty answers (set_up marks) Allowed
-      → {o : Option (Result Info Error)} {new : SimpleWalk F P} → Steps objects faulty answers (record w { begun = true; hidden_tips = []; hidden = marks; rows = rows; pending = pending }) o new → Begins Allowed o new
+  pub begins_at : {Allowed : Result Info Error → Type 0} (marks : set.FinSet id_cmp) (rows : List GraphRow) (pending : List Pending) → (rows ≡ w.rows) ⊎ (rows ≡ []) → ((p : Pending) → Contains pending p → Contains w.pending p) → ids_of pending ≡ starts_of w hides
+      → Known objects faulty answers (set_up marks) Allowed → {o : Option (Result Info Error)} {new : SimpleWalk F P} → Steps objects faulty answers (record w { begun = true; hidden_tips = []; hidden = marks; rows = rows; pending = pending }) o new → Begins Allowed o new
   begins_at marks rows pending left within same known steps = record {
     marks = marks;
     mid = record w { begun = true; hidden_tips = []; hidden = marks; rows = rows; pending = pending };
@@ -161,7 +155,8 @@ module _ {F P : Type 0} (objects : F → Objects) (faulty : F → ObjectId → T
         ran b.marks r (next_steps objects faulty answers drawn.1.0 (r.runs.rest.begun ∙ b.known.begun) drawn.1.2)
 
     -- and over a walk that is drawn as far as one likes
-    pub some_given : (list : List (Result Info Error)) (last : SimpleWalk F P) → All Allowed list → Yields (Next objects faulty answers) w list last → (ids : List ObjectId) × AreGiven list ids × IsBeginning (time_order w.parents w.sorting) (time_of (objects w.store)) next_kept (starts_of w hides) ids
+    pub some_given : (list : List (Result Info Error)) (last : SimpleWalk F P) → All Allowed list → Yields (Next objects faulty answers) w list last
+        → (ids : List ObjectId) × AreGiven list ids × IsBeginning (time_order w.parents w.sorting) (time_of (objects w.store)) next_kept (starts_of w hides) ids
     some_given [] last ok drawn = ([], tt, begins_from (time_order w.parents w.sorting) (time_of (objects w.store)) next_kept (starts_of w hides) [] (λ k i e. cc))
     some_given (answer ∷ left) last ok drawn =
         let b : Begins Allowed (Some answer) drawn.0 = first_of left ok drawn.1 in
@@ -210,13 +205,17 @@ module _ {F P : Type 0} (objects : F → Objects) (faulty : F → ObjectId → T
       shown e i = false_from_ne_true _ (λ h. no_start (parents_of (objects w.store)) w.hidden_tips i ((tells i).0 h) e)
 
   -- the hidden tips are painted
-  painting : (marks : set.FinSet id_cmp) (rows : List GraphRow) → Paints (objects w.store) w.rows (ids_of w.pending) w.hidden_tips marks rows → {o : Option (Result Info Error)} {new : SimpleWalk F P} → Steps objects faulty answers (painted objects faulty answers (record w { begun = true }) marks rows) o new → BeginsBy o new
+  painting : (marks : set.FinSet id_cmp) (rows : List GraphRow) → Paints (objects w.store) w.rows (ids_of w.pending) w.hidden_tips marks rows
+      → {o : Option (Result Info Error)} {new : SimpleWalk F P} → Steps objects faulty answers (painted objects faulty answers (record w { begun = true }) marks rows) o new → BeginsBy o new
   painting marks rows paint steps =
       begins_at objects faulty answers w accepts hides (parents_of (objects w.store)) by_test is_fresh agreeing marks rows _ paint.rows_left (λ p m. filter_within _ w.pending p m) (ids-filter (set.contains marks) hides w.pending (λ i c. exact i (inl c)))
       (knows marks (λ c i r n. exact i (inr (c, (outside c r).0, (λ h. true≢false (sym ((tells c).1 h) ∙ (outside c r).1)), n)))) steps
     where
       exact : (i : ObjectId) → IsAtBoundary (parents_of (objects w.store)) (ids_of w.pending) w.hidden_tips i → set.contains marks i ≡ hides i
-      exact i at = both_ways (set.contains marks i) (hides i) (λ e. (tells i).1 ((paint.marked (objects w.store) own).sound i e)) (λ e. (paint.marked (objects w.store) own).whole i at ((tells i).0 e))
+      exact i at =
+          let sound : set.contains marks i ≡ true → hides i ≡ true = λ e. (tells i).1 ((paint.marked (objects w.store) own).sound i e) in
+          let whole : hides i ≡ true → set.contains marks i ≡ true = λ e. (paint.marked (objects w.store) own).whole i at ((tells i).0 e) in
+          grind arith
 
   no_hidden_fault : w.pending ≢ [] → w.hidden_tips ≢ [] → (why : Hidden) → IsNoRefusal (Err (error.HiddenGraph why)) → IsHiddenFault (objects w.store) (faulty w.store) w.rows (ids_of w.pending) w.hidden_tips why → ⊥
   no_hidden_fault some hidden (hidden_by.Find e) ok fault =

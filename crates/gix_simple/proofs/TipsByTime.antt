@@ -52,16 +52,14 @@ module _ {F P : Type 0} (objects : F → Objects) (bad : F → ObjectId → Type
       let time : ℤ = time_of found tip.id in
       let f : Read old tip.id time (is_older time limit) mid = subst (λ t. Read old tip.id t (is_older t limit) mid) (sym (ap time_in s.1.stored ∙ s.1.same)) (read_in old mid tip.id s.0 (is_older s.0 limit) s.2) in
       let r : Sorted found mid tips new = subst (λ o. Sorted (objects o) mid tips new) (kept_store old mid tip.id s) (sorted rest) in
+      let front : cond (is_older time limit) [] (record { id = tip.id; time = time } ∷ []) ++ recent limit (timed found tips) ≡ recent limit (timed found (tip ∷ tips)) = grind arith in
       record {
         read = All-cons (λ p. IsSome (commit_at found p.id)) tip tips (ap is_some s.1.stored) r.read;
-        pending = r.pending ∙ ap (λ ps. ps ++ recent limit (timed found tips)) f.pending ∙ append_assoc old.pending _ _ ∙ ap (λ ps. old.pending ++ ps) (in_front (is_older time limit) (record { id = tip.id; time = time }) (recent limit (timed found tips)));
+        pending = r.pending ∙ ap (λ ps. ps ++ recent limit (timed found tips)) f.pending ∙ append_assoc old.pending _ _ ∙ ap (λ ps. old.pending ++ ps) front;
         seen = λ i. let a = r.seen i in let b = f.seen i in grind arith;
         remembered = λ i. let a = r.remembered i in let b = f.remembered i in grind arith;
         others = r.others ∙ ap (λ (w : SimpleWalk F P). record w { pending = new.pending; seen = new.seen; remembered = new.remembered }) f.others;
       }
-    where
-      in_front : (b : Bool) (x : Pending) (xs : List Pending) → cond b [] (x ∷ []) ++ xs ≡ cond (not b) (x ∷ xs) xs
-      in_front b x xs = grind arith
 
 module _ (objects : Objects) (bad : ObjectId → Type 0) where
   pub fails_first : (tip : Pending) (rest tips : List Pending) (e : Error) → tips ≡ tip ∷ rest → IsTipFault objects bad tip.id e → FailsAtTip objects bad tips e
@@ -76,5 +74,7 @@ read_some objects bad limit old first new i e s = subst (λ store. IsSome (commi
 -- the pending commits of a walk, read from an empty list
 pub sorted_so : {F P : Type 0} (objects : F → Objects) (bad : F → ObjectId → Type 0) (old : SimpleWalk F P) (by : Sorting) (start new : SimpleWalk F P) (tips : List Pending) → start ≡ record old { sorting = by; pending = [] } → tips ≡ old.pending → (limit : Option ℤ) → limit ≡ cutoff mode.All by → SortsAll objects bad limit start tips new → IsSortedByTime objects old by new
 sorted_so objects bad old by start new tips e t limit l s =
-    let r : Sorted objects bad (cutoff mode.All by) (objects old.store) (record old { sorting = by; pending = [] }) old.pending new = subst (λ tips. Sorted objects bad (cutoff mode.All by) (objects old.store) (record old { sorting = by; pending = [] }) tips new) t (subst (λ w. Sorted objects bad (cutoff mode.All by) (objects w.store) w tips new) e (sorted objects bad (cutoff mode.All by) (subst (λ limit. SortsAll objects bad limit start tips new) l s))) in
+    let r : Sorted objects bad (cutoff mode.All by) (objects old.store) (record old { sorting = by; pending = [] }) old.pending new =
+    subst (λ tips. Sorted objects bad (cutoff mode.All by) (objects old.store) (record old { sorting = by; pending = [] }) tips new) t
+    (subst (λ w. Sorted objects bad (cutoff mode.All by) (objects w.store) w tips new) e (sorted objects bad (cutoff mode.All by) (subst (λ limit. SortsAll objects bad limit start tips new) l s))) in
     record { read = r.read; pending = r.pending; seen = r.seen; remembered = r.remembered; others = r.others }

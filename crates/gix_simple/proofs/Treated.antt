@@ -120,12 +120,6 @@ module _ {F P : Type 0} (objects : F → Objects) (faulty : F → ObjectId → T
   passed_over : (s : Setting) (i : ObjectId) (xs : List ObjectId) (old : ObjectId → Bool) → keep s i ≡ false → Joins (order_of s) xs (xs ++ fresh old (filter (keep s) (i ∷ [])))
   passed_over s i xs old e = Joins-refl (order_of s) _ _ (grind (arith, append-nil xs))
 
-  already : (s : Setting) (i : ObjectId) (xs : List ObjectId) (old : ObjectId → Bool) → old i ≡ true → Joins (order_of s) xs (xs ++ fresh old (filter (keep s) (i ∷ [])))
-  already s i xs old e = Joins-refl (order_of s) _ _ (grind (arith, append-nil xs))
-
-  added : (s : Setting) (i : ObjectId) (xs : List ObjectId) (old : ObjectId → Bool) → keep s i ≡ true → old i ≡ false → xs ++ i ∷ [] ≡ xs ++ fresh old (filter (keep s) (i ∷ []))
-  added s i xs old k e = grind arith
-
   -- the rows that are left agree
   pub rows_agree : (s : Setting) (w : SimpleWalk F P) → Stands s w → IsAgreeing (objects s.store) w.rows
   rows_agree s w h = ⊎_elim (λ e. subst (λ rows. IsAgreeing (objects s.store) rows) (sym e) s.agreeing) (λ e. subst (λ rows. IsAgreeing (objects s.store) rows) (sym e) (λ row n. absurd (no_member row n))) h.rows
@@ -166,15 +160,6 @@ module _ {F P : Type 0} (objects : F → Objects) (faulty : F → ObjectId → T
       (λ m. subst (λ x. x.time ≡ time_of (objects s.store) x.id) (only_member new p m) (t order some))
       (Contains-append_cases w.pending (new ∷ []) p (Contains-holds (time_order w.parents w.sorting) _ ps holds p n))
 
-  same_order : (s : Setting) (w : SimpleWalk F P) → Stands s w → time_order w.parents w.sorting ≡ order_of s
-  same_order s w h k = time_order (h.parents k) (h.sorting k)
-
-  same_limit : (s : Setting) (w : SimpleWalk F P) → Stands s w → cutoff w.parents w.sorting ≡ limit_of s
-  same_limit s w h k = cutoff (h.parents k) (h.sorting k)
-
-  is_kept_if : (s : Setting) (i : ObjectId) (b : Bool) → s.accepts i ≡ true → s.hidden i ≡ false → is_older (time_of (objects s.store) i) (limit_of s) ≡ b → keep s i ≡ not b
-  is_kept_if s i b a h o = λ k. (a k && not (h k)) && not (o k)
-
   -- the id was asked about, and is seen now
   asked_did : (s : Setting) (w : SimpleWalk F P) → Stands s w → (i : ObjectId) (q : P) (ps : List Pending) → Becomes answers s.predicate q → ((order : CommitTimeOrder) → order_of s ≡ Some order → (p : Pending) → Contains ps p → p.time ≡ time_of (objects s.store) p.id)
       → Joins (order_of s) (ids_of ps) (ids_of w.pending ++ fresh (set.contains w.seen) (filter (keep s) (i ∷ []))) → Did s (i ∷ []) w (asked_walk objects faulty answers w i q ps)
@@ -190,8 +175,12 @@ module _ {F P : Type 0} (objects : F → Objects) (faulty : F → ObjectId → T
       let hid : s.hidden i ≡ true = sym ready.marked ∙ ap (λ m. set.contains m i) (sym h.marks) ∙ e in
       let out : keep s i ≡ false = and_left _ _ (and_right (s.accepts i) _ (not_from_true _ hid)) in
       record { rest = h; same_rows = refl; seen = λ j k. let same : is_same j i ≡ true → keep s j ≡ keep s i = λ t. ap (keep s) (same_is j i t) in let one = among-one j i in grind arith; pending = passed_over s i _ _ out }
-  one s w h by_row i ready (known e) =
-      record { rest = h; same_rows = refl; seen = λ j k. let same : is_same j i ≡ true → set.contains w.seen j ≡ set.contains w.seen i = λ t. ap (set.contains w.seen) (same_is j i t) in let one = among-one j i in grind arith; pending = already s i _ _ e }
+  one s w h by_row i ready (known e) = record {
+    rest = h;
+    same_rows = refl;
+    seen = λ j k. let same : is_same j i ≡ true → set.contains w.seen j ≡ set.contains w.seen i = λ t. ap (set.contains w.seen) (same_is j i t) in let one = among-one j i in grind arith;
+    pending = Joins-refl (order_of s) _ _ (grind (arith, append-nil (ids_of w.pending)));
+  }
   one s w h by_row i ready (refused {predicate = q} is_new a) =
       let t : (false ≡ s.accepts i) × Becomes answers s.predicate q = asked_test s w h i a in
       asked_did s w h i q w.pending t.1 h.timed (passed_over s i _ _ (and_left _ _ (and_left _ _ (sym t.0))))
@@ -199,14 +188,15 @@ module _ {F P : Type 0} (objects : F → Objects) (faulty : F → ObjectId → T
       let t : (true ≡ s.accepts i) × Becomes answers s.predicate q = asked_test s w h i a in
       let o : ((order : CommitTimeOrder) → order_of s ≡ Some order → time ≡ time_of (objects s.store) i) × (is_older time (limit_of s) ≡ is_older (time_of (objects s.store) i) (limit_of s)) = older_alike s w h by_row i time ready.rowed reads in
       let shown : s.hidden i ≡ false = sym ready.marked ∙ ap (λ m. set.contains m i) (sym h.marks) ∙ is_new.open_to in
-      let decided : (b : Bool) → is_older time (cutoff w.parents w.sorting) ≡ b → keep s i ≡ not b = λ b e. is_kept_if s i b (sym t.0) shown (sym o.1 ∙ ap (is_older time) (sym (same_limit s w h)) ∙ e) in
+      let decided : (b : Bool) → is_older time (cutoff w.parents w.sorting) ≡ b → keep s i ≡ not b = λ b e. let yes = t.0 in let older = o.1 in let limit : cutoff w.parents w.sorting ≡ limit_of s = λ k. cutoff (h.parents k) (h.sorting k) in grind arith in
       go t.1 o.0 decided queues
     where
       go : Becomes answers s.predicate q → ((order : CommitTimeOrder) → order_of s ≡ Some order → time ≡ time_of (objects s.store) i) → ((b : Bool) → is_older time (cutoff w.parents w.sorting) ≡ b → keep s i ≡ not b) → {ps' : List Pending} → Enqueues objects faulty answers (time_order w.parents w.sorting) (cutoff w.parents w.sorting) w.pending i time ps' → Did s (i ∷ []) w (asked_walk objects faulty answers w i q ps')
       go becomes t decided (dropped e) = asked_did s w h i q w.pending becomes h.timed (passed_over s i (ids_of w.pending) (set.contains w.seen) (decided true e))
       go becomes t decided (enqueued {new = new} e holds) =
           asked_did s w h i q new becomes (timed_on s w h i time new t holds)
-          (Joins-trans (order_of s) _ _ _ (subst (λ ord. Joins ord (ids_of new) (ids_of w.pending ++ i ∷ [])) (same_order s w h) (Joins-holds (time_order w.parents w.sorting) w.pending new (record { id = i; time = time }) holds)) (Joins-refl (order_of s) _ _ (added s i (ids_of w.pending) (set.contains w.seen) (decided false e) is_new.unseen)))
+          (Joins-trans (order_of s) _ _ _ (subst (λ ord. Joins ord (ids_of new) (ids_of w.pending ++ i ∷ [])) (λ k. time_order (h.parents k) (h.sorting k)) (Joins-holds (time_order w.parents w.sorting) w.pending new (record { id = i; time = time }) holds))
+          (Joins-refl (order_of s) _ _ (let kept = decided false e in let unseen = is_new.unseen in grind arith)))
 
   joined : (s : Setting) (i : ObjectId) (ids : List ObjectId) (w mid : SimpleWalk F P) → Did s (i ∷ []) w mid →
       fresh (set.contains w.seen) (filter (keep s) (i ∷ [])) ++ fresh (set.contains mid.seen) (filter (keep s) ids) ≡ fresh (set.contains w.seen) (filter (keep s) (i ∷ ids))
@@ -225,12 +215,9 @@ module _ {F P : Type 0} (objects : F → Objects) (faulty : F → ObjectId → T
   both s i ids w mid v d e = record {
     rest = e.rest;
     same_rows = e.same_rows ∙ d.same_rows;
-    seen = λ j k. e.seen j k ∙ ap (λ b. is_among j ids || b) (d.seen j k) ∙ swapped (is_among j ids) (is_same j i) (set.contains w.seen j);
+    seen = λ j k. let after = e.seen j k in let before = d.seen j k in grind arith;
     pending = Joins-trans (order_of s) _ _ _ e.pending (Joins-trans (order_of s) _ _ _ (Joins-append (order_of s) _ _ (fresh (set.contains mid.seen) (filter (keep s) ids)) d.pending) (Joins-refl (order_of s) _ _ (append_assoc (ids_of w.pending) _ _ ∙ ap (λ xs. ids_of w.pending ++ xs) (joined s i ids w mid d))));
   }
-    where
-      swapped : (a b c : Bool) → (a || ((b || false) || c)) ≡ ((b || a) || c)
-      swapped a b c = grind arith
 
   pub all_treated : (s : Setting) (by_row : Bool) {w v : SimpleWalk F P} {ids : List ObjectId} {how : Treated} → TreatsAll objects faulty answers by_row w ids how v → how ≡ GoesOn → Stands s w → ((i : ObjectId) → Contains ids i → IsReady s w by_row i) → Did s ids w v
   all_treated s by_row (none {old = w}) e h ready = record { rest = h; same_rows = refl; seen = λ j k. refl; pending = Joins-refl (order_of s) _ _ (sym (append-nil _)) }

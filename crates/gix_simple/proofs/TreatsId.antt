@@ -110,12 +110,9 @@ module _ {F P : Type 0} (objects : F → Objects) (faulty : F → ObjectId → T
   treats_unmet old met e = subst (Treats objects faulty answers old by_row i NoMemory) (sym e) no_memory
 
 module _ {F P : Type 0} (objects : F → Objects) (faulty : F → ObjectId → Type 0) (answers : P → ObjectId → Bool → P → Type 0) (by_row : Bool) where
-  -- the ids of a list are treated from its front
+  -- where the first id of a list stops, the others are left
   pub stopped_first : {old new : SimpleWalk F P} (i : ObjectId) (rest ids : List ObjectId) (why : Stop) → ids ≡ i ∷ rest → Treats objects faulty answers old by_row i (how_ended (Err why)) new → TreatsAll objects faulty answers by_row old ids (how_ended (Err why)) new
-  stopped_first {old} {new} i rest ids why e h = subst (λ ids. TreatsAll objects faulty answers by_row old ids (how_ended (Err why)) new) (sym e) (stops (fails why) h)
-    where
-      fails : (why : Stop) → how_ended (Err why) ≢ GoesOn
-      fails why = λ e. grind arith
+  stopped_first {old} {new} i rest ids why e h = subst (λ ids. TreatsAll objects faulty answers by_row old ids (how_ended (Err why)) new) (sym e) (stops (λ k. grind arith) h)
 
   -- one more id is treated behind the ids of a list
   pub treats_last : {new : SimpleWalk F P} {i : ObjectId} {mid old : SimpleWalk F P} {ids : List ObjectId} → TreatsAll objects faulty answers by_row old ids GoesOn mid → Treats objects faulty answers mid by_row i GoesOn new → TreatsAll objects faulty answers by_row old (ids ++ i ∷ []) GoesOn new
