@@ -23,13 +23,6 @@ children_of f p = (known_of f.known p).indegree
 abbrev pub was_ready_of : Frontier → ObjectId → Bool
 was_ready_of f p = (known_of f.known p).was_ready
 
--- at last places an id is in the list once
-pub times-last : (i : ObjectId) (xs : List ObjectId) → times i (last_places xs) ≡ cond (is_among i xs) 1 0
-times-last i xs =
-    let some : is_among i xs ≡ true → 1 ≤ times i (last_places xs) = λ e. among_times i (last_places xs) (among_from i _ (last_in xs i (among_is i xs e))) in
-    let none : 1 ≤ times i (last_places xs) → is_among i xs ≡ true = λ l. among_from i xs (last_from xs i (among_is i _ (times_is_among i (last_places xs) l))) in
-    grind (arith, last_once xs i)
-
 module _ (walked : ObjectId → List ObjectId) where
   naming_sum : (p : ObjectId) (ds : List ObjectId) → naming walked p ds ≡ sum_by (λ d. cond (is_among p (walked d)) 1 0) ds
   naming_sum p ds = is_sum_by (naming walked p) (λ d. cond (is_among p (walked d)) 1 0) refl (λ d ds. refl) ds

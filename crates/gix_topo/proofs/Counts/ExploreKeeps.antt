@@ -24,9 +24,9 @@ use Rattle.gix_topo.specs.TopoOrder.{last_places}
 use Rattle.gix_topo.proofs.Counts.ExploreEnds.{same_on}
 use Rattle.gix_topo.proofs.Counts.Frontier.{kept, has_seen, taken_from}
 use Rattle.gix_topo.proofs.Counts.MeetsParents.{AreMet, is_new, counted_of, parents_met}
-use Rattle.gix_topo.proofs.Readiness.IsReady.{last_in, last_from}
+use Rattle.gix_topo.proofs.Readiness.IsReady.{last_in, last_from, times-last}
 use Rattle.gix_topo.proofs.Counts.BothSearches.{step_moved, steps_searched, waits_queued}
-use Rattle.gix_topo.proofs.Counts.Children.{children_of, was_ready_of, times-last, tally_steps}
+use Rattle.gix_topo.proofs.Counts.Children.{children_of, was_ready_of, tally_steps}
 use Rattle.gix_topo.proofs.Reading.ReadsCommit.{reads_text_next}
 
 module _ {F : Type 0} (objects : F → Objects) (faulty : F → ObjectId → Type 0) where
