@@ -25,6 +25,7 @@ use Rattle.gix_commitgraph.specs.Packed.{most, overflow_of, overflow_words, kind
 use Rattle.gix_commitgraph.specs.Renumbering.{Entry, entries_from, moved, renumbered, arranged, NeverFall, AlwaysRise, StopsRising, HasPlaces, AreNumbers, CanArrange, HasSameRows, HaveDistinctIds, HavePlacesWithin, IsRowOf, IsInRange}
 use Rattle.gix_hash.proofs.Ids.Membership.{id_total, same_back}
 use Rattle.gix_commitgraph.proofs.Packed.RowsArranged.{arranged_row, length-overflow_of-moved}
+use Rattle.gix_commitgraph.proofs.Packed.RowSearch.{is_Less, turned}
 
 abbrev no_entry : Entry
 no_entry = (no_row.id, 0)
@@ -94,19 +95,14 @@ module _ (rows : List GraphRow) (order : List Entry) (perm : IsPermutation (entr
       let at_k = get_or-map (λ (entry : Entry). entry.0) order k no_entry a (omega arith) in
       let at_next = get_or-map (λ (entry : Entry). entry.0) order (k + 1) no_entry a lt in
       let differ : is_same a b ≡ false = (λ i. is_same (sym at_k i) (sym at_next i)) ∙ apart in
-      by_cases a b (id_cmp a b) refl (id_cmp b a) refl (stops.2 no_entry) (falls k no_entry lt) differ
+      by_cases a b (id_cmp a b) refl (stops.2 no_entry) (falls k no_entry lt) differ
     where
-      by_cases : (a b : ObjectId) (o : Ordering) → id_cmp a b ≡ o → (p : Ordering) → id_cmp b a ≡ p → is_lt (id_cmp a b) ≡ false → is_lt (id_cmp b a) ≡ false → is_same a b ≡ false → ⊥
-      by_cases a b Less is p back stop fall differ = false≢true (sym stop ∙ ap is_lt is)
-      by_cases a b Equal is p back stop fall differ = false≢true (sym differ ∙ ap is_eq is)
-      by_cases a b Greater is p back stop fall differ = let turned : id_cmp b a ≡ Less = id_total.antisymm b a ∙ ap Rattle.std.specs.Ordering.ordering_reverse is in false≢true (sym fall ∙ ap is_lt turned)
+      by_cases : (a b : ObjectId) (o : Ordering) → id_cmp a b ≡ o → is_lt (id_cmp a b) ≡ false → is_lt (id_cmp b a) ≡ false → is_same a b ≡ false → ⊥
+      by_cases a b Less is stop fall differ = false≢true (sym stop ∙ ap is_lt is)
+      by_cases a b Equal is stop fall differ = false≢true (sym differ ∙ ap is_eq is)
+      by_cases a b Greater is stop fall differ = false≢true (sym fall ∙ ap is_lt (turned a b Greater is))
 
   module _ (rise : AlwaysRise order) where
-    is_Less : (o : Ordering) → is_lt o ≡ true → o ≡ Less
-    is_Less Less e = refl
-    is_Less Equal e = absurd cc
-    is_Less Greater e = absurd cc
-
     pub sorted_order : IsStrictlySortedBy id_cmp (ids_of order)
     sorted_order =
         sorted_from_all_adjacent id_total (ids_of order) no_row.id (λ k lt.
@@ -134,13 +130,9 @@ module _ (rows : List GraphRow) (order : List Entry) (perm : IsPermutation (entr
 
 -- ---- what new numbers keep
 
-all_renumbered : (P : GraphRow → Type 0) (number : ℕ → ℕ) (rows : List GraphRow) → AllByRecursion (λ row. P (renumbered number row)) rows → AllByRecursion P (map (renumbered number) rows)
-all_renumbered P number [] all = tt
-all_renumbered P number (row ∷ rows) all = (all.0, all_renumbered P number rows all.1)
-
-all_weaker : {X : Type 0} (P Q : X → Type 0) (xs : List X) → ((x : X) → P x → Q x) → AllByRecursion P xs → AllByRecursion Q xs
-all_weaker P Q [] give all = tt
-all_weaker P Q (x ∷ xs) give all = (give x all.0, all_weaker P Q xs give all.1)
+all_renumbered : (P Q : GraphRow → Type 0) (number : ℕ → ℕ) → ((row : GraphRow) → P row → Q (renumbered number row)) → (rows : List GraphRow) → AllByRecursion P rows → AllByRecursion Q (map (renumbered number) rows)
+all_renumbered P Q number give [] all = tt
+all_renumbered P Q number give (row ∷ rows) all = (give row all.0, all_renumbered P Q number give rows all.1)
 
 all_both : {X : Type 0} (P Q R : X → Type 0) (xs : List X) → ((x : X) → P x → Q x → R x) → AllByRecursion P xs → AllByRecursion Q xs → AllByRecursion R xs
 all_both P Q R [] give one two = tt
@@ -201,8 +193,8 @@ module _ (rows : List GraphRow) (order : List Entry) (numbers : List ℕ) (perm 
   number_below : (place : ℕ) → place < length rows → number place < length rows
   number_below place lt = let e = entry_of place lt in omega (arith, number_of place lt, e.1, length-order rows order perm)
 
-  all_graph : (P : GraphRow → Type 0) → AllByRecursion (λ row. P (renumbered number row)) rows → AllByRecursion P graph
-  all_graph P all = recursion_from_All P graph (All-permutation P (map (renumbered number) rows) graph graph_permutes (All-from_recursion P (map (renumbered number) rows) (all_renumbered P number rows all)))
+  all_graph : (P Q : GraphRow → Type 0) → ((row : GraphRow) → P row → Q (renumbered number row)) → AllByRecursion P rows → AllByRecursion Q graph
+  all_graph P Q give all = recursion_from_All Q graph (All-permutation Q (map (renumbered number) rows) graph graph_permutes (All-from_recursion Q (map (renumbered number) rows) (all_renumbered P Q number give rows all)))
 
   pub has_same_rows : HasSameRows rows graph
   has_same_rows = record {
@@ -228,7 +220,7 @@ module _ (rows : List GraphRow) (order : List Entry) (numbers : List ℕ) (perm 
 
   module _ (k : Kind) (kind : kind_of_rows rows ≡ k) (kinds : AllByRecursion (IsRowOf k) rows) where
     kinds_of_graph : AllByRecursion (IsRowOf k) graph
-    kinds_of_graph = all_graph (IsRowOf k) (all_weaker (IsRowOf k) (λ row. IsRowOf k (renumbered number row)) rows (λ row r. record { id = r.id; tree = r.tree }) kinds)
+    kinds_of_graph = all_graph (IsRowOf k) (IsRowOf k) (λ row r. record { id = r.id; tree = r.tree }) kinds
 
     pub kind_of_graph : kind_of_rows graph ≡ k
     kind_of_graph = kind_of_all k rows graph length-graph kind kinds_of_graph
@@ -248,7 +240,7 @@ module _ (rows : List GraphRow) (order : List Entry) (numbers : List ℕ) (perm 
     are_graph_rows rise within few few_words range =
         let n = length rows in
         let places : AllByRecursion (λ row. AllByRecursion (IsPlaceAmong n) row.parents) graph =
-        all_graph (λ row. AllByRecursion (IsPlaceAmong n) row.parents) (all_weaker (λ row. AllByRecursion (IsPlaceAmong n) row.parents) (λ row. AllByRecursion (IsPlaceAmong n) (map (moved number) row.parents)) rows (λ row all. places_moved n number number_below row.parents all) within) in
+        all_graph (λ row. AllByRecursion (IsPlaceAmong n) row.parents) (λ row. AllByRecursion (IsPlaceAmong n) row.parents) (λ row. places_moved n number number_below row.parents) within in
         let sound : AllByRecursion (IsRowAmong k n) graph =
         all_both (IsRowOf k) (λ row. AllByRecursion (IsPlaceAmong n) row.parents × IsInRange row) (IsRowAmong k n) graph
         (λ row kinds others. record { id = kinds.id; tree = kinds.tree; parents = others.0; generation = others.1.0; time = others.1.1 }) kinds_of_graph

@@ -24,16 +24,12 @@ use Rattle.gix_commitgraph.specs.PackedLayout.{IsLaidOut, IsPackedAs}
 use Rattle.gix_hash.proofs.Ids.Membership.{id_total}
 use Rattle.gix_commitgraph.proofs.Packed.ReadAgain.{Begins}
 use Rattle.gix_commitgraph.proofs.Packed.Takes.{chosen, parents_take}
-use Rattle.gix_commitgraph.proofs.Packed.RowTakes.{AreBytes-drop, row_takes, row_among, bytes-words_of, word_back}
+use Rattle.gix_commitgraph.proofs.Packed.RowTakes.{part, AreBytes-drop, row_takes, row_among, bytes-words_of, word_back}
 use Rattle.gix_commitgraph.proofs.Packed.Whole.{length-rows_bytes}
 use Rattle.gix_commitgraph.proofs.Packed.Steps.{length-words_of}
+use Rattle.gix_commitgraph.proofs.Packed.RowSearch.{is_Less}
 
 -- ---- ids in order
-
-is_Less : (o : Ordering) → is_lt o ≡ true → o ≡ Less
-is_Less Less e = refl
-is_Less Equal e = absurd cc
-is_Less Greater e = absurd cc
 
 below_all : (i j : ObjectId) (ids : List ObjectId) → id_cmp i j ≡ Less → AllByRecursion (λ x. id_cmp j x ≡ Less) ids → AllByRecursion (λ x. id_cmp i x ≡ Less) ids
 below_all i j [] lt all = tt
@@ -133,10 +129,7 @@ kind_takes kind.Sha256 n [] len may each = let some : 0 < n = ltb-true 0 n may i
 kind_takes k n (row ∷ rows) len may each = each.0.id.kind
 
 head_bytes : (bytes : List ℕ) → take 4 bytes ++ (take 4 (drop 4 bytes) ++ (take 4 (drop 8 bytes) ++ drop 12 bytes)) ≡ bytes
-head_bytes bytes =
-    ap (λ (x : List ℕ). take 4 bytes ++ (take 4 (drop 4 bytes) ++ (take 4 (drop 8 bytes) ++ x))) (sym (drop-drop 4 8 bytes))
-    ∙ ap (λ (x : List ℕ). take 4 bytes ++ (take 4 (drop 4 bytes) ++ x)) (take-append-drop 4 (drop 8 bytes) ∙ sym (drop-drop 4 4 bytes))
-    ∙ ap (λ (x : List ℕ). take 4 bytes ++ x) (take-append-drop 4 (drop 4 bytes)) ∙ take-append-drop 4 bytes
+head_bytes bytes = rw (part 8 4 12 bytes refl, part 4 4 8 bytes refl) (take-append-drop 4 bytes)
 
 -- bytes that are laid out and read are kept as what they were read as
 pub laid_out_takes : (bytes : List ℕ) (layout : Layout) (rows : List GraphRow) → AreBytes bytes → IsLaidOut bytes layout → read_packed bytes ≡ Ok rows → IsPackedAs bytes layout rows
@@ -167,9 +160,6 @@ laid_out_takes bytes layout rows fits laid e =
         few = omega (arith, t.count, laid.few);
         few_words = omega (arith, laid.few_words);
       };
-      spelled = sym (four name_is n_bytes m_bytes (sym body_is) ∙ head_bytes bytes);
+      spelled = sym ((λ i. name_is i ++ (n_bytes i ++ (m_bytes i ++ sym body_is i))) ∙ head_bytes bytes);
       head = record { kind = sym kind_is; count = sym t.count; words = sym m_is };
     }
-  where
-    four : {a a' b b' c c' d d' : List ℕ} → a ≡ a' → b ≡ b' → c ≡ c' → d ≡ d' → a ++ (b ++ (c ++ d)) ≡ a' ++ (b' ++ (c' ++ d'))
-    four a b c d = λ i. a i ++ (b i ++ (c i ++ d i))

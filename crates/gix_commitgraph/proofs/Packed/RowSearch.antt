@@ -1,7 +1,7 @@
 -- The row of an id, among rows in the order of their ids.
-use Rattle.std.proofs.Common.{◌≡◌, ℕ, zero, suc, ◌+◌, ◌<◌, ◌≤◌, false, List, [], ◌∷◌, length, get_or, Some, None, refl, sym, ap, ◌∙◌, arith, inl, inr}
+use Rattle.std.proofs.Common.{◌≡◌, ℕ, zero, suc, ◌+◌, ◌<◌, ◌≤◌, true, false, List, [], ◌∷◌, length, get_or, Some, None, refl, sym, ap, ◌∙◌, arith, inl, inr}
 use Rattle.std.specs.List.Sorted.{IsStrictlySortedBy}
-use Rattle.std.specs.Ordering.{is_eq, ordering_reverse}
+use Rattle.std.specs.Ordering.{is_lt, is_eq, ordering_reverse}
 use Rattle.std.specs.declared.cmp.Ordering.{Ordering}
 use Rattle.std.specs.declared.cmp.Ordering.TheVariants.{Less, Equal, Greater}
 use Rattle.std.specs.Cmp.{tied_back}
@@ -22,7 +22,12 @@ rises rows r s rising lt within =
     let less = Less-from_sorted id_cmp (ids_of_rows rows) r s no_row.id rising lt (omega (arith, length-map rows (λ (row : GraphRow). row.id))) in
     (λ i. id_cmp (sym (id_at rows r (omega arith)) i) (sym (id_at rows s within) i)) ∙ less
 
-turned : (a b : ObjectId) (o : Ordering) → id_cmp a b ≡ o → id_cmp b a ≡ ordering_reverse o
+pub is_Less : (o : Ordering) → is_lt o ≡ true → o ≡ Less
+is_Less Less e = refl
+is_Less Equal e = absurd cc
+is_Less Greater e = absurd cc
+
+pub turned : (a b : ObjectId) (o : Ordering) → id_cmp a b ≡ o → id_cmp b a ≡ ordering_reverse o
 turned a b o e = id_total.antisymm b a ∙ ap ordering_reverse e
 
 module _ (rows : List GraphRow) (rising : IsStrictlySortedBy id_cmp (ids_of_rows rows)) (i : ObjectId) (middle : ℕ) (within : middle < length rows) where

@@ -22,17 +22,21 @@ place_takes n word p e =
       ]
     ]
 
-pub record TakesPlace (here : Option ParentPlace) (more : Option Places) (read : Places) : Type 0 where
-  pub place : ParentPlace
-  pub others : Places
-  pub here_is : here ≡ Some place
-  pub more_is : more ≡ Some others
-  pub read_is : read ≡ (place ∷ others.0, others.1)
+record TakesPlace (n word : ℕ) (more : Option Places) (read : Places) : Type 0 where
+  place : ParentPlace
+  others : Places
+  word_is : place_word place ≡ word
+  here_among : IsPlaceAmong n place
+  more_is : more ≡ Some others
+  read_is : read ≡ (place ∷ others.0, others.1)
 
-with_place_takes : (here : Option ParentPlace) (more : Option Places) (read : Places) → with_place here more ≡ Some read → TakesPlace here more read
-with_place_takes None more read e = absurd cc
-with_place_takes (Some p) None read e = absurd cc
-with_place_takes (Some p) (Some others) read e = record { place = p; others = others; here_is = refl; more_is = refl; read_is = cc }
+with_place_takes : (n word : ℕ) (more : Option Places) (read : Places) → with_place (place_of n word) more ≡ Some read → TakesPlace n word more read
+with_place_takes n word more read = go (place_of n word) more refl
+  where
+    go : (here : Option ParentPlace) (more : Option Places) → place_of n word ≡ here → with_place here more ≡ Some read → TakesPlace n word more read
+    go None more is e = absurd cc
+    go (Some p) None is e = absurd cc
+    go (Some p) (Some others) is e = let here = place_takes n word p is in record { place = p; others = others; word_is = here.0; here_among = here.1; more_is = refl; read_is = cc }
 
 record TakesList (n : ℕ) (words : List ℕ) (read : Places) : Type 0 where
   first : ParentPlace
@@ -47,29 +51,27 @@ list_takes n [] read e = absurd cc
 list_takes n (word ∷ words) read e =
     elim (chosen (ltb word flag) (with_place (place_of n word) (list_at n words)) (with_place (place_of n (word - flag)) (Some ([], words))) (Some read) e) [
       | inl h ↦ (
-          let t = with_place_takes (place_of n word) (list_at n words) read h.1 in
-          let here = place_takes n word t.place t.here_is in
+          let t = with_place_takes n word (list_at n words) read h.1 in
           let l = list_takes n words t.others t.more_is in
           record {
             first = t.place;
             others = l.first ∷ l.others;
             read_is = ap (λ (x : Places). x.0) t.read_is ∙ ap (λ (ps : List ParentPlace). t.place ∷ ps) l.read_is;
-            words_is = ap (λ (ws : List ℕ). word ∷ ws) l.words_is ∙ ap (λ (w : ℕ). w ∷ (list_words l.first l.others ++ t.others.1)) (sym here.0) ∙ ap (λ (x : Places). place_word t.place ∷ (list_words l.first l.others ++ x.1)) (sym t.read_is);
-            first_among = here.1;
+            words_is = (λ i. sym t.word_is i ∷ l.words_is i) ∙ ap (λ (x : Places). place_word t.place ∷ (list_words l.first l.others ++ x.1)) (sym t.read_is);
+            first_among = t.here_among;
             others_among = (l.first_among, l.others_among);
           })
       | inr h ↦ (
-          let t = with_place_takes (place_of n (word - flag)) (Some ([], words)) read h.1 in
-          let here = place_takes n (word - flag) t.place t.here_is in
+          let t = with_place_takes n (word - flag) (Some ([], words)) read h.1 in
           let ge : flag ≤ word = ltb-false word flag h.0 in
-          let word_is : word ≡ flag + place_word t.place = omega (arith, here.0) in
+          let word_is : word ≡ flag + place_word t.place = omega (arith, t.word_is) in
           let none : t.others ≡ ([], words) = cc t.more_is in
           record {
             first = t.place;
             others = [];
             read_is = ap (λ (x : Places). x.0) t.read_is ∙ ap (λ (x : Places). t.place ∷ x.0) none;
             words_is = ap (λ (w : ℕ). w ∷ words) word_is ∙ ap (λ (x : Places). (flag + place_word t.place) ∷ x.1) (sym none) ∙ ap (λ (x : Places). (flag + place_word t.place) ∷ x.1) (sym t.read_is);
-            first_among = here.1;
+            first_among = t.here_among;
             others_among = tt;
           })
     ]
@@ -108,11 +110,10 @@ second_takes n k second words first read few e =
           subst (TakesSecond n k second words first) same (record { second_is = eqb-true second no_parent h.0; words_is = refl; among = tt }))
       | inr h ↦ elim (chosen (ltb second flag) (with_place (place_of n second) (Some ([], words))) (cond (eqb second (flag + k)) (long_list_at n words) None) (Some read) h.1) [
         | inl s ↦ (
-            let t = with_place_takes (place_of n second) (Some ([], words)) read s.1 in
-            let here = place_takes n second t.place t.here_is in
+            let t = with_place_takes n second (Some ([], words)) read s.1 in
             let none : t.others ≡ ([], words) = cc t.more_is in
             let same : (t.place ∷ [], words) ≡ read = ap (λ (x : Places). (t.place ∷ x.0, x.1)) (sym none) ∙ sym t.read_is in
-            subst (TakesSecond n k second words first) same (record { second_is = sym here.0; words_is = refl; among = (here.1, tt) }))
+            subst (TakesSecond n k second words first) same (record { second_is = sym t.word_is; words_is = refl; among = (t.here_among, tt) }))
         | inr s ↦ elim (chosen (eqb second (flag + k)) (long_list_at n words) None (Some read) s.1) [
           | inl l ↦ subst (λ (x : ℕ). TakesSecond n k x words first read) (sym (eqb-true second (flag + k) l.0)) (long_list_takes n k words first read few l.1)
           | inr l ↦ absurd cc
@@ -137,8 +138,7 @@ parents_take n k first second words read few e =
         | inr s ↦ absurd cc
       ]
       | inr h ↦ (
-          let t = with_place_takes (place_of n first) (second_at n k second words) read h.1 in
-          let here = place_takes n first t.place t.here_is in
+          let t = with_place_takes n first (second_at n k second words) read h.1 in
           let s = second_takes n k second words t.place t.others few t.more_is in
-          subst (TakesParents n k first second words) (sym t.read_is) (record { first_is = sym here.0; second_is = s.second_is; words_is = s.words_is; among = (here.1, s.among) }))
+          subst (TakesParents n k first second words) (sym t.read_is) (record { first_is = sym t.word_is; second_is = s.second_is; words_is = s.words_is; among = (t.here_among, s.among) }))
     ]
