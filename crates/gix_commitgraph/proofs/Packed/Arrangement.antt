@@ -59,16 +59,12 @@ entries_name rows k d lt =
     subst (IsEntryOf rows) (sym e) ((omega arith), (let same : k ≡ 0 + k = omega arith in ap (λ (n : ℕ). (row_at rows n).id) same))
 
 -- the rows that the entries name are the rows
-rows_of-entries : (rows : List GraphRow) (number : ℕ → ℕ) → map (λ (entry : Entry). renumbered number (row_at rows entry.1)) (entries_from 0 rows) ≡ map (renumbered number) rows
-rows_of-entries rows number =
-    same_lists _ _ (length-map (entries_from 0 rows) (λ (entry : Entry). renumbered number (row_at rows entry.1)) ∙ length-entries_from 0 rows ∙ sym (length-map rows (renumbered number)))
-    (λ k d lt.
-    let within : k < length rows = omega (arith, length-map (entries_from 0 rows) (λ (entry : Entry). renumbered number (row_at rows entry.1)), length-entries_from 0 rows) in
-    let same : 0 + k ≡ k = omega arith in
-    get_or-map (λ (entry : Entry). renumbered number (row_at rows entry.1)) (entries_from 0 rows) k no_entry d (omega (arith, length-entries_from 0 rows))
-    ∙ ap (λ (e : Entry). renumbered number (row_at rows e.1)) (entry_at 0 rows k no_entry within)
-    ∙ ap (λ (n : ℕ). renumbered number (row_at rows n)) same
-    ∙ sym (get_or-map (renumbered number) rows k no_row d within))
+rows_of-entries : (f : GraphRow → GraphRow) (at : ℕ → GraphRow) (n : ℕ) (rows : List GraphRow) → ((k : ℕ) → k < length rows → at (n + k) ≡ row_at rows k) → map (λ (entry : Entry). f (at entry.1)) (entries_from n rows) ≡ map f rows
+rows_of-entries f at n [] is = refl
+rows_of-entries f at n (row ∷ rows) is =
+    let here : n ≡ n + 0 = omega arith in
+    let others = rows_of-entries f at (suc n) rows (λ k lt. let same : suc n + k ≡ n + suc k = omega arith in ap at same ∙ is (suc k) (omega arith)) in
+    (λ i. f ((ap at here ∙ is 0 (omega arith)) i) ∷ others i)
 
 -- ---- entries in rising order
 
@@ -134,9 +130,9 @@ all_renumbered : (P Q : GraphRow → Type 0) (number : ℕ → ℕ) → ((row : 
 all_renumbered P Q number give [] all = tt
 all_renumbered P Q number give (row ∷ rows) all = (give row all.0, all_renumbered P Q number give rows all.1)
 
-all_both : {X : Type 0} (P Q R : X → Type 0) (xs : List X) → ((x : X) → P x → Q x → R x) → AllByRecursion P xs → AllByRecursion Q xs → AllByRecursion R xs
-all_both P Q R [] give one two = tt
-all_both P Q R (x ∷ xs) give one two = (give x one.0 two.0, all_both P Q R xs give one.1 two.1)
+all_among : (k : Kind) (n : ℕ) (rows : List GraphRow) → AllByRecursion (IsRowOf k) rows → AllByRecursion (λ row. AllByRecursion (IsPlaceAmong n) row.parents) rows → AllByRecursion IsInRange rows → AllByRecursion (IsRowAmong k n) rows
+all_among k n [] kinds places range = tt
+all_among k n (row ∷ rows) kinds places range = (record { id = kinds.0.id; tree = kinds.0.tree; parents = places.0; generation = range.0.0; time = range.0.1 }, all_among k n rows kinds.1 places.1 range.1)
 
 places_moved : (n : ℕ) (number : ℕ → ℕ) → ((place : ℕ) → place < n → number place < n) → (ps : List ParentPlace) → AllByRecursion (IsPlaceAmong n) ps → AllByRecursion (IsPlaceAmong n) (map (moved number) ps)
 places_moved n number below [] all = tt
@@ -170,7 +166,7 @@ module _ (rows : List GraphRow) (order : List Entry) (numbers : List ℕ) (perm 
   length-graph = length-map order (arranged_row rows numbers) ∙ length-order rows order perm
 
   graph_permutes : IsPermutation (map (renumbered number) rows) graph
-  graph_permutes = subst (λ (x : List GraphRow). IsPermutation x graph) (rows_of-entries rows number) (IsPermutation-map (arranged_row rows numbers) (entries_from 0 rows) order perm)
+  graph_permutes = subst (λ (x : List GraphRow). IsPermutation x graph) (rows_of-entries (renumbered number) (row_at rows) 0 rows (λ k lt. let same : 0 + k ≡ k = omega arith in ap (row_at rows) same)) (IsPermutation-map (arranged_row rows numbers) (entries_from 0 rows) order perm)
 
   pub words_of_graph : length (overflow_words graph) ≡ length (overflow_words rows)
   words_of_graph =
@@ -241,10 +237,7 @@ module _ (rows : List GraphRow) (order : List Entry) (numbers : List ℕ) (perm 
         let n = length rows in
         let places : AllByRecursion (λ row. AllByRecursion (IsPlaceAmong n) row.parents) graph =
         all_graph (λ row. AllByRecursion (IsPlaceAmong n) row.parents) (λ row. AllByRecursion (IsPlaceAmong n) row.parents) (λ row. places_moved n number number_below row.parents) within in
-        let sound : AllByRecursion (IsRowAmong k n) graph =
-        all_both (IsRowOf k) (λ row. AllByRecursion (IsPlaceAmong n) row.parents × IsInRange row) (IsRowAmong k n) graph
-        (λ row kinds others. record { id = kinds.id; tree = kinds.tree; parents = others.0; generation = others.1.0; time = others.1.1 }) kinds_of_graph
-        (all_both (λ row. AllByRecursion (IsPlaceAmong n) row.parents) IsInRange (λ row. AllByRecursion (IsPlaceAmong n) row.parents × IsInRange row) graph (λ row a b. (a, b)) places range) in
+        let sound = all_among k n graph kinds_of_graph places range in
         record {
           each = subst (λ (x : Kind). AllByRecursion (IsRowAmong x (length graph)) graph) (sym kind_of_graph) (subst (λ (x : ℕ). AllByRecursion (IsRowAmong k x) graph) (sym length-graph) sound);
           rising = subst (IsStrictlySortedBy id_cmp) ids_of_graph (sorted_order rows order perm rise);

@@ -46,14 +46,6 @@ parents_again n w (p ∷ q ∷ r ∷ ps) more few all =
     let two = place_word-below n q few all.1.0 in
     rw (ne_eqb (place_word p) no_parent (λ e. omega arith), place_again n p few all.0, ne_eqb (flag + w) no_parent (λ e. omega arith), le-ltb (flag + w) flag (omega arith), eq-eqb (flag + w) (flag + w) refl, lt-ltb (place_word q) flag (omega arith), place_again n q few all.1.0, list_again n r ps more few all.1.1.0 all.1.1.1) refl
 
-parents_read : {k k' first first' second second' : ℕ} (n : ℕ) (words : List ℕ) {read : Option Places} → k ≡ k' → first ≡ first' → second ≡ second'
-    → parents_at n k' first' second' words ≡ read → parents_at n k first second words ≡ read
-parents_read n words a b c e = rw (a, b, c) e
-
-row_made : {i t : ObjectId} {g : ℕ} {z : ℤ} (row : GraphRow) → i ≡ row.id → t ≡ row.tree → g ≡ row.generation → z ≡ row.time
-    → record { id = i; tree = t; parents = row.parents; generation = g; time = z } ≡ row
-row_made row a b c d = λ j. record { id = a j; tree = b j; parents = row.parents; generation = c j; time = d j }
-
 -- the first of the rows, if there is one, may follow
 abbrev pub Begins : Option ObjectId → List GraphRow → Type 0
 Begins before [] = Unit {0}
@@ -92,10 +84,10 @@ rows_again k n m w r before (row ∷ rows) more few few_words each rising first 
     let bytes = row_bytes w row ++ rest in
     let above : is_above before (id_field k bytes) ≡ true = ap (is_above before) has.id ∙ first in
     let parents : parents_at n (m - length (overflow_of row.parents ++ words)) (first_field k bytes) (second_field k bytes) (overflow_of row.parents ++ words) ≡ Some (row.parents, words) =
-    parents_read n (overflow_of row.parents ++ words) from has.first has.second (parents_again n w row.parents words few each.0.parents) in
-    let fields : row_of_fields k bytes row.parents ≡ row = row_made row has.id has.tree has.generation has.time in
+    (λ j. parents_at n (from j) (has.first j) (has.second j) (overflow_of row.parents ++ words)) ∙ parents_again n w row.parents words few each.0.parents in
+    let fields : row_of_fields k bytes row.parents ≡ row = λ j. record { id = has.id j; tree = has.tree j; parents = row.parents; generation = has.generation j; time = has.time j } in
     let others = rows_again k n m next (r + 1) (Some row.id) rows more few few_words each.1 (sorted_tail id_cmp row.id (ids_of_rows rows) rising) (begins row.id rows (sorted_head id_cmp row.id (ids_of_rows rows) rising)) (omega arith) in
     let others_here : rows_at k n m (length rows) (r + 1) (Some (id_field k bytes)) (drop (row_len k) bytes) words ≡ Ok rows =
-    ap (λ (i : ObjectId). rows_at k n m (length rows) (r + 1) (Some i) (drop (row_len k) bytes) words) has.id ∙ ap (λ (b : List ℕ). rows_at k n m (length rows) (r + 1) (Some row.id) b words) has.behind ∙ others in
+    (λ j. rows_at k n m (length rows) (r + 1) (Some (has.id j)) (has.behind j) words) ∙ others in
     ap (λ (b : List ℕ). rows_at k n m (suc (length rows)) r before b (overflow_of row.parents ++ words)) regrouped
     ∙ row_read k n m (length rows) r before bytes (overflow_of row.parents ++ words) row words rows above parents fields others_here

@@ -10,6 +10,7 @@ use Rattle.gix_commitgraph.specs.Rows.{GraphRow, no_row, row_at}
 use Rattle.gix_commitgraph.specs.Packed.{most, list_words, overflow_of, row_bytes, rows_bytes, overflow_words, IsPlaceAmong}
 use Rattle.gix_commitgraph.specs.Renumbering.{row_seen, rows_seen, Entry, moved, renumbered, arranged, CanArrange}
 use Rattle.gix_commitgraph.proofs.Packed.HandedRows.{read_places}
+use Rattle.gix_commitgraph.proofs.Packed.Whole.{rows_bytes-append}
 
 -- the row of an entry, by its new number's words
 abbrev pub arranged_row : List GraphRow → List ℕ → Entry → GraphRow
@@ -17,12 +18,7 @@ arranged_row rows numbers entry = renumbered (slice_index numbers) (row_at rows 
 
 pub rows_bytes-push : (w : ℕ) (rows : List GraphRow) (row : GraphRow) → rows_bytes w (rows ++ row ∷ []) ≡ rows_bytes w rows ++ row_bytes (w + length (overflow_words rows)) row
 unfolding rows_bytes
-rows_bytes-push w [] row = let same : w ≡ w + 0 = omega arith in append-nil (row_bytes w row) ∙ ap (λ (n : ℕ). row_bytes n row) same
-rows_bytes-push w (r ∷ rows) row =
-    let next = w + length (overflow_of r.parents) in
-    let same : next + length (overflow_words rows) ≡ w + length (overflow_of r.parents ++ overflow_words rows) = omega (arith, length-append (overflow_of r.parents) (overflow_words rows)) in
-    ap (λ (x : List ℕ). row_bytes w r ++ x) (rows_bytes-push next rows row ∙ ap (λ (n : ℕ). rows_bytes next rows ++ row_bytes n row) same)
-    ∙ sym (append_assoc (row_bytes w r) (rows_bytes next rows) (row_bytes (w + length (overflow_of r.parents ++ overflow_words rows)) row))
+rows_bytes-push w rows row = rows_bytes-append w rows (row ∷ []) ∙ ap (λ (x : List ℕ). rows_bytes w rows ++ x) (append-nil (row_bytes (w + length (overflow_words rows)) row))
 
 pub overflow_words-push : (rows : List GraphRow) (row : GraphRow) → overflow_words (rows ++ row ∷ []) ≡ overflow_words rows ++ overflow_of row.parents
 overflow_words-push rows row = flat_map-append (λ (x : GraphRow). overflow_of x.parents) rows (row ∷ []) ∙ ap (λ (x : List ℕ). overflow_words rows ++ x) (append-nil (overflow_of row.parents))

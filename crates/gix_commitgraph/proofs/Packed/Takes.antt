@@ -86,21 +86,18 @@ long_list_takes : (n k : ℕ) (words : List ℕ) (first : ParentPlace) (read : P
 long_list_takes n k [] first read few e = absurd cc
 long_list_takes n k (word ∷ words) first read few e =
     elim (chosen (ltb word flag) (list_at n (word ∷ words)) None (Some read) e) [
-      | inl h ↦ by_list (list_takes n (word ∷ words) read h.1) (ltb-true word flag h.0)
+      | inl h ↦ (let l = list_takes n (word ∷ words) read h.1 in go l.first l.others l.read_is l.words_is (ltb-true word flag h.0) l.first_among l.others_among)
       | inr h ↦ absurd cc
     ]
   where
-    go : (p : ParentPlace) (ps : List ParentPlace) (word : ℕ) (words : List ℕ) (read : Places) → read.0 ≡ p ∷ ps → word ∷ words ≡ list_words p ps ++ read.1 → word < flag → IsPlaceAmong n p → AllByRecursion (IsPlaceAmong n) ps → TakesSecond n k (flag + k) (word ∷ words) first read
-    go p [] word words read e words_is lt here all = let head : word ≡ flag + place_word p = cc in absurd (omega arith)
-    go p (q ∷ ps) word words read e words_is lt here all =
+    go : (p : ParentPlace) (ps : List ParentPlace) → read.0 ≡ p ∷ ps → word ∷ words ≡ list_words p ps ++ read.1 → word < flag → IsPlaceAmong n p → AllByRecursion (IsPlaceAmong n) ps → TakesSecond n k (flag + k) (word ∷ words) first read
+    go p [] e words_is lt here all = let head : word ≡ flag + place_word p = cc in absurd (omega arith)
+    go p (q ∷ ps) e words_is lt here all =
         record {
           second_is = ap (λ (x : List ParentPlace). second_word k (first ∷ x)) (sym e);
           words_is = words_is ∙ ap (λ (x : List ParentPlace). overflow_of (first ∷ x) ++ read.1) (sym e);
           among = subst (AllByRecursion (IsPlaceAmong n)) (sym e) (here, all);
         }
-
-    by_list : TakesList n (word ∷ words) read → word < flag → TakesSecond n k (flag + k) (word ∷ words) first read
-    by_list l lt = go l.first l.others word words read l.read_is l.words_is lt l.first_among l.others_among
 
 second_takes : (n k second : ℕ) (words : List ℕ) (first : ParentPlace) (read : Places) → n ≤ most → second_at n k second words ≡ Some read → TakesSecond n k second words first read
 second_takes n k second words first read few e =

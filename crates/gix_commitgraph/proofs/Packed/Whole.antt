@@ -1,5 +1,5 @@
 -- The parts of whole packed bytes, and that the spelling of rows is read as these rows.
-use Rattle.std.proofs.Common.{◌≡◌, ℕ, suc, ◌+◌, ◌*◌, ◌^◌, ◌<◌, ◌≤◌, true, false, cond, ltb, List, [], ◌∷◌, ◌++◌, length, drop, Some, None, Result, Ok, Err, refl, sym, ap, ◌∙◌, arith}
+use Rattle.std.proofs.Common.{◌≡◌, ℕ, suc, ◌+◌, ◌*◌, ◌^◌, ◌<◌, ◌≤◌, true, false, cond, ltb, List, [], ◌∷◌, ◌++◌, length, drop, Some, None, Result, Ok, Err, refl, sym, ap, ◌∙◌, append_assoc, arith}
 use Rattle.std.specs.Int.{w32, to_be_bytes, from_be_bytes}
 use Rattle.std.specs.List.{flat_map, AllByRecursion}
 use Rattle.std.proofs.lemmas.Bool.{lt-ltb, le-ltb, le-leb, eq-eqb}
@@ -58,6 +58,15 @@ length-rows_bytes k n w (row ∷ rows) each =
     let here = length-row_bytes k n w row each.0 in
     let both = length-append (row_bytes w row) (rows_bytes (w + length (overflow_of row.parents)) rows) in
     both ∙ rw (here, others) (grind arith)
+
+pub rows_bytes-append : (w : ℕ) (rows more : List GraphRow) → rows_bytes w (rows ++ more) ≡ rows_bytes w rows ++ rows_bytes (w + length (overflow_words rows)) more
+unfolding rows_bytes
+rows_bytes-append w [] more = let same : w ≡ w + 0 = omega arith in ap (λ (n : ℕ). rows_bytes n more) same
+rows_bytes-append w (r ∷ rows) more =
+    let next = w + length (overflow_of r.parents) in
+    let same : next + length (overflow_words rows) ≡ w + length (overflow_of r.parents ++ overflow_words rows) = omega (arith, length-append (overflow_of r.parents) (overflow_words rows)) in
+    ap (λ (x : List ℕ). row_bytes w r ++ x) (rows_bytes-append next rows more ∙ ap (λ (n : ℕ). rows_bytes next rows ++ rows_bytes n more) same)
+    ∙ sym (append_assoc (row_bytes w r) (rows_bytes next rows) (rows_bytes (w + length (overflow_of r.parents ++ overflow_words rows)) more))
 
 -- ---- the parts of whole bytes
 
