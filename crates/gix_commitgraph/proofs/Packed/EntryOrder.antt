@@ -46,11 +46,4 @@ number_more order numbers j e places lt len told k d below =
     ]
 
 pub number_small : (numbers : List ℕ) (p n : ℕ) → n ≤ most → ((place : ℕ) → get_or numbers place 0 ≤ most) → (place : ℕ) → get_or (set numbers p n) place 0 ≤ most
-number_small numbers p n few small place =
-    elim (eqb_tells place p) [
-      | inl same ↦ elim (cases_lt p (length numbers)) [
-        | inl lt ↦ rw same.1 (rw (get_or-set_same numbers p n 0 lt) few)
-        | inr le ↦ rw (get_or_past (set numbers p n) place 0 (omega (arith, same.1, length-set numbers p n))) (omega arith)
-      ]
-      | inr other ↦ rw (get_or-set_other numbers p place n 0 other.1) (small place)
-    ]
+number_small numbers p n few small place = grind (arith, small place, get_or-set_same numbers p n 0, get_or-set_other numbers p place n 0, get_or_past (set numbers p n) place 0, length-set numbers p n)

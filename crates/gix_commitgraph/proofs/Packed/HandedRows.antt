@@ -1,9 +1,9 @@
 -- Rows that are handed in, tested one after the other.
-use Rattle.std.proofs.Common.{◌≡◌, ℕ, zero, suc, ◌+◌, ◌-◌, ◌<◌, ◌≤◌, Bool, true, false, List, [], ◌∷◌, ◌++◌, length, eqb, get_or, take, drop, refl, sym, ap, subst, ◌∙◌, arith}
+use Rattle.std.proofs.Common.{◌≡◌, ℕ, zero, suc, ◌+◌, ◌-◌, ◌<◌, ◌≤◌, Bool, true, false, List, [], ◌∷◌, ◌++◌, length, map, eqb, get_or, take, drop, refl, sym, ap, subst, ◌∙◌, arith}
 use Rattle.std.specs.List.{AllByRecursion}
 use Rattle.std.specs.Prelude.{MatchBool}
 use Rattle.std.proofs.lemmas.Bool.{eqb-true, eqb-false}
-use Rattle.std.proofs.lemmas.List.{length-append, length-map, take_more, take-append-drop, map-append, map_push}
+use Rattle.std.proofs.lemmas.List.{append-nil, length-append, length-map, take_more, take-append-drop, map-append, map_push}
 use Rattle.std.proofs.lemmas.List.Concat.{flat_map-append}
 use Rattle.gix_hash.specs.declared.Kind.{Kind}
 use Rattle.gix_hash.specs.declared.Kind.TheVariants as kind
@@ -15,7 +15,7 @@ use Rattle.gix_commitgraph.specs.Rows.{GraphRow}
 use Rattle.gix_commitgraph.specs.Packed.{list_words, overflow_of, overflow_words, kind_of_rows, AreBytes, IsIdOf, IsPlaceAmong}
 use Rattle.gix_commitgraph.specs.Renumbering.{row_seen, rows_seen, IsRowOf, AreOfKind, AreOfOneKind, HavePlacesWithin}
 
-length-list_words : (p : ParentPlace) (ps : List ParentPlace) → length (list_words p ps) ≡ suc (length ps)
+pub length-list_words : (p : ParentPlace) (ps : List ParentPlace) → length (list_words p ps) ≡ suc (length ps)
 length-list_words p [] = refl
 length-list_words p (q ∷ ps) = ap suc (length-list_words q ps)
 
@@ -25,21 +25,21 @@ length-overflow_of (p ∷ []) h = absurd (omega arith)
 length-overflow_of (p ∷ q ∷ []) h = absurd (omega arith)
 length-overflow_of (p ∷ q ∷ r ∷ ps) h = length-list_words q (r ∷ ps) ∙ omega arith
 
--- how many overflow words the first rows have
-pub words_of_more : (rows : List Row) (i : ℕ) (d : Row) → i < length rows
-    → length (overflow_words (rows_seen (take (i + 1) rows))) ≡ length (overflow_words (rows_seen (take i rows))) + length (overflow_of (get_or rows i d).parents.items)
-words_of_more rows i d lt =
-    let more = take_more rows i d lt in
-    let row = get_or rows i d in
-    let seen : rows_seen (take (i + 1) rows) ≡ rows_seen (take i rows) ++ row_seen row ∷ [] = ap rows_seen more ∙ map_push row_seen (take i rows) row in
-    let words : overflow_words (rows_seen (take (i + 1) rows)) ≡ overflow_words (rows_seen (take i rows)) ++ overflow_words (row_seen row ∷ []) = ap overflow_words seen ∙ flat_map-append (λ (x : GraphRow). overflow_of x.parents) (rows_seen (take i rows)) (row_seen row ∷ []) in
-    ap length words ∙ length-append (overflow_words (rows_seen (take i rows))) (overflow_words (row_seen row ∷ [])) ∙ omega (arith, length-append (overflow_of row.parents.items) [])
+pub overflow_words-push : (rows : List GraphRow) (row : GraphRow) → overflow_words (rows ++ row ∷ []) ≡ overflow_words rows ++ overflow_of row.parents
+overflow_words-push rows row = flat_map-append (λ (x : GraphRow). overflow_of x.parents) rows (row ∷ []) ∙ ap (λ (x : List ℕ). overflow_words rows ++ x) (append-nil (overflow_of row.parents))
 
-pub words_of_part : (rows : List Row) (i : ℕ) → length (overflow_words (rows_seen (take i rows))) ≤ length (overflow_words (rows_seen rows))
-words_of_part rows i =
-    let whole : overflow_words (rows_seen rows) ≡ overflow_words (rows_seen (take i rows)) ++ overflow_words (rows_seen (drop i rows)) =
-    ap (λ (x : List Row). overflow_words (rows_seen x)) (sym (take-append-drop i rows)) ∙ ap overflow_words (map-append row_seen (take i rows) (drop i rows)) ∙ flat_map-append (λ (x : GraphRow). overflow_of x.parents) (rows_seen (take i rows)) (rows_seen (drop i rows)) in
-    omega (arith, ap length whole, length-append (overflow_words (rows_seen (take i rows))) (overflow_words (rows_seen (drop i rows))))
+-- how many overflow words the first rows have
+pub words_of_more : {X : Type 0} (f : X → GraphRow) (xs : List X) (i : ℕ) (d : X) → i < length xs
+    → length (overflow_words (map f (take (i + 1) xs))) ≡ length (overflow_words (map f (take i xs))) + length (overflow_of (f (get_or xs i d)).parents)
+words_of_more f xs i d lt =
+    let seen : map f (take (i + 1) xs) ≡ map f (take i xs) ++ f (get_or xs i d) ∷ [] = ap (map f) (take_more xs i d lt) ∙ map_push f (take i xs) (get_or xs i d) in
+    ap length (ap overflow_words seen ∙ overflow_words-push (map f (take i xs)) (f (get_or xs i d))) ∙ length-append (overflow_words (map f (take i xs))) (overflow_of (f (get_or xs i d)).parents)
+
+pub words_of_part : {X : Type 0} (f : X → GraphRow) (xs : List X) (i : ℕ) → length (overflow_words (map f (take i xs))) ≤ length (overflow_words (map f xs))
+words_of_part {X} f xs i =
+    let whole : overflow_words (map f xs) ≡ overflow_words (map f (take i xs)) ++ overflow_words (map f (drop i xs)) =
+    ap (λ (x : List X). overflow_words (map f x)) (sym (take-append-drop i xs)) ∙ ap overflow_words (map-append f (take i xs) (drop i xs)) ∙ flat_map-append (λ (x : GraphRow). overflow_of x.parents) (map f (take i xs)) (map f (drop i xs)) in
+    omega (arith, ap length whole, length-append (overflow_words (map f (take i xs))) (overflow_words (map f (drop i xs))))
 
 -- what holds of each row, by places and by the list
 module _ (P : GraphRow → Type 0) where

@@ -6,6 +6,7 @@ use Rattle.std.specs.Ordering.{is_lt}
 use Rattle.std.specs.declared.cmp.Ordering.TheVariants.{Less}
 use Rattle.std.proofs.lemmas.Bool.{lt-ltb, le-ltb, eq-eqb, ne_eqb}
 use Rattle.std.proofs.lemmas.List.{length-append}
+use Rattle.std.proofs.lemmas.Bool.Decides.{nat_tests}
 use Rattle.std.proofs.lemmas.Map.Keys.{sorted_head, sorted_tail}
 use Rattle.gix_hash.specs.declared.Kind.{Kind}
 use Rattle.gix_hash.specs.declared.ObjectId.{ObjectId}
@@ -34,17 +35,10 @@ list_again n p (q ∷ ps) more few here all =
 parents_again : (n w : ℕ) (ps : List ParentPlace) (more : List ℕ) → n ≤ most → AllByRecursion (IsPlaceAmong n) ps
     → parents_at n w (first_word ps) (second_word w ps) (overflow_of ps ++ more) ≡ Some (ps, more)
 parents_again n w [] more few all = refl
-parents_again n w (p ∷ []) more few all =
-    let one = place_word-below n p few all.0 in
-    rw (ne_eqb (place_word p) no_parent (λ e. omega arith), place_again n p few all.0) refl
-parents_again n w (p ∷ q ∷ []) more few all =
-    let one = place_word-below n p few all.0 in
-    let two = place_word-below n q few all.1.0 in
-    rw (ne_eqb (place_word p) no_parent (λ e. omega arith), place_again n p few all.0, ne_eqb (place_word q) no_parent (λ e. omega arith), lt-ltb (place_word q) flag (omega arith), place_again n q few all.1.0) refl
+parents_again n w (p ∷ []) more few all = grind (arith, nat_tests, place_again n p few all.0, place_word-below n p few all.0)
+parents_again n w (p ∷ q ∷ []) more few all = grind (arith, nat_tests, place_again n p few all.0, place_word-below n p few all.0, place_again n q few all.1.0, place_word-below n q few all.1.0)
 parents_again n w (p ∷ q ∷ r ∷ ps) more few all =
-    let one = place_word-below n p few all.0 in
-    let two = place_word-below n q few all.1.0 in
-    rw (ne_eqb (place_word p) no_parent (λ e. omega arith), place_again n p few all.0, ne_eqb (flag + w) no_parent (λ e. omega arith), le-ltb (flag + w) flag (omega arith), eq-eqb (flag + w) (flag + w) refl, lt-ltb (place_word q) flag (omega arith), place_again n q few all.1.0, list_again n r ps more few all.1.1.0 all.1.1.1) refl
+    grind (arith, nat_tests, place_again n p few all.0, place_word-below n p few all.0, place_again n q few all.1.0, place_word-below n q few all.1.0, list_again n r ps more few all.1.1.0 all.1.1.1)
 
 -- the first of the rows, if there is one, may follow
 abbrev pub Begins : Option ObjectId → List GraphRow → Type 0
