@@ -16,11 +16,7 @@ less_first x y more lt = ap (λ o. ordering_then o more) (sym (nat_cmp_is x y Le
 
 -- the first bytes are in order, or they are one byte and the rest is in order
 step : (x y : ℕ) (more : Ordering) → x ≤ y → (x ≡ y → more ≡ Less) → ordering_then (nat_cmp x y) more ≡ Less
-step x y more le rest =
-    elim (cases_lt x y) [
-      | inl lt ↦ less_first x y more lt
-      | inr ge ↦ (let same : x ≡ y = omega arith in ap (λ o. ordering_then o more) (sym (nat_cmp_is x y Equal same)) ∙ rest same)
-    ]
+step x y more le rest = grind (arith, less_first x y more, rest, nat_cmp_is x y Equal)
 
 pub first_less : (xs ys : List ℕ) → 4 ≤ length xs → 4 ≤ length ys → AreBytes xs → AreBytes ys → word_at 0 xs < word_at 0 ys → slice_cmp nat_cmp xs ys ≡ Less
 first_less xs ys long_x long_y bytes_x bytes_y lt =

@@ -48,8 +48,7 @@ pub list_goes_on : (n word : ℕ) (left : List ℕ) (total : Option (List ℕ)) 
     → word ≡ from_be_bytes w32 (get_or left 0 0 ∷ get_or left 1 0 ∷ get_or left 2 0 ∷ get_or left 3 0 ∷ []) → word < flag → is_some (place_of n word) ≡ true
     → behind (list_at n (words_of left)) ≡ total → behind (list_at n (words_of (take (length left - 4) (drop 4 left)))) ≡ total
 list_goes_on n word left total long e lt is so_far =
-    let words : words_of left ≡ word ∷ words_of (drop 4 left) = words_of-more left long ∙ ap (λ (w : ℕ). w ∷ words_of (drop 4 left)) (sym e) in
-    ap (λ (b : List ℕ). behind (list_at n (words_of b))) (take_rest left 4) ∙ sym (behind-list_on n word (words_of (drop 4 left)) lt is) ∙ ap (λ (ws : List ℕ). behind (list_at n ws)) (sym words) ∙ so_far
+    grind (arith, words_of-more left long, take_rest left 4, behind-list_on n word (words_of (drop 4 left)) lt is)
 
 -- a second parent word that names the overflow word from which the words are left
 pub behind-second_list : (n k first second : ℕ) (words : List ℕ) → first ≢ no_parent → is_some (place_of n first) ≡ true → second ≢ no_parent → flag ≤ second → second ≡ flag + k

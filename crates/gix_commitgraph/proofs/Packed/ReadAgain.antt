@@ -24,12 +24,8 @@ place_again n Fault few lt = rw (le-ltb fault_word n few) refl
 
 list_again : (n : ℕ) (p : ParentPlace) (ps : List ParentPlace) (more : List ℕ) → n ≤ most → IsPlaceAmong n p → AllByRecursion (IsPlaceAmong n) ps
     → list_at n (list_words p ps ++ more) ≡ Some (p ∷ ps, more)
-list_again n p [] more few here all =
-    let back : flag + place_word p - flag ≡ place_word p = omega arith in
-    rw (le-ltb (flag + place_word p) flag (omega arith), back, place_again n p few here) refl
-list_again n p (q ∷ ps) more few here all =
-    let below : place_word p < flag = omega (arith, place_word-below n p few here) in
-    rw (lt-ltb (place_word p) flag below, place_again n p few here, list_again n q ps more few all.0 all.1) refl
+list_again n p [] more few here all = grind (arith, nat_tests, place_word-below n p few here, place_again n p few here)
+list_again n p (q ∷ ps) more few here all = grind (arith, nat_tests, place_word-below n p few here, place_again n p few here, list_again n q ps more few all.0 all.1)
 
 -- the parents of a row whose overflow list is at the front of the words
 parents_again : (n w : ℕ) (ps : List ParentPlace) (more : List ℕ) → n ≤ most → AllByRecursion (IsPlaceAmong n) ps

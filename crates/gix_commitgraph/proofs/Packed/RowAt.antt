@@ -8,6 +8,7 @@ use Rattle.std.proofs.lemmas.Bool.{lt-ltb, le-ltb, ne_eqb}
 use Rattle.std.proofs.lemmas.List.{drop-drop, drop_at, length-append, take-append-drop, get_or-take, length-take, length-take-le}
 use Rattle.std.proofs.lemmas.List.Concat.{flat_map-append}
 use Rattle.std.proofs.Math.Seq.{drop-cons}
+use Rattle.std.proofs.lemmas.Bool.Decides.{nat_tests}
 use Rattle.gix_hash.specs.declared.Kind.{Kind}
 use Rattle.gix_commitgraph.specs.declared.check.Layout.{Layout}
 use Rattle.gix_commitgraph.specs.declared.ParentPlace.{ParentPlace}
@@ -23,32 +24,22 @@ use Rattle.gix_commitgraph.proofs.Packed.Whole.{spelling-has_body, length-rows_b
 -- ---- the answers of a row's words
 
 answer_again : (n : ℕ) (p : ParentPlace) → n ≤ most → IsPlaceAmong n p → answer_of_word (place_word p) ≡ answer_of p
-answer_again n (At i) few lt = rw (ne_eqb i fault_word (λ e. omega arith)) refl
+answer_again n (At i) few lt = grind (arith, nat_tests)
 answer_again n Fault few lt = refl
 
 list_answers_again : (n : ℕ) (p : ParentPlace) (ps : List ParentPlace) (more : List ℕ) → n ≤ most → IsPlaceAmong n p → AllByRecursion (IsPlaceAmong n) ps
     → answers_of_list (list_words p ps ++ more) ≡ answers_of (p ∷ ps)
-list_answers_again n p [] more few here all =
-    let back : flag + place_word p - flag ≡ place_word p = omega arith in
-    rw (le-ltb (flag + place_word p) flag (omega arith), back, answer_again n p few here) refl
-list_answers_again n p (q ∷ ps) more few here all =
-    rw (lt-ltb (place_word p) flag (omega (arith, place_word-below n p few here)), answer_again n p few here, list_answers_again n q ps more few all.0 all.1) refl
+list_answers_again n p [] more few here all = grind (arith, nat_tests, place_word-below n p few here, answer_again n p few here)
+list_answers_again n p (q ∷ ps) more few here all = grind (arith, nat_tests, place_word-below n p few here, answer_again n p few here, list_answers_again n q ps more few all.0 all.1)
 
 answers_again : (n w : ℕ) (ps : List ParentPlace) (words more : List ℕ) → n ≤ most → AllByRecursion (IsPlaceAmong n) ps → drop w words ≡ overflow_of ps ++ more
     → answers_of_words (first_word ps) (second_word w ps) words ≡ answers_of ps
 unfolding answers_of_words
 answers_again n w [] words more few all e = refl
-answers_again n w (p ∷ []) words more few all e =
-    let one = place_word-below n p few all.0 in
-    rw (ne_eqb (place_word p) no_parent (λ e. omega arith), answer_again n p few all.0) refl
-answers_again n w (p ∷ q ∷ []) words more few all e =
-    let one = place_word-below n p few all.0 in
-    let two = place_word-below n q few all.1.0 in
-    rw (ne_eqb (place_word p) no_parent (λ e. omega arith), answer_again n p few all.0, lt-ltb (place_word q) no_parent two, answer_again n q few all.1.0, lt-ltb (place_word q) flag (omega arith)) refl
+answers_again n w (p ∷ []) words more few all e = grind (arith, nat_tests, place_word-below n p few all.0, answer_again n p few all.0)
+answers_again n w (p ∷ q ∷ []) words more few all e = grind (arith, nat_tests, place_word-below n p few all.0, place_word-below n q few all.1.0, answer_again n p few all.0, answer_again n q few all.1.0)
 answers_again n w (p ∷ q ∷ r ∷ ps) words more few all e =
-    let one = place_word-below n p few all.0 in
-    let back : flag + w - flag ≡ w = omega arith in
-    rw (ne_eqb (place_word p) no_parent (λ e. omega arith), answer_again n p few all.0, le-ltb (flag + w) no_parent (omega arith), le-ltb (flag + w) flag (omega arith), back, e, list_answers_again n q (r ∷ ps) more few all.1.0 all.1.1) refl
+    grind (arith, nat_tests, place_word-below n p few all.0, answer_again n p few all.0, list_answers_again n q (r ∷ ps) more few all.1.0 all.1.1)
 
 -- ---- the row of a number
 

@@ -32,18 +32,11 @@ turned a b o e = id_total.antisymm b a ∙ ap ordering_reverse e
 
 module _ (rows : List GraphRow) (rising : IsStrictlySortedBy id_cmp (ids_of_rows rows)) (i : ObjectId) (middle : ℕ) (within : middle < length rows) where
   pub lower_more : id_cmp (row_at rows middle).id i ≡ Less → (r : ℕ) → r < middle + 1 → id_cmp (row_at rows r).id i ≡ Less
-  lower_more e r lt =
-      elim (cases_lt r middle) [
-        | inl below ↦ id_total.trans (row_at rows r).id (row_at rows middle).id i (rises rows r middle rising below within) e
-        | inr le ↦ (let same : r ≡ middle = omega arith in ap (λ (n : ℕ). id_cmp (row_at rows n).id i) same ∙ e)
-      ]
+  lower_more e r lt = grind (arith, e, rises rows r middle rising, id_total.trans (row_at rows r).id (row_at rows middle).id i)
 
   pub higher_more : id_cmp (row_at rows middle).id i ≡ Greater → (r : ℕ) → middle ≤ r → r < length rows → id_cmp (row_at rows r).id i ≡ Greater
   higher_more e r le lt =
-      elim (cases_lt middle r) [
-        | inl above ↦ turned i (row_at rows r).id Less (id_total.trans i (row_at rows middle).id (row_at rows r).id (turned (row_at rows middle).id i Greater e) (rises rows middle r rising above lt))
-        | inr ge ↦ (let same : r ≡ middle = omega arith in ap (λ (n : ℕ). id_cmp (row_at rows n).id i) same ∙ e)
-      ]
+      grind (arith, e, turned (row_at rows middle).id i Greater, rises rows middle r rising, id_total.trans i (row_at rows middle).id (row_at rows r).id, turned i (row_at rows r).id Less)
 
 pub row_of-found : (rows : List GraphRow) (i : ObjectId) (r : ℕ) → IsStrictlySortedBy id_cmp (ids_of_rows rows) → r < length rows → id_cmp (row_at rows r).id i ≡ Equal → row_of rows i ≡ Some (row_at rows r)
 row_of-found [] i r rising lt e = absurd (omega arith)

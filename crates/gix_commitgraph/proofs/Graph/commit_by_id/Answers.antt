@@ -36,8 +36,7 @@ returns-in-Equal-clause-row c =
     let rows = c.args.self.now in
     let middle = c.probe-middle.result in
     let compared : id_cmp (row_at rows middle).id c.args.id.now ≡ Equal = sym c.compare_at.ensures ∙ c.in-Equal.is in
-    let within : middle < length rows = omega arith in
-    sym c.commit_at.ensures.row ∙ slice_get-get_or rows middle no_row within ∙ sym (row_of-found rows c.args.id.now middle c.num_commits-high.ensures.sound.rising within compared)
+    sym c.commit_at.ensures.row ∙ slice_get-get_or rows middle no_row (omega arith) ∙ sym (row_of-found rows c.args.id.now middle c.num_commits-high.ensures.sound.rising (omega arith) compared)
 
 pub returns-clause-row : goal.returns-clause-row
 returns-clause-row c =
