@@ -91,12 +91,7 @@ module _ (rows : List GraphRow) (order : List Entry) (perm : IsPermutation (entr
       let at_k = get_or-map (λ (entry : Entry). entry.0) order k no_entry a (omega arith) in
       let at_next = get_or-map (λ (entry : Entry). entry.0) order (k + 1) no_entry a lt in
       let differ : is_same a b ≡ false = (λ i. is_same (sym at_k i) (sym at_next i)) ∙ apart in
-      by_cases a b (id_cmp a b) refl (stops.2 no_entry) (falls k no_entry lt) differ
-    where
-      by_cases : (a b : ObjectId) (o : Ordering) → id_cmp a b ≡ o → is_lt (id_cmp a b) ≡ false → is_lt (id_cmp b a) ≡ false → is_same a b ≡ false → ⊥
-      by_cases a b Less is stop fall differ = false≢true (sym stop ∙ ap is_lt is)
-      by_cases a b Equal is stop fall differ = false≢true (sym differ ∙ ap is_eq is)
-      by_cases a b Greater is stop fall differ = false≢true (sym fall ∙ ap is_lt (turned a b Greater is))
+      grind (arith, stops.2 no_entry, falls k no_entry lt, differ, id_total.antisymm b a)
 
   module _ (rise : AlwaysRise order) where
     pub sorted_order : IsStrictlySortedBy id_cmp (ids_of order)

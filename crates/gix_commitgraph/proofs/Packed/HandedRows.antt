@@ -8,6 +8,7 @@ use Rattle.std.proofs.lemmas.List.Concat.{flat_map-append}
 use Rattle.gix_hash.specs.declared.Kind.{Kind}
 use Rattle.gix_hash.specs.declared.Kind.TheVariants as kind
 use Rattle.gix_hash.specs.declared.ObjectId.{ObjectId}
+use Rattle.gix_hash.specs.declared.ObjectId.TheVariants as id
 use Rattle.gix_commitgraph.specs.declared.ParentPlace.{ParentPlace}
 use Rattle.gix_commitgraph.specs.declared.Row.{Row}
 use Rattle.gix_hash.specs.Id.{id_len, kind_of, bytes_of}
@@ -57,13 +58,10 @@ kinds_of_rows k [] all = tt
 kinds_of_rows k (row ∷ rows) all = ((all.0.id.kind, all.0.tree.kind), kinds_of_rows k rows all.1)
 
 pub kind_from_len : (k : Kind) (i : ObjectId) → id_len (kind_of i) ≡ id_len k → kind_of i ≡ k
-kind_from_len k i e = by_cases (kind_of i) k e
-  where
-    by_cases : (a b : Kind) → id_len a ≡ id_len b → a ≡ b
-    by_cases kind.Sha1 kind.Sha1 e = refl
-    by_cases kind.Sha1 kind.Sha256 e = absurd (omega arith)
-    by_cases kind.Sha256 kind.Sha1 e = absurd (omega arith)
-    by_cases kind.Sha256 kind.Sha256 e = refl
+kind_from_len kind.Sha1 (id.Sha1 bytes) e = refl
+kind_from_len kind.Sha1 (id.Sha256 bytes) e = absurd (omega arith)
+kind_from_len kind.Sha256 (id.Sha1 bytes) e = absurd (omega arith)
+kind_from_len kind.Sha256 (id.Sha256 bytes) e = refl
 
 pub is_of_kind_cases : (k : Kind) (i : ObjectId) (bytes : List ℕ) (b : Bool) → bytes ≡ bytes_of i → length bytes ≡ id_len (kind_of i) → AreBytes bytes → b ≡ eqb (length bytes) (id_len k)
     → MatchBool b (IsIdOf k i) (kind_of i ≡ k → ⊥)

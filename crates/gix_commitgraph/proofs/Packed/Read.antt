@@ -10,6 +10,7 @@ use Rattle.std.specs.declared.cmp.Ordering.TheVariants.{Less, Equal, Greater}
 use Rattle.std.specs.Cmp.Lexicographic.{same_text}
 use Rattle.std.proofs.lemmas.Bool.{ltb-true, eqb-true}
 use Rattle.std.proofs.lemmas.List.{drop-drop, drop_at, take-append-drop, length-append, length-drop}
+use Rattle.std.proofs.lemmas.Bool.Decides.{nat_tests}
 use Rattle.gix_hash.specs.declared.Kind.{Kind}
 use Rattle.gix_hash.specs.declared.Kind.TheVariants as kind
 use Rattle.gix_hash.specs.declared.ObjectId.{ObjectId}
@@ -71,11 +72,7 @@ row_then_takes k r bytes (Some read) more rows e = go (more read.1) refl e
 
 nothing_left : (words : List ℕ) (rows : List GraphRow) → cond (eqb (length words) 0) (Ok []) (Err place.Overflow) ≡ Ok rows → (rows ≡ []) × (words ≡ [])
 nothing_left [] rows e = (cc, refl)
-nothing_left (w ∷ words) rows e =
-    elim (chosen (eqb (suc (length words)) 0) (Ok []) (Err place.Overflow) (Ok rows) e) [
-      | inl h ↦ (let none : suc (length words) ≡ 0 = eqb-true (suc (length words)) 0 h.0 in absurd (omega arith))
-      | inr h ↦ absurd cc
-    ]
+nothing_left (w ∷ words) rows e = absurd (grind (arith, nat_tests, e))
 
 rows_take : (k : Kind) (n m w left r : ℕ) (before : Option ObjectId) (bytes words : List ℕ) (rows : List GraphRow) → n ≤ most
     → row_len k * left ≤ length bytes → AreBytes bytes → w + length words ≡ m → rows_at k n m left r before bytes words ≡ Ok rows
@@ -114,14 +111,8 @@ starts_takes : (bytes name : List ℕ) → starts_with nat_eq bytes name ≡ tru
 starts_takes bytes name e = same_text name (take (length name) bytes) (sym e)
 
 name_takes : (k : Kind) (bytes : List ℕ) → kind_named bytes ≡ Some k → take 4 bytes ≡ layout_name k
-name_takes k bytes e =
-    elim (chosen (starts_with nat_eq bytes (codes "GTR1")) (Some kind.Sha1) (cond (starts_with nat_eq bytes (codes "GTR2")) (Some kind.Sha256) None) (Some k) e) [
-      | inl h ↦ (let same : kind.Sha1 ≡ k = cc h.1 in subst (λ x. take 4 bytes ≡ layout_name x) same (sym (starts_takes bytes (codes "GTR1") h.0)))
-      | inr h ↦ elim (chosen (starts_with nat_eq bytes (codes "GTR2")) (Some kind.Sha256) None (Some k) h.1) [
-        | inl s ↦ (let same : kind.Sha256 ≡ k = cc s.1 in subst (λ x. take 4 bytes ≡ layout_name x) same (sym (starts_takes bytes (codes "GTR2") s.0)))
-        | inr s ↦ absurd cc
-      ]
-    ]
+name_takes kind.Sha1 bytes e = grind (arith, nat_tests, e, starts_takes bytes (codes "GTR1"))
+name_takes kind.Sha256 bytes e = grind (arith, nat_tests, e, starts_takes bytes (codes "GTR2"))
 
 kind_takes : (k : Kind) (n : ℕ) (rows : List GraphRow) → length rows ≡ n → may_have k n ≡ true → AllByRecursion (IsRowAmong k n) rows → kind_of_rows rows ≡ k
 kind_takes kind.Sha1 n [] len may each = refl

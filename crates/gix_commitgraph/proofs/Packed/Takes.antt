@@ -2,6 +2,7 @@
 use Rattle.std.proofs.Common.{◌≡◌, ℕ, ◌+◌, ◌-◌, ◌<◌, ◌≤◌, Bool, true, false, cond, ltb, eqb, List, [], ◌∷◌, ◌++◌, Option, Some, None, refl, sym, ap, subst, ◌∙◌, arith, inl, inr, ◌⊎◌}
 use Rattle.std.specs.List.{AllByRecursion}
 use Rattle.std.proofs.lemmas.Bool.{ltb-true, ltb-false, eqb-true}
+use Rattle.std.proofs.lemmas.Bool.Decides.{nat_tests}
 use Rattle.gix_commitgraph.specs.declared.ParentPlace.{ParentPlace}
 use Rattle.gix_commitgraph.specs.declared.ParentPlace.TheVariants.{At, Fault}
 use Rattle.gix_commitgraph.specs.Packed.{most, fault_word, no_parent, flag, place_word, list_words, overflow_of, first_word, second_word, IsPlaceAmong}
@@ -13,14 +14,8 @@ chosen true x y z e = inl (refl, e)
 chosen false x y z e = inr (refl, e)
 
 place_takes : (n word : ℕ) (p : ParentPlace) → place_of n word ≡ Some p → (place_word p ≡ word) × IsPlaceAmong n p
-place_takes n word p e =
-    elim (chosen (ltb word n) (Some (At word)) (cond (eqb word fault_word) (Some Fault) None) (Some p) e) [
-      | inl h ↦ (let same : At word ≡ p = cc in subst (λ q. (place_word q ≡ word) × IsPlaceAmong n q) same (refl, ltb-true word n h.0))
-      | inr h ↦ elim (chosen (eqb word fault_word) (Some Fault) None (Some p) h.1) [
-        | inl f ↦ (let same : Fault ≡ p = cc in subst (λ q. (place_word q ≡ word) × IsPlaceAmong n q) same (sym (eqb-true word fault_word f.0), tt))
-        | inr f ↦ absurd cc
-      ]
-    ]
+place_takes n word (At i) e = (grind (arith, nat_tests, e), grind (arith, nat_tests, e))
+place_takes n word Fault e = (grind (arith, nat_tests, e), tt)
 
 record TakesPlace (n word : ℕ) (more : Option Places) (read : Places) : Type 0 where
   place : ParentPlace
