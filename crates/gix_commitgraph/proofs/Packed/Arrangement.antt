@@ -90,8 +90,7 @@ module _ (rows : List GraphRow) (order : List Entry) (perm : IsPermutation (entr
       let apart : is_same (get_or (ids_of order) k a) (get_or (ids_of order) (k + 1) a) ≡ false = apart_from_distinct is_same (ids_of order) k (k + 1) a ids (omega arith) (omega (arith, len)) in
       let at_k = get_or-map (λ (entry : Entry). entry.0) order k no_entry a (omega arith) in
       let at_next = get_or-map (λ (entry : Entry). entry.0) order (k + 1) no_entry a lt in
-      let differ : is_same a b ≡ false = (λ i. is_same (sym at_k i) (sym at_next i)) ∙ apart in
-      grind (arith, stops.2 no_entry, falls k no_entry lt, differ, id_total.antisymm b a)
+      grind (arith, stops.2 no_entry, falls k no_entry lt, apart, at_k, at_next, id_total.antisymm b a)
 
   module _ (rise : AlwaysRise order) where
     pub sorted_order : IsStrictlySortedBy id_cmp (ids_of order)
@@ -114,7 +113,6 @@ module _ (rows : List GraphRow) (order : List Entry) (perm : IsPermutation (entr
           let less : id_cmp (get_or (ids_of order) j d.0) (get_or (ids_of order) k d.0) ≡ Less = Less-from_sorted id_cmp (ids_of order) j k d.0 sorted_order lt (omega (arith, len)) in
           let at_j = get_or-map (λ (entry : Entry). entry.0) order j d d.0 (omega arith) in
           let at_k = get_or-map (λ (entry : Entry). entry.0) order k d d.0 within in
-          let same_less : id_cmp (get_or order k d).0 (get_or order k d).0 ≡ Less = (λ i. id_cmp ((sym one ∙ sym at_j) i) (sym at_k i)) ∙ less in
           let tied = tied_itself id_total (get_or order k d).0 in
           absurd cc;
     }

@@ -3,7 +3,8 @@ use Rattle.std.proofs.Common.{◌≡◌, ℕ, zero, suc, ◌+◌, ◌-◌, ◌<�
 use Rattle.std.specs.List.{AllByRecursion}
 use Rattle.std.specs.Prelude.{MatchBool}
 use Rattle.std.proofs.lemmas.Bool.{eqb-true, eqb-false}
-use Rattle.std.proofs.lemmas.List.{append-nil, length-append, length-map, take_more, take-append-drop, map-append, map_push}
+use Rattle.std.proofs.lemmas.List.Elements.{All-from_recursion}
+use Rattle.std.proofs.lemmas.List.{get_or-map, append-nil, length-append, length-map, take_more, take-append-drop, map-append, map_push}
 use Rattle.std.proofs.lemmas.List.Concat.{flat_map-append}
 use Rattle.gix_hash.specs.declared.Kind.{Kind}
 use Rattle.gix_hash.specs.declared.Kind.TheVariants as kind
@@ -12,7 +13,7 @@ use Rattle.gix_hash.specs.declared.ObjectId.TheVariants as id
 use Rattle.gix_commitgraph.specs.declared.ParentPlace.{ParentPlace}
 use Rattle.gix_commitgraph.specs.declared.Row.{Row}
 use Rattle.gix_hash.specs.Id.{id_len, kind_of, bytes_of}
-use Rattle.gix_commitgraph.specs.Rows.{GraphRow}
+use Rattle.gix_commitgraph.specs.Rows.{GraphRow, no_row, row_at}
 use Rattle.gix_commitgraph.specs.Packed.{list_words, overflow_of, overflow_words, kind_of_rows, AreBytes, IsIdOf, IsPlaceAmong}
 use Rattle.gix_commitgraph.specs.Renumbering.{row_seen, rows_seen, IsRowOf, AreOfKind, AreOfOneKind, HavePlacesWithin}
 
@@ -43,15 +44,13 @@ words_of_part {X} f xs i =
     omega (arith, ap length whole, length-append (overflow_words (map f (take i xs))) (overflow_words (map f (drop i xs))))
 
 -- what holds of each row, by places and by the list
-module _ (P : GraphRow → Type 0) where
-  pub all_seen : (rows : List Row) → ((k : ℕ) (d : Row) → k < length rows → P (row_seen (get_or rows k d))) → AllByRecursion P (rows_seen rows)
-  all_seen [] each = tt
-  all_seen (row ∷ rows) each = (each 0 row (omega arith), all_seen rows (λ k d lt. each (suc k) d (omega arith)))
+pub all_seen : (P : GraphRow → Type 0) (rows : List Row) → ((k : ℕ) (d : Row) → k < length rows → P (row_seen (get_or rows k d))) → AllByRecursion P (rows_seen rows)
+all_seen P [] each = tt
+all_seen P (row ∷ rows) each = (each 0 row (omega arith), all_seen P rows (λ k d lt. each (suc k) d (omega arith)))
 
-  pub seen_at : (rows : List Row) (k : ℕ) (d : Row) → AllByRecursion P (rows_seen rows) → k < length rows → P (row_seen (get_or rows k d))
-  seen_at [] k d all lt = absurd (omega arith)
-  seen_at (row ∷ rows) zero d all lt = all.0
-  seen_at (row ∷ rows) (suc k) d all lt = seen_at rows k d all.1 (omega arith)
+-- a row that was read from the list that was handed in
+pub read_seen : (rows : List Row) (place : ℕ) (row : Row) → place < length rows → row ≡ get_or rows place row → row_seen row ≡ row_at (rows_seen rows) place
+read_seen rows place row lt is = ap row_seen is ∙ sym (get_or-map row_seen rows place row no_row lt)
 
 kinds_of_rows : (k : Kind) (rows : List GraphRow) → AllByRecursion (IsRowOf k) rows → AreOfKind k rows
 kinds_of_rows k [] all = tt
@@ -72,7 +71,7 @@ is_of_kind_cases k i bytes false is len fits e = λ same. eqb-false (length byte
 
 -- where all rows have a property, the row that was read has it
 pub read_row : (P : GraphRow → Type 0) (rows : List Row) (k : ℕ) (row : Row) → AllByRecursion P (rows_seen rows) → k < length rows → row ≡ get_or rows k row → P (row_seen row)
-read_row P rows k row all lt is = subst (λ (x : Row). P (row_seen x)) (sym is) (seen_at P rows k row all lt)
+read_row P rows k row all lt is = subst P (sym (read_seen rows k row lt is)) (All-from_recursion P (rows_seen rows) all k no_row (omega (arith, length-map rows row_seen)))
 
 pub places_within : (rows : List Row) → ((k : ℕ) (d : Row) → k < length rows → AllByRecursion (IsPlaceAmong (length rows)) (get_or rows k d).parents.items) → HavePlacesWithin (rows_seen rows)
 places_within rows each = all_seen (λ row. AllByRecursion (IsPlaceAmong (length (rows_seen rows))) row.parents) rows (λ k d lt. subst (λ (n : ℕ). AllByRecursion (IsPlaceAmong n) (get_or rows k d).parents.items) (sym (length-map rows row_seen)) (each k d lt))

@@ -9,7 +9,7 @@ use Rattle.gix_commitgraph.specs.declared.Row.{Row}
 use Rattle.gix_commitgraph.specs.Rows.{GraphRow, no_row, row_at}
 use Rattle.gix_commitgraph.specs.Packed.{most, list_words, overflow_of, row_bytes, rows_bytes, overflow_words, IsPlaceAmong}
 use Rattle.gix_commitgraph.specs.Renumbering.{row_seen, rows_seen, Entry, moved, renumbered, arranged, CanArrange}
-use Rattle.gix_commitgraph.proofs.Packed.HandedRows.{read_places, length-list_words, words_of_more, words_of_part}
+use Rattle.gix_commitgraph.proofs.Packed.HandedRows.{read_seen, read_places, length-list_words, words_of_more, words_of_part}
 use Rattle.gix_commitgraph.proofs.Packed.Whole.{rows_bytes-append}
 
 -- the row of an entry, by its new number's words
@@ -19,16 +19,6 @@ arranged_row rows numbers entry = renumbered (slice_index numbers) (row_at rows 
 pub rows_bytes-push : (w : ℕ) (rows : List GraphRow) (row : GraphRow) → rows_bytes w (rows ++ row ∷ []) ≡ rows_bytes w rows ++ row_bytes (w + length (overflow_words rows)) row
 unfolding rows_bytes
 rows_bytes-push w rows row = rows_bytes-append w rows (row ∷ []) ∙ ap (λ (x : List ℕ). rows_bytes w rows ++ x) (append-nil (row_bytes (w + length (overflow_words rows)) row))
-
--- a row that was read from the list that was handed in
-pub read_seen : (rows : List Row) (place : ℕ) (row : Row) → place < length rows → row ≡ get_or rows place row → row_seen row ≡ row_at (rows_seen rows) place
-read_seen rows place row lt is = ap row_seen is ∙ sym (get_or-map row_seen rows place row no_row lt)
-
-module _ (rows : List Row) (order : List Entry) (numbers : List ℕ) (i : ℕ) (e : Entry) (row : Row) (lt : i < length order) (within : (get_or order i e).1 < length rows) (is : row ≡ get_or rows (get_or order i e).1 row) where
-  pub arranged_more : arranged (rows_seen rows) (take (i + 1) order) numbers ≡ arranged (rows_seen rows) (take i order) numbers ++ renumbered (slice_index numbers) (row_seen row) ∷ []
-  arranged_more =
-      ap (λ (x : List Entry). arranged (rows_seen rows) x numbers) (take_more order i e lt) ∙ map_push (arranged_row (rows_seen rows) numbers) (take i order) (get_or order i e)
-      ∙ ap (λ (x : GraphRow). arranged (rows_seen rows) (take i order) numbers ++ renumbered (slice_index numbers) x ∷ []) (sym (read_seen rows (get_or order i e).1 row within is))
 
 -- new numbers change no lengths
 pub length-overflow_of-moved : (ps : List ParentPlace) (number : ℕ → ℕ) → length (overflow_of (map (moved number) ps)) ≡ length (overflow_of ps)
@@ -50,15 +40,16 @@ reads_entry rows order numbers i e row can lt is =
     let seen_len = length-map rows row_seen in
     let within : (get_or order i e).1 < length rows = omega (arith, can.places.below i e lt, seen_len) in
     let len : length rows ≡ length numbers = omega (arith, can.len, seen_len) in
-    let more = arranged_more rows order numbers i e row lt within is in
     let first = arranged (rows_seen rows) (take i order) numbers in
+    let seen : row_at (rows_seen rows) (get_or order i e).1 ≡ row_seen row = sym (read_seen rows (get_or order i e).1 row within is) in
     let words : length (overflow_words (arranged (rows_seen rows) (take (i + 1) order) numbers)) ≡ length (overflow_words first) + length (overflow_of row.parents.items) =
     words_of_more (arranged_row (rows_seen rows) numbers) order i e lt
-    ∙ ap (λ (x : GraphRow). length (overflow_words first) + length (overflow_of (renumbered (slice_index numbers) x).parents)) (sym (read_seen rows (get_or order i e).1 row within is))
+    ∙ ap (λ (x : GraphRow). length (overflow_words first) + length (overflow_of (renumbered (slice_index numbers) x).parents)) seen
     ∙ ap (λ (n : ℕ). length (overflow_words first) + n) (length-overflow_of-moved row.parents.items (slice_index numbers)) in
     record {
       among = subst (λ (n : ℕ). AllByRecursion (IsPlaceAmong n) row.parents.items) len (read_places rows (get_or order i e).1 row can.within within is);
-      more = more;
+      more = ap (λ (x : List Entry). arranged (rows_seen rows) x numbers) (take_more order i e lt) ∙ map_push (arranged_row (rows_seen rows) numbers) (take i order) (get_or order i e)
+          ∙ ap (λ (x : GraphRow). first ++ renumbered (slice_index numbers) x ∷ []) seen;
       words = words;
       few = omega (arith, words, words_of_part (arranged_row (rows_seen rows) numbers) order (i + 1), can.few_words);
     }

@@ -51,9 +51,7 @@ met_at met (u ∷ trees) zero t a e =
     let same : u ≡ t = cc in
     let more = met ++ met_as met u ∷ [] in
     let here : slice_get (met_behind more trees) (length met) ≡ Some (met_as met u) = met_stays more trees (length met) (omega (arith, one_more met (met_as met u))) ∙ get_behind met (met_as met u ∷ []) in
-    let at : slice_get (met_behind more trees) (length met + 0) ≡ Some (met_as met u) = subst (λ n. slice_get (met_behind more trees) n ≡ Some (met_as met u)) (omega arith) here in
-    subst (λ x. slice_get (met_behind more trees) (length met + 0) ≡ Some (met_as (met_behind more trees) x)) same
-    (at ∙ ap (λ ids. Some (u.oid, u.oid ∷ ids)) (sym (known_stays met (u ∷ trees) u.turn a.0)))
+    grind (arith, here, same, known_stays met (u ∷ trees) u.turn a.0)
 met_at met (u ∷ trees) (suc k) t a e =
     let more = met ++ met_as met u ∷ [] in
     let above : AreAbove (length more) trees = subst (λ n. AreAbove n trees) (sym (one_more met (met_as met u))) a.1 in
