@@ -94,13 +94,9 @@ queue_more trees turn i h =
     let all : met_behind [] (trees ++ record { oid = i; turn = turn } ∷ []) ≡ met ++ w ∷ [] = met_more [] trees (record { oid = i; turn = turn }) in
     let within : turn ≤ length met = omega (arith, h, met_length [] trees) in
     λ j. record {
-      known = (ap (λ l. known_at l turn) all ∙ known_front met w turn within) j;
+      known = (ap (λ l. known_at l turn) all ∙ known_stays met (record { oid = i; turn = turn } ∷ []) turn within) j;
       waiting = (ap (λ l. drop turn l) all ∙ drop-append-le turn met (w ∷ []) within) j;
     }
-  where
-    known_front : (met : List Waiting) (w : Waiting) (turn : ℕ) → turn ≤ length met → known_at (met ++ w ∷ []) turn ≡ known_at met turn
-    known_front met w zero h = refl
-    known_front met w (suc turn) h = ap ids_or_none (get_in_front met (w ∷ []) turn (omega arith))
 
 pub queue_turns : (trees : List Tree) (turn : ℕ) (t : Tree) → AreAbove 0 trees → turn < length trees → t ≡ get_or trees turn t → (level_queue turn trees).waiting ≡ (t.oid, (level_queue (turn + 1) trees).known) ∷ (level_queue (turn + 1) trees).waiting
 queue_turns trees turn t a w h =
