@@ -80,16 +80,13 @@ begins_with_row bytes layout rows r kept lt =
       parents = (λ i. answers_of_words (has.first i) (has.second i) (overflow_words rows)) ∙ answers_again (length rows) from row.parents (overflow_words rows) (overflow_words others) sound.few among.parents list;
     })
 
-times_within : (a r n : ℕ) → r < n → a * r + a ≤ a * n
-times_within a r n lt = let product : a * (r + 1) ≤ a * n = grind arith in let one : a * (r + 1) ≡ a * r + a = grind arith in omega arith
-
 -- where the packed bytes of a graph hold its rows and overflow words
 pub row_within : (bytes : List ℕ) (layout : Layout) (rows : List GraphRow) (r : ℕ) → IsPackedAs bytes layout rows → r < length rows → 12 + row_len layout.kind * r + row_len layout.kind ≤ length bytes
 row_within bytes layout rows r kept lt =
     let k = kind_of_rows rows in
     let body = spelling-has_body rows kept.sound in
     let rows_len = length-rows_bytes k (length rows) 0 rows kept.sound.each in
-    let within : row_len k * r + row_len k ≤ row_len k * length rows = times_within (row_len k) r (length rows) lt in
+    let within : row_len k * r + row_len k ≤ row_len k * length rows = grind arith in
     rw kept.head.kind (omega (arith, within, ap length kept.spelled, body.len, rows_len))
 
 pub words_kept : (bytes : List ℕ) (layout : Layout) (rows : List GraphRow) → IsPackedAs bytes layout rows

@@ -21,9 +21,7 @@ faults-with_row row (Err p) = refl
 faults-row_then : (k : Kind) (r : ℕ) (bytes : List ℕ) (parents : Option Places) (more : List ℕ → Result (List GraphRow) Place) (rest : List ℕ)
     → behind parents ≡ Some rest → faults (row_then k r bytes parents more) ≡ faults (more rest)
 faults-row_then k r bytes None more rest e = absurd cc
-faults-row_then k r bytes (Some p) more rest e =
-    let same : p.1 ≡ rest = cc in
-    faults-with_row _ (more p.1) ∙ ap (λ (ws : List ℕ). faults (more ws)) same
+faults-row_then k r bytes (Some p) more rest e = let same : p.1 ≡ rest = cc in rw (faults-with_row _ (more p.1), same) refl
 
 faults-row_broken : (k : Kind) (r : ℕ) (bytes : List ℕ) (parents : Option Places) (more : List ℕ → Result (List GraphRow) Place)
     → behind parents ≡ None → faults (row_then k r bytes parents more) ≡ Some (place.Parents r)

@@ -103,8 +103,7 @@ second_takes n k second words first read few e =
       | inr h ↦ elim (chosen (ltb second flag) (with_place (place_of n second) (Some ([], words))) (cond (eqb second (flag + k)) (long_list_at n words) None) (Some read) h.1) [
         | inl s ↦ (
             let t = with_place_takes n second (Some ([], words)) read s.1 in
-            let none : t.others ≡ ([], words) = cc t.more_is in
-            let same : (t.place ∷ [], words) ≡ read = ap (λ (x : Places). (t.place ∷ x.0, x.1)) (sym none) ∙ sym t.read_is in
+            let same : (t.place ∷ [], words) ≡ read = cc (t.more_is, t.read_is) in
             subst (TakesSecond n k second words first) same (record { second_is = sym t.word_is; words_is = refl; among = (t.here_among, tt) }))
         | inr s ↦ elim (chosen (eqb second (flag + k)) (long_list_at n words) None (Some read) s.1) [
           | inl l ↦ subst (λ (x : ℕ). TakesSecond n k x words first read) (sym (eqb-true second (flag + k) l.0)) (long_list_takes n k words first read few l.1)

@@ -25,14 +25,12 @@ push_row-requires-clause-few c =
 pub overflow_cast-next : goal.overflow_cast-next
 overflow_cast-next c =
     let read = reads_entry c.args.rows.now c.args.order.now c.args.numbers.now c.loop-place.place-index _ c.index-rows-place.result c.requires c.loop-place-test.true c.index-rows-place.is in
-    let len = ap (λ (x : List ParentPlace). length (overflow_of x)) c.as_slice.ensures in
-    omega (arith, read.few, c.overflow_len.ensures, len)
+    omega (arith, read.few, c.overflow_len.ensures, ap (λ (x : List ParentPlace). length (overflow_of x)) c.as_slice.ensures)
 
 pub overflow_add-next : goal.overflow_add-next
 overflow_add-next c =
     let read = reads_entry c.args.rows.now c.args.order.now c.args.numbers.now c.loop-place.place-index _ c.index-rows-place.result c.requires c.loop-place-test.true c.index-rows-place.is in
-    let len = ap (λ (x : List ParentPlace). length (overflow_of x)) c.as_slice.ensures in
-    omega (arith, read.few, c.overflow_len.ensures, len, c.loop-place.invariant.next_is)
+    omega (arith, read.few, c.overflow_len.ensures, ap (λ (x : List ParentPlace). length (overflow_of x)) c.as_slice.ensures, c.loop-place.invariant.next_is)
 
 pub loop-place-preserved : goal.loop-place-preserved
 loop-place-preserved c =
