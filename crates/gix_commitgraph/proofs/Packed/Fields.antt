@@ -86,9 +86,6 @@ second_word-below n w (p ∷ []) few fits all = omega arith
 second_word-below n w (p ∷ q ∷ []) few fits all = omega (arith, place_word-below n q few all.1.0)
 second_word-below n w (p ∷ q ∷ r ∷ ps) few fits all = omega arith
 
-time_again : (t : ℤ) → FitsSigned w64 t → cast_signed w64 (from_be_bytes w64 (to_be_bytes w64 (cast_unsigned w64 t))) ≡ t
-time_again t fits = ap (cast_signed w64) (from_be_bytes-to_be_bytes_8 (cast_unsigned w64 t) (Fits-lt-pow (Fits-of_z fits))) ∙ to_z-of_z fits
-
 word_again : (n : ℕ) (bytes : List ℕ) → n < 2 ^ 32 → bytes ≡ to_be_bytes w32 n → from_be_bytes w32 bytes ≡ n
 word_again n bytes lt e = ap (from_be_bytes w32) e ∙ from_be_bytes-to_be_bytes_4 n lt
 
@@ -102,7 +99,7 @@ has_row k n w row rest few fits r =
       first = word_again (first_word row.parents) _ (first_word-below n row.parents few r.parents) parts.c_is;
       second = word_again (second_word w row.parents) _ (second_word-below n w row.parents few fits r.parents) parts.d_is;
       generation = word_again row.generation _ r.generation parts.e_is;
-      time = ap (λ (b : List ℕ). cast_signed w64 (from_be_bytes w64 b)) parts.f_is ∙ time_again row.time r.time;
+      time = rw (parts.f_is, from_be_bytes-to_be_bytes_8 (cast_unsigned w64 row.time) (Fits-lt-pow (Fits-of_z r.time))) (to_z-of_z r.time);
       behind = ap (λ (m : ℕ). drop m (row_bytes w row ++ rest)) (row_len-is k) ∙ parts.rest_is;
     }
 

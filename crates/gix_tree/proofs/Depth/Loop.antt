@@ -24,7 +24,7 @@ use Rattle.gix_tree.specs.Inside.Stack.{FoundTree, items_at}
 use Rattle.gix_tree.specs.Walk.{items_of_object, trees_of, LookUpFails, depth_answer, DepthFirst}
 use Rattle.gix_tree.proofs.Places.{first_seen, none_seen}
 use Rattle.gix_tree.proofs.Depth.Stack.{Above}
-use Rattle.gix_tree.proofs.Depth.Script.{DepthFrom, outermost, depth_leaves, depth_enters, depth_resumes, depth_ends}
+use Rattle.gix_tree.proofs.Depth.Script.{DepthFrom, outermost, resumes, depth_leaves, depth_enters, depth_ends}
 use Rattle.gix_tree.proofs.SoFar.{run_more, look_up_failed, Ended, SoFar, at_start, further, ends}
 
 abbrev above_of : Place × Items → Above
@@ -99,7 +99,7 @@ module _ {V : Type 0} (objects : Objects) (faulty : ObjectId → Type 0) (steps 
         known = f.known;
         same = f.same;
         so_far = further steps old All (PopBack ∷ []) [] h.so_far (now, step, refl)
-            (λ more rest end walk. subst (λ l. From h.place [] l (PopBack ∷ more) rest end) (sym f.is) (depth_resumes (trees_of objects) (LookUpFails objects faulty) walk));
+            (λ more rest end walk. subst (λ l. From h.place [] l (PopBack ∷ more) rest end) (sym f.is) (resumes script.whole walk));
       }
 
   pub so_far_whole : (now : V) {ids : List ObjectId} → DepthSoFar now ids [] [] → DepthFirst objects faulty steps root old now (Ok tt)

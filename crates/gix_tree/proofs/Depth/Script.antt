@@ -25,10 +25,6 @@ module _ (trees : ObjectId → Option Items) (fails : ObjectId → ExistingError
   depth_leaves {p} {e} {a} o (resumes {calls = calls} {more = more} script rest) = retold (append_assoc (depth_calls (visit p e a)) calls (PopBack ∷ more)) refl (resumes (leaves o script) rest)
   depth_leaves o (ends script broken) = ends (leaves o script) broken
 
-  -- a tree's end, where another tree is gone on with
-  pub depth_resumes : {p q : Place} {rest : Items} {above : List (Place × Items)} {calls : List Call} {visits : List Visit} {end : Ending} → DepthFrom q rest above calls visits end → DepthFrom p [] ((q, rest) ∷ above) (PopBack ∷ calls) visits end
-  depth_resumes rest = resumes whole rest
-
   -- a walk that ended in some tree has ended
   pub depth_ends : {p : Place} {items : Items} {above : List (Place × Items)} {calls : List Call} {visits : List Visit} {end : Ending} → end ≢ Whole → DepthScript trees fails p items calls visits end → DepthFrom p items above calls visits end
   depth_ends {above = []} broken script = outermost script

@@ -51,9 +51,7 @@ met_at met (u ∷ trees) zero t a e =
     let same : u ≡ t = cc in
     let more = met ++ met_as met u ∷ [] in
     let here : slice_get (met_behind more trees) (length met) ≡ Some (met_as met u) = met_stays more trees (length met) (omega (arith, one_more met (met_as met u))) ∙ get_behind met (met_as met u ∷ []) in
-    let at : slice_get (met_behind more trees) (length met + 0) ≡ Some (met_as met u) = subst (λ n. slice_get (met_behind more trees) n ≡ Some (met_as met u)) (omega arith) here in
-    subst (λ x. slice_get (met_behind more trees) (length met + 0) ≡ Some (met_as (met_behind more trees) x)) same
-    (at ∙ ap (λ ids. Some (u.oid, u.oid ∷ ids)) (sym (known_stays met (u ∷ trees) u.turn a.0)))
+    grind (arith, here, same, known_stays met (u ∷ trees) u.turn a.0)
 met_at met (u ∷ trees) (suc k) t a e =
     let more = met ++ met_as met u ∷ [] in
     let above : AreAbove (length more) trees = subst (λ n. AreAbove n trees) (sym (one_more met (met_as met u))) a.1 in
@@ -96,13 +94,9 @@ queue_more trees turn i h =
     let all : met_behind [] (trees ++ record { oid = i; turn = turn } ∷ []) ≡ met ++ w ∷ [] = met_more [] trees (record { oid = i; turn = turn }) in
     let within : turn ≤ length met = omega (arith, h, met_length [] trees) in
     λ j. record {
-      known = (ap (λ l. known_at l turn) all ∙ known_front met w turn within) j;
+      known = (ap (λ l. known_at l turn) all ∙ known_stays met (record { oid = i; turn = turn } ∷ []) turn within) j;
       waiting = (ap (λ l. drop turn l) all ∙ drop-append-le turn met (w ∷ []) within) j;
     }
-  where
-    known_front : (met : List Waiting) (w : Waiting) (turn : ℕ) → turn ≤ length met → known_at (met ++ w ∷ []) turn ≡ known_at met turn
-    known_front met w zero h = refl
-    known_front met w (suc turn) h = ap ids_or_none (get_in_front met (w ∷ []) turn (omega arith))
 
 pub queue_turns : (trees : List Tree) (turn : ℕ) (t : Tree) → AreAbove 0 trees → turn < length trees → t ≡ get_or trees turn t → (level_queue turn trees).waiting ≡ (t.oid, (level_queue (turn + 1) trees).known) ∷ (level_queue (turn + 1) trees).waiting
 queue_turns trees turn t a w h =

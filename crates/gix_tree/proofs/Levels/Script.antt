@@ -17,35 +17,30 @@ first_behind [] (t ∷ ts) = refl
 first_behind (t ∷ passed) tasks = first_behind passed tasks
 
 -- of what was named, what was passed by and what is left
-record Passed (all : List Task) (n : ℕ) (left : List Task) : Type 0 where
-  passed : List Task
-  many : length passed ≡ n
-  is : all ≡ passed ++ left
+pub record Passed {X : Type 0} (all : List X) (n : ℕ) (left : List X) : Type 0 where
+  pub passed : List X
+  pub many : length passed ≡ n
+  pub is : all ≡ passed ++ left
 
 next_passed : {all left : List Task} {n : ℕ} → Passed all n left → slice_get all n ≡ first_task left
 next_passed {left = left} h = rw (h.is, ← h.many) (first_behind h.passed left)
 
-shift : (root named passed left more : List Task) (t : Task) → root ++ named ≡ passed ++ t ∷ left → root ++ (named ++ (more ++ [])) ≡ (passed ++ t ∷ []) ++ (left ++ more)
-shift root named passed left more t e = simp (append_assoc, append-nil) (simp append_assoc at (ap (λ l. l ++ more) e))
+shift : {X : Type 0} (root named passed left more : List X) (x : X) → root ++ named ≡ passed ++ x ∷ left → root ++ (named ++ (more ++ [])) ≡ (passed ++ x ∷ []) ++ (left ++ more)
+shift root named passed left more x e = simp (append_assoc, append-nil) (simp append_assoc at (ap (λ l. l ++ more) e))
+
+-- one more step, which passes by one and names more
+pub passed_more : {X Y : Type 0} (named : Y → List X) (root : List X) (done : List Y) (step : Y) (x : X) (left : List X) → Passed (root ++ flat_map named done) (length done) (x ∷ left)
+    → Passed (root ++ flat_map named (done ++ step ∷ [])) (length (done ++ step ∷ [])) (left ++ named step)
+passed_more named root done step x left h = record {
+  passed = h.passed ++ x ∷ [];
+  many = omega (arith, length-append h.passed (x ∷ []), length-append done (step ∷ []), h.many);
+  is = rw (flat_map-append named done (step ∷ [])) (shift root _ h.passed left (named step) x h.is);
+}
 
 module _ (trees : ObjectId → Option Items) where
   more_passed : (root left : List Task) (done : List Step) (t : Task) (step : Step) → first_task left ≡ Some t → Passed (root ++ flat_map (tasks_of trees) done) (length done) left → Passed (root ++ flat_map (tasks_of trees) (one_step_more done step)) (length (one_step_more done step)) (tasks_after trees left step)
   more_passed root [] done t step e h = cc
-  more_passed root (u ∷ left) done t step e h = record {
-    passed = h.passed ++ u ∷ [];
-    many = omega (arith, length-append h.passed (u ∷ []), length-append done (step ∷ []), h.many);
-    is = rw (flat_map-append (tasks_of trees) done (step ∷ [])) (shift root _ h.passed left (tasks_of trees step) u h.is);
-  }
-
-  -- the steps that were made leave this queue
-  record Leaves_queue (root : List Task) (done : List Step) (left : List Task) : Type 0 where
-    is_left : Passed (root ++ flat_map (tasks_of trees) done) (length done) left
-
-  queue_next : (root : List Task) (done : List Step) (left : List Task) → Leaves_queue root done left → next_of_steps trees root done ≡ first_task left
-  queue_next root done left h = next_passed h.is_left
-
-  queue_stays : (root : List Task) (done : List Step) (left : List Task) (t : Task) (step : Step) → Leaves_queue root done left → first_task left ≡ Some t → Leaves_queue root (one_step_more done step) (tasks_after trees left step)
-  queue_stays root done left t step h e = record { is_left = more_passed root left done t step e h.is_left }
+  more_passed root (u ∷ left) done t step e h = passed_more (tasks_of trees) root done step u left h
 
 -- two states that say alike what is to be done next, now and after each step, make the same walk
 module _ (trees : ObjectId → Option Items) (fails : ObjectId → ExistingError → Type 0) {S U : Type 0} (next : S → Option Task) (after : S → Step → S) (next2 : U → Option Task) (after2 : U → Step → U)
@@ -64,20 +59,24 @@ module _ (trees : ObjectId → Option Items) (fails : ObjectId → ExistingError
   same_walk u r (refused a e m) = refused a (same _ u r ∙ e) m
 
 module _ (trees : ObjectId → Option Items) (fails : ObjectId → ExistingError → Type 0) where
-  root_queue : (root : List Task) → Leaves_queue trees root [] root
-  root_queue root = record { is_left = record { passed = []; many = refl; is = append-nil root } }
+  -- the steps that were made leave this queue
+  abbrev Leaves_queue : List Task → List Step → List Task → Type 0
+  Leaves_queue root done left = Passed (root ++ flat_map (tasks_of trees) done) (length done) left
+
+  root_queue : (root : List Task) → Leaves_queue root [] root
+  root_queue root = record { passed = []; many = refl; is = append-nil root }
 
   -- a walk from the queue of a root's tasks is the walk by levels
   pub level_script : (p : Place) (root : Items) {calls : List Call} {visits : List Visit} {end : Ending} → LevelFrom trees fails (shows p root) calls visits end → IsLevelScript trees fails p root calls visits end
   level_script p root walk = same_walk trees fails first_task (tasks_after trees) (next_of_steps trees (shows p root)) one_step_more
-      (λ left done. Leaves_queue trees (shows p root) done left)
-      (λ left done h. queue_next trees (shows p root) done left h)
-      (λ left done t step h e. queue_stays trees (shows p root) done left t step h e)
+      (λ left done. Leaves_queue (shows p root) done left)
+      (λ left done h. next_passed h)
+      (λ left done t step h e. more_passed trees (shows p root) left done t step e h)
       [] (root_queue (shows p root)) walk
 
   pub level_queue : (p : Place) (root : Items) {calls : List Call} {visits : List Visit} {end : Ending} → IsLevelScript trees fails p root calls visits end → LevelFrom trees fails (shows p root) calls visits end
   level_queue p root walk = same_walk trees fails (next_of_steps trees (shows p root)) one_step_more first_task (tasks_after trees)
-      (λ done left. Leaves_queue trees (shows p root) done left)
-      (λ done left h. sym (queue_next trees (shows p root) done left h))
-      (λ done left t step h e. queue_stays trees (shows p root) done left t step h (sym (queue_next trees (shows p root) done left h) ∙ e))
+      (λ done left. Leaves_queue (shows p root) done left)
+      (λ done left h. sym (next_passed h))
+      (λ done left t step h e. more_passed trees (shows p root) left done t step (sym (next_passed h) ∙ e) h)
       (shows p root) (root_queue (shows p root)) walk

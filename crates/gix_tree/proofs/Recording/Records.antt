@@ -14,6 +14,7 @@ use Rattle.gix_tree.specs.Paths.{IsName, HaveNames, joined, unknown_root, known_
 use Rattle.gix_tree.specs.Script as script
 use Rattle.gix_tree.specs.Script.{items_or_none, level_calls_behind, depth_calls_behind, IsLevelScript, IsDepthScript}
 use Rattle.gix_tree.specs.Recorder.{Record, Recorded, with_name, front_from, before_slash, path_or_empty, without_name, last_path, without_last, first_path, without_first, fresh, recorded, recorded_all, record_of}
+use Rattle.gix_tree.proofs.All.{all_both}
 use Rattle.gix_tree.proofs.TaskWalk as walk
 use Rattle.gix_tree.proofs.TaskWalk.{Manner, ByLevels, InDepth, calls_behind, calls_by, pop_by, lost_by, tasks_in, tasks_with, TaskWalk, level_walk, tree_walk}
 
@@ -56,10 +57,6 @@ joined_more (a ∷ c ∷ names) name hs h =
     ∙ sym (append_assoc a (47 ∷ joined (c ∷ names)) (47 ∷ name))
     ∙ sym (with_some (a ++ 47 ∷ joined (c ∷ names)) name (some_front a (joined (c ∷ names))) h)
 
-names_more : (names : List (List ℕ)) (name : List ℕ) → AllByRecursion IsName names → IsName name → AllByRecursion IsName (names ++ name ∷ [])
-names_more [] name hs h = (h, tt)
-names_more (a ∷ names) name hs h = (hs.0, names_more names name hs.1 h)
-
 abbrev holding : List ℕ → List (List ℕ) → List Record → Recorded
 holding path queue records = record { path = path; queue = queue; records = records }
 
@@ -78,7 +75,7 @@ record StandsAt (path : List ℕ) (p : Place) : Type 0 where
 inside_at : {path : List ℕ} {p : Place} (e : TreeEntry) → StandsAt path p → IsName e.name → StandsAt (with_name path e.name) (inside p e)
 inside_at {path} {p} e at h = record {
   is = ap (λ l. with_name l e.name) at.is ∙ sym (joined_more p.names e.name at.named h);
-  named = names_more p.names e.name at.named h;
+  named = all_both IsName p.names (e.name ∷ []) at.named (h, tt);
 }
 
 pub last_more : (queue : List (List ℕ)) (path : List ℕ) → last_path (queue ++ path ∷ []) ≡ path

@@ -72,13 +72,9 @@ whole_end Whole w b = refl
 whole_end Broken w b = cc
 whole_end (Failed why) w b = absurd w
 
-shown_named : (visits : List Visit) → HaveNames visits → AllByRecursion (λ x. IsName x.entry.name) (map shown_by visits)
-shown_named [] h = tt
-shown_named (v ∷ visits) h = (h.0, shown_named visits h.1)
-
-named_shown : (visits : List Visit) → AllByRecursion (λ x. IsName x.entry.name) (map shown_by visits) → HaveNames visits
-named_shown [] h = tt
-named_shown (v ∷ visits) h = (h.0, named_shown visits h.1)
+shown_named : (visits : List Visit) → HaveNames visits ≡ AllByRecursion (λ x. IsName x.entry.name) (map shown_by visits)
+shown_named [] = refl
+shown_named (v ∷ visits) = λ i. IsName v.entry.name × shown_named visits i
 
 record_shown : Shown → Record
 record_shown x = record { mode = x.entry.mode; path = joined (x.names ++ x.entry.name ∷ []); id = x.entry.id }
@@ -115,8 +111,8 @@ module _ (objects : Objects) (faulty : ObjectId → Type 0) where
       let ok = depth_ok depth.end depth.answered in
       let whole = whole_end depth.end ok (unbroken (entries_at T) (depth_order root depth.script ok) h) in
       let same : IsPermutation (map shown_by levels.visits) (map shown_by depth.visits) = both_show T N root items is (level_ok levels.end levels.answered) whole level deep g h in
-      let named : HaveNames depth.visits = named_shown depth.visits (recursion_from_All (λ x. IsName x.entry.name) (map shown_by depth.visits)
-      (All-permutation (λ x. IsName x.entry.name) (map shown_by levels.visits) (map shown_by depth.visits) same (All-from_recursion (λ x. IsName x.entry.name) (map shown_by levels.visits) (shown_named levels.visits names)))) in
+      let named : HaveNames depth.visits = subst (λ (P : Type 0). P) (sym (shown_named depth.visits)) (recursion_from_All (λ x. IsName x.entry.name) (map shown_by depth.visits)
+      (All-permutation (λ x. IsName x.entry.name) (map shown_by levels.visits) (map shown_by depth.visits) same (All-from_recursion (λ x. IsName x.entry.name) (map shown_by levels.visits) (subst (λ (P : Type 0). P) (shown_named levels.visits) names)))) in
       let moved : IsPermutation (map record_of levels.visits) (map record_of depth.visits) = rw (record_of_shown levels.visits, record_of_shown depth.visits) (IsPermutation-map record_shown (map shown_by levels.visits) (map shown_by depth.visits) same) in
       let a : first.held.records ≡ map record_of levels.visits = levels_are_recorded items first (Ok tt) levels (λ e. cc) names in
       let b : second.held.records ≡ map record_of depth.visits = depth_is_recorded root second (Ok tt) depth (λ e. cc) named in

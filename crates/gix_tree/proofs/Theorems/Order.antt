@@ -1,5 +1,5 @@
 -- The visits of a walk by levels are in level order.
-use Rattle.std.proofs.Common.{◌≡◌, List, [], ◌∷◌, ◌++◌, length, map, Option, Some, Ok, Err, refl, sym, ap, ◌∙◌, subst, arith, append_assoc, length-append}
+use Rattle.std.proofs.Common.{◌≡◌, ℕ, List, [], ◌∷◌, ◌++◌, length, map, Option, Some, Ok, Err, refl, sym, ap, ◌∙◌, subst, arith, append_assoc, length-append}
 use Rattle.std.proofs.lemmas.List.{append-nil}
 use Rattle.std.proofs.lemmas.List.Concat.{flat_map-append}
 use Rattle.std.specs.Prelude.{slice_get}
@@ -13,6 +13,7 @@ use Rattle.gix_tree.specs.Visits.{Items, Place, Visit, visit, inside, Leaves, En
 use Rattle.gix_tree.specs.LevelOrder.{entries_of, entries_by, FollowsInLevels, IsLevelOrder, BeginsInLevels, IsLevelBeginning}
 use Rattle.gix_tree.specs.Script.{items_or_none, entries_in, entries_at, IsLevelScript}
 use Rattle.gix_tree.proofs.Levels.Met.{get_behind}
+use Rattle.gix_tree.proofs.Levels.Script.{Passed, passed_more}
 use Rattle.gix_tree.proofs.TaskWalk as walk
 use Rattle.gix_tree.proofs.TaskWalk.{ByLevels, tasks_in, TaskWalk, level_walk}
 
@@ -31,36 +32,27 @@ shown_in-shows p [] = refl
 shown_in-shows p (Ok e ∷ items) = ap (λ l. (p, e) ∷ l) (shown_in-shows p items)
 shown_in-shows p (Err why ∷ items) = refl
 
-shift : {X : Type 0} (root named passed left more : List X) (x : X) → root ++ named ≡ passed ++ x ∷ left → root ++ (named ++ (more ++ [])) ≡ (passed ++ x ∷ []) ++ (left ++ more)
-shift root named passed left more x e = simp (append_assoc, append-nil) (simp append_assoc at (ap (λ l. l ++ more) e))
-
 module _ (trees : ObjectId → Option Items) (fails : ObjectId → ExistingError → Type 0) (p : Place) (root : List TreeEntry) where
   -- of the entries that the visits up to now name, as many as were visited are passed by, and these are left
-  record Seen (done : List Visit) (left : List (Place × TreeEntry)) : Type 0 where
-    passed : List (Place × TreeEntry)
-    many : length passed ≡ length done
-    is : entries_by (entries_at trees) p root done ≡ passed ++ left
+  abbrev Seen : List Visit → List (Place × TreeEntry) → Type 0
+  Seen done left = Passed (entries_by (entries_at trees) p root done) (length done) left
 
-  seen_next : {done : List Visit} {left : List (Place × TreeEntry)} (x : Place × TreeEntry) → Seen done (x ∷ left) → slice_get (entries_by (entries_at trees) p root done) (length done) ≡ Some x
-  seen_next x h = rw (h.is, ← h.many) (get_behind h.passed _)
+  seen_next : (done : List Visit) {left : List (Place × TreeEntry)} (x : Place × TreeEntry) → Seen done (x ∷ left) → slice_get (entries_by (entries_at trees) p root done) (length done) ≡ Some x
+  seen_next done x h = rw (h.is, ← h.many) (get_behind h.passed _)
 
-  seen_more : {done : List Visit} {left : List (Place × TreeEntry)} (v : Visit) → Seen done ((v.place, v.entry) ∷ left) → Seen (done ++ v ∷ []) (left ++ entries_of (entries_at trees) v)
-  seen_more {done} {left} v h = record {
-    passed = h.passed ++ (v.place, v.entry) ∷ [];
-    many = omega (arith, length-append h.passed ((v.place, v.entry) ∷ []), length-append done (v ∷ []), h.many);
-    is = rw (flat_map-append (entries_of (entries_at trees)) done (v ∷ [])) (shift (map (λ x. (p, x)) root) _ h.passed left (entries_of (entries_at trees) v) (v.place, v.entry) h.is);
-  }
+  seen_more : (done : List Visit) (left : List (Place × TreeEntry)) (v : Visit) → Seen done ((v.place, v.entry) ∷ left) → Seen (done ++ v ∷ []) (left ++ entries_of (entries_at trees) v)
+  seen_more done left v h = passed_more (entries_of (entries_at trees)) (map (λ x. (p, x)) root) done v (v.place, v.entry) left h
 
-  seen_leaves : {done : List Visit} {left : List (Place × TreeEntry)} (q : Place) (e : TreeEntry) (a : Action) → outcome (visit q e a) ≡ Leaves → Seen done ((q, e) ∷ left)
+  seen_leaves : (done : List Visit) (left : List (Place × TreeEntry)) (q : Place) (e : TreeEntry) (a : Action) → outcome (visit q e a) ≡ Leaves → Seen done ((q, e) ∷ left)
       → Seen (done ++ visit q e a ∷ []) left
-  seen_leaves {left = left} q e a o h = rw (o, append-nil left) at (seen_more (visit q e a) h)
+  seen_leaves done left q e a o h = rw (o, append-nil left) at (seen_more done left (visit q e a) h)
 
-  seen_enters : {done : List Visit} (tasks : List Task) (q : Place) (e : TreeEntry) (a : Action) → outcome (visit q e a) ≡ Enters → Seen done ((q, e) ∷ shown_in tasks)
+  seen_enters : (done : List Visit) (tasks : List Task) (q : Place) (e : TreeEntry) (a : Action) → outcome (visit q e a) ≡ Enters → Seen done ((q, e) ∷ shown_in tasks)
       → Seen (done ++ visit q e a ∷ []) (shown_in (tasks ++ tasks_in trees q e))
   unfolding shown_of
-  seen_enters {done} tasks q e a o h =
+  seen_enters done tasks q e a o h =
       let named = flat_map-append shown_of tasks (tasks_in trees q e) ∙ ap (λ l. shown_in tasks ++ l) (shown_in-shows (inside q e) (items_or_none (trees e.id))) in
-      subst (λ l. Seen (done ++ visit q e a ∷ []) l) (sym named) (rw o at (seen_more (visit q e a) h))
+      subst (λ l. Seen (done ++ visit q e a ∷ []) l) (sym named) (rw o at (seen_more done (shown_in tasks) (visit q e a) h))
 
   level_follows : (done : List Visit) {tasks : List Task} {calls : List Call} {visits : List Visit} {end : Ending} → TaskWalk trees fails ByLevels tasks calls visits end → IsUnfailed end
       → Seen done (shown_in tasks)
@@ -69,9 +61,9 @@ module _ (trees : ObjectId → Option Items) (fails : ObjectId → ExistingError
   level_follows done walk.whole w h = rw (h.is, ← h.many, append-nil h.passed) (past_end h.passed)
   level_follows done (walk.stops why) w h = absurd w
   level_follows done (walk.turn rest) w h = level_follows done rest w h
-  level_follows done (walk.leaves {p = q} {e = e} {a = a} o rest) w h = (seen_next (q, e) h, rw o (level_follows (done ++ visit q e a ∷ []) rest w (seen_leaves q e a o h)))
-  level_follows done (walk.enters {p = q} {e = e} {a = a} {tasks = tasks} o rest) w h = (seen_next (q, e) h, rw o (level_follows (done ++ visit q e a ∷ []) rest w (seen_enters tasks q e a o h)))
-  level_follows done (walk.breaks {p = q} {e = e} o) w h = (seen_next (q, e) h, rw o refl)
+  level_follows done (walk.leaves {p = q} {e = e} {a = a} o rest) w h = (seen_next done (q, e) h, rw o (level_follows (done ++ visit q e a ∷ []) rest w (seen_leaves done _ q e a o h)))
+  level_follows done (walk.enters {p = q} {e = e} {a = a} {tasks = tasks} o rest) w h = (seen_next done (q, e) h, rw o (level_follows (done ++ visit q e a ∷ []) rest w (seen_enters done tasks q e a o h)))
+  level_follows done (walk.breaks {p = q} {e = e} o) w h = (seen_next done (q, e) h, rw o refl)
   level_follows done (walk.cycles o) w h = absurd w
 
   level_begins : (done : List Visit) {tasks : List Task} {calls : List Call} {visits : List Visit} {end : Ending} → TaskWalk trees fails ByLevels tasks calls visits end → Seen done (shown_in tasks)
@@ -80,10 +72,10 @@ module _ (trees : ObjectId → Option Items) (fails : ObjectId → ExistingError
   level_begins done walk.whole h = tt
   level_begins done (walk.stops why) h = tt
   level_begins done (walk.turn rest) h = level_begins done rest h
-  level_begins done (walk.leaves {p = q} {e = e} {a = a} o rest) h = (seen_next (q, e) h, rw o (level_begins (done ++ visit q e a ∷ []) rest (seen_leaves q e a o h)))
-  level_begins done (walk.enters {p = q} {e = e} {a = a} {tasks = tasks} o rest) h = (seen_next (q, e) h, rw o (level_begins (done ++ visit q e a ∷ []) rest (seen_enters tasks q e a o h)))
-  level_begins done (walk.breaks {p = q} {e = e} o) h = (seen_next (q, e) h, rw o refl)
-  level_begins done (walk.cycles {p = q} {e = e} o) h = (seen_next (q, e) h, rw o refl)
+  level_begins done (walk.leaves {p = q} {e = e} {a = a} o rest) h = (seen_next done (q, e) h, rw o (level_begins (done ++ visit q e a ∷ []) rest (seen_leaves done _ q e a o h)))
+  level_begins done (walk.enters {p = q} {e = e} {a = a} {tasks = tasks} o rest) h = (seen_next done (q, e) h, rw o (level_begins (done ++ visit q e a ∷ []) rest (seen_enters done tasks q e a o h)))
+  level_begins done (walk.breaks {p = q} {e = e} o) h = (seen_next done (q, e) h, rw o refl)
+  level_begins done (walk.cycles {p = q} {e = e} o) h = (seen_next done (q, e) h, rw o refl)
 
 module _ (trees : ObjectId → Option Items) (fails : ObjectId → ExistingError → Type 0) (p : Place) (root : Items) where
   none_seen : Seen trees fails p (entries_in root) [] (shown_in (shows p root))

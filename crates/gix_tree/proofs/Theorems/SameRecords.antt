@@ -43,18 +43,12 @@ data Unfolds (entries : ObjectId → List TreeEntry) : List Shown → List Shown
   plain : {x : Shown} {xs us : List Shown} → is_tree x.entry.mode ≡ false → Unfolds entries xs us → Unfolds entries (x ∷ xs) (x ∷ us)
   tree : {x : Shown} {xs ws us : List Shown} → is_tree x.entry.mode ≡ true → Unfolds entries (under x (entries x.entry.id)) ws → Unfolds entries xs us → Unfolds entries (x ∷ xs) (x ∷ (ws ++ us))
 
-not_both : {A : Type 0} (b : Bool) → b ≡ true → b ≡ false → A
-not_both b t f = cc
-
-no_break : (a : Action) (b : Unit {0}) → a ≡ Continue true → a ≡ Break b → ⊥
-no_break a b e f = cc
-
 module _ (entries : ObjectId → List TreeEntry) where
   same_unfolding : {xs us vs : List Shown} → Unfolds entries xs us → Unfolds entries xs vs → us ≡ vs
   same_unfolding none none = refl
   same_unfolding (plain {x = x} f a) (plain g b) = ap (λ l. x ∷ l) (same_unfolding a b)
-  same_unfolding (plain f a) (tree g w b) = not_both _ g f
-  same_unfolding (tree f w a) (plain g b) = not_both _ f g
+  same_unfolding (plain f a) (tree g w b) = cc (f, g)
+  same_unfolding (tree f w a) (plain g b) = cc (f, g)
   same_unfolding (tree {x = x} f w a) (tree g z b) = λ i. x ∷ (same_unfolding w z i ++ same_unfolding a b i)
 
   -- what lists unfold to, where these are in some order what both together unfold to
@@ -81,7 +75,7 @@ module _ (entries : ObjectId → List TreeEntry) where
   unbroken (order.leaves o rest) h = unbroken rest h.1
   unbroken (order.enters {ws = ws} {vs = vs} o sub rest) h = unbroken rest (all_right (λ v. v.answer ≡ Continue true) ws vs h.1)
   unbroken (order.broken_inside o sub) h = unbroken sub h.1
-  unbroken (order.breaks {p = p} {e = e} {a = a} o) h = let b = says (is_tree e.mode) _ a Breaks o in absurd (no_break a b.0 h.0 b.1)
+  unbroken (order.breaks {p = p} {e = e} {a = a} o) h = let b = says (is_tree e.mode) _ a Breaks o in cc (h.0, b.1)
 
 -- the entries that tasks show
 names_of : Task → List Shown

@@ -27,9 +27,7 @@ holds_later : (j i : ObjectId) (ids : List ObjectId) → Contains ids i → Cont
 holds_later j i ids h = (suc h.0, omega arith, h.2)
 
 both_true : (b c : Bool) → b ≡ true → c ≡ true → b && c ≡ true
-both_true true true e f = refl
-both_true true false e f = f
-both_true false c e f = cc
+both_true b c e f = grind arith
 
 -- WHAT A DELEGATE GOES INTO
 

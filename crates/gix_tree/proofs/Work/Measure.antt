@@ -18,30 +18,20 @@ turned : (a b : ObjectId) → is_same a b ≡ true → is_same b a ≡ true
 turned a b h = let e = same_is a b h in subst (λ x. is_same b x ≡ true) (sym e) (subst (λ x. is_same x b ≡ true) e h)
 
 one_less : (b c : Bool) → (if b || c then 0 else 1) ≤ (if c then 0 else 1)
-one_less true true = omega arith
-one_less true false = omega arith
-one_less false true = omega arith
-one_less false false = omega arith
+one_less b c = grind arith
 
 room_no_more : (i : ObjectId) (stored ids : List ObjectId) → room stored (i ∷ ids) ≤ room stored ids
 room_no_more i [] ids = omega arith
 room_no_more i (k ∷ stored) ids = omega (arith, one_less (is_same k i) (is_among k ids), room_no_more i stored ids)
 
 none_or_one : (b c : Bool) (m n : ℕ) → b ≡ true → c ≡ false → m ≤ n → (if b || c then 0 else 1) + m < (if c then 0 else 1) + n
-none_or_one true false m n e f h = omega arith
-none_or_one true true m n e f h = cc
-none_or_one false c m n e f h = cc
+none_or_one b c m n e f h = grind arith
 
 -- below an id that is stored and wasn't above, there is less room
 room_less : (i : ObjectId) (stored ids : List ObjectId) → is_among i stored ≡ true → is_among i ids ≡ false → room stored (i ∷ ids) < room stored ids
 room_less i [] ids h g = cc
-room_less i (k ∷ stored) ids h g = go (is_same i k) refl (λ e. room_less i stored ids e g)
-  where
-    go : (b : Bool) → is_same i k ≡ b → (is_among i stored ≡ true → room stored (i ∷ ids) < room stored ids) → room (k ∷ stored) (i ∷ ids) < room (k ∷ stored) ids
-    go true e ih = none_or_one (is_same k i) (is_among k ids) _ _ (turned i k e) (subst (λ x. is_among x ids ≡ false) (same_is i k e) g) (room_no_more i stored ids)
-    go false e ih =
-        let later : is_among i stored ≡ true = subst (λ b. b || is_among i stored ≡ true) e h in
-        omega (arith, one_less (is_same k i) (is_among k ids), ih later)
+room_less i (k ∷ stored) ids h g =
+    grind (arith, h, g, turned i k, same_is i k, none_or_one (is_same k i) (is_among k ids) (room stored (i ∷ ids)) (room stored ids), one_less (is_same k i) (is_among k ids), room_no_more i stored ids, room_less i stored ids)
 
 some_steps : (width room : ℕ) → 2 ≤ steps_of width room
 some_steps width zero = omega arith
@@ -62,13 +52,7 @@ less_room width m (suc n) h =
 
 wide_enough : (trees : ObjectId → Option Items) (stored : List ObjectId) (i : ObjectId) → is_among i stored ≡ true → length (items_or_none (trees i)) ≤ widest trees stored
 wide_enough trees [] i h = cc
-wide_enough trees (k ∷ stored) i h = go (is_same i k) refl (λ e. wide_enough trees stored i e)
-  where
-    go : (b : Bool) → is_same i k ≡ b → (is_among i stored ≡ true → length (items_or_none (trees i)) ≤ widest trees stored) → length (items_or_none (trees i)) ≤ widest trees (k ∷ stored)
-    go true e ih = subst (λ x. length (items_or_none (trees i)) ≤ max (length (items_or_none (trees x))) (widest trees stored)) (same_is i k e) (omega arith)
-    go false e ih =
-        let later : is_among i stored ≡ true = subst (λ b. b || is_among i stored ≡ true) e h in
-        omega (arith, ih later)
+wide_enough trees (k ∷ stored) i h = grind (arith, h, same_is i k, wide_enough trees stored i)
 
 module _ (objects : Objects) where
   stored_tree : (i : ObjectId) (items : Items) → trees_of objects i ≡ Some items → is_among i (keys objects) ≡ true
