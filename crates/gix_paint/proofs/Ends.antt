@@ -15,7 +15,7 @@ use Rattle.gix_paint.specs.declared.source.Key.{Key}
 use Rattle.gix_paint.specs.declared.Entry.{Entry}
 use Rattle.gix_paint.specs.declared.Painter.{Painter}
 use Rattle.gix_revwalk.specs.Commits.{parents_of, commit_of_object}
-use Rattle.gix_paint.specs.Inside.Painter.{is_hidden, rows_in, graph_in_use, Reads, by_row, by_store, drops, GivesParents, brought, looked_up, Takes, TreatsEntry, skips, reads, Pops, room}
+use Rattle.gix_paint.specs.Inside.Painter.{is_hidden, rows_in, graph_in_use, Reads, by_row, by_store, drops, GivesParents, brought, looked_up, Takes, Pops, room}
 use Rattle.gix_revwalk.specs.Ids.{new_ids}
 use Rattle.gix_revwalk.specs.RowParents.{ids_at}
 use Rattle.gix_paint.proofs.Invariant.{reads_parents, IsSafe}

@@ -1,5 +1,4 @@
 -- Why painting fails: a commit that it had to read can't be read.
-use Rattle.std.specs.Borrow.{Bor}
 use Rattle.std.specs.Prelude.{◌≡◌, ◌≢◌, ◌⊎◌, List, ◌++◌, Option, Some, None, Contains}
 use Rattle.std.proofs.Common.{refl, sym, ap, subst, inl, inr, ⊎_elim, ◌∙◌}
 use Rattle.gix_hash.specs.declared.ObjectId.{ObjectId}

@@ -1,5 +1,5 @@
 -- What an entry's turn keeps of what holds while hidden tips are painted.
-use Rattle.std.specs.Prelude.{◌≡◌, ◌≢◌, ◌⊎◌, ◌<◌, ◌≤◌, ℕ, List, [], ◌∷◌, ◌++◌, true, false, Option, Some, None, Contains, IsSome, suc}
+use Rattle.std.specs.Prelude.{◌≡◌, ◌≢◌, ◌⊎◌, ◌<◌, ◌≤◌, ℕ, List, [], ◌∷◌, ◌++◌, true, Some, None, Contains, IsSome, suc}
 use Rattle.std.specs.List.{list_any}
 use Rattle.std.specs.Ordering.{eq_by_cmp}
 use Rattle.std.proofs.Common.{refl, sym, ap, subst, inl, inr, ⊎_elim, ◌∙◌, arith}
@@ -22,7 +22,7 @@ use Rattle.gix_paint.specs.declared.source.LookedUp.{LookedUp}
 use Rattle.gix_paint.specs.declared.Entry.{Entry}
 use Rattle.gix_paint.specs.declared.Painter.{Painter}
 use Rattle.gix_paint.specs.Painting.{DropsBy, generation_in, IsHistory}
-use Rattle.gix_paint.specs.Inside.Painter.{Open, Read, Hides, state_by, state_of, graph_in_use, Knows, by_row, by_store, IsWaiting, IsSettled, is_told, Pops}
+use Rattle.gix_paint.specs.Inside.Painter.{Open, Hides, state_of, graph_in_use, Knows, by_row, by_store, IsWaiting, IsSettled, is_told, Pops}
 use Rattle.gix_revwalk.specs.Commits.{parents_of}
 use Rattle.gix_hash.specs.Reach.{Reaches, start, step}
 use Rattle.gix_revwalk.specs.RowParents.{ids_at}

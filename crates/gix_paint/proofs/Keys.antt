@@ -4,11 +4,7 @@ use Rattle.std.specs.FinSet as set
 use Rattle.std.proofs.Common.{refl, sym, ap, subst, inr, ⊎_elim, ◌∙◌, arith}
 use Rattle.std.proofs.lemmas.Bool.Decides.{nat_tests}
 use Rattle.std.specs.BinaryHeap.{IsUpperBound}
-use Rattle.std.specs.Ordering.{is_lt, nat_cmp, int_cmp, ordering_then, ordering_reverse, is_le}
-use Rattle.std.specs.Cmp.{nat_cmp_total}
-use Rattle.std.proofs.lemmas.Map.Keys.{le_from_is_le}
-use Rattle.std.specs.declared.cmp.Ordering.{Ordering}
-use Rattle.std.specs.declared.cmp.Ordering.TheVariants.{Less, Equal, Greater}
+use Rattle.std.specs.Ordering.{is_lt}
 use Rattle.gix_paint.specs.contracts.source.KeyOrd.TheImpl.{cmp-value}
 use Rattle.gix_paint.specs.declared.source.Generation.{Generation}
 use Rattle.gix_paint.specs.declared.source.Generation.TheVariants.{Told, Infinite}

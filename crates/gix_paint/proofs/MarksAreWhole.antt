@@ -9,7 +9,6 @@ use Rattle.gix_hash.specs.declared.ObjectId.{ObjectId}
 use Rattle.gix_hash.specs.Id.{id_cmp}
 use Rattle.gix_object.specs.Object.{Objects}
 use Rattle.gix_commitgraph.specs.Rows.{GraphRow, row_of}
-use Rattle.gix_paint.specs.declared.Side.{Side}
 use Rattle.gix_paint.specs.declared.Side.TheVariants as side
 use Rattle.gix_paint.specs.declared.source.Key.{Key}
 use Rattle.gix_paint.specs.declared.source.Generation.{Generation}
@@ -20,7 +19,7 @@ use Rattle.gix_revwalk.specs.Agreeing.{IsCorrupt}
 use Rattle.gix_paint.specs.Painting.{IsHistory, IsOpenBelow, IsRead, shown_commit, hidden_commit, generation_in, Paints}
 use Rattle.gix_revwalk.specs.Commits.{parents_of}
 use Rattle.gix_hash.specs.Reach.{IsAtBoundary, Reaches, start, step}
-use Rattle.gix_paint.specs.Inside.Painter.{hides, hidden_of, State, Unmet, Open, Read, Hides, state_by, state_of, rows_in, graph_in_use, IsWaiting, IsSettled, is_told, Meets}
+use Rattle.gix_paint.specs.Inside.Painter.{hidden_of, State, Unmet, Open, Read, Hides, state_by, state_of, rows_in, graph_in_use, IsWaiting, IsSettled, is_told, Meets}
 use Rattle.gix_paint.proofs.Invariant.{contains-hidden, later, nobody, RowsInUse, IsSafe, Fact, Stands, IsStarted, stands_meets, safe_meets}
 use Rattle.gix_paint.proofs.KeptByTurn.{HasGeneration, one_generation, told_row, hidden_from, falls, below, waits_above}
 use Rattle.gix_paint.proofs.Order.{IsAbove, IsOrdered, HoldsOf, ordered_start}

@@ -1,6 +1,5 @@
 -- To meet ids one by one is to meet them all.
-use Rattle.std.specs.Prelude.{◌≡◌, ◌≢◌, ◌⊎◌, ◌≤◌, ℕ, suc, List, [], ◌∷◌, ◌++◌, length, Bool, true, false, not, ◌&&◌, ◌||◌, cond, is_some, Option, Some, None, Result, Ok, Err, Contains, IfOk, IfErr}
-use Rattle.std.specs.Borrow.{Bor}
+use Rattle.std.specs.Prelude.{◌≡◌, ◌≢◌, ◌⊎◌, ◌≤◌, ℕ, suc, List, [], ◌∷◌, ◌++◌, length, Bool, true, false, not, cond, is_some, Option, Some, None, Result, Ok, Err, Contains, IfErr}
 use Rattle.std.specs.Result.{IsErrAnd}
 use Rattle.std.proofs.Common.{refl, sym, ap, subst, inl, inr, ⊎_elim, ◌∙◌, arith}
 use Rattle.std.proofs.lemmas.List.{nil_from_length}
@@ -12,16 +11,13 @@ use Rattle.std.proofs.Math.Path.{transport}
 use Rattle.gix_hash.specs.declared.ObjectId.{ObjectId}
 use Rattle.gix_hash.specs.Id.{is_same, is_among}
 use Rattle.gix_object.specs.Object.{Objects}
-use Rattle.gix_commitgraph.specs.Rows.{GraphRow}
 use Rattle.gix_paint.specs.declared.Side.{Side}
 use Rattle.gix_paint.specs.declared.Side.TheVariants as side
 use Rattle.gix_paint.specs.declared.source.Key.{Key}
 use Rattle.gix_paint.specs.declared.Entry.{Entry}
 use Rattle.gix_paint.specs.declared.Painter.{Painter}
-use Rattle.gix_revwalk.specs.Pending.{Pending}
-use Rattle.gix_revwalk.specs.Ids.{ids_of}
 use Rattle.gix_paint.specs.declared.Hidden.{Hidden}
-use Rattle.gix_paint.specs.Inside.Painter.{AllMarks, FailsAmong, hides, is_hidden, State, Unmet, Open, Read, Hides, state_by, state_of, IsTidy, Becomes, stays, opens, covers, rows_in, graph_in_use, IsQueued, IsWaiting, Queues, Meets, is_turn, Takes, GivesParents, TreatsEntry, reads, room}
+use Rattle.gix_paint.specs.Inside.Painter.{AllMarks, FailsAmong, hides, State, Unmet, Hides, state_by, state_of, Becomes, stays, opens, covers, rows_in, graph_in_use, IsQueued, IsWaiting, Queues, Meets, is_turn, Takes, GivesParents, TreatsEntry, reads, room}
 use Rattle.gix_revwalk.proofs.NewIds.{fresh, fresh_agree, new_less}
 use Rattle.gix_hash.proofs.Lists.{only_member}
 use Rattle.gix_hash.proofs.Ids.Membership.{id_total, same_is, same_itself, Contains-here, Contains-there, Contains-cons_cases, no_member}
@@ -132,7 +128,7 @@ module _ {F : Type 0} (objects : F → Objects) where
         states j true e =
             subst (Becomes on (Contains (i ∷ []) j) (IsWaiting new on j) (state_of p j)) (sym (state_now j true e))
             (becomes_new on (map_of.get p.marks j) (set.contains p.frontier j) (ap (λ k. knows on (map_of.get p.marks k)) (same_is j i e) ∙ unknown)
-              (subst (Contains (i ∷ [])) (sym (same_is j i e)) (Contains-here i [])) (subst (IsWaiting new on) (sym (same_is j i e)) queued))
+            (subst (Contains (i ∷ [])) (sym (same_is j i e)) (Contains-here i [])) (subst (IsWaiting new on) (sym (same_is j i e)) queued))
         states j false e = subst (Becomes on (Contains (i ∷ []) j) (IsWaiting new on j) (state_of p j)) (sym (state_now j false e)) (stays (λ m. absurd (other j e m)))
 
         spent : (named : List ObjectId) → is_among i named ≡ true → (s : Side) → on ≡ s → room named new ≤ room named p

@@ -16,7 +16,7 @@ use Rattle.gix_paint.specs.declared.source.Key.{Key}
 use Rattle.gix_paint.specs.declared.Entry.{Entry}
 use Rattle.gix_paint.specs.declared.Painter.{Painter}
 use Rattle.gix_paint.specs.Painting.{IsHistory, DropsBy}
-use Rattle.gix_paint.specs.Inside.Painter.{hides, State, Unmet, Open, Read, Hides, state_by, state_of, rows_in, graph_in_use, Reads, by_row, by_store, drops, IsWaiting, IsSettled, GivesParents, brought, looked_up, Takes, is_turn, is_turn_on, frontier_without, Meets, TreatsEntry, skips, reads, Pops}
+use Rattle.gix_paint.specs.Inside.Painter.{hides, State, Unmet, Open, Read, Hides, state_of, rows_in, graph_in_use, Reads, by_row, by_store, drops, IsWaiting, IsSettled, GivesParents, brought, looked_up, Takes, is_turn, is_turn_on, frontier_without, Meets, TreatsEntry, skips, reads, Pops}
 use Rattle.gix_revwalk.specs.Commits.{parents_of}
 use Rattle.gix_hash.specs.Reach.{Reaches, step}
 use Rattle.gix_revwalk.specs.RowParents.{ids_at}

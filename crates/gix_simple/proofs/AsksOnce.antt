@@ -1,18 +1,17 @@
 -- No id is asked about twice, whatever faults come, and only ids that tips, rows and stored texts name.
-use Rattle.std.specs.Prelude.{◌≡◌, ◌⊎◌, List, [], ◌∷◌, ◌++◌, Bool, true, false, not, ◌&&◌, ◌||◌, Result, Contains}
-use Rattle.std.proofs.Common.{refl, sym, ap, subst, inl, inr, ⊎_elim, ◌∙◌, arith}
+use Rattle.std.specs.Prelude.{◌≡◌, ◌⊎◌, List, [], ◌∷◌, ◌++◌, Bool, true, Result, Contains}
+use Rattle.std.proofs.Common.{sym, ap, subst, inl, ⊎_elim, ◌∙◌, arith}
 use Rattle.std.specs.Iterator.{Yields}
 use Rattle.std.proofs.lemmas.Bool.{true≢false, or_right, or_left}
 use Rattle.std.proofs.lemmas.List.Elements.{Contains-append_cases}
 use Rattle.std.specs.FinSet as set
 use Rattle.gix_hash.specs.declared.ObjectId.{ObjectId}
-use Rattle.gix_hash.specs.Id.{id_cmp, is_same, is_among}
+use Rattle.gix_hash.specs.Id.{id_cmp, is_among}
 use Rattle.gix_object.specs.Object.{Objects}
 use Rattle.gix_revwalk.specs.declared.Info.{Info}
-use Rattle.gix_revwalk.specs.declared.Parents.TheVariants as mode
 use Rattle.gix_simple.specs.declared.Error.{Error}
-use Rattle.gix_simple.specs.Walk.{SimpleWalk, Treated, cutoff, IsNew, Asks, remembers, asks, Next}
-use Rattle.gix_simple.specs.Building.{outdated, timed, IsBuilt, made, breadth_first, by_time, hides, walks, reads}
+use Rattle.gix_simple.specs.Walk.{SimpleWalk, Treated, IsNew, Asks, remembers, asks, Next}
+use Rattle.gix_simple.specs.Building.{IsBuilt, made, breadth_first, by_time, hides, walks, reads}
 use Rattle.gix_revwalk.specs.Ids.{AreDistinct}
 use Rattle.gix_simple.specs.Laws.{named_in}
 use Rattle.gix_simple.specs.Runs.{AsksOnce}

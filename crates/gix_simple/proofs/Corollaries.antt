@@ -1,5 +1,5 @@
 -- The laws that follow from the theorem over whole walks.
-use Rattle.std.specs.Prelude.{◌≡◌, ◌↔◌, ◌≤◌, ◌≤ℤ◌, ℕ, zero, suc, ℤ, List, [], ◌∷◌, ◌++◌, filter, length, take, slice_get, Bool, true, false, not, ◌&&◌, Option, Some, None, Result, Ok, Err, Contains, MatchOption}
+use Rattle.std.specs.Prelude.{◌≡◌, ◌↔◌, ◌≤◌, ◌≤ℤ◌, ℕ, suc, ℤ, List, [], ◌∷◌, ◌++◌, filter, length, take, slice_get, Bool, true, false, not, ◌&&◌, Option, Some, None, Result, Ok, Err, Contains, MatchOption}
 use Rattle.std.proofs.Common.{refl, sym, ap, subst, ⊎_elim, ◌∙◌, arith}
 use Rattle.std.specs.List.{AllZip}
 use Rattle.std.proofs.lemmas.List.Elements.{Contains-append_left, Contains-append_right, Contains-append_cases}
@@ -7,7 +7,6 @@ use Rattle.std.proofs.lemmas.Bool.{false≢true, true≢false, and_parts, and_fr
 use Rattle.std.proofs.lemmas.Option.{slice_get_within, get_or_from_slice_get}
 use Rattle.std.proofs.Math.Seq.{take-suc}
 use Rattle.gix_hash.specs.declared.ObjectId.{ObjectId}
-use Rattle.gix_hash.specs.Id.{is_among}
 use Rattle.gix_object.specs.Object.{Objects}
 use Rattle.gix_commitgraph.specs.Rows.{GraphRow, row_of}
 use Rattle.gix_revwalk.specs.declared.Parents.{Parents}

@@ -1,6 +1,6 @@
 -- Every walk ends: each answer lowers how many answers are left.
-use Rattle.std.specs.Prelude.{◌≡◌, ◌+◌, ◌≤◌, ℕ, suc, List, [], ◌∷◌, length, Bool, true, false, ◌||◌, cond, Some, Result}
-use Rattle.std.proofs.Common.{refl, ap, arith, le_refl}
+use Rattle.std.specs.Prelude.{◌≡◌, ◌+◌, ◌≤◌, ℕ, suc, List, [], ◌∷◌, length, Bool, true, false, ◌||◌, Some, Result}
+use Rattle.std.proofs.Common.{ap, arith, le_refl}
 use Rattle.std.proofs.lemmas.Bool.{or_right, or_left}
 use Rattle.std.specs.FinSet as set
 use Rattle.std.specs.Iterator.{Yields}

@@ -1,6 +1,6 @@
 -- A walk that was just made, breadth first, and drawn to its end.
 use Rattle.std.specs.Prelude.{◌≡◌, List, filter, Bool, false, None, Result, All}
-use Rattle.std.proofs.Common.{sym, subst}
+use Rattle.std.proofs.Common.{sym}
 use Rattle.std.specs.Iterator.{Drains}
 use Rattle.std.specs.List.{AllZip}
 use Rattle.std.proofs.Math.Path.{transport}

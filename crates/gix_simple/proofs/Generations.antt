@@ -23,7 +23,7 @@ use Rattle.gix_revwalk.specs.Pending.{Pending}
 use Rattle.gix_revwalk.specs.Agreeing.{IsAgreeing}
 use Rattle.gix_revwalk.specs.Commits.{ReadsWhole, by_mode}
 use Rattle.gix_hash.specs.Reach.{Reaches, start, step}
-use Rattle.gix_simple.specs.Walk.{SimpleWalk, Treated, StoreFails, dropped, store_fails, no_memory, TreatsAll, more, Concludes, given, broken, Takes, by_row, by_store, not_found, Steps, took, painted, FirstStep, unhidden, paints, faulty_history, Next, initial, later}
+use Rattle.gix_simple.specs.Walk.{SimpleWalk, Treated, StoreFails, store_fails, no_memory, TreatsAll, Concludes, given, broken, Takes, by_row, by_store, not_found, Steps, took, painted, FirstStep, unhidden, paints, faulty_history, Next, initial, later}
 use Rattle.gix_revwalk.specs.Texts.{scanned, text_next, next_in}
 use Rattle.gix_revwalk.specs.RowParents.{ids_at, rows_if, kept_rows, IsUnrowed}
 use Rattle.gix_revwalk.specs.Ids.{ids_of}

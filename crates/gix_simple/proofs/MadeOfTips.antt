@@ -1,5 +1,5 @@
 -- What a walk holds that was just made of some tips.
-use Rattle.std.specs.Prelude.{◌≡◌, ◌⊎◌, ◌≤◌, List, [], filter, Bool, true, false, not, ◌&&◌, ◌||◌, cond, Contains}
+use Rattle.std.specs.Prelude.{◌≡◌, ◌⊎◌, ◌≤◌, List, [], filter, Bool, true, false, ◌&&◌, ◌||◌, cond, Contains}
 use Rattle.std.proofs.Common.{refl, sym, ap, subst, inl, inr, ⊎_elim, arith, ◌∙◌}
 use Rattle.std.proofs.lemmas.Bool.{false≢true, and_parts}
 use Rattle.std.specs.FinSet as set

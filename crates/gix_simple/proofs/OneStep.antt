@@ -1,6 +1,6 @@
 -- One step of a walk whose hidden tips are painted.
 use Rattle.std.specs.Prelude.{◌≡◌, ◌≢◌, ◌⊎◌, ℕ, ℤ, List, [], ◌++◌, filter, Bool, true, false, ◌||◌, Option, Some, None, Result, Err, Contains}
-use Rattle.std.proofs.Common.{refl, sym, ap, subst, inl, inr, ⊎_elim, ◌∙◌, arith}
+use Rattle.std.proofs.Common.{refl, sym, ap, subst, inl, ⊎_elim, ◌∙◌, arith}
 use Rattle.std.proofs.lemmas.Bool.{false≢true}
 use Rattle.std.specs.FinMap as map_of
 use Rattle.std.specs.FinSet as set

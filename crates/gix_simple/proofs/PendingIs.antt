@@ -1,6 +1,6 @@
 -- What is pending, seen over the definitions: the first new one, or one of best time.
 use Rattle.std.specs.Prelude.{◌≡◌, ◌+◌, ℕ, ℤ, List, [], ◌∷◌, ◌++◌, Bool, true, false, not, ◌&&◌, ◌||◌, cond, Option, Some, None, Contains, IsPermutation, MatchOption}
-use Rattle.std.proofs.Common.{refl, sym, ap, subst, ⊎_elim, ◌∙◌, arith}
+use Rattle.std.proofs.Common.{sym, ap, subst, ⊎_elim, ◌∙◌, arith}
 use Rattle.std.proofs.lemmas.Int.{ints}
 use Rattle.std.proofs.lemmas.List.Sorted.{Contains-permutation, IsPermutation-sym}
 use Rattle.std.proofs.Math.Bool.{or_comm}
@@ -8,7 +8,6 @@ use Rattle.std.proofs.lemmas.Bool.{false≢true, true≢false, or_cases, false_f
 use Rattle.gix_hash.specs.declared.ObjectId.{ObjectId}
 use Rattle.gix_hash.specs.Id.{is_same, is_among}
 use Rattle.gix_revwalk.specs.declared.CommitTimeOrder.{CommitTimeOrder}
-use Rattle.gix_revwalk.specs.declared.CommitTimeOrder.TheVariants.{NewestFirst, OldestFirst}
 use Rattle.gix_revwalk.specs.BreadthOrder.{named_by, first_new}
 use Rattle.gix_revwalk.specs.TimeOrder.{IsNoWorse, IsPending, IsBest}
 use Rattle.gix_revwalk.specs.Pending.{Pending}

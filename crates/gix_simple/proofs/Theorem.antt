@@ -1,5 +1,5 @@
 -- The first step, which paints; and the theorem over a whole walk, and over one drawn as far as one likes.
-use Rattle.std.specs.Prelude.{◌≡◌, ◌≢◌, ◌⊎◌, ◌≤◌, ◌<◌, ℕ, zero, suc, ℤ, List, [], ◌∷◌, ◌++◌, filter, length, take, slice_get, Bool, true, false, not, ◌&&◌, ◌||◌, cond, Option, Some, None, Result, Err, Contains, All}
+use Rattle.std.specs.Prelude.{◌≡◌, ◌≢◌, ◌⊎◌, ◌≤◌, ◌<◌, ℕ, zero, suc, ℤ, List, [], ◌∷◌, ◌++◌, filter, length, take, slice_get, Bool, true, false, not, ◌||◌, cond, Option, Some, None, Result, Err, Contains, All}
 use Rattle.std.proofs.Common.{refl, sym, ap, subst, inl, inr, ⊎_elim, ◌∙◌, append-nil, arith}
 use Rattle.std.proofs.lemmas.List.Elements.{All-head}
 use Rattle.std.proofs.lemmas.Bool.{false≢true, true≢false, false_from_ne_true, and_from, and_parts, not-true}
@@ -31,7 +31,7 @@ use Rattle.gix_revwalk.proofs.Committer.{fault_unread}
 use Rattle.gix_paint.proofs.Invariant.{own_history}
 use Rattle.gix_hash.proofs.Ids.Membership.{same_is, among_from, among_is, Contains-here, Contains-there, no_member}
 use Rattle.gix_revwalk.proofs.NewIds.{fresh, times, times-fresh, among-filter}
-use Rattle.gix_simple.proofs.Treated.{Setting, Stands}
+use Rattle.gix_simple.proofs.Treated.{Setting}
 use Rattle.gix_simple.proofs.OneStep.{reads_whole, whole_well}
 use Rattle.gix_simple.proofs.PendingIs.{IsQueue, IsNextOne}
 use Rattle.gix_simple.proofs.WholeWalk.{Known, Runs, RunsTo, none_yet, begun_run, next_steps, ended_run}

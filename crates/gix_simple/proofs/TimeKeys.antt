@@ -55,9 +55,11 @@ module _ (order : CommitTimeOrder) (pair : ℤ × Pending) (old new : List (ℤ 
   -- a commit under a greatest key is of best time
   pub best_chosen : IsUpperBound int_cmp pair.0 (keys old) → IsChosen (Some order) (values old) pair.1 (values new)
   best_chosen u =
-      let moved : IsPermutation (values old) (pair.1 ∷ values new) = IsPermutation-map (λ x. x.1) old (pair ∷ new) rest in
-      (moved, λ other h. all_as_good order pair.1.time old (subst (λ key. IsUpperBound int_cmp key (keys old)) keyed_all.0 u) (recursion_from_All (Keyed order) old keyed) other
-      (Contains-permutation _ _ other (IsPermutation-sym _ _ moved) (Contains-there other pair.1 (values new) h)))
+      let moved : IsPermutation (values old) (pair.1 ∷ values new) = IsPermutation-map (λ x. x.1) old (pair ∷ new) rest in (
+        moved,
+        λ other h. all_as_good order pair.1.time old (subst (λ key. IsUpperBound int_cmp key (keys old)) keyed_all.0 u) (recursion_from_All (Keyed order) old keyed) other
+            (Contains-permutation _ _ other (IsPermutation-sym _ _ moved) (Contains-there other pair.1 (values new) h)),
+      )
 
 -- one commit goes from the list into the queue by time
 pub goes_over : (all standing left rest new : List Pending) (p : Pending) → IsPermutation all (standing ++ left) → left ≡ p ∷ rest → IsPermutation (standing ++ p ∷ []) new → IsPermutation all (new ++ rest)

@@ -1,5 +1,5 @@
 -- How the pending tips are read and sorted out, one after the other.
-use Rattle.std.specs.Prelude.{◌≡◌, ℤ, List, [], ◌∷◌, ◌++◌, filter, Bool, true, false, not, ◌&&◌, ◌||◌, cond, Option, is_some, Some, Ok, All, IsSome}
+use Rattle.std.specs.Prelude.{◌≡◌, ℤ, List, [], ◌∷◌, ◌++◌, Bool, true, false, not, ◌&&◌, ◌||◌, cond, Option, is_some, Ok, All, IsSome}
 use Rattle.std.proofs.Common.{refl, sym, ap, subst, ◌∙◌, append_assoc, append-nil, arith}
 use Rattle.std.proofs.Math.Bool.{and-true, or-false}
 use Rattle.std.proofs.lemmas.List.Elements.{All-cons, All-nil}
@@ -14,7 +14,6 @@ use Rattle.gix_simple.specs.declared.Error.{Error}
 use Rattle.gix_simple.specs.declared.Sorting.{Sorting}
 use Rattle.gix_revwalk.specs.Commits.{commit_at, time_of, time_in}
 use Rattle.gix_simple.specs.Walk.{SimpleWalk, cutoff, is_older}
-use Rattle.gix_revwalk.specs.Ids.{ids_of}
 use Rattle.gix_simple.specs.Building.{IsTipFault, FailsAtTip, IsSortedIn, SortsIn, SortsAll, none, more, IsSortedByTime, timed, recent, outdated}
 
 module _ {F P : Type 0} (objects : F → Objects) (bad : F → ObjectId → Type 0) (limit : Option ℤ) where

@@ -33,8 +33,13 @@ pub six_parts : (len : ℕ) (whole : List ℕ)
     → (take len whole ++ (take len (drop len whole) ++ (take 4 (drop (2 * len) whole) ++ (take 4 (drop (2 * len + 4) whole) ++ (take 4 (drop (2 * len + 8) whole) ++ take 8 (drop (2 * len + 12) whole)))))) ++ drop (2 * len + 20) whole ≡ whole
 six_parts len whole =
     simp append_assoc
-    (rw (part (2 * len + 12) 8 (2 * len + 20) whole (omega arith), part (2 * len + 8) 4 (2 * len + 12) whole (omega arith),
-    part (2 * len + 4) 4 (2 * len + 8) whole (omega arith), part (2 * len) 4 (2 * len + 4) whole (omega arith), part len len (2 * len) whole (omega arith)) (take-append-drop len whole))
+    (rw (
+      part (2 * len + 12) 8 (2 * len + 20) whole (omega arith),
+      part (2 * len + 8) 4 (2 * len + 12) whole (omega arith),
+      part (2 * len + 4) 4 (2 * len + 8) whole (omega arith),
+      part (2 * len) 4 (2 * len + 4) whole (omega arith),
+      part len len (2 * len) whole (omega arith),
+    ) (take-append-drop len whole))
 
 bytes_of-id_of : (k : Kind) (bytes : List ℕ) → bytes_of (id_of k bytes) ≡ bytes
 bytes_of-id_of kind.Sha1 bytes = refl

@@ -1,7 +1,6 @@
 -- One row after the other is read.
 use Rattle.std.proofs.Common.{◌≡◌, ℕ, ◌+◌, ◌-◌, ◌*◌, ◌/◌, true, false, List, [], ◌∷◌, length, drop, Option, Some, None, Result, Ok, Err, refl, sym, ap, ◌∙◌, arith, add-one, rules}
 use Rattle.std.proofs.lemmas.Bool.{ne_eqb}
-use Rattle.std.specs.Option.{option_map}
 use Rattle.std.specs.Result.{IsOk}
 use Rattle.std.proofs.lemmas.List.{drop-drop}
 use Rattle.gix_hash.specs.declared.Kind.{Kind}

@@ -5,7 +5,7 @@ use Rattle.std.proofs.lemmas.Bool.{ltb-true, ltb-false, eqb-true}
 use Rattle.std.proofs.lemmas.Bool.Decides.{nat_tests}
 use Rattle.gix_commitgraph.specs.declared.ParentPlace.{ParentPlace}
 use Rattle.gix_commitgraph.specs.declared.ParentPlace.TheVariants.{At, Fault}
-use Rattle.gix_commitgraph.specs.Packed.{most, fault_word, no_parent, flag, place_word, list_words, overflow_of, first_word, second_word, IsPlaceAmong}
+use Rattle.gix_commitgraph.specs.Packed.{most, no_parent, flag, place_word, list_words, overflow_of, first_word, second_word, IsPlaceAmong}
 use Rattle.gix_commitgraph.specs.PackedReading.{place_of, Places, with_place, list_at, long_list_at, second_at, parents_at}
 
 -- which way a test went

@@ -40,19 +40,19 @@ pub returns-in_err-meet_all-clause-fault : goal.returns-in_err-meet_all-clause-f
 returns-in_err-meet_all-clause-fault g c =
     fails_as _ c.from_residual.result c.from_residual.ensures.1
     (start_fails g.F.Find.objects g.F.Find.faulty c.args.objects.now (rows_in c.args.graph) (ids_of c.args.tips.now.items) c.args.hidden_tips.now _ c.args.hidden_tips.now c.args.objects.now (rows_in c.args.graph) refl refl
-      (Contains-append_right (ids_of c.args.tips.now.items) c.args.hidden_tips.now) c.in_err-meet_all.ensures.fault)
+    (Contains-append_right (ids_of c.args.tips.now.items) c.args.hidden_tips.now) c.in_err-meet_all.ensures.fault)
 
 pub returns-in_err-show_all-clause-fault : goal.returns-in_err-show_all-clause-fault
 returns-in_err-show_all-clause-fault g c =
     fails_as _ c.from_residual-in_err-show_all.result c.from_residual-in_err-show_all.ensures.1
     (start_fails g.F.Find.objects g.F.Find.faulty c.args.objects.now (rows_in c.args.graph) (ids_of c.args.tips.now.items) c.args.hidden_tips.now _ (ids_of c.args.tips.now.items) c.meet_all.new.self.source.objects.now (rows_in (graph_in_use c.meet_all.new.self.source))
-      (ap (λ o. o.now) c.in_ok-meet_all.ensures.ok.objects_stay) (ap rows_in c.in_ok-meet_all.ensures.ok.graph_stays) (Contains-append_left (ids_of c.args.tips.now.items) c.args.hidden_tips.now) c.in_err-show_all.ensures.fault)
+    (ap (λ o. o.now) c.in_ok-meet_all.ensures.ok.objects_stay) (ap rows_in c.in_ok-meet_all.ensures.ok.graph_stays) (Contains-append_left (ids_of c.args.tips.now.items) c.args.hidden_tips.now) c.in_err-show_all.ensures.fault)
 
 pub returns-in_err-treat-clause-fault : goal.returns-in_err-treat-clause-fault
 returns-in_err-treat-clause-fault g c =
     fails_as _ c.from_residual-in_err-treat.result c.from_residual-in_err-treat.ensures.1
     (turn_fails g.F.Find.objects g.F.Find.faulty c.args.objects.now (rows_in c.args.graph) (ids_of c.args.tips.now.items) c.args.hidden_tips.now _ (c.in-Some.ensures.some.1.0, c.in-Some.entry) c.in-Some.ensures.some.1.1
-      c.loop-entry.invariant.safe c.in-Some.ensures.some.0 c.loop-entry.invariant.holds c.in_err-treat.ensures.fault)
+    c.loop-entry.invariant.safe c.in-Some.ensures.some.0 c.loop-entry.invariant.holds c.in_err-treat.ensures.fault)
 
 pub returns-clause-ok : goal.returns-clause-ok
 returns-clause-ok g c =

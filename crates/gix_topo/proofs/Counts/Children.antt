@@ -12,9 +12,7 @@ use Rattle.gix_frontier.specs.declared.Frontier.{Frontier}
 use Rattle.gix_frontier.specs.Inside.Frontier.{known_of}
 use Rattle.gix_topo.specs.Inside.Searched.{IsTally, naming}
 use Rattle.gix_revwalk.specs.Ids.{times}
-use Rattle.gix_topo.specs.TopoOrder.{last_places}
 use Rattle.gix_topo.proofs.Counts.Frontier.{some_term}
-use Rattle.gix_topo.proofs.Readiness.IsReady.{last_in, last_from, last_once}
 use Rattle.gix_revwalk.proofs.NewIds.{among_times, times_is_among, times_moved}
 
 abbrev pub children_of : Frontier → ObjectId → ℕ

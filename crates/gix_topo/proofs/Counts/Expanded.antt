@@ -76,9 +76,9 @@ module _ {F : Type 0} (objects : F → Objects) (faulty : F → ObjectId → Typ
     steps_number : IsNumberOf (IsDone old.frontier) old.expanded → IsNumberOf (IsDone new.frontier) new.expanded
     steps_number h = ⊎_elim
         (λ (b : (is_done (reached old.frontier.known Tips s.entry.1.id) || is_done (reached old.frontier.known Ends s.entry.1.id)) ≡ true).
-            number_same (IsDone old.frontier) (IsDone new.frontier) old.expanded new.expanded (grind (arith, s.expanded)) steps_from (λ j e. ⊎_elim (λ q. subst (IsDone old.frontier) q (or_cases _ _ b)) (λ o. o) (steps_to j e)) h)
+        number_same (IsDone old.frontier) (IsDone new.frontier) old.expanded new.expanded (grind (arith, s.expanded)) steps_from (λ j e. ⊎_elim (λ q. subst (IsDone old.frontier) q (or_cases _ _ b)) (λ o. o) (steps_to j e)) h)
         (λ (b : (is_done (reached old.frontier.known Tips s.entry.1.id) || is_done (reached old.frontier.known Ends s.entry.1.id)) ≡ false).
-            number_more (IsDone old.frontier) (IsDone new.frontier) old.expanded new.expanded s.entry.1.id (grind (arith, s.expanded)) (λ d. grind arith) steps_here steps_from steps_to h)
+        number_more (IsDone old.frontier) (IsDone new.frontier) old.expanded new.expanded s.entry.1.id (grind (arith, s.expanded)) (λ d. grind arith) steps_here steps_from steps_to h)
         (cases_Bool (is_done (reached old.frontier.known Tips s.entry.1.id) || is_done (reached old.frontier.known Ends s.entry.1.id)))
 
   module _ (sorting : Sorting) (tips ends : List ObjectId) (taken : ObjectId → Bool) where

@@ -64,7 +64,7 @@ module _ (objects : Objects) (faulty : ObjectId → Type 0) (rows : List GraphRo
     pub all_taken : (p : ObjectId) → In p → ((d : ObjectId) → IsChild walked In d p → taken d ≡ true) → children p ≡ 0
     all_taken p m all =
         let none : 1 ≤ children p → ⊥ = λ l.
-            let k : IsOpenChild (next_by objects parents Tips) (λ i. is_done (reached f.known Tips i)) taken p = tally_child (next_by objects parents Tips) (λ i. is_done (reached f.known Tips i)) taken children tally p l in
-            let c : IsChild walked In k.id p = record { child = record { reached = within Tips k.id (done_seen (reached f.known Tips k.id) k.done_now); outside = λ e. m.outside (step e (walked_within parents (text_next objects k.id) p k.names)) }; parent = m; named = k.names } in
-            true≢false (sym (all k.id c) ∙ k.untaken) in
+        let k : IsOpenChild (next_by objects parents Tips) (λ i. is_done (reached f.known Tips i)) taken p = tally_child (next_by objects parents Tips) (λ i. is_done (reached f.known Tips i)) taken children tally p l in
+        let c : IsChild walked In k.id p = record { child = record { reached = within Tips k.id (done_seen (reached f.known Tips k.id) k.done_now); outside = λ e. m.outside (step e (walked_within parents (text_next objects k.id) p k.names)) }; parent = m; named = k.names } in
+        true≢false (sym (all k.id c) ∙ k.untaken) in
         grind arith

@@ -1,6 +1,6 @@
 -- Ready commits by their ids: those that are held, chosen, and joined.
 use Rattle.std.specs.Prelude.{◌≡◌, ◌+◌, ◌≤◌, ℕ, suc, List, [], ◌∷◌, ◌++◌, length, Bool, true, false, ◌||◌, cond, map, Contains, IsPermutation}
-use Rattle.std.proofs.Common.{refl, sym, ap, subst, ⊎_elim, ◌∙◌, arith, append_assoc, append-nil}
+use Rattle.std.proofs.Common.{sym, ap, subst, ⊎_elim, ◌∙◌, arith, append_assoc, append-nil}
 use Rattle.std.proofs.lemmas.List.{map-append}
 use Rattle.std.proofs.lemmas.List.Sorted.{length_permutation, IsPermutation-to_front, IsPermutation-map, IsPermutation-sym, IsPermutation-append_left, IsPermutation-trans, IsPermutation-refl, Contains-permutation}
 use Rattle.gix_hash.specs.declared.ObjectId.{ObjectId}

@@ -59,7 +59,7 @@ with_rows {F} objects faulty answers walk other rows accepts list longer sorted 
     let h : GivesInOrder objects other.plan accepts longer = gives objects faulty answers accepts other longer run_other in
     let plan : TopoPlan F = walk.plan in
     let topo : (ids : List ObjectId) → IsTakenInOrder objects plan ids → IsTopoOrder (time_of (objects plan.store)) (walked_of objects plan) (IsMember objects plan) plan.tips ids = λ ids k. subst
-        (λ s. IsSorted s (time_of (objects plan.store)) (walked_of objects plan) (IsMember objects plan) plan.tips ids) sorted k in
+    (λ s. IsSorted s (time_of (objects plan.store)) (walked_of objects plan) (IsMember objects plan) plan.tips ids) sorted k in
     let e : h.ids ≡ g.ids = same_topo (time_of (objects plan.store)) (walked_of objects plan) (IsMember objects plan) plan.tips h.ids g.ids (topo h.ids (subst (λ p. IsTakenInOrder objects p h.ids) same h.in_order)) (topo g.ids g.in_order) in
     (g.ids, g.given, subst (λ ids. AllZip (IsGiven objects other.plan) longer (filter accepts ids)) e h.given)
 
@@ -129,7 +129,7 @@ module _ {F P : Type 0} (objects : F → Objects) (faulty : F → ObjectId → T
         let g : GivesInOrder objects walk.plan (λ i. true) list = gives objects faulty answers (λ i. true) walk list run in
         let same : given_ids list ≡ g.ids = commit_ids (IsGiven objects walk.plan) (λ info i k. k.info_is.same_id) (λ e i k. k) list g.ids (subst (AllZip (IsGiven objects walk.plan) list) (filter_all (λ i. true) g.ids (λ i c. refl)) g.given) in
         let d : IsDifference parents walk.plan.tips walk.plan.ends (given_ids list) = subst (IsDifference parents walk.plan.tips walk.plan.ends) (sym same)
-            (in_order (objects walk.plan.store) parents (text_has (objects walk.plan.store)) walk.plan.parents all (time_of (objects walk.plan.store)) walk.plan.tips walk.plan.ends g.ids walk.plan.sorting g.in_order) in
+        (in_order (objects walk.plan.store) parents (text_has (objects walk.plan.store)) walk.plan.parents all (time_of (objects walk.plan.store)) walk.plan.tips walk.plan.ends g.ids walk.plan.sorting g.in_order) in
         record { commits = run_faultless objects faulty answers (λ i. true) walk list run; once = d.0; shown = d.1; all = d.2 }
 
   -- the same by the texts
@@ -138,5 +138,5 @@ module _ {F P : Type 0} (objects : F → Objects) (faulty : F → ObjectId → T
       let g : GivesTextOrder objects walk.plan (λ i. true) list = gives_text objects faulty answers (λ i. true) walk list accepting started agreeing faultless drawn in
       let same : given_ids list ≡ g.ids = commit_ids (IsTextGiven objects walk.plan) (λ info i k. k.info_is.same_id) (λ e i k. k) list g.ids (subst (AllZip (IsTextGiven objects walk.plan) list) (filter_all (λ i. true) g.ids (λ i c. refl)) g.given) in
       let d : IsDifference (text_next (objects walk.plan.store)) walk.plan.tips walk.plan.ends (given_ids list) = subst (IsDifference (text_next (objects walk.plan.store)) walk.plan.tips walk.plan.ends) (sym same)
-          (in_order (objects walk.plan.store) (text_next (objects walk.plan.store)) (λ c i n. n) walk.plan.parents all (time_of (objects walk.plan.store)) walk.plan.tips walk.plan.ends g.ids walk.plan.sorting g.in_order) in
+      (in_order (objects walk.plan.store) (text_next (objects walk.plan.store)) (λ c i n. n) walk.plan.parents all (time_of (objects walk.plan.store)) walk.plan.tips walk.plan.ends g.ids walk.plan.sorting g.in_order) in
       record { once = d.0; shown = d.1; all = d.2 }

@@ -1,5 +1,5 @@
 -- What is known of each commit that is given: as long as the rows are in use its generation is its row's, and each of its parents was known. Counting stays exact.
-use Rattle.std.specs.Prelude.{◌≡◌, List, [], Bool, true, Option, Some, Result, Ok, Err, Contains}
+use Rattle.std.specs.Prelude.{◌≡◌, List, [], Bool, true, Some, Result, Ok, Err, Contains}
 use Rattle.std.proofs.Common.{refl, sym, ap, ⊎_elim, ◌∙◌, subst}
 use Rattle.std.specs.Iterator.{Yields}
 use Rattle.gix_hash.specs.declared.ObjectId.{ObjectId}

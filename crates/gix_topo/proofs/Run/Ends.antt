@@ -1,5 +1,5 @@
 -- Every topological walk ends, asks about each commit once, and is silent after a fault. None of it needs a sound history.
-use Rattle.std.specs.Prelude.{◌≡◌, ◌+◌, ◌≤◌, ℕ, suc, List, [], ◌∷◌, ◌++◌, length, Bool, true, false, ◌||◌, cond, Option, Some, None, Result, Ok, Err, Contains}
+use Rattle.std.specs.Prelude.{◌≡◌, ◌+◌, ◌≤◌, ℕ, suc, List, [], ◌∷◌, ◌++◌, length, Bool, true, false, ◌||◌, cond, Option, Some, None, Result, Err, Contains}
 use Rattle.std.proofs.Common.{refl, sym, ap, subst, inl, inr, ⊎_elim, ◌∙◌, arith, length-append, le_refl, le_trans}
 use Rattle.std.proofs.lemmas.List.{length-map}
 use Rattle.std.proofs.lemmas.Bool.{true≢false, or_cases, or_right, or_from, or_parts, false_from_ne_true}
@@ -13,7 +13,7 @@ use Rattle.gix_topo.specs.declared.Error.{Error}
 use Rattle.gix_topo.specs.declared.Error.TheVariants as error
 use Rattle.gix_object.specs.declared.find.existing_iter.Error.TheVariants as existing
 use Rattle.gix_revwalk.specs.Ids.{AreDistinct}
-use Rattle.gix_topo.specs.Walk.{TopoWalk, Ready, Counted, ready_ids, was_ready, named_ids, HoldsReady, Chooses, IsNextReady, IsLeft, IsOtherParent, IsMetFault, IsFault, IsLate, IsStarted, Takes, after, Next, refused, failed}
+use Rattle.gix_topo.specs.Walk.{TopoWalk, Ready, Counted, ready_ids, was_ready, named_ids, IsNextReady, IsLeft, IsOtherParent, IsMetFault, IsFault, IsLate, IsStarted, Takes, after, Next, refused, failed}
 use Rattle.gix_topo.specs.Laws.{left_beside, answers_left, AreApart, given_ids}
 use Rattle.gix_revwalk.specs.Asking.{AsksAll, none, more}
 use Rattle.gix_hash.proofs.Ids.Membership.{id_total, same_is, same_itself, among_from, among_is, Contains-here, Contains-there, Contains-cons_cases, no_member}

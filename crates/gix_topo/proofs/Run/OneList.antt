@@ -1,12 +1,9 @@
 -- Each order is one list: topological order over any commits, date order over commits of different times.
-use Rattle.std.specs.Prelude.{◌≡◌, ◌≤◌, ◌≤ℤ◌, ℤ, List, [], ◌∷◌, ◌++◌, length, take, reverse, Option, Some, None, Contains, MatchOption}
+use Rattle.std.specs.Prelude.{◌≡◌, ◌≤◌, ◌≤ℤ◌, ℤ, List, [], ◌∷◌, ◌++◌, length, take, reverse, Option, Some, None}
 use Rattle.std.proofs.Common.{refl, sym, ap, subst, ◌∙◌, arith, length-take, take_all}
 use Rattle.std.proofs.lemmas.Int.{ints}
 use Rattle.gix_hash.specs.declared.ObjectId.{ObjectId}
-use Rattle.gix_revwalk.specs.declared.CommitTimeOrder.TheVariants.{NewestFirst}
 use Rattle.gix_revwalk.specs.BreadthOrder.{first_new}
-use Rattle.gix_revwalk.specs.TimeOrder.{IsBest}
-use Rattle.gix_topo.specs.WalkSet.{IsReady}
 use Rattle.gix_topo.specs.DateOrder.{IsDateOrder, IsDateBeginning}
 use Rattle.gix_topo.specs.TopoOrder.{IsTopoOrder, IsTopoBeginning}
 use Rattle.gix_topo.proofs.Run.ReadyInTurn.{TurnsFrom, IfOne, turns_begin, turns_by, turn_ended, turn_now, turn_on, IsBestNext, IsLastMade, made_one}

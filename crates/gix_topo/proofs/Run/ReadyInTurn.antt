@@ -258,7 +258,7 @@ module _ (time : ObjectId → ℤ) (walked : ObjectId → List ObjectId) (In : O
         let f : Contains (reverse h.0) i × (not (is_among i done) ≡ true) = found_passes (λ j. not (is_among j done)) (reverse h.0) i (sym h.2) in (
           (are_left done were h.0 h.1).each i (among-filter i (λ j. not (is_among j (reverse done))) h.0 ∙ and_from _ _ (ap not (among-reverse i done) ∙ f.1) (among_from i h.0 (reverse_in i h.0 f.0))),
           subst WereTaken (sym (reverse-append done (i ∷ [])))
-          ((λ ready made. (among_from i ready (subst (λ r. Contains r i) (made_one (reverse done) h.0 ready h.1 made) (reverse_in i h.0 f.0)), among-reverse i done ∙ not-true _ f.1)), were),
+              ((λ ready made. (among_from i ready (subst (λ r. Contains r i) (made_one (reverse done) h.0 ready h.1 made) (reverse_in i h.0 f.0)), among-reverse i done ∙ not-true _ f.1)), were),
         )
 
     -- in either order each is ready when it comes, and the list ends where none is ready

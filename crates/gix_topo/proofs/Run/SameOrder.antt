@@ -1,5 +1,5 @@
 -- Two ways to say what the parents and the members are, which agree on the members, give the same orders.
-use Rattle.std.specs.Prelude.{◌≡◌, ℕ, ℤ, List, [], ◌∷◌, ◌++◌, take, drop, reverse, slice_get, Option, Some, None, Contains}
+use Rattle.std.specs.Prelude.{◌≡◌, ℕ, ℤ, List, [], ◌∷◌, take, drop, reverse, slice_get, Option, Some, None, Contains}
 use Rattle.std.proofs.Common.{sym, subst, take-append-drop}
 use Rattle.std.proofs.lemmas.List.Elements.{Contains-append_left}
 use Rattle.gix_hash.specs.declared.ObjectId.{ObjectId}

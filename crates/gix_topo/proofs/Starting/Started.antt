@@ -24,7 +24,7 @@ use Rattle.gix_revwalk.specs.Ids.{AreDistinct}
 use Rattle.gix_topo.specs.Inside.Starting.{HasBegun, IsBegunWalk, by_rising_time, IsStartFault, here, later, short}
 use Rattle.gix_topo.specs.TopoOrder.{Keeps, first_places}
 use Rattle.gix_topo.specs.Inside.Steady.{IsDone, AreRead, AreDroppedFor, IsTallied, IsSteady, HasCounted, IsHeld, unasked, unasked_of}
-use Rattle.gix_topo.specs.Walk.{TopoPlan, Ready, ready_ids, first_depth, HoldsReady, IsNumberOf, IsInDepth, IsBrokenRow, IsCounting, IsStored, IsStarted, StartsWith, IsFound, text_walked, IsTextMember, IsReached, IsFirstReady, IsFault, IsBuildFault}
+use Rattle.gix_topo.specs.Walk.{TopoPlan, Ready, ready_ids, HoldsReady, IsNumberOf, IsInDepth, IsBrokenRow, IsCounting, IsStored, IsStarted, StartsWith, IsFound, text_walked, IsTextMember, IsReached, IsFirstReady, IsFault, IsBuildFault}
 use Rattle.gix_topo.specs.WalkSet.{IsChildless}
 use Rattle.gix_topo.proofs.Counts.IndegreeZero.{unseen, all_taken, text_left, text_outside}
 use Rattle.gix_topo.proofs.Counts.Expanded.{number_same, broken}
@@ -69,12 +69,12 @@ module _ {F : Type 0} (objects : F → Objects) (faulty : F → ObjectId → Typ
           push_misses_no_count objects faulty old i e f,
           subst (λ p. IsFault objects faulty p (IsFirstReady objects plan) e) same
               (push_fault objects faulty (IsFirstReady objects plan) old i e (λ a. start (subst (λ p. Contains p.tips i) (sym same) tip))
-                  (λ a. first_ready (subst (λ p. IsAgreeing (objects p.store) p.rows) same a) i tip (sym (counts i) ∙ parts.0) (sym (seen i) ∙ parts.1)) (subst (λ p. AreDroppedFor objects p old.counting.reader.in_use) (sym same) dropped) f),
+              (λ a. first_ready (subst (λ p. IsAgreeing (objects p.store) p.rows) same a) i tip (sym (counts i) ∙ parts.0) (sym (seen i) ∙ parts.1)) (subst (λ p. AreDroppedFor objects p old.counting.reader.in_use) (sym same) dropped) f),
         )
     start_fails same dropped seen counts all (later {mid = mid} {i = i} {ids = ids} {first = first} s f) =
         let by : Frees objects faulty false _ (i ∷ []) first mid = started_one objects faulty s in
         start_fails (by.ready.plan ∙ same) (made_dropped objects faulty plan same (λ j m a. inl (start (subst (Contains plan.tips) (only_member i j m) (all i (Contains-here i ids))))) by.ready dropped) (λ j. ap is_seen (by.ready.moved Ends j) ∙ seen j)
-            (λ j. sym (zero-add _) ∙ by.children j ∙ counts j) (λ j m. all j (Contains-there j i ids m)) f
+        (λ j. sym (zero-add _) ∙ by.children j ∙ counts j) (λ j m. all j (Contains-there j i ids m)) f
     start_fails same dropped seen counts all short = ((λ q. cc), tt)
 
   -- starting fails

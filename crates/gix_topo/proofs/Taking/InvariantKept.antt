@@ -23,7 +23,7 @@ use Rattle.gix_topo.specs.Inside.Searched.{IsCounted, IsExplored, IsTally, next_
 use Rattle.gix_revwalk.specs.Ids.{times, AreDistinct}
 use Rattle.gix_topo.specs.TopoOrder.{last_places, Keeps}
 use Rattle.gix_topo.specs.Inside.Steady.{IsTallied, IsHeld, AreRead, IsSteady, unasked, unasked_of, AreDroppedFor, HasCounted, TakesReady}
-use Rattle.gix_topo.specs.Walk.{Ready, ready_ids, Chooses, IsTaken, text_walked, IsTextMember, IsStored, IsCounting, Adds, IsFound, IsCommitRead, HoldsReady, IsReached, TopoPlan, IsBrokenRow}
+use Rattle.gix_topo.specs.Walk.{Ready, ready_ids, Chooses, IsTaken, text_walked, IsTextMember, IsCounting, Adds, IsFound, IsCommitRead, HoldsReady, IsReached, TopoPlan, IsBrokenRow}
 use Rattle.gix_topo.specs.WalkSet.{IsReady, IsChild}
 use Rattle.gix_topo.specs.Depth.{known_generation}
 use Rattle.gix_topo.proofs.Counts.Frontier.{has_seen}

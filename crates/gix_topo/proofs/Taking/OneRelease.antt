@@ -1,5 +1,5 @@
 -- How a commit becomes ready.
-use Rattle.std.specs.Prelude.{◌≡◌, ◌⊎◌, ◌<◌, ℕ, take, suc, ℤ, pos, List, ◌++◌, Bool, Option, Some, None, Ok, Contains, length}
+use Rattle.std.specs.Prelude.{◌≡◌, ◌⊎◌, ◌<◌, ℕ, take, suc, ℤ, pos, List, Bool, Option, Some, None, Ok, Contains, length}
 use Rattle.std.proofs.Common.{sym, ap, subst, ◌∙◌, get_or, take-suc}
 use Rattle.std.specs.Option.{unwrap_or}
 use Rattle.std.proofs.lemmas.List.Elements.{Contains-get_or, Contains-push_cases}

@@ -1,6 +1,6 @@
 -- One call of `next`: a commit after the other is taken, until one is shown.
 use Rattle.std.specs.Prelude.{◌≡◌, ◌⊎◌, ◌≤◌, suc, List, [], Bool, true, false, Option, Some, None, Result, Ok, Err, Contains}
-use Rattle.std.proofs.Common.{refl, sym, ap, subst, ⊎_elim, ◌∙◌}
+use Rattle.std.proofs.Common.{sym, ap, subst, ⊎_elim}
 use Rattle.std.specs.Iterator.{MakesProgress, at_most}
 use Rattle.gix_hash.specs.declared.ObjectId.{ObjectId}
 use Rattle.gix_object.specs.Object.{Objects}
@@ -10,7 +10,7 @@ use Rattle.gix_topo.specs.declared.walk.Walk.{Walk}
 use Rattle.gix_topo.specs.Inside.ReadySet.{ReadySet}
 use Rattle.gix_topo.specs.Inside.Releasing.{plan_of, counted_by, taken_of, walk_of, TakesOne, IsTakingFault}
 use Rattle.gix_topo.specs.Laws.{answers_left}
-use Rattle.gix_topo.specs.Inside.Steady.{IsHeld, IsOpen, unasked, unasked_of, TakesReady, TakesNext, ended, given, failed}
+use Rattle.gix_topo.specs.Inside.Steady.{IsHeld, IsOpen, TakesReady, TakesNext, ended, given, failed}
 use Rattle.gix_topo.specs.Walk.{TopoWalk, Ready, Counted, Chooses, Adds, IsNextReady, IsFault, IsLate, Takes, after, Next}
 use Rattle.gix_topo.specs.Walk as machine
 use Rattle.gix_revwalk.specs.Infos.{IsInfo}

@@ -1,14 +1,14 @@
 -- When a topological walk can't take a ready commit.
-use Rattle.std.specs.Prelude.{◌≡◌, ◌⊎◌, ◌≤◌, ℕ, ◌+◌, ◌-◌, ◌||◌, List, [], ◌∷◌, ◌++◌, drop, Bool, true, false, cond, Some, None, Err, Contains}
+use Rattle.std.specs.Prelude.{◌≡◌, ◌⊎◌, ◌≤◌, ℕ, ◌+◌, ◌-◌, List, [], ◌∷◌, ◌++◌, drop, Bool, true, false, cond, Some, None, Err, Contains}
 use Rattle.std.proofs.Common.{refl, sym, ap, subst, inl, inr, ⊎_elim, ◌∙◌, arith}
 use Rattle.std.specs.FinSet as set
 use Rattle.gix_hash.specs.declared.ObjectId.{ObjectId}
 use Rattle.gix_object.specs.declared.Kind.TheVariants as object
 use Rattle.gix_object.specs.declared.find.existing_iter.Error.TheVariants as existing
-use Rattle.gix_hash.specs.Id.{kind_of, is_same, is_among}
+use Rattle.gix_hash.specs.Id.{kind_of, is_among}
 use Rattle.gix_object.specs.Object.{Object, Objects}
 use Rattle.gix_object.specs.CommitItems.{commit_items}
-use Rattle.gix_hash.proofs.Ids.Membership.{same_itself, among_from, Contains-here, Contains-there, Contains-cons_cases, no_member}
+use Rattle.gix_hash.proofs.Ids.Membership.{same_itself, among_from, Contains-here, Contains-cons_cases, no_member}
 use Rattle.gix_revwalk.specs.declared.Parents.{Parents}
 use Rattle.gix_revwalk.specs.declared.Parents.TheVariants as mode
 use Rattle.gix_topo.specs.declared.Error.{Error}
@@ -189,7 +189,7 @@ module _ {F : Type 0} (objects : F → Objects) (faulty : F → ObjectId → Typ
     children_left : (explored : Counting F) → Explores objects faulty low explored → Agrees → (p : ObjectId) → times p (last_places named) ≤ children_of explored.frontier p
     children_left explored x a p = counted (is_among p named) (times p (last_places named)) (children_of explored.frontier p) (times-last p named) (λ e.
         tally_counts next (λ i. is_done (reached explored.frontier.known Tips i)) (set.contains (taken_of w)) (children_of explored.frontier) (counted_on objects faulty w rest r chosen held a explored x).tally p r.id
-            (explores_done objects faulty x Tips r.id (t.done r (was_ready objects faulty w rest r chosen))) (was_untaken objects faulty w rest r chosen held) (ap (is_among p) (sym (named_text objects faulty w rest r chosen held a)) ∙ e))
+        (explores_done objects faulty x Tips r.id (t.done r (was_ready objects faulty w rest r chosen))) (was_untaken objects faulty w rest r chosen held) (ap (is_among p) (sym (named_text objects faulty w rest r chosen held a)) ∙ e))
       where
         t : IsTallied objects w
         t = held.tallied a
@@ -226,6 +226,6 @@ module _ {F : Type 0} (objects : F → Objects) (faulty : F → ObjectId → Typ
     )
     taking_fault e (releasing {explored = explored} x rests f) =
         among_fails (plan_of w) (IsNextReady objects (plan_of w) (taken_of w) r.id) (with_counting objects faulty (record w { ready = rest }) explored) (last_places named) (last_once named) upcoming (next_ready explored x rests)
-            (plan_taken objects faulty w rest r chosen same explored (explores_same objects faulty x))
+        (plan_taken objects faulty w rest r chosen same explored (explores_same objects faulty x))
         (explores_dropped objects faulty w.ready.sorting w.tips.items w.ends.items (set.contains (taken_of w)) low (λ a. (held.tallied a).counted) x held.dropped) (children_left explored x) f
     taking_fault e (short q) = subst (Fails (plan_of w) (IsNextReady objects (plan_of w) (taken_of w) r.id)) (sym q) (tt, tt)

@@ -1,7 +1,7 @@
-use Rattle.std.proofs.Common.{◌≡◌, ℕ, ◌-◌, length, sym, ap, ◌∙◌}
+use Rattle.std.proofs.Common.{ap, ◌∙◌}
 use Rattle.gix_commitgraph.specs.PackedReading.{words_of}
 use Rattle.gix_commitgraph.specs.PackedLayout.{id_before}
-use Rattle.gix_commitgraph.proofs.Packed.Steps.{order_fault, parents_fault, reads_on, length-words_of, behind-read}
+use Rattle.gix_commitgraph.proofs.Packed.Steps.{order_fault, parents_fault, reads_on, behind-read}
 use Rattle.std.specs.Option.{option_map}
 use Rattle.gix_commitgraph.proofs.check.check_row.Goals as goal
 

@@ -1,6 +1,6 @@
 use Rattle.std.proofs.Common.{[], ◌∷◌, subst, sym}
 use Rattle.gix_paint.specs.Inside.Painter.{Meets}
-use Rattle.gix_paint.proofs.Meets.{IsLeft, fails_as, left_fails, left_step, none_left}
+use Rattle.gix_paint.proofs.Meets.{fails_as, left_fails, left_step, none_left}
 use Rattle.gix_paint.proofs.Painter.meet_all.Goals as goal
 
 pub loop-id-init : goal.loop-id-init

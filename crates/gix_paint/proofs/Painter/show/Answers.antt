@@ -1,10 +1,7 @@
-use Rattle.std.proofs.Common.{◌≡◌, true, Option, None, Some, is_some, refl, sym, ap, ◌∙◌, arith}
+use Rattle.std.proofs.Common.{◌≡◌, true, is_some, refl, ap, ◌∙◌, arith}
 use Rattle.std.specs.FinMap.{get}
 use Rattle.std.specs.FinSet.{contains, contains-insert}
 use Rattle.gix_hash.proofs.Ids.Membership.{id_total}
-use Rattle.std.specs.Option.{option_copied}
-use Rattle.std.specs.Borrow.{Bor}
-use Rattle.gix_paint.specs.declared.Side.{Side}
 use Rattle.gix_paint.specs.declared.Side.TheVariants as side
 use Rattle.std.proofs.lemmas.Result.{IfOk-weaker}
 use Rattle.gix_paint.proofs.Meets.{meets_known, meets_new}

@@ -1,4 +1,4 @@
-use Rattle.std.proofs.Common.{◌≡◌, Bool, true, false, sym, ◌∙◌}
+use Rattle.std.proofs.Common.{◌≡◌, true, false, sym, ◌∙◌}
 use Rattle.gix_object.specs.TreeItems.{is_tree}
 use Rattle.gix_object.specs.TreeRefIter.{entry_of}
 use Rattle.gix_tree.specs.declared.breadthfirst.Error.TheVariants as error
