@@ -1,6 +1,5 @@
 -- What one more mark says of an id.
-use Rattle.std.specs.Prelude.{◌≡◌, ℕ, ◌==◌, true, false}
-use Rattle.std.proofs.Common.{refl, ap, ◌∙◌, arith}
+use Rattle.std.proofs.Common.{◌≡◌, ℕ, ◌==◌, true, false, refl, ap, ◌∙◌, arith}
 use Rattle.std.proofs.lemmas.Nat.{and_or_self, and_or_apart}
 use Rattle.std.specs.Int.Bits.{bit_and, bit_or}
 use Rattle.gix_frontier.specs.declared.Side.{Side}

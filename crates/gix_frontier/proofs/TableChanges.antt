@@ -1,6 +1,5 @@
 -- What is known of an id by a change of the table, and by two of them.
-use Rattle.std.specs.Prelude.{◌≡◌, ◌+◌, ℕ, ◌∷◌, true, false, cond, Some, IsPermutation}
-use Rattle.std.proofs.Common.{refl, sym, ap, ◌∙◌, arith}
+use Rattle.std.proofs.Common.{◌≡◌, ◌+◌, ℕ, ◌∷◌, true, false, cond, Some, IsPermutation, refl, sym, ap, ◌∙◌, arith}
 use Rattle.std.specs.FinMap as map
 use Rattle.gix_hash.specs.declared.ObjectId.{ObjectId}
 use Rattle.gix_hash.specs.Id.{id_cmp}

@@ -1,27 +1,13 @@
 -- Painting ends: each turn leaves less room for entries.
-use Rattle.std.specs.Borrow.{Bor}
-use Rattle.std.specs.Prelude.{◌≡◌, ◌≤◌, suc, List, ◌++◌, map, length, true, is_some, Option, Some, None, Contains}
-use Rattle.std.specs.List.{flat_map}
-use Rattle.std.proofs.Common.{refl, sym, ap, subst, ⊎_elim, ◌∙◌, arith}
+use Rattle.std.proofs.Common.{Bor, ◌≡◌, ◌≤◌, suc, List, ◌++◌, map, length, true, is_some, Option, Some, None, Contains, flat_map, refl, sym, ap, subst, ⊎_elim, ◌∙◌, arith}
 use Rattle.std.proofs.lemmas.Bool.{or_left, or_right}
-use Rattle.std.proofs.lemmas.List.Sorted.{length_permutation}
+use Rattle.gix_paint.proofs.Common.{length_permutation, ObjectId, is_among, Object, Objects, GraphRow, row_of, cmp-value, Key, Entry, Painter, parents_of, commit_of_object, is_hidden, graph_in_use, Reads, by_row, by_store, drops}
+use Rattle.gix_paint.proofs.Common.{GivesParents, brought, looked_up, Takes, Pops, room, new_ids, ids_at, among-append, among_from, no_member}
 use Rattle.std.specs.FinMap as map_of
-use Rattle.gix_hash.specs.declared.ObjectId.{ObjectId}
-use Rattle.gix_hash.specs.Id.{is_among}
-use Rattle.gix_object.specs.Object.{Object, Objects}
-use Rattle.gix_commitgraph.specs.Rows.{GraphRow, row_of}
-use Rattle.gix_paint.specs.contracts.source.KeyOrd.TheImpl.{cmp-value}
-use Rattle.gix_paint.specs.declared.source.Key.{Key}
-use Rattle.gix_paint.specs.declared.Entry.{Entry}
-use Rattle.gix_paint.specs.declared.Painter.{Painter}
-use Rattle.gix_revwalk.specs.Commits.{parents_of, commit_of_object}
-use Rattle.gix_paint.specs.Inside.Painter.{is_hidden, rows_in, graph_in_use, Reads, by_row, by_store, drops, GivesParents, brought, looked_up, Takes, Pops, room}
-use Rattle.gix_revwalk.specs.Ids.{new_ids}
-use Rattle.gix_revwalk.specs.RowParents.{ids_at}
+use Rattle.gix_paint.specs.Inside.Painter.{rows_in}
 use Rattle.gix_paint.proofs.Invariant.{reads_parents, IsSafe}
 use Rattle.gix_paint.proofs.KeptByTurn.{popped_there}
 use Rattle.gix_paint.proofs.Turn.{IsTurn}
-use Rattle.gix_hash.proofs.Ids.Membership.{among-append, among_from, no_member}
 use Rattle.gix_revwalk.proofs.NewIds.{among_flat}
 use Rattle.gix_revwalk.proofs.Rows.{found_entry, ids_in_rows}
 

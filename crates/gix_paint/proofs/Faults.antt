@@ -1,20 +1,10 @@
 -- Why painting fails: a commit that it had to read can't be read.
-use Rattle.std.specs.Prelude.{◌≡◌, ◌≢◌, ◌⊎◌, List, ◌++◌, Option, Some, None, Contains}
-use Rattle.std.proofs.Common.{refl, sym, ap, subst, inl, inr, ⊎_elim, ◌∙◌}
-use Rattle.gix_hash.specs.declared.ObjectId.{ObjectId}
+use Rattle.std.proofs.Common.{◌≡◌, ◌≢◌, ◌⊎◌, List, ◌++◌, Option, Some, None, Contains, refl, sym, ap, subst, inl, inr, ⊎_elim, ◌∙◌}
+use Rattle.gix_paint.proofs.Common.{ObjectId, Objects, GraphRow, row_of, cmp-value, Hidden, Key, Entry, Painter, parents_of, Reaches, start, step, IsHistory, DropsBy, IsFaultAt, IsHiddenFault, FailsAmong, graph_in_use, IsSettled}
+use Rattle.gix_paint.proofs.Common.{IsReadFor, TreatFails, Pops}
 use Rattle.gix_object.specs.declared.find.existing_iter.Error.TheVariants as existing
-use Rattle.gix_object.specs.Object.{Objects}
-use Rattle.gix_commitgraph.specs.Rows.{GraphRow, row_of}
-use Rattle.gix_paint.specs.contracts.source.KeyOrd.TheImpl.{cmp-value}
-use Rattle.gix_paint.specs.declared.Hidden.{Hidden}
 use Rattle.gix_paint.specs.declared.Hidden.TheVariants as hidden_by
-use Rattle.gix_paint.specs.declared.source.Key.{Key}
-use Rattle.gix_paint.specs.declared.Entry.{Entry}
-use Rattle.gix_paint.specs.declared.Painter.{Painter}
-use Rattle.gix_revwalk.specs.Commits.{parents_of}
-use Rattle.gix_hash.specs.Reach.{Reaches, start, step}
-use Rattle.gix_paint.specs.Painting.{IsHistory, DropsBy, IsFaultAt, IsHiddenFault}
-use Rattle.gix_paint.specs.Inside.Painter.{FailsAmong, rows_in, graph_in_use, IsSettled, IsReadFor, TreatFails, Pops}
+use Rattle.gix_paint.specs.Inside.Painter.{rows_in}
 use Rattle.gix_paint.proofs.Invariant.{IsSafe}
 use Rattle.gix_paint.proofs.Order.{HoldsOf}
 use Rattle.gix_paint.proofs.KeptByTurn.{popped_there, reaches_either}

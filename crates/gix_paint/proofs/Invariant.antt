@@ -1,25 +1,13 @@
 -- What holds while hidden tips are painted, and what each step keeps of it.
-use Rattle.std.specs.Prelude.{◌≡◌, ◌≢◌, ◌⊎◌, List, ◌&&◌, Some, None, Contains}
-use Rattle.std.specs.Option.{option_map}
-use Rattle.std.proofs.Common.{refl, sym, ap, subst, inl, inr, ⊎_elim, ◌∙◌, arith}
+use Rattle.std.proofs.Common.{◌≡◌, ◌≢◌, ◌⊎◌, List, ◌&&◌, Some, None, Contains, option_map, refl, sym, ap, subst, inl, inr, ⊎_elim, ◌∙◌, arith}
 use Rattle.std.specs.FinMap as map_of
 use Rattle.std.specs.FinSet as set
-use Rattle.gix_hash.specs.declared.ObjectId.{ObjectId}
-use Rattle.gix_hash.specs.Id.{id_cmp}
-use Rattle.gix_object.specs.Object.{Objects}
-use Rattle.gix_commitgraph.specs.Rows.{GraphRow, row_of}
-use Rattle.gix_paint.specs.declared.Side.{Side}
+use Rattle.gix_paint.proofs.Common.{ObjectId, id_cmp, Objects, GraphRow, row_of, Side, Key, Entry, Painter, parents_of, parents_in, IsHistory, DropsBy, AllMarks, hides, is_hidden, State, Unmet, Open, Read, Hides, state_of, Becomes}
+use Rattle.gix_paint.proofs.Common.{stays, opens, covers, graph_in_use, Reads, Knows, by_row, by_store, IsQueued, IsWaiting, IsTidy, Meets, Reaches, id_total, id_apart}
 use Rattle.gix_paint.specs.declared.Side.TheVariants as side
-use Rattle.gix_paint.specs.declared.source.Key.{Key}
 use Rattle.gix_paint.specs.declared.source.LookedUp.{LookedUp}
-use Rattle.gix_paint.specs.declared.Entry.{Entry}
-use Rattle.gix_paint.specs.declared.Painter.{Painter}
 use Rattle.gix_revwalk.specs.Agreeing.{IsAgreeing}
-use Rattle.gix_revwalk.specs.Commits.{parents_of, parents_in}
-use Rattle.gix_paint.specs.Painting.{IsHistory, DropsBy}
-use Rattle.gix_paint.specs.Inside.Painter.{AllMarks, hides, is_hidden, hidden_of, State, Unmet, Open, Read, Hides, state_of, Becomes, stays, opens, covers, rows_in, graph_in_use, Reads, Knows, by_row, by_store, IsQueued, IsWaiting, IsTidy, Meets}
-use Rattle.gix_hash.specs.Reach.{Reaches}
-use Rattle.gix_hash.proofs.Ids.Membership.{id_total, id_apart}
+use Rattle.gix_paint.specs.Inside.Painter.{hidden_of, rows_in}
 
 -- the ids that are marked hidden, as a set
 pub contains-hidden : (marks : AllMarks) (i : ObjectId) → set.contains (hidden_of marks) i ≡ is_hidden marks i

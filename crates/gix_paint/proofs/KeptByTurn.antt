@@ -1,37 +1,21 @@
 -- What an entry's turn keeps of what holds while hidden tips are painted.
-use Rattle.std.specs.Prelude.{◌≡◌, ◌≢◌, ◌⊎◌, ◌<◌, ◌≤◌, ℕ, List, [], ◌∷◌, ◌++◌, true, Some, None, Contains, IsSome, suc}
+use Rattle.std.proofs.Common.{◌≡◌, ◌≢◌, ◌⊎◌, ◌<◌, ◌≤◌, ℕ, List, [], ◌∷◌, ◌++◌, true, Some, None, Contains, IsSome, suc, refl, sym, ap, subst, inl, inr, ⊎_elim, ◌∙◌, arith}
 use Rattle.std.specs.List.{list_any}
 use Rattle.std.specs.Ordering.{eq_by_cmp}
-use Rattle.std.proofs.Common.{refl, sym, ap, subst, inl, inr, ⊎_elim, ◌∙◌, arith}
 use Rattle.std.proofs.lemmas.Bool.{or_left}
-use Rattle.std.proofs.lemmas.List.Elements.{Contains-append_left, Contains-append_right}
-use Rattle.std.proofs.lemmas.List.Sorted.{Contains-permutation, IsPermutation-sym}
+use Rattle.gix_paint.proofs.Common.{Contains-append_left, Contains-append_right, Contains-permutation, IsPermutation-sym, ObjectId, id_cmp, Objects, GraphRow, row_of, cmp-value, Side, Told, Infinite, Key, Entry, Painter, DropsBy}
+use Rattle.gix_paint.proofs.Common.{generation_in, IsHistory, Open, Hides, state_of, graph_in_use, Knows, by_row, by_store, IsWaiting, IsSettled, is_told, Pops, parents_of, Reaches, start, step, ids_at, id_total, id_apart, same_itself}
+use Rattle.gix_paint.proofs.Common.{Contains-here}
 use Rattle.std.specs.BinaryHeap.{IsUpperBound}
 use Rattle.std.specs.FinSet as set
-use Rattle.gix_hash.specs.declared.ObjectId.{ObjectId}
-use Rattle.gix_hash.specs.Id.{id_cmp}
-use Rattle.gix_object.specs.Object.{Objects}
 use Rattle.gix_revwalk.specs.PriorityQueue.{keys}
-use Rattle.gix_commitgraph.specs.Rows.{GraphRow, row_of}
-use Rattle.gix_paint.specs.contracts.source.KeyOrd.TheImpl.{cmp-value}
-use Rattle.gix_paint.specs.declared.Side.{Side}
 use Rattle.gix_paint.specs.declared.Side.TheVariants as side
-use Rattle.gix_paint.specs.declared.source.Generation.TheVariants.{Told, Infinite}
-use Rattle.gix_paint.specs.declared.source.Key.{Key}
 use Rattle.gix_paint.specs.declared.source.LookedUp.{LookedUp}
-use Rattle.gix_paint.specs.declared.Entry.{Entry}
-use Rattle.gix_paint.specs.declared.Painter.{Painter}
-use Rattle.gix_paint.specs.Painting.{DropsBy, generation_in, IsHistory}
-use Rattle.gix_paint.specs.Inside.Painter.{Open, Hides, state_of, graph_in_use, Knows, by_row, by_store, IsWaiting, IsSettled, is_told, Pops}
-use Rattle.gix_revwalk.specs.Commits.{parents_of}
-use Rattle.gix_hash.specs.Reach.{Reaches, start, step}
-use Rattle.gix_revwalk.specs.RowParents.{ids_at}
 use Rattle.gix_paint.proofs.Invariant.{nobody, starts_of, RowsInUse, IsSafe, IsOutside, Fact, Stands, IsStarted}
 use Rattle.gix_paint.proofs.Keys.{told_below_top, IsBelow}
 use Rattle.gix_revwalk.proofs.ReadsWhole.{row_stands, parent_below, corrupt_row}
 use Rattle.gix_revwalk.proofs.Reached.{done_or_waits}
 use Rattle.gix_paint.proofs.Search.{told_below}
-use Rattle.gix_hash.proofs.Ids.Membership.{id_total, id_apart, same_itself, Contains-here}
 
 -- a set that isn't empty has a member
 pub member_of : (s : set.FinSet id_cmp) → (set.len s ≡ 0 → ⊥) → (i : ObjectId) × (set.contains s i ≡ true)

@@ -1,19 +1,11 @@
 -- The order of the queue's keys: what a greatest key says of the others.
-use Rattle.std.specs.Prelude.{◌≡◌, ◌≤◌, ℕ, ℤ, List, [], ◌∷◌, true, false, Some, Contains, IsSome, slice_get}
+use Rattle.std.proofs.Common.{◌≡◌, ◌≤◌, ℕ, ℤ, List, [], ◌∷◌, true, false, Some, Contains, IsSome, slice_get, refl, sym, ap, subst, inr, ⊎_elim, ◌∙◌, arith, is_lt}
 use Rattle.std.specs.FinSet as set
-use Rattle.std.proofs.Common.{refl, sym, ap, subst, inr, ⊎_elim, ◌∙◌, arith}
 use Rattle.std.proofs.lemmas.Bool.Decides.{nat_tests}
 use Rattle.std.specs.BinaryHeap.{IsUpperBound}
-use Rattle.std.specs.Ordering.{is_lt}
-use Rattle.gix_paint.specs.contracts.source.KeyOrd.TheImpl.{cmp-value}
+use Rattle.gix_paint.proofs.Common.{cmp-value, Told, Infinite, Key, Entry, Painter, graph_in_use, IsSettled, is_told, Contains-here, Contains-cons_cases, no_member}
 use Rattle.gix_paint.specs.declared.source.Generation.{Generation}
-use Rattle.gix_paint.specs.declared.source.Generation.TheVariants.{Told, Infinite}
-use Rattle.gix_paint.specs.declared.source.Key.{Key}
-use Rattle.gix_paint.specs.declared.Entry.{Entry}
-use Rattle.gix_paint.specs.declared.Painter.{Painter}
-use Rattle.gix_paint.specs.Inside.Painter.{graph_in_use, IsSettled, is_told}
 use Rattle.gix_revwalk.specs.PriorityQueue.{keys}
-use Rattle.gix_hash.proofs.Ids.Membership.{Contains-here, Contains-cons_cases, no_member}
 
 generation_below : (g h : Generation) (s t : ℤ) → is_lt (cmp-value.it (record { generation = g; time = s }) (record { generation = h; time = t })) ≡ false → (n : ℕ) → g ≡ Told n → (m : ℕ) × (h ≡ Told m) × (m ≤ n)
 generation_below Infinite h s t e n k = cc

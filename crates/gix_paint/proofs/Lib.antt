@@ -1,3 +1,5 @@
+-- What most proofs use, to import from one place.
+mod Common
 -- Generations fall from a commit to its parents.
 pub mod Search
 -- A commit is read whole, or a fault exists at its id.

@@ -1,29 +1,16 @@
 -- Where painting begins and ends: the marks are whole.
-use Rattle.std.specs.Borrow.{Bor}
-use Rattle.std.specs.Prelude.{◌≡◌, ◌≢◌, ◌⊎◌, ◌<◌, ◌≤◌, ℕ, List, [], ◌∷◌, ◌++◌, Bool, true, false, Option, Some, None, Contains, IsSome, is_some, if◌then◌else◌}
-use Rattle.std.proofs.Common.{refl, sym, ap, subst, inl, inr, ⊎_elim, ◌∙◌, arith}
-use Rattle.std.proofs.lemmas.List.Elements.{Contains-append_cases}
+use Rattle.std.proofs.Common.{Bor, ◌≡◌, ◌≢◌, ◌⊎◌, ◌<◌, ◌≤◌, ℕ, List, [], ◌∷◌, ◌++◌, Bool, true, false, Option, Some, None, Contains, IsSome, is_some, if◌then◌else◌, refl, sym, ap, subst, inl, inr, ⊎_elim, ◌∙◌, arith}
+use Rattle.gix_paint.proofs.Common.{Contains-append_cases, ObjectId, id_cmp, Objects, GraphRow, row_of, Key, Told, Infinite, Entry, Painter, IsHistory, IsOpenBelow, IsRead, shown_commit, hidden_commit, generation_in, Paints, parents_of}
+use Rattle.gix_paint.proofs.Common.{IsAtBoundary, Reaches, start, step, hidden_of, State, Unmet, Open, Read, Hides, state_by, state_of, graph_in_use, IsWaiting, IsSettled, is_told, Meets, no_member, Contains-here}
 use Rattle.std.specs.FinMap as map_of
 use Rattle.std.specs.FinSet as set
-use Rattle.gix_hash.specs.declared.ObjectId.{ObjectId}
-use Rattle.gix_hash.specs.Id.{id_cmp}
-use Rattle.gix_object.specs.Object.{Objects}
-use Rattle.gix_commitgraph.specs.Rows.{GraphRow, row_of}
 use Rattle.gix_paint.specs.declared.Side.TheVariants as side
-use Rattle.gix_paint.specs.declared.source.Key.{Key}
 use Rattle.gix_paint.specs.declared.source.Generation.{Generation}
-use Rattle.gix_paint.specs.declared.source.Generation.TheVariants.{Told, Infinite}
-use Rattle.gix_paint.specs.declared.Entry.{Entry}
-use Rattle.gix_paint.specs.declared.Painter.{Painter}
 use Rattle.gix_revwalk.specs.Agreeing.{IsCorrupt}
-use Rattle.gix_paint.specs.Painting.{IsHistory, IsOpenBelow, IsRead, shown_commit, hidden_commit, generation_in, Paints}
-use Rattle.gix_revwalk.specs.Commits.{parents_of}
-use Rattle.gix_hash.specs.Reach.{IsAtBoundary, Reaches, start, step}
-use Rattle.gix_paint.specs.Inside.Painter.{hidden_of, State, Unmet, Open, Read, Hides, state_by, state_of, rows_in, graph_in_use, IsWaiting, IsSettled, is_told, Meets}
+use Rattle.gix_paint.specs.Inside.Painter.{rows_in}
 use Rattle.gix_paint.proofs.Invariant.{contains-hidden, later, nobody, RowsInUse, IsSafe, Fact, Stands, IsStarted, stands_meets, safe_meets}
 use Rattle.gix_paint.proofs.KeptByTurn.{HasGeneration, one_generation, told_row, hidden_from, falls, below, waits_above}
 use Rattle.gix_paint.proofs.Order.{IsAbove, IsOrdered, HoldsOf, ordered_start}
-use Rattle.gix_hash.proofs.Ids.Membership.{no_member, Contains-here}
 use Rattle.gix_revwalk.proofs.ReadsWhole.{row_stands}
 
 module _ {F : Type 0} (objects : F → Objects) (store : F) (history : Objects) (rows : List GraphRow) (tips hidden_tips : List ObjectId) where

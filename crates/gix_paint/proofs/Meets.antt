@@ -1,26 +1,17 @@
 -- To meet ids one by one is to meet them all.
-use Rattle.std.specs.Prelude.{◌≡◌, ◌≢◌, ◌⊎◌, ◌≤◌, ℕ, suc, List, [], ◌∷◌, ◌++◌, length, Bool, true, false, not, cond, is_some, Option, Some, None, Result, Ok, Err, Contains, IfErr}
-use Rattle.std.specs.Result.{IsErrAnd}
-use Rattle.std.proofs.Common.{refl, sym, ap, subst, inl, inr, ⊎_elim, ◌∙◌, arith}
+use Rattle.std.proofs.Common.{◌≡◌, ◌≢◌, ◌⊎◌, ◌≤◌, ℕ, suc, List, [], ◌∷◌, ◌++◌, length, Bool, true, false, not, cond, is_some, Option, Some, None, Result, Ok, Err, Contains, IfErr, IsErrAnd, refl, sym, ap, subst, inl, inr, ⊎_elim, ◌∙◌}
+use Rattle.std.proofs.Common.{arith}
 use Rattle.std.proofs.lemmas.List.{nil_from_length}
-use Rattle.std.proofs.lemmas.List.Elements.{Contains-append_left, Contains-append_right, Contains-append_cases}
-use Rattle.std.proofs.lemmas.List.Sorted.{Contains-permutation, length_permutation}
+use Rattle.gix_paint.proofs.Common.{Contains-append_left, Contains-append_right, Contains-append_cases, Contains-permutation, length_permutation, ObjectId, is_same, is_among, Objects, Side, Key, Entry, Painter, Hidden, AllMarks}
+use Rattle.gix_paint.proofs.Common.{FailsAmong, hides, State, Unmet, Hides, state_by, state_of, Becomes, stays, opens, covers, graph_in_use, IsQueued, IsWaiting, Queues, Meets, is_turn, Takes, GivesParents, TreatsEntry, reads, room}
+use Rattle.gix_paint.proofs.Common.{id_total, same_is, same_itself, Contains-here, Contains-there, Contains-cons_cases, no_member}
 use Rattle.std.specs.FinMap as map_of
 use Rattle.std.specs.FinSet as set
 use Rattle.std.proofs.Math.Path.{transport}
-use Rattle.gix_hash.specs.declared.ObjectId.{ObjectId}
-use Rattle.gix_hash.specs.Id.{is_same, is_among}
-use Rattle.gix_object.specs.Object.{Objects}
-use Rattle.gix_paint.specs.declared.Side.{Side}
 use Rattle.gix_paint.specs.declared.Side.TheVariants as side
-use Rattle.gix_paint.specs.declared.source.Key.{Key}
-use Rattle.gix_paint.specs.declared.Entry.{Entry}
-use Rattle.gix_paint.specs.declared.Painter.{Painter}
-use Rattle.gix_paint.specs.declared.Hidden.{Hidden}
-use Rattle.gix_paint.specs.Inside.Painter.{AllMarks, FailsAmong, hides, State, Unmet, Hides, state_by, state_of, Becomes, stays, opens, covers, rows_in, graph_in_use, IsQueued, IsWaiting, Queues, Meets, is_turn, Takes, GivesParents, TreatsEntry, reads, room}
+use Rattle.gix_paint.specs.Inside.Painter.{rows_in}
 use Rattle.gix_revwalk.proofs.NewIds.{fresh, fresh_agree, new_less}
 use Rattle.gix_hash.proofs.Lists.{only_member}
-use Rattle.gix_hash.proofs.Ids.Membership.{id_total, same_is, same_itself, Contains-here, Contains-there, Contains-cons_cases, no_member}
 
 becomes_both : {on : Side} {met1 met2 met3 queued1 queued2 : Type 0} {a b c : State} → (met3 → met1 ⊎ met2) → (met1 → met3) → (met2 → met3) → (queued1 → queued2) → Becomes on met1 queued1 a b → Becomes on met2 queued2 b c → Becomes on met3 queued2 a c
 becomes_both part one two later (stays f) (stays g) = stays (λ m. ⊎_elim f g (part m))

@@ -1,23 +1,10 @@
 -- Painting takes what has the greatest generation first: nothing that waits is above what was taken. Rows in use had no fault where they were read.
-use Rattle.std.specs.Borrow.{Bor}
-use Rattle.std.specs.Prelude.{◌≡◌, ◌⊎◌, ◌<◌, ◌≤◌, ℕ, List, true, false, Option, Some, None, Contains}
-use Rattle.std.specs.Option.{option_map}
-use Rattle.std.proofs.Common.{sym, ap, subst, inl, inr, ⊎_elim, ◌∙◌, arith}
-use Rattle.gix_hash.specs.declared.ObjectId.{ObjectId}
-use Rattle.gix_object.specs.Object.{Objects}
-use Rattle.gix_commitgraph.specs.Rows.{GraphRow, row_of}
-use Rattle.gix_paint.specs.contracts.source.KeyOrd.TheImpl.{cmp-value}
+use Rattle.std.proofs.Common.{Bor, ◌≡◌, ◌⊎◌, ◌<◌, ◌≤◌, ℕ, List, true, false, Option, Some, None, Contains, option_map, sym, ap, subst, inl, inr, ⊎_elim, ◌∙◌, arith}
+use Rattle.gix_paint.proofs.Common.{ObjectId, Objects, GraphRow, row_of, cmp-value, Told, Key, Entry, Painter, parents_of, Reaches, IsHistory, State, Unmet, Read, Hides, state_of, Becomes, stays, opens, covers, graph_in_use, by_row}
+use Rattle.gix_paint.proofs.Common.{by_store, drops, IsQueued, IsWaiting, Meets, IsSettled, GivesParents, brought, looked_up, is_turn, is_turn_on, Pops, ids_at}
 use Rattle.gix_paint.specs.declared.Side.TheVariants as side
-use Rattle.gix_paint.specs.declared.source.Generation.TheVariants.{Told}
-use Rattle.gix_paint.specs.declared.source.Key.{Key}
-use Rattle.gix_paint.specs.declared.Entry.{Entry}
-use Rattle.gix_paint.specs.declared.Painter.{Painter}
-use Rattle.gix_revwalk.specs.Commits.{parents_of}
-use Rattle.gix_hash.specs.Reach.{Reaches}
-use Rattle.gix_paint.specs.Painting.{IsHistory}
-use Rattle.gix_paint.specs.Inside.Painter.{State, Unmet, Read, Hides, state_of, Becomes, stays, opens, covers, rows_in, graph_in_use, by_row, by_store, drops, IsQueued, IsWaiting, Meets, IsSettled, GivesParents, brought, looked_up, is_turn, is_turn_on, Pops}
+use Rattle.gix_paint.specs.Inside.Painter.{rows_in}
 use Rattle.gix_paint.specs.Inside.Painter as painter
-use Rattle.gix_revwalk.specs.RowParents.{ids_at}
 use Rattle.gix_paint.proofs.Invariant.{later, nobody, starts_of, RowsInUse, IsSafe, Stands, IsStarted, still_stand}
 use Rattle.gix_revwalk.proofs.Rows.{IsSoundRow, unread_fault}
 use Rattle.gix_paint.proofs.Keys.{IsBelow}

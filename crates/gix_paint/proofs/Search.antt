@@ -1,8 +1,6 @@
 -- Generations fall from a commit to its parents.
-use Rattle.std.specs.Prelude.{◌≡◌, ◌⊎◌, ◌<◌, ◌≤◌, ℕ, List, [], ◌∷◌, Contains}
-use Rattle.std.proofs.Common.{subst, inl, inr, ⊎_elim, arith}
-use Rattle.gix_hash.specs.declared.ObjectId.{ObjectId}
-use Rattle.gix_hash.specs.Reach.{Reaches, start, step}
+use Rattle.std.proofs.Common.{◌≡◌, ◌⊎◌, ◌<◌, ◌≤◌, ℕ, List, [], ◌∷◌, Contains, subst, inl, inr, ⊎_elim, arith}
+use Rattle.gix_paint.proofs.Common.{ObjectId, Reaches, start, step}
 use Rattle.gix_hash.proofs.Lists.{only_member}
 
 module _ (next : ObjectId → List ObjectId) where

@@ -1,29 +1,15 @@
 -- A turn of the painting: an entry is taken, its commit is read, and its parents are met.
-use Rattle.std.specs.Borrow.{Bor}
-use Rattle.std.specs.Prelude.{◌≡◌, ◌≢◌, ◌⊎◌, List, [], Bool, true, false, not, ◌&&◌, Option, Some, None, Contains, IsSome}
-use Rattle.std.proofs.Common.{refl, sym, ap, subst, inl, inr, ⊎_elim, ◌∙◌, arith}
-use Rattle.std.proofs.lemmas.List.Sorted.{Contains-permutation, IsPermutation-sym}
+use Rattle.std.proofs.Common.{Bor, ◌≡◌, ◌≢◌, ◌⊎◌, List, [], Bool, true, false, not, ◌&&◌, Option, Some, None, Contains, IsSome, refl, sym, ap, subst, inl, inr, ⊎_elim, ◌∙◌, arith}
+use Rattle.gix_paint.proofs.Common.{Contains-permutation, IsPermutation-sym, ObjectId, id_cmp, is_same, Objects, GraphRow, row_of, cmp-value, Side, Key, Entry, Painter, IsHistory, DropsBy, hides, State, Unmet, Open, Read, Hides}
+use Rattle.gix_paint.proofs.Common.{state_of, graph_in_use, Reads, by_row, by_store, drops, IsWaiting, IsSettled, GivesParents, brought, looked_up, Takes, is_turn, is_turn_on, frontier_without, Meets, TreatsEntry, skips, reads, Pops}
+use Rattle.gix_paint.proofs.Common.{parents_of, Reaches, step, ids_at, id_total, same_is, same_itself, Contains-there, Contains-cons_cases, no_member}
 use Rattle.std.specs.FinMap as map_of
 use Rattle.std.specs.FinSet as set
-use Rattle.gix_hash.specs.declared.ObjectId.{ObjectId}
-use Rattle.gix_hash.specs.Id.{id_cmp, is_same}
-use Rattle.gix_object.specs.Object.{Objects}
-use Rattle.gix_commitgraph.specs.Rows.{GraphRow, row_of}
-use Rattle.gix_paint.specs.contracts.source.KeyOrd.TheImpl.{cmp-value}
-use Rattle.gix_paint.specs.declared.Side.{Side}
 use Rattle.gix_paint.specs.declared.Side.TheVariants as side
-use Rattle.gix_paint.specs.declared.source.Key.{Key}
-use Rattle.gix_paint.specs.declared.Entry.{Entry}
-use Rattle.gix_paint.specs.declared.Painter.{Painter}
-use Rattle.gix_paint.specs.Painting.{IsHistory, DropsBy}
-use Rattle.gix_paint.specs.Inside.Painter.{hides, State, Unmet, Open, Read, Hides, state_of, rows_in, graph_in_use, Reads, by_row, by_store, drops, IsWaiting, IsSettled, GivesParents, brought, looked_up, Takes, is_turn, is_turn_on, frontier_without, Meets, TreatsEntry, skips, reads, Pops}
-use Rattle.gix_revwalk.specs.Commits.{parents_of}
-use Rattle.gix_hash.specs.Reach.{Reaches, step}
-use Rattle.gix_revwalk.specs.RowParents.{ids_at}
+use Rattle.gix_paint.specs.Inside.Painter.{rows_in}
 use Rattle.gix_paint.proofs.Invariant.{in_history, reads_parents, nobody, starts_of, RowsInUse, IsSafe, IsOutside, Fact, Stands, IsStarted, stands_meets, safe_meets, started_meets}
 use Rattle.gix_paint.proofs.KeptByTurn.{popped_there, taken_outside, drop_reason}
 use Rattle.gix_revwalk.proofs.ReadsWhole.{row_parents}
-use Rattle.gix_hash.proofs.Ids.Membership.{id_total, same_is, same_itself, Contains-there, Contains-cons_cases, no_member}
 use Rattle.gix_paint.proofs.Meets.{meets_none}
 
 -- what an entry's turn makes of an id: a visible one that was open is read

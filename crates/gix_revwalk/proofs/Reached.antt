@@ -1,9 +1,6 @@
 -- What is reached from ids that are reached.
-use Rattle.std.specs.Prelude.{◌⊎◌, List, [], ◌∷◌, Contains}
-use Rattle.std.proofs.Common.{inl, inr, ⊎_elim}
-use Rattle.gix_hash.specs.declared.ObjectId.{ObjectId}
-use Rattle.gix_hash.specs.Reach.{Reaches, start, step}
-use Rattle.gix_hash.proofs.Ids.Membership.{Contains-here}
+use Rattle.std.proofs.Common.{◌⊎◌, List, [], ◌∷◌, Contains, inl, inr, ⊎_elim}
+use Rattle.gix_revwalk.proofs.Common.{ObjectId, Reaches, start, step, Contains-here}
 
 pub reaches_from : (next : ObjectId → List ObjectId) (starts tips : List ObjectId) → ((i : ObjectId) → Contains starts i → Reaches next tips i) → (i : ObjectId) → Reaches next starts i → Reaches next tips i
 reaches_from next starts tips f i (start m) = f i m

@@ -1,24 +1,12 @@
 -- No id is asked about twice, whatever faults come, and only ids that tips, rows and stored texts name.
-use Rattle.std.specs.Prelude.{◌≡◌, ◌⊎◌, List, [], ◌∷◌, ◌++◌, Bool, true, Result, Contains}
-use Rattle.std.proofs.Common.{sym, ap, subst, inl, ⊎_elim, ◌∙◌, arith}
-use Rattle.std.specs.Iterator.{Yields}
-use Rattle.std.proofs.lemmas.Bool.{true≢false, or_right, or_left}
-use Rattle.std.proofs.lemmas.List.Elements.{Contains-append_cases}
+use Rattle.std.proofs.Common.{◌≡◌, ◌⊎◌, List, [], ◌∷◌, ◌++◌, Bool, true, Result, Contains, sym, ap, subst, inl, ⊎_elim, ◌∙◌, arith, true≢false}
+use Rattle.gix_simple.proofs.Common.{Yields, or_right, or_left, Contains-append_cases, ObjectId, id_cmp, is_among, Objects, Info, Error, SimpleWalk, Treated, IsNew, Asks, remembers, Next, IsBuilt, AreDistinct, named_in, AsksAll}
+use Rattle.gix_simple.proofs.Common.{id_total, same_from, among-append, among_from, among_is, Contains-here, Contains-there, no_member, only_member}
 use Rattle.std.specs.FinSet as set
-use Rattle.gix_hash.specs.declared.ObjectId.{ObjectId}
-use Rattle.gix_hash.specs.Id.{id_cmp, is_among}
-use Rattle.gix_object.specs.Object.{Objects}
-use Rattle.gix_revwalk.specs.declared.Info.{Info}
-use Rattle.gix_simple.specs.declared.Error.{Error}
-use Rattle.gix_simple.specs.Walk.{SimpleWalk, Treated, IsNew, Asks, remembers, asks, Next}
-use Rattle.gix_simple.specs.Building.{IsBuilt, made, breadth_first, by_time, hides, walks, reads}
-use Rattle.gix_revwalk.specs.Ids.{AreDistinct}
-use Rattle.gix_simple.specs.Laws.{named_in}
+use Rattle.gix_simple.specs.Walk.{asks}
+use Rattle.gix_simple.specs.Building.{made, breadth_first, by_time, hides, walks, reads}
 use Rattle.gix_simple.specs.Runs.{AsksOnce}
-use Rattle.gix_revwalk.specs.Asking.{AsksAll}
 use Rattle.gix_revwalk.specs.Asking as asking
-use Rattle.gix_hash.proofs.Ids.Membership.{id_total, same_from, among-append, among_from, among_is, Contains-here, Contains-there, no_member}
-use Rattle.gix_hash.proofs.Lists.{only_member}
 use Rattle.gix_simple.proofs.Moves as moves
 use Rattle.gix_simple.proofs.Moves.{Asking, Follows, IsListed, Moves, fails, takes, next_moves, listed_before}
 

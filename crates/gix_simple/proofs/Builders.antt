@@ -1,27 +1,12 @@
 -- A walk that was made of some tips, and whose order was chosen, is fresh, and gives no id twice.
-use Rattle.std.specs.Prelude.{◌≡◌, ◌⊎◌, ◌+◌, ◌≤◌, ℤ, List, [], ◌∷◌, filter, Bool, true, false, not, ◌&&◌, cond, Option, Some, Result, Contains}
-use Rattle.std.proofs.Common.{refl, sym, ap, subst, inl, inr, ⊎_elim, ◌∙◌, arith}
+use Rattle.std.proofs.Common.{◌≡◌, ◌⊎◌, ◌+◌, ◌≤◌, ℤ, List, [], ◌∷◌, filter, Bool, true, false, not, ◌&&◌, cond, Option, Some, Result, Contains, refl, sym, ap, subst, inl, inr, ⊎_elim, ◌∙◌, arith}
 use Rattle.std.specs.FinSet as set
-use Rattle.std.specs.Iterator.{Yields}
-use Rattle.gix_hash.specs.declared.ObjectId.{ObjectId}
-use Rattle.gix_hash.specs.Id.{id_cmp, is_among}
-use Rattle.gix_object.specs.Object.{Objects}
-use Rattle.gix_hash.proofs.Ids.Membership.{among_from, among_is, Contains-cons_cases, no_member}
+use Rattle.gix_simple.proofs.Common.{Yields, ObjectId, id_cmp, is_among, Objects, among_from, among_is, Contains-cons_cases, no_member, CommitTimeOrder, Pending, Info, Error, Sorting, time_of, SimpleWalk, time_order, cutoff, is_older}
+use Rattle.gix_simple.proofs.Common.{IsMade, Next, ids_of, AreDistinct, AnswersBy, IsFresh, given_ids, IsSortedByTime, timed, recent, outdated, IsBuilt, filter_within, among-filter, among_times, times_none, times_once}
 use Rattle.gix_revwalk.specs.declared.Parents.TheVariants as mode
-use Rattle.gix_revwalk.specs.declared.CommitTimeOrder.{CommitTimeOrder}
-use Rattle.gix_revwalk.specs.Pending.{Pending}
-use Rattle.gix_revwalk.specs.declared.Info.{Info}
-use Rattle.gix_simple.specs.declared.Error.{Error}
-use Rattle.gix_simple.specs.declared.Sorting.{Sorting}
 use Rattle.gix_simple.specs.declared.Sorting.TheVariants as by
-use Rattle.gix_revwalk.specs.Commits.{time_of}
-use Rattle.gix_simple.specs.Walk.{SimpleWalk, time_order, cutoff, is_older, IsMade, Next}
-use Rattle.gix_revwalk.specs.Ids.{ids_of, AreDistinct}
-use Rattle.gix_revwalk.specs.Asking.{AnswersBy}
-use Rattle.gix_simple.specs.Laws.{IsFresh, given_ids}
-use Rattle.gix_simple.specs.Building.{IsSortedByTime, timed, recent, outdated, IsBuilt, made, breadth_first, by_time, hides, walks, reads}
-use Rattle.gix_hash.proofs.Lists.{filter_within}
-use Rattle.gix_revwalk.proofs.NewIds.{times, among-filter, among_times, times_none, times_once}
+use Rattle.gix_simple.specs.Building.{made, breadth_first, by_time, hides, walks, reads}
+use Rattle.gix_revwalk.proofs.NewIds.{times}
 use Rattle.gix_simple.proofs.Moves.{asking, fewer_filter}
 use Rattle.gix_simple.proofs.NeverTwice.{IsSole, asked_sole, drawn_once}
 use Rattle.gix_simple.proofs.MadeOfTips.{is_new_walk, pending_is}

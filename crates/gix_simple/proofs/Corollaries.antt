@@ -1,37 +1,18 @@
 -- The laws that follow from the theorem over whole walks.
-use Rattle.std.specs.Prelude.{◌≡◌, ◌↔◌, ◌≤◌, ◌≤ℤ◌, ℕ, suc, ℤ, List, [], ◌∷◌, ◌++◌, filter, length, take, slice_get, Bool, true, false, not, ◌&&◌, Option, Some, None, Result, Ok, Err, Contains, MatchOption}
-use Rattle.std.proofs.Common.{refl, sym, ap, subst, ⊎_elim, ◌∙◌, arith}
-use Rattle.std.specs.List.{AllZip}
-use Rattle.std.proofs.lemmas.List.Elements.{Contains-append_left, Contains-append_right, Contains-append_cases}
-use Rattle.std.proofs.lemmas.Bool.{false≢true, true≢false, and_parts, and_from, not_from_false, not-true, false_from_ne_true}
+use Rattle.std.proofs.Common.{◌≡◌, ◌↔◌, ◌≤◌, ◌≤ℤ◌, ℕ, suc, ℤ, List, [], ◌∷◌, ◌++◌, filter, length, take, slice_get, Bool, true, false, not, ◌&&◌, Option, Some, None, Result, Ok, Err, Contains, MatchOption, refl, sym, ap, subst, ⊎_elim}
+use Rattle.std.proofs.Common.{◌∙◌, arith, true≢false}
+use Rattle.gix_simple.proofs.Common.{AllZip, Contains-append_left, Contains-append_right, Contains-append_cases, false≢true, and_parts, and_from, not_from_false, not-true, false_from_ne_true, ObjectId, Objects, GraphRow, row_of, Parents}
+use Rattle.gix_simple.proofs.Common.{Info, CommitTimeOrder, Error, named_by, IsBreadthOrder, Reaches, start, step, Tells, IsAgreeing, time_of, parents_of, walked_parents, SimpleWalk, time_order, cutoff, is_older, ids_of, AreDistinct}
+use Rattle.gix_simple.proofs.Common.{IsGiven, IsInOrder, IsBeginning, GivesInOrder, GivesBeginning, IsWholeRun, IsBegunRun, starts_of, next_of, is_kept, kept_parents, accepted_parents, recent_parents, IsPlain, IsPlainRun, filter_all}
+use Rattle.gix_simple.proofs.Common.{among_from, among_is, Contains-here, Contains-cons_cases, no_member, among-filter, named-push, transport, and-true, walked_within}
 use Rattle.std.proofs.lemmas.Option.{slice_get_within, get_or_from_slice_get}
 use Rattle.std.proofs.Math.Seq.{take-suc}
-use Rattle.gix_hash.specs.declared.ObjectId.{ObjectId}
-use Rattle.gix_object.specs.Object.{Objects}
-use Rattle.gix_commitgraph.specs.Rows.{GraphRow, row_of}
-use Rattle.gix_revwalk.specs.declared.Parents.{Parents}
-use Rattle.gix_revwalk.specs.declared.Info.{Info}
-use Rattle.gix_revwalk.specs.declared.CommitTimeOrder.{CommitTimeOrder}
 use Rattle.gix_revwalk.specs.declared.CommitTimeOrder.TheVariants.{NewestFirst}
-use Rattle.gix_simple.specs.declared.Error.{Error}
-use Rattle.gix_revwalk.specs.BreadthOrder.{named_by, IsBreadthOrder}
 use Rattle.gix_revwalk.specs.TimeOrder.{IsTimeOrder, IsPending, IsBest}
-use Rattle.gix_hash.specs.Reach.{Reaches, start, step, Tells}
-use Rattle.gix_revwalk.specs.Agreeing.{IsAgreeing}
-use Rattle.gix_revwalk.specs.Commits.{time_of, parents_of, walked_parents}
-use Rattle.gix_simple.specs.Walk.{SimpleWalk, time_order, cutoff, is_older}
 use Rattle.gix_revwalk.specs.Infos.{IsInfo, IsRowGeneration}
-use Rattle.gix_revwalk.specs.Ids.{ids_of, AreDistinct}
-use Rattle.gix_simple.specs.Laws.{IsGiven, IsInOrder, IsBeginning, GivesInOrder, GivesBeginning, IsWholeRun, IsBegunRun, starts_of, next_of, is_kept, kept_parents, accepted_parents, recent_parents, IsPlain, IsPlainRun}
-use Rattle.gix_hash.proofs.Lists.{filter_all}
-use Rattle.gix_hash.proofs.Ids.Membership.{among_from, among_is, Contains-here, Contains-cons_cases, no_member}
-use Rattle.gix_revwalk.proofs.NewIds.{among-filter, named-push}
 use Rattle.gix_revwalk.proofs.Orders.{IsWorkOrder, IsWorkBeginning, IsDistinctFrom, work_from_breadth, work_from_time, work_begins, work_from_breadth_beginning, work_from_time_beginning, reached_is_given, given_is_reached, given_once}
-use Rattle.std.proofs.Math.Path.{transport}
-use Rattle.std.proofs.Math.Bool.{and-true}
 use Rattle.gix_simple.proofs.Treated.{no_cutoff}
 use Rattle.gix_simple.proofs.Theorem.{no_start, Contains-filter, gives_in_order, gives_beginning}
-use Rattle.gix_revwalk.proofs.ReadsWhole.{walked_within}
 
 -- one and all
 distinct_is : (taken ids : List ObjectId) → IsDistinctFrom taken ids → AreDistinct ids × ((i : ObjectId) → Contains taken i → Contains ids i → ⊥)

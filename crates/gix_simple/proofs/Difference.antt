@@ -1,38 +1,18 @@
 -- A walk through all parents, without a cutoff, whose predicate accepts all, gives what its tips reach and its hidden tips don't.
-use Rattle.std.specs.Prelude.{◌≡◌, ◌≢◌, ◌↔◌, ℤ, List, [], ◌∷◌, ◌++◌, Bool, true, false, Option, Some, None, Result, Ok, Err, Contains, All, IsSome, cond}
-use Rattle.std.specs.Iterator.{Drains}
-use Rattle.std.specs.List.{AllZip}
-use Rattle.std.proofs.Math.Path.{transport}
-use Rattle.std.proofs.Common.{refl, sym, ap, subst, inl, inr, ⊎_elim, ◌∙◌}
-use Rattle.std.proofs.lemmas.Bool.{false≢true, true≢false, false_from_ne_true}
-use Rattle.std.proofs.lemmas.List.Elements.{Contains-append_left, Contains-append_right, Contains-append_cases, All-weaker}
-use Rattle.gix_hash.specs.declared.ObjectId.{ObjectId}
+use Rattle.std.proofs.Common.{◌≡◌, ◌≢◌, ◌↔◌, ℤ, List, [], ◌∷◌, ◌++◌, Bool, true, false, Option, Some, None, Result, Ok, Err, Contains, All, IsSome, cond, refl, sym, ap, subst, inl, inr, ⊎_elim, ◌∙◌, true≢false}
+use Rattle.gix_simple.proofs.Common.{Drains, AllZip, transport, false≢true, false_from_ne_true, Contains-append_left, Contains-append_right, Contains-append_cases, All-weaker, ObjectId, Objects, GraphRow, row_of, Info, Parents}
+use Rattle.gix_simple.proofs.Common.{CommitTimeOrder, Error, Reaches, start, step, Tells, IsAgreeing, AnswersBy, ReadsWhole, commit_at, parents_of, walked_parents, AreDistinct, ids_of, new_ids, IsBuilt, IsUncut, recent, timed, IsFresh}
+use Rattle.gix_simple.proofs.Common.{IsGiven, IsNoRefusal, IsWholeRun, GivesInOrder, GivesDifference, given_ids, kept_parents, next_of, starts_of, SimpleWalk, FirstStep, unhidden, Next, initial, later, cutoff, time_order, among_from}
+use Rattle.gix_simple.proofs.Common.{among_is, Contains-here, Contains-cons_cases, no_member, filter_within, filter_all, own_history, times_among, times-fresh, row_stands, walked_within}
 use Rattle.gix_object.specs.CommitText.{Commit}
-use Rattle.gix_object.specs.Object.{Objects}
 use Rattle.gix_object.specs.declared.find.existing_iter.Error.TheVariants as existing
-use Rattle.gix_commitgraph.specs.Rows.{GraphRow, row_of}
-use Rattle.gix_revwalk.specs.declared.Info.{Info}
-use Rattle.gix_revwalk.specs.declared.Parents.{Parents}
 use Rattle.gix_revwalk.specs.declared.Parents.TheVariants as mode
-use Rattle.gix_revwalk.specs.declared.CommitTimeOrder.{CommitTimeOrder}
-use Rattle.gix_simple.specs.declared.Error.{Error}
 use Rattle.gix_simple.specs.declared.Error.TheVariants as error
 use Rattle.gix_paint.specs.declared.Hidden.TheVariants as hidden_by
-use Rattle.gix_hash.specs.Reach.{Reaches, start, step, Tells}
-use Rattle.gix_revwalk.specs.Agreeing.{IsAgreeing}
-use Rattle.gix_revwalk.specs.Asking.{AnswersBy}
-use Rattle.gix_revwalk.specs.Commits.{ReadsWhole, commit_at, parents_of, walked_parents}
-use Rattle.gix_revwalk.specs.Ids.{AreDistinct, ids_of, new_ids}
-use Rattle.gix_simple.specs.Building.{IsBuilt, made, breadth_first, by_time, hides, walks, reads, IsUncut, recent, timed}
-use Rattle.gix_simple.specs.Laws.{IsFresh, IsGiven, IsNoRefusal, IsWholeRun, GivesInOrder, GivesDifference, given_ids, kept_parents, next_of, starts_of}
-use Rattle.gix_simple.specs.Walk.{SimpleWalk, FirstStep, unhidden, paints, faulty_history, no_memory, Next, initial, later, cutoff, time_order}
-use Rattle.gix_hash.proofs.Ids.Membership.{among_from, among_is, Contains-here, Contains-cons_cases, no_member}
-use Rattle.gix_hash.proofs.Lists.{filter_within, filter_all}
-use Rattle.gix_paint.proofs.Invariant.{own_history}
+use Rattle.gix_simple.specs.Building.{made, breadth_first, by_time, hides, walks, reads}
+use Rattle.gix_simple.specs.Walk.{paints, faulty_history, no_memory}
 use Rattle.gix_revwalk.proofs.Drained.{at_end, at_first}
-use Rattle.gix_revwalk.proofs.NewIds.{times_among, times-fresh}
 use Rattle.gix_revwalk.proofs.Reached.{reach_more}
-use Rattle.gix_revwalk.proofs.ReadsWhole.{row_stands, walked_within}
 use Rattle.gix_simple.proofs.Builders.{recent_ids, built}
 use Rattle.gix_simple.proofs.Corollaries.{all_kept, gives, gives_once, shown_reached, reached_shown}
 pub use Rattle.gix_simple.proofs.Theorem.{no_start}

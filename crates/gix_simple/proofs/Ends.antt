@@ -1,18 +1,7 @@
 -- Every walk ends: each answer lowers how many answers are left.
-use Rattle.std.specs.Prelude.{◌≡◌, ◌+◌, ◌≤◌, ℕ, suc, List, [], ◌∷◌, length, Bool, true, false, ◌||◌, Some, Result}
-use Rattle.std.proofs.Common.{ap, arith, le_refl}
-use Rattle.std.proofs.lemmas.Bool.{or_right, or_left}
+use Rattle.std.proofs.Common.{◌≡◌, ◌+◌, ◌≤◌, ℕ, suc, List, [], ◌∷◌, length, Bool, true, false, ◌||◌, Some, Result, ap, arith, le_refl}
+use Rattle.gix_simple.proofs.Common.{or_right, or_left, Yields, ObjectId, is_same, is_among, Objects, Info, Error, SimpleWalk, Treated, Next, named_in, answers_left, id_total, same_itself, fresh, fresh_agree, new_less}
 use Rattle.std.specs.FinSet as set
-use Rattle.std.specs.Iterator.{Yields}
-use Rattle.gix_hash.specs.declared.ObjectId.{ObjectId}
-use Rattle.gix_hash.specs.Id.{is_same, is_among}
-use Rattle.gix_object.specs.Object.{Objects}
-use Rattle.gix_revwalk.specs.declared.Info.{Info}
-use Rattle.gix_simple.specs.declared.Error.{Error}
-use Rattle.gix_simple.specs.Walk.{SimpleWalk, Treated, Next}
-use Rattle.gix_simple.specs.Laws.{named_in, answers_left}
-use Rattle.gix_hash.proofs.Ids.Membership.{id_total, same_itself}
-use Rattle.gix_revwalk.proofs.NewIds.{fresh, fresh_agree, new_less}
 use Rattle.gix_simple.proofs.Moves.{Asking, rests, asks, Follows, Moves, fails, takes, next_moves, listed_before}
 
 -- of fewer ids fewer are new

@@ -1,24 +1,9 @@
 -- A walk without hidden tips, none of whose answers is a fault, gives the commits in order by the parents that texts name.
-use Rattle.std.specs.Prelude.{◌≡◌, ◌&&◌, not, List, [], ◌∷◌, filter, Bool, true, false, Option, Result, Err, Contains, All, Some}
-use Rattle.std.specs.Iterator.{Drains, Yields}
-use Rattle.std.proofs.Common.{refl, sym, subst, inl, ◌∙◌}
-use Rattle.std.proofs.Math.Bool.{and-true}
-use Rattle.std.proofs.Math.Path.{transport}
-use Rattle.std.proofs.lemmas.Bool.{true≢false}
-use Rattle.std.proofs.lemmas.List.Elements.{All-nil, All-cons}
-use Rattle.gix_hash.specs.declared.ObjectId.{ObjectId}
-use Rattle.gix_hash.proofs.Ids.Membership.{Contains-here, Contains-there}
-use Rattle.gix_object.specs.Object.{Objects}
-use Rattle.gix_revwalk.specs.declared.Info.{Info}
-use Rattle.gix_revwalk.specs.Agreeing.{IsAgreeing}
-use Rattle.gix_revwalk.specs.Asking.{AnswersBy}
-use Rattle.gix_revwalk.specs.Commits.{by_mode, time_of}
-use Rattle.gix_revwalk.specs.Ids.{ids_of}
-use Rattle.gix_revwalk.specs.Texts.{text_next}
-use Rattle.gix_simple.specs.declared.Error.{Error}
+use Rattle.std.proofs.Common.{◌≡◌, ◌&&◌, not, List, [], ◌∷◌, filter, Bool, true, false, Option, Result, Err, Contains, All, Some, refl, sym, subst, inl, ◌∙◌, true≢false}
+use Rattle.gix_simple.proofs.Common.{Drains, Yields, and-true, transport, All-nil, All-cons, ObjectId, Contains-here, Contains-there, Objects, Info, IsAgreeing, AnswersBy, by_mode, time_of, ids_of, text_next, Error, IsFresh, IsInOrder}
+use Rattle.gix_simple.proofs.Common.{IsFaultlessRun, IsBeginning, BeginsTextOrder, GivesTextOrder, kept_of, next_by_text, SimpleWalk, time_order, cutoff, is_older, Steps, unhidden, Next, initial, later}
 use Rattle.gix_simple.specs.declared.Error.TheVariants as error
-use Rattle.gix_simple.specs.Laws.{IsFresh, IsInOrder, IsFaultlessRun, IsBeginning, BeginsTextOrder, GivesTextOrder, kept_of, next_by_text}
-use Rattle.gix_simple.specs.Walk.{SimpleWalk, time_order, cutoff, is_older, Steps, unhidden, paints, faulty_history, no_memory, Next, initial, later}
+use Rattle.gix_simple.specs.Walk.{paints, faulty_history, no_memory}
 use Rattle.gix_simple.proofs.Treated.{Setting}
 use Rattle.gix_simple.proofs.OneStep.{IsCommit, reads_text}
 use Rattle.gix_simple.proofs.WholeWalk.{Known}

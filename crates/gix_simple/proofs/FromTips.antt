@@ -1,22 +1,8 @@
 -- A walk that was just made, breadth first, and drawn to its end.
-use Rattle.std.specs.Prelude.{◌≡◌, List, filter, Bool, false, None, Result, All}
-use Rattle.std.proofs.Common.{sym}
-use Rattle.std.specs.Iterator.{Drains}
-use Rattle.std.specs.List.{AllZip}
-use Rattle.std.proofs.Math.Path.{transport}
-use Rattle.gix_hash.specs.declared.ObjectId.{ObjectId}
-use Rattle.gix_object.specs.Object.{Objects}
-use Rattle.gix_revwalk.specs.declared.Info.{Info}
-use Rattle.gix_revwalk.specs.declared.Parents.{Parents}
+use Rattle.std.proofs.Common.{◌≡◌, List, filter, Bool, false, None, Result, All, sym}
+use Rattle.gix_simple.proofs.Common.{Drains, AllZip, transport, ObjectId, Objects, Info, Parents, Error, IsBreadthOrder, ReadsWhole, time_of, Reaches, SimpleWalk, IsMade, Next, time_order, ids_of, new_ids, AnswersBy, IsNoRefusal}
+use Rattle.gix_simple.proofs.Common.{IsPlain, GivesBreadthFirst, accepted_parents}
 use Rattle.gix_revwalk.specs.declared.Parents.TheVariants as mode
-use Rattle.gix_simple.specs.declared.Error.{Error}
-use Rattle.gix_revwalk.specs.BreadthOrder.{IsBreadthOrder}
-use Rattle.gix_revwalk.specs.Commits.{ReadsWhole, time_of}
-use Rattle.gix_hash.specs.Reach.{Reaches}
-use Rattle.gix_simple.specs.Walk.{SimpleWalk, IsMade, Next, time_order}
-use Rattle.gix_revwalk.specs.Ids.{ids_of, new_ids}
-use Rattle.gix_revwalk.specs.Asking.{AnswersBy}
-use Rattle.gix_simple.specs.Laws.{IsNoRefusal, IsPlain, GivesBreadthFirst, accepted_parents}
 use Rattle.gix_simple.proofs.Corollaries.{breadth, each_once}
 use Rattle.gix_simple.proofs.MadeOfTips.{is_new_walk}
 

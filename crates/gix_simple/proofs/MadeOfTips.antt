@@ -1,20 +1,11 @@
 -- What a walk holds that was just made of some tips.
-use Rattle.std.specs.Prelude.{◌≡◌, ◌⊎◌, ◌≤◌, List, [], filter, Bool, true, false, ◌&&◌, ◌||◌, cond, Contains}
-use Rattle.std.proofs.Common.{refl, sym, ap, subst, inl, inr, ⊎_elim, arith, ◌∙◌}
-use Rattle.std.proofs.lemmas.Bool.{false≢true, and_parts}
+use Rattle.std.proofs.Common.{◌≡◌, ◌⊎◌, ◌≤◌, List, [], filter, Bool, true, false, ◌&&◌, ◌||◌, cond, Contains, refl, sym, ap, subst, inl, inr, ⊎_elim, arith, ◌∙◌}
+use Rattle.gix_simple.proofs.Common.{false≢true, and_parts, or-false, ObjectId, id_cmp, is_among, Objects, among_from, among_is, no_member, SimpleWalk, bare, time_order, IsMade, ids_of, AreDistinct, new_ids, Becomes, itself, further}
+use Rattle.gix_simple.proofs.Common.{AnswersBy, IsFresh, IsNewWalk, fresh, times_among, times-fresh, among-filter, times_once, among_times}
 use Rattle.std.specs.FinSet as set
-use Rattle.std.proofs.Math.Bool.{or-false}
-use Rattle.gix_hash.specs.declared.ObjectId.{ObjectId}
-use Rattle.gix_hash.specs.Id.{id_cmp, is_among}
-use Rattle.gix_object.specs.Object.{Objects}
-use Rattle.gix_hash.proofs.Ids.Membership.{among_from, among_is, no_member}
 use Rattle.gix_revwalk.specs.declared.Parents.TheVariants as mode
 use Rattle.gix_simple.specs.declared.Sorting.TheVariants as sorting
-use Rattle.gix_simple.specs.Walk.{SimpleWalk, bare, time_order, IsMade}
-use Rattle.gix_revwalk.specs.Ids.{ids_of, AreDistinct, new_ids}
-use Rattle.gix_revwalk.specs.Asking.{Becomes, itself, further, AnswersBy}
-use Rattle.gix_simple.specs.Laws.{IsFresh, IsNewWalk}
-use Rattle.gix_revwalk.proofs.NewIds.{times, fresh, times_among, times-fresh, among-filter, times_once, among_times}
+use Rattle.gix_revwalk.proofs.NewIds.{times}
 use Rattle.gix_simple.proofs.Treated.{Setting, Stands, Did, keep, all_treated}
 
 -- new ids are distinct

@@ -1,33 +1,17 @@
 -- What a step of a walk does, whatever faults come: it takes a commit out, asks about new ids, each of which may become pending, and may lose rows.
-use Rattle.std.specs.Prelude.{◌≡◌, ◌≢◌, ◌⊎◌, ◌≤◌, ◌+◌, ℕ, suc, ℤ, pos, List, [], ◌∷◌, ◌++◌, map, filter, length, Bool, true, not, cond, Option, Some, None, Result, Ok, Err, Contains, IsPermutation}
+use Rattle.std.proofs.Common.{◌≡◌, ◌≢◌, ◌⊎◌, ◌≤◌, ◌+◌, ℕ, suc, ℤ, pos, List, [], ◌∷◌, ◌++◌, map, filter, length, Bool, true, not, cond, Option, Some, None, Result, Ok, Err, Contains, IsPermutation, refl, sym, ap, subst, inl, inr, ⊎_elim}
+use Rattle.std.proofs.Common.{◌∙◌, arith, length-append, le_refl, le_trans}
 use Rattle.std.specs.FinMap as map_of
 use Rattle.std.specs.FinSet as set
-use Rattle.std.proofs.Common.{refl, sym, ap, subst, inl, inr, ⊎_elim, ◌∙◌, arith, length-append, le_refl, le_trans}
-use Rattle.std.proofs.lemmas.Bool.{or_right, or_left}
-use Rattle.std.proofs.lemmas.List.{map-append}
-use Rattle.std.proofs.lemmas.List.Sorted.{length_permutation}
-use Rattle.gix_hash.specs.declared.ObjectId.{ObjectId}
-use Rattle.gix_hash.specs.Id.{is_same, is_among, kind_of}
+use Rattle.gix_simple.proofs.Common.{or_right, or_left, map-append, length_permutation, ObjectId, is_same, is_among, kind_of, Item, commit_items, Objects, GraphRow, row_of, CommitTimeOrder, Info, Parents, by_mode, ids_of, Pending}
+use Rattle.gix_simple.proofs.Common.{ids_at, scanned, text_parents, Error, named_in, SimpleWalk, Treated, StoreFails, GoesOn, Holds, time_order, unrowed, asked, Asks, IsNew, Treats, hidden, refused, accepted, dropped, enqueued}
+use Rattle.gix_simple.proofs.Common.{store_fails, no_memory_after, TreatsAll, stops, Concludes, given, broken, Takes, by_row, by_store, not_found, Chooses, first, best, Steps, took, FirstStep, unhidden, Next, initial, later}
+use Rattle.gix_simple.proofs.Common.{among-append, among_from, among_is, Contains-here, Contains-there, times-append, among_times, times_is_among, among_flat, walked_within}
 use Rattle.gix_object.specs.declared.Kind.TheVariants as object
 use Rattle.gix_object.specs.declared.decode.Error.{Error as DecodeError}
-use Rattle.gix_object.specs.CommitItems.{Item, commit_items}
-use Rattle.gix_object.specs.Object.{Objects}
-use Rattle.gix_commitgraph.specs.Rows.{GraphRow, row_of}
-use Rattle.gix_revwalk.specs.declared.CommitTimeOrder.{CommitTimeOrder}
-use Rattle.gix_revwalk.specs.declared.Info.{Info}
-use Rattle.gix_revwalk.specs.declared.Parents.{Parents}
 use Rattle.gix_revwalk.specs.declared.Parents.TheVariants as mode
-use Rattle.gix_revwalk.specs.Commits.{by_mode}
-use Rattle.gix_revwalk.specs.Ids.{ids_of, times}
-use Rattle.gix_revwalk.specs.Pending.{Pending}
-use Rattle.gix_revwalk.specs.RowParents.{ids_at}
-use Rattle.gix_revwalk.specs.Texts.{scanned, text_parents}
-use Rattle.gix_simple.specs.declared.Error.{Error}
-use Rattle.gix_simple.specs.Laws.{named_in}
-use Rattle.gix_simple.specs.Walk.{SimpleWalk, Treated, StoreFails, GoesOn, Holds, time_order, unrowed, asked, Asks, IsNew, Treats, hidden, known, refused, accepted, dropped, enqueued, store_fails, no_memory, no_memory_after, TreatsAll, none, more, stops, Concludes, given, broken, Takes, by_row, by_store, not_found, Chooses, first, best, Steps, took, FirstStep, unhidden, paints, faulty_history, Next, initial, later}
-use Rattle.gix_hash.proofs.Ids.Membership.{among-append, among_from, among_is, Contains-here, Contains-there}
-use Rattle.gix_revwalk.proofs.NewIds.{times-append, among_times, times_is_among, among_flat}
-use Rattle.gix_revwalk.proofs.ReadsWhole.{walked_within}
+use Rattle.gix_revwalk.specs.Ids.{times}
+use Rattle.gix_simple.specs.Walk.{known, no_memory, none, more, paints, faulty_history}
 use Rattle.gix_revwalk.proofs.Rows.{kept_either, ids_in_rows, found_entry}
 use Rattle.gix_simple.proofs.Treated.{times-permutation}
 

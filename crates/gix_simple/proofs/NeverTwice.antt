@@ -1,18 +1,8 @@
 -- No id is given twice, whatever the store, the rows and the predicate do.
-use Rattle.std.specs.Prelude.{◌≡◌, ◌+◌, ◌≤◌, List, [], ◌∷◌, Bool, true, false, cond, Result, Ok, Err}
-use Rattle.std.proofs.Common.{sym, ap, subst, ◌∙◌, arith}
+use Rattle.std.proofs.Common.{◌≡◌, ◌+◌, ◌≤◌, List, [], ◌∷◌, Bool, true, false, cond, Result, Ok, Err, sym, ap, subst, ◌∙◌, arith}
 use Rattle.std.specs.FinSet as set
-use Rattle.std.specs.Iterator.{Yields}
-use Rattle.gix_hash.specs.declared.ObjectId.{ObjectId}
-use Rattle.gix_hash.specs.Id.{is_same}
-use Rattle.gix_object.specs.Object.{Objects}
-use Rattle.gix_revwalk.specs.declared.Info.{Info}
-use Rattle.gix_simple.specs.declared.Error.{Error}
-use Rattle.gix_simple.specs.Walk.{SimpleWalk, Treated, Next}
-use Rattle.gix_revwalk.specs.Ids.{ids_of, AreDistinct}
-use Rattle.gix_simple.specs.Laws.{given_ids}
-use Rattle.gix_hash.proofs.Ids.Membership.{id_total, same_is}
-use Rattle.gix_revwalk.proofs.NewIds.{times, times_once}
+use Rattle.gix_simple.proofs.Common.{Yields, ObjectId, is_same, Objects, Info, Error, SimpleWalk, Treated, Next, ids_of, AreDistinct, given_ids, id_total, same_is, times_once}
+use Rattle.gix_revwalk.proofs.NewIds.{times}
 use Rattle.gix_simple.proofs.Moves.{Asking, rests, asks, Follows, IsGivenAs, Moves, fails, takes, next_moves}
 
 module _ {F P : Type 0} (objects : F → Objects) (faulty : F → ObjectId → Type 0) (answers : P → ObjectId → Bool → P → Type 0) where

@@ -1,31 +1,17 @@
 -- One step of a walk whose hidden tips are painted.
-use Rattle.std.specs.Prelude.{◌≡◌, ◌≢◌, ◌⊎◌, ℕ, ℤ, List, [], ◌++◌, filter, Bool, true, false, ◌||◌, Option, Some, None, Result, Err, Contains}
-use Rattle.std.proofs.Common.{refl, sym, ap, subst, inl, ⊎_elim, ◌∙◌, arith}
-use Rattle.std.proofs.lemmas.Bool.{false≢true}
+use Rattle.std.proofs.Common.{◌≡◌, ◌≢◌, ◌⊎◌, ℕ, ℤ, List, [], ◌++◌, filter, Bool, true, false, ◌||◌, Option, Some, None, Result, Err, Contains, refl, sym, ap, subst, inl, ⊎_elim, ◌∙◌, arith}
+use Rattle.gix_simple.proofs.Common.{false≢true, ObjectId, is_among, kind_of, Objects, commit_items, GraphRow, row_of, Info, CommitTimeOrder, Error, by_mode, time_of, parents_of, parents_in, commit_at, commit_of_object, ReadsWhole}
+use Rattle.gix_simple.proofs.Common.{Pending, SimpleWalk, Treated, GoesOn, time_order, time_if, given_time, unrowed, Concludes, given, broken, store_fails, Takes, by_row, by_store, not_found, ids_of, scanned, next_in, text_next, kept_of}
+use Rattle.gix_simple.proofs.Common.{IsGivenBy, IsNoRefusal, ReadsParents, fresh, scan_is, row_parents, row_stands, parent_has_row, walked_within, no_fault}
 use Rattle.std.specs.FinMap as map_of
 use Rattle.std.specs.FinSet as set
-use Rattle.gix_hash.specs.declared.ObjectId.{ObjectId}
 use Rattle.gix_object.specs.declared.Kind.TheVariants as object
 use Rattle.gix_object.specs.declared.decode.Error.{Error as DecodeError}
 use Rattle.gix_object.specs.declared.find.existing_iter.Error.TheVariants as existing
-use Rattle.gix_hash.specs.Id.{is_among, kind_of}
-use Rattle.gix_object.specs.Object.{Objects}
-use Rattle.gix_object.specs.CommitItems.{commit_items}
 use Rattle.gix_object.specs.CommitText.{read_commit}
-use Rattle.gix_commitgraph.specs.Rows.{GraphRow, row_of}
-use Rattle.gix_revwalk.specs.declared.Info.{Info}
-use Rattle.gix_revwalk.specs.declared.CommitTimeOrder.{CommitTimeOrder}
-use Rattle.gix_simple.specs.declared.Error.{Error}
 use Rattle.gix_simple.specs.declared.Error.TheVariants as error
-use Rattle.gix_revwalk.specs.Commits.{by_mode, time_of, parents_of, parents_in, commit_at, commit_of_object, ReadsWhole}
-use Rattle.gix_revwalk.specs.Pending.{Pending}
-use Rattle.gix_simple.specs.Walk.{SimpleWalk, Treated, GoesOn, time_order, time_if, given_time, unrowed, Concludes, given, broken, store_fails, no_memory, Takes, by_row, by_store, not_found}
-use Rattle.gix_revwalk.specs.Ids.{ids_of}
-use Rattle.gix_revwalk.specs.Texts.{scanned, next_in, text_next}
-use Rattle.gix_simple.specs.Laws.{kept_of, IsGivenBy, IsNoRefusal, ReadsParents}
+use Rattle.gix_simple.specs.Walk.{no_memory}
 use Rattle.gix_revwalk.specs.Infos.{IsRowGeneration}
-use Rattle.gix_revwalk.proofs.NewIds.{fresh}
-use Rattle.gix_revwalk.proofs.ReadsWhole.{scan_is, row_parents, row_stands, parent_has_row, walked_within, no_fault}
 use Rattle.gix_revwalk.proofs.TextParents.{text_whole, commit_stored}
 use Rattle.gix_simple.proofs.Moves.{scan_by, rows_then}
 use Rattle.gix_simple.proofs.Treated.{Joins, Joins-refl, Joins-trans, Setting, order_of, limit_of, keep, Stands, Did, all_treated, rows_agree, stands_with}

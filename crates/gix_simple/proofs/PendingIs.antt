@@ -1,19 +1,11 @@
 -- What is pending, seen over the definitions: the first new one, or one of best time.
-use Rattle.std.specs.Prelude.{◌≡◌, ◌+◌, ℕ, ℤ, List, [], ◌∷◌, ◌++◌, Bool, true, false, not, ◌&&◌, ◌||◌, cond, Option, Some, None, Contains, IsPermutation, MatchOption}
-use Rattle.std.proofs.Common.{sym, ap, subst, ⊎_elim, ◌∙◌, arith}
+use Rattle.std.proofs.Common.{◌≡◌, ◌+◌, ℕ, ℤ, List, [], ◌∷◌, ◌++◌, Bool, true, false, not, ◌&&◌, ◌||◌, cond, Option, Some, None, Contains, IsPermutation, MatchOption, sym, ap, subst, ⊎_elim, ◌∙◌, arith, true≢false}
 use Rattle.std.proofs.lemmas.Int.{ints}
-use Rattle.std.proofs.lemmas.List.Sorted.{Contains-permutation, IsPermutation-sym}
-use Rattle.std.proofs.Math.Bool.{or_comm}
-use Rattle.std.proofs.lemmas.Bool.{false≢true, true≢false, or_cases, false_from_ne_true}
-use Rattle.gix_hash.specs.declared.ObjectId.{ObjectId}
-use Rattle.gix_hash.specs.Id.{is_same, is_among}
-use Rattle.gix_revwalk.specs.declared.CommitTimeOrder.{CommitTimeOrder}
-use Rattle.gix_revwalk.specs.BreadthOrder.{named_by, first_new}
+use Rattle.gix_simple.proofs.Common.{Contains-permutation, IsPermutation-sym, or_comm, false≢true, or_cases, false_from_ne_true, ObjectId, is_same, is_among, CommitTimeOrder, named_by, first_new, Pending, ids_of, same_is, same_itself}
+use Rattle.gix_simple.proofs.Common.{among-append, among-one, among_from, among_is, Contains-here, Contains-there, Contains-cons_cases, fresh, fresh_agree, fresh-append, fresh_head, fresh_none, IsHead, times-append, times-fresh}
+use Rattle.gix_simple.proofs.Common.{times_among}
 use Rattle.gix_revwalk.specs.TimeOrder.{IsNoWorse, IsPending, IsBest}
-use Rattle.gix_revwalk.specs.Pending.{Pending}
-use Rattle.gix_revwalk.specs.Ids.{ids_of}
-use Rattle.gix_hash.proofs.Ids.Membership.{same_is, same_itself, among-append, among-one, among_from, among_is, Contains-here, Contains-there, Contains-cons_cases}
-use Rattle.gix_revwalk.proofs.NewIds.{fresh, fresh_agree, fresh-append, fresh_head, fresh_none, IsHead, times, times-append, times-fresh, times_among}
+use Rattle.gix_revwalk.proofs.NewIds.{times}
 use Rattle.gix_simple.proofs.Treated.{Joins, times-permutation}
 
 -- the pending ids, of all those named and those taken

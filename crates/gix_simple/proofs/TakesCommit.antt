@@ -1,33 +1,20 @@
 -- How a walk takes a commit.
-use Rattle.std.specs.Prelude.{◌≡◌, ◌≢◌, ℕ, ℤ, List, [], Bool, true, false, Option, Some, None, Result, Ok, Err}
-use Rattle.std.proofs.Common.{refl, sym, ap, subst, inl, inr, ◌∙◌}
-use Rattle.std.proofs.Math.Path.{transport}
-use Rattle.gix_hash.specs.declared.ObjectId.{ObjectId}
+use Rattle.std.proofs.Common.{◌≡◌, ◌≢◌, ℕ, ℤ, List, [], Bool, true, false, Option, Some, None, Result, Ok, Err, refl, sym, ap, subst, inl, inr, ◌∙◌}
+use Rattle.gix_simple.proofs.Common.{transport, ObjectId, kind_of, Objects, row_of, commit_items, Info, CommitTimeOrder, Error, Pending, by_mode, IsChosen, TakesOut, SimpleWalk, failed, given_time, time_order, how_ended, GoesOn}
+use Rattle.gix_simple.proofs.Common.{StoreFails, NoMemory, unrowed, Treated, TreatsAll, Concludes, given, broken, store_fails, Takes, by_row, by_store, not_found, Chooses, first, best, Steps, ended, took, scanned, kept_rows, IsUnrowed}
 use Rattle.gix_object.specs.declared.Kind.TheVariants as object
 use Rattle.gix_object.specs.declared.decode.Error.{Error as DecodeError}
 use Rattle.gix_object.specs.declared.find.existing_iter.Error.{Error as ExistingError}
 use Rattle.gix_object.specs.declared.find.existing_iter.Error.TheVariants as existing
-use Rattle.gix_hash.specs.Id.{kind_of}
-use Rattle.gix_object.specs.Object.{Objects}
-use Rattle.gix_commitgraph.specs.Rows.{row_of}
-use Rattle.gix_object.specs.CommitItems.{commit_items}
 use Rattle.gix_object.specs.Find.{FindsKindInto}
-use Rattle.gix_revwalk.specs.declared.Info.{Info}
-use Rattle.gix_revwalk.specs.declared.CommitTimeOrder.{CommitTimeOrder}
-use Rattle.gix_simple.specs.declared.Error.{Error}
 use Rattle.gix_simple.specs.declared.Error.TheVariants as error
-use Rattle.gix_revwalk.specs.Pending.{Pending}
 use Rattle.gix_revwalk.specs.declared.row.RowRead.{RowRead}
 use Rattle.gix_simple.specs.declared.step.Stop.{Stop}
 use Rattle.gix_simple.specs.declared.step.Stop.TheVariants as stop
-use Rattle.gix_revwalk.specs.Commits.{by_mode}
 use Rattle.gix_simple.specs.Errors.{error_of_find, error_of_stop}
-use Rattle.gix_simple.specs.Inside.PendingQueue.{IsChosen, TakesOut}
 use Rattle.gix_revwalk.specs.Reading.{RowSays}
-use Rattle.gix_simple.specs.Walk.{SimpleWalk, failed, given_time, time_order, how_ended, GoesOn, StoreFails, NoMemory, unrowed, Treated, TreatsAll, Concludes, given, broken, store_fails, no_memory, Takes, by_row, by_store, not_found, Chooses, first, best, Steps, ended, took}
-use Rattle.gix_revwalk.specs.Texts.{scanned}
+use Rattle.gix_simple.specs.Walk.{no_memory}
 use Rattle.gix_revwalk.specs.Infos.{IsInfo}
-use Rattle.gix_revwalk.specs.RowParents.{kept_rows, IsUnrowed}
 use Rattle.gix_simple.proofs.LentText.{treats_all_with, concludes_with}
 use Rattle.gix_simple.proofs.Moves.{treated_same}
 

@@ -1,42 +1,23 @@
 -- The first step, which paints; and the theorem over a whole walk, and over one drawn as far as one likes.
-use Rattle.std.specs.Prelude.{◌≡◌, ◌≢◌, ◌⊎◌, ◌≤◌, ◌<◌, ℕ, zero, suc, ℤ, List, [], ◌∷◌, ◌++◌, filter, length, take, slice_get, Bool, true, false, not, ◌||◌, cond, Option, Some, None, Result, Err, Contains, All}
-use Rattle.std.proofs.Common.{refl, sym, ap, subst, inl, inr, ⊎_elim, ◌∙◌, append-nil, arith}
-use Rattle.std.proofs.lemmas.List.Elements.{All-head}
-use Rattle.std.proofs.lemmas.Bool.{false≢true, true≢false, false_from_ne_true, and_from, and_parts, not-true}
+use Rattle.std.proofs.Common.{◌≡◌, ◌≢◌, ◌⊎◌, ◌≤◌, ◌<◌, ℕ, zero, suc, ℤ, List, [], ◌∷◌, ◌++◌, filter, length, take, slice_get, Bool, true, false, not, ◌||◌, cond, Option, Some, None, Result, Err, Contains, All, refl, sym, ap, subst, inl}
+use Rattle.std.proofs.Common.{inr, ⊎_elim, ◌∙◌, append-nil, arith, true≢false}
+use Rattle.gix_simple.proofs.Common.{All-head, false≢true, false_from_ne_true, and_from, and_parts, not-true, AllZip, Drains, Yields, ObjectId, id_cmp, is_same, is_among, kind_of, Objects, GraphRow, Info, CommitTimeOrder, Error}
+use Rattle.gix_simple.proofs.Common.{IsHistory, IsHiddenFault, Paints, IsAtBoundary, Reaches, start, step, Tells, IsAgreeing, time_of, parents_of, commit_of_object, walked_parents, ReadsWhole, Pending, SimpleWalk, time_order, cutoff}
+use Rattle.gix_simple.proofs.Common.{Steps, painted, FirstStep, unhidden, Next, initial, later, ids_of, AreDistinct, itself, AnswersBy, IsFresh, IsNoRefusal, IsInOrder, IsBeginning, IsGivenBy, MeetsWhole, GivesInOrder, GivesBeginning}
+use Rattle.gix_simple.proofs.Common.{starts_of, next_of, kept_of, is_kept, commit_items, own_history, same_is, among_from, among_is, Contains-here, Contains-there, no_member, fresh, times-fresh, among-filter, walked_within, no_fault}
+use Rattle.gix_simple.proofs.Common.{filter_within, filter_all}
 use Rattle.std.specs.FinSet as set
-use Rattle.std.specs.List.{AllZip}
-use Rattle.std.specs.Iterator.{Drains, Yields}
-use Rattle.gix_hash.specs.declared.ObjectId.{ObjectId}
-use Rattle.gix_hash.specs.Id.{id_cmp, is_same, is_among, kind_of}
-use Rattle.gix_object.specs.Object.{Objects}
-use Rattle.gix_commitgraph.specs.Rows.{GraphRow}
-use Rattle.gix_revwalk.specs.declared.Info.{Info}
-use Rattle.gix_revwalk.specs.declared.CommitTimeOrder.{CommitTimeOrder}
-use Rattle.gix_simple.specs.declared.Error.{Error}
 use Rattle.gix_simple.specs.declared.Error.TheVariants as error
 use Rattle.gix_paint.specs.declared.Hidden.{Hidden}
 use Rattle.gix_paint.specs.declared.Hidden.TheVariants as hidden_by
-use Rattle.gix_paint.specs.Painting.{IsHistory, IsHiddenFault, Paints}
-use Rattle.gix_hash.specs.Reach.{IsAtBoundary, Reaches, start, step, Tells}
-use Rattle.gix_revwalk.specs.Agreeing.{IsAgreeing}
-use Rattle.gix_revwalk.specs.Commits.{time_of, parents_of, commit_of_object, walked_parents, ReadsWhole}
-use Rattle.gix_revwalk.specs.Pending.{Pending}
-use Rattle.gix_simple.specs.Walk.{SimpleWalk, time_order, cutoff, Steps, painted, FirstStep, unhidden, paints, faulty_history, no_memory, Next, initial, later}
-use Rattle.gix_revwalk.specs.Ids.{ids_of, AreDistinct}
-use Rattle.gix_revwalk.specs.Asking.{itself, AnswersBy}
-use Rattle.gix_simple.specs.Laws.{IsFresh, IsNoRefusal, IsInOrder, IsBeginning, IsGivenBy, MeetsWhole, GivesInOrder, GivesBeginning, starts_of, next_of, kept_of, is_kept}
-use Rattle.gix_object.specs.CommitItems.{commit_items}
+use Rattle.gix_simple.specs.Walk.{paints, faulty_history, no_memory}
 use Rattle.gix_revwalk.proofs.Drained.{at_end}
 use Rattle.gix_revwalk.proofs.Committer.{fault_unread}
-use Rattle.gix_paint.proofs.Invariant.{own_history}
-use Rattle.gix_hash.proofs.Ids.Membership.{same_is, among_from, among_is, Contains-here, Contains-there, no_member}
-use Rattle.gix_revwalk.proofs.NewIds.{fresh, times, times-fresh, among-filter}
+use Rattle.gix_revwalk.proofs.NewIds.{times}
 use Rattle.gix_simple.proofs.Treated.{Setting}
 use Rattle.gix_simple.proofs.OneStep.{reads_whole, whole_well}
 use Rattle.gix_simple.proofs.PendingIs.{IsQueue, IsNextOne}
 use Rattle.gix_simple.proofs.WholeWalk.{Known, Runs, RunsTo, none_yet, begun_run, next_steps, ended_run}
-use Rattle.gix_revwalk.proofs.ReadsWhole.{walked_within, no_fault}
-use Rattle.gix_hash.proofs.Lists.{filter_within, filter_all}
 
 pub Contains-filter : (p : ObjectId → Bool) (xs : List ObjectId) (i : ObjectId) → Contains (filter p xs) i → Contains xs i × (p i ≡ true)
 Contains-filter p xs i h =

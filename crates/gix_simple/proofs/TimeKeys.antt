@@ -1,21 +1,11 @@
 -- The keys of pending commits in an order by time.
-use Rattle.std.specs.Prelude.{◌≡◌, ◌<ℤ◌, ℤ, List, [], ◌∷◌, ◌++◌, false, Contains, Option, Some, None, IsPermutation, length}
-use Rattle.std.proofs.Common.{refl, sym, ap, subst, ⊎_elim, ◌∙◌, arith, append-nil, append_assoc}
+use Rattle.std.proofs.Common.{◌≡◌, ◌<ℤ◌, ℤ, List, [], ◌∷◌, ◌++◌, false, Contains, Option, Some, None, IsPermutation, length, refl, sym, ap, subst, ⊎_elim, ◌∙◌, arith, append-nil, append_assoc, int_cmp, is_lt, Ordering}
 use Rattle.std.proofs.lemmas.Int.{ints}
 use Rattle.std.proofs.lemmas.Cmp.{int_ranked}
-use Rattle.std.proofs.lemmas.List.{nil_from_length}
-use Rattle.std.proofs.lemmas.List.Elements.{All-cons, recursion_from_All, All-from_recursion}
-use Rattle.std.proofs.lemmas.List.Sorted.{All-permutation, Contains-permutation, IsPermutation-sym, IsPermutation-map, IsPermutation-trans, IsPermutation-middle, IsPermutation-append_left, length_permutation}
-use Rattle.std.specs.List.{AllByRecursion}
+use Rattle.gix_simple.proofs.Common.{nil_from_length, All-cons, recursion_from_All, All-from_recursion, All-permutation, Contains-permutation, IsPermutation-sym, IsPermutation-map, IsPermutation-trans, IsPermutation-middle}
+use Rattle.gix_simple.proofs.Common.{IsPermutation-append_left, length_permutation, AllByRecursion, keys, values, Contains-cons_cases, Contains-there, no_member, CommitTimeOrder, Pending, time_key, AreKeyed, IsChosen, TakesOut, Holds}
 use Rattle.std.specs.BinaryHeap.{IsUpperBound}
-use Rattle.std.specs.Ordering.{int_cmp, is_lt, MatchOrdering}
-use Rattle.std.specs.declared.cmp.Ordering.{Ordering}
-use Rattle.gix_revwalk.specs.PriorityQueue.{keys, values}
-use Rattle.gix_hash.proofs.Ids.Membership.{Contains-cons_cases, Contains-there, no_member}
-use Rattle.gix_revwalk.specs.declared.CommitTimeOrder.{CommitTimeOrder}
-use Rattle.gix_revwalk.specs.Pending.{Pending}
-use Rattle.gix_simple.specs.Inside.PendingQueue.{time_key, AreKeyed, IsChosen, TakesOut}
-use Rattle.gix_simple.specs.Walk.{Holds}
+use Rattle.std.specs.Ordering.{MatchOrdering}
 use Rattle.gix_revwalk.specs.TimeOrder.{IsNoWorse}
 
 abbrev Keyed : CommitTimeOrder → ℤ × Pending → Type 0

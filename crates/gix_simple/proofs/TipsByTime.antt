@@ -1,20 +1,10 @@
 -- How the pending tips are read and sorted out, one after the other.
-use Rattle.std.specs.Prelude.{◌≡◌, ℤ, List, [], ◌∷◌, ◌++◌, Bool, true, false, not, ◌&&◌, ◌||◌, cond, Option, is_some, Ok, All, IsSome}
-use Rattle.std.proofs.Common.{refl, sym, ap, subst, ◌∙◌, append_assoc, append-nil, arith}
-use Rattle.std.proofs.Math.Bool.{and-true, or-false}
-use Rattle.std.proofs.lemmas.List.Elements.{All-cons, All-nil}
+use Rattle.std.proofs.Common.{◌≡◌, ℤ, List, [], ◌∷◌, ◌++◌, Bool, true, false, not, ◌&&◌, ◌||◌, cond, Option, is_some, Ok, All, IsSome, refl, sym, ap, subst, ◌∙◌, append_assoc, append-nil, arith}
+use Rattle.gix_simple.proofs.Common.{and-true, or-false, All-cons, All-nil, ObjectId, is_same, is_among, Objects, id_total, Pending, Error, Sorting, commit_at, time_of, time_in, SimpleWalk, cutoff, is_older, IsTipFault, FailsAtTip}
+use Rattle.gix_simple.proofs.Common.{IsSortedIn, SortsIn, SortsAll, IsSortedByTime, timed, recent, outdated}
 use Rattle.std.specs.FinSet as set
-use Rattle.gix_hash.specs.declared.ObjectId.{ObjectId}
-use Rattle.gix_hash.specs.Id.{is_same, is_among}
-use Rattle.gix_object.specs.Object.{Objects}
-use Rattle.gix_hash.proofs.Ids.Membership.{id_total}
 use Rattle.gix_revwalk.specs.declared.Parents.TheVariants as mode
-use Rattle.gix_revwalk.specs.Pending.{Pending}
-use Rattle.gix_simple.specs.declared.Error.{Error}
-use Rattle.gix_simple.specs.declared.Sorting.{Sorting}
-use Rattle.gix_revwalk.specs.Commits.{commit_at, time_of, time_in}
-use Rattle.gix_simple.specs.Walk.{SimpleWalk, cutoff, is_older}
-use Rattle.gix_simple.specs.Building.{IsTipFault, FailsAtTip, IsSortedIn, SortsIn, SortsAll, none, more, IsSortedByTime, timed, recent, outdated}
+use Rattle.gix_simple.specs.Building.{none, more}
 
 module _ {F P : Type 0} (objects : F → Objects) (bad : F → ObjectId → Type 0) (limit : Option ℤ) where
   -- what reading one tip changes

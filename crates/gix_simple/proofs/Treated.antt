@@ -1,29 +1,12 @@
 -- The parents of a commit, treated in order: what becomes pending and seen.
-use Rattle.std.specs.Prelude.{ℕ, ◌≡◌, ◌⊎◌, ◌+◌, ℤ, pos, List, [], ◌∷◌, ◌++◌, filter, Bool, true, false, not, ◌&&◌, ◌||◌, Option, Some, None, Ok, Contains, IsPermutation}
-use Rattle.std.proofs.Common.{refl, sym, ap, subst, ⊎_elim, ◌∙◌, append_assoc, append-nil, arith}
-use Rattle.std.proofs.lemmas.List.{map-append}
-use Rattle.std.proofs.lemmas.List.Sorted.{IsPermutation-map, Contains-permutation, IsPermutation-sym}
-use Rattle.std.proofs.lemmas.List.Elements.{filter-append, Contains-append_cases}
-use Rattle.std.proofs.lemmas.Bool.{and_left, and_right, and_parts, not_from_true}
+use Rattle.std.proofs.Common.{ℕ, ◌≡◌, ◌⊎◌, ◌+◌, ℤ, pos, List, [], ◌∷◌, ◌++◌, filter, Bool, true, false, not, ◌&&◌, ◌||◌, Option, Some, None, Ok, Contains, IsPermutation, refl, sym, ap, subst, ⊎_elim, ◌∙◌, append_assoc, append-nil, arith}
+use Rattle.gix_simple.proofs.Common.{map-append, IsPermutation-map, Contains-permutation, IsPermutation-sym, filter-append, Contains-append_cases, and_left, and_right, and_parts, not_from_true, ObjectId, id_cmp, is_same, is_among}
+use Rattle.gix_simple.proofs.Common.{Objects, GraphRow, row_of, Parents, CommitTimeOrder, Sorting, IsAgreeing, time_of, Pending, SimpleWalk, Treated, GoesOn, Holds, time_order, cutoff, is_older, row_time, Asks, remembers, ReadsTime}
+use Rattle.gix_simple.proofs.Common.{unasked, from_row, from_store, Enqueues, dropped, enqueued, Treats, hidden, refused, accepted, TreatsAll, stops, ids_of, Becomes, further, AnswersBy, is_kept, id_total, same_is, among-one}
+use Rattle.gix_simple.proofs.Common.{Contains-here, Contains-there, no_member, fresh, fresh_agree, fresh-append, times-append, times_moved, among-filter, row_says_time, only_member}
 use Rattle.std.specs.FinSet as set
-use Rattle.gix_hash.specs.declared.ObjectId.{ObjectId}
-use Rattle.gix_hash.specs.Id.{id_cmp, is_same, is_among}
-use Rattle.gix_object.specs.Object.{Objects}
-use Rattle.gix_commitgraph.specs.Rows.{GraphRow, row_of}
-use Rattle.gix_revwalk.specs.declared.Parents.{Parents}
-use Rattle.gix_revwalk.specs.declared.CommitTimeOrder.{CommitTimeOrder}
-use Rattle.gix_simple.specs.declared.Sorting.{Sorting}
-use Rattle.gix_revwalk.specs.Agreeing.{IsAgreeing}
-use Rattle.gix_revwalk.specs.Commits.{time_of}
-use Rattle.gix_revwalk.specs.Pending.{Pending}
-use Rattle.gix_simple.specs.Walk.{SimpleWalk, Treated, GoesOn, Holds, time_order, cutoff, is_older, row_time, Asks, remembers, asks, asked as asked_walk, ReadsTime, unasked, from_row, from_store, Enqueues, dropped, enqueued, Treats, hidden, known, refused, accepted, TreatsAll, none, more, stops}
-use Rattle.gix_revwalk.specs.Ids.{ids_of}
-use Rattle.gix_revwalk.specs.Asking.{Becomes, further, AnswersBy}
-use Rattle.gix_simple.specs.Laws.{is_kept}
-use Rattle.gix_hash.proofs.Ids.Membership.{id_total, same_is, among-one, Contains-here, Contains-there, no_member}
-use Rattle.gix_revwalk.proofs.NewIds.{fresh, fresh_agree, fresh-append, times, times-append, times_moved, among-filter}
-use Rattle.gix_revwalk.proofs.ReadsWhole.{row_says_time}
-use Rattle.gix_hash.proofs.Lists.{only_member}
+use Rattle.gix_simple.specs.Walk.{asks, asked as asked_walk, known, none, more}
+use Rattle.gix_revwalk.proofs.NewIds.{times}
 
 -- the lists are one; or they have each id as often, where an order by time is in force
 abbrev pub Joins : Option CommitTimeOrder → List ObjectId → List ObjectId → Type 0

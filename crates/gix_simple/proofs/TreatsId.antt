@@ -1,19 +1,12 @@
 -- How a walk treats the ids that tips or a parent list name, one after the other.
-use Rattle.std.specs.Prelude.{◌≡◌, ℤ, List, [], ◌∷◌, ◌++◌, Bool, true, false, not, ◌||◌, Option, Some, Result, Ok, Err, IfOk, IfErr}
-use Rattle.std.proofs.Common.{refl, sym, ap, subst, inl, inr, ◌∙◌, arith, ⊎_elim}
-use Rattle.std.proofs.lemmas.Bool.{true≢false, false≢true}
+use Rattle.std.proofs.Common.{◌≡◌, ℤ, List, [], ◌∷◌, ◌++◌, Bool, true, false, not, ◌||◌, Option, Some, Result, Ok, Err, IfOk, IfErr, refl, sym, ap, subst, inl, inr, ◌∙◌, arith, ⊎_elim, true≢false}
+use Rattle.gix_simple.proofs.Common.{false≢true, ObjectId, id_cmp, is_same, Objects, id_total, id_apart, same_is, CommitTimeOrder, Pending, time_of, Meets, TimeIs, SimpleWalk, bare, asked, Treated, GoesOn, NoMemory, StoreFails, Asks}
+use Rattle.gix_simple.proofs.Common.{remembers, ReadsTime, unasked, from_row, from_store, store_fails, Enqueues, enqueued, Holds, is_older, time_order, cutoff, IsNew, Treats, hidden, refused, accepted, no_memory_after, TreatsAll, stops}
+use Rattle.gix_simple.proofs.Common.{IsMade, how_ended}
 use Rattle.std.specs.FinSet as set
-use Rattle.gix_hash.specs.declared.ObjectId.{ObjectId}
-use Rattle.gix_hash.specs.Id.{id_cmp, is_same}
-use Rattle.gix_object.specs.Object.{Objects}
-use Rattle.gix_hash.proofs.Ids.Membership.{id_total, id_apart, same_is}
-use Rattle.gix_revwalk.specs.declared.CommitTimeOrder.{CommitTimeOrder}
-use Rattle.gix_revwalk.specs.Pending.{Pending}
 use Rattle.gix_simple.specs.declared.step.Stop.{Stop}
 use Rattle.gix_simple.specs.declared.step.Stop.TheVariants as stop
-use Rattle.gix_revwalk.specs.Commits.{time_of}
-use Rattle.gix_simple.specs.Inside.Steps.{Meets, TimeIs}
-use Rattle.gix_simple.specs.Walk.{SimpleWalk, bare, asked, Treated, GoesOn, NoMemory, StoreFails, Asks, remembers, asks, ReadsTime, unasked, from_row, from_store, store_fails, Enqueues, enqueued, Holds, is_older, time_order, cutoff, IsNew, Treats, hidden, known, refused, accepted, no_memory, no_memory_after, TreatsAll, none, more, stops, IsMade, how_ended}
+use Rattle.gix_simple.specs.Walk.{asks, known, no_memory, none, more}
 
 -- to put an id in again
 pub insert_again : (s : set.FinSet id_cmp) (i : ObjectId) → set.contains s i ≡ true → set.insert s i ≡ s

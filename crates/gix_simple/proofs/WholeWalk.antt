@@ -1,28 +1,12 @@
 -- A walk gives what the definitions say, drawn to its end or as far as one likes.
-use Rattle.std.specs.Prelude.{◌≡◌, ℕ, zero, suc, ℤ, List, [], ◌∷◌, ◌++◌, take, slice_get, Bool, true, ◌&&◌, ◌||◌, Option, Some, None, Result, Err, Contains, All}
-use Rattle.std.proofs.Common.{refl, sym, ap, subst, inl, ⊎_elim, ◌∙◌, append_assoc, append-nil, arith}
-use Rattle.std.specs.Iterator.{Yields}
-use Rattle.std.specs.List.{AllZip}
-use Rattle.std.proofs.lemmas.List.Sorted.{Contains-permutation, IsPermutation-sym}
-use Rattle.std.proofs.lemmas.List.Elements.{All-head, All-tail}
-use Rattle.std.proofs.lemmas.Bool.{or_cases, or_left, and_parts, true≢false}
+use Rattle.std.proofs.Common.{◌≡◌, ℕ, zero, suc, ℤ, List, [], ◌∷◌, ◌++◌, take, slice_get, Bool, true, ◌&&◌, ◌||◌, Option, Some, None, Result, Err, Contains, All, refl, sym, ap, subst, inl, ⊎_elim, ◌∙◌, append_assoc, append-nil, arith}
+use Rattle.std.proofs.Common.{true≢false}
+use Rattle.gix_simple.proofs.Common.{Yields, AllZip, Contains-permutation, IsPermutation-sym, All-head, All-tail, or_cases, or_left, and_parts, ObjectId, is_among, Objects, Info, CommitTimeOrder, Error, named_by, Reaches, time_of}
+use Rattle.gix_simple.proofs.Common.{Pending, SimpleWalk, time_order, Chooses, first, best, Takes, Steps, ended, took, Next, initial, later, ids_of, IsGivenBy, same_is, among-append, among-one, among_is, Contains-here, Contains-there}
+use Rattle.gix_simple.proofs.Common.{among-filter, named-push}
 use Rattle.std.specs.FinSet as set
-use Rattle.gix_hash.specs.declared.ObjectId.{ObjectId}
-use Rattle.gix_hash.specs.Id.{is_among}
-use Rattle.gix_object.specs.Object.{Objects}
-use Rattle.gix_revwalk.specs.declared.Info.{Info}
-use Rattle.gix_revwalk.specs.declared.CommitTimeOrder.{CommitTimeOrder}
-use Rattle.gix_simple.specs.declared.Error.{Error}
 use Rattle.gix_simple.specs.declared.Error.TheVariants as error
-use Rattle.gix_revwalk.specs.BreadthOrder.{named_by}
-use Rattle.gix_hash.specs.Reach.{Reaches}
-use Rattle.gix_revwalk.specs.Commits.{time_of}
-use Rattle.gix_revwalk.specs.Pending.{Pending}
-use Rattle.gix_simple.specs.Walk.{SimpleWalk, time_order, Chooses, first, best, Takes, Steps, ended, took, no_memory, Next, initial, later}
-use Rattle.gix_revwalk.specs.Ids.{ids_of}
-use Rattle.gix_simple.specs.Laws.{IsGivenBy}
-use Rattle.gix_hash.proofs.Ids.Membership.{same_is, among-append, among-one, among_is, Contains-here, Contains-there}
-use Rattle.gix_revwalk.proofs.NewIds.{among-filter, named-push}
+use Rattle.gix_simple.specs.Walk.{no_memory}
 use Rattle.gix_revwalk.proofs.Orders.{reached_by_named, Contains-push}
 use Rattle.gix_simple.proofs.Treated.{Setting, order_of, keep, Stands}
 use Rattle.gix_simple.proofs.OneStep.{IsCommit, walked, next, Reads, Took, stands_left, took_well}

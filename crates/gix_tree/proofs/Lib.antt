@@ -1,3 +1,5 @@
+-- What most proofs use, to import from one place.
+mod Common
 -- What holds of all of a list holds of its parts.
 pub mod All
 -- Trees with their places, seen by their ids alone.

@@ -1,8 +1,6 @@
 -- What each outcome of a visit says of the entry, of the answer, and of the ids that are known above the entry.
-use Rattle.std.proofs.Common.{◌≡◌, Bool, true, false, refl, subst}
-use Rattle.std.specs.declared.ops.ControlFlow.TheVariants.{Continue, Break}
-use Rattle.gix_tree.specs.Delegate.{Action}
-use Rattle.gix_tree.specs.Visits.{Outcome, Leaves, Enters, Cycles, Breaks, outcome_of}
+use Rattle.std.proofs.Common.{◌≡◌, Bool, true, false, refl, subst, Continue, Break}
+use Rattle.gix_tree.proofs.Common.{Action, Outcome, Leaves, Enters, Cycles, Breaks, outcome_of}
 
 -- by whether the entry is a tree, and whether its id is known
 abbrev pub Says : Bool → Bool → Action → Outcome → Type 0

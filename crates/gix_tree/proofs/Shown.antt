@@ -1,18 +1,9 @@
 -- An entry shown by a walk by levels, by the calls that were made.
-use Rattle.std.proofs.Common.{◌≡◌, Bool, true, false, List, [], ◌∷◌, Ok, Err, Result, refl, ap, ◌∙◌}
-use Rattle.std.specs.Result.{IsErrAnd}
-use Rattle.std.specs.declared.ops.ControlFlow.TheVariants.{Continue, Break}
-use Rattle.gix_hash.specs.declared.ObjectId.{ObjectId}
-use Rattle.gix_hash.specs.Id.{is_among}
-use Rattle.gix_object.specs.TreeItems.{TreeEntry, is_tree}
-use Rattle.gix_tree.specs.declared.breadthfirst.Error.{Error}
+use Rattle.std.proofs.Common.{◌≡◌, Bool, true, false, List, [], ◌∷◌, Ok, Err, Result, refl, ap, ◌∙◌, IsErrAnd, Continue, Break}
+use Rattle.gix_tree.proofs.Common.{ObjectId, is_among, TreeEntry, is_tree, Error, Action, Call, PushPath, PopPath, Refused, RefusedIn, here, later, takes_memory, LevelQueue, Outcome, Leaves, Enters, Cycles, outcome, outcome_of}
+use Rattle.gix_tree.proofs.Common.{visit_call, visit_call_of, level_calls, ShowsEntry, Queues, visit_below}
 use Rattle.gix_tree.specs.declared.breadthfirst.Error.TheVariants as error
-use Rattle.gix_tree.specs.Delegate.{Action, Call, PushPath, PopPath, Refused, RefusedIn, here, later, takes_memory}
-use Rattle.gix_tree.specs.Inside.LevelQueue.{LevelQueue}
-use Rattle.gix_tree.specs.Visits.{Outcome, Leaves, Enters, Cycles, outcome, outcome_of, visit_call, visit_call_of}
-use Rattle.gix_tree.specs.Script.{level_calls}
 use Rattle.gix_tree.specs.Inside.ShowsEntry as shows
-use Rattle.gix_tree.specs.Inside.ShowsEntry.{ShowsEntry, Queues, visit_below}
 
 -- what the exit of a `?` returns
 pub failed_so : {T E : Type 0} (why : E) (r : Result T E) → IsErrAnd r (λ e. e ≡ why) → r ≡ Err why

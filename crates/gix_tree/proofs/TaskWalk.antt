@@ -1,19 +1,12 @@
 -- Both walks as one walk over a list of tasks. By levels the tasks of a tree that is gone into come behind all others, and in
 -- depth before them.
-use Rattle.std.proofs.Common.{◌≡◌, ◌≢◌, List, [], ◌∷◌, ◌++◌, Option, Some, refl, sym, ap, ◌∙◌, subst, append_assoc}
-use Rattle.std.proofs.lemmas.List.{append-nil}
-use Rattle.std.specs.List.{AllByRecursion}
-use Rattle.gix_hash.specs.declared.ObjectId.{ObjectId}
+use Rattle.std.proofs.Common.{◌≡◌, ◌≢◌, List, [], ◌∷◌, ◌++◌, Option, Some, refl, sym, ap, ◌∙◌, subst, append_assoc, append-nil}
+use Rattle.gix_tree.proofs.Common.{AllByRecursion, ObjectId, TreeEntry, is_tree, Error, Action, Call, PushPath, PopPath, PopBack, PopFront, Items, Place, Visit, visit, inside, Leaves, Enters, Cycles, Breaks, outcome, visit_call, Ending}
+use Rattle.gix_tree.proofs.Common.{Whole, Broken, Failed, Task, Turn, Show, Fault, shows, known_root, items_or_none, level_calls_behind, depth_calls, depth_calls_behind, IsLevelScript, DepthScript, IsDepthScript}
 use Rattle.gix_object.specs.declared.decode.Error.{Error as DecodeError}
 use Rattle.gix_object.specs.declared.find.existing_iter.Error.{Error as ExistingError}
-use Rattle.gix_object.specs.TreeItems.{TreeEntry, is_tree}
-use Rattle.gix_tree.specs.declared.breadthfirst.Error.{Error}
 use Rattle.gix_tree.specs.declared.breadthfirst.Error.TheVariants as error
-use Rattle.gix_tree.specs.Delegate.{Action, Call, PushPath, PopPath, PopBack, PopFront}
-use Rattle.gix_tree.specs.Visits.{Items, Place, Visit, visit, inside, Leaves, Enters, Cycles, Breaks, outcome, visit_call, Ending, Whole, Broken, Failed, Task, Turn, Show, Fault, shows}
-use Rattle.gix_tree.specs.Paths.{known_root}
 use Rattle.gix_tree.specs.Script as script
-use Rattle.gix_tree.specs.Script.{items_or_none, level_calls_behind, depth_calls, depth_calls_behind, IsLevelScript, DepthScript, IsDepthScript}
 use Rattle.gix_tree.proofs.All.{all_both}
 use Rattle.gix_tree.proofs.Levels.Queue.{first_task, other_tasks, LevelFrom, split_front, no_front}
 use Rattle.gix_tree.proofs.Levels.Script.{level_queue}

@@ -1,26 +1,14 @@
 -- Rows in the order of their ids, with the numbers that follow from it.
-use Rattle.std.proofs.Common.{◌≡◌, ℕ, zero, suc, ◌+◌, ◌<◌, ◌≤◌, false, List, [], ◌∷◌, length, map, get_or, Some, refl, sym, ap, subst, ◌∙◌, arith, All}
-use Rattle.std.specs.Prelude.{slice_index, slice_get, IsPermutation, Contains}
-use Rattle.std.specs.Option.{option_map}
-use Rattle.std.specs.List.{AllByRecursion, IsDistinct, sum_by}
-use Rattle.std.specs.List.Sorted.{IsStrictlySortedBy}
-use Rattle.std.specs.declared.cmp.Ordering.TheVariants.{Less}
+use Rattle.std.proofs.Common.{◌≡◌, ℕ, zero, suc, ◌+◌, ◌<◌, ◌≤◌, false, List, [], ◌∷◌, length, map, get_or, Some, refl, sym, ap, subst, ◌∙◌, arith, All, slice_index, slice_get, IsPermutation, Contains, option_map, sum_by, Less}
+use Rattle.std.proofs.Common.{length-append}
+use Rattle.gix_commitgraph.proofs.Common.{AllByRecursion, IsDistinct, IsStrictlySortedBy, length-map, get_or-map, get_or_default, same_lists, All-from_recursion, recursion_from_All, Kind, ObjectId, ParentPlace, At, Fault, id_cmp}
+use Rattle.gix_commitgraph.proofs.Common.{is_same, GraphRow, no_row, row_at, most, overflow_of, overflow_words, kind_of_rows, ids_of_rows, IsPlaceAmong, IsRowAmong, AreGraphRows, Entry, entries_from, moved, renumbered, arranged}
+use Rattle.gix_commitgraph.proofs.Common.{NeverFall, AlwaysRise, StopsRising, HasPlaces, AreNumbers, CanArrange, HasSameRows, HaveDistinctIds, HavePlacesWithin, IsRowOf, IsInRange, id_total, same_back}
 use Rattle.std.specs.Cmp.{tied_itself}
-use Rattle.std.proofs.lemmas.List.{length-append, length-map, get_or-map, get_or_default, same_lists}
-use Rattle.std.proofs.lemmas.List.Elements.{All-from_recursion, recursion_from_All}
 use Rattle.std.proofs.lemmas.List.Sorted.{IsPermutation-sym, IsPermutation-map, length_permutation, All-permutation, Contains-permutation, sum_by-IsPermutation}
 use Rattle.std.proofs.lemmas.List.Sums.{sum_by-cons}
 use Rattle.std.proofs.lemmas.Map.Keys.{IsDistinct-from_sorted, IsDistinct-IsPermutation, apart_from_distinct, Less-from_sorted, sorted_from_all_adjacent}
 use Rattle.std.proofs.lemmas.Option.{slice_get-get_or}
-use Rattle.gix_hash.specs.declared.Kind.{Kind}
-use Rattle.gix_hash.specs.declared.ObjectId.{ObjectId}
-use Rattle.gix_commitgraph.specs.declared.ParentPlace.{ParentPlace}
-use Rattle.gix_commitgraph.specs.declared.ParentPlace.TheVariants.{At, Fault}
-use Rattle.gix_hash.specs.Id.{id_cmp, is_same}
-use Rattle.gix_commitgraph.specs.Rows.{GraphRow, no_row, row_at}
-use Rattle.gix_commitgraph.specs.Packed.{most, overflow_of, overflow_words, kind_of_rows, ids_of_rows, IsPlaceAmong, IsRowAmong, AreGraphRows}
-use Rattle.gix_commitgraph.specs.Renumbering.{Entry, entries_from, moved, renumbered, arranged, NeverFall, AlwaysRise, StopsRising, HasPlaces, AreNumbers, CanArrange, HasSameRows, HaveDistinctIds, HavePlacesWithin, IsRowOf, IsInRange}
-use Rattle.gix_hash.proofs.Ids.Membership.{id_total, same_back}
 use Rattle.gix_commitgraph.proofs.Packed.RowsArranged.{arranged_row, length-overflow_of-moved}
 use Rattle.gix_commitgraph.proofs.Packed.RowSearch.{is_Less}
 

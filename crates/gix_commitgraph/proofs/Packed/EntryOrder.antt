@@ -1,12 +1,6 @@
 -- The entries of rows, in the order of their ids.
-use Rattle.std.proofs.Common.{◌≡◌, ℕ, suc, ◌+◌, ◌-◌, ◌<◌, ◌≤◌, false, List, [], ◌∷◌, ◌++◌, length, get_or, set, take, sym, ap, ◌∙◌, arith}
-use Rattle.std.specs.Ordering.{is_lt}
-use Rattle.std.proofs.lemmas.List.{take_more, map_push, get_or_default, get_or-set_same, get_or-set_other, length-set, length-take, length-map, get_or_past}
-use Rattle.gix_commitgraph.specs.declared.Row.{Row}
-use Rattle.gix_hash.specs.Id.{id_cmp}
-use Rattle.gix_commitgraph.specs.Rows.{GraphRow}
-use Rattle.gix_commitgraph.specs.Packed.{most}
-use Rattle.gix_commitgraph.specs.Renumbering.{row_seen, rows_seen, Entry, entries_from, StopsRising, HasPlaces}
+use Rattle.std.proofs.Common.{◌≡◌, ℕ, suc, ◌+◌, ◌-◌, ◌<◌, ◌≤◌, false, List, [], ◌∷◌, ◌++◌, length, get_or, set, take, sym, ap, ◌∙◌, arith, is_lt, get_or-set_same, get_or-set_other, length-set, length-take}
+use Rattle.gix_commitgraph.proofs.Common.{take_more, map_push, get_or_default, length-map, get_or_past, Row, id_cmp, GraphRow, most, row_seen, rows_seen, Entry, entries_from, StopsRising, HasPlaces}
 
 entries_from-push : (n : ℕ) (rows : List GraphRow) (row : GraphRow) → entries_from n (rows ++ row ∷ []) ≡ entries_from n rows ++ (row.id, n + length rows) ∷ []
 entries_from-push n [] row = let same : n ≡ n + 0 = omega arith in ap (λ (m : ℕ). (row.id, m) ∷ []) same

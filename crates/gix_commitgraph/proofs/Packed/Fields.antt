@@ -1,20 +1,12 @@
 -- The fields of a packed row.
-use Rattle.std.proofs.Common.{◌≡◌, ℕ, ◌+◌, ◌*◌, ◌^◌, ◌<◌, ◌≤◌, List, [], ◌∷◌, ◌++◌, length, take, drop, refl, sym, ap, ◌∙◌, append_assoc, arith}
-use Rattle.std.specs.List.{AllByRecursion}
-use Rattle.std.specs.Int.{w32, w64, to_be_bytes, from_be_bytes, cast_unsigned}
-use Rattle.std.proofs.lemmas.List.{take_at, drop_at, drop-drop, length-append}
+use Rattle.std.proofs.Common.{◌≡◌, ℕ, ◌+◌, ◌*◌, ◌^◌, ◌<◌, ◌≤◌, List, [], ◌∷◌, ◌++◌, length, take, drop, refl, sym, ap, ◌∙◌, append_assoc, arith, w32, w64, take_at, drop_at, drop-drop, length-append}
+use Rattle.gix_commitgraph.proofs.Common.{AllByRecursion, to_be_bytes, from_be_bytes, cast_unsigned, Kind, ObjectId, ParentPlace, At, Fault, id_len, id_of, kind_of, bytes_of, GraphRow, most, no_parent, place_word, first_word}
+use Rattle.gix_commitgraph.proofs.Common.{second_word, IsPlaceAmong, IsRowAmong, row_len, id_field, tree_field, first_field, second_field, generation_field, time_field}
 use Rattle.std.proofs.lemmas.Nat.{from_be_bytes-to_be_bytes_4, from_be_bytes-to_be_bytes_8}
 use Rattle.std.proofs.Math.Facts.{Fits-lt-pow, Fits-of_z, to_z-of_z}
-use Rattle.gix_hash.specs.declared.Kind.{Kind}
 use Rattle.gix_hash.specs.declared.Kind.TheVariants as kind
-use Rattle.gix_hash.specs.declared.ObjectId.{ObjectId}
 use Rattle.gix_hash.specs.declared.ObjectId.TheVariants as id
-use Rattle.gix_commitgraph.specs.declared.ParentPlace.{ParentPlace}
-use Rattle.gix_commitgraph.specs.declared.ParentPlace.TheVariants.{At, Fault}
-use Rattle.gix_hash.specs.Id.{id_len, id_of, kind_of, bytes_of}
-use Rattle.gix_commitgraph.specs.Rows.{GraphRow}
-use Rattle.gix_commitgraph.specs.Packed.{most, no_parent, place_word, first_word, second_word, row_bytes, IsPlaceAmong, IsRowAmong}
-use Rattle.gix_commitgraph.specs.PackedReading.{row_len, id_field, tree_field, first_field, second_field, generation_field, time_field}
+use Rattle.gix_commitgraph.specs.Packed.{row_bytes}
 
 pub after_part : (at next : ℕ) (whole part rest : List ℕ) → drop at whole ≡ part ++ rest → next ≡ at + length part → drop next whole ≡ rest
 after_part at next whole part rest e n = ap (λ (m : ℕ). drop m whole) n ∙ sym (drop-drop (length part) at whole) ∙ ap (drop (length part)) e ∙ drop_at part rest (length part) refl

@@ -1,13 +1,10 @@
 -- Lists of bytes are in the order of the numbers in their first four bytes, where these differ.
-use Rattle.std.proofs.Common.{◌≡◌, ℕ, ◌<◌, ◌≤◌, List, length, get_or, sym, ap, ◌∙◌, arith}
+use Rattle.std.proofs.Common.{◌≡◌, ℕ, ◌<◌, ◌≤◌, List, length, get_or, sym, ap, ◌∙◌, arith, nat_cmp, Ordering, Less, Equal, Greater}
 use Rattle.std.specs.Cmp.{nat_cmp_is}
 use Rattle.std.specs.Cmp.Lexicographic.{slice_cmp}
-use Rattle.std.specs.Ordering.{nat_cmp, ordering_then, ordering_reverse}
-use Rattle.std.specs.declared.cmp.Ordering.{Ordering}
-use Rattle.std.specs.declared.cmp.Ordering.TheVariants.{Less, Equal, Greater}
+use Rattle.std.specs.Ordering.{ordering_then, ordering_reverse}
 use Rattle.std.proofs.lemmas.Cmp.{nat_list_cmp_total}
-use Rattle.gix_commitgraph.specs.Packed.{AreBytes}
-use Rattle.gix_commitgraph.specs.PackedReading.{word_at}
+use Rattle.gix_commitgraph.proofs.Common.{AreBytes, word_at}
 use Rattle.gix_commitgraph.proofs.Packed.Parents.{four_first}
 
 less_first : (x y : ℕ) (more : Ordering) → x < y → ordering_then (nat_cmp x y) more ≡ Less

@@ -1,21 +1,12 @@
 -- Rows that are handed in, tested one after the other.
-use Rattle.std.proofs.Common.{◌≡◌, ℕ, suc, ◌+◌, ◌-◌, ◌<◌, ◌≤◌, Bool, true, false, List, [], ◌∷◌, ◌++◌, length, map, eqb, get_or, take, drop, refl, sym, ap, subst, ◌∙◌, arith}
-use Rattle.std.specs.List.{AllByRecursion}
-use Rattle.std.specs.Prelude.{MatchBool}
-use Rattle.std.proofs.lemmas.Bool.{eqb-true, eqb-false}
-use Rattle.std.proofs.lemmas.List.Elements.{All-from_recursion}
-use Rattle.std.proofs.lemmas.List.{get_or-map, append-nil, length-append, length-map, take_more, take-append-drop, map-append, map_push}
+use Rattle.std.proofs.Common.{◌≡◌, ℕ, suc, ◌+◌, ◌-◌, ◌<◌, ◌≤◌, Bool, true, false, List, [], ◌∷◌, ◌++◌, length, map, eqb, get_or, take, drop, refl, sym, ap, subst, ◌∙◌, arith, MatchBool, eqb-true, append-nil, length-append}
+use Rattle.std.proofs.Common.{take-append-drop}
+use Rattle.gix_commitgraph.proofs.Common.{AllByRecursion, All-from_recursion, get_or-map, length-map, take_more, map-append, map_push, Kind, ObjectId, ParentPlace, Row, id_len, kind_of, bytes_of, GraphRow, no_row, row_at, list_words}
+use Rattle.gix_commitgraph.proofs.Common.{overflow_of, overflow_words, kind_of_rows, AreBytes, IsIdOf, IsPlaceAmong, row_seen, rows_seen, IsRowOf, AreOfKind, AreOfOneKind, HavePlacesWithin}
+use Rattle.std.proofs.lemmas.Bool.{eqb-false}
 use Rattle.std.proofs.lemmas.List.Concat.{flat_map-append}
-use Rattle.gix_hash.specs.declared.Kind.{Kind}
 use Rattle.gix_hash.specs.declared.Kind.TheVariants as kind
-use Rattle.gix_hash.specs.declared.ObjectId.{ObjectId}
 use Rattle.gix_hash.specs.declared.ObjectId.TheVariants as id
-use Rattle.gix_commitgraph.specs.declared.ParentPlace.{ParentPlace}
-use Rattle.gix_commitgraph.specs.declared.Row.{Row}
-use Rattle.gix_hash.specs.Id.{id_len, kind_of, bytes_of}
-use Rattle.gix_commitgraph.specs.Rows.{GraphRow, no_row, row_at}
-use Rattle.gix_commitgraph.specs.Packed.{list_words, overflow_of, overflow_words, kind_of_rows, AreBytes, IsIdOf, IsPlaceAmong}
-use Rattle.gix_commitgraph.specs.Renumbering.{row_seen, rows_seen, IsRowOf, AreOfKind, AreOfOneKind, HavePlacesWithin}
 
 pub length-list_words : (p : ParentPlace) (ps : List ParentPlace) → length (list_words p ps) ≡ suc (length ps)
 length-list_words p [] = refl

@@ -1,14 +1,7 @@
 -- Which overflow words the reading of a row's parents leaves.
-use Rattle.std.proofs.Common.{◌≡◌, ◌≢◌, ℕ, zero, suc, ◌-◌, ◌*◌, ◌+◌, ◌<◌, ◌≤◌, true, cond, List, [], ◌∷◌, length, get_or, take, drop, Option, Some, None, refl, ap, ◌∙◌, arith}
-use Rattle.std.specs.Prelude.{is_some}
-use Rattle.std.specs.Option.{option_map}
-use Rattle.std.specs.Int.{w32, from_be_bytes}
-use Rattle.std.proofs.lemmas.Bool.{lt-ltb, le-ltb, ne_eqb, eq-eqb}
-use Rattle.std.proofs.lemmas.List.{take_rest}
+use Rattle.std.proofs.Common.{◌≡◌, ◌≢◌, ℕ, zero, suc, ◌-◌, ◌*◌, ◌+◌, ◌<◌, ◌≤◌, true, cond, List, [], ◌∷◌, length, get_or, take, drop, Option, Some, None, refl, ap, ◌∙◌, arith, is_some, option_map, w32, lt-ltb, le-ltb, ne_eqb, eq-eqb}
+use Rattle.gix_commitgraph.proofs.Common.{from_be_bytes, take_rest, ParentPlace, flag, no_parent, Places, words_of, place_of, with_place, list_at, long_list_at, second_at, parents_at}
 use Rattle.std.proofs.Math.Seq.{drop-cons}
-use Rattle.gix_commitgraph.specs.declared.ParentPlace.{ParentPlace}
-use Rattle.gix_commitgraph.specs.Packed.{flag, no_parent}
-use Rattle.gix_commitgraph.specs.PackedReading.{Places, words_of, place_of, with_place, list_at, long_list_at, second_at, parents_at}
 
 -- the overflow words behind the places, where there are places
 abbrev pub behind : Option Places → Option (List ℕ)

@@ -1,26 +1,15 @@
 -- What is read is spelled so.
-use Rattle.std.proofs.Common.{◌≡◌, ℕ, zero, suc, ◌+◌, ◌-◌, ◌*◌, ◌<◌, ◌≤◌, true, cond, eqb, List, [], ◌∷◌, ◌++◌, length, take, drop, Option, Some, None, Result, Ok, Err, refl, sym, ap, subst, ◌∙◌, append_assoc, arith, inl, inr}
-use Rattle.std.specs.Prelude.{nat_eq, codes}
-use Rattle.std.specs.Int.{w32, to_be_bytes}
-use Rattle.std.specs.List.{flat_map, AllByRecursion, starts_with}
+use Rattle.std.proofs.Common.{◌≡◌, ℕ, zero, suc, ◌+◌, ◌-◌, ◌*◌, ◌<◌, ◌≤◌, true, cond, eqb, List, [], ◌∷◌, ◌++◌, length, take, drop, Option, Some, None, Result, Ok, Err, refl, sym, ap, subst, ◌∙◌, append_assoc, arith, inl, inr, nat_eq}
+use Rattle.std.proofs.Common.{codes, w32, flat_map, Less, ltb-true, drop-drop, drop_at, take-append-drop, length-append, length-drop}
+use Rattle.gix_commitgraph.proofs.Common.{to_be_bytes, AllByRecursion, starts_with, nat_tests, Kind, ObjectId, Place, Layout, id_cmp, GraphRow, most, overflow_of, row_bytes, overflow_words, layout_name, kind_of_rows, AreBytes}
+use Rattle.gix_commitgraph.proofs.Common.{IsRowAmong, ids_of_rows, words_of, row_len, id_field, first_field, second_field, row_of_fields, Places, parents_at, is_above, with_row, row_then, kind_named, may_have, read_packed, IsLaidOut}
+use Rattle.gix_commitgraph.proofs.Common.{IsPackedAs, id_total}
 use Rattle.std.specs.List.Sorted.{IsStrictlySortedBy}
-use Rattle.std.specs.declared.cmp.Ordering.TheVariants.{Less}
 use Rattle.std.specs.Cmp.Lexicographic.{same_text}
-use Rattle.std.proofs.lemmas.Bool.{ltb-true}
-use Rattle.std.proofs.lemmas.List.{drop-drop, drop_at, take-append-drop, length-append, length-drop}
-use Rattle.std.proofs.lemmas.Bool.Decides.{nat_tests}
-use Rattle.gix_hash.specs.declared.Kind.{Kind}
 use Rattle.gix_hash.specs.declared.Kind.TheVariants as kind
-use Rattle.gix_hash.specs.declared.ObjectId.{ObjectId}
-use Rattle.gix_commitgraph.specs.declared.Place.{Place}
 use Rattle.gix_commitgraph.specs.declared.Place.TheVariants as place
-use Rattle.gix_commitgraph.specs.declared.check.Layout.{Layout}
-use Rattle.gix_hash.specs.Id.{id_cmp}
-use Rattle.gix_commitgraph.specs.Rows.{GraphRow}
-use Rattle.gix_commitgraph.specs.Packed.{most, overflow_of, row_bytes, rows_bytes, overflow_words, layout_name, kind_of_rows, spelling, AreBytes, IsRowAmong, ids_of_rows}
-use Rattle.gix_commitgraph.specs.PackedReading.{words_of, row_len, id_field, first_field, second_field, row_of_fields, Places, parents_at, is_above, with_row, row_then, rows_at, kind_named, may_have, read_packed}
-use Rattle.gix_commitgraph.specs.PackedLayout.{IsLaidOut, IsPackedAs}
-use Rattle.gix_hash.proofs.Ids.Membership.{id_total}
+use Rattle.gix_commitgraph.specs.Packed.{rows_bytes, spelling}
+use Rattle.gix_commitgraph.specs.PackedReading.{rows_at}
 use Rattle.gix_commitgraph.proofs.Packed.ReadAgain.{Begins}
 use Rattle.gix_commitgraph.proofs.Packed.Takes.{chosen, parents_take}
 use Rattle.gix_commitgraph.proofs.Packed.RowTakes.{part, AreBytes-drop, row_takes, row_among, bytes-words_of, word_back}

@@ -1,21 +1,10 @@
 -- What is spelled is read again.
-use Rattle.std.proofs.Common.{◌≡◌, ℕ, suc, ◌+◌, ◌-◌, ◌≤◌, true, List, [], ◌∷◌, ◌++◌, length, drop, Option, Some, None, Ok, refl, ap, ◌∙◌, append_assoc, arith}
-use Rattle.std.specs.List.{AllByRecursion}
-use Rattle.std.specs.List.Sorted.{IsStrictlySortedBy}
-use Rattle.std.specs.Ordering.{is_lt}
-use Rattle.std.specs.declared.cmp.Ordering.TheVariants.{Less}
-use Rattle.std.proofs.lemmas.Bool.{lt-ltb, le-ltb}
-use Rattle.std.proofs.lemmas.List.{length-append}
-use Rattle.std.proofs.lemmas.Bool.Decides.{nat_tests}
+use Rattle.std.proofs.Common.{◌≡◌, ℕ, suc, ◌+◌, ◌-◌, ◌≤◌, true, List, [], ◌∷◌, ◌++◌, length, drop, Option, Some, None, Ok, refl, ap, ◌∙◌, append_assoc, arith, is_lt, Less, lt-ltb, le-ltb, length-append}
+use Rattle.gix_commitgraph.proofs.Common.{AllByRecursion, IsStrictlySortedBy, nat_tests, Kind, ObjectId, ParentPlace, At, Fault, id_cmp, GraphRow, most, fault_word, place_word, list_words, overflow_of, first_word, second_word, row_bytes}
+use Rattle.gix_commitgraph.proofs.Common.{overflow_words, IsPlaceAmong, IsRowAmong, ids_of_rows, row_len, id_field, first_field, second_field, row_of_fields, place_of, list_at, parents_at, is_above}
 use Rattle.std.proofs.lemmas.Map.Keys.{sorted_head, sorted_tail}
-use Rattle.gix_hash.specs.declared.Kind.{Kind}
-use Rattle.gix_hash.specs.declared.ObjectId.{ObjectId}
-use Rattle.gix_commitgraph.specs.declared.ParentPlace.{ParentPlace}
-use Rattle.gix_commitgraph.specs.declared.ParentPlace.TheVariants.{At, Fault}
-use Rattle.gix_hash.specs.Id.{id_cmp}
-use Rattle.gix_commitgraph.specs.Rows.{GraphRow}
-use Rattle.gix_commitgraph.specs.Packed.{most, fault_word, place_word, list_words, overflow_of, first_word, second_word, row_bytes, rows_bytes, overflow_words, IsPlaceAmong, IsRowAmong, ids_of_rows}
-use Rattle.gix_commitgraph.specs.PackedReading.{row_len, id_field, first_field, second_field, row_of_fields, place_of, list_at, parents_at, is_above, rows_at}
+use Rattle.gix_commitgraph.specs.Packed.{rows_bytes}
+use Rattle.gix_commitgraph.specs.PackedReading.{rows_at}
 use Rattle.gix_commitgraph.proofs.Packed.Fields.{place_word-below, has_row}
 
 place_again : (n : ℕ) (p : ParentPlace) → n ≤ most → IsPlaceAmong n p → place_of n (place_word p) ≡ Some p

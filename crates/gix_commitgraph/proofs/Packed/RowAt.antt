@@ -1,21 +1,11 @@
 -- The row of a number in packed bytes.
-use Rattle.std.proofs.Common.{◌≡◌, ℕ, suc, ◌+◌, ◌*◌, ◌<◌, ◌≤◌, List, [], ◌∷◌, ◌++◌, length, take, drop, refl, sym, ap, ◌∙◌, append_assoc, arith, All}
-use Rattle.std.specs.Prelude.{IfOk}
-use Rattle.std.proofs.lemmas.List.Elements.{All-from_recursion, recursion_from_All}
-use Rattle.std.specs.Int.{w32, to_be_bytes}
-use Rattle.std.specs.List.{flat_map, AllByRecursion}
-use Rattle.std.proofs.lemmas.List.{drop-drop, drop_at, length-append, take-append-drop, get_or-take, length-take, length-take-le}
+use Rattle.std.proofs.Common.{◌≡◌, ℕ, suc, ◌+◌, ◌*◌, ◌<◌, ◌≤◌, List, [], ◌∷◌, ◌++◌, length, take, drop, refl, sym, ap, ◌∙◌, append_assoc, arith, All, IfOk, w32, flat_map, drop-drop, drop_at, length-append, take-append-drop, get_or-take}
+use Rattle.std.proofs.Common.{length-take, length-take-le}
+use Rattle.gix_commitgraph.proofs.Common.{All-from_recursion, recursion_from_All, to_be_bytes, AllByRecursion, nat_tests, Kind, Layout, ParentPlace, At, Fault, GraphRow, no_row, row_at, most, place_word, list_words, overflow_of}
+use Rattle.gix_commitgraph.proofs.Common.{first_word, second_word, row_bytes, overflow_words, kind_of_rows, spelling, IsPlaceAmong, IsRowAmong, words_of, row_len, first_field, second_field, IsPackedAs, BeginsWithRow}
 use Rattle.std.proofs.lemmas.List.Concat.{flat_map-append}
 use Rattle.std.proofs.Math.Seq.{drop-cons}
-use Rattle.std.proofs.lemmas.Bool.Decides.{nat_tests}
-use Rattle.gix_hash.specs.declared.Kind.{Kind}
-use Rattle.gix_commitgraph.specs.declared.check.Layout.{Layout}
-use Rattle.gix_commitgraph.specs.declared.ParentPlace.{ParentPlace}
-use Rattle.gix_commitgraph.specs.declared.ParentPlace.TheVariants.{At, Fault}
-use Rattle.gix_commitgraph.specs.Rows.{GraphRow, no_row, row_at}
-use Rattle.gix_commitgraph.specs.Packed.{most, place_word, list_words, overflow_of, first_word, second_word, row_bytes, rows_bytes, overflow_words, kind_of_rows, spelling, IsPlaceAmong, IsRowAmong}
-use Rattle.gix_commitgraph.specs.PackedReading.{words_of, row_len, first_field, second_field}
-use Rattle.gix_commitgraph.specs.PackedLayout.{IsPackedAs, BeginsWithRow}
+use Rattle.gix_commitgraph.specs.Packed.{rows_bytes}
 use Rattle.gix_commitgraph.specs.Parents.{answer_of, answers_of, answer_of_word, answers_of_list, answers_of_words}
 use Rattle.gix_commitgraph.proofs.Packed.Fields.{place_word-below, has_row, length-row_bytes}
 use Rattle.gix_commitgraph.proofs.Packed.Whole.{spelling-has_body, length-rows_bytes, rows_bytes-append, words_of-bytes, AreWords-overflow_words}

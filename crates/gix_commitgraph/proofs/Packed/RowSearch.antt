@@ -1,17 +1,9 @@
 -- The row of an id, among rows in the order of their ids.
-use Rattle.std.proofs.Common.{◌≡◌, ℕ, zero, suc, ◌+◌, ◌<◌, ◌≤◌, true, false, List, [], ◌∷◌, length, get_or, Some, None, refl, sym, ap, ◌∙◌, arith}
-use Rattle.std.specs.List.Sorted.{IsStrictlySortedBy}
-use Rattle.std.specs.Ordering.{is_lt, is_eq, ordering_reverse}
-use Rattle.std.specs.declared.cmp.Ordering.{Ordering}
-use Rattle.std.specs.declared.cmp.Ordering.TheVariants.{Less, Equal, Greater}
+use Rattle.std.proofs.Common.{◌≡◌, ℕ, zero, suc, ◌+◌, ◌<◌, ◌≤◌, true, false, List, [], ◌∷◌, length, get_or, Some, None, refl, sym, ap, ◌∙◌, arith, is_lt, is_eq, Ordering, Less, Equal, Greater}
+use Rattle.gix_commitgraph.proofs.Common.{IsStrictlySortedBy, get_or-map, length-map, ObjectId, id_cmp, is_same, GraphRow, no_row, row_at, row_of, ids_of_rows, id_total}
+use Rattle.std.specs.Ordering.{ordering_reverse}
 use Rattle.std.specs.Cmp.{tied_back}
-use Rattle.std.proofs.lemmas.List.{get_or-map, length-map}
 use Rattle.std.proofs.lemmas.Map.Keys.{Less-from_sorted, sorted_tail}
-use Rattle.gix_hash.specs.declared.ObjectId.{ObjectId}
-use Rattle.gix_hash.specs.Id.{id_cmp, is_same}
-use Rattle.gix_commitgraph.specs.Rows.{GraphRow, no_row, row_at, row_of}
-use Rattle.gix_commitgraph.specs.Packed.{ids_of_rows}
-use Rattle.gix_hash.proofs.Ids.Membership.{id_total}
 
 id_at : (rows : List GraphRow) (r : ℕ) → r < length rows → get_or (ids_of_rows rows) r no_row.id ≡ (row_at rows r).id
 id_at rows r lt = get_or-map (λ row. row.id) rows r no_row no_row.id lt

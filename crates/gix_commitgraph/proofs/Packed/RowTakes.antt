@@ -1,18 +1,14 @@
 -- A row that is read is spelled as it was read.
-use Rattle.std.proofs.Common.{◌≡◌, ℕ, suc, ◌+◌, ◌*◌, ◌^◌, ◌<◌, ◌≤◌, List, [], ◌∷◌, ◌++◌, length, take, drop, refl, sym, ap, subst, ◌∙◌, append_assoc, arith, inl, inr}
-use Rattle.std.specs.Int.{w32, w64, to_be_bytes, from_be_bytes, cast_signed, cast_unsigned}
-use Rattle.std.specs.List.{flat_map, AllByRecursion}
+use Rattle.std.proofs.Common.{◌≡◌, ℕ, suc, ◌+◌, ◌*◌, ◌^◌, ◌<◌, ◌≤◌, List, [], ◌∷◌, ◌++◌, length, take, drop, refl, sym, ap, subst, ◌∙◌, append_assoc, arith, inl, inr, w32, w64, flat_map, drop-drop, take-append-drop, length-take}
+use Rattle.std.proofs.Common.{get_or-take, get_or-drop, length-drop}
+use Rattle.gix_commitgraph.proofs.Common.{to_be_bytes, from_be_bytes, cast_signed, cast_unsigned, AllByRecursion, get_or_past, Kind, ParentPlace, id_len, id_of, kind_of, bytes_of, first_word, second_word, AreBytes, IsIdOf, IsPlaceAmong}
+use Rattle.gix_commitgraph.proofs.Common.{IsRowAmong, words_of, row_len, first_field, second_field, row_of_fields}
 use Rattle.std.proofs.lemmas.Bool.{cases_lt}
 use Rattle.std.proofs.lemmas.Int.{of_z-to_z}
 use Rattle.std.proofs.Math.Facts.{Fits-of_lt, sfits_to_z}
-use Rattle.std.proofs.lemmas.List.{drop-drop, take-append-drop, length-take, get_or-take, get_or-drop, get_or_past, length-drop}
 use Rattle.std.proofs.lemmas.Nat.{be_bytes_4, be_bytes_8}
-use Rattle.gix_hash.specs.declared.Kind.{Kind}
 use Rattle.gix_hash.specs.declared.Kind.TheVariants as kind
-use Rattle.gix_commitgraph.specs.declared.ParentPlace.{ParentPlace}
-use Rattle.gix_hash.specs.Id.{id_len, id_of, kind_of, bytes_of}
-use Rattle.gix_commitgraph.specs.Packed.{first_word, second_word, row_bytes, AreBytes, IsIdOf, IsPlaceAmong, IsRowAmong}
-use Rattle.gix_commitgraph.specs.PackedReading.{words_of, row_len, first_field, second_field, row_of_fields}
+use Rattle.gix_commitgraph.specs.Packed.{row_bytes}
 use Rattle.gix_commitgraph.proofs.Packed.Fields.{row_len-is}
 
 pub AreBytes-drop : (n : ℕ) (bytes : List ℕ) → AreBytes bytes → AreBytes (drop n bytes)

@@ -1,13 +1,8 @@
 -- Rows in another order, taken one after the other.
-use Rattle.std.proofs.Common.{◌≡◌, ℕ, ◌+◌, ◌<◌, ◌≤◌, List, [], ◌∷◌, ◌++◌, length, map, get_or, take, refl, sym, ap, subst, ◌∙◌, arith}
-use Rattle.std.specs.Prelude.{slice_index}
-use Rattle.std.specs.List.{AllByRecursion}
-use Rattle.std.proofs.lemmas.List.{append-nil, length-map, take_more, map_push}
-use Rattle.gix_commitgraph.specs.declared.ParentPlace.{ParentPlace}
-use Rattle.gix_commitgraph.specs.declared.Row.{Row}
-use Rattle.gix_commitgraph.specs.Rows.{GraphRow, row_at}
-use Rattle.gix_commitgraph.specs.Packed.{most, overflow_of, row_bytes, rows_bytes, overflow_words, IsPlaceAmong}
-use Rattle.gix_commitgraph.specs.Renumbering.{row_seen, rows_seen, Entry, moved, renumbered, arranged, CanArrange}
+use Rattle.std.proofs.Common.{◌≡◌, ℕ, ◌+◌, ◌<◌, ◌≤◌, List, [], ◌∷◌, ◌++◌, length, map, get_or, take, refl, sym, ap, subst, ◌∙◌, arith, slice_index, append-nil}
+use Rattle.gix_commitgraph.proofs.Common.{AllByRecursion, length-map, take_more, map_push, ParentPlace, Row, GraphRow, row_at, most, overflow_of, row_bytes, overflow_words, IsPlaceAmong, row_seen, rows_seen, Entry, moved, renumbered}
+use Rattle.gix_commitgraph.proofs.Common.{arranged, CanArrange}
+use Rattle.gix_commitgraph.specs.Packed.{rows_bytes}
 use Rattle.gix_commitgraph.proofs.Packed.HandedRows.{read_seen, read_places, length-list_words, words_of_more, words_of_part}
 use Rattle.gix_commitgraph.proofs.Packed.Whole.{rows_bytes-append}
 

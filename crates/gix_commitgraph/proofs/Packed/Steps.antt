@@ -1,16 +1,9 @@
 -- One row after the other is read.
-use Rattle.std.proofs.Common.{◌≡◌, ℕ, ◌+◌, ◌-◌, ◌*◌, ◌/◌, true, false, List, [], ◌∷◌, length, drop, Option, Some, None, Result, Ok, Err, refl, sym, ap, ◌∙◌, arith, add-one, rules}
-use Rattle.std.proofs.lemmas.Bool.{ne_eqb}
-use Rattle.std.specs.Result.{IsOk}
-use Rattle.std.proofs.lemmas.List.{drop-drop}
-use Rattle.gix_hash.specs.declared.Kind.{Kind}
-use Rattle.gix_hash.specs.declared.ObjectId.{ObjectId}
-use Rattle.gix_commitgraph.specs.declared.Place.{Place}
+use Rattle.std.proofs.Common.{◌≡◌, ℕ, ◌+◌, ◌-◌, ◌*◌, ◌/◌, true, false, List, [], ◌∷◌, length, drop, Option, Some, None, Result, Ok, Err, refl, sym, ap, ◌∙◌, arith, add-one, rules, ne_eqb, IsOk, drop-drop}
+use Rattle.gix_commitgraph.proofs.Common.{Kind, ObjectId, Place, Layout, GraphRow, Places, words_of, read_packed, rows_in, row_len, id_field, first_field, second_field, parents_at, is_above, with_row, row_then, faults, IsLaidOut}
+use Rattle.gix_commitgraph.proofs.Common.{rows_left}
 use Rattle.gix_commitgraph.specs.declared.Place.TheVariants as place
-use Rattle.gix_commitgraph.specs.declared.check.Layout.{Layout}
-use Rattle.gix_commitgraph.specs.Rows.{GraphRow}
-use Rattle.gix_commitgraph.specs.PackedReading.{Places, words_of, read_packed, rows_in, row_len, id_field, first_field, second_field, parents_at, is_above, with_row, row_then, rows_at}
-use Rattle.gix_commitgraph.specs.PackedLayout.{faults, IsLaidOut, rows_left}
+use Rattle.gix_commitgraph.specs.PackedReading.{rows_at}
 use Rattle.gix_commitgraph.proofs.Packed.Parents.{behind}
 
 faults-with_row : (row : GraphRow) (read : Result (List GraphRow) Place) → faults (with_row row read) ≡ faults read

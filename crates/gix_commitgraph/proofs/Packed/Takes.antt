@@ -1,12 +1,7 @@
 -- Parent words and overflow words that are read are the words of the places that were read.
-use Rattle.std.proofs.Common.{◌≡◌, ℕ, ◌+◌, ◌-◌, ◌<◌, ◌≤◌, Bool, true, false, cond, ltb, eqb, List, [], ◌∷◌, ◌++◌, Option, Some, None, refl, sym, ap, subst, ◌∙◌, arith, inl, inr, ◌⊎◌}
-use Rattle.std.specs.List.{AllByRecursion}
-use Rattle.std.proofs.lemmas.Bool.{ltb-true, ltb-false, eqb-true}
-use Rattle.std.proofs.lemmas.Bool.Decides.{nat_tests}
-use Rattle.gix_commitgraph.specs.declared.ParentPlace.{ParentPlace}
-use Rattle.gix_commitgraph.specs.declared.ParentPlace.TheVariants.{At, Fault}
-use Rattle.gix_commitgraph.specs.Packed.{most, no_parent, flag, place_word, list_words, overflow_of, first_word, second_word, IsPlaceAmong}
-use Rattle.gix_commitgraph.specs.PackedReading.{place_of, Places, with_place, list_at, long_list_at, second_at, parents_at}
+use Rattle.std.proofs.Common.{◌≡◌, ℕ, ◌+◌, ◌-◌, ◌<◌, ◌≤◌, Bool, true, false, cond, ltb, eqb, List, [], ◌∷◌, ◌++◌, Option, Some, None, refl, sym, ap, subst, ◌∙◌, arith, inl, inr, ◌⊎◌, ltb-true, ltb-false, eqb-true}
+use Rattle.gix_commitgraph.proofs.Common.{AllByRecursion, nat_tests, ParentPlace, At, Fault, most, no_parent, flag, place_word, list_words, overflow_of, first_word, second_word, IsPlaceAmong, place_of, Places, with_place, list_at}
+use Rattle.gix_commitgraph.proofs.Common.{long_list_at, second_at, parents_at}
 
 -- which way a test went
 pub chosen : {A : Type 0} (b : Bool) (x y z : A) → cond b x y ≡ z → ((b ≡ true) × (x ≡ z)) ⊎ ((b ≡ false) × (y ≡ z))

@@ -1,20 +1,13 @@
 -- The parts of whole packed bytes, and that the spelling of rows is read as these rows.
-use Rattle.std.proofs.Common.{◌≡◌, ℕ, suc, ◌+◌, ◌*◌, ◌^◌, ◌<◌, ◌≤◌, true, false, cond, ltb, List, [], ◌∷◌, ◌++◌, length, drop, Some, None, Result, Ok, Err, refl, sym, ap, ◌∙◌, append_assoc, arith}
-use Rattle.std.specs.Int.{w32, to_be_bytes, from_be_bytes}
-use Rattle.std.specs.List.{flat_map, AllByRecursion}
-use Rattle.std.proofs.lemmas.Bool.{lt-ltb, le-ltb, le-leb, eq-eqb}
-use Rattle.std.proofs.lemmas.List.{drop_at, length-append}
+use Rattle.std.proofs.Common.{◌≡◌, ℕ, suc, ◌+◌, ◌*◌, ◌^◌, ◌<◌, ◌≤◌, true, false, cond, ltb, List, [], ◌∷◌, ◌++◌, length, drop, Some, None, Result, Ok, Err, refl, sym, ap, ◌∙◌, append_assoc, arith, w32, flat_map, lt-ltb, le-ltb, le-leb}
+use Rattle.std.proofs.Common.{eq-eqb, drop_at, length-append}
+use Rattle.gix_commitgraph.proofs.Common.{to_be_bytes, from_be_bytes, AllByRecursion, Kind, ParentPlace, Place, Layout, GraphRow, most, list_words, overflow_of, row_bytes, overflow_words, layout_name, kind_of_rows, IsPlaceAmong}
+use Rattle.gix_commitgraph.proofs.Common.{IsRowAmong, AreGraphRows, word_at, words_of, row_len, kind_named, may_have, is_sized, body_of, rows_at, rows_in, IsPackedAs}
 use Rattle.std.proofs.lemmas.Nat.{from_be_bytes-to_be_bytes_4}
-use Rattle.gix_hash.specs.declared.Kind.{Kind}
 use Rattle.gix_hash.specs.declared.Kind.TheVariants as kind
-use Rattle.gix_commitgraph.specs.declared.ParentPlace.{ParentPlace}
-use Rattle.gix_commitgraph.specs.declared.Place.{Place}
 use Rattle.gix_commitgraph.specs.declared.Place.TheVariants as place
-use Rattle.gix_commitgraph.specs.declared.check.Layout.{Layout}
-use Rattle.gix_commitgraph.specs.Rows.{GraphRow}
-use Rattle.gix_commitgraph.specs.Packed.{most, list_words, overflow_of, row_bytes, rows_bytes, overflow_words, layout_name, kind_of_rows, spelling, IsPlaceAmong, IsRowAmong, AreGraphRows}
-use Rattle.gix_commitgraph.specs.PackedReading.{word_at, words_of, row_len, kind_named, may_have, is_sized, body_of, rows_at, read_packed, rows_in}
-use Rattle.gix_commitgraph.specs.PackedLayout.{IsPackedAs}
+use Rattle.gix_commitgraph.specs.Packed.{rows_bytes, spelling}
+use Rattle.gix_commitgraph.specs.PackedReading.{read_packed}
 use Rattle.gix_commitgraph.proofs.Packed.Fields.{after_part, part_at, place_word-below, length-row_bytes}
 use Rattle.gix_commitgraph.proofs.Packed.ReadAgain.{rows_again, begins_none}
 

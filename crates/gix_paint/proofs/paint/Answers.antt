@@ -1,10 +1,6 @@
-use Rattle.std.proofs.Common.{[], refl, sym, ap, subst, ◌∙◌}
-use Rattle.std.proofs.lemmas.List.Elements.{Contains-append_left, Contains-append_right}
-use Rattle.std.specs.Prelude.{if◌then◌else◌}
-use Rattle.gix_object.specs.Object.{Objects}
-use Rattle.gix_paint.specs.Painting.{Paints}
-use Rattle.gix_paint.specs.Inside.Painter.{rows_in, graph_in_use, hidden_of}
-use Rattle.gix_revwalk.specs.Ids.{ids_of}
+use Rattle.std.proofs.Common.{[], refl, sym, ap, subst, ◌∙◌, if◌then◌else◌}
+use Rattle.gix_paint.proofs.Common.{Contains-append_left, Contains-append_right, Objects, Paints, graph_in_use, hidden_of, ids_of}
+use Rattle.gix_paint.specs.Inside.Painter.{rows_in}
 use Rattle.gix_paint.proofs.MarksAreWhole.{IsBlank, safe_start, holds_start, paints}
 use Rattle.gix_paint.proofs.Faults.{start_fails, turn_fails}
 use Rattle.gix_paint.proofs.Ends.{turn_less}

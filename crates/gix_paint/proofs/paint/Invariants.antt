@@ -1,7 +1,5 @@
-use Rattle.gix_object.specs.Object.{Objects}
-use Rattle.gix_paint.specs.Inside.Painter.{rows_in, room}
-use Rattle.gix_paint.specs.Painting.{IsHistory}
-use Rattle.gix_revwalk.specs.Ids.{ids_of}
+use Rattle.gix_paint.proofs.Common.{Objects, room, IsHistory, ids_of}
+use Rattle.gix_paint.specs.Inside.Painter.{rows_in}
 use Rattle.gix_paint.proofs.Invariant.{IsSafe}
 use Rattle.gix_paint.proofs.Order.{HoldsOf}
 use Rattle.gix_paint.proofs.Ends.{names}

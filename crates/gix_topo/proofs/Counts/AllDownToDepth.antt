@@ -1,26 +1,12 @@
 -- What exploring has found when it rests: all that is reached, down to the depth.
-use Rattle.std.specs.Prelude.{◌≡◌, ◌≤◌, ◌<◌, ℕ, List, Bool, true, Contains}
-use Rattle.std.proofs.Common.{sym, ap, subst, ⊎_elim, ◌∙◌, arith}
-use Rattle.gix_hash.specs.declared.ObjectId.{ObjectId}
-use Rattle.gix_object.specs.Object.{Objects}
-use Rattle.gix_commitgraph.specs.Rows.{GraphRow}
-use Rattle.gix_hash.proofs.Ids.Membership.{same_is, no_member}
-use Rattle.gix_revwalk.specs.declared.Parents.{Parents}
-use Rattle.gix_frontier.specs.declared.Side.{Side}
-use Rattle.gix_frontier.specs.Inside.Waiting.{Waiting}
-use Rattle.gix_frontier.specs.declared.Frontier.{Frontier}
-use Rattle.gix_revwalk.specs.Agreeing.{IsAgreeing}
-use Rattle.gix_topo.specs.Depth.{known_generation}
-use Rattle.gix_topo.specs.Inside.Exploring.{IsRested, side_mode, Explores}
-use Rattle.gix_frontier.specs.Inside.Frontier.{is_queued, reached, waits_for, waiting}
-use Rattle.gix_topo.specs.Inside.Searched.{IsSearched, text_next, next_by, starts_by, IsCounted, IsBegun, IsExplored}
-use Rattle.gix_topo.specs.declared.counting.Counting.{Counting}
-use Rattle.gix_revwalk.specs.Reading.{rows_of}
+use Rattle.std.proofs.Common.{◌≡◌, ◌≤◌, ◌<◌, ℕ, List, Bool, true, Contains, sym, ap, subst, ⊎_elim, ◌∙◌, arith}
+use Rattle.gix_topo.proofs.Common.{ObjectId, Objects, GraphRow, same_is, no_member, Parents, Side, Waiting, Frontier, IsAgreeing, known_generation, IsRested, side_mode, Explores, is_queued, reached, waits_for, waiting, IsSearched}
+use Rattle.gix_topo.proofs.Common.{next_by, starts_by, IsCounted, IsBegun, IsExplored, Counting, rows_of, walked_within}
+use Rattle.gix_topo.specs.Inside.Searched.{text_next}
 use Rattle.gix_topo.proofs.Counts.ExploreKeeps.{explores_keep, explores_still}
 use Rattle.gix_topo.proofs.Reading.ReadsCommit.{parents_lower}
 use Rattle.gix_topo.proofs.Counts.Frontier.{some_term, waiting-sum}
 use Rattle.gix_topo.proofs.Counts.OneSearch.{explored}
-use Rattle.gix_revwalk.proofs.ReadsWhole.{walked_within}
 
 -- what waits is below the depth
 queued_low : (objects : Objects) (rows : List GraphRow) (parents : Parents) (tips ends : List ObjectId) (f : Frontier) (in_use : Bool) (depth : ℕ)

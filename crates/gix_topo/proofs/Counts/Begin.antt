@@ -1,26 +1,8 @@
 -- What counting has found when it has begun.
-use Rattle.std.specs.Prelude.{◌≡◌, ◌≤◌, ◌<◌, ℕ, min, List, [], ◌∷◌, ◌++◌, Bool, true, false, Some, None}
-use Rattle.std.proofs.Common.{refl, sym, ap, subst, inl, inr, ⊎_elim, ◌∙◌, arith}
-use Rattle.std.proofs.lemmas.Bool.{true≢false}
+use Rattle.std.proofs.Common.{◌≡◌, ◌≤◌, ◌<◌, ℕ, min, List, [], ◌∷◌, ◌++◌, Bool, true, false, Some, None, refl, sym, ap, subst, inl, inr, ⊎_elim, ◌∙◌, arith, true≢false}
 use Rattle.std.specs.FinMap as map
-use Rattle.gix_hash.specs.declared.ObjectId.{ObjectId}
-use Rattle.gix_object.specs.Object.{Objects}
-use Rattle.gix_commitgraph.specs.Rows.{GraphRow, row_of}
-use Rattle.gix_hash.proofs.Ids.Membership.{no_member}
-use Rattle.gix_topo.specs.declared.Error.{Error}
-use Rattle.gix_topo.specs.declared.Sorting.{Sorting}
-use Rattle.gix_frontier.specs.declared.Side.{Side}
-use Rattle.gix_frontier.specs.declared.Side.TheVariants.{Tips, Ends}
-use Rattle.gix_topo.specs.declared.counting.Counting.{Counting}
-use Rattle.gix_revwalk.specs.Agreeing.{IsAgreeing}
-use Rattle.gix_topo.specs.Depth.{infinity, known_generation, least}
-use Rattle.gix_topo.specs.Inside.Exploring.{Explores, IsSamePlan, IsRested, IsExploringFault}
-use Rattle.gix_revwalk.specs.Reading.{rows_of}
-use Rattle.gix_topo.specs.Inside.Releasing.{plan_by, counted_by}
-use Rattle.gix_topo.specs.Inside.Searched.{IsCounted, IsExplored}
-use Rattle.gix_topo.specs.Inside.Starting.{HasBegun, MeetsAll}
-use Rattle.gix_topo.specs.Inside.Steady.{IsDone, AreRead, HasCounted}
-use Rattle.gix_topo.specs.Walk.{IsFirstReady, IsBuildFault, IsCommitRead, IsCounting, IsReached}
+use Rattle.gix_topo.proofs.Common.{ObjectId, Objects, GraphRow, row_of, no_member, Error, Sorting, Side, Tips, Ends, Counting, IsAgreeing, infinity, known_generation, least, Explores, IsSamePlan, IsRested, IsExploringFault, rows_of}
+use Rattle.gix_topo.proofs.Common.{plan_by, counted_by, IsCounted, IsExplored, HasBegun, MeetsAll, IsDone, AreRead, HasCounted, IsFirstReady, IsBuildFault, IsCommitRead, IsCounting, IsReached}
 use Rattle.gix_topo.proofs.Counts.ExploreKeeps.{explores_keep, explores_made, explores_same, explores_still}
 use Rattle.gix_topo.proofs.Counts.Expanded.{counts_on, explores_read}
 use Rattle.gix_topo.proofs.Counts.AllDownToDepth.{exact_there}

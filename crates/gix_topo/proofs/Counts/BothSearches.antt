@@ -1,23 +1,9 @@
 -- A step of the searches keeps them as they are to be.
-use Rattle.std.specs.Prelude.{◌≡◌, ◌≤◌, ℕ, List, ◌∷◌, true, ◌&&◌, cond, Contains, IsPermutation, sum_by, get_or}
-use Rattle.std.proofs.Common.{sym, ap, subst, ⊎_elim, ◌∙◌, arith}
+use Rattle.std.proofs.Common.{◌≡◌, ◌≤◌, ℕ, List, ◌∷◌, true, ◌&&◌, cond, Contains, IsPermutation, sum_by, get_or, sym, ap, subst, ⊎_elim, ◌∙◌, arith}
 use Rattle.std.specs.FinMap as map
-use Rattle.std.proofs.lemmas.List.Sorted.{Contains-permutation, IsPermutation-sym}
+use Rattle.gix_topo.proofs.Common.{Contains-permutation, IsPermutation-sym, ObjectId, id_cmp, is_same, is_among, Objects, GraphRow, same_itself, Contains-there, Parents, Side, Progress, Queued, Done, Known, Waiting, Frontier, is_side}
+use Rattle.gix_topo.proofs.Common.{is_queued, reached, waits_for, waiting, IsSearch, Finishes, IsSearched, next_by, starts_by}
 use Rattle.std.proofs.lemmas.List.Sums.{get_or-le-sum_by}
-use Rattle.gix_hash.specs.declared.ObjectId.{ObjectId}
-use Rattle.gix_hash.specs.Id.{id_cmp, is_same, is_among}
-use Rattle.gix_object.specs.Object.{Objects}
-use Rattle.gix_commitgraph.specs.Rows.{GraphRow}
-use Rattle.gix_hash.proofs.Ids.Membership.{same_itself, Contains-there}
-use Rattle.gix_revwalk.specs.declared.Parents.{Parents}
-use Rattle.gix_frontier.specs.declared.Side.{Side}
-use Rattle.gix_frontier.specs.declared.Progress.{Progress}
-use Rattle.gix_frontier.specs.declared.Progress.TheVariants.{Queued, Done}
-use Rattle.gix_frontier.specs.Inside.Known.{Known}
-use Rattle.gix_frontier.specs.Inside.Waiting.{Waiting}
-use Rattle.gix_frontier.specs.declared.Frontier.{Frontier}
-use Rattle.gix_frontier.specs.Inside.Frontier.{is_side, is_queued, reached, waits_for, waiting, IsSearch, Finishes}
-use Rattle.gix_topo.specs.Inside.Searched.{IsSearched, next_by, starts_by}
 use Rattle.gix_topo.proofs.Counts.Frontier.{moved, side_is, side_itself, waiting-sum, waiting-permutation}
 use Rattle.gix_topo.proofs.Counts.MeetsParents.{AreMet, is_new}
 use Rattle.gix_topo.proofs.Counts.OneSearch.{search_steps}

@@ -1,19 +1,10 @@
 -- Counts of children: what is done or taken does to them, and what a count of 0 says.
-use Rattle.std.specs.Prelude.{◌≡◌, ◌≤◌, ℕ, ◌+◌, List, ◌∷◌, Bool, true, false, ◌&&◌, ◌||◌, cond, Contains, IsPermutation, sum_by, get_or}
-use Rattle.std.proofs.Common.{refl, sym, ap, subst, ◌∙◌, arith}
-use Rattle.std.specs.List.{remove}
+use Rattle.std.proofs.Common.{◌≡◌, ◌≤◌, ℕ, ◌+◌, List, ◌∷◌, Bool, true, false, ◌&&◌, ◌||◌, cond, Contains, IsPermutation, sum_by, get_or, refl, sym, ap, subst, ◌∙◌, arith, remove}
 use Rattle.std.proofs.lemmas.List.Recursion.{is_sum_by}
-use Rattle.std.proofs.lemmas.List.Sorted.{IsPermutation-remove, sum_by-IsPermutation}
+use Rattle.gix_topo.proofs.Common.{IsPermutation-remove, sum_by-IsPermutation, ObjectId, is_same, is_among, same_is, among_from, among_is, Frontier, known_of, IsTally, naming, among_times, times_is_among, times_moved}
 use Rattle.std.proofs.lemmas.List.Sums.{get_or-le-sum_by}
-use Rattle.gix_hash.specs.declared.ObjectId.{ObjectId}
-use Rattle.gix_hash.specs.Id.{is_same, is_among}
-use Rattle.gix_hash.proofs.Ids.Membership.{same_is, among_from, among_is}
-use Rattle.gix_frontier.specs.declared.Frontier.{Frontier}
-use Rattle.gix_frontier.specs.Inside.Frontier.{known_of}
-use Rattle.gix_topo.specs.Inside.Searched.{IsTally, naming}
 use Rattle.gix_revwalk.specs.Ids.{times}
 use Rattle.gix_topo.proofs.Counts.Frontier.{some_term}
-use Rattle.gix_revwalk.proofs.NewIds.{among_times, times_is_among, times_moved}
 
 abbrev pub children_of : Frontier → ObjectId → ℕ
 children_of f p = (known_of f.known p).indegree

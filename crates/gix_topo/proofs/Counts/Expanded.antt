@@ -1,30 +1,11 @@
 -- Counting is exact down to the depth.
-use Rattle.std.specs.Prelude.{◌≡◌, ◌⊎◌, ◌≤◌, ℕ, ◌+◌, List, ◌∷◌, Bool, true, false, ◌||◌, Some, Contains, length, slice_get}
-use Rattle.std.proofs.Common.{refl, sym, subst, inl, inr, ⊎_elim, ◌∙◌, arith}
-use Rattle.std.proofs.lemmas.Bool.Decides.{nat_tests}
-use Rattle.std.proofs.lemmas.Bool.{true≢false, or_cases, cases_Bool}
-use Rattle.gix_hash.specs.declared.ObjectId.{ObjectId}
-use Rattle.gix_object.specs.Object.{Objects}
-use Rattle.gix_hash.proofs.Ids.Membership.{same_is, same_itself, Contains-here, Contains-there, Contains-cons_cases}
-use Rattle.gix_topo.specs.declared.Sorting.{Sorting}
-use Rattle.gix_frontier.specs.declared.Side.{Side}
-use Rattle.gix_frontier.specs.declared.Side.TheVariants.{Tips, Ends}
-use Rattle.gix_frontier.specs.Inside.Waiting.{Waiting}
-use Rattle.gix_frontier.specs.declared.Frontier.{Frontier}
-use Rattle.gix_topo.specs.declared.counting.Counting.{Counting}
-use Rattle.gix_revwalk.specs.Agreeing.{IsAgreeing}
-use Rattle.gix_topo.specs.Depth.{known_generation}
-use Rattle.gix_topo.specs.Inside.Exploring.{is_pending, IsRested, Steps, Explores, IsSamePlan}
-use Rattle.gix_frontier.specs.Inside.Frontier.{is_done, reached}
-use Rattle.gix_revwalk.specs.Reading.{rows_of, DropsRows}
-use Rattle.gix_topo.specs.Inside.Releasing.{plan_by, counted_by}
-use Rattle.gix_topo.specs.Inside.Searched.{IsCounted, IsSearched, IsBegun, IsExplored}
-use Rattle.gix_topo.specs.Inside.Steady.{IsDone, IsReadOnce, AreRead, HasCounted}
-use Rattle.gix_topo.specs.Walk.{TopoPlan, IsNumberOf, IsInDepth, IsBrokenRow, IsCounting, IsReached}
+use Rattle.std.proofs.Common.{◌≡◌, ◌⊎◌, ◌≤◌, ℕ, ◌+◌, List, ◌∷◌, Bool, true, false, ◌||◌, Some, Contains, length, slice_get, refl, sym, subst, inl, inr, ⊎_elim, ◌∙◌, arith, true≢false}
+use Rattle.gix_topo.proofs.Common.{nat_tests, or_cases, cases_Bool, ObjectId, Objects, same_is, same_itself, Contains-here, Contains-there, Contains-cons_cases, Sorting, Side, Tips, Ends, Waiting, Frontier, Counting, IsAgreeing}
+use Rattle.gix_topo.proofs.Common.{known_generation, is_pending, IsRested, Steps, Explores, IsSamePlan, is_done, reached, rows_of, DropsRows, plan_by, counted_by, IsCounted, IsSearched, IsBegun, IsExplored, IsDone, IsReadOnce, AreRead}
+use Rattle.gix_topo.proofs.Common.{HasCounted, TopoPlan, IsNumberOf, IsInDepth, IsBrokenRow, IsCounting, IsReached, row_stands, corrupt_row}
 use Rattle.gix_topo.proofs.Counts.IndegreeZero.{done_seen}
 use Rattle.gix_topo.proofs.Counts.ExploreKeeps.{steps_keep, explores_by, explores_keep, done_now, entry_queued}
 use Rattle.gix_topo.proofs.Counts.AllDownToDepth.{exact_there}
-use Rattle.gix_revwalk.proofs.ReadsWhole.{row_stands, corrupt_row}
 use Rattle.gix_topo.proofs.Reading.OnceRead.{once_still, once_whole}
 use Rattle.gix_topo.proofs.Counts.MakesReady.{reads_stands, reads_drops}
 

@@ -1,27 +1,11 @@
 -- Exploring ends: each step leaves less to do.
-use Rattle.std.specs.Prelude.{◌≡◌, ◌≤◌, ◌<◌, List, ◌∷◌, ◌&&◌, cond, Contains, length, sum_by}
-use Rattle.std.proofs.Common.{sym, ap, subst, ◌∙◌, arith}
-use Rattle.std.proofs.lemmas.List.Sorted.{length_permutation}
+use Rattle.std.proofs.Common.{◌≡◌, ◌≤◌, ◌<◌, List, ◌∷◌, ◌&&◌, cond, Contains, length, sum_by, sym, ap, subst, ◌∙◌, arith}
+use Rattle.gix_topo.proofs.Common.{length_permutation, is_same, among_is, Parents, Side, Tips, Ends, Done, is_side, reached, ObjectId, Objects, Counting, Steps, IsSamePlan, side_mode, by_mode, rows_of, named_ids, walked_within}
 use Rattle.std.proofs.lemmas.List.Sums.{sum_by-le-sum_by}
-use Rattle.gix_hash.specs.Id.{is_same}
-use Rattle.gix_hash.proofs.Ids.Membership.{among_is}
-use Rattle.gix_revwalk.specs.declared.Parents.{Parents}
-use Rattle.gix_frontier.specs.declared.Side.{Side}
-use Rattle.gix_frontier.specs.declared.Side.TheVariants.{Tips, Ends}
-use Rattle.gix_frontier.specs.declared.Progress.TheVariants.{Done}
-use Rattle.gix_frontier.specs.Inside.Frontier.{is_side, reached}
-use Rattle.gix_hash.specs.declared.ObjectId.{ObjectId}
-use Rattle.gix_object.specs.Object.{Objects}
-use Rattle.gix_topo.specs.declared.counting.Counting.{Counting}
-use Rattle.gix_topo.specs.Inside.Exploring.{Steps, IsSamePlan, side_mode}
-use Rattle.gix_revwalk.specs.Commits.{by_mode}
-use Rattle.gix_revwalk.specs.Reading.{rows_of}
-use Rattle.gix_topo.specs.Walk.{named_ids}
 use Rattle.gix_topo.proofs.Counts.Frontier.{moved, unseen_by, to_do}
 use Rattle.gix_topo.proofs.Counts.MeetsParents.{parents_met}
 use Rattle.gix_topo.proofs.Readiness.IsReady.{last_from}
 use Rattle.gix_topo.proofs.Reading.ReadsCommit.{reads_named}
-use Rattle.gix_revwalk.proofs.ReadsWhole.{walked_within}
 
 module _ {F : Type 0} (objects : F → Objects) (faulty : F → ObjectId → Type 0) where
   -- the ids that rows and texts name

@@ -1,26 +1,9 @@
 -- What a step and exploring do; with rows that agree they keep searches and counts as they are to be.
-use Rattle.std.specs.Prelude.{◌≡◌, ◌+◌, List, [], Bool, true, false, ◌&&◌, ◌||◌, cond, Contains}
-use Rattle.std.proofs.Common.{refl, sym, ap, subst, ◌∙◌, arith}
-use Rattle.std.proofs.lemmas.Bool.{false≢true, or_right}
-use Rattle.gix_hash.specs.declared.ObjectId.{ObjectId}
-use Rattle.gix_hash.specs.Id.{is_same, is_among}
-use Rattle.gix_hash.proofs.Ids.Membership.{among_from, among_is}
-use Rattle.gix_object.specs.Object.{Objects}
-use Rattle.gix_commitgraph.specs.Rows.{GraphRow}
-use Rattle.gix_revwalk.specs.declared.Parents.{Parents}
-use Rattle.gix_frontier.specs.declared.Side.{Side}
-use Rattle.gix_frontier.specs.declared.Side.TheVariants.{Tips, Ends}
-use Rattle.gix_frontier.specs.declared.Progress.TheVariants.{Queued, Done}
-use Rattle.gix_frontier.specs.declared.Frontier.{Frontier}
-use Rattle.gix_topo.specs.declared.counting.Counting.{Counting}
-use Rattle.gix_revwalk.specs.Agreeing.{IsAgreeing}
-use Rattle.gix_topo.specs.Inside.Exploring.{Steps, Explores, itself, further, IsSamePlan, side_mode, is_pending}
-use Rattle.gix_frontier.specs.Inside.Frontier.{is_side, is_done, reached, known_of, with_progress}
-use Rattle.gix_revwalk.specs.Commits.{by_mode}
-use Rattle.gix_revwalk.specs.Reading.{rows_of}
-use Rattle.gix_topo.specs.Inside.Searched.{IsCounted, next_by}
+use Rattle.std.proofs.Common.{◌≡◌, ◌+◌, List, [], Bool, true, false, ◌&&◌, ◌||◌, cond, Contains, refl, sym, ap, subst, ◌∙◌, arith}
+use Rattle.gix_topo.proofs.Common.{false≢true, or_right, ObjectId, is_same, is_among, among_from, among_is, Objects, GraphRow, Parents, Side, Tips, Ends, Queued, Done, Frontier, Counting, IsAgreeing, Steps, Explores, IsSamePlan}
+use Rattle.gix_topo.proofs.Common.{side_mode, is_pending, is_side, is_done, reached, known_of, with_progress, by_mode, rows_of, IsCounted, next_by, last_places}
+use Rattle.gix_topo.specs.Inside.Exploring.{itself, further}
 use Rattle.gix_revwalk.specs.Ids.{times}
-use Rattle.gix_topo.specs.TopoOrder.{last_places}
 use Rattle.gix_topo.proofs.Counts.ExploreEnds.{same_on}
 use Rattle.gix_topo.proofs.Counts.Frontier.{kept, has_seen, taken_from}
 use Rattle.gix_topo.proofs.Counts.MeetsParents.{AreMet, is_new, counted_of, parents_met}

@@ -1,22 +1,10 @@
 -- What a change at one id does to what is known of all, and how much two searches have still to do.
-use Rattle.std.specs.Prelude.{◌≡◌, ◌≤◌, ◌<◌, ℕ, suc, ◌+◌, List, [], ◌∷◌, Bool, true, ◌&&◌, cond, length, Contains, IsPermutation, sum_by}
-use Rattle.std.proofs.Common.{sym, ⊎_elim, ◌∙◌, arith, refl}
-use Rattle.std.proofs.lemmas.Bool.{cases_lt}
-use Rattle.std.specs.List.{remove}
+use Rattle.std.proofs.Common.{◌≡◌, ◌≤◌, ◌<◌, ℕ, suc, ◌+◌, List, [], ◌∷◌, Bool, true, ◌&&◌, cond, length, Contains, IsPermutation, sum_by, sym, ⊎_elim, ◌∙◌, arith, refl, remove}
+use Rattle.gix_topo.proofs.Common.{cases_lt, IsPermutation-remove, IsPermutation-sym, Contains-permutation, sum_by-IsPermutation, ObjectId, id_cmp, is_same, id_total, same_is, Contains-here, Contains-there, Side, Tips, Ends, Progress}
+use Rattle.gix_topo.proofs.Common.{Known, Waiting, Frontier, is_side, is_seen, known_of, progress_of, with_progress, reached, waits_for, waiting}
 use Rattle.std.proofs.lemmas.List.Recursion.{is_sum_by}
 use Rattle.std.specs.FinMap as map
-use Rattle.std.proofs.lemmas.List.Sorted.{IsPermutation-remove, IsPermutation-sym, Contains-permutation, sum_by-IsPermutation}
 use Rattle.std.proofs.lemmas.List.Sums.{sum_by-cons, sum_by-le-sum_by}
-use Rattle.gix_hash.specs.declared.ObjectId.{ObjectId}
-use Rattle.gix_hash.specs.Id.{id_cmp, is_same}
-use Rattle.gix_hash.proofs.Ids.Membership.{id_total, same_is, Contains-here, Contains-there}
-use Rattle.gix_frontier.specs.declared.Side.{Side}
-use Rattle.gix_frontier.specs.declared.Side.TheVariants.{Tips, Ends}
-use Rattle.gix_frontier.specs.declared.Progress.{Progress}
-use Rattle.gix_frontier.specs.Inside.Known.{Known}
-use Rattle.gix_frontier.specs.Inside.Waiting.{Waiting}
-use Rattle.gix_frontier.specs.declared.Frontier.{Frontier}
-use Rattle.gix_frontier.specs.Inside.Frontier.{is_side, is_seen, known_of, progress_of, with_progress, reached, waits_for, waiting}
 
 -- sides
 pub side_is : (a b : Side) → is_side a b ≡ true → a ≡ b

@@ -1,26 +1,10 @@
 -- What indegree 0 means after exploring: no child is left that wasn't taken; and what the ends reach was seen.
-use Rattle.std.specs.Prelude.{◌≡◌, ◌≤◌, ℕ, List, Bool, true, false, Contains}
-use Rattle.std.proofs.Common.{sym, ◌∙◌, arith}
-use Rattle.std.proofs.lemmas.Bool.{true≢false, true_from_ne_false, false_from_ne_true}
-use Rattle.gix_hash.specs.declared.ObjectId.{ObjectId}
-use Rattle.gix_object.specs.Object.{Objects}
-use Rattle.gix_commitgraph.specs.Rows.{GraphRow}
-use Rattle.gix_hash.proofs.Ids.Membership.{among_from}
-use Rattle.gix_revwalk.specs.declared.Parents.{Parents}
-use Rattle.gix_frontier.specs.declared.Side.{Side}
-use Rattle.gix_frontier.specs.declared.Side.TheVariants.{Tips, Ends}
-use Rattle.gix_frontier.specs.declared.Progress.{Progress}
-use Rattle.gix_frontier.specs.declared.Frontier.{Frontier}
-use Rattle.gix_revwalk.specs.Agreeing.{IsAgreeing}
-use Rattle.gix_topo.specs.Depth.{known_generation}
-use Rattle.gix_frontier.specs.Inside.Frontier.{is_seen, is_done, reached}
-use Rattle.gix_revwalk.specs.Commits.{by_mode}
-use Rattle.gix_hash.specs.Reach.{Reaches, step}
-use Rattle.gix_topo.specs.Inside.Searched.{IsExplored, IsTally, text_next, next_by, starts_by}
-use Rattle.gix_topo.specs.WalkSet.{IsInWalk, IsChild}
+use Rattle.std.proofs.Common.{◌≡◌, ◌≤◌, ℕ, List, Bool, true, false, Contains, sym, ◌∙◌, arith, true≢false}
+use Rattle.gix_topo.proofs.Common.{true_from_ne_false, false_from_ne_true, ObjectId, Objects, GraphRow, among_from, Parents, Side, Tips, Ends, Progress, Frontier, IsAgreeing, known_generation, is_seen, is_done, reached, by_mode, Reaches}
+use Rattle.gix_topo.proofs.Common.{step, IsExplored, IsTally, next_by, starts_by, IsInWalk, IsChild, walked_within}
+use Rattle.gix_topo.specs.Inside.Searched.{text_next}
 use Rattle.gix_topo.proofs.Counts.Children.{tally_counts, tally_child, IsOpenChild}
 use Rattle.gix_topo.proofs.Reading.ReadsCommit.{parents_lower}
-use Rattle.gix_revwalk.proofs.ReadsWhole.{walked_within}
 
 pub done_seen : (p : Progress) → is_done p ≡ true → is_seen p ≡ true
 done_seen p e = grind arith

@@ -1,31 +1,12 @@
 -- What ids do to a walk, one after the other, where some of them become ready.
-use Rattle.std.specs.Prelude.{◌≡◌, ℕ, List, [], ◌∷◌, ◌++◌, Bool, true, false, ◌||◌, cond, Ok, Contains}
-use Rattle.std.proofs.Common.{refl, sym, ap, subst, ⊎_elim, ◌∙◌, arith}
-use Rattle.std.proofs.lemmas.Bool.{true≢false, cases_Bool}
-use Rattle.std.proofs.lemmas.Bool.Decides.{nat_tests}
-use Rattle.std.proofs.lemmas.List.Elements.{Contains-append_cases}
-use Rattle.gix_hash.specs.declared.ObjectId.{ObjectId}
-use Rattle.gix_hash.specs.Id.{is_same, is_among}
-use Rattle.gix_object.specs.Object.{Objects}
-use Rattle.gix_commitgraph.specs.Rows.{GraphRow}
-use Rattle.gix_hash.proofs.Ids.Membership.{same_is, among-append, among-one, Contains-here, Contains-there, no_member}
-use Rattle.gix_revwalk.specs.declared.Info.{Info}
-use Rattle.gix_frontier.specs.declared.Side.{Side}
-use Rattle.gix_frontier.specs.declared.Frontier.{Frontier}
-use Rattle.gix_topo.specs.declared.walk.Walk.{Walk}
-use Rattle.gix_topo.specs.Reading.{Reads, by_row, by_text}
-use Rattle.gix_revwalk.specs.Reading.{DropsRows}
-use Rattle.gix_frontier.specs.Inside.Known.{Known}
-use Rattle.gix_frontier.specs.Inside.Frontier.{is_seen, known_of, progress_of, reached, is_due, MarksReady}
-use Rattle.gix_topo.specs.Inside.Releasing.{plan_of, with_frontier, Pushes}
-use Rattle.gix_topo.specs.Inside.Steady.{AreRead}
-use Rattle.gix_topo.specs.Walk.{Ready, ready_ids, IsFound}
+use Rattle.std.proofs.Common.{◌≡◌, ℕ, List, [], ◌∷◌, ◌++◌, Bool, true, false, ◌||◌, cond, Ok, Contains, refl, sym, ap, subst, ⊎_elim, ◌∙◌, arith, true≢false}
+use Rattle.gix_topo.proofs.Common.{cases_Bool, nat_tests, Contains-append_cases, ObjectId, is_same, is_among, Objects, GraphRow, same_is, among-append, among-one, Contains-here, Contains-there, no_member, Info, Side, Frontier, Walk}
+use Rattle.gix_topo.proofs.Common.{Reads, by_row, by_text, DropsRows, Known, is_seen, known_of, progress_of, reached, is_due, MarksReady, plan_of, with_frontier, Pushes, AreRead, Ready, ready_ids, IsFound, only_member}
 use Rattle.gix_revwalk.proofs.Rows.{in_use_before, dropped_by}
 use Rattle.gix_topo.proofs.Reading.OnceRead.{all_still, found_later, found_pushed}
 use Rattle.gix_topo.proofs.Readiness.ReadyIds.{ids-append}
 use Rattle.gix_topo.proofs.Counts.Frontier.{known-insert, kept}
 use Rattle.gix_topo.proofs.Counts.Children.{children_of, was_ready_of}
-use Rattle.gix_hash.proofs.Lists.{only_member}
 
 -- whether an id is due, by what is known of it
 pub due_by : {found known : Known} {children : ℕ} → found ≡ known → children ≡ found.indegree → is_due known.indegree known ≡ is_due children found

@@ -1,22 +1,10 @@
 -- What a side does by meeting ids, to what is known of all and to what waits.
-use Rattle.std.specs.Prelude.{◌≡◌, ◌≤◌, ◌⊎◌, ℕ, suc, ◌+◌, List, [], ◌∷◌, ◌&&◌, Bool, true, false, not, cond, Contains, IsPermutation, length, sum_by}
-use Rattle.std.proofs.Common.{refl, sym, ap, subst, inl, inr, ⊎_elim, ◌∙◌, arith}
-use Rattle.std.proofs.lemmas.List.Sorted.{Contains-permutation, IsPermutation-sym, length_permutation}
+use Rattle.std.proofs.Common.{◌≡◌, ◌≤◌, ◌⊎◌, ℕ, suc, ◌+◌, List, [], ◌∷◌, ◌&&◌, Bool, true, false, not, cond, Contains, IsPermutation, length, sum_by, refl, sym, ap, subst, inl, inr, ⊎_elim, ◌∙◌, arith}
+use Rattle.gix_topo.proofs.Common.{Contains-permutation, IsPermutation-sym, length_permutation, ObjectId, is_same, is_among, same_is, same_itself, Contains-here, Contains-there, Contains-cons_cases, only_member, GraphRow, Side, Tips}
+use Rattle.gix_topo.proofs.Common.{Ends, Queued, Waiting, waiting_by, Frontier, known_generation, is_side, is_seen, known_of, with_progress, reached, waiting, Meets, seen, Counts, Follows, MeetsAll, met, meets}
 use Rattle.std.specs.FinMap as map
-use Rattle.gix_hash.specs.declared.ObjectId.{ObjectId}
-use Rattle.gix_hash.specs.Id.{is_same, is_among}
-use Rattle.gix_hash.proofs.Ids.Membership.{same_is, same_itself, Contains-here, Contains-there, Contains-cons_cases}
-use Rattle.gix_hash.proofs.Lists.{only_member}
-use Rattle.gix_commitgraph.specs.Rows.{GraphRow}
-use Rattle.gix_frontier.specs.declared.Side.{Side}
-use Rattle.gix_frontier.specs.declared.Side.TheVariants.{Tips, Ends}
-use Rattle.gix_frontier.specs.declared.Progress.TheVariants.{Queued}
-use Rattle.gix_frontier.specs.Inside.Waiting.{Waiting, waiting_by}
-use Rattle.gix_frontier.specs.declared.Frontier.{Frontier}
-use Rattle.gix_topo.specs.Depth.{known_generation}
-use Rattle.gix_frontier.specs.Inside.Frontier.{is_side, is_seen, known_of, with_progress, reached, waiting, Meets, seen, unseen, Counts}
-use Rattle.gix_topo.specs.Inside.Exploring.{Follows, none, more}
-use Rattle.gix_topo.specs.Inside.Starting.{MeetsAll, met, meets}
+use Rattle.gix_frontier.specs.Inside.Frontier.{unseen}
+use Rattle.gix_topo.specs.Inside.Exploring.{none, more}
 use Rattle.gix_revwalk.specs.Ids.{times}
 use Rattle.gix_topo.proofs.Counts.Frontier.{known-insert, kept, moved, unmoved, side_is, has_seen, unseen_by, to_do, sum_less, waiting-permutation}
 use Rattle.gix_topo.proofs.Counts.Children.{children_of, was_ready_of}

@@ -1,22 +1,8 @@
 -- Both sides meet what they start from, before anything is read.
-use Rattle.std.specs.Prelude.{◌≡◌, ◌+◌, List, [], Bool, false, not, ◌&&◌, cond, Contains}
-use Rattle.std.proofs.Common.{sym, ap, subst, ⊎_elim, ◌∙◌, arith}
-use Rattle.std.proofs.lemmas.Bool.{true≢false}
+use Rattle.std.proofs.Common.{◌≡◌, ◌+◌, List, [], Bool, false, not, ◌&&◌, cond, Contains, sym, ap, subst, ⊎_elim, ◌∙◌, arith, true≢false}
 use Rattle.std.specs.FinMap as map
-use Rattle.gix_hash.specs.declared.ObjectId.{ObjectId}
-use Rattle.gix_hash.specs.Id.{id_cmp, is_among}
-use Rattle.gix_object.specs.Object.{Objects}
-use Rattle.gix_commitgraph.specs.Rows.{GraphRow}
-use Rattle.gix_hash.proofs.Ids.Membership.{among_from, among_is, no_member}
-use Rattle.gix_revwalk.specs.declared.Parents.{Parents}
-use Rattle.gix_frontier.specs.declared.Side.{Side}
-use Rattle.gix_frontier.specs.declared.Side.TheVariants.{Tips, Ends}
-use Rattle.gix_frontier.specs.declared.Progress.TheVariants.{Unseen, Queued}
-use Rattle.gix_frontier.specs.declared.Frontier.{Frontier}
-use Rattle.gix_frontier.specs.Inside.Frontier.{is_done, unknown, known_or, known_of, reached, waiting}
-use Rattle.gix_hash.specs.Reach.{start}
-use Rattle.gix_topo.specs.Inside.Searched.{IsSearched, IsCounted, IsBegun, starts_by}
-use Rattle.gix_topo.specs.Inside.Starting.{MeetsAll}
+use Rattle.gix_topo.proofs.Common.{ObjectId, id_cmp, is_among, Objects, GraphRow, among_from, among_is, no_member, Parents, Side, Tips, Ends, Unseen, Queued, Frontier, is_done, unknown, known_or, known_of, reached, waiting, start}
+use Rattle.gix_topo.proofs.Common.{IsSearched, IsCounted, IsBegun, starts_by, MeetsAll}
 use Rattle.gix_topo.proofs.Counts.MeetsParents.{AreMet, all_met}
 use Rattle.gix_topo.proofs.Counts.Children.{children_of, was_ready_of}
 

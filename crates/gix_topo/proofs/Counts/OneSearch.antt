@@ -1,14 +1,6 @@
 -- A search that meets, reads and finishes ids, and what it has found when little is left in its queue.
-use Rattle.std.specs.Prelude.{◌≡◌, ◌≤◌, ◌<◌, ◌⊎◌, ℕ, ◌+◌, List, [], ◌∷◌, Bool, true, not, ◌&&◌, cond, Contains}
-use Rattle.std.proofs.Common.{subst, ⊎_elim, arith}
-use Rattle.gix_hash.specs.declared.ObjectId.{ObjectId}
-use Rattle.gix_hash.specs.Id.{is_same, is_among}
-use Rattle.gix_hash.proofs.Ids.Membership.{same_is, same_itself}
-use Rattle.gix_frontier.specs.declared.Progress.{Progress}
-use Rattle.gix_frontier.specs.declared.Progress.TheVariants.{Queued, Done}
-use Rattle.gix_hash.specs.Reach.{Reaches, start, step}
-use Rattle.gix_frontier.specs.Inside.Frontier.{is_seen, is_queued, is_done, IsSearch}
-use Rattle.gix_hash.proofs.Lists.{only_member}
+use Rattle.std.proofs.Common.{◌≡◌, ◌≤◌, ◌<◌, ◌⊎◌, ℕ, ◌+◌, List, [], ◌∷◌, Bool, true, not, ◌&&◌, cond, Contains, subst, ⊎_elim, arith}
+use Rattle.gix_topo.proofs.Common.{ObjectId, is_same, is_among, same_is, same_itself, Progress, Queued, Done, Reaches, start, step, is_seen, is_queued, is_done, IsSearch, only_member}
 use Rattle.gix_revwalk.proofs.Reached.{done_or_waits}
 
 -- what is seen after a step did it, or was met by it, or was seen before

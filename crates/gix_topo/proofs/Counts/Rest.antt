@@ -1,17 +1,9 @@
 -- Where the greatest generation that waits is below the depth, all that waits is.
-use Rattle.std.specs.Prelude.{◌≡◌, ◌≤◌, ◌<◌, ℕ, List, [], ◌∷◌, false, Contains}
-use Rattle.std.proofs.Common.{ap, ⊎_elim, arith}
+use Rattle.std.proofs.Common.{◌≡◌, ◌≤◌, ◌<◌, ℕ, List, [], ◌∷◌, false, Contains, ap, ⊎_elim, arith, leb-false, nat_cmp, min}
 use Rattle.std.proofs.Math.Dec.{leb}
-use Rattle.std.proofs.lemmas.Bool.{leb-false}
-use Rattle.std.proofs.lemmas.Bool.Decides.{nat_tests}
-use Rattle.std.specs.Ordering.{nat_cmp}
+use Rattle.gix_topo.proofs.Common.{nat_tests, ObjectId, GraphRow, least, known_generation, Contains-cons_cases, no_member}
 use Rattle.std.specs.BinaryHeap.{lt_by_cmp, IsUpperBound}
 use Rattle.gix_revwalk.specs.PriorityQueue.{keys}
-use Rattle.std.proofs.Common.{min}
-use Rattle.gix_hash.specs.declared.ObjectId.{ObjectId}
-use Rattle.gix_commitgraph.specs.Rows.{GraphRow}
-use Rattle.gix_topo.specs.Depth.{least, known_generation}
-use Rattle.gix_hash.proofs.Ids.Membership.{Contains-cons_cases, no_member}
 
 no_greater : (k y : ℕ) → lt_by_cmp nat_cmp k y ≡ false → y ≤ k
 no_greater k y e = grind (arith, nat_tests)

@@ -1,30 +1,9 @@
 -- Rows are dropped only for a corrupt one, and a commit with a row is read from the store only then.
-use Rattle.std.specs.Prelude.{◌≡◌, ◌⊎◌, ℕ, List, Bool, true, Option, Some, None, Ok, Contains}
-use Rattle.std.proofs.Common.{refl, ap, subst, ⊎_elim, arith, inl, inr}
-use Rattle.std.proofs.lemmas.Bool.{cases_Bool}
-use Rattle.gix_hash.specs.declared.ObjectId.{ObjectId}
-use Rattle.gix_object.specs.Object.{Objects}
-use Rattle.gix_commitgraph.specs.Rows.{GraphRow, row_of}
-use Rattle.gix_revwalk.specs.declared.Info.{Info}
-use Rattle.gix_topo.specs.declared.Sorting.{Sorting}
-use Rattle.gix_frontier.specs.declared.Side.{Side}
-use Rattle.gix_frontier.specs.declared.Side.TheVariants.{Tips, Ends}
-use Rattle.gix_frontier.specs.declared.Progress.{Progress}
-use Rattle.gix_frontier.specs.Inside.Waiting.{Waiting}
-use Rattle.gix_topo.specs.declared.counting.Counting.{Counting}
-use Rattle.gix_topo.specs.declared.walk.Walk.{Walk}
-use Rattle.gix_revwalk.specs.Agreeing.{IsAgreeing}
-use Rattle.gix_topo.specs.Depth.{infinity, known_generation, generation_in}
-use Rattle.gix_topo.specs.Inside.Exploring.{Explores, itself, further}
-use Rattle.gix_frontier.specs.Inside.Frontier.{is_seen, is_queued}
-use Rattle.gix_hash.specs.Reach.{Reaches}
-use Rattle.gix_revwalk.specs.Reading.{rows_of, DropsRows}
+use Rattle.std.proofs.Common.{◌≡◌, ◌⊎◌, ℕ, List, Bool, true, Option, Some, None, Ok, Contains, refl, ap, subst, ⊎_elim, arith, inl, inr}
+use Rattle.gix_topo.proofs.Common.{cases_Bool, ObjectId, Objects, GraphRow, row_of, Info, Sorting, Side, Tips, Ends, Progress, Waiting, Counting, Walk, IsAgreeing, infinity, known_generation, generation_in, Explores, is_seen, is_queued}
+use Rattle.gix_topo.proofs.Common.{Reaches, rows_of, DropsRows, Reads, HasNoRowInUse, plan_by, plan_of, IsCounted, next_by, starts_by, AreDroppedFor, TopoPlan, Ready, IsReached, DropsBy}
+use Rattle.gix_topo.specs.Inside.Exploring.{itself, further}
 use Rattle.gix_revwalk.specs.RowParents.{IsUnrowed}
-use Rattle.gix_topo.specs.Reading.{Reads, HasNoRowInUse}
-use Rattle.gix_topo.specs.Inside.Releasing.{plan_by, plan_of}
-use Rattle.gix_topo.specs.Inside.Searched.{IsCounted, next_by, starts_by}
-use Rattle.gix_topo.specs.Inside.Steady.{AreDroppedFor}
-use Rattle.gix_topo.specs.Walk.{TopoPlan, Ready, IsReached, DropsBy}
 use Rattle.gix_topo.proofs.Counts.ExploreKeeps.{entry_queued, explores_keep, explores_same}
 use Rattle.gix_topo.proofs.Counts.BothSearches.{waits_queued}
 use Rattle.gix_topo.proofs.Counts.MakesReady.{MakesReady, reads_drops}

@@ -1,17 +1,10 @@
 -- The taken commits, as the table tells them: those that were ready once, and aren't now.
-use Rattle.std.specs.Prelude.{◌≡◌, Bool, true, false, not, ◌&&◌, ◌||◌, Option, is_some, Contains, List}
-use Rattle.std.proofs.Common.{sym, ap, ◌∙◌, arith}
+use Rattle.std.proofs.Common.{◌≡◌, Bool, true, false, not, ◌&&◌, ◌||◌, Option, is_some, Contains, List, sym, ap, ◌∙◌, arith}
 use Rattle.std.proofs.Math.Bool.{and-false}
 use Rattle.std.specs.FinMap as map_of
 use Rattle.std.specs.FinSet as set
-use Rattle.gix_hash.specs.declared.ObjectId.{ObjectId}
-use Rattle.gix_hash.specs.Id.{id_cmp, is_among}
-use Rattle.gix_hash.proofs.Ids.Membership.{id_total, id_apart, among_from, among_is}
-use Rattle.gix_topo.specs.declared.walk.Walk.{Walk}
-use Rattle.gix_frontier.specs.Inside.Frontier.{known_of, known_or}
-use Rattle.gix_frontier.specs.Inside.Known.{Known}
-use Rattle.gix_topo.specs.Inside.Releasing.{taken_in, taken_of}
-use Rattle.gix_topo.specs.Walk.{Ready, ready_ids}
+use Rattle.gix_topo.proofs.Common.{ObjectId, id_cmp, is_among, id_total, id_apart, among_from, among_is, Walk, known_of, known_or, Known, taken_of, Ready, ready_ids}
+use Rattle.gix_topo.specs.Inside.Releasing.{taken_in}
 use Rattle.gix_topo.proofs.Counts.Children.{was_ready_of}
 
 pub contains-taken : (known : map_of.FinMap id_cmp Known) (ready : List Ready) (i : ObjectId) → set.contains (taken_in known ready) i ≡ ((known_of known i).was_ready && not (is_among i (ready_ids ready)))

@@ -1,15 +1,8 @@
 -- Worked examples of the order by time: over a finite history a test that computes says whether a list is in it.
-use Rattle.std.specs.Prelude.{◌≡◌, ◌≤◌, ℕ, pos, List, [], ◌∷◌, Bool, true, false, not, ◌&&◌, ◌||◌, Option, Some, None, Contains, MatchOption}
-use Rattle.std.proofs.Common.{refl, sym, ◌∙◌, arith}
+use Rattle.std.proofs.Common.{◌≡◌, ◌≤◌, ℕ, pos, List, [], ◌∷◌, Bool, true, false, not, ◌&&◌, ◌||◌, Option, Some, None, Contains, MatchOption, refl, sym, ◌∙◌, arith, true≢false, leb-true}
 use Rattle.std.proofs.Math.Dec.{leb}
-use Rattle.std.proofs.lemmas.Int.{ints}
-use Rattle.std.proofs.lemmas.Bool.{true≢false, and_parts, leb-true, not-true, false_from_ne_true}
-use Rattle.gix_hash.specs.declared.ObjectId.{ObjectId}
-use Rattle.gix_hash.specs.Id.{is_among}
-use Rattle.gix_hash.proofs.Ids.Membership.{among_from, among_is}
+use Rattle.gix_topo.proofs.Common.{ints, and_parts, not-true, false_from_ne_true, ObjectId, is_among, among_from, among_is, NewestFirst, OldestFirst, named_by}
 use Rattle.gix_revwalk.specs.declared.CommitTimeOrder.{CommitTimeOrder}
-use Rattle.gix_revwalk.specs.declared.CommitTimeOrder.TheVariants.{NewestFirst, OldestFirst}
-use Rattle.gix_revwalk.specs.BreadthOrder.{named_by}
 use Rattle.gix_revwalk.specs.TimeOrder.{IsNoWorse, IsPending, IsBest, IsTimeOrder}
 use Rattle.gix_revwalk.specs.Examples.{ids, history, sample_in}
 use Rattle.gix_topo.proofs.Readiness.Decided.{all_of, all_is}

@@ -1,18 +1,9 @@
 -- Worked examples: over a finite history, lists in the orders of topological walks are found by computing.
-use Rattle.std.specs.Prelude.{◌≡◌, ◌≤◌, ℕ, suc, ℤ, pos, List, [], ◌∷◌, Bool, true, false, not, ◌&&◌, ◌||◌, cond, reverse, take, Option, Some, None, Contains}
-use Rattle.std.proofs.Common.{refl, sym, ap, subst, inr, ⊎_elim, ◌∙◌, arith}
+use Rattle.std.proofs.Common.{◌≡◌, ◌≤◌, ℕ, suc, ℤ, pos, List, [], ◌∷◌, Bool, true, false, not, ◌&&◌, ◌||◌, cond, reverse, take, Option, Some, None, Contains, refl, sym, ap, subst, inr, ⊎_elim, ◌∙◌, arith, true≢false, leb-true}
 use Rattle.std.proofs.Math.Dec.{leb}
-use Rattle.std.proofs.lemmas.Int.{ints}
-use Rattle.std.proofs.lemmas.Bool.{false≢true, true≢false, and_parts, and_from, leb-true, not-true, not_from_false, false_from_ne_true}
-use Rattle.gix_hash.specs.declared.ObjectId.{ObjectId}
-use Rattle.gix_hash.specs.Id.{is_same, is_among}
-use Rattle.gix_revwalk.specs.BreadthOrder.{first_new, named_by}
-use Rattle.gix_topo.specs.DateOrder.{IsDateOrder}
-use Rattle.gix_hash.specs.Reach.{Reaches, start, step, IsAcyclic, IsAtBoundary}
-use Rattle.gix_topo.specs.WalkSet.{IsInWalk, IsAcyclicIn, IsReady}
-use Rattle.gix_topo.specs.TopoOrder.{IsMadeReady, IsTopoOrder}
+use Rattle.gix_topo.proofs.Common.{ints, false≢true, and_parts, and_from, not-true, not_from_false, false_from_ne_true, ObjectId, is_same, is_among, first_new, named_by, IsDateOrder, Reaches, start, step, IsAcyclic, IsAtBoundary}
+use Rattle.gix_topo.proofs.Common.{IsInWalk, IsAcyclicIn, IsReady, IsMadeReady, IsTopoOrder, same_is, among_is, Contains-cons_cases, no_member}
 use Rattle.gix_revwalk.specs.Examples.{n, ids, history, sample_in}
-use Rattle.gix_hash.proofs.Ids.Membership.{same_is, among_is, Contains-cons_cases, no_member}
 use Rattle.gix_revwalk.proofs.Orders.{reached_by_named}
 use Rattle.gix_topo.proofs.Readiness.Decided.{all_of, all_is, given, is_ready as is_ready_of, ready_is as ready_of, is_ready_by as of_ready, made as made_by, made_is as made_is_by}
 use Rattle.gix_topo.proofs.Run.ReadyInTurn.{is_list, list_turns, IsBestNext, IsLastMade}

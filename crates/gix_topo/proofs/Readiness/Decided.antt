@@ -1,13 +1,8 @@
 -- Over a finite history, where a test decides the members, a test decides which commits are ready, and those made ready are computed.
-use Rattle.std.specs.Prelude.{◌≡◌, ℤ, List, [], ◌∷◌, ◌++◌, Bool, true, false, not, ◌&&◌, ◌||◌, cond, filter, Contains}
-use Rattle.std.proofs.Common.{refl, sym, subst, ⊎_elim, ◌∙◌, arith}
-use Rattle.std.proofs.lemmas.Bool.{true≢false, and_parts, and_from, not-true, not_from_false, false_from_ne_true}
-use Rattle.std.proofs.lemmas.List.Elements.{Contains-append_cases}
-use Rattle.gix_hash.specs.declared.ObjectId.{ObjectId}
-use Rattle.gix_hash.specs.Id.{is_among}
-use Rattle.gix_topo.specs.WalkSet.{IsChild, IsChildless, IsReady}
-use Rattle.gix_topo.specs.TopoOrder.{Keeps, none, kept, passed, first_places, last_places, by_time, IsMadeReady}
-use Rattle.gix_hash.proofs.Ids.Membership.{among_from, among_is, Contains-here, Contains-there, Contains-cons_cases, no_member}
+use Rattle.std.proofs.Common.{◌≡◌, ℤ, List, [], ◌∷◌, ◌++◌, Bool, true, false, not, ◌&&◌, ◌||◌, cond, filter, Contains, refl, sym, subst, ⊎_elim, ◌∙◌, arith, true≢false}
+use Rattle.gix_topo.proofs.Common.{and_parts, and_from, not-true, not_from_false, false_from_ne_true, Contains-append_cases, ObjectId, is_among, IsChild, IsChildless, IsReady, Keeps, passed, first_places, last_places, by_time}
+use Rattle.gix_topo.proofs.Common.{IsMadeReady, among_from, among_is, Contains-here, Contains-there, Contains-cons_cases, no_member}
+use Rattle.gix_topo.specs.TopoOrder.{none, kept}
 use Rattle.gix_topo.proofs.Readiness.IsReady.{keeps_alike, keeps_from}
 use Rattle.gix_topo.proofs.Readiness.RisingTime.{in_by_time}
 

@@ -1,15 +1,9 @@
 -- Which commits are ready: how taking one changes them. Over any walked parents and any set.
-use Rattle.std.specs.Prelude.{◌≡◌, ◌⊎◌, ◌+◌, ◌≤◌, ℕ, ℤ, List, [], ◌∷◌, ◌++◌, Bool, true, false, not, ◌&&◌, ◌||◌, cond, Contains}
-use Rattle.std.proofs.Common.{refl, sym, ap, subst, inl, inr, ⊎_elim, ◌∙◌, arith}
-use Rattle.std.proofs.lemmas.Bool.{true≢false, false_from_ne_true, and_parts, not-true, or_cases, or_left, or_right}
-use Rattle.gix_hash.specs.declared.ObjectId.{ObjectId}
-use Rattle.gix_hash.specs.Id.{is_same, is_among}
-use Rattle.gix_hash.specs.Reach.{Reaches, start, step}
-use Rattle.gix_topo.specs.WalkSet.{IsInWalk, IsChild, IsChildless, IsReady}
-use Rattle.gix_topo.specs.TopoOrder.{Keeps, none, kept, passed, distinct_after, first_places, last_places, by_time}
-use Rattle.gix_revwalk.specs.Ids.{AreDistinct}
-use Rattle.gix_hash.proofs.Ids.Membership.{same_is, among_from, among_is, Contains-here, Contains-there, Contains-cons_cases, no_member}
-use Rattle.gix_revwalk.proofs.NewIds.{fresh, times, times_none, times_moved, times-fresh, among_times}
+use Rattle.std.proofs.Common.{◌≡◌, ◌⊎◌, ◌+◌, ◌≤◌, ℕ, ℤ, List, [], ◌∷◌, ◌++◌, Bool, true, false, not, ◌&&◌, ◌||◌, cond, Contains, refl, sym, ap, subst, inl, inr, ⊎_elim, ◌∙◌, arith, true≢false}
+use Rattle.gix_topo.proofs.Common.{false_from_ne_true, and_parts, not-true, or_cases, or_left, or_right, ObjectId, is_same, is_among, Reaches, start, step, IsInWalk, IsChild, IsChildless, IsReady, Keeps, passed, distinct_after}
+use Rattle.gix_topo.proofs.Common.{first_places, last_places, by_time, AreDistinct, same_is, among_from, among_is, Contains-here, Contains-there, Contains-cons_cases, no_member, fresh, times_none, times_moved, times-fresh, among_times}
+use Rattle.gix_topo.specs.TopoOrder.{none, kept}
+use Rattle.gix_revwalk.proofs.NewIds.{times}
 use Rattle.gix_topo.proofs.Readiness.RisingTime.{by_time_moves}
 
 -- lists in which an id is as often

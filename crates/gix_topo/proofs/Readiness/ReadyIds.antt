@@ -1,16 +1,10 @@
 -- Ready commits by their ids: those that are held, chosen, and joined.
-use Rattle.std.specs.Prelude.{◌≡◌, ◌+◌, ◌≤◌, ℕ, suc, List, [], ◌∷◌, ◌++◌, length, Bool, true, false, ◌||◌, cond, map, Contains, IsPermutation}
-use Rattle.std.proofs.Common.{sym, ap, subst, ⊎_elim, ◌∙◌, arith, append_assoc, append-nil}
+use Rattle.std.proofs.Common.{◌≡◌, ◌+◌, ◌≤◌, ℕ, suc, List, [], ◌∷◌, ◌++◌, length, Bool, true, false, ◌||◌, cond, map, Contains, IsPermutation, sym, ap, subst, ⊎_elim, ◌∙◌, arith, append_assoc, append-nil}
 use Rattle.std.proofs.lemmas.List.{map-append}
-use Rattle.std.proofs.lemmas.List.Sorted.{length_permutation, IsPermutation-to_front, IsPermutation-map, IsPermutation-sym, IsPermutation-append_left, IsPermutation-trans, IsPermutation-refl, Contains-permutation}
-use Rattle.gix_hash.specs.declared.ObjectId.{ObjectId}
-use Rattle.gix_hash.specs.Id.{is_same, is_among}
-use Rattle.gix_hash.proofs.Ids.Membership.{among-append, among_is, Contains-here, Contains-there, Contains-cons_cases, no_member}
-use Rattle.gix_topo.specs.declared.Sorting.{Sorting}
+use Rattle.gix_topo.proofs.Common.{length_permutation, IsPermutation-to_front, IsPermutation-map, IsPermutation-sym, IsPermutation-append_left, IsPermutation-trans, IsPermutation-refl, Contains-permutation, ObjectId, is_same, is_among}
+use Rattle.gix_topo.proofs.Common.{among-append, among_is, Contains-here, Contains-there, Contains-cons_cases, no_member, Sorting, Ready, ready_ids, HoldsReady, Chooses, AreDistinct, times-append, times_moved, times_none, times_once}
 use Rattle.gix_topo.specs.declared.Sorting.TheVariants as order
-use Rattle.gix_topo.specs.Walk.{Ready, ready_ids, HoldsReady, Chooses}
-use Rattle.gix_revwalk.specs.Ids.{AreDistinct}
-use Rattle.gix_revwalk.proofs.NewIds.{times, times-append, times_moved, times_none, times_once}
+use Rattle.gix_revwalk.proofs.NewIds.{times}
 use Rattle.gix_topo.proofs.Readiness.IsReady.{among_by, distinct_times}
 
 pub in_ids : (rs : List Ready) (r : Ready) → Contains rs r → Contains (ready_ids rs) r.id

@@ -1,28 +1,14 @@
 -- A ready commit as it was read, with rows that agree.
-use Rattle.std.specs.Prelude.{◌≡◌, ℕ, Bool, true, cond, Option, Some, None, Result, Ok, List, Contains}
-use Rattle.std.proofs.Common.{refl, sym, ap, subst, ◌∙◌, arith}
-use Rattle.std.proofs.lemmas.Bool.{lt-ltb}
-use Rattle.gix_hash.specs.declared.ObjectId.{ObjectId}
+use Rattle.std.proofs.Common.{◌≡◌, ℕ, Bool, true, cond, Option, Some, None, Result, Ok, List, Contains, refl, sym, ap, subst, ◌∙◌, arith, lt-ltb}
+use Rattle.gix_topo.proofs.Common.{ObjectId, kind_of, is_among, Objects, commit_items, first_committer, GraphRow, row_of, Info, IsAgreeing, infinity, time_of, time_in, commit_of_object, RowSays, is_read, Reads, by_row, by_text}
+use Rattle.gix_topo.proofs.Common.{told_generation, time_of_committer, TopoPlan, Ready, IsStored, named_ids, row_generation, IsFound, row_stands, row_says_time}
 use Rattle.gix_object.specs.declared.decode.Error.{Error as DecodeError}
-use Rattle.gix_hash.specs.Id.{kind_of, is_among}
-use Rattle.gix_object.specs.Object.{Objects}
 use Rattle.gix_object.specs.CommitText.{Commit, read_commit}
-use Rattle.gix_object.specs.CommitItems.{commit_items}
-use Rattle.gix_object.specs.CommitRefIter.{first_committer}
-use Rattle.gix_commitgraph.specs.Rows.{GraphRow, row_of}
-use Rattle.gix_revwalk.specs.declared.Info.{Info}
 use Rattle.gix_revwalk.specs.declared.row.RowRead.{RowRead}
-use Rattle.gix_revwalk.specs.Agreeing.{IsAgreeing}
-use Rattle.gix_topo.specs.Depth.{infinity}
-use Rattle.gix_revwalk.specs.Commits.{time_of, time_in, commit_of_object}
-use Rattle.gix_revwalk.specs.Reading.{RowSays, is_read}
-use Rattle.gix_topo.specs.Reading.{Reads, by_row, by_text, told_generation, time_of_committer}
 use Rattle.gix_topo.specs.Inside.Searched.{text_next}
 use Rattle.gix_revwalk.specs.Infos.{IsRowGeneration}
-use Rattle.gix_topo.specs.Walk.{TopoPlan, Ready, IsStored, named_ids, row_generation, IsFound}
 use Rattle.gix_revwalk.proofs.Rows.{passed_over}
 use Rattle.gix_revwalk.proofs.CommitterTime.{TellsTime, tells}
-use Rattle.gix_revwalk.proofs.ReadsWhole.{row_stands, row_says_time}
 use Rattle.gix_topo.proofs.Reading.ReadsCommit.{reads_named, reads_text_next}
 
 committer_time : (o : Option Commit) (q : Result (List ℕ) DecodeError) → TellsTime o q → time_of_committer q ≡ time_in o

@@ -1,24 +1,9 @@
 -- Why a reading fails; and what was read once is known, and as long as the rows are in use its row has no fault.
-use Rattle.std.specs.Prelude.{◌≡◌, List, [], Bool, true, if◌then◌else◌, Ok, Err, Contains}
-use Rattle.std.proofs.Common.{refl, sym, ap, subst, inl, inr, ⊎_elim, ◌∙◌}
-use Rattle.gix_hash.specs.declared.ObjectId.{ObjectId}
-use Rattle.gix_hash.specs.Id.{kind_of}
-use Rattle.gix_object.specs.Object.{Objects}
-use Rattle.gix_revwalk.specs.declared.Info.{Info}
-use Rattle.gix_revwalk.specs.Reading.{is_read}
-use Rattle.gix_commitgraph.specs.Rows.{GraphRow}
+use Rattle.std.proofs.Common.{◌≡◌, List, [], Bool, true, if◌then◌else◌, Ok, Err, Contains, refl, sym, ap, subst, inl, inr, ⊎_elim, ◌∙◌}
+use Rattle.gix_topo.proofs.Common.{ObjectId, kind_of, Objects, Info, is_read, GraphRow, Error, Reads, by_row, by_text, ReadFails, ReadsText, Side, Tips, Ends, Frontier, Counting, Walk, is_done, reached, plan_of, LooksUpParent, Pushes}
+use Rattle.gix_topo.proofs.Common.{IsReadOnce, AreRead, TopoPlan, Ready, IsCommitRead, IsKnown, IsFound}
 use Rattle.gix_revwalk.specs.RowParents.{IsUnrowed}
-use Rattle.gix_topo.specs.declared.Error.{Error}
-use Rattle.gix_topo.specs.Reading.{Reads, by_row, by_text, no_memory, ReadFails, ReadsText}
-use Rattle.gix_frontier.specs.declared.Side.{Side}
-use Rattle.gix_frontier.specs.declared.Side.TheVariants.{Tips, Ends}
-use Rattle.gix_frontier.specs.declared.Frontier.{Frontier}
-use Rattle.gix_topo.specs.declared.counting.Counting.{Counting}
-use Rattle.gix_topo.specs.declared.walk.Walk.{Walk}
-use Rattle.gix_frontier.specs.Inside.Frontier.{is_done, reached}
-use Rattle.gix_topo.specs.Inside.Releasing.{plan_of, LooksUpParent, Pushes}
-use Rattle.gix_topo.specs.Inside.Steady.{IsReadOnce, AreRead}
-use Rattle.gix_topo.specs.Walk.{TopoPlan, Ready, IsCommitRead, IsKnown, IsFound}
+use Rattle.gix_topo.specs.Reading.{no_memory}
 use Rattle.gix_revwalk.proofs.Rows.{IsSoundRow, passes, whole_in_use}
 use Rattle.gix_topo.proofs.Reading.Faultless.{faultless}
 

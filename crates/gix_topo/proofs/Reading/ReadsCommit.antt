@@ -1,28 +1,13 @@
 -- What reading a commit says of the ids that rows and texts name, and, with rows that agree, of its parents.
-use Rattle.std.specs.Prelude.{◌≡◌, ◌≤◌, ◌<◌, ◌^◌, ◌-◌, List, map, Bool, true, Option, Some, None, Ok, Contains}
-use Rattle.std.proofs.Common.{refl, sym, ap, subst, ◌∙◌, arith}
-use Rattle.std.proofs.lemmas.Bool.{or_left, or_right}
+use Rattle.std.proofs.Common.{◌≡◌, ◌≤◌, ◌<◌, ◌^◌, ◌-◌, List, map, Bool, true, Option, Some, None, Ok, Contains, refl, sym, ap, subst, ◌∙◌, arith}
+use Rattle.gix_topo.proofs.Common.{or_left, or_right, ObjectId, is_among, Objects, GraphRow, row_of, parents_in, ReadsWhole, parents_of, commit_at, among-append, among_from, no_member, Info, IsAgreeing, known_generation, generation_in}
+use Rattle.gix_topo.proofs.Common.{infinity, is_read, Reads, by_row, by_text, named_ids, row_stands, row_parents, parent_below, text_whole, among_flat}
 use Rattle.std.specs.FinMap as map_of
-use Rattle.gix_hash.specs.declared.ObjectId.{ObjectId}
 use Rattle.gix_object.specs.declared.Kind.TheVariants as object
-use Rattle.gix_hash.specs.Id.{is_among}
-use Rattle.gix_object.specs.Object.{Objects}
-use Rattle.gix_commitgraph.specs.Rows.{GraphRow, row_of}
 use Rattle.gix_object.specs.CommitText.{Commit}
-use Rattle.gix_revwalk.specs.Commits.{parents_in, ReadsWhole, parents_of, commit_at}
-use Rattle.gix_hash.proofs.Ids.Membership.{among-append, among_from, no_member}
-use Rattle.gix_revwalk.specs.declared.Info.{Info}
-use Rattle.gix_revwalk.specs.Agreeing.{IsAgreeing}
-use Rattle.gix_topo.specs.Depth.{known_generation, generation_in, infinity}
-use Rattle.gix_revwalk.specs.Reading.{is_read}
-use Rattle.gix_topo.specs.Reading.{Reads, by_row, by_text}
 use Rattle.gix_revwalk.specs.Texts.{text_parents}
-use Rattle.gix_topo.specs.Walk.{named_ids}
 use Rattle.gix_topo.specs.Inside.Searched.{text_next, next_in}
-use Rattle.gix_revwalk.proofs.ReadsWhole.{row_stands, row_parents, parent_below}
-use Rattle.gix_revwalk.proofs.TextParents.{text_whole}
 use Rattle.gix_revwalk.proofs.Rows.{ids_in_rows, found_entry}
-use Rattle.gix_revwalk.proofs.NewIds.{among_flat}
 
 module _ (objects : Objects) (faulty : ObjectId → Type 0) (rows : List GraphRow) where
   -- the parents that are read are among the ids that rows and texts name

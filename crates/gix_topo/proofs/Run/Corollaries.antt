@@ -1,34 +1,19 @@
 -- The laws of topological walks that follow from the order alone; and what a walk through all parents gives, by the store over a sound history, and by the texts where no fault comes.
 use Rattle.gix_topo.specs.declared.Sorting.TheVariants as order
 use Rattle.gix_revwalk.specs.declared.Parents.TheVariants as mode
-use Rattle.std.specs.Prelude.{◌≡◌, ◌↔◌, ℕ, List, [], Bool, filter, take, slice_get, Some, Result, Contains, ◌++◌, ℤ, ◌∷◌, true, Ok, Err, All}
-use Rattle.std.proofs.Common.{subst, refl, sym}
+use Rattle.std.proofs.Common.{◌≡◌, ◌↔◌, ℕ, List, [], Bool, filter, take, slice_get, Some, Result, Contains, ◌++◌, ℤ, ◌∷◌, true, Ok, Err, All, subst, refl, sym}
 use Rattle.std.specs.List.{AllZip}
-use Rattle.gix_hash.specs.declared.ObjectId.{ObjectId}
-use Rattle.gix_object.specs.Object.{Objects}
-use Rattle.gix_commitgraph.specs.Rows.{GraphRow}
-use Rattle.gix_revwalk.specs.declared.Info.{Info}
-use Rattle.gix_topo.specs.declared.Sorting.{Sorting}
-use Rattle.gix_topo.specs.declared.Error.{Error}
-use Rattle.gix_revwalk.specs.Commits.{parents_of, time_of, ReadsWhole, walked_parents, by_mode}
-use Rattle.gix_topo.specs.WalkSet.{IsAcyclicIn, IsChild, IsInWalk}
-use Rattle.gix_topo.specs.TopoOrder.{IsTopoOrder}
-use Rattle.gix_revwalk.specs.Ids.{AreDistinct}
+use Rattle.gix_topo.proofs.Common.{ObjectId, Objects, GraphRow, Info, Sorting, Error, parents_of, time_of, ReadsWhole, walked_parents, by_mode, IsAcyclicIn, IsChild, IsInWalk, IsTopoOrder, AreDistinct, TopoPlan, TopoWalk, walked_of}
+use Rattle.gix_topo.proofs.Common.{IsMember, text_walked, IsTextMember, IsStarted, Next, IsTakenInOrder, IsTakenFirst, IsTakenByText, IsGiven, GivesInOrder, IsWholeRun, IsNoRefusal, IsTextGiven, GivesTextOrder, GivesDifference}
+use Rattle.gix_topo.proofs.Common.{GivesTextDifference, given_ids, Drains, Contains-append_left, Contains-append_right, Parents, Reaches, step, IsAgreeing, filter_all}
 use Rattle.gix_revwalk.specs.Texts.{text_next}
-use Rattle.gix_topo.specs.Walk.{TopoPlan, TopoWalk, walked_of, IsMember, text_walked, IsTextMember, IsStarted, Next}
-use Rattle.gix_topo.specs.Laws.{IsSorted, IsTakenInOrder, IsTakenFirst, IsTakenByText, IsGiven, GivesInOrder, IsWholeRun, IsNoRefusal, IsTextGiven, GivesTextOrder, GivesDifference, GivesTextDifference, given_ids}
+use Rattle.gix_topo.specs.Laws.{IsSorted}
 use Rattle.gix_topo.proofs.Run.ReadyInTurn.{TurnsFrom, IsReadyNext, same_set}
 use Rattle.gix_topo.proofs.Reading.ReadsCommit.{text_has}
 use Rattle.gix_topo.proofs.Run.EachOnce.{turns_by, each_by, first_by}
 use Rattle.gix_topo.proofs.Run.OneList.{same_topo}
 use Rattle.gix_topo.proofs.Run.Theorem.{gives, gives_text, run_faultless}
-use Rattle.std.specs.Iterator.{Drains}
-use Rattle.std.proofs.lemmas.List.Elements.{Contains-append_left, Contains-append_right}
-use Rattle.gix_revwalk.specs.declared.Parents.{Parents}
-use Rattle.gix_hash.specs.Reach.{Reaches, step}
-use Rattle.gix_revwalk.specs.Agreeing.{IsAgreeing}
 use Rattle.gix_revwalk.specs.Asking.{AnswersBy}
-use Rattle.gix_hash.proofs.Lists.{filter_all}
 use Rattle.gix_revwalk.proofs.Reached.{reach_more}
 
 module _ {F : Type 0} (objects : F → Objects) (plan : TopoPlan F) (ids : List ObjectId) where

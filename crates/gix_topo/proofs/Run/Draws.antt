@@ -1,18 +1,9 @@
 -- What a walk does while it is drawn, whatever faults come: it takes one commit after the other, and may end in a fault. The laws of runs go along these steps.
-use Rattle.std.specs.Prelude.{◌≡◌, ◌⊎◌, List, [], ◌∷◌, ◌++◌, Bool, true, false, Option, Some, None, Result, Ok, Err, Contains}
-use Rattle.std.proofs.Common.{refl, sym, subst, inl, inr, ⊎_elim}
-use Rattle.std.proofs.lemmas.List.Elements.{Contains-append_cases}
+use Rattle.std.proofs.Common.{◌≡◌, ◌⊎◌, List, [], ◌∷◌, ◌++◌, Bool, true, false, Option, Some, None, Result, Ok, Err, Contains, refl, sym, subst, inl, inr, ⊎_elim}
+use Rattle.gix_topo.proofs.Common.{Contains-append_cases, Drains, Yields, ObjectId, id_cmp, Objects, Info, Sorting, Error, TopoWalk, Ready, Counted, Chooses, IsNextReady, IsFault, IsLate, Takes, after, Next, refused, no_member}
 use Rattle.std.specs.FinSet as set
-use Rattle.std.specs.Iterator.{Drains, Yields}
-use Rattle.gix_hash.specs.declared.ObjectId.{ObjectId}
-use Rattle.gix_hash.specs.Id.{id_cmp}
-use Rattle.gix_object.specs.Object.{Objects}
-use Rattle.gix_revwalk.specs.declared.Info.{Info}
-use Rattle.gix_topo.specs.declared.Sorting.{Sorting}
-use Rattle.gix_topo.specs.declared.Error.{Error}
 use Rattle.gix_revwalk.specs.Infos.{IsInfo}
-use Rattle.gix_topo.specs.Walk.{TopoWalk, Ready, Counted, Chooses, IsNextReady, IsFault, IsLate, Takes, after, Next, ended, given, refused, failed}
-use Rattle.gix_hash.proofs.Ids.Membership.{no_member}
+use Rattle.gix_topo.specs.Walk.{ended, given, failed}
 use Rattle.gix_topo.proofs.Readiness.ReadyIds.{chosen_in, others_in, holds_in}
 
 -- where a commit is chosen something is ready

@@ -1,18 +1,10 @@
 -- What is known of each commit that is given: as long as the rows are in use its generation is its row's, and each of its parents was known. Counting stays exact.
-use Rattle.std.specs.Prelude.{◌≡◌, List, [], Bool, true, Some, Result, Ok, Err, Contains}
-use Rattle.std.proofs.Common.{refl, sym, ap, ⊎_elim, ◌∙◌, subst}
-use Rattle.std.specs.Iterator.{Yields}
-use Rattle.gix_hash.specs.declared.ObjectId.{ObjectId}
-use Rattle.gix_object.specs.Object.{Objects}
-use Rattle.gix_commitgraph.specs.Rows.{row_of}
-use Rattle.gix_revwalk.specs.declared.Info.{Info}
-use Rattle.gix_topo.specs.declared.Error.{Error}
-use Rattle.gix_revwalk.specs.Agreeing.{IsAgreeing}
-use Rattle.gix_topo.specs.Walk.{Counted, TopoWalk, Ready, row_generation, IsCounting, IsStarted, Takes, Next, given, refused, TopoPlan, IsKnown}
-use Rattle.gix_hash.proofs.Ids.Membership.{Contains-here, Contains-there, Contains-cons_cases, no_member}
+use Rattle.std.proofs.Common.{◌≡◌, List, [], Bool, true, Some, Result, Ok, Err, Contains, refl, sym, ap, ⊎_elim, ◌∙◌, subst}
+use Rattle.gix_topo.proofs.Common.{Yields, ObjectId, Objects, row_of, Info, Error, IsAgreeing, Counted, TopoWalk, Ready, row_generation, IsCounting, IsStarted, Takes, Next, refused, TopoPlan, IsKnown, Contains-here, Contains-there}
+use Rattle.gix_topo.proofs.Common.{Contains-cons_cases, no_member, only_member}
+use Rattle.gix_topo.specs.Walk.{given}
 use Rattle.gix_topo.proofs.Readiness.ReadyIds.{chosen_in}
 use Rattle.gix_topo.proofs.Run.Draws.{Draws, rests, shows, hides, breaks, ready_after, all_drawn, nothing_more}
-use Rattle.gix_hash.proofs.Lists.{only_member}
 
 module _ {F P : Type 0} (objects : F → Objects) (faulty : F → ObjectId → Type 0) (answers : P → ObjectId → Bool → P → Type 0) where
   -- the ready commits have their rows' generations

@@ -1,23 +1,10 @@
 -- What a list in either order has, over parents that texts name: each once, members alone, children first, and all where no member is its own ancestor.
-use Rattle.std.specs.Prelude.{◌≡◌, ◌⊎◌, ◌++◌, ℕ, List, [], true, take, slice_get, ℤ, Option, Some, None, Contains}
-use Rattle.std.proofs.Common.{refl, sym, subst, ◌∙◌}
-use Rattle.std.specs.List.{flat_map}
-use Rattle.std.proofs.lemmas.List.Elements.{Contains-append_left, Contains-append_right}
+use Rattle.std.proofs.Common.{◌≡◌, ◌⊎◌, ◌++◌, ℕ, List, [], true, take, slice_get, ℤ, Option, Some, None, Contains, refl, sym, subst, ◌∙◌, flat_map}
+use Rattle.gix_topo.proofs.Common.{Contains-append_left, Contains-append_right, ObjectId, is_among, Reaches, start, step, Object, Objects, Parents, Sorting, by_mode, AreDistinct, IsInWalk, IsAcyclicIn, IsChild, IsSortedBeginning}
+use Rattle.gix_topo.proofs.Common.{among_from, among_is, no_member, among_flat, walked_within}
 use Rattle.std.specs.FinMap as map_of
-use Rattle.gix_hash.specs.declared.ObjectId.{ObjectId}
-use Rattle.gix_hash.specs.Id.{is_among}
-use Rattle.gix_hash.specs.Reach.{Reaches, start, step}
-use Rattle.gix_object.specs.Object.{Object, Objects}
-use Rattle.gix_revwalk.specs.declared.Parents.{Parents}
-use Rattle.gix_topo.specs.declared.Sorting.{Sorting}
-use Rattle.gix_revwalk.specs.Commits.{by_mode}
-use Rattle.gix_revwalk.specs.Ids.{AreDistinct}
 use Rattle.gix_revwalk.specs.Texts.{text_parents, next_in, text_next}
-use Rattle.gix_topo.specs.WalkSet.{IsInWalk, IsAcyclicIn, IsChild}
-use Rattle.gix_topo.specs.Laws.{IsSorted, IsSortedBeginning}
-use Rattle.gix_hash.proofs.Ids.Membership.{among_from, among_is, no_member}
-use Rattle.gix_revwalk.proofs.NewIds.{among_flat}
-use Rattle.gix_revwalk.proofs.ReadsWhole.{walked_within}
+use Rattle.gix_topo.specs.Laws.{IsSorted}
 use Rattle.gix_revwalk.proofs.Rows.{found_entry}
 use Rattle.gix_topo.proofs.Readiness.IsReady.{in_walk_top}
 use Rattle.gix_topo.proofs.Run.ReadyInTurn.{TurnsFrom, IfOne, IsReadyNext, ready_turns, ready_begins, begun_once, begun_members, begun_children, each_once, each_member, children_first, all_given}

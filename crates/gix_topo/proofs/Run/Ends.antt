@@ -1,23 +1,16 @@
 -- Every topological walk ends, asks about each commit once, and is silent after a fault. None of it needs a sound history.
-use Rattle.std.specs.Prelude.{◌≡◌, ◌+◌, ◌≤◌, ℕ, suc, List, [], ◌∷◌, ◌++◌, length, Bool, true, false, ◌||◌, cond, Option, Some, None, Result, Err, Contains}
-use Rattle.std.proofs.Common.{refl, sym, ap, subst, inl, inr, ⊎_elim, ◌∙◌, arith, length-append, le_refl, le_trans}
+use Rattle.std.proofs.Common.{◌≡◌, ◌+◌, ◌≤◌, ℕ, suc, List, [], ◌∷◌, ◌++◌, length, Bool, true, false, ◌||◌, cond, Option, Some, None, Result, Err, Contains, refl, sym, ap, subst, inl, inr, ⊎_elim, ◌∙◌, arith, length-append, le_refl}
+use Rattle.std.proofs.Common.{le_trans, true≢false}
 use Rattle.std.proofs.lemmas.List.{length-map}
-use Rattle.std.proofs.lemmas.Bool.{true≢false, or_cases, or_right, or_from, or_parts, false_from_ne_true}
+use Rattle.gix_topo.proofs.Common.{or_cases, or_right, or_from, or_parts, false_from_ne_true, Yields, ObjectId, id_cmp, is_same, is_among, Objects, Info, Error, AreDistinct, TopoWalk, Ready, Counted, ready_ids, named_ids, IsNextReady}
+use Rattle.gix_topo.proofs.Common.{IsLeft, IsOtherParent, IsMetFault, IsFault, IsLate, IsStarted, Takes, after, Next, refused, left_beside, answers_left, AreApart, given_ids, id_total, same_is, same_itself, among_from, among_is}
+use Rattle.gix_topo.proofs.Common.{Contains-here, Contains-there, Contains-cons_cases, no_member, fresh, fresh_agree, new_less, times_once}
 use Rattle.std.specs.FinSet as set
-use Rattle.std.specs.Iterator.{Yields}
-use Rattle.gix_hash.specs.declared.ObjectId.{ObjectId}
-use Rattle.gix_hash.specs.Id.{id_cmp, is_same, is_among}
-use Rattle.gix_object.specs.Object.{Objects}
-use Rattle.gix_revwalk.specs.declared.Info.{Info}
-use Rattle.gix_topo.specs.declared.Error.{Error}
 use Rattle.gix_topo.specs.declared.Error.TheVariants as error
 use Rattle.gix_object.specs.declared.find.existing_iter.Error.TheVariants as existing
-use Rattle.gix_revwalk.specs.Ids.{AreDistinct}
-use Rattle.gix_topo.specs.Walk.{TopoWalk, Ready, Counted, ready_ids, was_ready, named_ids, IsNextReady, IsLeft, IsOtherParent, IsMetFault, IsFault, IsLate, IsStarted, Takes, after, Next, refused, failed}
-use Rattle.gix_topo.specs.Laws.{left_beside, answers_left, AreApart, given_ids}
+use Rattle.gix_topo.specs.Walk.{was_ready, failed}
 use Rattle.gix_revwalk.specs.Asking.{AsksAll, none, more}
-use Rattle.gix_hash.proofs.Ids.Membership.{id_total, same_is, same_itself, among_from, among_is, Contains-here, Contains-there, Contains-cons_cases, no_member}
-use Rattle.gix_revwalk.proofs.NewIds.{fresh, fresh_agree, times, new_less, times_once}
+use Rattle.gix_revwalk.proofs.NewIds.{times}
 use Rattle.gix_topo.proofs.Readiness.IsReady.{distinct_times}
 use Rattle.gix_topo.proofs.Readiness.ReadyIds.{chosen_in, chosen_length, holds_length, chosen_among, chosen_once, held_among, held_once, in_ids}
 use Rattle.gix_topo.proofs.Run.Draws.{Draws, rests, shows, hides, breaks, all_drawn, ended_drawn, nothing_more}

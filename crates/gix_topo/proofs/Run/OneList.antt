@@ -1,11 +1,6 @@
 -- Each order is one list: topological order over any commits, date order over commits of different times.
-use Rattle.std.specs.Prelude.{◌≡◌, ◌≤◌, ◌≤ℤ◌, ℤ, List, [], ◌∷◌, ◌++◌, length, take, reverse, Option, Some, None}
-use Rattle.std.proofs.Common.{refl, sym, ap, subst, ◌∙◌, arith, length-take, take_all}
-use Rattle.std.proofs.lemmas.Int.{ints}
-use Rattle.gix_hash.specs.declared.ObjectId.{ObjectId}
-use Rattle.gix_revwalk.specs.BreadthOrder.{first_new}
-use Rattle.gix_topo.specs.DateOrder.{IsDateOrder, IsDateBeginning}
-use Rattle.gix_topo.specs.TopoOrder.{IsTopoOrder, IsTopoBeginning}
+use Rattle.std.proofs.Common.{◌≡◌, ◌≤◌, ◌≤ℤ◌, ℤ, List, [], ◌∷◌, ◌++◌, length, take, reverse, Option, Some, None, refl, sym, ap, subst, ◌∙◌, arith, length-take, take_all}
+use Rattle.gix_topo.proofs.Common.{ints, ObjectId, first_new, IsDateOrder, IsDateBeginning, IsTopoOrder, IsTopoBeginning}
 use Rattle.gix_topo.proofs.Run.ReadyInTurn.{TurnsFrom, IfOne, turns_begin, turns_by, turn_ended, turn_now, turn_on, IsBestNext, IsLastMade, made_one}
 
 -- the next one is decided by those before, so the list is

@@ -1,27 +1,15 @@
 -- What a list has in which each commit is ready when it comes: no id twice, children first, and all of the set where no member is its own ancestor.
-use Rattle.std.specs.Prelude.{◌≡◌, ◌↔◌, ◌⊎◌, ◌≤◌, ℕ, zero, suc, ℤ, List, [], ◌∷◌, ◌++◌, Bool, true, false, not, ◌&&◌, ◌||◌, filter, reverse, length, take, slice_get, Option, Some, None, Contains, MatchOption}
-use Rattle.std.proofs.Common.{refl, sym, ap, subst, inl, inr, ⊎_elim, ◌∙◌, arith, append_assoc, append-nil, take_all, le_refl}
-use Rattle.std.proofs.lemmas.Bool.{true≢false, false_from_ne_true, true_from_ne_false, and_parts, and_from, not-true}
+use Rattle.std.proofs.Common.{◌≡◌, ◌↔◌, ◌⊎◌, ◌≤◌, ℕ, zero, suc, ℤ, List, [], ◌∷◌, ◌++◌, Bool, true, false, not, ◌&&◌, ◌||◌, filter, reverse, length, take, slice_get, Option, Some, None, Contains, MatchOption, refl, sym, ap, subst, inl}
+use Rattle.std.proofs.Common.{inr, ⊎_elim, ◌∙◌, arith, append_assoc, append-nil, take_all, le_refl, true≢false}
+use Rattle.gix_topo.proofs.Common.{false_from_ne_true, true_from_ne_false, and_parts, and_from, not-true, list_any-IsPermutation, IsPermutation-reverse, Contains-append_left, Contains-push, Contains-push_cases, ObjectId, is_same}
+use Rattle.gix_topo.proofs.Common.{is_among, NewestFirst, first_new, Reaches, start, step, IsAcyclicIn, IsChild, IsChildless, IsReady, by_time, IsMadeReady, AreDistinct, Sorting, IsSortedBeginning, same_is, same_itself, among-append}
+use Rattle.gix_topo.proofs.Common.{among_from, among_is, Contains-here, Contains-there, Contains-cons_cases, no_member, fresh, among-filter, new_less, past_end}
 use Rattle.std.proofs.lemmas.List.{reverse-append}
-use Rattle.std.proofs.lemmas.List.Sorted.{list_any-IsPermutation, IsPermutation-reverse}
-use Rattle.std.proofs.lemmas.List.Elements.{Contains-append_left, Contains-push, Contains-push_cases}
-use Rattle.gix_hash.specs.declared.ObjectId.{ObjectId}
-use Rattle.gix_hash.specs.Id.{is_same, is_among}
-use Rattle.gix_revwalk.specs.declared.CommitTimeOrder.TheVariants.{NewestFirst}
-use Rattle.gix_revwalk.specs.BreadthOrder.{first_new}
 use Rattle.gix_revwalk.specs.TimeOrder.{IsBest}
-use Rattle.gix_hash.specs.Reach.{Reaches, start, step}
-use Rattle.gix_topo.specs.WalkSet.{IsAcyclicIn, IsChild, IsChildless, IsReady}
-use Rattle.gix_topo.specs.TopoOrder.{by_time, IsMadeReady}
-use Rattle.gix_revwalk.specs.Ids.{AreDistinct}
-use Rattle.gix_topo.specs.declared.Sorting.{Sorting}
 use Rattle.gix_topo.specs.declared.Sorting.TheVariants as order
-use Rattle.gix_topo.specs.Laws.{IsSorted, IsSortedBeginning}
-use Rattle.gix_hash.proofs.Ids.Membership.{same_is, same_itself, among-append, among_from, among_is, Contains-here, Contains-there, Contains-cons_cases, no_member}
-use Rattle.gix_revwalk.proofs.NewIds.{fresh, among-filter, new_less}
+use Rattle.gix_topo.specs.Laws.{IsSorted}
 use Rattle.gix_revwalk.proofs.Orders.{found_passes, none_passes}
 use Rattle.gix_topo.proofs.Readiness.IsReady.{among-by_time, keeps_from, keeps_one, AreReady, are_ready_alike, takes_ready, starts_ready}
-use Rattle.gix_hash.proofs.Lists.{past_end}
 
 -- an order that is defined by the beginnings of its list
 module _ (Q : List ObjectId → Option ObjectId → Type 0) where

@@ -1,14 +1,8 @@
 -- Two ways to say what the parents and the members are, which agree on the members, give the same orders.
-use Rattle.std.specs.Prelude.{◌≡◌, ℕ, ℤ, List, [], ◌∷◌, take, drop, reverse, slice_get, Option, Some, None, Contains}
-use Rattle.std.proofs.Common.{sym, subst, take-append-drop}
-use Rattle.std.proofs.lemmas.List.Elements.{Contains-append_left}
-use Rattle.gix_hash.specs.declared.ObjectId.{ObjectId}
-use Rattle.gix_hash.proofs.Ids.Membership.{Contains-here, Contains-there}
-use Rattle.gix_topo.specs.declared.Sorting.{Sorting}
+use Rattle.std.proofs.Common.{◌≡◌, ℕ, ℤ, List, [], ◌∷◌, take, drop, reverse, slice_get, Option, Some, None, Contains, sym, subst, take-append-drop}
+use Rattle.gix_topo.proofs.Common.{Contains-append_left, ObjectId, Contains-here, Contains-there, Sorting, IsChild, IsChildless, IsReady, Keeps, last_places, IsMadeReady, IsSortedBeginning}
 use Rattle.gix_topo.specs.declared.Sorting.TheVariants as order
-use Rattle.gix_topo.specs.WalkSet.{IsChild, IsChildless, IsReady}
-use Rattle.gix_topo.specs.TopoOrder.{Keeps, last_places, IsMadeReady}
-use Rattle.gix_topo.specs.Laws.{IsSorted, IsSortedBeginning}
+use Rattle.gix_topo.specs.Laws.{IsSorted}
 use Rattle.gix_topo.proofs.Readiness.IsReady.{keeps_alike}
 use Rattle.gix_topo.proofs.Run.ReadyInTurn.{IfOne, IsNextBy, turns_sorted, sorted_turns, turns_beginning, beginning_turns, reverse_in}
 

@@ -1,20 +1,9 @@
 -- Each order has a list: over a finite history, a best ready commit is taken until none is ready.
-use Rattle.std.specs.Prelude.{◌≡◌, ◌↔◌, ◌≤◌, ℕ, ℤ, List, [], ◌++◌, Bool, true, not, ◌&&◌, filter, length, reverse, take, slice_get, Option, Some, Contains}
-use Rattle.std.proofs.Common.{sym, ◌∙◌}
-use Rattle.std.proofs.lemmas.Bool.{true≢false, and_parts, and_from, not-true, not_from_false, false_from_ne_true}
-use Rattle.gix_hash.specs.declared.ObjectId.{ObjectId}
-use Rattle.gix_hash.specs.Id.{is_among}
-use Rattle.gix_hash.specs.Reach.{Reaches}
-use Rattle.gix_hash.proofs.Ids.Membership.{among_from, among_is}
-use Rattle.gix_object.specs.Object.{Objects}
-use Rattle.gix_revwalk.specs.declared.CommitTimeOrder.TheVariants.{NewestFirst}
-use Rattle.gix_revwalk.specs.BreadthOrder.{first_new}
+use Rattle.std.proofs.Common.{◌≡◌, ◌↔◌, ◌≤◌, ℕ, ℤ, List, [], ◌++◌, Bool, true, not, ◌&&◌, filter, length, reverse, take, slice_get, Option, Some, Contains, sym, ◌∙◌, true≢false}
+use Rattle.gix_topo.proofs.Common.{and_parts, and_from, not-true, not_from_false, false_from_ne_true, ObjectId, is_among, Reaches, among_from, among_is, Objects, NewestFirst, first_new, IsInWalk, IsChild, IsReady, IsDateOrder}
+use Rattle.gix_topo.proofs.Common.{IsTopoOrder, among-filter}
 use Rattle.gix_revwalk.specs.Texts.{text_next}
-use Rattle.gix_topo.specs.WalkSet.{IsInWalk, IsChild, IsReady}
-use Rattle.gix_topo.specs.DateOrder.{IsDateOrder}
-use Rattle.gix_topo.specs.TopoOrder.{IsTopoOrder}
 use Rattle.gix_revwalk.proofs.Greedy.{steps_exist}
-use Rattle.gix_revwalk.proofs.NewIds.{among-filter}
 use Rattle.gix_revwalk.proofs.Orders.{found_passes}
 use Rattle.gix_revwalk.proofs.SomeOrder.{best, best_of, reached_list}
 use Rattle.gix_topo.proofs.Readiness.Decided.{is_ready, ready_is, is_ready_by, made, made_is, made_member}

@@ -1,43 +1,29 @@
 -- A topological walk takes what the definitions say, in their order: all of it where it is drawn to its end.
-use Rattle.std.specs.Prelude.{◌≡◌, ◌⊎◌, ◌≤ℤ◌, List, [], ◌∷◌, ◌++◌, Bool, true, false, not, ◌&&◌, ◌||◌, cond, filter, find, reverse, slice_get, Option, Some, None, Result, Ok, Err, Contains, All}
-use Rattle.std.proofs.Common.{refl, sym, ap, subst, ⊎_elim, inl, inr, ◌∙◌, arith, append-nil}
+use Rattle.std.proofs.Common.{◌≡◌, ◌⊎◌, ◌≤ℤ◌, List, [], ◌∷◌, ◌++◌, Bool, true, false, not, ◌&&◌, ◌||◌, cond, filter, find, reverse, slice_get, Option, Some, None, Result, Ok, Err, Contains, All, refl, sym, ap, subst, ⊎_elim, inl, inr}
+use Rattle.std.proofs.Common.{◌∙◌, arith, append-nil}
 use Rattle.std.proofs.Math.Bool.{or_comm}
 use Rattle.std.specs.List.{AllZip}
-use Rattle.std.proofs.lemmas.Int.{ints}
-use Rattle.std.proofs.lemmas.Bool.{false≢true, false_from_ne_true, not_from_false}
+use Rattle.gix_topo.proofs.Common.{ints, false≢true, false_from_ne_true, not_from_false, Contains-permutation, Contains-append_left, Contains-push, Contains-push_cases, All-head, All-tail, filter-append, filter_agree, Drains, Yields}
+use Rattle.gix_topo.proofs.Common.{ObjectId, id_cmp, is_same, is_among, Objects, Info, Sorting, Error, time_of, IsReady, Keeps, last_places, IsMadeReady, IsAgreeing, TopoPlan, TopoWalk, Ready, Counted, ready_ids, IsTaken, HoldsReady}
+use Rattle.gix_topo.proofs.Common.{Chooses, IsStored, IsSound, IsFault, StartsWith, IsStarted, Takes, after, Next, text_walked, IsTextMember, walked_of, IsMember, IsNoRefusal, IsSortedBeginning, IsTakenInOrder, IsTakenFirst}
+use Rattle.gix_topo.proofs.Common.{IsTakenByText, IsTakenFirstByText, IsCommitInfo, IsTextInfo, IsGiven, IsTextGiven, GivesInOrder, BeginsInOrder, GivesTextOrder, BeginsTextOrder, IsWholeRun, AreApart, id_total, same_is, same_itself}
+use Rattle.gix_topo.proofs.Common.{among-append, among-one, among_from, among_is, Contains-here, Contains-there, Contains-cons_cases, no_member, walked_within, filter_all}
 use Rattle.std.proofs.lemmas.List.{map-append, reverse-append}
-use Rattle.std.proofs.lemmas.List.Sorted.{Contains-permutation}
-use Rattle.std.proofs.lemmas.List.Elements.{Contains-append_left, Contains-push, Contains-push_cases, All-head, All-tail, filter-append, filter_agree}
 use Rattle.std.specs.FinSet as set
-use Rattle.std.specs.Iterator.{Drains, Yields}
-use Rattle.gix_hash.specs.declared.ObjectId.{ObjectId}
-use Rattle.gix_hash.specs.Id.{id_cmp, is_same, is_among}
 use Rattle.gix_object.specs.declared.find.existing_iter.Error.TheVariants as existing
-use Rattle.gix_object.specs.Object.{Objects}
-use Rattle.gix_revwalk.specs.declared.Info.{Info}
-use Rattle.gix_topo.specs.declared.Sorting.{Sorting}
 use Rattle.gix_topo.specs.declared.Sorting.TheVariants as order
-use Rattle.gix_topo.specs.declared.Error.{Error}
 use Rattle.gix_topo.specs.declared.Error.TheVariants as error
-use Rattle.gix_revwalk.specs.Commits.{time_of}
 use Rattle.gix_revwalk.specs.Texts.{text_next}
-use Rattle.gix_topo.specs.WalkSet.{IsReady}
-use Rattle.gix_topo.specs.TopoOrder.{Keeps, last_places, IsMadeReady}
 use Rattle.gix_revwalk.specs.Asking.{Becomes, itself, further, AnswersBy}
-use Rattle.gix_revwalk.specs.Agreeing.{IsAgreeing}
-use Rattle.gix_topo.specs.Walk.{TopoPlan, TopoWalk, Ready, Counted, ready_ids, IsTaken, HoldsReady, Chooses, IsStored, IsSound, IsFault, StartsWith, IsStarted, Takes, after, Next, text_walked, IsTextMember, walked_of, IsMember}
-use Rattle.gix_topo.specs.Laws.{IsNoRefusal, IsSorted, IsSortedBeginning, IsTakenInOrder, IsTakenFirst, IsTakenByText, IsTakenFirstByText, IsCommitInfo, IsTextInfo, IsGiven, IsTextGiven, GivesInOrder, BeginsInOrder, GivesTextOrder, BeginsTextOrder, IsWholeRun, AreApart}
-use Rattle.gix_hash.proofs.Ids.Membership.{id_total, same_is, same_itself, among-append, among-one, among_from, among_is, Contains-here, Contains-there, Contains-cons_cases, no_member}
+use Rattle.gix_topo.specs.Laws.{IsSorted}
 use Rattle.gix_topo.proofs.Readiness.IsReady.{among_by, among-by_time, keeps_from, keeps_alike, AreReady, ready_alike, takes_ready, starts_ready, in_walk_top}
 use Rattle.gix_topo.proofs.Run.ReadyInTurn.{TurnsFrom, IfOne, turn_none, turn_more, IsNextBy, turns_sorted, turns_beginning, reverse_in, in_reverse}
-use Rattle.gix_revwalk.proofs.ReadsWhole.{walked_within}
 use Rattle.gix_topo.proofs.Reading.WholeTexts.{member_text, text_member, member_names, member_walks}
 use Rattle.gix_topo.proofs.Run.Draws.{Draws, rests, shows, hides, breaks, ready_after, all_drawn, drained}
 use Rattle.gix_topo.proofs.Run.EachOnce.{each_by, first_by}
 use Rattle.gix_topo.proofs.Run.Ends.{apart_on, started_apart}
 use Rattle.gix_topo.proofs.Run.SameOrder.{sorted_to, begins_to}
 use Rattle.gix_topo.proofs.Readiness.ReadyIds.{in_ids, from_ids, holds_times, chosen_in, chosen_among, chosen_once, held_among}
-use Rattle.gix_hash.proofs.Lists.{filter_all}
 
 -- the first that passes is the first of those that pass
 first_found : (p : ObjectId → Bool) (xs : List ObjectId) → find p xs ≡ slice_get (filter p xs) 0

@@ -1,27 +1,15 @@
 -- Ids one after the other, each of which may lose a child, and may become ready: which become ready, and in which order.
-use Rattle.std.specs.Prelude.{◌≡◌, ◌≤◌, ◌+◌, ℕ, List, [], ◌∷◌, ◌++◌, Bool, true, false, cond, Contains}
-use Rattle.std.proofs.Common.{refl, sym, ap, subst, ⊎_elim, ◌∙◌, arith, zero-add}
-use Rattle.std.proofs.lemmas.Bool.{true≢false, false_from_ne_true, or_cases, or_from, or_left, or_parts}
-use Rattle.gix_hash.specs.declared.ObjectId.{ObjectId}
-use Rattle.gix_hash.specs.Id.{is_same, is_among}
-use Rattle.gix_object.specs.Object.{Objects}
-use Rattle.gix_hash.proofs.Ids.Membership.{same_is, same_itself, among_from, among_is, Contains-here, no_member}
-use Rattle.gix_frontier.specs.declared.Side.{Side}
-use Rattle.gix_frontier.specs.declared.Side.TheVariants.{Ends}
-use Rattle.gix_frontier.specs.declared.Frontier.{Frontier}
-use Rattle.gix_topo.specs.declared.walk.Walk.{Walk}
-use Rattle.gix_frontier.specs.Inside.Frontier.{is_seen, is_due, known_of, reached}
-use Rattle.gix_topo.specs.Inside.Releasing.{with_frontier, Pushes}
-use Rattle.gix_topo.specs.Inside.Starting.{Starts, waits, frees, StartsAll, none, more}
+use Rattle.std.proofs.Common.{◌≡◌, ◌≤◌, ◌+◌, ℕ, List, [], ◌∷◌, ◌++◌, Bool, true, false, cond, Contains, refl, sym, ap, subst, ⊎_elim, ◌∙◌, arith, zero-add, true≢false}
+use Rattle.gix_topo.proofs.Common.{false_from_ne_true, or_cases, or_from, or_left, or_parts, ObjectId, is_same, is_among, Objects, same_is, same_itself, among_from, among_is, Contains-here, no_member, Side, Ends, Frontier, Walk, is_seen}
+use Rattle.gix_topo.proofs.Common.{is_due, known_of, reached, with_frontier, Pushes, Starts, StartsAll, Keeps, passed, distinct_after, Ready, ready_ids, HoldsReady, only_member}
+use Rattle.gix_topo.specs.Inside.Starting.{waits, frees, none, more}
 use Rattle.gix_revwalk.specs.Ids.{times}
-use Rattle.gix_topo.specs.TopoOrder.{Keeps, none as keeps_none, kept, passed, distinct_after}
-use Rattle.gix_topo.specs.Walk.{Ready, ready_ids, HoldsReady}
+use Rattle.gix_topo.specs.TopoOrder.{none as keeps_none, kept}
 use Rattle.gix_topo.proofs.Counts.Frontier.{has_seen}
 use Rattle.gix_topo.proofs.Counts.Children.{children_of, was_ready_of}
 use Rattle.gix_topo.proofs.Counts.MakesReady.{MakesReady, made_none, made_one, made_more, marks_ready_known, makes_moved, due_parts, due_from}
 use Rattle.gix_topo.proofs.Readiness.ReadyIds.{from_ids, ids-append, holds_none, holds_on}
 use Rattle.gix_topo.proofs.Readiness.IsReady.{keeps_in, keeps_on, keeps_append, first_from}
-use Rattle.gix_hash.proofs.Lists.{only_member}
 
 module _ {F : Type 0} (objects : F → Objects) (faulty : F → ObjectId → Type 0) where
   -- becoming ready, as the end shows it: no child is left, no end has seen it, and it wasn't ready before

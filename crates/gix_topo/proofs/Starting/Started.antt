@@ -1,36 +1,17 @@
 -- What holds of a topological walk that has begun, and when one can't be built.
 use Rattle.std.specs.FinSet as set
-use Rattle.std.specs.Prelude.{◌≡◌, ◌≤◌, List, [], ◌++◌, Bool, true, false, not, ◌&&◌, ◌||◌, Contains, ◌∷◌}
-use Rattle.std.proofs.Common.{refl, sym, ap, subst, inl, inr, ⊎_elim, ◌∙◌, arith, zero-add}
+use Rattle.std.proofs.Common.{◌≡◌, ◌≤◌, List, [], ◌++◌, Bool, true, false, not, ◌&&◌, ◌||◌, Contains, ◌∷◌, refl, sym, ap, subst, inl, inr, ⊎_elim, ◌∙◌, arith, zero-add, true≢false}
 use Rattle.std.proofs.Math.Bool.{or-false, and-not_self}
-use Rattle.std.proofs.lemmas.Bool.{true≢false, false≢true}
-use Rattle.std.proofs.lemmas.List.Elements.{Contains-append_left}
-use Rattle.gix_hash.specs.declared.ObjectId.{ObjectId}
-use Rattle.gix_hash.specs.Id.{id_cmp, is_among}
-use Rattle.gix_object.specs.Object.{Objects}
-use Rattle.gix_hash.proofs.Ids.Membership.{id_total, id_apart, among_from, among_is, Contains-here, Contains-there}
-use Rattle.gix_frontier.specs.declared.Side.TheVariants.{Tips, Ends}
-use Rattle.gix_topo.specs.declared.counting.Counting.{Counting}
-use Rattle.gix_topo.specs.declared.walk.Walk.{Walk}
-use Rattle.gix_revwalk.specs.Agreeing.{IsAgreeing}
-use Rattle.gix_topo.specs.Depth.{infinity, known_generation}
-use Rattle.gix_frontier.specs.Inside.Frontier.{is_seen, is_done, reached, known_of}
-use Rattle.gix_revwalk.specs.Commits.{time_of}
-use Rattle.gix_hash.specs.Reach.{start}
-use Rattle.gix_revwalk.specs.Reading.{DropsRows}
-use Rattle.gix_topo.specs.Inside.Releasing.{plan_of, counted_by, taken_of, walk_of}
-use Rattle.gix_topo.specs.Inside.Searched.{IsCounted, IsSearched, next_by}
-use Rattle.gix_revwalk.specs.Ids.{AreDistinct}
-use Rattle.gix_topo.specs.Inside.Starting.{HasBegun, IsBegunWalk, by_rising_time, IsStartFault, here, later, short}
-use Rattle.gix_topo.specs.TopoOrder.{Keeps, first_places}
-use Rattle.gix_topo.specs.Inside.Steady.{IsDone, AreRead, AreDroppedFor, IsTallied, IsSteady, HasCounted, IsHeld, unasked, unasked_of}
-use Rattle.gix_topo.specs.Walk.{TopoPlan, Ready, ready_ids, HoldsReady, IsNumberOf, IsInDepth, IsBrokenRow, IsCounting, IsStored, IsStarted, StartsWith, IsFound, text_walked, IsTextMember, IsReached, IsFirstReady, IsFault, IsBuildFault}
-use Rattle.gix_topo.specs.WalkSet.{IsChildless}
+use Rattle.gix_topo.proofs.Common.{false≢true, Contains-append_left, ObjectId, id_cmp, is_among, Objects, id_total, id_apart, among_from, among_is, Contains-here, Contains-there, Tips, Ends, Counting, Walk, IsAgreeing, infinity}
+use Rattle.gix_topo.proofs.Common.{known_generation, is_seen, is_done, reached, known_of, time_of, start, DropsRows, plan_of, counted_by, taken_of, walk_of, IsCounted, IsSearched, next_by, AreDistinct, HasBegun, IsBegunWalk}
+use Rattle.gix_topo.proofs.Common.{by_rising_time, IsStartFault, Keeps, first_places, IsDone, AreRead, AreDroppedFor, IsTallied, IsSteady, HasCounted, IsHeld, unasked, unasked_of, TopoPlan, Ready, ready_ids, HoldsReady, IsNumberOf}
+use Rattle.gix_topo.proofs.Common.{IsInDepth, IsBrokenRow, IsCounting, IsStored, IsStarted, StartsWith, IsFound, text_walked, IsTextMember, IsReached, IsFirstReady, IsFault, IsBuildFault, IsChildless, times_once, Error, only_member}
+use Rattle.gix_topo.specs.Inside.Starting.{here, later, short}
 use Rattle.gix_topo.proofs.Counts.IndegreeZero.{unseen, all_taken, text_left, text_outside}
 use Rattle.gix_topo.proofs.Counts.Expanded.{number_same, broken}
 use Rattle.gix_topo.proofs.Counts.RowsDropped.{made_dropped}
 use Rattle.gix_topo.proofs.Counts.MakesReady.{MakesReady, due_parts}
-use Rattle.gix_revwalk.proofs.NewIds.{times, times_once}
+use Rattle.gix_revwalk.proofs.NewIds.{times}
 use Rattle.gix_topo.proofs.Readiness.IsReady.{keeps_from, keeps_times, first_from, first_once, among_by, keeps_on}
 use Rattle.gix_topo.proofs.Counts.Rest.{least_within}
 use Rattle.gix_topo.proofs.Counts.Taken.{contains-taken}
@@ -41,10 +22,8 @@ use Rattle.gix_topo.proofs.Reading.FoundIsStored.{found_stored}
 use Rattle.gix_topo.proofs.Reading.OnceRead.{all_still, found_later}
 use Rattle.gix_topo.proofs.Counts.Children.{children_of, was_ready_of, tally_same}
 use Rattle.gix_topo.proofs.Readiness.ReadyIds.{holds_in, holds_times, times-permutation}
-use Rattle.gix_topo.specs.declared.Error.{Error}
 use Rattle.gix_topo.proofs.Counts.Frontier.{has_seen}
 use Rattle.gix_topo.proofs.Counts.ReadFaults.{push_fault, push_misses_no_count}
-use Rattle.gix_hash.proofs.Lists.{only_member}
 
 module _ {F : Type 0} (objects : F → Objects) (faulty : F → ObjectId → Type 0) where
   -- a tip that is due when counting has begun becomes ready

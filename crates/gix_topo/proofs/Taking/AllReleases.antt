@@ -1,19 +1,8 @@
 -- What releasing all the parents of a taken commit does.
-use Rattle.std.specs.Prelude.{◌≡◌, ◌≤◌, ℕ, ◌+◌, List, [], ◌∷◌, Bool, true, false, ◌||◌, cond}
-use Rattle.std.proofs.Common.{refl, sym, ap, subst, ◌∙◌, arith}
-use Rattle.std.proofs.lemmas.Bool.{false≢true}
-use Rattle.gix_hash.specs.declared.ObjectId.{ObjectId}
-use Rattle.gix_hash.specs.Id.{is_same, is_among}
-use Rattle.gix_object.specs.Object.{Objects}
-use Rattle.gix_hash.proofs.Ids.Membership.{same_is, same_itself}
-use Rattle.gix_frontier.specs.declared.Side.{Side}
-use Rattle.gix_frontier.specs.declared.Frontier.{Frontier}
-use Rattle.gix_topo.specs.declared.walk.Walk.{Walk}
-use Rattle.gix_frontier.specs.Inside.Frontier.{is_due, known_of, reached, Uncounts}
-use Rattle.gix_topo.specs.Inside.Releasing.{Releases, waits, frees, ReleasesAll, none, more}
+use Rattle.std.proofs.Common.{◌≡◌, ◌≤◌, ℕ, ◌+◌, List, [], ◌∷◌, Bool, true, false, ◌||◌, cond, refl, sym, ap, subst, ◌∙◌, arith}
+use Rattle.gix_topo.proofs.Common.{false≢true, ObjectId, is_same, is_among, Objects, same_is, same_itself, Side, Frontier, Walk, is_due, known_of, reached, Uncounts, Releases, ReleasesAll, Keeps, distinct_after, Ready, ready_ids}
+use Rattle.gix_topo.specs.Inside.Releasing.{waits, frees, none, more}
 use Rattle.gix_revwalk.specs.Ids.{times}
-use Rattle.gix_topo.specs.TopoOrder.{Keeps, distinct_after}
-use Rattle.gix_topo.specs.Walk.{Ready, ready_ids}
 use Rattle.gix_topo.proofs.Counts.Frontier.{known-insert, unmoved}
 use Rattle.gix_topo.proofs.Counts.Children.{children_of, was_ready_of}
 use Rattle.gix_topo.proofs.Starting.OneByOne.{IsDue, Frees, frees_none, waits_one, frees_one, frees_more}

@@ -1,31 +1,12 @@
 -- A ready commit is chosen and taken: what that adds to a walk, and that what a walk holds still holds; counting stays exact, down to the depth lowered to the commit's parents.
 use Rattle.std.specs.FinSet as set
-use Rattle.std.specs.Prelude.{◌≡◌, ◌+◌, ◌≤◌, ℕ, List, Bool, false, cond, Contains, true, ◌||◌, ◌⊎◌, ◌∷◌, ◌++◌, not, ◌&&◌}
-use Rattle.std.proofs.Common.{sym, ap, subst, ◌∙◌, refl, arith, inl, ⊎_elim}
-use Rattle.std.proofs.lemmas.Bool.{true≢false, false_from_ne_true, or_from, or_parts, or_right, or_cases, or_left}
-use Rattle.gix_hash.specs.declared.ObjectId.{ObjectId}
-use Rattle.gix_hash.specs.Id.{is_same, is_among}
-use Rattle.gix_object.specs.Object.{Objects}
-use Rattle.gix_hash.proofs.Ids.Membership.{id_total, same_is, among_from, id_apart, among_is}
-use Rattle.gix_frontier.specs.declared.Side.{Side}
-use Rattle.gix_frontier.specs.declared.Side.TheVariants.{Tips, Ends}
-use Rattle.gix_topo.specs.declared.counting.Counting.{Counting}
-use Rattle.gix_topo.specs.declared.walk.Walk.{Walk}
-use Rattle.gix_topo.specs.Inside.ReadySet.{ReadySet}
-use Rattle.gix_revwalk.specs.Agreeing.{IsAgreeing}
-use Rattle.gix_topo.specs.Inside.Exploring.{IsRested, IsSamePlan, Explores, itself, further}
-use Rattle.gix_frontier.specs.Inside.Frontier.{is_done, reached, is_seen}
-use Rattle.gix_revwalk.specs.Commits.{by_mode}
-use Rattle.gix_hash.specs.Reach.{Reaches, step}
-use Rattle.gix_revwalk.specs.Reading.{rows_of}
-use Rattle.gix_topo.specs.Inside.Releasing.{plan_of, lowered, with_counting, taken_of, counted_by, TakesOne}
-use Rattle.gix_topo.specs.Inside.Searched.{IsCounted, IsExplored, IsTally, next_by, IsSearched, IsBegun}
-use Rattle.gix_revwalk.specs.Ids.{times, AreDistinct}
-use Rattle.gix_topo.specs.TopoOrder.{last_places, Keeps}
-use Rattle.gix_topo.specs.Inside.Steady.{IsTallied, IsHeld, AreRead, IsSteady, unasked, unasked_of, AreDroppedFor, HasCounted, TakesReady}
-use Rattle.gix_topo.specs.Walk.{Ready, ready_ids, Chooses, IsTaken, text_walked, IsTextMember, IsCounting, Adds, IsFound, IsCommitRead, HoldsReady, IsReached, TopoPlan, IsBrokenRow}
-use Rattle.gix_topo.specs.WalkSet.{IsReady, IsChild}
-use Rattle.gix_topo.specs.Depth.{known_generation}
+use Rattle.std.proofs.Common.{◌≡◌, ◌+◌, ◌≤◌, ℕ, List, Bool, false, cond, Contains, true, ◌||◌, ◌⊎◌, ◌∷◌, ◌++◌, not, ◌&&◌, sym, ap, subst, ◌∙◌, refl, arith, inl, ⊎_elim, true≢false}
+use Rattle.gix_topo.proofs.Common.{false_from_ne_true, or_from, or_parts, or_right, or_cases, or_left, ObjectId, is_same, is_among, Objects, id_total, same_is, among_from, id_apart, among_is, Side, Tips, Ends, Counting, Walk, ReadySet}
+use Rattle.gix_topo.proofs.Common.{IsAgreeing, IsRested, IsSamePlan, Explores, is_done, reached, is_seen, by_mode, Reaches, step, rows_of, plan_of, lowered, with_counting, taken_of, counted_by, TakesOne, IsCounted, IsExplored, IsTally}
+use Rattle.gix_topo.proofs.Common.{next_by, IsSearched, IsBegun, AreDistinct, last_places, Keeps, IsTallied, IsHeld, AreRead, IsSteady, unasked, unasked_of, AreDroppedFor, HasCounted, TakesReady, Ready, ready_ids, Chooses, IsTaken}
+use Rattle.gix_topo.proofs.Common.{text_walked, IsTextMember, IsCounting, Adds, IsFound, IsCommitRead, HoldsReady, IsReached, TopoPlan, IsBrokenRow, IsReady, IsChild, known_generation, times_once, walked_within, Contains-append_cases}
+use Rattle.gix_topo.specs.Inside.Exploring.{itself, further}
+use Rattle.gix_revwalk.specs.Ids.{times}
 use Rattle.gix_topo.proofs.Counts.Frontier.{has_seen}
 use Rattle.gix_topo.proofs.Counts.Rest.{least_within, least_below}
 use Rattle.gix_topo.proofs.Counts.IndegreeZero.{done_seen, text_left, text_outside, unseen, all_taken}
@@ -36,16 +17,14 @@ use Rattle.gix_topo.proofs.Counts.Children.{children_of, was_ready_of, tally_tak
 use Rattle.gix_topo.proofs.Readiness.IsReady.{times-last, keeps_from, keeps_times, last_from, last_once, keeps_on}
 use Rattle.gix_topo.proofs.Counts.Taken.{ready_untaken, made_taken, contains-taken}
 use Rattle.gix_topo.proofs.Readiness.ReadyIds.{chosen_in, in_ids, chosen_among, chosen_once, held_among, held_once, others_in, holds_in}
-use Rattle.gix_revwalk.proofs.NewIds.{times, times_once}
+use Rattle.gix_revwalk.proofs.NewIds.{times}
 use Rattle.gix_topo.proofs.Starting.OneByOne.{IsDue}
 use Rattle.gix_topo.proofs.Taking.AllReleases.{IsReleased, released, released_due}
 use Rattle.gix_topo.proofs.Counts.Expanded.{explores_read, counts_on}
 use Rattle.gix_topo.proofs.Reading.OnceRead.{all_still, found_later}
-use Rattle.gix_revwalk.proofs.ReadsWhole.{walked_within}
 use Rattle.gix_topo.proofs.Counts.MakesReady.{reads_stands}
 use Rattle.gix_topo.proofs.Counts.BothSearches.{searched_same}
 use Rattle.gix_topo.proofs.Counts.RowsDropped.{made_dropped, explores_dropped}
-use Rattle.std.proofs.lemmas.List.Elements.{Contains-append_cases}
 use Rattle.gix_topo.proofs.Starting.Started.{counts_made}
 
 -- of ids that were ready once, the chosen one is taken as well, where it is ready no longer and the added ones weren't ready before

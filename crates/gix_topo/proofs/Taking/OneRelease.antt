@@ -1,24 +1,8 @@
 -- How a commit becomes ready.
-use Rattle.std.specs.Prelude.{◌≡◌, ◌⊎◌, ◌<◌, ℕ, take, suc, ℤ, pos, List, Bool, Option, Some, None, Ok, Contains, length}
-use Rattle.std.proofs.Common.{sym, ap, subst, ◌∙◌, get_or, take-suc}
-use Rattle.std.specs.Option.{unwrap_or}
-use Rattle.std.proofs.lemmas.List.Elements.{Contains-get_or, Contains-push_cases}
-use Rattle.gix_hash.specs.declared.ObjectId.{ObjectId}
-use Rattle.gix_object.specs.Object.{Objects}
-use Rattle.gix_commitgraph.specs.Rows.{GraphRow}
-use Rattle.gix_revwalk.specs.declared.Info.{Info}
-use Rattle.gix_topo.specs.declared.Error.{Error}
-use Rattle.gix_topo.specs.declared.walk.Walk.{Walk}
-use Rattle.gix_revwalk.specs.Reading.{rows_of}
-use Rattle.gix_topo.specs.Reading.{Reads, by_row, by_text, LookUpFails}
-use Rattle.gix_topo.specs.declared.counting.Counting.{Counting}
-use Rattle.gix_topo.specs.Depth.{least}
-use Rattle.gix_topo.specs.Inside.Exploring.{Explores, IsRested}
+use Rattle.std.proofs.Common.{◌≡◌, ◌⊎◌, ◌<◌, ℕ, take, suc, ℤ, pos, List, Bool, Option, Some, None, Ok, Contains, length, sym, ap, subst, ◌∙◌, get_or, take-suc, unwrap_or}
+use Rattle.gix_topo.proofs.Common.{Contains-get_or, Contains-push_cases, ObjectId, Objects, GraphRow, Info, Error, Walk, rows_of, Reads, by_row, by_text, LookUpFails, Counting, least, Explores, IsRested, by_mode, last_places, Ready}
+use Rattle.gix_topo.proofs.Common.{LooksUpParent, IsPushFault, parent, lowered, with_counting, TakesOne, IsTakingFault, releasing, ReleasesAll, IsFaultAmong}
 use Rattle.gix_topo.specs.Inside.Reader.{Reader}
-use Rattle.gix_revwalk.specs.Commits.{by_mode}
-use Rattle.gix_topo.specs.TopoOrder.{last_places}
-use Rattle.gix_topo.specs.Walk.{Ready}
-use Rattle.gix_topo.specs.Inside.Releasing.{LooksUpParent, IsPushFault, parent, lowered, with_counting, TakesOne, IsTakingFault, releasing, ReleasesAll, IsFaultAmong}
 
 -- what is read has the id that was asked for, and a time
 pub record IsTimedInfo (i : ObjectId) (info : Info) (time : ℤ) : Type 0 where

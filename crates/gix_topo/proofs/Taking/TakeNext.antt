@@ -1,20 +1,10 @@
 -- One call of `next`: a commit after the other is taken, until one is shown.
-use Rattle.std.specs.Prelude.{◌≡◌, ◌⊎◌, ◌≤◌, suc, List, [], Bool, true, false, Option, Some, None, Result, Ok, Err, Contains}
-use Rattle.std.proofs.Common.{sym, ap, subst, ⊎_elim}
-use Rattle.std.specs.Iterator.{MakesProgress, at_most}
-use Rattle.gix_hash.specs.declared.ObjectId.{ObjectId}
-use Rattle.gix_object.specs.Object.{Objects}
-use Rattle.gix_revwalk.specs.declared.Info.{Info}
-use Rattle.gix_topo.specs.declared.Error.{Error}
-use Rattle.gix_topo.specs.declared.walk.Walk.{Walk}
-use Rattle.gix_topo.specs.Inside.ReadySet.{ReadySet}
-use Rattle.gix_topo.specs.Inside.Releasing.{plan_of, counted_by, taken_of, walk_of, TakesOne, IsTakingFault}
-use Rattle.gix_topo.specs.Laws.{answers_left}
-use Rattle.gix_topo.specs.Inside.Steady.{IsHeld, IsOpen, TakesReady, TakesNext, ended, given, failed}
-use Rattle.gix_topo.specs.Walk.{TopoWalk, Ready, Counted, Chooses, Adds, IsNextReady, IsFault, IsLate, Takes, after, Next}
+use Rattle.std.proofs.Common.{◌≡◌, ◌⊎◌, ◌≤◌, suc, List, [], Bool, true, false, Option, Some, None, Result, Ok, Err, Contains, sym, ap, subst, ⊎_elim}
+use Rattle.gix_topo.proofs.Common.{MakesProgress, at_most, ObjectId, Objects, Info, Error, Walk, ReadySet, plan_of, counted_by, taken_of, walk_of, TakesOne, IsTakingFault, answers_left, IsHeld, IsOpen, TakesReady, TakesNext, TopoWalk}
+use Rattle.gix_topo.proofs.Common.{Ready, Counted, Chooses, Adds, IsNextReady, IsFault, IsLate, Takes, after, Next, no_member}
+use Rattle.gix_topo.specs.Inside.Steady.{ended, given, failed}
 use Rattle.gix_topo.specs.Walk as machine
 use Rattle.gix_revwalk.specs.Infos.{IsInfo}
-use Rattle.gix_hash.proofs.Ids.Membership.{no_member}
 use Rattle.gix_topo.proofs.Taking.InvariantKept.{held_on, takes_on}
 use Rattle.gix_topo.proofs.Taking.TakingFaults.{taking_fault}
 use Rattle.gix_topo.proofs.Run.Ends.{takes_left, next_left}

@@ -1,36 +1,17 @@
 -- When a topological walk can't take a ready commit.
-use Rattle.std.specs.Prelude.{◌≡◌, ◌⊎◌, ◌≤◌, ℕ, ◌+◌, ◌-◌, List, [], ◌∷◌, ◌++◌, drop, Bool, true, false, cond, Some, None, Err, Contains}
-use Rattle.std.proofs.Common.{refl, sym, ap, subst, inl, inr, ⊎_elim, ◌∙◌, arith}
+use Rattle.std.proofs.Common.{◌≡◌, ◌⊎◌, ◌≤◌, ℕ, ◌+◌, ◌-◌, List, [], ◌∷◌, ◌++◌, drop, Bool, true, false, cond, Some, None, Err, Contains, refl, sym, ap, subst, inl, inr, ⊎_elim, ◌∙◌, arith}
 use Rattle.std.specs.FinSet as set
-use Rattle.gix_hash.specs.declared.ObjectId.{ObjectId}
+use Rattle.gix_topo.proofs.Common.{ObjectId, kind_of, is_among, Object, Objects, commit_items, same_itself, among_from, Contains-here, Contains-cons_cases, no_member, Parents, Error, Counting, Tips, Ends, Walk, ReadySet, IsAgreeing}
+use Rattle.gix_topo.proofs.Common.{Explores, IsRested, is_seen, is_done, known_of, reached, Frontier, or_parts, by_mode, Reaches, step, IsReadFault, plan_of, taken_of, IsPushFault, parent, with_frontier, with_counting, ReleasesAll}
+use Rattle.gix_topo.proofs.Common.{IsReleaseFault, uncounted, unread, IsFaultAmong, lowered, IsTakingFault, exploring, releasing, next_by, last_places, AreDroppedFor, IsTallied, IsHeld, TopoPlan, Ready, ready_ids, Chooses, IsCommitRead}
+use Rattle.gix_topo.proofs.Common.{IsNextReady, IsOtherParent, IsLate, IsFault, IsReached, times-append, among_times, Contains-append_left, Contains-append_right}
 use Rattle.gix_object.specs.declared.Kind.TheVariants as object
 use Rattle.gix_object.specs.declared.find.existing_iter.Error.TheVariants as existing
-use Rattle.gix_hash.specs.Id.{kind_of, is_among}
-use Rattle.gix_object.specs.Object.{Object, Objects}
-use Rattle.gix_object.specs.CommitItems.{commit_items}
-use Rattle.gix_hash.proofs.Ids.Membership.{same_itself, among_from, Contains-here, Contains-cons_cases, no_member}
-use Rattle.gix_revwalk.specs.declared.Parents.{Parents}
 use Rattle.gix_revwalk.specs.declared.Parents.TheVariants as mode
-use Rattle.gix_topo.specs.declared.Error.{Error}
 use Rattle.gix_topo.specs.declared.Error.TheVariants as error
-use Rattle.gix_topo.specs.declared.counting.Counting.{Counting}
-use Rattle.gix_frontier.specs.declared.Side.TheVariants.{Tips, Ends}
-use Rattle.gix_topo.specs.declared.walk.Walk.{Walk}
-use Rattle.gix_topo.specs.Inside.ReadySet.{ReadySet}
-use Rattle.gix_revwalk.specs.Agreeing.{IsAgreeing}
-use Rattle.gix_topo.specs.Inside.Exploring.{Explores, IsRested}
-use Rattle.gix_frontier.specs.Inside.Frontier.{is_seen, is_done, known_of, reached}
-use Rattle.gix_frontier.specs.declared.Frontier.{Frontier}
-use Rattle.std.proofs.lemmas.Bool.{or_parts}
-use Rattle.gix_revwalk.specs.Commits.{by_mode}
-use Rattle.gix_hash.specs.Reach.{Reaches, step}
-use Rattle.gix_topo.specs.Reading.{IsReadFault}
-use Rattle.gix_topo.specs.Inside.Releasing.{plan_of, taken_of, IsPushFault, itself as pushed, parent, with_frontier, with_counting, ReleasesAll, IsReleaseFault, uncounted, unread, no_memory, none, more, IsFaultAmong, here, later, lowered, IsTakingFault, exploring, releasing, short}
-use Rattle.gix_topo.specs.Inside.Searched.{text_next, next_by}
+use Rattle.gix_topo.specs.Inside.Releasing.{itself as pushed, no_memory, none, more, here, later, short}
+use Rattle.gix_topo.specs.Inside.Searched.{text_next}
 use Rattle.gix_revwalk.specs.Ids.{times}
-use Rattle.gix_topo.specs.TopoOrder.{last_places}
-use Rattle.gix_topo.specs.Inside.Steady.{AreDroppedFor, IsTallied, IsHeld}
-use Rattle.gix_topo.specs.Walk.{TopoPlan, Ready, ready_ids, Chooses, IsCommitRead, IsNextReady, IsOtherParent, IsLate, IsFault, IsReached}
 use Rattle.gix_topo.proofs.Counts.ExploreKeeps.{explores_same, explores_done, explores_idle}
 use Rattle.gix_topo.proofs.Counts.Frontier.{has_seen}
 use Rattle.gix_topo.proofs.Readiness.IsReady.{last_from, last_once, times-last}
@@ -39,11 +20,9 @@ use Rattle.gix_topo.proofs.Counts.Children.{children_of, was_ready_of, tally_cou
 use Rattle.gix_topo.proofs.Reading.ReadsCommit.{reads_text_next}
 use Rattle.gix_revwalk.proofs.Rows.{none_agree}
 use Rattle.gix_topo.proofs.Taking.InvariantKept.{was_ready, plan_taken, was_untaken, named_text, parents_reached, counted_on, due_ready}
-use Rattle.gix_revwalk.proofs.NewIds.{times-append, among_times}
 use Rattle.gix_topo.proofs.Counts.RowsDropped.{made_dropped, explores_dropped}
 use Rattle.gix_topo.proofs.Counts.ReadFaults.{fault_item, exploring_fault, push_fault}
 use Rattle.gix_topo.proofs.Counts.MakesReady.{due_parts}
-use Rattle.std.proofs.lemmas.List.Elements.{Contains-append_left, Contains-append_right}
 
 same_object : (a b : Object) → Some a ≡ Some b → a ≡ b
 same_object a b e = cc

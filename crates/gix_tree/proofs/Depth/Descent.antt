@@ -1,19 +1,10 @@
 -- An entry shown by a walk in depth, by the calls that were made.
-use Rattle.std.proofs.Common.{◌≡◌, Bool, true, false, List, [], ◌∷◌, Some, None, Ok, Err, refl, subst}
-use Rattle.std.specs.declared.ops.ControlFlow.TheVariants.{Continue, Break}
-use Rattle.gix_hash.specs.declared.ObjectId.{ObjectId}
-use Rattle.gix_hash.specs.Id.{is_among}
-use Rattle.gix_object.specs.TreeItems.{TreeEntry, is_tree}
-use Rattle.gix_tree.specs.declared.breadthfirst.Error.{Error}
+use Rattle.std.proofs.Common.{◌≡◌, Bool, true, false, List, [], ◌∷◌, Some, None, Ok, Err, refl, subst, Continue, Break}
+use Rattle.gix_tree.proofs.Common.{ObjectId, is_among, TreeEntry, is_tree, Error, Stop, Call, PushPath, PopPath, PushBack, Refused, RefusedIn, here, later, Items, Enters, Cycles, visit_call, visit_call_of, depth_calls, visit_below}
+use Rattle.gix_tree.proofs.Common.{ShowsBelow, ShowsUpTo, Descends}
 use Rattle.gix_tree.specs.declared.breadthfirst.Error.TheVariants as error
-use Rattle.gix_tree.specs.declared.depthfirst.Stop.{Stop}
 use Rattle.gix_tree.specs.declared.depthfirst.Stop.TheVariants as stop
-use Rattle.gix_tree.specs.Delegate.{Call, PushPath, PopPath, PushBack, Refused, RefusedIn, here, later}
-use Rattle.gix_tree.specs.Visits.{Items, Enters, Cycles, visit_call, visit_call_of}
-use Rattle.gix_tree.specs.Script.{depth_calls}
-use Rattle.gix_tree.specs.Inside.ShowsEntry.{visit_below}
 use Rattle.gix_tree.specs.Inside.ShowsBelow as shows
-use Rattle.gix_tree.specs.Inside.ShowsBelow.{ShowsBelow, ShowsUpTo, Descends}
 use Rattle.gix_tree.proofs.Shown.{visit_takes, plain_leaves, leads}
 
 module _ {V : Type 0} (steps : V → Call → V → Type 0) (ids : List ObjectId) (e : TreeEntry) (old : V) where

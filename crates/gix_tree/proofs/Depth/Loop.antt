@@ -1,27 +1,15 @@
 -- What a loop of `depthfirst` keeps, and what each of its steps leaves of that. A state knows ids and no names.
 use Rattle.std.proofs.Common.{◌≡◌, ◌≢◌, List, [], ◌∷◌, ◌++◌, map, drop, Some, Result, Ok, Err, refl, sym, ap, ◌∙◌, subst, append_assoc}
-use Rattle.gix_hash.specs.declared.ObjectId.{ObjectId}
+use Rattle.gix_tree.proofs.Common.{ObjectId, is_among, kind_of, Objects, TreeEntry, is_tree, tree_items, Error, Action, Call, PopBack, Run, RefusedIn, Items, Place, Visit, visit, inside, Outcome, Leaves, Enters, Cycles, Breaks}
+use Rattle.gix_tree.proofs.Common.{outcome_of, outcome, Ending, Whole, known_root, depth_calls, DepthScript, IsDepthScript, visit_below, Stop, ShowsUpTo, error_of_find, FoundTree, items_at, items_of_object, trees_of, LookUpFails}
+use Rattle.gix_tree.proofs.Common.{depth_answer, DepthFirst}
 use Rattle.gix_object.specs.declared.find.existing_iter.Error.{Error as ExistingError}
 use Rattle.gix_object.specs.declared.find.existing_iter.Error.TheVariants as existing
-use Rattle.gix_hash.specs.Id.{is_among, kind_of}
-use Rattle.gix_object.specs.Object.{Objects}
-use Rattle.gix_object.specs.TreeItems.{TreeEntry, is_tree, tree_items}
-use Rattle.gix_tree.specs.declared.breadthfirst.Error.{Error}
 use Rattle.gix_tree.specs.declared.breadthfirst.Error.TheVariants as error
-use Rattle.gix_tree.specs.Delegate.{Action, Call, PopBack, Run, RefusedIn}
-use Rattle.gix_tree.specs.Visits.{Items, Place, Visit, visit, inside, Outcome, Leaves, Enters, Cycles, Breaks, outcome_of, outcome, Ending, Whole}
-use Rattle.gix_tree.specs.Paths.{known_root}
 use Rattle.gix_tree.specs.Script as script
-use Rattle.gix_tree.specs.Script.{depth_calls, DepthScript, IsDepthScript}
-use Rattle.gix_tree.specs.Inside.ShowsEntry.{visit_below}
-use Rattle.gix_tree.specs.declared.depthfirst.Stop.{Stop}
 use Rattle.gix_tree.specs.declared.depthfirst.Stop.TheVariants as stop
 use Rattle.gix_tree.specs.declared.depthfirst.Tree.{Tree}
 use Rattle.gix_tree.specs.Inside.ShowsBelow as below
-use Rattle.gix_tree.specs.Inside.ShowsBelow.{ShowsUpTo}
-use Rattle.gix_tree.specs.Errors.{error_of_find}
-use Rattle.gix_tree.specs.Inside.Stack.{FoundTree, items_at}
-use Rattle.gix_tree.specs.Walk.{items_of_object, trees_of, LookUpFails, depth_answer, DepthFirst}
 use Rattle.gix_tree.proofs.Places.{first_seen, none_seen}
 use Rattle.gix_tree.proofs.Depth.Stack.{Above}
 use Rattle.gix_tree.proofs.Depth.Script.{DepthFrom, outermost, resumes, depth_leaves, depth_enters, depth_ends}

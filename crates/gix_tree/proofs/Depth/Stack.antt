@@ -1,18 +1,12 @@
 -- The trees that a walk in depth is in.
-use Rattle.std.proofs.Common.{◌≡◌, ℕ, zero, suc, ◌+◌, ◌-◌, ◌<◌, ◌≤◌, Bool, true, false, ◌||◌, List, [], ◌∷◌, ◌++◌, length, drop, get_or, reverse, refl, sym, ap, ◌∙◌, subst, arith}
-use Rattle.std.specs.List.{list_any}
-use Rattle.std.proofs.lemmas.List.{drop_all, drop-drop, reverse-append}
+use Rattle.std.proofs.Common.{◌≡◌, ℕ, zero, suc, ◌+◌, ◌-◌, ◌<◌, ◌≤◌, Bool, true, false, ◌||◌, List, [], ◌∷◌, ◌++◌, length, drop, get_or, reverse, refl, sym, ap, ◌∙◌, subst, arith, drop-drop}
+use Rattle.gix_tree.proofs.Common.{list_any, ObjectId, is_same, is_among, IsEndOf, eq_is_same, Items, IsWithin, ids_down, items_at}
+use Rattle.std.proofs.lemmas.List.{drop_all, reverse-append}
 use Rattle.std.proofs.lemmas.List.Folds.{list_any-append}
 use Rattle.std.proofs.Math.Bool.{or-false, or-true}
 use Rattle.gix_hash.specs.contracts.ObjectIdPartialEq.TheImpl.{eq-value}
-use Rattle.gix_hash.specs.declared.ObjectId.{ObjectId}
-use Rattle.gix_hash.specs.Id.{is_same, is_among}
-use Rattle.gix_object.specs.TreeRefIter.{IsEndOf}
 use Rattle.gix_object.proofs.TreeText.Ends.{drop_end}
-use Rattle.gix_hash.proofs.Ids.Equality.{eq_is_same}
 use Rattle.gix_tree.specs.declared.depthfirst.Tree.{Tree}
-use Rattle.gix_tree.specs.Visits.{Items}
-use Rattle.gix_tree.specs.Inside.Stack.{IsWithin, ids_down, items_at}
 
 -- the next entry of each tree begins in its bytes or behind them all
 abbrev pub AreWithin : List Tree → Type 0

@@ -1,25 +1,15 @@
 -- What a loop of `breadthfirst` keeps, and what each of its steps leaves of that. A state knows ids and no names.
-use Rattle.std.proofs.Common.{◌≡◌, ◌≢◌, ℕ, List, [], ◌∷◌, ◌++◌, map, Some, Result, Ok, Err, refl, sym, ap, ◌∙◌, subst, append_assoc}
-use Rattle.std.proofs.lemmas.List.{append-nil, map-append}
+use Rattle.std.proofs.Common.{◌≡◌, ◌≢◌, ℕ, List, [], ◌∷◌, ◌++◌, map, Some, Result, Ok, Err, refl, sym, ap, ◌∙◌, subst, append_assoc, append-nil}
+use Rattle.std.proofs.lemmas.List.{map-append}
 use Rattle.std.specs.FinMap.{get}
-use Rattle.gix_hash.specs.declared.ObjectId.{ObjectId}
+use Rattle.gix_tree.proofs.Common.{ObjectId, is_among, kind_of, Objects, TreeEntry, is_tree, tree_items, Error, Action, Call, PopFront, Run, RefusedIn, Items, Place, Visit, visit, inside, Outcome, Leaves, Enters, Cycles, Breaks}
+use Rattle.gix_tree.proofs.Common.{outcome_of, outcome, Ending, Whole, Task, Turn, shows, unknown_root, items_or_none, level_calls, LevelQueue, Waiting, ShowsEntry, ShowsTree, visit_below, error_of_find, items_of_object, trees_of}
+use Rattle.gix_tree.proofs.Common.{LookUpFails, level_answer, BreadthFirst}
 use Rattle.gix_object.specs.declared.find.existing_iter.Error.{Error as ExistingError}
 use Rattle.gix_object.specs.declared.find.existing_iter.Error.TheVariants as existing
 use Rattle.gix_object.specs.declared.Kind.TheVariants as kind
-use Rattle.gix_hash.specs.Id.{is_among, kind_of}
-use Rattle.gix_object.specs.Object.{Objects}
-use Rattle.gix_object.specs.TreeItems.{TreeEntry, is_tree, tree_items}
-use Rattle.gix_tree.specs.declared.breadthfirst.Error.{Error}
-use Rattle.gix_tree.specs.Delegate.{Action, Call, PopFront, Run, RefusedIn}
-use Rattle.gix_tree.specs.Visits.{Items, Place, Visit, visit, inside, Outcome, Leaves, Enters, Cycles, Breaks, outcome_of, outcome, Ending, Whole, Task, Turn, shows}
-use Rattle.gix_tree.specs.Paths.{unknown_root}
 use Rattle.gix_tree.specs.Script as script
-use Rattle.gix_tree.specs.Script.{items_or_none, level_calls}
-use Rattle.gix_tree.specs.Inside.LevelQueue.{LevelQueue, Waiting}
 use Rattle.gix_tree.specs.Inside.ShowsEntry as round
-use Rattle.gix_tree.specs.Inside.ShowsEntry.{ShowsEntry, ShowsTree, visit_below}
-use Rattle.gix_tree.specs.Errors.{error_of_find}
-use Rattle.gix_tree.specs.Walk.{items_of_object, trees_of, LookUpFails, level_answer, BreadthFirst}
 use Rattle.gix_tree.proofs.Places.{first_seen, none_seen}
 use Rattle.gix_tree.proofs.SoFar.{look_up_failed, Ended, SoFar, at_start, further, ends}
 use Rattle.gix_tree.proofs.Levels.Queue.{LevelFrom}

@@ -1,12 +1,10 @@
 -- The trees that a walk by levels has met, each with the known ids down to it.
-use Rattle.std.proofs.Common.{◌≡◌, ℕ, zero, suc, ◌+◌, ◌-◌, ◌<◌, ◌≤◌, List, [], ◌∷◌, ◌++◌, length, drop, get_or, ◌||◌, Some, refl, sym, ap, ◌∙◌, subst, arith, length-append, zero-add}
-use Rattle.std.specs.Prelude.{slice_get}
+use Rattle.std.proofs.Common.{◌≡◌, ℕ, zero, suc, ◌+◌, ◌-◌, ◌<◌, ◌≤◌, List, [], ◌∷◌, ◌++◌, length, drop, get_or, ◌||◌, Some, refl, sym, ap, ◌∙◌, subst, arith, length-append, zero-add, slice_get}
 use Rattle.std.proofs.lemmas.List.{drop_all, drop-append-le}
 use Rattle.std.proofs.lemmas.Option.{slice_get_read}
-use Rattle.gix_hash.specs.declared.ObjectId.{ObjectId}
-use Rattle.gix_hash.specs.Id.{is_same, is_among}
+use Rattle.gix_tree.proofs.Common.{ObjectId, is_same, is_among, Waiting, queued, ids_or_none, known_at, met_behind, AreAbove}
 use Rattle.gix_tree.specs.declared.breadthfirst.Tree.{Tree}
-use Rattle.gix_tree.specs.Inside.LevelQueue.{Waiting, queued, ids_or_none, known_at, met_behind, level_queue, AreAbove}
+use Rattle.gix_tree.specs.Inside.LevelQueue.{level_queue}
 
 get_in_front : {X : Type 0} (xs ys : List X) (k : ℕ) → k < length xs → slice_get (xs ++ ys) k ≡ slice_get xs k
 get_in_front [] ys k h = absurd (omega arith)

@@ -1,14 +1,8 @@
 -- The walk by levels from a queue on is the walk by its steps.
-use Rattle.std.proofs.Common.{◌≡◌, ℕ, List, [], ◌∷◌, ◌++◌, length, Option, Some, refl, sym, ap, ◌∙◌, arith, append_assoc, length-append}
-use Rattle.std.proofs.lemmas.List.{append-nil}
-use Rattle.std.specs.Prelude.{slice_get}
-use Rattle.std.specs.List.{flat_map}
-use Rattle.std.proofs.lemmas.List.Concat.{flat_map-append}
-use Rattle.gix_hash.specs.declared.ObjectId.{ObjectId}
+use Rattle.std.proofs.Common.{◌≡◌, ℕ, List, [], ◌∷◌, ◌++◌, length, Option, Some, refl, sym, ap, ◌∙◌, arith, append_assoc, length-append, append-nil, slice_get, flat_map}
+use Rattle.gix_tree.proofs.Common.{flat_map-append, ObjectId, Call, Items, Place, Visit, Ending, Task, shows, Step, one_step_more, tasks_of, next_of_steps, LevelScript, IsLevelScript, whole, leaves, enters, breaks, cycles, turn}
+use Rattle.gix_tree.proofs.Common.{not_found, fault, no_memory_in_turn, no_memory_for_descent, refused}
 use Rattle.gix_object.specs.declared.find.existing_iter.Error.{Error as ExistingError}
-use Rattle.gix_tree.specs.Delegate.{Call}
-use Rattle.gix_tree.specs.Visits.{Items, Place, Visit, Ending, Task, shows}
-use Rattle.gix_tree.specs.Script.{Step, one_step_more, tasks_of, next_of_steps, LevelScript, IsLevelScript, whole, leaves, enters, breaks, cycles, turn, not_found, fault, no_memory_in_turn, no_memory_for_descent, refused}
 use Rattle.gix_tree.proofs.Levels.Queue.{first_task, tasks_after, LevelFrom}
 
 pub first_behind : (passed tasks : List Task) → slice_get (passed ++ tasks) (length passed) ≡ first_task tasks

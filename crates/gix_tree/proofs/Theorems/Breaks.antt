@@ -1,15 +1,8 @@
 -- A walk ends at a `Break`, and nowhere else.
-use Rattle.std.proofs.Common.{◌≡◌, ◌≢◌, ◌↔◌, Bool, List, [], ◌∷◌, ◌++◌, Option, Result, Ok, Err, refl, sym, ap, ◌∙◌, subst, append_assoc}
-use Rattle.std.specs.declared.ops.ControlFlow.TheVariants.{Break}
-use Rattle.gix_hash.specs.declared.ObjectId.{ObjectId}
+use Rattle.std.proofs.Common.{◌≡◌, ◌≢◌, ◌↔◌, Bool, List, [], ◌∷◌, ◌++◌, Option, Result, Ok, Err, refl, sym, ap, ◌∙◌, subst, append_assoc, Break}
+use Rattle.gix_tree.proofs.Common.{ObjectId, is_tree, Error, Action, Call, Items, Visit, visit, Outcome, Leaves, Enters, Cycles, Breaks, outcome_of, Ending, Whole, Broken, Failed, IsUnfailed, Task, level_answer, NoneBreaks, EndsAtBreak}
 use Rattle.gix_object.specs.declared.find.existing_iter.Error.{Error as ExistingError}
-use Rattle.gix_object.specs.TreeItems.{is_tree}
-use Rattle.gix_tree.specs.declared.breadthfirst.Error.{Error}
 use Rattle.gix_tree.specs.declared.breadthfirst.Error.TheVariants as error
-use Rattle.gix_tree.specs.Delegate.{Action, Call}
-use Rattle.gix_tree.specs.Visits.{Items, Visit, visit, Outcome, Leaves, Enters, Cycles, Breaks, outcome_of, Ending, Whole, Broken, Failed, IsUnfailed, Task}
-use Rattle.gix_tree.specs.Walk.{level_answer}
-use Rattle.gix_tree.specs.Laws.{NoneBreaks, EndsAtBreak}
 use Rattle.gix_tree.proofs.All.{all_both, all_right}
 use Rattle.gix_tree.proofs.Outcomes.{says}
 use Rattle.gix_tree.proofs.TaskWalk as walk

@@ -1,28 +1,16 @@
 -- The laws of the walks of trees, over what their contracts say.
-use Rattle.std.proofs.Common.{◌≡◌, ◌≢◌, Bool, true, false, List, [], ◌∷◌, ◌++◌, map, Some, Result, Ok, Err, refl, sym, ap, ◌∙◌, subst, arith}
+use Rattle.std.proofs.Common.{◌≡◌, ◌≢◌, Bool, true, false, List, [], ◌∷◌, ◌++◌, map, Some, Result, Ok, Err, refl, sym, ap, ◌∙◌, subst, arith, IsPermutation, Continue}
 use Rattle.std.proofs.lemmas.List.Sorted.{IsPermutation-map, All-permutation}
 use Rattle.std.proofs.lemmas.List.Elements.{recursion_from_All, All-from_recursion}
-use Rattle.std.specs.List.Sorted.{IsPermutation}
-use Rattle.std.specs.List.{AllByRecursion}
-use Rattle.std.specs.declared.ops.ControlFlow.TheVariants.{Continue}
-use Rattle.gix_hash.specs.declared.ObjectId.{ObjectId}
-use Rattle.gix_object.specs.Object.{Objects}
-use Rattle.gix_object.specs.TreeItems.{TreeEntry, is_tree}
-use Rattle.gix_tree.specs.declared.breadthfirst.Error.{Error}
+use Rattle.gix_tree.proofs.Common.{AllByRecursion, ObjectId, Objects, TreeEntry, is_tree, Error, Path, Action, Call, Run, Items, Visit, visit_call_of, visit_call, Ending, Whole, Broken, Failed, IsUnfailed, is_broken, Turn, shows, IsName}
+use Rattle.gix_tree.proofs.Common.{HaveNames, joined, unknown_root, known_root, items_or_none, entries_in, entries_at, IsDepthScript, IsPreorder, IsPreorderBeginning, Record, recorded, recorded_all, record_of, IsRecorderAnswer, trees_of}
+use Rattle.gix_tree.proofs.Common.{LookUpFails, LookUpFailed, level_answer, depth_answer, BreadthFirst, DepthFirst, LevelsAreRecorded, DepthIsRecorded, BothRecordTheSame, LevelsAreInOrder, DepthIsInOrder, LevelsBeginInOrder}
+use Rattle.gix_tree.proofs.Common.{DepthBeginsInOrder, MetLevelsSucceed, MetDepthSucceeds, SoundLevelsSucceed, SoundDepthSucceeds, LevelsEndAtBreak, DepthEndsAtBreak, OkWithoutBreak}
 use Rattle.gix_tree.specs.declared.breadthfirst.Error.TheVariants as error
-use Rattle.gix_tree.specs.declared.recorder.Location.TheVariants.{Path}
 use Rattle.gix_hash.specs.Reach as reach
-use Rattle.gix_tree.specs.Delegate.{Action, Call, Run}
-use Rattle.gix_tree.specs.Visits.{Items, Visit, visit_call_of, visit_call, Ending, Whole, Broken, Failed, IsUnfailed, is_broken, Turn, shows}
-use Rattle.gix_tree.specs.Paths.{IsName, HaveNames, joined, unknown_root, known_root}
 use Rattle.gix_tree.specs.Script as script
-use Rattle.gix_tree.specs.Script.{items_or_none, entries_in, entries_at, IsDepthScript}
 use Rattle.gix_tree.specs.Preorder as order
-use Rattle.gix_tree.specs.Preorder.{IsPreorder, IsPreorderBeginning}
 use Rattle.gix_tree.specs.Tracked.{Tracked, Tracks, fresh_recorder}
-use Rattle.gix_tree.specs.Recorder.{Record, recorded, recorded_all, record_of, IsRecorderAnswer}
-use Rattle.gix_tree.specs.Walk.{trees_of, LookUpFails, LookUpFailed, level_answer, depth_answer, BreadthFirst, DepthFirst}
-use Rattle.gix_tree.specs.Laws.{LevelsAreRecorded, DepthIsRecorded, BothRecordTheSame, LevelsAreInOrder, DepthIsInOrder, LevelsBeginInOrder, DepthBeginsInOrder, MetLevelsSucceed, MetDepthSucceeds, SoundLevelsSucceed, SoundDepthSucceeds, LevelsEndAtBreak, DepthEndsAtBreak, OkWithoutBreak}
 use Rattle.gix_tree.proofs.Depth.Script.{preorder, preorder_beginning}
 use Rattle.gix_tree.proofs.Recording.Records.{fresh_level, fresh_depth}
 use Rattle.gix_tree.proofs.TaskWalk.{ByLevels, InDepth, TaskWalk, level_walk, depth_walk}

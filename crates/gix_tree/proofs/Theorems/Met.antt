@@ -1,14 +1,8 @@
 -- Where each tree that the visits go into reads whole and doesn't hold itself, a walk fails only for memory.
 use Rattle.std.proofs.Common.{◌≡◌, ◌≢◌, List, [], ◌∷◌, Option, Ok, Err, refl, sym, subst}
-use Rattle.std.specs.List.{AllByRecursion}
-use Rattle.gix_hash.specs.declared.ObjectId.{ObjectId}
+use Rattle.gix_tree.proofs.Common.{AllByRecursion, ObjectId, is_tree, Call, Items, Place, Visit, inside, Enters, Cycles, Ending, Failed, IsUnfailed, Task, Turn, Show, Fault, shows, items_or_none, IsWhole, IsWholeTree, AllEnterWhole}
 use Rattle.gix_object.specs.declared.find.existing_iter.Error.{Error as ExistingError}
-use Rattle.gix_object.specs.TreeItems.{is_tree}
 use Rattle.gix_tree.specs.declared.breadthfirst.Error.TheVariants as error
-use Rattle.gix_tree.specs.Delegate.{Call}
-use Rattle.gix_tree.specs.Visits.{Items, Place, Visit, inside, Enters, Cycles, Ending, Failed, IsUnfailed, Task, Turn, Show, Fault, shows}
-use Rattle.gix_tree.specs.Script.{items_or_none}
-use Rattle.gix_tree.specs.Laws.{IsWhole, IsWholeTree, AllEnterWhole}
 use Rattle.gix_tree.proofs.Outcomes.{says}
 use Rattle.gix_tree.proofs.TaskWalk as walk
 use Rattle.gix_tree.proofs.TaskWalk.{Manner, TaskWalk, all_with}

@@ -1,17 +1,10 @@
 -- The visits of a walk by levels are in level order.
-use Rattle.std.proofs.Common.{◌≡◌, List, [], ◌∷◌, ◌++◌, length, map, Option, Some, Ok, Err, refl, sym, ap, ◌∙◌, subst}
-use Rattle.std.proofs.lemmas.List.{append-nil}
-use Rattle.std.proofs.lemmas.List.Concat.{flat_map-append}
-use Rattle.std.specs.Prelude.{slice_get}
-use Rattle.std.specs.List.{flat_map}
+use Rattle.std.proofs.Common.{◌≡◌, List, [], ◌∷◌, ◌++◌, length, map, Option, Some, Ok, Err, refl, sym, ap, ◌∙◌, subst, append-nil, slice_get, flat_map}
+use Rattle.gix_tree.proofs.Common.{flat_map-append, ObjectId, TreeEntry, Action, Call, Items, Place, Visit, visit, inside, Leaves, Enters, outcome, Ending, IsUnfailed, Task, Turn, Show, Fault, shows, items_or_none, entries_in}
+use Rattle.gix_tree.proofs.Common.{entries_at, IsLevelScript}
 use Rattle.gix_hash.proofs.Lists.{past_end}
-use Rattle.gix_hash.specs.declared.ObjectId.{ObjectId}
 use Rattle.gix_object.specs.declared.find.existing_iter.Error.{Error as ExistingError}
-use Rattle.gix_object.specs.TreeItems.{TreeEntry}
-use Rattle.gix_tree.specs.Delegate.{Action, Call}
-use Rattle.gix_tree.specs.Visits.{Items, Place, Visit, visit, inside, Leaves, Enters, outcome, Ending, IsUnfailed, Task, Turn, Show, Fault, shows}
 use Rattle.gix_tree.specs.LevelOrder.{entries_of, entries_by, FollowsInLevels, IsLevelOrder, BeginsInLevels, IsLevelBeginning}
-use Rattle.gix_tree.specs.Script.{items_or_none, entries_in, entries_at, IsLevelScript}
 use Rattle.gix_tree.proofs.Levels.Met.{get_behind}
 use Rattle.gix_tree.proofs.Levels.Script.{Passed, passed_more}
 use Rattle.gix_tree.proofs.TaskWalk as walk

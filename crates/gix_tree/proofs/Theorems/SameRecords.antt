@@ -1,19 +1,12 @@
 -- Both walks of trees show the same.
-use Rattle.std.proofs.Common.{◌≡◌, ℕ, Bool, true, false, List, [], ◌∷◌, ◌++◌, map, Option, Some, Ok, Err, refl, ap, ◌∙◌, subst, append_assoc}
-use Rattle.std.proofs.lemmas.List.Concat.{flat_map-append}
+use Rattle.std.proofs.Common.{◌≡◌, ℕ, Bool, true, false, List, [], ◌∷◌, ◌++◌, map, Option, Some, Ok, Err, refl, ap, ◌∙◌, subst, append_assoc, Continue, flat_map}
+use Rattle.gix_tree.proofs.Common.{flat_map-append, AllByRecursion, ObjectId, TreeEntry, is_tree, Call, Items, Place, Visit, inside, Leaves, Enters, Breaks, Ending, Whole, Task, Turn, Show, Fault, shows, unknown_root, known_root}
+use Rattle.gix_tree.proofs.Common.{items_or_none, entries_in, IsPreorder}
 use Rattle.std.proofs.lemmas.List.Sorted.{IsPermutation-refl, IsPermutation-cons, IsPermutation-trans, IsPermutation-sym, IsPermutation-append_comm, IsPermutation-append_right}
 use Rattle.std.specs.List.Sorted.{IsPermutation}
-use Rattle.std.specs.declared.ops.ControlFlow.TheVariants.{Continue}
-use Rattle.std.specs.List.{AllByRecursion, flat_map}
-use Rattle.gix_hash.specs.declared.ObjectId.{ObjectId}
 use Rattle.gix_object.specs.declared.find.existing_iter.Error.{Error as ExistingError}
-use Rattle.gix_object.specs.TreeItems.{TreeEntry, is_tree}
-use Rattle.gix_tree.specs.Delegate.{Call}
-use Rattle.gix_tree.specs.Visits.{Items, Place, Visit, inside, Leaves, Enters, Breaks, Ending, Whole, Task, Turn, Show, Fault, shows}
-use Rattle.gix_tree.specs.Paths.{unknown_root, known_root}
-use Rattle.gix_tree.specs.Script.{items_or_none, entries_in, entries_at}
+use Rattle.gix_tree.specs.Script.{entries_at}
 use Rattle.gix_tree.specs.Preorder as order
-use Rattle.gix_tree.specs.Preorder.{IsPreorder}
 use Rattle.gix_tree.proofs.All.{all_right}
 use Rattle.gix_tree.proofs.Outcomes.{says}
 use Rattle.gix_tree.proofs.TaskWalk as walk

@@ -1,20 +1,11 @@
 -- The trees that a delegate goes into read whole and don't hold themselves, where all that it may reach are such trees.
-use Rattle.std.proofs.Common.{◌≡◌, ℕ, suc, Bool, true, false, ◌&&◌, ◌||◌, List, [], ◌∷◌, ◌++◌, Option, Ok, Err, refl, sym, subst, arith}
-use Rattle.std.specs.Prelude.{if◌then◌else◌, Contains}
-use Rattle.std.specs.List.{AllByRecursion}
-use Rattle.std.specs.declared.ops.ControlFlow.TheVariants.{Continue}
-use Rattle.gix_hash.specs.declared.ObjectId.{ObjectId}
+use Rattle.std.proofs.Common.{◌≡◌, ℕ, suc, Bool, true, false, ◌&&◌, ◌||◌, List, [], ◌∷◌, ◌++◌, Option, Ok, Err, refl, sym, subst, arith, if◌then◌else◌, Contains, Continue}
+use Rattle.gix_tree.proofs.Common.{AllByRecursion, ObjectId, is_same, is_among, TreeEntry, is_tree, Action, Call, VisitTree, Run, Items, Place, Visit, visit, Enters, visit_call, visit_call_of, Ending, Task, Turn, Show, Fault, shows}
+use Rattle.gix_tree.proofs.Common.{unknown_root, items_or_none, entries_in, entries_at, IsLevelScript, IsDepthScript, GoesIn, subtrees, subtrees_of, EntersWhole, AllEnterWhole, AreSound, GoesOnlyInto}
 use Rattle.gix_object.specs.declared.find.existing_iter.Error.{Error as ExistingError}
 use Rattle.gix_hash.proofs.Ids.Membership.{same_is}
-use Rattle.gix_hash.specs.Id.{is_same, is_among}
-use Rattle.gix_object.specs.TreeItems.{TreeEntry, is_tree}
 use Rattle.gix_hash.specs.Reach as reach
 use Rattle.gix_hash.specs.Reach.{Reaches}
-use Rattle.gix_tree.specs.Delegate.{Action, Call, VisitTree, Run}
-use Rattle.gix_tree.specs.Visits.{Items, Place, Visit, visit, Enters, visit_call, visit_call_of, Ending, Task, Turn, Show, Fault, shows}
-use Rattle.gix_tree.specs.Paths.{unknown_root}
-use Rattle.gix_tree.specs.Script.{items_or_none, entries_in, entries_at, IsLevelScript, IsDepthScript}
-use Rattle.gix_tree.specs.Laws.{GoesIn, subtrees, subtrees_of, EntersWhole, AllEnterWhole, AreSound, GoesOnlyInto}
 use Rattle.gix_tree.proofs.Outcomes.{says}
 use Rattle.gix_tree.proofs.TaskWalk as walk
 use Rattle.gix_tree.proofs.TaskWalk.{Manner, TaskWalk, all_with, level_walk, depth_walk}

@@ -1,20 +1,10 @@
 -- The walks end: each turn leaves less to be done than there was.
 use Rattle.std.proofs.Common.{◌≡◌, ℕ, ◌+◌, ◌*◌, ◌<◌, ◌≤◌, false, List, [], ◌∷◌, ◌++◌, length, Some, Ok, refl, sym, ap, ◌∙◌, subst, arith}
 use Rattle.std.proofs.Math.Nat.{mul-le-mul_right}
-use Rattle.gix_hash.specs.declared.ObjectId.{ObjectId}
-use Rattle.gix_hash.specs.Id.{is_among}
-use Rattle.gix_object.specs.Object.{Objects}
-use Rattle.gix_object.specs.TreeItems.{TreeEntry, is_tree}
-use Rattle.gix_tree.specs.Delegate.{Call}
-use Rattle.gix_tree.specs.Inside.LevelQueue.{LevelQueue, Waiting}
-use Rattle.gix_tree.specs.Script.{items_or_none}
+use Rattle.gix_tree.proofs.Common.{ObjectId, is_among, Objects, TreeEntry, is_tree, Call, LevelQueue, Waiting, items_or_none, ShowsEntry, ShowsTree, ShowsUpTo, trees_of, Items, Enters}
 use Rattle.gix_tree.specs.Inside.ShowsEntry as shows
-use Rattle.gix_tree.specs.Inside.ShowsEntry.{ShowsEntry, ShowsTree}
 use Rattle.gix_tree.specs.declared.depthfirst.Stop.TheVariants as stop
 use Rattle.gix_tree.specs.Inside.ShowsBelow as below
-use Rattle.gix_tree.specs.Inside.ShowsBelow.{ShowsUpTo}
-use Rattle.gix_tree.specs.Walk.{trees_of}
-use Rattle.gix_tree.specs.Visits.{Items, Enters}
 use Rattle.gix_tree.proofs.Depth.Stack.{Above}
 use Rattle.gix_tree.proofs.Outcomes.{says}
 use Rattle.gix_tree.proofs.Work.Measure.{entry_bound, wait_less}

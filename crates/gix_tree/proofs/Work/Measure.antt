@@ -1,16 +1,10 @@
 -- Why the walks of trees end.
-use Rattle.std.proofs.Common.{◌≡◌, ℕ, zero, suc, ◌+◌, ◌*◌, ◌<◌, ◌≤◌, Bool, true, false, ◌||◌, List, [], ◌∷◌, length, Option, Some, None, Ok, Err, refl, sym, ◌∙◌, subst, arith}
+use Rattle.std.proofs.Common.{◌≡◌, ℕ, zero, suc, ◌+◌, ◌*◌, ◌<◌, ◌≤◌, Bool, true, false, ◌||◌, List, [], ◌∷◌, length, Option, Some, None, Ok, Err, refl, sym, ◌∙◌, subst, arith, if◌then◌else◌, is_some}
 use Rattle.std.proofs.Math.Nat.{mul-le-mul_left, mul-le-mul_right}
-use Rattle.std.specs.Prelude.{if◌then◌else◌, is_some}
 use Rattle.std.specs.FinMap.{get, keys, contains_key-keys}
-use Rattle.gix_hash.specs.declared.ObjectId.{ObjectId}
+use Rattle.gix_tree.proofs.Common.{ObjectId, is_same, is_among, Object, Objects, TreeEntry, is_tree, Items, Place, visit, inside, Outcome, Leaves, Enters, Cycles, Breaks, outcome, Turn, shows, items_or_none, tasks_behind}
+use Rattle.gix_tree.proofs.Common.{items_of_object, trees_of}
 use Rattle.gix_hash.proofs.Ids.Membership.{same_is}
-use Rattle.gix_hash.specs.Id.{is_same, is_among}
-use Rattle.gix_object.specs.Object.{Object, Objects}
-use Rattle.gix_object.specs.TreeItems.{TreeEntry, is_tree}
-use Rattle.gix_tree.specs.Visits.{Items, Place, visit, inside, Outcome, Leaves, Enters, Cycles, Breaks, outcome, Turn, shows}
-use Rattle.gix_tree.specs.Script.{items_or_none, tasks_behind}
-use Rattle.gix_tree.specs.Walk.{items_of_object, trees_of}
 use Rattle.gix_tree.proofs.Outcomes.{says}
 use Rattle.gix_tree.specs.Measure.{room, widest, steps_of, entry_work, work, WorkLessens}
 

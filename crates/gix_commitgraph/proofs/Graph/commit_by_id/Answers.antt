@@ -1,9 +1,7 @@
-use Rattle.std.proofs.Common.{◌≡◌, sym, ◌∙◌, arith, inl, inr}
-use Rattle.std.specs.declared.cmp.Ordering.TheVariants.{Equal}
+use Rattle.std.proofs.Common.{◌≡◌, sym, ◌∙◌, arith, inl, inr, Equal}
 use Rattle.std.proofs.lemmas.Bool.{cases_lt}
 use Rattle.std.proofs.lemmas.Option.{slice_get-get_or}
-use Rattle.gix_hash.specs.Id.{id_cmp}
-use Rattle.gix_commitgraph.specs.Rows.{row_at, no_row}
+use Rattle.gix_commitgraph.proofs.Common.{id_cmp, row_at, no_row}
 use Rattle.gix_commitgraph.proofs.Packed.RowSearch.{lower_more, higher_more, row_of-found, row_of-none, other_from_less, other_from_greater}
 use Rattle.gix_commitgraph.proofs.Graph.commit_by_id.Goals as goal
 

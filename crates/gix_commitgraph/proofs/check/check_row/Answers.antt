@@ -1,8 +1,6 @@
-use Rattle.std.proofs.Common.{ap, ◌∙◌}
-use Rattle.gix_commitgraph.specs.PackedReading.{words_of}
-use Rattle.gix_commitgraph.specs.PackedLayout.{id_before}
+use Rattle.std.proofs.Common.{ap, ◌∙◌, option_map}
+use Rattle.gix_commitgraph.proofs.Common.{words_of, id_before}
 use Rattle.gix_commitgraph.proofs.Packed.Steps.{order_fault, parents_fault, reads_on, behind-read}
-use Rattle.std.specs.Option.{option_map}
 use Rattle.gix_commitgraph.proofs.check.check_row.Goals as goal
 
 pub returns-then-not-is_above : goal.returns-then-not-is_above

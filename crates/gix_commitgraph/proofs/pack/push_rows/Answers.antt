@@ -1,10 +1,6 @@
-use Rattle.std.proofs.Common.{◌≡◌, ℕ, ◌+◌, [], ◌∷◌, ◌++◌, length, List, take, subst, sym, ap, ◌∙◌, append_assoc, arith}
-use Rattle.std.proofs.lemmas.List.{append-nil}
-use Rattle.std.specs.List.{AllByRecursion}
-use Rattle.std.specs.Prelude.{slice_index}
-use Rattle.gix_commitgraph.specs.declared.ParentPlace.{ParentPlace}
-use Rattle.gix_commitgraph.specs.Packed.{overflow_of, overflow_words, row_bytes, rows_bytes}
-use Rattle.gix_commitgraph.specs.Renumbering.{row_seen, rows_seen, renumbered, arranged, IsInRange}
+use Rattle.std.proofs.Common.{◌≡◌, ℕ, ◌+◌, [], ◌∷◌, ◌++◌, length, List, take, subst, sym, ap, ◌∙◌, append_assoc, arith, append-nil, slice_index}
+use Rattle.gix_commitgraph.proofs.Common.{AllByRecursion, ParentPlace, overflow_of, overflow_words, row_bytes, row_seen, rows_seen, renumbered, arranged, IsInRange}
+use Rattle.gix_commitgraph.specs.Packed.{rows_bytes}
 use Rattle.gix_commitgraph.proofs.Packed.RowsArranged.{reads_entry, rows_bytes-push}
 use Rattle.gix_commitgraph.proofs.Packed.Whole.{all_append}
 use Rattle.gix_commitgraph.proofs.pack.push_rows.Goals as goal

@@ -1,8 +1,5 @@
 use Rattle.std.proofs.Common.{◌≡◌, ◌+◌, length, List, ap, sym, ◌∙◌, arith}
-use Rattle.gix_commitgraph.specs.Renumbering.{row_seen}
-use Rattle.gix_commitgraph.specs.declared.Row.{Row}
-use Rattle.gix_commitgraph.specs.declared.ParentPlace.{ParentPlace}
-use Rattle.gix_commitgraph.specs.Packed.{overflow_of}
+use Rattle.gix_commitgraph.proofs.Common.{row_seen, Row, ParentPlace, overflow_of}
 use Rattle.gix_commitgraph.proofs.Packed.HandedRows.{words_of_more, words_of_part}
 use Rattle.gix_commitgraph.proofs.rows.count_words.Goals as goal
 

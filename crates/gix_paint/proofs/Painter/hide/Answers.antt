@@ -1,9 +1,6 @@
 use Rattle.std.proofs.Common.{◌≡◌, refl, sym, ap, ◌∙◌, arith}
-use Rattle.gix_paint.specs.Inside.Painter.{Hides, state_of}
-use Rattle.std.specs.FinSet.{contains, contains-remove}
-use Rattle.gix_hash.proofs.Ids.Membership.{id_total}
+use Rattle.gix_paint.proofs.Common.{Hides, state_of, contains, contains-remove, id_total, IfOk-weaker}
 use Rattle.gix_paint.specs.declared.Side.TheVariants as side
-use Rattle.std.proofs.lemmas.Result.{IfOk-weaker}
 use Rattle.gix_paint.proofs.Meets.{meets_known, meets_new}
 use Rattle.gix_paint.proofs.Painter.hide.Goals as goal
 

@@ -1,5 +1,5 @@
 use Rattle.std.proofs.Common.{[], ◌∷◌, subst, sym}
-use Rattle.gix_paint.specs.Inside.Painter.{Meets}
+use Rattle.gix_paint.proofs.Common.{Meets}
 use Rattle.gix_paint.proofs.Meets.{fails_as, left_fails, left_step, none_left}
 use Rattle.gix_paint.proofs.Painter.meet_all.Goals as goal
 

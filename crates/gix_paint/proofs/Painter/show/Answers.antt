@@ -1,9 +1,7 @@
 use Rattle.std.proofs.Common.{◌≡◌, true, is_some, refl, ap, ◌∙◌, arith}
 use Rattle.std.specs.FinMap.{get}
-use Rattle.std.specs.FinSet.{contains, contains-insert}
-use Rattle.gix_hash.proofs.Ids.Membership.{id_total}
+use Rattle.gix_paint.proofs.Common.{contains, contains-insert, id_total, IfOk-weaker}
 use Rattle.gix_paint.specs.declared.Side.TheVariants as side
-use Rattle.std.proofs.lemmas.Result.{IfOk-weaker}
 use Rattle.gix_paint.proofs.Meets.{meets_known, meets_new}
 use Rattle.gix_paint.proofs.Painter.show.Goals as goal
 

@@ -1,7 +1,7 @@
 use Rattle.std.proofs.Common.{◌∷◌, sym, ap, subst, ◌∙◌}
 use Rattle.std.specs.VecDeque.Iter.{deque_iter_rest}
 use Rattle.gix_paint.specs.declared.Side.TheVariants as side
-use Rattle.gix_revwalk.specs.Ids.{ids_of}
+use Rattle.gix_paint.proofs.Common.{ids_of}
 use Rattle.gix_paint.proofs.Meets.{IsLeft, fails_as, left_fails, left_step, none_left}
 use Rattle.std.proofs.lemmas.List.{length-map}
 use Rattle.gix_paint.proofs.Painter.show_all.Goals as goal

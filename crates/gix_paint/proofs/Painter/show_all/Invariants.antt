@@ -1,7 +1,7 @@
 use Rattle.std.specs.VecDeque.Iter.{deque_iter_rest}
 use Rattle.gix_paint.specs.declared.Side.TheVariants as side
 use Rattle.gix_paint.proofs.Meets.{IsLeft}
-use Rattle.gix_revwalk.specs.Ids.{ids_of}
+use Rattle.gix_paint.proofs.Common.{ids_of}
 use Rattle.gix_paint.proofs.Painter.show_all.Given as goal
 
 -- to meet the tips that are left is to meet them all

@@ -1,6 +1,5 @@
 use Rattle.std.proofs.Common.{refl, sym, ◌∙◌}
-use Rattle.gix_paint.specs.Inside.Painter.{skips}
-use Rattle.std.proofs.lemmas.Result.{IfOk-weaker}
+use Rattle.gix_paint.proofs.Common.{skips, IfOk-weaker}
 use Rattle.gix_paint.proofs.Meets.{treats}
 use Rattle.gix_paint.proofs.Painter.treat.Goals as goal
 

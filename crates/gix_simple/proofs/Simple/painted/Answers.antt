@@ -1,9 +1,7 @@
 use Rattle.std.proofs.Common.{ap, ◌∙◌, IfOk, IfErr, ◌≢◌, [], if◌then◌else◌}
-use Rattle.std.proofs.Math.Path.{transport}
+use Rattle.gix_simple.proofs.Common.{transport, Paints, IsHiddenFault, ids_of}
 use Rattle.gix_object.specs.declared.find.existing_iter.Error.TheVariants as existing
 use Rattle.gix_paint.specs.declared.Hidden.TheVariants as hidden_by
-use Rattle.gix_paint.specs.Painting.{Paints, IsHiddenFault}
-use Rattle.gix_revwalk.specs.Ids.{ids_of}
 use Rattle.gix_simple.proofs.Simple.painted.Goals as goal
 
 pub returns-clause-ok : goal.returns-clause-ok

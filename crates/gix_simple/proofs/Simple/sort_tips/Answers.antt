@@ -1,7 +1,7 @@
 use Rattle.std.proofs.Common.{Ok, subst, ◌∙◌, arith}
-use Rattle.gix_simple.specs.Building.{IsTipFault, SortsIn, none, more}
+use Rattle.gix_simple.proofs.Common.{IsTipFault, SortsIn, nil_from_length}
+use Rattle.gix_simple.specs.Building.{none, more}
 use Rattle.gix_simple.proofs.TipsByTime.{fails_first, fails_later, kept_store, read_some}
-use Rattle.std.proofs.lemmas.List.{nil_from_length}
 use Rattle.gix_simple.proofs.Simple.sort_tips.Goals as goal
 
 pub loop-tip-preserved : goal.loop-tip-preserved

@@ -1,7 +1,7 @@
 use Rattle.std.proofs.Common.{ap, Err, ◌∙◌}
 use Rattle.std.proofs.lemmas.Result.{err_from_is_err_and}
-use Rattle.gix_simple.specs.Walk.{GoesOn, none, more}
-use Rattle.std.proofs.lemmas.List.{nil_from_length}
+use Rattle.gix_simple.proofs.Common.{GoesOn, nil_from_length}
+use Rattle.gix_simple.specs.Walk.{none, more}
 use Rattle.gix_simple.proofs.TreatsId.{stopped_first}
 use Rattle.gix_simple.proofs.Simple.treat_all.Goals as goal
 

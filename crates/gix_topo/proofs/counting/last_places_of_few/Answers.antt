@@ -1,11 +1,8 @@
 use Rattle.std.proofs.Common.{◌≡◌, List, [], ◌∷◌, ◌++◌, true, false, sym, ap, ◌∙◌, append_assoc}
-use Rattle.gix_hash.specs.Id.{is_among}
-use Rattle.gix_topo.specs.TopoOrder.{last_places}
+use Rattle.gix_topo.proofs.Common.{is_among, last_places, ObjectId, same_back}
 use Rattle.std.specs.List.{list_any}
-use Rattle.gix_hash.specs.declared.ObjectId.{ObjectId}
 use Rattle.gix_hash.specs.contracts.ObjectIdPartialEq.TheImpl.{eq-value}
 use Rattle.gix_hash.proofs.Ids.Equality.{eq_is_same}
-use Rattle.gix_hash.proofs.Ids.Membership.{same_back}
 use Rattle.gix_topo.proofs.counting.last_places_of_few.Goals as goal
 
 -- an id is looked for by comparing those of the list with it

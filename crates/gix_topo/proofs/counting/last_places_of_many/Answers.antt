@@ -1,8 +1,6 @@
 use Rattle.std.proofs.Common.{◌≡◌, ◌<◌, ◌||◌, [], ◌∷◌, ◌++◌, true, false, List, sym, ap, ◌∙◌, arith, append_assoc, append-nil, length}
 use Rattle.std.specs.FinSet as set
-use Rattle.gix_hash.specs.declared.ObjectId.{ObjectId}
-use Rattle.gix_hash.specs.Id.{id_cmp, is_among, is_same}
-use Rattle.gix_hash.proofs.Ids.Membership.{id_total, same_is}
+use Rattle.gix_topo.proofs.Common.{ObjectId, id_cmp, is_among, is_same, id_total, same_is}
 use Rattle.gix_topo.proofs.counting.last_places_of_many.Goals as goal
 
 pub loop-id-init : goal.loop-id-init

@@ -1,6 +1,5 @@
 use Rattle.std.proofs.Common.{◌≡◌, true, false, sym, ◌∙◌}
-use Rattle.gix_object.specs.TreeItems.{is_tree}
-use Rattle.gix_object.specs.TreeRefIter.{entry_of}
+use Rattle.gix_tree.proofs.Common.{is_tree, entry_of}
 use Rattle.gix_tree.specs.declared.breadthfirst.Error.TheVariants as error
 use Rattle.gix_tree.proofs.Shown.{failed_so, push_refused, visit_refused, visit_breaks, visit_leaves, queue_ends, queue_goes_on}
 use Rattle.gix_tree.proofs.breadthfirst.show.Goals as goal

@@ -1,6 +1,5 @@
 use Rattle.std.proofs.Common.{◌≡◌, ◌∷◌, Bool, true, false, reverse, ◌⊎◌, inl, inr, sym, ◌∙◌}
-use Rattle.gix_object.specs.TreeRefIter.{entry_of}
-use Rattle.gix_tree.specs.Inside.Stack.{ids_down}
+use Rattle.gix_tree.proofs.Common.{entry_of, ids_down}
 use Rattle.gix_tree.specs.declared.breadthfirst.Error.TheVariants as error
 use Rattle.gix_tree.proofs.Shown.{failed_so}
 use Rattle.gix_tree.proofs.Depth.Descent.{push_refused, visit_refused, tree_breaks, plain_breaks, visit_leaves, descent_ends, descent_goes_on}

@@ -1,7 +1,5 @@
-use Rattle.std.proofs.Common.{ap}
-use Rattle.std.specs.Option.{option_map}
-use Rattle.gix_paint.specs.Inside.Painter.{brought, looked_up}
-use Rattle.std.proofs.lemmas.Result.{IfOk-weaker}
+use Rattle.std.proofs.Common.{ap, option_map}
+use Rattle.gix_paint.proofs.Common.{brought, looked_up, IfOk-weaker}
 use Rattle.gix_paint.proofs.source.Source.parents.Goals as goal
 
 pub returns-in-Some-clause-parents : goal.returns-in-Some-clause-parents

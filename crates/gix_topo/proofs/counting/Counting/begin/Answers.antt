@@ -1,7 +1,6 @@
 use Rattle.std.proofs.Common.{refl}
-use Rattle.gix_topo.specs.Depth.{infinity}
+use Rattle.gix_topo.proofs.Common.{infinity, err_from}
 use Rattle.gix_topo.proofs.Counts.Begin.{begun_from, fault_from}
-use Rattle.gix_frontier.proofs.Results.{err_from}
 use Rattle.gix_topo.proofs.counting.Counting.begin.Goals as goal
 
 pub returns-clause-begun : goal.returns-clause-begun

@@ -1,7 +1,5 @@
 use Rattle.std.proofs.Common.{◌∙◌, ap, subst, arith}
-use Rattle.gix_topo.specs.Depth.{known_generation}
-use Rattle.gix_frontier.specs.Inside.Frontier.{MeetsParent}
-use Rattle.gix_revwalk.specs.Reading.{rows_of}
+use Rattle.gix_topo.proofs.Common.{known_generation, MeetsParent, rows_of}
 use Rattle.gix_topo.specs.Inside.Exploring.{none, more}
 use Rattle.gix_topo.proofs.Counts.MeetsParents.{no_items}
 use Rattle.gix_topo.proofs.counting.Counting.follow.Goals as goal

@@ -1,13 +1,7 @@
 use Rattle.std.proofs.Common.{◌≡◌, ◌∷◌, Some, refl, sym, ◌∙◌, subst, IsPermutation, slice_get, Contains, ◌+◌, ◌||◌, cond, Ok, ap}
-use Rattle.gix_revwalk.specs.Reading.{rows_of}
-use Rattle.gix_frontier.specs.Inside.Waiting.{waiting_by}
-use Rattle.gix_topo.specs.Inside.Exploring.{Follows}
+use Rattle.gix_topo.proofs.Common.{rows_of, waiting_by, Follows, err_from, Tips, Ends, reached, is_done, Reads}
 use Rattle.gix_topo.specs.declared.Error.TheVariants as error
-use Rattle.gix_frontier.proofs.Results.{err_from}
 use Rattle.gix_topo.proofs.Counts.Frontier.{taken_from}
-use Rattle.gix_frontier.specs.declared.Side.TheVariants.{Tips, Ends}
-use Rattle.gix_frontier.specs.Inside.Frontier.{reached, is_done}
-use Rattle.gix_topo.specs.Reading.{Reads}
 use Rattle.gix_topo.proofs.counting.Counting.step.Goals as goal
 
 pub returns-in_err-ids-clause-fault : goal.returns-in_err-ids-clause-fault

@@ -1,7 +1,7 @@
 use Rattle.std.proofs.Common.{◌+◌, [], ◌∷◌, sym, ap, ◌∙◌}
 use Rattle.gix_topo.proofs.Counts.MakesReady.{due_by}
-use Rattle.gix_topo.specs.Inside.Releasing.{waits, frees, uncounted, unread, no_memory}
-use Rattle.gix_frontier.proofs.Results.{on_ok, if_err}
+use Rattle.gix_topo.proofs.Common.{uncounted, unread, on_ok, if_err}
+use Rattle.gix_topo.specs.Inside.Releasing.{waits, frees, no_memory}
 use Rattle.gix_topo.proofs.walk.Walk.release.Goals as goal
 
 pub returns-in-Ok-None-clause-fault : goal.returns-in-Ok-None-clause-fault

@@ -1,7 +1,7 @@
 use Rattle.std.proofs.Common.{[], ◌∷◌, sym, ap, ◌∙◌}
 use Rattle.gix_topo.proofs.Counts.MakesReady.{due_by}
 use Rattle.gix_topo.specs.Inside.Starting.{waits, frees, here}
-use Rattle.gix_frontier.proofs.Results.{on_ok, if_err}
+use Rattle.gix_topo.proofs.Common.{on_ok, if_err}
 use Rattle.gix_topo.proofs.walk.Walk.start.Goals as goal
 
 pub returns-then-not-is_due-clause-starts : goal.returns-then-not-is_due-clause-starts
