@@ -1,20 +1,12 @@
 -- Counting the commits of a walk, and the line that two such numbers make.
-use Rattle.std.specs.Prelude.{◌≡◌, ◌≢◌, ℕ, ◌+◌, List, [], ◌∷◌, ◌++◌, length, Option, Some, None, Result, Ok, Err, IfOk, IfErr, OnOk}
-use Rattle.std.specs.Io.KnownBytes.{Appends}
-use Rattle.std.specs.Iterator.{Yields}
-use Rattle.std.proofs.Common.{sym, ap, subst, ◌∙◌, length-append}
-use Rattle.gix_hash.specs.declared.ObjectId.{ObjectId}
-use Rattle.gix_object.specs.Object.{Objects}
-use Rattle.gix_commitgraph.specs.Rows.{GraphRow}
-use Rattle.gix_revwalk.specs.declared.Info.{Info}
+use Rattle.std.proofs.Common.{◌≡◌, ◌≢◌, ℕ, ◌+◌, List, [], ◌∷◌, ◌++◌, length, Option, Some, None, Result, Ok, Err, IfOk, IfErr, OnOk, sym, ap, subst, ◌∙◌, length-append}
+use Rattle.gix_commands.proofs.Common.{Appends, Yields, ObjectId, Objects, GraphRow, Info, Fault, counted, unserved, StartsFrom, finished, cut_short, Ahead}
 use Rattle.gix_revwalk.specs.declared.Parents.TheVariants as mode
 use Rattle.gix_simple.specs.declared.Sorting.TheVariants as sorting
-use Rattle.gix_words.specs.declared.fault.Fault.{Fault}
 use Rattle.gix_words.specs.declared.fault.Fault.TheVariants as fault
 use Rattle.gix_commands.specs.Ahead.{Counts, FailsToCount, Numbers, ahead_line}
-use Rattle.gix_commands.specs.Run.{Serves, counted, unserved, not_written}
-use Rattle.gix_commands.specs.Walked.{Walk, Answers, IsWalkFault, StartsFrom, given, finished, failed, cut_short}
-use Rattle.gix_words.specs.Words.{Ahead}
+use Rattle.gix_commands.specs.Run.{Serves, not_written}
+use Rattle.gix_commands.specs.Walked.{Walk, Answers, IsWalkFault, given, failed}
 use Rattle.gix_commands.proofs.MemoryFaults.{failed_so}
 
 module _ {W E : Type 0} (Steps : W → Option (Result Info E) → W → Type 0) (Tells : E → Fault → Type 0) (walk : W) (infos : List Info) where

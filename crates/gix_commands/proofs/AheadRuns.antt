@@ -1,25 +1,13 @@
 -- What a run of `ahead` writes, by what commits reach.
-use Rattle.std.specs.Prelude.{◌≡◌, ℕ, suc, List, [], ◌∷◌, map, length, Option, None, Ok, Contains, ◌↔◌}
-use Rattle.std.specs.Io.KnownBytes.{Appends}
-use Rattle.std.proofs.Common.{refl, sym, ap, ◌∙◌}
-use Rattle.std.proofs.Math.Path.{transport}
-use Rattle.gix_hash.specs.declared.ObjectId.{ObjectId}
-use Rattle.gix_object.specs.Object.{Objects}
-use Rattle.gix_commitgraph.specs.Rows.{GraphRow}
-use Rattle.gix_revwalk.specs.Agreeing.{IsAgreeing}
-use Rattle.gix_revwalk.specs.declared.Info.{Info}
+use Rattle.std.proofs.Common.{◌≡◌, ℕ, suc, List, [], ◌∷◌, map, length, Option, None, Ok, Contains, ◌↔◌, refl, sym, ap, ◌∙◌}
+use Rattle.gix_commands.proofs.Common.{Appends, transport, ObjectId, Objects, GraphRow, IsAgreeing, Info, parents_of, AreDistinct, IsNumberOf, AreWhole, IsPartOf, IsSimpleBy, ListsBy, AheadCounts, AheadCountsOfPart, DrawsDifference}
+use Rattle.gix_commands.proofs.Common.{stored, counted, Ends, finished, Ahead, none_agree}
 use Rattle.gix_revwalk.specs.declared.Parents.TheVariants as mode
-use Rattle.gix_revwalk.specs.Commits.{parents_of}
 use Rattle.gix_simple.specs.declared.Sorting.TheVariants as sorting
-use Rattle.gix_revwalk.specs.Ids.{AreDistinct}
-use Rattle.gix_topo.specs.Walk.{IsNumberOf}
 use Rattle.gix_commands.specs.Ahead.{Counts, Draws, ahead_line}
-use Rattle.gix_commands.specs.Histories.{AreWhole, IsPartOf, IsShown, IsSimpleBy, ListsBy, AheadCounts, AheadCountsOfPart, DrawsDifference}
-use Rattle.gix_records.specs.Records.{stored}
-use Rattle.gix_commands.specs.Run.{Serves, counted}
-use Rattle.gix_commands.specs.Walked.{Answers, IsWalkFault, Ends, finished}
-use Rattle.gix_words.specs.Words.{Ahead}
-use Rattle.gix_revwalk.proofs.Rows.{none_agree}
+use Rattle.gix_commands.specs.Histories.{IsShown}
+use Rattle.gix_commands.specs.Run.{Serves}
+use Rattle.gix_commands.specs.Walked.{Answers, IsWalkFault}
 use Rattle.gix_commands.proofs.CommitRuns.{served_so}
 use Rattle.gix_commands.proofs.KeptLists.{all_followed, tips_kept}
 use Rattle.gix_commands.proofs.SimpleRuns.{all_read, listed_whole}

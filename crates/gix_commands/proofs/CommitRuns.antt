@@ -1,37 +1,16 @@
 -- What a run of `breadth`, `newest` or `oldest` writes, by what commits reach.
-use Rattle.std.specs.Prelude.{◌≡◌, ◌≢◌, ℕ, ℤ, List, [], ◌∷◌, ◌++◌, map, filter, not, Option, None, Some, Result, Ok, Err, IsSome}
-use Rattle.std.specs.Io.KnownBytes.{Appends}
-use Rattle.std.proofs.Common.{refl, sym, ap, subst, ◌∙◌}
-use Rattle.std.proofs.lemmas.Bool.{false≢true}
-use Rattle.std.proofs.lemmas.List.Elements.{Contains-append_left, Contains-append_right}
-use Rattle.gix_hash.specs.declared.ObjectId.{ObjectId}
-use Rattle.gix_hash.proofs.Lists.{filter_within}
-use Rattle.std.specs.FinMap.{get}
+use Rattle.std.proofs.Common.{◌≡◌, ◌≢◌, ℕ, ℤ, List, [], ◌∷◌, ◌++◌, map, filter, not, Option, None, Some, Result, Ok, Err, IsSome, refl, sym, ap, subst, ◌∙◌}
+use Rattle.gix_commands.proofs.Common.{Appends, false≢true, Contains-append_left, Contains-append_right, ObjectId, filter_within, get, Object, Objects, GraphRow, IsAgreeing, Info, Parents, cutoff, is_older, time_order, step, by_mode}
+use Rattle.gix_commands.proofs.Common.{parents_of, time_of, text_next, reach_more, walked_within, Fault, Simple, AreStored, AreWhole, IsPartOf, IsSimpleBy, ListsBy, SimpleListsRead, SimpleLists, SimpleListsOfPart, EndsWell, followed}
+use Rattle.gix_commands.proofs.Common.{kept_tips, lines_of_ids, stored, Runs, walked, without_memory, no_command, not_read, bad_record, served, Ends, StartsFrom, finished, lines_of, line_of, Request, Commits, request_of, only_reading}
+use Rattle.gix_commands.proofs.Common.{no_bad_record, none_agree, commit_stored, no_start, whole_from}
 use Rattle.gix_object.specs.declared.Kind.TheVariants as object
-use Rattle.gix_object.specs.Object.{Object, Objects}
-use Rattle.gix_commitgraph.specs.Rows.{GraphRow}
-use Rattle.gix_revwalk.specs.Agreeing.{IsAgreeing}
-use Rattle.gix_revwalk.specs.declared.Info.{Info}
-use Rattle.gix_revwalk.specs.declared.Parents.{Parents}
 use Rattle.gix_revwalk.specs.declared.Parents.TheVariants as mode
 use Rattle.gix_simple.specs.declared.Sorting.{Sorting}
-use Rattle.gix_simple.specs.Walk.{cutoff, is_older, time_order}
-use Rattle.gix_hash.specs.Reach.{Reaches, start, step}
-use Rattle.gix_revwalk.specs.Commits.{by_mode, parents_of, time_of}
-use Rattle.gix_revwalk.specs.Texts.{text_next}
-use Rattle.gix_revwalk.proofs.Reached.{reach_more}
-use Rattle.gix_revwalk.proofs.ReadsWhole.{walked_within}
-use Rattle.gix_words.specs.declared.fault.Fault.{Fault}
-use Rattle.gix_words.specs.declared.words.Order.TheVariants.{Simple}
-use Rattle.gix_commands.specs.Histories.{AreStored, AreWhole, IsPartOf, IsSimpleBy, ListsBy, SimpleListsRead, SimpleLists, SimpleListsOfPart, EndsWell, followed, kept_tips, lines_of_ids}
-use Rattle.gix_records.specs.Records.{Record, AreRecords, stored}
-use Rattle.gix_commands.specs.Run.{Runs, Serves, walked, without_memory, no_command, not_read, bad_record, served}
-use Rattle.gix_commands.specs.Walked.{Walk, Answers, IsWalkFault, Ends, StartsFrom, finished, lines_of, line_of}
-use Rattle.gix_words.specs.Words.{Request, Commits, request_of}
-use Rattle.gix_records.proofs.RecordFacts.{only_reading, no_bad_record}
-use Rattle.gix_revwalk.proofs.Rows.{none_agree}
-use Rattle.gix_revwalk.proofs.TextParents.{commit_stored}
-use Rattle.gix_simple.proofs.Difference.{no_start, whole_from}
+use Rattle.gix_hash.specs.Reach.{Reaches, start}
+use Rattle.gix_records.specs.Records.{Record, AreRecords}
+use Rattle.gix_commands.specs.Run.{Serves}
+use Rattle.gix_commands.specs.Walked.{Walk, Answers, IsWalkFault}
 use Rattle.gix_commands.proofs.KeptLists.{cut_all, filter_same, followed_reaches, tips_kept}
 use Rattle.gix_commands.proofs.SimpleRuns.{all_read, all_stored, listed_none, listed_text, listed_whole}
 use Rattle.gix_commands.proofs.NamedTips.{some_tips}

@@ -1,20 +1,11 @@
 -- How the answer of a call that asks which ids are contained is served.
-use Rattle.std.specs.Prelude.{◌≡◌, ◌≢◌, ℕ, List, [], ◌∷◌, Option, Result, Ok, Err, IfErr, OnOk}
-use Rattle.std.specs.Io.KnownBytes.{Appends}
-use Rattle.std.specs.List.{flat_map}
-use Rattle.std.proofs.Common.{sym, ap, subst, ◌∙◌}
-use Rattle.gix_hash.specs.declared.ObjectId.{ObjectId}
-use Rattle.gix_object.specs.Object.{Objects}
-use Rattle.gix_commitgraph.specs.Rows.{GraphRow}
+use Rattle.std.proofs.Common.{◌≡◌, ◌≢◌, ℕ, List, [], ◌∷◌, Option, Result, Ok, Err, IfErr, OnOk, flat_map, sym, ap, subst, ◌∙◌}
+use Rattle.gix_commands.proofs.Common.{Appends, ObjectId, Objects, GraphRow, Fault, fault_of_contained, selected, not_selected, unserved, line_of, Contained}
 use Rattle.gix_contained.specs.declared.Error.{Error as ContainedError}
 use Rattle.gix_contained.specs.declared.Error.TheVariants as contained_error
 use Rattle.gix_contained.specs.Contained.{Selects, FailsBy}
-use Rattle.gix_words.specs.declared.fault.Fault.{Fault}
 use Rattle.gix_words.specs.declared.fault.Fault.TheVariants as fault
-use Rattle.gix_words.specs.Faults.{fault_of_contained}
-use Rattle.gix_commands.specs.Run.{Serves, selected, not_selected, unserved, not_written}
-use Rattle.gix_commands.specs.Walked.{line_of}
-use Rattle.gix_words.specs.Words.{Contained}
+use Rattle.gix_commands.specs.Run.{Serves, not_written}
 use Rattle.gix_commands.proofs.MemoryFaults.{failed_so}
 
 module _ (objects : Objects) (rows : List GraphRow) (old : Option (List ℕ)) (tip : ObjectId) (ids : List ObjectId) where

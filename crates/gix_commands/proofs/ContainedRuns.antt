@@ -1,32 +1,13 @@
 -- What a run of `contains` writes, by what commits reach.
-use Rattle.std.specs.Prelude.{◌≡◌, ◌≢◌, ℕ, List, [], ◌∷◌, ◌++◌, Option, Some, None, Result, Ok, Contains, IsSome}
-use Rattle.std.specs.FinMap.{get}
-use Rattle.std.specs.Io.KnownBytes.{Appends}
-use Rattle.std.proofs.Common.{refl, sym, ap, subst, ⊎_elim, ◌∙◌}
-use Rattle.std.proofs.lemmas.List.Elements.{Contains-append_left, Contains-append_right, Contains-append_cases}
-use Rattle.gix_hash.specs.declared.ObjectId.{ObjectId}
-use Rattle.gix_hash.proofs.Ids.Membership.{Contains-here, Contains-there, Contains-cons_cases}
-use Rattle.gix_hash.proofs.Lists.{only_member}
-use Rattle.gix_object.specs.CommitText.{Commit}
-use Rattle.gix_object.specs.Object.{Object, Objects}
-use Rattle.gix_commitgraph.specs.Rows.{GraphRow, row_of}
+use Rattle.std.proofs.Common.{◌≡◌, ◌≢◌, ℕ, List, [], ◌∷◌, ◌++◌, Option, Some, None, Result, Ok, Contains, IsSome, refl, sym, ap, subst, ⊎_elim, ◌∙◌}
+use Rattle.gix_commands.proofs.Common.{get, Appends, Contains-append_left, Contains-append_right, Contains-append_cases, ObjectId, Contains-here, Contains-there, Contains-cons_cases, only_member, Commit, Object, Objects, GraphRow}
+use Rattle.gix_commands.proofs.Common.{row_of, stored, IsAgreeing, RowAgrees, commit_at, commit_of_object, parents_of, reach_more, row_stands, none_agree, whole_from, Fault, fault_of_contained, AreWhole, EndsWell, IsPartOf, ContainsIds}
+use Rattle.gix_commands.proofs.Common.{ContainsIdsOfPart, ContainsSucceeds, lines_of_ids, selected, not_selected, unserved, never_faulty, Contained}
 use Rattle.gix_contained.specs.Contained.{AreContained, Selects}
 use Rattle.gix_contained.proofs.Faultless.{store_alone}
 use Rattle.gix_paint.specs.Painting.{IsHistory}
 use Rattle.gix_paint.proofs.Invariant.{own_history}
-use Rattle.gix_records.specs.Records.{stored}
-use Rattle.gix_revwalk.specs.Agreeing.{IsAgreeing, RowAgrees}
-use Rattle.gix_revwalk.specs.Commits.{commit_at, commit_of_object, parents_of}
-use Rattle.gix_revwalk.proofs.Reached.{reach_more}
-use Rattle.gix_revwalk.proofs.ReadsWhole.{row_stands}
-use Rattle.gix_revwalk.proofs.Rows.{none_agree}
-use Rattle.gix_simple.proofs.Difference.{whole_from}
-use Rattle.gix_words.specs.declared.fault.Fault.{Fault}
-use Rattle.gix_words.specs.Faults.{fault_of_contained}
-use Rattle.gix_commands.specs.Histories.{AreWhole, EndsWell, IsPartOf, ContainsIds, ContainsIdsOfPart, ContainsSucceeds, lines_of_ids}
-use Rattle.gix_commands.specs.Run.{Serves, selected, not_selected, unserved, not_written}
-use Rattle.gix_commands.specs.Walked.{never_faulty}
-use Rattle.gix_words.specs.Words.{Contained}
+use Rattle.gix_commands.specs.Run.{Serves, not_written}
 use Rattle.gix_commands.proofs.CommitRuns.{ends_well, served_so}
 use Rattle.gix_commands.proofs.InternalFacts.{contained_sound}
 use Rattle.gix_commands.proofs.NamedTips.{some_ids}

@@ -1,23 +1,13 @@
 -- The lines of the entries of a tree.
-use Rattle.std.specs.Prelude.{◌≡◌, ℕ, ◌-◌, ◌^◌, List, [], ◌∷◌, ◌++◌, false, Option, Some, Result, Ok, Err, IfSome, IfErr, OnOk}
-use Rattle.std.specs.Fmt.{digits, padded_integral, char_count, format_spec, ◌++?◌}
-use Rattle.std.specs.Io.KnownBytes.{Appends}
-use Rattle.std.proofs.Common.{sym, ap, subst, ◌∙◌, append_assoc}
+use Rattle.std.proofs.Common.{◌≡◌, ℕ, ◌-◌, ◌^◌, List, [], ◌∷◌, ◌++◌, false, Option, Some, Result, Ok, Err, IfSome, IfErr, OnOk, sym, ap, subst, ◌∙◌, append_assoc, append-nil}
+use Rattle.gix_commands.proofs.Common.{digits, format_spec, ◌++?◌, Appends, ObjectId, hex_of, Objects, GraphRow, Tracked, Fault, fault_of_tree_walk, RecordsTree, six_octal_digits, file_line, AreLinesOf, IsTreeFault, not_listed, unserved}
+use Rattle.gix_commands.proofs.Common.{Files}
+use Rattle.std.specs.Fmt.{padded_integral, char_count}
 use Rattle.std.proofs.Math.Nat.{sub-zero}
-use Rattle.std.proofs.lemmas.List.{append-nil}
-use Rattle.gix_hash.specs.declared.ObjectId.{ObjectId}
-use Rattle.gix_hash.specs.Id.{hex_of}
-use Rattle.gix_object.specs.Object.{Objects}
-use Rattle.gix_commitgraph.specs.Rows.{GraphRow}
 use Rattle.gix_tree.specs.declared.breadthfirst.Error.{Error}
 use Rattle.gix_tree.specs.Recorder.{Record}
-use Rattle.gix_tree.specs.Tracked.{Tracked}
-use Rattle.gix_words.specs.declared.fault.Fault.{Fault}
 use Rattle.gix_words.specs.declared.fault.Fault.TheVariants as fault
-use Rattle.gix_words.specs.Faults.{fault_of_tree_walk}
-use Rattle.gix_commands.specs.Files.{RecordsTree, six_octal_digits, file_line, AreLinesOf, IsTreeFault}
-use Rattle.gix_commands.specs.Run.{Serves, listed, not_listed, unserved, not_written}
-use Rattle.gix_words.specs.Words.{Files}
+use Rattle.gix_commands.specs.Run.{Serves, listed, not_written}
 use Rattle.gix_commands.proofs.MemoryFaults.{failed_so}
 
 -- six places, filled up with zeros

@@ -1,32 +1,18 @@
 -- What a run of `files` writes, by the entries of trees.
-use Rattle.std.specs.Prelude.{◌≡◌, ◌≢◌, ℕ, List, [], ◌∷◌, map, true, Option, Result, Ok, Err}
-use Rattle.std.specs.Io.KnownBytes.{Appends}
+use Rattle.std.proofs.Common.{◌≡◌, ◌≢◌, ℕ, List, [], ◌∷◌, map, true, Option, Result, Ok, Err, refl, subst}
+use Rattle.gix_commands.proofs.Common.{Appends, ObjectId, Objects, Call, Run, entries_at, Tracked, Tracks, fresh_recorder, Visit, Ending, Whole, Broken, Failed, IsUnfailed, LookUpFails, depth_answer, trees_of, LookUpFailed, go_on}
+use Rattle.gix_commands.proofs.Common.{depth_ok, depth_is_in_order, depth_is_recorded, sound_depth_succeeds, Fault, fault_of_tree_walk, RecordsTree, file_lines, EndsWell, IsOutside, IsPartOf, stored, not_listed, unserved, never_faulty}
+use Rattle.gix_commands.proofs.Common.{Files}
 use Rattle.std.specs.List.{AllByRecursion}
-use Rattle.std.proofs.Common.{refl, subst}
-use Rattle.gix_hash.specs.declared.ObjectId.{ObjectId}
-use Rattle.gix_object.specs.Object.{Objects}
 use Rattle.gix_tree.specs.declared.breadthfirst.Error.{Error}
 use Rattle.gix_tree.specs.declared.breadthfirst.Error.TheVariants as error
-use Rattle.gix_tree.specs.Delegate.{Call, Run}
 use Rattle.gix_tree.specs.Laws.{AreSound}
 use Rattle.gix_tree.specs.Paths.{HaveNames}
 use Rattle.gix_tree.specs.Recorder.{IsRecorderAnswer, record_of}
-use Rattle.gix_tree.specs.Script.{entries_at}
-use Rattle.gix_tree.specs.Tracked.{Tracked, Tracks, fresh_recorder}
-use Rattle.gix_tree.specs.Visits.{Visit, Ending, Whole, Broken, Failed, IsUnfailed}
-use Rattle.gix_tree.specs.Walk.{LookUpFails, depth_answer, trees_of, LookUpFailed}
 use Rattle.gix_tree.proofs.Theorems.Called.{root_called}
-use Rattle.gix_tree.proofs.Theorems.Laws.{go_on, depth_ok, depth_is_in_order, depth_is_recorded, sound_depth_succeeds}
 use Rattle.gix_tree.proofs.Theorems.SameRecords.{unbroken}
-use Rattle.gix_words.specs.declared.fault.Fault.{Fault}
-use Rattle.gix_words.specs.Faults.{fault_of_tree_walk}
-use Rattle.gix_commands.specs.Files.{RecordsTree, file_lines}
-use Rattle.gix_commands.specs.Histories.{EndsWell, IsOutside, IsPartOf}
 use Rattle.gix_commands.specs.Listings.{Unfolds, FilesLists, FilesListsOfPart, FilesSucceeds}
-use Rattle.gix_records.specs.Records.{stored}
-use Rattle.gix_commands.specs.Run.{Serves, listed, not_listed, unserved, not_written}
-use Rattle.gix_commands.specs.Walked.{never_faulty}
-use Rattle.gix_words.specs.Words.{Files}
+use Rattle.gix_commands.specs.Run.{Serves, listed, not_written}
 use Rattle.gix_commands.proofs.CommitRuns.{served_so, ends_well}
 use Rattle.gix_commands.proofs.TreeParts.{records_all}
 

@@ -1,26 +1,13 @@
 -- What a run writes that has a limit, by what commits reach.
-use Rattle.std.specs.Prelude.{◌≡◌, ◌≢◌, ◌<◌, ℕ, List, [], ◌++◌, length, take, Option, Some, Ok}
-use Rattle.std.specs.Io.KnownBytes.{Appends}
-use Rattle.std.proofs.Common.{refl, sym, ap, subst, ◌∙◌, arith}
-use Rattle.std.proofs.lemmas.List.{length-map, take_all}
-use Rattle.gix_hash.specs.declared.ObjectId.{ObjectId}
-use Rattle.gix_object.specs.Object.{Objects}
-use Rattle.gix_commitgraph.specs.Rows.{GraphRow}
-use Rattle.gix_records.specs.Records.{stored}
-use Rattle.gix_revwalk.specs.declared.Info.{Info}
-use Rattle.gix_revwalk.specs.declared.Parents.{Parents}
-use Rattle.gix_revwalk.specs.Agreeing.{IsAgreeing}
-use Rattle.gix_revwalk.specs.Texts.{text_next}
-use Rattle.gix_revwalk.proofs.Rows.{none_agree}
+use Rattle.std.proofs.Common.{◌≡◌, ◌≢◌, ◌<◌, ℕ, List, [], ◌++◌, length, take, Option, Some, Ok, refl, sym, ap, subst, ◌∙◌, arith, take_all}
+use Rattle.gix_commands.proofs.Common.{Appends, ObjectId, Objects, GraphRow, stored, Info, Parents, IsAgreeing, text_next, none_agree, time_order, Simple, Topo, AreStored, IsPartOf, IsSimpleBy, IsSimpleList, ListsRead, SimpleBegins}
+use Rattle.gix_commands.proofs.Common.{SimpleBeginsOfPart, SimpleListsRead, TopoBegins, TopoBeginsOfPart, kept_tips, lines_of_ids, walked, walked_down, StartsFrom, EndsWithin, enough, before, lines_of, Commits}
+use Rattle.std.proofs.lemmas.List.{length-map}
 use Rattle.gix_simple.specs.declared.Sorting.{Sorting}
-use Rattle.gix_simple.specs.Walk.{time_order}
 use Rattle.gix_topo.specs.declared.Sorting.{Sorting as TopoSorting}
-use Rattle.gix_words.specs.declared.words.Order.TheVariants.{Simple, Topo}
-use Rattle.gix_commands.specs.Histories.{AreStored, IsPartOf, IsSimpleBy, IsSimpleList, ListsRead, SimpleBegins, SimpleBeginsOfPart, SimpleListsRead, TopoBegins, TopoBeginsOfPart, kept_tips, lines_of_ids}
-use Rattle.gix_commands.specs.Run.{Serves, walked, walked_down}
+use Rattle.gix_commands.specs.Run.{Serves}
 use Rattle.gix_commands.specs.TopoWalked as topo
-use Rattle.gix_commands.specs.Walked.{Walk, Answers, IsWalkFault, StartsFrom, EndsWithin, enough, before, lines_of}
-use Rattle.gix_words.specs.Words.{Commits}
+use Rattle.gix_commands.specs.Walked.{Walk, Answers, IsWalkFault}
 use Rattle.gix_commands.proofs.CommitRuns.{all_found, ids_in, lines_by_ids, list_in_all, listed, served_so}
 use Rattle.gix_commands.proofs.Parts.{by_parents}
 use Rattle.gix_commands.proofs.SimpleBegins.{AreFirstOf, first_given}

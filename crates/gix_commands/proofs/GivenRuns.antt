@@ -1,16 +1,11 @@
 -- A run over records that are in memory.
-use Rattle.std.specs.Prelude.{◌≡◌, ◌≢◌, ℕ, List, Option, Some, Result, Err}
-use Rattle.std.proofs.Common.{sym, subst, ap, ◌∙◌}
-use Rattle.gix_object.specs.Object.{Objects}
-use Rattle.gix_commitgraph.specs.Rows.{GraphRow}
+use Rattle.std.proofs.Common.{◌≡◌, ◌≢◌, ℕ, List, Option, Some, Result, Err, sym, subst, ap, ◌∙◌}
+use Rattle.gix_commands.proofs.Common.{Objects, GraphRow, IsRecordFault, bad, Fault, fault_of_records, Runs, without_memory, no_command, not_read, bad_record, served, Request, request_of}
 use Rattle.gix_records.specs.declared.Error.{Error as RecordsError}
 use Rattle.gix_records.specs.Input.{Tells}
-use Rattle.gix_records.specs.Records.{IsRecordFault, bad, no_memory}
-use Rattle.gix_words.specs.declared.fault.Fault.{Fault}
+use Rattle.gix_records.specs.Records.{no_memory}
 use Rattle.gix_words.specs.declared.fault.Fault.TheVariants as fault
-use Rattle.gix_words.specs.Faults.{fault_of_records}
-use Rattle.gix_commands.specs.Run.{Serves, Runs, without_memory, no_command, not_read, bad_record, served}
-use Rattle.gix_words.specs.Words.{Request, request_of}
+use Rattle.gix_commands.specs.Run.{Serves}
 use Rattle.gix_commands.proofs.WalkFaults.{OfWalk, serves_of_walk}
 use Rattle.gix_commands.proofs.WordFaults.{OfWords, request_words}
 

@@ -1,31 +1,20 @@
 -- A beginning of a list in an order goes on to a whole list, where finitely many ids are reached.
-use Rattle.std.specs.Prelude.{◌≡◌, ◌↔◌, ◌≤◌, ℕ, zero, suc, ℤ, List, [], ◌∷◌, ◌++◌, length, take, slice_get, filter, Bool, true, not, ◌&&◌, Option, Some, None, MatchOption, Contains}
-use Rattle.std.proofs.Common.{refl, sym, subst, ⊎_elim, ◌∙◌, arith, append_assoc, append-nil}
-use Rattle.std.proofs.lemmas.Bool.{true≢false, and_parts, and_from, not-true, not_from_false, false_from_ne_true}
-use Rattle.std.proofs.lemmas.List.{take_at}
-use Rattle.std.proofs.lemmas.List.Elements.{Contains-append_right}
-use Rattle.gix_hash.specs.declared.ObjectId.{ObjectId}
-use Rattle.gix_hash.specs.Id.{is_among}
+use Rattle.std.proofs.Common.{◌≡◌, ◌↔◌, ◌≤◌, ℕ, zero, suc, ℤ, List, [], ◌∷◌, ◌++◌, length, take, slice_get, filter, Bool, true, not, ◌&&◌, Option, Some, None, MatchOption, Contains, refl, sym, subst, ⊎_elim, ◌∙◌, arith, append_assoc}
+use Rattle.std.proofs.Common.{append-nil, true≢false, take_at}
+use Rattle.gix_commands.proofs.Common.{and_parts, and_from, not-true, not_from_false, false_from_ne_true, Contains-append_right, ObjectId, is_among, among_from, among_is, Objects, CommitTimeOrder, NewestFirst, named_by, text_next}
+use Rattle.gix_commands.proofs.Common.{best_of, breadth_exists, reached_list, IsBeginning, IsInOrder, IsInWalk, IsChild, named_all, reached_known}
 use Rattle.gix_hash.specs.Reach.{Reaches}
-use Rattle.gix_hash.proofs.Ids.Membership.{among_from, among_is}
-use Rattle.gix_object.specs.Object.{Objects}
-use Rattle.gix_revwalk.specs.declared.CommitTimeOrder.{CommitTimeOrder}
-use Rattle.gix_revwalk.specs.declared.CommitTimeOrder.TheVariants.{NewestFirst}
-use Rattle.gix_revwalk.specs.BreadthOrder.{named_by}
-use Rattle.gix_revwalk.specs.Texts.{text_next}
 use Rattle.gix_revwalk.specs.TimeOrder.{IsBest, IsPending}
 use Rattle.gix_revwalk.proofs.Greedy.{GoesOn, steps_exist}
 use Rattle.gix_revwalk.proofs.NewIds.{among-filter}
 use Rattle.gix_revwalk.proofs.OneOrder.{one_breadth_beginning}
 use Rattle.gix_revwalk.proofs.Orders.{reached_by_named, given_is_reached, Contains-push, work_from_time_beginning}
-use Rattle.gix_revwalk.proofs.SomeOrder.{best, best_of, breadth_exists, reached_list}
-use Rattle.gix_simple.specs.Laws.{IsBeginning, IsInOrder}
+use Rattle.gix_revwalk.proofs.SomeOrder.{best}
 use Rattle.gix_topo.specs.declared.Sorting.{Sorting as TopoSorting}
 use Rattle.gix_topo.specs.declared.Sorting.TheVariants as topo
 use Rattle.gix_topo.specs.Laws.{IsSorted, IsSortedBeginning}
-use Rattle.gix_topo.specs.WalkSet.{IsInWalk, IsChild, IsReady}
+use Rattle.gix_topo.specs.WalkSet.{IsReady}
 use Rattle.gix_topo.proofs.Readiness.Decided.{is_ready, ready_is, is_ready_by}
-use Rattle.gix_topo.proofs.Run.EachOnce.{named_all, reached_known}
 use Rattle.gix_topo.proofs.Run.OneList.{first_topo}
 use Rattle.gix_topo.proofs.Run.SomeList.{some_topo}
 

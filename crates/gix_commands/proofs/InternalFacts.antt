@@ -1,30 +1,25 @@
 -- A store that is held in memory doesn't fail.
-use Rattle.std.specs.Prelude.{◌≡◌, ◌≢◌, ℕ, ℤ, List, Bool, Option, Some, None, Result, Ok, Err}
-use Rattle.std.proofs.Common.{refl, sym, ap, ◌∙◌}
-use Rattle.gix_hash.specs.declared.ObjectId.{ObjectId}
+use Rattle.std.proofs.Common.{◌≡◌, ◌≢◌, ℕ, ℤ, List, Bool, Option, Some, None, Result, Ok, Err, refl, sym, ap, ◌∙◌}
+use Rattle.gix_commands.proofs.Common.{ObjectId, IsExistingFault, Objects, GraphRow, Info, Pending, Treated, StoreFails, NoMemory, ReadsTime, unasked, from_row, from_store, store_fails, Treats, hidden, known, accepted, no_memory_after}
+use Rattle.gix_commands.proofs.Common.{TreatsAll, none, more, stops, Concludes, broken, Takes, by_row, by_store, Steps, took, FirstStep, unhidden, paints, faulty_history, initial, later, fault_of_find, fault_of_walk, fault_of_contained}
+use Rattle.gix_commands.proofs.Common.{FailsAtStart, objects_of, never_faulty, accepts_all}
 use Rattle.gix_object.specs.declared.Kind.{Kind}
 use Rattle.gix_object.specs.declared.Kind.TheVariants as object
 use Rattle.gix_object.specs.declared.decode.Error.{Error as DecodeError}
 use Rattle.gix_object.specs.declared.find.existing_iter.Error.{Error as ExistingError}
 use Rattle.gix_object.specs.declared.find.existing_iter.Error.TheVariants as existing
-use Rattle.gix_object.specs.Find.{IsExistingFault}
-use Rattle.gix_object.specs.Object.{Objects}
-use Rattle.gix_commitgraph.specs.Rows.{GraphRow}
 use Rattle.gix_contained.specs.declared.Error.{Error as ContainedError}
 use Rattle.gix_contained.specs.Contained.{error_of, FailsBy}
-use Rattle.gix_revwalk.specs.declared.Info.{Info}
 use Rattle.gix_simple.specs.declared.Error.{Error}
 use Rattle.gix_simple.specs.declared.Error.TheVariants as error
 use Rattle.gix_paint.specs.declared.Hidden.{Hidden}
 use Rattle.gix_paint.specs.declared.Hidden.TheVariants as hidden_by
 use Rattle.gix_simple.specs.declared.Sorting.{Sorting}
-use Rattle.gix_revwalk.specs.Pending.{Pending}
-use Rattle.gix_simple.specs.Walk.{Treated, GoesOn, StoreFails, NoMemory, ReadsTime, unasked, from_row, from_store, store_fails, Treats, hidden, known, refused, accepted, no_memory, no_memory_after, TreatsAll, none, more, stops, Concludes, given, broken, Takes, by_row, by_store, not_found, Steps, ended, took, FirstStep, unhidden, paints, faulty_history, initial, later}
+use Rattle.gix_simple.specs.Walk.{GoesOn, refused, no_memory, given, not_found, ended}
 use Rattle.gix_paint.specs.Painting.{IsHiddenFault}
 use Rattle.gix_simple.specs.Building.{IsTipFault}
 use Rattle.gix_words.specs.declared.fault.Fault.TheVariants as fault
-use Rattle.gix_words.specs.Faults.{fault_of_find, fault_of_walk, fault_of_contained}
-use Rattle.gix_commands.specs.Walked.{Walk, FailsAtStart, Answers, objects_of, never_faulty, accepts_all}
+use Rattle.gix_commands.specs.Walked.{Walk, Answers}
 
 -- an answer that reports no failing store
 abbrev pub IsSound : Option (Result Info Error) → Type 0

@@ -1,29 +1,12 @@
 -- Lists in order of what starts reach through what is followed, and hidden tips don't reach.
-use Rattle.std.specs.Prelude.{◌≡◌, ℕ, zero, suc, ℤ, List, [], ◌∷◌, take, slice_get, filter, Bool, true, false, not, cond, ◌&&◌, ◌||◌, Option, None, Some, MatchOption, Contains}
-use Rattle.std.proofs.Common.{refl, sym, ap, ◌∙◌}
-use Rattle.std.proofs.lemmas.Bool.{true≢false, not-true, not_from_false, false_from_ne_true, cond-true, cond-false}
-use Rattle.gix_hash.specs.declared.ObjectId.{ObjectId}
-use Rattle.gix_hash.specs.Id.{is_same}
-use Rattle.gix_hash.specs.Reach.{Reaches, Tells, start, step}
-use Rattle.gix_hash.proofs.Ids.Membership.{same_is, Contains-here, Contains-there, no_member}
-use Rattle.gix_hash.proofs.Lists.{filter_within}
-use Rattle.gix_object.specs.Object.{Objects}
-use Rattle.gix_revwalk.specs.declared.CommitTimeOrder.{CommitTimeOrder}
-use Rattle.gix_revwalk.specs.declared.Parents.{Parents}
+use Rattle.std.proofs.Common.{◌≡◌, ℕ, zero, suc, ℤ, List, [], ◌∷◌, take, slice_get, filter, Bool, true, false, not, cond, ◌&&◌, ◌||◌, Option, None, Some, MatchOption, Contains, refl, sym, ap, ◌∙◌, true≢false}
+use Rattle.gix_commands.proofs.Common.{not-true, not_from_false, false_from_ne_true, cond-true, cond-false, ObjectId, is_same, step, same_is, Contains-here, Contains-there, no_member, filter_within, Objects, CommitTimeOrder, Parents}
+use Rattle.gix_commands.proofs.Common.{Pending, by_mode, time_of, first_new, named_by, ids_of, new_ids, walked_within, IsInOrder, cutoff, is_older, all_kept, each_once, IsInWalk, ListsBy, followed, kept_tips}
+use Rattle.gix_hash.specs.Reach.{Reaches, Tells, start}
 use Rattle.gix_revwalk.specs.declared.Parents.TheVariants as mode
-use Rattle.gix_revwalk.specs.Pending.{Pending}
-use Rattle.gix_revwalk.specs.Commits.{by_mode, time_of}
-use Rattle.gix_revwalk.specs.BreadthOrder.{first_new, named_by}
-use Rattle.gix_revwalk.specs.Ids.{ids_of, new_ids}
 use Rattle.gix_revwalk.specs.TimeOrder.{IsBest, IsPending}
-use Rattle.gix_revwalk.proofs.ReadsWhole.{walked_within}
 use Rattle.gix_simple.specs.declared.Sorting.{Sorting}
 use Rattle.gix_simple.specs.Building.{recent, timed}
-use Rattle.gix_simple.specs.Laws.{IsInOrder}
-use Rattle.gix_simple.specs.Walk.{cutoff, is_older}
-use Rattle.gix_simple.proofs.Corollaries.{all_kept, each_once}
-use Rattle.gix_topo.specs.WalkSet.{IsInWalk}
-use Rattle.gix_commands.specs.Histories.{ListsBy, followed, kept_tips}
 use Rattle.gix_commands.proofs.SameOrders.{in_new, new_in, filtered, filtered_in}
 
 -- what is pending behind a cutoff

@@ -1,3 +1,4 @@
+mod Common
 mod WordFaults
 mod WalkFaults
 mod MemoryFaults

@@ -1,23 +1,14 @@
 -- A lister adds the lines of what a recorder would record.
-use Rattle.std.specs.Prelude.{◌≡◌, ℕ, List, [], ◌∷◌, ◌++◌, Option, Some, None, Result, Ok, Err, IfErr}
-use Rattle.std.proofs.Common.{refl, sym, ap, subst, ◌∙◌}
-use Rattle.std.proofs.lemmas.List.{append-nil}
+use Rattle.std.proofs.Common.{◌≡◌, ℕ, List, [], ◌∷◌, ◌++◌, Option, Some, None, Result, Ok, Err, IfErr, refl, sym, ap, subst, ◌∙◌, append-nil}
 use Rattle.std.proofs.lemmas.Grind.{flat_map-append}
-use Rattle.gix_hash.specs.declared.ObjectId.{ObjectId}
-use Rattle.gix_object.specs.Object.{Objects}
+use Rattle.gix_commands.proofs.Common.{ObjectId, Objects, Action, Call, PushPath, PopPath, PushBack, PopBack, PopFront, VisitTree, VisitNontree, Refused, Run, Tracked, Tracks, fresh_recorder, DepthFirst, Fault, fault_of_tree_walk}
+use Rattle.gix_commands.proofs.Common.{RecordsTree, file_line, file_lines, AreLinesOf, IsTreeFault, never_faulty}
 use Rattle.gix_object.specs.TreeItems.{TreeEntry}
 use Rattle.gix_tree.specs.declared.breadthfirst.Error.{Error}
 use Rattle.gix_tree.specs.declared.recorder.Location.{Location}
 use Rattle.gix_tree.specs.declared.recorder.Location.TheVariants.{Path, FileName}
-use Rattle.gix_tree.specs.Delegate.{Action, Call, PushPath, PopPath, PushBack, PopBack, PopFront, VisitTree, VisitNontree, Refused, Run}
 use Rattle.gix_tree.specs.Recorder.{Record, Recorded, IsRecorderAnswer, recorded, with_record}
-use Rattle.gix_tree.specs.Tracked.{Tracked, Tracks, fresh_recorder}
-use Rattle.gix_tree.specs.Walk.{DepthFirst}
-use Rattle.gix_words.specs.declared.fault.Fault.{Fault}
-use Rattle.gix_words.specs.Faults.{fault_of_tree_walk}
-use Rattle.gix_commands.specs.Files.{RecordsTree, file_line, file_lines, AreLinesOf, IsTreeFault}
 use Rattle.gix_commands.specs.Lister.{Listed, Moves, AddsLine, Lists, fresh_lister}
-use Rattle.gix_commands.specs.Walked.{never_faulty}
 
 abbrev holding : Recorded → List Record → Recorded
 holding r records = record r { records = records }

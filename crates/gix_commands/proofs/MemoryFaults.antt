@@ -1,7 +1,6 @@
 -- A fault is out of memory, or another.
-use Rattle.std.specs.Prelude.{◌≡◌, ◌≢◌, Result, Err}
-use Rattle.std.proofs.Common.{sym, subst}
-use Rattle.gix_words.specs.declared.fault.Fault.{Fault}
+use Rattle.std.proofs.Common.{◌≡◌, ◌≢◌, Result, Err, sym, subst}
+use Rattle.gix_commands.proofs.Common.{Fault}
 use Rattle.gix_words.specs.declared.fault.Fault.TheVariants as fault
 
 module _ (P : Result (Unit {0}) Fault → Type 0) (memory : P (Err fault.Memory)) where

@@ -1,9 +1,6 @@
 -- Each command that asks for commits names a tip, and each that asks which ids are contained names one.
-use Rattle.std.specs.Prelude.{◌≡◌, ◌≢◌, ℕ, List, [], Option, Ok}
-use Rattle.std.proofs.Common.{subst}
-use Rattle.gix_hash.specs.declared.ObjectId.{ObjectId}
-use Rattle.gix_words.specs.declared.words.Order.{Order}
-use Rattle.gix_words.specs.Words.{Commits, Contained, request_of}
+use Rattle.std.proofs.Common.{◌≡◌, ◌≢◌, ℕ, List, [], Option, Ok, subst}
+use Rattle.gix_commands.proofs.Common.{ObjectId, Order, Commits, Contained, request_of}
 use Rattle.gix_commands.proofs.SameWords.{AreWordsOf, are_words}
 
 pub some_tips : (words : List (List ℕ)) (by : Order) (limit : Option ℕ) (tips hidden : List ObjectId) → request_of words ≡ Ok (Commits by limit tips hidden) → tips ≢ []

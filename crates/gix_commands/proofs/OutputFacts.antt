@@ -1,16 +1,11 @@
 -- Lines that are buffered, and lines that were written.
-use Rattle.std.specs.Prelude.{◌≡◌, ◌<◌, ◌≤◌, ◌+◌, ◌-◌, ℕ, List, [], ◌∷◌, ◌++◌, length, Option, Some, None, Result, Ok, Err, ◌⊎◌}
-use Rattle.std.specs.Io.KnownBytes.{Appends}
-use Rattle.std.specs.Iterator.{Yields}
-use Rattle.std.proofs.Common.{refl, sym, ap, subst, ◌∙◌, append_assoc, arith, inl, inr}
-use Rattle.std.proofs.lemmas.List.{append-nil, length-append, map-append}
+use Rattle.std.proofs.Common.{◌≡◌, ◌<◌, ◌≤◌, ◌+◌, ◌-◌, ℕ, List, [], ◌∷◌, ◌++◌, length, Option, Some, None, Result, Ok, Err, ◌⊎◌, refl, sym, ap, subst, ◌∙◌, append_assoc, arith, inl, inr, append-nil, length-append}
+use Rattle.gix_commands.proofs.Common.{Appends, Yields, Info, Fault, Grows, Adds, WritesAll, Ends, EndsBy, finished, cut_short, enough, line_of, lines_of}
+use Rattle.std.proofs.lemmas.List.{map-append}
 use Rattle.std.proofs.lemmas.Grind.{flat_map-append}
 use Rattle.std.proofs.KnownBytes.{Appends-nil, Appends-trans}
-use Rattle.gix_revwalk.specs.declared.Info.{Info}
-use Rattle.gix_words.specs.declared.fault.Fault.{Fault}
 use Rattle.gix_words.specs.declared.fault.Fault.TheVariants as fault
-use Rattle.gix_commands.specs.Output.{Grows, Adds, WritesAll}
-use Rattle.gix_commands.specs.Walked.{given, Ends, EndsBy, finished, failed, cut_short, enough, line_of, lines_of}
+use Rattle.gix_commands.specs.Walked.{given, failed}
 
 -- nothing was written
 pub grows_waiting : (old : Option (List ℕ)) (waiting waits bytes : List ℕ) → waits ≡ waiting ++ bytes → Grows old waiting old waits bytes

@@ -1,27 +1,19 @@
 -- What a run over a commit-graph may answer.
-use Rattle.std.specs.Prelude.{◌≡◌, ◌≢◌, ℕ, List, Option, Some, Result, Ok, Err}
-use Rattle.std.proofs.Common.{sym, subst, ap, ◌∙◌}
-use Rattle.gix_object.specs.Object.{Objects}
-use Rattle.gix_commitgraph.specs.Rows.{GraphRow}
+use Rattle.std.proofs.Common.{◌≡◌, ◌≢◌, ℕ, List, Option, Some, Result, Ok, Err, sym, subst, ap, ◌∙◌}
+use Rattle.gix_commands.proofs.Common.{Objects, GraphRow, with_rows, IsAgreeing, stored, no_bad_record, Fault, fault_of_disagreement, fault_of_records, RunsOver, without_memory, no_command, not_read, bad_record, disagrees, served}
+use Rattle.gix_commands.proofs.Common.{never_faulty, Request, request_of}
 use Rattle.gix_graph_check.specs.declared.Disagreement.{Disagreement}
 use Rattle.gix_graph_check.specs.declared.Disagreement.TheVariants as disagreement
 use Rattle.gix_graph_store.specs.Laws.{StoredAgree}
 use Rattle.gix_graph_store.specs.StoredRows.{StoredDisagrees}
-use Rattle.gix_graph_store.specs.WithRows.{with_rows}
 use Rattle.gix_graph_store.proofs.SoundRows.{told-rows-agree}
-use Rattle.gix_revwalk.specs.Agreeing.{IsAgreeing}
 use Rattle.gix_records.specs.declared.Error.{Error as RecordsError}
 use Rattle.gix_records.specs.Reading.{IsReadFrom, IsReadFault}
 use Rattle.gix_records.specs.Reading as reading
-use Rattle.gix_records.specs.Records.{Record, AreRecords, stored}
-use Rattle.gix_records.proofs.RecordFacts.{no_bad_record}
-use Rattle.gix_words.specs.declared.fault.Fault.{Fault}
+use Rattle.gix_records.specs.Records.{Record, AreRecords}
 use Rattle.gix_words.specs.declared.fault.Fault.TheVariants as fault
-use Rattle.gix_words.specs.Faults.{fault_of_disagreement, fault_of_records}
 use Rattle.gix_commands.specs.Opening.{Opens, FailsToOpen}
-use Rattle.gix_commands.specs.Run.{Serves, RunsOver, without_memory, no_command, not_opened, not_read, bad_record, disagrees, served}
-use Rattle.gix_commands.specs.Walked.{never_faulty}
-use Rattle.gix_words.specs.Words.{Request, request_of}
+use Rattle.gix_commands.specs.Run.{Serves, not_opened}
 use Rattle.gix_commands.proofs.MemoryFaults.{failed_so}
 use Rattle.gix_commands.proofs.RunFacts.{err_same, told_same, serves_sound}
 use Rattle.gix_commands.proofs.WalkFaults.{OfWalk, serves_of_walk}

@@ -1,32 +1,13 @@
 -- What holds of a part of a store holds of the whole store, where all that is reached in the part is whole there.
-use Rattle.std.specs.Prelude.{◌≡◌, ℕ, zero, suc, ℤ, List, [], ◌∷◌, ◌++◌, filter, take, slice_get, false, not, Option, None, Some, Contains, IsSome, MatchOption}
-use Rattle.std.specs.FinMap.{get}
-use Rattle.std.specs.List.{flat_map}
-use Rattle.std.proofs.Math.Path.{transport}
-use Rattle.std.proofs.Common.{refl, sym, ap, subst, ⊎_elim, ◌∙◌}
-use Rattle.std.proofs.lemmas.Bool.{false≢true}
-use Rattle.std.proofs.lemmas.List.Elements.{Contains-append_left, Contains-append_right, Contains-append_cases}
-use Rattle.gix_hash.specs.declared.ObjectId.{ObjectId}
-use Rattle.gix_object.specs.Object.{Object, Objects}
-use Rattle.gix_revwalk.specs.declared.CommitTimeOrder.{CommitTimeOrder}
-use Rattle.gix_revwalk.specs.declared.Parents.{Parents}
+use Rattle.std.proofs.Common.{◌≡◌, ℕ, zero, suc, ℤ, List, [], ◌∷◌, ◌++◌, filter, take, slice_get, false, not, Option, None, Some, Contains, IsSome, MatchOption, flat_map, refl, sym, ap, subst, ⊎_elim, ◌∙◌}
+use Rattle.gix_commands.proofs.Common.{get, transport, false≢true, Contains-append_left, Contains-append_right, Contains-append_cases, ObjectId, Object, Objects, CommitTimeOrder, Parents, step, IsBreadthOrder, first_new, by_mode}
+use Rattle.gix_commands.proofs.Common.{commit_at, commit_of_object, parents_in, parents_of, time_in, time_of, new_ids, IsTimeOrder, IsNoWorse, IsInOrder, cutoff, is_older, IsNumberOf, among_is, Contains-here, Contains-there}
+use Rattle.gix_commands.proofs.Common.{Contains-cons_cases, no_member, filter_within, text_next, reach_more, text_whole, whole_from, IsPartOf, IsShownBy, AreWhole, ListsBy, followed}
 use Rattle.gix_simple.specs.declared.Sorting.{Sorting}
-use Rattle.gix_hash.specs.Reach.{Reaches, start, step}
-use Rattle.gix_revwalk.specs.BreadthOrder.{IsBreadthOrder, first_new}
-use Rattle.gix_revwalk.specs.Commits.{by_mode, commit_at, commit_of_object, parents_in, parents_of, time_in, time_of}
-use Rattle.gix_revwalk.specs.Ids.{new_ids}
-use Rattle.gix_revwalk.specs.TimeOrder.{IsTimeOrder, IsPending, IsBest, IsNoWorse}
-use Rattle.gix_simple.specs.Laws.{IsInOrder}
-use Rattle.gix_simple.specs.Walk.{cutoff, is_older}
-use Rattle.gix_topo.specs.Walk.{IsNumberOf}
-use Rattle.gix_hash.proofs.Ids.Membership.{among_is, Contains-here, Contains-there, Contains-cons_cases, no_member}
-use Rattle.gix_hash.proofs.Lists.{filter_within}
-use Rattle.gix_revwalk.specs.Texts.{text_next}
-use Rattle.gix_revwalk.proofs.Reached.{reach_more}
-use Rattle.gix_revwalk.proofs.TextParents.{text_whole}
-use Rattle.gix_simple.proofs.Difference.{whole_from}
+use Rattle.gix_hash.specs.Reach.{Reaches, start}
+use Rattle.gix_revwalk.specs.TimeOrder.{IsPending, IsBest}
 use Rattle.gix_simple.proofs.MadeOfTips.{fresh_among}
-use Rattle.gix_commands.specs.Histories.{IsPartOf, IsShown, IsShownBy, AreWhole, ListsBy, followed}
+use Rattle.gix_commands.specs.Histories.{IsShown}
 use Rattle.gix_commands.proofs.KeptLists.{followed_reaches}
 
 pub take_within : (k : ℕ) (xs : List ObjectId) (i : ObjectId) → Contains (take k xs) i → Contains xs i

@@ -1,39 +1,24 @@
 -- What a run may answer.
-use Rattle.std.specs.Prelude.{◌≡◌, ◌≢◌, ℕ, List, [], ◌∷◌, Option, Some, None, Result, Ok, Err}
-use Rattle.std.specs.FinMap.{get, same_map}
+use Rattle.std.proofs.Common.{◌≡◌, ◌≢◌, ℕ, List, [], ◌∷◌, Option, Some, None, Result, Ok, Err, refl, sym, subst, ap, ◌∙◌}
+use Rattle.gix_commands.proofs.Common.{get, same_map, ObjectId, Object, Objects, id_total, id_apart, with_rows, GraphRow, IsAgreeing, none_agree, Info, Parents, Fault, Order, Simple, Topo, fault_of_records, fault_of_walk}
+use Rattle.gix_commands.proofs.Common.{fault_of_topo_walk, WritesAll, stored, walked, not_walked, walked_down, not_built, not_listed, counted, not_ahead, not_behind, selected, not_selected, unserved, Runs, without_memory, no_command}
+use Rattle.gix_commands.proofs.Common.{not_read, bad_record, served, StartsFrom, FailsAtStart, IsStartFault, Ends, EndsBy, finished, cut_short, enough, before, Request, Commits, request_of, no_bad_record}
 use Rattle.std.specs.Option.{option_or}
-use Rattle.std.proofs.Common.{refl, sym, subst, ap, ◌∙◌}
-use Rattle.gix_hash.specs.declared.ObjectId.{ObjectId}
-use Rattle.gix_object.specs.Object.{Object, Objects}
-use Rattle.gix_hash.proofs.Ids.Membership.{id_total, id_apart}
-use Rattle.gix_graph_store.specs.WithRows.{with_rows}
 use Rattle.gix_graph_store.proofs.ToldObjects.{get-with_rows}
-use Rattle.gix_commitgraph.specs.Rows.{GraphRow}
-use Rattle.gix_revwalk.specs.Agreeing.{IsAgreeing}
-use Rattle.gix_revwalk.proofs.Rows.{none_agree}
-use Rattle.gix_revwalk.specs.declared.Info.{Info}
-use Rattle.gix_revwalk.specs.declared.Parents.{Parents}
 use Rattle.gix_simple.specs.declared.Error.{Error}
 use Rattle.gix_simple.specs.declared.Sorting.{Sorting}
 use Rattle.gix_topo.specs.declared.Error.{Error as TopoError}
 use Rattle.gix_topo.specs.declared.Sorting.{Sorting as TopoSorting}
-use Rattle.gix_words.specs.declared.fault.Fault.{Fault}
 use Rattle.gix_words.specs.declared.fault.Fault.TheVariants as fault
-use Rattle.gix_words.specs.declared.words.Order.{Order}
-use Rattle.gix_words.specs.declared.words.Order.TheVariants.{Simple, Topo}
-use Rattle.gix_words.specs.Faults.{fault_of_records, fault_of_walk, fault_of_topo_walk}
 use Rattle.gix_records.specs.Input.{Tells}
-use Rattle.gix_commands.specs.Output.{WritesAll}
 use Rattle.gix_records.specs.declared.Error.{Error as RecordsError}
 use Rattle.gix_records.specs.Reading.{IsReadFrom, IsReadFault}
 use Rattle.gix_records.specs.Reading as reading
-use Rattle.gix_records.specs.Records.{Record, AreRecords, stored}
-use Rattle.gix_commands.specs.Run.{Serves, walked, not_walked, walked_down, not_built, listed, not_listed, counted, not_ahead, not_behind, selected, not_selected, unserved, not_written, Runs, without_memory, no_command, not_read, bad_record, served}
+use Rattle.gix_records.specs.Records.{Record, AreRecords}
+use Rattle.gix_commands.specs.Run.{Serves, listed, not_written}
 use Rattle.gix_commands.specs.TopoWalked as topo
-use Rattle.gix_commands.specs.Walked.{Walk, Answers, IsWalkFault, StartsFrom, FailsAtStart, IsStartFault, Ends, EndsBy, finished, failed, cut_short, enough, before}
-use Rattle.gix_words.specs.Words.{Request, Commits, request_of}
+use Rattle.gix_commands.specs.Walked.{Walk, Answers, IsWalkFault, failed}
 use Rattle.gix_commands.proofs.MemoryFaults.{failed_so}
-use Rattle.gix_records.proofs.RecordFacts.{no_bad_record}
 use Rattle.gix_commands.proofs.InternalFacts.{IsSound, next_sound, start_sound, contained_sound}
 use Rattle.gix_commands.proofs.TopoInternalFacts.{drawn_sound, built_agreeing, build_sound}
 use Rattle.gix_commands.proofs.TreeFacts.{tree_sound}

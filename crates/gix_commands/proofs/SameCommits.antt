@@ -1,23 +1,16 @@
 -- The records, the texts of commits and the times that are read are those of the statement.
-use Rattle.std.specs.Prelude.{◌≡◌, ◌≢◌, ◌⊎◌, ◌==◌, ℕ, suc, List, [], ◌∷◌, ◌++◌, map, length, take, replicate, Bool, true, false, cond, Option, Some, None, All, Contains, codes}
+use Rattle.std.proofs.Common.{◌≡◌, ◌≢◌, ◌⊎◌, ◌==◌, ℕ, suc, List, [], ◌∷◌, ◌++◌, map, length, take, replicate, Bool, true, false, cond, Option, Some, None, All, Contains, codes, refl, sym, ap, subst, ◌∙◌, inl, inr, ⊎_elim, arith}
+use Rattle.std.proofs.Common.{append_assoc, get_or, eqb-true, eq-eqb}
 use Rattle.std.specs.FinMap as map_of
-use Rattle.std.specs.FinMap.{get}
-use Rattle.std.proofs.Common.{refl, sym, ap, subst, ◌∙◌, inl, inr, ⊎_elim, arith, append_assoc, get_or}
-use Rattle.std.proofs.lemmas.Bool.{eqb-true, eq-eqb, cond-true, cond-false, false≢true}
-use Rattle.std.proofs.lemmas.List.Elements.{All-nil, All-cons, All-contains, Contains-append_right}
-use Rattle.std.proofs.lemmas.Option.{same_Some, none-some}
-use Rattle.gix_hash.specs.declared.ObjectId.{ObjectId}
+use Rattle.gix_commands.proofs.Common.{get, cond-true, cond-false, false≢true, All-nil, All-cons, All-contains, Contains-append_right, same_Some, none-some, ObjectId, id_cmp, is_same, id_total, same_is, same_from, Contains-here}
+use Rattle.gix_commands.proofs.Common.{Contains-there, Contains-cons_cases, no_member, behind_last, without_spaces, digits_from, signed_seconds, seconds_behind, seconds_of, Object, Objects, kind_word, put_in, stored, Holds, Spells}
+use Rattle.gix_commands.proofs.Common.{AreParentLines, IsTime, unsigned, positive, negative}
 use Rattle.gix_hash.specs.declared.Kind.{Kind}
-use Rattle.gix_hash.specs.Id.{id_cmp, is_same}
-use Rattle.gix_hash.proofs.Ids.Membership.{id_total, same_is, same_from, Contains-here, Contains-there, Contains-cons_cases, no_member}
 use Rattle.gix_object.specs.declared.Kind.{Kind as ObjectKind}
 use Rattle.gix_object.specs.declared.Kind.TheVariants as kind
 use Rattle.gix_object.specs.CommitText as text
-use Rattle.gix_object.specs.CommitText.{behind_last, without_spaces, digits_from, signed_seconds, seconds_behind, seconds_of}
-use Rattle.gix_object.specs.Object.{Object, Objects}
 use Rattle.gix_records.specs.Records as records
-use Rattle.gix_records.specs.Records.{kind_word, put_in, stored}
-use Rattle.gix_commands.specs.WholeStatement.{Record, AreRecords, Holds, Spells, AreParentLines, IsTime, unsigned, positive, negative}
+use Rattle.gix_commands.specs.WholeStatement.{Record, AreRecords}
 use Rattle.gix_commands.proofs.SameNumbers.{hex_spelled, spelled, spells_again, is_decimal, counts, width_of}
 
 -- a record, with the word of its kind

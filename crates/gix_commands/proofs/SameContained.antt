@@ -1,13 +1,8 @@
 -- Which ids a commit contains, by the parents that texts name and in the words of the statement.
-use Rattle.std.specs.Prelude.{List, [], ◌∷◌}
-use Rattle.gix_hash.specs.declared.ObjectId.{ObjectId}
+use Rattle.std.proofs.Common.{List, [], ◌∷◌}
+use Rattle.gix_commands.proofs.Common.{ObjectId, Contains-here, Objects, parents_of, text_next, AreWhole}
 use Rattle.gix_hash.specs.Reach.{Reaches}
-use Rattle.gix_hash.proofs.Ids.Membership.{Contains-here}
-use Rattle.gix_object.specs.Object.{Objects}
 use Rattle.gix_contained.specs.Contained.{AreContained, empty, reached, passed}
-use Rattle.gix_revwalk.specs.Commits.{parents_of}
-use Rattle.gix_revwalk.specs.Texts.{text_next}
-use Rattle.gix_commands.specs.Histories.{AreWhole}
 use Rattle.gix_commands.specs.WholeStatement as page
 use Rattle.gix_commands.proofs.SameOrders.{reaches, reaches_back}
 use Rattle.gix_commands.proofs.TextNumbers.{by_texts, by_commits}

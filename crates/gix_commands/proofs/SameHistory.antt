@@ -1,20 +1,13 @@
 -- The parents and the times that a store has are those that the statement says its records have.
-use Rattle.std.specs.Prelude.{◌≡◌, ◌≢◌, ◌⊎◌, ◌++◌, ℕ, ℤ, pos, List, [], ◌∷◌, map, Option, Some, None, codes}
-use Rattle.std.specs.FinMap.{get}
-use Rattle.std.proofs.Common.{refl, sym, ap, subst, ◌∙◌, inl, inr, ⊎_elim}
-use Rattle.std.proofs.lemmas.Option.{same_Some, none-some}
-use Rattle.gix_hash.specs.declared.ObjectId.{ObjectId}
+use Rattle.std.proofs.Common.{◌≡◌, ◌≢◌, ◌⊎◌, ◌++◌, ℕ, ℤ, pos, List, [], ◌∷◌, map, Option, Some, None, codes, refl, sym, ap, subst, ◌∙◌, inl, inr, ⊎_elim}
+use Rattle.gix_commands.proofs.Common.{get, same_Some, none-some, ObjectId, kind_of, Commit, seconds_of, read_commit, Object, kind_word, stored, commit_at, commit_of_kind, commit_of_object, time_of, time_in, next_in, text_next}
+use Rattle.gix_commands.proofs.Common.{text_parents_of_kind, Holds, IsSigned, IsTime, Names, AreHistory, digits_in}
 use Rattle.gix_hash.specs.declared.ObjectId.TheVariants as id
-use Rattle.gix_hash.specs.Id.{kind_of}
 use Rattle.gix_object.specs.declared.Kind.{Kind as ObjectKind}
 use Rattle.gix_object.specs.declared.Kind.TheVariants as kind
-use Rattle.gix_object.specs.CommitText.{Commit, seconds_of, read_commit}
-use Rattle.gix_object.specs.Object.{Object}
 use Rattle.gix_object.proofs.Commits.Texts.{reads_texts}
-use Rattle.gix_records.specs.Records.{Record, kind_word, stored}
-use Rattle.gix_revwalk.specs.Commits.{commit_at, commit_of_kind, commit_of_object, time_of, time_in}
-use Rattle.gix_revwalk.specs.Texts.{next_in, text_next, text_parents_of_kind}
-use Rattle.gix_commands.specs.WholeStatement.{Record as PageRecord, Holds, IsSigned, IsTime, Names, AreHistory, digits_in}
+use Rattle.gix_records.specs.Records.{Record}
+use Rattle.gix_commands.specs.WholeStatement.{Record as PageRecord}
 use Rattle.gix_commands.proofs.SameNumbers.{width_of}
 use Rattle.gix_commands.proofs.SameCommits.{worded, held, held_back, IsText, commit_text, commit_text_back, is_time}
 use Rattle.gix_commands.proofs.SameTexts.{AreNamed, IsNaming, texts}

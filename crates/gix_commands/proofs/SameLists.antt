@@ -1,31 +1,17 @@
 -- The lists of commits, the numbers of commits and the lines are those of the statement.
-use Rattle.std.specs.Prelude.{◌≡◌, ℕ, ℤ, List, [], ◌∷◌, ◌++◌, map, take, Contains, Option, Some, None, codes}
-use Rattle.std.specs.List.{flat_map}
-use Rattle.std.proofs.Common.{refl, sym, subst, arith}
-use Rattle.std.proofs.Math.Path.{transport}
+use Rattle.std.proofs.Common.{◌≡◌, ℕ, ℤ, List, [], ◌∷◌, ◌++◌, map, take, Contains, Option, Some, None, codes, flat_map, refl, sym, subst, arith}
+use Rattle.gix_commands.proofs.Common.{transport, ObjectId, Objects, CommitTimeOrder, Parents, by_mode, time_of, cutoff, time_order, IsNumberOf, IsInWalk, Visit, Simple, Topo, file_lines, six_octal_digits, IsShownBy, IsListedBy, ListsBy}
+use Rattle.gix_commands.proofs.Common.{ListsDown, followed, kept_tips, lines_of_ids, Comes, Follows, IsNumberShown, bytes_in, entry_line}
 use Rattle.hex.specs.Hex.{encode_lower}
-use Rattle.gix_hash.specs.declared.ObjectId.{ObjectId}
-use Rattle.gix_object.specs.Object.{Objects}
-use Rattle.gix_revwalk.specs.declared.CommitTimeOrder.{CommitTimeOrder}
 use Rattle.gix_revwalk.specs.declared.CommitTimeOrder.TheVariants as order
-use Rattle.gix_revwalk.specs.declared.Parents.{Parents}
 use Rattle.gix_revwalk.specs.declared.Parents.TheVariants as mode
-use Rattle.gix_revwalk.specs.Commits.{by_mode, time_of}
 use Rattle.gix_simple.specs.declared.Sorting.{Sorting}
 use Rattle.gix_simple.specs.declared.Sorting.TheVariants as sorting
-use Rattle.gix_simple.specs.Walk.{cutoff, time_order}
 use Rattle.gix_topo.specs.declared.Sorting.{Sorting as TopoSorting}
 use Rattle.gix_topo.specs.declared.Sorting.TheVariants as topo
 use Rattle.gix_topo.specs.Laws.{IsSorted}
-use Rattle.gix_topo.specs.Walk.{IsNumberOf}
-use Rattle.gix_topo.specs.WalkSet.{IsInWalk}
 use Rattle.gix_tree.specs.Recorder.{record_of}
-use Rattle.gix_tree.specs.Visits.{Visit}
-use Rattle.gix_words.specs.declared.words.Order.TheVariants.{Simple, Topo}
-use Rattle.gix_commands.specs.Files.{file_lines, six_octal_digits}
-use Rattle.gix_commands.specs.Histories.{IsShownBy, IsListedBy, ListsBy, ListsDown, followed, kept_tips, lines_of_ids}
 use Rattle.gix_commands.specs.WholeStatement as page
-use Rattle.gix_commands.specs.WholeStatement.{Comes, Follows, IsNumberShown, bytes_in, entry_line}
 use Rattle.gix_commands.proofs.KeptLists.{all_followed, cut_all, tips_kept}
 use Rattle.gix_commands.proofs.SameOrders.{Throughout, reaches, reaches_back, are_distinct, in_breadth_order, in_time_order}
 use Rattle.gix_commands.proofs.SameDescents.{in_date_order, in_topo_order}

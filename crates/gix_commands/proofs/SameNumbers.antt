@@ -1,25 +1,20 @@
 -- Numbers and ids that are read are those that digits write.
-use Rattle.std.specs.Prelude.{◌≡◌, ◌≤◌, ◌<◌, ◌+◌, ◌-◌, ◌*◌, ◌==◌, nat_lt, nat_le, ◌&&◌, ℕ, List, [], ◌∷◌, ◌++◌, length, take, Bool, true, false, cond, Option, Some, None, Result, Ok, Err}
+use Rattle.std.proofs.Common.{◌≡◌, ◌≤◌, ◌<◌, ◌+◌, ◌-◌, ◌*◌, ◌==◌, nat_lt, nat_le, ◌&&◌, ℕ, List, [], ◌∷◌, ◌++◌, length, take, Bool, true, false, cond, Option, Some, None, Result, Ok, Err, refl, sym, ap, ◌∙◌, arith, eqb-true, eq-eqb}
+use Rattle.std.proofs.Common.{leb-true, ltb-true, le-leb}
 use Rattle.std.specs.Char.{is_ascii_digit, digit_value}
 use Rattle.std.specs.Str.Parse.{AllDigits, digits_value_after}
-use Rattle.std.proofs.Common.{refl, sym, ap, ◌∙◌, arith}
-use Rattle.std.proofs.lemmas.Bool.{eqb-true, eq-eqb, cond-true, cond-false, leb-true, ltb-true, and_from, le-leb, false≢true}
+use Rattle.gix_commands.proofs.Common.{cond-true, cond-false, and_from, false≢true, same_Some, HexError, ObjectId, id_len, kind_of, id_of_decoded, id_of_hex, id_from_hex, or_digit, digits_from, IsNumber, Spells, bytes_in, digits_in}
 use Rattle.std.proofs.lemmas.Str.{digit_value_digit}
 use Rattle.std.proofs.lemmas.Str.Parse.{digit_from_value}
-use Rattle.std.proofs.lemmas.Option.{same_Some}
 use Rattle.hex.specs.Hex.{decode_of}
 use Rattle.hex.specs.declared.error.FromHexError.{FromHexError}
 use Rattle.gix_hash.specs.declared.HexError.TheVariants as hex
-use Rattle.gix_hash.specs.declared.HexError.{HexError}
 use Rattle.gix_hash.specs.declared.Kind.{Kind}
 use Rattle.gix_hash.specs.declared.Kind.TheVariants as kind
-use Rattle.gix_hash.specs.declared.ObjectId.{ObjectId}
 use Rattle.gix_hash.specs.declared.ObjectId.TheVariants as id
-use Rattle.gix_hash.specs.Id.{id_len, kind_of, id_of_decoded, id_of_hex, id_from_hex, or_digit}
-use Rattle.gix_object.specs.CommitText.{digits_from}
 use Rattle.gix_object.specs.TreeItems.{is_octal, octal_from, mode_of}
 use Rattle.gix_records.specs.Decimal.{digits_behind, decimal}
-use Rattle.gix_commands.specs.WholeStatement.{IsNumber, Spells, Counts, bytes_in, digits_in}
+use Rattle.gix_commands.specs.WholeStatement.{Counts}
 
 -- how many digits an id of a kind has
 abbrev pub width_of : Kind → ℕ

@@ -1,24 +1,16 @@
 -- What commits reach, breadth order and time order are those of the statement.
-use Rattle.std.specs.Prelude.{◌≡◌, ◌≢◌, ◌≤◌, ℕ, ℤ, List, [], ◌∷◌, ◌++◌, length, take, slice_get, find, filter, Bool, true, false, cond, not, ◌&&◌, ◌||◌, ◌⊎◌, Option, Some, None, MatchOption, AllPairs, Contains}
-use Rattle.std.specs.List.{flat_map}
-use Rattle.std.proofs.Common.{refl, sym, ap, subst, ◌∙◌, inl, inr, ⊎_elim, arith, length-append}
-use Rattle.std.proofs.lemmas.Bool.{false≢true, cond-true, cond-false, or_cases}
-use Rattle.std.proofs.lemmas.List.Elements.{All-nil, All-cons, Contains-append_left, Contains-append_right, Contains-append_cases, Contains-get_or}
+use Rattle.std.proofs.Common.{◌≡◌, ◌≢◌, ◌≤◌, ℕ, ℤ, List, [], ◌∷◌, ◌++◌, length, take, slice_get, find, filter, Bool, true, false, cond, not, ◌&&◌, ◌||◌, ◌⊎◌, Option, Some, None, MatchOption, AllPairs, Contains, flat_map, refl, sym, ap}
+use Rattle.std.proofs.Common.{subst, ◌∙◌, inl, inr, ⊎_elim, arith, length-append}
+use Rattle.gix_commands.proofs.Common.{false≢true, cond-true, cond-false, or_cases, All-nil, All-cons, Contains-append_left, Contains-append_right, Contains-append_cases, Contains-get_or, same_Some, none-some, ObjectId, is_among}
+use Rattle.gix_commands.proofs.Common.{is_same, among_from, among_is, same_is, Contains-here, Contains-there, Contains-cons_cases, no_member, CommitTimeOrder, IsBreadthOrder, named_by, new_ids, IsTimeOrder, IsNoWorse, IsFirst}
 use Rattle.std.proofs.lemmas.List.Kept.{AllPairs-cons}
-use Rattle.std.proofs.lemmas.Option.{same_Some, none-some}
 use Rattle.std.proofs.Math.Seq.{take-append_seam}
-use Rattle.gix_hash.specs.declared.ObjectId.{ObjectId}
-use Rattle.gix_hash.specs.Id.{is_among, is_same}
 use Rattle.gix_hash.specs.Reach as reach
 use Rattle.gix_hash.specs.Reach.{Tells}
-use Rattle.gix_hash.proofs.Ids.Membership.{among_from, among_is, same_is, Contains-here, Contains-there, Contains-cons_cases, no_member}
-use Rattle.gix_revwalk.specs.declared.CommitTimeOrder.{CommitTimeOrder}
-use Rattle.gix_revwalk.specs.BreadthOrder.{IsBreadthOrder, named_by}
-use Rattle.gix_revwalk.specs.Ids.{new_ids, AreDistinct as AreApart}
+use Rattle.gix_revwalk.specs.Ids.{AreDistinct as AreApart}
 use Rattle.gix_revwalk.specs.TimeOrder as times
-use Rattle.gix_revwalk.specs.TimeOrder.{IsTimeOrder, IsNoWorse}
 use Rattle.gix_revwalk.proofs.NewIds.{times_among, times-fresh}
-use Rattle.gix_commands.specs.WholeStatement.{Reaches, start, parent, IsFirst, IsBest, IsPending}
+use Rattle.gix_commands.specs.WholeStatement.{Reaches, start, parent, IsBest, IsPending}
 
 pub reaches : (parents : ObjectId → List ObjectId) (starts : List ObjectId) (i : ObjectId) → reach.Reaches parents starts i → Reaches parents starts i
 reaches parents starts i (reach.start s) = start s

@@ -1,14 +1,11 @@
 -- The parents that the texts of commits name are those of the statement.
-use Rattle.std.specs.Prelude.{◌≡◌, ◌≢◌, ◌⊎◌, ◌≤◌, ℕ, zero, suc, List, [], ◌∷◌, ◌++◌, length, Some, codes}
-use Rattle.std.proofs.Common.{refl, sym, ap, subst, ◌∙◌, inl, inr, arith, length-append}
+use Rattle.std.proofs.Common.{◌≡◌, ◌≢◌, ◌⊎◌, ◌≤◌, ℕ, zero, suc, List, [], ◌∷◌, ◌++◌, length, Some, codes, refl, sym, ap, subst, ◌∙◌, inl, inr, arith, length-append}
 use Rattle.gix_hash.specs.declared.Kind.{Kind}
-use Rattle.gix_hash.specs.declared.ObjectId.{ObjectId}
+use Rattle.gix_commands.proofs.Common.{ObjectId, scanned, Spells, AreParentLines}
 use Rattle.gix_object.specs.CommitItems.{Tree, Parent, Author, AtTree, AtParents, AtCommitter, Front, Found, Faulty, Ended, tree_front, parent_front, front, unfolded, items_within, items_from, commit_items}
 use Rattle.gix_object.proofs.Commits.Items.{Stands, ended, faulty, tree, parent, author, stands, items_from-step}
 use Rattle.gix_object.proofs.Commits.Lines.{id_line_at-append}
 use Rattle.gix_revwalk.specs.declared.Parents.TheVariants as mode
-use Rattle.gix_revwalk.specs.Texts.{scanned}
-use Rattle.gix_commands.specs.WholeStatement.{Spells, AreParentLines}
 use Rattle.gix_commands.proofs.SameCommits.{HasNoMore}
 use Rattle.gix_commands.proofs.SameNumbers.{spelled, spells_again, width_of}
 

@@ -1,36 +1,26 @@
 -- The entries of trees, the trees in them and the lines of entries are those of the statement.
-use Rattle.std.specs.Prelude.{◌≡◌, ◌≢◌, ◌≤◌, ◌<◌, ◌+◌, ◌*◌, ◌==◌, nat_lt, ℕ, zero, suc, List, [], ◌∷◌, ◌++◌, map, length, take, drop, Bool, true, false, cond, Option, Some, None, All, bit_and}
-use Rattle.std.specs.declared.ops.ControlFlow.TheVariants.{Continue}
-use Rattle.std.specs.FinMap.{get}
-use Rattle.std.specs.List.{AllByRecursion, flat_map, position}
-use Rattle.std.proofs.Common.{refl, sym, ap, subst, ◌∙◌, arith, append-nil, append_assoc, length-append, get_or, drop-cons}
-use Rattle.std.proofs.lemmas.Bool.{eqb-true, eq-eqb, ltb-false, false≢true}
-use Rattle.std.proofs.lemmas.List.{get_or-take, length-take-le, map-append, take-append-drop}
-use Rattle.std.proofs.lemmas.List.Elements.{All-head, All-tail}
+use Rattle.std.proofs.Common.{◌≡◌, ◌≢◌, ◌≤◌, ◌<◌, ◌+◌, ◌*◌, ◌==◌, nat_lt, ℕ, zero, suc, List, [], ◌∷◌, ◌++◌, map, length, take, drop, Bool, true, false, cond, Option, Some, None, All, bit_and, Continue, flat_map, position, refl, sym, ap}
+use Rattle.std.proofs.Common.{subst, ◌∙◌, arith, append-nil, append_assoc, length-append, get_or, drop-cons, eqb-true, eq-eqb, ltb-false, get_or-take, length-take-le, take-append-drop}
+use Rattle.gix_commands.proofs.Common.{get, false≢true, All-head, All-tail, same_Some, none-some, ObjectId, id_len, id_of, kind_of, bytes_of, is_among, Object, kind_word, stored, Action, Call, DepthScript, IsDepthScript, entries_in}
+use Rattle.gix_commands.proofs.Common.{Items, Place, Visit, visit, Leaves, Enters, outcome_of, descent, Whole, items_of_object, items_of_kind, trees_of, Entry, Holds, IsNumber, AreEntries, IsTree, bytes_in, digits_in}
+use Rattle.std.specs.List.{AllByRecursion}
+use Rattle.std.proofs.lemmas.List.{map-append}
 use Rattle.std.proofs.lemmas.List.Quantifiers.{position-Some}
-use Rattle.std.proofs.lemmas.Option.{same_Some, none-some}
-use Rattle.gix_hash.specs.declared.ObjectId.{ObjectId}
 use Rattle.gix_hash.specs.declared.ObjectId.TheVariants as id
 use Rattle.gix_hash.specs.declared.Kind.{Kind}
 use Rattle.gix_hash.specs.declared.Kind.TheVariants as hash
-use Rattle.gix_hash.specs.Id.{id_len, id_of, kind_of, bytes_of, is_among}
 use Rattle.gix_object.specs.declared.Kind.{Kind as ObjectKind}
 use Rattle.gix_object.specs.declared.Kind.TheVariants as kind
 use Rattle.gix_object.specs.declared.find.existing_iter.Error.{Error as ExistingError}
-use Rattle.gix_object.specs.Object.{Object}
 use Rattle.gix_object.specs.TreeItems.{TreeEntry, TreeFront, Found, Faulty, Ended, is_tree, parted_at, parted, mode_of, mode_before, mode_parted, mode_at, name_at, id_at, named_front, moded_front, entry_front, tree_front, unfolded, entries_within, tree_items}
-use Rattle.gix_records.specs.Records.{Record, kind_word, stored}
-use Rattle.gix_tree.specs.Delegate.{Action, Call}
+use Rattle.gix_records.specs.Records.{Record}
 use Rattle.gix_tree.specs.Laws.{IsWhole}
 use Rattle.gix_tree.specs.Paths.{HaveNames, joined}
 use Rattle.gix_tree.specs.Script as script
-use Rattle.gix_tree.specs.Script.{DepthScript, IsDepthScript, entries_in}
-use Rattle.gix_tree.specs.Visits.{Items, Place, Visit, visit, Leaves, Enters, outcome_of, descent, Whole}
-use Rattle.gix_tree.specs.Walk.{items_of_object, items_of_kind, trees_of}
 use Rattle.gix_tree.proofs.All.{all_left, all_right}
 use Rattle.gix_tree.proofs.Theorems.SameRecords.{GoOn}
 use Rattle.gix_commands.specs.WholeStatement as page
-use Rattle.gix_commands.specs.WholeStatement.{Entry, Holds, IsNumber, AreEntries, IsTree, Unfolds, bytes_in, digits_in}
+use Rattle.gix_commands.specs.WholeStatement.{Unfolds}
 use Rattle.gix_commands.proofs.SameNumbers.{is_octal_number, width_of}
 use Rattle.gix_commands.proofs.SameCommits.{worded, held}
 use Rattle.gix_commands.proofs.SameHistory.{own_width}

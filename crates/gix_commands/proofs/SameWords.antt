@@ -1,24 +1,17 @@
 -- What words ask for is what the statement says that they ask for.
-use Rattle.std.specs.Prelude.{◌≡◌, ◌≢◌, ◌⊎◌, ◌+◌, ◌==◌, ◌||◌, ◌&&◌, nat_lt, nat_le, length, ℕ, ℤ, pos, List, [], ◌∷◌, ◌++◌, Bool, true, false, cond, Option, Some, None, Result, Ok, Err, codes}
+use Rattle.std.proofs.Common.{◌≡◌, ◌≢◌, ◌⊎◌, ◌+◌, ◌==◌, ◌||◌, ◌&&◌, nat_lt, nat_le, length, ℕ, ℤ, pos, List, [], ◌∷◌, ◌++◌, Bool, true, false, cond, Option, Some, None, Result, Ok, Err, codes, bytes_eq, refl, sym, ap, subst, ◌∙◌, inl}
+use Rattle.std.proofs.Common.{inr, eqb-true, ltb-true, leb-true}
 use Rattle.std.specs.List.{list_all}
-use Rattle.std.specs.Str.{bytes_eq}
-use Rattle.std.proofs.Common.{refl, sym, ap, subst, ◌∙◌, inl, inr}
-use Rattle.std.proofs.lemmas.Bool.{eqb-true, ltb-true, leb-true, false≢true}
+use Rattle.gix_commands.proofs.Common.{false≢true, ObjectId, HexError, id_from_hex, Fault, Order, Simple, Topo, Request, Commits, Files, Ahead, Contained, Ids, begins_with_caret, without_caret, is_shown, with_id, with_word, ids_from}
+use Rattle.gix_commands.proofs.Common.{number_in, order_named, commits_from, commits_of, limited_of, listed_of, chosen_of, since_of, by_first_parents, in_order_of, file_of, files_from, files_of, ahead_from, ahead_of, contained_among}
+use Rattle.gix_commands.proofs.Common.{contained_from, contained_of, request_named, request_of, recent_of, by_cutoff, IsNumber, Spells, AreTips, digits_in}
 use Rattle.std.proofs.lemmas.Slice.Eq.{bytes_eq-Decides}
-use Rattle.gix_hash.specs.declared.ObjectId.{ObjectId}
-use Rattle.gix_hash.specs.declared.HexError.{HexError}
-use Rattle.gix_hash.specs.Id.{id_from_hex}
 use Rattle.gix_records.specs.Decimal.{digits_behind}
 use Rattle.gix_revwalk.specs.declared.CommitTimeOrder.TheVariants as order
 use Rattle.gix_revwalk.specs.declared.Parents.TheVariants as mode
 use Rattle.gix_simple.specs.declared.Sorting.TheVariants as sorting
 use Rattle.gix_topo.specs.declared.Sorting.TheVariants as topo
-use Rattle.gix_words.specs.declared.fault.Fault.{Fault}
 use Rattle.gix_words.specs.declared.fault.Fault.TheVariants as fault
-use Rattle.gix_words.specs.declared.words.Order.{Order}
-use Rattle.gix_words.specs.declared.words.Order.TheVariants.{Simple, Topo}
-use Rattle.gix_words.specs.Words.{Request, Commits, Files, Ahead, Contained, Ids, begins_with_caret, without_caret, is_shown, with_id, with_word, ids_from, number_in, order_named, commits_from, commits_of, limited_of, listed_of, chosen_of, since_of, by_first_parents, in_order_of, file_of, files_from, files_of, ahead_from, ahead_of, contained_among, contained_from, contained_of, request_named, request_of, recent_of, by_cutoff}
-use Rattle.gix_commands.specs.WholeStatement.{IsNumber, Spells, AreTips, digits_in}
 use Rattle.gix_commands.proofs.SameNumbers.{decimal_digits, hex_spelled}
 
 -- the name of an order

@@ -1,15 +1,9 @@
 -- A run that fails writes nothing, except for lists of commits.
-use Rattle.std.specs.Prelude.{◌≡◌, ◌≢◌, ℕ, List, Option, Ok, Err}
-use Rattle.std.proofs.Common.{refl, ap, ◌∙◌}
-use Rattle.gix_hash.specs.declared.ObjectId.{ObjectId}
-use Rattle.gix_object.specs.Object.{Objects}
-use Rattle.gix_commitgraph.specs.Rows.{GraphRow}
-use Rattle.gix_words.specs.declared.fault.Fault.{Fault}
+use Rattle.std.proofs.Common.{◌≡◌, ◌≢◌, ℕ, List, Option, Ok, Err, refl, ap, ◌∙◌}
+use Rattle.gix_commands.proofs.Common.{ObjectId, Objects, GraphRow, Fault, Order, FailsSilently, walked, not_walked, walked_down, not_built, not_listed, not_ahead, not_behind, not_selected, unserved, without_memory, no_command, not_read}
+use Rattle.gix_commands.proofs.Common.{bad_record, served, Request, Commits}
 use Rattle.gix_words.specs.declared.fault.Fault.TheVariants as fault
-use Rattle.gix_words.specs.declared.words.Order.{Order}
-use Rattle.gix_commands.specs.Histories.{FailsSilently}
-use Rattle.gix_commands.specs.Run.{Serves, walked, not_walked, walked_down, not_built, not_listed, not_ahead, not_behind, not_selected, unserved, not_written, without_memory, no_command, not_read, bad_record, served}
-use Rattle.gix_words.specs.Words.{Request, Commits}
+use Rattle.gix_commands.specs.Run.{Serves, not_written}
 
 pub serves_silently : (objects : Objects) (rows : List GraphRow) (old new : Option (List ℕ)) (request : Request) (e : Fault) → Serves objects rows old request (Err e) new → e ≢ fault.Write → ((by : Order) (limit : Option ℕ) (tips hidden : List ObjectId) → request ≢ Commits by limit tips hidden) → new ≡ old
 serves_silently objects rows old new request e (walked walk infos starts ends written) other none = absurd (none _ _ _ _ refl)

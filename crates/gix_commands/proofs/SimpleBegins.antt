@@ -1,36 +1,14 @@
 -- What a simple walk over records gives up to a limit: the first commits of a list of what is reached.
-use Rattle.std.specs.Prelude.{◌≡◌, ◌≢◌, ℤ, List, [], ◌∷◌, ◌++◌, length, map, take, filter, Bool, true, false, not, Option, None, Some, Ok, Contains}
-use Rattle.std.specs.Iterator.{Yields}
-use Rattle.std.proofs.Math.Path.{transport}
-use Rattle.std.proofs.Common.{refl, sym, ap, subst, ◌∙◌, arith}
-use Rattle.std.proofs.lemmas.Bool.{false≢true}
-use Rattle.std.proofs.lemmas.List.Elements.{Contains-append_left}
-use Rattle.gix_hash.specs.declared.ObjectId.{ObjectId}
-use Rattle.gix_hash.specs.Id.{is_among}
+use Rattle.std.proofs.Common.{◌≡◌, ◌≢◌, ℤ, List, [], ◌∷◌, ◌++◌, length, map, take, filter, Bool, true, false, not, Option, None, Some, Ok, Contains, refl, sym, ap, subst, ◌∙◌, arith}
+use Rattle.gix_commands.proofs.Common.{Yields, transport, false≢true, Contains-append_left, ObjectId, is_among, among_from, among_is, filter_within, Objects, GraphRow, CommitTimeOrder, Info, Parents, IsAgreeing, parents_of, time_of}
+use Rattle.gix_commands.proofs.Common.{ids_of, new_ids, text_next, reach_more, reached_list, text_whole, GivesBeginning, IsBeginning, IsBegunRun, time_order, all_kept, begun_once, begun_whole, no_start, whole_from, named_all}
+use Rattle.gix_commands.proofs.Common.{reached_known, AreWhole, IsSimpleBy, IsSimpleList, ListsBy, followed, kept_tips, StartsFrom, objects_of, never_faulty, accepts_all}
 use Rattle.gix_hash.specs.Reach.{Reaches, Tells}
-use Rattle.gix_hash.proofs.Ids.Membership.{among_from, among_is}
-use Rattle.gix_hash.proofs.Lists.{filter_within}
-use Rattle.gix_object.specs.Object.{Objects}
-use Rattle.gix_commitgraph.specs.Rows.{GraphRow}
-use Rattle.gix_revwalk.specs.declared.CommitTimeOrder.{CommitTimeOrder}
-use Rattle.gix_revwalk.specs.declared.Info.{Info}
-use Rattle.gix_revwalk.specs.declared.Parents.{Parents}
-use Rattle.gix_revwalk.specs.Agreeing.{IsAgreeing}
-use Rattle.gix_revwalk.specs.Commits.{parents_of, time_of}
-use Rattle.gix_revwalk.specs.Ids.{ids_of, new_ids}
-use Rattle.gix_revwalk.specs.Texts.{text_next}
-use Rattle.gix_revwalk.proofs.Reached.{reach_more}
-use Rattle.gix_revwalk.proofs.SomeOrder.{reached_list}
-use Rattle.gix_revwalk.proofs.TextParents.{text_whole}
 use Rattle.gix_simple.specs.declared.Sorting.{Sorting}
-use Rattle.gix_simple.specs.Laws.{BeginsTextOrder, GivesBeginning, IsBeginning, IsBegunRun}
-use Rattle.gix_simple.specs.Walk.{time_order}
-use Rattle.gix_simple.proofs.Corollaries.{all_kept, begins, begun_once}
-use Rattle.gix_simple.proofs.Difference.{begun_whole, no_start, whole_from}
+use Rattle.gix_simple.specs.Laws.{BeginsTextOrder}
+use Rattle.gix_simple.proofs.Corollaries.{begins}
 use Rattle.gix_simple.proofs.Faultless.{text_beginning}
-use Rattle.gix_topo.proofs.Run.EachOnce.{named_all, reached_known}
-use Rattle.gix_commands.specs.Histories.{AreWhole, IsSimpleBy, IsSimpleList, ListsBy, followed, kept_tips}
-use Rattle.gix_commands.specs.Walked.{Walk, Answers, StartsFrom, objects_of, never_faulty, accepts_all, given}
+use Rattle.gix_commands.specs.Walked.{Walk, Answers, given}
 use Rattle.gix_commands.proofs.GoesOn.{order_goes_on}
 use Rattle.gix_commands.proofs.KeptLists.{followed_within, kept, list_of, starts_kept}
 use Rattle.gix_commands.proofs.Parts.{by_parents, by_texts}

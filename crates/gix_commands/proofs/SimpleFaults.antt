@@ -1,58 +1,36 @@
 -- A simple walk that reaches whole commits alone fails for memory alone.
-use Rattle.std.specs.Prelude.{◌≡◌, ◌≢◌, ℕ, ℤ, List, [], ◌∷◌, ◌++◌, ◌⊎◌, Bool, true, Option, Some, None, Result, Ok, Err, Contains}
-use Rattle.std.specs.Iterator.{Yields}
-use Rattle.std.proofs.Common.{refl, sym, ap, subst, ◌∙◌, ⊎_elim}
-use Rattle.std.proofs.lemmas.List.Elements.{Contains-append_left, Contains-append_right, Contains-append_cases}
+use Rattle.std.proofs.Common.{◌≡◌, ◌≢◌, ℕ, ℤ, List, [], ◌∷◌, ◌++◌, ◌⊎◌, Bool, true, Option, Some, None, Result, Ok, Err, Contains, refl, sym, ap, subst, ◌∙◌, ⊎_elim}
+use Rattle.gix_commands.proofs.Common.{Yields, Contains-append_left, Contains-append_right, Contains-append_cases, ObjectId, read_commit, IsExistingFault, kind_of, Objects, GraphRow, row_of, IsAgreeing, among_is, Contains-here}
+use Rattle.gix_commands.proofs.Common.{Contains-there, Contains-cons_cases, no_member, Info, Parents, CommitTimeOrder, Pending, ReadsWhole, commit_at, commit_of_object, parents_in, parents_of, step, Treated, Enqueues, dropped, enqueued}
+use Rattle.gix_commands.proofs.Common.{Treats, hidden, known, accepted, store_fails, no_memory_after, TreatsAll, none, more, stops, Concludes, broken, Takes, by_row, by_store, Chooses, Steps, took, FirstStep, unhidden, paints}
+use Rattle.gix_commands.proofs.Common.{faulty_history, initial, later, unrowed, ids_of, scan_is, no_fault, row_parents, walked_within, none_agree, kept_either, Fault, Simple, fault_of_walk, AreWhole, EndsWell, IsOutside, SimpleSucceeds}
+use Rattle.gix_commands.proofs.Common.{AheadSucceeds, stored, walked, not_walked, counted, not_ahead, not_behind, unserved, StartsFrom, FailsAtStart, Ends, finished, cut_short, enough, before, objects_of, never_faulty, accepts_all}
+use Rattle.gix_commands.proofs.Common.{Commits, Ahead, whole_from, filter_within, only_member, reaches_from, reach_more}
 use Rattle.std.proofs.lemmas.List.Sorted.{Contains-permutation, IsPermutation-sym}
-use Rattle.gix_hash.specs.declared.ObjectId.{ObjectId}
 use Rattle.gix_object.specs.declared.Kind.TheVariants as object
 use Rattle.gix_object.specs.declared.decode.Error.{Error as DecodeError}
 use Rattle.gix_object.specs.declared.find.existing_iter.Error.{Error as ExistingError}
 use Rattle.gix_object.specs.CommitItems.{commit_items}
-use Rattle.gix_object.specs.CommitText.{read_commit}
-use Rattle.gix_object.specs.Find.{IsExistingFault}
-use Rattle.gix_hash.specs.Id.{kind_of}
-use Rattle.gix_object.specs.Object.{Objects}
-use Rattle.gix_commitgraph.specs.Rows.{GraphRow, row_of}
-use Rattle.gix_revwalk.specs.Agreeing.{IsAgreeing}
-use Rattle.gix_hash.proofs.Ids.Membership.{among_is, Contains-here, Contains-there, Contains-cons_cases, no_member}
-use Rattle.gix_revwalk.specs.declared.Info.{Info}
-use Rattle.gix_revwalk.specs.declared.Parents.{Parents}
 use Rattle.gix_revwalk.specs.declared.Parents.TheVariants as mode
-use Rattle.gix_revwalk.specs.declared.CommitTimeOrder.{CommitTimeOrder}
 use Rattle.gix_simple.specs.declared.Error.{Error}
 use Rattle.gix_simple.specs.declared.Error.TheVariants as error
 use Rattle.gix_paint.specs.declared.Hidden.{Hidden}
 use Rattle.gix_paint.specs.declared.Hidden.TheVariants as hidden_by
 use Rattle.gix_simple.specs.declared.Sorting.{Sorting}
 use Rattle.gix_simple.specs.declared.Sorting.TheVariants as sorting
-use Rattle.gix_revwalk.specs.Pending.{Pending}
-use Rattle.gix_revwalk.specs.Commits.{ReadsWhole, commit_at, commit_of_object, parents_in, parents_of}
-use Rattle.gix_hash.specs.Reach.{Reaches, start, step}
+use Rattle.gix_hash.specs.Reach.{Reaches, start}
 use Rattle.gix_simple.specs.Building.{IsTipFault}
 use Rattle.gix_paint.specs.Painting.{IsFaultAt}
-use Rattle.gix_simple.specs.Walk.{Treated, Enqueues, dropped, enqueued, Treats, hidden, known, refused, accepted, store_fails, no_memory, no_memory_after, TreatsAll, none, more, stops, Concludes, given, broken, Takes, by_row, by_store, not_found, Chooses, first, best, Steps, ended, took, FirstStep, unhidden, paints, faulty_history, initial, later, unrowed}
-use Rattle.gix_revwalk.specs.Ids.{ids_of}
+use Rattle.gix_simple.specs.Walk.{refused, no_memory, given, not_found, first, best, ended}
 use Rattle.gix_revwalk.proofs.Committer.{fault_unread}
-use Rattle.gix_revwalk.proofs.ReadsWhole.{scan_is, no_fault, row_parents, walked_within}
-use Rattle.gix_revwalk.proofs.Rows.{none_agree, kept_either}
 use Rattle.gix_simple.proofs.MadeOfTips.{is_new_walk, pending_is}
-use Rattle.gix_words.specs.declared.fault.Fault.{Fault}
 use Rattle.gix_words.specs.declared.fault.Fault.TheVariants as fault
-use Rattle.gix_words.specs.declared.words.Order.TheVariants.{Simple}
-use Rattle.gix_words.specs.Faults.{fault_of_walk}
-use Rattle.gix_commands.specs.Histories.{AreWhole, EndsWell, IsOutside, SimpleSucceeds, AheadSucceeds}
-use Rattle.gix_records.specs.Records.{stored}
-use Rattle.gix_commands.specs.Run.{Serves, walked, not_walked, counted, not_ahead, not_behind, unserved, not_written}
-use Rattle.gix_commands.specs.Walked.{Walk, Answers, IsWalkFault, StartsFrom, FailsAtStart, Ends, finished, failed, cut_short, enough, before, objects_of, never_faulty, accepts_all, given as all_given}
-use Rattle.gix_words.specs.Words.{Commits, Ahead}
+use Rattle.gix_commands.specs.Run.{Serves, not_written}
+use Rattle.gix_commands.specs.Walked.{Walk, Answers, IsWalkFault, failed, given as all_given}
 use Rattle.gix_commands.proofs.CommitRuns.{ends_well}
 use Rattle.gix_commands.proofs.InternalFacts.{next_sound}
-use Rattle.gix_simple.proofs.Difference.{whole_from}
 use Rattle.gix_commands.proofs.SimpleRuns.{is_tip, same}
 use Rattle.gix_paint.proofs.Invariant.{own_history}
-use Rattle.gix_hash.proofs.Lists.{filter_within, only_member}
-use Rattle.gix_revwalk.proofs.Reached.{reaches_from, reach_more}
 use Rattle.gix_simple.proofs.Treated.{Contains-holds}
 
 in_ids : (ps : List Pending) (p : Pending) → Contains ps p → Contains (ids_of ps) p.id

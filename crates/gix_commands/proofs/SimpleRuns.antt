@@ -1,46 +1,25 @@
 -- What a simple walk over records gives that is drawn to its end, by what commits reach.
-use Rattle.std.specs.Prelude.{◌≡◌, ◌≢◌, List, [], ◌∷◌, ◌++◌, map, filter, Bool, true, false, not, Option, None, Some, Ok, Err, Contains, All, IsSome}
-use Rattle.std.specs.Iterator.{Drains, Yields}
+use Rattle.std.proofs.Common.{◌≡◌, ◌≢◌, List, [], ◌∷◌, ◌++◌, map, filter, Bool, true, false, not, Option, None, Some, Ok, Err, Contains, All, IsSome, refl, sym, ap, subst, ◌∙◌, ⊎_elim}
+use Rattle.gix_commands.proofs.Common.{Drains, Yields, transport, false≢true, All-nil, All-cons, Contains-append_left, Contains-append_right, Contains-append_cases, among_from, among_is, Contains-here, Contains-cons_cases, no_member}
+use Rattle.gix_commands.proofs.Common.{ObjectId, is_among, get, Object, Objects, GraphRow, Info, Parents, CommitTimeOrder, ReadsWhole, by_mode, parents_of, time_of, IsAgreeing, new_ids, ids_of, text_next, IsFresh, IsGivenBy, IsNewWalk}
+use Rattle.gix_commands.proofs.Common.{ReadsParents, IsInOrder, next_of, is_older, cutoff, time_order, reached_list, all_kept, drawn_whole, loosened, no_start, named_all, reached_known, AreWhole, IsSimpleBy, followed, kept_tips}
+use Rattle.gix_commands.proofs.Common.{StartsFrom, objects_of, never_faulty, accepts_all, filter_within, filter_all, reach_more}
 use Rattle.std.specs.List.{AllZip}
-use Rattle.std.proofs.Math.Path.{transport}
-use Rattle.std.proofs.Common.{refl, sym, ap, subst, ◌∙◌, ⊎_elim}
-use Rattle.std.proofs.lemmas.Bool.{false≢true}
-use Rattle.std.proofs.lemmas.List.Elements.{All-nil, All-cons, Contains-append_left, Contains-append_right, Contains-append_cases}
-use Rattle.gix_hash.proofs.Ids.Membership.{among_from, among_is, Contains-here, Contains-cons_cases, no_member}
-use Rattle.gix_hash.specs.declared.ObjectId.{ObjectId}
-use Rattle.gix_hash.specs.Id.{is_among}
-use Rattle.std.specs.FinMap.{get}
 use Rattle.gix_object.specs.declared.Kind.TheVariants as object
-use Rattle.gix_object.specs.Object.{Object, Objects}
-use Rattle.gix_commitgraph.specs.Rows.{GraphRow}
-use Rattle.gix_revwalk.specs.declared.Info.{Info}
-use Rattle.gix_revwalk.specs.declared.Parents.{Parents}
 use Rattle.gix_revwalk.specs.declared.Parents.TheVariants as mode
 use Rattle.gix_simple.specs.declared.Error.{Error}
 use Rattle.gix_simple.specs.declared.Sorting.{Sorting}
 use Rattle.gix_simple.specs.declared.Sorting.TheVariants as sorting
-use Rattle.gix_revwalk.specs.declared.CommitTimeOrder.{CommitTimeOrder}
-use Rattle.gix_revwalk.specs.Commits.{ReadsWhole, by_mode, parents_of, time_of}
 use Rattle.gix_hash.specs.Reach.{Reaches, Tells}
 use Rattle.gix_simple.specs.Building.{IsBuilt, made, breadth_first, by_time, hides, reads, walks}
-use Rattle.gix_revwalk.specs.Agreeing.{IsAgreeing}
 use Rattle.gix_revwalk.specs.Asking.{AnswersBy}
-use Rattle.gix_revwalk.specs.Ids.{new_ids, ids_of}
-use Rattle.gix_revwalk.specs.Texts.{text_next}
-use Rattle.gix_simple.specs.Laws.{IsFresh, IsGivenBy, IsNoRefusal, IsNewWalk, IsWholeRun, ReadsParents, GivesInOrder, GivesTextOrder, IsInOrder, next_of}
-use Rattle.gix_simple.specs.Walk.{is_older, cutoff, time_order}
-use Rattle.gix_revwalk.proofs.SomeOrder.{reached_list}
+use Rattle.gix_simple.specs.Laws.{IsNoRefusal, IsWholeRun, GivesInOrder, GivesTextOrder}
 use Rattle.gix_simple.proofs.Builders.{built}
-use Rattle.gix_simple.proofs.Corollaries.{all_kept, gives}
-use Rattle.gix_simple.proofs.Difference.{drawn_whole, loosened, no_start}
+use Rattle.gix_simple.proofs.Corollaries.{gives}
 use Rattle.gix_simple.proofs.Faultless.{faultless}
 use Rattle.gix_simple.proofs.ReachDecided.{reach_test}
 use Rattle.gix_simple.proofs.MadeOfTips.{is_new_walk}
-use Rattle.gix_topo.proofs.Run.EachOnce.{named_all, reached_known}
-use Rattle.gix_commands.specs.Histories.{AreWhole, IsSimpleBy, followed, kept_tips}
-use Rattle.gix_commands.specs.Walked.{Walk, Answers, IsSorted, StartsFrom, objects_of, never_faulty, accepts_all, given}
-use Rattle.gix_hash.proofs.Lists.{filter_within, filter_all}
-use Rattle.gix_revwalk.proofs.Reached.{reach_more}
+use Rattle.gix_commands.specs.Walked.{Walk, Answers, IsSorted, given}
 use Rattle.gix_commands.proofs.KeptLists.{empty_order, filter_both, followed_within, kept, kept_ids, list_of, new_kept}
 use Rattle.gix_commands.proofs.SameOrders.{in_new, new_in}
 

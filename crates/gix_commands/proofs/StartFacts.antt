@@ -1,29 +1,20 @@
 -- How walks over stored commits start.
-use Rattle.std.specs.Prelude.{◌≡◌, ◌≢◌, List, [], ◌++◌, length, Result, Ok, Err, IfErr}
-use Rattle.std.specs.Iterator.{Drains}
+use Rattle.std.proofs.Common.{◌≡◌, ◌≢◌, List, [], ◌++◌, length, Result, Ok, Err, IfErr, refl, sym, ap, subst, ◌∙◌, map-id}
+use Rattle.gix_commands.proofs.Common.{Drains, ObjectId, Objects, GraphRow, Parents, TopoBuilder, Built, fresh_builder, Fault, fault_of_walk, fault_of_topo_walk, objects_of, never_faulty, accepts_all, IsMadeOf, IsStartFault}
 use Rattle.std.specs.declared.vec.IntoIter.{IntoIter}
 use Rattle.std.specs.Vec.Iter.{into_iter_items, into_iter_len, into_iter_steps}
-use Rattle.std.proofs.Common.{refl, sym, ap, subst, ◌∙◌}
 use Rattle.std.proofs.lemmas.Iterator.{items_from_drains}
 use Rattle.std.proofs.lemmas.Iterator.Adapters.{YieldsList-from_vec}
-use Rattle.std.proofs.lemmas.List.{map-id}
-use Rattle.gix_hash.specs.declared.ObjectId.{ObjectId}
-use Rattle.gix_object.specs.Object.{Objects}
-use Rattle.gix_commitgraph.specs.Rows.{GraphRow}
 use Rattle.gix_simple.specs.declared.Error.{Error}
 use Rattle.gix_simple.specs.declared.Error.TheVariants as error
 use Rattle.gix_simple.specs.declared.Sorting.{Sorting}
 use Rattle.gix_simple.specs.declared.Sorting.TheVariants as sorting
-use Rattle.gix_revwalk.specs.declared.Parents.{Parents}
 use Rattle.gix_revwalk.specs.declared.Unfiltered.{Unfiltered}
 use Rattle.gix_topo.specs.declared.Error.{Error as TopoError}
 use Rattle.gix_topo.specs.declared.Sorting.{Sorting as TopoSorting}
-use Rattle.gix_topo.specs.Walk.{TopoBuilder, Built, fresh_builder}
 use Rattle.gix_simple.specs.Building.{IsSortedByTime, FailsAtTip}
-use Rattle.gix_words.specs.declared.fault.Fault.{Fault}
-use Rattle.gix_words.specs.Faults.{fault_of_walk, fault_of_topo_walk}
 use Rattle.gix_commands.specs.TopoWalked as topo
-use Rattle.gix_commands.specs.Walked.{Walk, objects_of, never_faulty, accepts_all, IsMadeOf, IsSorted, IsStartFault}
+use Rattle.gix_commands.specs.Walked.{Walk, IsSorted}
 
 abbrev Builder : Type 0
 Builder = TopoBuilder Objects Unfiltered

@@ -1,17 +1,8 @@
 -- Where all that ids reach are whole commits, what they reach by the parents that texts name is what they reach.
-use Rattle.std.specs.Prelude.{◌≡◌, ℕ, List, [], ◌∷◌, Contains}
-use Rattle.std.proofs.Common.{sym, subst, ⊎_elim}
-use Rattle.gix_hash.specs.declared.ObjectId.{ObjectId}
-use Rattle.gix_hash.specs.Reach.{Reaches, start, step}
-use Rattle.gix_hash.proofs.Ids.Membership.{Contains-cons_cases, no_member}
-use Rattle.gix_object.specs.Object.{Objects}
-use Rattle.gix_revwalk.specs.Commits.{parents_of}
-use Rattle.gix_revwalk.specs.Texts.{text_next}
-use Rattle.gix_revwalk.proofs.Reached.{reach_more}
-use Rattle.gix_revwalk.proofs.TextParents.{text_whole}
-use Rattle.gix_simple.proofs.Difference.{whole_from}
-use Rattle.gix_topo.specs.Walk.{IsNumberOf}
-use Rattle.gix_commands.specs.Histories.{AreWhole, IsShown, IsShownBy}
+use Rattle.std.proofs.Common.{◌≡◌, ℕ, List, [], ◌∷◌, Contains, sym, subst, ⊎_elim}
+use Rattle.gix_commands.proofs.Common.{ObjectId, step, Contains-cons_cases, no_member, Objects, parents_of, text_next, reach_more, text_whole, whole_from, IsNumberOf, AreWhole, IsShownBy}
+use Rattle.gix_hash.specs.Reach.{Reaches, start}
+use Rattle.gix_commands.specs.Histories.{IsShown}
 
 module _ (objects : Objects) (ids : List ObjectId) (whole : AreWhole objects ids) where
   module _ (tip : ObjectId) (is_one : Contains ids tip) where

@@ -1,18 +1,9 @@
 -- A list of `topo` or `date` over a part of a store is one over the whole store by the parents that texts name, where all that is reached by
 -- them was read.
-use Rattle.std.specs.Prelude.{◌≡◌, List, Option, None, Some, Contains}
-use Rattle.std.specs.FinMap.{get}
-use Rattle.std.proofs.Common.{refl, sym, ap, subst, ◌∙◌}
-use Rattle.gix_hash.specs.declared.ObjectId.{ObjectId}
-use Rattle.gix_hash.specs.Reach.{Reaches, start, step}
-use Rattle.gix_hash.proofs.Ids.Membership.{no_member}
-use Rattle.gix_object.specs.Object.{Object, Objects}
+use Rattle.std.proofs.Common.{◌≡◌, List, Option, None, Some, Contains, refl, sym, ap, subst, ◌∙◌}
+use Rattle.gix_commands.proofs.Common.{get, ObjectId, step, no_member, Object, Objects, IsInWalk, commit_of_object, time_in, time_of, next_in, text_next, reach_more, IsPartOf, IsShownBy, ListsDown}
+use Rattle.gix_hash.specs.Reach.{Reaches, start}
 use Rattle.gix_topo.specs.declared.Sorting.{Sorting}
-use Rattle.gix_topo.specs.WalkSet.{IsInWalk}
-use Rattle.gix_revwalk.specs.Commits.{commit_of_object, time_in, time_of}
-use Rattle.gix_revwalk.specs.Texts.{next_in, text_next}
-use Rattle.gix_revwalk.proofs.Reached.{reach_more}
-use Rattle.gix_commands.specs.Histories.{IsPartOf, IsShownBy, ListsDown}
 use Rattle.gix_commands.proofs.TopoParts.{order_same}
 
 module _ (some all : Objects) (part : IsPartOf some all) where

@@ -1,15 +1,10 @@
 -- What a run over a commit-graph writes, by what commits reach in the history that rows and records say.
-use Rattle.std.specs.Prelude.{◌≡◌, ℕ, List, Option, Some, None, Ok}
-use Rattle.std.proofs.Common.{sym, subst, ◌∙◌}
-use Rattle.gix_commitgraph.specs.Rows.{GraphRow}
+use Rattle.std.proofs.Common.{◌≡◌, ℕ, List, Option, Some, None, Ok, sym, subst, ◌∙◌}
+use Rattle.gix_commands.proofs.Common.{GraphRow, stored, only_reading, IsAgreeing, Simple, Topo, AreTold, told, ToldSimpleBegins, ToldSimpleLists, ToldTopoBegins, ToldTopoLists, ToldAheadCounts, ToldContainsIds, RunsOver, served}
+use Rattle.gix_commands.proofs.Common.{Request, Commits, Ahead, Contained, request_of}
 use Rattle.gix_graph_store.specs.Laws.{StoredAgree}
-use Rattle.gix_records.specs.Records.{Record, AreRecords, stored}
-use Rattle.gix_records.proofs.RecordFacts.{only_reading}
-use Rattle.gix_revwalk.specs.Agreeing.{IsAgreeing}
-use Rattle.gix_words.specs.declared.words.Order.TheVariants.{Simple, Topo}
-use Rattle.gix_commands.specs.Histories.{AreTold, told, ToldSimpleBegins, ToldSimpleLists, ToldTopoBegins, ToldTopoLists, ToldAheadCounts, ToldContainsIds}
-use Rattle.gix_commands.specs.Run.{RunsOver, Serves, served}
-use Rattle.gix_words.specs.Words.{Request, Commits, Ahead, Contained, request_of}
+use Rattle.gix_records.specs.Records.{Record, AreRecords}
+use Rattle.gix_commands.specs.Run.{Serves}
 use Rattle.gix_commands.proofs.AheadRuns.{counted_so}
 use Rattle.gix_commands.proofs.CommitRuns.{ok_same, lists}
 use Rattle.gix_commands.proofs.ContainedRuns.{selected_so}

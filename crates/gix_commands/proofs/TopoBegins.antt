@@ -1,24 +1,14 @@
 -- What a topological walk over records gives up to a limit: the first commits of a list of what is reached.
-use Rattle.std.specs.Prelude.{◌≡◌, List, ◌++◌, map, true, Ok}
-use Rattle.std.specs.Iterator.{Yields}
-use Rattle.std.proofs.Common.{refl, sym, subst}
-use Rattle.gix_hash.specs.declared.ObjectId.{ObjectId}
-use Rattle.gix_hash.specs.Reach.{Reaches, start, step}
-use Rattle.gix_object.specs.Object.{Objects}
-use Rattle.gix_commitgraph.specs.Rows.{GraphRow}
-use Rattle.gix_revwalk.specs.declared.Info.{Info}
-use Rattle.gix_revwalk.specs.Agreeing.{IsAgreeing}
-use Rattle.gix_revwalk.specs.Commits.{parents_of, time_of}
-use Rattle.gix_revwalk.specs.Texts.{text_next}
+use Rattle.std.proofs.Common.{◌≡◌, List, ◌++◌, map, true, Ok, refl, sym, subst}
+use Rattle.gix_commands.proofs.Common.{Yields, ObjectId, step, Objects, GraphRow, Info, IsAgreeing, parents_of, time_of, text_next, TopoPlan, IsInWalk, AreWhole, ListsDown, ListsRead, IsBuiltFrom, plan_from, objects_of, never_faulty}
+use Rattle.gix_commands.proofs.Common.{accepts_all}
+use Rattle.gix_hash.specs.Reach.{Reaches, start}
 use Rattle.gix_topo.specs.declared.Sorting.{Sorting}
 use Rattle.gix_topo.specs.Laws.{BeginsTextOrder, IsTakenFirstByText}
-use Rattle.gix_topo.specs.Walk.{TopoPlan}
-use Rattle.gix_topo.specs.WalkSet.{IsInWalk}
-use Rattle.gix_topo.proofs.Run.TextDifference.{each_by_text}
+use Rattle.gix_topo.proofs.Run.Corollaries.{each_by_text}
 use Rattle.gix_topo.proofs.Run.Theorem.{begins_text}
-use Rattle.gix_commands.specs.Histories.{AreWhole, ListsDown, ListsRead}
-use Rattle.gix_commands.specs.TopoWalked.{Walk, Answers, IsBuiltFrom, plan_from}
-use Rattle.gix_commands.specs.Walked.{objects_of, never_faulty, accepts_all, given}
+use Rattle.gix_commands.specs.TopoWalked.{Walk, Answers}
+use Rattle.gix_commands.specs.Walked.{given}
 use Rattle.gix_commands.proofs.GoesOn.{descent_goes_on}
 use Rattle.gix_commands.proofs.Parts.{parents_same, shown_back, shown_there, there, tips_met}
 use Rattle.gix_commands.proofs.SimpleBegins.{AreFirstOf}

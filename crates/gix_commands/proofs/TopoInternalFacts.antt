@@ -1,22 +1,14 @@
 -- A topological walk over records ends by no internal fault: its store doesn't fail, and with rows that agree, or agreeing, nothing that it
 -- counted is missing.
-use Rattle.std.specs.Prelude.{◌≢◌, List, [], ◌∷◌, Option, Some, None, Result, Ok, Err}
-use Rattle.std.specs.Iterator.{Yields, YieldsThen}
-use Rattle.std.proofs.Common.{sym, subst}
-use Rattle.gix_hash.specs.declared.ObjectId.{ObjectId}
+use Rattle.std.proofs.Common.{◌≢◌, List, [], ◌∷◌, Option, Some, None, Result, Ok, Err, sym, subst}
+use Rattle.gix_commands.proofs.Common.{Yields, YieldsThen, ObjectId, Objects, GraphRow, Info, IsAgreeing, TopoPlan, IsFault, fault_of_topo_walk, plan_from, IsBuiltFrom, objects_of, never_faulty}
 use Rattle.gix_object.specs.declared.Kind.TheVariants as object
-use Rattle.gix_object.specs.Object.{Objects}
-use Rattle.gix_commitgraph.specs.Rows.{GraphRow}
-use Rattle.gix_revwalk.specs.declared.Info.{Info}
 use Rattle.gix_topo.specs.declared.Error.{Error}
 use Rattle.gix_topo.specs.declared.Error.TheVariants as error
 use Rattle.gix_topo.specs.declared.Sorting.{Sorting}
-use Rattle.gix_revwalk.specs.Agreeing.{IsAgreeing}
-use Rattle.gix_topo.specs.Walk.{TopoPlan, IsFault, ended, given, refused, failed}
+use Rattle.gix_topo.specs.Walk.{ended, given, refused, failed}
 use Rattle.gix_words.specs.declared.fault.Fault.TheVariants as fault
-use Rattle.gix_words.specs.Faults.{fault_of_topo_walk}
-use Rattle.gix_commands.specs.TopoWalked.{Walk, Answers, plan_from, IsBuiltFrom}
-use Rattle.gix_commands.specs.Walked.{objects_of, never_faulty}
+use Rattle.gix_commands.specs.TopoWalked.{Walk, Answers}
 use Rattle.gix_commands.proofs.InternalFacts.{find_sound}
 
 -- an answer that reports no failing store and nothing that is missing

@@ -1,24 +1,17 @@
 -- A list of `topo` or `date` over a part of a store is one over the whole store, where all that is reached in the part is whole there.
-use Rattle.std.specs.Prelude.{◌≡◌, ℤ, int_le, List, [], ◌∷◌, ◌++◌, Bool, true, false, if◌then◌else◌, reverse, take, slice_get, Option, None, Some, Contains, MatchOption}
-use Rattle.std.proofs.Math.Path.{transport}
-use Rattle.std.proofs.Common.{refl, sym, ap, subst, ⊎_elim, ◌∙◌}
-use Rattle.gix_hash.specs.declared.ObjectId.{ObjectId}
-use Rattle.gix_object.specs.Object.{Objects}
-use Rattle.gix_revwalk.specs.declared.CommitTimeOrder.TheVariants.{NewestFirst}
+use Rattle.std.proofs.Common.{◌≡◌, ℤ, int_le, List, [], ◌∷◌, ◌++◌, Bool, true, false, if◌then◌else◌, reverse, take, slice_get, Option, None, Some, Contains, MatchOption, refl, sym, ap, subst, ⊎_elim, ◌∙◌}
+use Rattle.gix_commands.proofs.Common.{transport, ObjectId, Objects, NewestFirst, parents_of, time_of, IsNoWorse, IsInWalk, IsChild, IsChildless, Contains-here, Contains-there, Contains-cons_cases, reach_more, IsPartOf, AreWhole}
+use Rattle.gix_commands.proofs.Common.{ListsDown}
 use Rattle.gix_topo.specs.declared.Sorting.{Sorting}
 use Rattle.gix_topo.specs.declared.Sorting.TheVariants as order
 use Rattle.gix_hash.specs.Reach.{Reaches}
-use Rattle.gix_revwalk.specs.Commits.{parents_of, time_of}
-use Rattle.gix_revwalk.specs.TimeOrder.{IsBest, IsNoWorse}
+use Rattle.gix_revwalk.specs.TimeOrder.{IsBest}
 use Rattle.gix_topo.specs.DateOrder.{IsDateOrder}
 use Rattle.gix_topo.specs.Laws.{IsSorted}
 use Rattle.gix_topo.specs.TopoOrder.{Keeps, by_time, insert_by_time, last_places, IsMadeReady, IsTopoOrder}
-use Rattle.gix_topo.specs.WalkSet.{IsInWalk, IsChild, IsChildless, IsReady}
-use Rattle.gix_hash.proofs.Ids.Membership.{Contains-here, Contains-there, Contains-cons_cases}
-use Rattle.gix_revwalk.proofs.Reached.{reach_more}
+use Rattle.gix_topo.specs.WalkSet.{IsReady}
 use Rattle.gix_topo.proofs.Readiness.IsReady.{keeps_alike, keeps_from}
 use Rattle.gix_topo.proofs.Run.ReadyInTurn.{reverse_in}
-use Rattle.gix_commands.specs.Histories.{IsPartOf, AreWhole, ListsDown}
 use Rattle.gix_commands.proofs.Parts.{parents_more, reached_in_all, same_parents, same_time, shown_in_all, shown_in_part, take_within, tips_whole}
 
 -- a list sorted by times goes by the times of its ids alone

@@ -1,51 +1,29 @@
 -- What a run of `topo` or `date` writes, by what commits reach.
-use Rattle.std.specs.Prelude.{◌≡◌, ℕ, List, [], ◌∷◌, ◌++◌, map, filter, true, Option, Some, None, Result, Ok, Err, All, Contains, IsSome, ◌⊎◌}
-use Rattle.std.specs.Io.KnownBytes.{Appends}
-use Rattle.std.specs.Iterator.{Yields}
+use Rattle.std.proofs.Common.{◌≡◌, ℕ, List, [], ◌∷◌, ◌++◌, map, filter, true, Option, Some, None, Result, Ok, Err, All, Contains, IsSome, ◌⊎◌, refl, sym, ap, subst, inl, inr, ⊎_elim, ◌∙◌}
+use Rattle.gix_commands.proofs.Common.{Appends, Yields, All-nil, All-cons, Contains-append_left, Contains-append_right, Contains-append_cases, ObjectId, IsExistingFault, id_cmp, Object, Objects, get, GraphRow, Info, Commit, commit_at}
+use Rattle.gix_commands.proofs.Common.{parents_in, parents_of, text_next, step, no_member, Contains-cons_cases, text_whole, TopoPlan, IsCommitRead, IsReached, IsFault, IsFirstReady, IsNextReady, IsAgreeing, none_agree, Fault, Topo}
+use Rattle.gix_commands.proofs.Common.{fault_of_topo_walk, AreWhole, IsPartOf, ListsDown, ListsRead, TopoLists, TopoListsOfPart, TopoSucceeds, EndsWell, IsOutside, lines_of_ids, stored, walked_down, not_built, unserved, IsBuiltFrom}
+use Rattle.gix_commands.proofs.Common.{plan_from, Ends, finished, cut_short, enough, before, objects_of, never_faulty, accepts_all, Commits, whole_from, reach_more}
 use Rattle.std.specs.List.{AllZip}
-use Rattle.std.proofs.Common.{refl, sym, ap, subst, inl, inr, ⊎_elim, ◌∙◌}
-use Rattle.std.proofs.lemmas.List.Elements.{All-nil, All-cons, Contains-append_left, Contains-append_right, Contains-append_cases}
 use Rattle.std.specs.FinSet as set
-use Rattle.gix_hash.specs.declared.ObjectId.{ObjectId}
 use Rattle.gix_object.specs.declared.Kind.TheVariants as object
 use Rattle.gix_object.specs.declared.find.existing_iter.Error.TheVariants as existing
-use Rattle.gix_object.specs.Find.{IsExistingFault}
-use Rattle.gix_hash.specs.Id.{id_cmp}
-use Rattle.gix_object.specs.Object.{Object, Objects}
-use Rattle.std.specs.FinMap.{get}
-use Rattle.gix_commitgraph.specs.Rows.{GraphRow}
-use Rattle.gix_revwalk.specs.declared.Info.{Info}
 use Rattle.gix_topo.specs.declared.Error.{Error}
 use Rattle.gix_topo.specs.declared.Error.TheVariants as error
 use Rattle.gix_topo.specs.declared.Sorting.{Sorting}
-use Rattle.gix_object.specs.CommitText.{Commit}
-use Rattle.gix_revwalk.specs.Commits.{commit_at, parents_in, parents_of}
-use Rattle.gix_revwalk.specs.Texts.{text_next}
-use Rattle.gix_hash.specs.Reach.{Reaches, start, step}
-use Rattle.gix_hash.proofs.Ids.Membership.{no_member, Contains-cons_cases}
-use Rattle.gix_revwalk.proofs.TextParents.{text_whole}
+use Rattle.gix_hash.specs.Reach.{Reaches, start}
 use Rattle.gix_topo.specs.Laws.{IsNoRefusal, IsTakenInOrder, IsTakenByText, IsGiven, IsTextGiven, IsWholeRun, GivesInOrder, GivesTextOrder}
-use Rattle.gix_topo.specs.Walk.{TopoPlan, IsCommitRead, IsReached, IsFault, IsFirstReady, IsNextReady, IsSound, ended, given, refused, failed}
-use Rattle.gix_revwalk.specs.Agreeing.{IsAgreeing}
-use Rattle.gix_revwalk.proofs.Rows.{none_agree}
+use Rattle.gix_topo.specs.Walk.{IsSound, ended, given, refused, failed}
 use Rattle.gix_topo.proofs.Run.Corollaries.{once}
-use Rattle.gix_topo.proofs.Run.TextDifference.{each_by_text}
+use Rattle.gix_topo.proofs.Run.Corollaries.{each_by_text}
 use Rattle.gix_topo.proofs.Run.Theorem.{gives, gives_text}
-use Rattle.gix_words.specs.declared.fault.Fault.{Fault}
-use Rattle.gix_words.specs.declared.words.Order.TheVariants.{Topo}
-use Rattle.gix_words.specs.Faults.{fault_of_topo_walk}
-use Rattle.gix_commands.specs.Histories.{AreWhole, IsPartOf, ListsDown, ListsRead, TopoLists, TopoListsOfPart, TopoSucceeds, EndsWell, IsOutside, lines_of_ids}
-use Rattle.gix_records.specs.Records.{stored}
-use Rattle.gix_commands.specs.Run.{Serves, walked_down, not_built, unserved, not_written}
-use Rattle.gix_commands.specs.TopoWalked.{Walk, Answers, IsWalkFault, IsBuiltFrom, plan_from}
-use Rattle.gix_commands.specs.Walked.{Ends, finished, failed as fell, cut_short, enough, before, objects_of, never_faulty, accepts_all, given as all_given}
-use Rattle.gix_words.specs.Words.{Commits}
+use Rattle.gix_commands.specs.Run.{Serves, not_written}
+use Rattle.gix_commands.specs.TopoWalked.{Walk, Answers, IsWalkFault}
+use Rattle.gix_commands.specs.Walked.{failed as fell, given as all_given}
 use Rattle.gix_commands.proofs.CommitRuns.{served_so, ends_well, lines_by_ids}
 use Rattle.gix_commands.proofs.Parts.{reached_in_all, stored_whole}
 use Rattle.gix_commands.proofs.TextParts.{lists_read_of_part}
 use Rattle.gix_commands.proofs.TopoParts.{lists_down_of_part}
-use Rattle.gix_simple.proofs.Difference.{whole_from}
-use Rattle.gix_revwalk.proofs.Reached.{reach_more}
 
 unrefused : (infos : List Info) → All IsNoRefusal (all_given infos)
 unrefused [] = All-nil IsNoRefusal

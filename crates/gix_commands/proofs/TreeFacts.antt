@@ -1,19 +1,11 @@
 -- How walks through stored trees end.
-use Rattle.std.specs.Prelude.{◌≡◌, ◌≢◌, List, Result, Err}
-use Rattle.std.proofs.Common.{subst}
-use Rattle.gix_hash.specs.declared.ObjectId.{ObjectId}
+use Rattle.std.proofs.Common.{◌≡◌, ◌≢◌, List, Result, Err, subst}
+use Rattle.gix_commands.proofs.Common.{ObjectId, Objects, Call, DepthScript, IsDepthScript, whole, leaves, enters, ends_inside, breaks, cycles, fault, no_memory_at_look_up, no_memory_for_descent, found, Tracked, LookUpFails}
+use Rattle.gix_commands.proofs.Common.{depth_answer, trees_of, Items, Place, Visit, Ending, Whole, Broken, Failed, fault_of_tree_walk, RecordsTree, never_faulty}
 use Rattle.gix_object.specs.declared.Kind.TheVariants as object
-use Rattle.gix_object.specs.Object.{Objects}
 use Rattle.gix_tree.specs.declared.breadthfirst.Error.{Error}
-use Rattle.gix_tree.specs.Delegate.{Call}
-use Rattle.gix_tree.specs.Script.{DepthScript, IsDepthScript, whole, leaves, enters, ends_inside, not_found, breaks, cycles, fault, no_memory_at_look_up, no_memory_for_descent, refused, found, no_memory}
-use Rattle.gix_tree.specs.Tracked.{Tracked}
-use Rattle.gix_tree.specs.Walk.{LookUpFails, depth_answer, trees_of}
-use Rattle.gix_tree.specs.Visits.{Items, Place, Visit, Ending, Whole, Broken, Failed}
+use Rattle.gix_tree.specs.Script.{not_found, refused, no_memory}
 use Rattle.gix_words.specs.declared.fault.Fault.TheVariants as run_fault
-use Rattle.gix_words.specs.Faults.{fault_of_tree_walk}
-use Rattle.gix_commands.specs.Files.{RecordsTree}
-use Rattle.gix_commands.specs.Walked.{never_faulty}
 use Rattle.gix_commands.proofs.InternalFacts.{find_sound}
 
 -- an ending that reports no failing store and no delegate that broke the walk off

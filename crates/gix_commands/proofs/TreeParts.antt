@@ -1,18 +1,8 @@
 -- A walk of a tree over a part of a store that ends well is a walk over the whole store.
-use Rattle.std.specs.Prelude.{◌≡◌, List, Option, None, Some, Ok}
-use Rattle.std.specs.FinMap.{get}
-use Rattle.std.proofs.Common.{refl, ap, ◌∙◌}
-use Rattle.gix_hash.specs.declared.ObjectId.{ObjectId}
-use Rattle.gix_object.specs.Object.{Object, Objects}
-use Rattle.gix_tree.specs.Delegate.{Call}
-use Rattle.gix_tree.specs.Script.{DepthScript, whole, leaves, enters, ends_inside, not_found, breaks, cycles, fault, no_memory_at_look_up, no_memory_for_descent, refused, IsDepthScript, found, no_memory}
-use Rattle.gix_tree.specs.Tracked.{Tracked}
-use Rattle.gix_tree.specs.Visits.{Items, Place, Visit, Ending, IsUnfailed}
-use Rattle.gix_tree.specs.Walk.{LookUpFails, items_of_object, trees_of}
-use Rattle.gix_tree.proofs.Theorems.Laws.{depth_ok}
-use Rattle.gix_commands.specs.Files.{RecordsTree}
-use Rattle.gix_commands.specs.Histories.{IsPartOf}
-use Rattle.gix_commands.specs.Walked.{never_faulty}
+use Rattle.std.proofs.Common.{◌≡◌, List, Option, None, Some, Ok, refl, ap, ◌∙◌}
+use Rattle.gix_commands.proofs.Common.{get, ObjectId, Object, Objects, Call, DepthScript, whole, leaves, enters, ends_inside, breaks, cycles, fault, no_memory_at_look_up, no_memory_for_descent, IsDepthScript, found, Tracked, Items}
+use Rattle.gix_commands.proofs.Common.{Place, Visit, Ending, IsUnfailed, LookUpFails, items_of_object, trees_of, depth_ok, RecordsTree, IsPartOf, never_faulty}
+use Rattle.gix_tree.specs.Script.{not_found, refused, no_memory}
 
 module _ (some all : Objects) (part : IsPartOf some all) where
   same_tree : (i : ObjectId) (items : Items) → trees_of some i ≡ Some items → trees_of all i ≡ Some items

@@ -1,27 +1,22 @@
 -- Which faults walks may have, and commands that are served.
-use Rattle.std.specs.Prelude.{ℕ, List, Option, None, Some, Result, Ok, Err}
-use Rattle.std.proofs.Common.{sym, subst}
-use Rattle.gix_commitgraph.specs.Rows.{GraphRow}
+use Rattle.std.proofs.Common.{ℕ, List, Option, None, Some, Result, Ok, Err, sym, subst}
+use Rattle.gix_commands.proofs.Common.{GraphRow, Objects, Info, Fault, fault_of_find, fault_of_walk, fault_of_topo_walk, fault_of_contained, fault_of_tree_walk, walked, not_walked, walked_down, not_built, not_listed, counted, not_ahead}
+use Rattle.gix_commands.proofs.Common.{not_behind, selected, not_selected, unserved, Ends, EndsBy, finished, cut_short, enough, before, Request}
 use Rattle.gix_contained.specs.declared.Error.{Error as ContainedError}
 use Rattle.gix_contained.specs.declared.Error.TheVariants as contained_error
 use Rattle.gix_object.specs.declared.find.existing_iter.Error.{Error as ExistingError}
 use Rattle.gix_object.specs.declared.find.existing_iter.Error.TheVariants as existing
-use Rattle.gix_object.specs.Object.{Objects}
 use Rattle.gix_paint.specs.declared.Hidden.TheVariants as hidden_by
-use Rattle.gix_revwalk.specs.declared.Info.{Info}
 use Rattle.gix_simple.specs.declared.Error.{Error}
 use Rattle.gix_simple.specs.declared.Error.TheVariants as error
 use Rattle.gix_topo.specs.declared.Error.{Error as TopoError}
 use Rattle.gix_topo.specs.declared.Error.TheVariants as topo_error
 use Rattle.gix_tree.specs.declared.breadthfirst.Error.{Error as TreeError}
 use Rattle.gix_tree.specs.declared.breadthfirst.Error.TheVariants as tree_error
-use Rattle.gix_words.specs.declared.fault.Fault.{Fault}
 use Rattle.gix_words.specs.declared.fault.Fault.TheVariants as fault
-use Rattle.gix_words.specs.Faults.{fault_of_find, fault_of_walk, fault_of_topo_walk, fault_of_contained, fault_of_tree_walk}
-use Rattle.gix_commands.specs.Run.{Serves, walked, not_walked, walked_down, not_built, listed, not_listed, counted, not_ahead, not_behind, selected, not_selected, unserved, not_written}
+use Rattle.gix_commands.specs.Run.{Serves, listed, not_written}
 use Rattle.gix_commands.specs.TopoWalked as topo
-use Rattle.gix_commands.specs.Walked.{Answers, IsWalkFault, Ends, EndsBy, finished, failed, cut_short, enough, before}
-use Rattle.gix_words.specs.Words.{Request}
+use Rattle.gix_commands.specs.Walked.{Answers, IsWalkFault, failed}
 
 -- any but those of the words, of the input and of a commit-graph
 abbrev pub IsOfWalk : Fault → Type 0

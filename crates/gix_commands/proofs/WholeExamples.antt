@@ -1,25 +1,15 @@
 -- Worked examples of the page that a user of the program believes: texts, times and lines, and a run from bytes to bytes.
-use Rattle.std.specs.Prelude.{◌≡◌, ◌≢◌, ◌≤ℤ◌, ℕ, ℤ, pos, neg_ℤ, List, [], ◌∷◌, ◌++◌, map, filter, take, not, int_lt, cond, false, replicate, Some, Ok, All, Contains, codes}
+use Rattle.std.proofs.Common.{◌≡◌, ◌≢◌, ◌≤ℤ◌, ℕ, ℤ, pos, neg_ℤ, List, [], ◌∷◌, ◌++◌, map, filter, take, not, int_lt, cond, false, replicate, Some, Ok, All, Contains, codes, flat_map, refl, sym, ap, subst, ◌∙◌, arith, ⊎_elim, inl}
 use Rattle.std.specs.FinMap as map_of
-use Rattle.std.specs.FinMap.{get}
+use Rattle.gix_commands.proofs.Common.{get, false≢true, All-nil, All-cons, same_Some, ObjectId, same_from, Contains-here, Contains-there, Contains-cons_cases, no_member, stored, commit_of_object, time_in, time_of, next_in, text_next}
+use Rattle.gix_commands.proofs.Common.{Fault, Comes, IsFirst, IsTime, Promises, Spells, all, breadth, commits, since, entry_line, newest}
 use Rattle.std.specs.Fmt.{digits}
-use Rattle.std.specs.List.{flat_map}
-use Rattle.std.proofs.Common.{refl, sym, ap, subst, ◌∙◌, arith, ⊎_elim, inl}
-use Rattle.std.proofs.lemmas.Bool.{false≢true}
 use Rattle.std.proofs.lemmas.Int.{ints}
-use Rattle.std.proofs.lemmas.List.Elements.{All-nil, All-cons}
-use Rattle.std.proofs.lemmas.Option.{same_Some}
 use Rattle.hex.proofs.OnLiterals.{hex_on_literals}
-use Rattle.gix_hash.specs.declared.ObjectId.{ObjectId}
 use Rattle.gix_hash.specs.declared.ObjectId.TheVariants.{Sha1}
-use Rattle.gix_hash.proofs.Ids.Membership.{same_from, Contains-here, Contains-there, Contains-cons_cases, no_member}
 use Rattle.gix_object.specs.declared.Kind.TheVariants as kind
 use Rattle.gix_records.specs.Records as records
-use Rattle.gix_records.specs.Records.{stored}
-use Rattle.gix_revwalk.specs.Commits.{commit_of_object, time_in, time_of}
-use Rattle.gix_revwalk.specs.Texts.{next_in, text_next}
-use Rattle.gix_words.specs.declared.fault.Fault.{Fault}
-use Rattle.gix_commands.specs.WholeStatement.{AreRecords, Comes, IsBest, IsFirst, IsPending, IsTime, Lists, Promises, Reaches, Serves, Spells, all, breadth, commits, first, since, entry_line, newest, parent, start}
+use Rattle.gix_commands.specs.WholeStatement.{AreRecords, IsBest, IsPending, Lists, Reaches, Serves, first, parent, start}
 use Rattle.gix_commands.proofs.SameCommits.{are_records, get_put, is_time, worded}
 use Rattle.gix_commands.proofs.SameHistory.{history}
 use Rattle.gix_commands.proofs.SameWords.{is_number}

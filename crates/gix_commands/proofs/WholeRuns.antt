@@ -1,30 +1,13 @@
 -- A run that ended well has written what the statement promises.
-use Rattle.std.specs.Prelude.{◌≡◌, ℕ, ℤ, List, [], ◌∷◌, ◌++◌, map, take, false, Option, Some, None, Result, Ok, All, Contains, codes}
-use Rattle.std.specs.Io.KnownBytes.{Appends}
-use Rattle.std.specs.List.{flat_map}
-use Rattle.std.proofs.Common.{refl, sym, ap, subst, inl, inr, ◌∙◌}
-use Rattle.gix_hash.specs.declared.ObjectId.{ObjectId}
-use Rattle.gix_hash.proofs.Ids.Membership.{Contains-here, Contains-there}
-use Rattle.gix_revwalk.specs.Commits.{time_of}
-use Rattle.gix_revwalk.specs.Texts.{text_next}
-use Rattle.gix_revwalk.proofs.Rows.{none_agree}
-use Rattle.gix_records.specs.Records.{Record, AreRecords, stored}
-use Rattle.gix_simple.specs.Walk.{time_order}
-use Rattle.gix_tree.specs.Script.{IsDepthScript, entries_at}
-use Rattle.gix_tree.specs.Tracked.{Tracks, fresh_recorder}
-use Rattle.gix_tree.specs.Visits.{Ending, Whole, Broken, Failed, IsUnfailed, is_broken}
-use Rattle.gix_tree.specs.Walk.{LookUpFails, trees_of}
-use Rattle.gix_tree.proofs.Theorems.Laws.{depth_ok, depth_is_in_order, depth_is_recorded}
+use Rattle.std.proofs.Common.{◌≡◌, ℕ, ℤ, List, [], ◌∷◌, ◌++◌, map, take, false, Option, Some, None, Result, Ok, All, Contains, codes, flat_map, refl, sym, ap, subst, inl, inr, ◌∙◌}
+use Rattle.gix_commands.proofs.Common.{Appends, ObjectId, Contains-here, Contains-there, time_of, text_next, none_agree, stored, time_order, IsDepthScript, entries_at, Tracks, fresh_recorder, Ending, Whole, Broken, Failed, IsUnfailed}
+use Rattle.gix_commands.proofs.Common.{is_broken, LookUpFails, trees_of, depth_ok, depth_is_in_order, depth_is_recorded, Fault, Simple, Topo, file_lines, AreWhole, followed, kept_tips, Runs, served, never_faulty, Request, Commits, Files}
+use Rattle.gix_commands.proofs.Common.{Ahead, Contained, request_of, Entry, IsTree, Promises, entry_line}
+use Rattle.gix_records.specs.Records.{Record, AreRecords}
 use Rattle.gix_tree.proofs.Theorems.SameRecords.{unbroken}
-use Rattle.gix_words.specs.declared.fault.Fault.{Fault}
-use Rattle.gix_words.specs.declared.words.Order.TheVariants.{Simple, Topo}
-use Rattle.gix_commands.specs.Files.{file_lines}
-use Rattle.gix_commands.specs.Histories.{AreWhole, followed, kept_tips}
-use Rattle.gix_commands.specs.Run.{Runs, Serves, served, listed}
-use Rattle.gix_commands.specs.Walked.{never_faulty}
-use Rattle.gix_words.specs.Words.{Request, Commits, Files, Ahead, Contained, request_of}
+use Rattle.gix_commands.specs.Run.{Serves, listed}
 use Rattle.gix_commands.specs.WholeStatement as page
-use Rattle.gix_commands.specs.WholeStatement.{Entry, IsTree, Unfolds, Promises, entry_line}
+use Rattle.gix_commands.specs.WholeStatement.{Unfolds}
 use Rattle.gix_commands.proofs.AheadRuns.{ahead_counts, counted_whole}
 use Rattle.gix_commands.proofs.CommitRuns.{served_so, simple_lists}
 use Rattle.gix_commands.proofs.ContainedRuns.{contains_ids}

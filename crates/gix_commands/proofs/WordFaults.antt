@@ -1,15 +1,10 @@
 -- What is so of each request that words spell, and which faults words may have.
-use Rattle.std.specs.Prelude.{ℕ, ◌+◌, pos, List, [], ◌∷◌, Bool, true, false, ◌||◌, Option, Some, None, Result, Ok, Err, codes}
+use Rattle.std.proofs.Common.{ℕ, ◌+◌, pos, List, [], ◌∷◌, Bool, true, false, ◌||◌, Option, Some, None, Result, Ok, Err, codes, bytes_eq, cond}
 use Rattle.std.specs.List.{list_all}
-use Rattle.std.specs.Str.{bytes_eq}
-use Rattle.std.proofs.Common.{cond}
-use Rattle.gix_hash.specs.declared.ObjectId.{ObjectId}
-use Rattle.gix_hash.specs.declared.HexError.{HexError}
-use Rattle.gix_hash.specs.Id.{id_from_hex}
-use Rattle.gix_words.specs.declared.fault.Fault.{Fault}
+use Rattle.gix_commands.proofs.Common.{ObjectId, HexError, id_from_hex, Fault, Order, Request, Files, Ahead, Contained, Ids, begins_with_caret, without_caret, is_shown, with_id, with_word, ids_from, number_in, order_named, commits_from}
+use Rattle.gix_commands.proofs.Common.{commits_of, limited_of, listed_of, chosen_of, recent_of, since_of, by_cutoff, in_order_of, file_of, files_from, files_of, ahead_from, ahead_of, contained_among, contained_from, contained_of}
+use Rattle.gix_commands.proofs.Common.{request_named, request_of, by_first_parents}
 use Rattle.gix_words.specs.declared.fault.Fault.TheVariants as fault
-use Rattle.gix_words.specs.declared.words.Order.{Order}
-use Rattle.gix_words.specs.Words.{Request, Files, Ahead, Contained, Ids, begins_with_caret, without_caret, is_shown, with_id, with_word, ids_from, number_in, order_named, commits_from, commits_of, limited_of, listed_of, chosen_of, recent_of, since_of, by_cutoff, in_order_of, file_of, files_from, files_of, ahead_from, ahead_of, contained_among, contained_from, contained_of, request_named, request_of, by_first_parents}
 
 -- what is so of ids, and of a word that spells none, is so of what words spell
 with_each : (Q : Result Ids Fault → Type 0) (ids_so : (ids : Ids) → Q (Ok ids)) (no_id : (n : ℕ) → Q (Err (fault.Id n))) (hidden : Bool) (n : ℕ) (r : Result ObjectId HexError) (rest : Result Ids Fault) → Q rest → Q (with_word hidden n r rest)

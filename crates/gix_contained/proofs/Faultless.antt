@@ -1,6 +1,5 @@
 -- Where all that is reached reads whole, no commit is a fault.
-use Rattle.std.specs.Prelude.{◌≡◌, List, ◌++◌, Some, None}
-use Rattle.std.proofs.Common.{sym, ap, ◌∙◌}
+use Rattle.std.proofs.Common.{◌≡◌, List, ◌++◌, Some, None, sym, ap, ◌∙◌}
 use Rattle.gix_hash.specs.declared.ObjectId.{ObjectId}
 use Rattle.gix_hash.specs.Id.{kind_of}
 use Rattle.gix_hash.specs.Reach.{Reaches}

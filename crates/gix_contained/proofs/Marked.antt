@@ -1,7 +1,6 @@
 -- The ids that were painted are those that tips reach.
-use Rattle.std.specs.Prelude.{◌≡◌, ◌⊎◌, List, [], ◌∷◌, Bool, true, false, cond, filter, Contains}
+use Rattle.std.proofs.Common.{◌≡◌, ◌⊎◌, List, [], ◌∷◌, Bool, true, false, cond, filter, Contains, refl, sym, subst, inl, ⊎_elim, ◌∙◌}
 use Rattle.std.specs.FinSet as set
-use Rattle.std.proofs.Common.{refl, sym, subst, inl, ⊎_elim, ◌∙◌}
 use Rattle.std.proofs.lemmas.Bool.{false≢true}
 use Rattle.gix_hash.specs.declared.ObjectId.{ObjectId}
 use Rattle.gix_hash.specs.Id.{id_cmp}

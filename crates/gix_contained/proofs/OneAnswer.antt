@@ -1,6 +1,5 @@
 -- Of one history there is one answer.
-use Rattle.std.specs.Prelude.{◌≡◌, List, ◌∷◌}
-use Rattle.std.proofs.Common.{refl, ap}
+use Rattle.std.proofs.Common.{◌≡◌, List, ◌∷◌, refl, ap}
 use Rattle.gix_hash.specs.declared.ObjectId.{ObjectId}
 use Rattle.gix_contained.specs.Contained.{AreContained, empty, reached, passed}
 

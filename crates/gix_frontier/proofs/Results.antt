@@ -1,6 +1,5 @@
 -- Facts on results.
-use Rattle.std.specs.Prelude.{◌≡◌, Result, Ok, Err, OnOk, IfErr, IsErrAnd}
-use Rattle.std.proofs.Common.{sym, subst}
+use Rattle.std.proofs.Common.{◌≡◌, Result, Ok, Err, OnOk, IfErr, IsErrAnd, sym, subst}
 
 pub on_ok : {X E A B : Type 0} (r : Result X E) → (A → B) → OnOk r A → OnOk r B
 on_ok (Ok x) f h = f h

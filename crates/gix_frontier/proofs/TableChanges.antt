@@ -1,9 +1,8 @@
 -- What is known of an id by a change of the table, and by two of them.
-use Rattle.std.specs.Prelude.{◌≡◌, ◌+◌, ℕ, ◌∷◌, Bool, true, false, cond, Some, IsPermutation}
-use Rattle.std.proofs.Common.{refl, sym, ap, ◌∙◌}
+use Rattle.std.proofs.Common.{◌≡◌, ◌+◌, ℕ, ◌∷◌, true, false, cond, Some, IsPermutation, refl, sym, ap, ◌∙◌, arith}
 use Rattle.std.specs.FinMap as map
 use Rattle.gix_hash.specs.declared.ObjectId.{ObjectId}
-use Rattle.gix_hash.specs.Id.{id_cmp, is_same}
+use Rattle.gix_hash.specs.Id.{id_cmp}
 use Rattle.gix_hash.proofs.Ids.Membership.{id_total, id_apart, same_itself}
 use Rattle.gix_frontier.specs.declared.Side.TheVariants.{Tips}
 use Rattle.gix_frontier.specs.declared.Progress.TheVariants.{Queued}
@@ -18,13 +17,8 @@ known_put those i known = ap known_or (map.get-insert id_total those i known i) 
 
 -- of two values of an id the later one is kept
 put_twice : (those : map.FinMap id_cmp Known) (i : ObjectId) (first later : Known) → map.insert (map.insert those i first) i later ≡ map.insert those i later
-put_twice those i first later = map.same_map id_total id_apart _ _ (λ j.
-    map.get-insert id_total (map.insert those i first) i later j ∙ ap (cond (is_same j i) (Some later)) (map.get-insert id_total those i first j)
-    ∙ once j (is_same j i) ∙ sym (map.get-insert id_total those i later j))
-  where
-    once : (j : ObjectId) (b : Bool) → cond b (Some later) (cond b (Some first) (map.get those j)) ≡ cond b (Some later) (map.get those j)
-    once j true = refl
-    once j false = refl
+put_twice those i first later = map.same_map id_total id_apart (map.insert (map.insert those i first) i later) (map.insert those i later)
+    (λ j. grind (arith, map.get-insert id_total (map.insert those i first) i later j, map.get-insert id_total those i first j, map.get-insert id_total those i later j))
 
 -- an id with one child more
 abbrev pub counted : Known → Known

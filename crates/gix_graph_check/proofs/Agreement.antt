@@ -1,6 +1,5 @@
 -- Places that agree with parents, walked one by one.
-use Rattle.std.proofs.Common.{◌≡◌, ℕ, ◌<◌, Bool, true, false, List, [], ◌∷◌, Option, Some, None, Ok, MatchBool, subst, sym, ap, ◌∙◌}
-use Rattle.std.specs.Prelude.{slice_get, is_some, not}
+use Rattle.std.proofs.Common.{◌≡◌, ℕ, ◌<◌, Bool, true, false, List, [], ◌∷◌, Option, Some, None, Ok, MatchBool, subst, sym, ap, ◌∙◌, slice_get, is_some, not}
 use Rattle.std.specs.Iterator.{YieldsFirst}
 use Rattle.std.specs.Cmp.{Equal-is}
 use Rattle.std.specs.List.Sorted.{IsStrictlySortedBy}

@@ -1,13 +1,9 @@
 -- Layers that are read one after the other.
-use Rattle.std.proofs.Common.{◌≡◌, ◌≢◌, ℕ, ◌+◌, ◌-◌, ◌≤◌, ◌<◌, List, [], ◌∷◌, length, take, drop, get_or, Bor, Result, Ok, Err, refl, sym, ap, ◌∙◌, arith}
-use Rattle.std.proofs.lemmas.List.{take_all}
-use Rattle.gix_commitgraph.specs.Rows.{GraphRow}
-use Rattle.gix_graph_file.specs.declared.error.Error.{Error}
+use Rattle.std.proofs.Common.{◌≡◌, ◌≢◌, ℕ, ◌+◌, ◌-◌, ◌≤◌, ◌<◌, List, [], ◌∷◌, length, take, drop, get_or, Bor, Result, Ok, Err, refl, sym, ap, ◌∙◌, arith, take_all}
+use Rattle.gix_graph_file.proofs.Common.{GraphRow, Error, ChainError, Lower, layer_then, with_layer, read_chain, RefusesChain, IsAtLayer, IsLayerFault, files_seen}
 use Rattle.gix_graph_file.specs.declared.error.Error.TheVariants as error
-use Rattle.gix_graph_file.specs.declared.error.ChainError.{ChainError}
 use Rattle.gix_graph_file.specs.declared.error.ChainError.TheVariants as chain
-use Rattle.gix_graph_file.specs.Chain.{Lower, layer_then, with_layer, chain_from, read_chain, RefusesChain}
-use Rattle.gix_graph_file.specs.ChainSteps.{IsAtLayer, IsLayerFault, files_seen}
+use Rattle.gix_graph_file.specs.Chain.{chain_from}
 
 chain-step : (number : ℕ) (lower : Lower) (file : List ℕ) (files : List (List ℕ)) → chain_from number lower (file ∷ files) ≡ layer_then number (with_layer number lower file) (λ (next : Lower). chain_from (number + 1) next files)
 unfolding chain_from

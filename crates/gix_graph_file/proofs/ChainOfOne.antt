@@ -1,25 +1,13 @@
 -- A chain of one file is the file, where it says no layers below it; and a graph has the rows that it has.
-use Rattle.std.proofs.Common.{◌≡◌, ◌≢◌, ℕ, ◌+◌, true, false, cond, not, eqb, bytes_eq, List, [], ◌∷◌, length, map, get_or, Bor, Option, Some, None, Result, Ok, Err, IfOk, IfErr, refl, ap, ◌∙◌, arith}
+use Rattle.std.proofs.Common.{◌≡◌, ◌≢◌, ℕ, ◌+◌, true, false, cond, not, eqb, bytes_eq, List, [], ◌∷◌, length, map, get_or, Bor, Option, Some, None, Result, Ok, Err, IfOk, IfErr, refl, ap, ◌∙◌, arith, option_map, eqb-true}
 use Rattle.std.specs.List.{AllByRecursion}
-use Rattle.std.specs.Option.{option_map}
-use Rattle.std.proofs.lemmas.Bool.{eqb-true}
 use Rattle.std.proofs.lemmas.Map.Keys.{IsDistinct-from_sorted}
-use Rattle.gix_hash.specs.declared.Kind.{Kind}
-use Rattle.gix_hash.specs.Id.{id_cmp}
-use Rattle.gix_commitgraph.specs.declared.ParentPlace.{ParentPlace}
+use Rattle.gix_graph_file.proofs.Common.{Kind, id_cmp, ParentPlace, GraphRow, AreGraphRows, IsRowAmong, IsPlaceAmong, ids_of_rows, kind_of_rows, words_of, AreOfKind, moved, renumbered, HasSameRows, IsAccepted, Error, ChainError, ◌>>=◌}
+use Rattle.gix_graph_file.proofs.Common.{Parts, read_layer, rows_from, rows_of, Lower, base_of, with_rows, with_parts, layer_then, nothing, read_chain, HasChain, files_seen}
 use Rattle.gix_commitgraph.specs.declared.ParentPlace.TheVariants.{At, Fault}
-use Rattle.gix_commitgraph.specs.Rows.{GraphRow}
-use Rattle.gix_commitgraph.specs.Packed.{AreGraphRows, IsRowAmong, IsPlaceAmong, ids_of_rows, kind_of_rows}
-use Rattle.gix_commitgraph.specs.PackedReading.{words_of}
-use Rattle.gix_commitgraph.specs.Renumbering.{AreOfKind, moved, renumbered, HasSameRows, IsAccepted}
-use Rattle.gix_graph_file.specs.declared.error.Error.{Error}
 use Rattle.gix_graph_file.specs.declared.error.Error.TheVariants as error
-use Rattle.gix_graph_file.specs.declared.error.ChainError.{ChainError}
 use Rattle.gix_graph_file.specs.declared.error.ChainError.TheVariants as chain
-use Rattle.gix_graph_file.specs.FileTable.{◌>>=◌, Parts, read_layer}
-use Rattle.gix_graph_file.specs.FileRows.{rows_from, rows_of}
-use Rattle.gix_graph_file.specs.Chain.{Lower, base_of, with_rows, with_parts, with_layer, layer_then, chain_from, nothing, read_chain, HasChain}
-use Rattle.gix_graph_file.specs.ChainSteps.{files_seen}
+use Rattle.gix_graph_file.specs.Chain.{with_layer, chain_from}
 
 -- what a chain of one file says, by what its parts say
 abbrev pub alone : Result (List GraphRow) Error → Result (List GraphRow) ChainError

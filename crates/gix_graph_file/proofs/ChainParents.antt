@@ -1,9 +1,6 @@
 -- Parents that are read one after the other.
-use Rattle.std.proofs.Common.{◌≡◌, ◌≢◌, ℕ, List, [], ◌∷◌, ◌++◌, Option, Some, None, refl, sym, ap, ◌∙◌, append_assoc}
-use Rattle.std.proofs.lemmas.Bool.{ne_eqb}
-use Rattle.gix_commitgraph.specs.declared.ParentPlace.{ParentPlace}
-use Rattle.gix_graph_file.specs.FileRows.{Parents, no_parent, place_named, with_parent, second_said, parents_said}
-use Rattle.gix_graph_file.specs.ChainSteps.{joined}
+use Rattle.std.proofs.Common.{◌≡◌, ◌≢◌, ℕ, List, [], ◌∷◌, ◌++◌, Option, Some, None, refl, sym, ap, ◌∙◌, append_assoc, ne_eqb}
+use Rattle.gix_graph_file.proofs.Common.{ParentPlace, Parents, no_parent, place_named, with_parent, second_said, parents_said, joined}
 
 -- one more parent is read
 pub joined-more : (read next : List ParentPlace) (p : ParentPlace) (said : Option Parents) → next ≡ read ++ (p ∷ []) → joined next said ≡ joined read (with_parent p said)

@@ -1,17 +1,9 @@
 -- Rows of a layer that are read one after the other.
-use Rattle.std.proofs.Common.{◌≡◌, ℕ, suc, ◌+◌, ◌-◌, ◌≤◌, Bool, true, false, cond, List, [], ◌∷◌, ◌++◌, length, take, drop, Option, Some, None, Result, Ok, Err, refl, sym, ap, subst, ◌∙◌, append_assoc, add-one, arith}
-use Rattle.std.proofs.lemmas.Bool.{ne_eqb}
-use Rattle.std.proofs.lemmas.List.{append-nil}
-use Rattle.gix_hash.specs.declared.Kind.{Kind}
-use Rattle.gix_hash.specs.declared.ObjectId.{ObjectId}
-use Rattle.gix_commitgraph.specs.declared.ParentPlace.{ParentPlace}
-use Rattle.gix_hash.specs.Id.{id_len, id_of}
-use Rattle.gix_commitgraph.specs.Rows.{GraphRow}
-use Rattle.gix_commitgraph.specs.PackedReading.{word_at, is_above}
-use Rattle.gix_graph_file.specs.declared.error.Error.{Error}
+use Rattle.std.proofs.Common.{◌≡◌, ℕ, suc, ◌+◌, ◌-◌, ◌≤◌, Bool, true, false, cond, List, [], ◌∷◌, ◌++◌, length, take, drop, Option, Some, None, Result, Ok, Err, refl, sym, ap, subst, ◌∙◌, append_assoc, add-one, arith, ne_eqb, append-nil}
+use Rattle.gix_graph_file.proofs.Common.{Kind, ObjectId, ParentPlace, id_len, id_of, GraphRow, word_at, is_above, Error, Parents, parents_said, row_said, with_row, row_then, prepended, RowRead, row_or_fault}
 use Rattle.gix_graph_file.specs.declared.error.Error.TheVariants as error
-use Rattle.gix_graph_file.specs.FileRows.{Parents, parents_said, row_said, with_row, row_then, rows_from}
-use Rattle.gix_graph_file.specs.ChainSteps.{prepended, RowRead, row_or_fault, row_read}
+use Rattle.gix_graph_file.specs.FileRows.{rows_from}
+use Rattle.gix_graph_file.specs.ChainSteps.{row_read}
 
 -- a row, and then the rows that are read of the words behind its
 abbrev pub and_rows : Result RowRead Error → (List ℕ → Result (List GraphRow) Error) → Result (List GraphRow) Error

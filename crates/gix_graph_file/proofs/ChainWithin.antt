@@ -1,28 +1,17 @@
 -- The rows of a chain are of one kind, and name rows of the chain.
 use Rattle.std.proofs.Common.{◌≡◌, ℕ, zero, suc, ◌+◌, ◌-◌, ◌≤◌, ◌<◌, Bool, true, false, cond, not, ltb, eqb, bytes_eq, List, [], ◌∷◌, ◌++◌, length, take, drop, Option, Some, None, Result, Ok, Err, refl, sym, ap, subst, ◌∙◌, arith}
+use Rattle.std.proofs.Common.{ltb-true, length-append}
 use Rattle.std.specs.List.{AllByRecursion}
-use Rattle.std.proofs.lemmas.Bool.{ltb-true}
-use Rattle.std.proofs.lemmas.List.{length-append}
-use Rattle.gix_hash.specs.declared.Kind.{Kind}
+use Rattle.gix_graph_file.proofs.Common.{Kind, ObjectId, ParentPlace, GraphError, id_len, id_of, kind_of, GraphRow, IsPlaceAmong, word_at, words_of, is_above, AreOfKind, AreOfOneKind, HavePlacesWithin, Refuses, Error, ChainError, ◌>>=◌}
+use Rattle.gix_graph_file.proofs.Common.{Parts, read_layer, no_parent, flag, place_named, Parents, with_parent, edge_list, long_edge_list, second_said, parents_said, row_said, with_row, row_then, Lower, is_kind, base_of, layer_rows}
+use Rattle.gix_graph_file.proofs.Common.{with_rows, with_parts, layer_then, nothing, read_chain, IsOfRows, RefusesChain, IsForRows}
 use Rattle.gix_hash.specs.declared.Kind.TheVariants as kind
-use Rattle.gix_hash.specs.declared.ObjectId.{ObjectId}
-use Rattle.gix_commitgraph.specs.declared.ParentPlace.{ParentPlace}
 use Rattle.gix_commitgraph.specs.declared.ParentPlace.TheVariants.{At, Fault}
-use Rattle.gix_commitgraph.specs.declared.GraphError.{GraphError}
 use Rattle.gix_commitgraph.specs.declared.GraphError.TheVariants as refused
-use Rattle.gix_hash.specs.Id.{id_len, id_of, kind_of}
-use Rattle.gix_commitgraph.specs.Rows.{GraphRow}
-use Rattle.gix_commitgraph.specs.Packed.{IsPlaceAmong}
-use Rattle.gix_commitgraph.specs.PackedReading.{word_at, words_of, is_above}
-use Rattle.gix_commitgraph.specs.Renumbering.{AreOfKind, AreOfOneKind, HavePlacesWithin, Refuses}
-use Rattle.gix_graph_file.specs.declared.error.Error.{Error}
 use Rattle.gix_graph_file.specs.declared.error.Error.TheVariants as error
-use Rattle.gix_graph_file.specs.declared.error.ChainError.{ChainError}
 use Rattle.gix_graph_file.specs.declared.error.ChainError.TheVariants as chain
-use Rattle.gix_graph_file.specs.FileTable.{◌>>=◌, Parts, read_layer}
-use Rattle.gix_graph_file.specs.FileRows.{no_parent, flag, place_named, Parents, with_parent, edge_list, long_edge_list, second_said, parents_said, row_said, with_row, row_then, rows_from}
-use Rattle.gix_graph_file.specs.Chain.{Lower, is_kind, base_of, layer_rows, with_rows, with_parts, with_layer, layer_then, chain_from, nothing, read_chain, IsOfRows, RefusesChain}
-use Rattle.gix_graph_file.specs.ChainSteps.{IsForRows}
+use Rattle.gix_graph_file.specs.FileRows.{rows_from}
+use Rattle.gix_graph_file.specs.Chain.{with_layer, chain_from}
 
 choose : {A : Type 0} (P : A → Type 0) (b : Bool) (x y : A) → P x → P y → P (cond b x y)
 choose P true x y p q = p

@@ -1,9 +1,9 @@
 -- Entries of a table of chunks, one after the other.
-use Rattle.std.proofs.Common.{◌≡◌, ◌≢◌, ℕ, zero, suc, ◌+◌, ◌-◌, ◌<◌, ◌≤◌, true, false, cond, eqb, ltb, List, take, drop, Some, None, refl, arith, add-one, inl, inr}
-use Rattle.std.proofs.lemmas.Bool.{lt-ltb, le-ltb, eq-eqb, ne_eqb, ltb-false}
+use Rattle.std.proofs.Common.{◌≡◌, ◌≢◌, ℕ, zero, suc, ◌+◌, ◌-◌, ◌<◌, ◌≤◌, true, false, cond, eqb, ltb, List, take, drop, Some, None, refl, arith, add-one, inl, inr, lt-ltb, le-ltb, eq-eqb, ne_eqb, ltb-false}
 use Rattle.std.proofs.lemmas.Bool.Decides.{nat_tests}
 use Rattle.gix_commitgraph.proofs.Packed.Takes.{chosen}
-use Rattle.gix_graph_file.specs.FileTable.{name_at, offset_at, is_last, is_table_from, chunk_from}
+use Rattle.gix_graph_file.proofs.Common.{name_at, offset_at, is_last}
+use Rattle.gix_graph_file.specs.FileTable.{is_table_from, chunk_from}
 
 module _ (file : List ℕ) (end left entry lower : ℕ) where
   pub table-unnamed : name_at file entry ≡ 0 → is_table_from file end (left + 1) entry lower ≡ false

@@ -1,3 +1,5 @@
+-- What most proofs use, to import from one place.
+mod Common
 -- Entries of a table of chunks.
 pub mod Entries
 -- Rows written one after the other.

@@ -1,19 +1,13 @@
 -- The fields of a packed row are those of the row in the file.
-use Rattle.std.proofs.Common.{◌≡◌, ℕ, ◌/◌, ◌%◌, ◌^◌, ◌<◌, ◌≤◌, Bool, true, false, ltb, eqb, List, ◌++◌, length, take, drop, pos, refl, ap, ◌∙◌, arith}
-use Rattle.std.specs.Int.{w32, w64, to_be_bytes, from_be_bytes, cast_signed}
-use Rattle.std.proofs.lemmas.List.{length-append}
+use Rattle.std.proofs.Common.{◌≡◌, ℕ, ◌/◌, ◌%◌, ◌^◌, ◌<◌, ◌≤◌, Bool, true, false, ltb, eqb, List, ◌++◌, length, take, drop, pos, refl, ap, ◌∙◌, arith, w32, w64, length-append}
+use Rattle.gix_graph_file.proofs.Common.{to_be_bytes, from_be_bytes, cast_signed, Kind, ParentPlace, id_len, id_of, AreBytes, word_at, row_len, id_field, tree_field, first_field, second_field, generation_field, time_field, row_of_fields}
+use Rattle.gix_graph_file.proofs.Common.{most_rows, no_parent, flag, row_said, first_packed, second_packed}
 use Rattle.std.proofs.lemmas.Int.{to_z_pos}
 use Rattle.std.proofs.lemmas.Nat.{from_be_bytes-to_be_bytes_4, from_be_bytes-to_be_bytes_8}
-use Rattle.gix_hash.specs.declared.Kind.{Kind}
-use Rattle.gix_commitgraph.specs.declared.ParentPlace.{ParentPlace}
-use Rattle.gix_hash.specs.Id.{id_len, id_of}
-use Rattle.gix_commitgraph.specs.Packed.{AreBytes}
-use Rattle.gix_commitgraph.specs.PackedReading.{word_at, row_len, id_field, tree_field, first_field, second_field, generation_field, time_field, row_of_fields}
 use Rattle.gix_commitgraph.proofs.Packed.Fields.{has_parts, row_len-is}
 use Rattle.gix_commitgraph.proofs.Packed.RowTakes.{AreBytes-take, AreBytes-drop}
-use Rattle.gix_graph_file.specs.FileTable.{long_at, most_rows}
-use Rattle.gix_graph_file.specs.FileRows.{no_parent, flag, row_said}
-use Rattle.gix_graph_file.specs.PackedParts.{first_packed, second_packed, row_packed}
+use Rattle.gix_graph_file.specs.FileTable.{long_at}
+use Rattle.gix_graph_file.specs.PackedParts.{row_packed}
 use Rattle.gix_graph_file.proofs.SameParents.{place-below}
 
 word_below : (bytes : List ℕ) → AreBytes bytes → from_be_bytes w32 bytes < 2 ^ 32

@@ -1,27 +1,19 @@
 -- Whole packed bytes say the same rows as the file, or the same fault.
 use Rattle.std.proofs.Common.{◌≡◌, ◌≢◌, ℕ, zero, suc, ◌+◌, ◌-◌, ◌*◌, ◌/◌, ◌^◌, ◌<◌, ◌≤◌, Bool, true, false, ltb, List, [], ◌∷◌, ◌++◌, length, map, take, drop, Some, None, Result, Ok, Err, IfOk, IfErr, refl, sym, ap, subst, ◌∙◌, arith}
-use Rattle.std.specs.Int.{w32, to_be_bytes, from_be_bytes}
-use Rattle.std.specs.List.{flat_map}
-use Rattle.std.proofs.lemmas.Bool.{ne_eqb, eq-eqb, le-leb, lt-ltb}
-use Rattle.std.proofs.lemmas.List.{drop_at, length-append, length-map, length-drop, length-take}
+use Rattle.std.proofs.Common.{w32, flat_map, ne_eqb, eq-eqb, le-leb, lt-ltb, drop_at, length-append, length-drop, length-take}
+use Rattle.gix_graph_file.proofs.Common.{to_be_bytes, from_be_bytes, Kind, GraphError, id_len, GraphRow, most, layout_name, AreBytes, AreGraphRows, words_of, row_len, kind_named, may_have, is_sized, rows_at, read_packed, opened, Error}
+use Rattle.gix_graph_file.proofs.Common.{◌>>=◌, Parts, most_rows, read_parts, flag, rows_from, rows_of, IsWhole, edge_packed, kind_packed, row_packed, fault_of}
+use Rattle.std.proofs.lemmas.List.{length-map}
 use Rattle.std.proofs.lemmas.Nat.{from_be_bytes-to_be_bytes_4}
-use Rattle.gix_hash.specs.declared.Kind.{Kind}
 use Rattle.gix_hash.specs.declared.Kind.TheVariants as kind
 use Rattle.gix_commitgraph.specs.declared.Place.{Place}
 use Rattle.gix_commitgraph.specs.declared.Place.TheVariants as place
-use Rattle.gix_commitgraph.specs.declared.GraphError.{GraphError}
-use Rattle.gix_hash.specs.Id.{id_len}
-use Rattle.gix_commitgraph.specs.Rows.{GraphRow}
-use Rattle.gix_commitgraph.specs.Packed.{most, layout_name, AreBytes, AreGraphRows}
-use Rattle.gix_commitgraph.specs.PackedReading.{words_of, row_len, kind_named, may_have, is_sized, rows_at, read_packed, opened}
 use Rattle.gix_commitgraph.proofs.Packed.Fields.{after_part, part_at}
 use Rattle.gix_commitgraph.proofs.Packed.Steps.{length-words_of}
 use Rattle.gix_commitgraph.proofs.Packed.Whole.{AreWords, words_of-bytes, length-word_bytes, HasBody, read-body}
-use Rattle.gix_graph_file.specs.declared.error.Error.{Error}
 use Rattle.gix_graph_file.specs.declared.error.Error.TheVariants as error
-use Rattle.gix_graph_file.specs.FileTable.{◌>>=◌, Parts, most_rows, read_parts}
-use Rattle.gix_graph_file.specs.FileRows.{flag, rows_from, rows_of, read_file}
-use Rattle.gix_graph_file.specs.PackedParts.{IsWhole, edge_packed, kind_packed, row_packed, rows_packed, parts_packed, fault_of}
+use Rattle.gix_graph_file.specs.FileRows.{read_file}
+use Rattle.gix_graph_file.specs.PackedParts.{rows_packed, parts_packed}
 use Rattle.gix_graph_file.proofs.SameParents.{place-below}
 use Rattle.gix_graph_file.proofs.SameFields.{length-row_packed}
 use Rattle.gix_graph_file.proofs.SameRows.{Says, says-end, says-rows}

@@ -1,13 +1,8 @@
 -- The parents that words say are those of the packed words.
-use Rattle.std.proofs.Common.{◌≡◌, ℕ, ◌+◌, ◌-◌, ◌<◌, ◌≤◌, Bool, true, false, cond, eqb, ltb, List, [], ◌∷◌, map, Option, Some, None, refl, ap, ◌∙◌, arith}
-use Rattle.std.proofs.lemmas.Bool.{lt-ltb, le-ltb, ltb-true, ltb-false, eqb-true, ne_eqb}
-use Rattle.gix_commitgraph.specs.declared.ParentPlace.{ParentPlace}
-use Rattle.gix_commitgraph.specs.Packed.{fault_word}
+use Rattle.std.proofs.Common.{◌≡◌, ℕ, ◌+◌, ◌-◌, ◌<◌, ◌≤◌, Bool, true, false, cond, eqb, ltb, List, [], ◌∷◌, map, Option, Some, None, refl, ap, ◌∙◌, arith, lt-ltb, le-ltb, ltb-true, ltb-false, eqb-true, ne_eqb}
+use Rattle.gix_graph_file.proofs.Common.{ParentPlace, fault_word, Places, place_of, with_place, list_at, long_list_at, second_at, parents_at, most_rows, no_parent, flag, place_named, Parents, with_parent, edge_list, long_edge_list}
+use Rattle.gix_graph_file.proofs.Common.{second_said, parents_said, place_packed, first_packed, second_packed, edge_packed}
 use Rattle.gix_commitgraph.specs.Packed as packed
-use Rattle.gix_commitgraph.specs.PackedReading.{Places, place_of, with_place, list_at, long_list_at, second_at, parents_at}
-use Rattle.gix_graph_file.specs.FileTable.{most_rows}
-use Rattle.gix_graph_file.specs.FileRows.{no_parent, flag, place_named, Parents, with_parent, edge_list, long_edge_list, second_said, parents_said}
-use Rattle.gix_graph_file.specs.PackedParts.{place_packed, first_packed, second_packed, edge_packed}
 
 -- parents, and the packed words behind theirs
 abbrev pub packed_behind : ℕ → Option Parents → Option Places

@@ -1,23 +1,17 @@
 -- The packed bytes say the same rows as the parts of the file, or the same fault.
-use Rattle.std.proofs.Common.{◌≡◌, ℕ, zero, suc, ◌+◌, ◌-◌, ◌*◌, ◌≤◌, Bool, true, false, cond, List, [], ◌∷◌, ◌++◌, length, map, take, drop, Option, Some, None, Result, Ok, Err, refl, sym, ap, subst, ◌∙◌, append_assoc, arith}
-use Rattle.std.proofs.lemmas.Bool.{ne_eqb}
-use Rattle.std.proofs.lemmas.List.{length-map, length-drop, length-take}
-use Rattle.gix_hash.specs.declared.Kind.{Kind}
-use Rattle.gix_hash.specs.declared.ObjectId.{ObjectId}
-use Rattle.gix_commitgraph.specs.declared.ParentPlace.{ParentPlace}
+use Rattle.std.proofs.Common.{◌≡◌, ℕ, zero, suc, ◌+◌, ◌-◌, ◌*◌, ◌≤◌, Bool, true, false, cond, List, [], ◌∷◌, ◌++◌, length, map, take, drop, Option, Some, None, Result, Ok, Err, refl, sym, ap, subst, ◌∙◌, append_assoc, arith, ne_eqb}
+use Rattle.std.proofs.Common.{length-drop, length-take}
+use Rattle.std.proofs.lemmas.List.{length-map}
+use Rattle.gix_graph_file.proofs.Common.{Kind, ObjectId, ParentPlace, id_len, id_of, GraphRow, AreBytes, word_at, row_len, id_field, first_field, second_field, row_of_fields, parents_at, is_above, Error, most_rows, Parents, parents_said}
+use Rattle.gix_graph_file.proofs.Common.{row_said, with_row, row_then, edge_packed, row_packed}
 use Rattle.gix_commitgraph.specs.declared.Place.{Place}
 use Rattle.gix_commitgraph.specs.declared.Place.TheVariants as place
-use Rattle.gix_hash.specs.Id.{id_len, id_of}
-use Rattle.gix_commitgraph.specs.Rows.{GraphRow}
-use Rattle.gix_commitgraph.specs.Packed.{AreBytes}
-use Rattle.gix_commitgraph.specs.PackedReading.{word_at, row_len, id_field, first_field, second_field, row_of_fields, parents_at, is_above, rows_at}
+use Rattle.gix_commitgraph.specs.PackedReading.{rows_at}
 use Rattle.gix_commitgraph.specs.PackedReading as packed
 use Rattle.gix_commitgraph.proofs.Packed.RowTakes.{AreBytes-take, AreBytes-drop}
-use Rattle.gix_graph_file.specs.declared.error.Error.{Error}
 use Rattle.gix_graph_file.specs.declared.error.Error.TheVariants as error
-use Rattle.gix_graph_file.specs.FileTable.{most_rows}
-use Rattle.gix_graph_file.specs.FileRows.{Parents, parents_said, row_said, with_row, row_then, rows_from}
-use Rattle.gix_graph_file.specs.PackedParts.{edge_packed, row_packed, rows_packed}
+use Rattle.gix_graph_file.specs.FileRows.{rows_from}
+use Rattle.gix_graph_file.specs.PackedParts.{rows_packed}
 use Rattle.gix_graph_file.proofs.SameParents.{packed_behind, parents-same}
 use Rattle.gix_graph_file.proofs.SameFields.{HasFields, has_fields}
 

@@ -1,9 +1,7 @@
 -- Rows written one after the other.
-use Rattle.std.proofs.Common.{◌≡◌, ℕ, ◌+◌, List, ◌++◌, take, drop, refl, sym, ap, ◌∙◌, append_assoc, add-one}
-use Rattle.std.proofs.lemmas.List.{append-nil}
-use Rattle.gix_hash.specs.declared.Kind.{Kind}
-use Rattle.gix_hash.specs.Id.{id_len}
-use Rattle.gix_graph_file.specs.PackedParts.{row_packed, rows_packed}
+use Rattle.std.proofs.Common.{◌≡◌, ℕ, ◌+◌, List, ◌++◌, take, drop, refl, sym, ap, ◌∙◌, append_assoc, add-one, append-nil}
+use Rattle.gix_graph_file.proofs.Common.{Kind, id_len, row_packed}
+use Rattle.gix_graph_file.specs.PackedParts.{rows_packed}
 
 pub rows_packed-more : (k : Kind) (n left : ℕ) (ids commits : List ℕ)
     → rows_packed k n (left + 1) ids commits ≡ row_packed n (take (id_len k) ids) (take (id_len k) commits) (take 16 (drop (id_len k) commits)) ++ rows_packed k n left (drop (id_len k) ids) (drop 16 (drop (id_len k) commits))

@@ -1,12 +1,10 @@
 -- The seconds that are written are those that are read.
-use Rattle.std.proofs.Common.{◌≡◌, ◌≢◌, ℕ, suc, ◌+◌, ◌-◌, ◌*◌, ◌^◌, List, [], ◌∷◌, ◌++◌, codes, Option, Some, true, ℤ, pos, negsuc, neg_ℤ, FitsSigned, w64, refl, ap, ◌∙◌, arith}
-use Rattle.std.specs.Prelude.{◌==◌, nat_lt, nat_le}
+use Rattle.std.proofs.Common.{◌≡◌, ◌≢◌, ℕ, suc, ◌+◌, ◌-◌, ◌*◌, ◌^◌, List, [], ◌∷◌, ◌++◌, codes, Option, Some, true, ℤ, pos, negsuc, neg_ℤ, FitsSigned, w64, refl, ap, ◌∙◌, arith, ◌==◌, nat_lt, nat_le, decimal, ne_eqb, lt-ltb, le-leb}
 use Rattle.std.specs.List.{AllByRecursion}
 use Rattle.std.specs.Char.{is_ascii_digit, digit_value}
-use Rattle.std.specs.Fmt.{decimal}
 use Rattle.std.specs.Int.{IsInRange}
 use Rattle.std.specs.Str.Parse.{AllDigits, IsNumeral, digits_value, digits_value_after}
-use Rattle.std.proofs.lemmas.Bool.{cond-true, cond-false, ne_eqb, lt-ltb, le-leb}
+use Rattle.std.proofs.lemmas.Bool.{cond-true, cond-false}
 use Rattle.std.proofs.lemmas.Fmt.{decimal_is_IsNumeral}
 use Rattle.std.proofs.lemmas.Str.{digit_value_digit}
 use Rattle.std.proofs.lemmas.Str.Parse.{digit_from_value}

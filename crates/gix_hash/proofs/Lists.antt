@@ -1,6 +1,5 @@
 -- Facts on lists of anything.
-use Rattle.std.specs.Prelude.{◌≡◌, List, [], ◌∷◌, length, slice_get, Bool, true, cond, filter, None, Contains}
-use Rattle.std.proofs.Common.{refl, ap, ⊎_elim, ◌∙◌}
+use Rattle.std.proofs.Common.{◌≡◌, List, [], ◌∷◌, length, slice_get, Bool, true, cond, filter, None, Contains, refl, ap, ⊎_elim, ◌∙◌}
 use Rattle.std.proofs.lemmas.List.Elements.{All-contains, All-contains_itself, All-filter}
 use Rattle.gix_hash.proofs.Ids.Membership.{Contains-here, Contains-there, Contains-cons_cases, no_member}
 

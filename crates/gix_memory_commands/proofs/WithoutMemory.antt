@@ -1,5 +1,5 @@
 -- A run for which memory runs out before it begins.
-use Rattle.std.specs.Prelude.{ℕ, List, []}
+use Rattle.std.proofs.Common.{ℕ, List, []}
 use Rattle.gix_words.specs.declared.fault.Fault.TheVariants as fault
 use Rattle.gix_commands.specs.Run.{without_memory}
 use Rattle.gix_memory_commands.specs.Answers.{FailsOver}

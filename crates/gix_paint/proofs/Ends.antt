@@ -1,26 +1,13 @@
 -- Painting ends: each turn leaves less room for entries.
-use Rattle.std.specs.Borrow.{Bor}
-use Rattle.std.specs.Prelude.{◌≡◌, ◌≤◌, suc, List, ◌++◌, map, length, true, is_some, Option, Some, None, Contains}
-use Rattle.std.specs.List.{flat_map}
-use Rattle.std.proofs.Common.{refl, sym, ap, subst, ⊎_elim, ◌∙◌, arith}
+use Rattle.std.proofs.Common.{Bor, ◌≡◌, ◌≤◌, suc, List, ◌++◌, map, length, true, is_some, Option, Some, None, Contains, flat_map, refl, sym, ap, subst, ⊎_elim, ◌∙◌, arith}
 use Rattle.std.proofs.lemmas.Bool.{or_left, or_right}
-use Rattle.std.proofs.lemmas.List.Sorted.{length_permutation}
+use Rattle.gix_paint.proofs.Common.{length_permutation, ObjectId, is_among, Object, Objects, GraphRow, row_of, cmp-value, Key, Entry, Painter, parents_of, commit_of_object, is_hidden, graph_in_use, Reads, by_row, by_store, drops}
+use Rattle.gix_paint.proofs.Common.{GivesParents, brought, looked_up, Takes, Pops, room, new_ids, ids_at, among-append, among_from, no_member}
 use Rattle.std.specs.FinMap as map_of
-use Rattle.gix_hash.specs.declared.ObjectId.{ObjectId}
-use Rattle.gix_hash.specs.Id.{is_among}
-use Rattle.gix_object.specs.Object.{Object, Objects}
-use Rattle.gix_commitgraph.specs.Rows.{GraphRow, row_of}
-use Rattle.gix_paint.specs.contracts.source.KeyOrd.TheImpl.{cmp-value}
-use Rattle.gix_paint.specs.declared.source.Key.{Key}
-use Rattle.gix_paint.specs.declared.Entry.{Entry}
-use Rattle.gix_paint.specs.declared.Painter.{Painter}
-use Rattle.gix_revwalk.specs.Commits.{parents_of, commit_of_object}
-use Rattle.gix_paint.specs.Inside.Painter.{is_hidden, rows_in, graph_in_use, Reads, by_row, by_store, drops, GivesParents, brought, looked_up, Takes, TreatsEntry, skips, reads, Pops, room}
-use Rattle.gix_revwalk.specs.Ids.{new_ids}
-use Rattle.gix_revwalk.specs.RowParents.{ids_at}
+use Rattle.gix_paint.specs.Inside.Painter.{rows_in}
 use Rattle.gix_paint.proofs.Invariant.{reads_parents, IsSafe}
 use Rattle.gix_paint.proofs.KeptByTurn.{popped_there}
-use Rattle.gix_hash.proofs.Ids.Membership.{among-append, among_from}
+use Rattle.gix_paint.proofs.Turn.{IsTurn}
 use Rattle.gix_revwalk.proofs.NewIds.{among_flat}
 use Rattle.gix_revwalk.proofs.Rows.{found_entry, ids_in_rows}
 
@@ -56,9 +43,8 @@ module _ {F : Type 0} (objects : F → Objects) (store : F) (rows : List GraphRo
       let one : suc (length v.queue) ≡ length w.queue = length_permutation _ _ pops.queue in
       omega arith
 
-  pub turn_less : {new : Painter F} → TreatsEntry objects v top.1 new → suc (room (names (objects store) rows) new) ≤ room (names (objects store) rows) w
-  turn_less (skips turn takes graph) = let same = room_takes (names (objects store) rows) takes in omega arith
-  turn_less {new} (reads {mid = mid} turn takes gives met) =
-      let same = room_takes (names (objects store) rows) takes in
-      let less : room (names (objects store) rows) new ≤ room (names (objects store) rows) mid = met.spends (names (objects store) rows) (named gives) in
+  pub turn_less : {new : Painter F} → IsTurn objects top pops new → suc (room (names (objects store) rows) new) ≤ room (names (objects store) rows) w
+  turn_less {new} t =
+      let same = room_takes (names (objects store) rows) t.takes in
+      let less : room (names (objects store) rows) new ≤ room (names (objects store) rows) t.mid = t.met.spends (names (objects store) rows) (λ i c. ⊎_elim (λ g. named g.1 i c) (λ n. absurd (no_member i (subst (λ xs. Contains xs i) n.1 c))) t.gives) in
       omega arith

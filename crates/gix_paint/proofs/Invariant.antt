@@ -1,25 +1,13 @@
 -- What holds while hidden tips are painted, and what each step keeps of it.
-use Rattle.std.specs.Prelude.{◌≡◌, ◌≢◌, ◌⊎◌, List, ◌&&◌, is_some, Option, Some, None, Contains}
-use Rattle.std.specs.Option.{option_map}
-use Rattle.std.proofs.Common.{refl, sym, ap, subst, inl, inr, ⊎_elim, ◌∙◌}
+use Rattle.std.proofs.Common.{◌≡◌, ◌≢◌, ◌⊎◌, List, ◌&&◌, Some, None, Contains, option_map, refl, sym, ap, subst, inl, inr, ⊎_elim, ◌∙◌, arith}
 use Rattle.std.specs.FinMap as map_of
 use Rattle.std.specs.FinSet as set
-use Rattle.gix_hash.specs.declared.ObjectId.{ObjectId}
-use Rattle.gix_hash.specs.Id.{id_cmp}
-use Rattle.gix_object.specs.Object.{Objects}
-use Rattle.gix_commitgraph.specs.Rows.{GraphRow, row_of}
-use Rattle.gix_paint.specs.declared.Side.{Side}
+use Rattle.gix_paint.proofs.Common.{ObjectId, id_cmp, Objects, GraphRow, row_of, Side, Key, Entry, Painter, parents_of, parents_in, IsHistory, DropsBy, AllMarks, hides, is_hidden, State, Unmet, Open, Read, Hides, state_of, Becomes}
+use Rattle.gix_paint.proofs.Common.{stays, opens, covers, graph_in_use, Reads, Knows, by_row, by_store, IsQueued, IsWaiting, IsTidy, Meets, Reaches, id_total, id_apart}
 use Rattle.gix_paint.specs.declared.Side.TheVariants as side
-use Rattle.gix_paint.specs.declared.source.Key.{Key}
 use Rattle.gix_paint.specs.declared.source.LookedUp.{LookedUp}
-use Rattle.gix_paint.specs.declared.Entry.{Entry}
-use Rattle.gix_paint.specs.declared.Painter.{Painter}
 use Rattle.gix_revwalk.specs.Agreeing.{IsAgreeing}
-use Rattle.gix_revwalk.specs.Commits.{parents_of, parents_in}
-use Rattle.gix_paint.specs.Painting.{IsHistory, DropsBy}
-use Rattle.gix_paint.specs.Inside.Painter.{AllMarks, hides, is_hidden, hidden_of, State, Unmet, Open, Read, Hides, state_of, Becomes, stays, opens, covers, rows_in, graph_in_use, Reads, Knows, by_row, by_store, IsQueued, IsWaiting, IsTidy, Meets}
-use Rattle.gix_hash.specs.Reach.{Reaches}
-use Rattle.gix_hash.proofs.Ids.Membership.{id_total, id_apart}
+use Rattle.gix_paint.specs.Inside.Painter.{hidden_of, rows_in}
 
 -- the ids that are marked hidden, as a set
 pub contains-hidden : (marks : AllMarks) (i : ObjectId) → set.contains (hidden_of marks) i ≡ is_hidden marks i
@@ -27,11 +15,7 @@ unfolding hidden_of
 contains-hidden marks i =
     set.contains-retain (set.from_list (map_of.keys marks)) (is_hidden marks) i (λ x e. ap (is_hidden marks) (sym (id_apart i x e)))
     ∙ ap (λ b. b && is_hidden marks i) (set.contains-from_list id_total (map_of.keys marks) i ∙ sym (map_of.contains_key-keys marks i))
-    ∙ go (map_of.get marks i)
-  where
-    go : (o : Option Side) → (is_some o && hides o) ≡ hides o
-    go None = refl
-    go (Some m) = refl
+    ∙ (grind arith)
 
 pub hidden-empty : (marks : AllMarks) → marks ≡ map_of.empty → hidden_of marks ≡ set.empty
 hidden-empty marks e = set.same_set id_total id_apart _ _ (λ i. contains-hidden marks i ∙ ap (λ m. is_hidden m i) e ∙ ap hides (map_of.get-empty id_cmp i) ∙ sym (set.contains-empty id_cmp i))
@@ -50,37 +34,26 @@ pub reads_parents : (objects : Objects) (i : ObjectId) (ids : List ObjectId) →
 reads_parents objects i ids r = r.2 ∙ sym (ap parents_in r.1)
 
 -- states go on from the unmet to the hidden
-pub met_stays : {s : Side} {met queued : Type 0} {a b : State} → Becomes s met queued a b → a ≢ Unmet → b ≢ Unmet
-met_stays (stays f) n = n
-met_stays (opens v m q) n = λ e. cc
-met_stays (covers v m q) n = λ e. cc
+pub record Later (s : Side) (met queued : Type 0) (a b : State) : Type 0 where
+  pub met_stays : a ≢ Unmet → b ≢ Unmet
+  pub met_now : met → b ≢ Unmet
+  pub was_met : b ≢ Unmet → (a ≢ Unmet) ⊎ queued
+  pub was_read : b ≡ Read → a ≡ Read
+  pub hidden_stays : a ≡ Hides → b ≡ Hides
+  pub hidden_now : s ≡ side.Hidden → met → b ≡ Hides
+  pub was_hidden : b ≡ Hides → (a ≡ Hides) ⊎ ((s ≡ side.Hidden) × met × queued)
 
-pub met_now : {s : Side} {met queued : Type 0} {a b : State} → Becomes s met queued a b → met → b ≢ Unmet
-met_now (stays f) m = (f m).0
-met_now (opens v k q) m = λ e. cc
-met_now (covers v k q) m = λ e. cc
-
-pub hidden_stays : {s : Side} {met queued : Type 0} {a b : State} → Becomes s met queued a b → a ≡ Hides → b ≡ Hides
-hidden_stays (stays f) e = e
-hidden_stays (opens v m q) e = cc
-hidden_stays (covers v m q) e = refl
-
-pub hidden_now : {s : Side} {met queued : Type 0} {a b : State} → Becomes s met queued a b → s ≡ side.Hidden → met → b ≡ Hides
-hidden_now (stays f) e m = (f m).1 e
-hidden_now (opens v k q) e m = cc
-hidden_now (covers v k q) e m = refl
+pub later : {s : Side} {met queued : Type 0} {a b : State} → Becomes s met queued a b → Later s met queued a b
+later (stays f) = record { met_stays = λ n. n; met_now = λ m. (f m).0; was_met = λ n. inl n; was_read = λ e. e; hidden_stays = λ e. e; hidden_now = λ e m. (f m).1 e; was_hidden = λ e. inl e }
+later (opens v m q) = record { met_stays = λ n e. cc; met_now = λ k e. cc; was_met = λ n. inr q; was_read = λ e. cc; hidden_stays = λ e. cc; hidden_now = λ e k. cc; was_hidden = λ e. cc }
+later (covers v m q) = record { met_stays = λ n e. cc; met_now = λ k e. cc; was_met = λ n. inr q; was_read = λ e. cc; hidden_stays = λ e. refl; hidden_now = λ e k. refl; was_hidden = λ e. inr (v, m, q) }
 
 abbrev pub nobody : Side → ObjectId → Type 0
 nobody s i = ⊥
 
 -- a store is a history of the rows that agree with it
 pub own_history : (objects : Objects) (faulty : ObjectId → Type 0) (rows : List GraphRow) → IsAgreeing objects rows → IsHistory objects rows objects
-own_history objects faulty rows agrees = record {
-  agreeing = λ row m.
-      let a = agrees row m in
-      record { whole = record { commit = a.whole.commit; stored = a.whole.stored }; tree = a.tree; time = a.time; places = a.places; parents = a.parents; finite = a.finite };
-  read = λ i commit r. r;
-}
+own_history objects faulty rows agrees = record { agreeing = agrees; read = λ i commit r. r }
 
 -- what a store reads is the history's
 pub in_history : {objects history : Objects} {rows : List GraphRow} → IsHistory objects rows history → (i : ObjectId) (ids : List ObjectId) → Reads objects i ids → Reads history i ids
@@ -115,9 +88,6 @@ module _ {F : Type 0} (objects : F → Objects) (store : F) (rows : List GraphRo
     }
 
 module _ {F : Type 0} (objects : F → Objects) (store : F) (history : Objects) (rows : List GraphRow) (tips hidden_tips : List ObjectId) where
-  abbrev pub next : ObjectId → List ObjectId
-  next = parents_of history
-
   abbrev InUse : Painter F → Type 0
   InUse = RowsInUse objects store rows
 
@@ -127,26 +97,26 @@ module _ {F : Type 0} (objects : F → Objects) (store : F) (history : Objects) 
 
   -- an id that isn't hidden, if it has a row
   abbrev pub IsOutside : ObjectId → Type 0
-  IsOutside i = (row : GraphRow) → row_of rows i ≡ Some row → Reaches next hidden_tips i → ⊥
+  IsOutside i = (row : GraphRow) → row_of rows i ≡ Some row → Reaches (parents_of history) hidden_tips i → ⊥
 
   -- a visible id above which the rows aren't dropped
   abbrev pub IsBorder : ObjectId → Type 0
-  IsBorder i = Contains tips i ⊎ ((c : ObjectId) × Reaches next tips c × IsOutside c × Contains (next c) i)
+  IsBorder i = Contains tips i ⊎ ((c : ObjectId) × Reaches (parents_of history) tips c × IsOutside c × Contains (parents_of history c) i)
 
   -- what is known of an id by its state, while the parents of a busy one are still to be met
   abbrev pub Fact : (Side → ObjectId → Type 0) → Painter F → ObjectId → State → Type 0
   Fact busy p i Unmet = Unit {0}
-  Fact busy p i Open = Reaches next tips i × IsWaiting p side.Visible i × (InUse p → IsBorder i)
-  Fact busy p i Read = Reaches next tips i × (busy side.Visible i ⊎ ((c : ObjectId) → Contains (next i) c → state_of p c ≢ Unmet)) × (InUse p → IsOutside i)
-  Fact busy p i Hides = Reaches next hidden_tips i × (busy side.Hidden i ⊎ (IsWaiting p side.Hidden i ⊎ ((c : ObjectId) → Contains (next i) c → state_of p c ≡ Hides)))
+  Fact busy p i Open = Reaches (parents_of history) tips i × IsWaiting p side.Visible i × (InUse p → IsBorder i)
+  Fact busy p i Read = Reaches (parents_of history) tips i × (busy side.Visible i ⊎ ((c : ObjectId) → Contains (parents_of history i) c → state_of p c ≢ Unmet)) × (InUse p → IsOutside i)
+  Fact busy p i Hides = Reaches (parents_of history) hidden_tips i × (busy side.Hidden i ⊎ (IsWaiting p side.Hidden i ⊎ ((c : ObjectId) → Contains (parents_of history i) c → state_of p c ≡ Hides)))
 
   -- what holds where the rows agree
   pub record Stands (busy : Side → ObjectId → Type 0) (p : Painter F) : Type 0 where
     pub facts : (i : ObjectId) → Fact busy p i (state_of p i)
     pub tidy : IsTidy p
-    pub reached : (q : Key × Entry) → Contains p.queue q → Reaches next (starts_of q.1.side) q.1.id
+    pub reached : (q : Key × Entry) → Contains p.queue q → Reaches (parents_of history) (starts_of q.1.side) q.1.id
     pub waits : (q : Key × Entry) → Contains p.queue q → q.1.side ≡ side.Hidden → state_of p q.1.id ≡ Hides
-    pub dropped : (InUse p → ⊥) → DropsBy next rows tips hidden_tips
+    pub dropped : (InUse p → ⊥) → DropsBy (parents_of history) rows tips hidden_tips
     pub read : (i : ObjectId) → row_of rows i ≡ None → state_of p i ≢ Unmet → (ids : List ObjectId) × Reads (objects store) i ids
 
   -- the tips and the hidden tips were met
@@ -156,46 +126,37 @@ module _ {F : Type 0} (objects : F → Objects) (store : F) (history : Objects) 
 
   module _ {s : Side} {ids : List ObjectId} {p new : Painter F} (m : Meets objects s ids p new) where
     pub started_meets : IsStarted p → IsStarted new
-    started_meets h = record { shown = λ i c. met_stays (m.states i) (h.shown i c); hidden = λ i c. hidden_stays (m.states i) (h.hidden i c) }
+    started_meets h = record { shown = λ i c. (later (m.states i)).met_stays (h.shown i c); hidden = λ i c. (later (m.states i)).hidden_stays (h.hidden i c) }
 
     waiting_stays : (t : Side) (i : ObjectId) → IsWaiting p t i → IsWaiting new t i
     waiting_stays t i w = (w.0, m.keeps w.0 w.1, w.2, w.3)
 
     -- what is met is known, and nobody is busy any more
     pub stands_meets : (busy : Side → ObjectId → Type 0) → IsSafe objects store rows p → Stands busy p
-        → ((i : ObjectId) → Contains ids i → Reaches next (starts_of s) i)
+        → ((i : ObjectId) → Contains ids i → Reaches (parents_of history) (starts_of s) i)
         → (s ≡ side.Visible → InUse p → (i : ObjectId) → Contains ids i → IsBorder i)
-        → ((t : Side) (i : ObjectId) → busy t i → (t ≡ s) × ((c : ObjectId) → Contains (next i) c → Contains ids c))
+        → ((t : Side) (i : ObjectId) → busy t i → (t ≡ s) × ((c : ObjectId) → Contains (parents_of history i) c → Contains ids c))
         → Stands nobody new
     stands_meets busy safe h reach border done = record {
       facts = λ i. fact i (m.states i) (h.facts i);
       tidy = m.tidies h.tidy;
-      reached = λ q c. ⊎_elim (λ o. h.reached q o) (λ a. subst (λ t. Reaches next (starts_of t) q.1.id) (sym a.1) (reach q.1.id a.0)) (m.adds q c);
-      waits = λ q c e. ⊎_elim (λ o. hidden_stays (m.states q.1.id) (h.waits q o e)) (λ a. hidden_now (m.states q.1.id) (sym a.1 ∙ e) a.0) (m.adds q c);
+      reached = λ q c. ⊎_elim (λ o. h.reached q o) (λ a. subst (λ t. Reaches (parents_of history) (starts_of t) q.1.id) (sym a.1) (reach q.1.id a.0)) (m.adds q c);
+      waits = λ q c e. ⊎_elim (λ o. (later (m.states q.1.id)).hidden_stays (h.waits q o e)) (λ a. (later (m.states q.1.id)).hidden_now (sym a.1 ∙ e) a.0) (m.adds q c);
       dropped = λ n. h.dropped (λ r. n (ap rows_in m.graph_stays ∙ r));
-      read = λ i e n. was_read i e (m.states i) n refl;
+      read = λ i e n. ⊎_elim (h.read i e) (whole i e) ((later (m.states i)).was_met n);
     }
       where
         fact : (i : ObjectId) {a b : State} → Becomes s (Contains ids i) (IsWaiting new s i) a b → Fact busy p i a → Fact nobody new i b
         fact i (stays {s = Unmet} f) k = tt
         fact i (stays {s = Open} f) k = (k.0, waiting_stays side.Visible i k.1, λ r. k.2 (still_stand objects store rows m r))
         fact i (stays {s = Read} f) k =
-            (k.0, inr (⊎_elim (λ b c n. met_now (m.states c) ((done side.Visible i b).1 c n)) (λ all c n. met_stays (m.states c) (all c n)) k.1), λ r. k.2 (still_stand objects store rows m r))
+            (k.0, inr (⊎_elim (λ b c n. (later (m.states c)).met_now ((done side.Visible i b).1 c n)) (λ all c n. (later (m.states c)).met_stays (all c n)) k.1), λ r. k.2 (still_stand objects store rows m r))
         fact i (stays {s = Hides} f) k =
-            (k.0, inr (⊎_elim (λ b. inr (λ c n. hidden_now (m.states c) (sym (done side.Hidden i b).0) ((done side.Hidden i b).1 c n))) (λ o. ⊎_elim (λ w. inl (waiting_stays side.Hidden i w)) (λ all. inr (λ c n. hidden_stays (m.states c) (all c n))) o) k.1))
-        fact i (opens v c w) k = (subst (λ t. Reaches next (starts_of t) i) v (reach i c), subst (λ t. IsWaiting new t i) v w, λ r. border v (still_stand objects store rows m r) i c)
-        fact i (covers v c w) k = (subst (λ t. Reaches next (starts_of t) i) v (reach i c), inr (inl (subst (λ t. IsWaiting new t i) v w)))
+            (k.0, inr (⊎_elim (λ b. inr (λ c n. (later (m.states c)).hidden_now (sym (done side.Hidden i b).0) ((done side.Hidden i b).1 c n))) (λ o. ⊎_elim (λ w. inl (waiting_stays side.Hidden i w)) (λ all. inr (λ c n. (later (m.states c)).hidden_stays (all c n))) o) k.1))
+        fact i (opens v c w) k = (subst (λ t. Reaches (parents_of history) (starts_of t) i) v (reach i c), subst (λ t. IsWaiting new t i) v w, λ r. border v (still_stand objects store rows m r) i c)
+        fact i (covers v c w) k = (subst (λ t. Reaches (parents_of history) (starts_of t) i) v (reach i c), inr (inl (subst (λ t. IsWaiting new t i) v w)))
 
         whole : (i : ObjectId) → row_of rows i ≡ None → IsWaiting new s i → (ids : List ObjectId) × Reads (objects store) i ids
         whole i e w =
             let k = (safe_meets objects store rows m safe).read w.0 w.1 (ap (row_of rows) w.3 ∙ e) in
             (k.0, subst (λ j. Reads (objects store) j k.0) w.3 k.1)
-
-        was_read : (i : ObjectId) → row_of rows i ≡ None → {a b : State} → Becomes s (Contains ids i) (IsWaiting new s i) a b → b ≢ Unmet → a ≡ state_of p i → (ids : List ObjectId) × Reads (objects store) i ids
-        was_read i e (stays f) n o = h.read i e (λ u. n (o ∙ u))
-        was_read i e (opens v c w) n o = whole i e w
-        was_read i e (covers v c w) n o = whole i e w
-
-  -- what became of an id by the turn of an entry: a visible one that was open is read now
-  abbrev pub IsTurned : Entry → ObjectId → State → State → Type 0
-  IsTurned entry i a b = (b ≡ a) ⊎ ((entry.side ≡ side.Visible) × (i ≡ entry.id) × (a ≡ Open) × (b ≡ Read))

@@ -1,35 +1,21 @@
 -- What an entry's turn keeps of what holds while hidden tips are painted.
-use Rattle.std.specs.Prelude.{◌≡◌, ◌≢◌, ◌⊎◌, ◌<◌, ◌≤◌, ℕ, List, [], ◌∷◌, ◌++◌, Bool, true, false, cond, Option, Some, None, Contains, IsSome, suc}
+use Rattle.std.proofs.Common.{◌≡◌, ◌≢◌, ◌⊎◌, ◌<◌, ◌≤◌, ℕ, List, [], ◌∷◌, ◌++◌, true, Some, None, Contains, IsSome, suc, refl, sym, ap, subst, inl, inr, ⊎_elim, ◌∙◌, arith}
 use Rattle.std.specs.List.{list_any}
 use Rattle.std.specs.Ordering.{eq_by_cmp}
-use Rattle.std.proofs.Common.{refl, sym, ap, subst, inl, inr, ⊎_elim, ◌∙◌, arith}
 use Rattle.std.proofs.lemmas.Bool.{or_left}
-use Rattle.std.proofs.lemmas.List.Elements.{Contains-append_left, Contains-append_right}
-use Rattle.std.proofs.lemmas.List.Sorted.{Contains-permutation, IsPermutation-sym}
+use Rattle.gix_paint.proofs.Common.{Contains-append_left, Contains-append_right, Contains-permutation, IsPermutation-sym, ObjectId, id_cmp, Objects, GraphRow, row_of, cmp-value, Side, Told, Infinite, Key, Entry, Painter, DropsBy}
+use Rattle.gix_paint.proofs.Common.{generation_in, IsHistory, Open, Hides, state_of, graph_in_use, Knows, by_row, by_store, IsWaiting, IsSettled, is_told, Pops, parents_of, Reaches, start, step, ids_at, id_total, id_apart, same_itself}
+use Rattle.gix_paint.proofs.Common.{Contains-here}
 use Rattle.std.specs.BinaryHeap.{IsUpperBound}
 use Rattle.std.specs.FinSet as set
-use Rattle.gix_hash.specs.declared.ObjectId.{ObjectId}
-use Rattle.gix_hash.specs.Id.{id_cmp}
-use Rattle.gix_object.specs.Object.{Objects}
 use Rattle.gix_revwalk.specs.PriorityQueue.{keys}
-use Rattle.gix_commitgraph.specs.Rows.{GraphRow, row_of}
-use Rattle.gix_paint.specs.contracts.source.KeyOrd.TheImpl.{cmp-value}
-use Rattle.gix_paint.specs.declared.Side.{Side}
 use Rattle.gix_paint.specs.declared.Side.TheVariants as side
-use Rattle.gix_paint.specs.declared.source.Generation.TheVariants.{Told, Infinite}
-use Rattle.gix_paint.specs.declared.source.Key.{Key}
-use Rattle.gix_paint.specs.declared.Entry.{Entry}
-use Rattle.gix_paint.specs.declared.Painter.{Painter}
-use Rattle.gix_paint.specs.Painting.{DropsBy, generation_in, IsHistory}
-use Rattle.gix_paint.specs.Inside.Painter.{hides, Open, Read, Hides, state_by, state_of, graph_in_use, by_row, by_store, IsQueued, IsWaiting, IsSettled, is_told, Pops}
-use Rattle.gix_paint.specs.Inside.Painter as painter
-use Rattle.gix_hash.specs.Reach.{Reaches, start, step}
-use Rattle.gix_revwalk.specs.RowParents.{ids_at}
-use Rattle.gix_paint.proofs.Invariant.{nobody, next, starts_of, RowsInUse, IsSafe, IsOutside, Fact, Stands, IsStarted}
-use Rattle.gix_paint.proofs.Keys.{told_below_top}
+use Rattle.gix_paint.specs.declared.source.LookedUp.{LookedUp}
+use Rattle.gix_paint.proofs.Invariant.{nobody, starts_of, RowsInUse, IsSafe, IsOutside, Fact, Stands, IsStarted}
+use Rattle.gix_paint.proofs.Keys.{told_below_top, IsBelow}
 use Rattle.gix_revwalk.proofs.ReadsWhole.{row_stands, parent_below, corrupt_row}
-use Rattle.gix_paint.proofs.Search.{done_or_waits, told_below}
-use Rattle.gix_hash.proofs.Ids.Membership.{id_total, id_apart, same_itself, Contains-here}
+use Rattle.gix_revwalk.proofs.Reached.{done_or_waits}
+use Rattle.gix_paint.proofs.Search.{told_below}
 
 -- a set that isn't empty has a member
 pub member_of : (s : set.FinSet id_cmp) → (set.len s ≡ 0 → ⊥) → (i : ObjectId) × (set.contains s i ≡ true)
@@ -41,140 +27,103 @@ member_of s some = go (set.items s) refl
         absurd (some (ap set.len none ∙ set.len-empty id_cmp))
     go (x ∷ items) e = (x, set.contains-items s x ∙ ap (list_any (eq_by_cmp id_cmp x)) e ∙ or_left _ _ (same_itself x))
 
-pub open_read : (o : Option Side) → state_by o true ≡ Open → state_by o false ≡ Read
-open_read None e = cc
-open_read (Some m) e = go (hides (Some m)) e
-  where
-    go : (b : Bool) → cond b Hides Open ≡ Open → cond b Hides Read ≡ Read
-    go true e = cc
-    go false e = refl
+abbrev pub HasGeneration : List GraphRow → ObjectId → ℕ → Type 0
+HasGeneration rows i n = (row : GraphRow) × (row_of rows i ≡ Some row) × (row.generation ≡ n)
 
-pub shut : (o : Option Side) → state_by o false ≢ Open
-shut None = λ e. cc
-shut (Some m) = go (hides (Some m))
-  where
-    go : (b : Bool) → cond b Hides Read ≢ Open
-    go true = λ e. cc
-    go false = λ e. cc
+pub one_generation : (rows : List GraphRow) (i : ObjectId) {m : ℕ} {row : GraphRow} → HasGeneration rows i m → row_of rows i ≡ Some row → m ≡ row.generation
+one_generation rows i {row = row} a e = let same : a.0 ≡ row = (let s : Some a.0 ≡ Some row = sym a.1 ∙ e in cc) in sym a.2 ∙ ap (λ row. row.generation) same
+
+-- the key of an id in the queue is its row's generation
+pub told_key : {objects : Objects} {rows : List GraphRow} {i : ObjectId} {m : ℕ} {known : LookedUp} → Knows objects rows i known → HasGeneration rows i m → known.key.generation ≡ Told m
+told_key (by_row {row = row} e k t n) g = k ∙ ap (λ x. Told x.generation) (let s : Some row ≡ Some g.0 = sym e ∙ g.1 in let same : row ≡ g.0 = cc in same) ∙ ap Told g.2
+told_key (by_store e k t n d) g = let bad : None ≡ Some g.0 = sym e ∙ g.1 in cc
+
+pub told_row : {objects : Objects} {rows : List GraphRow} {i : ObjectId} {known : LookedUp} → Knows objects rows i known → (n : ℕ) → known.key.generation ≡ Told n → HasGeneration rows i n
+told_row (by_row {row = row} e k t m) n f = (row, e, (let s : Told row.generation ≡ Told n = sym k ∙ f in cc))
+told_row (by_store e k t m d) n f = let bad : Infinite ≡ Told n = sym k ∙ f in cc
 
 pub popped_there : {F : Type 0} {old new : Painter F} {top : Key × Entry} → Pops cmp-value.it old top new → Contains old.queue top
 popped_there {new = new} {top = top} pops = Contains-permutation _ _ top (IsPermutation-sym _ _ pops.queue) (Contains-here top new.queue)
 
 module _ {F : Type 0} (objects : F → Objects) (store : F) (history : Objects) (rows : List GraphRow) (tips hidden_tips : List ObjectId) where
-  abbrev There : ObjectId → List ObjectId
-  There = next objects store history rows tips hidden_tips
-
-  pub reaches_either : (s : Side) (i : ObjectId) → Reaches There (starts_of objects store history rows tips hidden_tips s) i → Reaches There (tips ++ hidden_tips) i
+  pub reaches_either : (s : Side) (i : ObjectId) → Reaches (parents_of history) (starts_of objects store history rows tips hidden_tips s) i → Reaches (parents_of history) (tips ++ hidden_tips) i
   reaches_either side.Visible i (start m) = start (Contains-append_left tips hidden_tips i m)
   reaches_either side.Hidden i (start m) = start (Contains-append_right tips hidden_tips i m)
   reaches_either s i (step {c = c} q m) = step (reaches_either s c q) m
 
   -- a hidden id all of whose parents are
   abbrev IsDone : Painter F → ObjectId → Type 0
-  IsDone p i = (state_of p i ≡ Hides) × ((c : ObjectId) → Contains (There i) c → state_of p c ≡ Hides)
+  IsDone p i = (state_of p i ≡ Hides) × ((c : ObjectId) → Contains (parents_of history i) c → state_of p c ≡ Hides)
 
   hidden_so : (p : Painter F) → Stands objects store history rows tips hidden_tips nobody p → (i : ObjectId) → state_of p i ≡ Hides → IsDone p i ⊎ IsWaiting p side.Hidden i
   hidden_so p h i e =
       let f : Fact objects store history rows tips hidden_tips nobody p i Hides = subst (Fact objects store history rows tips hidden_tips nobody p i) e (h.facts i) in
       ⊎_elim (λ b. absurd b) (λ o. ⊎_elim (λ w. inr w) (λ all. inl (e, all)) o) f.1
 
-  pub hidden_from : (p : Painter F) → Stands objects store history rows tips hidden_tips nobody p → IsStarted objects store history rows tips hidden_tips p → (i : ObjectId) → Reaches There hidden_tips i
-      → IsDone p i ⊎ ((q : ObjectId) × IsWaiting p side.Hidden q × Reaches There (q ∷ []) i)
-  hidden_from p h started = done_or_waits There hidden_tips (IsWaiting p side.Hidden) (IsDone p) (λ i m. hidden_so p h i (started.hidden i m)) (λ c i d m. hidden_so p h i (d.1 i m))
-
-  abbrev pub HasGeneration : ObjectId → ℕ → Type 0
-  HasGeneration i n = (row : GraphRow) × (row_of rows i ≡ Some row) × (row.generation ≡ n)
-
-  pub one_generation : (i : ObjectId) (m n : ℕ) → HasGeneration i m → HasGeneration i n → m ≡ n
-  one_generation i m n a b = let same : a.0 ≡ b.0 = (let s : Some a.0 ≡ Some b.0 = sym a.1 ∙ b.1 in cc) in sym a.2 ∙ ap (λ row. row.generation) same ∙ b.2
+  pub hidden_from : (p : Painter F) → Stands objects store history rows tips hidden_tips nobody p → IsStarted objects store history rows tips hidden_tips p → (i : ObjectId) → Reaches (parents_of history) hidden_tips i
+      → IsDone p i ⊎ ((q : ObjectId) × IsWaiting p side.Hidden q × Reaches (parents_of history) (q ∷ []) i)
+  hidden_from p h started = done_or_waits (parents_of history) hidden_tips (IsWaiting p side.Hidden) (IsDone p) (λ i m. hidden_so p h i (started.hidden i m)) (λ c i d m. hidden_so p h i (d.1 i m))
 
   module _ (known : IsHistory (objects store) rows history) where
-    pub falls : (c i : ObjectId) (n : ℕ) → HasGeneration c n → Contains (There c) i → (m : ℕ) × HasGeneration i m × (m < n)
+    pub falls : (c i : ObjectId) (n : ℕ) → HasGeneration rows c n → Contains (parents_of history c) i → (m : ℕ) × HasGeneration rows i m × (m < n)
     falls c i n h m =
         let p : (r : GraphRow) × (row_of rows i ≡ Some r) × (r.generation < h.0.generation) = parent_below history rows known.agreeing c h.0 i h.1 m in
         (p.0.generation, (p.0, p.1, refl), (let e : h.0.generation ≡ n = h.2 in let l : p.0.generation < h.0.generation = p.2 in omega arith))
 
-    pub below : (q : ObjectId) (n : ℕ) → HasGeneration q n → (i : ObjectId) → Reaches There (q ∷ []) i → (m : ℕ) × HasGeneration i m × ((q ≡ i) ⊎ (m < n))
-    below = told_below There HasGeneration one_generation falls
+    pub below : (q : ObjectId) (n : ℕ) → HasGeneration rows q n → (i : ObjectId) → Reaches (parents_of history) (q ∷ []) i → (m : ℕ) × HasGeneration rows i m × (m ≤ n) × ((q ≡ i) ⊎ (m < n))
+    below = told_below (parents_of history) (HasGeneration rows) falls
 
     -- before an entry's turn
-    module _ (w : Painter F) (safe : IsSafe objects store rows w) (h : Stands objects store history rows tips hidden_tips nobody w) (started : IsStarted objects store history rows tips hidden_tips w) where
-      pub key_of : RowsInUse objects store rows w → (q : Key × Entry) → Contains w.queue q → (row : GraphRow) → row_of rows q.1.id ≡ Some row → q.0.generation ≡ Told row.generation
-      key_of r q c row e = go (safe.queued r q c)
-        where
-          go : IsQueued (objects store) rows q → q.0.generation ≡ Told row.generation
-          go (painter.by_row {row = other} f k t n) = let same : other ≡ row = (let s : Some other ≡ Some row = sym f ∙ e in cc) in k ∙ ap (λ x. Told x.generation) same
-          go (painter.by_store f k t m d) = let bad : None ≡ Some row = sym f ∙ e in cc
+    module _ (w : Painter F) (safe : IsSafe objects store rows w) where
+      -- what a waiting id reaches has a row, and isn't above what waits
+      pub waits_above : RowsInUse objects store rows w → (n : ℕ) → IsBelow w n → (s : Side) (q i : ObjectId) → IsWaiting w s q → Reaches (parents_of history) (q ∷ []) i → (m : ℕ) × HasGeneration rows i m × (m ≤ n) × ((q ≡ i) ⊎ (m < n))
+      waits_above r n low s q i waits path =
+          let k : (m : ℕ) × (waits.0.0.generation ≡ Told m) × (m ≤ n) = low waits.0 waits.1 in
+          let under : (m : ℕ) × HasGeneration rows i m × (m ≤ k.0) × ((q ≡ i) ⊎ (m < k.0)) = below q k.0 (subst (λ j. HasGeneration rows j k.0) waits.3 (told_row (safe.queued r waits.0 waits.1) k.0 k.1)) i path in
+          let most : k.0 ≤ n = k.2 in
+          (under.0, under.1, (let le : under.0 ≤ k.0 = under.2 in omega arith), ⊎_elim (λ e. inl e) (λ l. inr (let lt : under.0 < k.0 = l in omega arith)) under.3)
 
-      pub row_told : RowsInUse objects store rows w → (q : Key × Entry) → Contains w.queue q → (n : ℕ) → q.0.generation ≡ Told n → HasGeneration q.1.id n
-      row_told r q c n e = go (safe.queued r q c)
-        where
-          go : IsQueued (objects store) rows q → HasGeneration q.1.id n
-          go (painter.by_row {row = row} f k t m) = (row, f, (let s : Told row.generation ≡ Told n = sym k ∙ e in cc))
-          go (painter.by_store f k t m d) = let bad : Infinite ≡ Told n = sym k ∙ e in cc
+      module _ (h : Stands objects store history rows tips hidden_tips nobody w) (started : IsStarted objects store history rows tips hidden_tips w) (r : RowsInUse objects store rows w)
+          (top : Key × Entry) (there : Contains w.queue top) (bound : IsUpperBound cmp-value.it top.0 (keys w.queue)) where
+        -- nothing that waits is above the row of the entry that is taken
+        pub all_below : (row : GraphRow) → row_of rows top.1.id ≡ Some row → IsBelow w row.generation
+        all_below row e = told_below_top top.0 w.queue bound row.generation (told_key (safe.queued r top there) (row, e, refl))
 
-      -- what waits below a key that has a row's generation has a row of its own
-      waits_below : RowsInUse objects store rows w → (top : Key × Entry) → IsUpperBound cmp-value.it top.0 (keys w.queue) → (n : ℕ) → top.0.generation ≡ Told n → (s : Side) (i : ObjectId) → IsWaiting w s i → (m : ℕ) × HasGeneration i m × (m ≤ n)
-      waits_below r top bound n e s i q =
-          let k : (m : ℕ) × (q.0.0.generation ≡ Told m) × (m ≤ n) = told_below_top top.0 w.queue bound n e q.0 q.1 in
-          (k.0, subst (λ j. HasGeneration j k.0) q.3 (row_told r q.0 q.1 k.0 k.1), k.2)
+        -- no id is taken that an unread id above it would hide
+        pub taken_outside : state_of w top.1.id ≢ Hides → IsOutside objects store history rows tips hidden_tips top.1.id
+        taken_outside unhidden row e hidden =
+            ⊎_elim (λ d. unhidden d.0) (λ q.
+            let under = waits_above r row.generation (all_below row e) side.Hidden q.0 top.1.id q.1 q.2 in
+            let same : under.0 ≡ row.generation = one_generation rows top.1.id under.1 e in
+            ⊎_elim (λ s. unhidden (ap (state_of w) (sym (q.1.3 ∙ s)) ∙ h.waits q.1.0 q.1.1 q.1.2)) (λ l. absurd (let lt : under.0 < row.generation = l in omega arith)) under.3)
+            (hidden_from w h started top.1.id hidden)
 
-      -- no id is taken that an unread id above it would hide
-      pub taken_outside : RowsInUse objects store rows w → (top : Key × Entry) → Contains w.queue top → IsUpperBound cmp-value.it top.0 (keys w.queue) → state_of w top.1.id ≢ Hides → IsOutside objects store history rows tips hidden_tips top.1.id
-      taken_outside r top there bound unhidden row e hidden =
-          ⊎_elim (λ d. unhidden d.0) (λ q.
-          let told : top.0.generation ≡ Told row.generation = key_of r top there row e in
-          let above : (m : ℕ) × HasGeneration q.0 m × (m ≤ row.generation) = waits_below r top bound row.generation told side.Hidden q.0 q.1 in
-          let under : (m : ℕ) × HasGeneration top.1.id m × ((q.0 ≡ top.1.id) ⊎ (m < above.0)) = below q.0 above.0 above.1 top.1.id q.2 in
-          let same : under.0 ≡ row.generation = one_generation top.1.id under.0 row.generation under.1 (row, e, refl) in
-          ⊎_elim (λ s. unhidden (ap (state_of w) (sym (q.1.3 ∙ s)) ∙ h.waits q.1.0 q.1.1 q.1.2)) (λ l. let le : above.0 ≤ row.generation = above.2 in absurd (omega arith)) under.2)
-          (hidden_from w h started top.1.id hidden)
+        -- rows are dropped for the row of a greatest key, while an open id waits below
+        pub drop_reason : IsSome (graph_in_use w.source) → (IsSettled w → ⊥) → (row : GraphRow) → row_of rows top.1.id ≡ Some row → ids_at rows row.parents ≡ None → DropsBy (parents_of history) rows tips hidden_tips
+        drop_reason graph unsettled row e corrupt =
+            let x : (i : ObjectId) × (set.contains w.frontier i ≡ true) = member_of w.frontier (λ none. unsettled (inr (graph, none, λ q c. ap is_told (all_below row e q c).1))) in
+            let waits : state_of w x.0 ≡ Open = h.tidy x.0 x.1 in
+            let fact : Fact objects store history rows tips hidden_tips nobody w x.0 Open = subst (Fact objects store history rows tips hidden_tips nobody w x.0) waits (h.facts x.0) in
+            let low : (m : ℕ) × HasGeneration rows x.0 m × (m ≤ row.generation) × ((x.0 ≡ x.0) ⊎ (m < row.generation)) = waits_above r row.generation (all_below row e) side.Visible x.0 x.0 fact.1 (start (Contains-here x.0 [])) in
+            let stands : Contains rows row × (top.1.id ≡ row.id) = row_stands rows top.1.id row e in
+            record {
+              row = row;
+              present = ap (row_of rows) (sym stands.1) ∙ e;
+              corrupt = corrupt_row history rows known.agreeing row stands.0 corrupt;
+              reached = subst (Reaches (parents_of history) (tips ++ hidden_tips)) stands.1 (reaches_either top.1.side top.1.id (h.reached top there));
+              bound = x.0;
+              no_deeper = record {
+                at_boundary = ⊎_elim (λ t. inl t) (λ b. inr (b.0, b.1, (λ hidden. let k = over x.0 waits b.0 hidden b.3 in b.2 k.1.0 k.1.1 hidden), b.3)) (fact.2 r);
+                no_tip = λ m. let bad : Open ≡ Hides = sym waits ∙ started.hidden x.0 m in cc;
+                below = under_row x.0 (low.0, low.1, low.2);
+                children_below = λ c reached m. under_row c (over x.0 waits c reached m);
+              };
+            }
+          where
+            under_row : (c : ObjectId) → (m : ℕ) × HasGeneration rows c m × (m ≤ row.generation) → generation_in (row_of rows c) < suc row.generation
+            under_row c k = let told_as : generation_in (row_of rows c) ≡ k.0 = ap generation_in k.1.1 ∙ k.1.2 in let le : k.0 ≤ row.generation = k.2 in omega arith
 
-      -- rows are dropped for the row of a greatest key, while an open id waits below
-      pub drop_reason : RowsInUse objects store rows w → IsSome (graph_in_use w.source) → (top : Key × Entry) → Contains w.queue top → IsUpperBound cmp-value.it top.0 (keys w.queue) → (IsSettled w → ⊥) → (row : GraphRow) → row_of rows top.1.id ≡ Some row → ids_at rows row.parents ≡ None
-          → DropsBy There rows tips hidden_tips
-      drop_reason r graph top there bound unsettled row e corrupt =
-          let told : top.0.generation ≡ Told row.generation = key_of r top there row e in
-          let x : (i : ObjectId) × (set.contains w.frontier i ≡ true) = member_of w.frontier (λ none. unsettled (inr (graph, none, λ q c. ap is_told (told_below_top top.0 w.queue bound row.generation told q c).1))) in
-          let waits : state_of w x.0 ≡ Open = h.tidy x.0 x.1 in
-          let fact : Fact objects store history rows tips hidden_tips nobody w x.0 Open = subst (Fact objects store history rows tips hidden_tips nobody w x.0) waits (h.facts x.0) in
-          let low : (m : ℕ) × HasGeneration x.0 m × (m ≤ row.generation) = waits_below r top bound row.generation told side.Visible x.0 fact.1 in
-          let stands : Contains rows row × (top.1.id ≡ row.id) = row_stands rows top.1.id row e in
-          let told_as : generation_in (row_of rows x.0) ≡ low.0 = ap generation_in low.1.1 ∙ low.1.2 in
-          record {
-            row = row;
-            present = ap (row_of rows) (sym stands.1) ∙ e;
-            corrupt = corrupt_row history rows known.agreeing row stands.0 corrupt;
-            reached = subst (Reaches There (tips ++ hidden_tips)) stands.1 (reaches_either top.1.side top.1.id (h.reached top there));
-            bound = x.0;
-            no_deeper = record {
-              at_boundary = ⊎_elim (λ t. inl t) (λ b. inr (b.0, b.1, outside told x.0 waits b.0 b.2 b.3, b.3)) (fact.2 r);
-              no_tip = λ m. let bad : Open ≡ Hides = sym waits ∙ started.hidden x.0 m in cc;
-              below = let le : low.0 ≤ row.generation = low.2 in omega arith;
-              children_below = λ c reached m. child told x.0 waits c reached m;
-            };
-          }
-        where
-          -- a hidden commit over an open id waits, or is below what waits
-          child : top.0.generation ≡ Told row.generation → (x : ObjectId) → state_of w x ≡ Open → (c : ObjectId) → Reaches There hidden_tips c → Contains (There c) x → generation_in (row_of rows c) < suc row.generation
-          child told x waits c reached m =
-              ⊎_elim (λ d. let bad : Open ≡ Hides = sym waits ∙ d.1 x m in cc)
-              (λ q.
-              let above : (m : ℕ) × HasGeneration q.0 m × (m ≤ row.generation) = waits_below r top bound row.generation told side.Hidden q.0 q.1 in
-              let under : (m : ℕ) × HasGeneration c m × ((q.0 ≡ c) ⊎ (m < above.0)) = below q.0 above.0 above.1 c q.2 in
-              let told_as : generation_in (row_of rows c) ≡ under.0 = ap generation_in under.1.1 ∙ under.1.2 in
-              let le : above.0 ≤ row.generation = above.2 in
-              ⊎_elim (λ s. let same : under.0 ≡ above.0 = one_generation c under.0 above.0 under.1 (subst (λ j. HasGeneration j above.0) s above.1) in omega arith) (λ l. omega arith) under.2)
-              (hidden_from w h started c reached)
-
-          outside : top.0.generation ≡ Told row.generation → (x : ObjectId) → state_of w x ≡ Open → (c : ObjectId) → IsOutside objects store history rows tips hidden_tips c → Contains (There c) x → Reaches There hidden_tips c → ⊥
-          outside told x waits c out m hidden = go (row_of rows c) refl
-            where
-              go : (o : Option GraphRow) → row_of rows c ≡ o → ⊥
-              go (Some r) e = out r e hidden
-              go None e =
-                  ⊎_elim (λ d. let bad : Open ≡ Hides = sym waits ∙ d.1 x m in cc) (λ q.
-                  let above : (m : ℕ) × HasGeneration q.0 m × (m ≤ row.generation) = waits_below r top bound row.generation told side.Hidden q.0 q.1 in
-                  let under : (m : ℕ) × HasGeneration c m × ((q.0 ≡ c) ⊎ (m < above.0)) = below q.0 above.0 above.1 c q.2 in
-                  let bad : None ≡ Some under.1.0 = sym e ∙ under.1.1 in cc)
-                  (hidden_from w h started c hidden)
+            -- a hidden commit over an open id waits, or is below what waits
+            over : (x : ObjectId) → state_of w x ≡ Open → (c : ObjectId) → Reaches (parents_of history) hidden_tips c → Contains (parents_of history c) x → (m : ℕ) × HasGeneration rows c m × (m ≤ row.generation)
+            over x waits c reached m =
+                ⊎_elim (λ d. let bad : Open ≡ Hides = sym waits ∙ d.1 x m in cc) (λ q. let k = waits_above r row.generation (all_below row e) side.Hidden q.0 c q.1 q.2 in (k.0, k.1, k.2)) (hidden_from w h started c reached)

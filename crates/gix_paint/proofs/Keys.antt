@@ -1,35 +1,16 @@
 -- The order of the queue's keys: what a greatest key says of the others.
-use Rattle.std.specs.Prelude.{◌≡◌, ◌≤◌, ℕ, ℤ, List, [], ◌∷◌, true, false, Some, Contains, IsSome, slice_get}
+use Rattle.std.proofs.Common.{◌≡◌, ◌≤◌, ℕ, ℤ, List, [], ◌∷◌, true, false, Some, Contains, IsSome, slice_get, refl, sym, ap, subst, inr, ⊎_elim, ◌∙◌, arith, is_lt}
 use Rattle.std.specs.FinSet as set
-use Rattle.std.proofs.Common.{refl, sym, ap, subst, inr, ⊎_elim, ◌∙◌, arith}
+use Rattle.std.proofs.lemmas.Bool.Decides.{nat_tests}
 use Rattle.std.specs.BinaryHeap.{IsUpperBound}
-use Rattle.std.specs.Ordering.{is_lt, nat_cmp, int_cmp, ordering_then, ordering_reverse, is_le}
-use Rattle.std.specs.Cmp.{nat_cmp_total}
-use Rattle.std.proofs.lemmas.Map.Keys.{le_from_is_le}
-use Rattle.std.specs.declared.cmp.Ordering.{Ordering}
-use Rattle.std.specs.declared.cmp.Ordering.TheVariants.{Less, Equal, Greater}
-use Rattle.gix_paint.specs.contracts.source.KeyOrd.TheImpl.{cmp-value}
+use Rattle.gix_paint.proofs.Common.{cmp-value, Told, Infinite, Key, Entry, Painter, graph_in_use, IsSettled, is_told, Contains-here, Contains-cons_cases, no_member}
 use Rattle.gix_paint.specs.declared.source.Generation.{Generation}
-use Rattle.gix_paint.specs.declared.source.Generation.TheVariants.{Told, Infinite}
-use Rattle.gix_paint.specs.declared.source.Key.{Key}
-use Rattle.gix_paint.specs.declared.Entry.{Entry}
-use Rattle.gix_paint.specs.declared.Painter.{Painter}
-use Rattle.gix_paint.specs.Inside.Painter.{graph_in_use, IsSettled, is_told}
 use Rattle.gix_revwalk.specs.PriorityQueue.{keys}
-use Rattle.gix_hash.proofs.Ids.Membership.{Contains-here, Contains-cons_cases, no_member}
-
-not_above : (n m : ℕ) (o : Ordering) → is_lt (ordering_then (nat_cmp n m) o) ≡ false → m ≤ n
-not_above n m o h = le_from_is_le m n (go (nat_cmp m n) (nat_cmp_total.antisymm n m))
-  where
-    go : (r : Ordering) → nat_cmp n m ≡ ordering_reverse r → is_le r ≡ true
-    go Less e = refl
-    go Equal e = refl
-    go Greater e = let t : true ≡ false = ap (λ x. is_lt (ordering_then x o)) (sym e) ∙ h in cc
 
 generation_below : (g h : Generation) (s t : ℤ) → is_lt (cmp-value.it (record { generation = g; time = s }) (record { generation = h; time = t })) ≡ false → (n : ℕ) → g ≡ Told n → (m : ℕ) × (h ≡ Told m) × (m ≤ n)
 generation_below Infinite h s t e n k = cc
 generation_below (Told a) Infinite s t e n k = cc
-generation_below (Told a) (Told b) s t e n k = let same : a ≡ n = cc in (b, refl, (let le : b ≤ a = not_above a b (int_cmp s t) e in omega arith))
+generation_below (Told a) (Told b) s t e n k = let same : a ≡ n = cc in (b, refl, grind (arith, nat_tests))
 
 pub first_member : {X : Type 0} (xs : List X) (x : X) → slice_get xs 0 ≡ Some x → Contains xs x
 first_member [] x e = cc
@@ -40,6 +21,10 @@ pub told_below_top : {T : Type 0} (top : Key) (queue : List (Key × T)) → IsUp
 told_below_top top [] h n e q c = absurd (no_member q c)
 told_below_top top (x ∷ queue) h n e q c =
     ⊎_elim (λ s. subst (λ y. (m : ℕ) × (y.0.generation ≡ Told m) × (m ≤ n)) s (generation_below top.generation x.0.generation top.time x.0.time h.0 n e)) (λ t. told_below_top top queue h.1 n e q t) (Contains-cons_cases q x queue c)
+
+-- all that waits has a row, of no greater generation
+abbrev pub IsBelow : {F : Type 0} → Painter F → ℕ → Type 0
+IsBelow p n = (q : Key × Entry) → Contains p.queue q → (m : ℕ) × (q.0.generation ≡ Told m) × (m ≤ n)
 
 module _ {F : Type 0} (p : Painter F) where
   -- with a greatest key that has a row's generation, all that is queued has a row

@@ -1,4 +1,6 @@
--- A search from some starts: what is queued, what is done, and generations that fall.
+-- What most proofs use, to import from one place.
+mod Common
+-- Generations fall from a commit to its parents.
 pub mod Search
 -- A commit is read whole, or a fault exists at its id.
 pub mod WholeOrFault

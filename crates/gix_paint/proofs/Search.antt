@@ -1,30 +1,15 @@
--- A search from some starts, by what waits and what is done; and generations, which fall from a commit to its parents.
-use Rattle.std.specs.Prelude.{◌≡◌, ◌⊎◌, ◌<◌, ℕ, List, [], ◌∷◌, Contains}
-use Rattle.std.proofs.Common.{subst, inl, inr, ⊎_elim, arith}
-use Rattle.gix_hash.specs.declared.ObjectId.{ObjectId}
-use Rattle.gix_hash.specs.Reach.{Reaches, start, step}
-use Rattle.gix_hash.proofs.Ids.Membership.{Contains-here}
+-- Generations fall from a commit to its parents.
+use Rattle.std.proofs.Common.{◌≡◌, ◌⊎◌, ◌<◌, ◌≤◌, ℕ, List, [], ◌∷◌, Contains, subst, inl, inr, ⊎_elim, arith}
+use Rattle.gix_paint.proofs.Common.{ObjectId, Reaches, start, step}
 use Rattle.gix_hash.proofs.Lists.{only_member}
 
 module _ (next : ObjectId → List ObjectId) where
-  -- what is reached is done, or is reached from what waits
-  pub done_or_waits : (starts : List ObjectId) (Waits Done : ObjectId → Type 0)
-      → ((i : ObjectId) → Contains starts i → Done i ⊎ Waits i)
-      → ((c i : ObjectId) → Done c → Contains (next c) i → Done i ⊎ Waits i)
-      → (i : ObjectId) → Reaches next starts i → Done i ⊎ ((q : ObjectId) × Waits q × Reaches next (q ∷ []) i)
-  done_or_waits starts Waits Done begins goes i (start m) = ⊎_elim (λ d. inl d) (λ w. inr (i, w, start (Contains-here i []))) (begins i m)
-  done_or_waits starts Waits Done begins goes i (step {c = c} r m) =
-      ⊎_elim (λ d. ⊎_elim (λ e. inl e) (λ w. inr (i, w, start (Contains-here i []))) (goes c i d m))
-      (λ w. inr (w.0, w.1, step w.2 m))
-      (done_or_waits starts Waits Done begins goes c r)
-
   -- what an id that has a generation reaches has a generation, the same or a lesser one
-  pub told_below : (told : ObjectId → ℕ → Type 0)
-      → ((i : ObjectId) (m n : ℕ) → told i m → told i n → m ≡ n)
-      → ((c i : ObjectId) (n : ℕ) → told c n → Contains (next c) i → (m : ℕ) × told i m × (m < n))
-      → (q : ObjectId) (n : ℕ) → told q n → (i : ObjectId) → Reaches next (q ∷ []) i → (m : ℕ) × told i m × ((q ≡ i) ⊎ (m < n))
-  told_below told one falls q n t i (start m) = (n, subst (λ j. told j n) (only_member q i m) t, inl (only_member q i m))
-  told_below told one falls q n t i (step {c = c} r m) =
-      let above : (m : ℕ) × told c m × ((q ≡ c) ⊎ (m < n)) = told_below told one falls q n t c r in
+  pub told_below : (told : ObjectId → ℕ → Type 0) → ((c i : ObjectId) (n : ℕ) → told c n → Contains (next c) i → (m : ℕ) × told i m × (m < n))
+      → (q : ObjectId) (n : ℕ) → told q n → (i : ObjectId) → Reaches next (q ∷ []) i → (m : ℕ) × told i m × (m ≤ n) × ((q ≡ i) ⊎ (m < n))
+  told_below told falls q n t i (start m) = (n, subst (λ j. told j n) (only_member q i m) t, Rattle.std.proofs.Common.le_refl n, inl (only_member q i m))
+  told_below told falls q n t i (step {c = c} r m) =
+      let above : (m : ℕ) × told c m × (m ≤ n) × ((q ≡ c) ⊎ (m < n)) = told_below told falls q n t c r in
       let here : (k : ℕ) × told i k × (k < above.0) = falls c i above.0 above.1 m in
-      (here.0, here.1, inr (⊎_elim (λ e. let s : above.0 ≡ n = one c above.0 n above.1 (subst (λ j. told j n) e t) in omega arith) (λ l. omega arith) above.2))
+      let under : here.0 < n = (let most : above.0 ≤ n = above.2 in let less : here.0 < above.0 = here.2 in omega arith) in
+      (here.0, here.1, omega arith, inr under)

@@ -1,45 +1,53 @@
 -- A turn of the painting: an entry is taken, its commit is read, and its parents are met.
-use Rattle.std.specs.Borrow.{Bor}
-use Rattle.std.specs.Prelude.{◌≡◌, ◌≢◌, ◌⊎◌, List, Bool, true, false, not, ◌&&◌, Option, Some, None, Contains, IsSome}
-use Rattle.std.proofs.Common.{refl, sym, ap, subst, inl, inr, ⊎_elim, ◌∙◌}
-use Rattle.std.proofs.lemmas.List.Sorted.{Contains-permutation, IsPermutation-sym}
+use Rattle.std.proofs.Common.{Bor, ◌≡◌, ◌≢◌, ◌⊎◌, List, [], Bool, true, false, not, ◌&&◌, Option, Some, None, Contains, IsSome, refl, sym, ap, subst, inl, inr, ⊎_elim, ◌∙◌, arith}
+use Rattle.gix_paint.proofs.Common.{Contains-permutation, IsPermutation-sym, ObjectId, id_cmp, is_same, Objects, GraphRow, row_of, cmp-value, Side, Key, Entry, Painter, IsHistory, DropsBy, hides, State, Unmet, Open, Read, Hides}
+use Rattle.gix_paint.proofs.Common.{state_of, graph_in_use, Reads, by_row, by_store, drops, IsWaiting, IsSettled, GivesParents, brought, looked_up, Takes, is_turn, is_turn_on, frontier_without, Meets, TreatsEntry, skips, reads, Pops}
+use Rattle.gix_paint.proofs.Common.{parents_of, Reaches, step, ids_at, id_total, same_is, same_itself, Contains-there, Contains-cons_cases, no_member}
 use Rattle.std.specs.FinMap as map_of
 use Rattle.std.specs.FinSet as set
-use Rattle.gix_hash.specs.declared.ObjectId.{ObjectId}
-use Rattle.gix_hash.specs.Id.{is_same}
-use Rattle.gix_object.specs.Object.{Objects}
-use Rattle.gix_commitgraph.specs.Rows.{GraphRow, row_of}
-use Rattle.gix_paint.specs.contracts.source.KeyOrd.TheImpl.{cmp-value}
-use Rattle.gix_paint.specs.declared.Side.{Side}
 use Rattle.gix_paint.specs.declared.Side.TheVariants as side
-use Rattle.gix_paint.specs.declared.source.Key.{Key}
-use Rattle.gix_paint.specs.declared.Entry.{Entry}
-use Rattle.gix_paint.specs.declared.Painter.{Painter}
-use Rattle.gix_paint.specs.Painting.{IsHistory, DropsBy}
-use Rattle.gix_paint.specs.Inside.Painter.{State, Unmet, Open, Read, Hides, state_by, state_of, rows_in, graph_in_use, Reads, by_row, by_store, drops, IsWaiting, IsSettled, GivesParents, brought, looked_up, Takes, is_turn, is_turn_on, frontier_without, TreatsEntry, skips, reads, Pops}
-use Rattle.gix_hash.specs.Reach.{Reaches, step}
-use Rattle.gix_revwalk.specs.RowParents.{ids_at}
-use Rattle.gix_paint.proofs.Invariant.{in_history, reads_parents, nobody, next, starts_of, RowsInUse, IsSafe, IsOutside, Fact, Stands, IsStarted, stands_meets, safe_meets, started_meets}
-use Rattle.gix_paint.proofs.KeptByTurn.{popped_there, open_read, shut, taken_outside, drop_reason}
+use Rattle.gix_paint.specs.Inside.Painter.{rows_in}
+use Rattle.gix_paint.proofs.Invariant.{in_history, reads_parents, nobody, starts_of, RowsInUse, IsSafe, IsOutside, Fact, Stands, IsStarted, stands_meets, safe_meets, started_meets}
+use Rattle.gix_paint.proofs.KeptByTurn.{popped_there, taken_outside, drop_reason}
 use Rattle.gix_revwalk.proofs.ReadsWhole.{row_parents}
-use Rattle.gix_hash.proofs.Ids.Membership.{id_total, same_is, same_itself, Contains-there, Contains-cons_cases}
+use Rattle.gix_paint.proofs.Meets.{meets_none}
 
 -- what an entry's turn makes of an id: a visible one that was open is read
 abbrev pub IsTurned : Bool → Side → Type 0 → State → State → Type 0
 IsTurned turn on here a b = (b ≡ a) ⊎ ((turn ≡ true) × (on ≡ side.Visible) × here × (a ≡ Open) × (b ≡ Read))
 
--- the rows that are in use after parents were read
-pub given_graph : {objects : Objects} {old new : Option (Bor (List GraphRow))} {entry : Entry} {ids : List ObjectId} → GivesParents objects old entry ids new
-    → (new ≡ old) ⊎ ((new ≡ None) × (row : GraphRow) × (row_of (rows_in old) entry.id ≡ Some row) × (ids_at (rows_in old) row.parents ≡ None))
+-- the rows that are in use after the parents of an id were read: the same, or none for its corrupt row
+abbrev pub IsReread : Option (Bor (List GraphRow)) → ObjectId → Option (Bor (List GraphRow)) → Type 0
+IsReread old i new = (new ≡ old) ⊎ ((new ≡ None) × (row : GraphRow) × (row_of (rows_in old) i ≡ Some row) × (ids_at (rows_in old) row.parents ≡ None))
+
+pub given_graph : {objects : Objects} {old new : Option (Bor (List GraphRow))} {entry : Entry} {ids : List ObjectId} → GivesParents objects old entry ids new → IsReread old entry.id new
 given_graph (brought e) = inl refl
 given_graph (looked_up n (by_row e f)) = inl refl
 given_graph (looked_up n (by_store e r)) = inl refl
 given_graph (looked_up n (drops {row = row} e f r)) = inr (refl, row, e, f)
 
-module _ {F : Type 0} (objects : F → Objects) (store : F) (history : Objects) (rows : List GraphRow) (tips hidden_tips : List ObjectId) where
-  abbrev There : ObjectId → List ObjectId
-  There = next objects store history rows tips hidden_tips
+-- what an entry that was taken leaves of the frontier
+contains_without : (s : Side) (f : set.FinSet id_cmp) (i j : ObjectId) → set.contains (frontier_without s f i) j ≡ (not (not (hides (Some s)) && is_same j i) && set.contains f j)
+contains_without side.Visible f i j = set.contains-remove id_total f i j
+contains_without side.Hidden f i j = refl
 
+module _ {F : Type 0} (objects : F → Objects) {w v : Painter F} (top : Key × Entry) (pops : Pops cmp-value.it w top v) where
+  -- an entry is taken, and where it is its turn, its parents are met
+  pub record IsTurn (new : Painter F) : Type 0 where
+    pub mid : Painter F
+    pub ids : List ObjectId
+    pub takes : Takes v top.1 mid
+    pub gives : ((is_turn top.1 w.frontier ≡ true) × GivesParents (objects v.source.objects.now) (graph_in_use v.source) top.1 ids (graph_in_use mid.source)) ⊎ ((is_turn top.1 w.frontier ≡ false) × (ids ≡ []) × (graph_in_use mid.source ≡ graph_in_use v.source))
+    pub met : Meets objects top.1.side ids mid new
+
+  pub turn_of : {new : Painter F} → TreatsEntry objects v top.1 new → IsTurn new
+  turn_of {new} (skips idle takes graph) = record { mid = new; ids = []; takes = takes; gives = inr (ap (is_turn top.1) (sym pops.frontier) ∙ idle, refl, graph); met = meets_none objects top.1.side new }
+  turn_of (reads {mid = mid} {ids = ids} turn takes gives met) = record { mid = mid; ids = ids; takes = takes; gives = inl (ap (is_turn top.1) (sym pops.frontier) ∙ turn, gives); met = met }
+
+  pub reread : {new : Painter F} (t : IsTurn new) → IsReread (graph_in_use v.source) top.1.id (graph_in_use t.mid.source)
+  reread t = ⊎_elim (λ g. given_graph g.1) (λ n. inl n.2) t.gives
+
+module _ {F : Type 0} (objects : F → Objects) (store : F) (history : Objects) (rows : List GraphRow) (tips hidden_tips : List ObjectId) where
   abbrev Known : (Side → ObjectId → Type 0) → Painter F → ObjectId → State → Type 0
   Known = Fact objects store history rows tips hidden_tips
 
@@ -63,42 +71,32 @@ module _ {F : Type 0} (objects : F → Objects) (store : F) (history : Objects) 
         (λ c. inl (q.0, subst (λ qs. Contains qs q.0) (sym takes.queue_stays) c, q.2, q.3))
         (Contains-cons_cases q.0 top v.queue (Contains-permutation _ _ q.0 pops.queue q.1))
 
-    marks_same : (i : ObjectId) → map_of.get mid.marks i ≡ map_of.get w.marks i
-    marks_same i = ap (λ m. map_of.get m i) (takes.marks_stay ∙ pops.marks)
+    -- the entry is visible, and of this id
+    abbrev gone : ObjectId → Bool
+    gone i = not (hides (Some top.1.side)) && is_same i top.1.id
 
-    frontier_now : mid.frontier ≡ frontier_without top.1.side w.frontier top.1.id
-    frontier_now = takes.frontier ∙ ap (λ f. frontier_without top.1.side f top.1.id) pops.frontier
+    waits_now : (i : ObjectId) → set.contains mid.frontier i ≡ (not (gone i) && set.contains w.frontier i)
+    waits_now i = ap (λ f. set.contains f i) (takes.frontier ∙ ap (λ f. frontier_without top.1.side f top.1.id) pops.frontier) ∙ contains_without top.1.side w.frontier top.1.id i
+
+    marks_now : (i : ObjectId) → map_of.get mid.marks i ≡ map_of.get w.marks i
+    marks_now i = ap (λ m. map_of.get m i) (takes.marks_stay ∙ pops.marks)
 
     pub turned : Stands objects store history rows tips hidden_tips nobody w → (i : ObjectId) → IsTurned turn top.1.side (i ≡ top.1.id) (state_of w i) (state_of mid i)
-    turned h i = go top.1.side refl
+    turned h i = go (gone i && set.contains w.frontier i) refl
       where
-        go : (s : Side) → top.1.side ≡ s → IsTurned turn top.1.side (i ≡ top.1.id) (state_of w i) (state_of mid i)
-        go side.Hidden on = inl (λ k. state_by (marks_same i k) (ap (λ f. set.contains f i) (frontier_now ∙ ap (λ s. frontier_without s w.frontier top.1.id) on) k))
-        go side.Visible on = which (is_same i top.1.id) refl (set.contains w.frontier i) refl
-          where
-            waits_now : set.contains mid.frontier i ≡ (not (is_same i top.1.id) && set.contains w.frontier i)
-            waits_now = ap (λ f. set.contains f i) (frontier_now ∙ ap (λ s. frontier_without s w.frontier top.1.id) on) ∙ set.contains-remove id_total w.frontier top.1.id i
-
-            state_now : state_of mid i ≡ state_by (map_of.get w.marks i) (not (is_same i top.1.id) && set.contains w.frontier i)
-            state_now = λ k. state_by (marks_same i k) (waits_now k)
-
-            which : (b : Bool) → is_same i top.1.id ≡ b → (c : Bool) → set.contains w.frontier i ≡ c → IsTurned turn top.1.side (i ≡ top.1.id) (state_of w i) (state_of mid i)
-            which false e c f = inl (state_now ∙ ap (λ b. state_by (map_of.get w.marks i) (not b && set.contains w.frontier i)) e)
-            which true e false f = inl (state_now ∙ ap (λ b. state_by (map_of.get w.marks i) (not b && set.contains w.frontier i)) e ∙ ap (state_by (map_of.get w.marks i)) (sym f))
-            which true e true f =
-                let here : i ≡ top.1.id = same_is i top.1.id e in
-                let opened : state_of w i ≡ Open = h.tidy i f in
-                let now : state_of mid i ≡ Read = state_now ∙ ap (λ b. state_by (map_of.get w.marks i) (not b && set.contains w.frontier i)) e ∙ open_read (map_of.get w.marks i) (ap (state_by (map_of.get w.marks i)) (sym f) ∙ opened) in
-                inr (ap (λ s. is_turn_on s w.frontier top.1.id) on ∙ ap (set.contains w.frontier) (sym here) ∙ f, on, here, opened, now)
+        go : (b : Bool) → (gone i && set.contains w.frontier i) ≡ b → IsTurned turn top.1.side (i ≡ top.1.id) (state_of w i) (state_of mid i)
+        go false e = let marks = marks_now i in let waits = waits_now i in inl (grind arith)
+        go true e =
+            let marks = marks_now i in
+            let waits = waits_now i in
+            let on : top.1.side ≡ side.Visible = grind arith in
+            let here : i ≡ top.1.id = same_is i top.1.id (grind arith) in
+            let opened : state_of w i ≡ Open = h.tidy i (grind arith) in
+            inr (ap (λ s. is_turn_on s w.frontier top.1.id) on ∙ ap (set.contains w.frontier) (sym here) ∙ (grind arith), on, here, opened, grind arith)
 
     -- the id of a visible entry is open no more
     shut_now : top.1.side ≡ side.Visible → state_of mid top.1.id ≢ Open
-    shut_now on = subst (λ c. state_by (map_of.get mid.marks top.1.id) c ≢ Open) (sym closed) (shut (map_of.get mid.marks top.1.id))
-      where
-        closed : set.contains mid.frontier top.1.id ≡ false
-        closed =
-            ap (λ f. set.contains f top.1.id) (frontier_now ∙ ap (λ s. frontier_without s w.frontier top.1.id) on) ∙ set.contains-remove id_total w.frontier top.1.id top.1.id
-            ∙ ap (λ b. not b && set.contains w.frontier top.1.id) (same_itself top.1.id)
+    shut_now on opened = let marks = marks_now top.1.id in let waits = waits_now top.1.id in let same = same_itself top.1.id in grind arith
 
     met_still : Stands objects store history rows tips hidden_tips nobody w → (i : ObjectId) → state_of w i ≢ Unmet → state_of mid i ≢ Unmet
     met_still h i n = ⊎_elim (λ e. subst (λ s. s ≢ Unmet) (sym e) n) (λ t. subst (λ s. s ≢ Unmet) (sym t.4) (λ e. cc)) (turned h i)
@@ -118,86 +116,44 @@ module _ {F : Type 0} (objects : F → Objects) (store : F) (history : Objects) 
       read = λ q c. safe.read q (within q c);
     }
 
-    pub stands_takes : Stands objects store history rows tips hidden_tips nobody w → (InUse mid → InUse w) → ((InUse mid → ⊥) → DropsBy There rows tips hidden_tips)
+    pub stands_takes : Stands objects store history rows tips hidden_tips nobody w → (InUse mid → InUse w) → ((InUse mid → ⊥) → DropsBy (parents_of history) rows tips hidden_tips)
         → (InUse w → state_of w top.1.id ≢ Hides → IsOutside objects store history rows tips hidden_tips top.1.id)
         → Stands objects store history rows tips hidden_tips Busy mid
     stands_takes h back dropped outside = record {
-      facts = λ i. fact i (turned h i) (state_of w i) refl (h.facts i);
-      tidy = λ i c. tidied i c (turned h i);
+      facts = λ i. ⊎_elim (λ e. subst (Known Busy mid i) (sym e) (same i (state_of w i) e (h.facts i))) (λ t. subst (Known Busy mid i) (sym t.4) (read_now i t)) (turned h i);
+      tidy = λ i c. let marks = marks_now i in let waits = waits_now i in let tidy = h.tidy i in grind arith;
       reached = λ q c. h.reached q (within q c);
       waits = λ q c e. hidden_still h q.1.id (h.waits q (within q c) e);
       dropped = dropped;
-      read = λ i e n. h.read i e (λ u. was_met i u n (turned h i));
+      read = λ i e n. h.read i e (λ u. ⊎_elim (λ k. n (k ∙ u)) (λ t. let bad : Open ≡ Unmet = sym t.3 ∙ u in cc) (turned h i));
     }
       where
-        was_met : (i : ObjectId) → state_of w i ≡ Unmet → state_of mid i ≢ Unmet → IsTurned turn top.1.side (i ≡ top.1.id) (state_of w i) (state_of mid i) → ⊥
-        was_met i u n (inl e) = n (e ∙ u)
-        was_met i u n (inr t) = let bad : Open ≡ Unmet = sym t.3 ∙ u in cc
+        same : (i : ObjectId) (s : State) → state_of mid i ≡ s → Known nobody w i s → Known Busy mid i s
+        same i Unmet e k = tt
+        same i Open e k = (k.0, ⊎_elim (λ q. q) (λ t. absurd (shut_now (sym t.0) (ap (state_of mid) (sym t.1) ∙ e))) (waits_still side.Visible i k.1), λ r. k.2 (back r))
+        same i Read e k = (k.0, ⊎_elim (λ b. absurd b) (λ all. inr (λ c n. met_still h c (all c n))) k.1, λ r. k.2 (back r))
+        same i Hides e k = (k.0, ⊎_elim (λ b. absurd b) (λ r. ⊎_elim (λ q. ⊎_elim (λ stays. inr (inl stays)) (λ t. inl (ap (λ s. is_turn_on s w.frontier top.1.id) (sym t.0), t.0, t.1)) (waits_still side.Hidden i q)) (λ all. inr (inr (λ c n. hidden_still h c (all c n)))) r) k.1)
 
-        tidied : (i : ObjectId) → set.contains mid.frontier i ≡ true → IsTurned turn top.1.side (i ≡ top.1.id) (state_of w i) (state_of mid i) → state_of mid i ≡ Open
-        tidied i c (inl e) = e ∙ h.tidy i (kept top.1.side refl)
-          where
-            kept : (s : Side) → top.1.side ≡ s → set.contains w.frontier i ≡ true
-            kept side.Hidden on = sym (ap (λ f. set.contains f i) (frontier_now ∙ ap (λ s. frontier_without s w.frontier top.1.id) on)) ∙ c
-            kept side.Visible on = right (not (is_same i top.1.id)) (set.contains w.frontier i) (sym (ap (λ f. set.contains f i) (frontier_now ∙ ap (λ s. frontier_without s w.frontier top.1.id) on) ∙ set.contains-remove id_total w.frontier top.1.id i) ∙ c)
-              where
-                right : (a b : Bool) → (a && b) ≡ true → b ≡ true
-                right true b e = e
-                right false b e = cc
-        tidied i c (inr t) = absurd (shut_gone t.1 (subst (λ j. set.contains mid.frontier j ≡ true) t.2 c))
-          where
-            shut_gone : top.1.side ≡ side.Visible → set.contains mid.frontier top.1.id ≡ true → ⊥
-            shut_gone on c =
-                let gone : set.contains mid.frontier top.1.id ≡ false =
-                ap (λ f. set.contains f top.1.id) (frontier_now ∙ ap (λ s. frontier_without s w.frontier top.1.id) on) ∙ set.contains-remove id_total w.frontier top.1.id top.1.id
-                ∙ ap (λ b. not b && set.contains w.frontier top.1.id) (same_itself top.1.id) in
-                let bad : true ≡ false = sym c ∙ gone in cc
-
-        fact : (i : ObjectId) → IsTurned turn top.1.side (i ≡ top.1.id) (state_of w i) (state_of mid i) → (s : State) → state_of w i ≡ s → Known nobody w i (state_of w i) → Known Busy mid i (state_of mid i)
-        fact i (inl e) Unmet f k = subst (Known Busy mid i) (sym (e ∙ f)) tt
-        fact i (inl e) Open f k =
-            let o : Known nobody w i Open = subst (Known nobody w i) f k in
-            subst (Known Busy mid i) (sym (e ∙ f))
-            (o.0, ⊎_elim (λ q. q) (λ t. absurd (shut_now (sym t.0) (ap (state_of mid) (sym t.1) ∙ e ∙ f))) (waits_still side.Visible i o.1), λ r. o.2 (back r))
-        fact i (inl e) Read f k =
-            let o : Known nobody w i Read = subst (Known nobody w i) f k in
-            subst (Known Busy mid i) (sym (e ∙ f)) (o.0, ⊎_elim (λ b. absurd b) (λ all. inr (λ c n. met_still h c (all c n))) o.1, λ r. o.2 (back r))
-        fact i (inl e) Hides f k =
-            let o : Known nobody w i Hides = subst (Known nobody w i) f k in
-            subst (Known Busy mid i) (sym (e ∙ f))
-            (o.0, ⊎_elim (λ b. absurd b) (λ r. ⊎_elim (λ q. ⊎_elim (λ stays. inr (inl stays)) (λ t. inl (ap (λ s. is_turn_on s w.frontier top.1.id) (sym t.0), t.0, t.1)) (waits_still side.Hidden i q)) (λ all. inr (inr (λ c n. hidden_still h c (all c n)))) r) o.1)
-        fact i (inr t) s f k =
-            let o : Known nobody w i Open = subst (Known nobody w i) t.3 k in
-            subst (Known Busy mid i) (sym t.4)
-            (o.0, inl (t.0, sym t.1, t.2), λ r. subst (IsOutside objects store history rows tips hidden_tips) (sym t.2) (outside (back r) (λ hides. let bad : Open ≡ Hides = sym t.3 ∙ ap (state_of w) t.2 ∙ hides in cc)))
-
-  -- nobody is busy where nothing is done
-  idle : {busy : Side → ObjectId → Type 0} {p : Painter F} → ((s : Side) (i : ObjectId) → busy s i → ⊥) → Stands objects store history rows tips hidden_tips busy p → Stands objects store history rows tips hidden_tips nobody p
-  idle {busy} {p} none h = record { facts = λ i. fact i (state_of p i) (h.facts i); tidy = h.tidy; reached = h.reached; waits = h.waits; dropped = h.dropped; read = h.read }
-    where
-      fact : (i : ObjectId) (s : State) → Known busy p i s → Known nobody p i s
-      fact i Unmet k = tt
-      fact i Open k = k
-      fact i Read k = (k.0, ⊎_elim (λ b. absurd (none side.Visible i b)) (λ o. inr o) k.1, k.2)
-      fact i Hides k = (k.0, ⊎_elim (λ b. absurd (none side.Hidden i b)) (λ o. inr o) k.1)
+        read_now : (i : ObjectId) → (turn ≡ true) × (top.1.side ≡ side.Visible) × (i ≡ top.1.id) × (state_of w i ≡ Open) × (state_of mid i ≡ Read) → Known Busy mid i Read
+        read_now i t =
+            let k : Known nobody w i Open = subst (Known nobody w i) t.3 (h.facts i) in
+            (k.0, inl (t.0, sym t.1, t.2), λ r. subst (IsOutside objects store history rows tips hidden_tips) (sym t.2) (outside (back r) (λ hides. let bad : Open ≡ Hides = sym t.3 ∙ ap (state_of w) t.2 ∙ hides in cc)))
 
   module _ {w v : Painter F} (top : Key × Entry) (pops : Pops cmp-value.it w top v) (safe : IsSafe objects store rows w) where
+    -- a row that is read is one of those in use
+    row_stood : (row : GraphRow) → row_of (rows_in (graph_in_use w.source)) top.1.id ≡ Some row → InUse w
+    row_stood row e = ⊎_elim (λ r. r) (λ n. let none : None ≡ Some row = sym (ap (λ g. row_of (rows_in g) top.1.id) n) ∙ e in cc) safe.either
+
     -- rows are in use after the reading only if they were in use before
-    pub graph_after : {after : Option (Bor (List GraphRow))} {ids : List ObjectId} → GivesParents (objects v.source.objects.now) (graph_in_use v.source) top.1 ids after
-        → ((rows_in after ≡ rows) ⊎ (after ≡ None)) × (rows_in after ≡ rows → InUse w)
-    graph_after {after = after} gives = go (given_graph gives)
-      where
-        go : (after ≡ graph_in_use v.source) ⊎ ((after ≡ None) × (row : GraphRow) × (row_of (rows_in (graph_in_use v.source)) top.1.id ≡ Some row) × (ids_at (rows_in (graph_in_use v.source)) row.parents ≡ None))
-            → ((rows_in after ≡ rows) ⊎ (after ≡ None)) × (rows_in after ≡ rows → InUse w)
-        go (inl e) =
-            let g : after ≡ graph_in_use w.source = e ∙ ap graph_in_use pops.source in
-            (⊎_elim (λ r. inl (ap rows_in g ∙ r)) (λ n. inr (g ∙ n)) safe.either, λ r. ap rows_in (sym g) ∙ r)
-        go (inr d) =
-            (inr d.0, λ r. ⊎_elim (λ stood. stood) (λ n. let none : None ≡ Some d.1 = sym (ap (λ g. row_of (rows_in g) top.1.id) (ap graph_in_use pops.source ∙ n)) ∙ d.2 in cc) safe.either)
+    pub graph_after : {after : Option (Bor (List GraphRow))} → IsReread (graph_in_use v.source) top.1.id after → ((rows_in after ≡ rows) ⊎ (after ≡ None)) × (rows_in after ≡ rows → InUse w)
+    graph_after {after} (inl e) =
+        let g : after ≡ graph_in_use w.source = e ∙ ap graph_in_use pops.source in
+        (⊎_elim (λ r. inl (ap rows_in g ∙ r)) (λ n. inr (g ∙ n)) safe.either, λ r. ap rows_in (sym g) ∙ r)
+    graph_after (inr d) = (inr d.0, λ r. row_stood d.1 (ap (λ g. row_of (rows_in (graph_in_use g)) top.1.id) (sym pops.source) ∙ d.2))
 
     module _ (known : IsHistory (objects store) rows history) where
       -- the parents that are read are the commit's
-      pub given_parents : {after : Option (Bor (List GraphRow))} {ids : List ObjectId} → GivesParents (objects v.source.objects.now) (graph_in_use v.source) top.1 ids after → ids ≡ There top.1.id
+      pub given_parents : {after : Option (Bor (List GraphRow))} {ids : List ObjectId} → GivesParents (objects v.source.objects.now) (graph_in_use v.source) top.1 ids after → ids ≡ parents_of history top.1.id
       given_parents {ids = ids} (brought e) = reads_parents history top.1.id ids (in_history known top.1.id ids (safe.brings top (popped_there pops) ids e))
       given_parents {ids = ids} (looked_up n (by_row {row = row} e f)) =
           let graph : rows_in (graph_in_use v.source) ≡ rows_in (graph_in_use w.source) = ap (λ s. rows_in (graph_in_use s)) pops.source in
@@ -207,64 +163,48 @@ module _ {F : Type 0} (objects : F → Objects) (store : F) (history : Objects) 
       given_parents {ids = ids} (looked_up n (drops e f r)) = reads_parents history top.1.id ids (in_history known top.1.id ids (subst (λ o. Reads (objects o) top.1.id ids) (ap (λ s. s.objects.now) pops.source ∙ safe.same_store) r))
 
       -- rows that were in use and are in use no more were dropped for a reason
-      pub dropped_so : {after : Option (Bor (List GraphRow))} {ids : List ObjectId} → (h : Stands objects store history rows tips hidden_tips nobody w) → IsStarted objects store history rows tips hidden_tips w → (IsSettled w → ⊥)
-          → GivesParents (objects v.source.objects.now) (graph_in_use v.source) top.1 ids after → (rows_in after ≡ rows → ⊥) → DropsBy There rows tips hidden_tips
-      dropped_so {after = after} h started unsettled gives gone = go (given_graph gives)
+      pub dropped_so : {after : Option (Bor (List GraphRow))} (h : Stands objects store history rows tips hidden_tips nobody w) → IsStarted objects store history rows tips hidden_tips w → (IsSettled w → ⊥)
+          → IsReread (graph_in_use v.source) top.1.id after → (rows_in after ≡ rows → ⊥) → DropsBy (parents_of history) rows tips hidden_tips
+      dropped_so h started unsettled (inl e) gone = h.dropped (λ r. gone (ap rows_in (e ∙ ap graph_in_use pops.source) ∙ r))
+      dropped_so h started unsettled (inr d) gone =
+          let e : row_of (rows_in (graph_in_use w.source)) top.1.id ≡ Some d.1 = ap (λ g. row_of (rows_in (graph_in_use g)) top.1.id) (sym pops.source) ∙ d.2 in
+          let r : InUse w = row_stood d.1 e in
+          drop_reason objects store history rows tips hidden_tips known w safe h started r top (popped_there pops) pops.greatest (some (graph_in_use w.source) d.1 e) unsettled d.1 (ap (λ rs. row_of rs top.1.id) (sym r) ∙ e)
+          (ap (λ rs. ids_at rs d.1.parents) (sym (ap (λ s. rows_in (graph_in_use s)) pops.source ∙ r)) ∙ d.3)
         where
-          graph_same : graph_in_use v.source ≡ graph_in_use w.source
-          graph_same = ap graph_in_use pops.source
-
           some : (o : Option (Bor (List GraphRow))) (row : GraphRow) → row_of (rows_in o) top.1.id ≡ Some row → IsSome o
           some None row e = cc
           some (Some graph) row e = refl
 
-          stood : (row : GraphRow) → row_of (rows_in (graph_in_use w.source)) top.1.id ≡ Some row → InUse w
-          stood row e = ⊎_elim (λ r. r) (λ n. let none : None ≡ Some row = sym (ap (λ g. row_of (rows_in g) top.1.id) n) ∙ e in cc) safe.either
+      module _ {new : Painter F} (t : IsTurn objects top pops new) where
+        -- what is met are the commit's parents, and all of them where it is the entry's turn
+        pub named : (i : ObjectId) → Contains t.ids i → (is_turn top.1 w.frontier ≡ true) × Contains (parents_of history top.1.id) i
+        named i c = ⊎_elim (λ g. (g.0, subst (λ xs. Contains xs i) (given_parents g.1) c)) (λ n. absurd (no_member i (subst (λ xs. Contains xs i) n.1 c))) t.gives
 
-          go : (after ≡ graph_in_use v.source) ⊎ ((after ≡ None) × (row : GraphRow) × (row_of (rows_in (graph_in_use v.source)) top.1.id ≡ Some row) × (ids_at (rows_in (graph_in_use v.source)) row.parents ≡ None)) → DropsBy There rows tips hidden_tips
-          go (inl e) = h.dropped (λ r. gone (ap rows_in (e ∙ graph_same) ∙ r))
-          go (inr d) =
-              let e : row_of (rows_in (graph_in_use w.source)) top.1.id ≡ Some d.1 = ap (λ g. row_of (rows_in g) top.1.id) (sym graph_same) ∙ d.2 in
-              let r : InUse w = stood d.1 e in
-              drop_reason objects store history rows tips hidden_tips known w safe h started r (some (graph_in_use w.source) d.1 e) top (popped_there pops) pops.greatest unsettled d.1 (ap (λ rs. row_of rs top.1.id) (sym r) ∙ e)
-              (ap (λ rs. ids_at rs d.1.parents) (sym (ap rows_in graph_same ∙ r)) ∙ d.3)
+        all_named : is_turn top.1 w.frontier ≡ true → (i : ObjectId) → Contains (parents_of history top.1.id) i → Contains t.ids i
+        all_named acts i c = ⊎_elim (λ g. subst (λ xs. Contains xs i) (sym (given_parents g.1)) c) (λ n. let bad : true ≡ false = sym acts ∙ n.0 in cc) t.gives
 
-      -- a turn keeps what holds
-      pub stands_turn : {new : Painter F} → Stands objects store history rows tips hidden_tips nobody w → IsStarted objects store history rows tips hidden_tips w → (IsSettled w → ⊥) → TreatsEntry objects v top.1 new
-          → Stands objects store history rows tips hidden_tips nobody new × IsStarted objects store history rows tips hidden_tips new
-      stands_turn {new} h started unsettled (skips turn takes graph) =
-          let same : graph_in_use new.source ≡ graph_in_use w.source = graph ∙ ap graph_in_use pops.source in (
-            idle (λ s i b. let bad : true ≡ false = sym b.0 ∙ ap (λ f. is_turn top.1 f) (sym pops.frontier) ∙ turn in cc)
-                (stands_takes top pops takes h (λ r. ap rows_in (sym same) ∙ r) (λ n. h.dropped (λ r. n (ap rows_in same ∙ r)))
-                (λ r u. taken_outside objects store history rows tips hidden_tips known w safe h started r top (popped_there pops) pops.greatest u)),
-            started_takes top pops takes h started,
-          )
-      stands_turn {new} h started unsettled (reads {mid = mid} {ids = ids} turn takes gives met) =
-          let after = graph_after gives in
-          let outside = λ (r : InUse w) (u : state_of w top.1.id ≢ Hides). taken_outside objects store history rows tips hidden_tips known w safe h started r top (popped_there pops) pops.greatest u in
-          let busy = stands_takes top pops takes h after.1 (dropped_so h started unsettled gives) outside in
-          let parents : ids ≡ There top.1.id = given_parents gives in (
-            stands_meets objects store history rows tips hidden_tips met (Busy top pops takes) (safe_takes top pops takes safe after.0 after.1) busy
-                (λ i c. step (h.reached top (popped_there pops)) (subst (λ xs. Contains xs i) parents c))
-                (λ on r i c. inr (
-                  top.1.id,
-                  subst (λ s. Reaches There (starts_of objects store history rows tips hidden_tips s) top.1.id) on (h.reached top (popped_there pops)),
-                  outside (after.1 r) (visible_open h turn on),
-                  subst (λ xs. Contains xs i) parents c,
-                ))
-                (λ t i b. (b.1, λ c m. subst (λ xs. Contains xs c) (ap There b.2 ∙ sym parents) m)),
-            started_meets objects store history rows tips hidden_tips met (started_takes top pops takes h started),
-          )
-        where
-          visible_open : Stands objects store history rows tips hidden_tips nobody w → is_turn top.1 v.frontier ≡ true → top.1.side ≡ side.Visible → state_of w top.1.id ≢ Hides
-          visible_open h turn on hides =
-              let waits : set.contains w.frontier top.1.id ≡ true = ap (λ f. set.contains f top.1.id) (sym pops.frontier) ∙ ap (λ s. is_turn_on s v.frontier top.1.id) (sym on) ∙ turn in
-              let bad : Open ≡ Hides = sym (h.tidy top.1.id waits) ∙ hides in cc
+        -- a turn keeps what holds
+        pub stands_turn : Stands objects store history rows tips hidden_tips nobody w → IsStarted objects store history rows tips hidden_tips w → (IsSettled w → ⊥)
+            → Stands objects store history rows tips hidden_tips nobody new × IsStarted objects store history rows tips hidden_tips new
+        stands_turn h started unsettled =
+            let after = graph_after (reread objects top pops t) in
+            let outside = λ (r : InUse w) (u : state_of w top.1.id ≢ Hides). taken_outside objects store history rows tips hidden_tips known w safe h started r top (popped_there pops) pops.greatest u in (
+              stands_meets objects store history rows tips hidden_tips t.met (Busy top pops t.takes) (safe_takes top pops t.takes safe after.0 after.1)
+                  (stands_takes top pops t.takes h after.1 (dropped_so h started unsettled (reread objects top pops t)) outside)
+                  (λ i c. step (h.reached top (popped_there pops)) (named i c).1)
+                  (λ on r i c. inr (
+                    top.1.id,
+                    subst (λ s. Reaches (parents_of history) (starts_of objects store history rows tips hidden_tips s) top.1.id) on (h.reached top (popped_there pops)),
+                    outside (after.1 r) (visible_open h (named i c).0 on),
+                    (named i c).1,
+                  ))
+                  (λ s i b. (b.1, λ c m. all_named b.0 c (subst (λ j. Contains (parents_of history j) c) b.2 m))),
+              started_meets objects store history rows tips hidden_tips t.met (started_takes top pops t.takes h started),
+            )
+          where
+            visible_open : Stands objects store history rows tips hidden_tips nobody w → is_turn top.1 w.frontier ≡ true → top.1.side ≡ side.Visible → state_of w top.1.id ≢ Hides
+            visible_open h turn on hides = let bad : Open ≡ Hides = sym (h.tidy top.1.id (ap (λ s. is_turn_on s w.frontier top.1.id) (sym on) ∙ turn)) ∙ hides in cc
 
-    pub safe_turn : {new : Painter F} → TreatsEntry objects v top.1 new → IsSafe objects store rows new
-    safe_turn {new} (skips idle_turn takes graph) =
-        let same : graph_in_use new.source ≡ graph_in_use w.source = graph ∙ ap graph_in_use pops.source in
-        safe_takes top pops takes safe (⊎_elim (λ r. inl (ap rows_in same ∙ r)) (λ n. inr (same ∙ n)) safe.either) (λ r. ap rows_in (sym same) ∙ r)
-    safe_turn (reads its_turn takes gives met) =
-        let after = graph_after gives in
-        safe_meets objects store rows met (safe_takes top pops takes safe after.0 after.1)
+    pub safe_turn : {new : Painter F} → IsTurn objects top pops new → IsSafe objects store rows new
+    safe_turn t = let after = graph_after (reread objects top pops t) in safe_meets objects store rows t.met (safe_takes top pops t.takes safe after.0 after.1)

@@ -1,24 +1,16 @@
 -- How painting reads a commit: by its row, or whole from the store.
-use Rattle.std.specs.Borrow.{Bor}
-use Rattle.std.specs.Prelude.{◌≡◌, ℕ, ℤ, List, Bool, true, false, if◌then◌else◌, Option, Some, None, Result, Ok, Err}
-use Rattle.std.proofs.Common.{refl, sym, ap, subst, ◌∙◌}
-use Rattle.gix_hash.specs.declared.ObjectId.{ObjectId}
+use Rattle.std.proofs.Common.{Bor, ◌≡◌, ℕ, ℤ, List, Bool, true, false, if◌then◌else◌, Option, Some, None, Result, Ok, Err, refl, sym, ap, subst, ◌∙◌}
+use Rattle.gix_paint.proofs.Common.{ObjectId, kind_of, Objects, GraphRow, commit_of_object, time_of, HasTime, Reads, ReadsParents, by_row, by_store, drops, IsUnrowed}
 use Rattle.gix_object.specs.declared.decode.Error.{Error as DecodeError}
 use Rattle.gix_object.specs.CommitItems.{commit_items}
 use Rattle.gix_object.specs.CommitRefIter.{first_committer}
 use Rattle.gix_object.specs.CommitText.{read_commit, seconds_of}
-use Rattle.gix_hash.specs.Id.{kind_of}
-use Rattle.gix_object.specs.Object.{Objects}
-use Rattle.gix_commitgraph.specs.Rows.{GraphRow}
 use Rattle.gix_revwalk.specs.declared.Parents.TheVariants as mode
 use Rattle.gix_revwalk.specs.declared.read.Header.{Header}
 use Rattle.gix_revwalk.specs.declared.row.RowRead.{RowRead}
 use Rattle.gix_revwalk.specs.Agreeing.{rows_in}
 use Rattle.gix_revwalk.specs.Reading.{ReadsHeader, ReadsRow, is_read, absent, corrupt, dropped}
-use Rattle.gix_revwalk.specs.Commits.{commit_of_object, time_of, HasTime}
 use Rattle.gix_revwalk.specs.Either.{seconds_told}
-use Rattle.gix_paint.specs.Inside.Painter.{Reads, ReadsParents, by_row, by_store, drops}
-use Rattle.gix_revwalk.specs.RowParents.{IsUnrowed}
 use Rattle.gix_revwalk.proofs.Rows.{passes}
 use Rattle.gix_revwalk.proofs.CommitterTime.{committer_read, time_read}
 use Rattle.gix_revwalk.proofs.ReadsWhole.{scan_is}

@@ -1,7 +1,6 @@
 -- The hex digits of ids.
-use Rattle.std.specs.Prelude.{ℕ, ◌≡◌, ◌≢◌, ◌+◌, ◌*◌, ◌==◌, ◌%◌, List, [], ◌∷◌, Bool, true, false, length, None, Result, Ok, Err}
+use Rattle.std.proofs.Common.{ℕ, ◌≡◌, ◌≢◌, ◌+◌, ◌*◌, ◌==◌, ◌%◌, List, [], ◌∷◌, Bool, true, false, length, None, Result, Ok, Err, cond, refl, subst}
 use Rattle.std.specs.List.{AllByRecursion}
-use Rattle.std.proofs.Common.{cond, refl, subst}
 use Rattle.hex.specs.Hex.{decode_pairs, decode_of, pair_value, value_at, ◌>>=◌}
 use Rattle.hex.specs.declared.error.FromHexError.{FromHexError}
 use Rattle.hex.specs.declared.error.FromHexError.TheVariants.{OddLength}

@@ -1,6 +1,5 @@
 -- What a reader's bytes were read as.
-use Rattle.std.specs.Prelude.{◌≡◌, ◌⊎◌, ℕ, List, Option, Result, Ok, Err, IfErr}
-use Rattle.std.proofs.Common.{sym, subst, inl, inr}
+use Rattle.std.proofs.Common.{◌≡◌, ◌⊎◌, ℕ, List, Option, Result, Ok, Err, IfErr, sym, subst, inl, inr}
 use Rattle.gix_object.specs.Object.{Objects}
 use Rattle.gix_records.specs.declared.Error.{Error}
 use Rattle.gix_records.specs.declared.Error.TheVariants as error

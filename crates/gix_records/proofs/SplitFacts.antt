@@ -1,10 +1,10 @@
 -- A text split at the first of a byte.
-use Rattle.std.specs.Prelude.{ℕ, ◌≡◌, ◌≢◌, ◌<◌, ◌+◌, ◌==◌, List, [], ◌∷◌, ◌++◌, Bool, true, false, length, take, drop, Option, Some, None}
+use Rattle.std.proofs.Common.{ℕ, ◌≡◌, ◌≢◌, ◌<◌, ◌+◌, ◌==◌, List, [], ◌∷◌, ◌++◌, Bool, true, false, length, take, drop, Option, Some, None, cond, refl, sym, ap, subst, ◌∙◌, arith, get_or, length-append, eqb-true, ne_eqb, eq-eqb}
+use Rattle.std.proofs.Common.{take-append-drop, get_or-take, length-take-le}
 use Rattle.std.specs.List.{AllByRecursion}
-use Rattle.std.proofs.Common.{cond, refl, sym, ap, subst, ◌∙◌, arith, get_or, length-append}
-use Rattle.std.proofs.lemmas.Bool.{eqb-true, eqb-false, ne_eqb, cond-false, cond-true, eq-eqb}
+use Rattle.std.proofs.lemmas.Bool.{eqb-false, cond-false, cond-true}
 use Rattle.std.proofs.lemmas.Option.{some_pair_parts}
-use Rattle.std.proofs.lemmas.List.{take-append-drop, get_or_at, get_or-take, drop_more, length-take-le}
+use Rattle.std.proofs.lemmas.List.{get_or_at, drop_more}
 use Rattle.std.proofs.lemmas.List.Elements.{recursion_from_All, All-from_get_or}
 use Rattle.gix_records.specs.RecordFront.{with_byte, split_at_byte}
 

@@ -1,11 +1,8 @@
 -- Where a committer's fault is found, no commit is read.
-use Rattle.std.specs.Prelude.{◌≡◌, List, [], ◌∷◌, ◌++◌, None, Result, Ok, Err}
-use Rattle.std.proofs.Common.{refl}
-use Rattle.gix_hash.specs.declared.ObjectId.{ObjectId}
+use Rattle.std.proofs.Common.{◌≡◌, List, [], ◌∷◌, ◌++◌, None, Result, Ok, Err, refl}
+use Rattle.gix_revwalk.proofs.Common.{ObjectId, commit_of, commit_of_items, first_committer}
 use Rattle.gix_object.specs.declared.decode.Error.{Error as DecodeError}
 use Rattle.gix_object.specs.CommitItems.{Item, Tree, Parent, Author, Committer, Rest}
-use Rattle.gix_object.specs.CommitText.{commit_of, commit_of_items}
-use Rattle.gix_object.specs.CommitRefIter.{first_committer}
 
 fault_none : (tree : ObjectId) (ps : List ObjectId) (items : List (Result Item DecodeError)) (e : DecodeError) → first_committer items ≡ Err e → commit_of tree ps items ≡ None
 fault_none tree ps [] e h = refl

@@ -1,20 +1,14 @@
 -- A committer is read exactly where a commit is, and has the commit's time.
-use Rattle.std.specs.Prelude.{ℕ, zero, suc, ◌≡◌, List, [], ◌∷◌, ◌++◌, length, Option, Some, None, Result, Ok, Err, pos, ℤ}
-use Rattle.std.proofs.Common.{refl, sym, ap, subst, ◌∙◌}
+use Rattle.std.proofs.Common.{ℕ, zero, suc, ◌≡◌, List, [], ◌∷◌, ◌++◌, length, Option, Some, None, Result, Ok, Err, pos, ℤ, refl, sym, ap, subst, ◌∙◌}
 use Rattle.std.specs.FinMap.{get}
 use Rattle.gix_hash.specs.declared.Kind.{Kind}
-use Rattle.gix_hash.specs.declared.ObjectId.{ObjectId}
+use Rattle.gix_revwalk.proofs.Common.{ObjectId, kind_of, Objects, commit_items_left, first_committer, signature_shown, Commit, commit_of, commit_of_items, read_commit, seconds_of, commit_at, commit_of_object, time_in, time_of, HasTime}
 use Rattle.gix_object.specs.declared.Kind.TheVariants as object
 use Rattle.gix_object.specs.declared.decode.Error.{Error as DecodeError}
-use Rattle.gix_hash.specs.Id.{kind_of}
-use Rattle.gix_object.specs.Object.{Objects}
 use Rattle.gix_object.specs.CommitItems.{AtTree, AtParents, AtCommitter, Front, tree_front, committer_front, unfolded, items_within, commit_items}
 use Rattle.gix_object.specs.declared.commit.CommitRefIter.{CommitRefIter}
 use Rattle.gix_object.specs.declared.commit.Signature.{Signature}
-use Rattle.gix_object.specs.CommitRefIter.{commit_items_left, first_committer, signature_shown}
 use Rattle.gix_object.specs.Find.{FindsCommit}
-use Rattle.gix_object.specs.CommitText.{Commit, commit_of, commit_of_items, read_commit, seconds_of}
-use Rattle.gix_revwalk.specs.Commits.{commit_at, commit_of_object, time_in, time_of, HasTime}
 use Rattle.gix_revwalk.proofs.Committer.{fault_unread}
 use Rattle.gix_revwalk.proofs.ReadsWhole.{IsParentsFront, ended, faulty, parent, author, parents_front}
 

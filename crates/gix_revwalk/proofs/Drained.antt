@@ -1,7 +1,6 @@
 -- What was drawn to its end, one answer after the other.
-use Rattle.std.specs.Prelude.{List, [], ◌∷◌, Option, Some, None}
+use Rattle.std.proofs.Common.{List, [], ◌∷◌, Option, Some, None, sym, subst}
 use Rattle.std.specs.Iterator.{Drains}
-use Rattle.std.proofs.Common.{sym, subst}
 
 module _ {S A : Type 0} (steps : S → Option A → S → Type 0) where
   pub at_end : (s : S) → Drains steps s [] → (new : S) × steps s None new

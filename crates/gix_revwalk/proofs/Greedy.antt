@@ -1,10 +1,7 @@
 -- Where each list of ids says which new id of finitely many comes next, there is a list that goes on so to its end.
-use Rattle.std.specs.Prelude.{◌≡◌, ◌≤◌, ℕ, zero, suc, List, [], ◌∷◌, ◌++◌, length, take, slice_get, false, true, ◌||◌, Option, Some, None}
-use Rattle.std.proofs.Common.{refl, ap, ◌∙◌, arith, append_assoc, append-nil, le_refl}
+use Rattle.std.proofs.Common.{◌≡◌, ◌≤◌, ℕ, zero, suc, List, [], ◌∷◌, ◌++◌, length, take, slice_get, false, true, ◌||◌, Option, Some, None, refl, ap, ◌∙◌, arith, append_assoc, append-nil, le_refl}
 use Rattle.std.proofs.Math.Bool.{or_comm}
-use Rattle.gix_hash.specs.declared.ObjectId.{ObjectId}
-use Rattle.gix_hash.specs.Id.{is_same, is_among}
-use Rattle.gix_hash.proofs.Ids.Membership.{among-append, among-one}
+use Rattle.gix_revwalk.proofs.Common.{ObjectId, is_same, is_among, among-append, among-one}
 use Rattle.gix_revwalk.proofs.NewIds.{fresh, fresh_agree, new_less}
 
 -- What is known of the ids taken is known of them with the next one, which is among all ids, and not among those taken.

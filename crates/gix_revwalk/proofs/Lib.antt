@@ -1,3 +1,5 @@
+-- What most proofs use, to import from one place.
+mod Common
 -- The pairs that the items of a priority queue's heap are.
 pub mod QueueItems
 -- The new ids of a list, each at its first place, and how many times an id is in a list.

@@ -1,13 +1,8 @@
 -- The row of an id, where it is looked for first.
-use Rattle.std.specs.Prelude.{◌≡◌, ℕ, List, true, Some, slice_get}
-use Rattle.std.proofs.Common.{sym, ap, ◌∙◌}
+use Rattle.std.proofs.Common.{◌≡◌, ℕ, List, true, Some, slice_get, sym, ap, ◌∙◌}
 use Rattle.std.specs.Cmp.{Equal-is}
 use Rattle.std.specs.List.Sorted.{IsStrictlySortedBy}
-use Rattle.std.proofs.lemmas.Option.{slice_get_within, get_or_from_slice_get}
-use Rattle.gix_hash.specs.declared.ObjectId.{ObjectId}
-use Rattle.gix_hash.specs.Id.{id_cmp, is_same}
-use Rattle.gix_hash.proofs.Ids.Membership.{same_is, same_from}
-use Rattle.gix_commitgraph.specs.Rows.{GraphRow, no_row, row_at, row_of}
+use Rattle.gix_revwalk.proofs.Common.{slice_get_within, get_or_from_slice_get, ObjectId, id_cmp, is_same, same_is, same_from, GraphRow, no_row, row_at, row_of}
 use Rattle.gix_commitgraph.specs.Packed.{ids_of_rows}
 use Rattle.gix_commitgraph.proofs.Packed.RowSearch.{row_of-found}
 

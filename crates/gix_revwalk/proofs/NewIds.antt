@@ -1,16 +1,12 @@
 -- The ids of a list that are new, each at its first place: what is pending of all that was named.
-use Rattle.std.specs.Prelude.{ℕ, suc, ◌≡◌, ◌+◌, List, [], ◌∷◌, ◌++◌, Bool, true, false, not, cond, ◌&&◌, ◌||◌, filter, find, Some, None, IsPermutation, length, Contains, ◌≤◌}
-use Rattle.std.proofs.Common.{refl, sym, ap, subst, ◌∙◌, arith, append_assoc, append-nil, ⊎_elim}
-use Rattle.std.proofs.lemmas.Bool.{false≢true, true≢false, or_right, or_left, or_from, true_from_ne_false}
-use Rattle.std.specs.List.{flat_map, sum_by}
+use Rattle.std.proofs.Common.{ℕ, suc, ◌≡◌, ◌+◌, List, [], ◌∷◌, ◌++◌, Bool, true, false, not, cond, ◌&&◌, ◌||◌, filter, find, Some, None, IsPermutation, length, Contains, ◌≤◌, refl, sym, ap, subst, ◌∙◌, arith, append_assoc, append-nil}
+use Rattle.std.proofs.Common.{⊎_elim, true≢false, flat_map, sum_by}
+use Rattle.std.proofs.lemmas.Bool.{false≢true, or_right, or_left, or_from, true_from_ne_false}
 use Rattle.std.proofs.lemmas.List.Concat.{flat_map-append}
 use Rattle.std.proofs.lemmas.List.Sums.{sum_by-cons}
 use Rattle.std.proofs.lemmas.List.Sorted.{sum_by-IsPermutation}
-use Rattle.gix_hash.specs.declared.ObjectId.{ObjectId}
-use Rattle.gix_hash.specs.Id.{is_same, is_among}
-use Rattle.gix_revwalk.specs.BreadthOrder.{named_by}
+use Rattle.gix_revwalk.proofs.Common.{ObjectId, is_same, is_among, named_by, same_is, same_itself, same_from, same_back, no_member, among-append, Contains-cons_cases, among_from}
 pub use Rattle.gix_revwalk.specs.Ids.{times, new_ids as fresh}
-use Rattle.gix_hash.proofs.Ids.Membership.{same_is, same_itself, same_from, same_back, no_member, among-append, Contains-cons_cases, among_from}
 use Rattle.gix_revwalk.specs.Ids.{AreDistinct}
 
 -- tests that agree on the list

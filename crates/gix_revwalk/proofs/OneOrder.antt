@@ -1,16 +1,9 @@
 -- Where the commits before it decide each commit, there is at most one list in an order, and a beginning is the first ids of it.
-use Rattle.std.specs.Prelude.{◌≡◌, ◌≤◌, ℕ, zero, suc, ℤ, List, [], ◌∷◌, ◌++◌, length, min, take, slice_get, Option, Some, None, Contains, MatchOption}
-use Rattle.std.proofs.Common.{refl, sym, ap, subst, ⊎_elim, ◌∙◌, arith, append_assoc, append-nil, take_all}
+use Rattle.std.proofs.Common.{◌≡◌, ◌≤◌, ℕ, zero, suc, ℤ, List, [], ◌∷◌, ◌++◌, length, min, take, slice_get, Option, Some, None, Contains, MatchOption, refl, sym, ap, subst, ⊎_elim, ◌∙◌, arith, append_assoc, append-nil, take_all}
+use Rattle.std.proofs.Common.{length-take}
 use Rattle.std.proofs.lemmas.Int.{ints}
-use Rattle.std.proofs.lemmas.List.{length-take}
-use Rattle.std.proofs.lemmas.Option.{slice_get_within}
-use Rattle.gix_hash.specs.declared.ObjectId.{ObjectId}
-use Rattle.gix_hash.specs.Reach.{Reaches}
-use Rattle.gix_hash.proofs.Ids.Membership.{no_member}
-use Rattle.gix_revwalk.specs.declared.CommitTimeOrder.{CommitTimeOrder}
+use Rattle.gix_revwalk.proofs.Common.{slice_get_within, ObjectId, Reaches, no_member, CommitTimeOrder, first_new, named_by, IsBreadthOrder, IsBreadthBeginning, IsTimeOrder, IsTimeBeginning, IsPending, IsBest, IsNoWorse}
 use Rattle.gix_revwalk.specs.declared.CommitTimeOrder.TheVariants.{NewestFirst, OldestFirst}
-use Rattle.gix_revwalk.specs.BreadthOrder.{first_new, named_by, IsBreadthOrder, IsBreadthBeginning}
-use Rattle.gix_revwalk.specs.TimeOrder.{IsTimeOrder, IsTimeBeginning, IsPending, IsBest, IsNoWorse}
 use Rattle.gix_revwalk.proofs.Orders.{breadth_begins, time_begins, reached_by_named, Contains-push}
 
 -- two lists of which each is a beginning of the other are one list

@@ -1,17 +1,10 @@
 -- What a list in order has: no id twice, and exactly what is reached. A beginning of one has no id twice, and only what is reached.
-use Rattle.std.specs.Prelude.{ℕ, zero, suc, ℤ, ◌≡◌, ◌≤◌, ◌<◌, ◌⊎◌, List, [], ◌∷◌, ◌++◌, Bool, true, false, not, cond, length, take, slice_get, Contains, find, Option, Some, None, MatchOption}
-use Rattle.std.proofs.Common.{refl, sym, subst, inl, inr, ⊎_elim, ◌∙◌, arith, append_assoc, append-nil, take_all, le_refl}
-use Rattle.std.proofs.lemmas.Bool.{true≢false, not-true, not-false}
-use Rattle.std.specs.List.{flat_map}
-use Rattle.std.proofs.lemmas.Option.{slice_get_within}
+use Rattle.std.proofs.Common.{ℕ, zero, suc, ℤ, ◌≡◌, ◌≤◌, ◌<◌, ◌⊎◌, List, [], ◌∷◌, ◌++◌, Bool, true, false, not, cond, length, take, slice_get, Contains, find, Option, Some, None, MatchOption, refl, sym, subst, inl, inr, ⊎_elim, ◌∙◌}
+use Rattle.std.proofs.Common.{arith, append_assoc, append-nil, take_all, le_refl, true≢false, flat_map}
+use Rattle.std.proofs.lemmas.Bool.{not-true, not-false}
+use Rattle.gix_revwalk.proofs.Common.{slice_get_within, ObjectId, is_among, CommitTimeOrder, first_new, named_by, IsBreadthOrder, IsBreadthBeginning, IsTimeOrder, IsTimeBeginning, IsPending, IsBest, Reaches, start, step, among_from}
+use Rattle.gix_revwalk.proofs.Common.{among_is, Contains-here, Contains-there, Contains-cons_cases, no_member}
 use Rattle.std.proofs.lemmas.List.Elements.{Contains-append_left, Contains-append_right, Contains-append_cases}
-use Rattle.gix_hash.specs.declared.ObjectId.{ObjectId}
-use Rattle.gix_hash.specs.Id.{is_among}
-use Rattle.gix_revwalk.specs.declared.CommitTimeOrder.{CommitTimeOrder}
-use Rattle.gix_revwalk.specs.BreadthOrder.{first_new, named_by, IsBreadthOrder, IsBreadthBeginning}
-use Rattle.gix_revwalk.specs.TimeOrder.{IsTimeOrder, IsTimeBeginning, IsPending, IsBest}
-use Rattle.gix_hash.specs.Reach.{Reaches, start, step}
-use Rattle.gix_hash.proofs.Ids.Membership.{among_from, among_is, Contains-here, Contains-there, Contains-cons_cases, no_member}
 use Rattle.gix_hash.proofs.Lists.{past_end, only_member}
 
 -- Each id is a pending one. The list ends where none is.

@@ -1,8 +1,6 @@
 -- The pairs that the items of a priority queue's heap are.
-use Rattle.std.proofs.Common.{◌≡◌, List, [], ◌∷◌, map, refl, ap}
-use Rattle.std.specs.declared.cmp.Ordering.{Ordering}
+use Rattle.std.proofs.Common.{◌≡◌, List, [], ◌∷◌, map, refl, ap, Ordering, IsPermutation}
 use Rattle.std.specs.BinaryHeap.{IsUpperBound}
-use Rattle.std.specs.List.Sorted.{IsPermutation}
 use Rattle.std.proofs.lemmas.List.Sorted.{IsPermutation-map}
 use Rattle.gix_revwalk.specs.PriorityQueue.{keys, values}
 

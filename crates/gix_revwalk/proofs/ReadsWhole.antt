@@ -1,25 +1,15 @@
 -- A commit that reads whole is read alike from its items and from its row.
-use Rattle.std.specs.Prelude.{ℕ, zero, suc, ◌≡◌, ◌<◌, List, [], ◌∷◌, ◌++◌, Bool, true, false, cond, length, slice_get, Contains, Option, Some, None, Result, Ok, ◌≢◌}
-use Rattle.std.proofs.Common.{refl, sym, ap, subst, ◌∙◌, arith, append_assoc, append-nil}
+use Rattle.std.proofs.Common.{ℕ, zero, suc, ◌≡◌, ◌<◌, List, [], ◌∷◌, ◌++◌, Bool, true, false, cond, length, slice_get, Contains, Option, Some, None, Result, Ok, ◌≢◌, refl, sym, ap, subst, ◌∙◌, arith, append_assoc, append-nil}
 use Rattle.gix_hash.specs.declared.Kind.{Kind}
-use Rattle.gix_hash.specs.declared.ObjectId.{ObjectId}
+use Rattle.gix_revwalk.proofs.Common.{ObjectId, ParentPlace, At, Fault, is_same, Objects, Commit, commit_of, commit_of_items, read_commit, GraphRow, row_of, by_mode, parents_of, parents_in, time_of, time_in, commit_at, commit_of_kind}
+use Rattle.gix_revwalk.proofs.Common.{commit_of_object, scanned, with_parent, ids_at, with_id, same_is, Contains-here, Contains-there}
 use Rattle.gix_object.specs.declared.Kind.TheVariants as object
 use Rattle.gix_object.specs.declared.find.existing_iter.Error.TheVariants as existing
 use Rattle.gix_object.specs.declared.decode.Error.{Error as DecodeError}
-use Rattle.gix_commitgraph.specs.declared.ParentPlace.{ParentPlace}
-use Rattle.gix_commitgraph.specs.declared.ParentPlace.TheVariants.{At, Fault}
-use Rattle.gix_hash.specs.Id.{is_same}
-use Rattle.gix_object.specs.Object.{Objects}
 use Rattle.gix_object.specs.CommitItems.{Item, Parent, Author, AtTree, AtParents, AtCommitter, Front, Found, Faulty, Ended, tree_front, author_front, committer_front, parent_front, front, unfolded, items_within, commit_items}
-use Rattle.gix_object.specs.CommitText.{Commit, commit_of, commit_of_items, read_commit}
-use Rattle.gix_commitgraph.specs.Rows.{GraphRow, row_of}
 use Rattle.gix_revwalk.specs.declared.Parents.{Parents}
 use Rattle.gix_revwalk.specs.declared.Parents.TheVariants as mode
-use Rattle.gix_revwalk.specs.Commits.{by_mode, parents_of, parents_in, time_of, time_in, commit_at, commit_of_kind, commit_of_object}
 use Rattle.gix_revwalk.specs.Agreeing.{PlaceAgrees, RowAgrees, IsAgreeing, IsCorrupt}
-use Rattle.gix_revwalk.specs.Texts.{scanned, with_parent}
-use Rattle.gix_revwalk.specs.RowParents.{ids_at, with_id}
-use Rattle.gix_hash.proofs.Ids.Membership.{same_is, Contains-here, Contains-there}
 use Rattle.gix_object.specs.declared.Kind.{Kind as ObjectKind}
 use Rattle.gix_object.specs.declared.find.existing_iter.Error.{Error as ExistingError}
 use Rattle.gix_object.specs.Find.{IsExistingFault}

@@ -1,22 +1,14 @@
 -- Rows: the ids that a row's places name, read one after the other; and which rows are in use before and after a row was read.
-use Rattle.std.specs.Prelude.{◌≡◌, ◌<◌, List, [], ◌∷◌, ◌++◌, ℕ, Option, Some, None, Ok, Err, IfOk, All, Contains, slice_get, Bool, true, false, cond, zero, suc, map, ◌⊎◌}
-use Rattle.std.proofs.Common.{refl, sym, ap, subst, ◌∙◌, append_assoc, ⊎_elim, inl, inr, if◌then◌else◌}
+use Rattle.std.proofs.Common.{◌≡◌, ◌<◌, List, [], ◌∷◌, ◌++◌, ℕ, Option, Some, None, Ok, Err, IfOk, All, Contains, slice_get, Bool, true, false, cond, zero, suc, map, ◌⊎◌, refl, sym, ap, subst, ◌∙◌, append_assoc, ⊎_elim, inl, inr}
+use Rattle.std.proofs.Common.{if◌then◌else◌, true≢false, Bor, option_copied}
 use Rattle.std.proofs.lemmas.List.Elements.{recursion_from_All, All-from_recursion}
 use Rattle.std.specs.FinMap as map_of
-use Rattle.gix_hash.specs.declared.ObjectId.{ObjectId}
+use Rattle.gix_revwalk.proofs.Common.{ObjectId, ParentPlace, At, Fault, Objects, Object, GraphRow, row_of, no_member, same_is, same_from, Contains-here, Contains-there, Contains-cons_cases, ids_at, with_id, kept_rows, rows_if, IsUnrowed}
+use Rattle.gix_revwalk.proofs.Common.{id_cmp, is_same, is_among}
 use Rattle.gix_commitgraph.specs.declared.Position.{Position}
-use Rattle.gix_commitgraph.specs.declared.ParentPlace.{ParentPlace}
-use Rattle.gix_commitgraph.specs.declared.ParentPlace.TheVariants.{At, Fault}
 use Rattle.gix_commitgraph.specs.Parents.{Answer, answers_of}
-use Rattle.gix_object.specs.Object.{Objects, Object}
-use Rattle.gix_commitgraph.specs.Rows.{GraphRow, row_of}
-use Rattle.gix_hash.proofs.Ids.Membership.{no_member, same_is, same_from, Contains-here, Contains-there, Contains-cons_cases}
 use Rattle.gix_revwalk.specs.Agreeing.{IsAgreeing, IsCorrupt, rows_of, rows_in}
-use Rattle.gix_revwalk.specs.RowParents.{ids_at, with_id, kept_rows, rows_if, IsUnrowed}
-use Rattle.std.proofs.lemmas.Bool.{or_left, or_right, true≢false, false≢true}
-use Rattle.gix_hash.specs.Id.{id_cmp, is_same, is_among}
-use Rattle.std.specs.Borrow.{Bor}
-use Rattle.std.specs.Option.{option_copied}
+use Rattle.std.proofs.lemmas.Bool.{or_left, or_right, false≢true}
 use Rattle.gix_revwalk.specs.declared.row.RowRead.{RowRead}
 use Rattle.gix_revwalk.specs.Reading.{RowSays, DropsRows, ReadsRow, is_read, absent, corrupt, dropped}
 

@@ -1,21 +1,13 @@
 -- Where finitely many ids are reached, there is a list in breadth order, one in each order by time, and a list of what is reached.
-use Rattle.std.specs.Prelude.{◌≡◌, ◌↔◌, ◌≤◌, ℕ, ℤ, int_le, List, [], ◌∷◌, ◌++◌, length, take, slice_get, Bool, true, false, not, ◌&&◌, cond, filter, Option, Some, None, MatchOption, Contains}
-use Rattle.std.proofs.Common.{refl, sym, subst, ⊎_elim, ◌∙◌, arith}
+use Rattle.std.proofs.Common.{◌≡◌, ◌↔◌, ◌≤◌, ℕ, ℤ, int_le, List, [], ◌∷◌, ◌++◌, length, take, slice_get, Bool, true, false, not, ◌&&◌, cond, filter, Option, Some, None, MatchOption, Contains, refl, sym, subst, ⊎_elim, ◌∙◌, arith}
+use Rattle.std.proofs.Common.{flat_map, true≢false}
 use Rattle.std.specs.FinMap as map_of
-use Rattle.std.specs.List.{flat_map}
-use Rattle.std.proofs.lemmas.Bool.{true≢false, not-true, not_from_false, false_from_ne_true, and_parts, and_from}
+use Rattle.std.proofs.lemmas.Bool.{not-true, not_from_false, false_from_ne_true, and_parts, and_from}
 use Rattle.std.proofs.lemmas.Int.{ints}
 use Rattle.std.proofs.lemmas.List.Elements.{Contains-append_left, Contains-append_right}
-use Rattle.gix_hash.specs.declared.ObjectId.{ObjectId}
-use Rattle.gix_hash.specs.Id.{is_among}
-use Rattle.gix_hash.specs.Reach.{Reaches, start, step}
-use Rattle.gix_hash.proofs.Ids.Membership.{among_from, among_is, Contains-here, Contains-there, Contains-cons_cases, no_member}
-use Rattle.gix_object.specs.Object.{Object, Objects}
-use Rattle.gix_revwalk.specs.declared.CommitTimeOrder.{CommitTimeOrder}
+use Rattle.gix_revwalk.proofs.Common.{ObjectId, is_among, Reaches, start, step, among_from, among_is, Contains-here, Contains-there, Contains-cons_cases, no_member, Object, Objects, CommitTimeOrder, named_by, first_new, IsBreadthOrder}
+use Rattle.gix_revwalk.proofs.Common.{IsTimeOrder, IsPending, IsBest, IsNoWorse, parents_of, parents_in, commit_of_object}
 use Rattle.gix_revwalk.specs.declared.CommitTimeOrder.TheVariants.{NewestFirst, OldestFirst}
-use Rattle.gix_revwalk.specs.BreadthOrder.{named_by, first_new, IsBreadthOrder}
-use Rattle.gix_revwalk.specs.TimeOrder.{IsTimeOrder, IsPending, IsBest, IsNoWorse}
-use Rattle.gix_revwalk.specs.Commits.{parents_of, parents_in, commit_of_object}
 use Rattle.gix_revwalk.proofs.Greedy.{GoesOn, steps_exist}
 use Rattle.gix_revwalk.proofs.NewIds.{among_flat, among-filter}
 use Rattle.gix_revwalk.proofs.Orders.{found_passes, reached_by_named, reached_is_given, given_is_reached, Contains-push, work_from_breadth, work_begins}

@@ -1,16 +1,10 @@
 -- A commit that reads whole has the parents that its text names.
-use Rattle.std.specs.Prelude.{◌≡◌, ℕ, List, Option, Some, None}
-use Rattle.std.proofs.Common.{refl, sym, ap, ◌∙◌}
+use Rattle.std.proofs.Common.{◌≡◌, ℕ, List, Option, Some, None, refl, sym, ap, ◌∙◌}
 use Rattle.std.specs.FinMap as map_of
-use Rattle.gix_hash.specs.declared.ObjectId.{ObjectId}
+use Rattle.gix_revwalk.proofs.Common.{ObjectId, Commit, read_commit, kind_of, Object, Objects, ReadsWhole, parents_of, parents_in, commit_of_kind, commit_of_object, text_next, next_in}
 use Rattle.gix_object.specs.declared.Kind.{Kind}
 use Rattle.gix_object.specs.declared.Kind.TheVariants as object
-use Rattle.gix_object.specs.CommitText.{Commit, read_commit}
-use Rattle.gix_hash.specs.Id.{kind_of}
-use Rattle.gix_object.specs.Object.{Object, Objects}
 use Rattle.gix_revwalk.specs.declared.Parents.TheVariants as mode
-use Rattle.gix_revwalk.specs.Commits.{ReadsWhole, parents_of, parents_in, commit_of_kind, commit_of_object}
-use Rattle.gix_revwalk.specs.Texts.{text_next, next_in}
 use Rattle.gix_revwalk.proofs.ReadsWhole.{scan_is}
 
 abbrev pub IsStoredAs : Objects → ObjectId → Commit → Type 0

@@ -1,19 +1,8 @@
 -- Two walks that were built by the same calls walk the same commits in the same order.
-use Rattle.std.specs.Prelude.{◌≡◌, ◌↔◌, ℤ, List, [], filter, Bool, false, not, Option, Result, Contains}
-use Rattle.std.proofs.Common.{refl, sym, ap, ◌∙◌}
-use Rattle.std.proofs.Math.Path.{transport}
-use Rattle.std.proofs.lemmas.Bool.{true≢false, false_from_ne_true}
-use Rattle.gix_hash.specs.declared.ObjectId.{ObjectId}
-use Rattle.gix_object.specs.Object.{Objects}
+use Rattle.std.proofs.Common.{◌≡◌, ◌↔◌, ℤ, List, [], filter, Bool, false, not, Option, Result, Contains, refl, sym, ap, ◌∙◌, true≢false}
+use Rattle.gix_simple.proofs.Common.{transport, false_from_ne_true, ObjectId, Objects, Info, Error, parents_of, time_of, Reaches, Tells, SimpleWalk, time_order, cutoff, is_older, ids_of, AnswersBy, IsWholeRun, IsInOrder, GivesInOrder}
+use Rattle.gix_simple.proofs.Common.{kept_parents, next_of, starts_of}
 use Rattle.gix_revwalk.specs.declared.Parents.TheVariants as mode
-use Rattle.gix_revwalk.specs.declared.Info.{Info}
-use Rattle.gix_simple.specs.declared.Error.{Error}
-use Rattle.gix_revwalk.specs.Commits.{parents_of, time_of}
-use Rattle.gix_hash.specs.Reach.{Reaches, Tells}
-use Rattle.gix_simple.specs.Walk.{SimpleWalk, time_order, cutoff, is_older}
-use Rattle.gix_revwalk.specs.Ids.{ids_of}
-use Rattle.gix_revwalk.specs.Asking.{AnswersBy}
-use Rattle.gix_simple.specs.Laws.{IsWholeRun, IsInOrder, GivesInOrder, kept_parents, next_of, starts_of}
 use Rattle.gix_simple.specs.Runs.{AreAlike, GiveTheSame, GivesUnhidden, AreBuiltAlike, made, breadth_first, by_time, walks, hides, reads}
 use Rattle.gix_revwalk.proofs.OneOrder.{one_breadth}
 use Rattle.gix_simple.proofs.Builders.{recent_ids}

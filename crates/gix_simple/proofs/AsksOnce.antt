@@ -1,25 +1,12 @@
 -- No id is asked about twice, whatever faults come, and only ids that tips, rows and stored texts name.
-use Rattle.std.specs.Prelude.{◌≡◌, ◌⊎◌, List, [], ◌∷◌, ◌++◌, Bool, true, false, not, ◌&&◌, ◌||◌, Result, Contains}
-use Rattle.std.proofs.Common.{refl, sym, ap, subst, inl, inr, ⊎_elim, ◌∙◌}
-use Rattle.std.specs.Iterator.{Yields}
-use Rattle.std.proofs.lemmas.Bool.{true≢false, or_right, or_left}
-use Rattle.std.proofs.lemmas.List.Elements.{Contains-append_cases}
+use Rattle.std.proofs.Common.{◌≡◌, ◌⊎◌, List, [], ◌∷◌, ◌++◌, Bool, true, Result, Contains, sym, ap, subst, inl, ⊎_elim, ◌∙◌, arith, true≢false}
+use Rattle.gix_simple.proofs.Common.{Yields, or_right, or_left, Contains-append_cases, ObjectId, id_cmp, is_among, Objects, Info, Error, SimpleWalk, Treated, IsNew, Asks, remembers, Next, IsBuilt, AreDistinct, named_in, AsksAll}
+use Rattle.gix_simple.proofs.Common.{id_total, same_from, among-append, among_from, among_is, Contains-here, Contains-there, no_member, only_member}
 use Rattle.std.specs.FinSet as set
-use Rattle.gix_hash.specs.declared.ObjectId.{ObjectId}
-use Rattle.gix_hash.specs.Id.{id_cmp, is_same, is_among}
-use Rattle.gix_object.specs.Object.{Objects}
-use Rattle.gix_revwalk.specs.declared.Info.{Info}
-use Rattle.gix_revwalk.specs.declared.Parents.TheVariants as mode
-use Rattle.gix_simple.specs.declared.Error.{Error}
-use Rattle.gix_simple.specs.Walk.{SimpleWalk, Treated, cutoff, IsNew, Asks, remembers, asks, Next}
-use Rattle.gix_simple.specs.Building.{outdated, timed, IsBuilt, made, breadth_first, by_time, hides, walks, reads}
-use Rattle.gix_revwalk.specs.Ids.{AreDistinct}
-use Rattle.gix_simple.specs.Laws.{named_in}
+use Rattle.gix_simple.specs.Walk.{asks}
+use Rattle.gix_simple.specs.Building.{made, breadth_first, by_time, hides, walks, reads}
 use Rattle.gix_simple.specs.Runs.{AsksOnce}
-use Rattle.gix_revwalk.specs.Asking.{AsksAll}
 use Rattle.gix_revwalk.specs.Asking as asking
-use Rattle.gix_hash.proofs.Ids.Membership.{id_total, same_from, among-append, among_from, among_is, Contains-here, Contains-there, no_member}
-use Rattle.gix_hash.proofs.Lists.{only_member}
 use Rattle.gix_simple.proofs.Moves as moves
 use Rattle.gix_simple.proofs.Moves.{Asking, Follows, IsListed, Moves, fails, takes, next_moves, listed_before}
 
@@ -47,12 +34,7 @@ module _ {F P : Type 0} (objects : F → Objects) (faulty : F → ObjectId → T
   -- an id is seen, and remembered no more
   still_known : (seen remembered : Ids) (i j : ObjectId) → (set.contains seen j ≡ true) ⊎ (set.contains remembered j ≡ true)
       → (set.contains (set.insert seen i) j ≡ true) ⊎ (set.contains (set.remove remembered i) j ≡ true)
-  still_known seen remembered i j (inl e) = inl (set.contains-insert id_total seen i j ∙ or_right (is_same j i) _ e)
-  still_known seen remembered i j (inr e) = go (is_same j i) refl
-    where
-      go : (b : Bool) → is_same j i ≡ b → (set.contains (set.insert seen i) j ≡ true) ⊎ (set.contains (set.remove remembered i) j ≡ true)
-      go true s = inl (set.contains-insert id_total seen i j ∙ or_left _ _ s)
-      go false s = inr (set.contains-remove id_total remembered i j ∙ ap (λ b. not b && set.contains remembered j) s ∙ e)
+  still_known seen remembered i j known = let s = set.contains-insert id_total seen i j in let r = set.contains-remove id_total remembered i j in grind arith
 
   asked_one : (w : SimpleWalk F P) (i : ObjectId) {b : Bool} {q : P} → is_among i named ≡ true → IsNew objects faulty answers w i
       → Asks objects faulty answers w i b q → AskedOf w → Asked q (set.insert w.seen i) (set.remove w.remembered i)
@@ -97,14 +79,8 @@ module _ {F P : Type 0} (objects : F → Objects) (faulty : F → ObjectId → T
         let a = built_asked b in
         record {
           so_far = record { ids = a.so_far.ids; run = subst (AsksAll answers first a.so_far.ids) (sym (ap (λ x. x.predicate) s.others)) a.so_far.run; distinct = a.so_far.distinct; named = a.so_far.named };
-          known = λ i m. cut i (is_among i (outdated (cutoff mode.All by) (timed (objects w.store) w.pending))) (s.seen i) (s.remembered i) (a.known i m);
+          known = λ i m. let seen = s.seen i in let remembered = s.remembered i in let before = a.known i m in grind arith;
         }
-      where
-        cut : (i : ObjectId) (gone : Bool) → set.contains new.seen i ≡ (set.contains w.seen i && not gone) → set.contains new.remembered i ≡ (set.contains w.remembered i || gone)
-            → (set.contains w.seen i ≡ true) ⊎ (set.contains w.remembered i ≡ true) → (set.contains new.seen i ≡ true) ⊎ (set.contains new.remembered i ≡ true)
-        cut i gone s r (inr e) = inr (r ∙ or_left _ _ e)
-        cut i true s r (inl e) = inr (r ∙ or_right (set.contains w.remembered i) _ refl)
-        cut i false s r (inl e) = inl (s ∙ ap (λ b. b && true) e)
     built_asked (hides b) = built_asked b
     built_asked (walks b) = built_asked b
     built_asked (reads b) = built_asked b

@@ -1,53 +1,21 @@
 -- A walk that was made of some tips, and whose order was chosen, is fresh, and gives no id twice.
-use Rattle.std.specs.Prelude.{◌≡◌, ◌⊎◌, ◌+◌, ◌≤◌, ℕ, ℤ, List, [], ◌∷◌, filter, Bool, true, false, not, ◌&&◌, cond, Option, Some, Result, Contains}
-use Rattle.std.proofs.Common.{refl, sym, ap, subst, inl, inr, ⊎_elim, ◌∙◌, arith}
-use Rattle.std.proofs.lemmas.Bool.{false≢true, and_parts, or_cases}
-use Rattle.std.proofs.Math.Bool.{and-true}
+use Rattle.std.proofs.Common.{◌≡◌, ◌⊎◌, ◌+◌, ◌≤◌, ℤ, List, [], ◌∷◌, filter, Bool, true, false, not, ◌&&◌, cond, Option, Some, Result, Contains, refl, sym, ap, subst, inl, inr, ⊎_elim, ◌∙◌, arith}
 use Rattle.std.specs.FinSet as set
-use Rattle.std.specs.Iterator.{Yields}
-use Rattle.gix_hash.specs.declared.ObjectId.{ObjectId}
-use Rattle.gix_hash.specs.Id.{is_among}
-use Rattle.gix_object.specs.Object.{Objects}
-use Rattle.gix_hash.proofs.Ids.Membership.{among_from, among_is, Contains-cons_cases, no_member}
-use Rattle.gix_revwalk.specs.declared.Parents.{Parents}
+use Rattle.gix_simple.proofs.Common.{Yields, ObjectId, id_cmp, is_among, Objects, among_from, among_is, Contains-cons_cases, no_member, CommitTimeOrder, Pending, Info, Error, Sorting, time_of, SimpleWalk, time_order, cutoff, is_older}
+use Rattle.gix_simple.proofs.Common.{IsMade, Next, ids_of, AreDistinct, AnswersBy, IsFresh, given_ids, IsSortedByTime, timed, recent, outdated, IsBuilt, filter_within, among-filter, among_times, times_none, times_once}
 use Rattle.gix_revwalk.specs.declared.Parents.TheVariants as mode
-use Rattle.gix_revwalk.specs.declared.CommitTimeOrder.{CommitTimeOrder}
-use Rattle.gix_revwalk.specs.Pending.{Pending}
-use Rattle.gix_revwalk.specs.declared.Info.{Info}
-use Rattle.gix_simple.specs.declared.Error.{Error}
-use Rattle.gix_simple.specs.declared.Sorting.{Sorting}
 use Rattle.gix_simple.specs.declared.Sorting.TheVariants as by
-use Rattle.gix_revwalk.specs.Commits.{time_of}
-use Rattle.gix_simple.specs.Walk.{SimpleWalk, time_order, cutoff, is_older, IsMade, Next}
-use Rattle.gix_revwalk.specs.Ids.{ids_of, AreDistinct}
-use Rattle.gix_revwalk.specs.Asking.{AnswersBy}
-use Rattle.gix_simple.specs.Laws.{IsFresh, given_ids}
-use Rattle.gix_simple.specs.Building.{IsSortedByTime, timed, recent, outdated, IsBuilt, made, breadth_first, by_time, hides, walks, reads}
-use Rattle.gix_hash.proofs.Lists.{filter_within}
-use Rattle.gix_revwalk.proofs.NewIds.{times, among-filter, among_times, times_none, times_once}
+use Rattle.gix_simple.specs.Building.{made, breadth_first, by_time, hides, walks, reads}
+use Rattle.gix_revwalk.proofs.NewIds.{times}
 use Rattle.gix_simple.proofs.Moves.{asking, fewer_filter}
 use Rattle.gix_simple.proofs.NeverTwice.{IsSole, asked_sole, drawn_once}
-use Rattle.gix_simple.proofs.MadeOfTips.{once_or_never, is_new_walk, pending_is}
-
-in_force : (m : Parents) (by : Sorting) (order : CommitTimeOrder) → time_order m by ≡ Some order → time_order mode.All by ≡ Some order
-in_force mode.First by order e = cc
-in_force mode.All by order e = e
-
-positive : (b : Bool) (n : ℕ) → 1 ≤ n → n + 0 ≤ cond b 1 0 → b ≡ true
-positive true n h k = refl
-positive false n h k = absurd (omega arith)
+use Rattle.gix_simple.proofs.MadeOfTips.{is_new_walk, pending_is}
 
 module _ (objects : Objects) where
   -- of pending commits with their times, those whose time is of some kind
   ids_by_time : (f : ℤ → Bool) (ps : List Pending) → ids_of (filter (λ p. f p.time) (timed objects ps)) ≡ filter (λ i. f (time_of objects i)) (ids_of ps)
   ids_by_time f [] = refl
-  ids_by_time f (p ∷ ps) = go (f (time_of objects p.id)) (ids_by_time f ps)
-    where
-      go : (b : Bool) → ids_of (filter (λ p. f p.time) (timed objects ps)) ≡ filter (λ i. f (time_of objects i)) (ids_of ps)
-          → ids_of (cond b (record { id = p.id; time = time_of objects p.id } ∷ filter (λ p. f p.time) (timed objects ps)) (filter (λ p. f p.time) (timed objects ps)))
-          ≡ cond b (p.id ∷ filter (λ i. f (time_of objects i)) (ids_of ps)) (filter (λ i. f (time_of objects i)) (ids_of ps))
-      go true r = ap (λ is. p.id ∷ is) r
-      go false r = r
+  ids_by_time f (p ∷ ps) = grind (arith, ids_by_time f ps)
 
   among_by_time : (f : ℤ → Bool) (ps : List Pending) (i : ObjectId) → is_among i (ids_of (filter (λ p. f p.time) (timed objects ps))) ≡ (f (time_of objects i) && is_among i (ids_of ps))
   among_by_time f ps i = ap (is_among i) (ids_by_time f ps) ∙ among-filter i (λ i. f (time_of objects i)) (ids_of ps)
@@ -73,25 +41,18 @@ module _ (objects : Objects) where
 module _ {F P : Type 0} (objects : F → Objects) (faulty : F → ObjectId → Type 0) (answers : P → ObjectId → Bool → P → Type 0) where
   -- whatever the predicate answers, sorting leaves nothing pending twice, and nothing that isn't seen
   sorted_sole : (old new : SimpleWalk F P) (sorting : Sorting) → IsSole objects faulty answers [] old → IsSortedByTime objects old sorting new → IsSole objects faulty answers [] new
-  sorted_sole old new sorting sole s = λ j. go j (is_older (time_of found j) limit) refl
-    where
-      limit : Option ℤ
-      limit = cutoff mode.All sorting
-
-      found : Objects
-      found = objects old.store
-
-      go : (j : ObjectId) (o : Bool) → is_older (time_of found j) limit ≡ o → times j (ids_of new.pending) + 0 ≤ cond (set.contains new.seen j) 1 0
-      go j true e =
-          let none : times j (ids_of new.pending) ≡ 0 = ap (λ ps. times j (ids_of ps)) s.pending ∙ times_none j (ids_of (recent limit (timed found old.pending))) (recent_among found limit old.pending j ∙ ap (λ o. not o && is_among j (ids_of old.pending)) e) in
-          omega arith
-      go j false e =
-          let f : times j (ids_of (recent limit (timed found old.pending))) ≤ times j (ids_of (timed found old.pending)) = (fewer_filter (λ p. not (is_older p.time limit)) (timed found old.pending)).as_often j in
-          let t : times j (ids_of (timed found old.pending)) ≡ times j (ids_of old.pending) = ap (times j) (timed_ids found old.pending) in
-          let n : times j (ids_of new.pending) ≡ times j (ids_of (recent limit (timed found old.pending))) = ap (λ ps. times j (ids_of ps)) s.pending in
-          let k : times j (ids_of old.pending) + 0 ≤ cond (set.contains old.seen j) 1 0 = sole j in
-          let seen : set.contains new.seen j ≡ set.contains old.seen j = s.seen j ∙ ap (λ o. set.contains old.seen j && not o) (outdated_among found limit old.pending j ∙ ap (λ o. o && is_among j (ids_of old.pending)) e) ∙ and-true (set.contains old.seen j) in
-          subst (λ b. times j (ids_of new.pending) + 0 ≤ cond b 1 0) (sym seen) (omega arith)
+  sorted_sole old new sorting sole s = λ j.
+      let limit : Option ℤ = cutoff mode.All sorting in
+      let found : Objects = objects old.store in
+      let none = times_none j (ids_of (recent limit (timed found old.pending))) in
+      let fewer : times j (ids_of (recent limit (timed found old.pending))) ≤ times j (ids_of (timed found old.pending)) = (fewer_filter (λ p. not (is_older p.time limit)) (timed found old.pending)).as_often j in
+      let all : times j (ids_of (timed found old.pending)) ≡ times j (ids_of old.pending) = ap (times j) (timed_ids found old.pending) in
+      let left : times j (ids_of new.pending) ≡ times j (ids_of (recent limit (timed found old.pending))) = ap (λ ps. times j (ids_of ps)) s.pending in
+      let once : times j (ids_of old.pending) + 0 ≤ cond (set.contains old.seen j) 1 0 = sole j in
+      let seen = s.seen j in
+      let kept = recent_among found limit old.pending j in
+      let gone = outdated_among found limit old.pending j in
+      grind arith
 
   built_sole : {store : F} {predicate : P} {tips : List ObjectId} {walk : SimpleWalk F P} → IsBuilt objects faulty answers store predicate tips walk → IsSole objects faulty answers [] walk
   built_sole (made m) = asked_sole objects faulty answers [] (asking objects faulty answers {Named = λ i. Unit {0}} (λ i c. tt) m) (λ j. omega arith)
@@ -103,15 +64,18 @@ module _ {F P : Type 0} (objects : F → Objects) (faulty : F → ObjectId → T
 
 module _ {F P : Type 0} (objects : F → Objects) (faulty : F → ObjectId → Type 0) (answers : P → ObjectId → Bool → P → Type 0) (accepts : ObjectId → Bool) (store : F) (predicate : P) (by_test : AnswersBy answers predicate accepts) where
   -- what every builder call keeps
-  record Built (walk : SimpleWalk F P) : Type 0 where
-    tested : AnswersBy answers walk.predicate accepts
-    same_store : walk.store ≡ store
-    accepted : (i : ObjectId) → is_among i (ids_of walk.pending) ≡ true → accepts i ≡ true
-    seen : (i : ObjectId) → set.contains walk.seen i ≡ true → (is_among i (ids_of walk.pending) ≡ true) ⊎ (accepts i ≡ false)
-    remembered : (i : ObjectId) → set.contains walk.remembered i ≡ true → accepts i ≡ true
-    shown : (i : ObjectId) → set.contains walk.hidden i ≡ false
-    unbegun : walk.begun ≡ false
-    timely : (order : CommitTimeOrder) → time_order mode.All walk.sorting ≡ Some order → (p : Pending) → Contains walk.pending p → p.time ≡ time_of (objects walk.store) p.id
+  record Holds (now : P) (at : F) (pending : List Pending) (met yes marks : set.FinSet id_cmp) (begun : Bool) (order : Sorting) : Type 0 where
+    tested : AnswersBy answers now accepts
+    same_store : at ≡ store
+    accepted : (i : ObjectId) → is_among i (ids_of pending) ≡ true → accepts i ≡ true
+    seen : (i : ObjectId) → set.contains met i ≡ true → (is_among i (ids_of pending) ≡ true) ⊎ (accepts i ≡ false)
+    remembered : (i : ObjectId) → set.contains yes i ≡ true → accepts i ≡ true
+    shown : (i : ObjectId) → set.contains marks i ≡ false
+    unbegun : begun ≡ false
+    timely : (by : CommitTimeOrder) → time_order mode.All order ≡ Some by → (p : Pending) → Contains pending p → p.time ≡ time_of (objects at) p.id
+
+  abbrev Built : SimpleWalk F P → Type 0
+  Built walk = Holds walk.predicate walk.store walk.pending walk.seen walk.remembered walk.hidden walk.begun walk.sorting
 
   made_built : (tips : List ObjectId) (walk : SimpleWalk F P) → IsMade objects faulty answers store predicate tips walk → Built walk
   made_built tips walk m =
@@ -134,11 +98,9 @@ module _ {F P : Type 0} (objects : F → Objects) (faulty : F → ObjectId → T
   by_time_built old new sorting b s = record {
     tested = subst (λ p. AnswersBy answers p accepts) (sym (ap (λ w. w.predicate) s.others)) b.tested;
     same_store = stored ∙ b.same_store;
-    accepted = λ i h. b.accepted i (kept i h).1;
-    seen = λ i h.
-        let both = and_parts (set.contains old.seen i) (not (is_among i (outdated limit (timed found old.pending)))) (sym (s.seen i) ∙ h) in
-        ⊎_elim (λ there. inl (is_kept i there both.1)) inr (b.seen i both.0);
-    remembered = λ i h. ⊎_elim (b.remembered i) (λ o. b.accepted i (and_parts _ _ (sym (outdated_among found limit old.pending i) ∙ o)).1) (or_cases _ _ (sym (s.remembered i) ∙ h));
+    accepted = λ i h. let k = kept i in b.accepted i (grind arith);
+    seen = λ i h. let k = kept i in let o = outdated_among found limit old.pending i in let t = s.seen i in let was = b.seen i in grind arith;
+    remembered = λ i h. let o = outdated_among found limit old.pending i in let t = s.remembered i in let yes = b.remembered i in let was = b.accepted i in grind arith;
     shown = λ i. ap (λ w. set.contains w.hidden i) s.others ∙ b.shown i;
     unbegun = ap (λ w. w.begun) s.others ∙ b.unbegun;
     timely = λ order e p c. timed_so found old.pending p (filter_within (λ p. not (is_older p.time limit)) (timed found old.pending) p (subst (λ ps. Contains ps p) s.pending c)) ∙ ap (λ f. time_of (objects f) p.id) (sym stored);
@@ -153,26 +115,18 @@ module _ {F P : Type 0} (objects : F → Objects) (faulty : F → ObjectId → T
       stored : new.store ≡ old.store
       stored = ap (λ w. w.store) s.others
 
-      kept : (i : ObjectId) → is_among i (ids_of new.pending) ≡ true → (not (is_older (time_of found i) limit) ≡ true) × (is_among i (ids_of old.pending) ≡ true)
-      kept i h = and_parts _ _ (sym (ap (λ ps. is_among i (ids_of ps)) s.pending ∙ recent_among found limit old.pending i) ∙ h)
-
-      is_kept : (i : ObjectId) → is_among i (ids_of old.pending) ≡ true → not (is_among i (outdated limit (timed found old.pending))) ≡ true → is_among i (ids_of new.pending) ≡ true
-      is_kept i there young = ap (λ ps. is_among i (ids_of ps)) s.pending ∙ recent_among found limit old.pending i ∙ go (is_older (time_of found i) limit) (is_among i (ids_of old.pending)) there (sym (ap not (outdated_among found limit old.pending i)) ∙ young)
-        where
-          go : (o a : Bool) → a ≡ true → not (o && a) ≡ true → (not o && a) ≡ true
-          go true true e f = absurd (false≢true f)
-          go false true e f = refl
-          go o false e f = absurd (false≢true e)
+      kept : (i : ObjectId) → is_among i (ids_of new.pending) ≡ (not (is_older (time_of found i) limit) && is_among i (ids_of old.pending))
+      kept i = ap (λ ps. is_among i (ids_of ps)) s.pending ∙ recent_among found limit old.pending i
 
   fresh_of : (walk : SimpleWalk F P) → Built walk → IsSole objects faulty answers [] walk → IsFresh objects walk accepts
   fresh_of walk b sole = record {
-    distinct = times_once (ids_of walk.pending) (λ i. let k : times i (ids_of walk.pending) + 0 ≤ cond (set.contains walk.seen i) 1 0 = sole i in let n = once_or_never (set.contains walk.seen i) in omega arith);
-    pending_seen = λ i c. positive (set.contains walk.seen i) _ (among_times i (ids_of walk.pending) (among_from i (ids_of walk.pending) c)) (sole i);
+    distinct = times_once (ids_of walk.pending) (λ i. let k : times i (ids_of walk.pending) + 0 ≤ cond (set.contains walk.seen i) 1 0 = sole i in grind arith);
+    pending_seen = λ i c. let some = among_times i (ids_of walk.pending) (among_from i (ids_of walk.pending) c) in let once = sole i in grind arith;
     seen = λ i h. ⊎_elim (λ e. inl (among_is i (ids_of walk.pending) e)) inr (b.seen i h);
     remembered = b.remembered;
     shown = b.shown;
     unbegun = b.unbegun;
-    timed = λ order e. b.timely order (in_force walk.parents walk.sorting order e);
+    timed = λ order e. b.timely order (grind arith);
   }
 
   built_all : (tips : List ObjectId) {walk : SimpleWalk F P} → IsBuilt objects faulty answers store predicate tips walk → Built walk
@@ -181,15 +135,9 @@ module _ {F P : Type 0} (objects : F → Objects) (faulty : F → ObjectId → T
       let w : Built walk = built_all tips b in
       record { tested = w.tested; same_store = w.same_store; accepted = w.accepted; seen = w.seen; remembered = w.remembered; shown = w.shown; unbegun = w.unbegun; timely = λ order e. cc }
   built_all tips (by_time {walk = walk} {new = new} {by = sorting} b s) = by_time_built walk new sorting (built_all tips b) s
-  built_all tips (hides {walk = walk} b) =
-      let w : Built walk = built_all tips b in
-      record { tested = w.tested; same_store = w.same_store; accepted = w.accepted; seen = w.seen; remembered = w.remembered; shown = w.shown; unbegun = w.unbegun; timely = w.timely }
-  built_all tips (walks {walk = walk} b) =
-      let w : Built walk = built_all tips b in
-      record { tested = w.tested; same_store = w.same_store; accepted = w.accepted; seen = w.seen; remembered = w.remembered; shown = w.shown; unbegun = w.unbegun; timely = w.timely }
-  built_all tips (reads {walk = walk} b) =
-      let w : Built walk = built_all tips b in
-      record { tested = w.tested; same_store = w.same_store; accepted = w.accepted; seen = w.seen; remembered = w.remembered; shown = w.shown; unbegun = w.unbegun; timely = w.timely }
+  built_all tips (hides b) = built_all tips b
+  built_all tips (walks b) = built_all tips b
+  built_all tips (reads b) = built_all tips b
 
   -- the law
   pub built : (tips : List ObjectId) (walk : SimpleWalk F P) → IsBuilt objects faulty answers store predicate tips walk → IsFresh objects walk accepts × AnswersBy answers walk.predicate accepts × (walk.store ≡ store)

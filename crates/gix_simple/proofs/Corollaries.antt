@@ -1,36 +1,18 @@
 -- The laws that follow from the theorem over whole walks.
-use Rattle.std.specs.Prelude.{◌≡◌, ◌↔◌, ◌≤◌, ◌≤ℤ◌, ℕ, zero, suc, ℤ, List, [], ◌∷◌, ◌++◌, filter, length, take, slice_get, Bool, true, false, not, ◌&&◌, Option, Some, None, Result, Ok, Err, Contains, MatchOption}
-use Rattle.std.proofs.Common.{refl, sym, ap, subst, ⊎_elim, ◌∙◌, arith}
-use Rattle.std.specs.List.{AllZip}
-use Rattle.std.proofs.lemmas.List.Elements.{Contains-append_left, Contains-append_right, Contains-append_cases}
-use Rattle.std.proofs.lemmas.Bool.{false≢true, true≢false, and_parts, and_from, not_from_false, not-true, false_from_ne_true}
-use Rattle.gix_hash.specs.declared.ObjectId.{ObjectId}
-use Rattle.gix_hash.specs.Id.{is_among}
-use Rattle.gix_object.specs.Object.{Objects}
-use Rattle.gix_commitgraph.specs.Rows.{GraphRow, row_of}
-use Rattle.gix_revwalk.specs.declared.Parents.{Parents}
-use Rattle.gix_revwalk.specs.declared.Info.{Info}
-use Rattle.gix_revwalk.specs.declared.CommitTimeOrder.{CommitTimeOrder}
+use Rattle.std.proofs.Common.{◌≡◌, ◌↔◌, ◌≤◌, ◌≤ℤ◌, ℕ, suc, ℤ, List, [], ◌∷◌, ◌++◌, filter, length, take, slice_get, Bool, true, false, not, ◌&&◌, Option, Some, None, Result, Ok, Err, Contains, MatchOption, refl, sym, ap, subst, ⊎_elim}
+use Rattle.std.proofs.Common.{◌∙◌, arith, true≢false}
+use Rattle.gix_simple.proofs.Common.{AllZip, Contains-append_left, Contains-append_right, Contains-append_cases, false≢true, and_parts, and_from, not_from_false, not-true, false_from_ne_true, ObjectId, Objects, GraphRow, row_of, Parents}
+use Rattle.gix_simple.proofs.Common.{Info, CommitTimeOrder, Error, named_by, IsBreadthOrder, Reaches, start, step, Tells, IsAgreeing, time_of, parents_of, walked_parents, SimpleWalk, time_order, cutoff, is_older, ids_of, AreDistinct}
+use Rattle.gix_simple.proofs.Common.{IsGiven, IsInOrder, IsBeginning, GivesInOrder, GivesBeginning, IsWholeRun, IsBegunRun, starts_of, next_of, is_kept, kept_parents, accepted_parents, recent_parents, IsPlain, IsPlainRun, filter_all}
+use Rattle.gix_simple.proofs.Common.{among_from, among_is, Contains-here, Contains-cons_cases, no_member, among-filter, named-push, transport, and-true, walked_within}
+use Rattle.std.proofs.lemmas.Option.{slice_get_within, get_or_from_slice_get}
+use Rattle.std.proofs.Math.Seq.{take-suc}
 use Rattle.gix_revwalk.specs.declared.CommitTimeOrder.TheVariants.{NewestFirst}
-use Rattle.gix_simple.specs.declared.Error.{Error}
-use Rattle.gix_revwalk.specs.BreadthOrder.{named_by, IsBreadthOrder}
 use Rattle.gix_revwalk.specs.TimeOrder.{IsTimeOrder, IsPending, IsBest}
-use Rattle.gix_hash.specs.Reach.{Reaches, start, step, Tells}
-use Rattle.gix_revwalk.specs.Agreeing.{IsAgreeing}
-use Rattle.gix_revwalk.specs.Commits.{time_of, parents_of, walked_parents}
-use Rattle.gix_simple.specs.Walk.{SimpleWalk, time_order, cutoff, is_older}
 use Rattle.gix_revwalk.specs.Infos.{IsInfo, IsRowGeneration}
-use Rattle.gix_revwalk.specs.Ids.{ids_of, AreDistinct}
-use Rattle.gix_simple.specs.Laws.{IsGiven, IsInOrder, IsBeginning, GivesInOrder, GivesBeginning, IsWholeRun, IsBegunRun, starts_of, next_of, is_kept, kept_parents, accepted_parents, recent_parents, IsPlain, IsPlainRun}
-use Rattle.gix_hash.proofs.Lists.{filter_all}
-use Rattle.gix_hash.proofs.Ids.Membership.{among_from, among_is, Contains-here, Contains-cons_cases, no_member}
-use Rattle.gix_revwalk.proofs.NewIds.{among-filter, named-push}
 use Rattle.gix_revwalk.proofs.Orders.{IsWorkOrder, IsWorkBeginning, IsDistinctFrom, work_from_breadth, work_from_time, work_begins, work_from_breadth_beginning, work_from_time_beginning, reached_is_given, given_is_reached, given_once}
-use Rattle.std.proofs.Math.Path.{transport}
-use Rattle.std.proofs.Math.Bool.{and-true}
 use Rattle.gix_simple.proofs.Treated.{no_cutoff}
-use Rattle.gix_simple.proofs.Theorem.{no_start, gives_in_order, gives_beginning}
-use Rattle.gix_revwalk.proofs.ReadsWhole.{walked_within}
+use Rattle.gix_simple.proofs.Theorem.{no_start, Contains-filter, gives_in_order, gives_beginning}
 
 -- one and all
 distinct_is : (taken ids : List ObjectId) → IsDistinctFrom taken ids → AreDistinct ids × ((i : ObjectId) → Contains taken i → Contains ids i → ⊥)
@@ -65,21 +47,13 @@ begun_once o time next starts ids h =
 -- what hidden tips cut away
 module _ (objects : Objects) (m : Parents) (accepts hides : ObjectId → Bool) (limit : Option ℤ) (tips hidden_tips : List ObjectId) (tells : Tells hides (Reaches (parents_of objects) hidden_tips)) where
   kept_both : (i : ObjectId) → is_kept objects accepts (λ j. false) limit i ≡ true → hides i ≡ false → is_kept objects accepts hides limit i ≡ true
-  kept_both i k h =
-      let a : ((accepts i && true) ≡ true) × (not (is_older (time_of objects i) limit) ≡ true) = and_parts _ _ k in
-      and_from _ _ (and_from _ _ (and_parts _ _ a.0).0 (not_from_false _ h)) a.1
+  kept_both i k h = grind arith
 
   kept_still : (i : ObjectId) → is_kept objects accepts hides limit i ≡ true → (is_kept objects accepts (λ j. false) limit i ≡ true) × (hides i ≡ false)
-  kept_still i k =
-      let a : ((accepts i && not (hides i)) ≡ true) × (not (is_older (time_of objects i) limit) ≡ true) = and_parts _ _ k in
-      let b : (accepts i ≡ true) × (not (hides i) ≡ true) = and_parts _ _ a.0 in
-      (and_from _ _ (and_from _ _ b.0 refl) a.1, not-true _ b.1)
+  kept_still i k = (grind arith, grind arith)
 
   in_filter : (p : ObjectId → Bool) (xs : List ObjectId) (i : ObjectId) → Contains xs i → p i ≡ true → Contains (filter p xs) i
   in_filter p xs i c e = among_is i _ (among-filter i p xs ∙ and_from _ _ e (among_from i xs c))
-
-  of_filter : (p : ObjectId → Bool) (xs : List ObjectId) (i : ObjectId) → Contains (filter p xs) i → (p i ≡ true) × Contains xs i
-  of_filter p xs i c = let a : (p i ≡ true) × (is_among i xs ≡ true) = and_parts (p i) (is_among i xs) (sym (among-filter i p xs) ∙ among_from i _ c) in (a.0, among_is i xs a.1)
 
   abbrev pub All-next : ObjectId → List ObjectId
   All-next = kept_parents objects m accepts (λ j. false) limit
@@ -93,31 +67,25 @@ module _ (objects : Objects) (m : Parents) (accepts hides : ObjectId → Bool) (
   pub shown_reached : (i : ObjectId) → Reaches All-next tips i → hides i ≡ false → Reaches Shown-next shown_tips i
   shown_reached i (start s) h = start (in_filter (λ j. not (hides j)) tips i s (not_from_false _ h))
   shown_reached i (step {c = c} r n) h =
-      let a : (is_kept objects accepts (λ j. false) limit i ≡ true) × Contains (walked_parents objects m c) i = of_filter _ (walked_parents objects m c) i n in
-      let open_c : hides c ≡ false = false_from_ne_true _ (λ t. true≢false (sym ((tells i).1 (step ((tells c).0 t) (walked_within m _ i a.1))) ∙ h)) in
-      step (shown_reached c r open_c) (in_filter _ (walked_parents objects m c) i a.1 (kept_both i a.0 h))
+      let a : Contains (walked_parents objects m c) i × (is_kept objects accepts (λ j. false) limit i ≡ true) = Contains-filter _ (walked_parents objects m c) i n in
+      let open_c : hides c ≡ false = false_from_ne_true _ (λ t. true≢false (sym ((tells i).1 (step ((tells c).0 t) (walked_within m _ i a.0))) ∙ h)) in
+      step (shown_reached c r open_c) (in_filter _ (walked_parents objects m c) i a.0 (kept_both i a.1 h))
 
   pub reached_shown : (i : ObjectId) → Reaches Shown-next shown_tips i → Reaches All-next tips i × (hides i ≡ false)
-  reached_shown i (start s) = let a : (not (hides i) ≡ true) × Contains tips i = of_filter (λ j. not (hides j)) tips i s in (start a.1, not-true _ a.0)
+  reached_shown i (start s) = let a : Contains tips i × (not (hides i) ≡ true) = Contains-filter (λ j. not (hides j)) tips i s in (start a.0, not-true _ a.1)
   reached_shown i (step {c = c} r n) =
-      let a : (is_kept objects accepts hides limit i ≡ true) × Contains (walked_parents objects m c) i = of_filter _ (walked_parents objects m c) i n in
-      let k : (is_kept objects accepts (λ j. false) limit i ≡ true) × (hides i ≡ false) = kept_still i a.0 in
-      (step (reached_shown c r).0 (in_filter _ (walked_parents objects m c) i a.1 k.0), k.1)
+      let a : Contains (walked_parents objects m c) i × (is_kept objects accepts hides limit i ≡ true) = Contains-filter _ (walked_parents objects m c) i n in
+      let k : (is_kept objects accepts (λ j. false) limit i ≡ true) × (hides i ≡ false) = kept_still i a.1 in
+      (step (reached_shown c r).0 (in_filter _ (walked_parents objects m c) i a.0 k.0), k.1)
 
 -- the times never rise
-take_next : {X : Type 0} (xs : List X) (k : ℕ) (x : X) → slice_get xs k ≡ Some x → take (suc k) xs ≡ take k xs ++ x ∷ []
-take_next [] k x e = cc
-take_next (y ∷ xs) zero x e = cc
-take_next (y ∷ xs) (suc k) x e = ap (λ ys. y ∷ ys) (take_next xs k x e)
-
-within : {X : Type 0} (xs : List X) (k : ℕ) (x : X) → slice_get xs k ≡ Some x → suc k ≤ length xs
-within xs k x e = Rattle.std.proofs.lemmas.Option.slice_get_within xs k x e
-
 pub times_fall : (time : ObjectId → ℤ) (next : ObjectId → List ObjectId) (starts ids : List ObjectId) → IsTimeOrder NewestFirst time next starts ids → ((c i : ObjectId) → Contains (next c) i → time i ≤ℤ time c) → (k : ℕ) (a b : ObjectId) → slice_get ids k ≡ Some a → slice_get ids (suc k) ≡ Some b → time b ≤ℤ time a
 times_fall time next starts ids h older k a b ea eb =
-    let best_a : IsBest NewestFirst time (IsPending next starts (take k ids)) a = subst (λ o. MatchOption o ((i : ObjectId) → IsPending next starts (take k ids) i → ⊥) (IsBest NewestFirst time (IsPending next starts (take k ids)))) ea (h k (let w : suc k ≤ length ids = within ids k a ea in omega arith)) in
-    let best_b : IsBest NewestFirst time (IsPending next starts (take (suc k) ids)) b = subst (λ o. MatchOption o ((i : ObjectId) → IsPending next starts (take (suc k) ids) i → ⊥) (IsBest NewestFirst time (IsPending next starts (take (suc k) ids)))) eb (h (suc k) (let w : suc (suc k) ≤ length ids = within ids (suc k) b eb in omega arith)) in
-    let taken : take (suc k) ids ≡ take k ids ++ a ∷ [] = take_next ids k a ea in
+    let best_a : IsBest NewestFirst time (IsPending next starts (take k ids)) a =
+    subst (λ o. MatchOption o ((i : ObjectId) → IsPending next starts (take k ids) i → ⊥) (IsBest NewestFirst time (IsPending next starts (take k ids)))) ea (h k (let w : suc k ≤ length ids = slice_get_within ids k a ea in omega arith)) in
+    let best_b : IsBest NewestFirst time (IsPending next starts (take (suc k) ids)) b =
+    subst (λ o. MatchOption o ((i : ObjectId) → IsPending next starts (take (suc k) ids) i → ⊥) (IsBest NewestFirst time (IsPending next starts (take (suc k) ids)))) eb (h (suc k) (let w : suc (suc k) ≤ length ids = slice_get_within ids (suc k) b eb in omega arith)) in
+    let taken : take (suc k) ids ≡ take k ids ++ a ∷ [] = take-suc ids k a (slice_get_within ids k a ea) ∙ ap (λ x. take k ids ++ x ∷ []) (get_or_from_slice_get ids k a a ea) in
     let named : named_by next starts (take (suc k) ids) ≡ named_by next starts (take k ids) ++ next a = ap (named_by next starts) taken ∙ named-push next starts (take k ids) a in
     ⊎_elim (λ n. best_a.best b (n, λ c. best_b.among.1 (subst (λ xs. Contains xs b) (sym taken) (Contains-append_left (take k ids) (a ∷ []) b c)))) (λ n. older a b n)
     (Contains-append_cases (named_by next starts (take k ids)) (next a) b (subst (λ xs. Contains xs b) named best_b.among.0))

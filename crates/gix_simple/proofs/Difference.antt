@@ -1,39 +1,18 @@
 -- A walk through all parents, without a cutoff, whose predicate accepts all, gives what its tips reach and its hidden tips don't.
-use Rattle.std.specs.Prelude.{◌≡◌, ◌≢◌, ◌↔◌, ℤ, List, [], ◌∷◌, ◌++◌, Bool, true, false, Option, Some, None, Result, Ok, Err, Contains, All, IsSome, cond}
-use Rattle.std.specs.Iterator.{Drains}
-use Rattle.std.specs.List.{AllZip}
-use Rattle.std.proofs.Math.Path.{transport}
-use Rattle.std.proofs.Common.{refl, sym, ap, subst, inl, inr, ⊎_elim, ◌∙◌}
-use Rattle.std.proofs.lemmas.Bool.{false≢true, true≢false, false_from_ne_true}
-use Rattle.std.proofs.lemmas.List.Elements.{Contains-append_left, Contains-append_right, Contains-append_cases, All-weaker}
-use Rattle.gix_hash.specs.declared.ObjectId.{ObjectId}
+use Rattle.std.proofs.Common.{◌≡◌, ◌≢◌, ◌↔◌, ℤ, List, [], ◌∷◌, ◌++◌, Bool, true, false, Option, Some, None, Result, Ok, Err, Contains, All, IsSome, cond, refl, sym, ap, subst, inl, inr, ⊎_elim, ◌∙◌, true≢false}
+use Rattle.gix_simple.proofs.Common.{Drains, AllZip, transport, false≢true, false_from_ne_true, Contains-append_left, Contains-append_right, Contains-append_cases, All-weaker, ObjectId, Objects, GraphRow, row_of, Info, Parents}
+use Rattle.gix_simple.proofs.Common.{CommitTimeOrder, Error, Reaches, start, step, Tells, IsAgreeing, AnswersBy, ReadsWhole, commit_at, parents_of, walked_parents, AreDistinct, ids_of, new_ids, IsBuilt, IsUncut, recent, timed, IsFresh}
+use Rattle.gix_simple.proofs.Common.{IsGiven, IsNoRefusal, IsWholeRun, GivesInOrder, GivesDifference, given_ids, kept_parents, next_of, starts_of, SimpleWalk, FirstStep, unhidden, Next, initial, later, cutoff, time_order, among_from}
+use Rattle.gix_simple.proofs.Common.{among_is, Contains-here, Contains-cons_cases, no_member, filter_within, filter_all, own_history, times_among, times-fresh, row_stands, walked_within}
 use Rattle.gix_object.specs.CommitText.{Commit}
-use Rattle.gix_object.specs.Object.{Objects}
 use Rattle.gix_object.specs.declared.find.existing_iter.Error.TheVariants as existing
-use Rattle.gix_commitgraph.specs.Rows.{GraphRow, row_of}
-use Rattle.gix_revwalk.specs.declared.Info.{Info}
-use Rattle.gix_revwalk.specs.declared.Parents.{Parents}
 use Rattle.gix_revwalk.specs.declared.Parents.TheVariants as mode
-use Rattle.gix_revwalk.specs.Pending.{Pending}
-use Rattle.gix_revwalk.specs.declared.CommitTimeOrder.{CommitTimeOrder}
-use Rattle.gix_simple.specs.declared.Error.{Error}
 use Rattle.gix_simple.specs.declared.Error.TheVariants as error
 use Rattle.gix_paint.specs.declared.Hidden.TheVariants as hidden_by
-use Rattle.gix_hash.specs.Reach.{Reaches, start, step, Tells}
-use Rattle.gix_revwalk.specs.Agreeing.{IsAgreeing}
-use Rattle.gix_revwalk.specs.Asking.{AnswersBy}
-use Rattle.gix_revwalk.specs.Commits.{ReadsWhole, commit_at, parents_of, walked_parents}
-use Rattle.gix_revwalk.specs.Ids.{AreDistinct, ids_of, new_ids}
-use Rattle.gix_simple.specs.Building.{IsBuilt, made, breadth_first, by_time, hides, walks, reads, IsUncut, recent, timed}
-use Rattle.gix_simple.specs.Laws.{IsFresh, IsGiven, IsNoRefusal, IsWholeRun, GivesInOrder, GivesDifference, given_ids, kept_parents, next_of, starts_of}
-use Rattle.gix_simple.specs.Walk.{SimpleWalk, FirstStep, unhidden, paints, faulty_history, no_memory, Next, initial, later, cutoff, time_order}
-use Rattle.gix_hash.proofs.Ids.Membership.{among_from, among_is, Contains-here, Contains-cons_cases, no_member}
-use Rattle.gix_hash.proofs.Lists.{filter_within, filter_all}
-use Rattle.gix_paint.proofs.Invariant.{own_history}
+use Rattle.gix_simple.specs.Building.{made, breadth_first, by_time, hides, walks, reads}
+use Rattle.gix_simple.specs.Walk.{paints, faulty_history, no_memory}
 use Rattle.gix_revwalk.proofs.Drained.{at_end, at_first}
-use Rattle.gix_revwalk.proofs.NewIds.{times_among, times-fresh}
 use Rattle.gix_revwalk.proofs.Reached.{reach_more}
-use Rattle.gix_revwalk.proofs.ReadsWhole.{row_stands, walked_within}
 use Rattle.gix_simple.proofs.Builders.{recent_ids, built}
 use Rattle.gix_simple.proofs.Corollaries.{all_kept, gives, gives_once, shown_reached, reached_shown}
 pub use Rattle.gix_simple.proofs.Theorem.{no_start}
@@ -41,9 +20,6 @@ use Rattle.gix_simple.proofs.OneStep.{IsCommit}
 use Rattle.gix_simple.proofs.Faultless.{only_commits}
 use Rattle.gix_simple.proofs.MadeOfTips.{is_new_walk, fresh_among}
 use Rattle.gix_simple.proofs.ReachDecided.{reach_test}
-
-recent_all : (objects : Objects) (ps : List Pending) → ids_of (recent None (timed objects ps)) ≡ ids_of ps
-recent_all objects ps = recent_ids objects None ps ∙ all_kept (ids_of ps)
 
 pub whole_from : (objects : Objects) (i : ObjectId) → IsSome (commit_at objects i) → ReadsWhole objects i
 whole_from objects i h = go (commit_at objects i) refl h
@@ -65,17 +41,14 @@ module _ (objects : Objects) where
 
   module _ (rows : List GraphRow) (parents : Parents) (order : Option CommitTimeOrder) where
     -- the answers are commits, and their ids are these
-    commit_ids : (list : List (Result Info Error)) (ids : List ObjectId) → AllZip (IsGiven objects rows parents order) list ids → given_ids list ≡ ids
-    commit_ids [] [] h = refl
-    commit_ids [] (i ∷ ids) h = absurd h
-    commit_ids (a ∷ list) [] h = absurd h
-    commit_ids (Ok info ∷ list) (i ∷ ids) h = (λ k. h.0.info_is.same_id k ∷ commit_ids list ids h.1 k)
-    commit_ids (Err e ∷ list) (i ∷ ids) h = absurd h.0
-
-    all_commits : (list : List (Result Info Error)) (ids : List ObjectId) → AllZip (IsGiven objects rows parents order) list ids → (e : Error) → Contains list (Err e) → ⊥
-    all_commits [] ids h e c = no_member (Err e) c
-    all_commits (a ∷ list) [] h e c = absurd h
-    all_commits (a ∷ list) (i ∷ ids) h e c = ⊎_elim (λ s. subst (λ x. IsGiven objects rows parents order x i) s h.0) (all_commits list ids h.1 e) (Contains-cons_cases (Err e) a list c)
+    commits : (list : List (Result Info Error)) (ids : List ObjectId) → AllZip (IsGiven objects rows parents order) list ids → (given_ids list ≡ ids) × ((e : Error) → Contains list (Err e) → ⊥)
+    commits [] [] h = (refl, λ e c. no_member (Err e) c)
+    commits [] (i ∷ ids) h = absurd h
+    commits (a ∷ list) [] h = absurd h
+    commits (Err e ∷ list) (i ∷ ids) h = absurd h.0
+    commits (Ok info ∷ list) (i ∷ ids) h =
+        let r : (given_ids list ≡ ids) × ((e : Error) → Contains list (Err e) → ⊥) = commits list ids h.1 in
+        ((λ k. h.0.info_is.same_id k ∷ r.0 k), λ e c. ⊎_elim (λ s. cc) (r.1 e) (Contains-cons_cases (Err e) (Ok info) list c))
 
 -- an answer that is no fault is no refusal
 unrefused : (list : List (Result Info Error)) → ((e : Error) → Contains list (Err e) → ⊥) → All IsNoRefusal list
@@ -109,32 +82,27 @@ module _ {F P : Type 0} (objects : F → Objects) (faulty : F → ObjectId → T
       (λ e s. let same : answer ≡ Err e = cc in good e (subst (λ x. Contains (x ∷ list) (Err e)) (sym same) (Contains-here (Err e) list)))
 
   module _ (store : F) (predicate : P) (tips : List ObjectId) (accepting : AnswersBy answers predicate (λ i. true)) where
-    -- no call took a tip out
-    pending_tips : {walk : SimpleWalk F P} (b : IsBuilt objects faulty answers store predicate tips walk) → IsUncut b → ids_of walk.pending ≡ new_ids (λ i. false) tips
-    pending_tips (made {walk = walk} m) u = (is_new_walk objects faulty answers store predicate (λ i. true) tips walk accepting m).pending ∙ ap (new_ids (λ i. false)) (filter_all (λ i. true) tips (λ i c. refl))
-    pending_tips (breadth_first b) u = pending_tips b u
-    pending_tips (by_time {walk = walk} {by = by} b s) u = ap ids_of s.pending ∙ ap (λ limit. ids_of (recent limit (timed (objects walk.store) walk.pending))) u.1 ∙ recent_all (objects walk.store) walk.pending ∙ pending_tips b u.0
-    pending_tips (hides b) u = pending_tips b u
-    pending_tips (walks b) u = pending_tips b u
-    pending_tips (reads b) u = pending_tips b u
-
-    uncut_all : {walk : SimpleWalk F P} (b : IsBuilt objects faulty answers store predicate tips walk) → IsUncut b → cutoff mode.All walk.sorting ≡ None
-    uncut_all (made {walk = walk} m) u = ap (cutoff mode.All) (is_new_walk objects faulty answers store predicate (λ i. true) tips walk accepting m).breadth_first
-    uncut_all (breadth_first b) u = refl
-    uncut_all (by_time b s) u = ap (λ w. cutoff mode.All w.sorting) s.others ∙ u.1
+    -- no call took a tip out, or set a cutoff
+    uncut_all : {walk : SimpleWalk F P} (b : IsBuilt objects faulty answers store predicate tips walk) → IsUncut b → (ids_of walk.pending ≡ new_ids (λ i. false) tips) × (cutoff mode.All walk.sorting ≡ None)
+    uncut_all (made {walk = walk} m) u =
+        let new = is_new_walk objects faulty answers store predicate (λ i. true) tips walk accepting m in
+        (new.pending ∙ ap (new_ids (λ i. false)) (filter_all (λ i. true) tips (λ i c. refl)), ap (cutoff mode.All) new.breadth_first)
+    uncut_all (breadth_first b) u = ((uncut_all b u).0, refl)
+    uncut_all (by_time {walk = walk} {by = by} b s) u =
+        (ap ids_of s.pending ∙ ap (λ limit. ids_of (recent limit (timed (objects walk.store) walk.pending))) u.1 ∙ recent_ids (objects walk.store) None walk.pending ∙ all_kept (ids_of walk.pending) ∙ (uncut_all b u.0).0, ap (λ w. cutoff mode.All w.sorting) s.others ∙ u.1)
     uncut_all (hides b) u = uncut_all b u
     uncut_all (walks b) u = uncut_all b u
     uncut_all (reads b) u = uncut_all b u
 
     module _ (walk : SimpleWalk F P) (b : IsBuilt objects faulty answers store predicate tips walk) (uncut : IsUncut b) (all : walk.parents ≡ mode.All) where
       no_cutoff : cutoff walk.parents walk.sorting ≡ None
-      no_cutoff = ap (λ m. cutoff m walk.sorting) all ∙ uncut_all b uncut
+      no_cutoff = ap (λ m. cutoff m walk.sorting) all ∙ (uncut_all b uncut).1
 
       is_pending : (i : ObjectId) → Contains tips i → Contains (ids_of walk.pending) i
-      is_pending i c = subst (λ xs. Contains xs i) (sym (pending_tips b uncut)) (among_is i (new_ids (λ j. false) tips) (times_among i (new_ids (λ j. false) tips) 0 (times-fresh i (λ j. false) tips ∙ ap (λ b. cond b 1 0) (among_from i tips c))))
+      is_pending i c = subst (λ xs. Contains xs i) (sym ((uncut_all b uncut).0)) (among_is i (new_ids (λ j. false) tips) (times_among i (new_ids (λ j. false) tips) 0 (times-fresh i (λ j. false) tips ∙ ap (λ b. cond b 1 0) (among_from i tips c))))
 
       is_tip : (i : ObjectId) → Contains (ids_of walk.pending) i → Contains tips i
-      is_tip i c = among_is i tips (fresh_among i (λ j. false) tips (subst (λ xs. Contains xs i) (pending_tips b uncut) c))
+      is_tip i c = among_is i tips (fresh_among i (λ j. false) tips (subst (λ xs. Contains xs i) ((uncut_all b uncut).0) c))
 
       is_fresh : IsFresh objects walk (λ i. true) × AnswersBy answers walk.predicate (λ i. true) × (walk.store ≡ store)
       is_fresh = built objects faulty answers (λ i. true) store predicate accepting tips walk b
@@ -174,7 +142,7 @@ module _ {F P : Type 0} (objects : F → Objects) (faulty : F → ObjectId → T
         each = gives_once objects faulty answers walk (λ i. true) test.0 list gave
 
         ids_are : given_ids list ≡ gave.ids
-        ids_are = commit_ids (objects walk.store) walk.rows walk.parents (time_order walk.parents walk.sorting) list gave.ids gave.given
+        ids_are = (commits (objects walk.store) walk.rows walk.parents (time_order walk.parents walk.sorting) list gave.ids gave.given).0
 
         reached : (i : ObjectId) → Reaches (parents_of (objects walk.store)) tips i → test.0 i ≡ false → Reaches (next_of objects walk (λ i. true) test.0) (starts_of walk test.0) i
         reached i r h =
@@ -184,7 +152,7 @@ module _ {F P : Type 0} (objects : F → Objects) (faulty : F → ObjectId → T
 
         gives_difference : GivesDifference (objects walk.store) tips walk.hidden_tips list
         gives_difference = record {
-          commits = all_commits (objects walk.store) walk.rows walk.parents (time_order walk.parents walk.sorting) list gave.ids gave.given;
+          commits = (commits (objects walk.store) walk.rows walk.parents (time_order walk.parents walk.sorting) list gave.ids gave.given).1;
           once = subst AreDistinct (sym ids_are) each.0;
           exact = λ i. (
             λ c. let p = from_pending i ((each.1 i).0 (subst (λ xs. Contains xs i) ids_are c)) in (reach_more (parents_of (objects walk.store)) (ids_of walk.pending) tips is_tip i p.0, λ h. true≢false (sym ((test.1 i).1 h) ∙ p.1)),

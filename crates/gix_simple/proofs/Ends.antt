@@ -1,32 +1,18 @@
 -- Every walk ends: each answer lowers how many answers are left.
-use Rattle.std.specs.Prelude.{◌≡◌, ◌+◌, ◌≤◌, ℕ, suc, List, [], ◌∷◌, length, Bool, true, false, ◌||◌, cond, Some, Result}
-use Rattle.std.proofs.Common.{refl, ap, arith, le_refl}
-use Rattle.std.proofs.lemmas.Bool.{or_right, or_left}
+use Rattle.std.proofs.Common.{◌≡◌, ◌+◌, ◌≤◌, ℕ, suc, List, [], ◌∷◌, length, Bool, true, false, ◌||◌, Some, Result, ap, arith, le_refl}
+use Rattle.gix_simple.proofs.Common.{or_right, or_left, Yields, ObjectId, is_same, is_among, Objects, Info, Error, SimpleWalk, Treated, Next, named_in, answers_left, id_total, same_itself, fresh, fresh_agree, new_less}
 use Rattle.std.specs.FinSet as set
-use Rattle.std.specs.Iterator.{Yields}
-use Rattle.gix_hash.specs.declared.ObjectId.{ObjectId}
-use Rattle.gix_hash.specs.Id.{is_same, is_among}
-use Rattle.gix_object.specs.Object.{Objects}
-use Rattle.gix_revwalk.specs.declared.Info.{Info}
-use Rattle.gix_simple.specs.declared.Error.{Error}
-use Rattle.gix_simple.specs.Walk.{SimpleWalk, Treated, Next}
-use Rattle.gix_simple.specs.Laws.{named_in, answers_left}
-use Rattle.gix_hash.proofs.Ids.Membership.{id_total, same_itself}
-use Rattle.gix_revwalk.proofs.NewIds.{fresh, fresh_agree, new_less}
 use Rattle.gix_simple.proofs.Moves.{Asking, rests, asks, Follows, Moves, fails, takes, next_moves, listed_before}
 
 -- of fewer ids fewer are new
 fewer_new : (s : ObjectId → Bool) (xs ys : List ObjectId) → ((i : ObjectId) → is_among i xs ≡ true → is_among i ys ≡ true) → length (fresh s xs) ≤ length (fresh s ys)
 fewer_new s [] ys h = Prim.Native.Nat.zero-le
-fewer_new s (x ∷ xs) ys h = go (fewer_new s xs ys rest) (fewer_new (λ j. is_same j x || s j) xs ys rest) (s x) refl
-  where
-    rest : (i : ObjectId) → is_among i xs ≡ true → is_among i ys ≡ true
-    rest i m = h i (or_right (is_same i x) _ m)
-
-    go : length (fresh s xs) ≤ length (fresh s ys) → length (fresh (λ j. is_same j x || s j) xs) ≤ length (fresh (λ j. is_same j x || s j) ys)
-        → (b : Bool) → s x ≡ b → length (cond b (fresh s xs) (x ∷ fresh (λ j. is_same j x || s j) xs)) ≤ length (fresh s ys)
-    go r q true e = r
-    go r q false e = let k : suc (length (fresh (λ j. is_same j x || s j) ys)) ≡ length (fresh s ys) = new_less s ys x (h x (or_left _ _ (same_itself x))) e in omega arith
+fewer_new s (x ∷ xs) ys h =
+    let rest : (i : ObjectId) → is_among i xs ≡ true → is_among i ys ≡ true = λ i m. h i (or_right (is_same i x) _ m) in
+    let old = fewer_new s xs ys rest in
+    let new = fewer_new (λ j. is_same j x || s j) xs ys rest in
+    let less : s x ≡ false → suc (length (fresh (λ j. is_same j x || s j) ys)) ≡ length (fresh s ys) = new_less s ys x (h x (or_left _ _ (same_itself x))) in
+    grind arith
 
 module _ {F P : Type 0} (objects : F → Objects) (faulty : F → ObjectId → Type 0) (answers : P → ObjectId → Bool → P → Type 0) where
   -- what a walk can still give, of these ids

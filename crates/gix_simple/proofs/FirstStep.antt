@@ -1,33 +1,20 @@
 -- How the first step hides what hidden tips reach.
-use Rattle.std.specs.Prelude.{◌≡◌, ◌≢◌, ◌⊎◌, ◌==◌, ◌||◌, List, [], Bool, true, false, not, filter, length, if◌then◌else◌, Option, Some, None, Result, Ok, Err}
-use Rattle.std.proofs.Common.{refl, sym, ap, subst, inl, inr, ⊎_elim, ◌∙◌}
-use Rattle.std.proofs.lemmas.Bool.{false≢true}
+use Rattle.std.proofs.Common.{◌≡◌, ◌≢◌, ◌==◌, ◌||◌, List, [], Bool, true, false, not, filter, length, if◌then◌else◌, Option, Some, None, Result, Ok, Err, refl, sym, ap, subst, inl, inr, ⊎_elim, ◌∙◌}
+use Rattle.gix_simple.proofs.Common.{false≢true, or_cases, MakesProgress, at_most, or-true, ObjectId, id_cmp, Objects, Info, Error, Pending, Paints, IsHiddenFault, Hides, nothing, unpainted, SimpleWalk, Steps, FirstStep, Next, unhidden}
+use Rattle.gix_simple.proofs.Common.{ids_of, answers_left, nil_from_length}
 use Rattle.std.proofs.lemmas.Bool.Decides.{eqb_tells}
-use Rattle.std.specs.Iterator.{MakesProgress, at_most}
 use Rattle.std.specs.FinSet as set
-use Rattle.std.proofs.Math.Bool.{or-true}
-use Rattle.gix_hash.specs.declared.ObjectId.{ObjectId}
-use Rattle.gix_hash.specs.Id.{id_cmp}
-use Rattle.gix_object.specs.Object.{Objects}
-use Rattle.gix_revwalk.specs.declared.Info.{Info}
-use Rattle.gix_simple.specs.declared.Error.{Error}
 use Rattle.gix_simple.specs.declared.Error.TheVariants as error
 use Rattle.gix_paint.specs.declared.Hidden.{Hidden}
 use Rattle.gix_paint.specs.declared.Hidden.TheVariants as hidden_by
 use Rattle.gix_object.specs.declared.find.existing_iter.Error.TheVariants as existing
-use Rattle.gix_revwalk.specs.Pending.{Pending}
-use Rattle.gix_paint.specs.Painting.{Paints, IsHiddenFault}
 use Rattle.gix_simple.specs.Errors.{error_of_hidden}
-use Rattle.gix_simple.specs.Inside.Steps.{Hides, nothing, paints, faulty_history, no_memory, unpainted}
+use Rattle.gix_simple.specs.Inside.Steps.{paints, faulty_history, no_memory}
 use Rattle.gix_simple.specs.Walk as walk
-use Rattle.gix_simple.specs.Walk.{SimpleWalk, Steps, FirstStep, Next, unhidden}
-use Rattle.gix_revwalk.specs.Ids.{ids_of}
-use Rattle.gix_simple.specs.Laws.{answers_left}
 use Rattle.gix_simple.proofs.Ends.{next_left}
-use Rattle.gix_simple.proofs.TimeKeys.{none_of}
 
 none_in : {X : Type 0} (xs : List X) → (length xs == 0) ≡ true → xs ≡ []
-none_in xs e = ⊎_elim (λ t. none_of xs t.1) (λ f. absurd (false≢true (sym f.0 ∙ e))) (eqb_tells (length xs) 0)
+none_in xs e = ⊎_elim (λ t. nil_from_length xs t.1) (λ f. absurd (false≢true (sym f.0 ∙ e))) (eqb_tells (length xs) 0)
 
 module _ {F P : Type 0} (objects : F → Objects) (faulty : F → ObjectId → Type 0) (answers : P → ObjectId → Bool → P → Type 0) (old : SimpleWalk F P) where
   -- what was hidden is stepped over
@@ -46,12 +33,8 @@ module _ {F P : Type 0} (objects : F → Objects) (faulty : F → ObjectId → T
 
   -- there is nothing to hide
   pub hides_nothing : (inside : SimpleWalk F P) → inside ≡ old → (cleared : List ObjectId) → cleared ≡ [] → (length old.pending == 0 || length old.hidden_tips == 0) ≡ true → Hides objects faulty answers old (Ok tt) (record inside { hidden_tips = cleared })
-  hides_nothing inside is cleared e n = subst (Hides objects faulty answers old (Ok tt)) (λ j. record (sym is j) { hidden_tips = sym e j }) (nothing (either (length old.pending == 0) (length old.hidden_tips == 0) refl refl n))
-    where
-      either : (a b : Bool) → (length old.pending == 0) ≡ a → (length old.hidden_tips == 0) ≡ b → (a || b) ≡ true → (old.pending ≡ []) ⊎ (old.hidden_tips ≡ [])
-      either true b e f n = inl (none_in old.pending e)
-      either false true e f n = inr (none_in old.hidden_tips f)
-      either false false e f n = absurd (false≢true n)
+  hides_nothing inside is cleared e n =
+      subst (Hides objects faulty answers old (Ok tt)) (λ j. record (sym is j) { hidden_tips = sym e j }) (nothing (⊎_elim (λ e. inl (none_in old.pending e)) (λ e. inr (none_in old.hidden_tips e)) (or_cases (length old.pending == 0) (length old.hidden_tips == 0) n)))
 
   module _ (some : (length old.pending == 0 || length old.hidden_tips == 0) ≡ false) (mid : SimpleWalk F P) (emptied : mid ≡ record old { pending = [] }) where
     pending : old.pending ≢ []

@@ -1,21 +1,8 @@
 -- A walk that was just made, breadth first, and drawn to its end.
-use Rattle.std.specs.Prelude.{◌≡◌, List, filter, Bool, false, None, Result, All}
-use Rattle.std.proofs.Common.{sym, subst}
-use Rattle.std.specs.Iterator.{Drains}
-use Rattle.std.specs.List.{AllZip}
-use Rattle.gix_hash.specs.declared.ObjectId.{ObjectId}
-use Rattle.gix_object.specs.Object.{Objects}
-use Rattle.gix_revwalk.specs.declared.Info.{Info}
-use Rattle.gix_revwalk.specs.declared.Parents.{Parents}
+use Rattle.std.proofs.Common.{◌≡◌, List, filter, Bool, false, None, Result, All, sym}
+use Rattle.gix_simple.proofs.Common.{Drains, AllZip, transport, ObjectId, Objects, Info, Parents, Error, IsBreadthOrder, ReadsWhole, time_of, Reaches, SimpleWalk, IsMade, Next, time_order, ids_of, new_ids, AnswersBy, IsNoRefusal}
+use Rattle.gix_simple.proofs.Common.{IsPlain, GivesBreadthFirst, accepted_parents}
 use Rattle.gix_revwalk.specs.declared.Parents.TheVariants as mode
-use Rattle.gix_simple.specs.declared.Error.{Error}
-use Rattle.gix_revwalk.specs.BreadthOrder.{IsBreadthOrder}
-use Rattle.gix_revwalk.specs.Commits.{ReadsWhole, time_of}
-use Rattle.gix_hash.specs.Reach.{Reaches}
-use Rattle.gix_simple.specs.Walk.{SimpleWalk, IsMade, Next, time_order}
-use Rattle.gix_revwalk.specs.Ids.{ids_of, new_ids}
-use Rattle.gix_revwalk.specs.Asking.{AnswersBy}
-use Rattle.gix_simple.specs.Laws.{IsNoRefusal, IsPlain, GivesBreadthFirst, accepted_parents}
 use Rattle.gix_simple.proofs.Corollaries.{breadth, each_once}
 use Rattle.gix_simple.proofs.MadeOfTips.{is_new_walk}
 
@@ -26,10 +13,6 @@ module _ {F P : Type 0} (objects : F → Objects) (faulty : F → ObjectId → T
   Whole : F → Parents → List ObjectId → Type 0
   Whole store parents starts = (i : ObjectId) → Reaches (accepted_parents (objects store) parents accepts) starts i → ReadsWhole (objects store) i
 
-  -- what holds at one of two equal triples holds at the other
-  moved : (Q : F → Parents → List ObjectId → Type 0) {a b : F} {m n : Parents} {xs ys : List ObjectId} → a ≡ b → m ≡ n → xs ≡ ys → Q a m xs → Q b n ys
-  moved Q {a} {b} {m} {n} {xs} {ys} e f g q = subst (λ zs. Q b n zs) g (subst (λ k. Q b k xs) f (subst (λ c. Q c m xs) e q))
-
   pub made_run : (store : F) (predicate : P) (tips : List ObjectId) (walk : SimpleWalk F P) → AnswersBy answers predicate accepts → IsMade objects faulty answers store predicate tips walk
       → ((i : ObjectId) → Reaches (accepted_parents (objects store) mode.All accepts) (new_ids (λ i. false) (filter accepts tips)) i → ReadsWhole (objects store) i)
       → All IsNoRefusal list → Drains (Next objects faulty answers) walk list
@@ -37,9 +20,9 @@ module _ {F P : Type 0} (objects : F → Objects) (faulty : F → ObjectId → T
   unfolding Drawn Whole
   made_run store predicate tips walk by_test made whole unrefused may =
       let made_so = is_new_walk objects faulty answers store predicate accepts tips walk by_test made in
-      let whole_here : Whole walk.store walk.parents (ids_of walk.pending) = moved Whole (sym made_so.same_store) (sym made_so.all_parents) (sym made_so.pending) whole in
+      let whole_here : Whole walk.store walk.parents (ids_of walk.pending) = transport (λ k. Whole (sym made_so.same_store k) (sym made_so.all_parents k) (sym made_so.pending k)) whole in
       let timeless : time_order walk.parents walk.sorting ≡ None = λ j. time_order (made_so.all_parents j) (made_so.breadth_first j) in
       let drawn = breadth objects faulty answers walk accepts list timeless (record { by_test = made_so.by_test; fresh = made_so.fresh; open_to = made_so.open_to; rowless = made_so.rowless; whole = whole_here; unrefused = unrefused; drawn = may }) in
-      let there : Drawn store mode.All (new_ids (λ i. false) (filter accepts tips)) = moved Drawn made_so.same_store made_so.all_parents made_so.pending drawn in
+      let there : Drawn store mode.All (new_ids (λ i. false) (filter accepts tips)) = transport (λ k. Drawn (made_so.same_store k) (made_so.all_parents k) (made_so.pending k)) drawn in
       let each = each_once None (time_of (objects store)) (accepted_parents (objects store) mode.All accepts) (new_ids (λ i. false) (filter accepts tips)) there.0 there.2 in
       record { ids = there.0; given = there.1; in_order = there.2; once = each.0; reached = each.1 }

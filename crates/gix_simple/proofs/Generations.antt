@@ -1,36 +1,16 @@
 -- The generations that a walk gives are the generations of its rows, up to where a corrupt row drops the rows.
-use Rattle.std.specs.Prelude.{◌≡◌, ◌⊎◌, ℕ, ℤ, List, [], ◌∷◌, Bool, true, false, not, Option, Some, None, Result, Ok, Err, All, Contains}
-use Rattle.std.specs.Option.{option_map}
-use Rattle.std.proofs.Common.{refl, sym, ap, subst, inl, inr, ⊎_elim, ◌∙◌}
-use Rattle.std.proofs.Math.Path.{transport}
-use Rattle.std.proofs.lemmas.Bool.{true≢false}
-use Rattle.std.proofs.lemmas.List.Elements.{All-nil, All-cons}
+use Rattle.std.proofs.Common.{◌≡◌, ◌⊎◌, ℕ, ℤ, List, [], ◌∷◌, Bool, true, false, not, Option, Some, None, Result, Ok, Err, All, Contains, option_map, refl, sym, ap, subst, inl, inr, ⊎_elim, ◌∙◌, true≢false}
+use Rattle.gix_simple.proofs.Common.{transport, All-nil, All-cons, Yields, ObjectId, commit_items, id_cmp, kind_of, Objects, GraphRow, row_of, Info, Error, Pending, IsAgreeing, ReadsWhole, by_mode, Reaches, start, step, SimpleWalk}
+use Rattle.gix_simple.proofs.Common.{Treated, StoreFails, store_fails, TreatsAll, Concludes, given, broken, Takes, by_row, by_store, not_found, Steps, took, painted, FirstStep, unhidden, Next, initial, later, scanned, text_next, next_in}
+use Rattle.gix_simple.proofs.Common.{ids_at, rows_if, kept_rows, IsUnrowed, ids_of, Contains-here, Contains-there, Contains-cons_cases, own_history, row_stands, row_parents, corrupt_row}
 use Rattle.std.specs.FinMap as map_of
 use Rattle.std.specs.FinSet as set
-use Rattle.std.specs.Iterator.{Yields}
-use Rattle.gix_hash.specs.declared.ObjectId.{ObjectId}
 use Rattle.gix_object.specs.declared.Kind.TheVariants as object
 use Rattle.gix_object.specs.declared.decode.Error.{Error as DecodeError}
 use Rattle.gix_object.specs.declared.find.existing_iter.Error.TheVariants as existing
-use Rattle.gix_object.specs.CommitItems.{commit_items}
-use Rattle.gix_hash.specs.Id.{id_cmp, kind_of}
-use Rattle.gix_object.specs.Object.{Objects}
-use Rattle.gix_commitgraph.specs.Rows.{GraphRow, row_of}
-use Rattle.gix_revwalk.specs.declared.Info.{Info}
-use Rattle.gix_simple.specs.declared.Error.{Error}
 use Rattle.gix_simple.specs.declared.Error.TheVariants as error
-use Rattle.gix_revwalk.specs.Pending.{Pending}
-use Rattle.gix_revwalk.specs.Agreeing.{IsAgreeing}
-use Rattle.gix_revwalk.specs.Commits.{ReadsWhole, by_mode}
-use Rattle.gix_hash.specs.Reach.{Reaches, start, step}
-use Rattle.gix_simple.specs.Walk.{SimpleWalk, Treated, StoreFails, dropped, store_fails, no_memory, TreatsAll, more, Concludes, given, broken, Takes, by_row, by_store, not_found, Steps, took, painted, FirstStep, unhidden, paints, faulty_history, Next, initial, later}
-use Rattle.gix_revwalk.specs.Texts.{scanned, text_next, next_in}
-use Rattle.gix_revwalk.specs.RowParents.{ids_at, rows_if, kept_rows, IsUnrowed}
-use Rattle.gix_revwalk.specs.Ids.{ids_of}
+use Rattle.gix_simple.specs.Walk.{no_memory, paints, faulty_history}
 use Rattle.gix_simple.specs.Runs.{IsTold, IsUntold, IsAbout, HasCorruptRow, PaintingDrops, TellsGenerations}
-use Rattle.gix_hash.proofs.Ids.Membership.{Contains-here, Contains-there, Contains-cons_cases}
-use Rattle.gix_paint.proofs.Invariant.{own_history}
-use Rattle.gix_revwalk.proofs.ReadsWhole.{row_stands, row_parents, corrupt_row}
 use Rattle.gix_revwalk.proofs.TextParents.{text_whole}
 use Rattle.gix_simple.proofs.Moves.{scan_by, Fewer, fewer_same, fewer_then, fewer_filter, fewer_within, Asking, rests, asks, asking, kept, Follows, IsGivenAs, concludes, fewer_chosen, next_moves, moves_pend}
 use Rattle.gix_revwalk.proofs.Reached.{reaches_from}

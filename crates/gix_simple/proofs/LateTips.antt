@@ -1,13 +1,7 @@
 -- Behind the first step a walk takes the same steps whatever its hidden tips are, and it is never at its first step again.
-use Rattle.std.specs.Prelude.{◌≡◌, List, Bool, true, Option, Result}
-use Rattle.std.proofs.Common.{sym, ◌∙◌}
-use Rattle.std.proofs.lemmas.Bool.{true≢false}
-use Rattle.gix_hash.specs.declared.ObjectId.{ObjectId}
-use Rattle.gix_object.specs.Object.{Objects}
-use Rattle.gix_revwalk.specs.declared.Info.{Info}
-use Rattle.gix_revwalk.specs.Pending.{Pending}
-use Rattle.gix_simple.specs.declared.Error.{Error}
-use Rattle.gix_simple.specs.Walk.{SimpleWalk, no_memory, Takes, by_row, by_store, not_found, Chooses, first, best, Steps, ended, took, Next, initial, later}
+use Rattle.std.proofs.Common.{◌≡◌, List, Bool, true, Option, Result, sym, ◌∙◌, true≢false}
+use Rattle.gix_simple.proofs.Common.{ObjectId, Objects, Info, Pending, Error, SimpleWalk, Takes, by_row, by_store, not_found, Chooses, first, best, Steps, ended, took, Next, initial, later}
+use Rattle.gix_simple.specs.Walk.{no_memory}
 use Rattle.gix_simple.proofs.LentText.{treats_all_with, concludes_with}
 use Rattle.gix_simple.proofs.Moves.{next_moves, moves_begun}
 

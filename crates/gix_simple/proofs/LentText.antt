@@ -1,11 +1,9 @@
 -- Treating parents neither reads nor changes the text that a walk lends, and its hidden tips; nor does the answer depend on them.
-use Rattle.std.specs.Prelude.{ℕ, ℤ, List, Bool, Option, Result}
-use Rattle.gix_hash.specs.declared.ObjectId.{ObjectId}
+use Rattle.std.proofs.Common.{ℕ, ℤ, List, Bool, Option, Result}
+use Rattle.gix_simple.proofs.Common.{ObjectId, Objects, Info, Error, SimpleWalk, Treated, Asks, remembers, ReadsTime, unasked, from_row, from_store, IsNew, Treats, hidden, refused, accepted, store_fails, no_memory_after, TreatsAll}
+use Rattle.gix_simple.proofs.Common.{stops, Concludes, given, broken}
 use Rattle.gix_object.specs.declared.decode.Error.{Error as DecodeError}
-use Rattle.gix_object.specs.Object.{Objects}
-use Rattle.gix_revwalk.specs.declared.Info.{Info}
-use Rattle.gix_simple.specs.declared.Error.{Error}
-use Rattle.gix_simple.specs.Walk.{SimpleWalk, Treated, Asks, remembers, asks, ReadsTime, unasked, from_row, from_store, IsNew, Treats, hidden, known, refused, accepted, store_fails, no_memory, no_memory_after, TreatsAll, none, more, stops, Concludes, given, broken}
+use Rattle.gix_simple.specs.Walk.{asks, known, no_memory, none, more}
 
 module _ {F P : Type 0} (objects : F → Objects) (faulty : F → ObjectId → Type 0) (answers : P → ObjectId → Bool → P → Type 0)
     (text : List ℕ → List ℕ) (current : Option ObjectId → Option ObjectId) (tips : List ObjectId → List ObjectId) where

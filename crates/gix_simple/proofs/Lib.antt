@@ -1,3 +1,5 @@
+-- What most proofs use, to import from one place.
+mod Common
 -- What a new walk holds that was made of some tips.
 pub mod MadeOfTips
 -- How `sorting` reads the pending tips, and which ones a cutoff takes out.

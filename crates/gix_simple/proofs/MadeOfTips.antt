@@ -1,38 +1,20 @@
 -- What a walk holds that was just made of some tips.
-use Rattle.std.specs.Prelude.{◌≡◌, ◌⊎◌, ◌≤◌, List, [], filter, Bool, true, false, not, ◌&&◌, ◌||◌, cond, Contains}
-use Rattle.std.proofs.Common.{refl, sym, ap, subst, inl, inr, ⊎_elim, arith, ◌∙◌}
-use Rattle.std.proofs.lemmas.Bool.{false≢true, and_parts}
+use Rattle.std.proofs.Common.{◌≡◌, ◌⊎◌, ◌≤◌, List, [], filter, Bool, true, false, ◌&&◌, ◌||◌, cond, Contains, refl, sym, ap, subst, inl, inr, ⊎_elim, arith, ◌∙◌}
+use Rattle.gix_simple.proofs.Common.{false≢true, and_parts, or-false, ObjectId, id_cmp, is_among, Objects, among_from, among_is, no_member, SimpleWalk, bare, time_order, IsMade, ids_of, AreDistinct, new_ids, Becomes, itself, further}
+use Rattle.gix_simple.proofs.Common.{AnswersBy, IsFresh, IsNewWalk, fresh, times_among, times-fresh, among-filter, times_once, among_times}
 use Rattle.std.specs.FinSet as set
-use Rattle.std.proofs.Math.Bool.{or-false}
-use Rattle.gix_hash.specs.declared.ObjectId.{ObjectId}
-use Rattle.gix_hash.specs.Id.{id_cmp, is_among}
-use Rattle.gix_object.specs.Object.{Objects}
-use Rattle.gix_hash.proofs.Ids.Membership.{among_from, among_is, no_member}
 use Rattle.gix_revwalk.specs.declared.Parents.TheVariants as mode
 use Rattle.gix_simple.specs.declared.Sorting.TheVariants as sorting
-use Rattle.gix_simple.specs.Walk.{SimpleWalk, bare, time_order, IsMade}
-use Rattle.gix_revwalk.specs.Ids.{ids_of, AreDistinct, new_ids}
-use Rattle.gix_revwalk.specs.Asking.{Becomes, itself, further, AnswersBy}
-use Rattle.gix_simple.specs.Laws.{IsFresh, IsNewWalk}
-use Rattle.gix_revwalk.proofs.NewIds.{fresh, times_among, times-fresh, among-filter, times_once, among_times}
+use Rattle.gix_revwalk.proofs.NewIds.{times}
 use Rattle.gix_simple.proofs.Treated.{Setting, Stands, Did, keep, all_treated}
-
-pub once_or_never : (b : Bool) → cond b 1 0 ≤ 1
-once_or_never true = omega arith
-once_or_never false = omega arith
 
 -- new ids are distinct
 fresh_once : (s : ObjectId → Bool) (xs : List ObjectId) → AreDistinct (fresh s xs)
-fresh_once s xs = times_once (fresh s xs) (λ i. subst (λ n. n ≤ 1) (sym (times-fresh i s xs)) (once_or_never (not (s i) && is_among i xs)))
+fresh_once s xs = times_once (fresh s xs) (λ i. let t = times-fresh i s xs in grind arith)
 
 -- they are ids of the list
 pub fresh_among : (i : ObjectId) (s : ObjectId → Bool) (xs : List ObjectId) → Contains (fresh s xs) i → is_among i xs ≡ true
-fresh_among i s xs h = go (not (s i)) (is_among i xs) (subst (λ n. 1 ≤ n) (times-fresh i s xs) (among_times i (fresh s xs) (among_from i (fresh s xs) h)))
-  where
-    go : (a b : Bool) → 1 ≤ cond (a && b) 1 0 → b ≡ true
-    go true true h = refl
-    go true false h = absurd (omega arith)
-    go false b h = absurd (omega arith)
+fresh_among i s xs h = let t = times-fresh i s xs in let m : 1 ≤ times i (fresh s xs) = among_times i (fresh s xs) (among_from i (fresh s xs) h) in grind arith
 
 -- all of them, where none is old
 among_fresh : (i : ObjectId) (xs : List ObjectId) → is_among i xs ≡ true → Contains (fresh (λ j. false) xs) i
@@ -46,12 +28,9 @@ module _ {F P : Type 0} (objects : F → Objects) (faulty : F → ObjectId → T
   setting : Setting objects faulty answers
   setting = record { store = store; predicate = predicate; rows = []; parents = mode.All; named = λ i. []; sorting = sorting.BreadthFirst; begun = false; marks = set.empty; accepts = accepts; hidden = λ i. false; starts = tips; by_test = by_test; agreeing = λ row n. absurd (no_member row n) }
 
-  nothing : (i : ObjectId) → set.contains (set.empty {R = id_cmp}) i ≡ true → ⊥
-  nothing i e = false≢true (sym (set.contains-empty id_cmp i) ∙ e)
-
   stood : Stands objects faulty answers setting (bare store predicate)
   unfolding setting
-  stood = record { store = refl; parents = refl; sorting = refl; marks = refl; begun = refl; tips = refl; rows = inl refl; asked_of = itself; remembered = λ i e. absurd (nothing i e); timed = λ order some. cc }
+  stood = record { store = refl; parents = refl; sorting = refl; marks = refl; begun = refl; tips = refl; rows = inl refl; asked_of = itself; remembered = λ i e. absurd (false≢true (sym (set.contains-empty id_cmp i) ∙ e)); timed = λ order some. cc }
 
   did : Did objects faulty answers setting tips (bare store predicate) walk
   unfolding setting
@@ -59,11 +38,7 @@ module _ {F P : Type 0} (objects : F → Objects) (faulty : F → ObjectId → T
 
   keep_is : (i : ObjectId) → keep objects faulty answers setting i ≡ accepts i
   unfolding setting
-  keep_is i = go (accepts i)
-    where
-      go : (b : Bool) → ((b && true) && true) ≡ b
-      go true = refl
-      go false = refl
+  keep_is i = grind arith
 
   pending : ids_of walk.pending ≡ new_ids (λ i. false) (filter accepts tips)
   unfolding setting
@@ -100,9 +75,6 @@ module _ {F P : Type 0} (objects : F → Objects) (faulty : F → ObjectId → T
     same_store = did.rest.store;
     all_parents = did.rest.parents;
     breadth_first = did.rest.sorting;
-    rowless = no_rows did.rest.rows;
+    rowless = ⊎_elim (λ e. e) (λ e. e) did.rest.rows;
     open_to = did.rest.tips;
   }
-    where
-      no_rows : (walk.rows ≡ []) ⊎ (walk.rows ≡ []) → walk.rows ≡ []
-      no_rows h = ⊎_elim (λ e. e) (λ e. e) h

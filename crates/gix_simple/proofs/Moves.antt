@@ -1,33 +1,17 @@
 -- What a step of a walk does, whatever faults come: it takes a commit out, asks about new ids, each of which may become pending, and may lose rows.
-use Rattle.std.specs.Prelude.{◌≡◌, ◌≢◌, ◌⊎◌, ◌≤◌, ◌+◌, ℕ, suc, ℤ, pos, List, [], ◌∷◌, ◌++◌, map, filter, length, Bool, true, false, not, cond, Option, Some, None, Result, Ok, Err, Contains, IsPermutation}
+use Rattle.std.proofs.Common.{◌≡◌, ◌≢◌, ◌⊎◌, ◌≤◌, ◌+◌, ℕ, suc, ℤ, pos, List, [], ◌∷◌, ◌++◌, map, filter, length, Bool, true, not, cond, Option, Some, None, Result, Ok, Err, Contains, IsPermutation, refl, sym, ap, subst, inl, inr, ⊎_elim}
+use Rattle.std.proofs.Common.{◌∙◌, arith, length-append, le_refl, le_trans}
 use Rattle.std.specs.FinMap as map_of
 use Rattle.std.specs.FinSet as set
-use Rattle.std.proofs.Common.{refl, sym, ap, subst, inl, inr, ⊎_elim, ◌∙◌, arith, length-append, le_refl, le_trans}
-use Rattle.std.proofs.lemmas.Bool.{or_right, or_left}
-use Rattle.std.proofs.lemmas.List.{map-append}
-use Rattle.std.proofs.lemmas.List.Sorted.{length_permutation}
-use Rattle.gix_hash.specs.declared.ObjectId.{ObjectId}
-use Rattle.gix_hash.specs.Id.{is_same, is_among, kind_of}
+use Rattle.gix_simple.proofs.Common.{or_right, or_left, map-append, length_permutation, ObjectId, is_same, is_among, kind_of, Item, commit_items, Objects, GraphRow, row_of, CommitTimeOrder, Info, Parents, by_mode, ids_of, Pending}
+use Rattle.gix_simple.proofs.Common.{ids_at, scanned, text_parents, Error, named_in, SimpleWalk, Treated, StoreFails, GoesOn, Holds, time_order, unrowed, asked, Asks, IsNew, Treats, hidden, refused, accepted, dropped, enqueued}
+use Rattle.gix_simple.proofs.Common.{store_fails, no_memory_after, TreatsAll, stops, Concludes, given, broken, Takes, by_row, by_store, not_found, Chooses, first, best, Steps, took, FirstStep, unhidden, Next, initial, later}
+use Rattle.gix_simple.proofs.Common.{among-append, among_from, among_is, Contains-here, Contains-there, times-append, among_times, times_is_among, among_flat, walked_within}
 use Rattle.gix_object.specs.declared.Kind.TheVariants as object
 use Rattle.gix_object.specs.declared.decode.Error.{Error as DecodeError}
-use Rattle.gix_object.specs.CommitItems.{Item, Tree, Parent, Author, Committer, Rest, commit_items}
-use Rattle.gix_object.specs.Object.{Objects}
-use Rattle.gix_commitgraph.specs.Rows.{GraphRow, row_of}
-use Rattle.gix_revwalk.specs.declared.CommitTimeOrder.{CommitTimeOrder}
-use Rattle.gix_revwalk.specs.declared.Info.{Info}
-use Rattle.gix_revwalk.specs.declared.Parents.{Parents}
 use Rattle.gix_revwalk.specs.declared.Parents.TheVariants as mode
-use Rattle.gix_revwalk.specs.Commits.{by_mode}
-use Rattle.gix_revwalk.specs.Ids.{ids_of, times}
-use Rattle.gix_revwalk.specs.Pending.{Pending}
-use Rattle.gix_revwalk.specs.RowParents.{ids_at}
-use Rattle.gix_revwalk.specs.Texts.{scanned, text_parents}
-use Rattle.gix_simple.specs.declared.Error.{Error}
-use Rattle.gix_simple.specs.Laws.{named_in}
-use Rattle.gix_simple.specs.Walk.{SimpleWalk, Treated, StoreFails, GoesOn, Holds, time_order, unrowed, asked, Asks, IsNew, Treats, hidden, known, refused, accepted, dropped, enqueued, store_fails, no_memory, no_memory_after, TreatsAll, none, more, stops, Concludes, given, broken, Takes, by_row, by_store, not_found, Chooses, first, best, Steps, took, FirstStep, unhidden, paints, faulty_history, Next, initial, later}
-use Rattle.gix_hash.proofs.Ids.Membership.{among-append, among_from, among_is, Contains-here, Contains-there}
-use Rattle.gix_revwalk.proofs.NewIds.{times-append, among_times, times_is_among, among_flat}
-use Rattle.gix_revwalk.proofs.ReadsWhole.{walked_within}
+use Rattle.gix_revwalk.specs.Ids.{times}
+use Rattle.gix_simple.specs.Walk.{known, no_memory, none, more, paints, faulty_history}
 use Rattle.gix_revwalk.proofs.Rows.{kept_either, ids_in_rows, found_entry}
 use Rattle.gix_simple.proofs.Treated.{times-permutation}
 
@@ -35,12 +19,7 @@ use Rattle.gix_simple.proofs.Treated.{times-permutation}
 pub scan_by : (m : Parents) (items : List (Result Item DecodeError)) → (scanned m items).0 ≡ by_mode m (scanned mode.All items).0
 scan_by mode.All items = refl
 scan_by mode.First [] = refl
-scan_by mode.First (Err e ∷ items) = refl
-scan_by mode.First (Ok (Tree i) ∷ items) = scan_by mode.First items
-scan_by mode.First (Ok (Parent i) ∷ items) = refl
-scan_by mode.First (Ok (Author line) ∷ items) = refl
-scan_by mode.First (Ok (Committer signature) ∷ items) = refl
-scan_by mode.First (Ok (Rest bytes) ∷ items) = refl
+scan_by mode.First (item ∷ items) = grind (arith, scan_by mode.First items)
 
 -- of the second pending commits some, in any order
 pub record Fewer (ps qs : List Pending) : Type 0 where
@@ -67,11 +46,7 @@ fewer_moved ps qs h = record {
 
 pub fewer_filter : (p : Pending → Bool) (ps : List Pending) → Fewer (filter p ps) ps
 fewer_filter p [] = fewer_same []
-fewer_filter p (x ∷ ps) = go (p x) (fewer_filter p ps)
-  where
-    go : (b : Bool) → Fewer (filter p ps) ps → Fewer (cond b (x ∷ filter p ps) (filter p ps)) (x ∷ ps)
-    go true r = record { shorter = (let s = r.shorter in omega arith); as_often = λ i. let s = r.as_often i in omega arith }
-    go false r = fewer_then r (fewer_by_one x ps)
+fewer_filter p (x ∷ ps) = let r = fewer_filter p ps in record { shorter = (let s = r.shorter in grind arith); as_often = λ i. let s = r.as_often i in grind arith }
 
 -- what is held is what was pending, and one more
 fewer_held : (o : Option CommitTimeOrder) (old new : List Pending) (p : Pending) → Holds o (old ++ p ∷ []) new → Fewer new (p ∷ old)
@@ -88,6 +63,10 @@ fewer_held o old new p h = fewer_then (go o h) record {
 
 pub fewer_within : {ps qs : List Pending} → Fewer ps qs → (i : ObjectId) → Contains (ids_of ps) i → Contains (ids_of qs) i
 fewer_within {ps} {qs} f i m = among_is i (ids_of qs) (times_is_among i (ids_of qs) (le_trans (among_times i (ids_of ps) (among_from i (ids_of ps) m)) (f.as_often i)))
+
+-- rows that may go twice may go
+pub rows_then : {a b c : List GraphRow} → (b ≡ a) ⊎ (b ≡ []) → (c ≡ b) ⊎ (c ≡ []) → (c ≡ a) ⊎ (c ≡ [])
+rows_then early late = ⊎_elim (λ e. ⊎_elim (λ f. inl (e ∙ f)) (λ f. inr (e ∙ f)) early) inr late
 
 -- what is given has this id and this generation
 abbrev pub IsGivenAs : ObjectId → Option ℕ → Result Info Error → Type 0
@@ -140,7 +119,7 @@ module _ {F P : Type 0} (objects : F → Objects) (faulty : F → ObjectId → T
   follows_then : {w v u : SimpleWalk F P} → Follows w v → Follows v u → Follows w u
   follows_then {u = u} a b = record {
     same = b.same ∙ ap (λ (x : SimpleWalk F P). record x { rows = u.rows; pending = u.pending; hidden_tips = u.hidden_tips; hidden = u.hidden; text = u.text; current = u.current }) a.same;
-    rows = ⊎_elim (λ e. ⊎_elim (λ f. inl (e ∙ f)) (λ f. inr (e ∙ f)) a.rows) inr b.rows;
+    rows = rows_then a.rows b.rows;
     fewer = fewer_then b.fewer a.fewer;
   }
 
@@ -193,7 +172,7 @@ module _ {F P : Type 0} (objects : F → Objects) (faulty : F → ObjectId → T
   takes_moves {v = v} {p = p} f (not_found u fault) = takes {how = GoesOn} None (unrowed_follows v p f) (rests (λ s. cc)) (record { same = refl; rows = inl refl; fewer = fewer_same _ }) tt
   takes_moves {v = v} {p = p} f (no_memory left) =
       takes {how = GoesOn} None f (rests (λ s. cc))
-      (record { same = refl; rows = ⊎_elim inl (λ e. ⊎_elim (λ k. inl (e ∙ k)) (λ k. inr (e ∙ k)) (kept_either v.rows (row_of v.rows p.id))) left; fewer = fewer_none [] _ refl }) tt
+      (record { same = refl; rows = ⊎_elim inl (λ e. rows_then (kept_either v.rows (row_of v.rows p.id)) (inl e)) left; fewer = fewer_none [] _ refl }) tt
 
   pub fewer_chosen : (w : SimpleWalk F P) (p : Pending) (others : List Pending) → Chooses objects faulty answers w p others → Fewer (p ∷ others) w.pending
   fewer_chosen w p others (first t e) = subst (Fewer (p ∷ others)) (sym e) (fewer_same _)

@@ -1,19 +1,8 @@
 -- No id is given twice, whatever the store, the rows and the predicate do.
-use Rattle.std.specs.Prelude.{◌≡◌, ◌+◌, ◌≤◌, List, [], ◌∷◌, Bool, true, false, ◌||◌, cond, Result, Ok, Err}
-use Rattle.std.proofs.Common.{refl, sym, ap, subst, ◌∙◌, arith}
+use Rattle.std.proofs.Common.{◌≡◌, ◌+◌, ◌≤◌, List, [], ◌∷◌, Bool, true, false, cond, Result, Ok, Err, sym, ap, subst, ◌∙◌, arith}
 use Rattle.std.specs.FinSet as set
-use Rattle.std.specs.Iterator.{Yields}
-use Rattle.gix_hash.specs.declared.ObjectId.{ObjectId}
-use Rattle.gix_hash.specs.Id.{is_same}
-use Rattle.gix_object.specs.Object.{Objects}
-use Rattle.gix_revwalk.specs.declared.Info.{Info}
-use Rattle.gix_simple.specs.declared.Error.{Error}
-use Rattle.gix_simple.specs.Walk.{SimpleWalk, Treated, Next}
-use Rattle.gix_revwalk.specs.Ids.{ids_of, AreDistinct}
-use Rattle.gix_simple.specs.Laws.{given_ids}
-use Rattle.gix_hash.proofs.Ids.Membership.{id_total, same_is}
-use Rattle.gix_revwalk.proofs.NewIds.{times, times_once}
-use Rattle.gix_simple.proofs.MadeOfTips.{once_or_never}
+use Rattle.gix_simple.proofs.Common.{Yields, ObjectId, is_same, Objects, Info, Error, SimpleWalk, Treated, Next, ids_of, AreDistinct, given_ids, id_total, same_is, times_once}
+use Rattle.gix_revwalk.proofs.NewIds.{times}
 use Rattle.gix_simple.proofs.Moves.{Asking, rests, asks, Follows, IsGivenAs, Moves, fails, takes, next_moves}
 
 module _ {F P : Type 0} (objects : F → Objects) (faulty : F → ObjectId → Type 0) (answers : P → ObjectId → Bool → P → Type 0) where
@@ -24,14 +13,12 @@ module _ {F P : Type 0} (objects : F → Objects) (faulty : F → ObjectId → T
   pub asked_sole : (gone : List ObjectId) {Named : ObjectId → Type 0} {how : Treated} {w v : SimpleWalk F P} → Asking objects faulty answers Named w how v → IsSole gone w → IsSole gone v
   asked_sole gone (rests f) h = h
   asked_sole gone {w = w} (asks {p = p} {ps = ps} n is_new a f rest) h =
-      asked_sole gone rest (λ j. subst (λ b. times j (ids_of ps) + times j gone ≤ cond b 1 0) (sym (set.contains-insert id_total w.seen p.id j)) (go j (is_same j p.id) refl (f.as_often j)))
-    where
-      go : (j : ObjectId) (b : Bool) → is_same j p.id ≡ b → times j (ids_of ps) ≤ cond b 1 0 + times j (ids_of w.pending) → times j (ids_of ps) + times j gone ≤ cond (b || set.contains w.seen j) 1 0
-      go j true t s =
-          let unseen : set.contains w.seen j ≡ false = ap (set.contains w.seen) (same_is j p.id t) ∙ is_new.unseen in
-          let k : times j (ids_of w.pending) + times j gone ≤ 0 = subst (λ b. times j (ids_of w.pending) + times j gone ≤ cond b 1 0) unseen (h j) in
-          omega arith
-      go j false t s = let k : times j (ids_of w.pending) + times j gone ≤ cond (set.contains w.seen j) 1 0 = h j in omega arith
+      asked_sole gone rest (λ j.
+      let often = f.as_often j in
+      let sole : times j (ids_of w.pending) + times j gone ≤ cond (set.contains w.seen j) 1 0 = h j in
+      let now = set.contains-insert id_total w.seen p.id j in
+      let unseen : is_same j p.id ≡ true → set.contains w.seen j ≡ false = λ t. ap (set.contains w.seen) (same_is j p.id t) ∙ is_new.unseen in
+      grind arith)
 
   follows_sole : (gone : List ObjectId) {w v : SimpleWalk F P} → Follows objects faulty answers w v → IsSole gone w → IsSole gone v
   follows_sole gone {w} {v} f h i =
@@ -62,8 +49,7 @@ module _ {F P : Type 0} (objects : F → Objects) (faulty : F → ObjectId → T
       → (i : ObjectId) → times i (given_ids list) + times i gone ≤ 1
   drawn_sole [] gone w new d h i =
       let k : times i (ids_of w.pending) + times i gone ≤ cond (set.contains w.seen i) 1 0 = h i in
-      let c : cond (set.contains w.seen i) 1 0 ≤ 1 = once_or_never (set.contains w.seen i) in
-      omega arith
+      grind arith
   drawn_sole (answer ∷ list) gone w new d h i = go answer (drawn_sole list (with_answer answer gone) d.0 new d.2 (moves_sole gone (next_moves objects faulty answers d.1) h) i)
     where
       go : (a : Result Info Error) → times i (given_ids list) + times i (with_answer a gone) ≤ 1 → times i (given_ids (a ∷ list)) + times i gone ≤ 1

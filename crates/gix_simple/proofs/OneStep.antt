@@ -1,34 +1,20 @@
 -- One step of a walk whose hidden tips are painted.
-use Rattle.std.specs.Prelude.{◌≡◌, ◌≢◌, ℕ, ℤ, List, [], ◌++◌, filter, Bool, true, false, ◌||◌, Option, Some, None, Result, Err, Contains}
-use Rattle.std.proofs.Common.{refl, sym, ap, subst, inl, inr, ⊎_elim, ◌∙◌}
-use Rattle.std.proofs.lemmas.Bool.{false≢true}
+use Rattle.std.proofs.Common.{◌≡◌, ◌≢◌, ◌⊎◌, ℕ, ℤ, List, [], ◌++◌, filter, Bool, true, false, ◌||◌, Option, Some, None, Result, Err, Contains, refl, sym, ap, subst, inl, ⊎_elim, ◌∙◌, arith}
+use Rattle.gix_simple.proofs.Common.{false≢true, ObjectId, is_among, kind_of, Objects, commit_items, GraphRow, row_of, Info, CommitTimeOrder, Error, by_mode, time_of, parents_of, parents_in, commit_at, commit_of_object, ReadsWhole}
+use Rattle.gix_simple.proofs.Common.{Pending, SimpleWalk, Treated, GoesOn, time_order, time_if, given_time, unrowed, Concludes, given, broken, store_fails, Takes, by_row, by_store, not_found, ids_of, scanned, next_in, text_next, kept_of}
+use Rattle.gix_simple.proofs.Common.{IsGivenBy, IsNoRefusal, ReadsParents, fresh, scan_is, row_parents, row_stands, parent_has_row, walked_within, no_fault}
 use Rattle.std.specs.FinMap as map_of
 use Rattle.std.specs.FinSet as set
-use Rattle.gix_hash.specs.declared.ObjectId.{ObjectId}
 use Rattle.gix_object.specs.declared.Kind.TheVariants as object
 use Rattle.gix_object.specs.declared.decode.Error.{Error as DecodeError}
 use Rattle.gix_object.specs.declared.find.existing_iter.Error.TheVariants as existing
-use Rattle.gix_hash.specs.Id.{is_among, kind_of}
-use Rattle.gix_object.specs.Object.{Objects}
-use Rattle.gix_object.specs.CommitItems.{commit_items}
 use Rattle.gix_object.specs.CommitText.{read_commit}
-use Rattle.gix_commitgraph.specs.Rows.{GraphRow, row_of}
-use Rattle.gix_revwalk.specs.declared.Info.{Info}
-use Rattle.gix_revwalk.specs.declared.CommitTimeOrder.{CommitTimeOrder}
-use Rattle.gix_simple.specs.declared.Error.{Error}
 use Rattle.gix_simple.specs.declared.Error.TheVariants as error
-use Rattle.gix_revwalk.specs.Commits.{by_mode, time_of, parents_of, parents_in, commit_at, commit_of_object, ReadsWhole}
-use Rattle.gix_revwalk.specs.Pending.{Pending}
-use Rattle.gix_simple.specs.Walk.{SimpleWalk, Treated, GoesOn, time_order, time_if, given_time, unrowed, Concludes, given, broken, store_fails, no_memory, Takes, by_row, by_store, not_found}
-use Rattle.gix_revwalk.specs.Ids.{ids_of}
-use Rattle.gix_revwalk.specs.Texts.{scanned, next_in, text_next}
-use Rattle.gix_simple.specs.Laws.{kept_of, IsGivenBy, IsNoRefusal, ReadsParents}
+use Rattle.gix_simple.specs.Walk.{no_memory}
 use Rattle.gix_revwalk.specs.Infos.{IsRowGeneration}
-use Rattle.gix_revwalk.proofs.NewIds.{fresh}
-use Rattle.gix_revwalk.proofs.ReadsWhole.{scan_is, row_parents, row_stands, parent_has_row, walked_within, no_fault}
 use Rattle.gix_revwalk.proofs.TextParents.{text_whole, commit_stored}
-use Rattle.gix_simple.proofs.Moves.{scan_by}
-use Rattle.gix_simple.proofs.Treated.{Joins, Joins-refl, Joins-trans, Setting, order_of, limit_of, keep, Stands, Did, all_treated, rows_agree}
+use Rattle.gix_simple.proofs.Moves.{scan_by, rows_then}
+use Rattle.gix_simple.proofs.Treated.{Joins, Joins-refl, Joins-trans, Setting, order_of, limit_of, keep, Stands, Did, all_treated, rows_agree, stands_with}
 use Rattle.gix_revwalk.proofs.Rows.{kept_either}
 
 -- the answer is no fault
@@ -74,11 +60,10 @@ module _ {F P : Type 0} (objects : F → Objects) (faulty : F → ObjectId → T
     pub seen : (j : ObjectId) → keep objects faulty answers s j ≡ true → set.contains new.seen j ≡ (is_among j (walked s i) || set.contains old.seen j)
     pub pending : Joins (order_of objects faulty answers s) (ids_of new.pending) (ids_of old.pending ++ fresh (set.contains old.seen) (next s i))
 
-  stands_read : (s : Setting objects faulty answers) (w : SimpleWalk F P) (text : List ℕ) (i : ObjectId) → Stands objects faulty answers s w → Stands objects faulty answers s (record w { text = text; current = Some i })
-  stands_read s w text i h = record { store = h.store; parents = h.parents; sorting = h.sorting; marks = h.marks; begun = h.begun; tips = h.tips; rows = h.rows; asked_of = h.asked_of; remembered = h.remembered; timed = h.timed }
-
-  stands_unrowed : (s : Setting objects faulty answers) (w : SimpleWalk F P) (i : ObjectId) → Stands objects faulty answers s w → Stands objects faulty answers s (unrowed w i)
-  stands_unrowed s w i h = record { store = h.store; parents = h.parents; sorting = h.sorting; marks = h.marks; begun = h.begun; tips = h.tips; rows = ⊎_elim (λ e. ⊎_elim (λ r. inl (e ∙ r)) (λ r. inr (e ∙ r)) h.rows) (λ e. inr e) (kept_either w.rows (row_of w.rows i)); asked_of = h.asked_of; remembered = h.remembered; timed = h.timed }
+  -- also where rows and pending commits are gone
+  pub stands_left : (s : Setting objects faulty answers) (w : SimpleWalk F P) (rows : List GraphRow) (pending : List Pending) (text : List ℕ) (current : Option ObjectId) → Stands objects faulty answers s w
+      → (rows ≡ w.rows) ⊎ (rows ≡ []) → ((p : Pending) → Contains pending p → Contains w.pending p) → Stands objects faulty answers s (record w { rows = rows; pending = pending; text = text; current = current })
+  stands_left s w rows pending text current h left within = stands_with objects faulty answers s w h rows pending w.seen w.remembered w.predicate text current (rows_then h.rows left) h.asked_of h.remembered (λ order e p m. h.timed order e p (within p m))
 
   concluded : (s : Setting objects faulty answers) (w : SimpleWalk F P) (i : ObjectId) (ps : List ObjectId) (generation : Option ℕ) (time : Option ℤ) (text : List ℕ) (fault : Option DecodeError) (walk : SimpleWalk F P) {how : Treated} {answer : Result Info Error} {new : SimpleWalk F P} →
       ps ≡ walked s i → (fault ≡ None → ReadsParents (objects s.store) s.parents i) → IsRowGeneration s.rows i generation → time ≡ time_if (order_of objects faulty answers s) (time_of (objects s.store) i) → (how ≡ GoesOn → Did objects faulty answers s ps w walk) →
@@ -87,7 +72,7 @@ module _ {F P : Type 0} (objects : F → Objects) (faulty : F → ObjectId → T
       let d : Did objects faulty answers s ps w walk = did refl in
       record {
         given_as = record { generation = generation; by_row = row; info_is = record { same_id = is.same_id; same_parents = is.same_parents ∙ same; same_generation = is.same_generation; same_time = is.same_time ∙ when }; read = read f };
-        rest = stands_read s walk text i d.rest;
+        rest = stands_left s walk walk.rows walk.pending text (Some i) d.rest (inl refl) (λ p m. m);
         seen = λ j k. d.seen j k ∙ ap (λ xs. is_among j xs || set.contains w.seen j) same;
         pending = Joins-trans (order_of objects faulty answers s) _ _ _ d.pending (Joins-refl (order_of objects faulty answers s) _ _ (ap (λ xs. ids_of w.pending ++ fresh (set.contains w.seen) (filter (keep objects faulty answers s) xs)) same));
       }
@@ -99,11 +84,7 @@ module _ {F P : Type 0} (objects : F → Objects) (faulty : F → ObjectId → T
   row_generation s w h i row e = ⊎_elim (λ r. ap (λ rows. row_of rows i) (sym r) ∙ e) (λ r. let n : None ≡ Some row = ap (λ rows. row_of rows i) (sym r) ∙ e in cc) h.rows
 
   time_given : (s : Setting objects faulty answers) (w : SimpleWalk F P) → Stands objects faulty answers s w → (p : Pending) → ((order : CommitTimeOrder) → order_of objects faulty answers s ≡ Some order → p.time ≡ time_of (objects s.store) p.id) → given_time w p ≡ time_if (order_of objects faulty answers s) (time_of (objects s.store) p.id)
-  time_given s w h p t = (λ k. time_if (time_order (h.parents k) (h.sorting k)) p.time) ∙ go (order_of objects faulty answers s) refl
-    where
-      go : (o : Option CommitTimeOrder) → order_of objects faulty answers s ≡ o → time_if o p.time ≡ time_if o (time_of (objects s.store) p.id)
-      go None e = refl
-      go (Some order) e = ap Some (t order e)
+  time_given s w h p t = (λ k. time_if (time_order (h.parents k) (h.sorting k)) p.time) ∙ (grind (arith, t))
 
   -- a commit with a row that agrees reads whole
   row_whole : (s : Setting objects faulty answers) (w : SimpleWalk F P) → Stands objects faulty answers s w → (i : ObjectId) (row : GraphRow) → row_of w.rows i ≡ Some row → ReadsWhole (objects s.store) i
@@ -127,7 +108,7 @@ module _ {F P : Type 0} (objects : F → Objects) (faulty : F → ObjectId → T
   took_well s w h p reads marked timed (by_store {bytes = bytes} {how = how} {walk = walk} u e treats concludes) ok =
       let stored : map_of.get (objects s.store) p.id ≡ Some (record { kind = object.Commit; bytes = bytes }) = sym (ap (λ f. map_of.get (objects f) p.id) h.store) ∙ e in
       let same : (scanned w.parents (commit_items (kind_of p.id) bytes)).0 ≡ walked s p.id = (λ k. (scanned (h.parents k) (commit_items (kind_of p.id) bytes)).0) ∙ reads.by_text bytes stored in
-      let h' : Stands objects faulty answers s (unrowed w p.id) = stands_unrowed s w p.id h in
+      let h' : Stands objects faulty answers s (unrowed w p.id) = stands_left s w _ w.pending w.text w.current h (kept_either w.rows (row_of w.rows p.id)) (λ q m. m) in
       let t : Took s p.id (unrowed w p.id) _ _ =
       concluded s (unrowed w p.id) p.id _ None (given_time w p) bytes _ walk same
       (λ f. record { bytes = bytes; stored = stored; unbroken = (λ k. (scanned (sym h.parents k) (commit_items (kind_of p.id) bytes)).1) ∙ f }) tt (time_given s w h p timed)

@@ -1,19 +1,11 @@
 -- What is pending, seen over the definitions: the first new one, or one of best time.
-use Rattle.std.specs.Prelude.{◌≡◌, ◌+◌, ℕ, ℤ, List, [], ◌∷◌, ◌++◌, Bool, true, false, not, ◌&&◌, ◌||◌, cond, Option, Some, None, Contains, IsPermutation, MatchOption}
-use Rattle.std.proofs.Common.{refl, sym, ap, subst, ⊎_elim, ◌∙◌, arith}
+use Rattle.std.proofs.Common.{◌≡◌, ◌+◌, ℕ, ℤ, List, [], ◌∷◌, ◌++◌, Bool, true, false, not, ◌&&◌, ◌||◌, cond, Option, Some, None, Contains, IsPermutation, MatchOption, sym, ap, subst, ⊎_elim, ◌∙◌, arith, true≢false}
 use Rattle.std.proofs.lemmas.Int.{ints}
-use Rattle.std.proofs.lemmas.List.Sorted.{Contains-permutation, IsPermutation-sym}
-use Rattle.std.proofs.lemmas.Bool.{false≢true, true≢false, or_cases, false_from_ne_true}
-use Rattle.gix_hash.specs.declared.ObjectId.{ObjectId}
-use Rattle.gix_hash.specs.Id.{is_same, is_among}
-use Rattle.gix_revwalk.specs.declared.CommitTimeOrder.{CommitTimeOrder}
-use Rattle.gix_revwalk.specs.declared.CommitTimeOrder.TheVariants.{NewestFirst, OldestFirst}
-use Rattle.gix_revwalk.specs.BreadthOrder.{named_by, first_new}
+use Rattle.gix_simple.proofs.Common.{Contains-permutation, IsPermutation-sym, or_comm, false≢true, or_cases, false_from_ne_true, ObjectId, is_same, is_among, CommitTimeOrder, named_by, first_new, Pending, ids_of, same_is, same_itself}
+use Rattle.gix_simple.proofs.Common.{among-append, among-one, among_from, among_is, Contains-here, Contains-there, Contains-cons_cases, fresh, fresh_agree, fresh-append, fresh_head, fresh_none, IsHead, times-append, times-fresh}
+use Rattle.gix_simple.proofs.Common.{times_among}
 use Rattle.gix_revwalk.specs.TimeOrder.{IsNoWorse, IsPending, IsBest}
-use Rattle.gix_revwalk.specs.Pending.{Pending}
-use Rattle.gix_revwalk.specs.Ids.{ids_of}
-use Rattle.gix_hash.proofs.Ids.Membership.{same_is, same_itself, among-append, among-one, among_from, among_is, Contains-here, Contains-there, Contains-cons_cases}
-use Rattle.gix_revwalk.proofs.NewIds.{fresh, fresh_agree, fresh-append, fresh_head, fresh_none, IsHead, times, times-append, times-fresh, times_among}
+use Rattle.gix_revwalk.proofs.NewIds.{times}
 use Rattle.gix_simple.proofs.Treated.{Joins, times-permutation}
 
 -- the pending ids, of all those named and those taken
@@ -31,30 +23,6 @@ abbrev pub IsNextOne : Option CommitTimeOrder → (ObjectId → ℤ) → (Object
 IsNextOne None time next starts taken o = o ≡ first_new (named_by next starts taken) taken
 IsNextOne (Some order) time next starts taken o = MatchOption o ((i : ObjectId) → IsPending next starts taken i → ⊥) (IsBest order time (IsPending next starts taken))
 
--- the counts after one was taken and its own ids came in
-count_step : (n a t e s : Bool) (x : ℕ) → (a ≡ true → s ≡ n) → (t ≡ true → n ≡ true) → (e ≡ true → n ≡ true) → cond e 1 0 + x ≡ cond (n && not t) 1 0 → x + cond (not s && a) 1 0 ≡ cond ((n || a) && not (t || e)) 1 0
-count_step true true true true s x sa tn en q = rw (sa refl) (omega arith)
-count_step true true true false s x sa tn en q = rw (sa refl) (omega arith)
-count_step true true false true s x sa tn en q = rw (sa refl) (omega arith)
-count_step true true false false s x sa tn en q = rw (sa refl) (omega arith)
-count_step true false true true true x sa tn en q = omega arith
-count_step true false true true false x sa tn en q = omega arith
-count_step true false true false true x sa tn en q = omega arith
-count_step true false true false false x sa tn en q = omega arith
-count_step true false false true true x sa tn en q = omega arith
-count_step true false false true false x sa tn en q = omega arith
-count_step true false false false true x sa tn en q = omega arith
-count_step true false false false false x sa tn en q = omega arith
-count_step false true true true s x sa tn en q = absurd (false≢true (tn refl))
-count_step false true true false s x sa tn en q = absurd (false≢true (tn refl))
-count_step false true false true s x sa tn en q = absurd (false≢true (en refl))
-count_step false false true true s x sa tn en q = absurd (false≢true (tn refl))
-count_step false false true false s x sa tn en q = absurd (false≢true (tn refl))
-count_step false false false true s x sa tn en q = absurd (false≢true (en refl))
-count_step false true false false s x sa tn en q = rw (sa refl) (omega arith)
-count_step false false false false true x sa tn en q = omega arith
-count_step false false false false false x sa tn en q = omega arith
-
 -- the next ids come in
 pub grows : (o : Option CommitTimeOrder) (named taken : List ObjectId) (i : ObjectId) (left ids new : List ObjectId) (seen : ObjectId → Bool) →
     IsRest o named taken i left → Joins o ids (left ++ fresh seen new) → ((j : ObjectId) → is_among j new ≡ true → seen j ≡ is_among j named) →
@@ -62,39 +30,35 @@ pub grows : (o : Option CommitTimeOrder) (named taken : List ObjectId) (i : Obje
 grows None named taken i left ids new seen rest joins alike within here =
     joins
     ∙ ap (λ xs. xs ++ fresh seen new) rest
-    ∙ (λ k. fresh_agree (λ j. is_same j i || is_among j taken) (λ j. is_among j (taken ++ i ∷ [])) named (λ j n. pushed j) k ++ fresh_agree seen (λ j. is_among j named || is_among j (taken ++ i ∷ [])) new (λ j n. alike j n ∙ absorbed (is_among j named) (is_among j (taken ++ i ∷ [])) (λ t. inside j t)) k)
+    ∙ (λ k. fresh_agree (λ j. is_same j i || is_among j taken) (λ j. is_among j (taken ++ i ∷ [])) named (λ j n. pushed j) k ++ fresh_agree seen (λ j. is_among j named || is_among j (taken ++ i ∷ [])) new (λ j n. let a = alike j n in let t = inside j in grind arith) k)
     ∙ sym (fresh-append (λ j. is_among j (taken ++ i ∷ [])) named new)
   where
     pushed : (j : ObjectId) → (is_same j i || is_among j taken) ≡ is_among j (taken ++ i ∷ [])
-    pushed j = flipped (is_same j i) (is_among j taken) ∙ sym (among-append j taken (i ∷ []) ∙ ap (λ b. is_among j taken || b) (among-one j i))
-      where
-        flipped : (a b : Bool) → (a || b) ≡ (b || a)
-        flipped true true = refl
-        flipped true false = refl
-        flipped false true = refl
-        flipped false false = refl
-
-    absorbed : (a b : Bool) → (b ≡ true → a ≡ true) → a ≡ (a || b)
-    absorbed true b h = refl
-    absorbed false true h = h refl
-    absorbed false false h = refl
+    pushed j = or_comm (is_same j i) (is_among j taken) ∙ sym (among-append j taken (i ∷ []) ∙ ap (λ b. is_among j taken || b) (among-one j i))
 
     inside : (j : ObjectId) → is_among j (taken ++ i ∷ []) ≡ true → is_among j named ≡ true
     inside j t = ⊎_elim (λ e. subst (λ y. is_among y named ≡ true) (sym (same_is j i e)) here) (λ e. within j e) (or_cases (is_same j i) (is_among j taken) (pushed j ∙ t))
 grows (Some order) named taken i left ids new seen rest joins alike within here = λ j.
-    joins j ∙ times-append j left (fresh seen new) ∙ ap (λ n. times j left + n) (times-fresh j seen new)
-    ∙ count_step (is_among j named) (is_among j new) (is_among j taken) (is_same j i) (seen j) (times j left) (alike j) (within j) (λ e. subst (λ y. is_among y named ≡ true) (sym (same_is j i e)) here) (rest j)
-    ∙ (λ k. cond (sym (among-append j named new) k && not ((sym (among-append j taken (i ∷ []) ∙ ap (λ b. is_among j taken || b) (among-one j i))) k)) 1 0)
+    let joined = joins j in
+    let both = times-append j left (fresh seen new) in
+    let count = times-fresh j seen new in
+    let known = alike j in
+    let inside = within j in
+    let itself : is_same j i ≡ true → is_among j named ≡ true = λ e. subst (λ y. is_among y named ≡ true) (sym (same_is j i e)) here in
+    let before = rest j in
+    let names = among-append j named new in
+    let takes = among-append j taken (i ∷ []) in
+    let one = among-one j i in
+    grind arith
 
 -- nothing is pending: the list ends
 pub ends : (o : Option CommitTimeOrder) (time : ObjectId → ℤ) (next : ObjectId → List ObjectId) (starts taken : List ObjectId) → IsQueue o (named_by next starts taken) taken [] → IsNextOne o time next starts taken None
 ends None time next starts taken q = sym (fresh_none (λ j. is_among j taken) (named_by next starts taken) (sym q))
-ends (Some order) time next starts taken q = λ i p. counted (is_among i (named_by next starts taken)) (is_among i taken) (among_from i _ p.0) (false_from_ne_true _ (λ t. p.1 (among_is i taken t))) (q i)
-  where
-    counted : (n t : Bool) → n ≡ true → t ≡ false → ◌≡◌ {A = ℕ} 0 (cond (n && not t) 1 0) → ⊥
-    counted true true e f q = true≢false f
-    counted true false e f q = omega arith
-    counted false t e f q = false≢true e
+ends (Some order) time next starts taken q = λ i p.
+    let named : is_among i (named_by next starts taken) ≡ true = among_from i _ p.0 in
+    let untaken : is_among i taken ≡ false = false_from_ne_true _ (λ t. p.1 (among_is i taken t)) in
+    let none = q i in
+    grind arith
 
 -- what is chosen first
 pub heads : (time : ObjectId → ℤ) (next : ObjectId → List ObjectId) (starts taken : List ObjectId) (i : ObjectId) (left : List ObjectId) → IsQueue None (named_by next starts taken) taken (i ∷ left) →
@@ -104,20 +68,17 @@ heads time next starts taken i left q =
     (sym h.found, sym h.others, h.among)
 
 no_worse_itself : (order : CommitTimeOrder) (a b : ℤ) → a ≡ b → IsNoWorse order a b
-no_worse_itself NewestFirst a b e = omega (arith, ints)
-no_worse_itself OldestFirst a b e = omega (arith, ints)
+no_worse_itself order a b e = grind (arith, ints)
 
 in_pending : (i : ObjectId) (ps : List Pending) → is_among i (ids_of ps) ≡ true → (p : Pending) × Contains ps p × (p.id ≡ i)
 in_pending i [] e = absurd (false≢true e)
 in_pending i (p ∷ ps) e = ⊎_elim (λ s. (p, Contains-here p ps, sym (same_is i p.id s))) (λ t. let r : (q : Pending) × Contains ps q × (q.id ≡ i) = in_pending i ps t in (r.0, Contains-there r.0 p ps r.1, r.2)) (or_cases _ _ e)
 
 counted_one : (n t : Bool) (x : ℕ) → 1 + x ≡ cond (n && not t) 1 0 → (n ≡ true) × (t ≡ false)
-counted_one true true x e = absurd (omega arith)
-counted_one true false x e = (refl, refl)
-counted_one false t x e = absurd (omega arith)
+counted_one n t x e = (grind arith, grind arith)
 
 one_counted : (n t : Bool) → n ≡ true → t ≡ false → ◌≡◌ {A = ℕ} (cond (n && not t) 1 0) 1
-one_counted n t a b = (λ k. cond (a k && not (b k)) 1 0)
+one_counted n t a b = grind arith
 
 -- what is chosen by time
 pub bests : (order : CommitTimeOrder) (time : ObjectId → ℤ) (next : ObjectId → List ObjectId) (starts taken : List ObjectId) (pending : List Pending) (p : Pending) (others : List Pending) →
@@ -132,7 +93,7 @@ bests order time next starts taken pending p others q perm timed best =
             let count : times other (ids_of pending) ≡ 1 = q other ∙ one_counted _ _ (among_from other _ n.0) (false_from_ne_true _ (λ t. n.1 (among_is other taken t))) in
             let found : (r : Pending) × Contains pending r × (r.id ≡ other) = in_pending other pending (times_among other (ids_of pending) 0 count) in
             let here : p.time ≡ time p.id = timed p (Contains-permutation (p ∷ others) pending p (IsPermutation-sym pending (p ∷ others) perm) (Contains-here p others)) in
-            let there : found.0.time ≡ time other = timed found.0 found.1 ∙ ap time found.2 in
+            let there : found.0.time ≡ time other = subst (λ i. found.0.time ≡ time i) found.2 (timed found.0 found.1) in
             ⊎_elim (λ e. no_worse_itself order (time p.id) (time other) (sym here ∙ ap (λ x. x.time) e ∙ there))
             (λ m. subst (λ t. IsNoWorse order (time p.id) t) there (subst (λ t. IsNoWorse order t found.0.time) here (best found.0 m)))
             (Contains-cons_cases found.0 p others (Contains-permutation pending (p ∷ others) found.0 perm found.1));

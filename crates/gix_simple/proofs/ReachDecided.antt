@@ -1,14 +1,7 @@
 -- Over the parents that a store names there are lists in order, and a test of what is reached.
-use Rattle.std.specs.Prelude.{◌↔◌, ℤ, List, Bool, Contains}
-use Rattle.gix_hash.specs.declared.ObjectId.{ObjectId}
-use Rattle.gix_hash.specs.Id.{is_among}
-use Rattle.gix_hash.specs.Reach.{Reaches, Tells}
-use Rattle.gix_hash.proofs.Ids.Membership.{among_from, among_is}
-use Rattle.gix_object.specs.Object.{Objects}
-use Rattle.gix_revwalk.specs.declared.CommitTimeOrder.{CommitTimeOrder}
-use Rattle.gix_revwalk.specs.BreadthOrder.{IsBreadthOrder}
+use Rattle.std.proofs.Common.{◌↔◌, ℤ, List, Bool, Contains}
+use Rattle.gix_simple.proofs.Common.{ObjectId, is_among, Reaches, Tells, among_from, among_is, Objects, CommitTimeOrder, IsBreadthOrder, parents_of}
 use Rattle.gix_revwalk.specs.TimeOrder.{IsTimeOrder}
-use Rattle.gix_revwalk.specs.Commits.{parents_of}
 use Rattle.gix_revwalk.proofs.SomeOrder.{AreParents, known_ids, known, breadth_exists, time_exists, reached_list}
 
 pub some_breadth : (objects : Objects) (next : ObjectId → List ObjectId) (starts : List ObjectId) → AreParents objects next → (ids : List ObjectId) × IsBreadthOrder next starts ids

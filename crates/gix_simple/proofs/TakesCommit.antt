@@ -1,32 +1,20 @@
 -- How a walk takes a commit.
-use Rattle.std.specs.Prelude.{◌≡◌, ◌≢◌, ℕ, ℤ, List, [], Bool, true, false, Option, Some, None, Result, Ok, Err}
-use Rattle.std.proofs.Common.{refl, sym, ap, subst, inl, inr, ◌∙◌}
-use Rattle.gix_hash.specs.declared.ObjectId.{ObjectId}
+use Rattle.std.proofs.Common.{◌≡◌, ◌≢◌, ℕ, ℤ, List, [], Bool, true, false, Option, Some, None, Result, Ok, Err, refl, sym, ap, subst, inl, inr, ◌∙◌}
+use Rattle.gix_simple.proofs.Common.{transport, ObjectId, kind_of, Objects, row_of, commit_items, Info, CommitTimeOrder, Error, Pending, by_mode, IsChosen, TakesOut, SimpleWalk, failed, given_time, time_order, how_ended, GoesOn}
+use Rattle.gix_simple.proofs.Common.{StoreFails, NoMemory, unrowed, Treated, TreatsAll, Concludes, given, broken, store_fails, Takes, by_row, by_store, not_found, Chooses, first, best, Steps, ended, took, scanned, kept_rows, IsUnrowed}
 use Rattle.gix_object.specs.declared.Kind.TheVariants as object
 use Rattle.gix_object.specs.declared.decode.Error.{Error as DecodeError}
 use Rattle.gix_object.specs.declared.find.existing_iter.Error.{Error as ExistingError}
 use Rattle.gix_object.specs.declared.find.existing_iter.Error.TheVariants as existing
-use Rattle.gix_hash.specs.Id.{kind_of}
-use Rattle.gix_object.specs.Object.{Objects}
-use Rattle.gix_commitgraph.specs.Rows.{row_of}
-use Rattle.gix_object.specs.CommitItems.{commit_items}
 use Rattle.gix_object.specs.Find.{FindsKindInto}
-use Rattle.gix_revwalk.specs.declared.Info.{Info}
-use Rattle.gix_revwalk.specs.declared.CommitTimeOrder.{CommitTimeOrder}
-use Rattle.gix_simple.specs.declared.Error.{Error}
 use Rattle.gix_simple.specs.declared.Error.TheVariants as error
-use Rattle.gix_revwalk.specs.Pending.{Pending}
 use Rattle.gix_revwalk.specs.declared.row.RowRead.{RowRead}
 use Rattle.gix_simple.specs.declared.step.Stop.{Stop}
 use Rattle.gix_simple.specs.declared.step.Stop.TheVariants as stop
-use Rattle.gix_revwalk.specs.Commits.{by_mode}
 use Rattle.gix_simple.specs.Errors.{error_of_find, error_of_stop}
-use Rattle.gix_simple.specs.Inside.PendingQueue.{IsChosen, TakesOut}
 use Rattle.gix_revwalk.specs.Reading.{RowSays}
-use Rattle.gix_simple.specs.Walk.{SimpleWalk, failed, given_time, time_order, how_ended, GoesOn, StoreFails, NoMemory, unrowed, Treated, TreatsAll, Concludes, given, broken, store_fails, no_memory, Takes, by_row, by_store, not_found, Chooses, first, best, Steps, ended, took}
-use Rattle.gix_revwalk.specs.Texts.{scanned}
+use Rattle.gix_simple.specs.Walk.{no_memory}
 use Rattle.gix_revwalk.specs.Infos.{IsInfo}
-use Rattle.gix_revwalk.specs.RowParents.{kept_rows, IsUnrowed}
 use Rattle.gix_simple.proofs.LentText.{treats_all_with, concludes_with}
 use Rattle.gix_simple.proofs.Moves.{treated_same}
 
@@ -42,10 +30,7 @@ module _ {F P : Type 0} (objects : F → Objects) (faulty : F → ObjectId → T
       let t : TreatsAll objects faulty answers true (with_text old [] old.current) (by_mode old.parents read.parent_ids.items) how walk = subst (λ xs. TreatsAll objects faulty answers true (with_text old [] old.current) xs how walk) (same_ids ∙ is_named) (subst (λ w. TreatsAll objects faulty answers true w ids how walk) is_cleared treats) in
       let same = treated_same objects faulty answers t in
       let d : Concludes objects faulty answers taken.id (by_mode old.parents read.parent_ids.items) (Some says.row.generation) (given_time old taken) [] None walk how answer new =
-      subst (λ xs. Concludes objects faulty answers taken.id xs (Some says.row.generation) (given_time old taken) [] None walk how answer new) is_named
-      (subst (λ g. Concludes objects faulty answers taken.id named (Some g) (given_time old taken) [] None walk how answer new) says.generation
-      (subst (λ x. Concludes objects faulty answers taken.id named (Some read.generation) (given_time old taken) x None walk how answer new) (ap (λ w. w.text) same)
-      (subst (λ x. Concludes objects faulty answers taken.id named (Some read.generation) x walk.text None walk how answer new) (ap (λ w. given_time w taken) same) c))) in
+      transport (λ k. Concludes objects faulty answers taken.id (is_named k) (Some (says.generation k)) (given_time (same k) taken) ((same k).text) None walk how answer new) c in
       by_row says.there says.parents (treats_all_with objects faulty answers (λ x. old.text) (λ x. old.current) (λ x. x) t)
       (concludes_with objects faulty answers (λ x. old.text) (λ x. old.current) (λ x. x) d)
 
@@ -89,12 +74,10 @@ module _ {F P : Type 0} (objects : F → Objects) (faulty : F → ObjectId → T
         let back : TreatsAll objects faulty answers false start shown how (with_text then start.text start.current) = treats_all_with objects faulty answers (λ x. start.text) (λ x. start.current) (λ x. x) t in
         let d : Concludes objects faulty answers taken.id shown None (given_time old taken) walk.text fault (with_text then start.text start.current) how answer new =
         concludes_with objects faulty answers (λ x. start.text) (λ x. start.current) (λ x. x)
-        (subst (λ x. Concludes objects faulty answers taken.id shown None (given_time old taken) x fault then how answer new) (ap (λ w. w.text) same)
-        (subst (λ x. Concludes objects faulty answers taken.id shown None x then.text fault then how answer new) (ap (λ w. given_time w taken) same) c)) in
+        (transport (λ k. Concludes objects faulty answers taken.id shown None (given_time (same k) taken) ((same k).text) fault then how answer new) c) in
         by_store unrowed_is there (subst (λ xs. TreatsAll objects faulty answers false start xs how (with_text then start.text start.current)) (ap (λ r. r.0) read) back)
         (subst (λ r. Concludes objects faulty answers taken.id r.0 None (given_time old taken) walk.text r.1 (with_text then start.text start.current) how answer new) read d)
 
-module _ {F P : Type 0} (objects : F → Objects) (faulty : F → ObjectId → Type 0) (answers : P → ObjectId → Bool → P → Type 0) (old : SimpleWalk F P) (taken : Pending) where
   -- where the rows were dropped, or have no row of the commit, it is taken as from the walk before
   pub takes_unrowed : IsUnrowed old.rows taken.id → (mid : SimpleWalk F P) → mid ≡ unrowed old taken.id → row_of mid.rows taken.id ≡ None → (answer : Result Info Error) (new : SimpleWalk F P) → Takes objects faulty answers mid taken answer new → Takes objects faulty answers old taken answer new
   takes_unrowed u mid m rowless answer new t = go (subst (λ w. row_of w.rows taken.id ≡ None) m rowless) (subst (λ w. Takes objects faulty answers w taken answer new) m t)
@@ -127,10 +110,7 @@ module _ {F P : Type 0} (objects : F → Objects) (faulty : F → ObjectId → T
   Concluded answer new = Concludes objects faulty answers id parents generation time old.text fault old (how_ended treated) answer new
 
   concluded_so : (how : Treated) → how_ended treated ≡ how → (e answer : Error) (new : SimpleWalk F P) → answer ≡ e → new ≡ failed id e old → Concludes objects faulty answers id parents generation time old.text fault old how (Err e) (failed id e old) → Concluded (Err answer) new
-  concluded_so how h e answer new a n c =
-      subst (λ k. Concludes objects faulty answers id parents generation time old.text fault old k (Err answer) new) (sym h)
-      (subst (λ x. Concludes objects faulty answers id parents generation time old.text fault old how (Err x) new) (sym a)
-      (subst (Concludes objects faulty answers id parents generation time old.text fault old how (Err e)) (sym n) c))
+  concluded_so how h e answer new a n c = transport (λ k. Concludes objects faulty answers id parents generation time old.text fault old (sym h k) (Err (sym a k)) (sym n k)) c
 
   -- a parent's treatment stopped
   pub concludes_stopped : (why : Stop) → treated ≡ Err why → (e answer : Error) (new : SimpleWalk F P) → e ≡ error_of_stop why → answer ≡ e → new ≡ failed id e old → Concluded (Err answer) new
@@ -146,6 +126,4 @@ module _ {F P : Type 0} (objects : F → Objects) (faulty : F → ObjectId → T
 
   -- the commit is given
   pub concludes_given : (u : Unit {0}) → treated ≡ Ok u → fault ≡ None → (info : Info) → IsInfo info id parents generation time → (inside : SimpleWalk F P) → inside ≡ old → (given_id : ObjectId) → given_id ≡ id → Concluded (Ok info) (record inside { current = Some given_id })
-  concludes_given u t f info i inside is given_id same =
-      subst (λ how. Concludes objects faulty answers id parents generation time old.text fault old how (Ok info) (record inside { current = Some given_id })) (sym (ap how_ended t))
-      (subst (Concludes objects faulty answers id parents generation time old.text fault old GoesOn (Ok info)) (λ j. record (sym is j) { current = Some (sym same j) }) (given f i))
+  concludes_given u t f info i inside is given_id same = transport (λ k. Concludes objects faulty answers id parents generation time old.text fault old (how_ended (sym t k)) (Ok info) (record (sym is k) { current = Some (sym same k) })) (given f i)

@@ -1,54 +1,33 @@
 -- The first step, which paints; and the theorem over a whole walk, and over one drawn as far as one likes.
-use Rattle.std.specs.Prelude.{◌≡◌, ◌≢◌, ◌⊎◌, ◌≤◌, ◌<◌, ℕ, zero, suc, ℤ, List, [], ◌∷◌, ◌++◌, filter, length, take, slice_get, Bool, true, false, not, ◌&&◌, ◌||◌, cond, Option, Some, None, Result, Err, Contains, All}
-use Rattle.std.proofs.Common.{refl, sym, ap, subst, inl, inr, ⊎_elim, ◌∙◌, append-nil, arith}
-use Rattle.std.proofs.lemmas.List.Elements.{All-head}
-use Rattle.std.proofs.lemmas.Bool.{false≢true, true≢false, false_from_ne_true, and_from, and_parts, not-true}
+use Rattle.std.proofs.Common.{◌≡◌, ◌≢◌, ◌⊎◌, ◌≤◌, ◌<◌, ℕ, zero, suc, ℤ, List, [], ◌∷◌, ◌++◌, filter, length, take, slice_get, Bool, true, false, not, ◌||◌, cond, Option, Some, None, Result, Err, Contains, All, refl, sym, ap, subst, inl}
+use Rattle.std.proofs.Common.{inr, ⊎_elim, ◌∙◌, append-nil, arith, true≢false}
+use Rattle.gix_simple.proofs.Common.{All-head, false≢true, false_from_ne_true, and_from, and_parts, not-true, AllZip, Drains, Yields, ObjectId, id_cmp, is_same, is_among, kind_of, Objects, GraphRow, Info, CommitTimeOrder, Error}
+use Rattle.gix_simple.proofs.Common.{IsHistory, IsHiddenFault, Paints, IsAtBoundary, Reaches, start, step, Tells, IsAgreeing, time_of, parents_of, commit_of_object, walked_parents, ReadsWhole, Pending, SimpleWalk, time_order, cutoff}
+use Rattle.gix_simple.proofs.Common.{Steps, painted, FirstStep, unhidden, Next, initial, later, ids_of, AreDistinct, itself, AnswersBy, IsFresh, IsNoRefusal, IsInOrder, IsBeginning, IsGivenBy, MeetsWhole, GivesInOrder, GivesBeginning}
+use Rattle.gix_simple.proofs.Common.{starts_of, next_of, kept_of, is_kept, commit_items, own_history, same_is, among_from, among_is, Contains-here, Contains-there, no_member, fresh, times-fresh, among-filter, walked_within, no_fault}
+use Rattle.gix_simple.proofs.Common.{filter_within, filter_all}
 use Rattle.std.specs.FinSet as set
-use Rattle.std.specs.Iterator.{Drains, Yields}
-use Rattle.gix_hash.specs.declared.ObjectId.{ObjectId}
-use Rattle.gix_hash.specs.Id.{id_cmp, is_same, is_among, kind_of}
-use Rattle.gix_object.specs.Object.{Objects}
-use Rattle.gix_commitgraph.specs.Rows.{GraphRow}
-use Rattle.gix_revwalk.specs.declared.Info.{Info}
-use Rattle.gix_revwalk.specs.declared.CommitTimeOrder.{CommitTimeOrder}
-use Rattle.gix_simple.specs.declared.Error.{Error}
 use Rattle.gix_simple.specs.declared.Error.TheVariants as error
 use Rattle.gix_paint.specs.declared.Hidden.{Hidden}
 use Rattle.gix_paint.specs.declared.Hidden.TheVariants as hidden_by
-use Rattle.gix_paint.specs.Painting.{IsHistory, IsHiddenFault, Paints}
-use Rattle.gix_hash.specs.Reach.{IsAtBoundary, Reaches, start, step, Tells}
-use Rattle.gix_revwalk.specs.Agreeing.{IsAgreeing}
-use Rattle.gix_revwalk.specs.Commits.{time_of, parents_of, commit_of_object, walked_parents, ReadsWhole}
-use Rattle.gix_revwalk.specs.Pending.{Pending}
-use Rattle.gix_simple.specs.Walk.{SimpleWalk, time_order, cutoff, Steps, painted, FirstStep, unhidden, paints, faulty_history, no_memory, Next, initial, later}
-use Rattle.gix_revwalk.specs.Ids.{ids_of, AreDistinct}
-use Rattle.gix_revwalk.specs.Asking.{itself, AnswersBy}
-use Rattle.gix_simple.specs.Laws.{IsFresh, IsNoRefusal, IsInOrder, IsBeginning, MeetsWhole, GivesInOrder, GivesBeginning, starts_of, next_of, is_kept}
-use Rattle.gix_object.specs.CommitItems.{commit_items}
-use Rattle.gix_revwalk.proofs.Drained.{at_end, at_first}
+use Rattle.gix_simple.specs.Walk.{paints, faulty_history, no_memory}
+use Rattle.gix_revwalk.proofs.Drained.{at_end}
 use Rattle.gix_revwalk.proofs.Committer.{fault_unread}
-use Rattle.gix_paint.proofs.Invariant.{own_history}
-use Rattle.gix_hash.proofs.Ids.Membership.{same_is, among_from, among_is, Contains-here, Contains-there, no_member}
-use Rattle.gix_revwalk.proofs.NewIds.{fresh, times, times-fresh, among-filter}
-use Rattle.gix_simple.proofs.Treated.{Setting, Stands}
+use Rattle.gix_revwalk.proofs.NewIds.{times}
+use Rattle.gix_simple.proofs.Treated.{Setting}
 use Rattle.gix_simple.proofs.OneStep.{reads_whole, whole_well}
 use Rattle.gix_simple.proofs.PendingIs.{IsQueue, IsNextOne}
-use Rattle.gix_simple.proofs.WholeWalk.{Known, Runs, RunOf, run, BegunOf, begun_run}
-use Rattle.gix_revwalk.proofs.ReadsWhole.{walked_within, no_fault}
-use Rattle.gix_hash.proofs.Lists.{filter_within, filter_all}
+use Rattle.gix_simple.proofs.WholeWalk.{Known, Runs, RunsTo, none_yet, begun_run, next_steps, ended_run}
 
-Contains-filter : (p : ObjectId → Bool) (xs : List ObjectId) (i : ObjectId) → Contains (filter p xs) i → Contains xs i × (p i ≡ true)
+pub Contains-filter : (p : ObjectId → Bool) (xs : List ObjectId) (i : ObjectId) → Contains (filter p xs) i → Contains xs i × (p i ≡ true)
 Contains-filter p xs i h =
     let e : (p i ≡ true) × (is_among i xs ≡ true) = and_parts (p i) (is_among i xs) (sym (among-filter i p xs) ∙ among_from i _ h) in
     (among_is i xs e.1, e.0)
 
 distinct-filter : (p : ObjectId → Bool) (xs : List ObjectId) → AreDistinct xs → AreDistinct (filter p xs)
 distinct-filter p [] d = tt
-distinct-filter p (x ∷ xs) d = go (p x) (distinct-filter p xs d.1)
-  where
-    go : (b : Bool) → AreDistinct (filter p xs) → AreDistinct (cond b (x ∷ filter p xs) (filter p xs))
-    go true r = (λ c. d.0 (Contains-filter p xs x c).0, r)
-    go false r = r
+distinct-filter p (x ∷ xs) d =
+    elim (p x) as (λ b. AreDistinct (cond b (x ∷ filter p xs) (filter p xs))) [ true ↦ (λ c. d.0 (Contains-filter p xs x c).0, distinct-filter p xs d.1) | false ↦ distinct-filter p xs d.1 ]
 
 -- distinct ids that aren't old are all new
 fresh_distinct : (old : ObjectId → Bool) (xs : List ObjectId) → AreDistinct xs → ((i : ObjectId) → Contains xs i → old i ≡ false) → xs ≡ fresh old xs
@@ -59,11 +38,10 @@ fresh_distinct old (x ∷ xs) d h =
 
 queue_starts : (o : Option CommitTimeOrder) (starts : List ObjectId) → AreDistinct starts → IsQueue o (starts ++ []) [] starts
 queue_starts None starts d = fresh_distinct (λ j. false) starts d (λ i c. refl) ∙ ap (fresh (λ j. false)) (sym (append-nil starts))
-queue_starts (Some order) starts d = λ j. ap (times j) (fresh_distinct (λ k. false) starts d (λ i c. refl) ∙ ap (fresh (λ k. false)) (sym (append-nil starts))) ∙ times-fresh j (λ k. false) (starts ++ []) ∙ padded (is_among j (starts ++ []))
-  where
-    padded : (b : Bool) → ◌≡◌ {A = ℕ} (cond (not false && b) 1 0) (cond (b && not false) 1 0)
-    padded true = refl
-    padded false = refl
+queue_starts (Some order) starts d = λ j.
+    let all = ap (times j) (fresh_distinct (λ k. false) starts d (λ i c. refl) ∙ ap (fresh (λ k. false)) (sym (append-nil starts))) in
+    let count = times-fresh j (λ k. false) (starts ++ []) in
+    grind arith
 
 in_place : {X : Type 0} (xs : List X) (k : ℕ) → k < length xs → (x : X) × (slice_get xs k ≡ Some x)
 in_place [] k b = absurd (omega arith)
@@ -77,15 +55,18 @@ no_start next starts i (step {c = c} r n) = no_start next starts c r
 
 ids-filter : (p q : ObjectId → Bool) (ps : List Pending) → ((i : ObjectId) → Contains (ids_of ps) i → p i ≡ q i) → ids_of (filter (λ x. not (p x.id)) ps) ≡ filter (λ i. not (q i)) (ids_of ps)
 ids-filter p q [] h = refl
-ids-filter p q (x ∷ ps) h = go (q x.id) (h x.id (Contains-here x.id (ids_of ps))) (ids-filter p q ps (λ i c. h i (Contains-there i x.id (ids_of ps) c)))
-  where
-    go : (b : Bool) → p x.id ≡ b → ids_of (filter (λ x. not (p x.id)) ps) ≡ filter (λ i. not (q i)) (ids_of ps) → ids_of (cond (not (p x.id)) (x ∷ filter (λ x. not (p x.id)) ps) (filter (λ x. not (p x.id)) ps)) ≡ cond (not b) (x.id ∷ filter (λ i. not (q i)) (ids_of ps)) (filter (λ i. not (q i)) (ids_of ps))
-    go true e r = ap (λ b. ids_of (cond (not b) (x ∷ filter (λ x. not (p x.id)) ps) (filter (λ x. not (p x.id)) ps))) e ∙ r
-    go false e r = ap (λ b. ids_of (cond (not b) (x ∷ filter (λ x. not (p x.id)) ps) (filter (λ x. not (p x.id)) ps))) e ∙ ap (λ ys. x.id ∷ ys) r
+ids-filter p q (x ∷ ps) h = let here : p x.id ≡ q x.id = h x.id (Contains-here x.id (ids_of ps)) in grind (arith, ids-filter p q ps (λ i c. h i (Contains-there i x.id (ids_of ps) c)))
 
-pub in_order_from : (o : Option CommitTimeOrder) (time : ObjectId → ℤ) (next : ObjectId → List ObjectId) (starts ids : List ObjectId) → ((k : ℕ) → k ≤ length ids → IsNextOne o time next starts (take k ids) (slice_get ids k)) → IsInOrder o time next starts ids
-in_order_from None time next starts ids h = h
-in_order_from (Some order) time next starts ids h = h
+each_place : (Q : List ObjectId → Option ObjectId → Type 0) (ids : List ObjectId) → ((k : ℕ) (i : ObjectId) → slice_get ids k ≡ Some i → Q (take k ids) (Some i)) → Q ids None → (k : ℕ) → k ≤ length ids → Q (take k ids) (slice_get ids k)
+each_place Q [] h e zero b = e
+each_place Q [] h e (suc k) b = absurd (omega arith)
+each_place Q (x ∷ ids) h e zero b = h zero x refl
+each_place Q (x ∷ ids) h e (suc k) b = each_place (λ xs o. Q (x ∷ xs) o) ids (λ j i f. h (suc j) i f) e k (omega arith)
+
+pub in_order_from : (o : Option CommitTimeOrder) (time : ObjectId → ℤ) (next : ObjectId → List ObjectId) (starts ids : List ObjectId)
+    → ((k : ℕ) (i : ObjectId) → slice_get ids k ≡ Some i → IsNextOne o time next starts (take k ids) (Some i)) → IsNextOne o time next starts ids None → IsInOrder o time next starts ids
+in_order_from None time next starts ids h e = each_place (IsNextOne None time next starts) ids h e
+in_order_from (Some order) time next starts ids h e = each_place (IsNextOne (Some order) time next starts) ids h e
 
 pub begins_from : (o : Option CommitTimeOrder) (time : ObjectId → ℤ) (next : ObjectId → List ObjectId) (starts ids : List ObjectId) → ((k : ℕ) (i : ObjectId) → slice_get ids k ≡ Some i → IsNextOne o time next starts (take k ids) (Some i)) → IsBeginning o time next starts ids
 begins_from None time next starts ids h = λ k b. let e : (i : ObjectId) × (slice_get ids k ≡ Some i) = in_place ids k b in e.1 ∙ h k e.0 e.1
@@ -98,30 +79,70 @@ module _ {F P : Type 0} (objects : F → Objects) (faulty : F → ObjectId → T
   set_up marks = record { store = w.store; predicate = w.predicate; rows = w.rows; parents = w.parents; named = named; sorting = w.sorting; begun = true; marks = marks; accepts = accepts; hidden = hides; starts = starts_of w hides; by_test = by_test; agreeing = agreeing }
 
   seen_starts : (i : ObjectId) → is_kept (objects w.store) accepts hides (cutoff w.parents w.sorting) i ≡ true → set.contains w.seen i ≡ is_among i (starts_of w hides ++ [])
-  seen_starts i k = rw append-nil (go (set.contains w.seen i) refl (is_among i (starts_of w hides)) refl)
-    where
-      parts : (accepts i ≡ true) × (not (hides i) ≡ true)
-      parts = and_parts _ _ (and_parts _ _ k).0
+  seen_starts i k =
+      let starts = among-filter i (λ j. not (hides j)) (ids_of w.pending) in
+      let from_seen : set.contains w.seen i ≡ true → (is_among i (ids_of w.pending) ≡ true) ⊎ (accepts i ≡ false) = λ e. ⊎_elim (λ c. inl (among_from i _ c)) inr (is_fresh.seen i e) in
+      let from_pending : is_among i (ids_of w.pending) ≡ true → set.contains w.seen i ≡ true = λ e. is_fresh.pending_seen i (among_is i _ e) in
+      rw append-nil (grind arith)
 
-      from_seen : set.contains w.seen i ≡ true → is_among i (starts_of w hides) ≡ true
-      from_seen e = ⊎_elim (λ t. among-filter i (λ j. not (hides j)) (ids_of w.pending) ∙ and_from _ _ parts.1 (among_from i _ t)) (λ r. absurd (true≢false (sym parts.0 ∙ r))) (is_fresh.seen i e)
+  -- a walk whose first step is made, and what is known of it
+  pub record Begins (Allowed : Result Info Error → Type 0) (o : Option (Result Info Error)) (new : SimpleWalk F P) : Type 0 where
+    pub marks : set.FinSet id_cmp
+    pub mid : SimpleWalk F P
+    pub known : Known objects faulty answers (set_up marks) Allowed
+    pub runs : Runs objects faulty answers (set_up marks) mid []
+    pub steps : Steps objects faulty answers mid o new
 
-      from_starts : is_among i (starts_of w hides) ≡ true → set.contains w.seen i ≡ true
-      from_starts e = is_fresh.pending_seen i (Contains-filter (λ j. not (hides j)) (ids_of w.pending) i (among_is i _ e)).0
-
-      go : (a : Bool) → set.contains w.seen i ≡ a → (b : Bool) → is_among i (starts_of w hides) ≡ b → set.contains w.seen i ≡ is_among i (starts_of w hides)
-      go true e b f = e ∙ sym (from_seen e)
-      go false e true f = from_starts f ∙ sym f
-      go false e false f = e ∙ sym f
-
-  pub begins_so : (marks : set.FinSet id_cmp) (mid : SimpleWalk F P) → Stands objects faulty answers (set_up marks) mid → mid.seen ≡ w.seen → ids_of mid.pending ≡ starts_of w hides → Runs objects faulty answers (set_up marks) mid []
-  begins_so marks mid stands same_seen same_pending = record {
-    rest = stands;
-    seen = λ i k. ap (λ x. set.contains x i) same_seen ∙ seen_starts i k;
-    queue = subst (IsQueue (time_order w.parents w.sorting) (starts_of w hides ++ []) []) (sym same_pending) (queue_starts (time_order w.parents w.sorting) (starts_of w hides) (distinct-filter _ (ids_of w.pending) is_fresh.distinct));
-    reached = λ c m. absurd (no_member c m);
-    within = λ c e. absurd (false≢true e);
+  -- the first step leaves these pending commits and rows, and these hidden ids
+  pub begins_at : {Allowed : Result Info Error → Type 0} (marks : set.FinSet id_cmp) (rows : List GraphRow) (pending : List Pending) → (rows ≡ w.rows) ⊎ (rows ≡ []) → ((p : Pending) → Contains pending p → Contains w.pending p) → ids_of pending ≡ starts_of w hides
+      → Known objects faulty answers (set_up marks) Allowed → {o : Option (Result Info Error)} {new : SimpleWalk F P} → Steps objects faulty answers (record w { begun = true; hidden_tips = []; hidden = marks; rows = rows; pending = pending }) o new → Begins Allowed o new
+  begins_at marks rows pending left within same known steps = record {
+    marks = marks;
+    mid = record w { begun = true; hidden_tips = []; hidden = marks; rows = rows; pending = pending };
+    known = known;
+    runs = record {
+      rest = record { store = refl; parents = refl; sorting = refl; marks = refl; begun = refl; tips = refl; rows = left; asked_of = itself; remembered = is_fresh.remembered; timed = λ order e p m. is_fresh.timed order e p (within p m) };
+      seen = λ i k. seen_starts i k;
+      queue = subst (IsQueue (time_order w.parents w.sorting) (starts_of w hides ++ []) []) (sym same) (queue_starts (time_order w.parents w.sorting) (starts_of w hides) (distinct-filter _ (ids_of w.pending) is_fresh.distinct));
+      reached = λ c m. absurd (no_member c m);
+      within = λ c e. absurd (false≢true e);
+    };
+    steps = steps;
   }
+
+  module _ {Allowed : Result Info Error → Type 0} (begins : (o : Option (Result Info Error)) (new : SimpleWalk F P) → ((answer : Result Info Error) → o ≡ Some answer → Allowed answer) → Next objects faulty answers w o new → Begins Allowed o new) where
+    abbrev AreGiven : List (Result Info Error) → List ObjectId → Type 0
+    AreGiven = AllZip (IsGivenBy (objects w.store) named w.rows w.parents (time_order w.parents w.sorting))
+
+    abbrev next_kept : ObjectId → List ObjectId
+    next_kept = kept_of (objects w.store) named w.parents accepts hides (cutoff w.parents w.sorting)
+
+    ran : (marks : set.FinSet id_cmp) {list : List (Result Info Error)} {last new : SimpleWalk F P} → RunsTo objects faulty answers (set_up marks) [] list last → Steps objects faulty answers last None new
+        → (ids : List ObjectId) × AreGiven list ids × IsInOrder (time_order w.parents w.sorting) (time_of (objects w.store)) next_kept (starts_of w hides) ids
+    ran marks r steps = (r.ids, r.given_as, in_order_from (time_order w.parents w.sorting) (time_of (objects w.store)) next_kept (starts_of w hides) r.ids r.begins (ended_run objects faulty answers (set_up marks) [] r steps))
+
+    first_of : {answer : Result Info Error} (left : List (Result Info Error)) {new : SimpleWalk F P} → All Allowed (answer ∷ left) → Next objects faulty answers w (Some answer) new → Begins Allowed (Some answer) new
+    first_of {answer} left {new} ok n = begins (Some answer) new (λ a e. let same : answer ≡ a = cc in subst Allowed same (All-head Allowed answer left ok)) n
+
+    -- the theorem
+    pub all_given : (list : List (Result Info Error)) → All Allowed list → Drains (Next objects faulty answers) w list → (ids : List ObjectId) × AreGiven list ids × IsInOrder (time_order w.parents w.sorting) (time_of (objects w.store)) next_kept (starts_of w hides) ids
+    all_given [] ok drawn =
+        let end = at_end (Next objects faulty answers) w drawn in
+        let b : Begins Allowed None end.0 = begins None end.0 (λ a e. cc) end.1 in
+        ran b.marks (none_yet objects faulty answers (set_up b.marks) [] b.mid b.runs) b.steps
+    all_given (answer ∷ left) ok drawn =
+        let b : Begins Allowed (Some answer) drawn.1.1.0 = first_of left ok drawn.1.1.1 in
+        let r = begun_run objects faulty answers (set_up b.marks) b.known answer left b.mid drawn.1.1.0 drawn.1.0 [] b.runs ok b.steps drawn.1.1.2 in
+        ran b.marks r (next_steps objects faulty answers drawn.1.0 (r.runs.rest.begun ∙ b.known.begun) drawn.1.2)
+
+    -- and over a walk that is drawn as far as one likes
+    pub some_given : (list : List (Result Info Error)) (last : SimpleWalk F P) → All Allowed list → Yields (Next objects faulty answers) w list last
+        → (ids : List ObjectId) × AreGiven list ids × IsBeginning (time_order w.parents w.sorting) (time_of (objects w.store)) next_kept (starts_of w hides) ids
+    some_given [] last ok drawn = ([], tt, begins_from (time_order w.parents w.sorting) (time_of (objects w.store)) next_kept (starts_of w hides) [] (λ k i e. cc))
+    some_given (answer ∷ left) last ok drawn =
+        let b : Begins Allowed (Some answer) drawn.0 = first_of left ok drawn.1 in
+        let r = begun_run objects faulty answers (set_up b.marks) b.known answer left b.mid drawn.0 last [] b.runs ok b.steps drawn.2 in
+        (r.ids, r.given_as, begins_from (time_order w.parents w.sorting) (time_of (objects w.store)) next_kept (starts_of w hides) r.ids r.begins)
 
 module _ {F P : Type 0} (objects : F → Objects) (faulty : F → ObjectId → Type 0) (answers : P → ObjectId → Bool → P → Type 0) (w : SimpleWalk F P) (accepts hides : ObjectId → Bool)
     (by_test : AnswersBy answers w.predicate accepts) (is_fresh : IsFresh objects w accepts) (tells : Tells hides (Reaches (parents_of (objects w.store)) w.hidden_tips))
@@ -142,9 +163,6 @@ module _ {F P : Type 0} (objects : F → Objects) (faulty : F → ObjectId → T
       let h : Contains (walked_parents (objects w.store) w.parents d) c × (is_kept (objects w.store) accepts hides (cutoff w.parents w.sorting) c ≡ true) = Contains-filter _ (walked_parents (objects w.store) w.parents d) c n in
       (step (outside d r).0 (walked_within w.parents _ c h.0), not-true _ (and_parts _ _ (and_parts _ _ h.1).0).1)
 
-  not_hidden : (c : ObjectId) → hides c ≡ false → Reaches (parents_of (objects w.store)) w.hidden_tips c → ⊥
-  not_hidden c e r = true≢false (sym ((tells c).1 r) ∙ e)
-
   knows : (marks : set.FinSet id_cmp) → ((c i : ObjectId) → Reaches next_ids (starts_of w hides) c → Contains (parents_of (objects w.store) c) i → set.contains marks i ≡ hides i) → Known objects faulty answers (setting marks) IsNoRefusal
   knows marks marked = record {
     begun = refl;
@@ -154,61 +172,31 @@ module _ {F P : Type 0} (objects : F → Objects) (faulty : F → ObjectId → T
     unfailed = λ ok. ok.0 refl;
   }
 
-  record Begins (o : Option (Result Info Error)) (new : SimpleWalk F P) : Type 0 where
-    marks : set.FinSet id_cmp
-    mid : SimpleWalk F P
-    known : Known objects faulty answers (setting marks) IsNoRefusal
-    runs : Runs objects faulty answers (setting marks) mid []
-    steps : Steps objects faulty answers mid o new
+  abbrev BeginsBy : Option (Result Info Error) → SimpleWalk F P → Type 0
+  BeginsBy = Begins objects faulty answers w accepts hides (parents_of (objects w.store)) by_test is_fresh agreeing IsNoRefusal
 
   -- nothing is painted
-  plain : (w.pending ≡ []) ⊎ (w.hidden_tips ≡ []) → {o : Option (Result Info Error)} {new : SimpleWalk F P} → Steps objects faulty answers (record w { begun = true; hidden_tips = [] }) o new → Begins o new
-  plain none steps = record {
-    marks = w.hidden;
-    mid = record w { begun = true; hidden_tips = [] };
-    known = knows w.hidden (λ c i r n. is_fresh.shown i ∙ sym (⊎_elim (λ e. absurd (no_start next_ids (starts_of w hides) c r (ap (λ ps. filter (λ k. not (hides k)) (ids_of ps)) e))) (λ e. shown e i) none));
-    runs = begins_so objects faulty answers w accepts hides (parents_of (objects w.store)) by_test is_fresh agreeing w.hidden (record w { begun = true; hidden_tips = [] })
-        (record { store = refl; parents = refl; sorting = refl; marks = refl; begun = refl; tips = refl; rows = inl refl; asked_of = itself; remembered = is_fresh.remembered; timed = is_fresh.timed })
-        refl (sym (filter_all (λ i. not (hides i)) (ids_of w.pending) (λ i c. ap not (⊎_elim (λ e. absurd (no_tip e i c)) (λ e. shown e i) none))));
-    steps = steps;
-  }
+  plain : (w.pending ≡ []) ⊎ (w.hidden_tips ≡ []) → {o : Option (Result Info Error)} {new : SimpleWalk F P} → Steps objects faulty answers (record w { begun = true; hidden_tips = [] }) o new → BeginsBy o new
+  plain none steps =
+      begins_at objects faulty answers w accepts hides (parents_of (objects w.store)) by_test is_fresh agreeing w.hidden w.rows w.pending (inl refl) (λ p m. m)
+      (sym (filter_all (λ i. not (hides i)) (ids_of w.pending) (λ i c. ap not (⊎_elim (λ e. absurd (no_member i (subst (λ ps. Contains (ids_of ps) i) e c))) (λ e. shown e i) none))))
+      (knows w.hidden (λ c i r n. is_fresh.shown i ∙ sym (⊎_elim (λ e. absurd (no_start next_ids (starts_of w hides) c r (ap (λ ps. filter (λ k. not (hides k)) (ids_of ps)) e))) (λ e. shown e i) none))) steps
     where
-      no_tip : w.pending ≡ [] → (i : ObjectId) → Contains (ids_of w.pending) i → ⊥
-      no_tip e i c = no_member i (subst (λ ps. Contains (ids_of ps) i) e c)
-
       shown : w.hidden_tips ≡ [] → (i : ObjectId) → hides i ≡ false
       shown e i = false_from_ne_true _ (λ h. no_start (parents_of (objects w.store)) w.hidden_tips i ((tells i).0 h) e)
 
   -- the hidden tips are painted
-  painting : (marks : set.FinSet id_cmp) (rows : List GraphRow) → Paints (objects w.store) w.rows (ids_of w.pending) w.hidden_tips marks rows → {o : Option (Result Info Error)} {new : SimpleWalk F P} → Steps objects faulty answers (painted objects faulty answers (record w { begun = true }) marks rows) o new → Begins o new
-  painting marks rows paint steps = record {
-    marks = marks;
-    mid = painted objects faulty answers (record w { begun = true }) marks rows;
-    known = knows marks (λ c i r n. exact i (inr (c, (outside c r).0, not_hidden c (outside c r).1, n)));
-    runs = begins_so objects faulty answers w accepts hides (parents_of (objects w.store)) by_test is_fresh agreeing marks (painted objects faulty answers (record w { begun = true }) marks rows)
-        (record {
-          store = refl;
-          parents = refl;
-          sorting = refl;
-          marks = refl;
-          begun = refl;
-          tips = refl;
-          rows = paint.rows_left;
-          asked_of = itself;
-          remembered = is_fresh.remembered;
-          timed = λ order e p m. is_fresh.timed order e p (filter_within _ w.pending p m);
-        })
-        refl (ids-filter (set.contains marks) hides w.pending (λ i c. exact i (inl c)));
-    steps = steps;
-  }
+  painting : (marks : set.FinSet id_cmp) (rows : List GraphRow) → Paints (objects w.store) w.rows (ids_of w.pending) w.hidden_tips marks rows
+      → {o : Option (Result Info Error)} {new : SimpleWalk F P} → Steps objects faulty answers (painted objects faulty answers (record w { begun = true }) marks rows) o new → BeginsBy o new
+  painting marks rows paint steps =
+      begins_at objects faulty answers w accepts hides (parents_of (objects w.store)) by_test is_fresh agreeing marks rows _ paint.rows_left (λ p m. filter_within _ w.pending p m) (ids-filter (set.contains marks) hides w.pending (λ i c. exact i (inl c)))
+      (knows marks (λ c i r n. exact i (inr (c, (outside c r).0, (λ h. true≢false (sym ((tells c).1 h) ∙ (outside c r).1)), n)))) steps
     where
       exact : (i : ObjectId) → IsAtBoundary (parents_of (objects w.store)) (ids_of w.pending) w.hidden_tips i → set.contains marks i ≡ hides i
-      exact i at = go (set.contains marks i) refl (hides i) refl
-        where
-          go : (a : Bool) → set.contains marks i ≡ a → (b : Bool) → hides i ≡ b → set.contains marks i ≡ hides i
-          go true e b f = e ∙ sym ((tells i).1 ((paint.marked (objects w.store) own).sound i e))
-          go false e true f = (paint.marked (objects w.store) own).whole i at ((tells i).0 f) ∙ sym f
-          go false e false f = e ∙ sym f
+      exact i at =
+          let sound : set.contains marks i ≡ true → hides i ≡ true = λ e. (tells i).1 ((paint.marked (objects w.store) own).sound i e) in
+          let whole : hides i ≡ true → set.contains marks i ≡ true = λ e. (paint.marked (objects w.store) own).whole i at ((tells i).0 e) in
+          grind arith
 
   no_hidden_fault : w.pending ≢ [] → w.hidden_tips ≢ [] → (why : Hidden) → IsNoRefusal (Err (error.HiddenGraph why)) → IsHiddenFault (objects w.store) (faulty w.store) w.rows (ids_of w.pending) w.hidden_tips why → ⊥
   no_hidden_fault some hidden (hidden_by.Find e) ok fault =
@@ -218,34 +206,18 @@ module _ {F P : Type 0} (objects : F → Objects) (faulty : F → ObjectId → T
       let whole : ReadsWhole (objects w.store) fault.id = meets.painted some hidden fault.id (fault.reached (objects w.store) own) in
       let n : None ≡ Some whole.commit = sym (ap (commit_of_object fault.id) fault.fault.1 ∙ fault_unread (commit_items (kind_of fault.id) fault.fault.0) e fault.fault.2) ∙ whole.stored in cc
 
-  first_begins : {o : Option (Result Info Error)} {new : SimpleWalk F P} → ((answer : Result Info Error) → o ≡ Some answer → IsNoRefusal answer) → FirstStep objects faulty answers (record w { begun = true }) o new → Begins o new
+  first_begins : {o : Option (Result Info Error)} {new : SimpleWalk F P} → ((answer : Result Info Error) → o ≡ Some answer → IsNoRefusal answer) → FirstStep objects faulty answers (record w { begun = true }) o new → BeginsBy o new
   first_begins ok (unhidden none steps) = plain none steps
   first_begins ok (paints {marks = marks} {rows = rows} some hidden paint steps) = painting marks rows paint steps
   first_begins ok (faulty_history {why = why} some hidden left fault) = absurd (no_hidden_fault some hidden why (ok (Err (error.HiddenGraph why)) refl) fault)
   first_begins ok (no_memory some hidden left) = absurd ((ok (Err error.Memory) refl).0 refl)
 
-  begins : {o : Option (Result Info Error)} {new : SimpleWalk F P} → ((answer : Result Info Error) → o ≡ Some answer → IsNoRefusal answer) → Next objects faulty answers w o new → Begins o new
-  begins ok (initial fresh s) = first_begins ok s
-  begins ok (later b s) = absurd (true≢false (sym b ∙ is_fresh.unbegun))
+  begins : (o : Option (Result Info Error)) (new : SimpleWalk F P) → ((answer : Result Info Error) → o ≡ Some answer → IsNoRefusal answer) → Next objects faulty answers w o new → BeginsBy o new
+  begins o new ok (initial fresh s) = first_begins ok s
+  begins o new ok (later b s) = absurd (true≢false (sym b ∙ is_fresh.unbegun))
 
-  ran : (marks : set.FinSet id_cmp) (list : List (Result Info Error)) → RunOf objects faulty answers (setting marks) [] list → GivesInOrder objects w accepts hides list
-  ran marks list r = record { ids = r.ids; given = r.given_as; in_order = in_order_from (time_order w.parents w.sorting) (time_of (objects w.store)) next_ids (starts_of w hides) r.ids r.order }
-
-  -- the theorem
   pub gives_in_order : (list : List (Result Info Error)) → All IsNoRefusal list → Drains (Next objects faulty answers) w list → GivesInOrder objects w accepts hides list
-  gives_in_order [] ok drawn =
-      let end = at_end (Next objects faulty answers) w drawn in
-      let b : Begins None end.0 = begins (λ a e. cc) end.1 in
-      ran b.marks [] (run objects faulty answers (setting b.marks) b.known [] b.mid [] b.runs ok (end.0, b.steps))
-  gives_in_order (answer ∷ left) ok drawn =
-      let first = at_first (Next objects faulty answers) w answer left drawn in
-      let b : Begins (Some answer) first.0 = begins (λ a e. let same : answer ≡ a = cc in subst IsNoRefusal same (All-head IsNoRefusal answer left ok)) first.1 in
-      ran b.marks (answer ∷ left) (run objects faulty answers (setting b.marks) b.known (answer ∷ left) b.mid [] b.runs ok (first.0, b.steps, first.2))
+  gives_in_order list ok drawn = let r = all_given objects faulty answers w accepts hides (parents_of (objects w.store)) by_test is_fresh agreeing begins list ok drawn in record { ids = r.0; given = r.1; in_order = r.2 }
 
-  -- and over a walk that is drawn as far as one likes
   pub gives_beginning : (list : List (Result Info Error)) (last : SimpleWalk F P) → All IsNoRefusal list → Yields (Next objects faulty answers) w list last → GivesBeginning objects w accepts hides list
-  gives_beginning [] last ok drawn = record { ids = []; given = tt; begins = begins_from (time_order w.parents w.sorting) (time_of (objects w.store)) next_ids (starts_of w hides) [] (λ k i e. cc) }
-  gives_beginning (answer ∷ left) last ok drawn =
-      let b : Begins (Some answer) drawn.0 = begins (λ a e. let same : answer ≡ a = cc in subst IsNoRefusal same (All-head IsNoRefusal answer left ok)) drawn.1 in
-      let r : BegunOf objects faulty answers (setting b.marks) [] (answer ∷ left) = begun_run objects faulty answers (setting b.marks) b.known answer left b.mid drawn.0 last [] b.runs ok b.steps drawn.2 in
-      record { ids = r.ids; given = r.given_as; begins = begins_from (time_order w.parents w.sorting) (time_of (objects w.store)) next_ids (starts_of w hides) r.ids r.begins }
+  gives_beginning list last ok drawn = let r = some_given objects faulty answers w accepts hides (parents_of (objects w.store)) by_test is_fresh agreeing begins list last ok drawn in record { ids = r.0; given = r.1; begins = r.2 }

@@ -1,23 +1,11 @@
 -- The keys of pending commits in an order by time.
-use Rattle.std.specs.Prelude.{◌≡◌, ◌<ℤ◌, ℤ, List, [], ◌∷◌, ◌++◌, false, Contains, Option, Some, None, IsPermutation, length}
-use Rattle.std.proofs.Common.{refl, sym, ap, subst, ⊎_elim, ◌∙◌, arith, append-nil, append_assoc}
+use Rattle.std.proofs.Common.{◌≡◌, ◌<ℤ◌, ℤ, List, [], ◌∷◌, ◌++◌, false, Contains, Option, Some, None, IsPermutation, length, refl, sym, ap, subst, ⊎_elim, ◌∙◌, arith, append-nil, append_assoc, int_cmp, is_lt, Ordering}
 use Rattle.std.proofs.lemmas.Int.{ints}
 use Rattle.std.proofs.lemmas.Cmp.{int_ranked}
-use Rattle.std.proofs.lemmas.Bool.{true≢false}
-use Rattle.std.proofs.lemmas.List.Elements.{All-cons, recursion_from_All, All-from_recursion}
-use Rattle.std.proofs.lemmas.List.Sorted.{All-permutation, IsPermutation-map, IsPermutation-trans, IsPermutation-middle, IsPermutation-append_left, length_permutation}
-use Rattle.std.specs.List.{AllByRecursion}
+use Rattle.gix_simple.proofs.Common.{nil_from_length, All-cons, recursion_from_All, All-from_recursion, All-permutation, Contains-permutation, IsPermutation-sym, IsPermutation-map, IsPermutation-trans, IsPermutation-middle}
+use Rattle.gix_simple.proofs.Common.{IsPermutation-append_left, length_permutation, AllByRecursion, keys, values, Contains-cons_cases, Contains-there, no_member, CommitTimeOrder, Pending, time_key, AreKeyed, IsChosen, TakesOut, Holds}
 use Rattle.std.specs.BinaryHeap.{IsUpperBound}
-use Rattle.std.specs.Ordering.{int_cmp, is_lt, MatchOrdering}
-use Rattle.std.specs.declared.cmp.Ordering.{Ordering}
-use Rattle.std.specs.declared.cmp.Ordering.TheVariants.{Less, Equal, Greater}
-use Rattle.gix_revwalk.specs.PriorityQueue.{keys, values}
-use Rattle.gix_hash.proofs.Ids.Membership.{Contains-cons_cases, no_member}
-use Rattle.gix_revwalk.specs.declared.CommitTimeOrder.{CommitTimeOrder}
-use Rattle.gix_revwalk.specs.declared.CommitTimeOrder.TheVariants.{NewestFirst, OldestFirst}
-use Rattle.gix_revwalk.specs.Pending.{Pending}
-use Rattle.gix_simple.specs.Inside.PendingQueue.{time_key, AreKeyed, IsChosen, TakesOut}
-use Rattle.gix_simple.specs.Walk.{Holds}
+use Rattle.std.specs.Ordering.{MatchOrdering}
 use Rattle.gix_revwalk.specs.TimeOrder.{IsNoWorse}
 
 abbrev Keyed : CommitTimeOrder → ℤ × Pending → Type 0
@@ -38,20 +26,13 @@ as_good : (order : CommitTimeOrder) (a b : ℤ) → is_lt (int_cmp (time_key ord
 as_good order a b h = go order (int_cmp (time_key order a) (time_key order b)) (int_ranked (time_key order a) (time_key order b) _ refl) h
   where
     go : (o : CommitTimeOrder) (r : Ordering) → MatchOrdering r (time_key o a <ℤ time_key o b) (time_key o a ≡ time_key o b) (time_key o b <ℤ time_key o a) → is_lt r ≡ false → IsNoWorse o a b
-    go NewestFirst Less m h = absurd (true≢false h)
-    go NewestFirst Equal m h = omega (arith, ints)
-    go NewestFirst Greater m h = omega (arith, ints)
-    go OldestFirst Less m h = absurd (true≢false h)
-    go OldestFirst Equal m h = omega (arith, ints)
-    go OldestFirst Greater m h = omega (arith, ints)
+    go o r m h = grind (arith, ints)
 
-all_as_good : (order : CommitTimeOrder) (time : ℤ) (pairs : List (ℤ × Pending)) → IsUpperBound int_cmp (time_key order time) (keys pairs) → AllByRecursion (Keyed order) pairs → AllByRecursion (λ pair. IsNoWorse order time pair.1.time) pairs
-all_as_good order time [] u k = tt
-all_as_good order time (pair ∷ pairs) u k = (as_good order time pair.1.time (subst (λ key. is_lt (int_cmp (time_key order time) key) ≡ false) k.0 u.0), all_as_good order time pairs u.1 k.1)
-
-among_values : (order : CommitTimeOrder) (time : ℤ) (pairs : List (ℤ × Pending)) → AllByRecursion (λ pair. IsNoWorse order time pair.1.time) pairs → (other : Pending) → Contains (values pairs) other → IsNoWorse order time other.time
-among_values order time [] a other h = absurd (no_member other h)
-among_values order time (pair ∷ pairs) a other h = ⊎_elim (λ e. subst (λ p. IsNoWorse order time p.time) e a.0) (λ n. among_values order time pairs a.1 other n) (Contains-cons_cases other pair.1 (values pairs) h)
+-- below a greatest key all are as good
+all_as_good : (order : CommitTimeOrder) (time : ℤ) (pairs : List (ℤ × Pending)) → IsUpperBound int_cmp (time_key order time) (keys pairs) → AllByRecursion (Keyed order) pairs → (other : Pending) → Contains (values pairs) other → IsNoWorse order time other.time
+all_as_good order time [] u k other h = absurd (no_member other h)
+all_as_good order time (pair ∷ pairs) u k other h =
+    ⊎_elim (λ e. subst (λ p. IsNoWorse order time p.time) e (as_good order time pair.1.time (subst (λ key. is_lt (int_cmp (time_key order time) key) ≡ false) k.0 u.0))) (all_as_good order time pairs u.1 k.1 other) (Contains-cons_cases other pair.1 (values pairs) h)
 
 module _ (order : CommitTimeOrder) (pair : ℤ × Pending) (old new : List (ℤ × Pending)) (keyed : AreKeyed order old) (rest : IsPermutation old (pair ∷ new)) where
   keyed_all : AllByRecursion (Keyed order) (pair ∷ new)
@@ -64,20 +45,17 @@ module _ (order : CommitTimeOrder) (pair : ℤ × Pending) (old new : List (ℤ 
   -- a commit under a greatest key is of best time
   pub best_chosen : IsUpperBound int_cmp pair.0 (keys old) → IsChosen (Some order) (values old) pair.1 (values new)
   best_chosen u =
-      let good : AllByRecursion (λ x. IsNoWorse order pair.1.time x.1.time) old = all_as_good order pair.1.time old (subst (λ key. IsUpperBound int_cmp key (keys old)) keyed_all.0 u) (recursion_from_All (Keyed order) old keyed) in
-      let others : AllByRecursion (λ x. IsNoWorse order pair.1.time x.1.time) (pair ∷ new) = recursion_from_All (λ x. IsNoWorse order pair.1.time x.1.time) (pair ∷ new)
-      (All-permutation (λ x. IsNoWorse order pair.1.time x.1.time) old (pair ∷ new) rest (All-from_recursion (λ x. IsNoWorse order pair.1.time x.1.time) old good)) in
-      (IsPermutation-map (λ x. x.1) old (pair ∷ new) rest, among_values order pair.1.time new others.1)
+      let moved : IsPermutation (values old) (pair.1 ∷ values new) = IsPermutation-map (λ x. x.1) old (pair ∷ new) rest in (
+        moved,
+        λ other h. all_as_good order pair.1.time old (subst (λ key. IsUpperBound int_cmp key (keys old)) keyed_all.0 u) (recursion_from_All (Keyed order) old keyed) other
+            (Contains-permutation _ _ other (IsPermutation-sym _ _ moved) (Contains-there other pair.1 (values new) h)),
+      )
 
 -- one commit goes from the list into the queue by time
 pub goes_over : (all standing left rest new : List Pending) (p : Pending) → IsPermutation all (standing ++ left) → left ≡ p ∷ rest → IsPermutation (standing ++ p ∷ []) new → IsPermutation all (new ++ rest)
 goes_over all standing left rest new p h e n =
     IsPermutation-trans all (standing ++ p ∷ rest) (new ++ rest) (subst (λ xs. IsPermutation all (standing ++ xs)) e h)
     (subst (λ xs. IsPermutation xs (new ++ rest)) (append_assoc standing (p ∷ []) rest) (IsPermutation-append_left rest (standing ++ p ∷ []) new n))
-
-pub none_of : {X : Type 0} (xs : List X) → length xs ≡ 0 → xs ≡ []
-none_of [] e = refl
-none_of (x ∷ xs) e = absurd (omega arith)
 
 -- what holds of the pending commits `mid`, which are held by an order as it asks, holds of `old`, from which they were put in that order
 module _ (o by : Option CommitTimeOrder) (old mid new : List Pending) (held : (by ≡ o) × Holds o old mid) where
@@ -96,5 +74,5 @@ module _ (o by : Option CommitTimeOrder) (old mid new : List Pending) (held : (b
       go : (o : Option CommitTimeOrder) (t : Option Pending) → Holds o old mid → TakesOut o mid t new → TakesOut o old t new
       go None None e h = (sym e ∙ h.0, h.1)
       go None (Some t) e h = sym e ∙ h
-      go (Some order) None e h = (none_of old (sym (length_permutation old mid e) ∙ ap length h.0), h.1)
+      go (Some order) None e h = (nil_from_length old (sym (length_permutation old mid e) ∙ ap length h.0), h.1)
       go (Some order) (Some t) e h = (IsPermutation-trans old mid (t ∷ new) e h.0, h.1)

@@ -1,31 +1,12 @@
 -- The parents of a commit, treated in order: what becomes pending and seen.
-use Rattle.std.specs.Prelude.{◌≡◌, ◌⊎◌, ◌+◌, ℤ, pos, List, [], ◌∷◌, ◌++◌, filter, Bool, true, false, not, ◌&&◌, ◌||◌, cond, Option, Some, None, Ok, Contains, IsPermutation}
-use Rattle.std.proofs.Common.{refl, sym, ap, subst, ⊎_elim, ◌∙◌, append_assoc, append-nil}
-use Rattle.std.proofs.lemmas.List.{map-append}
-use Rattle.std.proofs.lemmas.List.Sorted.{IsPermutation-map, Contains-permutation, IsPermutation-sym}
-use Rattle.std.proofs.lemmas.List.Elements.{filter-append, Contains-append_cases}
-use Rattle.std.proofs.lemmas.Bool.{false≢true, false_from_ne_true, and_left, and_right, and_parts, not_from_true}
+use Rattle.std.proofs.Common.{ℕ, ◌≡◌, ◌⊎◌, ◌+◌, ℤ, pos, List, [], ◌∷◌, ◌++◌, filter, Bool, true, false, not, ◌&&◌, ◌||◌, Option, Some, None, Ok, Contains, IsPermutation, refl, sym, ap, subst, ⊎_elim, ◌∙◌, append_assoc, append-nil, arith}
+use Rattle.gix_simple.proofs.Common.{map-append, IsPermutation-map, Contains-permutation, IsPermutation-sym, filter-append, Contains-append_cases, and_left, and_right, and_parts, not_from_true, ObjectId, id_cmp, is_same, is_among}
+use Rattle.gix_simple.proofs.Common.{Objects, GraphRow, row_of, Parents, CommitTimeOrder, Sorting, IsAgreeing, time_of, Pending, SimpleWalk, Treated, GoesOn, Holds, time_order, cutoff, is_older, row_time, Asks, remembers, ReadsTime}
+use Rattle.gix_simple.proofs.Common.{unasked, from_row, from_store, Enqueues, dropped, enqueued, Treats, hidden, refused, accepted, TreatsAll, stops, ids_of, Becomes, further, AnswersBy, is_kept, id_total, same_is, among-one}
+use Rattle.gix_simple.proofs.Common.{Contains-here, Contains-there, no_member, fresh, fresh_agree, fresh-append, times-append, times_moved, among-filter, row_says_time, only_member}
 use Rattle.std.specs.FinSet as set
-use Rattle.gix_hash.specs.declared.ObjectId.{ObjectId}
-use Rattle.gix_hash.specs.Id.{id_cmp, is_same, is_among}
-use Rattle.gix_object.specs.Object.{Objects}
-use Rattle.gix_commitgraph.specs.Rows.{GraphRow, row_of}
-use Rattle.gix_revwalk.specs.declared.Parents.{Parents}
-use Rattle.gix_revwalk.specs.declared.Parents.TheVariants as mode
-use Rattle.gix_revwalk.specs.declared.CommitTimeOrder.{CommitTimeOrder}
-use Rattle.gix_simple.specs.declared.Sorting.{Sorting}
-use Rattle.gix_simple.specs.declared.Sorting.TheVariants as sorting
-use Rattle.gix_revwalk.specs.Agreeing.{IsAgreeing}
-use Rattle.gix_revwalk.specs.Commits.{time_of}
-use Rattle.gix_revwalk.specs.Pending.{Pending}
-use Rattle.gix_simple.specs.Walk.{SimpleWalk, Treated, GoesOn, Holds, time_order, cutoff, is_older, row_time, Asks, remembers, asks, asked as asked_walk, ReadsTime, unasked, from_row, from_store, Enqueues, dropped, enqueued, Treats, hidden, known, refused, accepted, TreatsAll, none, more, stops}
-use Rattle.gix_revwalk.specs.Ids.{ids_of}
-use Rattle.gix_revwalk.specs.Asking.{Becomes, further, AnswersBy}
-use Rattle.gix_simple.specs.Laws.{is_kept}
-use Rattle.gix_hash.proofs.Ids.Membership.{id_total, same_is, among-one, Contains-here, Contains-there, no_member}
-use Rattle.gix_revwalk.proofs.NewIds.{fresh, fresh_agree, fresh-append, times, times-append, times_moved, among-filter}
-use Rattle.gix_revwalk.proofs.ReadsWhole.{row_says_time}
-use Rattle.gix_hash.proofs.Lists.{only_member}
+use Rattle.gix_simple.specs.Walk.{asks, asked as asked_walk, known, none, more}
+use Rattle.gix_revwalk.proofs.NewIds.{times}
 
 -- the lists are one; or they have each id as often, where an order by time is in force
 abbrev pub Joins : Option CommitTimeOrder → List ObjectId → List ObjectId → Type 0
@@ -58,10 +39,7 @@ Contains-holds (Some order) old new k p h = Contains-permutation new old p (IsPe
 
 -- where no order by time is in force, there is no cutoff either
 pub no_cutoff : (m : Parents) (s : Sorting) → time_order m s ≡ None → cutoff m s ≡ None
-no_cutoff mode.First s e = refl
-no_cutoff mode.All sorting.BreadthFirst e = refl
-no_cutoff mode.All (sorting.ByCommitTime order) e = cc
-no_cutoff mode.All (sorting.ByCommitTimeCutoff order seconds) e = cc
+no_cutoff m s e = grind arith
 
 module _ {F P : Type 0} (objects : F → Objects) (faulty : F → ObjectId → Type 0) (answers : P → ObjectId → Bool → P → Type 0) where
   -- what a walk was given, and what holds of it
@@ -119,35 +97,9 @@ module _ {F P : Type 0} (objects : F → Objects) (faulty : F → ObjectId → T
   asked_test s w h i (remembers e) = (sym (h.remembered i e), h.asked_of)
   asked_test s w h i (asks {answer = b} {predicate = q} e a) = (s.by_test w.predicate q i b h.asked_of a, further h.asked_of a)
 
-  insert_seen : (old : set.FinSet id_cmp) (i j : ObjectId) → set.contains (set.insert old i) j ≡ (is_same j i || set.contains old j)
-  insert_seen old i j = set.contains-insert id_total old i j
-
   -- an id that isn't kept adds nothing
   passed_over : (s : Setting) (i : ObjectId) (xs : List ObjectId) (old : ObjectId → Bool) → keep s i ≡ false → Joins (order_of s) xs (xs ++ fresh old (filter (keep s) (i ∷ [])))
-  passed_over s i xs old e = Joins-refl (order_of s) _ _ (sym (ap (λ b. xs ++ fresh old (cond b (i ∷ []) [])) e ∙ append-nil xs))
-
-  already : (s : Setting) (i : ObjectId) (xs : List ObjectId) (old : ObjectId → Bool) → old i ≡ true → Joins (order_of s) xs (xs ++ fresh old (filter (keep s) (i ∷ [])))
-  already s i xs old e = Joins-refl (order_of s) _ _ (sym (go (keep s i)))
-    where
-      go : (b : Bool) → xs ++ fresh old (cond b (i ∷ []) []) ≡ xs
-      go true = ap (λ b. xs ++ cond b [] (i ∷ [])) e ∙ append-nil xs
-      go false = append-nil xs
-
-  added : (s : Setting) (i : ObjectId) (xs : List ObjectId) (old : ObjectId → Bool) → keep s i ≡ true → old i ≡ false → xs ++ i ∷ [] ≡ xs ++ fresh old (filter (keep s) (i ∷ []))
-  added s i xs old k e = sym (ap (λ b. xs ++ fresh old (cond b (i ∷ []) [])) k ∙ ap (λ b. xs ++ cond b [] (i ∷ [])) e)
-
-  not_same : (s : Setting) (i j : ObjectId) → keep s i ≡ false → keep s j ≡ true → is_same j i ≡ false
-  not_same s i j e k = false_from_ne_true _ (λ t. false≢true (sym e ∙ sym (ap (keep s) (same_is j i t)) ∙ k))
-
-  seen_once : (i j : ObjectId) (old : ObjectId → Bool) → old i ≡ true → old j ≡ (is_same j i || old j)
-  seen_once i j old e = go (is_same j i) refl
-    where
-      go : (b : Bool) → is_same j i ≡ b → old j ≡ (b || old j)
-      go true t = ap old (same_is j i t) ∙ e
-      go false t = refl
-
-  seen_still : (i j : ObjectId) (old : ObjectId → Bool) → is_same j i ≡ false → old j ≡ (is_same j i || old j)
-  seen_still i j old e = sym (ap (λ b. b || old j) e)
+  passed_over s i xs old e = Joins-refl (order_of s) _ _ (grind (arith, append-nil xs))
 
   -- the rows that are left agree
   pub rows_agree : (s : Setting) (w : SimpleWalk F P) → Stands s w → IsAgreeing (objects s.store) w.rows
@@ -165,17 +117,20 @@ module _ {F P : Type 0} (objects : F → Objects) (faulty : F → ObjectId → T
       let t : time_of (objects w.store) i ≡ time_of (objects s.store) i = ap (λ f. time_of (objects f) i) h.store in
       (λ order some. t, ap (λ n. is_older n (limit_of s)) t)
 
-  stands_asked : (s : Setting) (w : SimpleWalk F P) → Stands s w → (i : ObjectId) (q : P) (ps : List Pending) → Becomes answers s.predicate q → ((order : CommitTimeOrder) → order_of s ≡ Some order → (p : Pending) → Contains ps p → p.time ≡ time_of (objects s.store) p.id) → Stands s (asked_walk objects faulty answers w i q ps)
-  stands_asked s w h i q ps becomes timed = record {
+  -- also where pending commits and rows are others, and what is seen and remembered
+  pub stands_with : (s : Setting) (w : SimpleWalk F P) → Stands s w → (rows : List GraphRow) (pending : List Pending) (seen remembered : set.FinSet id_cmp) (q : P) (text : List ℕ) (current : Option ObjectId) → (rows ≡ s.rows) ⊎ (rows ≡ []) → Becomes answers s.predicate q
+      → ((i : ObjectId) → set.contains remembered i ≡ true → s.accepts i ≡ true) → ((order : CommitTimeOrder) → order_of s ≡ Some order → (p : Pending) → Contains pending p → p.time ≡ time_of (objects s.store) p.id)
+      → Stands s (record w { predicate = q; rows = rows; pending = pending; seen = seen; remembered = remembered; text = text; current = current })
+  stands_with s w h rows pending seen remembered q text current left becomes yes_kept timed = record {
     store = h.store;
     parents = h.parents;
     sorting = h.sorting;
     marks = h.marks;
     begun = h.begun;
     tips = h.tips;
-    rows = h.rows;
+    rows = left;
     asked_of = becomes;
-    remembered = λ j e. h.remembered j (and_parts (not (is_same j i)) (set.contains w.remembered j) (sym (set.contains-remove id_total w.remembered i j) ∙ e)).1;
+    remembered = yes_kept;
     timed = timed;
   }
 
@@ -186,51 +141,43 @@ module _ {F P : Type 0} (objects : F → Objects) (faulty : F → ObjectId → T
       (λ m. subst (λ x. x.time ≡ time_of (objects s.store) x.id) (only_member new p m) (t order some))
       (Contains-append_cases w.pending (new ∷ []) p (Contains-holds (time_order w.parents w.sorting) _ ps holds p n))
 
-  same_order : (s : Setting) (w : SimpleWalk F P) → Stands s w → time_order w.parents w.sorting ≡ order_of s
-  same_order s w h k = time_order (h.parents k) (h.sorting k)
-
-  same_limit : (s : Setting) (w : SimpleWalk F P) → Stands s w → cutoff w.parents w.sorting ≡ limit_of s
-  same_limit s w h k = cutoff (h.parents k) (h.sorting k)
-
-  is_kept_if : (s : Setting) (i : ObjectId) (b : Bool) → s.accepts i ≡ true → s.hidden i ≡ false → is_older (time_of (objects s.store) i) (limit_of s) ≡ b → keep s i ≡ not b
-  is_kept_if s i b a h o = λ k. (a k && not (h k)) && not (o k)
+  -- the id was asked about, and is seen now
+  asked_did : (s : Setting) (w : SimpleWalk F P) → Stands s w → (i : ObjectId) (q : P) (ps : List Pending) → Becomes answers s.predicate q → ((order : CommitTimeOrder) → order_of s ≡ Some order → (p : Pending) → Contains ps p → p.time ≡ time_of (objects s.store) p.id)
+      → Joins (order_of s) (ids_of ps) (ids_of w.pending ++ fresh (set.contains w.seen) (filter (keep s) (i ∷ []))) → Did s (i ∷ []) w (asked_walk objects faulty answers w i q ps)
+  asked_did s w h i q ps becomes timed joins = record {
+    rest = stands_with s w h w.rows ps _ _ q w.text w.current h.rows becomes (λ j e. h.remembered j (and_parts (not (is_same j i)) (set.contains w.remembered j) (sym (set.contains-remove id_total w.remembered i j) ∙ e)).1) timed;
+    same_rows = refl;
+    seen = λ j k. set.contains-insert id_total w.seen i j ∙ ap (λ b. b || set.contains w.seen j) (sym (among-one j i));
+    pending = joins;
+  }
 
   one : (s : Setting) (w : SimpleWalk F P) → Stands s w → (by_row : Bool) (i : ObjectId) → IsReady s w by_row i → {v : SimpleWalk F P} → Treats objects faulty answers w by_row i GoesOn v → Did s (i ∷ []) w v
   one s w h by_row i ready (hidden e) =
       let hid : s.hidden i ≡ true = sym ready.marked ∙ ap (λ m. set.contains m i) (sym h.marks) ∙ e in
       let out : keep s i ≡ false = and_left _ _ (and_right (s.accepts i) _ (not_from_true _ hid)) in
-      record { rest = h; same_rows = refl; seen = λ j k. seen_still i j (set.contains w.seen) (not_same s i j out k) ∙ ap (λ b. b || set.contains w.seen j) (sym (among-one j i)); pending = passed_over s i _ _ out }
-  one s w h by_row i ready (known e) =
-      record { rest = h; same_rows = refl; seen = λ j k. seen_once i j (set.contains w.seen) e ∙ ap (λ b. b || set.contains w.seen j) (sym (among-one j i)); pending = already s i _ _ e }
+      record { rest = h; same_rows = refl; seen = λ j k. let same : is_same j i ≡ true → keep s j ≡ keep s i = λ t. ap (keep s) (same_is j i t) in let one = among-one j i in grind arith; pending = passed_over s i _ _ out }
+  one s w h by_row i ready (known e) = record {
+    rest = h;
+    same_rows = refl;
+    seen = λ j k. let same : is_same j i ≡ true → set.contains w.seen j ≡ set.contains w.seen i = λ t. ap (set.contains w.seen) (same_is j i t) in let one = among-one j i in grind arith;
+    pending = Joins-refl (order_of s) _ _ (grind (arith, append-nil (ids_of w.pending)));
+  }
   one s w h by_row i ready (refused {predicate = q} is_new a) =
       let t : (false ≡ s.accepts i) × Becomes answers s.predicate q = asked_test s w h i a in
-      let out : keep s i ≡ false = and_left _ _ (and_left _ _ (sym t.0)) in
-      record {
-        rest = stands_asked s w h i q w.pending t.1 h.timed;
-        same_rows = refl;
-        seen = λ j k. insert_seen w.seen i j ∙ ap (λ b. b || set.contains w.seen j) (sym (among-one j i));
-        pending = passed_over s i _ _ out;
-      }
+      asked_did s w h i q w.pending t.1 h.timed (passed_over s i _ _ (and_left _ _ (and_left _ _ (sym t.0))))
   one s w h by_row i ready (accepted {predicate = q} {time = time} {pending = ps} is_new a reads queues) =
       let t : (true ≡ s.accepts i) × Becomes answers s.predicate q = asked_test s w h i a in
       let o : ((order : CommitTimeOrder) → order_of s ≡ Some order → time ≡ time_of (objects s.store) i) × (is_older time (limit_of s) ≡ is_older (time_of (objects s.store) i) (limit_of s)) = older_alike s w h by_row i time ready.rowed reads in
       let shown : s.hidden i ≡ false = sym ready.marked ∙ ap (λ m. set.contains m i) (sym h.marks) ∙ is_new.open_to in
-      let decided : (b : Bool) → is_older time (cutoff w.parents w.sorting) ≡ b → keep s i ≡ not b = λ b e. is_kept_if s i b (sym t.0) shown (sym o.1 ∙ ap (is_older time) (sym (same_limit s w h)) ∙ e) in
+      let decided : (b : Bool) → is_older time (cutoff w.parents w.sorting) ≡ b → keep s i ≡ not b = λ b e. let yes = t.0 in let older = o.1 in let limit : cutoff w.parents w.sorting ≡ limit_of s = λ k. cutoff (h.parents k) (h.sorting k) in grind arith in
       go t.1 o.0 decided queues
     where
       go : Becomes answers s.predicate q → ((order : CommitTimeOrder) → order_of s ≡ Some order → time ≡ time_of (objects s.store) i) → ((b : Bool) → is_older time (cutoff w.parents w.sorting) ≡ b → keep s i ≡ not b) → {ps' : List Pending} → Enqueues objects faulty answers (time_order w.parents w.sorting) (cutoff w.parents w.sorting) w.pending i time ps' → Did s (i ∷ []) w (asked_walk objects faulty answers w i q ps')
-      go becomes t decided (dropped e) = record {
-        rest = stands_asked s w h i q w.pending becomes h.timed;
-        same_rows = refl;
-        seen = λ j k. insert_seen w.seen i j ∙ ap (λ b. b || set.contains w.seen j) (sym (among-one j i));
-        pending = passed_over s i (ids_of w.pending) (set.contains w.seen) (decided true e);
-      }
-      go becomes t decided (enqueued {new = new} e holds) = record {
-        rest = stands_asked s w h i q new becomes (timed_on s w h i time new t holds);
-        same_rows = refl;
-        seen = λ j k. insert_seen w.seen i j ∙ ap (λ b. b || set.contains w.seen j) (sym (among-one j i));
-        pending = Joins-trans (order_of s) _ _ _ (subst (λ ord. Joins ord (ids_of new) (ids_of w.pending ++ i ∷ [])) (same_order s w h) (Joins-holds (time_order w.parents w.sorting) w.pending new (record { id = i; time = time }) holds)) (Joins-refl (order_of s) _ _ (added s i (ids_of w.pending) (set.contains w.seen) (decided false e) is_new.unseen));
-      }
+      go becomes t decided (dropped e) = asked_did s w h i q w.pending becomes h.timed (passed_over s i (ids_of w.pending) (set.contains w.seen) (decided true e))
+      go becomes t decided (enqueued {new = new} e holds) =
+          asked_did s w h i q new becomes (timed_on s w h i time new t holds)
+          (Joins-trans (order_of s) _ _ _ (subst (λ ord. Joins ord (ids_of new) (ids_of w.pending ++ i ∷ [])) (λ k. time_order (h.parents k) (h.sorting k)) (Joins-holds (time_order w.parents w.sorting) w.pending new (record { id = i; time = time }) holds))
+          (Joins-refl (order_of s) _ _ (let kept = decided false e in let unseen = is_new.unseen in grind arith)))
 
   joined : (s : Setting) (i : ObjectId) (ids : List ObjectId) (w mid : SimpleWalk F P) → Did s (i ∷ []) w mid →
       fresh (set.contains w.seen) (filter (keep s) (i ∷ [])) ++ fresh (set.contains mid.seen) (filter (keep s) ids) ≡ fresh (set.contains w.seen) (filter (keep s) (i ∷ ids))
@@ -249,15 +196,9 @@ module _ {F P : Type 0} (objects : F → Objects) (faulty : F → ObjectId → T
   both s i ids w mid v d e = record {
     rest = e.rest;
     same_rows = e.same_rows ∙ d.same_rows;
-    seen = λ j k. e.seen j k ∙ ap (λ b. is_among j ids || b) (d.seen j k) ∙ swapped (is_among j ids) (is_same j i) (set.contains w.seen j);
+    seen = λ j k. let after = e.seen j k in let before = d.seen j k in grind arith;
     pending = Joins-trans (order_of s) _ _ _ e.pending (Joins-trans (order_of s) _ _ _ (Joins-append (order_of s) _ _ (fresh (set.contains mid.seen) (filter (keep s) ids)) d.pending) (Joins-refl (order_of s) _ _ (append_assoc (ids_of w.pending) _ _ ∙ ap (λ xs. ids_of w.pending ++ xs) (joined s i ids w mid d))));
   }
-    where
-      swapped : (a b c : Bool) → (a || ((b || false) || c)) ≡ ((b || a) || c)
-      swapped true true c = refl
-      swapped true false c = refl
-      swapped false true c = refl
-      swapped false false c = refl
 
   pub all_treated : (s : Setting) (by_row : Bool) {w v : SimpleWalk F P} {ids : List ObjectId} {how : Treated} → TreatsAll objects faulty answers by_row w ids how v → how ≡ GoesOn → Stands s w → ((i : ObjectId) → Contains ids i → IsReady s w by_row i) → Did s ids w v
   all_treated s by_row (none {old = w}) e h ready = record { rest = h; same_rows = refl; seen = λ j k. refl; pending = Joins-refl (order_of s) _ _ (sym (append-nil _)) }

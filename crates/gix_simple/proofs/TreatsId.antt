@@ -1,27 +1,19 @@
 -- How a walk treats the ids that tips or a parent list name, one after the other.
-use Rattle.std.specs.Prelude.{◌≡◌, ◌≢◌, ◌⊎◌, ℤ, List, [], ◌∷◌, ◌++◌, Bool, true, false, not, ◌||◌, Option, Some, Result, Ok, Err, IfOk, IfErr}
-use Rattle.std.proofs.Common.{refl, sym, ap, subst, inl, inr, ◌∙◌, arith, length}
-use Rattle.std.proofs.lemmas.Bool.{true≢false, false≢true}
+use Rattle.std.proofs.Common.{◌≡◌, ℤ, List, [], ◌∷◌, ◌++◌, Bool, true, false, not, ◌||◌, Option, Some, Result, Ok, Err, IfOk, IfErr, refl, sym, ap, subst, inl, inr, ◌∙◌, arith, ⊎_elim, true≢false}
+use Rattle.gix_simple.proofs.Common.{false≢true, ObjectId, id_cmp, is_same, Objects, id_total, id_apart, same_is, CommitTimeOrder, Pending, time_of, Meets, TimeIs, SimpleWalk, bare, asked, Treated, GoesOn, NoMemory, StoreFails, Asks}
+use Rattle.gix_simple.proofs.Common.{remembers, ReadsTime, unasked, from_row, from_store, store_fails, Enqueues, enqueued, Holds, is_older, time_order, cutoff, IsNew, Treats, hidden, refused, accepted, no_memory_after, TreatsAll, stops}
+use Rattle.gix_simple.proofs.Common.{IsMade, how_ended}
 use Rattle.std.specs.FinSet as set
-use Rattle.gix_hash.specs.declared.ObjectId.{ObjectId}
-use Rattle.gix_hash.specs.Id.{id_cmp, is_same}
-use Rattle.gix_object.specs.Object.{Objects}
-use Rattle.gix_hash.proofs.Ids.Membership.{id_total, id_apart, same_is}
-use Rattle.gix_revwalk.specs.declared.CommitTimeOrder.{CommitTimeOrder}
-use Rattle.gix_revwalk.specs.Pending.{Pending}
 use Rattle.gix_simple.specs.declared.step.Stop.{Stop}
 use Rattle.gix_simple.specs.declared.step.Stop.TheVariants as stop
-use Rattle.gix_revwalk.specs.Commits.{time_of}
-use Rattle.gix_simple.specs.Inside.Steps.{Meets, TimeIs}
-use Rattle.gix_simple.specs.Walk.{SimpleWalk, bare, asked, Treated, GoesOn, NoMemory, StoreFails, Asks, remembers, asks, ReadsTime, unasked, from_row, from_store, store_fails, Enqueues, enqueued, Holds, is_older, time_order, cutoff, IsNew, Treats, hidden, known, refused, accepted, no_memory, no_memory_after, TreatsAll, none, more, stops, IsMade, how_ended}
+use Rattle.gix_simple.specs.Walk.{asks, known, no_memory, none, more}
 
 -- to put an id in again
 pub insert_again : (s : set.FinSet id_cmp) (i : ObjectId) → set.contains s i ≡ true → set.insert s i ≡ s
 insert_again s i h = set.same_set id_total id_apart _ _ (λ q. set.contains-insert id_total s i q ∙ there q (is_same q i) refl)
   where
     there : (q : ObjectId) (b : Bool) → is_same q i ≡ b → (b || set.contains s q) ≡ set.contains s q
-    there q true e = sym (ap (set.contains s) (same_is q i e) ∙ h)
-    there q false e = refl
+    there q b e = let same : is_same q i ≡ true → set.contains s q ≡ set.contains s i = λ t. ap (set.contains s) (same_is q i t) in grind arith
 
 module _ {F P : Type 0} (objects : F → Objects) (faulty : F → ObjectId → Type 0) (answers : P → ObjectId → Bool → P → Type 0) (i : ObjectId) (inside old : SimpleWalk F P) (is : inside ≡ old) where
   -- an id that isn't hidden is put among the seen ones
@@ -98,35 +90,22 @@ module _ {F P : Type 0} (objects : F → Objects) (faulty : F → ObjectId → T
           pub treats_stopped : pending ≡ [] → Treats objects faulty answers old by_row i NoMemory last
           treats_stopped e = subst (Treats objects faulty answers old by_row i NoMemory) (sym ends) (no_memory_after new (asks_before is_met yes) (inr e))
 
-  pub treats_known : (old met : SimpleWalk F P) → (set.contains old.hidden i ≡ true) ⊎ (set.contains old.seen i ≡ true) → met ≡ old → Treats objects faulty answers old by_row i GoesOn met
-  treats_known old met (inl h) e = subst (Treats objects faulty answers old by_row i GoesOn) (sym e) (hidden h)
-  treats_known old met (inr s) e = subst (Treats objects faulty answers old by_row i GoesOn) (sym e) (known s)
-
   -- what was met, by what the meeting answered
   pub met_new : (old met : SimpleWalk F P) (E : Type 0) (is_new : Bool) → Meets objects faulty answers {E = E} old i (Ok is_new) met → is_new ≡ true → IsNew objects faulty answers old i × (met ≡ record old { seen = set.insert old.seen i })
   met_new old met E is_new h e = subst (λ b. Meets objects faulty answers {E = E} old i (Ok b) met) e h
 
   pub treats_met : (old met : SimpleWalk F P) (E : Type 0) (is_new : Bool) → Meets objects faulty answers {E = E} old i (Ok is_new) met → is_new ≡ false → Treats objects faulty answers old by_row i GoesOn met
-  treats_met old met E is_new h e = let k : Meets objects faulty answers {E = E} old i (Ok false) met = subst (λ b. Meets objects faulty answers {E = E} old i (Ok b) met) e h in treats_known old met k.0 k.1
+  treats_met old met E is_new h e =
+      let k : Meets objects faulty answers {E = E} old i (Ok false) met = subst (λ b. Meets objects faulty answers {E = E} old i (Ok b) met) e h in
+      subst (Treats objects faulty answers old by_row i GoesOn) (sym k.1) (⊎_elim hidden known k.0)
 
   pub treats_unmet : (old met : SimpleWalk F P) → met ≡ old → Treats objects faulty answers old by_row i NoMemory met
   treats_unmet old met e = subst (Treats objects faulty answers old by_row i NoMemory) (sym e) no_memory
 
 module _ {F P : Type 0} (objects : F → Objects) (faulty : F → ObjectId → Type 0) (answers : P → ObjectId → Bool → P → Type 0) (by_row : Bool) where
-  -- the ids of a list are treated from its front
-  pub treats_first : {old mid new : SimpleWalk F P} {how : Treated} (i : ObjectId) (rest ids : List ObjectId) → ids ≡ i ∷ rest → Treats objects faulty answers old by_row i GoesOn mid → TreatsAll objects faulty answers by_row mid rest how new → TreatsAll objects faulty answers by_row old ids how new
-  treats_first {old} {mid} {new} {how} i rest ids e h t = subst (λ ids. TreatsAll objects faulty answers by_row old ids how new) (sym e) (more h t)
-
+  -- where the first id of a list stops, the others are left
   pub stopped_first : {old new : SimpleWalk F P} (i : ObjectId) (rest ids : List ObjectId) (why : Stop) → ids ≡ i ∷ rest → Treats objects faulty answers old by_row i (how_ended (Err why)) new → TreatsAll objects faulty answers by_row old ids (how_ended (Err why)) new
-  stopped_first {old} {new} i rest ids why e h = subst (λ ids. TreatsAll objects faulty answers by_row old ids (how_ended (Err why)) new) (sym e) (stops (fails why) h)
-    where
-      fails : (why : Stop) → how_ended (Err why) ≢ GoesOn
-      fails stop.Store e = cc
-      fails stop.Memory e = cc
-
-  pub treats_none : {old : SimpleWalk F P} (ids : List ObjectId) → length ids ≡ 0 → TreatsAll objects faulty answers by_row old ids GoesOn old
-  treats_none [] e = none
-  treats_none (i ∷ ids) e = absurd (omega arith)
+  stopped_first {old} {new} i rest ids why e h = subst (λ ids. TreatsAll objects faulty answers by_row old ids (how_ended (Err why)) new) (sym e) (stops (λ k. grind arith) h)
 
   -- one more id is treated behind the ids of a list
   pub treats_last : {new : SimpleWalk F P} {i : ObjectId} {mid old : SimpleWalk F P} {ids : List ObjectId} → TreatsAll objects faulty answers by_row old ids GoesOn mid → Treats objects faulty answers mid by_row i GoesOn new → TreatsAll objects faulty answers by_row old (ids ++ i ∷ []) GoesOn new

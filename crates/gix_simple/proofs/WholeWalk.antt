@@ -1,33 +1,15 @@
 -- A walk gives what the definitions say, drawn to its end or as far as one likes.
-use Rattle.std.specs.Prelude.{◌≡◌, ◌≤◌, ℕ, zero, suc, ℤ, List, [], ◌∷◌, ◌++◌, length, take, slice_get, Bool, true, ◌&&◌, ◌||◌, Option, Some, None, Result, Err, Contains, All}
-use Rattle.std.proofs.Common.{refl, sym, ap, subst, ⊎_elim, ◌∙◌, arith, append_assoc, append-nil}
-use Rattle.std.proofs.Math.Bool.{or_comm}
-use Rattle.std.specs.Iterator.{Drains, Yields}
-use Rattle.std.specs.List.{AllZip}
-use Rattle.std.proofs.lemmas.List.Sorted.{Contains-permutation, IsPermutation-sym}
-use Rattle.std.proofs.lemmas.List.Elements.{All-head, All-tail}
-use Rattle.std.proofs.lemmas.Bool.{or_cases, or_left, and_parts, true≢false}
+use Rattle.std.proofs.Common.{◌≡◌, ℕ, zero, suc, ℤ, List, [], ◌∷◌, ◌++◌, take, slice_get, Bool, true, ◌&&◌, ◌||◌, Option, Some, None, Result, Err, Contains, All, refl, sym, ap, subst, inl, ⊎_elim, ◌∙◌, append_assoc, append-nil, arith}
+use Rattle.std.proofs.Common.{true≢false}
+use Rattle.gix_simple.proofs.Common.{Yields, AllZip, Contains-permutation, IsPermutation-sym, All-head, All-tail, or_cases, or_left, and_parts, ObjectId, is_among, Objects, Info, CommitTimeOrder, Error, named_by, Reaches, time_of}
+use Rattle.gix_simple.proofs.Common.{Pending, SimpleWalk, time_order, Chooses, first, best, Takes, Steps, ended, took, Next, initial, later, ids_of, IsGivenBy, same_is, among-append, among-one, among_is, Contains-here, Contains-there}
+use Rattle.gix_simple.proofs.Common.{among-filter, named-push}
 use Rattle.std.specs.FinSet as set
-use Rattle.gix_hash.specs.declared.ObjectId.{ObjectId}
-use Rattle.gix_hash.specs.Id.{is_among}
-use Rattle.gix_object.specs.Object.{Objects}
-use Rattle.gix_revwalk.specs.declared.Info.{Info}
-use Rattle.gix_revwalk.specs.declared.CommitTimeOrder.{CommitTimeOrder}
-use Rattle.gix_simple.specs.declared.Error.{Error}
 use Rattle.gix_simple.specs.declared.Error.TheVariants as error
-use Rattle.gix_revwalk.specs.BreadthOrder.{named_by}
-use Rattle.gix_hash.specs.Reach.{Reaches}
-use Rattle.gix_revwalk.specs.Commits.{time_of}
-use Rattle.gix_revwalk.specs.Pending.{Pending}
-use Rattle.gix_simple.specs.Walk.{SimpleWalk, time_order, Chooses, first, best, Takes, Steps, ended, took, no_memory, Next, initial, later}
-use Rattle.gix_revwalk.specs.Ids.{ids_of}
-use Rattle.gix_simple.specs.Laws.{IsGivenBy}
-use Rattle.gix_hash.proofs.Ids.Membership.{same_is, among-append, among-one, among_is, Contains-here, Contains-there}
-use Rattle.gix_revwalk.proofs.Drained.{at_end, at_first}
-use Rattle.gix_revwalk.proofs.NewIds.{among-filter, named-push}
+use Rattle.gix_simple.specs.Walk.{no_memory}
 use Rattle.gix_revwalk.proofs.Orders.{reached_by_named, Contains-push}
 use Rattle.gix_simple.proofs.Treated.{Setting, order_of, keep, Stands}
-use Rattle.gix_simple.proofs.OneStep.{IsCommit, walked, next, Reads, Took, took_well}
+use Rattle.gix_simple.proofs.OneStep.{IsCommit, walked, next, Reads, Took, stands_left, took_well}
 use Rattle.gix_simple.proofs.PendingIs.{IsQueue, IsRest, IsNextOne, grows, ends, heads, bests}
 
 -- the choice of the next one
@@ -86,18 +68,7 @@ module _ {F P : Type 0} (objects : F → Objects) (faulty : F → ObjectId → T
       chosen objects faulty answers (time_of (objects s.store)) (next objects faulty answers s) s.starts done w p others (order_of objects faulty answers s) same h.queue stands.timed chooses in
       let r : Reaches (next objects faulty answers s) s.starts p.id = reached_by_named (next objects faulty answers s) s.starts done h.reached p.id (among_is p.id _ c.2) in
       let left : Stands objects faulty answers s (record w { pending = others }) =
-      record {
-        store = stands.store;
-        parents = stands.parents;
-        sorting = stands.sorting;
-        marks = stands.marks;
-        begun = stands.begun;
-        tips = stands.tips;
-        rows = stands.rows;
-        asked_of = stands.asked_of;
-        remembered = stands.remembered;
-        timed = λ order e q m. stands.timed order e q (others_pending objects faulty answers w p others chooses q (Contains-there q p others m));
-      } in
+      stands_left objects faulty answers s w w.rows others w.text w.current stands (inl refl) (λ q m. others_pending objects faulty answers w p others chooses q (Contains-there q p others m)) in
       let t : Took objects faulty answers s p.id (record w { pending = others }) answer new =
       took_well objects faulty answers s (record w { pending = others }) left p (known.reads p.id r) (λ i m. known.marked p.id i r m) (λ order e. stands.timed order e p (others_pending objects faulty answers w p others chooses p (Contains-here p others))) takes (known.commits (record w { pending = others }) p left r answer new takes ok) in
       let push : named s (done ++ p.id ∷ []) ≡ named s done ++ next objects faulty answers s p.id = named-push (next objects faulty answers s) s.starts done p.id in
@@ -109,8 +80,7 @@ module _ {F P : Type 0} (objects : F → Objects) (faulty : F → ObjectId → T
         turn = c.0;
         runs = record {
           rest = t.rest;
-          seen = λ j k. t.seen j k ∙ ap (λ b. is_among j (walked objects faulty answers s p.id) || b) (h.seen j k) ∙ or_comm (is_among j (walked objects faulty answers s p.id)) (is_among j (named s done))
-              ∙ sym (among_push j ∙ ap (λ b. is_among j (named s done) || b) (kept j ∙ ap (λ b. b && is_among j (walked objects faulty answers s p.id)) k));
+          seen = λ j k. let after = t.seen j k in let before = h.seen j k in let names = among_push j in let keeps = kept j in grind arith;
           queue = subst (λ xs. IsQueue (order_of objects faulty answers s) xs (done ++ p.id ∷ []) (ids_of new.pending)) (sym push)
               (grows (order_of objects faulty answers s) (named s done) done p.id (ids_of others) (ids_of new.pending) (next objects faulty answers s p.id) (set.contains w.seen) c.1 t.pending
               (λ j n. h.seen j (and_parts _ _ (sym (kept j) ∙ n)).0) h.within c.2);
@@ -119,46 +89,10 @@ module _ {F P : Type 0} (objects : F → Objects) (faulty : F → ObjectId → T
         };
       }
 
-  -- these answers may follow a walk whose hidden tips are painted
-  abbrev pub MayStep : SimpleWalk F P → List (Result Info Error) → Type 0
-  MayStep walk [] = (new : SimpleWalk F P) × Steps objects faulty answers walk None new
-  MayStep walk (answer ∷ rest) = (new : SimpleWalk F P) × Steps objects faulty answers walk (Some answer) new × Drains (Next objects faulty answers) new rest
-
   -- behind the first step
   pub next_steps : (w : SimpleWalk F P) → w.begun ≡ true → {o : Option (Result Info Error)} {new : SimpleWalk F P} → Next objects faulty answers w o new → Steps objects faulty answers w o new
   next_steps w begun (initial fresh s) = absurd (true≢false (sym begun ∙ fresh))
   next_steps w begun (later b s) = s
-
-  pub then_steps : (w : SimpleWalk F P) (answers_left : List (Result Info Error)) → w.begun ≡ true → Drains (Next objects faulty answers) w answers_left → MayStep w answers_left
-  then_steps w [] begun drawn = let end = at_end (Next objects faulty answers) w drawn in (end.0, next_steps w begun end.1)
-  then_steps w (answer ∷ left) begun drawn = let first = at_first (Next objects faulty answers) w answer left drawn in (first.0, next_steps w begun first.1, first.2)
-
-  -- each of the ids is the next one where it comes
-  abbrev pub OrderFrom : Setting objects faulty answers → List ObjectId → List ObjectId → Type 0
-  OrderFrom s done ids = (k : ℕ) → k ≤ length ids → is_next s (done ++ take k ids) (slice_get ids k)
-
-  order_none : (s : Setting objects faulty answers) (done : List ObjectId) → is_next s done None → OrderFrom s done []
-  order_none s done h zero b = rw append-nil h
-  order_none s done h (suc k) b = absurd (omega arith)
-
-  order_more : (s : Setting objects faulty answers) (done ids : List ObjectId) (i : ObjectId) → is_next s done (Some i) → OrderFrom s (done ++ i ∷ []) ids → OrderFrom s done (i ∷ ids)
-  order_more s done ids i h r zero b = rw append-nil h
-  order_more s done ids i h r (suc k) b = rw append_assoc at (r k (omega arith))
-
-  pub record RunOf (s : Setting objects faulty answers) (done : List ObjectId) (list : List (Result Info Error)) : Type 0 where
-    pub ids : List ObjectId
-    pub given_as : AllZip (given s) list ids
-    pub order : OrderFrom s done ids
-
-  ended_run : (s : Setting objects faulty answers) (w : SimpleWalk F P) (done : List ObjectId) → Runs s w done → {new : SimpleWalk F P} → Steps objects faulty answers w None new → RunOf s done []
-  ended_run s w done h (ended e) = record { ids = []; given_as = tt; order = order_none s done (ends (order_of objects faulty answers s) (time_of (objects s.store)) (next objects faulty answers s) s.starts done (subst (IsQueue (order_of objects faulty answers s) (named s done) done) (ap ids_of e) h.queue)) }
-
-  pub run : (s : Setting objects faulty answers) {Allowed : Result Info Error → Type 0} → Known s Allowed → (list : List (Result Info Error)) (w : SimpleWalk F P) (done : List ObjectId) → Runs s w done → All Allowed list → MayStep w list → RunOf s done list
-  run s known [] w done h ok may = ended_run s w done h may.1
-  run s {Allowed} known (answer ∷ left) w done h ok may =
-      let t : Stepped s done answer may.0 = stepped s known w done h may.1 (All-head Allowed answer left ok) in
-      let r : RunOf s (done ++ t.i ∷ []) left = run s known left may.0 (done ++ t.i ∷ []) t.runs (All-tail Allowed answer left ok) (then_steps may.0 left (t.runs.rest.begun ∙ known.begun) may.2) in
-      record { ids = t.i ∷ r.ids; given_as = (t.given_as, r.given_as); order = order_more s done r.ids t.i t.turn r.order }
 
   -- each of the ids is the next one where it comes, up to any place
   abbrev pub BeginsFrom : Setting objects faulty answers → List ObjectId → List ObjectId → Type 0
@@ -168,24 +102,39 @@ module _ {F P : Type 0} (objects : F → Objects) (faulty : F → ObjectId → T
   begins_more s done ids i h r zero j e = rw append-nil (let same : i ≡ j = cc in subst (λ x. is_next s done (Some x)) same h)
   begins_more s done ids i h r (suc k) j e = rw append_assoc at (r k j e)
 
-  pub record BegunOf (s : Setting objects faulty answers) (done : List ObjectId) (list : List (Result Info Error)) : Type 0 where
+  -- these answers lead to a walk
+  pub record RunsTo (s : Setting objects faulty answers) (done : List ObjectId) (list : List (Result Info Error)) (last : SimpleWalk F P) : Type 0 where
     pub ids : List ObjectId
     pub given_as : AllZip (given s) list ids
     pub begins : BeginsFrom s done ids
+    pub runs : Runs s last (done ++ ids)
 
-  one_more : (s : Setting objects faulty answers) (done : List ObjectId) {answer : Result Info Error} {left : List (Result Info Error)} {new : SimpleWalk F P} (t : Stepped s done answer new) → BegunOf s (done ++ t.i ∷ []) left → BegunOf s done (answer ∷ left)
-  one_more s done t r = record { ids = t.i ∷ r.ids; given_as = (t.given_as, r.given_as); begins = begins_more s done r.ids t.i t.turn r.begins }
+  pub none_yet : (s : Setting objects faulty answers) (done : List ObjectId) (w : SimpleWalk F P) → Runs s w done → RunsTo s done [] w
+  none_yet s done w h = record { ids = []; given_as = tt; begins = λ k i e. cc; runs = subst (Runs s w) (sym (append-nil done)) h }
+
+  one_more : (s : Setting objects faulty answers) (done : List ObjectId) {answer : Result Info Error} {left : List (Result Info Error)} {new last : SimpleWalk F P} (t : Stepped s done answer new) → RunsTo s (done ++ t.i ∷ []) left last → RunsTo s done (answer ∷ left) last
+  one_more s done {last = last} t r = record {
+    ids = t.i ∷ r.ids;
+    given_as = (t.given_as, r.given_as);
+    begins = begins_more s done r.ids t.i t.turn r.begins;
+    runs = subst (Runs s last) (append_assoc done (t.i ∷ []) r.ids) r.runs;
+  }
 
   -- drawn as far as one likes
-  begun : (s : Setting objects faulty answers) {Allowed : Result Info Error → Type 0} → Known s Allowed → (list : List (Result Info Error)) (w last : SimpleWalk F P) (done : List ObjectId) → Runs s w done → All Allowed list → Yields (Next objects faulty answers) w list last → BegunOf s done list
-  begun s known [] w last done h ok drawn = record { ids = []; given_as = tt; begins = λ k i e. cc }
+  begun : (s : Setting objects faulty answers) {Allowed : Result Info Error → Type 0} → Known s Allowed → (list : List (Result Info Error)) (w last : SimpleWalk F P) (done : List ObjectId) → Runs s w done → All Allowed list → Yields (Next objects faulty answers) w list last → RunsTo s done list last
+  begun s known [] w last done h ok drawn = subst (RunsTo s done []) drawn (none_yet s done w h)
   begun s {Allowed} known (answer ∷ left) w last done h ok drawn =
       let here : Allowed answer = All-head Allowed answer left ok in
       let t : Stepped s done answer drawn.0 = stepped s known w done h (next_steps w (h.rest.begun ∙ known.begun) drawn.1) here in
       one_more s done t (begun s known left drawn.0 last (done ++ t.i ∷ []) t.runs (All-tail Allowed answer left ok) drawn.2)
 
   -- from a walk whose hidden tips are painted
-  pub begun_run : (s : Setting objects faulty answers) {Allowed : Result Info Error → Type 0} → Known s Allowed → (answer : Result Info Error) (left : List (Result Info Error)) (w new last : SimpleWalk F P) (done : List ObjectId) → Runs s w done → All Allowed (answer ∷ left) → Steps objects faulty answers w (Some answer) new → Yields (Next objects faulty answers) new left last → BegunOf s done (answer ∷ left)
+  pub begun_run : (s : Setting objects faulty answers) {Allowed : Result Info Error → Type 0} → Known s Allowed → (answer : Result Info Error) (left : List (Result Info Error)) (w new last : SimpleWalk F P) (done : List ObjectId) → Runs s w done → All Allowed (answer ∷ left) → Steps objects faulty answers w (Some answer) new → Yields (Next objects faulty answers) new left last → RunsTo s done (answer ∷ left) last
   begun_run s {Allowed} known answer left w new last done h ok steps drawn =
       let t : Stepped s done answer new = stepped s known w done h steps (All-head Allowed answer left ok) in
       one_more s done t (begun s known left new last (done ++ t.i ∷ []) t.runs (All-tail Allowed answer left ok) drawn)
+
+  -- where the walk ends there is no next one
+  pub ended_run : (s : Setting objects faulty answers) (done : List ObjectId) {list : List (Result Info Error)} {last new : SimpleWalk F P} (r : RunsTo s done list last) → Steps objects faulty answers last None new → is_next s (done ++ r.ids) None
+  ended_run s done r (ended e) = ends (order_of objects faulty answers s) (time_of (objects s.store)) (next objects faulty answers s) s.starts (done ++ r.ids)
+      (subst (IsQueue (order_of objects faulty answers s) (named s (done ++ r.ids)) (done ++ r.ids)) (ap ids_of e) r.runs.queue)

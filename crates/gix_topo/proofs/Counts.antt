@@ -1,16 +1,12 @@
--- What meeting and finishing an id changes in the table.
+-- What a change at one id does to the table, and how much two searches have still to do.
 pub mod Frontier
--- Meeting the parents of a commit one by one.
+-- What a side does by meeting ids.
 pub mod MeetsParents
--- Each id of a list at its last place.
-pub mod LastPlaces
--- A step of the searches, put together from its parts.
-pub mod Step
 -- What one search has found when little is left in its queue.
 pub mod OneSearch
--- Each step keeps the invariants of both searches.
+-- Each step keeps both searches as they are to be.
 pub mod BothSearches
--- What meeting, finishing and taking do to the indegrees, and what an indegree of 0 means.
+-- What steps and taking do to the indegrees, and what an indegree of 0 means.
 pub mod Children
 -- Exploring keeps the searches and the indegrees.
 pub mod ExploreKeeps

@@ -1,4 +1,6 @@
 -- Each of these uses only those above it.
+-- What most proofs use, to import from one place.
+mod Common
 -- Commits read by rows and from the store.
 pub mod Reading
 -- The ready commits in their order.

@@ -6,7 +6,5 @@ pub mod WholeTexts
 pub mod FoundIsStored
 -- A text without a fault up to its committer has none before it.
 pub mod Faultless
--- What was read once is known, and as long as the rows are in use its row has no fault.
+-- Why a reading fails. What was read once is known, and as long as the rows are in use its row has no fault.
 pub mod OnceRead
--- A commit is read from the store only where no row of it is in use.
-pub mod NoRowInUse

@@ -8,19 +8,13 @@ pub mod SameOrder
 pub mod EachOnce
 -- Each order has a list.
 pub mod SomeList
--- A whole walk takes what the definitions say, in their order: by the texts, and, over a sound history, by the store.
-pub mod Theorem
+-- What a walk does while it is drawn, one commit after the other.
+pub mod Draws
 -- Every walk ends, asks about each commit once, and gives nothing after a fault.
 pub mod Ends
--- Laws that follow from the order alone.
+-- A whole walk takes what the definitions say, in their order: by the texts, and, over a sound history, by the store.
+pub mod Theorem
+-- Laws that follow from the order alone, and what a walk through all parents gives.
 pub mod Corollaries
--- What the first commits that are taken have.
-pub mod Begun
--- A walk through all parents gives what its tips reach and its ends don't.
-pub mod Difference
--- The same by the texts alone, of a walk that gives no fault.
-pub mod TextDifference
--- With agreeing rows each commit is given with its row's generation.
-pub mod Generations
--- Each parent of a commit that is given was known.
-pub mod ParentsKnown
+-- With agreeing rows each commit is given with its row's generation; each of its parents was known.
+pub mod EachGiven

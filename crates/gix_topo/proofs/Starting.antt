@@ -1,8 +1,6 @@
+-- Ids one after the other: which of them become ready, and in which order.
+pub mod OneByOne
 -- A tip without children becomes ready.
 pub mod OneTip
--- What all tips together make ready.
-pub mod AllTips
--- What holds of a walk that was just built.
+-- What holds of a walk that was just built, and when one can't be.
 pub mod Started
--- When a walk can't be built.
-pub mod StartFaults

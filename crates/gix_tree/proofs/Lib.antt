@@ -1,7 +1,11 @@
+-- What most proofs use, to import from one place.
+mod Common
 -- What holds of all of a list holds of its parts.
 pub mod All
 -- Trees with their places, seen by their ids alone.
 pub mod Places
+-- What each outcome of a visit says.
+pub mod Outcomes
 -- An entry that a walk shows its delegate, by the calls that were made.
 pub mod Shown
 -- What the loops of both walks keep.

@@ -1,7 +1,6 @@
 -- Trees that wait or were left, each with its place, seen by their ids alone: the first of them, and the others.
 use Rattle.std.proofs.Common.{◌≡◌, List, [], ◌∷◌, map, refl, sym, ap, ◌∙◌}
-use Rattle.gix_hash.specs.declared.ObjectId.{ObjectId}
-use Rattle.gix_tree.specs.Visits.{Place}
+use Rattle.gix_tree.proofs.Common.{ObjectId, Place}
 
 -- each has something more than its place, `what` of what is seen; `ids` of it are the known ids down to the tree
 module _ {B Y : Type 0} (seen : Place × B → Y) (ids : Y → List ObjectId) (what : Y → B) where

@@ -1,17 +1,9 @@
 -- An entry shown by a walk by levels, by the calls that were made.
-use Rattle.std.proofs.Common.{◌≡◌, Bool, true, false, [], ◌∷◌, Ok, Err, Result, refl, sym, subst, ap}
-use Rattle.std.specs.Result.{IsErrAnd}
-use Rattle.std.specs.declared.ops.ControlFlow.TheVariants.{Continue, Break}
-use Rattle.gix_hash.specs.Id.{is_among}
-use Rattle.gix_object.specs.TreeItems.{TreeEntry, is_tree}
-use Rattle.gix_tree.specs.declared.breadthfirst.Error.{Error}
+use Rattle.std.proofs.Common.{◌≡◌, Bool, true, false, List, [], ◌∷◌, Ok, Err, Result, refl, ap, ◌∙◌, IsErrAnd, Continue, Break}
+use Rattle.gix_tree.proofs.Common.{ObjectId, is_among, TreeEntry, is_tree, Error, Action, Call, PushPath, PopPath, Refused, RefusedIn, here, later, takes_memory, LevelQueue, Outcome, Leaves, Enters, Cycles, outcome, outcome_of}
+use Rattle.gix_tree.proofs.Common.{visit_call, visit_call_of, level_calls, ShowsEntry, Queues, visit_below}
 use Rattle.gix_tree.specs.declared.breadthfirst.Error.TheVariants as error
-use Rattle.gix_tree.specs.Delegate.{Action, Call, PushPath, PopPath, Refused, RefusedIn, here, later, takes_memory}
-use Rattle.gix_tree.specs.Inside.LevelQueue.{LevelQueue}
-use Rattle.gix_tree.specs.Visits.{Outcome, Leaves, Enters, Cycles, outcome, outcome_of, visit_call, visit_call_of}
-use Rattle.gix_tree.specs.Script.{level_calls}
 use Rattle.gix_tree.specs.Inside.ShowsEntry as shows
-use Rattle.gix_tree.specs.Inside.ShowsEntry.{ShowsEntry, Queues, visit_below}
 
 -- what the exit of a `?` returns
 pub failed_so : {T E : Type 0} (why : E) (r : Result T E) → IsErrAnd r (λ e. e ≡ why) → r ≡ Err why
@@ -28,10 +20,12 @@ plain_leaves false false known h = refl
 plain_leaves true false known h = refl
 plain_leaves true true known h = let e = h refl in cc
 
-module _ {V : Type 0} (steps : V → Call → V → Type 0) (e : TreeEntry) (queue : LevelQueue) (old : V) where
-  leads : (known : Bool) (o : Outcome) → is_tree e.mode ≡ true → is_among e.id queue.known ≡ known → outcome_of true (Continue true) known ≡ o → outcome (visit_below queue.known e (Continue true)) ≡ o
-  leads known o t k h = subst (λ b. outcome_of b (Continue true) (is_among e.id queue.known) ≡ o) (sym t) (subst (λ b. outcome_of true (Continue true) b ≡ o) (sym k) h)
+-- where a tree's visit leads, by whether its id is known
+pub leads : (ids : List ObjectId) (e : TreeEntry) (known : Bool) (o : Outcome) → is_tree e.mode ≡ true → is_among e.id ids ≡ known → outcome_of true (Continue true) known ≡ o
+    → outcome (visit_below ids e (Continue true)) ≡ o
+leads ids e known o t k h = (λ i. outcome_of (t i) (Continue true) (k i)) ∙ h
 
+module _ {V : Type 0} (steps : V → Call → V → Type 0) (e : TreeEntry) (queue : LevelQueue) (old : V) where
   pub push_refused : (new : V) (left : LevelQueue) → steps old Refused new → ShowsEntry steps e old queue new left (Err error.Memory)
   push_refused new left s = shows.refused (Continue false) (here refl) (new, s, refl)
 
@@ -49,15 +43,15 @@ module _ {V : Type 0} (steps : V → Call → V → Type 0) (e : TreeEntry) (que
   -- the entry's tree isn't queued, and the walk ends
   pub queue_ends : (mid low new : V) (left : LevelQueue) (why : Error) → is_tree e.mode ≡ true → steps old (PushPath e.name) mid → steps mid (visit_call_of (is_tree e.mode) e (Continue true)) low → Queues steps e low queue new left (Err why) → ShowsEntry steps e old queue new left (Err why)
   queue_ends mid low new left why t p s (shows.cycled k) =
-      let cycles = leads true Cycles t k refl in
+      let cycles = leads queue.known e true Cycles t k refl in
       shows.cycled (Continue true) cycles (rw cycles (mid, p, (low, s, refl)))
-  queue_ends mid low new left why t p s (shows.no_memory k) = shows.no_memory (Continue true) (leads false Enters t k refl) (mid, p, (low, s, refl))
+  queue_ends mid low new left why t p s (shows.no_memory k) = shows.no_memory (Continue true) (leads queue.known e false Enters t k refl) (mid, p, (low, s, refl))
   queue_ends mid low new left why t p s (shows.refused {mid = deep} k q r) =
-      let enters = leads false Enters t k refl in
+      let enters = leads queue.known e false Enters t k refl in
       let made : RefusedIn (level_calls (visit_below queue.known e (Continue true))) (PushPath e.name ∷ visit_call (visit_below queue.known e (Continue true)) ∷ PopPath ∷ Refused ∷ []) = rw enters (later (later (later (here refl)))) in
       shows.refused (Continue true) made (mid, p, (low, s, (deep, q, (new, r, refl))))
 
   pub queue_goes_on : (mid low front new : V) (left : LevelQueue) → is_tree e.mode ≡ true → steps old (PushPath e.name) mid → steps mid (visit_call_of (is_tree e.mode) e (Continue true)) low → Queues steps e low queue front left (Ok tt) → steps front PopPath new → ShowsEntry steps e old queue new left (Ok tt)
   queue_goes_on mid low front new left t p s (shows.entered {mid = deep} k q r) z =
-      let enters = leads false Enters t k refl in
+      let enters = leads queue.known e false Enters t k refl in
       shows.entered (Continue true) enters (rw enters (mid, p, (low, s, (deep, q, (front, r, (new, z, refl))))))

@@ -1,12 +1,9 @@
 -- What the loops of both walks keep: the calls and the visits that were made, and what any rest of the walk makes of them.
-use Rattle.std.proofs.Common.{◌≡◌, ◌≢◌, List, [], ◌∷◌, ◌++◌, refl, sym, subst, append_assoc}
+use Rattle.std.proofs.Common.{◌≢◌, List, [], ◌∷◌, ◌++◌, refl, sym, subst, append_assoc}
 use Rattle.gix_object.specs.declared.find.existing_iter.Error.{Error as ExistingError}
 use Rattle.gix_object.specs.declared.find.existing_iter.Error.TheVariants as existing
-use Rattle.gix_tree.specs.declared.breadthfirst.Error.{Error}
+use Rattle.gix_tree.proofs.Common.{Error, Call, Run, error_of_find, Visit, Ending}
 use Rattle.gix_tree.specs.declared.breadthfirst.Error.TheVariants as error
-use Rattle.gix_tree.specs.Delegate.{Call, Run}
-use Rattle.gix_tree.specs.Errors.{error_of_find}
-use Rattle.gix_tree.specs.Visits.{Visit, Ending}
 
 pub run_more : {V : Type 0} (steps : V → Call → V → Type 0) (a b c : V) (calls more : List Call) → Run steps a calls b → Run steps b more c → Run steps a (calls ++ more) c
 run_more steps a b c [] more h g = subst (λ x. Run steps x more c) h g

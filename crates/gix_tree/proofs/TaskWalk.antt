@@ -1,19 +1,12 @@
 -- Both walks as one walk over a list of tasks. By levels the tasks of a tree that is gone into come behind all others, and in
 -- depth before them.
-use Rattle.std.proofs.Common.{◌≡◌, ◌≢◌, List, [], ◌∷◌, ◌++◌, Option, Some, Ok, Err, refl, sym, ap, ◌∙◌, subst, append_assoc}
-use Rattle.std.proofs.lemmas.List.{append-nil}
-use Rattle.std.specs.List.{AllByRecursion}
-use Rattle.gix_hash.specs.declared.ObjectId.{ObjectId}
+use Rattle.std.proofs.Common.{◌≡◌, ◌≢◌, List, [], ◌∷◌, ◌++◌, Option, Some, refl, sym, ap, ◌∙◌, subst, append_assoc, append-nil}
+use Rattle.gix_tree.proofs.Common.{AllByRecursion, ObjectId, TreeEntry, is_tree, Error, Action, Call, PushPath, PopPath, PopBack, PopFront, Items, Place, Visit, visit, inside, Leaves, Enters, Cycles, Breaks, outcome, visit_call, Ending}
+use Rattle.gix_tree.proofs.Common.{Whole, Broken, Failed, Task, Turn, Show, Fault, shows, known_root, items_or_none, level_calls_behind, depth_calls, depth_calls_behind, IsLevelScript, DepthScript, IsDepthScript}
 use Rattle.gix_object.specs.declared.decode.Error.{Error as DecodeError}
 use Rattle.gix_object.specs.declared.find.existing_iter.Error.{Error as ExistingError}
-use Rattle.gix_object.specs.TreeItems.{TreeEntry, is_tree}
-use Rattle.gix_tree.specs.declared.breadthfirst.Error.{Error}
 use Rattle.gix_tree.specs.declared.breadthfirst.Error.TheVariants as error
-use Rattle.gix_tree.specs.Delegate.{Action, Call, PushPath, PopPath, PopBack, PopFront}
-use Rattle.gix_tree.specs.Visits.{Items, Place, Visit, visit, inside, Leaves, Enters, Cycles, Breaks, outcome, visit_call, Ending, Whole, Broken, Failed, Task, Turn, Show, Fault, shows}
-use Rattle.gix_tree.specs.Paths.{known_root}
 use Rattle.gix_tree.specs.Script as script
-use Rattle.gix_tree.specs.Script.{items_or_none, level_calls_behind, depth_calls, depth_calls_behind, IsLevelScript, DepthScript, IsDepthScript}
 use Rattle.gix_tree.proofs.All.{all_both}
 use Rattle.gix_tree.proofs.Levels.Queue.{first_task, other_tasks, LevelFrom, split_front, no_front}
 use Rattle.gix_tree.proofs.Levels.Script.{level_queue}
@@ -81,7 +74,8 @@ module _ (trees : ObjectId → Option Items) (fails : ObjectId → ExistingError
   abbrev Depth : List Task → List Call → List Visit → Ending → Type 0
   Depth tasks calls visits end = TaskWalk trees fails InDepth tasks calls visits end
 
-  at_front : {tasks : List Task} {calls : List Call} {visits : List Visit} {end : Ending} (t : Task) → first_task tasks ≡ Some t → Levels (t ∷ other_tasks tasks) calls visits end → Levels tasks calls visits end
+  at_front : {tasks : List Task} {calls : List Call} {visits : List Visit} {end : Ending} (t : Task) → first_task tasks ≡ Some t → Levels (t ∷ other_tasks tasks) calls visits end
+      → Levels tasks calls visits end
   at_front {tasks} {calls} {visits} {end} t e walk = subst (λ l. Levels l calls visits end) (sym (split_front tasks t e)) walk
 
   level_tasks : {tasks : List Task} {calls : List Call} {visits : List Visit} {end : Ending} → LevelFrom trees fails tasks calls visits end → Levels tasks calls visits end
@@ -113,14 +107,16 @@ module _ (trees : ObjectId → Option Items) (fails : ObjectId → ExistingError
   at_end ne walk (goes_on rest) = absurd (ne refl)
   at_end {calls = calls} {visits = visits} ne walk (ended n) = respelled (append-nil calls) (append-nil visits) walk
 
-  depth_tasks : {p : Place} {items : Items} {calls more : List Call} {visits others : List Visit} {end last : Ending} {tasks : List Task} → DepthScript trees fails p items calls visits end → Behind tasks end more others last
+  depth_tasks : {p : Place} {items : Items} {calls more : List Call} {visits others : List Visit} {end last : Ending} {tasks : List Task} → DepthScript trees fails p items calls visits end
+      → Behind tasks end more others last
       → Depth (shows p items ++ tasks) (calls ++ more) (visits ++ others) last
   depth_tasks script.whole (goes_on rest) = rest
   depth_tasks script.whole (ended ne) = absurd (ne refl)
   depth_tasks {more = more} (script.leaves {p = p} {e = e} {a = a} {calls = calls} o rest) k = respelled (append_assoc (depth_calls (visit p e a)) calls more) refl (leaves o (depth_tasks rest k))
   depth_tasks {more = more} {others = others} {last = last} {tasks = tasks} (script.enters {p = p} {e = e} {a = a} {sub = sub} {items = items} {calls = calls} {more = next} {visits = visits} {others = seen} o is walk rest) k =
       let back : Depth (Turn p e.id ∷ (shows p items ++ tasks)) (PopBack ∷ (next ++ more)) (seen ++ others) last = turn (depth_tasks rest k) in
-      let inner = subst (λ l. Depth (shows (inside p e) (items_or_none l) ++ Turn p e.id ∷ (shows p items ++ tasks)) (calls ++ PopBack ∷ (next ++ more)) (visits ++ (seen ++ others)) last) (sym is) (depth_tasks walk (goes_on back)) in
+      let inner = subst (λ l. Depth (shows (inside p e) (items_or_none l) ++ Turn p e.id ∷ (shows p items ++ tasks)) (calls ++ PopBack ∷ (next ++ more)) (visits ++ (seen ++ others)) last) (sym is)
+      (depth_tasks walk (goes_on back)) in
       respelled (append_assoc (depth_calls (visit p e a)) (PopBack ∷ (calls ++ PopBack ∷ next)) more ∙ ap (λ l. depth_calls (visit p e a) ++ PopBack ∷ l) (append_assoc calls (PopBack ∷ next) more))
       (ap (λ l. visit p e a ∷ l) (append_assoc visits seen others)) (enters o (turn inner))
   depth_tasks {tasks = tasks} (script.ends_inside {p = p} {e = e} {a = a} {items = items} {calls = calls} {visits = visits} {end = end} o is walk ne) k =

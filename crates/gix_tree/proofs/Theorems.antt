@@ -1,3 +1,5 @@
+-- The visits of a walk by levels are in level order.
+pub mod Order
 -- The call of each visit is one of the calls that were made.
 pub mod Called
 -- Where each tree that the visits go into reads whole and doesn't hold itself, a walk fails only for memory.

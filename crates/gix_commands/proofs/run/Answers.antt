@@ -1,5 +1,5 @@
 use Rattle.std.proofs.Common.{Err, ◌∙◌, ap}
-use Rattle.std.proofs.lemmas.Result.{err_from_is_err_and}
+use Rattle.gix_commands.proofs.Common.{err_from_is_err_and}
 use Rattle.gix_records.proofs.ReadingFacts.{fails_to_read}
 use Rattle.gix_commands.proofs.GivenRuns.{runs_told}
 use Rattle.gix_commands.proofs.RunFacts.{no_rejection, runs_sound, runs_spelled, runs_words, runs_input}

@@ -1,10 +1,6 @@
 use Rattle.std.proofs.Common.{Err, sym, ◌∙◌, ap, subst}
-use Rattle.std.proofs.lemmas.Result.{err_from_is_err_and}
-use Rattle.gix_graph_store.specs.WithRows.{with_rows}
-use Rattle.gix_revwalk.specs.Agreeing.{rows_in}
+use Rattle.gix_commands.proofs.Common.{err_from_is_err_and, with_rows, rows_in, Commits, Order}
 use Rattle.gix_commands.specs.Run.{Serves}
-use Rattle.gix_words.specs.Words.{Commits}
-use Rattle.gix_words.specs.declared.words.Order.{Order}
 use Rattle.gix_commands.proofs.RunFacts.{serves_walk, serves_no_walk, serves_topo, serves_no_topo}
 use Rattle.gix_commands.proofs.serve_commits.Goals as goal
 

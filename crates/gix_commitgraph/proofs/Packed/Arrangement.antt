@@ -1,30 +1,16 @@
 -- Rows in the order of their ids, with the numbers that follow from it.
-use Rattle.std.proofs.Common.{◌≡◌, ℕ, zero, suc, ◌+◌, ◌<◌, ◌≤◌, true, false, List, [], ◌∷◌, length, map, get_or, Some, refl, sym, ap, subst, ◌∙◌, arith, All}
-use Rattle.std.specs.Prelude.{slice_index, slice_get, IsPermutation, Contains}
-use Rattle.std.specs.Option.{option_map}
-use Rattle.std.specs.List.{AllByRecursion, IsDistinct, sum_by}
-use Rattle.std.specs.List.Sorted.{IsStrictlySortedBy}
-use Rattle.std.specs.Ordering.{is_lt, is_eq}
-use Rattle.std.specs.declared.cmp.Ordering.{Ordering}
-use Rattle.std.specs.declared.cmp.Ordering.TheVariants.{Less, Equal, Greater}
+use Rattle.std.proofs.Common.{◌≡◌, ℕ, zero, suc, ◌+◌, ◌<◌, ◌≤◌, false, List, [], ◌∷◌, length, map, get_or, Some, refl, sym, ap, subst, ◌∙◌, arith, All, slice_index, slice_get, IsPermutation, Contains, option_map, sum_by, Less}
+use Rattle.std.proofs.Common.{length-append}
+use Rattle.gix_commitgraph.proofs.Common.{AllByRecursion, IsDistinct, IsStrictlySortedBy, length-map, get_or-map, get_or_default, same_lists, All-from_recursion, recursion_from_All, Kind, ObjectId, ParentPlace, At, Fault, id_cmp}
+use Rattle.gix_commitgraph.proofs.Common.{is_same, GraphRow, no_row, row_at, most, overflow_of, overflow_words, kind_of_rows, ids_of_rows, IsPlaceAmong, IsRowAmong, AreGraphRows, Entry, entries_from, moved, renumbered, arranged}
+use Rattle.gix_commitgraph.proofs.Common.{NeverFall, AlwaysRise, StopsRising, HasPlaces, AreNumbers, CanArrange, HasSameRows, HaveDistinctIds, HavePlacesWithin, IsRowOf, IsInRange, id_total, same_back}
 use Rattle.std.specs.Cmp.{tied_itself}
-use Rattle.std.proofs.lemmas.Bool.{false≢true}
-use Rattle.std.proofs.lemmas.List.{length-append, length-map, get_or-map, get_or_default, same_lists}
-use Rattle.std.proofs.lemmas.List.Elements.{All-from_recursion, recursion_from_All}
 use Rattle.std.proofs.lemmas.List.Sorted.{IsPermutation-sym, IsPermutation-map, length_permutation, All-permutation, Contains-permutation, sum_by-IsPermutation}
 use Rattle.std.proofs.lemmas.List.Sums.{sum_by-cons}
 use Rattle.std.proofs.lemmas.Map.Keys.{IsDistinct-from_sorted, IsDistinct-IsPermutation, apart_from_distinct, Less-from_sorted, sorted_from_all_adjacent}
 use Rattle.std.proofs.lemmas.Option.{slice_get-get_or}
-use Rattle.gix_hash.specs.declared.Kind.{Kind}
-use Rattle.gix_hash.specs.declared.ObjectId.{ObjectId}
-use Rattle.gix_commitgraph.specs.declared.ParentPlace.{ParentPlace}
-use Rattle.gix_commitgraph.specs.declared.ParentPlace.TheVariants.{At, Fault}
-use Rattle.gix_hash.specs.Id.{id_cmp, is_same}
-use Rattle.gix_commitgraph.specs.Rows.{GraphRow, no_row, row_at}
-use Rattle.gix_commitgraph.specs.Packed.{most, overflow_of, overflow_words, kind_of_rows, ids_of_rows, IsPlaceAmong, IsRowAmong, AreGraphRows}
-use Rattle.gix_commitgraph.specs.Renumbering.{Entry, entries_from, moved, renumbered, arranged, NeverFall, AlwaysRise, StopsRising, HasPlaces, AreNumbers, CanArrange, HasSameRows, HaveDistinctIds, HavePlacesWithin, IsRowOf, IsInRange}
-use Rattle.gix_hash.proofs.Ids.Membership.{id_total, same_back}
 use Rattle.gix_commitgraph.proofs.Packed.RowsArranged.{arranged_row, length-overflow_of-moved}
+use Rattle.gix_commitgraph.proofs.Packed.RowSearch.{is_Less}
 
 abbrev no_entry : Entry
 no_entry = (no_row.id, 0)
@@ -58,16 +44,12 @@ entries_name rows k d lt =
     subst (IsEntryOf rows) (sym e) ((omega arith), (let same : k ≡ 0 + k = omega arith in ap (λ (n : ℕ). (row_at rows n).id) same))
 
 -- the rows that the entries name are the rows
-rows_of-entries : (rows : List GraphRow) (number : ℕ → ℕ) → map (λ (entry : Entry). renumbered number (row_at rows entry.1)) (entries_from 0 rows) ≡ map (renumbered number) rows
-rows_of-entries rows number =
-    same_lists _ _ (length-map (entries_from 0 rows) (λ (entry : Entry). renumbered number (row_at rows entry.1)) ∙ length-entries_from 0 rows ∙ sym (length-map rows (renumbered number)))
-    (λ k d lt.
-    let within : k < length rows = omega (arith, length-map (entries_from 0 rows) (λ (entry : Entry). renumbered number (row_at rows entry.1)), length-entries_from 0 rows) in
-    let same : 0 + k ≡ k = omega arith in
-    get_or-map (λ (entry : Entry). renumbered number (row_at rows entry.1)) (entries_from 0 rows) k no_entry d (omega (arith, length-entries_from 0 rows))
-    ∙ ap (λ (e : Entry). renumbered number (row_at rows e.1)) (entry_at 0 rows k no_entry within)
-    ∙ ap (λ (n : ℕ). renumbered number (row_at rows n)) same
-    ∙ sym (get_or-map (renumbered number) rows k no_row d within))
+rows_of-entries : (f : GraphRow → GraphRow) (at : ℕ → GraphRow) (n : ℕ) (rows : List GraphRow) → ((k : ℕ) → k < length rows → at (n + k) ≡ row_at rows k) → map (λ (entry : Entry). f (at entry.1)) (entries_from n rows) ≡ map f rows
+rows_of-entries f at n [] is = refl
+rows_of-entries f at n (row ∷ rows) is =
+    let here : n ≡ n + 0 = omega arith in
+    let others = rows_of-entries f at (suc n) rows (λ k lt. let same : suc n + k ≡ n + suc k = omega arith in ap at same ∙ is (suc k) (omega arith)) in
+    (λ i. f ((ap at here ∙ is 0 (omega arith)) i) ∷ others i)
 
 -- ---- entries in rising order
 
@@ -93,20 +75,9 @@ module _ (rows : List GraphRow) (order : List Entry) (perm : IsPermutation (entr
       let apart : is_same (get_or (ids_of order) k a) (get_or (ids_of order) (k + 1) a) ≡ false = apart_from_distinct is_same (ids_of order) k (k + 1) a ids (omega arith) (omega (arith, len)) in
       let at_k = get_or-map (λ (entry : Entry). entry.0) order k no_entry a (omega arith) in
       let at_next = get_or-map (λ (entry : Entry). entry.0) order (k + 1) no_entry a lt in
-      let differ : is_same a b ≡ false = (λ i. is_same (sym at_k i) (sym at_next i)) ∙ apart in
-      by_cases a b (id_cmp a b) refl (id_cmp b a) refl (stops.2 no_entry) (falls k no_entry lt) differ
-    where
-      by_cases : (a b : ObjectId) (o : Ordering) → id_cmp a b ≡ o → (p : Ordering) → id_cmp b a ≡ p → is_lt (id_cmp a b) ≡ false → is_lt (id_cmp b a) ≡ false → is_same a b ≡ false → ⊥
-      by_cases a b Less is p back stop fall differ = false≢true (sym stop ∙ ap is_lt is)
-      by_cases a b Equal is p back stop fall differ = false≢true (sym differ ∙ ap is_eq is)
-      by_cases a b Greater is p back stop fall differ = let turned : id_cmp b a ≡ Less = id_total.antisymm b a ∙ ap Rattle.std.specs.Ordering.ordering_reverse is in false≢true (sym fall ∙ ap is_lt turned)
+      grind (arith, stops.2 no_entry, falls k no_entry lt, apart, at_k, at_next, id_total.antisymm b a)
 
   module _ (rise : AlwaysRise order) where
-    is_Less : (o : Ordering) → is_lt o ≡ true → o ≡ Less
-    is_Less Less e = refl
-    is_Less Equal e = absurd cc
-    is_Less Greater e = absurd cc
-
     pub sorted_order : IsStrictlySortedBy id_cmp (ids_of order)
     sorted_order =
         sorted_from_all_adjacent id_total (ids_of order) no_row.id (λ k lt.
@@ -127,24 +98,19 @@ module _ (rows : List GraphRow) (order : List Entry) (perm : IsPermutation (entr
           let less : id_cmp (get_or (ids_of order) j d.0) (get_or (ids_of order) k d.0) ≡ Less = Less-from_sorted id_cmp (ids_of order) j k d.0 sorted_order lt (omega (arith, len)) in
           let at_j = get_or-map (λ (entry : Entry). entry.0) order j d d.0 (omega arith) in
           let at_k = get_or-map (λ (entry : Entry). entry.0) order k d d.0 within in
-          let same_less : id_cmp (get_or order k d).0 (get_or order k d).0 ≡ Less = (λ i. id_cmp ((sym one ∙ sym at_j) i) (sym at_k i)) ∙ less in
           let tied = tied_itself id_total (get_or order k d).0 in
           absurd cc;
     }
 
 -- ---- what new numbers keep
 
-all_renumbered : (P : GraphRow → Type 0) (number : ℕ → ℕ) (rows : List GraphRow) → AllByRecursion (λ row. P (renumbered number row)) rows → AllByRecursion P (map (renumbered number) rows)
-all_renumbered P number [] all = tt
-all_renumbered P number (row ∷ rows) all = (all.0, all_renumbered P number rows all.1)
+all_renumbered : (P Q : GraphRow → Type 0) (number : ℕ → ℕ) → ((row : GraphRow) → P row → Q (renumbered number row)) → (rows : List GraphRow) → AllByRecursion P rows → AllByRecursion Q (map (renumbered number) rows)
+all_renumbered P Q number give [] all = tt
+all_renumbered P Q number give (row ∷ rows) all = (give row all.0, all_renumbered P Q number give rows all.1)
 
-all_weaker : {X : Type 0} (P Q : X → Type 0) (xs : List X) → ((x : X) → P x → Q x) → AllByRecursion P xs → AllByRecursion Q xs
-all_weaker P Q [] give all = tt
-all_weaker P Q (x ∷ xs) give all = (give x all.0, all_weaker P Q xs give all.1)
-
-all_both : {X : Type 0} (P Q R : X → Type 0) (xs : List X) → ((x : X) → P x → Q x → R x) → AllByRecursion P xs → AllByRecursion Q xs → AllByRecursion R xs
-all_both P Q R [] give one two = tt
-all_both P Q R (x ∷ xs) give one two = (give x one.0 two.0, all_both P Q R xs give one.1 two.1)
+all_among : (k : Kind) (n : ℕ) (rows : List GraphRow) → AllByRecursion (IsRowOf k) rows → AllByRecursion (λ row. AllByRecursion (IsPlaceAmong n) row.parents) rows → AllByRecursion IsInRange rows → AllByRecursion (IsRowAmong k n) rows
+all_among k n [] kinds places range = tt
+all_among k n (row ∷ rows) kinds places range = (record { id = kinds.0.id; tree = kinds.0.tree; parents = places.0; generation = range.0.0; time = range.0.1 }, all_among k n rows kinds.1 places.1 range.1)
 
 places_moved : (n : ℕ) (number : ℕ → ℕ) → ((place : ℕ) → place < n → number place < n) → (ps : List ParentPlace) → AllByRecursion (IsPlaceAmong n) ps → AllByRecursion (IsPlaceAmong n) (map (moved number) ps)
 places_moved n number below [] all = tt
@@ -178,7 +144,7 @@ module _ (rows : List GraphRow) (order : List Entry) (numbers : List ℕ) (perm 
   length-graph = length-map order (arranged_row rows numbers) ∙ length-order rows order perm
 
   graph_permutes : IsPermutation (map (renumbered number) rows) graph
-  graph_permutes = subst (λ (x : List GraphRow). IsPermutation x graph) (rows_of-entries rows number) (IsPermutation-map (arranged_row rows numbers) (entries_from 0 rows) order perm)
+  graph_permutes = subst (λ (x : List GraphRow). IsPermutation x graph) (rows_of-entries (renumbered number) (row_at rows) 0 rows (λ k lt. let same : 0 + k ≡ k = omega arith in ap (row_at rows) same)) (IsPermutation-map (arranged_row rows numbers) (entries_from 0 rows) order perm)
 
   pub words_of_graph : length (overflow_words graph) ≡ length (overflow_words rows)
   words_of_graph =
@@ -201,8 +167,8 @@ module _ (rows : List GraphRow) (order : List Entry) (numbers : List ℕ) (perm 
   number_below : (place : ℕ) → place < length rows → number place < length rows
   number_below place lt = let e = entry_of place lt in omega (arith, number_of place lt, e.1, length-order rows order perm)
 
-  all_graph : (P : GraphRow → Type 0) → AllByRecursion (λ row. P (renumbered number row)) rows → AllByRecursion P graph
-  all_graph P all = recursion_from_All P graph (All-permutation P (map (renumbered number) rows) graph graph_permutes (All-from_recursion P (map (renumbered number) rows) (all_renumbered P number rows all)))
+  all_graph : (P Q : GraphRow → Type 0) → ((row : GraphRow) → P row → Q (renumbered number row)) → AllByRecursion P rows → AllByRecursion Q graph
+  all_graph P Q give all = recursion_from_All Q graph (All-permutation Q (map (renumbered number) rows) graph graph_permutes (All-from_recursion Q (map (renumbered number) rows) (all_renumbered P Q number give rows all)))
 
   pub has_same_rows : HasSameRows rows graph
   has_same_rows = record {
@@ -228,7 +194,7 @@ module _ (rows : List GraphRow) (order : List Entry) (numbers : List ℕ) (perm 
 
   module _ (k : Kind) (kind : kind_of_rows rows ≡ k) (kinds : AllByRecursion (IsRowOf k) rows) where
     kinds_of_graph : AllByRecursion (IsRowOf k) graph
-    kinds_of_graph = all_graph (IsRowOf k) (all_weaker (IsRowOf k) (λ row. IsRowOf k (renumbered number row)) rows (λ row r. record { id = r.id; tree = r.tree }) kinds)
+    kinds_of_graph = all_graph (IsRowOf k) (IsRowOf k) (λ row r. record { id = r.id; tree = r.tree }) kinds
 
     pub kind_of_graph : kind_of_rows graph ≡ k
     kind_of_graph = kind_of_all k rows graph length-graph kind kinds_of_graph
@@ -248,11 +214,8 @@ module _ (rows : List GraphRow) (order : List Entry) (numbers : List ℕ) (perm 
     are_graph_rows rise within few few_words range =
         let n = length rows in
         let places : AllByRecursion (λ row. AllByRecursion (IsPlaceAmong n) row.parents) graph =
-        all_graph (λ row. AllByRecursion (IsPlaceAmong n) row.parents) (all_weaker (λ row. AllByRecursion (IsPlaceAmong n) row.parents) (λ row. AllByRecursion (IsPlaceAmong n) (map (moved number) row.parents)) rows (λ row all. places_moved n number number_below row.parents all) within) in
-        let sound : AllByRecursion (IsRowAmong k n) graph =
-        all_both (IsRowOf k) (λ row. AllByRecursion (IsPlaceAmong n) row.parents × IsInRange row) (IsRowAmong k n) graph
-        (λ row kinds others. record { id = kinds.id; tree = kinds.tree; parents = others.0; generation = others.1.0; time = others.1.1 }) kinds_of_graph
-        (all_both (λ row. AllByRecursion (IsPlaceAmong n) row.parents) IsInRange (λ row. AllByRecursion (IsPlaceAmong n) row.parents × IsInRange row) graph (λ row a b. (a, b)) places range) in
+        all_graph (λ row. AllByRecursion (IsPlaceAmong n) row.parents) (λ row. AllByRecursion (IsPlaceAmong n) row.parents) (λ row. places_moved n number number_below row.parents) within in
+        let sound = all_among k n graph kinds_of_graph places range in
         record {
           each = subst (λ (x : Kind). AllByRecursion (IsRowAmong x (length graph)) graph) (sym kind_of_graph) (subst (λ (x : ℕ). AllByRecursion (IsRowAmong k x) graph) (sym length-graph) sound);
           rising = subst (IsStrictlySortedBy id_cmp) ids_of_graph (sorted_order rows order perm rise);

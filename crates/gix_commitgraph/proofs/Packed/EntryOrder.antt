@@ -1,14 +1,6 @@
 -- The entries of rows, in the order of their ids.
-use Rattle.std.proofs.Common.{◌≡◌, ◌≢◌, ℕ, suc, ◌+◌, ◌-◌, ◌<◌, ◌≤◌, false, List, [], ◌∷◌, ◌++◌, length, get_or, set, take, sym, ap, ◌∙◌, arith, inl, inr}
-use Rattle.std.specs.Ordering.{is_lt}
-use Rattle.std.proofs.lemmas.Bool.{cases_lt}
-use Rattle.std.proofs.lemmas.List.{take_more, map_push, get_or_default, get_or-set_same, get_or-set_other, length-set, length-take, length-map, get_or_past}
-use Rattle.std.proofs.lemmas.Bool.Decides.{eqb_tells}
-use Rattle.gix_commitgraph.specs.declared.Row.{Row}
-use Rattle.gix_hash.specs.Id.{id_cmp}
-use Rattle.gix_commitgraph.specs.Rows.{GraphRow}
-use Rattle.gix_commitgraph.specs.Packed.{most}
-use Rattle.gix_commitgraph.specs.Renumbering.{row_seen, rows_seen, Entry, entries_from, StopsRising, HasPlaces}
+use Rattle.std.proofs.Common.{◌≡◌, ℕ, suc, ◌+◌, ◌-◌, ◌<◌, ◌≤◌, false, List, [], ◌∷◌, ◌++◌, length, get_or, set, take, sym, ap, ◌∙◌, arith, is_lt, get_or-set_same, get_or-set_other, length-set, length-take}
+use Rattle.gix_commitgraph.proofs.Common.{take_more, map_push, get_or_default, length-map, get_or_past, Row, id_cmp, GraphRow, most, row_seen, rows_seen, Entry, entries_from, StopsRising, HasPlaces}
 
 entries_from-push : (n : ℕ) (rows : List GraphRow) (row : GraphRow) → entries_from n (rows ++ row ∷ []) ≡ entries_from n rows ++ (row.id, n + length rows) ∷ []
 entries_from-push n [] row = let same : n ≡ n + 0 = omega arith in ap (λ (m : ℕ). (row.id, m) ∷ []) same
@@ -34,23 +26,9 @@ pub number_more : (order : List Entry) (numbers : List ℕ) (j : ℕ) (e : Entry
     → ((k : ℕ) (d : Entry) → k < j → get_or numbers (get_or order k d).1 0 ≡ k)
     → (k : ℕ) (d : Entry) → k < j + 1 → get_or (set numbers (get_or order j e).1 j) (get_or order k d).1 0 ≡ k
 number_more order numbers j e places lt len told k d below =
-    elim (cases_lt k j) [
-      | inl before ↦ (
-          let other : (get_or order k d).1 ≢ (get_or order j e).1 = λ same. places.apart k j d before lt (same ∙ ap (λ (x : Entry). x.1) (get_or_default order j e d lt)) in
-          get_or-set_other numbers (get_or order j e).1 (get_or order k d).1 j 0 other ∙ told k d before)
-      | inr from ↦ (
-          let here : k ≡ j = omega arith in
-          let place : (get_or order k d).1 ≡ (get_or order j e).1 = ap (λ (n : ℕ). (get_or order n d).1) here ∙ ap (λ (x : Entry). x.1) (get_or_default order j d e lt) in
-          let within : (get_or order j e).1 < length numbers = omega (arith, places.below j e lt) in
-          ap (λ (p : ℕ). get_or (set numbers (get_or order j e).1 j) p 0) place ∙ get_or-set_same numbers (get_or order j e).1 j 0 within ∙ sym here)
-    ]
+    let there : (get_or order j d).1 ≡ (get_or order j e).1 = ap (λ (x : Entry). x.1) (get_or_default order j d e lt) in
+    let place : ℕ = (get_or order j e).1 in
+    grind (arith, there, told k d, places.apart k j d, places.below j e lt, get_or-set_same numbers place j 0, get_or-set_other numbers place (get_or order k d).1 j 0)
 
 pub number_small : (numbers : List ℕ) (p n : ℕ) → n ≤ most → ((place : ℕ) → get_or numbers place 0 ≤ most) → (place : ℕ) → get_or (set numbers p n) place 0 ≤ most
-number_small numbers p n few small place =
-    elim (eqb_tells place p) [
-      | inl same ↦ elim (cases_lt p (length numbers)) [
-        | inl lt ↦ rw same.1 (rw (get_or-set_same numbers p n 0 lt) few)
-        | inr le ↦ rw (get_or_past (set numbers p n) place 0 (omega (arith, same.1, length-set numbers p n))) (omega arith)
-      ]
-      | inr other ↦ rw (get_or-set_other numbers p place n 0 other.1) (small place)
-    ]
+number_small numbers p n few small place = grind (arith, small place, get_or-set_same numbers p n 0, get_or-set_other numbers p place n 0, get_or_past (set numbers p n) place 0, length-set numbers p n)

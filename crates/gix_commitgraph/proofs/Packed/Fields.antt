@@ -1,20 +1,12 @@
 -- The fields of a packed row.
-use Rattle.std.proofs.Common.{◌≡◌, ℕ, ◌+◌, ◌*◌, ◌^◌, ◌<◌, ◌≤◌, List, [], ◌∷◌, ◌++◌, length, take, drop, refl, sym, ap, ◌∙◌, append_assoc, arith, ℤ, FitsSigned}
-use Rattle.std.specs.List.{AllByRecursion}
-use Rattle.std.specs.Int.{w32, w64, to_be_bytes, from_be_bytes, cast_signed, cast_unsigned}
-use Rattle.std.proofs.lemmas.List.{take_at, drop_at, drop-drop, length-append}
+use Rattle.std.proofs.Common.{◌≡◌, ℕ, ◌+◌, ◌*◌, ◌^◌, ◌<◌, ◌≤◌, List, [], ◌∷◌, ◌++◌, length, take, drop, refl, sym, ap, ◌∙◌, append_assoc, arith, w32, w64, take_at, drop_at, drop-drop, length-append}
+use Rattle.gix_commitgraph.proofs.Common.{AllByRecursion, to_be_bytes, from_be_bytes, cast_unsigned, Kind, ObjectId, ParentPlace, At, Fault, id_len, id_of, kind_of, bytes_of, GraphRow, most, no_parent, place_word, first_word}
+use Rattle.gix_commitgraph.proofs.Common.{second_word, IsPlaceAmong, IsRowAmong, row_len, id_field, tree_field, first_field, second_field, generation_field, time_field}
 use Rattle.std.proofs.lemmas.Nat.{from_be_bytes-to_be_bytes_4, from_be_bytes-to_be_bytes_8}
 use Rattle.std.proofs.Math.Facts.{Fits-lt-pow, Fits-of_z, to_z-of_z}
-use Rattle.gix_hash.specs.declared.Kind.{Kind}
 use Rattle.gix_hash.specs.declared.Kind.TheVariants as kind
-use Rattle.gix_hash.specs.declared.ObjectId.{ObjectId}
 use Rattle.gix_hash.specs.declared.ObjectId.TheVariants as id
-use Rattle.gix_commitgraph.specs.declared.ParentPlace.{ParentPlace}
-use Rattle.gix_commitgraph.specs.declared.ParentPlace.TheVariants.{At, Fault}
-use Rattle.gix_hash.specs.Id.{id_len, id_of, kind_of, bytes_of}
-use Rattle.gix_commitgraph.specs.Rows.{GraphRow}
-use Rattle.gix_commitgraph.specs.Packed.{most, no_parent, place_word, first_word, second_word, row_bytes, IsPlaceAmong, IsRowAmong}
-use Rattle.gix_commitgraph.specs.PackedReading.{row_len, id_field, tree_field, first_field, second_field, generation_field, time_field}
+use Rattle.gix_commitgraph.specs.Packed.{row_bytes}
 
 pub after_part : (at next : ℕ) (whole part rest : List ℕ) → drop at whole ≡ part ++ rest → next ≡ at + length part → drop next whole ≡ rest
 after_part at next whole part rest e n = ap (λ (m : ℕ). drop m whole) n ∙ sym (drop-drop (length part) at whole) ∙ ap (drop (length part)) e ∙ drop_at part rest (length part) refl
@@ -86,9 +78,6 @@ second_word-below n w (p ∷ []) few fits all = omega arith
 second_word-below n w (p ∷ q ∷ []) few fits all = omega (arith, place_word-below n q few all.1.0)
 second_word-below n w (p ∷ q ∷ r ∷ ps) few fits all = omega arith
 
-time_again : (t : ℤ) → FitsSigned w64 t → cast_signed w64 (from_be_bytes w64 (to_be_bytes w64 (cast_unsigned w64 t))) ≡ t
-time_again t fits = ap (cast_signed w64) (from_be_bytes-to_be_bytes_8 (cast_unsigned w64 t) (Fits-lt-pow (Fits-of_z fits))) ∙ to_z-of_z fits
-
 word_again : (n : ℕ) (bytes : List ℕ) → n < 2 ^ 32 → bytes ≡ to_be_bytes w32 n → from_be_bytes w32 bytes ≡ n
 word_again n bytes lt e = ap (from_be_bytes w32) e ∙ from_be_bytes-to_be_bytes_4 n lt
 
@@ -102,7 +91,7 @@ has_row k n w row rest few fits r =
       first = word_again (first_word row.parents) _ (first_word-below n row.parents few r.parents) parts.c_is;
       second = word_again (second_word w row.parents) _ (second_word-below n w row.parents few fits r.parents) parts.d_is;
       generation = word_again row.generation _ r.generation parts.e_is;
-      time = ap (λ (b : List ℕ). cast_signed w64 (from_be_bytes w64 b)) parts.f_is ∙ time_again row.time r.time;
+      time = rw (parts.f_is, from_be_bytes-to_be_bytes_8 (cast_unsigned w64 row.time) (Fits-lt-pow (Fits-of_z r.time))) (to_z-of_z r.time);
       behind = ap (λ (m : ℕ). drop m (row_bytes w row ++ rest)) (row_len-is k) ∙ parts.rest_is;
     }
 

@@ -1,13 +1,7 @@
 -- Which overflow words the reading of a row's parents leaves.
-use Rattle.std.proofs.Common.{◌≡◌, ◌≢◌, ℕ, zero, suc, ◌-◌, ◌*◌, ◌+◌, ◌<◌, ◌≤◌, true, cond, List, [], ◌∷◌, length, get_or, take, drop, Option, Some, None, refl, sym, ap, ◌∙◌, arith}
-use Rattle.std.specs.Prelude.{is_some}
-use Rattle.std.specs.Option.{option_map}
-use Rattle.std.specs.Int.{w32, from_be_bytes}
-use Rattle.std.proofs.lemmas.Bool.{lt-ltb, le-ltb, ne_eqb, eq-eqb}
-use Rattle.std.proofs.lemmas.List.{take_rest}
-use Rattle.gix_commitgraph.specs.declared.ParentPlace.{ParentPlace}
-use Rattle.gix_commitgraph.specs.Packed.{flag, no_parent}
-use Rattle.gix_commitgraph.specs.PackedReading.{Places, words_of, place_of, with_place, list_at, long_list_at, second_at, parents_at}
+use Rattle.std.proofs.Common.{◌≡◌, ◌≢◌, ℕ, zero, suc, ◌-◌, ◌*◌, ◌+◌, ◌<◌, ◌≤◌, true, cond, List, [], ◌∷◌, length, get_or, take, drop, Option, Some, None, refl, ap, ◌∙◌, arith, is_some, option_map, w32, lt-ltb, le-ltb, ne_eqb, eq-eqb}
+use Rattle.gix_commitgraph.proofs.Common.{from_be_bytes, take_rest, ParentPlace, flag, no_parent, Places, words_of, place_of, with_place, list_at, long_list_at, second_at, parents_at}
+use Rattle.std.proofs.Math.Seq.{drop-cons}
 
 -- the overflow words behind the places, where there are places
 abbrev pub behind : Option Places → Option (List ℕ)
@@ -21,12 +15,13 @@ behind-with_place (Some p) (Some more) = refl
 pub behind-list_on : (n word : ℕ) (words : List ℕ) → word < flag → is_some (place_of n word) ≡ true → behind (list_at n (word ∷ words)) ≡ behind (list_at n words)
 behind-list_on n word words lt is = rw (lt-ltb word flag lt, behind-with_place (place_of n word) (list_at n words), is) refl
 
+-- a list of four elements or more, by these
+pub four_first : (xs : List ℕ) → 4 ≤ length xs → xs ≡ get_or xs 0 0 ∷ get_or xs 1 0 ∷ get_or xs 2 0 ∷ get_or xs 3 0 ∷ drop 4 xs
+four_first xs h =
+    drop-cons xs 0 0 (omega arith) ∙ ap (λ (x : List ℕ). get_or xs 0 0 ∷ x) (drop-cons xs 1 0 (omega arith) ∙ ap (λ (x : List ℕ). get_or xs 1 0 ∷ x) (drop-cons xs 2 0 (omega arith) ∙ ap (λ (x : List ℕ). get_or xs 2 0 ∷ x) (drop-cons xs 3 0 (omega arith))))
+
 pub words_of-more : (bytes : List ℕ) → 4 ≤ length bytes → words_of bytes ≡ from_be_bytes w32 (get_or bytes 0 0 ∷ get_or bytes 1 0 ∷ get_or bytes 2 0 ∷ get_or bytes 3 0 ∷ []) ∷ words_of (drop 4 bytes)
-words_of-more [] h = absurd (omega arith)
-words_of-more (a ∷ []) h = absurd (omega arith)
-words_of-more (a ∷ b ∷ []) h = absurd (omega arith)
-words_of-more (a ∷ b ∷ c ∷ []) h = absurd (omega arith)
-words_of-more (a ∷ b ∷ c ∷ d ∷ bytes) h = refl
+words_of-more bytes h = ap words_of (four_first bytes h)
 
 pub words_of-drop : (k : ℕ) (bytes : List ℕ) → words_of (drop (4 * k) bytes) ≡ drop k (words_of bytes)
 words_of-drop zero bytes = let none : 4 * 0 ≡ 0 = omega arith in ap (λ (n : ℕ). words_of (drop n bytes)) none
@@ -46,8 +41,7 @@ pub list_goes_on : (n word : ℕ) (left : List ℕ) (total : Option (List ℕ)) 
     → word ≡ from_be_bytes w32 (get_or left 0 0 ∷ get_or left 1 0 ∷ get_or left 2 0 ∷ get_or left 3 0 ∷ []) → word < flag → is_some (place_of n word) ≡ true
     → behind (list_at n (words_of left)) ≡ total → behind (list_at n (words_of (take (length left - 4) (drop 4 left)))) ≡ total
 list_goes_on n word left total long e lt is so_far =
-    let words : words_of left ≡ word ∷ words_of (drop 4 left) = words_of-more left long ∙ ap (λ (w : ℕ). w ∷ words_of (drop 4 left)) (sym e) in
-    ap (λ (b : List ℕ). behind (list_at n (words_of b))) (take_rest left 4) ∙ sym (behind-list_on n word (words_of (drop 4 left)) lt is) ∙ ap (λ (ws : List ℕ). behind (list_at n ws)) (sym words) ∙ so_far
+    grind (arith, words_of-more left long, take_rest left 4, behind-list_on n word (words_of (drop 4 left)) lt is)
 
 -- a second parent word that names the overflow word from which the words are left
 pub behind-second_list : (n k first second : ℕ) (words : List ℕ) → first ≢ no_parent → is_some (place_of n first) ≡ true → second ≢ no_parent → flag ≤ second → second ≡ flag + k

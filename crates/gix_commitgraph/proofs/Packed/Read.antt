@@ -1,39 +1,23 @@
 -- What is read is spelled so.
-use Rattle.std.proofs.Common.{◌≡◌, ℕ, zero, suc, ◌+◌, ◌-◌, ◌*◌, ◌<◌, ◌≤◌, true, cond, eqb, List, [], ◌∷◌, ◌++◌, length, take, drop, Option, Some, None, Result, Ok, Err, refl, sym, ap, subst, ◌∙◌, append_assoc, arith, inl, inr}
-use Rattle.std.specs.Prelude.{nat_eq, codes}
-use Rattle.std.specs.Int.{w32, to_be_bytes}
-use Rattle.std.specs.List.{flat_map, AllByRecursion, starts_with}
+use Rattle.std.proofs.Common.{◌≡◌, ℕ, zero, suc, ◌+◌, ◌-◌, ◌*◌, ◌<◌, ◌≤◌, true, cond, eqb, List, [], ◌∷◌, ◌++◌, length, take, drop, Option, Some, None, Result, Ok, Err, refl, sym, ap, subst, ◌∙◌, append_assoc, arith, inl, inr, nat_eq}
+use Rattle.std.proofs.Common.{codes, w32, flat_map, Less, ltb-true, drop-drop, drop_at, take-append-drop, length-append, length-drop}
+use Rattle.gix_commitgraph.proofs.Common.{to_be_bytes, AllByRecursion, starts_with, nat_tests, Kind, ObjectId, Place, Layout, id_cmp, GraphRow, most, overflow_of, row_bytes, overflow_words, layout_name, kind_of_rows, AreBytes}
+use Rattle.gix_commitgraph.proofs.Common.{IsRowAmong, ids_of_rows, words_of, row_len, id_field, first_field, second_field, row_of_fields, Places, parents_at, is_above, with_row, row_then, kind_named, may_have, read_packed, IsLaidOut}
+use Rattle.gix_commitgraph.proofs.Common.{IsPackedAs, id_total}
 use Rattle.std.specs.List.Sorted.{IsStrictlySortedBy}
-use Rattle.std.specs.Ordering.{is_lt}
-use Rattle.std.specs.declared.cmp.Ordering.{Ordering}
-use Rattle.std.specs.declared.cmp.Ordering.TheVariants.{Less, Equal, Greater}
 use Rattle.std.specs.Cmp.Lexicographic.{same_text}
-use Rattle.std.proofs.lemmas.Bool.{ltb-true, eqb-true}
-use Rattle.std.proofs.lemmas.List.{drop-drop, drop_at, take-append-drop, length-append, length-drop}
-use Rattle.gix_hash.specs.declared.Kind.{Kind}
 use Rattle.gix_hash.specs.declared.Kind.TheVariants as kind
-use Rattle.gix_hash.specs.declared.ObjectId.{ObjectId}
-use Rattle.gix_commitgraph.specs.declared.Place.{Place}
 use Rattle.gix_commitgraph.specs.declared.Place.TheVariants as place
-use Rattle.gix_commitgraph.specs.declared.check.Layout.{Layout}
-use Rattle.gix_hash.specs.Id.{id_cmp}
-use Rattle.gix_commitgraph.specs.Rows.{GraphRow}
-use Rattle.gix_commitgraph.specs.Packed.{most, overflow_of, row_bytes, rows_bytes, overflow_words, layout_name, kind_of_rows, spelling, AreBytes, IsRowAmong, ids_of_rows}
-use Rattle.gix_commitgraph.specs.PackedReading.{words_of, row_len, id_field, first_field, second_field, row_of_fields, Places, parents_at, is_above, with_row, row_then, rows_at, kind_named, may_have, read_packed}
-use Rattle.gix_commitgraph.specs.PackedLayout.{IsLaidOut, IsPackedAs}
-use Rattle.gix_hash.proofs.Ids.Membership.{id_total}
+use Rattle.gix_commitgraph.specs.Packed.{rows_bytes, spelling}
+use Rattle.gix_commitgraph.specs.PackedReading.{rows_at}
 use Rattle.gix_commitgraph.proofs.Packed.ReadAgain.{Begins}
 use Rattle.gix_commitgraph.proofs.Packed.Takes.{chosen, parents_take}
-use Rattle.gix_commitgraph.proofs.Packed.RowTakes.{AreBytes-drop, row_takes, row_among, bytes-words_of, word_back}
+use Rattle.gix_commitgraph.proofs.Packed.RowTakes.{part, AreBytes-drop, row_takes, row_among, bytes-words_of, word_back}
 use Rattle.gix_commitgraph.proofs.Packed.Whole.{length-rows_bytes}
 use Rattle.gix_commitgraph.proofs.Packed.Steps.{length-words_of}
+use Rattle.gix_commitgraph.proofs.Packed.RowSearch.{is_Less}
 
 -- ---- ids in order
-
-is_Less : (o : Ordering) → is_lt o ≡ true → o ≡ Less
-is_Less Less e = refl
-is_Less Equal e = absurd cc
-is_Less Greater e = absurd cc
 
 below_all : (i j : ObjectId) (ids : List ObjectId) → id_cmp i j ≡ Less → AllByRecursion (λ x. id_cmp j x ≡ Less) ids → AllByRecursion (λ x. id_cmp i x ≡ Less) ids
 below_all i j [] lt all = tt
@@ -75,11 +59,7 @@ row_then_takes k r bytes (Some read) more rows e = go (more read.1) refl e
 
 nothing_left : (words : List ℕ) (rows : List GraphRow) → cond (eqb (length words) 0) (Ok []) (Err place.Overflow) ≡ Ok rows → (rows ≡ []) × (words ≡ [])
 nothing_left [] rows e = (cc, refl)
-nothing_left (w ∷ words) rows e =
-    elim (chosen (eqb (suc (length words)) 0) (Ok []) (Err place.Overflow) (Ok rows) e) [
-      | inl h ↦ (let none : suc (length words) ≡ 0 = eqb-true (suc (length words)) 0 h.0 in absurd (omega arith))
-      | inr h ↦ absurd cc
-    ]
+nothing_left (w ∷ words) rows e = absurd (grind (arith, nat_tests, e))
 
 rows_take : (k : Kind) (n m w left r : ℕ) (before : Option ObjectId) (bytes words : List ℕ) (rows : List GraphRow) → n ≤ most
     → row_len k * left ≤ length bytes → AreBytes bytes → w + length words ≡ m → rows_at k n m left r before bytes words ≡ Ok rows
@@ -118,14 +98,8 @@ starts_takes : (bytes name : List ℕ) → starts_with nat_eq bytes name ≡ tru
 starts_takes bytes name e = same_text name (take (length name) bytes) (sym e)
 
 name_takes : (k : Kind) (bytes : List ℕ) → kind_named bytes ≡ Some k → take 4 bytes ≡ layout_name k
-name_takes k bytes e =
-    elim (chosen (starts_with nat_eq bytes (codes "GTR1")) (Some kind.Sha1) (cond (starts_with nat_eq bytes (codes "GTR2")) (Some kind.Sha256) None) (Some k) e) [
-      | inl h ↦ (let same : kind.Sha1 ≡ k = cc h.1 in subst (λ x. take 4 bytes ≡ layout_name x) same (sym (starts_takes bytes (codes "GTR1") h.0)))
-      | inr h ↦ elim (chosen (starts_with nat_eq bytes (codes "GTR2")) (Some kind.Sha256) None (Some k) h.1) [
-        | inl s ↦ (let same : kind.Sha256 ≡ k = cc s.1 in subst (λ x. take 4 bytes ≡ layout_name x) same (sym (starts_takes bytes (codes "GTR2") s.0)))
-        | inr s ↦ absurd cc
-      ]
-    ]
+name_takes kind.Sha1 bytes e = grind (arith, nat_tests, e, starts_takes bytes (codes "GTR1"))
+name_takes kind.Sha256 bytes e = grind (arith, nat_tests, e, starts_takes bytes (codes "GTR2"))
 
 kind_takes : (k : Kind) (n : ℕ) (rows : List GraphRow) → length rows ≡ n → may_have k n ≡ true → AllByRecursion (IsRowAmong k n) rows → kind_of_rows rows ≡ k
 kind_takes kind.Sha1 n [] len may each = refl
@@ -133,10 +107,7 @@ kind_takes kind.Sha256 n [] len may each = let some : 0 < n = ltb-true 0 n may i
 kind_takes k n (row ∷ rows) len may each = each.0.id.kind
 
 head_bytes : (bytes : List ℕ) → take 4 bytes ++ (take 4 (drop 4 bytes) ++ (take 4 (drop 8 bytes) ++ drop 12 bytes)) ≡ bytes
-head_bytes bytes =
-    ap (λ (x : List ℕ). take 4 bytes ++ (take 4 (drop 4 bytes) ++ (take 4 (drop 8 bytes) ++ x))) (sym (drop-drop 4 8 bytes))
-    ∙ ap (λ (x : List ℕ). take 4 bytes ++ (take 4 (drop 4 bytes) ++ x)) (take-append-drop 4 (drop 8 bytes) ∙ sym (drop-drop 4 4 bytes))
-    ∙ ap (λ (x : List ℕ). take 4 bytes ++ x) (take-append-drop 4 (drop 4 bytes)) ∙ take-append-drop 4 bytes
+head_bytes bytes = rw (part 8 4 12 bytes refl, part 4 4 8 bytes refl) (take-append-drop 4 bytes)
 
 -- bytes that are laid out and read are kept as what they were read as
 pub laid_out_takes : (bytes : List ℕ) (layout : Layout) (rows : List GraphRow) → AreBytes bytes → IsLaidOut bytes layout → read_packed bytes ≡ Ok rows → IsPackedAs bytes layout rows
@@ -167,9 +138,6 @@ laid_out_takes bytes layout rows fits laid e =
         few = omega (arith, t.count, laid.few);
         few_words = omega (arith, laid.few_words);
       };
-      spelled = sym (four name_is n_bytes m_bytes (sym body_is) ∙ head_bytes bytes);
+      spelled = sym ((λ i. name_is i ++ (n_bytes i ++ (m_bytes i ++ sym body_is i))) ∙ head_bytes bytes);
       head = record { kind = sym kind_is; count = sym t.count; words = sym m_is };
     }
-  where
-    four : {a a' b b' c c' d d' : List ℕ} → a ≡ a' → b ≡ b' → c ≡ c' → d ≡ d' → a ++ (b ++ (c ++ d)) ≡ a' ++ (b' ++ (c' ++ d'))
-    four a b c d = λ i. a i ++ (b i ++ (c i ++ d i))

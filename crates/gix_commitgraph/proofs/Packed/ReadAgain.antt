@@ -1,20 +1,10 @@
 -- What is spelled is read again.
-use Rattle.std.proofs.Common.{◌≡◌, ℕ, suc, ◌+◌, ◌-◌, ◌<◌, ◌≤◌, true, List, [], ◌∷◌, ◌++◌, length, drop, Option, Some, None, Ok, refl, ap, ◌∙◌, append_assoc, arith, ℤ}
-use Rattle.std.specs.List.{AllByRecursion}
-use Rattle.std.specs.List.Sorted.{IsStrictlySortedBy}
-use Rattle.std.specs.Ordering.{is_lt}
-use Rattle.std.specs.declared.cmp.Ordering.TheVariants.{Less}
-use Rattle.std.proofs.lemmas.Bool.{lt-ltb, le-ltb, eq-eqb, ne_eqb}
-use Rattle.std.proofs.lemmas.List.{length-append}
+use Rattle.std.proofs.Common.{◌≡◌, ℕ, suc, ◌+◌, ◌-◌, ◌≤◌, true, List, [], ◌∷◌, ◌++◌, length, drop, Option, Some, None, Ok, refl, ap, ◌∙◌, append_assoc, arith, is_lt, Less, lt-ltb, le-ltb, length-append}
+use Rattle.gix_commitgraph.proofs.Common.{AllByRecursion, IsStrictlySortedBy, nat_tests, Kind, ObjectId, ParentPlace, At, Fault, id_cmp, GraphRow, most, fault_word, place_word, list_words, overflow_of, first_word, second_word, row_bytes}
+use Rattle.gix_commitgraph.proofs.Common.{overflow_words, IsPlaceAmong, IsRowAmong, ids_of_rows, row_len, id_field, first_field, second_field, row_of_fields, place_of, list_at, parents_at, is_above}
 use Rattle.std.proofs.lemmas.Map.Keys.{sorted_head, sorted_tail}
-use Rattle.gix_hash.specs.declared.Kind.{Kind}
-use Rattle.gix_hash.specs.declared.ObjectId.{ObjectId}
-use Rattle.gix_commitgraph.specs.declared.ParentPlace.{ParentPlace}
-use Rattle.gix_commitgraph.specs.declared.ParentPlace.TheVariants.{At, Fault}
-use Rattle.gix_hash.specs.Id.{id_cmp}
-use Rattle.gix_commitgraph.specs.Rows.{GraphRow}
-use Rattle.gix_commitgraph.specs.Packed.{most, fault_word, no_parent, flag, place_word, list_words, overflow_of, first_word, second_word, row_bytes, rows_bytes, overflow_words, IsPlaceAmong, IsRowAmong, ids_of_rows}
-use Rattle.gix_commitgraph.specs.PackedReading.{row_len, id_field, first_field, second_field, row_of_fields, place_of, Places, list_at, parents_at, is_above, rows_at}
+use Rattle.gix_commitgraph.specs.Packed.{rows_bytes}
+use Rattle.gix_commitgraph.specs.PackedReading.{rows_at}
 use Rattle.gix_commitgraph.proofs.Packed.Fields.{place_word-below, has_row}
 
 place_again : (n : ℕ) (p : ParentPlace) → n ≤ most → IsPlaceAmong n p → place_of n (place_word p) ≡ Some p
@@ -23,36 +13,17 @@ place_again n Fault few lt = rw (le-ltb fault_word n few) refl
 
 list_again : (n : ℕ) (p : ParentPlace) (ps : List ParentPlace) (more : List ℕ) → n ≤ most → IsPlaceAmong n p → AllByRecursion (IsPlaceAmong n) ps
     → list_at n (list_words p ps ++ more) ≡ Some (p ∷ ps, more)
-list_again n p [] more few here all =
-    let back : flag + place_word p - flag ≡ place_word p = omega arith in
-    rw (le-ltb (flag + place_word p) flag (omega arith), back, place_again n p few here) refl
-list_again n p (q ∷ ps) more few here all =
-    let below : place_word p < flag = omega (arith, place_word-below n p few here) in
-    rw (lt-ltb (place_word p) flag below, place_again n p few here, list_again n q ps more few all.0 all.1) refl
+list_again n p [] more few here all = grind (arith, nat_tests, place_word-below n p few here, place_again n p few here)
+list_again n p (q ∷ ps) more few here all = grind (arith, nat_tests, place_word-below n p few here, place_again n p few here, list_again n q ps more few all.0 all.1)
 
 -- the parents of a row whose overflow list is at the front of the words
 parents_again : (n w : ℕ) (ps : List ParentPlace) (more : List ℕ) → n ≤ most → AllByRecursion (IsPlaceAmong n) ps
     → parents_at n w (first_word ps) (second_word w ps) (overflow_of ps ++ more) ≡ Some (ps, more)
 parents_again n w [] more few all = refl
-parents_again n w (p ∷ []) more few all =
-    let one = place_word-below n p few all.0 in
-    rw (ne_eqb (place_word p) no_parent (λ e. omega arith), place_again n p few all.0) refl
-parents_again n w (p ∷ q ∷ []) more few all =
-    let one = place_word-below n p few all.0 in
-    let two = place_word-below n q few all.1.0 in
-    rw (ne_eqb (place_word p) no_parent (λ e. omega arith), place_again n p few all.0, ne_eqb (place_word q) no_parent (λ e. omega arith), lt-ltb (place_word q) flag (omega arith), place_again n q few all.1.0) refl
+parents_again n w (p ∷ []) more few all = grind (arith, nat_tests, place_again n p few all.0, place_word-below n p few all.0)
+parents_again n w (p ∷ q ∷ []) more few all = grind (arith, nat_tests, place_again n p few all.0, place_word-below n p few all.0, place_again n q few all.1.0, place_word-below n q few all.1.0)
 parents_again n w (p ∷ q ∷ r ∷ ps) more few all =
-    let one = place_word-below n p few all.0 in
-    let two = place_word-below n q few all.1.0 in
-    rw (ne_eqb (place_word p) no_parent (λ e. omega arith), place_again n p few all.0, ne_eqb (flag + w) no_parent (λ e. omega arith), le-ltb (flag + w) flag (omega arith), eq-eqb (flag + w) (flag + w) refl, lt-ltb (place_word q) flag (omega arith), place_again n q few all.1.0, list_again n r ps more few all.1.1.0 all.1.1.1) refl
-
-parents_read : {k k' first first' second second' : ℕ} (n : ℕ) (words : List ℕ) {read : Option Places} → k ≡ k' → first ≡ first' → second ≡ second'
-    → parents_at n k' first' second' words ≡ read → parents_at n k first second words ≡ read
-parents_read n words a b c e = rw (a, b, c) e
-
-row_made : {i t : ObjectId} {g : ℕ} {z : ℤ} (row : GraphRow) → i ≡ row.id → t ≡ row.tree → g ≡ row.generation → z ≡ row.time
-    → record { id = i; tree = t; parents = row.parents; generation = g; time = z } ≡ row
-row_made row a b c d = λ j. record { id = a j; tree = b j; parents = row.parents; generation = c j; time = d j }
+    grind (arith, nat_tests, place_again n p few all.0, place_word-below n p few all.0, place_again n q few all.1.0, place_word-below n q few all.1.0, list_again n r ps more few all.1.1.0 all.1.1.1)
 
 -- the first of the rows, if there is one, may follow
 abbrev pub Begins : Option ObjectId → List GraphRow → Type 0
@@ -92,10 +63,10 @@ rows_again k n m w r before (row ∷ rows) more few few_words each rising first 
     let bytes = row_bytes w row ++ rest in
     let above : is_above before (id_field k bytes) ≡ true = ap (is_above before) has.id ∙ first in
     let parents : parents_at n (m - length (overflow_of row.parents ++ words)) (first_field k bytes) (second_field k bytes) (overflow_of row.parents ++ words) ≡ Some (row.parents, words) =
-    parents_read n (overflow_of row.parents ++ words) from has.first has.second (parents_again n w row.parents words few each.0.parents) in
-    let fields : row_of_fields k bytes row.parents ≡ row = row_made row has.id has.tree has.generation has.time in
+    (λ j. parents_at n (from j) (has.first j) (has.second j) (overflow_of row.parents ++ words)) ∙ parents_again n w row.parents words few each.0.parents in
+    let fields : row_of_fields k bytes row.parents ≡ row = λ j. record { id = has.id j; tree = has.tree j; parents = row.parents; generation = has.generation j; time = has.time j } in
     let others = rows_again k n m next (r + 1) (Some row.id) rows more few few_words each.1 (sorted_tail id_cmp row.id (ids_of_rows rows) rising) (begins row.id rows (sorted_head id_cmp row.id (ids_of_rows rows) rising)) (omega arith) in
     let others_here : rows_at k n m (length rows) (r + 1) (Some (id_field k bytes)) (drop (row_len k) bytes) words ≡ Ok rows =
-    ap (λ (i : ObjectId). rows_at k n m (length rows) (r + 1) (Some i) (drop (row_len k) bytes) words) has.id ∙ ap (λ (b : List ℕ). rows_at k n m (length rows) (r + 1) (Some row.id) b words) has.behind ∙ others in
+    (λ j. rows_at k n m (length rows) (r + 1) (Some (has.id j)) (has.behind j) words) ∙ others in
     ap (λ (b : List ℕ). rows_at k n m (suc (length rows)) r before b (overflow_of row.parents ++ words)) regrouped
     ∙ row_read k n m (length rows) r before bytes (overflow_of row.parents ++ words) row words rows above parents fields others_here

@@ -1,140 +1,73 @@
 -- The row of a number in packed bytes.
-use Rattle.std.proofs.Common.{◌≡◌, ℕ, zero, suc, ◌+◌, ◌-◌, ◌*◌, ◌<◌, ◌≤◌, List, [], ◌∷◌, ◌++◌, length, drop, refl, sym, ap, ◌∙◌, append_assoc, arith, All}
-use Rattle.std.specs.Prelude.{IfOk}
-use Rattle.std.proofs.lemmas.List.Elements.{All-from_recursion}
-use Rattle.std.specs.Int.{w32, to_be_bytes}
-use Rattle.std.specs.List.{flat_map, AllByRecursion}
-use Rattle.std.proofs.lemmas.Bool.{lt-ltb, le-ltb, ne_eqb}
-use Rattle.std.proofs.lemmas.List.{drop-drop, drop_at, length-append}
-use Rattle.gix_hash.specs.declared.Kind.{Kind}
-use Rattle.gix_commitgraph.specs.declared.check.Layout.{Layout}
-use Rattle.gix_commitgraph.specs.declared.ParentPlace.{ParentPlace}
-use Rattle.gix_commitgraph.specs.declared.ParentPlace.TheVariants.{At, Fault}
-use Rattle.gix_commitgraph.specs.Rows.{GraphRow, row_at}
-use Rattle.gix_commitgraph.specs.Packed.{most, fault_word, no_parent, flag, place_word, list_words, overflow_of, first_word, second_word, row_bytes, rows_bytes, overflow_words, kind_of_rows, spelling, IsPlaceAmong, IsRowAmong}
-use Rattle.gix_commitgraph.specs.PackedReading.{words_of, row_len, first_field, second_field}
-use Rattle.gix_commitgraph.specs.PackedLayout.{IsPackedAs, BeginsWithRow}
+use Rattle.std.proofs.Common.{◌≡◌, ℕ, suc, ◌+◌, ◌*◌, ◌<◌, ◌≤◌, List, [], ◌∷◌, ◌++◌, length, take, drop, refl, sym, ap, ◌∙◌, append_assoc, arith, All, IfOk, w32, flat_map, drop-drop, drop_at, length-append, take-append-drop, get_or-take}
+use Rattle.std.proofs.Common.{length-take, length-take-le}
+use Rattle.gix_commitgraph.proofs.Common.{All-from_recursion, recursion_from_All, to_be_bytes, AllByRecursion, nat_tests, Kind, Layout, ParentPlace, At, Fault, GraphRow, no_row, row_at, most, place_word, list_words, overflow_of}
+use Rattle.gix_commitgraph.proofs.Common.{first_word, second_word, row_bytes, overflow_words, kind_of_rows, spelling, IsPlaceAmong, IsRowAmong, words_of, row_len, first_field, second_field, IsPackedAs, BeginsWithRow}
+use Rattle.std.proofs.lemmas.List.Concat.{flat_map-append}
+use Rattle.std.proofs.Math.Seq.{drop-cons}
+use Rattle.gix_commitgraph.specs.Packed.{rows_bytes}
 use Rattle.gix_commitgraph.specs.Parents.{answer_of, answers_of, answer_of_word, answers_of_list, answers_of_words}
-use Rattle.gix_commitgraph.proofs.Packed.Fields.{place_word-below, HasRow, has_row, length-row_bytes}
-use Rattle.gix_commitgraph.proofs.Packed.Whole.{spelling-has_body, length-rows_bytes, words_of-bytes, AreWords-overflow_words}
+use Rattle.gix_commitgraph.proofs.Packed.Fields.{place_word-below, has_row, length-row_bytes}
+use Rattle.gix_commitgraph.proofs.Packed.Whole.{spelling-has_body, length-rows_bytes, rows_bytes-append, words_of-bytes, AreWords-overflow_words}
 
 -- ---- the answers of a row's words
 
 answer_again : (n : ℕ) (p : ParentPlace) → n ≤ most → IsPlaceAmong n p → answer_of_word (place_word p) ≡ answer_of p
-answer_again n (At i) few lt = rw (ne_eqb i fault_word (λ e. omega arith)) refl
+answer_again n (At i) few lt = grind (arith, nat_tests)
 answer_again n Fault few lt = refl
 
 list_answers_again : (n : ℕ) (p : ParentPlace) (ps : List ParentPlace) (more : List ℕ) → n ≤ most → IsPlaceAmong n p → AllByRecursion (IsPlaceAmong n) ps
     → answers_of_list (list_words p ps ++ more) ≡ answers_of (p ∷ ps)
-list_answers_again n p [] more few here all =
-    let back : flag + place_word p - flag ≡ place_word p = omega arith in
-    rw (le-ltb (flag + place_word p) flag (omega arith), back, answer_again n p few here) refl
-list_answers_again n p (q ∷ ps) more few here all =
-    rw (lt-ltb (place_word p) flag (omega (arith, place_word-below n p few here)), answer_again n p few here, list_answers_again n q ps more few all.0 all.1) refl
+list_answers_again n p [] more few here all = grind (arith, nat_tests, place_word-below n p few here, answer_again n p few here)
+list_answers_again n p (q ∷ ps) more few here all = grind (arith, nat_tests, place_word-below n p few here, answer_again n p few here, list_answers_again n q ps more few all.0 all.1)
 
 answers_again : (n w : ℕ) (ps : List ParentPlace) (words more : List ℕ) → n ≤ most → AllByRecursion (IsPlaceAmong n) ps → drop w words ≡ overflow_of ps ++ more
     → answers_of_words (first_word ps) (second_word w ps) words ≡ answers_of ps
 unfolding answers_of_words
 answers_again n w [] words more few all e = refl
-answers_again n w (p ∷ []) words more few all e =
-    let one = place_word-below n p few all.0 in
-    rw (ne_eqb (place_word p) no_parent (λ e. omega arith), answer_again n p few all.0) refl
-answers_again n w (p ∷ q ∷ []) words more few all e =
-    let one = place_word-below n p few all.0 in
-    let two = place_word-below n q few all.1.0 in
-    rw (ne_eqb (place_word p) no_parent (λ e. omega arith), answer_again n p few all.0, lt-ltb (place_word q) no_parent two, answer_again n q few all.1.0, lt-ltb (place_word q) flag (omega arith)) refl
+answers_again n w (p ∷ []) words more few all e = grind (arith, nat_tests, place_word-below n p few all.0, answer_again n p few all.0)
+answers_again n w (p ∷ q ∷ []) words more few all e = grind (arith, nat_tests, place_word-below n p few all.0, place_word-below n q few all.1.0, answer_again n p few all.0, answer_again n q few all.1.0)
 answers_again n w (p ∷ q ∷ r ∷ ps) words more few all e =
-    let one = place_word-below n p few all.0 in
-    let back : flag + w - flag ≡ w = omega arith in
-    rw (ne_eqb (place_word p) no_parent (λ e. omega arith), answer_again n p few all.0, le-ltb (flag + w) no_parent (omega arith), le-ltb (flag + w) flag (omega arith), back, e, list_answers_again n q (r ∷ ps) more few all.1.0 all.1.1) refl
+    grind (arith, nat_tests, place_word-below n p few all.0, answer_again n p few all.0, list_answers_again n q (r ∷ ps) more few all.1.0 all.1.1)
 
 -- ---- the row of a number
-
-record FoundRow (k : Kind) (n m w : ℕ) (rows : List GraphRow) (r : ℕ) (bytes : List ℕ) : Type 0 where
-  from : ℕ
-  rest : List ℕ
-  more : List ℕ
-  has : HasRow k from (row_at rows r) bytes rest
-  among : IsRowAmong k n (row_at rows r)
-  behind : w ≤ from
-  list : drop (from - w) (overflow_words rows) ≡ overflow_of (row_at rows r).parents ++ more
-  long : row_len k ≤ length bytes
-
-rows_found : (k : Kind) (n m w : ℕ) (rows : List GraphRow) (r : ℕ) (tail : List ℕ) → n ≤ most → m ≤ most → AllByRecursion (IsRowAmong k n) rows → w + length (overflow_words rows) ≤ m
-    → r < length rows → FoundRow k n m w rows r (drop (row_len k * r) (rows_bytes w rows ++ tail))
-unfolding rows_bytes
-rows_found k n m w [] r tail few few_words each fits lt = absurd (omega arith)
-rows_found k n m w (row ∷ rows) zero tail few few_words each fits lt =
-    let next = w + length (overflow_of row.parents) in
-    let rest = rows_bytes next rows ++ tail in
-    let start : row_len k * 0 ≡ 0 = omega arith in
-    let here : drop (row_len k * 0) ((row_bytes w row ++ rows_bytes next rows) ++ tail) ≡ row_bytes w row ++ rest = rw start (append_assoc (row_bytes w row) (rows_bytes next rows) tail) in
-    let nothing : w - w ≡ 0 = omega arith in
-    rw here (record {
-      from = w;
-      rest = rest;
-      more = overflow_words rows;
-      has = has_row k n w row rest few (omega arith) each.0;
-      among = each.0;
-      behind = omega arith;
-      list = rw nothing refl;
-      long = omega (arith, length-append (row_bytes w row) rest, length-row_bytes k n w row each.0);
-    })
-rows_found k n m w (row ∷ rows) (suc r) tail few few_words each fits lt =
-    let next = w + length (overflow_of row.parents) in
-    let rest = rows_bytes next rows ++ tail in
-    let words_len = length-append (overflow_of row.parents) (overflow_words rows) in
-    let step : row_len k * suc r ≡ row_len k + row_len k * r = grind arith in
-    let here : drop (row_len k * suc r) ((row_bytes w row ++ rows_bytes next rows) ++ tail) ≡ drop (row_len k * r) rest =
-    ap (drop (row_len k * suc r)) (append_assoc (row_bytes w row) (rows_bytes next rows) tail)
-    ∙ ap (λ (x : ℕ). drop x (row_bytes w row ++ rest)) step
-    ∙ sym (drop-drop (row_len k * r) (row_len k) (row_bytes w row ++ rest))
-    ∙ ap (drop (row_len k * r)) (drop_at (row_bytes w row) rest (row_len k) (length-row_bytes k n w row each.0)) in
-    let found = rows_found k n m next rows r tail few few_words each.1 (omega arith) (omega arith) in
-    let behind : w ≤ found.from = omega (arith, found.behind) in
-    let over : found.from - w ≡ length (overflow_of row.parents) + (found.from - next) = omega (arith, found.behind) in
-    let skipped : drop (found.from - w) (overflow_of row.parents ++ overflow_words rows) ≡ drop (found.from - next) (overflow_words rows) =
-    ap (λ (x : ℕ). drop x (overflow_of row.parents ++ overflow_words rows)) over
-    ∙ sym (drop-drop (found.from - next) (length (overflow_of row.parents)) (overflow_of row.parents ++ overflow_words rows))
-    ∙ ap (drop (found.from - next)) (drop_at (overflow_of row.parents) (overflow_words rows) (length (overflow_of row.parents)) refl) in
-    rw here (record {
-      from = found.from;
-      rest = found.rest;
-      more = found.more;
-      has = found.has;
-      among = found.among;
-      behind = behind;
-      list = skipped ∙ found.list;
-      long = found.long;
-    })
 
 -- where packed bytes are kept, the row of a number begins where it should
 pub begins_with_row : (bytes : List ℕ) (layout : Layout) (rows : List GraphRow) (r : ℕ) → IsPackedAs bytes layout rows → r < length rows
     → BeginsWithRow rows r (drop (12 + row_len layout.kind * r) bytes)
+unfolding rows_bytes
 begins_with_row bytes layout rows r kept lt =
     let k = kind_of_rows rows in
     let sound = kept.sound in
+    let each = All-from_recursion (IsRowAmong k (length rows)) rows sound.each in
     let tail = flat_map (to_be_bytes w32) (overflow_words rows) in
-    let body = spelling-has_body rows sound in
-    let here : drop (12 + row_len layout.kind * r) bytes ≡ drop (row_len k * r) (rows_bytes 0 rows ++ tail) =
-    ap (λ (x : Kind). drop (12 + row_len x * r) bytes) kept.head.kind ∙ ap (drop (12 + row_len k * r)) kept.spelled
-    ∙ sym (drop-drop (row_len k * r) 12 (spelling rows)) ∙ ap (drop (row_len k * r)) body.body_is in
-    let found = rows_found k (length rows) (length (overflow_words rows)) 0 rows r tail sound.few sound.few_words sound.each (omega arith) lt in
-    let at_from : found.from - 0 ≡ found.from = omega arith in
-    let list : drop found.from (overflow_words rows) ≡ overflow_of (row_at rows r).parents ++ found.more = ap (λ (x : ℕ). drop x (overflow_words rows)) (sym at_from) ∙ found.list in
-    let answers = answers_again (length rows) found.from (row_at rows r).parents (overflow_words rows) found.more sound.few found.among.parents list in
+    let row = row_at rows r in
+    let first = take r rows in
+    let others = drop (suc r) rows in
+    let from = 0 + length (overflow_words first) in
+    let rest = rows_bytes (from + length (overflow_of row.parents)) others ++ tail in
+    let split : first ++ row ∷ others ≡ rows = ap (λ (x : List GraphRow). first ++ x) (sym (drop-cons rows r no_row lt)) ∙ take-append-drop r rows in
+    let words : overflow_words rows ≡ overflow_words first ++ (overflow_of row.parents ++ overflow_words others) = ap overflow_words (sym split) ∙ flat_map-append (λ (x : GraphRow). overflow_of x.parents) first (row ∷ others) in
+    let list : drop from (overflow_words rows) ≡ overflow_of row.parents ++ overflow_words others = ap (drop from) words ∙ drop_at (overflow_words first) _ from (omega arith) in
+    let first_each = recursion_from_All (IsRowAmong k (length rows)) first (λ i d l. rw (get_or-take r rows i d (omega (arith, length-take r rows))) (each i d (omega (arith, length-take r rows)))) in
+    let first_len : length (rows_bytes 0 first) ≡ row_len k * r = length-rows_bytes k (length rows) 0 first first_each ∙ ap (λ (n : ℕ). row_len k * n) (length-take-le r rows (omega arith)) in
+    let at : drop (row_len k * r) (rows_bytes 0 rows ++ tail) ≡ row_bytes from row ++ rest =
+    ap (λ (x : List GraphRow). drop (row_len k * r) (rows_bytes 0 x ++ tail)) (sym split) ∙ ap (λ (x : List ℕ). drop (row_len k * r) (x ++ tail)) (rows_bytes-append 0 first (row ∷ others))
+    ∙ ap (drop (row_len k * r)) (simp append_assoc) ∙ drop_at (rows_bytes 0 first) (row_bytes from row ++ rest) (row_len k * r) first_len in
+    let here : drop (12 + row_len layout.kind * r) bytes ≡ row_bytes from row ++ rest =
+    (λ i. drop (12 + row_len (kept.head.kind i) * r) (kept.spelled i)) ∙ sym (drop-drop (row_len k * r) 12 (spelling rows)) ∙ ap (drop (row_len k * r)) (spelling-has_body rows sound).body_is ∙ at in
+    let among = each r no_row lt in
+    let few : from ≤ most = omega (arith, sound.few_words, ap length words, length-append (overflow_words first) (overflow_of row.parents ++ overflow_words others)) in
+    let has = has_row k (length rows) from row rest sound.few few among in
     rw here (record {
-      long = found.long;
-      id = found.has.id;
-      tree = found.has.tree;
-      generation = found.has.generation;
-      time = found.has.time;
-      among = found.among.parents;
-      parents = (λ i. answers_of_words (found.has.first i) (found.has.second i) (overflow_words rows)) ∙ answers;
+      long = omega (arith, length-append (row_bytes from row) rest, length-row_bytes k (length rows) from row among);
+      id = has.id;
+      tree = has.tree;
+      generation = has.generation;
+      time = has.time;
+      among = among.parents;
+      parents = (λ i. answers_of_words (has.first i) (has.second i) (overflow_words rows)) ∙ answers_again (length rows) from row.parents (overflow_words rows) (overflow_words others) sound.few among.parents list;
     })
-
-times_within : (a r n : ℕ) → r < n → a * r + a ≤ a * n
-times_within a r n lt = let product : a * (r + 1) ≤ a * n = grind arith in let one : a * (r + 1) ≡ a * r + a = grind arith in omega arith
 
 -- where the packed bytes of a graph hold its rows and overflow words
 pub row_within : (bytes : List ℕ) (layout : Layout) (rows : List GraphRow) (r : ℕ) → IsPackedAs bytes layout rows → r < length rows → 12 + row_len layout.kind * r + row_len layout.kind ≤ length bytes
@@ -142,7 +75,7 @@ row_within bytes layout rows r kept lt =
     let k = kind_of_rows rows in
     let body = spelling-has_body rows kept.sound in
     let rows_len = length-rows_bytes k (length rows) 0 rows kept.sound.each in
-    let within : row_len k * r + row_len k ≤ row_len k * length rows = times_within (row_len k) r (length rows) lt in
+    let within : row_len k * r + row_len k ≤ row_len k * length rows = grind arith in
     rw kept.head.kind (omega (arith, within, ap length kept.spelled, body.len, rows_len))
 
 pub words_kept : (bytes : List ℕ) (layout : Layout) (rows : List GraphRow) → IsPackedAs bytes layout rows

@@ -1,18 +1,9 @@
 -- The row of an id, among rows in the order of their ids.
-use Rattle.std.proofs.Common.{◌≡◌, ℕ, zero, suc, ◌+◌, ◌<◌, ◌≤◌, false, List, [], ◌∷◌, length, get_or, Some, None, refl, sym, ap, ◌∙◌, arith, inl, inr}
-use Rattle.std.specs.List.Sorted.{IsStrictlySortedBy}
-use Rattle.std.specs.Ordering.{is_eq, ordering_reverse}
-use Rattle.std.specs.declared.cmp.Ordering.{Ordering}
-use Rattle.std.specs.declared.cmp.Ordering.TheVariants.{Less, Equal, Greater}
+use Rattle.std.proofs.Common.{◌≡◌, ℕ, zero, suc, ◌+◌, ◌<◌, ◌≤◌, true, false, List, [], ◌∷◌, length, get_or, Some, None, refl, sym, ap, ◌∙◌, arith, is_lt, is_eq, Ordering, Less, Equal, Greater}
+use Rattle.gix_commitgraph.proofs.Common.{IsStrictlySortedBy, get_or-map, length-map, ObjectId, id_cmp, is_same, GraphRow, no_row, row_at, row_of, ids_of_rows, id_total}
+use Rattle.std.specs.Ordering.{ordering_reverse}
 use Rattle.std.specs.Cmp.{tied_back}
-use Rattle.std.proofs.lemmas.Bool.{cases_lt}
-use Rattle.std.proofs.lemmas.List.{get_or-map, length-map}
 use Rattle.std.proofs.lemmas.Map.Keys.{Less-from_sorted, sorted_tail}
-use Rattle.gix_hash.specs.declared.ObjectId.{ObjectId}
-use Rattle.gix_hash.specs.Id.{id_cmp, is_same}
-use Rattle.gix_commitgraph.specs.Rows.{GraphRow, no_row, row_at, row_of}
-use Rattle.gix_commitgraph.specs.Packed.{ids_of_rows}
-use Rattle.gix_hash.proofs.Ids.Membership.{id_total}
 
 id_at : (rows : List GraphRow) (r : ℕ) → r < length rows → get_or (ids_of_rows rows) r no_row.id ≡ (row_at rows r).id
 id_at rows r lt = get_or-map (λ row. row.id) rows r no_row no_row.id lt
@@ -22,23 +13,21 @@ rises rows r s rising lt within =
     let less = Less-from_sorted id_cmp (ids_of_rows rows) r s no_row.id rising lt (omega (arith, length-map rows (λ (row : GraphRow). row.id))) in
     (λ i. id_cmp (sym (id_at rows r (omega arith)) i) (sym (id_at rows s within) i)) ∙ less
 
-turned : (a b : ObjectId) (o : Ordering) → id_cmp a b ≡ o → id_cmp b a ≡ ordering_reverse o
+pub is_Less : (o : Ordering) → is_lt o ≡ true → o ≡ Less
+is_Less Less e = refl
+is_Less Equal e = absurd cc
+is_Less Greater e = absurd cc
+
+pub turned : (a b : ObjectId) (o : Ordering) → id_cmp a b ≡ o → id_cmp b a ≡ ordering_reverse o
 turned a b o e = id_total.antisymm b a ∙ ap ordering_reverse e
 
 module _ (rows : List GraphRow) (rising : IsStrictlySortedBy id_cmp (ids_of_rows rows)) (i : ObjectId) (middle : ℕ) (within : middle < length rows) where
   pub lower_more : id_cmp (row_at rows middle).id i ≡ Less → (r : ℕ) → r < middle + 1 → id_cmp (row_at rows r).id i ≡ Less
-  lower_more e r lt =
-      elim (cases_lt r middle) [
-        | inl below ↦ id_total.trans (row_at rows r).id (row_at rows middle).id i (rises rows r middle rising below within) e
-        | inr le ↦ (let same : r ≡ middle = omega arith in ap (λ (n : ℕ). id_cmp (row_at rows n).id i) same ∙ e)
-      ]
+  lower_more e r lt = grind (arith, e, rises rows r middle rising, id_total.trans (row_at rows r).id (row_at rows middle).id i)
 
   pub higher_more : id_cmp (row_at rows middle).id i ≡ Greater → (r : ℕ) → middle ≤ r → r < length rows → id_cmp (row_at rows r).id i ≡ Greater
   higher_more e r le lt =
-      elim (cases_lt middle r) [
-        | inl above ↦ turned i (row_at rows r).id Less (id_total.trans i (row_at rows middle).id (row_at rows r).id (turned (row_at rows middle).id i Greater e) (rises rows middle r rising above lt))
-        | inr ge ↦ (let same : r ≡ middle = omega arith in ap (λ (n : ℕ). id_cmp (row_at rows n).id i) same ∙ e)
-      ]
+      grind (arith, e, turned (row_at rows middle).id i Greater, rises rows middle r rising, id_total.trans i (row_at rows middle).id (row_at rows r).id, turned i (row_at rows r).id Less)
 
 pub row_of-found : (rows : List GraphRow) (i : ObjectId) (r : ℕ) → IsStrictlySortedBy id_cmp (ids_of_rows rows) → r < length rows → id_cmp (row_at rows r).id i ≡ Equal → row_of rows i ≡ Some (row_at rows r)
 row_of-found [] i r rising lt e = absurd (omega arith)

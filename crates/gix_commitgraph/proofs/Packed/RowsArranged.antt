@@ -1,15 +1,10 @@
 -- Rows in another order, taken one after the other.
-use Rattle.std.proofs.Common.{◌≡◌, ℕ, suc, ◌+◌, ◌<◌, ◌≤◌, List, [], ◌∷◌, ◌++◌, length, map, get_or, take, drop, refl, sym, ap, subst, ◌∙◌, append_assoc, arith}
-use Rattle.std.specs.Prelude.{slice_index}
-use Rattle.std.specs.List.{AllByRecursion}
-use Rattle.std.proofs.lemmas.List.{append-nil, length-append, length-map, take_more, map_push, map-append, take-append-drop, get_or-map}
-use Rattle.std.proofs.lemmas.List.Concat.{flat_map-append}
-use Rattle.gix_commitgraph.specs.declared.ParentPlace.{ParentPlace}
-use Rattle.gix_commitgraph.specs.declared.Row.{Row}
-use Rattle.gix_commitgraph.specs.Rows.{GraphRow, no_row, row_at}
-use Rattle.gix_commitgraph.specs.Packed.{most, list_words, overflow_of, row_bytes, rows_bytes, overflow_words, IsPlaceAmong}
-use Rattle.gix_commitgraph.specs.Renumbering.{row_seen, rows_seen, Entry, moved, renumbered, arranged, CanArrange}
-use Rattle.gix_commitgraph.proofs.Packed.HandedRows.{read_places}
+use Rattle.std.proofs.Common.{◌≡◌, ℕ, ◌+◌, ◌<◌, ◌≤◌, List, [], ◌∷◌, ◌++◌, length, map, get_or, take, refl, sym, ap, subst, ◌∙◌, arith, slice_index, append-nil}
+use Rattle.gix_commitgraph.proofs.Common.{AllByRecursion, length-map, take_more, map_push, ParentPlace, Row, GraphRow, row_at, most, overflow_of, row_bytes, overflow_words, IsPlaceAmong, row_seen, rows_seen, Entry, moved, renumbered}
+use Rattle.gix_commitgraph.proofs.Common.{arranged, CanArrange}
+use Rattle.gix_commitgraph.specs.Packed.{rows_bytes}
+use Rattle.gix_commitgraph.proofs.Packed.HandedRows.{read_seen, read_places, length-list_words, words_of_more, words_of_part}
+use Rattle.gix_commitgraph.proofs.Packed.Whole.{rows_bytes-append}
 
 -- the row of an entry, by its new number's words
 abbrev pub arranged_row : List GraphRow → List ℕ → Entry → GraphRow
@@ -17,49 +12,14 @@ arranged_row rows numbers entry = renumbered (slice_index numbers) (row_at rows 
 
 pub rows_bytes-push : (w : ℕ) (rows : List GraphRow) (row : GraphRow) → rows_bytes w (rows ++ row ∷ []) ≡ rows_bytes w rows ++ row_bytes (w + length (overflow_words rows)) row
 unfolding rows_bytes
-rows_bytes-push w [] row = let same : w ≡ w + 0 = omega arith in append-nil (row_bytes w row) ∙ ap (λ (n : ℕ). row_bytes n row) same
-rows_bytes-push w (r ∷ rows) row =
-    let next = w + length (overflow_of r.parents) in
-    let same : next + length (overflow_words rows) ≡ w + length (overflow_of r.parents ++ overflow_words rows) = omega (arith, length-append (overflow_of r.parents) (overflow_words rows)) in
-    ap (λ (x : List ℕ). row_bytes w r ++ x) (rows_bytes-push next rows row ∙ ap (λ (n : ℕ). rows_bytes next rows ++ row_bytes n row) same)
-    ∙ sym (append_assoc (row_bytes w r) (rows_bytes next rows) (row_bytes (w + length (overflow_of r.parents ++ overflow_words rows)) row))
-
-pub overflow_words-push : (rows : List GraphRow) (row : GraphRow) → overflow_words (rows ++ row ∷ []) ≡ overflow_words rows ++ overflow_of row.parents
-overflow_words-push rows row = flat_map-append (λ (x : GraphRow). overflow_of x.parents) rows (row ∷ []) ∙ ap (λ (x : List ℕ). overflow_words rows ++ x) (append-nil (overflow_of row.parents))
-
-pub All-push : {X : Type 0} (P : X → Type 0) (xs : List X) (x : X) → AllByRecursion P xs → P x → AllByRecursion P (xs ++ x ∷ [])
-All-push P [] x all here = (here, tt)
-All-push P (y ∷ xs) x all here = (all.0, All-push P xs x all.1 here)
-
--- a row that was read from the list that was handed in
-pub read_seen : (rows : List Row) (place : ℕ) (row : Row) → place < length rows → row ≡ get_or rows place row → row_seen row ≡ row_at (rows_seen rows) place
-read_seen rows place row lt is = ap row_seen is ∙ sym (get_or-map row_seen rows place row no_row lt)
-
-module _ (rows : List Row) (order : List Entry) (numbers : List ℕ) (i : ℕ) (e : Entry) (row : Row) (lt : i < length order) (within : (get_or order i e).1 < length rows) (is : row ≡ get_or rows (get_or order i e).1 row) where
-  pub arranged_more : arranged (rows_seen rows) (take (i + 1) order) numbers ≡ arranged (rows_seen rows) (take i order) numbers ++ renumbered (slice_index numbers) (row_seen row) ∷ []
-  arranged_more =
-      ap (λ (x : List Entry). arranged (rows_seen rows) x numbers) (take_more order i e lt) ∙ map_push (arranged_row (rows_seen rows) numbers) (take i order) (get_or order i e)
-      ∙ ap (λ (x : GraphRow). arranged (rows_seen rows) (take i order) numbers ++ renumbered (slice_index numbers) x ∷ []) (sym (read_seen rows (get_or order i e).1 row within is))
-
-length-list_words : (p : ParentPlace) (ps : List ParentPlace) (number : ℕ → ℕ) → length (list_words (moved number p) (map (moved number) ps)) ≡ length (list_words p ps)
-length-list_words p [] number = refl
-length-list_words p (q ∷ ps) number = ap suc (length-list_words q ps number)
+rows_bytes-push w rows row = rows_bytes-append w rows (row ∷ []) ∙ ap (λ (x : List ℕ). rows_bytes w rows ++ x) (append-nil (row_bytes (w + length (overflow_words rows)) row))
 
 -- new numbers change no lengths
 pub length-overflow_of-moved : (ps : List ParentPlace) (number : ℕ → ℕ) → length (overflow_of (map (moved number) ps)) ≡ length (overflow_of ps)
 length-overflow_of-moved [] number = refl
 length-overflow_of-moved (p ∷ []) number = refl
 length-overflow_of-moved (p ∷ q ∷ []) number = refl
-length-overflow_of-moved (p ∷ q ∷ r ∷ ps) number = length-list_words q (r ∷ ps) number
-
--- the first entries' rows have no more overflow words than all
-pub words_of_first : (rows : List GraphRow) (order : List Entry) (numbers : List ℕ) (i : ℕ) → length (overflow_words (arranged rows (take i order) numbers)) ≤ length (overflow_words (arranged rows order numbers))
-words_of_first rows order numbers i =
-    let first = arranged rows (take i order) numbers in
-    let others = arranged rows (drop i order) numbers in
-    let whole : overflow_words (arranged rows order numbers) ≡ overflow_words first ++ overflow_words others =
-    ap (λ (x : List Entry). overflow_words (arranged rows x numbers)) (sym (take-append-drop i order)) ∙ ap overflow_words (map-append (arranged_row rows numbers) (take i order) (drop i order)) ∙ flat_map-append (λ (x : GraphRow). overflow_of x.parents) first others in
-    omega (arith, ap length whole, length-append (overflow_words first) (overflow_words others))
+length-overflow_of-moved (p ∷ q ∷ r ∷ ps) number = length-list_words (moved number q) (map (moved number) (r ∷ ps)) ∙ omega (arith, length-map ps (moved number), length-list_words q (r ∷ ps))
 
 -- what is known of the row of an entry, as it was read
 pub record ReadsEntry (rows : List Row) (order : List Entry) (numbers : List ℕ) (i : ℕ) (row : Row) : Type 0 where
@@ -74,15 +34,16 @@ reads_entry rows order numbers i e row can lt is =
     let seen_len = length-map rows row_seen in
     let within : (get_or order i e).1 < length rows = omega (arith, can.places.below i e lt, seen_len) in
     let len : length rows ≡ length numbers = omega (arith, can.len, seen_len) in
-    let more = arranged_more rows order numbers i e row lt within is in
     let first = arranged (rows_seen rows) (take i order) numbers in
-    let moved_parents = map (moved (slice_index numbers)) row.parents.items in
+    let seen : row_at (rows_seen rows) (get_or order i e).1 ≡ row_seen row = sym (read_seen rows (get_or order i e).1 row within is) in
     let words : length (overflow_words (arranged (rows_seen rows) (take (i + 1) order) numbers)) ≡ length (overflow_words first) + length (overflow_of row.parents.items) =
-    ap (λ (x : List GraphRow). length (overflow_words x)) more ∙ ap length (overflow_words-push first (renumbered (slice_index numbers) (row_seen row))) ∙ length-append (overflow_words first) (overflow_of moved_parents)
+    words_of_more (arranged_row (rows_seen rows) numbers) order i e lt
+    ∙ ap (λ (x : GraphRow). length (overflow_words first) + length (overflow_of (renumbered (slice_index numbers) x).parents)) seen
     ∙ ap (λ (n : ℕ). length (overflow_words first) + n) (length-overflow_of-moved row.parents.items (slice_index numbers)) in
     record {
       among = subst (λ (n : ℕ). AllByRecursion (IsPlaceAmong n) row.parents.items) len (read_places rows (get_or order i e).1 row can.within within is);
-      more = more;
+      more = ap (λ (x : List Entry). arranged (rows_seen rows) x numbers) (take_more order i e lt) ∙ map_push (arranged_row (rows_seen rows) numbers) (take i order) (get_or order i e)
+          ∙ ap (λ (x : GraphRow). first ++ renumbered (slice_index numbers) x ∷ []) seen;
       words = words;
-      few = omega (arith, words, words_of_first (rows_seen rows) order numbers (i + 1), can.few_words);
+      few = omega (arith, words, words_of_part (arranged_row (rows_seen rows) numbers) order (i + 1), can.few_words);
     }

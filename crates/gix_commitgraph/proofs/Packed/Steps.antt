@@ -1,17 +1,9 @@
 -- One row after the other is read.
-use Rattle.std.proofs.Common.{◌≡◌, ℕ, ◌+◌, ◌-◌, ◌*◌, ◌/◌, true, false, List, [], ◌∷◌, length, drop, Option, Some, None, Result, Ok, Err, refl, sym, ap, ◌∙◌, arith, add-one, rules}
-use Rattle.std.proofs.lemmas.Bool.{ne_eqb}
-use Rattle.std.specs.Option.{option_map}
-use Rattle.std.specs.Result.{IsOk}
-use Rattle.std.proofs.lemmas.List.{drop-drop}
-use Rattle.gix_hash.specs.declared.Kind.{Kind}
-use Rattle.gix_hash.specs.declared.ObjectId.{ObjectId}
-use Rattle.gix_commitgraph.specs.declared.Place.{Place}
+use Rattle.std.proofs.Common.{◌≡◌, ℕ, ◌+◌, ◌-◌, ◌*◌, ◌/◌, true, false, List, [], ◌∷◌, length, drop, Option, Some, None, Result, Ok, Err, refl, sym, ap, ◌∙◌, arith, add-one, rules, ne_eqb, IsOk, drop-drop}
+use Rattle.gix_commitgraph.proofs.Common.{Kind, ObjectId, Place, Layout, GraphRow, Places, words_of, read_packed, rows_in, row_len, id_field, first_field, second_field, parents_at, is_above, with_row, row_then, faults, IsLaidOut}
+use Rattle.gix_commitgraph.proofs.Common.{rows_left}
 use Rattle.gix_commitgraph.specs.declared.Place.TheVariants as place
-use Rattle.gix_commitgraph.specs.declared.check.Layout.{Layout}
-use Rattle.gix_commitgraph.specs.Rows.{GraphRow}
-use Rattle.gix_commitgraph.specs.PackedReading.{Places, words_of, read_packed, rows_in, row_len, id_field, first_field, second_field, parents_at, is_above, with_row, row_then, rows_at}
-use Rattle.gix_commitgraph.specs.PackedLayout.{faults, IsLaidOut, rows_left}
+use Rattle.gix_commitgraph.specs.PackedReading.{rows_at}
 use Rattle.gix_commitgraph.proofs.Packed.Parents.{behind}
 
 faults-with_row : (row : GraphRow) (read : Result (List GraphRow) Place) → faults (with_row row read) ≡ faults read
@@ -21,9 +13,7 @@ faults-with_row row (Err p) = refl
 faults-row_then : (k : Kind) (r : ℕ) (bytes : List ℕ) (parents : Option Places) (more : List ℕ → Result (List GraphRow) Place) (rest : List ℕ)
     → behind parents ≡ Some rest → faults (row_then k r bytes parents more) ≡ faults (more rest)
 faults-row_then k r bytes None more rest e = absurd cc
-faults-row_then k r bytes (Some p) more rest e =
-    let same : p.1 ≡ rest = cc in
-    faults-with_row _ (more p.1) ∙ ap (λ (ws : List ℕ). faults (more ws)) same
+faults-row_then k r bytes (Some p) more rest e = let same : p.1 ≡ rest = cc in rw (faults-with_row _ (more p.1), same) refl
 
 faults-row_broken : (k : Kind) (r : ℕ) (bytes : List ℕ) (parents : Option Places) (more : List ℕ → Result (List GraphRow) Place)
     → behind parents ≡ None → faults (row_then k r bytes parents more) ≡ Some (place.Parents r)
@@ -58,14 +48,11 @@ length-words_of (a ∷ b ∷ c ∷ []) = omega arith
 length-words_of (a ∷ b ∷ c ∷ d ∷ bytes) = omega (arith, length-words_of bytes)
 
 -- what the parent words and the overflow words that are left give, by the values that were read
-pub behind-read : (k : Kind) (n m : ℕ) (bytes words : List ℕ) (next first second : ℕ) (left : Option (List ℕ))
-    → next ≡ m - length words → first ≡ first_field k bytes → second ≡ second_field k bytes
-    → left ≡ behind (parents_at n next first second words)
-    → behind (parents_at n (m - length words) (first_field k bytes) (second_field k bytes) words) ≡ left
-behind-read k n m bytes words next first second left a b c e = sym (e ∙ rw (a, b, c) refl)
-
-pub option_map_at : {A B : Type 0} (f : A → B) (o p : Option A) → o ≡ p → option_map f o ≡ option_map f p
-option_map_at f o p e = ap (option_map f) e
+pub behind-read : (k : Kind) (n m : ℕ) (bytes more : List ℕ) (next first second : ℕ) (left : Option (List ℕ))
+    → next ≡ m - length more / 4 → first ≡ first_field k bytes → second ≡ second_field k bytes
+    → left ≡ behind (parents_at n next first second (words_of more))
+    → behind (parents_at n (m - length (words_of more)) (first_field k bytes) (second_field k bytes) (words_of more)) ≡ left
+behind-read k n m bytes more next first second left a b c e = sym (e ∙ rw (a, b, c, length-words_of more) refl)
 
 module _ (k : Kind) (n m left r : ℕ) (before : Option ObjectId) (bytes words : List ℕ) where
   -- no row is left

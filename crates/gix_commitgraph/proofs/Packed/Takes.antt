@@ -1,11 +1,7 @@
 -- Parent words and overflow words that are read are the words of the places that were read.
-use Rattle.std.proofs.Common.{◌≡◌, ℕ, ◌+◌, ◌-◌, ◌<◌, ◌≤◌, Bool, true, false, cond, ltb, eqb, List, [], ◌∷◌, ◌++◌, Option, Some, None, refl, sym, ap, subst, ◌∙◌, arith, inl, inr, ◌⊎◌}
-use Rattle.std.specs.List.{AllByRecursion}
-use Rattle.std.proofs.lemmas.Bool.{ltb-true, ltb-false, eqb-true}
-use Rattle.gix_commitgraph.specs.declared.ParentPlace.{ParentPlace}
-use Rattle.gix_commitgraph.specs.declared.ParentPlace.TheVariants.{At, Fault}
-use Rattle.gix_commitgraph.specs.Packed.{most, fault_word, no_parent, flag, place_word, list_words, overflow_of, first_word, second_word, IsPlaceAmong}
-use Rattle.gix_commitgraph.specs.PackedReading.{place_of, Places, with_place, list_at, long_list_at, second_at, parents_at}
+use Rattle.std.proofs.Common.{◌≡◌, ℕ, ◌+◌, ◌-◌, ◌<◌, ◌≤◌, Bool, true, false, cond, ltb, eqb, List, [], ◌∷◌, ◌++◌, Option, Some, None, refl, sym, ap, subst, ◌∙◌, arith, inl, inr, ◌⊎◌, ltb-true, ltb-false, eqb-true}
+use Rattle.gix_commitgraph.proofs.Common.{AllByRecursion, nat_tests, ParentPlace, At, Fault, most, no_parent, flag, place_word, list_words, overflow_of, first_word, second_word, IsPlaceAmong, place_of, Places, with_place, list_at}
+use Rattle.gix_commitgraph.proofs.Common.{long_list_at, second_at, parents_at}
 
 -- which way a test went
 pub chosen : {A : Type 0} (b : Bool) (x y z : A) → cond b x y ≡ z → ((b ≡ true) × (x ≡ z)) ⊎ ((b ≡ false) × (y ≡ z))
@@ -13,26 +9,24 @@ chosen true x y z e = inl (refl, e)
 chosen false x y z e = inr (refl, e)
 
 place_takes : (n word : ℕ) (p : ParentPlace) → place_of n word ≡ Some p → (place_word p ≡ word) × IsPlaceAmong n p
-place_takes n word p e =
-    elim (chosen (ltb word n) (Some (At word)) (cond (eqb word fault_word) (Some Fault) None) (Some p) e) [
-      | inl h ↦ (let same : At word ≡ p = cc in subst (λ q. (place_word q ≡ word) × IsPlaceAmong n q) same (refl, ltb-true word n h.0))
-      | inr h ↦ elim (chosen (eqb word fault_word) (Some Fault) None (Some p) h.1) [
-        | inl f ↦ (let same : Fault ≡ p = cc in subst (λ q. (place_word q ≡ word) × IsPlaceAmong n q) same (sym (eqb-true word fault_word f.0), tt))
-        | inr f ↦ absurd cc
-      ]
-    ]
+place_takes n word (At i) e = (grind (arith, nat_tests, e), grind (arith, nat_tests, e))
+place_takes n word Fault e = (grind (arith, nat_tests, e), tt)
 
-pub record TakesPlace (here : Option ParentPlace) (more : Option Places) (read : Places) : Type 0 where
-  pub place : ParentPlace
-  pub others : Places
-  pub here_is : here ≡ Some place
-  pub more_is : more ≡ Some others
-  pub read_is : read ≡ (place ∷ others.0, others.1)
+record TakesPlace (n word : ℕ) (more : Option Places) (read : Places) : Type 0 where
+  place : ParentPlace
+  others : Places
+  word_is : place_word place ≡ word
+  here_among : IsPlaceAmong n place
+  more_is : more ≡ Some others
+  read_is : read ≡ (place ∷ others.0, others.1)
 
-with_place_takes : (here : Option ParentPlace) (more : Option Places) (read : Places) → with_place here more ≡ Some read → TakesPlace here more read
-with_place_takes None more read e = absurd cc
-with_place_takes (Some p) None read e = absurd cc
-with_place_takes (Some p) (Some others) read e = record { place = p; others = others; here_is = refl; more_is = refl; read_is = cc }
+with_place_takes : (n word : ℕ) (more : Option Places) (read : Places) → with_place (place_of n word) more ≡ Some read → TakesPlace n word more read
+with_place_takes n word more read = go (place_of n word) more refl
+  where
+    go : (here : Option ParentPlace) (more : Option Places) → place_of n word ≡ here → with_place here more ≡ Some read → TakesPlace n word more read
+    go None more is e = absurd cc
+    go (Some p) None is e = absurd cc
+    go (Some p) (Some others) is e = let here = place_takes n word p is in record { place = p; others = others; word_is = here.0; here_among = here.1; more_is = refl; read_is = cc }
 
 record TakesList (n : ℕ) (words : List ℕ) (read : Places) : Type 0 where
   first : ParentPlace
@@ -47,29 +41,27 @@ list_takes n [] read e = absurd cc
 list_takes n (word ∷ words) read e =
     elim (chosen (ltb word flag) (with_place (place_of n word) (list_at n words)) (with_place (place_of n (word - flag)) (Some ([], words))) (Some read) e) [
       | inl h ↦ (
-          let t = with_place_takes (place_of n word) (list_at n words) read h.1 in
-          let here = place_takes n word t.place t.here_is in
+          let t = with_place_takes n word (list_at n words) read h.1 in
           let l = list_takes n words t.others t.more_is in
           record {
             first = t.place;
             others = l.first ∷ l.others;
             read_is = ap (λ (x : Places). x.0) t.read_is ∙ ap (λ (ps : List ParentPlace). t.place ∷ ps) l.read_is;
-            words_is = ap (λ (ws : List ℕ). word ∷ ws) l.words_is ∙ ap (λ (w : ℕ). w ∷ (list_words l.first l.others ++ t.others.1)) (sym here.0) ∙ ap (λ (x : Places). place_word t.place ∷ (list_words l.first l.others ++ x.1)) (sym t.read_is);
-            first_among = here.1;
+            words_is = (λ i. sym t.word_is i ∷ l.words_is i) ∙ ap (λ (x : Places). place_word t.place ∷ (list_words l.first l.others ++ x.1)) (sym t.read_is);
+            first_among = t.here_among;
             others_among = (l.first_among, l.others_among);
           })
       | inr h ↦ (
-          let t = with_place_takes (place_of n (word - flag)) (Some ([], words)) read h.1 in
-          let here = place_takes n (word - flag) t.place t.here_is in
+          let t = with_place_takes n (word - flag) (Some ([], words)) read h.1 in
           let ge : flag ≤ word = ltb-false word flag h.0 in
-          let word_is : word ≡ flag + place_word t.place = omega (arith, here.0) in
+          let word_is : word ≡ flag + place_word t.place = omega (arith, t.word_is) in
           let none : t.others ≡ ([], words) = cc t.more_is in
           record {
             first = t.place;
             others = [];
             read_is = ap (λ (x : Places). x.0) t.read_is ∙ ap (λ (x : Places). t.place ∷ x.0) none;
             words_is = ap (λ (w : ℕ). w ∷ words) word_is ∙ ap (λ (x : Places). (flag + place_word t.place) ∷ x.1) (sym none) ∙ ap (λ (x : Places). (flag + place_word t.place) ∷ x.1) (sym t.read_is);
-            first_among = here.1;
+            first_among = t.here_among;
             others_among = tt;
           })
     ]
@@ -84,21 +76,18 @@ long_list_takes : (n k : ℕ) (words : List ℕ) (first : ParentPlace) (read : P
 long_list_takes n k [] first read few e = absurd cc
 long_list_takes n k (word ∷ words) first read few e =
     elim (chosen (ltb word flag) (list_at n (word ∷ words)) None (Some read) e) [
-      | inl h ↦ by_list (list_takes n (word ∷ words) read h.1) (ltb-true word flag h.0)
+      | inl h ↦ (let l = list_takes n (word ∷ words) read h.1 in go l.first l.others l.read_is l.words_is (ltb-true word flag h.0) l.first_among l.others_among)
       | inr h ↦ absurd cc
     ]
   where
-    go : (p : ParentPlace) (ps : List ParentPlace) (word : ℕ) (words : List ℕ) (read : Places) → read.0 ≡ p ∷ ps → word ∷ words ≡ list_words p ps ++ read.1 → word < flag → IsPlaceAmong n p → AllByRecursion (IsPlaceAmong n) ps → TakesSecond n k (flag + k) (word ∷ words) first read
-    go p [] word words read e words_is lt here all = let head : word ≡ flag + place_word p = cc in absurd (omega arith)
-    go p (q ∷ ps) word words read e words_is lt here all =
+    go : (p : ParentPlace) (ps : List ParentPlace) → read.0 ≡ p ∷ ps → word ∷ words ≡ list_words p ps ++ read.1 → word < flag → IsPlaceAmong n p → AllByRecursion (IsPlaceAmong n) ps → TakesSecond n k (flag + k) (word ∷ words) first read
+    go p [] e words_is lt here all = let head : word ≡ flag + place_word p = cc in absurd (omega arith)
+    go p (q ∷ ps) e words_is lt here all =
         record {
           second_is = ap (λ (x : List ParentPlace). second_word k (first ∷ x)) (sym e);
           words_is = words_is ∙ ap (λ (x : List ParentPlace). overflow_of (first ∷ x) ++ read.1) (sym e);
           among = subst (AllByRecursion (IsPlaceAmong n)) (sym e) (here, all);
         }
-
-    by_list : TakesList n (word ∷ words) read → word < flag → TakesSecond n k (flag + k) (word ∷ words) first read
-    by_list l lt = go l.first l.others word words read l.read_is l.words_is lt l.first_among l.others_among
 
 second_takes : (n k second : ℕ) (words : List ℕ) (first : ParentPlace) (read : Places) → n ≤ most → second_at n k second words ≡ Some read → TakesSecond n k second words first read
 second_takes n k second words first read few e =
@@ -108,11 +97,9 @@ second_takes n k second words first read few e =
           subst (TakesSecond n k second words first) same (record { second_is = eqb-true second no_parent h.0; words_is = refl; among = tt }))
       | inr h ↦ elim (chosen (ltb second flag) (with_place (place_of n second) (Some ([], words))) (cond (eqb second (flag + k)) (long_list_at n words) None) (Some read) h.1) [
         | inl s ↦ (
-            let t = with_place_takes (place_of n second) (Some ([], words)) read s.1 in
-            let here = place_takes n second t.place t.here_is in
-            let none : t.others ≡ ([], words) = cc t.more_is in
-            let same : (t.place ∷ [], words) ≡ read = ap (λ (x : Places). (t.place ∷ x.0, x.1)) (sym none) ∙ sym t.read_is in
-            subst (TakesSecond n k second words first) same (record { second_is = sym here.0; words_is = refl; among = (here.1, tt) }))
+            let t = with_place_takes n second (Some ([], words)) read s.1 in
+            let same : (t.place ∷ [], words) ≡ read = cc (t.more_is, t.read_is) in
+            subst (TakesSecond n k second words first) same (record { second_is = sym t.word_is; words_is = refl; among = (t.here_among, tt) }))
         | inr s ↦ elim (chosen (eqb second (flag + k)) (long_list_at n words) None (Some read) s.1) [
           | inl l ↦ subst (λ (x : ℕ). TakesSecond n k x words first read) (sym (eqb-true second (flag + k) l.0)) (long_list_takes n k words first read few l.1)
           | inr l ↦ absurd cc
@@ -137,8 +124,7 @@ parents_take n k first second words read few e =
         | inr s ↦ absurd cc
       ]
       | inr h ↦ (
-          let t = with_place_takes (place_of n first) (second_at n k second words) read h.1 in
-          let here = place_takes n first t.place t.here_is in
+          let t = with_place_takes n first (second_at n k second words) read h.1 in
           let s = second_takes n k second words t.place t.others few t.more_is in
-          subst (TakesParents n k first second words) (sym t.read_is) (record { first_is = sym here.0; second_is = s.second_is; words_is = s.words_is; among = (here.1, s.among) }))
+          subst (TakesParents n k first second words) (sym t.read_is) (record { first_is = sym t.word_is; second_is = s.second_is; words_is = s.words_is; among = (t.here_among, s.among) }))
     ]

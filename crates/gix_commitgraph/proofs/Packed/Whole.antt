@@ -1,20 +1,13 @@
 -- The parts of whole packed bytes, and that the spelling of rows is read as these rows.
-use Rattle.std.proofs.Common.{◌≡◌, ℕ, suc, ◌+◌, ◌*◌, ◌^◌, ◌<◌, ◌≤◌, true, false, cond, ltb, List, [], ◌∷◌, ◌++◌, length, drop, Some, None, Result, Ok, Err, refl, sym, ap, ◌∙◌, arith}
-use Rattle.std.specs.Int.{w32, to_be_bytes, from_be_bytes}
-use Rattle.std.specs.List.{flat_map, AllByRecursion}
-use Rattle.std.proofs.lemmas.Bool.{lt-ltb, le-ltb, le-leb, eq-eqb}
-use Rattle.std.proofs.lemmas.List.{drop_at, length-append}
+use Rattle.std.proofs.Common.{◌≡◌, ℕ, suc, ◌+◌, ◌*◌, ◌^◌, ◌<◌, ◌≤◌, true, false, cond, ltb, List, [], ◌∷◌, ◌++◌, length, drop, Some, None, Result, Ok, Err, refl, sym, ap, ◌∙◌, append_assoc, arith, w32, flat_map, lt-ltb, le-ltb, le-leb}
+use Rattle.std.proofs.Common.{eq-eqb, drop_at, length-append}
+use Rattle.gix_commitgraph.proofs.Common.{to_be_bytes, from_be_bytes, AllByRecursion, Kind, ParentPlace, Place, Layout, GraphRow, most, list_words, overflow_of, row_bytes, overflow_words, layout_name, kind_of_rows, IsPlaceAmong}
+use Rattle.gix_commitgraph.proofs.Common.{IsRowAmong, AreGraphRows, word_at, words_of, row_len, kind_named, may_have, is_sized, body_of, rows_at, rows_in, IsPackedAs}
 use Rattle.std.proofs.lemmas.Nat.{from_be_bytes-to_be_bytes_4}
-use Rattle.gix_hash.specs.declared.Kind.{Kind}
 use Rattle.gix_hash.specs.declared.Kind.TheVariants as kind
-use Rattle.gix_commitgraph.specs.declared.ParentPlace.{ParentPlace}
-use Rattle.gix_commitgraph.specs.declared.Place.{Place}
 use Rattle.gix_commitgraph.specs.declared.Place.TheVariants as place
-use Rattle.gix_commitgraph.specs.declared.check.Layout.{Layout}
-use Rattle.gix_commitgraph.specs.Rows.{GraphRow}
-use Rattle.gix_commitgraph.specs.Packed.{most, list_words, overflow_of, row_bytes, rows_bytes, overflow_words, layout_name, kind_of_rows, spelling, IsPlaceAmong, IsRowAmong, AreGraphRows}
-use Rattle.gix_commitgraph.specs.PackedReading.{word_at, words_of, row_len, kind_named, may_have, is_sized, body_of, rows_at, read_packed, rows_in}
-use Rattle.gix_commitgraph.specs.PackedLayout.{IsPackedAs}
+use Rattle.gix_commitgraph.specs.Packed.{rows_bytes, spelling}
+use Rattle.gix_commitgraph.specs.PackedReading.{read_packed}
 use Rattle.gix_commitgraph.proofs.Packed.Fields.{after_part, part_at, place_word-below, length-row_bytes}
 use Rattle.gix_commitgraph.proofs.Packed.ReadAgain.{rows_again, begins_none}
 
@@ -23,9 +16,9 @@ use Rattle.gix_commitgraph.proofs.Packed.ReadAgain.{rows_again, begins_none}
 abbrev pub AreWords : List ℕ → Type 0
 AreWords ws = AllByRecursion (λ w. w < 2 ^ 32) ws
 
-AreWords-append : (xs ys : List ℕ) → AreWords xs → AreWords ys → AreWords (xs ++ ys)
-AreWords-append [] ys p q = q
-AreWords-append (x ∷ xs) ys p q = (p.0, AreWords-append xs ys p.1 q)
+pub all_append : {X : Type 0} (P : X → Type 0) (xs ys : List X) → AllByRecursion P xs → AllByRecursion P ys → AllByRecursion P (xs ++ ys)
+all_append P [] ys p q = q
+all_append P (x ∷ xs) ys p q = (p.0, all_append P xs ys p.1 q)
 
 AreWords-list : (n : ℕ) (p : ParentPlace) (ps : List ParentPlace) → n ≤ most → IsPlaceAmong n p → AllByRecursion (IsPlaceAmong n) ps → AreWords (list_words p ps)
 AreWords-list n p [] few here all = (omega (arith, place_word-below n p few here), tt)
@@ -39,7 +32,7 @@ AreWords-overflow_of n (p ∷ q ∷ r ∷ ps) few all = AreWords-list n q (r ∷
 
 pub AreWords-overflow_words : (k : Kind) (n : ℕ) (rows : List GraphRow) → n ≤ most → AllByRecursion (IsRowAmong k n) rows → AreWords (overflow_words rows)
 AreWords-overflow_words k n [] few each = tt
-AreWords-overflow_words k n (row ∷ rows) few each = AreWords-append (overflow_of row.parents) (overflow_words rows) (AreWords-overflow_of n row.parents few each.0.parents) (AreWords-overflow_words k n rows few each.1)
+AreWords-overflow_words k n (row ∷ rows) few each = all_append (λ w. w < 2 ^ 32) (overflow_of row.parents) (overflow_words rows) (AreWords-overflow_of n row.parents few each.0.parents) (AreWords-overflow_words k n rows few each.1)
 
 -- the words that bytes of four to a word say
 pub words_of-bytes : (ws : List ℕ) → AreWords ws → words_of (flat_map (to_be_bytes w32) ws) ≡ ws
@@ -58,6 +51,15 @@ length-rows_bytes k n w (row ∷ rows) each =
     let here = length-row_bytes k n w row each.0 in
     let both = length-append (row_bytes w row) (rows_bytes (w + length (overflow_of row.parents)) rows) in
     both ∙ rw (here, others) (grind arith)
+
+pub rows_bytes-append : (w : ℕ) (rows more : List GraphRow) → rows_bytes w (rows ++ more) ≡ rows_bytes w rows ++ rows_bytes (w + length (overflow_words rows)) more
+unfolding rows_bytes
+rows_bytes-append w [] more = let same : w ≡ w + 0 = omega arith in ap (λ (n : ℕ). rows_bytes n more) same
+rows_bytes-append w (r ∷ rows) more =
+    let next = w + length (overflow_of r.parents) in
+    let same : next + length (overflow_words rows) ≡ w + length (overflow_of r.parents ++ overflow_words rows) = omega (arith, length-append (overflow_of r.parents) (overflow_words rows)) in
+    ap (λ (x : List ℕ). row_bytes w r ++ x) (rows_bytes-append next rows more ∙ ap (λ (n : ℕ). rows_bytes next rows ++ rows_bytes n more) same)
+    ∙ sym (append_assoc (row_bytes w r) (rows_bytes next rows) (rows_bytes (w + length (overflow_of r.parents ++ overflow_words rows)) more))
 
 -- ---- the parts of whole bytes
 

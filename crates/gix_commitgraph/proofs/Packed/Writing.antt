@@ -1,7 +1,6 @@
 -- Rows written one after the other.
 use Rattle.std.proofs.Common.{◌≡◌, ℕ, List, [], ◌∷◌, ◌++◌, append_assoc}
-use Rattle.gix_commitgraph.specs.declared.ParentPlace.{ParentPlace}
-use Rattle.gix_commitgraph.specs.Packed.{list_words}
+use Rattle.gix_commitgraph.proofs.Common.{ParentPlace, list_words}
 
 pub six_appended : (o a b c d e f p q r s t u : List ℕ) → p ≡ o ++ a → q ≡ p ++ b → r ≡ q ++ c → s ≡ r ++ d → t ≡ s ++ e → u ≡ t ++ f → u ≡ o ++ (a ++ (b ++ (c ++ (d ++ (e ++ f)))))
 six_appended o a b c d e f p q r s t u p_is q_is r_is s_is t_is u_is = rw (u_is, t_is, s_is, r_is, q_is, p_is) (simp append_assoc)

@@ -1,5 +1,4 @@
-use Rattle.std.proofs.lemmas.Result.{err_from_is_err_and}
-use Rattle.gix_graph_file.specs.PackedParts.{seen}
+use Rattle.gix_graph_file.proofs.Common.{err_from_is_err_and, seen}
 use Rattle.gix_graph_file.proofs.SameFile.{parts-say, parts-refuse, parts-fault}
 use Rattle.gix_graph_file.proofs.graph_of.Goals as goal
 

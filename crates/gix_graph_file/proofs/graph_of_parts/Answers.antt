@@ -1,8 +1,5 @@
 use Rattle.std.proofs.Common.{List, Result, subst}
-use Rattle.gix_commitgraph.specs.Rows.{GraphRow}
-use Rattle.gix_commitgraph.specs.declared.GraphError.{GraphError}
-use Rattle.gix_graph_file.specs.FileRows.{rows_of}
-use Rattle.gix_graph_file.specs.PackedParts.{seen}
+use Rattle.gix_graph_file.proofs.Common.{GraphRow, GraphError, rows_of, seen}
 use Rattle.gix_graph_file.proofs.SameFile.{Opens, opens-parts}
 use Rattle.gix_graph_file.proofs.graph_of_parts.Goals as goal
 

@@ -1,7 +1,7 @@
 -- What sixteen lanes compute from sixteen bytes, lane by lane. What one lane computes is compared at each of the 256 bytes.
-use Rattle.std.specs.Prelude.{IsTrue, ◌↔◌, ◌||◌}
-use Rattle.std.proofs.Common.{◌≡◌, ℕ, zero, suc, ◌+◌, ◌-◌, ◌*◌, ◌/◌, ◌%◌, ◌^◌, ◌<◌, ◌≤◌, eqb, ltb, leb, cond, Bool, true, false, not, List, [], ◌∷◌, ◌++◌, map, length, get_or, Fits, w8, refl, sym, ap, ◌∙◌, arith}
-use Rattle.std.proofs.lemmas.Bool.{agree_below, agree_below_at, not-false, eq-eqb, eqb-true, ltb-true}
+use Rattle.std.proofs.Common.{IsTrue, ◌↔◌, ◌||◌, ◌≡◌, ℕ, zero, suc, ◌+◌, ◌-◌, ◌*◌, ◌/◌, ◌%◌, ◌^◌, ◌<◌, ◌≤◌, eqb, ltb, leb, cond, Bool, true, false, not, List, [], ◌∷◌, ◌++◌, map, length, get_or, Fits, w8, refl, sym, ap, ◌∙◌, arith}
+use Rattle.std.proofs.Common.{eq-eqb, eqb-true, ltb-true}
+use Rattle.std.proofs.lemmas.Bool.{agree_below, agree_below_at, not-false}
 use Rattle.std.proofs.lemmas.Simd.{map-map, mask_l-mod, length-chunk, get_or-chunk, none_from_empty_mask, zip2_of_maps}
 use Rattle.std.proofs.lemmas.List.{length-map, get_or-map, get_or_append_left}
 use lib.Lanes.{chunk, zip2, sel_l, mask_l, top}

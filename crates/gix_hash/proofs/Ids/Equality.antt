@@ -1,6 +1,5 @@
 -- The derived `==` of ids is true exactly where they are one.
-use Rattle.std.specs.Prelude.{◌≡◌}
-use Rattle.std.proofs.Common.{refl}
+use Rattle.std.proofs.Common.{◌≡◌, refl}
 use Rattle.std.specs.Cmp.Lexicographic.{texts_ties}
 use Rattle.gix_hash.specs.contracts.ObjectIdPartialEq.TheImpl.{eq-value}
 use Rattle.gix_hash.specs.declared.ObjectId.{ObjectId}

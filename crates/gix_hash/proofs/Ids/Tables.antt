@@ -1,7 +1,6 @@
 -- What a list of distinct ids says of the set of them, and a list of entries of the map of them.
 -- `E` is the test that the container uses: whether two ids are one.
-use Rattle.std.specs.Prelude.{◌≡◌, ◌+◌, Bool, true, false, cond, not, ◌&&◌, ◌||◌, List, [], ◌∷◌, length, Some, None, is_some, Result, Ok, Err, OnErr}
-use Rattle.std.proofs.Common.{refl, sym, ap, ◌∙◌, arith}
+use Rattle.std.proofs.Common.{◌≡◌, ◌+◌, Bool, true, false, cond, not, ◌&&◌, ◌||◌, List, [], ◌∷◌, length, Some, None, is_some, Result, Ok, Err, OnErr, refl, sym, ap, ◌∙◌, arith}
 use Rattle.std.specs.List.{list_any, AllByRecursion, IsDistinct}
 use Rattle.std.specs.FinSet as set
 use Rattle.std.specs.FinMap as map

@@ -1,5 +1,4 @@
-use Rattle.std.specs.Prelude.{Err, IfErr}
-use Rattle.std.proofs.Common.{◌∙◌, ap, sym, subst}
+use Rattle.std.proofs.Common.{Err, IfErr, ◌∙◌, ap, sym, subst}
 use Rattle.std.proofs.lemmas.Result.{err_from_is_err_and}
 use Rattle.gix_memory_commands.specs.Answers.{FailsOver}
 use Rattle.gix_memory_commands.proofs.WithoutMemory.{fails_for_memory}

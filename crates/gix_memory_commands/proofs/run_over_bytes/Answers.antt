@@ -1,5 +1,4 @@
-use Rattle.std.specs.Prelude.{Ok}
-use Rattle.std.proofs.Common.{sym, subst}
+use Rattle.std.proofs.Common.{Ok, sym, subst}
 use Rattle.gix_memory_commands.specs.Answers.{Answers, RunsOver, ran, failed, answer_to}
 use Rattle.gix_memory_commands.proofs.run_over_bytes.Goals as goal
 

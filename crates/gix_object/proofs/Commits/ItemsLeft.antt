@@ -1,7 +1,6 @@
 -- How the items that an iterator has left follow from what is at the front.
-use Rattle.std.specs.Prelude.{◌≡◌, [], ◌∷◌, length, Option, Some, None, Result, Ok, Err}
+use Rattle.std.proofs.Common.{◌≡◌, [], ◌∷◌, length, Option, Some, None, Result, Ok, Err, rules, sym, ap, ◌∙◌}
 use Rattle.std.specs.Iterator.{YieldsFirstBy, MakesProgress, item_count}
-use Rattle.std.proofs.Common.{rules, sym, ap, ◌∙◌}
 use Rattle.gix_object.specs.declared.decode.Error.{Error}
 use Rattle.gix_object.specs.declared.commit.CommitRefIter.{CommitRefIter}
 use Rattle.gix_object.specs.CommitItems.{Item, AtEnd, Found, Faulty, Ended, front, unfolded, items_from}

@@ -1,7 +1,6 @@
 -- The seconds of a signature: the bytes behind the last `>`, and the number that digits say.
-use Rattle.std.specs.Prelude.{ℕ, zero, suc, ◌==◌, Option, Some, ◌≡◌, ◌≤◌, ◌<◌, ◌+◌, ◌-◌, ◌*◌, Bool, true, false, List, [], ◌∷◌, length, drop, min}
-use Rattle.std.proofs.Common.{cond, refl, ap, inl, inr, ◌∙◌, arith, get_or}
-use Rattle.std.proofs.lemmas.Bool.{cases_lt, cond-true, cond-false, ne_eqb, eq-eqb}
+use Rattle.std.proofs.Common.{ℕ, zero, suc, ◌==◌, Option, Some, ◌≡◌, ◌≤◌, ◌<◌, ◌+◌, ◌-◌, ◌*◌, Bool, true, false, List, [], ◌∷◌, length, drop, min, cond, refl, ap, inl, inr, ◌∙◌, arith, get_or, ne_eqb, eq-eqb}
+use Rattle.std.proofs.lemmas.Bool.{cases_lt, cond-true, cond-false}
 use Rattle.std.proofs.lemmas.List.{at_drop_more, at_drop_all}
 use Rattle.std.specs.Char.{is_ascii_digit}
 use Rattle.gix_object.specs.CommitText.{behind_last, digits_from}

@@ -1,7 +1,7 @@
 -- Ends of lists of bytes.
-use Rattle.std.proofs.Common.{◌≡◌, ◌⊎◌, inl, inr, ℕ, ◌-◌, ◌<◌, ◌≤◌, List, length, drop, sym, ap, ◌∙◌, arith}
+use Rattle.std.proofs.Common.{◌≡◌, ◌⊎◌, inl, inr, ℕ, ◌-◌, ◌<◌, ◌≤◌, List, length, drop, sym, ap, ◌∙◌, arith, length-drop}
 use Rattle.std.proofs.lemmas.Bool.{cases_lt}
-use Rattle.std.proofs.lemmas.List.{length-drop, drop_all}
+use Rattle.std.proofs.lemmas.List.{drop_all}
 use Rattle.gix_object.specs.TreeRefIter.{IsEndOf}
 
 -- the bytes behind the first ones are an end

@@ -1,15 +1,12 @@
-use Rattle.std.proofs.Common.{[], refl, sym, ap, subst, ◌∙◌}
-use Rattle.std.proofs.lemmas.List.Elements.{Contains-append_left, Contains-append_right}
-use Rattle.std.specs.Prelude.{if◌then◌else◌}
-use Rattle.gix_object.specs.Object.{Objects}
-use Rattle.gix_paint.specs.Painting.{Paints}
-use Rattle.gix_paint.specs.Inside.Painter.{rows_in, graph_in_use, hidden_of}
-use Rattle.gix_revwalk.specs.Ids.{ids_of}
-use Rattle.gix_paint.proofs.MarksAreWhole.{IsBlank, safe_start, stands_start, started_start, ordered_start, paints}
+use Rattle.std.proofs.Common.{[], refl, sym, ap, subst, ◌∙◌, if◌then◌else◌}
+use Rattle.gix_paint.proofs.Common.{Contains-append_left, Contains-append_right, Objects, Paints, graph_in_use, hidden_of, ids_of}
+use Rattle.gix_paint.specs.Inside.Painter.{rows_in}
+use Rattle.gix_paint.proofs.MarksAreWhole.{IsBlank, safe_start, holds_start, paints}
 use Rattle.gix_paint.proofs.Faults.{start_fails, turn_fails}
 use Rattle.gix_paint.proofs.Ends.{turn_less}
-use Rattle.gix_paint.proofs.Order.{ordered_turn}
-use Rattle.gix_paint.proofs.Turn.{safe_turn, stands_turn}
+use Rattle.gix_paint.proofs.Order.{holds_turn}
+use Rattle.gix_paint.proofs.Turn.{turn_of, safe_turn}
+use Rattle.gix_paint.proofs.Meets.{fails_as}
 use Rattle.gix_paint.proofs.paint.Goals as goal
 
 pub loop-entry-init : goal.loop-entry-init
@@ -17,42 +14,41 @@ loop-entry-init g c =
     let blank : (history : Objects) → IsBlank g.F.Find.objects c.args.objects.now history (rows_in c.args.graph) (ids_of c.args.tips.now.items) c.args.hidden_tips.now _ = λ history. record { same_store = refl; graph = refl; marks = c.new-2.ensures; frontier = c.new-3.ensures; queue = c.new-4.ensures } in
     record {
       safe = safe_start g.F.Find.objects c.args.objects.now (g.F.Find.objects c.args.objects.now) (rows_in c.args.graph) (ids_of c.args.tips.now.items) c.args.hidden_tips.now (blank (g.F.Find.objects c.args.objects.now)) c.in_ok-meet_all.ensures.ok c.in_ok-show_all.ensures.ok;
-      holds = λ history known. (
-        stands_start g.F.Find.objects c.args.objects.now history (rows_in c.args.graph) (ids_of c.args.tips.now.items) c.args.hidden_tips.now (blank history) c.in_ok-meet_all.ensures.ok c.in_ok-show_all.ensures.ok,
-        started_start g.F.Find.objects c.args.objects.now history (rows_in c.args.graph) (ids_of c.args.tips.now.items) c.args.hidden_tips.now (blank history) c.in_ok-meet_all.ensures.ok c.in_ok-show_all.ensures.ok,
-        ordered_start g.F.Find.objects c.args.objects.now history (rows_in c.args.graph) (ids_of c.args.tips.now.items) c.args.hidden_tips.now (blank history) c.in_ok-meet_all.ensures.ok c.in_ok-show_all.ensures.ok,
-      );
+      holds = λ history known. holds_start g.F.Find.objects c.args.objects.now history (rows_in c.args.graph) (ids_of c.args.tips.now.items) c.args.hidden_tips.now (blank history) c.in_ok-meet_all.ensures.ok c.in_ok-show_all.ensures.ok;
     }
 
 pub loop-entry-preserved : goal.loop-entry-preserved
-loop-entry-preserved g c = record {
-  safe = safe_turn g.F.Find.objects c.args.objects.now (g.F.Find.objects c.args.objects.now) (rows_in c.args.graph) (ids_of c.args.tips.now.items) c.args.hidden_tips.now (c.in-Some.ensures.some.1.0, c.in-Some.entry) c.in-Some.ensures.some.1.1 c.loop-entry.invariant.safe c.in_ok-treat.ensures.ok;
-  holds = λ history known.
-      let k = c.loop-entry.invariant.holds history known in
-      let kept =
-      stands_turn g.F.Find.objects c.args.objects.now history (rows_in c.args.graph) (ids_of c.args.tips.now.items) c.args.hidden_tips.now (c.in-Some.ensures.some.1.0, c.in-Some.entry) c.in-Some.ensures.some.1.1 c.loop-entry.invariant.safe
-      known k.0 k.1 c.in-Some.ensures.some.0 c.in_ok-treat.ensures.ok
-      in
-      (kept.0, kept.1, ordered_turn g.F.Find.objects c.args.objects.now history (rows_in c.args.graph) (ids_of c.args.tips.now.items) c.args.hidden_tips.now known (c.in-Some.ensures.some.1.0, c.in-Some.entry) c.in-Some.ensures.some.1.1 c.loop-entry.invariant.safe k.0 k.1 k.2 c.in_ok-treat.ensures.ok);
-}
+loop-entry-preserved g c =
+    let turn = turn_of g.F.Find.objects (c.in-Some.ensures.some.1.0, c.in-Some.entry) c.in-Some.ensures.some.1.1 c.in_ok-treat.ensures.ok in
+    record {
+      safe = safe_turn g.F.Find.objects c.args.objects.now (g.F.Find.objects c.args.objects.now) (rows_in c.args.graph) (ids_of c.args.tips.now.items) c.args.hidden_tips.now (c.in-Some.ensures.some.1.0, c.in-Some.entry) c.in-Some.ensures.some.1.1 c.loop-entry.invariant.safe turn;
+      holds = λ history known.
+          holds_turn g.F.Find.objects c.args.objects.now history (rows_in c.args.graph) (ids_of c.args.tips.now.items) c.args.hidden_tips.now known (c.in-Some.ensures.some.1.0, c.in-Some.entry) c.in-Some.ensures.some.1.1
+          c.loop-entry.invariant.safe (c.loop-entry.invariant.holds history known) c.in-Some.ensures.some.0 turn;
+    }
 
 pub loop-entry-smaller : goal.loop-entry-smaller
-loop-entry-smaller g c = turn_less g.F.Find.objects c.args.objects.now (rows_in c.args.graph) (c.in-Some.ensures.some.1.0, c.in-Some.entry) c.in-Some.ensures.some.1.1 c.loop-entry.invariant.safe c.in_ok-treat.ensures.ok
+loop-entry-smaller g c =
+    turn_less g.F.Find.objects c.args.objects.now (rows_in c.args.graph) (c.in-Some.ensures.some.1.0, c.in-Some.entry) c.in-Some.ensures.some.1.1 c.loop-entry.invariant.safe
+    (turn_of g.F.Find.objects (c.in-Some.ensures.some.1.0, c.in-Some.entry) c.in-Some.ensures.some.1.1 c.in_ok-treat.ensures.ok)
 
 pub returns-in_err-meet_all-clause-fault : goal.returns-in_err-meet_all-clause-fault
 returns-in_err-meet_all-clause-fault g c =
-    start_fails g.F.Find.objects g.F.Find.faulty c.args.objects.now (rows_in c.args.graph) (ids_of c.args.tips.now.items) c.args.hidden_tips.now c.from_residual.result c.in_err-meet_all.field-0.0 c.args.hidden_tips.now c.args.objects.now (rows_in c.args.graph) refl refl
-    c.from_residual.ensures.1 (λ i h. Contains-append_right (ids_of c.args.tips.now.items) c.args.hidden_tips.now i h) c.in_err-meet_all.ensures.fault
+    fails_as _ c.from_residual.result c.from_residual.ensures.1
+    (start_fails g.F.Find.objects g.F.Find.faulty c.args.objects.now (rows_in c.args.graph) (ids_of c.args.tips.now.items) c.args.hidden_tips.now _ c.args.hidden_tips.now c.args.objects.now (rows_in c.args.graph) refl refl
+    (Contains-append_right (ids_of c.args.tips.now.items) c.args.hidden_tips.now) c.in_err-meet_all.ensures.fault)
 
 pub returns-in_err-show_all-clause-fault : goal.returns-in_err-show_all-clause-fault
 returns-in_err-show_all-clause-fault g c =
-    start_fails g.F.Find.objects g.F.Find.faulty c.args.objects.now (rows_in c.args.graph) (ids_of c.args.tips.now.items) c.args.hidden_tips.now c.from_residual-in_err-show_all.result c.in_err-show_all.field-0.0 (ids_of c.args.tips.now.items) c.meet_all.new.self.source.objects.now
-    (rows_in (graph_in_use c.meet_all.new.self.source)) (ap (λ o. o.now) c.in_ok-meet_all.ensures.ok.objects_stay) (ap rows_in c.in_ok-meet_all.ensures.ok.graph_stays) c.from_residual-in_err-show_all.ensures.1 (λ i h. Contains-append_left (ids_of c.args.tips.now.items) c.args.hidden_tips.now i h) c.in_err-show_all.ensures.fault
+    fails_as _ c.from_residual-in_err-show_all.result c.from_residual-in_err-show_all.ensures.1
+    (start_fails g.F.Find.objects g.F.Find.faulty c.args.objects.now (rows_in c.args.graph) (ids_of c.args.tips.now.items) c.args.hidden_tips.now _ (ids_of c.args.tips.now.items) c.meet_all.new.self.source.objects.now (rows_in (graph_in_use c.meet_all.new.self.source))
+    (ap (λ o. o.now) c.in_ok-meet_all.ensures.ok.objects_stay) (ap rows_in c.in_ok-meet_all.ensures.ok.graph_stays) (Contains-append_left (ids_of c.args.tips.now.items) c.args.hidden_tips.now) c.in_err-show_all.ensures.fault)
 
 pub returns-in_err-treat-clause-fault : goal.returns-in_err-treat-clause-fault
 returns-in_err-treat-clause-fault g c =
-    turn_fails g.F.Find.objects g.F.Find.faulty c.args.objects.now (rows_in c.args.graph) (ids_of c.args.tips.now.items) c.args.hidden_tips.now c.from_residual-in_err-treat.result c.in_err-treat.field-0.0 (c.in-Some.ensures.some.1.0, c.in-Some.entry) c.in-Some.ensures.some.1.1
-    c.loop-entry.invariant.safe c.in-Some.ensures.some.0 (λ history known. let k = c.loop-entry.invariant.holds history known in (k.0, k.1)) c.from_residual-in_err-treat.ensures.1 c.in_err-treat.ensures.fault
+    fails_as _ c.from_residual-in_err-treat.result c.from_residual-in_err-treat.ensures.1
+    (turn_fails g.F.Find.objects g.F.Find.faulty c.args.objects.now (rows_in c.args.graph) (ids_of c.args.tips.now.items) c.args.hidden_tips.now _ (c.in-Some.ensures.some.1.0, c.in-Some.entry) c.in-Some.ensures.some.1.1
+    c.loop-entry.invariant.safe c.in-Some.ensures.some.0 c.loop-entry.invariant.holds c.in_err-treat.ensures.fault)
 
 pub returns-clause-ok : goal.returns-clause-ok
 returns-clause-ok g c =

@@ -1,19 +1,14 @@
-use Rattle.gix_object.specs.Object.{Objects}
-use Rattle.gix_paint.specs.Inside.Painter.{rows_in, room}
-use Rattle.gix_paint.specs.Painting.{IsHistory}
-use Rattle.gix_revwalk.specs.Ids.{ids_of}
-use Rattle.gix_paint.proofs.Invariant.{nobody, IsSafe, Stands, IsStarted}
-use Rattle.gix_paint.proofs.Order.{IsOrdered}
+use Rattle.gix_paint.proofs.Common.{Objects, room, IsHistory, ids_of}
+use Rattle.gix_paint.specs.Inside.Painter.{rows_in}
+use Rattle.gix_paint.proofs.Invariant.{IsSafe}
+use Rattle.gix_paint.proofs.Order.{HoldsOf}
 use Rattle.gix_paint.proofs.Ends.{names}
 use Rattle.gix_paint.proofs.paint.Given as goal
 
 abbrev pub invariant-loop-entry : goal.invariant-loop-entry
 invariant-loop-entry g l = record {
   safe : IsSafe g.F.Find.objects l.fn.objects (rows_in l.fn.graph) l.painter;
-  holds : (history : Objects) → IsHistory (g.F.Find.objects l.fn.objects) (rows_in l.fn.graph) history
-      → Stands g.F.Find.objects l.fn.objects history (rows_in l.fn.graph) (ids_of l.fn.tips.items) l.fn.hidden_tips nobody l.painter
-      × IsStarted g.F.Find.objects l.fn.objects history (rows_in l.fn.graph) (ids_of l.fn.tips.items) l.fn.hidden_tips l.painter
-      × IsOrdered g.F.Find.objects l.fn.objects history (rows_in l.fn.graph) (ids_of l.fn.tips.items) l.fn.hidden_tips l.painter;
+  holds : (history : Objects) → IsHistory (g.F.Find.objects l.fn.objects) (rows_in l.fn.graph) history → HoldsOf g.F.Find.objects l.fn.objects history (rows_in l.fn.graph) (ids_of l.fn.tips.items) l.fn.hidden_tips l.painter;
 }
 
 abbrev pub decreases-loop-entry : goal.decreases-loop-entry

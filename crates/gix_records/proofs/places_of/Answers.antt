@@ -1,5 +1,5 @@
-use Rattle.std.proofs.Common.{◌≡◌, sym, ◌∙◌, ap, refl, arith, length, List, ℕ, [], ◌∷◌}
-use Rattle.std.proofs.lemmas.Bool.{eqb-true, eqb-false}
+use Rattle.std.proofs.Common.{◌≡◌, sym, ◌∙◌, ap, refl, arith, length, List, ℕ, [], ◌∷◌, eqb-true}
+use Rattle.std.proofs.lemmas.Bool.{eqb-false}
 use Rattle.std.proofs.lemmas.Result.{err_from_is_err_and}
 use Rattle.gix_object.proofs.MemoryStore.{empty_stored, within_empty, within_put}
 use Rattle.gix_records.specs.Records.{bad, stored}

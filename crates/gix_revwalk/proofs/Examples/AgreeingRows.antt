@@ -1,9 +1,6 @@
 -- A worked example of rows that agree with a store: commit 2 with the parent 1, in whose row the parent's place may be corrupt.
-use Rattle.std.specs.Prelude.{◌≡◌, pos, [], ◌∷◌, Some}
-use Rattle.std.proofs.Common.{refl, ap, arith}
-use Rattle.gix_commitgraph.specs.declared.ParentPlace.{ParentPlace}
-use Rattle.gix_commitgraph.specs.declared.ParentPlace.TheVariants.{At, Fault}
-use Rattle.gix_commitgraph.specs.Rows.{GraphRow}
+use Rattle.std.proofs.Common.{◌≡◌, pos, [], ◌∷◌, Some, refl, ap, arith}
+use Rattle.gix_revwalk.proofs.Common.{ParentPlace, At, Fault, GraphRow}
 use Rattle.gix_revwalk.specs.Agreeing.{PlaceAgrees}
 use Rattle.gix_revwalk.specs.Examples.{n}
 

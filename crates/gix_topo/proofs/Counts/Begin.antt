@@ -1,40 +1,14 @@
 -- What counting has found when it has begun.
-use Rattle.std.specs.Prelude.{◌≡◌, ◌≤◌, ◌<◌, ℕ, min, List, [], ◌∷◌, ◌++◌, Bool, true, false, ◌&&◌, cond, Some, None, Ok, Contains}
-use Rattle.std.proofs.Common.{refl, sym, ap, subst, ⊎_elim, ◌∙◌, arith}
-use Rattle.std.proofs.lemmas.Bool.{true≢false}
+use Rattle.std.proofs.Common.{◌≡◌, ◌≤◌, ◌<◌, ℕ, min, List, [], ◌∷◌, ◌++◌, Bool, true, false, Some, None, refl, sym, ap, subst, inl, inr, ⊎_elim, ◌∙◌, arith, true≢false}
 use Rattle.std.specs.FinMap as map
-use Rattle.gix_hash.specs.declared.ObjectId.{ObjectId}
-use Rattle.gix_hash.specs.Id.{is_same, kind_of}
-use Rattle.gix_object.specs.Object.{Objects}
-use Rattle.gix_commitgraph.specs.Rows.{GraphRow, row_of}
-use Rattle.gix_hash.proofs.Ids.Membership.{same_is, no_member, Contains-here}
-use Rattle.gix_revwalk.specs.declared.Info.{Info}
-use Rattle.gix_topo.specs.declared.Error.{Error}
-use Rattle.gix_topo.specs.declared.Sorting.{Sorting}
-use Rattle.gix_frontier.specs.declared.Side.{Side}
-use Rattle.gix_frontier.specs.declared.Side.TheVariants.{Tips, Ends}
-use Rattle.gix_frontier.specs.declared.Progress.TheVariants.{Done}
-use Rattle.gix_frontier.specs.Inside.Waiting.{Waiting}
-use Rattle.gix_topo.specs.declared.counting.Counting.{Counting}
-use Rattle.gix_revwalk.specs.Agreeing.{IsAgreeing}
-use Rattle.gix_topo.specs.Depth.{infinity, known_generation, least}
-use Rattle.gix_topo.specs.Inside.Exploring.{Explores, itself, further, IsSamePlan, IsRested, IsExploringFault}
-use Rattle.gix_frontier.specs.Inside.Frontier.{is_side, is_done, reached}
-use Rattle.gix_revwalk.specs.Reading.{rows_of, is_read}
-use Rattle.gix_topo.specs.Reading.{Reads, by_row, by_text}
-use Rattle.gix_topo.specs.Inside.Releasing.{plan_by, counted_by}
-use Rattle.gix_topo.specs.Inside.Searched.{IsCounted, IsBegun, IsExplored, next_by, starts_by}
-use Rattle.gix_hash.specs.Reach.{Reaches}
-use Rattle.gix_topo.specs.Inside.Starting.{HasBegun, MeetsAll}
-use Rattle.gix_topo.specs.Inside.Steady.{IsDone, HasCounted}
-use Rattle.gix_topo.specs.Walk.{IsFirstReady, IsBuildFault, IsCommitRead, IsCounting, IsReached}
+use Rattle.gix_topo.proofs.Common.{ObjectId, Objects, GraphRow, row_of, no_member, Error, Sorting, Side, Tips, Ends, Counting, IsAgreeing, infinity, known_generation, least, Explores, IsSamePlan, IsRested, IsExploringFault, rows_of}
+use Rattle.gix_topo.proofs.Common.{plan_by, counted_by, IsCounted, IsExplored, HasBegun, MeetsAll, IsDone, AreRead, HasCounted, IsFirstReady, IsBuildFault, IsCommitRead, IsCounting, IsReached}
 use Rattle.gix_topo.proofs.Counts.ExploreKeeps.{explores_keep, explores_made, explores_same, explores_still}
 use Rattle.gix_topo.proofs.Counts.Expanded.{counts_on, explores_read}
 use Rattle.gix_topo.proofs.Counts.AllDownToDepth.{exact_there}
-use Rattle.gix_topo.proofs.Reading.Faultless.{faultless}
-use Rattle.gix_topo.proofs.Counts.Frontier.{moved}
-use Rattle.gix_topo.proofs.Counts.MeetsStarts.{IsFresh, fresh_empty, fresh_on, fresh_counted, all_still, all_seen}
-use Rattle.gix_topo.proofs.Counts.Children.{follows_named}
+use Rattle.gix_topo.proofs.Reading.OnceRead.{once_known}
+use Rattle.gix_topo.proofs.Counts.MeetsParents.{no_members}
+use Rattle.gix_topo.proofs.Counts.MeetsStarts.{IsFresh, fresh_met, fresh_counted}
 use Rattle.gix_revwalk.proofs.Rows.{none_agree}
 use Rattle.gix_topo.proofs.Counts.Rest.{least_below}
 use Rattle.gix_topo.proofs.Counts.RowsDropped.{explores_dropped}
@@ -49,73 +23,17 @@ least-append rows depth (i ∷ ids) others = ap (min (known_generation rows i)) 
 unknown_generation : (rows : List GraphRow) (i : ObjectId) → rows ≡ [] → known_generation rows i ≡ infinity
 unknown_generation rows i e = ap (λ those. known_generation those i) e
 
--- without rows a commit that is read has no fault
-read_faultless : (objects : Objects) (faulty : ObjectId → Type 0) (rows : List GraphRow) (in_use : Bool) (i : ObjectId) (info : Info) (new : Bool) → rows ≡ [] → Reads objects faulty rows in_use i (Ok info) new → IsCommitRead objects i
-read_faultless objects faulty rows in_use i info new e (by_row (is_read h says) is) = let q : None ≡ Some says.row = sym (ap (λ those. row_of those i) e) ∙ says.there in cc
-read_faultless objects faulty rows in_use i info new e (by_text n t) = record { bytes = t.0; stored = t.1; faultless = faultless (kind_of i) t.0 t.2.1 }
-
 module _ {F : Type 0} (objects : F → Objects) (faulty : F → ObjectId → Type 0) where
-  -- without rows all that is done was read
-  done_read : {old new : Counting F} → rows_of old.reader.graph ≡ [] → ((side : Side) (i : ObjectId) → is_done (reached old.frontier.known side i) ≡ false) → Explores objects faulty old new → (side : Side) (i : ObjectId) → is_done (reached new.frontier.known side i) ≡ true → IsCommitRead (objects old.reader.find) i
-  done_read none undone itself side i d = absurd (true≢false (sym d ∙ undone side i))
-  done_read {old} none undone (further {mid = mid} {new = new} e p s) side i d =
-      go (λ k. done_read none undone e side i k) (is_same i s.entry.1.id) (is_side side s.entry.1.side) refl (sym (ap is_done (ap (λ those. reached those side i) s.finishes.known ∙ moved s.followed.known s.entry.1.id s.entry.1.side side Done i)) ∙ d)
-    where
-      same : IsSamePlan objects faulty old mid
-      same = explores_same objects faulty e
-
-      here : IsCommitRead (objects old.reader.find) s.entry.1.id
-      here = subst (λ x. IsCommitRead (objects x) s.entry.1.id) same.find (read_faultless (objects mid.reader.find) (faulty mid.reader.find) (rows_of mid.reader.graph) mid.reader.in_use s.entry.1.id s.reads.info new.reader.in_use (ap rows_of same.graph ∙ none) s.reads.reads)
-
-      before : is_done (reached s.followed.known side i) ≡ true → is_done (reached mid.frontier.known side i) ≡ true
-      before h = sym ((follows_named s.follows).done side i) ∙ h
-
-      go : (is_done (reached mid.frontier.known side i) ≡ true → IsCommitRead (objects old.reader.find) i) → (a b : Bool) → is_same i s.entry.1.id ≡ a → is_done (cond (a && b) Done (reached s.followed.known side i)) ≡ true → IsCommitRead (objects old.reader.find) i
-      go r true true q h = subst (IsCommitRead (objects old.reader.find)) (sym (same_is i s.entry.1.id q)) here
-      go r true false q h = r (before h)
-      go r false b q h = r (before h)
-
   -- both sides have met what they start from, and nothing is read
   pub record IsMet (tips ends : List ObjectId) (low : Counting F) : Type 0 where
     pub stands : low.reader.in_use ≡ true
     pub depth : low.depth ≡ least (rows_of low.reader.graph) infinity (tips ++ ends)
     pub expanded : low.expanded ≡ 0
     pub fresh : IsFresh (objects low.reader.find) (rows_of low.reader.graph) low.parents tips ends low.frontier
-    pub begun : (side : Side) → IsBegun tips ends side low.frontier
-
-  -- what a side meets, and what that leaves
-  pub record HasMet (side : Side) (ids : List ObjectId) (old new : Counting F) : Type 0 where
-    pub same : new ≡ record old { frontier = new.frontier }
-    pub meets : MeetsAll (rows_of old.reader.graph) side old.frontier ids new.frontier
 
   -- with the depth of these
   abbrev pub lower_by : Counting F → List ObjectId → Counting F
   lower_by c ids = record c { depth = least (rows_of c.reader.graph) c.depth ids }
-
-  -- what both sides meet changes nothing else
-  both_same : {tips ends : List ObjectId} {old first second : Counting F} → HasMet Tips tips old first → HasMet Ends ends first second → second ≡ record old { frontier = second.frontier }
-  both_same {second = second} a b = b.same ∙ (λ k. record (a.same k) { frontier = second.frontier })
-
-  pub both_met : (tips ends : List ObjectId) (old first second : Counting F) → old.reader.in_use ≡ true → old.depth ≡ infinity → old.expanded ≡ 0 → old.frontier.queue ≡ [] → old.frontier.known ≡ map.empty → HasMet Tips tips old first → HasMet Ends ends first second → IsMet tips ends (lower_by (lower_by second ends) tips)
-  both_met tips ends old first second stands depth expanded queue known a b = record {
-    stands = ap (λ c. c.reader.in_use) (both_same a b) ∙ stands;
-    depth = least-append (rows_of second.reader.graph) second.depth tips ends ∙ ap (λ d. least (rows_of second.reader.graph) d (tips ++ ends)) (ap (λ c. c.depth) (both_same a b) ∙ depth);
-    expanded = ap (λ c. c.expanded) (both_same a b) ∙ expanded;
-    fresh = subst (λ c. IsFresh (objects c.reader.find) (rows_of c.reader.graph) c.parents tips ends second.frontier) (sym (both_same a b)) fresh;
-    begun = begun;
-  }
-    where
-      more : MeetsAll (rows_of old.reader.graph) Ends first.frontier ends second.frontier
-      more = subst (λ r. MeetsAll (rows_of r.graph) Ends first.frontier ends second.frontier) (ap (λ c. c.reader) a.same) b.meets
-
-      fresh : IsFresh (objects old.reader.find) (rows_of old.reader.graph) old.parents tips ends second.frontier
-      fresh =
-          fresh_on (objects old.reader.find) (rows_of old.reader.graph) old.parents tips ends (λ i m. m) more
-          (fresh_on (objects old.reader.find) (rows_of old.reader.graph) old.parents tips ends (λ i m. m) a.meets (fresh_empty (objects old.reader.find) (rows_of old.reader.graph) old.parents tips ends old.frontier queue known))
-
-      begun : (side : Side) → IsBegun tips ends side second.frontier
-      begun Tips i m = all_still more Tips i (all_seen a.meets i m)
-      begun Ends i m = all_seen more i m
 
   module _ (sorting : Sorting) (tips ends : List ObjectId) (low explored : Counting F) (start : IsMet tips ends low) (explores : Explores objects faulty low explored) (rested : IsRested explored.reader.in_use explored.depth explored.frontier.queue) where
     abbrev Rows : List GraphRow
@@ -131,7 +49,7 @@ module _ {F : Type 0} (objects : F → Objects) (faulty : F → ObjectId → Typ
     counted_low taken untaken = fresh_counted (objects low.reader.find) Rows low.parents tips ends low.frontier taken untaken start.fresh
 
     there : Agrees → (side : Side) → IsExplored (objects low.reader.find) Rows low.parents tips ends low.depth side explored.frontier
-    there agrees side = exact_there objects faulty tips ends (λ i. false) agrees explores (counted_low (λ i. false) (λ i. refl)) side (start.begun side) (subst (λ d. IsRested explored.reader.in_use d explored.frontier.queue) same.depth rested)
+    there agrees side = exact_there objects faulty tips ends (λ i. false) agrees explores (counted_low (λ i. false) (λ i. refl)) side (start.fresh.begun side) (subst (λ d. IsRested explored.reader.in_use d explored.frontier.queue) same.depth rested)
 
     undone : (i : ObjectId) → IsDone low.frontier i → ⊥
     undone i = ⊎_elim (λ d. true≢false (sym d ∙ start.fresh.undone Tips i)) (λ d. true≢false (sym d ∙ start.fresh.undone Ends i))
@@ -144,33 +62,32 @@ module _ {F : Type 0} (objects : F → Objects) (faulty : F → ObjectId → Typ
     }
 
     counts : IsAgreeing (objects (plan_by low sorting tips ends).store) (plan_by low sorting tips ends).rows → HasCounted objects (plan_by low sorting tips ends) explored × IsCounting objects (plan_by low sorting tips ends) (counted_by explored)
-    counts agrees = counts_on objects faulty sorting tips ends (λ i. false) low explored agrees (counted_low (λ i. false) (λ i. refl)) start.begun counts_low (λ i d. absurd (undone i d)) explores rested
+    counts agrees = counts_on objects faulty sorting tips ends (λ i. false) low explored agrees (counted_low (λ i. false) (λ i. refl)) start.fresh.begun counts_low (λ i d. absurd (undone i d)) explores rested
 
     low_depth : Rows ≡ [] → low.depth ≤ infinity
     low_depth none = subst (λ d. d ≤ infinity) (sym start.depth) (least_below Rows infinity (tips ++ ends))
 
     idle : Rows ≡ [] → explored.frontier.queue ≡ []
-    idle none = ⊎_elim (λ q. q) (λ r. go r.1 explored.frontier.queue refl) rested
-      where
-        keyed : (entry : ℕ × Waiting) → Contains explored.frontier.queue entry → entry.0 ≡ known_generation Rows entry.1.id
-        keyed = (explores_keep objects faulty tips ends (λ i. false) (none_agree (objects low.reader.find) Rows none) explores (counted_low (λ i. false) (λ i. refl))).searched.keyed
+    idle none = ⊎_elim (λ q. q) (λ r. no_members explored.frontier.queue (λ entry m.
+        let c : IsCounted (objects low.reader.find) Rows low.parents tips ends (λ i. false) explored.frontier = explores_keep objects faulty tips ends (λ i. false) (none_agree (objects low.reader.find) Rows none) explores (counted_low (λ i. false) (λ i. refl)) in
+        let k : entry.0 ≡ infinity = c.searched.keyed entry m ∙ unknown_generation Rows entry.1.id none in
+        let l : entry.0 < explored.depth = r.1 entry m in
+        let d : explored.depth ≡ low.depth = same.depth in
+        let h : low.depth ≤ infinity = low_depth none in
+        absurd (omega arith))) rested
 
-        go : ((entry : ℕ × Waiting) → Contains explored.frontier.queue entry → entry.0 < explored.depth) → (queue : List (ℕ × Waiting)) → explored.frontier.queue ≡ queue → queue ≡ []
-        go below [] e = refl
-        go below (entry ∷ queue) e =
-            let m : Contains explored.frontier.queue entry = subst (λ q. Contains q entry) (sym e) (Contains-here entry queue) in
-            let k : entry.0 ≡ infinity = keyed entry m ∙ unknown_generation Rows entry.1.id none in
-            let l : entry.0 < explored.depth = below entry m in
-            let d : explored.depth ≡ low.depth = same.depth in
-            let h : low.depth ≤ infinity = low_depth none in
-            absurd (omega arith)
+    all_read : AreRead objects faulty (plan_by low sorting tips ends) explored
+    all_read = explores_read objects faulty sorting tips ends (λ i. false) explores (λ i d. absurd (undone i d))
 
+    -- without rows what is known is read, and all that is reached was
     read : Rows ≡ [] → (i : ObjectId) → IsReached objects (plan_by low sorting tips ends) i → IsCommitRead (objects low.reader.find) i
     read none i r =
         let high : low.depth ≤ known_generation Rows i = subst (λ g. low.depth ≤ g) (sym (unknown_generation Rows i none)) (low_depth none) in
-        let by : (side : Side) → Reaches (next_by (objects low.reader.find) low.parents side) (starts_by tips ends side) i → IsCommitRead (objects low.reader.find) i =
-        λ side t. done_read none start.fresh.undone explores side i (there (none_agree (objects low.reader.find) Rows none) side i t high) in
-        ⊎_elim (by Tips) (by Ends) r
+        let done : IsDone explored.frontier i = ⊎_elim (λ t. inl (there (none_agree (objects low.reader.find) Rows none) Tips i t high)) (λ t. inr (there (none_agree (objects low.reader.find) Rows none) Ends i t high)) r in
+        ⊎_elim (λ q. absurd (rowless q.1 q.2)) (λ k. k) (once_known objects faulty (plan_by low sorting tips ends) true refl (all_read i done))
+      where
+        rowless : (row : GraphRow) → row_of Rows i ≡ Some row → ⊥
+        rowless row e = let q : None ≡ Some row = sym (ap (λ those. row_of those i) none) ∙ e in cc
 
     -- the searches have begun
     pub begun_on : HasBegun objects faulty (plan_by low sorting tips ends) explored
@@ -178,12 +95,12 @@ module _ {F : Type 0} (objects : F → Objects) (faulty : F → ObjectId → Typ
       same = λ k. record { store = same.find k; rows = rows_of (same.graph k); parents = same.parents k; sorting = sorting; tips = tips; ends = ends };
       depth = same.depth ∙ start.depth;
       unmade = λ i. explores_made objects faulty explores i ∙ start.fresh.unmade i;
-      begun = λ side i m. explores_still objects faulty explores side i (start.begun side i m);
+      begun = λ side i m. explores_still objects faulty explores side i (start.fresh.begun side i m);
       counted = λ taken untaken agrees. explores_keep objects faulty tips ends taken agrees explores (counted_low taken untaken);
       explored = λ agrees side. subst (λ d. IsExplored (objects low.reader.find) Rows low.parents tips ends d side explored.frontier) (sym same.depth) (there agrees side);
       counts = λ agrees. (counts agrees).0;
       counting = λ agrees. (counts agrees).1;
-      all_read = explores_read objects faulty sorting tips ends (λ i. false) explores (λ i d. absurd (undone i d));
+      all_read = all_read;
       dropped = explores_dropped objects faulty sorting tips ends (λ i. false) low (λ agrees. counted_low (λ i. false) (λ i. refl)) explores (λ e. absurd (true≢false (sym start.stands ∙ e)));
       idle = idle;
       read = read;
@@ -191,12 +108,23 @@ module _ {F : Type 0} (objects : F → Objects) (faulty : F → ObjectId → Typ
 
   -- the same, and why it fails, as the code comes there: both sides meet their starts, and the depth is lowered twice
   module _ (tips ends : List ObjectId) (old first second once low : Counting F) (stands : old.reader.in_use ≡ true) (depth : old.depth ≡ infinity) (expanded : old.expanded ≡ 0) (queue : old.frontier.queue ≡ []) (known : old.frontier.known ≡ map.empty)
-      (a : HasMet Tips tips old first) (b : HasMet Ends ends first second) (c : once ≡ lower_by second ends) (d : low ≡ lower_by once tips) (sorting : Sorting) where
+      (is_first : first ≡ record old { frontier = first.frontier }) (tips_met : MeetsAll (rows_of old.reader.graph) Tips old.frontier tips first.frontier)
+      (is_second : second ≡ record first { frontier = second.frontier }) (ends_met : MeetsAll (rows_of first.reader.graph) Ends first.frontier ends second.frontier) (c : once ≡ lower_by second ends) (d : low ≡ lower_by once tips) (sorting : Sorting) where
+    lowered : low ≡ record old { frontier = second.frontier; depth = least (rows_of old.reader.graph) infinity (tips ++ ends) }
+    lowered = d ∙ ap (λ x. lower_by x tips) c ∙ ap (λ x. lower_by (lower_by x ends) tips) (is_second ∙ (λ k. record (is_first k) { frontier = second.frontier }))
+        ∙ ap (λ n. record old { frontier = second.frontier; depth = n }) (least-append (rows_of old.reader.graph) old.depth tips ends ∙ ap (λ n. least (rows_of old.reader.graph) n (tips ++ ends)) depth)
+
     plans : plan_by low sorting tips ends ≡ plan_by old sorting tips ends
-    plans = ap (λ x. plan_by x sorting tips ends) (d ∙ ap (λ x. lower_by x tips) (c ∙ ap (λ x. lower_by x ends) (both_same a b)))
+    plans = ap (λ x. plan_by x sorting tips ends) lowered
 
     start_met : IsMet tips ends low
-    start_met = subst (λ x. IsMet tips ends x) (sym (d ∙ ap (λ x. lower_by x tips) c)) (both_met tips ends old first second stands depth expanded queue known a b)
+    start_met = subst (IsMet tips ends) (sym lowered) (record {
+      stands = stands;
+      depth = refl;
+      expanded = expanded;
+      fresh = fresh_met (objects old.reader.find) (rows_of old.reader.graph) old.parents tips ends old.frontier first.frontier second.frontier queue known tips_met
+          (subst (λ r. MeetsAll (rows_of r.graph) Ends first.frontier ends second.frontier) (ap (λ x. x.reader) is_first) ends_met);
+    })
 
     pub begun_from : (explored : Counting F) → Explores objects faulty low explored → IsRested explored.reader.in_use explored.depth explored.frontier.queue → HasBegun objects faulty (plan_by old sorting tips ends) explored
     begun_from explored explores rested = subst (λ plan. HasBegun objects faulty plan explored) plans (begun_on sorting tips ends low explored start_met explores rested)

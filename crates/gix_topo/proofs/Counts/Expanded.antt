@@ -1,34 +1,11 @@
 -- Counting is exact down to the depth.
-use Rattle.std.specs.Prelude.{◌≡◌, ◌⊎◌, ◌≤◌, ℕ, ◌+◌, List, [], ◌∷◌, Bool, true, false, not, ◌&&◌, ◌||◌, cond, nat_le, Some, Contains, length, slice_get}
-use Rattle.std.proofs.Common.{refl, sym, ap, subst, inl, inr, ⊎_elim, ◌∙◌, arith}
-use Rattle.std.proofs.lemmas.Bool.{leb-true, true≢false, false≢true}
-use Rattle.std.proofs.lemmas.List.Sorted.{Contains-permutation, IsPermutation-sym}
-use Rattle.gix_hash.specs.declared.ObjectId.{ObjectId}
-use Rattle.gix_hash.specs.Id.{is_same}
-use Rattle.gix_object.specs.Object.{Objects}
-use Rattle.gix_hash.proofs.Ids.Membership.{same_is, same_itself, Contains-here, Contains-there, Contains-cons_cases}
-use Rattle.gix_topo.specs.declared.Sorting.{Sorting}
-use Rattle.gix_frontier.specs.declared.Side.{Side}
-use Rattle.gix_frontier.specs.declared.Side.TheVariants.{Tips, Ends}
-use Rattle.gix_frontier.specs.declared.Progress.TheVariants.{Done}
-use Rattle.gix_frontier.specs.Inside.Waiting.{Waiting}
-use Rattle.gix_frontier.specs.declared.Frontier.{Frontier}
-use Rattle.gix_topo.specs.declared.counting.Counting.{Counting}
-use Rattle.gix_revwalk.specs.Agreeing.{IsAgreeing}
-use Rattle.gix_topo.specs.Depth.{known_generation}
-use Rattle.gix_topo.specs.Inside.Exploring.{is_pending, IsRested, Steps, Explores, itself, further, IsSamePlan}
-use Rattle.gix_frontier.specs.Inside.Frontier.{is_side, is_done, reached}
-use Rattle.gix_hash.specs.Reach.{Reaches}
-use Rattle.gix_revwalk.specs.Reading.{rows_of, DropsRows}
-use Rattle.gix_topo.specs.Inside.Releasing.{plan_by, counted_by}
-use Rattle.gix_topo.specs.Inside.Searched.{IsCounted, IsSearched, IsBegun, next_by, starts_by}
-use Rattle.gix_topo.specs.Inside.Steady.{IsDone, IsReadOnce, AreRead, HasCounted}
-use Rattle.gix_topo.specs.Walk.{TopoPlan, IsNumberOf, IsInDepth, IsBrokenRow, IsCounting, IsReached}
+use Rattle.std.proofs.Common.{◌≡◌, ◌⊎◌, ◌≤◌, ℕ, ◌+◌, List, ◌∷◌, Bool, true, false, ◌||◌, Some, Contains, length, slice_get, refl, sym, subst, inl, inr, ⊎_elim, ◌∙◌, arith, true≢false}
+use Rattle.gix_topo.proofs.Common.{nat_tests, or_cases, cases_Bool, ObjectId, Objects, same_is, same_itself, Contains-here, Contains-there, Contains-cons_cases, Sorting, Side, Tips, Ends, Waiting, Frontier, Counting, IsAgreeing}
+use Rattle.gix_topo.proofs.Common.{known_generation, is_pending, IsRested, Steps, Explores, IsSamePlan, is_done, reached, rows_of, DropsRows, plan_by, counted_by, IsCounted, IsSearched, IsBegun, IsExplored, IsDone, IsReadOnce, AreRead}
+use Rattle.gix_topo.proofs.Common.{HasCounted, TopoPlan, IsNumberOf, IsInDepth, IsBrokenRow, IsCounting, IsReached, row_stands, corrupt_row}
 use Rattle.gix_topo.proofs.Counts.IndegreeZero.{done_seen}
-use Rattle.gix_topo.proofs.Counts.ExploreKeeps.{steps_keep, explores_keep, explores_same, explores_still, done_now}
-use Rattle.gix_topo.proofs.Counts.AllDownToDepth.{exact as exact_down}
-use Rattle.gix_revwalk.proofs.ReadsWhole.{row_stands, corrupt_row}
-use Rattle.gix_topo.proofs.Counts.Children.{follows_named}
+use Rattle.gix_topo.proofs.Counts.ExploreKeeps.{steps_keep, explores_by, explores_keep, done_now, entry_queued}
+use Rattle.gix_topo.proofs.Counts.AllDownToDepth.{exact_there}
 use Rattle.gix_topo.proofs.Reading.OnceRead.{once_still, once_whole}
 use Rattle.gix_topo.proofs.Counts.MakesReady.{reads_stands, reads_drops}
 
@@ -37,8 +14,8 @@ pub number_same : (P Q : ObjectId → Type 0) (m n : ℕ) → m ≡ n → ((i : 
 number_same P Q m n e f g h = record { ids = h.ids; distinct = h.distinct; each = λ i k. f i (h.each i k); all = λ i q. h.all i (g i q); number = h.number ∙ e }
 
 -- one id more
-number_more : (P Q : ObjectId → Type 0) (n : ℕ) (c : ObjectId) → (P c → ⊥) → Q c → ((i : ObjectId) → P i → Q i) → ((i : ObjectId) → Q i → (c ≡ i) ⊎ P i) → IsNumberOf P n → IsNumberOf Q (n + 1)
-number_more P Q n c absent now f g h = record {
+number_more : (P Q : ObjectId → Type 0) (n m : ℕ) (c : ObjectId) → m ≡ n + 1 → (P c → ⊥) → Q c → ((i : ObjectId) → P i → Q i) → ((i : ObjectId) → Q i → (c ≡ i) ⊎ P i) → IsNumberOf P n → IsNumberOf Q m
+number_more P Q n m c one absent now f g h = record {
   ids = c ∷ h.ids;
   distinct = (λ m. absent (h.each c m), h.distinct);
   each = λ i m. ⊎_elim (λ s. subst Q s now) (λ t. f i (h.each i t)) (Contains-cons_cases i c h.ids m);
@@ -48,10 +25,7 @@ number_more P Q n c absent now f g h = record {
 
 -- the first that waits isn't below the depth as long as the rows are in use
 top_high : (in_use : Bool) (depth : ℕ) (queue : List (ℕ × Waiting)) (entry : ℕ × Waiting) → slice_get queue 0 ≡ Some entry → is_pending in_use depth queue ≡ true → in_use ≡ true → depth ≤ entry.0
-top_high in_use depth [] entry f p e = absurd (false≢true p)
-top_high in_use depth (x ∷ queue) entry f p e =
-    let same : x ≡ entry = (let s : Some x ≡ Some entry = f in cc) in
-    subst (λ y. depth ≤ y.0) same (leb-true depth x.0 (sym (ap (λ b. not b || nat_le depth x.0) e) ∙ p))
+top_high in_use depth queue entry f p e = grind (arith, nat_tests)
 
 module _ {F : Type 0} (objects : F → Objects) (faulty : F → ObjectId → Type 0) where
   -- a row that isn't whole has a fault, where the rows agree
@@ -70,52 +44,23 @@ module _ {F : Type 0} (objects : F → Objects) (faulty : F → ObjectId → Typ
 
   -- a step is done with one id
   module _ (old new : Counting F) (s : Steps objects faulty old new) where
-    done_before : (t : Side) (j : ObjectId) → is_done (reached s.followed.known t j) ≡ is_done (reached old.frontier.known t j)
-    done_before t j = (follows_named s.follows).done t j
-
-    still_done : (t : Side) (j : ObjectId) → is_done (reached old.frontier.known t j) ≡ true → is_done (reached new.frontier.known t j) ≡ true
-    still_done t j e = done_now objects faulty old new s t j ∙ go (is_same j s.entry.1.id && is_side t s.entry.1.side)
-      where
-        go : (b : Bool) → is_done (cond b Done (reached s.followed.known t j)) ≡ true
-        go true = refl
-        go false = done_before t j ∙ e
-
-    was_done : (t : Side) (j : ObjectId) → is_done (reached new.frontier.known t j) ≡ true → (s.entry.1.id ≡ j) ⊎ (is_done (reached old.frontier.known t j) ≡ true)
-    was_done t j e = go (is_same j s.entry.1.id) (is_side t s.entry.1.side) refl (sym (done_now objects faulty old new s t j) ∙ e)
-      where
-        go : (a b : Bool) → is_same j s.entry.1.id ≡ a → is_done (cond (a && b) Done (reached s.followed.known t j)) ≡ true → (s.entry.1.id ≡ j) ⊎ (is_done (reached old.frontier.known t j) ≡ true)
-        go true true q f = inl (sym (same_is j s.entry.1.id q))
-        go true false q f = inr (sym (done_before t j) ∙ f)
-        go false b q f = inr (sym (done_before t j) ∙ f)
-
     steps_from : (j : ObjectId) → IsDone old.frontier j → IsDone new.frontier j
-    steps_from j d = ⊎_elim (λ a. inl (still_done Tips j a)) (λ b. inr (still_done Ends j b)) d
+    steps_from j d = grind (arith, done_now objects faulty old new s Tips j, done_now objects faulty old new s Ends j)
 
     steps_to : (j : ObjectId) → IsDone new.frontier j → (s.entry.1.id ≡ j) ⊎ IsDone old.frontier j
-    steps_to j d = ⊎_elim (λ a. ⊎_elim (λ q. inl q) (λ x. inr (inl x)) (was_done Tips j a)) (λ b. ⊎_elim (λ q. inl q) (λ x. inr (inr x)) (was_done Ends j b)) d
+    steps_to j d = grind (arith, done_now objects faulty old new s Tips j, done_now objects faulty old new s Ends j, same_is j s.entry.1.id)
 
     steps_here : IsDone new.frontier s.entry.1.id
-    steps_here = side s.entry.1.side (done_now objects faulty old new s s.entry.1.side s.entry.1.id ∙ ap (λ b. is_done (cond (b && is_side s.entry.1.side s.entry.1.side) Done (reached s.followed.known s.entry.1.side s.entry.1.id))) (same_itself s.entry.1.id) ∙ itself_done s.entry.1.side)
-      where
-        itself_done : (t : Side) → is_done (cond (is_side t t) Done (reached s.followed.known t s.entry.1.id)) ≡ true
-        itself_done Tips = refl
-        itself_done Ends = refl
-
-        side : (t : Side) → is_done (reached new.frontier.known t s.entry.1.id) ≡ true → IsDone new.frontier s.entry.1.id
-        side Tips e = inl e
-        side Ends e = inr e
+    steps_here = grind (arith, done_now objects faulty old new s Tips s.entry.1.id, done_now objects faulty old new s Ends s.entry.1.id, same_itself s.entry.1.id)
 
     -- it is counted if no side was done with it
     steps_number : IsNumberOf (IsDone old.frontier) old.expanded → IsNumberOf (IsDone new.frontier) new.expanded
-    steps_number h = subst (IsNumberOf (IsDone new.frontier)) (sym s.expanded) (go (is_done (reached old.frontier.known Tips s.entry.1.id)) (is_done (reached old.frontier.known Ends s.entry.1.id)) refl refl)
-      where
-        known_to : IsDone old.frontier s.entry.1.id → (j : ObjectId) → IsDone new.frontier j → IsDone old.frontier j
-        known_to d j e = ⊎_elim (λ q. subst (IsDone old.frontier) q d) (λ o. o) (steps_to j e)
-
-        go : (a b : Bool) → is_done (reached old.frontier.known Tips s.entry.1.id) ≡ a → is_done (reached old.frontier.known Ends s.entry.1.id) ≡ b → IsNumberOf (IsDone new.frontier) (old.expanded + cond (a || b) 0 1)
-        go true b p q = number_same (IsDone old.frontier) (IsDone new.frontier) old.expanded (old.expanded + 0) (omega arith) steps_from (known_to (inl p)) h
-        go false true p q = number_same (IsDone old.frontier) (IsDone new.frontier) old.expanded (old.expanded + 0) (omega arith) steps_from (known_to (inr q)) h
-        go false false p q = number_more (IsDone old.frontier) (IsDone new.frontier) old.expanded s.entry.1.id (λ d. ⊎_elim (λ a. true≢false (sym a ∙ p)) (λ b. true≢false (sym b ∙ q)) d) steps_here steps_from steps_to h
+    steps_number h = ⊎_elim
+        (λ (b : (is_done (reached old.frontier.known Tips s.entry.1.id) || is_done (reached old.frontier.known Ends s.entry.1.id)) ≡ true).
+        number_same (IsDone old.frontier) (IsDone new.frontier) old.expanded new.expanded (grind (arith, s.expanded)) steps_from (λ j e. ⊎_elim (λ q. subst (IsDone old.frontier) q (or_cases _ _ b)) (λ o. o) (steps_to j e)) h)
+        (λ (b : (is_done (reached old.frontier.known Tips s.entry.1.id) || is_done (reached old.frontier.known Ends s.entry.1.id)) ≡ false).
+        number_more (IsDone old.frontier) (IsDone new.frontier) old.expanded new.expanded s.entry.1.id (grind (arith, s.expanded)) (λ d. grind arith) steps_here steps_from steps_to h)
+        (cases_Bool (is_done (reached old.frontier.known Tips s.entry.1.id) || is_done (reached old.frontier.known Ends s.entry.1.id)))
 
   module _ (sorting : Sorting) (tips ends : List ObjectId) (taken : ObjectId → Bool) where
     abbrev Plan : Counting F → TopoPlan F
@@ -129,41 +74,28 @@ module _ {F : Type 0} (objects : F → Objects) (faulty : F → ObjectId → Typ
     steps_counts old new agrees counted pending s h = record {
       number = steps_number old new s h.number;
       high = λ e i d. subst (λ n. n ≤ known_generation (Plan old).rows i) (sym s.same.depth) (⊎_elim (λ q. subst (λ j. old.depth ≤ known_generation (Plan old).rows j) q (high (reads_stands objects faulty s.reads.reads e))) (λ o. h.high (reads_stands objects faulty s.reads.reads e) i o) (steps_to old new s i d));
-      dropped = λ e. subst (IsBrokenRow objects (Plan old)) (sym s.same.depth) (drops old.reader.in_use refl e);
+      dropped = λ e. subst (IsBrokenRow objects (Plan old)) (sym s.same.depth) (⊎_elim (λ q. broken (Plan old) agrees old.depth s.entry.1.id is_reached (high q) (reads_drops objects faulty s.reads.reads q e)) h.dropped (cases_Bool old.reader.in_use));
     }
       where
-        queued : Contains old.frontier.queue s.entry
-        queued = Contains-permutation (s.entry ∷ s.left) old.frontier.queue s.entry (IsPermutation-sym old.frontier.queue (s.entry ∷ s.left) s.taken_out) (Contains-here s.entry s.left)
-
         high : old.reader.in_use ≡ true → old.depth ≤ known_generation (Plan old).rows s.entry.1.id
-        high e = subst (λ n. old.depth ≤ n) (counted.searched.keyed s.entry queued) (top_high old.reader.in_use old.depth old.frontier.queue s.entry s.first pending e)
+        high e = subst (λ n. old.depth ≤ n) (counted.searched.keyed s.entry (entry_queued objects faulty old new s)) (top_high old.reader.in_use old.depth old.frontier.queue s.entry s.first pending e)
 
         is_reached : IsReached objects (Plan old) s.entry.1.id
         is_reached = done_reached (Plan old) new.frontier (steps_keep objects faulty tips ends taken old new agrees s counted).searched s.entry.1.id (steps_here old new s)
-
-        drops : (b : Bool) → old.reader.in_use ≡ b → new.reader.in_use ≡ false → IsBrokenRow objects (Plan old) old.depth
-        drops true q e = broken (Plan old) agrees old.depth s.entry.1.id is_reached (high q) (reads_drops objects faulty s.reads.reads q e)
-        drops false q e = h.dropped q
 
     same_plan : {old new : Counting F} → IsSamePlan objects faulty old new → Plan new ≡ Plan old
     same_plan s k = record { store = s.find k; rows = rows_of (s.graph k); parents = s.parents k; sorting = sorting; tips = tips; ends = ends }
 
     explores_counts : {old new : Counting F} → IsAgreeing (objects (Plan old).store) (Plan old).rows → Told (Plan old) old.frontier → Explores objects faulty old new → HasCounted objects (Plan old) old → HasCounted objects (Plan old) new
-    explores_counts agrees counted itself h = h
-    explores_counts {old = old} agrees counted (further {mid = mid} {new = new} e p s) h =
-        let same : Plan mid ≡ Plan old = same_plan (explores_same objects faulty e) in
-        let there : Told (Plan old) mid.frontier = explores_keep objects faulty tips ends taken agrees e counted in
-        let before : HasCounted objects (Plan old) mid = explores_counts agrees counted e h in
-        subst (λ plan. HasCounted objects plan new) same (steps_counts mid new (subst (λ plan. IsAgreeing (objects plan.store) plan.rows) (sym same) agrees) (subst (λ plan. Told plan mid.frontier) (sym same) there) p s (subst (λ plan. HasCounted objects plan mid) (sym same) before))
+    explores_counts agrees counted e h =
+        (explores_by objects faulty Plan (λ a b s. same_plan s) (λ plan c. IsAgreeing (objects plan.store) plan.rows → Told plan c.frontier × HasCounted objects plan c)
+        (λ mid new p s h a. (steps_keep objects faulty tips ends taken mid new a s (h a).0, steps_counts mid new a (h a).0 p s (h a).1)) e (λ a. (counted, h)) agrees).1
 
     -- what is done after exploring was read
     pub explores_read : {old new : Counting F} → Explores objects faulty old new → AreRead objects faulty (Plan old) old → AreRead objects faulty (Plan old) new
-    explores_read itself h = λ i d. h i d
-    explores_read {old} (further {mid = mid} {new = new} e p s) h = λ i d.
-        ⊎_elim (λ q. subst (IsReadOnce objects faulty (Plan old) new.reader.in_use) q here) (λ o. once_still objects faulty (Plan old) (reads_stands objects faulty s.reads.reads) (explores_read e h i o)) (steps_to mid new s i d)
-      where
-        here : IsReadOnce objects faulty (Plan old) new.reader.in_use s.entry.1.id
-        here = subst (λ plan. IsReadOnce objects faulty plan new.reader.in_use s.entry.1.id) (same_plan (explores_same objects faulty e)) (record { info = s.reads.info; before = mid.reader.in_use; after = new.reader.in_use; reads = s.reads.reads; later = λ k. k })
+    explores_read = explores_by objects faulty Plan (λ a b s. same_plan s) (AreRead objects faulty)
+        (λ mid new p s h i d. ⊎_elim (λ q. subst (IsReadOnce objects faulty (Plan mid) new.reader.in_use) q (record { info = s.reads.info; before = mid.reader.in_use; after = new.reader.in_use; reads = s.reads.reads; later = λ k. k }))
+        (λ o. once_still objects faulty (Plan mid) (reads_stands objects faulty s.reads.reads) (h i o)) (steps_to mid new s i d))
 
     -- after exploring, what holds of the done commits holds of all that is reached down to the depth
     pub counts_on : (low explored : Counting F) → IsAgreeing (objects (Plan low).store) (Plan low).rows → Told (Plan low) low.frontier → ((side : Side) → IsBegun tips ends side low.frontier) → HasCounted objects (Plan low) low → AreRead objects faulty (Plan low) low → Explores objects faulty low explored → IsRested explored.reader.in_use explored.depth explored.frontier.queue → HasCounted objects (Plan low) explored × IsCounting objects (Plan low) (counted_by explored)
@@ -177,11 +109,10 @@ module _ {F : Type 0} (objects : F → Objects) (faulty : F → ObjectId → Typ
 
         -- what is reached, and isn't below a depth to which exploring rests, is done
         done_down : (depth : ℕ) → IsRested explored.reader.in_use depth explored.frontier.queue → (i : ObjectId) → IsInDepth objects (Plan low) depth i → IsDone explored.frontier i
-        done_down depth rests i d =
-            let there_by : (side : Side) → Reaches (next_by (objects low.reader.find) low.parents side) (starts_by tips ends side) i → is_done (reached explored.frontier.known side i) ≡ true =
-            λ side r. exact_down (objects low.reader.find) (faulty low.reader.find) (Plan low).rows low.parents tips ends agrees explored.frontier explored.reader.in_use depth there.searched rests side (λ j m. explores_still objects faulty e side j (begun side j m)) i r d.high in
-            ⊎_elim (λ a. inl (there_by Tips a))
-            (λ b. inr (there_by Ends b)) d.reached
+        done_down depth rests i d = ⊎_elim (λ r. inl (down Tips i r d.high)) (λ r. inr (down Ends i r d.high)) d.reached
+          where
+            down : (side : Side) → IsExplored (objects low.reader.find) (Plan low).rows low.parents tips ends depth side explored.frontier
+            down side = exact_there objects faulty tips ends taken agrees e counted side (begun side) rests
 
         done_met : (i : ObjectId) → IsDone explored.frontier i → IsReached objects (Plan low) i
         done_met = done_reached (Plan low) explored.frontier there.searched

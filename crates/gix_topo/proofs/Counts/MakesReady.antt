@@ -1,31 +1,16 @@
 -- What ids do to a walk, one after the other, where some of them become ready.
-use Rattle.std.specs.Prelude.{◌≡◌, ℕ, ◌==◌, List, [], ◌∷◌, ◌++◌, Bool, true, false, not, ◌&&◌, ◌||◌, cond, Ok, Contains}
-use Rattle.std.proofs.Common.{refl, sym, ap, subst, ⊎_elim, ◌∙◌}
-use Rattle.std.proofs.lemmas.Bool.{true≢false, false≢true, eqb-true}
-use Rattle.std.proofs.lemmas.List.Elements.{Contains-append_cases}
-use Rattle.gix_hash.specs.declared.ObjectId.{ObjectId}
-use Rattle.gix_hash.specs.Id.{is_same, is_among}
-use Rattle.gix_object.specs.Object.{Objects}
-use Rattle.gix_commitgraph.specs.Rows.{GraphRow}
-use Rattle.gix_hash.proofs.Ids.Membership.{same_is, among-append, among-one, Contains-here, Contains-there, no_member}
-use Rattle.gix_revwalk.specs.declared.Info.{Info}
-use Rattle.gix_frontier.specs.declared.Side.{Side}
-use Rattle.gix_frontier.specs.declared.Side.TheVariants.{Tips, Ends}
-use Rattle.gix_frontier.specs.declared.Frontier.{Frontier}
-use Rattle.gix_topo.specs.declared.walk.Walk.{Walk}
-use Rattle.gix_topo.specs.Reading.{Reads, by_row, by_text}
-use Rattle.gix_revwalk.specs.Reading.{DropsRows}
-use Rattle.gix_frontier.specs.Inside.Known.{Known}
-use Rattle.gix_frontier.specs.Inside.Frontier.{is_seen, known_of, progress_of, reached, is_due, MarksReady}
-use Rattle.gix_topo.specs.Inside.Releasing.{plan_of, with_frontier, Pushes}
-use Rattle.gix_topo.specs.Inside.Steady.{AreRead}
-use Rattle.gix_topo.specs.Walk.{Ready, ready_ids, IsFound}
+use Rattle.std.proofs.Common.{◌≡◌, ℕ, List, [], ◌∷◌, ◌++◌, Bool, true, false, ◌||◌, cond, Ok, Contains, refl, sym, ap, subst, ⊎_elim, ◌∙◌, arith, true≢false}
+use Rattle.gix_topo.proofs.Common.{cases_Bool, nat_tests, Contains-append_cases, ObjectId, is_same, is_among, Objects, GraphRow, same_is, among-append, among-one, Contains-here, Contains-there, no_member, Info, Side, Frontier, Walk}
+use Rattle.gix_topo.proofs.Common.{Reads, by_row, by_text, DropsRows, Known, is_seen, known_of, progress_of, reached, is_due, MarksReady, plan_of, with_frontier, Pushes, AreRead, Ready, ready_ids, IsFound, only_member}
 use Rattle.gix_revwalk.proofs.Rows.{in_use_before, dropped_by}
 use Rattle.gix_topo.proofs.Reading.OnceRead.{all_still, found_later, found_pushed}
 use Rattle.gix_topo.proofs.Readiness.ReadyIds.{ids-append}
-use Rattle.gix_topo.proofs.Counts.Frontier.{known-insert, reached-insert}
+use Rattle.gix_topo.proofs.Counts.Frontier.{known-insert, kept}
 use Rattle.gix_topo.proofs.Counts.Children.{children_of, was_ready_of}
-use Rattle.gix_hash.proofs.Lists.{only_member}
+
+-- whether an id is due, by what is known of it
+pub due_by : {found known : Known} {children : ℕ} → found ≡ known → children ≡ found.indegree → is_due known.indegree known ≡ is_due children found
+due_by same counted = cc
 
 module _ {F : Type 0} (objects : F → Objects) (faulty : F → ObjectId → Type 0) where
   -- rows that are in use after a reading were in use before
@@ -40,41 +25,21 @@ module _ {F : Type 0} (objects : F → Objects) (faulty : F → ObjectId → Typ
 
   -- what making an id ready changes
   pub marks_ready_known : (f g : Frontier) (i : ObjectId) → MarksReady f i g → (p : ObjectId) → (children_of g p ≡ children_of f p) × (was_ready_of g p ≡ (is_same p i || was_ready_of f p))
-  marks_ready_known f g i m p = (ap (λ k. (known_of k p).indegree) m.known ∙ ap (λ k. k.indegree) (known-insert f.known i (record (known_of f.known i) { was_ready = true }) p) ∙ one (is_same p i) refl, ap (λ k. (known_of k p).was_ready) m.known ∙ ap (λ k. k.was_ready) (known-insert f.known i (record (known_of f.known i) { was_ready = true }) p) ∙ two (is_same p i) refl)
-    where
-      one : (b : Bool) → is_same p i ≡ b → (cond b (record (known_of f.known i) { was_ready = true }) (known_of f.known p)).indegree ≡ children_of f p
-      one true s = ap (λ j. children_of f j) (sym (same_is p i s))
-      one false s = refl
-
-      two : (b : Bool) → is_same p i ≡ b → (cond b (record (known_of f.known i) { was_ready = true }) (known_of f.known p)).was_ready ≡ (b || was_ready_of f p)
-      two true s = refl
-      two false s = refl
+  marks_ready_known f g i m p =
+      let now : known_of g.known p ≡ cond (is_same p i) (record (known_of f.known i) { was_ready = true }) (known_of f.known p) = ap (λ k. known_of k p) m.known ∙ known-insert f.known i (record (known_of f.known i) { was_ready = true }) p in
+      (grind (arith, same_is p i), grind arith)
 
   -- and that it moves no search
   pub makes_moved : (f g : Frontier) (i : ObjectId) → MarksReady f i g → (s : Side) (p : ObjectId) → reached g.known s p ≡ reached f.known s p
-  makes_moved f g i m s p = ap (λ k. reached k s p) m.known ∙ reached-insert f.known i (record (known_of f.known i) { was_ready = true }) s p ∙ go s (is_same p i) refl
-    where
-      go : (s : Side) (b : Bool) → is_same p i ≡ b → cond b (progress_of s (record (known_of f.known i) { was_ready = true })) (reached f.known s p) ≡ reached f.known s p
-      go Tips true e = ap (λ j. reached f.known Tips j) (sym (same_is p i e))
-      go Ends true e = ap (λ j. reached f.known Ends j) (sym (same_is p i e))
-      go s false e = refl
+  makes_moved f g i m s p = ap (λ k. reached k s p) m.known ∙ kept (progress_of s) f.known i (record (known_of f.known i) { was_ready = true }) p (grind arith)
 
   -- what being due says
   pub due_parts : (n : ℕ) (k : Known) → is_due n k ≡ true → (n ≡ 0) × (is_seen k.ends ≡ false) × (k.was_ready ≡ false)
-  due_parts n k e = go (n == 0) (k.was_ready) (is_seen k.ends) refl refl refl e
-    where
-      zero_is : (n : ℕ) → (n == 0) ≡ true → n ≡ 0
-      zero_is n e = eqb-true n 0 e
-
-      go : (a b c : Bool) → (n == 0) ≡ a → k.was_ready ≡ b → is_seen k.ends ≡ c → ((a && not b) && not c) ≡ true → (n ≡ 0) × (is_seen k.ends ≡ false) × (k.was_ready ≡ false)
-      go true false false p q r e = (zero_is n p, r, q)
-      go true false true p q r e = absurd (false≢true e)
-      go true true c p q r e = absurd (false≢true e)
-      go false b c p q r e = absurd (false≢true e)
+  due_parts n k e = (grind (arith, nat_tests), grind (arith, nat_tests), grind (arith, nat_tests))
 
   -- and when it is so
   pub due_from : (n : ℕ) (k : Known) → n ≡ 0 → is_seen k.ends ≡ false → k.was_ready ≡ false → is_due n k ≡ true
-  due_from n k a b c = ap (λ m. ((m == 0) && not k.was_ready) && not (is_seen k.ends)) a ∙ ap (λ x. (true && not x) && not (is_seen k.ends)) c ∙ ap (λ x. true && not x) b
+  due_from n k a b c = grind (arith, nat_tests)
 
   -- what these ids do, of which the added commits became ready
   pub record MakesReady (old : Walk F) (ids : List ObjectId) (added : List Ready) (new : Walk F) : Type 0 where
@@ -112,7 +77,7 @@ module _ {F : Type 0} (objects : F → Objects) (faulty : F → ObjectId → Typ
     expanded = p.same.expanded;
     queue = p.same.queue ∙ queue;
     moved = λ s j. makes_moved f new.counting.frontier i p.made s j ∙ moved s j;
-    made = λ j. (marks_ready_known f new.counting.frontier i p.made j).1 ∙ ap (λ b. is_same j i || b) (made j) ∙ ap (λ b. b || was_ready_of old.counting.frontier j) (ap (is_same j) (sym p.id) ∙ sym (among-one j r.id));
+    made = λ j. grind (arith, (marks_ready_known f new.counting.frontier i p.made j).1, made j, p.id, among-one j r.id);
     stands = λ e. reads_stands p.reads e;
     among = λ x m. subst (λ j. Contains (i ∷ []) j) (sym p.id ∙ ap (λ y. y.id) (only_member r x m)) (Contains-here i []);
     each = λ h x m. subst (IsFound objects faulty (plan_of old) old.counting.reader.in_use new.counting.reader.in_use) (only_member r x m) (found_pushed objects faulty (with_frontier objects faulty old f) old.counting i r new moved h p);
@@ -127,29 +92,17 @@ module _ {F : Type 0} (objects : F → Objects) (faulty : F → ObjectId → Typ
     expanded = b.expanded ∙ a.expanded;
     queue = b.queue ∙ a.queue;
     moved = λ s j. b.moved s j ∙ a.moved s j;
-    made = λ j. b.made j ∙ ap (λ x. is_among j (ready_ids others) || x) (a.made j) ∙ joined (is_among j (ready_ids others)) (is_among j (ready_ids first)) (was_ready_of old.counting.frontier j) ∙ ap (λ x. x || was_ready_of old.counting.frontier j) (sym (ap (is_among j) (ids-append first others) ∙ among-append j (ready_ids first) (ready_ids others)));
+    made = λ j. grind (arith, a.made j, b.made j, ap (is_among j) (ids-append first others) ∙ among-append j (ready_ids first) (ready_ids others));
     stands = λ e. a.stands (b.stands e);
     among = λ r m. ⊎_elim (λ l. here r.id (a.among r l)) (λ t. Contains-there r.id i ids (b.among r t)) (Contains-append_cases first others r m);
     each = λ h r m. ⊎_elim (λ l. found_later objects faulty (plan_of old) (λ e. e) b.stands (a.each h r l)) (λ t. found_later objects faulty (plan_of old) a.stands (λ e. e) (subst (λ p. IsFound objects faulty p mid.counting.reader.in_use new.counting.reader.in_use r) a.plan (b.each (read_mid h) r t))) (Contains-append_cases first others r m);
-    dropped = λ e d. drops mid.counting.reader.in_use refl e d;
+    dropped = λ e d. ⊎_elim
+        (λ m. let h : (j : ObjectId) × Contains ids j × DropsRows (plan_of mid).rows j = b.dropped m d in (h.0, Contains-there h.0 i ids h.1, subst (λ p. DropsRows p.rows h.0) a.plan h.2))
+        (λ m. let h : (j : ObjectId) × Contains (i ∷ []) j × DropsRows (plan_of old).rows j = a.dropped e m in (h.0, here h.0 h.1, h.2)) (cases_Bool mid.counting.reader.in_use);
   }
     where
       read_mid : AreRead objects faulty (plan_of old) old.counting → AreRead objects faulty (plan_of mid) mid.counting
       read_mid h = subst (λ p. AreRead objects faulty p mid.counting) (sym a.plan) (all_still objects faulty (plan_of old) old.counting mid.counting a.moved a.stands h)
 
-      joined : (x y z : Bool) → (x || (y || z)) ≡ ((y || x) || z)
-      joined true true z = refl
-      joined true false z = refl
-      joined false true z = refl
-      joined false false z = refl
-
       here : (j : ObjectId) → Contains (i ∷ []) j → Contains (i ∷ ids) j
       here j m = subst (λ x. Contains (i ∷ ids) x) (only_member i j m) (Contains-here i ids)
-
-      drops : (m : Bool) → mid.counting.reader.in_use ≡ m → old.counting.reader.in_use ≡ true → new.counting.reader.in_use ≡ false → (j : ObjectId) × Contains (i ∷ ids) j × DropsRows (plan_of old).rows j
-      drops true m e d =
-          let h : (j : ObjectId) × Contains ids j × DropsRows (plan_of mid).rows j = b.dropped m d in
-          (h.0, Contains-there h.0 i ids h.1, subst (λ p. DropsRows p.rows h.0) a.plan h.2)
-      drops false m e d =
-          let h : (j : ObjectId) × Contains (i ∷ []) j × DropsRows (plan_of old).rows j = a.dropped e m in
-          (h.0, here h.0 h.1, h.2)

@@ -1,49 +1,26 @@
 -- When a fault of reading comes: while exploring, and where a commit would become ready.
-use Rattle.std.specs.Prelude.{◌≡◌, ◌≢◌, ◌⊎◌, List, [], ◌∷◌, Bool, Some, None, Result, Ok, Err, Contains}
-use Rattle.std.proofs.Common.{sym, ap, subst, ◌∙◌, inl, inr}
-use Rattle.gix_hash.specs.declared.ObjectId.{ObjectId}
+use Rattle.std.proofs.Common.{◌≡◌, ◌≢◌, ◌⊎◌, List, [], ◌∷◌, Bool, Some, None, Result, Ok, Err, Contains, sym, ap, subst, ◌∙◌, inl, inr, arith}
+use Rattle.gix_topo.proofs.Common.{ObjectId, kind_of, Objects, Item, commit_items, first_committer, Contains-here, Contains-there, Sorting, Error, Counting, Side, Tips, Ends, Walk, IsAgreeing, infinity, known_generation}
+use Rattle.gix_topo.proofs.Common.{IsExploringFault, ReadsWhole, parents_of, commit_of_object, Reaches, rows_of, IsReadFault, HasNoRowInUse, plan_by, plan_of, IsPushFault, parent, IsCounted, next_by, starts_by, AreDroppedFor, TopoPlan}
+use Rattle.gix_topo.proofs.Common.{walked_of, IsSound, IsFault, IsReached, IsLookedUp, DropsBy, no_fault, text_whole}
 use Rattle.gix_object.specs.declared.decode.Error.{Error as DecodeError}
 use Rattle.gix_object.specs.declared.decode.Error.TheVariants as fault
-use Rattle.gix_hash.specs.Id.{kind_of}
-use Rattle.gix_object.specs.Object.{Objects}
-use Rattle.gix_object.specs.CommitItems.{Item, Tree, Parent, Author, Committer, Rest, commit_items}
-use Rattle.gix_object.specs.CommitRefIter.{first_committer}
-use Rattle.gix_hash.proofs.Ids.Membership.{Contains-here, Contains-there}
-use Rattle.gix_topo.specs.declared.Sorting.{Sorting}
-use Rattle.gix_topo.specs.declared.Error.{Error}
 use Rattle.gix_topo.specs.declared.Error.TheVariants as error
-use Rattle.gix_topo.specs.declared.counting.Counting.{Counting}
-use Rattle.gix_frontier.specs.declared.Side.{Side}
-use Rattle.gix_frontier.specs.declared.Side.TheVariants.{Tips, Ends}
-use Rattle.gix_topo.specs.declared.walk.Walk.{Walk}
-use Rattle.gix_revwalk.specs.Agreeing.{IsAgreeing}
-use Rattle.gix_topo.specs.Depth.{infinity, known_generation}
-use Rattle.gix_topo.specs.Inside.Exploring.{IsExploringFault}
-use Rattle.gix_revwalk.specs.Commits.{ReadsWhole, parents_of, commit_of_object}
-use Rattle.gix_hash.specs.Reach.{Reaches}
-use Rattle.gix_revwalk.specs.Reading.{rows_of}
-use Rattle.gix_topo.specs.Reading.{IsReadFault, HasNoRowInUse}
-use Rattle.gix_topo.specs.Inside.Releasing.{plan_by, plan_of, IsPushFault, itself, parent}
-use Rattle.gix_topo.specs.Inside.Searched.{IsCounted, next_by, starts_by}
-use Rattle.gix_topo.specs.Inside.Steady.{AreDroppedFor}
-use Rattle.gix_topo.specs.Walk.{TopoPlan, walked_of, IsSound, IsFault, IsReached, IsLookedUp, DropsBy}
+use Rattle.gix_topo.specs.Inside.Releasing.{itself}
 use Rattle.gix_topo.proofs.Reading.WholeTexts.{text_tips, text_ends}
 use Rattle.gix_revwalk.proofs.Committer.{fault_unread}
 use Rattle.gix_topo.proofs.Counts.ExploreKeeps.{explores_same}
 use Rattle.gix_topo.proofs.Counts.RowsDropped.{reached_by, read_dropped, unrowed_own, unrowed_parent, queued_within, explores_dropped}
 use Rattle.gix_topo.proofs.Reading.ReadsCommit.{reads_text_next}
-use Rattle.gix_revwalk.proofs.ReadsWhole.{no_fault}
-use Rattle.gix_revwalk.proofs.TextParents.{text_whole}
+
+past : (x : Item) (items : List (Result Item DecodeError)) (e : DecodeError) → first_committer (Ok x ∷ items) ≡ Err e → first_committer items ≡ Err e
+past x items e h = grind arith
 
 -- a fault found in place of a committer is an item
 pub fault_item : (items : List (Result Item DecodeError)) (e : DecodeError) → first_committer items ≡ Err e → (e ≡ fault.Missing → ⊥) → Contains items (Err e)
 fault_item [] e h n = absurd (n cc)
 fault_item (Err d ∷ items) e h n = let s : d ≡ e = cc in subst (λ x. Contains (Err x ∷ items) (Err e)) (sym s) (Contains-here (Err e) items)
-fault_item (Ok (Tree i) ∷ items) e h n = Contains-there (Err e) (Ok (Tree i)) items (fault_item items e h n)
-fault_item (Ok (Parent i) ∷ items) e h n = Contains-there (Err e) (Ok (Parent i)) items (fault_item items e h n)
-fault_item (Ok (Author line) ∷ items) e h n = Contains-there (Err e) (Ok (Author line)) items (fault_item items e h n)
-fault_item (Ok (Committer signature) ∷ items) e h n = cc
-fault_item (Ok (Rest bytes) ∷ items) e h n = Contains-there (Err e) (Ok (Rest bytes)) items (fault_item items e h n)
+fault_item (Ok x ∷ items) e h n = Contains-there (Err e) (Ok x) items (fault_item items e (past x items e h) n)
 
 -- reading never answers that a count is missing
 pub read_misses_no_count : (objects : Objects) (faulty : ObjectId → Type 0) (i : ObjectId) (e : Error) → IsReadFault objects faulty i e → e ≢ error.MissingIndegreeUnexpected

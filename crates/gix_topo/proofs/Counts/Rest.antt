@@ -1,25 +1,12 @@
 -- Where the greatest generation that waits is below the depth, all that waits is.
-use Rattle.std.specs.Prelude.{◌≡◌, ◌≤◌, ◌<◌, ℕ, List, [], ◌∷◌, Bool, true, false, Contains}
-use Rattle.std.proofs.Common.{refl, sym, ap, ⊎_elim, ◌∙◌, arith}
+use Rattle.std.proofs.Common.{◌≡◌, ◌≤◌, ◌<◌, ℕ, List, [], ◌∷◌, false, Contains, ap, ⊎_elim, arith, leb-false, nat_cmp, min}
 use Rattle.std.proofs.Math.Dec.{leb}
-use Rattle.std.proofs.lemmas.Bool.{leb-false, true≢false}
-use Rattle.std.specs.Ordering.{nat_cmp, is_lt}
-use Rattle.std.specs.Cmp.{nat_cmp_is}
-use Rattle.std.specs.declared.cmp.Ordering.TheVariants.{Less}
+use Rattle.gix_topo.proofs.Common.{nat_tests, ObjectId, GraphRow, least, known_generation, Contains-cons_cases, no_member}
 use Rattle.std.specs.BinaryHeap.{lt_by_cmp, IsUpperBound}
 use Rattle.gix_revwalk.specs.PriorityQueue.{keys}
-use Rattle.std.proofs.Common.{min}
-use Rattle.gix_hash.specs.declared.ObjectId.{ObjectId}
-use Rattle.gix_commitgraph.specs.Rows.{GraphRow}
-use Rattle.gix_topo.specs.Depth.{least, known_generation}
-use Rattle.gix_hash.proofs.Ids.Membership.{Contains-cons_cases, no_member}
 
 no_greater : (k y : ℕ) → lt_by_cmp nat_cmp k y ≡ false → y ≤ k
-no_greater k y e = go (leb y k) refl
-  where
-    go : (b : Bool) → leb y k ≡ b → y ≤ k
-    go true f = ⊎_elim (λ h. h.1) (λ h. absurd (true≢false (sym f ∙ h.0))) (Rattle.std.proofs.lemmas.Bool.Decides.leb_tells y k)
-    go false f = let l : k < y = leb-false y k f in absurd (true≢false (ap is_lt (nat_cmp_is k y Less l) ∙ e))
+no_greater k y e = grind (arith, nat_tests)
 
 pub all_below : {W : Type 0} (depth k : ℕ) (queue : List (ℕ × W)) → leb depth k ≡ false → IsUpperBound nat_cmp k (keys queue) → (entry : ℕ × W) → Contains queue entry → entry.0 < depth
 all_below depth k [] e h entry m = absurd (no_member entry m)
@@ -32,10 +19,7 @@ pub least_lower : (rows : List GraphRow) (depth : ℕ) (i : ObjectId) (ids : Lis
 least_lower rows depth i [] = omega arith
 least_lower rows depth i (j ∷ ids) =
     let h : least rows (min depth (known_generation rows i)) ids ≡ min (known_generation rows i) (least rows depth ids) = least_lower rows depth i ids in
-    ap (min (known_generation rows j)) h ∙ swap (known_generation rows j) (known_generation rows i) (least rows depth ids)
-  where
-    swap : (a b c : ℕ) → min a (min b c) ≡ min b (min a c)
-    swap a b c = omega arith
+    omega arith
 
 -- a lowered depth is no greater
 pub least_below : (rows : List GraphRow) (depth : ℕ) (ids : List ObjectId) → least rows depth ids ≤ depth

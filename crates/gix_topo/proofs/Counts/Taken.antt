@@ -1,17 +1,10 @@
 -- The taken commits, as the table tells them: those that were ready once, and aren't now.
-use Rattle.std.specs.Prelude.{◌≡◌, Bool, true, false, not, ◌&&◌, ◌||◌, Option, Some, None, is_some, Contains, List}
-use Rattle.std.proofs.Common.{refl, sym, ap, ◌∙◌}
+use Rattle.std.proofs.Common.{◌≡◌, Bool, true, false, not, ◌&&◌, ◌||◌, Option, is_some, Contains, List, sym, ap, ◌∙◌, arith}
 use Rattle.std.proofs.Math.Bool.{and-false}
 use Rattle.std.specs.FinMap as map_of
 use Rattle.std.specs.FinSet as set
-use Rattle.gix_hash.specs.declared.ObjectId.{ObjectId}
-use Rattle.gix_hash.specs.Id.{id_cmp, is_among}
-use Rattle.gix_hash.proofs.Ids.Membership.{id_total, id_apart, among_from, among_is}
-use Rattle.gix_topo.specs.declared.walk.Walk.{Walk}
-use Rattle.gix_frontier.specs.Inside.Frontier.{known_of, known_or}
-use Rattle.gix_frontier.specs.Inside.Known.{Known}
-use Rattle.gix_topo.specs.Inside.Releasing.{taken_in, taken_of}
-use Rattle.gix_topo.specs.Walk.{Ready, ready_ids}
+use Rattle.gix_topo.proofs.Common.{ObjectId, id_cmp, is_among, id_total, id_apart, among_from, among_is, Walk, known_of, known_or, Known, taken_of, Ready, ready_ids}
+use Rattle.gix_topo.specs.Inside.Releasing.{taken_in}
 use Rattle.gix_topo.proofs.Counts.Children.{was_ready_of}
 
 pub contains-taken : (known : map_of.FinMap id_cmp Known) (ready : List Ready) (i : ObjectId) → set.contains (taken_in known ready) i ≡ ((known_of known i).was_ready && not (is_among i (ready_ids ready)))
@@ -24,8 +17,7 @@ contains-taken known ready i =
     was_taken j = (known_of known j).was_ready && not (is_among j (ready_ids ready))
 
     in_table : (found : Option Known) → (is_some found && ((known_or found).was_ready && not (is_among i (ready_ids ready)))) ≡ ((known_or found).was_ready && not (is_among i (ready_ids ready)))
-    in_table None = refl
-    in_table (Some known) = refl
+    in_table found = grind arith
 
 -- a ready commit isn't one
 pub ready_untaken : {F : Type 0} (w : Walk F) (i : ObjectId) → Contains (ready_ids w.ready.commits) i → set.contains (taken_of w) i ≡ false
@@ -36,7 +28,4 @@ pub made_taken : {F : Type 0} (w : Walk F) → ((i : ObjectId) → Contains (rea
 made_taken w made i = either (was_ready_of w.counting.frontier i) (is_among i (ready_ids w.ready.commits)) (λ e. made i (among_is i _ e)) ∙ ap (λ b. b || is_among i (ready_ids w.ready.commits)) (sym (contains-taken w.counting.frontier.known w.ready.commits i))
   where
     either : (m r : Bool) → (r ≡ true → m ≡ true) → m ≡ ((m && not r) || r)
-    either true true h = refl
-    either true false h = refl
-    either false true h = h refl
-    either false false h = refl
+    either m r h = grind arith

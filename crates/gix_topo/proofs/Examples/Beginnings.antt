@@ -1,11 +1,7 @@
 -- Beginnings in the orders of topological walks: a list in order that is cut anywhere is one.
-use Rattle.std.specs.Prelude.{◌≡◌, ◌≤◌, ℕ, zero, suc, ℤ, List, [], ◌∷◌, ◌++◌, take, slice_get, Option, Some}
-use Rattle.std.proofs.Common.{sym, subst, arith, append_assoc, append-nil}
-use Rattle.gix_hash.specs.declared.ObjectId.{ObjectId}
-use Rattle.gix_topo.specs.DateOrder.{IsDateOrder, IsDateBeginning}
-use Rattle.gix_topo.specs.TopoOrder.{IsTopoOrder, IsTopoBeginning}
-use Rattle.gix_topo.proofs.Run.ReadyInTurn.{TurnsFrom, turn_now, turn_on, IsLastMade}
-use Rattle.gix_topo.proofs.Run.OneList.{IsBestNext}
+use Rattle.std.proofs.Common.{◌≡◌, ◌≤◌, ℕ, zero, suc, ℤ, List, [], ◌∷◌, ◌++◌, take, slice_get, Option, Some, sym, subst, arith, append_assoc, append-nil}
+use Rattle.gix_topo.proofs.Common.{ObjectId, IsDateOrder, IsDateBeginning, IsTopoOrder, IsTopoBeginning}
+use Rattle.gix_topo.proofs.Run.ReadyInTurn.{TurnsFrom, turn_now, turn_on, IsBestNext, IsLastMade}
 
 cut_short : (Q : List ObjectId → Option ObjectId → Type 0) (ids rest done : List ObjectId) → TurnsFrom Q done (ids ++ rest) → (k : ℕ) (i : ObjectId) → slice_get ids k ≡ Some i → Q (done ++ take k ids) (Some i)
 cut_short Q [] rest done h k i e = let w : suc k ≤ 0 = Rattle.std.proofs.lemmas.Option.slice_get_within [] k i e in absurd (omega arith)

@@ -1,20 +1,13 @@
 -- Worked examples of the order by time: over a finite history a test that computes says whether a list is in it.
-use Rattle.std.specs.Prelude.{◌≡◌, ◌≤◌, ℕ, pos, List, [], ◌∷◌, ◌++◌, Bool, true, false, not, ◌&&◌, ◌||◌, Option, Some, None, Contains, MatchOption}
-use Rattle.std.proofs.Common.{refl, sym, ◌∙◌, arith}
+use Rattle.std.proofs.Common.{◌≡◌, ◌≤◌, ℕ, pos, List, [], ◌∷◌, Bool, true, false, not, ◌&&◌, ◌||◌, Option, Some, None, Contains, MatchOption, refl, sym, ◌∙◌, arith, true≢false, leb-true}
 use Rattle.std.proofs.Math.Dec.{leb}
-use Rattle.std.proofs.lemmas.Int.{ints}
-use Rattle.std.proofs.lemmas.Bool.{true≢false, and_parts, leb-true, not-true, false_from_ne_true}
-use Rattle.gix_hash.specs.declared.ObjectId.{ObjectId}
-use Rattle.gix_hash.specs.Id.{is_among}
-use Rattle.gix_hash.proofs.Ids.Membership.{among_from, among_is}
+use Rattle.gix_topo.proofs.Common.{ints, and_parts, not-true, false_from_ne_true, ObjectId, is_among, among_from, among_is, NewestFirst, OldestFirst, named_by}
 use Rattle.gix_revwalk.specs.declared.CommitTimeOrder.{CommitTimeOrder}
-use Rattle.gix_revwalk.specs.declared.CommitTimeOrder.TheVariants.{NewestFirst, OldestFirst}
-use Rattle.gix_revwalk.specs.BreadthOrder.{named_by}
 use Rattle.gix_revwalk.specs.TimeOrder.{IsNoWorse, IsPending, IsBest, IsTimeOrder}
 use Rattle.gix_revwalk.specs.Examples.{ids, history, sample_in}
 use Rattle.gix_topo.proofs.Readiness.Decided.{all_of, all_is}
 use Rattle.gix_topo.proofs.Examples.TopologicalOrders.{sample_seconds}
-use Rattle.gix_topo.proofs.Run.ReadyInTurn.{TurnsFrom, turn_none, turn_more}
+use Rattle.gix_topo.proofs.Run.ReadyInTurn.{is_list, list_turns}
 
 abbrev no_worse : CommitTimeOrder → ℕ → ℕ → Bool
 no_worse NewestFirst a b = leb b a
@@ -25,8 +18,7 @@ no_worse_is NewestFirst a b e = let l : b ≤ a = leb-true _ _ e in omega (arith
 no_worse_is OldestFirst a b e = let l : a ≤ b = leb-true _ _ e in omega (arith, ints)
 
 other : (x y : Bool) → (x || y) ≡ true → x ≡ false → y ≡ true
-other true y e f = absurd (true≢false f)
-other false y e f = e
+other x y e f = grind arith
 
 module _ (order : CommitTimeOrder) (seconds : ObjectId → ℕ) (next : ObjectId → List ObjectId) (starts : List ObjectId) where
   abbrev is_next : List ObjectId → Option ObjectId → Bool
@@ -51,16 +43,11 @@ module _ (order : CommitTimeOrder) (seconds : ObjectId → ℕ) (next : ObjectId
       }
 
   abbrev is_time : List ObjectId → List ObjectId → Bool
-  is_time done [] = is_next done None
-  is_time done (i ∷ ids) = is_next done (Some i) && is_time (done ++ i ∷ []) ids
-
-  time_from : (ids done : List ObjectId) → is_time done ids ≡ true → TurnsFrom IsNext done ids
-  time_from [] done e = turn_none IsNext done (next_is done None e)
-  time_from (i ∷ ids) done e = turn_more IsNext done ids i (next_is done (Some i) (and_parts _ _ e).0) (time_from ids (done ++ i ∷ []) (and_parts _ _ e).1)
+  is_time = is_list is_next
 
   -- a list that passes is in order by time
   pub time_by : (ids : List ObjectId) → is_time [] ids ≡ true → IsTimeOrder order (λ i. pos (seconds i)) next starts ids
-  time_by ids e = time_from ids [] e
+  time_by ids e = list_turns IsNext is_next next_is ids [] e
 
 abbrev pub IsSampleTime : CommitTimeOrder → List ℕ → List ℕ → Type 0
 IsSampleTime order tips list = IsTimeOrder order (λ i. pos (sample_seconds history i)) (sample_in history) (ids tips) (ids list)

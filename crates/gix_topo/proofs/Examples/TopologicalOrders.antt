@@ -1,23 +1,12 @@
 -- Worked examples: over a finite history, lists in the orders of topological walks are found by computing.
-use Rattle.std.specs.Prelude.{◌≡◌, ◌≤◌, ℕ, suc, ℤ, pos, List, [], ◌∷◌, ◌++◌, Bool, true, false, not, ◌&&◌, ◌||◌, cond, reverse, take, Option, Some, None, Contains, MatchOption}
-use Rattle.std.proofs.Common.{refl, sym, ap, subst, inr, ⊎_elim, ◌∙◌, arith}
+use Rattle.std.proofs.Common.{◌≡◌, ◌≤◌, ℕ, suc, ℤ, pos, List, [], ◌∷◌, Bool, true, false, not, ◌&&◌, ◌||◌, cond, reverse, take, Option, Some, None, Contains, refl, sym, ap, subst, inr, ⊎_elim, ◌∙◌, arith, true≢false, leb-true}
 use Rattle.std.proofs.Math.Dec.{leb}
-use Rattle.std.proofs.lemmas.Int.{ints}
-use Rattle.std.proofs.lemmas.Bool.{false≢true, true≢false, and_parts, and_from, leb-true, not-true, not_from_false, false_from_ne_true}
-use Rattle.gix_hash.specs.declared.ObjectId.{ObjectId}
-use Rattle.gix_hash.specs.Id.{is_same, is_among}
-use Rattle.gix_revwalk.specs.BreadthOrder.{first_new, named_by}
-use Rattle.gix_revwalk.specs.TimeOrder.{IsBest}
-use Rattle.gix_revwalk.specs.declared.CommitTimeOrder.TheVariants.{NewestFirst}
-use Rattle.gix_topo.specs.DateOrder.{IsDateOrder}
-use Rattle.gix_hash.specs.Reach.{Reaches, start, step, IsAcyclic, IsAtBoundary}
-use Rattle.gix_topo.specs.WalkSet.{IsInWalk, IsAcyclicIn, IsReady}
-use Rattle.gix_topo.specs.TopoOrder.{IsMadeReady, IsTopoOrder}
+use Rattle.gix_topo.proofs.Common.{ints, false≢true, and_parts, and_from, not-true, not_from_false, false_from_ne_true, ObjectId, is_same, is_among, first_new, named_by, IsDateOrder, Reaches, start, step, IsAcyclic, IsAtBoundary}
+use Rattle.gix_topo.proofs.Common.{IsInWalk, IsAcyclicIn, IsReady, IsMadeReady, IsTopoOrder, same_is, among_is, Contains-cons_cases, no_member}
 use Rattle.gix_revwalk.specs.Examples.{n, ids, history, sample_in}
-use Rattle.gix_hash.proofs.Ids.Membership.{same_is, among_is, Contains-cons_cases, no_member}
 use Rattle.gix_revwalk.proofs.Orders.{reached_by_named}
 use Rattle.gix_topo.proofs.Readiness.Decided.{all_of, all_is, given, is_ready as is_ready_of, ready_is as ready_of, is_ready_by as of_ready, made as made_by, made_is as made_is_by}
-use Rattle.gix_topo.proofs.Run.ReadyInTurn.{TurnsFrom, turn_none, turn_more, IsLastMade}
+use Rattle.gix_topo.proofs.Run.ReadyInTurn.{is_list, list_turns, IsBestNext, IsLastMade}
 use Rattle.gix_topo.proofs.Run.OneList.{same_topo}
 
 -- the list is what the starts reach: it is closed, and each id of it is named by those before
@@ -78,7 +67,7 @@ module _ (walked : ObjectId → List ObjectId) (tips ends keys reached hidden : 
     is_best done None = all_of (λ j. not (is_ready done j)) reached
     is_best done (Some i) = is_ready done i && all_of (λ j. not (is_ready done j) || leb (seconds j) (seconds i)) reached
 
-    best_is : (done : List ObjectId) (o : Option ObjectId) → is_best done o ≡ true → MatchOption o ((i : ObjectId) → IsReady walked Member (Contains done) i → ⊥) (IsBest NewestFirst (λ i. pos (seconds i)) (IsReady walked Member (Contains done)))
+    best_is : (done : List ObjectId) (o : Option ObjectId) → is_best done o ≡ true → IsBestNext (λ i. pos (seconds i)) walked Member done o
     best_is done None e = λ i r.
         let b : is_ready done i ≡ true = is_ready_by done i r in
         true≢false (sym (all_is (λ j. not (is_ready done j)) reached e i (among_is i reached (and_parts _ _ (and_parts _ _ b).0).0)) ∙ ap not b)
@@ -93,19 +82,11 @@ module _ (walked : ObjectId → List ObjectId) (tips ends keys reached hidden : 
         }
 
     abbrev is_date : List ObjectId → List ObjectId → Bool
-    is_date done [] = is_best done None
-    is_date done (i ∷ ids) = is_best done (Some i) && is_date (done ++ i ∷ []) ids
-
-    abbrev BestNext : List ObjectId → Option ObjectId → Type 0
-    BestNext done o = MatchOption o ((i : ObjectId) → IsReady walked Member (Contains done) i → ⊥) (IsBest NewestFirst (λ i. pos (seconds i)) (IsReady walked Member (Contains done)))
-
-    date_from : (ids done : List ObjectId) → is_date done ids ≡ true → TurnsFrom BestNext done ids
-    date_from [] done e = turn_none BestNext done (best_is done None e)
-    date_from (i ∷ ids) done e = turn_more BestNext done ids i (best_is done (Some i) (and_parts _ _ e).0) (date_from ids (done ++ i ∷ []) (and_parts _ _ e).1)
+    is_date = is_list is_best
 
     -- a list that passes is in order by date
     pub date_by : (ids : List ObjectId) → is_date [] ids ≡ true → IsDateOrder (λ i. pos (seconds i)) walked Member ids
-    date_by ids e = date_from ids [] e
+    date_by ids e = list_turns (IsBestNext (λ i. pos (seconds i)) walked Member) is_best best_is ids [] e
 
   module _ (time : ObjectId → ℤ) where
     abbrev made : List ObjectId → List ObjectId
@@ -129,18 +110,15 @@ module _ (walked : ObjectId → List ObjectId) (tips ends keys reached hidden : 
     abbrev is_turn : List ObjectId → Option ObjectId → Bool
     is_turn done o = is_this o (first_new (reverse (made (reverse done))) done)
 
-    abbrev is_topo : List ObjectId → List ObjectId → Bool
-    is_topo done [] = is_turn done None
-    is_topo done (i ∷ ids) = is_turn done (Some i) && is_topo (done ++ i ∷ []) ids
+    turn_is : (done : List ObjectId) (o : Option ObjectId) → is_turn done o ≡ true → IsLastMade time walked Member tips done o
+    turn_is done o e = (made (reverse done), made_is (reverse done), this_is o _ e)
 
-    topo_from : (ids done : List ObjectId) → is_topo done ids ≡ true → TurnsFrom (IsLastMade time walked Member tips) done ids
-    topo_from [] done e = turn_none (IsLastMade time walked Member tips) done (made (reverse done), made_is (reverse done), this_is None _ e)
-    topo_from (i ∷ ids) done e =
-        turn_more (IsLastMade time walked Member tips) done ids i (made (reverse done), made_is (reverse done), this_is (Some i) _ (and_parts _ _ e).0) (topo_from ids (done ++ i ∷ []) (and_parts _ _ e).1)
+    abbrev is_topo : List ObjectId → List ObjectId → Bool
+    is_topo = is_list is_turn
 
     -- a list that passes is in topological order
     pub topo_by : (ids : List ObjectId) → is_topo [] ids ≡ true → IsTopoOrder time walked Member tips ids
-    topo_by ids e = topo_from ids [] e
+    topo_by ids e = list_turns (IsLastMade time walked Member tips) is_turn turn_is ids [] e
 
 -- the sample history
 abbrev pub keys_of : List (ℕ × List ℕ) → List ObjectId

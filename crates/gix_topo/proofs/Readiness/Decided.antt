@@ -1,13 +1,8 @@
 -- Over a finite history, where a test decides the members, a test decides which commits are ready, and those made ready are computed.
-use Rattle.std.specs.Prelude.{◌≡◌, ℤ, List, [], ◌∷◌, ◌++◌, Bool, true, false, not, ◌&&◌, ◌||◌, cond, filter, Contains}
-use Rattle.std.proofs.Common.{refl, sym, subst, ⊎_elim, ◌∙◌}
-use Rattle.std.proofs.lemmas.Bool.{false≢true, true≢false, and_parts, and_from, not-true, not_from_false, false_from_ne_true}
-use Rattle.std.proofs.lemmas.List.Elements.{Contains-append_cases}
-use Rattle.gix_hash.specs.declared.ObjectId.{ObjectId}
-use Rattle.gix_hash.specs.Id.{is_among}
-use Rattle.gix_topo.specs.WalkSet.{IsChild, IsChildless, IsReady}
-use Rattle.gix_topo.specs.TopoOrder.{Keeps, none, kept, passed, first_places, last_places, by_time, IsMadeReady}
-use Rattle.gix_hash.proofs.Ids.Membership.{among_from, among_is, Contains-here, Contains-there, Contains-cons_cases, no_member}
+use Rattle.std.proofs.Common.{◌≡◌, ℤ, List, [], ◌∷◌, ◌++◌, Bool, true, false, not, ◌&&◌, ◌||◌, cond, filter, Contains, refl, sym, subst, ⊎_elim, ◌∙◌, arith, true≢false}
+use Rattle.gix_topo.proofs.Common.{and_parts, and_from, not-true, not_from_false, false_from_ne_true, Contains-append_cases, ObjectId, is_among, IsChild, IsChildless, IsReady, Keeps, passed, first_places, last_places, by_time}
+use Rattle.gix_topo.proofs.Common.{IsMadeReady, among_from, among_is, Contains-here, Contains-there, Contains-cons_cases, no_member}
+use Rattle.gix_topo.specs.TopoOrder.{none, kept}
 use Rattle.gix_topo.proofs.Readiness.IsReady.{keeps_alike, keeps_from}
 use Rattle.gix_topo.proofs.Readiness.RisingTime.{in_by_time}
 
@@ -25,12 +20,10 @@ all_by p [] h = refl
 all_by p (x ∷ xs) h = and_from _ _ (h x (Contains-here x xs)) (all_by p xs (λ i c. h i (Contains-there i x xs c)))
 
 pub given : (a b : Bool) → (not a || b) ≡ true → a ≡ true → b ≡ true
-given true b e t = e
-given false b e t = absurd (false≢true t)
+given a b e t = grind arith
 
 gives : (a b : Bool) → (a ≡ true → b ≡ true) → (not a || b) ≡ true
-gives true b f = f refl
-gives false b f = refl
+gives a b f = grind arith
 
 -- what is made ready is in the walk
 pub made_member : (time : ObjectId → ℤ) (walked : ObjectId → List ObjectId) (In : ObjectId → Type 0) (tips taken ready : List ObjectId) → IsMadeReady time walked In tips taken ready → (i : ObjectId) → Contains ready i → In i

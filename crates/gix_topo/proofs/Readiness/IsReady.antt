@@ -1,44 +1,21 @@
 -- Which commits are ready: how taking one changes them. Over any walked parents and any set.
-use Rattle.std.specs.Prelude.{◌≡◌, ◌⊎◌, ◌+◌, ◌≤◌, ℕ, ℤ, List, [], ◌∷◌, ◌++◌, Bool, true, false, ◌||◌, cond, filter, Contains}
-use Rattle.std.proofs.Common.{refl, sym, ap, subst, inl, inr, ⊎_elim, ◌∙◌, arith}
-use Rattle.std.proofs.lemmas.Bool.{true≢false, false_from_ne_true}
-use Rattle.gix_hash.specs.declared.ObjectId.{ObjectId}
-use Rattle.gix_hash.specs.Id.{is_same, is_among}
-use Rattle.gix_hash.specs.Reach.{Reaches, start, step}
-use Rattle.gix_topo.specs.WalkSet.{IsInWalk, IsChild, IsChildless, IsReady}
-use Rattle.gix_topo.specs.TopoOrder.{Keeps, none, kept, passed, distinct_after, first_places, last_places, by_time}
-use Rattle.gix_revwalk.specs.Ids.{AreDistinct}
-use Rattle.gix_hash.proofs.Ids.Membership.{same_is, same_itself, same_from, among_from, among_is, Contains-here, Contains-there, Contains-cons_cases, no_member}
-use Rattle.gix_revwalk.proofs.NewIds.{times, times_none, times_moved, among_times, times_is_among}
+use Rattle.std.proofs.Common.{◌≡◌, ◌⊎◌, ◌+◌, ◌≤◌, ℕ, ℤ, List, [], ◌∷◌, ◌++◌, Bool, true, false, not, ◌&&◌, ◌||◌, cond, Contains, refl, sym, ap, subst, inl, inr, ⊎_elim, ◌∙◌, arith, true≢false}
+use Rattle.gix_topo.proofs.Common.{false_from_ne_true, and_parts, not-true, or_cases, or_left, or_right, ObjectId, is_same, is_among, Reaches, start, step, IsInWalk, IsChild, IsChildless, IsReady, Keeps, passed, distinct_after}
+use Rattle.gix_topo.proofs.Common.{first_places, last_places, by_time, AreDistinct, same_is, among_from, among_is, Contains-here, Contains-there, Contains-cons_cases, no_member, fresh, times_none, times_moved, times-fresh, among_times}
+use Rattle.gix_topo.specs.TopoOrder.{none, kept}
+use Rattle.gix_revwalk.proofs.NewIds.{times}
 use Rattle.gix_topo.proofs.Readiness.RisingTime.{by_time_moves}
 
 -- lists in which an id is as often
 pub among_by : (i : ObjectId) (xs ys : List ObjectId) → times i xs ≡ times i ys → is_among i xs ≡ is_among i ys
-among_by i xs ys e = go (is_among i xs) (is_among i ys) refl refl
-  where
-    go : (a b : Bool) → is_among i xs ≡ a → is_among i ys ≡ b → a ≡ b
-    go true true x y = refl
-    go false false x y = refl
-    go true false x y = let l : 1 ≤ times i xs = among_times i xs x in let z : times i ys ≡ 0 = times_none i ys y in absurd (omega arith)
-    go false true x y = let l : 1 ≤ times i ys = among_times i ys y in let z : times i xs ≡ 0 = times_none i xs x in absurd (omega arith)
+among_by i xs ys e = grind (arith, among_times i xs, among_times i ys, times_none i xs, times_none i ys)
 
 pub distinct_times : (xs : List ObjectId) → AreDistinct xs → (i : ObjectId) → times i xs ≤ 1
 distinct_times [] d i = omega arith
-distinct_times (x ∷ xs) d i = go (is_same i x) refl (distinct_times xs d.1 i)
+distinct_times (x ∷ xs) d i = go (is_same i x) (times i xs) (distinct_times xs d.1 i) (λ e. times_none i xs (false_from_ne_true _ (λ t. d.0 (subst (λ y. Contains xs y) (same_is i x e) (among_is i xs t)))))
   where
-    go : (b : Bool) → is_same i x ≡ b → times i xs ≤ 1 → cond b 1 0 + times i xs ≤ 1
-    go true e r = let z : times i xs ≡ 0 = times_none i xs (false_from_ne_true _ (λ t. d.0 (subst (λ y. Contains xs y) (same_is i x e) (among_is i xs t)))) in omega arith
-    go false e r = omega arith
-
-pub times-filter : (p : ObjectId → Bool) (i : ObjectId) (xs : List ObjectId) → times i (filter p xs) ≡ cond (p i) (times i xs) 0
-times-filter p i [] = elim (p i) as (λ b. ◌≡◌ {A = ℕ} 0 (cond b 0 0)) [ true ↦ refl | false ↦ refl ]
-times-filter p i (x ∷ xs) = go (p x) refl (is_same i x) refl (times-filter p i xs)
-  where
-    go : (b : Bool) → p x ≡ b → (c : Bool) → is_same i x ≡ c → times i (filter p xs) ≡ cond (p i) (times i xs) 0 → times i (cond b (x ∷ filter p xs) (filter p xs)) ≡ cond (p i) (cond c 1 0 + times i xs) 0
-    go true e true s r = let k : p i ≡ true = ap p (same_is i x s) ∙ e in let here : ◌≡◌ {A = ℕ} (cond (is_same i x) 1 0) 1 = ap (λ b. cond b 1 0) s in let q : times i (filter p xs) ≡ times i xs = r ∙ ap (λ b. cond b (times i xs) 0) k in (let g : cond (is_same i x) 1 0 + times i (filter p xs) ≡ 1 + times i xs = omega arith in g) ∙ ap (λ b. cond b (1 + times i xs) 0) (sym k)
-    go true e false s r = let here : ◌≡◌ {A = ℕ} (cond (is_same i x) 1 0) 0 = ap (λ b. cond b 1 0) s in (let g : cond (is_same i x) 1 0 + times i (filter p xs) ≡ times i (filter p xs) = omega arith in g) ∙ r ∙ ap (λ n. cond (p i) n 0) (let z : times i xs ≡ 0 + times i xs = omega arith in z)
-    go false e true s r = let k : p i ≡ false = ap p (same_is i x s) ∙ e in r ∙ ap (λ b. cond b (times i xs) 0) k ∙ ap (λ b. cond b (1 + times i xs) 0) (sym k)
-    go false e false s r = r ∙ ap (λ n. cond (p i) n 0) (let z : times i xs ≡ 0 + times i xs = omega arith in z)
+    go : (b : Bool) (n : ℕ) → n ≤ 1 → (b ≡ true → n ≡ 0) → cond b 1 0 + n ≤ 1
+    go b n l z = grind arith
 
 -- what is kept of a list
 module _ (P : ObjectId → Type 0) where
@@ -81,70 +58,61 @@ keeps_append (passed n h) k = passed n (keeps_append h k)
 pub keeps_alike : (P Q : ObjectId → Type 0) → ((i : ObjectId) → P i → Q i) → ((i : ObjectId) → Q i → P i) → {xs ys : List ObjectId} → Keeps P xs ys → Keeps Q xs ys
 keeps_alike P Q f g = keeps_on (λ i m. f i) (λ i m. g i)
 
--- each id at its last, or first, place
-pub last_in : (xs : List ObjectId) (i : ObjectId) → Contains xs i → Contains (last_places xs) i
-last_in [] i c = c
-last_in (x ∷ xs) i c = go (last_in xs i) (is_among x xs) refl
+-- so often or not at all
+counted_among : (i : ObjectId) (xs : List ObjectId) (b : Bool) → times i xs ≡ cond b 1 0 → is_among i xs ≡ b
+counted_among i xs b e = grind (arith, among_times i xs, times_none i xs)
+
+counted_once : (n : ℕ) (b : Bool) → n ≡ cond b 1 0 → n ≤ 1
+counted_once n b e = grind arith
+
+-- each id at its last place
+pub times-last : (i : ObjectId) (xs : List ObjectId) → times i (last_places xs) ≡ cond (is_among i xs) 1 0
+times-last i [] = refl
+times-last i (x ∷ xs) = go (is_among x xs) (last_places xs) ∙ counted (is_among x xs) (is_same i x) (is_among i xs) (times i (last_places xs)) (times-last i xs) (λ s. ap (λ y. is_among y xs) (same_is i x s))
   where
-    go : (Contains xs i → Contains (last_places xs) i) → (b : Bool) → is_among x xs ≡ b → Contains (cond b (last_places xs) (x ∷ last_places xs)) i
-    go r true e = ⊎_elim (λ s. r (subst (λ y. Contains xs y) s (among_is x xs e))) (λ t. r t) (Contains-cons_cases i x xs c)
-    go r false e = ⊎_elim (λ s. subst (λ y. Contains (x ∷ last_places xs) y) s (Contains-here x (last_places xs))) (λ t. Contains-there i x (last_places xs) (r t)) (Contains-cons_cases i x xs c)
+    go : (b : Bool) (ys : List ObjectId) → times i (cond b ys (x ∷ ys)) ≡ cond b (times i ys) (cond (is_same i x) 1 0 + times i ys)
+    go true ys = refl
+    go false ys = refl
+
+    counted : (b s c : Bool) (n : ℕ) → n ≡ cond c 1 0 → (s ≡ true → c ≡ b) → cond b n (cond s 1 0 + n) ≡ cond (s || c) 1 0
+    counted b s c n r o = grind arith
+
+last_among : (xs : List ObjectId) (i : ObjectId) → is_among i (last_places xs) ≡ is_among i xs
+last_among xs i = counted_among i (last_places xs) (is_among i xs) (times-last i xs)
+
+pub last_in : (xs : List ObjectId) (i : ObjectId) → Contains xs i → Contains (last_places xs) i
+last_in xs i c = among_is i _ (last_among xs i ∙ among_from i xs c)
 
 pub last_from : (xs : List ObjectId) (i : ObjectId) → Contains (last_places xs) i → Contains xs i
-last_from [] i c = c
-last_from (x ∷ xs) i c = go (last_from xs i) (is_among x xs) c
-  where
-    go : (Contains (last_places xs) i → Contains xs i) → (b : Bool) → Contains (cond b (last_places xs) (x ∷ last_places xs)) i → Contains (x ∷ xs) i
-    go r true c = Contains-there i x xs (r c)
-    go r false c = ⊎_elim (λ s. subst (λ y. Contains (x ∷ xs) y) s (Contains-here x xs)) (λ t. Contains-there i x xs (r t)) (Contains-cons_cases i x (last_places xs) c)
+last_from xs i c = among_is i xs (sym (last_among xs i) ∙ among_from i _ c)
 
 pub last_once : (xs : List ObjectId) (i : ObjectId) → times i (last_places xs) ≤ 1
-last_once [] i = omega arith
-last_once (x ∷ xs) i = go (is_among x xs) refl (last_once xs i)
-  where
-    go : (b : Bool) → is_among x xs ≡ b → times i (last_places xs) ≤ 1 → times i (cond b (last_places xs) (x ∷ last_places xs)) ≤ 1
-    go true e r = r
-    go false e r = new (is_same i x) refl
-      where
-        new : (b : Bool) → is_same i x ≡ b → cond b 1 0 + times i (last_places xs) ≤ 1
-        new true s =
-            let z : times i (last_places xs) ≡ 0 = times_none i (last_places xs) (false_from_ne_true _ (λ t. true≢false (sym (among_from x xs (last_from xs x (subst (λ y. Contains (last_places xs) y) (same_is i x s) (among_is i _ t)))) ∙ e))) in
-            omega arith
-        new false s = omega arith
+last_once xs i = counted_once (times i (last_places xs)) (is_among i xs) (times-last i xs)
 
-pub first_in : (seen xs : List ObjectId) (i : ObjectId) → Contains xs i → is_among i seen ≡ false → Contains (distinct_after seen xs) i
-first_in seen [] i c n = c
-first_in seen (x ∷ xs) i c n = go (λ old. first_in old xs i) (is_among x seen) refl (is_same i x) refl
-  where
-    go : ((old : List ObjectId) → Contains xs i → is_among i old ≡ false → Contains (distinct_after old xs) i) → (b : Bool) → is_among x seen ≡ b → (s : Bool) → is_same i x ≡ s → Contains (cond b (distinct_after seen xs) (x ∷ distinct_after (x ∷ seen) xs)) i
-    go r true e s is = ⊎_elim (λ same. absurd (true≢false (sym e ∙ ap (λ y. is_among y seen) same ∙ n))) (λ t. r seen t n) (Contains-cons_cases i x xs c)
-    go r false e true is = subst (λ y. Contains (x ∷ distinct_after (x ∷ seen) xs) y) (sym (same_is i x is)) (Contains-here x _)
-    go r false e false is = ⊎_elim (λ same. absurd (true≢false (sym (same_from i x (sym same)) ∙ is))) (λ t. Contains-there i x _ (r (x ∷ seen) t (Rattle.std.proofs.lemmas.Bool.or_from (is_same i x) (is_among i seen) is n))) (Contains-cons_cases i x xs c)
+-- each id at its first place: the ids that are new
+distinct_fresh : (seen xs : List ObjectId) → distinct_after seen xs ≡ fresh (λ j. is_among j seen) xs
+distinct_fresh seen [] = refl
+distinct_fresh seen (x ∷ xs) = λ k. cond (is_among x seen) (distinct_fresh seen xs k) (x ∷ distinct_fresh (x ∷ seen) xs k)
 
-pub first_once : (seen xs : List ObjectId) (i : ObjectId) → times i (distinct_after seen xs) ≤ cond (is_among i seen) 0 1
-first_once seen [] i = omega arith
-first_once seen (x ∷ xs) i = go (is_among x seen) refl (is_same i x) refl (first_once seen xs i) (first_once (x ∷ seen) xs i)
-  where
-    go : (b : Bool) → is_among x seen ≡ b → (s : Bool) → is_same i x ≡ s → times i (distinct_after seen xs) ≤ cond (is_among i seen) 0 1 → times i (distinct_after (x ∷ seen) xs) ≤ cond (is_same i x || is_among i seen) 0 1 → times i (cond b (distinct_after seen xs) (x ∷ distinct_after (x ∷ seen) xs)) ≤ cond (is_among i seen) 0 1
-    go true e s is r q = r
-    go false e true is r q =
-        let z : ◌≡◌ {A = ℕ} (cond (is_same i x || is_among i seen) 0 1) 0 = ap (λ b. cond (b || is_among i seen) 0 1) is in
-        let o : ◌≡◌ {A = ℕ} (cond (is_among i seen) 0 1) 1 = ap (λ b. cond b 0 1) (ap (λ y. is_among y seen) (same_is i x is) ∙ e) in
-        let h : ◌≡◌ {A = ℕ} (cond (is_same i x) 1 0) 1 = ap (λ b. cond b 1 0) is in
-        omega arith
-    go false e false is r q =
-        let z : ◌≡◌ {A = ℕ} (cond (is_same i x || is_among i seen) 0 1) (cond (is_among i seen) 0 1) = ap (λ b. cond (b || is_among i seen) 0 1) is in
-        let h : ◌≡◌ {A = ℕ} (cond (is_same i x) 1 0) 0 = ap (λ b. cond b 1 0) is in
-        omega arith
+times-first : (seen xs : List ObjectId) (i : ObjectId) → times i (distinct_after seen xs) ≡ cond (not (is_among i seen) && is_among i xs) 1 0
+times-first seen xs i = ap (times i) (distinct_fresh seen xs) ∙ times-fresh i (λ j. is_among j seen) xs
 
--- sorting by time leaves each id as often
-pub times-by_time : (time : ObjectId → ℤ) (i : ObjectId) (xs : List ObjectId) → times i (by_time time xs) ≡ times i xs
-times-by_time time i xs = times_moved i xs (by_time time xs) (by_time_moves time xs)
+pub first_among : (seen xs : List ObjectId) (i : ObjectId) → is_among i (distinct_after seen xs) ≡ (not (is_among i seen) && is_among i xs)
+first_among seen xs i = counted_among i (distinct_after seen xs) _ (times-first seen xs i)
+
+pub first_from : (seen xs : List ObjectId) (i : ObjectId) → Contains (distinct_after seen xs) i → (is_among i seen ≡ false) × Contains xs i
+first_from seen xs i m = let k = and_parts _ _ (sym (first_among seen xs i) ∙ among_from i _ m) in (not-true _ k.0, among_is i xs k.1)
+
+pub first_once : (xs : List ObjectId) (i : ObjectId) → times i (first_places xs) ≤ 1
+first_once xs i = counted_once (times i (first_places xs)) _ (times-first [] xs i)
+
+-- sorting by time leaves the ids
+pub among-by_time : (time : ObjectId → ℤ) (i : ObjectId) (xs : List ObjectId) → is_among i (by_time time xs) ≡ is_among i xs
+among-by_time time i xs = among_by i (by_time time xs) xs (times_moved i xs (by_time time xs) (by_time_moves time xs))
 
 module _ (walked : ObjectId → List ObjectId) (In : ObjectId → Type 0) where
-  -- these are exactly the ready ones, each once
+  -- these are exactly the ready ones
   pub record AreReady (Taken : ObjectId → Type 0) (ready : List ObjectId) : Type 0 where
-    pub once : (i : ObjectId) → times i ready ≤ 1
     pub each : (i : ObjectId) → is_among i ready ≡ true → IsReady walked In Taken i
     pub all : (i : ObjectId) → IsReady walked In Taken i → is_among i ready ≡ true
 
@@ -152,7 +120,7 @@ module _ (walked : ObjectId → List ObjectId) (In : ObjectId → Type 0) where
   ready_alike T U f g i h = record { member = h.member; left = λ u. h.left (g i u); children = λ d c. f d (h.children d c) }
 
   pub are_ready_alike : (T U : ObjectId → Type 0) → ((i : ObjectId) → T i → U i) → ((i : ObjectId) → U i → T i) → (ready : List ObjectId) → AreReady T ready → AreReady U ready
-  are_ready_alike T U f g ready h = record { once = h.once; each = λ i m. ready_alike T U f g i (h.each i m); all = λ i r. h.all i (ready_alike U T g f i r) }
+  are_ready_alike T U f g ready h = record { each = λ i m. ready_alike T U f g i (h.each i m); all = λ i r. h.all i (ready_alike U T g f i r) }
 
   -- one more is taken
   pub record IsOneMore (T U : ObjectId → Type 0) (c : ObjectId) : Type 0 where
@@ -160,95 +128,34 @@ module _ (walked : ObjectId → List ObjectId) (In : ObjectId → Type 0) where
     pub now : U c
     pub either : (i : ObjectId) → U i → T i ⊎ (c ≡ i)
 
-  pub takes_ready : (T U : ObjectId → Type 0) (c : ObjectId) (ready others added new : List ObjectId) → IsOneMore T U c → AreReady T ready → ((i : ObjectId) → times i ready ≡ cond (is_same i c) 1 0 + times i others) →
-      Keeps (IsReady walked In U) (last_places (walked c)) added → ((i : ObjectId) → times i new ≡ times i others + times i added) → AreReady U new
-  takes_ready T U c ready others added new more h split keeps joined =
-      record { once = λ i. once i (is_among i added) refl; each = each; all = all }
+  pub takes_ready : (T U : ObjectId → Type 0) (c : ObjectId) (ready others added new : List ObjectId) → IsOneMore T U c → AreReady T ready → ((i : ObjectId) → is_among i ready ≡ (is_same i c || is_among i others)) → (Contains others c → ⊥) →
+      Keeps (IsReady walked In U) (last_places (walked c)) added → ((i : ObjectId) → is_among i new ≡ (is_among i others || is_among i added)) → AreReady U new
+  takes_ready T U c ready others added new more h was alone keeps now =
+      record { each = λ i m. ⊎_elim (still i) (λ a. (keeps_from (IsReady walked In U) keeps i (among_is i added a)).1) (or_cases _ _ (sym (now i) ∙ m)); all = λ i r. all i r (is_among i (walked c)) refl }
     where
-      c_ready : IsReady walked In T c
-      c_ready = h.each c (times_is_among c ready (let e : times c ready ≡ cond (is_same c c) 1 0 + times c others = split c in let s : ◌≡◌ {A = ℕ} (cond (is_same c c) 1 0) 1 = ap (λ b. cond b 1 0) (same_itself c) in omega arith))
+      still : (i : ObjectId) → is_among i others ≡ true → IsReady walked In U i
+      still i o =
+          let r : IsReady walked In T i = h.each i (was i ∙ or_right (is_same i c) _ o) in
+          record { member = r.member; left = λ u. ⊎_elim r.left (λ k. alone (subst (Contains others) (sym k) (among_is i others o))) (more.either i u); children = λ d k. more.before d (r.children d k) }
 
-      -- what became ready wasn't ready before
-      apart : (i : ObjectId) → is_among i added ≡ true → times i ready ≡ 0
-      apart i m =
-          let k : Contains (last_places (walked c)) i × IsReady walked In U i = keeps_from (IsReady walked In U) keeps i (among_is i added m) in
-          times_none i ready (false_from_ne_true _ (λ t. c_ready.left ((h.each i t).children c (record { child = c_ready.member; parent = k.1.member; named = last_from (walked c) i k.0 }))))
-
-      once : (i : ObjectId) (b : Bool) → is_among i added ≡ b → times i new ≤ 1
-      once i true m =
-          let z : times i ready ≡ 0 = apart i m in
-          let s : times i ready ≡ cond (is_same i c) 1 0 + times i others = split i in
-          let j : times i new ≡ times i others + times i added = joined i in
-          let a : times i added ≤ times i (last_places (walked c)) = keeps_times (IsReady walked In U) keeps i in
-          let l : times i (last_places (walked c)) ≤ 1 = last_once (walked c) i in
-          omega arith
-      once i false m =
-          let z : times i added ≡ 0 = times_none i added m in
-          let s : times i ready ≡ cond (is_same i c) 1 0 + times i others = split i in
-          let j : times i new ≡ times i others + times i added = joined i in
-          let o : times i ready ≤ 1 = h.once i in
-          omega arith
-
-      still : (i : ObjectId) → 1 ≤ times i others → (b : Bool) → is_same i c ≡ b → IsReady walked In U i
-      still i m true e =
-          let o : times i ready ≤ 1 = h.once i in
-          let s : times i ready ≡ cond (is_same i c) 1 0 + times i others = split i in
-          let k : ◌≡◌ {A = ℕ} (cond (is_same i c) 1 0) 1 = ap (λ b. cond b 1 0) e in
-          absurd (omega arith)
-      still i m false e =
-          let s : times i ready ≡ cond (is_same i c) 1 0 + times i others = split i in
-          let r : IsReady walked In T i = h.each i (times_is_among i ready (omega arith)) in
-          record { member = r.member; left = λ u. ⊎_elim r.left (λ k. true≢false (sym (same_from i c (sym k)) ∙ e)) (more.either i u); children = λ d k. more.before d (r.children d k) }
-
-      each : (i : ObjectId) → is_among i new ≡ true → IsReady walked In U i
-      each i m = go (is_among i added) refl
-        where
-          go : (b : Bool) → is_among i added ≡ b → IsReady walked In U i
-          go true a = (keeps_from (IsReady walked In U) keeps i (among_is i added a)).1
-          go false a =
-              let z : times i added ≡ 0 = times_none i added a in
-              let j : times i new ≡ times i others + times i added = joined i in
-              let o : 1 ≤ times i new = among_times i new m in
-              still i (omega arith) (is_same i c) refl
-
-      all : (i : ObjectId) → IsReady walked In U i → is_among i new ≡ true
-      all i r = go (is_among i (walked c)) refl
-        where
-          go : (b : Bool) → is_among i (walked c) ≡ b → is_among i new ≡ true
-          go true m =
-              let a : Contains added i = keeps_in (IsReady walked In U) keeps i (last_in (walked c) i (among_is i (walked c) m)) r in
-              let o : 1 ≤ times i added = among_times i added (among_from i added a) in
-              let j : times i new ≡ times i others + times i added = joined i in
-              times_is_among i new (omega arith)
-          go false m =
-              let old : IsReady walked In T i = record {
-                member = r.member;
-                left = λ t. r.left (more.before i t);
-                children = λ d k. ⊎_elim (λ t. t) (λ e. absurd (true≢false (sym (among_from i (walked c) (subst (λ y. Contains (walked y) i) (sym e) k.named)) ∙ m))) (more.either d (r.children d k));
-              } in
-              let o : 1 ≤ times i ready = among_times i ready (h.all i old) in
-              let s : times i ready ≡ cond (is_same i c) 1 0 + times i others = split i in
-              let n : ◌≡◌ {A = ℕ} (cond (is_same i c) 1 0) 0 = ap (λ b. cond b 1 0) (false_from_ne_true _ (λ t. r.left (subst U (sym (same_is i c t)) more.now))) in
-              let j : times i new ≡ times i others + times i added = joined i in
-              times_is_among i new (omega arith)
+      all : (i : ObjectId) → IsReady walked In U i → (b : Bool) → is_among i (walked c) ≡ b → is_among i new ≡ true
+      all i r true m = now i ∙ or_right (is_among i others) _ (among_from i added (keeps_in (IsReady walked In U) keeps i (last_in (walked c) i (among_is i (walked c) m)) r))
+      all i r false m =
+          let old : IsReady walked In T i = record {
+            member = r.member;
+            left = λ t. r.left (more.before i t);
+            children = λ d k. ⊎_elim (λ t. t) (λ e. absurd (true≢false (sym (among_from i (walked c) (subst (λ y. Contains (walked y) i) (sym e) k.named)) ∙ m))) (more.either d (r.children d k));
+          } in
+          ⊎_elim (λ s. absurd (r.left (subst U (sym (same_is i c s)) more.now))) (λ o. now i ∙ or_left (is_among i others) _ o) (or_cases _ _ (sym (was i) ∙ h.all i old))
 
   -- at first the childless tips are ready
   pub starts_ready : (T : ObjectId → Type 0) (tips childless starts : List ObjectId) → ((i : ObjectId) → T i → ⊥) → ((i : ObjectId) → In i → Contains tips i ⊎ ((c : ObjectId) × IsChild walked In c i)) →
-      Keeps (IsChildless walked In) (first_places tips) childless → ((i : ObjectId) → times i starts ≡ times i childless) → AreReady T starts
+      Keeps (IsChildless walked In) (first_places tips) childless → ((i : ObjectId) → is_among i starts ≡ is_among i childless) → AreReady T starts
   starts_ready T tips childless starts untaken top keeps same =
       record {
-        once = λ i. let s : times i starts ≡ times i childless = same i in let k : times i childless ≤ times i (first_places tips) = keeps_times (IsChildless walked In) keeps i in let o : times i (first_places tips) ≤ 1 = first_once [] tips i in omega arith;
-        each = λ i m.
-            let s : times i starts ≡ times i childless = same i in
-            let o : 1 ≤ times i starts = among_times i starts m in
-            let k : Contains (first_places tips) i × IsChildless walked In i = keeps_from (IsChildless walked In) keeps i (among_is i childless (times_is_among i childless (omega arith))) in
-            record { member = k.1.member; left = untaken i; children = λ d c. absurd (k.1.alone d c) };
+        each = λ i m. let k = (keeps_from (IsChildless walked In) keeps i (among_is i childless (sym (same i) ∙ m))).1 in record { member = k.member; left = untaken i; children = λ d c. absurd (k.alone d c) };
         all = λ i r.
-            ⊎_elim (λ tip.
-            let c : Contains childless i = keeps_in (IsChildless walked In) keeps i (first_in [] tips i tip refl) (record { member = r.member; alone = λ d c. untaken d (r.children d c) }) in
-            let o : 1 ≤ times i childless = among_times i childless (among_from i childless c) in
-            let s : times i starts ≡ times i childless = same i in
-            times_is_among i starts (omega arith))
+            ⊎_elim (λ tip. same i ∙ among_from i childless (keeps_in (IsChildless walked In) keeps i (among_is i _ (first_among [] tips i ∙ among_from i tips tip)) (record { member = r.member; alone = λ d c. untaken d (r.children d c) })))
             (λ c. absurd (untaken c.0 (r.children c.0 c.1))) (top i r.member);
       }
 

@@ -1,25 +1,23 @@
 -- Ready commits by their ids: those that are held, chosen, and joined.
-use Rattle.std.specs.Prelude.{◌≡◌, ◌+◌, List, [], ◌∷◌, ◌++◌, cond, Contains, IsPermutation}
-use Rattle.std.proofs.Common.{sym, ap, subst, ⊎_elim, ◌∙◌, arith, append_assoc, append-nil}
+use Rattle.std.proofs.Common.{◌≡◌, ◌+◌, ◌≤◌, ℕ, suc, List, [], ◌∷◌, ◌++◌, length, Bool, true, false, ◌||◌, cond, map, Contains, IsPermutation, sym, ap, subst, ⊎_elim, ◌∙◌, arith, append_assoc, append-nil}
 use Rattle.std.proofs.lemmas.List.{map-append}
-use Rattle.std.proofs.lemmas.List.Elements.{Contains-append_left, Contains-push}
-use Rattle.std.proofs.lemmas.List.Sorted.{IsPermutation-map, IsPermutation-sym, IsPermutation-append_left, IsPermutation-trans, IsPermutation-refl, Contains-permutation}
-use Rattle.gix_hash.specs.declared.ObjectId.{ObjectId}
-use Rattle.gix_hash.specs.Id.{is_same}
-use Rattle.gix_hash.proofs.Ids.Membership.{Contains-here, Contains-there, Contains-cons_cases, no_member}
-use Rattle.gix_topo.specs.declared.Sorting.{Sorting}
+use Rattle.gix_topo.proofs.Common.{length_permutation, IsPermutation-to_front, IsPermutation-map, IsPermutation-sym, IsPermutation-append_left, IsPermutation-trans, IsPermutation-refl, Contains-permutation, ObjectId, is_same, is_among}
+use Rattle.gix_topo.proofs.Common.{among-append, among_is, Contains-here, Contains-there, Contains-cons_cases, no_member, Sorting, Ready, ready_ids, HoldsReady, Chooses, AreDistinct, times-append, times_moved, times_none, times_once}
 use Rattle.gix_topo.specs.declared.Sorting.TheVariants as order
-use Rattle.gix_topo.specs.Walk.{Ready, ready_ids, HoldsReady, Chooses}
-use Rattle.gix_revwalk.proofs.NewIds.{times, times-append, times_moved}
+use Rattle.gix_revwalk.proofs.NewIds.{times}
+use Rattle.gix_topo.proofs.Readiness.IsReady.{among_by, distinct_times}
 
 pub in_ids : (rs : List Ready) (r : Ready) → Contains rs r → Contains (ready_ids rs) r.id
 in_ids [] r m = absurd (no_member r m)
 in_ids (x ∷ rs) r m = ⊎_elim (λ s. subst (λ j. Contains (x.id ∷ ready_ids rs) j) (ap (λ y. y.id) s) (Contains-here x.id (ready_ids rs))) (λ t. Contains-there r.id x.id (ready_ids rs) (in_ids rs r t)) (Contains-cons_cases r x rs m)
 
+-- what is in a list that was mapped
+pub from_map : {X Y : Type 0} (f : X → Y) (xs : List X) (y : Y) → Contains (map f xs) y → (x : X) × Contains xs x × (f x ≡ y)
+from_map f [] y m = absurd (no_member y m)
+from_map f (x ∷ xs) y m = ⊎_elim (λ s. (x, Contains-here x xs, s)) (λ t. let h = from_map f xs y t in (h.0, Contains-there h.0 x xs h.1, h.2)) (Contains-cons_cases y (f x) (map f xs) m)
+
 pub from_ids : (rs : List Ready) (p : ObjectId) → Contains (ready_ids rs) p → (r : Ready) × Contains rs r × (r.id ≡ p)
-from_ids [] p m = absurd (no_member p m)
-from_ids (x ∷ rs) p m =
-    ⊎_elim (λ s. (x, Contains-here x rs, s)) (λ t. let h : (r : Ready) × Contains rs r × (r.id ≡ p) = from_ids rs p t in (h.0, Contains-there h.0 x rs h.1, h.2)) (Contains-cons_cases p x.id (ready_ids rs) m)
+from_ids rs p m = from_map (λ r. r.id) rs p m
 
 pub ids-append : (xs ys : List Ready) → ready_ids (xs ++ ys) ≡ ready_ids xs ++ ready_ids ys
 ids-append xs ys = map-append (λ r. r.id) xs ys
@@ -31,13 +29,18 @@ pub joined_times : (i : ObjectId) (xs ys : List Ready) → times i (ready_ids (x
 joined_times i xs ys = ap (times i) (ids-append xs ys) ∙ times-append i (ready_ids xs) (ready_ids ys)
 
 -- what is held
+holds_moved : (s : Sorting) (these ready : List Ready) → HoldsReady s these ready → IsPermutation these ready
+holds_moved order.TopoOrder these ready h = subst (IsPermutation these) (sym h) (IsPermutation-refl these)
+holds_moved order.DateOrder these ready h = h
+
 pub holds_times : (s : Sorting) (these ready : List Ready) → HoldsReady s these ready → (i : ObjectId) → times i (ready_ids ready) ≡ times i (ready_ids these)
-holds_times order.TopoOrder these ready h i = ap (λ rs. times i (ready_ids rs)) h
-holds_times order.DateOrder these ready h i = times-permutation i these ready h
+holds_times s these ready h i = times-permutation i these ready (holds_moved s these ready h)
+
+pub holds_length : (s : Sorting) (these ready : List Ready) → HoldsReady s these ready → length ready ≡ length these
+holds_length s these ready h = length_permutation these ready (holds_moved s these ready h)
 
 pub holds_in : (s : Sorting) (these ready : List Ready) → HoldsReady s these ready → (r : Ready) → Contains ready r → Contains these r
-holds_in order.TopoOrder these ready h r c = subst (λ rs. Contains rs r) h c
-holds_in order.DateOrder these ready h r c = Contains-permutation ready these r (IsPermutation-sym these ready h) c
+holds_in s these ready h r c = Contains-permutation ready these r (IsPermutation-sym these ready (holds_moved s these ready h)) c
 
 pub holds_none : (s : Sorting) (old : List Ready) → HoldsReady s (old ++ []) old
 holds_none order.TopoOrder old = sym (append-nil old)
@@ -48,17 +51,41 @@ holds_on order.TopoOrder old first mid others new a b = b ∙ ap (λ xs. xs ++ o
 holds_on order.DateOrder old first mid others new a b = subst (λ xs. IsPermutation xs new) (append_assoc old first others) (IsPermutation-trans _ _ _ (IsPermutation-append_left others (old ++ first) mid a) b)
 
 -- what is chosen, and what is left
+chosen_moved : (s : Sorting) (ready : List Ready) (c : Ready) (others : List Ready) → Chooses s ready c others → IsPermutation (c ∷ others) ready
+chosen_moved order.TopoOrder ready c others h = IsPermutation-sym _ _ (subst (λ rs. IsPermutation rs (c ∷ others)) (sym h) (IsPermutation-to_front others c))
+chosen_moved order.DateOrder ready c others h = IsPermutation-sym _ _ h.0
+
 pub chosen_times : (s : Sorting) (ready : List Ready) (c : Ready) (others : List Ready) → Chooses s ready c others → (i : ObjectId) → times i (ready_ids ready) ≡ cond (is_same i c.id) 1 0 + times i (ready_ids others)
-chosen_times order.TopoOrder ready c others h i =
-    let e : times i (ready_ids ready) ≡ times i (ready_ids (others ++ c ∷ [])) = ap (λ rs. times i (ready_ids rs)) h in
-    let j : times i (ready_ids (others ++ c ∷ [])) ≡ times i (ready_ids others) + times i (ready_ids (c ∷ [])) = joined_times i others (c ∷ []) in
-    omega arith
-chosen_times order.DateOrder ready c others h i = sym (times-permutation i ready (c ∷ others) h.0)
+chosen_times s ready c others h i = times-permutation i (c ∷ others) ready (chosen_moved s ready c others h)
+
+pub chosen_length : (s : Sorting) (ready : List Ready) (c : Ready) (others : List Ready) → Chooses s ready c others → length ready ≡ suc (length others)
+chosen_length s ready c others h = length_permutation (c ∷ others) ready (chosen_moved s ready c others h)
 
 pub chosen_in : (s : Sorting) (ready : List Ready) (c : Ready) (others : List Ready) → Chooses s ready c others → Contains ready c
-chosen_in order.TopoOrder ready c others h = subst (λ rs. Contains rs c) (sym h) (Contains-push others c)
-chosen_in order.DateOrder ready c others h = Contains-permutation (c ∷ others) ready c (IsPermutation-sym ready (c ∷ others) h.0) (Contains-here c others)
+chosen_in s ready c others h = Contains-permutation (c ∷ others) ready c (chosen_moved s ready c others h) (Contains-here c others)
 
 pub others_in : (s : Sorting) (ready : List Ready) (c : Ready) (others : List Ready) → Chooses s ready c others → (r : Ready) → Contains others r → Contains ready r
-others_in order.TopoOrder ready c others h r m = subst (λ rs. Contains rs r) (sym h) (Contains-append_left others (c ∷ []) r m)
-others_in order.DateOrder ready c others h r m = Contains-permutation (c ∷ others) ready r (IsPermutation-sym ready (c ∷ others) h.0) (Contains-there r c others m)
+others_in s ready c others h r m = Contains-permutation (c ∷ others) ready r (chosen_moved s ready c others h) (Contains-there r c others m)
+
+-- the same by their ids
+pub chosen_among : (s : Sorting) (ready : List Ready) (c : Ready) (others : List Ready) → Chooses s ready c others → (i : ObjectId) → is_among i (ready_ids ready) ≡ (is_same i c.id || is_among i (ready_ids others))
+chosen_among s ready c others h i = among_by i (ready_ids ready) (c.id ∷ ready_ids others) (chosen_times s ready c others h i)
+
+pub held_among : (s : Sorting) (others added ready : List Ready) → HoldsReady s (others ++ added) ready → (i : ObjectId) → is_among i (ready_ids ready) ≡ (is_among i (ready_ids others) || is_among i (ready_ids added))
+held_among s others added ready h i = among_by i (ready_ids ready) (ready_ids others ++ ready_ids added) (holds_times s (others ++ added) ready h i ∙ ap (times i) (ids-append others added)) ∙ among-append i (ready_ids others) (ready_ids added)
+
+-- the chosen one was there once
+pub chosen_once : (s : Sorting) (ready : List Ready) (c : Ready) (others : List Ready) → Chooses s ready c others → AreDistinct (ready_ids ready) → AreDistinct (c.id ∷ ready_ids others)
+chosen_once s ready c others h d = times_once (c.id ∷ ready_ids others) (λ i.
+    let e : times i (ready_ids ready) ≡ cond (is_same i c.id) 1 0 + times i (ready_ids others) = chosen_times s ready c others h i in
+    let l : times i (ready_ids ready) ≤ 1 = distinct_times (ready_ids ready) d i in
+    omega arith)
+
+-- and so is each one, where what is added is new
+pub held_once : (s : Sorting) (others added ready : List Ready) → HoldsReady s (others ++ added) ready → AreDistinct (ready_ids others) → AreDistinct (ready_ids added) → ((i : ObjectId) → Contains (ready_ids added) i → is_among i (ready_ids others) ≡ false) → AreDistinct (ready_ids ready)
+held_once s others added ready h o a apart = times_once (ready_ids ready) (λ i.
+    go (is_among i (ready_ids added)) _ _ _ (holds_times s (others ++ added) ready h i ∙ joined_times i others added) (distinct_times (ready_ids others) o i) (distinct_times (ready_ids added) a i)
+    (λ e. times_none i (ready_ids others) (apart i (among_is i _ e))) (times_none i (ready_ids added)))
+  where
+    go : (b : Bool) (n m k : ℕ) → n ≡ m + k → m ≤ 1 → k ≤ 1 → (b ≡ true → m ≡ 0) → (b ≡ false → k ≡ 0) → n ≤ 1
+    go b n m k j o a x y = grind arith

@@ -1,13 +1,10 @@
 -- A commit's text that has no fault up to its committer has none.
-use Rattle.std.specs.Prelude.{ℕ, zero, suc, ◌≡◌, List, [], ◌∷◌, length, codes, Option, Some, None, Result, Ok, Err, Contains}
-use Rattle.std.proofs.Common.{⊎_elim, ◌∙◌}
+use Rattle.std.proofs.Common.{ℕ, zero, suc, ◌≡◌, List, [], ◌∷◌, length, codes, Option, Some, None, Result, Ok, Err, Contains, ⊎_elim, ◌∙◌}
 use Rattle.gix_hash.specs.declared.Kind.{Kind}
-use Rattle.gix_hash.specs.declared.ObjectId.{ObjectId}
+use Rattle.gix_topo.proofs.Common.{ObjectId, Item, Tree, Parent, Author, Committer, Rest, AtTree, AtParents, AtCommitter, AtRest, AtEnd, tree_front, author_front, parent_front, committer_front, unfolded, items_within, commit_items}
+use Rattle.gix_topo.proofs.Common.{after_word, first_committer, Contains-cons_cases, no_member}
 use Rattle.gix_object.specs.declared.decode.Error.{Error as DecodeError}
 use Rattle.gix_object.specs.declared.decode.Error.TheVariants as fault
-use Rattle.gix_object.specs.CommitItems.{Item, Tree, Parent, Author, Committer, Rest, AtTree, AtParents, AtCommitter, AtRest, AtEnd, tree_front, author_front, parent_front, committer_front, unfolded, items_within, commit_items, after_word}
-use Rattle.gix_object.specs.CommitRefIter.{first_committer}
-use Rattle.gix_hash.proofs.Ids.Membership.{Contains-cons_cases, no_member}
 
 -- a fault among the items is the first committer's, and says that something is wrong
 abbrev IsTold : List (Result Item DecodeError) → Type 0

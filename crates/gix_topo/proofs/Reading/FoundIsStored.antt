@@ -1,53 +1,35 @@
 -- A ready commit as it was read, with rows that agree.
-use Rattle.std.specs.Prelude.{◌≡◌, ℕ, Bool, true, cond, Option, Some, None, Result, Ok, Err, List, Contains}
-use Rattle.std.proofs.Common.{refl, sym, ap, subst, ◌∙◌}
-use Rattle.std.proofs.lemmas.Bool.{lt-ltb}
-use Rattle.gix_hash.specs.declared.ObjectId.{ObjectId}
+use Rattle.std.proofs.Common.{◌≡◌, ℕ, Bool, true, cond, Option, Some, None, Result, Ok, List, Contains, refl, sym, ap, subst, ◌∙◌, arith, lt-ltb}
+use Rattle.gix_topo.proofs.Common.{ObjectId, kind_of, is_among, Objects, commit_items, first_committer, GraphRow, row_of, Info, IsAgreeing, infinity, time_of, time_in, commit_of_object, RowSays, is_read, Reads, by_row, by_text}
+use Rattle.gix_topo.proofs.Common.{told_generation, time_of_committer, TopoPlan, Ready, IsStored, named_ids, row_generation, IsFound, row_stands, row_says_time}
 use Rattle.gix_object.specs.declared.decode.Error.{Error as DecodeError}
-use Rattle.gix_hash.specs.Id.{kind_of, is_among}
-use Rattle.gix_object.specs.Object.{Objects}
 use Rattle.gix_object.specs.CommitText.{Commit, read_commit}
-use Rattle.gix_object.specs.CommitItems.{commit_items}
-use Rattle.gix_object.specs.CommitRefIter.{first_committer}
-use Rattle.gix_commitgraph.specs.Rows.{GraphRow, row_of}
-use Rattle.gix_revwalk.specs.declared.Info.{Info}
 use Rattle.gix_revwalk.specs.declared.row.RowRead.{RowRead}
-use Rattle.gix_revwalk.specs.Agreeing.{IsAgreeing}
-use Rattle.gix_topo.specs.Depth.{infinity}
-use Rattle.gix_revwalk.specs.Commits.{time_of, time_in, commit_of_object}
-use Rattle.gix_revwalk.specs.Reading.{RowSays, is_read}
-use Rattle.gix_topo.specs.Reading.{Reads, by_row, by_text, told_generation, time_of_committer}
 use Rattle.gix_topo.specs.Inside.Searched.{text_next}
 use Rattle.gix_revwalk.specs.Infos.{IsRowGeneration}
-use Rattle.gix_topo.specs.Walk.{TopoPlan, Ready, IsStored, named_ids, row_generation, IsFound}
 use Rattle.gix_revwalk.proofs.Rows.{passed_over}
 use Rattle.gix_revwalk.proofs.CommitterTime.{TellsTime, tells}
-use Rattle.gix_revwalk.proofs.ReadsWhole.{row_stands, row_says_time}
 use Rattle.gix_topo.proofs.Reading.ReadsCommit.{reads_named, reads_text_next}
 
 committer_time : (o : Option Commit) (q : Result (List ℕ) DecodeError) → TellsTime o q → time_of_committer q ≡ time_in o
-committer_time (Some c) (Ok signature) h = sym h
-committer_time (Some c) (Err e) h = absurd h
-committer_time None (Ok signature) h = absurd h
-committer_time None (Err e) h = refl
+committer_time o q h = grind arith
 
 module _ (objects : Objects) (faulty : ObjectId → Type 0) (rows : List GraphRow) (agrees : IsAgreeing objects rows) where
   finite_told : (i : ObjectId) {read : RowRead} (says : RowSays rows i read) → told_generation read.generation ≡ Some says.row.generation
   finite_told i says =
       ap told_generation says.generation ∙ ap (λ b. cond b (Some says.row.generation) None) (lt-ltb says.row.generation infinity (agrees says.row (row_stands rows i says.row says.there).0).finite)
 
-  reads_time : {in_use : Bool} {i : ObjectId} {info : Info} {new : Bool} → Reads objects faulty rows in_use i (Ok info) new → info.commit_time ≡ Some (time_of objects i)
-  reads_time {i = i} (by_row (is_read h says) is) = is.same_time ∙ ap Some (says.time ∙ row_says_time objects rows agrees i says.row says.there)
-  reads_time {i = i} (by_text n t) =
-      t.2.0.same_time ∙ ap Some (committer_time (read_commit (kind_of i) t.0) (first_committer (commit_items (kind_of i) t.0)) (tells (kind_of i) t.0) ∙ sym (ap (λ o. time_in (commit_of_object i o)) t.1))
-
-  reads_row : {in_use : Bool} {i : ObjectId} {info : Info} {new : Bool} → Reads objects faulty rows in_use i (Ok info) new → IsRowGeneration rows i info.generation
-  reads_row {i = i} (by_row (is_read h says) is) = subst (IsRowGeneration rows i) (sym (is.same_generation ∙ finite_told i says)) (says.row, says.there, refl)
-  reads_row {i = i} (by_text n t) = subst (IsRowGeneration rows i) (sym t.2.0.same_generation) tt
-
-  reads_told : {in_use : Bool} {i : ObjectId} {info : Info} {new : Bool} → Reads objects faulty rows in_use i (Ok info) new → new ≡ true → info.generation ≡ row_generation (row_of rows i)
-  reads_told {i = i} (by_row (is_read h says) is) e = is.same_generation ∙ finite_told i says ∙ sym (ap row_generation says.there)
-  reads_told (by_text r t) e = t.2.0.same_generation ∙ sym (ap row_generation (passed_over r e))
+  reads_stored : {in_use : Bool} {i : ObjectId} {info : Info} {new : Bool} → Reads objects faulty rows in_use i (Ok info) new → (info.commit_time ≡ Some (time_of objects i)) × IsRowGeneration rows i info.generation × (new ≡ true → info.generation ≡ row_generation (row_of rows i))
+  reads_stored {i = i} (by_row (is_read h says) is) = (
+    is.same_time ∙ ap Some (says.time ∙ row_says_time objects rows agrees i says.row says.there),
+    subst (IsRowGeneration rows i) (sym (is.same_generation ∙ finite_told i says)) (says.row, says.there, refl),
+    λ e. is.same_generation ∙ finite_told i says ∙ sym (ap row_generation says.there),
+  )
+  reads_stored {i = i} (by_text r t) = (
+    t.2.0.same_time ∙ ap Some (committer_time (read_commit (kind_of i) t.0) (first_committer (commit_items (kind_of i) t.0)) (tells (kind_of i) t.0) ∙ sym (ap (λ o. time_in (commit_of_object i o)) t.1)),
+    subst (IsRowGeneration rows i) (sym t.2.0.same_generation) tt,
+    λ e. t.2.0.same_generation ∙ sym (ap row_generation (passed_over r e)),
+  )
 
 module _ {F : Type 0} (objects : F → Objects) (faulty : F → ObjectId → Type 0) (plan : TopoPlan F) where
   -- with rows that agree, its parents are the ids that its text names
@@ -60,9 +42,11 @@ module _ {F : Type 0} (objects : F → Objects) (faulty : F → ObjectId → Typ
 
   -- with rows that agree, it is as its text and the rows say
   pub found_stored : {was_in_use in_use : Bool} {r : Ready} → IsAgreeing (objects plan.store) plan.rows → IsFound objects faulty plan was_in_use in_use r → IsStored objects plan in_use r
-  found_stored {r = r} agrees f = record {
-    parents = found_text agrees f;
-    time = let same : Some r.time ≡ Some (time_of (objects plan.store) r.id) = sym f.is.same_time ∙ reads_time (objects plan.store) (faulty plan.store) plan.rows agrees f.reads in cc;
-    by_row = subst (IsRowGeneration plan.rows r.id) f.is.same_generation (reads_row (objects plan.store) (faulty plan.store) plan.rows agrees f.reads);
-    told = λ e. sym f.is.same_generation ∙ reads_told (objects plan.store) (faulty plan.store) plan.rows agrees f.reads (f.later e);
-  }
+  found_stored {r = r} agrees f =
+      let k = reads_stored (objects plan.store) (faulty plan.store) plan.rows agrees f.reads in
+      record {
+        parents = found_text agrees f;
+        time = let same : Some r.time ≡ Some (time_of (objects plan.store) r.id) = sym f.is.same_time ∙ k.0 in cc;
+        by_row = subst (IsRowGeneration plan.rows r.id) f.is.same_generation k.1;
+        told = λ e. sym f.is.same_generation ∙ k.2 (f.later e);
+      }

@@ -1,23 +1,16 @@
--- What was read once is known, and as long as the rows are in use its row has no fault.
-use Rattle.std.specs.Prelude.{◌≡◌, Bool, true, Ok, Contains}
-use Rattle.std.proofs.Common.{sym, ap, subst, inl, inr, ⊎_elim, ◌∙◌}
-use Rattle.gix_hash.specs.declared.ObjectId.{ObjectId}
-use Rattle.gix_hash.specs.Id.{kind_of}
-use Rattle.gix_object.specs.Object.{Objects}
-use Rattle.gix_revwalk.specs.declared.Info.{Info}
-use Rattle.gix_revwalk.specs.Reading.{is_read}
-use Rattle.gix_topo.specs.Reading.{Reads, by_row, by_text, ReadsText}
-use Rattle.gix_frontier.specs.declared.Side.{Side}
-use Rattle.gix_frontier.specs.declared.Side.TheVariants.{Tips, Ends}
-use Rattle.gix_frontier.specs.declared.Frontier.{Frontier}
-use Rattle.gix_topo.specs.declared.counting.Counting.{Counting}
-use Rattle.gix_topo.specs.declared.walk.Walk.{Walk}
-use Rattle.gix_frontier.specs.Inside.Frontier.{is_done, reached}
-use Rattle.gix_topo.specs.Inside.Releasing.{plan_of, LooksUpParent, Pushes}
-use Rattle.gix_topo.specs.Inside.Steady.{IsReadOnce, AreRead}
-use Rattle.gix_topo.specs.Walk.{TopoPlan, Ready, IsCommitRead, IsKnown, IsFound}
-use Rattle.gix_revwalk.proofs.Rows.{IsSoundRow, whole_in_use}
+-- Why a reading fails; and what was read once is known, and as long as the rows are in use its row has no fault.
+use Rattle.std.proofs.Common.{◌≡◌, List, [], Bool, true, if◌then◌else◌, Ok, Err, Contains, refl, sym, ap, subst, inl, inr, ⊎_elim, ◌∙◌}
+use Rattle.gix_topo.proofs.Common.{ObjectId, kind_of, Objects, Info, is_read, GraphRow, Error, Reads, by_row, by_text, ReadFails, ReadsText, Side, Tips, Ends, Frontier, Counting, Walk, is_done, reached, plan_of, LooksUpParent, Pushes}
+use Rattle.gix_topo.proofs.Common.{IsReadOnce, AreRead, TopoPlan, Ready, IsCommitRead, IsKnown, IsFound}
+use Rattle.gix_revwalk.specs.RowParents.{IsUnrowed}
+use Rattle.gix_topo.specs.Reading.{no_memory}
+use Rattle.gix_revwalk.proofs.Rows.{IsSoundRow, passes, whole_in_use}
 use Rattle.gix_topo.proofs.Reading.Faultless.{faultless}
+
+-- why a reading failed: the store is asked only where no row of the commit is in use
+pub reading_fails : {objects : Objects} {faulty : ObjectId → Type 0} {rows : List GraphRow} {in_use new : Bool} {i : ObjectId} (e : Error) → Reads objects faulty rows in_use i (Err e) new → ReadFails objects faulty rows in_use i e
+reading_fails {rows = rows} {i = i} e (by_text r t) = (t, λ n u. subst (λ b. IsUnrowed (if b then rows else []) i) u (passes r).0)
+reading_fails e no_memory = (tt, λ n. absurd (n refl))
 
 -- a commit that is read from the store has no fault
 pub text_read : (objects : Objects) (faulty : ObjectId → Type 0) (i : ObjectId) (info : Info) → ReadsText objects faulty i (Ok info) → IsCommitRead objects i

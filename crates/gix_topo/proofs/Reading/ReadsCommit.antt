@@ -1,28 +1,13 @@
 -- What reading a commit says of the ids that rows and texts name, and, with rows that agree, of its parents.
-use Rattle.std.specs.Prelude.{◌≡◌, ◌≤◌, ◌<◌, ◌^◌, ◌-◌, List, map, Bool, true, Option, Some, None, Ok, Contains}
-use Rattle.std.proofs.Common.{refl, sym, ap, subst, ◌∙◌, arith}
-use Rattle.std.proofs.lemmas.Bool.{or_left, or_right}
+use Rattle.std.proofs.Common.{◌≡◌, ◌≤◌, ◌<◌, ◌^◌, ◌-◌, List, map, Bool, true, Option, Some, None, Ok, Contains, refl, sym, ap, subst, ◌∙◌, arith}
+use Rattle.gix_topo.proofs.Common.{or_left, or_right, ObjectId, is_among, Objects, GraphRow, row_of, parents_in, ReadsWhole, parents_of, commit_at, among-append, among_from, no_member, Info, IsAgreeing, known_generation, generation_in}
+use Rattle.gix_topo.proofs.Common.{infinity, is_read, Reads, by_row, by_text, named_ids, row_stands, row_parents, parent_below, text_whole, among_flat}
 use Rattle.std.specs.FinMap as map_of
-use Rattle.gix_hash.specs.declared.ObjectId.{ObjectId}
 use Rattle.gix_object.specs.declared.Kind.TheVariants as object
-use Rattle.gix_hash.specs.Id.{is_among}
-use Rattle.gix_object.specs.Object.{Objects}
-use Rattle.gix_commitgraph.specs.Rows.{GraphRow, row_of}
 use Rattle.gix_object.specs.CommitText.{Commit}
-use Rattle.gix_revwalk.specs.Commits.{parents_in, ReadsWhole, parents_of, commit_at}
-use Rattle.gix_hash.proofs.Ids.Membership.{among-append, among_from, no_member}
-use Rattle.gix_revwalk.specs.declared.Info.{Info}
-use Rattle.gix_revwalk.specs.Agreeing.{IsAgreeing}
-use Rattle.gix_topo.specs.Depth.{known_generation, generation_in, infinity}
-use Rattle.gix_revwalk.specs.Reading.{is_read}
-use Rattle.gix_topo.specs.Reading.{Reads, by_row, by_text}
 use Rattle.gix_revwalk.specs.Texts.{text_parents}
-use Rattle.gix_topo.specs.Walk.{named_ids}
 use Rattle.gix_topo.specs.Inside.Searched.{text_next, next_in}
-use Rattle.gix_revwalk.proofs.ReadsWhole.{row_stands, row_parents, parent_below}
-use Rattle.gix_revwalk.proofs.TextParents.{text_whole}
 use Rattle.gix_revwalk.proofs.Rows.{ids_in_rows, found_entry}
-use Rattle.gix_revwalk.proofs.NewIds.{among_flat}
 
 module _ (objects : Objects) (faulty : ObjectId → Type 0) (rows : List GraphRow) where
   -- the parents that are read are among the ids that rows and texts name
@@ -46,11 +31,7 @@ module _ (objects : Objects) (faulty : ObjectId → Type 0) (rows : List GraphRo
     finite i row e = let f : row.generation < 2 ^ 32 - 1 = (agrees row (row_stands rows i row e).0).finite in omega arith
 
     highest : (i : ObjectId) → known_generation rows i ≤ infinity
-    highest i = go (row_of rows i) refl
-      where
-        go : (o : Option GraphRow) → row_of rows i ≡ o → generation_in o ≤ infinity
-        go None e = omega arith
-        go (Some row) e = finite i row e
+    highest i = grind (arith, finite i)
 
     -- no parent's known generation is greater
     pub parents_lower : (c i : ObjectId) → Contains (text_next objects c) i → known_generation rows i ≤ known_generation rows c
@@ -61,14 +42,10 @@ module _ (objects : Objects) (faulty : ObjectId → Type 0) (rows : List GraphRo
         go (Some row) e =
             let h : Contains rows row × (c ≡ row.id) = row_stands rows c row e in
             let w : ReadsWhole objects c = subst (ReadsWhole objects) (sym h.1) (agrees row h.0).whole in
-            lower c row i e (subst (λ ids. Contains ids i) (sym (text_whole objects c w)) m)
-          where
-            lower : (c : ObjectId) (row : GraphRow) (i : ObjectId) → row_of rows c ≡ Some row → Contains (parents_of objects c) i → known_generation rows i ≤ row.generation
-            lower c row i e n =
-                let l : (r : GraphRow) × (row_of rows i ≡ Some r) × (r.generation < row.generation) = parent_below objects rows agrees c row i e n in
-                let k : known_generation rows i ≡ l.0.generation = ap generation_in l.1 in
-                let b : l.0.generation < row.generation = l.2 in
-                omega arith
+            let l : (r : GraphRow) × (row_of rows i ≡ Some r) × (r.generation < row.generation) = parent_below objects rows agrees c row i e (subst (λ ids. Contains ids i) (sym (text_whole objects c w)) m) in
+            let k : known_generation rows i ≡ l.0.generation = ap generation_in l.1 in
+            let b : l.0.generation < row.generation = l.2 in
+            omega arith
 
 -- the parents of a commit are among those that its text names
 pub text_has : (objects : Objects) (i j : ObjectId) → Contains (parents_of objects i) j → Contains (text_next objects i) j

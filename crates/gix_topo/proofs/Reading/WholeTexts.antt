@@ -1,15 +1,8 @@
 -- Where all that is walked reads whole, texts name what is reached, and the walk gives the same by the texts.
-use Rattle.std.specs.Prelude.{◌≡◌, List, Contains}
-use Rattle.std.proofs.Common.{sym, ap, subst}
-use Rattle.gix_hash.specs.declared.ObjectId.{ObjectId}
-use Rattle.gix_object.specs.Object.{Objects}
-use Rattle.gix_hash.specs.Reach.{Reaches, start, step}
-use Rattle.gix_revwalk.specs.declared.Parents.{Parents}
-use Rattle.gix_revwalk.specs.Commits.{ReadsWhole, by_mode, parents_of, walked_parents}
+use Rattle.std.proofs.Common.{◌≡◌, List, Contains, sym, ap, subst}
+use Rattle.gix_topo.proofs.Common.{ObjectId, Objects, Reaches, start, step, Parents, ReadsWhole, by_mode, parents_of, walked_parents, TopoPlan, walked_of, text_walked, IsMember, IsTextMember, IsSound, text_whole}
 use Rattle.gix_revwalk.specs.Texts.{text_next}
-use Rattle.gix_topo.specs.Walk.{TopoPlan, walked_of, text_walked, IsMember, IsTextMember, IsSound}
 use Rattle.gix_topo.proofs.Reading.ReadsCommit.{text_has}
-use Rattle.gix_revwalk.proofs.TextParents.{text_whole}
 
 module _ (objects : Objects) (parents : Parents) (tips ends : List ObjectId) where
   abbrev walked : ObjectId → List ObjectId

@@ -1,31 +1,22 @@
--- The laws of topological walks that follow from the order alone.
-use Rattle.std.specs.Prelude.{◌≡◌, ◌↔◌, ℕ, List, [], Bool, filter, take, slice_get, Some, Result, Contains}
-use Rattle.std.proofs.Common.{subst}
-use Rattle.std.specs.List.{AllZip}
-use Rattle.std.proofs.Math.Path.{transport}
-use Rattle.gix_hash.specs.declared.ObjectId.{ObjectId}
-use Rattle.gix_object.specs.Object.{Objects}
-use Rattle.gix_commitgraph.specs.Rows.{GraphRow}
-use Rattle.gix_revwalk.specs.declared.Info.{Info}
-use Rattle.gix_topo.specs.declared.Sorting.{Sorting}
+-- The laws of topological walks that follow from the order alone; and what a walk through all parents gives, by the store over a sound history, and by the texts where no fault comes.
 use Rattle.gix_topo.specs.declared.Sorting.TheVariants as order
-use Rattle.gix_topo.specs.declared.Error.{Error}
-use Rattle.gix_revwalk.specs.Commits.{parents_of, time_of}
-use Rattle.gix_topo.specs.WalkSet.{IsAcyclicIn}
-use Rattle.gix_topo.specs.TopoOrder.{IsTopoOrder}
-use Rattle.gix_revwalk.specs.Ids.{AreDistinct}
-use Rattle.gix_topo.specs.Walk.{TopoPlan, TopoWalk, walked_of, IsMember}
-use Rattle.gix_topo.specs.Laws.{IsSorted, IsTakenInOrder, IsGiven, GivesInOrder, IsWholeRun}
+use Rattle.gix_revwalk.specs.declared.Parents.TheVariants as mode
+use Rattle.std.proofs.Common.{◌≡◌, ◌↔◌, ℕ, List, [], Bool, filter, take, slice_get, Some, Result, Contains, ◌++◌, ℤ, ◌∷◌, true, Ok, Err, All, subst, refl, sym}
+use Rattle.std.specs.List.{AllZip}
+use Rattle.gix_topo.proofs.Common.{ObjectId, Objects, GraphRow, Info, Sorting, Error, parents_of, time_of, ReadsWhole, walked_parents, by_mode, IsAcyclicIn, IsChild, IsInWalk, IsTopoOrder, AreDistinct, TopoPlan, TopoWalk, walked_of}
+use Rattle.gix_topo.proofs.Common.{IsMember, text_walked, IsTextMember, IsStarted, Next, IsTakenInOrder, IsTakenFirst, IsTakenByText, IsGiven, GivesInOrder, IsWholeRun, IsNoRefusal, IsTextGiven, GivesTextOrder, GivesDifference}
+use Rattle.gix_topo.proofs.Common.{GivesTextDifference, given_ids, Drains, Contains-append_left, Contains-append_right, Parents, Reaches, step, IsAgreeing, filter_all}
+use Rattle.gix_revwalk.specs.Texts.{text_next}
+use Rattle.gix_topo.specs.Laws.{IsSorted}
 use Rattle.gix_topo.proofs.Run.ReadyInTurn.{TurnsFrom, IsReadyNext, same_set}
 use Rattle.gix_topo.proofs.Reading.ReadsCommit.{text_has}
-use Rattle.gix_topo.proofs.Run.EachOnce.{turns_by, each_by}
+use Rattle.gix_topo.proofs.Run.EachOnce.{turns_by, each_by, first_by}
 use Rattle.gix_topo.proofs.Run.OneList.{same_topo}
-use Rattle.gix_topo.proofs.Run.Theorem.{gives}
+use Rattle.gix_topo.proofs.Run.Theorem.{gives, gives_text, run_faultless}
+use Rattle.gix_revwalk.specs.Asking.{AnswersBy}
+use Rattle.gix_revwalk.proofs.Reached.{reach_more}
 
 module _ {F : Type 0} (objects : F → Objects) (plan : TopoPlan F) (ids : List ObjectId) where
-  turns : (s : Sorting) → IsSorted s (time_of (objects plan.store)) (walked_of objects plan) (IsMember objects plan) plan.tips ids → TurnsFrom (IsReadyNext (walked_of objects plan) (IsMember objects plan)) [] ids
-  turns s h = turns_by (objects plan.store) (parents_of (objects plan.store)) (text_has (objects plan.store)) plan.parents (time_of (objects plan.store)) plan.tips plan.ends ids s h
-
   pub once : IsTakenInOrder objects plan ids → AreDistinct ids × ((i : ObjectId) → Contains ids i → IsMember objects plan i) × (IsAcyclicIn (walked_of objects plan) (IsMember objects plan) → (i : ObjectId) → IsMember objects plan i → Contains ids i)
   once h =
       let e = each_by (objects plan.store) (parents_of (objects plan.store)) (text_has (objects plan.store)) plan.parents (time_of (objects plan.store)) plan.tips plan.ends ids plan.sorting h in
@@ -34,6 +25,17 @@ module _ {F : Type 0} (objects : F → Objects) (plan : TopoPlan F) (ids : List 
   pub before_parents : IsTakenInOrder objects plan ids → (k : ℕ) (child parent : ObjectId) → slice_get ids k ≡ Some parent → Contains ids child → Contains (walked_of objects plan child) parent → Contains (take k ids) child
   before_parents h = (each_by (objects plan.store) (parents_of (objects plan.store)) (text_has (objects plan.store)) plan.parents (time_of (objects plan.store)) plan.tips plan.ends ids plan.sorting h).3
 
+  -- the same by the texts
+  pub each_by_text : IsTakenByText objects plan ids
+      → AreDistinct ids × ((i : ObjectId) → Contains ids i → IsTextMember objects plan i) × (IsAcyclicIn (text_walked objects plan) (IsTextMember objects plan) → (i : ObjectId) → IsTextMember objects plan i → Contains ids i)
+      × ((k : ℕ) (child parent : ObjectId) → slice_get ids k ≡ Some parent → Contains ids child → Contains (text_walked objects plan child) parent → Contains (take k ids) child)
+  each_by_text h = each_by (objects plan.store) (text_next (objects plan.store)) (λ c i n. n) plan.parents (time_of (objects plan.store)) plan.tips plan.ends ids plan.sorting h
+
+  -- of the first commits that are taken
+  pub first_once : IsTakenFirst objects plan ids → AreDistinct ids × ((i : ObjectId) → Contains ids i → IsMember objects plan i) ×
+      ((k : ℕ) (d p : ObjectId) → slice_get ids k ≡ Some p → IsChild (walked_of objects plan) (IsMember objects plan) d p → Contains (take k ids) d)
+  first_once h = first_by (objects plan.store) (parents_of (objects plan.store)) (text_has (objects plan.store)) plan.parents (time_of (objects plan.store)) plan.tips plan.ends ids plan.sorting h
+
 pub with_rows : {F P : Type 0} (objects : F → Objects) (faulty : F → ObjectId → Type 0) (answers : P → ObjectId → Bool → P → Type 0) (walk other : TopoWalk F P) (rows : List GraphRow) (accepts : ObjectId → Bool) (list longer : List (Result Info Error)) → walk.plan.sorting ≡ order.TopoOrder → other.plan ≡ record walk.plan { rows = rows } →
     IsWholeRun objects faulty answers walk accepts list → IsWholeRun objects faulty answers other accepts longer →
     (ids : List ObjectId) × AllZip (IsGiven objects walk.plan) list (filter accepts ids) × AllZip (IsGiven objects other.plan) longer (filter accepts ids)
@@ -41,10 +43,9 @@ with_rows {F} objects faulty answers walk other rows accepts list longer sorted 
     let g : GivesInOrder objects walk.plan accepts list = gives objects faulty answers accepts walk list run in
     let h : GivesInOrder objects other.plan accepts longer = gives objects faulty answers accepts other longer run_other in
     let plan : TopoPlan F = walk.plan in
-    let a : IsTopoOrder (time_of (objects plan.store)) (walked_of objects plan) (IsMember objects plan) plan.tips g.ids = transport (λ k. IsSorted (sorted k) (time_of (objects plan.store)) (walked_of objects plan) (IsMember objects plan) plan.tips g.ids) g.in_order in
-    let b : IsTakenInOrder objects (record plan { rows = rows }) h.ids = subst (λ p. IsTakenInOrder objects p h.ids) same h.in_order in
-    let c : IsTopoOrder (time_of (objects plan.store)) (walked_of objects plan) (IsMember objects plan) plan.tips h.ids = transport (λ k. IsSorted (sorted k) (time_of (objects plan.store)) (walked_of objects plan) (IsMember objects plan) plan.tips h.ids) b in
-    let e : h.ids ≡ g.ids = same_topo (time_of (objects plan.store)) (walked_of objects plan) (IsMember objects plan) plan.tips h.ids g.ids c a in
+    let topo : (ids : List ObjectId) → IsTakenInOrder objects plan ids → IsTopoOrder (time_of (objects plan.store)) (walked_of objects plan) (IsMember objects plan) plan.tips ids = λ ids k. subst
+    (λ s. IsSorted s (time_of (objects plan.store)) (walked_of objects plan) (IsMember objects plan) plan.tips ids) sorted k in
+    let e : h.ids ≡ g.ids = same_topo (time_of (objects plan.store)) (walked_of objects plan) (IsMember objects plan) plan.tips h.ids g.ids (topo h.ids (subst (λ p. IsTakenInOrder objects p h.ids) same h.in_order)) (topo g.ids g.in_order) in
     (g.ids, g.given, subst (λ ids. AllZip (IsGiven objects other.plan) longer (filter accepts ids)) e h.given)
 
 -- whatever the rows and the order: the same commits are taken
@@ -56,4 +57,71 @@ same_ids {F} objects faulty answers walk other rows sorting accepts list longer 
     let g : GivesInOrder objects walk.plan accepts list = gives objects faulty answers accepts walk list run in
     let h : GivesInOrder objects other.plan accepts longer = gives objects faulty answers accepts other longer run_other in
     let b : IsTakenInOrder objects (record plan { rows = rows; sorting = sorting }) h.ids = subst (λ p. IsTakenInOrder objects p h.ids) same h.in_order in
-    (g, h, same_set (walked_of objects plan) (IsMember objects plan) g.ids h.ids (turns objects plan g.ids plan.sorting g.in_order) (turns objects plan h.ids sorting b))
+    let turns : (ids : List ObjectId) (s : Sorting) → IsSorted s (time_of (objects plan.store)) (walked_of objects plan) (IsMember objects plan) plan.tips ids → TurnsFrom (IsReadyNext (walked_of objects plan) (IsMember objects plan)) [] ids =
+    λ ids s k. turns_by (objects plan.store) (parents_of (objects plan.store)) (text_has (objects plan.store)) plan.parents (time_of (objects plan.store)) plan.tips plan.ends ids s k in
+    (g, h, same_set (walked_of objects plan) (IsMember objects plan) g.ids h.ids (turns g.ids plan.sorting g.in_order) (turns h.ids sorting b))
+
+-- A walk through all parents, whose predicate accepts all: each once, what tips reach and ends don't, and all of it where no member is its own ancestor
+abbrev IsDifference : (ObjectId → List ObjectId) → List ObjectId → List ObjectId → List ObjectId → Type 0
+IsDifference next tips ends ids =
+    AreDistinct ids × ((i : ObjectId) → Contains ids i → Reaches next tips i × (Reaches next ends i → ⊥))
+    × (IsAcyclicIn next (IsInWalk next next tips ends) → (i : ObjectId) → Reaches next tips i → (Reaches next ends i → ⊥) → Contains ids i)
+
+-- a list in order is that, where all parents are walked
+in_order : (objects : Objects) (next : ObjectId → List ObjectId) → ((c i : ObjectId) → Contains (next c) i → Contains (text_next objects c) i) → (m : Parents) → m ≡ mode.All → (time : ObjectId → ℤ) (tips ends ids : List ObjectId) (s : Sorting) →
+    IsSorted s time (λ i. by_mode m (next i)) (IsInWalk (λ i. by_mode m (next i)) next tips ends) tips ids → IsDifference next tips ends ids
+in_order objects next named m all time tips ends ids s h =
+    let e = each_by objects next named mode.All time tips ends ids s (subst (λ m. IsSorted s time (λ i. by_mode m (next i)) (IsInWalk (λ i. by_mode m (next i)) next tips ends) tips ids) all h) in
+    (e.0, λ i c. ((e.1 i c).reached, (e.1 i c).outside), λ acyclic i r o. e.2 acyclic i (record { reached = r; outside = o }))
+
+-- the answers are commits, and their ids are these
+commit_ids : (G : Result Info Error → ObjectId → Type 0) → ((info : Info) (i : ObjectId) → G (Ok info) i → info.id ≡ i) → ((e : Error) (i : ObjectId) → G (Err e) i → ⊥) → (list : List (Result Info Error)) (ids : List ObjectId) → AllZip G list ids → given_ids list ≡ ids
+commit_ids G same never [] [] h = refl
+commit_ids G same never [] (i ∷ ids) h = absurd h
+commit_ids G same never (a ∷ list) [] h = absurd h
+commit_ids G same never (Ok info ∷ list) (i ∷ ids) h = λ k. same info i h.0 k ∷ commit_ids G same never list ids h.1 k
+commit_ids G same never (Err e ∷ list) (i ∷ ids) h = absurd (never e i h.0)
+
+module _ {F P : Type 0} (objects : F → Objects) (faulty : F → ObjectId → Type 0) (answers : P → ObjectId → Bool → P → Type 0) (walk : TopoWalk F P) (list : List (Result Info Error))
+    (accepting : AnswersBy answers walk.predicate (λ i. true)) (started : IsStarted objects faulty answers walk) (all : walk.plan.parents ≡ mode.All) (agreeing : IsAgreeing (objects walk.plan.store) walk.plan.rows) where
+  abbrev parents : ObjectId → List ObjectId
+  parents = parents_of (objects walk.plan.store)
+
+  module _ (whole : (i : ObjectId) → Reaches parents (walk.plan.tips ++ walk.plan.ends) i → ReadsWhole (objects walk.plan.store) i) (unrefused : All IsNoRefusal list) (drawn : Drains (Next objects faulty answers) walk list) where
+    through_all : (i : ObjectId) → Reaches (walked_of objects walk.plan) walk.plan.tips i → Reaches parents walk.plan.tips i
+    through_all i r = subst (λ m. Reaches (walked_parents (objects walk.plan.store) m) walk.plan.tips i) all r
+
+    tips_whole : (i : ObjectId) → Reaches parents walk.plan.tips i → ReadsWhole (objects walk.plan.store) i
+    tips_whole i r = whole i (reach_more parents walk.plan.tips (walk.plan.tips ++ walk.plan.ends) (λ j c. Contains-append_left walk.plan.tips walk.plan.ends j c) i r)
+
+    run : IsWholeRun objects faulty answers walk (λ i. true) list
+    run = record {
+      by_test = accepting;
+      started = started;
+      sound = record {
+        agreeing = agreeing;
+        tips_whole = λ i r. tips_whole i (through_all i r);
+        parents_whole = λ c i r n. tips_whole i (step (through_all c r) n);
+        ends_whole = λ i r. whole i (reach_more parents walk.plan.ends (walk.plan.tips ++ walk.plan.ends) (λ j c. Contains-append_right walk.plan.tips walk.plan.ends j c) i r);
+      };
+      unrefused = unrefused;
+      drawn = drawn;
+    }
+
+    -- the law
+    pub difference : GivesDifference (objects walk.plan.store) walk.plan.tips walk.plan.ends list
+    difference =
+        let g : GivesInOrder objects walk.plan (λ i. true) list = gives objects faulty answers (λ i. true) walk list run in
+        let same : given_ids list ≡ g.ids = commit_ids (IsGiven objects walk.plan) (λ info i k. k.info_is.same_id) (λ e i k. k) list g.ids (subst (AllZip (IsGiven objects walk.plan) list) (filter_all (λ i. true) g.ids (λ i c. refl)) g.given) in
+        let d : IsDifference parents walk.plan.tips walk.plan.ends (given_ids list) = subst (IsDifference parents walk.plan.tips walk.plan.ends) (sym same)
+        (in_order (objects walk.plan.store) parents (text_has (objects walk.plan.store)) walk.plan.parents all (time_of (objects walk.plan.store)) walk.plan.tips walk.plan.ends g.ids walk.plan.sorting g.in_order) in
+        record { commits = run_faultless objects faulty answers (λ i. true) walk list run; once = d.0; shown = d.1; all = d.2 }
+
+  -- the same by the texts
+  pub text_difference : ((e : Error) → Contains list (Err e) → ⊥) → Drains (Next objects faulty answers) walk list → GivesTextDifference (objects walk.plan.store) walk.plan.tips walk.plan.ends list
+  text_difference faultless drawn =
+      let g : GivesTextOrder objects walk.plan (λ i. true) list = gives_text objects faulty answers (λ i. true) walk list accepting started agreeing faultless drawn in
+      let same : given_ids list ≡ g.ids = commit_ids (IsTextGiven objects walk.plan) (λ info i k. k.info_is.same_id) (λ e i k. k) list g.ids (subst (AllZip (IsTextGiven objects walk.plan) list) (filter_all (λ i. true) g.ids (λ i c. refl)) g.given) in
+      let d : IsDifference (text_next (objects walk.plan.store)) walk.plan.tips walk.plan.ends (given_ids list) = subst (IsDifference (text_next (objects walk.plan.store)) walk.plan.tips walk.plan.ends) (sym same)
+      (in_order (objects walk.plan.store) (text_next (objects walk.plan.store)) (λ c i n. n) walk.plan.parents all (time_of (objects walk.plan.store)) walk.plan.tips walk.plan.ends g.ids walk.plan.sorting g.in_order) in
+      record { once = d.0; shown = d.1; all = d.2 }

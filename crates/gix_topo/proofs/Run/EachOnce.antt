@@ -1,32 +1,15 @@
 -- What a list in either order has, over parents that texts name: each once, members alone, children first, and all where no member is its own ancestor.
-use Rattle.std.specs.Prelude.{◌≡◌, ◌++◌, ℕ, List, [], ◌∷◌, true, take, slice_get, ℤ, Option, Some, None, Contains}
-use Rattle.std.proofs.Common.{refl, sym, subst, ⊎_elim, ◌∙◌}
-use Rattle.std.specs.List.{flat_map}
-use Rattle.std.proofs.lemmas.List.Elements.{Contains-append_left, Contains-append_right}
+use Rattle.std.proofs.Common.{◌≡◌, ◌⊎◌, ◌++◌, ℕ, List, [], true, take, slice_get, ℤ, Option, Some, None, Contains, refl, sym, subst, ◌∙◌, flat_map}
+use Rattle.gix_topo.proofs.Common.{Contains-append_left, Contains-append_right, ObjectId, is_among, Reaches, start, step, Object, Objects, Parents, Sorting, by_mode, AreDistinct, IsInWalk, IsAcyclicIn, IsChild, IsSortedBeginning}
+use Rattle.gix_topo.proofs.Common.{among_from, among_is, no_member, among_flat, walked_within}
 use Rattle.std.specs.FinMap as map_of
-use Rattle.gix_hash.specs.declared.ObjectId.{ObjectId}
-use Rattle.gix_hash.specs.Id.{is_among}
-use Rattle.gix_hash.specs.Reach.{Reaches, start, step}
-use Rattle.gix_object.specs.Object.{Object, Objects}
-use Rattle.gix_revwalk.specs.declared.Parents.{Parents}
-use Rattle.gix_topo.specs.declared.Sorting.{Sorting}
-use Rattle.gix_topo.specs.declared.Sorting.TheVariants as order
-use Rattle.gix_revwalk.specs.Commits.{by_mode}
-use Rattle.gix_revwalk.specs.Ids.{AreDistinct}
 use Rattle.gix_revwalk.specs.Texts.{text_parents, next_in, text_next}
-use Rattle.gix_topo.specs.WalkSet.{IsInWalk, IsAcyclicIn}
 use Rattle.gix_topo.specs.Laws.{IsSorted}
-use Rattle.gix_hash.proofs.Ids.Membership.{among_from, Contains-cons_cases, no_member}
-use Rattle.gix_revwalk.proofs.ReadsWhole.{walked_within}
 use Rattle.gix_revwalk.proofs.Rows.{found_entry}
 use Rattle.gix_topo.proofs.Readiness.IsReady.{in_walk_top}
-use Rattle.gix_topo.proofs.Run.ReadyInTurn.{TurnsFrom, IsReadyNext, date_turns, topo_turns, each_once, each_member, children_first, all_given}
+use Rattle.gix_topo.proofs.Run.ReadyInTurn.{TurnsFrom, IfOne, IsReadyNext, ready_turns, ready_begins, begun_once, begun_members, begun_children, each_once, each_member, children_first, all_given}
 
 -- what the texts of stored commits name is finite
-in_all : {X : Type 0} (f : X → List ObjectId) (es : List X) (e : X) (i : ObjectId) → Contains es e → Contains (f e) i → Contains (flat_map f es) i
-in_all f [] e i h n = absurd (no_member e h)
-in_all f (x ∷ es) e i h n = ⊎_elim (λ s. Contains-append_left (f x) (flat_map f es) i (subst (λ y. Contains (f y) i) (sym s) n)) (λ t. Contains-append_right (f x) (flat_map f es) i (in_all f es e i t n)) (Contains-cons_cases e x es h)
-
 abbrev pub named_all : Objects → List ObjectId
 named_all objects = flat_map (λ entry. text_parents entry.0 entry.1) (map_of.entries objects)
 
@@ -35,7 +18,7 @@ texts_named objects c i n = go (map_of.get objects c) refl
   where
     go : (o : Option Object) → map_of.get objects c ≡ o → Contains (named_all objects) i
     go None e = absurd (no_member i (subst (λ o. Contains (next_in c o) i) e n))
-    go (Some object) e = in_all (λ entry. text_parents entry.0 entry.1) (map_of.entries objects) (c, object) i (found_entry (map_of.entries objects) c object (sym (map_of.get-entries objects c) ∙ e)) (subst (λ o. Contains (next_in c o) i) e n)
+    go (Some object) e = among_is i _ (among_flat (λ entry. text_parents entry.0 entry.1) (map_of.entries objects) (c, object) i (found_entry (map_of.entries objects) c object (sym (map_of.get-entries objects c) ∙ e)) (among_from i _ (subst (λ o. Contains (next_in c o) i) e n)))
 
 -- what starts reach is among the starts and what texts name
 pub reached_known : (objects : Objects) (next : ObjectId → List ObjectId) (starts : List ObjectId) → ((c i : ObjectId) → Contains (next c) i → Contains (text_next objects c) i) → (i : ObjectId) → Reaches next starts i → Contains (starts ++ named_all objects) i
@@ -52,9 +35,11 @@ module _ (objects : Objects) (next : ObjectId → List ObjectId) (named : (c i :
   reached_named : (i : ObjectId) → Reaches walked tips i → is_among i (tips ++ named_all objects) ≡ true
   reached_named i r = among_from i (tips ++ named_all objects) (reached_known objects walked tips (λ c j n. named c j (walked_within m (next c) j n)) i r)
 
+  top : (i : ObjectId) → In i → Contains tips i ⊎ ((c : ObjectId) × IsChild walked In c i)
+  top = in_walk_top walked next tips ends (λ c i n. walked_within m (next c) i n)
+
   pub turns_by : (s : Sorting) → IsSorted s time walked In tips ids → TurnsFrom (IsReadyNext walked In) [] ids
-  turns_by order.DateOrder h = date_turns time walked In ids h
-  turns_by order.TopoOrder h = topo_turns time walked In tips (in_walk_top walked next tips ends (λ c i n. walked_within m (next c) i n)) ids h
+  turns_by s h = ready_turns time walked In tips top s ids h
 
   pub each_by : (s : Sorting) → IsSorted s time walked In tips ids
       → AreDistinct ids × ((i : ObjectId) → Contains ids i → In i) × (IsAcyclicIn walked In → (i : ObjectId) → In i → Contains ids i)
@@ -66,3 +51,10 @@ module _ (objects : Objects) (next : ObjectId → List ObjectId) (named : (c i :
         λ acyclic i m. all_given walked In ids t (tips ++ named_all objects) (λ j k. reached_named j k.reached) acyclic i m,
         children_first walked In ids t,
       )
+
+  -- the same of a beginning
+  pub first_by : (s : Sorting) → IsSortedBeginning s time walked In tips ids
+      → AreDistinct ids × ((i : ObjectId) → Contains ids i → In i) × ((k : ℕ) (d p : ObjectId) → slice_get ids k ≡ Some p → IsChild walked In d p → Contains (take k ids) d)
+  first_by s h =
+      let t : TurnsFrom (IfOne (IsReadyNext walked In)) [] ids = ready_begins time walked In tips top s ids h in
+      (begun_once walked In ids t, begun_members walked In ids t, begun_children walked In ids t)

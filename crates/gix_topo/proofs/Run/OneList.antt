@@ -1,29 +1,11 @@
 -- Each order is one list: topological order over any commits, date order over commits of different times.
-use Rattle.std.specs.Prelude.{◌≡◌, ◌≤ℤ◌, ℤ, List, [], ◌∷◌, ◌++◌, length, take, reverse, Option, Some, None, Contains, MatchOption}
-use Rattle.std.proofs.Common.{refl, sym, ap, subst, ◌∙◌, arith}
-use Rattle.std.proofs.lemmas.Int.{ints}
-use Rattle.gix_hash.specs.declared.ObjectId.{ObjectId}
-use Rattle.gix_revwalk.specs.declared.CommitTimeOrder.TheVariants.{NewestFirst}
-use Rattle.gix_revwalk.specs.BreadthOrder.{first_new}
-use Rattle.gix_revwalk.specs.TimeOrder.{IsBest}
-use Rattle.gix_topo.specs.WalkSet.{IsReady}
-use Rattle.gix_topo.specs.DateOrder.{IsDateOrder, IsDateBeginning}
-use Rattle.gix_topo.specs.TopoOrder.{IsTopoOrder, IsTopoBeginning}
-use Rattle.gix_topo.proofs.Run.ReadyInTurn.{TurnsFrom, IfOne, turns_by, turn_ended, turn_now, turn_on, IsLastMade, made_one}
+use Rattle.std.proofs.Common.{◌≡◌, ◌≤◌, ◌≤ℤ◌, ℤ, List, [], ◌∷◌, ◌++◌, length, take, reverse, Option, Some, None, refl, sym, ap, subst, ◌∙◌, arith, length-take, take_all}
+use Rattle.gix_topo.proofs.Common.{ints, ObjectId, first_new, IsDateOrder, IsDateBeginning, IsTopoOrder, IsTopoBeginning}
+use Rattle.gix_topo.proofs.Run.ReadyInTurn.{TurnsFrom, IfOne, turns_begin, turns_by, turn_ended, turn_now, turn_on, IsBestNext, IsLastMade, made_one}
 
 -- the next one is decided by those before, so the list is
 module _ (Q : List ObjectId → Option ObjectId → Type 0) (decided : (done : List ObjectId) (o p : Option ObjectId) → Q done o → Q done p → o ≡ p) where
-  one_list : (done xs ys : List ObjectId) → TurnsFrom Q done xs → TurnsFrom Q done ys → xs ≡ ys
-  one_list done [] [] h k = refl
-  one_list done [] (y ∷ ys) h k = let e : None ≡ Some y = decided done None (Some y) (turn_ended Q done h) (turn_now Q done ys y k) in cc
-  one_list done (x ∷ xs) [] h k = let e : None ≡ Some x = decided done None (Some x) (turn_ended Q done k) (turn_now Q done xs x h) in cc
-  one_list done (x ∷ xs) (y ∷ ys) h k =
-      let s : Some x ≡ Some y = decided done (Some x) (Some y) (turn_now Q done xs x h) (turn_now Q done ys y k) in
-      let e : x ≡ y = cc in
-      let r : xs ≡ ys = one_list (done ++ x ∷ []) xs ys (turn_on Q done xs x h) (subst (λ z. TurnsFrom Q (done ++ z ∷ []) ys) (sym e) (turn_on Q done ys y k)) in
-      cc
-
-  -- and a beginning is its first ids
+  -- a beginning is the first ids of the whole list
   first_ids : (done ids whole : List ObjectId) → TurnsFrom (IfOne Q) done ids → TurnsFrom Q done whole → ids ≡ take (length ids) whole
   first_ids done [] whole h k = refl
   first_ids done (x ∷ ids) [] h k = let e : None ≡ Some x = decided done None (Some x) (turn_ended Q done k) (turn_now (IfOne Q) done ids x h) in cc
@@ -33,22 +15,25 @@ module _ (Q : List ObjectId → Option ObjectId → Type 0) (decided : (done : L
       let r : ids ≡ take (length ids) whole = first_ids (done ++ x ∷ []) ids whole (turn_on (IfOne Q) done ids x h) (subst (λ z. TurnsFrom Q (done ++ z ∷ []) whole) e (turn_on Q done whole y k)) in
       (λ j. sym e j ∷ r j)
 
+  one_list : (xs ys : List ObjectId) → TurnsFrom Q [] xs → TurnsFrom Q [] ys → xs ≡ ys
+  one_list xs ys h k =
+      let a : xs ≡ take (length xs) ys = first_ids [] xs ys (turns_begin Q [] xs h) k in
+      let b : ys ≡ take (length ys) xs = first_ids [] ys xs (turns_begin Q [] ys k) h in
+      let l : length ys ≤ length xs = omega (arith, ap length b, length-take {A = ObjectId}) in
+      a ∙ take_all (length xs) ys l
+
 module _ (time : ObjectId → ℤ) (walked : ObjectId → List ObjectId) (In : ObjectId → Type 0) where
   last_decided : (tips done : List ObjectId) (o p : Option ObjectId) → IsLastMade time walked In tips done o → IsLastMade time walked In tips done p → o ≡ p
   last_decided tips done o p a b = a.2 ∙ ap (λ r. first_new (reverse r) done) (made_one time walked In tips (reverse done) a.0 b.0 a.1 b.1) ∙ sym b.2
 
   pub same_topo : (tips xs ys : List ObjectId) → IsTopoOrder time walked In tips xs → IsTopoOrder time walked In tips ys → xs ≡ ys
-  same_topo tips xs ys h k = one_list (IsLastMade time walked In tips) (last_decided tips) [] xs ys h k
+  same_topo tips xs ys h k = one_list (IsLastMade time walked In tips) (last_decided tips) xs ys h k
 
   pub first_topo : (tips ids whole : List ObjectId) → IsTopoBeginning time walked In tips ids → IsTopoOrder time walked In tips whole → ids ≡ take (length ids) whole
   first_topo tips ids whole h k = first_ids (IsLastMade time walked In tips) (last_decided tips) [] ids whole (turns_by (IsLastMade time walked In tips) ids (λ n i e. let b = h n i e in (b.0, b.1, sym b.2))) k
 
-  -- a ready one of greatest time; there is none only where none is ready
-  abbrev pub IsBestNext : List ObjectId → Option ObjectId → Type 0
-  IsBestNext done o = MatchOption o ((i : ObjectId) → IsReady walked In (Contains done) i → ⊥) (IsBest NewestFirst time (IsReady walked In (Contains done)))
-
   module _ (apart : (i j : ObjectId) → In i → In j → time i ≡ time j → i ≡ j) where
-    best_decided : (done : List ObjectId) (o p : Option ObjectId) → IsBestNext done o → IsBestNext done p → o ≡ p
+    best_decided : (done : List ObjectId) (o p : Option ObjectId) → IsBestNext time walked In done o → IsBestNext time walked In done p → o ≡ p
     best_decided done None None a b = refl
     best_decided done None (Some y) a b = absurd (a y b.among)
     best_decided done (Some x) None a b = absurd (b x a.among)
@@ -59,7 +44,7 @@ module _ (time : ObjectId → ℤ) (walked : ObjectId → List ObjectId) (In : O
         ap Some (apart x y a.among.member b.among.member t)
 
     pub same_date : (xs ys : List ObjectId) → IsDateOrder time walked In xs → IsDateOrder time walked In ys → xs ≡ ys
-    same_date xs ys h k = one_list IsBestNext best_decided [] xs ys h k
+    same_date xs ys h k = one_list (IsBestNext time walked In) best_decided xs ys h k
 
     pub first_date : (ids whole : List ObjectId) → IsDateBeginning time walked In ids → IsDateOrder time walked In whole → ids ≡ take (length ids) whole
-    first_date ids whole h k = first_ids IsBestNext best_decided [] ids whole (turns_by IsBestNext ids h) k
+    first_date ids whole h k = first_ids (IsBestNext time walked In) best_decided [] ids whole (turns_by (IsBestNext time walked In) ids h) k

@@ -1,25 +1,15 @@
 -- What a list has in which each commit is ready when it comes: no id twice, children first, and all of the set where no member is its own ancestor.
-use Rattle.std.specs.Prelude.{◌≡◌, ◌↔◌, ◌⊎◌, ◌+◌, ◌≤◌, ℕ, zero, suc, ℤ, List, [], ◌∷◌, ◌++◌, Bool, true, false, not, ◌||◌, cond, filter, reverse, length, take, slice_get, Option, Some, None, Contains, MatchOption}
-use Rattle.std.proofs.Common.{refl, sym, ap, subst, inl, inr, ⊎_elim, ◌∙◌, arith, append_assoc, append-nil, take_all, le_refl}
-use Rattle.std.proofs.lemmas.Bool.{true≢false, false_from_ne_true, true_from_ne_false, and_parts, and_from, not-true}
+use Rattle.std.proofs.Common.{◌≡◌, ◌↔◌, ◌⊎◌, ◌≤◌, ℕ, zero, suc, ℤ, List, [], ◌∷◌, ◌++◌, Bool, true, false, not, ◌&&◌, ◌||◌, filter, reverse, length, take, slice_get, Option, Some, None, Contains, MatchOption, refl, sym, ap, subst, inl}
+use Rattle.std.proofs.Common.{inr, ⊎_elim, ◌∙◌, arith, append_assoc, append-nil, take_all, le_refl, true≢false}
+use Rattle.gix_topo.proofs.Common.{false_from_ne_true, true_from_ne_false, and_parts, and_from, not-true, list_any-IsPermutation, IsPermutation-reverse, Contains-append_left, Contains-push, Contains-push_cases, ObjectId, is_same}
+use Rattle.gix_topo.proofs.Common.{is_among, NewestFirst, first_new, Reaches, start, step, IsAcyclicIn, IsChild, IsChildless, IsReady, by_time, IsMadeReady, AreDistinct, Sorting, IsSortedBeginning, same_is, same_itself, among-append}
+use Rattle.gix_topo.proofs.Common.{among_from, among_is, Contains-here, Contains-there, Contains-cons_cases, no_member, fresh, among-filter, new_less, past_end}
 use Rattle.std.proofs.lemmas.List.{reverse-append}
-use Rattle.std.proofs.lemmas.List.Sorted.{list_any-IsPermutation, IsPermutation-reverse}
-use Rattle.std.proofs.lemmas.List.Elements.{Contains-append_left, Contains-push, Contains-push_cases}
-use Rattle.gix_hash.specs.declared.ObjectId.{ObjectId}
-use Rattle.gix_hash.specs.Id.{is_same, is_among}
-use Rattle.gix_revwalk.specs.declared.CommitTimeOrder.TheVariants.{NewestFirst}
-use Rattle.gix_revwalk.specs.BreadthOrder.{first_new}
 use Rattle.gix_revwalk.specs.TimeOrder.{IsBest}
-use Rattle.gix_hash.specs.Reach.{Reaches, start, step}
-use Rattle.gix_topo.specs.WalkSet.{IsAcyclicIn, IsChild, IsChildless, IsReady}
-use Rattle.gix_topo.specs.DateOrder.{IsDateOrder, IsDateBeginning}
-use Rattle.gix_topo.specs.TopoOrder.{by_time, IsMadeReady, IsTopoOrder, IsTopoBeginning}
-use Rattle.gix_revwalk.specs.Ids.{AreDistinct}
-use Rattle.gix_hash.proofs.Ids.Membership.{same_is, among_from, among_is, Contains-here, Contains-there, Contains-cons_cases, no_member}
-use Rattle.gix_revwalk.proofs.NewIds.{fresh, times, times-append, times_none, among-filter, new_less, among_times}
+use Rattle.gix_topo.specs.declared.Sorting.TheVariants as order
+use Rattle.gix_topo.specs.Laws.{IsSorted}
 use Rattle.gix_revwalk.proofs.Orders.{found_passes, none_passes}
-use Rattle.gix_topo.proofs.Readiness.IsReady.{times-filter, times-by_time, keeps_from, keeps_one, AreReady, are_ready_alike, takes_ready, starts_ready}
-use Rattle.gix_hash.proofs.Lists.{past_end}
+use Rattle.gix_topo.proofs.Readiness.IsReady.{among-by_time, keeps_from, keeps_one, AreReady, are_ready_alike, takes_ready, starts_ready}
 
 -- an order that is defined by the beginnings of its list
 module _ (Q : List ObjectId → Option ObjectId → Type 0) where
@@ -53,19 +43,32 @@ module _ (Q : List ObjectId → Option ObjectId → Type 0) where
   abbrev pub IfOne : List ObjectId → Option ObjectId → Type 0
   IfOne done o = MatchOption o (Unit {0}) (λ i. Q done (Some i))
 
-pub turns_begin : (Q : List ObjectId → Option ObjectId → Type 0) (done ids : List ObjectId) → TurnsFrom Q done ids → TurnsFrom (IfOne Q) done ids
-turns_begin Q done ids h k b = go (slice_get ids k) (h k b)
-  where
-    go : (o : Option ObjectId) → Q (done ++ take k ids) o → IfOne Q (done ++ take k ids) o
-    go None q = tt
-    go (Some i) q = q
-
 pub turns_by : (Q : List ObjectId → Option ObjectId → Type 0) (ids : List ObjectId) → ((k : ℕ) (i : ObjectId) → slice_get ids k ≡ Some i → Q (take k ids) (Some i)) → TurnsFrom (IfOne Q) [] ids
 turns_by Q ids h k b = go (slice_get ids k) refl
   where
     go : (o : Option ObjectId) → slice_get ids k ≡ o → IfOne Q (take k ids) o
     go None e = tt
     go (Some i) e = h k i e
+
+-- in other words along a list, where something is kept
+pub turns_map : (Q R : List ObjectId → Option ObjectId → Type 0) (Keep : List ObjectId → Type 0) → ((done : List ObjectId) → Keep done → Q done None → R done None) → ((done : List ObjectId) (i : ObjectId) → Keep done → Q done (Some i) → R done (Some i) × Keep (done ++ i ∷ [])) →
+    (ids done : List ObjectId) → Keep done → TurnsFrom Q done ids → TurnsFrom R done ids
+turns_map Q R Keep last now [] done k h = turn_none R done (last done k (turn_ended Q done h))
+turns_map Q R Keep last now (i ∷ ids) done k h =
+    let n : R done (Some i) × Keep (done ++ i ∷ []) = now done i k (turn_now Q done ids i h) in
+    turn_more R done ids i n.0 (turns_map Q R Keep last now ids (done ++ i ∷ []) n.1 (turn_on Q done ids i h))
+
+pub turns_begin : (Q : List ObjectId → Option ObjectId → Type 0) (done ids : List ObjectId) → TurnsFrom Q done ids → TurnsFrom (IfOne Q) done ids
+turns_begin Q done ids h = turns_map Q (IfOne Q) (λ all. Unit {0}) (λ all k q. tt) (λ all i k q. (q, tt)) ids done tt h
+
+-- a list of which a test says that each turn is right
+abbrev pub is_list : (List ObjectId → Option ObjectId → Bool) → List ObjectId → List ObjectId → Bool
+is_list test done [] = test done None
+is_list test done (i ∷ ids) = test done (Some i) && is_list test (done ++ i ∷ []) ids
+
+pub list_turns : (Q : List ObjectId → Option ObjectId → Type 0) (test : List ObjectId → Option ObjectId → Bool) → ((done : List ObjectId) (o : Option ObjectId) → test done o ≡ true → Q done o) → (ids done : List ObjectId) → is_list test done ids ≡ true → TurnsFrom Q done ids
+list_turns Q test sound [] done e = turn_none Q done (sound done None e)
+list_turns Q test sound (i ∷ ids) done e = turn_more Q done ids i (sound done (Some i) (and_parts _ _ e).0) (list_turns Q test sound ids (done ++ i ∷ []) (and_parts _ _ e).1)
 
 through : (walked : ObjectId → List ObjectId) (d i v : ObjectId) → Contains (walked d) i → Reaches walked (walked i) v → Reaches walked (walked d) v
 through walked d i v n (start s) = step (start n) s
@@ -76,20 +79,14 @@ module _ (walked : ObjectId → List ObjectId) (In : ObjectId → Type 0) where
   abbrev pub IsReadyNext : List ObjectId → Option ObjectId → Type 0
   IsReadyNext done o = MatchOption o ((i : ObjectId) → IsReady walked In (Contains done) i → ⊥) (IsReady walked In (Contains done))
 
-  once_from : (ids done : List ObjectId) → TurnsFrom (IfOne IsReadyNext) done ids → AreDistinct ids × ((i : ObjectId) → Contains done i → Contains ids i → ⊥)
-  once_from [] done h = (tt, λ i d c. no_member i c)
+  once_from : (ids done : List ObjectId) → TurnsFrom (IfOne IsReadyNext) done ids → AreDistinct ids × ((i : ObjectId) → Contains ids i → In i × (Contains done i → ⊥))
+  once_from [] done h = (tt, λ i c. absurd (no_member i c))
   once_from (x ∷ ids) done h =
       let now : IsReady walked In (Contains done) x = turn_now (IfOne IsReadyNext) done ids x h in
-      let r : AreDistinct ids × ((i : ObjectId) → Contains (done ++ x ∷ []) i → Contains ids i → ⊥) = once_from ids (done ++ x ∷ []) (turn_on (IfOne IsReadyNext) done ids x h) in (
-        (λ c. r.1 x (Contains-push done x) c, r.0),
-        λ i d c. ⊎_elim (λ e. now.left (subst (λ y. Contains done y) (sym e) d)) (λ t. r.1 i (Contains-append_left done (x ∷ []) i d) t) (Contains-cons_cases i x ids c),
+      let r : AreDistinct ids × ((i : ObjectId) → Contains ids i → In i × (Contains (done ++ x ∷ []) i → ⊥)) = once_from ids (done ++ x ∷ []) (turn_on (IfOne IsReadyNext) done ids x h) in (
+        (λ c. (r.1 x c).1 (Contains-push done x), r.0),
+        λ i c. ⊎_elim (λ e. subst (λ y. In y × (Contains done y → ⊥)) e (now.member, now.left)) (λ t. ((r.1 i t).0, λ d. (r.1 i t).1 (Contains-append_left done (x ∷ []) i d))) (Contains-cons_cases i x ids c),
       )
-
-  members_from : (ids done : List ObjectId) → TurnsFrom (IfOne IsReadyNext) done ids → (i : ObjectId) → Contains ids i → In i
-  members_from [] done h i c = absurd (no_member i c)
-  members_from (x ∷ ids) done h i c =
-      let now : IsReady walked In (Contains done) x = turn_now (IfOne IsReadyNext) done ids x h in
-      ⊎_elim (λ e. subst In e now.member) (λ t. members_from ids (done ++ x ∷ []) (turn_on (IfOne IsReadyNext) done ids x h) i t) (Contains-cons_cases i x ids c)
 
   -- What became ready stays so until it is taken: each commit of a list is in any list that ends where nothing is ready.
   also_taken : (others : List ObjectId) → ((i : ObjectId) → IsReady walked In (Contains others) i → ⊥) → (ids done : List ObjectId) → ((i : ObjectId) → Contains done i → Contains others i) → TurnsFrom (IfOne IsReadyNext) done ids → (i : ObjectId) → Contains ids i → Contains others i
@@ -106,7 +103,7 @@ module _ (walked : ObjectId → List ObjectId) (In : ObjectId → Type 0) where
     begun_once = (once_from ids [] turns).0
 
     pub begun_members : (i : ObjectId) → Contains ids i → In i
-    begun_members = members_from ids [] turns
+    begun_members i c = ((once_from ids [] turns).1 i c).0
 
     -- a child comes before its parents
     pub begun_children : (k : ℕ) (d p : ObjectId) → slice_get ids k ≡ Some p → IsChild walked In d p → Contains (take k ids) d
@@ -131,10 +128,9 @@ module _ (walked : ObjectId → List ObjectId) (In : ObjectId → Type 0) where
     none_left = rw (past_end ids, take_all (length ids) ids (le_refl _)) at (turns (length ids) (le_refl _))
 
     -- a member that is missing has a child that is missing, which isn't among those seen on the way
-    missing : (finite : List ObjectId) → ((i : ObjectId) → In i → is_among i finite ≡ true) → IsAcyclicIn walked In → (n : ℕ) (seen : List ObjectId) (i : ObjectId) → length (fresh (λ j. is_among j seen) finite) ≤ n → ((v : ObjectId) → Contains seen v → Reaches walked (walked i) v) → In i → is_among i ids ≡ false → ⊥
-    missing finite within acyclic zero seen i b above m f =
-        let e : suc (length (fresh (λ j. is_same j i || is_among j seen) finite)) ≡ length (fresh (λ j. is_among j seen) finite) = new_less (λ j. is_among j seen) finite i (within i m) (false_from_ne_true _ (λ t. acyclic i m (above i (among_is i seen t)))) in
-        omega arith
+    missing : (finite : List ObjectId) → ((i : ObjectId) → In i → is_among i finite ≡ true) → IsAcyclicIn walked In → (n : ℕ) (seen : List ObjectId) (i : ObjectId) → suc (length (fresh (λ j. is_among j seen) finite)) ≤ n → ((v : ObjectId) → Contains seen v → Reaches walked (walked i) v) →
+        In i → is_among i ids ≡ false → ⊥
+    missing finite within acyclic zero seen i b above m f = omega arith
     missing finite within acyclic (suc n) seen i b above m f =
         let e : suc (length (fresh (λ j. is_same j i || is_among j seen) finite)) ≡ length (fresh (λ j. is_among j seen) finite) = new_less (λ j. is_among j seen) finite i (within i m) (false_from_ne_true _ (λ t. acyclic i m (above i (among_is i seen t)))) in
         none_left i (record {
@@ -147,22 +143,12 @@ module _ (walked : ObjectId → List ObjectId) (In : ObjectId → Type 0) where
         })
 
     pub all_given : (finite : List ObjectId) → ((i : ObjectId) → In i → is_among i finite ≡ true) → IsAcyclicIn walked In → (i : ObjectId) → In i → Contains ids i
-    all_given finite within acyclic i m = among_is i ids (true_from_ne_false _ (λ f. missing finite within acyclic (length (fresh (λ j. is_among j []) finite)) [] i (le_refl _) (λ v h. absurd (no_member v h)) m f))
+    all_given finite within acyclic i m = among_is i ids (true_from_ne_false _ (λ f. missing finite within acyclic (suc (length (fresh (λ j. is_among j []) finite))) [] i (le_refl _) (λ v h. absurd (no_member v h)) m f))
 
   -- two such lists hold the same
   pub same_set : (ids others : List ObjectId) → TurnsFrom IsReadyNext [] ids → TurnsFrom IsReadyNext [] others → (i : ObjectId) → Contains ids i ↔ Contains others i
   same_set ids others h k i =
       (λ c. also_taken others (none_left others k) ids [] (λ j d. absurd (no_member j d)) (turns_begin IsReadyNext [] ids h) i c, λ c. also_taken ids (none_left ids h) others [] (λ j d. absurd (no_member j d)) (turns_begin IsReadyNext [] others k) i c)
-
-best_is_ready : (time : ObjectId → ℤ) (P : ObjectId → Type 0) (o : Option ObjectId) → MatchOption o ((i : ObjectId) → P i → ⊥) (IsBest NewestFirst time P) → MatchOption o ((i : ObjectId) → P i → ⊥) P
-best_is_ready time P None h = h
-best_is_ready time P (Some i) h = h.among
-
-pub date_turns : (time : ObjectId → ℤ) (walked : ObjectId → List ObjectId) (In : ObjectId → Type 0) (ids : List ObjectId) → IsDateOrder time walked In ids → TurnsFrom (IsReadyNext walked In) [] ids
-date_turns time walked In ids h k b = best_is_ready time (IsReady walked In (Contains (take k ids))) (slice_get ids k) (h k b)
-
-pub date_begins : (time : ObjectId → ℤ) (walked : ObjectId → List ObjectId) (In : ObjectId → Type 0) (ids : List ObjectId) → IsDateBeginning time walked In ids → TurnsFrom (IfOne (IsReadyNext walked In)) [] ids
-date_begins time walked In ids h = turns_by (IsReadyNext walked In) ids (λ k i e. (h k i e).among)
 
 pub among-reverse : (i : ObjectId) (xs : List ObjectId) → is_among i (reverse xs) ≡ is_among i xs
 among-reverse i xs = sym (list_any-IsPermutation (is_same i) xs (reverse xs) (IsPermutation-reverse xs))
@@ -172,6 +158,10 @@ reverse_in i xs c = among_is i xs (sym (among-reverse i xs) ∙ among_from i (re
 
 pub in_reverse : (i : ObjectId) (xs : List ObjectId) → Contains xs i → Contains (reverse xs) i
 in_reverse i xs c = among_is i (reverse xs) (among-reverse i xs ∙ among_from i xs c)
+
+-- a ready one of greatest time; there is none only where none is ready
+abbrev pub IsBestNext : (ObjectId → ℤ) → (ObjectId → List ObjectId) → (ObjectId → Type 0) → List ObjectId → Option ObjectId → Type 0
+IsBestNext time walked In done o = MatchOption o ((i : ObjectId) → IsReady walked In (Contains done) i → ⊥) (IsBest NewestFirst time (IsReady walked In (Contains done)))
 
 module _ (time : ObjectId → ℤ) (walked : ObjectId → List ObjectId) (In : ObjectId → Type 0) (tips : List ObjectId) where
   -- the last of those made ready that isn't taken
@@ -186,6 +176,27 @@ module _ (time : ObjectId → ℤ) (walked : ObjectId → List ObjectId) (In : O
       let f : h.1 ≡ k.1 = keeps_one (IsReady walked In (Contains (c ∷ taken))) h.3 k.1 k.3 in
       h.4 ∙ (λ j. e j ++ f j) ∙ sym k.4
 
+  -- the next one in either order
+  abbrev pub IsNextBy : Sorting → List ObjectId → Option ObjectId → Type 0
+  IsNextBy order.DateOrder = IsBestNext time walked In
+  IsNextBy order.TopoOrder = IsLastMade
+
+  pub turns_sorted : (s : Sorting) (ids : List ObjectId) → TurnsFrom (IsNextBy s) [] ids → IsSorted s time walked In tips ids
+  turns_sorted order.DateOrder ids h = h
+  turns_sorted order.TopoOrder ids h = h
+
+  pub sorted_turns : (s : Sorting) (ids : List ObjectId) → IsSorted s time walked In tips ids → TurnsFrom (IsNextBy s) [] ids
+  sorted_turns order.DateOrder ids h = h
+  sorted_turns order.TopoOrder ids h = h
+
+  pub turns_beginning : (s : Sorting) (ids : List ObjectId) → TurnsFrom (IfOne (IsNextBy s)) [] ids → IsSortedBeginning s time walked In tips ids
+  turns_beginning order.DateOrder ids h = turn_at (IfOne (IsBestNext time walked In)) ids h
+  turns_beginning order.TopoOrder ids h = λ k i e. let l : IsLastMade (take k ids) (Some i) = turn_at (IfOne IsLastMade) ids h k i e in (l.0, l.1, sym l.2)
+
+  pub beginning_turns : (s : Sorting) (ids : List ObjectId) → IsSortedBeginning s time walked In tips ids → TurnsFrom (IfOne (IsNextBy s)) [] ids
+  beginning_turns order.DateOrder ids h = turns_by (IsBestNext time walked In) ids h
+  beginning_turns order.TopoOrder ids h = turns_by IsLastMade ids (λ k i e. let b = h k i e in (b.0, b.1, sym b.2))
+
   -- each was the last of those made ready, when it was taken
   abbrev WereTaken : List ObjectId → Type 0
   WereTaken [] = Unit {0}
@@ -199,78 +210,50 @@ module _ (time : ObjectId → ℤ) (walked : ObjectId → List ObjectId) (In : O
     made_more c taken ready h here before =
         takes_ready walked In (Contains taken) (Contains (c ∷ taken)) c (left_among taken h.0) (left_among (c ∷ taken) h.0) h.1 (left_among (c ∷ taken) ready)
         (record { before = λ i t. Contains-there i c taken t; now = Contains-here c taken; either = λ i t. ⊎_elim (λ e. inr e) (λ t. inl t) (Contains-cons_cases i c taken t) })
-        before (λ i. split i (is_same i c) refl) h.3 (λ i. joined i (is_same i c || is_among i taken) refl)
+        before (λ i. left taken h.0 i ∙ split i (is_same i c) refl ∙ ap (λ b. is_same i c || b) (sym (left (c ∷ taken) h.0 i)))
+        (λ m. true≢false (sym (among_from c _ m) ∙ left (c ∷ taken) h.0 c ∙ ap (λ b. not (b || is_among c taken) && is_among c h.0) (same_itself c)))
+        h.3 (λ i. left (c ∷ taken) ready i ∙ ap (λ b. not (is_among i (c ∷ taken)) && b) (ap (is_among i) h.4 ∙ among-append i h.0 h.1) ∙ joined i (is_among i (c ∷ taken)) refl ∙ ap (λ b. b || is_among i h.1) (sym (left (c ∷ taken) h.0 i)))
       where
-        split : (i : ObjectId) (b : Bool) → is_same i c ≡ b → times i (left_among taken h.0) ≡ cond (is_same i c) 1 0 + times i (left_among (c ∷ taken) h.0)
-        split i true e =
-            let same : i ≡ c = same_is i c e in
-            let a : times i (left_among taken h.0) ≡ times i h.0 = times-filter (λ j. not (is_among j taken)) i h.0 ∙ ap (λ b. cond (not b) (times i h.0) 0) (ap (λ y. is_among y taken) same ∙ here.1) in
-            let z : times i (left_among (c ∷ taken) h.0) ≡ 0 = times-filter (λ j. not (is_same j c || is_among j taken)) i h.0 ∙ ap (λ b. cond (not (b || is_among i taken)) (times i h.0) 0) e in
-            let o : times i (left_among taken h.0) ≤ 1 = before.once i in
-            let m : 1 ≤ times i h.0 = among_times i h.0 (ap (λ y. is_among y h.0) same ∙ here.0) in
-            let k : ◌≡◌ {A = ℕ} (cond (is_same i c) 1 0) 1 = ap (λ b. cond b 1 0) e in
-            omega arith
-        split i false e =
-            let a : times i (left_among taken h.0) ≡ cond (not (is_among i taken)) (times i h.0) 0 = times-filter (λ j. not (is_among j taken)) i h.0 in
-            let z : times i (left_among (c ∷ taken) h.0) ≡ cond (not (is_among i taken)) (times i h.0) 0 = times-filter (λ j. not (is_same j c || is_among j taken)) i h.0 ∙ ap (λ b. cond (not (b || is_among i taken)) (times i h.0) 0) e in
-            let k : ◌≡◌ {A = ℕ} (cond (is_same i c) 1 0) 0 = ap (λ b. cond b 1 0) e in
-            omega arith
+        left : (done made : List ObjectId) (i : ObjectId) → is_among i (left_among done made) ≡ (not (is_among i done) && is_among i made)
+        left done made i = among-filter i (λ j. not (is_among j done)) made
 
-        all_times : (i : ObjectId) → times i ready ≡ times i h.0 + times i h.1
-        all_times i = ap (times i) h.4 ∙ times-append i h.0 h.1
+        split : (i : ObjectId) (b : Bool) → is_same i c ≡ b → (not (is_among i taken) && is_among i h.0) ≡ (b || (not (b || is_among i taken) && is_among i h.0))
+        split i true e = λ k. not ((ap (λ y. is_among y taken) (same_is i c e) ∙ here.1) k) && (ap (λ y. is_among y h.0) (same_is i c e) ∙ here.0) k
+        split i false e = refl
 
-        joined : (i : ObjectId) (b : Bool) → (is_same i c || is_among i taken) ≡ b → times i (left_among (c ∷ taken) ready) ≡ times i (left_among (c ∷ taken) h.0) + times i h.1
-        joined i true e =
-            let a : times i (left_among (c ∷ taken) ready) ≡ 0 = times-filter (λ j. not (is_same j c || is_among j taken)) i ready ∙ ap (λ b. cond (not b) (times i ready) 0) e in
-            let z : times i (left_among (c ∷ taken) h.0) ≡ 0 = times-filter (λ j. not (is_same j c || is_among j taken)) i h.0 ∙ ap (λ b. cond (not b) (times i h.0) 0) e in
-            let n : times i h.1 ≡ 0 = times_none i h.1 (false_from_ne_true _ (λ t. (keeps_from (IsReady walked In (Contains (c ∷ taken))) h.3 i (among_is i h.1 t)).1.left (among_is i (c ∷ taken) e))) in
-            omega arith
-        joined i false e =
-            let a : times i (left_among (c ∷ taken) ready) ≡ times i ready = times-filter (λ j. not (is_same j c || is_among j taken)) i ready ∙ ap (λ b. cond (not b) (times i ready) 0) e in
-            let z : times i (left_among (c ∷ taken) h.0) ≡ times i h.0 = times-filter (λ j. not (is_same j c || is_among j taken)) i h.0 ∙ ap (λ b. cond (not b) (times i h.0) 0) e in
-            let s : times i ready ≡ times i h.0 + times i h.1 = all_times i in
-            omega arith
+        joined : (i : ObjectId) (b : Bool) → is_among i (c ∷ taken) ≡ b → (not b && (is_among i h.0 || is_among i h.1)) ≡ ((not b && is_among i h.0) || is_among i h.1)
+        joined i true e = sym (false_from_ne_true _ (λ t. (keeps_from (IsReady walked In (Contains (c ∷ taken))) h.3 i (among_is i h.1 t)).1.left (among_is i (c ∷ taken) e)))
+        joined i false e = refl
 
     -- those made ready that aren't taken are the ready ones
     made_ready : (taken ready : List ObjectId) → WereTaken taken → IsMadeReady time walked In tips taken ready → AreReady walked In (Contains taken) (left_among taken ready)
     made_ready [] ready were h =
         starts_ready walked In (Contains []) tips h.0 (left_among [] ready) (λ i c. no_member i c) top h.1
-        (λ i. times-filter (λ j. true) i ready ∙ ap (times i) h.2 ∙ times-by_time time i h.0)
+        (λ i. among-filter i (λ j. true) ready ∙ ap (is_among i) h.2 ∙ among-by_time time i h.0)
     made_ready (c ∷ taken) ready were h = made_more c taken ready h (were.0 h.0 h.2) (made_ready taken h.0 were.1 h.2)
 
-    last_is_ready : (done : List ObjectId) (o : Option ObjectId) → WereTaken (reverse done) → IsLastMade done o → IsReadyNext walked In done o
-    last_is_ready done None were h = λ i r.
-        let a : AreReady walked In (Contains (reverse done)) (left_among (reverse done) h.0) = made_ready (reverse done) h.0 were h.1 in
-        let b : AreReady walked In (Contains done) (left_among (reverse done) h.0) = are_ready_alike walked In (Contains (reverse done)) (Contains done) (λ j. reverse_in j done) (λ j. in_reverse j done) (left_among (reverse done) h.0) a in
-        let m : (not (is_among i (reverse done)) ≡ true) × (is_among i h.0 ≡ true) = and_parts _ _ (sym (among-filter i (λ j. not (is_among j (reverse done))) h.0) ∙ b.all i r) in
+    are_left : (done : List ObjectId) → WereTaken (reverse done) → (ready : List ObjectId) → IsMadeReady time walked In tips (reverse done) ready → AreReady walked In (Contains done) (left_among (reverse done) ready)
+    are_left done were ready h = are_ready_alike walked In (Contains (reverse done)) (Contains done) (λ j. reverse_in j done) (λ j. in_reverse j done) (left_among (reverse done) ready) (made_ready (reverse done) ready were h)
+
+    none_is_ready : (done : List ObjectId) → WereTaken (reverse done) → IsLastMade done None → IsReadyNext walked In done None
+    none_is_ready done were h = λ i r.
+        let m : (not (is_among i (reverse done)) ≡ true) × (is_among i h.0 ≡ true) = and_parts _ _ (sym (among-filter i (λ j. not (is_among j (reverse done))) h.0) ∙ (are_left done were h.0 h.1).all i r) in
         let n : not (is_among i done) ≡ false = none_passes (λ j. not (is_among j done)) (reverse h.0) i (sym h.2) (in_reverse i h.0 (among_is i h.0 m.1)) in
         true≢false (sym m.0 ∙ ap not (among-reverse i done) ∙ n)
-    last_is_ready done (Some i) were h =
-        let a : AreReady walked In (Contains (reverse done)) (left_among (reverse done) h.0) = made_ready (reverse done) h.0 were h.1 in
-        let b : AreReady walked In (Contains done) (left_among (reverse done) h.0) = are_ready_alike walked In (Contains (reverse done)) (Contains done) (λ j. reverse_in j done) (λ j. in_reverse j done) (left_among (reverse done) h.0) a in
-        let f : Contains (reverse h.0) i × (not (is_among i done) ≡ true) = found_passes (λ j. not (is_among j done)) (reverse h.0) i (sym h.2) in
-        b.each i (among-filter i (λ j. not (is_among j (reverse done))) h.0 ∙ and_from _ _ (ap not (among-reverse i done) ∙ f.1) (among_from i h.0 (reverse_in i h.0 f.0)))
 
-    taken_on : (done : List ObjectId) (i : ObjectId) → WereTaken (reverse done) → IsLastMade done (Some i) → WereTaken (reverse (done ++ i ∷ []))
-    taken_on done i were h =
-        let f : Contains (reverse h.0) i × (not (is_among i done) ≡ true) = found_passes (λ j. not (is_among j done)) (reverse h.0) i (sym h.2) in
-        subst WereTaken (sym (reverse-append done (i ∷ [])))
-        ((λ ready made. (among_from i ready (subst (λ r. Contains r i) (made_one (reverse done) h.0 ready h.1 made) (reverse_in i h.0 f.0)), among-reverse i done ∙ not-true _ f.1)), were)
+    last_is_ready : (done : List ObjectId) (i : ObjectId) → WereTaken (reverse done) → IsLastMade done (Some i) → IsReady walked In (Contains done) i × WereTaken (reverse (done ++ i ∷ []))
+    last_is_ready done i were h =
+        let f : Contains (reverse h.0) i × (not (is_among i done) ≡ true) = found_passes (λ j. not (is_among j done)) (reverse h.0) i (sym h.2) in (
+          (are_left done were h.0 h.1).each i (among-filter i (λ j. not (is_among j (reverse done))) h.0 ∙ and_from _ _ (ap not (among-reverse i done) ∙ f.1) (among_from i h.0 (reverse_in i h.0 f.0))),
+          subst WereTaken (sym (reverse-append done (i ∷ [])))
+              ((λ ready made. (among_from i ready (subst (λ r. Contains r i) (made_one (reverse done) h.0 ready h.1 made) (reverse_in i h.0 f.0)), among-reverse i done ∙ not-true _ f.1)), were),
+        )
 
-    turns_from : (ids done : List ObjectId) → WereTaken (reverse done) → TurnsFrom IsLastMade done ids → TurnsFrom (IsReadyNext walked In) done ids
-    turns_from [] done were h = turn_none (IsReadyNext walked In) done (last_is_ready done None were (turn_ended IsLastMade done h))
-    turns_from (i ∷ ids) done were h =
-        let now : IsLastMade done (Some i) = turn_now IsLastMade done ids i h in
-        turn_more (IsReadyNext walked In) done ids i (last_is_ready done (Some i) were now) (turns_from ids (done ++ i ∷ []) (taken_on done i were now) (turn_on IsLastMade done ids i h))
+    -- in either order each is ready when it comes, and the list ends where none is ready
+    pub ready_turns : (s : Sorting) (ids : List ObjectId) → IsSorted s time walked In tips ids → TurnsFrom (IsReadyNext walked In) [] ids
+    ready_turns order.DateOrder ids h = turns_map (IsBestNext time walked In) (IsReadyNext walked In) (λ done. Unit {0}) (λ done k n. n) (λ done i k b. (b.among, tt)) ids [] tt h
+    ready_turns order.TopoOrder ids h = turns_map IsLastMade (IsReadyNext walked In) (λ done. WereTaken (reverse done)) none_is_ready last_is_ready ids [] tt h
 
-    pub topo_turns : (ids : List ObjectId) → IsTopoOrder time walked In tips ids → TurnsFrom (IsReadyNext walked In) [] ids
-    topo_turns ids h = turns_from ids [] tt h
-
-    begins_from : (ids done : List ObjectId) → WereTaken (reverse done) → TurnsFrom (IfOne IsLastMade) done ids → TurnsFrom (IfOne (IsReadyNext walked In)) done ids
-    begins_from [] done were h = turn_none (IfOne (IsReadyNext walked In)) done tt
-    begins_from (i ∷ ids) done were h =
-        let now : IsLastMade done (Some i) = turn_now (IfOne IsLastMade) done ids i h in
-        turn_more (IfOne (IsReadyNext walked In)) done ids i (last_is_ready done (Some i) were now) (begins_from ids (done ++ i ∷ []) (taken_on done i were now) (turn_on (IfOne IsLastMade) done ids i h))
-
-    pub topo_begins : (ids : List ObjectId) → IsTopoBeginning time walked In tips ids → TurnsFrom (IfOne (IsReadyNext walked In)) [] ids
-    topo_begins ids h = begins_from ids [] tt (turns_by IsLastMade ids (λ k i e. let b = h k i e in (b.0, b.1, sym b.2)))
+    pub ready_begins : (s : Sorting) (ids : List ObjectId) → IsSortedBeginning s time walked In tips ids → TurnsFrom (IfOne (IsReadyNext walked In)) [] ids
+    ready_begins order.DateOrder ids h = turns_by (IsReadyNext walked In) ids (λ k i e. (h k i e).among)
+    ready_begins order.TopoOrder ids h = turns_map (IfOne IsLastMade) (IfOne (IsReadyNext walked In)) (λ done. WereTaken (reverse done)) (λ done were n. tt) last_is_ready ids [] tt (beginning_turns order.TopoOrder ids h)

@@ -1,25 +1,14 @@
 -- Each order has a list: over a finite history, a best ready commit is taken until none is ready.
-use Rattle.std.specs.Prelude.{◌≡◌, ◌↔◌, ◌≤◌, ℕ, ℤ, List, ◌++◌, Bool, true, not, ◌&&◌, filter, length, reverse, take, slice_get, Some, Contains}
-use Rattle.std.proofs.Common.{sym, ◌∙◌}
-use Rattle.std.proofs.lemmas.Bool.{true≢false, and_parts, and_from, not-true, not_from_false, false_from_ne_true}
-use Rattle.gix_hash.specs.declared.ObjectId.{ObjectId}
-use Rattle.gix_hash.specs.Id.{is_among}
-use Rattle.gix_hash.specs.Reach.{Reaches}
-use Rattle.gix_hash.proofs.Ids.Membership.{among_from, among_is}
-use Rattle.gix_object.specs.Object.{Objects}
-use Rattle.gix_revwalk.specs.declared.CommitTimeOrder.TheVariants.{NewestFirst}
-use Rattle.gix_revwalk.specs.BreadthOrder.{first_new}
+use Rattle.std.proofs.Common.{◌≡◌, ◌↔◌, ◌≤◌, ℕ, ℤ, List, [], ◌++◌, Bool, true, not, ◌&&◌, filter, length, reverse, take, slice_get, Option, Some, Contains, sym, ◌∙◌, true≢false}
+use Rattle.gix_topo.proofs.Common.{and_parts, and_from, not-true, not_from_false, false_from_ne_true, ObjectId, is_among, Reaches, among_from, among_is, Objects, NewestFirst, first_new, IsInWalk, IsChild, IsReady, IsDateOrder}
+use Rattle.gix_topo.proofs.Common.{IsTopoOrder, among-filter}
 use Rattle.gix_revwalk.specs.Texts.{text_next}
-use Rattle.gix_topo.specs.WalkSet.{IsInWalk, IsChild, IsReady}
-use Rattle.gix_topo.specs.DateOrder.{IsDateOrder}
-use Rattle.gix_topo.specs.TopoOrder.{IsMadeReady, IsTopoOrder}
-use Rattle.gix_revwalk.proofs.Greedy.{GoesOn, steps_exist}
-use Rattle.gix_revwalk.proofs.NewIds.{among-filter}
+use Rattle.gix_revwalk.proofs.Greedy.{steps_exist}
 use Rattle.gix_revwalk.proofs.Orders.{found_passes}
 use Rattle.gix_revwalk.proofs.SomeOrder.{best, best_of, reached_list}
 use Rattle.gix_topo.proofs.Readiness.Decided.{is_ready, ready_is, is_ready_by, made, made_is, made_member}
 use Rattle.gix_topo.proofs.Run.EachOnce.{named_all, reached_known}
-use Rattle.gix_topo.proofs.Run.ReadyInTurn.{reverse_in}
+use Rattle.gix_topo.proofs.Run.ReadyInTurn.{TurnsFrom, IsBestNext, IsLastMade, reverse_in}
 
 -- a list holds the members, and them alone
 module _ (walked : ObjectId → List ObjectId) (In : ObjectId → Type 0) (members : List ObjectId) (are : (i : ObjectId) → Contains members i ↔ In i) where
@@ -35,10 +24,6 @@ module _ (walked : ObjectId → List ObjectId) (In : ObjectId → Type 0) (membe
   children_known : (c i : ObjectId) → IsChild walked In c i → is_among c members ≡ true
   children_known c i k = is_member_by c k.child
 
-  -- one member fewer is left
-  takes_one : (taken : List ObjectId) (i : ObjectId) → In i → (Contains taken i → ⊥) → GoesOn members (λ ids. Unit {0}) taken i
-  takes_one taken i m new = record { known = is_member_by i m; is_new = false_from_ne_true _ (λ e. new (among_is i taken e)); fits = tt }
-
   abbrev ready_now : List ObjectId → List ObjectId
   ready_now taken = filter (is_ready walked In members is_member taken) members
 
@@ -50,32 +35,24 @@ module _ (walked : ObjectId → List ObjectId) (In : ObjectId → Type 0) (membe
     λ r. among_is i (ready_now taken) (among-filter i (is_ready walked In members is_member taken) members ∙ and_from _ _ (is_ready_by walked In members is_member children_known member_is is_member_by taken i r) (is_member_by i r.member)),
   )
 
+  -- each choice is a member that wasn't taken, so one member fewer is left
+  some_list : (Q : List ObjectId → Option ObjectId → Type 0) (choose : List ObjectId → Option ObjectId) → ((taken : List ObjectId) (o : Option ObjectId) → o ≡ choose taken → Q taken o) → ((taken : List ObjectId) (i : ObjectId) → Q taken (Some i) → In i × (Contains taken i → ⊥)) →
+      (ids : List ObjectId) × TurnsFrom Q [] ids
+  some_list Q choose is next =
+      let steps : (ids : List ObjectId) × ((k : ℕ) → k ≤ length ids → slice_get ids k ≡ choose (take k ids)) = steps_exist members choose (λ ids. Unit {0})
+      (λ taken i fits e. let m : In i × (Contains taken i → ⊥) = next taken i (is taken (Some i) e) in record { known = is_member_by i m.0; is_new = false_from_ne_true _ (λ t. m.1 (among_is i taken t)); fits = tt }) tt in
+      (steps.0, λ k b. is (take k steps.0) (slice_get steps.0 k) (steps.1 k b))
+
   module _ (time : ObjectId → ℤ) where
     date_list : (ids : List ObjectId) × IsDateOrder time walked In ids
-    date_list =
-        let steps : (ids : List ObjectId) × ((k : ℕ) → k ≤ length ids → slice_get ids k ≡ best NewestFirst time (ready_now (take k ids))) =
-        steps_exist members (λ taken. best NewestFirst time (ready_now taken)) (λ ids. Unit {0})
-        (λ taken i fits e.
-        let r : IsReady walked In (Contains taken) i = (best_of NewestFirst time (IsReady walked In (Contains taken)) (ready_now taken) (ready_now_is taken) (Some i) e).among in
-        takes_one taken i r.member r.left) tt in
-        (steps.0, λ k b. best_of NewestFirst time (IsReady walked In (Contains (take k steps.0))) (ready_now (take k steps.0)) (ready_now_is (take k steps.0)) (slice_get steps.0 k) (steps.1 k b))
+    date_list = some_list (IsBestNext time walked In) (λ taken. best NewestFirst time (ready_now taken)) (λ taken. best_of NewestFirst time (IsReady walked In (Contains taken)) (ready_now taken) (ready_now_is taken)) (λ taken i b. (b.among.member, b.among.left))
 
-    module _ (tips : List ObjectId) where
-      -- those made ready by the time when these were taken
-      abbrev made_by : List ObjectId → List ObjectId
-      made_by taken = made walked In members is_member time tips (reverse taken)
-
-      made_by_is : (taken : List ObjectId) → IsMadeReady time walked In tips (reverse taken) (made_by taken)
-      made_by_is taken = made_is walked In members is_member children_known member_is is_member_by time tips (reverse taken)
-
-      topo_list : (ids : List ObjectId) × IsTopoOrder time walked In tips ids
-      topo_list =
-          let steps : (ids : List ObjectId) × ((k : ℕ) → k ≤ length ids → slice_get ids k ≡ first_new (reverse (made_by (take k ids))) (take k ids)) =
-          steps_exist members (λ taken. first_new (reverse (made_by taken)) taken) (λ ids. Unit {0})
-          (λ taken i fits e.
-          let f : Contains (reverse (made_by taken)) i × (not (is_among i taken) ≡ true) = found_passes (λ j. not (is_among j taken)) (reverse (made_by taken)) i (sym e) in
-          takes_one taken i (made_member time walked In tips (reverse taken) (made_by taken) (made_by_is taken) i (reverse_in i (made_by taken) f.0)) (λ c. true≢false (sym (among_from i taken c) ∙ not-true _ f.1))) tt in
-          (steps.0, λ k b. (made_by (take k steps.0), made_by_is (take k steps.0), steps.1 k b))
+    topo_list : (tips : List ObjectId) → (ids : List ObjectId) × IsTopoOrder time walked In tips ids
+    topo_list tips = some_list (IsLastMade time walked In tips) (λ taken. first_new (reverse (made walked In members is_member time tips (reverse taken))) taken)
+        (λ taken o e. (made walked In members is_member time tips (reverse taken), made_is walked In members is_member children_known member_is is_member_by time tips (reverse taken), e))
+        (λ taken i h.
+        let f : Contains (reverse h.0) i × (not (is_among i taken) ≡ true) = found_passes (λ j. not (is_among j taken)) (reverse h.0) i (sym h.2) in
+        (made_member time walked In tips (reverse taken) h.0 h.1 i (reverse_in i h.0 f.0), λ c. true≢false (sym (among_from i taken c) ∙ not-true _ f.1)))
 
 -- each id names next some of the parents that its commit's text names in a store
 module _ (objects : Objects) (walked all : ObjectId → List ObjectId) (tips ends : List ObjectId)

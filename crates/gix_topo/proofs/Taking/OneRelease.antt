@@ -1,25 +1,8 @@
 -- How a commit becomes ready.
-use Rattle.std.specs.Prelude.{◌≡◌, ◌⊎◌, ◌<◌, ℕ, take, zero, suc, ℤ, pos, List, [], ◌∷◌, Bool, Option, Some, None, Ok, Contains, length}
-use Rattle.std.proofs.Common.{sym, ap, subst, inl, inr, ⊎_elim, ◌∙◌, arith, get_or}
-use Rattle.std.specs.Option.{unwrap_or}
-use Rattle.gix_hash.proofs.Ids.Membership.{Contains-here, Contains-there, Contains-cons_cases}
-use Rattle.gix_hash.specs.declared.ObjectId.{ObjectId}
-use Rattle.gix_object.specs.Object.{Objects}
-use Rattle.gix_commitgraph.specs.Rows.{GraphRow}
-use Rattle.gix_revwalk.specs.declared.Info.{Info}
-use Rattle.gix_topo.specs.declared.Error.{Error}
-use Rattle.gix_topo.specs.declared.walk.Walk.{Walk}
-use Rattle.gix_revwalk.specs.Reading.{rows_of}
-use Rattle.gix_topo.specs.Reading.{Reads, by_row, by_text, LookUpFails}
-use Rattle.gix_topo.specs.declared.counting.Counting.{Counting}
-use Rattle.gix_topo.specs.Depth.{least}
-use Rattle.gix_topo.specs.Inside.Exploring.{Explores, IsRested}
+use Rattle.std.proofs.Common.{◌≡◌, ◌⊎◌, ◌<◌, ℕ, take, suc, ℤ, pos, List, Bool, Option, Some, None, Ok, Contains, length, sym, ap, subst, ◌∙◌, get_or, take-suc, unwrap_or}
+use Rattle.gix_topo.proofs.Common.{Contains-get_or, Contains-push_cases, ObjectId, Objects, GraphRow, Info, Error, Walk, rows_of, Reads, by_row, by_text, LookUpFails, Counting, least, Explores, IsRested, by_mode, last_places, Ready}
+use Rattle.gix_topo.proofs.Common.{LooksUpParent, IsPushFault, parent, lowered, with_counting, TakesOne, IsTakingFault, releasing, ReleasesAll, IsFaultAmong}
 use Rattle.gix_topo.specs.Inside.Reader.{Reader}
-use Rattle.gix_revwalk.specs.Commits.{by_mode}
-use Rattle.gix_topo.specs.TopoOrder.{last_places}
-use Rattle.gix_topo.specs.Walk.{Ready}
-use Rattle.gix_topo.specs.Inside.Releasing.{LooksUpParent, IsPushFault, parent, lowered, with_counting, TakesOne, IsTakingFault, releasing, ReleasesAll, IsFaultAmong}
-use Rattle.gix_hash.proofs.Lists.{only_member}
 
 -- what is read has the id that was asked for, and a time
 pub record IsTimedInfo (i : ObjectId) (info : Info) (time : ℤ) : Type 0 where
@@ -46,23 +29,11 @@ module _ {F : Type 0} (objects : F → Objects) (faulty : F → ObjectId → Typ
 
 -- an item at an index is in the list
 pub at_index : {X : Type 0} (xs ys : List X) (k : ℕ) (d : X) → ys ≡ xs → k < length ys → Contains xs (get_or ys k d)
-at_index {X} xs ys k d e l = subst (λ zs. Contains zs (get_or ys k d)) e (at ys k l)
-  where
-    at : (zs : List X) (k : ℕ) → k < length zs → Contains zs (get_or zs k d)
-    at [] k l = absurd (omega arith)
-    at (z ∷ zs) zero l = Contains-here z zs
-    at (z ∷ zs) (suc k) l = Contains-there (get_or zs k d) z zs (at zs k (omega arith))
+at_index xs ys k d e l = subst (λ zs. Contains zs (get_or ys k d)) e (Contains-get_or ys k d l)
 
 -- one item more of a list
 pub take_more : {X : Type 0} (xs : List X) (k j : ℕ) (d x : X) → j ≡ suc k → k < length xs → Contains (take j xs) x → Contains (take k xs) x ⊎ (get_or xs k d ≡ x)
-take_more {X} xs k j d x e l m = go xs k l (subst (λ n. Contains (take n xs) x) e m)
-  where
-    go : (zs : List X) (n : ℕ) → n < length zs → Contains (take (suc n) zs) x → Contains (take n zs) x ⊎ (get_or zs n d ≡ x)
-    go [] n l m = absurd (omega arith)
-    go (z ∷ zs) zero l m = inr (only_member z x m)
-    go (z ∷ zs) (suc n) l m =
-        ⊎_elim (λ s. inl (subst (λ y. Contains (z ∷ take n zs) y) s (Contains-here z (take n zs)))) (λ t. ⊎_elim (λ h. inl (Contains-there x z (take n zs) h)) (λ h. inr h) (go zs n (omega arith) t))
-        (Contains-cons_cases x z (take (suc n) zs) m)
+take_more xs k j d x e l m = Contains-push_cases (take k xs) (get_or xs k d) x (subst (λ ys. Contains ys x) (ap (λ n. take n xs) e ∙ take-suc xs k d l) m)
 
 -- known alike by an equal reader and equal searches
 pub looks_up_by : {F : Type 0} (objects : F → Objects) {now before : Counting F} → now ≡ before → (p : ObjectId) → LooksUpParent (objects now.reader.find) (rows_of now.reader.graph) now.reader.in_use now.frontier p

@@ -1,22 +1,11 @@
 -- One call of `next`: a commit after the other is taken, until one is shown.
-use Rattle.std.specs.Prelude.{◌≡◌, ◌⊎◌, ◌≤◌, suc, List, [], Bool, true, false, Option, Some, None, Result, Ok, Err, Contains}
-use Rattle.std.proofs.Common.{refl, sym, ap, subst, ⊎_elim, ◌∙◌}
-use Rattle.std.specs.Iterator.{MakesProgress, at_most}
-use Rattle.gix_hash.specs.declared.ObjectId.{ObjectId}
-use Rattle.gix_object.specs.Object.{Objects}
-use Rattle.gix_revwalk.specs.declared.Info.{Info}
-use Rattle.gix_topo.specs.declared.Error.{Error}
-use Rattle.gix_topo.specs.declared.walk.Walk.{Walk}
-use Rattle.gix_topo.specs.Inside.ReadySet.{ReadySet}
-use Rattle.gix_topo.specs.Inside.Releasing.{plan_of, counted_by, taken_of, walk_of, TakesOne, IsTakingFault}
-use Rattle.gix_topo.specs.Laws.{answers_left}
-use Rattle.gix_topo.specs.Inside.Steady.{IsHeld, IsOpen, unasked, unasked_of, TakesReady, TakesNext, ended, given, failed}
-use Rattle.gix_topo.specs.Walk.{TopoWalk, Ready, Counted, Chooses, Adds, IsNextReady, IsFault, IsLate, Takes, after, Next}
+use Rattle.std.proofs.Common.{◌≡◌, ◌⊎◌, ◌≤◌, suc, List, [], Bool, true, false, Option, Some, None, Result, Ok, Err, Contains, sym, ap, subst, ⊎_elim}
+use Rattle.gix_topo.proofs.Common.{MakesProgress, at_most, ObjectId, Objects, Info, Error, Walk, ReadySet, plan_of, counted_by, taken_of, walk_of, TakesOne, IsTakingFault, answers_left, IsHeld, IsOpen, TakesReady, TakesNext, TopoWalk}
+use Rattle.gix_topo.proofs.Common.{Ready, Counted, Chooses, Adds, IsNextReady, IsFault, IsLate, Takes, after, Next, no_member}
+use Rattle.gix_topo.specs.Inside.Steady.{ended, given, failed}
 use Rattle.gix_topo.specs.Walk as machine
-use Rattle.gix_hash.proofs.Ids.Membership.{no_member}
-use Rattle.gix_topo.proofs.Taking.Added.{adds_on}
+use Rattle.gix_revwalk.specs.Infos.{IsInfo}
 use Rattle.gix_topo.proofs.Taking.InvariantKept.{held_on, takes_on}
-use Rattle.gix_topo.proofs.Taking.DepthLowered.{counts_taken}
 use Rattle.gix_topo.proofs.Taking.TakingFaults.{taking_fault}
 use Rattle.gix_topo.proofs.Run.Ends.{takes_left, next_left}
 use Rattle.gix_topo.proofs.Readiness.ReadyIds.{chosen_in}
@@ -32,20 +21,22 @@ module _ {F : Type 0} (objects : F → Objects) (faulty : F → ObjectId → Typ
 
   -- a commit was taken
   pub turned : (added : List Ready) (new : Walk F) → TakesOne objects faulty (record w { ready = rest }) r added new → TakesReady objects faulty w r new × IsHeld objects faulty new
-  turned added new t =
-      let adds : Adds objects faulty (unasked objects faulty) (unasked_of objects faulty w) r (counted_by new.counting) added = adds_on objects faulty w rest same r chosen added new t held (λ sound. (counts_taken objects faulty w rest same r chosen added new t held sound).1) in
-      (takes_on objects faulty w rest same r chosen added new t held (λ sound. (counts_taken objects faulty w rest same r chosen added new t held sound).0) adds, held_on objects faulty w rest same r chosen added new t held (λ sound. (counts_taken objects faulty w rest same r chosen added new t held sound).0) adds)
+  turned added new t = (takes_on objects faulty w rest r chosen same added new t held, held_on objects faulty w rest r chosen same added new t held)
 
   -- it can't be
   pub turn_faults : (e : Error) → IsTakingFault objects faulty (record w { ready = rest }) r e → IsFault objects faulty (plan_of w) (IsNextReady objects (plan_of w) (taken_of w) r.id) e × IsLate objects (plan_of w) (IsNextReady objects (plan_of w) (taken_of w) r.id) e
   turn_faults e f = taking_fault objects faulty w held rest same r chosen e f
 
 module _ {F : Type 0} (objects : F → Objects) (faulty : F → ObjectId → Type 0) where
+  -- a commit was taken
+  took : {w new : Walk F} {info : Info} → TakesNext objects faulty w (Some (Ok info)) new → (r : Ready) × TakesReady objects faulty w r new × IsInfo info r.id r.parents r.generation (Some r.time)
+  took (given t is) = (_, t, is)
+
   -- where a commit is taken something was ready
   pub turn_asks : {w new : Walk F} {o : Option (Result Info Error)} {Can : Type 0} → TakesNext objects faulty w o new → (info : Info) → o ≡ Some (Ok info) → Can ⊎ (w.ready.commits ≡ []) → Can
-  turn_asks (ended n s) info k can = cc
-  turn_asks {w = w} (given {r = r} t is) info k can = ⊎_elim (λ c. c) (λ n. absurd (no_member r (subst (λ rs. Contains rs r) n (chosen_in w.ready.sorting (w.ready.commits) r t.takes.others t.takes.chosen)))) can
-  turn_asks (failed r others c f l s n) info k can = cc
+  turn_asks {w} {new} n info k can =
+      let g = took (subst (λ o. TakesNext objects faulty w o new) k n) in
+      ⊎_elim (λ c. c) (λ e. absurd (no_member g.0 (subst (λ rs. Contains rs g.0) e (chosen_in w.ready.sorting w.ready.commits g.0 g.1.takes.others g.1.takes.chosen)))) can
 
   -- nothing is ready after a fault
   pub turn_spent : {w new : Walk F} {o : Option (Result Info Error)} → TakesNext objects faulty w o new → (e : Error) → o ≡ Some (Err e) → new.ready.commits ≡ []
@@ -54,40 +45,30 @@ module _ {F : Type 0} (objects : F → Objects) (faulty : F → ObjectId → Typ
   turn_spent (failed r others c f l s n) e k = n
 
 module _ {F P : Type 0} (objects : F → Objects) (faulty : F → ObjectId → Type 0) (answers : P → ObjectId → Bool → P → Type 0) where
-  -- what is taken doesn't depend on the predicate
-  takes_as : (w : Walk F) (p : P) (c : Ready) (counted : Counted) (ready : List Ready) → Takes objects faulty (unasked objects faulty) (unasked_of objects faulty w) c counted ready → Takes objects faulty answers (walk_of w p) c counted ready
-  takes_as w p c counted ready t = record {
-    others = t.others;
-    added = t.added;
-    chosen = t.chosen;
-    adds = record { distinct = t.adds.distinct; unmade = t.adds.unmade; named = t.adds.named; found = t.adds.found; became = t.adds.became; stored = t.adds.stored; stands = t.adds.stands; depth = t.adds.depth; counting = t.adds.counting };
-    holds = t.holds;
-  }
-
   after_as : (w new : Walk F) (p q : P) (r : Ready) → TakesReady objects faulty w r new → after objects faulty answers (walk_of w p) r (counted_by new.counting) new.ready.commits q ≡ walk_of new q
   after_as w new p q r t = λ k. record { plan = sym t.plan k; predicate = q; counted = counted_by new.counting; ready = new.ready.commits; taken = sym t.taken k }
 
+  -- what is taken doesn't depend on the predicate
   taken_as : (w new : Walk F) (p : P) (r : Ready) → TakesReady objects faulty w r new → Takes objects faulty answers (walk_of w p) r (counted_by new.counting) new.ready.commits
-  taken_as w new p r t = takes_as w p r (counted_by new.counting) new.ready.commits t.takes
+  taken_as w new p r t = let a = t.takes.adds in record {
+    others = t.takes.others;
+    added = t.takes.added;
+    chosen = t.takes.chosen;
+    adds = record { distinct = a.distinct; unmade = a.unmade; named = a.named; found = a.found; became = a.became; stored = a.stored; stands = a.stands; depth = a.depth; counting = a.counting };
+    holds = t.takes.holds;
+  }
 
   -- it is shown
   pub turn_given : {w new : Walk F} {o : Option (Result Info Error)} → TakesNext objects faulty w o new → (info : Info) → o ≡ Some (Ok info) → (p q : P) → answers p info.id true q → Next objects faulty answers (walk_of w p) (Some (Ok info)) (walk_of new q)
-  turn_given (ended e s) info k p q a = cc
-  turn_given {w = w} {new = new} (given {r = r} {info = i} t is) info k p q a =
-      let same : i ≡ info = cc in
-      subst (λ x. Next objects faulty answers (walk_of w p) (Some (Ok info)) x) (after_as w new p q r t)
-      (machine.given (taken_as w new p r t) (subst (λ x. answers p x true q) (ap (λ x. x.id) (sym same) ∙ is.same_id) a)
-      (record { same_id = ap (λ x. x.id) (sym same) ∙ is.same_id; same_parents = ap (λ x. x.parent_ids.items) (sym same) ∙ is.same_parents; same_generation = ap (λ x. x.generation) (sym same) ∙ is.same_generation; same_time = ap (λ x. x.commit_time) (sym same) ∙ is.same_time }))
-  turn_given (failed r others c f l s n) info k p q a = cc
+  turn_given {w} {new} n info k p q a =
+      let g = took objects faulty (subst (λ o. TakesNext objects faulty w o new) k n) in
+      subst (λ x. Next objects faulty answers (walk_of w p) (Some (Ok info)) x) (after_as w new p q g.0 g.1) (machine.given (taken_as w new p g.0 g.1) (subst (λ i. answers p i true q) g.2.same_id a) g.2)
 
   -- it isn't shown, and the call goes on
   pub turn_refused : {w new : Walk F} {o : Option (Result Info Error)} → TakesNext objects faulty w o new → (info : Info) → o ≡ Some (Ok info) → (p q : P) → answers p info.id false q → (answer : Option (Result Info Error)) (last : TopoWalk F P) → Next objects faulty answers (walk_of new q) answer last → Next objects faulty answers (walk_of w p) answer last
-  turn_refused (ended e s) info k p q a answer last n = cc
-  turn_refused {w = w} {new = new} (given {r = r} {info = i} t is) info k p q a answer last n =
-      let same : i ≡ info = cc in
-      machine.refused (taken_as w new p r t) (subst (λ x. answers p x false q) (ap (λ x. x.id) (sym same) ∙ is.same_id) a)
-      (subst (λ x. Next objects faulty answers x answer last) (sym (after_as w new p q r t)) n)
-  turn_refused (failed r others c f l s n) info k p q a answer last next = cc
+  turn_refused {w} {new} n info k p q a answer last next =
+      let g = took objects faulty (subst (λ o. TakesNext objects faulty w o new) k n) in
+      machine.refused (taken_as w new p g.0 g.1) (subst (λ i. answers p i false q) g.2.same_id a) (subst (λ x. Next objects faulty answers x answer last) (sym (after_as w new p q g.0 g.1)) next)
 
   -- a fault
   pub turn_failed : {w new : Walk F} {o : Option (Result Info Error)} → TakesNext objects faulty w o new → (e : Error) → o ≡ Some (Err e) → (p : P) → Next objects faulty answers (walk_of w p) (Some (Err e)) (walk_of new p)
@@ -107,12 +88,11 @@ module _ {F P : Type 0} (objects : F → Objects) (faulty : F → ObjectId → T
 
   -- each commit taken leaves less
   pub turn_less : {w new : Walk F} {o : Option (Result Info Error)} → TakesNext objects faulty w o new → (info : Info) → o ≡ Some (Ok info) → (p q : P) → suc (answers_left objects (walk_of new q)) ≤ answers_left objects (walk_of w p)
-  turn_less (ended e s) info k p q = cc
-  turn_less {w = w} {new = new} (given {r = r} t is) info k p q =
-      subst (λ x. suc (answers_left objects x) ≤ answers_left objects (walk_of w p)) (after_as w new p q r t) (takes_left objects faulty answers (walk_of w p) r (counted_by new.counting) new.ready.commits q (taken_as w new p r t))
-  turn_less (failed r others c f l s n) info k p q = cc
+  turn_less {w} {new} n info k p q =
+      let g = took objects faulty (subst (λ o. TakesNext objects faulty w o new) k n) in
+      subst (λ x. suc (answers_left objects x) ≤ answers_left objects (walk_of w p)) (after_as w new p q g.0 g.1) (takes_left objects faulty answers (walk_of w p) g.0 (counted_by new.counting) new.ready.commits q (taken_as w new p g.0 g.1))
 
   -- an answer leaves fewer
   pub progresses : (old new : TopoWalk F P) (can : TopoWalk F P → Type 0) (answer : Option (Result Info Error)) → Next objects faulty answers old answer new → can new → MakesProgress can (λ walk. at_most (answers_left objects walk)) old answer new
   progresses old new can None n c = record { on = λ _. tt; keeps = tt; rests = λ _. tt }
-  progresses old new can (Some answer) n c = record { on = λ _. (c, tt, next_left objects faulty answers n answer refl); keeps = c; rests = λ _. tt }
+  progresses old new can (Some answer) n c = record { on = λ _. (c, tt, next_left objects faulty answers n); keeps = c; rests = λ _. tt }

@@ -1,55 +1,28 @@
 -- When a topological walk can't take a ready commit.
-use Rattle.std.specs.Prelude.{◌≡◌, ◌⊎◌, ◌≤◌, ℕ, ◌+◌, ◌-◌, ◌||◌, List, [], ◌∷◌, ◌++◌, drop, Bool, true, false, cond, Some, None, Err, Contains}
-use Rattle.std.proofs.Common.{refl, sym, ap, subst, inl, inr, ⊎_elim, ◌∙◌, arith}
+use Rattle.std.proofs.Common.{◌≡◌, ◌⊎◌, ◌≤◌, ℕ, ◌+◌, ◌-◌, List, [], ◌∷◌, ◌++◌, drop, Bool, true, false, cond, Some, None, Err, Contains, refl, sym, ap, subst, inl, inr, ⊎_elim, ◌∙◌, arith}
 use Rattle.std.specs.FinSet as set
-use Rattle.gix_hash.specs.declared.ObjectId.{ObjectId}
+use Rattle.gix_topo.proofs.Common.{ObjectId, kind_of, is_among, Object, Objects, commit_items, same_itself, among_from, Contains-here, Contains-cons_cases, no_member, Parents, Error, Counting, Tips, Ends, Walk, ReadySet, IsAgreeing}
+use Rattle.gix_topo.proofs.Common.{Explores, IsRested, is_seen, is_done, known_of, reached, Frontier, or_parts, by_mode, Reaches, step, IsReadFault, plan_of, taken_of, IsPushFault, parent, with_frontier, with_counting, ReleasesAll}
+use Rattle.gix_topo.proofs.Common.{IsReleaseFault, uncounted, unread, IsFaultAmong, lowered, IsTakingFault, exploring, releasing, next_by, last_places, AreDroppedFor, IsTallied, IsHeld, TopoPlan, Ready, ready_ids, Chooses, IsCommitRead}
+use Rattle.gix_topo.proofs.Common.{IsNextReady, IsOtherParent, IsLate, IsFault, IsReached, times-append, among_times, Contains-append_left, Contains-append_right}
 use Rattle.gix_object.specs.declared.Kind.TheVariants as object
 use Rattle.gix_object.specs.declared.find.existing_iter.Error.TheVariants as existing
-use Rattle.gix_hash.specs.Id.{kind_of, is_same, is_among}
-use Rattle.gix_object.specs.Object.{Object, Objects}
-use Rattle.gix_object.specs.CommitItems.{commit_items}
-use Rattle.gix_hash.proofs.Ids.Membership.{id_total, same_is, same_itself, among_from, Contains-here, Contains-there, Contains-cons_cases, no_member}
-use Rattle.gix_revwalk.specs.declared.Parents.{Parents}
 use Rattle.gix_revwalk.specs.declared.Parents.TheVariants as mode
-use Rattle.gix_topo.specs.declared.Error.{Error}
 use Rattle.gix_topo.specs.declared.Error.TheVariants as error
-use Rattle.gix_topo.specs.declared.counting.Counting.{Counting}
-use Rattle.gix_frontier.specs.declared.Side.{Side}
-use Rattle.gix_frontier.specs.declared.Side.TheVariants.{Tips, Ends}
-use Rattle.gix_topo.specs.declared.walk.Walk.{Walk}
-use Rattle.gix_topo.specs.Inside.ReadySet.{ReadySet}
-use Rattle.gix_revwalk.specs.Agreeing.{IsAgreeing}
-use Rattle.gix_topo.specs.Inside.Exploring.{Explores, IsRested}
-use Rattle.gix_frontier.specs.Inside.Frontier.{is_seen, is_done, known_of, reached}
-use Rattle.gix_frontier.specs.declared.Frontier.{Frontier}
-use Rattle.gix_topo.specs.Depth.{known_generation}
-use Rattle.std.proofs.lemmas.Bool.{true≢false, or_cases, or_left, or_right, or_parts}
-use Rattle.gix_revwalk.specs.Commits.{by_mode}
-use Rattle.gix_hash.specs.Reach.{Reaches, step}
-use Rattle.gix_topo.specs.Reading.{IsReadFault}
-use Rattle.gix_topo.specs.Inside.Releasing.{plan_of, taken_of, IsPushFault, itself as pushed, parent, with_frontier, IsReleaseFault, uncounted, unread, no_memory, none, more, IsFaultAmong, here, later, lowered, IsTakingFault, exploring, releasing, short}
-use Rattle.gix_topo.specs.Inside.Searched.{IsExplored, text_next, next_by}
+use Rattle.gix_topo.specs.Inside.Releasing.{itself as pushed, no_memory, none, more, here, later, short}
+use Rattle.gix_topo.specs.Inside.Searched.{text_next}
 use Rattle.gix_revwalk.specs.Ids.{times}
-use Rattle.gix_topo.specs.TopoOrder.{last_places}
-use Rattle.gix_topo.specs.Inside.Steady.{AreDroppedFor, IsTallied, IsHeld}
-use Rattle.gix_topo.specs.Walk.{TopoPlan, Ready, ready_ids, Chooses, IsCommitRead, IsNextReady, IsOtherParent, IsLate, IsFault, IsReached}
-use Rattle.gix_topo.proofs.Counts.ExploreKeeps.{explores_same, explores_made, explores_done, explores_idle}
+use Rattle.gix_topo.proofs.Counts.ExploreKeeps.{explores_same, explores_done, explores_idle}
 use Rattle.gix_topo.proofs.Counts.Frontier.{has_seen}
-use Rattle.gix_topo.proofs.Counts.Rest.{least_within}
-use Rattle.gix_topo.proofs.Counts.IndegreeZero.{text_left, text_outside}
-use Rattle.gix_topo.proofs.Readiness.IsReady.{last_from, last_once}
+use Rattle.gix_topo.proofs.Readiness.IsReady.{last_from, last_once, times-last}
 use Rattle.gix_topo.proofs.Taking.AllReleases.{IsReleased, uncounted_made, uncounted_moved, released}
-use Rattle.gix_topo.proofs.Counts.Children.{children_of, was_ready_of, times-last, tally_counts}
+use Rattle.gix_topo.proofs.Counts.Children.{children_of, was_ready_of, tally_counts}
 use Rattle.gix_topo.proofs.Reading.ReadsCommit.{reads_text_next}
 use Rattle.gix_revwalk.proofs.Rows.{none_agree}
-use Rattle.gix_topo.proofs.Counts.Taken.{made_taken}
-use Rattle.gix_topo.proofs.Taking.Setting.{was_ready, plan_taken, was_untaken, named_text, parents_reached, counted_on, explored_on, tally_on}
-use Rattle.gix_revwalk.proofs.NewIds.{among_times}
-use Rattle.gix_topo.proofs.Readiness.ReadyIds.{in_ids}
+use Rattle.gix_topo.proofs.Taking.InvariantKept.{was_ready, plan_taken, was_untaken, named_text, parents_reached, counted_on, due_ready}
 use Rattle.gix_topo.proofs.Counts.RowsDropped.{made_dropped, explores_dropped}
 use Rattle.gix_topo.proofs.Counts.ReadFaults.{fault_item, exploring_fault, push_fault}
 use Rattle.gix_topo.proofs.Counts.MakesReady.{due_parts}
-use Rattle.gix_hash.proofs.Lists.{only_member}
 
 same_object : (a b : Object) → Some a ≡ Some b → a ≡ b
 same_object a b e = cc
@@ -121,60 +94,57 @@ module _ {F : Type 0} (objects : F → Objects) (faulty : F → ObjectId → Typ
       (λ a. ready a (record { one = k ∙ ap (λ m. m + 1) parts.0; outside = sym (ap is_seen (uncounted_moved objects faulty old.counting.frontier f i n k u Ends i)) ∙ parts.1; unmade = sym (uncounted_made objects faulty old.counting.frontier f i n k u i) ∙ parts.2 })) dropped p
   release_fails Q up dropped ready c no_memory = (tt, tt)
 
-  -- some of the parents were released, and these are left
-  record IsPartway (base : Frontier) (all ids : List ObjectId) (f : Frontier) : Type 0 where
-    children : (p : ObjectId) → times p all + children_of f p ≡ children_of base p + times p ids
-    seen : (p : ObjectId) → has_seen f Ends p ≡ has_seen base Ends p
-    made : (p : ObjectId) → was_ready_of f p ≡ false → was_ready_of base p ≡ false
-    among : (p : ObjectId) → Contains ids p → Contains all p
+  -- the parents released before the one that fails
+  record IsFailing (old : Walk F) (ids : List ObjectId) (e : Error) : Type 0 where
+    before : List ObjectId
+    id : ObjectId
+    behind : List ObjectId
+    added : List Ready
+    mid : Walk F
+    releases : ReleasesAll objects faulty old before added mid
+    fault : IsReleaseFault objects faulty mid id e
+    all : ids ≡ before ++ id ∷ behind
 
-  partway_none : (f : Frontier) (all : List ObjectId) → IsPartway f all all f
-  partway_none f all = record { children = λ p. turned p; seen = λ p. refl; made = λ p e. e; among = λ p m. m }
+  failing : {old : Walk F} {ids : List ObjectId} {e : Error} → IsFaultAmong objects faulty old ids e → IsFailing old ids e
+  failing {old} (here {i = i} {ids = ids} f) = record { before = []; id = i; behind = ids; added = []; mid = old; releases = none; fault = f; all = refl }
+  failing (later {i = i} {first = first} r f) =
+      let k = failing f in
+      record { before = i ∷ k.before; id = k.id; behind = k.behind; added = first ++ k.added; mid = k.mid; releases = more r k.releases; fault = k.fault; all = ap (λ xs. i ∷ xs) k.all }
+
+  -- each of these is reached, and has a child left
+  among_fails : (plan : TopoPlan F) (Q : ObjectId → Type 0) (old : Walk F) (all : List ObjectId) → ((p : ObjectId) → times p all ≤ 1) → ((i : ObjectId) → Contains all i → IsUpcoming plan i) → (Agree plan → (i : ObjectId) → Contains all i → IsLastChild old.counting.frontier i → Q i) →
+      plan_of old ≡ plan → AreDroppedFor objects plan old.counting.reader.in_use → (Agree plan → (p : ObjectId) → times p all ≤ children_of old.counting.frontier p) → {e : Error} → IsFaultAmong objects faulty old all e → Fails plan Q e
+  among_fails plan Q old all once up ready same dropped c {e} f =
+      subst (λ p. Fails p Q e) plan_mid (release_fails Q (subst (λ p. IsUpcoming p k.id) (sym plan_mid) (up k.id there)) (subst (λ p. AreDroppedFor objects p k.mid.counting.reader.in_use) (sym plan_mid) dropped_mid)
+      (λ a l. ready (on a) k.id there (first l)) (λ a. let l : times k.id all ≤ children_of old.counting.frontier k.id = c (on a) k.id in let n = counts in let r = rel.children k.id in omega arith) k.fault)
     where
-      turned : (p : ObjectId) → times p all + children_of f p ≡ children_of f p + times p all
-      turned p = omega arith
+      k : IsFailing old all e
+      k = failing f
 
-  -- each of these is reached, and has a child left for each place
-  among_fails : (plan : TopoPlan F) (Q : ObjectId → Type 0) (base : Frontier) (all : List ObjectId) → ((p : ObjectId) → times p all ≤ 1) → ((i : ObjectId) → Contains all i → IsUpcoming plan i) → (Agree plan → (i : ObjectId) → Contains all i → IsLastChild base i → Q i) → {old : Walk F} {ids : List ObjectId} {e : Error} → plan_of old ≡ plan → AreDroppedFor objects plan old.counting.reader.in_use → IsPartway base all ids old.counting.frontier → (Agree plan → (p : ObjectId) → times p ids ≤ children_of old.counting.frontier p) → IsFaultAmong objects faulty old ids e → Fails plan Q e
-  among_fails plan Q base all once up ready {old} {e = e} same dropped part c (here {i = i} {ids = ids} f) =
-      subst (λ p. Fails p Q e) same (release_fails Q (subst (λ p. IsUpcoming p i) (sym same) (up i there)) (subst (λ p. AreDroppedFor objects p old.counting.reader.in_use) (sym same) dropped) (λ a l. ready (on a) i there (first a l)) (λ a. counted (c (on a) i)) f)
-    where
-      there : Contains all i
-      there = part.among i (Contains-here i ids)
+      rel : IsReleased objects faulty old k.before k.added k.mid
+      rel = released objects faulty k.releases
 
-      on : Agree (plan_of old) → Agree plan
-      on a = subst (λ p. IsAgreeing (objects p.store) p.rows) same a
+      plan_mid : plan_of k.mid ≡ plan
+      plan_mid = rel.ready.plan ∙ same
 
-      here_once : 1 ≤ times i (i ∷ ids)
-      here_once = let o : ◌≡◌ {A = ℕ} (cond (is_same i i) 1 0) 1 = ap (λ b. cond b 1 0) (same_itself i) in omega arith
+      on : Agree (plan_of k.mid) → Agree plan
+      on a = subst (λ p. IsAgreeing (objects p.store) p.rows) plan_mid a
 
-      counted : times i (i ∷ ids) ≤ children_of old.counting.frontier i → 1 ≤ children_of old.counting.frontier i
-      counted l = let o : 1 ≤ times i (i ∷ ids) = here_once in omega arith
+      there : Contains all k.id
+      there = subst (λ ids. Contains ids k.id) (sym k.all) (Contains-append_right k.before (k.id ∷ k.behind) k.id (Contains-here k.id k.behind))
 
-      first : Agree (plan_of old) → IsLastChild old.counting.frontier i → IsLastChild base i
-      first a l = record {
-        one =
-            let o : 1 ≤ times i (i ∷ ids) = here_once in
-            let k : times i (i ∷ ids) ≤ children_of old.counting.frontier i = c (on a) i in
-            let n : children_of old.counting.frontier i ≡ 1 = l.one in
-            let s : times i all + children_of old.counting.frontier i ≡ children_of base i + times i (i ∷ ids) = part.children i in
-            let m : 1 ≤ times i all = among_times i all (among_from i all there) in
-            let t : times i all ≤ 1 = once i in
-            omega arith;
-        outside = sym (part.seen i) ∙ l.outside;
-        unmade = part.made i l.unmade;
+      dropped_mid : AreDroppedFor objects plan k.mid.counting.reader.in_use
+      dropped_mid = made_dropped objects faulty plan same (λ j m a. inl ((up j (subst (λ ids. Contains ids j) (sym k.all) (Contains-append_left k.before (k.id ∷ k.behind) j m))).reach a)) rel.ready dropped
+
+      counts : times k.id all ≡ times k.id k.before + (1 + times k.id k.behind)
+      counts = ap (times k.id) k.all ∙ times-append k.id k.before (k.id ∷ k.behind) ∙ ap (λ b. times k.id k.before + (cond b 1 0 + times k.id k.behind)) (same_itself k.id)
+
+      first : IsLastChild k.mid.counting.frontier k.id → IsLastChild old.counting.frontier k.id
+      first l = record {
+        one = let o : times k.id all ≤ 1 = once k.id in let n = counts in let r = rel.children k.id in let m : children_of k.mid.counting.frontier k.id ≡ 1 = l.one in omega arith;
+        outside = sym (ap is_seen (rel.ready.moved Ends k.id)) ∙ l.outside;
+        unmade = (or_parts (is_among k.id (ready_ids k.added)) (was_ready_of old.counting.frontier k.id) (sym (rel.ready.made k.id) ∙ l.unmade)).1;
       }
-  among_fails plan Q base all once up ready {old} same dropped part c (later {mid = mid} {i = i} {ids = ids} {first = first} r f) =
-      let rel : IsReleased objects faulty old (i ∷ []) (first ++ []) mid = released objects faulty (more r none) in
-      among_fails plan Q base all once up ready {old = mid} (rel.ready.plan ∙ same)
-      (made_dropped objects faulty plan same (λ j m a. subst (IsReached objects plan) (only_member i j m) (inl ((up i (part.among i (Contains-here i ids))).reach a))) rel.ready dropped)
-      (record {
-        children = λ p. let s : times p all + children_of old.counting.frontier p ≡ children_of base p + times p (i ∷ ids) = part.children p in let k : (cond (is_same p i) 1 0 + 0) + children_of mid.counting.frontier p ≡ children_of old.counting.frontier p = rel.children p in omega arith;
-        seen = λ p. ap is_seen (rel.ready.moved Ends p) ∙ part.seen p;
-        made = λ p e. part.made p (or_parts (is_among p (ready_ids (first ++ []))) (was_ready_of old.counting.frontier p) (sym (rel.ready.made p) ∙ e)).1;
-        among = λ p m. part.among p (Contains-there p i ids m);
-      })
-      (λ a p. let l : times p (i ∷ ids) ≤ children_of old.counting.frontier p = c a p in let k : (cond (is_same p i) 1 0 + 0) + children_of mid.counting.frontier p ≡ children_of old.counting.frontier p = rel.children p in omega arith) f
 
   module _ (w : Walk F) (held : IsHeld objects faulty w) (rest : ReadySet) (same : rest.sorting ≡ w.ready.sorting) (r : Ready) (chosen : Chooses w.ready.sorting w.ready.commits r rest.commits) where
     abbrev Agrees : Type 0
@@ -196,17 +166,15 @@ module _ {F : Type 0} (objects : F → Objects) (faulty : F → ObjectId → Typ
     }
 
     children_left : (explored : Counting F) → Explores objects faulty low explored → Agrees → (p : ObjectId) → times p (last_places named) ≤ children_of explored.frontier p
-    children_left explored x a p = go (is_among p named) refl (times-last p named)
+    children_left explored x a p = counted (is_among p named) (times p (last_places named)) (children_of explored.frontier p) (times-last p named) (λ e.
+        tally_counts next (λ i. is_done (reached explored.frontier.known Tips i)) (set.contains (taken_of w)) (children_of explored.frontier) (counted_on objects faulty w rest r chosen held a explored x).tally p r.id
+        (explores_done objects faulty x Tips r.id (t.done r (was_ready objects faulty w rest r chosen))) (was_untaken objects faulty w rest r chosen held) (ap (is_among p) (sym (named_text objects faulty w rest r chosen held a)) ∙ e))
       where
         t : IsTallied objects w
         t = held.tallied a
 
-        go : (b : Bool) → is_among p named ≡ b → times p (last_places named) ≡ cond (is_among p named) 1 0 → times p (last_places named) ≤ children_of explored.frontier p
-        go true e l =
-            let o : ◌≡◌ {A = ℕ} (cond (is_among p named) 1 0) 1 = ap (λ b. cond b 1 0) e in
-            let n : 1 ≤ children_of explored.frontier p = tally_counts next (λ i. is_done (reached explored.frontier.known Tips i)) (set.contains (taken_of w)) (children_of explored.frontier) (counted_on objects faulty w rest r chosen held a explored x).tally p r.id (explores_done objects faulty x Tips r.id (t.done r (was_ready objects faulty w rest r chosen))) (was_untaken objects faulty w rest r chosen held) (ap (is_among p) (sym (named_text objects faulty w rest r chosen held a)) ∙ e) in
-            omega arith
-        go false e l = let o : ◌≡◌ {A = ℕ} (cond (is_among p named) 1 0) 0 = ap (λ b. cond b 1 0) e in omega arith
+        counted : (b : Bool) (n m : ℕ) → n ≡ cond b 1 0 → (b ≡ true → 1 ≤ m) → n ≤ m
+        counted b n m l h = grind arith
 
     module _ (explored : Counting F) (x : Explores objects faulty low explored) (rests : IsRested explored.reader.in_use explored.depth explored.frontier.queue) where
       -- how many children are left once it is taken
@@ -216,37 +184,18 @@ module _ {F : Type 0} (objects : F → Objects) (faulty : F → ObjectId → Typ
       -- a parent that loses its last child becomes ready
       next_ready : Agrees → (i : ObjectId) → Contains (last_places named) i → IsLastChild explored.frontier i → IsNextReady objects (plan_of w) (taken_of w) r.id i
       next_ready a i m l = record {
-        named = subst (λ ids. Contains ids i) (named_text objects faulty w rest r chosen held a) within;
-        ready = record {
-          member = record {
-            reached = parents_reached objects faulty w rest r chosen held a i within;
-            outside = text_outside (objects w.counting.reader.find) (faulty w.counting.reader.find) (plan_of w).rows w.counting.parents (plan_of w).tips (plan_of w).ends a explored.frontier low.depth there i l.outside high;
-          };
-          left = λ e. ⊎_elim (λ s. unmade (subst (λ j. (set.contains (taken_of w) j || is_among j (ready_ids w.ready.commits)) ≡ true) (sym (same_is i r.id s)) (or_right (set.contains (taken_of w) r.id) _ (among_from r.id (ready_ids w.ready.commits) (in_ids w.ready.commits r (was_ready objects faulty w rest r chosen)))))) (λ k. unmade (or_left _ _ k)) (or_cases (is_same i r.id) (set.contains (taken_of w) i) (sym (set.contains-insert id_total (taken_of w) r.id i) ∙ e));
-          children = λ d k. text_left (objects w.counting.reader.find) (faulty w.counting.reader.find) (plan_of w).rows w.counting.parents (plan_of w).tips (plan_of w).ends a explored.frontier low.depth there (λ j. set.contains (set.insert (taken_of w) r.id) j) left (tally_on objects faulty w rest r chosen held a explored x left (λ p. kept_apart p (children_left explored x a p))) i none_left high d k.child.reached k.named;
-        };
+        named = subst (λ ids. Contains ids i) (named_text objects faulty w rest r chosen held a) (last_from named i m);
+        ready = due_ready objects faulty w rest r chosen held a explored x rests left (λ p. apart p (children_left explored x a p)) i (last_from named i m) none_left l.outside l.unmade;
       }
         where
-          within : Contains named i
-          within = last_from named i m
-
-          there : (side : Side) → IsExplored (objects w.counting.reader.find) (plan_of w).rows w.counting.parents (plan_of w).tips (plan_of w).ends low.depth side explored.frontier
-          there = explored_on objects faulty w rest r chosen held a explored x rests
-
-          high : low.depth ≤ known_generation (plan_of w).rows i
-          high = least_within (plan_of w).rows w.counting.depth named i within
-
-          kept_apart : (p : ObjectId) → times p (last_places named) ≤ children_of explored.frontier p → times p (last_places named) + (children_of explored.frontier p - times p (last_places named)) ≡ children_of explored.frontier p
-          kept_apart p n = omega arith
+          apart : (p : ObjectId) → times p (last_places named) ≤ children_of explored.frontier p → times p (last_places named) + (children_of explored.frontier p - times p (last_places named)) ≡ children_of explored.frontier p
+          apart p n = omega arith
 
           none_left : (children_of explored.frontier i - times i (last_places named)) ≡ 0
           none_left =
               let n : 1 ≤ times i (last_places named) = among_times i (last_places named) (among_from i (last_places named) m) in
               let o : children_of explored.frontier i ≡ 1 = l.one in
               omega arith
-
-          unmade : (set.contains (taken_of w) i || is_among i (ready_ids w.ready.commits)) ≡ true → ⊥
-          unmade e = true≢false (sym e ∙ sym (explores_made objects faulty x i ∙ made_taken w held.made i) ∙ l.unmade)
 
     -- taking the chosen commit fails for a reason, and a fault found so late without rows is that of another parent
     pub taking_fault : (e : Error) → IsTakingFault objects faulty (record w { ready = rest }) r e → IsFault objects faulty (plan_of w) (IsNextReady objects (plan_of w) (taken_of w) r.id) e × IsLate objects (plan_of w) (IsNextReady objects (plan_of w) (taken_of w) r.id) e
@@ -255,7 +204,7 @@ module _ {F : Type 0} (objects : F → Objects) (faulty : F → ObjectId → Typ
       late (plan_of w) (IsNextReady objects (plan_of w) (taken_of w) r.id) f.fault.entry.1.id e (λ n. absurd (no_member f.fault.entry (subst (λ queue. Contains queue f.fault.entry) (explores_idle objects faulty f.explored (held.idle n)) f.fault.queued))) (subst (λ x. IsReadFault (objects x) (faulty x) f.fault.entry.1.id e) (explores_same objects faulty f.explored).find f.fault.fault.0),
     )
     taking_fault e (releasing {explored = explored} x rests f) =
-        among_fails (plan_of w) (IsNextReady objects (plan_of w) (taken_of w) r.id) explored.frontier (last_places named) (last_once named) upcoming (next_ready explored x rests) (plan_taken objects faulty w rest r chosen same explored (explores_same objects faulty x))
-        (explores_dropped objects faulty w.ready.sorting w.tips.items w.ends.items (set.contains (taken_of w)) low (λ a. (held.tallied a).counted) x held.dropped)
-        (partway_none explored.frontier (last_places named)) (children_left explored x) f
+        among_fails (plan_of w) (IsNextReady objects (plan_of w) (taken_of w) r.id) (with_counting objects faulty (record w { ready = rest }) explored) (last_places named) (last_once named) upcoming (next_ready explored x rests)
+        (plan_taken objects faulty w rest r chosen same explored (explores_same objects faulty x))
+        (explores_dropped objects faulty w.ready.sorting w.tips.items w.ends.items (set.contains (taken_of w)) low (λ a. (held.tallied a).counted) x held.dropped) (children_left explored x) f
     taking_fault e (short q) = subst (Fails (plan_of w) (IsNextReady objects (plan_of w) (taken_of w) r.id)) (sym q) (tt, tt)

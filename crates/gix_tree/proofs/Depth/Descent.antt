@@ -1,25 +1,13 @@
 -- An entry shown by a walk in depth, by the calls that were made.
-use Rattle.std.proofs.Common.{◌≡◌, Bool, true, false, List, [], ◌∷◌, Some, None, Ok, Err, refl, sym, subst}
-use Rattle.std.specs.declared.ops.ControlFlow.TheVariants.{Continue, Break}
-use Rattle.gix_hash.specs.declared.ObjectId.{ObjectId}
-use Rattle.gix_hash.specs.Id.{is_among}
-use Rattle.gix_object.specs.TreeItems.{TreeEntry, is_tree}
-use Rattle.gix_tree.specs.declared.breadthfirst.Error.{Error}
+use Rattle.std.proofs.Common.{◌≡◌, Bool, true, false, List, [], ◌∷◌, Some, None, Ok, Err, refl, subst, Continue, Break}
+use Rattle.gix_tree.proofs.Common.{ObjectId, is_among, TreeEntry, is_tree, Error, Stop, Call, PushPath, PopPath, PushBack, Refused, RefusedIn, here, later, Items, Enters, Cycles, visit_call, visit_call_of, depth_calls, visit_below}
+use Rattle.gix_tree.proofs.Common.{ShowsBelow, ShowsUpTo, Descends}
 use Rattle.gix_tree.specs.declared.breadthfirst.Error.TheVariants as error
-use Rattle.gix_tree.specs.declared.depthfirst.Stop.{Stop}
 use Rattle.gix_tree.specs.declared.depthfirst.Stop.TheVariants as stop
-use Rattle.gix_tree.specs.Delegate.{Call, PushPath, PopPath, PushBack, Refused, RefusedIn, here, later}
-use Rattle.gix_tree.specs.Visits.{Items, Outcome, Enters, Cycles, outcome, outcome_of, visit_call, visit_call_of}
-use Rattle.gix_tree.specs.Script.{depth_calls}
-use Rattle.gix_tree.specs.Inside.ShowsEntry.{visit_below}
 use Rattle.gix_tree.specs.Inside.ShowsBelow as shows
-use Rattle.gix_tree.specs.Inside.ShowsBelow.{ShowsBelow, ShowsUpTo, Descends}
-use Rattle.gix_tree.proofs.Shown.{visit_takes, plain_leaves}
+use Rattle.gix_tree.proofs.Shown.{visit_takes, plain_leaves, leads}
 
 module _ {V : Type 0} (steps : V → Call → V → Type 0) (ids : List ObjectId) (e : TreeEntry) (old : V) where
-  leads : (known : Bool) (o : Outcome) → is_tree e.mode ≡ true → is_among e.id ids ≡ known → outcome_of true (Continue true) known ≡ o → outcome (visit_below ids e (Continue true)) ≡ o
-  leads known o t k h = subst (λ b. outcome_of b (Continue true) (is_among e.id ids) ≡ o) (sym t) (subst (λ b. outcome_of true (Continue true) b ≡ o) (sym k) h)
-
   pub push_refused : (new : V) → steps old Refused new → ShowsBelow steps ids e old new (Err error.Memory)
   push_refused new s = shows.refused (Continue false) (here refl) (new, s, refl)
 
@@ -40,21 +28,21 @@ module _ {V : Type 0} (steps : V → Call → V → Type 0) (ids : List ObjectId
   -- the entry's tree isn't gone into, and the walk ends
   pub descent_ends : (mid low deep new : V) (why : Error) → is_tree e.mode ≡ true → steps old (PushPath e.name) mid → steps mid (visit_call_of (is_tree e.mode) e (Continue true)) low → steps low PopPath deep → Descends steps ids e deep new (Err why) → ShowsBelow steps ids e old new (Err why)
   descent_ends mid low deep new why t p s q (shows.cycled k) =
-      let cycles = leads true Cycles t k refl in
+      let cycles = leads ids e true Cycles t k refl in
       shows.cycled (Continue true) cycles (rw cycles (mid, p, (low, s, (deep, q, refl))))
-  descent_ends mid low deep new why t p s q (shows.no_memory k) = shows.no_memory (Continue true) (leads false Enters t k refl) (mid, p, (low, s, (deep, q, refl)))
+  descent_ends mid low deep new why t p s q (shows.no_memory k) = shows.no_memory (Continue true) (leads ids e false Enters t k refl) (mid, p, (low, s, (deep, q, refl)))
   descent_ends mid low deep new why t p s q (shows.refused_first k r) =
-      let enters = leads false Enters t k refl in
+      let enters = leads ids e false Enters t k refl in
       let made : RefusedIn (depth_calls (visit_below ids e (Continue true))) (PushPath e.name ∷ visit_call (visit_below ids e (Continue true)) ∷ PopPath ∷ Refused ∷ []) = rw enters (later (later (later (here refl)))) in
       shows.refused (Continue true) made (mid, p, (low, s, (deep, q, (new, r, refl))))
   descent_ends mid low deep new why t p s q (shows.refused {mid = back} k r z) =
-      let enters = leads false Enters t k refl in
+      let enters = leads ids e false Enters t k refl in
       let made : RefusedIn (depth_calls (visit_below ids e (Continue true))) (PushPath e.name ∷ visit_call (visit_below ids e (Continue true)) ∷ PopPath ∷ PushBack [] ∷ Refused ∷ []) = rw enters (later (later (later (later (here refl))))) in
       shows.refused (Continue true) made (mid, p, (low, s, (deep, q, (back, r, (new, z, refl)))))
 
   pub descent_goes_on : (mid low deep new : V) → is_tree e.mode ≡ true → steps old (PushPath e.name) mid → steps mid (visit_call_of (is_tree e.mode) e (Continue true)) low → steps low PopPath deep → Descends steps ids e deep new (Ok tt) → ShowsBelow steps ids e old new (Ok (Some (stop.Into e.id)))
   descent_goes_on mid low deep new t p s q (shows.told {mid = back} k r z) =
-      let enters = leads false Enters t k refl in
+      let enters = leads ids e false Enters t k refl in
       shows.entered (Continue true) enters (rw enters (mid, p, (low, s, (deep, q, (back, r, (new, z, refl))))))
 
 pub stops_at : {V : Type 0} (steps : V → Call → V → Type 0) (ids : List ObjectId) {e : TreeEntry} {items left : Items} {old new : V} {how : Stop} → ShowsBelow steps ids e old new (Ok (Some how)) → items ≡ left → ShowsUpTo steps ids (Ok e ∷ items) old new (Ok how) left

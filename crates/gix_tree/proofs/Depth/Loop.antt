@@ -1,30 +1,18 @@
 -- What a loop of `depthfirst` keeps, and what each of its steps leaves of that. A state knows ids and no names.
 use Rattle.std.proofs.Common.{◌≡◌, ◌≢◌, List, [], ◌∷◌, ◌++◌, map, drop, Some, Result, Ok, Err, refl, sym, ap, ◌∙◌, subst, append_assoc}
-use Rattle.gix_hash.specs.declared.ObjectId.{ObjectId}
+use Rattle.gix_tree.proofs.Common.{ObjectId, is_among, kind_of, Objects, TreeEntry, is_tree, tree_items, Error, Action, Call, PopBack, Run, RefusedIn, Items, Place, Visit, visit, inside, Outcome, Leaves, Enters, Cycles, Breaks}
+use Rattle.gix_tree.proofs.Common.{outcome_of, outcome, Ending, Whole, known_root, depth_calls, DepthScript, IsDepthScript, visit_below, Stop, ShowsUpTo, error_of_find, FoundTree, items_at, items_of_object, trees_of, LookUpFails}
+use Rattle.gix_tree.proofs.Common.{depth_answer, DepthFirst}
 use Rattle.gix_object.specs.declared.find.existing_iter.Error.{Error as ExistingError}
 use Rattle.gix_object.specs.declared.find.existing_iter.Error.TheVariants as existing
-use Rattle.gix_hash.specs.Id.{is_among, kind_of}
-use Rattle.gix_object.specs.Object.{Objects}
-use Rattle.gix_object.specs.TreeItems.{TreeEntry, is_tree, tree_items}
-use Rattle.gix_tree.specs.declared.breadthfirst.Error.{Error}
 use Rattle.gix_tree.specs.declared.breadthfirst.Error.TheVariants as error
-use Rattle.gix_tree.specs.Delegate.{Action, Call, PopBack, Run, RefusedIn}
-use Rattle.gix_tree.specs.Visits.{Items, Place, Visit, visit, inside, Outcome, Leaves, Enters, Cycles, Breaks, outcome_of, outcome, Ending, Whole}
-use Rattle.gix_tree.specs.Paths.{known_root}
 use Rattle.gix_tree.specs.Script as script
-use Rattle.gix_tree.specs.Script.{depth_calls, DepthScript, IsDepthScript}
-use Rattle.gix_tree.specs.Inside.ShowsEntry.{visit_below}
-use Rattle.gix_tree.specs.declared.depthfirst.Stop.{Stop}
 use Rattle.gix_tree.specs.declared.depthfirst.Stop.TheVariants as stop
 use Rattle.gix_tree.specs.declared.depthfirst.Tree.{Tree}
 use Rattle.gix_tree.specs.Inside.ShowsBelow as below
-use Rattle.gix_tree.specs.Inside.ShowsBelow.{ShowsUpTo}
-use Rattle.gix_tree.specs.Errors.{error_of_find}
-use Rattle.gix_tree.specs.Inside.Stack.{FoundTree, items_at}
-use Rattle.gix_tree.specs.Walk.{items_of_object, trees_of, LookUpFails, depth_answer, DepthFirst}
 use Rattle.gix_tree.proofs.Places.{first_seen, none_seen}
 use Rattle.gix_tree.proofs.Depth.Stack.{Above}
-use Rattle.gix_tree.proofs.Depth.Script.{DepthFrom, outermost, depth_leaves, depth_enters, depth_resumes, depth_ends}
+use Rattle.gix_tree.proofs.Depth.Script.{DepthFrom, outermost, resumes, depth_leaves, depth_enters, depth_ends}
 use Rattle.gix_tree.proofs.SoFar.{run_more, look_up_failed, Ended, SoFar, at_start, further, ends}
 
 abbrev above_of : Place × Items → Above
@@ -78,7 +66,8 @@ module _ {V : Type 0} (objects : Objects) (faulty : ObjectId → Type 0) (steps 
     ended h ne walk run = depth_ended (ends steps old All h.so_far (depth_ends (trees_of objects) (LookUpFails objects faulty) ne walk) run)
 
   -- an entry that the walk doesn't go into
-  so_far_leaves : {mid now : V} {ids : List ObjectId} {items : Items} {above : List Above} (e : TreeEntry) (a : Action) → DepthSoFar mid ids (Ok e ∷ items) above → outcome (visit_below ids e a) ≡ Leaves → Run steps mid (depth_calls (visit_below ids e a)) now → DepthSoFar now ids items above
+  so_far_leaves : {mid now : V} {ids : List ObjectId} {items : Items} {above : List Above} (e : TreeEntry) (a : Action) → DepthSoFar mid ids (Ok e ∷ items) above
+      → outcome (visit_below ids e a) ≡ Leaves → Run steps mid (depth_calls (visit_below ids e a)) now → DepthSoFar now ids items above
   so_far_leaves e a h o run = record {
     place = h.place;
     frames = h.frames;
@@ -98,7 +87,7 @@ module _ {V : Type 0} (objects : Objects) (faulty : ObjectId → Type 0) (steps 
         known = f.known;
         same = f.same;
         so_far = further steps old All (PopBack ∷ []) [] h.so_far (now, step, refl)
-            (λ more rest end walk. subst (λ l. From h.place [] l (PopBack ∷ more) rest end) (sym f.is) (depth_resumes (trees_of objects) (LookUpFails objects faulty) walk));
+            (λ more rest end walk. subst (λ l. From h.place [] l (PopBack ∷ more) rest end) (sym f.is) (resumes script.whole walk));
       }
 
   pub so_far_whole : (now : V) {ids : List ObjectId} → DepthSoFar now ids [] [] → DepthFirst objects faulty steps root old now (Ok tt)
@@ -159,7 +148,8 @@ module _ {V : Type 0} (objects : Objects) (faulty : ObjectId → Type 0) (steps 
   pub so_far_into_no_memory : (now : V) {ids : List ObjectId} {above : List Above} {left : Items} (i : ObjectId) → GoesInto now ids above i left → DepthFirst objects faulty steps root old now (Err error.Memory)
   so_far_into_no_memory now i g = ended g.so_far (λ x. cc) (script.no_memory_at_look_up (outcome_here g.so_far g.entry g.answer Enters g.enters)) (run_here g.so_far g.entry g.answer now g.run)
 
-  pub so_far_into_fails : (now : V) {ids : List ObjectId} {above : List Above} {left : Items} (i : ObjectId) (why : ExistingError) → GoesInto now ids above i left → (why ≢ existing.Memory → LookUpFails objects faulty i why)
+  pub so_far_into_fails : (now : V) {ids : List ObjectId} {above : List Above} {left : Items} (i : ObjectId) (why : ExistingError) → GoesInto now ids above i left
+      → (why ≢ existing.Memory → LookUpFails objects faulty i why)
       → DepthFirst objects faulty steps root old now (Err (error_of_find why))
   so_far_into_fails now i why g failed =
       let enters = outcome_here g.so_far g.entry g.answer Enters g.enters in

@@ -1,13 +1,9 @@
 -- The walk in depth, from a place in a tree on: what each step of a loop needs.
 use Rattle.std.proofs.Common.{◌≡◌, ◌≢◌, true, false, List, [], ◌∷◌, ◌++◌, Option, Some, Ok, refl, sym, ap, ◌∙◌, subst, append_assoc}
-use Rattle.gix_hash.specs.declared.ObjectId.{ObjectId}
+use Rattle.gix_tree.proofs.Common.{ObjectId, TreeEntry, Action, Call, PopBack, Items, Place, Visit, visit, inside, Leaves, Enters, outcome, Ending, Whole, Broken, Failed, IsUnfailed, is_broken, IsPreorder, IsPreorderBeginning}
+use Rattle.gix_tree.proofs.Common.{depth_calls, DepthScript, whole, leaves, enters, ends_inside, not_found, breaks, cycles, fault, no_memory_at_look_up, no_memory_for_descent, refused, items_or_none, entries_in, entries_at}
 use Rattle.gix_object.specs.declared.find.existing_iter.Error.{Error as ExistingError}
-use Rattle.gix_object.specs.TreeItems.{TreeEntry}
-use Rattle.gix_tree.specs.Delegate.{Action, Call, PopBack}
-use Rattle.gix_tree.specs.Visits.{Items, Place, Visit, visit, inside, Leaves, Enters, outcome, Ending, Whole, Broken, Failed, IsUnfailed, is_broken}
 use Rattle.gix_tree.specs.Preorder as order
-use Rattle.gix_tree.specs.Preorder.{IsPreorder, IsPreorderBeginning}
-use Rattle.gix_tree.specs.Script.{depth_calls, DepthScript, whole, leaves, enters, ends_inside, not_found, breaks, cycles, fault, no_memory_at_look_up, no_memory_for_descent, refused, items_or_none, entries_in, entries_at}
 
 module _ (trees : ObjectId → Option Items) (fails : ObjectId → ExistingError → Type 0) where
   -- the walk in depth, from a place in a tree on, with what is left of the trees above it, the nearest first
@@ -24,10 +20,6 @@ module _ (trees : ObjectId → Option Items) (fails : ObjectId → ExistingError
   depth_leaves o (outermost script) = outermost (leaves o script)
   depth_leaves {p} {e} {a} o (resumes {calls = calls} {more = more} script rest) = retold (append_assoc (depth_calls (visit p e a)) calls (PopBack ∷ more)) refl (resumes (leaves o script) rest)
   depth_leaves o (ends script broken) = ends (leaves o script) broken
-
-  -- a tree's end, where another tree is gone on with
-  pub depth_resumes : {p q : Place} {rest : Items} {above : List (Place × Items)} {calls : List Call} {visits : List Visit} {end : Ending} → DepthFrom q rest above calls visits end → DepthFrom p [] ((q, rest) ∷ above) (PopBack ∷ calls) visits end
-  depth_resumes rest = resumes whole rest
 
   -- a walk that ended in some tree has ended
   pub depth_ends : {p : Place} {items : Items} {above : List (Place × Items)} {calls : List Call} {visits : List Visit} {end : Ending} → end ≢ Whole → DepthScript trees fails p items calls visits end → DepthFrom p items above calls visits end

@@ -1,18 +1,12 @@
 -- The trees that a walk in depth is in.
-use Rattle.std.proofs.Common.{◌≡◌, ℕ, zero, suc, ◌+◌, ◌-◌, ◌<◌, ◌≤◌, Bool, true, false, ◌||◌, List, [], ◌∷◌, ◌++◌, length, drop, get_or, reverse, refl, sym, ap, ◌∙◌, subst, arith, zero-add}
-use Rattle.std.specs.List.{list_any}
+use Rattle.std.proofs.Common.{◌≡◌, ℕ, zero, suc, ◌+◌, ◌-◌, ◌<◌, ◌≤◌, Bool, true, false, ◌||◌, List, [], ◌∷◌, ◌++◌, length, drop, get_or, reverse, refl, sym, ap, ◌∙◌, subst, arith, drop-drop}
+use Rattle.gix_tree.proofs.Common.{list_any, ObjectId, is_same, is_among, IsEndOf, eq_is_same, Items, IsWithin, ids_down, items_at}
 use Rattle.std.proofs.lemmas.List.{drop_all, reverse-append}
 use Rattle.std.proofs.lemmas.List.Folds.{list_any-append}
 use Rattle.std.proofs.Math.Bool.{or-false, or-true}
 use Rattle.gix_hash.specs.contracts.ObjectIdPartialEq.TheImpl.{eq-value}
-use Rattle.gix_hash.specs.declared.ObjectId.{ObjectId}
-use Rattle.gix_hash.specs.Id.{is_same, is_among}
-use Rattle.gix_object.specs.TreeRefIter.{IsEndOf}
 use Rattle.gix_object.proofs.TreeText.Ends.{drop_end}
-use Rattle.gix_hash.proofs.Ids.Equality.{eq_is_same}
 use Rattle.gix_tree.specs.declared.depthfirst.Tree.{Tree}
-use Rattle.gix_tree.specs.Visits.{Items}
-use Rattle.gix_tree.specs.Inside.Stack.{IsWithin, ids_down, items_at}
 
 -- the next entry of each tree begins in its bytes or behind them all
 abbrev pub AreWithin : List Tree → Type 0
@@ -36,10 +30,7 @@ abbrev pub is_of : ObjectId → List Tree → Bool
 is_of i trees = list_any (λ t. is_same i t.oid) trees
 
 either : (b c : Bool) → (b || (c || false)) ≡ (c || b)
-either true true = refl
-either true false = refl
-either false true = refl
-either false false = refl
+either b c = grind arith
 
 of_back : (i : ObjectId) (trees : List Tree) → is_of i (reverse trees) ≡ is_of i trees
 of_back i [] = refl
@@ -81,17 +72,10 @@ known_last i root trees k r past same e =
     let none : is_of i trees ≡ false = sym same ∙ ap (λ l. is_of i l) (drop_all k trees past) in
     sym (ap (λ b. is_same i root || b) (among_back i trees ∙ none) ∙ or-false (is_same i root) ∙ told_same i root r e)
 
-drop_drop : (m k : ℕ) (xs : List ℕ) → drop k (drop m xs) ≡ drop (m + k) xs
-drop_drop zero k xs = ap (λ n. drop n xs) (sym (zero-add k))
-drop_drop (suc m) k [] = drop_all k [] (omega arith) ∙ sym (drop_all (suc m + k) [] (omega arith))
-drop_drop (suc m) k (x ∷ xs) =
-    let more : suc (m + k) ≡ suc m + k = omega arith in
-    subst (λ n. drop k (drop m xs) ≡ drop n (x ∷ xs)) more (drop_drop m k xs)
-
 -- an end of an end is an end
 pub end_of_end : (bytes more all : List ℕ) → IsEndOf bytes more → IsEndOf more all → IsEndOf bytes all
 end_of_end bytes more all h g =
     let m = length all - length more in
     let k = length more - length bytes in
-    let is : drop (m + k) all ≡ bytes = sym (drop_drop m k all) ∙ ap (λ l. drop k l) g ∙ h in
+    let is : drop (m + k) all ≡ bytes = sym (drop-drop k m all) ∙ ap (λ l. drop k l) g ∙ h in
     subst (λ l. IsEndOf l all) is (drop_end (m + k) all)

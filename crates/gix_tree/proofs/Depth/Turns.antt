@@ -1,12 +1,8 @@
 -- A walk in depth, by the trees that it is in.
 use Rattle.std.proofs.Common.{◌≡◌, ◌<◌, ℕ, List, [], ◌∷◌, ◌++◌, reverse, Ok, sym, ap, ◌∙◌, subst}
-use Rattle.gix_hash.specs.declared.ObjectId.{ObjectId}
-use Rattle.gix_object.specs.Object.{Objects}
+use Rattle.gix_tree.proofs.Common.{ObjectId, Objects, Call, PopBack, ShowsUpTo, FoundTree, ids_down, items_at}
 use Rattle.gix_tree.specs.declared.depthfirst.Stop.TheVariants as stop
 use Rattle.gix_tree.specs.declared.depthfirst.Tree.{Tree}
-use Rattle.gix_tree.specs.Delegate.{Call, PopBack}
-use Rattle.gix_tree.specs.Inside.ShowsBelow.{ShowsUpTo}
-use Rattle.gix_tree.specs.Inside.Stack.{FoundTree, ids_down, items_at}
 use Rattle.gix_tree.proofs.Depth.Loop.{DepthSoFar, so_far_start, so_far_shown, so_far_into, so_far_resumes, found_tree}
 use Rattle.gix_tree.proofs.Depth.Stack.{AreWithin, left_above, last_first}
 use Rattle.gix_tree.proofs.Work.Loops.{stack_work, descent_lessens, end_lessens}

@@ -1,25 +1,15 @@
 -- What a loop of `breadthfirst` keeps, and what each of its steps leaves of that. A state knows ids and no names.
-use Rattle.std.proofs.Common.{◌≡◌, ◌≢◌, ℕ, List, [], ◌∷◌, ◌++◌, map, Some, Result, Ok, Err, refl, sym, ap, ◌∙◌, subst, append_assoc}
-use Rattle.std.proofs.lemmas.List.{append-nil, map-append}
+use Rattle.std.proofs.Common.{◌≡◌, ◌≢◌, ℕ, List, [], ◌∷◌, ◌++◌, map, Some, Result, Ok, Err, refl, sym, ap, ◌∙◌, subst, append_assoc, append-nil}
+use Rattle.std.proofs.lemmas.List.{map-append}
 use Rattle.std.specs.FinMap.{get}
-use Rattle.gix_hash.specs.declared.ObjectId.{ObjectId}
+use Rattle.gix_tree.proofs.Common.{ObjectId, is_among, kind_of, Objects, TreeEntry, is_tree, tree_items, Error, Action, Call, PopFront, Run, RefusedIn, Items, Place, Visit, visit, inside, Outcome, Leaves, Enters, Cycles, Breaks}
+use Rattle.gix_tree.proofs.Common.{outcome_of, outcome, Ending, Whole, Task, Turn, shows, unknown_root, items_or_none, level_calls, LevelQueue, Waiting, ShowsEntry, ShowsTree, visit_below, error_of_find, items_of_object, trees_of}
+use Rattle.gix_tree.proofs.Common.{LookUpFails, level_answer, BreadthFirst}
 use Rattle.gix_object.specs.declared.find.existing_iter.Error.{Error as ExistingError}
 use Rattle.gix_object.specs.declared.find.existing_iter.Error.TheVariants as existing
 use Rattle.gix_object.specs.declared.Kind.TheVariants as kind
-use Rattle.gix_hash.specs.Id.{is_among, kind_of}
-use Rattle.gix_object.specs.Object.{Objects}
-use Rattle.gix_object.specs.TreeItems.{TreeEntry, is_tree, tree_items}
-use Rattle.gix_tree.specs.declared.breadthfirst.Error.{Error}
-use Rattle.gix_tree.specs.Delegate.{Action, Call, PopFront, Run, RefusedIn}
-use Rattle.gix_tree.specs.Visits.{Items, Place, Visit, visit, inside, Outcome, Leaves, Enters, Cycles, Breaks, outcome_of, outcome, Ending, Whole, Task, Turn, shows}
-use Rattle.gix_tree.specs.Paths.{unknown_root}
 use Rattle.gix_tree.specs.Script as script
-use Rattle.gix_tree.specs.Script.{items_or_none, level_calls}
-use Rattle.gix_tree.specs.Inside.LevelQueue.{LevelQueue, Waiting}
 use Rattle.gix_tree.specs.Inside.ShowsEntry as round
-use Rattle.gix_tree.specs.Inside.ShowsEntry.{ShowsEntry, ShowsTree, visit_below}
-use Rattle.gix_tree.specs.Errors.{error_of_find}
-use Rattle.gix_tree.specs.Walk.{items_of_object, trees_of, LookUpFails, level_answer, BreadthFirst}
 use Rattle.gix_tree.proofs.Places.{first_seen, none_seen}
 use Rattle.gix_tree.proofs.SoFar.{look_up_failed, Ended, SoFar, at_start, further, ends}
 use Rattle.gix_tree.proofs.Levels.Queue.{LevelFrom}
@@ -80,12 +70,14 @@ module _ {V : Type 0} (objects : Objects) (faulty : ObjectId → Type 0) (steps 
     run_here h e a now run = subst (λ l. Run steps mid (level_calls (visit_below l e a)) now) (sym h.known) run
 
     -- a walk that ends so has come to its end
-    ended : {now : V} (h : LevelSoFar mid ids items waiting) {more : List Call} {rest : List Visit} {end : Ending} → Walk (shows h.place items ++ waiting_tasks h.places) more rest end → Run steps mid more now
+    ended : {now : V} (h : LevelSoFar mid ids items waiting) {more : List Call} {rest : List Visit} {end : Ending} → Walk (shows h.place items ++ waiting_tasks h.places) more rest end
+        → Run steps mid more now
         → BreadthFirst objects faulty steps root old now (level_answer end)
     ended h walk run = level_ended (ends steps old _ h.so_far walk run)
 
   -- an entry that the walk doesn't go into
-  so_far_leaves : {mid now : V} {ids : List ObjectId} {items : Items} {waiting : List Waiting} (e : TreeEntry) (a : Action) → LevelSoFar mid ids (Ok e ∷ items) waiting → outcome (visit_below ids e a) ≡ Leaves → Run steps mid (level_calls (visit_below ids e a)) now → LevelSoFar now ids items waiting
+  so_far_leaves : {mid now : V} {ids : List ObjectId} {items : Items} {waiting : List Waiting} (e : TreeEntry) (a : Action) → LevelSoFar mid ids (Ok e ∷ items) waiting
+      → outcome (visit_below ids e a) ≡ Leaves → Run steps mid (level_calls (visit_below ids e a)) now → LevelSoFar now ids items waiting
   so_far_leaves {items = items} e a h o run =
       let leaves : outcome (visit h.place e a) ≡ Leaves = outcome_here h e a Leaves o in
       record {
@@ -98,7 +90,8 @@ module _ {V : Type 0} (objects : Objects) (faulty : ObjectId → Type 0) (steps 
       }
 
   -- a tree that the walk will go into
-  so_far_enters : {mid now : V} {ids : List ObjectId} {items : Items} {waiting : List Waiting} (e : TreeEntry) (a : Action) → LevelSoFar mid ids (Ok e ∷ items) waiting → outcome (visit_below ids e a) ≡ Enters → Run steps mid (level_calls (visit_below ids e a)) now
+  so_far_enters : {mid now : V} {ids : List ObjectId} {items : Items} {waiting : List Waiting} (e : TreeEntry) (a : Action) → LevelSoFar mid ids (Ok e ∷ items) waiting
+      → outcome (visit_below ids e a) ≡ Enters → Run steps mid (level_calls (visit_below ids e a)) now
       → LevelSoFar now ids items (waiting ++ (e.id, e.id ∷ ids) ∷ [])
   so_far_enters {ids = ids} {items = items} e a h o run =
       let enters : outcome (visit h.place e a) ≡ Enters = outcome_here h e a Enters o in
@@ -134,7 +127,8 @@ module _ {V : Type 0} (objects : Objects) (faulty : ObjectId → Type 0) (steps 
       let f = first_seen waiting_of (λ y. y.1) (λ y. y.0) (λ t. refl) (λ t. refl) h.places (i, below) rest (h.same ∙ first) in
       record { place = f.place; others = f.others; known = f.known; same = f.same; so_far = subst (λ l. SoFar steps old (Walk (shows unknown_root root)) (Walk (waiting_tasks l)) now) f.is h.so_far }
 
-  pub so_far_found : (mid now : V) {ids below : List ObjectId} {waiting rest : List Waiting} (i : ObjectId) (held : List ℕ) → LevelSoFar mid ids [] waiting → waiting ≡ (i, below) ∷ rest → steps mid PopFront now
+  pub so_far_found : (mid now : V) {ids below : List ObjectId} {waiting rest : List Waiting} (i : ObjectId) (held : List ℕ) → LevelSoFar mid ids [] waiting → waiting ≡ (i, below) ∷ rest
+      → steps mid PopFront now
       → get objects i ≡ Some (record { kind = kind.Tree; bytes = held }) → LevelSoFar now below (tree_items (kind_of i) held) rest
   so_far_found mid now i held h first step found =
       let t = at_turn i h first in
@@ -149,7 +143,8 @@ module _ {V : Type 0} (objects : Objects) (faulty : ObjectId → Type 0) (steps 
             (λ more rest end walk. script.turn refl is (rw (append-nil tasks) (subst (λ l. Walk (shows t.place (items_or_none l) ++ waiting_tasks t.others) more rest end) (sym is) walk)));
       }
 
-  pub so_far_look_up_fails : (mid now : V) {ids below : List ObjectId} {waiting rest : List Waiting} (i : ObjectId) (why : ExistingError) → LevelSoFar mid ids [] waiting → waiting ≡ (i, below) ∷ rest → steps mid PopFront now
+  pub so_far_look_up_fails : (mid now : V) {ids below : List ObjectId} {waiting rest : List Waiting} (i : ObjectId) (why : ExistingError) → LevelSoFar mid ids [] waiting
+      → waiting ≡ (i, below) ∷ rest → steps mid PopFront now
       → (why ≢ existing.Memory → LookUpFails objects faulty i why) → BreadthFirst objects faulty steps root old now (Err (error_of_find why))
   so_far_look_up_fails mid now i why h first step failed =
       let t = at_turn i h first in
@@ -164,7 +159,8 @@ module _ {V : Type 0} (objects : Objects) (faulty : ObjectId → Type 0) (steps 
   Shown now left items (Ok done) = LevelSoFar now left.known items left.waiting
   Shown now left items (Err why) = BreadthFirst objects faulty steps root old now (Err why)
 
-  entry_shown : (mid now : V) {e : TreeEntry} {items : Items} {queue left : LevelQueue} {answer : Result (Unit {0}) Error} → LevelSoFar mid queue.known (Ok e ∷ items) queue.waiting → ShowsEntry steps e mid queue now left answer
+  entry_shown : (mid now : V) {e : TreeEntry} {items : Items} {queue left : LevelQueue} {answer : Result (Unit {0}) Error} → LevelSoFar mid queue.known (Ok e ∷ items) queue.waiting
+      → ShowsEntry steps e mid queue now left answer
       → Shown now left items answer
   entry_shown mid now {e = e} h (round.left a o run) = so_far_leaves e a h o run
   entry_shown mid now {e = e} h (round.entered a o run) = so_far_enters e a h o run
@@ -173,7 +169,8 @@ module _ {V : Type 0} (objects : Objects) (faulty : ObjectId → Type 0) (steps 
   entry_shown mid now {e = e} h (round.no_memory a o run) = ended h (script.no_memory_for_descent a refl (outcome_here h e a Enters o)) run
   entry_shown mid now {e = e} h (round.refused {made = made} a refused run) = ended h (script.refused a refl (subst (λ l. RefusedIn (level_calls (visit_below l e a)) made) (sym h.known) refused)) run
 
-  pub so_far_shown : (mid now : V) {items : Items} {queue left : LevelQueue} {answer : Result (Unit {0}) Error} → LevelSoFar mid queue.known items queue.waiting → ShowsTree steps items mid queue now left answer → Shown now left [] answer
+  pub so_far_shown : (mid now : V) {items : Items} {queue left : LevelQueue} {answer : Result (Unit {0}) Error} → LevelSoFar mid queue.known items queue.waiting
+      → ShowsTree steps items mid queue now left answer → Shown now left [] answer
   so_far_shown mid now h round.whole = h
   so_far_shown mid now h (round.fault {why = why}) = ended h (script.fault refl) refl
   so_far_shown mid now h (round.ends shows) = entry_shown mid now h shows

@@ -1,31 +1,24 @@
 -- The trees that a walk by levels has met, each with the known ids down to it.
-use Rattle.std.proofs.Common.{◌≡◌, ℕ, zero, suc, ◌+◌, ◌-◌, ◌<◌, ◌≤◌, List, [], ◌∷◌, ◌++◌, length, drop, get_or, ◌||◌, Some, refl, sym, ap, ◌∙◌, subst, arith, length-append, zero-add}
-use Rattle.std.specs.Prelude.{slice_get}
-use Rattle.std.proofs.lemmas.List.{drop_all}
+use Rattle.std.proofs.Common.{◌≡◌, ℕ, zero, suc, ◌+◌, ◌-◌, ◌<◌, ◌≤◌, List, [], ◌∷◌, ◌++◌, length, drop, get_or, ◌||◌, Some, refl, sym, ap, ◌∙◌, subst, arith, length-append, zero-add, slice_get}
+use Rattle.std.proofs.lemmas.List.{drop_all, drop-append-le}
 use Rattle.std.proofs.lemmas.Option.{slice_get_read}
-use Rattle.gix_hash.specs.declared.ObjectId.{ObjectId}
-use Rattle.gix_hash.specs.Id.{is_same, is_among}
+use Rattle.gix_tree.proofs.Common.{ObjectId, is_same, is_among, Waiting, queued, ids_or_none, known_at, met_behind, AreAbove}
 use Rattle.gix_tree.specs.declared.breadthfirst.Tree.{Tree}
-use Rattle.gix_tree.specs.Inside.LevelQueue.{Waiting, queued, ids_or_none, known_at, met_behind, level_queue, AreAbove}
+use Rattle.gix_tree.specs.Inside.LevelQueue.{level_queue}
 
 get_in_front : {X : Type 0} (xs ys : List X) (k : ℕ) → k < length xs → slice_get (xs ++ ys) k ≡ slice_get xs k
 get_in_front [] ys k h = absurd (omega arith)
 get_in_front (x ∷ xs) ys zero h = refl
 get_in_front (x ∷ xs) ys (suc k) h = get_in_front xs ys k (omega arith)
 
-get_seam : {X : Type 0} (xs : List X) (y : X) (ys : List X) → slice_get (xs ++ y ∷ ys) (length xs) ≡ Some y
-get_seam [] y ys = refl
-get_seam (x ∷ xs) y ys = get_seam xs y ys
+pub get_behind : {X : Type 0} (xs ys : List X) → slice_get (xs ++ ys) (length xs) ≡ slice_get ys 0
+get_behind [] ys = refl
+get_behind (x ∷ xs) ys = get_behind xs ys
 
 drop_at : {X : Type 0} (xs : List X) (k : ℕ) (x : X) → slice_get xs k ≡ Some x → drop k xs ≡ x ∷ drop (suc k) xs
 drop_at [] k x e = cc
 drop_at (y ∷ xs) zero x e = let same : y ≡ x = cc in ap (λ z. z ∷ xs) same
 drop_at (y ∷ xs) (suc k) x e = drop_at xs k x e
-
-drop_more : {X : Type 0} (xs ys : List X) (k : ℕ) → k ≤ length xs → drop k (xs ++ ys) ≡ drop k xs ++ ys
-drop_more xs ys zero h = refl
-drop_more [] ys (suc k) h = absurd (omega arith)
-drop_more (x ∷ xs) ys (suc k) h = drop_more xs ys k (omega arith)
 
 -- what a tree is met as
 abbrev met_as : List Waiting → Tree → Waiting
@@ -55,10 +48,8 @@ met_at met [] k t a e = cc
 met_at met (u ∷ trees) zero t a e =
     let same : u ≡ t = cc in
     let more = met ++ met_as met u ∷ [] in
-    let here : slice_get (met_behind more trees) (length met) ≡ Some (met_as met u) = met_stays more trees (length met) (omega (arith, one_more met (met_as met u))) ∙ get_seam met (met_as met u) [] in
-    let at : slice_get (met_behind more trees) (length met + 0) ≡ Some (met_as met u) = subst (λ n. slice_get (met_behind more trees) n ≡ Some (met_as met u)) (omega arith) here in
-    subst (λ x. slice_get (met_behind more trees) (length met + 0) ≡ Some (met_as (met_behind more trees) x)) same
-    (at ∙ ap (λ ids. Some (u.oid, u.oid ∷ ids)) (sym (known_stays met (u ∷ trees) u.turn a.0)))
+    let here : slice_get (met_behind more trees) (length met) ≡ Some (met_as met u) = met_stays more trees (length met) (omega (arith, one_more met (met_as met u))) ∙ get_behind met (met_as met u ∷ []) in
+    grind (arith, here, same, known_stays met (u ∷ trees) u.turn a.0)
 met_at met (u ∷ trees) (suc k) t a e =
     let more = met ++ met_as met u ∷ [] in
     let above : AreAbove (length more) trees = subst (λ n. AreAbove n trees) (sym (one_more met (met_as met u))) a.1 in
@@ -101,13 +92,9 @@ queue_more trees turn i h =
     let all : met_behind [] (trees ++ record { oid = i; turn = turn } ∷ []) ≡ met ++ w ∷ [] = met_more [] trees (record { oid = i; turn = turn }) in
     let within : turn ≤ length met = omega (arith, h, met_length [] trees) in
     λ j. record {
-      known = (ap (λ l. known_at l turn) all ∙ known_front met w turn within) j;
-      waiting = (ap (λ l. drop turn l) all ∙ drop_more met (w ∷ []) turn within) j;
+      known = (ap (λ l. known_at l turn) all ∙ known_stays met (record { oid = i; turn = turn } ∷ []) turn within) j;
+      waiting = (ap (λ l. drop turn l) all ∙ drop-append-le turn met (w ∷ []) within) j;
     }
-  where
-    known_front : (met : List Waiting) (w : Waiting) (turn : ℕ) → turn ≤ length met → known_at (met ++ w ∷ []) turn ≡ known_at met turn
-    known_front met w zero h = refl
-    known_front met w (suc turn) h = ap ids_or_none (get_in_front met (w ∷ []) turn (omega arith))
 
 pub queue_turns : (trees : List Tree) (turn : ℕ) (t : Tree) → AreAbove 0 trees → turn < length trees → t ≡ get_or trees turn t → (level_queue turn trees).waiting ≡ (t.oid, (level_queue (turn + 1) trees).known) ∷ (level_queue (turn + 1) trees).waiting
 queue_turns trees turn t a w h =

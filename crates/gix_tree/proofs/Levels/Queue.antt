@@ -1,10 +1,7 @@
 -- What is to be done in a walk by levels, as a queue: each step takes its task away at the front and adds others at the back.
 use Rattle.std.proofs.Common.{◌≡◌, List, [], ◌∷◌, ◌++◌, Option, Some, None, refl}
-use Rattle.gix_hash.specs.declared.ObjectId.{ObjectId}
+use Rattle.gix_tree.proofs.Common.{ObjectId, Call, Items, Visit, Ending, Task, Step, tasks_of, LevelScript}
 use Rattle.gix_object.specs.declared.find.existing_iter.Error.{Error as ExistingError}
-use Rattle.gix_tree.specs.Delegate.{Call}
-use Rattle.gix_tree.specs.Visits.{Items, Visit, Ending, Task}
-use Rattle.gix_tree.specs.Script.{Step, tasks_of, LevelScript}
 
 abbrev pub first_task : List Task → Option Task
 first_task [] = None

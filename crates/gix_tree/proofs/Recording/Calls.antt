@@ -2,9 +2,7 @@
 use Rattle.std.proofs.Common.{◌≡◌, ◌≢◌, ℕ, ◌+◌, ◌-◌, ◌<◌, ◌≤◌, List, [], ◌∷◌, ◌++◌, length, take, get_or, Option, Some, refl, sym, ap, ◌∙◌, subst, arith}
 use Rattle.std.proofs.lemmas.List.{take_more}
 use Rattle.gix_tree.specs.declared.recorder.Location.{Location}
-use Rattle.gix_tree.specs.declared.recorder.Location.TheVariants.{Path}
-use Rattle.gix_tree.specs.Delegate.{PopBack}
-use Rattle.gix_tree.specs.Recorder.{Record, front_from, before_slash, path_or_empty, without_name, last_path, without_last}
+use Rattle.gix_tree.proofs.Common.{Path, PopBack, Record, front_from, before_slash, path_or_empty, without_name, last_path, without_last}
 use Rattle.gix_tree.specs.Tracked.{Tracked, tracked, Tracks}
 use Rattle.gix_tree.proofs.Recording.Records.{not_here, last_slash, last_more, without_more}
 

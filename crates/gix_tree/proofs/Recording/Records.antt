@@ -1,19 +1,14 @@
 -- What a recorder holds after a walk.
-use Rattle.std.proofs.Common.{◌≡◌, ◌≢◌, ℕ, Bool, true, false, List, [], ◌∷◌, ◌++◌, map, reverse, Option, Some, None, Ok, Err, refl, sym, ap, ◌∙◌, subst, arith, append_assoc}
-use Rattle.std.proofs.lemmas.List.{append-nil, reverse-append}
+use Rattle.std.proofs.Common.{◌≡◌, ◌≢◌, ℕ, Bool, true, false, List, [], ◌∷◌, ◌++◌, map, reverse, Option, Some, None, Ok, Err, refl, sym, ap, ◌∙◌, subst, arith, append_assoc, append-nil}
+use Rattle.std.proofs.lemmas.List.{reverse-append}
 use Rattle.std.proofs.lemmas.Bool.Decides.{nat_tests}
-use Rattle.std.specs.List.{AllByRecursion}
-use Rattle.gix_hash.specs.declared.ObjectId.{ObjectId}
+use Rattle.gix_tree.proofs.Common.{AllByRecursion, ObjectId, TreeEntry, is_tree, Path, Action, Call, PushPath, PopPath, PushBack, Items, Place, Visit, visit, inside, Outcome, Leaves, Enters, Cycles, Breaks, outcome, visit_call_of}
+use Rattle.gix_tree.proofs.Common.{Ending, Failed, Task, Turn, Show, Fault, shows, IsName, HaveNames, joined, unknown_root, known_root, items_or_none, level_calls_behind, depth_calls_behind, IsLevelScript, IsDepthScript, Record}
+use Rattle.gix_tree.proofs.Common.{Recorded, with_name, front_from, before_slash, path_or_empty, without_name, last_path, without_last, first_path, without_first, fresh, recorded, recorded_all, record_of}
 use Rattle.gix_object.specs.declared.find.existing_iter.Error.{Error as ExistingError}
-use Rattle.gix_object.specs.TreeItems.{TreeEntry, is_tree}
-use Rattle.gix_tree.specs.declared.recorder.Location.TheVariants.{Path}
 use Rattle.gix_tree.specs.declared.breadthfirst.Error.TheVariants as error
-use Rattle.gix_tree.specs.Delegate.{Action, Call, PushPath, PopPath, PushBack}
-use Rattle.gix_tree.specs.Visits.{Items, Place, Visit, visit, inside, Outcome, Leaves, Enters, Cycles, Breaks, outcome, visit_call_of, Ending, Failed, Task, Turn, Show, Fault, shows}
-use Rattle.gix_tree.specs.Paths.{IsName, HaveNames, joined, unknown_root, known_root}
 use Rattle.gix_tree.specs.Script as script
-use Rattle.gix_tree.specs.Script.{items_or_none, level_calls_behind, depth_calls_behind, IsLevelScript, IsDepthScript}
-use Rattle.gix_tree.specs.Recorder.{Record, Recorded, with_name, front_from, before_slash, path_or_empty, without_name, last_path, without_last, first_path, without_first, fresh, recorded, recorded_all, record_of}
+use Rattle.gix_tree.proofs.All.{all_both}
 use Rattle.gix_tree.proofs.TaskWalk as walk
 use Rattle.gix_tree.proofs.TaskWalk.{Manner, ByLevels, InDepth, calls_behind, calls_by, pop_by, lost_by, tasks_in, tasks_with, TaskWalk, level_walk, tree_walk}
 
@@ -56,10 +51,6 @@ joined_more (a ∷ c ∷ names) name hs h =
     ∙ sym (append_assoc a (47 ∷ joined (c ∷ names)) (47 ∷ name))
     ∙ sym (with_some (a ++ 47 ∷ joined (c ∷ names)) name (some_front a (joined (c ∷ names))) h)
 
-names_more : (names : List (List ℕ)) (name : List ℕ) → AllByRecursion IsName names → IsName name → AllByRecursion IsName (names ++ name ∷ [])
-names_more [] name hs h = (h, tt)
-names_more (a ∷ names) name hs h = (hs.0, names_more names name hs.1 h)
-
 abbrev holding : List ℕ → List (List ℕ) → List Record → Recorded
 holding path queue records = record { path = path; queue = queue; records = records }
 
@@ -78,7 +69,7 @@ record StandsAt (path : List ℕ) (p : Place) : Type 0 where
 inside_at : {path : List ℕ} {p : Place} (e : TreeEntry) → StandsAt path p → IsName e.name → StandsAt (with_name path e.name) (inside p e)
 inside_at {path} {p} e at h = record {
   is = ap (λ l. with_name l e.name) at.is ∙ sym (joined_more p.names e.name at.named h);
-  named = names_more p.names e.name at.named h;
+  named = all_both IsName p.names (e.name ∷ []) at.named (h, tt);
 }
 
 pub last_more : (queue : List (List ℕ)) (path : List ℕ) → last_path (queue ++ path ∷ []) ≡ path
@@ -221,7 +212,8 @@ visit_more m {p} e a r calls visits at name rest =
     ∙ ap (λ l. l ++ map record_of visits) (visit_records m e a r at name) ∙ append_assoc r.records (record_of (visit p e a) ∷ []) (map record_of visits)
 
 module _ (trees : ObjectId → Option Items) (fails : ObjectId → ExistingError → Type 0) where
-  walk_records : {m : Manner} {tasks : List Task} {calls : List Call} {visits : List Visit} {end : Ending} (r : Recorded) → TaskWalk trees fails m tasks calls visits end → end ≢ Failed error.Memory → Ready m tasks r → HaveNames visits
+  walk_records : {m : Manner} {tasks : List Task} {calls : List Call} {visits : List Visit} {end : Ending} (r : Recorded) → TaskWalk trees fails m tasks calls visits end → end ≢ Failed error.Memory
+      → Ready m tasks r → HaveNames visits
       → (recorded_all (Some Path) r calls).records ≡ r.records ++ map record_of visits
   walk_records r walk.whole w f h = sym (append-nil r.records)
   walk_records r (walk.stops walk.fault) w f h = sym (append-nil r.records)

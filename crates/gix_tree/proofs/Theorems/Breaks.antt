@@ -1,25 +1,12 @@
 -- A walk ends at a `Break`, and nowhere else.
-use Rattle.std.proofs.Common.{◌≡◌, ◌≢◌, ◌↔◌, Bool, true, false, List, [], ◌∷◌, ◌++◌, Option, Result, Ok, Err, refl, sym, ap, ◌∙◌, subst, append_assoc}
-use Rattle.std.specs.declared.ops.ControlFlow.TheVariants.{Continue, Break}
-use Rattle.gix_hash.specs.declared.ObjectId.{ObjectId}
+use Rattle.std.proofs.Common.{◌≡◌, ◌≢◌, ◌↔◌, Bool, List, [], ◌∷◌, ◌++◌, Option, Result, Ok, Err, refl, sym, ap, ◌∙◌, subst, append_assoc, Break}
+use Rattle.gix_tree.proofs.Common.{ObjectId, is_tree, Error, Action, Call, Items, Visit, visit, Outcome, Leaves, Enters, Cycles, Breaks, outcome_of, Ending, Whole, Broken, Failed, IsUnfailed, Task, level_answer, NoneBreaks, EndsAtBreak}
 use Rattle.gix_object.specs.declared.find.existing_iter.Error.{Error as ExistingError}
-use Rattle.gix_object.specs.TreeItems.{is_tree}
-use Rattle.gix_tree.specs.declared.breadthfirst.Error.{Error}
 use Rattle.gix_tree.specs.declared.breadthfirst.Error.TheVariants as error
-use Rattle.gix_tree.specs.Delegate.{Action, Call}
-use Rattle.gix_tree.specs.Visits.{Items, Visit, visit, Outcome, Leaves, Enters, Cycles, Breaks, outcome_of, Ending, Whole, Broken, Failed, IsUnfailed, Task}
-use Rattle.gix_tree.specs.Walk.{level_answer}
-use Rattle.gix_tree.specs.Laws.{NoneBreaks, EndsAtBreak}
 use Rattle.gix_tree.proofs.All.{all_both, all_right}
+use Rattle.gix_tree.proofs.Outcomes.{says}
 use Rattle.gix_tree.proofs.TaskWalk as walk
 use Rattle.gix_tree.proofs.TaskWalk.{Manner, calls_by, pop_by, TaskWalk}
-
-breaks_by : (t known : Bool) (a : Action) → outcome_of t a known ≡ Breaks → (b : Unit {0}) × (a ≡ Break b)
-breaks_by t known (Break b) o = (b, refl)
-breaks_by t known (Continue false) o = cc
-breaks_by true true (Continue true) o = cc
-breaks_by true false (Continue true) o = cc
-breaks_by false known (Continue true) o = cc
 
 goes_on : (t known : Bool) (a : Action) (o : Outcome) → outcome_of t a known ≡ o → o ≢ Breaks → (b : Unit {0}) → a ≢ Break b
 goes_on t known a o is ne b e = ne (sym is ∙ ap (λ x. outcome_of t x known) e)
@@ -35,7 +22,8 @@ module _ (m : Manner) where
     broken : {calls : List Call} {visits : List Visit} → EndsAtBreak (calls_by m) calls visits → BreaksAt Broken calls visits
 
   -- behind calls and visits none of which was answered `Break`
-  behind : {end : Ending} {calls : List Call} {visits : List Visit} (more : List Call) (earlier : List Visit) → NoneBreaks earlier → BreaksAt end calls visits → BreaksAt end (more ++ calls) (earlier ++ visits)
+  behind : {end : Ending} {calls : List Call} {visits : List Visit} (more : List Call) (earlier : List Visit) → NoneBreaks earlier → BreaksAt end calls visits
+      → BreaksAt end (more ++ calls) (earlier ++ visits)
   behind {visits = visits} more earlier none (unbroken ne h) = unbroken ne (all_both (λ v. (b : Unit {0}) → v.answer ≢ Break b) earlier visits none h)
   behind more earlier none (broken h) = broken (record {
     before = more ++ h.before;
@@ -57,7 +45,7 @@ module _ (m : Manner) where
   breaks_at trees fails (walk.enters {p = p} {e = e} {a = a} o rest) =
       behind (calls_by m (visit p e a)) (visit p e a ∷ []) (goes_on (is_tree e.mode) _ a Enters o (λ x. cc), tt) (breaks_at trees fails rest)
   breaks_at trees fails (walk.breaks {p = p} {e = e} {a = a} o) =
-      broken (record { before = []; earlier = []; last = visit p e a; calls_are = refl; visits_are = refl; breaks = breaks_by (is_tree e.mode) _ a o; others = tt })
+      broken (record { before = []; earlier = []; last = visit p e a; calls_are = refl; visits_are = refl; breaks = says (is_tree e.mode) _ a Breaks o; others = tt })
   breaks_at trees fails (walk.cycles {e = e} {a = a} o) = unbroken (λ x. cc) (goes_on (is_tree e.mode) _ a Cycles o (λ x. cc), tt)
 
   -- a walk that no `Break` ended has none

@@ -1,11 +1,7 @@
 -- The call of each visit is one of the calls that were made.
 use Rattle.std.proofs.Common.{List, Option}
-use Rattle.std.specs.List.{AllByRecursion}
-use Rattle.gix_hash.specs.declared.ObjectId.{ObjectId}
+use Rattle.gix_tree.proofs.Common.{AllByRecursion, ObjectId, Call, Items, Visit, visit, visit_call, Ending, Task, IsDepthScript}
 use Rattle.gix_object.specs.declared.find.existing_iter.Error.{Error as ExistingError}
-use Rattle.gix_tree.specs.Delegate.{Call}
-use Rattle.gix_tree.specs.Visits.{Items, Visit, visit, visit_call, Ending, Task}
-use Rattle.gix_tree.specs.Script.{IsDepthScript}
 use Rattle.gix_tree.proofs.All.{all_right}
 use Rattle.gix_tree.proofs.TaskWalk as walk
 use Rattle.gix_tree.proofs.TaskWalk.{Manner, calls_behind, TaskWalk, depth_walk}

@@ -1,13 +1,9 @@
 -- Which walks meet the premise that each tree that the visits go into is stored, reads whole and doesn't hold itself.
-use Rattle.std.proofs.Common.{◌≡◌, true, false, List, [], ◌∷◌, Option, None, Ok, Err, refl}
-use Rattle.std.specs.Prelude.{codes}
-use Rattle.gix_hash.specs.declared.ObjectId.{ObjectId}
+use Rattle.std.proofs.Common.{◌≡◌, true, false, List, [], ◌∷◌, Option, None, Ok, Err, refl, codes}
+use Rattle.gix_tree.proofs.Common.{ObjectId, Items, Visit, visit, inside, unknown_root, IsWhole, AllEnterWhole}
 use Rattle.gix_object.specs.declared.decode.Error.TheVariants as decode
 use Rattle.gix_object.specs.declared.find.existing_iter.Error.{Error as ExistingError}
 use Rattle.gix_object.specs.declared.find.existing_iter.Error.TheVariants as existing
-use Rattle.gix_tree.specs.Visits.{Items, Visit, visit, inside}
-use Rattle.gix_tree.specs.Paths.{unknown_root}
-use Rattle.gix_tree.specs.Laws.{IsWhole, AllEnterWhole}
 use Rattle.gix_tree.specs.Examples.{n, file, tree, itself, sample, torn, skip, at_root, below_root}
 
 -- the look-up of a tree fails where the tree isn't stored

@@ -1,47 +1,36 @@
 -- The laws of the walks of trees, over what their contracts say.
-use Rattle.std.proofs.Common.{◌≡◌, ◌≢◌, Bool, true, false, List, [], ◌∷◌, ◌++◌, map, Option, Some, Result, Ok, Err, refl, sym, ap, ◌∙◌, subst, arith}
+use Rattle.std.proofs.Common.{◌≡◌, ◌≢◌, Bool, true, false, List, [], ◌∷◌, ◌++◌, map, Some, Result, Ok, Err, refl, sym, ap, ◌∙◌, subst, arith, IsPermutation, Continue}
 use Rattle.std.proofs.lemmas.List.Sorted.{IsPermutation-map, All-permutation}
 use Rattle.std.proofs.lemmas.List.Elements.{recursion_from_All, All-from_recursion}
-use Rattle.std.specs.List.Sorted.{IsPermutation}
-use Rattle.std.specs.List.{AllByRecursion}
-use Rattle.std.specs.declared.ops.ControlFlow.TheVariants.{Continue}
-use Rattle.gix_hash.specs.declared.ObjectId.{ObjectId}
-use Rattle.gix_object.specs.Object.{Objects}
-use Rattle.gix_object.specs.TreeItems.{TreeEntry, is_tree}
-use Rattle.gix_tree.specs.declared.breadthfirst.Error.{Error}
+use Rattle.gix_tree.proofs.Common.{AllByRecursion, ObjectId, Objects, TreeEntry, is_tree, Error, Path, Action, Call, Run, Items, Visit, visit_call_of, visit_call, Ending, Whole, Broken, Failed, IsUnfailed, is_broken, Turn, shows, IsName}
+use Rattle.gix_tree.proofs.Common.{HaveNames, joined, unknown_root, known_root, items_or_none, entries_in, entries_at, IsDepthScript, IsPreorder, IsPreorderBeginning, Record, recorded, recorded_all, record_of, IsRecorderAnswer, trees_of}
+use Rattle.gix_tree.proofs.Common.{LookUpFails, LookUpFailed, level_answer, depth_answer, BreadthFirst, DepthFirst, LevelsAreRecorded, DepthIsRecorded, BothRecordTheSame, LevelsAreInOrder, DepthIsInOrder, LevelsBeginInOrder}
+use Rattle.gix_tree.proofs.Common.{DepthBeginsInOrder, MetLevelsSucceed, MetDepthSucceeds, SoundLevelsSucceed, SoundDepthSucceeds, LevelsEndAtBreak, DepthEndsAtBreak, OkWithoutBreak}
 use Rattle.gix_tree.specs.declared.breadthfirst.Error.TheVariants as error
-use Rattle.gix_tree.specs.declared.recorder.Location.{Location}
-use Rattle.gix_tree.specs.declared.recorder.Location.TheVariants.{Path}
 use Rattle.gix_hash.specs.Reach as reach
-use Rattle.gix_tree.specs.Delegate.{Action, Call, Run}
-use Rattle.gix_tree.specs.Visits.{Items, Visit, visit_call_of, visit_call, Ending, Whole, Broken, Failed, IsUnfailed, is_broken, Turn, shows}
-use Rattle.gix_tree.specs.Paths.{IsName, HaveNames, joined, unknown_root, known_root}
 use Rattle.gix_tree.specs.Script as script
-use Rattle.gix_tree.specs.Script.{items_or_none, entries_in, entries_at, IsLevelScript, DepthScript, IsDepthScript}
 use Rattle.gix_tree.specs.Preorder as order
-use Rattle.gix_tree.specs.Preorder.{IsPreorder, IsPreorderBeginning}
 use Rattle.gix_tree.specs.Tracked.{Tracked, Tracks, fresh_recorder}
-use Rattle.gix_tree.specs.Recorder.{Record, Recorded, fresh, recorded_all, record_of, IsRecorderAnswer, Records}
-use Rattle.gix_tree.specs.Walk.{trees_of, LookUpFails, LookUpFailed, level_answer, depth_answer, BreadthFirst, DepthFirst}
-use Rattle.gix_tree.specs.Laws.{LevelsAreRecorded, DepthIsRecorded, BothRecordTheSame, LevelsAreInOrder, DepthIsInOrder, LevelsBeginInOrder, DepthBeginsInOrder, MetLevelsSucceed, MetDepthSucceeds, SoundLevelsSucceed, SoundDepthSucceeds, LevelsEndAtBreak, DepthEndsAtBreak, OkWithoutBreak}
-use Rattle.gix_tree.proofs.Levels.Script.{level_order, level_beginning}
 use Rattle.gix_tree.proofs.Depth.Script.{preorder, preorder_beginning}
 use Rattle.gix_tree.proofs.Recording.Records.{fresh_level, fresh_depth}
 use Rattle.gix_tree.proofs.TaskWalk.{ByLevels, InDepth, TaskWalk, level_walk, depth_walk}
-use Rattle.gix_tree.proofs.Theorems.Called.{called, root_called}
+use Rattle.gix_tree.proofs.Theorems.Called.{called}
+use Rattle.gix_tree.proofs.Theorems.Order.{level_order, level_beginning}
 use Rattle.gix_tree.proofs.Theorems.Met.{shows_whole, turn_whole, met}
 use Rattle.gix_tree.proofs.Theorems.Sound.{run_only, sound_level_visits, sound_depth_visits}
 use Rattle.gix_tree.proofs.Theorems.Breaks.{breaks_at, none_breaks, must_break, ok_without_break}
 use Rattle.gix_tree.proofs.Theorems.SameRecords.{Shown, shown_by, GoOn, both_show, unbroken}
 
--- a run of a recorder is its function, and each visit was answered to go on
-run_records : (location : Option Location) (old : Recorded) (calls : List Call) (new : Recorded) → Run (Records location) old calls new → new ≡ recorded_all location old calls
-run_records location old [] new h = h
-run_records location old (call ∷ calls) new h = run_records location h.0 calls new h.2 ∙ ap (λ r. recorded_all location r calls) h.1.1
+-- a run of a recorder that tracks paths is its function, and each visit was answered to go on
+tracked_run : (old : Tracked) (calls : List Call) (new : Tracked) → old.location ≡ Some Path → Run Tracks old calls new → new.held ≡ recorded_all (Some Path) old.held calls
+tracked_run old [] new at h = ap (λ r. r.held) h
+tracked_run old (call ∷ calls) new at h =
+    let one : h.0.held ≡ recorded (Some Path) old.held call = subst (λ l. h.0.held ≡ recorded l old.held call) at h.1.1.1 in
+    tracked_run h.0 calls new (h.1.0 ∙ at) h.2 ∙ ap (λ r. recorded_all (Some Path) r calls) one
 
-run_answers : (location : Option Location) (old : Recorded) (calls : List Call) (new : Recorded) → Run (Records location) old calls new → AllByRecursion IsRecorderAnswer calls
-run_answers location old [] new h = tt
-run_answers location old (call ∷ calls) new h = (h.1.0, run_answers location h.0 calls new h.2)
+tracked_answers : (old : Tracked) (calls : List Call) (new : Tracked) → Run Tracks old calls new → AllByRecursion IsRecorderAnswer calls
+tracked_answers old [] new h = tt
+tracked_answers old (call ∷ calls) new h = (h.1.1.0, tracked_answers h.0 calls new h.2)
 
 of_answer : (t : Bool) (e : TreeEntry) (a : Action) → IsRecorderAnswer (visit_call_of t e a) → a ≡ Continue true
 of_answer true e a h = h
@@ -52,11 +41,9 @@ pub go_on : (visits : List Visit) → AllByRecursion (λ v. IsRecorderAnswer (vi
 go_on [] h = tt
 go_on (v ∷ visits) h = (of_answer (is_tree v.entry.mode) v.entry v.answer h.0, go_on visits h.1)
 
-level_memory : (answer : Result (Unit {0}) Error) (end : Ending) → answer ≡ level_answer end → answer ≢ Err error.Memory → end ≢ Failed error.Memory
-level_memory answer end is ne e = ne (is ∙ ap level_answer e)
-
-depth_memory : (answer : Result (Unit {0}) Error) (end : Ending) → answer ≡ depth_answer end → answer ≢ Err error.Memory → end ≢ Failed error.Memory
-depth_memory answer end is ne e = ne (is ∙ ap depth_answer e)
+memory_left : (answer_of : Ending → Result (Unit {0}) Error) {answer : Result (Unit {0}) Error} {end : Ending} → answer_of (Failed error.Memory) ≡ Err error.Memory → answer ≡ answer_of end
+    → answer ≢ Err error.Memory → end ≢ Failed error.Memory
+memory_left answer_of memory is ne e = ne (is ∙ ap answer_of e ∙ memory)
 
 level_ok : (end : Ending) → Ok tt ≡ level_answer end → end ≡ Whole
 level_ok Whole e = refl
@@ -73,13 +60,9 @@ whole_end Whole w b = refl
 whole_end Broken w b = cc
 whole_end (Failed why) w b = absurd w
 
-shown_named : (visits : List Visit) → HaveNames visits → AllByRecursion (λ x. IsName x.entry.name) (map shown_by visits)
-shown_named [] h = tt
-shown_named (v ∷ visits) h = (h.0, shown_named visits h.1)
-
-named_shown : (visits : List Visit) → AllByRecursion (λ x. IsName x.entry.name) (map shown_by visits) → HaveNames visits
-named_shown [] h = tt
-named_shown (v ∷ visits) h = (h.0, named_shown visits h.1)
+shown_named : (visits : List Visit) → HaveNames visits ≡ AllByRecursion (λ x. IsName x.entry.name) (map shown_by visits)
+shown_named [] = refl
+shown_named (v ∷ visits) = λ i. IsName v.entry.name × shown_named visits i
 
 record_shown : Shown → Record
 record_shown x = record { mode = x.entry.mode; path = joined (x.names ++ x.entry.name ∷ []); id = x.entry.id }
@@ -90,72 +73,38 @@ record_of_shown [] = refl
 record_of_shown (v ∷ visits) = ap (λ l. record_of v ∷ l) (record_of_shown visits)
 
 module _ (objects : Objects) (faulty : ObjectId → Type 0) where
-  levels_recorded : (root : Items) (recorder : Recorded) (answer : Result (Unit {0}) Error) (walk : BreadthFirst objects faulty (Records (Some Path)) root fresh recorder answer) → answer ≢ Err error.Memory → HaveNames walk.visits → recorder.records ≡ map record_of walk.visits
-  levels_recorded root recorder answer walk ne names =
-      ap (λ r. r.records) (run_records (Some Path) fresh walk.calls recorder walk.run)
-      ∙ fresh_level (trees_of objects) (LookUpFails objects faulty) root walk.script (level_memory answer walk.end walk.answered ne) names
-
-  depth_recorded : (root : ObjectId) (recorder : Recorded) (answer : Result (Unit {0}) Error) (walk : DepthFirst objects faulty (Records (Some Path)) root fresh recorder answer) → answer ≢ Err error.Memory → HaveNames walk.visits → recorder.records ≡ map record_of walk.visits
-  depth_recorded root recorder answer walk ne names =
-      ap (λ r. r.records) (run_records (Some Path) fresh walk.calls recorder walk.run)
-      ∙ fresh_depth (trees_of objects) (LookUpFails objects faulty) root walk.script (depth_memory answer walk.end walk.answered ne) names
-
-  -- what a recorder makes of a walk in depth that answers `Ok`
-  record Deep (root : ObjectId) (items : Items) (visits : List Visit) : Type 0 where
-    calls : List Call
-    walked : DepthScript (trees_of objects) (LookUpFails objects faulty) (known_root root) items calls visits Whole
-    goes_on : GoOn visits
-
-  deep : (root : ObjectId) (items : Items) {calls : List Call} {visits : List Visit} (end : Ending) → trees_of objects root ≡ Some items → IsUnfailed end → IsDepthScript (trees_of objects) (LookUpFails objects faulty) root calls visits end → AllByRecursion IsRecorderAnswer calls → Deep root items visits
-  deep root items end is w (script.found {items = found} {calls = calls} {visits = visits} there walk) h =
-      let g = go_on visits (root_called (trees_of objects) (LookUpFails objects faulty) IsRecorderAnswer (script.found there walk) h) in
-      let b = unbroken (entries_at (trees_of objects)) (preorder (trees_of objects) (LookUpFails objects faulty) walk w) g in
-      let same : found ≡ items = cc in
-      record {
-        calls = calls;
-        walked = subst (λ l. DepthScript (trees_of objects) (LookUpFails objects faulty) (known_root root) items calls visits l) (whole_end end w b)
-            (subst (λ l. DepthScript (trees_of objects) (LookUpFails objects faulty) (known_root root) l calls visits end) same walk);
-        goes_on = g;
-      }
-  deep root items end is w (script.not_found why) h = absurd w
-  deep root items end is w script.no_memory h = absurd w
-
-  both_recorded : (root : ObjectId) (items : Items) (first second : Recorded) (levels : BreadthFirst objects faulty (Records (Some Path)) items fresh first (Ok tt)) → DepthFirst objects faulty (Records (Some Path)) root fresh second (Ok tt) → trees_of objects root ≡ Some items → HaveNames levels.visits → IsPermutation first.records second.records
-  both_recorded root items first second levels depth is names =
-      let T = trees_of objects in
-      let N = LookUpFails objects faulty in
-      let whole : levels.end ≡ Whole = level_ok levels.end levels.answered in
-      let level : IsLevelScript T N unknown_root items levels.calls levels.visits Whole = subst (λ l. IsLevelScript T N unknown_root items levels.calls levels.visits l) whole levels.script in
-      let g = go_on levels.visits (called T N IsRecorderAnswer (level_walk T N unknown_root items levels.script) (run_answers (Some Path) fresh levels.calls first levels.run)) in
-      let d = deep root items depth.end is (depth_ok depth.end depth.answered) depth.script (run_answers (Some Path) fresh depth.calls second depth.run) in
-      let same : IsPermutation (map shown_by levels.visits) (map shown_by depth.visits) = both_show T N root items is level d.walked g d.goes_on in
-      let named : HaveNames depth.visits = named_shown depth.visits (recursion_from_All (λ x. IsName x.entry.name) (map shown_by depth.visits)
-      (All-permutation (λ x. IsName x.entry.name) (map shown_by levels.visits) (map shown_by depth.visits) same (All-from_recursion (λ x. IsName x.entry.name) (map shown_by levels.visits) (shown_named levels.visits names)))) in
-      let moved : IsPermutation (map record_of levels.visits) (map record_of depth.visits) = rw (record_of_shown levels.visits, record_of_shown depth.visits) (IsPermutation-map record_shown (map shown_by levels.visits) (map shown_by depth.visits) same) in
-      let a : first.records ≡ map record_of levels.visits = levels_recorded items first (Ok tt) levels (λ e. cc) names in
-      let b : second.records ≡ map record_of depth.visits = depth_recorded root second (Ok tt) depth (λ e. cc) named in
-      rw (a, b) moved
-
--- a recorder that tracks paths is what it holds
-held_run : (old : Tracked) (calls : List Call) (new : Tracked) → old.location ≡ Some Path → Run Tracks old calls new → Run (Records (Some Path)) old.held calls new.held
-held_run old [] new e h = ap (λ r. r.held) h
-held_run old (call ∷ calls) new e h = (h.0.held, subst (λ l. Records l old.held call h.0.held) e h.1.1, held_run h.0 calls new (h.1.0 ∙ e) h.2)
-
-module _ (objects : Objects) (faulty : ObjectId → Type 0) where
-  abbrev held_levels : {root : Items} {old new : Tracked} {answer : Result (Unit {0}) Error} → old.location ≡ Some Path → BreadthFirst objects faulty Tracks root old new answer → BreadthFirst objects faulty (Records (Some Path)) root old.held new.held answer
-  held_levels {old = old} {new = new} e walk = record { calls = walk.calls; visits = walk.visits; end = walk.end; script = walk.script; run = held_run old walk.calls new e walk.run; answered = walk.answered }
-
-  abbrev held_depth : {root : ObjectId} {old new : Tracked} {answer : Result (Unit {0}) Error} → old.location ≡ Some Path → DepthFirst objects faulty Tracks root old new answer → DepthFirst objects faulty (Records (Some Path)) root old.held new.held answer
-  held_depth {old = old} {new = new} e walk = record { calls = walk.calls; visits = walk.visits; end = walk.end; script = walk.script; run = held_run old walk.calls new e walk.run; answered = walk.answered }
-
   pub levels_are_recorded : LevelsAreRecorded objects faulty
-  levels_are_recorded root recorder answer walk ne names = levels_recorded objects faulty root recorder.held answer (held_levels {old = fresh_recorder} {new = recorder} refl walk) ne names
+  levels_are_recorded root recorder answer walk ne names =
+      ap (λ r. r.records) (tracked_run fresh_recorder walk.calls recorder refl walk.run)
+      ∙ fresh_level (trees_of objects) (LookUpFails objects faulty) root walk.script (memory_left level_answer refl walk.answered ne) names
 
   pub depth_is_recorded : DepthIsRecorded objects faulty
-  depth_is_recorded root recorder answer walk ne names = depth_recorded objects faulty root recorder.held answer (held_depth {old = fresh_recorder} {new = recorder} refl walk) ne names
+  depth_is_recorded root recorder answer walk ne names =
+      ap (λ r. r.records) (tracked_run fresh_recorder walk.calls recorder refl walk.run)
+      ∙ fresh_depth (trees_of objects) (LookUpFails objects faulty) root walk.script (memory_left depth_answer refl walk.answered ne) names
+
+  depth_order : (root : ObjectId) {calls : List Call} {visits : List Visit} {end : Ending} → IsDepthScript (trees_of objects) (LookUpFails objects faulty) root calls visits end → IsUnfailed end → IsPreorder (entries_at (trees_of objects)) (known_root root) (entries_at (trees_of objects) root) visits (is_broken end)
+  depth_order root (script.found {visits = visits} {end = end} is walk) w = subst (λ l. IsPreorder (entries_at (trees_of objects)) (known_root root) (entries_in (items_or_none l)) visits (is_broken end)) (sym is) (preorder (trees_of objects) (LookUpFails objects faulty) walk w)
+  depth_order root (script.not_found why) w = absurd w
+  depth_order root script.no_memory w = absurd w
 
   pub both_record_the_same : BothRecordTheSame objects faulty
-  both_record_the_same root items first second levels depth is names = both_recorded objects faulty root items first.held second.held (held_levels {old = fresh_recorder} {new = first} refl levels) (held_depth {old = fresh_recorder} {new = second} refl depth) is names
+  both_record_the_same root items first second levels depth is names =
+      let T = trees_of objects in
+      let N = LookUpFails objects faulty in
+      let level = level_walk T N unknown_root items levels.script in
+      let deep = depth_walk T N root depth.script in
+      let g = go_on levels.visits (called T N IsRecorderAnswer level (tracked_answers fresh_recorder levels.calls first levels.run)) in
+      let h = go_on depth.visits (called T N IsRecorderAnswer deep (tracked_answers fresh_recorder depth.calls second depth.run)) in
+      let ok = depth_ok depth.end depth.answered in
+      let whole = whole_end depth.end ok (unbroken (entries_at T) (depth_order root depth.script ok) h) in
+      let same : IsPermutation (map shown_by levels.visits) (map shown_by depth.visits) = both_show T N root items is (level_ok levels.end levels.answered) whole level deep g h in
+      let named : HaveNames depth.visits = subst (λ (P : Type 0). P) (sym (shown_named depth.visits)) (recursion_from_All (λ x. IsName x.entry.name) (map shown_by depth.visits)
+      (All-permutation (λ x. IsName x.entry.name) (map shown_by levels.visits) (map shown_by depth.visits) same (All-from_recursion (λ x. IsName x.entry.name) (map shown_by levels.visits) (subst (λ (P : Type 0). P) (shown_named levels.visits) names)))) in
+      let moved : IsPermutation (map record_of levels.visits) (map record_of depth.visits) = rw (record_of_shown levels.visits, record_of_shown depth.visits) (IsPermutation-map record_shown (map shown_by levels.visits) (map shown_by depth.visits) same) in
+      let a : first.held.records ≡ map record_of levels.visits = levels_are_recorded items first (Ok tt) levels (λ e. cc) names in
+      let b : second.held.records ≡ map record_of depth.visits = depth_is_recorded root second (Ok tt) depth (λ e. cc) named in
+      rw (a, b) moved
 
 -- a walk hasn't failed where each fault that could end it is refuted
 unless_failed : (end : Ending) → ((why : Error) → end ≡ Failed why → IsUnfailed end) → IsUnfailed end
@@ -167,13 +116,8 @@ module _ {V : Type 0} (objects : Objects) (faulty : ObjectId → Type 0) (steps 
   pub levels_are_in_order : LevelsAreInOrder objects faulty steps
   levels_are_in_order root old new answer walk w = level_order (trees_of objects) (LookUpFails objects faulty) unknown_root root walk.script w
 
-  depth_order : (root : ObjectId) {calls : List Call} {visits : List Visit} {end : Ending} → IsDepthScript (trees_of objects) (LookUpFails objects faulty) root calls visits end → IsUnfailed end → IsPreorder (entries_at (trees_of objects)) (known_root root) (entries_at (trees_of objects) root) visits (is_broken end)
-  depth_order root (script.found {visits = visits} {end = end} is walk) w = subst (λ l. IsPreorder (entries_at (trees_of objects)) (known_root root) (entries_in (items_or_none l)) visits (is_broken end)) (sym is) (preorder (trees_of objects) (LookUpFails objects faulty) walk w)
-  depth_order root (script.not_found why) w = absurd w
-  depth_order root script.no_memory w = absurd w
-
   pub depth_is_in_order : DepthIsInOrder objects faulty steps
-  depth_is_in_order root old new answer walk w = depth_order root walk.script w
+  depth_is_in_order root old new answer walk w = depth_order objects faulty root walk.script w
 
   pub levels_begin_in_order : LevelsBeginInOrder objects faulty steps
   levels_begin_in_order root old new answer walk = level_beginning (trees_of objects) (LookUpFails objects faulty) unknown_root root walk.script
@@ -199,13 +143,15 @@ module _ {V : Type 0} (objects : Objects) (faulty : ObjectId → Type 0) (steps 
   met_levels_succeed root old new answer walk whole enter ne = unless_failed walk.end (λ why is.
       let none = none_breaks ByLevels (λ e. cc) (breaks_at ByLevels (trees_of objects) (LookUpFails objects faulty) (levels_walk walk)) in
       let tasks = shows_whole (trees_of objects) (LookUpFails objects faulty) (LookUpFailed objects faulty answer) unknown_root root (whole none) in
-      met (trees_of objects) (LookUpFails objects faulty) (LookUpFailed objects faulty answer) (levels_walk walk) tasks (enter none) (level_memory answer walk.end walk.answered ne, λ i e f s. (f, walk.answered ∙ ap level_answer s)))
+      met (trees_of objects) (LookUpFails objects faulty) (LookUpFailed objects faulty answer) (levels_walk walk) tasks (enter none)
+      (memory_left level_answer refl walk.answered ne, λ i e f s. (f, walk.answered ∙ ap level_answer s)))
 
   pub met_depth_succeeds : MetDepthSucceeds objects faulty steps
   met_depth_succeeds root old new answer walk whole enter ne = unless_failed walk.end (λ why is.
       let none = none_breaks InDepth (λ e. cc) (breaks_at InDepth (trees_of objects) (LookUpFails objects faulty) (walk_in_depth walk)) in
       let tasks = turn_whole (trees_of objects) (LookUpFails objects faulty) (LookUpFailed objects faulty answer) (known_root root) root (whole none) in
-      met (trees_of objects) (LookUpFails objects faulty) (LookUpFailed objects faulty answer) (walk_in_depth walk) tasks (enter none) (depth_memory answer walk.end walk.answered ne, λ i e f s. (f, walk.answered ∙ ap depth_answer s)))
+      met (trees_of objects) (LookUpFails objects faulty) (LookUpFailed objects faulty answer) (walk_in_depth walk) tasks (enter none)
+      (memory_left depth_answer refl walk.answered ne, λ i e f s. (f, walk.answered ∙ ap depth_answer s)))
 
   pub sound_levels_succeed : SoundLevelsSucceed objects faulty steps
   sound_levels_succeed root old new answer walk into goes w sound ne =

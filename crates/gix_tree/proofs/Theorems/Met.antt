@@ -1,37 +1,11 @@
 -- Where each tree that the visits go into reads whole and doesn't hold itself, a walk fails only for memory.
-use Rattle.std.proofs.Common.{◌≡◌, ◌≢◌, Bool, true, false, List, [], ◌∷◌, Option, Ok, Err, refl, sym, subst}
-use Rattle.std.specs.List.{AllByRecursion}
-use Rattle.std.specs.declared.ops.ControlFlow.TheVariants.{Continue, Break}
-use Rattle.gix_hash.specs.declared.ObjectId.{ObjectId}
+use Rattle.std.proofs.Common.{◌≡◌, ◌≢◌, List, [], ◌∷◌, Option, Ok, Err, refl, sym, subst}
+use Rattle.gix_tree.proofs.Common.{AllByRecursion, ObjectId, is_tree, Call, Items, Place, Visit, inside, Enters, Cycles, Ending, Failed, IsUnfailed, Task, Turn, Show, Fault, shows, items_or_none, IsWhole, IsWholeTree, AllEnterWhole}
 use Rattle.gix_object.specs.declared.find.existing_iter.Error.{Error as ExistingError}
-use Rattle.gix_object.specs.TreeItems.{is_tree}
 use Rattle.gix_tree.specs.declared.breadthfirst.Error.TheVariants as error
-use Rattle.gix_tree.specs.Delegate.{Action, Call}
-use Rattle.gix_tree.specs.Visits.{Items, Place, Visit, inside, Enters, Cycles, outcome_of, Ending, Failed, IsUnfailed, Task, Turn, Show, Fault, shows}
-use Rattle.gix_tree.specs.Script.{items_or_none}
-use Rattle.gix_tree.specs.Laws.{IsWhole, IsWholeTree, AllEnterWhole}
+use Rattle.gix_tree.proofs.Outcomes.{says}
 use Rattle.gix_tree.proofs.TaskWalk as walk
 use Rattle.gix_tree.proofs.TaskWalk.{Manner, TaskWalk, all_with}
-
--- whose tree is entered, or is one of those that hold the entry
-pub enters_tree : (t known : Bool) (a : Action) → outcome_of t a known ≡ Enters → (t ≡ true) × (a ≡ Continue true)
-enters_tree true known (Continue true) o = (refl, refl)
-enters_tree false known (Continue true) o = cc
-enters_tree t known (Continue false) o = cc
-enters_tree t known (Break b) o = cc
-
-cycles_tree : (t known : Bool) (a : Action) → outcome_of t a known ≡ Cycles → (t ≡ true) × (a ≡ Continue true)
-cycles_tree true known (Continue true) o = (refl, refl)
-cycles_tree false known (Continue true) o = cc
-cycles_tree t known (Continue false) o = cc
-cycles_tree t known (Break b) o = cc
-
-cycles_known : (t known : Bool) (a : Action) → outcome_of t a known ≡ Cycles → known ≡ true
-cycles_known t true a o = refl
-cycles_known true false (Continue true) o = cc
-cycles_known false false (Continue true) o = cc
-cycles_known t false (Continue false) o = cc
-cycles_known t false (Break b) o = cc
 
 module _ (trees : ObjectId → Option Items) (fails misses : ObjectId → ExistingError → Type 0) where
   -- memory didn't fail, and the look-up that did is one of those
@@ -61,10 +35,10 @@ module _ (trees : ObjectId → Option Items) (fails misses : ObjectId → Existi
   met (walk.turn rest) w h ne = met rest w.1 h ne
   met (walk.leaves o rest) w h ne = met rest w.1 h.1 ne
   met {m} (walk.enters {p = p} {e = e} {a = a} {tasks = tasks} o rest) w h ne =
-      let t = (h.0 (enters_tree (is_tree e.mode) _ a o)).whole in
+      let t = (h.0 ((says (is_tree e.mode) _ a Enters o).0)).whole in
       met rest (all_with trees IsWholeTask m p e tasks w.1 (turn_whole (inside p e) e.id t) t) h.1 ne
   met (walk.breaks o) w h ne = tt
   met (walk.cycles {p = p} {e = e} {a = a} o) w h ne =
-      let free = (h.0 (cycles_tree (is_tree e.mode) _ a o)).free in
-      let known = cycles_known (is_tree e.mode) _ a o in
+      let free = (h.0 ((says (is_tree e.mode) _ a Cycles o).0)).free in
+      let known = (says (is_tree e.mode) _ a Cycles o).1 in
       cc

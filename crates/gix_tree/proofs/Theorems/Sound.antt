@@ -1,24 +1,15 @@
 -- The trees that a delegate goes into read whole and don't hold themselves, where all that it may reach are such trees.
-use Rattle.std.proofs.Common.{◌≡◌, ℕ, suc, Bool, true, false, ◌&&◌, ◌||◌, List, [], ◌∷◌, ◌++◌, Option, Some, Ok, Err, refl, sym, subst, arith}
-use Rattle.std.specs.Prelude.{if◌then◌else◌, Contains}
-use Rattle.std.specs.List.{AllByRecursion}
-use Rattle.std.specs.declared.ops.ControlFlow.TheVariants.{Continue}
-use Rattle.gix_hash.specs.declared.ObjectId.{ObjectId}
+use Rattle.std.proofs.Common.{◌≡◌, ℕ, suc, Bool, true, false, ◌&&◌, ◌||◌, List, [], ◌∷◌, ◌++◌, Option, Ok, Err, refl, sym, subst, arith, if◌then◌else◌, Contains, Continue}
+use Rattle.gix_tree.proofs.Common.{AllByRecursion, ObjectId, is_same, is_among, TreeEntry, is_tree, Action, Call, VisitTree, Run, Items, Place, Visit, visit, Enters, visit_call, visit_call_of, Ending, Task, Turn, Show, Fault, shows}
+use Rattle.gix_tree.proofs.Common.{unknown_root, items_or_none, entries_in, entries_at, IsLevelScript, IsDepthScript, GoesIn, subtrees, subtrees_of, EntersWhole, AllEnterWhole, AreSound, GoesOnlyInto}
 use Rattle.gix_object.specs.declared.find.existing_iter.Error.{Error as ExistingError}
 use Rattle.gix_hash.proofs.Ids.Membership.{same_is}
-use Rattle.gix_hash.specs.Id.{is_same, is_among}
-use Rattle.gix_object.specs.TreeItems.{TreeEntry, is_tree}
 use Rattle.gix_hash.specs.Reach as reach
 use Rattle.gix_hash.specs.Reach.{Reaches}
-use Rattle.gix_tree.specs.Delegate.{Action, Call, VisitTree, Run}
-use Rattle.gix_tree.specs.Visits.{Items, Place, Visit, visit, visit_call, visit_call_of, Ending, Task, Turn, Show, Fault, shows}
-use Rattle.gix_tree.specs.Paths.{unknown_root}
-use Rattle.gix_tree.specs.Script.{items_or_none, entries_in, entries_at, IsLevelScript, IsDepthScript}
-use Rattle.gix_tree.specs.Laws.{GoesIn, subtrees, subtrees_of, EntersWhole, AllEnterWhole, AreSound, GoesOnlyInto}
+use Rattle.gix_tree.proofs.Outcomes.{says}
 use Rattle.gix_tree.proofs.TaskWalk as walk
 use Rattle.gix_tree.proofs.TaskWalk.{Manner, TaskWalk, all_with, level_walk, depth_walk}
 use Rattle.gix_tree.proofs.Theorems.Called.{called}
-use Rattle.gix_tree.proofs.Theorems.Met.{enters_tree}
 
 holds_first : (i : ObjectId) (ids : List ObjectId) → Contains (i ∷ ids) i
 holds_first i ids = (0, omega arith, refl)
@@ -27,9 +18,7 @@ holds_later : (j i : ObjectId) (ids : List ObjectId) → Contains ids i → Cont
 holds_later j i ids h = (suc h.0, omega arith, h.2)
 
 both_true : (b c : Bool) → b ≡ true → c ≡ true → b && c ≡ true
-both_true true true e f = refl
-both_true true false e f = f
-both_true false c e f = cc
+both_true b c e f = grind arith
 
 -- WHAT A DELEGATE GOES INTO
 
@@ -105,7 +94,8 @@ module _ (trees : ObjectId → Option Items) (fails misses : ObjectId → Existi
     fine_turn names i ids met below = fine_shows (record { names = names; ids = i ∷ ids }) (items_or_none (trees i)) (λ x h. fine_in i ids x met below h)
 
     -- a visit that goes in finds a whole tree, which isn't above it
-    enters_whole : (p : Place) (e : TreeEntry) (a : Action) → AreSound trees misses into starts → Fine starts p.ids e → IsOnlyInto into (visit_call (visit p e a)) → GoesIn (visit p e a) → EntersWhole trees misses (visit p e a)
+    enters_whole : (p : Place) (e : TreeEntry) (a : Action) → AreSound trees misses into starts → Fine starts p.ids e → IsOnlyInto into (visit_call (visit p e a)) → GoesIn (visit p e a)
+        → EntersWhole trees misses (visit p e a)
     enters_whole p e a sound h only g =
         let t = both_true (into e) (is_tree e.mode) (goes_into into (visit p e a) only g) g.0 in
         record { whole = sound.whole e.id (h.met t); free = go (is_among e.id p.ids) refl t }
@@ -121,7 +111,7 @@ module _ (trees : ObjectId → Option Items) (fails misses : ObjectId → Existi
     sound_walk sound (walk.turn rest) h only = sound_walk sound rest h.1 only
     sound_walk sound (walk.leaves {p = p} {e = e} {a = a} o rest) h only = (enters_whole p e a sound h.0 only.0, sound_walk sound rest h.1 only.1)
     sound_walk {m} sound (walk.enters {p = p} {e = e} {a = a} {tasks = tasks} o rest) h only =
-        let g = enters_tree (is_tree e.mode) _ a o in
+        let g = (says (is_tree e.mode) _ a Enters o).0 in
         let t = both_true (into e) (is_tree e.mode) (goes_into into (visit p e a) only.0 g) g.0 in
         let inner = fine_turn (p.names ++ e.name ∷ []) e.id p.ids (h.0.met t) (λ j among. h.0.below j among t) in
         (enters_whole p e a sound h.0 only.0, sound_walk sound rest (all_with trees IsFineTask m p e tasks h.1 (tt, inner) tt) only.1)
@@ -130,7 +120,8 @@ module _ (trees : ObjectId → Option Items) (fails misses : ObjectId → Existi
 
   -- OF A ROOT
 
-  pub sound_level_visits : (root : Items) {calls : List Call} {visits : List Visit} {end : Ending} → AreSound trees misses into (subtrees into (entries_in root)) → IsLevelScript trees fails unknown_root root calls visits end
+  pub sound_level_visits : (root : Items) {calls : List Call} {visits : List Visit} {end : Ending} → AreSound trees misses into (subtrees into (entries_in root))
+      → IsLevelScript trees fails unknown_root root calls visits end
       → AllByRecursion (IsOnlyInto into) calls → AllEnterWhole trees misses visits
   sound_level_visits root sound script only =
       let starts = subtrees into (entries_in root) in

@@ -1,32 +1,17 @@
 -- The walks end: each turn leaves less to be done than there was.
-use Rattle.std.proofs.Common.{◌≡◌, ℕ, ◌+◌, ◌*◌, ◌<◌, ◌≤◌, false, List, [], ◌∷◌, ◌++◌, length, Option, Some, None, Ok, refl, sym, ap, ◌∙◌, subst, arith}
+use Rattle.std.proofs.Common.{◌≡◌, ℕ, ◌+◌, ◌*◌, ◌<◌, ◌≤◌, false, List, [], ◌∷◌, ◌++◌, length, Some, Ok, refl, sym, ap, ◌∙◌, subst, arith}
 use Rattle.std.proofs.Math.Nat.{mul-le-mul_right}
-use Rattle.std.specs.FinMap.{keys}
-use Rattle.gix_hash.specs.declared.ObjectId.{ObjectId}
-use Rattle.gix_hash.specs.Id.{is_among}
-use Rattle.gix_object.specs.Object.{Objects}
-use Rattle.gix_object.specs.TreeItems.{TreeEntry, is_tree}
-use Rattle.gix_tree.specs.Delegate.{Call}
-use Rattle.gix_tree.specs.Inside.LevelQueue.{LevelQueue, Waiting}
-use Rattle.gix_tree.specs.Script.{items_or_none}
+use Rattle.gix_tree.proofs.Common.{ObjectId, is_among, Objects, TreeEntry, is_tree, Call, LevelQueue, Waiting, items_or_none, ShowsEntry, ShowsTree, ShowsUpTo, trees_of, Items, Enters}
 use Rattle.gix_tree.specs.Inside.ShowsEntry as shows
-use Rattle.gix_tree.specs.Inside.ShowsEntry.{ShowsEntry, ShowsTree}
 use Rattle.gix_tree.specs.declared.depthfirst.Stop.TheVariants as stop
 use Rattle.gix_tree.specs.Inside.ShowsBelow as below
-use Rattle.gix_tree.specs.Inside.ShowsBelow.{ShowsUpTo}
-use Rattle.gix_tree.specs.Measure.{room, widest, steps_of}
-use Rattle.gix_tree.specs.Walk.{trees_of}
-use Rattle.gix_tree.specs.Visits.{Items}
 use Rattle.gix_tree.proofs.Depth.Stack.{Above}
-use Rattle.gix_tree.proofs.Work.Measure.{some_steps, less_room, room_less, wide_enough, stored_tree, enters_new}
+use Rattle.gix_tree.proofs.Outcomes.{says}
+use Rattle.gix_tree.proofs.Work.Measure.{entry_bound, wait_less}
 
 module _ (objects : Objects) where
-  -- a bound on the turns that an entry below known ids leads to
-  abbrev pub entry_bound : List ObjectId → ℕ
-  entry_bound ids = steps_of (widest (trees_of objects) (keys objects)) (room (keys objects) ids)
-
   abbrev pub turn_bound : Waiting → ℕ
-  turn_bound w = 1 + length (items_or_none (trees_of objects w.0)) * entry_bound w.1
+  turn_bound w = 1 + length (items_or_none (trees_of objects w.0)) * entry_bound objects w.1
 
   -- a bound on the turns that trees that wait lead to
   pub waiting_work : List Waiting → ℕ
@@ -38,21 +23,10 @@ module _ (objects : Objects) where
   work_more [] w = omega arith
   work_more (v ∷ waiting) w = omega (arith, work_more waiting w)
 
-  -- a tree that is gone into leads to fewer turns than its entry may
-  wait_less : (i : ObjectId) (ids : List ObjectId) (found : Option Items) → trees_of objects i ≡ found → is_among i ids ≡ false → 1 + length (items_or_none found) * entry_bound (i ∷ ids) < entry_bound ids
-  wait_less i ids None is new = omega (arith, some_steps (widest (trees_of objects) (keys objects)) (room (keys objects) ids))
-  wait_less i ids (Some items) is new =
-      let width = widest (trees_of objects) (keys objects) in
-      let there = stored_tree objects i items is in
-      let narrow : length items ≤ width = subst (λ o. length (items_or_none o) ≤ width) is (wide_enough (trees_of objects) (keys objects) i there) in
-      let wide : length items * entry_bound (i ∷ ids) ≤ width * entry_bound (i ∷ ids) = mul-le-mul_right (entry_bound (i ∷ ids)) narrow in
-      let less : 2 + width * entry_bound (i ∷ ids) ≤ entry_bound ids = less_room width (room (keys objects) (i ∷ ids)) (room (keys objects) ids) (room_less i (keys objects) ids there new) in
-      omega (arith, wide, less)
-
   -- a bound on the turns that what is left of trees leads to
   pub stack_work : List Above → ℕ
   stack_work [] = 0
-  stack_work (a ∷ above) = 1 + length a.1 * entry_bound a.0 + stack_work above
+  stack_work (a ∷ above) = 1 + length a.1 * entry_bound objects a.0 + stack_work above
 
   pub end_lessens : (ids : List ObjectId) (items : Items) (above : List Above) → stack_work above < stack_work ((ids, items) ∷ above)
   unfolding stack_work
@@ -64,28 +38,29 @@ module _ (objects : Objects) where
     work : waiting_work left.waiting ≤ waiting_work queue.waiting + by
 
   module _ {V : Type 0} (steps : V → Call → V → Type 0) where
-    entry_grows : {e : TreeEntry} {old new : V} {queue left : LevelQueue} → ShowsEntry steps e old queue new left (Ok tt) → Grows queue left (entry_bound queue.known)
+    entry_grows : {e : TreeEntry} {old new : V} {queue left : LevelQueue} → ShowsEntry steps e old queue new left (Ok tt) → Grows queue left (entry_bound objects queue.known)
     entry_grows (shows.left a o run) = record { same = refl; work = omega arith }
     entry_grows {e = e} {queue = queue} (shows.entered a o run) =
-        let new = enters_new (is_tree e.mode) (is_among e.id queue.known) a o in
+        let new = (says (is_tree e.mode) (is_among e.id queue.known) a Enters o).1 in
         record {
           same = refl;
-          work = omega (arith, work_more queue.waiting (e.id, e.id ∷ queue.known), wait_less e.id queue.known (trees_of objects e.id) refl new);
+          work = omega (arith, work_more queue.waiting (e.id, e.id ∷ queue.known), wait_less objects e.id queue.known (trees_of objects e.id) refl new);
         }
 
-    tree_grows : {items : Items} {old new : V} {queue left : LevelQueue} → ShowsTree steps items old queue new left (Ok tt) → Grows queue left (length items * entry_bound queue.known)
+    tree_grows : {items : Items} {old new : V} {queue left : LevelQueue} → ShowsTree steps items old queue new left (Ok tt) → Grows queue left (length items * entry_bound objects queue.known)
     tree_grows shows.whole = record { same = refl; work = omega arith }
     tree_grows {queue = queue} (shows.goes_on {items = items} {more = more} {left = left} shown rest) =
         let one = entry_grows shown in
         let others = tree_grows rest in
-        let bound : waiting_work left.waiting ≤ waiting_work more.waiting + length items * entry_bound queue.known = subst (λ ids. waiting_work left.waiting ≤ waiting_work more.waiting + length items * entry_bound ids) one.same others.work in
+        let bound : waiting_work left.waiting ≤ waiting_work more.waiting + length items * entry_bound objects queue.known =
+        subst (λ ids. waiting_work left.waiting ≤ waiting_work more.waiting + length items * entry_bound objects ids) one.same others.work in
         record { same = others.same ∙ one.same; work = omega (arith, bound, one.work) }
 
     pub turn_lessens : (i : ObjectId) (items : Items) (waiting : List Waiting) {old new : V} {queue left : LevelQueue} → waiting ≡ (i, queue.known) ∷ queue.waiting → trees_of objects i ≡ Some items → ShowsTree steps items old queue new left (Ok tt) → waiting_work left.waiting < waiting_work waiting
     unfolding waiting_work
     turn_lessens i items waiting {queue = queue} {left = left} was found shown =
         let grown = tree_grows shown in
-        let here : turn_bound (i, queue.known) ≡ 1 + length items * entry_bound queue.known = ap (λ o. 1 + length (items_or_none o) * entry_bound queue.known) found in
+        let here : turn_bound (i, queue.known) ≡ 1 + length items * entry_bound objects queue.known = ap (λ o. 1 + length (items_or_none o) * entry_bound objects queue.known) found in
         let less : waiting_work left.waiting < waiting_work ((i, queue.known) ∷ queue.waiting) = omega (arith, here, grown.work) in
         subst (λ l. waiting_work left.waiting < waiting_work l) (sym was) less
 
@@ -94,7 +69,7 @@ module _ (objects : Objects) where
       new : is_among i ids ≡ false
 
     goes_into : {ids : List ObjectId} {items left : Items} {old now : V} {i : ObjectId} → ShowsUpTo steps ids items old now (Ok (stop.Into i)) left → GoesInto ids items left i
-    goes_into {ids = ids} (below.stops {e = e} (below.entered a o run)) = record { fewer = omega arith; new = enters_new (is_tree e.mode) (is_among e.id ids) a o }
+    goes_into {ids = ids} (below.stops {e = e} (below.entered a o run)) = record { fewer = omega arith; new = (says (is_tree e.mode) (is_among e.id ids) a Enters o).1 }
     goes_into (below.goes_on shown rest) = let h = goes_into rest in record { fewer = omega (arith, h.fewer); new = h.new }
 
     pub descent_lessens : (ids : List ObjectId) (items left sub : Items) (above : List Above) (i : ObjectId) {old now : V} → ShowsUpTo steps ids items old now (Ok (stop.Into i)) left → trees_of objects i ≡ Some sub → stack_work ((i ∷ ids, sub) ∷ (ids, left) ∷ above) < stack_work ((ids, items) ∷ above)
@@ -102,5 +77,5 @@ module _ (objects : Objects) where
     descent_lessens ids items left sub above i shown found =
         let h = goes_into shown in
         let more : 1 + length left ≤ length items = omega (arith, h.fewer) in
-        let wide : (1 + length left) * entry_bound ids ≤ length items * entry_bound ids = mul-le-mul_right (entry_bound ids) more in
-        omega (arith, wide, wait_less i ids (Some sub) found h.new)
+        let wide : (1 + length left) * entry_bound objects ids ≤ length items * entry_bound objects ids = mul-le-mul_right (entry_bound objects ids) more in
+        omega (arith, wide, wait_less objects i ids (Some sub) found h.new)

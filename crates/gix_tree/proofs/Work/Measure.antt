@@ -1,50 +1,33 @@
 -- Why the walks of trees end.
-use Rattle.std.proofs.Common.{◌≡◌, ℕ, zero, suc, ◌+◌, ◌*◌, ◌<◌, ◌≤◌, max, Bool, true, false, ◌||◌, List, [], ◌∷◌, length, Option, Some, None, Ok, Err, refl, sym, ◌∙◌, subst, arith}
+use Rattle.std.proofs.Common.{◌≡◌, ℕ, zero, suc, ◌+◌, ◌*◌, ◌<◌, ◌≤◌, Bool, true, false, ◌||◌, List, [], ◌∷◌, length, Option, Some, None, Ok, Err, refl, sym, ◌∙◌, subst, arith, if◌then◌else◌, is_some}
 use Rattle.std.proofs.Math.Nat.{mul-le-mul_left, mul-le-mul_right}
-use Rattle.std.specs.Prelude.{if◌then◌else◌, is_some}
 use Rattle.std.specs.FinMap.{get, keys, contains_key-keys}
-use Rattle.std.specs.declared.ops.ControlFlow.TheVariants.{Continue, Break}
-use Rattle.gix_hash.specs.declared.ObjectId.{ObjectId}
+use Rattle.gix_tree.proofs.Common.{ObjectId, is_same, is_among, Object, Objects, TreeEntry, is_tree, Items, Place, visit, inside, Outcome, Leaves, Enters, Cycles, Breaks, outcome, Turn, shows, items_or_none, tasks_behind}
+use Rattle.gix_tree.proofs.Common.{items_of_object, trees_of}
 use Rattle.gix_hash.proofs.Ids.Membership.{same_is}
-use Rattle.gix_hash.specs.Id.{is_same, is_among}
-use Rattle.gix_object.specs.Object.{Object, Objects}
-use Rattle.gix_object.specs.TreeItems.{TreeEntry, is_tree}
-use Rattle.gix_tree.specs.Delegate.{Action}
-use Rattle.gix_tree.specs.Visits.{Items, Place, visit, inside, Outcome, Leaves, Enters, Cycles, Breaks, outcome_of, outcome, Turn, shows}
-use Rattle.gix_tree.specs.Script.{items_or_none, tasks_behind}
-use Rattle.gix_tree.specs.Walk.{items_of_object, trees_of}
+use Rattle.gix_tree.proofs.Outcomes.{says}
 use Rattle.gix_tree.specs.Measure.{room, widest, steps_of, entry_work, work, WorkLessens}
 
 turned : (a b : ObjectId) → is_same a b ≡ true → is_same b a ≡ true
 turned a b h = let e = same_is a b h in subst (λ x. is_same b x ≡ true) (sym e) (subst (λ x. is_same x b ≡ true) e h)
 
 one_less : (b c : Bool) → (if b || c then 0 else 1) ≤ (if c then 0 else 1)
-one_less true true = omega arith
-one_less true false = omega arith
-one_less false true = omega arith
-one_less false false = omega arith
+one_less b c = grind arith
 
-pub room_no_more : (i : ObjectId) (stored ids : List ObjectId) → room stored (i ∷ ids) ≤ room stored ids
+room_no_more : (i : ObjectId) (stored ids : List ObjectId) → room stored (i ∷ ids) ≤ room stored ids
 room_no_more i [] ids = omega arith
 room_no_more i (k ∷ stored) ids = omega (arith, one_less (is_same k i) (is_among k ids), room_no_more i stored ids)
 
 none_or_one : (b c : Bool) (m n : ℕ) → b ≡ true → c ≡ false → m ≤ n → (if b || c then 0 else 1) + m < (if c then 0 else 1) + n
-none_or_one true false m n e f h = omega arith
-none_or_one true true m n e f h = cc
-none_or_one false c m n e f h = cc
+none_or_one b c m n e f h = grind arith
 
 -- below an id that is stored and wasn't above, there is less room
-pub room_less : (i : ObjectId) (stored ids : List ObjectId) → is_among i stored ≡ true → is_among i ids ≡ false → room stored (i ∷ ids) < room stored ids
+room_less : (i : ObjectId) (stored ids : List ObjectId) → is_among i stored ≡ true → is_among i ids ≡ false → room stored (i ∷ ids) < room stored ids
 room_less i [] ids h g = cc
-room_less i (k ∷ stored) ids h g = go (is_same i k) refl (λ e. room_less i stored ids e g)
-  where
-    go : (b : Bool) → is_same i k ≡ b → (is_among i stored ≡ true → room stored (i ∷ ids) < room stored ids) → room (k ∷ stored) (i ∷ ids) < room (k ∷ stored) ids
-    go true e ih = none_or_one (is_same k i) (is_among k ids) _ _ (turned i k e) (subst (λ x. is_among x ids ≡ false) (same_is i k e) g) (room_no_more i stored ids)
-    go false e ih =
-        let later : is_among i stored ≡ true = subst (λ b. b || is_among i stored ≡ true) e h in
-        omega (arith, one_less (is_same k i) (is_among k ids), ih later)
+room_less i (k ∷ stored) ids h g =
+    grind (arith, h, g, turned i k, same_is i k, none_or_one (is_same k i) (is_among k ids) (room stored (i ∷ ids)) (room stored ids), one_less (is_same k i) (is_among k ids), room_no_more i stored ids, room_less i stored ids)
 
-pub some_steps : (width room : ℕ) → 2 ≤ steps_of width room
+some_steps : (width room : ℕ) → 2 ≤ steps_of width room
 some_steps width zero = omega arith
 some_steps width (suc room) = omega arith
 
@@ -55,58 +38,47 @@ more_room width (suc m) (suc n) h =
     let le : steps_of width m ≤ steps_of width n = more_room width m n (omega arith) in
     omega (arith, mul-le-mul_left width le)
 
-pub less_room : (width : ℕ) (m n : ℕ) → m < n → 2 + width * steps_of width m ≤ steps_of width n
+less_room : (width : ℕ) (m n : ℕ) → m < n → 2 + width * steps_of width m ≤ steps_of width n
 less_room width m zero h = absurd (omega arith)
 less_room width m (suc n) h =
     let le : steps_of width m ≤ steps_of width n = more_room width m n (omega arith) in
     omega (arith, mul-le-mul_left width le)
 
-pub enters_new : (t known : Bool) (a : Action) → outcome_of t a known ≡ Enters → known ≡ false
-enters_new true false a o = refl
-enters_new true true (Continue true) o = cc
-enters_new true true (Continue false) o = cc
-enters_new true true (Break b) o = cc
-enters_new false known (Continue true) o = cc
-enters_new false known (Continue false) o = cc
-enters_new false known (Break b) o = cc
-
-pub wide_enough : (trees : ObjectId → Option Items) (stored : List ObjectId) (i : ObjectId) → is_among i stored ≡ true → length (items_or_none (trees i)) ≤ widest trees stored
+wide_enough : (trees : ObjectId → Option Items) (stored : List ObjectId) (i : ObjectId) → is_among i stored ≡ true → length (items_or_none (trees i)) ≤ widest trees stored
 wide_enough trees [] i h = cc
-wide_enough trees (k ∷ stored) i h = go (is_same i k) refl (λ e. wide_enough trees stored i e)
-  where
-    go : (b : Bool) → is_same i k ≡ b → (is_among i stored ≡ true → length (items_or_none (trees i)) ≤ widest trees stored) → length (items_or_none (trees i)) ≤ widest trees (k ∷ stored)
-    go true e ih = subst (λ x. length (items_or_none (trees i)) ≤ max (length (items_or_none (trees x))) (widest trees stored)) (same_is i k e) (omega arith)
-    go false e ih =
-        let later : is_among i stored ≡ true = subst (λ b. b || is_among i stored ≡ true) e h in
-        omega (arith, ih later)
-
-below : (w b f s : ℕ) → w ≤ b → b ≤ f → 2 + f ≤ s → 1 + w < s
-below w b f s h g k = omega arith
+wide_enough trees (k ∷ stored) i h = grind (arith, h, same_is i k, wide_enough trees stored i)
 
 module _ (objects : Objects) where
-  pub stored_tree : (i : ObjectId) (items : Items) → trees_of objects i ≡ Some items → is_among i (keys objects) ≡ true
+  stored_tree : (i : ObjectId) (items : Items) → trees_of objects i ≡ Some items → is_among i (keys objects) ≡ true
   stored_tree i items e = sym (contains_key-keys objects i) ∙ go (get objects i) e
     where
       go : (o : Option Object) → items_of_object i o ≡ Some items → is_some o ≡ true
       go None e = cc
       go (Some object) e = refl
 
+  -- a bound on what an entry below known ids leads to
+  abbrev pub entry_bound : List ObjectId → ℕ
+  entry_bound ids = steps_of (widest (trees_of objects) (keys objects)) (room (keys objects) ids)
+
+  -- a tree that is gone into leads to less than its entry may
+  pub wait_less : (i : ObjectId) (ids : List ObjectId) (found : Option Items) → trees_of objects i ≡ found → is_among i ids ≡ false
+      → 1 + length (items_or_none found) * entry_bound (i ∷ ids) < entry_bound ids
+  wait_less i ids None is new = omega (arith, some_steps (widest (trees_of objects) (keys objects)) (room (keys objects) ids))
+  wait_less i ids (Some items) is new =
+      let width = widest (trees_of objects) (keys objects) in
+      let there = stored_tree i items is in
+      let narrow : length items ≤ width = subst (λ o. length (items_or_none o) ≤ width) is (wide_enough (trees_of objects) (keys objects) i there) in
+      let wide : length items * entry_bound (i ∷ ids) ≤ width * entry_bound (i ∷ ids) = mul-le-mul_right (entry_bound (i ∷ ids)) narrow in
+      let less : 2 + width * entry_bound (i ∷ ids) ≤ entry_bound ids = less_room width (room (keys objects) (i ∷ ids)) (room (keys objects) ids) (room_less i (keys objects) ids there new) in
+      omega (arith, wide, less)
+
   work_shows : (p : Place) (items : Items) → work objects (shows p items) ≤ length items * entry_work objects p
   work_shows p [] = omega arith
   work_shows p (Ok e ∷ items) = omega (arith, work_shows p items)
   work_shows p (Err why ∷ items) = omega (arith, some_steps (widest (trees_of objects) (keys objects)) (room (keys objects) p.ids))
 
-  work_inside : (p : Place) (e : TreeEntry) (found : Option Items) → trees_of objects e.id ≡ found → is_among e.id p.ids ≡ false → work objects (Turn (inside p e) e.id ∷ shows (inside p e) (items_or_none found)) < entry_work objects p
-  work_inside p e None is new = omega (arith, some_steps (widest (trees_of objects) (keys objects)) (room (keys objects) p.ids))
-  work_inside p e (Some items) is new =
-      let width = widest (trees_of objects) (keys objects) in
-      let there = stored_tree e.id items is in
-      let narrow : length items ≤ width = subst (λ o. length (items_or_none o) ≤ width) is (wide_enough (trees_of objects) (keys objects) e.id there) in
-      let inner = entry_work objects (inside p e) in
-      let bound : work objects (shows (inside p e) items) ≤ length items * inner = work_shows (inside p e) items in
-      let wide : length items * inner ≤ width * inner = mul-le-mul_right inner narrow in
-      let less : 2 + width * inner ≤ entry_work objects p = less_room width (room (keys objects) (e.id ∷ p.ids)) (room (keys objects) p.ids) (room_less e.id (keys objects) p.ids there new) in
-      below _ _ _ _ bound wide less
+  work_inside : (p : Place) (e : TreeEntry) → is_among e.id p.ids ≡ false → work objects (Turn (inside p e) e.id ∷ shows (inside p e) (items_or_none (trees_of objects e.id))) < entry_work objects p
+  work_inside p e new = omega (arith, work_shows (inside p e) (items_or_none (trees_of objects e.id)), wait_less e.id p.ids (trees_of objects e.id) refl new)
 
   some_work : (p : Place) → 0 < entry_work objects p
   some_work p = omega (arith, some_steps (widest (trees_of objects) (keys objects)) (room (keys objects) p.ids))
@@ -116,6 +88,6 @@ module _ (objects : Objects) where
     where
       go : (o : Outcome) → outcome (visit p e a) ≡ o → work objects (tasks_behind (trees_of objects) p e o) < entry_work objects p
       go Leaves o = some_work p
-      go Enters o = work_inside p e (trees_of objects e.id) refl (enters_new (is_tree e.mode) _ a o)
+      go Enters o = work_inside p e (says (is_tree e.mode) _ a Enters o).1
       go Cycles o = some_work p
       go Breaks o = some_work p

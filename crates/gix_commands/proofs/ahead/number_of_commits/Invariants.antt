@@ -1,6 +1,5 @@
 use Rattle.std.proofs.Common.{◌≡◌, length, List}
-use Rattle.std.specs.Iterator.{Yields}
-use Rattle.gix_revwalk.specs.declared.Info.{Info}
+use Rattle.gix_commands.proofs.Common.{Yields, Info}
 use Rattle.gix_commands.specs.Walked.{given}
 use Rattle.gix_commands.proofs.ahead.number_of_commits.Given as goal
 

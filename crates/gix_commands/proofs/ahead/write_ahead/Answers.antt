@@ -1,6 +1,5 @@
 use Rattle.std.proofs.Common.{Err, ap, ◌∙◌}
-use Rattle.std.proofs.lemmas.Result.{err_from_is_err_and}
-use Rattle.gix_commands.specs.Run.{not_ahead, not_behind}
+use Rattle.gix_commands.proofs.Common.{err_from_is_err_and, not_ahead, not_behind}
 use Rattle.gix_commands.proofs.AheadFacts.{ahead_failed, ahead_written}
 use Rattle.gix_commands.proofs.ahead.write_ahead.Goals as goal
 

@@ -1,6 +1,5 @@
 use Rattle.std.proofs.Common.{List, Ok, ◌∙◌}
-use Rattle.std.proofs.lemmas.Result.{err_from_is_err_and}
-use Rattle.gix_hash.specs.declared.ObjectId.{ObjectId}
+use Rattle.gix_commands.proofs.Common.{err_from_is_err_and, ObjectId}
 use Rattle.gix_commands.proofs.StartFacts.{drained, chosen, fresh_over, built_from, build_failed}
 use Rattle.gix_commands.proofs.commits.topo_walk_from.Goals as goal
 

@@ -1,6 +1,5 @@
 use Rattle.std.proofs.Common.{List, ◌∙◌}
-use Rattle.std.proofs.lemmas.Result.{err_from_is_err_and}
-use Rattle.gix_hash.specs.declared.ObjectId.{ObjectId}
+use Rattle.gix_commands.proofs.Common.{err_from_is_err_and, ObjectId}
 use Rattle.gix_commands.specs.Walked.{Walk}
 use Rattle.gix_commands.proofs.StartFacts.{drained, held, made_of, is_sorted, start_failed}
 use Rattle.gix_commands.proofs.commits.walk_from.Goals as goal

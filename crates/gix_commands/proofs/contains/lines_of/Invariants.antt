@@ -1,6 +1,5 @@
-use Rattle.std.proofs.Common.{◌≡◌, take}
-use Rattle.std.specs.List.{flat_map}
-use Rattle.gix_commands.specs.Walked.{line_of}
+use Rattle.std.proofs.Common.{◌≡◌, take, flat_map}
+use Rattle.gix_commands.proofs.Common.{line_of}
 use Rattle.gix_commands.proofs.contains.lines_of.Given as goal
 
 -- the lines of the ids so far

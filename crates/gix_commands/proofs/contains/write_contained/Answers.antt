@@ -1,7 +1,5 @@
-use Rattle.std.specs.List.{flat_map}
-use Rattle.std.proofs.Common.{ap, ◌∙◌}
-use Rattle.std.proofs.lemmas.Result.{err_from_is_err_and}
-use Rattle.gix_commands.specs.Walked.{line_of}
+use Rattle.std.proofs.Common.{flat_map, ap, ◌∙◌}
+use Rattle.gix_commands.proofs.Common.{err_from_is_err_and, line_of}
 use Rattle.gix_commands.proofs.ContainedFacts.{contained_failed, contained_fault, contained_written}
 use Rattle.gix_commands.proofs.contains.write_contained.Goals as goal
 

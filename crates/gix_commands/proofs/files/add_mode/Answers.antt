@@ -1,7 +1,5 @@
-use Rattle.std.proofs.Common.{ap, ◌∙◌, ◌≡◌, ◌-◌, ◌^◌, ℕ, List, [], false, cond, string_bytes, Result, Ok, Err}
-use Rattle.std.specs.Fmt.{styled_digits_output, padded_integral, format_spec}
-use Rattle.std.specs.Option.{option_map}
-use Rattle.std.specs.Result.{OnOk, is_ok}
+use Rattle.std.proofs.Common.{ap, ◌∙◌, ◌≡◌, ◌-◌, ◌^◌, ℕ, List, [], false, cond, string_bytes, Result, Ok, Err, option_map, OnOk, is_ok}
+use Rattle.gix_commands.proofs.Common.{styled_digits_output, padded_integral, format_spec}
 use Rattle.gix_commands.proofs.FileFacts.{mode_text}
 use Rattle.gix_commands.proofs.files.add_mode.Goals as goal
 

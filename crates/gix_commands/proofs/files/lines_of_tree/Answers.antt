@@ -1,5 +1,5 @@
 use Rattle.std.proofs.Common.{ap}
-use Rattle.std.proofs.lemmas.Result.{err_from_is_err_and}
+use Rattle.gix_commands.proofs.Common.{err_from_is_err_and}
 use Rattle.gix_commands.proofs.ListerFacts.{lines_listed, list_failed}
 use Rattle.gix_commands.proofs.files.lines_of_tree.Goals as goal
 

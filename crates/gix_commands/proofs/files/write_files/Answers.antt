@@ -1,5 +1,5 @@
 use Rattle.std.proofs.Common.{Err, ap, ◌∙◌}
-use Rattle.std.proofs.lemmas.Result.{err_from_is_err_and}
+use Rattle.gix_commands.proofs.Common.{err_from_is_err_and}
 use Rattle.gix_commands.proofs.FileFacts.{files_failed, files_written}
 use Rattle.gix_commands.proofs.files.write_files.Goals as goal
 

@@ -1,6 +1,5 @@
-use Rattle.std.specs.Prelude.{map, string_bytes}
-use Rattle.std.proofs.Common.{Err, refl, sym, ap, ◌∙◌}
-use Rattle.std.proofs.lemmas.Result.{err_from_is_err_and}
+use Rattle.std.proofs.Common.{map, string_bytes, Err, refl, sym, ap, ◌∙◌}
+use Rattle.gix_commands.proofs.Common.{err_from_is_err_and}
 use Rattle.gix_commands.proofs.GivenRuns.{words_unread}
 use Rattle.gix_commands.proofs.RunFacts.{err_same, runs_sound, runs_spelled, runs_words}
 use Rattle.gix_commands.proofs.WholeRuns.{promises}

@@ -1,5 +1,5 @@
 use Rattle.std.proofs.Common.{Some, refl, sym, ◌∙◌}
-use Rattle.std.proofs.lemmas.Result.{err_from_is_err_and}
+use Rattle.gix_commands.proofs.Common.{err_from_is_err_and}
 use Rattle.gix_records.proofs.ReadingFacts.{read_from, fails_from}
 use Rattle.gix_commands.proofs.GivenRuns.{records_unread, serves_unread}
 use Rattle.gix_commands.proofs.RunFacts.{err_same, runs_input, runs_served}

@@ -1,8 +1,5 @@
-use Rattle.std.specs.Prelude.{◌≡◌, ℕ, List, Option, Result, Ok, Err, IfErr, OnOk}
-use Rattle.std.specs.Io.KnownBytes.{Appends}
-use Rattle.std.proofs.Common.{sym, subst, ap, ◌∙◌}
-use Rattle.std.proofs.lemmas.Result.{err_from_is_err_and}
-use Rattle.gix_words.specs.declared.fault.Fault.{Fault}
+use Rattle.std.proofs.Common.{◌≡◌, ℕ, List, Option, Result, Ok, Err, IfErr, OnOk, sym, subst, ap, ◌∙◌}
+use Rattle.gix_commands.proofs.Common.{Appends, err_from_is_err_and, Fault}
 use Rattle.gix_words.specs.declared.fault.Fault.TheVariants as fault
 use Rattle.gix_commands.specs.Opening.{AreHeadLines, FailsToOpen, WritesHeads, written, not_opened, not_written}
 use Rattle.gix_commands.proofs.graph.write_heads.Goals as goal

@@ -1,6 +1,5 @@
-use Rattle.std.proofs.Common.{sym, ◌∙◌, ap, None, Err, [], ◌++◌, ◌∷◌}
-use Rattle.std.proofs.lemmas.List.{append-nil}
-use Rattle.std.proofs.lemmas.Result.{err_from_is_err_and}
+use Rattle.std.proofs.Common.{sym, ◌∙◌, ap, None, Err, [], ◌++◌, ◌∷◌, append-nil}
+use Rattle.gix_commands.proofs.Common.{err_from_is_err_and}
 use Rattle.gix_commands.proofs.OutputFacts.{grows_waiting, drawn_one, grows_one, adds_failed, adds_cut, adds_all}
 use Rattle.gix_commands.proofs.output.add_commits.Goals as goal
 

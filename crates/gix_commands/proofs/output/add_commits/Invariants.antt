@@ -1,8 +1,6 @@
 use Rattle.std.proofs.Common.{List}
-use Rattle.std.specs.Iterator.{Yields}
-use Rattle.gix_revwalk.specs.declared.Info.{Info}
-use Rattle.gix_commands.specs.Output.{Grows}
-use Rattle.gix_commands.specs.Walked.{given, lines_of}
+use Rattle.gix_commands.proofs.Common.{Yields, Info, Grows, lines_of}
+use Rattle.gix_commands.specs.Walked.{given}
 use Rattle.gix_commands.proofs.output.add_commits.Given as goal
 
 -- the walk gave commits, and their lines were added

@@ -1,6 +1,5 @@
 use Rattle.std.proofs.Common.{◌∙◌, ap, Some, Err, [], ◌++◌, ◌∷◌}
-use Rattle.std.proofs.lemmas.Result.{err_from_is_err_and}
-use Rattle.gix_commands.specs.Walked.{before}
+use Rattle.gix_commands.proofs.Common.{err_from_is_err_and, before}
 use Rattle.gix_commands.proofs.OutputFacts.{drawn_one, grows_one, adds_failed, adds_cut, adds_all, adds_enough, all_drawn, fewer, one_less}
 use Rattle.gix_commands.proofs.output.add_first_commits.Goals as goal
 

@@ -1,5 +1,5 @@
 use Rattle.std.proofs.Common.{Err, ◌∙◌, ap}
-use Rattle.std.proofs.lemmas.Result.{err_from_is_err_and}
+use Rattle.gix_commands.proofs.Common.{err_from_is_err_and}
 use Rattle.gix_records.proofs.ReadingFacts.{read_from, fails_from, fails_to_read}
 use Rattle.gix_commands.proofs.RunFacts.{no_rejection}
 use Rattle.gix_commands.proofs.OverGraphs.{over_sound, over_spelled, over_words, over_unopened, over_input, over_disagreement, over_served}

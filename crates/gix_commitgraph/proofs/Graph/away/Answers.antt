@@ -1,5 +1,5 @@
 use Rattle.std.proofs.Common.{arith}
-use Rattle.gix_commitgraph.specs.Packed.{kind_of_rows}
+use Rattle.gix_commitgraph.proofs.Common.{kind_of_rows}
 use Rattle.gix_commitgraph.proofs.Packed.Fields.{row_len-is}
 use Rattle.gix_commitgraph.proofs.Graph.away.Goals as goal
 

@@ -1,7 +1,5 @@
-use Rattle.std.proofs.Common.{◌≡◌, ℕ, ◌-◌, ◌<◌, ◌≤◌, length}
-use Rattle.std.specs.declared.cmp.Ordering.TheVariants.{Less, Greater}
-use Rattle.gix_hash.specs.Id.{id_cmp}
-use Rattle.gix_commitgraph.specs.Rows.{row_at}
+use Rattle.std.proofs.Common.{◌≡◌, ℕ, ◌-◌, ◌<◌, ◌≤◌, length, Less, Greater}
+use Rattle.gix_commitgraph.proofs.Common.{id_cmp, row_at}
 use Rattle.gix_commitgraph.proofs.Graph.commit_by_id.Given as goal
 
 -- the rows before `low` have lower ids, and those from `high` on higher ones

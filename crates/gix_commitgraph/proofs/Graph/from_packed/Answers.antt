@@ -1,5 +1,5 @@
 use Rattle.std.proofs.Common.{◌≡◌, Ok, Err, ap, ◌∙◌}
-use Rattle.gix_commitgraph.specs.PackedReading.{read_packed, rows_in}
+use Rattle.gix_commitgraph.proofs.Common.{read_packed, rows_in}
 use Rattle.gix_commitgraph.proofs.Packed.Whole.{packed_again}
 use Rattle.gix_commitgraph.proofs.Graph.from_packed.Goals as goal
 

@@ -1,8 +1,5 @@
 use Rattle.std.proofs.Common.{List, subst, sym}
-use Rattle.gix_commitgraph.specs.Rows.{GraphRow}
-use Rattle.gix_commitgraph.specs.Packed.{AreGraphRows}
-use Rattle.gix_commitgraph.specs.PackedLayout.{IsPackedAs}
-use Rattle.gix_commitgraph.specs.Renumbering.{rows_seen, HasSameRows}
+use Rattle.gix_commitgraph.proofs.Common.{GraphRow, AreGraphRows, IsPackedAs, rows_seen, HasSameRows}
 use Rattle.gix_commitgraph.proofs.Packed.Whole.{kept_rows}
 use Rattle.gix_commitgraph.proofs.Graph.new.Goals as goal
 

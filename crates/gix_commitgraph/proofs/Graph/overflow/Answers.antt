@@ -1,4 +1,4 @@
-use Rattle.gix_commitgraph.specs.PackedReading.{read_packed, rows_in}
+use Rattle.gix_commitgraph.proofs.Common.{read_packed, rows_in}
 use Rattle.gix_commitgraph.proofs.Packed.RowAt.{words_kept}
 use Rattle.gix_commitgraph.proofs.Graph.overflow.Goals as goal
 

@@ -1,8 +1,6 @@
-use Rattle.std.proofs.Common.{◌<◌, List, length, All, subst, sym, ◌∙◌}
-use Rattle.std.specs.Prelude.{IfOk}
-use Rattle.gix_commitgraph.specs.PackedReading.{words_of}
+use Rattle.std.proofs.Common.{◌<◌, List, length, All, subst, sym, ◌∙◌, IfOk}
+use Rattle.gix_commitgraph.proofs.Common.{words_of, row_at}
 use Rattle.gix_commitgraph.specs.Parents.{Answer}
-use Rattle.gix_commitgraph.specs.Rows.{row_at}
 use Rattle.gix_commitgraph.proofs.Packed.RowAt.{answers-within, begun_answers}
 use Rattle.gix_commitgraph.proofs.Graph.parents_at.Goals as goal
 

@@ -1,5 +1,5 @@
 use Rattle.std.proofs.Common.{◌<◌, length}
-use Rattle.gix_commitgraph.specs.PackedReading.{read_packed, rows_in}
+use Rattle.gix_commitgraph.proofs.Common.{read_packed, rows_in}
 use Rattle.gix_commitgraph.proofs.Packed.RowAt.{row_within, begins_with_row}
 use Rattle.gix_commitgraph.proofs.Graph.row.Goals as goal
 

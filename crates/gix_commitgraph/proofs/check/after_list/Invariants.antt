@@ -1,5 +1,5 @@
 use Rattle.std.proofs.Common.{◌≡◌, length}
-use Rattle.gix_commitgraph.specs.PackedReading.{words_of, list_at}
+use Rattle.gix_commitgraph.proofs.Common.{words_of, list_at}
 use Rattle.gix_commitgraph.proofs.Packed.Parents.{behind}
 use Rattle.gix_commitgraph.proofs.check.after_list.Given as goal
 

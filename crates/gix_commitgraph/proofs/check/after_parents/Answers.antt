@@ -1,6 +1,6 @@
 use Rattle.std.proofs.Common.{sym, ◌∙◌}
 use Rattle.gix_commitgraph.proofs.Packed.Parents.{behind-second_list}
-use Rattle.gix_commitgraph.specs.PackedReading.{words_of}
+use Rattle.gix_commitgraph.proofs.Common.{words_of}
 use Rattle.gix_commitgraph.proofs.check.after_parents.Goals as goal
 
 pub returns-then-second-next : goal.returns-then-second-next

@@ -1,7 +1,6 @@
 use Rattle.std.proofs.Common.{◌≡◌, None, Some, arith}
 use Rattle.std.proofs.lemmas.Result.{err_from_is_err_and}
-use Rattle.gix_commitgraph.specs.PackedReading.{read_packed, rows_in}
-use Rattle.gix_commitgraph.specs.PackedLayout.{faults}
+use Rattle.gix_commitgraph.proofs.Common.{read_packed, rows_in, faults}
 use Rattle.gix_commitgraph.proofs.Packed.Steps.{no_fault, one_fault, faults-laid_out, ok_rows}
 use Rattle.gix_commitgraph.proofs.Packed.Read.{laid_out_takes}
 use Rattle.gix_commitgraph.proofs.check.check.Goals as goal

@@ -1,7 +1,6 @@
 use Rattle.std.proofs.Common.{◌≡◌, ◌+◌, ◌-◌, length, Some, sym, ◌∙◌, arith}
 use Rattle.std.proofs.lemmas.Result.{err_from_is_err_and}
-use Rattle.gix_commitgraph.specs.PackedReading.{words_of}
-use Rattle.gix_commitgraph.specs.PackedLayout.{id_before, rows_left, faults}
+use Rattle.gix_commitgraph.proofs.Common.{words_of, id_before, rows_left, faults}
 use Rattle.gix_commitgraph.proofs.Packed.Steps.{ends_well, ends_late, length-words_of}
 use Rattle.gix_commitgraph.proofs.check.check_rows.Goals as goal
 

@@ -1,6 +1,5 @@
 use Rattle.std.proofs.Common.{◌≡◌, ◌-◌, ◌*◌, ◌≤◌, length, None, IfSome}
-use Rattle.gix_commitgraph.specs.PackedReading.{words_of, row_len}
-use Rattle.gix_commitgraph.specs.PackedLayout.{id_before, rows_left, faults}
+use Rattle.gix_commitgraph.proofs.Common.{words_of, row_len, id_before, rows_left, faults}
 use Rattle.gix_commitgraph.proofs.check.check_rows.Given as goal
 
 -- the rows that are left are there, and reading on finds what reading all finds

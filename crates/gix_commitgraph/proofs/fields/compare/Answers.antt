@@ -1,5 +1,5 @@
 use Rattle.std.proofs.Common.{◌<◌, sym, arith}
-use Rattle.gix_commitgraph.specs.PackedReading.{word_at}
+use Rattle.gix_commitgraph.proofs.Common.{word_at}
 use Rattle.gix_commitgraph.proofs.Packed.FirstBytes.{first_less, first_greater}
 use Rattle.gix_commitgraph.proofs.fields.compare.Goals as goal
 

@@ -1,6 +1,5 @@
 -- A number of eight bytes that is read as signed is kept as it is.
-use Rattle.std.proofs.Common.{ℤ, ◌∙◌, ap, to_z, of_z}
-use Rattle.std.specs.Int.{w64}
+use Rattle.std.proofs.Common.{ℤ, ◌∙◌, ap, to_z, of_z, w64}
 use Rattle.std.proofs.lemmas.Int.{of_z-to_z}
 use Rattle.gix_commitgraph.proofs.fields.time_field.Goals as goal
 

@@ -1,7 +1,5 @@
-use Rattle.std.proofs.Common.{◌≡◌, ℕ, ◌+◌, ◌<◌, true, get_or}
-use Rattle.std.specs.Ordering.{is_lt}
-use Rattle.gix_hash.specs.Id.{id_cmp}
-use Rattle.gix_commitgraph.specs.Renumbering.{Entry}
+use Rattle.std.proofs.Common.{◌≡◌, ℕ, ◌+◌, ◌<◌, true, get_or, is_lt}
+use Rattle.gix_commitgraph.proofs.Common.{id_cmp, Entry}
 use Rattle.gix_commitgraph.proofs.order.always_rise.Given as goal
 
 abbrev pub invariant-loop-i : goal.invariant-loop-i

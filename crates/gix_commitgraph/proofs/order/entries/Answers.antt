@@ -1,5 +1,5 @@
 use Rattle.std.proofs.Common.{◌++◌, ◌∷◌, [], List, sym, ap, ◌∙◌}
-use Rattle.gix_commitgraph.specs.Renumbering.{Entry}
+use Rattle.gix_commitgraph.proofs.Common.{Entry}
 use Rattle.gix_commitgraph.proofs.Packed.EntryOrder.{entries_more}
 use Rattle.gix_commitgraph.proofs.order.entries.Goals as goal
 

@@ -1,5 +1,5 @@
 use Rattle.std.proofs.Common.{◌≡◌, take}
-use Rattle.gix_commitgraph.specs.Renumbering.{rows_seen, entries_from}
+use Rattle.gix_commitgraph.proofs.Common.{rows_seen, entries_from}
 use Rattle.gix_commitgraph.proofs.order.entries.Given as goal
 
 abbrev pub invariant-loop-place : goal.invariant-loop-place

@@ -1,5 +1,4 @@
-use Rattle.std.proofs.Common.{◌∙◌, arith}
-use Rattle.std.proofs.lemmas.List.{length-set}
+use Rattle.std.proofs.Common.{◌∙◌, arith, length-set}
 use Rattle.gix_commitgraph.proofs.Packed.EntryOrder.{number_more, number_small}
 use Rattle.gix_commitgraph.proofs.order.numbers.Goals as goal
 

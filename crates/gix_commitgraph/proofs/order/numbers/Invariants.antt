@@ -1,6 +1,5 @@
 use Rattle.std.proofs.Common.{◌≡◌, ℕ, ◌<◌, ◌≤◌, length, get_or}
-use Rattle.gix_commitgraph.specs.Packed.{most}
-use Rattle.gix_commitgraph.specs.Renumbering.{Entry}
+use Rattle.gix_commitgraph.proofs.Common.{most, Entry}
 use Rattle.gix_commitgraph.proofs.order.numbers.Given as goal
 
 abbrev pub invariant-loop-number : goal.invariant-loop-number

@@ -1,4 +1,4 @@
-use Rattle.gix_commitgraph.specs.Renumbering.{rows_seen}
+use Rattle.gix_commitgraph.proofs.Common.{rows_seen}
 use Rattle.gix_commitgraph.proofs.Packed.Arrangement.{not_distinct, distinct_rows}
 use Rattle.gix_commitgraph.proofs.Packed.HandedRows.{are_of_one_kind}
 use Rattle.gix_commitgraph.proofs.order.test.Goals as goal

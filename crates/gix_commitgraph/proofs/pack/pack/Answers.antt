@@ -1,8 +1,6 @@
-use Rattle.std.proofs.Common.{◌++◌, ◌∙◌}
-use Rattle.std.specs.Int.{w32, to_be_bytes}
-use Rattle.std.specs.List.{flat_map}
-use Rattle.gix_commitgraph.specs.Packed.{rows_bytes, overflow_words, layout_name, spelling}
-use Rattle.gix_commitgraph.specs.Renumbering.{rows_seen, arranged}
+use Rattle.std.proofs.Common.{◌++◌, ◌∙◌, w32, flat_map}
+use Rattle.gix_commitgraph.proofs.Common.{to_be_bytes, rows_bytes, overflow_words, layout_name, rows_seen, arranged}
+use Rattle.gix_commitgraph.specs.Packed.{spelling}
 use Rattle.gix_commitgraph.proofs.Packed.Writing.{whole_appended}
 use Rattle.gix_commitgraph.proofs.pack.pack.Goals as goal
 

@@ -1,6 +1,5 @@
 use Rattle.std.proofs.Common.{ℕ, subst, sym, ◌∙◌, arith}
-use Rattle.gix_commitgraph.specs.Renumbering.{rows_seen, arranged, HasPlaces, AreNumbers}
-use Rattle.gix_commitgraph.specs.PackedLayout.{IsHeadOf}
+use Rattle.gix_commitgraph.proofs.Common.{rows_seen, arranged, HasPlaces, AreNumbers, IsHeadOf}
 use Rattle.gix_commitgraph.proofs.Packed.Arrangement.{length-order, has_places, can_arrange, kind_of_graph, length-graph, words_of_graph, are_graph_rows, has_same_rows}
 use Rattle.gix_commitgraph.proofs.pack.pack_rows.Goals as goal
 use Rattle.gix_commitgraph.proofs.pack.pack_rows.Goals.{After-as_slice}

@@ -1,9 +1,5 @@
-use Rattle.std.proofs.Common.{◌≡◌, ◌++◌, length, map}
-use Rattle.std.specs.Prelude.{slice_index}
-use Rattle.std.specs.Int.{w32, to_be_bytes}
-use Rattle.std.specs.List.{flat_map, AllByRecursion}
-use Rattle.gix_commitgraph.specs.Packed.{overflow_of, IsPlaceAmong}
-use Rattle.gix_commitgraph.specs.Renumbering.{moved}
+use Rattle.std.proofs.Common.{◌≡◌, ◌++◌, length, map, slice_index, w32, flat_map}
+use Rattle.gix_commitgraph.proofs.Common.{to_be_bytes, AllByRecursion, overflow_of, IsPlaceAmong, moved}
 use Rattle.gix_commitgraph.proofs.Packed.Writing.{rest_words}
 use Rattle.gix_commitgraph.proofs.pack.push_list.Given as goal
 

@@ -1,7 +1,5 @@
 use Rattle.std.proofs.Common.{length, List, subst, sym}
-use Rattle.std.specs.List.{AllByRecursion}
-use Rattle.gix_commitgraph.specs.declared.ParentPlace.{ParentPlace}
-use Rattle.gix_commitgraph.specs.Packed.{IsPlaceAmong}
+use Rattle.gix_commitgraph.proofs.Common.{AllByRecursion, ParentPlace, IsPlaceAmong}
 use Rattle.gix_commitgraph.proofs.Packed.RowsArranged.{reads_entry}
 use Rattle.gix_commitgraph.proofs.pack.push_lists.Goals as goal
 

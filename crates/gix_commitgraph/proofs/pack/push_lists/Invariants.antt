@@ -1,8 +1,5 @@
-use Rattle.std.proofs.Common.{◌≡◌, ◌++◌, take}
-use Rattle.std.specs.Int.{w32, to_be_bytes}
-use Rattle.std.specs.List.{flat_map}
-use Rattle.gix_commitgraph.specs.Packed.{overflow_words}
-use Rattle.gix_commitgraph.specs.Renumbering.{rows_seen, arranged}
+use Rattle.std.proofs.Common.{◌≡◌, ◌++◌, take, w32, flat_map}
+use Rattle.gix_commitgraph.proofs.Common.{to_be_bytes, overflow_words, rows_seen, arranged}
 use Rattle.gix_commitgraph.proofs.pack.push_lists.Given as goal
 
 abbrev pub invariant-loop-place : goal.invariant-loop-place

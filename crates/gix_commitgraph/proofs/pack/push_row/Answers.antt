@@ -1,10 +1,7 @@
-use Rattle.std.proofs.Common.{◌++◌, List, map, ℤ, FitsSigned, ◌∙◌, ap, rules}
-use Rattle.std.specs.Prelude.{slice_index}
-use Rattle.std.specs.Int.{w32, w64, to_be_bytes, cast_unsigned}
+use Rattle.std.proofs.Common.{◌++◌, List, map, ℤ, FitsSigned, ◌∙◌, ap, rules, slice_index, w32, w64}
+use Rattle.gix_commitgraph.proofs.Common.{to_be_bytes, cast_unsigned, ParentPlace, first_word, second_word, moved}
 use Rattle.std.proofs.lemmas.Int.{to_z-of_z}
-use Rattle.gix_commitgraph.specs.declared.ParentPlace.{ParentPlace}
-use Rattle.gix_commitgraph.specs.Packed.{first_word, second_word, row_bytes}
-use Rattle.gix_commitgraph.specs.Renumbering.{moved}
+use Rattle.gix_commitgraph.specs.Packed.{row_bytes}
 use Rattle.gix_commitgraph.proofs.Packed.Writing.{six_appended}
 use Rattle.gix_commitgraph.proofs.pack.push_row.Goals as goal
 

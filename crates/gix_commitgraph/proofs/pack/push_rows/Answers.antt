@@ -1,11 +1,8 @@
-use Rattle.std.proofs.Common.{◌≡◌, ℕ, ◌+◌, ◌++◌, length, List, take, subst, sym, ap, ◌∙◌, append_assoc, arith}
-use Rattle.std.proofs.lemmas.List.{append-nil}
-use Rattle.std.specs.List.{AllByRecursion}
-use Rattle.std.specs.Prelude.{slice_index}
-use Rattle.gix_commitgraph.specs.declared.ParentPlace.{ParentPlace}
-use Rattle.gix_commitgraph.specs.Packed.{overflow_of, overflow_words, row_bytes, rows_bytes}
-use Rattle.gix_commitgraph.specs.Renumbering.{row_seen, rows_seen, renumbered, arranged, IsInRange}
-use Rattle.gix_commitgraph.proofs.Packed.RowsArranged.{reads_entry, rows_bytes-push, All-push}
+use Rattle.std.proofs.Common.{◌≡◌, ℕ, ◌+◌, [], ◌∷◌, ◌++◌, length, List, take, subst, sym, ap, ◌∙◌, append_assoc, arith, append-nil, slice_index}
+use Rattle.gix_commitgraph.proofs.Common.{AllByRecursion, ParentPlace, overflow_of, overflow_words, row_bytes, row_seen, rows_seen, renumbered, arranged, IsInRange}
+use Rattle.gix_commitgraph.specs.Packed.{rows_bytes}
+use Rattle.gix_commitgraph.proofs.Packed.RowsArranged.{reads_entry, rows_bytes-push}
+use Rattle.gix_commitgraph.proofs.Packed.Whole.{all_append}
 use Rattle.gix_commitgraph.proofs.pack.push_rows.Goals as goal
 
 pub loop-place-init : goal.loop-place-init
@@ -24,14 +21,12 @@ push_row-requires-clause-few c =
 pub overflow_cast-next : goal.overflow_cast-next
 overflow_cast-next c =
     let read = reads_entry c.args.rows.now c.args.order.now c.args.numbers.now c.loop-place.place-index _ c.index-rows-place.result c.requires c.loop-place-test.true c.index-rows-place.is in
-    let len = ap (λ (x : List ParentPlace). length (overflow_of x)) c.as_slice.ensures in
-    omega (arith, read.few, c.overflow_len.ensures, len)
+    omega (arith, read.few, c.overflow_len.ensures, ap (λ (x : List ParentPlace). length (overflow_of x)) c.as_slice.ensures)
 
 pub overflow_add-next : goal.overflow_add-next
 overflow_add-next c =
     let read = reads_entry c.args.rows.now c.args.order.now c.args.numbers.now c.loop-place.place-index _ c.index-rows-place.result c.requires c.loop-place-test.true c.index-rows-place.is in
-    let len = ap (λ (x : List ParentPlace). length (overflow_of x)) c.as_slice.ensures in
-    omega (arith, read.few, c.overflow_len.ensures, len, c.loop-place.invariant.next_is)
+    omega (arith, read.few, c.overflow_len.ensures, ap (λ (x : List ParentPlace). length (overflow_of x)) c.as_slice.ensures, c.loop-place.invariant.next_is)
 
 pub loop-place-preserved : goal.loop-place-preserved
 loop-place-preserved c =
@@ -49,5 +44,5 @@ loop-place-preserved c =
           ∙ append_assoc c.args.out.now.items (rows_bytes 0 first) (row_bytes c.loop-place.next row)
           ∙ ap (λ (n : ℕ). c.args.out.now.items ++ (rows_bytes 0 first ++ row_bytes n row)) (sym next_is)
           ∙ ap (λ (x : List ℕ). c.args.out.now.items ++ x) (sym (rows_bytes-push 0 first row) ∙ ap (rows_bytes 0) (sym read.more));
-      range = subst (AllByRecursion IsInRange) (sym read.more) (All-push IsInRange first row c.loop-place.invariant.range c.in_ok-push_row.ensures.range);
+      range = subst (AllByRecursion IsInRange) (sym read.more) (all_append IsInRange first (row ∷ []) c.loop-place.invariant.range (c.in_ok-push_row.ensures.range, tt));
     }

@@ -1,7 +1,5 @@
 use Rattle.std.proofs.Common.{◌≡◌, ◌++◌, length, take}
-use Rattle.std.specs.List.{AllByRecursion}
-use Rattle.gix_commitgraph.specs.Packed.{rows_bytes, overflow_words}
-use Rattle.gix_commitgraph.specs.Renumbering.{rows_seen, arranged, IsInRange}
+use Rattle.gix_commitgraph.proofs.Common.{AllByRecursion, rows_bytes, overflow_words, rows_seen, arranged, IsInRange}
 use Rattle.gix_commitgraph.proofs.pack.push_rows.Given as goal
 
 abbrev pub invariant-loop-place : goal.invariant-loop-place

@@ -1,6 +1,5 @@
 use Rattle.std.proofs.Common.{◌*◌, sym, ap, ◌∙◌, arith}
-use Rattle.std.proofs.lemmas.List.{drop_all}
-use Rattle.gix_commitgraph.specs.PackedReading.{words_of}
+use Rattle.gix_commitgraph.proofs.Common.{drop_all, words_of}
 use Rattle.gix_commitgraph.proofs.Packed.Parents.{words_of-drop}
 use Rattle.gix_commitgraph.proofs.parents.words_from.Goals as goal
 

@@ -1,6 +1,5 @@
 use Rattle.std.proofs.Common.{ℕ, ◌<◌, get_or}
-use Rattle.gix_commitgraph.specs.declared.ParentPlace.{ParentPlace}
-use Rattle.gix_commitgraph.specs.Packed.{IsPlaceAmong}
+use Rattle.gix_commitgraph.proofs.Common.{ParentPlace, IsPlaceAmong}
 use Rattle.gix_commitgraph.proofs.rows.are_among.Given as goal
 
 abbrev pub invariant-loop-place : goal.invariant-loop-place

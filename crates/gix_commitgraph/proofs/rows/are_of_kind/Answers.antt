@@ -1,6 +1,5 @@
 use Rattle.std.proofs.Common.{◌≡◌, arith}
-use Rattle.gix_hash.specs.Id.{kind_of}
-use Rattle.gix_commitgraph.specs.Renumbering.{IsRowOf}
+use Rattle.gix_commitgraph.proofs.Common.{kind_of, IsRowOf}
 use Rattle.gix_commitgraph.proofs.Packed.HandedRows.{all_seen, read_row}
 use Rattle.gix_commitgraph.proofs.rows.are_of_kind.Goals as goal
 

@@ -1,6 +1,5 @@
 use Rattle.std.proofs.Common.{ℕ, ◌<◌, get_or}
-use Rattle.gix_commitgraph.specs.declared.Row.{Row}
-use Rattle.gix_commitgraph.specs.Renumbering.{row_seen, IsRowOf}
+use Rattle.gix_commitgraph.proofs.Common.{Row, row_seen, IsRowOf}
 use Rattle.gix_commitgraph.proofs.rows.are_of_kind.Given as goal
 
 abbrev pub invariant-loop-row : goal.invariant-loop-row

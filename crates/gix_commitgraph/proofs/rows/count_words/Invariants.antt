@@ -1,6 +1,5 @@
 use Rattle.std.proofs.Common.{◌≡◌, ◌≤◌, length, take}
-use Rattle.gix_commitgraph.specs.Packed.{most, overflow_words}
-use Rattle.gix_commitgraph.specs.Renumbering.{rows_seen}
+use Rattle.gix_commitgraph.proofs.Common.{most, overflow_words, rows_seen}
 use Rattle.gix_commitgraph.proofs.rows.count_words.Given as goal
 
 abbrev pub invariant-loop-row : goal.invariant-loop-row

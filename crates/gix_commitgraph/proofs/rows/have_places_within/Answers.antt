@@ -1,7 +1,5 @@
 use Rattle.std.proofs.Common.{length, List, subst, sym, arith}
-use Rattle.std.specs.List.{AllByRecursion}
-use Rattle.gix_commitgraph.specs.declared.ParentPlace.{ParentPlace}
-use Rattle.gix_commitgraph.specs.Packed.{IsPlaceAmong}
+use Rattle.gix_commitgraph.proofs.Common.{AllByRecursion, ParentPlace, IsPlaceAmong}
 use Rattle.gix_commitgraph.proofs.Packed.HandedRows.{places_within, read_places}
 use Rattle.gix_commitgraph.proofs.rows.have_places_within.Goals as goal
 

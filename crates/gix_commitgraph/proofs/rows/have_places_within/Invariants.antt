@@ -1,7 +1,5 @@
 use Rattle.std.proofs.Common.{ℕ, ◌<◌, get_or, length}
-use Rattle.std.specs.List.{AllByRecursion}
-use Rattle.gix_commitgraph.specs.declared.Row.{Row}
-use Rattle.gix_commitgraph.specs.Packed.{IsPlaceAmong}
+use Rattle.gix_commitgraph.proofs.Common.{AllByRecursion, Row, IsPlaceAmong}
 use Rattle.gix_commitgraph.proofs.rows.have_places_within.Given as goal
 
 abbrev pub invariant-loop-row : goal.invariant-loop-row

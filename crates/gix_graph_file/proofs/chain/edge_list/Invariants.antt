@@ -1,7 +1,5 @@
 use Rattle.std.proofs.Common.{◌≡◌, length}
-use Rattle.gix_commitgraph.specs.PackedReading.{words_of}
-use Rattle.gix_graph_file.specs.FileRows.{edge_list}
-use Rattle.gix_graph_file.specs.ChainSteps.{joined}
+use Rattle.gix_graph_file.proofs.Common.{words_of, edge_list, joined}
 use Rattle.gix_graph_file.proofs.chain.edge_list.Given as goal
 
 -- the parents that are read, and then those that are left, are those that there were, and then all

@@ -1,7 +1,5 @@
 use Rattle.std.proofs.Common.{◌≡◌, length, arith}
-use Rattle.std.proofs.lemmas.Result.{err_from_is_err_and}
-use Rattle.gix_commitgraph.specs.Renumbering.{rows_seen}
-use Rattle.gix_graph_file.specs.ChainSteps.{files_seen}
+use Rattle.gix_graph_file.proofs.Common.{err_from_is_err_and, rows_seen, files_seen}
 use Rattle.gix_graph_file.proofs.ChainLayers.{refused}
 use Rattle.gix_graph_file.proofs.ChainOfOne.{one-has}
 use Rattle.gix_graph_file.proofs.ChainWithin.{rows-refused}

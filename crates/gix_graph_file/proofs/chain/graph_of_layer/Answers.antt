@@ -1,7 +1,5 @@
 use Rattle.std.proofs.Common.{◌≡◌, true, false, eqb, length}
-use Rattle.std.proofs.lemmas.Result.{err_from_is_err_and}
-use Rattle.gix_graph_file.specs.Chain.{base_of}
-use Rattle.gix_graph_file.specs.PackedParts.{seen}
+use Rattle.gix_graph_file.proofs.Common.{err_from_is_err_and, base_of, seen}
 use Rattle.gix_graph_file.proofs.ChainOfOne.{one-says, one-refuses, one-fault, one-based}
 use Rattle.gix_graph_file.proofs.chain.graph_of_layer.Goals as goal
 

@@ -1,6 +1,5 @@
 use Rattle.std.proofs.Common.{[], ◌∷◌, ◌++◌, ap, ◌∙◌}
-use Rattle.gix_commitgraph.specs.declared.ParentPlace.{ParentPlace}
-use Rattle.gix_commitgraph.specs.PackedReading.{words_of}
+use Rattle.gix_graph_file.proofs.Common.{ParentPlace, words_of}
 use Rattle.gix_graph_file.proofs.ChainParents.{parents-second}
 use Rattle.gix_graph_file.proofs.chain.parents.Goals as goal
 

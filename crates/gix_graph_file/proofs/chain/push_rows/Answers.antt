@@ -1,11 +1,6 @@
 use Rattle.std.proofs.Common.{◌≡◌, ◌≤◌, ◌+◌, ◌-◌, ◌*◌, [], ◌∷◌, length, ◌∙◌, ap, arith}
 use Rattle.std.proofs.lemmas.List.{map-append}
-use Rattle.std.proofs.lemmas.Result.{err_from_is_err_and}
-use Rattle.gix_hash.specs.Id.{id_len}
-use Rattle.gix_commitgraph.specs.PackedReading.{words_of}
-use Rattle.gix_commitgraph.specs.Renumbering.{row_seen, rows_seen}
-use Rattle.gix_graph_file.specs.PackedParts.{seen}
-use Rattle.gix_graph_file.specs.Chain.{layer_rows}
+use Rattle.gix_graph_file.proofs.Common.{err_from_is_err_and, id_len, words_of, row_seen, rows_seen, seen, layer_rows}
 use Rattle.gix_commitgraph.proofs.Packed.Steps.{length-words_of}
 use Rattle.gix_graph_file.proofs.ChainRows.{row-fault, row-more, rows-end, words-left}
 use Rattle.gix_graph_file.proofs.chain.push_rows.Goals as goal

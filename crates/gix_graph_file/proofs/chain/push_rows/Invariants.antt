@@ -1,11 +1,5 @@
 use Rattle.std.proofs.Common.{◌≡◌, ◌-◌, ◌+◌, ◌*◌, ◌≤◌, length}
-use Rattle.gix_hash.specs.Id.{id_len}
-use Rattle.gix_commitgraph.specs.PackedReading.{words_of}
-use Rattle.gix_commitgraph.specs.Renumbering.{rows_seen}
-use Rattle.gix_graph_file.specs.FileRows.{rows_from}
-use Rattle.gix_graph_file.specs.PackedParts.{seen}
-use Rattle.gix_graph_file.specs.Chain.{layer_rows}
-use Rattle.gix_graph_file.specs.ChainSteps.{prepended}
+use Rattle.gix_graph_file.proofs.Common.{id_len, words_of, rows_seen, rows_from, seen, layer_rows, prepended}
 use Rattle.gix_graph_file.proofs.chain.push_rows.Given as goal
 
 -- the rows that are left are there; the rows that are read, and then these, are those that there were, and then all

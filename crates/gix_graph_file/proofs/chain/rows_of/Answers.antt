@@ -1,5 +1,4 @@
-use Rattle.gix_graph_file.specs.Chain.{read_chain}
-use Rattle.gix_graph_file.specs.ChainSteps.{below_seen, files_seen}
+use Rattle.gix_graph_file.proofs.Common.{read_chain, below_seen, files_seen}
 use Rattle.gix_graph_file.proofs.ChainLayers.{more-read, more-counted, fault-read, all-read}
 use Rattle.gix_graph_file.proofs.chain.rows_of.Goals as goal
 

@@ -1,6 +1,5 @@
 use Rattle.std.proofs.Common.{◌≡◌, ◌+◌, length}
-use Rattle.gix_graph_file.specs.Chain.{chain_from, read_chain}
-use Rattle.gix_graph_file.specs.ChainSteps.{below_seen, files_seen}
+use Rattle.gix_graph_file.proofs.Common.{chain_from, read_chain, below_seen, files_seen}
 use Rattle.gix_graph_file.proofs.chain.rows_of.Given as goal
 
 -- reading the layers that are left finds what reading all finds

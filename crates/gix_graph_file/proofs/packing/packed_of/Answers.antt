@@ -1,9 +1,7 @@
-use Rattle.std.proofs.Common.{◌/◌, length}
-use Rattle.std.specs.Int.{w32, to_be_bytes}
-use Rattle.std.specs.List.{flat_map}
-use Rattle.gix_commitgraph.specs.Packed.{layout_name}
+use Rattle.std.proofs.Common.{◌/◌, length, w32, flat_map}
+use Rattle.gix_graph_file.proofs.Common.{to_be_bytes, layout_name, kind_packed, rows_packed, words_packed}
 use Rattle.gix_commitgraph.proofs.Packed.Writing.{whole_appended}
-use Rattle.gix_graph_file.specs.PackedParts.{kind_packed, rows_packed, words_packed, parts_packed}
+use Rattle.gix_graph_file.specs.PackedParts.{parts_packed}
 use Rattle.gix_graph_file.proofs.packing.packed_of.Goals as goal
 
 pub returns : goal.returns

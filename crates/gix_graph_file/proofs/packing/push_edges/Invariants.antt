@@ -1,7 +1,5 @@
-use Rattle.std.proofs.Common.{◌≡◌, ◌++◌, length}
-use Rattle.std.specs.Int.{w32, to_be_bytes}
-use Rattle.std.specs.List.{flat_map}
-use Rattle.gix_graph_file.specs.PackedParts.{words_packed}
+use Rattle.std.proofs.Common.{◌≡◌, ◌++◌, length, w32, flat_map}
+use Rattle.gix_graph_file.proofs.Common.{to_be_bytes, words_packed}
 use Rattle.gix_graph_file.proofs.packing.push_edges.Given as goal
 
 -- what is written, and then the words that are left, is what there was, and then all words

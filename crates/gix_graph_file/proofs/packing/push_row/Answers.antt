@@ -1,7 +1,7 @@
-use Rattle.std.proofs.Common.{ℕ, ◌/◌, ◌%◌, ◌^◌, ◌++◌, ap, ◌∙◌}
-use Rattle.std.specs.Int.{w32, w64, to_be_bytes}
+use Rattle.std.proofs.Common.{ℕ, ◌/◌, ◌%◌, ◌^◌, ◌++◌, ap, ◌∙◌, w32, w64}
+use Rattle.gix_graph_file.proofs.Common.{to_be_bytes, first_packed, second_packed}
 use Rattle.gix_commitgraph.proofs.Packed.Writing.{six_appended}
-use Rattle.gix_graph_file.specs.PackedParts.{first_packed, second_packed, row_packed}
+use Rattle.gix_graph_file.specs.PackedParts.{row_packed}
 use Rattle.gix_graph_file.proofs.packing.push_row.Goals as goal
 
 pub returns : goal.returns

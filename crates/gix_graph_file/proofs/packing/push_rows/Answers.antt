@@ -1,5 +1,5 @@
 use Rattle.std.proofs.Common.{◌≡◌, ◌≤◌, ◌+◌, ◌-◌, ◌*◌, length, arith}
-use Rattle.gix_hash.specs.Id.{id_len}
+use Rattle.gix_graph_file.proofs.Common.{id_len}
 use Rattle.gix_graph_file.proofs.Written.{row_written, no_rows}
 use Rattle.gix_graph_file.proofs.packing.push_rows.Goals as goal
 

@@ -1,6 +1,5 @@
 use Rattle.std.proofs.Common.{◌≡◌, ◌-◌, ◌+◌, ◌*◌, ◌≤◌, ◌++◌, length}
-use Rattle.gix_hash.specs.Id.{id_len}
-use Rattle.gix_graph_file.specs.PackedParts.{rows_packed}
+use Rattle.gix_graph_file.proofs.Common.{id_len, rows_packed}
 use Rattle.gix_graph_file.proofs.packing.push_rows.Given as goal
 
 -- the rows that are left are there; what is written, and then these, is what there was, and then all rows

@@ -1,5 +1,5 @@
 use Rattle.std.proofs.Common.{◌≡◌, ℕ, ◌+◌, ◌-◌, take, drop, Some, sym, ap, ◌∙◌, arith}
-use Rattle.gix_graph_file.specs.FileTable.{table_len, offset_at, name_of, chunk_from}
+use Rattle.gix_graph_file.proofs.Common.{table_len, offset_at, name_of, chunk_from}
 use Rattle.gix_graph_file.proofs.Entries.{entry-bounds, table-next, chunk-here, chunk-more, chunk-none}
 use Rattle.gix_graph_file.proofs.table.chunk_of.Goals as goal
 

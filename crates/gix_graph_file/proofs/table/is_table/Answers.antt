@@ -1,5 +1,5 @@
 use Rattle.std.proofs.Common.{◌≡◌, ℕ, ◌+◌, ◌-◌, sym, ap, ◌∙◌, arith}
-use Rattle.gix_graph_file.specs.FileTable.{is_last, is_table_from}
+use Rattle.gix_graph_file.proofs.Common.{is_last, is_table_from}
 use Rattle.gix_graph_file.proofs.Entries.{table-unnamed, table-falls, table-more, table-ends}
 use Rattle.gix_graph_file.proofs.table.is_table.Goals as goal
 

@@ -1,5 +1,5 @@
 use Rattle.std.proofs.Common.{◌≡◌, ◌-◌}
-use Rattle.gix_graph_file.specs.FileTable.{is_table_from, table_len}
+use Rattle.gix_graph_file.proofs.Common.{is_table_from, table_len}
 use Rattle.gix_graph_file.proofs.table.is_table.Given as goal
 
 -- testing the entries that are left finds what testing all finds

@@ -1,6 +1,5 @@
-use Rattle.std.proofs.Common.{subst, sym, refl, arith, ◌≡◌, ◌<◌, List, [], ◌∷◌, ℕ, true, nat_lt}
+use Rattle.std.proofs.Common.{subst, sym, refl, arith, ◌≡◌, ◌<◌, List, [], ◌∷◌, ℕ, true, nat_lt, IsAscii, IsUtf8}
 use Rattle.std.specs.List.{list_all}
-use Rattle.std.specs.Str.{IsAscii, IsUtf8}
 use Rattle.std.proofs.lemmas.Bool.Decides.{nat_tests}
 use Rattle.std.proofs.lemmas.Str.{IsUtf8-from_ascii}
 use Rattle.std.proofs.lemmas.Str.Ascii.{IsAscii-nil, IsAscii-cons}

@@ -1,6 +1,6 @@
-use Rattle.std.proofs.Common.{ℕ, List, [], ◌++◌, ◌≡◌, ◌+◌, suc, sym, ap, ◌∙◌, arith, map, string_bytes, take, drop, length}
+use Rattle.std.proofs.Common.{ℕ, List, [], ◌++◌, ◌≡◌, ◌+◌, suc, sym, ap, ◌∙◌, arith, map, string_bytes, take, drop, length, append-nil, length-drop}
 use Rattle.std.specs.Str.Lossy.{utf8_lossy}
-use Rattle.std.proofs.lemmas.List.{append-nil, take_rest, length-drop}
+use Rattle.std.proofs.lemmas.List.{take_rest}
 use Rattle.gix_memory_commands.specs.WordsOf.{words_of}
 use Rattle.gix_memory_commands.proofs.WordFacts.{words_last, words_next, words_put}
 use Rattle.gix_memory_commands.proofs.words.words_of.Goals as goal

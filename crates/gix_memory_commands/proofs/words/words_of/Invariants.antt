@@ -1,6 +1,5 @@
-use Rattle.std.specs.Prelude.{◌++◌}
+use Rattle.std.proofs.Common.{◌++◌, ◌≡◌, ◌≤◌, length, map, string_bytes}
 use Rattle.std.specs.Str.Lossy.{utf8_lossy}
-use Rattle.std.proofs.Common.{◌≡◌, ◌≤◌, length, map, string_bytes}
 use Rattle.gix_memory_commands.specs.WordsOf.{words_of}
 use Rattle.gix_memory_commands.proofs.words.words_of.Given as goal
 

@@ -1,6 +1,4 @@
-use Rattle.std.proofs.Common.{ℕ, ◌+◌, List, get_or, Some, None, sym, ap, ◌∙◌, arith}
-use Rattle.std.specs.Option.{option_copied}
-use Rattle.std.proofs.lemmas.Bool.{eqb-true, eq-eqb}
+use Rattle.std.proofs.Common.{ℕ, ◌+◌, List, get_or, Some, None, sym, ap, ◌∙◌, arith, option_copied, eqb-true, eq-eqb}
 use Rattle.std.proofs.lemmas.List.{take_rest}
 use Rattle.gix_object.proofs.Commits.Seconds.{behind_last_none, behind_last_at}
 use Rattle.gix_object.proofs.commit.behind_last.Goals as goal

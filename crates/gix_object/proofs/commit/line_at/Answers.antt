@@ -1,6 +1,4 @@
-use Rattle.std.proofs.Common.{ℕ, ◌+◌, get_or, take, Some, List, sym, ap, ◌∙◌, arith}
-use Rattle.std.specs.Option.{option_map}
-use Rattle.std.proofs.lemmas.Bool.{eqb-true, eq-eqb}
+use Rattle.std.proofs.Common.{ℕ, ◌+◌, get_or, take, Some, List, sym, ap, ◌∙◌, arith, option_map, eqb-true, eq-eqb}
 use Rattle.std.proofs.lemmas.List.{take_rest}
 use Rattle.gix_object.proofs.Commits.Lines.{line_at_none, line_at_first}
 use Rattle.gix_object.proofs.commit.line_at.Goals as goal

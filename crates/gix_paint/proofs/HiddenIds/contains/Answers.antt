@@ -1,5 +1,5 @@
 use Rattle.std.proofs.Common.{sym, ap, ◌∙◌}
-use Rattle.std.specs.FinSet.{contains}
+use Rattle.gix_paint.proofs.Common.{contains}
 use Rattle.gix_paint.proofs.Invariant.{contains-hidden}
 use Rattle.gix_paint.proofs.HiddenIds.contains.Goals as goal
 

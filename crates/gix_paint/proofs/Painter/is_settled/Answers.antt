@@ -1,5 +1,5 @@
 use Rattle.std.proofs.Common.{◌≡◌, false, true, refl, sym, ap, ◌∙◌}
-use Rattle.gix_paint.specs.Inside.Painter.{IsSettled}
+use Rattle.gix_paint.proofs.Common.{IsSettled}
 use Rattle.gix_paint.proofs.Keys.{settled_by_top, unsettled_by_top}
 use Rattle.gix_paint.proofs.Painter.is_settled.Goals as goal
 use Rattle.gix_paint.proofs.Painter.is_settled.Goals.{then-is_some, else-is_some}

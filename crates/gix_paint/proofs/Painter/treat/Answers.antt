@@ -1,6 +1,6 @@
 use Rattle.std.proofs.Common.{refl, sym, ◌∙◌}
-use Rattle.gix_paint.specs.Inside.Painter.{skips}
-use Rattle.gix_paint.proofs.Meets.{if_ok, treats}
+use Rattle.gix_paint.proofs.Common.{skips, IfOk-weaker}
+use Rattle.gix_paint.proofs.Meets.{treats}
 use Rattle.gix_paint.proofs.Painter.treat.Goals as goal
 
 pub returns-then-not-begins-clause-ok : goal.returns-then-not-begins-clause-ok
@@ -8,5 +8,5 @@ returns-then-not-begins-clause-ok g c = skips (sym c.begins.ensures.turn ∙ c.i
 
 pub returns-clause-ok : goal.returns-clause-ok
 returns-clause-ok g c =
-    if_ok c.meet_all.result (λ x met. treats g.F.Find.objects g.F.Find.faulty c.args.entry c.as_slice.result.now c.in_ok-parent_ids.parent_ids.items (sym c.begins.ensures.turn ∙ c.if-not-begins.false) c.begins.ensures.takes c.begins.ensures.graph
+    IfOk-weaker c.meet_all.result _ _ (λ x met. treats g.F.Find.objects g.F.Find.faulty c.args.entry c.as_slice.result.now c.in_ok-parent_ids.parent_ids.items (sym c.begins.ensures.turn ∙ c.if-not-begins.false) c.begins.ensures.takes c.begins.ensures.graph
     c.in_ok-parent_ids.ensures.objects refl refl refl c.in_ok-parent_ids.ensures.parents c.as_slice.ensures met) c.meet_all.ensures.ok

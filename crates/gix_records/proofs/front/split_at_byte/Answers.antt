@@ -1,6 +1,4 @@
-use Rattle.std.proofs.Common.{ℕ, ◌+◌, get_or, take, Some, List, sym, ap, ◌∙◌, arith}
-use Rattle.std.specs.Option.{option_map}
-use Rattle.std.proofs.lemmas.Bool.{eqb-true, eq-eqb}
+use Rattle.std.proofs.Common.{ℕ, ◌+◌, get_or, take, Some, List, sym, ap, ◌∙◌, arith, option_map, eqb-true, eq-eqb}
 use Rattle.std.proofs.lemmas.List.{take_rest}
 use Rattle.gix_records.proofs.SplitFacts.{split_none, split_first}
 use Rattle.gix_records.proofs.front.split_at_byte.Goals as goal

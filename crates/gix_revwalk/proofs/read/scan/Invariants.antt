@@ -1,8 +1,6 @@
 use Rattle.std.proofs.Common.{◌≡◌, ◌≤◌, ◌++◌, List, Option, length}
-use Rattle.gix_hash.specs.declared.ObjectId.{ObjectId}
+use Rattle.gix_revwalk.proofs.Common.{ObjectId, commit_items_left, scanned}
 use Rattle.gix_object.specs.declared.decode.Error.{Error}
-use Rattle.gix_object.specs.CommitRefIter.{commit_items_left}
-use Rattle.gix_revwalk.specs.Texts.{scanned}
 use Rattle.gix_revwalk.proofs.read.scan.Given as goal
 
 -- what items show behind parents that were read before

@@ -1,5 +1,5 @@
 use Rattle.std.proofs.Common.{◌≡◌, true, sym, ap, ◌∙◌}
-use Rattle.gix_hash.specs.Id.{is_same}
+use Rattle.gix_revwalk.proofs.Common.{is_same}
 use Rattle.gix_hash.proofs.Ids.Equality.{eq_is_same}
 use Rattle.gix_hash.specs.contracts.ObjectIdPartialEq.TheImpl.{eq-value}
 use Rattle.gix_revwalk.proofs.NearRow.{found_near}

@@ -1,10 +1,7 @@
-use Rattle.std.proofs.Common.{sym, ap, ◌∙◌, rules}
-use Rattle.std.specs.Option.{option_map}
-use Rattle.gix_commitgraph.specs.GraphCommit.{row_of_commit}
-use Rattle.gix_commitgraph.specs.Rows.{row_of}
+use Rattle.std.proofs.Common.{sym, ap, ◌∙◌, rules, option_map}
+use Rattle.gix_revwalk.proofs.Common.{row_of_commit, row_of, ids_at}
 use Rattle.gix_revwalk.specs.Agreeing.{rows_in}
 use Rattle.gix_revwalk.specs.Reading.{is_read, absent, corrupt, dropped}
-use Rattle.gix_revwalk.specs.RowParents.{ids_at}
 use Rattle.gix_revwalk.proofs.row.read_row.Goals as goal
 
 pub returns-then-not-in_use-clause-reads : goal.returns-then-not-in_use-clause-reads

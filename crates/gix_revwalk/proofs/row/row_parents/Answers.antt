@@ -1,7 +1,7 @@
 use Rattle.std.proofs.Common.{◌≡◌, ◌<◌, ◌+◌, suc, ap, subst, ◌∙◌, arith, All, IfOk, length, length-append}
 use Rattle.std.proofs.lemmas.List.{length-map}
 use Rattle.gix_commitgraph.specs.Parents.{answer_of}
-use Rattle.gix_commitgraph.specs.GraphCommit.{row_of_commit}
+use Rattle.gix_revwalk.proofs.Common.{row_of_commit}
 use Rattle.gix_revwalk.proofs.Rows.{answered_ids, answered_at, behind, behind_none, read_on, rest_within}
 use Rattle.gix_revwalk.proofs.row.row_parents.Goals as goal
 

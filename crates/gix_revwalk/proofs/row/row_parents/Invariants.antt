@@ -1,6 +1,5 @@
 use Rattle.std.proofs.Common.{◌≡◌, ◌<◌, ◌≤◌, ◌+◌, All, IfOk, length}
-use Rattle.gix_commitgraph.specs.GraphCommit.{row_of_commit}
-use Rattle.gix_revwalk.specs.RowParents.{ids_at}
+use Rattle.gix_revwalk.proofs.Common.{row_of_commit, ids_at}
 use Rattle.gix_revwalk.proofs.Rows.{answered_ids, behind}
 use Rattle.gix_revwalk.proofs.row.row_parents.Given as goal
 

@@ -1,5 +1,5 @@
 use Rattle.std.proofs.Common.{Err, refl, ap, subst}
-use Rattle.gix_simple.specs.Walk.{Concludes, given_time, how_ended}
+use Rattle.gix_simple.proofs.Common.{Concludes, given_time, how_ended}
 use Rattle.gix_simple.proofs.TakesCommit.{concludes_stopped, concludes_broken, concludes_given}
 use Rattle.gix_simple.proofs.Simple.conclude.Goals as goal
 

@@ -1,6 +1,6 @@
 use Rattle.std.proofs.Common.{◌≡◌, sym, true, ◌∙◌}
 use Rattle.std.proofs.lemmas.Int.{to_z-of_z}
-use Rattle.gix_simple.specs.Walk.{cutoff, is_older, dropped}
+use Rattle.gix_simple.proofs.Common.{cutoff, is_older, dropped}
 use Rattle.gix_simple.proofs.TreatsId.{enqueued_so}
 use Rattle.gix_simple.proofs.Simple.enqueue.Goals as goal
 

@@ -1,4 +1,4 @@
-use Rattle.gix_simple.specs.Walk.{IsMade}
+use Rattle.gix_simple.proofs.Common.{IsMade}
 use Rattle.gix_simple.proofs.Simple.filtered.Given as goal
 
 -- the tips that have come are treated

@@ -1,5 +1,5 @@
 use Rattle.std.proofs.Common.{true, Some, Err, subst}
-use Rattle.gix_simple.specs.Walk.{FirstStep}
+use Rattle.gix_simple.proofs.Common.{FirstStep}
 use Rattle.gix_simple.proofs.FirstStep.{next_of_hidden, next_of_fault}
 use Rattle.gix_simple.proofs.Simple.first_step.Goals as goal
 

@@ -1,7 +1,6 @@
 use Rattle.std.proofs.Common.{sym, ap, subst, ◌∙◌, Ok, SFits, rules, w64}
 use Rattle.std.proofs.lemmas.Int.{to_z-of_z}
-use Rattle.gix_simple.specs.Inside.Steps.{in_rows}
-use Rattle.gix_simple.specs.Walk.{ReadsTime, unasked, from_row}
+use Rattle.gix_simple.proofs.Common.{in_rows, ReadsTime, unasked, from_row}
 use Rattle.gix_simple.proofs.TreatsId.{stored_time}
 use Rattle.gix_simple.proofs.Simple.parent_time.Goals as goal
 

@@ -1,7 +1,5 @@
 use Rattle.std.proofs.Common.{◌≡◌, length}
-use Rattle.gix_simple.specs.declared.Error.{Error}
-use Rattle.gix_simple.specs.Walk.{SimpleWalk}
-use Rattle.gix_simple.specs.Building.{FailsAtTip, SortsAll}
+use Rattle.gix_simple.proofs.Common.{Error, SimpleWalk, FailsAtTip, SortsAll}
 use Rattle.gix_simple.proofs.Simple.sort_tips.Given as goal
 
 -- to sort the tips that are left is to sort them all, and a fault among them is one of all

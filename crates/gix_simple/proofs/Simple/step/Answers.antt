@@ -1,7 +1,7 @@
 use Rattle.std.proofs.Common.{Some, Err, sym, subst}
 use Rattle.gix_simple.specs.declared.Error.TheVariants as error
-use Rattle.gix_simple.specs.Inside.PendingQueue.{TakesOut}
-use Rattle.gix_simple.specs.Walk.{Steps, no_memory, time_order}
+use Rattle.gix_simple.proofs.Common.{TakesOut, Steps, time_order}
+use Rattle.gix_simple.specs.Walk.{no_memory}
 use Rattle.gix_simple.proofs.TakesCommit.{steps_taken, steps_ended}
 use Rattle.gix_simple.proofs.Simple.step.Goals as goal
 

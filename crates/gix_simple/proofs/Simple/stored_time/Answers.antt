@@ -1,6 +1,6 @@
 use Rattle.std.proofs.Common.{sym, ap, ◌∙◌, SFits, rules, w64}
 use Rattle.std.proofs.lemmas.Int.{to_z-of_z}
-use Rattle.gix_revwalk.specs.Commits.{time_of}
+use Rattle.gix_simple.proofs.Common.{time_of}
 use Rattle.gix_revwalk.proofs.CommitterTime.{found_read, found_unread, time_read}
 use Rattle.gix_simple.proofs.Simple.stored_time.Goals as goal
 

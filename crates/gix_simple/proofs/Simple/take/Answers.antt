@@ -1,8 +1,6 @@
 use Rattle.std.proofs.Common.{[], Some, None, Err, ap, subst, ◌∙◌, if◌then◌else◌}
 use Rattle.gix_revwalk.specs.Reading.{rows_of, ReadsRow}
-use Rattle.gix_revwalk.specs.RowParents.{IsUnrowed, kept_rows}
-use Rattle.gix_simple.specs.Walk.{Takes}
-use Rattle.gix_commitgraph.specs.Rows.{row_of}
+use Rattle.gix_simple.proofs.Common.{IsUnrowed, kept_rows, Takes, row_of}
 use Rattle.gix_revwalk.proofs.Rows.{reads_lent, read_in_use, passes}
 use Rattle.gix_simple.proofs.TakesCommit.{takes_no_memory, takes_unrowed}
 use Rattle.gix_simple.proofs.Simple.take.Goals as goal

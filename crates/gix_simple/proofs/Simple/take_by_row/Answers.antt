@@ -1,5 +1,5 @@
 use Rattle.std.proofs.Common.{ap, ◌∙◌}
-use Rattle.gix_revwalk.specs.Commits.{by_mode}
+use Rattle.gix_simple.proofs.Common.{by_mode}
 use Rattle.gix_simple.proofs.TakesCommit.{takes_by_row}
 use Rattle.gix_simple.proofs.Simple.take_by_row.Goals as goal
 

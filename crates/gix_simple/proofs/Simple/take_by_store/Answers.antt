@@ -1,12 +1,8 @@
 use Rattle.std.proofs.Common.{◌≡◌, sym, subst, ap, ◌∙◌, None, Ok, Err}
 use Rattle.gix_object.specs.Find.{FindsKindInto}
-use Rattle.gix_hash.specs.Id.{kind_of}
-use Rattle.gix_commitgraph.specs.Rows.{row_of}
-use Rattle.gix_object.specs.CommitItems.{commit_items}
+use Rattle.gix_simple.proofs.Common.{kind_of, row_of, commit_items, scanned, Takes}
 use Rattle.gix_object.specs.CommitRefIter.{commit_items_left}
 use Rattle.gix_object.specs.declared.Kind.TheVariants as object
-use Rattle.gix_revwalk.specs.Texts.{scanned}
-use Rattle.gix_simple.specs.Walk.{Takes}
 use Rattle.gix_simple.proofs.TakesCommit.{takes_no_memory, takes_missing, takes_by_store}
 use Rattle.gix_simple.proofs.Simple.take_by_store.Goals as goal
 

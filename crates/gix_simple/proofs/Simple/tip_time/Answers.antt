@@ -1,6 +1,6 @@
 use Rattle.std.proofs.Common.{subst, SFits, rules, w64}
 use Rattle.std.proofs.lemmas.Int.{to_z-of_z}
-use Rattle.gix_revwalk.specs.Commits.{HasTime}
+use Rattle.gix_simple.proofs.Common.{HasTime}
 use Rattle.gix_revwalk.proofs.CommitterTime.{found_read}
 use Rattle.gix_simple.proofs.Simple.tip_time.Goals as goal
 

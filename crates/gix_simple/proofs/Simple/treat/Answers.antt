@@ -1,8 +1,7 @@
 use Rattle.std.proofs.Common.{subst, ap, Err, SFits, rules, w64, ◌∙◌}
 use Rattle.std.proofs.lemmas.Int.{to_z-of_z}
 use Rattle.std.proofs.lemmas.Result.{err_from_is_err_and}
-use Rattle.gix_simple.specs.Walk.{Asks}
-use Rattle.gix_simple.specs.Inside.Steps.{in_rows}
+use Rattle.gix_simple.proofs.Common.{Asks, in_rows}
 use Rattle.gix_simple.proofs.TreatsId.{met_new, treats_met, treats_unmet, treats_refused, treats_time_fails, treats_accepted, treats_stopped}
 use Rattle.gix_simple.proofs.Simple.treat.Goals as goal
 

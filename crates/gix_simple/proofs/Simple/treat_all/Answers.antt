@@ -1,7 +1,8 @@
 use Rattle.std.proofs.Common.{ap, Err, ◌∙◌}
 use Rattle.std.proofs.lemmas.Result.{err_from_is_err_and}
-use Rattle.gix_simple.specs.Walk.{GoesOn}
-use Rattle.gix_simple.proofs.TreatsId.{stopped_first, treats_first, treats_none}
+use Rattle.gix_simple.proofs.Common.{GoesOn, nil_from_length}
+use Rattle.gix_simple.specs.Walk.{none, more}
+use Rattle.gix_simple.proofs.TreatsId.{stopped_first}
 use Rattle.gix_simple.proofs.Simple.treat_all.Goals as goal
 
 pub returns-in_err-treat-clause-treats : goal.returns-in_err-treat-clause-treats
@@ -11,9 +12,9 @@ returns-in_err-treat-clause-treats g c =
 
 pub loop-id-preserved : goal.loop-id-preserved
 loop-id-preserved g c = record {
-  treats = λ how new rest. c.loop-id.invariant.treats how new (treats_first g.F.Find.objects g.F.Find.faulty g.P.Predicate.answers _ _ _ _ c.in-Some.ensures.cases.0 c.in_ok-treat.ensures.treats rest);
+  treats = λ how new rest. c.loop-id.invariant.treats how new (rw c.in-Some.ensures.cases.0 (more c.in_ok-treat.ensures.treats rest));
   asks = c.in_ok-treat.ensures.asks;
 }
 
 pub returns-clause-treats : goal.returns-clause-treats
-returns-clause-treats g c = c.loop-id.invariant.treats GoesOn _ (treats_none g.F.Find.objects g.F.Find.faulty g.P.Predicate.answers _ _ c.in_default.ensures.cases)
+returns-clause-treats g c = c.loop-id.invariant.treats GoesOn _ (rw (nil_from_length _ c.in_default.ensures.cases) none)

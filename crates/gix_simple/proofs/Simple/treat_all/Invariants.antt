@@ -1,6 +1,5 @@
 use Rattle.std.proofs.Common.{length}
-use Rattle.gix_simple.specs.Inside.Steps.{in_rows}
-use Rattle.gix_simple.specs.Walk.{SimpleWalk, Treated, TreatsAll}
+use Rattle.gix_simple.proofs.Common.{in_rows, SimpleWalk, Treated, TreatsAll}
 use Rattle.gix_simple.proofs.Simple.treat_all.Given as goal
 
 -- to treat the ids that are left is to treat them all

@@ -1,5 +1,5 @@
 use Rattle.std.proofs.Common.{sym, ap, ◌∙◌}
-use Rattle.gix_simple.specs.Walk.{initial, later}
+use Rattle.gix_simple.proofs.Common.{initial, later}
 use Rattle.gix_simple.proofs.FirstStep.{progresses}
 use Rattle.gix_simple.proofs.SimpleIterator.next.Goals as goal
 

@@ -1,6 +1,5 @@
-use Rattle.std.specs.Prelude.{filter, not}
+use Rattle.std.proofs.Common.{filter, not, ◌≡◌, ◌++◌, length}
 use Rattle.std.specs.FinSet as set
-use Rattle.std.proofs.Common.{◌≡◌, ◌++◌, length}
 use Rattle.gix_simple.proofs.hide.visible.Given as goal
 
 -- the tips already shown, and the tips among the rest that will be, are all

@@ -1,5 +1,5 @@
 use Rattle.std.proofs.Common.{◌≡◌, ◌++◌, length}
-use Rattle.gix_revwalk.specs.PriorityQueue.{values}
+use Rattle.gix_simple.proofs.Common.{values}
 use Rattle.gix_simple.proofs.pending.list_of.Given as goal
 
 -- the commits that were listed and those that wait are all

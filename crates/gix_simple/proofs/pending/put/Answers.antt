@@ -1,6 +1,6 @@
 use Rattle.std.proofs.Common.{◌≡◌, SFits, rules, subst, w64}
 use Rattle.std.proofs.lemmas.Int.{to_z-of_z}
-use Rattle.gix_simple.specs.Inside.PendingQueue.{time_key}
+use Rattle.gix_simple.proofs.Common.{time_key}
 use Rattle.gix_simple.proofs.TimeKeys.{keyed_more, values_more}
 use Rattle.gix_simple.proofs.pending.put.Goals as goal
 

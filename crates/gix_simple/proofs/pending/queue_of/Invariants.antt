@@ -1,6 +1,5 @@
 use Rattle.std.proofs.Common.{◌++◌, IsPermutation, length}
-use Rattle.gix_revwalk.specs.PriorityQueue.{values}
-use Rattle.gix_simple.specs.Inside.PendingQueue.{AreKeyed}
+use Rattle.gix_simple.proofs.Common.{values, AreKeyed}
 use Rattle.gix_simple.proofs.pending.queue_of.Given as goal
 
 -- the commits that were put in and those that are left are all

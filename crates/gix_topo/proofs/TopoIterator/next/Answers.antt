@@ -1,6 +1,5 @@
-use Rattle.std.proofs.Common.{ap, subst, inl, inr, ◌∙◌}
-use Rattle.std.specs.Prelude.{◌≡◌, ◌⊎◌, [], Some, None, Ok, Err}
-use Rattle.gix_topo.specs.Inside.Releasing.{walk_of}
+use Rattle.std.proofs.Common.{ap, subst, inl, inr, ◌∙◌, ◌≡◌, ◌⊎◌, [], Some, None, Ok, Err}
+use Rattle.gix_topo.proofs.Common.{walk_of}
 use Rattle.gix_topo.proofs.Taking.TakeNext.{turn_ended, turn_failed, turn_given, turn_refused, turn_less, turn_asks, turn_spent, progresses}
 use Rattle.gix_topo.proofs.TopoIterator.next.Goals as goal
 

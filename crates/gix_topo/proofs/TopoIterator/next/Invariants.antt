@@ -1,10 +1,5 @@
-use Rattle.std.specs.Prelude.{◌≡◌, ◌⊎◌, [], Option, Result}
-use Rattle.gix_revwalk.specs.declared.Info.{Info}
-use Rattle.gix_topo.specs.declared.Error.{Error}
-use Rattle.gix_topo.specs.Inside.Releasing.{walk_of}
-use Rattle.gix_topo.specs.Laws.{answers_left}
-use Rattle.gix_topo.specs.Inside.Steady.{IsOpen}
-use Rattle.gix_topo.specs.Walk.{TopoWalk, Next}
+use Rattle.std.proofs.Common.{◌≡◌, ◌⊎◌, [], Option, Result}
+use Rattle.gix_topo.proofs.Common.{Info, Error, walk_of, answers_left, IsOpen, TopoWalk, Next}
 use Rattle.gix_topo.proofs.TopoIterator.next.Given as goal
 
 -- what comes of the walk now comes of it as it was

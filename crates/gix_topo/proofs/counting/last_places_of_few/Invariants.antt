@@ -1,5 +1,5 @@
 use Rattle.std.proofs.Common.{◌≡◌, ◌++◌, length}
-use Rattle.gix_topo.specs.TopoOrder.{last_places}
+use Rattle.gix_topo.proofs.Common.{last_places}
 use Rattle.gix_topo.proofs.counting.last_places_of_few.Given as goal
 
 -- what was kept, and what the ids that are left keep, are all

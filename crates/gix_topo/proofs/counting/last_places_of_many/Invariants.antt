@@ -1,8 +1,6 @@
 use Rattle.std.proofs.Common.{◌≡◌, ◌<◌, ◌++◌, List, length}
 use Rattle.std.specs.FinSet as set
-use Rattle.gix_hash.specs.declared.ObjectId.{ObjectId}
-use Rattle.gix_hash.specs.Id.{is_among}
-use Rattle.gix_topo.specs.TopoOrder.{last_places}
+use Rattle.gix_topo.proofs.Common.{ObjectId, is_among, last_places}
 use Rattle.gix_topo.proofs.counting.last_places_of_many.Given as goal
 
 -- what is behind the ids that are left is there at its last places

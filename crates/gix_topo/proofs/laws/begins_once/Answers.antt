@@ -1,4 +1,4 @@
-use Rattle.gix_topo.proofs.Run.Begun.{first_once}
+use Rattle.gix_topo.proofs.Run.Corollaries.{first_once}
 use Rattle.gix_topo.proofs.laws.begins_once.Goals as goal
 
 pub returns : goal.returns

@@ -1,4 +1,4 @@
-use Rattle.gix_topo.proofs.Run.Generations.{counts}
+use Rattle.gix_topo.proofs.Run.EachGiven.{counts}
 use Rattle.gix_topo.proofs.laws.counts.Goals as goal
 
 pub returns : goal.returns

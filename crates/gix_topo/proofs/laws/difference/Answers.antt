@@ -1,4 +1,4 @@
-use Rattle.gix_topo.proofs.Run.Difference.{difference}
+use Rattle.gix_topo.proofs.Run.Corollaries.{difference}
 use Rattle.gix_topo.proofs.laws.difference.Goals as goal
 
 pub returns : goal.returns

@@ -1,4 +1,4 @@
-use Rattle.gix_topo.proofs.Run.TextDifference.{text_difference}
+use Rattle.gix_topo.proofs.Run.Corollaries.{text_difference}
 use Rattle.gix_topo.proofs.laws.faultless_difference.Goals as goal
 
 pub returns : goal.returns

@@ -1,4 +1,4 @@
-use Rattle.gix_topo.proofs.Run.TextDifference.{each_by_text}
+use Rattle.gix_topo.proofs.Run.Corollaries.{each_by_text}
 use Rattle.gix_topo.proofs.laws.faultless_once.Goals as goal
 
 pub returns : goal.returns

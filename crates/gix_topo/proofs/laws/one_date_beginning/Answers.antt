@@ -1,4 +1,4 @@
-use Rattle.gix_topo.specs.WalkSet.{IsInWalk}
+use Rattle.gix_topo.proofs.Common.{IsInWalk}
 use Rattle.gix_topo.proofs.Run.OneList.{first_date}
 use Rattle.gix_topo.proofs.laws.one_date_beginning.Goals as goal
 

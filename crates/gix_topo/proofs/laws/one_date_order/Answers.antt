@@ -1,4 +1,4 @@
-use Rattle.gix_topo.specs.WalkSet.{IsInWalk}
+use Rattle.gix_topo.proofs.Common.{IsInWalk}
 use Rattle.gix_topo.proofs.Run.OneList.{same_date}
 use Rattle.gix_topo.proofs.laws.one_date_order.Goals as goal
 

@@ -1,4 +1,4 @@
-use Rattle.gix_topo.proofs.Run.ParentsKnown.{parents_known}
+use Rattle.gix_topo.proofs.Run.EachGiven.{parents_known}
 use Rattle.gix_topo.proofs.laws.parents_known.Goals as goal
 
 pub returns : goal.returns

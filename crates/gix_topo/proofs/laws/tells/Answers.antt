@@ -1,4 +1,4 @@
-use Rattle.gix_topo.proofs.Run.Generations.{tells}
+use Rattle.gix_topo.proofs.Run.EachGiven.{tells}
 use Rattle.gix_topo.proofs.laws.tells.Goals as goal
 
 pub returns : goal.returns

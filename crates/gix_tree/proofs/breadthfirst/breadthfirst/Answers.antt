@@ -1,9 +1,5 @@
 use Rattle.std.proofs.Common.{◌≡◌, ap, ◌∙◌}
-use Rattle.gix_hash.specs.Id.{kind_of}
-use Rattle.gix_object.specs.TreeItems.{tree_items}
-use Rattle.gix_object.specs.TreeRefIter.{items_left}
-use Rattle.gix_tree.specs.Errors.{error_of_find}
-use Rattle.gix_tree.specs.Walk.{items_of_object}
+use Rattle.gix_tree.proofs.Common.{kind_of, tree_items, items_left, error_of_find, items_of_object}
 use Rattle.gix_tree.proofs.Levels.Loop.{so_far_start, so_far_shown, so_far_found, so_far_look_up_fails, so_far_whole}
 use Rattle.gix_tree.proofs.Shown.{failed_so}
 use Rattle.gix_tree.proofs.Work.Loops.{turn_lessens}

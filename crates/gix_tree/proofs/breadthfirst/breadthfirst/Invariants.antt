@@ -1,5 +1,5 @@
 use Rattle.std.proofs.Common.{[]}
-use Rattle.gix_object.specs.TreeRefIter.{items_left}
+use Rattle.gix_tree.proofs.Common.{items_left}
 use Rattle.gix_tree.proofs.Levels.Loop.{LevelSoFar}
 use Rattle.gix_tree.proofs.Work.Loops.{waiting_work}
 use Rattle.gix_tree.proofs.breadthfirst.breadthfirst.Given as goal

@@ -1,6 +1,5 @@
-use Rattle.std.proofs.Common.{◌≡◌, Bool, true, false, sym, ◌∙◌}
-use Rattle.gix_object.specs.TreeItems.{is_tree}
-use Rattle.gix_object.specs.TreeRefIter.{entry_of}
+use Rattle.std.proofs.Common.{◌≡◌, true, false, sym, ◌∙◌}
+use Rattle.gix_tree.proofs.Common.{is_tree, entry_of}
 use Rattle.gix_tree.specs.declared.breadthfirst.Error.TheVariants as error
 use Rattle.gix_tree.proofs.Shown.{failed_so, push_refused, visit_refused, visit_breaks, visit_leaves, queue_ends, queue_goes_on}
 use Rattle.gix_tree.proofs.breadthfirst.show.Goals as goal
@@ -21,9 +20,6 @@ returns-in_err-enqueue-in-Continue g c =
     rw (failed_so _ c.from_residual-in_err-enqueue-in-Continue.result c.from_residual-in_err-enqueue-in-Continue.ensures.1)
     (queue_ends g.V.Visit.steps (entry_of c.args.entry.now) c.args.queue.now c.args.delegate.now _ _ _ _ _ tree c.in_ok-push_path_component.ensures (rw (c.in-Continue.is, c.if-into.true) at c.in_ok-see.ensures) c.in_err-enqueue-in-Continue.ensures)
 
-no_true : (b : Bool) → b ≡ false → b ≡ true → ⊥
-no_true b f t = cc
-
 pub returns : goal.returns
 returns g c = elim c.if-into.branch [
   | then-into+then-is_tree+in_ok-enqueue-in-Continue w ↦
@@ -32,7 +28,7 @@ returns g c = elim c.if-into.branch [
   | else-into w ↦
       let plain : c.in-Continue.into ≡ true → is_tree c.args.entry.now.mode.value ≡ false = elim w.else-into.branch [
         | else-into-via-then-into+else-is_tree v ↦ λ t. sym v.is_tree.ensures ∙ v.if-is_tree.false
-        | else-into-via-else-into v ↦ λ t. absurd (no_true _ v.if-into.false t)
+        | else-into-via-else-into v ↦ λ t. cc (v.if-into.false, t)
       ] in
       rw w.queue-is (visit_leaves g.V.Visit.steps (entry_of c.args.entry.now) c.args.queue.now c.args.delegate.now c.in-Continue.into _ _ _ plain c.in_ok-push_path_component.ensures (rw c.in-Continue.is at c.in_ok-see.ensures) (rw w.delegate-is at c.pop_path_component.ensures))
 ]

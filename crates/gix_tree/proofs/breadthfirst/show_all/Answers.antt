@@ -1,5 +1,5 @@
 use Rattle.std.proofs.Common.{◌≡◌, ◌∷◌, Ok, Err}
-use Rattle.gix_object.specs.TreeRefIter.{entry_of, items_left}
+use Rattle.gix_tree.proofs.Common.{entry_of, items_left}
 use Rattle.gix_tree.specs.declared.breadthfirst.Error.TheVariants as error
 use Rattle.gix_tree.specs.Inside.ShowsEntry as shows
 use Rattle.gix_tree.proofs.Shown.{failed_so}

@@ -1,8 +1,5 @@
 use Rattle.std.proofs.Common.{Result, length}
-use Rattle.gix_object.specs.TreeRefIter.{items_left}
-use Rattle.gix_tree.specs.declared.breadthfirst.Error.{Error}
-use Rattle.gix_tree.specs.Inside.LevelQueue.{LevelQueue}
-use Rattle.gix_tree.specs.Inside.ShowsEntry.{ShowsTree}
+use Rattle.gix_tree.proofs.Common.{items_left, Error, LevelQueue, ShowsTree}
 use Rattle.gix_tree.proofs.breadthfirst.show_all.Given as goal
 
 -- to show the entries that are left is to show them all

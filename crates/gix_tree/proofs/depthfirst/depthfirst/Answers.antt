@@ -1,9 +1,7 @@
 use Rattle.std.proofs.Common.{◌≡◌, ◌∷◌, ◌++◌, [], Ok, reverse, refl, sym, ap, subst, ◌∙◌, arith}
 use Rattle.gix_tree.specs.declared.breadthfirst.Error.TheVariants as error
 use Rattle.gix_tree.specs.declared.depthfirst.Stop.TheVariants as stop
-use Rattle.gix_tree.specs.Inside.ShowsBelow.{ShowsUpTo}
-use Rattle.gix_tree.specs.Errors.{error_of_find}
-use Rattle.gix_tree.specs.Inside.Stack.{ids_down, items_at}
+use Rattle.gix_tree.proofs.Common.{ShowsUpTo, error_of_find, ids_down, items_at}
 use Rattle.gix_tree.proofs.Depth.Stack.{AreWithin}
 use Rattle.gix_tree.proofs.Depth.Loop.{so_far_shown, so_far_into_fails, so_far_into_no_memory, so_far_whole, root_fails}
 use Rattle.gix_tree.proofs.Depth.Turns.{stack_more, within_again, walk_again, walk_starts, walk_descends, walk_resumes, work_again, walk_descends_less, walk_resumes_less}

@@ -1,5 +1,5 @@
 use Rattle.std.proofs.Common.{◌∷◌, reverse}
-use Rattle.gix_tree.specs.Inside.Stack.{ids_down, items_at}
+use Rattle.gix_tree.proofs.Common.{ids_down, items_at}
 use Rattle.gix_tree.proofs.Depth.Stack.{AreWithin, left_above}
 use Rattle.gix_tree.proofs.Depth.Loop.{DepthSoFar}
 use Rattle.gix_tree.proofs.Work.Loops.{stack_work}

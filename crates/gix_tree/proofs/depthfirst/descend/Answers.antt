@@ -1,6 +1,5 @@
 use Rattle.std.proofs.Common.{◌≡◌, ◌∷◌, true, false, reverse, sym, ◌∙◌}
-use Rattle.gix_hash.specs.Id.{is_among}
-use Rattle.gix_tree.specs.Inside.Stack.{ids_down}
+use Rattle.gix_tree.proofs.Common.{is_among, ids_down}
 use Rattle.gix_tree.specs.declared.breadthfirst.Error.TheVariants as error
 use Rattle.gix_tree.specs.Inside.ShowsBelow as shows
 use Rattle.gix_tree.proofs.Shown.{failed_so}

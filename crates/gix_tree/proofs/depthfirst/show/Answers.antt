@@ -1,6 +1,5 @@
 use Rattle.std.proofs.Common.{◌≡◌, ◌∷◌, Bool, true, false, reverse, ◌⊎◌, inl, inr, sym, ◌∙◌}
-use Rattle.gix_object.specs.TreeRefIter.{entry_of}
-use Rattle.gix_tree.specs.Inside.Stack.{ids_down}
+use Rattle.gix_tree.proofs.Common.{entry_of, ids_down}
 use Rattle.gix_tree.specs.declared.breadthfirst.Error.TheVariants as error
 use Rattle.gix_tree.proofs.Shown.{failed_so}
 use Rattle.gix_tree.proofs.Depth.Descent.{push_refused, visit_refused, tree_breaks, plain_breaks, visit_leaves, descent_ends, descent_goes_on}
@@ -26,11 +25,8 @@ returns-else-is_tree-clause-shows g c =
     let k = c.in_default.is in
     plain_breaks g.V.Visit.steps (c.args.tree.now ∷ ids_down (reverse c.args.above.now.items)) (entry_of c.args.entry.now) c.args.delegate.now c.in_default.field-0 _ _ (sym c.is_tree-is_tree.ensures ∙ c.if-is_tree.false) c.in_ok-push_path_component.ensures (rw k at c.in_ok-answer.ensures)
 
-no_true : (b : Bool) → b ≡ false → b ≡ true → ⊥
-no_true b f t = cc
-
 plain_or_not : (into tree : Bool) → (into ≡ false) ⊎ ((into ≡ true) × (tree ≡ false)) → into ≡ true → tree ≡ false
-plain_or_not into plain (inl f) t = absurd (no_true into f t)
+plain_or_not into plain (inl f) t = cc
 plain_or_not into plain (inr h) t = h.1
 
 pub returns-then-not-into-clause-shows : goal.returns-then-not-into-clause-shows

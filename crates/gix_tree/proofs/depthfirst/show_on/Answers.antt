@@ -1,6 +1,5 @@
 use Rattle.std.proofs.Common.{◌≡◌, ◌∷◌, drop, Ok, Err, sym, ◌∙◌}
-use Rattle.gix_object.specs.TreeItems.{tree_items}
-use Rattle.gix_object.specs.TreeRefIter.{entry_of, items_left, bytes_left}
+use Rattle.gix_tree.proofs.Common.{tree_items, entry_of, items_left, bytes_left}
 use Rattle.gix_tree.specs.declared.breadthfirst.Error.TheVariants as error
 use Rattle.gix_tree.specs.Inside.ShowsBelow as shows
 use Rattle.gix_tree.proofs.Depth.Descent.{stops_at}

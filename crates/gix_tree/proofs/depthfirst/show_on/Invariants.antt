@@ -1,11 +1,5 @@
 use Rattle.std.proofs.Common.{◌≡◌, ◌∷◌, Result, length, reverse}
-use Rattle.gix_hash.specs.Id.{kind_of}
-use Rattle.gix_object.specs.TreeRefIter.{bytes_left, id_kind, items_left, IsEndOf}
-use Rattle.gix_tree.specs.declared.breadthfirst.Error.{Error}
-use Rattle.gix_tree.specs.declared.depthfirst.Stop.{Stop}
-use Rattle.gix_tree.specs.Inside.ShowsBelow.{ShowsUpTo}
-use Rattle.gix_tree.specs.Inside.Stack.{ids_down, items_at}
-use Rattle.gix_tree.specs.Visits.{Items}
+use Rattle.gix_tree.proofs.Common.{kind_of, bytes_left, id_kind, items_left, IsEndOf, Error, Stop, ShowsUpTo, ids_down, items_at, Items}
 use Rattle.gix_tree.proofs.depthfirst.show_on.Given as goal
 
 -- to show the entries that are left is to show all from the next one on

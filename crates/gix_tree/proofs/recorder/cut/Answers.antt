@@ -1,5 +1,5 @@
 use Rattle.std.proofs.Common.{◌≡◌, take, subst, ap, ◌∙◌, arith}
-use Rattle.gix_tree.specs.Recorder.{without_name}
+use Rattle.gix_tree.proofs.Common.{without_name}
 use Rattle.gix_tree.proofs.Recording.Calls.{without_plain, without_slash}
 use Rattle.gix_tree.proofs.recorder.cut.Goals as goal
 use Rattle.gix_tree.proofs.recorder.cut.Goals.{else-loop-len-test, then-loop-len-test+then-index-eq47}

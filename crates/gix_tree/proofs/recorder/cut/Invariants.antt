@@ -1,5 +1,5 @@
 use Rattle.std.proofs.Common.{◌≡◌, ◌≤◌, length, take}
-use Rattle.gix_tree.specs.Recorder.{without_name}
+use Rattle.gix_tree.proofs.Common.{without_name}
 use Rattle.gix_tree.proofs.recorder.cut.Given as goal
 
 -- no `/` is behind the first bytes that are left

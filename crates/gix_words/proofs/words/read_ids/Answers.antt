@@ -1,6 +1,5 @@
-use Rattle.std.specs.Prelude.{◌≡◌, ◌≢◌, nat_lt, ℕ, ◌+◌, ◌-◌, ◌<◌, List, [], ◌∷◌, ◌++◌, length, map, take, drop, Bool, true, false, if◌then◌else◌, Result, Ok, Err, string_bytes}
-use Rattle.std.proofs.Common.{Vec, Global, add-one, arith, rules, refl, sym, ap, subst, ◌∙◌, append_assoc, get_or, drop-cons}
-use Rattle.std.proofs.lemmas.List.{take_all}
+use Rattle.std.proofs.Common.{◌≡◌, ◌≢◌, nat_lt, ℕ, ◌+◌, ◌-◌, ◌<◌, List, [], ◌∷◌, ◌++◌, length, map, take, drop, Bool, true, false, if◌then◌else◌, Result, Ok, Err, string_bytes, Vec, Global, add-one, arith, rules, refl, sym, ap, subst}
+use Rattle.std.proofs.Common.{◌∙◌, append_assoc, get_or, drop-cons, take_all}
 use Rattle.gix_hash.specs.declared.HexError.{HexError}
 use Rattle.gix_hash.specs.declared.ObjectId.{ObjectId}
 use Rattle.gix_hash.specs.Id.{id_from_hex}

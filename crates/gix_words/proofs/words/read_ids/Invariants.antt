@@ -1,5 +1,4 @@
-use Rattle.std.specs.Prelude.{Result, Ok, Err, ◌++◌}
-use Rattle.std.proofs.Common.{◌≡◌, ◌+◌, map, drop, string_bytes}
+use Rattle.std.proofs.Common.{Result, Ok, Err, ◌++◌, ◌≡◌, ◌+◌, map, drop, string_bytes}
 use Rattle.gix_words.specs.declared.fault.Fault.{Fault}
 use Rattle.gix_words.specs.Words.{Ids, ids_from}
 use Rattle.gix_words.proofs.words.read_ids.Given as goal

@@ -1,5 +1,4 @@
-use Rattle.std.proofs.Common.{◌≡◌, ◌+◌, length, ap, ap₂, arith, ◌∙◌}
-use Rattle.std.specs.Prelude.{Result, Ok, Err, OnErr}
+use Rattle.std.proofs.Common.{◌≡◌, ◌+◌, length, ap, ap₂, arith, ◌∙◌, Result, Ok, Err, OnErr}
 use Rattle.std.specs.FinMap as map
 use Rattle.gix_object.specs.MemoryStore.{objects_at}
 use Rattle.gix_object.proofs.MemoryStore.{objects_kept, object_stored, within_stored}

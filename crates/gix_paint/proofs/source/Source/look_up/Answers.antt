@@ -1,10 +1,8 @@
-use Rattle.std.proofs.Common.{◌≡◌, refl, sym, ap, ◌∙◌, None, SFits, rules, w64}
+use Rattle.std.proofs.Common.{◌≡◌, refl, sym, ap, ◌∙◌, None, SFits, rules, w64, option_map}
 use Rattle.std.proofs.lemmas.Int.{to_z-of_z}
-use Rattle.std.specs.Option.{option_map}
 use Rattle.gix_commitgraph.specs.GraphCommit.{row_of_commit}
-use Rattle.gix_commitgraph.specs.Rows.{row_of}
-use Rattle.gix_paint.specs.declared.source.Generation.TheVariants.{Told}
-use Rattle.gix_paint.specs.Inside.Painter.{rows_in, graph_in_use, by_row, by_store}
+use Rattle.gix_paint.proofs.Common.{row_of, Told, graph_in_use, by_row, by_store}
+use Rattle.gix_paint.specs.Inside.Painter.{rows_in}
 use Rattle.gix_paint.proofs.source.Source.look_up.Goals as goal
 use Rattle.gix_paint.proofs.source.Source.look_up.Goals.{in_default-via-in-None-1, in_default-via-in-Some+in-None-1}
 

@@ -1,10 +1,7 @@
 use Rattle.std.proofs.Common.{◌≡◌, Err, IfErr, sym, subst, ◌∙◌}
-use Rattle.std.proofs.lemmas.Result.{err_from_is_err_and}
-use Rattle.gix_paint.specs.declared.Hidden.{Hidden}
+use Rattle.gix_paint.proofs.Common.{err_from_is_err_and, Hidden, graph_in_use, ReadsParents, ReadFails, IsFaultAt}
 use Rattle.gix_revwalk.specs.Agreeing.{rows_in}
 use Rattle.gix_revwalk.specs.Reading.{ReadsRow}
-use Rattle.gix_paint.specs.Inside.Painter.{graph_in_use, ReadsParents, ReadFails}
-use Rattle.gix_paint.specs.Painting.{IsFaultAt}
 use Rattle.gix_paint.proofs.WholeOrFault.{row_read, store_read, unread}
 use Rattle.gix_paint.proofs.source.Source.parents_of.Goals as goal
 

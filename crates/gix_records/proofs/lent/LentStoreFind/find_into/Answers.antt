@@ -1,5 +1,4 @@
-use Rattle.std.proofs.Common.{ℕ, List, ◌++◌, Some, take, drop, ap, sym, ◌-◌, ◌∙◌}
-use Rattle.std.specs.Option.{option_map}
+use Rattle.std.proofs.Common.{ℕ, List, ◌++◌, Some, take, drop, ap, sym, ◌-◌, ◌∙◌, option_map}
 use Rattle.std.specs.FinMap as map
 use Rattle.gix_object.specs.MemoryStore.{object_at}
 use Rattle.gix_object.proofs.MemoryStore.{get_stored}

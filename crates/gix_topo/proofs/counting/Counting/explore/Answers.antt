@@ -1,7 +1,7 @@
 use Rattle.std.proofs.Common.{refl, sym, ◌∙◌}
 use Rattle.gix_topo.specs.Inside.Exploring.{itself, further}
 use Rattle.gix_topo.proofs.Counts.ExploreEnds.{steps_smaller, same_on}
-use Rattle.gix_frontier.proofs.Results.{err_from}
+use Rattle.gix_topo.proofs.Common.{err_from}
 use Rattle.gix_topo.proofs.counting.Counting.explore.Goals as goal
 
 pub loop-self-init : goal.loop-self-init

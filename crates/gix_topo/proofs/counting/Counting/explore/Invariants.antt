@@ -1,4 +1,4 @@
-use Rattle.gix_topo.specs.Inside.Exploring.{IsSamePlan, Explores}
+use Rattle.gix_topo.proofs.Common.{IsSamePlan, Explores}
 use Rattle.gix_topo.proofs.Counts.ExploreEnds.{names_of}
 use Rattle.gix_topo.proofs.Counts.Frontier.{to_do}
 use Rattle.gix_topo.proofs.counting.Counting.explore.Given as goal

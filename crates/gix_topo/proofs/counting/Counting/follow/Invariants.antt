@@ -1,7 +1,5 @@
 use Rattle.std.proofs.Common.{◌≡◌, length}
-use Rattle.gix_frontier.specs.declared.Frontier.{Frontier}
-use Rattle.gix_revwalk.specs.Reading.{rows_of}
-use Rattle.gix_topo.specs.Inside.Exploring.{Follows}
+use Rattle.gix_topo.proofs.Common.{Frontier, rows_of, Follows}
 use Rattle.gix_topo.proofs.counting.Counting.follow.Given as goal
 
 -- to follow the parents that are left is to follow them all

@@ -1,5 +1,5 @@
 use Rattle.std.proofs.Common.{inr, subst}
-use Rattle.gix_topo.specs.Inside.Exploring.{IsRested}
+use Rattle.gix_topo.proofs.Common.{IsRested}
 use Rattle.gix_topo.proofs.Counts.Rest.{all_below}
 use Rattle.gix_topo.proofs.counting.Counting.is_pending.Goals as goal
 

@@ -1,7 +1,5 @@
-use Rattle.std.proofs.Common.{ap, sym, ◌∙◌}
-use Rattle.std.proofs.Common.{min}
-use Rattle.gix_topo.specs.Depth.{least, known_generation}
-use Rattle.gix_revwalk.specs.Reading.{rows_of}
+use Rattle.std.proofs.Common.{ap, sym, ◌∙◌, min}
+use Rattle.gix_topo.proofs.Common.{least, known_generation, rows_of}
 use Rattle.gix_topo.proofs.Counts.Rest.{least_lower}
 use Rattle.gix_topo.proofs.counting.Counting.lower.Goals as goal
 

@@ -1,6 +1,5 @@
 use Rattle.std.proofs.Common.{◌≡◌, length}
-use Rattle.gix_topo.specs.Depth.{least}
-use Rattle.gix_revwalk.specs.Reading.{rows_of}
+use Rattle.gix_topo.proofs.Common.{least, rows_of}
 use Rattle.gix_topo.proofs.counting.Counting.lower.Given as goal
 
 -- to lower by the ids that are left is to lower by all

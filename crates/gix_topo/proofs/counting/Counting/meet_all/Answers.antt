@@ -1,14 +1,14 @@
-use Rattle.std.proofs.Common.{◌∙◌, ap, arith}
-use Rattle.gix_topo.specs.Depth.{known_generation}
-use Rattle.gix_revwalk.specs.Reading.{rows_of}
-use Rattle.gix_topo.proofs.Counts.MeetsStarts.{meets_none, meets_more}
+use Rattle.std.proofs.Common.{◌∙◌, ap, subst, arith}
+use Rattle.gix_topo.proofs.Common.{known_generation, Meets, rows_of, met, meets}
+use Rattle.gix_topo.proofs.Counts.MeetsParents.{no_items}
 use Rattle.gix_topo.proofs.counting.Counting.meet_all.Goals as goal
 
 pub loop-id-preserved : goal.loop-id-preserved
 loop-id-preserved g c = record {
   same = λ k. record (c.loop-id.invariant.same k) { frontier = c.meet.new.self };
-  meets = λ new f. c.loop-id.invariant.meets new (meets_more _ _ _ _ _ _ _ _ _ c.in-Some.ensures.cases.0 (c.generation-generation.ensures ∙ ap (λ x. known_generation (rows_of x.reader.graph) c.in-Some.id.now) c.loop-id.invariant.same) c.in_ok-meet.ensures f);
+  meets = λ new f. c.loop-id.invariant.meets new (rw (c.in-Some.ensures.cases.0) (meets
+      (subst (λ k. Meets c.loop-id.self.frontier k c.in-Some.id.now c.args.side c.meet.new.self) (c.generation-generation.ensures ∙ ap (λ x. known_generation (rows_of x.reader.graph) c.in-Some.id.now) c.loop-id.invariant.same) c.in_ok-meet.ensures) f));
 }
 
 pub returns-clause-meets : goal.returns-clause-meets
-returns-clause-meets g c = c.loop-id.invariant.meets _ (meets_none _ _ _ _ (omega (arith, c.in_default.ensures.cases)))
+returns-clause-meets g c = c.loop-id.invariant.meets _ (rw (no_items c.loop-id.ids.now (omega (arith, c.in_default.ensures.cases))) met)

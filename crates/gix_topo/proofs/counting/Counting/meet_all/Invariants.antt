@@ -1,7 +1,5 @@
 use Rattle.std.proofs.Common.{◌≡◌, length}
-use Rattle.gix_frontier.specs.declared.Frontier.{Frontier}
-use Rattle.gix_revwalk.specs.Reading.{rows_of}
-use Rattle.gix_topo.specs.Inside.Starting.{MeetsAll}
+use Rattle.gix_topo.proofs.Common.{Frontier, rows_of, MeetsAll}
 use Rattle.gix_topo.proofs.counting.Counting.meet_all.Given as goal
 
 -- to meet the ids that are left is to meet them all

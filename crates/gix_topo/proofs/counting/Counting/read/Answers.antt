@@ -1,5 +1,5 @@
-use Rattle.gix_frontier.proofs.Results.{err_from}
-use Rattle.gix_topo.proofs.Reading.NoRowInUse.{reading_fails}
+use Rattle.gix_topo.proofs.Common.{err_from}
+use Rattle.gix_topo.proofs.Reading.OnceRead.{reading_fails}
 use Rattle.gix_topo.proofs.counting.Counting.read.Goals as goal
 
 pub returns-in_err-info-clause-fault : goal.returns-in_err-info-clause-fault

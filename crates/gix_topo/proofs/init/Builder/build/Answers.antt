@@ -1,6 +1,5 @@
 use Rattle.std.proofs.Common.{inr, ap, subst, ◌∙◌}
-use Rattle.gix_topo.specs.Inside.Releasing.{plan_over}
-use Rattle.gix_topo.specs.Walk.{IsBuildFault}
+use Rattle.gix_topo.proofs.Common.{plan_over, IsBuildFault}
 use Rattle.gix_topo.proofs.Starting.Started.{started_on, started_as, begun_held}
 use Rattle.gix_topo.proofs.init.Builder.build.Goals as goal
 

@@ -1,9 +1,8 @@
 use Rattle.std.proofs.Common.{◌≡◌, sym, ap, subst, ◌∙◌, rules, None, Some, Err}
 use Rattle.std.proofs.lemmas.Result.{err_from_is_err_and}
-use Rattle.gix_topo.specs.declared.Error.{Error}
+use Rattle.gix_topo.proofs.Common.{Error, rows_of, ReadsRow, Reads, ReadsText, by_row, by_text}
 use Rattle.gix_topo.specs.declared.Error.TheVariants as error
-use Rattle.gix_revwalk.specs.Reading.{rows_of, ReadsRow}
-use Rattle.gix_topo.specs.Reading.{Reads, ReadsText, by_row, by_text, no_memory}
+use Rattle.gix_topo.specs.Reading.{no_memory}
 use Rattle.gix_revwalk.proofs.Rows.{reads_lent}
 use Rattle.gix_topo.proofs.reader.Reader.read.Goals as goal
 

@@ -1,9 +1,8 @@
 use Rattle.std.proofs.Common.{refl}
-use Rattle.gix_topo.specs.Inside.Releasing.{plan_over}
+use Rattle.gix_topo.proofs.Common.{plan_over, err_from}
 use Rattle.gix_topo.proofs.Starting.OneTip.{begun_by, fault_by, plan_before, begun_walk}
-use Rattle.gix_frontier.proofs.Results.{err_from}
 use Rattle.gix_topo.proofs.walk.Walk.begin.Goals as goal
-use Rattle.gix_topo.proofs.Starting.StartFaults.{start_fault}
+use Rattle.gix_topo.proofs.Starting.Started.{start_fault}
 
 pub returns-in_err-counting-clause-fault : goal.returns-in_err-counting-clause-fault
 returns-in_err-counting-clause-fault g c =

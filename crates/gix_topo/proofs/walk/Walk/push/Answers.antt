@@ -1,15 +1,9 @@
-use Rattle.std.proofs.Common.{◌+◌, [], ◌∷◌, ◌++◌, Contains, refl, sym, ap, subst, ⊎_elim, ◌∙◌, arith, take_all}
-use Rattle.std.proofs.Common.{w64, to_z, of_z, Some, rules}
-use mir.Val.{SFits}
+use Rattle.std.proofs.Common.{◌+◌, [], ◌∷◌, ◌++◌, Contains, refl, sym, ap, subst, ⊎_elim, ◌∙◌, arith, take_all, w64, to_z, of_z, Some, rules, SFits}
 use Rattle.std.proofs.lemmas.Int.{to_z-of_z}
-use Rattle.gix_revwalk.specs.Reading.{rows_of}
-use Rattle.gix_topo.specs.Reading.{Reads}
-use Rattle.gix_topo.specs.Walk.{HoldsReady}
-use Rattle.gix_frontier.specs.Inside.Frontier.{MarksReady}
-use Rattle.gix_topo.specs.Inside.Releasing.{LooksUpParent, itself}
-use Rattle.gix_topo.proofs.Reading.NoRowInUse.{reading_fails}
+use Rattle.gix_topo.proofs.Common.{rows_of, Reads, HoldsReady, MarksReady, LooksUpParent, err_from}
+use Rattle.gix_topo.specs.Inside.Releasing.{itself}
+use Rattle.gix_topo.proofs.Reading.OnceRead.{reading_fails}
 use Rattle.gix_topo.proofs.Taking.OneRelease.{looks_up_by, take_more, fault_of_parent, reads_timed, at_index, time_told}
-use Rattle.gix_frontier.proofs.Results.{err_from}
 use Rattle.gix_topo.proofs.walk.Walk.push.Goals as goal
 
 pub returns-in_err-info-clause-fault : goal.returns-in_err-info-clause-fault

@@ -1,7 +1,5 @@
 use Rattle.std.proofs.Common.{◌≡◌, Contains, take}
-use Rattle.gix_hash.specs.declared.ObjectId.{ObjectId}
-use Rattle.gix_revwalk.specs.Reading.{rows_of}
-use Rattle.gix_topo.specs.Inside.Releasing.{LooksUpParent}
+use Rattle.gix_topo.proofs.Common.{ObjectId, rows_of, LooksUpParent}
 use Rattle.gix_topo.proofs.walk.Walk.push.Given as goal
 
 -- looking parents up changes nothing but the text that was read; those before the index are known

@@ -1,8 +1,7 @@
-use Rattle.std.proofs.Common.{◌≡◌, ◌+◌, ℕ, [], ◌∷◌, sym, ap, ◌∙◌}
-use Rattle.gix_frontier.specs.Inside.Known.{Known}
-use Rattle.gix_frontier.specs.Inside.Frontier.{is_due}
-use Rattle.gix_topo.specs.Inside.Releasing.{waits, frees, uncounted, unread, no_memory}
-use Rattle.gix_frontier.proofs.Results.{on_ok, if_err}
+use Rattle.std.proofs.Common.{◌+◌, [], ◌∷◌, sym, ap, ◌∙◌}
+use Rattle.gix_topo.proofs.Counts.MakesReady.{due_by}
+use Rattle.gix_topo.proofs.Common.{uncounted, unread, on_ok, if_err}
+use Rattle.gix_topo.specs.Inside.Releasing.{waits, frees, no_memory}
 use Rattle.gix_topo.proofs.walk.Walk.release.Goals as goal
 
 pub returns-in-Ok-None-clause-fault : goal.returns-in-Ok-None-clause-fault
@@ -11,25 +10,21 @@ returns-in-Ok-None-clause-fault g c = uncounted (rw c.in-Ok-None.field-0-is at c
 pub returns-in-Err-clause-fault : goal.returns-in-Err-clause-fault
 returns-in-Err-clause-fault g c = no_memory
 
--- whether it is due, by what is known of it now
-due_now : {left now : Known} {children : ℕ} → left ≡ now → children ≡ left.indegree → is_due now.indegree now ≡ is_due children left
-due_now {left} known counted = ap (λ k. is_due k.indegree k) (sym known) ∙ ap (λ n. is_due n left) (sym counted)
-
 pub returns-then-not-is_due-clause-releases : goal.returns-then-not-is_due-clause-releases
 returns-then-not-is_due-clause-releases g c =
     let known = rw c.in-Ok-Some.field-0-is at c.in-Ok-Some.ensures.known in
-    ([], waits _ (rw c.in-Ok-Some.field-0-is at c.in-Ok-Some.ensures.less ∙ ap (λ k. k.indegree + 1) known) c.in-Ok-Some.ensures.counts (due_now known (ap (λ k. k.indegree) c.left.view_is) ∙ sym c.is_due.ensures ∙ c.if-not-is_due.true))
+    ([], waits _ (rw c.in-Ok-Some.field-0-is at c.in-Ok-Some.ensures.less ∙ ap (λ k. k.indegree + 1) known) c.in-Ok-Some.ensures.counts (due_by known (ap (λ k. k.indegree) c.left.view_is) ∙ sym c.is_due.ensures ∙ c.if-not-is_due.true))
 
 pub returns-clause-releases : goal.returns-clause-releases
 returns-clause-releases g c =
     let known = rw c.in-Ok-Some.field-0-is at c.in-Ok-Some.ensures.known in
     on_ok c.push.result
-    (λ p. (p.0 ∷ [], frees _ (rw c.in-Ok-Some.field-0-is at c.in-Ok-Some.ensures.less ∙ ap (λ k. k.indegree + 1) known) c.in-Ok-Some.ensures.counts (due_now known (ap (λ k. k.indegree) c.left.view_is) ∙ sym c.is_due.ensures ∙ c.if-not-is_due.false) p.1))
+    (λ p. (p.0 ∷ [], frees _ (rw c.in-Ok-Some.field-0-is at c.in-Ok-Some.ensures.less ∙ ap (λ k. k.indegree + 1) known) c.in-Ok-Some.ensures.counts (due_by known (ap (λ k. k.indegree) c.left.view_is) ∙ sym c.is_due.ensures ∙ c.if-not-is_due.false) p.1))
     c.push.ensures.pushes
 
 pub returns-clause-fault : goal.returns-clause-fault
 returns-clause-fault g c =
     let known = rw c.in-Ok-Some.field-0-is at c.in-Ok-Some.ensures.known in
     if_err c.push.result
-    (λ e f. unread _ (rw c.in-Ok-Some.field-0-is at c.in-Ok-Some.ensures.less ∙ ap (λ k. k.indegree + 1) known) c.in-Ok-Some.ensures.counts (due_now known (ap (λ k. k.indegree) c.left.view_is) ∙ sym c.is_due.ensures ∙ c.if-not-is_due.false) f)
+    (λ e f. unread _ (rw c.in-Ok-Some.field-0-is at c.in-Ok-Some.ensures.less ∙ ap (λ k. k.indegree + 1) known) c.in-Ok-Some.ensures.counts (due_by known (ap (λ k. k.indegree) c.left.view_is) ∙ sym c.is_due.ensures ∙ c.if-not-is_due.false) f)
     c.push.ensures.fault

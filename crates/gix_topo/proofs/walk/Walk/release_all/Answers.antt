@@ -1,7 +1,7 @@
 use Rattle.std.proofs.Common.{[], ◌++◌, sym, subst, ◌∙◌, arith}
-use Rattle.gix_topo.specs.Inside.Releasing.{ReleasesAll, IsFaultAmong, none, more, here, later}
+use Rattle.gix_topo.proofs.Common.{ReleasesAll, IsFaultAmong, err_from}
+use Rattle.gix_topo.specs.Inside.Releasing.{none, more, here, later}
 use Rattle.gix_topo.proofs.Counts.MeetsParents.{no_items}
-use Rattle.gix_frontier.proofs.Results.{err_from}
 use Rattle.gix_topo.proofs.walk.Walk.release_all.Goals as goal
 
 pub returns-in_err-release-clause-fault : goal.returns-in_err-release-clause-fault

@@ -1,8 +1,5 @@
 use Rattle.std.proofs.Common.{◌≡◌, List, length}
-use Rattle.gix_topo.specs.declared.Error.{Error}
-use Rattle.gix_topo.specs.declared.walk.Walk.{Walk}
-use Rattle.gix_topo.specs.Inside.Releasing.{plan_of, ReleasesAll, IsFaultAmong}
-use Rattle.gix_topo.specs.Walk.{Ready}
+use Rattle.gix_topo.proofs.Common.{Error, Walk, plan_of, ReleasesAll, IsFaultAmong, Ready}
 use Rattle.gix_topo.proofs.walk.Walk.release_all.Given as goal
 
 -- to release the parents that are left is to release them all

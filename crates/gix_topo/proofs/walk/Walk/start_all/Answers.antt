@@ -1,7 +1,7 @@
 use Rattle.std.proofs.Common.{◌≡◌, ◌+◌, [], ◌∷◌, ◌++◌, drop, refl, sym, ap, subst, ◌∙◌, arith}
-use Rattle.gix_topo.specs.Inside.Starting.{StartsAll, IsStartFault, none, more, later}
+use Rattle.gix_topo.proofs.Common.{StartsAll, IsStartFault, err_from}
+use Rattle.gix_topo.specs.Inside.Starting.{none, more, later}
 use Rattle.gix_topo.proofs.Starting.OneTip.{drop_at, drop_none}
-use Rattle.gix_frontier.proofs.Results.{err_from}
 use Rattle.gix_topo.proofs.walk.Walk.start_all.Goals as goal
 
 pub loop-index-init : goal.loop-index-init

@@ -1,9 +1,5 @@
 use Rattle.std.proofs.Common.{◌≡◌, List, drop}
-use Rattle.gix_topo.specs.declared.Error.{Error}
-use Rattle.gix_topo.specs.declared.walk.Walk.{Walk}
-use Rattle.gix_topo.specs.Inside.Releasing.{plan_of}
-use Rattle.gix_topo.specs.Inside.Starting.{StartsAll, IsStartFault}
-use Rattle.gix_topo.specs.Walk.{Ready}
+use Rattle.gix_topo.proofs.Common.{Error, Walk, plan_of, StartsAll, IsStartFault, Ready}
 use Rattle.gix_topo.proofs.walk.Walk.start_all.Given as goal
 
 -- to start the tips that are left is to start them all

@@ -1,6 +1,5 @@
 use Rattle.std.proofs.Common.{ap, ◌∙◌}
-use Rattle.gix_revwalk.specs.Commits.{by_mode}
-use Rattle.gix_frontier.proofs.Results.{on_ok, if_err}
+use Rattle.gix_topo.proofs.Common.{by_mode, on_ok, if_err}
 use Rattle.gix_topo.proofs.Taking.OneRelease.{takes_one, fault_among}
 use Rattle.gix_topo.proofs.walk.Walk.take.Goals as goal
 

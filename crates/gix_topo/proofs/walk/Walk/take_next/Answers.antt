@@ -1,8 +1,6 @@
 use Rattle.std.proofs.Common.{sym, ap, ◌∙◌, inr}
-use Rattle.gix_topo.specs.Inside.ReadySet.{as_ready}
-use Rattle.gix_topo.specs.Inside.Releasing.{plan_of, counted_by, taken_in, taken_of}
-use Rattle.gix_topo.specs.Inside.Steady.{TakesReady, IsHeld, ended, given, failed}
-use Rattle.gix_topo.specs.Walk.{IsNextReady, IsFault, IsLate}
+use Rattle.gix_topo.proofs.Common.{as_ready, plan_of, counted_by, taken_in, taken_of, TakesReady, IsHeld, IsNextReady, IsFault, IsLate}
+use Rattle.gix_topo.specs.Inside.Steady.{ended, given, failed}
 use Rattle.gix_topo.proofs.Taking.TakeNext.{popped, turned, turn_faults}
 use Rattle.gix_topo.proofs.walk.Walk.take_next.Goals as goal
 

@@ -1,8 +1,6 @@
 use Rattle.std.proofs.Common.{◌≡◌, [], ◌<◌, ◌-◌, ◌||◌, true, length, arith, sym, ap, ◌∙◌}
-use Rattle.gix_hash.specs.Id.{is_same, is_among}
-use Rattle.gix_hash.proofs.Ids.Equality.{eq_is_same}
+use Rattle.gix_tree.proofs.Common.{is_same, is_among, eq_is_same, known_at, met_behind}
 use Rattle.gix_hash.specs.contracts.ObjectIdPartialEq.TheImpl.{eq-value}
-use Rattle.gix_tree.specs.Inside.LevelQueue.{known_at, met_behind}
 use Rattle.gix_tree.proofs.Levels.Met.{known_among, turns_back}
 use Rattle.gix_tree.proofs.breadthfirst.Queue.knows.Goals as goal
 

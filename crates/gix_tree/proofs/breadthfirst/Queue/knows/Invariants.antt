@@ -1,6 +1,5 @@
 use Rattle.std.proofs.Common.{◌≡◌, ◌≤◌, [], length}
-use Rattle.gix_hash.specs.Id.{is_among}
-use Rattle.gix_tree.specs.Inside.LevelQueue.{known_at, met_behind}
+use Rattle.gix_tree.proofs.Common.{is_among, known_at, met_behind}
 use Rattle.gix_tree.proofs.breadthfirst.Queue.knows.Given as goal
 
 -- whether the id is known depends on the ids that are left alone

@@ -1,5 +1,6 @@
 use Rattle.std.proofs.Common.{◌∷◌, [], length-append, arith, ◌∙◌, ap}
-use Rattle.gix_tree.specs.Inside.LevelQueue.{level_queue, queued}
+use Rattle.gix_tree.proofs.Common.{queued}
+use Rattle.gix_tree.specs.Inside.LevelQueue.{level_queue}
 use Rattle.gix_tree.proofs.Levels.Met.{above_more, queue_more}
 use Rattle.gix_tree.proofs.breadthfirst.Queue.push.Goals as goal
 

@@ -1,7 +1,6 @@
 use Rattle.std.proofs.Common.{◌≡◌, ◌==◌, ◌&&◌, bytes_eq, Bool, true, refl, sym, ap, ◌∙◌}
 use Rattle.bstr.specs.Owned.{bstring_bytes}
-use Rattle.gix_hash.specs.Id.{is_same}
-use Rattle.gix_hash.proofs.Ids.Equality.{eq_is_same}
+use Rattle.gix_tree.proofs.Common.{is_same, eq_is_same}
 use Rattle.gix_tree.proofs.recorder.EntryPartialEq.eq.Goals as goal
 use Rattle.gix_tree.proofs.recorder.EntryPartialEq.eq.Goals.{then-eq, else-eq}
 

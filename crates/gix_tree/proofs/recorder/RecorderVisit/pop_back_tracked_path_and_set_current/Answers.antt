@@ -1,6 +1,6 @@
 use Rattle.std.proofs.Common.{◌≡◌, [], ◌∷◌, ◌++◌, map, Some, rules, ap, ◌∙◌}
 use Rattle.std.proofs.lemmas.List.{map-append}
-use Rattle.gix_tree.specs.declared.recorder.Location.TheVariants.{Path}
+use Rattle.gix_tree.proofs.Common.{Path}
 use Rattle.gix_tree.proofs.Recording.Calls.{pops_last}
 use Rattle.gix_tree.proofs.recorder.RecorderVisit.pop_back_tracked_path_and_set_current.Goals as goal
 
