@@ -58,7 +58,7 @@ pub use Rattle.gix_simple.proofs.Difference.{begun_whole, drawn_whole, loosened,
 pub use Rattle.gix_topo.proofs.Run.EachOnce.{named_all, reached_known}
 pub use Rattle.gix_tree.proofs.Theorems.Laws.{depth_is_in_order, depth_is_recorded, depth_ok, go_on, sound_depth_succeeds}
 pub use Rattle.gix_commands.specs.Files.{AreLinesOf, file_line, file_lines, IsTreeFault, RecordsTree, six_octal_digits}
-pub use Rattle.gix_commands.specs.Histories.{AheadCounts, AheadCountsOfPart, AheadSucceeds, AreStored, AreTold, AreWhole, ContainsIds, ContainsIdsOfPart, ContainsSucceeds, DrawsDifference, EndsWell, FailsSilently, followed, IsListedBy}
+pub use Rattle.gix_commands.specs.Histories.{AheadCounts, AheadCountsOfPart, AheadSucceeds, AreTold, AreWhole, ContainsIds, ContainsIdsOfPart, ContainsSucceeds, DrawsDifference, EndsWell, FailsSilently, followed, IsListedBy}
 pub use Rattle.gix_commands.specs.Histories.{IsOutside, IsPartOf, IsShownBy, IsSimpleBy, IsSimpleList, kept_tips, lines_of_ids, ListsBy, ListsDown, ListsRead, SimpleBegins, SimpleBeginsOfPart, SimpleLists, SimpleListsOfPart, SimpleListsRead}
 pub use Rattle.gix_commands.specs.Histories.{SimpleSucceeds, told, ToldAheadCounts, ToldContainsIds, ToldSimpleBegins, ToldSimpleLists, ToldTopoBegins, ToldTopoLists, TopoBegins, TopoBeginsOfPart, TopoLists, TopoListsOfPart, TopoSucceeds}
 pub use Rattle.gix_commands.specs.Output.{Adds, Grows, WritesAll}

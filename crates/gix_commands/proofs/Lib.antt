@@ -8,12 +8,15 @@ mod TreeFacts
 mod TopoInternalFacts
 mod FileFacts
 mod ListerFacts
+mod LostParents
+mod CheckedWalks
 mod AheadFacts
 mod ContainedFacts
 mod StartFacts
 mod RunFacts
 mod GivenRuns
 mod KeptLists
+mod SameBeginnings
 mod SimpleRuns
 mod NamedTips
 mod Parts

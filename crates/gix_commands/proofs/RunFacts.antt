@@ -1,6 +1,6 @@
 -- What a run may answer.
 use Rattle.std.proofs.Common.{◌≡◌, ◌≢◌, ℕ, List, [], ◌∷◌, Option, Some, None, Result, Ok, Err, refl, sym, subst, ap, ◌∙◌}
-use Rattle.gix_commands.proofs.Common.{get, same_map, ObjectId, Object, Objects, id_total, id_apart, with_rows, GraphRow, IsAgreeing, none_agree, Info, Parents, Fault, Order, Simple, Topo, fault_of_records, fault_of_walk}
+use Rattle.gix_commands.proofs.Common.{Appends, lines_of, get, same_map, ObjectId, Object, Objects, id_total, id_apart, with_rows, GraphRow, IsAgreeing, none_agree, Info, Parents, Fault, Order, Simple, Topo, fault_of_records, fault_of_walk}
 use Rattle.gix_commands.proofs.Common.{fault_of_topo_walk, WritesAll, stored, walked, not_walked, walked_down, not_built, not_listed, counted, not_ahead, not_behind, selected, not_selected, unserved, Runs, without_memory, no_command}
 use Rattle.gix_commands.proofs.Common.{not_read, bad_record, served, StartsFrom, FailsAtStart, IsStartFault, Ends, EndsBy, finished, cut_short, enough, before, Request, Commits, request_of, no_bad_record}
 use Rattle.std.specs.Option.{option_or}
@@ -15,9 +15,14 @@ use Rattle.gix_records.specs.declared.Error.{Error as RecordsError}
 use Rattle.gix_records.specs.Reading.{IsReadFrom, IsReadFault}
 use Rattle.gix_records.specs.Reading as reading
 use Rattle.gix_records.specs.Records.{Record, AreRecords}
+use Rattle.gix_simple.specs.declared.Sorting.TheVariants as sorting
+use Rattle.gix_commands.specs.Checked.{CheckedWalk, Checks, GoesOnWhole, first_lost}
+use Rattle.gix_commands.specs.Run as run
 use Rattle.gix_commands.specs.Run.{Serves, listed, not_written}
 use Rattle.gix_commands.specs.TopoWalked as topo
 use Rattle.gix_commands.specs.Walked.{Walk, Answers, IsWalkFault, failed}
+use Rattle.gix_commands.proofs.CheckedWalks.{IsChecked, IsItself, from_by, well, lacking}
+use Rattle.gix_commands.proofs.LostParents.{lost_so}
 use Rattle.gix_commands.proofs.MemoryFaults.{failed_so}
 use Rattle.gix_commands.proofs.InternalFacts.{IsSound, next_sound, start_sound, contained_sound}
 use Rattle.gix_commands.proofs.TopoInternalFacts.{drawn_sound, built_agreeing, build_sound}
@@ -57,8 +62,14 @@ topo_by_sound None walk infos agreeing ends = topo_ends_sound agreeing ends
 topo_by_sound (Some n) walk infos agreeing (enough at h e) = λ e. cc
 topo_by_sound (Some n) walk infos agreeing (before ends less) = topo_ends_sound agreeing ends
 
+lost_sound : (objects : Objects) (rows : List GraphRow) (ids : List ObjectId) (why : Fault) → (why ≢ fault.Memory → first_lost objects rows ids ≡ Some why) → why ≢ fault.Internal
+lost_sound objects rows ids why h same =
+    let internal : fault.Internal ≢ fault.Memory = λ e. cc in
+    lost_so (λ e. e ≢ fault.Internal) (λ i e. cc) (λ i e. cc) (λ e. cc) objects rows ids why (h (λ m. internal (sym same ∙ m))) same
+
 pub serves_sound : {objects : Objects} {rows : List GraphRow} {old new : Option (List ℕ)} {request : Request} {answer : Result (Unit {0}) Fault} → IsAgreeing objects rows → Serves objects rows old request answer new → answer ≢ Err fault.Internal
-serves_sound agreeing (walked {limit = limit} walk infos s ends a) = by_sound limit walk infos ends
+serves_sound agreeing (walked {limit = limit} walk infos s ends whole a) = by_sound limit walk infos ends
+serves_sound {objects} {rows} agreeing (run.lost walk at infos {why = why} by s h more l a) = λ same. lost_sound objects rows l.last.parent_ids.items why l.lacks (err_same same)
 serves_sound agreeing (not_walked why f) = λ same. start_sound f (err_same same)
 serves_sound agreeing (walked_down {limit = limit} walk infos built ends a) = topo_by_sound limit walk infos (built_agreeing built agreeing) ends
 serves_sound {objects} {rows} agreeing (not_built {by = by} {tips = tips} {ends = ends} why h) = λ same. build_sound objects rows agreeing by tips ends why h (err_same same)
@@ -131,8 +142,19 @@ module _ (objects : Objects) (rows : List GraphRow) (old : Option (List ℕ)) (o
     serves_drawn (Err fault.Internal) w = serves _ (w (λ e. cc))
 
 module _ (objects : Objects) (rows : List GraphRow) (old : Option (List ℕ)) (m : Parents) (by : Sorting) (limit : Option ℕ) (tips hidden : List ObjectId) where
-  pub serves_walk : (new : Option (List ℕ)) (walk : Walk) → StartsFrom objects rows m by tips hidden walk → (result : Result (Unit {0}) Fault) → (result ≢ Err fault.Write → WritesAll Answers IsWalkFault limit walk old result new) → Serves objects rows old (Commits (Simple m by) limit tips hidden) result new
-  serves_walk new walk starts = serves_drawn objects rows old (Simple m by) limit tips hidden Answers IsWalkFault new walk (λ _ w. walked walk w.infos starts w.ends w.appends)
+  -- breadth first
+  pub serves_walk : (new : Option (List ℕ)) (walk : Walk) → by ≡ sorting.BreadthFirst → StartsFrom objects rows m by tips hidden walk → (result : Result (Unit {0}) Fault) → (result ≢ Err fault.Write → WritesAll Answers IsWalkFault limit walk old result new) → Serves objects rows old (Commits (Simple m by) limit tips hidden) result new
+  serves_walk new walk breadth starts = serves_drawn objects rows old (Simple m by) limit tips hidden Answers IsWalkFault new walk (λ _ w. walked walk w.infos starts w.ends (λ other. absurd (other breadth)) w.appends)
+
+  -- by time, by a checked walk
+  checked_so : (new : Option (List ℕ)) (walk : Walk) → by ≢ sorting.BreadthFirst → StartsFrom objects rows m by tips hidden walk → (infos : List Info) → Appends old new (lines_of infos) → {result : Result (Unit {0}) Fault} → IsChecked objects rows walk limit infos result → Serves objects rows old (Commits (Simple m by) limit tips hidden) result new
+  checked_so new walk other starts infos written (well ends whole) = walked walk infos starts ends (λ _. whole) written
+  checked_so new walk other starts infos written (lacking at h more l) = run.lost walk at infos other starts h more l written
+
+  pub serves_checked : (new : Option (List ℕ)) (walk : Walk) (checked : CheckedWalk) → checked ≡ record { walk = walk; objects = objects; rows = rows; lost = None } → by ≢ sorting.BreadthFirst → StartsFrom objects rows m by tips hidden walk
+      → (result : Result (Unit {0}) Fault) → (result ≢ Err fault.Write → WritesAll Checks IsItself limit checked old result new) → Serves objects rows old (Commits (Simple m by) limit tips hidden) result new
+  serves_checked new walk checked is other starts = serves_drawn objects rows old (Simple m by) limit tips hidden Checks IsItself new checked
+      (λ result w. checked_so new walk other starts w.infos w.appends (from_by objects rows walk limit w.infos result (subst (λ c. EndsBy Checks IsItself limit c w.infos result) is w.ends)))
 
   not_started : (e : Fault) → (why : Error) × FailsAtStart objects by tips why × (e ≡ fault_of_walk why) → Serves objects rows old (Commits (Simple m by) limit tips hidden) (Err e) old
   not_started e h = subst (λ (f : Fault). Serves objects rows old (Commits (Simple m by) limit tips hidden) (Err f) old) (sym h.2) (not_walked h.0 h.1)

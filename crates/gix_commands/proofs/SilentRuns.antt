@@ -3,10 +3,12 @@ use Rattle.std.proofs.Common.{◌≡◌, ◌≢◌, ℕ, List, Option, Ok, Err, 
 use Rattle.gix_commands.proofs.Common.{ObjectId, Objects, GraphRow, Fault, Order, FailsSilently, walked, not_walked, walked_down, not_built, not_listed, not_ahead, not_behind, not_selected, unserved, without_memory, no_command, not_read}
 use Rattle.gix_commands.proofs.Common.{bad_record, served, Request, Commits}
 use Rattle.gix_words.specs.declared.fault.Fault.TheVariants as fault
+use Rattle.gix_commands.specs.Run as run
 use Rattle.gix_commands.specs.Run.{Serves, not_written}
 
 pub serves_silently : (objects : Objects) (rows : List GraphRow) (old new : Option (List ℕ)) (request : Request) (e : Fault) → Serves objects rows old request (Err e) new → e ≢ fault.Write → ((by : Order) (limit : Option ℕ) (tips hidden : List ObjectId) → request ≢ Commits by limit tips hidden) → new ≡ old
-serves_silently objects rows old new request e (walked walk infos starts ends written) other none = absurd (none _ _ _ _ refl)
+serves_silently objects rows old new request e (walked walk infos starts ends whole written) other none = absurd (none _ _ _ _ refl)
+serves_silently objects rows old new request e (run.lost walk at infos by starts h more l written) other none = absurd (none _ _ _ _ refl)
 serves_silently objects rows old new request e (not_walked why f) other none = refl
 serves_silently objects rows old new request e (walked_down walk infos built ends written) other none = absurd (none _ _ _ _ refl)
 serves_silently objects rows old new request e (not_built why h) other none = refl

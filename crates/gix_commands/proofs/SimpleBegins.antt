@@ -1,8 +1,9 @@
 -- What a simple walk over records gives up to a limit: the first commits of a list of what is reached.
-use Rattle.std.proofs.Common.{◌≡◌, ◌≢◌, ℤ, List, [], ◌∷◌, ◌++◌, length, map, take, filter, Bool, true, false, not, Option, None, Some, Ok, Contains, refl, sym, ap, subst, ◌∙◌, arith}
-use Rattle.gix_commands.proofs.Common.{Yields, transport, false≢true, Contains-append_left, ObjectId, is_among, among_from, among_is, filter_within, Objects, GraphRow, CommitTimeOrder, Info, Parents, IsAgreeing, parents_of, time_of}
+use Rattle.std.proofs.Common.{◌≡◌, ◌≢◌, ◌-◌, ℕ, ℤ, List, [], ◌∷◌, ◌++◌, length, map, take, filter, Bool, true, false, not, Option, None, Some, Ok, Contains, refl, sym, ap, subst, ◌∙◌, arith}
+use Rattle.gix_commands.proofs.Common.{by_mode, ReadsParents, Yields, transport, false≢true, Contains-append_left, ObjectId, is_among, among_from, among_is, filter_within, Objects, GraphRow, CommitTimeOrder, Info, Parents, IsAgreeing, parents_of, time_of}
 use Rattle.gix_commands.proofs.Common.{ids_of, new_ids, text_next, reach_more, reached_list, text_whole, GivesBeginning, IsBeginning, IsBegunRun, time_order, all_kept, begun_once, begun_whole, no_start, whole_from, named_all}
 use Rattle.gix_commands.proofs.Common.{reached_known, AreWhole, IsSimpleBy, IsSimpleList, ListsBy, followed, kept_tips, StartsFrom, objects_of, never_faulty, accepts_all}
+use Rattle.std.proofs.lemmas.List.{length-map}
 use Rattle.gix_hash.specs.Reach.{Reaches, Tells}
 use Rattle.gix_simple.specs.declared.Sorting.{Sorting}
 use Rattle.gix_simple.specs.Laws.{BeginsTextOrder}
@@ -12,8 +13,9 @@ use Rattle.gix_commands.specs.Walked.{Walk, Answers, given}
 use Rattle.gix_commands.proofs.GoesOn.{order_goes_on}
 use Rattle.gix_commands.proofs.KeptLists.{followed_within, kept, list_of, starts_kept}
 use Rattle.gix_commands.proofs.Parts.{by_parents, by_texts}
+use Rattle.gix_commands.proofs.SameBeginnings.{front}
 use Rattle.gix_commands.proofs.TopoRuns.{named_whole}
-use Rattle.gix_commands.proofs.SimpleRuns.{PaintedWhole, by_test, fresh, from_pending, left_whole, names_kept, no_faults, no_ids, opened, pending, same, same_ids, test, unrefused}
+use Rattle.gix_commands.proofs.SimpleRuns.{PaintedWhole, by_test, fresh, from_pending, given_for, left_whole, names_kept, no_faults, no_ids, opened, pending, same, same_ids, test, unrefused, was_read}
 
 -- the ids are the first of such a list
 abbrev pub AreFirstOf : (List ObjectId → Type 0) → List ObjectId → Type 0
@@ -42,6 +44,14 @@ module _ (objects : Objects) (m : Parents) (by : Sorting) (tips hidden : List Ob
 
   of_texts : (ids : List ObjectId) → AreFirstOf (IsSimpleBy objects (text_next objects) m by tips hidden) ids → AreFirstOf (IsSimpleList objects m by tips hidden) ids
   of_texts ids f = (f.0, record { read = f.1; whole = λ w. by_parents objects m by (kept_tips objects by tips) hidden (time_order m by) f.0 w f.1 }, f.2)
+
+  -- without hidden tips what begins a list by the parents that texts name begins such a list
+  pub first_of_text : hidden ≡ [] → (ids : List ObjectId) → IsBeginning (time_order m by) (time_of objects) texts (new_ids (λ i. false) (kept_tips objects by tips)) ids → AreFirstOf (IsSimpleList objects m by tips hidden) ids
+  first_of_text none ids h =
+      of_texts ids
+      (first_of objects (text_next objects) texts (followed_within objects (text_next objects) m by) (λ c i n. n) (time_order m by) (kept_tips objects by tips) hidden (λ i. false)
+      (λ i. (λ e. absurd (false≢true e), λ r. absurd (no_start (text_next objects) hidden i r none))) ids
+      (transport (λ k. IsBeginning (time_order m by) (time_of objects) (λ c. sym (all_kept (texts c)) k) (sym (all_kept (new_ids (λ i. false) (kept_tips objects by tips))) k) ids) h))
 
   -- no commit was asked for
   pub first_none : AreFirstOf (IsSimpleList objects m by tips hidden) []
@@ -79,15 +89,18 @@ module _ (objects : Objects) (rows : List GraphRow) (m : Parents) (by : Sorting)
       text_ids : ids ≡ begun.ids
       text_ids = same_ids objects (text_next objects) rows m (time_order m by) infos begun.ids begun.given
 
-      starts_are : ids_of walk.pending ≡ filter (λ i. not false) (new_ids (λ i. false) left)
-      starts_are = pending_tips ∙ sym (all_kept (new_ids (λ i. false) left))
+      pub begun_text : IsBeginning (time_order m by) (time_of objects) (followed objects (text_next objects) m by) (new_ids (λ i. false) left) ids
+      begun_text = transport (λ k. IsBeginning (time_order m by) (time_of objects) (followed objects (text_next objects) m by) (pending_tips k) (sym text_ids k)) begun.begins
 
       first_by_text : AreFirstOf (IsSimpleList objects m by tips hidden) ids
-      first_by_text =
-          of_texts objects m by tips hidden ids
-          (first_of objects (text_next objects) (followed objects (text_next objects) m by) (followed_within objects (text_next objects) m by) (λ c i n. n) (time_order m by) left hidden (λ i. false)
-          (λ i. (λ e. absurd (false≢true e), λ r. absurd (no_start (text_next objects) hidden i r none))) ids
-          (transport (λ k. IsBeginning (time_order m by) (time_of objects) (λ c. sym (all_kept (followed objects (text_next objects) m by c)) k) (starts_are k) (sym text_ids k)) begun.begins))
+      first_by_text = first_of_text objects m by tips hidden none ids begun_text
+
+      -- each but the last was read, and what is named behind it was given with it
+      pub given_first : (c : ObjectId) → Contains (front ids) c → (info : Info) × Contains (take (length infos - 1) infos) info × (info.parent_ids.items ≡ by_mode m (text_next objects c))
+      given_first c n = given_for objects (text_next objects) rows m (time_order m by) (length infos - 1) infos begun.ids begun.given c (subst (λ xs. Contains xs c) (λ k. take (length-map infos (λ (info : Info). info.id) k - 1) (text_ids k)) n)
+
+      pub read_first : (c : ObjectId) → Contains ids c → ReadsParents objects m c
+      read_first c n = was_read objects (text_next objects) rows m (time_order m by) infos begun.ids begun.given c (subst (λ xs. Contains xs c) text_ids n)
 
     -- with hidden tips, where the first answer was a commit, all that is painted was read
     module _ (met : PaintedWhole objects rows m by tips hidden walk starts) where
@@ -129,13 +142,13 @@ module _ (objects : Objects) (rows : List GraphRow) (m : Parents) (by : Sorting)
           (f.0, record { read = by_texts objects m by left hidden (time_order m by) f.0 all f.1; whole = λ w. f.1 }, f.2)
 
       -- where no tip is left none was given
-      none_given : left ≡ [] → ids ≡ []
+      pub none_given : left ≡ [] → ids ≡ []
       none_given none =
           let begun_at : filter (λ j. not (hides j)) (ids_of walk.pending) ≡ [] = ap (filter (λ j. not (hides j))) (pending_tips ∙ ap (new_ids (λ i. false)) none) in
           ids_are ∙ no_ids gave.ids (λ i c. no_start _ _ i ((begun_once (time_order m by) (time_of objects) _ _ gave.ids gave.begins).1 i c) begun_at)
 
   -- all that tips and hidden tips reach was read before the first commit was given
-  met_before : (info : Info) (new : Walk) → Answers walk (Some (Ok info)) new → hidden ≢ [] → PaintedWhole objects rows m by tips hidden walk starts
+  pub met_before : (info : Info) (new : Walk) → Answers walk (Some (Ok info)) new → hidden ≢ [] → PaintedWhole objects rows m by tips hidden walk starts
   met_before info new answer behind some =
       begun_whole objects_of never_faulty accepts_all before (fresh objects rows m by tips hidden walk starts).unbegun agreeing some behind (subst (λ w. Answers w (Some (Ok info)) new) is_before answer) (λ e s. cc)
 

@@ -1,7 +1,7 @@
 -- A simple walk that reaches whole commits alone fails for memory alone.
 use Rattle.std.proofs.Common.{◌≡◌, ◌≢◌, ℕ, ℤ, List, [], ◌∷◌, ◌++◌, ◌⊎◌, Bool, true, Option, Some, None, Result, Ok, Err, Contains, refl, sym, ap, subst, ◌∙◌, ⊎_elim}
 use Rattle.gix_commands.proofs.Common.{Yields, Contains-append_left, Contains-append_right, Contains-append_cases, ObjectId, read_commit, IsExistingFault, kind_of, Objects, GraphRow, row_of, IsAgreeing, among_is, Contains-here}
-use Rattle.gix_commands.proofs.Common.{Contains-there, Contains-cons_cases, no_member, Info, Parents, CommitTimeOrder, Pending, ReadsWhole, commit_at, commit_of_object, parents_in, parents_of, step, Treated, Enqueues, dropped, enqueued}
+use Rattle.gix_commands.proofs.Common.{by_mode, Contains-there, Contains-cons_cases, no_member, Info, Parents, CommitTimeOrder, Pending, ReadsWhole, commit_at, commit_of_object, parents_in, parents_of, step, Treated, Enqueues, dropped, enqueued}
 use Rattle.gix_commands.proofs.Common.{Treats, hidden, known, accepted, store_fails, no_memory_after, TreatsAll, none, more, stops, Concludes, broken, Takes, by_row, by_store, Chooses, Steps, took, FirstStep, unhidden, paints}
 use Rattle.gix_commands.proofs.Common.{faulty_history, initial, later, unrowed, ids_of, scan_is, no_fault, row_parents, walked_within, none_agree, kept_either, Fault, Simple, fault_of_walk, AreWhole, EndsWell, IsOutside, SimpleSucceeds}
 use Rattle.gix_commands.proofs.Common.{AheadSucceeds, stored, walked, not_walked, counted, not_ahead, not_behind, unserved, StartsFrom, FailsAtStart, Ends, finished, cut_short, enough, before, objects_of, never_faulty, accepts_all}
@@ -25,21 +25,22 @@ use Rattle.gix_simple.specs.Walk.{refused, no_memory, given, not_found, first, b
 use Rattle.gix_revwalk.proofs.Committer.{fault_unread}
 use Rattle.gix_simple.proofs.MadeOfTips.{is_new_walk, pending_is}
 use Rattle.gix_words.specs.declared.fault.Fault.TheVariants as fault
+use Rattle.gix_revwalk.specs.Texts.{scanned}
+use Rattle.gix_commands.specs.Checked.{first_lost}
+use Rattle.gix_commands.specs.Run as run
 use Rattle.gix_commands.specs.Run.{Serves, not_written}
 use Rattle.gix_commands.specs.Walked.{Walk, Answers, IsWalkFault, failed, given as all_given}
 use Rattle.gix_commands.proofs.CommitRuns.{ends_well}
 use Rattle.gix_commands.proofs.InternalFacts.{next_sound}
-use Rattle.gix_commands.proofs.SimpleRuns.{is_tip, same}
+use Rattle.gix_commands.proofs.LostParents.{all_there}
+use Rattle.gix_commands.proofs.MemoryFaults.{failed_so}
+use Rattle.gix_commands.proofs.SimpleRuns.{each_id, is_tip, same}
 use Rattle.gix_paint.proofs.Invariant.{own_history}
 use Rattle.gix_simple.proofs.Treated.{Contains-holds}
 
 in_ids : (ps : List Pending) (p : Pending) → Contains ps p → Contains (ids_of ps) p.id
 in_ids [] p c = absurd (no_member p c)
 in_ids (q ∷ ps) p c = ⊎_elim (λ e. subst (λ i. Contains (q.id ∷ ids_of ps) i) (ap (λ x. x.id) e) (Contains-here q.id (ids_of ps))) (λ m. Contains-there p.id q.id (ids_of ps) (in_ids ps p m)) (Contains-cons_cases p q ps c)
-
-each_id : (P : ObjectId → Type 0) (ps : List Pending) → ((p : Pending) → Contains ps p → P p.id) → (i : ObjectId) → Contains (ids_of ps) i → P i
-each_id P [] f i c = absurd (no_member i c)
-each_id P (q ∷ ps) f i c = ⊎_elim (λ e. subst P e (f q (Contains-here q ps))) (λ m. each_id P ps (λ p n. f p (Contains-there p q ps n)) i m) (Contains-cons_cases i q.id (ids_of ps) c)
 
 module _ (objects : Objects) (tips hiders : List ObjectId) (whole : AreWhole objects (tips ++ hiders)) where
   abbrev IsMet : ObjectId → Type 0
@@ -90,29 +91,31 @@ module _ (objects : Objects) (tips hiders : List ObjectId) (whole : AreWhole obj
   -- what follows of an answer
   abbrev IsGood : Option (Result Info Error) → Walk → Type 0
   IsGood None new = Unit {0}
-  IsGood (Some (Ok info)) new = Stands new
+  IsGood (Some (Ok info)) new = Stands new × ((i : ObjectId) → Contains info.parent_ids.items i → IsMet i)
   IsGood (Some (Err e)) new = fault_of_walk e ≢ fault.Internal → IsOutside (fault_of_walk e)
 
   texted : (w : Walk) (text : List ℕ) (i : ObjectId) → Stands w → Stands (record w { text = text; current = Some i })
   texted w text i s = record { store = s.store; rows = s.rows; behind = s.behind; met = s.met }
 
   concluded : {i : ObjectId} {ps : List ObjectId} {generation : Option ℕ} {time : Option ℤ} {text : List ℕ} {read : Option DecodeError} {w : Walk} {how : Treated} {answer : Result Info Error} {new : Walk}
-      → Concludes objects_of never_faulty accepts_all i ps generation time text read w how answer new → read ≡ None → Stands w → IsGood (Some answer) new
-  concluded {i} {text = text} {w = w} (given f is) e s = texted w text i s
-  concluded (broken f) e s = let n : None ≡ Some _ = sym e ∙ f in cc
-  concluded store_fails e s = λ ne. absurd (ne refl)
-  concluded no_memory e s = λ ne. tt
+      → Concludes objects_of never_faulty accepts_all i ps generation time text read w how answer new → read ≡ None → ((j : ObjectId) → Contains ps j → IsMet j) → Stands w → IsGood (Some answer) new
+  concluded {i} {text = text} {w = w} (given f is) e m s = (texted w text i s, λ j c. m j (subst (λ xs. Contains xs j) is.same_parents c))
+  concluded (broken f) e m s = let n : None ≡ Some _ = sym e ∙ f in cc
+  concluded store_fails e m s = λ ne. absurd (ne refl)
+  concluded no_memory e m s = λ ne. tt
 
   taken : {w : Walk} {p : Pending} {answer : Result Info Error} {new : Walk} → Takes objects_of never_faulty accepts_all w p answer new → Stands w → IsMet p.id → IsGood (Some answer) new
   taken {w} {p} (by_row {row = row} {ids = ids} r e t c) s m =
-      concluded c refl (all_treated t s (λ i n. step m (subst (λ xs. Contains xs i) (row_parents objects w.rows s.rows p.id row ids r e) (walked_within w.parents ids i n))))
+      let met : (i : ObjectId) → Contains (by_mode w.parents ids) i → IsMet i = λ i n. step m (subst (λ xs. Contains xs i) (row_parents objects w.rows s.rows p.id row ids r e) (walked_within w.parents ids i n)) in
+      concluded c refl met (all_treated t s met)
   taken {w} {p} (by_store {bytes = bytes} u e t c) s m =
       let reads : ReadsWhole objects p.id = met_whole p.id m in
       let text : read_commit (kind_of p.id) bytes ≡ Some reads.commit = sym (ap (commit_of_object p.id) e) ∙ ap (λ o. commit_at o p.id) s.store ∙ reads.stored in
       let scan = scan_is (kind_of p.id) bytes reads.commit text w.parents in
       let named : reads.commit.parents ≡ parents_of objects p.id = sym (ap parents_in reads.stored) in
       let left : Stands (unrowed w p.id) = record { store = s.store; rows = left_agree w.rows _ s.rows (kept_either w.rows (row_of w.rows p.id)); behind = s.behind; met = s.met } in
-      concluded c (ap (λ x. x.1) scan) (all_treated t left (λ i n. step m (subst (λ xs. Contains xs i) named (walked_within w.parents reads.commit.parents i (subst (λ xs. Contains xs i) (ap (λ x. x.0) scan) n)))))
+      let met : (i : ObjectId) → Contains (scanned w.parents (commit_items (kind_of p.id) bytes)).0 i → IsMet i = λ i n. step m (subst (λ xs. Contains xs i) named (walked_within w.parents reads.commit.parents i (subst (λ xs. Contains xs i) (ap (λ x. x.0) scan) n))) in
+      concluded c (ap (λ x. x.1) scan) met (all_treated t left met)
   taken {w} {p} (not_found {e = e} u f) s m = absurd (no_find p.id e (met_whole p.id m) (subst (λ o. IsExistingFault o (never_faulty o) p.id object.Commit e) s.store f))
   taken (no_memory r) s m = λ ne. tt
 
@@ -150,22 +153,33 @@ module _ (objects : Objects) (tips hiders : List ObjectId) (whole : AreWhole obj
 
   drawn : (infos : List Info) (w at : Walk) → Yields Answers w (all_given infos) at → Stands w → Stands at
   drawn [] w at h s = subst Stands h s
-  drawn (info ∷ infos) w at h s = drawn infos h.0 at h.2 (called h.1 s)
+  drawn (info ∷ infos) w at h s = drawn infos h.0 at h.2 (called h.1 s).0
+
+  -- the parents of each commit given are met
+  named_met : (infos : List Info) (w at : Walk) → Yields Answers w (all_given infos) at → Stands w → (info : Info) → Contains infos info → (i : ObjectId) → Contains info.parent_ids.items i → IsMet i
+  named_met [] w at h s info c i n = absurd (no_member info c)
+  named_met (one ∷ infos) w at h s info c i n =
+      let good = called h.1 s in
+      ⊎_elim (λ e. good.1 i (subst (λ (x : Info). Contains x.parent_ids.items i) (sym e) n)) (λ m. named_met infos h.0 at h.2 good.0 info m i n) (Contains-cons_cases info one infos c)
+
+  begins : (rows : List GraphRow) → IsAgreeing objects rows → (ms : Parents) (by : Sorting) (walk : Walk) → StartsFrom objects rows ms by tips hiders walk → Stands walk
+  begins rows agreeing ms by walk starts =
+      let is = same objects rows ms by tips hiders walk starts in
+      record {
+        store = ap (λ w. w.store) is;
+        rows = subst (IsAgreeing objects) (sym (ap (λ w. w.rows) is)) agreeing;
+        behind = λ i c. subst (λ xs. Contains xs i) (ap (λ w. w.hidden_tips) is) c;
+        met = λ p c. start (is_tip objects rows ms by tips hiders walk starts p.id (in_ids walk.pending p c));
+      }
+
+  -- no parent is lost of the commits that a walk gave which was started so
+  pub none_lost : (rows : List GraphRow) → IsAgreeing objects rows → (ms : Parents) (by : Sorting) (walk : Walk) → StartsFrom objects rows ms by tips hiders walk → (infos : List Info) (at : Walk) → Yields Answers walk (all_given infos) at → (info : Info) → Contains infos info → first_lost objects rows info.parent_ids.items ≡ None
+  none_lost rows agreeing ms by walk starts infos at h info c = all_there objects rows info.parent_ids.items (λ i n. met_whole i (named_met infos walk at h (begins rows agreeing ms by walk starts) info c i n))
 
   -- a walk that was started so
   pub drawn_well : (rows : List GraphRow) → IsAgreeing objects rows → (ms : Parents) (by : Sorting) (walk : Walk) → StartsFrom objects rows ms by tips hiders walk → (infos : List Info) (answer : Result (Unit {0}) Fault) → Ends Answers IsWalkFault walk infos answer → EndsWell answer
   drawn_well rows agreeing ms by walk starts infos answer (finished new h) = tt
-  drawn_well rows agreeing ms by walk starts infos answer (failed e f new h is) = subst IsOutside (sym is) (called h.2 (drawn infos walk h.0 h.1 begins) (next_sound h.2))
-    where
-      begins : Stands walk
-      begins =
-          let is = same objects rows ms by tips hiders walk starts in
-          record {
-            store = ap (λ w. w.store) is;
-            rows = subst (IsAgreeing objects) (sym (ap (λ w. w.rows) is)) agreeing;
-            behind = λ i c. subst (λ xs. Contains xs i) (ap (λ w. w.hidden_tips) is) c;
-            met = λ p c. start (is_tip objects rows ms by tips hiders walk starts p.id (in_ids walk.pending p c));
-          }
+  drawn_well rows agreeing ms by walk starts infos answer (failed e f new h is) = subst IsOutside (sym is) (called h.2 (drawn infos walk h.0 h.1 (begins rows agreeing ms by walk starts)) (next_sound h.2))
   drawn_well rows agreeing ms by walk starts infos answer (cut_short info new h) = tt
 
   pub started_well : (by : Sorting) (e : Error) → FailsAtStart objects by tips e → IsOutside (fault_of_walk e)
@@ -188,9 +202,12 @@ module _ (objects : Objects) (tips hiders : List ObjectId) (whole : AreWhole obj
 
 module _ (objects : Objects) (rows : List GraphRow) (agreeing : IsAgreeing objects rows) (old : Option (List ℕ)) where
   pub well : (ms : Parents) (by : Sorting) (limit : Option ℕ) (tips hiders : List ObjectId) → AreWhole objects (tips ++ hiders) → (answer : Result (Unit {0}) Fault) (new : Option (List ℕ)) → Serves objects rows old (Commits (Simple ms by) limit tips hiders) answer new → EndsWell answer
-  well ms by None tips hiders whole answer new (walked walk infos starts ends written) = drawn_well objects tips hiders whole rows agreeing ms by walk starts infos answer ends
-  well ms by (Some n) tips hiders whole answer new (walked walk infos starts (enough at h e) written) = tt
-  well ms by (Some n) tips hiders whole answer new (walked walk infos starts (before ends less) written) = drawn_well objects tips hiders whole rows agreeing ms by walk starts infos answer ends
+  well ms by None tips hiders whole answer new (walked walk infos starts ends parents written) = drawn_well objects tips hiders whole rows agreeing ms by walk starts infos answer ends
+  well ms by (Some n) tips hiders whole answer new (walked walk infos starts (enough at h e) parents written) = tt
+  well ms by (Some n) tips hiders whole answer new (walked walk infos starts (before ends less) parents written) = drawn_well objects tips hiders whole rows agreeing ms by walk starts infos answer ends
+  well ms by limit tips hiders whole answer new (run.lost walk at infos {why = why} other starts h less l written) =
+      let last : Contains infos l.last = subst (λ xs. Contains xs l.last) (sym l.place) (Contains-append_right l.before (l.last ∷ []) l.last (Contains-here l.last [])) in
+      failed_so EndsWell tt (Err why) why refl (λ not_memory. let no : None ≡ Some why = sym (none_lost objects tips hiders whole rows agreeing ms by walk starts infos at h l.last last) ∙ l.lacks not_memory in cc)
   well ms by limit tips hiders whole answer new (not_walked e f) = started_well objects tips hiders whole by e f
   well ms by limit tips hiders whole answer new unserved = tt
   well ms by limit tips hiders whole answer new not_written = tt

@@ -1,10 +1,11 @@
 -- What a simple walk over records gives that is drawn to its end, by what commits reach.
-use Rattle.std.proofs.Common.{◌≡◌, ◌≢◌, List, [], ◌∷◌, ◌++◌, map, filter, Bool, true, false, not, Option, None, Some, Ok, Err, Contains, All, IsSome, refl, sym, ap, subst, ◌∙◌, ⊎_elim}
-use Rattle.gix_commands.proofs.Common.{Drains, Yields, transport, false≢true, All-nil, All-cons, Contains-append_left, Contains-append_right, Contains-append_cases, among_from, among_is, Contains-here, Contains-cons_cases, no_member}
+use Rattle.std.proofs.Common.{◌≡◌, ◌≢◌, ◌≤◌, ℕ, zero, suc, length, take, take_all, arith, List, [], ◌∷◌, ◌++◌, map, filter, Bool, true, false, not, Option, None, Some, Ok, Err, Contains, All, IsSome, refl, sym, ap, subst, ◌∙◌, ⊎_elim}
+use Rattle.gix_commands.proofs.Common.{All-contains, commit_at, Pending, Contains-there, Drains, Yields, transport, false≢true, All-nil, All-cons, Contains-append_left, Contains-append_right, Contains-append_cases, among_from, among_is, Contains-here, Contains-cons_cases, no_member}
 use Rattle.gix_commands.proofs.Common.{ObjectId, is_among, get, Object, Objects, GraphRow, Info, Parents, CommitTimeOrder, ReadsWhole, by_mode, parents_of, time_of, IsAgreeing, new_ids, ids_of, text_next, IsFresh, IsGivenBy, IsNewWalk}
 use Rattle.gix_commands.proofs.Common.{ReadsParents, IsInOrder, next_of, is_older, cutoff, time_order, reached_list, all_kept, drawn_whole, loosened, no_start, named_all, reached_known, AreWhole, IsSimpleBy, followed, kept_tips}
 use Rattle.gix_commands.proofs.Common.{StartsFrom, objects_of, never_faulty, accepts_all, filter_within, filter_all, reach_more}
 use Rattle.std.specs.List.{AllZip}
+use Rattle.std.proofs.lemmas.List.{length-map}
 use Rattle.gix_object.specs.declared.Kind.TheVariants as object
 use Rattle.gix_revwalk.specs.declared.Parents.TheVariants as mode
 use Rattle.gix_simple.specs.declared.Error.{Error}
@@ -38,8 +39,19 @@ module _ (objects : Objects) (named : ObjectId → List ObjectId) (rows : List G
   same_ids (info ∷ infos) [] h = absurd h
   same_ids (info ∷ infos) (i ∷ ids) h = (λ k. h.0.info_is.same_id k ∷ same_ids infos ids h.1 k)
 
+  -- the commit that was given for one of the first ids
+  pub given_for : (k : ℕ) (infos : List Info) (ids : List ObjectId) → AllZip (IsGivenBy objects named rows m order) (given infos) ids → (i : ObjectId) → Contains (take k ids) i → (info : Info) × Contains (take k infos) info × (info.parent_ids.items ≡ by_mode m (named i))
+  given_for zero infos ids h i c = absurd (no_member i c)
+  given_for (suc k) [] [] h i c = absurd (no_member i c)
+  given_for (suc k) [] (j ∷ ids) h i c = absurd h
+  given_for (suc k) (info ∷ infos) [] h i c = absurd h
+  given_for (suc k) (info ∷ infos) (j ∷ ids) h i c =
+      ⊎_elim (λ e. (info, Contains-here info (take k infos), h.0.info_is.same_parents ∙ ap (λ x. by_mode m (named x)) e))
+      (λ t. let g : (one : Info) × Contains (take k infos) one × (one.parent_ids.items ≡ by_mode m (named i)) = given_for k infos ids h.1 i t in (g.0, Contains-there g.0 info (take k infos) g.1, g.2))
+      (Contains-cons_cases i j (take k ids) c)
+
   -- each was read
-  was_read : (infos : List Info) (ids : List ObjectId) → AllZip (IsGivenBy objects named rows m order) (given infos) ids → (i : ObjectId) → Contains ids i → ReadsParents objects m i
+  pub was_read : (infos : List Info) (ids : List ObjectId) → AllZip (IsGivenBy objects named rows m order) (given infos) ids → (i : ObjectId) → Contains ids i → ReadsParents objects m i
   was_read [] [] h i c = absurd (no_member i c)
   was_read [] (j ∷ ids) h i c = absurd h
   was_read (info ∷ infos) [] h i c = absurd h
@@ -72,6 +84,26 @@ pub no_ids : (ids : List ObjectId) → ((i : ObjectId) → Contains ids i → �
 no_ids [] none = refl
 no_ids (i ∷ ids) none = absurd (none i (Contains-here i ids))
 
+-- where no tip is left, the list of nothing is right
+pub none_listed : (objects : Objects) (m : Parents) (by : Sorting) (tips hidden : List ObjectId) → kept_tips objects by tips ≡ [] → IsSimpleBy objects (text_next objects) m by tips hidden []
+none_listed objects m by tips hidden none =
+    let texts = text_next objects in
+    let below = reached_list texts hidden (hidden ++ named_all objects) (reached_known objects texts hidden (λ c i n. n)) in
+    let hidden_so : ObjectId → Bool = (λ i. is_among i below.0) in
+    list_of objects texts (followed objects texts m by) (followed_within objects texts m by) (kept_tips objects by tips) hidden hidden_so (λ i. (λ e. (below.1 i).0 (among_is i below.0 e), λ r. among_from i below.0 ((below.1 i).1 r))) (time_order m by) []
+    (transport (λ k. IsInOrder (time_order m by) (time_of objects) (λ c. filter (λ i. not (hidden_so i)) (followed objects texts m by c)) (filter (λ i. not (hidden_so i)) (new_ids (λ i. false) (sym none k))) [])
+    (empty_order (time_order m by) (time_of objects) (λ c. filter (λ i. not (hidden_so i)) (followed objects texts m by c))))
+
+pub each_id : (P : ObjectId → Type 0) (ps : List Pending) → ((p : Pending) → Contains ps p → P p.id) → (i : ObjectId) → Contains (ids_of ps) i → P i
+each_id P [] f i c = absurd (no_member i c)
+each_id P (q ∷ ps) f i c = ⊎_elim (λ e. subst P e (f q (Contains-here q ps))) (λ m. each_id P ps (λ p n. f p (Contains-there p q ps n)) i m) (Contains-cons_cases i q.id (ids_of ps) c)
+
+-- by time the tips were read
+read_tips : (by : Sorting) (first sorted : Walk) → IsSorted first by sorted → by ≢ sorting.BreadthFirst → (i : ObjectId) → Contains (ids_of first.pending) i → IsSome (commit_at first.store i)
+read_tips sorting.BreadthFirst first sorted s other i c = absurd (other refl)
+read_tips (sorting.ByCommitTime order) first sorted s other i c = each_id (λ j. IsSome (commit_at first.store j)) first.pending (λ p m. All-contains _ first.pending s.read p m) i c
+read_tips (sorting.ByCommitTimeCutoff order seconds) first sorted s other i c = each_id (λ j. IsSome (commit_at first.store j)) first.pending (λ p m. All-contains _ first.pending s.read p m) i c
+
 module _ (objects : Objects) (rows : List GraphRow) (m : Parents) (by : Sorting) (tips hidden : List ObjectId) (walk : Walk) (starts : StartsFrom objects rows m by tips hidden walk) where
   -- the walk before its first step, its options written out
   abbrev pub opened : Walk
@@ -102,6 +134,11 @@ module _ (objects : Objects) (rows : List GraphRow) (m : Parents) (by : Sorting)
       ap (λ w. ids_of w.pending) starts.hides ∙ sorted_so.pending
       ∙ (λ k. filter (λ i. not (is_older (time_of (new_walk.same_store k) i) (cutoff mode.All by))) (first k))
       ∙ new_kept (λ i. not (is_older (time_of objects i) (cutoff mode.All by))) (λ i. false) (λ i. false) tips (λ i k. refl)
+
+  pub tips_read : by ≢ sorting.BreadthFirst → (i : ObjectId) → Contains tips i → IsSome (commit_at objects i)
+  tips_read other i c =
+      let first : ids_of starts.made.pending ≡ new_ids (λ i. false) tips = new_walk.pending ∙ ap (new_ids (λ i. false)) (filter_all (λ i. true) tips (λ i c. refl)) in
+      subst (λ o. IsSome (commit_at o i)) new_walk.same_store (read_tips by starts.made starts.sorted starts.sorts other i (subst (λ xs. Contains xs i) (sym first) (new_in tips i c)))
 
   is_left : (i : ObjectId) → Contains (ids_of walk.pending) i → Contains left i
   is_left i c = in_new (λ j. false) left i (subst (λ xs. Contains xs i) pending c)
@@ -205,14 +242,7 @@ module _ (objects : Objects) (rows : List GraphRow) (m : Parents) (by : Sorting)
 
       -- where no tip is left nothing is listed
       pub listed_none : left ≡ [] → IsSimpleBy objects (text_next objects) m by tips hidden ids
-      listed_none none =
-          let texts = text_next objects in
-          let below = reached_list texts hidden (hidden ++ named_all objects) (reached_known objects texts hidden (λ c i n. n)) in
-          let hidden_so : ObjectId → Bool = (λ i. is_among i below.0) in
-          let empty : ids ≡ [] = no_ids ids (λ i c. no_start _ left i ((listed_whole.exact i).0 c).reached none) in
-          list_of objects texts (followed objects texts m by) (followed_within objects texts m by) left hidden hidden_so (λ i. (λ e. (below.1 i).0 (among_is i below.0 e), λ r. among_from i below.0 ((below.1 i).1 r))) (time_order m by) ids
-          (transport (λ k. IsInOrder (time_order m by) (time_of objects) (λ c. filter (λ i. not (hidden_so i)) (followed objects texts m by c)) (filter (λ i. not (hidden_so i)) (new_ids (λ i. false) (sym none k))) (sym empty k))
-          (empty_order (time_order m by) (time_of objects) (λ c. filter (λ i. not (hidden_so i)) (followed objects texts m by c))))
+      listed_none none = subst (IsSimpleBy objects (text_next objects) m by tips hidden) (sym (no_ids ids (λ i c. no_start _ left i ((listed_whole.exact i).0 c).reached none))) (none_listed objects m by tips hidden none)
 
     -- without hidden tips it is one by the parents that texts name
     module _ (none : hidden ≡ []) where
@@ -234,6 +264,16 @@ module _ (objects : Objects) (rows : List GraphRow) (m : Parents) (by : Sorting)
           list_of objects (text_next objects) through (followed_within objects (text_next objects) m by) left hidden (λ i. false)
           (λ i. (λ e. absurd (false≢true e), λ r. absurd (no_start (text_next objects) hidden i r none))) (time_order m by) ids
           (transport (λ k. IsInOrder (time_order m by) (time_of objects) (λ c. sym (all_kept (through c)) k) (starts_are k) (sym told_ids k)) told.in_order)
+
+      -- what is named behind a commit was given with it
+      pub given_with : (c : ObjectId) → Reaches through left c → (info : Info) × Contains infos info × (info.parent_ids.items ≡ by_mode m (text_next objects c))
+      given_with c r =
+          let listed : Contains told.ids c = (told.reached c).1 (reach_more through left (ids_of walk.pending) is_pending c r) in
+          let g = given_for objects (text_next objects) rows m (time_order m by) (length infos) infos told.ids told.given c (subst (λ xs. Contains xs c) (sym (take_all (length infos) told.ids same_length)) listed) in
+          (g.0, subst (λ xs. Contains xs g.0) (take_all (length infos) infos (omega arith)) g.1, g.2)
+        where
+          same_length : length told.ids ≤ length infos
+          same_length = let same : length ids ≡ length told.ids = ap length told_ids in let mapped : length ids ≡ length infos = length-map infos (λ (info : Info). info.id) in omega (arith, same, mapped)
 
       -- all that the tips reach was read
       pub all_stored : (i : ObjectId) → Reaches through left i → (thing : Object) × (get objects i ≡ Some thing)

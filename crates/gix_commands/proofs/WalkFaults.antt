@@ -1,6 +1,6 @@
 -- Which faults walks may have, and commands that are served.
-use Rattle.std.proofs.Common.{ℕ, List, Option, None, Some, Result, Ok, Err, sym, subst}
-use Rattle.gix_commands.proofs.Common.{GraphRow, Objects, Info, Fault, fault_of_find, fault_of_walk, fault_of_topo_walk, fault_of_contained, fault_of_tree_walk, walked, not_walked, walked_down, not_built, not_listed, counted, not_ahead}
+use Rattle.std.proofs.Common.{◌≡◌, ◌≢◌, ◌⊎◌, ℕ, List, Option, None, Some, Result, Ok, Err, refl, sym, ap, subst, inl, inr, ⊎_elim, ◌∙◌}
+use Rattle.gix_commands.proofs.Common.{ObjectId, GraphRow, Objects, Info, Fault, fault_of_find, fault_of_walk, fault_of_topo_walk, fault_of_contained, fault_of_disagreement, fault_of_records, fault_of_tree_walk, walked, not_walked, walked_down, not_built, not_listed, counted, not_ahead}
 use Rattle.gix_commands.proofs.Common.{not_behind, selected, not_selected, unserved, Ends, EndsBy, finished, cut_short, enough, before, Request}
 use Rattle.gix_contained.specs.declared.Error.{Error as ContainedError}
 use Rattle.gix_contained.specs.declared.Error.TheVariants as contained_error
@@ -14,9 +14,19 @@ use Rattle.gix_topo.specs.declared.Error.TheVariants as topo_error
 use Rattle.gix_tree.specs.declared.breadthfirst.Error.{Error as TreeError}
 use Rattle.gix_tree.specs.declared.breadthfirst.Error.TheVariants as tree_error
 use Rattle.gix_words.specs.declared.fault.Fault.TheVariants as fault
+use Rattle.gix_graph_check.specs.declared.Disagreement.{Disagreement}
+use Rattle.gix_graph_check.specs.declared.Disagreement.TheVariants as disagreement
+use Rattle.gix_graph_file.specs.declared.error.ChainError.{ChainError}
+use Rattle.gix_records.specs.declared.Error.{Error as RecordsError}
+use Rattle.gix_records.specs.declared.Error.TheVariants as records
+use Rattle.gix_commands.specs.Checked.{first_lost}
+use Rattle.gix_commands.specs.Opening.{IsOpeningFault}
+use Rattle.gix_commands.specs.Run as run
 use Rattle.gix_commands.specs.Run.{Serves, listed, not_written}
 use Rattle.gix_commands.specs.TopoWalked as topo
 use Rattle.gix_commands.specs.Walked.{Answers, IsWalkFault, failed}
+use Rattle.gix_commands.proofs.LostParents.{lost_so}
+use Rattle.gix_commands.proofs.MemoryFaults.{failed_so}
 
 -- any but those of the words, of the input and of a commit-graph
 abbrev pub IsOfWalk : Fault → Type 0
@@ -89,8 +99,12 @@ simple_tells e f is = subst IsOfWalk (sym is) (simple_of_walk e)
 topo_tells : (e : TopoError) (f : Fault) → topo.IsWalkFault e f → IsOfWalk f
 topo_tells e f is = subst IsOfWalk (sym is) (topo_of_walk e)
 
+lost_of_walk : (objects : Objects) (rows : List GraphRow) (ids : List ObjectId) (why : Fault) → (why ≢ fault.Memory → first_lost objects rows ids ≡ Some why) → OfWalk (Err why)
+lost_of_walk objects rows ids why h = failed_so OfWalk tt (Err why) why refl (λ other. lost_so IsOfWalk (λ i. tt) (λ i. tt) tt objects rows ids why (h other))
+
 pub serves_of_walk : {objects : Objects} {rows : List GraphRow} {old new : Option (List ℕ)} {request : Request} {answer : Result (Unit {0}) Fault} → Serves objects rows old request answer new → OfWalk answer
-serves_of_walk (walked {limit = limit} walk infos s ends a) = by_of_walk Answers IsWalkFault limit walk infos _ simple_tells ends
+serves_of_walk (walked {limit = limit} walk infos s ends whole a) = by_of_walk Answers IsWalkFault limit walk infos _ simple_tells ends
+serves_of_walk {objects} {rows} (run.lost walk at infos {why = why} by s h more l a) = lost_of_walk objects rows l.last.parent_ids.items why l.lacks
 serves_of_walk (not_walked why f) = simple_of_walk why
 serves_of_walk (walked_down {limit = limit} walk infos built ends a) = by_of_walk topo.Answers topo.IsWalkFault limit walk infos _ topo_tells ends
 serves_of_walk (not_built why h) = topo_of_walk why
@@ -103,3 +117,18 @@ serves_of_walk (selected those s a) = tt
 serves_of_walk (not_selected why f) = contained_of_walk why
 serves_of_walk unserved = tt
 serves_of_walk not_written = tt
+
+-- a walk, records and what is stored have no fault of layers that aren't opened
+pub walk_opened : {answer : Result (Unit {0}) Fault} (e : Fault) → OfWalk answer → answer ≡ Err e → IsOpeningFault e → ⊥
+walk_opened e w is (inl (why, same)) = subst OfWalk (is ∙ ap (λ f. Err f) same) w
+walk_opened e w is (inr (i, same)) = subst OfWalk (is ∙ ap (λ f. Err f) same) w
+
+pub records_opened : (why : RecordsError) (f e : Fault) → f ≡ fault_of_records why → f ≡ e → IsOpeningFault e → ⊥
+records_opened records.Read f e is same o = ⊎_elim (λ (p : (why : ChainError) × (e ≡ fault.Graph why)). let is = p.1 in cc) (λ (p : (i : ObjectId) × (e ≡ fault.Row i)). let is = p.1 in cc) o
+records_opened (records.Record n) f e is same o = ⊎_elim (λ (p : (why : ChainError) × (e ≡ fault.Graph why)). let is = p.1 in cc) (λ (p : (i : ObjectId) × (e ≡ fault.Row i)). let is = p.1 in cc) o
+records_opened records.Memory f e is same o = ⊎_elim (λ (p : (why : ChainError) × (e ≡ fault.Graph why)). let is = p.1 in cc) (λ (p : (i : ObjectId) × (e ≡ fault.Row i)). let is = p.1 in cc) o
+
+pub stored_opened : (why : Disagreement) (f e : Fault) → f ≡ fault_of_disagreement why → f ≡ e → IsOpeningFault e → ⊥
+stored_opened (disagreement.Row i) f e is same o = ⊎_elim (λ (p : (why : ChainError) × (e ≡ fault.Graph why)). let is = p.1 in cc) (λ (p : (i : ObjectId) × (e ≡ fault.Row i)). let is = p.1 in cc) o
+stored_opened (disagreement.Store i) f e is same o = ⊎_elim (λ (p : (why : ChainError) × (e ≡ fault.Graph why)). let is = p.1 in cc) (λ (p : (i : ObjectId) × (e ≡ fault.Row i)). let is = p.1 in cc) o
+stored_opened disagreement.Memory f e is same o = ⊎_elim (λ (p : (why : ChainError) × (e ≡ fault.Graph why)). let is = p.1 in cc) (λ (p : (i : ObjectId) × (e ≡ fault.Row i)). let is = p.1 in cc) o

@@ -112,27 +112,23 @@ SimpleBegins =
     request_of words ≡ Ok (Commits (Simple parents by) (Some n) tips hidden) → AreRecords records input → Runs words (Some input) old (Ok tt) new →
     (ids : List ObjectId) × IsSimpleList (stored records) parents by tips hidden ids × Appends old new (lines_of_ids (take n ids))
 
--- all that the ids reach by the parents that texts name is stored
-abbrev pub AreStored : Objects → List ObjectId → Type 0
-AreStored objects ids = (i : ObjectId) → Reaches (text_next objects) ids i → IsSome (get objects i)
-
--- Where the records are a part of a store, a run that ends well writes such a list of the whole store, whatever else is in it. Behind a
--- cutoff they must have all that tips and hidden tips reach: a parent that they haven't has the time 0, and may be left out.
+-- Where the records are a part of a store, a run that ends well writes such a list of the whole store, whatever else is in it: a parent that
+-- an order by time or a cutoff goes by is among the records, or is reported.
 abbrev pub SimpleListsOfPart : Type 0
 SimpleListsOfPart =
     (words : List (List ℕ)) (input : List ℕ) (records : List Record) (parents : Parents) (by : Sorting) (tips hidden : List ObjectId)
     (old new : Option (List ℕ)) (objects : Objects) →
     request_of words ≡ Ok (Commits (Simple parents by) None tips hidden) → AreRecords records input → IsPartOf (stored records) objects →
-    (cutoff mode.All by ≢ None → AreStored (stored records) (tips ++ hidden)) → Runs words (Some input) old (Ok tt) new →
+    Runs words (Some input) old (Ok tt) new →
     (ids : List ObjectId) × SimpleListsRead objects parents by tips hidden ids × Appends old new (lines_of_ids ids)
 
--- Where they have all that tips and hidden tips reach, so are the first `n` of a list.
+-- So are the first `n` of a list.
 abbrev pub SimpleBeginsOfPart : Type 0
 SimpleBeginsOfPart =
     (words : List (List ℕ)) (input : List ℕ) (records : List Record) (parents : Parents) (by : Sorting) (n : ℕ) (tips hidden : List ObjectId)
     (old new : Option (List ℕ)) (objects : Objects) →
     request_of words ≡ Ok (Commits (Simple parents by) (Some n) tips hidden) → AreRecords records input → IsPartOf (stored records) objects →
-    AreStored (stored records) (tips ++ hidden) → Runs words (Some input) old (Ok tt) new →
+    Runs words (Some input) old (Ok tt) new →
     (ids : List ObjectId) × IsSimpleList objects parents by tips hidden ids × Appends old new (lines_of_ids (take n ids))
 
 -- No id is there twice, and each is one that the tips reach through these parents and the ends don't. All of these are there, where none of

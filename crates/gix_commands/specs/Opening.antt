@@ -1,11 +1,12 @@
 -- The layers of Git's commit-graph, opened as rows that can be used without a store.
-use Rattle.std.specs.Prelude.{◌≡◌, ◌≢◌, ℕ, List, map, Vec, vec_items, Option, Result, Ok, Err}
+use Rattle.std.specs.Prelude.{◌≡◌, ◌≢◌, ◌⊎◌, ℕ, List, map, Vec, vec_items, Option, Result, Ok, Err}
 use Rattle.std.specs.Io.KnownBytes.{Appends}
 use Rattle.std.specs.List.{flat_map}
 use Rattle.gix_hash.specs.declared.ObjectId.{ObjectId}
 use Rattle.gix_commitgraph.specs.Rows.{GraphRow}
 use Rattle.gix_graph_check.specs.Heads.{heads_of}
 use Rattle.gix_graph_check.specs.Sound.{AreSound, IsFirstUnsound}
+use Rattle.gix_graph_file.specs.declared.error.ChainError.{ChainError}
 use Rattle.gix_graph_file.specs.declared.error.ChainError.TheVariants as chain
 use Rattle.gix_graph_file.specs.Chain.{HasChain, RefusesChain}
 use Rattle.gix_words.specs.declared.fault.Fault.{Fault}
@@ -37,6 +38,10 @@ FailsToOpen layers (fault.Disagrees i) = ⊥
 FailsToOpen layers fault.Read = ⊥
 FailsToOpen layers fault.Write = ⊥
 FailsToOpen layers fault.Internal = ⊥
+
+-- a fault that only layers have that aren't opened
+abbrev pub IsOpeningFault : Fault → Type 0
+IsOpeningFault e = ((why : ChainError) × (e ≡ fault.Graph why)) ⊎ ((i : ObjectId) × (e ≡ fault.Row i))
 
 -- ids, one a line
 abbrev pub id_lines : List ObjectId → List ℕ

@@ -1,6 +1,7 @@
 -- What a run of the program may answer and write.
-use Rattle.std.specs.Prelude.{◌≡◌, ℕ, List, [], ◌∷◌, Option, Result, Ok, Err}
+use Rattle.std.specs.Prelude.{◌≡◌, ◌≢◌, ℕ, List, [], ◌∷◌, Option, Result, Ok, Err}
 use Rattle.std.specs.Io.KnownBytes.{Appends}
+use Rattle.std.specs.Iterator.{Yields}
 use Rattle.std.specs.List.{flat_map}
 use Rattle.gix_hash.specs.declared.ObjectId.{ObjectId}
 use Rattle.gix_object.specs.Object.{Objects}
@@ -11,6 +12,7 @@ use Rattle.gix_revwalk.specs.declared.Info.{Info}
 use Rattle.gix_revwalk.specs.declared.Parents.{Parents}
 use Rattle.gix_simple.specs.declared.Error.{Error}
 use Rattle.gix_simple.specs.declared.Sorting.{Sorting}
+use Rattle.gix_simple.specs.declared.Sorting.TheVariants as sorting
 use Rattle.gix_topo.specs.declared.Error.{Error as TopoError}
 use Rattle.gix_topo.specs.declared.Sorting.{Sorting as TopoSorting}
 use Rattle.gix_tree.specs.declared.breadthfirst.Error.{Error as TreeError}
@@ -20,6 +22,7 @@ use Rattle.gix_words.specs.declared.fault.Fault.TheVariants as fault
 use Rattle.gix_words.specs.declared.words.Order.TheVariants.{Simple, Topo}
 use Rattle.gix_commands.specs.Ahead.{Counts, FailsToCount, ahead_line}
 use Rattle.gix_words.specs.Faults.{fault_of_walk, fault_of_topo_walk, fault_of_contained, fault_of_tree_walk}
+use Rattle.gix_commands.specs.Checked.{AsksForMore, GoesOnWhole, LacksParent}
 use Rattle.gix_commands.specs.Files.{RecordsTree, file_lines}
 use Rattle.gix_graph_check.specs.declared.Disagreement.TheVariants.{Row}
 use Rattle.gix_graph_store.specs.Laws.{StoredAgree}
@@ -29,7 +32,7 @@ use Rattle.gix_records.specs.Input.{Tells}
 use Rattle.gix_records.specs.Records.{Record, AreRecords, IsBadRecord, stored}
 use Rattle.gix_commands.specs.Opening.{Opens, FailsToOpen}
 use Rattle.gix_commands.specs.TopoWalked as topo
-use Rattle.gix_commands.specs.Walked.{Walk, Answers, IsWalkFault, StartsFrom, FailsAtStart, EndsBy, line_of, lines_of, never_faulty}
+use Rattle.gix_commands.specs.Walked.{Walk, Answers, IsWalkFault, StartsFrom, FailsAtStart, EndsBy, given, line_of, lines_of, never_faulty}
 use Rattle.gix_words.specs.Words.{Request, Commits, Files, Ahead, Contained, request_of}
 
 -- Over objects, rows for the walks of commits and a writer that has the bytes `old`: which answers a request may get, and which bytes the writer then has.
@@ -37,8 +40,15 @@ pub data Serves (objects : Objects) (rows : List GraphRow) (old : Option (List �
   -- the lines of the commits before a fault are written
   walked : {parents : Parents} {by : Sorting} {limit : Option ℕ} {tips hidden : List ObjectId} (walk : Walk) (infos : List Info)
       {answer : Result (Unit {0}) Fault} {new : Option (List ℕ)}
-      → StartsFrom objects rows parents by tips hidden walk → EndsBy Answers IsWalkFault limit walk infos answer → Appends old new (lines_of infos)
+      → StartsFrom objects rows parents by tips hidden walk → EndsBy Answers IsWalkFault limit walk infos answer
+      → GoesOnWhole objects rows by limit infos → Appends old new (lines_of infos)
       → Serves objects rows old (Commits (Simple parents by) limit tips hidden) answer new
+  -- by time it ends behind a commit one of whose parents isn't there
+  lost : {parents : Parents} {by : Sorting} {limit : Option ℕ} {tips hidden : List ObjectId} (walk at : Walk) (infos : List Info) {why : Fault}
+      {new : Option (List ℕ)} → by ≢ sorting.BreadthFirst
+      → StartsFrom objects rows parents by tips hidden walk → Yields Answers walk (given infos) at → AsksForMore limit infos
+      → LacksParent objects rows infos why → Appends old new (lines_of infos)
+      → Serves objects rows old (Commits (Simple parents by) limit tips hidden) (Err why) new
   not_walked : {parents : Parents} {by : Sorting} {limit : Option ℕ} {tips hidden : List ObjectId} (e : Error) → FailsAtStart objects by tips e
       → Serves objects rows old (Commits (Simple parents by) limit tips hidden) (Err (fault_of_walk e)) old
   walked_down : {by : TopoSorting} {limit : Option ℕ} {tips ends : List ObjectId} (walk : topo.Walk) (infos : List Info)

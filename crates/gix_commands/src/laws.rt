@@ -17,8 +17,7 @@ pub fn simple_lists()
 {}
 
 /// Where the records are a part of a repository, such a list is right of the whole repository, whatever else is in it. Nothing
-/// more is asked, of the records or of the repository, but with `--since` that the records have all that tips and hidden tips reach: a
-/// parent that they haven't is taken for an old one.
+/// more is asked, of the records or of the repository.
 pub fn simple_lists_of_part()
     ensures { SimpleListsOfPart }
 {}
@@ -29,8 +28,8 @@ pub fn simple_begins()
     ensures { SimpleBegins }
 {}
 
-/// Where the records are a part of a repository, and have all that tips and hidden tips reach, these lines are the first of a list that is
-/// right of the whole repository.
+/// Where the records are a part of a repository, these lines are the first of a list that is right of the whole repository. Nothing more is
+/// asked, of the records or of the repository.
 pub fn simple_begins_of_part()
     ensures { SimpleBeginsOfPart }
 {}

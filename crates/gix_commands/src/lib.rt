@@ -14,6 +14,7 @@ ghost use Rattle.gix_graph_store.specs.WithRows.{with_rows};
 ghost use Rattle.gix_revwalk.specs.Agreeing.{rows_in};
 
 mod ahead;
+mod checked;
 mod commits;
 mod contains;
 mod digits;
@@ -25,6 +26,7 @@ mod output;
 mod over;
 
 use ahead::write_ahead;
+use checked::Checked;
 use commits::{topo_walk_from, walk_from};
 use contains::write_contained;
 use files::write_files;
@@ -33,6 +35,7 @@ use given::serve_records;
 use gix_parts::graph::Graph;
 use gix_parts::hash::ObjectId;
 use gix_parts::records::{self, LentStore};
+use gix_traverse::commit::simple::Sorting;
 pub use gix_words::Fault;
 use gix_words::{Command, Order, read_command};
 pub use graph::write_heads;
@@ -56,7 +59,7 @@ use std::io::{Read, Write};
 /// # Errors
 /// `Usage` and `Id` where the words are no command, `Read` where the reader fails or gives no end when it is asked for the last time,
 /// `Record` where the input isn't records: nothing is written. `Missing`, `WrongKind` and `Broken` where the walk meets such an object,
-/// `Cycle` where it meets a tree that is under itself, and `Memory`: the lines of the commits before are written, and nothing of
+/// or in an order by time such a parent of the commit that it wrote last, `Cycle` where it meets a tree that is under itself, and `Memory`: the lines of the commits before are written, and nothing of
 /// `files`, `ahead` and `contains`. `Write` where the writer fails: what was written is not stated.
 pub fn run<R: Read, W: Write>(
     alloc: Global,
@@ -101,7 +104,8 @@ fn serve<W: Write>(
     }
 }
 
-/// Writes the commits that the tips reach and the hidden tips don't, or as many of them as the limit says.
+/// Writes the commits that the tips reach and the hidden tips don't, or as many of them as the limit says. By time, each of them behind
+/// which more is asked for has to have its parents.
 fn serve_commits<W: Write>(
     alloc: Global,
     order: Order,
@@ -117,7 +121,11 @@ fn serve_commits<W: Write>(
     match order {
         Order::Simple { parents, sorting } => {
             let walk = walk_from(alloc, parents, sorting, tips, hidden, store, graph)?;
-            write_commits(alloc, walk, limit, writer)
+            if sorting == Sorting::BreadthFirst {
+                return write_commits(alloc, walk, limit, writer);
+            }
+            let checked = Checked::new(alloc, walk, store, graph);
+            write_commits(alloc, checked, limit, writer)
         }
         Order::Topo(sorting) => {
             let walk = topo_walk_from(alloc, sorting, tips, hidden, store, graph)?;

@@ -2,7 +2,7 @@
 ghost use Rattle.std.specs.Prelude.{◌≡◌, ◌≢◌, ◌⊎◌, [], Some, None, Err, OnOk, OnErr, IfErr};
 ghost use Rattle.std.specs.Io.KnownBytes.{Appends};
 ghost use Rattle.std.specs.Iterator.{IsFinite};
-ghost use Rattle.gix_commands.specs.Output.{Grows, Adds, WritesAll};
+ghost use Rattle.gix_commands.specs.Output.{Grows, Adds, StopsWithin, WritesAll};
 ghost use Rattle.gix_commands.specs.Walked.{line_of};
 
 use crate::digits::add_id;
@@ -54,7 +54,7 @@ pub fn write_out<W: Write>(lines: &mut Vec<u8>, writer: &mut W) -> Result<(), Fa
 
 /// Adds a line for each commit to the buffered lines, up to the walk's first fault, or to the limit.
 fn add_lines<I, E, W>(
-    walk: I,
+    mut walk: I,
     limit: Option<u64>,
     lines: &mut Vec<u8>,
     writer: &mut W,
@@ -68,7 +68,7 @@ where
     ensures { result ≢ Err Fault.Write → Adds I.next_gives E.converts limit walk (W.contents writer.old) lines.old.items result (W.contents writer.new) lines.new.items }
 {
     match limit {
-        Some(limit) => add_first_commits(walk, limit, lines, writer),
+        Some(limit) => add_first_commits(&mut walk, limit, lines, writer),
         None => add_commits(walk, lines, writer),
     }
 }
@@ -76,7 +76,7 @@ where
 /// Adds a line for each of the first commits to the buffered lines, up to the walk's first fault. Behind as many commits as the limit says
 /// nothing is drawn.
 fn add_first_commits<I, E, W>(
-    mut walk: I,
+    walk: &mut I,
     limit: u64,
     lines: &mut Vec<u8>,
     writer: &mut W,
@@ -85,9 +85,10 @@ where
     I: Iterator<Item = Result<Info, E>> + Drop,
     E: Into<Fault> + Drop,
     W: Write,
-    requires can { I.can_next walk }
-    requires finite { IsFinite (I.remaining walk) }
-    ensures { result ≢ Err Fault.Write → Adds I.next_gives E.converts (Some limit) walk (W.contents writer.old) lines.old.items result (W.contents writer.new) lines.new.items }
+    requires can { I.can_next walk.old }
+    requires finite { IsFinite (I.remaining walk.old) }
+    ensures adds { result ≢ Err Fault.Write → Adds I.next_gives E.converts (Some limit) walk.old (W.contents writer.old) lines.old.items result (W.contents writer.new) lines.new.items }
+    ensures within { OnOk result (StopsWithin I.next_gives limit walk.old walk.new) }
 {
     let mut left = limit;
     while left > 0 {

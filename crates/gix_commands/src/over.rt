@@ -2,7 +2,7 @@
 
 ghost use Rattle.std.specs.Prelude.{◌≡◌, ◌≢◌, ℕ, List, map, Some, Err, string_bytes};
 ghost use Rattle.gix_records.specs.Records.{Record, AreRecords};
-ghost use Rattle.gix_commands.specs.Opening.{layers_seen};
+ghost use Rattle.gix_commands.specs.Opening.{IsOpeningFault, layers_seen};
 ghost use Rattle.gix_commands.specs.Run.{RunsOver};
 ghost use Rattle.gix_words.specs.Words.{request_of};
 
@@ -23,7 +23,7 @@ use std::io::{Read, Write};
 ///
 /// # Errors
 /// Those of [`run`](crate::run). Behind faults of the words, `Graph` where the layers are no commit-graph, and `Row` where a row can't be
-/// used without a store. Before faults of the walk, `Disagrees` where a record has the id of a row and isn't the commit that the row says.
+/// used without a store: of the input nothing is read. Before faults of the walk, `Disagrees` where a record has the id of a row and isn't the commit that the row says.
 /// Nothing is written at any of the three.
 pub fn run_over<R: Read, W: Write>(
     alloc: Global,
@@ -35,6 +35,8 @@ pub fn run_over<R: Read, W: Write>(
     ensures runs { RunsOver (map string_bytes words.now) (layers_seen layers.now) (R.remaining reader.old) (W.contents writer.old) result (W.contents writer.new) }
     // Words that are no command are rejected before anything is read.
     ensures unread { (e : Fault) → request_of (map string_bytes words.now) ≡ Err e → reader.new ≡ reader.old }
+    // Of the input nothing is read where the layers can't be opened.
+    ensures unopened { (e : Fault) → result ≡ Err e → IsOpeningFault e → reader.new ≡ reader.old }
     // Input that is records is never rejected.
     ensures spelled { (input : List ℕ) (records : List Record) (n : ℕ) → R.remaining reader.old ≡ Some input → AreRecords records input → result ≢ Err (Fault.Record n) }
     ensures sound { result ≢ Err Fault.Internal }

@@ -2,11 +2,20 @@
 use Rattle.std.specs.Prelude.{◌≡◌, ◌<◌, ℕ, List, None, length}
 use Rattle.gix_hash.specs.declared.ObjectId.{ObjectId}
 use Rattle.gix_object.specs.Object.{Objects}
+use Rattle.gix_object.specs.declared.find.existing_iter.Error.{Error as ExistingError}
+use Rattle.gix_object.specs.declared.find.existing_iter.Error.TheVariants as existing
 use Rattle.gix_commitgraph.specs.Rows.{GraphRow, row_at}
 use Rattle.gix_revwalk.specs.Commits.{commit_at}
 use Rattle.gix_revwalk.specs.Agreeing.{RowAgrees}
 use Rattle.gix_graph_check.specs.declared.Disagreement.{Disagreement}
 use Rattle.gix_graph_check.specs.declared.Disagreement.TheVariants.{Row, Store, Memory}
+
+-- a store that failed is reported as such, and so is out of memory
+abbrev pub of_look_up : ExistingError → ObjectId → Disagreement
+of_look_up existing.Store i = Store i
+of_look_up (existing.NotFound oid) i = Row i
+of_look_up (existing.ObjectKind oid expected actual) i = Row i
+of_look_up existing.Memory i = Memory
 
 -- why no commit was read at an id
 abbrev pub IsUnread : Objects → (ObjectId → Type 0) → ObjectId → Disagreement → Type 0

@@ -7,7 +7,7 @@ ghost use Rattle.gix_commitgraph.specs.GraphCommit.{rows_of_commit, row_of_commi
 ghost use Rattle.gix_revwalk.specs.Commits.{commit_at};
 ghost use Rattle.gix_revwalk.specs.Agreeing.{IsAgreeing, RowAgrees};
 ghost use Rattle.gix_graph_check.specs.StoredCommits.{commit_shown, AnswerAgrees, PlacesAgree, AgreesWith};
-ghost use Rattle.gix_graph_check.specs.Disagreeing.{IsUnread, RowDisagrees, Disagrees};
+ghost use Rattle.gix_graph_check.specs.Disagreeing.{IsUnread, RowDisagrees, Disagrees, of_look_up};
 
 use crate::Disagreement;
 use crate::stored::{StoredCommit, read_whole};
@@ -84,6 +84,19 @@ fn row_agrees(graph: &Graph, commit: Commit<'_>, stored: &StoredCommit) -> bool
     places_agree(graph, generation, commit, stored.parent_ids.as_slice())
 }
 
+/// What a look-up of the commit of this row that failed says of the row.
+fn of_look_up(fault: existing_iter::Error, id: ObjectId) -> Disagreement
+    ensures { result ≡ of_look_up fault id }
+{
+    match fault {
+        existing_iter::Error::Store => Disagreement::Store(id),
+        existing_iter::Error::Memory => Disagreement::Memory,
+        existing_iter::Error::NotFound { .. } | existing_iter::Error::ObjectKind { .. } => {
+            Disagreement::Row(id)
+        }
+    }
+}
+
 /// The commit of this id, where the store has one and its text can be read to the committer.
 fn read_stored<F: Find>(
     alloc: Global,
@@ -95,11 +108,7 @@ fn read_stored<F: Find>(
 {
     let items = match store.find_commit_iter(&id, text) {
         Ok(items) => items,
-        Err(existing_iter::Error::Store) => return Err(Disagreement::Store(id)),
-        Err(existing_iter::Error::Memory) => return Err(Disagreement::Memory),
-        Err(existing_iter::Error::NotFound { .. } | existing_iter::Error::ObjectKind { .. }) => {
-            return Err(Disagreement::Row(id));
-        }
+        Err(fault) => return Err(of_look_up(fault, id)),
     };
     match read_whole(alloc, items) {
         Ok(Some(stored)) => Ok(stored),

@@ -3,6 +3,8 @@ use Rattle.std.specs.Prelude.{◌≡◌, ◌<◌, ℕ, List, Some, length}
 use Rattle.std.specs.FinMap.{get}
 use Rattle.gix_hash.specs.declared.ObjectId.{ObjectId}
 use Rattle.gix_object.specs.Object.{Object, Objects}
+use Rattle.gix_object.specs.declared.find.Error.{Error as FindError}
+use Rattle.gix_object.specs.declared.find.Error.TheVariants as find
 use Rattle.gix_object.specs.CommitText.{Commit}
 use Rattle.gix_commitgraph.specs.Rows.{GraphRow, row_at}
 use Rattle.gix_revwalk.specs.Commits.{commit_at}
@@ -14,6 +16,11 @@ use Rattle.gix_graph_store.specs.Laws.{commit_said}
 abbrev pub IsStoredSo : List GraphRow → Objects → GraphRow → Type 0
 IsStoredSo rows objects row = (object : Object) → get objects row.id ≡ Some object
     → (commit : Commit) × (commit_at objects row.id ≡ Some commit) × (commit_said rows (Some row) ≡ Some commit)
+
+-- a store that failed is reported as such, and so is out of memory
+abbrev pub of_look_up : FindError → ObjectId → Disagreement
+of_look_up find.Store i = Store i
+of_look_up find.Memory i = Memory
 
 -- why it isn't known of the row of this number
 abbrev pub IsNotStoredSo : Objects → (ObjectId → Type 0) → List GraphRow → ℕ → Disagreement → Type 0

@@ -7,7 +7,7 @@ ghost use Rattle.gix_revwalk.specs.RowParents.{ids_at};
 ghost use Rattle.gix_graph_check.specs.StoredCommits.{commit_shown};
 ghost use Rattle.gix_graph_store.specs.Laws.{StoredAgree};
 ghost use Rattle.gix_graph_store.specs.Saying.{Says, IsSaid};
-ghost use Rattle.gix_graph_store.specs.StoredRows.{IsStoredSo, IsNotStoredSo, StoredDisagrees};
+ghost use Rattle.gix_graph_store.specs.StoredRows.{IsStoredSo, IsNotStoredSo, StoredDisagrees, of_look_up};
 
 use gix_commitgraph::{Commit, Graph, Position};
 use gix_graph_check::{Disagreement, StoredCommit, read_whole};
@@ -80,6 +80,16 @@ fn is_said(
     }
 }
 
+/// What a look-up at the id of this row that failed says of the row.
+fn of_look_up(fault: Error, id: ObjectId) -> Disagreement
+    ensures { result ≡ of_look_up fault id }
+{
+    match fault {
+        Error::Store => Disagreement::Store(id),
+        Error::Memory => Disagreement::Memory,
+    }
+}
+
 /// Tests what is stored at the id of the row of this number.
 fn check_row<F: Find>(
     alloc: Global,
@@ -96,8 +106,7 @@ fn check_row<F: Find>(
     let kind = match store.find_into(&id, text) {
         Ok(Some(kind)) => kind,
         Ok(None) => return Ok(()),
-        Err(Error::Store) => return Err(Disagreement::Store(id)),
-        Err(Error::Memory) => return Err(Disagreement::Memory),
+        Err(fault) => return Err(of_look_up(fault, id)),
     };
     if is_said(alloc, graph, commit, id, kind, text.as_slice())? {
         Ok(())

@@ -5,7 +5,7 @@
 #![tactic(auto)]
 
 ghost use Rattle.std.specs.Prelude.{◌≡◌, Ok, IfOk, IfErr, length, nat_le};
-ghost use Rattle.gix_memory_commands.specs.Answers.{Answers, FailsOver, RunsOver, answer_to, put_in, text_of};
+ghost use Rattle.gix_memory_commands.specs.Answers.{Answers, FailsOver, IsWhole, PromisesOver, RunsOver, answer_to, put_in, text_of};
 
 mod answer;
 mod words;
@@ -26,7 +26,9 @@ use words::words_of;
 /// The number of the fault of the run, with the place or the id that it names. Its length is 0, and the room is as it was, also where a
 /// list of commits broke off midway.
 pub fn run_over_bytes(alloc: Global, words: &[u8], records: &[u8], room: &mut [u8]) -> Answer
-    ensures { Answers words.now records.now room.old result room.new }
+    ensures answers { Answers words.now records.now room.old result room.new }
+    // What the lines are, from lists of bytes up.
+    ensures whole { IsWhole words.now records.now room.old result room.new }
 {
     match lines_of(alloc, words, records) {
         Ok(lines) => put_lines(lines.as_slice(), room),
@@ -48,6 +50,7 @@ pub fn put_text(number: u32, room: &mut [u8]) -> usize
 fn lines_of(alloc: Global, words: &[u8], records: &[u8]) -> Result<Vec<u8>, Fault>
     ensures ok { IfOk result (λ lines. RunsOver words.now records.now (Ok tt) lines.items) }
     ensures err { IfErr result (λ e. FailsOver words.now records.now e) }
+    ensures whole { IfOk result (λ lines. PromisesOver words.now records.now lines.items) }
 {
     let words = words_of(alloc, words)?;
     let mut lines = Vec::new(alloc);

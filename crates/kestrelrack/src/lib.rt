@@ -2,7 +2,7 @@
 #![tactic(auto)]
 
 ghost use Rattle.std.specs.Prelude.{◌≡◌, length};
-ghost use Rattle.gix_memory_commands.specs.Answers.{Answers, put_in, text_of};
+ghost use Rattle.gix_memory_commands.specs.Answers.{Answers, IsWhole, put_in, text_of};
 
 use gix_memory_commands::{Answer, put_text, run_over_bytes};
 use std::alloc::Global;
@@ -15,7 +15,9 @@ pub extern "C" fn kestrelrack_run(
     records: &[u8],
     room: &mut [u8],
 ) -> Answer
-    ensures { Answers words.now records.now room.old result room.new }
+    ensures answers { Answers words.now records.now room.old result room.new }
+    // What the lines are, from lists of bytes up.
+    ensures whole { IsWhole words.now records.now room.old result room.new }
 {
     run_over_bytes(alloc, words, records, room)
 }

@@ -173,6 +173,24 @@ fn records_may_have_rows(rt: HostRuntime) -> Result<(), Fail> {
 }
 
 #[test]
+fn parents_are_there_by_rows_or_records(rt: HostRuntime) -> Result<(), Fail> {
+    check_over(
+        rt.alloc(),
+        &[(SEVEN, &LINES[..7])],
+        &[
+            LAST,
+            "commit #a 192\ntree #0\nparent #8\nparent #f\nauthor A <a@b> 9 +0000\ncommitter A <a@b> 9 +0000\n\n\n",
+        ],
+        &[
+            (&["newest", "-n", "3", "#8"], "#8\n#7\n#6\n"),
+            (&["newest", "--since", "8", "#8"], "#8\n"),
+            (&["newest", "--since", "9", "#a"], "#a\n! missing #f"),
+            (&["oldest", "#a"], "#a\n! missing #f"),
+        ],
+    )
+}
+
+#[test]
 fn objects_without_a_row_are_records(rt: HostRuntime) -> Result<(), Fail> {
     check_over(
         rt.alloc(),

@@ -1,0 +1,125 @@
+//! A walk by time that goes on only where parents are there.
+ghost use Rattle.std.specs.Prelude.{◌≡◌, ◌≢◌, None, Some};
+ghost use Rattle.gix_revwalk.specs.Agreeing.{rows_in};
+ghost use Rattle.gix_graph_store.specs.WithRows.{with_rows};
+ghost use Rattle.gix_commands.specs.Checked.{Looks, lost_at};
+
+use crate::commits::Lent;
+use gix_parts::graph::Graph;
+use gix_parts::hash::ObjectId;
+use gix_parts::object::find::Find;
+use gix_parts::records::LentStore;
+use gix_traverse::commit::{Info, Simple, Unfiltered};
+use gix_words::Fault;
+use std::alloc::Global;
+use std::marker::Model;
+
+/// A walk by time that looks, behind each commit that it gives, whether the commit's parents are there: whether each has a row, or is a
+/// commit that can be read to its committer. A walk takes any other parent for one of 1970, so it would leave it out, or put it last,
+/// and what comes behind would be in a wrong place. So the next answer is the fault of the first such parent.
+#[derive(Drop)]
+pub struct Checked<'a> {
+    walk: Simple<Lent<'a>, Unfiltered>,
+    objects: Lent<'a>,
+    graph: Option<&'a Graph>,
+    /// The fault that comes next, if there is one.
+    lost: Option<Fault>,
+    /// The text of the parent last looked at.
+    text: Vec<u8>,
+}
+
+impl<'a> Model for Checked<'a> {
+    ghost use Rattle.std.specs.Coded.{codes};
+    ghost use Rattle.gix_hash.specs.Id.{id_set_code};
+    ghost use Rattle.gix_revwalk.specs.Agreeing.{rows_in};
+    ghost use Rattle.gix_commands.specs.Checked.{CheckedWalk};
+
+    ghost Value = { CheckedWalk };
+
+    ghost view = { λ c. record { walk = c.walk; objects = c.objects; rows = rows_in c.graph; lost = c.lost } };
+}
+
+impl<'a> Checked<'a> {
+    /// The walk, which is over this store and these rows. Nothing is read yet.
+    pub fn new(
+        alloc: Global,
+        walk: Simple<Lent<'a>, Unfiltered>,
+        store: &'a LentStore<'a>,
+        graph: Option<&'a Graph>,
+    ) -> Checked<'a>
+        ensures { result ≡ record { walk = walk; objects = with_rows (rows_in graph.entry) store.now; rows = rows_in graph.entry; lost = None } }
+    {
+        Checked {
+            walk,
+            objects: Lent::over(store, graph),
+            graph,
+            lost: None,
+            text: Vec::new(alloc),
+        }
+    }
+
+    /// Whether this commit has a row.
+    fn has_row(&self, id: &ObjectId) -> bool {
+        match self.graph {
+            Some(graph) => graph.commit_by_id(id).is_some(),
+            None => false,
+        }
+    }
+
+    /// Why this commit isn't there, if it isn't.
+    fn look_at(&mut self, id: &ObjectId) -> Option<Fault>
+        ensures looks { result ≢ Some Fault.Memory → result ≡ lost_at self.old.objects self.old.rows id.now }
+        ensures kept { self.new ≡ self.old }
+    {
+        if self.has_row(id) {
+            return None;
+        }
+        let items = match self.objects.find_commit_iter(id, &mut self.text) {
+            Ok(items) => items,
+            Err(fault) => return Some(Fault::from(fault)),
+        };
+        match items.committer() {
+            Ok(_) => None,
+            Err(_) => Some(Fault::Broken),
+        }
+    }
+
+    /// Why the first of these commits that isn't there isn't.
+    fn first_lost(&mut self, mut ids: &[ObjectId]) -> Option<Fault>
+        ensures looks { Looks self.old.objects self.old.rows ids.entry.now result }
+        ensures kept { self.new ≡ self.old }
+    {
+        while let Some((id, rest)) = ids.split_first() {
+            let found = self.look_at(id);
+            if found.is_some() {
+                return found;
+            }
+            ids = rest;
+        }
+        None
+    }
+}
+
+impl Iterator for Checked<'_> {
+    type Item = Result<Info, Fault>;
+
+    ghost use Rattle.gix_commands.specs.Checked.{Checks, left_to_check};
+    ghost use Rattle.std.specs.Iterator.{at_most};
+
+    ghost next_gives = { Checks };
+
+    ghost remaining = { λ c. at_most (left_to_check c) };
+
+    fn next(&mut self) -> Option<Result<Info, Fault>> {
+        if let Some(fault) = self.lost.take() {
+            return Some(Err(fault));
+        }
+        match self.walk.next()? {
+            Ok(info) => {
+                self.lost = self.first_lost(info.parent_ids.as_slice());
+                Some(Ok(info))
+            }
+            Err(fault) => Some(Err(Fault::from(fault))),
+        }
+    }
+}
