@@ -6,7 +6,6 @@
  * The status is 0 where it does, 1 where it doesn't, and 2 where that isn't known. */
 #include <stdio.h>
 #include <stdlib.h>
-#include <string.h>
 
 #include "kestrelrack.h"
 
@@ -53,20 +52,20 @@ int main(int count, char **arguments) {
         fail("two ids are needed, of the release and of the fix");
     }
     char words[256];
-    int words_length = snprintf(words, sizeof words, "ahead %s %s", arguments[2], arguments[1]);
+    int words_length = snprintf(words, sizeof words, "contains %s %s", arguments[1], arguments[2]);
     if (words_length < 0 || (size_t)words_length >= sizeof words) {
         fail("an id is too long");
     }
     size_t records_length;
     char *records = read_all(&records_length);
-    char line[43] = "";
-    struct kestrelrack_answer answer = kestrelrack_run(words, (size_t)words_length, records, records_length, line, sizeof line - 1);
+    char line[65];
+    struct kestrelrack_answer answer = kestrelrack_run(words, (size_t)words_length, records, records_length, line, sizeof line);
     free(records);
     if (answer.number != KESTRELRACK_WELL) {
         fail_by(answer);
     }
-    /* The release contains the fix where the fix reaches no commit that the release doesn't. */
-    int contains = strncmp(line, "0 ", 2) == 0;
+    /* Of the ids behind the first those are written that the first reaches: here the fix, or nothing. */
+    int contains = answer.length > 0;
     puts(contains ? "contains" : "doesn't contain");
     return contains ? 0 : 1;
 }

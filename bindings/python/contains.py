@@ -18,8 +18,8 @@ def contains(release, fix, repository="."):
     reached = git("rev-list", "--stdin", input=ids)
     records = git("cat-file", "--batch=%(objecttype) %(objectname) %(objectsize)", input=reached)
     release, fix = ids.decode().split()
-    # The release contains the fix where the fix reaches no commit that the release doesn't.
-    return kestrelrack.run(["ahead", fix, release], records).split()[0] == b"0"
+    # Of the ids behind the first those are written that the first reaches: here the fix, or nothing.
+    return kestrelrack.run(["contains", release, fix], records) != b""
 
 
 if __name__ == "__main__":

@@ -30,7 +30,7 @@ fn answer() -> Result<bool, Box<dyn Error>> {
     };
     let mut records = Vec::new();
     io::stdin().read_to_end(&mut records)?;
-    let line = kestrelrack::run(&["ahead", fix, release], &records)?;
-    // The release contains the fix where the fix reaches no commit that the release doesn't.
-    Ok(line.starts_with(b"0 "))
+    // Of the ids behind the first those are written that the first reaches: here the fix, or nothing.
+    let line = kestrelrack::run(&["contains", release, fix], &records)?;
+    Ok(!line.is_empty())
 }
