@@ -115,3 +115,39 @@ fn a_long_id_cut(rt: HostRuntime) -> Result<(), Fail> {
     assert_eq!(rt; told.as_str(), " broken-EntryId");
     Ok(())
 }
+
+/// A tree that has the tree `d` of the sample under a name of so many bytes.
+fn long_name(alloc: Global, len: usize) -> Result<MemoryStore, AllocError> {
+    let mut store = store(alloc, &SAMPLE)?;
+    let mut bytes = Vec::new(alloc);
+    bytes.extend_from_slice(b"40000 ")?;
+    for _ in 0..len {
+        bytes.push(b'd')?;
+    }
+    bytes.push(0)?;
+    bytes.extend_from_slice(id(13).as_bytes())?;
+    store.insert(id(10), Kind::Tree, &bytes)?;
+    Ok(store)
+}
+
+/// How many bytes the recorded paths have, and how a walk of such a tree ends.
+fn lengths<F: Find + Drop>(alloc: Global, order: Order, store: &F) -> Result<String, AllocError> {
+    let mut recorder = Recorder::new(alloc);
+    let answer = walk(alloc, order, store, id(10), &mut recorder);
+    let mut told = String::new(alloc);
+    for entry in &recorder.records {
+        write!(told, "{} ", entry.filepath.len())?;
+    }
+    write_end(&mut told, answer)?;
+    Ok(told)
+}
+
+#[test]
+fn long_paths(rt: HostRuntime) -> Result<(), Fail> {
+    let store = long_name(rt.alloc(), 70_000)?;
+    for order in [Order::Levels, Order::Depth] {
+        let told = lengths(rt.alloc(), order, &store)?;
+        assert_eq!(rt; told.as_str(), "70000 70002 done");
+    }
+    Ok(())
+}
