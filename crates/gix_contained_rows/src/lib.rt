@@ -6,10 +6,10 @@ use gix_parts::hash::ObjectId;
 use gix_parts::object::find::Find;
 use gix_rows::history::{
     BY_ALL, BY_ROWS, BY_STORE, By, EMPTY, FULL, Failing, History, Odd, PLAIN, ROOM, Rows, SKEWED,
-    SKEWED_COMMITS, digit, id, ids,
+    SKEWED_COMMITS, id, ids,
 };
 use gix_rows::table;
-use gix_rows::words::{Stop, space, write_broken, write_not_found};
+use gix_rows::words::{Stop, space, write_broken, write_id, write_not_found};
 use gix_traverse::commit::contained::{Error, contained};
 use std::alloc::{AllocError, Global};
 
@@ -157,11 +157,11 @@ fn write_fault(told: &mut String, error: &Error) -> Result<(), AllocError> {
     }
 }
 
-/// Writes the digits of ids.
+/// Writes ids, a word for each.
 fn write_ids(told: &mut String, ids: &[ObjectId]) -> Result<(), AllocError> {
     for id in ids {
         space(told)?;
-        write!(told, "{}", digit(id))?;
+        write_id(told, id)?;
     }
     Ok(())
 }

@@ -1,6 +1,7 @@
 //! Faults in short words.
-use crate::history::digit;
+use crate::history::{digit, id, long_id};
 use gix_parts::graph::GraphError;
+use gix_parts::hash::ObjectId;
 use gix_parts::object::decode;
 use gix_parts::object::find::existing_iter;
 use gix_traverse::commit::{simple, topo};
@@ -57,17 +58,37 @@ impl From<topo::Error> for Stop {
     }
 }
 
+/// Writes an id as a word: its digit, and `L` behind the digit of a 32-byte id. An id that isn't of one digit alone is written whole, so
+/// no two ids have one word.
+pub fn write_id(told: &mut String, of: &ObjectId) -> Result<(), AllocError> {
+    let n = digit(of);
+    if *of == id(n) {
+        return write!(told, "{n}");
+    }
+    if *of == long_id(n) {
+        return write!(told, "{n}L");
+    }
+    write!(told, "{of}")
+}
+
 /// Writes why an object was not found: `missing-6`, `Tag-6-for-Commit` where it is of another kind, or `store`. Out of memory
 /// stays out of memory.
 pub fn write_not_found(told: &mut String, error: &existing_iter::Error) -> Result<(), AllocError> {
     match error {
         existing_iter::Error::Store => told.push_str("store"),
-        existing_iter::Error::NotFound { oid } => write!(told, "missing-{}", digit(oid)),
+        existing_iter::Error::NotFound { oid } => {
+            told.push_str("missing-")?;
+            write_id(told, oid)
+        }
         existing_iter::Error::ObjectKind {
             oid,
             expected,
             actual,
-        } => write!(told, "{actual:?}-{}-for-{expected:?}", digit(oid)),
+        } => {
+            write!(told, "{actual:?}-")?;
+            write_id(told, oid)?;
+            write!(told, "-for-{expected:?}")
+        }
         existing_iter::Error::Memory => Err(AllocError),
     }
 }

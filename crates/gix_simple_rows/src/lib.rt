@@ -16,7 +16,7 @@ use gix_rows::history::{
     BY_STORE, By, FULL, Failing, History, PLAIN, ROOM, Rows, TREE, digit, id, ids, long_id, text,
 };
 use gix_rows::table;
-use gix_rows::words::{Stop, space, write_broken, write_not_found};
+use gix_rows::words::{Stop, space, write_broken, write_id, write_not_found};
 use gix_traverse::commit::simple::{CommitTimeOrder, Error, Hidden, Sorting};
 use gix_traverse::commit::{Filter, Info, Parents, Predicate, Simple, Unfiltered};
 use std::alloc::{AllocError, Global};
@@ -138,13 +138,9 @@ fn write_fault(told: &mut String, error: &Error) -> Result<(), AllocError> {
     }
 }
 
-/// Writes a commit as a word. A commit of a 32-byte id has an `L` behind its digit.
+/// Writes a commit as a word.
 fn write_commit(told: &mut String, info: &Info, detail: Detail) -> Result<(), AllocError> {
-    let n = digit(&info.id);
-    write!(told, "{n}")?;
-    if info.id != id(n) {
-        told.push('L')?;
-    }
+    write_id(told, &info.id)?;
     if let Detail::Digit | Detail::Texts = detail {
         return Ok(());
     }
@@ -159,7 +155,8 @@ fn write_commit(told: &mut String, info: &Info, detail: Detail) -> Result<(), Al
     }
     told.push('(')?;
     for parent in info.parent_ids.as_slice() {
-        write!(told, "{},", digit(parent))?;
+        write_id(told, parent)?;
+        told.push(',')?;
     }
     told.push(')')
 }

@@ -28,7 +28,7 @@ pub fn tables() -> &'static [Table<'static>] {
     &TABLES
 }
 
-static TABLES: [Table<'static>; 14] = [
+static TABLES: [Table<'static>; 16] = [
     Table {
         cases: &[
             (&[8], [BREADTH, OLDEST], &[], "8 6 5 3 1 7 4 2"),
@@ -126,6 +126,31 @@ static TABLES: [Table<'static>; 14] = [
     Table {
         fails: Some(7),
         cases: &[(&[8], BY_TIME, &[], "store 6 5 3 1")],
+        ..OF_SAMPLE
+    },
+    // A parent that is no commit, or that has no committer, has time 0.
+    Table {
+        history: History {
+            odd: Odd::Tag(6),
+            ..PLAIN
+        },
+        cases: &[
+            (&[8], BY_TIME, &[], "8 7 4 2 1 Tag-6-for-Commit"),
+            (&[8], [BREADTH, OLDEST], &[], "8 Tag-6-for-Commit 7 4 2 1"),
+            (&[8, 6], BY_TIME, &[], "unsorted Tag-6-for-Commit"),
+        ],
+        ..OF_SAMPLE
+    },
+    Table {
+        history: History {
+            more: &[(10, 10, &[9, 4])],
+            odd: Odd::WithoutCommitter,
+            ..PLAIN
+        },
+        cases: &[
+            (&[10], BY_TIME, &[], "10 4 2 1 9"),
+            (&[10], [BREADTH, OLDEST], &[], "10 9 4 2 1"),
+        ],
         ..OF_SAMPLE
     },
     // A parent that isn't stored is given where it has its turn, and isn't given where there is a cutoff.

@@ -5,11 +5,10 @@ pub mod counts;
 pub mod orders;
 
 use gix_parts::graph::Graph;
-use gix_parts::hash::ObjectId;
 use gix_parts::object::find::Find;
 use gix_rows::history::{BY_STORE, By, FULL, Failing, History, PLAIN, ROOM, Rows, digit, id, ids};
 use gix_rows::table;
-use gix_rows::words::{Stop, space, write_broken, write_not_found};
+use gix_rows::words::{Stop, space, write_broken, write_id, write_not_found};
 use gix_traverse::commit::topo::{Builder, Error, Sorting, Topo};
 use gix_traverse::commit::{Filter, Info, Parents, Predicate, Unfiltered};
 use std::alloc::{AllocError, Global};
@@ -208,7 +207,7 @@ impl Telling {
     /// Writes a commit.
     fn add(self, told: &mut String, info: &Info, expanded: usize) -> Result<(), AllocError> {
         space(told)?;
-        name(told, &info.id)?;
+        write_id(told, &info.id)?;
         if let Telling::Counts = self {
             return write!(told, ":{expanded}");
         }
@@ -218,22 +217,13 @@ impl Telling {
         if let Telling::Whole = self {
             for parent in info.parent_ids.as_slice() {
                 write!(told, "<")?;
-                name(told, parent)?;
+                write_id(told, parent)?;
             }
             if let Some(time) = info.commit_time {
                 write!(told, "@{time}")?;
             }
         }
         Ok(())
-    }
-}
-
-/// The digit of an id, or the whole of one that is not of one digit alone.
-fn name(told: &mut String, of: &ObjectId) -> Result<(), AllocError> {
-    if *of == id(digit(of)) {
-        write!(told, "{}", digit(of))
-    } else {
-        write!(told, "{of}")
     }
 }
 

@@ -45,7 +45,7 @@ pub fn tables() -> &'static [Table<'static>] {
     &TABLES
 }
 
-static TABLES: [Table<'static>; 24] = [
+static TABLES: [Table<'static>; 25] = [
     Table {
         cases: &[
             (&[8], &[], "8 7 4 2 6 5 3 1"),
@@ -210,6 +210,15 @@ static TABLES: [Table<'static>; 24] = [
             ..PLAIN
         },
         cases: &[(&[8, 9], &[], "no walk: Tag-9-for-Commit")],
+        ..OF_SAMPLE
+    },
+    // Ids that begin with one digit are two.
+    Table {
+        history: History {
+            commits: &[(17, &[1]), (1, &[])],
+            ..EMPTY
+        },
+        cases: &[(&[17], &[], "2121212121212121212121212121212121212121 1")],
         ..OF_SAMPLE
     },
     // What is not stored.

@@ -78,6 +78,19 @@ push_path(a) nontree(a) pop_path
 push_path(d) tree(d) pop_path push_back() push_back(d)
 missing-13";
 
+const LEVELS_OF_BLOB: &str = "
+push_path(a) nontree(a) pop_path
+push_path(d) tree(d) pop_path push_back(d) pop_path
+push_path(e) nontree(e) pop_path
+pop_front
+Blob-13-for-Tree";
+
+const DEPTH_OF_BLOB: &str = "
+pop_back
+push_path(a) nontree(a) pop_path
+push_path(d) tree(d) pop_path push_back() push_back(d)
+Blob-13-for-Tree";
+
 const LEVELS_OF_CYCLE: &str = "
 push_path(d) tree(d) pop_path push_back(d) pop_path
 pop_front
@@ -99,7 +112,7 @@ pub fn tables() -> &'static [Table<'static>] {
     &TABLES
 }
 
-static TABLES: [Table<'static>; 4] = [
+static TABLES: [Table<'static>; 5] = [
     Table {
         cases: &[
             (Levels, Calls("", INTO), LEVELS),
@@ -121,6 +134,17 @@ static TABLES: [Table<'static>; 4] = [
         cases: &[
             (Levels, Calls("", INTO), LEVELS_MISSING_D),
             (Depth, Calls("", INTO), DEPTH_MISSING_D),
+        ],
+        ..OF_SAMPLE
+    },
+    // The tree `d` is a blob.
+    Table {
+        blob: Some(13),
+        cases: &[
+            (Levels, Calls("", INTO), LEVELS_OF_BLOB),
+            (Depth, Calls("", INTO), DEPTH_OF_BLOB),
+            (Levels, Calls("d", PAST), LEVELS_WITHOUT_D),
+            (Depth, Calls("d", PAST), DEPTH_WITHOUT_D),
         ],
         ..OF_SAMPLE
     },

@@ -10,9 +10,9 @@ use gix_parts::object::Kind;
 use gix_parts::object::find::Find;
 use gix_parts::object::memory::MemoryStore;
 use gix_parts::object::tree::EntryRef;
-use gix_rows::history::{BY_STORE, By, Failing, ROOM, digit, id};
+use gix_rows::history::{BY_STORE, By, Failing, ROOM, id};
 use gix_rows::table;
-use gix_rows::words::{Stop, write_broken, write_not_found};
+use gix_rows::words::{Stop, write_broken, write_id, write_not_found};
 use gix_traverse::tree::Recorder;
 use gix_traverse::tree::breadthfirst::{self, Error, breadthfirst};
 use gix_traverse::tree::depthfirst::{State, depthfirst};
@@ -154,6 +154,8 @@ pub struct Table<'a> {
     pub trees: &'a [Tree<'a>],
     /// What is stored for the tree of digit 10 is of this kind, and cut to this many bytes.
     pub root: (Kind, Option<usize>),
+    /// The object of this digit is a blob, if that of any is.
+    pub blob: Option<u8>,
     /// The store fails at this tree, if at any.
     pub fails: Option<u8>,
     pub cases: &'a [Case<'a>],
@@ -163,6 +165,7 @@ pub struct Table<'a> {
 pub const OF_SAMPLE: Table<'static> = Table {
     trees: &SAMPLE,
     root: (Kind::Tree, None),
+    blob: None,
     fails: None,
     cases: &[],
 };
@@ -204,7 +207,10 @@ pub fn write_end(told: &mut String, answer: Result<(), Error>) -> Result<(), All
         Err(Error::Find(error)) => write_not_found(told, &error),
         Err(Error::Cancelled) => told.push_str("cancelled"),
         Err(Error::ObjectDecode(error)) => write_broken(told, &error),
-        Err(Error::Cycle { oid }) => write!(told, "cycle-{}", digit(&oid)),
+        Err(Error::Cycle { oid }) => {
+            told.push_str("cycle-")?;
+            write_id(told, &oid)
+        }
         Err(Error::Memory) => Err(AllocError),
     }
 }
@@ -278,6 +284,9 @@ impl Table<'_> {
                 }
                 store.insert(id(10), kind, &bytes)?;
             }
+        }
+        if let Some(digit) = self.blob {
+            store.insert(id(digit), Kind::Blob, b"blob")?;
         }
         Ok(store)
     }

@@ -11,6 +11,8 @@ fn counts_what_each_reaches_alone(rt: HostRuntime) -> Result<(), Fail> {
             (&["ahead", "#8", "#7"], "4 0\n"),
             (&["ahead", "#7", "#8"], "0 4\n"),
             (&["ahead", "#8", "#8"], "0 0\n"),
+            (&["ahead", "#8", "#5"], "5 0\n"),
+            (&["ahead", "#5", "#8"], "0 5\n"),
             (&["ahead", "#6", "#a"], "! missing #a"),
             (&["ahead", "#a", "#6"], "! missing #a"),
         ],

@@ -1,8 +1,8 @@
 //! Each name by which users reach the libraries, once more: where one is lost, this doesn't check.
 pub mod graph {
     pub use gix_parts::graph::{
-        Commit, GENERATION_NUMBER_INFINITY, Graph, GraphError, ParentFault, ParentPlace, Parents,
-        Place, Position, Row,
+        Commit, GENERATION_NUMBER_INFINITY, Graph, GraphError, ParentFault, ParentPlace,
+        ParentPlaces, Parents, Place, Position, Row,
     };
 }
 

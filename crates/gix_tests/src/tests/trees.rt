@@ -115,3 +115,49 @@ fn a_long_id_cut(rt: HostRuntime) -> Result<(), Fail> {
     assert_eq!(rt; told.as_str(), " broken-EntryId");
     Ok(())
 }
+
+/// A tree that has the tree `d` of the sample so many times, under names of so many bytes.
+fn large(alloc: Global, times: usize, len: usize) -> Result<MemoryStore, AllocError> {
+    let mut store = store(alloc, &SAMPLE)?;
+    let mut bytes = Vec::new(alloc);
+    for _ in 0..times {
+        bytes.extend_from_slice(b"40000 ")?;
+        for _ in 0..len {
+            bytes.push(b'd')?;
+        }
+        bytes.push(0)?;
+        bytes.extend_from_slice(id(13).as_bytes())?;
+    }
+    store.insert(id(10), Kind::Tree, &bytes)?;
+    Ok(store)
+}
+
+/// How many paths a walk of such a tree records, how many bytes the last of them has, and how the walk ends.
+fn recorded_of<F: Find + Drop>(
+    alloc: Global,
+    order: Order,
+    store: &F,
+) -> Result<String, AllocError> {
+    let mut recorder = Recorder::new(alloc);
+    let answer = walk(alloc, order, store, id(10), &mut recorder);
+    let len = match recorder.records.last() {
+        Some(entry) => entry.filepath.len(),
+        None => 0,
+    };
+    let mut told = format!(in alloc; "{} {len} ", recorder.records.len())?;
+    write_end(&mut told, answer)?;
+    Ok(told)
+}
+
+/// Longer names and more entries than any bound that a walk could have by mistake.
+#[test]
+fn large_trees(rt: HostRuntime) -> Result<(), Fail> {
+    for (times, len, want) in [(1, 70_000, "2 70002 done"), (70_000, 1, "140000 3 done")] {
+        let store = large(rt.alloc(), times, len)?;
+        for order in [Order::Levels, Order::Depth] {
+            let told = recorded_of(rt.alloc(), order, &store)?;
+            assert_eq!(rt; told.as_str(), want);
+        }
+    }
+    Ok(())
+}
