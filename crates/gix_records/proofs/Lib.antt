@@ -8,3 +8,5 @@ mod SplitFacts
 pub mod RecordFacts
 -- What a reader's bytes were read as.
 pub mod ReadingFacts
+-- Records whose ids are compared with those that their objects have.
+pub mod Naming

@@ -125,7 +125,7 @@ pub record HasStored (text rest : List ℕ) (number : ℕ) (objects : Objects) :
   pub count : number ≡ suc (length before)
   pub same : objects ≡ stored before
 
-begins_last : (records : List Record) (text rest behind : List ℕ) (r : Record) → BeginsWith records text rest → IsRecord r rest behind → BeginsWith (records ++ r ∷ []) text behind
+pub begins_last : (records : List Record) (text rest behind : List ℕ) (r : Record) → BeginsWith records text rest → IsRecord r rest behind → BeginsWith (records ++ r ∷ []) text behind
 begins_last [] text rest behind r e h = (behind, subst (λ x. IsRecord r x behind) (sym e) h, refl)
 begins_last (q ∷ records) text rest behind r begins h = (begins.0, begins.1, begins_last records begins.0 rest behind r begins.2 h)
 
@@ -208,10 +208,10 @@ stored_bad text rest number objects h more none = record {
 }
 
 -- records are spelled in one way
-same_front : (r q : Record) (text a b : List ℕ) → IsRecord r text a → IsRecord q text b → (r ≡ q) × (a ≡ b)
+pub same_front : (r q : Record) (text a b : List ℕ) → IsRecord r text a → IsRecord q text b → (r ≡ q) × (a ≡ b)
 same_front r q text a b h k = some_pair_parts r q a b (sym (record_read r text a h) ∙ record_read q text b k)
 
-not_empty : (r : Record) (text behind : List ℕ) → IsRecord r text behind → text ≢ []
+pub not_empty : (r : Record) (text behind : List ℕ) → IsRecord r text behind → text ≢ []
 not_empty r text behind h e = let less : length behind < length text = record_takes r text behind h in omega (arith, ap length e)
 
 pub only_reading : (records others : List Record) (text : List ℕ) → AreRecords records text → AreRecords others text → records ≡ others

@@ -8,4 +8,6 @@ pub mod RecordFront
 pub mod Input
 -- The objects of the records that a reader gives.
 pub mod Reading
+-- Records whose ids are the hashes of their objects.
+pub mod NamedRecords
 pub mod Examples

@@ -1,12 +1,12 @@
 -- Records of objects, as git prints them: a kind, a space, an id in hex digits, a space, the number of bytes in decimal digits, a
 -- newline, the bytes, a newline.
-use Rattle.std.specs.Prelude.{◌≡◌, ◌≢◌, ℕ, suc, List, [], ◌∷◌, ◌++◌, length, Some, Ok, codes}
+use Rattle.std.specs.Prelude.{◌≡◌, ◌≢◌, ℕ, suc, List, [], ◌∷◌, ◌++◌, length, Some, Ok}
 use Rattle.std.specs.FinMap as map_of
 use Rattle.gix_hash.specs.declared.ObjectId.{ObjectId}
 use Rattle.gix_object.specs.declared.Kind.{Kind}
-use Rattle.gix_object.specs.declared.Kind.TheVariants as kind
 use Rattle.gix_hash.specs.Id.{id_from_hex}
 use Rattle.gix_object.specs.Object.{Objects}
+pub use Rattle.gix_names.specs.Named.{kind_word}
 use Rattle.gix_records.specs.declared.Error.{Error}
 use Rattle.gix_records.specs.declared.Error.TheVariants as error
 use Rattle.gix_records.specs.Decimal.{decimal}
@@ -15,12 +15,6 @@ pub record Record : Type 0 where
   pub kind : Kind
   pub id : ObjectId
   pub bytes : List ℕ
-
-abbrev pub kind_word : Kind → List ℕ
-kind_word kind.Tree = codes "tree"
-kind_word kind.Blob = codes "blob"
-kind_word kind.Commit = codes "commit"
-kind_word kind.Tag = codes "tag"
 
 -- this record is at the front of a text, and the rest comes after it
 pub record IsRecord (r : Record) (text rest : List ℕ) : Type 0 where

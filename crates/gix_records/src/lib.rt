@@ -16,12 +16,15 @@ ghost use Rattle.gix_records.specs.Records.{Record, AreRecords, IsRecordFault, s
 mod front;
 mod input;
 mod lent;
+mod named;
 
 use front::record_at;
+use gix_hash::ObjectId;
 use gix_hash::hashtable::IdMap;
 use gix_object::memory::{MemoryStore, Stored};
 pub use input::read_to_end;
 pub use lent::LentStore;
+pub use named::{check_names, named_records_in};
 use std::alloc::{AllocError, Global};
 use std::io::Read;
 use thiserror::Error;
@@ -38,6 +41,14 @@ pub enum Error {
     /// The record of this number isn't one, or is cut. The first record is record 1.
     #[error("bad record {0}")]
     Record(usize),
+    /// The record of this number has this id, and its object another. The first record is record 1.
+    #[error("record {record}: {id} isn't the hash of its bytes")]
+    Name {
+        /// The number of the record.
+        record: usize,
+        /// The id that it has.
+        id: ObjectId,
+    },
     /// Memory ran out.
     #[error("out of memory")]
     Memory,

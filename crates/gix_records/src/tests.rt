@@ -1,5 +1,4 @@
 use super::*;
-use gix_hash::ObjectId;
 use gix_object::Kind;
 use gix_object::find::Find;
 use std::test::Fail;
@@ -9,6 +8,16 @@ const RECORDS: &[u8] = b"\
 blob 1111111111111111111111111111111111111111 3\nold\n\
 tag 2222222222222222222222222222222222222222222222222222222222222222 0\n\n\
 tree 1111111111111111111111111111111111111111 4\nn\new\n";
+
+/// Two objects under their own ids.
+const NAMED: &[u8] = b"\
+blob c57eff55ebc0c54973903af5f72bac72762cf4f4 12\nHello World!\n\
+tree 6ef19b41225c5369f1c104d45d8d85efa9b057b53b14b4b9b939dd74decc5321 0\n\n";
+
+/// The empty tree, and an empty blob under its id.
+const MISNAMED: &[u8] = b"\
+tree 4b825dc642cb6eb9a060e54bf8d69288fbee4904 0\n\n\
+blob 4b825dc642cb6eb9a060e54bf8d69288fbee4904 0\n\n";
 
 fn check_store<F: Find>(alloc: Global, store: &F, len: usize) -> Result<(), Fail> {
     let mut buf = Vec::new(alloc);
@@ -41,6 +50,24 @@ fn bytes_that_are_lent_are_read_as_a_reader_is(rt: HostRuntime) -> Result<(), Fa
     let store = records_in(alloc, RECORDS)?;
     check_store(alloc, &store, store.len())?;
     assert!(rt; !store.is_empty());
+    Ok(())
+}
+
+#[test]
+fn objects_under_their_own_ids_are_read(rt: HostRuntime) -> Result<(), Fail> {
+    let store = named_records_in(rt.alloc(), NAMED)?;
+    assert_eq!(rt; store.len(), 2);
+    Ok(())
+}
+
+#[test]
+fn the_first_object_under_another_id_is_named(rt: HostRuntime) -> Result<(), Fail> {
+    let Err(error) = named_records_in(rt.alloc(), MISNAMED) else {
+        return Err(Fail::new(format_args!("records were taken")));
+    };
+    let text = "record 2: 4b825dc642cb6eb9a060e54bf8d69288fbee4904 isn't the hash of its bytes";
+    let printed = error.to_string(rt.alloc())?;
+    assert_eq!(rt; printed.as_str(), text);
     Ok(())
 }
 

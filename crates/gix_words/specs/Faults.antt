@@ -20,6 +20,7 @@ use Rattle.gix_words.specs.declared.fault.Fault.TheVariants as fault
 abbrev pub fault_of_records : RecordsError → Fault
 fault_of_records records.Read = fault.Read
 fault_of_records (records.Record n) = fault.Record n
+fault_of_records (records.Name n i) = fault.Internal
 fault_of_records records.Memory = fault.Memory
 
 abbrev pub fault_of_disagreement : Disagreement → Fault

@@ -80,6 +80,7 @@ impl From<records::Error> for Fault {
         match error {
             records::Error::Read => Fault::Read,
             records::Error::Record(number) => Fault::Record(number),
+            records::Error::Name { .. } => Fault::Internal,
             records::Error::Memory => Fault::Memory,
         }
     }
