@@ -10,6 +10,7 @@ mod FileFacts
 mod ListerFacts
 mod LostParents
 mod CheckedWalks
+mod CheckedSteps
 mod AheadFacts
 mod ContainedFacts
 mod StartFacts

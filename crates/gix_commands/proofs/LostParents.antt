@@ -1,9 +1,19 @@
 -- Which commits aren't there, and why.
-use Rattle.std.proofs.Common.{◌≡◌, ℕ, List, [], ◌∷◌, Option, None, Some, Contains, refl, sym, ap, subst, ◌∙◌, ⊎_elim}
-use Rattle.gix_commands.proofs.Common.{get, Contains-cons_cases, Contains-here, Contains-there, no_member, ObjectId, kind_of, Object, Objects, Commit, read_commit, GraphRow, row_of, ReadsWhole, commit_of_object, Fault}
+use Rattle.std.proofs.Common.{◌≡◌, ◌≢◌, ℕ, List, [], ◌∷◌, Option, None, Some, Result, Ok, Err, Contains, refl, sym, ap, subst, ◌∙◌, ⊎_elim}
+use Rattle.gix_commands.proofs.Common.{IsExistingFault, fault_of_find, never_faulty, seconds_of, get, Contains-cons_cases, Contains-here, Contains-there, no_member, ObjectId, kind_of, Object, Objects, Commit, read_commit, GraphRow, row_of, ReadsWhole, commit_of_object, Fault}
 use Rattle.std.specs.Option.{option_or}
 use Rattle.gix_object.specs.declared.Kind.{Kind}
 use Rattle.gix_object.specs.declared.Kind.TheVariants as object
+use Rattle.gix_object.specs.declared.commit.CommitRefIter.{CommitRefIter}
+use Rattle.gix_object.specs.declared.commit.Signature.{Signature}
+use Rattle.gix_object.specs.declared.decode.Error.{Error as DecodeError}
+use Rattle.gix_object.specs.declared.find.existing_iter.Error.{Error as ExistingError}
+use Rattle.gix_object.specs.declared.find.existing_iter.Error.TheVariants as existing
+use Rattle.gix_object.specs.CommitItems.{commit_items}
+use Rattle.gix_object.specs.CommitRefIter.{commit_items_left, first_committer, signature_shown}
+use Rattle.gix_object.specs.Find.{FindsCommit}
+use Rattle.gix_revwalk.proofs.Committer.{fault_unread}
+use Rattle.gix_revwalk.proofs.CommitterTime.{found_read}
 use Rattle.gix_words.specs.declared.fault.Fault.TheVariants as fault
 use Rattle.gix_commands.specs.Checked.{fault_of_kind, fault_of_object, fault_of_text, first_lost, lost_at, unless_row}
 
@@ -92,3 +102,55 @@ whole_all objects [] e i c = absurd (no_member i c)
 whole_all objects (j ∷ ids) e i c =
     let n : (lost_at objects [] j ≡ None) × (first_lost objects [] ids ≡ None) = none_either (lost_at objects [] j) (first_lost objects [] ids) e in
     ⊎_elim (λ same. subst (ReadsWhole objects) same (whole_there objects j n.0)) (whole_all objects ids n.1 i) (Contains-cons_cases i j ids c)
+
+-- what a look at a commit finds
+module _ (objects : Objects) (rows : List GraphRow) (i : ObjectId) where
+  pub lost_by_row : row_of rows i ≢ None → None ≡ lost_at objects rows i
+  lost_by_row some = go (row_of rows i) some
+    where
+      go : (row : Option GraphRow) → row ≢ None → None ≡ unless_row row (fault_of_object i (get objects i))
+      go None some = absurd (some refl)
+      go (Some row) some = refl
+
+  without_row : row_of rows i ≡ None → (why : Option Fault) → fault_of_object i (get objects i) ≡ why → why ≡ lost_at objects rows i
+  without_row none why e = sym e ∙ ap (λ row. unless_row row (fault_of_object i (get objects i))) (sym none)
+
+  pub lost_unfound : row_of rows i ≡ None → (e : ExistingError) (why : Fault) → why ≡ fault_of_find e → (e ≢ existing.Memory → IsExistingFault objects (never_faulty objects) i object.Commit e) → ◌≢◌ {A = Option Fault} (Some why) (Some fault.Memory) → Some why ≡ lost_at objects rows i
+  lost_unfound none existing.Store why is h other = absurd (h (λ m. cc))
+  lost_unfound none existing.Memory why is h other = absurd (other (ap (λ f. Some f) is))
+  lost_unfound none (existing.NotFound oid) why is h other =
+      let f = h (λ m. cc) in
+      without_row none (Some why) (ap (fault_of_object i) f.1 ∙ (let same : fault.Missing i ≡ why = ap (λ j. fault.Missing j) (sym f.0) ∙ sym is in ap (λ x. Some x) same))
+  lost_unfound none (existing.ObjectKind oid wanted actual) why is h other =
+      let f = h (λ m. cc) in
+      let same : fault.WrongKind i ≡ why = ap (λ j. fault.WrongKind j) (sym f.0) ∙ sym is in
+      without_row none (Some why) (ap (fault_of_object i) f.4 ∙ wrong actual f.2 f.3 ∙ ap (λ x. Some x) same)
+    where
+      wrong : (k : Kind) → k ≢ object.Commit → (bytes : List ℕ) → fault_of_kind i k bytes ≡ Some (fault.WrongKind i)
+      wrong object.Commit other bytes = absurd (other refl)
+      wrong object.Tree other bytes = refl
+      wrong object.Blob other bytes = refl
+      wrong object.Tag other bytes = refl
+
+  module _ (items : CommitRefIter) (found : FindsCommit objects (never_faulty objects) i (Ok items)) (read : Result Signature DecodeError) (shown : signature_shown read ≡ first_committer (commit_items_left items)) where
+    pub lost_unread : row_of rows i ≡ None → (e : DecodeError) → read ≡ Err e → Some fault.Broken ≡ lost_at objects rows i
+    lost_unread none e is =
+        without_row none (Some fault.Broken)
+        (ap (fault_of_object i) found.1 ∙ ap fault_of_text (fault_unread (commit_items (kind_of i) found.0) e (ap first_committer (sym found.2) ∙ sym shown ∙ ap signature_shown is)))
+
+    pub read_whole : (signature : Signature) → read ≡ Ok signature → None ≡ lost_at objects rows i
+    read_whole signature is =
+        let h = found_read objects (never_faulty objects) i items found read shown signature is (seconds_of signature.bytes.now) refl in
+        sym (there objects i rows (record { commit = h.commit; stored = h.stored }))
+
+-- a look at one commit after the other
+module _ (objects : Objects) (rows : List GraphRow) (i : ObjectId) (ids : List ObjectId) (found : Option Fault) (looks : ◌≢◌ {A = Option Fault} found (Some fault.Memory) → found ≡ lost_at objects rows i) where
+  pub first_found : found ≢ None → ◌≢◌ {A = Option Fault} found (Some fault.Memory) → found ≡ first_lost objects rows (i ∷ ids)
+  first_found some other = go (lost_at objects rows i) (looks other)
+    where
+      go : (at : Option Fault) → found ≡ at → found ≡ option_or at (first_lost objects rows ids)
+      go None e = absurd (some e)
+      go (Some why) e = e
+
+  pub rest_found : found ≡ None → first_lost objects rows ids ≡ first_lost objects rows (i ∷ ids)
+  rest_found none = ap (λ at. option_or at (first_lost objects rows ids)) (sym none ∙ looks (λ e. let no : None ≡ Some fault.Memory = sym none ∙ e in cc))

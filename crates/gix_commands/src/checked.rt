@@ -1,5 +1,6 @@
 //! A walk by time that goes on only where parents are there.
-ghost use Rattle.std.specs.Prelude.{◌≡◌, ◌≢◌, None, Some};
+ghost use Rattle.std.specs.Prelude.{◌≡◌, ◌≢◌, None, Some, MatchBool};
+ghost use Rattle.gix_commitgraph.specs.Rows.{row_of};
 ghost use Rattle.gix_revwalk.specs.Agreeing.{rows_in};
 ghost use Rattle.gix_graph_store.specs.WithRows.{with_rows};
 ghost use Rattle.gix_commands.specs.Checked.{Looks, lost_at};
@@ -30,11 +31,15 @@ pub struct Checked<'a> {
 
 impl<'a> Model for Checked<'a> {
     ghost use Rattle.std.specs.Coded.{codes};
-    ghost use Rattle.gix_hash.specs.Id.{id_set_code};
+    ghost use Rattle.std.specs.FinMap as map;
+    ghost use Rattle.gix_hash.specs.Id.{id_cmp, id_code, id_set_code};
+    ghost use Rattle.gix_object.specs.Object.{object_code};
     ghost use Rattle.gix_revwalk.specs.Agreeing.{rows_in};
     ghost use Rattle.gix_commands.specs.Checked.{CheckedWalk};
 
     ghost Value = { CheckedWalk };
+
+    ghost coded = { Prim.hlevel (codes, id_set_code, map.code {R = id_cmp} id_code object_code) };
 
     ghost view = { λ c. record { walk = c.walk; objects = c.objects; rows = rows_in c.graph; lost = c.lost } };
 }
@@ -47,7 +52,7 @@ impl<'a> Checked<'a> {
         store: &'a LentStore<'a>,
         graph: Option<&'a Graph>,
     ) -> Checked<'a>
-        ensures { result ≡ record { walk = walk; objects = with_rows (rows_in graph.entry) store.now; rows = rows_in graph.entry; lost = None } }
+        ensures { result ≡ record { walk = walk.entry; objects = with_rows (rows_in graph.entry) store.now; rows = rows_in graph.entry; lost = None } }
     {
         Checked {
             walk,
@@ -59,7 +64,9 @@ impl<'a> Checked<'a> {
     }
 
     /// Whether this commit has a row.
-    fn has_row(&self, id: &ObjectId) -> bool {
+    fn has_row(&self, id: &ObjectId) -> bool
+        ensures { MatchBool result (row_of self.now.rows id.now ≢ None) (row_of self.now.rows id.now ≡ None) }
+    {
         match self.graph {
             Some(graph) => graph.commit_by_id(id).is_some(),
             None => false,
@@ -78,10 +85,10 @@ impl<'a> Checked<'a> {
             Ok(items) => items,
             Err(fault) => return Some(Fault::from(fault)),
         };
-        match items.committer() {
-            Ok(_) => None,
-            Err(_) => Some(Fault::Broken),
-        }
+        let Ok(_) = items.committer() else {
+            return Some(Fault::Broken);
+        };
+        None
     }
 
     /// Why the first of these commits that isn't there isn't.
