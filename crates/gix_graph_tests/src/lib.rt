@@ -8,4 +8,6 @@ mod errors;
 #[cfg(test)]
 mod files;
 #[cfg(test)]
+mod sizes;
+#[cfg(test)]
 mod stores;
