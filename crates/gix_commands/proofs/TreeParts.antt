@@ -30,7 +30,7 @@ module _ (some all : Objects) (part : IsPartOf some all) where
   from_root u (IsDepthScript.not_found f) = absurd u
   from_root u no_memory = absurd u
 
-  pub records_all : (tree : ObjectId) (recorder : Tracked) → RecordsTree some tree recorder (Ok tt) → RecordsTree all tree recorder (Ok tt)
+  abbrev pub records_all : (tree : ObjectId) (recorder : Tracked) → RecordsTree some tree recorder (Ok tt) → RecordsTree all tree recorder (Ok tt)
   records_all tree recorder walk = record {
     calls = walk.calls;
     visits = walk.visits;

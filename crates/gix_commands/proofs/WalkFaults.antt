@@ -14,7 +14,7 @@ use Rattle.gix_topo.specs.declared.Error.TheVariants as topo_error
 use Rattle.gix_tree.specs.declared.breadthfirst.Error.{Error as TreeError}
 use Rattle.gix_tree.specs.declared.breadthfirst.Error.TheVariants as tree_error
 use Rattle.gix_words.specs.declared.fault.Fault.TheVariants as fault
-use Rattle.gix_commands.specs.Run.{Serves, listed, not_written}
+use Rattle.gix_commands.specs.Run.{Serves, listed, misnamed, not_written}
 use Rattle.gix_commands.specs.TopoWalked as topo
 use Rattle.gix_commands.specs.Walked.{Answers, IsWalkFault, failed}
 
@@ -27,6 +27,7 @@ IsOfWalk (fault.Missing i) = Unit {0}
 IsOfWalk (fault.WrongKind i) = Unit {0}
 IsOfWalk fault.Broken = Unit {0}
 IsOfWalk (fault.Cycle i) = Unit {0}
+IsOfWalk (fault.Name i) = Unit {0}
 IsOfWalk (fault.Graph e) = ⊥
 IsOfWalk (fault.Row i) = ⊥
 IsOfWalk (fault.Disagrees i) = ⊥
@@ -94,8 +95,9 @@ serves_of_walk (walked {limit = limit} walk infos s ends a) = by_of_walk Answers
 serves_of_walk (not_walked why f) = simple_of_walk why
 serves_of_walk (walked_down {limit = limit} walk infos built ends a) = by_of_walk topo.Answers topo.IsWalkFault limit walk infos _ topo_tells ends
 serves_of_walk (not_built why h) = topo_of_walk why
-serves_of_walk (listed recorder r a) = tt
+serves_of_walk (listed recorder r n a) = tt
 serves_of_walk (not_listed recorder why r) = tree_of_walk why
+serves_of_walk (misnamed recorder r f) = tt
 serves_of_walk (counted ahead behind c d a) = tt
 serves_of_walk (not_ahead f) = ends_of_walk simple_tells f.1.ends
 serves_of_walk (not_behind n a f) = ends_of_walk simple_tells f.1.ends
