@@ -1,11 +1,11 @@
 -- What a run of `files` writes, by the entries of trees.
 use Rattle.std.proofs.Common.{◌≡◌, ◌≢◌, ℕ, List, [], ◌∷◌, map, true, Option, Some, Result, Ok, Err, refl, sym, subst, ◌∙◌}
 use Rattle.gix_commands.proofs.Common.{Appends, ObjectId, Objects, Call, Run, Tracked, Tracks, fresh_recorder, Visit, Ending, Whole, Broken, Failed, IsUnfailed, LookUpFails, depth_answer, trees_of, LookUpFailed, only_reading, Runs, without_memory, no_command, not_read, bad_record, served}
-use Rattle.gix_commands.proofs.Common.{depth_is_recorded, sound_depth_succeeds, Fault, fault_of_find, fault_of_tree_walk, RecordsTree, file_lines, EndsWell, IsOutside, IsPartOf, stored, not_listed, unserved, never_faulty}
+use Rattle.gix_commands.proofs.Common.{depth_is_recorded, sound_depth_succeeds, Fault, fault_of_find, fault_of_tree_walk, RecordsTree, file_lines, EndsWell, IsOutside, IsPartOf, stored, not_listed, unserved, never_faulty, request_of}
 use Rattle.gix_commands.proofs.Common.{Files}
 use Rattle.gix_object.specs.declared.find.existing_iter.Error.{Error as ExistingError}
 use Rattle.gix_object.specs.declared.find.existing_iter.Error.TheVariants as existing
-use Rattle.gix_records.specs.Records.{AreRecords}
+use Rattle.gix_records.specs.Records.{Record, AreRecords}
 use Rattle.gix_tree.specs.declared.breadthfirst.Error.{Error}
 use Rattle.gix_tree.specs.declared.breadthfirst.Error.TheVariants as error
 use Rattle.gix_tree.specs.Laws.{AreSound}
@@ -97,14 +97,15 @@ files_lists_of_part words input records ending tree old new all asked are part r
 pub files_succeeds : FilesSucceeds
 files_succeeds words input records ending tree answer old new asked are sound named runs = ends_well words input records (Files ending tree) answer old new asked are (well (stored records) ending tree sound named old) runs
 
+name_reported : (words : List (List ℕ)) (input : List ℕ) (records : List Record) (ending : ℕ) (tree i : ObjectId) (answer : Result (Unit {0}) Fault) (old new : Option (List ℕ)) → request_of words ≡ Ok (Files ending tree) → AreRecords records input
+    → Runs words (Some input) old answer new → answer ≡ Err (fault.Name i) → Misnames (stored records) tree i
+name_reported words input records ending tree i answer old new asked are without_memory is = cc
+name_reported words input records ending tree i answer old new asked are (no_command t) is = let n : Err _ ≡ Ok (Files ending tree) = sym t ∙ asked in cc
+name_reported words input records ending tree i answer old new asked are (not_read other t) is = cc
+name_reported words input records ending tree i answer old new asked are (bad_record other there n t same b) is = cc
+name_reported words input records ending tree i answer old new asked are (served other there read t same is_read s) is =
+    reports (stored records) ending tree i answer old new
+    (subst (λ r. Serves (stored records) [] old r answer new) (ok_same (sym t ∙ asked)) (subst (λ rs. Serves (stored rs) [] old other answer new) (only_reading read records input (subst (AreRecords read) same is_read) are) s)) is
+
 pub files_report_names : FilesReportNames
-files_report_names words input records ending tree i old new asked are runs = served_name (Err (fault.Name i)) runs refl
-  where
-    served_name : (answer : Result (Unit {0}) Fault) → Runs words (Some input) old answer new → answer ≡ Err (fault.Name i) → Misnames (stored records) tree i
-    served_name answer without_memory is = cc
-    served_name answer (no_command t) is = let n : Err _ ≡ Ok (Files ending tree) = sym t ∙ asked in cc
-    served_name answer (not_read other t) is = cc
-    served_name answer (bad_record other there n t same b) is = cc
-    served_name answer (served other there read t same is_read s) is =
-        reports (stored records) ending tree i answer old new
-        (subst (λ r. Serves (stored records) [] old r answer new) (ok_same (sym t ∙ asked)) (subst (λ rs. Serves (stored rs) [] old other answer new) (only_reading read records input (subst (AreRecords read) same is_read) are) s)) is
+files_report_names words input records ending tree i old new asked are runs = name_reported words input records ending tree i (Err (fault.Name i)) old new asked are runs refl
