@@ -36,7 +36,8 @@ enum {
     KESTRELRACK_INTERNAL = 12,  /* never answered */
     KESTRELRACK_GRAPH = 13,     /* never answered: only the program takes a commit-graph */
     KESTRELRACK_ROW = 14,       /* never answered */
-    KESTRELRACK_DISAGREES = 15  /* never answered */
+    KESTRELRACK_DISAGREES = 15, /* never answered */
+    KESTRELRACK_NAME = 16       /* the tree of this `id` has an entry whose name is empty or holds a '/' */
 };
 
 struct kestrelrack_answer {

@@ -1,13 +1,13 @@
 -- The lines of the entries of a tree.
-use Rattle.std.proofs.Common.{◌≡◌, ℕ, ◌-◌, ◌^◌, List, [], ◌∷◌, ◌++◌, false, Option, Some, Result, Ok, Err, IfSome, IfErr, OnOk, sym, ap, subst, ◌∙◌, append_assoc, append-nil}
+use Rattle.std.proofs.Common.{◌≡◌, ◌⊎◌, inl, inr, ℕ, ◌-◌, ◌^◌, List, [], ◌∷◌, ◌++◌, false, Option, Some, Result, Ok, Err, IfSome, IfErr, OnOk, sym, ap, subst, ◌∙◌, append_assoc, append-nil}
 use Rattle.gix_commands.proofs.Common.{digits, format_spec, ◌++?◌, Appends, ObjectId, hex_of, Objects, GraphRow, Tracked, Fault, fault_of_tree_walk, RecordsTree, six_octal_digits, file_line, AreLinesOf, IsTreeFault, not_listed, unserved}
 use Rattle.gix_commands.proofs.Common.{Files}
 use Rattle.std.specs.Fmt.{padded_integral, char_count}
 use Rattle.std.proofs.Math.Nat.{sub-zero}
-use Rattle.gix_tree.specs.declared.breadthfirst.Error.{Error}
 use Rattle.gix_tree.specs.Recorder.{Record}
 use Rattle.gix_words.specs.declared.fault.Fault.TheVariants as fault
-use Rattle.gix_commands.specs.Run.{Serves, listed, not_written}
+use Rattle.gix_commands.specs.Files.{IsWalkFaultOf, IsNameFaultOf}
+use Rattle.gix_commands.specs.Run.{Serves, listed, misnamed, not_written}
 use Rattle.gix_commands.proofs.MemoryFaults.{failed_so}
 
 -- six places, filled up with zeros
@@ -27,14 +27,21 @@ pub line_added : (ending : ℕ) (r : Record) (old first second third new : List 
 line_added ending r old first second third new a b c d = rw (d, c, b, a) (simp append_assoc)
 
 module _ (objects : Objects) (rows : List GraphRow) (old : Option (List ℕ)) (ending : ℕ) (tree : ObjectId) where
-  walk_failed : (e : Fault) → (recorder : Tracked) × (why : Error) × RecordsTree objects tree recorder (Err why) × (e ≡ fault_of_tree_walk why) → Serves objects rows old (Files ending tree) (Err e) old
+  walk_failed : (e : Fault) → IsWalkFaultOf objects tree e → Serves objects rows old (Files ending tree) (Err e) old
   walk_failed e h = subst (λ (f : Fault). Serves objects rows old (Files ending tree) (Err f) old) (sym h.3) (not_listed h.0 h.1 h.2)
+
+  name_failed : (e : Fault) → IsNameFaultOf objects tree e → Serves objects rows old (Files ending tree) (Err e) old
+  name_failed e h = subst (λ (f : Fault). Serves objects rows old (Files ending tree) (Err f) old) (sym h.4) (misnamed h.0 h.1 h.3)
+
+  tree_failed : (e : Fault) → IsWalkFaultOf objects tree e ⊎ IsNameFaultOf objects tree e → Serves objects rows old (Files ending tree) (Err e) old
+  tree_failed e (inl h) = walk_failed e h
+  tree_failed e (inr h) = name_failed e h
 
   -- nothing was written
   pub files_failed : (store : Objects) → store ≡ objects → (result : Result (Unit {0}) Fault) (e : Fault) → result ≡ Err e → IsTreeFault store tree e → Serves objects rows old (Files ending tree) result old
-  files_failed store is result e same h = failed_so (λ r. Serves objects rows old (Files ending tree) r old) unserved result e same (λ other. walk_failed e (subst (λ o. IsTreeFault o tree e) is h other))
+  files_failed store is result e same h = failed_so (λ r. Serves objects rows old (Files ending tree) r old) unserved result e same (λ other. tree_failed e (subst (λ o. IsTreeFault o tree e) is h other))
 
   -- the lines were written, or the writer failed
   pub files_written : (store : Objects) → store ≡ objects → (new : Option (List ℕ)) (lines : List ℕ) (result : Result (Unit {0}) Fault) → AreLinesOf ending store tree lines → OnOk result (Appends old new lines) → IfErr result (λ e. e ≡ fault.Write) → Serves objects rows old (Files ending tree) result new
-  files_written store is new lines (Ok done) are h k = let so : AreLinesOf ending objects tree lines = subst (λ o. AreLinesOf ending o tree lines) is are in listed so.0 so.1 (subst (Appends old new) so.2 h)
+  files_written store is new lines (Ok done) are h k = let so : AreLinesOf ending objects tree lines = subst (λ o. AreLinesOf ending o tree lines) is are in listed so.0 so.1 so.2 (subst (Appends old new) so.3 h)
   files_written store is new lines (Err e) are h k = subst (λ (f : Fault). Serves objects rows old (Files ending tree) (Err f) new) (sym k) not_written

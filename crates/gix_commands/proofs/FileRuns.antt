@@ -1,25 +1,41 @@
 -- What a run of `files` writes, by the entries of trees.
-use Rattle.std.proofs.Common.{◌≡◌, ◌≢◌, ℕ, List, [], ◌∷◌, map, true, Option, Result, Ok, Err, refl, subst}
-use Rattle.gix_commands.proofs.Common.{Appends, ObjectId, Objects, Call, Run, entries_at, Tracked, Tracks, fresh_recorder, Visit, Ending, Whole, Broken, Failed, IsUnfailed, LookUpFails, depth_answer, trees_of, LookUpFailed, go_on}
-use Rattle.gix_commands.proofs.Common.{depth_ok, depth_is_in_order, depth_is_recorded, sound_depth_succeeds, Fault, fault_of_tree_walk, RecordsTree, file_lines, EndsWell, IsOutside, IsPartOf, stored, not_listed, unserved, never_faulty}
+use Rattle.std.proofs.Common.{◌≡◌, ◌≢◌, ℕ, List, [], ◌∷◌, map, true, Option, Some, Result, Ok, Err, refl, sym, subst, ◌∙◌}
+use Rattle.gix_commands.proofs.Common.{Appends, ObjectId, Objects, Call, Run, Tracked, Tracks, fresh_recorder, Visit, Ending, Whole, Broken, Failed, IsUnfailed, LookUpFails, depth_answer, trees_of, LookUpFailed, only_reading, Runs, without_memory, no_command, not_read, bad_record, served}
+use Rattle.gix_commands.proofs.Common.{depth_is_recorded, sound_depth_succeeds, Fault, fault_of_find, fault_of_tree_walk, RecordsTree, file_lines, EndsWell, IsOutside, IsPartOf, stored, not_listed, unserved, never_faulty, request_of}
 use Rattle.gix_commands.proofs.Common.{Files}
-use Rattle.std.specs.List.{AllByRecursion}
+use Rattle.gix_object.specs.declared.find.existing_iter.Error.{Error as ExistingError}
+use Rattle.gix_object.specs.declared.find.existing_iter.Error.TheVariants as existing
+use Rattle.gix_records.specs.Records.{Record, AreRecords}
 use Rattle.gix_tree.specs.declared.breadthfirst.Error.{Error}
 use Rattle.gix_tree.specs.declared.breadthfirst.Error.TheVariants as error
 use Rattle.gix_tree.specs.Laws.{AreSound}
 use Rattle.gix_tree.specs.Paths.{HaveNames}
-use Rattle.gix_tree.specs.Recorder.{IsRecorderAnswer, record_of}
-use Rattle.gix_tree.proofs.Theorems.Called.{root_called}
-use Rattle.gix_tree.proofs.Theorems.SameRecords.{unbroken}
-use Rattle.gix_commands.specs.Listings.{Unfolds, FilesLists, FilesListsOfPart, FilesSucceeds}
-use Rattle.gix_commands.specs.Run.{Serves, listed, not_written}
-use Rattle.gix_commands.proofs.CommitRuns.{served_so, ends_well}
+use Rattle.gix_tree.specs.Recorder.{record_of}
+use Rattle.gix_words.specs.declared.fault.Fault.TheVariants as fault
+use Rattle.gix_commands.specs.Listings.{AreNamed, Unfolds, Misnames, FilesLists, FilesListsOfPart, FilesReportNames, FilesSucceeds}
+use Rattle.gix_commands.specs.Run.{Serves, listed, misnamed, not_written}
+use Rattle.gix_commands.proofs.CommitRuns.{ok_same, served_so, ends_well}
+use Rattle.gix_commands.proofs.NamedTrees.{no_misnamed, misnames, have_names}
+use Rattle.gix_commands.proofs.RunFacts.{err_same}
+use Rattle.gix_commands.proofs.TreeFacts.{goes_on, in_preorder}
 use Rattle.gix_commands.proofs.TreeParts.{records_all}
 
--- a recorder answers each call so
-answers_of : (old : Tracked) (calls : List Call) (new : Tracked) → Run Tracks old calls new → AllByRecursion IsRecorderAnswer calls
-answers_of old [] new h = tt
-answers_of old (call ∷ calls) new h = (h.1.1.0, answers_of h.0 calls new h.2)
+name_same : {i j : ObjectId} → fault.Name i ≡ fault.Name j → i ≡ j
+name_same e = cc
+
+-- no walk fails for a name
+find_not_named : (i : ObjectId) (e : ExistingError) → fault_of_find e ≡ fault.Name i → ⊥
+find_not_named i existing.Store e = cc
+find_not_named i (existing.NotFound oid) e = cc
+find_not_named i (existing.ObjectKind oid wanted actual) e = cc
+find_not_named i existing.Memory e = cc
+
+not_named : (i : ObjectId) (why : Error) → fault_of_tree_walk why ≡ fault.Name i → ⊥
+not_named i error.Memory e = cc
+not_named i (error.Find f) e = find_not_named i f e
+not_named i error.Cancelled e = cc
+not_named i (error.ObjectDecode f) e = cc
+not_named i (error.Cycle j) e = cc
 
 not_failed : (why : Error) (end : Ending) → Err why ≡ depth_answer end → IsUnfailed end → ⊥
 not_failed why Whole e u = cc
@@ -28,19 +44,24 @@ not_failed why (Failed other) e u = u
 
 module _ (objects : Objects) (ending : ℕ) (tree : ObjectId) where
   pub unfolds : (recorder : Tracked) (walk : RecordsTree objects tree recorder (Ok tt)) → Unfolds objects tree walk.visits
-  unfolds recorder walk =
-      let all = go_on walk.visits (root_called (trees_of objects) (LookUpFails objects (never_faulty objects)) IsRecorderAnswer walk.script (answers_of fresh_recorder walk.calls recorder walk.run)) in
-      let order = depth_is_in_order objects (never_faulty objects) Tracks tree fresh_recorder recorder (Ok tt) walk (depth_ok walk.end walk.answered) in
-      record { in_order = subst (Rattle.gix_tree.specs.Preorder.IsPreorder (entries_at (trees_of objects)) (Rattle.gix_tree.specs.Paths.known_root tree) (entries_at (trees_of objects) tree) walk.visits) (unbroken (entries_at (trees_of objects)) order all) order; all = all }
+  unfolds recorder walk = record { in_order = in_preorder objects tree recorder walk.script walk.run walk.answered; all = goes_on objects tree recorder walk.script walk.run }
 
-  lists : (old new : Option (List ℕ)) → Serves objects [] old (Files ending tree) (Ok tt) new → (visits : List Visit) × Unfolds objects tree visits × (HaveNames visits → Appends old new (file_lines ending (map record_of visits)))
-  lists old new (listed recorder walk written) = (
+  lists : (old new : Option (List ℕ)) → Serves objects [] old (Files ending tree) (Ok tt) new → (visits : List Visit) × Unfolds objects tree visits × HaveNames visits × Appends old new (file_lines ending (map record_of visits))
+  lists old new (listed recorder walk names written) = (
     walk.visits,
     unfolds recorder walk,
-    λ names. subst (λ records. Appends old new (file_lines ending records)) (depth_is_recorded objects (never_faulty objects) tree recorder (Ok tt) walk (λ e. cc) names) written,
+    names,
+    subst (λ records. Appends old new (file_lines ending records)) (depth_is_recorded objects (never_faulty objects) tree recorder (Ok tt) walk (λ e. cc) names) written,
   )
 
-  module _ (sound : AreSound (trees_of objects) (LookUpFails objects (never_faulty objects)) (λ e. true) (tree ∷ [])) where
+  reports : (i : ObjectId) (answer : Result (Unit {0}) Fault) (old new : Option (List ℕ)) → Serves objects [] old (Files ending tree) answer new → answer ≡ Err (fault.Name i) → Misnames objects tree i
+  reports i answer old new (listed recorder walk names written) is = cc
+  reports i answer old new (not_listed recorder why walk) is = absurd (not_named i why (err_same is))
+  reports i answer old new (misnamed {i = j} recorder walk first) is = subst (Misnames objects tree) (name_same (err_same is)) (misnames objects tree walk.visits j (unfolds recorder walk) first)
+  reports i answer old new unserved is = cc
+  reports i answer old new not_written is = cc
+
+  module _ (sound : AreSound (trees_of objects) (LookUpFails objects (never_faulty objects)) (λ e. true) (tree ∷ [])) (named : AreNamed objects tree) where
     shown : (why : Error) → AreSound (trees_of objects) (LookUpFailed objects (never_faulty objects) (Err why)) (λ e. true) (tree ∷ [])
     shown why = record { whole = λ i r. let w = sound.whole i r in record { stored = w.stored; found = λ e f. w.found e f.0 }; free = sound.free }
 
@@ -56,8 +77,9 @@ module _ (objects : Objects) (ending : ℕ) (tree : ObjectId) where
     outside (error.Cycle i) recorder walk = absurd (no_other (error.Cycle i) recorder walk (λ e. cc))
 
     well : (old : Option (List ℕ)) (answer : Result (Unit {0}) Fault) (new : Option (List ℕ)) → Serves objects [] old (Files ending tree) answer new → EndsWell answer
-    well old answer new (listed recorder walk written) = tt
+    well old answer new (listed recorder walk names written) = tt
     well old answer new (not_listed recorder why walk) = outside why recorder walk
+    well old answer new (misnamed {i = i} recorder walk first) = no_misnamed walk.visits i (have_names objects tree named walk.visits (unfolds recorder walk)) first
     well old answer new unserved = tt
     well old answer new not_written = tt
 
@@ -66,11 +88,24 @@ files_lists words input records ending tree old new asked are runs = lists (stor
 
 -- a walk over a part is one over the whole
 of_all : (objects all : Objects) → IsPartOf objects all → (ending : ℕ) (tree : ObjectId) (old new : Option (List ℕ)) → Serves objects [] old (Files ending tree) (Ok tt) new → Serves all [] old (Files ending tree) (Ok tt) new
-of_all objects all part ending tree old new (listed recorder walk written) = listed recorder (records_all objects all part tree recorder walk) written
+of_all objects all part ending tree old new (listed recorder walk names written) = listed recorder (records_all objects all part tree recorder walk) names written
 
 pub files_lists_of_part : FilesListsOfPart
 files_lists_of_part words input records ending tree old new all asked are part runs =
     lists all ending tree old new (of_all (stored records) all part ending tree old new (served_so words input records (Files ending tree) old new asked are runs))
 
 pub files_succeeds : FilesSucceeds
-files_succeeds words input records ending tree answer old new asked are sound runs = ends_well words input records (Files ending tree) answer old new asked are (well (stored records) ending tree sound old) runs
+files_succeeds words input records ending tree answer old new asked are sound named runs = ends_well words input records (Files ending tree) answer old new asked are (well (stored records) ending tree sound named old) runs
+
+name_reported : (words : List (List ℕ)) (input : List ℕ) (records : List Record) (ending : ℕ) (tree i : ObjectId) (answer : Result (Unit {0}) Fault) (old new : Option (List ℕ)) → request_of words ≡ Ok (Files ending tree) → AreRecords records input
+    → Runs words (Some input) old answer new → answer ≡ Err (fault.Name i) → Misnames (stored records) tree i
+name_reported words input records ending tree i answer old new asked are without_memory is = cc
+name_reported words input records ending tree i answer old new asked are (no_command t) is = let n : Err _ ≡ Ok (Files ending tree) = sym t ∙ asked in cc
+name_reported words input records ending tree i answer old new asked are (not_read other t) is = cc
+name_reported words input records ending tree i answer old new asked are (bad_record other there n t same b) is = cc
+name_reported words input records ending tree i answer old new asked are (served other there read t same is_read s) is =
+    reports (stored records) ending tree i answer old new
+    (subst (λ r. Serves (stored records) [] old r answer new) (ok_same (sym t ∙ asked)) (subst (λ rs. Serves (stored rs) [] old other answer new) (only_reading read records input (subst (AreRecords read) same is_read) are) s)) is
+
+pub files_report_names : FilesReportNames
+files_report_names words input records ending tree i old new asked are runs = name_reported words input records ending tree i (Err (fault.Name i)) old new asked are runs refl

@@ -7,6 +7,7 @@ mod InternalFacts
 mod TreeFacts
 mod TopoInternalFacts
 mod FileFacts
+mod NotedNames
 mod ListerFacts
 mod LostParents
 mod CheckedWalks
@@ -30,6 +31,7 @@ mod SimpleBegins
 mod TopoBegins
 mod FirstCommits
 mod TreeParts
+mod NamedTrees
 mod FileRuns
 mod SimpleFaults
 mod SilentRuns

@@ -1,14 +1,17 @@
--- A lister adds the lines of what a recorder would record.
-use Rattle.std.proofs.Common.{◌≡◌, ℕ, List, [], ◌∷◌, ◌++◌, Option, Some, None, Result, Ok, Err, IfErr, refl, sym, ap, subst, ◌∙◌, append-nil}
+-- A lister adds the lines of what a recorder would record, and notes the first tree that has a name that is none.
+use Rattle.std.proofs.Common.{◌≡◌, ℕ, List, [], ◌∷◌, ◌++◌, Option, Some, None, Result, Ok, Err, IfErr, refl, sym, ap, subst, inl, inr, ◌∙◌, append-nil}
 use Rattle.std.proofs.lemmas.Grind.{flat_map-append}
-use Rattle.gix_commands.proofs.Common.{ObjectId, Objects, Action, Call, PushPath, PopPath, PushBack, PopBack, PopFront, VisitTree, VisitNontree, Refused, Run, Tracked, Tracks, fresh_recorder, DepthFirst, Fault, fault_of_tree_walk}
+use Rattle.gix_commands.proofs.Common.{ObjectId, Objects, Action, Call, PushPath, PopPath, PushBack, PopBack, PopFront, VisitTree, VisitNontree, Refused, Run, Tracked, Tracks, fresh_recorder, DepthFirst, LookUpFails, trees_of, Fault, fault_of_tree_walk}
 use Rattle.gix_commands.proofs.Common.{RecordsTree, file_line, file_lines, AreLinesOf, IsTreeFault, never_faulty}
 use Rattle.gix_object.specs.TreeItems.{TreeEntry}
 use Rattle.gix_tree.specs.declared.breadthfirst.Error.{Error}
 use Rattle.gix_tree.specs.declared.recorder.Location.{Location}
 use Rattle.gix_tree.specs.declared.recorder.Location.TheVariants.{Path, FileName}
 use Rattle.gix_tree.specs.Recorder.{Record, Recorded, IsRecorderAnswer, recorded, with_record}
-use Rattle.gix_commands.specs.Lister.{Listed, Moves, AddsLine, Lists, fresh_lister}
+use Rattle.gix_words.specs.declared.fault.Fault.TheVariants as fault
+use Rattle.gix_commands.specs.Lister.{Listed, Noted, Moves, AddsLine, Writes, Lists, fresh_lister, fresh_noted}
+use Rattle.gix_commands.proofs.NotedNames.{Tells, root_noted}
+use Rattle.gix_commands.proofs.TreeFacts.{goes_on, ends_whole}
 
 abbrev holding : Recorded → List Record → Recorded
 holding r records = record r { records = records }
@@ -45,12 +48,12 @@ module _ (old : Listed) (records : List Record) (lines : old.lines ≡ file_line
   adds call e answer shows answered h =
       let one : Record = record { mode = e.mode; path = held.path; id = e.id } in (
         records ++ one ∷ [],
-        (ap (λ l. l.recorder.location) h.1, (answered, ap (λ l. holding l.recorder.held (records ++ one ∷ [])) h.1 ∙ shows location)),
-        ap (λ l. l.lines) h.1 ∙ ap (λ x. x ++ file_line old.ending one) lines ∙ sym (lines_last old.ending records one),
-        ap (λ l. l.ending) h.1,
+        (ap (λ r. r.location) h.1, (answered, ap (λ r. holding r.held (records ++ one ∷ [])) h.1 ∙ shows location)),
+        h.2 ∙ ap (λ x. x ++ file_line old.ending one) lines ∙ sym (lines_last old.ending records one),
+        h.3,
       )
 
-  follow : (call : Call) → Lists old call new → Follows old records call new
+  follow : (call : Call) → Writes old call new → Follows old records call new
   follow (PushPath name) h = moves (PushPath name) (by_location _ refl refl refl) h
   follow PopPath h = moves PopPath (by_location _ refl refl refl) h
   follow (PushBack name) h = moves (PushBack name) (by_location _ refl refl refl) h
@@ -68,35 +71,52 @@ FollowsAll old records calls new =
 follow_all : (old : Listed) (records : List Record) → old.lines ≡ file_lines old.ending records → (calls : List Call) (new : Listed) → Run Lists old calls new → FollowsAll old records calls new
 follow_all old records lines [] new h = (records, ap (λ l. tracking l.recorder records) h, ap (λ l. l.lines) h ∙ lines)
 follow_all old records lines (call ∷ calls) new h =
-    let one : Follows old records call h.0 = follow old records lines h.0 call h.1 in
+    let one : Follows old records call h.0 = follow old records lines h.0 call h.1.0 in
     let same : h.0.ending ≡ old.ending = one.3 in
     let rest : FollowsAll h.0 one.0 calls new = follow_all h.0 one.0 (one.2 ∙ ap (λ e. file_lines e one.0) (sym same)) calls new h.2 in
     (rest.0, (tracking h.0.recorder one.0, one.1, rest.1), rest.2 ∙ ap (λ e. file_lines e rest.0) same)
 
--- what a walk made of a lister says what it makes of a recorder
-pub recorded_so : (ending : ℕ) (objects : Objects) (tree : ObjectId) (new : Listed) (answer : Result (Unit {0}) Error) → DepthFirst objects (never_faulty objects) Lists tree (fresh_lister ending) new answer
-    → (recorder : Tracked) × RecordsTree objects tree recorder answer × (new.lines ≡ file_lines ending recorder.held.records)
-recorded_so ending objects tree new answer walk =
-    let all : FollowsAll (fresh_lister ending) [] walk.calls new = follow_all (fresh_lister ending) [] refl walk.calls new walk.run in (
-      tracking new.recorder all.0,
-      record { calls = walk.calls; visits = walk.visits; end = walk.end; script = walk.script; run = all.1; answered = walk.answered },
-      all.2,
-    )
+-- what a walk made of a lister: what it makes of a recorder, the lines of its records, and where it ends well the first tree that has
+-- a name that is none
+record Made (ending : ℕ) (objects : Objects) (tree : ObjectId) (new : Listed) (answer : Result (Unit {0}) Error) : Type 0 where
+  recorder : Tracked
+  walk : RecordsTree objects tree recorder answer
+  lines : new.lines ≡ file_lines ending recorder.held.records
+  names : answer ≡ Ok tt → Tells None walk.visits new.noted.misnamed
+
+made_so : (ending : ℕ) (objects : Objects) (tree : ObjectId) (new : Listed) (answer : Result (Unit {0}) Error) → DepthFirst objects (never_faulty objects) Lists tree (fresh_lister ending tree) new answer → Made ending objects tree new answer
+made_so ending objects tree new answer walk =
+    let all : FollowsAll (fresh_lister ending tree) [] walk.calls new = follow_all (fresh_lister ending tree) [] refl walk.calls new walk.run in
+    record {
+      recorder = tracking new.recorder all.0;
+      walk = record { calls = walk.calls; visits = walk.visits; end = walk.end; script = walk.script; run = all.1; answered = walk.answered };
+      lines = all.2;
+      names = λ well. root_noted (trees_of objects) (LookUpFails objects (never_faulty objects)) ending tree walk.script (ends_whole objects tree (tracking new.recorder all.0) walk.script all.1 (sym well ∙ walk.answered))
+          (goes_on objects tree (tracking new.recorder all.0) walk.script all.1) new walk.run;
+    }
 
 -- what a walk made of a lister that was just made
-module _ (ending : ℕ) (objects : Objects) (tree : ObjectId) (recorder : Tracked) (none : List ℕ) (new : Listed) (answer : Result (Unit {0}) Error) (made : recorder ≡ fresh_recorder) (empty : none ≡ [])
-    (walk : DepthFirst objects (never_faulty objects) Lists tree (record { recorder = recorder; lines = none; ending = ending }) new answer) where
-  from_fresh : DepthFirst objects (never_faulty objects) Lists tree (fresh_lister ending) new answer
-  from_fresh = subst (λ (r : Tracked). DepthFirst objects (never_faulty objects) Lists tree (record { recorder = r; lines = []; ending = ending }) new answer) made (subst (λ (x : List ℕ). DepthFirst objects (never_faulty objects) Lists tree (record { recorder = recorder; lines = x; ending = ending }) new answer) empty walk)
+module _ (ending : ℕ) (objects : Objects) (tree : ObjectId) (recorder : Tracked) (none : List ℕ) (noted : Noted) (new : Listed) (answer : Result (Unit {0}) Error) (made : recorder ≡ fresh_recorder) (empty : none ≡ []) (below : noted ≡ fresh_noted tree)
+    (walk : DepthFirst objects (never_faulty objects) Lists tree (record { recorder = recorder; lines = none; ending = ending; noted = noted }) new answer) where
+  from_fresh : Made ending objects tree new answer
+  from_fresh =
+      made_so ending objects tree new answer (subst (λ (r : Tracked). DepthFirst objects (never_faulty objects) Lists tree (record { recorder = r; lines = []; ending = ending; noted = fresh_noted tree }) new answer) made
+      (subst (λ (x : List ℕ). DepthFirst objects (never_faulty objects) Lists tree (record { recorder = recorder; lines = x; ending = ending; noted = fresh_noted tree }) new answer) empty
+      (subst (λ (n : Noted). DepthFirst objects (never_faulty objects) Lists tree (record { recorder = recorder; lines = none; ending = ending; noted = n }) new answer) below walk)))
 
-  -- these are the lines, where it ended well
-  pub lines_listed : answer ≡ Ok tt → (lines : List ℕ) → lines ≡ new.lines → AreLinesOf ending objects tree lines
-  lines_listed well lines same =
-      let all : (recorder : Tracked) × RecordsTree objects tree recorder answer × (new.lines ≡ file_lines ending recorder.held.records) = recorded_so ending objects tree new answer from_fresh in
-      (all.0, subst (λ (a : Result (Unit {0}) Error). RecordsTree objects tree all.0 a) well all.1, same ∙ all.2)
+  -- it ended well, and no tree was noted or this one
+  told : answer ≡ Ok tt → (found : Option ObjectId) → new.noted.misnamed ≡ found → (walk : RecordsTree objects tree from_fresh.recorder (Ok tt)) × Tells None walk.visits found
+  told well found is =
+      subst (λ (a : Result (Unit {0}) Error). (walk : RecordsTree objects tree from_fresh.recorder a) × Tells None walk.visits found) well (from_fresh.walk, subst (Tells None from_fresh.walk.visits) is (from_fresh.names well))
+
+  -- these are the lines, where each name was a name
+  pub lines_listed : answer ≡ Ok tt → new.noted.misnamed ≡ None → (lines : List ℕ) → lines ≡ new.lines → AreLinesOf ending objects tree lines
+  lines_listed well none lines same = let t = told well None none in (from_fresh.recorder, t.0, t.1, same ∙ from_fresh.lines)
+
+  -- this tree is the first that has a name that is none
+  pub name_failed : answer ≡ Ok tt → (i : ObjectId) → new.noted.misnamed ≡ Some i → IsTreeFault objects tree (fault.Name i)
+  name_failed well i is other = let t = told well (Some i) is in inr (from_fresh.recorder, t.0, i, t.1, refl)
 
   -- its fault is one of the walk
   pub list_failed : {A : Type 0} (result : Result A Fault) (f : Fault) (e : Error) → result ≡ Err f → f ≡ fault_of_tree_walk e → answer ≡ Err e → IfErr result (IsTreeFault objects tree)
-  list_failed result f e is told failed =
-      let all : (recorder : Tracked) × RecordsTree objects tree recorder answer × (new.lines ≡ file_lines ending recorder.held.records) = recorded_so ending objects tree new answer from_fresh in
-      rw is (λ other. (all.0, e, subst (λ (a : Result (Unit {0}) Error). RecordsTree objects tree all.0 a) failed all.1, told))
+  list_failed result f e is same failed = rw is (λ other. inl (from_fresh.recorder, e, subst (λ (a : Result (Unit {0}) Error). RecordsTree objects tree from_fresh.recorder a) failed from_fresh.walk, same))

@@ -18,7 +18,7 @@ use Rattle.gix_records.specs.Records.{Record, AreRecords}
 use Rattle.gix_simple.specs.declared.Sorting.TheVariants as sorting
 use Rattle.gix_commands.specs.Checked.{CheckedWalk, Checks, GoesOnWhole, first_lost}
 use Rattle.gix_commands.specs.Run as run
-use Rattle.gix_commands.specs.Run.{Serves, listed, not_written}
+use Rattle.gix_commands.specs.Run.{Serves, listed, misnamed, not_written}
 use Rattle.gix_commands.specs.TopoWalked as topo
 use Rattle.gix_commands.specs.Walked.{Walk, Answers, IsWalkFault, failed}
 use Rattle.gix_commands.proofs.CheckedWalks.{IsChecked, IsItself, from_by, well, lacking}
@@ -73,8 +73,9 @@ serves_sound {objects} {rows} agreeing (run.lost walk at infos {why = why} by s 
 serves_sound agreeing (not_walked why f) = λ same. start_sound f (err_same same)
 serves_sound agreeing (walked_down {limit = limit} walk infos built ends a) = topo_by_sound limit walk infos (built_agreeing built agreeing) ends
 serves_sound {objects} {rows} agreeing (not_built {by = by} {tips = tips} {ends = ends} why h) = λ same. build_sound objects rows agreeing by tips ends why h (err_same same)
-serves_sound agreeing (listed recorder r a) = λ e. cc
+serves_sound agreeing (listed recorder r n a) = λ e. cc
 serves_sound {objects} agreeing (not_listed recorder why r) = λ same. tree_sound objects r (err_same same)
+serves_sound agreeing (misnamed recorder r f) = λ e. cc
 serves_sound agreeing (counted ahead behind c d a) = λ e. cc
 serves_sound agreeing (not_ahead f) = ends_sound f.1.ends
 serves_sound agreeing (not_behind n a f) = ends_sound f.1.ends
@@ -135,6 +136,7 @@ module _ (objects : Objects) (rows : List GraphRow) (old : Option (List ℕ)) (o
     serves_drawn (Err (fault.WrongKind i)) w = serves _ (w (λ e. cc))
     serves_drawn (Err fault.Broken) w = serves _ (w (λ e. cc))
     serves_drawn (Err (fault.Cycle i)) w = serves _ (w (λ e. cc))
+    serves_drawn (Err (fault.Name i)) w = serves _ (w (λ e. cc))
     serves_drawn (Err (fault.Graph e)) w = serves _ (w (λ e. cc))
     serves_drawn (Err (fault.Row i)) w = serves _ (w (λ e. cc))
     serves_drawn (Err (fault.Disagrees i)) w = serves _ (w (λ e. cc))

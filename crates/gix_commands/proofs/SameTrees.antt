@@ -1,8 +1,8 @@
 -- The entries of trees, the trees in them and the lines of entries are those of the statement.
 use Rattle.std.proofs.Common.{◌≡◌, ◌≢◌, ◌≤◌, ◌<◌, ◌+◌, ◌*◌, ◌==◌, nat_lt, ℕ, zero, suc, List, [], ◌∷◌, ◌++◌, map, length, take, drop, Bool, true, false, cond, Option, Some, None, All, bit_and, Continue, flat_map, position, refl, sym, ap}
 use Rattle.std.proofs.Common.{subst, ◌∙◌, arith, append-nil, append_assoc, length-append, get_or, drop-cons, eqb-true, eq-eqb, ltb-false, get_or-take, length-take-le, take-append-drop}
-use Rattle.gix_commands.proofs.Common.{get, false≢true, All-head, All-tail, same_Some, none-some, ObjectId, id_len, id_of, kind_of, bytes_of, is_among, Object, kind_word, stored, Action, Call, DepthScript, IsDepthScript, entries_in}
-use Rattle.gix_commands.proofs.Common.{Items, Place, Visit, visit, Leaves, Enters, outcome_of, descent, Whole, items_of_object, items_of_kind, trees_of, Entry, Holds, IsNumber, AreEntries, IsTree, bytes_in, digits_in}
+use Rattle.gix_commands.proofs.Common.{get, false≢true, All-cons, All-head, All-nil, All-tail, same_Some, none-some, ObjectId, id_len, id_of, kind_of, bytes_of, is_among, Object, kind_word, stored, Action, Call, DepthScript, IsDepthScript, entries_in}
+use Rattle.gix_commands.proofs.Common.{Items, Place, Visit, visit, Whole, items_of_object, items_of_kind, trees_of, Entry, Holds, IsNumber, AreEntries, IsTree, bytes_in, digits_in}
 use Rattle.std.specs.List.{AllByRecursion}
 use Rattle.std.proofs.lemmas.List.{map-append}
 use Rattle.std.proofs.lemmas.List.Quantifiers.{position-Some}
@@ -15,7 +15,7 @@ use Rattle.gix_object.specs.declared.find.existing_iter.Error.{Error as Existing
 use Rattle.gix_object.specs.TreeItems.{TreeEntry, TreeFront, Found, Faulty, Ended, is_tree, parted_at, parted, mode_of, mode_before, mode_parted, mode_at, name_at, id_at, named_front, moded_front, entry_front, tree_front, unfolded, entries_within, tree_items}
 use Rattle.gix_records.specs.Records.{Record}
 use Rattle.gix_tree.specs.Laws.{IsWhole}
-use Rattle.gix_tree.specs.Paths.{HaveNames, joined}
+use Rattle.gix_tree.specs.Paths.{HaveNames, IsName, joined}
 use Rattle.gix_tree.specs.Script as script
 use Rattle.gix_tree.proofs.All.{all_left, all_right}
 use Rattle.gix_tree.proofs.Theorems.SameRecords.{GoOn}
@@ -24,6 +24,7 @@ use Rattle.gix_commands.specs.WholeStatement.{Unfolds}
 use Rattle.gix_commands.proofs.SameNumbers.{is_octal_number, width_of}
 use Rattle.gix_commands.proofs.SameCommits.{worded, held}
 use Rattle.gix_commands.proofs.SameHistory.{own_width}
+use Rattle.gix_commands.proofs.TreeFacts.{leaves_mode, enters_mode}
 
 -- an entry, as the statement has it
 abbrev pub entry_of : TreeEntry → Entry
@@ -145,40 +146,58 @@ shorter k b bs e rest s =
     omega
     (arith, ap length s.whole, length-append s.mode (32 ∷ (e.name ++ 0 ∷ (bytes_in e.id ++ rest))), length-append e.name (0 ∷ (bytes_in e.id ++ rest)), length-append (bytes_in e.id) rest)
 
-entries_read : (n : ℕ) (k : Kind) (bytes : List ℕ) → length bytes ≤ n → IsWhole (entries_within n k bytes) → AreEntries (width_of k) (map entry_of (entries_in (entries_within n k bytes))) bytes
-entries_read zero k [] l w = refl
-entries_read (suc n) k [] l w = refl
-entries_read zero k (b ∷ bs) l w = absurd (omega (arith, l))
-entries_read (suc n) k (b ∷ bs) l w = go (entries_read n k) (tree_front k (b ∷ bs)) refl w
+-- each entry's name is a name
+abbrev AreNamed : List TreeEntry → Type 0
+AreNamed entries = AllByRecursion (λ e. IsName e.name) entries
+
+not_empty : (name : List ℕ) → IsName name → name ≢ []
+not_empty [] h e = h
+not_empty (b ∷ name) h e = cc
+
+not_either : (name : List ℕ) → All (λ b. b ≢ 0) name → AllByRecursion (λ b. b ≢ 47) name → All (λ b. (b ≢ 0) × (b ≢ 47)) name
+not_either [] h g = All-nil (λ b. (b ≢ 0) × (b ≢ 47))
+not_either (b ∷ name) h g = All-cons (λ c. (c ≢ 0) × (c ≢ 47)) b name (All-head (λ c. c ≢ 0) b name h, g.0) (not_either name (All-tail (λ c. c ≢ 0) b name h) g.1)
+
+no_slash : (name : List ℕ) → All (λ b. b ≢ 0) name → IsName name → All (λ b. (b ≢ 0) × (b ≢ 47)) name
+no_slash [] h g = absurd g
+no_slash (b ∷ name) h g = not_either (b ∷ name) h g
+
+entries_read : (n : ℕ) (k : Kind) (bytes : List ℕ) → length bytes ≤ n → IsWhole (entries_within n k bytes) → AreNamed (entries_in (entries_within n k bytes)) → AreEntries (width_of k) (map entry_of (entries_in (entries_within n k bytes))) bytes
+entries_read zero k [] l w a = refl
+entries_read (suc n) k [] l w a = refl
+entries_read zero k (b ∷ bs) l w a = absurd (omega (arith, l))
+entries_read (suc n) k (b ∷ bs) l w a = go (entries_read n k) (tree_front k (b ∷ bs)) refl w a
   where
-    go : ((rest : List ℕ) → length rest ≤ n → IsWhole (entries_within n k rest) → AreEntries (width_of k) (map entry_of (entries_in (entries_within n k rest))) rest) → (f : TreeFront) → tree_front k (b ∷ bs) ≡ f
-        → IsWhole (unfolded f (entries_within n k)) → AreEntries (width_of k) (map entry_of (entries_in (unfolded f (entries_within n k)))) (b ∷ bs)
-    go again Ended h w = absurd (not_ended k (mode_at (b ∷ bs)) h)
-    go again (Faulty why) h w = absurd w
-    go again (Found e rest) h w =
+    go : ((rest : List ℕ) → length rest ≤ n → IsWhole (entries_within n k rest) → AreNamed (entries_in (entries_within n k rest)) → AreEntries (width_of k) (map entry_of (entries_in (entries_within n k rest))) rest)
+        → (f : TreeFront) → tree_front k (b ∷ bs) ≡ f → IsWhole (unfolded f (entries_within n k)) → AreNamed (entries_in (unfolded f (entries_within n k)))
+        → AreEntries (width_of k) (map entry_of (entries_in (unfolded f (entries_within n k)))) (b ∷ bs)
+    go again Ended h w a = absurd (not_ended k (mode_at (b ∷ bs)) h)
+    go again (Faulty why) h w a = absurd w
+    go again (Found e rest) h w a =
         let s = entry_split k (b ∷ bs) e rest h in
-        (s.mode, rest, s.is_mode, s.named, s.digits, s.size, again rest (let few = shorter k b bs e rest s in omega (arith, few, l)) w, s.whole)
+        (s.mode, rest, s.is_mode, not_empty e.name a.0, no_slash e.name s.named a.0, s.digits, s.size, again rest (let few = shorter k b bs e rest s in omega (arith, few, l)) w a.1, s.whole)
 
 module _ (rs : List Record) (i : ObjectId) where
-  of_object : (o : Object) → get (stored rs) i ≡ Some o → (items : Items) (k : ObjectKind) → o.kind ≡ k → items_of_kind i k o.bytes ≡ Some items → IsWhole items → IsTree (map worded rs) i (map entry_of (entries_in items))
-  of_object o at items kind.Tree is e w =
+  of_object : (o : Object) → get (stored rs) i ≡ Some o → (items : Items) (k : ObjectKind) → o.kind ≡ k → items_of_kind i k o.bytes ≡ Some items → IsWhole items → AreNamed (entries_in items) → IsTree (map worded rs) i (map entry_of (entries_in items))
+  of_object o at items kind.Tree is e w a =
       let same : tree_items (kind_of i) o.bytes ≡ items = same_Some (tree_items (kind_of i) o.bytes) items e in
-      let read : AreEntries (width_of (kind_of i)) (map entry_of (entries_in (tree_items (kind_of i) o.bytes))) o.bytes = entries_read (length o.bytes) (kind_of i) o.bytes (omega arith) (subst IsWhole (sym same) w) in (
+      let read : AreEntries (width_of (kind_of i)) (map entry_of (entries_in (tree_items (kind_of i) o.bytes))) o.bytes =
+      entries_read (length o.bytes) (kind_of i) o.bytes (omega arith) (subst IsWhole (sym same) w) (subst (λ those. AreNamed (entries_in those)) (sym same) a) in (
         o.bytes,
         subst (λ word. Holds (map worded rs) i word o.bytes) (ap kind_word is) (held rs i o at),
         subst (λ width. AreEntries width (map entry_of (entries_in items)) o.bytes) (own_width i) (subst (λ those. AreEntries (width_of (kind_of i)) (map entry_of (entries_in those)) o.bytes) same read),
       )
-  of_object o at items kind.Commit is e w = absurd (none-some items e)
-  of_object o at items kind.Blob is e w = absurd (none-some items e)
-  of_object o at items kind.Tag is e w = absurd (none-some items e)
+  of_object o at items kind.Commit is e w a = absurd (none-some items e)
+  of_object o at items kind.Blob is e w a = absurd (none-some items e)
+  of_object o at items kind.Tag is e w a = absurd (none-some items e)
 
-  -- a tree that is read whole has these entries
-  pub is_tree_at : (items : Items) → trees_of (stored rs) i ≡ Some items → IsWhole items → IsTree (map worded rs) i (map entry_of (entries_in items))
-  is_tree_at items e w = go (get (stored rs) i) refl e
+  -- a tree that is read whole, in which each name is a name, has these entries
+  pub is_tree_at : (items : Items) → trees_of (stored rs) i ≡ Some items → IsWhole items → AreNamed (entries_in items) → IsTree (map worded rs) i (map entry_of (entries_in items))
+  is_tree_at items e w a = go (get (stored rs) i) refl e
     where
       go : (o : Option Object) → get (stored rs) i ≡ o → items_of_object i o ≡ Some items → IsTree (map worded rs) i (map entry_of (entries_in items))
       go None at e = absurd (none-some items e)
-      go (Some o) at e = of_object o at items o.kind refl e w
+      go (Some o) at e = of_object o at items o.kind refl e w a
 
 -- what the paths in a place begin with
 abbrev pub before : List (List ℕ) → List ℕ
@@ -197,56 +216,29 @@ joined_behind (n ∷ m ∷ names) name = ap (λ xs. n ++ 47 ∷ xs) (joined_behi
 abbrev pub placed_by : Visit → List ℕ × Entry
 placed_by v = (before v.place.names, entry_of v.entry)
 
-leaves_mode : (t : Bool) (a : Action) (known : Bool) → a ≡ Continue true → outcome_of t a known ≡ Leaves → t ≡ false
-leaves_mode false a known goes o = refl
-leaves_mode true a known goes o = go known (subst (λ b. outcome_of true b known ≡ Leaves) goes o)
-  where
-    go : (t : Bool) → descent t ≡ Leaves → true ≡ false
-    go true o = cc
-    go false o = cc
-
-enters_mode : (t : Bool) (a : Action) (known : Bool) → a ≡ Continue true → outcome_of t a known ≡ Enters → t ≡ true
-enters_mode true a known goes o = refl
-enters_mode false a known goes o = let no : Leaves ≡ Enters = subst (λ b. outcome_of false b known ≡ Enters) goes o in cc
-
 module _ (rs : List Record) (fails : ObjectId → ExistingError → Type 0) where
-  unfolds_script : {p : Place} {items : Items} {calls : List Call} {visits : List Visit} → DepthScript (trees_of (stored rs)) fails p items calls visits Whole → GoOn visits
-      → IsWhole items × Unfolds (map worded rs) (before p.names) (map entry_of (entries_in items)) (map placed_by visits)
-  unfolds_script script.whole h = (tt, page.whole)
-  unfolds_script (script.leaves {p = p} {e = e} {a = a} o rest) h =
-      let r = unfolds_script rest h.1 in
-      (r.0, page.other (λ s. false≢true (sym (leaves_mode (is_tree e.mode) a (is_among e.id p.ids) h.0 o) ∙ eq-eqb (bit_and e.mode 0o170000) 0o040000 s)) r.1)
-  unfolds_script (script.enters {p = p} {e = e} {a = a} {sub = sub} {items = items} {visits = visits} {others = others} o found inner rest) h =
-      let i = unfolds_script inner (all_left (λ v. v.answer ≡ Continue true) visits others h.1) in
-      let r = unfolds_script rest (all_right (λ v. v.answer ≡ Continue true) visits others h.1) in
+  unfolds_script : {p : Place} {items : Items} {calls : List Call} {visits : List Visit} → DepthScript (trees_of (stored rs)) fails p items calls visits Whole → GoOn visits → HaveNames visits
+      → IsWhole items × AreNamed (entries_in items) × Unfolds (map worded rs) (before p.names) (map entry_of (entries_in items)) (map placed_by visits)
+  unfolds_script script.whole h n = (tt, tt, page.whole)
+  unfolds_script (script.leaves {p = p} {e = e} {a = a} o rest) h n =
+      let r = unfolds_script rest h.1 n.1 in
+      (r.0, (n.0, r.1), page.other (λ s. false≢true (sym (leaves_mode (is_tree e.mode) a (is_among e.id p.ids) h.0 o) ∙ eq-eqb (bit_and e.mode 0o170000) 0o040000 s)) r.2)
+  unfolds_script (script.enters {p = p} {e = e} {a = a} {sub = sub} {items = items} {visits = visits} {others = others} o found inner rest) h n =
+      let i = unfolds_script inner (all_left (λ v. v.answer ≡ Continue true) visits others h.1) (all_left (λ v. IsName v.entry.name) visits others n.1) in
+      let r = unfolds_script rest (all_right (λ v. v.answer ≡ Continue true) visits others h.1) (all_right (λ v. IsName v.entry.name) visits others n.1) in
       let mode : bit_and e.mode 0o170000 ≡ 0o040000 = eqb-true (bit_and e.mode 0o170000) 0o040000 (enters_mode (is_tree e.mode) a (is_among e.id p.ids) h.0 o) in (
         r.0,
+        (n.0, r.1),
         subst (λ those. Unfolds (map worded rs) (before p.names) (map entry_of (e ∷ entries_in items)) (placed_by (visit p e a) ∷ those)) (sym (map-append placed_by visits others))
-            (page.tree mode (is_tree_at rs e.id sub found i.0) (subst (λ path. Unfolds (map worded rs) path (map entry_of (entries_in sub)) (map placed_by visits)) (before_more p.names e.name) i.1) r.1),
+            (page.tree mode (is_tree_at rs e.id sub found i.0 i.1) (subst (λ path. Unfolds (map worded rs) path (map entry_of (entries_in sub)) (map placed_by visits)) (before_more p.names e.name) i.2) r.2),
       )
-  unfolds_script (script.ends_inside o found inner other) h = absurd (other refl)
+  unfolds_script (script.ends_inside o found inner other) h n = absurd (other refl)
 
-  -- a walk in depth that showed all, and in which each visit goes on
-  pub unfolds_walk : {root : ObjectId} {calls : List Call} {visits : List Visit} → IsDepthScript (trees_of (stored rs)) fails root calls visits Whole → GoOn visits
+  -- a walk in depth that showed all, in which each visit goes on and each name is a name
+  pub unfolds_walk : {root : ObjectId} {calls : List Call} {visits : List Visit} → IsDepthScript (trees_of (stored rs)) fails root calls visits Whole → GoOn visits → HaveNames visits
       → (entries : List Entry) × IsTree (map worded rs) root entries × Unfolds (map worded rs) [] entries (map placed_by visits)
-  unfolds_walk {root} (script.found {items = items} found walk) h = let w = unfolds_script walk h in (map entry_of (entries_in items), is_tree_at rs root items found w.0, w.1)
+  unfolds_walk {root} (script.found {items = items} found walk) h n = let w = unfolds_script walk h n in (map entry_of (entries_in items), is_tree_at rs root items found w.0 w.1, w.2)
 
 pub same_bytes : (i : ObjectId) → bytes_of i ≡ bytes_in i
 same_bytes (id.Sha1 bytes) = refl
 same_bytes (id.Sha256 bytes) = refl
-
--- a name that can be a part of a path
-abbrev pub IsNamed : List ℕ × Entry → Type 0
-IsNamed p = (p.1.name ≢ []) × All (λ b. b ≢ 47) p.1.name
-
-pub have_names : (visits : List Visit) → All IsNamed (map placed_by visits) → HaveNames visits
-have_names [] h = tt
-have_names (v ∷ visits) h = (of_name v.entry.name (All-head IsNamed (placed_by v) (map placed_by visits) h), have_names visits (All-tail IsNamed (placed_by v) (map placed_by visits) h))
-  where
-    all_of : (name : List ℕ) → All (λ b. b ≢ 47) name → AllByRecursion (λ b. b ≢ 47) name
-    all_of [] h = tt
-    all_of (b ∷ name) h = (All-head (λ c. c ≢ 47) b name h, all_of name (All-tail (λ c. c ≢ 47) b name h))
-
-    of_name : (name : List ℕ) → (name ≢ []) × All (λ b. b ≢ 47) name → Rattle.gix_tree.specs.Paths.IsName name
-    of_name [] h = h.0 refl
-    of_name (b ∷ name) h = all_of (b ∷ name) h.1

@@ -4,7 +4,7 @@ use Rattle.gix_commands.proofs.Common.{ObjectId, Objects, GraphRow, Fault, Order
 use Rattle.gix_commands.proofs.Common.{bad_record, served, Request, Commits}
 use Rattle.gix_words.specs.declared.fault.Fault.TheVariants as fault
 use Rattle.gix_commands.specs.Run as run
-use Rattle.gix_commands.specs.Run.{Serves, not_written}
+use Rattle.gix_commands.specs.Run.{Serves, misnamed, not_written}
 
 pub serves_silently : (objects : Objects) (rows : List GraphRow) (old new : Option (List ℕ)) (request : Request) (e : Fault) → Serves objects rows old request (Err e) new → e ≢ fault.Write → ((by : Order) (limit : Option ℕ) (tips hidden : List ObjectId) → request ≢ Commits by limit tips hidden) → new ≡ old
 serves_silently objects rows old new request e (walked walk infos starts ends whole written) other none = absurd (none _ _ _ _ refl)
@@ -13,6 +13,7 @@ serves_silently objects rows old new request e (not_walked why f) other none = r
 serves_silently objects rows old new request e (walked_down walk infos built ends written) other none = absurd (none _ _ _ _ refl)
 serves_silently objects rows old new request e (not_built why h) other none = refl
 serves_silently objects rows old new request e (not_listed recorder why walk) other none = refl
+serves_silently objects rows old new request e (misnamed recorder walk first) other none = refl
 serves_silently objects rows old new request e (not_ahead f) other none = refl
 serves_silently objects rows old new request e (not_behind n a f) other none = refl
 serves_silently objects rows old new request e (not_selected why f) other none = refl

@@ -1,12 +1,61 @@
 -- How walks through stored trees end.
-use Rattle.std.proofs.Common.{◌≡◌, ◌≢◌, List, Result, Err, subst}
-use Rattle.gix_commands.proofs.Common.{ObjectId, Objects, Call, DepthScript, IsDepthScript, whole, leaves, enters, ends_inside, breaks, cycles, fault, no_memory_at_look_up, no_memory_for_descent, found, Tracked, LookUpFails}
-use Rattle.gix_commands.proofs.Common.{depth_answer, trees_of, Items, Place, Visit, Ending, Whole, Broken, Failed, fault_of_tree_walk, RecordsTree, never_faulty}
+use Rattle.std.proofs.Common.{◌≡◌, ◌≢◌, List, [], ◌∷◌, Bool, true, false, Result, Ok, Err, refl, subst, Continue}
+use Rattle.gix_commands.proofs.Common.{ObjectId, Objects, Action, Call, Run, DepthScript, IsDepthScript, whole, leaves, enters, ends_inside, breaks, cycles, fault, no_memory_at_look_up, no_memory_for_descent, found, Tracked, Tracks, fresh_recorder, entries_at, LookUpFails}
+use Rattle.gix_commands.proofs.Common.{depth_answer, trees_of, Items, Place, Visit, Ending, Whole, Broken, Failed, IsUnfailed, is_broken, Leaves, Enters, outcome_of, descent, depth_ok, depth_is_in_order, go_on, fault_of_tree_walk, RecordsTree, never_faulty}
+use Rattle.std.specs.List.{AllByRecursion}
 use Rattle.gix_object.specs.declared.Kind.TheVariants as object
 use Rattle.gix_tree.specs.declared.breadthfirst.Error.{Error}
+use Rattle.gix_tree.specs.Paths.{known_root}
+use Rattle.gix_tree.specs.Preorder.{IsPreorder}
+use Rattle.gix_tree.specs.Recorder.{IsRecorderAnswer}
 use Rattle.gix_tree.specs.Script.{not_found, refused, no_memory}
+use Rattle.gix_tree.proofs.Theorems.Called.{root_called}
+use Rattle.gix_tree.proofs.Theorems.SameRecords.{GoOn, unbroken}
 use Rattle.gix_words.specs.declared.fault.Fault.TheVariants as run_fault
 use Rattle.gix_commands.proofs.InternalFacts.{find_sound}
+
+leaves_of : (t known : Bool) → descent known ≡ Leaves → t ≡ false
+leaves_of t true o = cc
+leaves_of t false o = cc
+
+-- an entry at which a walk goes on, and that it doesn't go into, is no tree
+pub leaves_mode : (t : Bool) (a : Action) (known : Bool) → a ≡ Continue true → outcome_of t a known ≡ Leaves → t ≡ false
+leaves_mode false a known goes o = refl
+leaves_mode true a known goes o = leaves_of true known (subst (λ b. outcome_of true b known ≡ Leaves) goes o)
+
+pub enters_mode : (t : Bool) (a : Action) (known : Bool) → a ≡ Continue true → outcome_of t a known ≡ Enters → t ≡ true
+enters_mode true a known goes o = refl
+enters_mode false a known goes o = let no : Leaves ≡ Enters = subst (λ b. outcome_of false b known ≡ Enters) goes o in cc
+
+-- a recorder answers each call so
+answers_of : (old : Tracked) (calls : List Call) (new : Tracked) → Run Tracks old calls new → AllByRecursion IsRecorderAnswer calls
+answers_of old [] new h = tt
+answers_of old (call ∷ calls) new h = (h.1.1.0, answers_of h.0 calls new h.2)
+
+whole_end : (end : Ending) → IsUnfailed end → is_broken end ≡ false → end ≡ Whole
+whole_end Whole w b = refl
+whole_end Broken w b = cc
+whole_end (Failed why) w b = absurd w
+
+-- what a recorder is led through
+module _ (objects : Objects) (tree : ObjectId) (recorder : Tracked) {calls : List Call} {visits : List Visit} {end : Ending}
+    (script : IsDepthScript (trees_of objects) (LookUpFails objects (never_faulty objects)) tree calls visits end) (run : Run Tracks fresh_recorder calls recorder) where
+  -- each visit goes on
+  pub goes_on : GoOn visits
+  goes_on = go_on visits (root_called (trees_of objects) (LookUpFails objects (never_faulty objects)) IsRecorderAnswer script (answers_of fresh_recorder calls recorder run))
+
+  order : Ok tt ≡ depth_answer end → IsPreorder (entries_at (trees_of objects)) (known_root tree) (entries_at (trees_of objects) tree) visits (is_broken end)
+  order well =
+      let walk : RecordsTree objects tree recorder (Ok tt) = record { calls = calls; visits = visits; end = end; script = script; run = run; answered = well } in
+      depth_is_in_order objects (never_faulty objects) Tracks tree fresh_recorder recorder (Ok tt) walk (depth_ok end well)
+
+  -- a walk that answers Ok shows all
+  pub ends_whole : Ok tt ≡ depth_answer end → end ≡ Whole
+  ends_whole well = whole_end end (depth_ok end well) (unbroken (entries_at (trees_of objects)) (order well) goes_on)
+
+  -- and in preorder
+  pub in_preorder : Ok tt ≡ depth_answer end → IsPreorder (entries_at (trees_of objects)) (known_root tree) (entries_at (trees_of objects) tree) visits false
+  in_preorder well = subst (IsPreorder (entries_at (trees_of objects)) (known_root tree) (entries_at (trees_of objects) tree) visits) (unbroken (entries_at (trees_of objects)) (order well) goes_on) (order well)
 
 -- an ending that reports no failing store and no delegate that broke the walk off
 abbrev IsSound : Ending → Type 0

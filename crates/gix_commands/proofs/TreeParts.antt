@@ -25,12 +25,12 @@ module _ (some all : Objects) (part : IsPartOf some all) where
   below u (no_memory_for_descent a o) = absurd u
   below u (refused a r) = absurd u
 
-  from_root : {root : ObjectId} {calls : List Call} {visits : List Visit} {end : Ending} → IsUnfailed end → IsDepthScript (trees_of some) (LookUpFails some (never_faulty some)) root calls visits end → IsDepthScript (trees_of all) (LookUpFails all (never_faulty all)) root calls visits end
+  pub from_root : {root : ObjectId} {calls : List Call} {visits : List Visit} {end : Ending} → IsUnfailed end → IsDepthScript (trees_of some) (LookUpFails some (never_faulty some)) root calls visits end → IsDepthScript (trees_of all) (LookUpFails all (never_faulty all)) root calls visits end
   from_root {root} u (found {items = items} t s) = found (same_tree root items t) (below u s)
   from_root u (IsDepthScript.not_found f) = absurd u
   from_root u no_memory = absurd u
 
-  pub records_all : (tree : ObjectId) (recorder : Tracked) → RecordsTree some tree recorder (Ok tt) → RecordsTree all tree recorder (Ok tt)
+  abbrev pub records_all : (tree : ObjectId) (recorder : Tracked) → RecordsTree some tree recorder (Ok tt) → RecordsTree all tree recorder (Ok tt)
   records_all tree recorder walk = record {
     calls = walk.calls;
     visits = walk.visits;

@@ -22,7 +22,7 @@ use Rattle.gix_records.specs.declared.Error.TheVariants as records
 use Rattle.gix_commands.specs.Checked.{first_lost}
 use Rattle.gix_commands.specs.Opening.{IsOpeningFault}
 use Rattle.gix_commands.specs.Run as run
-use Rattle.gix_commands.specs.Run.{Serves, listed, not_written}
+use Rattle.gix_commands.specs.Run.{Serves, listed, misnamed, not_written}
 use Rattle.gix_commands.specs.TopoWalked as topo
 use Rattle.gix_commands.specs.Walked.{Answers, IsWalkFault, failed}
 use Rattle.gix_commands.proofs.LostParents.{lost_so}
@@ -37,6 +37,7 @@ IsOfWalk (fault.Missing i) = Unit {0}
 IsOfWalk (fault.WrongKind i) = Unit {0}
 IsOfWalk fault.Broken = Unit {0}
 IsOfWalk (fault.Cycle i) = Unit {0}
+IsOfWalk (fault.Name i) = Unit {0}
 IsOfWalk (fault.Graph e) = ⊥
 IsOfWalk (fault.Row i) = ⊥
 IsOfWalk (fault.Disagrees i) = ⊥
@@ -108,8 +109,9 @@ serves_of_walk {objects} {rows} (run.lost walk at infos {why = why} by s h more 
 serves_of_walk (not_walked why f) = simple_of_walk why
 serves_of_walk (walked_down {limit = limit} walk infos built ends a) = by_of_walk topo.Answers topo.IsWalkFault limit walk infos _ topo_tells ends
 serves_of_walk (not_built why h) = topo_of_walk why
-serves_of_walk (listed recorder r a) = tt
+serves_of_walk (listed recorder r n a) = tt
 serves_of_walk (not_listed recorder why r) = tree_of_walk why
+serves_of_walk (misnamed recorder r f) = tt
 serves_of_walk (counted ahead behind c d a) = tt
 serves_of_walk (not_ahead f) = ends_of_walk simple_tells f.1.ends
 serves_of_walk (not_behind n a f) = ends_of_walk simple_tells f.1.ends

@@ -18,7 +18,7 @@ use Rattle.gix_commands.proofs.SameCommits.{worded, are_records}
 use Rattle.gix_commands.proofs.SameContained.{contained_kept}
 use Rattle.gix_commands.proofs.SameHistory.{history}
 use Rattle.gix_commands.proofs.SameLists.{listed as is_list, is_followed, is_name_in, listed_down, number_shown, id_lines, entry_lines}
-use Rattle.gix_commands.proofs.SameTrees.{IsNamed, have_names, placed_by, unfolds_walk}
+use Rattle.gix_commands.proofs.SameTrees.{placed_by, unfolds_walk}
 use Rattle.gix_commands.proofs.SameWords.{AreWordsOf, are_words}
 use Rattle.gix_commands.proofs.TextNumbers.{number_by_texts}
 
@@ -41,17 +41,17 @@ module _ (words : List (List ℕ)) (input : List ℕ) (rs : List Record) (old ne
   ServesSo = page.Serves all parents time old new
 
   tree_written : (ending : ℕ) (tree : ObjectId) → Serves (stored rs) [] old (Files ending tree) (Ok tt) new
-      → (entries : List Entry) × (placed : List (List ℕ × Entry)) × IsTree all tree entries × Unfolds all [] entries placed × (All IsNamed placed → Appends old new (flat_map (entry_line ending) placed))
-  tree_written ending tree (listed recorder walk written) =
+      → (entries : List Entry) × (placed : List (List ℕ × Entry)) × IsTree all tree entries × Unfolds all [] entries placed × Appends old new (flat_map (entry_line ending) placed)
+  tree_written ending tree (listed recorder walk names written) =
       let u = unfolds (stored rs) ending tree recorder walk in
       let order = depth_is_in_order (stored rs) (never_faulty (stored rs)) Tracks tree fresh_recorder recorder (Ok tt) walk (depth_ok walk.end walk.answered) in
       let end : walk.end ≡ Whole = whole_end walk.end (depth_ok walk.end walk.answered) (unbroken (entries_at (trees_of (stored rs))) order u.all) in
-      let t = unfolds_walk rs (LookUpFails (stored rs) (never_faulty (stored rs))) (subst (IsDepthScript (trees_of (stored rs)) (LookUpFails (stored rs) (never_faulty (stored rs))) tree walk.calls walk.visits) end walk.script) u.all in (
+      let t = unfolds_walk rs (LookUpFails (stored rs) (never_faulty (stored rs))) (subst (IsDepthScript (trees_of (stored rs)) (LookUpFails (stored rs) (never_faulty (stored rs))) tree walk.calls walk.visits) end walk.script) u.all names in (
         t.0,
         map placed_by walk.visits,
         t.1,
         t.2,
-        λ names. subst (Appends old new) (ap (file_lines ending) (depth_is_recorded (stored rs) (never_faulty (stored rs)) tree recorder (Ok tt) walk (λ e. cc) (have_names walk.visits names)) ∙ entry_lines ending walk.visits) written,
+        subst (Appends old new) (ap (file_lines ending) (depth_is_recorded (stored rs) (never_faulty (stored rs)) tree recorder (Ok tt) walk (λ e. cc) names) ∙ entry_lines ending walk.visits) written,
       )
 
   serves : (request : Request) → request_of words ≡ Ok request → AreWordsOf words (Ok request) → ServesSo words

@@ -107,6 +107,7 @@ IsOfWords (fault.Missing i) = ⊥
 IsOfWords (fault.WrongKind i) = ⊥
 IsOfWords fault.Broken = ⊥
 IsOfWords (fault.Cycle i) = ⊥
+IsOfWords (fault.Name i) = ⊥
 IsOfWords (fault.Graph e) = ⊥
 IsOfWords (fault.Row i) = ⊥
 IsOfWords (fault.Disagrees i) = ⊥

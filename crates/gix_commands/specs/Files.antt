@@ -1,13 +1,15 @@
 -- The entries of a tree and of the trees in it, and the lines that they are written as.
-use Rattle.std.specs.Prelude.{◌≡◌, ◌≢◌, ℕ, ◌-◌, List, [], ◌∷◌, ◌++◌, length, replicate, false, Result, Ok, Err}
+use Rattle.std.specs.Prelude.{◌≡◌, ◌≢◌, ◌⊎◌, ℕ, ◌-◌, List, [], ◌∷◌, ◌++◌, length, replicate, false, Result, Ok, Err}
 use Rattle.std.specs.Fmt.{digits}
 use Rattle.std.specs.List.{flat_map}
 use Rattle.gix_hash.specs.declared.ObjectId.{ObjectId}
 use Rattle.gix_hash.specs.Id.{hex_of}
 use Rattle.gix_object.specs.Object.{Objects}
 use Rattle.gix_tree.specs.declared.breadthfirst.Error.{Error}
+use Rattle.gix_tree.specs.Paths.{HaveNames, IsName}
 use Rattle.gix_tree.specs.Recorder.{Record}
 use Rattle.gix_tree.specs.Tracked.{Tracked, Tracks, fresh_recorder}
+use Rattle.gix_tree.specs.Visits.{Visit}
 use Rattle.gix_tree.specs.Walk.{DepthFirst}
 use Rattle.gix_words.specs.declared.fault.Fault.{Fault}
 use Rattle.gix_words.specs.declared.fault.Fault.TheVariants as fault
@@ -30,12 +32,26 @@ file_line ending r = six_octal_digits r.mode ++ 32 ∷ (hex_of r.id ++ 32 ∷ (r
 abbrev pub file_lines : (ending : ℕ) → List Record → List ℕ
 file_lines ending records = flat_map (file_line ending) records
 
--- these are the lines of the entries of a tree and of the trees in it
+-- the first of these visits whose entry's name is no name is in the tree of this id
+abbrev pub IsMisnamed : List Visit → ObjectId → Type 0
+IsMisnamed visits i =
+    (before after : List Visit) × (v : Visit) × (above : List ObjectId) × (visits ≡ before ++ v ∷ after) × HaveNames before
+    × (IsName v.entry.name → ⊥) × (v.place.ids ≡ i ∷ above)
+
+-- these are the lines of the entries of a tree and of the trees in it, whose names are all names
 abbrev pub AreLinesOf : (ending : ℕ) → Objects → ObjectId → List ℕ → Type 0
 AreLinesOf ending objects tree lines =
-    (recorder : Tracked) × RecordsTree objects tree recorder (Ok tt) × (lines ≡ file_lines ending recorder.held.records)
+    (recorder : Tracked) × (walk : RecordsTree objects tree recorder (Ok tt)) × HaveNames walk.visits × (lines ≡ file_lines ending recorder.held.records)
 
--- a walk through a tree may fail so, unless memory ran out
+-- a walk through a tree fails so
+abbrev pub IsWalkFaultOf : Objects → ObjectId → Fault → Type 0
+IsWalkFaultOf objects tree e = (recorder : Tracked) × (why : Error) × RecordsTree objects tree recorder (Err why) × (e ≡ fault_of_tree_walk why)
+
+-- a walk through a tree ends well, and one of the trees has a name that is none
+abbrev pub IsNameFaultOf : Objects → ObjectId → Fault → Type 0
+IsNameFaultOf objects tree e =
+    (recorder : Tracked) × (walk : RecordsTree objects tree recorder (Ok tt)) × (i : ObjectId) × IsMisnamed walk.visits i × (e ≡ fault.Name i)
+
+-- the lines of a tree may be refused so, unless memory ran out
 abbrev pub IsTreeFault : Objects → ObjectId → Fault → Type 0
-IsTreeFault objects tree e =
-    e ≢ fault.Memory → (recorder : Tracked) × (why : Error) × RecordsTree objects tree recorder (Err why) × (e ≡ fault_of_tree_walk why)
+IsTreeFault objects tree e = e ≢ fault.Memory → IsWalkFaultOf objects tree e ⊎ IsNameFaultOf objects tree e

@@ -190,6 +190,7 @@ IsOutside (fault.Missing i) = ⊥
 IsOutside (fault.WrongKind i) = ⊥
 IsOutside fault.Broken = ⊥
 IsOutside (fault.Cycle i) = ⊥
+IsOutside (fault.Name i) = ⊥
 IsOutside (fault.Graph e) = ⊥
 IsOutside (fault.Row i) = ⊥
 IsOutside (fault.Disagrees i) = ⊥

@@ -1,19 +1,22 @@
 -- What a run writes of a tree, by its entries and the trees in it.
-use Rattle.std.specs.Prelude.{◌≡◌, ℕ, List, [], ◌∷◌, map, true, false, Option, Some, Result, Ok}
+use Rattle.std.specs.Prelude.{◌≡◌, ℕ, List, [], ◌∷◌, map, true, false, Option, Some, Result, Ok, Err, Contains}
 use Rattle.std.specs.declared.ops.ControlFlow.TheVariants.{Continue}
 use Rattle.std.specs.Io.KnownBytes.{Appends}
 use Rattle.std.specs.List.{AllByRecursion}
 use Rattle.gix_hash.specs.declared.ObjectId.{ObjectId}
+use Rattle.gix_hash.specs.Reach.{Reaches}
 use Rattle.gix_object.specs.Object.{Objects}
+use Rattle.gix_object.specs.TreeItems.{TreeEntry}
 use Rattle.gix_tree.specs.Preorder.{IsPreorder}
-use Rattle.gix_tree.specs.Laws.{AreSound}
-use Rattle.gix_tree.specs.Paths.{HaveNames, known_root}
+use Rattle.gix_tree.specs.Laws.{AreSound, subtrees_of}
+use Rattle.gix_tree.specs.Paths.{HaveNames, IsName, known_root}
 use Rattle.gix_tree.specs.Recorder.{record_of}
 use Rattle.gix_tree.specs.Script.{entries_at}
 use Rattle.gix_tree.specs.Visits.{Visit}
 use Rattle.gix_tree.specs.Walk.{LookUpFails, trees_of}
 use Rattle.gix_words.specs.declared.fault.Fault.{Fault}
-use Rattle.gix_commands.specs.Files.{file_lines}
+use Rattle.gix_words.specs.declared.fault.Fault.TheVariants as fault
+use Rattle.gix_commands.specs.Files.{IsMisnamed, file_lines}
 use Rattle.gix_commands.specs.Histories.{EndsWell, IsPartOf}
 use Rattle.gix_records.specs.Records.{Record, AreRecords, stored}
 use Rattle.gix_commands.specs.Run.{Runs}
@@ -26,12 +29,12 @@ pub record Unfolds (objects : Objects) (tree : ObjectId) (visits : List Visit) :
   pub all : AllByRecursion (λ v. v.answer ≡ Continue true) visits
 
 -- Over words that ask for it and records, a run of `files` that ends well writes a line for each entry of the tree and of the trees in
--- it, in preorder, with its path, where each name can be a part of a path.
+-- it, in preorder, with its path. Each name is one that can be a part of a path.
 abbrev pub FilesLists : Type 0
 FilesLists =
     (words : List (List ℕ)) (input : List ℕ) (records : List Record) (ending : ℕ) (tree : ObjectId) (old new : Option (List ℕ)) →
     request_of words ≡ Ok (Files ending tree) → AreRecords records input → Runs words (Some input) old (Ok tt) new →
-    (visits : List Visit) × Unfolds (stored records) tree visits × (HaveNames visits → Appends old new (file_lines ending (map record_of visits)))
+    (visits : List Visit) × Unfolds (stored records) tree visits × HaveNames visits × Appends old new (file_lines ending (map record_of visits))
 
 -- Where the records are a part of a store, these are the lines of the whole store, whatever else is in it.
 abbrev pub FilesListsOfPart : Type 0
@@ -40,13 +43,35 @@ FilesListsOfPart =
     (old new : Option (List ℕ)) (objects : Objects) →
     request_of words ≡ Ok (Files ending tree) → AreRecords records input → IsPartOf (stored records) objects →
     Runs words (Some input) old (Ok tt) new →
-    (visits : List Visit) × Unfolds objects tree visits × (HaveNames visits → Appends old new (file_lines ending (map record_of visits)))
+    (visits : List Visit) × Unfolds objects tree visits × HaveNames visits × Appends old new (file_lines ending (map record_of visits))
 
--- Where each tree in it reads whole, and none is under itself, it ends well.
+-- the first name that is none, in preorder, is in the tree of this id, and this tree has an entry of such a name
+pub record Misnames (objects : Objects) (tree i : ObjectId) : Type 0 where
+  pub visits : List Visit
+  pub unfolds : Unfolds objects tree visits
+  pub first : IsMisnamed visits i
+  pub entry : TreeEntry
+  pub held : Contains (entries_at (trees_of objects) i) entry
+  pub unnamed : IsName entry.name → ⊥
+
+-- A run of `files` that reports a bad name reports the tree of the first.
+abbrev pub FilesReportNames : Type 0
+FilesReportNames =
+    (words : List (List ℕ)) (input : List ℕ) (records : List Record) (ending : ℕ) (tree i : ObjectId) (old new : Option (List ℕ)) →
+    request_of words ≡ Ok (Files ending tree) → AreRecords records input → Runs words (Some input) old (Err (fault.Name i)) new →
+    Misnames (stored records) tree i
+
+-- in a tree, and the trees that it holds, and so on, each name is a name
+abbrev pub AreNamed : Objects → ObjectId → Type 0
+AreNamed objects tree =
+    (i : ObjectId) → Reaches (subtrees_of (trees_of objects) (LookUpFails objects (never_faulty objects)) (λ e. true)) (tree ∷ []) i
+    → AllByRecursion (λ e. IsName e.name) (entries_at (trees_of objects) i)
+
+-- Where each tree in it reads whole, none is under itself, and each name is a name, it ends well.
 abbrev pub FilesSucceeds : Type 0
 FilesSucceeds =
     (words : List (List ℕ)) (input : List ℕ) (records : List Record) (ending : ℕ) (tree : ObjectId) (answer : Result (Unit {0}) Fault)
     (old new : Option (List ℕ)) →
     request_of words ≡ Ok (Files ending tree) → AreRecords records input →
     AreSound (trees_of (stored records)) (LookUpFails (stored records) (never_faulty (stored records))) (λ e. true) (tree ∷ []) →
-    Runs words (Some input) old answer new → EndsWell answer
+    AreNamed (stored records) tree → Runs words (Some input) old answer new → EndsWell answer

@@ -34,6 +34,7 @@ FailsToOpen layers (fault.Missing i) = ⊥
 FailsToOpen layers (fault.WrongKind i) = ⊥
 FailsToOpen layers fault.Broken = ⊥
 FailsToOpen layers (fault.Cycle i) = ⊥
+FailsToOpen layers (fault.Name i) = ⊥
 FailsToOpen layers (fault.Disagrees i) = ⊥
 FailsToOpen layers fault.Read = ⊥
 FailsToOpen layers fault.Write = ⊥

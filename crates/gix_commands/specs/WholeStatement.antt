@@ -136,7 +136,7 @@ module _ {I : Type 0} (parents followed : I → List I) (time : I → ℤ) (star
   abbrev pub IsNumberShown : ℕ → Type 0
   IsNumberShown n = (ids : List I) × AllPairs (λ i j. i ≢ j) ids × ((i : I) → Contains ids i ↔ IsShown i) × (length ids ≡ n)
 
--- TREES: an entry is a mode in octal digits, a space, a name, a byte 0, and the bytes of an id of the tree's kind.
+-- TREES: an entry is a mode in octal digits, a space, a name that isn't empty and has no slash, a byte 0, and the bytes of an id of the tree's kind.
 pub record Entry : Type 0 where
   pub mode : ℕ
   pub name : List ℕ
@@ -145,8 +145,8 @@ pub record Entry : Type 0 where
 abbrev pub AreEntries : ℕ → List Entry → List ℕ → Type 0
 AreEntries width [] text = text ≡ []
 AreEntries width (e ∷ entries) text =
-    (mode rest : List ℕ) × IsNumber 8 6 mode e.mode × All (λ b. b ≢ 0) e.name × (digits_in e.id ≡ width) × (2 * length (bytes_in e.id) ≡ width)
-    × AreEntries width entries rest × (text ≡ mode ++ 32 ∷ (e.name ++ 0 ∷ (bytes_in e.id ++ rest)))
+    (mode rest : List ℕ) × IsNumber 8 6 mode e.mode × (e.name ≢ []) × All (λ b. (b ≢ 0) × (b ≢ 47)) e.name × (digits_in e.id ≡ width)
+    × (2 * length (bytes_in e.id) ≡ width) × AreEntries width entries rest × (text ≡ mode ++ 32 ∷ (e.name ++ 0 ∷ (bytes_in e.id ++ rest)))
 
 abbrev pub IsTree : List Record → ObjectId → List Entry → Type 0
 IsTree records i entries = (text : List ℕ) × Holds records i (codes "tree") text × AreEntries (digits_in i) entries text
@@ -187,11 +187,11 @@ pub data Serves (records : List Record) (parents : ObjectId → List ObjectId) (
   contains : {words : List (List ℕ)} {tip : ObjectId} {ids those : List ObjectId} → AreTips words (tip ∷ ids) [] → ids ≢ []
       → Keeps (λ before i after. Reaches parents (tip ∷ []) i) [] ids those → Appends old new (flat_map (λ i. encode_lower (bytes_in i) ++ 10 ∷ []) those)
       → Serves records parents time old new (codes "contains" ∷ words)
-  -- entries, one a line, where no name is empty or has a slash; behind `-z` a byte 0 ends each line
+  -- entries, one a line; behind `-z` a byte 0 ends each line
   files : (option : List (List ℕ)) (a : List ℕ) {ending : ℕ} {tree : ObjectId} {entries : List Entry} {placed : List (List ℕ × Entry)}
       → ((option ≡ []) × (ending ≡ 10)) ⊎ ((option ≡ codes "-z" ∷ []) × (ending ≡ 0)) → Spells (digits_in tree) a tree → IsTree records tree entries
-      → Unfolds records [] entries placed → (All (λ p. (p.1.name ≢ []) × All (λ b. b ≢ 47) p.1.name) placed
-      → Appends old new (flat_map (entry_line ending) placed)) → Serves records parents time old new (codes "files" ∷ (option ++ a ∷ []))
+      → Unfolds records [] entries placed → Appends old new (flat_map (entry_line ending) placed)
+      → Serves records parents time old new (codes "files" ∷ (option ++ a ∷ []))
 
 -- THE STATEMENT: a run that ended well, over these words and a reader of this input, left a writer of the old bytes with the new ones.
 abbrev pub Promises : {E : Type 0} → (words : List (List ℕ)) → (has old : Option (List ℕ)) → Result (Unit {0}) E → (new : Option (List ℕ)) → Type 0

@@ -2,7 +2,7 @@
 ghost use Rattle.std.specs.Prelude.{◌≡◌, ◌++◌, ◌∷◌, [], length, take, IfErr, IfOk, IfSome, OnErr, OnOk};
 ghost use Rattle.gix_object.specs.TreeRefIter.{entry_of};
 ghost use Rattle.gix_commands.specs.Files.{AreLinesOf, IsTreeFault, file_line, six_octal_digits};
-ghost use Rattle.gix_commands.specs.Lister.{line_at};
+ghost use Rattle.gix_commands.specs.Lister.{fresh_noted, is_name, line_at, turned, with_entry, with_tree};
 ghost use Rattle.gix_commands.specs.Run.{Serves};
 ghost use Rattle.gix_words.specs.Words.{Files};
 ghost use Rattle.gix_graph_store.specs.WithRows.{with_rows};
@@ -25,10 +25,12 @@ use std::io::Write;
 use std::marker::Model;
 use std::ops::ControlFlow;
 
-/// Walks through the tree of this id in depth, and writes a line for each entry, which this byte ends, once the walk has ended well.
+/// Walks through the tree of this id in depth, and writes a line for each entry, which this byte ends, once the walk has ended well and
+/// each name was a name.
 ///
 /// # Errors
-/// The fault of the walk, and `Memory`: nothing is written. `Write` where the writer failed.
+/// The fault of the walk, `Name` where the walk ended well and a name is empty or holds `/`, and `Memory`: nothing is written. `Write`
+/// where the writer failed.
 pub fn write_files<W: Write>(
     alloc: Global,
     ending: u8,
@@ -57,10 +59,96 @@ fn lines_of_tree(
         recorder: Recorder::new(alloc),
         lines: Vec::new(alloc),
         ending,
+        names: Names::below(alloc, tree),
         alloc,
     };
     depthfirst(alloc, tree, &mut State::new(alloc), store, &mut lister)?;
-    Ok(lister.lines)
+    match lister.misnamed() {
+        None => Ok(lister.lines),
+        Some(id) => Err(Fault::Name(id)),
+    }
+}
+
+/// Follows a walk in depth from tree to tree, and notes the first tree that has an entry whose name is none.
+#[derive(Drop)]
+struct Names {
+    /// The tree that the walk is in or enters next.
+    tree: ObjectId,
+    /// The trees above it, the root first.
+    above: Vec<ObjectId>,
+    /// The walk enters the tree next.
+    entering: bool,
+    /// The first tree that has such an entry.
+    misnamed: Option<ObjectId>,
+}
+
+impl Model for Names {
+    ghost use Rattle.std.specs.Prelude.{reverse, ◌∷◌};
+    ghost use Rattle.gix_commands.specs.Lister.{Noted};
+
+    ghost Value = { Noted };
+
+    ghost view = { λ n. record { ids = n.tree ∷ reverse n.above.items; entering = n.entering; misnamed = n.misnamed } };
+}
+
+impl Names {
+    /// Of a walk that has yet to enter this root.
+    fn below(alloc: Global, root: ObjectId) -> Names
+        ensures { result ≡ fresh_noted root }
+    {
+        Names {
+            tree: root,
+            above: Vec::new(alloc),
+            entering: true,
+            misnamed: None,
+        }
+    }
+
+    /// The first tree that has such an entry.
+    fn first(&self) -> Option<ObjectId>
+        ensures { result ≡ self.now.misnamed }
+    {
+        self.misnamed
+    }
+
+    /// The walk is at this entry of its tree.
+    fn note(&mut self, entry: &EntryRef<'_>)
+        ensures { self.new ≡ with_entry self.old (entry_of entry.now) }
+    {
+        let named = is_name(entry.filename.as_bytes());
+        if self.misnamed.is_none() && !named {
+            self.misnamed = Some(self.tree);
+        }
+    }
+
+    /// The walk enters the entry's tree next.
+    fn go_into(&mut self, entry: &EntryRef<'_>) -> Result<(), AllocError>
+        ensures { OnOk result (self.new ≡ with_tree self.old (entry_of entry.now)) }
+    {
+        self.note(entry);
+        self.above.push(self.tree)?;
+        self.tree = entry.oid;
+        self.entering = true;
+        Ok(())
+    }
+
+    /// The walk enters the tree, or comes back to the tree above.
+    fn turn(&mut self)
+        ensures { self.new ≡ turned self.old }
+    {
+        if self.entering {
+            self.entering = false;
+        } else if let Some(upper) = self.above.pop() {
+            self.tree = upper;
+        }
+    }
+}
+
+/// Whether a name isn't empty and holds no `/`.
+fn is_name(name: &[u8]) -> bool
+    ensures { result ≡ is_name name.now }
+{
+    !name.is_empty() && !name.contains(&b'/')
 }
 
 /// Adds a line for each entry that a walk shows, and goes into each tree. The recorder follows the path, and records nothing.
@@ -70,6 +158,7 @@ struct Lister {
     lines: Vec<u8>,
     /// The byte that ends a line.
     ending: u8,
+    names: Names,
     alloc: Global,
 }
 
@@ -78,10 +167,17 @@ impl Model for Lister {
 
     ghost Value = { Listed };
 
-    ghost view = { λ l. record { recorder = l.recorder; lines = l.lines.items; ending = l.ending } };
+    ghost view = { λ l. record { recorder = l.recorder; lines = l.lines.items; ending = l.ending; noted = l.names } };
 }
 
 impl Lister {
+    /// The first tree that has an entry whose name is none.
+    fn misnamed(&self) -> Option<ObjectId>
+        ensures { result ≡ self.now.noted.misnamed }
+    {
+        self.names.first()
+    }
+
     /// Adds the line of the entry at the current path.
     fn list(&mut self, entry: &EntryRef<'_>) -> Result<(), AllocError>
         ensures ok { OnOk result (self.new ≡ record self.old { lines = self.old.lines ++ line_at self.old (entry_of entry.now) }) }
@@ -113,6 +209,7 @@ impl Visit for Lister {
 
     fn pop_back_tracked_path_and_set_current(&mut self) {
         self.recorder.pop_back_tracked_path_and_set_current();
+        self.names.turn();
     }
 
     fn pop_front_tracked_path_and_set_current(&mut self) {
@@ -132,11 +229,13 @@ impl Visit for Lister {
     }
 
     fn visit_tree(&mut self, entry: &EntryRef<'_>) -> Result<Action, AllocError> {
+        self.names.go_into(entry)?;
         self.list(entry)?;
         Ok(ControlFlow::Continue(true))
     }
 
     fn visit_nontree(&mut self, entry: &EntryRef<'_>) -> Result<Action, AllocError> {
+        self.names.note(entry);
         self.list(entry)?;
         Ok(ControlFlow::Continue(true))
     }

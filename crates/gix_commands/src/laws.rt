@@ -5,7 +5,7 @@ ghost use Rattle.gix_commands.specs.Histories.{ContainsIds, ContainsIdsOfPart, C
 ghost use Rattle.gix_commands.specs.Histories.{SimpleBegins, SimpleBeginsOfPart, SimpleLists, SimpleListsOfPart, SimpleSucceeds};
 ghost use Rattle.gix_commands.specs.Histories.{TopoBegins, TopoBeginsOfPart, TopoLists, TopoListsOfPart, TopoSucceeds};
 ghost use Rattle.gix_commands.specs.Histories.{ToldAheadCounts, ToldSimpleBegins, ToldSimpleLists, ToldTopoBegins, ToldTopoLists};
-ghost use Rattle.gix_commands.specs.Listings.{FilesLists, FilesListsOfPart, FilesSucceeds};
+ghost use Rattle.gix_commands.specs.Listings.{FilesLists, FilesListsOfPart, FilesReportNames, FilesSucceeds};
 
 /// `breadth`, `newest` and `oldest` write the ids of exactly the commits that the tips reach and the hidden ones don't, each once, in
 /// their order. With `--first-parent` the tips reach by each first parent alone, and with `--since` by those that aren't older, from such
@@ -70,8 +70,7 @@ pub fn topo_succeeds()
     ensures { TopoSucceeds }
 {}
 
-/// `files` writes a line for each entry of the tree and of the trees in it, in preorder; with its path, where no name is empty or holds
-/// `/`.
+/// `files` writes a line for each entry of the tree and of the trees in it, in preorder, with its path. No name is empty or holds `/`.
 pub fn files_lists()
     ensures { FilesLists }
 {}
@@ -81,7 +80,14 @@ pub fn files_lists_of_part()
     ensures { FilesListsOfPart }
 {}
 
-/// Where each of these trees reads whole and none is under itself, `files` fails for memory, reading or writing alone.
+/// Where `files` reports a bad name, the tree that it names has an entry whose name is empty or holds `/`: it is the tree of the first such
+/// entry, in the order of the lines.
+pub fn files_report_names()
+    ensures { FilesReportNames }
+{}
+
+/// Where each of these trees reads whole, none is under itself, and no name is empty or holds `/`, `files` fails for memory, reading or
+/// writing alone.
 pub fn files_succeeds()
     ensures { FilesSucceeds }
 {}

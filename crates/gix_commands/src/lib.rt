@@ -59,8 +59,9 @@ use std::io::{Read, Write};
 /// # Errors
 /// `Usage` and `Id` where the words are no command, `Read` where the reader fails or gives no end when it is asked for the last time,
 /// `Record` where the input isn't records: nothing is written. `Missing`, `WrongKind` and `Broken` where the walk meets such an object,
-/// or in an order by time such a parent of the commit that it wrote last, `Cycle` where it meets a tree that is under itself, and `Memory`: the lines of the commits before are written, and nothing of
-/// `files`, `ahead` and `contains`. `Write` where the writer fails: what was written is not stated.
+/// or in an order by time such a parent of the commit that it wrote last, `Cycle` where it meets a tree that is under itself, and
+/// `Memory`: the lines of the commits before are written, and nothing of `files`, `ahead` and `contains`. `Name` where a tree has a name
+/// that is empty or holds `/`: nothing is written. `Write` where the writer fails: what was written is not stated.
 pub fn run<R: Read, W: Write>(
     alloc: Global,
     words: &[String],

@@ -25,6 +25,10 @@ fn prints_its_text(rt: HostRuntime) -> Result<(), Fail> {
             "cycle 1111111111111111111111111111111111111111",
         ),
         (
+            Fault::Name(id),
+            "bad name in tree 1111111111111111111111111111111111111111",
+        ),
+        (
             Fault::Graph(ChainError::Layer(1, Error::Base)),
             "bad commit-graph: layer 1: the chunk BASE isn't the hashes of the layers below",
         ),

@@ -44,6 +44,7 @@ of_fault fault.Internal = of_length 12 0
 of_fault (fault.Graph e) = of_length 13 0
 of_fault (fault.Row i) = of_id 14 i
 of_fault (fault.Disagrees i) = of_id 15 i
+of_fault (fault.Name i) = of_id 16 i
 
 -- what a run of the commands answers and writes over a text of words and the bytes of records
 abbrev pub RunsOver : List ℕ → List ℕ → Result (Unit {0}) Fault → List ℕ → Type 0
@@ -98,4 +99,5 @@ text_of n =
     else if nat_eq n 13 then codes "bad commit-graph"
     else if nat_eq n 14 then codes "bad row in the commit-graph"
     else if nat_eq n 15 then codes "commit-graph disagrees"
+    else if nat_eq n 16 then codes "bad name in tree"
     else codes "unknown fault"

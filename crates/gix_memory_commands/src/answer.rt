@@ -10,8 +10,8 @@ use gix_parts::hash::ObjectId;
 #[derive(Clone, Copy, PartialEq, Eq, Debug)]
 pub struct Answer {
     /// 0 where all went well, 1 where the room was too small, or the number of the fault: 2 `Usage`, 3 `Id`, 4 `Record`, 5 `Missing`,
-    /// 6 `WrongKind`, 7 `Broken`, 8 `Cycle`, 9 `Memory`, 10 `Read`, 11 `Write`, 12 `Internal`, 13 `Graph`, 14 `Row`, 15 `Disagrees`. Of these
-    /// 10 to 15 never come.
+    /// 6 `WrongKind`, 7 `Broken`, 8 `Cycle`, 9 `Memory`, 10 `Read`, 11 `Write`, 12 `Internal`, 13 `Graph`, 14 `Row`, 15 `Disagrees`,
+    /// 16 `Name`. Those from 10 to 15 never come.
     pub number: u32,
     /// How many bytes of `id` are an id: 20 or 32 where the fault names an object, otherwise 0.
     pub id_length: u32,
@@ -57,6 +57,7 @@ impl Answer {
             Fault::Graph(_) => Answer::of_length(13, 0),
             Fault::Row(id) => Answer::of_id(14, id),
             Fault::Disagrees(id) => Answer::of_id(15, id),
+            Fault::Name(id) => Answer::of_id(16, id),
         }
     }
 
@@ -134,6 +135,7 @@ pub fn text_of(number: u32) -> &'static str
         13 => "bad commit-graph",
         14 => "bad row in the commit-graph",
         15 => "commit-graph disagrees",
+        16 => "bad name in tree",
         _ => "unknown fault",
     }
 }

@@ -35,6 +35,10 @@ pub enum Fault {
     /// The tree of this id is under itself.
     #[error("cycle {0}")]
     Cycle(ObjectId),
+    /// The tree of this id has an entry whose name is empty or holds a `/`, which can be no part of a path. It is the tree of the first such
+    /// entry, in the order in which `files` lists entries. Nothing is written.
+    #[error("bad name in tree {0}")]
+    Name(ObjectId),
     /// The layers are no commit-graph that can be read. Nothing is written, and of the input nothing is read.
     #[error("bad commit-graph: {0}")]
     Graph(ChainError),

@@ -36,19 +36,60 @@ fn writes_modes_and_paths_as_they_are(rt: HostRuntime) -> Result<(), Fail> {
     check(
         rt.alloc(),
         &[
-            "tree #a 142\n",
+            "tree #a 144\n",
             "0 a b\0$\x11",
             "777777 \"\0$\x11",
             "040000 %\0$\x77",
             "160000 %\n\0$\x22",
-            "120000 \0$\x33\n",
-            "tree #7 29\n100755 /\0$\x22\n",
+            "120000 ..\0$\x33\n",
+            "tree #7 61\n100644 .\0$\x22100755 .git\0$\x22\n",
         ],
         &[(
             &["files", "#a"],
-            "000000 #1 a b\n777777 #1 \"\n040000 #7 %\n100755 #2 %//\n160000 #2 %\n\n120000 #3 \n",
+            "000000 #1 a b\n777777 #1 \"\n040000 #7 %\n100644 #2 %/.\n100755 #2 %/.git\n160000 #2 %\n\n120000 #3 ..\n",
         )],
     )
+}
+
+/// A tree with a file, a tree of the id 7, and a file without a name.
+const UNNAMED: &str = "\
+tree #a 85\n\
+100644 a\0$\x11\
+40000 d\0$\x77\
+100644 \0$\x33\n";
+
+#[test]
+fn a_tree_with_a_bad_name_has_no_lines(rt: HostRuntime) -> Result<(), Fail> {
+    let alloc = rt.alloc();
+    check(
+        alloc,
+        &[
+            "tree #a 59\n40000 x/y\0$\x77100644 b\0$\x22\n",
+            "tree #7 29\n100644 a\0$\x11\n",
+            "tree #6 28\n160000 \0$\x11\n",
+            "tree #5 30\n160000 a/\0$\x11\n",
+            "tree #e 84\n40000 a\0$\x7740000 b\0$\x5540000 c\0$\x66\n",
+        ],
+        &[
+            (&["files", "#a"], "! bad name in tree #a"),
+            (&["files", "-z", "#a"], "! bad name in tree #a"),
+            (&["files", "#6"], "! bad name in tree #6"),
+            (&["files", "#5"], "! bad name in tree #5"),
+            (&["files", "#e"], "! bad name in tree #5"),
+            (&["files", "#7"], "100644 #1 a\n"),
+        ],
+    )?;
+    check(
+        alloc,
+        &[UNNAMED, "tree #7 29\n100644 x\0$\x22\n"],
+        &[(&["files", "#a"], "! bad name in tree #a")],
+    )?;
+    check(
+        alloc,
+        &[UNNAMED, "tree #7 29\n100644 /\0$\x22\n"],
+        &[(&["files", "#a"], "! bad name in tree #7")],
+    )?;
+    check(alloc, &[UNNAMED], &[(&["files", "#a"], "! missing #7")])
 }
 
 #[test]
