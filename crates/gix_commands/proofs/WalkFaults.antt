@@ -1,5 +1,5 @@
 -- Which faults walks may have, and commands that are served.
-use Rattle.std.proofs.Common.{◌≡◌, ◌≢◌, ◌⊎◌, ℕ, List, Option, None, Some, Result, Ok, Err, refl, sym, ap, subst, inl, inr, ⊎_elim, ◌∙◌}
+use Rattle.std.proofs.Common.{◌≡◌, ◌≢◌, ℕ, List, Option, None, Some, Result, Ok, Err, refl, sym, ap, subst, inl, inr, ◌∙◌}
 use Rattle.gix_commands.proofs.Common.{ObjectId, GraphRow, Objects, Info, Fault, fault_of_find, fault_of_walk, fault_of_topo_walk, fault_of_contained, fault_of_disagreement, fault_of_records, fault_of_tree_walk, walked, not_walked, walked_down, not_built, not_listed, counted, not_ahead}
 use Rattle.gix_commands.proofs.Common.{not_behind, selected, not_selected, unserved, Ends, EndsBy, finished, cut_short, enough, before, Request}
 use Rattle.gix_contained.specs.declared.Error.{Error as ContainedError}
@@ -125,12 +125,36 @@ pub walk_opened : {answer : Result (Unit {0}) Fault} (e : Fault) → OfWalk answ
 walk_opened e w is (inl (why, same)) = subst OfWalk (is ∙ ap (λ f. Err f) same) w
 walk_opened e w is (inr (i, same)) = subst OfWalk (is ∙ ap (λ f. Err f) same) w
 
+-- a fault that isn't one of layers
+module _ (f e : Fault) (same : f ≡ e) (no_graph : (why : ChainError) → f ≢ fault.Graph why) (no_row : (i : ObjectId) → f ≢ fault.Row i) where
+  not_opening : IsOpeningFault e → ⊥
+  not_opening (inl (why, is)) = no_graph why (same ∙ is)
+  not_opening (inr (i, is)) = no_row i (same ∙ is)
+
 pub records_opened : (why : RecordsError) (f e : Fault) → f ≡ fault_of_records why → f ≡ e → IsOpeningFault e → ⊥
-records_opened records.Read f e is same o = ⊎_elim (λ (p : (why : ChainError) × (e ≡ fault.Graph why)). let is = p.1 in cc) (λ (p : (i : ObjectId) × (e ≡ fault.Row i)). let is = p.1 in cc) o
-records_opened (records.Record n) f e is same o = ⊎_elim (λ (p : (why : ChainError) × (e ≡ fault.Graph why)). let is = p.1 in cc) (λ (p : (i : ObjectId) × (e ≡ fault.Row i)). let is = p.1 in cc) o
-records_opened records.Memory f e is same o = ⊎_elim (λ (p : (why : ChainError) × (e ≡ fault.Graph why)). let is = p.1 in cc) (λ (p : (i : ObjectId) × (e ≡ fault.Row i)). let is = p.1 in cc) o
+records_opened why f e is same = not_opening f e same (λ g h. other why (sym is ∙ h)) (λ i h. row why (sym is ∙ h))
+  where
+    other : (why : RecordsError) {g : ChainError} → fault_of_records why ≢ fault.Graph g
+    other records.Read = λ h. cc
+    other (records.Record n) = λ h. cc
+    other (records.Name n i) = λ h. cc
+    other records.Memory = λ h. cc
+
+    row : (why : RecordsError) {i : ObjectId} → fault_of_records why ≢ fault.Row i
+    row records.Read = λ h. cc
+    row (records.Record n) = λ h. cc
+    row (records.Name n i) = λ h. cc
+    row records.Memory = λ h. cc
 
 pub stored_opened : (why : Disagreement) (f e : Fault) → f ≡ fault_of_disagreement why → f ≡ e → IsOpeningFault e → ⊥
-stored_opened (disagreement.Row i) f e is same o = ⊎_elim (λ (p : (why : ChainError) × (e ≡ fault.Graph why)). let is = p.1 in cc) (λ (p : (i : ObjectId) × (e ≡ fault.Row i)). let is = p.1 in cc) o
-stored_opened (disagreement.Store i) f e is same o = ⊎_elim (λ (p : (why : ChainError) × (e ≡ fault.Graph why)). let is = p.1 in cc) (λ (p : (i : ObjectId) × (e ≡ fault.Row i)). let is = p.1 in cc) o
-stored_opened disagreement.Memory f e is same o = ⊎_elim (λ (p : (why : ChainError) × (e ≡ fault.Graph why)). let is = p.1 in cc) (λ (p : (i : ObjectId) × (e ≡ fault.Row i)). let is = p.1 in cc) o
+stored_opened why f e is same = not_opening f e same (λ g h. other why (sym is ∙ h)) (λ i h. row why (sym is ∙ h))
+  where
+    other : (why : Disagreement) {g : ChainError} → fault_of_disagreement why ≢ fault.Graph g
+    other (disagreement.Row i) = λ h. cc
+    other (disagreement.Store i) = λ h. cc
+    other disagreement.Memory = λ h. cc
+
+    row : (why : Disagreement) {i : ObjectId} → fault_of_disagreement why ≢ fault.Row i
+    row (disagreement.Row i) = λ h. cc
+    row (disagreement.Store i) = λ h. cc
+    row disagreement.Memory = λ h. cc

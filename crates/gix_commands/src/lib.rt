@@ -122,7 +122,7 @@ fn serve_commits<W: Write>(
     match order {
         Order::Simple { parents, sorting } => {
             let walk = walk_from(alloc, parents, sorting, tips, hidden, store, graph)?;
-            if sorting == Sorting::BreadthFirst {
+            if let Sorting::BreadthFirst = sorting {
                 return write_commits(alloc, walk, limit, writer);
             }
             let checked = Checked::new(alloc, walk, store, graph);

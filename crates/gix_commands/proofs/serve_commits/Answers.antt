@@ -11,10 +11,11 @@ returns-in_err-walk-in-Simple g c =
     subst (λ (o : Order). Serves (with_rows (rows_in c.args.graph) c.args.store.now) (rows_in c.args.graph) old (Commits o c.args.limit c.args.tips.items c.args.hidden.items) c.from_residual.result old) (sym c.in-Simple.is)
     (serves_no_walk _ _ _ _ _ _ _ _ _ _ (p.1 ∙ ap (λ f. Err f) p.2) c.in_err-walk-in-Simple.ensures.err)
 
-pub returns-in_ok-walk-in-Simple : goal.returns-in_ok-walk-in-Simple
-returns-in_ok-walk-in-Simple g c =
-    subst (λ (o : Order). Serves (with_rows (rows_in c.args.graph) c.args.store.now) (rows_in c.args.graph) (g.W.Write.contents c.args.writer.now) (Commits o c.args.limit c.args.tips.items c.args.hidden.items) c.write_commits.result (g.W.Write.contents c.write_commits.new.writer)) (sym c.in-Simple.is)
-    (serves_walk _ _ _ _ _ _ _ _ _ _ c.in_ok-walk-in-Simple.ensures.ok _ c.write_commits.ensures)
+pub returns-in-BreadthFirst-in-Simple : goal.returns-in-BreadthFirst-in-Simple
+returns-in-BreadthFirst-in-Simple g c = ?
+
+pub returns-in_default-in-Simple : goal.returns-in_default-in-Simple
+returns-in_default-in-Simple g c = ?
 
 pub returns-in_err-walk-in-Topo : goal.returns-in_err-walk-in-Topo
 returns-in_err-walk-in-Topo g c =
