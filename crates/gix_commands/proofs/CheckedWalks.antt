@@ -156,8 +156,8 @@ module _ (objects : Objects) (rows : List GraphRow) where
         ⊎_elim
         (λ (p : (infos ≡ []) × (at.lost ≡ None)). let no : None ≡ Some why = sym p.1 ∙ is in cc)
         (λ (g : Gave infos at.lost).
-          lacking at.walk d.inner more
-          (record { before = g.before; last = g.last; place = g.place; whole = g.whole; lacks = λ other. sym (sym is ∙ g.looks (λ e. other (let same : Some why ≡ Some fault.Memory = sym is ∙ e in cc))) }))
+        lacking at.walk d.inner more
+        (record { before = g.before; last = g.last; place = g.place; whole = g.whole; lacks = λ other. sym (sym is ∙ g.looks (λ e. other (let same : Some why ≡ Some fault.Memory = sym is ∙ e in cc))) }))
         d.so
 
     -- the answer was a fault

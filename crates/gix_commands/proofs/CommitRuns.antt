@@ -1,5 +1,5 @@
 -- What a run of `breadth`, `newest` or `oldest` writes, by what commits reach.
-use Rattle.std.proofs.Common.{◌≡◌, ◌≢◌, ℕ, ℤ, List, [], ◌∷◌, ◌++◌, map, filter, not, Option, None, Some, Result, Ok, Err, IsSome, refl, sym, ap, subst, ◌∙◌}
+use Rattle.std.proofs.Common.{◌≡◌, ◌≢◌, ℕ, ℤ, Contains, List, [], ◌∷◌, ◌++◌, map, filter, not, Option, None, Some, Result, Ok, Err, IsSome, refl, sym, ap, subst, ◌∙◌}
 use Rattle.gix_commands.proofs.Common.{Appends, commit_at, ReadsWhole, IsSimpleList, Contains-append_left, Contains-append_right, ObjectId, filter_within, get, Object, Objects, GraphRow, IsAgreeing, Info, Parents, cutoff, is_older, time_order, step, by_mode}
 use Rattle.gix_commands.proofs.Common.{parents_of, time_of, text_next, reach_more, walked_within, Fault, Simple, AreWhole, IsPartOf, IsSimpleBy, ListsBy, SimpleListsRead, SimpleLists, SimpleListsOfPart, EndsWell, followed}
 use Rattle.gix_commands.proofs.Common.{kept_tips, lines_of_ids, stored, Runs, walked, without_memory, no_command, not_read, bad_record, served, Ends, StartsFrom, finished, lines_of, line_of, Request, Commits, request_of, only_reading}
@@ -64,21 +64,18 @@ module _ (objects : Objects) (m : Parents) (by : Sorting) (tips hidden : List Ob
 
   -- where all is whole all was found
   module _ (read : by ≢ sorting.BreadthFirst → (i : ObjectId) → Contains tips i → IsSome (commit_at objects i)) (whole : AreWhole objects (kept_tips objects by tips ++ hidden)) where
-    abbrev left : List ObjectId
-    left = kept_tips objects by tips
+    found : (i : ObjectId) → Reaches texts (kept_tips objects by tips ++ hidden) i → IsFound i
+    found i r = found_whole i (whole_from objects i (whole i (by_parents_reached objects (kept_tips objects by tips) hidden whole i r)))
 
-    found : (i : ObjectId) → Reaches texts (left ++ hidden) i → IsFound i
-    found i r = found_whole i (whole_from objects i (whole i (by_parents_reached objects left hidden whole i r)))
-
-    followed_by : (i : ObjectId) → Reaches (followed objects texts m by) left i → Reaches texts (left ++ hidden) i
-    followed_by i r = reach_more texts left (left ++ hidden) (λ j c. Contains-append_left left hidden j c) i (followed_reaches objects texts m by left i r)
+    followed_by : (i : ObjectId) → Reaches (followed objects texts m by) (kept_tips objects by tips) i → Reaches texts (kept_tips objects by tips ++ hidden) i
+    followed_by i r = reach_more texts (kept_tips objects by tips) (kept_tips objects by tips ++ hidden) (λ j c. Contains-append_left (kept_tips objects by tips) hidden j c) i (followed_reaches objects texts m by (kept_tips objects by tips) i r)
 
     pub all_found : AreFound
     all_found = record {
       tips_found = λ other i c. found_whole i (whole_from objects i (read other i c));
       followed_found = λ i r. found i (followed_by i r);
       named_found = λ other c i r n. found i (step (followed_by c r) (walked_within m (texts c) i n));
-      hidden_found = λ some i r. found i (reach_more texts hidden (left ++ hidden) (λ j c. Contains-append_right left hidden j c) i r);
+      hidden_found = λ some i r. found i (reach_more texts hidden (kept_tips objects by tips ++ hidden) (λ j c. Contains-append_right (kept_tips objects by tips) hidden j c) i r);
     }
 
 module _ (objects : Objects) (rows : List GraphRow) (agreeing : IsAgreeing objects rows) (m : Parents) (by : Sorting) (tips hidden : List ObjectId) (some : tips ≢ []) where

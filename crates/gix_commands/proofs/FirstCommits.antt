@@ -1,5 +1,5 @@
 -- What a run writes that has a limit, by what commits reach.
-use Rattle.std.proofs.Common.{◌≡◌, ◌≢◌, ◌<◌, ◌-◌, ℕ, List, [], ◌∷◌, ◌++◌, length, Contains, take, Option, Some, Ok, refl, sym, ap, subst, ◌∙◌, arith, take_all}
+use Rattle.std.proofs.Common.{◌≡◌, ◌≢◌, ◌<◌, ◌-◌, ℕ, List, [], ◌∷◌, ◌++◌, length, Contains, take, false, Option, None, Some, Ok, refl, sym, ap, subst, ◌∙◌, arith, take_all}
 use Rattle.gix_commands.proofs.Common.{Yields, by_mode, filter_within, followed, time_of, new_ids, whole_from, AreWhole, IsBeginning, ReadsParents, Appends, ObjectId, Objects, GraphRow, stored, Info, Parents, IsAgreeing, text_next, none_agree, time_order, Simple, Topo, IsPartOf, IsSimpleBy, IsSimpleList, ListsRead, SimpleBegins}
 use Rattle.gix_commands.proofs.Common.{SimpleBeginsOfPart, SimpleListsRead, TopoBegins, TopoBeginsOfPart, kept_tips, lines_of_ids, walked, walked_down, StartsFrom, EndsWithin, enough, before, lines_of, Commits}
 use Rattle.std.proofs.lemmas.List.{length-map}
@@ -78,11 +78,8 @@ topo_begins words input records by n tips ends old new asked are runs =
 
 -- of a part of a store
 module _ (some all : Objects) (part : IsPartOf some all) (m : Parents) (by : Sorting) (tips hidden : List ObjectId) (tip : tips ≢ []) (walk : Walk) (starts : StartsFrom some [] m by tips hidden walk) where
-  agree : IsAgreeing some []
+  abbrev agree : IsAgreeing some []
   agree = none_agree some [] refl
-
-  left : List ObjectId
-  left = kept_tips some by tips
 
   tip_found : by ≢ sorting.BreadthFirst → (i : ObjectId) → Contains tips i → IsFound some m by tips hidden i
   tip_found other i c = found_whole some m by tips hidden i (whole_from some i (tips_read some [] m by tips hidden walk starts other i c))

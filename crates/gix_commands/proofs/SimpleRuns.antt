@@ -101,8 +101,8 @@ each_id P (q ∷ ps) f i c = ⊎_elim (λ e. subst P e (f q (Contains-here q ps)
 -- by time the tips were read
 read_tips : (by : Sorting) (first sorted : Walk) → IsSorted first by sorted → by ≢ sorting.BreadthFirst → (i : ObjectId) → Contains (ids_of first.pending) i → IsSome (commit_at first.store i)
 read_tips sorting.BreadthFirst first sorted s other i c = absurd (other refl)
-read_tips (sorting.ByCommitTime order) first sorted s other i c = each_id (λ j. IsSome (commit_at first.store j)) first.pending (λ p m. All-contains _ first.pending s.read p m) i c
-read_tips (sorting.ByCommitTimeCutoff order seconds) first sorted s other i c = each_id (λ j. IsSome (commit_at first.store j)) first.pending (λ p m. All-contains _ first.pending s.read p m) i c
+read_tips (sorting.ByCommitTime order) first sorted s other i c = each_id (λ j. IsSome (commit_at first.store j)) first.pending (λ p m. All-contains (λ (q : Pending). IsSome (commit_at first.store q.id)) first.pending p s.read m) i c
+read_tips (sorting.ByCommitTimeCutoff order seconds) first sorted s other i c = each_id (λ j. IsSome (commit_at first.store j)) first.pending (λ p m. All-contains (λ (q : Pending). IsSome (commit_at first.store q.id)) first.pending p s.read m) i c
 
 module _ (objects : Objects) (rows : List GraphRow) (m : Parents) (by : Sorting) (tips hidden : List ObjectId) (walk : Walk) (starts : StartsFrom objects rows m by tips hidden walk) where
   -- the walk before its first step, its options written out

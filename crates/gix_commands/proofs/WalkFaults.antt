@@ -1,6 +1,6 @@
 -- Which faults walks may have, and commands that are served.
 use Rattle.std.proofs.Common.{◌≡◌, ◌≢◌, ℕ, List, Option, None, Some, Result, Ok, Err, refl, sym, ap, subst, inl, inr, ◌∙◌}
-use Rattle.gix_commands.proofs.Common.{ObjectId, GraphRow, Objects, Info, Fault, fault_of_find, fault_of_walk, fault_of_topo_walk, fault_of_contained, fault_of_disagreement, fault_of_records, fault_of_tree_walk, walked, not_walked, walked_down, not_built, not_listed, counted, not_ahead}
+use Rattle.gix_commands.proofs.Common.{ObjectId, GraphRow, Objects, Info, Fault, fault_of_find, fault_of_walk, fault_of_topo_walk, fault_of_contained, fault_of_tree_walk, walked, not_walked, walked_down, not_built, not_listed, counted, not_ahead}
 use Rattle.gix_commands.proofs.Common.{not_behind, selected, not_selected, unserved, Ends, EndsBy, finished, cut_short, enough, before, Request}
 use Rattle.gix_contained.specs.declared.Error.{Error as ContainedError}
 use Rattle.gix_contained.specs.declared.Error.TheVariants as contained_error
@@ -14,11 +14,6 @@ use Rattle.gix_topo.specs.declared.Error.TheVariants as topo_error
 use Rattle.gix_tree.specs.declared.breadthfirst.Error.{Error as TreeError}
 use Rattle.gix_tree.specs.declared.breadthfirst.Error.TheVariants as tree_error
 use Rattle.gix_words.specs.declared.fault.Fault.TheVariants as fault
-use Rattle.gix_graph_check.specs.declared.Disagreement.{Disagreement}
-use Rattle.gix_graph_check.specs.declared.Disagreement.TheVariants as disagreement
-use Rattle.gix_graph_file.specs.declared.error.ChainError.{ChainError}
-use Rattle.gix_records.specs.declared.Error.{Error as RecordsError}
-use Rattle.gix_records.specs.declared.Error.TheVariants as records
 use Rattle.gix_commands.specs.Checked.{first_lost}
 use Rattle.gix_commands.specs.Opening.{IsOpeningFault}
 use Rattle.gix_commands.specs.Run as run
@@ -120,41 +115,7 @@ serves_of_walk (not_selected why f) = contained_of_walk why
 serves_of_walk unserved = tt
 serves_of_walk not_written = tt
 
--- a walk, records and what is stored have no fault of layers that aren't opened
+-- a walk has no fault of layers that aren't opened
 pub walk_opened : {answer : Result (Unit {0}) Fault} (e : Fault) → OfWalk answer → answer ≡ Err e → IsOpeningFault e → ⊥
 walk_opened e w is (inl (why, same)) = subst OfWalk (is ∙ ap (λ f. Err f) same) w
 walk_opened e w is (inr (i, same)) = subst OfWalk (is ∙ ap (λ f. Err f) same) w
-
--- a fault that isn't one of layers
-module _ (f e : Fault) (same : f ≡ e) (no_graph : (why : ChainError) → f ≢ fault.Graph why) (no_row : (i : ObjectId) → f ≢ fault.Row i) where
-  not_opening : IsOpeningFault e → ⊥
-  not_opening (inl (why, is)) = no_graph why (same ∙ is)
-  not_opening (inr (i, is)) = no_row i (same ∙ is)
-
-pub records_opened : (why : RecordsError) (f e : Fault) → f ≡ fault_of_records why → f ≡ e → IsOpeningFault e → ⊥
-records_opened why f e is same = not_opening f e same (λ g h. other why (sym is ∙ h)) (λ i h. row why (sym is ∙ h))
-  where
-    other : (why : RecordsError) {g : ChainError} → fault_of_records why ≢ fault.Graph g
-    other records.Read = λ h. cc
-    other (records.Record n) = λ h. cc
-    other (records.Name n i) = λ h. cc
-    other records.Memory = λ h. cc
-
-    row : (why : RecordsError) {i : ObjectId} → fault_of_records why ≢ fault.Row i
-    row records.Read = λ h. cc
-    row (records.Record n) = λ h. cc
-    row (records.Name n i) = λ h. cc
-    row records.Memory = λ h. cc
-
-pub stored_opened : (why : Disagreement) (f e : Fault) → f ≡ fault_of_disagreement why → f ≡ e → IsOpeningFault e → ⊥
-stored_opened why f e is same = not_opening f e same (λ g h. other why (sym is ∙ h)) (λ i h. row why (sym is ∙ h))
-  where
-    other : (why : Disagreement) {g : ChainError} → fault_of_disagreement why ≢ fault.Graph g
-    other (disagreement.Row i) = λ h. cc
-    other (disagreement.Store i) = λ h. cc
-    other disagreement.Memory = λ h. cc
-
-    row : (why : Disagreement) {i : ObjectId} → fault_of_disagreement why ≢ fault.Row i
-    row (disagreement.Row i) = λ h. cc
-    row (disagreement.Store i) = λ h. cc
-    row disagreement.Memory = λ h. cc

@@ -1,7 +1,7 @@
 use Rattle.std.proofs.Common.{Err, sym, ◌∙◌, ap, subst}
 use Rattle.gix_commands.proofs.Common.{err_from_is_err_and, with_rows, rows_in, Commits, Order}
 use Rattle.gix_commands.specs.Run.{Serves}
-use Rattle.gix_commands.proofs.RunFacts.{serves_walk, serves_no_walk, serves_topo, serves_no_topo}
+use Rattle.gix_commands.proofs.RunFacts.{serves_checked, serves_walk, serves_no_walk, serves_topo, serves_no_topo}
 use Rattle.gix_commands.proofs.serve_commits.Goals as goal
 
 pub returns-in_err-walk-in-Simple : goal.returns-in_err-walk-in-Simple
@@ -11,11 +11,15 @@ returns-in_err-walk-in-Simple g c =
     subst (λ (o : Order). Serves (with_rows (rows_in c.args.graph) c.args.store.now) (rows_in c.args.graph) old (Commits o c.args.limit c.args.tips.items c.args.hidden.items) c.from_residual.result old) (sym c.in-Simple.is)
     (serves_no_walk _ _ _ _ _ _ _ _ _ _ (p.1 ∙ ap (λ f. Err f) p.2) c.in_err-walk-in-Simple.ensures.err)
 
-pub returns-in-BreadthFirst-in-Simple : goal.returns-in-BreadthFirst-in-Simple
-returns-in-BreadthFirst-in-Simple g c = ?
+pub returns-in-BreadthFirst : goal.returns-in-BreadthFirst
+returns-in-BreadthFirst g c =
+    subst (λ (o : Order). Serves (with_rows (rows_in c.args.graph) c.args.store.now) (rows_in c.args.graph) (g.W.Write.contents c.args.writer.now) (Commits o c.args.limit c.args.tips.items c.args.hidden.items) c.write_commits.result (g.W.Write.contents c.write_commits.new.writer)) (sym c.in-Simple.is)
+    (serves_walk _ _ _ _ _ _ _ _ _ _ c.in-BreadthFirst.is c.in_ok-walk-in-Simple.ensures.ok _ c.write_commits.ensures)
 
-pub returns-in_default-in-Simple : goal.returns-in_default-in-Simple
-returns-in_default-in-Simple g c = ?
+pub returns-in_default : goal.returns-in_default
+returns-in_default g c =
+    subst (λ (o : Order). Serves (with_rows (rows_in c.args.graph) c.args.store.now) (rows_in c.args.graph) (g.W.Write.contents c.args.writer.now) (Commits o c.args.limit c.args.tips.items c.args.hidden.items) c.write_commits-in-Simple.result (g.W.Write.contents c.write_commits-in-Simple.new.writer)) (sym c.in-Simple.is)
+    (serves_checked _ _ _ _ _ _ _ _ _ _ _ c.new-checked.ensures c.in_default.not-BreadthFirst c.in_ok-walk-in-Simple.ensures.ok _ c.write_commits-in-Simple.ensures)
 
 pub returns-in_err-walk-in-Topo : goal.returns-in_err-walk-in-Topo
 returns-in_err-walk-in-Topo g c =

@@ -65,7 +65,10 @@ fn a_parent_that_is_not_there_is_named_behind_its_child(rt: HostRuntime) -> Resu
             (&["newest", "#a"], "#a\n! missing #f"),
             (&["oldest", "#a"], "#a\n! missing #f"),
             (&["newest", "#8", "#a"], "#a\n! missing #f"),
-            (&["oldest", "#8", "#a"], "#8\n#6\n#5\n#3\n#1\n#7\n#4\n#2\n#a\n! missing #f"),
+            (
+                &["oldest", "#8", "#a"],
+                "#8\n#6\n#5\n#3\n#1\n#7\n#4\n#2\n#a\n! missing #f",
+            ),
             (&["newest", "--since", "9", "#a"], "#a\n! missing #f"),
             (&["oldest", "--since", "2", "#a"], "#a\n! missing #f"),
             (&["newest", "-n", "2", "#a"], "#a\n! missing #f"),

@@ -3,6 +3,7 @@ use Rattle.gix_commands.proofs.Common.{err_from_is_err_and}
 use Rattle.gix_records.proofs.ReadingFacts.{read_from, fails_from, fails_to_read}
 use Rattle.gix_commands.proofs.RunFacts.{no_rejection}
 use Rattle.gix_commands.proofs.OverGraphs.{over_sound, over_spelled, over_words, over_unopened, over_input, over_disagreement, over_served}
+use Rattle.gix_commands.proofs.WalkFaults.{serves_of_walk, walk_opened}
 use Rattle.gix_commands.proofs.over.run_over.Goals as goal
 
 pub returns-in_err-command-clause-runs : goal.returns-in_err-command-clause-runs
@@ -81,3 +82,6 @@ returns-clause-spelled g c = over_spelled (returns-clause-runs g c)
 
 pub returns-clause-unread : goal.returns-clause-unread
 returns-clause-unread g c = no_rejection c.in_ok-command.ensures
+
+pub returns-clause-unopened : goal.returns-clause-unopened
+returns-clause-unopened g c = λ e same o. absurd (walk_opened e (serves_of_walk c.serve.ensures) same o)
