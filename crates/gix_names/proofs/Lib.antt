@@ -2,3 +2,5 @@
 mod Pieces
 -- Objects of one name.
 mod Agree
+-- Worked examples of ids.
+pub mod Examples

@@ -65,7 +65,7 @@ impl From<AllocError> for Error {
 }
 
 /// The objects of the records that a reader gives until its end. Of two records of one id the later counts. An input without a byte is
-/// an empty store. That an id is the hash of its bytes isn't tested.
+/// an empty store. That an id is the hash of its bytes isn't tested; [`named_records_in`] tests it.
 ///
 /// A read that was interrupted is made again. The whole input is held in memory, and the store keeps it.
 ///
