@@ -15,6 +15,7 @@ ghost use Rattle.gix_records.specs.Records.{Record, AreRecords, IsRecordFault, s
 
 mod front;
 mod input;
+pub mod laws;
 mod lent;
 mod named;
 
