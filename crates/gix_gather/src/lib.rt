@@ -22,6 +22,9 @@ use std::fs::Files;
 use std::os::unix::fs::FileExt;
 use thiserror::Error;
 
+/// How many copies of an object are read at the most.
+const MOST_COPIES: usize = 64;
+
 /// Why objects weren't gathered. There are no records then.
 #[derive(Drop, Debug, Error)]
 pub enum Fault {
@@ -100,11 +103,8 @@ where
         let Some(id) = met.next() else {
             break;
         };
-        if let Some(kind) = odb.read(&id, &mut object)? {
+        if let Some(kind) = read_named(odb, &id, &mut object)? {
             let bytes = object.as_slice();
-            if !is_named(&id, kind, bytes) {
-                return Err(Fault::Name(id));
-            }
             push_record(&mut records, kind, &id, bytes)?;
             if kind == through {
                 add_named(&mut met, kind, id, bytes)?;
@@ -112,6 +112,31 @@ where
         }
     }
     Ok(records)
+}
+
+/// Puts the bytes of the object of an id into `object`, from the first copy that is the object of this id. None where there is no copy.
+fn read_named<R>(
+    odb: &mut Odb<R>,
+    id: &ObjectId,
+    object: &mut Vec<u8>,
+) -> Result<Option<Kind>, Fault>
+where
+    R: Files + AllocGlobal + Clone + Drop,
+    R::File: FileExt,
+{
+    for copy in 0..MOST_COPIES {
+        let Some(kind) = odb.read_copy(id, copy, object)? else {
+            return if copy == 0 {
+                Ok(None)
+            } else {
+                Err(Fault::Name(*id))
+            };
+        };
+        if is_named(id, kind, object.as_slice()) {
+            return Ok(Some(kind));
+        }
+    }
+    Err(Fault::Name(*id))
 }
 
 /// Adds the ids that a commit or a tree names: those of parents, or of trees.

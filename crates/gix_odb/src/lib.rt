@@ -51,6 +51,8 @@ pub struct Odb<R: Files> {
     open: usize,
     /// How often the packs may still be listed.
     listings: u32,
+    /// How many copies of the object are still to be passed over.
+    passed: usize,
     work: Work,
 }
 
@@ -78,6 +80,7 @@ where
             now: 0,
             open: 0,
             listings: MOST_LISTINGS,
+            passed: 0,
             work: Work::new(rt.alloc())?,
         })
     }
@@ -98,6 +101,22 @@ where
     /// `Damaged` with the first damage that was met on the way, where no file has the object undamaged. It may be the damage of an index, whose
     /// pack may have the object or not. `Memory`. After each, and after None, `buf` may hold anything. The folder can be used further.
     pub fn read(&mut self, id: &ObjectId, buf: &mut Vec<u8>) -> Result<Option<Kind>, Fault> {
+        self.read_copy(id, 0, buf)
+    }
+
+    /// The same of another copy of the object: so many copies that could be read are passed over. A caller that finds the bytes of another
+    /// object asks for the next copy, since this one is damaged too.
+    ///
+    /// # Errors
+    ///
+    /// Those of [`read`](Odb::read), where there is no further copy. The same holds of None.
+    pub fn read_copy(
+        &mut self,
+        id: &ObjectId,
+        passed: usize,
+        buf: &mut Vec<u8>,
+    ) -> Result<Option<Kind>, Fault> {
+        self.passed = passed;
         if id.kind() != self.kind {
             return Ok(None);
         }
@@ -174,13 +193,22 @@ where
             Err(trouble) => Err(trouble),
         };
         match answer {
-            Ok(kind) => Ok(Some(kind)),
+            Ok(kind) => Ok(self.unless_passed(kind)),
             Err(trouble) => {
                 let fault = self.fault_in_pack(trouble)?;
                 keep_first(first, fault)?;
                 Ok(None)
             }
         }
+    }
+
+    /// The kind of a copy, unless it is to be passed over.
+    fn unless_passed(&mut self, kind: Kind) -> Option<Kind> {
+        if self.passed == 0 {
+            return Some(kind);
+        }
+        self.passed -= 1;
+        None
     }
 
     /// The fault of the pack that is read.
@@ -289,7 +317,11 @@ where
     ) -> Result<Option<Kind>, Fault> {
         for number in 0..self.folders.len() {
             match self.read_loose_in(number, id) {
-                Ok(Some(kind)) => return Ok(Some(kind)),
+                Ok(Some(kind)) => {
+                    if let Some(kind) = self.unless_passed(kind) {
+                        return Ok(Some(kind));
+                    }
+                }
                 Ok(None) => {}
                 Err(damage) => {
                     let file = match self.folders.get(number) {

@@ -75,7 +75,7 @@ impl Index {
         }
         let size = kind.len_in_bytes();
         let least = IDS as u64 + len as u64 * (size as u64 + 8) + 2 * size as u64;
-        let most = least + 8 * len as u64;
+        let most = least + 8 * (len as u64).saturating_sub(1);
         if (bytes.len() as u64) < least || bytes.len() as u64 > most {
             return Err(IndexFault::Length);
         }
