@@ -5,6 +5,7 @@ use crate::fault::{Damage, Fault, fault_of};
 use crate::files;
 use std::alloc::Global;
 use std::fs::{self, Files};
+use std::io::ErrorKind;
 use std::os::unix::fs::FileExt;
 use std::str;
 
@@ -31,8 +32,10 @@ where
 {
     let alloc = rt.alloc();
     let mut folders = Vec::new(alloc);
-    let Some(path) = real_folder(rt, objects)? else {
-        return Err(fault_of(String::from_str(alloc, objects)?, Damage::NotAFolder));
+    let path = match real_folder(rt, objects) {
+        Ok(Some(path)) => path,
+        Ok(None) => return Err(fault_of(String::from_str(alloc, objects)?, Damage::NotAFolder)),
+        Err(damage) => return Err(fault_of(String::from_str(alloc, objects)?, damage)),
     };
     folders.push(Folder { path, level: 0 })?;
     for number in 0..MOST_FOLDERS {
@@ -45,16 +48,22 @@ where
 }
 
 /// The one path of a folder, and None where there is no folder.
-fn real_folder<R: Files + AllocGlobal>(rt: &R, path: &str) -> Result<Option<String>, Fault> {
-    if !files::is_folder(rt, path) {
+fn real_folder<R: Files + AllocGlobal>(rt: &R, path: &str) -> Result<Option<String>, Damage> {
+    if !files::is_folder(rt, path)? {
         return Ok(None);
     }
-    match fs::canonicalize(rt, path) {
-        Ok(real) => match real.as_path().to_str() {
-            Some(real) => Ok(Some(String::from_str(rt.alloc(), real)?)),
-            None => Ok(None),
-        },
-        Err(_) => Ok(None),
+    let real = match fs::canonicalize(rt, path) {
+        Ok(real) => real,
+        Err(error) => {
+            return match error.kind() {
+                ErrorKind::OutOfMemory => Err(Damage::Memory),
+                _ => Ok(None),
+            };
+        }
+    };
+    match real.as_path().to_str() {
+        Some(text) => Ok(Some(String::from_str(rt.alloc(), text)?)),
+        None => Ok(None),
     }
 }
 
@@ -125,10 +134,8 @@ fn add_folder<R: Files + AllocGlobal>(
     path: &str,
     level: u32,
 ) -> Result<(), Damage> {
-    let path = match real_folder(rt, path) {
-        Ok(Some(path)) => path,
-        Ok(None) => return Ok(()),
-        Err(_) => return Err(Damage::Memory),
+    let Some(path) = real_folder(rt, path)? else {
+        return Ok(());
     };
     for folder in folders.iter() {
         if folder.path.as_str() == path.as_str() {

@@ -43,18 +43,24 @@ fn not_found<T>(kind: ErrorKind) -> Result<Option<T>, Damage> {
 }
 
 /// Whether there is something of this name.
-pub(crate) fn is_there<R: Files>(rt: &R, path: &str) -> bool {
+pub(crate) fn is_there<R: Files>(rt: &R, path: &str) -> Result<bool, Damage> {
     match fs::metadata(rt, path) {
-        Ok(_) => true,
-        Err(error) => error.kind() != ErrorKind::NotFound,
+        Ok(_) => Ok(true),
+        Err(error) => match error.kind() {
+            ErrorKind::OutOfMemory => Err(Damage::Memory),
+            kind => Ok(kind != ErrorKind::NotFound),
+        },
     }
 }
 
 /// Whether there is a folder of this name.
-pub(crate) fn is_folder<R: Files>(rt: &R, path: &str) -> bool {
+pub(crate) fn is_folder<R: Files>(rt: &R, path: &str) -> Result<bool, Damage> {
     match fs::metadata(rt, path) {
-        Ok(about) => about.is_dir(),
-        Err(_) => false,
+        Ok(about) => Ok(about.is_dir()),
+        Err(error) => match error.kind() {
+            ErrorKind::OutOfMemory => Err(Damage::Memory),
+            _ => Ok(false),
+        },
     }
 }
 

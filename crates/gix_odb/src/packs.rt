@@ -256,7 +256,7 @@ where
     R::File: FileExt,
 {
     let pack = ended(rt, stem, ".pack")?;
-    if !files::is_there(rt, pack.as_str()) {
+    if !files::is_there(rt, pack.as_str())? {
         return Ok(None);
     }
     let path = ended(rt, stem, ".idx")?;
