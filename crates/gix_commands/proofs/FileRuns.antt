@@ -1,6 +1,6 @@
 -- What a run of `files` writes, by the entries of trees.
 use Rattle.std.proofs.Common.{◌≡◌, ◌≢◌, ℕ, List, [], ◌∷◌, map, true, Option, Some, Result, Ok, Err, refl, sym, subst, ◌∙◌}
-use Rattle.gix_commands.proofs.Common.{Appends, ObjectId, Objects, Call, Run, Tracked, Tracks, fresh_recorder, Visit, Ending, Whole, Broken, Failed, IsUnfailed, LookUpFails, depth_answer, trees_of, LookUpFailed, only_reading, Runs, without_memory, no_command, not_read, bad_record, served}
+use Rattle.gix_commands.proofs.Common.{Appends, ObjectId, Objects, Tracked, Tracks, fresh_recorder, Visit, Ending, Whole, Broken, Failed, IsUnfailed, LookUpFails, depth_answer, trees_of, LookUpFailed, only_reading, Runs, without_memory, no_command, not_read, bad_record, served}
 use Rattle.gix_commands.proofs.Common.{depth_is_recorded, sound_depth_succeeds, Fault, fault_of_find, fault_of_tree_walk, RecordsTree, file_lines, EndsWell, IsOutside, IsPartOf, stored, not_listed, unserved, never_faulty, request_of}
 use Rattle.gix_commands.proofs.Common.{Files}
 use Rattle.gix_object.specs.declared.find.existing_iter.Error.{Error as ExistingError}

@@ -1,12 +1,12 @@
 -- The names of what a walk of a tree visits are those of the entries of the trees that it meets.
-use Rattle.std.proofs.Common.{◌≡◌, List, [], ◌∷◌, ◌++◌, Bool, true, false, refl, sym, subst, ◌∙◌, if◌then◌else◌, Contains}
+use Rattle.std.proofs.Common.{◌≡◌, List, [], ◌∷◌, Bool, true, false, refl, sym, subst, ◌∙◌, if◌then◌else◌, Contains}
 use Rattle.gix_commands.proofs.Common.{ObjectId, Objects, Contains-here, Contains-there, entries_at, LookUpFails, trees_of, Place, Visit, Enters, never_faulty}
 use Rattle.std.specs.List.{AllByRecursion}
 use Rattle.gix_hash.specs.Reach as reach
 use Rattle.gix_hash.specs.Reach.{Reaches}
 use Rattle.gix_object.specs.TreeItems.{TreeEntry, is_tree}
 use Rattle.gix_tree.specs.Laws.{subtrees, subtrees_of}
-use Rattle.gix_tree.specs.Paths.{HaveNames, IsName, known_root}
+use Rattle.gix_tree.specs.Paths.{HaveNames, IsName}
 use Rattle.gix_tree.specs.Preorder as order
 use Rattle.gix_tree.specs.Preorder.{IsPreorder}
 use Rattle.gix_tree.proofs.All.{all_both, all_right}

@@ -1,6 +1,6 @@
 -- A lister notes the first tree, in the order of the visits, that has a name that is none.
 use Rattle.std.proofs.Common.{◌≡◌, ◌≢◌, ◌==◌, ◌||◌, not, ℕ, List, [], ◌∷◌, ◌++◌, Bool, true, false, Option, Some, None, refl, sym, ap, subst, ◌∙◌, append_assoc, eqb-true, Continue}
-use Rattle.gix_commands.proofs.Common.{ObjectId, is_among, Action, Call, PushPath, PopPath, PushBack, PopBack, VisitTree, VisitNontree, Run, DepthScript, IsDepthScript, Items, Place, Visit, visit, Leaves, Enters, Ending, Whole}
+use Rattle.gix_commands.proofs.Common.{ObjectId, is_among, Action, Call, PushPath, PopBack, Run, DepthScript, IsDepthScript, Items, Place, Visit, visit, Leaves, Enters, Ending, Whole}
 use Rattle.std.specs.List.{AllByRecursion, list_any}
 use Rattle.gix_object.specs.declared.find.existing_iter.Error.{Error as ExistingError}
 use Rattle.gix_object.specs.TreeItems.{TreeEntry, is_tree}

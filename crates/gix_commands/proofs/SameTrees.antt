@@ -1,7 +1,7 @@
 -- The entries of trees, the trees in them and the lines of entries are those of the statement.
 use Rattle.std.proofs.Common.{◌≡◌, ◌≢◌, ◌≤◌, ◌<◌, ◌+◌, ◌*◌, ◌==◌, nat_lt, ℕ, zero, suc, List, [], ◌∷◌, ◌++◌, map, length, take, drop, Bool, true, false, cond, Option, Some, None, All, bit_and, Continue, flat_map, position, refl, sym, ap}
 use Rattle.std.proofs.Common.{subst, ◌∙◌, arith, append-nil, append_assoc, length-append, get_or, drop-cons, eqb-true, eq-eqb, ltb-false, get_or-take, length-take-le, take-append-drop}
-use Rattle.gix_commands.proofs.Common.{get, false≢true, All-cons, All-head, All-nil, All-tail, same_Some, none-some, ObjectId, id_len, id_of, kind_of, bytes_of, is_among, Object, kind_word, stored, Action, Call, DepthScript, IsDepthScript, entries_in}
+use Rattle.gix_commands.proofs.Common.{get, false≢true, All-cons, All-head, All-nil, All-tail, same_Some, none-some, ObjectId, id_len, id_of, kind_of, bytes_of, is_among, Object, kind_word, stored, Call, DepthScript, IsDepthScript, entries_in}
 use Rattle.gix_commands.proofs.Common.{Items, Place, Visit, visit, Whole, items_of_object, items_of_kind, trees_of, Entry, Holds, IsNumber, AreEntries, IsTree, bytes_in, digits_in}
 use Rattle.std.specs.List.{AllByRecursion}
 use Rattle.std.proofs.lemmas.List.{map-append}

@@ -1,5 +1,5 @@
 -- A run that ended well has written what the statement promises.
-use Rattle.std.proofs.Common.{◌≡◌, ℕ, ℤ, List, [], ◌∷◌, ◌++◌, map, take, false, Option, Some, None, Result, Ok, All, Contains, codes, flat_map, refl, sym, ap, subst, inl, inr, ◌∙◌}
+use Rattle.std.proofs.Common.{◌≡◌, ℕ, ℤ, List, [], ◌∷◌, ◌++◌, map, take, false, Option, Some, None, Result, Ok, Contains, codes, flat_map, refl, sym, ap, subst, inl, inr, ◌∙◌}
 use Rattle.gix_commands.proofs.Common.{Appends, ObjectId, Contains-here, Contains-there, time_of, text_next, none_agree, stored, time_order, IsDepthScript, entries_at, Tracks, fresh_recorder, Ending, Whole, Broken, Failed, IsUnfailed}
 use Rattle.gix_commands.proofs.Common.{is_broken, LookUpFails, trees_of, depth_ok, depth_is_in_order, depth_is_recorded, Fault, Simple, Topo, file_lines, AreWhole, followed, kept_tips, Runs, served, never_faulty, Request, Commits, Files}
 use Rattle.gix_commands.proofs.Common.{Ahead, Contained, request_of, Entry, IsTree, Promises, entry_line}

@@ -1,4 +1,6 @@
 -- What is hashed, piece by piece.
 mod Pieces
 -- Objects of one name.
-mod Agree
+pub mod Agree
+-- Worked examples of ids.
+pub mod Examples

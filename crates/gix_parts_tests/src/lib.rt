@@ -1,4 +1,4 @@
-//! Tests of the parts under the walks: ids, tables, objects, rows, the queue.
+//! Tests of the parts under the walks: ids, the ids that objects have, tables, objects, rows, the queue.
 #![tactic(auto)]
 
 #[cfg(test)]
@@ -7,6 +7,8 @@ mod commit;
 mod graph;
 #[cfg(test)]
 mod ids;
+#[cfg(test)]
+mod names;
 #[cfg(test)]
 mod queue;
 #[cfg(test)]

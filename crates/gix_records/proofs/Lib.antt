@@ -10,3 +10,5 @@ pub mod RecordFacts
 pub mod ReadingFacts
 -- Records whose ids are compared with those that their objects have.
 pub mod Naming
+-- Named records whose ids a named store has.
+mod WithinNamed

@@ -134,7 +134,7 @@ put_in_last objects [] r = refl
 put_in_last objects (q ∷ records) r = put_in_last (map_of.insert objects q.id (record { kind = q.kind; bytes = q.bytes })) records r
 
 -- a record is its front, its bytes and a newline
-record_parts : (r : Record) (text behind : List ℕ) → IsRecord r text behind → (front : List ℕ) × (text ≡ front ++ (r.bytes ++ 10 ∷ behind))
+pub record_parts : (r : Record) (text behind : List ℕ) → IsRecord r text behind → (front : List ℕ) × (text ≡ front ++ (r.bytes ++ 10 ∷ behind))
 record_parts r text behind h = (kind_word r.kind ++ 32 ∷ (h.id_digits ++ 32 ∷ (h.length_digits ++ 10 ∷ [])), h.whole ∙ sym (simp append_assoc))
 
 -- the rest after records is the end of the text

@@ -10,4 +10,6 @@ pub mod Input
 pub mod Reading
 -- Records whose ids are the hashes of their objects.
 pub mod NamedRecords
+-- Named records whose ids a named store has.
+pub mod NamedPart
 pub mod Examples

@@ -15,6 +15,7 @@ ghost use Rattle.gix_records.specs.Records.{Record, AreRecords, IsRecordFault, s
 
 mod front;
 mod input;
+pub mod laws;
 mod lent;
 mod named;
 
@@ -65,7 +66,7 @@ impl From<AllocError> for Error {
 }
 
 /// The objects of the records that a reader gives until its end. Of two records of one id the later counts. An input without a byte is
-/// an empty store. That an id is the hash of its bytes isn't tested.
+/// an empty store. That an id is the hash of its bytes isn't tested; [`named_records_in`] tests it.
 ///
 /// A read that was interrupted is made again. The whole input is held in memory, and the store keeps it.
 ///

@@ -1,7 +1,11 @@
-//! Lists the commits that some commits reach, or the files of a tree, from a stream of a repository's objects.
+//! Lists the commits that some commits reach, or the files of a tree, from a stream of a repository's objects or from their folder.
 #![tactic(auto)]
 
-use gix_commands::{Fault, run, run_over, write_heads};
+use gix_commands::{Fault, run, run_in, run_over, write_heads};
+use gix_gather::{commits, trees};
+use gix_hash::ObjectId;
+use gix_odb::Odb;
+use gix_words::{Command, read_command};
 use std::process::ExitCode;
 use std::{env, fs, io};
 use thiserror::Error;
@@ -15,11 +19,29 @@ enum Failure {
     /// The file of this name, which is to be a layer of the commit-graph, can't be read.
     #[error("commit-graph unreadable: {0}")]
     Unreadable(String),
+    /// The folder of objects can't be opened.
+    #[error("{0}")]
+    Folder(gix_odb::Fault),
+    /// An object can't be read from its folder.
+    #[error("{0}")]
+    Object(gix_gather::Fault),
 }
 
 impl From<Fault> for Failure {
     fn from(fault: Fault) -> Failure {
         Failure::Command(fault)
+    }
+}
+
+impl From<gix_odb::Fault> for Failure {
+    fn from(fault: gix_odb::Fault) -> Failure {
+        Failure::Folder(fault)
+    }
+}
+
+impl From<gix_gather::Fault> for Failure {
+    fn from(fault: gix_gather::Fault) -> Failure {
+        Failure::Object(fault)
     }
 }
 
@@ -38,8 +60,56 @@ fn answer(rt: &HostRuntime) -> Result<(), Failure> {
     let mut arguments = env::args(rt).map_err(fault_of_arguments)?;
     let _name = arguments.next();
     let words: Vec<String> = arguments.collect(rt.alloc()).map_err(|_| Fault::Memory)?;
+    match words.as_slice() {
+        [option, folder, command @ ..] if option.as_str() == "--objects" => serve_folder(
+            rt, folder, command,
+        ),
+        words => serve_input(rt, words),
+    }
+}
+
+/// Runs the command over the objects of a folder.
+fn serve_folder(rt: &HostRuntime, folder: &String, words: &[String]) -> Result<(), Failure> {
+    let records = match read_command(rt.alloc(), words)? {
+        Command::Commits { tips, hidden, .. } => gather(rt, folder, tips, hidden.as_slice())?,
+        Command::Files { tree, .. } => {
+            let mut odb = Odb::open(rt, folder.as_str(), tree.kind())?;
+            trees(rt.alloc(), &mut odb, &tree)?
+        }
+        Command::Ahead { one, other } => gather(rt, folder, ids_of(rt, one)?, &[other])?,
+        Command::Contained { tip, ids } => gather(rt, folder, ids, &[tip])?,
+    };
+    run_in(rt.alloc(), words, records.as_slice(), &mut rt.stdout())?;
+    Ok(())
+}
+
+/// An id alone.
+fn ids_of(rt: &HostRuntime, id: ObjectId) -> Result<Vec<ObjectId>, Fault> {
+    let mut ids = Vec::new(rt.alloc());
+    ids.push(id).map_err(|_| Fault::Memory)?;
+    Ok(ids)
+}
+
+/// The records of the commits of a folder that these and those ids reach.
+fn gather(
+    rt: &HostRuntime,
+    folder: &String,
+    ids: Vec<ObjectId>,
+    more: &[ObjectId],
+) -> Result<Vec<u8>, Failure> {
+    let mut ids = ids;
+    ids.extend_from_slice(more).map_err(|_| Fault::Memory)?;
+    let Some(first) = ids.as_slice().first() else {
+        return Err(Failure::Command(Fault::Usage));
+    };
+    let mut odb = Odb::open(rt, folder.as_str(), first.kind())?;
+    Ok(commits(rt.alloc(), &mut odb, ids.as_slice())?)
+}
+
+/// Runs the command over the records of standard input, and the layers of a commit-graph that options name.
+fn serve_input(rt: &HostRuntime, words: &[String]) -> Result<(), Failure> {
     let mut layers = Vec::new(rt.alloc());
-    let words = read_layers(rt, words.as_slice(), &mut layers)?;
+    let words = read_layers(rt, words, &mut layers)?;
     serve(rt, words, layers.as_slice())?;
     Ok(())
 }

@@ -1,0 +1,290 @@
+//! Packs, which are opened when they are asked for the first time.
+ghost use Rattle.std.specs.Prelude.{◌≡◌, ◌+◌, ◌≤◌, ◌<◌, length, IfOk};
+
+use crate::bases::Place;
+use crate::fault::Damage;
+use crate::files::{self, Opened};
+use crate::work::{MOST_OBJECT, Work, most_of};
+use gix_hash::{Kind, ObjectId};
+use gix_inflate::{Fault as StreamFault, inflate};
+use gix_pack::{Base, HEAD, Index, count_of, entry_at};
+use std::fs::Files;
+use std::os::unix::fs::FileExt;
+
+/// The most bytes of an index.
+const MOST_INDEX: u64 = 1 << 32;
+/// How many bytes of a pack are read for an entry at first, and how many then, where that wasn't enough.
+const FIRST_READ: usize = 4096;
+
+const SECOND_READ: usize = 65536;
+/// How often the number of bytes that are read can be made four times as large.
+const MOST_READS: u32 = 32;
+
+/// What is wrong with a pack, or with its index.
+#[derive(Clone, Copy)]
+pub(crate) struct Trouble {
+    /// Whether it is the index.
+    pub in_index: bool,
+    /// What is wrong with it.
+    pub damage: Damage,
+}
+
+impl From<Damage> for Trouble {
+    fn from(damage: Damage) -> Trouble {
+        Trouble {
+            in_index: false,
+            damage,
+        }
+    }
+}
+
+/// The trouble of an index.
+fn in_index(damage: Damage) -> Trouble {
+    Trouble {
+        in_index: true,
+        damage,
+    }
+}
+
+/// What is known of an index.
+#[derive(Drop)]
+enum State {
+    /// It wasn't asked for.
+    Unread,
+    /// It was read.
+    Ready(Index),
+    /// It can't be used.
+    Broken(Trouble),
+    /// Its file or that of its pack is gone.
+    Gone,
+}
+
+/// A pack with its index.
+#[derive(Drop)]
+pub(crate) struct Pack<F: Drop> {
+    /// The path of both files, up to the dot.
+    pub stem: String,
+    state: State,
+    opened: Option<Opened<F>>,
+}
+
+/// What the stream of an entry held.
+#[derive(Clone, Copy)]
+pub(crate) struct Held {
+    /// What it is.
+    pub base: Base,
+    /// How many bytes there are, at the front of the room.
+    pub size: usize,
+}
+
+impl<F: FileExt + Drop> Pack<F> {
+    /// The pack of these files, neither of which is opened.
+    pub fn new(stem: String) -> Pack<F> {
+        Pack {
+            stem,
+            state: State::Unread,
+            opened: None,
+        }
+    }
+
+    /// Whether the pack's file is open.
+    pub fn is_open(&self) -> bool {
+        self.opened.is_some()
+    }
+
+    /// Closes the pack's file, if it is open.
+    pub fn close(&mut self) {
+        self.opened = None;
+    }
+
+    /// Where the entry of an object begins, and None where the pack doesn't have the object, or is gone.
+    ///
+    /// # Errors
+    ///
+    /// The trouble of the index, each time anew.
+    pub fn place_of<R: Files<File = F> + AllocGlobal>(
+        &mut self,
+        rt: &R,
+        kind: Kind,
+        id: &ObjectId,
+    ) -> Result<Option<u64>, Trouble> {
+        if let State::Unread = self.state {
+            self.state = read_index(rt, kind, self.stem.as_str());
+        }
+        match &self.state {
+            State::Ready(index) => {
+                let Some(place) = index.place_of(id) else {
+                    return Ok(None);
+                };
+                match index.offset_at(place) {
+                    Some(at) => Ok(Some(at)),
+                    None => Err(in_index(Damage::NoPlace(*id))),
+                }
+            }
+            State::Broken(trouble) => Err(*trouble),
+            _ => Ok(None),
+        }
+    }
+
+    /// Opens the pack's file.
+    pub fn open<R: Files<File = F> + AllocGlobal>(
+        &mut self,
+        rt: &R,
+        kind: Kind,
+    ) -> Result<(), Damage> {
+        let State::Ready(index) = &self.state else {
+            return Err(Damage::Unreadable);
+        };
+        let path = ended(rt, self.stem.as_str(), ".pack")?;
+        let Some(opened) = files::open(rt, path.as_str())? else {
+            return Err(Damage::Unreadable);
+        };
+        check(&opened, index, kind)?;
+        self.opened = Some(opened);
+        Ok(())
+    }
+
+    /// Reads the entry of a place: what its stream holds is then at the front of `work.room`.
+    pub fn read(&self, kind: Kind, place: Place, work: &mut Work) -> Result<Held, Damage> {
+        let Some(opened) = &self.opened else {
+            return Err(Damage::Unreadable);
+        };
+        let mut wanted = FIRST_READ;
+        for _ in 0..MOST_READS {
+            let got = read_part(opened, place.at, wanted, work)?;
+            let left = opened.len.saturating_sub(place.at);
+            if let Some(held) = inflate_entry(kind, place.at, left, got, work)? {
+                return Ok(held);
+            }
+            if got < wanted {
+                break;
+            }
+            wanted = match wanted {
+                FIRST_READ => SECOND_READ,
+                _ => wanted.saturating_mul(4),
+            };
+        }
+        Err(Damage::Stream(place.at, StreamFault::Truncated))
+    }
+}
+
+/// Inflates the entry whose first bytes are at the front of `work.stream`, so many of those that are left of its pack. None where these are
+/// too few.
+fn inflate_entry(
+    kind: Kind,
+    at: u64,
+    left: u64,
+    got: usize,
+    work: &mut Work,
+) -> Result<Option<Held>, Damage> {
+    let entry = match entry_at(
+        kind,
+        at,
+        work.stream.as_slice().get(..got).unwrap_or_default(),
+    ) {
+        Ok(entry) => entry,
+        Err(fault) => return Err(Damage::Entry(at, fault)),
+    };
+    if entry.size > MOST_OBJECT || entry.size > most_of(left) {
+        return Err(Damage::EntryTooLarge(at, entry.size));
+    }
+    let size = entry.size as usize;
+    work.spend(size)?;
+    let stream = work
+        .stream
+        .as_slice()
+        .get(entry.head..got)
+        .unwrap_or_default();
+    match inflate(&mut work.inflater, stream, work.room.first(size)?) {
+        Ok(_) => Ok(Some(Held {
+            base: entry.base,
+            size,
+        })),
+        Err(StreamFault::Truncated) => Ok(None),
+        Err(fault) => Err(Damage::Stream(at, fault)),
+    }
+}
+
+/// Reads bytes of a pack into `work.stream`, so many, or all up to the file's end where these are fewer. How many.
+fn read_part<F: FileExt + Drop>(
+    opened: &Opened<F>,
+    at: u64,
+    wanted: usize,
+    work: &mut Work,
+) -> Result<usize, Damage> {
+    let left = opened.len.saturating_sub(at);
+    let count = if wanted as u64 > left {
+        left as usize
+    } else {
+        wanted
+    };
+    if work.stream.len() < count {
+        work.stream.resize(count, 0)?;
+    }
+    let Some(stream) = work.stream.as_mut_slice().get_mut(..count) else {
+        return Err(Damage::Memory);
+    };
+    files::fill(&opened.file, stream, at)
+}
+
+/// The path with this ending.
+fn ended<R: AllocGlobal>(rt: &R, stem: &str, ending: &str) -> Result<String, Damage> {
+    let mut path = String::from_str(rt.alloc(), stem)?;
+    path.push_str(ending)?;
+    Ok(path)
+}
+
+/// Reads the index of a pack.
+fn read_index<R: Files + AllocGlobal>(rt: &R, kind: Kind, stem: &str) -> State
+where
+    R::File: FileExt,
+{
+    match read_file(rt, kind, stem) {
+        Ok(Some(index)) => State::Ready(index),
+        Ok(None) => State::Gone,
+        Err(damage) => State::Broken(in_index(damage)),
+    }
+}
+
+/// The index of a pack, and None where one of the two files isn't there.
+fn read_file<R: Files + AllocGlobal>(
+    rt: &R,
+    kind: Kind,
+    stem: &str,
+) -> Result<Option<Index>, Damage>
+where
+    R::File: FileExt,
+{
+    let pack = ended(rt, stem, ".pack")?;
+    if !files::is_there(rt, pack.as_str())? {
+        return Ok(None);
+    }
+    let path = ended(rt, stem, ".idx")?;
+    let mut bytes = Vec::new(rt.alloc());
+    if !files::read(rt, path.as_str(), MOST_INDEX, &mut bytes)? {
+        return Ok(None);
+    }
+    match Index::new(kind, bytes) {
+        Ok(index) => Ok(Some(index)),
+        Err(fault) => Err(Damage::Index(fault)),
+    }
+}
+
+/// Whether a pack is the one of its index: both say as many objects, and the hash at the pack's end.
+fn check<F: FileExt + Drop>(opened: &Opened<F>, index: &Index, kind: Kind) -> Result<(), Damage> {
+    let mut head = [0u8; HEAD];
+    let got = files::fill(&opened.file, &mut head, 0)?;
+    let count = match count_of(head.get(..got).unwrap_or_default()) {
+        Ok(count) => count,
+        Err(fault) => return Err(Damage::Head(fault)),
+    };
+    let mut hash = [0u8; 32];
+    let size = kind.len_in_bytes();
+    let hash = &mut hash[..size];
+    let got = files::fill(&opened.file, hash, opened.len.saturating_sub(size as u64))?;
+    let hash = hash.get(..got).unwrap_or_default();
+    if count != index.len() || hash != index.pack_hash() {
+        return Err(Damage::OtherPack);
+    }
+    Ok(())
+}
