@@ -54,8 +54,8 @@ impl From<gix_odb::Fault> for Fault {
     }
 }
 
-/// The records of all commits that these ids reach by the parents that commits name, each once, in the order in which they are met. An id of
-/// another object has a record too, and leads no further. Of a commit that isn't well-formed the parents before the fault count.
+/// The records of all commits that these ids reach by the parents that commits name, each once, in the order in which they are met. An id
+/// of another object has a record too, and leads no further. Of a commit that isn't well-formed the parents before the fault count.
 ///
 /// # Errors
 ///
@@ -68,8 +68,8 @@ where
     gather(alloc, odb, ids, Kind::Commit)
 }
 
-/// The records of a tree and of all trees in it, each once, in the order in which they are met. An id of another object has a record too, and
-/// leads no further. Of a tree that isn't well-formed the entries before the fault count.
+/// The records of a tree and of all trees in it, each once, in the order in which they are met. An id of another object has a record too,
+/// and leads no further. Of a tree that isn't well-formed the entries before the fault count.
 ///
 /// # Errors
 ///

@@ -90,16 +90,17 @@ where
         self.kind
     }
 
-    /// Puts the bytes of an object into `buf` in place of what was there, and returns its kind. None where no file has the object. Nothing is
-    /// known of the bytes: compare them with the id.
+    /// Puts the bytes of an object into `buf` in place of what was there, and returns its kind. None where no file has the object.
+    /// Nothing is known of the bytes: compare them with the id.
     ///
     /// Where a file that has the object is damaged, the next one that has it is read. Where none of those that there are has it, the packs
     /// are listed once more, since git may have packed it anew meanwhile.
     ///
     /// # Errors
     ///
-    /// `Damaged` with the first damage that was met on the way, where no file has the object undamaged. It may be the damage of an index, whose
-    /// pack may have the object or not. `Memory`. After each, and after None, `buf` may hold anything. The folder can be used further.
+    /// `Damaged` with the first damage that was met on the way, where no file has the object undamaged. It may be the damage of an index,
+    /// whose pack may have the object or not. `Memory`. After each, and after None, `buf` may hold anything. The folder can be used
+    /// further.
     pub fn read(&mut self, id: &ObjectId, buf: &mut Vec<u8>) -> Result<Option<Kind>, Fault> {
         self.read_copy(id, 0, buf)
     }
@@ -309,7 +310,8 @@ where
         Err(Trouble::from(Damage::NoBase(place.at, *id)))
     }
 
-    /// Reads an object from the first folder that has its file undamaged. Where there is none, `first` is the first fault of all that were met.
+    /// Reads an object from the first folder that has its file undamaged. Where there is none, `first` is the first fault of all that
+    /// were met.
     fn read_loose(
         &mut self,
         id: &ObjectId,
