@@ -1,2 +1,3 @@
 mod WordFacts
 mod WithoutMemory
+mod WholeAnswers

@@ -1,15 +1,28 @@
-use Rattle.std.proofs.Common.{Ok, sym, subst}
-use Rattle.gix_memory_commands.specs.Answers.{Answers, RunsOver, ran, failed, answer_to}
+use Rattle.std.proofs.Common.{Ok, sym, ap, subst, ◌∙◌}
+use Rattle.gix_memory_commands.specs.Answers.{Answers, PromisesOver, RunsOver, ran, failed, answer_to}
+use Rattle.gix_memory_commands.proofs.WholeAnswers.{numbered, well_answered}
 use Rattle.gix_memory_commands.proofs.run_over_bytes.Goals as goal
 
-pub returns-in-Ok : goal.returns-in-Ok
-returns-in-Ok c =
+pub returns-in-Ok-clause-answers : goal.returns-in-Ok-clause-answers
+returns-in-Ok-clause-answers c =
     let lines = c.as_slice.result.now in
     let runs = subst (RunsOver c.args.words.now c.args.records.now (Ok tt)) (sym c.as_slice.ensures.value) c.in-Ok.ensures.ok in
     let told = Answers c.args.words.now c.args.records.now c.args.room.now in
     subst (λ answer. told answer c.put_lines.new.room) (sym c.put_lines.ensures.answer)
     (subst (told (answer_to lines c.args.room.now)) (sym c.put_lines.ensures.room) (ran lines runs))
 
-pub returns-in-Err : goal.returns-in-Err
-returns-in-Err c =
+pub returns-in-Ok-clause-whole : goal.returns-in-Ok-clause-whole
+returns-in-Ok-clause-whole c = λ number.
+    let lines = c.as_slice.result.now in (
+      lines,
+      subst (PromisesOver c.args.words.now c.args.records.now) (sym c.as_slice.ensures.value) c.in-Ok.ensures.whole,
+      c.put_lines.ensures.answer ∙ well_answered lines c.args.room.now (ap (λ answer. answer.number) (sym c.put_lines.ensures.answer) ∙ number),
+      c.put_lines.ensures.room,
+    )
+
+pub returns-in-Err-clause-answers : goal.returns-in-Err-clause-answers
+returns-in-Err-clause-answers c =
     subst (λ answer. Answers c.args.words.now c.args.records.now c.args.room.now answer c.args.room.now) (sym c.of_fault.ensures) (failed c.in-Err.fault c.in-Err.ensures.err)
+
+pub returns-in-Err-clause-whole : goal.returns-in-Err-clause-whole
+returns-in-Err-clause-whole c = λ number. absurd (numbered c.in-Err.fault (ap (λ answer. answer.number) (sym c.of_fault.ensures) ∙ number))

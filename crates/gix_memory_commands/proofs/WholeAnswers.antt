@@ -1,0 +1,34 @@
+-- Where the number is 0, the lines are in the room.
+use Rattle.std.proofs.Common.{◌≡◌, ◌≢◌, ℕ, nat_le, List, length, Bool, true, false, if◌then◌else◌, refl, arith}
+use Rattle.gix_words.specs.declared.fault.Fault.{Fault}
+use Rattle.gix_words.specs.declared.fault.Fault.TheVariants as fault
+use Rattle.gix_memory_commands.specs.Answers.{answer_to, of_fault, too_small, well}
+use Rattle.gix_memory_commands.specs.declared.answer.Answer.{Answer}
+
+pub well_answered : (lines room : List ℕ) → (answer_to lines room).number ≡ 0 → answer_to lines room ≡ well (length lines)
+well_answered lines room = go (nat_le (length lines) (length room))
+  where
+    chosen : Bool → Answer
+    chosen fits = if fits then well (length lines) else too_small (length lines)
+
+    go : (fits : Bool) → (chosen fits).number ≡ 0 → chosen fits ≡ well (length lines)
+    go true h = refl
+    go false h = absurd (omega arith)
+
+-- each fault has another number
+pub numbered : (e : Fault) → (of_fault e).number ≢ 0
+numbered fault.Usage = λ h. omega arith
+numbered (fault.Id n) = λ h. omega arith
+numbered (fault.Record n) = λ h. omega arith
+numbered (fault.Missing i) = λ h. omega arith
+numbered (fault.WrongKind i) = λ h. omega arith
+numbered fault.Broken = λ h. omega arith
+numbered (fault.Cycle i) = λ h. omega arith
+numbered (fault.Name i) = λ h. omega arith
+numbered (fault.Graph e) = λ h. omega arith
+numbered (fault.Row i) = λ h. omega arith
+numbered (fault.Disagrees i) = λ h. omega arith
+numbered fault.Memory = λ h. omega arith
+numbered fault.Read = λ h. omega arith
+numbered fault.Write = λ h. omega arith
+numbered fault.Internal = λ h. omega arith
