@@ -5,7 +5,9 @@ use gix_commands::{Fault, run, run_in, run_over, write_heads};
 use gix_gather::{commits, trees};
 use gix_hash::ObjectId;
 use gix_odb::Odb;
+use gix_records::{READS, check_names, read_to_end};
 use gix_words::{Command, read_command};
+use std::io::Read;
 use std::process::ExitCode;
 use std::{env, fs, io};
 use thiserror::Error;
@@ -25,6 +27,9 @@ enum Failure {
     /// An object can't be read from its folder.
     #[error("{0}")]
     Object(gix_gather::Fault),
+    /// The input can't be read, or a record of it has another id than its object.
+    #[error("{0}")]
+    Records(gix_records::Error),
 }
 
 impl From<Fault> for Failure {
@@ -42,6 +47,12 @@ impl From<gix_odb::Fault> for Failure {
 impl From<gix_gather::Fault> for Failure {
     fn from(fault: gix_gather::Fault) -> Failure {
         Failure::Object(fault)
+    }
+}
+
+impl From<gix_records::Error> for Failure {
+    fn from(error: gix_records::Error) -> Failure {
+        Failure::Records(error)
     }
 }
 
@@ -64,6 +75,7 @@ fn answer(rt: &HostRuntime) -> Result<(), Failure> {
         [option, folder, command @ ..] if option.as_str() == "--objects" => serve_folder(
             rt, folder, command,
         ),
+        [option, words @ ..] if option.as_str() == "--verify-ids" => serve_named(rt, words),
         words => serve_input(rt, words),
     }
 }
@@ -110,7 +122,21 @@ fn gather(
 fn serve_input(rt: &HostRuntime, words: &[String]) -> Result<(), Failure> {
     let mut layers = Vec::new(rt.alloc());
     let words = read_layers(rt, words, &mut layers)?;
-    serve(rt, words, layers.as_slice())?;
+    serve(rt, words, layers.as_slice(), &mut rt.stdin())?;
+    Ok(())
+}
+
+/// As `serve_input`, but each record is compared with its id before the command begins.
+fn serve_named(rt: &HostRuntime, words: &[String]) -> Result<(), Failure> {
+    let mut layers = Vec::new(rt.alloc());
+    let words = read_layers(rt, words, &mut layers)?;
+    let input = read_to_end(rt.alloc(), &mut rt.stdin(), READS)?;
+    check_names(input.as_slice())?;
+    if layers.is_empty() {
+        run_in(rt.alloc(), words, input.as_slice(), &mut rt.stdout())?;
+    } else {
+        serve(rt, words, layers.as_slice(), &mut input.as_slice())?;
+    }
     Ok(())
 }
 
@@ -152,12 +178,17 @@ fn read_layer(rt: &HostRuntime, file: &String) -> Result<Vec<u8>, Failure> {
 }
 
 /// Without layers the words are a command over records alone.
-fn serve(rt: &HostRuntime, words: &[String], layers: &[Vec<u8>]) -> Result<(), Fault> {
+fn serve<R: Read>(
+    rt: &HostRuntime,
+    words: &[String],
+    layers: &[Vec<u8>],
+    reader: &mut R,
+) -> Result<(), Fault> {
     if layers.is_empty() {
-        return run(rt.alloc(), words, &mut rt.stdin(), &mut rt.stdout());
+        return run(rt.alloc(), words, reader, &mut rt.stdout());
     }
     match words {
-        [name] if name.as_str() == "heads" => { write_heads(rt.alloc(), layers, &mut rt.stdout()) }
-        _ => run_over(rt.alloc(), words, layers, &mut rt.stdin(), &mut rt.stdout()),
+        [name] if name.as_str() == "heads" => write_heads(rt.alloc(), layers, &mut rt.stdout()),
+        _ => run_over(rt.alloc(), words, layers, reader, &mut rt.stdout()),
     }
 }
