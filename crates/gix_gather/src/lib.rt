@@ -4,7 +4,8 @@
 //! hash are at hand. What the folder lacks is left out: a walk over the records then names it.
 #![tactic(auto)]
 
-ghost use Rattle.std.specs.Prelude.{◌≡◌, ◌+◌, ◌≤◌, ◌<◌, length};
+ghost use Rattle.std.specs.Prelude.{◌≡◌, ◌+◌, ◌≤◌, ◌<◌, length, IfOk, IfSome};
+ghost use Rattle.gix_names.specs.Named.{IsNamed};
 
 mod met;
 mod record;
@@ -123,6 +124,7 @@ fn read_named<R>(
 where
     R: Files + AllocGlobal + Clone + Drop,
     R::File: FileExt,
+    ensures { IfOk result (λ found. IfSome found (λ kind. IsNamed id.now kind object.new.items)) }
 {
     for copy in 0..MOST_COPIES {
         let Some(kind) = odb.read_copy(id, copy, object)? else {

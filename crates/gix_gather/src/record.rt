@@ -1,5 +1,6 @@
 //! The bytes of a record.
 ghost use Rattle.std.specs.Prelude.{◌≡◌, ◌+◌, ◌≤◌, ◌<◌, length};
+ghost use Rattle.gix_names.specs.Named.{IsNamed};
 
 use gix_hash::ObjectId;
 use gix_object::Kind;
@@ -13,7 +14,10 @@ pub(crate) fn push_record(
     kind: Kind,
     id: &ObjectId,
     bytes: &[u8],
-) -> Result<(), AllocError> {
+) -> Result<(), AllocError>
+    // No record is written of an object that hasn't the id.
+    requires { IsNamed id.now kind bytes.now }
+{
     let word: &[u8] = match kind {
         Kind::Commit => b"commit ",
         Kind::Tree => b"tree ",
