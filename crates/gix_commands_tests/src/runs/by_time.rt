@@ -87,7 +87,6 @@ fn parents_of_the_last_line_are_not_asked_for(rt: HostRuntime) -> Result<(), Fai
         &[SAMPLE, LOST],
         &[
             (&["newest", "-n", "1", "#a"], "#a\n"),
-            (&["oldest", "-n", "1", "--since", "9", "#a"], "! usage"),
             (&["oldest", "--since", "9", "-n", "1", "#a"], "#a\n"),
             (&["newest", "-n", "1", "#b"], "#b\n"),
             (&["newest", "-n", "1", "#d"], "#d\n"),
