@@ -1,0 +1,145 @@
+//! What the help says.
+use crate::Name;
+
+/// What the help says of a command.
+#[derive(Clone, Copy, Debug)]
+pub struct Command {
+    /// The command.
+    pub name: Name,
+    /// What follows its name.
+    pub arguments: &'static str,
+    /// What it writes, in lines of at most 100 letters.
+    pub what: &'static [&'static str],
+    /// An example, from its name on.
+    pub example: &'static str,
+}
+
+/// How the program is called.
+pub const USAGE: &[&str] = &[
+    "usage: gix_walk -C FOLDER [OPTION..] COMMAND REVISION..",
+    "       gix_walk -C FOLDER check-graph",
+    "       gix_walk [--commit-graph FILE..] COMMAND ID.. < RECORDS",
+];
+
+/// What the program does.
+pub const WHAT: &str =
+    "Lists the commits that revisions of a Git repository reach, or the files of one revision.";
+
+/// The commands, in the order of the help.
+pub const COMMANDS: &[Command] = &[
+    Command {
+        name: Name::Breadth,
+        arguments: "A..",
+        what: &["the commits that the revisions reach, in the order in which they are met"],
+        example: "breadth HEAD",
+    },
+    Command {
+        name: Name::Newest,
+        arguments: "A..",
+        what: &["the same commits, newest first among the commits met so far"],
+        example: "newest HEAD~2 ^HEAD~9",
+    },
+    Command {
+        name: Name::Oldest,
+        arguments: "A..",
+        what: &[
+            "the same commits, oldest first among the commits met so far, so this isn't git rev-list",
+            "--reverse",
+        ],
+        example: "oldest HEAD",
+    },
+    Command {
+        name: Name::Topo,
+        arguments: "A..",
+        what: &[
+            "the same commits, no commit before its children, one line of history after the other,",
+            "as git rev-list --topo-order except for the order of commits of one second",
+        ],
+        example: "topo HEAD",
+    },
+    Command {
+        name: Name::Date,
+        arguments: "A..",
+        what: &[
+            "the same commits, no commit before its children, otherwise the newest first,",
+            "as git rev-list --date-order except for the order of commits of one second",
+        ],
+        example: "date HEAD~9..HEAD",
+    },
+    Command {
+        name: Name::Ahead,
+        arguments: "A B",
+        what: &[
+            "how many commits the first revision reaches and the second doesn't, a space,",
+            "and how many the second reaches and the first doesn't",
+        ],
+        example: "ahead HEAD HEAD~3",
+    },
+    Command {
+        name: Name::Contains,
+        arguments: "A B..",
+        what: &[
+            "those of the further revisions that the first reaches, as ids, in the order given",
+        ],
+        example: "contains HEAD HEAD~3 HEAD~9",
+    },
+    Command {
+        name: Name::Files,
+        arguments: "A",
+        what: &["mode, id and path of each entry of a tree and of the trees in it"],
+        example: "files HEAD:docs",
+    },
+    Command {
+        name: Name::Resolve,
+        arguments: "A..",
+        what: &["the id of the commit that each revision stands for, with ^ where it is excluded"],
+        example: "resolve v1.0 main~3",
+    },
+    Command {
+        name: Name::CheckGraph,
+        arguments: "",
+        what: &[
+            "compares each row of git's commit-graph with its commit, and each commit with its id; from",
+            "then on the other commands use the file, until it changes",
+        ],
+        example: "check-graph",
+    },
+];
+
+/// What the help says behind the commands.
+pub const NOTES: &str = "\
+A revision is an id, the first 4 digits of one or more, a ref by git's rules, HEAD or @; behind it any of ~N, ^N, ^{commit}, ^{tree},
+^{tag} and ^{}; for files also :PATH. In the first five commands ^A excludes all commits that A reaches, A..B stands for ^A B, and
+A...B for A and B without what both reach. For ahead A...B stands for A B.
+
+All objects are compared with their ids. What is missing or broken is a fault. The first five commands then have listed the commits
+before it, and the others nothing. newest and oldest look whether each parent of a commit that they have listed is there, except behind
+the last line that -n allows. files refuses a tree with a name that is empty or holds a slash.
+
+  -C FOLDER    takes the repository of this folder, or of the nearest one above it that has one; no variable names another
+  --git-dir FOLDER
+               takes the folder that is called .git elsewhere
+  -n NUMBER    ends after so many lines, in the first five commands; a number has 1 to 9 digits
+  --first-parent
+               goes from each commit to its first parent alone, in breadth; what ^A excludes is reached by all parents
+  --since SECONDS
+               leaves out the commits of an earlier time, in seconds since 1970, and what it would meet by them alone, in
+               newest and oldest; a number has 1 to 10 digits
+  -z           ends each entry in a byte 0 and not in a newline, in files: a path may have a newline
+  --all        adds all refs and HEAD to the revisions; --branches adds all branches, and --tags all tags
+  --stdin      adds the lines of standard input to the revisions, none of which is empty or an option
+  --border     takes the commits at the border of a shallow clone as commits without parents, as git does
+  --no-graph   reads all commits themselves. Otherwise git's commit-graph is used where check-graph has found it right
+  --trust-graph
+               uses git's commit-graph although nobody has checked it, as git does
+  --verbose    says on standard error what each revision stands for
+  --version    says which program this is, and whether it was proved
+
+The status is 0 where everything was listed, or the commit-graph is right, 1 after a fault, 2 where the words are no such command, and
+3 where contains found that some revisions aren't contained. A line on standard error says why.
+";
+
+/// What the help says of a command.
+pub fn help_of(name: Name) -> Option<&'static Command> {
+    COMMANDS.iter().find(|command| command.name == name)
+}

@@ -1,0 +1,108 @@
+//! Why arguments are no question.
+use crate::Name;
+use std::alloc::{AllocError, AllocFailed};
+use thiserror::Error;
+
+/// Why arguments ask nothing of a repository. Each text is one line.
+#[derive(Drop, Debug, Error)]
+pub enum Misuse {
+    /// No word names a command.
+    #[error("a command is missing")]
+    NoCommand,
+    /// The first word that is no option names no command.
+    #[error("no command is called {0:?}")]
+    Command(String),
+    /// A word begins with `-` and is no option.
+    #[error("no option is called {0:?}")]
+    NoOption(String),
+    /// Behind this option its folder is missing.
+    #[error("{0} needs a folder")]
+    NoFolder(&'static str),
+    /// Behind `-n` there is no number.
+    #[error("-n needs a number of 1 to 9 digits")]
+    Limit,
+    /// Behind `--since` there is no number.
+    #[error("--since needs a number of 1 to 10 digits")]
+    Since,
+    /// `--` would separate revisions from paths.
+    #[error("paths aren't known: what follows the command are revisions")]
+    Paths,
+    /// This option doesn't go with the command.
+    #[error("{0} doesn't go with {1}")]
+    Misfit(&'static str, &'static str),
+    /// A revision is a word without letters, or `^` alone.
+    #[error("a revision is empty")]
+    Empty,
+    /// A revision has more than one `^` before it.
+    #[error("a revision has one ^ at most: {0:?}")]
+    TwoHidden(String),
+    /// A revision ends as a line does that was written by another system.
+    #[error("a revision ends in a carriage return")]
+    CarriageReturn,
+    /// A line of standard input begins with `-`.
+    #[error("an option is no revision: {0:?}")]
+    Dash(String),
+    /// A line of standard input isn't UTF-8.
+    #[error("a revision isn't UTF-8")]
+    NotText,
+    /// This line of standard input, from 1 on, has this fault.
+    #[error("line {0} of standard input: {1}")]
+    Line(usize, LineFault),
+    /// A list of commits begins nowhere.
+    #[error("{0} needs a revision without ^")]
+    NoTip(&'static str),
+    /// The revisions that `contains` asks about, or the one that is to contain them, are missing or hidden.
+    #[error("contains needs two revisions at least, the first of them by its name, and none with ^ or a range A..B")]
+    Contains,
+    /// `ahead` and `files` take so many revisions.
+    #[error("the number of revisions for {0} is {1}, none of them with ^ or a range A..B")]
+    Number(&'static str, usize),
+    /// `check-graph` takes no revisions.
+    #[error("check-graph takes no revisions, and no option but -C")]
+    CheckGraph,
+    /// An argument isn't UTF-8.
+    #[error("an argument isn't UTF-8")]
+    Arguments,
+    /// Memory ran out.
+    #[error("out of memory")]
+    Memory,
+}
+
+/// What is wrong with a line of standard input that is to be a revision.
+#[derive(Clone, Copy, PartialEq, Eq, Debug, Error)]
+pub enum LineFault {
+    /// It has no letters, or `^` alone.
+    #[error("a revision is empty")]
+    Empty,
+    /// It has more than one `^` before it.
+    #[error("a revision has one ^ at most")]
+    TwoHidden,
+    /// It ends in a carriage return.
+    #[error("a revision ends in a carriage return")]
+    CarriageReturn,
+    /// It begins with `-`.
+    #[error("an option is no revision")]
+    Dash,
+    /// It isn't UTF-8.
+    #[error("a revision isn't UTF-8")]
+    NotText,
+}
+
+impl Misuse {
+    /// The option doesn't go with this command.
+    pub(crate) fn option(option: &'static str, name: Name) -> Misuse {
+        Misuse::Misfit(option, name.word())
+    }
+}
+
+impl From<AllocError> for Misuse {
+    fn from(_error: AllocError) -> Misuse {
+        Misuse::Memory
+    }
+}
+
+impl<T: Drop> From<AllocFailed<T>> for Misuse {
+    fn from(_error: AllocFailed<T>) -> Misuse {
+        Misuse::Memory
+    }
+}

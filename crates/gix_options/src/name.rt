@@ -1,0 +1,69 @@
+//! The names of the commands.
+
+/// A command over a repository.
+#[derive(Clone, Copy, PartialEq, Eq, Debug)]
+pub enum Name {
+    /// A list in the order in which commits are met.
+    Breadth,
+    /// A list, newest first among the commits met.
+    Newest,
+    /// A list, oldest first among the commits met.
+    Oldest,
+    /// A list, no commit before its children, one line of history after the other.
+    Topo,
+    /// A list, no commit before its children, otherwise the newest first.
+    Date,
+    /// Two numbers: how far two revisions are apart.
+    Ahead,
+    /// Which of some revisions another one reaches.
+    Contains,
+    /// The entries of a tree.
+    Files,
+    /// The ids that revisions stand for.
+    Resolve,
+    /// Whether git's commit-graph says what the commits say.
+    CheckGraph,
+}
+
+impl Name {
+    /// The command of this name.
+    pub fn of(word: &str) -> Option<Name> {
+        match word {
+            "breadth" => Some(Name::Breadth),
+            "newest" => Some(Name::Newest),
+            "oldest" => Some(Name::Oldest),
+            "topo" => Some(Name::Topo),
+            "date" => Some(Name::Date),
+            "ahead" => Some(Name::Ahead),
+            "contains" => Some(Name::Contains),
+            "files" => Some(Name::Files),
+            "resolve" => Some(Name::Resolve),
+            "check-graph" => Some(Name::CheckGraph),
+            _ => None,
+        }
+    }
+
+    /// The name as it is written.
+    pub fn word(self) -> &'static str {
+        match self {
+            Name::Breadth => "breadth",
+            Name::Newest => "newest",
+            Name::Oldest => "oldest",
+            Name::Topo => "topo",
+            Name::Date => "date",
+            Name::Ahead => "ahead",
+            Name::Contains => "contains",
+            Name::Files => "files",
+            Name::Resolve => "resolve",
+            Name::CheckGraph => "check-graph",
+        }
+    }
+
+    /// Whether it lists commits, so that a number of lines goes with it, and hidden commits.
+    pub fn is_list(self) -> bool {
+        matches!(
+            self,
+            Name::Breadth | Name::Newest | Name::Oldest | Name::Topo | Name::Date
+        )
+    }
+}

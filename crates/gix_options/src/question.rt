@@ -1,0 +1,435 @@
+//! Arguments that ask something of a repository.
+ghost use Rattle.std.specs.Prelude.{◌≡◌, ◌+◌, ◌≤◌, ◌<◌, length};
+
+use crate::misuse::LineFault;
+use crate::{Misuse, Name};
+use std::alloc::{AllocError, Global};
+use std::str;
+
+/// Where the repository is.
+#[derive(Drop, Debug)]
+pub enum Place {
+    /// In this folder or one above it.
+    Folder(String),
+    /// This folder is what is called `.git` elsewhere.
+    GitDir(String),
+}
+
+/// A word that names revisions, or a set of them.
+#[derive(Drop, Debug)]
+pub enum Asked {
+    /// A revision, maybe with `^`, or a range.
+    Word(String),
+    /// All refs and HEAD.
+    All,
+    /// All branches.
+    Branches,
+    /// All tags.
+    Tags,
+    /// The lines of standard input, each of which is a word.
+    Lines,
+}
+
+/// When git's commit-graph is used.
+#[derive(Clone, Copy, PartialEq, Eq, Debug)]
+pub enum Rows {
+    /// Where the file was checked and hasn't changed since.
+    Checked,
+    /// Always, as by git.
+    Trusted,
+    /// Never.
+    Unused,
+}
+
+/// What the options say.
+#[derive(Drop, Debug)]
+pub struct Options {
+    /// When git's commit-graph is used.
+    pub rows: Rows,
+    /// Whether the commits at the border of a shallow clone have no parents.
+    pub takes_border: bool,
+    /// Whether it is said what each word stands for.
+    pub is_verbose: bool,
+    /// Whether only first parents are walked.
+    pub by_first_parents: bool,
+    /// The digits of the least time, in seconds since 1970.
+    pub since: Option<String>,
+    /// The digits of the most lines.
+    pub limit: Option<String>,
+    /// Whether a byte 0 ends each line.
+    pub ends_in_zero: bool,
+}
+
+/// What is asked of a repository.
+#[derive(Drop, Debug)]
+pub struct Question {
+    /// Where it is.
+    pub place: Place,
+    /// The command.
+    pub name: Name,
+    /// The revisions, in the order in which they were given.
+    pub asked: Vec<Asked>,
+    /// What the options say.
+    pub options: Options,
+}
+
+/// What the arguments ask.
+#[derive(Drop, Debug)]
+pub enum Asks {
+    /// A command over records on standard input, or a folder of objects.
+    Records,
+    /// The help, all of it or that of one command.
+    Help(Option<Name>),
+    /// Which program this is.
+    Version,
+    /// A question about a repository.
+    Question(Question),
+}
+
+/// What was read of the arguments.
+#[derive(Drop)]
+struct Arguments {
+    alloc: Global,
+    place: Option<Place>,
+    name: Option<Name>,
+    needs_help: bool,
+    asked: Vec<Asked>,
+    options: Options,
+}
+
+/// What the arguments behind the program's name ask. They are about a repository where one of them is `-C` or `--git-dir`, and each option
+/// may then be anywhere: the first other word is the command, and what follows are revisions. Of an option that is given twice the later
+/// counts.
+///
+/// # Errors
+///
+/// The first [`Misuse`] that is met. Where no repository is named, arguments are never misused here.
+pub fn read_arguments(alloc: Global, words: &[String]) -> Result<Asks, Misuse> {
+    if let Some(asks) = read_help(words) {
+        return Ok(asks);
+    }
+    if !words.iter().any(|word| names_place(word.as_str())) {
+        return Ok(Asks::Records);
+    }
+    let mut arguments = Arguments::new(alloc);
+    let mut left = words;
+    for _ in 0..=words.len() {
+        let [word, behind @ ..] = left else {
+            break;
+        };
+        left = arguments.read(word.as_str(), behind)?;
+    }
+    arguments.ask()
+}
+
+/// Whether an argument says where a repository is.
+fn names_place(word: &str) -> bool {
+    word == "-C" || word == "--git-dir"
+}
+
+/// Help that is asked for without a repository: the first word is an option that asks for it.
+fn read_help(words: &[String]) -> Option<Asks> {
+    let [first, behind @ ..] = words else {
+        return None;
+    };
+    match first.as_str() {
+        "--help" | "-h" | "help" => {
+            let name = behind.first().and_then(|word| Name::of(word.as_str()));
+            Some(Asks::Help(name))
+        }
+        "--version" => Some(Asks::Version),
+        word => match (Name::of(word), behind) {
+            (Some(name), [option]) => {
+                if is_help(option.as_str()) {
+                    Some(Asks::Help(Some(name)))
+                } else {
+                    None
+                }
+            }
+            _ => None,
+        },
+    }
+}
+
+/// Whether an option asks for help.
+fn is_help(word: &str) -> bool {
+    word == "--help" || word == "-h"
+}
+
+impl Arguments {
+    /// Nothing was read.
+    fn new(alloc: Global) -> Arguments {
+        Arguments {
+            alloc,
+            place: None,
+            name: None,
+            needs_help: false,
+            asked: Vec::new(alloc),
+            options: Options {
+                rows: Rows::Checked,
+                takes_border: false,
+                is_verbose: false,
+                by_first_parents: false,
+                since: None,
+                limit: None,
+                ends_in_zero: false,
+            },
+        }
+    }
+
+    /// Reads an argument, and lends the arguments that are left behind it and what goes with it.
+    fn read<'a>(&mut self, word: &str, behind: &'a [String]) -> Result<&'a [String], Misuse> {
+        match word {
+            "-C" | "--git-dir" => return self.read_place(word, behind),
+            "-n" => return self.read_limit(behind),
+            "--since" => return self.read_since(behind),
+            "--help" | "-h" => self.needs_help = true,
+            "--no-graph" => self.options.rows = Rows::Unused,
+            "--trust-graph" => self.options.rows = Rows::Trusted,
+            "--border" => self.options.takes_border = true,
+            "--verbose" => self.options.is_verbose = true,
+            "--first-parent" => self.options.by_first_parents = true,
+            "-z" => self.options.ends_in_zero = true,
+            "--all" => self.asked.push(Asked::All)?,
+            "--branches" => self.asked.push(Asked::Branches)?,
+            "--tags" => self.asked.push(Asked::Tags)?,
+            "--stdin" => self.asked.push(Asked::Lines)?,
+            "--" => return Err(Misuse::Paths),
+            word => self.read_word(word)?,
+        }
+        Ok(behind)
+    }
+
+    /// Reads where the repository is.
+    fn read_place<'a>(
+        &mut self,
+        option: &str,
+        behind: &'a [String],
+    ) -> Result<&'a [String], Misuse> {
+        let option = if option == "-C" { "-C" } else { "--git-dir" };
+        let [folder, behind @ ..] = behind else {
+            return Err(Misuse::NoFolder(option));
+        };
+        if folder.is_empty() {
+            return Err(Misuse::NoFolder(option));
+        }
+        let folder = folder.clone()?;
+        self.place = Some(if option == "-C" {
+            Place::Folder(folder)
+        } else {
+            Place::GitDir(folder)
+        });
+        Ok(behind)
+    }
+
+    /// Reads the most lines.
+    fn read_limit<'a>(&mut self, behind: &'a [String]) -> Result<&'a [String], Misuse> {
+        match behind {
+            [digits, behind @ ..] if is_number(digits.as_str(), 9) => {
+                self.options.limit = Some(digits.clone()?);
+                Ok(behind)
+            }
+            _ => Err(Misuse::Limit),
+        }
+    }
+
+    /// Reads the least time.
+    fn read_since<'a>(&mut self, behind: &'a [String]) -> Result<&'a [String], Misuse> {
+        match behind {
+            [digits, behind @ ..] if is_number(digits.as_str(), 10) => {
+                self.options.since = Some(digits.clone()?);
+                Ok(behind)
+            }
+            _ => Err(Misuse::Since),
+        }
+    }
+
+    /// Reads a word that is no option: the command, or a revision.
+    fn read_word(&mut self, word: &str) -> Result<(), Misuse> {
+        if word.starts_with('-') {
+            return Err(Misuse::NoOption(String::from_str(self.alloc, word)?));
+        }
+        if self.name.is_none() {
+            if word == "help" {
+                self.needs_help = true;
+                return Ok(());
+            }
+            let Some(name) = Name::of(word) else {
+                return Err(Misuse::Command(String::from_str(self.alloc, word)?));
+            };
+            self.name = Some(name);
+            return Ok(());
+        }
+        if let Some(fault) = fault_of(word) {
+            return Err(misuse_of(self.alloc, word, fault)?);
+        }
+        self.asked
+            .push(Asked::Word(String::from_str(self.alloc, word)?))?;
+        Ok(())
+    }
+
+    /// What all arguments ask.
+    fn ask(self) -> Result<Asks, Misuse> {
+        if self.needs_help {
+            return Ok(Asks::Help(self.name));
+        }
+        let Some(name) = self.name else {
+            return Err(Misuse::NoCommand);
+        };
+        self.check_options(name)?;
+        self.check_number(name)?;
+        let Arguments {
+            place,
+            asked,
+            options,
+            ..
+        } = self;
+        match place {
+            Some(place) => Ok(Asks::Question(Question {
+                place,
+                name,
+                asked,
+                options,
+            })),
+            None => Err(Misuse::NoFolder("-C")),
+        }
+    }
+
+    /// Whether each option goes with the command.
+    fn check_options(&self, name: Name) -> Result<(), Misuse> {
+        if self.options.limit.is_some() && !name.is_list() {
+            return Err(Misuse::option("-n", name));
+        }
+        if self.options.by_first_parents && name != Name::Breadth {
+            return Err(Misuse::option("--first-parent", name));
+        }
+        if self.options.since.is_some() && name != Name::Newest && name != Name::Oldest {
+            return Err(Misuse::option("--since", name));
+        }
+        if self.options.ends_in_zero && name != Name::Files {
+            return Err(Misuse::option("-z", name));
+        }
+        if name == Name::CheckGraph
+            && (!self.asked.is_empty()
+                || self.options.takes_border
+                || self.options.rows != Rows::Checked)
+        {
+            return Err(Misuse::CheckGraph);
+        }
+        Ok(())
+    }
+
+    /// Whether so many revisions go with the command, as far as words show it: a set or a range may name many.
+    fn check_number(&self, name: Name) -> Result<(), Misuse> {
+        let words = self.asked.len();
+        let tips = self.asked.iter().filter(|word| may_be_tip(word)).count();
+        match name {
+            Name::CheckGraph => Ok(()),
+            Name::Ahead => {
+                if words == 2 && tips == 2 || words == 1 && self.has_symmetric() {
+                    Ok(())
+                } else {
+                    Err(Misuse::Number(name.word(), 2))
+                }
+            }
+            Name::Files => {
+                if words == 1 && tips == 1 {
+                    Ok(())
+                } else {
+                    Err(Misuse::Number(name.word(), 1))
+                }
+            }
+            Name::Contains => {
+                let begins = matches!(self.asked.first(), Some(Asked::Word(_)));
+                if begins && words > 1 && tips == words {
+                    Ok(())
+                } else {
+                    Err(Misuse::Contains)
+                }
+            }
+            _ => {
+                if tips > 0 {
+                    Ok(())
+                } else {
+                    Err(Misuse::NoTip(name.word()))
+                }
+            }
+        }
+    }
+
+    /// Whether the first word is a range with three dots.
+    fn has_symmetric(&self) -> bool {
+        match self.asked.first() {
+            Some(Asked::Word(word)) => word.contains("..."),
+            _ => false,
+        }
+    }
+}
+
+/// Whether a word may name a commit that isn't hidden.
+fn may_be_tip(asked: &Asked) -> bool {
+    match asked {
+        Asked::Word(word) => !word.starts_with('^'),
+        _ => true,
+    }
+}
+
+/// Whether a word is 1 to so many decimal digits.
+fn is_number(word: &str, most: usize) -> bool {
+    !word.is_empty()
+        && word.len() <= most
+        && word.as_bytes().iter().all(|byte| byte.is_ascii_digit())
+}
+
+/// What is wrong with a word that is to be a revision, whatever the repository has.
+fn fault_of(word: &str) -> Option<LineFault> {
+    match word.as_bytes() {
+        [] | [b'^'] => Some(LineFault::Empty),
+        [b'-', ..] => Some(LineFault::Dash),
+        [b'^', b'^', ..] => Some(LineFault::TwoHidden),
+        [.., b'\r'] => Some(LineFault::CarriageReturn),
+        _ => None,
+    }
+}
+
+/// The misuse of a word with a fault.
+fn misuse_of(alloc: Global, word: &str, fault: LineFault) -> Result<Misuse, AllocError> {
+    let text = String::from_str(alloc, word)?;
+    Ok(match fault {
+        LineFault::Empty => Misuse::Empty,
+        LineFault::TwoHidden => Misuse::TwoHidden(text),
+        LineFault::CarriageReturn => Misuse::CarriageReturn,
+        LineFault::Dash => Misuse::Dash(text),
+        LineFault::NotText => Misuse::NotText,
+    })
+}
+
+/// The revisions that the lines of a text are. The last line need not end in a newline. An empty text has no line.
+///
+/// # Errors
+///
+/// The first line that can't be a revision, whatever the repository has, by its number. `Memory`.
+pub fn read_lines(alloc: Global, text: &[u8]) -> Result<Vec<String>, Misuse> {
+    let mut lines = Vec::new(alloc);
+    let mut rest = text;
+    for _ in 0..text.len() {
+        if rest.is_empty() {
+            break;
+        }
+        let end = rest
+            .iter()
+            .position(|byte| *byte == b'\n')
+            .unwrap_or(rest.len());
+        let number = lines.len().saturating_add(1);
+        let line = rest.get(..end).unwrap_or_default();
+        rest = rest.get(end.saturating_add(1)..).unwrap_or_default();
+        let Ok(line) = str::from_utf8(line) else {
+            return Err(Misuse::Line(number, LineFault::NotText));
+        };
+        if let Some(fault) = fault_of(line) {
+            return Err(Misuse::Line(number, fault));
+        }
+        lines.push(String::from_str(alloc, line)?)?;
+    }
+    Ok(lines)
+}

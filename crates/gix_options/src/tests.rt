@@ -1,0 +1,158 @@
+use super::*;
+use std::alloc::Global;
+use std::test::Fail;
+
+/// Arguments, with a space between any two, and why they ask nothing; or an empty text where they ask something.
+const CASES: &[(&str, &str)] = &[
+    ("-C .", "a command is missing"),
+    ("-C", "-C needs a folder"),
+    ("topo HEAD --git-dir", "--git-dir needs a folder"),
+    ("-C . log", "no command is called \"log\""),
+    ("-C . topo --graph HEAD", "no option is called \"--graph\""),
+    ("-C . topo HEAD -n", "-n needs a number of 1 to 9 digits"),
+    (
+        "-C . topo HEAD -n 1234567890",
+        "-n needs a number of 1 to 9 digits",
+    ),
+    ("-C . topo HEAD -n 123456789", ""),
+    (
+        "-C . newest --since x HEAD",
+        "--since needs a number of 1 to 10 digits",
+    ),
+    ("-C . newest --since 1234567890 HEAD", ""),
+    ("-C . topo --since 1 HEAD", "--since doesn't go with topo"),
+    (
+        "-C . newest HEAD --first-parent",
+        "--first-parent doesn't go with newest",
+    ),
+    ("-C . topo -z HEAD", "-z doesn't go with topo"),
+    ("-C . files -n 1 HEAD", "-n doesn't go with files"),
+    (
+        "-C . topo HEAD -- x",
+        "paths aren't known: what follows the command are revisions",
+    ),
+    ("-C . topo ^", "a revision is empty"),
+    (
+        "-C . topo ^^HEAD",
+        "a revision has one ^ at most: \"^^HEAD\"",
+    ),
+    ("-C . topo HEAD\r", "a revision ends in a carriage return"),
+    ("-C . topo ^HEAD", "topo needs a revision without ^"),
+    ("topo --all -C .", ""),
+    ("-C . topo ^HEAD --stdin", ""),
+    (
+        "-C . contains HEAD",
+        "contains needs two revisions at least, the first of them by its name, and none with ^ or a range A..B",
+    ),
+    (
+        "-C . contains --tags HEAD",
+        "contains needs two revisions at least, the first of them by its name, and none with ^ or a range A..B",
+    ),
+    (
+        "-C . contains HEAD ^a",
+        "contains needs two revisions at least, the first of them by its name, and none with ^ or a range A..B",
+    ),
+    ("-C . contains HEAD --tags", ""),
+    (
+        "-C . ahead HEAD",
+        "the number of revisions for ahead is 2, none of them with ^ or a range A..B",
+    ),
+    ("-C . ahead a...b", ""),
+    (
+        "-C . files a b",
+        "the number of revisions for files is 1, none of them with ^ or a range A..B",
+    ),
+    ("-C . files HEAD:a..b", ""),
+    (
+        "-C . check-graph HEAD",
+        "check-graph takes no revisions, and no option but -C",
+    ),
+    ("-C . check-graph", ""),
+    ("topo HEAD", ""),
+    ("", ""),
+];
+
+fn words_of(alloc: Global, text: &str) -> Result<Vec<String>, Fail> {
+    let mut words = Vec::new(alloc);
+    for word in text.split(' ') {
+        words.push(String::from_str(alloc, word)?)?;
+    }
+    Ok(words)
+}
+
+#[test]
+fn misuse_has_a_name(rt: HostRuntime) -> Result<(), Fail> {
+    let alloc = rt.alloc();
+    for (text, wanted) in CASES {
+        let words = words_of(alloc, *text)?;
+        let said = match read_arguments(alloc, words.as_slice()) {
+            Ok(_) => String::new(alloc),
+            Err(misuse) => format!(in alloc; "{misuse}")?,
+        };
+        if said.as_str() != *wanted {
+            return Err(Fail::new(format_args!("{text}: {said}")));
+        }
+    }
+    Ok(())
+}
+
+#[test]
+fn options_may_be_anywhere(rt: HostRuntime) -> Result<(), Fail> {
+    let alloc = rt.alloc();
+    let words = words_of(
+        alloc,
+        "topo --trust-graph A --all -n 3 --border ^B -C a --verbose -C b",
+    )?;
+    let Asks::Question(question) = read_arguments(alloc, words.as_slice())? else {
+        return Err(Fail::new("no question"));
+    };
+    let is_right = question.name == Name::Topo
+        && question.options.rows == Rows::Trusted
+        && question.options.takes_border
+        && question.options.is_verbose
+        && matches!(&question.place, Place::Folder(folder) if folder.as_str() == "b")
+        && matches!(&question.options.limit, Some(limit) if limit.as_str() == "3");
+    let [Asked::Word(a), Asked::All, Asked::Word(b)] = question.asked.as_slice() else {
+        return Err(Fail::new("other words"));
+    };
+    if is_right && a.as_str() == "A" && b.as_str() == "^B" {
+        return Ok(());
+    }
+    Err(Fail::new(format_args!("{question:?}")))
+}
+
+#[test]
+fn lines_have_numbers(rt: HostRuntime) -> Result<(), Fail> {
+    let alloc = rt.alloc();
+    let cases: [(&[u8], &str); 7] = [
+        (b"", "0 lines"),
+        (b"a\nb", "2 lines"),
+        (b"a\n^b\n", "2 lines"),
+        (b"a\n\nb", "line 2 of standard input: a revision is empty"),
+        (
+            b"a\r\nb\n",
+            "line 1 of standard input: a revision ends in a carriage return",
+        ),
+        (
+            b"a\nb\n--all\n",
+            "line 3 of standard input: an option is no revision",
+        ),
+        (
+            b"\xFF\n",
+            "line 1 of standard input: a revision isn't UTF-8",
+        ),
+    ];
+    for (text, wanted) in cases.as_slice() {
+        let said = match read_lines(alloc, *text) {
+            Ok(lines) => {
+                let count = lines.len();
+                format!(in alloc; "{count} lines")?
+            }
+            Err(misuse) => format!(in alloc; "{misuse}")?,
+        };
+        if said.as_str() != *wanted {
+            return Err(Fail::new(format_args!("{said}, not {wanted}")));
+        }
+    }
+    Ok(())
+}
