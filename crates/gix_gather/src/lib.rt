@@ -1,32 +1,28 @@
-//! The objects of a folder of objects that some ids lead to, as the bytes of records that `gix_records` reads.
+//! The objects of a folder of objects that some ids lead to, in a store in memory.
 //!
-//! Each object is compared with its id before anything in it is used, so a record holds no other object than its id's, or two texts of one
-//! hash are at hand. What the folder lacks is left out: a walk over the records then names it.
+//! Each object is compared with its id before anything in it is used, so the store holds no other object under an id than the id's, or two
+//! texts of one hash are at hand. What the folder lacks is left out: a walk over the store then names it.
 #![tactic(auto)]
 
-ghost use Rattle.std.specs.Prelude.{◌≡◌, ◌+◌, ◌≤◌, ◌<◌, length, IfOk, IfSome};
-ghost use Rattle.gix_names.specs.Named.{IsNamed};
+ghost use Rattle.std.specs.Prelude.{IfOk};
+ghost use Rattle.gix_records.specs.NamedRecords.{AreNamed};
 
-mod met;
-mod record;
+mod gathering;
+mod waiting;
 
+pub use gathering::Gathering;
+use gix_commitgraph::Graph;
 use gix_hash::ObjectId;
-use gix_names::is_named;
-use gix_object::Kind;
-use gix_object::commit::{CommitRefIter, Token};
-use gix_object::tree::TreeRefIter;
+use gix_hash::hashtable::IdSet;
 use gix_odb::Odb;
-use met::Met;
-use record::push_record;
+use gix_records::NamedObjects;
 use std::alloc::{AllocError, Global};
 use std::fs::Files;
 use std::os::unix::fs::FileExt;
 use thiserror::Error;
+pub use waiting::Order;
 
-/// How many copies of an object are read at the most.
-const MOST_COPIES: usize = 64;
-
-/// Why objects weren't gathered. There are no records then.
+/// Why objects weren't gathered.
 #[derive(Drop, Debug, Error)]
 pub enum Fault {
     /// A file is damaged that has an object, or may have it, and no other has it undamaged.
@@ -55,122 +51,43 @@ impl From<gix_odb::Fault> for Fault {
     }
 }
 
-/// The records of all commits that these ids reach by the parents that commits name, each once, in the order in which they are met. An id
-/// of another object has a record too, and leads no further. Of a commit that isn't well-formed the parents before the fault count.
+/// All commits that these ids reach by the parents that commits name, but those that have a row of the graph and what is reached by way of
+/// them alone. An id of another object is read too, and leads no further. Of a commit that isn't well-formed the parents before the fault
+/// count.
 ///
 /// # Errors
 ///
-/// The first [`Fault`] that is met.
-pub fn commits<R>(alloc: Global, odb: &mut Odb<R>, ids: &[ObjectId]) -> Result<Vec<u8>, Fault>
-where
-    R: Files + AllocGlobal + Clone + Drop,
-    R::File: FileExt,
-{
-    gather(alloc, odb, ids, Kind::Commit)
-}
-
-/// The records of a tree and of all trees in it, each once, in the order in which they are met. An id of another object has a record too,
-/// and leads no further. Of a tree that isn't well-formed the entries before the fault count.
-///
-/// # Errors
-///
-/// The first [`Fault`] that is met.
-pub fn trees<R>(alloc: Global, odb: &mut Odb<R>, root: &ObjectId) -> Result<Vec<u8>, Fault>
-where
-    R: Files + AllocGlobal + Clone + Drop,
-    R::File: FileExt,
-{
-    gather(alloc, odb, &[*root], Kind::Tree)
-}
-
-/// The records of the objects that these ids lead to, through objects of one kind.
-fn gather<R>(
+/// The first [`Fault`] that is met. There are no objects then.
+pub fn commits<R>(
     alloc: Global,
     odb: &mut Odb<R>,
     ids: &[ObjectId],
-    through: Kind,
-) -> Result<Vec<u8>, Fault>
+    graph: Option<&Graph>,
+) -> Result<NamedObjects, Fault>
 where
     R: Files + AllocGlobal + Clone + Drop,
     R::File: FileExt,
+    ensures named { IfOk result (λ objects. AreNamed objects) }
 {
-    let mut met = Met::new(alloc);
-    for id in ids {
-        met.add(*id)?;
-    }
-    let mut records = Vec::new(alloc);
-    let mut object = Vec::new(alloc);
-    for _ in 0..u64::MAX {
-        let Some(id) = met.next() else {
-            break;
-        };
-        if let Some(kind) = read_named(odb, &id, &mut object)? {
-            let bytes = object.as_slice();
-            push_record(&mut records, kind, &id, bytes)?;
-            if kind == through {
-                add_named(&mut met, kind, id, bytes)?;
-            }
-        }
-    }
-    Ok(records)
+    let border = IdSet::new(alloc);
+    let mut gathering = Gathering::commits(alloc, ids, Order::Met, border)?;
+    gathering.read_more(odb, graph, usize::MAX)?;
+    Ok(gathering.into_objects())
 }
 
-/// Puts the bytes of the object of an id into `object`, from the first copy that is the object of this id. None where there is no copy.
-fn read_named<R>(
-    odb: &mut Odb<R>,
-    id: &ObjectId,
-    object: &mut Vec<u8>,
-) -> Result<Option<Kind>, Fault>
+/// A tree and all trees in it. An id of another object is read too, and leads no further. Of a tree that isn't well-formed the entries
+/// before the fault count.
+///
+/// # Errors
+///
+/// The first [`Fault`] that is met. There are no objects then.
+pub fn trees<R>(alloc: Global, odb: &mut Odb<R>, root: &ObjectId) -> Result<NamedObjects, Fault>
 where
     R: Files + AllocGlobal + Clone + Drop,
     R::File: FileExt,
-    ensures { IfOk result (λ found. IfSome found (λ kind. IsNamed id.now kind object.new.items)) }
+    ensures named { IfOk result (λ objects. AreNamed objects) }
 {
-    for copy in 0..MOST_COPIES {
-        let Some(kind) = odb.read_copy(id, copy, object)? else {
-            return if copy == 0 {
-                Ok(None)
-            } else {
-                Err(Fault::Name(*id))
-            };
-        };
-        if is_named(id, kind, object.as_slice()) {
-            return Ok(Some(kind));
-        }
-    }
-    Err(Fault::Name(*id))
-}
-
-/// Adds the ids that a commit or a tree names: those of parents, or of trees.
-fn add_named(met: &mut Met, kind: Kind, id: ObjectId, bytes: &[u8]) -> Result<(), AllocError> {
-    match kind {
-        Kind::Commit => add_parents(met, CommitRefIter::from_bytes(bytes, id.kind())),
-        Kind::Tree => add_trees(met, TreeRefIter::from_bytes(bytes, id.kind())),
-        _ => Ok(()),
-    }
-}
-
-/// Adds the parents of a commit.
-fn add_parents(met: &mut Met, items: CommitRefIter<'_>) -> Result<(), AllocError> {
-    for item in items {
-        match item {
-            Ok(Token::Tree { .. }) => {}
-            Ok(Token::Parent { id }) => met.add(id)?,
-            _ => break,
-        }
-    }
-    Ok(())
-}
-
-/// Adds the trees in a tree.
-fn add_trees(met: &mut Met, entries: TreeRefIter<'_>) -> Result<(), AllocError> {
-    for entry in entries {
-        let Ok(entry) = entry else {
-            break;
-        };
-        if entry.mode.is_tree() {
-            met.add(entry.oid)?;
-        }
-    }
-    Ok(())
+    let mut gathering = Gathering::trees(alloc, root)?;
+    gathering.read_more(odb, None, usize::MAX)?;
+    Ok(gathering.into_objects())
 }

@@ -63,7 +63,10 @@ none_misnamed text (q ∷ records) (p ∷ before) r rest behind are named begins
 pub no_name_fault : (text : List ℕ) (records : List Record) (e : Error) → IsNameFault text e → AreRecords records text → All IsNamedRecord records → ⊥
 no_name_fault text records e (misnamed before r rest behind begins all is other) are named = none_misnamed text records before r rest behind are named begins is other
 
-named_put : (objects : Objects) (i : ObjectId) (o : Object) → AreNamed objects → IsNamed i o.kind o.bytes → AreNamed (map_of.insert objects i o)
+pub none_named : AreNamed map_of.empty
+none_named q = subst (λ p. IfSome p (λ o. IsNamed q o.kind o.bytes)) (sym (map_of.get-empty id_cmp q)) tt
+
+pub named_put : (objects : Objects) (i : ObjectId) (o : Object) → AreNamed objects → IsNamed i o.kind o.bytes → AreNamed (map_of.insert objects i o)
 named_put objects i o h named q = subst (λ p. IfSome p (λ o. IsNamed q o.kind o.bytes)) (sym (map_of.get-insert id_total objects i o q)) (at_key (eq_by_cmp id_cmp q i) refl)
   where
     at_key : (b : Bool) → eq_by_cmp id_cmp q i ≡ b → IfSome (cond b (Some o) (map_of.get objects q)) (λ o. IsNamed q o.kind o.bytes)
@@ -76,4 +79,4 @@ named_put_in objects (r ∷ records) h all = named_put_in (map_of.insert objects
 
 -- what is stored of named records is named
 pub stored_named : (records : List Record) → All IsNamedRecord records → AreNamed (stored records)
-stored_named records all = named_put_in map_of.empty records (λ q. subst (λ p. IfSome p (λ o. IsNamed q o.kind o.bytes)) (sym (map_of.get-empty id_cmp q)) tt) all
+stored_named records all = named_put_in map_of.empty records none_named all

@@ -1,7 +1,9 @@
 //! A store over bytes that another has.
 ghost use Rattle.std.specs.Prelude.{◌≡◌, ◌↔◌, IsTrue, length};
 ghost use Rattle.std.specs.FinMap as map;
+ghost use Rattle.std.specs.Option.{option_copied};
 ghost use Rattle.gix_object.specs.MemoryStore.{objects_at, AreWithin};
+ghost use Rattle.gix_records.specs.Places.{places_of};
 
 use gix_hash::ObjectId;
 use gix_hash::hashtable::IdMap;
@@ -10,11 +12,18 @@ use gix_object::find::{Error, Find};
 use gix_object::memory::Stored;
 use std::marker::Model;
 
+/// Places of objects: the store's own, or another's.
+#[derive(Drop)]
+enum Places<'a> {
+    Kept(IdMap<Stored>),
+    Lent(&'a IdMap<Stored>),
+}
+
 /// Objects whose bytes are in a borrowed slice: the store has their places alone, and copies no object until one is looked up. Each
 /// look-up succeeds unless memory runs out.
 #[derive(Drop)]
 pub struct LentStore<'a> {
-    objects: IdMap<Stored>,
+    objects: Places<'a>,
     bytes: &'a [u8],
 }
 
@@ -29,9 +38,11 @@ impl<'a> Model for LentStore<'a> {
 
     ghost coded = { map.code id_code object_code };
 
-    ghost view = { λ s. objects_at s.bytes.now s.objects };
+    ghost use Rattle.gix_records.specs.Places.{places_of};
 
-    ghost invariant = { λ s. AreWithin s.objects (length s.bytes.now) };
+    ghost view = { λ s. objects_at s.bytes.now (places_of s.objects) };
+
+    ghost invariant = { λ s. AreWithin (places_of s.objects) (length s.bytes.now) };
 }
 
 impl<'a> LentStore<'a> {
@@ -40,6 +51,16 @@ impl<'a> LentStore<'a> {
         requires { AreWithin objects (length bytes.now) }
         ensures { result ≡ objects_at bytes.now objects }
     {
+        let objects = Places::Kept(objects);
+        LentStore { objects, bytes }
+    }
+
+    /// A store of the objects that are at these places of a slice, which are borrowed too. Each place must be within the slice.
+    pub fn lent(bytes: &'a [u8], objects: &'a IdMap<Stored>) -> LentStore<'a>
+        requires { AreWithin objects.now (length bytes.now) }
+        ensures { result ≡ objects_at bytes.now objects.now }
+    {
+        let objects = Places::Lent(objects);
         LentStore { objects, bytes }
     }
 
@@ -47,7 +68,7 @@ impl<'a> LentStore<'a> {
     pub fn len(&self) -> usize
         ensures { result ≡ map.len self.now }
     {
-        self.objects.len()
+        number_of(&self.objects)
     }
 
     /// Whether there is no object.
@@ -64,7 +85,7 @@ impl Find for LentStore<'_> {
     ghost faulty = { λ _ _. ⊥ };
 
     fn find_into(&self, id: &ObjectId, buf: &mut Vec<u8>) -> Result<Option<Kind>, Error> {
-        let Some(stored) = self.objects.get(id) else {
+        let Some(stored) = place_of(&self.objects, id) else {
             return Ok(None);
         };
         buf.clear();
@@ -72,5 +93,25 @@ impl Find for LentStore<'_> {
             Ok(()) => Ok(Some(stored.kind)),
             Err(_) => Err(Error::Memory),
         }
+    }
+}
+
+/// How many places there are.
+fn number_of(objects: &Places<'_>) -> usize
+    ensures { result ≡ map.len (places_of objects.now) }
+{
+    match objects {
+        Places::Kept(objects) => objects.len(),
+        Places::Lent(objects) => objects.len(),
+    }
+}
+
+/// The place of an object.
+fn place_of<'a>(objects: &'a Places<'_>, id: &ObjectId) -> Option<&'a Stored>
+    ensures { option_copied result ≡ map.get (places_of objects.now) id.now }
+{
+    match objects {
+        Places::Kept(objects) => objects.get(id),
+        Places::Lent(objects) => objects.get(id),
     }
 }

@@ -18,6 +18,7 @@ mod input;
 pub mod laws;
 mod lent;
 mod named;
+mod objects;
 
 use front::record_at;
 use gix_hash::ObjectId;
@@ -26,6 +27,7 @@ use gix_object::memory::{MemoryStore, Stored};
 pub use input::read_to_end;
 pub use lent::LentStore;
 pub use named::{check_names, named_records_in};
+pub use objects::NamedObjects;
 use std::alloc::{AllocError, Global};
 use std::io::Read;
 use thiserror::Error;

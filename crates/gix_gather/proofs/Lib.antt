@@ -1,0 +1,2 @@
+-- Objects that stay where another is put in.
+mod Kept

@@ -1,0 +1,98 @@
+//! Objects that were compared with their ids.
+ghost use Rattle.std.specs.Prelude.{◌≡◌, ◌↔◌, IsTrue, length, is_some, OnOk, OnErr, IfSome};
+ghost use Rattle.std.specs.FinMap as map;
+ghost use Rattle.gix_names.specs.Named.{IsNamed};
+ghost use Rattle.gix_records.specs.NamedRecords.{AreNamed};
+
+use crate::LentStore;
+use gix_hash::ObjectId;
+use gix_hash::hashtable::IdMap;
+use gix_object::Kind;
+use gix_object::memory::Stored;
+use std::alloc::{AllocError, Global};
+use std::marker::Model;
+
+/// Objects held in memory, each under the id that it has: the hash of its kind, its length and its bytes, by SHA-1 for ids of 20 bytes and
+/// by SHA-256 for ids of 32. No object is put in under another id, so no reader of the store has to compare it again.
+#[derive(Drop)]
+pub struct NamedObjects {
+    places: IdMap<Stored>,
+    bytes: Vec<u8>,
+}
+
+impl Model for NamedObjects {
+    ghost use Rattle.std.specs.Prelude.{length};
+    ghost use Rattle.std.specs.FinMap as map;
+    ghost use Rattle.gix_hash.specs.Id.{id_code};
+    ghost use Rattle.gix_object.specs.Object.{Objects, object_code};
+    ghost use Rattle.gix_object.specs.MemoryStore.{objects_at, AreWithin};
+    ghost use Rattle.gix_records.specs.NamedRecords.{AreNamed};
+
+    ghost Value = { Objects };
+
+    ghost coded = { map.code id_code object_code };
+
+    ghost view = { λ s. objects_at s.bytes.items s.places };
+
+    ghost invariant = { λ s. AreWithin s.places (length s.bytes.items) × AreNamed (objects_at s.bytes.items s.places) };
+}
+
+impl NamedObjects {
+    /// No objects. It takes no memory until one is put in.
+    pub fn new(alloc: Global) -> NamedObjects
+        ensures empty { result ≡ map.empty }
+        ensures named { AreNamed result }
+    {
+        NamedObjects {
+            places: IdMap::new(alloc),
+            bytes: Vec::new(alloc),
+        }
+    }
+
+    /// Keeps a copy of an object under its id, in place of what the id had. The caller has compared them, as
+    /// [`is_named`](gix_names::is_named) does.
+    ///
+    /// # Errors
+    /// `AllocError` when out of memory. There are the objects that there were.
+    pub fn insert(&mut self, id: ObjectId, kind: Kind, bytes: &[u8]) -> Result<(), AllocError>
+        requires { IsNamed id kind bytes.now }
+        ensures ok { OnOk result (self.new ≡ map.insert self.old id (record { kind = kind; bytes = bytes.now })) }
+        ensures err { OnErr result (self.new ≡ self.old) }
+        ensures named { AreNamed self.new }
+    {
+        let start = self.bytes.len();
+        self.bytes.extend_from_slice(bytes)?;
+        let end = self.bytes.len();
+        self.places.insert(id, Stored { kind, start, end })?;
+        Ok(())
+    }
+
+    /// Whether there is an object of this id.
+    pub fn contains(&self, id: &ObjectId) -> bool
+        ensures { result ≡ is_some (map.get self.now id.now) }
+    {
+        self.places.get(id).is_some()
+    }
+
+    /// How many objects there are.
+    pub fn len(&self) -> usize
+        ensures { result ≡ map.len self.now }
+    {
+        self.places.len()
+    }
+
+    /// Whether there is no object.
+    pub fn is_empty(&self) -> bool
+        ensures { IsTrue result ↔ (map.len self.now ≡ 0) }
+    {
+        self.len() == 0
+    }
+
+    /// The store of these objects. It borrows them, and copies none until one is looked up.
+    pub fn store(&self) -> LentStore<'_>
+        ensures exact { result ≡ self.now }
+        ensures named { AreNamed self.now }
+    {
+        LentStore::lent(self.bytes.as_slice(), &self.places)
+    }
+}
