@@ -1,5 +1,5 @@
 -- What a report says.
-use Rattle.std.specs.Prelude.{◌≡◌, ◌⊎◌, ◌<◌, ◌≤◌, ℕ, Bool, true, false, nat_lt, List, [], ◌∷◌, ◌++◌, length, take, All, Contains, Some, None, slice_get, MatchBool}
+use Rattle.std.specs.Prelude.{◌≡◌, ◌⊎◌, ◌<◌, ◌≤◌, ℕ, true, false, nat_lt, List, [], ◌∷◌, ◌++◌, length, take, All, Contains, Some, slice_get, MatchBool}
 use Rattle.gix_commitgraph.specs.Rows.{GraphRow, row_at}
 use Rattle.gix_graph_file.specs.Chain.{HasChain}
 use Rattle.gix_graph_file.specs.Trailer.{has_its_hash}
@@ -46,7 +46,7 @@ AllRowsTold rows lower count told = (n : ℕ) → n < count → IsTold told (IsR
 pub record IsReport (files : List (List ℕ)) (passed : ℕ) (count : ℕ) (told : List Difference) : Type 0 where
   pub rows : List GraphRow
   pub chain : HasChain files rows
-  pub count : count ≡ length rows
+  pub counted : count ≡ length rows
   -- the rows of the files that have passed
   pub lower : List GraphRow
   pub below : HasChain (take passed files) lower

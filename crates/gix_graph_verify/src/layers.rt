@@ -1,5 +1,5 @@
 //! The files of a commit-graph, read for a run.
-ghost use Rattle.std.specs.Prelude.{◌≡◌, ◌+◌, ◌≤◌, ◌<◌, length, take, All, IsTrue, IfOk};
+ghost use Rattle.std.specs.Prelude.{◌≡◌, length, not, position, unwrap_or};
 
 use crate::kept::is_kept;
 use std::alloc::{AllocError, AllocFailed, Global};
@@ -161,17 +161,16 @@ where
     Ok(layers)
 }
 
+/// The place of the first file that hasn't passed.
+fn first_unchecked(layers: &[Layer]) -> Option<usize>
+    ensures { result ≡ position (λ layer. not layer.has_passed) layers.now }
+{
+    layers.iter().position(|layer| !layer.has_passed)
+}
+
 /// How many of the files have passed, from the lowest up to the first that hasn't.
 pub fn count_passed(layers: &[Layer]) -> usize
-    ensures within { result ≤ length layers.now }
-    ensures passed { All (λ layer. IsTrue layer.has_passed) (take result layers.now) }
+    ensures { result ≡ unwrap_or (position (λ layer. not layer.has_passed) layers.now) (length layers.now) }
 {
-    let mut count = 0usize;
-    for layer in layers {
-        if !layer.has_passed {
-            return count;
-        }
-        count += 1;
-    }
-    count
+    first_unchecked(layers).unwrap_or(layers.len())
 }

@@ -2,15 +2,15 @@
 #![tactic(auto)]
 
 mod difference;
+mod files;
 mod kept;
 pub mod laws;
 mod layers;
 mod objects;
 mod rows;
-mod verify;
 
 pub use difference::{Difference, Fault, MOST_DIFFERENCES};
+pub use files::{Report, verify};
 pub use kept::{KeepFault, has_passed, keep};
 pub use layers::{Layer, LayerFault, count_passed, read_layers};
 pub use objects::{Found, Objects};
-pub use verify::{Report, verify};

@@ -65,7 +65,7 @@ fn compare<O: Objects>(
 ) -> Result<Option<Difference>, Fault<O::Fault>>
     requires rows { AreGraphRows graph.now }
     requires same { rows_of_commit commit ≡ graph.now }
-    requires finite { (row_of_commit commit.entry).generation < 2 ^ 32 - 1 }
+    requires finite { (row_of_commit commit).generation < 2 ^ 32 - 1 }
     ensures { IfOk result (λ difference. IsAnswer graph.now (row_of_commit commit.entry) difference) }
 {
     let id = commit.id();

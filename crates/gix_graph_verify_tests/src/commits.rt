@@ -230,7 +230,7 @@ const DAMAGES: [(&[Damage], &str); 7] = [
         177fee2dfc01ce4c16ba1d29000901fdb7428a1d: the row isn't sound\n\
         f75791819afe4020046792420e4af20ccab4de74: the row isn't sound\n3 reads",
     ),
-    (&[(1, 0, 1)], "layer 1: it doesn't begin with CGPH\n0 reads"),
+    (&[(1, 0, 1)], "layer 1: no signature CGPH\n0 reads"),
     (
         &[(1, 1240, 1)],
         "5 rows\nlayer 1: the file doesn't end with the hash of its bytes\n5 reads",

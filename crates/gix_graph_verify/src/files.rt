@@ -24,10 +24,7 @@ pub struct Report {
 fn lowest<'a, 'b>(layers: &'b [&'a [u8]], count: usize) -> &'b [&'a [u8]]
     ensures { files_seen result.now ≡ take count (files_seen layers.now) }
 {
-    match layers.get(..count) {
-        Some(lower) => lower,
-        None => layers,
-    }
+    layers.split_at(count.min(layers.len())).0
 }
 
 /// Adds the files that don't end with their hash.
