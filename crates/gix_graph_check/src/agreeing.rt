@@ -65,8 +65,9 @@ fn places_agree(graph: &Graph, generation: u32, commit: Commit<'_>, ids: &[Objec
     places.next().is_none()
 }
 
-/// Whether the row of a commit says what its text says.
-fn row_agrees(graph: &Graph, commit: Commit<'_>, stored: &StoredCommit) -> bool
+/// Whether the row of a commit says what its text says: the tree, the time, and the parents, in their order; a corrupt place agrees
+/// with any parent that has a row. Each parent's row has a lesser generation, and the generation isn't 4294967295.
+pub fn row_agrees(graph: &Graph, commit: Commit<'_>, stored: &StoredCommit) -> bool
     requires rows { AreGraphRows graph.now }
     requires same { rows_of_commit commit ≡ graph.now }
     ensures { MatchBool result (AgreesWith graph.now (row_of_commit commit.entry) (commit_shown stored.now)) (¬ AgreesWith graph.now (row_of_commit commit.entry) (commit_shown stored.now)) }

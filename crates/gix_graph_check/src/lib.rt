@@ -7,10 +7,10 @@ mod named;
 mod sound;
 mod stored;
 
-pub use agreeing::check;
+pub use agreeing::{check, row_agrees};
 use gix_hash::ObjectId;
 pub use named::heads;
-pub use sound::first_unsound;
+pub use sound::{first_unsound, is_sound};
 use std::alloc::AllocError;
 pub use stored::{StoredCommit, read_whole};
 use thiserror::Error;

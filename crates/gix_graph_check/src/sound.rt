@@ -34,8 +34,8 @@ fn has_sound_places(graph: &Graph, generation: u32, commit: Commit<'_>) -> bool
     true
 }
 
-/// Whether the row of this number is sound.
-fn is_sound(graph: &Graph, number: u32) -> bool
+/// Whether the row of this number, which must be below `num_commits`, is sound, as [`first_unsound`] says.
+pub fn is_sound(graph: &Graph, number: u32) -> bool
     requires { number < length graph.now }
     ensures { MatchBool result (IsSound graph.now (row_at graph.now number)) (¬ IsSound graph.now (row_at graph.now number)) }
 {

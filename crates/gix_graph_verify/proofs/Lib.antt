@@ -1,0 +1,4 @@
+pub mod Telling
+pub mod Gathering
+pub mod Reports
+pub mod Comparing

@@ -1,0 +1,8 @@
+-- What it means that files are verified.
+pub mod Verified
+-- Objects that are what their ids say.
+pub mod Named
+-- What differs between a row and its commit.
+pub mod Differences
+-- What a report says.
+pub mod Reporting
