@@ -34,8 +34,8 @@ IsTagOf k bytes i = (line : List ℕ) × (rest : List ℕ) × IsIdLine (codes "o
 
 -- what tags, one after the other, lead to: the object itself, or what the next tag names
 pub data Untags (i : ObjectId) : ObjectId → Type 0 where
-  here : Untags i i
-  next : {j k : ObjectId} (bytes : List ℕ) → Untags i j → IsNamed j kind.Tag bytes → IsTagOf (kind_of j) bytes k → Untags i k
+  itself : Untags i i
+  by_tag : {j k : ObjectId} (bytes : List ℕ) → Untags i j → IsNamed j kind.Tag bytes → IsTagOf (kind_of j) bytes k → Untags i k
 
 -- the object of this kind that tags lead to
 abbrev pub UntagsTo : Kind → ObjectId → ObjectId → Type 0
@@ -47,8 +47,8 @@ IsFirstParent i j = (tree : ObjectId) × (parents : List ObjectId) × HasLinks i
 
 -- the first parent of the first parent of .. a commit, so many times
 pub data FirstParents (i : ObjectId) : ℕ → ObjectId → Type 0 where
-  here : FirstParents i 0 i
-  next : {n : ℕ} {j k : ObjectId} → FirstParents i n j → IsFirstParent j k → FirstParents i (n + 1) k
+  none : FirstParents i 0 i
+  one_more : {n : ℕ} {j k : ObjectId} → FirstParents i n j → IsFirstParent j k → FirstParents i (n + 1) k
 
 -- what tags, and a commit's tree, are followed to
 abbrev pub Peels : Target → ObjectId → ObjectId → Type 0

@@ -152,8 +152,9 @@ where
     ensures { IfOk result (λ found. IsAncestor count from.now found) }
 {
     let mut id = peel(alloc, odb, from, Target::Commit)?;
-    for _done in 0..count {
-        id = first_parent_of(alloc, odb, &id)?;
+    for done in 0..count {
+        let parent = first_parent_of(alloc, odb, &id)?;
+        id = parent;
     }
     Ok(id)
 }

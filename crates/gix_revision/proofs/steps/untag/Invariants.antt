@@ -2,4 +2,4 @@ use Rattle.gix_revision.specs.Leads.{Untags}
 use Rattle.gix_revision.proofs.steps.untag.Given as goal
 
 abbrev pub invariant-loop : goal.invariant-loop
-invariant-loop l = Untags l.from l.id
+invariant-loop g l = Untags l.from l.id
