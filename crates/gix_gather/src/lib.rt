@@ -10,7 +10,7 @@ ghost use Rattle.gix_records.specs.NamedRecords.{AreNamed};
 mod gathering;
 mod waiting;
 
-pub use gathering::Gathering;
+pub use gathering::{Gathering, read_named};
 use gix_commitgraph::Graph;
 use gix_hash::ObjectId;
 use gix_hash::hashtable::IdSet;

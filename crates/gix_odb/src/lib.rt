@@ -13,6 +13,7 @@ mod files;
 mod listing;
 mod loose;
 mod packs;
+mod short;
 mod work;
 
 use alternates::Folder;
@@ -21,9 +22,10 @@ use fault::fault_of;
 pub use fault::{Damage, Fault};
 use gix_hash::ObjectId;
 use gix_object::Kind;
-use gix_pack::Base;
+use gix_pack::{Base, Front};
 use listing::Packs;
 use packs::Trouble;
+use short::Beginning;
 use std::fs::Files;
 use std::mem;
 use std::os::unix::fs::FileExt;
@@ -141,6 +143,47 @@ where
             Some(fault) => Err(fault),
             None => Ok(None),
         }
+    }
+
+    /// The ids of all objects that begin with some digits, loose or packed, also of folders that are borrowed from, each once and at
+    /// most so many. Where there is none, the packs are listed once more. Whether the objects can be read isn't tested.
+    ///
+    /// # Errors
+    ///
+    /// The damage of the first folder or index that can't be read: it might have more of them. `Memory`. The folder can be used further.
+    pub fn ids_from(&mut self, front: &Front, most: usize) -> Result<Vec<ObjectId>, Fault> {
+        let mut found = Beginning::new(self.rt.alloc(), *front, most);
+        self.add_packed(0, &mut found)?;
+        for folder in self.folders.iter() {
+            let path = folder.path.as_str();
+            match short::add_loose(&self.rt, path, self.kind, &mut found) {
+                Ok(()) => {}
+                Err(damage) => {
+                    return Err(fault_of(String::from_str(self.rt.alloc(), path)?, damage));
+                }
+            }
+        }
+        if found.ids.is_empty() {
+            let known = self.packs.all.len();
+            self.list_again()?;
+            self.add_packed(known, &mut found)?;
+        }
+        Ok(found.ids)
+    }
+
+    /// Adds the ids of packs from a number on.
+    fn add_packed(&mut self, from: usize, found: &mut Beginning) -> Result<(), Fault> {
+        for number in from..self.packs.all.len() {
+            self.now = number;
+            let answer = match self.packs.all.get_mut(number) {
+                Some(pack) => pack.add_ids(&self.rt, self.kind, found),
+                None => Ok(()),
+            };
+            if let Err(trouble) = answer {
+                return Err(self.fault_in_pack(trouble)?);
+            }
+        }
+        Ok(())
     }
 
     /// Lists the packs once more.

@@ -79,7 +79,7 @@ impl<F: FileExt + Drop> Packs<F> {
 }
 
 /// What an error of the system says of a folder.
-fn damage_of(kind: ErrorKind) -> Damage {
+pub(crate) fn damage_of(kind: ErrorKind) -> Damage {
     match kind {
         ErrorKind::OutOfMemory => Damage::Memory,
         _ => Damage::Unreadable,

@@ -4,6 +4,7 @@ ghost use Rattle.std.specs.Prelude.{◌≡◌, ◌+◌, ◌≤◌, ◌<◌, leng
 use crate::bases::Place;
 use crate::fault::Damage;
 use crate::files::{self, Opened};
+use crate::short::Beginning;
 use crate::work::{MOST_OBJECT, Work, most_of};
 use gix_hash::{Kind, ObjectId};
 use gix_inflate::{Fault as StreamFault, inflate};
@@ -123,6 +124,37 @@ impl<F: FileExt + Drop> Pack<F> {
             }
             State::Broken(trouble) => Err(*trouble),
             _ => Ok(None),
+        }
+    }
+
+    /// Adds the ids of all objects of the pack that begin with the digits.
+    ///
+    /// # Errors
+    ///
+    /// The trouble of the index, each time anew.
+    pub fn add_ids<R: Files<File = F> + AllocGlobal>(
+        &mut self,
+        rt: &R,
+        kind: Kind,
+        found: &mut Beginning,
+    ) -> Result<(), Trouble> {
+        if let State::Unread = self.state {
+            self.state = read_index(rt, kind, self.stem.as_str());
+        }
+        match &self.state {
+            State::Ready(index) => {
+                for place in index.places_from(&found.front) {
+                    if found.is_full() {
+                        break;
+                    }
+                    if let Some(id) = index.id_at(place) {
+                        found.add(id).map_err(Damage::from)?;
+                    }
+                }
+                Ok(())
+            }
+            State::Broken(trouble) => Err(*trouble),
+            _ => Ok(()),
         }
     }
 

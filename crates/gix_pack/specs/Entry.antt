@@ -1,4 +1,4 @@
-use Rattle.std.specs.Prelude.{ℕ, ◌+◌, ◌<◌}
+use Rattle.std.specs.Prelude.{ℕ, ◌<◌}
 use Rattle.gix_pack.specs.declared.entry.Base.{Base}
 use Rattle.gix_pack.specs.declared.entry.Base.TheVariants.{Whole, Offset, Id}
 

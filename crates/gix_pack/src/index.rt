@@ -1,9 +1,11 @@
 //! The index of a pack.
 ghost use Rattle.std.specs.Prelude.{◌≡◌, ◌+◌, ◌≤◌, ◌<◌, length, IfSome, IfOk};
 
+use crate::front::Front;
 use crate::number::{long_at, word_at};
 use gix_hash::{Kind, ObjectId};
 use std::cmp::Ordering;
+use std::ops::Range;
 use thiserror::Error;
 
 /// What an index of version 2 begins with.
@@ -143,6 +145,37 @@ impl Index {
             }
         }
         None
+    }
+
+    /// The places of all ids that begin with these digits. Where ids don't rise, some may be missing, and others among them.
+    pub fn places_from(&self, front: &Front) -> Range<u32> {
+        self.first_behind(front, false)..self.first_behind(front, true)
+    }
+
+    /// The first place whose id isn't below the digits, or, where those that begin with them count as below too, is above.
+    fn first_behind(&self, front: &Front, are_below: bool) -> u32 {
+        let mut low = 0;
+        let mut high = self.len;
+        for _ in 0..HALVINGS {
+            if low >= high {
+                break;
+            }
+            let middle = low + (high - low) / 2;
+            let is_below = match self.id_at(middle) {
+                Some(id) => match front.compare(id.as_bytes()) {
+                    Ordering::Greater => true,
+                    Ordering::Equal => are_below,
+                    Ordering::Less => false,
+                },
+                None => false,
+            };
+            if is_below {
+                low = middle + 1;
+            } else {
+                high = middle;
+            }
+        }
+        low
     }
 
     /// How many ids begin with this byte or a lower one.

@@ -2,10 +2,12 @@
 #![tactic(auto)]
 
 mod entry;
+mod front;
 mod index;
 mod number;
 
 pub use entry::{Base, Entry, EntryFault, entry_at};
+pub use front::Front;
 pub use index::{Index, IndexFault};
 use thiserror::Error;
 

@@ -1,0 +1,2 @@
+-- The first line of a tag.
+pub mod TagLine

@@ -1,0 +1,2 @@
+-- What the steps of a revision lead to, by the texts of objects.
+pub mod Leads

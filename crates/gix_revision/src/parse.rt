@@ -1,0 +1,383 @@
+//! The words that name revisions, and what they ask for.
+ghost use Rattle.std.specs.Prelude.{◌≡◌, ◌+◌, ◌≤◌, ◌<◌, length};
+
+use gix_hash::{Kind, ObjectId};
+use std::alloc::{AllocFailed, Global};
+use thiserror::Error;
+
+/// The greatest number of a step, as in git.
+const MOST: u32 = 0x7FFF_FFFF;
+
+/// What tags, and a commit's tree, are followed to.
+#[derive(Clone, Copy, PartialEq, Eq, Debug)]
+pub enum Target {
+    /// `^{commit}`: the commit that tags lead to.
+    Commit,
+    /// `^{tree}`: the tree that tags lead to, or that of the commit that they lead to.
+    Tree,
+    /// `^{tag}`: the tag itself.
+    Tag,
+    /// `^{blob}`: the blob that tags lead to.
+    Blob,
+    /// `^{object}`: the object itself, of any kind.
+    Object,
+    /// `^{}`: the object that tags lead to and that is no tag.
+    Untagged,
+}
+
+/// What leads from one object to another.
+#[derive(Clone, Copy, Debug)]
+pub enum Step<'a> {
+    /// `^n`: the parent of this number, from 1 on, of the commit that tags lead to. The number 0 is the commit itself.
+    Parent(u32),
+    /// `~n`: so many times the first parent, from the commit that tags lead to.
+    Ancestor(u32),
+    /// `^{..}`: what tags lead to.
+    Peel(Target),
+    /// A name of a path: the entry of a tree that has it.
+    Entry(&'a str),
+}
+
+/// What the steps begin at.
+#[derive(Clone, Copy, Debug)]
+pub enum Base<'a> {
+    /// This id, whatever refs there are.
+    Id(ObjectId),
+    /// The name of a ref, or the first digits of an id.
+    Name(&'a str),
+}
+
+/// One object that is asked for: a name or an id, and the steps from there.
+#[derive(Drop, Debug)]
+pub struct Rev<'a> {
+    /// The text that it was written as.
+    pub text: &'a str,
+    /// What the steps begin at.
+    pub base: Base<'a>,
+    /// The steps, the first one first.
+    pub steps: Vec<Step<'a>>,
+    /// Whether a path is among them: `REV:path`.
+    pub has_path: bool,
+}
+
+/// What a word asks for.
+#[derive(Drop, Debug)]
+pub enum Revision<'a> {
+    /// `A`, or `^A` where it is hidden.
+    One {
+        /// The revision, without the `^`.
+        rev: Rev<'a>,
+        /// Whether what it reaches is left out.
+        is_hidden: bool,
+    },
+    /// `A..B`: what B reaches and A doesn't.
+    Range {
+        /// A, which is HEAD where nothing is written.
+        hidden: Rev<'a>,
+        /// B, which is HEAD where nothing is written.
+        tip: Rev<'a>,
+    },
+    /// `A...B`: what one of the two reaches, but not both.
+    Symmetric {
+        /// A, which is HEAD where nothing is written.
+        one: Rev<'a>,
+        /// B, which is HEAD where nothing is written.
+        other: Rev<'a>,
+    },
+}
+
+/// A form of revisions that git takes and that isn't taken here.
+#[derive(Clone, Copy, PartialEq, Eq, Debug, Error)]
+pub enum Form {
+    /// `REF@{..}`.
+    #[error("the log of a ref (`@{{..}}`)")]
+    Log,
+    /// `@{-n}`.
+    #[error("the branch that was checked out before (`@{{-n}}`)")]
+    Previous,
+    /// `BRANCH@{upstream}`, also `@{u}` and `@{push}`.
+    #[error("the upstream of a branch (`@{{upstream}}`)")]
+    Upstream,
+    /// `:/text` and `REV^{/text}`.
+    #[error("a search for a message (`:/text`)")]
+    Message,
+    /// `:path` and `:n:path`.
+    #[error("a path in the index (`:path`)")]
+    Index,
+    /// `REV:./path` and `REV:../path`.
+    #[error("a path from the current folder (`:./path`)")]
+    RelativePath,
+    /// `REV:path`, where a commit is wanted.
+    #[error("a path (`:path`) in place of a commit")]
+    Path,
+    /// `REV^@`.
+    #[error("all parents of a commit (`^@`)")]
+    Parents,
+    /// `REV^!`.
+    #[error("a commit without its parents (`^!`)")]
+    Alone,
+    /// `REV^-` and `REV^-n`.
+    #[error("a commit without one of its parents (`^-`)")]
+    WithoutParent,
+    /// Words with `*`, `?` or `[`.
+    #[error("a pattern")]
+    Pattern,
+    /// `v1-3-gabc`, as `git describe` writes it.
+    #[error("what `git describe` writes")]
+    Described,
+    /// `A..B` and `A...B`, where one tree is wanted.
+    #[error("a range in place of a tree")]
+    Range,
+}
+
+/// Why a word is no revision that is taken.
+#[derive(Clone, Copy, PartialEq, Eq, Debug, Error)]
+pub enum ParseFault {
+    /// The word is of this form.
+    #[error("{0} isn't taken")]
+    NotTaken(Form),
+    /// Nothing is in front of the steps.
+    #[error("it names nothing")]
+    Empty,
+    /// The word is `..`, which git takes for a folder.
+    #[error("`..` is the name of a folder")]
+    Dots,
+    /// The word is `^A..B` or `^A...B`.
+    #[error("`^` is in front of a range")]
+    HiddenRange,
+    /// What is behind a revision is none of `~n`, `^n`, `^{..}` and `:path`.
+    #[error("it has a step that isn't known")]
+    Step,
+    /// What is within `^{..}` is no kind of object.
+    #[error("it has a kind of object that isn't known")]
+    Kind,
+    /// A number is above 2,147,483,647.
+    #[error("it has a number above 2147483647")]
+    Number,
+    /// Memory ran out.
+    #[error("out of memory")]
+    Memory,
+}
+
+impl<T: Drop> From<AllocFailed<T>> for ParseFault {
+    fn from(_error: AllocFailed<T>) -> ParseFault {
+        ParseFault::Memory
+    }
+}
+
+/// What a word asks for, in a repository whose ids are of this kind. No ref and no object is looked at.
+///
+/// # Errors
+///
+/// The first [`ParseFault`] from the left.
+pub fn parse(alloc: Global, kind: Kind, word: &str) -> Result<Revision<'_>, ParseFault> {
+    if word == ".." {
+        return Err(ParseFault::Dots);
+    }
+    if let Some(text) = word.strip_prefix('^') {
+        if range_of(text).is_some() {
+            return Err(ParseFault::HiddenRange);
+        }
+        let rev = rev_of(alloc, kind, text)?;
+        let is_hidden = true;
+        return Ok(Revision::One { rev, is_hidden });
+    }
+    let Some((before, behind)) = range_of(word) else {
+        let rev = rev_of(alloc, kind, word)?;
+        let is_hidden = false;
+        return Ok(Revision::One { rev, is_hidden });
+    };
+    match behind.strip_prefix('.') {
+        Some(behind) => {
+            let one = rev_of(alloc, kind, or_head(before))?;
+            let other = rev_of(alloc, kind, or_head(behind))?;
+            Ok(Revision::Symmetric { one, other })
+        }
+        None => {
+            let hidden = rev_of(alloc, kind, or_head(before))?;
+            let tip = rev_of(alloc, kind, or_head(behind))?;
+            Ok(Revision::Range { hidden, tip })
+        }
+    }
+}
+
+/// What is before the first `..` and behind it. None where there is none, or a path is in front of it.
+fn range_of(word: &str) -> Option<(&str, &str)> {
+    let (before, behind) = word.split_once("..")?;
+    if before.contains(':') {
+        return None;
+    }
+    Some((before, behind))
+}
+
+/// A side of a range, which is HEAD where nothing is written.
+fn or_head(text: &str) -> &str {
+    if text.is_empty() { "HEAD" } else { text }
+}
+
+/// The revision that a text without `..` names.
+fn rev_of(alloc: Global, kind: Kind, text: &str) -> Result<Rev<'_>, ParseFault> {
+    let (name, mut rest) = parts_of(text);
+    let base = base_of(kind, name, rest)?;
+    let mut steps = Vec::new(alloc);
+    let mut has_path = false;
+    for _ in 0..=text.len() {
+        if rest.is_empty() {
+            break;
+        }
+        if let Some(path) = rest.strip_prefix(':') {
+            push_path(&mut steps, path)?;
+            has_path = true;
+            break;
+        }
+        let (step, behind) = step_at(rest)?;
+        steps.push(step)?;
+        rest = behind;
+    }
+    Ok(Rev {
+        text,
+        base,
+        steps,
+        has_path,
+    })
+}
+
+/// The text up to the first of `~`, `^`, `:` and `@{`, and the text from there on.
+fn parts_of(text: &str) -> (&str, &str) {
+    let bytes = text.as_bytes();
+    for at in 0..bytes.len() {
+        match bytes.get(at..).unwrap_or_default() {
+            [b'~' | b'^' | b':', ..] | [b'@', b'{', ..] => {
+                return text.split_at_checked(at).unwrap_or((text, ""));
+            }
+            _ => {}
+        }
+    }
+    (text, "")
+}
+
+/// What a name in front of the steps means.
+fn base_of<'a>(kind: Kind, name: &'a str, steps: &str) -> Result<Base<'a>, ParseFault> {
+    if let Some(inner) = steps.strip_prefix("@{") {
+        return Err(ParseFault::NotTaken(log_form(inner)));
+    }
+    if name.is_empty() {
+        return match steps.as_bytes() {
+            [b':', b'/', ..] => Err(ParseFault::NotTaken(Form::Message)),
+            [b':', _, ..] => Err(ParseFault::NotTaken(Form::Index)),
+            _ => Err(ParseFault::Empty),
+        };
+    }
+    if name == "@" {
+        return Ok(Base::Name("HEAD"));
+    }
+    for byte in name.as_bytes() {
+        if let b'*' | b'?' | b'[' = *byte {
+            return Err(ParseFault::NotTaken(Form::Pattern));
+        }
+    }
+    match ObjectId::from_digits(name.as_bytes(), kind) {
+        Some(id) => Ok(Base::Id(id)),
+        None => Ok(Base::Name(name)),
+    }
+}
+
+/// The form whose text behind `@{` this is.
+fn log_form(inner: &str) -> Form {
+    if inner.starts_with('-') {
+        return Form::Previous;
+    }
+    match inner.split_once('}') {
+        Some(("u" | "upstream" | "push", _)) => Form::Upstream,
+        _ => Form::Log,
+    }
+}
+
+/// The step at the front of a text that isn't empty, and the text behind it.
+fn step_at(text: &str) -> Result<(Step<'_>, &str), ParseFault> {
+    if let Some(behind) = text.strip_prefix('~') {
+        let (number, behind) = number_at(behind)?;
+        return Ok((Step::Ancestor(number.unwrap_or(1)), behind));
+    }
+    let Some(behind) = text.strip_prefix('^') else {
+        return Err(ParseFault::Step);
+    };
+    match behind.as_bytes() {
+        [b'{', b'/', ..] => Err(ParseFault::NotTaken(Form::Message)),
+        [b'@', ..] => Err(ParseFault::NotTaken(Form::Parents)),
+        [b'!', ..] => Err(ParseFault::NotTaken(Form::Alone)),
+        [b'-', ..] => Err(ParseFault::NotTaken(Form::WithoutParent)),
+        [b'{', ..] => peel_at(behind),
+        _ => {
+            let (number, behind) = number_at(behind)?;
+            Ok((Step::Parent(number.unwrap_or(1)), behind))
+        }
+    }
+}
+
+/// The step of a kind of object in braces, and the text behind it.
+fn peel_at(text: &str) -> Result<(Step<'_>, &str), ParseFault> {
+    let Some((kind, behind)) = text.split_once('}') else {
+        return Err(ParseFault::Step);
+    };
+    let target = match kind {
+        "{commit" => Target::Commit,
+        "{tree" => Target::Tree,
+        "{tag" => Target::Tag,
+        "{blob" => Target::Blob,
+        "{object" => Target::Object,
+        "{" => Target::Untagged,
+        _ => return Err(ParseFault::Kind),
+    };
+    Ok((Step::Peel(target), behind))
+}
+
+/// The number that decimal digits at the front say, if there are any, and the text behind them.
+fn number_at(text: &str) -> Result<(Option<u32>, &str), ParseFault> {
+    let mut count = 0usize;
+    for byte in text.as_bytes() {
+        if !byte.is_ascii_digit() {
+            break;
+        }
+        count = count.saturating_add(1);
+    }
+    let (digits, behind) = text.split_at_checked(count).unwrap_or(("", text));
+    if digits.is_empty() {
+        return Ok((None, behind));
+    }
+    match digits.parse::<u32>() {
+        Ok(number) => {
+            if number <= MOST {
+                Ok((Some(number), behind))
+            } else {
+                Err(ParseFault::Number)
+            }
+        }
+        Err(_) => Err(ParseFault::Number),
+    }
+}
+
+/// Adds the steps of a path: to the tree, and then to an entry for each name. The names are parted by `/`, and one may be at the end.
+fn push_path<'a>(steps: &mut Vec<Step<'a>>, path: &'a str) -> Result<(), ParseFault> {
+    if path.starts_with("./") || path.starts_with("../") {
+        return Err(ParseFault::NotTaken(Form::RelativePath));
+    }
+    steps.push(Step::Peel(Target::Tree))?;
+    let mut rest = path;
+    for _ in 0..=path.len() {
+        if rest.is_empty() {
+            break;
+        }
+        match rest.split_once('/') {
+            Some((name, behind)) => {
+                steps.push(Step::Entry(name))?;
+                rest = behind;
+            }
+            None => {
+                steps.push(Step::Entry(rest))?;
+                break;
+            }
+        }
+    }
+    Ok(())
+}
