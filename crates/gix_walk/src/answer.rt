@@ -1,0 +1,276 @@
+//! Answers to questions about a repository.
+use crate::chosen::{Chosen, choose};
+use crate::failure::Failure;
+use crate::graph::{check, rows, warn};
+use crate::progress::Progress;
+use crate::symmetric::common;
+use gix_commands::{Fault, run_stored};
+use gix_gather::{Gathering, Order};
+use gix_hash::hashtable::IdSet;
+use gix_options::{Name, Place, Question};
+use gix_parts::graph::Graph;
+use gix_parts::records::LentStore;
+use gix_repository::Repository;
+use std::io::Write;
+
+/// The status where `contains` found that some revisions aren't contained.
+const NOT_ALL_CONTAINED: u8 = 3;
+/// How many objects are read until it is said how many there are.
+const STEP: usize = 8192;
+/// How many commits are read at first, where the first lines are asked for, beside one for each line.
+const FIRST_COMMITS: usize = 1000;
+/// How often more are read, at the most: each time four times as many.
+const MOST_READINGS: u32 = 64;
+
+/// What a question is answered from.
+struct Asking<'a> {
+    rt: &'a HostRuntime,
+    question: &'a Question,
+    chosen: Chosen,
+    progress: Progress,
+}
+
+/// Answers a question, and gives the status.
+pub(crate) fn answer<W: Write>(
+    rt: &HostRuntime,
+    question: &Question,
+    output: &mut W,
+) -> Result<u8, Failure> {
+    let mut repository = match &question.place {
+        Place::Folder(folder) => Repository::discover(rt, folder.as_str())?,
+        Place::GitDir(folder) => Repository::open(rt, folder.as_str())?,
+    };
+    notice(rt, &mut repository)?;
+    if question.name == Name::CheckGraph {
+        check(rt, &mut repository, output)?;
+        return Ok(0);
+    }
+    let chosen = choose(rt, &mut repository, question)?;
+    if chosen.tips.is_empty() || question.name == Name::Contains && chosen.tips.len() < 2 {
+        return Ok(0);
+    }
+    let mut asking = Asking {
+        rt,
+        question,
+        chosen,
+        progress: Progress::new(rt),
+    };
+    let answered = match question.name {
+        Name::Files => asking.files(&mut repository, output),
+        _ => asking.commits(&mut repository, output),
+    };
+    match answered {
+        Err(Failure::Command(Fault::Missing(id))) if !repository.shallow().is_empty() => {
+            Err(Failure::Shallow(id))
+        }
+        Err(Failure::Command(Fault::Missing(id))) if repository.is_partial() => {
+            Err(Failure::Partial(id))
+        }
+        answered => answered,
+    }
+}
+
+/// Says what git would follow and the program doesn't.
+fn notice(rt: &HostRuntime, repository: &mut Repository<HostRuntime>) -> Result<(), Failure> {
+    if repository.has_grafts() {
+        let _ = eprintln!(rt; "gix_walk: info/grafts is ignored: a commit's parents are those that it names");
+    }
+    let count = repository.count_replacements()?;
+    if count > 0 {
+        let _ = eprintln!(rt; "gix_walk: replacements are ignored, of which there are {count}: each object is taken as it is stored");
+    }
+    Ok(())
+}
+
+impl Asking<'_> {
+    /// Reads all that is left.
+    fn read_all(
+        &mut self,
+        repository: &mut Repository<HostRuntime>,
+        gathering: &mut Gathering<'_>,
+    ) -> Result<(), Failure> {
+        for _ in 0..u64::MAX {
+            if gathering.read_more(&mut repository.odb, STEP)? {
+                break;
+            }
+            self.progress.show(self.rt, gathering.len());
+        }
+        self.progress.end(self.rt);
+        Ok(())
+    }
+
+    /// Lists the entries of a tree.
+    fn files<W: Write>(
+        &mut self,
+        repository: &mut Repository<HostRuntime>,
+        output: &mut W,
+    ) -> Result<u8, Failure> {
+        let alloc = self.rt.alloc();
+        let Some(root) = self.chosen.tips.as_slice().first() else {
+            return Ok(0);
+        };
+        let root = *root;
+        let mut gathering = Gathering::trees(alloc, &root)?;
+        self.read_all(repository, &mut gathering)?;
+        let words = self.chosen.words(alloc, self.question)?;
+        run_stored(alloc, words.as_slice(), &gathering.store(), None, output)?;
+        Ok(0)
+    }
+
+    /// Answers a question about commits, over the rows that may be used, or without rows where these are refused.
+    fn commits<W: Write>(
+        &mut self,
+        repository: &mut Repository<HostRuntime>,
+        output: &mut W,
+    ) -> Result<u8, Failure> {
+        let known = rows(self.rt, repository, &self.question.options)?;
+        let answered = match &known.graph {
+            Some(graph) => match self.over(repository, Some(graph), output) {
+                Err(Failure::Command(fault)) if is_refusal(&fault) => {
+                    warn(self.rt, &fault);
+                    self.over(repository, None, output)
+                }
+                answered => answered,
+            },
+            None => self.over(repository, None, output),
+        };
+        if known.is_unchecked && self.progress.is_long(self.rt) {
+            let rt = self.rt;
+            let _ = eprintln!(rt; "gix_walk: nobody has checked git's commit-graph; after check-graph such a question reads only the newest commits");
+        }
+        answered
+    }
+
+    /// Answers a question about commits over these rows.
+    fn over<W: Write>(
+        &mut self,
+        repository: &mut Repository<HostRuntime>,
+        graph: Option<&Graph>,
+        output: &mut W,
+    ) -> Result<u8, Failure> {
+        let alloc = self.rt.alloc();
+        let ids = self.chosen.all(alloc)?;
+        let order = match self.question.name {
+            Name::Newest => Order::NewestFirst,
+            Name::Oldest => Order::OldestFirst,
+            _ => Order::Met,
+        };
+        let limit = match self.limit() {
+            Some(limit) => limit,
+            None => {
+                let mut gathering =
+                    Gathering::commits(alloc, ids.as_slice(), Order::Met, graph, IdSet::new(alloc))?;
+                self.read_all(repository, &mut gathering)?;
+                return self.finish(&gathering.store(), graph, output);
+            }
+        };
+        let mut gathering =
+            Gathering::commits(alloc, ids.as_slice(), order, graph, IdSet::new(alloc))?;
+        self.first_lines(repository, &mut gathering, limit, graph, output)?;
+        Ok(0)
+    }
+
+    /// The number of lines that are asked for, where a part of the commits may be enough for these.
+    fn limit(&self) -> Option<usize> {
+        let is_by_one_step = match self.question.name {
+            Name::Breadth | Name::Newest | Name::Oldest => true,
+            _ => false,
+        };
+        if !is_by_one_step || !self.chosen.hidden.is_empty() || !self.chosen.pairs.is_empty() {
+            return None;
+        }
+        match &self.question.options.limit {
+            Some(digits) => digits.as_str().parse::<usize>().ok(),
+            None => None,
+        }
+    }
+
+    /// Lists the first commits from a part of the history, and from a larger one where the walk meets a commit that wasn't read yet.
+    fn first_lines<W: Write>(
+        &mut self,
+        repository: &mut Repository<HostRuntime>,
+        gathering: &mut Gathering<'_>,
+        limit: usize,
+        graph: Option<&Graph>,
+        output: &mut W,
+    ) -> Result<(), Failure> {
+        let alloc = self.rt.alloc();
+        let words = self.chosen.words(alloc, self.question)?;
+        let mut count = limit.saturating_add(FIRST_COMMITS);
+        for _ in 0..MOST_READINGS {
+            gathering.read_more(&mut repository.odb, count)?;
+            let mut lines = Vec::new(alloc);
+            let ended = run_stored(alloc, words.as_slice(), &gathering.store(), graph, &mut lines);
+            if let Err(Fault::Missing(id)) = &ended {
+                if gathering.waits(id) {
+                    self.progress.show(self.rt, gathering.len());
+                    count = gathering.len().saturating_mul(3);
+                    continue;
+                }
+            }
+            self.progress.end(self.rt);
+            write(output, lines.as_slice())?;
+            ended?;
+            return Ok(());
+        }
+        Err(Failure::Command(Fault::Internal))
+    }
+
+    /// Answers a question about commits from the objects that were read, and rows.
+    fn finish<W: Write>(
+        &mut self,
+        store: &LentStore<'_>,
+        graph: Option<&Graph>,
+        output: &mut W,
+    ) -> Result<u8, Failure> {
+        let alloc = self.rt.alloc();
+        let name = self.question.name;
+        if name != Name::Ahead {
+            for number in 0..self.chosen.pairs.len() {
+                let Some(pair) = self.chosen.pairs.as_slice().get(number) else {
+                    break;
+                };
+                let ids = common(alloc, *pair, store, graph)?;
+                self.chosen.hidden.extend_from_slice(ids.as_slice())?;
+            }
+        }
+        let words = self.chosen.words(alloc, self.question)?;
+        match name {
+            Name::Resolve => {
+                for word in words.iter().skip(1) {
+                    write(output, word.as_bytes())?;
+                    write(output, b"\n")?;
+                }
+                Ok(0)
+            }
+            Name::Contains => {
+                let mut lines = Vec::new(alloc);
+                run_stored(alloc, words.as_slice(), store, graph, &mut lines)?;
+                write(output, lines.as_slice())?;
+                let contained = lines.iter().filter(|byte| **byte == b'\n').count();
+                if contained.saturating_add(1) < self.chosen.tips.len() {
+                    Ok(NOT_ALL_CONTAINED)
+                } else {
+                    Ok(0)
+                }
+            }
+            _ => {
+                run_stored(alloc, words.as_slice(), store, graph, output)?;
+                Ok(0)
+            }
+        }
+    }
+}
+
+/// Writes bytes.
+fn write<W: Write>(output: &mut W, bytes: &[u8]) -> Result<(), Fault> {
+    match output.write_all(bytes) {
+        Ok(()) => Ok(()),
+        Err(_) => Err(Fault::Write),
+    }
+}
+
+/// Whether a fault says that rows can't be used. Nothing has been written then.
+fn is_refusal(fault: &Fault) -> bool {
+    matches!(fault, Fault::Graph(_) | Fault::Row(_) | Fault::Disagrees(_))
+}

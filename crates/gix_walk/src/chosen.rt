@@ -1,0 +1,209 @@
+//! The ids that revisions stand for.
+use crate::failure::Failure;
+use gix_hash::ObjectId;
+use gix_hash::hashtable::IdSet;
+use gix_object::Kind;
+use gix_options::{Asked, Misuse, Name, Question, read_lines};
+use gix_records::{READS, read_to_end};
+use gix_repository::Repository;
+use gix_revision::{Resolved, Set, resolve, resolve_all};
+use std::alloc::{AllocError, Global};
+
+/// Two commits of which each is asked for without what both reach.
+#[derive(Clone, Copy)]
+pub(crate) struct Pair {
+    /// The one.
+    pub one: ObjectId,
+    /// The other.
+    pub other: ObjectId,
+}
+
+/// The ids that revisions stand for, in the order in which they were given.
+#[derive(Drop)]
+pub(crate) struct Chosen {
+    /// Those to begin with. The two of a pair are among them.
+    pub tips: Vec<ObjectId>,
+    /// Those that are excluded.
+    pub hidden: Vec<ObjectId>,
+    /// Those of `A...B`.
+    pub pairs: Vec<Pair>,
+}
+
+/// Reads what the revisions of a question stand for.
+pub(crate) fn choose(
+    rt: &HostRuntime,
+    repository: &mut Repository<HostRuntime>,
+    question: &Question,
+) -> Result<Chosen, Failure> {
+    let mut resolved = Vec::new(rt.alloc());
+    let wanted = match question.name {
+        Name::Files => Kind::Tree,
+        _ => Kind::Commit,
+    };
+    for asked in question.asked.iter() {
+        match resolve_one(rt, repository, asked, wanted, &mut resolved) {
+            Ok(()) => {}
+            Err(Failure::Revision(gix_revision::Fault::Unknown(word))) => {
+                return if has_refs(repository)? {
+                    Err(Failure::Revision(gix_revision::Fault::Unknown(word)))
+                } else {
+                    Err(Failure::NoCommit)
+                };
+            }
+            Err(failure) => return Err(failure),
+        }
+    }
+    if question.options.is_verbose {
+        for one in resolved.iter() {
+            let _ = eprintln!(rt; "gix_walk: {one}");
+        }
+    }
+    let mut chosen = Chosen {
+        tips: Vec::new(rt.alloc()),
+        hidden: Vec::new(rt.alloc()),
+        pairs: Vec::new(rt.alloc()),
+    };
+    for one in resolved.iter() {
+        chosen.add(one)?;
+    }
+    check_number(question.name, &chosen)?;
+    Ok(chosen)
+}
+
+/// Whether there is a ref.
+fn has_refs(repository: &mut Repository<HostRuntime>) -> Result<bool, Failure> {
+    Ok(!repository.refs_below("refs/")?.is_empty())
+}
+
+/// Reads what a word of a question stands for.
+fn resolve_one(
+    rt: &HostRuntime,
+    repository: &mut Repository<HostRuntime>,
+    asked: &Asked,
+    wanted: Kind,
+    resolved: &mut Vec<Resolved>,
+) -> Result<(), Failure> {
+    let alloc = rt.alloc();
+    match asked {
+        Asked::Word(word) => resolve(alloc, repository, word.as_str(), wanted, resolved)?,
+        Asked::All => resolve_all(alloc, repository, Set::All, resolved)?,
+        Asked::Branches => resolve_all(alloc, repository, Set::Branches, resolved)?,
+        Asked::Tags => resolve_all(alloc, repository, Set::Tags, resolved)?,
+        Asked::Lines => {
+            let text = read_to_end(alloc, &mut rt.stdin(), READS)?;
+            let lines = read_lines(alloc, text.as_slice())?;
+            for line in lines.iter() {
+                resolve(alloc, repository, line.as_str(), wanted, resolved)?;
+            }
+        }
+    }
+    Ok(())
+}
+
+impl Chosen {
+    /// Adds what a revision stands for.
+    fn add(&mut self, resolved: &Resolved) -> Result<(), AllocError> {
+        match resolved.chosen {
+            gix_revision::Chosen::One { id, is_hidden } => {
+                if is_hidden {
+                    self.hidden.push(id)?;
+                } else {
+                    self.tips.push(id)?;
+                }
+            }
+            gix_revision::Chosen::Symmetric { one, other } => {
+                self.tips.push(one)?;
+                self.tips.push(other)?;
+                self.pairs.push(Pair { one, other })?;
+            }
+        }
+        Ok(())
+    }
+
+    /// All ids, of tips and others.
+    pub fn all(&self, alloc: Global) -> Result<Vec<ObjectId>, AllocError> {
+        let mut ids = Vec::new(alloc);
+        ids.extend_from_slice(self.tips.as_slice())?;
+        ids.extend_from_slice(self.hidden.as_slice())?;
+        Ok(ids)
+    }
+
+    /// The words of a command that asks for these ids, with the options of the question. Each tip comes once. For `topo` the last tip
+    /// comes first, since of tips of one second the walk begins with the last, and git with the first.
+    pub fn words(&self, alloc: Global, question: &Question) -> Result<Vec<String>, AllocError> {
+        let mut words = Vec::new(alloc);
+        words.push(String::from_str(alloc, question.name.word())?)?;
+        let options = &question.options;
+        if options.by_first_parents {
+            words.push(String::from_str(alloc, "--first-parent")?)?;
+        }
+        if let Some(seconds) = &options.since {
+            words.push(String::from_str(alloc, "--since")?)?;
+            words.push(seconds.clone()?)?;
+        }
+        if options.ends_in_zero {
+            words.push(String::from_str(alloc, "-z")?)?;
+        }
+        if let Some(limit) = &options.limit {
+            words.push(String::from_str(alloc, "-n")?)?;
+            words.push(limit.clone()?)?;
+        }
+        let mut tips = if question.name.is_list() {
+            once(alloc, self.tips.as_slice())?
+        } else {
+            Vec::from_slice(alloc, self.tips.as_slice())?
+        };
+        if question.name == Name::Topo {
+            tips.as_mut_slice().reverse();
+        }
+        for id in tips.iter() {
+            words.push(format!(in alloc; "{id}")?)?;
+        }
+        for id in self.hidden.iter() {
+            words.push(format!(in alloc; "^{id}")?)?;
+        }
+        Ok(words)
+    }
+}
+
+/// Each of the ids at its first place.
+fn once(alloc: Global, ids: &[ObjectId]) -> Result<Vec<ObjectId>, AllocError> {
+    let mut seen = IdSet::new(alloc);
+    let mut kept = Vec::new(alloc);
+    for id in ids {
+        if seen.insert(*id)? {
+            kept.push(*id)?;
+        }
+    }
+    Ok(kept)
+}
+
+/// Whether so many ids go with the command, now that it is known what each word stands for.
+fn check_number(name: Name, chosen: &Chosen) -> Result<(), Misuse> {
+    let tips = chosen.tips.len();
+    let are_tips = chosen.hidden.is_empty() && chosen.pairs.is_empty();
+    match name {
+        Name::Ahead => {
+            if tips == 2 && chosen.hidden.is_empty() {
+                Ok(())
+            } else {
+                Err(Misuse::Number(name.word(), 2))
+            }
+        }
+        Name::Files => {
+            if tips == 1 && are_tips {
+                Ok(())
+            } else {
+                Err(Misuse::Number(name.word(), 1))
+            }
+        }
+        Name::Contains => {
+            if are_tips {
+                Ok(())
+            } else {
+                Err(Misuse::Contains)
+            }
+        }
+        _ => Ok(()),
+    }
+}

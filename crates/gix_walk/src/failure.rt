@@ -1,0 +1,120 @@
+//! Why the program fails.
+use gix_commands::Fault;
+use gix_hash::ObjectId;
+use gix_options::Misuse;
+use std::alloc::{AllocError, AllocFailed};
+use thiserror::Error;
+
+/// Why the program failed.
+#[derive(Drop, Debug, Error)]
+pub(crate) enum Failure {
+    /// The arguments ask nothing of a repository.
+    #[error("{0}")]
+    Misuse(Misuse),
+    /// The command failed.
+    #[error("{0}")]
+    Command(Fault),
+    /// The file of this name, which is to be a layer of the commit-graph, can't be read.
+    #[error("commit-graph unreadable: {0}")]
+    Unreadable(String),
+    /// The folder of objects can't be opened.
+    #[error("{0}")]
+    Folder(gix_odb::Fault),
+    /// An object can't be read from its folder.
+    #[error("{0}")]
+    Object(gix_gather::Fault),
+    /// The input can't be read, or a record of it has another id than its object.
+    #[error("{0}")]
+    Records(gix_records::Error),
+    /// The repository can't be opened, or a file of it is damaged.
+    #[error("{0}")]
+    Repository(gix_repository::Fault),
+    /// A revision stands for nothing.
+    #[error("{0}")]
+    Revision(gix_revision::Fault),
+    /// The commit-graph can't be compared with the commits.
+    #[error("{0}")]
+    Graph(gix_graph_verify::Fault),
+    /// The repository has no commit.
+    #[error("no commit yet")]
+    NoCommit,
+    /// A shallow clone doesn't have this object.
+    #[error(
+        "missing {0}: the clone is shallow, and its history ends here. --border takes its border as the beginning, git fetch --unshallow fetches the rest"
+    )]
+    Shallow(ObjectId),
+    /// A partial clone doesn't have this object.
+    #[error(
+        "missing {0}: the clone is partial, and nothing is fetched here. git fetch --refetch --no-filter fetches what is missing"
+    )]
+    Partial(ObjectId),
+    /// The commit-graph differs from the commits, at so many places, which were named.
+    #[error("the commit-graph isn't right; git commit-graph write --reachable writes it anew")]
+    Differs,
+    /// There is no commit-graph that git would use.
+    #[error("git takes no commit-graph here")]
+    NoGraph,
+}
+
+impl From<Misuse> for Failure {
+    fn from(misuse: Misuse) -> Failure {
+        match misuse {
+            Misuse::Memory => Failure::Command(Fault::Memory),
+            misuse => Failure::Misuse(misuse),
+        }
+    }
+}
+
+impl From<Fault> for Failure {
+    fn from(fault: Fault) -> Failure {
+        Failure::Command(fault)
+    }
+}
+
+impl From<AllocError> for Failure {
+    fn from(_error: AllocError) -> Failure {
+        Failure::Command(Fault::Memory)
+    }
+}
+
+impl<T: Drop> From<AllocFailed<T>> for Failure {
+    fn from(_error: AllocFailed<T>) -> Failure {
+        Failure::Command(Fault::Memory)
+    }
+}
+
+impl From<gix_odb::Fault> for Failure {
+    fn from(fault: gix_odb::Fault) -> Failure {
+        Failure::Folder(fault)
+    }
+}
+
+impl From<gix_gather::Fault> for Failure {
+    fn from(fault: gix_gather::Fault) -> Failure {
+        Failure::Object(fault)
+    }
+}
+
+impl From<gix_records::Error> for Failure {
+    fn from(error: gix_records::Error) -> Failure {
+        Failure::Records(error)
+    }
+}
+
+impl From<gix_repository::Fault> for Failure {
+    fn from(fault: gix_repository::Fault) -> Failure {
+        Failure::Repository(fault)
+    }
+}
+
+impl From<gix_revision::Fault> for Failure {
+    fn from(fault: gix_revision::Fault) -> Failure {
+        Failure::Revision(fault)
+    }
+}
+
+impl From<gix_graph_verify::Fault> for Failure {
+    fn from(fault: gix_graph_verify::Fault) -> Failure {
+        Failure::Graph(fault)
+    }
+}

@@ -1,0 +1,233 @@
+//! Which rows a question may use in place of commits.
+use crate::failure::Failure;
+use gix_commands::Fault;
+use gix_graph_check::read_whole;
+use gix_graph_file::{ChainError, graph_of_chain};
+use gix_graph_verify::{Found, KeepFault, Layer, Objects, count_passed, has_passed, keep, read_layers, verify};
+use gix_hash::ObjectId;
+use gix_object::Kind;
+use gix_object::commit::CommitRefIter;
+use gix_odb::Odb;
+use gix_options::{Options, Rows};
+use gix_parts::graph::{Graph, ParentPlaces, Row};
+use gix_repository::Repository;
+use std::env;
+use std::io::Write;
+
+/// The generation of a row that has no parents.
+const FIRST_GENERATION: u32 = 1;
+
+/// The rows of a question.
+#[derive(Drop)]
+pub(crate) struct Known {
+    /// The rows, if there are any that may be used.
+    pub graph: Option<Graph>,
+    /// Whether git's commit-graph lies there, and nobody has checked it.
+    pub is_unchecked: bool,
+}
+
+/// No rows.
+fn nothing() -> Known {
+    Known {
+        graph: None,
+        is_unchecked: false,
+    }
+}
+
+/// The rows that a question may use: those of the border, those of git's commit-graph where it was checked or is trusted, or none.
+pub(crate) fn rows(
+    rt: &HostRuntime,
+    repository: &mut Repository<HostRuntime>,
+    options: &Options,
+) -> Result<Known, Failure> {
+    if options.takes_border {
+        return Ok(Known {
+            graph: border(rt, repository)?,
+            is_unchecked: false,
+        });
+    }
+    if options.rows == Rows::Unused {
+        return Ok(nothing());
+    }
+    let paths = repository.graph_layers()?;
+    if paths.is_empty() {
+        return Ok(nothing());
+    }
+    let cache = cache_folder(rt)?;
+    if options.rows == Rows::Checked && !have_passed(rt, cache.as_ref(), paths.as_slice()) {
+        return Ok(Known {
+            graph: None,
+            is_unchecked: true,
+        });
+    }
+    let layers = match read_layers(rt, folder_of(cache.as_ref()), paths.as_slice()) {
+        Ok(layers) => layers,
+        Err(fault) => {
+            let _ = eprintln!(rt; "gix_walk: {fault}, so all commits are read themselves");
+            return Ok(nothing());
+        }
+    };
+    if options.rows == Rows::Checked && count_passed(layers.as_slice()) < layers.len() {
+        return Ok(Known {
+            graph: None,
+            is_unchecked: true,
+        });
+    }
+    let files = lend(rt, layers.as_slice())?;
+    match graph_of_chain(rt.alloc(), files.as_slice()) {
+        Ok(graph) => Ok(Known {
+            graph: Some(graph),
+            is_unchecked: false,
+        }),
+        Err(ChainError::Memory) => Err(Failure::Command(Fault::Memory)),
+        Err(error) => {
+            warn(rt, &Fault::Graph(error));
+            Ok(nothing())
+        }
+    }
+}
+
+/// Says that the rows aren't used, and why.
+pub(crate) fn warn(rt: &HostRuntime, fault: &Fault) {
+    let _ = eprintln!(rt; "gix_walk: {fault}, so all commits are read themselves");
+}
+
+/// Whether all files have passed, as far as the system says without reading them.
+fn have_passed(rt: &HostRuntime, cache: Option<&String>, paths: &[String]) -> bool {
+    let Some(cache) = cache else {
+        return false;
+    };
+    for path in paths {
+        if !has_passed(rt, cache.as_str(), path.as_str()) {
+            return false;
+        }
+    }
+    true
+}
+
+/// The path as text.
+fn folder_of(cache: Option<&String>) -> Option<&str> {
+    match cache {
+        Some(cache) => Some(cache.as_str()),
+        None => None,
+    }
+}
+
+/// The bytes of the files.
+fn lend<'a>(rt: &HostRuntime, layers: &'a [Layer]) -> Result<Vec<&'a [u8]>, Failure> {
+    let mut files = Vec::new(rt.alloc());
+    for layer in layers {
+        files.push(layer.bytes.as_slice())?;
+    }
+    Ok(files)
+}
+
+/// The folder in which it is kept which files have passed, of the user, if the environment names one.
+fn cache_folder(rt: &HostRuntime) -> Result<Option<String>, Failure> {
+    if let Ok(folder) = env::var(rt, "XDG_CACHE_HOME") {
+        if folder.starts_with("/") {
+            return Ok(Some(below(folder, "/kestrelrack")?));
+        }
+    }
+    match env::var(rt, "HOME") {
+        Ok(folder) if folder.starts_with("/") => Ok(Some(below(folder, "/.cache/kestrelrack")?)),
+        _ => Ok(None),
+    }
+}
+
+/// The path with this end.
+fn below(folder: String, end: &str) -> Result<String, Failure> {
+    let mut path = folder;
+    path.push_str(end)?;
+    Ok(path)
+}
+
+/// Rows without parents for the commits at the border of a shallow clone, and None where the clone isn't shallow.
+fn border(
+    rt: &HostRuntime,
+    repository: &mut Repository<HostRuntime>,
+) -> Result<Option<Graph>, Failure> {
+    let alloc = rt.alloc();
+    let mut ids = Vec::new(alloc);
+    ids.extend_from_slice(repository.shallow())?;
+    let mut rows = Vec::new(alloc);
+    let mut text = Vec::new(alloc);
+    for id in ids.iter() {
+        if let Some(row) = border_row(rt, &mut repository.odb, *id, &mut text)? {
+            rows.push(row)?;
+        }
+    }
+    if rows.is_empty() {
+        return Ok(None);
+    }
+    match Graph::new(alloc, rows) {
+        Ok(graph) => Ok(Some(graph)),
+        Err(_) => Err(Failure::Command(Fault::Memory)),
+    }
+}
+
+/// The row of a commit at the border, and None where there is no such commit.
+fn border_row(
+    rt: &HostRuntime,
+    odb: &mut Odb<HostRuntime>,
+    id: ObjectId,
+    text: &mut Vec<u8>,
+) -> Result<Option<Row>, Failure> {
+    if gix_gather::read_named(odb, &id, text)? != Some(Kind::Commit) {
+        return Ok(None);
+    }
+    let items = CommitRefIter::from_bytes(text.as_slice(), id.kind());
+    let Some(commit) = read_whole(rt.alloc(), items)? else {
+        return Ok(None);
+    };
+    Ok(Some(Row {
+        id,
+        tree: commit.tree,
+        parents: ParentPlaces::new(rt.alloc()),
+        generation: FIRST_GENERATION,
+        time: commit.time,
+    }))
+}
+
+/// The commits of a repository, each compared with its id.
+struct Commits<'a> {
+    odb: &'a mut Odb<HostRuntime>,
+}
+
+/// Compares git's commit-graph with the commits, and keeps for each file that it is right. Writes what it found.
+pub(crate) fn check<W: Write>(
+    rt: &HostRuntime,
+    repository: &mut Repository<HostRuntime>,
+    writer: &mut W,
+) -> Result<(), Failure> {
+    let paths = repository.graph_layers()?;
+    if paths.is_empty() {
+        return Err(Failure::NoGraph);
+    }
+    let cache = cache_folder(rt)?;
+    let layers = read_layers(rt, folder_of(cache.as_ref()), paths.as_slice())?;
+    let files = lend(rt, layers.as_slice())?;
+    let passed = count_passed(layers.as_slice());
+    let mut commits = Commits {
+        odb: &mut repository.odb,
+    };
+    let report = verify(rt.alloc(), files.as_slice(), passed, &mut commits)?;
+    for difference in report.differences.iter() {
+        let _ = eprintln!(rt; "gix_walk: {difference}");
+    }
+    if !report.differences.is_empty() {
+        return Err(Failure::Differs);
+    }
+    if let Some(cache) = &cache {
+        for layer in layers.iter() {
+            let kept = keep(rt, cache.as_str(), layer.path.as_str(), layer.bytes.as_slice());
+            if let Err(fault) = kept {
+                let _ = eprintln!(rt; "gix_walk: it isn't kept that the file is right: {fault}");
+            }
+        }
+    }
+    match writeln!(writer, "the commit-graph agrees with the repository: {} commits have a row", report.rows) {
+        Ok(()) => Ok(()),
+        Err(_) => Err(Failure::Command(Fault::Write)),
+    }
+}
