@@ -23,6 +23,7 @@ const FIRST_COMMITS: usize = 1000;
 const MOST_READINGS: u32 = 64;
 
 /// What a question is answered from.
+#[derive(Drop)]
 struct Asking<'a> {
     rt: &'a HostRuntime,
     question: &'a Question,
@@ -73,11 +74,15 @@ pub(crate) fn answer<W: Write>(
 /// Says what git would follow and the program doesn't.
 fn notice(rt: &HostRuntime, repository: &mut Repository<HostRuntime>) -> Result<(), Failure> {
     if repository.has_grafts() {
-        let _ = eprintln!(rt; "gix_walk: info/grafts is ignored: a commit's parents are those that it names");
+        let _ = eprintln!(rt;
+            "gix_walk: info/grafts is ignored: a commit's parents are those that it names"
+        );
     }
     let count = repository.count_replacements()?;
     if count > 0 {
-        let _ = eprintln!(rt; "gix_walk: replacements are ignored, of which there are {count}: each object is taken as it is stored");
+        let _ = eprintln!(rt;
+            "gix_walk: replacements are ignored, of which there are {count}: each object is taken as it is stored"
+        );
     }
     Ok(())
 }
@@ -87,10 +92,11 @@ impl Asking<'_> {
     fn read_all(
         &mut self,
         repository: &mut Repository<HostRuntime>,
-        gathering: &mut Gathering<'_>,
+        gathering: &mut Gathering,
+        graph: Option<&Graph>,
     ) -> Result<(), Failure> {
         for _ in 0..u64::MAX {
-            if gathering.read_more(&mut repository.odb, STEP)? {
+            if gathering.read_more(&mut repository.odb, graph, STEP)? {
                 break;
             }
             self.progress.show(self.rt, gathering.len());
@@ -111,7 +117,7 @@ impl Asking<'_> {
         };
         let root = *root;
         let mut gathering = Gathering::trees(alloc, &root)?;
-        self.read_all(repository, &mut gathering)?;
+        self.read_all(repository, &mut gathering, None)?;
         let words = self.chosen.words(alloc, self.question)?;
         run_stored(alloc, words.as_slice(), &gathering.store(), None, output)?;
         Ok(0)
@@ -136,7 +142,9 @@ impl Asking<'_> {
         };
         if known.is_unchecked && self.progress.is_long(self.rt) {
             let rt = self.rt;
-            let _ = eprintln!(rt; "gix_walk: nobody has checked git's commit-graph; after check-graph such a question reads only the newest commits");
+            let _ = eprintln!(rt;
+                "gix_walk: nobody has checked git's commit-graph; after check-graph such a question reads only the newest commits"
+            );
         }
         answered
     }
@@ -158,14 +166,17 @@ impl Asking<'_> {
         let limit = match self.limit() {
             Some(limit) => limit,
             None => {
-                let mut gathering =
-                    Gathering::commits(alloc, ids.as_slice(), Order::Met, graph, IdSet::new(alloc))?;
-                self.read_all(repository, &mut gathering)?;
+                let mut gathering = Gathering::commits(
+                    alloc,
+                    ids.as_slice(),
+                    Order::Met,
+                    IdSet::new(alloc),
+                )?;
+                self.read_all(repository, &mut gathering, graph)?;
                 return self.finish(&gathering.store(), graph, output);
             }
         };
-        let mut gathering =
-            Gathering::commits(alloc, ids.as_slice(), order, graph, IdSet::new(alloc))?;
+        let mut gathering = Gathering::commits(alloc, ids.as_slice(), order, IdSet::new(alloc))?;
         self.first_lines(repository, &mut gathering, limit, graph, output)?;
         Ok(0)
     }
@@ -189,7 +200,7 @@ impl Asking<'_> {
     fn first_lines<W: Write>(
         &mut self,
         repository: &mut Repository<HostRuntime>,
-        gathering: &mut Gathering<'_>,
+        gathering: &mut Gathering,
         limit: usize,
         graph: Option<&Graph>,
         output: &mut W,
@@ -198,9 +209,15 @@ impl Asking<'_> {
         let words = self.chosen.words(alloc, self.question)?;
         let mut count = limit.saturating_add(FIRST_COMMITS);
         for _ in 0..MOST_READINGS {
-            gathering.read_more(&mut repository.odb, count)?;
+            gathering.read_more(&mut repository.odb, graph, count)?;
             let mut lines = Vec::new(alloc);
-            let ended = run_stored(alloc, words.as_slice(), &gathering.store(), graph, &mut lines);
+            let ended = run_stored(
+                alloc,
+                words.as_slice(),
+                &gathering.store(),
+                graph,
+                &mut lines,
+            );
             if let Err(Fault::Missing(id)) = &ended {
                 if gathering.waits(id) {
                     self.progress.show(self.rt, gathering.len());

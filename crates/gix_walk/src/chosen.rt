@@ -55,7 +55,7 @@ pub(crate) fn choose(
     }
     if question.options.is_verbose {
         for one in resolved.iter() {
-            let _ = eprintln!(rt; "gix_walk: {one}");
+            say(rt, one);
         }
     }
     let mut chosen = Chosen {
@@ -68,6 +68,20 @@ pub(crate) fn choose(
     }
     check_number(question.name, &chosen)?;
     Ok(chosen)
+}
+
+/// Says what a revision stands for.
+fn say(rt: &HostRuntime, resolved: &Resolved) {
+    let word = resolved.word.as_str();
+    let _ = match resolved.chosen {
+        gix_revision::Chosen::One { id, is_hidden } => {
+            let mark = if is_hidden { "^" } else { "" };
+            eprintln!(rt; "gix_walk: {mark}{word:?} is {id}")
+        }
+        gix_revision::Chosen::Symmetric { one, other } => {
+            eprintln!(rt; "gix_walk: {word:?} is {one}, with {other} behind ...")
+        }
+    };
 }
 
 /// Whether there is a ref.

@@ -34,19 +34,18 @@ pub(crate) enum Failure {
     Revision(gix_revision::Fault),
     /// The commit-graph can't be compared with the commits.
     #[error("{0}")]
-    Graph(gix_graph_verify::Fault),
+    Graph(gix_graph_verify::Fault<gix_gather::Fault>),
+    /// A file of the commit-graph can't be read.
+    #[error("{0}")]
+    Layer(gix_graph_verify::LayerFault),
     /// The repository has no commit.
     #[error("no commit yet")]
     NoCommit,
     /// A shallow clone doesn't have this object.
-    #[error(
-        "missing {0}: the clone is shallow, and its history ends here. --border takes its border as the beginning, git fetch --unshallow fetches the rest"
-    )]
+    #[error("missing {0}: the clone is shallow, and its history ends here. --border takes its border as the beginning, git fetch --unshallow fetches the rest")]
     Shallow(ObjectId),
     /// A partial clone doesn't have this object.
-    #[error(
-        "missing {0}: the clone is partial, and nothing is fetched here. git fetch --refetch --no-filter fetches what is missing"
-    )]
+    #[error("missing {0}: the clone is partial, and nothing is fetched here. git fetch --refetch --no-filter fetches what is missing")]
     Partial(ObjectId),
     /// The commit-graph differs from the commits, at so many places, which were named.
     #[error("the commit-graph isn't right; git commit-graph write --reachable writes it anew")]
@@ -113,8 +112,14 @@ impl From<gix_revision::Fault> for Failure {
     }
 }
 
-impl From<gix_graph_verify::Fault> for Failure {
-    fn from(fault: gix_graph_verify::Fault) -> Failure {
+impl From<gix_graph_verify::Fault<gix_gather::Fault>> for Failure {
+    fn from(fault: gix_graph_verify::Fault<gix_gather::Fault>) -> Failure {
         Failure::Graph(fault)
+    }
+}
+
+impl From<gix_graph_verify::LayerFault> for Failure {
+    fn from(fault: gix_graph_verify::LayerFault) -> Failure {
+        Failure::Layer(fault)
     }
 }

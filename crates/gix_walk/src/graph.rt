@@ -1,9 +1,12 @@
 //! Which rows a question may use in place of commits.
 use crate::failure::Failure;
 use gix_commands::Fault;
+use gix_gather::read_named;
 use gix_graph_check::read_whole;
 use gix_graph_file::{ChainError, graph_of_chain};
-use gix_graph_verify::{Found, KeepFault, Layer, Objects, count_passed, has_passed, keep, read_layers, verify};
+use gix_graph_verify::{
+    Found, KeepFault, Layer, Objects, count_passed, has_passed, keep, read_layers, verify,
+};
 use gix_hash::ObjectId;
 use gix_object::Kind;
 use gix_object::commit::CommitRefIter;
@@ -173,7 +176,7 @@ fn border_row(
     id: ObjectId,
     text: &mut Vec<u8>,
 ) -> Result<Option<Row>, Failure> {
-    if gix_gather::read_named(odb, &id, text)? != Some(Kind::Commit) {
+    if read_named(odb, &id, text)? != Some(Kind::Commit) {
         return Ok(None);
     }
     let items = CommitRefIter::from_bytes(text.as_slice(), id.kind());
@@ -190,8 +193,22 @@ fn border_row(
 }
 
 /// The commits of a repository, each compared with its id.
+#[derive(Drop)]
 struct Commits<'a> {
     odb: &'a mut Odb<HostRuntime>,
+}
+
+impl Objects for Commits<'_> {
+    type Fault = gix_gather::Fault;
+
+    fn read(&mut self, id: &ObjectId, buf: &mut Vec<u8>) -> Result<Found, gix_gather::Fault> {
+        match read_named(self.odb, id, buf) {
+            Ok(Some(kind)) => Ok(Found::Named(kind)),
+            Ok(None) => Ok(Found::Missing),
+            Err(gix_gather::Fault::Name(_)) => Ok(Found::Misnamed),
+            Err(fault) => Err(fault),
+        }
+    }
 }
 
 /// Compares git's commit-graph with the commits, and keeps for each file that it is right. Writes what it found.
@@ -220,13 +237,22 @@ pub(crate) fn check<W: Write>(
     }
     if let Some(cache) = &cache {
         for layer in layers.iter() {
-            let kept = keep(rt, cache.as_str(), layer.path.as_str(), layer.bytes.as_slice());
+            let kept = keep(
+                rt,
+                cache.as_str(),
+                layer.path.as_str(),
+                layer.bytes.as_slice(),
+            );
             if let Err(fault) = kept {
                 let _ = eprintln!(rt; "gix_walk: it isn't kept that the file is right: {fault}");
             }
         }
     }
-    match writeln!(writer, "the commit-graph agrees with the repository: {} commits have a row", report.rows) {
+    match writeln!(
+        writer,
+        "the commit-graph agrees with the repository: {} commits have a row",
+        report.rows
+    ) {
         Ok(()) => Ok(()),
         Err(_) => Err(Failure::Command(Fault::Write)),
     }

@@ -1,8 +1,6 @@
 //! The help, and which program this is.
 use gix_options::{COMMANDS, Command, NOTES, Name, USAGE, WHAT, help_of};
-use std::env;
-use std::fs;
-use std::io;
+use std::{env, fs, io};
 
 /// Writes the help of a command, or all of it.
 pub(crate) fn write_help(rt: &HostRuntime, name: Option<Name>) -> io::Result<()> {

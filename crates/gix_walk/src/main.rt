@@ -9,7 +9,6 @@ mod graph;
 mod help;
 mod output;
 mod progress;
-mod reading;
 mod records;
 mod symmetric;
 
@@ -65,10 +64,14 @@ fn fault_of_arguments(rt: &HostRuntime, error: &io::Error) -> Failure {
     }
     let mut first = [0u8; 16];
     match rt.arg(1, &mut first) {
-        Ok(len) => match first.get(..len) {
-            Some(b"-C" | b"--git-dir") => Failure::Misuse(Misuse::Arguments),
-            _ => Failure::Command(Fault::Usage),
-        },
+        Ok(len) => {
+            let first = first.get(..len).unwrap_or_default();
+            if first == b"-C".as_slice() || first == b"--git-dir".as_slice() {
+                Failure::Misuse(Misuse::Arguments)
+            } else {
+                Failure::Command(Fault::Usage)
+            }
+        }
         Err(_) => Failure::Command(Fault::Usage),
     }
 }

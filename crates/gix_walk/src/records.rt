@@ -4,7 +4,7 @@ use gix_commands::{Fault, run, run_in, run_over, run_stored, write_heads};
 use gix_gather::{commits, trees};
 use gix_hash::ObjectId;
 use gix_odb::Odb;
-use gix_records::{READS, check_names, read_to_end};
+use gix_records::{NamedObjects, READS, check_names, read_to_end};
 use gix_words::{Command, read_command};
 use std::fs;
 use std::io::{ErrorKind, Read, Write};
@@ -62,7 +62,7 @@ fn gather(rt: &HostRuntime, folder: &str, ids: &[ObjectId]) -> Result<NamedObjec
         return Err(Failure::Command(Fault::Usage));
     };
     let mut odb = Odb::open(rt, folder, first.kind())?;
-    Ok(commits(rt.alloc(), &mut odb, ids)?)
+    Ok(commits(rt.alloc(), &mut odb, ids, None)?)
 }
 
 /// Runs the command over the records of standard input, and the layers of a commit-graph that options name.

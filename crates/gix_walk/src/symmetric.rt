@@ -20,8 +20,24 @@ pub(crate) fn common(
 ) -> Result<Vec<ObjectId>, Failure> {
     let mut only = IdSet::new(alloc);
     let mut parents = Vec::new(alloc);
-    add_only(alloc, pair.one, pair.other, store, graph, &mut only, &mut parents)?;
-    add_only(alloc, pair.other, pair.one, store, graph, &mut only, &mut parents)?;
+    add_only(
+        alloc,
+        pair.one,
+        pair.other,
+        store,
+        graph,
+        &mut only,
+        &mut parents,
+    )?;
+    add_only(
+        alloc,
+        pair.other,
+        pair.one,
+        store,
+        graph,
+        &mut only,
+        &mut parents,
+    )?;
     parents.push(pair.one)?;
     parents.push(pair.other)?;
     let mut common = Vec::new(alloc);
