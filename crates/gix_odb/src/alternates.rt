@@ -2,10 +2,9 @@
 ghost use Rattle.std.specs.Prelude.{◌≡◌, ◌+◌, ◌≤◌, ◌<◌, length};
 
 use crate::fault::{Damage, Fault, fault_of};
-use crate::files;
+use gix_files::{read, real_folder};
 use std::alloc::Global;
-use std::fs::{self, Files};
-use std::io::ErrorKind;
+use std::fs::Files;
 use std::os::unix::fs::FileExt;
 use std::str;
 
@@ -35,7 +34,7 @@ where
     let path = match real_folder(rt, objects) {
         Ok(Some(path)) => path,
         Ok(None) => return Err(fault_of(String::from_str(alloc, objects)?, Damage::NotAFolder)),
-        Err(damage) => return Err(fault_of(String::from_str(alloc, objects)?, damage)),
+        Err(damage) => return Err(fault_of(String::from_str(alloc, objects)?, damage.into())),
     };
     folders.push(Folder { path, level: 0 })?;
     for number in 0..MOST_FOLDERS {
@@ -45,26 +44,6 @@ where
         add_alternates(rt, &mut folders, number)?;
     }
     Ok(folders)
-}
-
-/// The one path of a folder, and None where there is no folder.
-fn real_folder<R: Files + AllocGlobal>(rt: &R, path: &str) -> Result<Option<String>, Damage> {
-    if !files::is_folder(rt, path)? {
-        return Ok(None);
-    }
-    let real = match fs::canonicalize(rt, path) {
-        Ok(real) => real,
-        Err(error) => {
-            return match error.kind() {
-                ErrorKind::OutOfMemory => Err(Damage::Memory),
-                _ => Ok(None),
-            };
-        }
-    };
-    match real.as_path().to_str() {
-        Some(text) => Ok(Some(String::from_str(rt.alloc(), text)?)),
-        None => Ok(None),
-    }
 }
 
 /// Adds the folders that the folder of this number borrows from.
@@ -87,9 +66,9 @@ where
     let mut file = from.clone()?;
     file.push_str("/info/alternates")?;
     let mut text = Vec::new(rt.alloc());
-    match files::read(rt, file.as_str(), MOST_BYTES, &mut text) {
+    match read(rt, file.as_str(), MOST_BYTES, &mut text) {
         Ok(_) => {}
-        Err(damage) => return Err(fault_of(file, damage)),
+        Err(damage) => return Err(fault_of(file, damage.into())),
     }
     match add_lines(rt, folders, from.as_str(), level, text.as_slice()) {
         Ok(()) => Ok(()),

@@ -77,6 +77,17 @@ pub enum Damage {
     Memory,
 }
 
+impl From<gix_files::Damage> for Damage {
+    fn from(damage: gix_files::Damage) -> Damage {
+        match damage {
+            gix_files::Damage::NotAFile => Damage::NotAFile,
+            gix_files::Damage::FileTooLarge(len) => Damage::FileTooLarge(len),
+            gix_files::Damage::Memory => Damage::Memory,
+            _ => Damage::Unreadable,
+        }
+    }
+}
+
 impl From<AllocError> for Damage {
     fn from(_error: AllocError) -> Damage {
         Damage::Memory

@@ -9,7 +9,6 @@ ghost use Rattle.std.specs.Prelude.{◌≡◌, ◌+◌, ◌≤◌, ◌<◌, leng
 mod alternates;
 mod bases;
 mod fault;
-mod files;
 mod listing;
 mod loose;
 mod packs;
@@ -387,7 +386,7 @@ where
             return Ok(None);
         };
         let path = loose::path_of(self.rt.alloc(), folder.path.as_str(), id)?;
-        if !files::read(&self.rt, path.as_str(), MOST_LOOSE, &mut self.work.stream)? {
+        if !gix_files::read(&self.rt, path.as_str(), MOST_LOOSE, &mut self.work.stream)? {
             return Ok(None);
         }
         Ok(Some(loose::read_file(&mut self.work)?))

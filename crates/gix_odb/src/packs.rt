@@ -3,9 +3,9 @@ ghost use Rattle.std.specs.Prelude.{◌≡◌, ◌+◌, ◌≤◌, ◌<◌, leng
 
 use crate::bases::Place;
 use crate::fault::Damage;
-use crate::files::{self, Opened};
 use crate::short::Beginning;
 use crate::work::{MOST_OBJECT, Work, most_of};
+use gix_files::{Opened, fill, is_there, open, read};
 use gix_hash::{Kind, ObjectId};
 use gix_inflate::{Fault as StreamFault, inflate};
 use gix_pack::{Base, HEAD, Index, count_of, entry_at};
@@ -168,7 +168,7 @@ impl<F: FileExt + Drop> Pack<F> {
             return Err(Damage::Unreadable);
         };
         let path = ended(rt, self.stem.as_str(), ".pack")?;
-        let Some(opened) = files::open(rt, path.as_str())? else {
+        let Some(opened) = open(rt, path.as_str())? else {
             return Err(Damage::Unreadable);
         };
         check(&opened, index, kind)?;
@@ -256,7 +256,7 @@ fn read_part<F: FileExt + Drop>(
     let Some(stream) = work.stream.as_mut_slice().get_mut(..count) else {
         return Err(Damage::Memory);
     };
-    files::fill(&opened.file, stream, at)
+    Ok(fill(&opened.file, stream, at)?)
 }
 
 /// The path with this ending.
@@ -288,12 +288,12 @@ where
     R::File: FileExt,
 {
     let pack = ended(rt, stem, ".pack")?;
-    if !files::is_there(rt, pack.as_str())? {
+    if !is_there(rt, pack.as_str())? {
         return Ok(None);
     }
     let path = ended(rt, stem, ".idx")?;
     let mut bytes = Vec::new(rt.alloc());
-    if !files::read(rt, path.as_str(), MOST_INDEX, &mut bytes)? {
+    if !read(rt, path.as_str(), MOST_INDEX, &mut bytes)? {
         return Ok(None);
     }
     match Index::new(kind, bytes) {
@@ -305,7 +305,7 @@ where
 /// Whether a pack is the one of its index: both say as many objects, and the hash at the pack's end.
 fn check<F: FileExt + Drop>(opened: &Opened<F>, index: &Index, kind: Kind) -> Result<(), Damage> {
     let mut head = [0u8; HEAD];
-    let got = files::fill(&opened.file, &mut head, 0)?;
+    let got = fill(&opened.file, &mut head, 0)?;
     let count = match count_of(head.get(..got).unwrap_or_default()) {
         Ok(count) => count,
         Err(fault) => return Err(Damage::Head(fault)),
@@ -313,7 +313,7 @@ fn check<F: FileExt + Drop>(opened: &Opened<F>, index: &Index, kind: Kind) -> Re
     let mut hash = [0u8; 32];
     let size = kind.len_in_bytes();
     let hash = &mut hash[..size];
-    let got = files::fill(&opened.file, hash, opened.len.saturating_sub(size as u64))?;
+    let got = fill(&opened.file, hash, opened.len.saturating_sub(size as u64))?;
     let hash = hash.get(..got).unwrap_or_default();
     if count != index.len() || hash != index.pack_hash() {
         return Err(Damage::OtherPack);

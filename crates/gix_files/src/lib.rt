@@ -1,14 +1,21 @@
-//! Reading of files, whose bytes may be any.
+//! Reading of files and folders that anybody may have written: no more bytes than a bound, and nothing of a device, which might never end.
+#![tactic(auto)]
+
 ghost use Rattle.std.specs.Prelude.{◌≡◌, ◌+◌, ◌≤◌, ◌<◌, length, IfOk};
 
-use crate::fault::Damage;
+mod damage;
+mod folders;
+
+pub use damage::Damage;
+use damage::absent;
+pub use folders::{Entry, entry_of, is_folder, is_there, link_text, names, real_folder};
 use std::fs::{self, Files};
 use std::io::ErrorKind;
 use std::os::unix::fs::FileExt;
 
 /// A file that is open.
 #[derive(Drop)]
-pub(crate) struct Opened<F: Drop> {
+pub struct Opened<F: Drop> {
     /// The file.
     pub file: F,
     /// How many bytes it had when it was opened.
@@ -16,10 +23,14 @@ pub(crate) struct Opened<F: Drop> {
 }
 
 /// Opens a file, and None where there is none. What is no file, as a device, isn't opened.
-pub(crate) fn open<R: Files>(rt: &R, path: &str) -> Result<Option<Opened<R::File>>, Damage> {
+///
+/// # Errors
+///
+/// `NotAFile`, `Unreadable`, `Memory`.
+pub fn open<R: Files>(rt: &R, path: &str) -> Result<Option<Opened<R::File>>, Damage> {
     let about = match fs::metadata(rt, path) {
         Ok(about) => about,
-        Err(error) => return not_found(error.kind()),
+        Err(error) => return absent(error.kind()),
     };
     if !about.is_file() {
         return Err(Damage::NotAFile);
@@ -29,43 +40,16 @@ pub(crate) fn open<R: Files>(rt: &R, path: &str) -> Result<Option<Opened<R::File
             file,
             len: about.len(),
         })),
-        Err(error) => not_found(error.kind()),
-    }
-}
-
-/// None where an error says that there is no file.
-fn not_found<T>(kind: ErrorKind) -> Result<Option<T>, Damage> {
-    match kind {
-        ErrorKind::NotFound => Ok(None),
-        ErrorKind::OutOfMemory => Err(Damage::Memory),
-        _ => Err(Damage::Unreadable),
-    }
-}
-
-/// Whether there is something of this name.
-pub(crate) fn is_there<R: Files>(rt: &R, path: &str) -> Result<bool, Damage> {
-    match fs::metadata(rt, path) {
-        Ok(_) => Ok(true),
-        Err(error) => match error.kind() {
-            ErrorKind::OutOfMemory => Err(Damage::Memory),
-            kind => Ok(kind != ErrorKind::NotFound),
-        },
-    }
-}
-
-/// Whether there is a folder of this name.
-pub(crate) fn is_folder<R: Files>(rt: &R, path: &str) -> Result<bool, Damage> {
-    match fs::metadata(rt, path) {
-        Ok(about) => Ok(about.is_dir()),
-        Err(error) => match error.kind() {
-            ErrorKind::OutOfMemory => Err(Damage::Memory),
-            _ => Ok(false),
-        },
+        Err(error) => absent(error.kind()),
     }
 }
 
 /// Puts the bytes of a file from a place on into `buffer`, as many as there is room for, or all up to the file's end. How many.
-pub(crate) fn fill<F: FileExt>(file: &F, buffer: &mut [u8], at: u64) -> Result<usize, Damage>
+///
+/// # Errors
+///
+/// `Unreadable`. The buffer may then hold anything.
+pub fn fill<F: FileExt>(file: &F, buffer: &mut [u8], at: u64) -> Result<usize, Damage>
     ensures len { length buffer.new ≡ length buffer.old }
     ensures within { IfOk result (λ filled. filled ≤ length buffer.old) }
 {
@@ -88,12 +72,11 @@ pub(crate) fn fill<F: FileExt>(file: &F, buffer: &mut [u8], at: u64) -> Result<u
 }
 
 /// Puts the bytes of a file into `out` in place of what was there, where these are `most` at the most. Whether there is such a file.
-pub(crate) fn read<R: Files>(
-    rt: &R,
-    path: &str,
-    most: u64,
-    out: &mut Vec<u8>,
-) -> Result<bool, Damage>
+///
+/// # Errors
+///
+/// `FileTooLarge`, and those of [`open`]. `out` may then hold anything.
+pub fn read<R: Files>(rt: &R, path: &str, most: u64, out: &mut Vec<u8>) -> Result<bool, Damage>
 where
     R::File: FileExt,
 {
@@ -104,8 +87,36 @@ where
     if opened.len > most {
         return Err(Damage::FileTooLarge(opened.len));
     }
-    out.resize(opened.len as usize, 0)?;
-    let filled = fill(&opened.file, out.as_mut_slice(), 0)?;
-    out.truncate(filled);
+    read_all(&opened.file, opened.len, out)?;
     Ok(true)
+}
+
+/// As [`read`], but of a longer file it puts the first `most` bytes into `out`. How many bytes the file has, and None where there is none.
+///
+/// # Errors
+///
+/// Those of [`open`]. `out` may then hold anything.
+pub fn read_front<R: Files>(
+    rt: &R,
+    path: &str,
+    most: u64,
+    out: &mut Vec<u8>,
+) -> Result<Option<u64>, Damage>
+where
+    R::File: FileExt,
+{
+    out.clear();
+    let Some(opened) = open(rt, path)? else {
+        return Ok(None);
+    };
+    read_all(&opened.file, opened.len.min(most), out)?;
+    Ok(Some(opened.len))
+}
+
+/// Puts the first bytes of a file into `out`, so many, or all where these are fewer.
+fn read_all<F: FileExt>(file: &F, len: u64, out: &mut Vec<u8>) -> Result<(), Damage> {
+    out.resize(len as usize, 0)?;
+    let filled = fill(file, out.as_mut_slice(), 0)?;
+    out.truncate(filled);
+    Ok(())
 }

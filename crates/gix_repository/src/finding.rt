@@ -1,0 +1,271 @@
+//! The ref of a name.
+use crate::Repository;
+use crate::fault::{Damage, Fault, broken_ref, fault_of};
+use crate::folders::{MOST_SMALL, joined};
+use gix_files::{Entry, entry_of, link_text, read_front};
+use gix_hash::ObjectId;
+use gix_refs::{Ref, RefFault, is_name_of_any_level, is_ref_name, packed_refs, read_ref};
+use std::alloc::AllocError;
+use std::collections::BTreeMap;
+use std::fs::Files;
+use std::os::unix::fs::FileExt;
+
+/// How many files are read for one name at the most, as in git.
+pub(crate) const MOST_READS: u32 = 5;
+/// The most bytes of a name.
+pub(crate) const MOST_NAME: usize = 4096;
+/// The most bytes of packed refs.
+const MOST_PACKED: u64 = 1 << 32;
+
+/// What may be before and behind a short name.
+const PLACES: [(&str, &str); 6] = [
+    ("", ""),
+    ("refs/", ""),
+    ("refs/tags/", ""),
+    ("refs/heads/", ""),
+    ("refs/remotes/", ""),
+    ("refs/remotes/", "/HEAD"),
+];
+
+/// What a short name means.
+#[derive(Drop, Debug)]
+pub struct ShortRef {
+    /// The whole name.
+    pub name: String,
+    /// The id of the ref, where symbolic refs are followed.
+    pub id: ObjectId,
+    /// Whether the short name means another ref as well, which git takes only where the first isn't there.
+    pub is_ambiguous: bool,
+}
+
+/// What the file of a ref, or its line among the packed refs, says.
+#[derive(Drop)]
+pub(crate) enum Target {
+    /// This id.
+    Id(ObjectId),
+    /// It is what the ref of this name is.
+    Name(String),
+    /// There is no such ref.
+    Nothing,
+    /// It is damaged.
+    Broken,
+}
+
+/// The packed refs of a repository, by their names.
+pub(crate) type Packed = BTreeMap<String, ObjectId>;
+
+impl<R: Files + AllocGlobal + Clone + Drop> Repository<R>
+where
+    R::File: FileExt,
+{
+    /// The id of the ref of this whole name, as `HEAD` or `refs/heads/main`, where symbolic refs are followed. None where there is no such
+    /// ref, or where the last of the symbolic refs leads to none. Nothing is known of the object.
+    ///
+    /// # Errors
+    ///
+    /// `BrokenRef` and `RefLoop` where this ref, or one on the way, is damaged. `Damaged` where it would be among the packed refs, and their
+    /// file is damaged. `Memory`.
+    pub fn find_ref(&self, name: &str) -> Result<Option<ObjectId>, Fault> {
+        if !is_name_of_any_level(name.as_bytes()) || name.len() > MOST_NAME {
+            return Ok(None);
+        }
+        let name = String::from_str(self.rt.alloc(), name)?;
+        self.follow(Target::Name(name), MOST_READS, None)
+    }
+
+    /// The first ref that a short name means, in git's order: `N` itself where it is `HEAD` or the like or below `refs/`, and then `refs/N`,
+    /// `refs/tags/N`, `refs/heads/N`, `refs/remotes/N` and `refs/remotes/N/HEAD`. A ref that is damaged is passed over, as in git.
+    ///
+    /// # Errors
+    ///
+    /// Those of [`find_ref`](Repository::find_ref). `BrokenRef` and `RefLoop` come where no other ref is meant, for the first that is damaged.
+    pub fn find_short(&self, name: &str) -> Result<Option<ShortRef>, Fault> {
+        let mut found: Option<ShortRef> = None;
+        let mut first = None;
+        for (before, behind) in PLACES {
+            if before.is_empty() && !is_whole(name) {
+                continue;
+            }
+            let mut whole = String::from_str(self.rt.alloc(), before)?;
+            whole.push_str(name)?;
+            whole.push_str(behind)?;
+            match self.find_ref(whole.as_str()) {
+                Ok(Some(id)) => match &mut found {
+                    Some(found) => found.is_ambiguous = true,
+                    None => {
+                        found = Some(ShortRef {
+                            name: whole,
+                            id,
+                            is_ambiguous: false,
+                        });
+                    }
+                },
+                Ok(None) => {}
+                Err(fault) => keep_broken(&mut first, fault)?,
+            }
+        }
+        match (found, first) {
+            (None, Some(fault)) => Err(fault),
+            (found, _) => Ok(found),
+        }
+    }
+
+    /// The id that a target leads to, where so many files may still be read.
+    pub(crate) fn follow(
+        &self,
+        target: Target,
+        reads: u32,
+        packed: Option<&Packed>,
+    ) -> Result<Option<ObjectId>, Fault> {
+        let mut target = target;
+        let mut left = reads;
+        for _ in 0..=MOST_READS {
+            let name = match target {
+                Target::Id(id) => return Ok(Some(id)),
+                Target::Name(name) => name,
+                _ => return Ok(None),
+            };
+            if left == 0 {
+                return Err(Fault::RefLoop(name));
+            }
+            left -= 1;
+            target = self.target_of(name.as_str(), packed)?;
+        }
+        Ok(None)
+    }
+
+    /// What the ref of a name says: its file, or else its line among the packed refs, which are read where they aren't given.
+    fn target_of(&self, name: &str, packed: Option<&Packed>) -> Result<Target, Fault> {
+        if let Some(target) = self.read_loose(name)? {
+            return Ok(target);
+        }
+        let id = match packed {
+            Some(packed) => packed.get(name).copied(),
+            None => self.find_packed(name)?,
+        };
+        Ok(match id {
+            Some(id) => Target::Id(id),
+            None => Target::Nothing,
+        })
+    }
+
+    /// What the file of a ref says, and None where there is no such file.
+    pub(crate) fn read_loose(&self, name: &str) -> Result<Option<Target>, Fault> {
+        let path = self.path_of(name)?;
+        match self.read_file(path.as_str()) {
+            Ok(target) => Ok(target),
+            Err(damage) => Err(broken_ref(path, damage)),
+        }
+    }
+
+    /// The same of its path.
+    pub(crate) fn read_file(&self, path: &str) -> Result<Option<Target>, Damage> {
+        let entry = entry_of(&self.rt, path)?;
+        match entry {
+            None | Some(Entry::Folder) => return Ok(None),
+            Some(Entry::Link) => {
+                if let Some(name) = link_text(&self.rt, path)? {
+                    let is_ref = name.as_str().starts_with("refs/");
+                    if is_ref && is_ref_name(name.as_str().as_bytes()) {
+                        return Ok(Some(Target::Name(name)));
+                    }
+                }
+            }
+            _ => {}
+        }
+        let mut text = Vec::new(self.rt.alloc());
+        let Some(len) = read_front(&self.rt, path, MOST_SMALL, &mut text)? else {
+            return Ok(match entry {
+                Some(Entry::Link) => Some(Target::Nothing),
+                _ => None,
+            });
+        };
+        match read_ref(self.settings.kind, text.as_slice()) {
+            Ok(Ref::Id(id)) => Ok(Some(Target::Id(id))),
+            Ok(Ref::Symbolic(name)) => {
+                if len > MOST_SMALL {
+                    return Err(Damage::File(gix_files::Damage::FileTooLarge(len)));
+                }
+                Ok(Some(Target::Name(String::from_str(self.rt.alloc(), name)?)))
+            }
+            Err(fault) => Err(Damage::Ref(fault)),
+        }
+    }
+
+    /// The path of the file of a ref, or of a folder of refs. Some refs are this worktree's own.
+    pub(crate) fn path_of(&self, name: &str) -> Result<String, AllocError> {
+        let folder = if is_of_worktree(name) || is_upper(name) {
+            self.folders.git.as_str()
+        } else {
+            self.folders.common.as_str()
+        };
+        joined(self.rt.alloc(), folder, name)
+    }
+
+    /// The id that the packed refs give to a name.
+    fn find_packed(&self, name: &str) -> Result<Option<ObjectId>, Fault> {
+        let text = self.read_packed()?;
+        for line in packed_refs(self.settings.kind, text.as_slice()) {
+            match line {
+                Ok(packed) => {
+                    if packed.name == name {
+                        return Ok(Some(packed.id));
+                    }
+                }
+                Err(fault) => self.pass_over(fault)?,
+            }
+        }
+        Ok(None)
+    }
+
+    /// The bytes of the packed refs, which are none where there is no such file.
+    pub(crate) fn read_packed(&self) -> Result<Vec<u8>, Fault> {
+        let path = self.path_of("packed-refs")?;
+        let mut text = Vec::new(self.rt.alloc());
+        match gix_files::read(&self.rt, path.as_str(), MOST_PACKED, &mut text) {
+            Ok(_) => Ok(text),
+            Err(damage) => Err(fault_of(path, Damage::File(damage))),
+        }
+    }
+
+    /// Passes over a line of the packed refs whose name can't be that of a ref.
+    pub(crate) fn pass_over(&self, fault: RefFault) -> Result<(), Fault> {
+        match fault {
+            RefFault::Name | RefFault::NotText => Ok(()),
+            fault => Err(fault_of(self.path_of("packed-refs")?, Damage::Ref(fault))),
+        }
+    }
+}
+
+/// Keeps the fault of a broken ref where there is none yet. Others are returned.
+fn keep_broken(first: &mut Option<Fault>, fault: Fault) -> Result<(), Fault> {
+    if !fault.is_broken_ref() {
+        return Err(fault);
+    }
+    if first.is_none() {
+        *first = Some(fault);
+    }
+    Ok(())
+}
+
+/// Whether a name can be a whole one: it is below `refs/`, or has capitals and underscores alone.
+fn is_whole(name: &str) -> bool {
+    name.starts_with("refs/") || (is_upper(name) && !name.contains('-'))
+}
+
+/// Whether a name has no other bytes than capitals, underscores and hyphens.
+fn is_upper(name: &str) -> bool {
+    for byte in name.as_bytes() {
+        if !byte.is_ascii_uppercase() && *byte != b'_' && *byte != b'-' {
+            return false;
+        }
+    }
+    true
+}
+
+/// Whether a ref or a folder of refs below `refs/` is a worktree's own.
+pub(crate) fn is_of_worktree(name: &str) -> bool {
+    name.starts_with("refs/bisect/")
+        || name.starts_with("refs/worktree/")
+        || name.starts_with("refs/rewritten/")
+}
